@@ -1,0 +1,62 @@
+-- Inverses modulo m: there is at most one, and `inverse_of` names it.
+use Rattle.std.proofs.Common.{◌≡◌, ℕ, suc, zero, ◌+◌, ◌*◌, ◌%◌, ◌<◌, ◌≤◌, Option, Some, None, sym, ◌∙◌, ap, refl, arith, eqb, cond}
+use Rattle.std.proofs.lemmas.Bool.Decides.{nat_tests}
+use Rattle.std.proofs.lemmas.Nat.{mul-mod_first}
+use Rattle.std.proofs.Math.Nat.{mod-eq_of_lt, one-mul, mul_right_comm}
+use Rattle.modular_word.specs.Inverses.{IsInverse, inverse_below, inverse_of}
+
+-- a number below m is what is left of it times an inverse pair
+undone : (m a x y : ℕ) → (a * y) % m ≡ 1 % m → x < m → (a * y * x) % m ≡ x
+undone m a x y e h =
+    sym (mul-mod_first (a * y) x m) ∙ ap (λ n. n * x % m) e ∙ mul-mod_first 1 x m ∙ ap (λ n. n % m) (one-mul x) ∙ mod-eq_of_lt h
+
+-- two inverses of one number are equal
+pub inverse_unique : (m a x y : ℕ) → IsInverse m a x → IsInverse m a y → x ≡ y
+inverse_unique m a x y p q =
+    sym (undone m a x y q.one p.below) ∙ ap (λ n. n % m) (mul_right_comm a y x) ∙ undone m a y x p.one q.below
+
+some_step : (m a b x : ℕ) (rest : Option ℕ) → (rest ≡ Some x → (x < b) × ((a * x) % m ≡ 1 % m))
+    → cond (eqb ((a * b) % m) (1 % m)) (Some b) rest ≡ Some x → (x < suc b) × ((a * x) % m ≡ 1 % m)
+some_step m a b x rest ih e = grind (arith, nat_tests)
+
+some_below : (m a bound x : ℕ) → inverse_below m a bound ≡ Some x → (x < bound) × ((a * x) % m ≡ 1 % m)
+unfolding inverse_below
+some_below m a zero x e = absurd (cc)
+some_below m a (suc b) x e = some_step m a b x (inverse_below m a b) (some_below m a b x) e
+
+none_step : (m a b x : ℕ) (rest : Option ℕ) → (rest ≡ None → x < b → (a * x) % m ≡ 1 % m → ⊥)
+    → cond (eqb ((a * b) % m) (1 % m)) (Some b) rest ≡ None → x < suc b → (a * x) % m ≡ 1 % m → ⊥
+none_step m a b x rest ih e h w = grind (arith, nat_tests)
+
+none_below : (m a bound x : ℕ) → inverse_below m a bound ≡ None → x < bound → (a * x) % m ≡ 1 % m → ⊥
+unfolding inverse_below
+none_below m a zero x e h w = omega arith
+none_below m a (suc b) x e h w = none_step m a b x (inverse_below m a b) (none_below m a b x) e h w
+
+found_from : (m a x : ℕ) (o : Option ℕ) → inverse_of m a ≡ o → IsInverse m a x → inverse_of m a ≡ Some x
+found_from m a x None e h = absurd (none_below m a m x e h.below h.one)
+found_from m a x (Some y) e h =
+    let s = some_below m a m y e in
+    e ∙ ap Some (inverse_unique m a y x (record { below = s.0; one = s.1 }) h)
+
+-- an inverse is the one that `inverse_of` names
+pub inverse_of-found : (m a x : ℕ) → IsInverse m a x → inverse_of m a ≡ Some x
+inverse_of-found m a x h = found_from m a x (inverse_of m a) refl h
+
+none_from : (m a : ℕ) (o : Option ℕ) → inverse_of m a ≡ o → ((x : ℕ) → IsInverse m a x → ⊥) → inverse_of m a ≡ None
+none_from m a None e h = e
+none_from m a (Some y) e h =
+    let s = some_below m a m y e in
+    absurd (h y (record { below = s.0; one = s.1 }))
+
+-- where there is none, it names none
+pub inverse_of-none : (m a : ℕ) → ((x : ℕ) → IsInverse m a x → ⊥) → inverse_of m a ≡ None
+inverse_of-none m a h = none_from m a (inverse_of m a) refl h
+
+-- where it names none, there is none
+pub inverse_of-empty : (m a x : ℕ) → inverse_of m a ≡ None → IsInverse m a x → ⊥
+inverse_of-empty m a x e h = none_below m a m x e h.below h.one
+
+-- where it names one, that is an inverse
+pub inverse_of-named : (m a x : ℕ) → inverse_of m a ≡ Some x → IsInverse m a x
+inverse_of-named m a x e = let s = some_below m a m x e in record { below = s.0; one = s.1 }

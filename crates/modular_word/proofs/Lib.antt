@@ -1,0 +1,9 @@
+pub mod Congruence
+pub mod ExactSteps
+pub mod InverseLemmas
+pub mod MultiplierSteps
+pub mod Powers
+pub mod ReciprocalSteps
+pub mod ReductionSteps
+pub mod ResidueLemmas
+pub mod Shifts

@@ -1,0 +1,34 @@
+-- Shifts and masks of words.
+use Rattle.std.proofs.Common.{◌≡◌, ℕ, ◌+◌, ◌-◌, ◌*◌, ◌/◌, ◌%◌, ◌^◌, ◌<◌, ◌≤◌, ap, ◌∙◌, arith, bit_and}
+use Rattle.std.proofs.Math.Nat.{div-eq_of_lt-le, mod-eq_of_lt, mul-le-mul_left, mul-le-mul_right}
+use Rattle.std.proofs.lemmas.Nat.{pow_pos, pow-add, and_mask, one_shl}
+
+-- w ones, shifted right until n are left
+pub ones_shifted : (w n top : ℕ) → n ≤ w → top + 1 ≡ 2 ^ w → top / 2 ^ (w - n) + 1 ≡ 2 ^ n
+ones_shifted w n top h e =
+    let P = 2 ^ (w - n) in
+    let k = 2 ^ n - 1 in
+    let hP : 0 < P = pow_pos (w - n) in
+    let hk : 0 < 2 ^ n = pow_pos n in
+    let whole : 2 ^ w ≡ 2 ^ n * P =
+    ap (λ v. 2 ^ v) (let s : w ≡ n + (w - n) = omega arith in s) ∙ pow-add 2 n (w - n) in
+    let ek : k + 1 ≡ 2 ^ n = omega arith in
+    let eP : (k + 1) * P ≡ 2 ^ n * P = ap (λ v. v * P) ek in
+    let q : top / P ≡ k = div-eq_of_lt-le P (let a : k * P ≤ top = omega arith in a) (let b : top < (k + 1) * P = omega arith in b) in
+    omega arith
+
+-- the mask of the low k of w bits keeps what is left modulo 2^k
+pub mask_keeps : (w n k : ℕ) → k < w → bit_and n (1 * 2 ^ k % 2 ^ w - 1) ≡ n % 2 ^ k
+mask_keeps w n k h = ap (λ v. bit_and n (v - 1)) (one_shl k w h) ∙ and_mask n k
+
+-- a word shifted left by less than its width fits a double word
+pub shifted_fits : (w n k : ℕ) → n < 2 ^ w → k < w → n * 2 ^ k % 2 ^ (w + w) ≡ n * 2 ^ k
+shifted_fits w n k h l =
+    let whole : 2 ^ (w + w) ≡ 2 ^ w * 2 ^ w = pow-add 2 w w in
+    let split : 2 ^ w ≡ 2 ^ k * 2 ^ (w - k) = ap (λ v. 2 ^ v) (let s : w ≡ k + (w - k) = omega arith in s) ∙ pow-add 2 k (w - k) in
+    let p : 0 < 2 ^ (w - k) = pow_pos (w - k) in
+    let q : 0 < 2 ^ k = pow_pos k in
+    let m1 : 2 ^ k * 1 ≤ 2 ^ k * 2 ^ (w - k) = mul-le-mul_left (2 ^ k) p in
+    let m2 : (n + 1) * 2 ^ k ≤ 2 ^ w * 2 ^ k = mul-le-mul_right (2 ^ k) (let a : n + 1 ≤ 2 ^ w = omega arith in a) in
+    let m3 : 2 ^ w * 2 ^ k ≤ 2 ^ w * 2 ^ w = mul-le-mul_left (2 ^ w) (let a : 2 ^ k ≤ 2 ^ w = omega arith in a) in
+    mod-eq_of_lt (let a : n * 2 ^ k < 2 ^ (w + w) = omega arith in a)

@@ -1,0 +1,64 @@
+use Rattle.std.proofs.Common.{◌≡◌, ◌+◌, ◌*◌, ◌%◌, ◌<◌, arith, sym, ap, ◌∙◌}
+use Rattle.std.proofs.Math.Nat.{lt_of_mul-lt-mul_right}
+use Rattle.modular_word.proofs.ReciprocalSteps.{Setting, Guess, guess_of, step_down, step_none, step_up}
+use Rattle.modular_word.proofs.paths.div_2by1.Goals as goal
+use Rattle.modular_word.proofs.paths.div_2by1.Goals.{then-is_below, else-is_below, then-not-is_below, else-not-is_below}
+
+pub returns : goal.returns
+returns g c =
+    let n = g.T.RingWord.number in
+    let B = g.T.PathWord.base in
+    let W = g.T.PathWord.whole in
+    let d = n c.args.d in
+    let a0 = n c.split-low.result.0 in
+    let a1 = n c.split-low.result.1 in
+    let q0 = n c.split-q0.result.0 in
+    let q1 = n c.split-q0.result.1 in
+    let q = n c.wrapping_add-q.result in
+    let r = n c.wrapping_sub-r.result in
+    let ea : W c.args.a ≡ a0 + B * a1 = c.split-low.ensures.value in
+    let high : a1 < d = lt_of_mul-lt-mul_right B (let h : a1 * B < d * B = omega (arith, c.requires.high) in h) in
+    let s : Setting B d (n c.args.reciprocal) a0 a1 q0 q1 = record {
+      reciprocal = c.requires.reciprocal;
+      divisor_fits = c.is_below-2.ensures.other_fits;
+      high = high;
+      low_fits = c.split-low.ensures.low_fits;
+      high_fits = c.split-q0.ensures.high_fits;
+      rest_fits = c.split-q0.ensures.low_fits;
+      product = omega (arith, c.product.ensures.value, c.double_plus.ensures, c.split-q0.ensures.value, c.split-low.ensures.value);
+    } in
+    let eq : q ≡ (q1 + 1) % B = c.wrapping_add-q.ensures.value ∙ ap (λ x. (q1 + x) % B) c.one.ensures in
+    let er : (r + (q * d) % B) % B ≡ a0 =
+    ap (λ x. (r + x) % B) (sym c.wrapping_mul.ensures.value) ∙ c.wrapping_sub-r.ensures.value in
+    let guess : Guess B d (a0 + B * a1) q0 q1 r = guess_of B d _ a0 a1 q0 q1 q r s c.wrapping_sub-r.ensures.fits eq er in
+    -- the dividend after the first correction
+    let corrected : W c.args.a ≡ n c.if-is_below.q * d + n c.if-is_below.r =
+    elim c.if-is_below.branch [
+      | then-is_below w ↦
+          let q' = n w.wrapping_sub-q.result in
+          let r' = n w.wrapping_add-r.result in
+          let down : a0 + B * a1 ≡ q' * d + r' =
+          step_down B d (a0 + B * a1) q0 q1 q r q' r' c.is_below-2.ensures.other_fits
+          c.split-q0.ensures.high_fits c.wrapping_sub-r.ensures.fits w.wrapping_sub-q.ensures.fits guess eq
+          (ap (λ x. (q' + x) % B) (sym w.one-then-is_below.ensures) ∙ w.wrapping_sub-q.ensures.value)
+          w.wrapping_add-r.ensures.value (grind arith) in
+          rw (w.q-is, w.r-is) (ea ∙ down)
+      | else-is_below w ↦
+          let none : a0 + B * a1 ≡ q * d + r =
+          step_none B d (a0 + B * a1) q0 q1 q r c.is_below-2.ensures.other_fits
+          (omega (arith, c.requires.high, ea)) c.split-q0.ensures.high_fits guess eq (grind arith) in
+          rw (w.q-is, w.r-is) (ea ∙ none)
+    ] in
+    elim c.if-not-is_below.branch [
+      | then-not-is_below w ↦
+          let up = step_up B d (W c.args.a) (n c.if-is_below.q) (n c.if-is_below.r)
+          (n w.wrapping_add-q-then-not-is_below.result) (n w.wrapping_sub-r-then-not-is_below.result)
+          c.is_below-2.ensures.other_fits c.requires.high c.is_below-2.ensures.fits
+          w.wrapping_sub-r-then-not-is_below.ensures.fits (grind arith) corrected
+          (w.wrapping_add-q-then-not-is_below.ensures.value
+          ∙ ap (λ x. (n c.if-is_below.q + x) % B) w.one-then-not-is_below.ensures)
+          w.wrapping_sub-r-then-not-is_below.ensures.value in
+          rw (w.q-is, w.r-is)
+          (record { whole = up.0; below = omega (arith, up.1, c.is_below-2.ensures.fits, c.requires.reciprocal.normalized) })
+      | else-not-is_below w ↦ rw (w.q-is, w.r-is) (record { whole = corrected; below = grind arith })
+    ]

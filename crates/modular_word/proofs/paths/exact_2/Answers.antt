@@ -1,0 +1,54 @@
+use Rattle.std.proofs.Common.{◌≡◌, ◌+◌, ◌*◌, ◌/◌, ◌<◌, arith, ap, sym, ◌∙◌}
+use Rattle.modular_word.proofs.ExactSteps.{low_again, high_left}
+use Rattle.modular_word.proofs.paths.exact_2.Goals as goal
+
+pub returns-then-is_below : goal.returns-then-is_below
+returns-then-is_below g c =
+    let n = g.T.RingWord.number in
+    let B = g.T.PathWord.base in
+    let parts : n c.wrapping_mul-q0.result * n c.args.d ≡ n c.split-n0.result.0 + B * n c.split-h.result.1 =
+    low_again B (n c.args.d) (n c.args.inverse) (n c.split-n0.result.0) (n c.wrapping_mul-q0.result)
+    (n c.split-h.result.0) (n c.split-h.result.1) c.split-n0.ensures.low_fits c.split-h.ensures.low_fits
+    c.requires.unit c.wrapping_mul-q0.ensures.value
+    (sym c.product.ensures.value ∙ c.split-h.ensures.value) in
+    let over : n c.split-n0.result.1 < n c.split-h.result.1 = grind arith in
+    λ K e.
+    let left =
+    high_left B (n c.args.d) (n c.args.inverse) (n c.split-n0.result.0) (n c.split-n0.result.1)
+    (n c.wrapping_mul-q0.result) (n c.split-h.result.1) K c.split-n0.ensures.low_fits c.requires.unit
+    c.wrapping_mul-q0.ensures.value parts (e ∙ c.split-n0.ensures.value) in
+    absurd (omega arith)
+
+pub returns-in-Some : goal.returns-in-Some
+returns-in-Some g c =
+    let n = g.T.RingWord.number in
+    let B = g.T.PathWord.base in
+    let parts : n c.wrapping_mul-q0.result * n c.args.d ≡ n c.split-n0.result.0 + B * n c.split-h.result.1 =
+    low_again B (n c.args.d) (n c.args.inverse) (n c.split-n0.result.0) (n c.wrapping_mul-q0.result)
+    (n c.split-h.result.0) (n c.split-h.result.1) c.split-n0.ensures.low_fits c.split-h.ensures.low_fits
+    c.requires.unit c.wrapping_mul-q0.ensures.value
+    (sym c.product.ensures.value ∙ c.split-h.ensures.value) in
+    let d = n c.args.d in
+    let x = n c.in-Some.q1 in
+    let high : x * d + n c.split-h.result.1 ≡ n c.split-n0.result.1 =
+    omega (arith, c.in-Some.ensures, c.minus.ensures) in
+    let scaled : B * (x * d + n c.split-h.result.1) ≡ B * n c.split-n0.result.1 = ap (λ v. B * v) high in
+    let whole : (n c.wrapping_mul-q0.result + B * x) * d ≡ g.T.PathWord.whole c.args.n =
+    omega (arith, c.split-n0.ensures.value) in
+    ap (λ v. v * d) c.merge.ensures.value ∙ whole
+
+pub returns-in-None : goal.returns-in-None
+returns-in-None g c =
+    let n = g.T.RingWord.number in
+    let B = g.T.PathWord.base in
+    let parts : n c.wrapping_mul-q0.result * n c.args.d ≡ n c.split-n0.result.0 + B * n c.split-h.result.1 =
+    low_again B (n c.args.d) (n c.args.inverse) (n c.split-n0.result.0) (n c.wrapping_mul-q0.result)
+    (n c.split-h.result.0) (n c.split-h.result.1) c.split-n0.ensures.low_fits c.split-h.ensures.low_fits
+    c.requires.unit c.wrapping_mul-q0.ensures.value
+    (sym c.product.ensures.value ∙ c.split-h.ensures.value) in
+    λ K e.
+    let left =
+    high_left B (n c.args.d) (n c.args.inverse) (n c.split-n0.result.0) (n c.split-n0.result.1)
+    (n c.wrapping_mul-q0.result) (n c.split-h.result.1) K c.split-n0.ensures.low_fits c.requires.unit
+    c.wrapping_mul-q0.ensures.value parts (e ∙ c.split-n0.ensures.value) in
+    c.in-None.ensures (K / B) (omega (arith, c.minus.ensures))

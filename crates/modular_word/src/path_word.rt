@@ -1,0 +1,125 @@
+//! What the paths need of a word: exact and wrapping sums, differences, products, shifts and
+//! comparisons of words and double words. There is no division and no remainder among the calls, so
+//! code over this trait alone divides by none.
+
+ghost use Rattle.std.specs.Prelude.{◌≡◌, ℕ, ◌+◌, ◌-◌, ◌*◌, ◌/◌, ◌%◌, ◌^◌, ◌<◌, ◌≤◌, ◌↔◌, IsTrue};
+ghost use Rattle.std.specs.Int.Count.{count_leading_zeros, count_trailing_zeros};
+
+use crate::ring_word::RingWord;
+
+/// A machine word with its double word.
+pub trait PathWord: RingWord {
+    /// The type that holds the product of two words.
+    type Double: Copy;
+
+    // The number of a double word.
+    ghost whole: { Self.Double → ℕ };
+
+    // How many words there are: 2 to the width.
+    ghost base: { ℕ };
+
+    /// The sum. Condition: it fits a word.
+    fn plus(self, rhs: Self) -> Self
+        requires { Self.number self + Self.number rhs < base }
+        ensures { Self.number result ≡ Self.number self + Self.number rhs };
+
+    /// The difference. Condition: it is not below 0.
+    fn minus(self, rhs: Self) -> Self
+        requires { Self.number rhs ≤ Self.number self }
+        ensures { Self.number result + Self.number rhs ≡ Self.number self };
+
+    /// The product. Condition: it fits a word.
+    fn times(self, rhs: Self) -> Self
+        requires { Self.number self * Self.number rhs < base }
+        ensures { Self.number result ≡ Self.number self * Self.number rhs };
+
+    /// The sum modulo the base.
+    fn wrapping_add(self, rhs: Self) -> Self
+        ensures value { Self.number result ≡ (Self.number self + Self.number rhs) % base }
+        ensures fits { Self.number result < base };
+
+    /// The difference modulo the base: the word that gives `self` when `rhs` is added to it.
+    fn wrapping_sub(self, rhs: Self) -> Self
+        ensures value { (Self.number result + Self.number rhs) % base ≡ Self.number self }
+        ensures fits { Self.number result < base };
+
+    /// The product modulo the base.
+    fn wrapping_mul(self, rhs: Self) -> Self
+        ensures value { Self.number result ≡ (Self.number self * Self.number rhs) % base }
+        ensures fits { Self.number result < base }
+        ensures self_fits { Self.number self < base };
+
+    /// The word divided by a power of two, rounded down. Condition: `by` is below the width.
+    fn shift_right(self, by: u32) -> Self
+        requires { by < Self.width }
+        ensures { Self.number result ≡ Self.number self / 2 ^ by };
+
+    /// The word times a power of two. Condition: `by` is below the width, and the product fits.
+    fn shift_left(self, by: u32) -> Self
+        requires by { by < Self.width }
+        requires fits { Self.number self * 2 ^ by < base }
+        ensures { Self.number result ≡ Self.number self * 2 ^ by };
+
+    /// The word modulo a power of two. Condition: `count` is below the width.
+    fn low_bits(self, count: u32) -> Self
+        requires { count < Self.width }
+        ensures { Self.number result ≡ Self.number self % 2 ^ count };
+
+    /// How many of the highest bits are 0; the width for 0.
+    fn leading_zeros(self) -> u32
+        ensures value { result ≡ count_leading_zeros Self.width (Self.number self) }
+        ensures fits { Self.number self < base };
+
+    /// How many of the lowest bits are 0; the width for 0.
+    fn trailing_zeros(self) -> u32
+        ensures value { result ≡ count_trailing_zeros Self.width (Self.number self) }
+        ensures fits { Self.number self < base };
+
+    /// Whether the word is below another.
+    fn is_below(self, other: Self) -> bool
+        ensures below { IsTrue result ↔ (Self.number self < Self.number other) }
+        ensures fits { Self.number self < base }
+        ensures other_fits { Self.number other < base };
+
+    /// The whole product of two words.
+    fn product(self, rhs: Self) -> Self::Double
+        ensures value { whole result ≡ Self.number self * Self.number rhs }
+        ensures fits { Self.number self < base }
+        ensures other_fits { Self.number rhs < base };
+
+    /// The word times a power of two, as a double word. Condition: `by` is below the width.
+    fn shift_left_wide(self, by: u32) -> Self::Double
+        requires { by < Self.width }
+        ensures value { whole result ≡ Self.number self * 2 ^ by }
+        ensures fits { Self.number self < base };
+
+    /// The low and the high word of a double word.
+    fn split(double: Self::Double) -> (Self, Self)
+        ensures value { whole double ≡ Self.number result.0 + base * Self.number result.1 }
+        ensures low_fits { Self.number result.0 < base }
+        ensures high_fits { Self.number result.1 < base };
+
+    /// The double word of a low and a high word.
+    fn merge(low: Self, high: Self) -> Self::Double
+        ensures value { whole result ≡ Self.number low + base * Self.number high }
+        ensures low_fits { Self.number low < base }
+        ensures high_fits { Self.number high < base };
+
+    /// The sum of two double words. Condition: it fits a double word.
+    fn double_plus(first: Self::Double, second: Self::Double) -> Self::Double
+        requires { whole first + whole second < base * base }
+        ensures { whole result ≡ whole first + whole second };
+
+    /// The sum of two double words modulo the square of the base.
+    fn double_wrapping_add(first: Self::Double, second: Self::Double) -> Self::Double
+        ensures { whole result ≡ (whole first + whole second) % (base * base) };
+
+    /// Whether a double word is below another.
+    fn double_is_below(first: Self::Double, second: Self::Double) -> bool
+        ensures below { IsTrue result ↔ (whole first < whole second) }
+        ensures fits { whole first < base * base }
+        ensures second_fits { whole second < base * base };
+
+    // The base is 2 to the width.
+    ghost base_is: { base ≡ 2 ^ Self.width };
+}

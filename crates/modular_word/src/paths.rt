@@ -1,0 +1,148 @@
+//! The paths: division by a reciprocal, exact division and Montgomery's reduction, written and
+//! proved once for every width. What a divisor stores comes as arguments.
+
+ghost use Rattle.std.specs.Prelude.{◌≡◌, ℕ, ◌+◌, ◌-◌, ◌*◌, ◌%◌, ◌^◌, ◌<◌, ◌≤◌};
+ghost use Rattle.modular_word.specs.Division.{IsDivision, IsExactQuotient};
+ghost use Rattle.modular_word.specs.Reciprocals.{IsReciprocal, IsMultiplier, IsExactDivisor};
+ghost use Rattle.modular_word.specs.Reduction.{IsReduction, IsNegatedInverse};
+
+use crate::path_word::PathWord;
+
+/// The word whose low n bits are ones: 2^n - 1. Condition: n is at most the width.
+#[tactic(auto, using(crate::proofs::Shifts::ones_shifted))]
+pub fn ones<T: PathWord>(n: u32) -> T
+    requires { n ≤ T.width }
+    ensures { T.number result + 1 ≡ 2 ^ n }
+{
+    if n == 0 {
+        T::zero()
+    } else {
+        T::zero().wrapping_sub(T::one()).shift_right(T::bits() - n)
+    }
+}
+
+/// Quotient and remainder of a double word by a divisor d with its top bit set, by the reciprocal
+/// of d. Condition: the high word of the dividend is below d.
+///
+/// Source: Möller and Granlund, "Improved division by invariant integers", algorithm 4.
+pub fn div_2by1<T: PathWord>(d: T, reciprocal: T, a: T::Double) -> (T, T)
+    requires reciprocal { IsReciprocal T.base (T.number d) (T.number reciprocal) }
+    requires high { T.whole a < T.number d * T.base }
+    ensures { IsDivision (T.whole a) (T.number d) (T.number result.0) (T.number result.1) }
+{
+    let (low, high) = T::split(a);
+    let (q0, q1) = T::split(T::double_plus(reciprocal.product(high), a));
+    let mut q = q1.wrapping_add(T::one());
+    let mut r = low.wrapping_sub(q.wrapping_mul(d));
+    if q0.is_below(r) {
+        q = q.wrapping_sub(T::one());
+        r = r.wrapping_add(d);
+    }
+    if !r.is_below(d) {
+        q = q.wrapping_add(T::one());
+        r = r.wrapping_sub(d);
+    }
+    (q, r)
+}
+
+// The quotient of a word by a divisor, by the divisor's multiplier and shift.
+fn quotient_1by1<T: PathWord>(d: T, multiplier: T, shift: u32, a: T) -> T
+    requires { IsMultiplier T.width T.base (T.number d) (T.number multiplier) shift }
+    ensures at_most { T.number result * T.number d ≤ T.number a }
+    ensures above { T.number a < T.number result * T.number d + T.number d }
+    ensures fits { T.number a < T.base }
+{
+    let (_, t) = T::split(multiplier.product(a));
+    t.plus(a.minus(t).shift_right(1)).shift_right(shift)
+}
+
+/// Quotient and remainder of a word by a divisor, by the divisor's multiplier and shift.
+///
+/// Source: Granlund and Montgomery, "Division by invariant integers using multiplication",
+/// figure 4.1.
+pub fn div_1by1<T: PathWord>(d: T, multiplier: T, shift: u32, a: T) -> (T, T)
+    requires { IsMultiplier T.width T.base (T.number d) (T.number multiplier) shift }
+    ensures { IsDivision (T.number a) (T.number d) (T.number result.0) (T.number result.1) }
+{
+    let q = quotient_1by1(d, multiplier, shift, a);
+    let r = a.minus(q.times(d));
+    (q, r)
+}
+
+/// The quotient of a word by an odd divisor d, by the inverse of d; `None` exactly where d doesn't
+/// divide it.
+///
+/// Source: Granlund and Montgomery, "Division by invariant integers using multiplication",
+/// section 9.
+pub fn exact_1<T: PathWord>(d: T, inverse: T, limit: T, n: T) -> Option<T>
+    requires { IsExactDivisor T.base (T.number d) (T.number inverse) (T.number limit) }
+    ensures { IsExactQuotient T.number (T.number n) (T.number d) result }
+{
+    let q = n.wrapping_mul(inverse);
+    if limit.is_below(q) { None } else { Some(q) }
+}
+
+/// The quotient of a double word by an odd divisor d, by the inverse of d; `None` exactly where d
+/// doesn't divide it.
+///
+/// Source: as `exact_1`, a word at a time from the lowest.
+pub fn exact_2<T: PathWord>(d: T, inverse: T, limit: T, n: T::Double) -> Option<T::Double>
+    requires { IsExactDivisor T.base (T.number d) (T.number inverse) (T.number limit) }
+    ensures { IsExactQuotient T.whole (T.whole n) (T.number d) result }
+{
+    let (n0, n1) = T::split(n);
+    let q0 = n0.wrapping_mul(inverse);
+    let (_, h) = T::split(q0.product(d));
+    if n1.is_below(h) {
+        return None;
+    }
+    match exact_1(d, inverse, limit, n1.minus(h)) {
+        Some(q1) => Some(T::merge(q0, q1)),
+        None => None,
+    }
+}
+
+/// The word x whose multiple x·m clears the low word of t: the first step of Montgomery's
+/// reduction.
+pub fn clearing<T: PathWord>(m: T, negated_inverse: T, t: T::Double) -> T
+    requires { IsNegatedInverse T.base (T.number m) (T.number negated_inverse) }
+    ensures low { (T.whole t + T.number result * T.number m) % T.base ≡ 0 }
+    ensures fits { T.number result < T.base }
+{
+    let (low, _) = T::split(t);
+    low.wrapping_mul(negated_inverse)
+}
+
+/// Montgomery's reduction of t, given the word x of `clearing` and the product x·m: the second
+/// step, with the carry of the sum kept. A modulus of a special form may have x·m at a lower cost.
+pub fn reduce_by<T: PathWord>(m: T, t: T::Double, x: T, multiple: T::Double) -> T
+    requires below { T.whole t < T.base * T.number m }
+    requires multiple { T.whole multiple ≡ T.number x * T.number m }
+    requires low { (T.whole t + T.whole multiple) % T.base ≡ 0 }
+    requires x_fits { T.number x < T.base }
+    requires fits { T.number m < T.base }
+    ensures { IsReduction T.base (T.number m) (T.whole t) (T.number result) }
+{
+    let sum = T::double_wrapping_add(t, multiple);
+    let (_, high) = T::split(sum);
+    if T::double_is_below(sum, t) {
+        high.wrapping_sub(m)
+    } else if high.is_below(m) {
+        high
+    } else {
+        high.wrapping_sub(m)
+    }
+}
+
+/// Montgomery's reduction of a double word t modulo an odd m. Condition: t is below m times the
+/// base.
+///
+/// Source: Handbook of Applied Cryptography, algorithm 14.32, for one word.
+pub fn redc<T: PathWord>(m: T, negated_inverse: T, t: T::Double) -> T
+    requires inverse { IsNegatedInverse T.base (T.number m) (T.number negated_inverse) }
+    requires below { T.whole t < T.base * T.number m }
+    ensures { IsReduction T.base (T.number m) (T.whole t) (T.number result) }
+{
+    let x = clearing(m, negated_inverse, t);
+    reduce_by(m, t, x, x.product(m))
+}

@@ -1,0 +1,56 @@
+//! The definitions as programs: plain and slow, each with the definition for its contract. The fast
+//! calls are compared with them in tests.
+
+ghost use Rattle.std.specs.Prelude.{◌≡◌, ℕ, ◌-◌, ◌*◌, ◌%◌, ◌^◌, ◌<◌, ◌≤◌};
+ghost use Rattle.modular_word.specs.Inverses.{IsInversion, inverse_of};
+ghost use Rattle.modular_word.specs.Residues.{IsResidue, residue};
+
+// The residue of a signed number modulo m, by its computing form.
+fn computed_residue(z: i64, m: u64) -> u64
+    requires { 1 ≤ m }
+    ensures { result ≡ residue m z }
+{
+    if z < 0 {
+        m - 1 - (-(z + 1)) as u64 % m
+    } else {
+        z as u64 % m
+    }
+}
+
+/// The residue of a signed number modulo m. Condition: m is at least 1.
+///
+/// The definition and its computing form agree: the answer is `residue m z`, it is a residue of z
+/// modulo m, and no other number is.
+pub fn residue_of(z: i64, m: u64) -> u64
+    requires { 1 ≤ m }
+    ensures computed { result ≡ residue m z }
+    ensures is_residue { IsResidue m z result }
+    ensures unique { (v : ℕ) → IsResidue m z v → v ≡ result }
+{
+    computed_residue(z, m)
+}
+
+/// The residue modulo m of the product of `exp` factors `base`. Condition: m is at least 1.
+pub fn power_of(base: u64, exp: u64, m: u64) -> u64
+    requires { 1 ≤ m }
+    ensures { result ≡ base ^ exp % m }
+{
+    let mut power = 1 % m;
+    for _ in 0..exp {
+        power = (power as u128 * base as u128 % m as u128) as u64;
+    }
+    power
+}
+
+/// The inverse of a modulo m, by trying each number below m; `None` exactly where there is none.
+pub fn inverse_by_search(a: u64, m: u64) -> Option<u64>
+    requires { 1 ≤ m }
+    ensures { IsInversion (λ x. x) m a result }
+{
+    for x in 0..m {
+        if a as u128 * x as u128 % m as u128 == (1 % m) as u128 {
+            return Some(x);
+        }
+    }
+    None
+}

@@ -1,0 +1,282 @@
+//! Words that contracts see as whole numbers.
+
+ghost use Rattle.std.proofs.Common.{lit≤, rules};
+ghost use Rattle.std.specs.Prelude.{◌≡◌, ℕ, ◌+◌, ◌*◌, ◌/◌, ◌%◌, ◌^◌, ◌<◌, ◌≤◌, ◌↔◌, true, IsTrue};
+
+/// A machine word, from 8 to 128 bits wide.
+///
+/// Contracts speak of its number, and of its width in bits: words of one number are one word, and
+/// `==` compares the numbers. That a number is below 2 to the width is known of each word that a
+/// call has read (the clauses `fits`).
+pub trait RingWord: Copy + Eq {
+    // The number of a word.
+    ghost number: { Self → ℕ };
+
+    // How many bits a word has.
+    ghost width: { ℕ };
+
+    /// The word of 0.
+    fn zero() -> Self
+        ensures { number result ≡ 0 };
+
+    /// The word of 1.
+    fn one() -> Self
+        ensures { number result ≡ 1 };
+
+    /// How many bits a word has.
+    fn bits() -> u32
+        ensures { result ≡ width };
+
+    /// Whether the word is 0.
+    fn is_zero_word(self) -> bool
+        ensures zero { IsTrue result ↔ (number self ≡ 0) }
+        ensures fits { number self < 2 ^ width };
+
+    /// Whether the word is odd.
+    fn is_odd(self) -> bool
+        ensures odd { IsTrue result ↔ (number self % 2 ≡ 1) }
+        ensures fits { number self < 2 ^ width };
+
+    /// Half the word, rounded down.
+    fn half(self) -> Self
+        ensures value { number result ≡ number self / 2 }
+        ensures fits { number self < 2 ^ width };
+
+    // A word has from 8 to 128 bits.
+    ghost width_from: { 8 ≤ width };
+
+    ghost width_to: { width ≤ 128 };
+
+    // Words of one number are one word, and compare equal.
+    ghost injective: { (x y : Self) → number x ≡ number y → x ≡ y };
+
+    ghost equal: { (x y : Self) → IsTrue (Self.eq x y) ↔ (number x ≡ number y) };
+}
+
+impl RingWord for u8 {
+    ghost number = { λ x. x };
+
+    ghost width = { 8 };
+
+    fn zero() -> u8 {
+        0
+    }
+
+    fn one() -> u8 {
+        1
+    }
+
+    fn bits() -> u32 {
+        u8::BITS
+    }
+
+    fn is_zero_word(self) -> bool {
+        self == 0
+    }
+
+    fn is_odd(self) -> bool {
+        self & 1 == 1
+    }
+
+    fn half(self) -> u8 {
+        self >> 1
+    }
+
+    ghost width_from = { lit≤ tt };
+
+    ghost width_to = { lit≤ tt };
+
+    ghost injective = { λ x y e. e };
+
+    ghost equal = { Prim.search rules };
+}
+
+impl RingWord for u16 {
+    ghost number = { λ x. x };
+
+    ghost width = { 16 };
+
+    fn zero() -> u16 {
+        0
+    }
+
+    fn one() -> u16 {
+        1
+    }
+
+    fn bits() -> u32 {
+        u16::BITS
+    }
+
+    fn is_zero_word(self) -> bool {
+        self == 0
+    }
+
+    fn is_odd(self) -> bool {
+        self & 1 == 1
+    }
+
+    fn half(self) -> u16 {
+        self >> 1
+    }
+
+    ghost width_from = { lit≤ tt };
+
+    ghost width_to = { lit≤ tt };
+
+    ghost injective = { λ x y e. e };
+
+    ghost equal = { Prim.search rules };
+}
+
+impl RingWord for u32 {
+    ghost number = { λ x. x };
+
+    ghost width = { 32 };
+
+    fn zero() -> u32 {
+        0
+    }
+
+    fn one() -> u32 {
+        1
+    }
+
+    fn bits() -> u32 {
+        u32::BITS
+    }
+
+    fn is_zero_word(self) -> bool {
+        self == 0
+    }
+
+    fn is_odd(self) -> bool {
+        self & 1 == 1
+    }
+
+    fn half(self) -> u32 {
+        self >> 1
+    }
+
+    ghost width_from = { lit≤ tt };
+
+    ghost width_to = { lit≤ tt };
+
+    ghost injective = { λ x y e. e };
+
+    ghost equal = { Prim.search rules };
+}
+
+impl RingWord for u64 {
+    ghost number = { λ x. x };
+
+    ghost width = { 64 };
+
+    fn zero() -> u64 {
+        0
+    }
+
+    fn one() -> u64 {
+        1
+    }
+
+    fn bits() -> u32 {
+        u64::BITS
+    }
+
+    fn is_zero_word(self) -> bool {
+        self == 0
+    }
+
+    fn is_odd(self) -> bool {
+        self & 1 == 1
+    }
+
+    fn half(self) -> u64 {
+        self >> 1
+    }
+
+    ghost width_from = { lit≤ tt };
+
+    ghost width_to = { lit≤ tt };
+
+    ghost injective = { λ x y e. e };
+
+    ghost equal = { Prim.search rules };
+}
+
+impl RingWord for usize {
+    ghost number = { λ x. x };
+
+    ghost width = { 64 };
+
+    fn zero() -> usize {
+        0
+    }
+
+    fn one() -> usize {
+        1
+    }
+
+    fn bits() -> u32 {
+        usize::BITS
+    }
+
+    fn is_zero_word(self) -> bool {
+        self == 0
+    }
+
+    fn is_odd(self) -> bool {
+        self & 1 == 1
+    }
+
+    fn half(self) -> usize {
+        self >> 1
+    }
+
+    ghost width_from = { lit≤ tt };
+
+    ghost width_to = { lit≤ tt };
+
+    ghost injective = { λ x y e. e };
+
+    ghost equal = { Prim.search rules };
+}
+
+impl RingWord for u128 {
+    ghost number = { λ x. x };
+
+    ghost width = { 128 };
+
+    fn zero() -> u128 {
+        0
+    }
+
+    fn one() -> u128 {
+        1
+    }
+
+    fn bits() -> u32 {
+        u128::BITS
+    }
+
+    fn is_zero_word(self) -> bool {
+        self == 0
+    }
+
+    fn is_odd(self) -> bool {
+        self & 1 == 1
+    }
+
+    fn half(self) -> u128 {
+        self >> 1
+    }
+
+    ghost width_from = { lit≤ tt };
+
+    ghost width_to = { lit≤ tt };
+
+    ghost injective = { λ x y e. e };
+
+    ghost equal = { Prim.search rules };
+}
