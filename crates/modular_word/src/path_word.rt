@@ -26,7 +26,8 @@ pub trait PathWord: RingWord {
     /// The difference. Condition: it is not below 0.
     fn minus(self, rhs: Self) -> Self
         requires { Self.number rhs ≤ Self.number self }
-        ensures { Self.number result + Self.number rhs ≡ Self.number self };
+        ensures value { Self.number result + Self.number rhs ≡ Self.number self }
+        ensures fits { Self.number self < base };
 
     /// The product. Condition: it fits a word.
     fn times(self, rhs: Self) -> Self
@@ -52,7 +53,8 @@ pub trait PathWord: RingWord {
     /// The word divided by a power of two, rounded down. Condition: `by` is below the width.
     fn shift_right(self, by: u32) -> Self
         requires { by < Self.width }
-        ensures { Self.number result ≡ Self.number self / 2 ^ by };
+        ensures value { Self.number result ≡ Self.number self / 2 ^ by }
+        ensures fits { Self.number self < base };
 
     /// The word times a power of two. Condition: `by` is below the width, and the product fits.
     fn shift_left(self, by: u32) -> Self
@@ -63,7 +65,8 @@ pub trait PathWord: RingWord {
     /// The word modulo a power of two. Condition: `count` is below the width.
     fn low_bits(self, count: u32) -> Self
         requires { count < Self.width }
-        ensures { Self.number result ≡ Self.number self % 2 ^ count };
+        ensures value { Self.number result ≡ Self.number self % 2 ^ count }
+        ensures fits { Self.number self < base };
 
     /// How many of the highest bits are 0; the width for 0.
     fn leading_zeros(self) -> u32

@@ -31,7 +31,7 @@ returns-in-Some g c =
     let d = n c.args.d in
     let x = n c.in-Some.q1 in
     let high : x * d + n c.split-h.result.1 ≡ n c.split-n0.result.1 =
-    omega (arith, c.in-Some.ensures, c.minus.ensures) in
+    omega (arith, c.in-Some.ensures, c.minus.ensures.value) in
     let scaled : B * (x * d + n c.split-h.result.1) ≡ B * n c.split-n0.result.1 = ap (λ v. B * v) high in
     let whole : (n c.wrapping_mul-q0.result + B * x) * d ≡ g.T.PathWord.whole c.args.n =
     omega (arith, c.split-n0.ensures.value) in
@@ -51,4 +51,4 @@ returns-in-None g c =
     high_left B (n c.args.d) (n c.args.inverse) (n c.split-n0.result.0) (n c.split-n0.result.1)
     (n c.wrapping_mul-q0.result) (n c.split-h.result.1) K c.split-n0.ensures.low_fits c.requires.unit
     c.wrapping_mul-q0.ensures.value parts (e ∙ c.split-n0.ensures.value) in
-    c.in-None.ensures (K / B) (omega (arith, c.minus.ensures))
+    c.in-None.ensures (K / B) (omega (arith, c.minus.ensures.value))

@@ -1,5 +1,5 @@
 use Rattle.modular_word.proofs.Shifts.{mask_keeps}
 use Rattle.modular_word.proofs.impls.U16PathWord.low_bits.Goals as goal
 
-pub returns : goal.returns
-returns c = mask_keeps 16 c.args.self c.args.count c.requires
+pub returns-clause-value : goal.returns-clause-value
+returns-clause-value c = mask_keeps 16 c.args.self c.args.count c.requires

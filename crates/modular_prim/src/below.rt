@@ -1,0 +1,53 @@
+//! Sums, differences, doubles and negatives modulo m of words below m, without a division.
+
+ghost use Rattle.std.specs.Prelude.{◌≡◌, ℕ, ◌+◌, ◌*◌, ◌%◌, ◌<◌, pos, ◌-ℤ◌, neg_ℤ};
+ghost use Rattle.modular_word.specs.Residues.{residue};
+
+use modular_word::path_word::PathWord;
+
+/// The residue of a + b. Condition: both are below m.
+pub fn add_below<T: PathWord>(a: T, b: T, m: T) -> T
+    requires left { T.number a < T.number m }
+    requires right { T.number b < T.number m }
+    ensures value { T.number result ≡ (T.number a + T.number b) % T.number m }
+    ensures below { T.number result < T.number m }
+{
+    let gap = m.minus(b);
+    if a.is_below(gap) {
+        a.plus(b)
+    } else {
+        a.minus(gap)
+    }
+}
+
+/// The residue of a - b. Condition: both are below m.
+pub fn sub_below<T: PathWord>(a: T, b: T, m: T) -> T
+    requires left { T.number a < T.number m }
+    requires right { T.number b < T.number m }
+    ensures value { T.number result ≡ residue (T.number m) (pos (T.number a) -ℤ pos (T.number b)) }
+    ensures below { T.number result < T.number m }
+{
+    if a.is_below(b) {
+        m.minus(b.minus(a))
+    } else {
+        a.minus(b)
+    }
+}
+
+/// The residue of 2a. Condition: a is below m.
+pub fn dbl_below<T: PathWord>(a: T, m: T) -> T
+    requires { T.number a < T.number m }
+    ensures value { T.number result ≡ (2 * T.number a) % T.number m }
+    ensures below { T.number result < T.number m }
+{
+    add_below(a, a, m)
+}
+
+/// The residue of -a. Condition: a is below m.
+pub fn neg_below<T: PathWord>(a: T, m: T) -> T
+    requires { T.number a < T.number m }
+    ensures value { T.number result ≡ residue (T.number m) (neg_ℤ (pos (T.number a))) }
+    ensures below { T.number result < T.number m }
+{
+    if a.is_zero_word() { a } else { m.minus(a) }
+}

@@ -1,0 +1,5 @@
+//! Modular operations on plain integers.
+#![tactic(auto)]
+
+pub mod below;
+pub mod plain_word;
