@@ -1,0 +1,5 @@
+//! Rings of residues: reducers, which compute modulo m by forms, and integers over any of them.
+#![tactic(auto)]
+
+pub mod power;
+pub mod reducer;

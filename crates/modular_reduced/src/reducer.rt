@@ -1,0 +1,144 @@
+//! The trait of reducers, with its laws.
+
+ghost use Rattle.std.specs.Prelude.{◌≡◌, ℕ, ◌+◌, ◌*◌, ◌%◌, ◌^◌, ◌<◌, ◌≤◌, ◌↔◌, IsTrue, pos, ◌-ℤ◌, neg_ℤ};
+ghost use Rattle.modular_word.specs.Residues.{residue};
+ghost use Rattle.modular_reduced.specs.Forms.{Represents, IsForm, IsCanonical, IsInverseForm};
+
+use crate::power::pow_counted;
+use modular_word::ring_word::RingWord;
+
+/// A way to compute modulo m by forms: words that stand for the values from 0 to m - 1.
+///
+/// A form is checked where `check` is true of it; each value has exactly one checked form, and each
+/// checked form one value. Every call but `check` and `transform` takes checked forms alone.
+pub trait Reducer<T: RingWord> {
+    // The moduli that `new` takes.
+    ghost admits: { ℕ → Type 0 };
+
+    // `form m v`: modulo m, the form of the value v.
+    ghost form: { ℕ → ℕ → ℕ };
+
+    // `value m f`: modulo m, the value of the form f.
+    ghost value: { ℕ → ℕ → ℕ };
+
+    // The modulus of a reducer.
+    ghost modulus: { Self → ℕ };
+
+    /// The reducer of a modulus. Condition: it is admitted.
+    fn new(m: &T) -> Self
+        requires { admits (T.number m.now) }
+        ensures { modulus result ≡ T.number m.now };
+
+    /// The form of n mod m, for every word n.
+    fn transform(&self, n: T) -> T
+        ensures { Represents form (modulus self.now) (T.number result) (T.number n % modulus self.now) };
+
+    /// Whether a word is a checked form.
+    fn check(&self, f: &T) -> bool
+        ensures { IsTrue result ↔ IsForm form value (modulus self.now) (T.number f.now) };
+
+    /// The modulus.
+    fn modulus(&self) -> T
+        ensures { T.number result ≡ modulus self.now };
+
+    /// The value of a form: a number below the modulus.
+    fn residue(&self, f: T) -> T
+        requires { IsForm form value (modulus self.now) (T.number f) }
+        ensures { Represents form (modulus self.now) (T.number f) (T.number result) };
+
+    /// Whether the value of a form is 0.
+    fn is_zero(&self, f: &T) -> bool
+        requires { IsForm form value (modulus self.now) (T.number f.now) }
+        ensures { IsTrue result ↔ (value (modulus self.now) (T.number f.now) ≡ 0) };
+
+    /// The form of the sum modulo m.
+    fn add(&self, a: &T, b: &T) -> T
+        requires left { IsForm form value (modulus self.now) (T.number a.now) }
+        requires right { IsForm form value (modulus self.now) (T.number b.now) }
+        ensures { let m = modulus self.now in
+            Represents form m (T.number result) ((value m (T.number a.now) + value m (T.number b.now)) % m) };
+
+    /// `add`, in the first operand.
+    fn add_in_place(&self, a: &mut T, b: &T)
+        requires left { IsForm form value (modulus self.now) (T.number a.old) }
+        requires right { IsForm form value (modulus self.now) (T.number b.now) }
+        ensures { let m = modulus self.now in
+            Represents form m (T.number a.new) ((value m (T.number a.old) + value m (T.number b.now)) % m) }
+    {
+        *a = self.add(a, b);
+    }
+
+    /// The form of the double modulo m.
+    fn dbl(&self, f: T) -> T
+        requires { IsForm form value (modulus self.now) (T.number f) }
+        ensures { let m = modulus self.now in
+            Represents form m (T.number result) ((2 * value m (T.number f)) % m) };
+
+    /// The form of the difference modulo m.
+    fn sub(&self, a: &T, b: &T) -> T
+        requires left { IsForm form value (modulus self.now) (T.number a.now) }
+        requires right { IsForm form value (modulus self.now) (T.number b.now) }
+        ensures { let m = modulus self.now in
+            Represents form m (T.number result)
+                (residue m (pos (value m (T.number a.now)) -ℤ pos (value m (T.number b.now)))) };
+
+    /// `sub`, in the first operand.
+    fn sub_in_place(&self, a: &mut T, b: &T)
+        requires left { IsForm form value (modulus self.now) (T.number a.old) }
+        requires right { IsForm form value (modulus self.now) (T.number b.now) }
+        ensures { let m = modulus self.now in
+            Represents form m (T.number a.new)
+                (residue m (pos (value m (T.number a.old)) -ℤ pos (value m (T.number b.now)))) }
+    {
+        *a = self.sub(a, b);
+    }
+
+    /// The form of the negative modulo m.
+    fn neg(&self, f: T) -> T
+        requires { IsForm form value (modulus self.now) (T.number f) }
+        ensures { let m = modulus self.now in
+            Represents form m (T.number result) (residue m (neg_ℤ (pos (value m (T.number f))))) };
+
+    /// The form of the product modulo m.
+    fn mul(&self, a: &T, b: &T) -> T
+        requires left { IsForm form value (modulus self.now) (T.number a.now) }
+        requires right { IsForm form value (modulus self.now) (T.number b.now) }
+        ensures { let m = modulus self.now in
+            Represents form m (T.number result) ((value m (T.number a.now) * value m (T.number b.now)) % m) };
+
+    /// `mul`, in the first operand.
+    fn mul_in_place(&self, a: &mut T, b: &T)
+        requires left { IsForm form value (modulus self.now) (T.number a.old) }
+        requires right { IsForm form value (modulus self.now) (T.number b.now) }
+        ensures { let m = modulus self.now in
+            Represents form m (T.number a.new) ((value m (T.number a.old) * value m (T.number b.now)) % m) }
+    {
+        *a = self.mul(a, b);
+    }
+
+    /// The form of the inverse modulo m; `None` exactly where there is none.
+    fn inv(&self, f: T) -> Option<T>
+        requires { IsForm form value (modulus self.now) (T.number f) }
+        ensures { let m = modulus self.now in IsInverseForm T.number form m (value m (T.number f)) result };
+
+    /// The form of the square modulo m.
+    fn sqr(&self, f: T) -> T
+        requires { IsForm form value (modulus self.now) (T.number f) }
+        ensures { let m = modulus self.now in
+            Represents form m (T.number result) ((value m (T.number f) * value m (T.number f)) % m) };
+
+    /// The form of the product of `exp` factors, modulo m; that of 1 for the exponent 0.
+    final fn pow(&self, f: T, exp: &T) -> T
+        requires { IsForm form value (modulus self.now) (T.number f) }
+        ensures { let m = modulus self.now in
+            Represents form m (T.number result) (value m (T.number f) ^ T.number exp.now % m) }
+    {
+        pow_counted(self, f, exp).0
+    }
+
+    // A reducer has a modulus that its type admits.
+    ghost admitted: { (r : Self) → admits (modulus r) };
+
+    // Each value has one form, a word, and each form one value.
+    ghost canonical: { (r : Self) → IsCanonical form value T.width (modulus r) };
+}
