@@ -1,0 +1,81 @@
+-- An inverse modulo a power of two, lifted to its square.
+use Rattle.std.proofs.Common.{◌≡◌, ℕ, zero, suc, ◌+◌, ◌-◌, ◌*◌, ◌/◌, ◌%◌, ◌^◌, ◌<◌, ◌≤◌, sym, ap, ◌∙◌, arith, refl, ap₂}
+use Rattle.std.proofs.Math.Nat.{mod-lt, mod-mod, mod-one, mod_self, mod-add-mod, add-mod-mod, div-add-mod, mod-eq_of_lt, add-mul-mod_self_left, pow-suc}
+use Rattle.std.proofs.lemmas.Nat.{pow_pos, pow-add, mul-mod, mul-mod_second}
+use Rattle.modular_word.proofs.Congruence.{mod_cancel, same_sum, same_product, same_without, mod_of_multiple}
+
+-- i is the inverse of m modulo each power of two up to the given one, in words of w bits
+pub record InverseTo (w m i bits : ℕ) : Type 0 where
+  pub inverse : (c : ℕ) → c ≤ bits → c ≤ w → (m * i) % 2 ^ c ≡ 1 % 2 ^ c
+
+-- what is congruent modulo a power of two is congruent modulo a lower one
+pub lower_power : (c d x y : ℕ) → c ≤ d → x % 2 ^ d ≡ y % 2 ^ d → x % 2 ^ c ≡ y % 2 ^ c
+lower_power c d x y h e =
+    let whole : 2 ^ d ≡ 2 ^ c * 2 ^ (d - c) = ap (λ n. 2 ^ n) (let f : d ≡ c + (d - c) = omega arith in f) ∙ pow-add 2 c (d - c) in
+    let down : (z : ℕ) → z % 2 ^ d % 2 ^ c ≡ z % 2 ^ c = λ z. ap (λ n. z % n % 2 ^ c) whole ∙ mod_of_multiple (2 ^ c) (2 ^ (d - c)) z in
+    sym (down x) ∙ ap (λ n. n % 2 ^ c) e ∙ down y
+
+odd_square : (r : ℕ) → r < 8 → r % 2 ≡ 1 → (r * r) % 8 ≡ 1
+odd_square zero h e = absurd (omega arith)
+odd_square (suc zero) h e = refl
+odd_square (suc (suc zero)) h e = absurd (omega arith)
+odd_square (suc (suc (suc zero))) h e = refl
+odd_square (suc (suc (suc (suc zero)))) h e = absurd (omega arith)
+odd_square (suc (suc (suc (suc (suc zero))))) h e = refl
+odd_square (suc (suc (suc (suc (suc (suc zero)))))) h e = absurd (omega arith)
+odd_square (suc (suc (suc (suc (suc (suc (suc zero))))))) h e = refl
+odd_square (suc (suc (suc (suc (suc (suc (suc (suc r)))))))) h e = absurd (omega arith)
+
+-- an odd number is its own inverse modulo 8
+pub lift_start : (w m bits : ℕ) → m % 2 ≡ 1 → bits ≡ 3 → InverseTo w m m bits
+lift_start w m bits odd e = record {
+  inverse = λ c h k.
+      let r : m % 8 % 2 ≡ 1 = omega arith in
+      lower_power c 3 (m * m) 1 (omega arith) (mul-mod m m 8 ∙ odd_square (m % 8) (mod-lt m (omega arith)) r);
+}
+
+-- one lifting, modulo 2^c where x is 1 modulo 2^d
+pub lifted : (c d x t : ℕ) → c ≤ d + d → x % 2 ^ d ≡ 1 % 2 ^ d → (t + x) % 2 ^ c ≡ 2 % 2 ^ c → (x * t) % 2 ^ c ≡ 1 % 2 ^ c
+lifted c zero x t h ex et =
+    let z : c ≡ 0 = omega arith in
+    ap (λ n. (x * t) % 2 ^ n) z ∙ mod-one (x * t) ∙ sym (mod-one 1) ∙ ap (λ n. 1 % 2 ^ n) (sym z)
+lifted c (suc d) x t h ex et =
+    let D = 2 ^ suc d in
+    let two : D ≡ 2 * 2 ^ d = omega (arith, pow-suc 2 d) in
+    let one : x % D ≡ 1 = ex ∙ mod-eq_of_lt (omega (arith, pow_pos d)) in
+    let e = x / D in
+    let f : D * (x / D) + x % D ≡ x = div-add-mod x D in
+    let g : x ≡ 1 + D * e = omega arith in
+    let square : 2 ^ (suc d + suc d) ≡ D * D = pow-add 2 (suc d) (suc d) in
+    let sx : x * x ≡ (1 + D * e) * (1 + D * e) = ap₂ (λ n o. n * o) g g in
+    let s : 1 + x * x ≡ x * 2 + 2 ^ (suc d + suc d) * (e * e) = rw square (omega arith) in
+    let high : (1 + x * x) % 2 ^ c ≡ (x * 2) % 2 ^ c =
+    lower_power c (suc d + suc d) (1 + x * x) (x * 2) h (ap (λ n. n % 2 ^ (suc d + suc d)) s ∙ add-mul-mod_self_left (x * 2) (2 ^ (suc d + suc d)) (e * e)) in
+    let both : (x * t + x * x) % 2 ^ c ≡ (1 + x * x) % 2 ^ c =
+    ap (λ n. n % 2 ^ c) (let r : x * t + x * x ≡ x * (t + x) = omega arith in r) ∙ same_product (2 ^ c) x x (t + x) 2 refl et ∙ sym high in
+    same_without (2 ^ c) (x * t) 1 (x * x) (pow_pos c) both
+
+pub lift_step : (w b m i bits p s n bits' : ℕ) → b ≡ 2 ^ w → InverseTo w m i bits → p ≡ (m * i) % b → (s + p) % b ≡ 2 → n ≡ (i * s) % b → bits' ≡ bits + bits → InverseTo w m n bits'
+lift_step w b m i bits p s n bits' eb h ep es en e = record {
+  inverse = λ c hc hw.
+      let d = (c + 1) / 2 in
+      let two : 2 % b ≡ 2 = ap (λ v. v % b) (sym es) ∙ mod-mod (s + p) b ∙ es in
+      let sum : (s + m * i) % 2 ^ w ≡ 2 % 2 ^ w =
+      ap (λ v. (s + m * i) % v) (sym eb) ∙ sym (add-mod-mod s (m * i) b) ∙ ap (λ v. (s + v) % b) (sym ep) ∙ es ∙ sym two ∙ ap (λ v. 2 % v) eb in
+      let product : (m * n) % 2 ^ w ≡ (m * i * s) % 2 ^ w =
+      ap (λ v. (m * n) % v) (sym eb) ∙ ap (λ v. (m * v) % b) en ∙ mul-mod_second m (i * s) b
+      ∙ ap (λ v. v % b) (let r : m * (i * s) ≡ m * i * s = omega arith in r) ∙ ap (λ v. (m * i * s) % v) eb in
+      lower_power c w (m * n) (m * i * s) hw product
+      ∙ lifted c d (m * i) s (omega arith) (h.inverse d (omega arith) (omega arith)) (lower_power c w (s + m * i) 2 hw sum);
+}
+
+-- the negative of an inverse
+pub lift_end : (w b m i bits r : ℕ) → b ≡ 2 ^ w → 8 ≤ w → InverseTo w m i bits → w ≤ bits → (r + i) % b ≡ 0 → (m * r) % b ≡ b - 1
+lift_end w b m i bits r eb hw h over er =
+    let hb : 0 < b = omega (arith, eb, pow_pos w) in
+    let one : (m * i) % b ≡ 1 % b = ap (λ v. (m * i) % v) eb ∙ h.inverse w over (omega arith) ∙ ap (λ v. 1 % v) (sym eb) in
+    let whole : (m * r + 1) % b ≡ 0 % b =
+    same_sum b (m * r) (m * r) 1 (m * i) refl (sym one) ∙ ap (λ v. v % b) (let e : m * r + m * i ≡ m * (r + i) = omega arith in e)
+    ∙ same_product b m m (r + i) 0 refl (er ∙ sym (mod-eq_of_lt hb)) ∙ ap (λ v. v % b) (let e : m * 0 ≡ 0 = omega arith in e) in
+    let top : (b - 1 + 1) % b ≡ 0 % b = ap (λ v. v % b) (let e : b - 1 + 1 ≡ b = omega arith in e) ∙ mod_self b ∙ sym (mod-eq_of_lt hb) in
+    mod_cancel b ((m * r) % b) (b - 1) 1 (mod-lt (m * r) hb) (omega arith) (mod-add-mod (m * r) b 1 ∙ whole ∙ sym top)
