@@ -36,18 +36,18 @@ same_without m a b c h e =
 pub same_without_unit : (m a b c j : ℕ) → (c * j) % m ≡ 1 % m → (a * c) % m ≡ (b * c) % m → a % m ≡ b % m
 same_without_unit m a b c j u e =
     let back : (x : ℕ) → (x * c * j) % m ≡ x % m =
-        λ x. ap (λ v. v % m) (let r : x * c * j ≡ x * (c * j) = omega arith in r) ∙ same_product m x x (c * j) 1 refl u ∙ ap (λ v. v % m) (let r : x * 1 ≡ x = omega arith in r) in
+    λ x. ap (λ v. v % m) (let r : x * c * j ≡ x * (c * j) = omega arith in r) ∙ same_product m x x (c * j) 1 refl u ∙ ap (λ v. v % m) (let r : x * 1 ≡ x = omega arith in r) in
     sym (back a) ∙ same_product m (a * c) (b * c) j j e refl ∙ back b
 
 -- a factor with a negated inverse cancels
 pub same_without_negated_unit : (m a b c i : ℕ) → 0 < m → (c * i + 1) % m ≡ 0 % m → (a * c) % m ≡ (b * c) % m → a % m ≡ b % m
 same_without_negated_unit m a b c i h u e =
     let gone : (x : ℕ) → (x * c * i + x) % m ≡ 0 % m =
-        λ x. ap (λ v. v % m) (let r : x * c * i + x ≡ x * (c * i + 1) = omega arith in r) ∙ same_product m x x (c * i + 1) 0 refl u ∙ ap (λ v. v % m) (let r : x * 0 ≡ 0 = omega arith in r) in
+    λ x. ap (λ v. v % m) (let r : x * c * i + x ≡ x * (c * i + 1) = omega arith in r) ∙ same_product m x x (c * i + 1) 0 refl u ∙ ap (λ v. v % m) (let r : x * 0 ≡ 0 = omega arith in r) in
     let f : (a * c * i) % m ≡ (b * c * i) % m = same_product m (a * c) (b * c) i i e refl in
     let left : (a + b * c * i) % m ≡ (b + b * c * i) % m =
-        same_sum m a a (b * c * i) (a * c * i) refl (sym f) ∙ ap (λ v. v % m) (let r : a + a * c * i ≡ a * c * i + a = omega arith in r)
-        ∙ gone a ∙ sym (gone b) ∙ ap (λ v. v % m) (let r : b * c * i + b ≡ b + b * c * i = omega arith in r) in
+    same_sum m a a (b * c * i) (a * c * i) refl (sym f) ∙ ap (λ v. v % m) (let r : a + a * c * i ≡ a * c * i + a = omega arith in r)
+    ∙ gone a ∙ sym (gone b) ∙ ap (λ v. v % m) (let r : b * c * i + b ≡ b + b * c * i = omega arith in r) in
     same_without m a b (b * c * i) h left
 
 -- what is congruent modulo a multiple of m is congruent modulo m

@@ -331,7 +331,10 @@ impl PathWord for u64 {
     }
 
     fn split(double: u128) -> (u64, u64) {
-        ((double & 0xffff_ffff_ffff_ffff) as u64, (double >> 64) as u64)
+        (
+            (double & 0xffff_ffff_ffff_ffff) as u64,
+            (double >> 64) as u64,
+        )
     }
 
     fn merge(low: u64, high: u64) -> u128 {
@@ -418,7 +421,10 @@ impl PathWord for usize {
     }
 
     fn split(double: u128) -> (usize, usize) {
-        ((double & 0xffff_ffff_ffff_ffff) as usize, (double >> 64) as usize)
+        (
+            (double & 0xffff_ffff_ffff_ffff) as usize,
+            (double >> 64) as usize,
+        )
     }
 
     fn merge(low: usize, high: usize) -> u128 {

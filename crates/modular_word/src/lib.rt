@@ -7,4 +7,6 @@ pub mod path_word;
 pub mod paths;
 pub mod plain;
 pub mod ring_word;
+#[cfg(test)]
+mod tests;
 pub mod word;
