@@ -1,0 +1,2 @@
+pub mod EuclidSteps
+pub mod ReciprocalOf

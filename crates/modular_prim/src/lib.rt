@@ -2,4 +2,6 @@
 #![tactic(auto)]
 
 pub mod below;
+pub mod euclid;
 pub mod plain_word;
+pub mod reciprocal;

@@ -3,7 +3,7 @@
 ghost use Rattle.std.specs.Prelude.{◌≡◌, ℕ, ◌/◌, ◌%◌, ◌<◌, ◌≤◌};
 
 use modular_word::path_word::PathWord;
-use modular_word::word::{w16, w32, w64, w8, wsize};
+use modular_word::word::{w8, w16, w32, w64, wsize};
 
 /// A machine word with quotients and remainders.
 pub trait PlainWord: PathWord {

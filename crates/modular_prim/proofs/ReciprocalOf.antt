@@ -1,0 +1,46 @@
+-- The reciprocal of a divisor with its top bit set.
+use Rattle.std.proofs.Common.{◌≡◌, ℕ, ◌+◌, ◌-◌, ◌*◌, ◌/◌, ◌%◌, ◌<◌, ◌≤◌, sym, ap, ◌∙◌, arith, ⊎_elim}
+use Rattle.std.proofs.Math.Nat.{mod-lt, mod_self, div-add-mod, mul-le-mul_left}
+use Rattle.std.proofs.lemmas.Bool.{cases_lt}
+use Rattle.modular_word.proofs.Congruence.{same_rest, mod_cancel}
+use Rattle.modular_word.specs.Reciprocals.{IsReciprocal}
+
+-- the low word of the quotient is the quotient less the base
+reciprocal_is : (B d v a : ℕ) → d < B → B ≤ 2 * d → a + 1 ≡ B * B → v ≡ (a / d) % B
+    → v + B ≡ a / d
+reciprocal_is B d v a hd hn ea ev =
+    let Q = a / d in
+    let f : d * (a / d) + a % d ≡ a = div-add-mod a d in
+    let l : a % d < d = mod-lt a (omega arith) in
+    let g : B * ((a / d) / B) + (a / d) % B ≡ a / d = div-add-mod (a / d) B in
+    let l2 : (a / d) % B < B = mod-lt (a / d) (omega arith) in
+    let m1 : B * d ≤ B * (B - 1) = mul-le-mul_left B (omega arith) in
+    let m1' : B * (B - 1 + 1) ≡ B * B = ap (λ n. B * n) (let u : B - 1 + 1 ≡ B = omega arith in u) in
+    let m2 : B * B ≤ B * (2 * d) = mul-le-mul_left B hn in
+    let low : B ≤ Q =
+    ⊎_elim
+    (λ (h : Q < B). let m : d * (Q + 1) ≤ d * B = mul-le-mul_left d (omega arith) in absurd (omega arith))
+    (λ (h : B ≤ Q). h) (cases_lt Q B) in
+    let high : Q < 2 * B =
+    ⊎_elim (λ (h : Q < 2 * B). h)
+    (λ (h : 2 * B ≤ Q). let m : d * (2 * B) ≤ d * Q = mul-le-mul_left d h in absurd (omega arith))
+    (cases_lt Q (2 * B)) in
+    let e : (a / d) % B ≡ Q - B =
+    same_rest B ((a / d) % B) (Q - B) ((a / d) / B) 1 l2 (omega arith) (omega arith) in
+    omega arith
+
+pub reciprocal_of : (B d v a : ℕ) → d < B → B ≤ 2 * d → a + 1 ≡ B * B → v ≡ (a / d) % B
+    → IsReciprocal B d v
+reciprocal_of B d v a hd hn ea ev =
+    let f : d * (a / d) + a % d ≡ a = div-add-mod a d in
+    let l : a % d < d = mod-lt a (omega arith) in
+    let e : d * (v + B) ≡ d * (a / d) = ap (λ n. d * n) (reciprocal_is B d v a hd hn ea ev) in
+    record { normalized = hn; below = omega arith; close = omega arith }
+
+-- the word that is 1 below 0
+pub greatest_word : (B x : ℕ) → 0 < B → x < B → (x + 1) % B ≡ 0 → x + 1 ≡ B
+greatest_word B x hB hx e =
+    let u : B - 1 + 1 ≡ B = omega arith in
+    let s : x ≡ B - 1 =
+    mod_cancel B x (B - 1) 1 hx (omega arith) (e ∙ sym (mod_self B) ∙ ap (λ n. n % B) (sym u)) in
+    omega arith

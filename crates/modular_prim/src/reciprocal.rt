@@ -1,0 +1,20 @@
+//! The reciprocal of a word.
+
+ghost use Rattle.std.specs.Prelude.{◌*◌, ◌≤◌};
+ghost use Rattle.modular_word.specs.Reciprocals.{IsReciprocal};
+
+use crate::plain_word::PlainWord;
+use modular_word::path_word::PathWord;
+use modular_word::ring_word::RingWord;
+
+/// The reciprocal of a divisor: the greatest double word divided by it, less the base. Condition:
+/// the divisor's top bit is set.
+///
+/// Source: Möller and Granlund, "Improved division by invariant integers", section 3.
+pub fn invert_word<T: PlainWord>(d: T) -> T
+    requires { T.base ≤ 2 * T.number d }
+    ensures { IsReciprocal T.base (T.number d) (T.number result) }
+{
+    let greatest = T::zero().wrapping_sub(T::one());
+    T::low_quotient(T::merge(greatest, greatest), d)
+}
