@@ -1,1 +1,2 @@
 pub mod Lifting
+pub mod NegatedInverses

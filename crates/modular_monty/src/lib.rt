@@ -2,3 +2,4 @@
 #![tactic(auto)]
 
 pub mod neg_mod_inv;
+pub mod preinv;
