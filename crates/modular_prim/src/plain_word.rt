@@ -1,12 +1,14 @@
 //! Words with division: what plain modular operations need beside the paths.
 
 ghost use Rattle.std.specs.Prelude.{◌≡◌, ℕ, ◌/◌, ◌%◌, ◌<◌, ◌≤◌};
+ghost use Rattle.std.proofs.Common.{refl};
 
+use crate::numbered::Numbered;
 use modular_word::path_word::PathWord;
 use modular_word::word::{w8, w16, w32, w64, wsize};
 
 /// A machine word with quotients and remainders.
-pub trait PlainWord: PathWord {
+pub trait PlainWord: PathWord + Numbered {
     /// The quotient of two words. Condition: d is at least 1.
     fn quotient(self, d: Self) -> Self
         requires { 1 ≤ Self.number d }
@@ -29,6 +31,9 @@ pub trait PlainWord: PathWord {
         requires { 1 ≤ Self.number d }
         ensures value { Self.number result ≡ Self.whole double % Self.number d }
         ensures fits { Self.number d < Self.base };
+
+    // The number of a word is its whole number.
+    ghost numbered: { (x : Self) → Self.whole_number x ≡ Self.number x };
 }
 
 impl PlainWord for u8 {
@@ -47,6 +52,8 @@ impl PlainWord for u8 {
     fn narrow_remainder(double: u16, d: u8) -> u8 {
         w8::nrem(double, d)
     }
+
+    ghost numbered = { λ x. refl };
 }
 
 impl PlainWord for u16 {
@@ -65,6 +72,8 @@ impl PlainWord for u16 {
     fn narrow_remainder(double: u32, d: u16) -> u16 {
         w16::nrem(double, d)
     }
+
+    ghost numbered = { λ x. refl };
 }
 
 impl PlainWord for u32 {
@@ -83,6 +92,8 @@ impl PlainWord for u32 {
     fn narrow_remainder(double: u64, d: u32) -> u32 {
         w32::nrem(double, d)
     }
+
+    ghost numbered = { λ x. refl };
 }
 
 impl PlainWord for u64 {
@@ -101,6 +112,8 @@ impl PlainWord for u64 {
     fn narrow_remainder(double: u128, d: u64) -> u64 {
         w64::nrem(double, d)
     }
+
+    ghost numbered = { λ x. refl };
 }
 
 impl PlainWord for usize {
@@ -119,4 +132,6 @@ impl PlainWord for usize {
     fn narrow_remainder(double: u128, d: usize) -> usize {
         wsize::nrem(double, d)
     }
+
+    ghost numbered = { λ x. refl };
 }

@@ -1,0 +1,151 @@
+//! Exact division.
+
+ghost use Rattle.std.specs.Prelude.{◌≡◌, ◌≢◌, ℕ, ◌*◌, ◌≤◌, IsTrue, IsFalse};
+ghost use Rattle.modular_word.specs.Division.{IsExactQuotient};
+
+use crate::numbered::Numbered;
+use crate::plain_word::PlainWord;
+use modular_word::ring_word::RingWord;
+
+/// Exact division, with what a divisor has stored; `()` stores nothing.
+pub trait DivExact<Rhs: Numbered, Precompute>: Numbered + Sized {
+    /// The type of the quotients.
+    type Output: Numbered;
+
+    // What is stored fits the divisor.
+    ghost fits: { Rhs → Precompute → Type 0 };
+
+    /// The quotient by d; `None` exactly where d doesn't divide the number. Condition: what is
+    /// stored fits d.
+    fn div_exact(self, d: Rhs, pre: &Precompute) -> Option<Self::Output>
+        requires { fits d pre.now }
+        ensures { IsExactQuotient Self.Output.whole_number (Self.whole_number self) (Rhs.whole_number d) result };
+}
+
+/// Exact division in place, with what a divisor has stored; `()` stores nothing.
+pub trait DivExactAssign<Rhs: Numbered, Precompute>: DivExact<Rhs, Precompute, Output = Self> {
+    /// Puts the quotient by d in place and answers true; where d doesn't divide the number, answers
+    /// false and leaves it unchanged. Condition: what is stored fits d.
+    fn div_exact_assign(&mut self, d: Rhs, pre: &Precompute) -> bool
+        requires { Self.fits d pre.now }
+        ensures exact { IsTrue result → Self.whole_number self.new * Rhs.whole_number d ≡ Self.whole_number self.old }
+        ensures unchanged { IsFalse result → self.new ≡ self.old }
+        ensures none { IsFalse result → (k : ℕ) → k * Rhs.whole_number d ≢ Self.whole_number self.old };
+}
+
+/// Exact division in place by exact division: the body of `div_exact_assign` for words.
+pub fn assign_exact<N: DivExact<Rhs, Precompute, Output = N> + Copy, Rhs: Numbered, Precompute>(
+    number: &mut N,
+    d: Rhs,
+    pre: &Precompute,
+) -> bool
+    requires { N.fits d pre.now }
+    ensures exact { IsTrue result → N.whole_number number.new * Rhs.whole_number d ≡ N.whole_number number.old }
+    ensures unchanged { IsFalse result → number.new ≡ number.old }
+    ensures none { IsFalse result → (k : ℕ) → k * Rhs.whole_number d ≢ N.whole_number number.old }
+{
+    match (*number).div_exact(d, pre) {
+        Some(quotient) => {
+            *number = quotient;
+            true
+        }
+        None => false,
+    }
+}
+
+/// The quotient by d; `None` exactly where d doesn't divide n. Condition: d is at least 1.
+pub fn exact_quotient<T: PlainWord>(n: T, d: T) -> Option<T>
+    requires { 1 ≤ T.number d }
+    ensures { IsExactQuotient T.number (T.number n) (T.number d) result }
+{
+    if n.remainder(d).is_zero_word() {
+        Some(n.quotient(d))
+    } else {
+        None
+    }
+}
+
+impl DivExact<u8, ()> for u8 {
+    type Output = u8;
+
+    ghost fits = { λ d _. 1 ≤ d };
+
+    fn div_exact(self, d: u8, _pre: &()) -> Option<u8> {
+        exact_quotient(self, d)
+    }
+}
+
+impl DivExact<u16, ()> for u16 {
+    type Output = u16;
+
+    ghost fits = { λ d _. 1 ≤ d };
+
+    fn div_exact(self, d: u16, _pre: &()) -> Option<u16> {
+        exact_quotient(self, d)
+    }
+}
+
+impl DivExact<u32, ()> for u32 {
+    type Output = u32;
+
+    ghost fits = { λ d _. 1 ≤ d };
+
+    fn div_exact(self, d: u32, _pre: &()) -> Option<u32> {
+        exact_quotient(self, d)
+    }
+}
+
+impl DivExact<u64, ()> for u64 {
+    type Output = u64;
+
+    ghost fits = { λ d _. 1 ≤ d };
+
+    fn div_exact(self, d: u64, _pre: &()) -> Option<u64> {
+        exact_quotient(self, d)
+    }
+}
+
+impl DivExact<u128, ()> for u128 {
+    type Output = u128;
+
+    ghost fits = { λ d _. 1 ≤ d };
+
+    fn div_exact(self, d: u128, _pre: &()) -> Option<u128> {
+        let quotient = self / d;
+        if quotient * d == self {
+            Some(quotient)
+        } else {
+            None
+        }
+    }
+}
+
+impl DivExactAssign<u8, ()> for u8 {
+    fn div_exact_assign(&mut self, d: u8, pre: &()) -> bool {
+        assign_exact(self, d, pre)
+    }
+}
+
+impl DivExactAssign<u16, ()> for u16 {
+    fn div_exact_assign(&mut self, d: u16, pre: &()) -> bool {
+        assign_exact(self, d, pre)
+    }
+}
+
+impl DivExactAssign<u32, ()> for u32 {
+    fn div_exact_assign(&mut self, d: u32, pre: &()) -> bool {
+        assign_exact(self, d, pre)
+    }
+}
+
+impl DivExactAssign<u64, ()> for u64 {
+    fn div_exact_assign(&mut self, d: u64, pre: &()) -> bool {
+        assign_exact(self, d, pre)
+    }
+}
+
+impl DivExactAssign<u128, ()> for u128 {
+    fn div_exact_assign(&mut self, d: u128, pre: &()) -> bool {
+        assign_exact(self, d, pre)
+    }
+}
