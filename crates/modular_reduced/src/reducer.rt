@@ -80,7 +80,7 @@ pub trait Reducer<T: RingWord> {
         requires right { IsForm form value (modulus self.now) (T.number b.now) }
         ensures { let m = modulus self.now in
             Represents form m (T.number result)
-                (residue m (pos (value m (T.number a.now)) -ℤ pos (value m (T.number b.now)))) };
+            (residue m (pos (value m (T.number a.now)) -ℤ pos (value m (T.number b.now)))) };
 
     /// `sub`, in the first operand.
     fn sub_in_place(&self, a: &mut T, b: &T)
@@ -88,7 +88,7 @@ pub trait Reducer<T: RingWord> {
         requires right { IsForm form value (modulus self.now) (T.number b.now) }
         ensures { let m = modulus self.now in
             Represents form m (T.number a.new)
-                (residue m (pos (value m (T.number a.old)) -ℤ pos (value m (T.number b.now)))) }
+            (residue m (pos (value m (T.number a.old)) -ℤ pos (value m (T.number b.now)))) }
     {
         *a = self.sub(a, b);
     }

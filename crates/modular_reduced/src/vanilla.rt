@@ -1,0 +1,103 @@
+//! The plain reducer: each value is its own form.
+
+ghost use Rattle.std.specs.Prelude.{◌≡◌, ℕ, ◌^◌, ◌<◌, ◌≤◌};
+ghost use Rattle.modular_reduced.specs.Plain.{plain_form, plain_value, plain_canonical};
+
+use crate::reducer::Reducer;
+use modular_prim::below::{add_below, dbl_below, neg_below, sub_below};
+use modular_prim::euclid::invm;
+use modular_prim::plain_word::PlainWord;
+use std::alloc::AllocError;
+
+/// The plain reducer of a modulus from 1 up: the form of a value is the value itself.
+///
+/// Sums, differences, doubles and negatives take no division, a product one remainder of a double
+/// word by a word, and an inverse Euclid's algorithm (Handbook of Applied Cryptography, section
+/// 14.3.1).
+#[derive(Debug)]
+pub struct Vanilla<T: PlainWord> {
+    modulus: T,
+    ghost positive: { 1 ≤ T.number modulus },
+    ghost fits: { T.number modulus < 2 ^ T.width },
+}
+
+impl<T: PlainWord> Clone for Vanilla<T> {
+    ghost is_clone = { λ x y. y ≡ x };
+
+    ghost is_infallible = { λ _. Unit {0} };
+
+    fn clone(&self) -> Result<Self, AllocError> {
+        Ok(*self)
+    }
+}
+
+impl<T: PlainWord> Copy for Vanilla<T> {}
+
+impl<T: PlainWord> Reducer<T> for Vanilla<T> {
+    ghost admits = { λ m. 1 ≤ m };
+
+    ghost form = { plain_form };
+
+    ghost value = { plain_value };
+
+    ghost modulus = { λ r. T.number r.modulus };
+
+    ghost admitted = { λ r. r.positive };
+
+    ghost canonical = { λ r. plain_canonical T.width (T.number r.modulus) r.positive r.fits };
+
+    fn new(m: &T) -> Self {
+        let modulus = *m;
+        // a word that was read is known to fit
+        let _ = modulus.is_odd();
+        Vanilla { modulus }
+    }
+
+    fn transform(&self, n: T) -> T {
+        n.remainder(self.modulus)
+    }
+
+    fn check(&self, f: &T) -> bool {
+        f.is_below(self.modulus)
+    }
+
+    fn modulus(&self) -> T {
+        self.modulus
+    }
+
+    fn residue(&self, f: T) -> T {
+        f
+    }
+
+    fn is_zero(&self, f: &T) -> bool {
+        f.is_zero_word()
+    }
+
+    fn add(&self, a: &T, b: &T) -> T {
+        add_below(*a, *b, self.modulus)
+    }
+
+    fn dbl(&self, f: T) -> T {
+        dbl_below(f, self.modulus)
+    }
+
+    fn sub(&self, a: &T, b: &T) -> T {
+        sub_below(*a, *b, self.modulus)
+    }
+
+    fn neg(&self, f: T) -> T {
+        neg_below(f, self.modulus)
+    }
+
+    fn mul(&self, a: &T, b: &T) -> T {
+        T::narrow_remainder(a.product(*b), self.modulus)
+    }
+
+    fn inv(&self, f: T) -> Option<T> {
+        invm(f, self.modulus)
+    }
+
+    fn sqr(&self, f: T) -> T {
+        T::narrow_remainder(f.product(f), self.modulus)
+    }
+}
