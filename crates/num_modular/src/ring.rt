@@ -1,5 +1,12 @@
 //! Lists of commands on registers, run over any reducer.
 
+ghost use Rattle.std.specs.Prelude.{◌≡◌, ℕ, ◌<◌, ◌↔◌, IsTrue, All, length, map, slice_index};
+ghost use Rattle.modular_reduced.specs.Forms.{IsForm};
+ghost use Rattle.num_modular.specs.Ring.{whole, destination_of, outcome, value_at, IsStop, carried_out, IsFit, values_of, HoldValues, IsFormOf};
+
+use modular_reduced::reducer::Reducer;
+use modular_word::ring_word::RingWord;
+
 /// A command on registers, which are named by their numbers in a slice of forms.
 ///
 /// Operands are read before `dst` is written, so `dst` may be an operand.
@@ -88,4 +95,119 @@ pub enum RunEnd {
         /// The number of that command, the first having the number 0.
         at: usize,
     },
+}
+
+fn command_fits<T: RingWord>(command: &RingCommand<T>, len: usize) -> bool
+    ensures { IsTrue result ↔ IsFit len command.now }
+{
+    match command {
+        RingCommand::Load { dst, .. } => *dst < len,
+        RingCommand::Add { dst, a, b }
+        | RingCommand::Sub { dst, a, b }
+        | RingCommand::Mul { dst, a, b } => *dst < len && *a < len && *b < len,
+        RingCommand::Neg { dst, a }
+        | RingCommand::Dbl { dst, a }
+        | RingCommand::Sqr { dst, a }
+        | RingCommand::Inv { dst, a } => *dst < len && *a < len,
+        RingCommand::Pow { dst, a, .. } => *dst < len && *a < len,
+    }
+}
+
+/// Whether each register number of the commands is below `len`.
+pub fn commands_fit<T: RingWord>(commands: &[RingCommand<T>], len: usize) -> bool
+    ensures { IsTrue result ↔ All (IsFit len) commands.now }
+{
+    commands.iter().all(|command| command_fits(command, len))
+}
+
+/// Whether each register holds a checked form of the reducer.
+pub fn all_checked<T: RingWord, R: Reducer<T>>(r: &R, regs: &[T]) -> bool
+    ensures { IsTrue result ↔ All (λ f. IsForm R.form R.value (R.modulus r.now) (T.number f)) regs.now }
+{
+    regs.iter().all(|form| r.check(form))
+}
+
+// The register that a command writes.
+fn destination<T: RingWord>(command: &RingCommand<T>) -> usize
+    ensures value { result ≡ destination_of (whole T.number command.now) }
+    ensures within { (count : ℕ) → IsFit count command.now → result < count }
+{
+    match command {
+        RingCommand::Load { dst, .. }
+        | RingCommand::Add { dst, .. }
+        | RingCommand::Sub { dst, .. }
+        | RingCommand::Mul { dst, .. }
+        | RingCommand::Neg { dst, .. }
+        | RingCommand::Dbl { dst, .. }
+        | RingCommand::Sqr { dst, .. }
+        | RingCommand::Inv { dst, .. }
+        | RingCommand::Pow { dst, .. } => *dst,
+    }
+}
+
+// The form that a command writes; `None` exactly where it finds no inverse.
+fn computed_form<T: RingWord, R: Reducer<T>>(
+    r: &R,
+    regs: &[T],
+    command: &RingCommand<T>,
+) -> Option<T>
+    requires checked { All (λ f. IsForm R.form R.value (R.modulus r.now) (T.number f)) regs.now }
+    requires fit { IsFit (length regs.now) command.now }
+    ensures { let m = R.modulus r.now in
+        (v : ℕ → ℕ) → HoldValues T.number R.form m regs.now v →
+        IsFormOf T.number R.form m (outcome m v (whole T.number command.now)) result }
+{
+    match command {
+        RingCommand::Load { n, .. } => Some(r.transform(*n)),
+        RingCommand::Add { a, b, .. } => Some(r.add(&regs[*a], &regs[*b])),
+        RingCommand::Sub { a, b, .. } => Some(r.sub(&regs[*a], &regs[*b])),
+        RingCommand::Mul { a, b, .. } => Some(r.mul(&regs[*a], &regs[*b])),
+        RingCommand::Neg { a, .. } => Some(r.neg(regs[*a])),
+        RingCommand::Dbl { a, .. } => Some(r.dbl(regs[*a])),
+        RingCommand::Sqr { a, .. } => Some(r.sqr(regs[*a])),
+        RingCommand::Inv { a, .. } => r.inv(regs[*a]),
+        RingCommand::Pow { a, exp, .. } => Some(r.pow(regs[*a], exp)),
+    }
+}
+
+/// Carries out the commands in order, up to the first whose inverse doesn't exist.
+///
+/// Conditions: each register holds a checked form (`all_checked` tells), and each register number is
+/// below the number of registers (`commands_fit` tells). The run stops exactly at the first `Inv`
+/// whose operand has no inverse modulo m; that command and all later ones write nothing, and earlier
+/// ones stand. Each register then holds the one checked form of its value after the commands that
+/// were carried out, computed on whole numbers modulo m. It takes no memory.
+pub fn run<T: RingWord, R: Reducer<T>>(r: &R, regs: &mut [T], commands: &[RingCommand<T>]) -> RunEnd
+    requires checked { All (λ f. IsForm R.form R.value (R.modulus r.now) (T.number f)) regs.old }
+    requires fit { All (IsFit (length regs.old)) commands.now }
+
+    // The run stops exactly at the stop of the value table ..
+    ensures stops { let m = R.modulus r.now in
+        let start = values_of T.number R.value m regs.old in
+        (at : ℕ) → (result ≡ RunEnd.NoInverse at) ↔ IsStop m start (map (whole T.number) commands.now) at }
+    ensures done { let m = R.modulus r.now in
+        let start = values_of T.number R.value m regs.old in
+        (result ≡ RunEnd.Done) ↔ ((at : ℕ) → IsStop m start (map (whole T.number) commands.now) at → ⊥) }
+
+    // .. and each register then holds the form of its value there, which is a checked form.
+    ensures values { let m = R.modulus r.now in
+        let start = values_of T.number R.value m regs.old in
+        let wholes = map (whole T.number) commands.now in
+        HoldValues T.number R.form m regs.new (value_at m start wholes (carried_out result wholes)) }
+    ensures checked { All (λ f. IsForm R.form R.value (R.modulus r.now) (T.number f)) regs.new }
+
+    // So its residue is that value.
+    ensures residues { let m = R.modulus r.now in
+        let start = values_of T.number R.value m regs.old in
+        let wholes = map (whole T.number) commands.now in
+        (n : ℕ) → n < length regs.old → slice_index (values_of T.number R.value m regs.new) n
+        ≡ value_at m start wholes (carried_out result wholes) n }
+{
+    'commands: for (at, command) in commands.iter().enumerate() {
+        match computed_form(r, regs, command) {
+            Some(form) => regs[destination(command)] = form,
+            None => return RunEnd::NoInverse { at },
+        }
+    }
+    RunEnd::Done
 }

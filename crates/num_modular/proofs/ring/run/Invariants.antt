@@ -1,0 +1,15 @@
+use Rattle.std.proofs.Common.{ℕ, ◌<◌, map}
+use Rattle.num_modular.specs.Ring.{whole, value_at, LacksInverseAt, values_of, HoldValues}
+use Rattle.num_modular.proofs.ring.run.Given as goal
+
+-- the registers hold the row of the table, and no inverse was missing
+abbrev pub invariant-commands : goal.invariant-commands
+invariant-commands g l =
+    let m = g.R.Reducer.modulus l.r in
+    let number = g.T.RingWord.number in
+    let start = values_of number g.R.Reducer.value m l.fn.regs in
+    let wholes = map (whole number) l.commands in
+    record {
+      held : HoldValues number g.R.Reducer.form m l.regs (value_at m start wholes l.at);
+      passed : (j : ℕ) → j < l.at → LacksInverseAt m start wholes j → ⊥;
+    }
