@@ -1,0 +1,80 @@
+-- The multiplier and the shift of a divisor.
+use Rattle.std.proofs.Common.{◌≡◌, ℕ, suc, ◌+◌, ◌-◌, ◌*◌, ◌/◌, ◌%◌, ◌^◌, ◌<◌, ◌≤◌, sym, ap, ◌∙◌, subst, arith, ⊎_elim}
+use Rattle.std.proofs.Math.Nat.{mod-lt, div-add-mod, mod-eq_of_lt, mul-le-mul_left, pow-succ'}
+use Rattle.std.proofs.lemmas.Bool.{cases_lt}
+use Rattle.std.proofs.lemmas.Nat.{leading_top}
+use Rattle.std.specs.Int.Count.{count_leading_zeros}
+use Rattle.modular_word.specs.Reciprocals.{IsMultiplier}
+use Rattle.modular_barrett.specs.Digits.{HasDigits}
+
+digits_at : (w x leading j : ℕ) → leading + suc j ≡ w → 2 ^ j ≤ x → x < 2 ^ suc j → HasDigits w x (suc j)
+digits_at w x leading j e low high =
+    let p : suc j - 1 ≡ j = omega arith in
+    record {
+      some = omega arith;
+      at_most = omega arith;
+      top = subst (λ k. 2 ^ k ≤ x) (sym p) low;
+      below = high;
+    }
+
+-- the binary digits are those below the leading zeros
+pub digits_below_leading : (w b bits leading x : ℕ) → bits ≡ w → b ≡ 2 ^ w → 0 < x → x < b → leading ≡ count_leading_zeros w x
+    → HasDigits w x (bits - leading)
+digits_below_leading w b bits leading x eb eB some below ez =
+    let t = leading_top w x some (subst (λ n. x < n) eB below) in
+    let e : suc t.0 ≡ bits - leading = omega (arith, t.1) in
+    subst (λ n. HasDigits w x n) e (digits_at w x (count_leading_zeros w x) t.0 t.1 t.2 t.3)
+
+-- the power of two of the digits is twice that of one digit less
+pub digits_power : {w x n : ℕ} → HasDigits w x n → 2 ^ n ≡ 2 * 2 ^ (n - 1)
+digits_power {w} {x} {n} p = ap (λ k. 2 ^ k) (let e : n ≡ suc (n - 1) = omega (arith, p.some) in e) ∙ pow-succ' 2 (n - 1)
+
+-- what is stored for d, where less is d - 1 and gap is 2^n - d
+pub record IsPrepared (w b d less n gap : ℕ) : Type 0 where
+  pub digits : HasDigits w less n
+  pub next : less + 1 ≡ d
+  pub fits : d < b
+  pub whole : gap + d ≡ 2 ^ n
+
+pub prepared : (w b d less n gap one all : ℕ) → HasDigits w less n → d < b → one ≡ 1 → less + one ≡ d → all + 1 ≡ 2 ^ n → gap + less ≡ all
+    → IsPrepared w b d less n gap
+prepared w b d less n gap one all digits fits e1 e2 e3 e4 = record { digits = digits; next = omega arith; fits = fits; whole = omega arith }
+
+-- the quotient leaves room for one more
+quotient_below : (w b d less n gap : ℕ) → IsPrepared w b d less n gap → b * gap / d + 1 < b
+quotient_below w b d less n gap p =
+    let top : 2 ^ (n - 1) ≤ less = p.digits.top in
+    let f : d * (b * gap / d) + b * gap % d ≡ b * gap = div-add-mod (b * gap) d in
+    let g : b * (gap + 1) ≤ b * d = mul-le-mul_left b (omega (arith, p.next, p.whole, digits_power p.digits)) in
+    ⊎_elim
+    (λ (h : b * gap / d + 1 < b). h)
+    (λ (h : b ≤ b * gap / d + 1).
+    let m : d * b ≤ d * (b * gap / d + 1) = mul-le-mul_left d h in
+    absurd (omega (arith, p.fits)))
+    (cases_lt (b * gap / d + 1) b)
+
+pub multiplier_fits : (w b d less n gap q : ℕ) → IsPrepared w b d less n gap → q ≡ b * gap / d % b → q + 1 < b
+multiplier_fits w b d less n gap q p e =
+    let h = quotient_below w b d less n gap p in
+    let r : b * gap / d % b ≡ b * gap / d = mod-eq_of_lt (omega arith) in
+    omega arith
+
+pub multiplier_is : (w b d less n gap q m : ℕ) → IsPrepared w b d less n gap → q ≡ b * gap / d % b → m ≡ q + 1
+    → IsMultiplier w b d m (n - 1)
+multiplier_is w b d less n gap q m p e em =
+    let h = quotient_below w b d less n gap p in
+    let r : b * gap / d % b ≡ b * gap / d = mod-eq_of_lt (omega arith) in
+    let N = 2 ^ (n - 1) in
+    let f : d * (b * gap / d) + b * gap % d ≡ b * gap = div-add-mod (b * gap) d in
+    let l : b * gap % d < d = mod-lt (b * gap) (omega (arith, p.next)) in
+    let s : d * m ≡ d * (b * gap / d + 1) = ap (λ v. d * v) (let u : m ≡ b * gap / d + 1 = omega arith in u) in
+    let t : b * (gap + d) ≡ b * (2 * N) = ap (λ v. b * v) (p.whole ∙ digits_power p.digits) in
+    let top : N ≤ less = p.digits.top in
+    let below : less < 2 * N = subst (λ n. less < n) (digits_power p.digits) p.digits.below in
+    record {
+      shift_fits = omega (arith, p.digits.some, p.digits.at_most);
+      above = omega (arith, p.next);
+      at_most = omega (arith, p.next);
+      more = omega arith;
+      close = omega arith;
+    }

@@ -1,0 +1,100 @@
+//! Division of one word and of two by a divisor with its top bit set, by the divisor's reciprocal.
+
+ghost use Rattle.std.specs.Prelude.{◌≡◌, ℕ, ◌*◌, ◌<◌, ◌≤◌, ⊤};
+ghost use Rattle.modular_word.specs.Division.{IsDivision};
+ghost use Rattle.modular_word.specs.Reciprocals.{IsReciprocal};
+
+use modular_prim::plain_word::PlainWord;
+use modular_prim::reciprocal;
+use modular_word::path_word::PathWord;
+use modular_word::paths::div_2by1;
+use modular_word::ring_word::RingWord;
+use std::alloc::AllocError;
+
+/// What a divider divides by, for contracts.
+pub trait StoredDivisor {
+    // The divisor that is stored.
+    ghost divisor: { Self → ℕ };
+}
+
+/// A divisor with its top bit set, and its reciprocal: with v the reciprocal, d the divisor and B
+/// the number of words, (v + B)·d is B·B - k for a k from 1 to d.
+///
+/// Source: Möller and Granlund, "Improved division by invariant integers".
+#[derive(Debug, PartialEq, Eq)]
+pub struct Normalized2by1Divisor<T: PathWord> {
+    divisor: T,
+    reciprocal: T,
+    pub ghost reciprocal_is: { IsReciprocal T.base (T.number divisor) (T.number reciprocal) },
+}
+
+impl<T: PathWord> Clone for Normalized2by1Divisor<T> {
+    ghost is_clone = { λ x y. y ≡ x };
+
+    ghost is_infallible = { λ _. ⊤ };
+
+    fn clone(&self) -> Result<Self, AllocError> {
+        Ok(*self)
+    }
+}
+
+impl<T: PathWord> Copy for Normalized2by1Divisor<T> {}
+
+impl<T: PathWord> StoredDivisor for Normalized2by1Divisor<T> {
+    ghost divisor = { λ s. T.number s.divisor };
+}
+
+impl<T: PathWord> Normalized2by1Divisor<T> {
+    /// The divisor.
+    pub fn divisor(&self) -> T
+        ensures { T.number result ≡ ⟦<Normalized2by1Divisor<T> as StoredDivisor>⟧.divisor self.now }
+    {
+        self.divisor
+    }
+
+    /// Quotient and remainder of a word. A divisor with its top bit set goes into a word once at
+    /// most.
+    pub fn div_rem_1by1(&self, a: T) -> (T, T)
+        ensures { let d = ⟦<Normalized2by1Divisor<T> as StoredDivisor>⟧.divisor self.now in
+            IsDivision (T.number a) d (T.number result.0) (T.number result.1) }
+    {
+        if a.is_below(self.divisor) {
+            (T::zero(), a)
+        } else {
+            (T::one(), a.minus(self.divisor))
+        }
+    }
+
+    /// Quotient and remainder of a double word. Condition: its high word is below the divisor.
+    pub fn div_rem_2by1(&self, a: T::Double) -> (T, T)
+        requires { T.whole a < ⟦<Normalized2by1Divisor<T> as StoredDivisor>⟧.divisor self.now * T.base }
+        ensures { let d = ⟦<Normalized2by1Divisor<T> as StoredDivisor>⟧.divisor self.now in
+            IsDivision (T.whole a) d (T.number result.0) (T.number result.1) }
+    {
+        div_2by1(self.divisor, self.reciprocal, a)
+    }
+}
+
+impl<T: PlainWord> Normalized2by1Divisor<T> {
+    /// The reciprocal of a divisor. Condition: the divisor's top bit is set.
+    pub fn invert_word(d: T) -> T
+        requires { T.base ≤ 2 * T.number d }
+        ensures { IsReciprocal T.base (T.number d) (T.number result) }
+    {
+        reciprocal::invert_word(d)
+    }
+
+    /// A divisor with its reciprocal. Condition: the divisor's top bit is set.
+    pub fn new(d: T) -> Self
+        requires { T.base ≤ 2 * T.number d }
+        ensures { ⟦<Normalized2by1Divisor<T> as StoredDivisor>⟧.divisor result ≡ T.number d }
+    {
+        Normalized2by1Divisor {
+            divisor: d,
+            reciprocal: Self::invert_word(d),
+        }
+    }
+}
+
+#[cfg(test)]
+mod tests;

@@ -1,0 +1,71 @@
+//! Division of a word by a word, by the divisor's multiplier and shift.
+
+ghost use Rattle.std.specs.Prelude.{◌≡◌, ℕ, ◌+◌, ◌-◌, ◌*◌, ◌/◌, ◌^◌, ◌<◌};
+ghost use Rattle.modular_word.specs.Division.{IsDivision};
+ghost use Rattle.modular_word.specs.Reciprocals.{IsMultiplier};
+ghost use Rattle.modular_barrett.specs.Digits.{HasDigits};
+
+use modular_prim::plain_word::PlainWord;
+use modular_word::path_word::PathWord;
+use modular_word::paths::{div_1by1, ones};
+use modular_word::ring_word::RingWord;
+
+/// Which divisors a divider fits, for contracts.
+pub trait FitsDivisor {
+    // What is stored divides by a divisor.
+    ghost fits: { Self → ℕ → Type 0 };
+}
+
+/// The multiplier and the shift of a divisor, which isn't kept: each call is given it again.
+///
+/// Source: Granlund and Montgomery, "Division by invariant integers using multiplication", section
+/// 4.
+#[derive(Debug, Clone, Copy, PartialEq, Eq)]
+pub struct PreMulInv1by1<T: PathWord> {
+    multiplier: T,
+    shift: u32,
+}
+
+// How many binary digits a word has.
+fn digits<T: PathWord>(x: T) -> u32
+    requires { 0 < T.number x }
+    ensures { HasDigits T.width (T.number x) result }
+{
+    T::bits() - x.leading_zeros()
+}
+
+impl<T: PathWord> FitsDivisor for PreMulInv1by1<T> {
+    ghost fits = { λ s d. IsMultiplier T.width T.base d (T.number s.multiplier) s.shift };
+}
+
+impl<T: PathWord> PreMulInv1by1<T> {
+    /// Quotient and remainder of a word. Condition: the multiplier and the shift fit the divisor.
+    pub fn div_rem(&self, a: T, d: T) -> (T, T)
+        requires { ⟦<PreMulInv1by1<T> as FitsDivisor>⟧.fits self.now (T.number d) }
+        ensures { IsDivision (T.number a) (T.number d) (T.number result.0) (T.number result.1) }
+    {
+        div_1by1(d, self.multiplier, self.shift, a)
+    }
+}
+
+impl<T: PlainWord> PreMulInv1by1<T> {
+    /// The multiplier and the shift of a divisor: with n the least number such that the divisor d is
+    /// at most 2^n, and B the number of words, B·(2^n - d)/d rounded down, and 1 more; and n - 1.
+    /// Condition: the divisor is above 1.
+    pub fn new(d: T) -> Self
+        requires { 1 < T.number d }
+        ensures { ⟦<PreMulInv1by1<T> as FitsDivisor>⟧.fits result (T.number d) }
+    {
+        let less = d.minus(T::one());
+        let n = digits(less);
+        let gap = ones::<T>(n).minus(less);
+        let multiplier = T::low_quotient(T::merge(T::zero(), gap), d).plus(T::one());
+        PreMulInv1by1 {
+            multiplier,
+            shift: n - 1,
+        }
+    }
+}
+
+#[cfg(test)]
+mod tests;
