@@ -1,7 +1,8 @@
--- Congruence: numbers that leave the same remainder modulo m.
-use Rattle.std.proofs.Common.{◌≡◌, ℕ, ◌+◌, ◌-◌, ◌*◌, ◌/◌, ◌%◌, ◌<◌, ◌≤◌, sym, ap, ◌∙◌, arith, refl}
-use Rattle.std.proofs.Math.Nat.{add-mod, mod-add-mod, add-mod-mod, mod-mod, mod-lt, mod-eq_of_lt, mod-mod_of_dvd, dvd-mul_left, dvd-mul_right, div-add-mod, add-mul-mod_self_left, mul-div_cancel_left}
-use Rattle.std.proofs.lemmas.Nat.{mul-mod, mul-mod_first, mul-mod_second}
+-- Congruence: numbers that leave the same remainder modulo m. First by equal remainders, then by the relation `Congruent`.
+use Rattle.std.proofs.Common.{◌≡◌, ℕ, suc, zero, ◌^◌, ◌+◌, ◌-◌, ◌*◌, ◌/◌, ◌%◌, ◌<◌, sym, ap, ◌∙◌, arith, refl}
+use Rattle.std.proofs.Math.Nat.{add-mod, mod-add-mod, mod-mod, mod-zero, mod-lt, mod-eq_of_lt, mod-mod_of_dvd, dvd-mul_left, dvd-mul_right, div-add-mod, add-mul-mod_self_left, mul-div_cancel_left}
+use Rattle.std.proofs.lemmas.Nat.{mul-mod, pow-mod}
+use Rattle.modular_word.specs.Congruence.{Congruent}
 
 -- two numbers below B that differ by multiples of B are one
 pub same_rest : (B x y s t : ℕ) → x < B → y < B → x + B * s ≡ y + B * t → x ≡ y
@@ -63,3 +64,48 @@ next_is_multiple m x h e =
     let f : m * (x / m) + x % m ≡ x = div-add-mod x m in
     let g : x + 1 ≡ 0 + m * (x / m + 1) = omega arith in
     ap (λ v. v % m) g ∙ add-mul-mod_self_left 0 m (x / m + 1)
+
+pub of_equal : {m a b : ℕ} → a ≡ b → Congruent m a b
+of_equal {m} {a} {b} e = record { same = ap (λ n. n % m) e }
+
+pub itself : {m : ℕ} (a : ℕ) → Congruent m a a
+itself a = record { same = refl }
+
+pub turned : {m a b : ℕ} → Congruent m a b → Congruent m b a
+turned h = record { same = sym h.same }
+
+pub chained : {m a b c : ℕ} → Congruent m a b → Congruent m b c → Congruent m a c
+chained h k = record { same = h.same ∙ k.same }
+
+pub residue_of : {m : ℕ} (a : ℕ) → Congruent m (a % m) a
+residue_of {m} a = record { same = mod-mod a m }
+
+pub added : {m a b c d : ℕ} → Congruent m a b → Congruent m c d → Congruent m (a + c) (b + d)
+added {m} {a} {b} {c} {d} h k = record { same = same_sum m a b c d h.same k.same }
+
+pub multiplied : {m a b c d : ℕ} → Congruent m a b → Congruent m c d → Congruent m (a * c) (b * d)
+multiplied {m} {a} {b} {c} {d} h k = record { same = same_product m a b c d h.same k.same }
+
+pub powered : {m a b : ℕ} (k : ℕ) → Congruent m a b → Congruent m (a ^ k) (b ^ k)
+powered {m} {a} {b} k h = record { same = sym (pow-mod a k m) ∙ ap (λ n. n ^ k % m) h.same ∙ pow-mod b k m }
+
+-- a summand on both sides goes
+pub cancelled : {m a b : ℕ} (c : ℕ) → Congruent m (a + c) (b + c) → Congruent m a b
+cancelled {m = zero} {a} {b} c h =
+    let e : a + c ≡ b + c = sym (mod-zero (a + c)) ∙ h.same ∙ mod-zero (b + c) in
+    let f : a ≡ b = omega (arith, e) in
+    of_equal f
+cancelled {m = suc m} {a} {b} c h = record { same = same_without (suc m) a b c (omega arith) h.same }
+
+-- a factor with an inverse on both sides goes
+pub cancelled_unit : {m a b : ℕ} (c j : ℕ) → Congruent m (c * j) 1 → Congruent m (a * c) (b * c) → Congruent m a b
+cancelled_unit {m} {a} {b} c j u h = record { same = same_without_unit m a b c j u.same h.same }
+
+-- what is congruent modulo a multiple of m is congruent modulo m
+pub modulo_divisor : {m a b : ℕ} (q : ℕ) → Congruent (m * q) a b → Congruent m a b
+modulo_divisor {m} {a} {b} q h =
+    record { same = sym (mod_of_multiple m q a) ∙ ap (λ v. v % m) h.same ∙ mod_of_multiple m q b }
+
+-- numbers below m that are congruent are equal
+pub equal_below : {m a b : ℕ} → a < m → b < m → Congruent m a b → a ≡ b
+equal_below {m} {a} {b} p q h = sym (mod-eq_of_lt p) ∙ h.same ∙ mod-eq_of_lt q

@@ -1,9 +1,9 @@
 -- Inverses modulo m: there is at most one, and `inverse_of` names it.
-use Rattle.std.proofs.Common.{◌≡◌, ℕ, suc, zero, ◌+◌, ◌*◌, ◌%◌, ◌<◌, ◌≤◌, Option, Some, None, sym, ◌∙◌, ap, refl, arith, eqb, cond}
+use Rattle.std.proofs.Common.{◌≡◌, ℕ, suc, zero, ◌*◌, ◌%◌, ◌<◌, Option, Some, None, sym, ◌∙◌, ap, refl, arith, eqb, cond}
 use Rattle.std.proofs.lemmas.Bool.Decides.{nat_tests}
 use Rattle.std.proofs.lemmas.Nat.{mul-mod_first}
 use Rattle.std.proofs.Math.Nat.{mod-eq_of_lt, one-mul, mul_right_comm}
-use Rattle.modular_word.specs.Inverses.{IsInverse, inverse_below, inverse_of}
+use Rattle.modular_word.specs.Inverses.{IsInverse, IsInversion, inverse_below, inverse_of}
 
 -- a number below m is what is left of it times an inverse pair
 undone : (m a x y : ℕ) → (a * y) % m ≡ 1 % m → x < m → (a * y * x) % m ≡ x
@@ -60,3 +60,11 @@ inverse_of-empty m a x e h = none_below m a m x e h.below h.one
 -- where it names one, that is an inverse
 pub inverse_of-named : (m a x : ℕ) → inverse_of m a ≡ Some x → IsInverse m a x
 inverse_of-named m a x e = let s = some_below m a m x e in record { below = s.0; one = s.1 }
+
+inversion_from : (m a : ℕ) (o : Option ℕ) → inverse_of m a ≡ o → IsInversion (λ x. x) m a o
+inversion_from m a None e = λ x i. none_below m a m x e i.below i.one
+inversion_from m a (Some y) e = let s = some_below m a m y e in record { below = s.0; one = s.1 }
+
+-- what `inverse_of` names is an inverse, and where it names none there is none
+pub inverse_of-is : (m a : ℕ) → IsInversion (λ x. x) m a (inverse_of m a)
+inverse_of-is m a = inversion_from m a (inverse_of m a) refl

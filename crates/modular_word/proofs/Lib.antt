@@ -1,4 +1,5 @@
 pub mod Congruence
+pub mod Divisors
 pub mod ExactSteps
 pub mod InverseLemmas
 pub mod MultiplierSteps
@@ -7,3 +8,4 @@ pub mod ReciprocalSteps
 pub mod ReductionSteps
 pub mod ResidueLemmas
 pub mod Shifts
+pub mod Sums

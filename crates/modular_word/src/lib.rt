@@ -3,6 +3,7 @@
 #![tactic(auto)]
 
 pub mod impls;
+pub mod laws;
 pub mod path_word;
 pub mod paths;
 pub mod plain;

@@ -1,8 +1,9 @@
 //! The definitions as programs: plain and slow, each with the definition for its contract. The fast
 //! calls are compared with them in tests.
 
-ghost use Rattle.std.specs.Prelude.{◌≡◌, ℕ, ◌-◌, ◌*◌, ◌%◌, ◌^◌, ◌<◌, ◌≤◌};
-ghost use Rattle.modular_word.specs.Inverses.{IsInversion, inverse_of};
+ghost use Rattle.std.specs.Prelude.{◌≡◌, ℕ, ◌-◌, ◌*◌, ◌%◌, ◌^◌, ◌<◌, ◌≤◌, ◌↔◌};
+ghost use Rattle.modular_word.specs.Divisors.{IsGreatestCommonDivisor, gcd};
+ghost use Rattle.modular_word.specs.Inverses.{IsInversion, HasInverse, inverse_of};
 ghost use Rattle.modular_word.specs.Residues.{IsResidue, residue};
 
 // The residue of a signed number modulo m, by its computing form.
@@ -53,4 +54,22 @@ pub fn inverse_by_search(a: u64, m: u64) -> Option<u64>
         }
     }
     None
+}
+
+/// The greatest common divisor of a and n, by trying each number up to n. Condition: n is at
+/// least 1. It is 1 exactly where a has an inverse modulo n.
+pub fn greatest_common_divisor(a: u64, n: u64) -> u64
+    requires { 1 ≤ n }
+    ensures computed { result ≡ gcd a n }
+    ensures greatest { IsGreatestCommonDivisor a n result }
+    ensures inverse { HasInverse n a ↔ (result ≡ 1) }
+{
+    let mut greatest = 0;
+    'divisors: for below in 0..n {
+        let divisor = below + 1;
+        if a % divisor == 0 && n % divisor == 0 {
+            greatest = divisor;
+        }
+    }
+    greatest
 }

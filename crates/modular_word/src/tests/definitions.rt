@@ -1,6 +1,6 @@
 //! The definitions as programs, at the rows that the fast calls answer.
 
-use crate::plain::{inverse_by_search, power_of, residue_of};
+use crate::plain::{greatest_common_divisor, inverse_by_search, power_of, residue_of};
 
 #[test]
 fn residues_of_sums(rt: HostRuntime) {
@@ -89,4 +89,17 @@ fn inverses(rt: HostRuntime) {
         assert_eq!(rt; inverse_by_search(a, 21), None, "{a} modulo 21");
     }
     assert_eq!(rt; inverse_by_search(0, 1), Some(0));
+}
+
+#[test]
+fn common_divisors(rt: HostRuntime) {
+    for (a, n, want) in [
+        (7, 21, 7),
+        (0, 21, 21),
+        (0, 1, 1),
+        (12, 18, 6),
+        (999, 5000, 1),
+    ] {
+        assert_eq!(rt; greatest_common_divisor(a, n), want, "{a} and {n}");
+    }
 }

@@ -1,4 +1,4 @@
-use Rattle.std.proofs.Common.{◌≡◌, ◌+◌, ◌*◌, ◌%◌, ◌<◌, ap, ◌∙◌, arith}
+use Rattle.std.proofs.Common.{◌+◌, ◌*◌, ◌%◌, ap, ◌∙◌, arith}
 use Rattle.modular_word.proofs.ReductionSteps.{low_is_zero}
 use Rattle.modular_word.proofs.paths.clearing.Goals as goal
 

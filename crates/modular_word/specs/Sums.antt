@@ -1,0 +1,22 @@
+-- Sums and counts over a range of whole numbers (Graham, Knuth and Patashnik, "Concrete Mathematics", chapter 2).
+use Rattle.std.specs.Prelude.{◌≡◌, ℕ, zero, suc, ◌+◌, ◌<◌, ◌≤◌, Bool, if◌then◌else◌}
+
+-- f 0 + f 1 + .. + f (n - 1)
+unfoldable pub sum_below : ℕ → (ℕ → ℕ) → ℕ
+sum_below zero f = 0
+sum_below (suc n) f = sum_below n f + f n
+
+-- f 1 + f 2 + .. + f h
+unfoldable pub sum_to : (ℕ → ℕ) → ℕ → ℕ
+sum_to f zero = 0
+sum_to f (suc h) = sum_to f h + f (suc h)
+
+-- how many of 1, 2, .., h pass a test
+abbrev pub count_to : (ℕ → Bool) → ℕ → ℕ
+count_to p h = sum_to (λ x. if p x then 1 else 0) h
+
+-- f maps 1, .., h into itself, and no two to one number
+pub record Permutes (f : ℕ → ℕ) (h : ℕ) : Type 0 where
+  pub positive : (x : ℕ) → 0 < x → x ≤ h → 0 < f x
+  pub within : (x : ℕ) → 0 < x → x ≤ h → f x ≤ h
+  pub apart : (x z : ℕ) → 0 < x → x ≤ h → 0 < z → z ≤ h → f x ≡ f z → x ≡ z

@@ -1,0 +1,50 @@
+//! Laws of whole numbers that the proofs of every crate rest on, as contracts of calls that do
+//! nothing: congruence, powers, inverses, sums over a range.
+
+ghost use Rattle.std.specs.Prelude.{◌≡◌, ℕ, suc, ◌+◌, ◌-◌, ◌*◌, ◌%◌, ◌^◌, ◌<◌, ◌↔◌, Some};
+ghost use Rattle.modular_word.specs.Congruence.{Congruent};
+ghost use Rattle.modular_word.specs.Divisors.{Coprime, gcd};
+ghost use Rattle.modular_word.specs.Inverses.{IsInverse, IsInversion, HasInverse, inverse_of};
+ghost use Rattle.modular_word.specs.Sums.{sum_below, sum_to, Permutes};
+
+/// Congruence modulo m is kept by sums, products and powers, and a factor with an inverse cancels.
+///
+/// Source: Gauss, Disquisitiones Arithmeticae, articles 6 to 10.
+pub fn congruence_laws()
+    ensures sums { (m a b c d : ℕ) → Congruent m a b → Congruent m c d → Congruent m (a + c) (b + d) }
+    ensures products { (m a b c d : ℕ) → Congruent m a b → Congruent m c d → Congruent m (a * c) (b * d) }
+    ensures powers { (m a b k : ℕ) → Congruent m a b → Congruent m (a ^ k) (b ^ k) }
+    ensures differences { (m a b c : ℕ) → Congruent m (a + c) (b + c) → Congruent m a b }
+    ensures quotients { (m a b c j : ℕ) → Congruent m (c * j) 1 → Congruent m (a * c) (b * c) → Congruent m a b }
+{}
+
+/// The laws of exponents.
+pub fn power_laws()
+    ensures one { (k : ℕ) → 1 ^ k ≡ 1 }
+    ensures first { (a : ℕ) → a ^ 1 ≡ a }
+    ensures sum { (a b c : ℕ) → a ^ (b + c) ≡ a ^ b * a ^ c }
+    ensures product { (a b c : ℕ) → a ^ (b * c) ≡ (a ^ b) ^ c }
+{}
+
+/// An inverse exists exactly where the greatest common divisor is 1, there is at most one, and
+/// `inverse_of` names it, or nothing where there is none.
+pub fn inverse_laws()
+    ensures exists { (m a : ℕ) → 0 < m → HasInverse m a ↔ (gcd a m ≡ 1) }
+    ensures unique { (m a x y : ℕ) → IsInverse m a x → IsInverse m a y → x ≡ y }
+    ensures named { (m a : ℕ) → IsInversion (λ x. x) m a (inverse_of m a) }
+    ensures found { (m a x : ℕ) → IsInverse m a x → inverse_of m a ≡ Some x }
+{}
+
+/// Euclid's lemma: a number coprime to n is cancelled from a multiple of n. (Euclid, Elements,
+/// book VII, proposition 30.)
+pub fn euclids_lemma()
+    ensures { (a n x : ℕ) → 0 < n → Coprime a n → (a * x) % n ≡ 0 → x % n ≡ 0 }
+{}
+
+/// Two sums exchange, and a sum over a range is the same with its terms permuted or reversed.
+pub fn sum_laws()
+    ensures exchanged { (f : ℕ → ℕ → ℕ) (h k : ℕ) → sum_to (λ x. sum_to (λ y. f x y) k) h ≡ sum_to (λ y. sum_to (λ x. f x y) h) k }
+    ensures permuted { (f g : ℕ → ℕ) (h : ℕ) → Permutes f h → sum_to (λ x. g (f x)) h ≡ sum_to g h }
+    ensures reversed { (g : ℕ → ℕ) (h : ℕ) → sum_to (λ x. g (suc h - x)) h ≡ sum_to g h }
+    ensures from_zero { (f : ℕ → ℕ) (h : ℕ) → sum_to f h ≡ sum_below h (λ x. f (suc x)) }
+{}
