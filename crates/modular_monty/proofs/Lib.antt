@@ -1,2 +1,3 @@
 pub mod Lifting
+pub mod MontgomerySteps
 pub mod NegatedInverses

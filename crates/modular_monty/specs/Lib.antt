@@ -1,0 +1,3 @@
+pub mod Montgomery
+pub mod MontgomeryLaws
+pub mod Values

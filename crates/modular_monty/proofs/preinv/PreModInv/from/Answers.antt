@@ -1,4 +1,4 @@
-use Rattle.std.proofs.Common.{◌≡◌, ◌+◌, ◌-◌, ◌/◌, ◌^◌, ◌<◌, ap, ◌∙◌, arith}
+use Rattle.std.proofs.Common.{◌≡◌, ◌-◌, ◌/◌, ◌^◌, ap, ◌∙◌, arith}
 use Rattle.modular_monty.proofs.NegatedInverses.{base_above_two, inverse_of_negated}
 use Rattle.modular_monty.proofs.preinv.PreModInv.from.Goals as goal
 

@@ -1,0 +1,20 @@
+-- Montgomery's representation of residues (Handbook of Applied Cryptography, section 14.3.2). The words have w bits and b numbers.
+use Rattle.std.specs.Prelude.{◌≡◌, ℕ, ◌*◌, ◌%◌, ◌^◌, ◌<◌}
+use Rattle.modular_word.specs.Reduction.{IsNegatedInverse}
+use Rattle.modular_monty.specs.Values.{value_from}
+
+-- modulo m, the form of the value v: v times the base
+abbrev pub montgomery_form : ℕ → ℕ → ℕ → ℕ
+montgomery_form w m v = (v * 2 ^ w) % m
+
+-- modulo m, the value of the form f
+abbrev pub montgomery_value : ℕ → ℕ → ℕ → ℕ
+montgomery_value w m f = value_from (montgomery_form w) m f
+
+-- what is kept of an odd modulus m: its negated inverse i, and the square of the base modulo it
+pub record IsOddRing (w b m i square : ℕ) : Type 0 where
+  pub base : b ≡ 2 ^ w
+  pub odd : m % 2 ≡ 1
+  pub fits : m < b
+  pub inverse : IsNegatedInverse b m i
+  pub is_square : square ≡ (b * b) % m
