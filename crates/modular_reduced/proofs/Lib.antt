@@ -1,3 +1,4 @@
 pub mod FormLemmas
+pub mod PowerCounts
 pub mod PowerForms
 pub mod PowerSoFar

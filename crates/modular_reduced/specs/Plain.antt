@@ -1,5 +1,5 @@
 -- The forms of `Vanilla`: each value is its own form.
-use Rattle.std.specs.Prelude.{◌≡◌, ℕ, ◌<◌, ◌≤◌, ◌^◌}
+use Rattle.std.specs.Prelude.{ℕ, ◌<◌, ◌≤◌, ◌^◌}
 use Rattle.std.proofs.Common.{arith}
 use Rattle.modular_reduced.specs.Forms.{IsCanonical}
 

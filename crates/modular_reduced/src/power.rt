@@ -1,26 +1,55 @@
 //! Powers of forms, by binary steps, with the number of products.
 
-ghost use Rattle.std.specs.Prelude.{◌≡◌, ℕ, ◌%◌, ◌^◌};
+ghost use Rattle.std.specs.Prelude.{◌≡◌, ℕ, ◌+◌, ◌*◌, ◌%◌, ◌^◌, ◌<◌, ◌≤◌, count_ones};
 ghost use Rattle.modular_reduced.specs.Forms.{Represents, IsForm};
+ghost use Rattle.modular_reduced.specs.Powers.{digits, products};
 
 use crate::reducer::Reducer;
 use modular_word::ring_word::RingWord;
 
-/// The power of a form, and how many products of the reducer it took.
-pub fn pow_counted<T: RingWord, R: Reducer<T>>(reducer: &R, base: T, exp: &T) -> (T, u32)
-    requires { IsForm R.form R.value (R.modulus reducer.now) (T.number base) }
-    ensures { let m = R.modulus reducer.now in
-        Represents R.form m (T.number result.0) (R.value m (T.number base) ^ T.number exp.now % m) }
+// The power by a square a digit and a product a one digit, and how many these were.
+fn binary_power<T: RingWord, R: Reducer<T>>(reducer: &R, base: T, exp: T) -> (T, u32)
+    requires form { IsForm R.form R.value (R.modulus reducer.now) (T.number base) }
+    requires fits { T.number exp < 2 ^ T.width }
+    ensures power { let m = R.modulus reducer.now in
+        Represents R.form m (T.number result.0) (R.value m (T.number base) ^ T.number exp % m) }
+    ensures count { result.1 ≡ digits (T.number exp) + count_ones (T.number exp) }
 {
-    let mut rest = *exp;
+    let mut rest = exp;
     let mut power = base;
     let mut product = reducer.transform(T::one());
+    let mut count = 0;
     'digits: while !rest.is_zero_word() {
         if rest.is_odd() {
             product = reducer.mul(&product, &power);
+            count += 1;
         }
         power = reducer.sqr(power);
+        count += 1;
         rest = rest.half();
     }
-    (product, 0)
+    (product, count)
+}
+
+/// The power of a form, and how many products of the reducer it took.
+///
+/// That is none for the exponent 1, one for the exponent 2, else the number of binary digits of
+/// `exp` plus the number of its one digits (Knuth, The Art of Computer Programming, volume 2,
+/// section 4.6.3, algorithm A). The exponent 0 answers the form of 1 mod m.
+pub fn pow_counted<T: RingWord, R: Reducer<T>>(reducer: &R, base: T, exp: &T) -> (T, u32)
+    requires { IsForm R.form R.value (R.modulus reducer.now) (T.number base) }
+    ensures power { let m = R.modulus reducer.now in
+        Represents R.form m (T.number result.0) (R.value m (T.number base) ^ T.number exp.now % m) }
+    ensures count { result.1 ≡ products (T.number exp.now) }
+    ensures at_most { result.1 ≤ 2 * digits (T.number exp.now) }
+{
+    if *exp == T::one() {
+        return (base, 0);
+    }
+    if exp.half() == T::one() {
+        if !exp.is_odd() {
+            return (reducer.sqr(base), 1);
+        }
+    }
+    binary_power(reducer, base, *exp)
 }

@@ -1,25 +1,56 @@
-use Rattle.std.proofs.Common.{rules, ◌≡◌, ◌≢◌, ◌%◌}
-use Rattle.modular_reduced.proofs.PowerForms.{power_start, power_odd_step, power_even_step, power_end}
+use Rattle.std.proofs.Common.{rules, arith, ◌≡◌, ◌≢◌, ◌/◌, ◌%◌, ◌∙◌, sym, IsTrue}
+use Rattle.modular_reduced.proofs.PowerForms.{power_of_one, power_of_two}
+use Rattle.modular_reduced.proofs.PowerCounts.{steps, products_of_one, products_of_two, products_else, products_at_most}
+use Rattle.modular_reduced.specs.Powers.{products}
 use Rattle.modular_reduced.proofs.power.pow_counted.Goals as goal
-use Rattle.modular_reduced.proofs.power.pow_counted.Goals.{then-is_odd, else-is_odd}
+use Rattle.modular_reduced.proofs.power.pow_counted.Goals.{then-eq-2+else-not-is_odd, else-eq-2}
 
-pub digits-init : goal.digits-init
-digits-init g c = power_start (g.met.R.Reducer.canonical c.args.reducer.now) c.requires c.one.ensures c.transform-product.ensures
+pub returns-then-eq : goal.returns-then-eq
+returns-then-eq g c =
+    let exp = g.T.RingWord.number c.args.exp.now in
+    let same : IsTrue (g.T.PartialEq.eq c.args.exp.now c.one.result) = search rules in
+    let one : exp ≡ 1 = (g.met.T.RingWord.equal c.args.exp.now c.one.result).0 same ∙ c.one.ensures in
+    record {
+      power = power_of_one c.requires one;
+      count = sym (products_of_one exp one);
+      at_most = omega arith;
+    }
 
-pub digits-preserved : goal.digits-preserved
-digits-preserved g c =
-    let number = g.T.RingWord.number in
-    let canonical = g.met.R.Reducer.canonical c.args.reducer.now in
-    elim c.if-is_odd.branch [
-      | then-is_odd w ↦
-          let odd : number c.digits.rest % 2 ≡ 1 = search rules in
-          rw w.product-is (power_odd_step canonical c.digits.invariant odd w.mul-product.ensures c.sqr-power.ensures c.half-rest.ensures.value)
-      | else-is_odd w ↦
-          let even : number c.digits.rest % 2 ≢ 1 = search rules in
-          rw w.product-is (power_even_step canonical c.digits.invariant even c.sqr-power.ensures c.half-rest.ensures.value)
-    ]
+pub returns-then-not-is_odd : goal.returns-then-not-is_odd
+returns-then-not-is_odd g c =
+    let exp = g.T.RingWord.number c.args.exp.now in
+    let same : IsTrue (g.T.PartialEq.eq c.half.result c.one-2.result) = search rules in
+    let half : exp / 2 ≡ 1 = sym c.half.ensures.value ∙ (g.met.T.RingWord.equal c.half.result c.one-2.result).0 same ∙ c.one-2.ensures in
+    let even : exp % 2 ≢ 1 = search rules in
+    let two : exp ≡ 2 = omega arith in
+    let count = products_of_two exp two in
+    let most = products_at_most exp in
+    record {
+      power = power_of_two (g.R.Reducer.value (g.R.Reducer.modulus c.args.reducer.now) (g.T.RingWord.number c.args.base)) exp two c.sqr.ensures;
+      count = sym count;
+      at_most = omega arith;
+    }
 
 pub returns : goal.returns
 returns g c =
-    let ended : g.T.RingWord.number c.digits.rest ≡ 0 = search rules in
-    power_end c.digits.invariant ended
+    let exp = g.T.RingWord.number c.args.exp.now in
+    let equal = g.met.T.RingWord.equal in
+    let not_one : exp ≢ 1 = λ e.
+    let same : IsTrue (g.T.PartialEq.eq c.args.exp.now c.one.result) = (equal c.args.exp.now c.one.result).1 (e ∙ sym c.one.ensures) in
+    search rules in
+    let not_two : exp ≢ 2 = elim c.if-eq-2.branch [
+      | then-eq-2+else-not-is_odd w ↦
+          let odd : exp % 2 ≡ 1 = search rules in
+          λ e. omega arith
+      | else-eq-2 w ↦ λ e.
+          let half : exp / 2 ≡ 1 = omega arith in
+          let same : IsTrue (g.T.PartialEq.eq c.half.result c.one-2.result) = (equal c.half.result c.one-2.result).1 (c.half.ensures.value ∙ half ∙ sym c.one-2.ensures) in
+          search rules
+    ] in
+    let count : products exp ≡ steps exp = products_else exp not_one not_two in
+    let most = products_at_most exp in
+    record {
+      power = c.binary_power.ensures.power;
+      count = c.binary_power.ensures.count ∙ sym count;
+      at_most = omega (arith, c.binary_power.ensures.count);
+    }
