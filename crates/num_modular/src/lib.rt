@@ -2,4 +2,5 @@
 //! run over any reducer.
 #![tactic(auto)]
 
+pub mod modrun;
 pub mod ring;

@@ -1,0 +1,38 @@
+use Rattle.num_modular.proofs.CommandTexts.{no_load, no_add, no_sub, no_mul, no_neg, no_dbl, no_sqr, no_inv, no_pow}
+use Rattle.num_modular.proofs.modrun.words.named_command.Goals as goal
+
+pub returns-in_err-dst-in-load : goal.returns-in_err-dst-in-load
+returns-in_err-dst-in-load c =
+    rw c.from_residual.ensures (no_load _ _ c.in-load.is c.in_err-dst-in-load.ensures)
+
+pub returns-in_err-dst-in-add : goal.returns-in_err-dst-in-add
+returns-in_err-dst-in-add c =
+    rw c.from_residual-in_err-dst-in-add.ensures (no_add _ _ c.in-add.is c.in_err-dst-in-add.ensures)
+
+pub returns-in_err-dst-in-sub : goal.returns-in_err-dst-in-sub
+returns-in_err-dst-in-sub c =
+    rw c.from_residual-in_err-dst-in-sub.ensures (no_sub _ _ c.in-sub.is c.in_err-dst-in-sub.ensures)
+
+pub returns-in_err-dst-in-mul : goal.returns-in_err-dst-in-mul
+returns-in_err-dst-in-mul c =
+    rw c.from_residual-in_err-dst-in-mul.ensures (no_mul _ _ c.in-mul.is c.in_err-dst-in-mul.ensures)
+
+pub returns-in_err-dst-in-neg : goal.returns-in_err-dst-in-neg
+returns-in_err-dst-in-neg c =
+    rw c.from_residual-in_err-dst-in-neg.ensures (no_neg _ _ c.in-neg.is c.in_err-dst-in-neg.ensures)
+
+pub returns-in_err-dst-in-dbl : goal.returns-in_err-dst-in-dbl
+returns-in_err-dst-in-dbl c =
+    rw c.from_residual-in_err-dst-in-dbl.ensures (no_dbl _ _ c.in-dbl.is c.in_err-dst-in-dbl.ensures)
+
+pub returns-in_err-dst-in-sqr : goal.returns-in_err-dst-in-sqr
+returns-in_err-dst-in-sqr c =
+    rw c.from_residual-in_err-dst-in-sqr.ensures (no_sqr _ _ c.in-sqr.is c.in_err-dst-in-sqr.ensures)
+
+pub returns-in_err-dst-in-inv : goal.returns-in_err-dst-in-inv
+returns-in_err-dst-in-inv c =
+    rw c.from_residual-in_err-dst-in-inv.ensures (no_inv _ _ c.in-inv.is c.in_err-dst-in-inv.ensures)
+
+pub returns-in_err-dst-in-pow : goal.returns-in_err-dst-in-pow
+returns-in_err-dst-in-pow c =
+    rw c.from_residual-in_err-dst-in-pow.ensures (no_pow _ _ c.in-pow.is c.in_err-dst-in-pow.ensures)
