@@ -1,4 +1,5 @@
 pub mod FormLemmas
+pub mod IntegerLemmas
 pub mod PowerCounts
 pub mod PowerForms
 pub mod PowerSoFar

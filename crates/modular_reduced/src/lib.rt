@@ -1,6 +1,8 @@
 //! Rings of residues: reducers, which compute modulo m by forms, and integers over any of them.
 #![tactic(auto)]
 
+pub mod int;
+pub mod integer;
 pub mod power;
 pub mod reducer;
 pub mod vanilla;

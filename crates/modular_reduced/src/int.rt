@@ -1,0 +1,40 @@
+//! Integers modulo m over any reducer.
+
+ghost use Rattle.modular_reduced.specs.Forms.{IsForm};
+ghost use Rattle.std.specs.Prelude.{◌≡◌, ⊤};
+
+use crate::reducer::Reducer;
+use modular_word::ring_word::RingWord;
+use std::alloc::AllocError;
+
+mod add;
+mod equal;
+mod integer;
+mod methods;
+mod mul;
+mod neg_div;
+mod steps;
+mod sub;
+
+/// An integer modulo m: a form, and the reducer that it belongs to.
+///
+/// Contracts speak of its modulus (`modulus_of`), of its residue, which is a number below the
+/// modulus (`residue_of`), and of the form (`form_of`).
+#[derive(Debug)]
+pub struct ReducedInt<T: RingWord, R: Reducer<T>> {
+    form: T,
+    reducer: R,
+    ghost checked: { IsForm R.form R.value (R.modulus reducer) (T.number form) },
+}
+
+impl<T: RingWord, R: Reducer<T> + Copy> Copy for ReducedInt<T, R> {}
+
+impl<T: RingWord, R: Reducer<T> + Copy> Clone for ReducedInt<T, R> {
+    ghost is_clone = { λ x y. x ≡ y };
+
+    ghost is_infallible = { λ _. ⊤ };
+
+    fn clone(&self) -> Result<Self, AllocError> {
+        Ok(*self)
+    }
+}

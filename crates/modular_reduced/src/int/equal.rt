@@ -1,0 +1,21 @@
+//! Equality of integers: one modulus and one form.
+
+ghost use Rattle.modular_reduced.specs.Integers.{form_of, modulus_of};
+ghost use Rattle.std.proofs.Common.{rules};
+ghost use Rattle.std.specs.Cmp.Rules.{comparing};
+ghost use Rattle.std.specs.Prelude.{nat_eq, ◌&&◌};
+
+use super::ReducedInt;
+use crate::reducer::Reducer;
+use modular_word::ring_word::RingWord;
+
+impl<T: RingWord, R: Reducer<T> + Copy> PartialEq for ReducedInt<T, R> {
+    // Modulus and form are equal.
+    ghost eq = { λ x y. nat_eq (modulus_of x) (modulus_of y) && nat_eq (form_of x) (form_of y) };
+
+    ghost laws = { Prim.search (comparing, rules) };
+
+    fn eq(&self, other: &Self) -> bool {
+        self.reducer.modulus() == other.reducer.modulus() && self.form == other.form
+    }
+}

@@ -1,0 +1,82 @@
+//! Integers of a ring modulo m, as code that is generic over them sees them.
+
+ghost use Rattle.modular_reduced.specs.Integers.{IsInteger};
+ghost use Rattle.modular_word.specs.Residues.{residue};
+ghost use Rattle.std.specs.Prelude.{◌≡◌, ℕ, ◌+◌, ◌*◌, ◌%◌, ◌<◌, ◌↔◌, IsTrue, pos, ◌-ℤ◌, neg_ℤ};
+
+use std::ops::{Add, Mul, Neg, Sub};
+
+/// An integer modulo m, with its modulus.
+///
+/// Integers of equal modulus may be added, subtracted and multiplied, and each may be negated; the
+/// laws below say what the operators answer, and what `==` tells.
+pub trait ModularInteger: PartialEq
+    + Add<Self, Output = Self>
+    + Sub<Self, Output = Self>
+    + Mul<Self, Output = Self>
+    + Neg<Output = Self> {
+    /// The words that moduli and residues are.
+    type Base;
+
+    // The modulus.
+    ghost modulus_number: { Self → ℕ };
+
+    // The residue: a number below the modulus.
+    ghost residue_number: { Self → ℕ };
+
+    // The number of a word.
+    ghost base_number: { Self.Base → ℕ };
+
+    /// The modulus.
+    fn modulus(&self) -> Self::Base
+        ensures { base_number result ≡ modulus_number self.now };
+
+    /// The residue.
+    fn residue(&self) -> Self::Base
+        ensures { base_number result ≡ residue_number self.now };
+
+    /// Whether the residue is 0.
+    fn is_zero(&self) -> bool
+        ensures { IsTrue result ↔ (residue_number self.now ≡ 0) };
+
+    /// The integer n mod m, in the ring of `self`.
+    fn convert(&self, n: Self::Base) -> Self
+        ensures { let m = modulus_number self.now in
+            IsInteger modulus_number residue_number m (base_number n % m) result };
+
+    /// Twice the integer.
+    fn double(self) -> Self
+        ensures { let m = modulus_number self in
+            IsInteger modulus_number residue_number m ((2 * residue_number self) % m) result };
+
+    /// The integer times itself.
+    fn square(self) -> Self
+        ensures { let m = modulus_number self in
+            IsInteger modulus_number residue_number m ((residue_number self * residue_number self) % m) result };
+
+    // The residue is below the modulus.
+    ghost below: { (a : Self) → residue_number a < modulus_number a };
+
+    // `==` tells whether moduli and residues are equal.
+    ghost equal: { (a b : Self) → IsTrue (Self.eq a b) ↔ ((modulus_number a ≡ modulus_number b) × (residue_number a ≡ residue_number b)) };
+
+    // Integers of equal modulus may be added, and the answer is the residue of the sum.
+    ghost may_add: { (a b : Self) → modulus_number a ≡ modulus_number b → Self.can_add a b };
+
+    ghost adds: { (a b c : Self) → modulus_number a ≡ modulus_number b → Self.add_gives a b c → IsInteger modulus_number residue_number (modulus_number a) ((residue_number a + residue_number b) % modulus_number a) c };
+
+    // Likewise subtracted.
+    ghost may_subtract: { (a b : Self) → modulus_number a ≡ modulus_number b → Self.can_sub a b };
+
+    ghost subtracts: { (a b c : Self) → modulus_number a ≡ modulus_number b → Self.sub_gives a b c → IsInteger modulus_number residue_number (modulus_number a) (residue (modulus_number a) (pos (residue_number a) -ℤ pos (residue_number b))) c };
+
+    // Likewise multiplied.
+    ghost may_multiply: { (a b : Self) → modulus_number a ≡ modulus_number b → Self.can_mul a b };
+
+    ghost multiplies: { (a b c : Self) → modulus_number a ≡ modulus_number b → Self.mul_gives a b c → IsInteger modulus_number residue_number (modulus_number a) ((residue_number a * residue_number b) % modulus_number a) c };
+
+    // Each may be negated, and the answer is the residue of the negative.
+    ghost may_negate: { (a : Self) → Self.can_neg a };
+
+    ghost negates: { (a c : Self) → Self.neg_gives a c → IsInteger modulus_number residue_number (modulus_number a) (residue (modulus_number a) (neg_ℤ (pos (residue_number a)))) c };
+}
