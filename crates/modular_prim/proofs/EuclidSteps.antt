@@ -1,101 +1,142 @@
--- The steps of Euclid's loop with coefficients.
-use Rattle.std.proofs.Common.{⊎_elim, pos, ◌-ℤ◌, ◌≡◌, ℕ, ◌+◌, ◌-◌, ◌*◌, ◌/◌, ◌%◌, ◌<◌, ◌≤◌, sym, ap, ◌∙◌, subst, arith}
+-- The steps of Euclid's loop with the magnitudes of the coefficients, whose signs alternate.
+use Rattle.std.proofs.Common.{◌≡◌, ℕ, Bool, true, false, not, ◌+◌, ◌-◌, ◌*◌, ◌/◌, ◌%◌, ◌<◌, ◌≤◌, pos, neg_ℤ, sym, ap, ◌∙◌, subst, arith, ⊎_elim}
 use Rattle.std.specs.Int.{IsGcd}
-use Rattle.std.proofs.Math.Nat.{mod-lt, mod-eq_of_lt, mod-mod, mod_self, div-add-mod, add-mod-mod, add-mod_right, mod-add-mod, mod-mod_of_dvd, le_of_dvd}
-use Rattle.std.proofs.lemmas.Nat.{mul-mod_first, mul-mod_second}
-use Rattle.std.proofs.lemmas.Nat.Gcd.{IsGcd-from_mod, IsGcd-from_zero, mod-eq-zero_of_dvd}
-use Rattle.modular_word.proofs.Congruence.{mod_cancel}
-use Rattle.modular_word.proofs.ResidueLemmas.{residue_sub, residue_sub_wrapped}
+use Rattle.std.proofs.Math.Nat.{mod-lt, mod-eq_of_lt, div-add-mod, mod-add-mod, add-mul-mod_self_left, mod-mod_of_dvd, le_of_dvd, mul-le-mul_left, mul-le-mul_right}
 use Rattle.std.proofs.lemmas.Bool.{cases_lt}
-use Rattle.modular_word.specs.Residues.{residue}
+use Rattle.std.proofs.lemmas.Nat.{mul-mod_first}
+use Rattle.std.proofs.lemmas.Nat.Gcd.{IsGcd-from_mod, IsGcd-from_zero, mod-eq-zero_of_dvd}
+use Rattle.modular_word.proofs.ResidueLemmas.{residue_neg}
 use Rattle.modular_word.specs.Inverses.{IsInverse}
+use Rattle.modular_word.specs.Residues.{residue}
 
--- v is below m, and v + b is a but for a multiple of m
-pub record IsDifference (a b m v : ℕ) : Type 0 where
-  pub below : v < m
-  pub residue : (v + b) % m ≡ a % m
-
--- the residue of a difference of numbers below m is one
-pub difference_of : (m v w r : ℕ) → v < m → w < m → r ≡ residue m (pos v -ℤ pos w) → IsDifference v w m r
-difference_of m v w r hv hw e =
-    ⊎_elim
-    (λ (l : v < w).
-    let s : r ≡ v + (m - w) = e ∙ residue_sub_wrapped m v w hw l in
-    let t : r + w ≡ v + m = omega arith in
-    record { below = omega arith; residue = ap (λ n. n % m) t ∙ add-mod_right v m })
-    (λ (l : w ≤ v).
-    let s : r ≡ v - w = e ∙ residue_sub m v w hv l in
-    let t : r + w ≡ v = omega arith in
-    record { below = omega arith; residue = ap (λ n. n % m) t })
-    (cases_lt v w)
+-- t * a, with its sign, leaves r modulo m
+abbrev pub Leaves : ℕ → ℕ → Bool → ℕ → ℕ → Type 0
+Leaves m a true t r = (k : ℕ) × (t * a ≡ r + m * k)
+Leaves m a false t r = (k : ℕ) × (t * a + r ≡ m * k)
 
 -- what Euclid's loop keeps of the remainders and their coefficients
-pub record Euclid (a m last_r r last_t t : ℕ) : Type 0 where
-  pub positive : 0 < last_r
+pub record Euclid (a m last_r r last_t t : ℕ) (odd : Bool) : Type 0 where
+  pub falling : r < last_r
+  pub whole : last_t * r + t * last_r ≡ m
   pub last_below : last_t < m
-  pub below : 0 < r → t < m
-  pub last : (last_t * a) % m ≡ last_r % m
-  pub current : (t * a) % m ≡ r % m
+  pub positive : 0 < t
+  pub last : Leaves m a odd last_t last_r
+  pub current : Leaves m a (not odd) t r
   pub common : (g : ℕ) → IsGcd last_r r g → IsGcd m (a % m) g
 
-pub euclid_start : (a m r z o : ℕ) → 1 ≤ m → r ≡ a % m → z ≡ 0 → o ≡ 1 → Euclid a m m r z o
-euclid_start a m r z o h er ez eo = record {
-  positive = h;
-  last_below = omega arith;
-  below = λ p. omega (arith, mod-lt a {m = m} h);
-  last =
-      ap (λ n. (n * a) % m) ez ∙ ap (λ n. n % m) (let e : 0 * a ≡ 0 = omega arith in e)
-      ∙ mod-eq_of_lt h ∙ sym (mod_self m);
-  current =
-      ap (λ n. (n * a) % m) eo ∙ ap (λ n. n % m) (let e : 1 * a ≡ a = omega arith in e)
-      ∙ sym (mod-mod a m) ∙ ap (λ n. n % m) (sym er);
-  common = λ g d. let P : ℕ → Type 0 = λ n. IsGcd m n g in subst P er d;
-}
-
-pub euclid_step : (a m last_r r last_t t next q y rest : ℕ) → Euclid a m last_r r last_t t
-    → 0 < r → q ≡ last_r / r → rest ≡ last_r % r → y ≡ (q * t) % m → IsDifference last_t y m next
-    → Euclid a m r rest t next
-euclid_step a m last_r r last_t t next q y rest s hr eq erest ey d =
-    let f : r * (last_r / r) + last_r % r ≡ last_r = div-add-mod last_r r in
-    let fq : r * q ≡ r * (last_r / r) = ap (λ n. r * n) eq in
-    let split : last_r ≡ rest + q * r = omega arith in
-    let e1 : (q * t) * a ≡ q * (t * a) = omega arith in
-    let ya : (y * a) % m ≡ (q * r) % m =
-    ap (λ n. (n * a) % m) ey ∙ mul-mod_first (q * t) a m ∙ ap (λ n. n % m) e1
-    ∙ sym (mul-mod_second q (t * a) m) ∙ ap (λ n. (q * n) % m) s.current ∙ mul-mod_second q r m in
-    let e2 : next * a + y * a ≡ (next + y) * a = omega arith in
-    let sum : (next * a + q * r) % m ≡ last_r % m =
-    sym (add-mod-mod (next * a) (q * r) m) ∙ ap (λ n. (next * a + n) % m) (sym ya)
-    ∙ add-mod-mod (next * a) (y * a) m ∙ ap (λ n. n % m) e2
-    ∙ sym (mul-mod_first (next + y) a m) ∙ ap (λ n. (n * a) % m) d.residue
-    ∙ mul-mod_first last_t a m ∙ s.last in
-    let both : ((next * a) % m + q * r) % m ≡ (rest % m + q * r) % m =
-    mod-add-mod (next * a) m (q * r) ∙ sum ∙ ap (λ n. n % m) split ∙ sym (mod-add-mod rest m (q * r)) in
-    let hm : 0 < m = omega (arith, s.last_below) in
+pub euclid_start : (a m r z o : ℕ) → 1 ≤ m → r ≡ a % m → z ≡ 0 → o ≡ 1 → Euclid a m m r z o false
+euclid_start a m r z o h er ez eo =
+    let f : m * (a / m) + a % m ≡ a = div-add-mod a m in
+    let zr : z * r ≡ 0 * r = ap (λ n. n * r) ez in
+    let om : o * m ≡ 1 * m = ap (λ n. n * m) eo in
+    let za : z * a ≡ 0 * a = ap (λ n. n * a) ez in
+    let oa : o * a ≡ 1 * a = ap (λ n. n * a) eo in
     record {
-      positive = hr;
-      last_below = s.below hr;
-      below = λ p. d.below;
-      last = s.current;
-      current = mod_cancel m ((next * a) % m) (rest % m) (q * r) (mod-lt (next * a) hm) (mod-lt rest hm) both;
-      common = λ g h. s.common g (IsGcd-from_mod last_r r g (let P : ℕ → Type 0 = λ n. IsGcd r n g in subst P erest h));
+      falling = omega (arith, mod-lt a {m = m} h);
+      whole = omega arith;
+      last_below = omega arith;
+      positive = omega arith;
+      last = (1, omega arith);
+      current = (a / m, omega arith);
+      common = λ g d. let P : ℕ → Type 0 = λ n. IsGcd m n g in subst P er d;
     }
 
--- at the end the coefficient is the inverse, where the last remainder is 1
-pub euclid_found : (a m last_r r last_t t : ℕ) → Euclid a m last_r r last_t t → last_r ≤ 1
+-- the products of a step and the next coefficient are at most m
+pub euclid_fits : (a m last_r r last_t t q : ℕ) (odd : Bool) → Euclid a m last_r r last_t t odd → 0 < r → q ≡ last_r / r
+    → (q * r ≤ last_r) × (last_t + q * t ≤ m) × (last_r ≤ m)
+euclid_fits a m last_r r last_t t q odd s hr eq =
+    let f : r * (last_r / r) + last_r % r ≡ last_r = div-add-mod last_r r in
+    let fq : r * q ≡ r * (last_r / r) = ap (λ n. r * n) eq in
+    let b : q * r ≤ last_r = omega arith in
+    let bt : t * (q * r) ≤ t * last_r = mul-le-mul_left t b in
+    let one : (last_t + q * t) * 1 ≤ (last_t + q * t) * r = mul-le-mul_left (last_t + q * t) hr in
+    let first : 1 * last_r ≤ t * last_r = mul-le-mul_right last_r s.positive in
+    (b, omega (arith, s.whole), omega (arith, s.whole))
+
+leaves_next : (m a q t r last_t last_r rest : ℕ) (odd : Bool) → rest + q * r ≡ last_r
+    → Leaves m a odd last_t last_r → Leaves m a (not odd) t r → Leaves m a odd (last_t + q * t) rest
+leaves_next m a q t r last_t last_r rest true e l c =
+    let k = l.0 in
+    let j = c.0 in
+    let cq : q * (t * a + r) ≡ q * (m * j) = ap (λ n. q * n) c.1 in
+    (k + q * j, omega (arith, l.1))
+leaves_next m a q t r last_t last_r rest false e l c =
+    let k = l.0 in
+    let j = c.0 in
+    let cq : q * (t * a) ≡ q * (r + m * j) = ap (λ n. q * n) c.1 in
+    (k + q * j, omega (arith, l.1))
+
+leaves_twice : (m a t r : ℕ) (odd : Bool) → Leaves m a odd t r → Leaves m a (not (not odd)) t r
+leaves_twice m a t r true l = l
+leaves_twice m a t r false l = l
+
+pub euclid_step : (a m last_r r last_t t next q rest : ℕ) (odd : Bool) → Euclid a m last_r r last_t t odd
+    → 0 < r → q ≡ last_r / r → rest + q * r ≡ last_r → next ≡ last_t + q * t
+    → Euclid a m r rest t next (not odd)
+euclid_step a m last_r r last_t t next q rest odd s hr eq erest enext =
+    let f : r * (last_r / r) + last_r % r ≡ last_r = div-add-mod last_r r in
+    let fq : r * q ≡ r * (last_r / r) = ap (λ n. r * n) eq in
+    let left : rest ≡ last_r % r = omega arith in
+    let one : 1 ≤ q = ⊎_elim (λ (h : 0 < q). h) (λ (h : q ≤ 0). let z : q * r ≤ 0 * r = mul-le-mul_right r h in absurd (omega (arith, s.falling, mod-lt last_r {m = r} hr))) (cases_lt 0 q) in
+    let grows : 1 * t ≤ q * t = mul-le-mul_right t one in
+    let two : t * 2 ≤ t * last_r = mul-le-mul_left t (let l : 2 ≤ last_r = omega (arith, s.falling) in l) in
+    let nr : next * r ≡ (last_t + q * t) * r = ap (λ n. n * r) enext in
+    let tr : t * (rest + q * r) ≡ t * last_r = ap (λ n. t * n) erest in
+    record {
+      falling = omega (arith, mod-lt last_r {m = r} hr);
+      whole = omega (arith, s.whole);
+      last_below = omega (arith, s.whole, s.positive);
+      positive = omega (arith, s.positive);
+      last = s.current;
+      current =
+          let P : ℕ → Type 0 = λ n. Leaves m a (not (not odd)) n rest in
+          subst P (sym enext) (leaves_twice m a (last_t + q * t) rest odd (leaves_next m a q t r last_t last_r rest odd erest s.last s.current));
+      common = λ g h. s.common g (IsGcd-from_mod last_r r g (let P : ℕ → Type 0 = λ n. IsGcd r n g in subst P left h));
+    }
+
+-- at the end, where the last remainder is 1, the coefficient of a positive sign is the inverse
+pub euclid_found : (a m last_r r last_t t : ℕ) (odd : Bool) → Euclid a m last_r r last_t t odd → odd ≡ true → last_r ≤ 1
     → IsInverse m a last_t
-euclid_found a m last_r r last_t t s h =
-    let one : last_r ≡ 1 = omega (arith, s.positive) in
-    let e : a * last_t ≡ last_t * a = omega arith in
+euclid_found a m last_r r last_t t false s o h = absurd (cc)
+euclid_found a m last_r r last_t t true s o h =
+    let k = s.last.0 in
+    let e : a * last_t ≡ 1 + m * k = omega (arith, s.falling, s.last.1) in
     record {
       below = s.last_below;
-      one = ap (λ n. n % m) e ∙ s.last ∙ ap (λ n. n % m) one;
+      one = ap (λ n. n % m) e ∙ add-mul-mod_self_left 1 m k;
+    }
+
+-- the negative of a number below m, with the number, makes a multiple of m
+with_negative : (m v x : ℕ) → v < m → x ≡ residue m (neg_ℤ (pos v)) → (x < m) × ((j : ℕ) × (x + v ≡ m * j))
+with_negative m v x h e =
+    ⊎_elim
+    (λ (l : 0 < v). let r : x ≡ m - v = e ∙ residue_neg m v h l in (omega arith, (1, omega arith)))
+    (λ (l : v ≤ 0).
+    let z : v ≡ 0 = omega arith in
+    let r : x ≡ 0 = e ∙ ap (λ n. residue m (neg_ℤ (pos n))) z ∙ mod-eq_of_lt (let p : 0 < m = omega arith in p) in
+    (omega arith, (0, omega arith)))
+    (cases_lt 0 v)
+
+-- at the end, where the last remainder is 1, the negative of the coefficient of a negative sign is the inverse
+pub euclid_found_negative : (a m last_r r last_t t x : ℕ) (odd : Bool) → Euclid a m last_r r last_t t odd → odd ≡ false → last_r ≤ 1
+    → x ≡ residue m (neg_ℤ (pos last_t)) → IsInverse m a x
+euclid_found_negative a m last_r r last_t t x true s o h ex = absurd (cc)
+euclid_found_negative a m last_r r last_t t x false s o h ex =
+    let k = s.last.0 in
+    let n = with_negative m last_t x s.last_below ex in
+    let j = n.1.0 in
+    let e : last_t * a + 1 ≡ m * k = omega (arith, s.falling, s.last.1) in
+    let f : a * (x + last_t) ≡ a * (m * j) = ap (λ v. a * v) n.1.1 in
+    let g : a * x + m * k ≡ 1 + m * (a * j) = omega arith in
+    record {
+      below = n.0;
+      one = sym (add-mul-mod_self_left (a * x) m k) ∙ ap (λ v. v % m) g ∙ add-mul-mod_self_left 1 m (a * j);
     }
 
 -- at the end there is no inverse, where the last remainder is above 1
-pub euclid_none : (a m last_r r last_t t x : ℕ) → Euclid a m last_r r last_t t → r ≡ 0 → 1 < last_r
+pub euclid_none : (a m last_r r last_t t x : ℕ) (odd : Bool) → Euclid a m last_r r last_t t odd → r ≡ 0 → 1 < last_r
     → IsInverse m a x → ⊥
-euclid_none a m last_r r last_t t x s er h i =
+euclid_none a m last_r r last_t t x odd s er h i =
     let G = last_r in
     let common : IsGcd m (a % m) G = s.common G (IsGcd-from_zero G r er) in
     let m0 : m % G ≡ 0 = mod-eq-zero_of_dvd G common.0 in

@@ -4,7 +4,7 @@ use Rattle.modular_prim.proofs.euclid.invm.Given as goal
 abbrev pub invariant-euclid : goal.invariant-euclid
 invariant-euclid g l =
     let n = g.T.RingWord.number in
-    Euclid (n l.fn.a) (n l.m) (n l.last_r) (n l.r) (n l.last_t) (n l.t)
+    Euclid (n l.fn.a) (n l.m) (n l.last_r) (n l.r) (n l.last_t) (n l.t) l.odd
 
 abbrev pub decreases-euclid : goal.decreases-euclid
 decreases-euclid g l = g.T.RingWord.number l.r
