@@ -1,4 +1,5 @@
--- Congruence: numbers that leave the same remainder modulo m. First by equal remainders, then by the relation `Congruent`.
+-- Congruence: numbers that leave the same remainder modulo m.
+-- First by equal remainders, then by the relation `Congruent`.
 use Rattle.std.proofs.Common.{◌≡◌, ℕ, suc, zero, ◌^◌, ◌+◌, ◌-◌, ◌*◌, ◌/◌, ◌%◌, ◌<◌, sym, ap, ◌∙◌, arith, refl}
 use Rattle.std.proofs.Math.Nat.{add-mod, mod-add-mod, mod-mod, mod-zero, mod-lt, mod-eq_of_lt, mod-mod_of_dvd, dvd-mul_left, dvd-mul_right, div-add-mod, add-mul-mod_self_left, mul-div_cancel_left}
 use Rattle.std.proofs.lemmas.Nat.{mul-mod, pow-mod}
@@ -7,7 +8,8 @@ use Rattle.modular_word.specs.Congruence.{Congruent}
 -- two numbers below B that differ by multiples of B are one
 pub same_rest : (B x y s t : ℕ) → x < B → y < B → x + B * s ≡ y + B * t → x ≡ y
 same_rest B x y s t hx hy e =
-    sym (mod-eq_of_lt hx) ∙ sym (add-mul-mod_self_left x B s) ∙ ap (λ n. n % B) e ∙ add-mul-mod_self_left y B t ∙ mod-eq_of_lt hy
+    sym (mod-eq_of_lt hx) ∙ sym (add-mul-mod_self_left x B s) ∙ ap (λ n. n % B) e
+    ∙ add-mul-mod_self_left y B t ∙ mod-eq_of_lt hy
 
 -- a summand cancels under a remainder
 pub mod_cancel : (B x y z : ℕ) → x < B → y < B → (x + z) % B ≡ (y + z) % B → x ≡ y
@@ -23,10 +25,12 @@ factor_cancel B x y h e =
 
 -- sums and products of congruent numbers are congruent
 pub same_sum : (m a b c d : ℕ) → a % m ≡ b % m → c % m ≡ d % m → (a + c) % m ≡ (b + d) % m
-same_sum m a b c d e f = add-mod a c m ∙ ap (λ v. (v + c % m) % m) e ∙ ap (λ v. (b % m + v) % m) f ∙ sym (add-mod b d m)
+same_sum m a b c d e f =
+    add-mod a c m ∙ ap (λ v. (v + c % m) % m) e ∙ ap (λ v. (b % m + v) % m) f ∙ sym (add-mod b d m)
 
 pub same_product : (m a b c d : ℕ) → a % m ≡ b % m → c % m ≡ d % m → (a * c) % m ≡ (b * d) % m
-same_product m a b c d e f = mul-mod a c m ∙ ap (λ v. (v * (c % m)) % m) e ∙ ap (λ v. (b % m * v) % m) f ∙ sym (mul-mod b d m)
+same_product m a b c d e f =
+    mul-mod a c m ∙ ap (λ v. (v * (c % m)) % m) e ∙ ap (λ v. (b % m * v) % m) f ∙ sym (mul-mod b d m)
 
 -- a summand cancels
 pub same_without : (m a b c : ℕ) → 0 < m → (a + c) % m ≡ (b + c) % m → a % m ≡ b % m
@@ -37,17 +41,25 @@ same_without m a b c h e =
 pub same_without_unit : (m a b c j : ℕ) → (c * j) % m ≡ 1 % m → (a * c) % m ≡ (b * c) % m → a % m ≡ b % m
 same_without_unit m a b c j u e =
     let back : (x : ℕ) → (x * c * j) % m ≡ x % m =
-    λ x. ap (λ v. v % m) (let r : x * c * j ≡ x * (c * j) = omega arith in r) ∙ same_product m x x (c * j) 1 refl u ∙ ap (λ v. v % m) (let r : x * 1 ≡ x = omega arith in r) in
+    λ x.
+    let r : x * c * j ≡ x * (c * j) = omega arith in
+    let s : x * 1 ≡ x = omega arith in
+    ap (λ v. v % m) r ∙ same_product m x x (c * j) 1 refl u ∙ ap (λ v. v % m) s in
     sym (back a) ∙ same_product m (a * c) (b * c) j j e refl ∙ back b
 
 -- a factor with a negated inverse cancels
-pub same_without_negated_unit : (m a b c i : ℕ) → 0 < m → (c * i + 1) % m ≡ 0 % m → (a * c) % m ≡ (b * c) % m → a % m ≡ b % m
+pub same_without_negated_unit : (m a b c i : ℕ) → 0 < m → (c * i + 1) % m ≡ 0 % m → (a * c) % m ≡ (b * c) % m
+    → a % m ≡ b % m
 same_without_negated_unit m a b c i h u e =
     let gone : (x : ℕ) → (x * c * i + x) % m ≡ 0 % m =
-    λ x. ap (λ v. v % m) (let r : x * c * i + x ≡ x * (c * i + 1) = omega arith in r) ∙ same_product m x x (c * i + 1) 0 refl u ∙ ap (λ v. v % m) (let r : x * 0 ≡ 0 = omega arith in r) in
+    λ x.
+    let r : x * c * i + x ≡ x * (c * i + 1) = omega arith in
+    let s : x * 0 ≡ 0 = omega arith in
+    ap (λ v. v % m) r ∙ same_product m x x (c * i + 1) 0 refl u ∙ ap (λ v. v % m) s in
     let f : (a * c * i) % m ≡ (b * c * i) % m = same_product m (a * c) (b * c) i i e refl in
     let left : (a + b * c * i) % m ≡ (b + b * c * i) % m =
-    same_sum m a a (b * c * i) (a * c * i) refl (sym f) ∙ ap (λ v. v % m) (let r : a + a * c * i ≡ a * c * i + a = omega arith in r)
+    same_sum m a a (b * c * i) (a * c * i) refl (sym f)
+    ∙ ap (λ v. v % m) (let r : a + a * c * i ≡ a * c * i + a = omega arith in r)
     ∙ gone a ∙ sym (gone b) ∙ ap (λ v. v % m) (let r : b * c * i + b ≡ b + b * c * i = omega arith in r) in
     same_without m a b (b * c * i) h left
 

@@ -141,14 +141,17 @@ coprime_cancel a n x p c h =
     let u = unit_within n a n (omega arith) p c in
     let e : x * (a * u.0) ≡ (a * x) * u.0 = omega arith in
     let o : x * 1 ≡ x = omega arith in
-    sym (ap (λ v. v % n) o) ∙ sym (same_product n x x (a * u.0) 1 refl u.1) ∙ ap (λ v. v % n) e ∙ divides_product n (a * x) u.0 h
+    sym (ap (λ v. v % n) o) ∙ sym (same_product n x x (a * u.0) 1 refl u.1) ∙ ap (λ v. v % n) e
+    ∙ divides_product n (a * x) u.0 h
 
 pub Coprime-left : (a b n : ℕ) → Coprime (a * b) n → Coprime a n
 Coprime-left a b n c = record { only_one = λ d g h. c.only_one d (divides_product d a b g) h }
 
 pub Coprime-right : (a b n : ℕ) → Coprime (a * b) n → Coprime b n
 Coprime-right a b n c = record {
-  only_one = λ d g h. c.only_one d (let e : a * b ≡ b * a = omega arith in ap (λ v. v % d) e ∙ divides_product d b a g) h;
+  only_one = λ d g h.
+      let e : a * b ≡ b * a = omega arith in
+      c.only_one d (ap (λ v. v % d) e ∙ divides_product d b a g) h;
 }
 
 pub Coprime-product : (a b n : ℕ) → 0 < n → Coprime a n → Coprime b n → Coprime (a * b) n
@@ -174,9 +177,11 @@ gcd_up_to-le a n (suc k) = let i = gcd_up_to-le a n k in grind (arith, i)
 gcd_greatest : (a n k d : ℕ) → d ≤ k → a % d ≡ 0 → n % d ≡ 0 → d ≤ gcd_up_to a n k
 unfolding gcd_up_to
 gcd_greatest a n zero d l u v = omega arith
-gcd_greatest a n (suc k) d l u v = gcd_step a n k d (gcd_up_to a n k) (λ m u v. gcd_greatest a n k d m u v) l u v (gcd_up_to-le a n k)
+gcd_greatest a n (suc k) d l u v =
+    gcd_step a n k d (gcd_up_to a n k) (λ m u v. gcd_greatest a n k d m u v) l u v (gcd_up_to-le a n k)
 
-gcd_common_step : (a n k g : ℕ) → (0 < g → (a % g ≡ 0) × (n % g ≡ 0)) → (r : ℕ) → r ≡ cond (eqb (a % suc k) 0 && eqb (n % suc k) 0) (suc k) g
+gcd_common_step : (a n k g : ℕ) → (0 < g → (a % g ≡ 0) × (n % g ≡ 0))
+    → (r : ℕ) → r ≡ cond (eqb (a % suc k) 0 && eqb (n % suc k) 0) (suc k) g
     → 0 < r → (a % r ≡ 0) × (n % r ≡ 0)
 gcd_common_step a n k g i r e p = grind (arith, nat_tests)
 

@@ -8,7 +8,8 @@ use Rattle.modular_word.specs.Inverses.{IsInverse, IsInversion, inverse_below, i
 -- a number below m is what is left of it times an inverse pair
 undone : (m a x y : ℕ) → (a * y) % m ≡ 1 % m → x < m → (a * y * x) % m ≡ x
 undone m a x y e h =
-    sym (mul-mod_first (a * y) x m) ∙ ap (λ n. n * x % m) e ∙ mul-mod_first 1 x m ∙ ap (λ n. n % m) (one-mul x) ∙ mod-eq_of_lt h
+    sym (mul-mod_first (a * y) x m) ∙ ap (λ n. n * x % m) e ∙ mul-mod_first 1 x m
+    ∙ ap (λ n. n % m) (one-mul x) ∙ mod-eq_of_lt h
 
 -- two inverses of one number are equal
 pub inverse_unique : (m a x y : ℕ) → IsInverse m a x → IsInverse m a y → x ≡ y

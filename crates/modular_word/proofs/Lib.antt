@@ -1,3 +1,4 @@
+pub mod Bases
 pub mod Congruence
 pub mod Divisors
 pub mod ExactSteps

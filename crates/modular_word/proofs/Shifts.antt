@@ -14,7 +14,9 @@ ones_shifted w n top h e =
     ap (λ v. 2 ^ v) (let s : w ≡ n + (w - n) = omega arith in s) ∙ pow-add 2 n (w - n) in
     let ek : k + 1 ≡ 2 ^ n = omega arith in
     let eP : (k + 1) * P ≡ 2 ^ n * P = ap (λ v. v * P) ek in
-    let q : top / P ≡ k = div-eq_of_lt-le P (let a : k * P ≤ top = omega arith in a) (let b : top < (k + 1) * P = omega arith in b) in
+    let low : k * P ≤ top = omega arith in
+    let high : top < (k + 1) * P = omega arith in
+    let q : top / P ≡ k = div-eq_of_lt-le P low high in
     omega arith
 
 -- the mask of the low k of w bits keeps what is left modulo 2^k
@@ -25,7 +27,8 @@ mask_keeps w n k h = ap (λ v. bit_and n (v - 1)) (one_shl k w h) ∙ and_mask n
 pub shifted_fits : (w n k : ℕ) → n < 2 ^ w → k < w → n * 2 ^ k % 2 ^ (w + w) ≡ n * 2 ^ k
 shifted_fits w n k h l =
     let whole : 2 ^ (w + w) ≡ 2 ^ w * 2 ^ w = pow-add 2 w w in
-    let split : 2 ^ w ≡ 2 ^ k * 2 ^ (w - k) = ap (λ v. 2 ^ v) (let s : w ≡ k + (w - k) = omega arith in s) ∙ pow-add 2 k (w - k) in
+    let split : 2 ^ w ≡ 2 ^ k * 2 ^ (w - k) =
+    ap (λ v. 2 ^ v) (let s : w ≡ k + (w - k) = omega arith in s) ∙ pow-add 2 k (w - k) in
     let p : 0 < 2 ^ (w - k) = pow_pos (w - k) in
     let q : 0 < 2 ^ k = pow_pos k in
     let m1 : 2 ^ k * 1 ≤ 2 ^ k * 2 ^ (w - k) = mul-le-mul_left (2 ^ k) p in

@@ -47,7 +47,8 @@ sum_to-ones zero = refl
 sum_to-ones (suc h) = let i = sum_to-ones h in omega arith
 
 -- the order of two sums is free
-pub sum_to-swap : (f : ℕ → ℕ → ℕ) (h k : ℕ) → sum_to (λ x. sum_to (λ y. f x y) k) h ≡ sum_to (λ y. sum_to (λ x. f x y) h) k
+pub sum_to-swap : (f : ℕ → ℕ → ℕ) (h k : ℕ)
+    → sum_to (λ x. sum_to (λ y. f x y) k) h ≡ sum_to (λ y. sum_to (λ x. f x y) h) k
 unfolding sum_to
 sum_to-swap f zero k = sym (sum_to-nothing k)
 sum_to-swap f (suc h) k =
@@ -76,7 +77,8 @@ sum_to-only f (suc h) z p q e =
     (last_or_before z h q)
 
 -- where each term is at most 1 and the sum is full, each term is 1
-pub sum_to-full : (f : ℕ → ℕ) (h : ℕ) → ((x : ℕ) → 0 < x → x ≤ h → f x ≤ 1) → sum_to f h ≡ h → (x : ℕ) → 0 < x → x ≤ h → f x ≡ 1
+pub sum_to-full : (f : ℕ → ℕ) (h : ℕ) → ((x : ℕ) → 0 < x → x ≤ h → f x ≤ 1) → sum_to f h ≡ h
+    → (x : ℕ) → 0 < x → x ≤ h → f x ≡ 1
 unfolding sum_to
 sum_to-full f zero e s x p q = absurd (omega arith)
 sum_to-full f (suc h) e s x p q =
@@ -94,7 +96,8 @@ sum_to-scale f zero k = omega arith
 sum_to-scale f (suc h) k = let i = sum_to-scale f h k in omega arith
 
 -- sums of terms with equal parities have equal parities
-pub sum_to-parity : (f g : ℕ → ℕ) (h : ℕ) → ((x : ℕ) → 0 < x → x ≤ h → f x % 2 ≡ g x % 2) → sum_to f h % 2 ≡ sum_to g h % 2
+pub sum_to-parity : (f g : ℕ → ℕ) (h : ℕ) → ((x : ℕ) → 0 < x → x ≤ h → f x % 2 ≡ g x % 2)
+    → sum_to f h % 2 ≡ sum_to g h % 2
 unfolding sum_to
 sum_to-parity f g zero e = refl
 sum_to-parity f g (suc h) e =
@@ -150,7 +153,8 @@ hits f h y = sum_to (λ x. hit (f x) y) h
 
 one_hit : (f : ℕ → ℕ) (h x : ℕ) → Permutes f h → 0 < x → x ≤ h → sum_to (λ y. hit (f x) y) h ≡ 1
 one_hit f h x m p q =
-    sum_to-only (λ y. hit (f x) y) h (f x) (m.positive x p q) (m.within x p q) (λ y u v w. hit-other (f x) y (λ e. w (sym e)))
+    sum_to-only (λ y. hit (f x) y) h (f x) (m.positive x p q) (m.within x p q)
+    (λ y u v w. hit-other (f x) y (λ e. w (sym e)))
     ∙ hit-same (f x) (f x) refl
 
 all_hits : (f : ℕ → ℕ) (h : ℕ) → Permutes f h → sum_to (λ y. hits f h y) h ≡ h
@@ -215,7 +219,8 @@ sum_below-same (suc n) f g h =
     omega (arith, e, l)
 
 -- congruent summands, congruent sums
-pub sum_below-congruent : {m : ℕ} (n : ℕ) (f g : ℕ → ℕ) → ((i : ℕ) → i < n → Congruent m (f i) (g i)) → Congruent m (sum_below n f) (sum_below n g)
+pub sum_below-congruent : {m : ℕ} (n : ℕ) (f g : ℕ → ℕ) → ((i : ℕ) → i < n → Congruent m (f i) (g i))
+    → Congruent m (sum_below n f) (sum_below n g)
 unfolding sum_below
 sum_below-congruent zero f g h = itself 0
 sum_below-congruent (suc n) f g h = added (sum_below-congruent n f g (λ i l. h i (omega arith))) (h n (omega arith))
@@ -233,7 +238,10 @@ sum_below-mul (suc n) c f = let e = sum_below-mul n c f in omega (arith, e)
 pub sum_below-of_zeros : (n : ℕ) (f : ℕ → ℕ) → ((i : ℕ) → i < n → f i ≡ 0) → sum_below n f ≡ 0
 unfolding sum_below
 sum_below-of_zeros zero f h = refl
-sum_below-of_zeros (suc n) f h = let e = sum_below-of_zeros n f (λ i l. h i (omega arith)) in let l = h n (omega arith) in omega (arith, e, l)
+sum_below-of_zeros (suc n) f h =
+    let e = sum_below-of_zeros n f (λ i l. h i (omega arith)) in
+    let l = h n (omega arith) in
+    omega (arith, e, l)
 
 -- n summands c
 pub sum_below-of_constant : (n c : ℕ) → sum_below n (λ i. c) ≡ n * c
@@ -251,7 +259,8 @@ sum_below-joined a (suc b) f =
     ap (λ n. sum_below n f) s ∙ omega (arith, e)
 
 -- rows or columns first
-pub sum_below-exchanged : (n k : ℕ) (f : ℕ → ℕ → ℕ) → sum_below n (λ i. sum_below k (λ j. f i j)) ≡ sum_below k (λ j. sum_below n (λ i. f i j))
+pub sum_below-exchanged : (n k : ℕ) (f : ℕ → ℕ → ℕ)
+    → sum_below n (λ i. sum_below k (λ j. f i j)) ≡ sum_below k (λ j. sum_below n (λ i. f i j))
 unfolding sum_below
 sum_below-exchanged zero k f = sym (sum_below-of_zeros k (λ j. 0) (λ i l. refl))
 sum_below-exchanged (suc n) k f =
@@ -260,7 +269,8 @@ sum_below-exchanged (suc n) k f =
     ap (λ v. v + sum_below k (λ j. f n j)) e ∙ sym s
 
 -- a product of sums
-pub sum_below-times_sum : (n k : ℕ) (f g : ℕ → ℕ) → sum_below n f * sum_below k g ≡ sum_below n (λ i. sum_below k (λ j. f i * g j))
+pub sum_below-times_sum : (n k : ℕ) (f g : ℕ → ℕ)
+    → sum_below n f * sum_below k g ≡ sum_below n (λ i. sum_below k (λ j. f i * g j))
 unfolding sum_below
 sum_below-times_sum zero k f g = omega arith
 sum_below-times_sum (suc n) k f g =

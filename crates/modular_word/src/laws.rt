@@ -1,11 +1,22 @@
 //! Laws of whole numbers that the proofs of every crate rest on, as contracts of calls that do
 //! nothing: congruence, powers, inverses, sums over a range.
 
-ghost use Rattle.std.specs.Prelude.{◌≡◌, ℕ, suc, ◌+◌, ◌-◌, ◌*◌, ◌%◌, ◌^◌, ◌<◌, ◌↔◌, Some};
+ghost use Rattle.std.specs.Prelude.{◌≡◌, ℕ, suc, ◌+◌, ◌-◌, ◌*◌, ◌%◌, ◌^◌, ◌<◌, ◌≤◌, ◌↔◌, Some};
 ghost use Rattle.modular_word.specs.Congruence.{Congruent};
 ghost use Rattle.modular_word.specs.Divisors.{Coprime, gcd};
 ghost use Rattle.modular_word.specs.Inverses.{IsInverse, IsInversion, HasInverse, inverse_of};
 ghost use Rattle.modular_word.specs.Sums.{sum_below, sum_to, Permutes};
+
+use crate::path_word::PathWord;
+
+/// A number is below the base exactly where it is below 2 to the width, the base is at least 256,
+/// and its square is the number of double words.
+pub fn base_laws<T: PathWord>()
+    ensures at_least { 256 ≤ T.base }
+    ensures same { (n : ℕ) → n < T.base ↔ (n < 2 ^ T.width) }
+    ensures double { T.base * T.base ≡ 2 ^ (T.width + T.width) }
+    ensures high { (low high : ℕ) → low + T.base * high < T.base * T.base → high < T.base }
+{}
 
 /// Congruence modulo m is kept by sums, products and powers, and a factor with an inverse cancels.
 ///

@@ -1,3 +1,4 @@
+-- The laws of congruence, from the lemmas on the relation.
 use Rattle.modular_word.proofs.Congruence.{added, multiplied, powered, cancelled, cancelled_unit}
 use Rattle.modular_word.proofs.laws.congruence_laws.Goals as goal
 

@@ -1,3 +1,4 @@
+-- Euclid's lemma, by the inverse that a coprime number has.
 use Rattle.modular_word.proofs.Divisors.{coprime_cancel}
 use Rattle.modular_word.proofs.laws.euclids_lemma.Goals as goal
 

@@ -1,3 +1,4 @@
+-- The laws of inverses, from the lemmas on divisors and on inverses.
 use Rattle.modular_word.proofs.Divisors.{HasInverse-gcd}
 use Rattle.modular_word.proofs.InverseLemmas.{inverse_unique, inverse_of-found, inverse_of-is}
 use Rattle.modular_word.proofs.laws.inverse_laws.Goals as goal

@@ -1,3 +1,4 @@
+-- The laws of exponents, from the lemmas on powers.
 use Rattle.std.proofs.lemmas.Nat.{pow-add}
 use Rattle.modular_word.proofs.Powers.{one-pow, pow-one, pow-mul}
 use Rattle.modular_word.proofs.laws.power_laws.Goals as goal

@@ -1,3 +1,4 @@
+-- The laws of sums, from the lemmas on sums over a range.
 use Rattle.modular_word.proofs.Sums.{sum_to-swap, sum_to-permuted, sum_to-reversed, sum_to-from_below}
 use Rattle.modular_word.proofs.laws.sum_laws.Goals as goal
 

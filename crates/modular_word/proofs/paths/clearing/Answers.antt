@@ -1,3 +1,4 @@
+-- The multiple that clears the low word.
 use Rattle.std.proofs.Common.{◌+◌, ◌*◌, ◌%◌, ap, ◌∙◌, arith}
 use Rattle.modular_word.proofs.ReductionSteps.{low_is_zero}
 use Rattle.modular_word.proofs.paths.clearing.Goals as goal
@@ -7,5 +8,6 @@ returns-clause-low g c =
     let n = g.T.RingWord.number in
     let B = g.T.PathWord.base in
     ap (λ v. (v + n c.wrapping_mul.result * n c.args.m) % B) c.split-low.ensures.value
-    ∙ low_is_zero B (n c.args.m) (n c.args.negated_inverse) (n c.split-low.result.0) (n c.split-low.result.1) (n c.wrapping_mul.result)
+    ∙ low_is_zero B (n c.args.m) (n c.args.negated_inverse) (n c.split-low.result.0)
+    (n c.split-low.result.1) (n c.wrapping_mul.result)
     (omega (arith, c.wrapping_mul.ensures.fits)) c.requires.product c.wrapping_mul.ensures.value

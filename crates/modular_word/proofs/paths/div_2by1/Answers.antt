@@ -1,3 +1,4 @@
+-- Division of a double word: the guess is right or off by one on either side, and the corrections meet it.
 use Rattle.std.proofs.Common.{◌≡◌, ◌+◌, ◌*◌, ◌%◌, ◌<◌, arith, sym, ap, ◌∙◌}
 use Rattle.std.proofs.Math.Nat.{lt_of_mul-lt-mul_right}
 use Rattle.modular_word.proofs.ReciprocalSteps.{Setting, Guess, guess_of, step_down, step_none, step_up}
@@ -25,12 +26,14 @@ returns g c =
       low_fits = c.split-low.ensures.low_fits;
       high_fits = c.split-q0.ensures.high_fits;
       rest_fits = c.split-q0.ensures.low_fits;
-      product = omega (arith, c.product.ensures.value, c.double_plus.ensures, c.split-q0.ensures.value, c.split-low.ensures.value);
+      product =
+          omega (arith, c.product.ensures.value, c.double_plus.ensures, c.split-q0.ensures.value, c.split-low.ensures.value);
     } in
     let eq : q ≡ (q1 + 1) % B = c.wrapping_add-q.ensures.value ∙ ap (λ x. (q1 + x) % B) c.one.ensures in
     let er : (r + (q * d) % B) % B ≡ a0 =
     ap (λ x. (r + x) % B) (sym c.wrapping_mul.ensures.value) ∙ c.wrapping_sub-r.ensures.value in
-    let guess : Guess B d (a0 + B * a1) q0 q1 r = guess_of B d _ a0 a1 q0 q1 q r s c.wrapping_sub-r.ensures.fits eq er in
+    let guess : Guess B d (a0 + B * a1) q0 q1 r =
+    guess_of B d _ a0 a1 q0 q1 q r s c.wrapping_sub-r.ensures.fits eq er in
     -- the dividend after the first correction
     let corrected : W c.args.a ≡ n c.if-is_below.q * d + n c.if-is_below.r =
     elim c.if-is_below.branch [
@@ -59,6 +62,9 @@ returns g c =
           ∙ ap (λ x. (n c.if-is_below.q + x) % B) w.one-then-not-is_below.ensures)
           w.wrapping_sub-r-then-not-is_below.ensures.value in
           rw (w.q-is, w.r-is)
-          (record { whole = up.0; below = omega (arith, up.1, c.is_below-2.ensures.fits, c.requires.reciprocal.normalized) })
+          (record {
+            whole = up.0;
+            below = omega (arith, up.1, c.is_below-2.ensures.fits, c.requires.reciprocal.normalized);
+          })
       | else-not-is_below w ↦ rw (w.q-is, w.r-is) (record { whole = corrected; below = grind arith })
     ]

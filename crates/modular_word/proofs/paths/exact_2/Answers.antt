@@ -1,3 +1,4 @@
+-- Exact division of a double word: the low word of the quotient first, then what is left of the high part.
 use Rattle.std.proofs.Common.{◌≡◌, ◌+◌, ◌*◌, ◌/◌, ◌<◌, arith, ap, sym, ◌∙◌}
 use Rattle.modular_word.proofs.ExactSteps.{low_again, high_left}
 use Rattle.modular_word.proofs.paths.exact_2.Goals as goal

@@ -1,3 +1,4 @@
+-- The quotient by a multiplier and a shift: the products and shifts fit, and the quotient is exact.
 use Rattle.std.proofs.Common.{◌+◌, ◌^◌, sym, ap, ◌∙◌}
 use Rattle.std.proofs.lemmas.Nat.{pow_pos}
 use Rattle.modular_word.proofs.MultiplierSteps.{quotient_by_multiplier}

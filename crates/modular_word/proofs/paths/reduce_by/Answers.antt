@@ -1,3 +1,4 @@
+-- The reduction: with the carry, without it and with a subtraction, without both.
 use Rattle.std.proofs.Common.{arith}
 use Rattle.modular_word.proofs.ReductionSteps.{Sum, reduces_carry, reduces_less, reduces_same}
 use Rattle.modular_word.proofs.paths.reduce_by.Goals as goal
@@ -20,7 +21,8 @@ returns-then-double_is_below g c =
       low_fits = c.split-high.ensures.low_fits;
       high_fits = c.split-high.ensures.high_fits;
     } in
-    reduces_carry B _ _ _ _ _ _ _ (n c.wrapping_sub.result) s (grind arith) c.wrapping_sub.ensures.fits c.wrapping_sub.ensures.value
+    reduces_carry B _ _ _ _ _ _ _ (n c.wrapping_sub.result) s (grind arith)
+    c.wrapping_sub.ensures.fits c.wrapping_sub.ensures.value
 
 pub returns-then-is_below : goal.returns-then-is_below
 returns-then-is_below g c =
@@ -60,4 +62,5 @@ returns-else-is_below g c =
       low_fits = c.split-high.ensures.low_fits;
       high_fits = c.split-high.ensures.high_fits;
     } in
-    reduces_less B _ _ _ _ _ _ _ (n c.wrapping_sub-else-is_below.result) s (grind arith) (grind arith) c.wrapping_sub-else-is_below.ensures.fits c.wrapping_sub-else-is_below.ensures.value
+    reduces_less B _ _ _ _ _ _ _ (n c.wrapping_sub-else-is_below.result) s (grind arith) (grind arith)
+    c.wrapping_sub-else-is_below.ensures.fits c.wrapping_sub-else-is_below.ensures.value

@@ -1,3 +1,4 @@
+-- One more number tried; and what the greatest common divisor tells of inverses.
 use Rattle.std.proofs.Common.{◌≡◌, ◌≢◌, ◌%◌, ◌+◌, add-one, refl, sym, ap, ◌∙◌, arith, suc}
 use Rattle.modular_word.specs.Divisors.{gcd, gcd_up_to}
 use Rattle.modular_word.proofs.Divisors.{gcd_is, HasInverse-gcd, gcd_up_to-hit, gcd_up_to-miss}
@@ -38,11 +39,13 @@ returns-clause-computed c =
 pub returns-clause-greatest : goal.returns-clause-greatest
 returns-clause-greatest c =
     let e : c.divisors.below ≡ c.args.n = omega arith in
-    let same : c.divisors.greatest ≡ gcd c.args.a c.args.n = c.divisors.invariant ∙ ap (λ v. gcd_up_to c.args.a c.args.n v) e in
+    let same : c.divisors.greatest ≡ gcd c.args.a c.args.n =
+    c.divisors.invariant ∙ ap (λ v. gcd_up_to c.args.a c.args.n v) e in
     rw same (gcd_is c.args.a c.args.n c.requires)
 
 pub returns-clause-inverse : goal.returns-clause-inverse
 returns-clause-inverse c =
     let e : c.divisors.below ≡ c.args.n = omega arith in
-    let same : c.divisors.greatest ≡ gcd c.args.a c.args.n = c.divisors.invariant ∙ ap (λ v. gcd_up_to c.args.a c.args.n v) e in
+    let same : c.divisors.greatest ≡ gcd c.args.a c.args.n =
+    c.divisors.invariant ∙ ap (λ v. gcd_up_to c.args.a c.args.n v) e in
     rw same (HasInverse-gcd c.args.a c.args.n c.requires)

@@ -1,3 +1,4 @@
+-- One more number tried, and none left.
 use Rattle.std.proofs.Common.{◌<◌, below_more, arith}
 use Rattle.modular_word.proofs.plain.inverse_by_search.Goals as goal
 

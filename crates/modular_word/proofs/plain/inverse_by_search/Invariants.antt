@@ -1,3 +1,4 @@
+-- No number tried so far is the inverse.
 use Rattle.std.proofs.Common.{◌≡◌, ℕ, ◌*◌, ◌%◌, ◌<◌}
 use Rattle.modular_word.proofs.plain.inverse_by_search.Given as goal
 

@@ -1,3 +1,4 @@
+-- After some factors, their product modulo m.
 use Rattle.std.proofs.Common.{◌≡◌, ◌%◌, ◌^◌}
 use Rattle.modular_word.proofs.plain.power_of.Given as goal
 

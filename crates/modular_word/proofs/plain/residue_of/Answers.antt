@@ -1,3 +1,4 @@
+-- The computing form is the residue, and no other number is.
 use Rattle.std.proofs.Common.{rules, ◌≡◌, sym, ◌∙◌}
 use Rattle.modular_word.specs.Residues.{residue}
 use Rattle.modular_word.proofs.ResidueLemmas.{residue_is, residue_unique}

@@ -1,3 +1,4 @@
+-- The mask keeps the low bits.
 use Rattle.modular_word.proofs.Shifts.{mask_keeps}
 use Rattle.modular_word.proofs.impls.U64PathWord.low_bits.Goals as goal
 
