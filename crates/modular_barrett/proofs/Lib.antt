@@ -1,1 +1,2 @@
 pub mod Multiplier
+pub mod ScaledLemmas

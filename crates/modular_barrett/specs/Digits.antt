@@ -1,5 +1,5 @@
 -- Binary digits of whole numbers.
-use Rattle.std.specs.Prelude.{◌≡◌, ℕ, ◌-◌, ◌*◌, ◌^◌, ◌<◌, ◌≤◌}
+use Rattle.std.specs.Prelude.{ℕ, ◌-◌, ◌^◌, ◌<◌, ◌≤◌}
 
 -- x, which is above 0, has n binary digits, of w at most
 pub record HasDigits (w x n : ℕ) : Type 0 where

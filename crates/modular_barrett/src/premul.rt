@@ -1,1 +1,157 @@
 //! The reducer whose forms are the values scaled to the top of a word.
+
+ghost use Rattle.std.specs.Prelude.{◌≡◌, ℕ, ◌+◌, ◌-◌, ◌*◌, ◌/◌, ◌%◌, ◌^◌, ◌<◌, ◌≤◌, ⊤};
+ghost use Rattle.std.specs.Int.Count.{count_leading_zeros};
+ghost use Rattle.modular_barrett.specs.Scaling.{scale, scaled_form, scaled_value, IsScaling};
+ghost use Rattle.modular_barrett.specs.ScaledForms.{scaled_canonical};
+
+use crate::normalized::{Normalized2by1Divisor, StoredDivisor};
+use modular_prim::below::{add_below, dbl_below, neg_below, sub_below};
+use modular_prim::euclid::invm;
+use modular_prim::plain_word::PlainWord;
+use modular_reduced::reducer::Reducer;
+use modular_word::path_word::PathWord;
+use modular_word::ring_word::RingWord;
+use std::alloc::AllocError;
+
+/// The reducer of a modulus from 1 up by a division of two words by one: with s the leading zeros of
+/// the modulus m, the form of a value v is v·2^s, and the divisor m·2^s, which has its top bit set.
+///
+/// Sums, differences, doubles and negatives are taken modulo m·2^s without a division; a product is
+/// one product of words and one division by the reciprocal of m·2^s.
+///
+/// Source: Möller and Granlund, "Improved division by invariant integers".
+#[derive(Debug, PartialEq, Eq)]
+pub struct PreMulInv2by1<T: PlainWord> {
+    divider: Normalized2by1Divisor<T>,
+    shift: u32,
+    pub ghost scaling: { IsScaling T.width (T.number divider.divisor / 2 ^ shift) (T.number divider.divisor) shift },
+}
+
+impl<T: PlainWord> Clone for PreMulInv2by1<T> {
+    ghost is_clone = { λ x y. y ≡ x };
+
+    ghost is_infallible = { λ _. ⊤ };
+
+    fn clone(&self) -> Result<Self, AllocError> {
+        Ok(*self)
+    }
+}
+
+impl<T: PlainWord> Copy for PreMulInv2by1<T> {}
+
+impl<T: PlainWord> PreMulInv2by1<T> {
+    /// The reducer of a modulus. Condition: it is at least 1.
+    pub fn new(m: T) -> Self
+        requires { 1 ≤ T.number m }
+        ensures { ⟦<PreMulInv2by1<T> as Reducer<T>>⟧.modulus result ≡ T.number m }
+    {
+        let shift = m.leading_zeros();
+        PreMulInv2by1 {
+            divider: Normalized2by1Divisor::new(m.shift_left(shift)),
+            shift,
+        }
+    }
+
+    /// The divider by the scaled modulus.
+    pub fn divider(&self) -> &Normalized2by1Divisor<T>
+        ensures { let m = ⟦<PreMulInv2by1<T> as Reducer<T>>⟧.modulus self.now in
+            ⟦<Normalized2by1Divisor<T> as StoredDivisor>⟧.divisor result.now ≡ m * scale T.width m }
+    {
+        &self.divider
+    }
+
+    /// How many leading zeros the modulus has.
+    pub fn shift(&self) -> u32
+        ensures { result ≡ count_leading_zeros T.width (⟦<PreMulInv2by1<T> as Reducer<T>>⟧.modulus self.now) }
+    {
+        self.shift
+    }
+
+    /// The scaled modulus, which has its top bit set.
+    pub fn divisor(&self) -> T
+        ensures scaled { let m = ⟦<PreMulInv2by1<T> as Reducer<T>>⟧.modulus self.now in
+            T.number result ≡ m * scale T.width m }
+        ensures top { T.base ≤ 2 * T.number result }
+    {
+        self.divider.divisor()
+    }
+}
+
+impl<T: PlainWord> Reducer<T> for PreMulInv2by1<T> {
+    ghost admits = { λ m. 1 ≤ m };
+
+    ghost form = { scaled_form T.width };
+
+    ghost value = { scaled_value T.width };
+
+    ghost modulus = { λ r. T.number r.divider.divisor / 2 ^ r.shift };
+
+    ghost admitted = { λ r. r.scaling.positive };
+
+    ghost canonical = { λ r. scaled_canonical T.width (T.number r.divider.divisor / 2 ^ r.shift) (T.number r.divider.divisor) r.shift r.scaling };
+
+    fn new(m: &T) -> Self {
+        Self::new(*m)
+    }
+
+    fn transform(&self, n: T) -> T {
+        if n.is_below(self.modulus()) {
+            n.shift_left(self.shift)
+        } else {
+            self.divider.div_rem_2by1(n.shift_left_wide(self.shift)).1
+        }
+    }
+
+    fn check(&self, f: &T) -> bool {
+        if f.is_below(self.divisor()) {
+            f.low_bits(self.shift).is_zero_word()
+        } else {
+            false
+        }
+    }
+
+    fn modulus(&self) -> T {
+        self.divisor().shift_right(self.shift)
+    }
+
+    fn residue(&self, f: T) -> T {
+        f.shift_right(self.shift)
+    }
+
+    fn is_zero(&self, f: &T) -> bool {
+        f.is_zero_word()
+    }
+
+    fn add(&self, a: &T, b: &T) -> T {
+        add_below(*a, *b, self.divisor())
+    }
+
+    fn dbl(&self, f: T) -> T {
+        dbl_below(f, self.divisor())
+    }
+
+    fn sub(&self, a: &T, b: &T) -> T {
+        sub_below(*a, *b, self.divisor())
+    }
+
+    fn neg(&self, f: T) -> T {
+        neg_below(f, self.divisor())
+    }
+
+    fn mul(&self, a: &T, b: &T) -> T {
+        let product = self.residue(*a).product(*b);
+        self.divider.div_rem_2by1(product).1
+    }
+
+    fn inv(&self, f: T) -> Option<T> {
+        match invm(self.residue(f), self.modulus()) {
+            Some(x) => Some(x.shift_left(self.shift)),
+            None => None,
+        }
+    }
+
+    fn sqr(&self, f: T) -> T {
+        self.mul(&f, &f)
+    }
+}

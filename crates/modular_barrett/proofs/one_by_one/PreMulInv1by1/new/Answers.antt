@@ -1,4 +1,4 @@
-use Rattle.std.proofs.Common.{◌≡◌, ◌+◌, ◌*◌, ◌/◌, ◌%◌, ◌^◌, ◌<◌, ◌≤◌, ap, ◌∙◌, arith}
+use Rattle.std.proofs.Common.{◌≡◌, ◌*◌, ◌/◌, ◌%◌, ap, ◌∙◌, arith}
 use Rattle.modular_barrett.proofs.Multiplier.{prepared, multiplier_fits, multiplier_is}
 use Rattle.modular_barrett.proofs.one_by_one.PreMulInv1by1.new.Goals as goal
 
