@@ -3,3 +3,4 @@ pub mod IntegerLemmas
 pub mod PowerCounts
 pub mod PowerForms
 pub mod PowerSoFar
+pub mod RingLaws

@@ -1,8 +1,8 @@
 -- The steps of a power, over any reducer's forms. Each reducer's `pow` cites these.
 use Rattle.std.proofs.Common.{◌≡◌, ◌≢◌, ℕ, ◌*◌, ◌/◌, ◌%◌, ◌^◌, sym, ◌∙◌, ap, subst}
 use Rattle.std.proofs.lemmas.Nat.{mul-mod_first}
-use Rattle.std.proofs.Math.Nat.{one-mul, mul-one, pow-zero, pow-succ', mod-eq_of_lt}
-use Rattle.modular_word.proofs.Powers.{step_odd, step_even, step_end}
+use Rattle.std.proofs.Math.Nat.{one-mul, pow-succ', mod-eq_of_lt}
+use Rattle.modular_word.proofs.Powers.{pow-one, step_odd, step_even, step_end}
 use Rattle.modular_reduced.specs.Forms.{Represents, IsForm, IsCanonical}
 use Rattle.modular_reduced.proofs.PowerSoFar.{PowerSoFar}
 use Rattle.modular_reduced.proofs.FormLemmas.{form_of_value, form_as}
@@ -40,16 +40,13 @@ power_end {form} {value} {m} {product} {power} {rest} {wanted} so_far ended =
     form_as so_far.product_form (step_end m (value m product) (value m power) rest wanted ended so_far.product_form.below so_far.work)
 
 -- a power of one factor, and of two
-one_factor : (p : ℕ) → p ^ 1 ≡ p
-one_factor p = pow-succ' p 0 ∙ ap (λ v. p * v) (pow-zero p) ∙ mul-one p
-
 two_factors : (p : ℕ) → p ^ 2 ≡ p * p
-two_factors p = pow-succ' p 1 ∙ ap (λ v. p * v) (one_factor p)
+two_factors p = pow-succ' p 1 ∙ ap (λ v. p * v) (pow-one p)
 
 pub power_of_one : {form value : ℕ → ℕ → ℕ} {m base exp : ℕ}
     → IsForm form value m base → exp ≡ 1 → Represents form m base (value m base ^ exp % m)
 power_of_one {form} {value} {m} {base} {exp} is one =
-    form_as is (sym (ap (λ e. value m base ^ e % m) one ∙ ap (λ v. v % m) (one_factor (value m base)) ∙ mod-eq_of_lt is.below))
+    form_as is (sym (ap (λ e. value m base ^ e % m) one ∙ ap (λ v. v % m) (pow-one (value m base)) ∙ mod-eq_of_lt is.below))
 
 pub power_of_two : {form : ℕ → ℕ → ℕ} {m f : ℕ} (v exp : ℕ)
     → exp ≡ 2 → Represents form m f (v * v % m) → Represents form m f (v ^ exp % m)

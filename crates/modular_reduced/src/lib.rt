@@ -3,6 +3,7 @@
 
 pub mod int;
 pub mod integer;
+pub mod laws;
 pub mod power;
 pub mod reducer;
 pub mod vanilla;

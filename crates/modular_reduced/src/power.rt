@@ -53,3 +53,9 @@ pub fn pow_counted<T: RingWord, R: Reducer<T>>(reducer: &R, base: T, exp: &T) ->
     }
     binary_power(reducer, base, *exp)
 }
+
+/// The number of binary digits of e is the least k with e below 2^k.
+pub fn digit_laws()
+    ensures above { (e : ℕ) → e < 2 ^ digits e }
+    ensures least { (e k : ℕ) → e < 2 ^ k → digits e ≤ k }
+{}

@@ -1,0 +1,113 @@
+//! The laws of rings, of the checked forms of any reducer. Each function computes both sides of a
+//! law and answers them: they are one word.
+
+ghost use Rattle.std.specs.Prelude.{◌≡◌, ℕ, ◌+◌, ◌*◌, ◌%◌, ◌↔◌, IsTrue, pos, neg_ℤ};
+ghost use Rattle.modular_word.specs.Residues.{residue};
+ghost use Rattle.modular_reduced.specs.Forms.{Represents, IsForm};
+
+use crate::reducer::Reducer;
+use modular_word::ring_word::RingWord;
+
+/// Addition is commutative: a + b and b + a.
+pub fn sums_commute<T: RingWord, R: Reducer<T>>(reducer: &R, a: T, b: T) -> (T, T)
+    requires a { IsForm R.form R.value (R.modulus reducer.now) (T.number a) }
+    requires b { IsForm R.form R.value (R.modulus reducer.now) (T.number b) }
+    ensures same { result.0 ≡ result.1 }
+    ensures left { let m = R.modulus reducer.now in
+        Represents R.form m (T.number result.0) ((R.value m (T.number a) + R.value m (T.number b)) % m) }
+    ensures right { let m = R.modulus reducer.now in
+        Represents R.form m (T.number result.1) ((R.value m (T.number b) + R.value m (T.number a)) % m) }
+{
+    (reducer.add(&a, &b), reducer.add(&b, &a))
+}
+
+/// Addition is associative: (a + b) + c and a + (b + c).
+pub fn sums_associate<T: RingWord, R: Reducer<T>>(reducer: &R, a: T, b: T, c: T) -> (T, T)
+    requires a { IsForm R.form R.value (R.modulus reducer.now) (T.number a) }
+    requires b { IsForm R.form R.value (R.modulus reducer.now) (T.number b) }
+    requires c { IsForm R.form R.value (R.modulus reducer.now) (T.number c) }
+    ensures same { result.0 ≡ result.1 }
+    ensures left { let m = R.modulus reducer.now in let v = R.value m in
+        Represents R.form m (T.number result.0) (((v (T.number a) + v (T.number b)) % m + v (T.number c)) % m) }
+    ensures right { let m = R.modulus reducer.now in let v = R.value m in
+        Represents R.form m (T.number result.1) ((v (T.number a) + (v (T.number b) + v (T.number c)) % m) % m) }
+{
+    let left = reducer.add(&reducer.add(&a, &b), &c);
+    let right = reducer.add(&a, &reducer.add(&b, &c));
+    (left, right)
+}
+
+/// Multiplication is commutative: a b and b a.
+pub fn products_commute<T: RingWord, R: Reducer<T>>(reducer: &R, a: T, b: T) -> (T, T)
+    requires a { IsForm R.form R.value (R.modulus reducer.now) (T.number a) }
+    requires b { IsForm R.form R.value (R.modulus reducer.now) (T.number b) }
+    ensures same { result.0 ≡ result.1 }
+    ensures left { let m = R.modulus reducer.now in
+        Represents R.form m (T.number result.0) ((R.value m (T.number a) * R.value m (T.number b)) % m) }
+    ensures right { let m = R.modulus reducer.now in
+        Represents R.form m (T.number result.1) ((R.value m (T.number b) * R.value m (T.number a)) % m) }
+{
+    (reducer.mul(&a, &b), reducer.mul(&b, &a))
+}
+
+/// Multiplication is associative: (a b) c and a (b c).
+pub fn products_associate<T: RingWord, R: Reducer<T>>(reducer: &R, a: T, b: T, c: T) -> (T, T)
+    requires a { IsForm R.form R.value (R.modulus reducer.now) (T.number a) }
+    requires b { IsForm R.form R.value (R.modulus reducer.now) (T.number b) }
+    requires c { IsForm R.form R.value (R.modulus reducer.now) (T.number c) }
+    ensures same { result.0 ≡ result.1 }
+    ensures left { let m = R.modulus reducer.now in let v = R.value m in
+        Represents R.form m (T.number result.0) (((v (T.number a) * v (T.number b)) % m * v (T.number c)) % m) }
+    ensures right { let m = R.modulus reducer.now in let v = R.value m in
+        Represents R.form m (T.number result.1) ((v (T.number a) * ((v (T.number b) * v (T.number c)) % m)) % m) }
+{
+    let left = reducer.mul(&reducer.mul(&a, &b), &c);
+    let right = reducer.mul(&a, &reducer.mul(&b, &c));
+    (left, right)
+}
+
+/// Multiplication distributes over addition: a (b + c) and a b + a c.
+pub fn products_distribute<T: RingWord, R: Reducer<T>>(reducer: &R, a: T, b: T, c: T) -> (T, T)
+    requires a { IsForm R.form R.value (R.modulus reducer.now) (T.number a) }
+    requires b { IsForm R.form R.value (R.modulus reducer.now) (T.number b) }
+    requires c { IsForm R.form R.value (R.modulus reducer.now) (T.number c) }
+    ensures same { result.0 ≡ result.1 }
+    ensures left { let m = R.modulus reducer.now in let v = R.value m in
+        Represents R.form m (T.number result.0) ((v (T.number a) * ((v (T.number b) + v (T.number c)) % m)) % m) }
+    ensures right { let m = R.modulus reducer.now in let v = R.value m in
+        Represents R.form m (T.number result.1)
+        (((v (T.number a) * v (T.number b)) % m + (v (T.number a) * v (T.number c)) % m) % m) }
+{
+    let left = reducer.mul(&a, &reducer.add(&b, &c));
+    let right = reducer.add(&reducer.mul(&a, &b), &reducer.mul(&a, &c));
+    (left, right)
+}
+
+/// The negative is the additive inverse: -a, and a + (-a), which is the form of 0.
+pub fn negative_cancels<T: RingWord, R: Reducer<T>>(reducer: &R, a: T) -> (T, T)
+    requires { IsForm R.form R.value (R.modulus reducer.now) (T.number a) }
+    ensures negative { let m = R.modulus reducer.now in
+        Represents R.form m (T.number result.0) (residue m (neg_ℤ (pos (R.value m (T.number a))))) }
+    ensures zero { Represents R.form (R.modulus reducer.now) (T.number result.1) 0 }
+{
+    let negative = reducer.neg(a);
+    (negative, reducer.add(&a, &negative))
+}
+
+/// n mod m, by way of its form.
+pub fn residue_by_form<T: RingWord, R: Reducer<T>>(reducer: &R, n: T) -> T
+    ensures { T.number result ≡ T.number n % R.modulus reducer.now }
+{
+    reducer.residue(reducer.transform(n))
+}
+
+/// Whether the values of two checked forms are equal: exactly where the forms are one word.
+pub fn same_value<T: RingWord, R: Reducer<T>>(reducer: &R, a: T, b: T) -> bool
+    requires a { IsForm R.form R.value (R.modulus reducer.now) (T.number a) }
+    requires b { IsForm R.form R.value (R.modulus reducer.now) (T.number b) }
+    ensures value { let m = R.modulus reducer.now in
+        IsTrue result ↔ (R.value m (T.number a) ≡ R.value m (T.number b)) }
+    ensures word { IsTrue result ↔ (a ≡ b) }
+{
+    reducer.residue(a) == reducer.residue(b)
+}
