@@ -1,9 +1,10 @@
 -- Sums over a range: of f 0, .., f (n - 1), and of f 1, .., f h.
-use Rattle.std.proofs.Common.{◌≡◌, ℕ, zero, suc, ◌+◌, ◌-◌, ◌*◌, ◌%◌, ◌<◌, ◌≤◌, cond, eqb, sym, ◌∙◌, ap, refl, arith, ⊎_elim, ◌≢◌, ◌⊎◌}
+use Rattle.std.proofs.Common.{Bool, true, false, ◌≡◌, ℕ, zero, suc, ◌+◌, ◌-◌, ◌*◌, ◌%◌, ◌<◌, ◌≤◌, cond, eqb, sym, ◌∙◌, ap, refl, arith, ⊎_elim, ◌≢◌, ◌⊎◌}
 use Rattle.std.proofs.lemmas.Bool.Decides.{nat_tests}
 use Rattle.std.proofs.Math.Nat.{add-zero, mul-zero}
 use Rattle.modular_word.specs.Congruence.{Congruent}
-use Rattle.modular_word.specs.Sums.{sum_below, sum_to, Permutes}
+use Rattle.std.proofs.Math.Bool.{not}
+use Rattle.modular_word.specs.Sums.{sum_below, sum_to, count_to, Permutes}
 use Rattle.modular_word.proofs.Congruence.{itself, added}
 
 pub sum_to-zero : (f : ℕ → ℕ) → sum_to f 0 ≡ 0
@@ -283,3 +284,13 @@ pub sum_to-from_below : (f : ℕ → ℕ) (h : ℕ) → sum_to f h ≡ sum_below
 unfolding sum_to sum_below
 sum_to-from_below f zero = refl
 sum_to-from_below f (suc h) = let i = sum_to-from_below f h in omega arith
+
+count_more : (t : Bool) (a b h : ℕ) → a + b ≡ h → (a + cond t 1 0) + (b + cond (not t) 1 0) ≡ suc h
+count_more true a b h e = omega arith
+count_more false a b h e = omega arith
+
+-- the numbers that pass a test and those that fail it
+pub count_to-parts : (p : ℕ → Bool) (h : ℕ) → count_to p h + count_to (λ x. not (p x)) h ≡ h
+unfolding sum_to
+count_to-parts p zero = refl
+count_to-parts p (suc h) = count_more (p (suc h)) (count_to p h) (count_to (λ x. not (p x)) h) h (count_to-parts p h)

@@ -1,11 +1,11 @@
 //! Laws of whole numbers that the proofs of every crate rest on, as contracts of calls that do
 //! nothing: congruence, powers, inverses, sums over a range.
 
-ghost use Rattle.std.specs.Prelude.{◌≡◌, ℕ, suc, ◌+◌, ◌-◌, ◌*◌, ◌%◌, ◌^◌, ◌<◌, ◌≤◌, ◌↔◌, Some};
+ghost use Rattle.std.specs.Prelude.{◌≡◌, ℕ, suc, ◌+◌, ◌-◌, ◌*◌, ◌%◌, ◌^◌, ◌<◌, ◌≤◌, ◌↔◌, Some, Bool, not};
 ghost use Rattle.modular_word.specs.Congruence.{Congruent};
 ghost use Rattle.modular_word.specs.Divisors.{Coprime, gcd};
 ghost use Rattle.modular_word.specs.Inverses.{IsInverse, IsInversion, HasInverse, inverse_of};
-ghost use Rattle.modular_word.specs.Sums.{sum_below, sum_to, Permutes};
+ghost use Rattle.modular_word.specs.Sums.{sum_below, sum_to, count_to, Permutes};
 
 use crate::path_word::PathWord;
 
@@ -20,7 +20,7 @@ pub fn base_laws<T: PathWord>()
 
 /// Congruence modulo m is kept by sums, products and powers, and a factor with an inverse cancels.
 ///
-/// Source: Gauss, Disquisitiones Arithmeticae, articles 6 to 10.
+/// Source: Gauss, Disquisitiones Arithmeticae, articles 6 to 8 and 22.
 pub fn congruence_laws()
     ensures sums { (m a b c d : ℕ) → Congruent m a b → Congruent m c d → Congruent m (a + c) (b + d) }
     ensures products { (m a b c d : ℕ) → Congruent m a b → Congruent m c d → Congruent m (a * c) (b * d) }
@@ -46,16 +46,20 @@ pub fn inverse_laws()
     ensures found { (m a x : ℕ) → IsInverse m a x → inverse_of m a ≡ Some x }
 {}
 
-/// Euclid's lemma: a number coprime to n is cancelled from a multiple of n. (Euclid, Elements,
-/// book VII, proposition 30.)
+/// Euclid's lemma: a number coprime to n is cancelled from a multiple of n.
+///
+/// Source: Euclid, Elements, book VII, proposition 30 (there for a prime n).
 pub fn euclids_lemma()
     ensures { (a n x : ℕ) → 0 < n → Coprime a n → (a * x) % n ≡ 0 → x % n ≡ 0 }
 {}
 
-/// Two sums exchange, and a sum over a range is the same with its terms permuted or reversed.
+/// Two sums exchange, a sum over a range is the same with its terms permuted or reversed, terms of
+/// equal parities have sums of equal parities, and each number of a range passes a test or fails it.
 pub fn sum_laws()
     ensures exchanged { (f : ℕ → ℕ → ℕ) (h k : ℕ) → sum_to (λ x. sum_to (λ y. f x y) k) h ≡ sum_to (λ y. sum_to (λ x. f x y) h) k }
     ensures permuted { (f g : ℕ → ℕ) (h : ℕ) → Permutes f h → sum_to (λ x. g (f x)) h ≡ sum_to g h }
     ensures reversed { (g : ℕ → ℕ) (h : ℕ) → sum_to (λ x. g (suc h - x)) h ≡ sum_to g h }
+    ensures parity { (f g : ℕ → ℕ) (h : ℕ) → ((x : ℕ) → 0 < x → x ≤ h → f x % 2 ≡ g x % 2) → sum_to f h % 2 ≡ sum_to g h % 2 }
+    ensures counted { (p : ℕ → Bool) (h : ℕ) → count_to p h + count_to (λ x. not (p x)) h ≡ h }
     ensures from_zero { (f : ℕ → ℕ) (h : ℕ) → sum_to f h ≡ sum_below h (λ x. f (suc x)) }
 {}
