@@ -26,7 +26,7 @@ impl<T: PlainWord> Montgomery<T> {
         ensures { ⟦<Montgomery<T> as Reducer<T>>⟧.modulus result ≡ T.number m }
     {
         Montgomery {
-            ring: OddRing::new(m),
+            ring: OddRing::new(&m),
         }
     }
 }
@@ -38,7 +38,7 @@ impl<T: PlainWord> Reducer<T> for Montgomery<T> {
 
     ghost value = { montgomery_value T.width };
 
-    ghost modulus = { λ r. T.number r.ring.modulus };
+    ghost modulus = { λ r. ⟦<OddRing<T> as Reducer<T>>⟧.modulus r.ring };
 
     ghost admitted = { λ r. r.ring.ring.odd };
 
@@ -57,7 +57,7 @@ impl<T: PlainWord> Reducer<T> for Montgomery<T> {
     }
 
     fn modulus(&self) -> T {
-        self.ring.modulus
+        self.ring.modulus()
     }
 
     fn residue(&self, f: T) -> T {
@@ -93,6 +93,9 @@ impl<T: PlainWord> Reducer<T> for Montgomery<T> {
     }
 
     fn sqr(&self, f: T) -> T {
-        self.ring.mul(&f, &f)
+        self.ring.sqr(f)
     }
 }
+
+#[cfg(test)]
+mod tests;

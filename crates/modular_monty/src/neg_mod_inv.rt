@@ -29,3 +29,6 @@ pub fn neginv<T: PathWord>(m: T) -> T
     }
     T::zero().wrapping_sub(inverse)
 }
+
+#[cfg(test)]
+mod tests;

@@ -1,15 +1,15 @@
-//! Montgomery's arithmetic modulo an odd number, which the reducers of this crate share.
+//! The reducer of an odd modulus by Montgomery's representation, which the public ones rest on.
 
-ghost use Rattle.std.specs.Prelude.{◌≡◌, ℕ, ◌+◌, ◌*◌, ◌%◌, ◌^◌, ◌<◌, ◌↔◌, IsTrue, pos, ◌-ℤ◌, neg_ℤ, ⊤};
-ghost use Rattle.modular_word.specs.Residues.{residue};
+ghost use Rattle.std.specs.Prelude.{◌≡◌, ℕ, ◌*◌, ◌%◌, ◌<◌, ⊤};
 ghost use Rattle.modular_word.specs.Reduction.{IsReduction};
-ghost use Rattle.modular_reduced.specs.Forms.{Represents, IsForm, IsInverseForm};
 ghost use Rattle.modular_monty.specs.Montgomery.{montgomery_form, montgomery_value, IsOddRing};
+ghost use Rattle.modular_monty.specs.MontgomeryLaws.{montgomery_canonical};
 
 use crate::neg_mod_inv::neginv;
 use modular_prim::below::{add_below, dbl_below, neg_below, sub_below};
 use modular_prim::euclid::invm;
 use modular_prim::plain_word::PlainWord;
+use modular_reduced::reducer::Reducer;
 use modular_word::path_word::PathWord;
 use modular_word::paths::redc;
 use modular_word::ring_word::RingWord;
@@ -19,9 +19,9 @@ use std::alloc::AllocError;
 // square of the base modulo it.
 #[derive(Debug)]
 pub(crate) struct OddRing<T: PlainWord> {
-    pub(crate) modulus: T,
-    pub(crate) negated_inverse: T,
-    pub(crate) square: T,
+    modulus: T,
+    negated_inverse: T,
+    square: T,
     ghost ring: { IsOddRing T.width T.base (T.number modulus) (T.number negated_inverse) (T.number square) },
     ghost square_below: { T.number square < T.number modulus },
 }
@@ -39,10 +39,30 @@ impl<T: PlainWord> Clone for OddRing<T> {
 impl<T: PlainWord> Copy for OddRing<T> {}
 
 impl<T: PlainWord> OddRing<T> {
-    pub(crate) fn new(modulus: T) -> Self
-        requires { T.number modulus % 2 ≡ 1 }
-        ensures { result.modulus ≡ modulus }
+    // Montgomery's reduction.
+    fn reduce(&self, t: T::Double) -> T
+        requires { T.whole t < T.base * T.number self.now.modulus }
+        ensures { IsReduction T.base (T.number self.now.modulus) (T.whole t) (T.number result) }
     {
+        redc(self.modulus, self.negated_inverse, t)
+    }
+}
+
+impl<T: PlainWord> Reducer<T> for OddRing<T> {
+    ghost admits = { λ m. m % 2 ≡ 1 };
+
+    ghost form = { montgomery_form T.width };
+
+    ghost value = { montgomery_value T.width };
+
+    ghost modulus = { λ r. T.number r.modulus };
+
+    ghost admitted = { λ r. r.ring.odd };
+
+    ghost canonical = { λ r. montgomery_canonical r.ring };
+
+    fn new(m: &T) -> Self {
+        let modulus = *m;
         let negated_inverse = neginv(modulus);
         let base = T::narrow_remainder(T::merge(T::zero(), T::one()), modulus);
         let square = T::narrow_remainder(base.product(base), modulus);
@@ -53,104 +73,59 @@ impl<T: PlainWord> OddRing<T> {
         }
     }
 
-    // Montgomery's reduction.
-    fn reduce(&self, t: T::Double) -> T
-        requires { T.whole t < T.base * T.number self.now.modulus }
-        ensures { IsReduction T.base (T.number self.now.modulus) (T.whole t) (T.number result) }
-    {
-        redc(self.modulus, self.negated_inverse, t)
-    }
-
-    // A product and a reduction: cheaper than the division of a double word.
-    pub(crate) fn transform(&self, n: T) -> T
-        ensures { let m = T.number self.now.modulus in
-            Represents (montgomery_form T.width) m (T.number result) (T.number n % m) }
-    {
+    // A product and a reduction, which are cheaper than the division of a double word.
+    fn transform(&self, n: T) -> T {
         if n.is_zero_word() {
             return n;
         }
         self.reduce(n.product(self.square))
     }
 
-    pub(crate) fn check(&self, f: &T) -> bool
-        ensures { IsTrue result
-            ↔ IsForm (montgomery_form T.width) (montgomery_value T.width) (T.number self.now.modulus) (T.number f.now) }
-    {
+    fn check(&self, f: &T) -> bool {
         f.is_below(self.modulus)
     }
 
-    pub(crate) fn residue(&self, f: T) -> T
-        requires { IsForm (montgomery_form T.width) (montgomery_value T.width) (T.number self.now.modulus) (T.number f) }
-        ensures { Represents (montgomery_form T.width) (T.number self.now.modulus) (T.number f) (T.number result) }
-    {
+    fn modulus(&self) -> T {
+        self.modulus
+    }
+
+    fn residue(&self, f: T) -> T {
         self.reduce(T::merge(f, T::zero()))
     }
 
-    pub(crate) fn is_zero(&self, f: &T) -> bool
-        requires { IsForm (montgomery_form T.width) (montgomery_value T.width) (T.number self.now.modulus) (T.number f.now) }
-        ensures { IsTrue result ↔ (montgomery_value T.width (T.number self.now.modulus) (T.number f.now) ≡ 0) }
-    {
+    fn is_zero(&self, f: &T) -> bool {
         f.is_zero_word()
     }
 
-    pub(crate) fn add(&self, a: &T, b: &T) -> T
-        requires left { IsForm (montgomery_form T.width) (montgomery_value T.width) (T.number self.now.modulus) (T.number a.now) }
-        requires right { IsForm (montgomery_form T.width) (montgomery_value T.width) (T.number self.now.modulus) (T.number b.now) }
-        ensures { let m = T.number self.now.modulus in
-            let value = montgomery_value T.width m in
-            Represents (montgomery_form T.width) m (T.number result) ((value (T.number a.now) + value (T.number b.now)) % m) }
-    {
+    fn add(&self, a: &T, b: &T) -> T {
         add_below(*a, *b, self.modulus)
     }
 
-    pub(crate) fn dbl(&self, f: T) -> T
-        requires { IsForm (montgomery_form T.width) (montgomery_value T.width) (T.number self.now.modulus) (T.number f) }
-        ensures { let m = T.number self.now.modulus in
-            let value = montgomery_value T.width m in
-            Represents (montgomery_form T.width) m (T.number result) ((2 * value (T.number f)) % m) }
-    {
+    fn dbl(&self, f: T) -> T {
         dbl_below(f, self.modulus)
     }
 
-    pub(crate) fn sub(&self, a: &T, b: &T) -> T
-        requires left { IsForm (montgomery_form T.width) (montgomery_value T.width) (T.number self.now.modulus) (T.number a.now) }
-        requires right { IsForm (montgomery_form T.width) (montgomery_value T.width) (T.number self.now.modulus) (T.number b.now) }
-        ensures { let m = T.number self.now.modulus in
-            let value = montgomery_value T.width m in
-            Represents (montgomery_form T.width) m (T.number result)
-            (residue m (pos (value (T.number a.now)) -ℤ pos (value (T.number b.now)))) }
-    {
+    fn sub(&self, a: &T, b: &T) -> T {
         sub_below(*a, *b, self.modulus)
     }
 
-    pub(crate) fn neg(&self, f: T) -> T
-        requires { IsForm (montgomery_form T.width) (montgomery_value T.width) (T.number self.now.modulus) (T.number f) }
-        ensures { let m = T.number self.now.modulus in
-            let value = montgomery_value T.width m in
-            Represents (montgomery_form T.width) m (T.number result) (residue m (neg_ℤ (pos (value (T.number f))))) }
-    {
+    fn neg(&self, f: T) -> T {
         neg_below(f, self.modulus)
     }
 
-    pub(crate) fn mul(&self, a: &T, b: &T) -> T
-        requires left { IsForm (montgomery_form T.width) (montgomery_value T.width) (T.number self.now.modulus) (T.number a.now) }
-        requires right { IsForm (montgomery_form T.width) (montgomery_value T.width) (T.number self.now.modulus) (T.number b.now) }
-        ensures { let m = T.number self.now.modulus in
-            let value = montgomery_value T.width m in
-            Represents (montgomery_form T.width) m (T.number result) ((value (T.number a.now) * value (T.number b.now)) % m) }
-    {
+    fn mul(&self, a: &T, b: &T) -> T {
         self.reduce(a.product(*b))
     }
 
     // Through the value: its inverse by Euclid's algorithm, and the form of that.
-    pub(crate) fn inv(&self, f: T) -> Option<T>
-        requires { IsForm (montgomery_form T.width) (montgomery_value T.width) (T.number self.now.modulus) (T.number f) }
-        ensures { let m = T.number self.now.modulus in
-            IsInverseForm T.number (montgomery_form T.width) m (montgomery_value T.width m (T.number f)) result }
-    {
+    fn inv(&self, f: T) -> Option<T> {
         match invm(self.residue(f), self.modulus) {
             Some(x) => Some(self.transform(x)),
             None => None,
         }
+    }
+
+    fn sqr(&self, f: T) -> T {
+        self.mul(&f, &f)
     }
 }

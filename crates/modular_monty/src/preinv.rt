@@ -9,20 +9,23 @@ use modular_prim::plain_word::PlainWord;
 use modular_word::path_word::PathWord;
 use modular_word::paths::{exact_1, exact_2, ones};
 
-/// What contracts see of a prepared inverse: the two numbers that it holds.
+/// What contracts see of a prepared inverse.
 pub trait PreparedInverse {
-    // The inverse of the divisor.
+    // The stored inverse of a divisor.
     ghost inverse: { Self → ℕ };
 
-    // The greatest quotient of a word by the divisor.
+    // The stored limit of the quotients by a divisor.
     ghost limit: { Self → ℕ };
+
+    // `fits d`: the two are the inverse of d modulo the base and the greatest quotient of a word by d.
+    ghost fits: { ℕ → Self → Type 0 };
 }
 
 /// The inverse of an odd divisor modulo the base, and the greatest quotient of a word by it.
 ///
-/// It fits the divisor d where d * d_inv is 1 modulo the base and q_lim is the greatest word
-/// divided by d, rounded down. The type itself promises nothing of its numbers: a division by d
-/// asks that they fit d.
+/// The two numbers fit a divisor d where d * d_inv is 1 modulo the base and q_lim is the greatest
+/// word divided by d, rounded down. The type itself promises nothing of them: a division by d asks
+/// that they fit d.
 ///
 /// Source: Granlund and Montgomery, "Division by invariant integers using multiplication",
 /// section 9.
@@ -36,6 +39,8 @@ impl<T: PathWord> PreparedInverse for PreModInv<T> {
     ghost inverse = { λ pre. T.number pre.d_inv };
 
     ghost limit = { λ pre. T.number pre.q_lim };
+
+    ghost fits = { λ d pre. IsExactDivisor T.base d (T.number pre.d_inv) (T.number pre.q_lim) };
 }
 
 impl<T: PathWord> PreModInv<T> {
@@ -52,19 +57,17 @@ impl<T: PlainWord> PreModInv<T> {
     /// What fits the divisor d. Condition: d is odd.
     pub fn from(d: T) -> Self
         requires { T.number d % 2 ≡ 1 }
-        ensures { let pre = ⟦<PreModInv<T> as PreparedInverse>⟧ in
-            IsExactDivisor T.base (T.number d) (pre.inverse result) (pre.limit result) }
+        ensures { ⟦<PreModInv<T> as PreparedInverse>⟧.fits (T.number d) result }
     {
         let d_inv = T::zero().wrapping_sub(neginv(d));
         let q_lim = ones::<T>(T::bits()).quotient(d);
-        PreModInv { d_inv, q_lim }
+        PreModInv::new(d_inv, q_lim)
     }
 }
 
 // The quotient of a word; `None` exactly where d doesn't divide it.
 fn word_quotient<T: PathWord>(n: T, d: T, pre: &PreModInv<T>) -> Option<T>
-    requires { let p = ⟦<PreModInv<T> as PreparedInverse>⟧ in
-        IsExactDivisor T.base (T.number d) (p.inverse pre.now) (p.limit pre.now) }
+    requires { ⟦<PreModInv<T> as PreparedInverse>⟧.fits (T.number d) pre.now }
     ensures { IsExactQuotient T.number (T.number n) (T.number d) result }
 {
     exact_1(d, pre.d_inv, pre.q_lim, n)
@@ -72,9 +75,11 @@ fn word_quotient<T: PathWord>(n: T, d: T, pre: &PreModInv<T>) -> Option<T>
 
 // The quotient of a double word; `None` exactly where d doesn't divide it.
 fn double_quotient<T: PathWord>(n: T::Double, d: T, pre: &PreModInv<T>) -> Option<T::Double>
-    requires { let p = ⟦<PreModInv<T> as PreparedInverse>⟧ in
-        IsExactDivisor T.base (T.number d) (p.inverse pre.now) (p.limit pre.now) }
+    requires { ⟦<PreModInv<T> as PreparedInverse>⟧.fits (T.number d) pre.now }
     ensures { IsExactQuotient T.whole (T.whole n) (T.number d) result }
 {
     exact_2(d, pre.d_inv, pre.q_lim, n)
 }
+
+#[cfg(test)]
+mod tests;

@@ -1,4 +1,4 @@
-use Rattle.std.proofs.Common.{◌≡◌, ◌-◌, ◌/◌, ◌^◌, ap, ◌∙◌, arith}
+use Rattle.std.proofs.Common.{◌≡◌, ◌-◌, ◌*◌, ◌/◌, ◌%◌, ◌^◌, ap, ◌∙◌, arith}
 use Rattle.modular_monty.proofs.NegatedInverses.{base_above_two, inverse_of_negated}
 use Rattle.modular_monty.proofs.preinv.PreModInv.from.Goals as goal
 
@@ -9,6 +9,6 @@ returns g c =
     let many = base_above_two g.T.RingWord.width b g.met.T.PathWord.base_is g.met.T.RingWord.width_from in
     let greatest : n c.ones.result ≡ b - 1 = omega (arith, c.ones.ensures ∙ ap (λ v. 2 ^ v) c.bits.ensures, g.met.T.PathWord.base_is) in
     record {
-      unit = inverse_of_negated b (n c.args.d) (n c.neginv.result) (n c.wrapping_sub-d_inv.result) (omega (arith, many)) c.neginv.ensures (c.wrapping_sub-d_inv.ensures.value ∙ c.zero.ensures);
-      greatest = c.quotient-q_lim.ensures ∙ ap (λ v. v / n c.args.d) greatest;
+      unit = ap (λ v. (n c.args.d * v) % b) c.new.ensures.inverse ∙ inverse_of_negated b (n c.args.d) (n c.neginv.result) (n c.wrapping_sub-d_inv.result) (omega (arith, many)) c.neginv.ensures (c.wrapping_sub-d_inv.ensures.value ∙ c.zero.ensures);
+      greatest = c.new.ensures.limit ∙ c.quotient-q_lim.ensures ∙ ap (λ v. v / n c.args.d) greatest;
     }

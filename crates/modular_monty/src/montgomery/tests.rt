@@ -1,0 +1,128 @@
+//! Rows of the reducer, and comparisons with plain remainders.
+
+ghost use Rattle.std.specs.Prelude.{◌≤◌};
+
+use super::Montgomery;
+use modular_reduced::reducer::Reducer;
+use modular_word::ring_word::RingWord;
+use std::test::Fail;
+
+// The residue of a product.
+fn product<T: RingWord, R: Reducer<T>>(ring: &R, x: T, y: T) -> T {
+    ring.residue(ring.mul(&ring.transform(x), &ring.transform(y)))
+}
+
+// Whether a sum is 0.
+fn sum_is_zero<T: RingWord, R: Reducer<T>>(ring: &R, x: T, y: T) -> bool {
+    ring.is_zero(&ring.add(&ring.transform(x), &ring.transform(y)))
+}
+
+// The form of an inverse.
+fn inverse<T: RingWord, R: Reducer<T>>(ring: &R, x: T) -> Option<T> {
+    ring.inv(ring.transform(x))
+}
+
+// The residues of a sum, a difference, a product, a double, a negative and a square.
+fn residues<R: Reducer<u8>>(ring: &R, x: u8, y: u8) -> (u8, u8, u8, u8, u8, u8) {
+    let a = ring.transform(x);
+    let b = ring.transform(y);
+    (
+        ring.residue(ring.add(&a, &b)),
+        ring.residue(ring.sub(&a, &b)),
+        ring.residue(ring.mul(&a, &b)),
+        ring.residue(ring.dbl(a)),
+        ring.residue(ring.neg(a)),
+        ring.residue(ring.sqr(a)),
+    )
+}
+
+// The same by plain remainders.
+fn remainders(m: u8, x: u8, y: u8) -> (u8, u8, u8, u8, u8, u8)
+    requires { 1 ≤ m }
+{
+    let (n, a, b) = (m as u16, x as u16, y as u16);
+    (
+        ((a + b) % n) as u8,
+        ((a + (n - b % n)) % n) as u8,
+        (a * b % n) as u8,
+        (2 * a % n) as u8,
+        ((n - a % n) % n) as u8,
+        (a * a % n) as u8,
+    )
+}
+
+// The forms of v, of its square, its double, its inverse and a power, and their residues.
+fn registers<R: Reducer<u8>>(ring: &R, v: u8, exp: u8) -> ([u8; 5], [u8; 5]) {
+    let load = ring.transform(v);
+    let square = ring.mul(&load, &load);
+    let double = ring.add(&load, &load);
+    let power = ring.pow(load, &exp);
+    let inverse = match ring.inv(load) {
+        Some(x) => x,
+        None => load,
+    };
+    (
+        [load, square, double, inverse, power],
+        [
+            ring.residue(load),
+            ring.residue(square),
+            ring.residue(double),
+            ring.residue(inverse),
+            ring.residue(power),
+        ],
+    )
+}
+
+#[test]
+fn rows(rt: HostRuntime) -> Result<(), Fail> {
+    let ring = Montgomery::<u8>::new(21);
+    assert_eq!(rt;
+        (ring.transform(5), ring.transform(7), ring.transform(17)),
+        (20, 7, 5)
+    );
+    let ring = Montgomery::<u8>::new(1);
+    assert_eq!(rt; ring.transform(255), 0);
+    assert_eq!(rt; inverse(&ring, 255) == Some(0), true);
+    let ring = Montgomery::<u64>::new(18446744073709551615);
+    assert_eq!(rt;
+        product(&ring, 18446744073709551614, 18446744073709551614),
+        1
+    );
+    assert_eq!(rt; sum_is_zero(&Montgomery::<u8>::new(11), 5, 6), true);
+    assert_eq!(rt; sum_is_zero(&Montgomery::<u8>::new(11), 5, 7), false);
+    assert_eq!(rt; product(&Montgomery::<u8>::new(5), 12, 13), 1);
+    assert_eq!(rt; product(&Montgomery::<u16>::new(65535), 65534, 65533), 2);
+    assert_eq!(rt;
+        product(&Montgomery::<u32>::new(4294967295), 4294967294, 4294967293),
+        2
+    );
+    assert_eq!(rt; product(&Montgomery::<usize>::new(3), 5, 7), 2);
+    Ok(())
+}
+
+#[test]
+fn five_registers(rt: HostRuntime) -> Result<(), Fail> {
+    let (forms, values) = registers(&Montgomery::<u8>::new(255), 254, 255);
+    assert_eq!(rt; forms, [254, 1, 253, 254, 254]);
+    assert_eq!(rt; values, [254, 1, 253, 254, 254]);
+    let (forms, values) = registers(&Montgomery::<u8>::new(253), 252, 255);
+    assert_eq!(rt; forms, [250, 3, 247, 250, 250]);
+    assert_eq!(rt; values, [252, 1, 251, 252, 252]);
+    Ok(())
+}
+
+#[test]
+fn each_odd_modulus(rt: HostRuntime) -> Result<(), Fail> {
+    for half in 0..128 {
+        let m: u8 = 2 * half + 1;
+        let ring = Montgomery::<u8>::new(m);
+        assert_eq!(rt; ring.modulus(), m);
+        for x in [0, 1, 2, 84, 127, 128, 254, 255] {
+            assert_eq!(rt; ring.check(&x), x < m);
+            for y in [0, 1, 3, 85, 126, 129, 253, 255] {
+                assert_eq!(rt; residues(&ring, x, y), remainders(m, x, y));
+            }
+        }
+    }
+    Ok(())
+}
