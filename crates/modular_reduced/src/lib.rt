@@ -6,4 +6,6 @@ pub mod integer;
 pub mod laws;
 pub mod power;
 pub mod reducer;
+#[cfg(test)]
+mod tests;
 pub mod vanilla;
