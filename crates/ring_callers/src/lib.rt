@@ -59,7 +59,22 @@ pub fn run_both<T: RingWord, U: RingWord, R: Reducer<T>, S: Reducer<U>>(
     requires one_start { values_of T.number R.value (R.modulus left.now) left_regs.old
         ≡ values_of U.number S.value (S.modulus right.now) right_regs.old }
     requires one_list { map (whole T.number) left_commands.now ≡ map (whole U.number) right_commands.now }
+
+    // The left run is what `run` promises ..
+    ensures stops { let m = R.modulus left.now in
+        let start = values_of T.number R.value m left_regs.old in
+        (at : ℕ) → (result.0 ≡ RunEnd.NoInverse at) ↔ IsStop m start (map (whole T.number) left_commands.now) at }
+    ensures done { let m = R.modulus left.now in
+        let start = values_of T.number R.value m left_regs.old in
+        (result.0 ≡ RunEnd.Done) ↔ ((at : ℕ) → IsStop m start (map (whole T.number) left_commands.now) at → ⊥) }
+    ensures left_values { let m = R.modulus left.now in
+        let start = values_of T.number R.value m left_regs.old in
+        let wholes = map (whole T.number) left_commands.now in
+        HoldValues T.number R.form m left_regs.new (value_at m start wholes (carried_out result.0 wholes)) }
+
+    // .. and the right run ends alike, with checked forms of the same residues.
     ensures one_end { result.0 ≡ result.1 }
+    ensures right_checked { All (λ f. IsForm S.form S.value (S.modulus right.now) (U.number f)) right_regs.new }
     ensures one_result { values_of T.number R.value (R.modulus left.now) left_regs.new
         ≡ values_of U.number S.value (S.modulus right.now) right_regs.new }
 {
