@@ -4,6 +4,7 @@ ghost use Rattle.modular_reduced.specs.Forms.{IsForm};
 ghost use Rattle.std.specs.Prelude.{◌≡◌, ⊤};
 
 use crate::reducer::Reducer;
+use crate::vanilla::Vanilla;
 use modular_word::ring_word::RingWord;
 use std::alloc::AllocError;
 
@@ -26,6 +27,9 @@ pub struct ReducedInt<T: RingWord, R: Reducer<T>> {
     reducer: R,
     ghost checked: { IsForm R.form R.value (R.modulus reducer) (T.number form) },
 }
+
+/// Integers by plain reduction: each residue is its own form.
+pub type VanillaInt<T> = ReducedInt<T, Vanilla<T>>;
 
 impl<T: RingWord, R: Reducer<T> + Copy> Copy for ReducedInt<T, R> {}
 

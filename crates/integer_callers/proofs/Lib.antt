@@ -1,0 +1,2 @@
+pub mod PolynomialLemmas
+pub mod Units
