@@ -140,8 +140,8 @@ impl<T: PlainWord> Reducer<T> for PreMulInv2by1<T> {
     }
 
     fn mul(&self, a: &T, b: &T) -> T {
-        let product = self.residue(*a).product(*b);
-        self.divider.div_rem_2by1(product).1
+        let value = self.residue(*a);
+        self.divider.div_rem_2by1(value.product(*b)).1
     }
 
     fn inv(&self, f: T) -> Option<T> {
@@ -155,3 +155,6 @@ impl<T: PlainWord> Reducer<T> for PreMulInv2by1<T> {
         self.mul(&f, &f)
     }
 }
+
+#[cfg(test)]
+mod tests;

@@ -1,0 +1,116 @@
+//! Rows that were worked by hand, and bytes against `%`.
+
+use super::*;
+
+// The operations by values, as generic code does them: what they answer for n mod m and k mod m.
+fn by_values<T: RingWord, R: Reducer<T>>(r: &R, n: T, k: T) -> [T; 6] {
+    let a = r.transform(n);
+    let b = r.transform(k);
+    [
+        r.residue(r.add(&a, &b)),
+        r.residue(r.sub(&a, &b)),
+        r.residue(r.mul(&a, &b)),
+        r.residue(r.dbl(a)),
+        r.residue(r.neg(a)),
+        r.residue(r.sqr(a)),
+    ]
+}
+
+fn value<T: RingWord, R: Reducer<T>>(r: &R, n: T) -> T {
+    r.residue(r.transform(n))
+}
+
+fn inverse<T: RingWord, R: Reducer<T>>(r: &R, n: T) -> Option<T> {
+    match r.inv(r.transform(n)) {
+        Some(f) => Some(r.residue(f)),
+        None => None,
+    }
+}
+
+fn power<T: RingWord, R: Reducer<T>>(r: &R, n: T, exp: T) -> T {
+    r.residue(r.pow(r.transform(n), &exp))
+}
+
+#[test]
+fn rows(rt: HostRuntime) {
+    let ring = PreMulInv2by1::<u8>::new(21);
+    assert_eq!(rt;
+        (ring.divisor(), ring.modulus(), ring.shift()),
+        (168, 21, 3)
+    );
+    assert_eq!(rt; ring.divider().divisor(), 168);
+    assert_eq!(rt;
+        (ring.check(&40), ring.check(&41), ring.check(&168)),
+        (true, false, false)
+    );
+    assert_eq!(rt;
+        (ring.transform(5), ring.transform(7), ring.transform(17)),
+        (40, 56, 136)
+    );
+    assert_eq!(rt; inverse(&ring, 5), Some(17));
+    assert_eq!(rt; inverse(&ring, 7), None);
+    assert_eq!(rt; ring.is_zero(&ring.transform(42)), true);
+}
+
+#[test]
+fn widest_words(rt: HostRuntime) {
+    let ring = PreMulInv2by1::<u64>::new(u64::MAX);
+    assert_eq!(rt; by_values(&ring, u64::MAX - 1, u64::MAX - 1)[2], 1);
+    let ring = PreMulInv2by1::<usize>::new(1000);
+    assert_eq!(rt; power(&ring, 2, 10), 24);
+    let ring = PreMulInv2by1::<u32>::new(5000);
+    assert_eq!(rt; inverse(&ring, 3), Some(1667));
+    let ring = PreMulInv2by1::<u16>::new(7);
+    assert_eq!(rt; power(&ring, 255, 255), 6);
+}
+
+#[test]
+fn equality_and_copies(rt: HostRuntime) {
+    let ring = PreMulInv2by1::<u8>::new(21);
+    let copy = ring;
+    assert_eq!(rt; copy == ring, true);
+    // the same divisor, of another modulus
+    assert_eq!(rt; ring == PreMulInv2by1::new(42), false);
+    assert_eq!(rt; format!(in rt.alloc(); "{ring:?}").is_ok(), true);
+}
+
+// Each modulus has as many checked forms as values.
+#[test]
+fn forms_of_every_modulus(rt: HostRuntime) {
+    for m in 1..=255u8 {
+        let ring = PreMulInv2by1::<u8>::new(m);
+        let mut forms = 0u16;
+        for f in 0..=255u8 {
+            if ring.check(&f) {
+                forms = forms.wrapping_add(1);
+            }
+            assert_eq!(rt; value(&ring, f), f % m, "{f} modulo {m}");
+        }
+        assert_eq!(rt; forms, m as u16, "{m}");
+    }
+}
+
+#[test]
+fn operations_on_bytes(rt: HostRuntime) {
+    for m in [1u8, 2, 3, 21, 127, 128, 129, 255] {
+        if m > 0 {
+            let ring = PreMulInv2by1::<u8>::new(m);
+            let modulus = m as u32;
+            for a in 0..=255u8 {
+                for b in 0..=255u8 {
+                    let (n, k) = (a as u32, b as u32);
+                    let less = (256 * modulus - k) % modulus;
+                    let want = [
+                        ((n + k) % modulus) as u8,
+                        ((n + less) % modulus) as u8,
+                        (n * k % modulus) as u8,
+                        (2 * n % modulus) as u8,
+                        ((256 * modulus - n) % modulus) as u8,
+                        (n * n % modulus) as u8,
+                    ];
+                    assert_eq!(rt; by_values(&ring, a, b), want, "{a} and {b} modulo {m}");
+                }
+            }
+        }
+    }
+}
