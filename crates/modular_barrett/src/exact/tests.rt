@@ -1,0 +1,72 @@
+//! Rows that were worked by hand, and every divisor and number of 8 bits against `/` and `%`.
+
+use super::*;
+
+#[test]
+fn rows(rt: HostRuntime) {
+    let divider = PreMulInv1by1::<u8>::new(3);
+    assert_eq!(rt; 255u8.div_exact(3, &divider), Some(85));
+    assert_eq!(rt; 254u8.div_exact(3, &divider), None);
+    let mut number = 254u8;
+    assert_eq!(rt; number.div_exact_assign(3, &divider), false);
+    assert_eq!(rt; number, 254);
+    number = 255;
+    assert_eq!(rt; number.div_exact_assign(3, &divider), true);
+    assert_eq!(rt; number, 85);
+}
+
+#[test]
+fn wider_words(rt: HostRuntime) {
+    let mut number = 65535u16;
+    assert_eq!(rt;
+        number.div_exact_assign(255, &PreMulInv1by1::<u16>::new(255)),
+        true
+    );
+    assert_eq!(rt; number, 257);
+    let mut number = u32::MAX;
+    assert_eq!(rt;
+        number.div_exact_assign(641, &PreMulInv1by1::<u32>::new(641)),
+        false
+    );
+    assert_eq!(rt; number, u32::MAX);
+    let mut number = u64::MAX;
+    assert_eq!(rt;
+        number.div_exact_assign(641, &PreMulInv1by1::<u64>::new(641)),
+        true
+    );
+    assert_eq!(rt; number, 28778071877862015);
+    let mut number = usize::MAX;
+    assert_eq!(rt;
+        number.div_exact_assign(641, &PreMulInv1by1::<usize>::new(641)),
+        true
+    );
+    assert_eq!(rt; number, 28778071877862015);
+    assert_eq!(rt;
+        65535u16.div_exact(257, &PreMulInv1by1::<u16>::new(257)),
+        Some(255)
+    );
+    assert_eq!(rt; 10u32.div_exact(5, &PreMulInv1by1::<u32>::new(5)), Some(2));
+    assert_eq!(rt; 10u64.div_exact(4, &PreMulInv1by1::<u64>::new(4)), None);
+    assert_eq!(rt;
+        10usize.div_exact(5, &PreMulInv1by1::<usize>::new(5)),
+        Some(2)
+    );
+}
+
+#[test]
+fn every_byte(rt: HostRuntime) {
+    for d in 2..=255u8 {
+        let divider = PreMulInv1by1::<u8>::new(d);
+        for n in 0..=255u8 {
+            let want = if n % d == 0 { Some(n / d) } else { None };
+            assert_eq!(rt; n.div_exact(d, &divider), want, "{n} by {d}");
+            let mut number = n;
+            assert_eq!(rt;
+                number.div_exact_assign(d, &divider),
+                want.is_some(),
+                "{n} by {d}"
+            );
+            assert_eq!(rt; number, want.unwrap_or(n), "{n} by {d}");
+        }
+    }
+}
