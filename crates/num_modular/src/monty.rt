@@ -1,0 +1,4 @@
+//! Montgomery's representation, and the negated inverse that it rests on.
+
+pub use modular_monty::montgomery::Montgomery;
+pub use modular_monty::neg_mod_inv;
