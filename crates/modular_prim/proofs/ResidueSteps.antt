@@ -1,0 +1,78 @@
+-- Residues of sums that pass the word, and of negatives.
+use Rattle.std.proofs.Common.{◌≡◌, ℕ, ℤ, suc, zero, ◌+◌, ◌-◌, ◌*◌, ◌/◌, ◌%◌, ◌<◌, ◌≤◌, pos, negsuc, neg_ℤ, ◌-ℤ◌, sym, ap, ◌∙◌, subst, refl, arith, ⊎_elim}
+use Rattle.std.proofs.Math.Nat.{mod-lt, mod-mod, mod_self, mod-eq_of_lt, div-add-mod, add-mul-mod_self_left}
+use Rattle.std.proofs.lemmas.Bool.{cases_lt}
+use Rattle.std.proofs.lemmas.Int.{ints}
+use Rattle.modular_word.proofs.Congruence.{same_rest}
+use Rattle.modular_word.specs.Residues.{residue}
+
+-- a sum of words that comes out below a summand has passed the word
+pub sum_carried : (B a b s : ℕ) → a < B → b < B → s ≡ (a + b) % B → s < b → s + B ≡ a + b
+sum_carried B a b s ha hb e h =
+    let f : B * ((a + b) / B) + (a + b) % B ≡ a + b = div-add-mod (a + b) B in
+    let carry : B ≤ a + b =
+    ⊎_elim
+    (λ (l : a + b < B). let m : (a + b) % B ≡ a + b = mod-eq_of_lt l in absurd (omega arith))
+    (λ (l : B ≤ a + b). l) (cases_lt (a + b) B) in
+    let m : s ≡ a + b - B =
+    same_rest B s (a + b - B) ((a + b) / B) 1 (omega arith) (omega arith) (omega arith) in
+    omega arith
+
+-- and one that doesn't has not
+pub sum_fits : (B a b s : ℕ) → a < B → b < B → s ≡ (a + b) % B → b ≤ s → s ≡ a + b
+sum_fits B a b s ha hb e h =
+    let f : B * ((a + b) / B) + (a + b) % B ≡ a + b = div-add-mod (a + b) B in
+    ⊎_elim
+    (λ (l : a + b < B). e ∙ mod-eq_of_lt l)
+    (λ (l : B ≤ a + b).
+    let w : s < B = omega (arith, mod-lt (a + b) {m = B} (let p : 0 < B = omega arith in p)) in
+    let m : s ≡ a + b - B =
+    same_rest B s (a + b - B) ((a + b) / B) 1 w (omega arith) (omega arith) in
+    absurd (omega arith)) (cases_lt (a + b) B)
+
+-- the residue of a negative, by the remainder of the number
+pub neg_value : (m n : ℕ) → 0 < m → residue m (neg_ℤ (pos n)) ≡ (m - n % m) % m
+neg_value m n h =
+    ⊎_elim
+    (λ (l : 0 < n).
+    let e : neg_ℤ (pos n) ≡ negsuc (n - 1) = omega (arith, ints) in
+    let f : m * ((n - 1) / m) + (n - 1) % m ≡ n - 1 = div-add-mod (n - 1) m in
+    let b : (n - 1) % m < m = mod-lt (n - 1) h in
+    let r = (n - 1) % m in
+    let q = (n - 1) / m in
+    let whole : (r + 1) + m * q ≡ n = omega arith in
+    let rest : n % m ≡ (r + 1) % m = ap (λ v. v % m) (sym whole) ∙ add-mul-mod_self_left (r + 1) m q in
+    let done : m - 1 - r ≡ (m - n % m) % m =
+    ⊎_elim
+    (λ (k : r + 1 < m).
+    let s : (r + 1) % m ≡ r + 1 = mod-eq_of_lt k in
+    let t : m - n % m ≡ m - 1 - r = omega arith in
+    let u : m - 1 - r < m = omega arith in
+    sym (ap (λ v. v % m) t ∙ mod-eq_of_lt u))
+    (λ (k : m ≤ r + 1).
+    let s : r + 1 ≡ m = omega arith in
+    let z : (r + 1) % m ≡ 0 = ap (λ v. v % m) s ∙ mod_self m in
+    let t : m - n % m ≡ m = omega arith in
+    let y : m - 1 - r ≡ 0 = omega arith in
+    y ∙ sym (ap (λ v. v % m) t ∙ mod_self m))
+    (cases_lt (r + 1) m) in
+    ap (residue m) e ∙ done)
+    (λ (l : n ≤ 0).
+    let z : n ≡ 0 = omega arith in
+    let zero_rest : 0 % m ≡ 0 = mod-eq_of_lt h in
+    let left : residue m (neg_ℤ (pos n)) ≡ 0 = ap (λ v. residue m (neg_ℤ (pos v))) z ∙ zero_rest in
+    let right : (m - n % m) % m ≡ 0 =
+    ap (λ v. (m - v % m) % m) z ∙ ap (λ v. (m - v) % m) zero_rest ∙ ap (λ v. v % m) (let u : m - 0 ≡ m = omega arith in u) ∙ mod_self m in
+    left ∙ sym right)
+    (cases_lt 0 n)
+
+-- a number and its remainder have negatives of one residue
+pub neg_of_rest : (m n r : ℕ) → 0 < m → r ≡ n % m → residue m (neg_ℤ (pos r)) ≡ residue m (neg_ℤ (pos n))
+neg_of_rest m n r h e =
+    neg_value m r h ∙ ap (λ v. (m - v % m) % m) e ∙ ap (λ v. (m - v) % m) (mod-mod n m) ∙ sym (neg_value m n h)
+
+-- a difference below 0 is the negative of the difference the other way
+pub sub_of_less : (m a b d : ℕ) → d + a ≡ b → residue m (neg_ℤ (pos d)) ≡ residue m (pos a -ℤ pos b)
+sub_of_less m a b d e =
+    let f : neg_ℤ (pos d) ≡ pos a -ℤ pos b = omega (arith, ints) in
+    ap (residue m) f

@@ -1,0 +1,51 @@
+-- Residues scaled by the power of two that takes the modulus to the top bit.
+use Rattle.std.proofs.Common.{◌≡◌, ℕ, suc, ◌+◌, ◌*◌, ◌/◌, ◌%◌, ◌^◌, ◌<◌, ◌≤◌, sym, ap, ◌∙◌, subst, arith}
+use Rattle.std.proofs.Math.Nat.{mod-lt, div-add-mod, mod-eq_of_lt, mul-le-mul_right, mul-lt-mul_of_pos_right, add-mul-mod_self_left, pow-succ'}
+use Rattle.std.proofs.lemmas.Nat.{leading_top, shl_below, shl-shr, pow_pos, pow-add, mod-mul-add}
+use Rattle.std.specs.Int.Count.{count_leading_zeros}
+use Rattle.modular_word.specs.Division.{IsDivision}
+
+-- m scaled by 2^s has its top bit set, and is a word
+pub record IsNormalized (w b m s : ℕ) : Type 0 where
+  pub inside : s < w
+  pub fits : m * 2 ^ s < b
+  pub top : b ≤ 2 * (m * 2 ^ s)
+
+pub scaled_to_top : (w b m s : ℕ) → b ≡ 2 ^ w → 0 < m → m < b → s ≡ count_leading_zeros w m → IsNormalized w b m s
+scaled_to_top w b m s eb some below es =
+    let t = leading_top w m some (subst (λ n. m < n) eb below) in
+    let e : s + suc t.0 ≡ w = omega (arith, t.1) in
+    let whole : b ≡ 2 * (2 ^ t.0 * 2 ^ s) =
+    eb ∙ ap (λ n. 2 ^ n) (let u : w ≡ suc (t.0 + s) = omega arith in u) ∙ pow-succ' 2 (t.0 + s) ∙ ap (λ n. 2 * n) (pow-add 2 t.0 s) in
+    let up : 2 ^ t.0 * 2 ^ s ≤ m * 2 ^ s = mul-le-mul_right (2 ^ s) t.2 in
+    let power : 2 ^ (suc t.0 + s) ≡ b = ap (λ n. 2 ^ n) (let u : suc t.0 + s ≡ w = omega arith in u) ∙ sym eb in
+    record {
+      inside = omega arith;
+      fits = subst (λ n. m * 2 ^ s < n) power (shl_below m (suc t.0) s t.3);
+      top = omega arith;
+    }
+
+-- scaled numbers keep their order
+pub scaled_below : (x m s : ℕ) → x < m → x * 2 ^ s < m * 2 ^ s
+scaled_below x m s h = mul-lt-mul_of_pos_right h (pow_pos s)
+
+-- the remainder of scaled numbers is the scaled remainder
+pub scaled_remainder : (x m p : ℕ) → 0 < m → 0 < p → (x * p) % (m * p) ≡ x % m * p
+scaled_remainder x m p hm hp =
+    let f : m * (x / m) + x % m ≡ x = div-add-mod x m in
+    let g : (m * (x / m) + x % m) * p ≡ x * p = ap (λ n. n * p) f in
+    let e : x * p ≡ x % m * p + m * p * (x / m) = omega arith in
+    ap (λ n. n % (m * p)) e ∙ add-mul-mod_self_left (x % m * p) (m * p) (x / m) ∙ mod-eq_of_lt (mul-lt-mul_of_pos_right (mod-lt x hm) hp)
+
+-- a scaled residue, unscaled, times a scaled residue leaves the scaled residue of the product
+pub scaled_product_of : (m s d x y a b r : ℕ) → 0 < m → d ≡ m * 2 ^ s → a ≡ x * 2 ^ s → b ≡ y * 2 ^ s → r ≡ (a / 2 ^ s * b) % d
+    → r ≡ x * y % m * 2 ^ s
+scaled_product_of m s d x y a b r h ed ea eb er =
+    let un : a / 2 ^ s ≡ x = ap (λ v. v / 2 ^ s) ea ∙ shl-shr x s in
+    let p : x * (y * 2 ^ s) ≡ x * y * 2 ^ s = omega arith in
+    er ∙ ap (λ v. (v * b) % d) un ∙ ap (λ v. (x * v) % d) eb ∙ ap (λ v. (x * (y * 2 ^ s)) % v) ed
+    ∙ ap (λ v. v % (m * 2 ^ s)) p ∙ scaled_remainder (x * y) m (2 ^ s) h (pow_pos s)
+
+-- the remainder of a division
+pub remainder_of : {a d q r : ℕ} → IsDivision a d q r → r ≡ a % d
+remainder_of {a} {d} {q} {r} h = sym (ap (λ n. n % d) h.whole ∙ mod-mul-add q d r h.below)

@@ -1,0 +1,11 @@
+use Rattle.std.proofs.Common.{◌∙◌}
+use Rattle.modular_prim.proofs.ResidueSteps.{neg_of_rest, sub_of_less}
+use Rattle.modular_prim.proofs.core_ops.subm.Goals as goal
+
+pub returns-then-is_below : goal.returns-then-is_below
+returns-then-is_below g c =
+    let n = g.T.RingWord.number in
+    let m = n c.args.m in
+    let d = n c.minus.result in
+    c.neg_below.ensures.value ∙ neg_of_rest m d (n c.reduced.result) c.requires c.reduced.ensures.value
+    ∙ sub_of_less m (n c.args.a) (n c.args.b) d c.minus.ensures.value

@@ -1,0 +1,84 @@
+//! The modular operations, as traits.
+
+ghost use Rattle.std.specs.Prelude.{◌≡◌, ℕ, ◌+◌, ◌*◌, ◌%◌, ◌^◌, ◌≤◌, ℤ, pos, ◌-ℤ◌, neg_ℤ};
+ghost use Rattle.modular_word.specs.Inverses.{IsInversion};
+ghost use Rattle.modular_word.specs.Residues.{residue};
+
+use crate::numbered::Numbered;
+
+/// Sums, differences and products modulo m, of operands that may be above m. Condition of each: m
+/// is at least 1.
+pub trait ModularCoreOps<Rhs: Numbered, Modulus: Numbered>: Numbered {
+    /// The type of the answers.
+    type Output: Numbered;
+
+    /// The residue of the sum.
+    fn addm(self, rhs: Rhs, m: Modulus) -> Self::Output
+        requires { 1 ≤ Modulus.whole_number m }
+        ensures { Self.Output.whole_number result
+            ≡ (Self.whole_number self + Rhs.whole_number rhs) % Modulus.whole_number m };
+
+    /// The residue of the difference.
+    fn subm(self, rhs: Rhs, m: Modulus) -> Self::Output
+        requires { 1 ≤ Modulus.whole_number m }
+        ensures { Self.Output.whole_number result
+            ≡ residue (Modulus.whole_number m) (pos (Self.whole_number self) -ℤ pos (Rhs.whole_number rhs)) };
+
+    /// The residue of the product.
+    fn mulm(self, rhs: Rhs, m: Modulus) -> Self::Output
+        requires { 1 ≤ Modulus.whole_number m }
+        ensures { Self.Output.whole_number result
+            ≡ (Self.whole_number self * Rhs.whole_number rhs) % Modulus.whole_number m };
+}
+
+/// Operations modulo m of one operand, which may be above m. Condition of each: m is at least 1.
+pub trait ModularUnaryOps<Modulus: Numbered>: Numbered {
+    /// The type of the answers.
+    type Output: Numbered;
+
+    /// The residue of the negative.
+    fn negm(self, m: Modulus) -> Self::Output
+        requires { 1 ≤ Modulus.whole_number m }
+        ensures { Self.Output.whole_number result
+            ≡ residue (Modulus.whole_number m) (neg_ℤ (pos (Self.whole_number self))) };
+
+    /// The inverse modulo m; `None` exactly where there is none. It is 0 for m = 1.
+    fn invm(self, m: Modulus) -> Option<Self::Output>
+        requires { 1 ≤ Modulus.whole_number m }
+        ensures { IsInversion Self.Output.whole_number (Modulus.whole_number m) (Self.whole_number self) result };
+
+    /// The residue of the double.
+    fn dblm(self, m: Modulus) -> Self::Output
+        requires { 1 ≤ Modulus.whole_number m }
+        ensures { Self.Output.whole_number result ≡ (2 * Self.whole_number self) % Modulus.whole_number m };
+
+    /// The residue of the square.
+    fn sqm(self, m: Modulus) -> Self::Output
+        requires { 1 ≤ Modulus.whole_number m }
+        ensures { Self.Output.whole_number result
+            ≡ (Self.whole_number self * Self.whole_number self) % Modulus.whole_number m };
+}
+
+/// Powers modulo m, of a base that may be above m. Condition: m is at least 1.
+pub trait ModularPow<Exp: Numbered, Modulus: Numbered>: Numbered {
+    /// The type of the answers.
+    type Output: Numbered;
+
+    /// The residue of the product of `exp` factors; that of 1 for the exponent 0.
+    fn powm(self, exp: Exp, m: Modulus) -> Self::Output
+        requires { 1 ≤ Modulus.whole_number m }
+        ensures { Self.Output.whole_number result
+            ≡ Self.whole_number self ^ Exp.whole_number exp % Modulus.whole_number m };
+}
+
+/// Residues of signed numbers, as words without sign. Condition: m is at least 1.
+pub trait ModularAbs<Modulus: Numbered> {
+    // The signed number.
+    ghost integer: { Self → ℤ };
+
+    /// The residue of the signed number: the one number from 0 to m - 1 from which it differs by a
+    /// multiple of m.
+    fn absm(self, m: &Modulus) -> Modulus
+        requires { 1 ≤ Modulus.whole_number m.now }
+        ensures { Modulus.whole_number result ≡ residue (Modulus.whole_number m.now) (integer self) };
+}

@@ -1,0 +1,83 @@
+//! Powers modulo m.
+
+ghost use Rattle.std.specs.Prelude.{◌≡◌, ℕ, ◌*◌, ◌/◌, ◌%◌, ◌^◌, ◌<◌, ◌≤◌};
+ghost use Rattle.modular_word.specs.Reciprocals.{IsReciprocal};
+
+use crate::core_ops::{reduced, sqm};
+use crate::plain_word::PlainWord;
+use crate::reciprocal::invert_word;
+use modular_word::path_word::PathWord;
+use modular_word::paths::div_2by1;
+use modular_word::ring_word::RingWord;
+
+/// The residue of the product of `exp` factors `base`; that of 1 for the exponent 0. Condition: m
+/// is at least 1.
+///
+/// The exponents 0, 1 and 2 cost one division at most. Above them no step divides a double word.
+pub fn powm<T: PlainWord>(base: T, exp: T, m: T) -> T
+    requires { 1 ≤ T.number m }
+    ensures { T.number result ≡ T.number base ^ T.number exp % T.number m }
+{
+    let two = T::one().plus(T::one());
+    if two.is_below(exp) {
+        power_by_reciprocal(reduced(base, m), exp, m)
+    } else if exp.is_zero_word() {
+        reduced(T::one(), m)
+    } else if exp.is_odd() {
+        reduced(base, m)
+    } else {
+        sqm(base, m)
+    }
+}
+
+// The residue of the power of a base below m, by binary digits. All residues are scaled by the power
+// of two that takes m to the top bit, so that one reciprocal serves each step.
+fn power_by_reciprocal<T: PlainWord>(base: T, exp: T, m: T) -> T
+    requires { T.number base < T.number m }
+    ensures { T.number result ≡ T.number base ^ T.number exp % T.number m }
+{
+    let shift = m.leading_zeros();
+    let divisor = m.shift_left(shift);
+    let reciprocal = invert_word(divisor);
+    let mut power = base.shift_left(shift);
+    let mut product = if exp.is_odd() {
+        power
+    } else {
+        reduced(T::one(), m).shift_left(shift)
+    };
+    let mut rest = exp.half();
+    'digits: while !rest.is_zero_word() {
+        power = scaled_product(divisor, reciprocal, shift, power, power);
+        if rest.is_odd() {
+            product = scaled_product(divisor, reciprocal, shift, power, product);
+        }
+        rest = rest.half();
+    }
+    product.shift_right(shift)
+}
+
+// The scaled residue of the product of two scaled residues.
+fn scaled_product<T: PlainWord>(divisor: T, reciprocal: T, shift: u32, a: T, b: T) -> T
+    requires reciprocal { IsReciprocal T.base (T.number divisor) (T.number reciprocal) }
+    requires shift { shift < T.width }
+    requires below { T.number b < T.number divisor }
+    ensures { T.number result ≡ (T.number a / 2 ^ shift * T.number b) % T.number divisor }
+{
+    div_2by1(divisor, reciprocal, a.shift_right(shift).product(b)).1
+}
+
+/// `powm` of words of 32 bits, and 0 for m = 0.
+pub fn powm_u32(base: u32, exp: u32, m: u32) -> u32
+    ensures power { 1 ≤ m → result ≡ base ^ exp % m }
+    ensures zero { m ≡ 0 → result ≡ 0 }
+{
+    if m == 0 { 0 } else { powm(base, exp, m) }
+}
+
+/// `powm` of words of 64 bits, and 0 for m = 0.
+pub fn powm_u64(base: u64, exp: u64, m: u64) -> u64
+    ensures power { 1 ≤ m → result ≡ base ^ exp % m }
+    ensures zero { m ≡ 0 → result ≡ 0 }
+{
+    if m == 0 { 0 } else { powm(base, exp, m) }
+}

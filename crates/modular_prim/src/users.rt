@@ -1,0 +1,85 @@
+//! Code that is generic over the modular operations: it knows the answers from the traits alone.
+
+ghost use Rattle.std.specs.Prelude.{◌≡◌, ℕ, ◌+◌, ◌*◌, ◌%◌, ◌^◌, ◌≤◌, pos, ◌-ℤ◌};
+ghost use Rattle.modular_word.specs.Division.{IsExactQuotient};
+ghost use Rattle.modular_word.specs.Inverses.{IsInversion};
+ghost use Rattle.modular_word.specs.Residues.{residue};
+
+use crate::exact::{DivExact, DivExactAssign};
+use crate::numbered::Numbered;
+use crate::ops::{ModularAbs, ModularCoreOps, ModularPow, ModularUnaryOps};
+
+/// The residue of x·y + y, in any operand form.
+pub fn product_and_sum<R: Numbered + Copy, M: Numbered + Copy, T: ModularCoreOps<R, M, Output = T>>(
+    x: T,
+    y: R,
+    m: M,
+) -> T
+    requires { 1 ≤ M.whole_number m }
+    ensures { T.whole_number result
+        ≡ ((T.whole_number x * R.whole_number y) % M.whole_number m + R.whole_number y) % M.whole_number m }
+{
+    x.mulm(y, m).addm(y, m)
+}
+
+/// The residue of x - y, in any operand form.
+pub fn difference<R: Numbered, M: Numbered, T: ModularCoreOps<R, M>>(x: T, y: R, m: M) -> T::Output
+    requires { 1 ≤ M.whole_number m }
+    ensures { T.Output.whole_number result ≡ residue (M.whole_number m) (pos (T.whole_number x) -ℤ pos (R.whole_number y)) }
+{
+    x.subm(y, m)
+}
+
+/// The residue of (2x)^2, in any operand form.
+pub fn square_of_double<M: Numbered + Copy, T: ModularUnaryOps<M, Output = T>>(x: T, m: M) -> T
+    requires { 1 ≤ M.whole_number m }
+    ensures { T.whole_number result
+        ≡ ((2 * T.whole_number x) % M.whole_number m * ((2 * T.whole_number x) % M.whole_number m)) % M.whole_number m }
+{
+    x.dblm(m).sqm(m)
+}
+
+/// The inverse of x, in any operand form.
+pub fn inverse<M: Numbered, T: ModularUnaryOps<M>>(x: T, m: M) -> Option<T::Output>
+    requires { 1 ≤ M.whole_number m }
+    ensures { IsInversion T.Output.whole_number (M.whole_number m) (T.whole_number x) result }
+{
+    x.invm(m)
+}
+
+/// The residue of a power, in any operand form.
+pub fn power<E: Numbered, M: Numbered, T: ModularPow<E, M>>(x: T, exp: E, m: M) -> T::Output
+    requires { 1 ≤ M.whole_number m }
+    ensures { T.Output.whole_number result ≡ T.whole_number x ^ E.whole_number exp % M.whole_number m }
+{
+    x.powm(exp, m)
+}
+
+/// The residue of a signed number.
+pub fn signed<M: Numbered, T: ModularAbs<M>>(x: T, m: &M) -> M
+    requires { 1 ≤ M.whole_number m.now }
+    ensures { M.whole_number result ≡ residue (M.whole_number m.now) (T.integer x) }
+{
+    x.absm(m)
+}
+
+/// The quotient, where it is exact.
+pub fn quotient<D: Numbered, P, N: DivExact<D, P>>(n: N, d: D, pre: &P) -> Option<N::Output>
+    requires { N.fits d pre.now }
+    ensures { IsExactQuotient N.Output.whole_number (N.whole_number n) (D.whole_number d) result }
+{
+    n.div_exact(d, pre)
+}
+
+/// Divides the number by d as often as d divides it exactly, twice at most, and says how often.
+pub fn divided_twice<D: Numbered + Copy, P, N: DivExactAssign<D, P>>(n: &mut N, d: D, pre: &P) -> u8
+    requires { N.fits d pre.now }
+    ensures none { result ≡ 0 → n.new ≡ n.old }
+    ensures twice { result ≡ 2 → N.whole_number n.new * D.whole_number d * D.whole_number d ≡ N.whole_number n.old }
+{
+    if n.div_exact_assign(d, pre) {
+        if n.div_exact_assign(d, pre) { 2 } else { 1 }
+    } else {
+        0
+    }
+}
