@@ -6,12 +6,16 @@ ghost use Rattle.num_modular.specs.Ring.{IsFit};
 
 use self::words::{REGISTERS, command, number};
 use crate::ring::{RingCommand, RunEnd, run};
+use modular_barrett::premul::PreMulInv2by1;
+use modular_monty::montgomery::Montgomery;
 use modular_reduced::reducer::Reducer;
 use modular_reduced::vanilla::Vanilla;
 use std::alloc::{Allocator, Global};
 use std::io;
 use std::io::Write;
 
+#[cfg(test)]
+mod tests;
 pub mod words;
 
 // What stopped the reading of the commands.
@@ -68,9 +72,12 @@ fn run_by_name<A: Allocator, O: Write, E: Write>(
         return refuse(err);
     };
     match reducer {
-        "vanilla" if modulus > 0 => {
-            let reducer = Vanilla::<u64>::new(&modulus);
-            run_over(&reducer, alloc, commands, out, err)
+        "vanilla" if modulus > 0 => { run_over(&Vanilla::new(&modulus), alloc, commands, out, err) }
+        "premul" if modulus > 0 => {
+            run_over(&PreMulInv2by1::new(modulus), alloc, commands, out, err)
+        }
+        "montgomery" if modulus % 2 == 1 => {
+            run_over(&Montgomery::new(modulus), alloc, commands, out, err)
         }
         _ => refuse(err),
     }
