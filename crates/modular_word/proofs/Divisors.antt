@@ -8,12 +8,14 @@ use Rattle.modular_word.specs.Divisors.{Coprime, IsGreatestCommonDivisor, gcd_up
 use Rattle.modular_word.specs.Inverses.{IsInverse, HasInverse}
 use Rattle.modular_word.proofs.Congruence.{same_product}
 
+-- a divisor and its multiples
 pub multiple_of : (d n : ℕ) → n % d ≡ 0 → n ≡ d * (n / d)
 multiple_of d n h = omega arith
 
 pub divides : (d n k : ℕ) → n ≡ d * k → n % d ≡ 0
 divides d n k e = ap (λ v. v % d) e ∙ mul-mod_right d k
 
+-- what divides two numbers divides their sum, and the rest of a sum
 pub divides_sum : (d a b : ℕ) → a % d ≡ 0 → b % d ≡ 0 → (a + b) % d ≡ 0
 divides_sum d a b g h =
     let i = multiple_of d a g in
@@ -41,6 +43,7 @@ divides_rest d a b g h =
     let j = multiple_of d (a + b) h in
     divides d b ((a + b) / d - a / d) (rest d (a / d) ((a + b) / d) a b i j)
 
+-- what divides a number divides its multiples
 pub divides_product : (d a k : ℕ) → a % d ≡ 0 → (a * k) % d ≡ 0
 divides_product d a k g =
     let i = multiple_of d a g in
@@ -55,6 +58,7 @@ positive_divisor : (d n : ℕ) → 0 < n → n % d ≡ 0 → 0 < d
 positive_divisor zero n p h = let e = mod-zero n in absurd (omega arith)
 positive_divisor (suc d) n p h = omega arith
 
+-- a divisor of a positive number is positive and at most it
 pub divisor_below : (d n : ℕ) → 0 < n → n % d ≡ 0 → (0 < d) × (d ≤ n)
 divisor_below d n p h =
     ⊎_elim
@@ -62,6 +66,7 @@ divisor_below d n p h =
     (λ (l : d ≤ n). (positive_divisor d n p h, l))
     (cases_lt n d)
 
+-- being coprime is symmetric
 pub Coprime-swap : (a n : ℕ) → Coprime a n → Coprime n a
 Coprime-swap a n c = record { only_one = λ d g h. c.only_one d h g }
 
@@ -77,6 +82,7 @@ mod_divides d a n h g =
     divides_rest d (n * (a / n)) (a % n) (divides_product d n (a / n) h)
     (let e : n * (a / n) + a % n ≡ a = omega arith in ap (λ v. v % d) e ∙ g)
 
+-- being coprime to n depends on the residue alone
 pub Coprime-mod : (a n : ℕ) → Coprime a n → Coprime (a % n) n
 Coprime-mod a n c = record { only_one = λ d g h. c.only_one d (divides_mod d a n h g) h }
 
@@ -144,6 +150,7 @@ coprime_cancel a n x p c h =
     sym (ap (λ v. v % n) o) ∙ sym (same_product n x x (a * u.0) 1 refl u.1) ∙ ap (λ v. v % n) e
     ∙ divides_product n (a * x) u.0 h
 
+-- factors of a number coprime to n are, and products of such numbers
 pub Coprime-left : (a b n : ℕ) → Coprime (a * b) n → Coprime a n
 Coprime-left a b n c = record { only_one = λ d g h. c.only_one d (divides_product d a b g) h }
 
@@ -190,6 +197,7 @@ unfolding gcd_up_to
 gcd_common a n zero p = absurd (omega arith)
 gcd_common a n (suc k) p = gcd_common_step a n k (gcd_up_to a n k) (gcd_common a n k) (gcd_up_to a n (suc k)) refl p
 
+-- coprime numbers are those whose greatest common divisor is 1
 pub gcd-from_Coprime : (a n : ℕ) → 0 < n → Coprime a n → gcd a n ≡ 1
 gcd-from_Coprime a n p c =
     let l = gcd_greatest a n n 1 p (mod-one a) (mod-one n) in

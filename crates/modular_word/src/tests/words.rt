@@ -1,5 +1,7 @@
 //! The helpers on words and double words, at each width.
 
+use crate::path_word::PathWord;
+use crate::ring_word::RingWord;
 use crate::word::{w8, w16, w32, w64, wsize};
 
 #[test]
@@ -74,4 +76,43 @@ fn wsize_helpers(rt: HostRuntime) {
     assert_eq!(rt; wsize::wmul(255, 255), 65025);
     assert_eq!(rt; wsize::wsqr(255), 65025);
     assert_eq!(rt; wsize::nrem(1000, 7), 6);
+}
+
+// What a word answers through its bound alone, of 0, 1 and 6.
+fn counts_right<T: RingWord>(six: T, bits: u32) -> bool {
+    T::bits() == bits
+        && T::zero().is_zero_word()
+        && !T::one().is_zero_word()
+        && T::one().is_odd()
+        && !six.is_odd()
+        && six.half().is_odd()
+        && six.half().half() == T::one()
+        && T::one().half() == T::zero()
+}
+
+#[test]
+fn words_through_their_bound(rt: HostRuntime) {
+    assert!(rt; counts_right(6u8, 8));
+    assert!(rt; counts_right(6u16, 16));
+    assert!(rt; counts_right(6u32, 32));
+    assert!(rt; counts_right(6u64, 64));
+    assert!(rt; counts_right(6usize, 64));
+    assert!(rt; counts_right(6u128, 128));
+}
+
+// Of 12: the zeros above its bits, those below them, and the low three bits.
+#[test]
+fn bits_of_words(rt: HostRuntime) {
+    assert_eq!(rt; PathWord::leading_zeros(12u8), 4);
+    assert_eq!(rt; PathWord::leading_zeros(12u16), 12);
+    assert_eq!(rt; PathWord::leading_zeros(12u32), 28);
+    assert_eq!(rt; PathWord::leading_zeros(12u64), 60);
+    assert_eq!(rt; PathWord::leading_zeros(12usize), 60);
+    assert_eq!(rt; PathWord::trailing_zeros(12u8), 2);
+    assert_eq!(rt; PathWord::trailing_zeros(0u64), 64);
+    assert_eq!(rt; 12u8.low_bits(3), 4);
+    assert_eq!(rt; 12u8.shift_left(4), 192);
+    assert_eq!(rt; 12u8.shift_left_wide(5), 384);
+    assert_eq!(rt; 12usize.low_bits(3), 4);
+    assert_eq!(rt; 12usize.shift_right(2), 3);
 }
