@@ -33,9 +33,10 @@ fn binary_power<T: RingWord, R: Reducer<T>>(reducer: &R, base: T, exp: T) -> (T,
 
 /// The power of a form, and how many products of the reducer it took.
 ///
-/// That is none for the exponent 1, one for the exponent 2, else the number of binary digits of
-/// `exp` plus the number of its one digits (Knuth, The Art of Computer Programming, volume 2,
-/// section 4.6.3, algorithm A). The exponent 0 answers the form of 1 mod m.
+/// That is none for the exponent 1, which answers the base, and one for the exponent 2. Any other
+/// exponent goes by binary steps from the form of 1, a square for each binary digit and a product
+/// for each one digit (Knuth, The Art of Computer Programming, volume 2, section 4.6.3, algorithm
+/// A, with a square at the last digit too); for the exponent 0 that is the form of 1 mod m itself.
 pub fn pow_counted<T: RingWord, R: Reducer<T>>(reducer: &R, base: T, exp: &T) -> (T, u32)
     requires { IsForm R.form R.value (R.modulus reducer.now) (T.number base) }
     ensures power { let m = R.modulus reducer.now in

@@ -11,9 +11,9 @@ use std::alloc::AllocError;
 
 /// The plain reducer of a modulus from 1 up: the form of a value is the value itself.
 ///
-/// Sums, differences, doubles and negatives take no division, a product one remainder of a double
-/// word by a word, and an inverse Euclid's algorithm (Handbook of Applied Cryptography, section
-/// 14.3.1).
+/// Sums, differences, doubles and negatives take no division. A product is the classical one, the
+/// remainder of a double word by a word (Handbook of Applied Cryptography, section 14.3.1), and an
+/// inverse goes by Euclid's algorithm.
 #[derive(Debug)]
 pub struct Vanilla<T: PlainWord> {
     modulus: T,
