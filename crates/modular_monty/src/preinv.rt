@@ -9,6 +9,9 @@ use modular_prim::plain_word::PlainWord;
 use modular_word::path_word::PathWord;
 use modular_word::paths::{exact_1, exact_2, ones};
 
+mod doubles;
+mod words;
+
 /// What contracts see of a prepared inverse.
 pub trait PreparedInverse {
     // The stored inverse of a divisor.
@@ -17,8 +20,8 @@ pub trait PreparedInverse {
     // The stored limit of the quotients by a divisor.
     ghost limit: { Self → ℕ };
 
-    // `fits d`: the two are the inverse of d modulo the base and the greatest quotient of a word by d.
-    ghost fits: { ℕ → Self → Type 0 };
+    // The two are the inverse of a divisor modulo the base and the greatest quotient of a word by it.
+    ghost fits: { Self → ℕ → Type 0 };
 }
 
 /// The inverse of an odd divisor modulo the base, and the greatest quotient of a word by it.
@@ -40,7 +43,7 @@ impl<T: PathWord> PreparedInverse for PreModInv<T> {
 
     ghost limit = { λ pre. T.number pre.q_lim };
 
-    ghost fits = { λ d pre. IsExactDivisor T.base d (T.number pre.d_inv) (T.number pre.q_lim) };
+    ghost fits = { λ pre d. IsExactDivisor T.base d (T.number pre.d_inv) (T.number pre.q_lim) };
 }
 
 impl<T: PathWord> PreModInv<T> {
@@ -57,7 +60,7 @@ impl<T: PlainWord> PreModInv<T> {
     /// What fits the divisor d. Condition: d is odd.
     pub fn from(d: T) -> Self
         requires { T.number d % 2 ≡ 1 }
-        ensures { ⟦<PreModInv<T> as PreparedInverse>⟧.fits (T.number d) result }
+        ensures { ⟦<PreModInv<T> as PreparedInverse>⟧.fits result (T.number d) }
     {
         let d_inv = T::zero().wrapping_sub(neginv(d));
         let q_lim = ones::<T>(T::bits()).quotient(d);
@@ -67,7 +70,7 @@ impl<T: PlainWord> PreModInv<T> {
 
 // The quotient of a word; `None` exactly where d doesn't divide it.
 fn word_quotient<T: PathWord>(n: T, d: T, pre: &PreModInv<T>) -> Option<T>
-    requires { ⟦<PreModInv<T> as PreparedInverse>⟧.fits (T.number d) pre.now }
+    requires { ⟦<PreModInv<T> as PreparedInverse>⟧.fits pre.now (T.number d) }
     ensures { IsExactQuotient T.number (T.number n) (T.number d) result }
 {
     exact_1(d, pre.d_inv, pre.q_lim, n)
@@ -75,7 +78,7 @@ fn word_quotient<T: PathWord>(n: T, d: T, pre: &PreModInv<T>) -> Option<T>
 
 // The quotient of a double word; `None` exactly where d doesn't divide it.
 fn double_quotient<T: PathWord>(n: T::Double, d: T, pre: &PreModInv<T>) -> Option<T::Double>
-    requires { ⟦<PreModInv<T> as PreparedInverse>⟧.fits (T.number d) pre.now }
+    requires { ⟦<PreModInv<T> as PreparedInverse>⟧.fits pre.now (T.number d) }
     ensures { IsExactQuotient T.whole (T.whole n) (T.number d) result }
 {
     exact_2(d, pre.d_inv, pre.q_lim, n)
