@@ -11,7 +11,4 @@ pub mod numbered;
 pub mod ops;
 pub mod plain_word;
 pub mod power;
-pub mod reciprocal;
-#[cfg(test)]
-mod tests;
-pub mod users;
+pub mod reciprocal;pub mod users;
