@@ -5,3 +5,5 @@
 pub mod callers;
 pub mod equality;
 pub mod polynomial;
+#[cfg(test)]
+mod tests;
