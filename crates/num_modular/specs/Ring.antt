@@ -1,4 +1,4 @@
--- What a list of ring commands gives on whole numbers modulo m, and where it stops: the value table of a straight-line program over the integers (Knuth, The Art of Computer Programming 2, section 4.6.4), read modulo m. It knows no form and no width.
+-- What a list of ring commands gives on whole numbers modulo m, and where it stops: the result sequence of a straight-line program, and where it isn't executable (Buergisser, Clausen, Shokrollahi, Algebraic Complexity Theory, section 4.1). No form and no width stands in the table.
 use Rattle.std.specs.Prelude.{ℕ, suc, zero, ◌+◌, ◌*◌, ◌%◌, ◌^◌, ◌<◌, ◌==◌, if◌then◌else◌, pos, ◌-ℤ◌, neg_ℤ, List, length, map, slice_get, slice_index, slice_index_or, Option, Some, None, IsSomeAnd, unwrap_or}
 use Rattle.modular_word.specs.Residues.{residue}
 use Rattle.modular_word.specs.Inverses.{HasInverse, inverse_of}

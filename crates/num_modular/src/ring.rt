@@ -97,6 +97,7 @@ pub enum RunEnd {
     },
 }
 
+// Whether each register number of a command is below `len`.
 fn command_fits<T: RingWord>(command: &RingCommand<T>, len: usize) -> bool
     ensures { IsTrue result ↔ IsFit len command.now }
 {

@@ -1,10 +1,11 @@
 -- Two runs of one list from one start.
-use Rattle.std.proofs.Common.{◌≡◌, ℕ, ◌<◌, List, length, get_or, refl, sym, ◌∙◌, ap, subst, ◌↔◌}
+use Rattle.std.proofs.Common.{◌≡◌, ℕ, ◌<◌, List, length, get_or, refl, sym, ◌∙◌, ap, subst, arith, ◌↔◌}
 use Rattle.std.proofs.lemmas.Grind.{same_number_lists}
+use Rattle.std.proofs.lemmas.List.{length-map}
 use Rattle.num_modular.specs.declared.ring.RingCommand.{RingCommand}
 use Rattle.num_modular.specs.declared.ring.RunEnd.{RunEnd}
 use Rattle.num_modular.specs.declared.ring.RunEnd.TheVariants.{Done, NoInverse}
-use Rattle.num_modular.specs.Ring.{value_at, IsStop, carried_out}
+use Rattle.num_modular.specs.Ring.{value_at, IsStop, carried_out, values_of}
 
 -- what a run says of its end and of the residues that it leaves
 pub record IsRun (m : ℕ) (start : List ℕ) (commands : List (RingCommand ℕ)) (end : RunEnd) (left : List ℕ) : Type 0 where
@@ -12,6 +13,24 @@ pub record IsRun (m : ℕ) (start : List ℕ) (commands : List (RingCommand ℕ)
   pub done : (end ≡ Done) ↔ ((at : ℕ) → IsStop m start commands at → ⊥)
   pub count : length left ≡ length start
   pub residues : (n : ℕ) → n < length start → get_or left n 0 ≡ value_at m start commands (carried_out end commands) n
+
+-- of registers, by the clauses of `run`
+pub run_of : {T : Type 0} (number : T → ℕ) (value : ℕ → ℕ → ℕ) (m : ℕ) (old new : List T) (commands : List (RingCommand ℕ)) (end : RunEnd)
+    → length new ≡ length old
+    → ((at : ℕ) → (end ≡ NoInverse at) ↔ IsStop m (values_of number value m old) commands at)
+    → ((end ≡ Done) ↔ ((at : ℕ) → IsStop m (values_of number value m old) commands at → ⊥))
+    → ((n : ℕ) → n < length old → get_or (values_of number value m new) n 0 ≡ value_at m (values_of number value m old) commands (carried_out end commands) n)
+    → IsRun m (values_of number value m old) commands end (values_of number value m new)
+run_of {T} number value m old new commands end kept stops done residues =
+    let values = λ (f : T). value m (number f) in
+    let before = length-map old values in
+    let after = length-map new values in
+    record {
+      stops = stops;
+      done = done;
+      count = omega (arith, before, after, kept);
+      residues = λ n h. residues n (omega (arith, before, h));
+    }
 
 -- equal starts and lists
 pub run_as : {m m' : ℕ} {start start' : List ℕ} {commands commands' : List (RingCommand ℕ)} (end : RunEnd) (left : List ℕ)
