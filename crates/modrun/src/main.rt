@@ -1,0 +1,29 @@
+//! The program `modrun REDUCER MODULUS COMMAND...`: ring commands run on eight registers.
+#![tactic(auto)]
+
+use num_modular::modrun::run_words;
+use std::process::ExitCode;
+use std::{env, io};
+
+// Takes the words after the program's name, and runs the program on them.
+fn run(rt: &HostRuntime) -> io::Result<u8> {
+    let arguments: Vec<String> = env::args(rt)?.skip(1).collect(rt.alloc())?;
+    let words: Vec<&str> = arguments
+        .iter()
+        .map(|word| word.as_str())
+        .collect(rt.alloc())?;
+    let mut out = rt.stdout();
+    let mut err = rt.stderr();
+    Ok(run_words(rt.alloc(), words.as_slice(), &mut out, &mut err))
+}
+
+fn main(rt: HostRuntime) -> ExitCode {
+    let status = match run(&rt) {
+        Ok(status) => status,
+        Err(_) => match eprintln!(rt; "out of memory") {
+            Ok(()) => 3,
+            Err(_) => 4,
+        },
+    };
+    ExitCode::from(status)
+}
