@@ -4,7 +4,8 @@ ghost use Rattle.integer_callers.specs.Polynomials.{polynomial_value};
 ghost use Rattle.modular_reduced.specs.Integers.{IsInteger};
 ghost use Rattle.std.specs.Prelude.{◌≡◌, ◌%◌, All, map};
 
-use modular_reduced::int::VanillaInt;
+use modular_barrett::premul::PreMulInv2by1;
+use modular_reduced::int::{ReducedInt, VanillaInt};
 use modular_reduced::integer::ModularInteger;
 
 /// The value at x of the polynomial with these coefficients, the highest first, by Horner's rule.
@@ -30,10 +31,10 @@ pub fn value_of_bytes() -> u8
     horner(&[x.convert(2), x.convert(3), x.convert(5)], x).residue()
 }
 
-/// The same over words of 64 bits.
-pub fn value_of_words() -> u64
+/// The same by another reducer, whose forms are not the residues.
+pub fn value_by_forms() -> u64
     ensures { result ≡ 19 }
 {
-    let x = VanillaInt::<u64>::new(7, &21);
+    let x = ReducedInt::<u64, PreMulInv2by1<u64>>::new(7, &21);
     horner(&[x.convert(2), x.convert(3), x.convert(5)], x).residue()
 }

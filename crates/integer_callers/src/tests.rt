@@ -5,7 +5,7 @@ ghost use Rattle.std.specs.Prelude.{◌%◌};
 
 use crate::callers::*;
 use crate::equality::is_equivalence;
-use crate::polynomial::{horner, value_of_bytes, value_of_words};
+use crate::polynomial::{horner, value_by_forms, value_of_bytes};
 use modular_reduced::int::VanillaInt;
 use modular_reduced::integer::ModularInteger;
 use std::test::Fail;
@@ -157,6 +157,6 @@ fn equality(rt: HostRuntime) {
 
 #[test]
 fn polynomials(rt: HostRuntime) {
-    assert_eq!(rt; (value_of_bytes(), value_of_words()), (19, 19));
+    assert_eq!(rt; (value_of_bytes(), value_by_forms()), (19, 19));
     assert_eq!(rt; horner(&[], ring(7)).residue(), 0);
 }

@@ -58,25 +58,34 @@ pub trait ModularInteger: PartialEq
     ghost below: { (a : Self) → residue_number a < modulus_number a };
 
     // `==` tells whether moduli and residues are equal.
-    ghost equal: { (a b : Self) → IsTrue (Self.eq a b) ↔ ((modulus_number a ≡ modulus_number b) × (residue_number a ≡ residue_number b)) };
+    ghost equal: { (a b : Self) → IsTrue (Self.eq a b) ↔
+        ((modulus_number a ≡ modulus_number b) × (residue_number a ≡ residue_number b)) };
 
     // Integers of equal modulus may be added, and the answer is the residue of the sum.
     ghost may_add: { (a b : Self) → modulus_number a ≡ modulus_number b → Self.can_add a b };
 
-    ghost adds: { (a b c : Self) → modulus_number a ≡ modulus_number b → Self.add_gives a b c → IsInteger modulus_number residue_number (modulus_number a) ((residue_number a + residue_number b) % modulus_number a) c };
+    ghost adds: { (a b c : Self) → modulus_number a ≡ modulus_number b → Self.add_gives a b c →
+        let m = modulus_number a in IsInteger modulus_number residue_number m
+        ((residue_number a + residue_number b) % m) c };
 
     // Likewise subtracted.
     ghost may_subtract: { (a b : Self) → modulus_number a ≡ modulus_number b → Self.can_sub a b };
 
-    ghost subtracts: { (a b c : Self) → modulus_number a ≡ modulus_number b → Self.sub_gives a b c → IsInteger modulus_number residue_number (modulus_number a) (residue (modulus_number a) (pos (residue_number a) -ℤ pos (residue_number b))) c };
+    ghost subtracts: { (a b c : Self) → modulus_number a ≡ modulus_number b → Self.sub_gives a b c →
+        let m = modulus_number a in IsInteger modulus_number residue_number m
+        (residue m (pos (residue_number a) -ℤ pos (residue_number b))) c };
 
     // Likewise multiplied.
     ghost may_multiply: { (a b : Self) → modulus_number a ≡ modulus_number b → Self.can_mul a b };
 
-    ghost multiplies: { (a b c : Self) → modulus_number a ≡ modulus_number b → Self.mul_gives a b c → IsInteger modulus_number residue_number (modulus_number a) ((residue_number a * residue_number b) % modulus_number a) c };
+    ghost multiplies: { (a b c : Self) → modulus_number a ≡ modulus_number b → Self.mul_gives a b c →
+        let m = modulus_number a in IsInteger modulus_number residue_number m
+        ((residue_number a * residue_number b) % m) c };
 
     // Each may be negated, and the answer is the residue of the negative.
     ghost may_negate: { (a : Self) → Self.can_neg a };
 
-    ghost negates: { (a c : Self) → Self.neg_gives a c → IsInteger modulus_number residue_number (modulus_number a) (residue (modulus_number a) (neg_ℤ (pos (residue_number a)))) c };
+    ghost negates: { (a c : Self) → Self.neg_gives a c →
+        let m = modulus_number a in IsInteger modulus_number residue_number m
+        (residue m (neg_ℤ (pos (residue_number a)))) c };
 }

@@ -1,6 +1,6 @@
 use Rattle.std.proofs.Common.{◌∙◌}
 use Rattle.integer_callers.proofs.PolynomialLemmas.{value_at_7}
-use Rattle.integer_callers.proofs.polynomial.value_of_words.Goals as goal
+use Rattle.integer_callers.proofs.polynomial.value_by_forms.Goals as goal
 
 pub returns : goal.returns
 returns c =
