@@ -11,4 +11,7 @@ pub mod numbered;
 pub mod ops;
 pub mod plain_word;
 pub mod power;
-pub mod reciprocal;pub mod users;
+pub mod reciprocal;
+#[cfg(test)]
+mod tests;
+pub mod users;

@@ -18,11 +18,12 @@ pub fn powm<T: PlainWord>(base: T, exp: T, m: T) -> T
     requires { 1 ≤ T.number m }
     ensures { T.number result ≡ T.number base ^ T.number exp % T.number m }
 {
-    let two = T::one().plus(T::one());
+    let one = T::one();
+    let two = one.plus(one);
     if two.is_below(exp) {
         power_by_reciprocal(reduced(base, m), exp, m)
     } else if exp.is_zero_word() {
-        reduced(T::one(), m)
+        reduced(one, m)
     } else if exp.is_odd() {
         reduced(base, m)
     } else {
@@ -66,12 +67,24 @@ fn scaled_product<T: PlainWord>(divisor: T, reciprocal: T, shift: u32, a: T, b: 
     div_2by1(divisor, reciprocal, a.shift_right(shift).product(b)).1
 }
 
+// The residue of the power, and 0 for m = 0.
+fn power_or_zero<T: PlainWord>(base: T, exp: T, m: T) -> T
+    ensures power { 1 ≤ T.number m → T.number result ≡ T.number base ^ T.number exp % T.number m }
+    ensures zero { T.number m ≡ 0 → T.number result ≡ 0 }
+{
+    if m.is_zero_word() {
+        m
+    } else {
+        powm(base, exp, m)
+    }
+}
+
 /// `powm` of words of 32 bits, and 0 for m = 0.
 pub fn powm_u32(base: u32, exp: u32, m: u32) -> u32
     ensures power { 1 ≤ m → result ≡ base ^ exp % m }
     ensures zero { m ≡ 0 → result ≡ 0 }
 {
-    if m == 0 { 0 } else { powm(base, exp, m) }
+    power_or_zero(base, exp, m)
 }
 
 /// `powm` of words of 64 bits, and 0 for m = 0.
@@ -79,5 +92,5 @@ pub fn powm_u64(base: u64, exp: u64, m: u64) -> u64
     ensures power { 1 ≤ m → result ≡ base ^ exp % m }
     ensures zero { m ≡ 0 → result ≡ 0 }
 {
-    if m == 0 { 0 } else { powm(base, exp, m) }
+    power_or_zero(base, exp, m)
 }

@@ -20,7 +20,7 @@ returns-then-is_odd g c =
     let odd : n c.args.exp % 2 ≡ 1 = grind arith in
     let small : n c.args.exp ≤ n c.plus-two.result = grind arith in
     power_one (n c.args.m) (n c.args.base) (n c.args.exp) (n c.reduced-then-is_odd.result)
-    (omega (arith, c.plus-two.ensures, c.one.ensures, c.one-2.ensures)) c.reduced-then-is_odd.ensures.value
+    (omega (arith, c.plus-two.ensures, c.one-one.ensures)) c.reduced-then-is_odd.ensures.value
 
 pub returns-else-is_odd : goal.returns-else-is_odd
 returns-else-is_odd g c =
@@ -29,4 +29,4 @@ returns-else-is_odd g c =
     let some : n c.args.exp ≢ 0 = grind arith in
     let small : n c.args.exp ≤ n c.plus-two.result = grind arith in
     power_two (n c.args.m) (n c.args.base) (n c.args.exp) (n c.sqm.result)
-    (omega (arith, c.plus-two.ensures, c.one.ensures, c.one-2.ensures)) c.sqm.ensures
+    (omega (arith, c.plus-two.ensures, c.one-one.ensures)) c.sqm.ensures
