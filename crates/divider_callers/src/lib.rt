@@ -1,7 +1,7 @@
 //! Callers of the dividers, proved from their contracts alone.
 #![tactic(auto)]
 
-ghost use Rattle.std.specs.Prelude.{◌≡◌, ◌+◌, ◌*◌, ◌%◌, ◌<◌};
+ghost use Rattle.std.specs.Prelude.{◌≡◌, ◌+◌, ◌*◌, ◌%◌, ◌<◌, ◌↔◌, IsTrue};
 ghost use Rattle.modular_word.specs.Division.{IsDivision, IsExactQuotient};
 
 use modular_barrett::normalized::{Normalized2by1Divisor, StoredDivisor};
@@ -68,4 +68,15 @@ pub fn remainder_of_three<T: PathWord>(divider: &Normalized2by1Divisor<T>, words
     let (_, rest) = divider.div_rem_2by1(T::merge(middle, high));
     let (_, remainder) = divider.div_rem_2by1(T::merge(low, rest));
     remainder
+}
+
+/// Whether two dividers are equal, which they are exactly where they divide by one number.
+pub fn same_divisor<T: PathWord>(
+    left: &Normalized2by1Divisor<T>,
+    right: &Normalized2by1Divisor<T>,
+) -> bool
+    ensures { IsTrue result ↔ (⟦<Normalized2by1Divisor<T> as StoredDivisor>⟧.divisor left.now
+        ≡ ⟦<Normalized2by1Divisor<T> as StoredDivisor>⟧.divisor right.now) }
+{
+    *left == *right
 }

@@ -18,8 +18,8 @@ digits_at w x leading j e low high =
     }
 
 -- the binary digits are those below the leading zeros
-pub digits_below_leading : (w b bits leading x : ℕ) → bits ≡ w → b ≡ 2 ^ w → 0 < x → x < b → leading ≡ count_leading_zeros w x
-    → HasDigits w x (bits - leading)
+pub digits_below_leading : (w b bits leading x : ℕ) → bits ≡ w → b ≡ 2 ^ w → 0 < x → x < b
+    → leading ≡ count_leading_zeros w x → HasDigits w x (bits - leading)
 digits_below_leading w b bits leading x eb eB some below ez =
     let t = leading_top w x some (subst (λ n. x < n) eB below) in
     let e : suc t.0 ≡ bits - leading = omega (arith, t.1) in
@@ -36,9 +36,11 @@ pub record IsPrepared (w b d less n gap : ℕ) : Type 0 where
   pub fits : d < b
   pub whole : gap + d ≡ 2 ^ n
 
-pub prepared : (w b d less n gap one all : ℕ) → HasDigits w less n → d < b → one ≡ 1 → less + one ≡ d → all + 1 ≡ 2 ^ n → gap + less ≡ all
+pub prepared : (w b d less n gap one all : ℕ) → HasDigits w less n → d < b → one ≡ 1 → less + one ≡ d
+    → all + 1 ≡ 2 ^ n → gap + less ≡ all
     → IsPrepared w b d less n gap
-prepared w b d less n gap one all digits fits e1 e2 e3 e4 = record { digits = digits; next = omega arith; fits = fits; whole = omega arith }
+prepared w b d less n gap one all digits fits e1 e2 e3 e4 =
+    record { digits = digits; next = omega arith; fits = fits; whole = omega arith }
 
 -- the quotient leaves room for one more
 quotient_below : (w b d less n gap : ℕ) → IsPrepared w b d less n gap → b * gap / d + 1 < b

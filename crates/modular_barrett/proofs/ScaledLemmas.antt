@@ -12,6 +12,14 @@ use Rattle.modular_word.proofs.ResidueLemmas.{residue_is, residue_sub, residue_s
 use Rattle.modular_reduced.specs.Forms.{Represents, IsForm}
 use Rattle.modular_barrett.specs.Scaling.{scale, scaled_form, scaled_value, IsScaling}
 
+-- f is a scaled form modulo m
+abbrev pub IsScaledForm : ℕ → ℕ → ℕ → Type 0
+IsScaledForm w m f = IsForm (scaled_form w) (scaled_value w) m f
+
+-- modulo m the scaled form f stands for v
+abbrev pub Stands : ℕ → ℕ → ℕ → ℕ → Type 0
+Stands w m f v = Represents (scaled_form w) m f v
+
 -- the scaled modulus has its top bit set, and is a word
 pub record IsNormalized (w b m s : ℕ) : Type 0 where
   pub inside : s < w
@@ -23,7 +31,8 @@ scaled_to_top w b m s eb some below es =
     let t = leading_top w m some (subst (λ n. m < n) eb below) in
     let e : s + suc t.0 ≡ w = omega (arith, t.1) in
     let whole : b ≡ 2 * (2 ^ t.0 * 2 ^ s) =
-    eb ∙ ap (λ n. 2 ^ n) (let u : w ≡ suc (t.0 + s) = omega arith in u) ∙ pow-succ' 2 (t.0 + s) ∙ ap (λ n. 2 * n) (pow-add 2 t.0 s) in
+    eb ∙ ap (λ n. 2 ^ n) (let u : w ≡ suc (t.0 + s) = omega arith in u)
+    ∙ pow-succ' 2 (t.0 + s) ∙ ap (λ n. 2 * n) (pow-add 2 t.0 s) in
     let up : 2 ^ t.0 * 2 ^ s ≤ m * 2 ^ s = mul-le-mul_right (2 ^ s) t.2 in
     let power : 2 ^ (suc t.0 + s) ≡ b = ap (λ n. 2 ^ n) (let u : suc t.0 + s ≡ w = omega arith in u) ∙ sym eb in
     record {
@@ -38,7 +47,8 @@ scaled_remainder x m p hm hp =
     let f : m * (x / m) + x % m ≡ x = div-add-mod x m in
     let g : (m * (x / m) + x % m) * p ≡ x * p = ap (λ n. n * p) f in
     let e : x * p ≡ x % m * p + m * p * (x / m) = omega arith in
-    ap (λ n. n % (m * p)) e ∙ add-mul-mod_self_left (x % m * p) (m * p) (x / m) ∙ mod-eq_of_lt (mul-lt-mul_of_pos_right (mod-lt x hm) hp)
+    ap (λ n. n % (m * p)) e ∙ add-mul-mod_self_left (x % m * p) (m * p) (x / m)
+    ∙ mod-eq_of_lt (mul-lt-mul_of_pos_right (mod-lt x hm) hp)
 
 -- the divisor by the scale of the modulus
 pub divisor_is : {w m d s : ℕ} → IsScaling w m d s → d ≡ m * scale w m
@@ -48,20 +58,20 @@ some_scale : (w m : ℕ) → 0 < scale w m
 some_scale w m = pow_pos (count_leading_zeros w m)
 
 -- what is the remainder of a scaled number stands for the remainder
-stands_for : (w m d x r : ℕ) → 0 < m → d ≡ m * scale w m → r ≡ (x * scale w m) % d → Represents (scaled_form w) m r (x % m)
+stands_for : (w m d x r : ℕ) → 0 < m → d ≡ m * scale w m → r ≡ (x * scale w m) % d → Stands w m r (x % m)
 stands_for w m d x r positive ed e = record {
   below = mod-lt x positive;
   same = e ∙ ap (λ n. (x * scale w m) % n) ed ∙ scaled_remainder x m (scale w m) positive (some_scale w m);
 }
 
 -- a form is below the scaled modulus
-pub form_below : (w m d f : ℕ) → d ≡ m * scale w m → IsForm (scaled_form w) (scaled_value w) m f → f < d
+pub form_below : (w m d f : ℕ) → d ≡ m * scale w m → IsScaledForm w m f → f < d
 form_below w m d f ed form =
     let h : scaled_value w m f * scale w m < m * scale w m = mul-lt-mul_of_pos_right form.below (some_scale w m) in
     omega (arith, form.same)
 
 -- what a form stands for is its value
-pub value_is : (w m f v : ℕ) → Represents (scaled_form w) m f v → v ≡ scaled_value w m f
+pub value_is : (w m f v : ℕ) → Stands w m f v → v ≡ scaled_value w m f
 value_is w m f v h = sym (ap (λ n. n / scale w m) h.same ∙ shl-shr v (count_leading_zeros w m))
 
 -- the remainder of a division
@@ -69,8 +79,8 @@ remainder_of : (a d q r : ℕ) → IsDivision a d q r → r ≡ a % d
 remainder_of a d q r h = sym (ap (λ n. n % d) h.whole ∙ mod-mul-add q d r h.below)
 
 -- sums of forms
-pub sum_stands : (w m d a b r : ℕ) → 0 < m → d ≡ m * scale w m → IsForm (scaled_form w) (scaled_value w) m a → IsForm (scaled_form w) (scaled_value w) m b
-    → r ≡ (a + b) % d → Represents (scaled_form w) m r ((scaled_value w m a + scaled_value w m b) % m)
+pub sum_stands : (w m d a b r : ℕ) → 0 < m → d ≡ m * scale w m → IsScaledForm w m a → IsScaledForm w m b
+    → r ≡ (a + b) % d → Stands w m r ((scaled_value w m a + scaled_value w m b) % m)
 sum_stands w m d a b r positive ed fa fb e =
     let x = scaled_value w m a in
     let y = scaled_value w m b in
@@ -78,8 +88,8 @@ sum_stands w m d a b r positive ed fa fb e =
     stands_for w m d (x + y) r positive ed (e ∙ ap (λ n. n % d) whole)
 
 -- doubles of forms
-pub double_stands : (w m d a r : ℕ) → 0 < m → d ≡ m * scale w m → IsForm (scaled_form w) (scaled_value w) m a
-    → r ≡ (2 * a) % d → Represents (scaled_form w) m r ((2 * scaled_value w m a) % m)
+pub double_stands : (w m d a r : ℕ) → 0 < m → d ≡ m * scale w m → IsScaledForm w m a
+    → r ≡ (2 * a) % d → Stands w m r ((2 * scaled_value w m a) % m)
 double_stands w m d a r positive ed fa e =
     let x = scaled_value w m a in
     let whole : 2 * a ≡ (2 * x) * scale w m = omega (arith, fa.same) in
@@ -105,8 +115,8 @@ residue_scaled m p x y hx hy hp =
     (cases_lt x y)
 
 -- differences of forms
-pub difference_stands : (w m d a b r : ℕ) → 0 < m → d ≡ m * scale w m → IsForm (scaled_form w) (scaled_value w) m a → IsForm (scaled_form w) (scaled_value w) m b
-    → r ≡ residue d (pos a -ℤ pos b) → Represents (scaled_form w) m r (residue m (pos (scaled_value w m a) -ℤ pos (scaled_value w m b)))
+pub difference_stands : (w m d a b r : ℕ) → 0 < m → d ≡ m * scale w m → IsScaledForm w m a → IsScaledForm w m b
+    → r ≡ residue d (pos a -ℤ pos b) → Stands w m r (residue m (pos (scaled_value w m a) -ℤ pos (scaled_value w m b)))
 difference_stands w m d a b r positive ed fa fb e =
     let x = scaled_value w m a in
     let y = scaled_value w m b in
@@ -114,32 +124,36 @@ difference_stands w m d a b r positive ed fa fb e =
     record {
       below = (residue_is m (pos x -ℤ pos y) positive).below;
       same = e ∙ ap (λ n. residue n (pos a -ℤ pos b)) ed ∙ ap (λ n. residue (m * p) (pos n -ℤ pos b)) fa.same
-          ∙ ap (λ n. residue (m * p) (pos (x * p) -ℤ pos n)) fb.same ∙ residue_scaled m p x y fa.below fb.below (some_scale w m);
+          ∙ ap (λ n. residue (m * p) (pos (x * p) -ℤ pos n)) fb.same
+          ∙ residue_scaled m p x y fa.below fb.below (some_scale w m);
     }
 
 -- negatives of forms, as differences from 0
-pub negative_stands : (w m d a r : ℕ) → 0 < m → d ≡ m * scale w m → IsForm (scaled_form w) (scaled_value w) m a
-    → r ≡ residue d (neg_ℤ (pos a)) → Represents (scaled_form w) m r (residue m (neg_ℤ (pos (scaled_value w m a))))
+pub negative_stands : (w m d a r : ℕ) → 0 < m → d ≡ m * scale w m → IsScaledForm w m a
+    → r ≡ residue d (neg_ℤ (pos a)) → Stands w m r (residue m (neg_ℤ (pos (scaled_value w m a))))
 negative_stands w m d a r positive ed fa e =
     let x = scaled_value w m a in
     let p = scale w m in
     let zero_less : (n : ℕ) → pos 0 -ℤ pos n ≡ neg_ℤ (pos n) = λ n. omega (arith, ints) in
     let scaled : residue (m * p) (neg_ℤ (pos (x * p))) ≡ residue m (neg_ℤ (pos x)) * p =
-    ap (residue (m * p)) (sym (zero_less (x * p))) ∙ ap (λ n. residue (m * p) (pos n -ℤ pos (x * p))) (let z : 0 ≡ 0 * p = omega arith in z) ∙ residue_scaled m p 0 x positive fa.below (some_scale w m) ∙ ap (λ n. residue m n * p) (zero_less x) in
+    ap (residue (m * p)) (sym (zero_less (x * p)))
+    ∙ ap (λ n. residue (m * p) (pos n -ℤ pos (x * p))) (let z : 0 ≡ 0 * p = omega arith in z)
+    ∙ residue_scaled m p 0 x positive fa.below (some_scale w m) ∙ ap (λ n. residue m n * p) (zero_less x) in
     record {
       below = (residue_is m (neg_ℤ (pos x)) positive).below;
       same = e ∙ ap (λ n. residue n (neg_ℤ (pos a))) ed ∙ ap (λ n. residue (m * p) (neg_ℤ (pos n))) fa.same ∙ scaled;
     }
 
--- the product of a value and a form, divided by the scaled modulus
-pub product_stands : (w m d x b whole q r : ℕ) → 0 < m → d ≡ m * scale w m → IsForm (scaled_form w) (scaled_value w) m b
-    → whole ≡ x * b → IsDivision whole d q r → Represents (scaled_form w) m r ((x * scaled_value w m b) % m)
-product_stands w m d x b whole q r positive ed fb ew division =
+-- the product of a value, that of the form a, and a form, divided by the scaled modulus
+pub product_stands : (w m d a x b whole q r : ℕ) → 0 < m → d ≡ m * scale w m → Stands w m a x → IsScaledForm w m b
+    → whole ≡ x * b → IsDivision whole d q r → Stands w m r ((scaled_value w m a * scaled_value w m b) % m)
+product_stands w m d a x b whole q r positive ed stands fb ew division =
     let y = scaled_value w m b in
     let p = scale w m in
     let e : x * b ≡ x * (y * p) = ap (λ n. x * n) fb.same in
     let e' : whole ≡ (x * y) * p = omega arith in
-    stands_for w m d (x * y) r positive ed (remainder_of whole d q r division ∙ ap (λ n. n % d) e')
+    subst (λ v. Stands w m r ((v * y) % m)) (value_is w m a x stands)
+    (stands_for w m d (x * y) r positive ed (remainder_of whole d q r division ∙ ap (λ n. n % d) e'))
 
 -- it fits the division
 pub product_fits : (b m d s x y whole : ℕ) → d ≡ m * 2 ^ s → x < m → y < b → whole ≡ x * y → whole < d * b
@@ -150,9 +164,11 @@ product_fits b m d s x y whole ed hx hy e =
     omega arith
 
 -- a word scaled, divided by the scaled modulus
-pub remainder_stands : (w m d s n whole q r : ℕ) → IsScaling w m d s → whole ≡ n * 2 ^ s → IsDivision whole d q r → Represents (scaled_form w) m r (n % m)
+pub remainder_stands : (w m d s n whole q r : ℕ) → IsScaling w m d s → whole ≡ n * 2 ^ s → IsDivision whole d q r
+    → Stands w m r (n % m)
 remainder_stands w m d s n whole q r is e division =
-    stands_for w m d n r is.positive (divisor_is is) (remainder_of whole d q r division ∙ ap (λ v. v % d) (e ∙ ap (λ v. n * 2 ^ v) is.zeros))
+    stands_for w m d n r is.positive (divisor_is is)
+    (remainder_of whole d q r division ∙ ap (λ v. v % d) (e ∙ ap (λ v. n * 2 ^ v) is.zeros))
 
 -- it fits the division
 pub scaled_fits : (w b m d s n whole : ℕ) → IsScaling w m d s → n < b → whole ≡ n * 2 ^ s → whole < d * b
@@ -164,26 +180,40 @@ scaled_fits w b m d s n whole is hn e =
     omega arith
 
 -- a number below the modulus, scaled
-pub word_stands : (w m d s n r : ℕ) → IsScaling w m d s → n < m → r ≡ n * 2 ^ s → Represents (scaled_form w) m r n
+word_stands : (w m d s n r : ℕ) → IsScaling w m d s → n < m → r ≡ n * 2 ^ s → Stands w m r n
 word_stands w m d s n r is h e = record { below = h; same = e ∙ ap (λ v. n * 2 ^ v) is.zeros }
 
+pub below_stands : (w m d s n r : ℕ) → IsScaling w m d s → n < m → r ≡ n * 2 ^ s → Stands w m r (n % m)
+below_stands w m d s n r is h e = subst (Stands w m r) (sym (mod-eq_of_lt h)) (word_stands w m d s n r is h e)
+
 -- what is kept for a modulus
-pub scaling_of : (w b m d s : ℕ) → b ≡ 2 ^ w → 0 < m → m < b → s ≡ count_leading_zeros w m → d ≡ m * 2 ^ s → IsScaling w (d / 2 ^ s) d s
+pub scaling_of : (w b m d s : ℕ) → b ≡ 2 ^ w → 0 < m → m < b → s ≡ count_leading_zeros w m → d ≡ m * 2 ^ s
+    → IsScaling w (d / 2 ^ s) d s
 scaling_of w b m d s eb some below es ed =
     let top = scaled_to_top w b m s eb some below es in
     let back : m ≡ d / 2 ^ s = sym (ap (λ n. n / 2 ^ s) ed ∙ shl-shr m s) in
     subst (λ n. IsScaling w n d s) back
-    (record { positive = some; fits = subst (λ n. d < n) eb (omega (arith, top.fits)); inside = top.inside; zeros = es; scaled = ed })
+    (record {
+      positive = some;
+      fits = subst (λ n. d < n) eb (omega (arith, top.fits));
+      inside = top.inside;
+      zeros = es;
+      scaled = ed;
+    })
 
 -- the inverse of what a form stands for, scaled
-pub inverse_stands : (w m d s modulus f v x r : ℕ) → IsScaling w m d s → modulus ≡ m → Represents (scaled_form w) m f v → IsInverse modulus v x → r ≡ x * 2 ^ s
-    → (y : ℕ) × IsInverse m (scaled_value w m f) y × Represents (scaled_form w) m r y
+pub inverse_stands : (w m d s modulus f v x r : ℕ) → IsScaling w m d s → modulus ≡ m → Stands w m f v
+    → IsInverse modulus v x → r ≡ x * 2 ^ s
+    → (y : ℕ) × IsInverse m (scaled_value w m f) y × Stands w m r y
 inverse_stands w m d s modulus f v x r is em stands inverse e =
     let found : IsInverse m (scaled_value w m f) x =
-    subst (λ n. IsInverse n (scaled_value w m f) x) em (subst (λ n. IsInverse modulus n x) (value_is w m f v stands) inverse) in
+    subst (λ n. IsInverse n (scaled_value w m f) x) em
+    (subst (λ n. IsInverse modulus n x) (value_is w m f v stands) inverse) in
     (x, found, word_stands w m d s x r is found.below e)
 
-pub no_inverse_stands : (w m modulus f v : ℕ) → modulus ≡ m → Represents (scaled_form w) m f v → ((x : ℕ) → IsInverse modulus v x → ⊥)
+pub no_inverse_stands : (w m modulus f v : ℕ) → modulus ≡ m → Stands w m f v → ((x : ℕ) → IsInverse modulus v x → ⊥)
     → (x : ℕ) → IsInverse m (scaled_value w m f) x → ⊥
 no_inverse_stands w m modulus f v em stands none x h =
-    none x (subst (λ n. IsInverse modulus n x) (sym (value_is w m f v stands)) (subst (λ n. IsInverse n (scaled_value w m f) x) (sym em) h))
+    none x
+    (subst (λ n. IsInverse modulus n x) (sym (value_is w m f v stands))
+    (subst (λ n. IsInverse n (scaled_value w m f) x) (sym em) h))

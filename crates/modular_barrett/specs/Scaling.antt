@@ -1,4 +1,5 @@
--- Forms that are scaled to the top of a word of w bits (Möller and Granlund, "Improved division by invariant integers", section 1: the normalized divisor).
+-- Forms that are scaled to the top of a word of w bits, as a normalized divisor is
+-- (Möller and Granlund, "Improved division by invariant integers", section 1).
 use Rattle.std.specs.Prelude.{◌≡◌, ℕ, ◌*◌, ◌/◌, ◌^◌, ◌<◌}
 use Rattle.std.specs.Int.Count.{count_leading_zeros}
 

@@ -59,9 +59,9 @@ impl<T: PlainWord> PreMulInv1by1<T> {
         let less = d.minus(T::one());
         let n = digits(less);
         let gap = ones::<T>(n).minus(less);
-        let multiplier = T::low_quotient(T::merge(T::zero(), gap), d).plus(T::one());
+        let quotient = T::low_quotient(T::merge(T::zero(), gap), d);
         PreMulInv1by1 {
-            multiplier,
+            multiplier: quotient.plus(T::one()),
             shift: n - 1,
         }
     }

@@ -89,7 +89,7 @@ impl<T: PlainWord> Reducer<T> for PreMulInv2by1<T> {
 
     ghost admitted = { λ r. r.scaling.positive };
 
-    ghost canonical = { λ r. scaled_canonical T.width (T.number r.divider.divisor / 2 ^ r.shift) (T.number r.divider.divisor) r.shift r.scaling };
+    ghost canonical = { λ r. scaled_canonical r.scaling };
 
     fn new(m: &T) -> Self {
         Self::new(*m)

@@ -1,4 +1,4 @@
-use Rattle.std.proofs.Common.{◌≡◌, ◌≢◌, ℕ, ◌+◌, ◌*◌, ◌<◌, arith, rules}
+use Rattle.std.proofs.Common.{◌≡◌, ◌≢◌, ℕ, ◌+◌, ◌*◌, arith, rules}
 use Rattle.std.proofs.lemmas.Nat.{same_from_place}
 use Rattle.modular_word.specs.Division.{IsDivision}
 use Rattle.modular_barrett.proofs.exact.exact_quotient.Goals as goal
