@@ -1,6 +1,6 @@
 -- The steps of a power modulo m by binary digits, with scaled residues.
-use Rattle.std.proofs.Common.{◌≡◌, ◌≢◌, ℕ, suc, ◌+◌, ◌*◌, ◌/◌, ◌%◌, ◌^◌, ◌<◌, ◌≤◌, sym, ap, ◌∙◌, subst, refl, arith}
-use Rattle.std.proofs.Math.Nat.{mod-lt, mod-mod, mod-eq_of_lt, pow-zero, mul-one, one-mul}
+use Rattle.std.proofs.Common.{◌≡◌, ◌≢◌, ℕ, ◌*◌, ◌/◌, ◌%◌, ◌^◌, ◌<◌, sym, ap, ◌∙◌, refl, arith}
+use Rattle.std.proofs.Math.Nat.{mod-lt, mod-eq_of_lt, pow-zero, mul-one, one-mul}
 use Rattle.std.proofs.lemmas.Nat.{pow-add, mul-mod_first, pow-mod, shl-shr}
 use Rattle.modular_word.proofs.Powers.{power_even, power_odd, pow-one}
 use Rattle.modular_prim.proofs.Scaled.{scaled_product_of, scaled_below}

@@ -1,5 +1,4 @@
-use Rattle.std.proofs.Common.{pos, neg_ℤ, ap, ◌∙◌}
-use Rattle.modular_word.specs.Residues.{residue}
+use Rattle.std.proofs.Common.{◌∙◌}
 use Rattle.modular_prim.proofs.ResidueSteps.{neg_of_rest}
 use Rattle.modular_prim.proofs.core_ops.negm.Goals as goal
 

@@ -1,5 +1,5 @@
-use Rattle.std.proofs.Common.{◌≡◌, ◌≢◌, ◌+◌, ◌*◌, ◌/◌, ◌%◌, ◌^◌, ◌<◌, ◌≤◌, sym, ap, ◌∙◌, subst, arith}
-use Rattle.modular_prim.proofs.Scaled.{scaled_to_top, scaled_below, IsNormalized}
+use Rattle.std.proofs.Common.{◌≡◌, ◌≢◌, ◌*◌, ◌%◌, ◌^◌, ◌<◌, ◌≤◌, sym, ap, ◌∙◌, subst, arith}
+use Rattle.modular_prim.proofs.Scaled.{scaled_to_top}
 use Rattle.modular_prim.proofs.PowerSteps.{PowerSoFar, start_odd, start_even, step_odd, step_even, finished, product_below, power_below}
 use Rattle.modular_prim.proofs.power.power_by_reciprocal.Goals as goal
 use Rattle.modular_prim.proofs.power.power_by_reciprocal.Goals.{then-is_odd, else-is_odd, then-is_odd-2, else-is_odd-2}

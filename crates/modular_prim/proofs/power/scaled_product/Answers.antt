@@ -1,4 +1,4 @@
-use Rattle.std.proofs.Common.{◌≡◌, ◌*◌, ◌/◌, ◌%◌, ◌^◌, ap, ◌∙◌}
+use Rattle.std.proofs.Common.{◌*◌, ◌%◌, ap, ◌∙◌}
 use Rattle.modular_prim.proofs.Scaled.{remainder_of}
 use Rattle.modular_prim.proofs.power.scaled_product.Goals as goal
 
