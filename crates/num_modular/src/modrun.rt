@@ -1,8 +1,12 @@
 //! The program `modrun`: ring commands that are given as words, run on eight registers.
 
-ghost use Rattle.std.specs.Prelude.{◌≡◌, ℕ, ◌<◌, ◌≤◌, All, IfOk};
+ghost use Rattle.std.specs.Prelude.{◌≡◌, ℕ, ◌<◌, ◌≤◌, ◌↔◌, List, All, IsTrue, OnOk, IfOk, MatchOption, MatchResult, slice_index};
+ghost use Rattle.std.specs.Borrow.{Bor};
+ghost use Rattle.std.specs.Io.KnownBytes.{Appends};
 ghost use Rattle.modular_reduced.specs.Forms.{IsForm};
-ghost use Rattle.num_modular.specs.Ring.{IsFit};
+ghost use Rattle.num_modular.specs.Ring.{IsFit, values_of};
+ghost use Rattle.num_modular.specs.Program.{Ask, AreCommands, IsHeading, IsAdmitted, IsRun, IsAnswer, IsFault, reducer_name, usage, line_of};
+ghost use Rattle.num_modular.specs.Words.{FindsWhere};
 
 use self::words::{REGISTERS, command, number};
 use crate::ring::{RingCommand, RunEnd, run};
@@ -17,6 +21,17 @@ use std::io::Write;
 #[cfg(test)]
 mod tests;
 pub mod words;
+
+/// The reducers, by the words that name them.
+#[derive(Clone, Copy, Debug, PartialEq, Eq)]
+pub enum ReducerName {
+    /// `vanilla`, for the moduli from 1 up.
+    Vanilla,
+    /// `premul`, for the moduli from 1 up.
+    PreMul,
+    /// `montgomery`, for the odd moduli.
+    Montgomery,
+}
 
 // What stopped the reading of the commands.
 enum Fault {
@@ -39,7 +54,10 @@ enum Fault {
 /// | 3 | memory was refused for a command that was read | `out of memory` |
 /// | 4 | a write failed | none more |
 pub fn run_words<O: Write, E: Write>(alloc: Global, words: &[&str], out: &mut O, err: &mut E) -> u8
-    ensures { result ≤ 4 }
+    ensures range { result ≤ 4 }
+    ensures answer { result < 4 → IsAnswer (Ask words.now) (out.new ≡ out.old)
+        (Appends (O.contents out.old) (O.contents out.new))
+        (Appends (E.contents err.old) (E.contents err.new)) result }
 {
     run_words_in(&alloc, words, out, err)
 }
@@ -51,7 +69,10 @@ fn run_words_in<A: Allocator, O: Write, E: Write>(
     out: &mut O,
     err: &mut E,
 ) -> u8
-    ensures { result ≤ 4 }
+    ensures range { result ≤ 4 }
+    ensures answer { result < 4 → IsAnswer (Ask words.now) (out.new ≡ out.old)
+        (Appends (O.contents out.old) (O.contents out.new))
+        (Appends (E.contents err.old) (E.contents err.new)) result }
 {
     match run_by_name(alloc, words, out, err) {
         Ok(status) => status,
@@ -66,33 +87,62 @@ fn run_by_name<A: Allocator, O: Write, E: Write>(
     out: &mut O,
     err: &mut E,
 ) -> io::Result<u8>
-    ensures { IfOk result (λ status. status < 4) }
+    ensures { IfOk result (IsAnswer (Ask words.now) (out.new ≡ out.old)
+        (Appends (O.contents out.old) (O.contents out.new))
+        (Appends (E.contents err.old) (E.contents err.new))) }
 {
     let Some((reducer, modulus, commands)) = heading(words) else {
         return refuse(err);
     };
     match reducer {
-        "vanilla" if modulus > 0 => { run_over(&Vanilla::new(&modulus), alloc, commands, out, err) }
-        "premul" if modulus > 0 => {
-            run_over(&PreMulInv2by1::new(modulus), alloc, commands, out, err)
-        }
-        "montgomery" if modulus % 2 == 1 => {
-            run_over(&Montgomery::new(modulus), alloc, commands, out, err)
-        }
-        _ => refuse(err),
+        ReducerName::Vanilla => run_over(&Vanilla::new(&modulus), alloc, commands, out, err),
+        ReducerName::PreMul => run_over(&PreMulInv2by1::new(modulus), alloc, commands, out, err),
+        ReducerName::Montgomery => run_over(&Montgomery::new(modulus), alloc, commands, out, err),
     }
 }
 
-// The reducer's name, the modulus and the words of the commands.
-fn heading<'a>(words: &'a [&'a str]) -> Option<(&'a str, u64, &'a [&'a str])> {
-    let (reducer, rest) = words.split_first()?;
+// The reducer, the modulus and the words of the commands.
+fn heading<'a>(words: &'a [&'a str]) -> Option<(ReducerName, u64, &'a [&'a str])>
+    ensures { MatchOption result
+        ((reducer : ReducerName) (m : ℕ) (rest : List (Bor (List ℕ))) → IsHeading words.now reducer m rest → ⊥)
+        (λ h. IsHeading words.now h.0 h.1 h.2.now) }
+{
+    let (name, rest) = words.split_first()?;
     let (modulus, commands) = rest.split_first()?;
-    Some((*reducer, number(modulus)?, commands))
+    let reducer = reducer_named(name)?;
+    let modulus = number(modulus)?;
+    if admits(reducer, modulus) {
+        Some((reducer, modulus, commands))
+    } else {
+        None
+    }
+}
+
+// The reducer of a name.
+fn reducer_named(name: &str) -> Option<ReducerName>
+    ensures { FindsWhere (λ reducer. name.now ≡ reducer_name reducer) result }
+{
+    match name {
+        "vanilla" => Some(ReducerName::Vanilla),
+        "premul" => Some(ReducerName::PreMul),
+        "montgomery" => Some(ReducerName::Montgomery),
+        _ => None,
+    }
+}
+
+// Whether a reducer admits a modulus.
+fn admits(reducer: ReducerName, modulus: u64) -> bool
+    ensures { IsTrue result ↔ IsAdmitted reducer modulus }
+{
+    match reducer {
+        ReducerName::Vanilla | ReducerName::PreMul => modulus > 0,
+        ReducerName::Montgomery => modulus % 2 == 1,
+    }
 }
 
 // The status of words that can't be read.
 fn refuse<E: Write>(err: &mut E) -> io::Result<u8>
-    ensures { IfOk result (λ status. status ≡ 2) }
+    ensures { IfOk result (λ status. (status ≡ 2) × Appends (E.contents err.old) (E.contents err.new) usage) }
 {
     writeln!(err, "usage: modrun REDUCER MODULUS COMMAND...")?;
     Ok(2)
@@ -106,7 +156,9 @@ fn run_over<R: Reducer<u64>, A: Allocator, O: Write, E: Write>(
     out: &mut O,
     err: &mut E,
 ) -> io::Result<u8>
-    ensures { IfOk result (λ status. status < 4) }
+    ensures { IfOk result (IsAnswer (λ m commands. (m ≡ R.modulus reducer.now) × AreCommands words.now commands) (out.new ≡ out.old)
+        (Appends (O.contents out.old) (O.contents out.new))
+        (Appends (E.contents err.old) (E.contents err.new))) }
 {
     match read_commands(alloc, words) {
         Ok(commands) => run_commands(reducer, commands.as_slice(), out, err),
@@ -123,7 +175,7 @@ fn read_commands<'a, A: Allocator>(
     alloc: &'a A,
     words: &[&str],
 ) -> Result<Vec<RingCommand<u64>, &'a A>, Fault>
-    ensures { IfOk result (λ v. All (IsFit 8) v.items) }
+    ensures { MatchResult result (λ v. AreCommands words.now v.items) (λ fault. IsFault words.now fault) }
 {
     let mut commands = Vec::new(alloc);
     'words: for word in words {
@@ -145,7 +197,9 @@ fn run_commands<R: Reducer<u64>, O: Write, E: Write>(
     err: &mut E,
 ) -> io::Result<u8>
     requires { All (IsFit 8) commands.now }
-    ensures { IfOk result (λ status. status < 2) }
+    ensures { IfOk result (λ status. IsRun (R.modulus reducer.now) commands.now status
+        (Appends (O.contents out.old) (O.contents out.new))
+        (Appends (E.contents err.old) (E.contents err.new))) }
 {
     let mut registers = [reducer.transform(0); REGISTERS];
     let end = run(reducer, &mut registers, commands);
@@ -166,17 +220,21 @@ fn write_residues<R: Reducer<u64>, O: Write>(
     out: &mut O,
 ) -> io::Result<()>
     requires { All (λ f. IsForm R.form R.value (R.modulus reducer.now) f) registers.now }
+    ensures { OnOk result (Appends (O.contents out.old) (O.contents out.new)
+        (line_of (λ r. slice_index (values_of (λ f. f) R.value (R.modulus reducer.now) registers.now) r))) }
 {
-    writeln!(
-        out,
-        "{} {} {} {} {} {} {} {}",
-        reducer.residue(registers[0]),
-        reducer.residue(registers[1]),
-        reducer.residue(registers[2]),
-        reducer.residue(registers[3]),
-        reducer.residue(registers[4]),
-        reducer.residue(registers[5]),
-        reducer.residue(registers[6]),
-        reducer.residue(registers[7])
-    )
+    write!(out, "{}", residue_at(reducer, registers, 0))?;
+    'rest: for index in 0..REGISTERS - 1 {
+        write!(out, " {}", residue_at(reducer, registers, index + 1))?;
+    }
+    writeln!(out)
+}
+
+// The residue of a register.
+fn residue_at<R: Reducer<u64>>(reducer: &R, registers: &[u64; REGISTERS], index: usize) -> u64
+    requires forms { All (λ f. IsForm R.form R.value (R.modulus reducer.now) f) registers.now }
+    requires within { index < 8 }
+    ensures { result ≡ slice_index (values_of (λ f. f) R.value (R.modulus reducer.now) registers.now) index }
+{
+    reducer.residue(registers[index])
 }

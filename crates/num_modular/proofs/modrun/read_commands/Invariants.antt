@@ -1,6 +1,6 @@
-use Rattle.std.proofs.Common.{All}
-use Rattle.num_modular.specs.Ring.{IsFit}
+use Rattle.std.proofs.Common.{take}
+use Rattle.num_modular.specs.Program.{AreCommands}
 use Rattle.num_modular.proofs.modrun.read_commands.Given as goal
 
 abbrev pub invariant-words : goal.invariant-words
-invariant-words g l = All (IsFit 8) l.commands.items
+invariant-words g l = AreCommands (take l.word-index l.words) l.commands.items

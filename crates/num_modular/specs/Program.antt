@@ -1,0 +1,102 @@
+-- What the program `modrun` prints and answers for the words after its name. A text is the list of its bytes.
+use Rattle.std.specs.Prelude.{◌≡◌, ℕ, zero, suc, ◌%◌, ◌<◌, List, [], ◌∷◌, ◌++◌, replicate, codes}
+use Rattle.std.specs.Borrow.{Bor}
+use Rattle.std.specs.Fmt.{decimal}
+use Rattle.num_modular.specs.declared.ring.RingCommand.{RingCommand}
+use Rattle.num_modular.specs.declared.modrun.Fault.{Fault}
+use Rattle.num_modular.specs.declared.modrun.Fault.TheVariants.{Unreadable, OutOfMemory}
+use Rattle.num_modular.specs.declared.modrun.ReducerName.{ReducerName}
+use Rattle.num_modular.specs.declared.modrun.ReducerName.TheVariants.{Vanilla, PreMul, Montgomery}
+use Rattle.num_modular.specs.declared.ring.RunEnd.{RunEnd}
+use Rattle.num_modular.specs.declared.ring.RunEnd.TheVariants.{Done, NoInverse}
+use Rattle.num_modular.specs.Ring.{IsStop, value_at, carried_out}
+use Rattle.num_modular.specs.Words.{IsNumberText, IsCommandWord}
+
+-- how a reducer is named
+abbrev pub reducer_name : ReducerName → List ℕ
+reducer_name Vanilla = codes "vanilla"
+reducer_name PreMul = codes "premul"
+reducer_name Montgomery = codes "montgomery"
+
+-- the moduli that a reducer admits
+abbrev pub IsAdmitted : ReducerName → ℕ → Type 0
+IsAdmitted Vanilla m = 0 < m
+IsAdmitted PreMul m = 0 < m
+IsAdmitted Montgomery m = m % 2 ≡ 1
+
+-- the words stand for the commands, one for one
+abbrev pub AreCommands : List (Bor (List ℕ)) → List (RingCommand ℕ) → Type 0
+AreCommands [] [] = Unit {0}
+AreCommands (word ∷ words) (command ∷ commands) = IsCommandWord word.now command × AreCommands words commands
+AreCommands [] (command ∷ commands) = ⊥
+AreCommands (word ∷ words) [] = ⊥
+
+-- what stopped the reading of commands: the words stand for none, or memory was refused
+abbrev pub IsFault : List (Bor (List ℕ)) → Fault → Type 0
+IsFault words Unreadable = (commands : List (RingCommand ℕ)) → AreCommands words commands → ⊥
+IsFault words OutOfMemory = Unit {0}
+
+-- the words are the name of the reducer, the modulus, which it admits, and the words of commands
+pub record IsHeading (words : List (Bor (List ℕ))) (reducer : ReducerName) (m : ℕ) (rest : List (Bor (List ℕ))) : Type 0 where
+  pub name : Bor (List ℕ)
+  pub modulus : Bor (List ℕ)
+  pub split : words ≡ name ∷ modulus ∷ rest
+  pub named : name.now ≡ reducer_name reducer
+  pub read : IsNumberText modulus.now m
+  pub admitted : IsAdmitted reducer m
+
+-- the words ask for the commands modulo m
+pub record Ask (words : List (Bor (List ℕ))) (m : ℕ) (commands : List (RingCommand ℕ)) : Type 0 where
+  pub reducer : ReducerName
+  pub rest : List (Bor (List ℕ))
+  pub heading : IsHeading words reducer m rest
+  pub read : AreCommands rest commands
+
+-- what eight registers start with
+abbrev pub zeros : List ℕ
+zeros = replicate 8 0
+
+-- the end of a run of the commands modulo m
+abbrev pub IsEnd : ℕ → List (RingCommand ℕ) → RunEnd → Type 0
+IsEnd m commands Done = (at : ℕ) → IsStop m zeros commands at → ⊥
+IsEnd m commands (NoInverse at) = IsStop m zeros commands at
+
+-- the numbers from v 0 to v i in decimal, with single spaces between
+abbrev pub numbers_to : (ℕ → ℕ) → ℕ → List ℕ
+numbers_to v zero = decimal (v 0)
+numbers_to v (suc i) = numbers_to v i ++ (32 ∷ decimal (v (suc i)))
+
+-- eight of them, and a line end
+abbrev pub line_of : (ℕ → ℕ) → List ℕ
+line_of v = numbers_to v 7 ++ (10 ∷ [])
+
+-- the line of the values that a run leaves
+abbrev pub printed : ℕ → List (RingCommand ℕ) → RunEnd → List ℕ
+printed m commands end = line_of (value_at m zeros commands (carried_out end commands))
+
+-- the status and the error text of an end
+abbrev pub status_of : RunEnd → ℕ
+status_of Done = 0
+status_of (NoInverse at) = 1
+
+abbrev pub told : RunEnd → List ℕ
+told Done = []
+told (NoInverse at) = codes "no inverse at command " ++ (decimal at ++ (10 ∷ []))
+
+abbrev pub usage : List ℕ
+usage = codes "usage: modrun REDUCER MODULUS COMMAND...\n"
+
+-- a run of the commands modulo m, with its status and what it wrote onto the two outputs
+pub record IsRun (m : ℕ) (commands : List (RingCommand ℕ)) (status : ℕ) (Out Err : List ℕ → Type 0) : Type 0 where
+  pub end : RunEnd
+  pub ended : IsEnd m commands end
+  pub answered : status ≡ status_of end
+  pub output : Out (printed m commands end)
+  pub error : Err (told end)
+
+-- an answer to words that ask for commands as Asked says; `untouched` says that nothing was written to the first output
+pub record IsAnswer (Asked : ℕ → List (RingCommand ℕ) → Type 0) (untouched : Type 0) (Out Err : List ℕ → Type 0) (status : ℕ) : Type 0 where
+  pub ran : status < 2 → (m : ℕ) × (commands : List (RingCommand ℕ)) × Asked m commands × IsRun m commands status Out Err
+  pub unreadable : status ≡ 2 → ((m : ℕ) (commands : List (RingCommand ℕ)) → Asked m commands → ⊥) × untouched × Err usage
+  pub memory : status ≡ 3 → untouched × Err (codes "out of memory\n")
+  pub range : status < 4
