@@ -1,6 +1,6 @@
 //! Code that is generic over the modular operations: it knows the answers from the traits alone.
 
-ghost use Rattle.std.specs.Prelude.{◌≡◌, ℕ, ◌+◌, ◌*◌, ◌%◌, ◌^◌, ◌≤◌, pos, ◌-ℤ◌};
+ghost use Rattle.std.specs.Prelude.{◌≡◌, ◌≢◌, ℕ, IsTrue, IsFalse, ◌+◌, ◌*◌, ◌%◌, ◌^◌, ◌≤◌, pos, ◌-ℤ◌};
 ghost use Rattle.modular_word.specs.Division.{IsExactQuotient};
 ghost use Rattle.modular_word.specs.Inverses.{IsInversion};
 ghost use Rattle.modular_word.specs.Residues.{residue};
@@ -71,15 +71,12 @@ pub fn quotient<D: Numbered, P, N: DivExact<D, P>>(n: N, d: D, pre: &P) -> Optio
     n.div_exact(d, pre)
 }
 
-/// Divides the number by d as often as d divides it exactly, twice at most, and says how often.
-pub fn divided_twice<D: Numbered + Copy, P, N: DivExactAssign<D, P>>(n: &mut N, d: D, pre: &P) -> u8
+/// Divides the number by d in place, where d divides it.
+pub fn divided<D: Numbered, P, N: DivExactAssign<D, P>>(n: &mut N, d: D, pre: &P) -> bool
     requires { N.fits d pre.now }
-    ensures none { result ≡ 0 → n.new ≡ n.old }
-    ensures twice { result ≡ 2 → N.whole_number n.new * D.whole_number d * D.whole_number d ≡ N.whole_number n.old }
+    ensures exact { IsTrue result → N.whole_number n.new * D.whole_number d ≡ N.whole_number n.old }
+    ensures unchanged { IsFalse result → n.new ≡ n.old }
+    ensures none { IsFalse result → (k : ℕ) → k * D.whole_number d ≢ N.whole_number n.old }
 {
-    if n.div_exact_assign(d, pre) {
-        if n.div_exact_assign(d, pre) { 2 } else { 1 }
-    } else {
-        0
-    }
+    n.div_exact_assign(d, pre)
 }

@@ -3,7 +3,7 @@
 use crate::ops::{ModularCoreOps, ModularPow, ModularUnaryOps};
 use crate::reciprocal::invert_word;
 use crate::users::{
-    difference, divided_twice, inverse, power, product_and_sum, quotient, signed, square_of_double,
+    difference, divided, inverse, power, product_and_sum, quotient, signed, square_of_double,
 };
 
 #[test]
@@ -68,9 +68,9 @@ fn generic_code(rt: HostRuntime) {
     assert_eq!(rt; quotient(252u8, 7, &()), Some(36));
     assert_eq!(rt; quotient(253u128, 7, &()), None);
     let (mut bytes, mut words) = (98u8, 15u64);
-    assert_eq!(rt; divided_twice(&mut bytes, 7, &()), 2);
-    assert_eq!(rt; divided_twice(&mut words, 7, &()), 0);
-    assert_eq!(rt; (bytes, words), (2, 15));
+    assert_eq!(rt; divided(&mut bytes, 7, &()), true);
+    assert_eq!(rt; divided(&mut words, 7, &()), false);
+    assert_eq!(rt; (bytes, words), (14, 15));
 }
 
 #[test]
