@@ -11,10 +11,14 @@ pub record InverseTo (w m i bits : ℕ) : Type 0 where
 -- what is congruent modulo a power of two is congruent modulo a lower one
 pub lower_power : (c d x y : ℕ) → c ≤ d → x % 2 ^ d ≡ y % 2 ^ d → x % 2 ^ c ≡ y % 2 ^ c
 lower_power c d x y h e =
-    let whole : 2 ^ d ≡ 2 ^ c * 2 ^ (d - c) = ap (λ n. 2 ^ n) (let f : d ≡ c + (d - c) = omega arith in f) ∙ pow-add 2 c (d - c) in
-    let down : (z : ℕ) → z % 2 ^ d % 2 ^ c ≡ z % 2 ^ c = λ z. ap (λ n. z % n % 2 ^ c) whole ∙ mod_of_multiple (2 ^ c) (2 ^ (d - c)) z in
+    let rest = 2 ^ (d - c) in
+    let whole : 2 ^ d ≡ 2 ^ c * rest =
+    ap (λ n. 2 ^ n) (let f : d ≡ c + (d - c) = omega arith in f) ∙ pow-add 2 c (d - c) in
+    let down : (z : ℕ) → z % 2 ^ d % 2 ^ c ≡ z % 2 ^ c =
+    λ z. ap (λ n. z % n % 2 ^ c) whole ∙ mod_of_multiple (2 ^ c) rest z in
     sym (down x) ∙ ap (λ n. n % 2 ^ c) e ∙ down y
 
+-- the square of an odd number below 8 is 1 modulo 8
 odd_square : (r : ℕ) → r < 8 → r % 2 ≡ 1 → (r * r) % 8 ≡ 1
 odd_square zero h e = absurd (omega arith)
 odd_square (suc zero) h e = refl
@@ -35,7 +39,8 @@ lift_start w m bits odd e = record {
 }
 
 -- one lifting, modulo 2^c where x is 1 modulo 2^d
-pub lifted : (c d x t : ℕ) → c ≤ d + d → x % 2 ^ d ≡ 1 % 2 ^ d → (t + x) % 2 ^ c ≡ 2 % 2 ^ c → (x * t) % 2 ^ c ≡ 1 % 2 ^ c
+pub lifted : (c d x t : ℕ) → c ≤ d + d → x % 2 ^ d ≡ 1 % 2 ^ d → (t + x) % 2 ^ c ≡ 2 % 2 ^ c
+    → (x * t) % 2 ^ c ≡ 1 % 2 ^ c
 lifted c zero x t h ex et =
     let z : c ≡ 0 = omega arith in
     ap (λ n. (x * t) % 2 ^ n) z ∙ mod-one (x * t) ∙ sym (mod-one 1) ∙ ap (λ n. 1 % 2 ^ n) (sym z)
@@ -49,33 +54,50 @@ lifted c (suc d) x t h ex et =
     let square : 2 ^ (suc d + suc d) ≡ D * D = pow-add 2 (suc d) (suc d) in
     let sx : x * x ≡ (1 + D * e) * (1 + D * e) = ap₂ (λ n o. n * o) g g in
     let s : 1 + x * x ≡ x * 2 + 2 ^ (suc d + suc d) * (e * e) = rw square (omega arith) in
+    let square_part : (1 + x * x) % 2 ^ (suc d + suc d) ≡ (x * 2) % 2 ^ (suc d + suc d) =
+    ap (λ n. n % 2 ^ (suc d + suc d)) s ∙ add-mul-mod_self_left (x * 2) (2 ^ (suc d + suc d)) (e * e) in
     let high : (1 + x * x) % 2 ^ c ≡ (x * 2) % 2 ^ c =
-    lower_power c (suc d + suc d) (1 + x * x) (x * 2) h (ap (λ n. n % 2 ^ (suc d + suc d)) s ∙ add-mul-mod_self_left (x * 2) (2 ^ (suc d + suc d)) (e * e)) in
+    lower_power c (suc d + suc d) (1 + x * x) (x * 2) h square_part in
     let both : (x * t + x * x) % 2 ^ c ≡ (1 + x * x) % 2 ^ c =
-    ap (λ n. n % 2 ^ c) (let r : x * t + x * x ≡ x * (t + x) = omega arith in r) ∙ same_product (2 ^ c) x x (t + x) 2 refl et ∙ sym high in
+    ap (λ n. n % 2 ^ c) (let r : x * t + x * x ≡ x * (t + x) = omega arith in r)
+    ∙ same_product (2 ^ c) x x (t + x) 2 refl et ∙ sym high in
     same_without (2 ^ c) (x * t) 1 (x * x) (pow_pos c) both
 
-pub lift_step : (w b m i bits p s n bits' : ℕ) → b ≡ 2 ^ w → InverseTo w m i bits → p ≡ (m * i) % b → (s + p) % b ≡ 2 → n ≡ (i * s) % b → bits' ≡ bits + bits → InverseTo w m n bits'
+-- the step from i to i * (2 - m * i), which doubles the bits
+pub lift_step : (w b m i bits p s n bits' : ℕ) → b ≡ 2 ^ w → InverseTo w m i bits → p ≡ (m * i) % b
+    → (s + p) % b ≡ 2 → n ≡ (i * s) % b → bits' ≡ bits + bits → InverseTo w m n bits'
 lift_step w b m i bits p s n bits' eb h ep es en e = record {
   inverse = λ c hc hw.
       let d = (c + 1) / 2 in
       let two : 2 % b ≡ 2 = ap (λ v. v % b) (sym es) ∙ mod-mod (s + p) b ∙ es in
+      let sum_b : (s + m * i) % b ≡ 2 % b =
+      sym (add-mod-mod s (m * i) b) ∙ ap (λ v. (s + v) % b) (sym ep) ∙ es ∙ sym two in
       let sum : (s + m * i) % 2 ^ w ≡ 2 % 2 ^ w =
-      ap (λ v. (s + m * i) % v) (sym eb) ∙ sym (add-mod-mod s (m * i) b) ∙ ap (λ v. (s + v) % b) (sym ep) ∙ es ∙ sym two ∙ ap (λ v. 2 % v) eb in
+      ap (λ v. (s + m * i) % v) (sym eb) ∙ sum_b ∙ ap (λ v. 2 % v) eb in
+      let product_b : (m * n) % b ≡ (m * i * s) % b =
+      ap (λ v. (m * v) % b) en ∙ mul-mod_second m (i * s) b
+      ∙ ap (λ v. v % b) (let r : m * (i * s) ≡ m * i * s = omega arith in r) in
       let product : (m * n) % 2 ^ w ≡ (m * i * s) % 2 ^ w =
-      ap (λ v. (m * n) % v) (sym eb) ∙ ap (λ v. (m * v) % b) en ∙ mul-mod_second m (i * s) b
-      ∙ ap (λ v. v % b) (let r : m * (i * s) ≡ m * i * s = omega arith in r) ∙ ap (λ v. (m * i * s) % v) eb in
+      ap (λ v. (m * n) % v) (sym eb) ∙ product_b ∙ ap (λ v. (m * i * s) % v) eb in
       lower_power c w (m * n) (m * i * s) hw product
-      ∙ lifted c d (m * i) s (omega arith) (h.inverse d (omega arith) (omega arith)) (lower_power c w (s + m * i) 2 hw sum);
+      ∙ lifted c d (m * i) s (omega arith) (h.inverse d (omega arith) (omega arith))
+      (lower_power c w (s + m * i) 2 hw sum);
 }
 
 -- the negative of an inverse
-pub lift_end : (w b m i bits r : ℕ) → b ≡ 2 ^ w → 8 ≤ w → InverseTo w m i bits → w ≤ bits → (r + i) % b ≡ 0 → (m * r) % b ≡ b - 1
+pub lift_end : (w b m i bits r : ℕ) → b ≡ 2 ^ w → 8 ≤ w → InverseTo w m i bits → w ≤ bits → (r + i) % b ≡ 0
+    → (m * r) % b ≡ b - 1
 lift_end w b m i bits r eb hw h over er =
     let hb : 0 < b = omega (arith, eb, pow_pos w) in
-    let one : (m * i) % b ≡ 1 % b = ap (λ v. (m * i) % v) eb ∙ h.inverse w over (omega arith) ∙ ap (λ v. 1 % v) (sym eb) in
+    let zero_b : 0 % b ≡ 0 = mod-eq_of_lt hb in
+    let one : (m * i) % b ≡ 1 % b =
+    ap (λ v. (m * i) % v) eb ∙ h.inverse w over (omega arith) ∙ ap (λ v. 1 % v) (sym eb) in
     let whole : (m * r + 1) % b ≡ 0 % b =
-    same_sum b (m * r) (m * r) 1 (m * i) refl (sym one) ∙ ap (λ v. v % b) (let e : m * r + m * i ≡ m * (r + i) = omega arith in e)
-    ∙ same_product b m m (r + i) 0 refl (er ∙ sym (mod-eq_of_lt hb)) ∙ ap (λ v. v % b) (let e : m * 0 ≡ 0 = omega arith in e) in
-    let top : (b - 1 + 1) % b ≡ 0 % b = ap (λ v. v % b) (let e : b - 1 + 1 ≡ b = omega arith in e) ∙ mod_self b ∙ sym (mod-eq_of_lt hb) in
-    mod_cancel b ((m * r) % b) (b - 1) 1 (mod-lt (m * r) hb) (omega arith) (mod-add-mod (m * r) b 1 ∙ whole ∙ sym top)
+    same_sum b (m * r) (m * r) 1 (m * i) refl (sym one)
+    ∙ ap (λ v. v % b) (let e : m * r + m * i ≡ m * (r + i) = omega arith in e)
+    ∙ same_product b m m (r + i) 0 refl (er ∙ sym zero_b)
+    ∙ ap (λ v. v % b) (let e : m * 0 ≡ 0 = omega arith in e) in
+    let top : (b - 1 + 1) % b ≡ 0 % b =
+    ap (λ v. v % b) (let e : b - 1 + 1 ≡ b = omega arith in e) ∙ mod_self b ∙ sym zero_b in
+    mod_cancel b ((m * r) % b) (b - 1) 1 (mod-lt (m * r) hb) (omega arith)
+    (mod-add-mod (m * r) b 1 ∙ whole ∙ sym top)

@@ -15,11 +15,14 @@ base_above_two w b eb h =
 pub inverse_of_negated : (b d n i : ℕ) → 1 < b → IsNegatedInverse b d n → (i + n) % b ≡ 0 → (d * i) % b ≡ 1
 inverse_of_negated b d n i h is e =
     let z : 0 % b ≡ 0 = mod-eq_of_lt (omega arith) in
-    let minus : (d * n) % b ≡ (b - 1) % b = is.product ∙ sym (mod-eq_of_lt (let l : b - 1 < b = omega arith in l)) in
-    let both : (d * i + (b - 1)) % b ≡ (1 + (b - 1)) % b =
-    same_sum b (d * i) (d * i) (b - 1) (d * n) refl (sym minus)
-    ∙ ap (λ v. v % b) (let s : d * i + d * n ≡ d * (i + n) = omega arith in s)
+    let minus : (d * n) % b ≡ (b - 1) % b =
+    is.product ∙ sym (mod-eq_of_lt (let l : b - 1 < b = omega arith in l)) in
+    let none : (d * i + d * n) % b ≡ 0 =
+    ap (λ v. v % b) (let s : d * i + d * n ≡ d * (i + n) = omega arith in s)
     ∙ same_product b d d (i + n) 0 refl (e ∙ sym z)
-    ∙ ap (λ v. v % b) (let s : d * 0 ≡ 0 = omega arith in s) ∙ z
-    ∙ sym (ap (λ v. v % b) (let s : 1 + (b - 1) ≡ b = omega arith in s) ∙ mod_self b) in
+    ∙ ap (λ v. v % b) (let s : d * 0 ≡ 0 = omega arith in s) ∙ z in
+    let base : (1 + (b - 1)) % b ≡ 0 =
+    ap (λ v. v % b) (let s : 1 + (b - 1) ≡ b = omega arith in s) ∙ mod_self b in
+    let both : (d * i + (b - 1)) % b ≡ (1 + (b - 1)) % b =
+    same_sum b (d * i) (d * i) (b - 1) (d * n) refl (sym minus) ∙ none ∙ sym base in
     same_without b (d * i) 1 (b - 1) (omega arith) both ∙ mod-eq_of_lt h

@@ -1,4 +1,4 @@
--- Each value has one form, and each form one value.
+-- Laws of Montgomery's representation: each value has one form, and each form one value.
 use Rattle.std.proofs.Common.{◌≡◌, ℕ, suc, zero, ◌+◌, ◌*◌, ◌/◌, ◌%◌, ◌^◌, ◌<◌, sym, ap, ◌∙◌, arith, cond, eqb}
 use Rattle.std.proofs.Math.Nat.{mod-lt, mod-eq_of_lt, div-add-mod, add-mul-mod_self_left}
 use Rattle.std.proofs.lemmas.Bool.Decides.{nat_tests}
@@ -7,6 +7,7 @@ use Rattle.modular_reduced.specs.Forms.{Represents, IsCanonical}
 use Rattle.modular_monty.specs.Values.{value_below}
 use Rattle.modular_monty.specs.Montgomery.{montgomery_form, montgomery_value, IsOddRing}
 
+-- one number more is looked at
 found_step : (form : ℕ → ℕ) (b v f rest : ℕ) → ((w : ℕ) → w < suc b → form w ≡ f → w ≡ v)
     → (v < b → rest ≡ v) → v < suc b → form v ≡ f
     → cond (eqb (form b) f) b rest ≡ v
@@ -23,10 +24,11 @@ value_below-found form (suc b) v f only h e =
     found_step form b v f (value_below form b f) only
     (λ k. value_below-found form b v f (λ w l. only w (omega arith)) k e) h e
 
+-- an odd modulus is not 0
 pub positive : {w b m i square : ℕ} → IsOddRing w b m i square → 0 < m
 positive r = let odd = r.odd in omega arith
 
--- the inverse of the base modulo m
+-- the base has an inverse modulo m
 pub base_inverse : {w b m i square : ℕ} → IsOddRing w b m i square → (b * ((m * i + 1) / b)) % m ≡ 1 % m
 base_inverse {w} {b} {m} {i} {square} r =
     let some : 0 < b = omega (arith, r.fits) in
@@ -35,18 +37,30 @@ base_inverse {w} {b} {m} {i} {square} r =
     let g : b * ((m * i + 1) / b) ≡ 1 + m * i = omega arith in
     ap (λ v. v % m) g ∙ add-mul-mod_self_left 1 m i
 
--- the base cancels modulo m
-pub base_cancels : {w b m i square : ℕ} → IsOddRing w b m i square → (x y : ℕ) → (x * b) % m ≡ (y * b) % m → x % m ≡ y % m
-base_cancels {w} {b} {m} {i} {square} r x y e = same_without_unit m x y b ((m * i + 1) / b) (base_inverse r) e
+-- so it cancels modulo m
+pub base_cancels : {w b m i square : ℕ} → IsOddRing w b m i square → (x y : ℕ)
+    → (x * b) % m ≡ (y * b) % m → x % m ≡ y % m
+base_cancels {w} {b} {m} {i} {square} r x y e =
+    same_without_unit m x y b ((m * i + 1) / b) (base_inverse r) e
 
--- the value of a form
-pub value_of_form : {w b m i square : ℕ} → IsOddRing w b m i square → {f v : ℕ} → Represents (montgomery_form w) m f v → montgomery_value w m f ≡ v
+-- two values of one form are one
+form_injective : {w b m i square : ℕ} → IsOddRing w b m i square → (v x : ℕ) → v < m → x < m
+    → montgomery_form w m x ≡ montgomery_form w m v → x ≡ v
+form_injective {w} {b} {m} {i} {square} r v x hv hx e =
+    let by_base : (x * b) % m ≡ (v * b) % m =
+    ap (λ n. (x * n) % m) r.base ∙ e ∙ ap (λ n. (v * n) % m) (sym r.base) in
+    sym (mod-eq_of_lt hx) ∙ base_cancels r x v by_base ∙ mod-eq_of_lt hv
+
+-- the value of the form of v is v
+pub value_of_form : {w b m i square : ℕ} → IsOddRing w b m i square → {f v : ℕ}
+    → Represents (montgomery_form w) m f v → montgomery_value w m f ≡ v
 value_of_form {w} {b} {m} {i} {square} r {f} {v} h =
     value_below-found (montgomery_form w m) m v f
-    (λ x l e. sym (mod-eq_of_lt l) ∙ base_cancels r x v (ap (λ n. (x * n) % m) r.base ∙ e ∙ h.same ∙ ap (λ n. (v * n) % m) (sym r.base)) ∙ mod-eq_of_lt h.below)
-    h.below (sym h.same)
+    (λ x l e. form_injective r v x h.below l (e ∙ h.same)) h.below (sym h.same)
 
-pub montgomery_canonical : {w b m i square : ℕ} → IsOddRing w b m i square → IsCanonical (montgomery_form w) (montgomery_value w) w m
+-- each value has one form, a word, and each form one value
+pub montgomery_canonical : {w b m i square : ℕ} → IsOddRing w b m i square
+    → IsCanonical (montgomery_form w) (montgomery_value w) w m
 montgomery_canonical {w} {b} {m} {i} {square} r = record {
   positive = positive r;
   one_value = λ f v h. value_of_form r h;

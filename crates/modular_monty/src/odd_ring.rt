@@ -23,7 +23,6 @@ pub(crate) struct OddRing<T: PlainWord> {
     negated_inverse: T,
     square: T,
     ghost ring: { IsOddRing T.width T.base (T.number modulus) (T.number negated_inverse) (T.number square) },
-    ghost square_below: { T.number square < T.number modulus },
 }
 
 impl<T: PlainWord> Clone for OddRing<T> {
@@ -73,7 +72,7 @@ impl<T: PlainWord> Reducer<T> for OddRing<T> {
         }
     }
 
-    // A product and a reduction, which are cheaper than the division of a double word.
+    // A product and a reduction in place of the division of a double word.
     fn transform(&self, n: T) -> T {
         if n.is_zero_word() {
             return n;

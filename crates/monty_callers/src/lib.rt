@@ -10,6 +10,7 @@ use modular_monty::neg_mod_inv::w8;
 use modular_monty::preinv::{PreModInv, PreparedInverse};
 use modular_prim::exact::DivExact;
 use modular_reduced::reducer::Reducer;
+use modular_word::ring_word::RingWord;
 
 /// A seventh of a byte, by numbers that are written out; `None` exactly where 7 doesn't divide it.
 pub fn seventh(n: u8) -> Option<u8>
@@ -37,4 +38,20 @@ pub fn ring_of_21() -> Montgomery<u8>
     ensures { ⟦<Montgomery<u8> as Reducer<u8>>⟧.modulus result ≡ 21 }
 {
     Montgomery::<u8>::new(21)
+}
+
+// The product of two words by their forms.
+fn product_by_forms<T: RingWord, R: Reducer<T>>(ring: &R, a: T, b: T) -> T
+    ensures { T.number result ≡ (T.number a * T.number b) % R.modulus ring.now }
+{
+    ring.residue(ring.mul(&ring.transform(a), &ring.transform(b)))
+}
+
+/// The remainder of a * b by m, with no division but those of the reducer's making. Condition: m is
+/// odd.
+pub fn product_modulo(a: u64, b: u64, m: u64) -> u64
+    requires { m % 2 ≡ 1 }
+    ensures { result ≡ (a * b) % m }
+{
+    product_by_forms(&Montgomery::<u64>::new(m), a, b)
 }

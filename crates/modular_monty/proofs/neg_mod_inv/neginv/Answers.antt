@@ -1,25 +1,32 @@
-use Rattle.std.proofs.Common.{arith, ◌≡◌, ◌^◌, ◌<◌, ◌∙◌, refl}
-use Rattle.std.proofs.lemmas.Nat.{pow_below}
+use Rattle.std.proofs.Common.{arith, ◌≡◌, ◌∙◌, refl}
 use Rattle.modular_monty.proofs.Lifting.{lift_start, lift_step, lift_end}
+use Rattle.modular_monty.proofs.NegatedInverses.{base_above_two}
 use Rattle.modular_monty.proofs.neg_mod_inv.neginv.Goals as goal
 
 pub plus-two-requires : goal.plus-two-requires
 plus-two-requires g c =
-    let many : 2 ^ 1 < 2 ^ g.T.RingWord.width = pow_below 1 g.T.RingWord.width (omega (arith, g.met.T.RingWord.width_from)) in
-    omega (arith, many, g.met.T.PathWord.base_is, c.one.ensures, c.one-2.ensures)
+    let many = base_above_two g.T.RingWord.width g.T.PathWord.base g.met.T.PathWord.base_is g.met.T.RingWord.width_from in
+    omega (arith, many, c.one.ensures, c.one-2.ensures)
 
 pub lift-init : goal.lift-init
 lift-init g c = record { lifted = lift_start g.T.RingWord.width _ _ c.requires refl; some = omega arith }
 
 pub lift-preserved : goal.lift-preserved
 lift-preserved g c =
-    let two : g.T.RingWord.number c.plus-two.result ≡ 2 = omega (arith, c.plus-two.ensures, c.one.ensures, c.one-2.ensures) in
+    let two : g.T.RingWord.number c.plus-two.result ≡ 2 =
+    omega (arith, c.plus-two.ensures, c.one.ensures, c.one-2.ensures) in
     record {
-      lifted = lift_step g.T.RingWord.width g.T.PathWord.base _ _ _ _ _ _ _ g.met.T.PathWord.base_is c.lift.invariant.lifted c.wrapping_mul.ensures.value (c.wrapping_sub.ensures.value ∙ two) c.wrapping_mul-inverse.ensures.value refl;
+      lifted =
+          lift_step g.T.RingWord.width g.T.PathWord.base _ _ _ _ _ _ _ g.met.T.PathWord.base_is
+          c.lift.invariant.lifted c.wrapping_mul.ensures.value (c.wrapping_sub.ensures.value ∙ two)
+          c.wrapping_mul-inverse.ensures.value refl;
       some = omega (arith, c.lift.invariant.some);
     }
 
 pub returns : goal.returns
 returns g c = record {
-  product = lift_end g.T.RingWord.width g.T.PathWord.base _ _ _ _ g.met.T.PathWord.base_is g.met.T.RingWord.width_from c.lift.invariant.lifted (omega (arith, c.lift-test.false, c.bits.ensures)) (c.wrapping_sub-2.ensures.value ∙ c.zero.ensures);
+  product =
+      lift_end g.T.RingWord.width g.T.PathWord.base _ _ _ _ g.met.T.PathWord.base_is
+      g.met.T.RingWord.width_from c.lift.invariant.lifted
+      (omega (arith, c.lift-test.false, c.bits.ensures)) (c.wrapping_sub-2.ensures.value ∙ c.zero.ensures);
 }

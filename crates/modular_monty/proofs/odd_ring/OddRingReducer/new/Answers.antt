@@ -1,13 +1,10 @@
-use Rattle.std.proofs.Common.{arith, ◌*◌}
-use Rattle.std.proofs.Math.Nat.{mod-lt}
-use Rattle.modular_monty.specs.MontgomeryLaws.{positive}
 use Rattle.modular_monty.proofs.MontgomerySteps.{odd_ring}
 use Rattle.modular_monty.proofs.odd_ring.OddRingReducer.new.Goals as goal
 
 pub invariant_of-result : goal.invariant_of-result
-invariant_of-result g c =
-    let ring = odd_ring _ _ _ _ g.met.T.PathWord.base_is c.requires c.narrow_remainder-base.ensures.fits c.neginv-negated_inverse.ensures c.merge.ensures.value c.zero.ensures c.one.ensures c.narrow_remainder-base.ensures.value c.product.ensures.value c.narrow_remainder-square.ensures.value in
-    record {
-      ring = ring;
-      square_below = omega (arith, ring.is_square, mod-lt (g.T.PathWord.base * g.T.PathWord.base) (positive ring));
-    }
+invariant_of-result g c = record {
+  ring =
+      odd_ring _ _ _ _ g.met.T.PathWord.base_is c.requires c.narrow_remainder-base.ensures.fits
+      c.neginv-negated_inverse.ensures c.merge.ensures.value c.zero.ensures c.one.ensures
+      c.narrow_remainder-base.ensures.value c.product.ensures.value c.narrow_remainder-square.ensures.value;
+}
