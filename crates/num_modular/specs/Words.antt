@@ -1,4 +1,4 @@
--- How numbers and ring commands are written as text. A text is the list of its bytes.
+-- How numbers and ring commands are written as text, which is the list of its bytes. Numbers stand in positional notation (Knuth, The Art of Computer Programming 2, section 4.1), and a command is its name and its numbers, a comma before each number.
 use Rattle.std.specs.Prelude.{◌≡◌, ℕ, ◌<◌, ◌^◌, ◌==◌, List, [], ◌∷◌, Option, MatchOption, codes}
 use Rattle.std.specs.List.{slice_split}
 use Rattle.std.specs.Str.Parse.{IsNumeral, digits_value}
@@ -59,6 +59,7 @@ pub record IsCommand (name : List ℕ) (numbers : List (List ℕ)) (command : Ri
   pub read : AreNumberTexts numbers (numbers_of command)
   pub fit : IsFit 8 command
 
+-- the same of the parts of a word
 abbrev pub IsCommandParts : List (List ℕ) → RingCommand ℕ → Type 0
 IsCommandParts [] command = ⊥
 IsCommandParts (name ∷ numbers) command = IsCommand name numbers command
