@@ -1,0 +1,6 @@
+//! Uses of `num_modular` as a user writes them, by that crate's paths alone.
+#![tactic(auto)]
+
+pub mod first_use;
+#[cfg(test)]
+mod tests;

@@ -1,0 +1,3 @@
+//! Each public item once, by the path that a user writes, and the reducers side by side.
+
+mod rings;

@@ -1,0 +1,152 @@
+//! The same commands over each reducer.
+
+ghost use Rattle.std.specs.Prelude.{◌≡◌, ◌≤◌};
+
+use num_modular::ring::{RingCommand, RunEnd, all_checked, commands_fit, run};
+use num_modular::{Montgomery, PreMulInv2by1, Reducer, Vanilla};
+use std::process::Abort;
+use std::test::Fail;
+
+// The end of a run over three registers of value 0, and their forms and residues then.
+#[derive(Clone, Copy, Debug, PartialEq, Eq)]
+struct Run {
+    end: Option<RunEnd>,
+    forms: [u8; 3],
+    residues: [u8; 3],
+}
+
+fn run_over<R: Reducer<u8>>(reducer: &R, commands: &[RingCommand<u8>]) -> Run {
+    let mut registers = [reducer.transform(0); 3];
+    if all_checked(reducer, &registers) && commands_fit(commands, 3) {
+        let end = Some(run(reducer, &mut registers, commands));
+        let residues = [
+            reducer.residue(registers[0]),
+            reducer.residue(registers[1]),
+            reducer.residue(registers[2]),
+        ];
+        Run {
+            end,
+            forms: registers,
+            residues,
+        }
+    } else {
+        Run {
+            end: None,
+            forms: registers,
+            residues: [0; 3],
+        }
+    }
+}
+
+// Every command; for even moduli it ends at the missing inverse of 2, and for others at that of 0.
+const COMMANDS: [RingCommand<u8>; 12] = [
+    RingCommand::Load { dst: 0, n: 201 },
+    RingCommand::Load { dst: 1, n: 254 },
+    RingCommand::Mul { dst: 2, a: 0, b: 1 },
+    RingCommand::Sub { dst: 0, a: 1, b: 2 },
+    RingCommand::Dbl { dst: 2, a: 2 },
+    RingCommand::Add { dst: 2, a: 2, b: 0 },
+    RingCommand::Pow {
+        dst: 1,
+        a: 2,
+        exp: 77,
+    },
+    RingCommand::Sqr { dst: 0, a: 0 },
+    RingCommand::Neg { dst: 0, a: 0 },
+    RingCommand::Inv { dst: 2, a: 1 },
+    RingCommand::Mul { dst: 1, a: 1, b: 2 },
+    RingCommand::Inv { dst: 0, a: 0 },
+];
+
+#[test]
+fn the_three_reducers_end_alike_with_equal_residues(rt: HostRuntime) -> Result<(), Fail> {
+    for m in 1..=255u8 {
+        let plain = run_over(&Vanilla::<u8>::new(&m), &COMMANDS);
+        let scaled = run_over(&PreMulInv2by1::<u8>::new(m), &COMMANDS);
+        assert!(rt; plain.end.is_some());
+        assert_eq!(rt; plain.end, scaled.end, "modulo {m}");
+        assert_eq!(rt; plain.residues, scaled.residues, "modulo {m}");
+        if m % 2 == 1 {
+            let odd = run_over(&Montgomery::<u8>::new(m), &COMMANDS);
+            assert_eq!(rt; plain.end, odd.end, "modulo {m}");
+            assert_eq!(rt; plain.residues, odd.residues, "modulo {m}");
+        }
+    }
+    Ok(())
+}
+
+fn assert_forms(rt: &impl Abort, found: Run, end: RunEnd, forms: [u8; 3], residues: [u8; 3]) {
+    assert_eq!(rt;
+        found,
+        Run {
+            end: Some(end),
+            forms,
+            residues
+        }
+    );
+}
+
+#[test]
+fn a_missing_inverse_modulo_21(rt: HostRuntime) -> Result<(), Fail> {
+    let commands = [
+        RingCommand::Load { dst: 0, n: 5 },
+        RingCommand::Load { dst: 1, n: 7 },
+        RingCommand::Inv { dst: 2, a: 0 },
+        RingCommand::Inv { dst: 0, a: 1 },
+        RingCommand::Add { dst: 0, a: 0, b: 1 },
+    ];
+    let end = RunEnd::NoInverse { at: 3 };
+    let residues = [5, 7, 17];
+    assert_forms(
+        &rt,
+        run_over(&Vanilla::<u8>::new(&21), &commands),
+        end,
+        residues,
+        residues,
+    );
+    assert_forms(
+        &rt,
+        run_over(&PreMulInv2by1::<u8>::new(21), &commands),
+        end,
+        [40, 56, 136],
+        residues,
+    );
+    assert_forms(
+        &rt,
+        run_over(&Montgomery::<u8>::new(21), &commands),
+        end,
+        [20, 7, 5],
+        residues,
+    );
+    Ok(())
+}
+
+#[test]
+fn the_ring_of_one_value(rt: HostRuntime) -> Result<(), Fail> {
+    let commands = [
+        RingCommand::Load { dst: 0, n: 255 },
+        RingCommand::Inv { dst: 0, a: 0 },
+    ];
+    assert_forms(
+        &rt,
+        run_over(&Vanilla::<u8>::new(&1), &commands),
+        RunEnd::Done,
+        [0; 3],
+        [0; 3],
+    );
+    assert_forms(
+        &rt,
+        run_over(&PreMulInv2by1::<u8>::new(1), &commands),
+        RunEnd::Done,
+        [0; 3],
+        [0; 3],
+    );
+    assert_forms(
+        &rt,
+        run_over(&Montgomery::<u8>::new(1), &commands),
+        RunEnd::Done,
+        [0; 3],
+        [0; 3],
+    );
+    Ok(())
+}
