@@ -1,6 +1,6 @@
 //! Reducers, and integers over them.
 
-pub use modular_reduced::int::ReducedInt;
+pub use modular_reduced::int::{ReducedInt, VanillaInt};
 pub use modular_reduced::integer::ModularInteger;
 pub use modular_reduced::power::pow_counted;
 pub use modular_reduced::reducer::Reducer;

@@ -1,0 +1,9 @@
+//! What `bench/` measures: functions that each do n dependent steps on words of 64 bits.
+//!
+//! Each has the shape `bench_NAME(x, y, m, n) -> u64`. What m must be is its `requires`, which the
+//! driver keeps.
+#![tactic(auto)]
+
+mod dividers;
+mod plain;
+mod rings;
