@@ -29,49 +29,6 @@ sum_below B m t p x U hB ht hx ep e =
     let a : x * m ≤ B * m = mul-le-mul_right m (omega arith) in
     lt_of_mul-lt-mul_left B (let s : B * U < B * (2 * m) = omega arith in s)
 
--- a sum of double words that comes out below a summand has passed the double word
-pub sum_with_carry : (B s0 h t p sum U : ℕ) → 0 < B → s0 < B → t < B * B → p < B * B
-    → sum ≡ (t + p) % (B * B) → sum ≡ s0 + B * h → t + p ≡ B * U → sum < t → U ≡ h + B
-sum_with_carry B s0 h t p sum U hB hs ht hp esum eh eU hc =
-    let f : (B * B) * ((t + p) / (B * B)) + (t + p) % (B * B) ≡ t + p = div-add-mod (t + p) (B * B) in
-    let y = t + p - B * B in
-    let carry : B * B ≤ t + p =
-    ⊎_elim
-    (λ (l : t + p < B * B). let m : (t + p) % (B * B) ≡ t + p = mod-eq_of_lt l in absurd (omega arith))
-    (λ (l : B * B ≤ t + p). l) (cases_lt (t + p) (B * B)) in
-    let ms : sum ≡ y =
-    same_rest (B * B) sum y ((t + p) / (B * B)) 1 (omega arith) (omega arith) (omega arith) in
-    let z : s0 ≡ 0 = same_rest B s0 0 (h + B) U hs hB (omega arith) in
-    factor_cancel B U (h + B) hB (omega arith)
-
--- a sum of double words that comes out no less than a summand has not passed the double word
-pub sum_without_carry : (B s0 h t p sum U : ℕ) → 0 < B → s0 < B → t < B * B → p < B * B
-    → sum ≡ (t + p) % (B * B) → sum ≡ s0 + B * h → t + p ≡ B * U → t ≤ sum → U ≡ h
-sum_without_carry B s0 h t p sum U hB hs ht hp esum eh eU hc =
-    let f : (B * B) * ((t + p) / (B * B)) + (t + p) % (B * B) ≡ t + p = div-add-mod (t + p) (B * B) in
-    let y = t + p - B * B in
-    let whole : t + p < B * B =
-    ⊎_elim
-    (λ (l : t + p < B * B). l)
-    (λ (l : B * B ≤ t + p).
-    let l' : sum < B * B = omega (arith, mod-lt (t + p) {m = B * B} (omega arith)) in
-    let ms : sum ≡ y =
-    same_rest (B * B) sum y ((t + p) / (B * B)) 1 l' (omega arith) (omega arith) in
-    absurd (omega arith))
-    (cases_lt (t + p) (B * B)) in
-    let ms : (t + p) % (B * B) ≡ t + p = mod-eq_of_lt whole in
-    let z : s0 ≡ 0 = same_rest B s0 0 h U hs hB (omega arith) in
-    factor_cancel B U h hB (omega arith)
-
--- one subtraction, with a borrow that the carry pays
-pub one_less : (B m U h r : ℕ) → m < B → m ≤ U → U < 2 * m → r < B → h ≡ U % B → (r + m) % B ≡ h
-    → r + m ≡ U
-one_less B m U h r hm hU hU2 hr eh er =
-    let y = U - m in
-    let ey : y + m ≡ U = omega arith in
-    let e : r ≡ y = mod_cancel B r y m hr (omega arith) (er ∙ eh ∙ ap (λ v. v % B) (sym ey)) in
-    omega arith
-
 -- the remainder of what is left, times the base, is that of t
 pub residue_less : (B m t x U r : ℕ) → t + x * m ≡ B * U → r + m ≡ U → (r * B) % m ≡ t % m
 residue_less B m t x U r e er =
@@ -85,73 +42,116 @@ residue_same B m t x U e =
     ap (λ v. v % m) g ∙ add-mul-mod_self_left t m x
 
 -- what a reduction starts from: a multiple p of m, by a word x, that clears the low word of t, and
--- the words of the sum t + p, less the carry
-pub record Sum (B m t x p sum s0 h : ℕ) : Type 0 where
+-- the words of both
+pub record Sum (B m t x p t0 t1 p0 p1 : ℕ) : Type 0 where
   pub low : (t + p) % B ≡ 0
   pub modulus_fits : m < B
   pub below : t < B * m
-  pub fits : t < B * B
   pub multiplier_fits : x < B
   pub multiple : p ≡ x * m
-  pub sum_wraps : sum ≡ (t + p) % (B * B)
-  pub sum_parts : sum ≡ s0 + B * h
-  pub low_fits : s0 < B
-  pub high_fits : h < B
+  pub parts : t ≡ t0 + B * t1
+  pub low_fits : t0 < B
+  pub multiple_parts : p ≡ p0 + B * p1
+  pub multiple_low_fits : p0 < B
 
--- the sum is a multiple of the base
-whole_sum : (B m t x p sum s0 h : ℕ) → Sum B m t x p sum s0 h
-    → (U : ℕ) × (t + x * m ≡ B * U) × (U < 2 * m) × (p < B * B)
-whole_sum B m t x p sum s0 h s =
-    let hB : 0 < B = omega (arith, s.modulus_fits) in
-    let z' : (t + x * m) % B ≡ 0 = ap (λ v. (t + v) % B) (sym s.multiple) ∙ s.low in
-    let U = (t + x * m) / B in
-    let f : B * ((t + x * m) / B) + (t + x * m) % B ≡ t + x * m = div-add-mod (t + x * m) B in
-    let e : t + x * m ≡ B * U = omega arith in
-    let b : U < 2 * m = sum_below B m t (x * m) x U hB s.below s.multiplier_fits refl e in
-    let m1 : x * m ≤ x * B = mul-le-mul_left x (let l : m ≤ B = omega (arith, s.modulus_fits) in l) in
-    let m2 : (x + 1) * B ≤ B * B = mul-le-mul_right B (let l : x + 1 ≤ B = omega (arith, s.multiplier_fits) in l) in
-    (U, e, b, omega (arith, s.multiple))
+-- the sum divided by the base is U: the high words with the carry k of the low ones
+pub record HighSum (B m t x t1 p1 k U : ℕ) : Type 0 where
+  pub whole : t + x * m ≡ B * U
+  pub below : U < 2 * m
+  pub high_below : t1 < m
+  pub multiple_below : p1 < m
+  pub high : U ≡ t1 + p1 + k
 
--- the sum passes the double word
-pub reduces_carry : (B m t x p sum s0 h r : ℕ) → Sum B m t x p sum s0 h
-    → sum < t → r < B → (r + m) % B ≡ h → IsReduction B m t r
-reduces_carry B m t x p sum s0 h r s hc hr er =
-    let w = whole_sum B m t x p sum s0 h s in
-    let U = w.0 in
-    let hB : 0 < B = omega (arith, s.modulus_fits) in
-    let eU : U ≡ h + B =
-    sum_with_carry B s0 h t p sum U hB s.low_fits s.fits w.3 s.sum_wraps s.sum_parts
-    (omega (arith, s.multiple, w.1)) hc in
-    let eh : h ≡ U % B =
-    sym (ap (λ v. v % B) eU ∙ add-mod_right h B ∙ mod-eq_of_lt s.high_fits) in
-    let l : r + m ≡ U = one_less B m U h r s.modulus_fits (omega (arith, s.modulus_fits)) w.2 hr eh er in
-    record { below = omega (arith, w.2); congruent = residue_less B m t x U r w.1 l }
+-- two low words that add up to a multiple of the base add up to it, or are both 0
+pub low_words : (B a b : ℕ) → a < B → b < B → (a + b) % B ≡ 0 → 0 < a → a + b ≡ B
+low_words B a b ha hb e some =
+    let f : B * ((a + b) / B) + (a + b) % B ≡ a + b = div-add-mod (a + b) B in
+    let q = (a + b) / B in
+    let few : q < 2 = lt_of_mul-lt-mul_left B (let s : B * q < B * 2 = omega arith in s) in
+    let more : 0 < q =
+    ⊎_elim (λ (h : 0 < q). h)
+    (λ (h : q ≤ 0). let z : B * q ≤ B * 0 = mul-le-mul_left B h in absurd (omega arith))
+    (cases_lt 0 q) in
+    let one : q ≡ 1 = omega arith in
+    let m : B * q ≡ B * 1 = ap (λ v. B * v) one in
+    omega arith
 
--- the sum keeps to the double word, and its high word is no less than the modulus
-pub reduces_less : (B m t x p sum s0 h r : ℕ) → Sum B m t x p sum s0 h
-    → t ≤ sum → m ≤ h → r < B → (r + m) % B ≡ h → IsReduction B m t r
-reduces_less B m t x p sum s0 h r s hc hm hr er =
-    let w = whole_sum B m t x p sum s0 h s in
-    let U = w.0 in
+high_sum : (B m t x p t0 t1 p0 p1 k : ℕ) → Sum B m t x p t0 t1 p0 p1 → t0 + p0 ≡ B * k
+    → HighSum B m t x t1 p1 k (t1 + p1 + k)
+high_sum B m t x p t0 t1 p0 p1 k s e =
     let hB : 0 < B = omega (arith, s.modulus_fits) in
-    let eU : U ≡ h =
-    sum_without_carry B s0 h t p sum U hB s.low_fits s.fits w.3 s.sum_wraps s.sum_parts
-    (omega (arith, s.multiple, w.1)) hc in
-    let eh : h ≡ U % B = sym (ap (λ v. v % B) eU ∙ mod-eq_of_lt s.high_fits) in
-    let l : r + m ≡ U = one_less B m U h r s.modulus_fits (omega arith) w.2 hr eh er in
-    record { below = omega (arith, w.2); congruent = residue_less B m t x U r w.1 l }
-
--- the sum keeps to the double word, and its high word is below the modulus
-pub reduces_same : (B m t x p sum s0 h : ℕ) → Sum B m t x p sum s0 h
-    → t ≤ sum → h < m → IsReduction B m t h
-reduces_same B m t x p sum s0 h s hc hm =
-    let w = whole_sum B m t x p sum s0 h s in
-    let U = w.0 in
-    let hB : 0 < B = omega (arith, s.modulus_fits) in
-    let eU : U ≡ h =
-    sum_without_carry B s0 h t p sum U hB s.low_fits s.fits w.3 s.sum_wraps s.sum_parts
-    (omega (arith, s.multiple, w.1)) hc in
+    let whole : t + x * m ≡ B * (t1 + p1 + k) = omega (arith, s.parts, s.multiple, s.multiple_parts) in
+    let under : x * m < B * m =
+    ⊎_elim (λ (h : 0 < m). let a : (x + 1) * m ≤ B * m = mul-le-mul_right m (let l : x + 1 ≤ B = omega (arith, s.multiplier_fits) in l) in omega arith)
+    (λ (h : m ≤ 0). let a : B * m ≤ B * 0 = mul-le-mul_left B h in absurd (omega (arith, s.below)))
+    (cases_lt 0 m) in
     record {
-      below = hm;
-      congruent = ap (λ v. (v * B) % m) (sym eU) ∙ residue_same B m t x U w.1;
+      whole = whole;
+      below = sum_below B m t (x * m) x (t1 + p1 + k) hB s.below s.multiplier_fits refl whole;
+      high_below = lt_of_mul-lt-mul_left B (let h : B * t1 < B * m = omega (arith, s.below, s.parts) in h);
+      multiple_below = lt_of_mul-lt-mul_left B (let h : B * p1 < B * m = omega (arith, s.multiple, s.multiple_parts) in h);
+      high = refl;
     }
+
+-- the high words where the low word of t is 0
+pub high_without_carry : (B m t x p t0 t1 p0 p1 : ℕ) → Sum B m t x p t0 t1 p0 p1 → t0 ≡ 0
+    → HighSum B m t x t1 p1 0 (t1 + p1 + 0)
+high_without_carry B m t x p t0 t1 p0 p1 s e =
+    let z : (p0 + B * (t1 + p1)) % B ≡ 0 =
+    ap (λ v. v % B) (let h : p0 + B * (t1 + p1) ≡ t + p = omega (arith, s.parts, s.multiple_parts) in h) ∙ s.low in
+    let p0_is : p0 ≡ 0 =
+    sym (mod-eq_of_lt s.multiple_low_fits) ∙ sym (add-mul-mod_self_left p0 B (t1 + p1)) ∙ z in
+    high_sum B m t x p t0 t1 p0 p1 0 s (omega arith)
+
+-- the high words where it isn't
+pub high_with_carry : (B m t x p t0 t1 p0 p1 : ℕ) → Sum B m t x p t0 t1 p0 p1 → 0 < t0
+    → HighSum B m t x t1 p1 1 (t1 + p1 + 1)
+high_with_carry B m t x p t0 t1 p0 p1 s some =
+    let z : (t0 + p0) % B ≡ 0 =
+    sym (add-mul-mod_self_left (t0 + p0) B (t1 + p1))
+    ∙ ap (λ v. v % B) (let h : t0 + p0 + B * (t1 + p1) ≡ t + p = omega (arith, s.parts, s.multiple_parts) in h) ∙ s.low in
+    let both = low_words B t0 p0 s.low_fits s.multiple_low_fits z some in
+    high_sum B m t x p t0 t1 p0 p1 1 s (omega arith)
+
+-- the high word of t less m, with a borrow
+less_is : (B m t1 d : ℕ) → m < B → t1 < m → d < B → (d + m) % B ≡ t1 → d + m ≡ t1 + B
+less_is B m t1 d hm ht hd e =
+    let y = t1 + B - m in
+    let ey : y + m ≡ t1 + B = omega arith in
+    let r : (y + m) % B ≡ t1 = ap (λ v. v % B) ey ∙ add-mod_right t1 B ∙ mod-eq_of_lt (omega arith) in
+    let same : d ≡ y = mod_cancel B d y m hd (omega arith) (e ∙ sym r) in
+    omega arith
+
+-- less m the sum wraps below the summand: it was m or more
+pub reduces_less : (B m t x t1 p1 k U raised d less : ℕ) → HighSum B m t x t1 p1 k U → m < B
+    → raised ≡ p1 + k → raised ≤ m → d < B → (d + m) % B ≡ t1 → less ≡ (d + raised) % B → less < raised
+    → IsReduction B m t less
+reduces_less B m t x t1 p1 k U raised d less s hm er hr hd ed el h =
+    let e : d + m ≡ t1 + B = less_is B m t1 d hm s.high_below hd ed in
+    let wraps : B ≤ d + raised =
+    ⊎_elim
+    (λ (l : d + raised < B). let same : (d + raised) % B ≡ d + raised = mod-eq_of_lt l in absurd (omega arith))
+    (λ (l : B ≤ d + raised). l) (cases_lt (d + raised) B) in
+    let y = d + raised - B in
+    let ey : d + raised ≡ y + B = omega arith in
+    let same : less ≡ y = el ∙ ap (λ v. v % B) ey ∙ add-mod_right y B ∙ mod-eq_of_lt (omega arith) in
+    let l : less + m ≡ U = omega (arith, s.high) in
+    record { below = omega (arith, s.below); congruent = residue_less B m t x U less s.whole l }
+
+-- it doesn't wrap: the sum was below m
+pub reduces_same : (B m t x t1 p1 k U raised d less sum : ℕ) → HighSum B m t x t1 p1 k U → m < B
+    → raised ≡ p1 + k → raised ≤ m → d < B → (d + m) % B ≡ t1 → less ≡ (d + raised) % B → raised ≤ less
+    → sum ≡ (t1 + raised) % B → IsReduction B m t sum
+reduces_same B m t x t1 p1 k U raised d less sum s hm er hr hd ed el h es =
+    let e : d + m ≡ t1 + B = less_is B m t1 d hm s.high_below hd ed in
+    let under : d + raised < B =
+    ⊎_elim (λ (l : d + raised < B). l)
+    (λ (l : B ≤ d + raised).
+    let y = d + raised - B in
+    let ey : d + raised ≡ y + B = omega arith in
+    let same : less ≡ y = el ∙ ap (λ v. v % B) ey ∙ add-mod_right y B ∙ mod-eq_of_lt (omega arith) in
+    absurd (omega arith))
+    (cases_lt (d + raised) B) in
+    let small : t1 + raised < m = omega arith in
+    let is : sum ≡ U = es ∙ mod-eq_of_lt (let l : t1 + raised < B = omega arith in l) ∙ omega (arith, s.high) in
+    record { below = omega arith; congruent = ap (λ v. (v * B) % m) is ∙ residue_same B m t x U s.whole }

@@ -115,6 +115,10 @@ pub fn clearing<T: PathWord>(m: T, negated_inverse: T, t: T::Double) -> T
 
 /// Montgomery's reduction of t, given the word x of `clearing` and the product x·m: the second
 /// step, with the carry of the sum kept. A modulus of a special form may have x·m at a lower cost.
+///
+/// The low words of t and x·m add up to 0 or to the base, so the sum's high word is that of t and
+/// that of x·m, raised by 1 where the low word of t isn't 0. Less m it wraps exactly where it is
+/// below m, which tells a carry and a high word from m on alike.
 pub fn reduce_by<T: PathWord>(m: T, t: T::Double, x: T, multiple: T::Double) -> T
     requires below { T.whole t < T.base * T.number m }
     requires multiple { T.whole multiple ≡ T.number x * T.number m }
@@ -123,14 +127,18 @@ pub fn reduce_by<T: PathWord>(m: T, t: T::Double, x: T, multiple: T::Double) -> 
     requires fits { T.number m < T.base }
     ensures { IsReduction T.base (T.number m) (T.whole t) (T.number result) }
 {
-    let sum = T::double_wrapping_add(t, multiple);
-    let (_, high) = T::split(sum);
-    if T::double_is_below(sum, t) {
-        high.wrapping_sub(m)
-    } else if high.is_below(m) {
-        high
+    let (low, high) = T::split(t);
+    let (_, multiple_high) = T::split(multiple);
+    let raised = if low.is_zero_word() {
+        multiple_high
     } else {
-        high.wrapping_sub(m)
+        multiple_high.wrapping_add(T::one())
+    };
+    let less = high.wrapping_sub(m).wrapping_add(raised);
+    if less.is_below(raised) {
+        less
+    } else {
+        high.wrapping_add(raised)
     }
 }
 
