@@ -7,7 +7,6 @@
 pub mod barrett;
 pub mod modrun;
 pub mod monty;
-pub mod preinv;
 pub mod prim;
 pub mod reduced;
 pub mod ring;
@@ -17,6 +16,7 @@ pub use modular_barrett::normalized::Normalized2by1Divisor;
 pub use modular_barrett::one_by_one::PreMulInv1by1;
 pub use modular_barrett::premul::PreMulInv2by1;
 pub use modular_monty::montgomery::Montgomery;
+pub use modular_monty::preinv;
 pub use modular_monty::preinv::PreModInv;
 pub use modular_prim::exact::{DivExact, DivExactAssign};
 pub use modular_prim::ops::{ModularAbs, ModularCoreOps, ModularPow, ModularUnaryOps};

@@ -1,3 +1,7 @@
 //! Each public item once, by the path that a user writes, and the reducers side by side.
 
+mod dividers;
+mod integers;
+mod plain;
 mod rings;
+mod words;
