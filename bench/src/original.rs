@@ -119,7 +119,7 @@ pub extern "C" fn preinv_div_exact(x: u64, y: u64, m: u64, n: u64) -> u64 {
     let inverse = PreModInv::<u64>::from(m);
     let mut x = x;
     for _ in 0..n {
-        x = match x.div_exact(m, &inverse) {
+        x = match DivExact::div_exact(x, m, &inverse) {
             Some(q) => q,
             None => y.wrapping_mul(x),
         };
