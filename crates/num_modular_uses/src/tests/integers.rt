@@ -1,7 +1,9 @@
 //! Integers of a ring, powers with their count, and the program's body.
 
 use num_modular::modrun::run_words;
+use num_modular::modrun::words::{command, number};
 use num_modular::reduced::pow_counted;
+use num_modular::ring::RingCommand;
 use num_modular::{ModularInteger, MontgomeryInt, Reducer, Vanilla, VanillaInt};
 use std::test::Fail;
 
@@ -38,6 +40,20 @@ fn products_of_a_power(rt: HostRuntime) -> Result<(), Fail> {
     for (exp, products) in [(0, 0), (1, 0), (2, 1), (3, 4), (4, 4), (255, 16)] {
         assert_eq!(rt; count_of(&reducer, exp), products, "the exponent {exp}");
     }
+    Ok(())
+}
+
+#[test]
+fn words_of_the_program(rt: HostRuntime) -> Result<(), Fail> {
+    assert_eq!(rt;
+        (number("0021"), number("18446744073709551616")),
+        (Some(21), None)
+    );
+    assert_eq!(rt;
+        command("load,00,05"),
+        Some(RingCommand::Load { dst: 0, n: 5 })
+    );
+    assert_eq!(rt; command("load,8,1"), None);
     Ok(())
 }
 
