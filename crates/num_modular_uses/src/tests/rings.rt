@@ -150,3 +150,55 @@ fn the_ring_of_one_value(rt: HostRuntime) -> Result<(), Fail> {
     );
     Ok(())
 }
+
+// The residues that the calls of a reducer leave of a and b.
+fn residues_of_calls<R: Reducer<u8>>(reducer: &R, a: u8, b: u8) -> [u8; 10] {
+    let f = reducer.transform(a);
+    let g = reducer.transform(b);
+    let mut sum = f;
+    reducer.add_in_place(&mut sum, &g);
+    let mut difference = f;
+    reducer.sub_in_place(&mut difference, &g);
+    let mut product = f;
+    reducer.mul_in_place(&mut product, &g);
+    [
+        reducer.residue(sum),
+        reducer.residue(reducer.add(&f, &g)),
+        reducer.residue(difference),
+        reducer.residue(reducer.sub(&f, &g)),
+        reducer.residue(product),
+        reducer.residue(reducer.mul(&f, &g)),
+        reducer.residue(reducer.dbl(f)),
+        reducer.residue(reducer.neg(f)),
+        reducer.residue(reducer.sqr(f)),
+        reducer.residue(reducer.pow(f, &3)),
+    ]
+}
+
+fn tests_of_calls<R: Reducer<u8>>(reducer: &R, a: u8) -> (bool, bool, bool) {
+    let f = reducer.transform(a);
+    (
+        reducer.check(&f),
+        reducer.is_zero(&f),
+        reducer.inv(f).is_some(),
+    )
+}
+
+#[test]
+fn each_call_of_a_reducer(rt: HostRuntime) -> Result<(), Fail> {
+    let residues = [12, 12, 19, 19, 14, 14, 10, 16, 4, 20];
+    let plain = num_modular::reduced::Vanilla::<u8>::new(&21);
+    let scaled = num_modular::barrett::PreMulInv2by1::<u8>::new(21);
+    let odd = num_modular::monty::Montgomery::<u8>::new(21);
+    assert_eq!(rt; residues_of_calls(&plain, 5, 7), residues);
+    assert_eq!(rt; residues_of_calls(&scaled, 5, 7), residues);
+    assert_eq!(rt; residues_of_calls(&odd, 5, 7), residues);
+    assert_eq!(rt; tests_of_calls(&plain, 21), (true, true, false));
+    assert_eq!(rt; tests_of_calls(&scaled, 5), (true, false, true));
+    assert_eq!(rt; tests_of_calls(&odd, 7), (true, false, false));
+    assert_eq!(rt;
+        (plain.modulus(), scaled.modulus(), odd.modulus()),
+        (21, 21, 21)
+    );
+    Ok(())
+}
