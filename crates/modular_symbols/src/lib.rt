@@ -1,0 +1,5 @@
+//! The Legendre, Jacobi and Kronecker symbols of machine words, with and without sign.
+#![tactic(auto)]
+
+pub mod integer;
+pub mod magnitudes;
