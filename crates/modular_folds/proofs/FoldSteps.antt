@@ -1,0 +1,38 @@
+-- What a fold makes of a number.
+use Rattle.std.proofs.Common.{◌≡◌, ℕ, ◌+◌, ◌-◌, ◌*◌, ◌/◌, ◌%◌, ◌^◌, ◌<◌, ◌≤◌, arith, ap, sym, ◌∙◌, ⊎_elim, bit_and, lit<}
+use Rattle.std.proofs.Math.Nat.{add-mul-mod_self_right, mul-lt-mul_of_pos_left, pow-le-pow_right}
+use Rattle.std.proofs.lemmas.Nat.{shr_split, pow_pos, le-div, and_mask}
+use Rattle.std.proofs.lemmas.Bool.{cases_lt}
+use Rattle.modular_folds.specs.Folds.{fold_of, IsFolding}
+
+-- the mask of the bits below p keeps what is left modulo 2^p
+pub masked : (p mask v : ℕ) → mask + 1 ≡ 2 ^ p → bit_and v mask ≡ v % 2 ^ p
+masked p mask v ones =
+    ap (λ n. bit_and v n) (let e : mask ≡ 2 ^ p - 1 = omega arith in e) ∙ and_mask v p
+
+-- a fold makes a number of at least 2^p smaller
+pub fold_less : (p c v : ℕ) → c < 2 ^ p → 2 ^ p ≤ v → fold_of p c v < v
+fold_less p c v below high =
+    let split = shr_split v p in
+    let some : 0 < v / 2 ^ p = le-div 1 v (2 ^ p) (pow_pos p) (let one : 1 * 2 ^ p ≤ v = omega arith in one) in
+    let less : v / 2 ^ p * c < v / 2 ^ p * 2 ^ p = mul-lt-mul_of_pos_left below some in
+    omega (arith, split, less)
+
+-- a fold keeps the residue modulo 2^p - c
+pub fold_keeps : (p c m v : ℕ) → m + c ≡ 2 ^ p → fold_of p c v % m ≡ v % m
+fold_keeps p c m v is =
+    let split = shr_split v p in
+    let whole : fold_of p c v + v / 2 ^ p * m ≡ v = omega (arith, split, ap (λ n. v / 2 ^ p * n) is) in
+    sym (add-mul-mod_self_right (fold_of p c v) (v / 2 ^ p) m) ∙ ap (λ n. n % m) whole
+
+-- a word of w bits that is 2^p at least has more than p bits
+pub bit_inside : (w p v : ℕ) → 2 ^ p ≤ v → v < 2 ^ w → p < w
+bit_inside w p v high fits =
+    ⊎_elim
+    (λ (l : p < w). l)
+    (λ (l : w ≤ p). let more = pow-le-pow_right {n = 2} (lit< tt) l in absurd (omega (arith, more)))
+    (cases_lt p w)
+
+-- 2^p is among the numbers up to 2^w
+pub power_fits : {w p c m : ℕ} → IsFolding w p c m → 2 ^ p ≤ 2 ^ w
+power_fits is = pow-le-pow_right {n = 2} (lit< tt) is.fits

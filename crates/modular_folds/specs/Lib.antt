@@ -1,0 +1,2 @@
+pub mod Folds
+pub use Rattle.modular_reduced.specs.Forms

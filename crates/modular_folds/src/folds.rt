@@ -1,0 +1,54 @@
+//! Reduction by folds, once for every modulus near a power of two and for both widths of dividends.
+
+ghost use Rattle.std.specs.Prelude.{◌≡◌, ℕ, ◌+◌, ◌%◌, ◌^◌, ◌<◌, ◌≤◌};
+ghost use Rattle.modular_folds.specs.Folds.{fold_of, IsFolding};
+
+use crate::fold_word::FoldWord;
+
+// One fold at the bit p: the part above it times c, plus the part below it. The mask has the bits
+// below p.
+fn fold<V: FoldWord>(v: V, p: u32, mask: V, c: V) -> V
+    requires high { 2 ^ p ≤ V.number v }
+    requires mask { V.number mask + 1 ≡ 2 ^ p }
+    requires less { V.number c < 2 ^ p }
+    requires fits { V.number v < 2 ^ V.width }
+    ensures { V.number result ≡ fold_of p (V.number c) (V.number v) }
+{
+    v.shift_right(p).times(c).plus(v.masked(mask))
+}
+
+/// A number below 2^p that leaves what v leaves modulo m: v after as many folds as it takes.
+pub fn fold_all<V: FoldWord>(v: V, p: u32, c: V, m: V) -> V
+    requires { IsFolding V.width p (V.number c) (V.number m) }
+    ensures below { V.number result < 2 ^ p }
+    ensures same { V.number result % V.number m ≡ V.number v % V.number m }
+{
+    let mask = m.plus(c.minus(V::one()));
+    let mut rest = v;
+    'folds: while mask.is_below(rest) {
+        rest = fold(rest, p, mask, c);
+    }
+    rest
+}
+
+/// v modulo m, where m is 2^p - c and more than half of 2^p: as many folds as it takes, and one
+/// subtraction at most.
+///
+/// A fold takes the part of v above the bit p times c in place of times 2^p, which leaves the same
+/// modulo m. p may be the width of v, which then takes no fold.
+///
+/// Source: Handbook of Applied Cryptography, algorithm 14.47.
+pub fn reduce_by_folds<V: FoldWord>(v: V, p: u32, c: V, m: V) -> V
+    requires { IsFolding V.width p (V.number c) (V.number m) }
+    ensures { V.number result ≡ V.number v % V.number m }
+{
+    let rest = fold_all(v, p, c, m);
+    if rest.is_below(m) {
+        rest
+    } else {
+        rest.minus(m)
+    }
+}
+
+#[cfg(test)]
+mod tests;

@@ -1,0 +1,31 @@
+//! Rows of the reduction.
+
+use super::{fold_all, reduce_by_folds};
+use std::test::Fail;
+
+#[test]
+fn greatest_dividends(rt: HostRuntime) -> Result<(), Fail> {
+    assert_eq!(rt; reduce_by_folds(u64::MAX, 2, 1, 3), 0);
+    assert_eq!(rt; reduce_by_folds(u64::MAX, 32, 5, 4294967291), 24);
+    assert_eq!(rt; reduce_by_folds(u64::MAX, 4, 3, 13), 2);
+    assert_eq!(rt; reduce_by_folds(255u64, 4, 3, 13), 8);
+    assert_eq!(rt;
+        reduce_by_folds(u128::MAX, 64, 59, 18446744073709551557),
+        3480
+    );
+    Ok(())
+}
+
+#[test]
+fn bit_p_at_the_width(rt: HostRuntime) -> Result<(), Fail> {
+    assert_eq!(rt; reduce_by_folds(u64::MAX, 64, 59, 18446744073709551557), 58);
+    assert_eq!(rt; fold_all(u64::MAX, 64, 59, 18446744073709551557), u64::MAX);
+    Ok(())
+}
+
+#[test]
+fn folds_alone(rt: HostRuntime) -> Result<(), Fail> {
+    assert_eq!(rt; fold_all(67108863u64, 13, 1, 8191), 8191);
+    assert_eq!(rt; fold_all(4294967295u64, 16, 5, 65531), 24);
+    Ok(())
+}

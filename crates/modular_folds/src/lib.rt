@@ -1,0 +1,5 @@
+//! Reduction by folds, and the reducers of moduli near a power of two.
+#![tactic(auto)]
+
+pub mod fold_word;
+pub mod folds;
