@@ -1,14 +1,13 @@
 -- The Kronecker symbol: the Jacobi symbol over any whole number (Cohen, "A Course in Computational Algebraic Number
 -- Theory", definition 1.4.8).
-use Rattle.std.specs.Prelude.{ℕ, zero, suc, ◌/◌, ◌%◌, ◌^◌, ℤ, pos, negsuc, ◌*ℤ◌, neg_ℤ, nat_abs, int_lt, Bool, true, false, ◌==◌, ◌&&◌, ◌||◌, if◌then◌else◌}
+use Rattle.std.specs.Prelude.{ℕ, zero, suc, ◌/◌, ◌%◌, ◌^◌, ℤ, pos, negsuc, ◌*ℤ◌, neg_ℤ, nat_abs, int_lt, Bool, ◌==◌, ◌&&◌, ◌||◌, if◌then◌else◌}
 use Rattle.std.specs.Int.{int_pow}
 use Rattle.modular_word.specs.Residues.{residue}
 use Rattle.modular_symbols.specs.Jacobi.{jacobi}
 
 -- z, or -z where it is turned: the number of a sign and a magnitude
 abbrev pub signed : Bool → ℤ → ℤ
-signed true z = neg_ℤ z
-signed false z = z
+signed turned z = if turned then neg_ℤ z else z
 
 -- the greatest exponent from 0 to k of a power of 2 that divides n
 unfoldable pub twos_up_to : ℕ → ℕ → ℕ

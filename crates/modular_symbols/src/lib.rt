@@ -1,5 +1,6 @@
 //! The Legendre, Jacobi and Kronecker symbols of machine words, with and without sign.
 #![tactic(auto)]
 
+pub mod count;
 pub mod integer;
 pub mod magnitudes;

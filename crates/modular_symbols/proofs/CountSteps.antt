@@ -1,0 +1,89 @@
+-- The count of the half system, one number after the other.
+use Rattle.std.proofs.Common.{◌≡◌, ℕ, suc, ◌+◌, ◌-◌, ◌/◌, ◌%◌, ◌<◌, ◌≤◌, ◌≢◌, Bool, true, false, not, cond, ltb, eqb, ℤ, pos, negsuc, ◌*ℤ◌, nat_abs, Option, Some, None, is_some, zero, sym, ◌∙◌, ap, refl, arith}
+use Rattle.std.proofs.lemmas.Bool.Decides.{nat_tests}
+use Rattle.modular_word.specs.Divisors.{gcd}
+use Rattle.modular_word.specs.Inverses.{IsInversion}
+use Rattle.modular_word.specs.Residues.{residue}
+use Rattle.modular_word.specs.Sums.{sum_to}
+use Rattle.modular_word.proofs.Divisors.{HasInverse-gcd}
+use Rattle.modular_word.proofs.Sums.{sum_to-zero, sum_to-suc}
+use Rattle.modular_symbols.specs.Jacobi.{half_system_count, jacobi, sign}
+use Rattle.modular_symbols.specs.Kronecker.{signed}
+
+-- 1 where the residue of z * x lies above the half system of n, else 0
+abbrev pub above : ℤ → ℕ → ℕ → ℕ
+above z n x = cond (ltb ((n - 1) / 2) (residue n (z *ℤ pos x))) 1 0
+
+-- x is in the half system, and `odd` tells the parity of the count up to x
+pub record CountedTo (z : ℤ) (n x : ℕ) (odd : Bool) : Type 0 where
+  pub within : x ≤ (n - 1) / 2
+  pub parity : sum_to (above z n) x % 2 ≡ cond odd 1 0
+
+pub counted_none : (z : ℤ) (n x : ℕ) → x ≡ 0 → CountedTo z n x false
+counted_none z n x e = record {
+  within = omega arith;
+  parity = ap (λ v. sum_to (above z n) v % 2) e ∙ ap (λ v. v % 2) (sum_to-zero (above z n));
+}
+
+above_high : (z : ℤ) (n x : ℕ) → (n - 1) / 2 < residue n (z *ℤ pos x) → above z n x ≡ 1
+above_high z n x h = grind (arith, nat_tests)
+
+above_low : (z : ℤ) (n x : ℕ) → residue n (z *ℤ pos x) ≤ (n - 1) / 2 → above z n x ≡ 0
+above_low z n x h = grind (arith, nat_tests)
+
+other_parity : (s t : ℕ) (odd : Bool) → s % 2 ≡ cond odd 1 0 → t ≡ 1 → (s + t) % 2 ≡ cond (not odd) 1 0
+other_parity s t true e f = omega arith
+other_parity s t false e f = omega arith
+
+same_parity : (s t : ℕ) (odd : Bool) → s % 2 ≡ cond odd 1 0 → t ≡ 0 → (s + t) % 2 ≡ cond odd 1 0
+same_parity s t odd e f = omega arith
+
+pub counted_high : (z : ℤ) (n x y : ℕ) (odd : Bool) → CountedTo z n x odd → y ≡ suc x → y ≤ (n - 1) / 2
+    → (n - 1) / 2 < residue n (z *ℤ pos y) → CountedTo z n y (not odd)
+counted_high z n x y odd c e w h = record {
+  within = w;
+  parity = ap (λ v. sum_to (above z n) v % 2) e ∙ ap (λ v. v % 2) (sum_to-suc (above z n) x)
+      ∙ other_parity (sum_to (above z n) x) (above z n (suc x)) odd c.parity (sym (ap (above z n) e) ∙ above_high z n y h);
+}
+
+pub counted_low : (z : ℤ) (n x y : ℕ) (odd : Bool) → CountedTo z n x odd → y ≡ suc x → y ≤ (n - 1) / 2
+    → residue n (z *ℤ pos y) ≤ (n - 1) / 2 → CountedTo z n y odd
+counted_low z n x y odd c e w h = record {
+  within = w;
+  parity = ap (λ v. sum_to (above z n) v % 2) e ∙ ap (λ v. v % 2) (sum_to-suc (above z n) x)
+      ∙ same_parity (sum_to (above z n) x) (above z n (suc x)) odd c.parity (sym (ap (above z n) e) ∙ above_low z n y h);
+}
+
+sign_of : (k : ℕ) (odd : Bool) → k % 2 ≡ cond odd 1 0 → sign k ≡ cond odd (negsuc 0) (pos 1)
+sign_of k true e = grind (arith, nat_tests)
+sign_of k false e = grind (arith, nat_tests)
+
+-- the symbol at the end of the count
+pub counted_all : (z : ℤ) (n x : ℕ) (odd : Bool) → CountedTo z n x odd → (n - 1) / 2 ≤ x → gcd (nat_abs z) n ≡ 1
+    → jacobi z n ≡ cond odd (negsuc 0) (pos 1)
+unfolding jacobi half_system_count
+counted_all z n x odd c h g =
+    let w = c.within in
+    let e : x ≡ (n - 1) / 2 = omega arith in
+    ap (λ v. cond (eqb v 1) (sign (half_system_count z n)) (pos 0)) g
+    ∙ sign_of (sum_to (above z n) ((n - 1) / 2)) odd (sym (ap (λ v. sum_to (above z n) v % 2) e) ∙ c.parity)
+
+pub shared_divisor : (z : ℤ) (n : ℕ) → gcd (nat_abs z) n ≢ 1 → jacobi z n ≡ pos 0
+unfolding jacobi
+shared_divisor z n h = grind (arith, nat_tests)
+
+pub nat_abs-signed : (minus : Bool) (a : ℕ) → nat_abs (signed minus (pos a)) ≡ a
+nat_abs-signed true zero = refl
+nat_abs-signed true (suc a) = refl
+nat_abs-signed false a = refl
+
+-- what an inversion tells of the greatest common divisor
+pub no_inverse : {A : Type 0} (number : A → ℕ) (m a : ℕ) (found : Option A) → 0 < m → IsInversion number m a found
+    → is_some found ≡ false → gcd a m ≢ 1
+no_inverse number m a None p none e = λ g. let h = (HasInverse-gcd a m p).1 g in none h.0 h.1
+no_inverse number m a (Some x) p i e = absurd (cc)
+
+pub with_inverse : {A : Type 0} (number : A → ℕ) (m a : ℕ) (found : Option A) → 0 < m → IsInversion number m a found
+    → is_some found ≡ true → gcd a m ≡ 1
+with_inverse number m a None p none e = absurd (cc)
+with_inverse number m a (Some x) p i e = (HasInverse-gcd a m p).0 (number x, i)

@@ -1,0 +1,2 @@
+pub mod CountSteps
+pub mod ResidueProducts

@@ -1,0 +1,63 @@
+-- The residue of a product of integers is that of the residues' product.
+use Rattle.std.proofs.Common.{◌≡◌, ℕ, zero, suc, ◌+◌, ◌*◌, ◌/◌, ◌%◌, ◌<◌, ℤ, pos, negsuc, ◌*ℤ◌, neg_ℤ, sym, ◌∙◌, ap, arith}
+use Rattle.std.proofs.lemmas.Nat.{mod_below, mul-mod, mul-mod_second}
+use Rattle.std.proofs.Math.Nat.{mod-eq_of_lt, mod-add-mod, zero-mod, add-mul-mod_self_left}
+use Rattle.modular_word.specs.Residues.{residue}
+use Rattle.modular_word.proofs.Congruence.{mod_cancel}
+use Rattle.modular_word.proofs.Divisors.{divides, divides_product, multiple_of}
+
+pub residue_below : (n : ℕ) (z : ℤ) → 0 < n → residue n z < n
+residue_below n (pos a) p = mod_below a n p
+residue_below n (negsuc a) p = omega arith
+
+-- a negative number's residue and its magnitude add up to a multiple of n
+pub residue_opposite : (n a : ℕ) → 0 < n → (residue n (negsuc a) + suc a) % n ≡ 0
+residue_opposite n a p =
+    let b = mod_below a n p in
+    divides n (residue n (negsuc a) + suc a) (1 + a / n) (omega arith)
+
+-- and no other number below n does so
+pub residue_minus : (n m r : ℕ) → r < n → (r + m) % n ≡ 0 → residue n (neg_ℤ (pos m)) ≡ r
+residue_minus n zero r h e =
+    let f : r + 0 ≡ r = omega arith in
+    zero-mod n ∙ sym e ∙ ap (λ v. v % n) f ∙ mod-eq_of_lt h
+residue_minus n (suc a) r h e =
+    let p : 0 < n = omega arith in
+    mod_cancel n (residue n (negsuc a)) r (suc a) (residue_below n (negsuc a) p) h (residue_opposite n a p ∙ sym e)
+
+-- r * b is opposite to m * b where r is to m
+opposite_product : (n r m b : ℕ) → (r + m) % n ≡ 0 → ((r * b) % n + m * b) % n ≡ 0
+opposite_product n r m b e =
+    let f : (r + m) * b ≡ r * b + m * b = omega arith in
+    mod-add-mod (r * b) n (m * b) ∙ sym (ap (λ v. v % n) f) ∙ divides_product n (r + m) b e
+
+both_opposite : (n r s a b : ℕ) → (r + a) % n ≡ 0 → (s + b) % n ≡ 0 → (a * b) % n ≡ (r * s) % n
+both_opposite n r s a b e f =
+    let i : ℕ = (r + a) / n in
+    let j : ℕ = (s + b) / n in
+    let u = ap (λ v. v * b) (multiple_of n (r + a) e) in
+    let w = ap (λ v. r * v) (multiple_of n (s + b) f) in
+    let t : a * b + n * (j * r) ≡ r * s + n * (i * b) = omega arith in
+    sym (add-mul-mod_self_left (a * b) n (j * r)) ∙ ap (λ v. v % n) t ∙ add-mul-mod_self_left (r * s) n (i * b)
+
+pub residue-product : (n : ℕ) (z w : ℤ) → 0 < n → residue n (z *ℤ w) ≡ (residue n z * residue n w) % n
+residue-product n (pos a) (pos b) p = mul-mod a b n
+residue-product n (pos a) (negsuc b) p =
+    let r : ℕ = residue n (negsuc b) in
+    let e : r * (a % n) ≡ a % n * r = omega arith in
+    let f : suc b * a ≡ a * suc b = omega arith in
+    residue_minus n (a * suc b) ((a % n * r) % n) (mod_below (a % n * r) n p)
+    (sym (ap (λ v. ((a % n * r) % n + v) % n) f)
+    ∙ ap (λ v. (v + suc b * a) % n) (sym (ap (λ v. v % n) e) ∙ mul-mod_second r a n)
+    ∙ opposite_product n r (suc b) a (residue_opposite n b p))
+residue-product n (negsuc a) (pos b) p =
+    let r : ℕ = residue n (negsuc a) in
+    residue_minus n (suc a * b) ((r * (b % n)) % n) (mod_below (r * (b % n)) n p)
+    (ap (λ v. (v + suc a * b) % n) (mul-mod_second r b n)
+    ∙ opposite_product n r (suc a) b (residue_opposite n a p))
+residue-product n (negsuc a) (negsuc b) p =
+    both_opposite n (residue n (negsuc a)) (residue n (negsuc b)) (suc a) (suc b) (residue_opposite n a p) (residue_opposite n b p)
+
+-- that of a multiple
+pub residue-multiple : (n : ℕ) (z : ℤ) (x : ℕ) → 0 < n → residue n (z *ℤ pos x) ≡ (residue n z * x) % n
+residue-multiple n z x p = residue-product n z (pos x) p ∙ mul-mod_second (residue n z) x n
