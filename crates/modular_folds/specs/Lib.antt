@@ -1,2 +1,5 @@
 pub mod Folds
+pub mod Mersenne
+pub mod MersenneLaws
 pub use Rattle.modular_reduced.specs.Forms
+pub use Rattle.modular_reduced.specs.Plain

@@ -3,3 +3,4 @@
 
 pub mod fold_word;
 pub mod folds;
+pub mod mersenne;

@@ -1,0 +1,325 @@
+//! The reducers of the moduli 2^P - K.
+
+ghost use Rattle.std.specs.Prelude.{◌≡◌, ℕ, ◌%◌, ◌<◌};
+ghost use Rattle.modular_reduced.specs.Plain.{plain_form, plain_value};
+ghost use Rattle.modular_folds.specs.Mersenne.{IsMersenneRange, IsMersenne, mersenne};
+ghost use Rattle.modular_folds.specs.MersenneLaws.{mersenne_canonical};
+ghost use Rattle.std.proofs.Common.{lit≤, refl};
+
+use crate::folds::reduce_by_folds;
+use modular_prim::below::{add_below, dbl_below, neg_below, sub_below};
+use modular_prim::euclid::invm;
+use modular_reduced::reducer::Reducer;
+
+/// The reducer of the modulus 2^P - K of at most 32 bits: the form of a value is the value itself.
+///
+/// The parameters are in range where P is 32 at most and K is odd and less than half of 2^P. No call
+/// divides but `inv`: a product is reduced by folds.
+#[derive(Debug, Clone, Copy)]
+pub struct FixedMersenne32<const P: u8, const K: u32> {
+    ghost range: { IsMersenneRange 32 P K },
+}
+
+impl<const P: u8, const K: u32> FixedMersenne32<P, K> {
+    /// The modulus. Condition: the parameters are in range.
+    pub fn fixed_modulus() -> u32
+        requires { IsMersenneRange 32 P K }
+        ensures { result ≡ mersenne P K }
+    {
+        ((1u64 << P) - K as u64) as u32
+    }
+
+    /// The residue of a word. Condition: the parameters are in range.
+    pub fn reduce_single(v: u32) -> u32
+        requires { IsMersenneRange 32 P K }
+        ensures { result ≡ v % mersenne P K }
+    {
+        Self::reduce_double(v as u64)
+    }
+
+    /// The residue of a double word. Condition: the parameters are in range.
+    pub fn reduce_double(v: u64) -> u32
+        requires { IsMersenneRange 32 P K }
+        ensures { result ≡ v % mersenne P K }
+    {
+        reduce_by_folds(v, P as u32, K as u64, Self::fixed_modulus() as u64) as u32
+    }
+}
+
+impl<const P: u8, const K: u32> Reducer<u32> for FixedMersenne32<P, K> {
+    ghost admits = { IsMersenne 32 P K };
+
+    ghost form = { plain_form };
+
+    ghost value = { plain_value };
+
+    ghost modulus = { λ r. mersenne P K };
+
+    ghost admitted = { λ r. record { range = r.range; same = refl } };
+
+    ghost canonical = { λ r. mersenne_canonical 32 (lit≤ tt) r.range };
+
+    fn new(_m: &u32) -> Self {
+        FixedMersenne32 {}
+    }
+
+    fn transform(&self, n: u32) -> u32 {
+        Self::reduce_single(n)
+    }
+
+    fn check(&self, f: &u32) -> bool {
+        *f < Self::fixed_modulus()
+    }
+
+    fn modulus(&self) -> u32 {
+        Self::fixed_modulus()
+    }
+
+    fn residue(&self, f: u32) -> u32 {
+        f
+    }
+
+    fn is_zero(&self, f: &u32) -> bool {
+        *f == 0
+    }
+
+    fn add(&self, a: &u32, b: &u32) -> u32 {
+        add_below(*a, *b, Self::fixed_modulus())
+    }
+
+    fn dbl(&self, f: u32) -> u32 {
+        dbl_below(f, Self::fixed_modulus())
+    }
+
+    fn sub(&self, a: &u32, b: &u32) -> u32 {
+        sub_below(*a, *b, Self::fixed_modulus())
+    }
+
+    fn neg(&self, f: u32) -> u32 {
+        neg_below(f, Self::fixed_modulus())
+    }
+
+    fn mul(&self, a: &u32, b: &u32) -> u32 {
+        Self::reduce_double(*a as u64 * *b as u64)
+    }
+
+    fn inv(&self, f: u32) -> Option<u32> {
+        invm(f, Self::fixed_modulus())
+    }
+
+    fn sqr(&self, f: u32) -> u32 {
+        Self::reduce_double(f as u64 * f as u64)
+    }
+}
+
+/// The reducer of the modulus 2^P - K of at most 64 bits: the form of a value is the value itself.
+///
+/// The parameters are in range where P is 64 at most and K is odd and less than half of 2^P. No call
+/// divides but `inv`: a product is reduced by folds.
+#[derive(Debug, Clone, Copy)]
+pub struct FixedMersenne64<const P: u8, const K: u64> {
+    ghost range: { IsMersenneRange 64 P K },
+}
+
+impl<const P: u8, const K: u64> FixedMersenne64<P, K> {
+    /// The modulus. Condition: the parameters are in range.
+    pub fn fixed_modulus() -> u64
+        requires { IsMersenneRange 64 P K }
+        ensures { result ≡ mersenne P K }
+    {
+        ((1u128 << P) - K as u128) as u64
+    }
+
+    /// The residue of a word. Condition: the parameters are in range.
+    pub fn reduce_single(v: u64) -> u64
+        requires { IsMersenneRange 64 P K }
+        ensures { result ≡ v % mersenne P K }
+    {
+        reduce_by_folds(v, P as u32, K, Self::fixed_modulus())
+    }
+
+    /// The residue of a double word. Condition: the parameters are in range.
+    pub fn reduce_double(v: u128) -> u64
+        requires { IsMersenneRange 64 P K }
+        ensures { result ≡ v % mersenne P K }
+    {
+        reduce_by_folds(v, P as u32, K as u128, Self::fixed_modulus() as u128) as u64
+    }
+}
+
+impl<const P: u8, const K: u64> Reducer<u64> for FixedMersenne64<P, K> {
+    ghost admits = { IsMersenne 64 P K };
+
+    ghost form = { plain_form };
+
+    ghost value = { plain_value };
+
+    ghost modulus = { λ r. mersenne P K };
+
+    ghost admitted = { λ r. record { range = r.range; same = refl } };
+
+    ghost canonical = { λ r. mersenne_canonical 64 (lit≤ tt) r.range };
+
+    fn new(_m: &u64) -> Self {
+        FixedMersenne64 {}
+    }
+
+    fn transform(&self, n: u64) -> u64 {
+        Self::reduce_single(n)
+    }
+
+    fn check(&self, f: &u64) -> bool {
+        *f < Self::fixed_modulus()
+    }
+
+    fn modulus(&self) -> u64 {
+        Self::fixed_modulus()
+    }
+
+    fn residue(&self, f: u64) -> u64 {
+        f
+    }
+
+    fn is_zero(&self, f: &u64) -> bool {
+        *f == 0
+    }
+
+    fn add(&self, a: &u64, b: &u64) -> u64 {
+        add_below(*a, *b, Self::fixed_modulus())
+    }
+
+    fn dbl(&self, f: u64) -> u64 {
+        dbl_below(f, Self::fixed_modulus())
+    }
+
+    fn sub(&self, a: &u64, b: &u64) -> u64 {
+        sub_below(*a, *b, Self::fixed_modulus())
+    }
+
+    fn neg(&self, f: u64) -> u64 {
+        neg_below(f, Self::fixed_modulus())
+    }
+
+    fn mul(&self, a: &u64, b: &u64) -> u64 {
+        Self::reduce_double(*a as u128 * *b as u128)
+    }
+
+    fn inv(&self, f: u64) -> Option<u64> {
+        invm(f, Self::fixed_modulus())
+    }
+
+    fn sqr(&self, f: u64) -> u64 {
+        Self::reduce_double(f as u128 * f as u128)
+    }
+}
+
+/// The reducer of the modulus 2^P - K of at most 64 bits over words of 128 bits: the form of a value
+/// is the value itself, so the product of two forms is one word.
+///
+/// The parameters are in range where P is 64 at most and K is odd and less than half of 2^P. Forms are
+/// below 2^64, so all but the reduction of words is computed by `FixedMersenne64`.
+#[derive(Debug, Clone, Copy)]
+pub struct FixedMersenne<const P: u8, const K: u64> {
+    ring: FixedMersenne64<P, K>,
+}
+
+impl<const P: u8, const K: u64> FixedMersenne<P, K> {
+    /// The modulus. Condition: the parameters are in range.
+    pub fn fixed_modulus() -> u128
+        requires { IsMersenneRange 64 P K }
+        ensures { result ≡ mersenne P K }
+    {
+        FixedMersenne64::<P, K>::fixed_modulus() as u128
+    }
+
+    /// The residue of a word. Condition: the parameters are in range.
+    pub fn reduce_single(v: u128) -> u128
+        requires { IsMersenneRange 64 P K }
+        ensures { result ≡ v % mersenne P K }
+    {
+        FixedMersenne64::<P, K>::reduce_double(v) as u128
+    }
+
+    // A form as a word of 64 bits.
+    fn narrow(f: u128) -> u64
+        requires range { IsMersenneRange 64 P K }
+        requires below { f < mersenne P K }
+        ensures { result ≡ f }
+    {
+        f as u64
+    }
+}
+
+impl<const P: u8, const K: u64> Reducer<u128> for FixedMersenne<P, K> {
+    ghost admits = { IsMersenne 64 P K };
+
+    ghost form = { plain_form };
+
+    ghost value = { plain_value };
+
+    ghost modulus = { λ r. mersenne P K };
+
+    ghost admitted = { λ r. record { range = r.ring.range; same = refl } };
+
+    ghost canonical = { λ r. mersenne_canonical 128 (lit≤ tt) r.ring.range };
+
+    fn new(_m: &u128) -> Self {
+        FixedMersenne {
+            ring: FixedMersenne64 {},
+        }
+    }
+
+    fn transform(&self, n: u128) -> u128 {
+        Self::reduce_single(n)
+    }
+
+    fn check(&self, f: &u128) -> bool {
+        *f < Self::fixed_modulus()
+    }
+
+    fn modulus(&self) -> u128 {
+        Self::fixed_modulus()
+    }
+
+    fn residue(&self, f: u128) -> u128 {
+        f
+    }
+
+    fn is_zero(&self, f: &u128) -> bool {
+        *f == 0
+    }
+
+    fn add(&self, a: &u128, b: &u128) -> u128 {
+        self.ring.add(&Self::narrow(*a), &Self::narrow(*b)) as u128
+    }
+
+    fn dbl(&self, f: u128) -> u128 {
+        self.ring.dbl(Self::narrow(f)) as u128
+    }
+
+    fn sub(&self, a: &u128, b: &u128) -> u128 {
+        self.ring.sub(&Self::narrow(*a), &Self::narrow(*b)) as u128
+    }
+
+    fn neg(&self, f: u128) -> u128 {
+        self.ring.neg(Self::narrow(f)) as u128
+    }
+
+    fn mul(&self, a: &u128, b: &u128) -> u128 {
+        self.ring.mul(&Self::narrow(*a), &Self::narrow(*b)) as u128
+    }
+
+    fn inv(&self, f: u128) -> Option<u128> {
+        match self.ring.inv(Self::narrow(f)) {
+            Some(x) => Some(x as u128),
+            None => None,
+        }
+    }
+
+    fn sqr(&self, f: u128) -> u128 {
+        self.ring.sqr(Self::narrow(f)) as u128
+    }
+}
+
+#[cfg(test)]
+mod tests;
