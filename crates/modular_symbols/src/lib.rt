@@ -3,4 +3,5 @@
 
 pub mod count;
 pub mod integer;
+pub mod laws;
 pub mod magnitudes;

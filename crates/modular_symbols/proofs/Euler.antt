@@ -1,0 +1,185 @@
+-- Euler's criterion: over an odd prime n the power with exponent (n - 1) / 2 is congruent to the Jacobi symbol. The
+-- products a * x of the half system are its numbers in another order, up to as many signs as the count says.
+use Rattle.std.proofs.Common.{◌≡◌, ℕ, zero, suc, ◌+◌, ◌-◌, ◌*◌, ◌%◌, ◌/◌, ◌^◌, ◌<◌, ◌≤◌, cond, eqb, ℤ, pos, negsuc, Some, None, sym, ◌∙◌, ap, arith, ⊎_elim, inl, inr, ◌⊎◌, subst}
+use Rattle.std.proofs.lemmas.Bool.Decides.{nat_tests}
+use Rattle.std.proofs.lemmas.Bool.{cases_lt, cases_eq}
+use Rattle.std.proofs.lemmas.Nat.{mod_below, mul-mod_first, mul-mod_second, pow-add}
+use Rattle.std.proofs.Math.Nat.{mod-eq_of_lt, pow-zero, pow-suc, one-mul, add-mul-mod_self_left, zero-mod, mod_self}
+use Rattle.modular_word.specs.Divisors.{Coprime}
+use Rattle.modular_word.specs.Residues.{residue}
+use Rattle.modular_word.specs.Sums.{sum_to}
+use Rattle.modular_word.proofs.Congruence.{same_product}
+use Rattle.modular_word.proofs.Divisors.{divisor_below, Coprime-product}
+use Rattle.modular_word.proofs.Powers.{pow-one}
+use Rattle.modular_word.proofs.Sums.{sum_to-zero, sum_to-suc}
+use Rattle.modular_symbols.specs.Jacobi.{half_system_count, jacobi}
+use Rattle.modular_symbols.specs.Legendre.{classed_power}
+use Rattle.modular_symbols.specs.Primes.{IsPrime}
+use Rattle.modular_symbols.proofs.HalfSystem.{above, above_high, above_low, distance, distance_high, distance_low, half_system_count-sum, half_system_permuted, equal_remainders}
+use Rattle.modular_symbols.proofs.JacobiLaws.{jacobi-residue, jacobi-coprime, jacobi-shared, sign-even, sign-odd}
+use Rattle.modular_symbols.proofs.RangeProducts.{product_to, product_to-zero, product_to-suc, product_to-times, product_to-constant, product_to-permuted}
+use Rattle.modular_symbols.proofs.ResidueProducts.{residue_below}
+
+-- ---- the powers of n - 1, which stands for -1
+square_of_last : (n k : ℕ) → n ≡ k + 2 → (n - 1) * (n - 1) ≡ 1 + n * k
+square_of_last n k s =
+    let u : n - 1 ≡ k + 1 = omega arith in
+    let t = ap (λ v. v * k) s in
+    ap (λ v. v * v) u ∙ omega arith
+
+last_times_last : (n v : ℕ) → 1 < n → v % n ≡ n - 1 → (v * (n - 1)) % n ≡ 1
+last_times_last n v l e =
+    let s : n ≡ (n - 2) + 2 = omega arith in
+    sym (mul-mod_first v (n - 1) n) ∙ ap (λ w. (w * (n - 1)) % n) e ∙ ap (λ w. w % n) (square_of_last n (n - 2) s)
+    ∙ add-mul-mod_self_left 1 n (n - 2) ∙ mod-eq_of_lt l
+
+one_times_last : (n v : ℕ) → 1 < n → v % n ≡ 1 → (v * (n - 1)) % n ≡ n - 1
+one_times_last n v l e =
+    let b : n - 1 < n = omega arith in
+    sym (mul-mod_first v (n - 1) n) ∙ ap (λ w. (w * (n - 1)) % n) e ∙ ap (λ w. w % n) (one-mul (n - 1)) ∙ mod-eq_of_lt b
+
+powers_of_last : (n k : ℕ) → 1 < n → ((k % 2 ≡ 0) × ((n - 1) ^ k % n ≡ 1)) ⊎ ((k % 2 ≡ 1) × ((n - 1) ^ k % n ≡ n - 1))
+powers_of_last n zero l = inl (omega arith, ap (λ v. v % n) (pow-zero (n - 1)) ∙ mod-eq_of_lt l)
+powers_of_last n (suc k) l =
+    let s = ap (λ v. v % n) (pow-suc (n - 1) k) in
+    ⊎_elim
+    (λ (e : (k % 2 ≡ 0) × ((n - 1) ^ k % n ≡ 1)).
+    let p = e.0 in inr (omega arith, s ∙ one_times_last n ((n - 1) ^ k) l e.1))
+    (λ (e : (k % 2 ≡ 1) × ((n - 1) ^ k % n ≡ n - 1)).
+    let p = e.0 in inl (omega arith, s ∙ last_times_last n ((n - 1) ^ k) l e.1))
+    (powers_of_last n k l)
+
+-- ---- a number is its distance from the nearest multiple of n, times -1 where it lies above the half system
+last_times_rest : (n r k : ℕ) → n ≡ r + k + 1 → (n - 1) * (n - r) ≡ r + n * k
+last_times_rest n r k s =
+    let u : n - 1 ≡ r + k = omega arith in
+    let w : n - r ≡ k + 1 = omega arith in
+    let t = ap (λ v. v * k) s in
+    ap (λ v. v * (n - r)) u ∙ ap (λ v. (r + k) * v) w ∙ omega arith
+
+minus_rest : (n r : ℕ) → r < n → ((n - 1) * (n - r)) % n ≡ r
+minus_rest n r h =
+    let s : n ≡ r + (n - r - 1) + 1 = omega arith in
+    ap (λ w. w % n) (last_times_rest n r (n - r - 1) s) ∙ add-mul-mod_self_left r n (n - r - 1) ∙ mod-eq_of_lt h
+
+signed_distance : (n v : ℕ) → 0 < n → v % n ≡ ((n - 1) ^ above n v * distance n v) % n
+signed_distance n v p =
+    let b = mod_below v n p in
+    ⊎_elim
+    (λ (h : (n - 1) / 2 < v % n).
+    sym (ap (λ w. ((n - 1) ^ w * distance n v) % n) (above_high n v h)
+    ∙ ap (λ w. (w * distance n v) % n) (pow-one (n - 1))
+    ∙ ap (λ w. ((n - 1) * w) % n) (distance_high n v h) ∙ minus_rest n (v % n) b))
+    (λ (h : v % n ≤ (n - 1) / 2).
+    sym (ap (λ w. ((n - 1) ^ w * distance n v) % n) (above_low n v h)
+    ∙ ap (λ w. (w * distance n v) % n) (pow-zero (n - 1))
+    ∙ ap (λ w. w % n) (one-mul (distance n v)) ∙ ap (λ w. w % n) (distance_low n v h) ∙ mod-eq_of_lt b))
+    (cases_lt ((n - 1) / 2) (v % n))
+
+-- ---- the product over the half system
+signed_product : (n a k : ℕ) → 0 < n
+    → product_to (λ x. a * x) k % n ≡ ((n - 1) ^ sum_to (λ x. above n (a * x)) k * product_to (λ x. distance n (a * x)) k) % n
+signed_product n a zero p =
+    rw (product_to-zero (λ x. a * x), sum_to-zero (λ x. above n (a * x)), product_to-zero (λ x. distance n (a * x)), pow-zero (n - 1))
+signed_product n a (suc k) p =
+    let v : ℕ = a * suc k in
+    let s : ℕ = sum_to (λ x. above n (a * x)) k in
+    let d : ℕ = product_to (λ x. distance n (a * x)) k in
+    let t : (n - 1) ^ s * d * ((n - 1) ^ above n v * distance n v) ≡ (n - 1) ^ s * (n - 1) ^ above n v * (d * distance n v) = omega arith in
+    rw (
+      product_to-suc (λ x. a * x) k,
+      sum_to-suc (λ x. above n (a * x)) k,
+      product_to-suc (λ x. distance n (a * x)) k,
+      pow-add (n - 1) s (above n v),
+      ← t,
+    )
+    (same_product n (product_to (λ x. a * x) k) ((n - 1) ^ s * d) v ((n - 1) ^ above n v * distance n v)
+    (signed_product n a k p) (signed_distance n v p))
+
+-- ---- numbers below a prime are coprime to it
+pub below_coprime : (n x : ℕ) → IsPrime n → 0 < x → x < n → Coprime x n
+below_coprime n x u p l = record {
+  only_one = λ d g h.
+      let b = divisor_below d x p g in
+      let q = b.0 in
+      let r = b.1 in
+      ⊎_elim
+      (λ (s : 1 < d). absurd (u.undivided d s (omega arith) h))
+      (λ (s : d ≤ 1). omega arith)
+      (cases_lt 1 d);
+}
+
+factorial_coprime : (n k : ℕ) → IsPrime n → k < n → Coprime (product_to (λ x. x) k) n
+factorial_coprime n zero u l =
+    subst (λ v. Coprime v n) (sym (product_to-zero (λ x. x))) (below_coprime n 1 u (omega arith) u.above_one)
+factorial_coprime n (suc k) u l =
+    subst (λ v. Coprime v n) (sym (product_to-suc (λ x. x) k))
+    (Coprime-product (product_to (λ x. x) k) (suc k) n (omega arith) (factorial_coprime n k u (omega arith)) (below_coprime n (suc k) u (omega arith) l))
+
+-- a coprime factor cancels
+cancel_below : (n c u v : ℕ) → Coprime c n → u < n → v < n → (c * u) % n ≡ (c * v) % n → u ≡ v
+cancel_below n c u v k h l e =
+    ⊎_elim
+    (λ (o : u < v). equal_remainders n c u v k (omega arith) l e)
+    (λ (o : v ≤ u). sym (equal_remainders n c v u k o h (sym e)))
+    (cases_lt u v)
+
+cancel_factor : (n c u v : ℕ) → 0 < n → Coprime c n → (u * c) % n ≡ (v * c) % n → u % n ≡ v % n
+cancel_factor n c u v p k e =
+    let i : c * u ≡ u * c = omega arith in
+    let j : c * v ≡ v * c = omega arith in
+    cancel_below n c (u % n) (v % n) k (mod_below u n p) (mod_below v n p)
+    (mul-mod_second c u n ∙ ap (λ x. x % n) i ∙ e ∙ sym (ap (λ x. x % n) j) ∙ sym (mul-mod_second c v n))
+
+-- ---- the criterion
+pub power_by_count : (n a : ℕ) → n % 2 ≡ 1 → IsPrime n → Coprime a n
+    → a ^ ((n - 1) / 2) % n ≡ (n - 1) ^ half_system_count (pos a) n % n
+power_by_count n a o u c =
+    let h : ℕ = (n - 1) / 2 in
+    let f : ℕ = product_to (λ x. x) h in
+    let p : 0 < n = omega arith in
+    cancel_factor n f (a ^ h) ((n - 1) ^ half_system_count (pos a) n) p (factorial_coprime n h u (omega arith))
+    (ap (λ x. x % n) (ap (λ x. x * f) (sym (product_to-constant a h)) ∙ sym (product_to-times (λ x. a) (λ x. x) h))
+    ∙ signed_product n a h p
+    ∙ ap (λ x. ((n - 1) ^ x * product_to (λ x. distance n (a * x)) h) % n) (sym (half_system_count-sum a n))
+    ∙ ap (λ x. ((n - 1) ^ half_system_count (pos a) n * x) % n)
+    (product_to-permuted (λ x. distance n (a * x)) (λ x. x) h (half_system_permuted n a o c)))
+
+zero_power : (k : ℕ) → 0 < k → 0 ^ k ≡ 0
+zero_power zero p = absurd (omega arith)
+zero_power (suc k) p = pow-suc 0 k ∙ omega arith
+
+class_zero : (n p : ℕ) → p ≡ 0 → cond (eqb p 0) (Some (pos 0)) (cond (eqb p 1) (Some (pos 1)) (cond (eqb p (n - 1)) (Some (negsuc 0)) None)) ≡ Some (pos 0)
+class_zero n p e = grind (arith, nat_tests)
+
+class_one : (n p : ℕ) → p ≡ 1 → cond (eqb p 0) (Some (pos 0)) (cond (eqb p 1) (Some (pos 1)) (cond (eqb p (n - 1)) (Some (negsuc 0)) None)) ≡ Some (pos 1)
+class_one n p e = grind (arith, nat_tests)
+
+class_last : (n p : ℕ) → 2 < n → p ≡ n - 1 → cond (eqb p 0) (Some (pos 0)) (cond (eqb p 1) (Some (pos 1)) (cond (eqb p (n - 1)) (Some (negsuc 0)) None)) ≡ Some (negsuc 0)
+class_last n p h e = grind (arith, nat_tests)
+
+-- over an odd prime the class of the power is the symbol
+pub classed_power-jacobi : (a : ℤ) (n : ℕ) → n % 2 ≡ 1 → IsPrime n → classed_power a n ≡ Some (jacobi a n)
+classed_power-jacobi a n o u =
+    let w : 1 < n = u.above_one in
+    let p : 0 < n = omega arith in
+    let r : ℕ = residue n a in
+    let j = jacobi-residue a n p in
+    ⊎_elim
+    (λ (e : r ≡ 0).
+    class_zero n (r ^ ((n - 1) / 2) % n)
+    (ap (λ v. v ^ ((n - 1) / 2) % n) e ∙ ap (λ v. v % n) (zero_power ((n - 1) / 2) (omega arith)) ∙ zero-mod n)
+    ∙ sym (ap Some (j ∙ jacobi-shared (pos r) n p (λ c.
+    let i = c.only_one n (ap (λ v. v % n) e ∙ zero-mod n) (mod_self n) in omega arith))))
+    (λ (z : r ≡ 0 → ⊥).
+    let c = below_coprime n r u (omega arith) (residue_below n a p) in
+    let k : ℕ = half_system_count (pos r) n in
+    let q = power_by_count n r o u c in
+    let t = j ∙ jacobi-coprime (pos r) n p c in
+    ⊎_elim
+    (λ (e : (k % 2 ≡ 0) × ((n - 1) ^ k % n ≡ 1)).
+    class_one n (r ^ ((n - 1) / 2) % n) (q ∙ e.1) ∙ sym (ap Some (t ∙ sign-even k e.0)))
+    (λ (e : (k % 2 ≡ 1) × ((n - 1) ^ k % n ≡ n - 1)).
+    class_last n (r ^ ((n - 1) / 2) % n) (omega arith) (q ∙ e.1) ∙ sym (ap Some (t ∙ sign-odd k e.0)))
+    (powers_of_last n k w))
+    (cases_eq r 0)

@@ -1,0 +1,190 @@
+-- The half system 1, 2, .., (n - 1) / 2 of an odd n, and what a factor coprime to n does to it.
+use Rattle.std.proofs.Common.{◌≡◌, ℕ, ◌+◌, ◌-◌, ◌*◌, ◌%◌, ◌/◌, ◌<◌, ◌≤◌, ℤ, pos, ◌*ℤ◌, cond, ltb, sym, ◌∙◌, ap, refl, arith, ⊎_elim, ◌≢◌, ◌⊎◌}
+use Rattle.std.proofs.lemmas.Bool.Decides.{nat_tests}
+use Rattle.std.proofs.lemmas.Bool.{cases_lt}
+use Rattle.std.proofs.lemmas.Nat.{mul-mod_second, mod_below}
+use Rattle.std.proofs.Math.Nat.{mul-mod_right, mod-eq_of_lt, mod-eq-sub-mod}
+use Rattle.modular_word.specs.Divisors.{Coprime}
+use Rattle.modular_word.specs.Residues.{residue}
+use Rattle.modular_word.specs.Sums.{sum_to, Permutes}
+use Rattle.modular_word.proofs.Divisors.{divides_rest, coprime_cancel}
+use Rattle.modular_word.proofs.Sums.{sum_to-same, sum_to-add, sum_to-parity, sum_to-permuted}
+use Rattle.modular_symbols.specs.Jacobi.{half_system_count}
+use Rattle.modular_symbols.proofs.ResidueProducts.{residue-multiple}
+
+-- 1 where the remainder of v by n lies above the half system, else 0
+pub above : ℕ → ℕ → ℕ
+above n v = cond (ltb ((n - 1) / 2) (v % n)) 1 0
+
+-- how far v is from the nearest multiple of n
+pub distance : ℕ → ℕ → ℕ
+distance n v = cond (ltb ((n - 1) / 2) (v % n)) (n - v % n) (v % n)
+
+pub above_high : (n v : ℕ) → (n - 1) / 2 < v % n → above n v ≡ 1
+unfolding above
+above_high n v h = grind (arith, nat_tests)
+
+pub above_low : (n v : ℕ) → v % n ≤ (n - 1) / 2 → above n v ≡ 0
+unfolding above
+above_low n v h = grind (arith, nat_tests)
+
+pub distance_high : (n v : ℕ) → (n - 1) / 2 < v % n → distance n v ≡ n - v % n
+unfolding distance
+distance_high n v h = grind (arith, nat_tests)
+
+pub distance_low : (n v : ℕ) → v % n ≤ (n - 1) / 2 → distance n v ≡ v % n
+unfolding distance
+distance_low n v h = grind (arith, nat_tests)
+
+-- the remainder alone decides
+pub above-same : (n v w : ℕ) → v % n ≡ w % n → above n v ≡ above n w
+unfolding above
+above-same n v w e = ap (λ r. cond (ltb ((n - 1) / 2) r) 1 0) e
+
+pub above-small : (n v : ℕ) → v < n → above n v ≡ cond (ltb ((n - 1) / 2) v) 1 0
+unfolding above
+above-small n v l = ap (λ r. cond (ltb ((n - 1) / 2) r) 1 0) (mod-eq_of_lt l)
+
+-- the count as a sum
+pub half_system_count-sum : (a n : ℕ) → half_system_count (pos a) n ≡ sum_to (λ x. above n (a * x)) ((n - 1) / 2)
+unfolding half_system_count above
+half_system_count-sum a n = refl
+
+-- the count sees a factor by its residue alone
+pub half_system_count-residue : (a : ℤ) (n : ℕ) → 0 < n → half_system_count a n ≡ half_system_count (pos (residue n a)) n
+unfolding half_system_count above
+half_system_count-residue a n p =
+    let h : ℕ = (n - 1) / 2 in
+    sum_to-same (λ x. cond (ltb h (residue n (a *ℤ pos x))) 1 0) (λ x. cond (ltb h ((residue n a * x) % n)) 1 0) h
+    (λ x u v. ap (λ r. cond (ltb h r) 1 0) (residue-multiple n a x p))
+
+-- ---- opposite remainders
+only_multiple : (n u : ℕ) → u % n ≡ 0 → 0 < u → u < 2 * n → u ≡ n
+only_multiple n u e p l =
+    ⊎_elim
+    (λ (b : u < n). let m = mod-eq_of_lt b in absurd (omega arith))
+    (λ (b : n ≤ u).
+    let s = mod-eq-sub-mod b in
+    let t : u - n < n = omega arith in
+    let m = mod-eq_of_lt t in
+    omega arith)
+    (cases_lt u n)
+
+-- the remainders of two numbers whose sum n divides add up to n
+opposite_remainders : (n v w : ℕ) → 0 < n → (v + w) % n ≡ 0 → w % n ≢ 0 → v % n + w % n ≡ n
+opposite_remainders n v w p e z =
+    let i = mod_below v n p in
+    let j = mod_below w n p in
+    let k : ℕ = n * (v / n + w / n) in
+    let t : k + (v % n + w % n) ≡ v + w = omega arith in
+    let d = divides_rest n k (v % n + w % n) (mul-mod_right n (v / n + w / n)) (ap (λ u. u % n) t ∙ e) in
+    only_multiple n (v % n + w % n) d (omega arith) (omega arith)
+
+-- where n is odd, one of two opposite remainders lies above the half system
+one_above : (n v w : ℕ) → n % 2 ≡ 1 → v % n + w % n ≡ n → above n v + above n w ≡ 1
+unfolding above
+one_above n v w o e = grind (arith, nat_tests)
+
+opposite_product : (n a v : ℕ) → 0 < n → (a * v) % n ≢ 0 → (a * (n - v % n)) % n + (a * v) % n ≡ n
+opposite_product n a v p z =
+    let b = mod_below v n p in
+    let r : (a * (v % n)) % n ≡ (a * v) % n = mul-mod_second a v n in
+    let u : (n - v % n) + v % n ≡ n = omega arith in
+    let k = ap (λ x. a * x) u in
+    let t : a * (n - v % n) + a * (v % n) ≡ n * a = omega arith in
+    let o = opposite_remainders n (a * (n - v % n)) (a * (v % n)) p (ap (λ u. u % n) t ∙ mul-mod_right n a) (λ e. z (sym r ∙ e)) in
+    omega arith
+
+-- a * v lies above as a times the distance of v does, and the other way where v itself lies above
+above-product : (n a v : ℕ) → n % 2 ≡ 1 → (a * v) % n ≢ 0
+    → above n (a * v) % 2 ≡ (above n (a * distance n v) + above n v) % 2
+above-product n a v o z =
+    ⊎_elim
+    (λ (l : (n - 1) / 2 < v % n).
+    let p : 0 < n = omega arith in
+    let e = ap (λ x. above n (a * x)) (distance_high n v l) in
+    let f = above_high n v l in
+    let g = one_above n (a * (n - v % n)) (a * v) o (opposite_product n a v p z) in
+    omega arith)
+    (λ (l : v % n ≤ (n - 1) / 2).
+    let e = ap (λ x. above n (a * x)) (distance_low n v l) in
+    let f = above_low n v l in
+    let g = above-same n (a * (v % n)) (a * v) (mul-mod_second a v n) in
+    omega arith)
+    (cases_lt ((n - 1) / 2) (v % n))
+
+-- ---- a factor coprime to n permutes the half system, up to signs
+-- n divides no product of such a factor and a number below n
+pub not_divided : (n b x : ℕ) → Coprime b n → 0 < x → x < n → (b * x) % n ≢ 0
+not_divided n b x c p l e =
+    let r = coprime_cancel b n x (omega arith) c e in
+    let s = mod-eq_of_lt l in
+    omega arith
+
+-- such a factor cancels
+pub equal_remainders : (n b x z : ℕ) → Coprime b n → x ≤ z → z < n → (b * x) % n ≡ (b * z) % n → x ≡ z
+equal_remainders n b x z c l h e =
+    let u : x + (z - x) ≡ z = omega arith in
+    let k = ap (λ v. b * v) u in
+    let s : n * (b * x / n) + b * (z - x) ≡ n * (b * z / n) = omega arith in
+    let d : (b * (z - x)) % n ≡ 0 =
+    divides_rest n (n * (b * x / n)) (b * (z - x)) (mul-mod_right n (b * x / n)) (ap (λ v. v % n) s ∙ mul-mod_right n (b * z / n)) in
+    let r = coprime_cancel b n (z - x) (omega arith) c d in
+    let m : z - x < n = omega arith in
+    let q = mod-eq_of_lt m in
+    omega arith
+
+opposite_never : (n b x z : ℕ) → Coprime b n → 0 < x → x + z < n → (b * x) % n + (b * z) % n ≡ n → ⊥
+opposite_never n b x z c p l e =
+    let k : ℕ = b * x / n + b * z / n + 1 in
+    let s : b * (x + z) ≡ n * k = omega arith in
+    not_divided n b (x + z) c (omega arith) l (ap (λ v. v % n) s ∙ mul-mod_right n k)
+
+distance_positive : (n v : ℕ) → 0 < n → v % n ≢ 0 → 0 < distance n v
+unfolding distance
+distance_positive n v p z = let b = mod_below v n p in grind (arith, nat_tests)
+
+distance_within : (n v : ℕ) → n % 2 ≡ 1 → distance n v ≤ (n - 1) / 2
+unfolding distance
+distance_within n v o = grind (arith, nat_tests)
+
+equal_distances : (n v w : ℕ) → 0 < n → distance n v ≡ distance n w → (v % n ≡ w % n) ⊎ (v % n + w % n ≡ n)
+unfolding distance
+equal_distances n v w p e = let i = mod_below v n p in let j = mod_below w n p in grind (arith, nat_tests)
+
+distances_apart : (n b x z : ℕ) → n % 2 ≡ 1 → Coprime b n → 0 < x → x ≤ (n - 1) / 2 → 0 < z → z ≤ (n - 1) / 2
+    → distance n (b * x) ≡ distance n (b * z) → x ≡ z
+distances_apart n b x z o c p q u v e =
+    ⊎_elim
+    (λ (s : (b * x) % n ≡ (b * z) % n).
+    ⊎_elim
+    (λ (l : x < z). equal_remainders n b x z c (omega arith) (omega arith) s)
+    (λ (l : z ≤ x). sym (equal_remainders n b z x c l (omega arith) (sym s)))
+    (cases_lt x z))
+    (λ (s : (b * x) % n + (b * z) % n ≡ n). absurd (opposite_never n b x z c p (omega arith) s))
+    (equal_distances n (b * x) (b * z) (omega arith) e)
+
+pub half_system_permuted : (n b : ℕ) → n % 2 ≡ 1 → Coprime b n → Permutes (λ x. distance n (b * x)) ((n - 1) / 2)
+half_system_permuted n b o c = record {
+  positive = λ x p l. distance_positive n (b * x) (omega arith) (not_divided n b x c p (omega arith));
+  within = λ x p l. distance_within n (b * x) o;
+  apart = λ x z p l q k e. distances_apart n b x z o c p l q k e;
+}
+
+-- ---- the count of a product
+-- has the parity of the sum of the counts
+pub half_system_count-product : (a b n : ℕ) → n % 2 ≡ 1 → Coprime (a * b) n → Coprime b n
+    → half_system_count (pos (a * b)) n % 2 ≡ (half_system_count (pos a) n + half_system_count (pos b) n) % 2
+half_system_count-product a b n o c k =
+    let h : ℕ = (n - 1) / 2 in
+    let i = sum_to-parity (λ x. above n (a * b * x)) (λ x. above n (a * distance n (b * x)) + above n (b * x)) h
+    (λ x p l.
+    let z = not_divided n (a * b) x c p (omega arith) in
+    let e : a * b * x ≡ a * (b * x) = omega arith in
+    ap (λ v. above n v % 2) e ∙ above-product n a (b * x) o (λ w. z (ap (λ v. v % n) e ∙ w))) in
+    let j = sum_to-add (λ x. above n (a * distance n (b * x))) (λ x. above n (b * x)) h in
+    let m = sum_to-permuted (λ x. distance n (b * x)) (λ y. above n (a * y)) h (half_system_permuted n b o k) in
+    let s = half_system_count-sum (a * b) n in
+    let t = half_system_count-sum a n in
+    let u = half_system_count-sum b n in
+    omega arith

@@ -1,0 +1,245 @@
+-- The laws of the Jacobi symbol, from the count alone.
+use Rattle.std.proofs.Common.{◌≡◌, ℕ, Bool, true, false, zero, suc, ◌+◌, ◌-◌, ◌*◌, ◌%◌, ◌/◌, ◌<◌, cond, eqb, ltb, ◌&&◌, ◌||◌, ℤ, pos, negsuc, ◌*ℤ◌, neg_ℤ, nat_abs, sym, ◌∙◌, ap, arith, ⊎_elim, inl, inr, ◌≢◌, ◌⊎◌}
+use Rattle.std.proofs.lemmas.Bool.Decides.{nat_tests}
+use Rattle.std.proofs.lemmas.Bool.{cases_eq}
+use Rattle.std.proofs.lemmas.Int.{ints}
+use Rattle.std.proofs.lemmas.Nat.{mul-mod}
+use Rattle.std.proofs.Math.Nat.{zero-mod, mod_self}
+use Rattle.modular_word.specs.Divisors.{Coprime, gcd}
+use Rattle.modular_word.specs.Residues.{residue}
+use Rattle.modular_word.specs.Sums.{sum_to}
+use Rattle.modular_word.proofs.Divisors.{divides_rest, divides_through, divisor_below, Coprime-swap, Coprime-left, Coprime-right, Coprime-product, Coprime-mod, Coprime-from_mod, gcd-from_Coprime, Coprime-from_gcd}
+use Rattle.modular_word.proofs.Sums.{sum_to-same, sum_to-zero}
+use Rattle.modular_symbols.specs.Jacobi.{half_system_count, sign, jacobi}
+use Rattle.modular_symbols.proofs.HalfSystem.{above, above-small, half_system_count-sum, half_system_count-residue, half_system_count-product}
+use Rattle.modular_symbols.proofs.Lattice.{counts_reciprocal}
+use Rattle.modular_symbols.proofs.ResidueProducts.{residue_opposite, residue-product}
+
+-- ---- the symbol, by whether a and n are coprime
+pub jacobi-coprime : (a : ℤ) (n : ℕ) → 0 < n → Coprime (nat_abs a) n → jacobi a n ≡ sign (half_system_count a n)
+unfolding jacobi
+jacobi-coprime a n p c = let e = gcd-from_Coprime (nat_abs a) n p c in grind (arith, nat_tests)
+
+pub jacobi-shared : (a : ℤ) (n : ℕ) → 0 < n → (Coprime (nat_abs a) n → ⊥) → jacobi a n ≡ pos 0
+unfolding jacobi
+jacobi-shared a n p c =
+    let e : gcd (nat_abs a) n ≢ 1 = λ e. c (Coprime-from_gcd (nat_abs a) n p e) in
+    grind (arith, nat_tests)
+
+pub coprime_or_not : (a n : ℕ) → 0 < n → Coprime a n ⊎ (Coprime a n → ⊥)
+coprime_or_not a n p =
+    ⊎_elim
+    (λ (e : gcd a n ≡ 1). inl (Coprime-from_gcd a n p e))
+    (λ (z : gcd a n ≡ 1 → ⊥). inr (λ c. z (gcd-from_Coprime a n p c)))
+    (cases_eq (gcd a n) 1)
+
+-- ---- signs
+pub sign-even : (i : ℕ) → i % 2 ≡ 0 → sign i ≡ pos 1
+sign-even i e = grind (arith, nat_tests)
+
+pub sign-odd : (i : ℕ) → i % 2 ≡ 1 → sign i ≡ negsuc 0
+sign-odd i e = grind (arith, nat_tests)
+
+pub parities : (i : ℕ) → (i % 2 ≡ 0) ⊎ (i % 2 ≡ 1)
+parities i = grind arith
+
+sign-parity : (i : ℕ) (odd : Bool) → i % 2 ≡ cond odd 1 0 → sign i ≡ cond odd (negsuc 0) (pos 1)
+sign-parity i true e = sign-odd i e
+sign-parity i false e = sign-even i e
+
+sign-sum : (i j k : ℕ) → k % 2 ≡ (i + j) % 2 → sign k ≡ sign i *ℤ sign j
+sign-sum i j k e =
+    ⊎_elim
+    (λ (p : i % 2 ≡ 0).
+    ⊎_elim
+    (λ (q : j % 2 ≡ 0). rw (sign-even i p, sign-even j q, sign-even k (omega arith)))
+    (λ (q : j % 2 ≡ 1). rw (sign-even i p, sign-odd j q, sign-odd k (omega arith)))
+    (parities j))
+    (λ (p : i % 2 ≡ 1).
+    ⊎_elim
+    (λ (q : j % 2 ≡ 0). rw (sign-odd i p, sign-even j q, sign-odd k (omega arith)))
+    (λ (q : j % 2 ≡ 1). rw (sign-odd i p, sign-odd j q, sign-even k (omega arith)))
+    (parities j))
+    (parities i)
+
+pub one_times : (z : ℤ) → pos 1 *ℤ z ≡ z
+one_times z = omega (arith, ints)
+
+pub minus_one_times : (z : ℤ) → negsuc 0 *ℤ z ≡ neg_ℤ z
+minus_one_times z = omega (arith, ints)
+
+zero_times : (z : ℤ) → pos 0 *ℤ z ≡ pos 0
+zero_times z = omega (arith, ints)
+
+times_zero : (z : ℤ) → z *ℤ pos 0 ≡ pos 0
+times_zero z = omega (arith, ints)
+
+-- ---- the residue alone decides
+Coprime-residue : (a : ℤ) (n : ℕ) → 0 < n → Coprime (nat_abs a) n → Coprime (residue n a) n
+Coprime-residue (pos a) n p c = Coprime-mod a n c
+Coprime-residue (negsuc a) n p c = record {
+  only_one = λ d g h.
+      let r : ℕ = residue n (negsuc a) in
+      c.only_one d (divides_rest d r (suc a) g (divides_through d n (r + suc a) h (residue_opposite n a p))) h;
+}
+
+Coprime-from_residue : (a : ℤ) (n : ℕ) → 0 < n → Coprime (residue n a) n → Coprime (nat_abs a) n
+Coprime-from_residue (pos a) n p c = Coprime-from_mod a n c
+Coprime-from_residue (negsuc a) n p c = record {
+  only_one = λ d g h.
+      let r : ℕ = residue n (negsuc a) in
+      let e : suc a + r ≡ r + suc a = omega arith in
+      c.only_one d
+      (divides_rest d (suc a) r g (ap (λ v. v % d) e ∙ divides_through d n (r + suc a) h (residue_opposite n a p)))
+      h;
+}
+
+pub jacobi-residue : (a : ℤ) (n : ℕ) → 0 < n → jacobi a n ≡ jacobi (pos (residue n a)) n
+jacobi-residue a n p =
+    ⊎_elim
+    (λ (c : Coprime (nat_abs a) n).
+    jacobi-coprime a n p c ∙ ap sign (half_system_count-residue a n p)
+    ∙ sym (jacobi-coprime (pos (residue n a)) n p (Coprime-residue a n p c)))
+    (λ (z : Coprime (nat_abs a) n → ⊥).
+    jacobi-shared a n p z ∙ sym (jacobi-shared (pos (residue n a)) n p (λ c. z (Coprime-from_residue a n p c))))
+    (coprime_or_not (nat_abs a) n p)
+
+-- ---- products
+jacobi-natural_product : (a b n : ℕ) → n % 2 ≡ 1 → jacobi (pos (a * b)) n ≡ jacobi (pos a) n *ℤ jacobi (pos b) n
+jacobi-natural_product a b n o =
+    let p : 0 < n = omega arith in
+    ⊎_elim
+    (λ (c : Coprime a n).
+    ⊎_elim
+    (λ (k : Coprime b n).
+    let w = Coprime-product a b n p c k in
+    rw (jacobi-coprime (pos (a * b)) n p w, jacobi-coprime (pos a) n p c, jacobi-coprime (pos b) n p k)
+    (sign-sum (half_system_count (pos a) n) (half_system_count (pos b) n) (half_system_count (pos (a * b)) n)
+    (half_system_count-product a b n o w k)))
+    (λ (z : Coprime b n → ⊥).
+    jacobi-shared (pos (a * b)) n p (λ w. z (Coprime-right a b n w))
+    ∙ sym (ap (λ v. jacobi (pos a) n *ℤ v) (jacobi-shared (pos b) n p z) ∙ times_zero (jacobi (pos a) n)))
+    (coprime_or_not b n p))
+    (λ (z : Coprime a n → ⊥).
+    jacobi-shared (pos (a * b)) n p (λ w. z (Coprime-left a b n w))
+    ∙ sym (ap (λ v. v *ℤ jacobi (pos b) n) (jacobi-shared (pos a) n p z) ∙ zero_times (jacobi (pos b) n)))
+    (coprime_or_not a n p)
+
+pub jacobi-product : (a b : ℤ) (n : ℕ) → n % 2 ≡ 1 → jacobi (a *ℤ b) n ≡ jacobi a n *ℤ jacobi b n
+jacobi-product a b n o =
+    let p : 0 < n = omega arith in
+    let r : ℕ = residue n a in
+    let s : ℕ = residue n b in
+    jacobi-residue (a *ℤ b) n p ∙ ap (λ v. jacobi (pos v) n) (residue-product n a b p)
+    ∙ sym (jacobi-residue (pos (r * s)) n p) ∙ jacobi-natural_product r s n o
+    ∙ sym (ap (λ v. v *ℤ jacobi (pos s) n) (jacobi-residue a n p)) ∙ sym (ap (λ v. jacobi a n *ℤ v) (jacobi-residue b n p))
+
+-- ---- the symbol of 2
+doubles_step : (h k s : ℕ) → s ≡ k - h / 2 → s + cond (ltb h (2 * suc k)) 1 0 ≡ suc k - h / 2
+doubles_step h k s e = grind (arith, nat_tests)
+
+-- how many of 1, .., k have a double above h
+doubles_above : (h k : ℕ) → sum_to (λ x. cond (ltb h (2 * x)) 1 0) k ≡ k - h / 2
+unfolding sum_to
+doubles_above h zero = omega arith
+doubles_above h (suc k) = doubles_step h k (sum_to (λ x. cond (ltb h (2 * x)) 1 0) k) (doubles_above h k)
+
+half_system_count-two : (n : ℕ) → n % 2 ≡ 1 → half_system_count (pos 2) n ≡ (n - 1) / 2 - (n - 1) / 2 / 2
+half_system_count-two n o =
+    let h : ℕ = (n - 1) / 2 in
+    half_system_count-sum 2 n
+    ∙ sum_to-same (λ x. above n (2 * x)) (λ x. cond (ltb h (2 * x)) 1 0) h (λ x p q. above-small n (2 * x) (omega arith))
+    ∙ doubles_above h h
+
+Coprime-two : (n : ℕ) → n % 2 ≡ 1 → Coprime 2 n
+Coprime-two n o = record {
+  only_one = λ d g h.
+      let two : 0 < 2 = omega arith in
+      let b = divisor_below d 2 two g in
+      let p = b.0 in
+      let q = b.1 in
+      ⊎_elim
+      (λ (e : d ≡ 2). let k = ap (λ v. n % v) e in absurd (omega arith))
+      (λ (z : d ≡ 2 → ⊥). omega arith)
+      (cases_eq d 2);
+}
+
+even_doubles : (n : ℕ) → (n % 8 ≡ 1) ⊎ (n % 8 ≡ 7) → ((n - 1) / 2 - (n - 1) / 2 / 2) % 2 ≡ 0
+even_doubles n h = grind arith
+
+odd_doubles : (n : ℕ) → n % 2 ≡ 1 → n % 8 ≢ 1 → n % 8 ≢ 7 → ((n - 1) / 2 - (n - 1) / 2 / 2) % 2 ≡ 1
+odd_doubles n o h k = omega arith
+
+pub jacobi-two_kept : (n : ℕ) → n % 2 ≡ 1 → (n % 8 ≡ 1) ⊎ (n % 8 ≡ 7) → jacobi (pos 2) n ≡ pos 1
+jacobi-two_kept n o h =
+    jacobi-coprime (pos 2) n (omega arith) (Coprime-two n o)
+    ∙ sign-even (half_system_count (pos 2) n) (ap (λ v. v % 2) (half_system_count-two n o) ∙ even_doubles n h)
+
+pub jacobi-two_turned : (n : ℕ) → n % 2 ≡ 1 → n % 8 ≢ 1 → n % 8 ≢ 7 → jacobi (pos 2) n ≡ negsuc 0
+jacobi-two_turned n o h k =
+    jacobi-coprime (pos 2) n (omega arith) (Coprime-two n o)
+    ∙ sign-odd (half_system_count (pos 2) n) (ap (λ v. v % 2) (half_system_count-two n o) ∙ odd_doubles n o h k)
+
+pub jacobi-two : (n : ℕ) → n % 2 ≡ 1 → jacobi (pos 2) n ≡ cond (eqb (n % 8) 1 || eqb (n % 8) 7) (pos 1) (negsuc 0)
+jacobi-two n o = let k = jacobi-two_kept n o in let t = jacobi-two_turned n o in grind (arith, nat_tests, k, t)
+
+-- ---- reciprocity
+product_parity : (i j : ℕ) → (i * j) % 2 ≡ (i % 2) * (j % 2)
+product_parity i j =
+    ⊎_elim
+    (λ (p : i % 2 ≡ 0). let q = ap (λ v. v * (j % 2)) p in let z = zero-mod 2 in mul-mod i j 2 ∙ ap (λ v. (v * (j % 2)) % 2) p ∙ omega arith)
+    (λ (p : i % 2 ≡ 1). let q = ap (λ v. v * (j % 2)) p in mul-mod i j 2 ∙ ap (λ v. (v * (j % 2)) % 2) p ∙ omega arith)
+    (parities i)
+
+-- the number of pairs is odd exactly where both numbers leave 3 modulo 4
+odd_pairs : (m n : ℕ) → m % 4 ≡ 3 → n % 4 ≡ 3 → ((n - 1) / 2 * ((m - 1) / 2)) % 2 ≡ 1
+odd_pairs m n p q =
+    let i : (n - 1) / 2 % 2 ≡ 1 = omega arith in
+    product_parity ((n - 1) / 2) ((m - 1) / 2) ∙ ap (λ v. v * ((m - 1) / 2 % 2)) i ∙ omega arith
+
+even_pairs : (m n : ℕ) → (m % 4 ≡ 1) ⊎ (n % 4 ≡ 1) → ((n - 1) / 2 * ((m - 1) / 2)) % 2 ≡ 0
+even_pairs m n h =
+    ⊎_elim
+    (λ (p : m % 4 ≡ 1).
+    let i : (m - 1) / 2 % 2 ≡ 0 = omega arith in
+    product_parity ((n - 1) / 2) ((m - 1) / 2) ∙ ap (λ v. (n - 1) / 2 % 2 * v) i ∙ omega arith)
+    (λ (p : n % 4 ≡ 1).
+    let i : (n - 1) / 2 % 2 ≡ 0 = omega arith in
+    product_parity ((n - 1) / 2) ((m - 1) / 2) ∙ ap (λ v. v * ((m - 1) / 2 % 2)) i ∙ omega arith)
+    h
+
+pub pairs-parity : (m n : ℕ) → m % 2 ≡ 1 → n % 2 ≡ 1
+    → ((n - 1) / 2 * ((m - 1) / 2)) % 2 ≡ cond (eqb (m % 4) 3 && eqb (n % 4) 3) 1 0
+pairs-parity m n k o =
+    ⊎_elim
+    (λ (p : m % 4 ≡ 3).
+    ⊎_elim
+    (λ (q : n % 4 ≡ 3). odd_pairs m n p q ∙ grind (arith, nat_tests))
+    (λ (z : n % 4 ≡ 3 → ⊥). even_pairs m n (inr (omega arith)) ∙ grind (arith, nat_tests))
+    (cases_eq (n % 4) 3))
+    (λ (z : m % 4 ≡ 3 → ⊥). even_pairs m n (inl (omega arith)) ∙ grind (arith, nat_tests))
+    (cases_eq (m % 4) 3)
+
+jacobi-both : (m n : ℕ) → m % 2 ≡ 1 → n % 2 ≡ 1 → Coprime m n
+    → sign ((n - 1) / 2 * ((m - 1) / 2)) ≡ jacobi (pos m) n *ℤ jacobi (pos n) m
+jacobi-both m n k o c =
+    rw (jacobi-coprime (pos m) n (omega arith) c, jacobi-coprime (pos n) m (omega arith) (Coprime-swap m n c))
+    (sign-sum (half_system_count (pos m) n) (half_system_count (pos n) m) ((n - 1) / 2 * ((m - 1) / 2))
+    (sym (counts_reciprocal m n o k c)))
+
+-- the product of the two symbols is -1 exactly where both numbers leave 3 modulo 4
+pub jacobi-reciprocal : (m n : ℕ) → m % 2 ≡ 1 → n % 2 ≡ 1 → Coprime m n
+    → jacobi (pos m) n *ℤ jacobi (pos n) m ≡ cond (eqb (m % 4) 3 && eqb (n % 4) 3) (negsuc 0) (pos 1)
+jacobi-reciprocal m n k o c =
+    sym (jacobi-both m n k o c)
+    ∙ sign-parity ((n - 1) / 2 * ((m - 1) / 2)) (eqb (m % 4) 3 && eqb (n % 4) 3) (pairs-parity m n k o)
+
+-- ---- the symbol of 0
+pub jacobi-zero_one : jacobi (pos 0) 1 ≡ pos 1
+jacobi-zero_one =
+    let one : 0 < 1 = omega arith in
+    jacobi-coprime (pos 0) 1 one (record { only_one = λ d g h. let b = divisor_below d 1 one h in omega (arith, b.0, b.1) })
+    ∙ ap sign (half_system_count-sum 0 1 ∙ sum_to-zero (λ x. above 1 (0 * x)))
+
+pub jacobi-zero : (n : ℕ) → 1 < n → jacobi (pos 0) n ≡ pos 0
+jacobi-zero n l = jacobi-shared (pos 0) n (omega arith) (λ c. let e = c.only_one n (zero-mod n) (mod_self n) in omega arith)

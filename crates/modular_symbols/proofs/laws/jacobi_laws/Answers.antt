@@ -1,0 +1,21 @@
+-- The laws, from the lemmas on the count.
+use Rattle.std.proofs.Common.{arith}
+use Rattle.modular_word.proofs.Divisors.{Coprime-from_gcd}
+use Rattle.modular_symbols.proofs.Euler.{classed_power-jacobi}
+use Rattle.modular_symbols.proofs.JacobiLaws.{jacobi-residue, jacobi-product, jacobi-two, jacobi-reciprocal}
+use Rattle.modular_symbols.proofs.laws.jacobi_laws.Goals as goal
+
+pub returns-clause-residue : goal.returns-clause-residue
+returns-clause-residue c a n o = jacobi-residue a n (omega arith)
+
+pub returns-clause-product : goal.returns-clause-product
+returns-clause-product c a b n o = jacobi-product a b n o
+
+pub returns-clause-two : goal.returns-clause-two
+returns-clause-two c n o = jacobi-two n o
+
+pub returns-clause-reciprocity : goal.returns-clause-reciprocity
+returns-clause-reciprocity c m n k o g = jacobi-reciprocal m n k o (Coprime-from_gcd m n (omega arith) g)
+
+pub returns-clause-prime : goal.returns-clause-prime
+returns-clause-prime c a n o u = classed_power-jacobi a n o u
