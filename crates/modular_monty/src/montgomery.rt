@@ -4,7 +4,7 @@ ghost use Rattle.std.specs.Prelude.{◌≡◌, ℕ, ◌%◌, ◌^◌};
 ghost use Rattle.modular_monty.specs.Montgomery.{montgomery_form, montgomery_value};
 ghost use Rattle.modular_monty.specs.MontgomeryLaws.{montgomery_canonical};
 
-use crate::odd_ring::OddRing;
+use crate::odd_ring::{OddModulus, OddRing, StoredModulus};
 use modular_prim::plain_word::PlainWord;
 use modular_reduced::reducer::Reducer;
 use modular_word::ring_word::RingWord;
@@ -16,7 +16,7 @@ use modular_word::ring_word::RingWord;
 /// Source: Handbook of Applied Cryptography, section 14.3.2.
 #[derive(Debug, Clone, Copy)]
 pub struct Montgomery<T: PlainWord> {
-    ring: OddRing<T>,
+    ring: OddRing<StoredModulus<T>>,
 }
 
 impl<T: PlainWord> Montgomery<T> {
@@ -26,7 +26,9 @@ impl<T: PlainWord> Montgomery<T> {
         ensures { ⟦<Montgomery<T> as Reducer<T>>⟧.modulus result ≡ T.number m }
     {
         Montgomery {
-            ring: OddRing::new(&m),
+            ring: OddRing {
+                of: StoredModulus::of(m),
+            },
         }
     }
 }
@@ -38,11 +40,11 @@ impl<T: PlainWord> Reducer<T> for Montgomery<T> {
 
     ghost value = { montgomery_value T.width };
 
-    ghost modulus = { λ r. ⟦<OddRing<T> as Reducer<T>>⟧.modulus r.ring };
+    ghost modulus = { λ r. T.number r.ring.of.modulus };
 
-    ghost admitted = { λ r. r.ring.ring.odd };
+    ghost admitted = { λ r. r.ring.of.ring.odd };
 
-    ghost canonical = { λ r. montgomery_canonical r.ring.ring };
+    ghost canonical = { λ r. montgomery_canonical r.ring.of.ring };
 
     fn new(m: &T) -> Self {
         Montgomery::new(*m)

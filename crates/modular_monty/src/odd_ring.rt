@@ -1,4 +1,5 @@
-//! The reducer of an odd modulus by Montgomery's representation, which the public ones rest on.
+//! Odd moduli by Montgomery's representation, which every reducer of this crate rests on: the calls
+//! of a reducer once, over whatever keeps a modulus and reduces by it.
 
 ghost use Rattle.std.specs.Prelude.{◌≡◌, ℕ, ◌*◌, ◌%◌, ◌<◌, ⊤};
 ghost use Rattle.modular_word.specs.Reduction.{IsReduction};
@@ -16,16 +17,139 @@ use modular_word::ring_word::RingWord;
 use std::alloc::AllocError;
 
 // An odd modulus, with what is computed once of it: its negated inverse modulo the base, and the
-// square of the base modulo it.
+// square of the base modulo it. A type that knows its modulus need not store it, and one of a
+// special form may have a multiple of it at a lower cost.
+pub(crate) trait OddModulus<T: PlainWord>: Copy {
+    // The moduli that are taken.
+    ghost taken: { ℕ → Type 0 };
+
+    ghost modulus: { Self → ℕ };
+
+    ghost negated_inverse: { Self → ℕ };
+
+    ghost square: { Self → ℕ };
+
+    fn of(m: T) -> Self
+        requires { taken (T.number m) }
+        ensures { modulus result ≡ T.number m };
+
+    fn number(&self) -> T
+        ensures { T.number result ≡ modulus self.now };
+
+    fn square_of_base(&self) -> T
+        ensures { T.number result ≡ square self.now };
+
+    // Montgomery's reduction.
+    fn reduced(&self, t: T::Double) -> T
+        requires { T.whole t < T.base * modulus self.now }
+        ensures { IsReduction T.base (modulus self.now) (T.whole t) (T.number result) };
+
+    ghost was_taken: { (m : Self) → taken (modulus m) };
+
+    ghost is_odd_ring: { (m : Self) → IsOddRing T.width T.base (modulus m) (negated_inverse m) (square m) };
+}
+
+// The two numbers that are computed once of an odd modulus.
+pub(crate) fn computed_once<T: PlainWord>(m: T) -> (T, T)
+    requires { T.number m % 2 ≡ 1 }
+    ensures { IsOddRing T.width T.base (T.number m) (T.number result.0) (T.number result.1) }
+{
+    let negated_inverse = neginv(m);
+    let base = T::narrow_remainder(T::merge(T::zero(), T::one()), m);
+    let square = T::narrow_remainder(base.product(base), m);
+    (negated_inverse, square)
+}
+
+// The reducer by Montgomery's representation modulo what it holds.
+#[derive(Debug, Clone, Copy)]
+pub(crate) struct OddRing<M: Copy> {
+    pub(crate) of: M,
+}
+
+impl<T: PlainWord, M: OddModulus<T>> Reducer<T> for OddRing<M> {
+    ghost admits = { M.taken };
+
+    ghost form = { montgomery_form T.width };
+
+    ghost value = { montgomery_value T.width };
+
+    ghost modulus = { λ r. M.modulus r.of };
+
+    ghost admitted = { λ r. M.was_taken r.of };
+
+    ghost canonical = { λ r. montgomery_canonical (M.is_odd_ring r.of) };
+
+    fn new(m: &T) -> Self {
+        OddRing { of: M::of(*m) }
+    }
+
+    // A product and a reduction in place of the division of a double word.
+    fn transform(&self, n: T) -> T {
+        if n.is_zero_word() {
+            return n;
+        }
+        self.of.reduced(n.product(self.of.square_of_base()))
+    }
+
+    fn check(&self, f: &T) -> bool {
+        f.is_below(self.of.number())
+    }
+
+    fn modulus(&self) -> T {
+        self.of.number()
+    }
+
+    fn residue(&self, f: T) -> T {
+        self.of.reduced(T::merge(f, T::zero()))
+    }
+
+    fn is_zero(&self, f: &T) -> bool {
+        f.is_zero_word()
+    }
+
+    fn add(&self, a: &T, b: &T) -> T {
+        add_below(*a, *b, self.of.number())
+    }
+
+    fn dbl(&self, f: T) -> T {
+        dbl_below(f, self.of.number())
+    }
+
+    fn sub(&self, a: &T, b: &T) -> T {
+        sub_below(*a, *b, self.of.number())
+    }
+
+    fn neg(&self, f: T) -> T {
+        neg_below(f, self.of.number())
+    }
+
+    fn mul(&self, a: &T, b: &T) -> T {
+        self.of.reduced(a.product(*b))
+    }
+
+    // Through the value: its inverse by Euclid's algorithm, and the form of that.
+    fn inv(&self, f: T) -> Option<T> {
+        match invm(self.residue(f), self.of.number()) {
+            Some(x) => Some(self.transform(x)),
+            None => None,
+        }
+    }
+
+    fn sqr(&self, f: T) -> T {
+        self.mul(&f, &f)
+    }
+}
+
+// An odd modulus that is known when the program runs.
 #[derive(Debug)]
-pub(crate) struct OddRing<T: PlainWord> {
+pub(crate) struct StoredModulus<T: PlainWord> {
     modulus: T,
     negated_inverse: T,
     square: T,
     ghost ring: { IsOddRing T.width T.base (T.number modulus) (T.number negated_inverse) (T.number square) },
 }
 
-impl<T: PlainWord> Clone for OddRing<T> {
+impl<T: PlainWord> Clone for StoredModulus<T> {
     ghost is_clone = { λ x y. y ≡ x };
 
     ghost is_infallible = { λ _. ⊤ };
@@ -35,96 +159,39 @@ impl<T: PlainWord> Clone for OddRing<T> {
     }
 }
 
-impl<T: PlainWord> Copy for OddRing<T> {}
+impl<T: PlainWord> Copy for StoredModulus<T> {}
 
-impl<T: PlainWord> OddRing<T> {
-    // Montgomery's reduction.
-    fn reduce(&self, t: T::Double) -> T
-        requires { T.whole t < T.base * T.number self.now.modulus }
-        ensures { IsReduction T.base (T.number self.now.modulus) (T.whole t) (T.number result) }
-    {
-        redc(self.modulus, self.negated_inverse, t)
-    }
-}
+impl<T: PlainWord> OddModulus<T> for StoredModulus<T> {
+    ghost taken = { λ m. m % 2 ≡ 1 };
 
-impl<T: PlainWord> Reducer<T> for OddRing<T> {
-    ghost admits = { λ m. m % 2 ≡ 1 };
+    ghost modulus = { λ m. T.number m.modulus };
 
-    ghost form = { montgomery_form T.width };
+    ghost negated_inverse = { λ m. T.number m.negated_inverse };
 
-    ghost value = { montgomery_value T.width };
+    ghost square = { λ m. T.number m.square };
 
-    ghost modulus = { λ r. T.number r.modulus };
-
-    ghost admitted = { λ r. r.ring.odd };
-
-    ghost canonical = { λ r. montgomery_canonical r.ring };
-
-    fn new(m: &T) -> Self {
-        let modulus = *m;
-        let negated_inverse = neginv(modulus);
-        let base = T::narrow_remainder(T::merge(T::zero(), T::one()), modulus);
-        let square = T::narrow_remainder(base.product(base), modulus);
-        OddRing {
-            modulus,
+    fn of(m: T) -> Self {
+        let (negated_inverse, square) = computed_once(m);
+        StoredModulus {
+            modulus: m,
             negated_inverse,
             square,
         }
     }
 
-    // A product and a reduction in place of the division of a double word.
-    fn transform(&self, n: T) -> T {
-        if n.is_zero_word() {
-            return n;
-        }
-        self.reduce(n.product(self.square))
-    }
-
-    fn check(&self, f: &T) -> bool {
-        f.is_below(self.modulus)
-    }
-
-    fn modulus(&self) -> T {
+    fn number(&self) -> T {
         self.modulus
     }
 
-    fn residue(&self, f: T) -> T {
-        self.reduce(T::merge(f, T::zero()))
+    fn square_of_base(&self) -> T {
+        self.square
     }
 
-    fn is_zero(&self, f: &T) -> bool {
-        f.is_zero_word()
+    fn reduced(&self, t: T::Double) -> T {
+        redc(self.modulus, self.negated_inverse, t)
     }
 
-    fn add(&self, a: &T, b: &T) -> T {
-        add_below(*a, *b, self.modulus)
-    }
+    ghost was_taken = { λ m. m.ring.odd };
 
-    fn dbl(&self, f: T) -> T {
-        dbl_below(f, self.modulus)
-    }
-
-    fn sub(&self, a: &T, b: &T) -> T {
-        sub_below(*a, *b, self.modulus)
-    }
-
-    fn neg(&self, f: T) -> T {
-        neg_below(f, self.modulus)
-    }
-
-    fn mul(&self, a: &T, b: &T) -> T {
-        self.reduce(a.product(*b))
-    }
-
-    // Through the value: its inverse by Euclid's algorithm, and the form of that.
-    fn inv(&self, f: T) -> Option<T> {
-        match invm(self.residue(f), self.modulus) {
-            Some(x) => Some(self.transform(x)),
-            None => None,
-        }
-    }
-
-    fn sqr(&self, f: T) -> T {
-        self.mul(&f, &f)
-    }
+    ghost is_odd_ring = { λ m. m.ring };
 }

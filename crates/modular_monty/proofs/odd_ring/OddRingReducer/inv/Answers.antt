@@ -3,12 +3,14 @@ use Rattle.modular_monty.proofs.MontgomerySteps.{inverse_stands, inverse_lacks}
 use Rattle.modular_monty.proofs.odd_ring.OddRingReducer.inv.Goals as goal
 
 pub invm-requires : goal.invm-requires
-invm-requires g c = positive c.args.self.now.ring
+invm-requires g c = rw c.number.ensures (positive (g.met.M.OddModulus.is_odd_ring c.args.self.now.of))
 
 pub returns-in-Some : goal.returns-in-Some
 returns-in-Some g c =
-    let both = inverse_stands c.args.self.now.ring c.residue.ensures c.in-Some.ensures c.transform.ensures in
+    let is = rw c.number.ensures at c.in-Some.ensures in
+    let both = inverse_stands (g.met.M.OddModulus.is_odd_ring c.args.self.now.of) c.residue.ensures is c.transform.ensures in
     (_, both.0, both.1)
 
 pub returns-in-None : goal.returns-in-None
-returns-in-None g c = inverse_lacks c.args.self.now.ring c.residue.ensures c.in-None.ensures
+returns-in-None g c =
+    inverse_lacks (g.met.M.OddModulus.is_odd_ring c.args.self.now.of) c.residue.ensures (rw c.number.ensures at c.in-None.ensures)

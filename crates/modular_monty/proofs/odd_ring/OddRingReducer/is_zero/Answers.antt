@@ -5,8 +5,8 @@ use Rattle.modular_monty.proofs.odd_ring.OddRingReducer.is_zero.Goals as goal
 
 pub returns : goal.returns
 returns g c =
-    let r = c.args.self.now.ring in
+    let r = g.met.M.OddModulus.is_odd_ring c.args.self.now.of in
     let zero = c.is_zero_word.ensures.zero in (
-      λ t. ap (montgomery_value g.T.RingWord.width (g.T.RingWord.number c.args.self.now.modulus)) (zero.0 t) ∙ zero_value r,
+      λ t. ap (montgomery_value g.T.RingWord.width (g.M.OddModulus.modulus c.args.self.now.of)) (zero.0 t) ∙ zero_value r,
       λ e. zero.1 (zero_exactly r c.requires e),
     )

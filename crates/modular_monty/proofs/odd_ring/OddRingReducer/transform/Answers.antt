@@ -2,11 +2,15 @@ use Rattle.std.proofs.Common.{rules}
 use Rattle.modular_monty.proofs.MontgomerySteps.{transform_stands, product_below, square_below, zero_stands}
 use Rattle.modular_monty.proofs.odd_ring.OddRingReducer.transform.Goals as goal
 
-pub reduce-requires : goal.reduce-requires
-reduce-requires g c = product_below _ _ c.product.ensures.value c.product.ensures.fits (square_below c.args.self.now.ring)
+pub reduced-requires : goal.reduced-requires
+reduced-requires g c =
+    product_below _ _ c.product.ensures.value c.product.ensures.fits
+    (rw c.square_of_base.ensures (square_below (g.met.M.OddModulus.is_odd_ring c.args.self.now.of)))
 
 pub returns-then-is_zero_word : goal.returns-then-is_zero_word
-returns-then-is_zero_word g c = zero_stands c.args.self.now.ring (search rules)
+returns-then-is_zero_word g c = zero_stands (g.met.M.OddModulus.is_odd_ring c.args.self.now.of) (search rules)
 
 pub returns : goal.returns
-returns g c = transform_stands c.args.self.now.ring _ c.product.ensures.value c.reduce.ensures
+returns g c =
+    transform_stands (g.met.M.OddModulus.is_odd_ring c.args.self.now.of) _
+    (rw c.square_of_base.ensures at c.product.ensures.value) c.reduced.ensures
