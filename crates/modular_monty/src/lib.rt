@@ -1,6 +1,7 @@
 //! Montgomery's reduction and what rests on the inverse of an odd number modulo the base.
 #![tactic(auto)]
 
+pub mod fixed;
 pub mod montgomery;
 pub mod neg_mod_inv;
 mod odd_ring;
