@@ -1,3 +1,4 @@
 pub mod Lifting
 pub mod MontgomerySteps
 pub mod NegatedInverses
+pub mod ProthModuli

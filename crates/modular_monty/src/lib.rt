@@ -6,3 +6,4 @@ pub mod montgomery;
 pub mod neg_mod_inv;
 mod odd_ring;
 pub mod preinv;
+pub mod proth;

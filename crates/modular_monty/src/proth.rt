@@ -1,0 +1,301 @@
+//! Reducers by Montgomery's representation of the moduli K * 2^N + 1.
+
+ghost use Rattle.std.specs.Prelude.{◌≡◌, ℕ, ◌+◌, ◌*◌, ◌^◌, ◌<◌};
+ghost use Rattle.std.proofs.Common.{refl};
+ghost use Rattle.modular_word.specs.Reduction.{IsReduction};
+ghost use Rattle.modular_monty.specs.Montgomery.{montgomery_form, montgomery_value, IsOddRing};
+ghost use Rattle.modular_monty.specs.MontgomeryLaws.{montgomery_canonical};
+ghost use Rattle.modular_monty.specs.Proth.{IsProth, greatest_proth_32, greatest_proth_64, proth_modulus};
+
+use crate::odd_ring::{OddModulus, OddRing, computed_once};
+use modular_reduced::reducer::Reducer;
+use modular_word::paths::{clearing, reduce_by};
+
+/// The reducer of m = K * 2^N + 1 by Montgomery's representation in words of 32 bits: the form of v
+/// is v * 2^32 modulo m.
+///
+/// The parameters are in range where N is from 1 to 31, K is odd and below 2^N, and m, as a whole
+/// number, is at most 2654435769.
+///
+/// Source: Handbook of Applied Cryptography, section 14.3.2.
+#[derive(Debug, Clone, Copy)]
+pub struct FixedProth32<const N: u8, const K: u8> {
+    negated_inverse: u32,
+    square: u32,
+    ghost range: { IsProth 32 greatest_proth_32 N K },
+    ghost ring: { IsOddRing 32 (2 ^ 32) (proth_modulus N K) negated_inverse square },
+}
+
+impl<const N: u8, const K: u8> FixedProth32<N, K> {
+    /// The modulus K * 2^N + 1. Condition: the parameters are in range.
+    pub fn fixed_modulus() -> u32
+        requires { IsProth 32 greatest_proth_32 N K }
+        ensures { result ≡ proth_modulus N K }
+    {
+        ((K as u32) << N) + 1
+    }
+
+    // The product with the modulus.
+    fn multiple(&self, x: u32) -> u64
+        ensures { result ≡ x * proth_modulus N K }
+    {
+        x as u64 * Self::fixed_modulus() as u64
+    }
+
+    /// Montgomery's reduction of t: the u below the modulus with u * 2^32 congruent to t.
+    /// Condition: t is below the modulus times 2^32.
+    pub fn reduce(&self, t: u64) -> u32
+        requires { t < 2 ^ 32 * proth_modulus N K }
+        ensures { IsReduction (2 ^ 32) (proth_modulus N K) t result }
+    {
+        let m = Self::fixed_modulus();
+        let x = clearing(m, self.negated_inverse, t);
+        reduce_by(m, t, x, self.multiple(x))
+    }
+}
+
+impl<const N: u8, const K: u8> OddModulus<u32> for FixedProth32<N, K> {
+    ghost taken = { λ m. IsProth 32 greatest_proth_32 N K × (m ≡ proth_modulus N K) };
+
+    ghost modulus = { λ _. proth_modulus N K };
+
+    ghost negated_inverse = { λ m. m.negated_inverse };
+
+    ghost square = { λ m. m.square };
+
+    fn of(m: u32) -> Self {
+        let (negated_inverse, square) = computed_once(m);
+        FixedProth32 {
+            negated_inverse,
+            square,
+        }
+    }
+
+    fn number(&self) -> u32 {
+        Self::fixed_modulus()
+    }
+
+    fn square_of_base(&self) -> u32 {
+        self.square
+    }
+
+    fn reduced(&self, t: u64) -> u32 {
+        self.reduce(t)
+    }
+
+    ghost was_taken = { λ m. (m.range, refl) };
+
+    ghost is_odd_ring = { λ m. m.ring };
+}
+
+impl<const N: u8, const K: u8> Reducer<u32> for FixedProth32<N, K> {
+    ghost admits = { λ m. IsProth 32 greatest_proth_32 N K × (m ≡ proth_modulus N K) };
+
+    ghost form = { montgomery_form 32 };
+
+    ghost value = { montgomery_value 32 };
+
+    ghost modulus = { λ _. proth_modulus N K };
+
+    ghost admitted = { λ r. (r.range, refl) };
+
+    ghost canonical = { λ r. montgomery_canonical r.ring };
+
+    fn new(m: &u32) -> Self {
+        Self::of(*m)
+    }
+
+    fn transform(&self, n: u32) -> u32 {
+        OddRing { of: *self }.transform(n)
+    }
+
+    fn check(&self, f: &u32) -> bool {
+        OddRing { of: *self }.check(f)
+    }
+
+    fn modulus(&self) -> u32 {
+        Self::fixed_modulus()
+    }
+
+    fn residue(&self, f: u32) -> u32 {
+        OddRing { of: *self }.residue(f)
+    }
+
+    fn is_zero(&self, f: &u32) -> bool {
+        OddRing { of: *self }.is_zero(f)
+    }
+
+    fn add(&self, a: &u32, b: &u32) -> u32 {
+        OddRing { of: *self }.add(a, b)
+    }
+
+    fn dbl(&self, f: u32) -> u32 {
+        OddRing { of: *self }.dbl(f)
+    }
+
+    fn sub(&self, a: &u32, b: &u32) -> u32 {
+        OddRing { of: *self }.sub(a, b)
+    }
+
+    fn neg(&self, f: u32) -> u32 {
+        OddRing { of: *self }.neg(f)
+    }
+
+    fn mul(&self, a: &u32, b: &u32) -> u32 {
+        OddRing { of: *self }.mul(a, b)
+    }
+
+    fn inv(&self, f: u32) -> Option<u32> {
+        OddRing { of: *self }.inv(f)
+    }
+
+    fn sqr(&self, f: u32) -> u32 {
+        OddRing { of: *self }.sqr(f)
+    }
+}
+
+/// The reducer of m = K * 2^N + 1 by Montgomery's representation in words of 64 bits: the form of v
+/// is v * 2^64 modulo m.
+///
+/// The parameters are in range where N is from 1 to 63, K is odd and below 2^N, and m, as a whole
+/// number, is at most 11400714819323199485.
+///
+/// Source: Handbook of Applied Cryptography, section 14.3.2.
+#[derive(Debug, Clone, Copy)]
+pub struct FixedProth64<const N: u8, const K: u8> {
+    negated_inverse: u64,
+    square: u64,
+    ghost range: { IsProth 64 greatest_proth_64 N K },
+    ghost ring: { IsOddRing 64 (2 ^ 64) (proth_modulus N K) negated_inverse square },
+}
+
+impl<const N: u8, const K: u8> FixedProth64<N, K> {
+    /// The modulus K * 2^N + 1. Condition: the parameters are in range.
+    pub fn fixed_modulus() -> u64
+        requires { IsProth 64 greatest_proth_64 N K }
+        ensures { result ≡ proth_modulus N K }
+    {
+        ((K as u64) << N) + 1
+    }
+
+    // The product with the modulus.
+    fn multiple(&self, x: u64) -> u128
+        ensures { result ≡ x * proth_modulus N K }
+    {
+        x as u128 * Self::fixed_modulus() as u128
+    }
+
+    /// Montgomery's reduction of t: the u below the modulus with u * 2^64 congruent to t.
+    /// Condition: t is below the modulus times 2^64.
+    pub fn reduce(&self, t: u128) -> u64
+        requires { t < 2 ^ 64 * proth_modulus N K }
+        ensures { IsReduction (2 ^ 64) (proth_modulus N K) t result }
+    {
+        let m = Self::fixed_modulus();
+        let x = clearing(m, self.negated_inverse, t);
+        reduce_by(m, t, x, self.multiple(x))
+    }
+}
+
+impl<const N: u8, const K: u8> OddModulus<u64> for FixedProth64<N, K> {
+    ghost taken = { λ m. IsProth 64 greatest_proth_64 N K × (m ≡ proth_modulus N K) };
+
+    ghost modulus = { λ _. proth_modulus N K };
+
+    ghost negated_inverse = { λ m. m.negated_inverse };
+
+    ghost square = { λ m. m.square };
+
+    fn of(m: u64) -> Self {
+        let (negated_inverse, square) = computed_once(m);
+        FixedProth64 {
+            negated_inverse,
+            square,
+        }
+    }
+
+    fn number(&self) -> u64 {
+        Self::fixed_modulus()
+    }
+
+    fn square_of_base(&self) -> u64 {
+        self.square
+    }
+
+    fn reduced(&self, t: u128) -> u64 {
+        self.reduce(t)
+    }
+
+    ghost was_taken = { λ m. (m.range, refl) };
+
+    ghost is_odd_ring = { λ m. m.ring };
+}
+
+impl<const N: u8, const K: u8> Reducer<u64> for FixedProth64<N, K> {
+    ghost admits = { λ m. IsProth 64 greatest_proth_64 N K × (m ≡ proth_modulus N K) };
+
+    ghost form = { montgomery_form 64 };
+
+    ghost value = { montgomery_value 64 };
+
+    ghost modulus = { λ _. proth_modulus N K };
+
+    ghost admitted = { λ r. (r.range, refl) };
+
+    ghost canonical = { λ r. montgomery_canonical r.ring };
+
+    fn new(m: &u64) -> Self {
+        Self::of(*m)
+    }
+
+    fn transform(&self, n: u64) -> u64 {
+        OddRing { of: *self }.transform(n)
+    }
+
+    fn check(&self, f: &u64) -> bool {
+        OddRing { of: *self }.check(f)
+    }
+
+    fn modulus(&self) -> u64 {
+        Self::fixed_modulus()
+    }
+
+    fn residue(&self, f: u64) -> u64 {
+        OddRing { of: *self }.residue(f)
+    }
+
+    fn is_zero(&self, f: &u64) -> bool {
+        OddRing { of: *self }.is_zero(f)
+    }
+
+    fn add(&self, a: &u64, b: &u64) -> u64 {
+        OddRing { of: *self }.add(a, b)
+    }
+
+    fn dbl(&self, f: u64) -> u64 {
+        OddRing { of: *self }.dbl(f)
+    }
+
+    fn sub(&self, a: &u64, b: &u64) -> u64 {
+        OddRing { of: *self }.sub(a, b)
+    }
+
+    fn neg(&self, f: u64) -> u64 {
+        OddRing { of: *self }.neg(f)
+    }
+
+    fn mul(&self, a: &u64, b: &u64) -> u64 {
+        OddRing { of: *self }.mul(a, b)
+    }
+
+    fn inv(&self, f: u64) -> Option<u64> {
+        OddRing { of: *self }.inv(f)
+    }
+
+    fn sqr(&self, f: u64) -> u64 {
+        OddRing { of: *self }.sqr(f)
+    }
+}
+
+#[cfg(test)]
+mod tests;

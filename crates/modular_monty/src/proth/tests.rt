@@ -1,0 +1,107 @@
+//! Rows of the reducers of the moduli K * 2^N + 1.
+
+use super::{FixedProth32, FixedProth64};
+use modular_reduced::reducer::Reducer;
+use modular_word::ring_word::RingWord;
+use std::test::Fail;
+
+fn remainder<T: RingWord, R: Reducer<T>>(ring: &R, n: T) -> T {
+    ring.residue(ring.transform(n))
+}
+
+fn sum<T: RingWord, R: Reducer<T>>(ring: &R, x: T, y: T) -> T {
+    ring.residue(ring.add(&ring.transform(x), &ring.transform(y)))
+}
+
+fn product<T: RingWord, R: Reducer<T>>(ring: &R, x: T, y: T) -> T {
+    ring.residue(ring.mul(&ring.transform(x), &ring.transform(y)))
+}
+
+// The residues of 0, 1, m - 1, m and the greatest word, and that of the square of m - 1.
+fn edges<T: RingWord, R: Reducer<T>>(ring: &R, words: [T; 3]) -> [T; 6] {
+    let [less, m, greatest] = words;
+    [
+        remainder(ring, T::zero()),
+        remainder(ring, T::one()),
+        remainder(ring, less),
+        remainder(ring, m),
+        remainder(ring, greatest),
+        product(ring, less, less),
+    ]
+}
+
+#[test]
+fn small_moduli(rt: HostRuntime) -> Result<(), Fail> {
+    assert_eq!(rt; FixedProth32::<4, 1>::fixed_modulus(), 17);
+    let ring = FixedProth32::<4, 1>::new(&17);
+    assert_eq!(rt; (sum(&ring, 3, 5), product(&ring, 3, 5)), (8, 15));
+    assert_eq!(rt; FixedProth64::<5, 3>::fixed_modulus(), 97);
+    assert_eq!(rt; product(&FixedProth64::<5, 3>::new(&97), 10, 20), 6);
+    Ok(())
+}
+
+#[test]
+fn reductions_with_a_carry(rt: HostRuntime) -> Result<(), Fail> {
+    let ring = FixedProth32::<27, 17>::new(&2281701377);
+    assert_eq!(rt; remainder(&ring, 4294967295), 2013265918);
+    // (m - 1) * 2^32 + m: the sum is (2 * m - 1) * 2^32, which passes 64 bits
+    assert_eq!(rt; ring.reduce(9799832791439900673), 2281701376);
+    let ring = FixedProth32::<28, 9>::new(&2415919105);
+    assert_eq!(rt; ring.transform(4294967292), 2028179012);
+    assert_eq!(rt; remainder(&ring, 4294967292), 1879048187);
+    Ok(())
+}
+
+#[test]
+fn one_over_half_the_base(rt: HostRuntime) -> Result<(), Fail> {
+    let ring = FixedProth32::<31, 1>::new(&2147483649);
+    assert_eq!(rt; ring.transform(4294967295), 6);
+    assert_eq!(rt; remainder(&ring, 4294967295), 2147483646);
+    let ring = FixedProth64::<63, 1>::new(&9223372036854775809);
+    assert_eq!(rt; ring.transform(18446744073709551615), 6);
+    assert_eq!(rt; remainder(&ring, 18446744073709551615), 9223372036854775806);
+    Ok(())
+}
+
+#[test]
+fn edges_of_the_range(rt: HostRuntime) -> Result<(), Fail> {
+    assert_eq!(rt; FixedProth32::<1, 1>::fixed_modulus(), 3);
+    assert_eq!(rt;
+        edges(&FixedProth32::<1, 1>::new(&3), [2, 3, 4294967295]),
+        [0, 1, 2, 0, 0, 1]
+    );
+    assert_eq!(rt; FixedProth32::<23, 255>::fixed_modulus(), 2139095041);
+    assert_eq!(rt;
+        edges(
+            &FixedProth32::<23, 255>::new(&2139095041),
+            [2139095040, 2139095041, 4294967295]
+        ),
+        [0, 1, 2139095040, 0, 16777213, 1]
+    );
+    assert_eq!(rt;
+        edges(
+            &FixedProth32::<31, 1>::new(&2147483649),
+            [2147483648, 2147483649, 4294967295]
+        ),
+        [0, 1, 2147483648, 0, 2147483646, 1]
+    );
+    assert_eq!(rt;
+        edges(
+            &FixedProth32::<28, 9>::new(&2415919105),
+            [2415919104, 2415919105, 4294967295]
+        ),
+        [0, 1, 2415919104, 0, 1879048190, 1]
+    );
+    assert_eq!(rt;
+        edges(
+            &FixedProth64::<63, 1>::new(&9223372036854775809),
+            [
+                9223372036854775808,
+                9223372036854775809,
+                18446744073709551615
+            ]
+        ),
+        [0, 1, 9223372036854775808, 0, 9223372036854775806, 1]
+    );
+    Ok(())
+}
