@@ -1,13 +1,15 @@
-//! Callers of what asks for an odd number, or for numbers that fit a divisor. Their edits must be
-//! refused when they are checked.
+//! Callers of what asks for an odd number, for numbers that fit a divisor, or for parameters in range.
+//! Their edits must be refused when they are checked.
 #![tactic(auto)]
 
 ghost use Rattle.std.specs.Prelude.{◌≡◌, ◌-◌, ◌*◌, ◌%◌, ◌^◌};
 ghost use Rattle.modular_word.specs.Division.{IsExactQuotient};
 
+use modular_monty::fixed::FixedMontgomery32;
 use modular_monty::montgomery::Montgomery;
 use modular_monty::neg_mod_inv::w8;
 use modular_monty::preinv::{PreModInv, PreparedInverse};
+use modular_monty::proth::FixedProth32;
 use modular_prim::exact::DivExact;
 use modular_reduced::reducer::Reducer;
 use modular_word::ring_word::RingWord;
@@ -38,6 +40,32 @@ pub fn ring_of_21() -> Montgomery<u8>
     ensures { ⟦<Montgomery<u8> as Reducer<u8>>⟧.modulus result ≡ 21 }
 {
     Montgomery::<u8>::new(21)
+}
+
+/// The reducer of the parameter 21.
+pub fn fixed_ring_of_21() -> FixedMontgomery32<21>
+    ensures { ⟦<FixedMontgomery32<21> as Reducer<u32>>⟧.modulus result ≡ 21 }
+{
+    FixedMontgomery32::<21>::new(&21)
+}
+
+/// The parameter 11.
+pub fn fixed_modulus_11() -> u32
+    ensures { result ≡ 11 }
+{
+    FixedMontgomery32::<11>::fixed_modulus()
+}
+
+/// The modulus 1 * 2^31 + 1.
+pub fn proth_modulus_of_31_and_1() -> u32 {
+    FixedProth32::<31, 1>::fixed_modulus()
+}
+
+/// The modulus 3 * 2^2 + 1.
+pub fn proth_modulus_of_2_and_3() -> u32
+    ensures { result ≡ 13 }
+{
+    FixedProth32::<2, 3>::fixed_modulus()
 }
 
 // The product of two words by their forms.
