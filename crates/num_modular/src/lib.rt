@@ -8,6 +8,7 @@ pub mod barrett;
 pub mod modrun;
 pub mod monty;
 pub mod prim;
+pub mod proth;
 pub mod reduced;
 pub mod ring;
 pub mod word;
@@ -15,9 +16,11 @@ pub mod word;
 pub use modular_barrett::normalized::Normalized2by1Divisor;
 pub use modular_barrett::one_by_one::PreMulInv1by1;
 pub use modular_barrett::premul::PreMulInv2by1;
+pub use modular_monty::fixed::{FixedMontgomery32, FixedMontgomery64};
 pub use modular_monty::montgomery::Montgomery;
 pub use modular_monty::preinv;
 pub use modular_monty::preinv::PreModInv;
+pub use modular_monty::proth::{FixedProth32, FixedProth64};
 pub use modular_prim::exact::{DivExact, DivExactAssign};
 pub use modular_prim::ops::{ModularAbs, ModularCoreOps, ModularPow, ModularUnaryOps};
 pub use modular_reduced::int::{ReducedInt, VanillaInt};
@@ -27,3 +30,15 @@ pub use modular_reduced::vanilla::Vanilla;
 
 /// An integer modulo an odd number, over `Montgomery`.
 pub type MontgomeryInt<T> = ReducedInt<T, Montgomery<T>>;
+
+/// An integer modulo the odd parameter P, over `FixedMontgomery32`.
+pub type FixedMontgomeryInt32<const P: u32> = ReducedInt<u32, FixedMontgomery32<P>>;
+
+/// An integer modulo the odd parameter P, over `FixedMontgomery64`.
+pub type FixedMontgomeryInt64<const P: u64> = ReducedInt<u64, FixedMontgomery64<P>>;
+
+/// An integer modulo K * 2^N + 1, over `FixedProth32`.
+pub type FixedProthInt32<const N: u8, const K: u8> = ReducedInt<u32, FixedProth32<N, K>>;
+
+/// An integer modulo K * 2^N + 1, over `FixedProth64`.
+pub type FixedProthInt64<const N: u8, const K: u8> = ReducedInt<u64, FixedProth64<N, K>>;
