@@ -2,6 +2,8 @@ pub mod CountSteps
 pub mod Euler
 pub mod HalfSystem
 pub mod JacobiLaws
+pub mod KroneckerSteps
 pub mod Lattice
 pub mod RangeProducts
 pub mod ResidueProducts
+pub mod TwoPart

@@ -1,8 +1,10 @@
 //! The integer of an operand, and words given by their sign and their magnitude.
 
 ghost use Rattle.std.specs.Prelude.{◌≡◌, ℤ, pos, ◌<◌, IsTrue};
+ghost use Rattle.std.proofs.Common.{refl};
 ghost use Rattle.modular_symbols.specs.Kronecker.{signed};
 
+use modular_prim::numbered::Numbered;
 use modular_prim::plain_word::PlainWord;
 
 /// An operand that contracts see as an integer: a word with or without sign, or a reference to one.
@@ -15,6 +17,19 @@ pub trait IntegerValued {
 
 impl<T: IntegerValued> IntegerValued for &T {
     ghost integer_value = { λ x. T.integer_value x.now };
+}
+
+/// An operand without sign: its integer is its whole number.
+///
+/// It has no calls. By it code that is generic over the modular operations and the symbols speaks of
+/// one number.
+pub trait UnsignedOperand: Numbered + IntegerValued {
+    // The integer is the whole number.
+    ghost whole: { (x : Self) → Self.integer_value x ≡ pos (Self.whole_number x) };
+}
+
+impl<T: UnsignedOperand> UnsignedOperand for &T {
+    ghost whole = { λ x. T.whole x.now };
 }
 
 /// A machine word with or without sign.
@@ -66,6 +81,26 @@ impl IntegerValued for i64 {
 
 impl IntegerValued for isize {
     ghost integer_value = { λ z. z };
+}
+
+impl UnsignedOperand for u8 {
+    ghost whole = { λ x. refl };
+}
+
+impl UnsignedOperand for u16 {
+    ghost whole = { λ x. refl };
+}
+
+impl UnsignedOperand for u32 {
+    ghost whole = { λ x. refl };
+}
+
+impl UnsignedOperand for u64 {
+    ghost whole = { λ x. refl };
+}
+
+impl UnsignedOperand for usize {
+    ghost whole = { λ x. refl };
 }
 
 impl SymbolWord for u8 {

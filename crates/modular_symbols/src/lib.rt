@@ -1,7 +1,14 @@
-//! The Legendre, Jacobi and Kronecker symbols of machine words, with and without sign.
+//! The Legendre, Jacobi and Kronecker symbols of machine words, with and without sign, and the traits
+//! that collect the modular operations.
 #![tactic(auto)]
 
 pub mod count;
 pub mod integer;
 pub mod laws;
 pub mod magnitudes;
+pub mod ops;
+pub mod ref_ops;
+pub mod symbols;
+#[cfg(test)]
+mod tests;
+pub mod users;

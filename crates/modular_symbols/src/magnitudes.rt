@@ -1,8 +1,8 @@
 //! The symbols of two numbers, each given by its sign and its magnitude: one body for all words.
 
-ghost use Rattle.std.specs.Prelude.{◌≡◌, ◌%◌, ◌<◌, pos, IsTrue};
+ghost use Rattle.std.specs.Prelude.{◌≡◌, ◌%◌, ◌<◌, ◌≤◌, ◌==◌, ◌||◌, pos, nat_abs, IsTrue};
 ghost use Rattle.modular_symbols.specs.Jacobi.{jacobi, checked_jacobi_of};
-ghost use Rattle.modular_symbols.specs.Kronecker.{signed};
+ghost use Rattle.modular_symbols.specs.Kronecker.{signed, kronecker_above, kronecker};
 ghost use Rattle.modular_symbols.specs.Legendre.{checked_legendre_of};
 
 use crate::count::jacobi_by_count;
@@ -58,5 +58,57 @@ pub fn checked_legendre<T: PlainWord>(a_minus: bool, a: T, n_minus: bool, n: T) 
         } else {
             None
         }
+    }
+}
+
+// Whether the symbol of an odd number over 2 is -1.
+fn is_minus_over_two<T: PlainWord>(a: T) -> bool
+    requires { T.number a % 2 ≡ 1 }
+    ensures { result ≡ (T.number a % 8 == 3) || (T.number a % 8 == 5) }
+{
+    let half = a.half();
+    if half.half().is_odd() {
+        !half.is_odd()
+    } else {
+        half.is_odd()
+    }
+}
+
+// A symbol, or its negative where it is turned.
+fn turned_symbol(symbol: i8, turned: bool) -> i8
+    requires { nat_abs symbol ≤ 1 }
+    ensures value { result ≡ signed turned symbol }
+    ensures small { nat_abs result ≤ 1 }
+{
+    if turned { -symbol } else { symbol }
+}
+
+// The Kronecker symbol over n of at least 1.
+fn symbol_above<T: PlainWord>(a_minus: bool, a: T, n: T) -> i8
+    requires { 0 < T.number n }
+    ensures value { result ≡ kronecker_above (signed a_minus (pos (T.number a))) (T.number n) }
+    ensures small { nat_abs result ≤ 1 }
+{
+    if n.is_odd() {
+        jacobi_symbol(a_minus, a, n)
+    } else if a.is_odd() {
+        let twos = n.trailing_zeros();
+        let symbol = jacobi_symbol(a_minus, a, n.shift_right(twos));
+        turned_symbol(symbol, twos % 2 == 1 && is_minus_over_two(a))
+    } else {
+        0
+    }
+}
+
+/// The Kronecker symbol. Condition: a negative number has a magnitude of at least 1.
+pub fn kronecker_symbol<T: PlainWord>(a_minus: bool, a: T, n_minus: bool, n: T) -> i8
+    requires a_sign { IsTrue a_minus → 0 < T.number a }
+    requires n_sign { IsTrue n_minus → 0 < T.number n }
+    ensures { result ≡ kronecker (signed a_minus (pos (T.number a))) (signed n_minus (pos (T.number n))) }
+{
+    if n.is_zero_word() {
+        if a == T::one() { 1 } else { 0 }
+    } else {
+        turned_symbol(symbol_above(a_minus, a, n), a_minus && n_minus)
     }
 }

@@ -1,0 +1,90 @@
+-- The power of two in a number, and the odd number that is left.
+use Rattle.std.proofs.Common.{◌≡◌, ◌≢◌, ℕ, zero, suc, ◌+◌, ◌-◌, ◌*◌, ◌/◌, ◌%◌, ◌^◌, ◌<◌, ◌≤◌, sym, ap, ◌∙◌, arith, refl, subst, ⊎_elim}
+use Rattle.std.proofs.Math.Nat.{pow-suc, div-div-eq-div-mul, pow-zero, div-one, mod-lt, mul-le-mul_right}
+use Rattle.std.proofs.lemmas.Bool.Decides.{nat_tests}
+use Rattle.std.proofs.lemmas.Nat.{pow_pos, pow-add}
+use Rattle.std.specs.Int.Count.{count_trailing_zeros}
+use lib.Count.{under}
+use Rattle.modular_word.proofs.Congruence.{factor_cancel}
+use Rattle.modular_word.proofs.Divisors.{divides, divides_through, multiple_of}
+use Rattle.modular_word.proofs.Sums.{last_or_before}
+use Rattle.modular_symbols.specs.Kronecker.{twos_up_to, twos}
+
+-- 2^s divides n, and the quotient is odd
+pub record SplitAt (n s : ℕ) : Type 0 where
+  pub whole : n / 2 ^ s * 2 ^ s ≡ n
+  pub odd : (n / 2 ^ s) % 2 ≡ 1
+
+pub split_odd : (n : ℕ) → n % 2 ≡ 1 → SplitAt n 0
+split_odd n o = record {
+  whole = omega (arith, div-one n, pow-zero 2);
+  odd = ap (λ v. v % 2) (div-one n) ∙ o;
+}
+
+-- ---- the exponent
+exponent-below : (s : ℕ) → s < 2 ^ s
+exponent-below zero = pow_pos 0
+exponent-below (suc s) = let l = exponent-below s in omega (arith, pow-suc 2 s)
+
+twos_up_to-hit : (n k : ℕ) → n % 2 ^ suc k ≡ 0 → twos_up_to n (suc k) ≡ suc k
+unfolding twos_up_to
+twos_up_to-hit n k e = grind (arith, nat_tests)
+
+twos_up_to-miss : (n k : ℕ) → n % 2 ^ suc k ≢ 0 → twos_up_to n (suc k) ≡ twos_up_to n k
+unfolding twos_up_to
+twos_up_to-miss n k e = grind (arith, nat_tests)
+
+twos_up_to-none : (n : ℕ) → twos_up_to n 0 ≡ 0
+unfolding twos_up_to
+twos_up_to-none n = refl
+
+-- no greater power divides
+no_more : (n s k : ℕ) → s < k → SplitAt n s → n % 2 ^ k ≢ 0
+no_more n s k l split e =
+    let p : 2 ^ k ≡ 2 ^ suc s * 2 ^ (k - suc s) =
+    ap (λ v. 2 ^ v) (let f : k ≡ suc s + (k - suc s) = omega arith in f) ∙ pow-add 2 (suc s) (k - suc s) in
+    let d : n % 2 ^ suc s ≡ 0 = divides_through (2 ^ suc s) (2 ^ k) n (divides (2 ^ suc s) (2 ^ k) (2 ^ (k - suc s)) p) e in
+    let q : ℕ = n / 2 ^ suc s in
+    let m : n ≡ 2 ^ suc s * q = multiple_of (2 ^ suc s) n d in
+    let t : 2 ^ suc s ≡ 2 ^ s * 2 = pow-suc 2 s in
+    let u : 2 ^ suc s * q ≡ 2 ^ s * 2 * q = ap (λ v. v * q) t in
+    let w : 2 ^ s * (n / 2 ^ s) ≡ 2 ^ s * (2 * q) = omega (arith, split.whole) in
+    let even : n / 2 ^ s ≡ 2 * q = factor_cancel (2 ^ s) (n / 2 ^ s) (2 * q) (pow_pos s) w in
+    omega (arith, split.odd)
+
+twos_from : (n s k : ℕ) → s ≤ k → SplitAt n s → twos_up_to n k ≡ s
+twos_from n s zero l split = let z = twos_up_to-none n in omega arith
+twos_from n s (suc k) l split =
+    ⊎_elim
+    (λ (b : s ≤ k). twos_up_to-miss n k (no_more n s (suc k) (omega arith) split) ∙ twos_from n s k b split)
+    (λ (e : s ≡ suc k).
+    let d : n % 2 ^ s ≡ 0 = divides (2 ^ s) n (n / 2 ^ s) (let w = split.whole in omega arith) in
+    twos_up_to-hit n k (sym (ap (λ v. n % 2 ^ v) e) ∙ d) ∙ sym e)
+    (last_or_before s k l)
+
+-- it is the exponent of 2
+pub twos-is : (n s : ℕ) → SplitAt n s → twos n ≡ s
+twos-is n s split =
+    let one : 1 * 2 ^ s ≤ n / 2 ^ s * 2 ^ s = mul-le-mul_right (2 ^ s) (let o = split.odd in let b : 1 ≤ n / 2 ^ s = omega arith in b) in
+    let below = exponent-below s in
+    twos_from n s n (let w = split.whole in omega arith) split
+
+-- ---- the trailing zeros of a word
+split_step : (n t r : ℕ) → n % 2 ≡ r → r < 2 → 0 < n → (0 < n / 2 → SplitAt (n / 2) t) → SplitAt n (under r t)
+split_step n t zero e l h half =
+    let ih = half (omega arith) in
+    let q : 2 ^ suc t ≡ 2 * 2 ^ t = omega (arith, pow-suc 2 t) in
+    let d : n / 2 ^ suc t ≡ n / 2 / 2 ^ t = ap (λ v. n / v) q ∙ sym (div-div-eq-div-mul n 2 (2 ^ t)) in
+    record {
+      whole = rw (d, q) (let w : n / 2 / 2 ^ t * (2 * 2 ^ t) ≡ 2 * (n / 2 / 2 ^ t * 2 ^ t) = omega arith in w ∙ ap (λ v. 2 * v) ih.whole ∙ omega arith);
+      odd = rw d ih.odd;
+    }
+split_step n t (suc zero) e l h half = split_odd n e
+split_step n t (suc (suc r)) e l h half = absurd (omega arith)
+
+pub split_at : (w n : ℕ) → 0 < n → n < 2 ^ w → SplitAt n (count_trailing_zeros w n)
+unfolding count_trailing_zeros
+split_at zero n h k = let z = pow-zero 2 in absurd (omega arith)
+split_at (suc w) n h k =
+    split_step n (count_trailing_zeros w (n / 2)) (n % 2) refl (mod-lt n (omega arith)) h
+    (λ p. split_at w (n / 2) p (omega (arith, pow-suc 2 w)))

@@ -1,0 +1,69 @@
+//! The trait of the symbols.
+
+ghost use Rattle.std.specs.Prelude.{◌≡◌, IsSome};
+ghost use Rattle.modular_symbols.specs.Jacobi.{checked_jacobi_of};
+ghost use Rattle.modular_symbols.specs.Kronecker.{kronecker};
+ghost use Rattle.modular_symbols.specs.Legendre.{checked_legendre_of};
+
+use crate::integer::{IntegerValued, SymbolWord};
+use crate::magnitudes;
+
+/// The symbols of a number over n. A symbol is -1, 0 or 1.
+pub trait ModularSymbols<Modulus: IntegerValued>: IntegerValued {
+    /// The value inside `checked_legendre`. Condition: that is `Some`.
+    fn legendre(&self, n: Modulus) -> i8
+        requires { IsSome (checked_legendre_of (Self.integer_value self.now) (Modulus.integer_value n)) }
+        ensures { Some result ≡ checked_legendre_of (Self.integer_value self.now) (Modulus.integer_value n) }
+    {
+        match self.checked_legendre(n) {
+            Some(symbol) => symbol,
+            None => unreachable!(),
+        }
+    }
+
+    /// The class of the power a^((n - 1)/2) modulo n, its exponent rounded down: 0, 1 or -1 where the
+    /// power leaves 0, 1 or n - 1, tried in this order. `None` for any other power, and for n below 1.
+    ///
+    /// For an odd prime n this is the Legendre symbol. That n is prime isn't tested.
+    fn checked_legendre(&self, n: Modulus) -> Option<i8>
+        ensures { result ≡ checked_legendre_of (Self.integer_value self.now) (Modulus.integer_value n) };
+
+    /// The value inside `checked_jacobi`. Condition: that is `Some`.
+    fn jacobi(&self, n: Modulus) -> i8
+        requires { IsSome (checked_jacobi_of (Self.integer_value self.now) (Modulus.integer_value n)) }
+        ensures { Some result ≡ checked_jacobi_of (Self.integer_value self.now) (Modulus.integer_value n) }
+    {
+        match self.checked_jacobi(n) {
+            Some(symbol) => symbol,
+            None => unreachable!(),
+        }
+    }
+
+    /// The Jacobi symbol; `None` exactly for an even n and for n below 1.
+    fn checked_jacobi(&self, n: Modulus) -> Option<i8>
+        ensures { result ≡ checked_jacobi_of (Self.integer_value self.now) (Modulus.integer_value n) };
+
+    /// The Kronecker symbol, of any number over any number, the least ones included.
+    fn kronecker(&self, n: Modulus) -> i8
+        ensures { result ≡ kronecker (Self.integer_value self.now) (Modulus.integer_value n) };
+}
+
+impl<T: SymbolWord> ModularSymbols<&T> for T {
+    fn checked_legendre(&self, n: &T) -> Option<i8> {
+        let (a_minus, a) = self.sign_and_magnitude();
+        let (n_minus, n) = n.sign_and_magnitude();
+        magnitudes::checked_legendre(a_minus, a, n_minus, n)
+    }
+
+    fn checked_jacobi(&self, n: &T) -> Option<i8> {
+        let (a_minus, a) = self.sign_and_magnitude();
+        let (n_minus, n) = n.sign_and_magnitude();
+        magnitudes::checked_jacobi(a_minus, a, n_minus, n)
+    }
+
+    fn kronecker(&self, n: &T) -> i8 {
+        let (a_minus, a) = self.sign_and_magnitude();
+        let (n_minus, n) = n.sign_and_magnitude();
+        magnitudes::kronecker_symbol(a_minus, a, n_minus, n)
+    }
+}

@@ -1,0 +1,64 @@
+//! The generic code and the operations over references.
+
+use crate::count::jacobi_by_count;
+use crate::ref_ops::ModularRefOps;
+use crate::symbols::ModularSymbols;
+use crate::users::{
+    jacobi_of_seven, legendre_of_three, product_symbol, product_symbol_ref, symbols_of_8_bits,
+    symbols_of_64_bits,
+};
+
+#[test]
+fn callers_of_generic_code(rt: HostRuntime) {
+    assert_eq!(rt; product_symbol(7u16, 1, &15), Some(-1));
+    assert_eq!(rt; product_symbol(2u32, 1, &8), None);
+    assert_eq!(rt; product_symbol_ref(&2u16, &1, &15), Some(1));
+    assert_eq!(rt; product_symbol_ref(&3usize, &5, &9), Some(0));
+    assert_eq!(rt; symbols_of_8_bits(7, 1, 15), (Some(-1), Some(-1)));
+    assert_eq!(rt; symbols_of_64_bits(1, 2, 15), (Some(1), Some(1)));
+    assert_eq!(rt; jacobi_of_seven(), -1);
+    assert_eq!(rt; legendre_of_three(), 1);
+}
+
+macro_rules! ref_rows {
+    ($rt:ident, $T:ty) => {
+        let (a, b, m): ($T, $T, $T) = (11, 9, 7);
+        assert_eq!($rt; a.addm_ref(&b, &m), 6);
+        assert_eq!($rt; a.subm_ref(&b, &m), 2);
+        assert_eq!($rt; a.mulm_ref(&b, &m), 1);
+        assert_eq!($rt; a.negm_ref(&m), 3);
+        assert_eq!($rt; a.invm_ref(&m), Some(2));
+        assert_eq!($rt; m.invm_ref(&m), None);
+        assert_eq!($rt; a.dblm_ref(&m), 1);
+        assert_eq!($rt; a.sqm_ref(&m), 2);
+        assert_eq!($rt; a.powm_ref(&b, &m), 1);
+        assert_eq!($rt; b.checked_legendre_ref(&17), Some(1));
+        assert_eq!($rt; b.checked_jacobi_ref(&m), Some(1));
+        assert_eq!($rt; m.checked_jacobi_ref(&8), None);
+        assert_eq!($rt; m.kronecker_ref(&15), -1);
+    };
+}
+
+#[test]
+fn operands_by_reference(rt: HostRuntime) {
+    ref_rows!(rt, u8);
+    ref_rows!(rt, u16);
+    ref_rows!(rt, u32);
+    ref_rows!(rt, u64);
+    ref_rows!(rt, usize);
+}
+
+// Each number of a byte, over each odd number of a byte.
+#[test]
+fn the_count_and_the_symbol(rt: HostRuntime) {
+    for half in 0..128u8 {
+        let n = 2 * half + 1;
+        for a in 0..=255u8 {
+            assert_eq!(rt;
+                a.checked_jacobi(&n),
+                Some(jacobi_by_count(false, a, n)),
+                "{a} over {n}"
+            );
+        }
+    }
+}
