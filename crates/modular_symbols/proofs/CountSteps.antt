@@ -1,5 +1,5 @@
 -- The count of the half system, one number after the other.
-use Rattle.std.proofs.Common.{◌≡◌, ℕ, suc, ◌+◌, ◌-◌, ◌/◌, ◌%◌, ◌<◌, ◌≤◌, ◌≢◌, Bool, true, false, not, cond, ltb, eqb, ℤ, pos, negsuc, ◌*ℤ◌, nat_abs, Option, Some, None, is_some, zero, sym, ◌∙◌, ap, refl, arith}
+use Rattle.std.proofs.Common.{◌≡◌, ℕ, suc, ◌+◌, ◌-◌, ◌*◌, ◌/◌, ◌%◌, ◌<◌, ◌≤◌, ◌≢◌, Bool, true, false, not, cond, ltb, eqb, ℤ, pos, negsuc, ◌*ℤ◌, nat_abs, Option, Some, None, is_some, zero, sym, ◌∙◌, ap, refl, arith}
 use Rattle.std.proofs.lemmas.Bool.Decides.{nat_tests}
 use Rattle.modular_word.specs.Divisors.{gcd}
 use Rattle.modular_word.specs.Inverses.{IsInversion}
@@ -9,6 +9,7 @@ use Rattle.modular_word.proofs.Divisors.{HasInverse-gcd}
 use Rattle.modular_word.proofs.Sums.{sum_to-zero, sum_to-suc}
 use Rattle.modular_symbols.specs.Jacobi.{half_system_count, jacobi, sign}
 use Rattle.modular_symbols.specs.Kronecker.{signed}
+use Rattle.modular_symbols.proofs.ResidueProducts.{residue-multiple}
 
 -- 1 where the residue of z * x lies above the half system of n, else 0
 abbrev pub above : ℤ → ℕ → ℕ → ℕ
@@ -38,20 +39,56 @@ other_parity s t false e f = omega arith
 same_parity : (s t : ℕ) (odd : Bool) → s % 2 ≡ cond odd 1 0 → t ≡ 0 → (s + t) % 2 ≡ cond odd 1 0
 same_parity s t odd e f = omega arith
 
-pub counted_high : (z : ℤ) (n x y : ℕ) (odd : Bool) → CountedTo z n x odd → y ≡ suc x → y ≤ (n - 1) / 2
-    → (n - 1) / 2 < residue n (z *ℤ pos y) → CountedTo z n y (not odd)
-counted_high z n x y odd c e w h = record {
-  within = w;
-  parity = ap (λ v. sum_to (above z n) v % 2) e ∙ ap (λ v. v % 2) (sum_to-suc (above z n) x)
-      ∙ other_parity (sum_to (above z n) x) (above z n (suc x)) odd c.parity (sym (ap (above z n) e) ∙ above_high z n y h);
+-- the next number y, by the numbers that the loop computes: half of n, the residue s of z and that of s * y
+pub record Next (z : ℤ) (n x one y half s r : ℕ) : Type 0 where
+  pub odd_modulus : n % 2 ≡ 1
+  pub half_is : half ≡ n / 2
+  pub one_is : one ≡ 1
+  pub before : x < half
+  pub follows : y ≡ x + one
+  pub residue_is : s ≡ residue n z
+  pub product : r ≡ (s * y) % n
+
+next_is : {z : ℤ} {n x one y half s r : ℕ} → Next z n x one y half s r → y ≡ suc x
+next_is t = let e = t.follows in let f = t.one_is in omega arith
+
+next_within : {z : ℤ} {n x one y half s r : ℕ} → Next z n x one y half s r → y ≤ (n - 1) / 2
+next_within t = let o = t.odd_modulus in let h = t.half_is in let b = t.before in let e = next_is t in omega arith
+
+next_residue : {z : ℤ} {n x one y half s r : ℕ} → Next z n x one y half s r → r ≡ residue n (z *ℤ pos y)
+next_residue {z = z} {n = n} {y = y} t =
+    let p : 0 < n = let o = t.odd_modulus in omega arith in
+    t.product ∙ ap (λ v. (v * y) % n) t.residue_is ∙ sym (residue-multiple n z y p)
+
+sum_next : {z : ℤ} {n x one y half s r : ℕ} → Next z n x one y half s r
+    → sum_to (above z n) y ≡ sum_to (above z n) x + above z n y
+sum_next {z = z} {n = n} {x = x} {y = y} t =
+    let e = next_is t in
+    ap (λ v. sum_to (above z n) v) e ∙ sum_to-suc (above z n) x
+    ∙ sym (ap (λ v. sum_to (above z n) x + above z n v) e)
+
+pub counted_high : {z : ℤ} {n x one y half s r : ℕ} {odd : Bool} → Next z n x one y half s r → CountedTo z n x odd → half < r
+    → CountedTo z n y (not odd)
+counted_high {z = z} {n = n} {x = x} {y = y} {odd = odd} t c h = record {
+  within = next_within t;
+  parity =
+      let o = t.odd_modulus in
+      let e = t.half_is in
+      let f = next_residue t in
+      ap (λ v. v % 2) (sum_next t)
+      ∙ other_parity (sum_to (above z n) x) (above z n y) odd c.parity (above_high z n y (omega arith));
 }
 
-pub counted_low : (z : ℤ) (n x y : ℕ) (odd : Bool) → CountedTo z n x odd → y ≡ suc x → y ≤ (n - 1) / 2
-    → residue n (z *ℤ pos y) ≤ (n - 1) / 2 → CountedTo z n y odd
-counted_low z n x y odd c e w h = record {
-  within = w;
-  parity = ap (λ v. sum_to (above z n) v % 2) e ∙ ap (λ v. v % 2) (sum_to-suc (above z n) x)
-      ∙ same_parity (sum_to (above z n) x) (above z n (suc x)) odd c.parity (sym (ap (above z n) e) ∙ above_low z n y h);
+pub counted_low : {z : ℤ} {n x one y half s r : ℕ} {odd : Bool} → Next z n x one y half s r → CountedTo z n x odd → r ≤ half
+    → CountedTo z n y odd
+counted_low {z = z} {n = n} {x = x} {y = y} {odd = odd} t c h = record {
+  within = next_within t;
+  parity =
+      let o = t.odd_modulus in
+      let e = t.half_is in
+      let f = next_residue t in
+      ap (λ v. v % 2) (sum_next t)
+      ∙ same_parity (sum_to (above z n) x) (above z n y) odd c.parity (above_low z n y (omega arith));
 }
 
 sign_of : (k : ℕ) (odd : Bool) → k % 2 ≡ cond odd 1 0 → sign k ≡ cond odd (negsuc 0) (pos 1)
@@ -59,10 +96,10 @@ sign_of k true e = grind (arith, nat_tests)
 sign_of k false e = grind (arith, nat_tests)
 
 -- the symbol at the end of the count
-pub counted_all : (z : ℤ) (n x : ℕ) (odd : Bool) → CountedTo z n x odd → (n - 1) / 2 ≤ x → gcd (nat_abs z) n ≡ 1
-    → jacobi z n ≡ cond odd (negsuc 0) (pos 1)
+pub counted_all : (z : ℤ) (n x half : ℕ) (odd : Bool) → CountedTo z n x odd → n % 2 ≡ 1 → half ≡ n / 2 → half ≤ x
+    → gcd (nat_abs z) n ≡ 1 → jacobi z n ≡ cond odd (negsuc 0) (pos 1)
 unfolding jacobi half_system_count
-counted_all z n x odd c h g =
+counted_all z n x half odd c o f h g =
     let w = c.within in
     let e : x ≡ (n - 1) / 2 = omega arith in
     ap (λ v. cond (eqb v 1) (sign (half_system_count z n)) (pos 0)) g
@@ -78,12 +115,14 @@ nat_abs-signed true (suc a) = refl
 nat_abs-signed false a = refl
 
 -- what an inversion tells of the greatest common divisor
-pub no_inverse : {A : Type 0} (number : A → ℕ) (m a : ℕ) (found : Option A) → 0 < m → IsInversion number m a found
-    → is_some found ≡ false → gcd a m ≢ 1
-no_inverse number m a None p none e = λ g. let h = (HasInverse-gcd a m p).1 g in none h.0 h.1
-no_inverse number m a (Some x) p i e = absurd (cc)
+pub no_inverse : {A : Type 0} (number : A → ℕ) (m a : ℕ) (minus : Bool) (found : Option A) → 0 < m → IsInversion number m a found
+    → is_some found ≡ false → gcd (nat_abs (signed minus (pos a))) m ≢ 1
+no_inverse number m a minus None p none e =
+    λ g. let h = (HasInverse-gcd a m p).1 (sym (ap (λ v. gcd v m) (nat_abs-signed minus a)) ∙ g) in none h.0 h.1
+no_inverse number m a minus (Some x) p i e = absurd (cc)
 
-pub with_inverse : {A : Type 0} (number : A → ℕ) (m a : ℕ) (found : Option A) → 0 < m → IsInversion number m a found
-    → is_some found ≡ true → gcd a m ≡ 1
-with_inverse number m a None p none e = absurd (cc)
-with_inverse number m a (Some x) p i e = (HasInverse-gcd a m p).0 (number x, i)
+pub with_inverse : {A : Type 0} (number : A → ℕ) (m a : ℕ) (minus : Bool) (found : Option A) → 0 < m → IsInversion number m a found
+    → is_some found ≡ true → gcd (nat_abs (signed minus (pos a))) m ≡ 1
+with_inverse number m a minus None p none e = absurd (cc)
+with_inverse number m a minus (Some x) p i e =
+    ap (λ v. gcd v m) (nat_abs-signed minus a) ∙ (HasInverse-gcd a m p).0 (number x, i)

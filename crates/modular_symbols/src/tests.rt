@@ -1,5 +1,5 @@
 //! Known values of the symbols.
 
 mod generic;
-mod rows;
-mod vectors;
+mod least;
+mod tables;

@@ -40,12 +40,13 @@ macro_rules! ref_rows {
 }
 
 #[test]
-fn operands_by_reference(rt: HostRuntime) {
+fn references_to_8_bits(rt: HostRuntime) {
     ref_rows!(rt, u8);
-    ref_rows!(rt, u16);
-    ref_rows!(rt, u32);
+}
+
+#[test]
+fn references_to_64_bits(rt: HostRuntime) {
     ref_rows!(rt, u64);
-    ref_rows!(rt, usize);
 }
 
 // Each number of a byte, over each odd number of a byte.
