@@ -1,8 +1,10 @@
 pub mod CountSteps
 pub mod Euler
 pub mod HalfSystem
+pub mod HalvingSteps
 pub mod JacobiLaws
 pub mod KroneckerSteps
+pub mod LegendreClass
 pub mod Lattice
 pub mod RangeProducts
 pub mod ResidueProducts

@@ -1,11 +1,12 @@
 //! The symbols of two numbers, each given by its sign and its magnitude: one body for all words.
 
-ghost use Rattle.std.specs.Prelude.{◌≡◌, ◌%◌, ◌<◌, ◌≤◌, ◌==◌, ◌||◌, pos, nat_abs, IsTrue};
+ghost use Rattle.std.specs.Prelude.{◌≡◌, ◌%◌, ◌<◌, ◌≤◌, ◌==◌, ◌||◌, pos, nat_abs, Some, IsTrue};
 ghost use Rattle.modular_symbols.specs.Jacobi.{jacobi, checked_jacobi_of};
 ghost use Rattle.modular_symbols.specs.Kronecker.{signed, kronecker_above, kronecker};
 ghost use Rattle.modular_symbols.specs.Legendre.{checked_legendre_of};
+ghost use Rattle.modular_symbols.specs.Primes.{IsOddPrime};
 
-use crate::count::jacobi_by_count;
+use crate::halving::jacobi_by_halving;
 use modular_prim::abs::signed_residue;
 use modular_prim::plain_word::PlainWord;
 use modular_prim::power::powm;
@@ -17,7 +18,7 @@ pub fn jacobi_symbol<T: PlainWord>(a_minus: bool, a: T, n: T) -> i8
     requires { T.number n % 2 ≡ 1 }
     ensures { result ≡ jacobi (signed a_minus (pos (T.number a))) (T.number n) }
 {
-    jacobi_by_count(a_minus, a, n)
+    jacobi_by_halving(a_minus, a, n)
 }
 
 /// The Jacobi symbol; `None` exactly for an even n and for n below 1. Condition: a negative n has a
@@ -37,8 +38,18 @@ pub fn checked_jacobi<T: PlainWord>(a_minus: bool, a: T, n_minus: bool, n: T) ->
 
 /// The class of the power a^((n - 1)/2) modulo n, its exponent rounded down: 0, 1 or -1 where the
 /// power leaves 0, 1 or n - 1, tried in this order; `None` for another power and for n below 1.
-/// Condition: a negative n has a magnitude of at least 1.
+/// Over an odd prime it is the Jacobi symbol. Condition: a negative n has a magnitude of at least 1.
 pub fn checked_legendre<T: PlainWord>(a_minus: bool, a: T, n_minus: bool, n: T) -> Option<i8>
+    requires { IsTrue n_minus → 0 < T.number n }
+    ensures class { result ≡ checked_legendre_of (signed a_minus (pos (T.number a))) (signed n_minus (pos (T.number n))) }
+    ensures prime { IsOddPrime (signed n_minus (pos (T.number n)))
+        → result ≡ Some (jacobi (signed a_minus (pos (T.number a))) (nat_abs (signed n_minus (pos (T.number n))))) }
+{
+    class_of_power(a_minus, a, n_minus, n)
+}
+
+// The class of the power, by itself.
+fn class_of_power<T: PlainWord>(a_minus: bool, a: T, n_minus: bool, n: T) -> Option<i8>
     requires { IsTrue n_minus → 0 < T.number n }
     ensures { result ≡ checked_legendre_of (signed a_minus (pos (T.number a))) (signed n_minus (pos (T.number n))) }
 {

@@ -1,9 +1,10 @@
 //! The trait of the symbols.
 
-ghost use Rattle.std.specs.Prelude.{◌≡◌, IsSome};
-ghost use Rattle.modular_symbols.specs.Jacobi.{checked_jacobi_of};
+ghost use Rattle.std.specs.Prelude.{◌≡◌, nat_abs, Some, IsSome};
+ghost use Rattle.modular_symbols.specs.Jacobi.{jacobi, checked_jacobi_of};
 ghost use Rattle.modular_symbols.specs.Kronecker.{kronecker};
 ghost use Rattle.modular_symbols.specs.Legendre.{checked_legendre_of};
+ghost use Rattle.modular_symbols.specs.Primes.{IsOddPrime};
 
 use crate::integer::{IntegerValued, SymbolWord};
 use crate::magnitudes;
@@ -24,9 +25,12 @@ pub trait ModularSymbols<Modulus: IntegerValued>: IntegerValued {
     /// The class of the power a^((n - 1)/2) modulo n, its exponent rounded down: 0, 1 or -1 where the
     /// power leaves 0, 1 or n - 1, tried in this order. `None` for any other power, and for n below 1.
     ///
-    /// For an odd prime n this is the Legendre symbol. That n is prime isn't tested.
+    /// For an odd prime n this is the Legendre symbol, which is the Jacobi symbol. That n is prime isn't
+    /// tested.
     fn checked_legendre(&self, n: Modulus) -> Option<i8>
-        ensures { result ≡ checked_legendre_of (Self.integer_value self.now) (Modulus.integer_value n) };
+        ensures class { result ≡ checked_legendre_of (Self.integer_value self.now) (Modulus.integer_value n) }
+        ensures prime { IsOddPrime (Modulus.integer_value n)
+            → result ≡ Some (jacobi (Self.integer_value self.now) (nat_abs (Modulus.integer_value n))) };
 
     /// The value inside `checked_jacobi`. Condition: that is `Some`.
     fn jacobi(&self, n: Modulus) -> i8

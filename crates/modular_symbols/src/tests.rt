@@ -1,5 +1,6 @@
 //! Known values of the symbols.
 
 mod generic;
+mod large;
 mod least;
 mod tables;
