@@ -9,6 +9,7 @@ use Rattle.modular_word.proofs.Divisors.{HasInverse-gcd}
 use Rattle.modular_word.proofs.Sums.{sum_to-zero, sum_to-suc}
 use Rattle.modular_symbols.specs.Jacobi.{half_system_count, jacobi, sign}
 use Rattle.modular_symbols.specs.Kronecker.{signed}
+use Rattle.modular_symbols.proofs.JacobiLaws.{sign-parity}
 use Rattle.modular_symbols.proofs.ResidueProducts.{residue-multiple}
 
 -- 1 where the residue of z * x lies above the half system of n, else 0
@@ -91,10 +92,6 @@ counted_low {z = z} {n = n} {x = x} {y = y} {odd = odd} t c h = record {
       ∙ same_parity (sum_to (above z n) x) (above z n y) odd c.parity (above_low z n y (omega arith));
 }
 
-sign_of : (k : ℕ) (odd : Bool) → k % 2 ≡ cond odd 1 0 → sign k ≡ cond odd (negsuc 0) (pos 1)
-sign_of k true e = grind (arith, nat_tests)
-sign_of k false e = grind (arith, nat_tests)
-
 -- the symbol at the end of the count
 pub counted_all : (z : ℤ) (n x half : ℕ) (odd : Bool) → CountedTo z n x odd → n % 2 ≡ 1 → half ≡ n / 2 → half ≤ x
     → gcd (nat_abs z) n ≡ 1 → jacobi z n ≡ cond odd (negsuc 0) (pos 1)
@@ -103,7 +100,7 @@ counted_all z n x half odd c o f h g =
     let w = c.within in
     let e : x ≡ (n - 1) / 2 = omega arith in
     ap (λ v. cond (eqb v 1) (sign (half_system_count z n)) (pos 0)) g
-    ∙ sign_of (sum_to (above z n) ((n - 1) / 2)) odd (sym (ap (λ v. sum_to (above z n) v % 2) e) ∙ c.parity)
+    ∙ sign-parity (sum_to (above z n) ((n - 1) / 2)) odd (sym (ap (λ v. sum_to (above z n) v % 2) e) ∙ c.parity)
 
 pub shared_divisor : (z : ℤ) (n : ℕ) → gcd (nat_abs z) n ≢ 1 → jacobi z n ≡ pos 0
 unfolding jacobi

@@ -12,6 +12,7 @@ use Rattle.modular_word.proofs.Divisors.{Coprime-swap}
 use Rattle.modular_symbols.specs.Jacobi.{jacobi, half_system_count, sign}
 use Rattle.modular_symbols.specs.Kronecker.{signed}
 use Rattle.modular_symbols.proofs.JacobiLaws.{jacobi-residue, jacobi-coprime, jacobi-shared, coprime_or_not, sign-even, sign-odd, parities, pairs-parity, one_times, minus_one_times, jacobi-product, jacobi-two_kept, jacobi-two_turned, jacobi-zero_one, jacobi-zero}
+use Rattle.modular_symbols.proofs.KroneckerSteps.{leaves_3_or_5}
 use Rattle.modular_symbols.proofs.Lattice.{counts_reciprocal}
 use Rattle.modular_symbols.proofs.TwoPart.{SplitAt, split_at}
 
@@ -42,10 +43,6 @@ eighth n o =
     (λ (q : n % 8 ≡ 5 → ⊥). ⊎_elim (λ (e : n % 8 ≡ 1). inr (inl e)) (λ (r : n % 8 ≡ 1 → ⊥). inr (inr (omega arith))) (cases_eq (n % 8) 1))
     (cases_eq (n % 8) 5))
     (cases_eq (n % 8) 3)
-
--- n leaves 3 or 5 modulo 8
-abbrev pub leaves_3_or_5 : ℕ → Bool
-leaves_3_or_5 n = eqb (n % 8) 3 || eqb (n % 8) 5
 
 jacobi-twice : (k n : ℕ) → n % 2 ≡ 1 → jacobi (pos (2 * k)) n ≡ signed (leaves_3_or_5 n) (jacobi (pos k) n)
 jacobi-twice k n o =

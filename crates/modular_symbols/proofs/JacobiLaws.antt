@@ -43,7 +43,7 @@ sign-odd i e = grind (arith, nat_tests)
 pub parities : (i : ℕ) → (i % 2 ≡ 0) ⊎ (i % 2 ≡ 1)
 parities i = grind arith
 
-sign-parity : (i : ℕ) (odd : Bool) → i % 2 ≡ cond odd 1 0 → sign i ≡ cond odd (negsuc 0) (pos 1)
+pub sign-parity : (i : ℕ) (odd : Bool) → i % 2 ≡ cond odd 1 0 → sign i ≡ cond odd (negsuc 0) (pos 1)
 sign-parity i true e = sign-odd i e
 sign-parity i false e = sign-even i e
 
@@ -68,7 +68,7 @@ one_times z = omega (arith, ints)
 pub minus_one_times : (z : ℤ) → negsuc 0 *ℤ z ≡ neg_ℤ z
 minus_one_times z = omega (arith, ints)
 
-zero_times : (z : ℤ) → pos 0 *ℤ z ≡ pos 0
+pub zero_times : (z : ℤ) → pos 0 *ℤ z ≡ pos 0
 zero_times z = omega (arith, ints)
 
 times_zero : (z : ℤ) → z *ℤ pos 0 ≡ pos 0

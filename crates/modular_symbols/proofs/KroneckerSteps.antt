@@ -10,21 +10,13 @@ use Rattle.modular_word.proofs.Powers.{one-pow}
 use Rattle.modular_symbols.specs.Jacobi.{jacobi, sign, half_system_count}
 use Rattle.modular_symbols.specs.Kronecker.{signed, twos, over_two, kronecker_above, kronecker}
 use Rattle.modular_symbols.proofs.CountSteps.{nat_abs-signed}
+use Rattle.modular_symbols.proofs.JacobiLaws.{one_times, minus_one_times, zero_times}
 use Rattle.modular_symbols.proofs.TwoPart.{SplitAt, split_odd, split_at, twos-is}
 
 -- a symbol is -1, 0 or 1
 pub jacobi-small : (z : ℤ) (n : ℕ) → nat_abs (jacobi z n) ≤ 1
 unfolding jacobi
 jacobi-small z n = grind (arith, nat_tests)
-
-one_times : (z : ℤ) → pos 1 *ℤ z ≡ z
-one_times z = omega (arith, ints)
-
-minus_one_times : (z : ℤ) → negsuc 0 *ℤ z ≡ neg_ℤ z
-minus_one_times z = omega (arith, ints)
-
-zero_times : (z : ℤ) → pos 0 *ℤ z ≡ pos 0
-zero_times z = omega (arith, ints)
 
 power_zero : (z : ℤ) → int_pow z 0 ≡ pos 1
 power_zero (pos a) = ap pos (pow-zero a)

@@ -17,8 +17,9 @@ fn leaves_3<T: PlainWord>(n: T) -> bool
     n.half().is_odd()
 }
 
-// Whether an odd number leaves 3 or 5 modulo 8.
-fn leaves_3_or_5<T: PlainWord>(n: T) -> bool
+/// Whether 2 has the symbol -1 over an odd number: the number leaves 3 or 5 modulo 8. Condition: it is
+/// odd.
+pub fn is_minus_over_two<T: PlainWord>(n: T) -> bool
     requires { T.number n % 2 ≡ 1 }
     ensures { result ≡ (T.number n % 8 == 3) || (T.number n % 8 == 5) }
 {
@@ -32,7 +33,7 @@ fn is_turned<T: PlainWord>(a: T, twos: u32, n: T) -> bool
     requires n_odd { T.number n % 2 ≡ 1 }
     ensures { jacobi (pos (T.number a * 2 ^ twos)) (T.number n) ≡ signed result (jacobi (pos (T.number n)) (T.number a)) }
 {
-    ((twos % 2 == 1) & leaves_3_or_5(n)) ^ (leaves_3(a) & leaves_3(n))
+    ((twos % 2 == 1) & is_minus_over_two(n)) ^ (leaves_3(a) & leaves_3(n))
 }
 
 // The Jacobi symbol of a over n. Condition: n is odd.

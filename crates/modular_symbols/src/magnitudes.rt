@@ -1,12 +1,12 @@
 //! The symbols of two numbers, each given by its sign and its magnitude: one body for all words.
 
-ghost use Rattle.std.specs.Prelude.{◌≡◌, ◌%◌, ◌<◌, ◌≤◌, ◌==◌, ◌||◌, pos, nat_abs, Some, IsTrue};
+ghost use Rattle.std.specs.Prelude.{◌≡◌, ◌%◌, ◌<◌, ◌≤◌, pos, nat_abs, Some, IsTrue};
 ghost use Rattle.modular_symbols.specs.Jacobi.{jacobi, checked_jacobi_of};
 ghost use Rattle.modular_symbols.specs.Kronecker.{signed, kronecker_above, kronecker};
 ghost use Rattle.modular_symbols.specs.Legendre.{checked_legendre_of};
 ghost use Rattle.modular_symbols.specs.Primes.{IsOddPrime};
 
-use crate::halving::jacobi_by_halving;
+use crate::halving::{is_minus_over_two, jacobi_by_halving};
 use modular_prim::abs::signed_residue;
 use modular_prim::plain_word::PlainWord;
 use modular_prim::power::powm;
@@ -69,19 +69,6 @@ fn class_of_power<T: PlainWord>(a_minus: bool, a: T, n_minus: bool, n: T) -> Opt
         } else {
             None
         }
-    }
-}
-
-// Whether the symbol of an odd number over 2 is -1.
-fn is_minus_over_two<T: PlainWord>(a: T) -> bool
-    requires { T.number a % 2 ≡ 1 }
-    ensures { result ≡ (T.number a % 8 == 3) || (T.number a % 8 == 5) }
-{
-    let half = a.half();
-    if half.half().is_odd() {
-        !half.is_odd()
-    } else {
-        half.is_odd()
     }
 }
 
