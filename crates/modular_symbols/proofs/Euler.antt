@@ -1,6 +1,6 @@
 -- Euler's criterion: over an odd prime n the power with exponent (n - 1) / 2 is congruent to the Jacobi symbol. The
 -- products a * x of the half system are its numbers in another order, up to as many signs as the count says.
-use Rattle.std.proofs.Common.{◌≡◌, ℕ, zero, suc, ◌+◌, ◌-◌, ◌*◌, ◌%◌, ◌/◌, ◌^◌, ◌<◌, ◌≤◌, cond, eqb, ℤ, pos, negsuc, Some, None, sym, ◌∙◌, ap, arith, ⊎_elim, inl, inr, ◌⊎◌, subst}
+use Rattle.std.proofs.Common.{◌≡◌, ℕ, zero, suc, ◌+◌, ◌-◌, ◌*◌, ◌%◌, ◌/◌, ◌^◌, ◌<◌, ◌≤◌, cond, eqb, ℤ, pos, negsuc, Option, Some, None, sym, ◌∙◌, ap, arith, ⊎_elim, inl, inr, ◌⊎◌, subst}
 use Rattle.std.proofs.lemmas.Bool.Decides.{nat_tests}
 use Rattle.std.proofs.lemmas.Bool.{cases_lt, cases_eq}
 use Rattle.std.proofs.lemmas.Nat.{mod_below, mul-mod_first, mul-mod_second, pow-add}
@@ -38,7 +38,8 @@ one_times_last n v l e =
     let b : n - 1 < n = omega arith in
     sym (mul-mod_first v (n - 1) n) ∙ ap (λ w. (w * (n - 1)) % n) e ∙ ap (λ w. w % n) (one-mul (n - 1)) ∙ mod-eq_of_lt b
 
-powers_of_last : (n k : ℕ) → 1 < n → ((k % 2 ≡ 0) × ((n - 1) ^ k % n ≡ 1)) ⊎ ((k % 2 ≡ 1) × ((n - 1) ^ k % n ≡ n - 1))
+powers_of_last : (n k : ℕ) → 1 < n
+    → ((k % 2 ≡ 0) × ((n - 1) ^ k % n ≡ 1)) ⊎ ((k % 2 ≡ 1) × ((n - 1) ^ k % n ≡ n - 1))
 powers_of_last n zero l = inl (omega arith, ap (λ v. v % n) (pow-zero (n - 1)) ∙ mod-eq_of_lt l)
 powers_of_last n (suc k) l =
     let s = ap (λ v. v % n) (pow-suc (n - 1) k) in
@@ -78,14 +79,22 @@ signed_distance n v p =
 
 -- ---- the product over the half system
 signed_product : (n a k : ℕ) → 0 < n
-    → product_to (λ x. a * x) k % n ≡ ((n - 1) ^ sum_to (λ x. above n (a * x)) k * product_to (λ x. distance n (a * x)) k) % n
+    → product_to (λ x. a * x) k % n
+    ≡ ((n - 1) ^ sum_to (λ x. above n (a * x)) k * product_to (λ x. distance n (a * x)) k) % n
 signed_product n a zero p =
-    rw (product_to-zero (λ x. a * x), sum_to-zero (λ x. above n (a * x)), product_to-zero (λ x. distance n (a * x)), pow-zero (n - 1))
+    rw (
+      product_to-zero (λ x. a * x),
+      sum_to-zero (λ x. above n (a * x)),
+      product_to-zero (λ x. distance n (a * x)),
+      pow-zero (n - 1),
+    )
 signed_product n a (suc k) p =
     let v : ℕ = a * suc k in
     let s : ℕ = sum_to (λ x. above n (a * x)) k in
     let d : ℕ = product_to (λ x. distance n (a * x)) k in
-    let t : (n - 1) ^ s * d * ((n - 1) ^ above n v * distance n v) ≡ (n - 1) ^ s * (n - 1) ^ above n v * (d * distance n v) = omega arith in
+    let u : ℕ = (n - 1) ^ s in
+    let w : ℕ = (n - 1) ^ above n v in
+    let t : u * d * (w * distance n v) ≡ u * w * (d * distance n v) = omega arith in
     rw (
       product_to-suc (λ x. a * x) k,
       sum_to-suc (λ x. above n (a * x)) k,
@@ -93,7 +102,7 @@ signed_product n a (suc k) p =
       pow-add (n - 1) s (above n v),
       ← t,
     )
-    (same_product n (product_to (λ x. a * x) k) ((n - 1) ^ s * d) v ((n - 1) ^ above n v * distance n v)
+    (same_product n (product_to (λ x. a * x) k) (u * d) v (w * distance n v)
     (signed_product n a k p) (signed_distance n v p))
 
 -- ---- numbers below a prime are coprime to it
@@ -114,7 +123,8 @@ factorial_coprime n zero u l =
     subst (λ v. Coprime v n) (sym (product_to-zero (λ x. x))) (below_coprime n 1 u (omega arith) u.above_one)
 factorial_coprime n (suc k) u l =
     subst (λ v. Coprime v n) (sym (product_to-suc (λ x. x) k))
-    (Coprime-product (product_to (λ x. x) k) (suc k) n (omega arith) (factorial_coprime n k u (omega arith)) (below_coprime n (suc k) u (omega arith) l))
+    (Coprime-product (product_to (λ x. x) k) (suc k) n (omega arith)
+    (factorial_coprime n k u (omega arith)) (below_coprime n (suc k) u (omega arith) l))
 
 -- a coprime factor cancels
 cancel_below : (n c u v : ℕ) → Coprime c n → u < n → v < n → (c * u) % n ≡ (c * v) % n → u ≡ v
@@ -149,13 +159,17 @@ zero_power : (k : ℕ) → 0 < k → 0 ^ k ≡ 0
 zero_power zero p = absurd (omega arith)
 zero_power (suc k) p = pow-suc 0 k ∙ omega arith
 
-class_zero : (n p : ℕ) → p ≡ 0 → cond (eqb p 0) (Some (pos 0)) (cond (eqb p 1) (Some (pos 1)) (cond (eqb p (n - 1)) (Some (negsuc 0)) None)) ≡ Some (pos 0)
+-- the class of p modulo n
+abbrev class_of : ℕ → ℕ → Option ℤ
+class_of n p = cond (eqb p 0) (Some (pos 0)) (cond (eqb p 1) (Some (pos 1)) (cond (eqb p (n - 1)) (Some (negsuc 0)) None))
+
+class_zero : (n p : ℕ) → p ≡ 0 → class_of n p ≡ Some (pos 0)
 class_zero n p e = grind (arith, nat_tests)
 
-class_one : (n p : ℕ) → p ≡ 1 → cond (eqb p 0) (Some (pos 0)) (cond (eqb p 1) (Some (pos 1)) (cond (eqb p (n - 1)) (Some (negsuc 0)) None)) ≡ Some (pos 1)
+class_one : (n p : ℕ) → p ≡ 1 → class_of n p ≡ Some (pos 1)
 class_one n p e = grind (arith, nat_tests)
 
-class_last : (n p : ℕ) → 2 < n → p ≡ n - 1 → cond (eqb p 0) (Some (pos 0)) (cond (eqb p 1) (Some (pos 1)) (cond (eqb p (n - 1)) (Some (negsuc 0)) None)) ≡ Some (negsuc 0)
+class_last : (n p : ℕ) → 2 < n → p ≡ n - 1 → class_of n p ≡ Some (negsuc 0)
 class_last n p h e = grind (arith, nat_tests)
 
 -- over an odd prime the class of the power is the symbol

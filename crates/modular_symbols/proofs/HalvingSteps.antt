@@ -1,5 +1,5 @@
 -- What the loop that halves and swaps keeps: the symbol, up to a sign.
-use Rattle.std.proofs.Common.{◌≡◌, ◌≢◌, ℕ, zero, suc, ◌+◌, ◌-◌, ◌*◌, ◌/◌, ◌%◌, ◌^◌, ◌<◌, ◌≤◌, Bool, true, false, cond, eqb, ◌&&◌, ◌||◌, ℤ, pos, negsuc, ◌*ℤ◌, neg_ℤ, sym, ◌∙◌, ap, refl, arith, ⊎_elim, inl, inr, ◌⊎◌, subst}
+use Rattle.std.proofs.Common.{◌≡◌, ◌≢◌, ℕ, zero, suc, ◌+◌, ◌*◌, ◌/◌, ◌%◌, ◌^◌, ◌<◌, ◌≤◌, Bool, true, false, cond, eqb, ◌&&◌, ℤ, pos, ◌*ℤ◌, sym, ◌∙◌, ap, refl, arith, ⊎_elim, inl, inr, ◌⊎◌, subst}
 use Rattle.std.proofs.lemmas.Bool.Decides.{nat_tests}
 use Rattle.std.proofs.lemmas.Bool.{cases_eq, eq-eqb, ne_eqb}
 use Rattle.std.proofs.Math.IntN.{neg_ℤ-neg_ℤ}
@@ -40,7 +40,11 @@ eighth n o =
     (λ (p : n % 8 ≡ 3 → ⊥).
     ⊎_elim
     (λ (e : n % 8 ≡ 5). inl (inr e))
-    (λ (q : n % 8 ≡ 5 → ⊥). ⊎_elim (λ (e : n % 8 ≡ 1). inr (inl e)) (λ (r : n % 8 ≡ 1 → ⊥). inr (inr (omega arith))) (cases_eq (n % 8) 1))
+    (λ (q : n % 8 ≡ 5 → ⊥).
+    ⊎_elim
+    (λ (e : n % 8 ≡ 1). inr (inl e))
+    (λ (r : n % 8 ≡ 1 → ⊥). inr (inr (omega arith)))
+    (cases_eq (n % 8) 1))
     (cases_eq (n % 8) 5))
     (cases_eq (n % 8) 3)
 

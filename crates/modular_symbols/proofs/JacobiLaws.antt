@@ -187,8 +187,13 @@ jacobi-two n o = let k = jacobi-two_kept n o in let t = jacobi-two_turned n o in
 product_parity : (i j : ℕ) → (i * j) % 2 ≡ (i % 2) * (j % 2)
 product_parity i j =
     ⊎_elim
-    (λ (p : i % 2 ≡ 0). let q = ap (λ v. v * (j % 2)) p in let z = zero-mod 2 in mul-mod i j 2 ∙ ap (λ v. (v * (j % 2)) % 2) p ∙ omega arith)
-    (λ (p : i % 2 ≡ 1). let q = ap (λ v. v * (j % 2)) p in mul-mod i j 2 ∙ ap (λ v. (v * (j % 2)) % 2) p ∙ omega arith)
+    (λ (p : i % 2 ≡ 0).
+    let q = ap (λ v. v * (j % 2)) p in
+    let z = zero-mod 2 in
+    mul-mod i j 2 ∙ ap (λ v. (v * (j % 2)) % 2) p ∙ omega arith)
+    (λ (p : i % 2 ≡ 1).
+    let q = ap (λ v. v * (j % 2)) p in
+    mul-mod i j 2 ∙ ap (λ v. (v * (j % 2)) % 2) p ∙ omega arith)
     (parities i)
 
 -- the number of pairs is odd exactly where both numbers leave 3 modulo 4

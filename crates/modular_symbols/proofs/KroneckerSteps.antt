@@ -1,14 +1,12 @@
 -- The Kronecker symbol by the parts of the two numbers: their signs, the power of two, the odd part.
-use Rattle.std.proofs.Common.{◌≡◌, ◌≢◌, ℕ, zero, suc, ◌+◌, ◌*◌, ◌/◌, ◌%◌, ◌^◌, ◌<◌, ◌≤◌, Bool, true, false, IsTrue, if◌then◌else◌, ◌==◌, eqb, ◌&&◌, ◌||◌, ℤ, pos, negsuc, ◌*ℤ◌, neg_ℤ, nat_abs, int_lt, sym, ◌∙◌, ap, refl, arith, ◌⊎◌, ⊎_elim}
+use Rattle.std.proofs.Common.{◌≡◌, ◌≢◌, ℕ, zero, suc, ◌/◌, ◌%◌, ◌^◌, ◌<◌, ◌≤◌, Bool, true, false, IsTrue, if◌then◌else◌, ◌==◌, eqb, ◌&&◌, ◌||◌, ℤ, pos, negsuc, ◌*ℤ◌, nat_abs, int_lt, sym, ◌∙◌, ap, refl, arith}
 use Rattle.std.specs.Int.{int_pow}
 use Rattle.std.proofs.lemmas.Bool.Decides.{nat_tests}
 use Rattle.std.specs.Int.Count.{count_trailing_zeros}
-use Rattle.std.proofs.lemmas.Int.{ints}
 use Rattle.std.proofs.Math.Nat.{div-one, pow-zero, pow-suc}
-use Rattle.modular_word.specs.Residues.{residue}
 use Rattle.modular_word.proofs.Powers.{one-pow}
-use Rattle.modular_symbols.specs.Jacobi.{jacobi, sign, half_system_count}
-use Rattle.modular_symbols.specs.Kronecker.{signed, twos, over_two, kronecker_above, kronecker}
+use Rattle.modular_symbols.specs.Jacobi.{jacobi}
+use Rattle.modular_symbols.specs.Kronecker.{signed, over_two, kronecker_above, kronecker}
 use Rattle.modular_symbols.proofs.CountSteps.{nat_abs-signed}
 use Rattle.modular_symbols.proofs.JacobiLaws.{one_times, minus_one_times, zero_times}
 use Rattle.modular_symbols.proofs.TwoPart.{SplitAt, split_odd, split_at, twos-is}

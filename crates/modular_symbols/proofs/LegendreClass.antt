@@ -1,5 +1,5 @@
 -- The class of the power over an odd prime.
-use Rattle.std.proofs.Common.{◌≡◌, ℤ, pos, negsuc, ◌<◌, nat_abs, Some, ◌∙◌, arith}
+use Rattle.std.proofs.Common.{◌≡◌, ℤ, pos, negsuc, nat_abs, Some, ◌∙◌, arith}
 use Rattle.std.proofs.lemmas.Bool.{cond-false, ne_eqb}
 use Rattle.modular_symbols.specs.Jacobi.{jacobi}
 use Rattle.modular_symbols.specs.Legendre.{checked_legendre_of}

@@ -47,7 +47,8 @@ product_to-constant a (suc h) = ap (λ v. v * a) (product_to-constant a h) ∙ s
 product_to-power : (g : ℕ) (f : ℕ → ℕ) (h : ℕ) → product_to (λ x. g ^ f x) h ≡ g ^ sum_to f h
 unfolding product_to sum_to
 product_to-power g f zero = sym (pow-zero g)
-product_to-power g f (suc h) = ap (λ v. v * g ^ f (suc h)) (product_to-power g f h) ∙ sym (pow-add g (sum_to f h) (f (suc h)))
+product_to-power g f (suc h) =
+    ap (λ v. v * g ^ f (suc h)) (product_to-power g f h) ∙ sym (pow-add g (sum_to f h) (f (suc h)))
 
 -- the order of two products is free
 product_to-swap : (f : ℕ → ℕ → ℕ) (h k : ℕ)
@@ -59,7 +60,8 @@ product_to-swap f (suc h) k =
     ∙ sym (product_to-times (λ y. product_to (λ x. f x y) h) (λ y. f (suc h) y) k)
 
 -- one factor of a product stands alone
-product_to-only : (f : ℕ → ℕ) (h z : ℕ) → 0 < z → z ≤ h → ((x : ℕ) → 0 < x → x ≤ h → x ≢ z → f x ≡ 1) → product_to f h ≡ f z
+product_to-only : (f : ℕ → ℕ) (h z : ℕ) → 0 < z → z ≤ h → ((x : ℕ) → 0 < x → x ≤ h → x ≢ z → f x ≡ 1)
+    → product_to f h ≡ f z
 unfolding product_to
 product_to-only f zero z p q e = absurd (omega arith)
 product_to-only f (suc h) z p q e =

@@ -1,6 +1,5 @@
 -- The count one number on, and the symbol at its end.
-use Rattle.std.proofs.Common.{◌≡◌, ◌≢◌, ◌+◌, ◌*◌, ◌/◌, ◌%◌, ◌<◌, ◌≤◌, cond, pos, negsuc, sym, ap, ◌∙◌, arith}
-use Rattle.modular_word.specs.Residues.{residue}
+use Rattle.std.proofs.Common.{◌<◌, ◌≤◌, cond, pos, negsuc, sym, ap, ◌∙◌, arith}
 use Rattle.modular_symbols.specs.Kronecker.{signed}
 use Rattle.modular_symbols.proofs.CountSteps.{Next, counted_none, counted_high, counted_low, counted_all, shared_divisor, no_inverse, with_inverse}
 use Rattle.modular_symbols.proofs.count.jacobi_by_count.Goals as goal

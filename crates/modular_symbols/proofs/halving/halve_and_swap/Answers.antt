@@ -1,8 +1,8 @@
 -- Each turn of the loop keeps the symbol up to its sign.
-use Rattle.std.proofs.Common.{rules, arith, ◌≡◌, ◌≢◌, ◌∙◌, ◌*◌, ◌^◌, ◌%◌, IsTrue, ℕ, ℤ, pos, true, false, sym, ap}
+use Rattle.std.proofs.Common.{rules, arith, ◌≡◌, ◌≢◌, ◌∙◌, IsTrue, ℤ, pos, sym, ap}
 use Rattle.modular_symbols.specs.Jacobi.{jacobi}
 use Rattle.modular_symbols.specs.Kronecker.{signed}
-use Rattle.modular_symbols.proofs.HalvingSteps.{Halved, halved, smaller, kept_start, kept_swapped, kept_one, kept_none}
+use Rattle.modular_symbols.proofs.HalvingSteps.{halved, smaller, kept_start, kept_swapped, kept_one, kept_none}
 use Rattle.modular_symbols.proofs.halving.halve_and_swap.Goals as goal
 
 pub swaps-init : goal.swaps-init

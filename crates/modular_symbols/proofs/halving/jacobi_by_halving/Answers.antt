@@ -1,5 +1,5 @@
 -- The residue has the symbol of the number.
-use Rattle.std.proofs.Common.{rules, arith, ◌∙◌, ◌<◌, ap, sym, pos}
+use Rattle.std.proofs.Common.{rules, arith, ◌∙◌, ap, sym, pos}
 use Rattle.std.proofs.lemmas.Int.{to_z-of_z}
 use Rattle.std.specs.Int.{w8}
 use mir.Val.{SFits}

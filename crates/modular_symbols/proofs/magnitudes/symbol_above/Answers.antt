@@ -4,7 +4,7 @@ use Rattle.std.proofs.lemmas.Int.{to_z-of_z}
 use Rattle.std.specs.Int.{w8}
 use mir.Val.{SFits}
 use Rattle.modular_symbols.specs.Jacobi.{jacobi}
-use Rattle.modular_symbols.specs.Kronecker.{signed, kronecker_above}
+use Rattle.modular_symbols.specs.Kronecker.{signed}
 use Rattle.modular_symbols.proofs.KroneckerSteps.{jacobi-small, above-odd, above-both_even, above-twos, leaves_3_or_5, times_two, times_four}
 use Rattle.modular_symbols.proofs.TwoPart.{SplitAt, split_at}
 use Rattle.modular_symbols.proofs.magnitudes.symbol_above.Goals as goal
