@@ -4,3 +4,4 @@
 pub mod fold_word;
 pub mod folds;
 pub mod mersenne;
+pub mod solinas;

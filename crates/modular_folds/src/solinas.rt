@@ -1,0 +1,302 @@
+//! The reducers of the moduli 2^P1 - 2^P2 + K.
+
+ghost use Rattle.std.specs.Prelude.{◌≡◌, ℕ, ℤ, ◌+◌, ◌*◌, ◌%◌, ◌^◌, ◌<◌, ◌≤◌, ◌↔◌, IsTrue, ⊤};
+ghost use Rattle.std.proofs.Common.{lit≤, refl};
+ghost use Rattle.modular_reduced.specs.Plain.{plain_form, plain_value};
+ghost use Rattle.modular_folds.specs.Folds.{IsFolding};
+ghost use Rattle.modular_folds.specs.Solinas.{IsTrinomialRange, IsTrinomial, IsLowTrinomial, trinomial};
+ghost use Rattle.modular_folds.specs.SolinasLaws.{trinomial_canonical};
+
+use crate::folds::reduce_by_folds;
+use modular_prim::below::{add_below, dbl_below, neg_below, sub_below};
+use modular_prim::euclid::invm;
+use modular_prim::plain_word::PlainWord;
+use modular_reduced::reducer::Reducer;
+use modular_word::path_word::PathWord;
+use modular_word::ring_word::RingWord;
+use std::alloc::AllocError;
+use std::marker::PhantomData;
+
+// What a fold multiplies by: 2^p2 - k.
+fn factor_of(p1: u8, p2: u8, k: i64) -> u64
+    requires { IsTrinomialRange 64 p1 p2 k }
+    ensures { result + trinomial p1 p2 k ≡ 2 ^ p1 }
+{
+    ((1u64 << p2) as i128 - k as i128) as u64
+}
+
+fn modulus_of(p1: u8, p2: u8, k: i64) -> u64
+    requires { IsTrinomialRange 64 p1 p2 k }
+    ensures { result ≡ trinomial p1 p2 k }
+{
+    ((1u128 << p1) - factor_of(p1, p2, k) as u128) as u64
+}
+
+// Whether folds could take very many turns.
+fn is_low(p1: u8, p2: u8, k: i64) -> bool
+    requires { IsTrinomialRange 64 p1 p2 k }
+    ensures { IsTrue result ↔ IsLowTrinomial p1 p2 k }
+{
+    p1 == p2 + 1 && k < 0
+}
+
+/// The parameters of a modulus 2^p1 - 2^p2 + k, as a type.
+pub trait TrinomialParameters {
+    ghost p1: { ℕ };
+
+    ghost p2: { ℕ };
+
+    ghost k: { ℤ };
+
+    /// The greater exponent.
+    fn p1() -> u8
+        ensures { result ≡ p1 };
+
+    /// The lower exponent.
+    fn p2() -> u8
+        ensures { result ≡ p2 };
+
+    /// The last term.
+    fn k() -> i64
+        ensures { result ≡ k };
+}
+
+/// The parameters of a modulus of at most 32 bits.
+#[derive(Debug, Clone, Copy)]
+pub struct Parameters32<const P1: u8, const P2: u8, const K: i32> {}
+
+impl<const P1: u8, const P2: u8, const K: i32> TrinomialParameters for Parameters32<P1, P2, K> {
+    ghost p1 = { P1 };
+
+    ghost p2 = { P2 };
+
+    ghost k = { K };
+
+    fn p1() -> u8 {
+        P1
+    }
+
+    fn p2() -> u8 {
+        P2
+    }
+
+    fn k() -> i64 {
+        K as i64
+    }
+}
+
+/// The parameters of a modulus of at most 64 bits.
+#[derive(Debug, Clone, Copy)]
+pub struct Parameters64<const P1: u8, const P2: u8, const K: i64> {}
+
+impl<const P1: u8, const P2: u8, const K: i64> TrinomialParameters for Parameters64<P1, P2, K> {
+    ghost p1 = { P1 };
+
+    ghost p2 = { P2 };
+
+    ghost k = { K };
+
+    fn p1() -> u8 {
+        P1
+    }
+
+    fn p2() -> u8 {
+        P2
+    }
+
+    fn k() -> i64 {
+        K
+    }
+}
+
+/// A word that folds modulo a trinomial, and whose double word does: u32 and u64.
+pub trait TrinomialWord: PlainWord {
+    /// The word of a number. Condition: it fits.
+    fn word_of(n: u64) -> Self
+        requires { n < Self.base }
+        ensures { Self.number result ≡ n };
+
+    /// A word modulo m, by folds at the bit p by c.
+    fn fold_single(v: Self, p: u32, c: Self, m: Self) -> Self
+        requires { IsFolding Self.width p (Self.number c) (Self.number m) }
+        ensures { Self.number result ≡ Self.number v % Self.number m };
+
+    /// A double word modulo m, by folds at the bit p by c.
+    fn fold_double(v: Self::Double, p: u32, c: Self, m: Self) -> Self
+        requires { IsFolding Self.width p (Self.number c) (Self.number m) }
+        ensures { Self.number result ≡ Self.whole v % Self.number m };
+
+    // A word has 64 bits at most.
+    ghost narrow: { Self.width ≤ 64 };
+}
+
+impl TrinomialWord for u32 {
+    fn word_of(n: u64) -> u32 {
+        n as u32
+    }
+
+    fn fold_single(v: u32, p: u32, c: u32, m: u32) -> u32 {
+        Self::fold_double(v as u64, p, c, m)
+    }
+
+    fn fold_double(v: u64, p: u32, c: u32, m: u32) -> u32 {
+        reduce_by_folds(v, p, c as u64, m as u64) as u32
+    }
+
+    ghost narrow = { lit≤ tt };
+}
+
+impl TrinomialWord for u64 {
+    fn word_of(n: u64) -> u64 {
+        n
+    }
+
+    fn fold_single(v: u64, p: u32, c: u64, m: u64) -> u64 {
+        reduce_by_folds(v, p, c, m)
+    }
+
+    fn fold_double(v: u128, p: u32, c: u64, m: u64) -> u64 {
+        reduce_by_folds(v, p, c as u128, m as u128) as u64
+    }
+
+    ghost narrow = { lit≤ tt };
+}
+
+/// The reducer of a modulus 2^p1 - 2^p2 + k: the form of a value is the value itself.
+#[derive(Debug)]
+pub struct TrinomialSolinas<T: TrinomialWord, F: TrinomialParameters> {
+    word: PhantomData<T>,
+    parameters: PhantomData<F>,
+    ghost range: { IsTrinomialRange T.width F.p1 F.p2 F.k },
+}
+
+impl<T: TrinomialWord, F: TrinomialParameters> Clone for TrinomialSolinas<T, F> {
+    ghost is_clone = { λ x y. y ≡ x };
+
+    ghost is_infallible = { λ _. ⊤ };
+
+    fn clone(&self) -> Result<Self, AllocError> {
+        Ok(*self)
+    }
+}
+
+impl<T: TrinomialWord, F: TrinomialParameters> Copy for TrinomialSolinas<T, F> {}
+
+pub type FixedTrinomialSolinas32<const P1: u8, const P2: u8, const K: i32> =
+    TrinomialSolinas<u32, Parameters32<P1, P2, K>>;
+
+pub type FixedTrinomialSolinas64<const P1: u8, const P2: u8, const K: i64> =
+    TrinomialSolinas<u64, Parameters64<P1, P2, K>>;
+
+impl<T: TrinomialWord, F: TrinomialParameters> TrinomialSolinas<T, F> {
+    // What a fold multiplies by.
+    fn factor() -> T
+        requires { IsTrinomialRange T.width F.p1 F.p2 F.k }
+        ensures { T.number result + trinomial F.p1 F.p2 F.k ≡ 2 ^ F.p1 }
+    {
+        T::word_of(factor_of(F::p1(), F::p2(), F::k()))
+    }
+
+    /// The modulus. Condition: the parameters are in range.
+    pub fn fixed_modulus() -> T
+        requires { IsTrinomialRange T.width F.p1 F.p2 F.k }
+        ensures { T.number result ≡ trinomial F.p1 F.p2 F.k }
+    {
+        T::word_of(modulus_of(F::p1(), F::p2(), F::k()))
+    }
+
+    /// The residue of a word. Condition: the parameters are in range.
+    pub fn reduce_single(v: T) -> T
+        requires { IsTrinomialRange T.width F.p1 F.p2 F.k }
+        ensures { T.number result ≡ T.number v % trinomial F.p1 F.p2 F.k }
+    {
+        let modulus = Self::fixed_modulus();
+        if is_low(F::p1(), F::p2(), F::k()) {
+            v.remainder(modulus)
+        } else {
+            T::fold_single(v, F::p1() as u32, Self::factor(), modulus)
+        }
+    }
+
+    /// The residue of a double word. Condition: the parameters are in range.
+    pub fn reduce_double(v: T::Double) -> T
+        requires { IsTrinomialRange T.width F.p1 F.p2 F.k }
+        ensures { T.number result ≡ T.whole v % trinomial F.p1 F.p2 F.k }
+    {
+        let modulus = Self::fixed_modulus();
+        if is_low(F::p1(), F::p2(), F::k()) {
+            T::narrow_remainder(v, modulus)
+        } else {
+            T::fold_double(v, F::p1() as u32, Self::factor(), modulus)
+        }
+    }
+}
+
+impl<T: TrinomialWord, F: TrinomialParameters> Reducer<T> for TrinomialSolinas<T, F> {
+    ghost admits = { IsTrinomial T.width F.p1 F.p2 F.k };
+
+    ghost form = { plain_form };
+
+    ghost value = { plain_value };
+
+    ghost modulus = { λ r. trinomial F.p1 F.p2 F.k };
+
+    ghost admitted = { λ r. record { range = r.range; same = refl } };
+
+    ghost canonical = { λ r. trinomial_canonical r.range };
+
+    fn new(_m: &T) -> Self {
+        TrinomialSolinas {
+            word: PhantomData,
+            parameters: PhantomData,
+        }
+    }
+
+    fn transform(&self, n: T) -> T {
+        Self::reduce_single(n)
+    }
+
+    fn check(&self, f: &T) -> bool {
+        f.is_below(Self::fixed_modulus())
+    }
+
+    fn modulus(&self) -> T {
+        Self::fixed_modulus()
+    }
+
+    fn residue(&self, f: T) -> T {
+        f
+    }
+
+    fn is_zero(&self, f: &T) -> bool {
+        f.is_zero_word()
+    }
+
+    fn add(&self, a: &T, b: &T) -> T {
+        add_below(*a, *b, Self::fixed_modulus())
+    }
+
+    fn dbl(&self, f: T) -> T {
+        dbl_below(f, Self::fixed_modulus())
+    }
+
+    fn sub(&self, a: &T, b: &T) -> T {
+        sub_below(*a, *b, Self::fixed_modulus())
+    }
+
+    fn neg(&self, f: T) -> T {
+        neg_below(f, Self::fixed_modulus())
+    }
+
+    fn mul(&self, a: &T, b: &T) -> T {
+        Self::reduce_double(a.product(*b))
+    }
+
+    fn inv(&self, f: T) -> Option<T> {
+        invm(f, Self::fixed_modulus())
+    }
+
+    fn sqr(&self, f: T) -> T {
+        Self::reduce_double(f.product(f))
+    }
+}
