@@ -19,6 +19,6 @@ pub record IsTrinomial (w p1 p2 : ℕ) (k : ℤ) (m : ℕ) : Type 0 where
   pub range : IsTrinomialRange w p1 p2 k
   pub same : m ≡ trinomial p1 p2 k
 
--- the modulus may be half of 2^p1 or less, so that folds may leave many times the modulus
+-- the modulus is less than half of 2^p1, so that folds may leave many times the modulus
 abbrev pub IsLowTrinomial : ℕ → ℕ → ℤ → Type 0
 IsLowTrinomial p1 p2 k = (p1 ≡ p2 + 1) × (k <ℤ pos 0)

@@ -1,6 +1,6 @@
 //! The reducers of the moduli 2^P1 - 2^P2 + K.
 
-ghost use Rattle.std.specs.Prelude.{◌≡◌, ℕ, ℤ, ◌+◌, ◌*◌, ◌%◌, ◌^◌, ◌<◌, ◌≤◌, ◌↔◌, IsTrue, ⊤};
+ghost use Rattle.std.specs.Prelude.{◌≡◌, ℕ, ℤ, ◌+◌, ◌%◌, ◌^◌, ◌<◌, ◌≤◌, ◌↔◌, IsTrue, pos, ◌+ℤ◌, ◌-ℤ◌, ⊤};
 ghost use Rattle.std.proofs.Common.{lit≤, refl};
 ghost use Rattle.modular_reduced.specs.Plain.{plain_form, plain_value};
 ghost use Rattle.modular_folds.specs.Folds.{IsFolding};
@@ -17,31 +17,9 @@ use modular_word::ring_word::RingWord;
 use std::alloc::AllocError;
 use std::marker::PhantomData;
 
-// What a fold multiplies by: 2^p2 - k.
-fn factor_of(p1: u8, p2: u8, k: i64) -> u64
-    requires { IsTrinomialRange 64 p1 p2 k }
-    ensures { result + trinomial p1 p2 k ≡ 2 ^ p1 }
-{
-    ((1u64 << p2) as i128 - k as i128) as u64
-}
-
-fn modulus_of(p1: u8, p2: u8, k: i64) -> u64
-    requires { IsTrinomialRange 64 p1 p2 k }
-    ensures { result ≡ trinomial p1 p2 k }
-{
-    ((1u128 << p1) - factor_of(p1, p2, k) as u128) as u64
-}
-
-// Whether folds could take very many turns.
-fn is_low(p1: u8, p2: u8, k: i64) -> bool
-    requires { IsTrinomialRange 64 p1 p2 k }
-    ensures { IsTrue result ↔ IsLowTrinomial p1 p2 k }
-{
-    p1 == p2 + 1 && k < 0
-}
-
-/// The parameters of a modulus 2^p1 - 2^p2 + k, as a type.
-pub trait TrinomialParameters {
+/// The trinomial 2^p1 - 2^p2 + k, as a type: so a type with an invariant can speak of a signed
+/// constant, and the code has the three numbers as constants.
+pub trait Trinomial {
     ghost p1: { ℕ };
 
     ghost p2: { ℕ };
@@ -61,11 +39,11 @@ pub trait TrinomialParameters {
         ensures { result ≡ k };
 }
 
-/// The parameters of a modulus of at most 32 bits.
+/// The trinomial 2^P1 - 2^P2 + K, for words of 32 bits.
 #[derive(Debug, Clone, Copy)]
-pub struct Parameters32<const P1: u8, const P2: u8, const K: i32> {}
+pub struct Trinomial32<const P1: u8, const P2: u8, const K: i32> {}
 
-impl<const P1: u8, const P2: u8, const K: i32> TrinomialParameters for Parameters32<P1, P2, K> {
+impl<const P1: u8, const P2: u8, const K: i32> Trinomial for Trinomial32<P1, P2, K> {
     ghost p1 = { P1 };
 
     ghost p2 = { P2 };
@@ -85,11 +63,11 @@ impl<const P1: u8, const P2: u8, const K: i32> TrinomialParameters for Parameter
     }
 }
 
-/// The parameters of a modulus of at most 64 bits.
+/// The trinomial 2^P1 - 2^P2 + K, for words of 64 bits.
 #[derive(Debug, Clone, Copy)]
-pub struct Parameters64<const P1: u8, const P2: u8, const K: i64> {}
+pub struct Trinomial64<const P1: u8, const P2: u8, const K: i64> {}
 
-impl<const P1: u8, const P2: u8, const K: i64> TrinomialParameters for Parameters64<P1, P2, K> {
+impl<const P1: u8, const P2: u8, const K: i64> Trinomial for Trinomial64<P1, P2, K> {
     ghost p1 = { P1 };
 
     ghost p2 = { P2 };
@@ -109,19 +87,43 @@ impl<const P1: u8, const P2: u8, const K: i64> TrinomialParameters for Parameter
     }
 }
 
-/// A word that folds modulo a trinomial, and whose double word does: u32 and u64.
+// What a fold at the bit p1 multiplies by: 2^p2 - k.
+fn factor_of(p1: u8, p2: u8, k: i64) -> u64
+    requires { IsTrinomialRange 64 p1 p2 k }
+    ensures { result + trinomial p1 p2 k ≡ 2 ^ p1 }
+{
+    ((1u64 << p2) as i128 - k as i128) as u64
+}
+
+fn modulus_of(p1: u8, p2: u8, k: i64) -> u64
+    requires { IsTrinomialRange 64 p1 p2 k }
+    ensures { result ≡ trinomial p1 p2 k }
+{
+    ((1u128 << p1) - factor_of(p1, p2, k) as u128) as u64
+}
+
+// Whether the modulus is less than half of 2^p1: folds could take very many turns then, and leave
+// many times the modulus.
+fn is_low(p1: u8, p2: u8, k: i64) -> bool
+    requires { IsTrinomialRange 64 p1 p2 k }
+    ensures { IsTrue result ↔ IsLowTrinomial p1 p2 k }
+{
+    p1 == p2 + 1 && k < 0
+}
+
+/// A word whose trinomial reducers exist: u32 and u64.
 pub trait TrinomialWord: PlainWord {
     /// The word of a number. Condition: it fits.
     fn word_of(n: u64) -> Self
         requires { n < Self.base }
         ensures { Self.number result ≡ n };
 
-    /// A word modulo m, by folds at the bit p by c.
+    /// A word modulo m, by folds at the bit p by c. Condition: they reduce modulo m.
     fn fold_single(v: Self, p: u32, c: Self, m: Self) -> Self
         requires { IsFolding Self.width p (Self.number c) (Self.number m) }
         ensures { Self.number result ≡ Self.number v % Self.number m };
 
-    /// A double word modulo m, by folds at the bit p by c.
+    /// A double word modulo m, by folds at the bit p by c. Condition: they reduce modulo m.
     fn fold_double(v: Self::Double, p: u32, c: Self, m: Self) -> Self
         requires { IsFolding Self.width p (Self.number c) (Self.number m) }
         ensures { Self.number result ≡ Self.whole v % Self.number m };
@@ -162,15 +164,35 @@ impl TrinomialWord for u64 {
     ghost narrow = { lit≤ tt };
 }
 
-/// The reducer of a modulus 2^p1 - 2^p2 + k: the form of a value is the value itself.
+/// The reducer of the modulus m = 2^p1 - 2^p2 + k of the trinomial F, over words T: the form of a
+/// value is the value itself. It keeps no number.
+///
+/// The parameters are in range where p1 is the width of T at most, p2 is from 1 to p1 - 1, and k is
+/// odd and less than 2^p2 either way. A product is reduced by folds with no division, but where
+/// p1 = p2 + 1 and k is negative: m is less than half of 2^p1 then, and what is left by m is taken
+/// by the primitive remainder. `inv` divides by Euclid's algorithm.
+///
+/// Source: Solinas, "Generalized Mersenne numbers" (1999).
 #[derive(Debug)]
-pub struct TrinomialSolinas<T: TrinomialWord, F: TrinomialParameters> {
+pub struct TrinomialSolinas<T: TrinomialWord, F: Trinomial> {
     word: PhantomData<T>,
-    parameters: PhantomData<F>,
+    of: PhantomData<F>,
     ghost range: { IsTrinomialRange T.width F.p1 F.p2 F.k },
 }
 
-impl<T: TrinomialWord, F: TrinomialParameters> Clone for TrinomialSolinas<T, F> {
+/// The reducer of the modulus 2^P1 - 2^P2 + K of at most 32 bits.
+pub type FixedTrinomialSolinas32<const P1: u8, const P2: u8, const K: i32> = TrinomialSolinas<
+    u32,
+    Trinomial32<P1, P2, K>,
+>;
+
+/// The reducer of the modulus 2^P1 - 2^P2 + K of at most 64 bits.
+pub type FixedTrinomialSolinas64<const P1: u8, const P2: u8, const K: i64> = TrinomialSolinas<
+    u64,
+    Trinomial64<P1, P2, K>,
+>;
+
+impl<T: TrinomialWord, F: Trinomial> Clone for TrinomialSolinas<T, F> {
     ghost is_clone = { λ x y. y ≡ x };
 
     ghost is_infallible = { λ _. ⊤ };
@@ -180,16 +202,10 @@ impl<T: TrinomialWord, F: TrinomialParameters> Clone for TrinomialSolinas<T, F> 
     }
 }
 
-impl<T: TrinomialWord, F: TrinomialParameters> Copy for TrinomialSolinas<T, F> {}
+impl<T: TrinomialWord, F: Trinomial> Copy for TrinomialSolinas<T, F> {}
 
-pub type FixedTrinomialSolinas32<const P1: u8, const P2: u8, const K: i32> =
-    TrinomialSolinas<u32, Parameters32<P1, P2, K>>;
-
-pub type FixedTrinomialSolinas64<const P1: u8, const P2: u8, const K: i64> =
-    TrinomialSolinas<u64, Parameters64<P1, P2, K>>;
-
-impl<T: TrinomialWord, F: TrinomialParameters> TrinomialSolinas<T, F> {
-    // What a fold multiplies by.
+impl<T: TrinomialWord, F: Trinomial> TrinomialSolinas<T, F> {
+    // What a fold at the bit p1 multiplies by.
     fn factor() -> T
         requires { IsTrinomialRange T.width F.p1 F.p2 F.k }
         ensures { T.number result + trinomial F.p1 F.p2 F.k ≡ 2 ^ F.p1 }
@@ -200,7 +216,8 @@ impl<T: TrinomialWord, F: TrinomialParameters> TrinomialSolinas<T, F> {
     /// The modulus. Condition: the parameters are in range.
     pub fn fixed_modulus() -> T
         requires { IsTrinomialRange T.width F.p1 F.p2 F.k }
-        ensures { T.number result ≡ trinomial F.p1 F.p2 F.k }
+        ensures value { T.number result ≡ trinomial F.p1 F.p2 F.k }
+        ensures whole { pos (T.number result) ≡ (pos (2 ^ F.p1) -ℤ pos (2 ^ F.p2)) +ℤ F.k }
     {
         T::word_of(modulus_of(F::p1(), F::p2(), F::k()))
     }
@@ -232,7 +249,7 @@ impl<T: TrinomialWord, F: TrinomialParameters> TrinomialSolinas<T, F> {
     }
 }
 
-impl<T: TrinomialWord, F: TrinomialParameters> Reducer<T> for TrinomialSolinas<T, F> {
+impl<T: TrinomialWord, F: Trinomial> Reducer<T> for TrinomialSolinas<T, F> {
     ghost admits = { IsTrinomial T.width F.p1 F.p2 F.k };
 
     ghost form = { plain_form };
@@ -248,7 +265,7 @@ impl<T: TrinomialWord, F: TrinomialParameters> Reducer<T> for TrinomialSolinas<T
     fn new(_m: &T) -> Self {
         TrinomialSolinas {
             word: PhantomData,
-            parameters: PhantomData,
+            of: PhantomData,
         }
     }
 
@@ -300,3 +317,6 @@ impl<T: TrinomialWord, F: TrinomialParameters> Reducer<T> for TrinomialSolinas<T
         Self::reduce_double(f.product(f))
     }
 }
+
+#[cfg(test)]
+mod tests;

@@ -4,4 +4,4 @@ use Rattle.modular_folds.proofs.solinas.TrinomialSolinas.reduce_double.Goals as 
 
 pub fold_double-requires : goal.fold_double-requires
 fold_double-requires g c =
-    trinomial_folding _ _ _ c.requires (search rules) (search rules) c.factor.ensures c.fixed_modulus-modulus.ensures
+    trinomial_folding _ _ _ c.requires (search rules) (search rules) c.factor.ensures c.fixed_modulus-modulus.ensures.value

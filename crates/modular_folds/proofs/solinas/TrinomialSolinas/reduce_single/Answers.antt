@@ -4,4 +4,4 @@ use Rattle.modular_folds.proofs.solinas.TrinomialSolinas.reduce_single.Goals as 
 
 pub fold_single-requires : goal.fold_single-requires
 fold_single-requires g c =
-    trinomial_folding _ _ _ c.requires (search rules) (search rules) c.factor.ensures c.fixed_modulus-modulus.ensures
+    trinomial_folding _ _ _ c.requires (search rules) (search rules) c.factor.ensures c.fixed_modulus-modulus.ensures.value
