@@ -1,6 +1,6 @@
 //! The reducers of the moduli 2^P1 - 2^P2 + K.
 
-ghost use Rattle.std.specs.Prelude.{◌≡◌, ℕ, ℤ, ◌+◌, ◌%◌, ◌^◌, ◌<◌, ◌≤◌, ◌↔◌, IsTrue, pos, ◌+ℤ◌, ◌-ℤ◌, ⊤};
+ghost use Rattle.std.specs.Prelude.{◌≡◌, ℕ, ℤ, ◌+◌, ◌*◌, ◌/◌, ◌%◌, ◌^◌, ◌<◌, ◌≤◌, ◌↔◌, IsTrue, pos, ◌+ℤ◌, ◌-ℤ◌, ⊤};
 ghost use Rattle.std.proofs.Common.{lit≤, refl};
 ghost use Rattle.modular_reduced.specs.Plain.{plain_form, plain_value};
 ghost use Rattle.modular_folds.specs.Folds.{IsFolding};
@@ -247,6 +247,20 @@ impl<T: TrinomialWord, F: Trinomial> TrinomialSolinas<T, F> {
             T::fold_double(v, F::p1() as u32, Self::factor(), modulus)
         }
     }
+
+    // The product of words below m; one word holds it where p1 is half the width at most.
+    fn product_below(a: T, b: T) -> T
+        requires range { IsTrinomialRange T.width F.p1 F.p2 F.k }
+        requires left { T.number a < trinomial F.p1 F.p2 F.k }
+        requires right { T.number b < trinomial F.p1 F.p2 F.k }
+        ensures { T.number result ≡ (T.number a * T.number b) % trinomial F.p1 F.p2 F.k }
+    {
+        if F::p1() as u32 <= T::bits() / 2 {
+            Self::reduce_single(a.times(b))
+        } else {
+            Self::reduce_double(a.product(b))
+        }
+    }
 }
 
 impl<T: TrinomialWord, F: Trinomial> Reducer<T> for TrinomialSolinas<T, F> {
@@ -306,7 +320,7 @@ impl<T: TrinomialWord, F: Trinomial> Reducer<T> for TrinomialSolinas<T, F> {
     }
 
     fn mul(&self, a: &T, b: &T) -> T {
-        Self::reduce_double(a.product(*b))
+        Self::product_below(*a, *b)
     }
 
     fn inv(&self, f: T) -> Option<T> {
@@ -314,7 +328,7 @@ impl<T: TrinomialWord, F: Trinomial> Reducer<T> for TrinomialSolinas<T, F> {
     }
 
     fn sqr(&self, f: T) -> T {
-        Self::reduce_double(f.product(f))
+        Self::product_below(f, f)
     }
 }
 
