@@ -81,14 +81,6 @@ impl PathWord for u8 {
         first + second
     }
 
-    fn double_wrapping_add(first: u16, second: u16) -> u16 {
-        first.wrapping_add(second)
-    }
-
-    fn double_is_below(first: u16, second: u16) -> bool {
-        first < second
-    }
-
     ghost base_is = { refl };
 }
 
@@ -168,14 +160,6 @@ impl PathWord for u16 {
         first + second
     }
 
-    fn double_wrapping_add(first: u32, second: u32) -> u32 {
-        first.wrapping_add(second)
-    }
-
-    fn double_is_below(first: u32, second: u32) -> bool {
-        first < second
-    }
-
     ghost base_is = { refl };
 }
 
@@ -253,14 +237,6 @@ impl PathWord for u32 {
 
     fn double_plus(first: u64, second: u64) -> u64 {
         first + second
-    }
-
-    fn double_wrapping_add(first: u64, second: u64) -> u64 {
-        first.wrapping_add(second)
-    }
-
-    fn double_is_below(first: u64, second: u64) -> bool {
-        first < second
     }
 
     ghost base_is = { refl };
@@ -345,14 +321,6 @@ impl PathWord for u64 {
         first + second
     }
 
-    fn double_wrapping_add(first: u128, second: u128) -> u128 {
-        first.wrapping_add(second)
-    }
-
-    fn double_is_below(first: u128, second: u128) -> bool {
-        first < second
-    }
-
     ghost base_is = { refl };
 }
 
@@ -433,14 +401,6 @@ impl PathWord for usize {
 
     fn double_plus(first: u128, second: u128) -> u128 {
         first + second
-    }
-
-    fn double_wrapping_add(first: u128, second: u128) -> u128 {
-        first.wrapping_add(second)
-    }
-
-    fn double_is_below(first: u128, second: u128) -> bool {
-        first < second
     }
 
     ghost base_is = { refl };

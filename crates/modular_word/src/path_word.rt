@@ -113,16 +113,6 @@ pub trait PathWord: RingWord {
         requires { whole first + whole second < base * base }
         ensures { whole result ≡ whole first + whole second };
 
-    /// The sum of two double words modulo the square of the base.
-    fn double_wrapping_add(first: Self::Double, second: Self::Double) -> Self::Double
-        ensures { whole result ≡ (whole first + whole second) % (base * base) };
-
-    /// Whether a double word is below another.
-    fn double_is_below(first: Self::Double, second: Self::Double) -> bool
-        ensures below { IsTrue result ↔ (whole first < whole second) }
-        ensures fits { whole first < base * base }
-        ensures second_fits { whole second < base * base };
-
     // The base is 2 to the width.
     ghost base_is: { base ≡ 2 ^ Self.width };
 }
