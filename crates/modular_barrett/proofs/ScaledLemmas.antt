@@ -1,10 +1,11 @@
 -- Forms that are scaled: what the operations on forms, modulo the scaled modulus, are to the values.
-use Rattle.std.proofs.Common.{◌≡◌, ℕ, suc, ◌+◌, ◌-◌, ◌*◌, ◌/◌, ◌%◌, ◌^◌, ◌<◌, ◌≤◌, pos, ◌-ℤ◌, neg_ℤ, sym, ap, ◌∙◌, subst, arith, ⊎_elim}
-use Rattle.std.proofs.Math.Nat.{mod-lt, div-add-mod, mod-eq_of_lt, mul-le-mul_left, mul-le-mul_right, mul-lt-mul_of_pos_right, add-mul-mod_self_left, pow-succ'}
+use Rattle.std.proofs.Common.{◌≡◌, ℕ, ◌+◌, ◌-◌, ◌*◌, ◌/◌, ◌%◌, ◌^◌, ◌<◌, ◌≤◌, pos, ◌-ℤ◌, neg_ℤ, sym, ap, ◌∙◌, subst, arith, ⊎_elim}
+use Rattle.std.proofs.Math.Nat.{mod-lt, mod-eq_of_lt, mul-le-mul_left, mul-le-mul_right, mul-lt-mul_of_pos_right}
 use Rattle.std.proofs.lemmas.Bool.{cases_lt}
-use Rattle.std.proofs.lemmas.Nat.{leading_top, shl_below, shl-shr, pow_pos, pow-add, mod-mul-add, mul-lt}
+use Rattle.std.proofs.lemmas.Nat.{shl-shr, pow_pos, mul-lt}
 use Rattle.std.proofs.lemmas.Int.{ints}
 use Rattle.std.specs.Int.Count.{count_leading_zeros}
+use Rattle.modular_prim.proofs.Scaled.{remainder_of, scaled_remainder, scaled_to_top}
 use Rattle.modular_word.specs.Division.{IsDivision}
 use Rattle.modular_word.specs.Inverses.{IsInverse}
 use Rattle.modular_word.specs.Residues.{residue}
@@ -19,36 +20,6 @@ IsScaledForm w m f = IsForm (scaled_form w) (scaled_value w) m f
 -- modulo m the scaled form f stands for v
 abbrev pub Stands : ℕ → ℕ → ℕ → ℕ → Type 0
 Stands w m f v = Represents (scaled_form w) m f v
-
--- the scaled modulus has its top bit set, and is a word
-pub record IsNormalized (w b m s : ℕ) : Type 0 where
-  pub inside : s < w
-  pub fits : m * 2 ^ s < b
-  pub top : b ≤ 2 * (m * 2 ^ s)
-
-pub scaled_to_top : (w b m s : ℕ) → b ≡ 2 ^ w → 0 < m → m < b → s ≡ count_leading_zeros w m → IsNormalized w b m s
-scaled_to_top w b m s eb some below es =
-    let t = leading_top w m some (subst (λ n. m < n) eb below) in
-    let e : s + suc t.0 ≡ w = omega (arith, t.1) in
-    let whole : b ≡ 2 * (2 ^ t.0 * 2 ^ s) =
-    eb ∙ ap (λ n. 2 ^ n) (let u : w ≡ suc (t.0 + s) = omega arith in u)
-    ∙ pow-succ' 2 (t.0 + s) ∙ ap (λ n. 2 * n) (pow-add 2 t.0 s) in
-    let up : 2 ^ t.0 * 2 ^ s ≤ m * 2 ^ s = mul-le-mul_right (2 ^ s) t.2 in
-    let power : 2 ^ (suc t.0 + s) ≡ b = ap (λ n. 2 ^ n) (let u : suc t.0 + s ≡ w = omega arith in u) ∙ sym eb in
-    record {
-      inside = omega arith;
-      fits = subst (λ n. m * 2 ^ s < n) power (shl_below m (suc t.0) s t.3);
-      top = omega arith;
-    }
-
--- the remainder of scaled numbers is the scaled remainder
-pub scaled_remainder : (x m p : ℕ) → 0 < m → 0 < p → (x * p) % (m * p) ≡ x % m * p
-scaled_remainder x m p hm hp =
-    let f : m * (x / m) + x % m ≡ x = div-add-mod x m in
-    let g : (m * (x / m) + x % m) * p ≡ x * p = ap (λ n. n * p) f in
-    let e : x * p ≡ x % m * p + m * p * (x / m) = omega arith in
-    ap (λ n. n % (m * p)) e ∙ add-mul-mod_self_left (x % m * p) (m * p) (x / m)
-    ∙ mod-eq_of_lt (mul-lt-mul_of_pos_right (mod-lt x hm) hp)
 
 -- the divisor by the scale of the modulus
 pub divisor_is : {w m d s : ℕ} → IsScaling w m d s → d ≡ m * scale w m
@@ -73,10 +44,6 @@ form_below w m d f ed form =
 -- what a form stands for is its value
 pub value_is : (w m f v : ℕ) → Stands w m f v → v ≡ scaled_value w m f
 value_is w m f v h = sym (ap (λ n. n / scale w m) h.same ∙ shl-shr v (count_leading_zeros w m))
-
--- the remainder of a division
-remainder_of : (a d q r : ℕ) → IsDivision a d q r → r ≡ a % d
-remainder_of a d q r h = sym (ap (λ n. n % d) h.whole ∙ mod-mul-add q d r h.below)
 
 -- sums of forms
 pub sum_stands : (w m d a b r : ℕ) → 0 < m → d ≡ m * scale w m → IsScaledForm w m a → IsScaledForm w m b
@@ -153,7 +120,7 @@ product_stands w m d a x b whole q r positive ed stands fb ew division =
     let e : x * b ≡ x * (y * p) = ap (λ n. x * n) fb.same in
     let e' : whole ≡ (x * y) * p = omega arith in
     subst (λ v. Stands w m r ((v * y) % m)) (value_is w m a x stands)
-    (stands_for w m d (x * y) r positive ed (remainder_of whole d q r division ∙ ap (λ n. n % d) e'))
+    (stands_for w m d (x * y) r positive ed (remainder_of division ∙ ap (λ n. n % d) e'))
 
 -- it fits the division
 pub product_fits : (b m d s x y whole : ℕ) → d ≡ m * 2 ^ s → x < m → y < b → whole ≡ x * y → whole < d * b
@@ -168,7 +135,7 @@ pub remainder_stands : (w m d s n whole q r : ℕ) → IsScaling w m d s → who
     → Stands w m r (n % m)
 remainder_stands w m d s n whole q r is e division =
     stands_for w m d n r is.positive (divisor_is is)
-    (remainder_of whole d q r division ∙ ap (λ v. v % d) (e ∙ ap (λ v. n * 2 ^ v) is.zeros))
+    (remainder_of division ∙ ap (λ v. v % d) (e ∙ ap (λ v. n * 2 ^ v) is.zeros))
 
 -- it fits the division
 pub scaled_fits : (w b m d s n whole : ℕ) → IsScaling w m d s → n < b → whole ≡ n * 2 ^ s → whole < d * b

@@ -1,5 +1,6 @@
 use Rattle.std.proofs.Common.{◌∙◌, arith}
-use Rattle.modular_barrett.proofs.ScaledLemmas.{scaled_to_top, scaling_of}
+use Rattle.modular_barrett.proofs.ScaledLemmas.{scaling_of}
+use Rattle.modular_prim.proofs.Scaled.{scaled_to_top}
 use Rattle.modular_barrett.proofs.premul.PreMulInv2by1.new.Goals as goal
 
 pub shift_left-requires-clause-fits : goal.shift_left-requires-clause-fits
