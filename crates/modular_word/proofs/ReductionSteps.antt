@@ -1,9 +1,9 @@
 -- The arithmetic of a reduction that divides by the base.
 use Rattle.std.proofs.Common.{◌≡◌, ℕ, ◌+◌, ◌-◌, ◌*◌, ◌/◌, ◌%◌, ◌<◌, ◌≤◌, sym, ap, ◌∙◌, arith, refl, ⊎_elim}
-use Rattle.std.proofs.Math.Nat.{mod-lt, mod-eq_of_lt, div-add-mod, mul-le-mul_left, mul-le-mul_right, add-mul-mod_self_left, add-mod_right, add-mod-mod, mul-mod_right, lt_of_mul-lt-mul_left}
+use Rattle.std.proofs.Math.Nat.{mod-eq_of_lt, div-add-mod, mul-le-mul_left, mul-le-mul_right, add-mul-mod_self_left, add-mod_right, add-mod-mod, mul-mod_right, lt_of_mul-lt-mul_left}
 use Rattle.std.proofs.lemmas.Nat.{mul-mod_first, mul-mod_second}
 use Rattle.std.proofs.lemmas.Bool.{cases_lt}
-use Rattle.modular_word.proofs.Congruence.{same_rest, mod_cancel, factor_cancel}
+use Rattle.modular_word.proofs.Congruence.{mod_cancel}
 use Rattle.modular_word.specs.Reduction.{IsReduction}
 
 -- the multiple of m that clears the low word t0
@@ -54,13 +54,12 @@ pub record Sum (B m t x p t0 t1 p0 p1 : ℕ) : Type 0 where
   pub multiple_parts : p ≡ p0 + B * p1
   pub multiple_low_fits : p0 < B
 
--- the sum divided by the base is U: the high words with the carry k of the low ones
-pub record HighSum (B m t x t1 p1 k U : ℕ) : Type 0 where
-  pub whole : t + x * m ≡ B * U
-  pub below : U < 2 * m
+-- the sum divided by the base: the high word of t, and that of the multiple raised by the carry of the low words
+pub record HighSum (B m t x t1 raised : ℕ) : Type 0 where
+  pub whole : t + x * m ≡ B * (t1 + raised)
+  pub below : t1 + raised < 2 * m
   pub high_below : t1 < m
-  pub multiple_below : p1 < m
-  pub high : U ≡ t1 + p1 + k
+  pub raised_at_most : raised ≤ m
 
 -- two low words that add up to a multiple of the base add up to it, or are both 0
 pub low_words : (B a b : ℕ) → a < B → b < B → (a + b) % B ≡ 0 → 0 < a → a + b ≡ B
@@ -76,42 +75,46 @@ low_words B a b ha hb e some =
     let m : B * q ≡ B * 1 = ap (λ v. B * v) one in
     omega arith
 
-high_sum : (B m t x p t0 t1 p0 p1 k : ℕ) → Sum B m t x p t0 t1 p0 p1 → t0 + p0 ≡ B * k
-    → HighSum B m t x t1 p1 k (t1 + p1 + k)
-high_sum B m t x p t0 t1 p0 p1 k s e =
+high_sum : (B m t x p t0 t1 p0 p1 k raised : ℕ) → Sum B m t x p t0 t1 p0 p1 → t0 + p0 ≡ B * k → k ≤ 1
+    → (p1 < m → raised ≡ p1 + k) → HighSum B m t x t1 raised
+high_sum B m t x p t0 t1 p0 p1 k raised s e hk er =
     let hB : 0 < B = omega (arith, s.modulus_fits) in
-    let whole : t + x * m ≡ B * (t1 + p1 + k) = omega (arith, s.parts, s.multiple, s.multiple_parts) in
     let under : x * m < B * m =
     ⊎_elim (λ (h : 0 < m). let a : (x + 1) * m ≤ B * m = mul-le-mul_right m (let l : x + 1 ≤ B = omega (arith, s.multiplier_fits) in l) in omega arith)
     (λ (h : m ≤ 0). let a : B * m ≤ B * 0 = mul-le-mul_left B h in absurd (omega (arith, s.below)))
     (cases_lt 0 m) in
+    let multiple_below : p1 < m =
+    lt_of_mul-lt-mul_left B (let h : B * p1 < B * m = omega (arith, s.multiple, s.multiple_parts) in h) in
+    let is : raised ≡ p1 + k = er multiple_below in
+    let scaled : B * (t1 + raised) ≡ B * (t1 + (p1 + k)) = ap (λ v. B * (t1 + v)) is in
+    let whole : t + x * m ≡ B * (t1 + raised) = omega (arith, s.parts, s.multiple, s.multiple_parts) in
     record {
       whole = whole;
-      below = sum_below B m t (x * m) x (t1 + p1 + k) hB s.below s.multiplier_fits refl whole;
+      below = sum_below B m t (x * m) x (t1 + raised) hB s.below s.multiplier_fits refl whole;
       high_below = lt_of_mul-lt-mul_left B (let h : B * t1 < B * m = omega (arith, s.below, s.parts) in h);
-      multiple_below = lt_of_mul-lt-mul_left B (let h : B * p1 < B * m = omega (arith, s.multiple, s.multiple_parts) in h);
-      high = refl;
+      raised_at_most = omega arith;
     }
 
 -- the high words where the low word of t is 0
-pub high_without_carry : (B m t x p t0 t1 p0 p1 : ℕ) → Sum B m t x p t0 t1 p0 p1 → t0 ≡ 0
-    → HighSum B m t x t1 p1 0 (t1 + p1 + 0)
-high_without_carry B m t x p t0 t1 p0 p1 s e =
+pub high_without_carry : (B m t x p t0 t1 p0 p1 raised : ℕ) → Sum B m t x p t0 t1 p0 p1 → t0 ≡ 0 → raised ≡ p1
+    → HighSum B m t x t1 raised
+high_without_carry B m t x p t0 t1 p0 p1 raised s e er =
     let z : (p0 + B * (t1 + p1)) % B ≡ 0 =
     ap (λ v. v % B) (let h : p0 + B * (t1 + p1) ≡ t + p = omega (arith, s.parts, s.multiple_parts) in h) ∙ s.low in
     let p0_is : p0 ≡ 0 =
     sym (mod-eq_of_lt s.multiple_low_fits) ∙ sym (add-mul-mod_self_left p0 B (t1 + p1)) ∙ z in
-    high_sum B m t x p t0 t1 p0 p1 0 s (omega arith)
+    high_sum B m t x p t0 t1 p0 p1 0 raised s (omega arith) (omega arith) (λ below. omega arith)
 
 -- the high words where it isn't
-pub high_with_carry : (B m t x p t0 t1 p0 p1 : ℕ) → Sum B m t x p t0 t1 p0 p1 → 0 < t0
-    → HighSum B m t x t1 p1 1 (t1 + p1 + 1)
-high_with_carry B m t x p t0 t1 p0 p1 s some =
+pub high_with_carry : (B m t x p t0 t1 p0 p1 raised : ℕ) → Sum B m t x p t0 t1 p0 p1 → 0 < t0 → raised ≡ (p1 + 1) % B
+    → HighSum B m t x t1 raised
+high_with_carry B m t x p t0 t1 p0 p1 raised s some er =
     let z : (t0 + p0) % B ≡ 0 =
     sym (add-mul-mod_self_left (t0 + p0) B (t1 + p1))
     ∙ ap (λ v. v % B) (let h : t0 + p0 + B * (t1 + p1) ≡ t + p = omega (arith, s.parts, s.multiple_parts) in h) ∙ s.low in
     let both = low_words B t0 p0 s.low_fits s.multiple_low_fits z some in
-    high_sum B m t x p t0 t1 p0 p1 1 s (omega arith)
+    high_sum B m t x p t0 t1 p0 p1 1 raised s (omega arith) (omega arith)
+    (λ below. er ∙ mod-eq_of_lt (let l : p1 + 1 < B = omega (arith, s.modulus_fits) in l))
 
 -- the high word of t less m, with a borrow
 less_is : (B m t1 d : ℕ) → m < B → t1 < m → d < B → (d + m) % B ≡ t1 → d + m ≡ t1 + B
@@ -123,10 +126,9 @@ less_is B m t1 d hm ht hd e =
     omega arith
 
 -- less m the sum wraps below the summand: it was m or more
-pub reduces_less : (B m t x t1 p1 k U raised d less : ℕ) → HighSum B m t x t1 p1 k U → m < B
-    → raised ≡ p1 + k → raised ≤ m → d < B → (d + m) % B ≡ t1 → less ≡ (d + raised) % B → less < raised
-    → IsReduction B m t less
-reduces_less B m t x t1 p1 k U raised d less s hm er hr hd ed el h =
+pub reduces_less : (B m t x t1 raised d less : ℕ) → HighSum B m t x t1 raised → m < B
+    → d < B → (d + m) % B ≡ t1 → less ≡ (d + raised) % B → less < raised → IsReduction B m t less
+reduces_less B m t x t1 raised d less s hm hd ed el h =
     let e : d + m ≡ t1 + B = less_is B m t1 d hm s.high_below hd ed in
     let wraps : B ≤ d + raised =
     ⊎_elim
@@ -134,24 +136,26 @@ reduces_less B m t x t1 p1 k U raised d less s hm er hr hd ed el h =
     (λ (l : B ≤ d + raised). l) (cases_lt (d + raised) B) in
     let y = d + raised - B in
     let ey : d + raised ≡ y + B = omega arith in
-    let same : less ≡ y = el ∙ ap (λ v. v % B) ey ∙ add-mod_right y B ∙ mod-eq_of_lt (omega arith) in
-    let l : less + m ≡ U = omega (arith, s.high) in
-    record { below = omega (arith, s.below); congruent = residue_less B m t x U less s.whole l }
+    let same : less ≡ y =
+    el ∙ ap (λ v. v % B) ey ∙ add-mod_right y B ∙ mod-eq_of_lt (omega (arith, s.raised_at_most)) in
+    let l : less + m ≡ t1 + raised = omega arith in
+    record { below = omega (arith, s.below); congruent = residue_less B m t x (t1 + raised) less s.whole l }
 
 -- it doesn't wrap: the sum was below m
-pub reduces_same : (B m t x t1 p1 k U raised d less sum : ℕ) → HighSum B m t x t1 p1 k U → m < B
-    → raised ≡ p1 + k → raised ≤ m → d < B → (d + m) % B ≡ t1 → less ≡ (d + raised) % B → raised ≤ less
-    → sum ≡ (t1 + raised) % B → IsReduction B m t sum
-reduces_same B m t x t1 p1 k U raised d less sum s hm er hr hd ed el h es =
+pub reduces_same : (B m t x t1 raised d less sum : ℕ) → HighSum B m t x t1 raised → m < B
+    → d < B → (d + m) % B ≡ t1 → less ≡ (d + raised) % B → raised ≤ less → sum ≡ (t1 + raised) % B
+    → IsReduction B m t sum
+reduces_same B m t x t1 raised d less sum s hm hd ed el h es =
     let e : d + m ≡ t1 + B = less_is B m t1 d hm s.high_below hd ed in
     let under : d + raised < B =
     ⊎_elim (λ (l : d + raised < B). l)
     (λ (l : B ≤ d + raised).
     let y = d + raised - B in
     let ey : d + raised ≡ y + B = omega arith in
-    let same : less ≡ y = el ∙ ap (λ v. v % B) ey ∙ add-mod_right y B ∙ mod-eq_of_lt (omega arith) in
+    let same : less ≡ y =
+    el ∙ ap (λ v. v % B) ey ∙ add-mod_right y B ∙ mod-eq_of_lt (omega (arith, s.raised_at_most)) in
     absurd (omega arith))
     (cases_lt (d + raised) B) in
     let small : t1 + raised < m = omega arith in
-    let is : sum ≡ U = es ∙ mod-eq_of_lt (let l : t1 + raised < B = omega arith in l) ∙ omega (arith, s.high) in
-    record { below = omega arith; congruent = ap (λ v. (v * B) % m) is ∙ residue_same B m t x U s.whole }
+    let is : sum ≡ t1 + raised = es ∙ mod-eq_of_lt (let l : t1 + raised < B = omega arith in l) in
+    record { below = omega arith; congruent = ap (λ v. (v * B) % m) is ∙ residue_same B m t x (t1 + raised) s.whole }

@@ -2,16 +2,24 @@
 use Rattle.std.proofs.Common.{◌≡◌, ◌+◌, ◌*◌, ◌/◌, ◌<◌, arith, ap, sym, ◌∙◌}
 use Rattle.modular_word.proofs.ExactSteps.{low_again, high_left}
 use Rattle.modular_word.proofs.paths.exact_2.Goals as goal
+use Rattle.modular_word.proofs.paths.exact_2.Goals.{After-split-h}
+
+-- the low word of the quotient, times the divisor: the low word of the number, and a carry
+low_word : (g : _) (c : After-split-h g)
+    → g.T.RingWord.number c.wrapping_mul-q0.result * g.T.RingWord.number c.args.d
+    ≡ g.T.RingWord.number c.split-n0.result.0 + g.T.PathWord.base * g.T.RingWord.number c.split-h.result.1
+low_word g c =
+    let n = g.T.RingWord.number in
+    low_again g.T.PathWord.base (n c.args.d) (n c.args.inverse) (n c.split-n0.result.0) (n c.wrapping_mul-q0.result)
+    (n c.split-h.result.0) (n c.split-h.result.1) c.split-n0.ensures.low_fits c.split-h.ensures.low_fits
+    c.requires.unit c.wrapping_mul-q0.ensures.value
+    (sym c.product.ensures.value ∙ c.split-h.ensures.value)
 
 pub returns-then-is_below : goal.returns-then-is_below
 returns-then-is_below g c =
     let n = g.T.RingWord.number in
     let B = g.T.PathWord.base in
-    let parts : n c.wrapping_mul-q0.result * n c.args.d ≡ n c.split-n0.result.0 + B * n c.split-h.result.1 =
-    low_again B (n c.args.d) (n c.args.inverse) (n c.split-n0.result.0) (n c.wrapping_mul-q0.result)
-    (n c.split-h.result.0) (n c.split-h.result.1) c.split-n0.ensures.low_fits c.split-h.ensures.low_fits
-    c.requires.unit c.wrapping_mul-q0.ensures.value
-    (sym c.product.ensures.value ∙ c.split-h.ensures.value) in
+    let parts = low_word g (goal.at.returns-then-is_below g c).After-split-h in
     let over : n c.split-n0.result.1 < n c.split-h.result.1 = grind arith in
     λ K e.
     let left =
@@ -24,11 +32,7 @@ pub returns-in-Some : goal.returns-in-Some
 returns-in-Some g c =
     let n = g.T.RingWord.number in
     let B = g.T.PathWord.base in
-    let parts : n c.wrapping_mul-q0.result * n c.args.d ≡ n c.split-n0.result.0 + B * n c.split-h.result.1 =
-    low_again B (n c.args.d) (n c.args.inverse) (n c.split-n0.result.0) (n c.wrapping_mul-q0.result)
-    (n c.split-h.result.0) (n c.split-h.result.1) c.split-n0.ensures.low_fits c.split-h.ensures.low_fits
-    c.requires.unit c.wrapping_mul-q0.ensures.value
-    (sym c.product.ensures.value ∙ c.split-h.ensures.value) in
+    let parts = low_word g (goal.at.returns-in-Some g c).After-split-h in
     let d = n c.args.d in
     let x = n c.in-Some.q1 in
     let high : x * d + n c.split-h.result.1 ≡ n c.split-n0.result.1 =
@@ -42,11 +46,7 @@ pub returns-in-None : goal.returns-in-None
 returns-in-None g c =
     let n = g.T.RingWord.number in
     let B = g.T.PathWord.base in
-    let parts : n c.wrapping_mul-q0.result * n c.args.d ≡ n c.split-n0.result.0 + B * n c.split-h.result.1 =
-    low_again B (n c.args.d) (n c.args.inverse) (n c.split-n0.result.0) (n c.wrapping_mul-q0.result)
-    (n c.split-h.result.0) (n c.split-h.result.1) c.split-n0.ensures.low_fits c.split-h.ensures.low_fits
-    c.requires.unit c.wrapping_mul-q0.ensures.value
-    (sym c.product.ensures.value ∙ c.split-h.ensures.value) in
+    let parts = low_word g (goal.at.returns-in-None g c).After-split-h in
     λ K e.
     let left =
     high_left B (n c.args.d) (n c.args.inverse) (n c.split-n0.result.0) (n c.split-n0.result.1)
