@@ -10,7 +10,7 @@ ghost use Rattle.modular_word.specs.Sums.{sum_below, sum_to, count_to, Permutes}
 use crate::path_word::PathWord;
 
 /// A number is below the base exactly where it is below 2 to the width, the base is at least 256,
-/// and its square is the number of double words.
+/// its square is the number of double words, and the high word of a double word is below it.
 pub fn base_laws<T: PathWord>()
     ensures at_least { 256 ≤ T.base }
     ensures same { (n : ℕ) → n < T.base ↔ (n < 2 ^ T.width) }
@@ -18,7 +18,8 @@ pub fn base_laws<T: PathWord>()
     ensures high { (low high : ℕ) → low + T.base * high < T.base * T.base → high < T.base }
 {}
 
-/// Congruence modulo m is kept by sums, products and powers, and a factor with an inverse cancels.
+/// Congruence modulo m is kept by sums, products and powers; a term cancels, and so does a factor
+/// with an inverse.
 ///
 /// Source: Gauss, Disquisitiones Arithmeticae, articles 6 to 8 and 22.
 pub fn congruence_laws()
@@ -54,7 +55,10 @@ pub fn euclids_lemma()
 {}
 
 /// Two sums exchange, a sum over a range is the same with its terms permuted or reversed, terms of
-/// equal parities have sums of equal parities, and each number of a range passes a test or fails it.
+/// equal parities have sums of equal parities, each number of a range passes a test or fails it, and
+/// a sum from 1 to h is one from 0 to h - 1.
+///
+/// Source: Graham, Knuth and Patashnik, Concrete Mathematics, chapter 2.
 pub fn sum_laws()
     ensures exchanged { (f : ℕ → ℕ → ℕ) (h k : ℕ) → sum_to (λ x. sum_to (λ y. f x y) k) h ≡ sum_to (λ y. sum_to (λ x. f x y) h) k }
     ensures permuted { (f g : ℕ → ℕ) (h : ℕ) → Permutes f h → sum_to (λ x. g (f x)) h ≡ sum_to g h }

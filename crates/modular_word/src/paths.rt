@@ -22,7 +22,7 @@ pub fn ones<T: PathWord>(n: u32) -> T
 }
 
 /// Quotient and remainder of a double word by a divisor d with its top bit set, by the reciprocal
-/// of d. Condition: the high word of the dividend is below d.
+/// of d. Conditions: `reciprocal` is that of d, and the high word of the dividend is below d.
 ///
 /// Source: Möller and Granlund, "Improved division by invariant integers", algorithm 4.
 pub fn div_2by1<T: PathWord>(d: T, reciprocal: T, a: T::Double) -> (T, T)
@@ -56,7 +56,8 @@ fn quotient_1by1<T: PathWord>(d: T, multiplier: T, shift: u32, a: T) -> T
     t.plus(a.minus(t).shift_right(1)).shift_right(shift)
 }
 
-/// Quotient and remainder of a word by a divisor, by the divisor's multiplier and shift.
+/// Quotient and remainder of a word by a divisor, by the divisor's multiplier and shift. Condition:
+/// the two are those of d.
 ///
 /// Source: Granlund and Montgomery, "Division by invariant integers using multiplication",
 /// figure 4.1.
@@ -70,7 +71,8 @@ pub fn div_1by1<T: PathWord>(d: T, multiplier: T, shift: u32, a: T) -> (T, T)
 }
 
 /// The quotient of a word by an odd divisor d, by the inverse of d; `None` exactly where d doesn't
-/// divide it.
+/// divide it. Condition: `inverse` is that of d modulo the base, and `limit` the greatest quotient
+/// of a word by d.
 ///
 /// Source: Granlund and Montgomery, "Division by invariant integers using multiplication",
 /// section 9.
@@ -83,7 +85,7 @@ pub fn exact_1<T: PathWord>(d: T, inverse: T, limit: T, n: T) -> Option<T>
 }
 
 /// The quotient of a double word by an odd divisor d, by the inverse of d; `None` exactly where d
-/// doesn't divide it.
+/// doesn't divide it. Condition: as `exact_1`.
 ///
 /// Source: as `exact_1`, a word at a time from the lowest.
 pub fn exact_2<T: PathWord>(d: T, inverse: T, limit: T, n: T::Double) -> Option<T::Double>
@@ -103,7 +105,7 @@ pub fn exact_2<T: PathWord>(d: T, inverse: T, limit: T, n: T::Double) -> Option<
 }
 
 /// The word x whose multiple x·m clears the low word of t: the first step of Montgomery's
-/// reduction.
+/// reduction. Condition: m times `negated_inverse` is -1 modulo the base.
 pub fn clearing<T: PathWord>(m: T, negated_inverse: T, t: T::Double) -> T
     requires { IsNegatedInverse T.base (T.number m) (T.number negated_inverse) }
     ensures low { (T.whole t + T.number result * T.number m) % T.base ≡ 0 }
@@ -115,6 +117,7 @@ pub fn clearing<T: PathWord>(m: T, negated_inverse: T, t: T::Double) -> T
 
 /// Montgomery's reduction of t, given the word x of `clearing` and the product x·m: the second
 /// step, with the carry of the sum kept. A modulus of a special form may have x·m at a lower cost.
+/// Conditions: t is below m times the base, and x·m clears the low word of t.
 ///
 /// The low words of t and x·m add up to 0 or to the base, so the sum's high word is that of t and
 /// that of x·m, raised by 1 where the low word of t isn't 0. Less m it wraps exactly where it is
@@ -142,8 +145,8 @@ pub fn reduce_by<T: PathWord>(m: T, t: T::Double, x: T, multiple: T::Double) -> 
     }
 }
 
-/// Montgomery's reduction of a double word t modulo an odd m. Condition: t is below m times the
-/// base.
+/// Montgomery's reduction of a double word t modulo an odd m. Conditions: m times `negated_inverse`
+/// is -1 modulo the base, and t is below m times the base.
 ///
 /// Source: Handbook of Applied Cryptography, algorithm 14.32, for one word.
 pub fn redc<T: PathWord>(m: T, negated_inverse: T, t: T::Double) -> T

@@ -44,6 +44,7 @@ pub fn power_of(base: u64, exp: u64, m: u64) -> u64
 }
 
 /// The inverse of a modulo m, by trying each number below m; `None` exactly where there is none.
+/// Condition: m is at least 1.
 pub fn inverse_by_search(a: u64, m: u64) -> Option<u64>
     requires { 1 ≤ m }
     ensures { IsInversion (λ x. x) m a result }
