@@ -1,32 +1,27 @@
 use Rattle.std.proofs.Common.{◌≡◌, ◌≢◌, ◌*◌, ◌%◌, ◌^◌, ◌<◌, ◌≤◌, sym, ap, ◌∙◌, subst, arith}
-use Rattle.modular_prim.proofs.Scaled.{scaled_to_top}
+use Rattle.modular_prim.proofs.Scaled.{IsNormalized, scaled_to_top}
 use Rattle.modular_prim.proofs.PowerSteps.{PowerSoFar, start_odd, start_even, step_odd, step_even, finished, product_below, power_below}
 use Rattle.modular_prim.proofs.power.power_by_reciprocal.Goals as goal
-use Rattle.modular_prim.proofs.power.power_by_reciprocal.Goals.{then-is_odd, else-is_odd, then-is_odd-2, else-is_odd-2}
+use Rattle.modular_prim.proofs.power.power_by_reciprocal.Goals.{After-leading_zeros-shift, then-is_odd, else-is_odd, then-is_odd-2, else-is_odd-2}
+
+-- the modulus is scaled to the top
+normalized : (g : _) (c : After-leading_zeros-shift g)
+    → IsNormalized g.T.RingWord.width g.T.PathWord.base (g.T.RingWord.number c.args.m) c.leading_zeros-shift.result
+normalized g c =
+    let n = g.T.RingWord.number in
+    scaled_to_top g.T.RingWord.width g.T.PathWord.base (n c.args.m) c.leading_zeros-shift.result g.met.T.PathWord.base_is
+    (let h : 0 < n c.args.m = omega (arith, c.requires) in h) c.leading_zeros-shift.ensures.fits c.leading_zeros-shift.ensures.value
 
 pub shift_left-divisor-requires-clause-by : goal.shift_left-divisor-requires-clause-by
-shift_left-divisor-requires-clause-by g c =
-    let n = g.T.RingWord.number in
-    let s =
-    scaled_to_top g.T.RingWord.width g.T.PathWord.base (n c.args.m) c.leading_zeros-shift.result g.met.T.PathWord.base_is
-    (let h : 0 < n c.args.m = omega (arith, c.requires) in h) c.leading_zeros-shift.ensures.fits c.leading_zeros-shift.ensures.value in
-    s.inside
+shift_left-divisor-requires-clause-by g c = (normalized g (goal.at.shift_left-divisor-requires-clause-by g c).After-leading_zeros-shift).inside
 
 pub shift_left-divisor-requires-clause-fits : goal.shift_left-divisor-requires-clause-fits
-shift_left-divisor-requires-clause-fits g c =
-    let n = g.T.RingWord.number in
-    let s =
-    scaled_to_top g.T.RingWord.width g.T.PathWord.base (n c.args.m) c.leading_zeros-shift.result g.met.T.PathWord.base_is
-    (let h : 0 < n c.args.m = omega (arith, c.requires) in h) c.leading_zeros-shift.ensures.fits c.leading_zeros-shift.ensures.value in
-    s.fits
+shift_left-divisor-requires-clause-fits g c = (normalized g (goal.at.shift_left-divisor-requires-clause-fits g c).After-leading_zeros-shift).fits
 
 pub invert_word-reciprocal-requires : goal.invert_word-reciprocal-requires
 invert_word-reciprocal-requires g c =
-    let n = g.T.RingWord.number in
-    let s =
-    scaled_to_top g.T.RingWord.width g.T.PathWord.base (n c.args.m) c.leading_zeros-shift.result g.met.T.PathWord.base_is
-    (let h : 0 < n c.args.m = omega (arith, c.requires) in h) c.leading_zeros-shift.ensures.fits c.leading_zeros-shift.ensures.value in
-    subst (λ v. g.T.PathWord.base ≤ 2 * v) (sym c.shift_left-divisor.ensures) s.top
+    subst (λ v. g.T.PathWord.base ≤ 2 * v) (sym c.shift_left-divisor.ensures)
+    (normalized g (goal.at.invert_word-reciprocal-requires g c).After-leading_zeros-shift).top
 
 pub scaled_product-power-requires-clause-below : goal.scaled_product-power-requires-clause-below
 scaled_product-power-requires-clause-below g c =
