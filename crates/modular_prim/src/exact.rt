@@ -33,7 +33,8 @@ pub trait DivExactAssign<Rhs: Numbered, Precompute>: DivExact<Rhs, Precompute, O
         ensures none { IsFalse result → (k : ℕ) → k * Rhs.whole_number d ≢ Self.whole_number self.old };
 }
 
-/// Exact division in place by exact division: the body of `div_exact_assign` for words.
+/// Exact division in place by exact division: the body of `div_exact_assign` for words. Condition:
+/// what is stored fits d.
 pub fn assign_exact<N: DivExact<Rhs, Precompute, Output = N> + Copy, Rhs: Numbered, Precompute>(
     number: &mut N,
     d: Rhs,

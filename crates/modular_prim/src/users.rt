@@ -1,4 +1,5 @@
 //! Code that is generic over the modular operations: it knows the answers from the traits alone.
+//! Condition of each: the modulus is at least 1, or what is stored fits the divisor.
 
 ghost use Rattle.std.specs.Prelude.{◌≡◌, ◌≢◌, ℕ, IsTrue, IsFalse, ◌+◌, ◌*◌, ◌%◌, ◌^◌, ◌≤◌, pos, ◌-ℤ◌};
 ghost use Rattle.modular_word.specs.Division.{IsExactQuotient};
@@ -39,7 +40,7 @@ pub fn square_of_double<M: Numbered + Copy, T: ModularUnaryOps<M, Output = T>>(x
     x.dblm(m).sqm(m)
 }
 
-/// The inverse of x, in any operand form.
+/// The inverse of x, in any operand form; `None` exactly where there is none.
 pub fn inverse<M: Numbered, T: ModularUnaryOps<M>>(x: T, m: M) -> Option<T::Output>
     requires { 1 ≤ M.whole_number m }
     ensures { IsInversion T.Output.whole_number (M.whole_number m) (T.whole_number x) result }
@@ -63,7 +64,7 @@ pub fn signed<M: Numbered, T: ModularAbs<M>>(x: T, m: &M) -> M
     x.absm(m)
 }
 
-/// The quotient, where it is exact.
+/// The quotient of n by d; `None` exactly where d doesn't divide n.
 pub fn quotient<D: Numbered, P, N: DivExact<D, P>>(n: N, d: D, pre: &P) -> Option<N::Output>
     requires { N.fits d pre.now }
     ensures { IsExactQuotient N.Output.whole_number (N.whole_number n) (D.whole_number d) result }
@@ -71,7 +72,8 @@ pub fn quotient<D: Numbered, P, N: DivExact<D, P>>(n: N, d: D, pre: &P) -> Optio
     n.div_exact(d, pre)
 }
 
-/// Divides the number by d in place, where d divides it.
+/// Divides the number by d in place and answers true; where d doesn't divide it, answers false and
+/// leaves it unchanged.
 pub fn divided<D: Numbered, P, N: DivExactAssign<D, P>>(n: &mut N, d: D, pre: &P) -> bool
     requires { N.fits d pre.now }
     ensures exact { IsTrue result → N.whole_number n.new * D.whole_number d ≡ N.whole_number n.old }
