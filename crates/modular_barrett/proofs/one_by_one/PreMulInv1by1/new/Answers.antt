@@ -1,28 +1,33 @@
 use Rattle.std.proofs.Common.{◌≡◌, ◌*◌, ◌/◌, ◌%◌, ap, ◌∙◌, arith}
-use Rattle.modular_barrett.proofs.Multiplier.{prepared, multiplier_fits, multiplier_is}
+use Rattle.modular_barrett.proofs.Multiplier.{IsPrepared, prepared, multiplier_fits, multiplier_is}
 use Rattle.modular_barrett.proofs.one_by_one.PreMulInv1by1.new.Goals as goal
+use Rattle.modular_barrett.proofs.one_by_one.PreMulInv1by1.new.Goals.{After-low_quotient-quotient}
 
 pub minus-gap-requires : goal.minus-gap-requires
 minus-gap-requires g c = omega (arith, c.digits-n.ensures.below, c.ones.ensures)
 
-pub plus-requires : goal.plus-requires
-plus-requires g c =
+is_prepared : (g : _) (c : After-low_quotient-quotient g)
+    → IsPrepared g.T.RingWord.width g.T.PathWord.base (g.T.RingWord.number c.args.d) (g.T.RingWord.number c.minus-less.result)
+        c.digits-n.result (g.T.RingWord.number c.minus-gap.result)
+is_prepared g c =
+    prepared _ _ _ _ _ _ _ _ c.digits-n.ensures c.low_quotient-quotient.ensures.fits c.one.ensures
+    c.minus-less.ensures.value c.ones.ensures c.minus-gap.ensures.value
+
+quotient_is : (g : _) (c : After-low_quotient-quotient g)
+    → g.T.RingWord.number c.low_quotient-quotient.result
+        ≡ g.T.PathWord.base * g.T.RingWord.number c.minus-gap.result / g.T.RingWord.number c.args.d % g.T.PathWord.base
+quotient_is g c =
     let n = g.T.RingWord.number in
     let b = g.T.PathWord.base in
-    let before =
-    prepared _ _ _ _ _ _ _ _ c.digits-n.ensures c.low_quotient-quotient.ensures.fits c.one.ensures
-    c.minus-less.ensures.value c.ones.ensures c.minus-gap.ensures.value in
     let dividend : g.T.PathWord.whole c.merge.result ≡ b * n c.minus-gap.result = omega (arith, c.merge.ensures.value, c.zero.ensures) in
-    let q = c.low_quotient-quotient.ensures.value ∙ ap (λ v. v / n c.args.d % b) dividend in
-    omega (arith, c.one-2.ensures, multiplier_fits _ _ _ _ _ _ _ before q)
+    c.low_quotient-quotient.ensures.value ∙ ap (λ v. v / n c.args.d % b) dividend
+
+pub plus-requires : goal.plus-requires
+plus-requires g c =
+    let here = (goal.at.plus-requires g c).After-low_quotient-quotient in
+    omega (arith, c.one-2.ensures, multiplier_fits _ _ _ _ _ _ _ (is_prepared g here) (quotient_is g here))
 
 pub returns : goal.returns
 returns g c =
-    let n = g.T.RingWord.number in
-    let b = g.T.PathWord.base in
-    let before =
-    prepared _ _ _ _ _ _ _ _ c.digits-n.ensures c.low_quotient-quotient.ensures.fits c.one.ensures
-    c.minus-less.ensures.value c.ones.ensures c.minus-gap.ensures.value in
-    let dividend : g.T.PathWord.whole c.merge.result ≡ b * n c.minus-gap.result = omega (arith, c.merge.ensures.value, c.zero.ensures) in
-    let q = c.low_quotient-quotient.ensures.value ∙ ap (λ v. v / n c.args.d % b) dividend in
-    multiplier_is _ _ _ _ _ _ _ _ before q (omega (arith, c.plus.ensures, c.one-2.ensures))
+    let here = (goal.at.returns g c).After-low_quotient-quotient in
+    multiplier_is _ _ _ _ _ _ _ _ (is_prepared g here) (quotient_is g here) (omega (arith, c.plus.ensures, c.one-2.ensures))
