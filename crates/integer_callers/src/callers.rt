@@ -1,6 +1,6 @@
 //! Small callers of the operators of `ReducedInt`, generic and at `VanillaInt<u8>`.
 
-ghost use Rattle.modular_reduced.specs.Integers.{IsQuotient, IsReduced, modulus_of, residue_of};
+ghost use Rattle.modular_reduced.specs.Integers.{CanDivide, IsQuotient, IsReduced, modulus_of, residue_of};
 ghost use Rattle.modular_word.specs.Inverses.{HasInverse};
 ghost use Rattle.std.specs.Prelude.{◌≡◌, ◌↔◌, IfSome, IsSome, IsTrue};
 
@@ -19,13 +19,13 @@ pub fn are_equal<T: RingWord, R: Reducer<T> + Copy>(
     *a == *b
 }
 
-/// The quotient, where the tests of the condition of `/` pass: the moduli are compared, and the
-/// divisor is inverted.
+/// The quotient; `None` exactly where a may not be divided by b. The tests of that condition are
+/// that the moduli are compared, and the divisor is inverted.
 pub fn quotient_if_any<T: RingWord, R: Reducer<T> + Copy>(
     a: ReducedInt<T, R>,
     b: ReducedInt<T, R>,
 ) -> Option<ReducedInt<T, R>>
-    ensures some { (modulus_of a ≡ modulus_of b) → HasInverse (modulus_of b) (residue_of b) → IsSome result }
+    ensures some { IsSome result ↔ CanDivide a b }
     ensures quotient { IfSome result (λ q. IsQuotient a b q) }
 {
     if a.modulus() == b.modulus() && b.inv().is_some() {
