@@ -13,6 +13,7 @@ use modular_word::ring_word::RingWord;
 
 /// The Jacobi symbol over n of a number, given by its sign and its magnitude, by a count of the half
 /// system of n: of (n - 1)/2 residues. Condition: n is odd.
+#[tactic(auto, using(crate::proofs::CountSteps::counted_none))]
 pub fn jacobi_by_count<T: PlainWord>(a_minus: bool, a: T, n: T) -> i8
     requires { T.number n % 2 ≡ 1 }
     ensures { result ≡ jacobi (signed a_minus (pos (T.number a))) (T.number n) }

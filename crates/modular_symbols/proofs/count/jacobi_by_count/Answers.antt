@@ -1,7 +1,7 @@
 -- The count one number on, and the symbol at its end.
 use Rattle.std.proofs.Common.{◌<◌, ◌≤◌, cond, pos, negsuc, sym, ap, ◌∙◌, arith}
 use Rattle.modular_symbols.specs.Kronecker.{signed}
-use Rattle.modular_symbols.proofs.CountSteps.{Next, counted_none, counted_high, counted_low, counted_all, shared_divisor, no_inverse, with_inverse}
+use Rattle.modular_symbols.proofs.CountSteps.{Next, counted_high, counted_low, counted_all, shared_divisor, no_inverse, with_inverse}
 use Rattle.modular_symbols.proofs.count.jacobi_by_count.Goals as goal
 
 pub returns-then-is_none : goal.returns-then-is_none
@@ -10,11 +10,6 @@ returns-then-is_none g c =
     let p : 0 < n c.args.n = omega (arith, c.requires) in
     sym (shared_divisor (signed c.args.a_minus (pos (n c.args.a))) (n c.args.n)
     (no_inverse n (n c.args.n) (n c.args.a) c.args.a_minus c.invm.result p c.invm.ensures c.if-is_none.ensures))
-
-pub half_system-init : goal.half_system-init
-half_system-init g c =
-    let n = g.T.RingWord.number in
-    counted_none (signed c.args.a_minus (pos (n c.args.a))) (n c.args.n) (n c.zero-x.result) c.zero-x.ensures
 
 pub half_system-preserved-then-is_below : goal.half_system-preserved-then-is_below
 half_system-preserved-then-is_below g c =
