@@ -27,6 +27,9 @@ pub use modular_reduced::int::{ReducedInt, VanillaInt};
 pub use modular_reduced::integer::ModularInteger;
 pub use modular_reduced::reducer::Reducer;
 pub use modular_reduced::vanilla::Vanilla;
+pub use modular_symbols::ops::ModularOps;
+pub use modular_symbols::ref_ops::ModularRefOps;
+pub use modular_symbols::symbols::ModularSymbols;
 
 /// An integer modulo an odd number, over `Montgomery`.
 pub type MontgomeryInt<T> = ReducedInt<T, Montgomery<T>>;

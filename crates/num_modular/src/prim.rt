@@ -1,5 +1,8 @@
-//! Modular operations on plain integers.
+//! Modular operations and symbols of plain integers.
 
 pub use modular_prim::exact::{DivExact, DivExactAssign};
 pub use modular_prim::ops::{ModularAbs, ModularCoreOps, ModularPow, ModularUnaryOps};
 pub use modular_prim::power::{powm_u32, powm_u64};
+pub use modular_symbols::ops::ModularOps;
+pub use modular_symbols::ref_ops::ModularRefOps;
+pub use modular_symbols::symbols::ModularSymbols;

@@ -5,4 +5,5 @@ mod fixed;
 mod integers;
 mod plain;
 mod rings;
+mod symbols;
 mod words;

@@ -1,0 +1,44 @@
+//! The symbols, and the traits that collect the modular operations.
+
+ghost use Rattle.std.specs.Prelude.{◌≤◌};
+
+use num_modular::{ModularOps, ModularRefOps, ModularSymbols};
+
+#[test]
+fn symbols_of_words(rt: HostRuntime) {
+    assert_eq!(rt; 3u8.legendre(&11), 1);
+    assert_eq!(rt; 2u16.checked_legendre(&9), None);
+    assert_eq!(rt; 7u32.jacobi(&15), -1);
+    assert_eq!(rt; 3u64.checked_jacobi(&8), None);
+    assert_eq!(rt; (-1isize).kronecker(&0), 1);
+    assert_eq!(rt; num_modular::prim::ModularSymbols::kronecker(&i8::MIN, &127), -1);
+}
+
+// All that a word offers, known by one bound.
+fn inverse_and_symbol<'r, T: ModularOps<T, &'r T, T> + Copy>(x: T, y: T, m: &'r T) -> (Option<T>, Option<i8>)
+    requires { 1 ≤ T.whole_number m.now }
+{
+    (x.invm(m), y.checked_jacobi(m))
+}
+
+#[test]
+fn operations_by_one_bound(rt: HostRuntime) {
+    assert_eq!(rt; inverse_and_symbol(5u8, 7, &15), (None, Some(-1)));
+    assert_eq!(rt; inverse_and_symbol(5u64, 4, &11), (Some(9), Some(1)));
+}
+
+#[test]
+fn operations_over_references(rt: HostRuntime) {
+    let (a, b, m) = (11u8, 9u8, 7u8);
+    assert_eq!(rt; a.addm_ref(&b, &m), 6);
+    assert_eq!(rt; a.subm_ref(&b, &m), 2);
+    assert_eq!(rt; a.mulm_ref(&b, &m), 1);
+    assert_eq!(rt; a.negm_ref(&m), 3);
+    assert_eq!(rt; a.invm_ref(&m), Some(2));
+    assert_eq!(rt; a.dblm_ref(&m), 1);
+    assert_eq!(rt; a.sqm_ref(&m), 2);
+    assert_eq!(rt; a.powm_ref(&b, &m), 1);
+    assert_eq!(rt; b.checked_legendre_ref(&17), Some(1));
+    assert_eq!(rt; b.checked_jacobi_ref(&m), Some(1));
+    assert_eq!(rt; m.kronecker_ref(&15), -1);
+}
