@@ -5,6 +5,7 @@
 #![tactic(auto)]
 
 pub mod barrett;
+pub mod mersenne;
 pub mod modrun;
 pub mod monty;
 pub mod prim;
@@ -16,6 +17,7 @@ pub mod word;
 pub use modular_barrett::normalized::Normalized2by1Divisor;
 pub use modular_barrett::one_by_one::PreMulInv1by1;
 pub use modular_barrett::premul::PreMulInv2by1;
+pub use modular_folds::mersenne::{FixedMersenne, FixedMersenne32, FixedMersenne64};
 pub use modular_monty::fixed::{FixedMontgomery32, FixedMontgomery64};
 pub use modular_monty::montgomery::Montgomery;
 pub use modular_monty::preinv;
@@ -45,3 +47,20 @@ pub type FixedProthInt32<const N: u8, const K: u8> = ReducedInt<u32, FixedProth3
 
 /// An integer modulo K * 2^N + 1, over `FixedProth64`.
 pub type FixedProthInt64<const N: u8, const K: u8> = ReducedInt<u64, FixedProth64<N, K>>;
+
+/// An integer modulo 2^P - K of at most 64 bits, over `FixedMersenne`.
+pub type FixedMersenneInt<const P: u8, const K: u64> = ReducedInt<umax, FixedMersenne<P, K>>;
+
+/// An integer modulo 2^P - K of at most 32 bits, over `FixedMersenne32`.
+pub type FixedMersenneInt32<const P: u8, const K: u32> = ReducedInt<u32, FixedMersenne32<P, K>>;
+
+/// An integer modulo 2^P - K of at most 64 bits, over `FixedMersenne64`.
+pub type FixedMersenneInt64<const P: u8, const K: u64> = ReducedInt<u64, FixedMersenne64<P, K>>;
+
+/// The widest unsigned word.
+#[allow(non_camel_case_types)]
+pub type umax = u128;
+
+/// The widest signed word.
+#[allow(non_camel_case_types)]
+pub type imax = i128;

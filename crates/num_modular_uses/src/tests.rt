@@ -2,6 +2,7 @@
 
 mod dividers;
 mod fixed;
+mod folds;
 mod integers;
 mod plain;
 mod rings;

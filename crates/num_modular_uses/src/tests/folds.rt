@@ -1,0 +1,104 @@
+//! The reducers of moduli near a power of two, and the same commands over each.
+
+use num_modular::ring::{RingCommand, RunEnd, all_checked, commands_fit, run};
+use num_modular::word::RingWord;
+use num_modular::{
+    FixedMersenne, FixedMersenne32, FixedMersenne64, FixedMersenneInt, FixedMersenneInt32,
+    FixedMersenneInt64, ModularAbs, ModularInteger, Reducer, Vanilla, imax, umax,
+};
+use std::test::Fail;
+
+// The end of a run over four registers of value 0, and their residues then.
+fn run_over<T: RingWord, R: Reducer<T>>(
+    reducer: &R,
+    commands: &[RingCommand<T>],
+) -> (Option<RunEnd>, [T; 4]) {
+    let mut registers = [reducer.transform(T::zero()); 4];
+    if all_checked(reducer, &registers) && commands_fit(commands, 4) {
+        let end = Some(run(reducer, &mut registers, commands));
+        let residues = [
+            reducer.residue(registers[0]),
+            reducer.residue(registers[1]),
+            reducer.residue(registers[2]),
+            reducer.residue(registers[3]),
+        ];
+        (end, residues)
+    } else {
+        (None, registers)
+    }
+}
+
+// Two loads, a product, an inverse and a difference; then the inverse of 0, which doesn't exist.
+fn commands<T: RingWord>(greatest: T, last: T) -> [RingCommand<T>; 6] {
+    [
+        RingCommand::Load {
+            dst: 0,
+            n: greatest,
+        },
+        RingCommand::Load { dst: 1, n: last },
+        RingCommand::Mul { dst: 2, a: 1, b: 1 },
+        RingCommand::Inv { dst: 1, a: 1 },
+        RingCommand::Sub { dst: 3, a: 0, b: 0 },
+        RingCommand::Inv { dst: 2, a: 3 },
+    ]
+}
+
+const END: Option<RunEnd> = Some(RunEnd::NoInverse { at: 5 });
+
+#[test]
+fn the_run_over_mersenne_moduli_of_32_bits(rt: HostRuntime) -> Result<(), Fail> {
+    let list = commands(u32::MAX, 2);
+    let found = run_over(&FixedMersenne32::<2, 1>::new(&3), &list);
+    assert_eq!(rt; found, (END, [0, 2, 1, 0]));
+    assert_eq!(rt; found, run_over(&Vanilla::<u32>::new(&3), &list));
+    let list = commands(u32::MAX, 4294967290);
+    let found = run_over(&FixedMersenne32::<32, 5>::new(&4294967291), &list);
+    assert_eq!(rt; found, (END, [4, 4294967290, 1, 0]));
+    assert_eq!(rt; found, run_over(&Vanilla::<u32>::new(&4294967291), &list));
+    Ok(())
+}
+
+#[test]
+fn the_run_over_mersenne_moduli_of_64_bits(rt: HostRuntime) -> Result<(), Fail> {
+    let m = 18446744073709551557;
+    let list = commands(u64::MAX, m - 1);
+    let found = run_over(&FixedMersenne64::<64, 59>::new(&m), &list);
+    assert_eq!(rt; found, (END, [58, m - 1, 1, 0]));
+    assert_eq!(rt; found, run_over(&Vanilla::<u64>::new(&m), &list));
+    let m = 18446744073709551557;
+    let list = commands(umax::MAX, m - 1);
+    let found = run_over(&FixedMersenne::<64, 59>::new(&m), &list);
+    assert_eq!(rt; found, (END, [3480, m - 1, 1, 0]));
+    Ok(())
+}
+
+#[test]
+fn integers_modulo_mersenne_numbers(rt: HostRuntime) -> Result<(), Fail> {
+    let a = FixedMersenneInt32::<13, 1>::new(100, &8191);
+    assert_eq!(rt; ((a + 200).residue(), a.modulus()), (300, 8191));
+    let a = FixedMersenneInt64::<61, 1>::new(1000, &2305843009213693951);
+    assert_eq!(rt; (a * 2000).residue(), 2000000);
+    let a = FixedMersenneInt::<31, 1>::new(1000, &2147483647);
+    assert_eq!(rt; (a * 2000).residue(), 2000000);
+    let m: umax = 18446744073709551557;
+    let a = FixedMersenneInt::<64, 59>::new(m - 1, &m);
+    assert_eq!(rt; a.square().residue(), 1);
+    assert_eq!(rt; imax::MIN.absm(&7), 5);
+    Ok(())
+}
+
+#[test]
+fn residues_of_words(rt: HostRuntime) -> Result<(), Fail> {
+    type Narrow = num_modular::mersenne::FixedMersenne32<32, 5>;
+    type Middle = num_modular::mersenne::FixedMersenne64<64, 59>;
+    type Wide = num_modular::mersenne::FixedMersenne<64, 59>;
+    assert_eq!(rt; Narrow::fixed_modulus(), 4294967291);
+    assert_eq!(rt; Narrow::reduce_single(u32::MAX), 4);
+    assert_eq!(rt; Narrow::reduce_double(u64::MAX), 24);
+    assert_eq!(rt; Middle::fixed_modulus(), 18446744073709551557);
+    assert_eq!(rt; Middle::reduce_single(u64::MAX), 58);
+    assert_eq!(rt; Middle::reduce_double(umax::MAX), 3480);
+    assert_eq!(rt; Wide::fixed_modulus(), 18446744073709551557);
+    assert_eq!(rt; Wide::reduce_single(umax::MAX), 3480);
+    Ok(())
+}
