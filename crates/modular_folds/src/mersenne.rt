@@ -14,9 +14,13 @@ use modular_reduced::reducer::Reducer;
 /// The reducer of the modulus 2^P - K of at most 32 bits: the form of a value is the value itself.
 ///
 /// The parameters are in range where P is 32 at most and K is odd and less than half of 2^P. No call
-/// divides but `inv`: a product is reduced by folds.
+/// but `inv` divides: words and products are reduced by folds.
+///
+/// Source: Handbook of Applied Cryptography, algorithm 14.47.
 #[derive(Debug, Clone, Copy)]
 pub struct FixedMersenne32<const P: u8, const K: u32> {
+    // Private, so that `new` alone makes a reducer; the modulus comes from the parameters.
+    made: (),
     ghost range: { IsMersenneRange 32 P K },
 }
 
@@ -60,7 +64,7 @@ impl<const P: u8, const K: u32> Reducer<u32> for FixedMersenne32<P, K> {
     ghost canonical = { λ r. mersenne_canonical 32 (lit≤ tt) r.range };
 
     fn new(_m: &u32) -> Self {
-        FixedMersenne32 {}
+        FixedMersenne32 { made: () }
     }
 
     fn transform(&self, n: u32) -> u32 {
@@ -115,9 +119,13 @@ impl<const P: u8, const K: u32> Reducer<u32> for FixedMersenne32<P, K> {
 /// The reducer of the modulus 2^P - K of at most 64 bits: the form of a value is the value itself.
 ///
 /// The parameters are in range where P is 64 at most and K is odd and less than half of 2^P. No call
-/// divides but `inv`: a product is reduced by folds.
+/// but `inv` divides: words and products are reduced by folds.
+///
+/// Source: Handbook of Applied Cryptography, algorithm 14.47.
 #[derive(Debug, Clone, Copy)]
 pub struct FixedMersenne64<const P: u8, const K: u64> {
+    // Private, so that `new` alone makes a reducer; the modulus comes from the parameters.
+    made: (),
     ghost range: { IsMersenneRange 64 P K },
 }
 
@@ -161,7 +169,7 @@ impl<const P: u8, const K: u64> Reducer<u64> for FixedMersenne64<P, K> {
     ghost canonical = { λ r. mersenne_canonical 64 (lit≤ tt) r.range };
 
     fn new(_m: &u64) -> Self {
-        FixedMersenne64 {}
+        FixedMersenne64 { made: () }
     }
 
     fn transform(&self, n: u64) -> u64 {
@@ -265,7 +273,7 @@ impl<const P: u8, const K: u64> Reducer<u128> for FixedMersenne<P, K> {
 
     fn new(_m: &u128) -> Self {
         FixedMersenne {
-            ring: FixedMersenne64 {},
+            ring: FixedMersenne64 { made: () },
         }
     }
 
