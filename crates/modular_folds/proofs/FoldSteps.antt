@@ -1,6 +1,6 @@
 -- What a fold makes of a number.
 use Rattle.std.proofs.Common.{◌≡◌, ℕ, ◌+◌, ◌-◌, ◌*◌, ◌/◌, ◌%◌, ◌^◌, ◌<◌, ◌≤◌, arith, ap, sym, ◌∙◌, ⊎_elim, bit_and, lit<}
-use Rattle.std.proofs.Math.Nat.{add-mul-mod_self_right, mul-lt-mul_of_pos_left, pow-le-pow_right}
+use Rattle.std.proofs.Math.Nat.{add-mul-mod_self_right, mul-le-mul_left, mul-lt-mul_of_pos_left, pow-le-pow_right}
 use Rattle.std.proofs.lemmas.Nat.{shr_split, pow_pos, le-div, and_mask}
 use Rattle.std.proofs.lemmas.Bool.{cases_lt}
 use Rattle.modular_folds.specs.Folds.{fold_of, IsFolding}
@@ -10,7 +10,14 @@ pub masked : (p mask v : ℕ) → mask + 1 ≡ 2 ^ p → bit_and v mask ≡ v % 
 masked p mask v ones =
     ap (λ n. bit_and v n) (let e : mask ≡ 2 ^ p - 1 = omega arith in e) ∙ and_mask v p
 
--- a fold makes a number of at least 2^p smaller
+-- a fold makes no number larger
+pub fold_at_most : (p c v : ℕ) → c < 2 ^ p → fold_of p c v ≤ v
+fold_at_most p c v below =
+    let split = shr_split v p in
+    let most : v / 2 ^ p * c ≤ v / 2 ^ p * 2 ^ p = mul-le-mul_left (v / 2 ^ p) (omega arith) in
+    omega (arith, split, most)
+
+-- and one of at least 2^p smaller
 pub fold_less : (p c v : ℕ) → c < 2 ^ p → 2 ^ p ≤ v → fold_of p c v < v
 fold_less p c v below high =
     let split = shr_split v p in

@@ -25,7 +25,8 @@ pub trait FoldWord: RingWord {
     /// The word divided by a power of two, rounded down. Condition: `by` is below the width.
     fn shift_right(self, by: u32) -> Self
         requires { by < Self.width }
-        ensures { Self.number result ≡ Self.number self / 2 ^ by };
+        ensures value { Self.number result ≡ Self.number self / 2 ^ by }
+        ensures fits { Self.number self < 2 ^ Self.width };
 
     /// The bits that the word and a mask share.
     fn masked(self, mask: Self) -> Self

@@ -6,12 +6,11 @@ ghost use Rattle.modular_folds.specs.Folds.{fold_of, IsFolding};
 use crate::fold_word::FoldWord;
 
 // One fold at the bit p: the part above it times c, plus the part below it. The mask has the bits
-// below p.
+// below p. A number that has no part above it stays as it is.
 fn fold<V: FoldWord>(v: V, p: u32, mask: V, c: V) -> V
-    requires high { 2 ^ p ≤ V.number v }
+    requires inside { p < V.width }
     requires mask { V.number mask + 1 ≡ 2 ^ p }
     requires less { V.number c < 2 ^ p }
-    requires fits { V.number v < 2 ^ V.width }
     ensures { V.number result ≡ fold_of p (V.number c) (V.number v) }
 {
     v.shift_right(p).times(c).plus(v.masked(mask))
