@@ -1,9 +1,10 @@
 //! Callers of the reducers by folds. Their edits must be refused when they are checked.
 #![tactic(auto)]
 
-ghost use Rattle.std.specs.Prelude.{◌≡◌, ◌-◌, ◌*◌, ◌%◌, ◌^◌};
+ghost use Rattle.std.specs.Prelude.{◌≡◌, ◌+◌, ◌-◌, ◌*◌, ◌%◌, ◌^◌};
 
 use modular_folds::mersenne::{FixedMersenne32, FixedMersenne64};
+use modular_folds::solinas::{FixedTrinomialSolinas32, FixedTrinomialSolinas64};
 use modular_reduced::reducer::Reducer;
 
 /// The modulus 2^4 - 7.
@@ -25,4 +26,25 @@ pub fn product_modulo(a: u64, b: u64) -> u64
     ensures { result ≡ (a * b) % (2 ^ 61 - 1) }
 {
     FixedMersenne64::<61, 1>::reduce_double(a as u128 * b as u128)
+}
+
+/// The modulus 2^5 - 2^2 + 3.
+pub fn modulus_of_5_2_and_3() -> u32
+    ensures { result ≡ 31 }
+{
+    FixedTrinomialSolinas32::<5, 2, 3>::fixed_modulus()
+}
+
+/// The reducer of the modulus 2^5 - 2^2 + 3.
+pub fn ring_of_31() -> FixedTrinomialSolinas32<5, 2, 3>
+    ensures { ⟦<FixedTrinomialSolinas32<5, 2, 3> as Reducer<u32>>⟧.modulus result ≡ 31 }
+{
+    FixedTrinomialSolinas32::<5, 2, 3>::new(&31)
+}
+
+/// The product modulo 2^64 - 2^32 + 1, as a transform by that modulus takes it.
+pub fn product_modulo_solinas(a: u64, b: u64) -> u64
+    ensures { result ≡ (a * b) % (2 ^ 64 - 2 ^ 32 + 1) }
+{
+    FixedTrinomialSolinas64::<64, 32, 1>::reduce_double(a as u128 * b as u128)
 }
