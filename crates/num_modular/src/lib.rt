@@ -12,12 +12,14 @@ pub mod prim;
 pub mod proth;
 pub mod reduced;
 pub mod ring;
+pub mod solinas;
 pub mod word;
 
 pub use modular_barrett::normalized::Normalized2by1Divisor;
 pub use modular_barrett::one_by_one::PreMulInv1by1;
 pub use modular_barrett::premul::PreMulInv2by1;
 pub use modular_folds::mersenne::{FixedMersenne, FixedMersenne32, FixedMersenne64};
+pub use modular_folds::solinas::{FixedTrinomialSolinas32, FixedTrinomialSolinas64};
 pub use modular_monty::fixed::{FixedMontgomery32, FixedMontgomery64};
 pub use modular_monty::montgomery::Montgomery;
 pub use modular_monty::preinv;
@@ -56,6 +58,18 @@ pub type FixedMersenneInt32<const P: u8, const K: u32> = ReducedInt<u32, FixedMe
 
 /// An integer modulo 2^P - K of at most 64 bits, over `FixedMersenne64`.
 pub type FixedMersenneInt64<const P: u8, const K: u64> = ReducedInt<u64, FixedMersenne64<P, K>>;
+
+/// An integer modulo 2^P1 - 2^P2 + K of at most 32 bits, over `FixedTrinomialSolinas32`.
+pub type FixedSolinasInt32<const P1: u8, const P2: u8, const K: i32> = ReducedInt<
+    u32,
+    FixedTrinomialSolinas32<P1, P2, K>,
+>;
+
+/// An integer modulo 2^P1 - 2^P2 + K of at most 64 bits, over `FixedTrinomialSolinas64`.
+pub type FixedSolinasInt64<const P1: u8, const P2: u8, const K: i64> = ReducedInt<
+    u64,
+    FixedTrinomialSolinas64<P1, P2, K>,
+>;
 
 /// The widest unsigned word.
 #[allow(non_camel_case_types)]
