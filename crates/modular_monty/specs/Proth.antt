@@ -13,9 +13,14 @@ abbrev pub greatest_proth_64 : ℕ
 greatest_proth_64 = 11400714819323199485
 
 -- at words of w bits the parameters n and k are in range
-pub record IsProth (w greatest n k : ℕ) : Type 0 where
+pub record IsProthRange (w greatest n k : ℕ) : Type 0 where
   pub n_positive : 0 < n
   pub n_below : n < w
   pub k_odd : k % 2 ≡ 1
   pub k_below : k < 2 ^ n
   pub at_most : proth_modulus n k ≤ greatest
+
+-- and m is their modulus
+pub record IsProth (w greatest n k m : ℕ) : Type 0 where
+  pub range : IsProthRange w greatest n k
+  pub same : m ≡ proth_modulus n k

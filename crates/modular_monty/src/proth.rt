@@ -5,7 +5,7 @@ ghost use Rattle.std.proofs.Common.{refl};
 ghost use Rattle.modular_word.specs.Reduction.{IsReduction};
 ghost use Rattle.modular_monty.specs.Montgomery.{montgomery_form, montgomery_value, IsOddRing};
 ghost use Rattle.modular_monty.specs.MontgomeryLaws.{montgomery_canonical};
-ghost use Rattle.modular_monty.specs.Proth.{IsProth, greatest_proth_32, greatest_proth_64, proth_modulus};
+ghost use Rattle.modular_monty.specs.Proth.{IsProth, IsProthRange, greatest_proth_32, greatest_proth_64, proth_modulus};
 
 use crate::odd_ring::{OddModulus, OddRing, computed_once};
 use modular_reduced::reducer::Reducer;
@@ -22,14 +22,14 @@ use modular_word::paths::{clearing, reduce_by};
 pub struct FixedProth32<const N: u8, const K: u8> {
     negated_inverse: u32,
     square: u32,
-    ghost range: { IsProth 32 greatest_proth_32 N K },
+    ghost range: { IsProthRange 32 greatest_proth_32 N K },
     ghost ring: { IsOddRing 32 (2 ^ 32) (proth_modulus N K) negated_inverse square },
 }
 
 impl<const N: u8, const K: u8> FixedProth32<N, K> {
     /// The modulus K * 2^N + 1. Condition: the parameters are in range.
     pub fn fixed_modulus() -> u32
-        requires { IsProth 32 greatest_proth_32 N K }
+        requires { IsProthRange 32 greatest_proth_32 N K }
         ensures { result ≡ proth_modulus N K }
     {
         ((K as u32) << N) + 1
@@ -55,7 +55,7 @@ impl<const N: u8, const K: u8> FixedProth32<N, K> {
 }
 
 impl<const N: u8, const K: u8> OddModulus<u32> for FixedProth32<N, K> {
-    ghost taken = { λ m. IsProth 32 greatest_proth_32 N K × (m ≡ proth_modulus N K) };
+    ghost taken = { IsProth 32 greatest_proth_32 N K };
 
     ghost modulus = { λ _. proth_modulus N K };
 
@@ -83,13 +83,13 @@ impl<const N: u8, const K: u8> OddModulus<u32> for FixedProth32<N, K> {
         self.reduce(t)
     }
 
-    ghost was_taken = { λ m. (m.range, refl) };
+    ghost was_taken = { λ m. record { range = m.range; same = refl } };
 
     ghost is_odd_ring = { λ m. m.ring };
 }
 
 impl<const N: u8, const K: u8> Reducer<u32> for FixedProth32<N, K> {
-    ghost admits = { λ m. IsProth 32 greatest_proth_32 N K × (m ≡ proth_modulus N K) };
+    ghost admits = { IsProth 32 greatest_proth_32 N K };
 
     ghost form = { montgomery_form 32 };
 
@@ -97,7 +97,7 @@ impl<const N: u8, const K: u8> Reducer<u32> for FixedProth32<N, K> {
 
     ghost modulus = { λ _. proth_modulus N K };
 
-    ghost admitted = { λ r. (r.range, refl) };
+    ghost admitted = { λ r. record { range = r.range; same = refl } };
 
     ghost canonical = { λ r. montgomery_canonical r.ring };
 
@@ -165,14 +165,14 @@ impl<const N: u8, const K: u8> Reducer<u32> for FixedProth32<N, K> {
 pub struct FixedProth64<const N: u8, const K: u8> {
     negated_inverse: u64,
     square: u64,
-    ghost range: { IsProth 64 greatest_proth_64 N K },
+    ghost range: { IsProthRange 64 greatest_proth_64 N K },
     ghost ring: { IsOddRing 64 (2 ^ 64) (proth_modulus N K) negated_inverse square },
 }
 
 impl<const N: u8, const K: u8> FixedProth64<N, K> {
     /// The modulus K * 2^N + 1. Condition: the parameters are in range.
     pub fn fixed_modulus() -> u64
-        requires { IsProth 64 greatest_proth_64 N K }
+        requires { IsProthRange 64 greatest_proth_64 N K }
         ensures { result ≡ proth_modulus N K }
     {
         ((K as u64) << N) + 1
@@ -198,7 +198,7 @@ impl<const N: u8, const K: u8> FixedProth64<N, K> {
 }
 
 impl<const N: u8, const K: u8> OddModulus<u64> for FixedProth64<N, K> {
-    ghost taken = { λ m. IsProth 64 greatest_proth_64 N K × (m ≡ proth_modulus N K) };
+    ghost taken = { IsProth 64 greatest_proth_64 N K };
 
     ghost modulus = { λ _. proth_modulus N K };
 
@@ -226,13 +226,13 @@ impl<const N: u8, const K: u8> OddModulus<u64> for FixedProth64<N, K> {
         self.reduce(t)
     }
 
-    ghost was_taken = { λ m. (m.range, refl) };
+    ghost was_taken = { λ m. record { range = m.range; same = refl } };
 
     ghost is_odd_ring = { λ m. m.ring };
 }
 
 impl<const N: u8, const K: u8> Reducer<u64> for FixedProth64<N, K> {
-    ghost admits = { λ m. IsProth 64 greatest_proth_64 N K × (m ≡ proth_modulus N K) };
+    ghost admits = { IsProth 64 greatest_proth_64 N K };
 
     ghost form = { montgomery_form 64 };
 
@@ -240,7 +240,7 @@ impl<const N: u8, const K: u8> Reducer<u64> for FixedProth64<N, K> {
 
     ghost modulus = { λ _. proth_modulus N K };
 
-    ghost admitted = { λ r. (r.range, refl) };
+    ghost admitted = { λ r. record { range = r.range; same = refl } };
 
     ghost canonical = { λ r. montgomery_canonical r.ring };
 
