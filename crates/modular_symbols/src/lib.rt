@@ -8,6 +8,7 @@ pub mod integer;
 pub mod laws;
 pub mod magnitudes;
 pub mod ops;
+pub mod primes;
 pub mod ref_ops;
 pub mod symbols;
 #[cfg(test)]

@@ -3,4 +3,5 @@
 mod generic;
 mod large;
 mod least;
+mod primes;
 mod tables;
