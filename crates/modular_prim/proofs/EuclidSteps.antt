@@ -70,13 +70,18 @@ leaves_twice : (m a t r : ℕ) (odd : Bool) → Leaves m a odd t r → Leaves m 
 leaves_twice m a t r true l = l
 leaves_twice m a t r false l = l
 
+-- what a step leaves is the remainder
+pub rest_is : (u v q rest : ℕ) → q ≡ u / v → rest + q * v ≡ u → rest ≡ u % v
+rest_is u v q rest e f =
+    let d : v * (u / v) + u % v ≡ u = div-add-mod u v in
+    let g : v * q ≡ v * (u / v) = ap (λ n. v * n) e in
+    omega arith
+
 pub euclid_step : (a m last_r r last_t t next q rest : ℕ) (odd : Bool) → Euclid a m last_r r last_t t odd
     → 0 < r → q ≡ last_r / r → rest + q * r ≡ last_r → next ≡ last_t + q * t
     → Euclid a m r rest t next (not odd)
 euclid_step a m last_r r last_t t next q rest odd s hr eq erest enext =
-    let f : r * (last_r / r) + last_r % r ≡ last_r = div-add-mod last_r r in
-    let fq : r * q ≡ r * (last_r / r) = ap (λ n. r * n) eq in
-    let left : rest ≡ last_r % r = omega arith in
+    let left : rest ≡ last_r % r = rest_is last_r r q rest eq erest in
     let one : 1 ≤ q = ⊎_elim (λ (h : 0 < q). h) (λ (h : q ≤ 0). let z : q * r ≤ 0 * r = mul-le-mul_right r h in absurd (omega (arith, s.falling, mod-lt last_r {m = r} hr))) (cases_lt 0 q) in
     let grows : 1 * t ≤ q * t = mul-le-mul_right t one in
     let two : t * 2 ≤ t * last_r = mul-le-mul_left t (let l : 2 ≤ last_r = omega (arith, s.falling) in l) in

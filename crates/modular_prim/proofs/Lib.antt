@@ -1,4 +1,6 @@
+pub mod DivisionCounts
 pub mod EuclidSteps
+pub mod FewSteps
 pub mod PowerSteps
 pub mod ReciprocalOf
 pub mod ResidueSteps

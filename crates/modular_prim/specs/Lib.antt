@@ -1,3 +1,4 @@
+pub mod Divisions
 pub use Rattle.modular_word.specs.Division
 pub use Rattle.modular_word.specs.Inverses
 pub use Rattle.modular_word.specs.Reciprocals

@@ -4,6 +4,7 @@
 pub mod abs;
 pub mod below;
 pub mod core_ops;
+pub mod counted;
 pub mod euclid;
 pub mod exact;
 pub mod forms;

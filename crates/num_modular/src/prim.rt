@@ -1,5 +1,7 @@
 //! Modular operations and symbols of plain integers.
 
+pub mod counted;
+
 pub use modular_prim::exact::{DivExact, DivExactAssign};
 pub use modular_prim::ops::{ModularAbs, ModularCoreOps, ModularPow, ModularUnaryOps};
 pub use modular_prim::power::{powm_u32, powm_u64};

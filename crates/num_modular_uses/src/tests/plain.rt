@@ -1,5 +1,6 @@
 //! The plain modular operations and exact division.
 
+use num_modular::prim::counted::{w8, w16, w32, w64, wsize};
 use num_modular::prim::{powm_u32, powm_u64};
 use num_modular::{
     DivExact, DivExactAssign, ModularAbs, ModularCoreOps, ModularPow, ModularUnaryOps,
@@ -31,4 +32,13 @@ fn exact_division(rt: HostRuntime) -> Result<(), Fail> {
     assert!(rt; !number.div_exact_assign(7, &()));
     assert_eq!(rt; number, 36);
     Ok(())
+}
+
+#[test]
+fn counted_operations(rt: HostRuntime) {
+    assert_eq!(rt; w8::invm_counted(5, 11), (Some(9), 2));
+    assert_eq!(rt; w16::invm_counted(16, 11), (Some(9), 3));
+    assert_eq!(rt; w32::invm_counted(0, 1), (Some(0), 0));
+    assert_eq!(rt; w64::invm_counted(7, 21), (None, 1));
+    assert_eq!(rt; wsize::invm_counted(144, 233), (Some(89), 11));
 }

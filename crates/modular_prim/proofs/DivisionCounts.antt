@@ -1,0 +1,145 @@
+-- How many divisions Euclid's algorithm takes, and that these are few.
+use Rattle.std.proofs.Common.{◌≡◌, ℕ, zero, suc, ◌+◌, ◌*◌, ◌%◌, ◌^◌, ◌<◌, ◌≤◌, sym, ◌∙◌, ap, refl, arith, ⊎_elim}
+use Rattle.std.proofs.lemmas.Bool.Decides.{nat_tests}
+use Rattle.std.proofs.lemmas.Bool.{cases_lt}
+use Rattle.std.proofs.lemmas.Nat.{mod_below, mul-lt, mul-le}
+use Rattle.std.proofs.Math.Nat.{mul-le-mul_left}
+use Rattle.modular_prim.specs.Divisions.{divisions_within, divisions, inverse_divisions}
+use Rattle.modular_prim.proofs.FewSteps.{zero_or_positive, doubled, rest_twice, few_steps}
+
+within_none : (k u v : ℕ) → v ≡ 0 → divisions_within k u v ≡ 0
+unfolding divisions_within
+within_none zero u v e = refl
+within_none (suc k) u v e = grind (arith, nat_tests)
+
+within_next : (k u v : ℕ) → 0 < v → divisions_within (suc k) u v ≡ suc (divisions_within k v (u % v))
+unfolding divisions_within
+within_next k u v p = grind (arith, nat_tests)
+
+-- a larger bound changes nothing
+within_enough : (k l u v : ℕ) → v ≤ k → v ≤ l → divisions_within k u v ≡ divisions_within l u v
+within_enough zero l u v p q = within_none zero u v (omega arith) ∙ sym (within_none l u v (omega arith))
+within_enough (suc k) zero u v p q = within_none (suc k) u v (omega arith) ∙ sym (within_none zero u v (omega arith))
+within_enough (suc k) (suc l) u v p q =
+    ⊎_elim
+    (λ (e : v ≡ 0). within_none (suc k) u v e ∙ sym (within_none (suc l) u v e))
+    (λ (z : 0 < v).
+    let b = mod_below u v z in
+    within_next k u v z ∙ ap suc (within_enough k l v (u % v) (omega arith) (omega arith)) ∙ sym (within_next l u v z))
+    (zero_or_positive v)
+
+-- ---- the equations of the count
+pub divisions-none : (u v : ℕ) → v ≡ 0 → divisions u v ≡ 0
+unfolding divisions
+divisions-none u v e = within_none v u v e
+
+pub divisions-next : (u v : ℕ) → 0 < v → divisions u v ≡ 1 + divisions v (u % v)
+unfolding divisions
+divisions-next u v p =
+    let b = mod_below u v p in
+    let s : divisions_within (suc v) u v ≡ 1 + divisions_within v v (u % v) = within_next v u v p ∙ omega arith in
+    within_enough v (suc v) u v (omega arith) (omega arith) ∙ s
+    ∙ ap (λ n. 1 + n) (within_enough v (u % v) v (u % v) (omega arith) (omega arith))
+
+pub inverse_divisions-below : (a m : ℕ) → a < m → inverse_divisions a m ≡ divisions m (a % m)
+unfolding inverse_divisions
+inverse_divisions-below a m l = grind (arith, nat_tests)
+
+pub inverse_divisions-above : (a m : ℕ) → m ≤ a → inverse_divisions a m ≡ 1 + divisions m (a % m)
+unfolding inverse_divisions
+inverse_divisions-above a m l = grind (arith, nat_tests)
+
+-- ---- the bound
+power_within : (k u v : ℕ) → 0 < v → v < u → v ≤ k → 2 ^ divisions_within k u v ≤ 2 * (u * v)
+power_within zero u v p l b = absurd (omega arith)
+power_within (suc k) u v p l b =
+    let s = ap (λ x. 2 ^ x) (within_next k u v p) in
+    let d = doubled (divisions_within k v (u % v)) in
+    let q = mul-lt 0 0 u v (omega arith) p in
+    ⊎_elim
+    (λ (z : u % v ≡ 0). let w = ap (λ x. 2 ^ x) (within_none k v (u % v) z) in omega arith)
+    (λ (z : 0 < u % v).
+    let m = mod_below u v p in
+    let i = power_within k v (u % v) z m (omega arith) in
+    let h : 2 * (u % v) ≤ u = rest_twice u v p (omega arith) in
+    let t = mul-le-mul_left v h in
+    omega arith)
+    (zero_or_positive (u % v))
+
+-- two to the number of divisions is at most twice the product
+pub divisions-power : (u v : ℕ) → 0 < v → v < u → 2 ^ divisions u v ≤ 2 * (u * v)
+unfolding divisions
+divisions-power u v p l = power_within v u v p l (omega arith)
+
+few_below : (w a m : ℕ) → a < m → m < 2 ^ w → divisions m a ≤ 2 * w
+few_below w a m l h =
+    ⊎_elim
+    (λ (z : a ≡ 0). let n = divisions-none m a z in omega arith)
+    (λ (z : 0 < a). few_steps w (divisions m a) m a h (omega arith) (divisions-power m a z l))
+    (zero_or_positive a)
+
+few_above : (w a m : ℕ) → 1 ≤ w → 0 < m → m ≤ a → a < 2 ^ w → 1 + divisions m (a % m) ≤ 2 * w
+few_above w a m one p l h =
+    let b = mod_below a m p in
+    ⊎_elim
+    (λ (z : a % m ≡ 0). let e = divisions-none m (a % m) z in omega arith)
+    (λ (z : 0 < a % m).
+    let i = divisions-power m (a % m) z b in
+    let d = doubled (divisions m (a % m)) in
+    let t : 2 * (a % m) ≤ a = rest_twice a m p l in
+    let u = mul-le m (2 * (a % m)) a a l t in
+    let s = few_steps w (suc (divisions m (a % m))) a a h h (omega arith) in
+    omega arith)
+    (zero_or_positive (a % m))
+
+-- numbers of w bits take at most 2w divisions
+pub inverse_divisions-few : (w a m : ℕ) → 1 ≤ w → 0 < m → m < 2 ^ w → a < 2 ^ w → inverse_divisions a m ≤ 2 * w
+inverse_divisions-few w a m one p h k =
+    ⊎_elim
+    (λ (l : a < m).
+    let e = inverse_divisions-below a m l in
+    let f = few_below w (a % m) m (mod_below a m p) h in
+    omega arith)
+    (λ (l : m ≤ a).
+    let e = inverse_divisions-above a m l in
+    let f = few_above w a m one p l k in
+    omega arith)
+    (cases_lt a m)
+
+-- ---- the loop's count
+-- `count` divisions are done, and those from u and v are left
+pub record Counts (a m u v count : ℕ) : Type 0 where
+  pub total : count + divisions u v ≡ inverse_divisions a m
+
+pub counts_below : (a m r count : ℕ) → a < m → r ≡ a % m → count ≡ 0 → Counts a m m r count
+counts_below a m r count l e z =
+    let f = ap (λ n. divisions m n) e in
+    let s = inverse_divisions-below a m l in
+    record { total = omega arith }
+
+pub counts_above : (a m r count : ℕ) → m ≤ a → r ≡ a % m → count ≡ 1 → Counts a m m r count
+counts_above a m r count l e z =
+    let f = ap (λ n. divisions m n) e in
+    let s = inverse_divisions-above a m l in
+    record { total = omega arith }
+
+pub counts_next : (a m u v rest count : ℕ) → Counts a m u v count → 0 < v → rest ≡ u % v → Counts a m v rest (count + 1)
+counts_next a m u v rest count c p e =
+    let f = ap (λ n. divisions v n) e in
+    let s = divisions-next u v p in
+    let t = c.total in
+    record { total = omega arith }
+
+pub counts_end : (a m u v count : ℕ) → Counts a m u v count → v ≡ 0 → count ≡ inverse_divisions a m
+counts_end a m u v count c e =
+    let s = divisions-none u v e in
+    let t = c.total in
+    omega arith
+
+-- of words of w bits, base = 2 ^ w, the count is at most 2w
+pub counts_few : (w base a m u v count : ℕ) → Counts a m u v count → 8 ≤ w → base ≡ 2 ^ w → 0 < m → a < base → m < base
+    → count ≤ 2 * w
+counts_few w base a m u v count c one e p h k =
+    let s = inverse_divisions-few w a m (omega arith) p (omega arith) (omega arith) in
+    let t = c.total in
+    omega arith

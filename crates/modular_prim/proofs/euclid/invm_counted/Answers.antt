@@ -1,0 +1,145 @@
+use Rattle.std.proofs.Common.{◌≡◌, ◌+◌, ◌<◌, ◌≤◌, ◌%◌, ◌*◌, sym, arith}
+use Rattle.std.proofs.Math.Nat.{mod-eq_of_lt}
+use Rattle.modular_prim.proofs.DivisionCounts.{counts_below, counts_above, counts_next, counts_end, counts_few}
+use Rattle.modular_prim.proofs.EuclidSteps.{euclid_start, euclid_fits, rest_is, euclid_step, euclid_found, euclid_found_negative, euclid_none}
+use Rattle.modular_prim.proofs.euclid.invm_counted.Goals as goal
+use Rattle.modular_prim.proofs.euclid.invm_counted.Goals.{then-not-is_below, else-not-is_below}
+
+pub euclid-init : goal.euclid-init
+euclid-init g c =
+    let n = g.T.RingWord.number in
+    let start : n c.if-not-is_below.r ≡ n c.args.a % n c.args.m =
+    elim c.if-not-is_below.branch [
+      | then-not-is_below w ↦ rw w.r-is w.remainder-r.ensures.value
+      | else-not-is_below w ↦
+          let below : n c.args.a < n c.args.m = grind arith in
+          rw w.r-is (sym (mod-eq_of_lt below))
+    ] in
+    record {
+      steps =
+          euclid_start (n c.args.a) (n c.args.m) (n c.if-not-is_below.r) (n c.zero-last_t.result) (n c.one-t.result)
+          c.requires start c.zero-last_t.ensures c.one-t.ensures;
+      counts =
+          elim c.if-not-is_below.branch [
+            | then-not-is_below w ↦
+                let above : n c.args.m ≤ n c.args.a = grind arith in
+                counts_above (n c.args.a) (n c.args.m) (n c.if-not-is_below.r) c.if-not-is_below.count above start w.count-is
+            | else-not-is_below w ↦
+                let below : n c.args.a < n c.args.m = grind arith in
+                counts_below (n c.args.a) (n c.args.m) (n c.if-not-is_below.r) c.if-not-is_below.count below start w.count-is
+          ];
+    }
+
+pub times-requires : goal.times-requires
+times-requires g c =
+    let n = g.T.RingWord.number in
+    let positive : 0 < n c.euclid.r = grind arith in
+    let fits =
+    euclid_fits (n c.args.a) (n c.args.m) (n c.euclid.last_r) (n c.euclid.r) (n c.euclid.last_t) (n c.euclid.t)
+    (n c.quotient-quotient.result) c.euclid.odd c.euclid.invariant.steps positive c.quotient-quotient.ensures in
+    omega (arith, fits.0, fits.2, c.is_below.ensures.other_fits)
+
+pub minus-rest-requires : goal.minus-rest-requires
+minus-rest-requires g c =
+    let n = g.T.RingWord.number in
+    let positive : 0 < n c.euclid.r = grind arith in
+    let fits =
+    euclid_fits (n c.args.a) (n c.args.m) (n c.euclid.last_r) (n c.euclid.r) (n c.euclid.last_t) (n c.euclid.t)
+    (n c.quotient-quotient.result) c.euclid.odd c.euclid.invariant.steps positive c.quotient-quotient.ensures in
+    omega (arith, fits.0, c.times.ensures)
+
+pub times-requires-in-euclid : goal.times-requires-in-euclid
+times-requires-in-euclid g c =
+    let n = g.T.RingWord.number in
+    let positive : 0 < n c.euclid.r = grind arith in
+    let fits =
+    euclid_fits (n c.args.a) (n c.args.m) (n c.euclid.last_r) (n c.euclid.r) (n c.euclid.last_t) (n c.euclid.t)
+    (n c.quotient-quotient.result) c.euclid.odd c.euclid.invariant.steps positive c.quotient-quotient.ensures in
+    omega (arith, fits.1, c.is_below.ensures.other_fits)
+
+pub plus-next-requires : goal.plus-next-requires
+plus-next-requires g c =
+    let n = g.T.RingWord.number in
+    let positive : 0 < n c.euclid.r = grind arith in
+    let fits =
+    euclid_fits (n c.args.a) (n c.args.m) (n c.euclid.last_r) (n c.euclid.r) (n c.euclid.last_t) (n c.euclid.t)
+    (n c.quotient-quotient.result) c.euclid.odd c.euclid.invariant.steps positive c.quotient-quotient.ensures in
+    omega (arith, fits.1, c.is_below.ensures.other_fits, c.times-in-euclid.ensures)
+
+pub overflow_add-count : goal.overflow_add-count
+overflow_add-count g c =
+    let n = g.T.RingWord.number in
+    let few : c.euclid.count ≤ 2 * g.T.RingWord.width =
+    counts_few g.T.RingWord.width g.T.PathWord.base (n c.args.a) (n c.args.m) (n c.euclid.last_r) (n c.euclid.r)
+    c.euclid.count c.euclid.invariant.counts g.met.T.RingWord.width_from g.met.T.PathWord.base_is c.requires
+    c.is_below.ensures.fits c.is_below.ensures.other_fits in
+    omega (arith, g.met.T.RingWord.width_to)
+
+pub euclid-preserved : goal.euclid-preserved
+euclid-preserved g c =
+    let n = g.T.RingWord.number in
+    let positive : 0 < n c.euclid.r = grind arith in
+    let rest : n c.minus-rest.result + n c.quotient-quotient.result * n c.euclid.r ≡ n c.euclid.last_r =
+    omega (arith, c.minus-rest.ensures.value, c.times.ensures) in
+    record {
+      steps =
+          euclid_step (n c.args.a) (n c.args.m) (n c.euclid.last_r) (n c.euclid.r) (n c.euclid.last_t) (n c.euclid.t)
+          (n c.plus-next.result) (n c.quotient-quotient.result) (n c.minus-rest.result) c.euclid.odd
+          c.euclid.invariant.steps positive c.quotient-quotient.ensures rest
+          (let e : n c.plus-next.result ≡ n c.euclid.last_t + n c.quotient-quotient.result * n c.euclid.t = omega (arith, c.plus-next.ensures, c.times-in-euclid.ensures) in e);
+      counts =
+          counts_next (n c.args.a) (n c.args.m) (n c.euclid.last_r) (n c.euclid.r) (n c.minus-rest.result) c.euclid.count
+          c.euclid.invariant.counts positive
+          (rest_is (n c.euclid.last_r) (n c.euclid.r) (n c.quotient-quotient.result) (n c.minus-rest.result) c.quotient-quotient.ensures rest);
+    }
+
+pub returns-then-is_below : goal.returns-then-is_below
+returns-then-is_below g c =
+    let n = g.T.RingWord.number in
+    let ended : n c.euclid.r ≡ 0 = grind arith in
+    let above : 1 < n c.euclid.last_r = grind arith in
+    let few : c.euclid.count ≤ 2 * g.T.RingWord.width =
+    counts_few g.T.RingWord.width g.T.PathWord.base (n c.args.a) (n c.args.m) (n c.euclid.last_r) (n c.euclid.r)
+    c.euclid.count c.euclid.invariant.counts g.met.T.RingWord.width_from g.met.T.PathWord.base_is c.requires
+    c.is_below.ensures.fits c.is_below.ensures.other_fits in
+    record {
+      inverse =
+          λ x i. euclid_none (n c.args.a) (n c.args.m) (n c.euclid.last_r) (n c.euclid.r) (n c.euclid.last_t)
+          (n c.euclid.t) x c.euclid.odd c.euclid.invariant.steps ended above i;
+      count = counts_end (n c.args.a) (n c.args.m) (n c.euclid.last_r) (n c.euclid.r) c.euclid.count c.euclid.invariant.counts ended;
+      at_most = few;
+    }
+
+pub returns-then-odd : goal.returns-then-odd
+returns-then-odd g c =
+    let n = g.T.RingWord.number in
+    let ended : n c.euclid.r ≡ 0 = grind arith in
+    let small : n c.euclid.last_r ≤ 1 = grind arith in
+    let few : c.euclid.count ≤ 2 * g.T.RingWord.width =
+    counts_few g.T.RingWord.width g.T.PathWord.base (n c.args.a) (n c.args.m) (n c.euclid.last_r) (n c.euclid.r)
+    c.euclid.count c.euclid.invariant.counts g.met.T.RingWord.width_from g.met.T.PathWord.base_is c.requires
+    c.is_below.ensures.fits c.is_below.ensures.other_fits in
+    record {
+      inverse =
+          euclid_found (n c.args.a) (n c.args.m) (n c.euclid.last_r) (n c.euclid.r) (n c.euclid.last_t) (n c.euclid.t)
+          c.euclid.odd c.euclid.invariant.steps c.if-odd.true small;
+      count = counts_end (n c.args.a) (n c.args.m) (n c.euclid.last_r) (n c.euclid.r) c.euclid.count c.euclid.invariant.counts ended;
+      at_most = few;
+    }
+
+pub returns-else-odd : goal.returns-else-odd
+returns-else-odd g c =
+    let n = g.T.RingWord.number in
+    let ended : n c.euclid.r ≡ 0 = grind arith in
+    let small : n c.euclid.last_r ≤ 1 = grind arith in
+    let few : c.euclid.count ≤ 2 * g.T.RingWord.width =
+    counts_few g.T.RingWord.width g.T.PathWord.base (n c.args.a) (n c.args.m) (n c.euclid.last_r) (n c.euclid.r)
+    c.euclid.count c.euclid.invariant.counts g.met.T.RingWord.width_from g.met.T.PathWord.base_is c.requires
+    c.is_below.ensures.fits c.is_below.ensures.other_fits in
+    record {
+      inverse =
+          euclid_found_negative (n c.args.a) (n c.args.m) (n c.euclid.last_r) (n c.euclid.r) (n c.euclid.last_t) (n c.euclid.t)
+          (n c.neg_below.result) c.euclid.odd c.euclid.invariant.steps c.if-odd.false small c.neg_below.ensures.value;
+      count = counts_end (n c.args.a) (n c.args.m) (n c.euclid.last_r) (n c.euclid.r) c.euclid.count c.euclid.invariant.counts ended;
+      at_most = few;
+    }

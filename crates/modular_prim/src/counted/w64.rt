@@ -1,0 +1,18 @@
+//! Words of 64 bits.
+
+ghost use Rattle.std.specs.Prelude.{◌≡◌, ◌≤◌};
+ghost use Rattle.modular_prim.specs.Divisions.{inverse_divisions};
+ghost use Rattle.modular_word.specs.Inverses.{IsInversion};
+
+use crate::euclid;
+
+/// The inverse of a modulo m, `None` exactly where there is none, and the number of divisions.
+/// Condition: m is at least 1.
+pub fn invm_counted(a: u64, m: u64) -> (Option<u64>, u32)
+    requires { 1 ≤ m }
+    ensures inverse { IsInversion (λ x. x) m a result.0 }
+    ensures count { result.1 ≡ inverse_divisions a m }
+    ensures at_most { result.1 ≤ 128 }
+{
+    euclid::invm_counted(a, m)
+}
