@@ -8,4 +8,5 @@ pub mod LegendreClass
 pub mod Lattice
 pub mod RangeProducts
 pub mod ResidueProducts
+pub mod StepCounts
 pub mod TwoPart

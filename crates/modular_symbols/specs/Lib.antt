@@ -2,6 +2,7 @@ pub mod Jacobi
 pub mod Kronecker
 pub mod Legendre
 pub mod Primes
+pub mod Steps
 pub use Rattle.modular_word.specs.Divisors
 pub use Rattle.modular_word.specs.Inverses
 pub use Rattle.modular_word.specs.Residues

@@ -1,8 +1,10 @@
-//! The Jacobi symbol by halving and swapping.
+//! The Jacobi symbol by halving and swapping, with the number of these steps.
 
-ghost use Rattle.std.specs.Prelude.{◌≡◌, ◌*◌, ◌%◌, ◌^◌, ◌==◌, ◌||◌, pos};
+ghost use Rattle.std.specs.Prelude.{◌≡◌, ℕ, ◌+◌, ◌*◌, ◌%◌, ◌^◌, ◌<◌, ◌≤◌, ◌==◌, ◌||◌, pos};
 ghost use Rattle.modular_symbols.specs.Jacobi.{jacobi};
 ghost use Rattle.modular_symbols.specs.Kronecker.{signed};
+ghost use Rattle.modular_symbols.specs.Steps.{jacobi_steps};
+ghost use Rattle.modular_word.specs.Residues.{residue};
 
 use modular_prim::abs::signed_residue;
 use modular_prim::plain_word::PlainWord;
@@ -36,38 +38,63 @@ fn is_turned<T: PlainWord>(a: T, twos: u32, n: T) -> bool
     ((twos % 2 == 1) & is_minus_over_two(n)) ^ (leaves_3(a) & leaves_3(n))
 }
 
-// The Jacobi symbol of a over n. Condition: n is odd.
-fn halve_and_swap<T: PlainWord>(a: T, n: T) -> i8
-    requires { T.number n % 2 ≡ 1 }
-    ensures { result ≡ jacobi (pos (T.number a)) (T.number n) }
+// The Jacobi symbol of a over n, and the number of halvings and swaps. Condition: n is odd and above a.
+fn halve_and_swap<T: PlainWord>(a: T, n: T) -> (i8, u32)
+    requires odd { T.number n % 2 ≡ 1 }
+    requires below { T.number a < T.number n }
+    ensures symbol { result.0 ≡ jacobi (pos (T.number a)) (T.number n) }
+    ensures count { result.1 ≡ jacobi_steps (T.number a) (T.number n) }
+    ensures at_most { result.1 ≤ 2 * T.width }
 {
     let mut above = a;
     let mut below = n;
     let mut turned = false;
+    let mut count = 0;
     'swaps: while !above.is_zero_word() {
         let twos = above.trailing_zeros();
         let odd = above.shift_right(twos);
         turned ^= is_turned(odd, twos, below);
         above = below.remainder(odd);
         below = odd;
+        count += twos + 1;
     }
     if below == T::one() {
-        if turned { -1 } else { 1 }
+        if turned { (-1, count) } else { (1, count) }
     } else {
-        0
+        (0, count)
     }
 }
 
 /// The Jacobi symbol over n of a number, given by its sign and its magnitude. Condition: n is odd.
+pub fn jacobi_by_halving<T: PlainWord>(a_minus: bool, a: T, n: T) -> i8
+    requires { T.number n % 2 ≡ 1 }
+    ensures { result ≡ jacobi (signed a_minus (pos (T.number a))) (T.number n) }
+{
+    jacobi_counted(a_minus, a, n).0
+}
+
+/// The Jacobi symbol over n of a number, given by its sign and its magnitude, and the number of halvings
+/// and swaps from its residue over n. Condition: n is odd.
 ///
 /// A turn of the loop takes all twos out of the upper number, swaps the two and reduces, with one
 /// division.
 ///
 /// Source: Cohen, "A Course in Computational Algebraic Number Theory", algorithm 1.4.10, without
 /// its first steps.
-pub fn jacobi_by_halving<T: PlainWord>(a_minus: bool, a: T, n: T) -> i8
+pub fn jacobi_counted<T: PlainWord>(a_minus: bool, a: T, n: T) -> (i8, u32)
     requires { T.number n % 2 ≡ 1 }
-    ensures { result ≡ jacobi (signed a_minus (pos (T.number a))) (T.number n) }
+    ensures symbol { result.0 ≡ jacobi (signed a_minus (pos (T.number a))) (T.number n) }
+    ensures count { result.1
+        ≡ jacobi_steps (residue (T.number n) (signed a_minus (pos (T.number a)))) (T.number n) }
+    ensures at_most { result.1 ≤ 2 * T.width }
 {
     halve_and_swap(signed_residue(a_minus, a, n), n)
 }
+
+/// From 0 there are no steps; from 2^z times an odd number there are z halvings, a swap, and those from
+/// what the swap leaves; and 2 to their number is at most 2·a·n, for a from 1 to n - 1.
+pub fn step_laws()
+    ensures none { (n : ℕ) → jacobi_steps 0 n ≡ 0 }
+    ensures turn { (odd z n : ℕ) → odd % 2 ≡ 1 → jacobi_steps (odd * 2 ^ z) n ≡ z + 1 + jacobi_steps (n % odd) odd }
+    ensures few { (a n : ℕ) → 0 < a → a < n → 2 ^ jacobi_steps a n ≤ 2 * (a * n) }
+{}

@@ -3,6 +3,7 @@
 #![tactic(auto)]
 
 pub mod count;
+pub mod counted;
 pub mod halving;
 pub mod integer;
 pub mod laws;

@@ -1,5 +1,6 @@
 //! Known values of the symbols.
 
+mod counted;
 mod generic;
 mod large;
 mod least;

@@ -41,4 +41,9 @@ fn counted_operations(rt: HostRuntime) {
     assert_eq!(rt; w32::invm_counted(0, 1), (Some(0), 0));
     assert_eq!(rt; w64::invm_counted(7, 21), (None, 1));
     assert_eq!(rt; wsize::invm_counted(144, 233), (Some(89), 11));
+    assert_eq!(rt; w8::checked_jacobi_counted(7, 15), Some((-1, 2)));
+    assert_eq!(rt; w16::checked_jacobi_counted(2, 15), Some((1, 2)));
+    assert_eq!(rt; w32::checked_jacobi_counted(16, 255), Some((1, 5)));
+    assert_eq!(rt; w64::checked_jacobi_counted(0, 9), Some((0, 0)));
+    assert_eq!(rt; wsize::checked_jacobi_counted(3, 8), None);
 }

@@ -1,14 +1,18 @@
--- Each turn of the loop keeps the symbol up to its sign.
-use Rattle.std.proofs.Common.{rules, arith, ◌≡◌, ◌≢◌, ◌∙◌, IsTrue, ℤ, pos, sym, ap}
+-- Each turn of the loop keeps the symbol up to its sign, and counts its steps.
+use Rattle.std.proofs.Common.{rules, arith, ◌≡◌, ◌≢◌, ◌+◌, ◌∙◌, IsTrue, ℤ, pos, sym, ap}
 use Rattle.modular_symbols.specs.Jacobi.{jacobi}
 use Rattle.modular_symbols.specs.Kronecker.{signed}
 use Rattle.modular_symbols.proofs.HalvingSteps.{halved, smaller, kept_start, kept_swapped, kept_one, kept_none}
+use Rattle.modular_symbols.proofs.StepCounts.{counts_start, counts_turn, counts_end, counts_few}
 use Rattle.modular_symbols.proofs.halving.halve_and_swap.Goals as goal
 
 pub swaps-init : goal.swaps-init
 swaps-init g c =
     let n = g.T.RingWord.number in
-    kept_start (n c.args.a) (n c.args.n) c.requires
+    record {
+      symbol = kept_start (n c.args.a) (n c.args.n) c.requires.odd;
+      counts = counts_start g.T.RingWord.width (n c.args.a) (n c.args.n);
+    }
 
 pub is_turned-turned-requires-clause-a_odd : goal.is_turned-turned-requires-clause-a_odd
 is_turned-turned-requires-clause-a_odd g c =
@@ -41,9 +45,46 @@ swaps-preserved g c =
     let some : n c.swaps.above ≢ 0 = search rules in
     let h = halved g.T.RingWord.width (n c.swaps.above) c.trailing_zeros-twos.result (n c.shift_right-odd.result) some
     c.is_zero_word.ensures.fits c.trailing_zeros-twos.ensures.value c.shift_right-odd.ensures.value in
-    kept_swapped (jacobi (pos (n c.args.a)) (n c.args.n)) (n c.swaps.above) (n c.swaps.below) c.trailing_zeros-twos.result
-    (n c.shift_right-odd.result) (n c.remainder-above.result) c.swaps.turned c.is_turned-turned.result c.swaps.invariant h
-    c.is_turned-turned.ensures c.remainder-above.ensures.value
+    record {
+      symbol =
+          kept_swapped (jacobi (pos (n c.args.a)) (n c.args.n)) (n c.swaps.above) (n c.swaps.below) c.trailing_zeros-twos.result
+          (n c.shift_right-odd.result) (n c.remainder-above.result) c.swaps.turned c.is_turned-turned.result
+          c.swaps.invariant.symbol h c.is_turned-turned.ensures c.remainder-above.ensures.value;
+      counts =
+          counts_turn g.T.RingWord.width g.T.PathWord.base (n c.args.a) (n c.args.n) (n c.swaps.above) (n c.swaps.below)
+          c.trailing_zeros-twos.result (n c.shift_right-odd.result) (n c.remainder-above.result) c.swaps.count
+          c.swaps.invariant.counts h c.remainder-above.ensures.value g.met.T.PathWord.base_is c.remainder-above.ensures.fits;
+    }
+
+pub overflow_add-count : goal.overflow_add-count
+overflow_add-count g c =
+    let n = g.T.RingWord.number in
+    let some : n c.swaps.above ≢ 0 = search rules in
+    let h = halved g.T.RingWord.width (n c.swaps.above) c.trailing_zeros-twos.result (n c.shift_right-odd.result) some
+    c.is_zero_word.ensures.fits c.trailing_zeros-twos.ensures.value c.shift_right-odd.ensures.value in
+    let after =
+    counts_turn g.T.RingWord.width g.T.PathWord.base (n c.args.a) (n c.args.n) (n c.swaps.above) (n c.swaps.below)
+    c.trailing_zeros-twos.result (n c.shift_right-odd.result) (n c.remainder-above.result) c.swaps.count
+    c.swaps.invariant.counts h c.remainder-above.ensures.value g.met.T.PathWord.base_is c.remainder-above.ensures.fits in
+    let few =
+    counts_few g.T.RingWord.width (n c.args.a) (n c.args.n) (n c.remainder-above.result) (n c.shift_right-odd.result)
+    (c.swaps.count + (c.trailing_zeros-twos.result + 1)) after c.requires.below in
+    omega (arith, g.met.T.RingWord.width_to)
+
+pub overflow_add-count-in-swaps : goal.overflow_add-count-in-swaps
+overflow_add-count-in-swaps g c =
+    let n = g.T.RingWord.number in
+    let some : n c.swaps.above ≢ 0 = search rules in
+    let h = halved g.T.RingWord.width (n c.swaps.above) c.trailing_zeros-twos.result (n c.shift_right-odd.result) some
+    c.is_zero_word.ensures.fits c.trailing_zeros-twos.ensures.value c.shift_right-odd.ensures.value in
+    let after =
+    counts_turn g.T.RingWord.width g.T.PathWord.base (n c.args.a) (n c.args.n) (n c.swaps.above) (n c.swaps.below)
+    c.trailing_zeros-twos.result (n c.shift_right-odd.result) (n c.remainder-above.result) c.swaps.count
+    c.swaps.invariant.counts h c.remainder-above.ensures.value g.met.T.PathWord.base_is c.remainder-above.ensures.fits in
+    let few =
+    counts_few g.T.RingWord.width (n c.args.a) (n c.args.n) (n c.remainder-above.result) (n c.shift_right-odd.result)
+    (c.swaps.count + (c.trailing_zeros-twos.result + 1)) after c.requires.below in
+    omega (arith, g.met.T.RingWord.width_to)
 
 pub returns-then-turned : goal.returns-then-turned
 returns-then-turned g c =
@@ -52,8 +93,15 @@ returns-then-turned g c =
     let same : IsTrue (g.T.PartialEq.eq c.swaps.below c.one.result) = search rules in
     let one : n c.swaps.below ≡ 1 = (g.met.T.RingWord.equal c.swaps.below c.one.result).0 same ∙ c.one.ensures in
     let w : ℤ = jacobi (pos (n c.args.a)) (n c.args.n) in
-    ap (λ t. signed t (pos 1)) (sym c.if-turned.true)
-    ∙ kept_one w (n c.swaps.above) (n c.swaps.below) c.swaps.turned c.swaps.invariant none one
+    record {
+      symbol =
+          ap (λ t. signed t (pos 1)) (sym c.if-turned.true)
+          ∙ kept_one w (n c.swaps.above) (n c.swaps.below) c.swaps.turned c.swaps.invariant.symbol none one;
+      count = counts_end g.T.RingWord.width (n c.args.a) (n c.args.n) (n c.swaps.above) (n c.swaps.below) c.swaps.count c.swaps.invariant.counts none;
+      at_most =
+          counts_few g.T.RingWord.width (n c.args.a) (n c.args.n) (n c.swaps.above) (n c.swaps.below) c.swaps.count
+          c.swaps.invariant.counts c.requires.below;
+    }
 
 pub returns-else-turned : goal.returns-else-turned
 returns-else-turned g c =
@@ -62,8 +110,15 @@ returns-else-turned g c =
     let same : IsTrue (g.T.PartialEq.eq c.swaps.below c.one.result) = search rules in
     let one : n c.swaps.below ≡ 1 = (g.met.T.RingWord.equal c.swaps.below c.one.result).0 same ∙ c.one.ensures in
     let w : ℤ = jacobi (pos (n c.args.a)) (n c.args.n) in
-    ap (λ t. signed t (pos 1)) (sym c.if-turned.false)
-    ∙ kept_one w (n c.swaps.above) (n c.swaps.below) c.swaps.turned c.swaps.invariant none one
+    record {
+      symbol =
+          ap (λ t. signed t (pos 1)) (sym c.if-turned.false)
+          ∙ kept_one w (n c.swaps.above) (n c.swaps.below) c.swaps.turned c.swaps.invariant.symbol none one;
+      count = counts_end g.T.RingWord.width (n c.args.a) (n c.args.n) (n c.swaps.above) (n c.swaps.below) c.swaps.count c.swaps.invariant.counts none;
+      at_most =
+          counts_few g.T.RingWord.width (n c.args.a) (n c.args.n) (n c.swaps.above) (n c.swaps.below) c.swaps.count
+          c.swaps.invariant.counts c.requires.below;
+    }
 
 pub returns-else-eq : goal.returns-else-eq
 returns-else-eq g c =
@@ -73,4 +128,11 @@ returns-else-eq g c =
     let same : IsTrue (g.T.PartialEq.eq c.swaps.below c.one.result) =
     (g.met.T.RingWord.equal c.swaps.below c.one.result).1 (e ∙ sym c.one.ensures) in
     search rules in
-    kept_none (jacobi (pos (n c.args.a)) (n c.args.n)) (n c.swaps.above) (n c.swaps.below) c.swaps.turned c.swaps.invariant none other
+    record {
+      symbol =
+          kept_none (jacobi (pos (n c.args.a)) (n c.args.n)) (n c.swaps.above) (n c.swaps.below) c.swaps.turned c.swaps.invariant.symbol none other;
+      count = counts_end g.T.RingWord.width (n c.args.a) (n c.args.n) (n c.swaps.above) (n c.swaps.below) c.swaps.count c.swaps.invariant.counts none;
+      at_most =
+          counts_few g.T.RingWord.width (n c.args.a) (n c.args.n) (n c.swaps.above) (n c.swaps.below) c.swaps.count
+          c.swaps.invariant.counts c.requires.below;
+    }

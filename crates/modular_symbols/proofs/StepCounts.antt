@@ -1,0 +1,146 @@
+-- How many halvings and swaps the loop of the Jacobi symbol takes, and that these are few.
+use Rattle.std.proofs.Common.{◌≡◌, ℕ, zero, suc, ◌+◌, ◌*◌, ◌/◌, ◌%◌, ◌^◌, ◌<◌, ◌≤◌, sym, ◌∙◌, ap, refl, arith, ⊎_elim, ◌⊎◌, inl, inr}
+use Rattle.std.proofs.lemmas.Bool.Decides.{nat_tests}
+use Rattle.std.proofs.lemmas.Nat.{mod_below, mul-lt, pow_pos}
+use Rattle.std.proofs.Math.Nat.{mul-le-mul_left, pow-suc, mul-one}
+use Rattle.modular_prim.proofs.FewSteps.{zero_or_positive, doubled, rest_twice, few_steps}
+use Rattle.modular_symbols.specs.Steps.{steps_within, jacobi_steps}
+use Rattle.modular_symbols.proofs.HalvingSteps.{Halved}
+use Rattle.modular_symbols.proofs.JacobiLaws.{parities}
+
+within_none : (k a n : ℕ) → a ≡ 0 → steps_within k a n ≡ 0
+unfolding steps_within
+within_none zero a n e = refl
+within_none (suc k) a n e = grind (arith, nat_tests)
+
+within_halved : (k a n : ℕ) → 0 < a → a % 2 ≡ 0 → steps_within (suc k) a n ≡ suc (steps_within k (a / 2) n)
+unfolding steps_within
+within_halved k a n p e = grind (arith, nat_tests)
+
+within_swapped : (k a n : ℕ) → a % 2 ≡ 1 → steps_within (suc k) a n ≡ suc (steps_within k (n % a) a)
+unfolding steps_within
+within_swapped k a n e = grind (arith, nat_tests)
+
+-- a larger bound changes nothing
+within_enough : (k l a n : ℕ) → a ≤ k → a ≤ l → steps_within k a n ≡ steps_within l a n
+within_enough zero l a n p q = within_none zero a n (omega arith) ∙ sym (within_none l a n (omega arith))
+within_enough (suc k) zero a n p q = within_none (suc k) a n (omega arith) ∙ sym (within_none zero a n (omega arith))
+within_enough (suc k) (suc l) a n p q =
+    ⊎_elim
+    (λ (e : a ≡ 0). within_none (suc k) a n e ∙ sym (within_none (suc l) a n e))
+    (λ (z : 0 < a).
+    ⊎_elim
+    (λ (e : a % 2 ≡ 0).
+    within_halved k a n z e ∙ ap suc (within_enough k l (a / 2) n (omega arith) (omega arith))
+    ∙ sym (within_halved l a n z e))
+    (λ (o : a % 2 ≡ 1).
+    let b = mod_below n a z in
+    within_swapped k a n o ∙ ap suc (within_enough k l (n % a) a (omega arith) (omega arith))
+    ∙ sym (within_swapped l a n o))
+    (parities a))
+    (zero_or_positive a)
+
+-- ---- the equations of the count
+pub jacobi_steps-none : (a n : ℕ) → a ≡ 0 → jacobi_steps a n ≡ 0
+unfolding jacobi_steps
+jacobi_steps-none a n e = within_none a a n e
+
+jacobi_steps-halved : (a n : ℕ) → 0 < a → a % 2 ≡ 0 → jacobi_steps a n ≡ suc (jacobi_steps (a / 2) n)
+unfolding jacobi_steps
+jacobi_steps-halved a n p e =
+    within_enough a (suc a) a n (omega arith) (omega arith) ∙ within_halved a a n p e
+    ∙ ap suc (within_enough a (a / 2) (a / 2) n (omega arith) (omega arith))
+
+jacobi_steps-swapped : (a n : ℕ) → a % 2 ≡ 1 → jacobi_steps a n ≡ suc (jacobi_steps (n % a) a)
+unfolding jacobi_steps
+jacobi_steps-swapped a n o =
+    let b = mod_below n a (omega arith) in
+    within_enough a (suc a) a n (omega arith) (omega arith) ∙ within_swapped a a n o
+    ∙ ap suc (within_enough a (n % a) (n % a) a (omega arith) (omega arith))
+
+-- z twos are halved away, then the odd part o changes its place
+pub jacobi_steps-turn : (o z n : ℕ) → o % 2 ≡ 1 → jacobi_steps (o * 2 ^ z) n ≡ z + 1 + jacobi_steps (n % o) o
+jacobi_steps-turn o zero n h = ap (λ v. jacobi_steps v n) (mul-one o) ∙ jacobi_steps-swapped o n h ∙ omega arith
+jacobi_steps-turn o (suc z) n h =
+    let p = ap (λ v. o * v) (pow-suc 2 z) in
+    let e : o * 2 ^ suc z ≡ 2 * (o * 2 ^ z) = omega arith in
+    let q = mul-lt 0 0 o (2 ^ z) (omega arith) (pow_pos z) in
+    let g : o * 2 ^ suc z / 2 ≡ o * 2 ^ z = omega arith in
+    jacobi_steps-halved (o * 2 ^ suc z) n (omega arith) (omega arith)
+    ∙ ap (λ v. suc (jacobi_steps v n)) g ∙ ap suc (jacobi_steps-turn o z n h) ∙ omega arith
+
+-- ---- the bound
+power_within : (k a n : ℕ) → 0 < a → a < n → a ≤ k → 2 ^ steps_within k a n ≤ 2 * (a * n)
+power_within zero a n p l b = absurd (omega arith)
+power_within (suc k) a n p l b =
+    ⊎_elim
+    (λ (e : a % 2 ≡ 0).
+    let i = power_within k (a / 2) n (omega arith) (omega arith) (omega arith) in
+    let s = ap (λ v. 2 ^ v) (within_halved k a n p e) in
+    let d = doubled (steps_within k (a / 2) n) in
+    let h : a ≡ 2 * (a / 2) = omega arith in
+    let t = ap (λ v. v * n) h in
+    omega arith)
+    (λ (o : a % 2 ≡ 1).
+    let s = ap (λ v. 2 ^ v) (within_swapped k a n o) in
+    let d = doubled (steps_within k (n % a) a) in
+    let q = mul-lt 0 0 a n p (omega arith) in
+    ⊎_elim
+    (λ (z : n % a ≡ 0). let w = ap (λ v. 2 ^ v) (within_none k (n % a) a z) in omega arith)
+    (λ (z : 0 < n % a).
+    let m = mod_below n a p in
+    let i = power_within k (n % a) a z m (omega arith) in
+    let u : 2 * (n % a) ≤ n = rest_twice n a p (omega arith) in
+    let t = mul-le-mul_left a u in
+    omega arith)
+    (zero_or_positive (n % a)))
+    (parities a)
+
+-- two to the number of steps is at most twice the product
+pub jacobi_steps-power : (a n : ℕ) → 0 < a → a < n → 2 ^ jacobi_steps a n ≤ 2 * (a * n)
+unfolding jacobi_steps
+jacobi_steps-power a n p l = power_within a a n p l (omega arith)
+
+-- numbers of w bits take at most 2w steps
+jacobi_steps-few : (w a n : ℕ) → a < n → n < 2 ^ w → jacobi_steps a n ≤ 2 * w
+jacobi_steps-few w a n l h =
+    ⊎_elim
+    (λ (e : a ≡ 0). let f = jacobi_steps-none a n e in omega arith)
+    (λ (p : 0 < a). few_steps w (jacobi_steps a n) a n (omega arith) h (jacobi_steps-power a n p l))
+    (zero_or_positive a)
+
+-- ---- the loop's count
+-- `count` steps are done, and those from x over y are left; n fits w bits, since a turn has read it, if there was one
+pub record Counts (w a n x y count : ℕ) : Type 0 where
+  pub total : count + jacobi_steps x y ≡ jacobi_steps a n
+  pub fits : ((count ≡ 0) × (y ≡ n)) ⊎ (n < 2 ^ w)
+
+pub counts_start : (w a n : ℕ) → Counts w a n a n 0
+counts_start w a n = record { total = omega arith; fits = inl (refl, refl) }
+
+-- a turn, which is z halvings and a swap
+pub counts_turn : (w base a n x y z o rest count : ℕ) → Counts w a n x y count → Halved x z o → rest ≡ y % o
+    → base ≡ 2 ^ w → y < base → Counts w a n rest o (count + (z + 1))
+counts_turn w base a n x y z o rest count c h e b l =
+    let s = jacobi_steps-turn o z y h.odd in
+    let f = ap (λ v. jacobi_steps v y) h.whole in
+    let r = ap (λ v. jacobi_steps v o) e in
+    let t = c.total in
+    record {
+      total = omega arith;
+      fits = inr (⊎_elim (λ (p : (count ≡ 0) × (y ≡ n)). let q = p.1 in omega arith) (λ (q : n < 2 ^ w). q) c.fits);
+    }
+
+pub counts_end : (w a n x y count : ℕ) → Counts w a n x y count → x ≡ 0 → count ≡ jacobi_steps a n
+counts_end w a n x y count c e =
+    let s = jacobi_steps-none x y e in
+    let t = c.total in
+    omega arith
+
+pub counts_few : (w a n x y count : ℕ) → Counts w a n x y count → a < n → count ≤ 2 * w
+counts_few w a n x y count c l =
+    let t = c.total in
+    ⊎_elim
+    (λ (p : (count ≡ 0) × (y ≡ n)). let q = p.0 in omega arith)
+    (λ (q : n < 2 ^ w). let s = jacobi_steps-few w a n l q in omega arith)
+    c.fits

@@ -1,0 +1,29 @@
+//! The Jacobi symbol with the number of its steps, a module a width.
+
+ghost use Rattle.std.specs.Prelude.{◌≡◌, ◌%◌, ◌*◌, ◌≤◌, pos, IfSome, option_map};
+ghost use Rattle.modular_symbols.specs.Jacobi.{checked_jacobi_of};
+ghost use Rattle.modular_symbols.specs.Steps.{jacobi_steps};
+
+use crate::halving::jacobi_counted;
+use modular_prim::plain_word::PlainWord;
+use modular_word::ring_word::RingWord;
+
+pub mod w16;
+pub mod w32;
+pub mod w64;
+pub mod w8;
+pub mod wsize;
+
+/// The Jacobi symbol, `None` exactly for an even n, and the number of halvings and swaps from the
+/// residue of a over n.
+pub fn checked_jacobi_counted<T: PlainWord>(a: T, n: T) -> Option<(i8, u32)>
+    ensures symbol { option_map (λ found. found.0) result ≡ checked_jacobi_of (pos (T.number a)) (pos (T.number n)) }
+    ensures count { IfSome result (λ found. found.1 ≡ jacobi_steps (T.number a % T.number n) (T.number n)) }
+    ensures at_most { IfSome result (λ found. found.1 ≤ 2 * T.width) }
+{
+    if n.is_odd() {
+        Some(jacobi_counted(false, a, n))
+    } else {
+        None
+    }
+}
