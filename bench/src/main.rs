@@ -10,37 +10,57 @@ use std::hint::black_box;
 use std::process::ExitCode;
 use std::time::Instant;
 
-/// An operation: its name, the function of the port and that of the crate, and how many steps a
-/// turn has.
+/// An operation: its name, the function of the port and that of the crate, how many steps a turn
+/// has, and the moduli on which the answers are compared. The first of them is measured.
 struct Operation {
     name: &'static str,
     port: Bench,
     original: Bench,
     steps: u64,
+    moduli: &'static [u64],
 }
 
 const TURNS: usize = 15;
 
-/// The greatest prime below 2^64: odd, with its top bit set, so that each function takes it.
-const MODULUS: u64 = u64::MAX - 58;
-
 const FIRST: u64 = 0x0123_4567_89ab_cdef;
 const SECOND: u64 = 0xfedc_ba98_7654_3211;
 
-/// Further moduli on which the answers are compared: odd, with the top bit set.
-const COMPARED: [u64; 5] = [
-    MODULUS,
+/// Moduli that each function of any modulus takes: odd, with the top bit set.
+const ANY: [u64; 5] = [
+    PRIME[0],
     u64::MAX,
     0x8000_0000_0000_0001,
     0xffff_ffff_0000_0001,
     0xc000_0000_0000_0015,
 ];
 
+/// The greatest prime below 2^64.
+const PRIME: [u64; 1] = [u64::MAX - 58];
+
+/// 2^61 - 1, by which texts are hashed.
+const MERSENNE: [u64; 1] = [(1 << 61) - 1];
+
+/// 2^64 - 2^32 + 1, by which transforms are made.
+const SOLINAS: [u64; 1] = [u64::MAX - (1 << 32) + 2];
+
+/// 29 * 2^57 + 1, by which transforms are made.
+const PROTH: [u64; 1] = [(29 << 57) + 1];
+
 const fn operation(name: &'static str, port: Bench, original: Bench, steps: u64) -> Operation {
-    Operation { name, port, original, steps }
+    fixed(name, port, original, steps, &ANY)
 }
 
-static OPERATIONS: [Operation; 16] = [
+const fn fixed(
+    name: &'static str,
+    port: Bench,
+    original: Bench,
+    steps: u64,
+    moduli: &'static [u64],
+) -> Operation {
+    Operation { name, port, original, steps, moduli }
+}
+
+static OPERATIONS: [Operation; 24] = [
     operation("mulm", port::mulm, original::mulm, 200_000),
     operation("mulm (plain line)", port::mulm, original::plain_mulm, 200_000),
     operation("powm", port::powm, original::powm, 2_000),
@@ -67,18 +87,26 @@ static OPERATIONS: [Operation; 16] = [
         500_000,
     ),
     operation("PreModInv: div_exact", port::preinv_div_exact, original::preinv_div_exact, 1_000_000),
+    fixed("FixedMontgomery64::mul", port::fixed_montgomery_mul, original::fixed_montgomery_mul, 500_000, &PRIME),
+    fixed("FixedMontgomery64::pow", port::fixed_montgomery_pow, original::fixed_montgomery_pow, 10_000, &PRIME),
+    fixed("FixedProth64::mul", port::fixed_proth_mul, original::fixed_proth_mul, 500_000, &PROTH),
+    fixed("FixedProth64::pow", port::fixed_proth_pow, original::fixed_proth_pow, 10_000, &PROTH),
+    fixed("FixedMersenne64::mul", port::fixed_mersenne_mul, original::fixed_mersenne_mul, 500_000, &MERSENNE),
+    fixed("FixedMersenne64::pow", port::fixed_mersenne_pow, original::fixed_mersenne_pow, 10_000, &MERSENNE),
+    fixed("FixedTrinomialSolinas64::mul", port::fixed_solinas_mul, original::fixed_solinas_mul, 500_000, &SOLINAS),
+    fixed("FixedTrinomialSolinas64::pow", port::fixed_solinas_pow, original::fixed_solinas_pow, 10_000, &SOLINAS),
 ];
 
 /// The nanoseconds of one step in one turn.
-fn turn(function: Bench, steps: u64) -> f64 {
+fn turn(function: Bench, m: u64, steps: u64) -> f64 {
     let start = Instant::now();
-    black_box(function(black_box(FIRST), black_box(SECOND), black_box(MODULUS), black_box(steps)));
+    black_box(function(black_box(FIRST), black_box(SECOND), black_box(m), black_box(steps)));
     start.elapsed().as_secs_f64() * 1e9 / steps as f64
 }
 
 /// Whether port and crate answer alike on each modulus, for small and large operands.
 fn agree(it: &Operation) -> bool {
-    for m in COMPARED {
+    for &m in it.moduli {
         for (x, y) in [(FIRST, SECOND), (0, 1), (1, 0), (m - 1, m - 1), (u64::MAX, 2), (m, u64::MAX)] {
             for steps in [1, 7] {
                 let ours = (it.port)(x, y, m, steps);
@@ -109,8 +137,8 @@ fn main() -> ExitCode {
     for it in &OPERATIONS {
         let (mut ours, mut theirs) = (f64::INFINITY, f64::INFINITY);
         for _ in 0..TURNS {
-            ours = ours.min(turn(it.port, it.steps));
-            theirs = theirs.min(turn(it.original, it.steps));
+            ours = ours.min(turn(it.port, it.moduli[0], it.steps));
+            theirs = theirs.min(turn(it.original, it.moduli[0], it.steps));
         }
         let ratio = ours / theirs;
         println!("| {} | {ours:.1} | {theirs:.1} | {ratio:.2} |", it.name);

@@ -1,8 +1,9 @@
 //! The same steps with the Rust crate `num-modular`, and the plain line of Rust for a product.
 
 use num_modular::{
-    DivExact, ModularCoreOps, ModularPow, ModularUnaryOps, Montgomery, Normalized2by1Divisor,
-    PreModInv, PreMulInv1by1, PreMulInv2by1, Reducer, Vanilla,
+    DivExact, FixedMersenne64, FixedMontgomery64, FixedProth64, FixedTrinomialSolinas64,
+    ModularCoreOps, ModularPow, ModularUnaryOps, Montgomery, Normalized2by1Divisor, PreModInv,
+    PreMulInv1by1, PreMulInv2by1, Reducer, Vanilla,
 };
 
 #[inline(never)]
@@ -126,3 +127,22 @@ pub extern "C" fn preinv_div_exact(x: u64, y: u64, m: u64, n: u64) -> u64 {
     }
     x
 }
+
+macro_rules! over_fixed {
+    ($reducer:ty, $mul:ident, $pow:ident) => {
+        #[inline(never)]
+        pub extern "C" fn $mul(x: u64, y: u64, m: u64, n: u64) -> u64 {
+            products(&<$reducer as Reducer<u64>>::new(&m), x, y, n)
+        }
+
+        #[inline(never)]
+        pub extern "C" fn $pow(x: u64, y: u64, m: u64, n: u64) -> u64 {
+            powers(&<$reducer as Reducer<u64>>::new(&m), x, y, n)
+        }
+    };
+}
+
+over_fixed!(FixedMontgomery64<{ u64::MAX - 58 }>, fixed_montgomery_mul, fixed_montgomery_pow);
+over_fixed!(FixedProth64<57, 29>, fixed_proth_mul, fixed_proth_pow);
+over_fixed!(FixedMersenne64<61, 1>, fixed_mersenne_mul, fixed_mersenne_pow);
+over_fixed!(FixedTrinomialSolinas64<64, 32, 1>, fixed_solinas_mul, fixed_solinas_pow);

@@ -29,4 +29,12 @@ exported! {
     bench_premulinv1by1_div_rem as premulinv1by1_div_rem,
     bench_normalized_div_rem_2by1 as normalized_div_rem_2by1,
     bench_preinv_div_exact as preinv_div_exact,
+    bench_fixed_montgomery_mul as fixed_montgomery_mul,
+    bench_fixed_montgomery_pow as fixed_montgomery_pow,
+    bench_fixed_proth_mul as fixed_proth_mul,
+    bench_fixed_proth_pow as fixed_proth_pow,
+    bench_fixed_mersenne_mul as fixed_mersenne_mul,
+    bench_fixed_mersenne_pow as fixed_mersenne_pow,
+    bench_fixed_solinas_mul as fixed_solinas_mul,
+    bench_fixed_solinas_pow as fixed_solinas_pow,
 }

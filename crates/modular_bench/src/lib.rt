@@ -5,5 +5,6 @@
 #![tactic(auto)]
 
 mod dividers;
+mod fixed;
 mod plain;
 mod rings;

@@ -32,6 +32,12 @@ fold_keeps p c m v is =
     let whole : fold_of p c v + v / 2 ^ p * m ≡ v = omega (arith, split, ap (λ n. v / 2 ^ p * n) is) in
     sym (add-mul-mod_self_right (fold_of p c v) (v / 2 ^ p) m) ∙ ap (λ n. n % m) whole
 
+-- so do two
+pub two_folds_keep : (p c m v first second : ℕ) → m + c ≡ 2 ^ p → first ≡ fold_of p c v → second ≡ fold_of p c first
+    → second % m ≡ v % m
+two_folds_keep p c m v first second is one two =
+    ap (λ n. n % m) two ∙ fold_keeps p c m first is ∙ ap (λ n. n % m) one ∙ fold_keeps p c m v is
+
 -- a word of w bits that is 2^p at least has more than p bits
 pub bit_inside : (w p v : ℕ) → 2 ^ p ≤ v → v < 2 ^ w → p < w
 bit_inside w p v high fits =

@@ -1,6 +1,6 @@
 //! Reduction by folds, once for every modulus near a power of two and for both widths of dividends.
 
-ghost use Rattle.std.specs.Prelude.{◌≡◌, ℕ, ◌+◌, ◌%◌, ◌^◌, ◌<◌, ◌≤◌};
+ghost use Rattle.std.specs.Prelude.{◌≡◌, ℕ, ◌+◌, ◌*◌, ◌/◌, ◌%◌, ◌^◌, ◌<◌, ◌≤◌};
 ghost use Rattle.modular_folds.specs.Folds.{fold_of, IsFolding};
 
 use crate::fold_word::FoldWord;
@@ -16,18 +16,71 @@ fn fold<V: FoldWord>(v: V, p: u32, mask: V, c: V) -> V
     v.shift_right(p).times(c).plus(v.masked(mask))
 }
 
-/// A number below 2^p that leaves what v leaves modulo m: v after as many folds as it takes.
+// Two folds in a row, which are enough for a product of two numbers below 2^p where c is 1.
+fn fold_two<V: FoldWord>(v: V, p: u32, mask: V, c: V, m: V) -> V
+    requires folding { IsFolding V.width p (V.number c) (V.number m) }
+    requires inside { p < V.width }
+    requires mask { V.number mask + 1 ≡ 2 ^ p }
+    requires one { V.number c ≡ 1 }
+    requires product { V.number v / 2 ^ p < 2 ^ p }
+    ensures below { V.number result < 2 ^ p }
+    ensures same { V.number result % V.number m ≡ V.number v % V.number m }
+{
+    let first = fold(v, p, mask, c);
+    fold(first, p, mask, c)
+}
+
+// Three folds in a row, which are enough for a product of two numbers below 2^p where c·(c + 1) is at
+// most 2^p.
+fn fold_three<V: FoldWord>(v: V, p: u32, mask: V, c: V, m: V) -> V
+    requires folding { IsFolding V.width p (V.number c) (V.number m) }
+    requires inside { p < V.width }
+    requires mask { V.number mask + 1 ≡ 2 ^ p }
+    requires small { V.number c * V.number c + V.number c ≤ 2 ^ p }
+    requires product { V.number v / 2 ^ p < 2 ^ p }
+    ensures below { V.number result < 2 ^ p }
+    ensures same { V.number result % V.number m ≡ V.number v % V.number m }
+{
+    let first = fold(v, p, mask, c);
+    let second = fold(first, p, mask, c);
+    fold(second, p, mask, c)
+}
+
+// As many folds as it takes, one after a comparison each.
+fn fold_on<V: FoldWord>(v: V, p: u32, mask: V, c: V, m: V) -> V
+    requires folding { IsFolding V.width p (V.number c) (V.number m) }
+    requires mask { V.number mask + 1 ≡ 2 ^ p }
+    ensures below { V.number result < 2 ^ p }
+    ensures same { V.number result % V.number m ≡ V.number v % V.number m }
+{
+    let mut rest = v;
+    'folds: while mask.is_below(rest) {
+        rest = fold(rest, p, mask, c);
+    }
+    rest
+}
+
+/// A number below 2^p that leaves what v leaves modulo m: v after as many folds as it takes. Where c is
+/// small and v is no more than a product of two numbers below 2^p, these are in a straight line.
 pub fn fold_all<V: FoldWord>(v: V, p: u32, c: V, m: V) -> V
     requires { IsFolding V.width p (V.number c) (V.number m) }
     ensures below { V.number result < 2 ^ p }
     ensures same { V.number result % V.number m ≡ V.number v % V.number m }
 {
     let mask = m.plus(c.minus(V::one()));
-    let mut rest = v;
-    'folds: while mask.is_below(rest) {
-        rest = fold(rest, p, mask, c);
+    if p >= V::bits() {
+        return fold_on(v, p, mask, c, m);
     }
-    rest
+    if mask.is_below(v.shift_right(p)) {
+        return fold_on(v, p, mask, c, m);
+    }
+    if c == V::one() {
+        return fold_two(v, p, mask, c, m);
+    }
+    if c.shift_right(p / 2).is_zero_word() {
+        return fold_three(v, p, mask, c, m);
+    }
+    fold_on(v, p, mask, c, m)
 }
 
 /// v modulo m, where m is 2^p - c and more than half of 2^p: as many folds as it takes, and one

@@ -1,6 +1,6 @@
 //! Rows of the reduction.
 
-use super::{fold_all, reduce_by_folds};
+use super::{fold_all, fold_three, fold_two, reduce_by_folds};
 use std::test::Fail;
 
 #[test]
@@ -27,5 +27,12 @@ fn bit_p_at_the_width(rt: HostRuntime) -> Result<(), Fail> {
 fn folds_alone(rt: HostRuntime) -> Result<(), Fail> {
     assert_eq!(rt; fold_all(67108863u64, 13, 1, 8191), 8191);
     assert_eq!(rt; fold_all(4294967295u64, 16, 5, 65531), 24);
+    Ok(())
+}
+
+#[test]
+fn folds_in_a_straight_line(rt: HostRuntime) -> Result<(), Fail> {
+    assert_eq!(rt; fold_two(67108863u64, 13, 8191, 1, 8191), 8191);
+    assert_eq!(rt; fold_three(4294967295u64, 16, 65535, 5, 65531), 24);
     Ok(())
 }

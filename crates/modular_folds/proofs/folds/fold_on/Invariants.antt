@@ -1,5 +1,5 @@
 use Rattle.std.proofs.Common.{◌≡◌, ◌%◌}
-use Rattle.modular_folds.proofs.folds.fold_all.Given as goal
+use Rattle.modular_folds.proofs.folds.fold_on.Given as goal
 
 abbrev pub invariant-folds : goal.invariant-folds
 invariant-folds g l =

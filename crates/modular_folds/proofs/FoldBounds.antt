@@ -1,0 +1,49 @@
+-- How far folds in a row take a number that is no more than a product of two numbers below 2^p.
+use Rattle.std.proofs.Common.{◌≡◌, ℕ, zero, suc, ◌+◌, ◌*◌, ◌/◌, ◌%◌, ◌^◌, ◌<◌, ◌≤◌, arith, lit<}
+use Rattle.std.proofs.Math.Nat.{mul-le-mul_left, mul-le-mul_right, div-lt_iff_lt-mul, mod-lt, pow-le-pow_right}
+use Rattle.std.proofs.lemmas.Nat.{shr_split, pow_pos, pow-add}
+use Rattle.modular_folds.specs.Folds.{fold_of}
+
+-- a number that is less than 2 * b by c has a quotient of 1 at most
+last_of : (b c q r s : ℕ) → q * b + r ≡ s → r < b → s + c < 2 * b → q * c + r < b
+last_of b c zero r s is low near = omega arith
+last_of b c (suc zero) r s is low near = omega arith
+last_of b c (suc (suc k)) r s is low near = absurd (omega arith)
+
+-- so that one fold takes it below 2^p
+pub last_fold : (p c s : ℕ) → s + c < 2 * 2 ^ p → fold_of p c s < 2 ^ p
+last_fold p c s near =
+    last_of (2 ^ p) c (s / 2 ^ p) (s % 2 ^ p) s (shr_split s p) (mod-lt s (pow_pos p)) near
+
+-- the first fold leaves a part above the bit p of c at most
+pub first_fold : (p c v : ℕ) → v / 2 ^ p < 2 ^ p → fold_of p c v / 2 ^ p ≤ c
+first_fold p c v product =
+    let low = mod-lt v (pow_pos p) in
+    let most : v / 2 ^ p * c + c ≤ 2 ^ p * c = omega (arith, mul-le-mul_right c (let e : suc (v / 2 ^ p) ≤ 2 ^ p = omega arith in e)) in
+    let whole : fold_of p c v < suc c * 2 ^ p = omega (arith, most, low) in
+    let below = (div-lt_iff_lt-mul {x = fold_of p c v} {y = suc c} (pow_pos p)).1 whole in
+    omega (arith, below)
+
+-- and the next one less than 2^p and the square of c
+pub next_fold : (p c s : ℕ) → s / 2 ^ p ≤ c → fold_of p c s < 2 ^ p + c * c
+next_fold p c s high =
+    let low = mod-lt s (pow_pos p) in
+    let most : s / 2 ^ p * c ≤ c * c = mul-le-mul_right c high in
+    omega (arith, most, low)
+
+-- by 1, the first fold is less than twice 2^p by 1 at least
+pub first_fold_by_one : (p v : ℕ) → v / 2 ^ p < 2 ^ p → fold_of p 1 v + 1 < 2 * 2 ^ p
+first_fold_by_one p v product =
+    let low = mod-lt v (pow_pos p) in
+    omega (arith, product, low)
+
+-- a factor of half as many bits as p has a small square
+pub small_square : (p c : ℕ) → c / 2 ^ (p / 2) ≡ 0 → c * c + c ≤ 2 ^ p
+small_square p c none =
+    let less : c < 1 * 2 ^ (p / 2) = (div-lt_iff_lt-mul {x = c} {y = 1} (pow_pos (p / 2))).0 (omega (arith, none)) in
+    let one : suc c * c ≤ 2 ^ (p / 2) * c = mul-le-mul_right c (omega (arith, less)) in
+    let two : 2 ^ (p / 2) * c ≤ 2 ^ (p / 2) * 2 ^ (p / 2) = mul-le-mul_left (2 ^ (p / 2)) (omega (arith, less)) in
+    let whole : 2 ^ (p / 2 + p / 2) ≡ 2 ^ (p / 2) * 2 ^ (p / 2) = pow-add 2 (p / 2) (p / 2) in
+    let halves : p / 2 + p / 2 ≤ p = omega arith in
+    let most = pow-le-pow_right {n = 2} (lit< tt) halves in
+    omega (arith, one, two, whole, most)
