@@ -11,11 +11,18 @@ fn symbols_of_words(rt: HostRuntime) {
     assert_eq!(rt; 7u32.jacobi(&15), -1);
     assert_eq!(rt; 3u64.checked_jacobi(&8), None);
     assert_eq!(rt; (-1isize).kronecker(&0), 1);
-    assert_eq!(rt; num_modular::prim::ModularSymbols::kronecker(&i8::MIN, &127), -1);
+    assert_eq!(rt;
+        num_modular::prim::ModularSymbols::kronecker(&i8::MIN, &127),
+        -1
+    );
 }
 
 // All that a word offers, known by one bound.
-fn inverse_and_symbol<'r, T: ModularOps<T, &'r T, T> + Copy>(x: T, y: T, m: &'r T) -> (Option<T>, Option<i8>)
+fn inverse_and_symbol<'r, T: ModularOps<T, &'r T, T> + Copy>(
+    x: T,
+    y: T,
+    m: &'r T,
+) -> (Option<T>, Option<i8>)
     requires { 1 ≤ T.whole_number m.now }
 {
     (x.invm(m), y.checked_jacobi(m))

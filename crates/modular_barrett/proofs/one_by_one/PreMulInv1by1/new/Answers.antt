@@ -8,14 +8,14 @@ minus-gap-requires g c = omega (arith, c.digits-n.ensures.below, c.ones.ensures)
 
 is_prepared : (g : _) (c : After-low_quotient-quotient g)
     → IsPrepared g.T.RingWord.width g.T.PathWord.base (g.T.RingWord.number c.args.d) (g.T.RingWord.number c.minus-less.result)
-        c.digits-n.result (g.T.RingWord.number c.minus-gap.result)
+    c.digits-n.result (g.T.RingWord.number c.minus-gap.result)
 is_prepared g c =
     prepared _ _ _ _ _ _ _ _ c.digits-n.ensures c.low_quotient-quotient.ensures.fits c.one.ensures
     c.minus-less.ensures.value c.ones.ensures c.minus-gap.ensures.value
 
 quotient_is : (g : _) (c : After-low_quotient-quotient g)
     → g.T.RingWord.number c.low_quotient-quotient.result
-        ≡ g.T.PathWord.base * g.T.RingWord.number c.minus-gap.result / g.T.RingWord.number c.args.d % g.T.PathWord.base
+    ≡ g.T.PathWord.base * g.T.RingWord.number c.minus-gap.result / g.T.RingWord.number c.args.d % g.T.PathWord.base
 quotient_is g c =
     let n = g.T.RingWord.number in
     let b = g.T.PathWord.base in
