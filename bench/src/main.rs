@@ -1,6 +1,6 @@
 //! Measures the port beside the Rust crate, turn by turn in one run: a line an operation, with the
-//! time of one step in nanoseconds and the ratio of the two. Ends with status 1 where the answers
-//! of the two differ.
+//! time of one step in nanoseconds and the ratio of the two, and a table each for the operations of
+//! any modulus and of fixed ones. Ends with status 1 where the answers of the two differ.
 
 mod original;
 mod port;
@@ -60,7 +60,8 @@ const fn fixed(
     Operation { name, port, original, steps, moduli }
 }
 
-static OPERATIONS: [Operation; 24] = [
+/// The operations of any modulus, or of any odd one.
+static ANY_MODULUS: [Operation; 16] = [
     operation("mulm", port::mulm, original::mulm, 200_000),
     operation("mulm (plain line)", port::mulm, original::plain_mulm, 200_000),
     operation("powm", port::powm, original::powm, 2_000),
@@ -86,15 +87,60 @@ static OPERATIONS: [Operation; 24] = [
         original::normalized_div_rem_2by1,
         500_000,
     ),
-    operation("PreModInv: div_exact", port::preinv_div_exact, original::preinv_div_exact, 1_000_000),
-    fixed("FixedMontgomery64::mul", port::fixed_montgomery_mul, original::fixed_montgomery_mul, 500_000, &PRIME),
-    fixed("FixedMontgomery64::pow", port::fixed_montgomery_pow, original::fixed_montgomery_pow, 10_000, &PRIME),
+    operation(
+        "PreModInv: div_exact",
+        port::preinv_div_exact,
+        original::preinv_div_exact,
+        1_000_000,
+    ),
+];
+
+/// The operations of the reducers whose modulus is given by parameters of the type.
+static FIXED_MODULUS: [Operation; 8] = [
+    fixed(
+        "FixedMontgomery64::mul",
+        port::fixed_montgomery_mul,
+        original::fixed_montgomery_mul,
+        500_000,
+        &PRIME,
+    ),
+    fixed(
+        "FixedMontgomery64::pow",
+        port::fixed_montgomery_pow,
+        original::fixed_montgomery_pow,
+        10_000,
+        &PRIME,
+    ),
     fixed("FixedProth64::mul", port::fixed_proth_mul, original::fixed_proth_mul, 500_000, &PROTH),
     fixed("FixedProth64::pow", port::fixed_proth_pow, original::fixed_proth_pow, 10_000, &PROTH),
-    fixed("FixedMersenne64::mul", port::fixed_mersenne_mul, original::fixed_mersenne_mul, 500_000, &MERSENNE),
-    fixed("FixedMersenne64::pow", port::fixed_mersenne_pow, original::fixed_mersenne_pow, 10_000, &MERSENNE),
-    fixed("FixedTrinomialSolinas64::mul", port::fixed_solinas_mul, original::fixed_solinas_mul, 500_000, &SOLINAS),
-    fixed("FixedTrinomialSolinas64::pow", port::fixed_solinas_pow, original::fixed_solinas_pow, 10_000, &SOLINAS),
+    fixed(
+        "FixedMersenne64::mul",
+        port::fixed_mersenne_mul,
+        original::fixed_mersenne_mul,
+        500_000,
+        &MERSENNE,
+    ),
+    fixed(
+        "FixedMersenne64::pow",
+        port::fixed_mersenne_pow,
+        original::fixed_mersenne_pow,
+        10_000,
+        &MERSENNE,
+    ),
+    fixed(
+        "FixedTrinomialSolinas64::mul",
+        port::fixed_solinas_mul,
+        original::fixed_solinas_mul,
+        500_000,
+        &SOLINAS,
+    ),
+    fixed(
+        "FixedTrinomialSolinas64::pow",
+        port::fixed_solinas_pow,
+        original::fixed_solinas_pow,
+        10_000,
+        &SOLINAS,
+    ),
 ];
 
 /// The nanoseconds of one step in one turn.
@@ -121,20 +167,13 @@ fn agree(it: &Operation) -> bool {
     true
 }
 
-fn main() -> ExitCode {
-    let mut same = true;
-    for it in &OPERATIONS {
-        same &= agree(it);
-    }
-    if !same {
-        eprintln!("the answers differ");
-        return ExitCode::from(1);
-    }
+/// Measures the operations and prints their table.
+fn print_table(operations: &[Operation]) {
     println!("| operation | port ns | crate ns | port/crate |");
     println!("|---|---:|---:|---:|");
     let mut logarithms = 0.0;
     let mut lines = 0.0;
-    for it in &OPERATIONS {
+    for it in operations {
         let (mut ours, mut theirs) = (f64::INFINITY, f64::INFINITY);
         for _ in 0..TURNS {
             ours = ours.min(turn(it.port, it.moduli[0], it.steps));
@@ -148,5 +187,19 @@ fn main() -> ExitCode {
         }
     }
     println!("| geometric mean | | | {:.2} |", (logarithms / lines).exp());
+}
+
+fn main() -> ExitCode {
+    let mut same = true;
+    for it in ANY_MODULUS.iter().chain(&FIXED_MODULUS) {
+        same &= agree(it);
+    }
+    if !same {
+        eprintln!("the answers differ");
+        return ExitCode::from(1);
+    }
+    print_table(&ANY_MODULUS);
+    println!();
+    print_table(&FIXED_MODULUS);
     ExitCode::SUCCESS
 }
