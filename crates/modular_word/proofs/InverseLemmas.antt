@@ -3,7 +3,7 @@ use Rattle.std.proofs.Common.{◌≡◌, ℕ, suc, zero, ◌*◌, ◌%◌, ◌<�
 use Rattle.std.proofs.lemmas.Bool.Decides.{nat_tests}
 use Rattle.std.proofs.lemmas.Nat.{mul-mod_first}
 use Rattle.std.proofs.Math.Nat.{mod-eq_of_lt, one-mul, mul_right_comm}
-use Rattle.modular_word.specs.Inverses.{IsInverse, IsInversion, inverse_below, inverse_of}
+use Rattle.modular_word.specs.Inverses.{IsInverse, IsInversion, HasInverse, inverse_below, inverse_of}
 
 -- a number below m is what is left of it times an inverse pair
 undone : (m a x y : ℕ) → (a * y) % m ≡ 1 % m → x < m → (a * y * x) % m ≡ x
@@ -69,3 +69,16 @@ inversion_from m a (Some y) e = let s = some_below m a m y e in record { below =
 -- what `inverse_of` names is an inverse, and where it names none there is none
 pub inverse_of-is : (m a : ℕ) → IsInversion (λ x. x) m a (inverse_of m a)
 inverse_of-is m a = inversion_from m a (inverse_of m a) refl
+
+-- a number and its residue have one inverse
+pub inverse_from_mod : (m a x : ℕ) → IsInverse m (a % m) x → IsInverse m a x
+inverse_from_mod m a x h = record { below = h.below; one = sym (mul-mod_first a x m) ∙ h.one }
+
+pub inverse_mod : (m a x : ℕ) → IsInverse m a x → IsInverse m (a % m) x
+inverse_mod m a x h = record { below = h.below; one = mul-mod_first a x m ∙ h.one }
+
+pub HasInverse-from_mod : (m a : ℕ) → HasInverse m (a % m) → HasInverse m a
+HasInverse-from_mod m a h = (h.0, inverse_from_mod m a h.0 h.1)
+
+pub HasInverse-mod : (m a : ℕ) → HasInverse m a → HasInverse m (a % m)
+HasInverse-mod m a h = (h.0, inverse_mod m a h.0 h.1)

@@ -2,7 +2,7 @@
 use Rattle.std.proofs.Common.{◌≡◌, ℕ, suc, ◌+◌, ◌-◌, ◌*◌, ◌%◌, ◌/◌, ◌<◌, ◌≤◌, ℤ, pos, negsuc, ◌+ℤ◌, ◌-ℤ◌, ◌*ℤ◌, neg_ℤ, sym, ◌∙◌, ap, arith}
 use Rattle.std.proofs.lemmas.Nat.{mod_below, same_from_place}
 use Rattle.std.proofs.lemmas.Int.{ints}
-use Rattle.std.proofs.Math.Nat.{mod-eq_of_lt}
+use Rattle.std.proofs.Math.Nat.{mod-eq_of_lt, add-mul-mod_self_left}
 use Rattle.modular_word.specs.Residues.{IsResidue, residue}
 
 -- `residue` is the residue
@@ -31,6 +31,20 @@ unique_at m v w (negsuc a) (negsuc b) h k e =
 -- no other number is
 pub residue_unique : (m : ℕ) (z : ℤ) (v w : ℕ) → IsResidue m z v → IsResidue m z w → v ≡ w
 residue_unique m z v w p q = unique_at m v w p.quotient q.quotient p.below q.below (sym p.differs ∙ q.differs)
+
+difference_at : (m a b v : ℕ) (q : ℤ) → pos a -ℤ pos b ≡ pos v +ℤ (q *ℤ pos m) → (v + b) % m ≡ a % m
+difference_at m a b v (pos k) e =
+    let n : a ≡ v + b + m * k = omega (arith, ints) in
+    sym (add-mul-mod_self_left (v + b) m k) ∙ ap (λ x. x % m) (sym n)
+difference_at m a b v (negsuc k) e =
+    let n : v + b ≡ a + m * suc k = omega (arith, ints) in
+    ap (λ x. x % m) n ∙ add-mul-mod_self_left a m (suc k)
+
+-- the residue of a - b, and b
+pub difference_and : (m a b : ℕ) → 0 < m → (residue m (pos a -ℤ pos b) + b) % m ≡ a % m
+difference_and m a b h =
+    let r = residue_is m (pos a -ℤ pos b) h in
+    difference_at m a b (residue m (pos a -ℤ pos b)) r.quotient r.differs
 
 -- the residue of a difference of numbers below m, without a borrow and with one
 pub residue_sub : (m v w : ℕ) → v < m → w ≤ v → residue m (pos v -ℤ pos w) ≡ v - w

@@ -1,10 +1,12 @@
 //! Laws of whole numbers that the proofs of every crate rest on, as contracts of calls that do
-//! nothing: congruence, powers, inverses, sums over a range.
+//! nothing: residues, congruence, powers, divisors, inverses, sums over a range. A caller calls the
+//! function and cites its clauses.
 
-ghost use Rattle.std.specs.Prelude.{◌≡◌, ℕ, suc, ◌+◌, ◌-◌, ◌*◌, ◌%◌, ◌^◌, ◌<◌, ◌≤◌, ◌↔◌, Some, Bool, not};
+ghost use Rattle.std.specs.Prelude.{◌≡◌, ℕ, suc, ◌+◌, ◌-◌, ◌*◌, ◌%◌, ◌^◌, ◌<◌, ◌≤◌, ◌↔◌, Some, Bool, not, ℤ, pos, ◌-ℤ◌};
 ghost use Rattle.modular_word.specs.Congruence.{Congruent};
 ghost use Rattle.modular_word.specs.Divisors.{Coprime, gcd};
 ghost use Rattle.modular_word.specs.Inverses.{IsInverse, IsInversion, HasInverse, inverse_of};
+ghost use Rattle.modular_word.specs.Residues.{IsResidue, residue};
 ghost use Rattle.modular_word.specs.Sums.{sum_below, sum_to, count_to, Permutes};
 
 use crate::path_word::PathWord;
@@ -18,11 +20,24 @@ pub fn base_laws<T: PathWord>()
     ensures high { (low high : ℕ) → low + T.base * high < T.base * T.base → high < T.base }
 {}
 
-/// Congruence modulo m is kept by sums, products and powers; a term cancels, and so does a factor
-/// with an inverse.
+/// A whole number has one residue modulo m, which `residue` computes; the residue of a - b and b
+/// have the sum a modulo m.
 ///
-/// Source: Gauss, Disquisitiones Arithmeticae, articles 6 to 8 and 22.
+/// Source: Gauss, Disquisitiones Arithmeticae, articles 1 to 4.
+pub fn residue_laws()
+    ensures residue { (m : ℕ) (z : ℤ) → 0 < m → IsResidue m z (residue m z) }
+    ensures unique { (m : ℕ) (z : ℤ) (v : ℕ) → 0 < m → IsResidue m z v → v ≡ residue m z }
+    ensures difference { (m a b : ℕ) → 0 < m → (residue m (pos a -ℤ pos b) + b) % m ≡ a % m }
+{}
+
+/// Congruence modulo m is an equivalence, under which a number and its residue are equal. It is kept
+/// by sums, products and powers; a term cancels, and so does a factor with an inverse.
+///
+/// Source: Gauss, Disquisitiones Arithmeticae, articles 2, 6 to 8 and 22.
 pub fn congruence_laws()
+    ensures residue { (m a : ℕ) → Congruent m (a % m) a }
+    ensures symmetric { (m a b : ℕ) → Congruent m a b → Congruent m b a }
+    ensures transitive { (m a b c : ℕ) → Congruent m a b → Congruent m b c → Congruent m a c }
     ensures sums { (m a b c d : ℕ) → Congruent m a b → Congruent m c d → Congruent m (a + c) (b + d) }
     ensures products { (m a b c d : ℕ) → Congruent m a b → Congruent m c d → Congruent m (a * c) (b * d) }
     ensures powers { (m a b k : ℕ) → Congruent m a b → Congruent m (a ^ k) (b ^ k) }
@@ -38,13 +53,26 @@ pub fn power_laws()
     ensures product { (a b c : ℕ) → a ^ (b * c) ≡ (a ^ b) ^ c }
 {}
 
+/// Two numbers are coprime exactly where their greatest common divisor is 1, and being coprime to n
+/// depends on the residue modulo n alone.
+///
+/// Source: Euclid, Elements, book VII, propositions 1 and 2.
+pub fn divisor_laws()
+    ensures coprime { (a n : ℕ) → 0 < n → Coprime a n ↔ (gcd a n ≡ 1) }
+    ensures residue { (a n : ℕ) → Coprime (a % n) n ↔ Coprime a n }
+{}
+
 /// An inverse exists exactly where the greatest common divisor is 1, there is at most one, and
-/// `inverse_of` names it, or nothing where there is none.
+/// `inverse_of` names it, or nothing where there is none. It depends on the residue alone.
+///
+/// Source: Gauss, Disquisitiones Arithmeticae, articles 29 and 31.
 pub fn inverse_laws()
     ensures exists { (m a : ℕ) → 0 < m → HasInverse m a ↔ (gcd a m ≡ 1) }
     ensures unique { (m a x y : ℕ) → IsInverse m a x → IsInverse m a y → x ≡ y }
     ensures named { (m a : ℕ) → IsInversion (λ x. x) m a (inverse_of m a) }
     ensures found { (m a x : ℕ) → IsInverse m a x → inverse_of m a ≡ Some x }
+    ensures residue { (m a x : ℕ) → IsInverse m (a % m) x ↔ IsInverse m a x }
+    ensures has_residue { (m a : ℕ) → HasInverse m (a % m) ↔ HasInverse m a }
 {}
 
 /// Euclid's lemma: a number coprime to n is cancelled from a multiple of n.

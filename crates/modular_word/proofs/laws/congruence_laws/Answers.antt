@@ -1,6 +1,15 @@
 -- The laws of congruence, from the lemmas on the relation.
-use Rattle.modular_word.proofs.Congruence.{added, multiplied, powered, cancelled, cancelled_unit}
+use Rattle.modular_word.proofs.Congruence.{residue_of, turned, chained, added, multiplied, powered, cancelled, cancelled_unit}
 use Rattle.modular_word.proofs.laws.congruence_laws.Goals as goal
+
+pub returns-clause-residue : goal.returns-clause-residue
+returns-clause-residue c m a = residue_of a
+
+pub returns-clause-symmetric : goal.returns-clause-symmetric
+returns-clause-symmetric c m a b h = turned h
+
+pub returns-clause-transitive : goal.returns-clause-transitive
+returns-clause-transitive c m a b d h k = chained h k
 
 pub returns-clause-sums : goal.returns-clause-sums
 returns-clause-sums c m a b d e h k = added h k

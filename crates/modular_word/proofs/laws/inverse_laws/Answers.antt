@@ -1,6 +1,6 @@
 -- The laws of inverses, from the lemmas on divisors and on inverses.
 use Rattle.modular_word.proofs.Divisors.{HasInverse-gcd}
-use Rattle.modular_word.proofs.InverseLemmas.{inverse_unique, inverse_of-found, inverse_of-is}
+use Rattle.modular_word.proofs.InverseLemmas.{inverse_unique, inverse_of-found, inverse_of-is, inverse_from_mod, inverse_mod, HasInverse-from_mod, HasInverse-mod}
 use Rattle.modular_word.proofs.laws.inverse_laws.Goals as goal
 
 pub returns-clause-exists : goal.returns-clause-exists
@@ -14,3 +14,9 @@ returns-clause-named c m a = inverse_of-is m a
 
 pub returns-clause-found : goal.returns-clause-found
 returns-clause-found c m a x p = inverse_of-found m a x p
+
+pub returns-clause-residue : goal.returns-clause-residue
+returns-clause-residue c m a x = (inverse_from_mod m a x, inverse_mod m a x)
+
+pub returns-clause-has_residue : goal.returns-clause-has_residue
+returns-clause-has_residue c m a = (HasInverse-from_mod m a, HasInverse-mod m a)
