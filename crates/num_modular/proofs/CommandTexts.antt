@@ -7,7 +7,7 @@ use Rattle.std.proofs.lemmas.Str.Parse.{digit_at}
 use Rattle.std.proofs.lemmas.List.Splits.{slice_split_first, slice_split_none, join_with_byte-slice_split}
 use Rattle.std.proofs.lemmas.Bool.Decides.{nat_tests}
 use Rattle.num_modular.specs.declared.ring.RingCommand.{RingCommand}
-use Rattle.num_modular.specs.declared.ring.RingCommand.TheVariants.{Load, Add, Sub, Mul, Neg, Dbl, Sqr, Inv, Pow}
+use Rattle.num_modular.specs.declared.ring.RingCommand.TheVariants.{Load, Add, Sub, Mul, Neg, Dbl, Sqr, Inv, Div, Pow}
 use Rattle.num_modular.specs.Words.{IsNumberText, AreNumberTexts, IsReadAs, IsCommand, numbers_of, parts}
 
 not_comma : (b : ℕ) → b ≢ 44 → (b == 44) ≡ false
@@ -97,6 +97,11 @@ pub no_inv : (name : List ℕ) (numbers : List (List ℕ)) → name ≡ codes "i
     → (command : RingCommand ℕ) → IsCommand name numbers command → ⊥
 no_inv name numbers e none (Inv dst a) h = none (dst, a) (h.fit.0, h.fit.1, h.read)
 no_inv name numbers e none _ h = apart _ _ refl (sym e ∙ h.named)
+
+pub no_div : (name : List ℕ) (numbers : List (List ℕ)) → name ≡ codes "div" → ((p : ℕ × ℕ × ℕ) → (p.0 < 8) × (p.1 < 8) × (p.2 < 8) × AreNumberTexts numbers (p.0 ∷ p.1 ∷ p.2 ∷ []) → ⊥)
+    → (command : RingCommand ℕ) → IsCommand name numbers command → ⊥
+no_div name numbers e none (Div dst a b) h = none (dst, a, b) (h.fit.0, h.fit.1, h.fit.2, h.read)
+no_div name numbers e none _ h = apart _ _ refl (sym e ∙ h.named)
 
 pub no_pow : (name : List ℕ) (numbers : List (List ℕ)) → name ≡ codes "pow" → ((p : ℕ × ℕ × ℕ) → (p.0 < 8) × (p.1 < 8) × AreNumberTexts numbers (p.0 ∷ p.1 ∷ p.2 ∷ []) → ⊥)
     → (command : RingCommand ℕ) → IsCommand name numbers command → ⊥

@@ -9,7 +9,7 @@ use Rattle.num_modular.specs.declared.ring.RunEnd.TheVariants.{Done, NoInverse}
 use Rattle.std.specs.Io.KnownBytes.{Appends}
 use Rattle.std.specs.Str.Parse.{digits_value}
 use Rattle.num_modular.specs.declared.ring.RingCommand.{RingCommand}
-use Rattle.num_modular.specs.declared.ring.RingCommand.TheVariants.{Load, Add, Sub, Mul, Neg, Dbl, Sqr, Inv, Pow}
+use Rattle.num_modular.specs.declared.ring.RingCommand.TheVariants.{Load, Add, Sub, Mul, Neg, Dbl, Sqr, Inv, Div, Pow}
 use Rattle.num_modular.specs.declared.modrun.ReducerName.{ReducerName}
 use Rattle.num_modular.specs.Ring.{IsFit, IsStop, whole, value_at, carried_out}
 use Rattle.num_modular.specs.Words.{IsCommandWord, IsCommandParts, parts}
@@ -56,6 +56,7 @@ whole_same (Neg dst a) = refl
 whole_same (Dbl dst a) = refl
 whole_same (Sqr dst a) = refl
 whole_same (Inv dst a) = refl
+whole_same (Div dst a b) = refl
 whole_same (Pow dst a exp) = refl
 
 -- commands over words of 64 bits are commands over whole numbers

@@ -1,5 +1,5 @@
 -- Lemmas on registers that hold values, and on the value table.
-use Rattle.std.proofs.Common.{◌≡◌, ℕ, suc, zero, ◌+◌, ◌<◌, List, [], ◌∷◌, length, map, get_or, true, false, cond, eqb, refl, sym, ◌∙◌, ap, subst, arith, ◌≢◌, ◌⊎◌, ◌↔◌, Option, Some, None, All, get_or-set_same, get_or-set_other, add-one, IsSomeAnd, inl, inr}
+use Rattle.std.proofs.Common.{◌≡◌, ℕ, suc, zero, ◌+◌, ◌*◌, ◌%◌, ◌<◌, List, [], ◌∷◌, length, map, get_or, true, false, cond, eqb, refl, sym, ◌∙◌, ap, subst, arith, ◌≢◌, ◌⊎◌, ◌↔◌, Option, Some, None, option_map, All, get_or-set_same, get_or-set_other, add-one, IsSomeAnd, inl, inr}
 use Rattle.std.proofs.Math.ListN.{set, length-set}
 use Rattle.std.specs.List.{slice_get}
 use Rattle.std.proofs.lemmas.Bool.Decides.{eqb_tells}
@@ -11,7 +11,7 @@ use Rattle.modular_word.proofs.InverseLemmas.{inverse_of-found, inverse_of-none,
 use Rattle.modular_reduced.specs.Forms.{Represents, IsForm, IsCanonical, IsInverseForm}
 use Rattle.modular_reduced.proofs.FormLemmas.{form_as, form_of_value}
 use Rattle.num_modular.specs.declared.ring.RingCommand.{RingCommand}
-use Rattle.num_modular.specs.declared.ring.RingCommand.TheVariants.{Load, Add, Sub, Mul, Neg, Dbl, Sqr, Inv, Pow}
+use Rattle.num_modular.specs.declared.ring.RingCommand.TheVariants.{Load, Add, Sub, Mul, Neg, Dbl, Sqr, Inv, Div, Pow}
 use Rattle.num_modular.specs.declared.ring.RunEnd.TheVariants.{Done, NoInverse}
 use Rattle.num_modular.specs.Ring.{HoldValues, IsFormOf, destination_of, outcome, value_after, value_at, LacksInverse, LacksInverseAt, IsStop, IsFit, values_of}
 
@@ -26,6 +26,13 @@ pub inverse_form : {T : Type 0} (number : T → ℕ) (form : ℕ → ℕ → ℕ
     → IsInverseForm number form m u found → IsFormOf number form m (inverse_of m u) found
 inverse_form number form m u None h = subst (λ o. IsFormOf number form m o None) (sym (inverse_of-none m u h)) tt
 inverse_form number form m u (Some f) h = subst (λ o. IsFormOf number form m o (Some f)) (sym (inverse_of-found m u h.0 h.1)) h.2
+
+-- the product of x with what `inv` answers for y is the form of their quotient
+pub quotient_form : {T : Type 0} (number : T → ℕ) {form value : ℕ → ℕ → ℕ} {width m : ℕ} (x y : ℕ) (inverse product : T)
+    → IsCanonical form value width m → IsInverseForm number form m y (Some inverse) → Represents form m (number product) ((x * value m (number inverse)) % m)
+    → IsFormOf number form m (option_map (λ i. (x * i) % m) (inverse_of m y)) (Some product)
+quotient_form {T} number {form} {value} {width} {m} x y inverse product canonical h stands =
+    rw (inverse_of-found m y h.0 h.1) (subst (λ i. Represents form m (number product) ((x * i) % m)) (canonical.one_value _ _ h.2) stands)
 
 -- checked forms hold their values
 pub start_holds : {T : Type 0} (number : T → ℕ) (form value : ℕ → ℕ → ℕ) (m : ℕ) (registers : List T)
@@ -82,6 +89,10 @@ after_command number form m start commands i registers command f is holds below 
     let put = after_found number form m registers (value_at m start commands i) command f _ refl holds below found in
     record { each = λ r d in_range. rw (add-one i) (rw is (put.each r d in_range)) }
 
+image_none : {A B : Type 0} (f : A → B) (o : Option A) → option_map f o ≡ None → o ≡ None
+image_none f None e = refl
+image_none f (Some x) e = cc
+
 outcome_none : (m : ℕ) (v : ℕ → ℕ) (command : RingCommand ℕ) → outcome m v command ≡ None → LacksInverse m v command
 outcome_none m v (Load dst n) e = cc
 outcome_none m v (Add dst a b) e = cc
@@ -91,10 +102,12 @@ outcome_none m v (Neg dst a) e = cc
 outcome_none m v (Dbl dst a) e = cc
 outcome_none m v (Sqr dst a) e = cc
 outcome_none m v (Inv dst a) e = λ h. inverse_of-empty m (v a) h.0 e h.1
+outcome_none m v (Div dst a b) e = λ h. inverse_of-empty m (v b) h.0 (image_none _ _ e) h.1
 outcome_none m v (Pow dst a exp) e = cc
 
 lacking_none : (m : ℕ) (v : ℕ → ℕ) (command : RingCommand ℕ) → LacksInverse m v command → outcome m v command ≡ None
 lacking_none m v (Inv dst a) lacks = inverse_of-none m (v a) (λ x h. lacks (x, h))
+lacking_none m v (Div dst a b) lacks = ap (option_map (λ y. (v a * y) % m)) (inverse_of-none m (v b) (λ x h. lacks (x, h)))
 lacking_none m v _ lacks = absurd lacks
 
 none_of_none : {T : Type 0} (number : T → ℕ) (form : ℕ → ℕ → ℕ) (m : ℕ) (o : Option ℕ) → IsFormOf number form m o None → o ≡ None

@@ -1,10 +1,10 @@
 -- What a list of ring commands gives on whole numbers modulo m, and where it stops: the result sequence of a straight-line program, and where it isn't executable (Buergisser, Clausen, Shokrollahi, Algebraic Complexity Theory, section 4.1). No form and no width stands in the table.
-use Rattle.std.specs.Prelude.{ℕ, suc, zero, ◌+◌, ◌*◌, ◌%◌, ◌^◌, ◌<◌, ◌==◌, if◌then◌else◌, pos, ◌-ℤ◌, neg_ℤ, List, length, map, slice_get, slice_index, slice_index_or, Option, Some, None, IsSomeAnd, unwrap_or}
+use Rattle.std.specs.Prelude.{ℕ, suc, zero, ◌+◌, ◌*◌, ◌%◌, ◌^◌, ◌<◌, ◌==◌, if◌then◌else◌, pos, ◌-ℤ◌, neg_ℤ, List, length, map, option_map, slice_get, slice_index, slice_index_or, Option, Some, None, IsSomeAnd, unwrap_or}
 use Rattle.modular_word.specs.Residues.{residue}
 use Rattle.modular_word.specs.Inverses.{HasInverse, inverse_of}
 use Rattle.modular_reduced.specs.Forms.{Represents}
 use Rattle.num_modular.specs.declared.ring.RingCommand.{RingCommand}
-use Rattle.num_modular.specs.declared.ring.RingCommand.TheVariants.{Load, Add, Sub, Mul, Neg, Dbl, Sqr, Inv, Pow}
+use Rattle.num_modular.specs.declared.ring.RingCommand.TheVariants.{Load, Add, Sub, Mul, Neg, Dbl, Sqr, Inv, Div, Pow}
 use Rattle.num_modular.specs.declared.ring.RunEnd.{RunEnd}
 use Rattle.num_modular.specs.declared.ring.RunEnd.TheVariants.{Done, NoInverse}
 
@@ -18,6 +18,7 @@ whole number (Neg dst a) = Neg dst a
 whole number (Dbl dst a) = Dbl dst a
 whole number (Sqr dst a) = Sqr dst a
 whole number (Inv dst a) = Inv dst a
+whole number (Div dst a b) = Div dst a b
 whole number (Pow dst a exp) = Pow dst a (number exp)
 
 -- the register that a command writes
@@ -30,6 +31,7 @@ destination_of (Neg dst a) = dst
 destination_of (Dbl dst a) = dst
 destination_of (Sqr dst a) = dst
 destination_of (Inv dst a) = dst
+destination_of (Div dst a b) = dst
 destination_of (Pow dst a exp) = dst
 
 -- what a command gives for registers of the values v: a residue modulo m, or nothing where an inverse is missing
@@ -42,6 +44,7 @@ outcome m v (Neg dst a) = Some (residue m (neg_ℤ (pos (v a))))
 outcome m v (Dbl dst a) = Some ((2 * v a) % m)
 outcome m v (Sqr dst a) = Some ((v a * v a) % m)
 outcome m v (Inv dst a) = inverse_of m (v a)
+outcome m v (Div dst a b) = option_map (λ y. (v a * y) % m) (inverse_of m (v b))
 outcome m v (Pow dst a exp) = Some (v a ^ exp % m)
 
 -- the value of register r after a command, if there is one, from the values v before it
@@ -57,6 +60,7 @@ value_at m start commands (suc i) r = value_after m (value_at m start commands i
 -- a command that needs an inverse which doesn't exist modulo m
 abbrev pub LacksInverse : ℕ → (ℕ → ℕ) → RingCommand ℕ → Type 0
 LacksInverse m v (Inv dst a) = HasInverse m (v a) → ⊥
+LacksInverse m v (Div dst a b) = HasInverse m (v b) → ⊥
 LacksInverse m v _ = ⊥
 
 -- command number i is such a command
@@ -83,6 +87,7 @@ IsFit count (Neg dst a) = (dst < count) × (a < count)
 IsFit count (Dbl dst a) = (dst < count) × (a < count)
 IsFit count (Sqr dst a) = (dst < count) × (a < count)
 IsFit count (Inv dst a) = (dst < count) × (a < count)
+IsFit count (Div dst a b) = (dst < count) × (a < count) × (b < count)
 IsFit count (Pow dst a exp) = (dst < count) × (a < count)
 
 -- the values that registers hold, by the numbers of their forms

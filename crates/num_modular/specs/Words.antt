@@ -4,7 +4,7 @@ use Rattle.std.specs.List.{slice_split}
 use Rattle.std.specs.Str.Parse.{IsNumeral, digits_value}
 use Rattle.num_modular.specs.Ring.{IsFit}
 use Rattle.num_modular.specs.declared.ring.RingCommand.{RingCommand}
-use Rattle.num_modular.specs.declared.ring.RingCommand.TheVariants.{Load, Add, Sub, Mul, Neg, Dbl, Sqr, Inv, Pow}
+use Rattle.num_modular.specs.declared.ring.RingCommand.TheVariants.{Load, Add, Sub, Mul, Neg, Dbl, Sqr, Inv, Div, Pow}
 
 -- the text is one or more ASCII digits, which stand for n, and n is a word of 64 bits
 pub record IsNumberText (text : List ℕ) (n : ℕ) : Type 0 where
@@ -39,6 +39,7 @@ name_of (Neg dst a) = codes "neg"
 name_of (Dbl dst a) = codes "dbl"
 name_of (Sqr dst a) = codes "sqr"
 name_of (Inv dst a) = codes "inv"
+name_of (Div dst a b) = codes "div"
 name_of (Pow dst a exp) = codes "pow"
 
 -- the numbers that follow it, in order
@@ -51,6 +52,7 @@ numbers_of (Neg dst a) = dst ∷ a ∷ []
 numbers_of (Dbl dst a) = dst ∷ a ∷ []
 numbers_of (Sqr dst a) = dst ∷ a ∷ []
 numbers_of (Inv dst a) = dst ∷ a ∷ []
+numbers_of (Div dst a b) = dst ∷ a ∷ b ∷ []
 numbers_of (Pow dst a exp) = dst ∷ a ∷ exp ∷ []
 
 -- the name and the numbers are those of a command on eight registers

@@ -1,6 +1,7 @@
 //! Lists of commands on registers, run over any reducer.
 
-ghost use Rattle.std.specs.Prelude.{◌≡◌, ℕ, ◌<◌, ◌↔◌, IsTrue, All, length, map, slice_index};
+ghost use Rattle.std.specs.Prelude.{◌≡◌, ℕ, ◌*◌, ◌%◌, ◌<◌, ◌↔◌, IsTrue, All, length, map, option_map, slice_index};
+ghost use Rattle.modular_word.specs.Inverses.{inverse_of};
 ghost use Rattle.modular_reduced.specs.Forms.{IsForm};
 ghost use Rattle.num_modular.specs.Ring.{whole, destination_of, outcome, value_at, IsStop, carried_out, IsFit, values_of, HoldValues, IsFormOf};
 
@@ -74,6 +75,16 @@ pub enum RingCommand<T> {
         /// The register of the operand.
         a: usize,
     },
+    /// Writes the quotient of two registers: the first times the inverse of the second. Where that has
+    /// none, the run stops, also where the first holds 0.
+    Div {
+        /// The register that is written.
+        dst: usize,
+        /// The register of the dividend.
+        a: usize,
+        /// The register of the divisor.
+        b: usize,
+    },
     /// Writes a power of a register, which for the exponent 0 is 1 modulo m.
     Pow {
         /// The register that is written.
@@ -105,7 +116,8 @@ fn command_fits<T: RingWord>(command: &RingCommand<T>, len: usize) -> bool
         RingCommand::Load { dst, .. } => *dst < len,
         RingCommand::Add { dst, a, b }
         | RingCommand::Sub { dst, a, b }
-        | RingCommand::Mul { dst, a, b } => *dst < len && *a < len && *b < len,
+        | RingCommand::Mul { dst, a, b }
+        | RingCommand::Div { dst, a, b } => *dst < len && *a < len && *b < len,
         RingCommand::Neg { dst, a }
         | RingCommand::Dbl { dst, a }
         | RingCommand::Sqr { dst, a }
@@ -142,8 +154,21 @@ fn destination<T: RingWord>(command: &RingCommand<T>) -> usize
         | RingCommand::Dbl { dst, .. }
         | RingCommand::Sqr { dst, .. }
         | RingCommand::Inv { dst, .. }
+        | RingCommand::Div { dst, .. }
         | RingCommand::Pow { dst, .. } => *dst,
     }
+}
+
+// The form of the quotient of two forms; `None` exactly where the second has no inverse.
+fn quotient<T: RingWord, R: Reducer<T>>(r: &R, a: &T, b: T) -> Option<T>
+    requires dividend { IsForm R.form R.value (R.modulus r.now) (T.number a.now) }
+    requires divisor { IsForm R.form R.value (R.modulus r.now) (T.number b) }
+    ensures { let m = R.modulus r.now in
+        let x = R.value m (T.number a.now) in
+        IsFormOf T.number R.form m (option_map (λ y. (x * y) % m) (inverse_of m (R.value m (T.number b)))) result }
+{
+    let inverse = r.inv(b)?;
+    Some(r.mul(a, &inverse))
 }
 
 // The form that a command writes; `None` exactly where it finds no inverse.
@@ -167,6 +192,7 @@ fn computed_form<T: RingWord, R: Reducer<T>>(
         RingCommand::Dbl { a, .. } => Some(r.dbl(regs[*a])),
         RingCommand::Sqr { a, .. } => Some(r.sqr(regs[*a])),
         RingCommand::Inv { a, .. } => r.inv(regs[*a]),
+        RingCommand::Div { a, b, .. } => quotient(r, &regs[*a], regs[*b]),
         RingCommand::Pow { a, exp, .. } => Some(r.pow(regs[*a], exp)),
     }
 }
@@ -175,9 +201,9 @@ fn computed_form<T: RingWord, R: Reducer<T>>(
 ///
 /// Conditions: each register holds a checked form (`all_checked` tells), and each register number is
 /// below the number of registers (`commands_fit` tells). The run stops exactly at the first `Inv`
-/// whose operand has no inverse modulo m; that command and all later ones write nothing, and earlier
-/// ones stand. Each register then holds the one checked form of its value after the commands that
-/// were carried out, computed on whole numbers modulo m. It takes no memory.
+/// or `Div` whose operand (for `Div`: b) has no inverse modulo m; that command and all later ones
+/// write nothing, and earlier ones stand. Each register then holds the one checked form of its value
+/// after the commands that were carried out, computed on whole numbers modulo m. It takes no memory.
 pub fn run<T: RingWord, R: Reducer<T>>(r: &R, regs: &mut [T], commands: &[RingCommand<T>]) -> RunEnd
     requires checked { All (λ f. IsForm R.form R.value (R.modulus r.now) (T.number f)) regs.old }
     requires fit { All (IsFit (length regs.old)) commands.now }

@@ -10,6 +10,8 @@ const USAGE: &str = "usage: modrun REDUCER MODULUS COMMAND...\n";
 
 const ZEROS: &str = "0 0 0 0 0 0 0 0\n";
 
+const MISSING_INVERSE: &str = "vanilla 21 load,0,5 load,1,7 inv,2,0 inv,0,1";
+
 // A writer that takes no memory, and can refuse one of its writes.
 #[derive(Drop)]
 struct Page {
@@ -57,169 +59,197 @@ impl Write for Page {
     }
 }
 
+// Runs the words, which a space parts.
+fn run_typed(alloc: Global, typed: &str, out: &mut Page, err: &mut Page) -> u8 {
+    let mut words = [""; 8];
+    let mut count = 0;
+    'words: for word in typed.split(' ') {
+        if count < 8 {
+            words[count] = word;
+            count += 1;
+        }
+    }
+    run_words(alloc, &words[..count.min(8)], out, err)
+}
+
 // Whether the words give the status and these two texts.
-fn gives(alloc: Global, words: &[&str], status: u8, printed: &str, told: &str) -> bool {
+fn gives(alloc: Global, typed: &str, status: u8, printed: &str, told: &str) -> bool {
     let mut out = Page::new();
     let mut err = Page::new();
-    let answer = run_words(alloc, words, &mut out, &mut err);
+    let answer = run_typed(alloc, typed, &mut out, &mut err);
     answer == status && out.holds(printed) && err.holds(told)
 }
 
+// The words, the status and the two texts.
+const ANSWERS: [(&str, u8, &str, &str); 19] = [
+    ("vanilla 97", 0, ZEROS, ""),
+    (
+        "vanilla 97 load,0,10 load,1,20 mul,2,0,1",
+        0,
+        "10 20 6 0 0 0 0 0\n",
+        "",
+    ),
+    (
+        "vanilla 97 load,0,0 sub,1,0,0 load,2,1 sub,3,0,2",
+        0,
+        "0 0 1 96 0 0 0 0\n",
+        "",
+    ),
+    (
+        "vanilla 97 load,1,96 add,2,1,1 neg,3,2 dbl,4,2 sqr,5,3",
+        0,
+        "0 96 95 2 93 4 0 0\n",
+        "",
+    ),
+    ("vanilla 21 load,0,5 mul,0,0,0", 0, "4 0 0 0 0 0 0 0\n", ""),
+    ("vanilla 7 pow,0,1,0", 0, "1 0 0 0 0 0 0 0\n", ""),
+    ("vanilla 0021 load,00,05", 0, "5 0 0 0 0 0 0 0\n", ""),
+    (
+        "vanilla 00000000000000000000000000000021 load,7,22",
+        0,
+        "0 0 0 0 0 0 0 1\n",
+        "",
+    ),
+    ("vanilla 18446744073709551615", 0, ZEROS, ""),
+    ("premul 1", 0, ZEROS, ""),
+    (
+        "montgomery 18446744073709551615 load,0,18446744073709551614 mul,1,0,0",
+        0,
+        "18446744073709551614 1 0 0 0 0 0 0\n",
+        "",
+    ),
+    (
+        "vanilla 21 load,0,10 load,1,5 div,2,0,1",
+        0,
+        "10 5 2 0 0 0 0 0\n",
+        "",
+    ),
+    ("montgomery 1 div,0,1,2", 0, ZEROS, ""),
+    (
+        MISSING_INVERSE,
+        1,
+        "5 7 17 0 0 0 0 0\n",
+        "no inverse at command 3\n",
+    ),
+    (
+        "premul 21 load,0,5 load,1,7 inv,2,0 inv,0,1",
+        1,
+        "5 7 17 0 0 0 0 0\n",
+        "no inverse at command 3\n",
+    ),
+    (
+        "montgomery 21 load,0,5 load,1,7 inv,2,0 inv,0,1",
+        1,
+        "5 7 17 0 0 0 0 0\n",
+        "no inverse at command 3\n",
+    ),
+    ("vanilla 21 inv,0,0", 1, ZEROS, "no inverse at command 0\n"),
+    (
+        "premul 21 load,0,5 load,1,7 div,2,0,1 load,3,9",
+        1,
+        "5 7 0 0 0 0 0 0\n",
+        "no inverse at command 2\n",
+    ),
+    (
+        "vanilla 21 div,0,0,0",
+        1,
+        ZEROS,
+        "no inverse at command 0\n",
+    ),
+];
+
 #[test]
-fn runs(rt: HostRuntime) {
-    let rows: [(&[&str], &str); 11] = [
-        (&["vanilla", "97"], ZEROS),
-        (
-            &["vanilla", "97", "load,0,10", "load,1,20", "mul,2,0,1"],
-            "10 20 6 0 0 0 0 0\n",
-        ),
-        (
-            &[
-                "vanilla",
-                "97",
-                "load,0,0",
-                "sub,1,0,0",
-                "load,2,1",
-                "sub,3,0,2",
-            ],
-            "0 0 1 96 0 0 0 0\n",
-        ),
-        (
-            &["vanilla", "21", "load,0,5", "mul,0,0,0"],
-            "4 0 0 0 0 0 0 0\n",
-        ),
-        (&["vanilla", "7", "pow,0,1,0"], "1 0 0 0 0 0 0 0\n"),
-        (&["vanilla", "0021", "load,00,05"], "5 0 0 0 0 0 0 0\n"),
-        (
-            &["vanilla", "00000000000000000000000000000021", "load,7,22"],
-            "0 0 0 0 0 0 0 1\n",
-        ),
-        (&["vanilla", "18446744073709551615"], ZEROS),
-        (&["premul", "1"], ZEROS),
-        (
-            &[
-                "montgomery",
-                "18446744073709551615",
-                "load,0,18446744073709551614",
-                "mul,1,0,0",
-            ],
-            "18446744073709551614 1 0 0 0 0 0 0\n",
-        ),
-        (
-            &[
-                "vanilla",
-                "97",
-                "load,1,96",
-                "add,2,1,1",
-                "neg,3,2",
-                "dbl,4,2",
-                "sqr,5,3",
-            ],
-            "0 96 95 2 93 4 0 0\n",
-        ),
-    ];
-    for (words, printed) in rows {
-        assert!(rt; gives(rt.alloc(), words, 0, printed, ""), "{words:?}");
+fn answers(rt: HostRuntime) {
+    'rows: for (typed, status, printed, told) in ANSWERS {
+        assert!(rt; gives(rt.alloc(), typed, status, printed, told), "{typed}");
     }
 }
 
-#[test]
-fn stops(rt: HostRuntime) {
-    for reducer in ["vanilla", "premul", "montgomery"] {
-        let words = [
-            reducer, "21", "load,0,5", "load,1,7", "inv,2,0", "inv,0,1", "load,3,1",
-        ];
-        let told = "no inverse at command 3\n";
-        assert!(rt;
-            gives(rt.alloc(), &words, 1, "5 7 17 0 0 0 0 0\n", told),
-            "{reducer}"
-        );
-    }
-    let told = "no inverse at command 0\n";
-    assert!(rt; gives(rt.alloc(), &["vanilla", "21", "inv,0,0"], 1, ZEROS, told));
-}
+// Words that can't be read, or that ask for what isn't there.
+const REFUSED: [&str; 43] = [
+    "vanilla",
+    "vanilla 0",
+    "premul 0",
+    "montgomery 0",
+    "montgomery 20",
+    "Vanilla 21",
+    " 21",
+    "vanilla +21",
+    "vanilla -1",
+    "vanilla ",
+    "vanilla \t21",
+    "vanilla ٢١",
+    "vanilla 18446744073709551616",
+    "vanilla 2 1",
+    "vanilla 21 inv,0,0 load,8,1",
+    "vanilla 21 ",
+    "vanilla 21 load",
+    "vanilla 21 load,0",
+    "vanilla 21 load,0,5,",
+    "vanilla 21 load,0,5,6",
+    "vanilla 21 load,,5",
+    "vanilla 21 load,8,1",
+    "vanilla 21 load,0,18446744073709551616",
+    "vanilla 21 load,+0,5",
+    "vanilla 21 load,\t0,5",
+    "vanilla 21 load,0,٥",
+    "vanilla 21 LOAD,0,5",
+    "vanilla 21 \tload,0,5",
+    "vanilla 21 loads,0,5",
+    "vanilla 21 add,0,1",
+    "vanilla 21 add,0,1,8",
+    "vanilla 21 add,0,8,1",
+    "vanilla 21 sub,8,0,1",
+    "vanilla 21 mul,0,1,2,3",
+    "vanilla 21 neg,0",
+    "vanilla 21 dbl,0,8",
+    "vanilla 21 sqr,0,1,2",
+    "vanilla 21 inv,0,8",
+    "vanilla 21 div,0,1",
+    "vanilla 21 div,0,1,8",
+    "vanilla 21 div,0,8,1",
+    "vanilla 21 pow,0,1",
+    "vanilla 21 pow,0,8,1",
+];
 
 #[test]
 fn refuses_words(rt: HostRuntime) {
-    let rows: [&[&str]; 16] = [
-        &[],
-        &["vanilla"],
-        &["vanilla", "0"],
-        &["premul", "0"],
-        &["montgomery", "0"],
-        &["montgomery", "20"],
-        &["Vanilla", "21"],
-        &["", "21"],
-        &["vanilla", "+21"],
-        &["vanilla", "-1"],
-        &["vanilla", ""],
-        &["vanilla", " 21"],
-        &["vanilla", "٢١"],
-        &["vanilla", "18446744073709551616"],
-        &["vanilla", "2", "1"],
-        &["vanilla", "21", "inv,0,0", "load,8,1"],
-    ];
-    for words in rows {
-        assert!(rt; gives(rt.alloc(), words, 2, "", USAGE), "{words:?}");
+    'rows: for typed in REFUSED {
+        assert!(rt; gives(rt.alloc(), typed, 2, "", USAGE), "{typed:?}");
     }
-    let commands = [
-        "",
-        "load",
-        "load,0",
-        "load,0,5,",
-        "load,0,5,6",
-        "load,,5",
-        "load,8,1",
-        "load,0,18446744073709551616",
-        "load,+0,5",
-        "load, 0,5",
-        "load,0,٥",
-        "LOAD,0,5",
-        " load,0,5",
-        "loads,0,5",
-        "add,0,1",
-        "add,0,1,8",
-        "add,0,8,1",
-        "sub,8,0,1",
-        "mul,0,1,2,3",
-        "neg,0",
-        "dbl,0,8",
-        "sqr,0,1,2",
-        "inv,0,8",
-        "pow,0,1",
-        "pow,0,8,1",
-        "div,0,0,0",
-    ];
-    for command in commands {
-        let words = ["vanilla", "21", "load,0,5", command];
-        assert!(rt; gives(rt.alloc(), &words, 2, "", USAGE), "{command:?}");
-    }
+    let mut out = Page::new();
+    let mut err = Page::new();
+    let status = run_words(rt.alloc(), &[], &mut out, &mut err);
+    assert!(rt; status == 2 && out.holds("") && err.holds(USAGE));
 }
 
-// Each write in turn is refused, to either output, until a run meets none.
+// Whether a run answers 4 exactly where the write `refused` to one of its outputs is refused, and then
+// writes no more.
+fn tells_a_refused_write(alloc: Global, typed: &str, refused: usize) -> bool {
+    let mut out = Page::refusing(refused);
+    let mut err = Page::new();
+    let status = run_typed(alloc, typed, &mut out, &mut err);
+    let told = (status == 4) == (refused <= out.writes) && (status != 4 || err.holds(""));
+    let mut out = Page::new();
+    let mut err = Page::refusing(refused);
+    let status = run_typed(alloc, typed, &mut out, &mut err);
+    told && (status == 4) == (refused <= err.writes)
+}
+
+// Each write in turn is refused, to either output; the last runs meet no refusal.
 #[test]
 fn refused_writes(rt: HostRuntime) {
-    let rows: [&[&str]; 3] = [
-        &[
-            "vanilla", "21", "load,0,5", "load,1,7", "inv,2,0", "inv,0,1",
-        ],
-        &["vanilla", "21"],
-        &["vanilla"],
-    ];
-    for words in rows {
-        for refused in 0..40 {
-            let mut out = Page::refusing(refused);
-            let mut err = Page::new();
-            let status = run_words(rt.alloc(), words, &mut out, &mut err);
-            let was_refused = refused > 0 && refused <= out.writes;
-            assert_eq!(rt; status == 4, was_refused, "{words:?} {refused}");
-            assert!(rt; !was_refused || err.holds(""), "{words:?} {refused}");
-            let mut out = Page::new();
-            let mut err = Page::refusing(refused);
-            let status = run_words(rt.alloc(), words, &mut out, &mut err);
-            let was_refused = refused > 0 && refused <= err.writes;
-            assert_eq!(rt; status == 4, was_refused, "{words:?} {refused}");
+    let rows = [(MISSING_INVERSE, 1), ("vanilla 21", 0), ("vanilla", 2)];
+    'rows: for (typed, status) in rows {
+        'writes: for refused in 1..40 {
+            assert!(rt;
+                tells_a_refused_write(rt.alloc(), typed, refused),
+                "{typed} {refused}"
+            );
         }
+        let mut out = Page::refusing(39);
+        let mut err = Page::refusing(39);
+        assert_eq!(rt; run_typed(rt.alloc(), typed, &mut out, &mut err), status);
     }
 }
 
@@ -227,18 +257,31 @@ fn refused_writes(rt: HostRuntime) {
 // `rt try --test --fail-alloc N` refuses the growth N of the allocator itself.
 #[test]
 fn refused_memory(rt: HostRuntime) {
-    let words = [
-        "vanilla", "21", "load,0,5", "load,1,7", "inv,2,0", "inv,0,1",
-    ];
     let mut out = Page::new();
     let mut err = Page::new();
-    let status = run_words(rt.alloc(), &words, &mut out, &mut err);
-    if status == 3 {
-        assert!(rt; out.holds("") && err.holds("out of memory\n"));
-    } else {
-        assert_eq!(rt; status, 1);
-        assert!(rt; out.holds("5 7 17 0 0 0 0 0\n") && err.holds("no inverse at command 3\n"));
+    let status = run_typed(rt.alloc(), MISSING_INVERSE, &mut out, &mut err);
+    let refused = status == 3 && out.holds("") && err.holds("out of memory\n");
+    let stopped = status == 1
+        && out.holds("5 7 17 0 0 0 0 0\n")
+        && err.holds("no inverse at command 3\n");
+    assert!(rt; refused || stopped);
+}
+
+fn answer_in(heap: &LocalHeap, words: &[&str], out: &mut Page, err: &mut Page) -> u8 {
+    run_words_in(heap, words, out, err)
+}
+
+// Whether a heap carries out the commands, or refuses memory for them and says that alone.
+fn serves(heap: &LocalHeap, words: &[&str], is_served: bool) -> bool {
+    let mut out = Page::new();
+    let mut err = Page::new();
+    let status = answer_in(heap, words, &mut out, &mut err);
+    if is_served {
+        return status == 0 && out.holds(ZEROS) && err.holds("");
     }
+    let told = status == 3 && out.holds("") && err.holds("out of memory\n");
+    let mut deaf = Page::refusing(1);
+    told && answer_in(heap, words, &mut out, &mut deaf) == 4
 }
 
 // Heaps that serve just so many growths: as many commands as fit run, and one more is refused.
@@ -250,19 +293,11 @@ fn small_heaps(rt: HostRuntime) -> Result<(), Fail> {
     for (units, served) in [(1, 0), (8, 4), (24, 8), (56, 16)] {
         let heap = LocalHeap::new(rt.alloc(), units * 16)?;
         for count in 0..18usize {
-            let mut out = Page::new();
-            let mut err = Page::new();
-            let status = run_words_in(&heap, &words[..2 + count], &mut out, &mut err);
-            if count <= served {
-                assert_eq!(rt; status, 0, "{units} {count}");
-                assert!(rt; out.holds(ZEROS) && err.holds(""));
-            } else {
-                assert_eq!(rt; status, 3, "{units} {count}");
-                assert!(rt; out.holds("") && err.holds("out of memory\n"));
-                let mut deaf = Page::refusing(1);
-                let status = run_words_in(&heap, &words[..2 + count], &mut out, &mut deaf);
-                assert_eq!(rt; status, 4, "{units} {count}");
-            }
+            let is_served = count <= served;
+            assert!(rt;
+                serves(&heap, &words[..2 + count], is_served),
+                "{units} {count}"
+            );
         }
     }
     Ok(())

@@ -112,6 +112,10 @@ fn named_command(name: &str, numbers: &str) -> Option<RingCommand<u64>>
             let (dst, a) = two_registers(numbers)?;
             Some(RingCommand::Inv { dst, a })
         }
+        "div" => {
+            let (dst, a, b) = three_registers(numbers)?;
+            Some(RingCommand::Div { dst, a, b })
+        }
         "pow" => {
             let (dst, a, exp) = two_registers_and_number(numbers)?;
             Some(RingCommand::Pow { dst, a, exp })

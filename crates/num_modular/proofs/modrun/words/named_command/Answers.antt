@@ -1,4 +1,4 @@
-use Rattle.num_modular.proofs.CommandTexts.{no_load, no_add, no_sub, no_mul, no_neg, no_dbl, no_sqr, no_inv, no_pow}
+use Rattle.num_modular.proofs.CommandTexts.{no_load, no_add, no_sub, no_mul, no_neg, no_dbl, no_sqr, no_inv, no_div, no_pow}
 use Rattle.num_modular.proofs.modrun.words.named_command.Goals as goal
 
 pub returns-in_err-dst-in-load : goal.returns-in_err-dst-in-load
@@ -32,6 +32,10 @@ returns-in_err-dst-in-sqr c =
 pub returns-in_err-dst-in-inv : goal.returns-in_err-dst-in-inv
 returns-in_err-dst-in-inv c =
     rw c.from_residual-in_err-dst-in-inv.ensures (no_inv _ _ c.in-inv.is c.in_err-dst-in-inv.ensures)
+
+pub returns-in_err-dst-in-div : goal.returns-in_err-dst-in-div
+returns-in_err-dst-in-div c =
+    rw c.from_residual-in_err-dst-in-div.ensures (no_div _ _ c.in-div.is c.in_err-dst-in-div.ensures)
 
 pub returns-in_err-dst-in-pow : goal.returns-in_err-dst-in-pow
 returns-in_err-dst-in-pow c =
