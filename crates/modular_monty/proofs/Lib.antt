@@ -2,3 +2,5 @@ pub mod Lifting
 pub mod MontgomerySteps
 pub mod NegatedInverses
 pub mod ProthModuli
+pub mod SplitSteps
+pub mod Twos

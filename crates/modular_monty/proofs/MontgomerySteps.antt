@@ -9,7 +9,7 @@ use Rattle.modular_word.specs.Reduction.{IsReduction, IsNegatedInverse}
 use Rattle.modular_word.specs.Residues.{residue}
 use Rattle.modular_word.proofs.Congruence.{same_sum, same_product, same_without}
 use Rattle.modular_word.proofs.ResidueLemmas.{residue_sub, residue_sub_wrapped}
-use Rattle.modular_reduced.specs.Forms.{Represents, IsForm}
+use Rattle.modular_reduced.specs.Forms.{Represents, IsForm, IsCanonical}
 use Rattle.modular_monty.specs.Montgomery.{montgomery_form, montgomery_value, IsOddRing}
 use Rattle.modular_monty.specs.MontgomeryLaws.{positive, base_inverse, base_cancels, value_of_form}
 
@@ -99,7 +99,7 @@ product_stands {w} {b} {m} {i} {square} r {f} {g} {t} {h} isf isg et is =
     ∙ ap (λ n. n % m) (let e : v * b * (x * b) ≡ v * x * b * b = omega arith in e)) is
 
 -- the residue of a difference is what the second number makes the first
-residue_of_difference : (m v x : ℕ) → v < m → x < m
+pub residue_of_difference : (m v x : ℕ) → v < m → x < m
     → residue m (pos v -ℤ pos x) < m × (residue m (pos v -ℤ pos x) + x) % m ≡ v
 residue_of_difference m v x hv hx =
     ⊎_elim
@@ -179,18 +179,19 @@ negative_stands {w} {b} {m} {i} {square} r {f} {h} is eh =
     subst (λ z. Stands w m h z) e d
 
 -- an inverse of the value, and its form
-pub inverse_stands : {w b m i square : ℕ} → IsOddRing w b m i square → {f v x h : ℕ} → Stands w m f v
-    → IsInverse m v x → Stands w m h (x % m) → IsInverse m (montgomery_value w m f) x × Stands w m h x
-inverse_stands {w} {b} {m} {i} {square} r {f} {v} {x} {h} of is made = (
-  record { below = is.below; one = ap (λ n. (n * x) % m) (value_of_form r of) ∙ is.one },
-  record { below = is.below; same = made.same ∙ ap (montgomery_form w m) (mod-eq_of_lt is.below) },
+pub inverse_stands : {form value : ℕ → ℕ → ℕ} {w m : ℕ} → IsCanonical form value w m → {f v x h : ℕ}
+    → Represents form m f v → IsInverse m v x → Represents form m h (x % m)
+    → IsInverse m (value m f) x × Represents form m h x
+inverse_stands {form} {value} {w} {m} r {f} {v} {x} {h} of is made = (
+  record { below = is.below; one = ap (λ n. (n * x) % m) (r.one_value f v of) ∙ is.one },
+  record { below = is.below; same = made.same ∙ ap (form m) (mod-eq_of_lt is.below) },
 )
 
 -- where the value has no inverse, the form's value has none
-pub inverse_lacks : {w b m i square : ℕ} → IsOddRing w b m i square → {f v : ℕ} → Stands w m f v
-    → ((x : ℕ) → IsInverse m v x → ⊥) → (x : ℕ) → IsInverse m (montgomery_value w m f) x → ⊥
-inverse_lacks {w} {b} {m} {i} {square} r {f} {v} of none x is =
-    none x (record { below = is.below; one = ap (λ n. (n * x) % m) (sym (value_of_form r of)) ∙ is.one })
+pub inverse_lacks : {form value : ℕ → ℕ → ℕ} {w m : ℕ} → IsCanonical form value w m → {f v : ℕ}
+    → Represents form m f v → ((x : ℕ) → IsInverse m v x → ⊥) → (x : ℕ) → IsInverse m (value m f) x → ⊥
+inverse_lacks {form} {value} {w} {m} r {f} {v} of none x is =
+    none x (record { below = is.below; one = ap (λ n. (n * x) % m) (sym (r.one_value f v of)) ∙ is.one })
 
 -- a word as a double word
 pub extended : (b : ℕ) {t f z : ℕ} → t ≡ f + b * z → z ≡ 0 → t ≡ f

@@ -143,8 +143,8 @@ impl<T: PlainWord, M: OddModulus<T>> Reducer<T> for OddRing<M> {
 // An odd modulus that is known when the program runs.
 #[derive(Debug)]
 pub(crate) struct StoredModulus<T: PlainWord> {
-    modulus: T,
-    negated_inverse: T,
+    pub(crate) modulus: T,
+    pub(crate) negated_inverse: T,
     square: T,
     ghost ring: { IsOddRing T.width T.base (T.number modulus) (T.number negated_inverse) (T.number square) },
 }

@@ -111,10 +111,47 @@ fn five_registers(rt: HostRuntime) -> Result<(), Fail> {
     Ok(())
 }
 
+// The forms of two numbers and of their product.
+fn product_forms<R: Reducer<u8>>(ring: &R, x: u8, y: u8) -> (u8, u8, u8) {
+    let a = ring.transform(x);
+    let b = ring.transform(y);
+    (a, b, ring.mul(&a, &b))
+}
+
 #[test]
-fn each_odd_modulus(rt: HostRuntime) -> Result<(), Fail> {
-    for half in 0..128 {
-        let m: u8 = 2 * half + 1;
+fn even_moduli(rt: HostRuntime) -> Result<(), Fail> {
+    assert_eq!(rt;
+        product_forms(&Montgomery::<u8>::new(20), 7, 9),
+        (11, 17, 15)
+    );
+    let ring = Montgomery::<u8>::new(254);
+    assert_eq!(rt; product_forms(&ring, 253, 253), (251, 251, 5));
+    assert_eq!(rt; inverse(&ring, 253) == Some(251), true);
+    assert_eq!(rt; inverse(&ring, 2) == None, true);
+    assert_eq!(rt; product(&Montgomery::<u16>::new(65534), 65533, 65533), 1);
+    assert_eq!(rt;
+        product(&Montgomery::<u32>::new(4294967294), 4294967293, 4294967293),
+        1
+    );
+    assert_eq!(rt;
+        product(
+            &Montgomery::<u64>::new(18446744073709551614),
+            18446744073709551613,
+            18446744073709551613
+        ),
+        1
+    );
+    assert_eq!(rt; product(&Montgomery::<usize>::new(6), 5, 7), 5);
+    let ring = Montgomery::<u8>::new(128);
+    for v in 0..128 {
+        assert_eq!(rt; ring.transform(v), v);
+    }
+    Ok(())
+}
+
+#[test]
+fn each_modulus(rt: HostRuntime) -> Result<(), Fail> {
+    for m in 1..=255u8 {
         let ring = Montgomery::<u8>::new(m);
         assert_eq!(rt; ring.modulus(), m);
         for x in [0, 1, 2, 84, 127, 128, 254, 255] {
