@@ -1,8 +1,8 @@
-//! Callers of what asks for an odd number, for numbers that fit a divisor, or for parameters in range.
-//! Their edits must be refused when they are checked.
+//! Callers of what asks for an odd number, for a modulus from 1 up, for numbers that fit a divisor, or
+//! for parameters in range. Their edits must be refused when they are checked.
 #![tactic(auto)]
 
-ghost use Rattle.std.specs.Prelude.{◌≡◌, ◌-◌, ◌*◌, ◌%◌, ◌^◌};
+ghost use Rattle.std.specs.Prelude.{◌≡◌, ◌-◌, ◌*◌, ◌%◌, ◌^◌, ◌≤◌};
 ghost use Rattle.modular_word.specs.Division.{IsExactQuotient};
 
 use modular_monty::fixed::FixedMontgomery32;
@@ -35,11 +35,11 @@ pub fn negated_inverse_of_seven() -> u8
     w8::neginv(7)
 }
 
-/// The reducer of 21.
-pub fn ring_of_21() -> Montgomery<u8>
-    ensures { ⟦<Montgomery<u8> as Reducer<u8>>⟧.modulus result ≡ 21 }
+/// The reducer of 20.
+pub fn ring_of_20() -> Montgomery<u8>
+    ensures { ⟦<Montgomery<u8> as Reducer<u8>>⟧.modulus result ≡ 20 }
 {
-    Montgomery::<u8>::new(21)
+    Montgomery::<u8>::new(20)
 }
 
 /// The reducer of the parameter 21.
@@ -76,9 +76,9 @@ fn product_by_forms<T: RingWord, R: Reducer<T>>(ring: &R, a: T, b: T) -> T
 }
 
 /// The remainder of a * b by m, with no division but those of the reducer's making. Condition: m is
-/// odd.
+/// at least 1.
 pub fn product_modulo(a: u64, b: u64, m: u64) -> u64
-    requires { m % 2 ≡ 1 }
+    requires { 1 ≤ m }
     ensures { result ≡ (a * b) % m }
 {
     product_by_forms(&Montgomery::<u64>::new(m), a, b)
