@@ -1,5 +1,5 @@
 -- What the program `modrun` prints and answers for the words after its name. A text is the list of its bytes.
-use Rattle.std.specs.Prelude.{◌≡◌, ℕ, zero, suc, ◌%◌, ◌<◌, List, [], ◌∷◌, ◌++◌, replicate, codes}
+use Rattle.std.specs.Prelude.{◌≡◌, ℕ, zero, suc, ◌<◌, List, [], ◌∷◌, ◌++◌, replicate, codes}
 use Rattle.std.specs.Borrow.{Bor}
 use Rattle.std.specs.Fmt.{decimal}
 use Rattle.num_modular.specs.declared.ring.RingCommand.{RingCommand}
@@ -18,12 +18,6 @@ reducer_name Vanilla = codes "vanilla"
 reducer_name PreMul = codes "premul"
 reducer_name Montgomery = codes "montgomery"
 
--- the moduli that a reducer admits
-abbrev pub IsAdmitted : ReducerName → ℕ → Type 0
-IsAdmitted Vanilla m = 0 < m
-IsAdmitted PreMul m = 0 < m
-IsAdmitted Montgomery m = m % 2 ≡ 1
-
 -- the words stand for the commands, one for one
 abbrev pub AreCommands : List (Bor (List ℕ)) → List (RingCommand ℕ) → Type 0
 AreCommands [] [] = Unit {0}
@@ -36,14 +30,14 @@ abbrev pub IsFault : List (Bor (List ℕ)) → Fault → Type 0
 IsFault words Unreadable = (commands : List (RingCommand ℕ)) → AreCommands words commands → ⊥
 IsFault words OutOfMemory = Unit {0}
 
--- the words are the name of the reducer, the modulus, which it admits, and the words of commands
+-- the words are the name of the reducer, the modulus, which is not 0, and the words of commands
 pub record IsHeading (words : List (Bor (List ℕ))) (reducer : ReducerName) (m : ℕ) (rest : List (Bor (List ℕ))) : Type 0 where
   pub name : Bor (List ℕ)
   pub modulus : Bor (List ℕ)
   pub split : words ≡ name ∷ modulus ∷ rest
   pub named : name.now ≡ reducer_name reducer
   pub read : IsNumberText modulus.now m
-  pub admitted : IsAdmitted reducer m
+  pub positive : 0 < m
 
 -- the words ask for the commands modulo m
 pub record Ask (words : List (Bor (List ℕ))) (m : ℕ) (commands : List (RingCommand ℕ)) : Type 0 where

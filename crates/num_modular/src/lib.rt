@@ -35,7 +35,7 @@ pub use modular_symbols::ops::ModularOps;
 pub use modular_symbols::ref_ops::ModularRefOps;
 pub use modular_symbols::symbols::ModularSymbols;
 
-/// An integer modulo an odd number, over `Montgomery`.
+/// An integer modulo a number from 1 up, over `Montgomery`.
 pub type MontgomeryInt<T> = ReducedInt<T, Montgomery<T>>;
 
 /// An integer modulo the odd parameter P, over `FixedMontgomery32`.

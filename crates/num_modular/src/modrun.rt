@@ -1,11 +1,11 @@
 //! The program `modrun`: ring commands that are given as words, run on eight registers.
 
-ghost use Rattle.std.specs.Prelude.{◌≡◌, ℕ, ◌<◌, ◌≤◌, ◌↔◌, List, All, IsTrue, OnOk, IfOk, MatchOption, MatchResult, slice_index};
+ghost use Rattle.std.specs.Prelude.{◌≡◌, ℕ, ◌<◌, ◌≤◌, List, All, OnOk, IfOk, MatchOption, MatchResult, slice_index};
 ghost use Rattle.std.specs.Borrow.{Bor};
 ghost use Rattle.std.specs.Io.KnownBytes.{Appends};
 ghost use Rattle.modular_reduced.specs.Forms.{IsForm};
 ghost use Rattle.num_modular.specs.Ring.{IsFit, values_of};
-ghost use Rattle.num_modular.specs.Program.{Ask, AreCommands, IsHeading, IsAdmitted, IsRun, IsAnswer, IsFault, reducer_name, usage, line_of};
+ghost use Rattle.num_modular.specs.Program.{Ask, AreCommands, IsHeading, IsRun, IsAnswer, IsFault, reducer_name, usage, line_of};
 ghost use Rattle.num_modular.specs.Words.{FindsWhere};
 
 use self::words::{REGISTERS, command, number};
@@ -29,7 +29,7 @@ pub enum ReducerName {
     Vanilla,
     /// `premul`, for the moduli from 1 up.
     PreMul,
-    /// `montgomery`, for the odd moduli.
+    /// `montgomery`, for the moduli from 1 up.
     Montgomery,
 }
 
@@ -111,7 +111,7 @@ fn heading<'a>(words: &'a [&'a str]) -> Option<(ReducerName, u64, &'a [&'a str])
     let (modulus, commands) = rest.split_first()?;
     let reducer = reducer_named(name)?;
     let modulus = number(modulus)?;
-    if admits(reducer, modulus) {
+    if modulus > 0 {
         Some((reducer, modulus, commands))
     } else {
         None
@@ -127,16 +127,6 @@ fn reducer_named(name: &str) -> Option<ReducerName>
         "premul" => Some(ReducerName::PreMul),
         "montgomery" => Some(ReducerName::Montgomery),
         _ => None,
-    }
-}
-
-// Whether a reducer admits a modulus.
-fn admits(reducer: ReducerName, modulus: u64) -> bool
-    ensures { IsTrue result ↔ IsAdmitted reducer modulus }
-{
-    match reducer {
-        ReducerName::Vanilla | ReducerName::PreMul => modulus > 0,
-        ReducerName::Montgomery => modulus % 2 == 1,
     }
 }
 

@@ -81,7 +81,7 @@ fn gives(alloc: Global, typed: &str, status: u8, printed: &str, told: &str) -> b
 }
 
 // The words, the status and the two texts.
-const ANSWERS: [(&str, u8, &str, &str); 19] = [
+const ANSWERS: [(&str, u8, &str, &str); 22] = [
     ("vanilla 97", 0, ZEROS, ""),
     (
         "vanilla 97 load,0,10 load,1,20 mul,2,0,1",
@@ -126,6 +126,18 @@ const ANSWERS: [(&str, u8, &str, &str); 19] = [
     ),
     ("montgomery 1 div,0,1,2", 0, ZEROS, ""),
     (
+        "montgomery 20 load,0,7 load,1,9 mul,2,0,1",
+        0,
+        "7 9 3 0 0 0 0 0\n",
+        "",
+    ),
+    (
+        "montgomery 18446744073709551614 load,0,18446744073709551613 mul,1,0,0 inv,2,0",
+        0,
+        "18446744073709551613 1 18446744073709551613 0 0 0 0 0\n",
+        "",
+    ),
+    (
         MISSING_INVERSE,
         1,
         "5 7 17 0 0 0 0 0\n",
@@ -144,6 +156,12 @@ const ANSWERS: [(&str, u8, &str, &str); 19] = [
         "no inverse at command 3\n",
     ),
     ("vanilla 21 inv,0,0", 1, ZEROS, "no inverse at command 0\n"),
+    (
+        "montgomery 20 load,0,6 inv,1,0",
+        1,
+        "6 0 0 0 0 0 0 0\n",
+        "no inverse at command 1\n",
+    ),
     (
         "premul 21 load,0,5 load,1,7 div,2,0,1 load,3,9",
         1,
@@ -166,12 +184,11 @@ fn answers(rt: HostRuntime) {
 }
 
 // Words that can't be read, or that ask for what isn't there.
-const REFUSED: [&str; 43] = [
+const REFUSED: [&str; 42] = [
     "vanilla",
     "vanilla 0",
     "premul 0",
     "montgomery 0",
-    "montgomery 20",
     "Vanilla 21",
     " 21",
     "vanilla +21",
