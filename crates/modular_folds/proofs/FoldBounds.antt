@@ -24,11 +24,11 @@ first_fold p c v product =
     let below = (div-lt_iff_lt-mul {x = fold_of p c v} {y = suc c} (pow_pos p)).1 whole in
     omega (arith, below)
 
--- and the next one less than 2^p and the square of c
-pub next_fold : (p c s : ℕ) → s / 2 ^ p ≤ c → fold_of p c s < 2 ^ p + c * c
-next_fold p c s high =
+-- and a fold of a number with a part of h at most less than 2^p and h times c
+pub next_fold : (p c h s : ℕ) → s / 2 ^ p ≤ h → fold_of p c s < 2 ^ p + h * c
+next_fold p c h s high =
     let low = mod-lt s (pow_pos p) in
-    let most : s / 2 ^ p * c ≤ c * c = mul-le-mul_right c high in
+    let most : s / 2 ^ p * c ≤ h * c = mul-le-mul_right c high in
     omega (arith, most, low)
 
 -- by 1, the first fold is less than twice 2^p by 1 at least
@@ -38,12 +38,17 @@ first_fold_by_one p v product =
     omega (arith, product, low)
 
 -- a factor of half as many bits as p has a small square
-pub small_square : (p c : ℕ) → c / 2 ^ (p / 2) ≡ 0 → c * c + c ≤ 2 ^ p
-small_square p c none =
-    let less : c < 1 * 2 ^ (p / 2) = (div-lt_iff_lt-mul {x = c} {y = 1} (pow_pos (p / 2))).0 (omega (arith, none)) in
-    let one : suc c * c ≤ 2 ^ (p / 2) * c = mul-le-mul_right c (omega (arith, less)) in
+pub small_square : (p c : ℕ) → c < 2 ^ (p / 2) → c * c + c ≤ 2 ^ p
+small_square p c less =
+    let one : suc c * c ≤ 2 ^ (p / 2) * c = mul-le-mul_right c less in
     let two : 2 ^ (p / 2) * c ≤ 2 ^ (p / 2) * 2 ^ (p / 2) = mul-le-mul_left (2 ^ (p / 2)) (omega (arith, less)) in
     let whole : 2 ^ (p / 2 + p / 2) ≡ 2 ^ (p / 2) * 2 ^ (p / 2) = pow-add 2 (p / 2) (p / 2) in
     let halves : p / 2 + p / 2 ≤ p = omega arith in
     let most = pow-le-pow_right {n = 2} (lit< tt) halves in
     omega (arith, one, two, whole, most)
+
+-- a number that has no part above the bit p is below 2^p
+pub low_only : (p v : ℕ) → v / 2 ^ p ≡ 0 → v < 2 ^ p
+low_only p v none =
+    let less : v < 1 * 2 ^ p = (div-lt_iff_lt-mul {x = v} {y = 1} (pow_pos p)).0 (omega (arith, none)) in
+    omega (arith, less)

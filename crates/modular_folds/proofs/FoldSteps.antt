@@ -1,6 +1,6 @@
 -- What a fold makes of a number.
 use Rattle.std.proofs.Common.{◌≡◌, ℕ, ◌+◌, ◌-◌, ◌*◌, ◌/◌, ◌%◌, ◌^◌, ◌<◌, ◌≤◌, arith, ap, sym, ◌∙◌, ⊎_elim, bit_and, lit<}
-use Rattle.std.proofs.Math.Nat.{add-mul-mod_self_right, mul-le-mul_left, mul-lt-mul_of_pos_left, pow-le-pow_right}
+use Rattle.std.proofs.Math.Nat.{add-mul-mod_self_right, mod-lt, mul-le-mul_left, mul-lt-mul_of_pos_left, pow-le-pow_right}
 use Rattle.std.proofs.lemmas.Nat.{shr_split, pow_pos, le-div, and_mask}
 use Rattle.std.proofs.lemmas.Bool.{cases_lt}
 use Rattle.modular_folds.specs.Folds.{fold_of, IsFolding}
@@ -24,6 +24,13 @@ fold_less p c v below high =
     let some : 0 < v / 2 ^ p = le-div 1 v (2 ^ p) (pow_pos p) (let one : 1 * 2 ^ p ≤ v = omega arith in one) in
     let less : v / 2 ^ p * c < v / 2 ^ p * 2 ^ p = mul-lt-mul_of_pos_left below some in
     omega (arith, split, less)
+
+-- what is above 2^p is more than halved, where c is less than half of it
+pub fold_halves : (p c v : ℕ) → 2 * c ≤ 2 ^ p → 2 ^ p ≤ v → 2 * fold_of p c v < v + 2 ^ p
+fold_halves p c v half high =
+    let split = shr_split v p in
+    let most : v / 2 ^ p * (2 * c) ≤ v / 2 ^ p * 2 ^ p = mul-le-mul_left (v / 2 ^ p) half in
+    omega (arith, split, most, mod-lt v (pow_pos p))
 
 -- a fold keeps the residue modulo 2^p - c
 pub fold_keeps : (p c m v : ℕ) → m + c ≡ 2 ^ p → fold_of p c v % m ≡ v % m

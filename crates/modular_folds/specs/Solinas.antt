@@ -1,6 +1,6 @@
 -- Moduli of the form 2^p1 - 2^p2 + k, the trinomials among the generalized Mersenne numbers
 -- (Solinas, Generalized Mersenne numbers, technical report CORR 99-39, University of Waterloo, 1999).
-use Rattle.std.specs.Prelude.{◌≡◌, ℕ, ◌+◌, ◌%◌, ◌^◌, ◌<◌, ◌≤◌, ℤ, pos, ◌+ℤ◌, ◌-ℤ◌, ◌<ℤ◌, nat_abs}
+use Rattle.std.specs.Prelude.{◌≡◌, ℕ, ◌+◌, ◌-◌, ◌%◌, ◌^◌, ◌<◌, ◌≤◌, ℤ, pos, ◌+ℤ◌, ◌-ℤ◌, ◌<ℤ◌, nat_abs}
 
 -- p1, p2 and k are in range for moduli of w bits: p1 is w at most, p2 is from 1 to p1 - 1, and k is odd and less than 2^p2 either way
 pub record IsTrinomialRange (w p1 p2 : ℕ) (k : ℤ) : Type 0 where
@@ -13,6 +13,10 @@ pub record IsTrinomialRange (w p1 p2 : ℕ) (k : ℤ) : Type 0 where
 -- the modulus, which is above 0 for parameters in range
 abbrev pub trinomial : ℕ → ℕ → ℤ → ℕ
 trinomial p1 p2 k = nat_abs ((pos (2 ^ p1) -ℤ pos (2 ^ p2)) +ℤ k)
+
+-- what a fold at the bit p1 multiplies by
+abbrev pub trinomial_factor : ℕ → ℕ → ℤ → ℕ
+trinomial_factor p1 p2 k = 2 ^ p1 - trinomial p1 p2 k
 
 -- m is the modulus of p1, p2 and k, which are in range
 pub record IsTrinomial (w p1 p2 : ℕ) (k : ℤ) (m : ℕ) : Type 0 where

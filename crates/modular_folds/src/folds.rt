@@ -1,75 +1,94 @@
 //! Reduction by folds, once for every modulus near a power of two and for both widths of dividends.
 
 ghost use Rattle.std.specs.Prelude.{◌≡◌, ℕ, ◌+◌, ◌*◌, ◌/◌, ◌%◌, ◌^◌, ◌<◌, ◌≤◌};
-ghost use Rattle.modular_folds.specs.Folds.{fold_of, IsFolding};
+ghost use Rattle.modular_folds.specs.Folds.{fold_of, folds, IsFewFolds, IsFolding};
 
 use crate::fold_word::FoldWord;
 
 // One fold at the bit p: the part above it times c, plus the part below it. The mask has the bits
-// below p. A number that has no part above it stays as it is.
-fn fold<V: FoldWord>(v: V, p: u32, mask: V, c: V) -> V
+// below p. A number that has no part above it stays as it is, which counts for no fold.
+fn fold<V: FoldWord>(v: V, p: u32, mask: V, c: V) -> (V, u32)
     requires inside { p < V.width }
     requires mask { V.number mask + 1 ≡ 2 ^ p }
     requires less { V.number c < 2 ^ p }
-    ensures { V.number result ≡ fold_of p (V.number c) (V.number v) }
+    ensures value { V.number result.0 ≡ fold_of p (V.number c) (V.number v) }
+    ensures count { result.1 + folds p (V.number c) (V.number result.0) ≡ folds p (V.number c) (V.number v) }
+    ensures at_most { result.1 ≤ 1 }
 {
-    v.shift_right(p).times(c).plus(v.masked(mask))
+    let high = v.shift_right(p);
+    let rest = high.times(c).plus(v.masked(mask));
+    if high.is_zero_word() {
+        (rest, 0)
+    } else {
+        (rest, 1)
+    }
 }
 
 // Two folds in a row, which are enough for a product of two numbers below 2^p where c is 1.
-fn fold_two<V: FoldWord>(v: V, p: u32, mask: V, c: V, m: V) -> V
+fn fold_two<V: FoldWord>(v: V, p: u32, mask: V, c: V, m: V) -> (V, u32)
     requires folding { IsFolding V.width p (V.number c) (V.number m) }
     requires inside { p < V.width }
     requires mask { V.number mask + 1 ≡ 2 ^ p }
     requires one { V.number c ≡ 1 }
     requires product { V.number v / 2 ^ p < 2 ^ p }
-    ensures below { V.number result < 2 ^ p }
-    ensures same { V.number result % V.number m ≡ V.number v % V.number m }
+    ensures below { V.number result.0 < 2 ^ p }
+    ensures same { V.number result.0 % V.number m ≡ V.number v % V.number m }
+    ensures count { result.1 ≡ folds p (V.number c) (V.number v) }
 {
-    let first = fold(v, p, mask, c);
-    fold(first, p, mask, c)
+    let (first, one) = fold(v, p, mask, c);
+    let (second, two) = fold(first, p, mask, c);
+    (second, one + two)
 }
 
 // Three folds in a row, which are enough for a product of two numbers below 2^p where c·(c + 1) is at
 // most 2^p.
-fn fold_three<V: FoldWord>(v: V, p: u32, mask: V, c: V, m: V) -> V
+fn fold_three<V: FoldWord>(v: V, p: u32, mask: V, c: V, m: V) -> (V, u32)
     requires folding { IsFolding V.width p (V.number c) (V.number m) }
     requires inside { p < V.width }
     requires mask { V.number mask + 1 ≡ 2 ^ p }
     requires small { V.number c * V.number c + V.number c ≤ 2 ^ p }
     requires product { V.number v / 2 ^ p < 2 ^ p }
-    ensures below { V.number result < 2 ^ p }
-    ensures same { V.number result % V.number m ≡ V.number v % V.number m }
+    ensures below { V.number result.0 < 2 ^ p }
+    ensures same { V.number result.0 % V.number m ≡ V.number v % V.number m }
+    ensures count { result.1 ≡ folds p (V.number c) (V.number v) }
 {
-    let first = fold(v, p, mask, c);
-    let second = fold(first, p, mask, c);
-    fold(second, p, mask, c)
+    let (first, one) = fold(v, p, mask, c);
+    let (second, two) = fold(first, p, mask, c);
+    let (third, three) = fold(second, p, mask, c);
+    (third, one + two + three)
 }
 
 // As many folds as it takes, one after a comparison each.
-fn fold_on<V: FoldWord>(v: V, p: u32, mask: V, c: V, m: V) -> V
+fn fold_on<V: FoldWord>(v: V, p: u32, mask: V, c: V, m: V) -> (V, u32)
     requires folding { IsFolding V.width p (V.number c) (V.number m) }
+    requires fits { V.number v < 2 ^ V.width }
     requires mask { V.number mask + 1 ≡ 2 ^ p }
-    ensures below { V.number result < 2 ^ p }
-    ensures same { V.number result % V.number m ≡ V.number v % V.number m }
+    ensures below { V.number result.0 < 2 ^ p }
+    ensures same { V.number result.0 % V.number m ≡ V.number v % V.number m }
+    ensures count { result.1 ≡ folds p (V.number c) (V.number v) }
 {
     let mut rest = v;
+    let mut count = 0;
     'folds: while mask.is_below(rest) {
-        rest = fold(rest, p, mask, c);
+        let (next, one) = fold(rest, p, mask, c);
+        rest = next;
+        count += one;
     }
-    rest
+    (rest, count)
 }
 
-/// A number below 2^p that leaves what v leaves modulo m: v after as many folds as it takes. Where c is
-/// small and v is no more than a product of two numbers below 2^p, these are in a straight line.
-pub fn fold_all<V: FoldWord>(v: V, p: u32, c: V, m: V) -> V
+/// A number below 2^p that leaves what v leaves modulo m: v after as many folds as it takes, and their
+/// number. Where c is small and v is no more than a product of two numbers below 2^p, these are in a
+/// straight line.
+pub fn fold_all<V: FoldWord>(v: V, p: u32, c: V, m: V) -> (V, u32)
     requires { IsFolding V.width p (V.number c) (V.number m) }
-    ensures below { V.number result < 2 ^ p }
-    ensures same { V.number result % V.number m ≡ V.number v % V.number m }
+    ensures below { V.number result.0 < 2 ^ p }
+    ensures same { V.number result.0 % V.number m ≡ V.number v % V.number m }
+    ensures count { result.1 ≡ folds p (V.number c) (V.number v) }
 {
     let mask = m.plus(c.minus(V::one()));
-    if p >= V::bits() {
-        return fold_on(v, p, mask, c, m);
+    if !mask.is_below(v) {
+        return (v, 0);
     }
     if mask.is_below(v.shift_right(p)) {
         return fold_on(v, p, mask, c, m);
@@ -84,23 +103,33 @@ pub fn fold_all<V: FoldWord>(v: V, p: u32, c: V, m: V) -> V
 }
 
 /// v modulo m, where m is 2^p - c and more than half of 2^p: as many folds as it takes, and one
-/// subtraction at most.
+/// subtraction at most; and the number of the folds.
 ///
 /// A fold takes the part of v above the bit p times c in place of times 2^p, which leaves the same
 /// modulo m. p may be the width of v, which then takes no fold.
 ///
 /// Source: Handbook of Applied Cryptography, algorithm 14.47.
-pub fn reduce_by_folds<V: FoldWord>(v: V, p: u32, c: V, m: V) -> V
+pub fn reduce_by_folds<V: FoldWord>(v: V, p: u32, c: V, m: V) -> (V, u32)
     requires { IsFolding V.width p (V.number c) (V.number m) }
-    ensures { V.number result ≡ V.number v % V.number m }
+    ensures value { V.number result.0 ≡ V.number v % V.number m }
+    ensures count { result.1 ≡ folds p (V.number c) (V.number v) }
+    ensures few { IsFewFolds p (V.number c) (V.number v) result.1 }
 {
-    let rest = fold_all(v, p, c, m);
+    let (rest, count) = fold_all(v, p, c, m);
     if rest.is_below(m) {
-        rest
+        (rest, count)
     } else {
-        rest.minus(m)
+        (rest.minus(m), count)
     }
 }
+
+/// No folds below 2^p, and one more than from hi·c + lo where c is below 2^p and v isn't, hi and lo being
+/// the parts of v at the bit p; and few where c is less than half of 2^p.
+pub fn fold_laws()
+    ensures none { (p c v : ℕ) → v < 2 ^ p → folds p c v ≡ 0 }
+    ensures next { (p c hi lo : ℕ) → c < 2 ^ p → lo < 2 ^ p → 0 < hi → folds p c (hi * 2 ^ p + lo) ≡ 1 + folds p c (hi * c + lo) }
+    ensures few { (p c v : ℕ) → 2 * c < 2 ^ p → IsFewFolds p c v (folds p c v) }
+{}
 
 #[cfg(test)]
 mod tests;

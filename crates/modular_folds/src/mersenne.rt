@@ -2,6 +2,7 @@
 
 ghost use Rattle.std.specs.Prelude.{◌≡◌, ℕ, ◌%◌, ◌<◌};
 ghost use Rattle.modular_reduced.specs.Plain.{plain_form, plain_value};
+ghost use Rattle.modular_folds.specs.Folds.{folds, IsFewFolds};
 ghost use Rattle.modular_folds.specs.Mersenne.{IsMersenneRange, IsMersenne, mersenne};
 ghost use Rattle.modular_folds.specs.MersenneLaws.{mersenne_canonical};
 ghost use Rattle.std.proofs.Common.{lit≤, refl};
@@ -38,7 +39,7 @@ impl<const P: u8, const K: u32> FixedMersenne32<P, K> {
         requires { IsMersenneRange 32 P K }
         ensures { result ≡ v % mersenne P K }
     {
-        Self::reduce_double(v as u64)
+        Self::reduce_counted(v as u64).0
     }
 
     /// The residue of a double word. Condition: the parameters are in range.
@@ -46,7 +47,19 @@ impl<const P: u8, const K: u32> FixedMersenne32<P, K> {
         requires { IsMersenneRange 32 P K }
         ensures { result ≡ v % mersenne P K }
     {
-        reduce_by_folds(v, P as u32, K as u64, Self::fixed_modulus() as u64) as u32
+        Self::reduce_counted(v).0
+    }
+
+    /// The residue of a double word, and the number of folds that take it below 2^P. Condition: the
+    /// parameters are in range.
+    pub fn reduce_counted(v: u64) -> (u32, u32)
+        requires { IsMersenneRange 32 P K }
+        ensures value { result.0 ≡ v % mersenne P K }
+        ensures count { result.1 ≡ folds P K v }
+        ensures few { IsFewFolds P K v result.1 }
+    {
+        let (rest, count) = reduce_by_folds(v, P as u32, K as u64, Self::fixed_modulus() as u64);
+        (rest as u32, count)
     }
 }
 
@@ -143,7 +156,7 @@ impl<const P: u8, const K: u64> FixedMersenne64<P, K> {
         requires { IsMersenneRange 64 P K }
         ensures { result ≡ v % mersenne P K }
     {
-        reduce_by_folds(v, P as u32, K, Self::fixed_modulus())
+        Self::reduce_counted(v as u128).0
     }
 
     /// The residue of a double word. Condition: the parameters are in range.
@@ -151,7 +164,19 @@ impl<const P: u8, const K: u64> FixedMersenne64<P, K> {
         requires { IsMersenneRange 64 P K }
         ensures { result ≡ v % mersenne P K }
     {
-        reduce_by_folds(v, P as u32, K as u128, Self::fixed_modulus() as u128) as u64
+        Self::reduce_counted(v).0
+    }
+
+    /// The residue of a double word, and the number of folds that take it below 2^P. Condition: the
+    /// parameters are in range.
+    pub fn reduce_counted(v: u128) -> (u64, u32)
+        requires { IsMersenneRange 64 P K }
+        ensures value { result.0 ≡ v % mersenne P K }
+        ensures count { result.1 ≡ folds P K v }
+        ensures few { IsFewFolds P K v result.1 }
+    {
+        let (rest, count) = reduce_by_folds(v, P as u32, K as u128, Self::fixed_modulus() as u128);
+        (rest as u64, count)
     }
 }
 
@@ -245,7 +270,19 @@ impl<const P: u8, const K: u64> FixedMersenne<P, K> {
         requires { IsMersenneRange 64 P K }
         ensures { result ≡ v % mersenne P K }
     {
-        FixedMersenne64::<P, K>::reduce_double(v) as u128
+        Self::reduce_counted(v).0
+    }
+
+    /// The residue of a word, and the number of folds that take it below 2^P. Condition: the parameters
+    /// are in range.
+    pub fn reduce_counted(v: u128) -> (u128, u32)
+        requires { IsMersenneRange 64 P K }
+        ensures value { result.0 ≡ v % mersenne P K }
+        ensures count { result.1 ≡ folds P K v }
+        ensures few { IsFewFolds P K v result.1 }
+    {
+        let (rest, count) = FixedMersenne64::<P, K>::reduce_counted(v);
+        (rest as u128, count)
     }
 
     // A form as a word of 64 bits.

@@ -3,8 +3,8 @@
 ghost use Rattle.std.specs.Prelude.{◌≡◌, ℕ, ℤ, ◌+◌, ◌*◌, ◌/◌, ◌%◌, ◌^◌, ◌<◌, ◌≤◌, ◌↔◌, IsTrue, pos, ◌+ℤ◌, ◌-ℤ◌, ⊤};
 ghost use Rattle.std.proofs.Common.{lit≤, refl};
 ghost use Rattle.modular_reduced.specs.Plain.{plain_form, plain_value};
-ghost use Rattle.modular_folds.specs.Folds.{IsFolding};
-ghost use Rattle.modular_folds.specs.Solinas.{IsTrinomialRange, IsTrinomial, IsLowTrinomial, trinomial};
+ghost use Rattle.modular_folds.specs.Folds.{folds, IsFewFolds, IsFolding};
+ghost use Rattle.modular_folds.specs.Solinas.{IsTrinomialRange, IsTrinomial, IsLowTrinomial, trinomial, trinomial_factor};
 ghost use Rattle.modular_folds.specs.SolinasLaws.{trinomial_canonical};
 
 use crate::folds::reduce_by_folds;
@@ -118,15 +118,12 @@ pub trait TrinomialWord: PlainWord {
         requires { n < Self.base }
         ensures { Self.number result ≡ n };
 
-    /// A word modulo m, by folds at the bit p by c. Condition: they reduce modulo m.
-    fn fold_single(v: Self, p: u32, c: Self, m: Self) -> Self
+    /// A double word modulo m by folds at the bit p by c, and their number. Condition: they reduce modulo m.
+    fn fold_double(v: Self::Double, p: u32, c: Self, m: Self) -> (Self, u32)
         requires { IsFolding Self.width p (Self.number c) (Self.number m) }
-        ensures { Self.number result ≡ Self.number v % Self.number m };
-
-    /// A double word modulo m, by folds at the bit p by c. Condition: they reduce modulo m.
-    fn fold_double(v: Self::Double, p: u32, c: Self, m: Self) -> Self
-        requires { IsFolding Self.width p (Self.number c) (Self.number m) }
-        ensures { Self.number result ≡ Self.whole v % Self.number m };
+        ensures value { Self.number result.0 ≡ Self.whole v % Self.number m }
+        ensures count { result.1 ≡ folds p (Self.number c) (Self.whole v) }
+        ensures few { IsFewFolds p (Self.number c) (Self.whole v) result.1 };
 
     // A word has 64 bits at most.
     ghost narrow: { Self.width ≤ 64 };
@@ -137,12 +134,9 @@ impl TrinomialWord for u32 {
         n as u32
     }
 
-    fn fold_single(v: u32, p: u32, c: u32, m: u32) -> u32 {
-        Self::fold_double(v as u64, p, c, m)
-    }
-
-    fn fold_double(v: u64, p: u32, c: u32, m: u32) -> u32 {
-        reduce_by_folds(v, p, c as u64, m as u64) as u32
+    fn fold_double(v: u64, p: u32, c: u32, m: u32) -> (u32, u32) {
+        let (rest, count) = reduce_by_folds(v, p, c as u64, m as u64);
+        (rest as u32, count)
     }
 
     ghost narrow = { lit≤ tt };
@@ -153,12 +147,9 @@ impl TrinomialWord for u64 {
         n
     }
 
-    fn fold_single(v: u64, p: u32, c: u64, m: u64) -> u64 {
-        reduce_by_folds(v, p, c, m)
-    }
-
-    fn fold_double(v: u128, p: u32, c: u64, m: u64) -> u64 {
-        reduce_by_folds(v, p, c as u128, m as u128) as u64
+    fn fold_double(v: u128, p: u32, c: u64, m: u64) -> (u64, u32) {
+        let (rest, count) = reduce_by_folds(v, p, c as u128, m as u128);
+        (rest as u64, count)
     }
 
     ghost narrow = { lit≤ tt };
@@ -227,12 +218,7 @@ impl<T: TrinomialWord, F: Trinomial> TrinomialSolinas<T, F> {
         requires { IsTrinomialRange T.width F.p1 F.p2 F.k }
         ensures { T.number result ≡ T.number v % trinomial F.p1 F.p2 F.k }
     {
-        let modulus = Self::fixed_modulus();
-        if is_low(F::p1(), F::p2(), F::k()) {
-            v.remainder(modulus)
-        } else {
-            T::fold_single(v, F::p1() as u32, Self::factor(), modulus)
-        }
+        Self::reduce_counted(T::merge(v, T::zero())).0
     }
 
     /// The residue of a double word. Condition: the parameters are in range.
@@ -240,9 +226,22 @@ impl<T: TrinomialWord, F: Trinomial> TrinomialSolinas<T, F> {
         requires { IsTrinomialRange T.width F.p1 F.p2 F.k }
         ensures { T.number result ≡ T.whole v % trinomial F.p1 F.p2 F.k }
     {
+        Self::reduce_counted(v).0
+    }
+
+    /// The residue of a double word, and the number of folds that take it below 2^p1: 0 where the primitive
+    /// remainder is taken. Condition: the parameters are in range.
+    pub fn reduce_counted(v: T::Double) -> (T, u32)
+        requires { IsTrinomialRange T.width F.p1 F.p2 F.k }
+        ensures value { T.number result.0 ≡ T.whole v % trinomial F.p1 F.p2 F.k }
+        ensures none { IsLowTrinomial F.p1 F.p2 F.k → result.1 ≡ 0 }
+        ensures count { ¬ IsLowTrinomial F.p1 F.p2 F.k
+            → result.1 ≡ folds F.p1 (trinomial_factor F.p1 F.p2 F.k) (T.whole v) }
+        ensures few { IsFewFolds F.p1 (trinomial_factor F.p1 F.p2 F.k) (T.whole v) result.1 }
+    {
         let modulus = Self::fixed_modulus();
         if is_low(F::p1(), F::p2(), F::k()) {
-            T::narrow_remainder(v, modulus)
+            (T::narrow_remainder(v, modulus), 0)
         } else {
             T::fold_double(v, F::p1() as u32, Self::factor(), modulus)
         }

@@ -5,12 +5,12 @@ use std::test::Fail;
 
 #[test]
 fn greatest_dividends(rt: HostRuntime) -> Result<(), Fail> {
-    assert_eq!(rt; reduce_by_folds(u64::MAX, 2, 1, 3), 0);
-    assert_eq!(rt; reduce_by_folds(u64::MAX, 32, 5, 4294967291), 24);
-    assert_eq!(rt; reduce_by_folds(u64::MAX, 4, 3, 13), 2);
-    assert_eq!(rt; reduce_by_folds(255u64, 4, 3, 13), 8);
+    assert_eq!(rt; reduce_by_folds(u64::MAX, 2, 1, 3), (0, 32));
+    assert_eq!(rt; reduce_by_folds(u64::MAX, 32, 5, 4294967291), (24, 3));
+    assert_eq!(rt; reduce_by_folds(u64::MAX, 4, 3, 13).0, 2);
+    assert_eq!(rt; reduce_by_folds(255u64, 4, 3, 13), (8, 3));
     assert_eq!(rt;
-        reduce_by_folds(u128::MAX, 64, 59, 18446744073709551557),
+        reduce_by_folds(u128::MAX, 64, 59, 18446744073709551557).0,
         3480
     );
     Ok(())
@@ -18,21 +18,22 @@ fn greatest_dividends(rt: HostRuntime) -> Result<(), Fail> {
 
 #[test]
 fn bit_p_at_the_width(rt: HostRuntime) -> Result<(), Fail> {
-    assert_eq!(rt; reduce_by_folds(u64::MAX, 64, 59, 18446744073709551557), 58);
-    assert_eq!(rt; fold_all(u64::MAX, 64, 59, 18446744073709551557), u64::MAX);
+    let m = 18446744073709551557;
+    assert_eq!(rt; reduce_by_folds(u64::MAX, 64, 59, m), (58, 0));
+    assert_eq!(rt; fold_all(u64::MAX, 64, 59, m), (u64::MAX, 0));
     Ok(())
 }
 
 #[test]
 fn folds_alone(rt: HostRuntime) -> Result<(), Fail> {
-    assert_eq!(rt; fold_all(67108863u64, 13, 1, 8191), 8191);
-    assert_eq!(rt; fold_all(4294967295u64, 16, 5, 65531), 24);
+    assert_eq!(rt; fold_all(67108863u64, 13, 1, 8191), (8191, 2));
+    assert_eq!(rt; fold_all(4294967295u64, 16, 5, 65531), (24, 3));
     Ok(())
 }
 
 #[test]
 fn folds_in_a_straight_line(rt: HostRuntime) -> Result<(), Fail> {
-    assert_eq!(rt; fold_two(67108863u64, 13, 8191, 1, 8191), 8191);
-    assert_eq!(rt; fold_three(4294967295u64, 16, 65535, 5, 65531), 24);
+    assert_eq!(rt; fold_two(67108863u64, 13, 8191, 1, 8191), (8191, 2));
+    assert_eq!(rt; fold_three(4294967295u64, 16, 65535, 5, 65531), (24, 3));
     Ok(())
 }

@@ -50,6 +50,25 @@ fn greatest_words(rt: HostRuntime) -> Result<(), Fail> {
 }
 
 #[test]
+fn counts(rt: HostRuntime) -> Result<(), Fail> {
+    assert_eq!(rt;
+        FixedMersenne32::<16, 5>::reduce_counted(4294967295),
+        (24, 3)
+    );
+    assert_eq!(rt; FixedMersenne32::<13, 1>::reduce_counted(67108863), (0, 2));
+    assert_eq!(rt;
+        FixedMersenne32::<2, 1>::reduce_counted(18446744073709551615),
+        (0, 32)
+    );
+    assert_eq!(rt;
+        FixedMersenne64::<64, 59>::reduce_counted(u128::MAX).0,
+        3480
+    );
+    assert_eq!(rt; FixedMersenne::<64, 59>::reduce_counted(u128::MAX).0, 3480);
+    Ok(())
+}
+
+#[test]
 fn moduli(rt: HostRuntime) -> Result<(), Fail> {
     assert_eq!(rt; FixedMersenne32::<2, 1>::fixed_modulus(), 3);
     assert_eq!(rt; FixedMersenne32::<32, 5>::fixed_modulus(), 4294967291);

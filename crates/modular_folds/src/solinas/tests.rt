@@ -73,6 +73,21 @@ fn greatest_words(rt: HostRuntime) -> Result<(), Fail> {
 }
 
 #[test]
+fn counts(rt: HostRuntime) -> Result<(), Fail> {
+    assert_eq!(rt;
+        FixedTrinomialSolinas32::<4, 2, 1>::reduce_counted(255),
+        (8, 3)
+    );
+    assert_eq!(rt;
+        FixedTrinomialSolinas32::<5, 4, -3>::reduce_counted(31),
+        (5, 0)
+    );
+    let low = FixedTrinomialSolinas32::<5, 4, -3>::new(&13);
+    assert_eq!(rt; low.transform(31), 5);
+    Ok(())
+}
+
+#[test]
 fn moduli(rt: HostRuntime) -> Result<(), Fail> {
     assert_eq!(rt; FixedTrinomialSolinas32::<2, 1, -1>::fixed_modulus(), 1);
     assert_eq!(rt; FixedTrinomialSolinas32::<4, 2, 1>::fixed_modulus(), 13);

@@ -1,22 +1,44 @@
-use Rattle.std.proofs.Common.{ap, ◌*◌, arith}
+use Rattle.std.proofs.Common.{ap, ◌*◌, ◌<◌, ◌/◌, ◌^◌, ◌≡◌, ◌∙◌, arith, sym}
+use Rattle.modular_folds.proofs.FoldCounts.{count_none, count_one}
 use Rattle.modular_folds.proofs.FoldSteps.{masked, fold_at_most}
+use Rattle.modular_folds.specs.Folds.{fold_of}
 use Rattle.modular_folds.proofs.folds.fold.Goals as goal
 
 pub times-requires : goal.times-requires
 times-requires g c =
     let n = g.V.RingWord.number in
     let most = fold_at_most c.args.p (n c.args.c) (n c.args.v) c.requires.less in
-    omega (arith, most, c.shift_right.ensures.fits, ap (λ h. h * n c.args.c) c.shift_right.ensures.value)
+    omega (arith, most, c.shift_right-high.ensures.fits, ap (λ h. h * n c.args.c) c.shift_right-high.ensures.value)
 
-pub plus-requires : goal.plus-requires
-plus-requires g c =
+pub plus-rest-requires : goal.plus-rest-requires
+plus-rest-requires g c =
     let n = g.V.RingWord.number in
     let most = fold_at_most c.args.p (n c.args.c) (n c.args.v) c.requires.less in
     let low = masked c.args.p (n c.args.mask) (n c.args.v) c.requires.mask in
-    omega (arith, most, low, c.shift_right.ensures.fits, c.times.ensures, c.masked.ensures, ap (λ h. h * n c.args.c) c.shift_right.ensures.value)
+    omega (arith, most, low, c.shift_right-high.ensures.fits, c.times.ensures, c.masked.ensures, ap (λ h. h * n c.args.c) c.shift_right-high.ensures.value)
 
-pub returns : goal.returns
-returns g c =
+pub returns-then-is_zero_word : goal.returns-then-is_zero_word
+returns-then-is_zero_word g c =
     let n = g.V.RingWord.number in
     let low = masked c.args.p (n c.args.mask) (n c.args.v) c.requires.mask in
-    omega (arith, low, c.plus.ensures, c.times.ensures, c.masked.ensures, ap (λ h. h * n c.args.c) c.shift_right.ensures.value)
+    let is : n c.plus-rest.result ≡ fold_of c.args.p (n c.args.c) (n c.args.v) =
+    omega (arith, low, c.plus-rest.ensures, c.times.ensures, c.masked.ensures, ap (λ h. h * n c.args.c) c.shift_right-high.ensures.value) in
+    let none = c.is_zero_word.ensures.zero.0 c.if-is_zero_word.true in
+    record {
+      value = is;
+      count = count_none c.args.p (n c.args.c) (n c.args.v) (n c.plus-rest.result) is (sym c.shift_right-high.ensures.value ∙ none);
+      at_most = omega arith;
+    }
+
+pub returns-else-is_zero_word : goal.returns-else-is_zero_word
+returns-else-is_zero_word g c =
+    let n = g.V.RingWord.number in
+    let low = masked c.args.p (n c.args.mask) (n c.args.v) c.requires.mask in
+    let is : n c.plus-rest.result ≡ fold_of c.args.p (n c.args.c) (n c.args.v) =
+    omega (arith, low, c.plus-rest.ensures, c.times.ensures, c.masked.ensures, ap (λ h. h * n c.args.c) c.shift_right-high.ensures.value) in
+    let some : 0 < n c.args.v / 2 ^ c.args.p = grind (arith, c.shift_right-high.ensures.value, c.is_zero_word.ensures.zero, c.if-is_zero_word.false) in
+    record {
+      value = is;
+      count = count_one c.args.p (n c.args.c) (n c.args.v) (n c.plus-rest.result) c.requires.less is some;
+      at_most = omega arith;
+    }
