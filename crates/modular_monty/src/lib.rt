@@ -4,6 +4,6 @@
 pub mod fixed;
 pub mod montgomery;
 pub mod neg_mod_inv;
-mod odd_ring;
+pub mod odd_ring;
 pub mod preinv;
 pub mod proth;

@@ -25,7 +25,7 @@ use std::alloc::AllocError;
 /// even modulus".
 #[derive(Debug)]
 pub struct Montgomery<T: PlainWord> {
-    odd: OddRing<StoredModulus<T>>,
+    odd: OddRing<T, StoredModulus<T>>,
     twos: u32,
     ghost ring: { IsSplitRing T.width T.base (T.number odd.of.modulus * 2 ^ twos) twos (T.number odd.of.modulus)
         (T.number odd.of.negated_inverse) (T.number odd.of.square) },
@@ -51,9 +51,7 @@ impl<T: PlainWord> Montgomery<T> {
     {
         let twos = m.trailing_zeros();
         Montgomery {
-            odd: OddRing {
-                of: StoredModulus::of(m.shift_right(twos)),
-            },
+            odd: OddRing::new(&m.shift_right(twos)),
             twos,
         }
     }

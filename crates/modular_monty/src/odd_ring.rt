@@ -1,5 +1,5 @@
 //! Odd moduli by Montgomery's representation, which every reducer of this crate rests on: the calls
-//! of a reducer once, over whatever keeps a modulus and reduces by it.
+//! of a reducer once, over whatever knows an odd modulus and reduces by it.
 
 ghost use Rattle.std.specs.Prelude.{◌≡◌, ℕ, ◌*◌, ◌%◌, ◌<◌, ⊤};
 ghost use Rattle.modular_word.specs.Reduction.{IsReduction};
@@ -15,11 +15,12 @@ use modular_word::path_word::PathWord;
 use modular_word::paths::redc;
 use modular_word::ring_word::RingWord;
 use std::alloc::AllocError;
+use std::marker::PhantomData;
 
-// An odd modulus, with what is computed once of it: its negated inverse modulo the base, and the
-// square of the base modulo it. A type that knows its modulus need not store it, and one of a
-// special form may have a multiple of it at a lower cost.
-pub(crate) trait OddModulus<T: PlainWord>: Copy {
+/// An odd modulus, with what is computed once of it: its negated inverse modulo the base, and the
+/// square of the base modulo it. A type that knows its modulus need not store it, and one of a
+/// special form may have a multiple of it at a lower cost.
+pub trait OddModulus<T: PlainWord>: Copy {
     // The moduli that are taken.
     ghost taken: { ℕ → Type 0 };
 
@@ -29,17 +30,20 @@ pub(crate) trait OddModulus<T: PlainWord>: Copy {
 
     ghost square: { Self → ℕ };
 
+    /// What is kept of m. Condition: m is taken.
     fn of(m: T) -> Self
         requires { taken (T.number m) }
         ensures { modulus result ≡ T.number m };
 
+    /// The modulus.
     fn number(&self) -> T
         ensures { T.number result ≡ modulus self.now };
 
+    /// The square of the base modulo it.
     fn square_of_base(&self) -> T
         ensures { T.number result ≡ square self.now };
 
-    // Montgomery's reduction.
+    /// Montgomery's reduction of t. Condition: t is below the modulus times the base.
     fn reduced(&self, t: T::Double) -> T
         requires { T.whole t < T.base * modulus self.now }
         ensures { IsReduction T.base (modulus self.now) (T.whole t) (T.number result) };
@@ -60,13 +64,19 @@ pub(crate) fn computed_once<T: PlainWord>(m: T) -> (T, T)
     (negated_inverse, square)
 }
 
-// The reducer by Montgomery's representation modulo what it holds.
+/// The reducer by Montgomery's representation modulo what it holds: the form of v is v times the
+/// base, modulo m, the base being 2 to the width of the words T. `new` takes the moduli that M takes.
+///
+/// A product of forms takes one product of words and one reduction, which divides by the base alone.
+///
+/// Source: Handbook of Applied Cryptography, section 14.3.2.
 #[derive(Debug, Clone, Copy)]
-pub(crate) struct OddRing<M: Copy> {
+pub struct OddRing<T: PlainWord, M: OddModulus<T>> {
     pub(crate) of: M,
+    word: PhantomData<T>,
 }
 
-impl<T: PlainWord, M: OddModulus<T>> Reducer<T> for OddRing<M> {
+impl<T: PlainWord, M: OddModulus<T>> Reducer<T> for OddRing<T, M> {
     ghost admits = { M.taken };
 
     ghost form = { montgomery_form T.width };
@@ -80,7 +90,10 @@ impl<T: PlainWord, M: OddModulus<T>> Reducer<T> for OddRing<M> {
     ghost canonical = { λ r. montgomery_canonical (M.is_odd_ring r.of) };
 
     fn new(m: &T) -> Self {
-        OddRing { of: M::of(*m) }
+        OddRing {
+            of: M::of(*m),
+            word: PhantomData,
+        }
     }
 
     // A product and a reduction in place of the division of a double word.

@@ -11,24 +11,18 @@ use crate::odd_ring::{OddModulus, OddRing, computed_once};
 use modular_reduced::reducer::Reducer;
 use modular_word::paths::{clearing, reduce_by};
 
-/// The reducer of m = K * 2^N + 1 by Montgomery's representation in words of 32 bits: the form of v
-/// is v * 2^32 modulo m.
-///
-/// The parameters are in range where N is from 1 to 31, K is odd and below 2^N, and m, as a whole
-/// number, is at most 2654435769.
-///
-/// Source: Handbook of Applied Cryptography, section 14.3.2.
+/// The number K * 2^N + 1 as a modulus for words of 32 bits.
 #[derive(Debug, Clone, Copy)]
-pub struct FixedProth32<const N: u8, const K: u8> {
+pub struct ProthNumber32<const N: u8, const K: u8> {
     negated_inverse: u32,
     square: u32,
     ghost range: { IsProthRange 32 greatest_proth_32 N K },
     ghost ring: { IsOddRing 32 (2 ^ 32) (proth_modulus N K) negated_inverse square },
 }
 
-impl<const N: u8, const K: u8> FixedProth32<N, K> {
-    /// The modulus K * 2^N + 1. Condition: the parameters are in range.
-    pub fn fixed_modulus() -> u32
+impl<const N: u8, const K: u8> ProthNumber32<N, K> {
+    // The modulus.
+    fn value() -> u32
         requires { IsProthRange 32 greatest_proth_32 N K }
         ensures { result ≡ proth_modulus N K }
     {
@@ -39,7 +33,26 @@ impl<const N: u8, const K: u8> FixedProth32<N, K> {
     fn multiple(&self, x: u32) -> u64
         ensures { result ≡ x * proth_modulus N K }
     {
-        x as u64 * Self::fixed_modulus() as u64
+        x as u64 * Self::value() as u64
+    }
+}
+
+/// The reducer of m = K * 2^N + 1 by Montgomery's representation in words of 32 bits: the form of v
+/// is v * 2^32 modulo m.
+///
+/// The parameters are in range where N is from 1 to 31, K is odd and below 2^N, and m, as a whole
+/// number, is at most 2654435769.
+///
+/// Source: Handbook of Applied Cryptography, section 14.3.2.
+pub type FixedProth32<const N: u8, const K: u8> = OddRing<u32, ProthNumber32<N, K>>;
+
+impl<const N: u8, const K: u8> OddRing<u32, ProthNumber32<N, K>> {
+    /// The modulus K * 2^N + 1. Condition: the parameters are in range.
+    pub fn fixed_modulus() -> u32
+        requires { IsProthRange 32 greatest_proth_32 N K }
+        ensures { result ≡ proth_modulus N K }
+    {
+        ProthNumber32::<N, K>::value()
     }
 
     /// Montgomery's reduction of t: the u below the modulus with u * 2^32 congruent to t.
@@ -48,13 +61,11 @@ impl<const N: u8, const K: u8> FixedProth32<N, K> {
         requires { t < 2 ^ 32 * proth_modulus N K }
         ensures { IsReduction (2 ^ 32) (proth_modulus N K) t result }
     {
-        let m = Self::fixed_modulus();
-        let x = clearing(m, self.negated_inverse, t);
-        reduce_by(m, t, x, self.multiple(x))
+        self.of.reduced(t)
     }
 }
 
-impl<const N: u8, const K: u8> OddModulus<u32> for FixedProth32<N, K> {
+impl<const N: u8, const K: u8> OddModulus<u32> for ProthNumber32<N, K> {
     ghost taken = { IsProth 32 greatest_proth_32 N K };
 
     ghost modulus = { λ _. proth_modulus N K };
@@ -65,14 +76,14 @@ impl<const N: u8, const K: u8> OddModulus<u32> for FixedProth32<N, K> {
 
     fn of(m: u32) -> Self {
         let (negated_inverse, square) = computed_once(m);
-        FixedProth32 {
+        ProthNumber32 {
             negated_inverse,
             square,
         }
     }
 
     fn number(&self) -> u32 {
-        Self::fixed_modulus()
+        Self::value()
     }
 
     fn square_of_base(&self) -> u32 {
@@ -80,7 +91,9 @@ impl<const N: u8, const K: u8> OddModulus<u32> for FixedProth32<N, K> {
     }
 
     fn reduced(&self, t: u64) -> u32 {
-        self.reduce(t)
+        let m = Self::value();
+        let x = clearing(m, self.negated_inverse, t);
+        reduce_by(m, t, x, self.multiple(x))
     }
 
     ghost was_taken = { λ m. record { range = m.range; same = refl } };
@@ -88,90 +101,18 @@ impl<const N: u8, const K: u8> OddModulus<u32> for FixedProth32<N, K> {
     ghost is_odd_ring = { λ m. m.ring };
 }
 
-impl<const N: u8, const K: u8> Reducer<u32> for FixedProth32<N, K> {
-    ghost admits = { IsProth 32 greatest_proth_32 N K };
-
-    ghost form = { montgomery_form 32 };
-
-    ghost value = { montgomery_value 32 };
-
-    ghost modulus = { λ _. proth_modulus N K };
-
-    ghost admitted = { λ r. record { range = r.range; same = refl } };
-
-    ghost canonical = { λ r. montgomery_canonical r.ring };
-
-    fn new(m: &u32) -> Self {
-        Self::of(*m)
-    }
-
-    fn transform(&self, n: u32) -> u32 {
-        OddRing { of: *self }.transform(n)
-    }
-
-    fn check(&self, f: &u32) -> bool {
-        OddRing { of: *self }.check(f)
-    }
-
-    fn modulus(&self) -> u32 {
-        Self::fixed_modulus()
-    }
-
-    fn residue(&self, f: u32) -> u32 {
-        OddRing { of: *self }.residue(f)
-    }
-
-    fn is_zero(&self, f: &u32) -> bool {
-        OddRing { of: *self }.is_zero(f)
-    }
-
-    fn add(&self, a: &u32, b: &u32) -> u32 {
-        OddRing { of: *self }.add(a, b)
-    }
-
-    fn dbl(&self, f: u32) -> u32 {
-        OddRing { of: *self }.dbl(f)
-    }
-
-    fn sub(&self, a: &u32, b: &u32) -> u32 {
-        OddRing { of: *self }.sub(a, b)
-    }
-
-    fn neg(&self, f: u32) -> u32 {
-        OddRing { of: *self }.neg(f)
-    }
-
-    fn mul(&self, a: &u32, b: &u32) -> u32 {
-        OddRing { of: *self }.mul(a, b)
-    }
-
-    fn inv(&self, f: u32) -> Option<u32> {
-        OddRing { of: *self }.inv(f)
-    }
-
-    fn sqr(&self, f: u32) -> u32 {
-        OddRing { of: *self }.sqr(f)
-    }
-}
-
-/// The reducer of m = K * 2^N + 1 by Montgomery's representation in words of 64 bits: the form of v
-/// is v * 2^64 modulo m.
-///
-/// The parameters are in range where N is from 1 to 63, K is odd and below 2^N, and m, as a whole
-/// number, is at most 11400714819323199485.
-///
-/// Source: Handbook of Applied Cryptography, section 14.3.2.
+/// The number K * 2^N + 1 as a modulus for words of 64 bits.
 #[derive(Debug, Clone, Copy)]
-pub struct FixedProth64<const N: u8, const K: u8> {
+pub struct ProthNumber64<const N: u8, const K: u8> {
     negated_inverse: u64,
     square: u64,
     ghost range: { IsProthRange 64 greatest_proth_64 N K },
     ghost ring: { IsOddRing 64 (2 ^ 64) (proth_modulus N K) negated_inverse square },
 }
 
-impl<const N: u8, const K: u8> FixedProth64<N, K> {
-    /// The modulus K * 2^N + 1. Condition: the parameters are in range.
-    pub fn fixed_modulus() -> u64
+impl<const N: u8, const K: u8> ProthNumber64<N, K> {
+    // The modulus.
+    fn value() -> u64
         requires { IsProthRange 64 greatest_proth_64 N K }
         ensures { result ≡ proth_modulus N K }
     {
@@ -182,7 +123,26 @@ impl<const N: u8, const K: u8> FixedProth64<N, K> {
     fn multiple(&self, x: u64) -> u128
         ensures { result ≡ x * proth_modulus N K }
     {
-        x as u128 * Self::fixed_modulus() as u128
+        x as u128 * Self::value() as u128
+    }
+}
+
+/// The reducer of m = K * 2^N + 1 by Montgomery's representation in words of 64 bits: the form of v
+/// is v * 2^64 modulo m.
+///
+/// The parameters are in range where N is from 1 to 63, K is odd and below 2^N, and m, as a whole
+/// number, is at most 11400714819323199485.
+///
+/// Source: Handbook of Applied Cryptography, section 14.3.2.
+pub type FixedProth64<const N: u8, const K: u8> = OddRing<u64, ProthNumber64<N, K>>;
+
+impl<const N: u8, const K: u8> OddRing<u64, ProthNumber64<N, K>> {
+    /// The modulus K * 2^N + 1. Condition: the parameters are in range.
+    pub fn fixed_modulus() -> u64
+        requires { IsProthRange 64 greatest_proth_64 N K }
+        ensures { result ≡ proth_modulus N K }
+    {
+        ProthNumber64::<N, K>::value()
     }
 
     /// Montgomery's reduction of t: the u below the modulus with u * 2^64 congruent to t.
@@ -191,13 +151,11 @@ impl<const N: u8, const K: u8> FixedProth64<N, K> {
         requires { t < 2 ^ 64 * proth_modulus N K }
         ensures { IsReduction (2 ^ 64) (proth_modulus N K) t result }
     {
-        let m = Self::fixed_modulus();
-        let x = clearing(m, self.negated_inverse, t);
-        reduce_by(m, t, x, self.multiple(x))
+        self.of.reduced(t)
     }
 }
 
-impl<const N: u8, const K: u8> OddModulus<u64> for FixedProth64<N, K> {
+impl<const N: u8, const K: u8> OddModulus<u64> for ProthNumber64<N, K> {
     ghost taken = { IsProth 64 greatest_proth_64 N K };
 
     ghost modulus = { λ _. proth_modulus N K };
@@ -208,14 +166,14 @@ impl<const N: u8, const K: u8> OddModulus<u64> for FixedProth64<N, K> {
 
     fn of(m: u64) -> Self {
         let (negated_inverse, square) = computed_once(m);
-        FixedProth64 {
+        ProthNumber64 {
             negated_inverse,
             square,
         }
     }
 
     fn number(&self) -> u64 {
-        Self::fixed_modulus()
+        Self::value()
     }
 
     fn square_of_base(&self) -> u64 {
@@ -223,78 +181,14 @@ impl<const N: u8, const K: u8> OddModulus<u64> for FixedProth64<N, K> {
     }
 
     fn reduced(&self, t: u128) -> u64 {
-        self.reduce(t)
+        let m = Self::value();
+        let x = clearing(m, self.negated_inverse, t);
+        reduce_by(m, t, x, self.multiple(x))
     }
 
     ghost was_taken = { λ m. record { range = m.range; same = refl } };
 
     ghost is_odd_ring = { λ m. m.ring };
-}
-
-impl<const N: u8, const K: u8> Reducer<u64> for FixedProth64<N, K> {
-    ghost admits = { IsProth 64 greatest_proth_64 N K };
-
-    ghost form = { montgomery_form 64 };
-
-    ghost value = { montgomery_value 64 };
-
-    ghost modulus = { λ _. proth_modulus N K };
-
-    ghost admitted = { λ r. record { range = r.range; same = refl } };
-
-    ghost canonical = { λ r. montgomery_canonical r.ring };
-
-    fn new(m: &u64) -> Self {
-        Self::of(*m)
-    }
-
-    fn transform(&self, n: u64) -> u64 {
-        OddRing { of: *self }.transform(n)
-    }
-
-    fn check(&self, f: &u64) -> bool {
-        OddRing { of: *self }.check(f)
-    }
-
-    fn modulus(&self) -> u64 {
-        Self::fixed_modulus()
-    }
-
-    fn residue(&self, f: u64) -> u64 {
-        OddRing { of: *self }.residue(f)
-    }
-
-    fn is_zero(&self, f: &u64) -> bool {
-        OddRing { of: *self }.is_zero(f)
-    }
-
-    fn add(&self, a: &u64, b: &u64) -> u64 {
-        OddRing { of: *self }.add(a, b)
-    }
-
-    fn dbl(&self, f: u64) -> u64 {
-        OddRing { of: *self }.dbl(f)
-    }
-
-    fn sub(&self, a: &u64, b: &u64) -> u64 {
-        OddRing { of: *self }.sub(a, b)
-    }
-
-    fn neg(&self, f: u64) -> u64 {
-        OddRing { of: *self }.neg(f)
-    }
-
-    fn mul(&self, a: &u64, b: &u64) -> u64 {
-        OddRing { of: *self }.mul(a, b)
-    }
-
-    fn inv(&self, f: u64) -> Option<u64> {
-        OddRing { of: *self }.inv(f)
-    }
-
-    fn sqr(&self, f: u64) -> u64 {
-        OddRing { of: *self }.sqr(f)
-    }
 }
 
 #[cfg(test)]

@@ -1,10 +1,11 @@
+-- What is kept of m: its odd part, an odd number, and the exponent of the power of two.
 use Rattle.std.proofs.Common.{refl, sym, ap, ◌∙◌, arith}
 use Rattle.std.specs.Int.Count.{count_trailing_zeros}
 use Rattle.modular_monty.proofs.Twos.{split_of}
 use Rattle.modular_monty.proofs.montgomery.Montgomery.new.Goals as goal
 
-pub of-requires : goal.of-requires
-of-requires g c =
+pub new-requires : goal.new-requires
+new-requires g c =
     let n = g.T.RingWord.number in
     let twos = c.trailing_zeros-twos in
     let split =
@@ -18,11 +19,11 @@ invariant_of-result g c =
     let w = g.T.RingWord.width in
     let twos = c.trailing_zeros-twos in
     let split =
-    split_of w g.T.PathWord.base (n c.args.m) twos.result (n c.of.result.modulus)
-    g.met.T.PathWord.base_is c.requires twos.ensures.fits twos.ensures.value (c.of.ensures ∙ c.shift_right.ensures.value) in
+    split_of w g.T.PathWord.base (n c.args.m) twos.result (n c.new.result.of.modulus)
+    g.met.T.PathWord.base_is c.requires twos.ensures.fits twos.ensures.value (c.new.ensures ∙ c.shift_right.ensures.value) in
     record {
       ring = record {
-        odd = c.of.result.ring;
+        odd = c.new.result.of.ring;
         twos = twos.ensures.value ∙ ap (count_trailing_zeros w) (sym split.whole);
         few = split.few;
         whole = refl;
@@ -35,6 +36,6 @@ returns g c =
     let n = g.T.RingWord.number in
     let twos = c.trailing_zeros-twos in
     let split =
-    split_of g.T.RingWord.width g.T.PathWord.base (n c.args.m) twos.result (n c.of.result.modulus)
-    g.met.T.PathWord.base_is c.requires twos.ensures.fits twos.ensures.value (c.of.ensures ∙ c.shift_right.ensures.value) in
+    split_of g.T.RingWord.width g.T.PathWord.base (n c.args.m) twos.result (n c.new.result.of.modulus)
+    g.met.T.PathWord.base_is c.requires twos.ensures.fits twos.ensures.value (c.new.ensures ∙ c.shift_right.ensures.value) in
     split.whole
