@@ -3,20 +3,21 @@
 ghost use Rattle.std.specs.Prelude.{◌≡◌, ◌≤◌};
 
 use num_modular::ring::{RingCommand, RunEnd, all_checked, commands_fit, run};
+use num_modular::word::RingWord;
 use num_modular::{Montgomery, PreMulInv2by1, Reducer, Vanilla};
 use std::process::Abort;
 use std::test::Fail;
 
 // The end of a run over three registers of value 0, and their forms and residues then.
 #[derive(Clone, Copy, Debug, PartialEq, Eq)]
-struct Run {
+struct Run<T> {
     end: Option<RunEnd>,
-    forms: [u8; 3],
-    residues: [u8; 3],
+    forms: [T; 3],
+    residues: [T; 3],
 }
 
-fn run_over<R: Reducer<u8>>(reducer: &R, commands: &[RingCommand<u8>]) -> Run {
-    let mut registers = [reducer.transform(0); 3];
+fn run_over<T: RingWord, R: Reducer<T>>(reducer: &R, commands: &[RingCommand<T>]) -> Run<T> {
+    let mut registers = [reducer.transform(T::zero()); 3];
     if all_checked(reducer, &registers) && commands_fit(commands, 3) {
         let end = Some(run(reducer, &mut registers, commands));
         let residues = [
@@ -33,49 +34,69 @@ fn run_over<R: Reducer<u8>>(reducer: &R, commands: &[RingCommand<u8>]) -> Run {
         Run {
             end: None,
             forms: registers,
-            residues: [0; 3],
+            residues: [T::zero(); 3],
         }
     }
 }
 
-// Every command; for even moduli it ends at the missing inverse of 2, and for others at that of 0.
-const COMMANDS: [RingCommand<u8>; 12] = [
-    RingCommand::Load { dst: 0, n: 201 },
-    RingCommand::Load { dst: 1, n: 254 },
-    RingCommand::Mul { dst: 2, a: 0, b: 1 },
-    RingCommand::Sub { dst: 0, a: 1, b: 2 },
-    RingCommand::Dbl { dst: 2, a: 2 },
-    RingCommand::Add { dst: 2, a: 2, b: 0 },
-    RingCommand::Pow {
-        dst: 1,
-        a: 2,
-        exp: 77,
-    },
-    RingCommand::Sqr { dst: 0, a: 0 },
-    RingCommand::Neg { dst: 0, a: 0 },
-    RingCommand::Inv { dst: 2, a: 1 },
-    RingCommand::Mul { dst: 1, a: 1, b: 2 },
-    RingCommand::Inv { dst: 0, a: 0 },
-];
+// Every command; a run ends where an inverse is missing.
+fn commands<T: RingWord>(x: T, y: T, exp: T) -> [RingCommand<T>; 12] {
+    [
+        RingCommand::Load { dst: 0, n: x },
+        RingCommand::Load { dst: 1, n: y },
+        RingCommand::Mul { dst: 2, a: 0, b: 1 },
+        RingCommand::Sub { dst: 0, a: 1, b: 2 },
+        RingCommand::Dbl { dst: 2, a: 2 },
+        RingCommand::Add { dst: 2, a: 2, b: 0 },
+        RingCommand::Pow { dst: 1, a: 2, exp },
+        RingCommand::Sqr { dst: 0, a: 0 },
+        RingCommand::Neg { dst: 0, a: 0 },
+        RingCommand::Inv { dst: 2, a: 1 },
+        RingCommand::Mul { dst: 1, a: 1, b: 2 },
+        RingCommand::Inv { dst: 0, a: 0 },
+    ]
+}
 
 #[test]
 fn the_three_reducers_end_alike_with_equal_residues(rt: HostRuntime) -> Result<(), Fail> {
+    let commands = commands(201, 254, 77);
     for m in 1..=255u8 {
-        let plain = run_over(&Vanilla::<u8>::new(&m), &COMMANDS);
-        let scaled = run_over(&PreMulInv2by1::<u8>::new(m), &COMMANDS);
+        let plain = run_over(&Vanilla::<u8>::new(&m), &commands);
+        let scaled = run_over(&PreMulInv2by1::<u8>::new(m), &commands);
+        let split = run_over(&Montgomery::<u8>::new(m), &commands);
         assert!(rt; plain.end.is_some());
         assert_eq!(rt; plain.end, scaled.end, "modulo {m}");
+        assert_eq!(rt; plain.end, split.end, "modulo {m}");
         assert_eq!(rt; plain.residues, scaled.residues, "modulo {m}");
-        if m % 2 == 1 {
-            let odd = run_over(&Montgomery::<u8>::new(m), &COMMANDS);
-            assert_eq!(rt; plain.end, odd.end, "modulo {m}");
-            assert_eq!(rt; plain.residues, odd.residues, "modulo {m}");
-        }
+        assert_eq!(rt; plain.residues, split.residues, "modulo {m}");
     }
     Ok(())
 }
 
-fn assert_forms(rt: &impl Abort, found: Run, end: RunEnd, forms: [u8; 3], residues: [u8; 3]) {
+// 2^63, 2^64 - 2 and 6 * 2^40.
+const LARGE_EVEN: [u64; 3] = [9223372036854775808, 18446744073709551614, 6597069766656];
+
+#[test]
+fn they_end_alike_for_large_even_moduli(rt: HostRuntime) -> Result<(), Fail> {
+    let commands = commands(
+        81985529216486896,
+        18364758544493064721,
+        12297829382473034411,
+    );
+    for m in LARGE_EVEN {
+        let plain = run_over(&Vanilla::<u64>::new(&m), &commands);
+        let scaled = run_over(&PreMulInv2by1::<u64>::new(m), &commands);
+        let split = run_over(&Montgomery::<u64>::new(m), &commands);
+        assert!(rt; plain.end.is_some());
+        assert_eq!(rt; plain.end, scaled.end, "modulo {m}");
+        assert_eq!(rt; plain.end, split.end, "modulo {m}");
+        assert_eq!(rt; plain.residues, scaled.residues, "modulo {m}");
+        assert_eq!(rt; plain.residues, split.residues, "modulo {m}");
+    }
+    Ok(())
+}
+
+fn assert_forms(rt: &impl Abort, found: Run<u8>, end: RunEnd, forms: [u8; 3], residues: [u8; 3]) {
     assert_eq!(rt;
         found,
         Run {
