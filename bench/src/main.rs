@@ -1,6 +1,7 @@
 //! Measures the port beside the Rust crate, turn by turn in one run: a line an operation, with the
 //! time of one step in nanoseconds and the ratio of the two, and a table each for the operations of
-//! any modulus and of fixed ones. Ends with status 1 where the answers of the two differ.
+//! any modulus and of fixed ones. A third table has `Montgomery` modulo an even number, which the
+//! crate refuses, beside the port's other reducers. Ends with status 1 where answers differ.
 
 mod original;
 mod port;
@@ -20,6 +21,15 @@ struct Operation {
     moduli: &'static [u64],
 }
 
+/// An operation modulo an even number, over the three reducers of any modulus.
+struct EvenOperation {
+    name: &'static str,
+    montgomery: Bench,
+    premul: Bench,
+    vanilla: Bench,
+    steps: u64,
+}
+
 const TURNS: usize = 15;
 
 const FIRST: u64 = 0x0123_4567_89ab_cdef;
@@ -33,6 +43,9 @@ const ANY: [u64; 5] = [
     0xffff_ffff_0000_0001,
     0xc000_0000_0000_0015,
 ];
+
+/// Even moduli: 2^64 - 2, 2^63, 6 * 2^40. The first of them is measured.
+const EVEN: [u64; 3] = [u64::MAX - 1, 1 << 63, 6 << 40];
 
 /// The greatest prime below 2^64.
 const PRIME: [u64; 1] = [u64::MAX - 58];
@@ -143,6 +156,24 @@ static FIXED_MODULUS: [Operation; 8] = [
     ),
 ];
 
+/// The operations of even moduli.
+static EVEN_MODULUS: [EvenOperation; 2] = [
+    EvenOperation {
+        name: "mul",
+        montgomery: port::montgomery_mul,
+        premul: port::premul_mul,
+        vanilla: port::vanilla_mul,
+        steps: 200_000,
+    },
+    EvenOperation {
+        name: "pow",
+        montgomery: port::montgomery_pow,
+        premul: port::premul_pow,
+        vanilla: port::vanilla_pow,
+        steps: 2_000,
+    },
+];
+
 /// The nanoseconds of one step in one turn.
 fn turn(function: Bench, m: u64, steps: u64) -> f64 {
     let start = Instant::now();
@@ -150,15 +181,15 @@ fn turn(function: Bench, m: u64, steps: u64) -> f64 {
     start.elapsed().as_secs_f64() * 1e9 / steps as f64
 }
 
-/// Whether port and crate answer alike on each modulus, for small and large operands.
-fn agree(it: &Operation) -> bool {
-    for &m in it.moduli {
+/// Whether two functions answer alike on each modulus, for small and large operands.
+fn agree(name: &str, first: Bench, second: Bench, moduli: &[u64]) -> bool {
+    for &m in moduli {
         for (x, y) in [(FIRST, SECOND), (0, 1), (1, 0), (m - 1, m - 1), (u64::MAX, 2), (m, u64::MAX)] {
             for steps in [1, 7] {
-                let ours = (it.port)(x, y, m, steps);
-                let theirs = (it.original)(x, y, m, steps);
-                if ours != theirs {
-                    eprintln!("{}: {ours} and {theirs} for x = {x}, y = {y}, m = {m}, {steps} steps", it.name);
+                let one = first(x, y, m, steps);
+                let other = second(x, y, m, steps);
+                if one != other {
+                    eprintln!("{name}: {one} and {other} for x = {x}, y = {y}, m = {m}, {steps} steps");
                     return false;
                 }
             }
@@ -189,10 +220,30 @@ fn print_table(operations: &[Operation]) {
     println!("| geometric mean | | | {:.2} |", (logarithms / lines).exp());
 }
 
+/// Measures the operations of even moduli and prints their table.
+fn print_even_table() {
+    println!("| operation, m even | Montgomery ns | PreMulInv2by1 ns | Vanilla ns |");
+    println!("|---|---:|---:|---:|");
+    for it in &EVEN_MODULUS {
+        let mut best = [f64::INFINITY; 3];
+        for _ in 0..TURNS {
+            for (best, function) in best.iter_mut().zip([it.montgomery, it.premul, it.vanilla]) {
+                *best = best.min(turn(function, EVEN[0], it.steps));
+            }
+        }
+        let [montgomery, premul, vanilla] = best;
+        println!("| {} | {montgomery:.1} | {premul:.1} | {vanilla:.1} |", it.name);
+    }
+}
+
 fn main() -> ExitCode {
     let mut same = true;
     for it in ANY_MODULUS.iter().chain(&FIXED_MODULUS) {
-        same &= agree(it);
+        same &= agree(it.name, it.port, it.original, it.moduli);
+    }
+    for it in &EVEN_MODULUS {
+        same &= agree(it.name, it.montgomery, it.vanilla, &EVEN);
+        same &= agree(it.name, it.premul, it.vanilla, &EVEN);
     }
     if !same {
         eprintln!("the answers differ");
@@ -201,5 +252,7 @@ fn main() -> ExitCode {
     print_table(&ANY_MODULUS);
     println!();
     print_table(&FIXED_MODULUS);
+    println!();
+    print_even_table();
     ExitCode::SUCCESS
 }
