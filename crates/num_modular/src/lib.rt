@@ -5,6 +5,7 @@
 #![tactic(auto)]
 
 pub mod barrett;
+pub mod laws;
 pub mod mersenne;
 pub mod modrun;
 pub mod monty;
