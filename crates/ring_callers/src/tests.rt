@@ -46,3 +46,18 @@ fn words_of_two_widths_run_alike(rt: HostRuntime) -> Result<(), Fail> {
     assert_eq!(rt; residue_by_run(&Vanilla::<u64>::new(&21), 100), 16);
     Ok(())
 }
+
+#[test]
+fn a_list_that_needs_no_inverse_is_run_to_the_end(rt: HostRuntime) -> Result<(), Fail> {
+    let mut regs = [0u8; 2];
+    run_to_the_end(
+        &Vanilla::<u8>::new(&21),
+        &mut regs,
+        &[
+            RingCommand::Load { dst: 0, n: 26 },
+            RingCommand::Mul { dst: 1, a: 0, b: 0 },
+        ],
+    );
+    assert_eq!(rt; (regs[0], regs[1]), (5, 4));
+    Ok(())
+}
