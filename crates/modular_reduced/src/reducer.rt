@@ -1,6 +1,7 @@
 //! The trait of reducers, with its laws.
 
-ghost use Rattle.std.specs.Prelude.{◌≡◌, ℕ, ◌+◌, ◌*◌, ◌%◌, ◌^◌, ◌<◌, ◌≤◌, ◌↔◌, IsTrue, pos, ◌-ℤ◌, neg_ℤ};
+ghost use Rattle.std.specs.Prelude.{◌≡◌, ℕ, ◌+◌, ◌*◌, ◌%◌, ◌^◌, ◌<◌, ◌≤◌, ◌↔◌, IsTrue, IfSome, pos, ◌-ℤ◌, neg_ℤ};
+ghost use Rattle.modular_word.specs.Inverses.{IsInversion};
 ghost use Rattle.modular_word.specs.Residues.{residue};
 ghost use Rattle.modular_reduced.specs.Forms.{Represents, IsForm, IsCanonical, IsInverseForm};
 
@@ -31,7 +32,9 @@ pub trait Reducer<T: RingWord> {
 
     /// The form of n mod m, for every word n.
     fn transform(&self, n: T) -> T
-        ensures { Represents form (modulus self.now) (T.number result) (T.number n % modulus self.now) };
+        ensures form { Represents form (modulus self.now) (T.number result) (T.number n % modulus self.now) }
+        ensures checked { IsForm form value (modulus self.now) (T.number result) }
+        ensures value { value (modulus self.now) (T.number result) ≡ T.number n % modulus self.now };
 
     /// Whether a word is a checked form.
     fn check(&self, f: &T) -> bool
@@ -44,7 +47,8 @@ pub trait Reducer<T: RingWord> {
     /// The value of a form: a number below the modulus.
     fn residue(&self, f: T) -> T
         requires { IsForm form value (modulus self.now) (T.number f) }
-        ensures { Represents form (modulus self.now) (T.number f) (T.number result) };
+        ensures form { Represents form (modulus self.now) (T.number f) (T.number result) }
+        ensures value { T.number result ≡ value (modulus self.now) (T.number f) };
 
     /// Whether the value of a form is 0.
     fn is_zero(&self, f: &T) -> bool
@@ -55,15 +59,21 @@ pub trait Reducer<T: RingWord> {
     fn add(&self, a: &T, b: &T) -> T
         requires left { IsForm form value (modulus self.now) (T.number a.now) }
         requires right { IsForm form value (modulus self.now) (T.number b.now) }
-        ensures { let m = modulus self.now in
-            Represents form m (T.number result) ((value m (T.number a.now) + value m (T.number b.now)) % m) };
+        ensures form { let m = modulus self.now in
+            Represents form m (T.number result) ((value m (T.number a.now) + value m (T.number b.now)) % m) }
+        ensures checked { IsForm form value (modulus self.now) (T.number result) }
+        ensures value { let m = modulus self.now in
+            value m (T.number result) ≡ (value m (T.number a.now) + value m (T.number b.now)) % m };
 
     /// `add`, in the first operand.
     fn add_in_place(&self, a: &mut T, b: &T)
         requires left { IsForm form value (modulus self.now) (T.number a.old) }
         requires right { IsForm form value (modulus self.now) (T.number b.now) }
-        ensures { let m = modulus self.now in
+        ensures form { let m = modulus self.now in
             Represents form m (T.number a.new) ((value m (T.number a.old) + value m (T.number b.now)) % m) }
+        ensures checked { IsForm form value (modulus self.now) (T.number a.new) }
+        ensures value { let m = modulus self.now in
+            value m (T.number a.new) ≡ (value m (T.number a.old) + value m (T.number b.now)) % m }
     {
         *a = self.add(a, b);
     }
@@ -71,24 +81,33 @@ pub trait Reducer<T: RingWord> {
     /// The form of the double modulo m.
     fn dbl(&self, f: T) -> T
         requires { IsForm form value (modulus self.now) (T.number f) }
-        ensures { let m = modulus self.now in
-            Represents form m (T.number result) ((2 * value m (T.number f)) % m) };
+        ensures form { let m = modulus self.now in
+            Represents form m (T.number result) ((2 * value m (T.number f)) % m) }
+        ensures checked { IsForm form value (modulus self.now) (T.number result) }
+        ensures value { let m = modulus self.now in
+            value m (T.number result) ≡ (2 * value m (T.number f)) % m };
 
     /// The form of the difference modulo m.
     fn sub(&self, a: &T, b: &T) -> T
         requires left { IsForm form value (modulus self.now) (T.number a.now) }
         requires right { IsForm form value (modulus self.now) (T.number b.now) }
-        ensures { let m = modulus self.now in
+        ensures form { let m = modulus self.now in
             Represents form m (T.number result)
-            (residue m (pos (value m (T.number a.now)) -ℤ pos (value m (T.number b.now)))) };
+            (residue m (pos (value m (T.number a.now)) -ℤ pos (value m (T.number b.now)))) }
+        ensures checked { IsForm form value (modulus self.now) (T.number result) }
+        ensures value { let m = modulus self.now in
+            value m (T.number result) ≡ residue m (pos (value m (T.number a.now)) -ℤ pos (value m (T.number b.now))) };
 
     /// `sub`, in the first operand.
     fn sub_in_place(&self, a: &mut T, b: &T)
         requires left { IsForm form value (modulus self.now) (T.number a.old) }
         requires right { IsForm form value (modulus self.now) (T.number b.now) }
-        ensures { let m = modulus self.now in
+        ensures form { let m = modulus self.now in
             Represents form m (T.number a.new)
             (residue m (pos (value m (T.number a.old)) -ℤ pos (value m (T.number b.now)))) }
+        ensures checked { IsForm form value (modulus self.now) (T.number a.new) }
+        ensures value { let m = modulus self.now in
+            value m (T.number a.new) ≡ residue m (pos (value m (T.number a.old)) -ℤ pos (value m (T.number b.now))) }
     {
         *a = self.sub(a, b);
     }
@@ -96,22 +115,31 @@ pub trait Reducer<T: RingWord> {
     /// The form of the negative modulo m.
     fn neg(&self, f: T) -> T
         requires { IsForm form value (modulus self.now) (T.number f) }
-        ensures { let m = modulus self.now in
-            Represents form m (T.number result) (residue m (neg_ℤ (pos (value m (T.number f))))) };
+        ensures form { let m = modulus self.now in
+            Represents form m (T.number result) (residue m (neg_ℤ (pos (value m (T.number f))))) }
+        ensures checked { IsForm form value (modulus self.now) (T.number result) }
+        ensures value { let m = modulus self.now in
+            value m (T.number result) ≡ residue m (neg_ℤ (pos (value m (T.number f)))) };
 
     /// The form of the product modulo m.
     fn mul(&self, a: &T, b: &T) -> T
         requires left { IsForm form value (modulus self.now) (T.number a.now) }
         requires right { IsForm form value (modulus self.now) (T.number b.now) }
-        ensures { let m = modulus self.now in
-            Represents form m (T.number result) ((value m (T.number a.now) * value m (T.number b.now)) % m) };
+        ensures form { let m = modulus self.now in
+            Represents form m (T.number result) ((value m (T.number a.now) * value m (T.number b.now)) % m) }
+        ensures checked { IsForm form value (modulus self.now) (T.number result) }
+        ensures value { let m = modulus self.now in
+            value m (T.number result) ≡ (value m (T.number a.now) * value m (T.number b.now)) % m };
 
     /// `mul`, in the first operand.
     fn mul_in_place(&self, a: &mut T, b: &T)
         requires left { IsForm form value (modulus self.now) (T.number a.old) }
         requires right { IsForm form value (modulus self.now) (T.number b.now) }
-        ensures { let m = modulus self.now in
+        ensures form { let m = modulus self.now in
             Represents form m (T.number a.new) ((value m (T.number a.old) * value m (T.number b.now)) % m) }
+        ensures checked { IsForm form value (modulus self.now) (T.number a.new) }
+        ensures value { let m = modulus self.now in
+            value m (T.number a.new) ≡ (value m (T.number a.old) * value m (T.number b.now)) % m }
     {
         *a = self.mul(a, b);
     }
@@ -119,19 +147,28 @@ pub trait Reducer<T: RingWord> {
     /// The form of the inverse modulo m; `None` exactly where there is none.
     fn inv(&self, f: T) -> Option<T>
         requires { IsForm form value (modulus self.now) (T.number f) }
-        ensures { let m = modulus self.now in IsInverseForm T.number form m (value m (T.number f)) result };
+        ensures form { let m = modulus self.now in IsInverseForm T.number form m (value m (T.number f)) result }
+        ensures checked { IfSome result (λ x. IsForm form value (modulus self.now) (T.number x)) }
+        ensures value { let m = modulus self.now in
+            IsInversion (λ x. value m (T.number x)) m (value m (T.number f)) result };
 
     /// The form of the square modulo m.
     fn sqr(&self, f: T) -> T
         requires { IsForm form value (modulus self.now) (T.number f) }
-        ensures { let m = modulus self.now in
-            Represents form m (T.number result) ((value m (T.number f) * value m (T.number f)) % m) };
+        ensures form { let m = modulus self.now in
+            Represents form m (T.number result) ((value m (T.number f) * value m (T.number f)) % m) }
+        ensures checked { IsForm form value (modulus self.now) (T.number result) }
+        ensures value { let m = modulus self.now in
+            value m (T.number result) ≡ (value m (T.number f) * value m (T.number f)) % m };
 
     /// The form of the product of `exp` factors, modulo m; that of 1 for the exponent 0.
     final fn pow(&self, f: T, exp: &T) -> T
         requires { IsForm form value (modulus self.now) (T.number f) }
-        ensures { let m = modulus self.now in
+        ensures form { let m = modulus self.now in
             Represents form m (T.number result) (value m (T.number f) ^ T.number exp.now % m) }
+        ensures checked { IsForm form value (modulus self.now) (T.number result) }
+        ensures value { let m = modulus self.now in
+            value m (T.number result) ≡ value m (T.number f) ^ T.number exp.now % m }
     {
         pow_counted(self, f, exp).0
     }

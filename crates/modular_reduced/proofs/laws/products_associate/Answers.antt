@@ -6,4 +6,4 @@ returns-clause-same g c =
     let v = λ (x : g.row.T.Denot). g.R.Reducer.value (g.R.Reducer.modulus c.args.reducer.now) (g.T.RingWord.number x) in
     g.met.T.RingWord.injective _ _
     (law.products_associate (v c.args.a) (v c.args.b) (v c.args.c) (g.met.R.Reducer.canonical c.args.reducer.now)
-    c.mul.ensures c.mul-left.ensures c.mul-2.ensures c.mul-right.ensures)
+    c.mul.ensures.form c.mul-left.ensures.form c.mul-2.ensures.form c.mul-right.ensures.form)

@@ -26,7 +26,7 @@ returns-then-not-is_odd g c =
     let count = products_of_two exp two in
     let most = products_at_most exp in
     record {
-      power = power_of_two (g.R.Reducer.value (g.R.Reducer.modulus c.args.reducer.now) (g.T.RingWord.number c.args.base)) exp two c.sqr.ensures;
+      power = power_of_two (g.R.Reducer.value (g.R.Reducer.modulus c.args.reducer.now) (g.T.RingWord.number c.args.base)) exp two c.sqr.ensures.form;
       count = sym count;
       at_most = omega arith;
     }
