@@ -1,3 +1,5 @@
+use Rattle.modular_reduced.proofs.FormLemmas.{answered}
+use Rattle.modular_barrett.specs.ScaledForms.{scaled_canonical}
 use Rattle.std.proofs.Common.{◌/◌, ◌^◌, ◌<◌, arith}
 use Rattle.modular_barrett.proofs.ScaledLemmas.{scaled_fits, remainder_stands, below_stands}
 use Rattle.modular_barrett.proofs.premul.PreMulInv2by1Reducer.transform.Goals as goal
@@ -11,8 +13,10 @@ pub returns-then-is_below : goal.returns-then-is_below
 returns-then-is_below g c =
     let n = g.T.RingWord.number in
     let below : n c.args.n < n c.args.self.now.divider.divisor / 2 ^ c.args.self.now.shift = grind arith in
-    below_stands _ _ _ _ _ _ c.args.self.now.scaling below c.shift_left.ensures
+    answered (scaled_canonical c.args.self.now.scaling)
+    (below_stands _ _ _ _ _ _ c.args.self.now.scaling below c.shift_left.ensures)
 
 pub returns-else-is_below : goal.returns-else-is_below
 returns-else-is_below g c =
-    remainder_stands _ _ _ _ _ _ _ _ c.args.self.now.scaling c.shift_left_wide.ensures.value c.div_rem_2by1.ensures
+    answered (scaled_canonical c.args.self.now.scaling)
+    (remainder_stands _ _ _ _ _ _ _ _ c.args.self.now.scaling c.shift_left_wide.ensures.value c.div_rem_2by1.ensures)
