@@ -9,6 +9,15 @@ use num_modular::{
 };
 use std::test::Fail;
 
+// The residue of a form; a word that is no form is left.
+fn residue_of<T: RingWord, R: Reducer<T>>(reducer: &R, f: T) -> T {
+    if reducer.check(&f) {
+        reducer.residue(f)
+    } else {
+        f
+    }
+}
+
 // The end of a run over four registers of value 0, and their residues then.
 fn run_over<T: RingWord, R: Reducer<T>>(
     reducer: &R,
@@ -18,10 +27,10 @@ fn run_over<T: RingWord, R: Reducer<T>>(
     if all_checked(reducer, &registers) && commands_fit(commands, 4) {
         let end = Some(run(reducer, &mut registers, commands));
         let residues = [
-            reducer.residue(registers[0]),
-            reducer.residue(registers[1]),
-            reducer.residue(registers[2]),
-            reducer.residue(registers[3]),
+            residue_of(reducer, registers[0]),
+            residue_of(reducer, registers[1]),
+            residue_of(reducer, registers[2]),
+            residue_of(reducer, registers[3]),
         ];
         (end, residues)
     } else {
