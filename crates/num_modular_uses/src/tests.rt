@@ -3,6 +3,7 @@
 mod dividers;
 mod fixed;
 mod folds;
+mod hostile;
 mod integers;
 mod plain;
 mod rings;
