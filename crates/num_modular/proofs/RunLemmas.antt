@@ -1,9 +1,9 @@
 -- Lemmas on registers that hold values, and on the value table.
-use Rattle.std.proofs.Common.{◌≡◌, ℕ, suc, zero, ◌+◌, ◌*◌, ◌%◌, ◌<◌, List, [], ◌∷◌, length, map, get_or, true, false, cond, eqb, refl, sym, ◌∙◌, ap, subst, arith, ◌≢◌, ◌⊎◌, ◌↔◌, Option, Some, None, option_map, All, get_or-set_same, get_or-set_other, add-one, IsSomeAnd, inl, inr}
+use Rattle.std.proofs.Common.{◌≡◌, ℕ, ◌+◌, ◌*◌, ◌%◌, ◌<◌, List, [], ◌∷◌, length, map, get_or, true, false, cond, eqb, refl, sym, ◌∙◌, ap, subst, arith, ◌≢◌, ◌⊎◌, ◌↔◌, Option, Some, None, option_map, All, get_or-set_same, get_or-set_other, add-one, IsSomeAnd, inl, inr}
 use Rattle.std.proofs.Math.ListN.{set, length-set}
 use Rattle.std.specs.List.{slice_get}
 use Rattle.std.proofs.lemmas.Bool.Decides.{eqb_tells}
-use Rattle.std.proofs.lemmas.Option.{slice_get_within}
+use Rattle.std.proofs.lemmas.Option.{slice_get_within, slice_get-map}
 use Rattle.std.proofs.lemmas.List.{get_or-map}
 use Rattle.std.proofs.lemmas.Bool.{cases_lt}
 use Rattle.modular_word.specs.Inverses.{inverse_of}
@@ -156,10 +156,8 @@ pub never_stops : {m : ℕ} {start : List ℕ} {commands : List (RingCommand ℕ
 never_stops {m} {start} {commands} passed at stop = passed at (some_within commands at _ _ refl stop.lacks) stop.lacks
 
 -- what stands at a place of a list stands there in its image
-pub slice_get-map : {C D : Type 0} (f : C → D) (xs : List C) (i : ℕ) (x : C) → slice_get xs i ≡ Some x → slice_get (map f xs) i ≡ Some (f x)
-slice_get-map f [] i x e = cc
-slice_get-map f (y ∷ ys) zero x e = ap Some (ap f (cc))
-slice_get-map f (y ∷ ys) (suc i) x e = slice_get-map f ys i x e
+pub read_map : {C D : Type 0} (f : C → D) (xs : List C) (i : ℕ) (x : C) → slice_get xs i ≡ Some x → slice_get (map f xs) i ≡ Some (f x)
+read_map f xs i x e = slice_get-map f xs i ∙ ap (option_map f) e
 
 -- a command that was read of commands that fit fits
 pub read_fits : {T : Type 0} (count : ℕ) (commands : List (RingCommand T)) (at : ℕ) (command : RingCommand T)

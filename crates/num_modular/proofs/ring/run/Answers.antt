@@ -3,7 +3,7 @@ use Rattle.std.specs.List.{slice_get}
 use Rattle.std.proofs.lemmas.Option.{slice_get_read}
 use Rattle.std.proofs.lemmas.List.{length-map}
 use Rattle.num_modular.specs.Ring.{IsStop, whole, values_of, destination_of, value_at, HoldValues}
-use Rattle.num_modular.proofs.RunLemmas.{after_command, lacks_at, finds_at, stops_at, not_done, never_stops, start_holds, all_forms, residues_are, slice_get-map, read_fits}
+use Rattle.num_modular.proofs.RunLemmas.{after_command, lacks_at, finds_at, stops_at, not_done, never_stops, start_holds, all_forms, residues_are, read_map, read_fits}
 use Rattle.num_modular.proofs.ring.run.Goals as goal
 
 pub commands-init : goal.commands-init
@@ -28,7 +28,7 @@ commands-preserved g c =
     let at = c.commands.at in
     let command = c.index-commands-at.result in
     let read = slice_get_read c.args.commands.now _ at command refl c.commands-test.true c.index-commands-at.is in
-    let is : slice_get wholes at ≡ Some (whole number command) = slice_get-map (whole number) c.args.commands.now at command read in
+    let is : slice_get wholes at ≡ Some (whole number command) = read_map (whole number) c.args.commands.now at command read in
     let fit = read_fits (length c.args.regs.now) c.args.commands.now at command c.requires.fit c.commands-test.true c.index-commands-at.is in
     let below = c.destination.ensures.within (length c.args.regs.now) fit in
     let written_below : destination_of (whole number command) < length c.commands.regs = omega (arith, below, c.destination.ensures.value) in
@@ -49,7 +49,7 @@ stop_here g c =
     let command = c.index-commands-at.result in
     let read = slice_get_read c.args.commands.now _ at command refl c.commands-test.true c.index-commands-at.is in
     record {
-      lacks = lacks_at number g.R.Reducer.form m start wholes at (whole number command) (slice_get-map (whole number) c.args.commands.now at command read) (c.in-None.ensures (value_at m start wholes at) c.commands.invariant.held);
+      lacks = lacks_at number g.R.Reducer.form m start wholes at (whole number command) (read_map (whole number) c.args.commands.now at command read) (c.in-None.ensures (value_at m start wholes at) c.commands.invariant.held);
       first = c.commands.invariant.passed;
     }
 
