@@ -68,15 +68,17 @@ line_of v = numbers_to v 7 ++ (10 ∷ [])
 abbrev pub printed : ℕ → List (RingCommand ℕ) → RunEnd → List ℕ
 printed m commands end = line_of (value_at m zeros commands (carried_out end commands))
 
--- the status and the error text of an end
+-- the status of an end
 abbrev pub status_of : RunEnd → ℕ
 status_of Done = 0
 status_of (NoInverse at) = 1
 
+-- the text that tells it
 abbrev pub told : RunEnd → List ℕ
 told Done = []
 told (NoInverse at) = codes "no inverse at command " ++ (decimal at ++ (10 ∷ []))
 
+-- the text that tells how the program is used
 abbrev pub usage : List ℕ
 usage = codes "usage: modrun REDUCER MODULUS COMMAND...\n"
 
