@@ -1,0 +1,14 @@
+pub mod BitReversal
+pub mod ConvolveLemmas
+pub mod CyclicProducts
+pub mod Geometry
+pub mod Halves
+pub mod MinusOne
+pub mod PairLemmas
+pub mod PlainSums
+pub mod PowersOfTwo
+pub mod Reordering
+pub mod StageLemmas
+pub mod StripPowers
+pub mod TransformLemmas
+pub mod ValueLemmas

@@ -1,0 +1,154 @@
+-- The whole transform: its sizes, its root, its count, and its end.
+use Rattle.std.proofs.Common.{◌↔◌, ◌≡◌, ℕ, suc, zero, ◌+◌, ◌-◌, ◌*◌, ◌%◌, ◌/◌, ◌^◌, ◌<◌, ◌≤◌, List, length, get_or, All, sym, ◌∙◌, ap, refl, arith, subst}
+use Rattle.std.proofs.lemmas.Nat.{pow-add, pow_pos}
+use Rattle.std.proofs.Math.Nat.{two-pow-succ, zero-mod, mul-le-mul_right}
+use Rattle.std.specs.Int.{trailing_zeros, w64}
+use Rattle.modular_reduced.specs.Forms.{Represents, IsForm}
+use Rattle.modular_reduced.proofs.FormLemmas.{form_as}
+use Rattle.modular_transform.specs.Transforms.{transform, Suits}
+use Rattle.modular_word.specs.Congruence.{Congruent}
+use Rattle.modular_transform.specs.Orders.{bits_reversed, IsReordered}
+use Rattle.modular_transform.specs.Stages.{IsStage}
+use Rattle.modular_reduced.specs.Values.{HoldValues}
+use Rattle.modular_transform.proofs.ValueLemmas.{values, value_at}
+use Rattle.modular_word.proofs.Congruence.{of_equal, chained, added, multiplied, residue_of}
+use Rattle.modular_word.proofs.Powers.{pow-mul}
+use Rattle.modular_transform.proofs.MinusOne.{IsMinusOne, same_minus_one}
+use Rattle.modular_transform.proofs.BitReversal.{bits_reversed_below, bits_reversed_twice}
+use Rattle.modular_transform.proofs.PairLemmas.{stage_by}
+use Rattle.modular_transform.proofs.PowersOfTwo.{power_by_zeros}
+use Rattle.modular_transform.proofs.StageLemmas.{BlocksTransform, stages_more, stages_end, root_squared}
+
+pub suited_length : {m g n : ℕ} → Suits m g n → n < 2 ^ 64 → n ≡ 2 ^ trailing_zeros w64 n
+suited_length {m} {g} {n} suits below = power_by_zeros n suits.power_of_two below
+
+-- the sizes of stage t of z stages
+pub record StageSizes (z t n half blocks : ℕ) : Type 0 where
+  pub next : 2 ^ (z - (t + 1)) ≡ half
+  pub now : 2 ^ (z - t) ≡ half + half
+  pub whole : blocks * (half + half) ≡ n
+  pub some : 0 < blocks
+  pub more : 2 ^ (t + 1) ≡ blocks * 2
+
+pub stage_sizes : (z t n half blocks : ℕ) → t < z → n ≡ 2 ^ z → half ≡ 2 ^ (z - t) / 2 → blocks ≡ 2 ^ t → StageSizes z t n half blocks
+stage_sizes z t n half blocks l whole is_half is_blocks =
+    let u = z - (t + 1) in
+    let s : z - t ≡ suc u = omega arith in
+    let now = ap (λ k. 2 ^ k) s ∙ two-pow-succ u in
+    let next : 2 ^ u ≡ half = omega (arith, now) in
+    let a : z ≡ t + suc u = omega arith in
+    let w = whole ∙ ap (λ k. 2 ^ k) a ∙ pow-add 2 t (suc u) ∙ ap (λ v. v * 2 ^ suc u) (sym is_blocks) ∙ ap (λ v. blocks * v) (two-pow-succ u ∙ ap (λ v. v + v) next) in
+    let t1 : t + 1 ≡ suc t = omega arith in
+    let m = ap (λ k. 2 ^ k) t1 ∙ two-pow-succ t in
+    record {
+      next = next;
+      now = now ∙ ap (λ v. v + v) next;
+      whole = sym w;
+      some = let p = pow_pos t in omega arith;
+      more = omega (arith, m);
+    }
+
+-- g to the half of n, by stages
+pub stage_half_turn : {m : ℕ} (g z t n half blocks : ℕ) → StageSizes z t n half blocks → blocks ≡ 2 ^ t → 0 < half → Suits m g n → IsMinusOne m ((g ^ (2 ^ t)) ^ half)
+stage_half_turn {m} g z t n half blocks sizes is_blocks some suits =
+    let w = sizes.whole in
+    let p = sizes.some in
+    let b = mul-le-mul_right (half + half) p in
+    let l : 1 < n = omega (arith, w, b) in
+    let e : n / 2 ≡ blocks * half = omega (arith, w) in
+    let f : g ^ (n / 2) ≡ (g ^ (2 ^ t)) ^ half = ap (λ v. g ^ v) (e ∙ ap (λ v. v * half) is_blocks) ∙ pow-mul g (2 ^ t) half in
+    same_minus_one f (record { and_one = record { same = suits.half_turn l ∙ sym (zero-mod m) } })
+
+-- the root of the next stage
+pub root_more : {m : ℕ} (g t v w : ℕ) → Congruent m v (g ^ (2 ^ t)) → w ≡ (v * v) % m → Congruent m w (g ^ (2 ^ (t + 1)))
+root_more g t v w is e =
+    let s : suc t ≡ t + 1 = omega arith in
+    chained (of_equal e) (chained (residue_of (v * v)) (chained (multiplied is is) (of_equal (root_squared g t ∙ ap (λ k. g ^ (2 ^ k)) s))))
+
+-- one stage of the loop
+pub blocks_more : {m : ℕ} (g z t n half blocks v : ℕ) (x y w : ℕ → ℕ) → StageSizes z t n half blocks → blocks ≡ 2 ^ t → 0 < half → Suits m g n → Congruent m v (g ^ (2 ^ t))
+    → BlocksTransform m g n t (2 ^ (z - t)) x y → IsStage m v half blocks y w → BlocksTransform m g n (t + 1) (2 ^ (z - (t + 1))) x w
+blocks_more {m} g z t n half blocks v x y w sizes is_blocks some suits root before stage =
+    let s : suc t ≡ t + 1 = omega arith in
+    let b = subst (λ k. BlocksTransform m g n t k x y) sizes.now before in
+    let st = subst (λ k. IsStage m (g ^ (2 ^ t)) half k y w) is_blocks (stage_by y w root stage) in
+    let after = stages_more g n t half x y w (stage_half_turn g z t n half blocks sizes is_blocks some suits) b st in
+    subst (λ k. BlocksTransform m g n (t + 1) k x w) (sym sizes.next) (subst (λ k. BlocksTransform m g n k half x w) s after)
+
+-- the products of the stages so far
+pub products_more : (z t n half blocks products more : ℕ) → StageSizes z t n half blocks → products + 2 ^ (z - t) ≡ t * (n / 2) + n + t → more ≡ half * (blocks + 1)
+    → products + more + 1 + 2 ^ (z - (t + 1)) ≡ (t + 1) * (n / 2) + n + (t + 1)
+products_more z t n half blocks products more sizes before is =
+    let w = sizes.whole in
+    let a = sizes.now in
+    let b = sizes.next in
+    let e : n / 2 ≡ blocks * half = omega (arith, w) in
+    let te = ap (λ v. t * v) e in
+    omega (arith, a, b, before, is, e, te, w)
+
+-- what is left: forms in reversed order, put in plain order
+pub plain_order : {T : Type 0} (number : T → ℕ) (form value : ℕ → ℕ → ℕ) (m g n z : ℕ) (x : ℕ → ℕ) (forms new : List T)
+    → n ≡ 2 ^ z → length forms ≡ n → length new ≡ n → All (λ f. IsForm form value m (number f)) forms
+    → BlocksTransform m g n z 1 x (values number value m forms) → IsReordered (bits_reversed z) forms new
+    → HoldValues number form m new (transform m g n x)
+plain_order number form value m g n z x forms new whole len len_new checked blocks reordered = record {
+  each = λ i d l.
+      let j = bits_reversed z i in
+      let li : i < 2 ^ z = omega arith in
+      let lj : j < length forms = let b = bits_reversed_below z i in omega arith in
+      let is = reordered.each i d (omega arith) in
+      let f = get_or forms j d in
+      let is_form = checked j d lj in
+      let e : value m (number f) ≡ values number value m forms j = value_at number value m forms j d lj in
+      let small : values number value m forms j < m = subst (λ v. v < m) e is_form.below in
+      let t = stages_end g n z x (values number value m forms) j blocks (bits_reversed_below z i) small in
+      subst (λ y. Represents form m (number y) (transform m g n x i)) (sym is)
+      (form_as is_form (e ∙ t ∙ ap (transform m g n x) (bits_reversed_twice z i li)));
+}
+
+-- after the last stage
+pub blocks_all : {m : ℕ} (g z t n : ℕ) (x y : ℕ → ℕ) → z ≤ t → t ≤ z → BlocksTransform m g n t (2 ^ (z - t)) x y → BlocksTransform m g n z 1 x y
+blocks_all {m} g z t n x y a b blocks =
+    let e : t ≡ z = omega arith in
+    let o : z - t ≡ 0 = omega arith in
+    subst (λ k. BlocksTransform m g n k 1 x y) e (subst (λ k. BlocksTransform m g n t (2 ^ k) x y) o blocks)
+
+pub products_all : (z t n products : ℕ) → z ≤ t → t ≤ z → n ≡ 2 ^ z → products + 2 ^ (z - t) ≡ t * (n / 2) + n + t → products ≡ n * z / 2 + n - 1 + z
+products_all zero t n products a b whole count =
+    let e : t ≡ 0 = omega arith in
+    let te = ap (λ v. v * (n / 2)) e in
+    let o : zero - t ≡ 0 = omega arith in
+    let p = ap (λ k. 2 ^ k) o in
+    let k : 2 ^ 0 ≡ 1 = refl in
+    let nz : n * 0 / 2 ≡ 0 = omega arith in
+    omega (arith, te, p, count, nz)
+products_all (suc z) t n products a b whole count =
+    let e : t ≡ suc z = omega arith in
+    let te = ap (λ v. v * (n / 2)) e in
+    let o : suc z - t ≡ 0 = omega arith in
+    let p = ap (λ k. 2 ^ k) o in
+    let k : 2 ^ 0 ≡ 1 = refl in
+    let d = two-pow-succ z in
+    let h : n ≡ 2 * (n / 2) = omega (arith, d) in
+    let nz : n * suc z ≡ 2 * (suc z * (n / 2)) = ap (λ v. v * suc z) h ∙ omega arith in
+    let some : 0 < n = let q = pow_pos (suc z) in omega arith in
+    omega (arith, te, p, count, nz)
+
+-- what `root_fits` tests: for one entry nothing but its power of two, ..
+pub suits_one : {m g n : ℕ} → n ≡ 1 → Suits m g n
+suits_one {m} {g} {n} one = record {
+  power_of_two = (0, one ∙ (let p : 1 ≡ 2 ^ 0 = refl in p));
+  half_turn = λ l. absurd (omega arith);
+}
+
+-- .. and beyond one entry that 1 added to the power is 0
+pub suits_tested : {m : ℕ} (g n z t v one o s : ℕ) → n ≡ 2 ^ z → 0 < z → t ≡ z - 1 → Congruent m v (g ^ (2 ^ t)) → one ≡ 1
+    → o ≡ one % m → s ≡ (v + o) % m → (s ≡ 0) ↔ Suits m g n
+suits_tested {m} g n z t v one o s whole some is_t power is_one is_o is_s =
+    let e : z ≡ suc t = omega arith in
+    let d = whole ∙ ap (λ k. 2 ^ k) e ∙ two-pow-succ t in
+    let h : n / 2 ≡ 2 ^ t = omega (arith, d) in
+    let o1 : Congruent m o 1 = chained (of_equal is_o) (chained (residue_of one) (of_equal is_one)) in
+    let same : s ≡ (g ^ (n / 2) + 1) % m = is_s ∙ (added power o1).same ∙ ap (λ k. (g ^ k + 1) % m) (sym h) in
+    let p = pow_pos t in
+    (λ zero. record { power_of_two = (z, whole); half_turn = λ l. sym same ∙ zero }, λ suits. same ∙ suits.half_turn (omega (arith, d, p)))

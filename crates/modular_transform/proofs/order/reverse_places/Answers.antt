@@ -1,0 +1,40 @@
+use Rattle.std.proofs.Common.{◌+◌, ◌<◌, ◌≤◌, length, get_or, subst, sym, ◌∙◌, ap, arith}
+use Rattle.std.proofs.lemmas.List.Edits.{swapped_from_swap}
+use Rattle.std.specs.List.{swap}
+use Rattle.modular_transform.specs.Orders.{bits_reversed}
+use Rattle.modular_transform.proofs.Reordering.{ReorderedSoFar}
+use Rattle.modular_transform.proofs.BitReversal.{bits_reversed_below}
+use Rattle.modular_transform.proofs.Reordering.{bits_exchange, reordered_swapped, reordered_passed, reordered_all}
+use Rattle.modular_transform.proofs.order.reverse_places.Goals as goal
+use Rattle.modular_transform.proofs.order.reverse_places.Goals.{then-place-other, else-place-other}
+
+pub swap-requires-clause-b_in_bounds : goal.swap-requires-clause-b_in_bounds
+swap-requires-clause-b_in_bounds g c =
+    let e = c.reversed-other.ensures in
+    let b = bits_reversed_below c.args.bits c.places.place in
+    omega (arith, e, b)
+
+pub places-preserved : goal.places-preserved
+places-preserved g c d =
+    let n = length c.args.entries.now in
+    let i = c.places.place in
+    let s = bits_reversed c.args.bits in
+    let exchange = bits_exchange c.args.bits n c.requires.whole in
+    let is = c.reversed-other.ensures in
+    let l : i < n = omega arith in
+    elim c.if-place-other.branch [
+      | then-place-other w ↦
+          let order : i < s i = omega (arith, is) in
+          let within : s i < length c.places.entries = let b = bits_reversed_below c.args.bits i in omega (arith, b) in
+          let e = w.entries-is ∙ w.swap.ensures.after ∙ ap (λ j. swap c.places.entries i j) is in
+          reordered_swapped n i s (λ k. get_or c.args.entries.now k d) (λ k. get_or c.places.entries k d) (λ k. get_or c.if-place-other.entries k d) exchange l order
+          (swapped_from_swap c.places.entries c.if-place-other.entries i (s i) d (omega arith) within e) (c.places.invariant d)
+      | else-place-other w ↦
+          let order : s i ≤ i = omega (arith, is) in
+          subst (λ es. ReorderedSoFar n (i + 1) s (λ k. get_or c.args.entries.now k d) (λ k. get_or es k d)) (sym w.entries-is) (reordered_passed n i s (λ k. get_or c.args.entries.now k d) (λ k. get_or c.places.entries k d) exchange l order (c.places.invariant d))
+    ]
+
+pub returns : goal.returns
+returns g c = record {
+  each = λ i d l. reordered_all (length c.args.entries.now) c.places.place (bits_reversed c.args.bits) _ _ (omega arith) (c.places.invariant d) i l;
+}

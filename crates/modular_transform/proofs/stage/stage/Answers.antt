@@ -1,0 +1,211 @@
+use Rattle.std.proofs.Common.{rules, ◌≡◌, ℕ, ◌+◌, ◌-◌, ◌*◌, ◌%◌, ◌^◌, ◌<◌, length, ◌∙◌, ap, arith, subst}
+use Rattle.modular_reduced.specs.Forms.{Represents}
+use Rattle.modular_reduced.proofs.FormLemmas.{form_of_value}
+use Rattle.modular_transform.specs.Stages.{PairsDone}
+use Rattle.modular_transform.proofs.PairLemmas.{none_done, one_done, columns_joined, blocks_joined, done_by, stage_done, block_fits, columns_fit, pairs_fit}
+use Rattle.modular_transform.proofs.StripPowers.{one_form, first_power, power_first, power_next, strip_power, strip_next}
+use Rattle.modular_transform.proofs.ValueLemmas.{values, value_at, forms_written, entry_done}
+use Rattle.modular_transform.proofs.stage.stage.Goals as goal
+
+pub offset_bounds-powers-i : goal.offset_bounds-powers-i
+offset_bounds-powers-i g c =
+    let least = c.min-width.ensures in
+    let fit = block_fits 0 c.args.blocks c.args.half _ c.requires.some c.requires.whole in
+    let same = c.strips.auto.forms in
+    let within : c.fill.i < length c.strips.forms = omega (arith, least, fit, same) in
+    search rules
+
+pub overflow_add-products : goal.overflow_add-products
+overflow_add-products g c =
+    let least = c.min-width.ensures in
+    let count = c.fill.invariant.count in
+    let fit = columns_fit c.strips.column c.min-width.result c.args.half c.args.blocks _ (omega (arith, least)) c.requires.whole c.requires.some in
+    omega (arith, count, fit)
+
+pub overflow_add-first-in-each_block : goal.overflow_add-first-in-each_block
+overflow_add-first-in-each_block g c =
+    let fit = block_fits c.each_block.block c.args.blocks c.args.half _ (omega arith) c.requires.whole in
+    omega (arith, fit)
+
+pub offset_bounds-powers-k : goal.offset_bounds-powers-k
+offset_bounds-powers-k g c =
+    let least = c.min-width.ensures in
+    let fit = block_fits 0 c.args.blocks c.args.half _ c.requires.some c.requires.whole in
+    let same = c.columns.auto.forms in
+    let within : c.columns.k < length c.columns.forms = omega (arith, least, fit, same) in
+    search rules
+
+pub overflow_add-first-in-columns : goal.overflow_add-first-in-columns
+overflow_add-first-in-columns g c =
+    let least = c.min-width.ensures in
+    let fit = block_fits c.each_block.block c.args.blocks c.args.half _ (omega arith) c.requires.whole in
+    omega (arith, fit, least)
+
+pub overflow_add-first-in-columns-2 : goal.overflow_add-first-in-columns-2
+overflow_add-first-in-columns-2 g c =
+    let least = c.min-width.ensures in
+    let fit = block_fits c.each_block.block c.args.blocks c.args.half _ (omega arith) c.requires.whole in
+    omega (arith, fit, least)
+
+pub overflow_add-first-in-columns-3 : goal.overflow_add-first-in-columns-3
+overflow_add-first-in-columns-3 g c =
+    let least = c.min-width.ensures in
+    let fit = block_fits c.each_block.block c.args.blocks c.args.half _ (omega arith) c.requires.whole in
+    omega (arith, fit, least)
+
+pub pair-requires-clause-within : goal.pair-requires-clause-within
+pair-requires-clause-within g c =
+    let least = c.min-width.ensures in
+    let fit = block_fits c.each_block.block c.args.blocks c.args.half _ (omega arith) c.requires.whole in
+    let same = c.columns.auto.forms in
+    omega (arith, fit, least, same)
+
+pub overflow_add-products-in-columns : goal.overflow_add-products-in-columns
+overflow_add-products-in-columns g c =
+    let least = c.min-width.ensures in
+    let count = c.columns.invariant.count in
+    let fit = pairs_fit c.strips.column c.min-width.result c.args.half c.each_block.block c.args.blocks _ (omega arith) (omega (arith, least)) c.requires.whole in
+    omega (arith, count, fit)
+
+pub strips-init : goal.strips-init
+strips-init g c =
+    let m = g.R.Reducer.modulus c.args.r.now in
+    let number = g.T.RingWord.number in
+    let value = g.R.Reducer.value in
+    let canonical = g.met.R.Reducer.canonical c.args.r.now in
+    let w = value m (number c.args.root.now) in
+    let form = form_of_value canonical c.transform-running.ensures in
+    record {
+      checked = c.requires.checked;
+      powers = one_form number g.R.Reducer.form value m 64 c.transform-running.result form;
+      running_form = form;
+      running = first_power w canonical c.one.ensures c.transform-running.ensures;
+      within = omega arith;
+      done = none_done m (λ i. w ^ i) c.args.half 0 c.args.blocks 0 0 (values number value m c.args.forms.now) (λ p i u v s t. absurd (omega arith));
+      count = omega arith;
+    }
+
+pub fill-init : goal.fill-init
+fill-init g c = record {
+  powers = c.strips.invariant.powers;
+  running = power_first _ c.strips.invariant.running_form;
+  written = λ k l. absurd (omega arith);
+  count = let n = c.strips.invariant.count in omega (arith, n);
+}
+
+pub fill-preserved : goal.fill-preserved
+fill-preserved g c =
+    let m = g.R.Reducer.modulus c.args.r.now in
+    let number = g.T.RingWord.number in
+    let value = g.R.Reducer.value in
+    let canonical = g.met.R.Reducer.canonical c.args.r.now in
+    let s = value m (number c.strips.running) in
+    let w = value m (number c.args.root.now) in
+    let i = c.fill.i in
+    let before = c.fill.invariant in
+    record {
+      powers = forms_written number g.R.Reducer.form value _ m c.fill.powers i _ c.fill.running canonical before.running before.powers;
+      running = power_next s w i canonical before.running c.mul-running.ensures;
+      written = entry_done number value m c.fill.powers i c.fill.running (λ k. (s * w ^ k) % m) (omega arith) before.written (canonical.one_value _ _ before.running);
+      count = let n = before.count in omega (arith, n);
+    }
+
+pub columns-preserved : goal.columns-preserved
+columns-preserved g c =
+    let m = g.R.Reducer.modulus c.args.r.now in
+    let number = g.T.RingWord.number in
+    let value = g.R.Reducer.value in
+    let h = c.args.half in
+    let p = c.each_block.block in
+    let k = c.columns.k in
+    let column = c.strips.column in
+    let i = column + k in
+    let powers = c.fill.powers in
+    let x = values number value m c.each_block.forms in
+    let y = values number value m c.columns.forms in
+    let z = values number value m c.pair.new.forms in
+    let before = c.columns.invariant in
+    let least = c.min-width.ensures in
+    let within : k < length powers = omega (arith, least) in
+    let power = λ (j : ℕ). values number value m powers (j - column) in
+    let place : k ≡ i - column = omega arith in
+    let is_power = value_at number value m powers k c.index-powers-k.result within ∙ ap (values number value m powers) place in
+    let next : i + 1 ≡ column + (k + 1) = omega arith in
+    let one = one_done power h p i y z (omega (arith, least)) (omega arith) (omega arith) is_power c.pair.ensures.done in
+    let joined = columns_joined {power = power} x y z (omega arith) (omega arith) (omega (arith, least)) before.done one in
+    record {
+      checked = c.pair.ensures.checked;
+      done = subst (λ e. PairsDone m power h p (p + 1) column e x z) next joined;
+      count = let n = before.count in omega (arith, n);
+    }
+
+pub each_block-preserved : goal.each_block-preserved
+each_block-preserved g c =
+    let m = g.R.Reducer.modulus c.args.r.now in
+    let number = g.T.RingWord.number in
+    let value = g.R.Reducer.value in
+    let h = c.args.half in
+    let p = c.each_block.block in
+    let column = c.strips.column in
+    let width = c.min-width.result in
+    let least = c.min-width.ensures in
+    let x = values number value m c.strips.forms in
+    let y = values number value m c.each_block.forms in
+    let z = values number value m c.columns.forms in
+    let power = λ (j : ℕ). values number value m c.fill.powers (j - column) in
+    let all : c.columns.k ≡ width = omega arith in
+    let here = subst (λ k. PairsDone m power h p (p + 1) column (column + k) y z) all c.columns.invariant.done in
+    let count = c.columns.invariant.count in
+    record {
+      checked = c.columns.invariant.checked;
+      done = blocks_joined {power = power} x y z (omega arith) (omega arith) (omega (arith, least)) c.each_block.invariant.done here;
+      count = omega (arith, count, all);
+    }
+
+pub strips-preserved : goal.strips-preserved
+strips-preserved g c =
+    let m = g.R.Reducer.modulus c.args.r.now in
+    let number = g.T.RingWord.number in
+    let value = g.R.Reducer.value in
+    let canonical = g.met.R.Reducer.canonical c.args.r.now in
+    let w = value m (number c.args.root.now) in
+    let s = value m (number c.strips.running) in
+    let h = c.args.half in
+    let column = c.strips.column in
+    let width = c.min-width.result in
+    let least = c.min-width.ensures in
+    let x = values number value m c.args.forms.now in
+    let y = values number value m c.strips.forms in
+    let z = values number value m c.each_block.forms in
+    let before = c.strips.invariant in
+    let filled = c.fill.invariant in
+    let all : c.fill.i ≡ width = omega arith in
+    let blocks : c.each_block.block ≡ c.args.blocks = omega arith in
+    let written = subst (λ (n : ℕ). (k : ℕ) → k < n → values number value m c.fill.powers k ≡ (s * w ^ k) % m) all filled.written in
+    let power = λ (j : ℕ). values number value m c.fill.powers (j - column) in
+    let strip = subst (λ b. PairsDone m power h 0 b column (column + width) y z) blocks c.each_block.invariant.done in
+    let by_root = done_by {power = power} y z (strip_power w column width (values number value m c.fill.powers) written before.running) strip in
+    let running = subst (λ n. Represents g.R.Reducer.form m (number c.fill.running) ((s * w ^ n) % m)) all filled.running in
+    let count = c.each_block.invariant.count in
+    let rows = ap (λ b. b * width) blocks in
+    record {
+      checked = c.each_block.invariant.checked;
+      powers = filled.powers;
+      running_form = form_of_value canonical running;
+      running = strip_next w column width canonical running before.running;
+      within = omega (arith, least);
+      done = columns_joined x y z (omega arith) (omega arith) (omega (arith, least)) before.done by_root;
+      count = omega (arith, count, rows);
+    }
+
+pub returns-clause-stage : goal.returns-clause-stage
+returns-clause-stage g c =
+    let m = g.R.Reducer.modulus c.args.r.now in
+    let number = g.T.RingWord.number in
+    let value = g.R.Reducer.value in
+    let w = value m (number c.args.root.now) in
+    let x = values number value m c.args.forms.now in
+    let y = values number value m c.strips.forms in
+    let within = c.strips.invariant.within in
+    let e : c.strips.column ≡ c.args.half = omega arith in
+    stage_done x y (subst (λ d. PairsDone m (λ i. w ^ i) c.args.half 0 c.args.blocks 0 d x y) e c.strips.invariant.done)

@@ -1,0 +1,84 @@
+//! The cyclic product of two lists, by transforms.
+
+ghost use Rattle.std.specs.Prelude.{◌≡◌, ◌*◌, ◌%◌, ◌↔◌, IsTrue, All, length, slice_index};
+ghost use Rattle.modular_word.specs.Inverses.{HasInverse};
+ghost use Rattle.modular_reduced.specs.Forms.{IsForm};
+ghost use Rattle.modular_reduced.specs.Values.{values_of, HoldValues};
+ghost use Rattle.modular_transform.specs.Transforms.{Suits, transform, cyclic_product};
+
+use crate::order::mirror;
+use crate::transform::ntt;
+use modular_reduced::reducer::Reducer;
+use modular_word::ring_word::RingWord;
+
+// Multiplies each entry by the one at its place.
+fn multiply_each<T: RingWord, R: Reducer<T>>(r: &R, xs: &mut [T], ys: &[T])
+    requires checked_xs { All (λ f. IsForm R.form R.value (R.modulus r.now) (T.number f)) xs.old }
+    requires checked_ys { All (λ f. IsForm R.form R.value (R.modulus r.now) (T.number f)) ys.now }
+    requires equal { length xs.old ≡ length ys.now }
+    ensures entries { let m = R.modulus r.now in
+        HoldValues T.number R.form m xs.new
+        (λ i. (slice_index (values_of T.number R.value m xs.old) i * slice_index (values_of T.number R.value m ys.now) i) % m) }
+    ensures checked { All (λ f. IsForm R.form R.value (R.modulus r.now) (T.number f)) xs.new }
+{
+    'entries: for i in 0..xs.len() {
+        xs[i] = r.mul(&xs[i], &ys[i]);
+    }
+}
+
+// Multiplies each entry by a factor.
+fn scale<T: RingWord, R: Reducer<T>>(r: &R, xs: &mut [T], factor: &T)
+    requires checked { All (λ f. IsForm R.form R.value (R.modulus r.now) (T.number f)) xs.old }
+    requires factor { IsForm R.form R.value (R.modulus r.now) (T.number factor.now) }
+    ensures entries { let m = R.modulus r.now in
+        HoldValues T.number R.form m xs.new
+        (λ i. (slice_index (values_of T.number R.value m xs.old) i * R.value m (T.number factor.now)) % m) }
+    ensures checked { All (λ f. IsForm R.form R.value (R.modulus r.now) (T.number f)) xs.new }
+{
+    'entries: for i in 0..xs.len() {
+        xs[i] = r.mul(&xs[i], factor);
+    }
+}
+
+/// Puts the cyclic product of xs and ys in xs and the transform of ys in ys, both by g; false, with
+/// both lists unchanged, exactly where their length n has no inverse modulo m.
+///
+/// Entry e of xs becomes the form of the sum of x_i·y_j modulo m over i + j = e or e + n. Conditions:
+/// the lists have one length, g and all entries are checked forms, and g suits the length
+/// (`root_fits` tells). It takes no memory. The method is that of Knuth (The Art of Computer
+/// Programming, volume 2, section 4.3.3, part C): a transform of each list, a product at each place,
+/// a transform back. The length comes by doublings of 1, so it may be too large for the word.
+pub fn convolve<T: RingWord, R: Reducer<T>>(r: &R, xs: &mut [T], ys: &mut [T], g: &T) -> bool
+    requires checked_xs { All (λ f. IsForm R.form R.value (R.modulus r.now) (T.number f)) xs.old }
+    requires checked_ys { All (λ f. IsForm R.form R.value (R.modulus r.now) (T.number f)) ys.old }
+    requires root { IsForm R.form R.value (R.modulus r.now) (T.number g.now) }
+    requires suits { let m = R.modulus r.now in Suits m (R.value m (T.number g.now)) (length xs.old) }
+    requires equal { length ys.old ≡ length xs.old }
+    ensures inverse { IsTrue result ↔ HasInverse (R.modulus r.now) (length xs.old) }
+    ensures unchanged { (IsTrue result → ⊥) → (xs.new ≡ xs.old) × (ys.new ≡ ys.old) }
+    ensures product { let m = R.modulus r.now in
+        IsTrue result → HoldValues T.number R.form m xs.new
+        (cyclic_product m (length xs.old) (slice_index (values_of T.number R.value m xs.old)) (slice_index (values_of T.number R.value m ys.old))) }
+    ensures transformed { let m = R.modulus r.now in
+        IsTrue result → HoldValues T.number R.form m ys.new
+        (transform m (R.value m (T.number g.now)) (length xs.old) (slice_index (values_of T.number R.value m ys.old))) }
+    ensures checked { let m = R.modulus r.now in
+        All (λ f. IsForm R.form R.value m (T.number f)) xs.new × All (λ f. IsForm R.form R.value m (T.number f)) ys.new }
+{
+    let mut length = r.transform(T::one());
+    'doublings: for _done in 0..xs.len().trailing_zeros() {
+        length = r.dbl(length);
+    }
+    match r.inv(length) {
+        Some(part) => {
+            ntt(r, xs, g);
+            ntt(r, ys, g);
+            multiply_each(r, xs, ys);
+            ntt(r, xs, g);
+            mirror(xs);
+            scale(r, xs, &part);
+            true
+        }
+        None => false,
+    }
+}

@@ -1,0 +1,10 @@
+//! Number-theoretic transforms and cyclic products, in place, over any reducer.
+#![tactic(auto)]
+
+pub mod convolution;
+mod order;
+pub mod plain;
+mod stage;
+#[cfg(test)]
+mod tests;
+pub mod transform;

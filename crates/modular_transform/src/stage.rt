@@ -1,0 +1,76 @@
+//! One stage of a transform in place: the sums and differences of pairs, by strips of columns.
+
+ghost use Rattle.std.specs.Prelude.{◌≡◌, ◌+◌, ◌*◌, ◌<◌, All, length, slice_index};
+ghost use Rattle.modular_reduced.specs.Forms.{IsForm};
+ghost use Rattle.modular_reduced.specs.Values.{values_of};
+ghost use Rattle.modular_transform.specs.Stages.{PairDone, IsStage};
+
+use modular_reduced::reducer::Reducer;
+use modular_word::ring_word::RingWord;
+
+// How many columns are taken together: their powers stand on the stack, and in each block their
+// pairs are neighbours in memory.
+const STRIP: usize = 64;
+
+// The pair at two places: its sum, and its difference times a power. It takes one product.
+fn pair<T: RingWord, R: Reducer<T>>(r: &R, forms: &mut [T], first: usize, second: usize, power: &T)
+    requires checked { All (λ f. IsForm R.form R.value (R.modulus r.now) (T.number f)) forms.old }
+    requires power { IsForm R.form R.value (R.modulus r.now) (T.number power.now) }
+    requires order { first < second }
+    requires within { second < length forms.old }
+    ensures checked { All (λ f. IsForm R.form R.value (R.modulus r.now) (T.number f)) forms.new }
+    ensures done { let m = R.modulus r.now in
+        PairDone m (R.value m (T.number power.now)) first second
+        (slice_index (values_of T.number R.value m forms.old)) (slice_index (values_of T.number R.value m forms.new)) }
+{
+    let a = forms[first];
+    let b = forms[second];
+    let difference = r.sub(&a, &b);
+    forms[second] = r.mul(&difference, power);
+    forms[first] = r.add(&a, &b);
+}
+
+/// A stage with a root: in each block of `half` and `half` entries the pair of column i becomes its
+/// sum, and its difference times the power i of the root. Answers how many products that took.
+///
+/// The columns are taken in strips, so that what is read next lies beside what was read last.
+pub fn stage<T: RingWord, R: Reducer<T>>(
+    r: &R,
+    forms: &mut [T],
+    half: usize,
+    blocks: usize,
+    root: &T,
+) -> usize
+    requires checked { All (λ f. IsForm R.form R.value (R.modulus r.now) (T.number f)) forms.old }
+    requires root { IsForm R.form R.value (R.modulus r.now) (T.number root.now) }
+    requires whole { blocks * (half + half) ≡ length forms.old }
+    requires some { 0 < blocks }
+    ensures checked { All (λ f. IsForm R.form R.value (R.modulus r.now) (T.number f)) forms.new }
+    ensures stage { let m = R.modulus r.now in
+        IsStage m (R.value m (T.number root.now)) half blocks
+        (slice_index (values_of T.number R.value m forms.old)) (slice_index (values_of T.number R.value m forms.new)) }
+    ensures count { result ≡ half * (blocks + 1) }
+{
+    let mut running = r.transform(T::one());
+    let mut powers = [running; STRIP];
+    let mut column = 0;
+    let mut products = 0;
+    'strips: while column < half {
+        let width = STRIP.min(half - column);
+        'fill: for i in 0..width {
+            powers[i] = running;
+            running = r.mul(&running, root);
+            products += 1;
+        }
+        'each_block: for block in 0..blocks {
+            let first = block * (half + half) + column;
+            'columns: for k in 0..width {
+                let power = powers[k];
+                pair(r, forms, first + k, first + k + half, &power);
+                products += 1;
+            }
+        }
+        column += width;
+    }
+    products
+}
