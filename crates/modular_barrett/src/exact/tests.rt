@@ -17,40 +17,33 @@ fn rows(rt: HostRuntime) {
 
 #[test]
 fn wider_words(rt: HostRuntime) {
-    let mut number = 65535u16;
-    assert_eq!(rt;
-        number.div_exact_assign(255, &PreMulInv1by1::<u16>::new(255)),
-        true
-    );
-    assert_eq!(rt; number, 257);
-    let mut number = u32::MAX;
-    assert_eq!(rt;
-        number.div_exact_assign(641, &PreMulInv1by1::<u32>::new(641)),
-        false
-    );
-    assert_eq!(rt; number, u32::MAX);
-    let mut number = u64::MAX;
-    assert_eq!(rt;
-        number.div_exact_assign(641, &PreMulInv1by1::<u64>::new(641)),
-        true
-    );
-    assert_eq!(rt; number, 28778071877862015);
-    let mut number = usize::MAX;
-    assert_eq!(rt;
-        number.div_exact_assign(641, &PreMulInv1by1::<usize>::new(641)),
-        true
-    );
-    assert_eq!(rt; number, 28778071877862015);
-    assert_eq!(rt;
+    let found = (
         65535u16.div_exact(257, &PreMulInv1by1::<u16>::new(257)),
-        Some(255)
-    );
-    assert_eq!(rt; 10u32.div_exact(5, &PreMulInv1by1::<u32>::new(5)), Some(2));
-    assert_eq!(rt; 10u64.div_exact(4, &PreMulInv1by1::<u64>::new(4)), None);
-    assert_eq!(rt;
+        10u32.div_exact(5, &PreMulInv1by1::<u32>::new(5)),
+        10u64.div_exact(4, &PreMulInv1by1::<u64>::new(4)),
         10usize.div_exact(5, &PreMulInv1by1::<usize>::new(5)),
-        Some(2)
     );
+    assert_eq!(rt; found, (Some(255), Some(2), None, Some(2)));
+}
+
+#[test]
+fn narrow_words_in_place(rt: HostRuntime) {
+    let mut number = 65535u16;
+    let stored = number.div_exact_assign(255, &PreMulInv1by1::<u16>::new(255));
+    assert_eq!(rt; (stored, number), (true, 257));
+    let mut number = u32::MAX;
+    let stored = number.div_exact_assign(641, &PreMulInv1by1::<u32>::new(641));
+    assert_eq!(rt; (stored, number), (false, u32::MAX));
+}
+
+#[test]
+fn wide_words_in_place(rt: HostRuntime) {
+    let mut number = u64::MAX;
+    let stored = number.div_exact_assign(641, &PreMulInv1by1::<u64>::new(641));
+    assert_eq!(rt; (stored, number), (true, 28778071877862015));
+    let mut number = usize::MAX;
+    let stored = number.div_exact_assign(641, &PreMulInv1by1::<usize>::new(641));
+    assert_eq!(rt; (stored, number), (true, 28778071877862015));
 }
 
 #[test]

@@ -2,18 +2,25 @@
 
 use super::*;
 
-// The operations by values, as generic code does them: what they answer for n mod m and k mod m.
-fn by_values<T: RingWord, R: Reducer<T>>(r: &R, n: T, k: T) -> [T; 6] {
+// What generic code gets for the sum, the difference and the product of n and k.
+fn of_two<T: RingWord, R: Reducer<T>>(r: &R, n: T, k: T) -> (T, T, T) {
     let a = r.transform(n);
     let b = r.transform(k);
-    [
+    (
         r.residue(r.add(&a, &b)),
         r.residue(r.sub(&a, &b)),
         r.residue(r.mul(&a, &b)),
+    )
+}
+
+// What it gets for twice n, the negative and the square.
+fn of_one<T: RingWord, R: Reducer<T>>(r: &R, n: T) -> (T, T, T) {
+    let a = r.transform(n);
+    (
         r.residue(r.dbl(a)),
         r.residue(r.neg(a)),
         r.residue(r.sqr(a)),
-    ]
+    )
 }
 
 fn value<T: RingWord, R: Reducer<T>>(r: &R, n: T) -> T {
@@ -32,30 +39,30 @@ fn power<T: RingWord, R: Reducer<T>>(r: &R, n: T, exp: T) -> T {
 }
 
 #[test]
-fn rows(rt: HostRuntime) {
+fn parts_of_a_ring(rt: HostRuntime) {
     let ring = PreMulInv2by1::<u8>::new(21);
     assert_eq!(rt;
         (ring.divisor(), ring.modulus(), ring.shift()),
         (168, 21, 3)
     );
     assert_eq!(rt; ring.divider().divisor(), 168);
-    assert_eq!(rt;
-        (ring.check(&40), ring.check(&41), ring.check(&168)),
-        (true, false, false)
-    );
-    assert_eq!(rt;
-        (ring.transform(5), ring.transform(7), ring.transform(17)),
-        (40, 56, 136)
-    );
-    assert_eq!(rt; inverse(&ring, 5), Some(17));
-    assert_eq!(rt; inverse(&ring, 7), None);
+}
+
+#[test]
+fn rows(rt: HostRuntime) {
+    let ring = PreMulInv2by1::<u8>::new(21);
+    let checks = [ring.check(&40), ring.check(&41), ring.check(&168)];
+    assert_eq!(rt; checks, [true, false, false]);
+    let forms = [ring.transform(5), ring.transform(7), ring.transform(17)];
+    assert_eq!(rt; forms, [40, 56, 136]);
+    assert_eq!(rt; [inverse(&ring, 5), inverse(&ring, 7)], [Some(17), None]);
     assert_eq!(rt; ring.is_zero(&ring.transform(42)), true);
 }
 
 #[test]
 fn widest_words(rt: HostRuntime) {
     let ring = PreMulInv2by1::<u64>::new(u64::MAX);
-    assert_eq!(rt; by_values(&ring, u64::MAX - 1, u64::MAX - 1)[2], 1);
+    assert_eq!(rt; of_two(&ring, u64::MAX - 1, u64::MAX - 1).2, 1);
     let ring = PreMulInv2by1::<usize>::new(1000);
     assert_eq!(rt; power(&ring, 2, 10), 24);
     let ring = PreMulInv2by1::<u32>::new(5000);
@@ -100,16 +107,20 @@ fn operations_on_bytes(rt: HostRuntime) {
                 for b in 0..=255u8 {
                     let (n, k) = (a as u32, b as u32);
                     let less = (256 * modulus - k) % modulus;
-                    let want = [
+                    let want = (
                         ((n + k) % modulus) as u8,
                         ((n + less) % modulus) as u8,
                         (n * k % modulus) as u8,
-                        (2 * n % modulus) as u8,
-                        ((256 * modulus - n) % modulus) as u8,
-                        (n * n % modulus) as u8,
-                    ];
-                    assert_eq!(rt; by_values(&ring, a, b), want, "{a} and {b} modulo {m}");
+                    );
+                    assert_eq!(rt; of_two(&ring, a, b), want, "{a} and {b} modulo {m}");
                 }
+                let n = a as u32;
+                let want = (
+                    (2 * n % modulus) as u8,
+                    ((256 * modulus - n) % modulus) as u8,
+                    (n * n % modulus) as u8,
+                );
+                assert_eq!(rt; of_one(&ring, a), want, "{a} modulo {m}");
             }
         }
     }
