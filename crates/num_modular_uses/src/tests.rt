@@ -7,5 +7,6 @@ mod hostile;
 mod integers;
 mod plain;
 mod rings;
+mod runs;
 mod symbols;
 mod words;

@@ -7,18 +7,28 @@ use num_modular::{DivExact, DivExactAssign, PreMulInv2by1, Reducer};
 use std::test::Fail;
 
 #[test]
-fn dividers(rt: HostRuntime) -> Result<(), Fail> {
+fn a_divider_by_a_multiplier(rt: HostRuntime) -> Result<(), Fail> {
     let three = PreMulInv1by1::<u8>::new(3);
     assert_eq!(rt; three.div_rem(255, 3), (85, 0));
     assert_eq!(rt; 255u8.div_exact(3, &three), Some(85));
     let mut number = 254u8;
     assert!(rt; !number.div_exact_assign(3, &three));
     assert_eq!(rt; number, 254);
-    assert_eq!(rt; Normalized2by1Divisor::<u8>::invert_word(128), 255);
+    Ok(())
+}
+
+#[test]
+fn a_divider_by_a_reciprocal(rt: HostRuntime) -> Result<(), Fail> {
     let divisor = Normalized2by1Divisor::<u8>::new(128);
-    assert_eq!(rt; divisor.divisor(), 128);
-    assert_eq!(rt; divisor.div_rem_1by1(255), (1, 127));
-    assert_eq!(rt; divisor.div_rem_2by1(32767), (255, 127));
+    let found = [
+        (
+            Normalized2by1Divisor::<u8>::invert_word(128),
+            divisor.divisor(),
+        ),
+        divisor.div_rem_1by1(255),
+        divisor.div_rem_2by1(32767),
+    ];
+    assert_eq!(rt; found, [(255, 128), (1, 127), (255, 127)]);
     Ok(())
 }
 
@@ -38,17 +48,29 @@ fn the_parts_of_a_scaled_reducer(rt: HostRuntime) -> Result<(), Fail> {
 fn prepared_inverses(rt: HostRuntime) -> Result<(), Fail> {
     let seven = PreModInv::<u8>::from(7);
     assert_eq!(rt; 252u8.div_exact(7, &seven), Some(36));
-    assert_eq!(rt;
-        65534u16.div_exact(7, &PreModInv::<u8>::new(183, 36)),
-        Some(9362)
-    );
     let mut number = 253u8;
     assert!(rt; !number.div_exact_assign(7, &seven));
     assert_eq!(rt; number, 253);
-    assert_eq!(rt; neg_mod_inv::w8::neginv(7), 73);
-    assert_eq!(rt; neg_mod_inv::w16::neginv(1), 65535);
-    assert_eq!(rt; neg_mod_inv::w32::neginv(1), u32::MAX);
-    assert_eq!(rt; num_modular::monty::neg_mod_inv::w64::neginv(1), u64::MAX);
-    assert_eq!(rt; neg_mod_inv::wsize::neginv(1), usize::MAX);
+    Ok(())
+}
+
+#[test]
+fn a_prepared_inverse_from_its_parts(rt: HostRuntime) -> Result<(), Fail> {
+    let seven = PreModInv::<u8>::new(183, 36);
+    assert_eq!(rt; 65534u16.div_exact(7, &seven), Some(9362));
+    Ok(())
+}
+
+#[test]
+fn negated_inverses(rt: HostRuntime) -> Result<(), Fail> {
+    let found = [
+        neg_mod_inv::w8::neginv(7) as u64,
+        neg_mod_inv::w16::neginv(1) as u64,
+        neg_mod_inv::w32::neginv(1) as u64,
+        num_modular::monty::neg_mod_inv::w64::neginv(1),
+        neg_mod_inv::wsize::neginv(1) as u64,
+    ];
+    let greatest = u64::MAX;
+    assert_eq!(rt; found, [73, 65535, 4294967295, greatest, greatest]);
     Ok(())
 }

@@ -1,71 +1,35 @@
 //! The reducers of fixed moduli, and integers over them.
 
-use num_modular::ring::{RingCommand, RunEnd, all_checked, commands_fit, run};
+use super::runs::run_over;
+use num_modular::ring::{RingCommand, RunEnd};
 use num_modular::{
     FixedMontgomery32, FixedMontgomery64, FixedMontgomeryInt32, FixedMontgomeryInt64, FixedProth32,
     FixedProth64, FixedProthInt32, FixedProthInt64, ModularInteger, Reducer, Vanilla,
 };
 use std::test::Fail;
 
-// The end of a run over five registers of value 0, and their residues then.
-fn run_32<R: Reducer<u32>>(
-    reducer: &R,
-    commands: &[RingCommand<u32>],
-) -> (Option<RunEnd>, [u32; 5]) {
-    let mut registers = [reducer.transform(0); 5];
-    if all_checked(reducer, &registers) && commands_fit(commands, 5) {
-        let end = Some(run(reducer, &mut registers, commands));
-        let residues = [
-            reducer.residue(registers[0]),
-            reducer.residue(registers[1]),
-            reducer.residue(registers[2]),
-            reducer.residue(registers[3]),
-            reducer.residue(registers[4]),
-        ];
-        (end, residues)
-    } else {
-        (None, [0; 5])
-    }
-}
-
-fn run_64<R: Reducer<u64>>(
-    reducer: &R,
-    commands: &[RingCommand<u64>],
-) -> (Option<RunEnd>, [u64; 3]) {
-    let mut registers = [reducer.transform(0); 3];
-    if all_checked(reducer, &registers) && commands_fit(commands, 3) {
-        let end = Some(run(reducer, &mut registers, commands));
-        let residues = [
-            reducer.residue(registers[0]),
-            reducer.residue(registers[1]),
-            reducer.residue(registers[2]),
-        ];
-        (end, residues)
-    } else {
-        (None, [0; 3])
-    }
-}
+// 255, its inverse, its powers 0 and 1, and its negative.
+const OF_255: [RingCommand<u32>; 5] = [
+    RingCommand::Load { dst: 0, n: 255 },
+    RingCommand::Inv { dst: 1, a: 0 },
+    RingCommand::Pow {
+        dst: 2,
+        a: 0,
+        exp: 0,
+    },
+    RingCommand::Pow {
+        dst: 3,
+        a: 0,
+        exp: 1,
+    },
+    RingCommand::Neg { dst: 4, a: 0 },
+];
 
 #[test]
 fn modulo_1(rt: HostRuntime) -> Result<(), Fail> {
-    let commands = [
-        RingCommand::Load { dst: 0, n: 255 },
-        RingCommand::Inv { dst: 1, a: 0 },
-        RingCommand::Pow {
-            dst: 2,
-            a: 0,
-            exp: 0,
-        },
-        RingCommand::Pow {
-            dst: 3,
-            a: 0,
-            exp: 1,
-        },
-        RingCommand::Neg { dst: 4, a: 0 },
-    ];
-    let end = (Some(RunEnd::Done), [0; 5]);
-    assert_eq!(rt; run_32(&FixedMontgomery32::<1>::new(&1), &commands), end);
-    assert_eq!(rt; run_32(&Vanilla::<u32>::new(&1), &commands), end);
+    let found = run_over(&FixedMontgomery32::<1>::new(&1), &OF_255);
+    assert_eq!(rt; found, (Some(RunEnd::Done), [0; 5]));
+    assert_eq!(rt; run_over(&Vanilla::<u32>::new(&1), &OF_255), found);
     Ok(())
 }
 
@@ -81,35 +45,53 @@ const SMALL: [RingCommand<u32>; 5] = [
 #[test]
 fn modulo_17(rt: HostRuntime) -> Result<(), Fail> {
     let end = (Some(RunEnd::NoInverse { at: 4 }), [3, 5, 8, 15, 0]);
-    assert_eq!(rt; FixedMontgomery32::<17>::fixed_modulus(), 17);
-    assert_eq!(rt; run_32(&FixedMontgomery32::<17>::new(&17), &SMALL), end);
-    assert_eq!(rt; FixedProth32::<4, 1>::fixed_modulus(), 17);
-    assert_eq!(rt; run_32(&FixedProth32::<4, 1>::new(&17), &SMALL), end);
-    assert_eq!(rt; run_32(&Vanilla::<u32>::new(&17), &SMALL), end);
+    assert_eq!(rt; run_over(&FixedMontgomery32::<17>::new(&17), &SMALL), end);
+    assert_eq!(rt; run_over(&FixedProth32::<4, 1>::new(&17), &SMALL), end);
+    assert_eq!(rt; run_over(&Vanilla::<u32>::new(&17), &SMALL), end);
     Ok(())
 }
+
+// 10, 20 and their product.
+const PRODUCT: [RingCommand<u64>; 3] = [
+    RingCommand::Load { dst: 0, n: 10 },
+    RingCommand::Load { dst: 1, n: 20 },
+    RingCommand::Mul { dst: 2, a: 0, b: 1 },
+];
 
 #[test]
 fn modulo_97(rt: HostRuntime) -> Result<(), Fail> {
-    let commands = [
-        RingCommand::Load { dst: 0, n: 10 },
-        RingCommand::Load { dst: 1, n: 20 },
-        RingCommand::Mul { dst: 2, a: 0, b: 1 },
-    ];
-    let end = (Some(RunEnd::Done), [10, 20, 6]);
-    assert_eq!(rt; FixedMontgomery64::<97>::fixed_modulus(), 97);
-    assert_eq!(rt; run_64(&FixedMontgomery64::<97>::new(&97), &commands), end);
-    assert_eq!(rt; FixedProth64::<5, 3>::fixed_modulus(), 97);
-    assert_eq!(rt; run_64(&FixedProth64::<5, 3>::new(&97), &commands), end);
+    let end = (Some(RunEnd::Done), [10, 20, 6, 0, 0]);
+    assert_eq!(rt; run_over(&FixedMontgomery64::<97>::new(&97), &PRODUCT), end);
+    assert_eq!(rt; run_over(&FixedProth64::<5, 3>::new(&97), &PRODUCT), end);
     Ok(())
 }
 
 #[test]
-fn integers_over_fixed_moduli(rt: HostRuntime) -> Result<(), Fail> {
+fn fixed_moduli(rt: HostRuntime) -> Result<(), Fail> {
+    let found = [
+        FixedMontgomery32::<17>::fixed_modulus(),
+        FixedProth32::<4, 1>::fixed_modulus(),
+    ];
+    assert_eq!(rt; found, [17, 17]);
+    let found = [
+        FixedMontgomery64::<97>::fixed_modulus(),
+        FixedProth64::<5, 3>::fixed_modulus(),
+    ];
+    assert_eq!(rt; found, [97, 97]);
+    Ok(())
+}
+
+#[test]
+fn integers_of_montgomery_forms(rt: HostRuntime) -> Result<(), Fail> {
     let x = FixedMontgomeryInt32::<17>::new(3, &17);
     assert_eq!(rt; ((x * 5).residue(), x.modulus()), (15, 17));
     let x = FixedMontgomeryInt64::<97>::new(10, &97);
     assert_eq!(rt; (x * 20).residue(), 6);
+    Ok(())
+}
+
+#[test]
+fn integers_modulo_proth_numbers(rt: HostRuntime) -> Result<(), Fail> {
     let x = FixedProthInt32::<4, 1>::new(3, &17);
     assert_eq!(rt; ((x + 5).residue(), (x * 5).residue()), (8, 15));
     let x = FixedProthInt64::<5, 3>::new(10, &97);

@@ -1,6 +1,7 @@
 //! The reducers of moduli near a power of two, and the same commands over each.
 
-use num_modular::ring::{RingCommand, RunEnd, all_checked, commands_fit, run};
+use super::runs::run_over;
+use num_modular::ring::{RingCommand, RunEnd};
 use num_modular::word::RingWord;
 use num_modular::{
     FixedMersenne, FixedMersenne32, FixedMersenne64, FixedMersenneInt, FixedMersenneInt32,
@@ -8,35 +9,6 @@ use num_modular::{
     FixedTrinomialSolinas64, ModularAbs, ModularInteger, Reducer, Vanilla, imax, umax,
 };
 use std::test::Fail;
-
-// The residue of a form; a word that is no form is left.
-fn residue_of<T: RingWord, R: Reducer<T>>(reducer: &R, f: T) -> T {
-    if reducer.check(&f) {
-        reducer.residue(f)
-    } else {
-        f
-    }
-}
-
-// The end of a run over four registers of value 0, and their residues then.
-fn run_over<T: RingWord, R: Reducer<T>>(
-    reducer: &R,
-    commands: &[RingCommand<T>],
-) -> (Option<RunEnd>, [T; 4]) {
-    let mut registers = [reducer.transform(T::zero()); 4];
-    if all_checked(reducer, &registers) && commands_fit(commands, 4) {
-        let end = Some(run(reducer, &mut registers, commands));
-        let residues = [
-            residue_of(reducer, registers[0]),
-            residue_of(reducer, registers[1]),
-            residue_of(reducer, registers[2]),
-            residue_of(reducer, registers[3]),
-        ];
-        (end, residues)
-    } else {
-        (None, registers)
-    }
-}
 
 // Two loads, a product, an inverse and a difference; then the inverse of 0, which doesn't exist.
 fn commands<T: RingWord>(greatest: T, last: T) -> [RingCommand<T>; 6] {
@@ -59,11 +31,11 @@ const END: Option<RunEnd> = Some(RunEnd::NoInverse { at: 5 });
 fn the_run_over_mersenne_moduli_of_32_bits(rt: HostRuntime) -> Result<(), Fail> {
     let list = commands(u32::MAX, 2);
     let found = run_over(&FixedMersenne32::<2, 1>::new(&3), &list);
-    assert_eq!(rt; found, (END, [0, 2, 1, 0]));
+    assert_eq!(rt; found, (END, [0, 2, 1, 0, 0]));
     assert_eq!(rt; found, run_over(&Vanilla::<u32>::new(&3), &list));
     let list = commands(u32::MAX, 4294967290);
     let found = run_over(&FixedMersenne32::<32, 5>::new(&4294967291), &list);
-    assert_eq!(rt; found, (END, [4, 4294967290, 1, 0]));
+    assert_eq!(rt; found, (END, [4, 4294967290, 1, 0, 0]));
     assert_eq!(rt; found, run_over(&Vanilla::<u32>::new(&4294967291), &list));
     Ok(())
 }
@@ -73,12 +45,12 @@ fn the_run_over_mersenne_moduli_of_64_bits(rt: HostRuntime) -> Result<(), Fail> 
     let m = 18446744073709551557;
     let list = commands(u64::MAX, m - 1);
     let found = run_over(&FixedMersenne64::<64, 59>::new(&m), &list);
-    assert_eq!(rt; found, (END, [58, m - 1, 1, 0]));
+    assert_eq!(rt; found, (END, [58, m - 1, 1, 0, 0]));
     assert_eq!(rt; found, run_over(&Vanilla::<u64>::new(&m), &list));
     let m = 18446744073709551557;
     let list = commands(umax::MAX, m - 1);
     let found = run_over(&FixedMersenne::<64, 59>::new(&m), &list);
-    assert_eq!(rt; found, (END, [3480, m - 1, 1, 0]));
+    assert_eq!(rt; found, (END, [3480, m - 1, 1, 0, 0]));
     Ok(())
 }
 
@@ -86,6 +58,11 @@ fn the_run_over_mersenne_moduli_of_64_bits(rt: HostRuntime) -> Result<(), Fail> 
 fn integers_modulo_mersenne_numbers(rt: HostRuntime) -> Result<(), Fail> {
     let a = FixedMersenneInt32::<13, 1>::new(100, &8191);
     assert_eq!(rt; ((a + 200).residue(), a.modulus()), (300, 8191));
+    Ok(())
+}
+
+#[test]
+fn integers_modulo_wide_mersenne_numbers(rt: HostRuntime) -> Result<(), Fail> {
     let a = FixedMersenneInt64::<61, 1>::new(1000, &2305843009213693951);
     assert_eq!(rt; (a * 2000).residue(), 2000000);
     let a = FixedMersenneInt::<31, 1>::new(1000, &2147483647);
@@ -117,7 +94,7 @@ fn residues_of_words(rt: HostRuntime) -> Result<(), Fail> {
 fn the_run_over_solinas_moduli_of_32_bits(rt: HostRuntime) -> Result<(), Fail> {
     let list = commands(u32::MAX, 12);
     let found = run_over(&FixedTrinomialSolinas32::<5, 4, -3>::new(&13), &list);
-    assert_eq!(rt; found, (END, [8, 12, 1, 0]));
+    assert_eq!(rt; found, (END, [8, 12, 1, 0, 0]));
     assert_eq!(rt;
         found,
         run_over(&FixedTrinomialSolinas32::<4, 2, 1>::new(&13), &list)
@@ -128,7 +105,7 @@ fn the_run_over_solinas_moduli_of_32_bits(rt: HostRuntime) -> Result<(), Fail> {
         &FixedTrinomialSolinas32::<32, 31, -1>::new(&2147483647),
         &list,
     );
-    assert_eq!(rt; found, (END, [1, 2147483646, 1, 0]));
+    assert_eq!(rt; found, (END, [1, 2147483646, 1, 0, 0]));
     assert_eq!(rt; found, run_over(&Vanilla::<u32>::new(&2147483647), &list));
     Ok(())
 }
@@ -138,7 +115,7 @@ fn the_run_over_a_solinas_modulus_of_64_bits(rt: HostRuntime) -> Result<(), Fail
     let m = 18446744069414584321;
     let list = commands(u64::MAX, m - 1);
     let found = run_over(&FixedTrinomialSolinas64::<64, 32, 1>::new(&m), &list);
-    assert_eq!(rt; found, (END, [4294967294, m - 1, 1, 0]));
+    assert_eq!(rt; found, (END, [4294967294, m - 1, 1, 0, 0]));
     assert_eq!(rt; found, run_over(&Vanilla::<u64>::new(&m), &list));
     Ok(())
 }
@@ -161,7 +138,7 @@ fn the_run_modulo_1(rt: HostRuntime) -> Result<(), Fail> {
         RingCommand::Neg { dst: 0, a: 0 },
     ];
     let found = run_over(&FixedTrinomialSolinas32::<2, 1, -1>::new(&1), &list);
-    assert_eq!(rt; found, (Some(RunEnd::Done), [0, 0, 0, 0]));
+    assert_eq!(rt; found, (Some(RunEnd::Done), [0; 5]));
     assert_eq!(rt; found, run_over(&Vanilla::<u32>::new(&1), &list));
     Ok(())
 }
@@ -172,11 +149,19 @@ fn integers_modulo_solinas_numbers(rt: HostRuntime) -> Result<(), Fail> {
     assert_eq!(rt; ((a + 5).residue(), a.modulus()), (8, 13));
     let a = FixedSolinasInt64::<6, 2, 1>::new(10, &61);
     assert_eq!(rt; (a * 20).residue(), 17);
+    Ok(())
+}
+
+#[test]
+fn integers_modulo_a_solinas_number_of_64_bits(rt: HostRuntime) -> Result<(), Fail> {
     let m = 18446744069414584321;
     let a = FixedSolinasInt64::<64, 32, 1>::new(m - 1, &m);
-    assert_eq!(rt; (a + (m - 2)).residue(), 18446744069414584318);
-    assert_eq!(rt; a.double().residue(), 18446744069414584319);
-    assert_eq!(rt; a.square().residue(), 1);
+    let found = [
+        (a + (m - 2)).residue(),
+        a.double().residue(),
+        a.square().residue(),
+    ];
+    assert_eq!(rt; found, [18446744069414584318, 18446744069414584319, 1]);
     Ok(())
 }
 

@@ -37,15 +37,25 @@ fn operations_by_one_bound(rt: HostRuntime) {
 #[test]
 fn operations_over_references(rt: HostRuntime) {
     let (a, b, m) = (11u8, 9u8, 7u8);
-    assert_eq!(rt; a.addm_ref(&b, &m), 6);
-    assert_eq!(rt; a.subm_ref(&b, &m), 2);
-    assert_eq!(rt; a.mulm_ref(&b, &m), 1);
-    assert_eq!(rt; a.negm_ref(&m), 3);
-    assert_eq!(rt; a.invm_ref(&m), Some(2));
-    assert_eq!(rt; a.dblm_ref(&m), 1);
-    assert_eq!(rt; a.sqm_ref(&m), 2);
-    assert_eq!(rt; a.powm_ref(&b, &m), 1);
-    assert_eq!(rt; b.checked_legendre_ref(&17), Some(1));
-    assert_eq!(rt; b.checked_jacobi_ref(&m), Some(1));
-    assert_eq!(rt; m.kronecker_ref(&15), -1);
+    let of_two = [
+        a.addm_ref(&b, &m),
+        a.subm_ref(&b, &m),
+        a.mulm_ref(&b, &m),
+        a.powm_ref(&b, &m),
+    ];
+    assert_eq!(rt; of_two, [6, 2, 1, 1]);
+}
+
+#[test]
+fn operations_over_one_reference(rt: HostRuntime) {
+    let (a, m) = (11u8, 7u8);
+    let of_one = [a.negm_ref(&m), a.dblm_ref(&m), a.sqm_ref(&m)];
+    assert_eq!(rt; (of_one, a.invm_ref(&m)), ([3, 1, 2], Some(2)));
+}
+
+#[test]
+fn symbols_over_references(rt: HostRuntime) {
+    let (b, m) = (9u8, 7u8);
+    let found = [b.checked_legendre_ref(&17), b.checked_jacobi_ref(&m)];
+    assert_eq!(rt; (found, m.kronecker_ref(&15)), ([Some(1), Some(1)], -1));
 }

@@ -6,109 +6,128 @@ use std::test::Fail;
 
 #[test]
 fn helpers_of_w8(rt: HostRuntime) -> Result<(), Fail> {
-    assert_eq!(rt; (num_modular::word::w8::ones(0), w8::ones(8)), (0, u8::MAX));
+    let words = [
+        num_modular::word::w8::ones(0),
+        w8::ones(8),
+        w8::low(0x1234),
+        w8::high(0x1234),
+        w8::nrem(1000, 7),
+    ];
+    assert_eq!(rt; words, [0, u8::MAX, 0x34, 0x12, 6]);
+    let doubles = [w8::merge(0x34, 0x12), w8::wmul(15, 17), w8::wsqr(15)];
+    assert_eq!(rt; doubles, [0x1234, 255, w8::extend(225)]);
     assert_eq!(rt; w8::split(0x1234), (0x34, 0x12));
-    assert_eq!(rt; (w8::low(0x1234), w8::high(0x1234)), (0x34, 0x12));
-    assert_eq!(rt; w8::merge(0x34, 0x12), 0x1234);
-    assert_eq!(rt; w8::wmul(15, 17), 255);
-    assert_eq!(rt; w8::wsqr(15), w8::extend(225));
-    assert_eq!(rt; w8::nrem(1000, 7), 6);
     Ok(())
 }
 
 #[test]
 fn helpers_of_w16(rt: HostRuntime) -> Result<(), Fail> {
-    assert_eq!(rt;
-        (num_modular::word::w16::ones(0), w16::ones(16)),
-        (0, u16::MAX)
-    );
+    let words = [
+        num_modular::word::w16::ones(0),
+        w16::ones(16),
+        w16::low(0x1234_5678),
+        w16::high(0x1234_5678),
+        w16::nrem(1000, 7),
+    ];
+    assert_eq!(rt; words, [0, u16::MAX, 0x5678, 0x1234, 6]);
+    let doubles = [w16::merge(0x5678, 0x1234), w16::wmul(15, 17), w16::wsqr(15)];
+    assert_eq!(rt; doubles, [0x1234_5678, 255, w16::extend(225)]);
     assert_eq!(rt; w16::split(0x1234_5678), (0x5678, 0x1234));
-    assert_eq!(rt;
-        (w16::low(0x1234_5678), w16::high(0x1234_5678)),
-        (0x5678, 0x1234)
-    );
-    assert_eq!(rt; w16::merge(0x5678, 0x1234), 0x1234_5678);
-    assert_eq!(rt; w16::wmul(15, 17), 255);
-    assert_eq!(rt; w16::wsqr(15), w16::extend(225));
-    assert_eq!(rt; w16::nrem(1000, 7), 6);
     Ok(())
 }
 
 #[test]
 fn helpers_of_w32(rt: HostRuntime) -> Result<(), Fail> {
-    assert_eq!(rt;
-        (num_modular::word::w32::ones(0), w32::ones(32)),
-        (0, u32::MAX)
-    );
+    let words = [
+        num_modular::word::w32::ones(0),
+        w32::ones(32),
+        w32::low(0x1234_5678_9abc_def0),
+        w32::high(0x1234_5678_9abc_def0),
+        w32::nrem(1000, 7),
+    ];
+    assert_eq!(rt; words, [0, u32::MAX, 0x9abc_def0, 0x1234_5678, 6]);
+    let doubles = [
+        w32::merge(0x9abc_def0, 0x1234_5678),
+        w32::wmul(15, 17),
+        w32::wsqr(15),
+    ];
+    assert_eq!(rt; doubles, [0x1234_5678_9abc_def0, 255, w32::extend(225)]);
     assert_eq!(rt;
         w32::split(0x1234_5678_9abc_def0),
         (0x9abc_def0, 0x1234_5678)
     );
-    assert_eq!(rt;
-        (
-            w32::low(0x1234_5678_9abc_def0),
-            w32::high(0x1234_5678_9abc_def0)
-        ),
-        (0x9abc_def0, 0x1234_5678)
-    );
-    assert_eq!(rt; w32::merge(0x9abc_def0, 0x1234_5678), 0x1234_5678_9abc_def0);
-    assert_eq!(rt; w32::wmul(15, 17), 255);
-    assert_eq!(rt; w32::wsqr(15), w32::extend(225));
-    assert_eq!(rt; w32::nrem(1000, 7), 6);
     Ok(())
 }
 
 #[test]
 fn helpers_of_w64(rt: HostRuntime) -> Result<(), Fail> {
+    let words = [
+        num_modular::word::w64::ones(0),
+        w64::ones(64),
+        w64::low(0x1234_5678_9abc_def0_0fed_cba9_8765_4321),
+        w64::high(0x1234_5678_9abc_def0_0fed_cba9_8765_4321),
+        w64::nrem(1000, 7),
+    ];
     assert_eq!(rt;
-        (num_modular::word::w64::ones(0), w64::ones(64)),
-        (0, u64::MAX)
+        words,
+        [0, u64::MAX, 0x0fed_cba9_8765_4321, 0x1234_5678_9abc_def0, 6]
+    );
+    let doubles = [
+        w64::merge(0x0fed_cba9_8765_4321, 0x1234_5678_9abc_def0),
+        w64::wmul(15, 17),
+        w64::wsqr(15),
+    ];
+    assert_eq!(rt;
+        doubles,
+        [
+            0x1234_5678_9abc_def0_0fed_cba9_8765_4321,
+            255,
+            w64::extend(225)
+        ]
     );
     assert_eq!(rt;
         w64::split(0x1234_5678_9abc_def0_0fed_cba9_8765_4321),
         (0x0fed_cba9_8765_4321, 0x1234_5678_9abc_def0)
     );
-    assert_eq!(rt;
-        (
-            w64::low(0x1234_5678_9abc_def0_0fed_cba9_8765_4321),
-            w64::high(0x1234_5678_9abc_def0_0fed_cba9_8765_4321)
-        ),
-        (0x0fed_cba9_8765_4321, 0x1234_5678_9abc_def0)
-    );
-    assert_eq!(rt;
-        w64::merge(0x0fed_cba9_8765_4321, 0x1234_5678_9abc_def0),
-        0x1234_5678_9abc_def0_0fed_cba9_8765_4321
-    );
-    assert_eq!(rt; w64::wmul(15, 17), 255);
-    assert_eq!(rt; w64::wsqr(15), w64::extend(225));
-    assert_eq!(rt; w64::nrem(1000, 7), 6);
     Ok(())
 }
 
 #[test]
 fn helpers_of_wsize(rt: HostRuntime) -> Result<(), Fail> {
+    let words = [
+        num_modular::word::wsize::ones(0),
+        wsize::ones(64),
+        wsize::low(0x1234_5678_9abc_def0_0fed_cba9_8765_4321),
+        wsize::high(0x1234_5678_9abc_def0_0fed_cba9_8765_4321),
+        wsize::nrem(1000, 7),
+    ];
     assert_eq!(rt;
-        (num_modular::word::wsize::ones(0), wsize::ones(64)),
-        (0, usize::MAX)
+        words,
+        [
+            0,
+            usize::MAX,
+            0x0fed_cba9_8765_4321,
+            0x1234_5678_9abc_def0,
+            6
+        ]
+    );
+    let doubles = [
+        wsize::merge(0x0fed_cba9_8765_4321, 0x1234_5678_9abc_def0),
+        wsize::wmul(15, 17),
+        wsize::wsqr(15),
+    ];
+    assert_eq!(rt;
+        doubles,
+        [
+            0x1234_5678_9abc_def0_0fed_cba9_8765_4321,
+            255,
+            wsize::extend(225)
+        ]
     );
     assert_eq!(rt;
         wsize::split(0x1234_5678_9abc_def0_0fed_cba9_8765_4321),
         (0x0fed_cba9_8765_4321, 0x1234_5678_9abc_def0)
     );
-    assert_eq!(rt;
-        (
-            wsize::low(0x1234_5678_9abc_def0_0fed_cba9_8765_4321),
-            wsize::high(0x1234_5678_9abc_def0_0fed_cba9_8765_4321)
-        ),
-        (0x0fed_cba9_8765_4321, 0x1234_5678_9abc_def0)
-    );
-    assert_eq!(rt;
-        wsize::merge(0x0fed_cba9_8765_4321, 0x1234_5678_9abc_def0),
-        0x1234_5678_9abc_def0_0fed_cba9_8765_4321
-    );
-    assert_eq!(rt; wsize::wmul(15, 17), 255);
-    assert_eq!(rt; wsize::wsqr(15), wsize::extend(225));
-    assert_eq!(rt; wsize::nrem(1000, 7), 6);
     Ok(())
 }
 
