@@ -1,7 +1,7 @@
 -- How far folds in a row take a number that is no more than a product of two numbers below 2^p.
 use Rattle.std.proofs.Common.{◌≡◌, ℕ, zero, suc, ◌+◌, ◌*◌, ◌/◌, ◌%◌, ◌^◌, ◌<◌, ◌≤◌, arith, lit<}
-use Rattle.std.proofs.Math.Nat.{mul-le-mul_left, mul-le-mul_right, div-lt_iff_lt-mul, mod-lt, pow-le-pow_right}
-use Rattle.std.proofs.lemmas.Nat.{shr_split, pow_pos, pow-add}
+use Rattle.std.proofs.Math.Nat.{mul-le-mul_right, div-lt_iff_lt-mul, mod-lt, pow-le-pow_right}
+use Rattle.std.proofs.lemmas.Nat.{shr_split, pow_pos, pow-add, mul-le}
 use Rattle.modular_folds.specs.Folds.{fold_of}
 
 -- a number that is less than 2 * b by c has a quotient of 1 at most
@@ -38,14 +38,13 @@ first_fold_by_one p v product =
     omega (arith, product, low)
 
 -- a factor of half as many bits as p has a small square
-pub small_square : (p c : ℕ) → c < 2 ^ (p / 2) → c * c + c ≤ 2 ^ p
+pub small_square : (p c : ℕ) → c < 2 ^ (p / 2) → c * c + 2 * c < 2 ^ p
 small_square p c less =
-    let one : suc c * c ≤ 2 ^ (p / 2) * c = mul-le-mul_right c less in
-    let two : 2 ^ (p / 2) * c ≤ 2 ^ (p / 2) * 2 ^ (p / 2) = mul-le-mul_left (2 ^ (p / 2)) (omega (arith, less)) in
+    let square : suc c * suc c ≤ 2 ^ (p / 2) * 2 ^ (p / 2) = mul-le (suc c) (suc c) (2 ^ (p / 2)) (2 ^ (p / 2)) less less in
     let whole : 2 ^ (p / 2 + p / 2) ≡ 2 ^ (p / 2) * 2 ^ (p / 2) = pow-add 2 (p / 2) (p / 2) in
     let halves : p / 2 + p / 2 ≤ p = omega arith in
     let most = pow-le-pow_right {n = 2} (lit< tt) halves in
-    omega (arith, one, two, whole, most)
+    omega (arith, square, whole, most)
 
 -- a number that has no part above the bit p is below 2^p
 pub low_only : (p v : ℕ) → v / 2 ^ p ≡ 0 → v < 2 ^ p

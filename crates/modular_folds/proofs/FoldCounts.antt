@@ -111,7 +111,7 @@ few_folds p c v n b is = record {
       λ one l. let few = few_by_one p v (omega (arith, one)) (high_part p v l) in
       omega (arith, few, ap (λ d. folds p d v) one);
   three =
-      λ small l. let few = few_by_small p c v (omega arith) (small_square p c small) (high_part p v l) in
+      λ small l. let few = few_by_small p c v (omega arith) (omega (arith, small_square p c small)) (high_part p v l) in
       omega (arith, few);
 }
 

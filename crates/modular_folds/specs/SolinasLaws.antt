@@ -1,9 +1,8 @@
 -- What is known of a modulus 2^p1 - 2^p2 + k whose parameters are in range.
-use Rattle.std.proofs.Common.{◌≡◌, ℕ, suc, ◌+◌, ◌*◌, ◌/◌, ◌%◌, ◌^◌, ◌<◌, ◌≤◌, ℤ, pos, negsuc, ◌+ℤ◌, ◌-ℤ◌, ◌<ℤ◌, ◌≤ℤ◌, nat_abs, arith, lit<, ⊎_elim}
+use Rattle.std.proofs.Common.{◌≡◌, ℕ, suc, ◌+◌, ◌*◌, ◌%◌, ◌^◌, ◌<◌, ◌≤◌, ℤ, pos, negsuc, ◌+ℤ◌, ◌-ℤ◌, ◌<ℤ◌, ◌≤ℤ◌, nat_abs, arith, lit<, ⊎_elim}
 use Rattle.std.specs.Int.Signed.{pos-nat_abs, yes_non_neg}
 use Rattle.std.proofs.Math.Nat.{pow-le-pow_right, pow-suc}
 use Rattle.std.proofs.lemmas.Bool.{cases_lt}
-use Rattle.std.proofs.lemmas.Nat.{mul-lt, pow-add}
 use Rattle.std.proofs.lemmas.Int.{ints}
 use Rattle.modular_reduced.specs.Forms.{IsCanonical}
 use Rattle.modular_reduced.specs.Plain.{plain_form, plain_value, plain_canonical}
@@ -55,16 +54,6 @@ power_fits r = pow-le-pow_right {n = 2} (lit< tt) r.fits
 -- so the modulus fits a word of w bits
 pub trinomial_fits : {w p1 p2 : ℕ} {k : ℤ} → IsTrinomialRange w p1 p2 k → trinomial p1 p2 k < 2 ^ w
 trinomial_fits r = omega (arith, power_fits r, trinomial_below r)
-
--- the product of two numbers below it fits a word of w bits where p1 is half of w at most
-pub product_fits : {w p1 p2 : ℕ} {k : ℤ} → (a b : ℕ) → IsTrinomialRange w p1 p2 k → p1 ≤ w / 2
-    → a < trinomial p1 p2 k → b < trinomial p1 p2 k → a * b < 2 ^ w
-product_fits {w} {p1} {p2} {k} a b r narrow left right =
-    let below = trinomial_below r in
-    let small : a * b < 2 ^ p1 * 2 ^ p1 = mul-lt a b (2 ^ p1) (2 ^ p1) (omega (arith, below, left)) (omega (arith, below, right)) in
-    let whole : 2 ^ (p1 + p1) ≡ 2 ^ p1 * 2 ^ p1 = pow-add 2 p1 p1 in
-    let more = pow-le-pow_right {n = 2} (lit< tt) (let e : p1 + p1 ≤ w = omega (arith, narrow) in e) in
-    omega (arith, small, whole, more)
 
 -- it is more than half of 2^p1 where p2 is small
 half_far : {w p1 p2 : ℕ} {k : ℤ} → IsTrinomialRange w p1 p2 k → suc p2 < p1 → 2 ^ p1 < 2 * trinomial p1 p2 k

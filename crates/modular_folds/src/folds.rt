@@ -4,6 +4,7 @@ ghost use Rattle.std.specs.Prelude.{◌≡◌, ℕ, ◌+◌, ◌*◌, ◌/◌, �
 ghost use Rattle.modular_folds.specs.Folds.{fold_of, folds, IsFewFolds, IsFolding};
 
 use crate::fold_word::FoldWord;
+use modular_prim::plain_word::PlainWord;
 
 // One fold at the bit p: the part above it times c, plus the part below it. The mask has the bits
 // below p. A number that has no part above it stays as it is, which counts for no fold.
@@ -130,6 +131,31 @@ pub fn fold_laws()
     ensures next { (p c hi lo : ℕ) → c < 2 ^ p → lo < 2 ^ p → 0 < hi → folds p c (hi * 2 ^ p + lo) ≡ 1 + folds p c (hi * c + lo) }
     ensures few { (p c v : ℕ) → 2 * c < 2 ^ p → IsFewFolds p c v (folds p c v) }
 {}
+
+/// A word whose double words are reduced by folds: u32 and u64.
+pub trait FoldedWord: PlainWord {
+    /// A double word modulo m by folds at the bit p by c, and their number. Condition: they reduce modulo
+    /// m.
+    fn reduce_counted(v: Self::Double, p: u32, c: Self, m: Self) -> (Self, u32)
+        requires { IsFolding Self.width p (Self.number c) (Self.number m) }
+        ensures value { Self.number result.0 ≡ Self.whole v % Self.number m }
+        ensures count { result.1 ≡ folds p (Self.number c) (Self.whole v) }
+        ensures few { IsFewFolds p (Self.number c) (Self.whole v) result.1 };
+}
+
+impl FoldedWord for u32 {
+    fn reduce_counted(v: u64, p: u32, c: u32, m: u32) -> (u32, u32) {
+        let (rest, count) = reduce_by_folds(v, p, c as u64, m as u64);
+        (rest as u32, count)
+    }
+}
+
+impl FoldedWord for u64 {
+    fn reduce_counted(v: u128, p: u32, c: u64, m: u64) -> (u64, u32) {
+        let (rest, count) = reduce_by_folds(v, p, c as u128, m as u128);
+        (rest as u64, count)
+    }
+}
 
 #[cfg(test)]
 mod tests;

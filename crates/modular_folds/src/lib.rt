@@ -4,4 +4,5 @@
 pub mod fold_word;
 pub mod folds;
 pub mod mersenne;
+pub mod products;
 pub mod solinas;

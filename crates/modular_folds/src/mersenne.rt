@@ -7,7 +7,8 @@ ghost use Rattle.modular_folds.specs.Mersenne.{IsMersenneRange, IsMersenne, mers
 ghost use Rattle.modular_folds.specs.MersenneLaws.{mersenne_canonical};
 ghost use Rattle.std.proofs.Common.{lit≤, refl};
 
-use crate::folds::reduce_by_folds;
+use crate::folds::FoldedWord;
+use crate::products::reduce_product;
 use modular_prim::below::{add_below, dbl_below, neg_below, sub_below};
 use modular_prim::euclid::invm;
 use modular_reduced::reducer::Reducer;
@@ -58,8 +59,7 @@ impl<const P: u8, const K: u32> FixedMersenne32<P, K> {
         ensures count { result.1 ≡ folds P K v }
         ensures few { IsFewFolds P K v result.1 }
     {
-        let (rest, count) = reduce_by_folds(v, P as u32, K as u64, Self::fixed_modulus() as u64);
-        (rest as u32, count)
+        <u32 as FoldedWord>::reduce_counted(v, P as u32, K, Self::fixed_modulus())
     }
 }
 
@@ -117,7 +117,7 @@ impl<const P: u8, const K: u32> Reducer<u32> for FixedMersenne32<P, K> {
     }
 
     fn mul(&self, a: &u32, b: &u32) -> u32 {
-        Self::reduce_double(*a as u64 * *b as u64)
+        reduce_product(*a, *b, P as u32, K, Self::fixed_modulus())
     }
 
     fn inv(&self, f: u32) -> Option<u32> {
@@ -125,7 +125,7 @@ impl<const P: u8, const K: u32> Reducer<u32> for FixedMersenne32<P, K> {
     }
 
     fn sqr(&self, f: u32) -> u32 {
-        Self::reduce_double(f as u64 * f as u64)
+        reduce_product(f, f, P as u32, K, Self::fixed_modulus())
     }
 }
 
@@ -175,8 +175,7 @@ impl<const P: u8, const K: u64> FixedMersenne64<P, K> {
         ensures count { result.1 ≡ folds P K v }
         ensures few { IsFewFolds P K v result.1 }
     {
-        let (rest, count) = reduce_by_folds(v, P as u32, K as u128, Self::fixed_modulus() as u128);
-        (rest as u64, count)
+        <u64 as FoldedWord>::reduce_counted(v, P as u32, K, Self::fixed_modulus())
     }
 }
 
@@ -234,7 +233,7 @@ impl<const P: u8, const K: u64> Reducer<u64> for FixedMersenne64<P, K> {
     }
 
     fn mul(&self, a: &u64, b: &u64) -> u64 {
-        Self::reduce_double(*a as u128 * *b as u128)
+        reduce_product(*a, *b, P as u32, K, Self::fixed_modulus())
     }
 
     fn inv(&self, f: u64) -> Option<u64> {
@@ -242,7 +241,7 @@ impl<const P: u8, const K: u64> Reducer<u64> for FixedMersenne64<P, K> {
     }
 
     fn sqr(&self, f: u64) -> u64 {
-        Self::reduce_double(f as u128 * f as u128)
+        reduce_product(f, f, P as u32, K, Self::fixed_modulus())
     }
 }
 

@@ -3,11 +3,12 @@
 ghost use Rattle.std.specs.Prelude.{◌≡◌, ℕ, ℤ, ◌+◌, ◌*◌, ◌/◌, ◌%◌, ◌^◌, ◌<◌, ◌≤◌, ◌↔◌, IsTrue, pos, ◌+ℤ◌, ◌-ℤ◌, ⊤};
 ghost use Rattle.std.proofs.Common.{lit≤, refl};
 ghost use Rattle.modular_reduced.specs.Plain.{plain_form, plain_value};
-ghost use Rattle.modular_folds.specs.Folds.{folds, IsFewFolds, IsFolding};
+ghost use Rattle.modular_folds.specs.Folds.{folds, IsFewFolds};
 ghost use Rattle.modular_folds.specs.Solinas.{IsTrinomialRange, IsTrinomial, IsLowTrinomial, trinomial, trinomial_factor};
 ghost use Rattle.modular_folds.specs.SolinasLaws.{trinomial_canonical};
 
-use crate::folds::reduce_by_folds;
+use crate::folds::FoldedWord;
+use crate::products::reduce_product;
 use modular_prim::below::{add_below, dbl_below, neg_below, sub_below};
 use modular_prim::euclid::invm;
 use modular_prim::plain_word::PlainWord;
@@ -112,18 +113,11 @@ fn is_low(p1: u8, p2: u8, k: i64) -> bool
 }
 
 /// A word whose trinomial reducers exist: u32 and u64.
-pub trait TrinomialWord: PlainWord {
+pub trait TrinomialWord: FoldedWord {
     /// The word of a number. Condition: it fits.
     fn word_of(n: u64) -> Self
         requires { n < Self.base }
         ensures { Self.number result ≡ n };
-
-    /// A double word modulo m by folds at the bit p by c, and their number. Condition: they reduce modulo m.
-    fn fold_double(v: Self::Double, p: u32, c: Self, m: Self) -> (Self, u32)
-        requires { IsFolding Self.width p (Self.number c) (Self.number m) }
-        ensures value { Self.number result.0 ≡ Self.whole v % Self.number m }
-        ensures count { result.1 ≡ folds p (Self.number c) (Self.whole v) }
-        ensures few { IsFewFolds p (Self.number c) (Self.whole v) result.1 };
 
     // A word has 64 bits at most.
     ghost narrow: { Self.width ≤ 64 };
@@ -134,22 +128,12 @@ impl TrinomialWord for u32 {
         n as u32
     }
 
-    fn fold_double(v: u64, p: u32, c: u32, m: u32) -> (u32, u32) {
-        let (rest, count) = reduce_by_folds(v, p, c as u64, m as u64);
-        (rest as u32, count)
-    }
-
     ghost narrow = { lit≤ tt };
 }
 
 impl TrinomialWord for u64 {
     fn word_of(n: u64) -> u64 {
         n
-    }
-
-    fn fold_double(v: u128, p: u32, c: u64, m: u64) -> (u64, u32) {
-        let (rest, count) = reduce_by_folds(v, p, c as u128, m as u128);
-        (rest as u64, count)
     }
 
     ghost narrow = { lit≤ tt };
@@ -243,21 +227,21 @@ impl<T: TrinomialWord, F: Trinomial> TrinomialSolinas<T, F> {
         if is_low(F::p1(), F::p2(), F::k()) {
             (T::narrow_remainder(v, modulus), 0)
         } else {
-            T::fold_double(v, F::p1() as u32, Self::factor(), modulus)
+            T::reduce_counted(v, F::p1() as u32, Self::factor(), modulus)
         }
     }
 
-    // The product of words below m; one word holds it where p1 is half the width at most.
+    // The product of words below m.
     fn product_below(a: T, b: T) -> T
         requires range { IsTrinomialRange T.width F.p1 F.p2 F.k }
         requires left { T.number a < trinomial F.p1 F.p2 F.k }
         requires right { T.number b < trinomial F.p1 F.p2 F.k }
         ensures { T.number result ≡ (T.number a * T.number b) % trinomial F.p1 F.p2 F.k }
     {
-        if F::p1() as u32 <= T::bits() / 2 {
-            Self::reduce_single(a.times(b))
-        } else {
+        if is_low(F::p1(), F::p2(), F::k()) {
             Self::reduce_double(a.product(b))
+        } else {
+            reduce_product(a, b, F::p1() as u32, Self::factor(), Self::fixed_modulus())
         }
     }
 }

@@ -127,6 +127,8 @@ fn each_operation(rt: HostRuntime) -> Result<(), Fail> {
         residues(&small, 100, 200),
         [300, 8091, 3618, 200, 8091, 1809]
     );
+    let far = FixedMersenne32::<4, 7>::new(&9);
+    assert_eq!(rt; residues(&far, 5, 7), [3, 7, 8, 1, 4, 7]);
     let middle = FixedMersenne64::<61, 1>::new(&2305843009213693951);
     assert_eq!(rt;
         residues(&middle, 1000, 2000),
