@@ -3,7 +3,7 @@ use Rattle.std.proofs.Common.{◌≡◌, ℕ, zero, suc, ◌+◌, ◌*◌, ◌/�
 use Rattle.std.proofs.Math.Nat.{pow-suc, div-div-eq-div-mul, div-one, mod-one, mod-lt}
 use Rattle.std.specs.Int.Count.{count_trailing_zeros}
 use lib.Count.{under}
-use Rattle.modular_monty.specs.Montgomery.{montgomery_form, two_part, odd_part, split_form}
+use Rattle.modular_monty.specs.Montgomery.{montgomery_form, two_part, odd_part, split_form, IsOddRing, IsSplitRing}
 
 -- m, a number of w bits, is k * 2^s with an odd k
 pub record IsSplit (w m s k : ℕ) : Type 0 where
@@ -40,12 +40,25 @@ split_at zero m h k = absurd (omega arith)
 split_at (suc w) m h k =
     split_step w m (count_trailing_zeros w (m / 2)) (m % 2) refl (mod-lt m (omega arith)) h k (split_at w (m / 2))
 
--- so they split a number below the base b
-pub split_of : (w b m s k : ℕ) → b ≡ 2 ^ w → 0 < m → m < b → s ≡ count_trailing_zeros w m → k ≡ m / 2 ^ s
-    → IsSplit w m s k
-split_of w b m s k eb h l es ek =
-    let at = split_at w m h (omega (arith, eb)) in
-    subst (λ n. IsSplit w m s n) (sym ek) (subst (λ n. IsSplit w m n (m / 2 ^ n)) (sym es) at)
+-- so they split a number below the base b, h being what a shift leaves of it and k the same
+pub split_of : (w b m s h k : ℕ) → b ≡ 2 ^ w → 0 < m → m < b → s ≡ count_trailing_zeros w m → h ≡ m / 2 ^ s
+    → k ≡ h → IsSplit w m s k
+split_of w b m s h k eb some fits es eh ek =
+    let at = split_at w m some (omega (arith, eb)) in
+    subst (λ n. IsSplit w m s n) (sym (ek ∙ eh)) (subst (λ n. IsSplit w m n (m / 2 ^ n)) (sym es) at)
+
+-- and with what is kept of k they are what is kept of the number
+pub split_ring : (w b m s h k : ℕ) {i square : ℕ} → IsOddRing w b k i square → 0 < m → m < b
+    → s ≡ count_trailing_zeros w m → h ≡ m / 2 ^ s → k ≡ h → IsSplitRing w b (k * 2 ^ s) s k i square
+split_ring w b m s h k {i} {square} r some fits es eh ek =
+    let split = split_of w b m s h k r.base some fits es eh ek in
+    record {
+      odd = r;
+      twos = es ∙ ap (count_trailing_zeros w) (sym split.whole);
+      few = split.few;
+      whole = refl;
+      fits = omega (arith, split.whole);
+    }
 
 -- an odd number has none
 odd_twos : (w m : ℕ) → 0 < w → m % 2 ≡ 1 → count_trailing_zeros w m ≡ 0

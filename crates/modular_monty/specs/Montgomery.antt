@@ -20,10 +20,11 @@ pub record IsOddRing (w b m i square : ℕ) : Type 0 where
   pub inverse : IsNegatedInverse b m i
   pub is_square : square ≡ (b * b) % m
 
--- the greatest power of two that divides m, a number of w bits, and what is left of m
+-- the greatest power of two that divides m, a number of w bits
 abbrev pub two_part : ℕ → ℕ → ℕ
 two_part w m = 2 ^ count_trailing_zeros w m
 
+-- and what is left of m, an odd number
 abbrev pub odd_part : ℕ → ℕ → ℕ
 odd_part w m = m / two_part w m
 

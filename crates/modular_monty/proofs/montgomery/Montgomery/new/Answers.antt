@@ -1,7 +1,6 @@
 -- What is kept of m: its odd part, an odd number, and the exponent of the power of two.
-use Rattle.std.proofs.Common.{refl, sym, ap, ◌∙◌, arith}
-use Rattle.std.specs.Int.Count.{count_trailing_zeros}
-use Rattle.modular_monty.proofs.Twos.{split_of}
+use Rattle.std.proofs.Common.{refl}
+use Rattle.modular_monty.proofs.Twos.{split_of, split_ring}
 use Rattle.modular_monty.proofs.montgomery.Montgomery.new.Goals as goal
 
 pub new-requires : goal.new-requires
@@ -9,26 +8,19 @@ new-requires g c =
     let n = g.T.RingWord.number in
     let twos = c.trailing_zeros-twos in
     let split =
-    split_of g.T.RingWord.width g.T.PathWord.base (n c.args.m) twos.result (n c.shift_right.result)
-    g.met.T.PathWord.base_is c.requires twos.ensures.fits twos.ensures.value c.shift_right.ensures.value in
+    split_of g.T.RingWord.width g.T.PathWord.base (n c.args.m) twos.result (n c.shift_right.result) (n c.shift_right.result)
+    g.met.T.PathWord.base_is c.requires twos.ensures.fits twos.ensures.value c.shift_right.ensures.value refl in
     split.odd
 
 pub invariant_of-result : goal.invariant_of-result
 invariant_of-result g c =
     let n = g.T.RingWord.number in
-    let w = g.T.RingWord.width in
     let twos = c.trailing_zeros-twos in
-    let split =
-    split_of w g.T.PathWord.base (n c.args.m) twos.result (n c.new.result.of.modulus)
-    g.met.T.PathWord.base_is c.requires twos.ensures.fits twos.ensures.value (c.new.ensures ∙ c.shift_right.ensures.value) in
     record {
-      ring = record {
-        odd = c.new.result.of.ring;
-        twos = twos.ensures.value ∙ ap (count_trailing_zeros w) (sym split.whole);
-        few = split.few;
-        whole = refl;
-        fits = omega (arith, split.whole, twos.ensures.fits);
-      };
+      ring =
+          split_ring g.T.RingWord.width g.T.PathWord.base (n c.args.m) twos.result (n c.shift_right.result)
+          (n c.new.result.of.modulus) c.new.result.of.ring c.requires twos.ensures.fits twos.ensures.value
+          c.shift_right.ensures.value c.new.ensures;
     }
 
 pub returns : goal.returns
@@ -36,6 +28,7 @@ returns g c =
     let n = g.T.RingWord.number in
     let twos = c.trailing_zeros-twos in
     let split =
-    split_of g.T.RingWord.width g.T.PathWord.base (n c.args.m) twos.result (n c.new.result.of.modulus)
-    g.met.T.PathWord.base_is c.requires twos.ensures.fits twos.ensures.value (c.new.ensures ∙ c.shift_right.ensures.value) in
+    split_of g.T.RingWord.width g.T.PathWord.base (n c.args.m) twos.result (n c.shift_right.result)
+    (n c.new.result.of.modulus) g.met.T.PathWord.base_is c.requires twos.ensures.fits twos.ensures.value
+    c.shift_right.ensures.value c.new.ensures in
     split.whole
