@@ -29,11 +29,11 @@ impl<const N: u8, const K: u8> ProthNumber32<N, K> {
         ((K as u32) << N) + 1
     }
 
-    // The product with the modulus.
-    fn multiple(&self, x: u32) -> u64
+    // The product with the modulus, by a product with K and a shift.
+    fn shift_mul(&self, x: u32) -> u64
         ensures { result ≡ x * proth_modulus N K }
     {
-        x as u64 * Self::value() as u64
+        ((x as u64 * K as u64) << N) + x as u64
     }
 }
 
@@ -93,7 +93,7 @@ impl<const N: u8, const K: u8> OddModulus<u32> for ProthNumber32<N, K> {
     fn reduced(&self, t: u64) -> u32 {
         let m = Self::value();
         let x = clearing(m, self.negated_inverse, t);
-        reduce_by(m, t, x, self.multiple(x))
+        reduce_by(m, t, x, self.shift_mul(x))
     }
 
     ghost was_taken = { λ m. record { range = m.range; same = refl } };
@@ -119,11 +119,11 @@ impl<const N: u8, const K: u8> ProthNumber64<N, K> {
         ((K as u64) << N) + 1
     }
 
-    // The product with the modulus.
-    fn multiple(&self, x: u64) -> u128
+    // The product with the modulus, by a product with K and a shift.
+    fn shift_mul(&self, x: u64) -> u128
         ensures { result ≡ x * proth_modulus N K }
     {
-        x as u128 * Self::value() as u128
+        ((x as u128 * K as u128) << N) + x as u128
     }
 }
 
@@ -183,7 +183,7 @@ impl<const N: u8, const K: u8> OddModulus<u64> for ProthNumber64<N, K> {
     fn reduced(&self, t: u128) -> u64 {
         let m = Self::value();
         let x = clearing(m, self.negated_inverse, t);
-        reduce_by(m, t, x, self.multiple(x))
+        reduce_by(m, t, x, self.shift_mul(x))
     }
 
     ghost was_taken = { λ m. record { range = m.range; same = refl } };

@@ -44,6 +44,7 @@ fn small_moduli(rt: HostRuntime) -> Result<(), Fail> {
 fn reductions_with_a_carry(rt: HostRuntime) -> Result<(), Fail> {
     let ring = FixedProth32::<27, 17>::new(&2281701377);
     assert_eq!(rt; remainder(&ring, 4294967295), 2013265918);
+    assert_eq!(rt; ring.of.shift_mul(4294967295), 9799832791171465215);
     // (m - 1) * 2^32 + m: the sum is (2 * m - 1) * 2^32, which passes 64 bits
     assert_eq!(rt; ring.reduce(9799832791439900673), 2281701376);
     let ring = FixedProth32::<28, 9>::new(&2415919105);
