@@ -1,4 +1,6 @@
 use Rattle.std.proofs.Common.{refl}
+use Rattle.modular_reduced.proofs.FormLemmas.{answered}
+use Rattle.modular_monty.specs.SplitLaws.{split_canonical}
 use Rattle.modular_monty.proofs.SplitSteps.{product_stands, high_checked, all_high, joined_none}
 use Rattle.modular_monty.proofs.montgomery.MontgomeryReducer.mul.Goals as goal
 
@@ -13,10 +15,12 @@ mul-requires-clause-right g c =
 pub returns-then-self-eq0 : goal.returns-then-self-eq0
 returns-then-self-eq0 g c =
     let none = c.if-self-eq0.true in
-    product_stands c.args.self.now.ring c.requires.left c.requires.right (all_high _ _ none) (all_high _ _ none)
-    c.mul.ensures refl (joined_none _ _ _ none)
+    answered (split_canonical c.args.self.now.ring)
+    (product_stands c.args.self.now.ring c.requires.left c.requires.right (all_high _ _ none) (all_high _ _ none)
+    c.mul.ensures.form refl (joined_none _ _ _ none))
 
 pub returns : goal.returns
 returns g c =
-    product_stands c.args.self.now.ring c.requires.left c.requires.right c.high.ensures.value c.high-2.ensures.value
-    c.mul-high.ensures c.wrapping_mul.ensures.value c.join.ensures
+    answered (split_canonical c.args.self.now.ring)
+    (product_stands c.args.self.now.ring c.requires.left c.requires.right c.high.ensures.value c.high-2.ensures.value
+    c.mul-high.ensures.form c.wrapping_mul.ensures.value c.join.ensures)

@@ -1,8 +1,9 @@
 use Rattle.std.proofs.Common.{◌≡◌, ◌*◌, ◌^◌, ap, ◌∙◌, arith, subst, pos, ◌-ℤ◌, neg_ℤ}
 use Rattle.std.proofs.lemmas.Int.{ints}
 use Rattle.modular_word.specs.Residues.{residue}
+use Rattle.modular_reduced.proofs.FormLemmas.{answered}
 use Rattle.modular_monty.specs.Montgomery.{split_value}
-use Rattle.modular_monty.specs.SplitLaws.{modulus_positive}
+use Rattle.modular_monty.specs.SplitLaws.{modulus_positive, split_canonical}
 use Rattle.modular_monty.proofs.SplitSteps.{Stands, below_is_form, zero_value}
 use Rattle.modular_monty.proofs.montgomery.MontgomeryReducer.neg.Goals as goal
 
@@ -18,5 +19,6 @@ returns g c =
     let v = split_value w m (g.T.RingWord.number c.args.f) in
     let minus : pos 0 -ℤ pos v ≡ neg_ℤ (pos v) = omega (arith, ints) in
     let zero = ap (split_value w m) c.zero.ensures ∙ zero_value s.ring in
-    subst (λ n. Stands w m (g.T.RingWord.number c.sub.result) n)
-    (ap (λ n. residue m (pos n -ℤ pos v)) zero ∙ ap (residue m) minus) c.sub.ensures
+    answered (split_canonical s.ring)
+    (subst (λ n. Stands w m (g.T.RingWord.number c.sub.result) n)
+    (ap (λ n. residue m (pos n -ℤ pos v)) zero ∙ ap (residue m) minus) c.sub.ensures.form)

@@ -1,3 +1,5 @@
+use Rattle.modular_reduced.proofs.FormLemmas.{answered}
+use Rattle.modular_monty.specs.MontgomeryLaws.{montgomery_canonical}
 use Rattle.modular_monty.proofs.MontgomerySteps.{sum_stands, form_below}
 use Rattle.modular_monty.proofs.odd_ring.OddRingReducer.add.Goals as goal
 
@@ -9,5 +11,6 @@ add_below-requires-clause-right g c = rw c.number.ensures (form_below (g.met.M.O
 
 pub returns : goal.returns
 returns g c =
-    sum_stands (g.met.M.OddModulus.is_odd_ring c.args.self.now.of) c.requires.left c.requires.right
-    (rw c.number.ensures at c.add_below.ensures.value)
+    answered (montgomery_canonical (g.met.M.OddModulus.is_odd_ring c.args.self.now.of))
+    (sum_stands (g.met.M.OddModulus.is_odd_ring c.args.self.now.of) c.requires.left c.requires.right
+    (rw c.number.ensures at c.add_below.ensures.value))

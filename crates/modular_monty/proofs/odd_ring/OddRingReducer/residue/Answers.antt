@@ -1,3 +1,5 @@
+use Rattle.modular_reduced.proofs.FormLemmas.{value_answered}
+use Rattle.modular_monty.specs.MontgomeryLaws.{montgomery_canonical}
 use Rattle.modular_monty.proofs.MontgomerySteps.{value_stands, form_below, extended, extended_below}
 use Rattle.modular_monty.proofs.odd_ring.OddRingReducer.residue.Goals as goal
 
@@ -9,4 +11,5 @@ reduced-requires g c =
 pub returns : goal.returns
 returns g c =
     let r = g.met.M.OddModulus.is_odd_ring c.args.self.now.of in
-    value_stands r (form_below r c.requires) (extended _ c.merge.ensures.value c.zero.ensures) c.reduced.ensures
+    value_answered (montgomery_canonical r)
+    (value_stands r (form_below r c.requires) (extended _ c.merge.ensures.value c.zero.ensures) c.reduced.ensures)

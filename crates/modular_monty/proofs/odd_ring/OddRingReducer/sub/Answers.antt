@@ -1,3 +1,5 @@
+use Rattle.modular_reduced.proofs.FormLemmas.{answered}
+use Rattle.modular_monty.specs.MontgomeryLaws.{montgomery_canonical}
 use Rattle.modular_monty.proofs.MontgomerySteps.{difference_stands, form_below}
 use Rattle.modular_monty.proofs.odd_ring.OddRingReducer.sub.Goals as goal
 
@@ -9,5 +11,6 @@ sub_below-requires-clause-right g c = rw c.number.ensures (form_below (g.met.M.O
 
 pub returns : goal.returns
 returns g c =
-    difference_stands (g.met.M.OddModulus.is_odd_ring c.args.self.now.of) c.requires.left c.requires.right
-    (rw c.number.ensures at c.sub_below.ensures.value)
+    answered (montgomery_canonical (g.met.M.OddModulus.is_odd_ring c.args.self.now.of))
+    (difference_stands (g.met.M.OddModulus.is_odd_ring c.args.self.now.of) c.requires.left c.requires.right
+    (rw c.number.ensures at c.sub_below.ensures.value))
