@@ -24,7 +24,7 @@ full_turn g n turn l =
     chained (of_equal (ap (λ v. g ^ v) e ∙ pow-mul g (2 ^ k.0) (2 * 1))) (even_power_of_minus_one 1 k.2)
 
 -- powers of 1
-geometric_of_one : {m : ℕ} (n h : ℕ) → Congruent m h 1 → Congruent m (geometric n h) n
+pub geometric_of_one : {m : ℕ} (n h : ℕ) → Congruent m h 1 → Congruent m (geometric n h) n
 geometric_of_one n h is =
     let o : n * 1 ≡ n = omega arith in
     chained (sum_below-congruent n (λ j. h ^ j) (λ j. 1) (λ j l. chained (powered j is) (of_equal (one-pow j)))) (of_equal (sum_below-of_constant n 1 ∙ o))
@@ -41,7 +41,7 @@ at_no_turn : {m : ℕ} (g n : ℕ) → Congruent m (geometric n (g ^ 0)) n
 at_no_turn g n = geometric_of_one n (g ^ 0) (of_equal (pow-zero g))
 
 -- .. and others to 0
-at_other_turns : {m : ℕ} (g n q r d : ℕ) → HalfTurn m g n → 1 < n → 0 < r → r < n → d ≡ n * q + r → Congruent m (geometric n (g ^ d)) 0
+pub at_other_turns : {m : ℕ} (g n q r d : ℕ) → HalfTurn m g n → 1 < n → 0 < r → r < n → d ≡ n * q + r → Congruent m (geometric n (g ^ d)) 0
 at_other_turns {m} g n q r d turn l some below e =
     let k = turn.known l in
     let o : 1 * g ^ r ≡ g ^ r = omega arith in

@@ -3,6 +3,7 @@ use Rattle.std.specs.Prelude.{ℕ, suc, zero, ◌+◌, ◌*◌, ◌%◌, ◌^◌
 use Rattle.modular_word.specs.Residues.{residue}
 use Rattle.modular_word.specs.Inverses.{HasInverse, inverse_of}
 use Rattle.modular_reduced.specs.Forms.{Represents}
+pub use Rattle.modular_reduced.specs.Values.{values_of, HoldValues}
 use Rattle.num_modular.specs.declared.ring.RingCommand.{RingCommand}
 use Rattle.num_modular.specs.declared.ring.RingCommand.TheVariants.{Load, Add, Sub, Mul, Neg, Dbl, Sqr, Inv, Div, Pow}
 use Rattle.num_modular.specs.declared.ring.RunEnd.{RunEnd}
@@ -89,14 +90,6 @@ IsFit count (Sqr dst a) = (dst < count) × (a < count)
 IsFit count (Inv dst a) = (dst < count) × (a < count)
 IsFit count (Div dst a b) = (dst < count) × (a < count) × (b < count)
 IsFit count (Pow dst a exp) = (dst < count) × (a < count)
-
--- the values that registers hold, by the numbers of their forms
-abbrev pub values_of : {T : Type 0} → (T → ℕ) → (ℕ → ℕ → ℕ) → ℕ → List T → List ℕ
-values_of number value m registers = map (λ f. value m (number f)) registers
-
--- each register r holds the form of the value v r
-pub record HoldValues {T : Type 0} (number : T → ℕ) (form : ℕ → ℕ → ℕ) (m : ℕ) (registers : List T) (v : ℕ → ℕ) : Type 0 where
-  pub each : (r : ℕ) (d : T) → r < length registers → Represents form m (number (slice_index_or registers r d)) (v r)
 
 -- the form found, if any, stands for the number computed, if any
 abbrev pub IsFormOf : {T : Type 0} → (T → ℕ) → (ℕ → ℕ → ℕ) → ℕ → Option ℕ → Option T → Type 0

@@ -1,4 +1,4 @@
-//! Lists of commands on registers, run over any reducer.
+//! Lists of commands on registers, run over any reducer, and transforms over any reducer.
 
 ghost use Rattle.std.specs.Prelude.{◌≡◌, ℕ, ◌*◌, ◌%◌, ◌<◌, ◌↔◌, IsTrue, All, length, map, option_map, slice_index};
 ghost use Rattle.modular_word.specs.Inverses.{inverse_of};
@@ -6,6 +6,8 @@ ghost use Rattle.modular_reduced.specs.Forms.{IsForm};
 ghost use Rattle.num_modular.specs.Ring.{whole, destination_of, outcome, value_at, IsStop, carried_out, IsFit, values_of, HoldValues, IsFormOf};
 
 use modular_reduced::reducer::Reducer;
+pub use modular_transform::convolution::convolve;
+pub use modular_transform::transform::{ntt, ntt_counted, root_fits};
 use modular_word::ring_word::RingWord;
 
 /// A command on registers, which are named by their numbers in a slice of forms.

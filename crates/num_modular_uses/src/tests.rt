@@ -9,4 +9,5 @@ mod plain;
 mod rings;
 mod runs;
 mod symbols;
+mod transforms;
 mod words;

@@ -1,0 +1,24 @@
+use Rattle.std.proofs.Common.{◌*◌, ◌%◌, ◌<◌, length, ◌∙◌, ap, arith}
+use Rattle.modular_transform.proofs.ValueLemmas.{values}
+use Rattle.modular_transform.proofs.ValueLemmas.{value_at, forms_written, entry_done, entry_kept}
+use Rattle.transform_callers.proofs.scale.Goals as goal
+
+pub entries-preserved : goal.entries-preserved
+entries-preserved g c =
+    let m = g.R.Reducer.modulus c.args.r.now in
+    let number = g.T.RingWord.number in
+    let value = g.R.Reducer.value in
+    let canonical = g.met.R.Reducer.canonical c.args.r.now in
+    let before = c.entries.invariant in
+    let i = c.entries.i in
+    let xs = c.entries.xs in
+    let old = values number value m c.args.xs.now in
+    let factor = value m (number c.args.factor.now) in
+    let within : i < length xs = omega arith in
+    let x_is = value_at number value m xs i c.index-xs-i.result within ∙ before.kept i (omega arith) in
+    let is = canonical.one_value _ _ c.mul.ensures ∙ ap (λ v. v * factor % m) x_is in
+    record {
+      checked = forms_written number g.R.Reducer.form value _ m xs i _ c.mul.result canonical c.mul.ensures before.checked;
+      done = entry_done number value m xs i c.mul.result (λ k. (old k * factor) % m) within before.done is;
+      kept = entry_kept number value m xs i c.mul.result old before.kept;
+    }
