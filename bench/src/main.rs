@@ -1,10 +1,12 @@
 //! Measures the port beside the Rust crate, turn by turn in one run: a line an operation, with the
 //! time of one step in nanoseconds and the ratio of the two, and a table each for the operations of
 //! any modulus and of fixed ones. A third table has `Montgomery` modulo an even number, which the
-//! crate refuses, beside the port's other reducers. Ends with status 1 where answers differ.
+//! crate refuses, beside the port's other reducers; then come transforms of whole lists. Ends with
+//! status 1 where answers differ.
 
 mod original;
 mod port;
+mod transforms;
 
 use port::Bench;
 use std::hint::black_box;
@@ -254,5 +256,10 @@ fn main() -> ExitCode {
     print_table(&FIXED_MODULUS);
     println!();
     print_even_table();
+    println!();
+    if !transforms::print_table() {
+        eprintln!("the transforms differ");
+        return ExitCode::from(1);
+    }
     ExitCode::SUCCESS
 }
