@@ -5,6 +5,7 @@ ghost use Rattle.modular_folds.specs.Folds.{fold_of, folds, IsFewFolds, IsFoldin
 
 use crate::fold_word::FoldWord;
 use modular_prim::plain_word::PlainWord;
+use modular_word::path_word::PathWord;
 
 // One fold at the bit p: the part above it times c, plus the part below it. The mask has the bits
 // below p. A number that has no part above it stays as it is, which counts for no fold.
@@ -103,20 +104,45 @@ pub fn fold_all<V: FoldWord>(v: V, p: u32, c: V, m: V) -> (V, u32)
     fold_on(v, p, mask, c, m)
 }
 
+/// A word whose double words are folded: u32 and u64.
+pub trait FoldedWord: PlainWord {
+    /// A word below 2^p that leaves what a double word leaves modulo m, and the number of folds that make
+    /// it, at the bit p by c. Condition: they reduce modulo m.
+    fn fold_double(v: Self::Double, p: u32, c: Self, m: Self) -> (Self, u32)
+        requires { IsFolding Self.width p (Self.number c) (Self.number m) }
+        ensures below { Self.number result.0 < 2 ^ p }
+        ensures same { Self.number result.0 % Self.number m ≡ Self.whole v % Self.number m }
+        ensures count { result.1 ≡ folds p (Self.number c) (Self.whole v) };
+}
+
+impl FoldedWord for u32 {
+    fn fold_double(v: u64, p: u32, c: u32, m: u32) -> (u32, u32) {
+        let (rest, count) = fold_all(v, p, c as u64, m as u64);
+        (rest as u32, count)
+    }
+}
+
+impl FoldedWord for u64 {
+    fn fold_double(v: u128, p: u32, c: u64, m: u64) -> (u64, u32) {
+        let (rest, count) = fold_all(v, p, c as u128, m as u128);
+        (rest as u64, count)
+    }
+}
+
 /// v modulo m, where m is 2^p - c and more than half of 2^p: as many folds as it takes, and one
-/// subtraction at most; and the number of the folds.
+/// subtraction of words at most; and the number of the folds.
 ///
 /// A fold takes the part of v above the bit p times c in place of times 2^p, which leaves the same
-/// modulo m. p may be the width of v, which then takes no fold.
+/// modulo m. p may be the width of a word.
 ///
 /// Source: Handbook of Applied Cryptography, algorithm 14.47.
-pub fn reduce_by_folds<V: FoldWord>(v: V, p: u32, c: V, m: V) -> (V, u32)
-    requires { IsFolding V.width p (V.number c) (V.number m) }
-    ensures value { V.number result.0 ≡ V.number v % V.number m }
-    ensures count { result.1 ≡ folds p (V.number c) (V.number v) }
-    ensures few { IsFewFolds p (V.number c) (V.number v) result.1 }
+pub fn reduce_by_folds<T: FoldedWord>(v: T::Double, p: u32, c: T, m: T) -> (T, u32)
+    requires { IsFolding T.width p (T.number c) (T.number m) }
+    ensures value { T.number result.0 ≡ T.whole v % T.number m }
+    ensures count { result.1 ≡ folds p (T.number c) (T.whole v) }
+    ensures few { IsFewFolds p (T.number c) (T.whole v) result.1 }
 {
-    let (rest, count) = fold_all(v, p, c, m);
+    let (rest, count) = T::fold_double(v, p, c, m);
     if rest.is_below(m) {
         (rest, count)
     } else {
@@ -131,31 +157,6 @@ pub fn fold_laws()
     ensures next { (p c hi lo : ℕ) → c < 2 ^ p → lo < 2 ^ p → 0 < hi → folds p c (hi * 2 ^ p + lo) ≡ 1 + folds p c (hi * c + lo) }
     ensures few { (p c v : ℕ) → 2 * c < 2 ^ p → IsFewFolds p c v (folds p c v) }
 {}
-
-/// A word whose double words are reduced by folds: u32 and u64.
-pub trait FoldedWord: PlainWord {
-    /// A double word modulo m by folds at the bit p by c, and their number. Condition: they reduce modulo
-    /// m.
-    fn reduce_counted(v: Self::Double, p: u32, c: Self, m: Self) -> (Self, u32)
-        requires { IsFolding Self.width p (Self.number c) (Self.number m) }
-        ensures value { Self.number result.0 ≡ Self.whole v % Self.number m }
-        ensures count { result.1 ≡ folds p (Self.number c) (Self.whole v) }
-        ensures few { IsFewFolds p (Self.number c) (Self.whole v) result.1 };
-}
-
-impl FoldedWord for u32 {
-    fn reduce_counted(v: u64, p: u32, c: u32, m: u32) -> (u32, u32) {
-        let (rest, count) = reduce_by_folds(v, p, c as u64, m as u64);
-        (rest as u32, count)
-    }
-}
-
-impl FoldedWord for u64 {
-    fn reduce_counted(v: u128, p: u32, c: u64, m: u64) -> (u64, u32) {
-        let (rest, count) = reduce_by_folds(v, p, c as u128, m as u128);
-        (rest as u64, count)
-    }
-}
 
 #[cfg(test)]
 mod tests;

@@ -7,7 +7,7 @@ ghost use Rattle.modular_folds.specs.Mersenne.{IsMersenneRange, IsMersenne, mers
 ghost use Rattle.modular_folds.specs.MersenneLaws.{mersenne_canonical};
 ghost use Rattle.std.proofs.Common.{lit≤, refl};
 
-use crate::folds::FoldedWord;
+use crate::folds::reduce_by_folds;
 use crate::products::reduce_product;
 use modular_prim::below::{add_below, dbl_below, neg_below, sub_below};
 use modular_prim::euclid::invm;
@@ -59,7 +59,7 @@ impl<const P: u8, const K: u32> FixedMersenne32<P, K> {
         ensures count { result.1 ≡ folds P K v }
         ensures few { IsFewFolds P K v result.1 }
     {
-        <u32 as FoldedWord>::reduce_counted(v, P as u32, K, Self::fixed_modulus())
+        reduce_by_folds::<u32>(v, P as u32, K, Self::fixed_modulus())
     }
 }
 
@@ -175,7 +175,7 @@ impl<const P: u8, const K: u64> FixedMersenne64<P, K> {
         ensures count { result.1 ≡ folds P K v }
         ensures few { IsFewFolds P K v result.1 }
     {
-        <u64 as FoldedWord>::reduce_counted(v, P as u32, K, Self::fixed_modulus())
+        reduce_by_folds::<u64>(v, P as u32, K, Self::fixed_modulus())
     }
 }
 

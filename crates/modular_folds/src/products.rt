@@ -4,7 +4,7 @@
 ghost use Rattle.std.specs.Prelude.{◌≡◌, ℕ, ◌+◌, ◌-◌, ◌*◌, ◌/◌, ◌%◌, ◌^◌, ◌<◌, ◌≤◌};
 ghost use Rattle.modular_folds.specs.Folds.{IsFolding};
 
-use crate::folds::FoldedWord;
+use crate::folds::{FoldedWord, reduce_by_folds};
 use modular_word::path_word::PathWord;
 use modular_word::ring_word::RingWord;
 
@@ -72,6 +72,6 @@ pub fn reduce_product<T: FoldedWord>(a: T, b: T, p: u32, c: T, m: T) -> T
     if c.shift_right(p / 2).is_zero_word() {
         product_by_folds(a, b, p, c, m)
     } else {
-        T::reduce_counted(a.product(b), p, c, m).0
+        reduce_by_folds(a.product(b), p, c, m).0
     }
 }

@@ -7,7 +7,7 @@ ghost use Rattle.modular_folds.specs.Folds.{folds, IsFewFolds};
 ghost use Rattle.modular_folds.specs.Solinas.{IsTrinomialRange, IsTrinomial, IsLowTrinomial, trinomial, trinomial_factor};
 ghost use Rattle.modular_folds.specs.SolinasLaws.{trinomial_canonical};
 
-use crate::folds::FoldedWord;
+use crate::folds::{FoldedWord, reduce_by_folds};
 use crate::products::reduce_product;
 use modular_prim::below::{add_below, dbl_below, neg_below, sub_below};
 use modular_prim::euclid::invm;
@@ -227,7 +227,7 @@ impl<T: TrinomialWord, F: Trinomial> TrinomialSolinas<T, F> {
         if is_low(F::p1(), F::p2(), F::k()) {
             (T::narrow_remainder(v, modulus), 0)
         } else {
-            T::reduce_counted(v, F::p1() as u32, Self::factor(), modulus)
+            reduce_by_folds(v, F::p1() as u32, Self::factor(), modulus)
         }
     }
 

@@ -5,12 +5,15 @@ use std::test::Fail;
 
 #[test]
 fn greatest_dividends(rt: HostRuntime) -> Result<(), Fail> {
-    assert_eq!(rt; reduce_by_folds(u64::MAX, 2, 1, 3), (0, 32));
-    assert_eq!(rt; reduce_by_folds(u64::MAX, 32, 5, 4294967291), (24, 3));
-    assert_eq!(rt; reduce_by_folds(u64::MAX, 4, 3, 13).0, 2);
-    assert_eq!(rt; reduce_by_folds(255u64, 4, 3, 13), (8, 3));
+    assert_eq!(rt; reduce_by_folds::<u32>(u64::MAX, 2, 1, 3), (0, 32));
     assert_eq!(rt;
-        reduce_by_folds(u128::MAX, 64, 59, 18446744073709551557).0,
+        reduce_by_folds::<u32>(u64::MAX, 32, 5, 4294967291),
+        (24, 3)
+    );
+    assert_eq!(rt; reduce_by_folds::<u32>(u64::MAX, 4, 3, 13).0, 2);
+    assert_eq!(rt; reduce_by_folds::<u32>(255, 4, 3, 13), (8, 3));
+    assert_eq!(rt;
+        reduce_by_folds::<u64>(u128::MAX, 64, 59, 18446744073709551557).0,
         3480
     );
     Ok(())
@@ -19,7 +22,10 @@ fn greatest_dividends(rt: HostRuntime) -> Result<(), Fail> {
 #[test]
 fn bit_p_at_the_width(rt: HostRuntime) -> Result<(), Fail> {
     let m = 18446744073709551557;
-    assert_eq!(rt; reduce_by_folds(u64::MAX, 64, 59, m), (58, 0));
+    assert_eq!(rt;
+        reduce_by_folds::<u64>(18446744073709551615, 64, 59, m),
+        (58, 0)
+    );
     assert_eq!(rt; fold_all(u64::MAX, 64, 59, m), (u64::MAX, 0));
     Ok(())
 }

@@ -2,6 +2,6 @@ use Rattle.std.proofs.Common.{rules}
 use Rattle.modular_folds.specs.SolinasLaws.{trinomial_folding}
 use Rattle.modular_folds.proofs.solinas.TrinomialSolinas.reduce_counted.Goals as goal
 
-pub reduce_counted-requires : goal.reduce_counted-requires
-reduce_counted-requires g c =
+pub reduce_by_folds-requires : goal.reduce_by_folds-requires
+reduce_by_folds-requires g c =
     trinomial_folding _ _ _ c.requires (search rules) (search rules) c.factor.ensures c.fixed_modulus-modulus.ensures.value
