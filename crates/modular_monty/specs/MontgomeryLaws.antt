@@ -1,4 +1,4 @@
--- Laws of Montgomery's representation: each value has one form, and each form one value.
+-- Laws of Montgomery's representation modulo odd numbers: each value has one form, and each form one value.
 use Rattle.std.proofs.Common.{◌≡◌, ℕ, suc, zero, ◌+◌, ◌*◌, ◌/◌, ◌%◌, ◌^◌, ◌<◌, sym, ap, ◌∙◌, arith, cond, eqb}
 use Rattle.std.proofs.Math.Nat.{mod-lt, mod-eq_of_lt, div-add-mod, add-mul-mod_self_left}
 use Rattle.std.proofs.lemmas.Bool.Decides.{nat_tests}

@@ -25,7 +25,9 @@ use std::alloc::AllocError;
 /// even modulus".
 #[derive(Debug)]
 pub struct Montgomery<T: PlainWord> {
+    // The ring modulo k.
     odd: OddRing<T, StoredModulus<T>>,
+    // The exponent s.
     twos: u32,
     ghost ring: { IsSplitRing T.width T.base (T.number odd.of.modulus * 2 ^ twos) twos (T.number odd.of.modulus)
         (T.number odd.of.negated_inverse) (T.number odd.of.square) },
