@@ -34,6 +34,7 @@ fn integers_by_montgomery_forms(rt: HostRuntime) -> Result<(), Fail> {
     let x = MontgomeryInt::<u8>::new(12, &5);
     let found = [(x * 13).residue(), (x - 3).residue(), (-x).residue()];
     assert_eq!(rt; found, [1, 4, 3]);
+    assert_eq!(rt; (MontgomeryInt::<u8>::new(7, &20) * 9).residue(), 3);
     Ok(())
 }
 
