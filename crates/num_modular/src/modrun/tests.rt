@@ -59,8 +59,8 @@ impl Write for Page {
     }
 }
 
-// Runs the words, which a space parts.
-fn run_typed(alloc: Global, typed: &str, out: &mut Page, err: &mut Page) -> u8 {
+// The words, which a space parts, and how many there are; there is room for eight.
+fn words_of(typed: &str) -> ([&str; 8], usize) {
     let mut words = [""; 8];
     let mut count = 0;
     'words: for word in typed.split(' ') {
@@ -69,6 +69,11 @@ fn run_typed(alloc: Global, typed: &str, out: &mut Page, err: &mut Page) -> u8 {
             count += 1;
         }
     }
+    (words, count)
+}
+
+fn run_typed(alloc: Global, typed: &str, out: &mut Page, err: &mut Page) -> u8 {
+    let (words, count) = words_of(typed);
     run_words(alloc, &words[..count.min(8)], out, err)
 }
 
@@ -81,7 +86,7 @@ fn gives(alloc: Global, typed: &str, status: u8, printed: &str, told: &str) -> b
 }
 
 // The words, the status and the two texts.
-const ANSWERS: [(&str, u8, &str, &str); 22] = [
+const ANSWERS: &[(&str, u8, &str, &str)] = &[
     ("vanilla 97", 0, ZEROS, ""),
     (
         "vanilla 97 load,0,10 load,1,20 mul,2,0,1",
@@ -178,13 +183,13 @@ const ANSWERS: [(&str, u8, &str, &str); 22] = [
 
 #[test]
 fn answers(rt: HostRuntime) {
-    'rows: for (typed, status, printed, told) in ANSWERS {
+    'rows: for &(typed, status, printed, told) in ANSWERS {
         assert!(rt; gives(rt.alloc(), typed, status, printed, told), "{typed}");
     }
 }
 
 // Words that can't be read, or that ask for what isn't there.
-const REFUSED: [&str; 42] = [
+const REFUSED: &[&str] = &[
     "vanilla",
     "vanilla 0",
     "premul 0",
@@ -229,15 +234,19 @@ const REFUSED: [&str; 42] = [
     "vanilla 21 pow,0,8,1",
 ];
 
+fn refuses_no_words(alloc: Global) -> bool {
+    let mut out = Page::new();
+    let mut err = Page::new();
+    let status = run_words(alloc, &[], &mut out, &mut err);
+    status == 2 && out.holds("") && err.holds(USAGE)
+}
+
 #[test]
 fn refuses_words(rt: HostRuntime) {
     'rows: for typed in REFUSED {
         assert!(rt; gives(rt.alloc(), typed, 2, "", USAGE), "{typed:?}");
     }
-    let mut out = Page::new();
-    let mut err = Page::new();
-    let status = run_words(rt.alloc(), &[], &mut out, &mut err);
-    assert!(rt; status == 2 && out.holds("") && err.holds(USAGE));
+    assert!(rt; refuses_no_words(rt.alloc()));
 }
 
 // Whether a run answers 4 exactly where the write `refused` to one of its outputs is refused, and then

@@ -116,7 +116,7 @@ type Row = (
     [u8; 5],
 );
 
-const ROWS: [Row; 5] = [
+const ROWS: &[Row] = &[
     (1, &MODULO_1, RunEnd::Done, [0; 5], [0; 5], [0; 5]),
     (
         255,
@@ -154,7 +154,7 @@ const ROWS: [Row; 5] = [
 
 #[test]
 fn each_reducer_leaves_its_forms(rt: HostRuntime) {
-    'rows: for (m, commands, end, residues, scaled, montgomery) in ROWS {
+    'rows: for &(m, commands, end, residues, scaled, montgomery) in ROWS {
         assert!(rt; m > 0 && m % 2 == 1);
         let left = left_by(&Vanilla::<u8>::new(&m), commands);
         assert_eq!(rt; left, (Some(end), residues, residues), "modulo {m}");
