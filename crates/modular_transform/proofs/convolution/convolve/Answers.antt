@@ -9,22 +9,22 @@ pub doublings-preserved : goal.doublings-preserved
 doublings-preserved g c =
     let canonical = g.met.R.Reducer.canonical c.args.r.now in
     record {
-      form = form_of_value canonical c.dbl-length.ensures;
-      count = doubled_more _ _ c.doublings._done c.doublings.invariant.count (canonical.one_value _ _ c.dbl-length.ensures);
+      form = form_of_value canonical c.dbl-length.ensures.form;
+      count = doubled_more _ _ c.doublings._done c.doublings.invariant.count (canonical.one_value _ _ c.dbl-length.ensures.form);
     }
 
 pub returns-in-Some-clause-inverse : goal.returns-in-Some-clause-inverse
 returns-in-Some-clause-inverse g c =
     let below : length c.args.xs.now < 2 ^ 64 = omega arith in
     let counted = doubled_all _ _ c.doublings.invariant.count (omega arith) c.requires.suits below in
-    let found = c.in-Some.ensures in
+    let found = c.in-Some.ensures.form in
     (λ h. (found.0, inverse_along counted found.1), λ h. refl)
 
 pub returns-in-None-clause-inverse : goal.returns-in-None-clause-inverse
 returns-in-None-clause-inverse g c =
     let below : length c.args.xs.now < 2 ^ 64 = omega arith in
     let counted = doubled_all _ _ c.doublings.invariant.count (omega arith) c.requires.suits below in
-    (λ h. cc, λ h. absurd (c.in-None.ensures h.0 (inverse_along (turned counted) h.1)))
+    (λ h. cc, λ h. absurd (c.in-None.ensures.form h.0 (inverse_along (turned counted) h.1)))
 
 pub returns-in-Some-clause-product : goal.returns-in-Some-clause-product
 returns-in-Some-clause-product g c h =
@@ -36,7 +36,7 @@ returns-in-Some-clause-product g c h =
     let canonical = g.met.R.Reducer.canonical c.args.r.now in
     let below : length c.args.xs.now < 2 ^ 64 = omega arith in
     let counted = doubled_all _ _ c.doublings.invariant.count (omega arith) c.requires.suits below in
-    let found = c.in-Some.ensures in
+    let found = c.in-Some.ensures.form in
     let part_is = canonical.one_value _ _ found.2 in
     let inverse = subst (IsInverse m n) (sym part_is) (inverse_along counted found.1) in
     convolution_end number g.R.Reducer.form value _ m root n (value m (number c.in-Some.part)) c.args.xs.now c.args.ys.now c.ntt.new.xs c.ntt-in-Some.new.xs c.multiply_each.new.xs c.ntt-in-Some-2.new.xs c.mirror.new.entries c.scale.new.xs

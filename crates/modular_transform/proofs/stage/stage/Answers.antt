@@ -74,12 +74,12 @@ strips-init g c =
     let value = g.R.Reducer.value in
     let canonical = g.met.R.Reducer.canonical c.args.r.now in
     let w = value m (number c.args.root.now) in
-    let form = form_of_value canonical c.transform-running.ensures in
+    let form = form_of_value canonical c.transform-running.ensures.form in
     record {
       checked = c.requires.checked;
       powers = one_form number g.R.Reducer.form value m 64 c.transform-running.result form;
       running_form = form;
-      running = first_power w canonical c.one.ensures c.transform-running.ensures;
+      running = first_power w canonical c.one.ensures c.transform-running.ensures.form;
       within = omega arith;
       done = none_done m (λ i. w ^ i) c.args.half 0 c.args.blocks 0 0 (values number value m c.args.forms.now) (λ p i u v s t. absurd (omega arith));
       count = omega arith;
@@ -105,7 +105,7 @@ fill-preserved g c =
     let before = c.fill.invariant in
     record {
       powers = forms_written number g.R.Reducer.form value _ m c.fill.powers i _ c.fill.running canonical before.running before.powers;
-      running = power_next s w i canonical before.running c.mul-running.ensures;
+      running = power_next s w i canonical before.running c.mul-running.ensures.form;
       written = entry_done number value m c.fill.powers i c.fill.running (λ k. (s * w ^ k) % m) (omega arith) before.written (canonical.one_value _ _ before.running);
       count = let n = before.count in omega (arith, n);
     }

@@ -68,8 +68,8 @@ stages-preserved g c =
     let some : 0 < c.stages.half = let p = pow_pos (z - (t + 1)) in omega (arith, next, p) in
     record {
       checked = c.stage.ensures.checked;
-      root_form = form_of_value canonical c.sqr-root.ensures;
-      root = root_more root t _ _ before.root (canonical.one_value _ _ c.sqr-root.ensures);
+      root_form = form_of_value canonical c.sqr-root.ensures.form;
+      root = root_more root t _ _ before.root (canonical.one_value _ _ c.sqr-root.ensures.form);
       whole = before.whole;
       half = ap (λ v. v / 2) (sym next);
       blocks = sym sizes.more;
