@@ -7,7 +7,7 @@ use Rattle.num_modular.proofs.modrun.run_commands.Goals as goal
 pub returns-in-Done : goal.returns-in-Done
 returns-in-Done g c =
     let m = g.R.Reducer.modulus c.args.reducer.now in
-    let started = all_zeros _ (value_zero g.R.Reducer.form g.R.Reducer.value 64 m _ (g.met.R.Reducer.canonical c.args.reducer.now) c.transform-registers.ensures) in
+    let started = all_zeros _ (value_zero g.R.Reducer.form g.R.Reducer.value 64 m _ (g.met.R.Reducer.canonical c.args.reducer.now) c.transform-registers.ensures.form) in
     let wholes = wholes_same c.args.commands.now in
     let ran = c.in-Done.ensures in
     record {
@@ -21,7 +21,7 @@ returns-in-Done g c =
 pub returns-in_ok-writeln-in-NoInverse : goal.returns-in_ok-writeln-in-NoInverse
 returns-in_ok-writeln-in-NoInverse g c =
     let m = g.R.Reducer.modulus c.args.reducer.now in
-    let started = all_zeros _ (value_zero g.R.Reducer.form g.R.Reducer.value 64 m _ (g.met.R.Reducer.canonical c.args.reducer.now) c.transform-registers.ensures) in
+    let started = all_zeros _ (value_zero g.R.Reducer.form g.R.Reducer.value 64 m _ (g.met.R.Reducer.canonical c.args.reducer.now) c.transform-registers.ensures.form) in
     let wholes = wholes_same c.args.commands.now in
     let ran = c.in-NoInverse.ensures in
     let end = NoInverse c.in-NoInverse.at in

@@ -11,4 +11,4 @@ returns-in-Inv g c v holds =
     let below : c.in-Inv.a < length c.args.regs.now = search rules in
     let is = value_of {v = v} c.in-Inv.a c.index-regs-a-in-Inv.result canonical holds below c.index-regs-a-in-Inv.is in
     rw c.in-Inv.is (subst (λ u. IsFormOf g.T.RingWord.number g.R.Reducer.form m (inverse_of m u) c.inv.result) is
-    (inverse_form g.T.RingWord.number g.R.Reducer.form m _ c.inv.result c.inv.ensures))
+    (inverse_form g.T.RingWord.number g.R.Reducer.form m _ c.inv.result c.inv.ensures.form))
