@@ -5,4 +5,5 @@ pub mod fold_word;
 pub mod folds;
 pub mod mersenne;
 pub mod products;
+pub mod rings;
 pub mod solinas;

@@ -9,9 +9,16 @@ ghost use Rattle.std.proofs.Common.{lit≤, refl};
 
 use crate::folds::reduce_by_folds;
 use crate::products::reduce_product;
-use modular_prim::below::{add_below, dbl_below, neg_below, sub_below};
-use modular_prim::euclid::invm;
+use crate::rings::{FoldModulus, FoldRing};
 use modular_reduced::reducer::Reducer;
+
+/// The modulus 2^P - K of at most 32 bits.
+#[derive(Debug, Clone, Copy)]
+pub struct Mersenne32<const P: u8, const K: u32> {
+    // Private, so that a value stands for parameters in range; the modulus comes from the parameters.
+    made: (),
+    ghost range: { IsMersenneRange 32 P K },
+}
 
 /// The reducer of the modulus 2^P - K of at most 32 bits: the form of a value is the value itself.
 ///
@@ -19,14 +26,9 @@ use modular_reduced::reducer::Reducer;
 /// but `inv` divides: words and products are reduced by folds.
 ///
 /// Source: Handbook of Applied Cryptography, algorithm 14.47.
-#[derive(Debug, Clone, Copy)]
-pub struct FixedMersenne32<const P: u8, const K: u32> {
-    // Private, so that `new` alone makes a reducer; the modulus comes from the parameters.
-    made: (),
-    ghost range: { IsMersenneRange 32 P K },
-}
+pub type FixedMersenne32<const P: u8, const K: u32> = FoldRing<u32, Mersenne32<P, K>>;
 
-impl<const P: u8, const K: u32> FixedMersenne32<P, K> {
+impl<const P: u8, const K: u32> FoldRing<u32, Mersenne32<P, K>> {
     /// The modulus. Condition: the parameters are in range.
     pub fn fixed_modulus() -> u32
         requires { IsMersenneRange 32 P K }
@@ -63,70 +65,38 @@ impl<const P: u8, const K: u32> FixedMersenne32<P, K> {
     }
 }
 
-impl<const P: u8, const K: u32> Reducer<u32> for FixedMersenne32<P, K> {
-    ghost admits = { IsMersenne 32 P K };
+impl<const P: u8, const K: u32> FoldModulus<u32> for Mersenne32<P, K> {
+    ghost taken = { IsMersenne 32 P K };
 
-    ghost form = { plain_form };
+    ghost modulus = { λ m. mersenne P K };
 
-    ghost value = { plain_value };
-
-    ghost modulus = { λ r. mersenne P K };
-
-    ghost admitted = { λ r. record { range = r.range; same = refl } };
-
-    ghost canonical = { λ r. mersenne_canonical 32 (lit≤ tt) r.range };
-
-    fn new(_m: &u32) -> Self {
-        FixedMersenne32 { made: () }
+    fn of(_m: u32) -> Self {
+        Mersenne32 { made: () }
     }
 
-    fn transform(&self, n: u32) -> u32 {
-        Self::reduce_single(n)
+    fn number(&self) -> u32 {
+        FixedMersenne32::<P, K>::fixed_modulus()
     }
 
-    fn check(&self, f: &u32) -> bool {
-        *f < Self::fixed_modulus()
+    fn reduced(&self, n: u32) -> u32 {
+        FixedMersenne32::<P, K>::reduce_single(n)
     }
 
-    fn modulus(&self) -> u32 {
-        Self::fixed_modulus()
+    fn product(&self, a: u32, b: u32) -> u32 {
+        reduce_product(a, b, P as u32, K, self.number())
     }
 
-    fn residue(&self, f: u32) -> u32 {
-        f
-    }
+    ghost was_taken = { λ m. record { range = m.range; same = refl } };
 
-    fn is_zero(&self, f: &u32) -> bool {
-        *f == 0
-    }
+    ghost canonical = { λ m. mersenne_canonical 32 (lit≤ tt) m.range };
+}
 
-    fn add(&self, a: &u32, b: &u32) -> u32 {
-        add_below(*a, *b, Self::fixed_modulus())
-    }
-
-    fn dbl(&self, f: u32) -> u32 {
-        dbl_below(f, Self::fixed_modulus())
-    }
-
-    fn sub(&self, a: &u32, b: &u32) -> u32 {
-        sub_below(*a, *b, Self::fixed_modulus())
-    }
-
-    fn neg(&self, f: u32) -> u32 {
-        neg_below(f, Self::fixed_modulus())
-    }
-
-    fn mul(&self, a: &u32, b: &u32) -> u32 {
-        reduce_product(*a, *b, P as u32, K, Self::fixed_modulus())
-    }
-
-    fn inv(&self, f: u32) -> Option<u32> {
-        invm(f, Self::fixed_modulus())
-    }
-
-    fn sqr(&self, f: u32) -> u32 {
-        reduce_product(f, f, P as u32, K, Self::fixed_modulus())
-    }
+/// The modulus 2^P - K of at most 64 bits.
+#[derive(Debug, Clone, Copy)]
+pub struct Mersenne64<const P: u8, const K: u64> {
+    // Private, so that a value stands for parameters in range; the modulus comes from the parameters.
+    made: (),
+    ghost range: { IsMersenneRange 64 P K },
 }
 
 /// The reducer of the modulus 2^P - K of at most 64 bits: the form of a value is the value itself.
@@ -135,14 +105,9 @@ impl<const P: u8, const K: u32> Reducer<u32> for FixedMersenne32<P, K> {
 /// but `inv` divides: words and products are reduced by folds.
 ///
 /// Source: Handbook of Applied Cryptography, algorithm 14.47.
-#[derive(Debug, Clone, Copy)]
-pub struct FixedMersenne64<const P: u8, const K: u64> {
-    // Private, so that `new` alone makes a reducer; the modulus comes from the parameters.
-    made: (),
-    ghost range: { IsMersenneRange 64 P K },
-}
+pub type FixedMersenne64<const P: u8, const K: u64> = FoldRing<u64, Mersenne64<P, K>>;
 
-impl<const P: u8, const K: u64> FixedMersenne64<P, K> {
+impl<const P: u8, const K: u64> FoldRing<u64, Mersenne64<P, K>> {
     /// The modulus. Condition: the parameters are in range.
     pub fn fixed_modulus() -> u64
         requires { IsMersenneRange 64 P K }
@@ -179,70 +144,30 @@ impl<const P: u8, const K: u64> FixedMersenne64<P, K> {
     }
 }
 
-impl<const P: u8, const K: u64> Reducer<u64> for FixedMersenne64<P, K> {
-    ghost admits = { IsMersenne 64 P K };
+impl<const P: u8, const K: u64> FoldModulus<u64> for Mersenne64<P, K> {
+    ghost taken = { IsMersenne 64 P K };
 
-    ghost form = { plain_form };
+    ghost modulus = { λ m. mersenne P K };
 
-    ghost value = { plain_value };
-
-    ghost modulus = { λ r. mersenne P K };
-
-    ghost admitted = { λ r. record { range = r.range; same = refl } };
-
-    ghost canonical = { λ r. mersenne_canonical 64 (lit≤ tt) r.range };
-
-    fn new(_m: &u64) -> Self {
-        FixedMersenne64 { made: () }
+    fn of(_m: u64) -> Self {
+        Mersenne64 { made: () }
     }
 
-    fn transform(&self, n: u64) -> u64 {
-        Self::reduce_single(n)
+    fn number(&self) -> u64 {
+        FixedMersenne64::<P, K>::fixed_modulus()
     }
 
-    fn check(&self, f: &u64) -> bool {
-        *f < Self::fixed_modulus()
+    fn reduced(&self, n: u64) -> u64 {
+        FixedMersenne64::<P, K>::reduce_single(n)
     }
 
-    fn modulus(&self) -> u64 {
-        Self::fixed_modulus()
+    fn product(&self, a: u64, b: u64) -> u64 {
+        reduce_product(a, b, P as u32, K, self.number())
     }
 
-    fn residue(&self, f: u64) -> u64 {
-        f
-    }
+    ghost was_taken = { λ m. record { range = m.range; same = refl } };
 
-    fn is_zero(&self, f: &u64) -> bool {
-        *f == 0
-    }
-
-    fn add(&self, a: &u64, b: &u64) -> u64 {
-        add_below(*a, *b, Self::fixed_modulus())
-    }
-
-    fn dbl(&self, f: u64) -> u64 {
-        dbl_below(f, Self::fixed_modulus())
-    }
-
-    fn sub(&self, a: &u64, b: &u64) -> u64 {
-        sub_below(*a, *b, Self::fixed_modulus())
-    }
-
-    fn neg(&self, f: u64) -> u64 {
-        neg_below(f, Self::fixed_modulus())
-    }
-
-    fn mul(&self, a: &u64, b: &u64) -> u64 {
-        reduce_product(*a, *b, P as u32, K, Self::fixed_modulus())
-    }
-
-    fn inv(&self, f: u64) -> Option<u64> {
-        invm(f, Self::fixed_modulus())
-    }
-
-    fn sqr(&self, f: u64) -> u64 {
-        reduce_product(f, f, P as u32, K, Self::fixed_modulus())
-    }
+    ghost canonical = { λ m. mersenne_canonical 64 (lit≤ tt) m.range };
 }
 
 /// The reducer of the modulus 2^P - K of at most 64 bits over words of 128 bits: the form of a value
@@ -303,13 +228,13 @@ impl<const P: u8, const K: u64> Reducer<u128> for FixedMersenne<P, K> {
 
     ghost modulus = { λ r. mersenne P K };
 
-    ghost admitted = { λ r. record { range = r.ring.range; same = refl } };
+    ghost admitted = { λ r. record { range = r.ring.of.range; same = refl } };
 
-    ghost canonical = { λ r. mersenne_canonical 128 (lit≤ tt) r.ring.range };
+    ghost canonical = { λ r. mersenne_canonical 128 (lit≤ tt) r.ring.of.range };
 
     fn new(_m: &u128) -> Self {
         FixedMersenne {
-            ring: FixedMersenne64 { made: () },
+            ring: FixedMersenne64::<P, K>::new(&FixedMersenne64::<P, K>::fixed_modulus()),
         }
     }
 

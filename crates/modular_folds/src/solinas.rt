@@ -9,10 +9,8 @@ ghost use Rattle.modular_folds.specs.SolinasLaws.{trinomial_canonical};
 
 use crate::folds::{FoldedWord, reduce_by_folds};
 use crate::products::reduce_product;
-use modular_prim::below::{add_below, dbl_below, neg_below, sub_below};
-use modular_prim::euclid::invm;
+use crate::rings::{FoldModulus, FoldRing};
 use modular_prim::plain_word::PlainWord;
-use modular_reduced::reducer::Reducer;
 use modular_word::path_word::PathWord;
 use modular_word::ring_word::RingWord;
 use std::alloc::AllocError;
@@ -139,6 +137,14 @@ impl TrinomialWord for u64 {
     ghost narrow = { lit≤ tt };
 }
 
+/// The modulus 2^p1 - 2^p2 + k of the trinomial F, over words T.
+#[derive(Debug)]
+pub struct TrinomialModulus<T: TrinomialWord, F: Trinomial> {
+    word: PhantomData<T>,
+    of: PhantomData<F>,
+    ghost range: { IsTrinomialRange T.width F.p1 F.p2 F.k },
+}
+
 /// The reducer of the modulus m = 2^p1 - 2^p2 + k of the trinomial F, over words T: the form of a
 /// value is the value itself. It keeps no number.
 ///
@@ -148,12 +154,7 @@ impl TrinomialWord for u64 {
 /// by the primitive remainder. `inv` divides by Euclid's algorithm.
 ///
 /// Source: Solinas, "Generalized Mersenne numbers" (1999).
-#[derive(Debug)]
-pub struct TrinomialSolinas<T: TrinomialWord, F: Trinomial> {
-    word: PhantomData<T>,
-    of: PhantomData<F>,
-    ghost range: { IsTrinomialRange T.width F.p1 F.p2 F.k },
-}
+pub type TrinomialSolinas<T, F> = FoldRing<T, TrinomialModulus<T, F>>;
 
 /// The reducer of the modulus 2^P1 - 2^P2 + K of at most 32 bits.
 pub type FixedTrinomialSolinas32<const P1: u8, const P2: u8, const K: i32> = TrinomialSolinas<
@@ -167,7 +168,7 @@ pub type FixedTrinomialSolinas64<const P1: u8, const P2: u8, const K: i64> = Tri
     Trinomial64<P1, P2, K>,
 >;
 
-impl<T: TrinomialWord, F: Trinomial> Clone for TrinomialSolinas<T, F> {
+impl<T: TrinomialWord, F: Trinomial> Clone for TrinomialModulus<T, F> {
     ghost is_clone = { λ x y. y ≡ x };
 
     ghost is_infallible = { λ _. ⊤ };
@@ -177,9 +178,9 @@ impl<T: TrinomialWord, F: Trinomial> Clone for TrinomialSolinas<T, F> {
     }
 }
 
-impl<T: TrinomialWord, F: Trinomial> Copy for TrinomialSolinas<T, F> {}
+impl<T: TrinomialWord, F: Trinomial> Copy for TrinomialModulus<T, F> {}
 
-impl<T: TrinomialWord, F: Trinomial> TrinomialSolinas<T, F> {
+impl<T: TrinomialWord, F: Trinomial> FoldRing<T, TrinomialModulus<T, F>> {
     // What a fold at the bit p1 multiplies by.
     fn factor() -> T
         requires { IsTrinomialRange T.width F.p1 F.p2 F.k }
@@ -230,89 +231,45 @@ impl<T: TrinomialWord, F: Trinomial> TrinomialSolinas<T, F> {
             reduce_by_folds(v, F::p1() as u32, Self::factor(), modulus)
         }
     }
-
-    // The product of words below m.
-    fn product_below(a: T, b: T) -> T
-        requires range { IsTrinomialRange T.width F.p1 F.p2 F.k }
-        requires left { T.number a < trinomial F.p1 F.p2 F.k }
-        requires right { T.number b < trinomial F.p1 F.p2 F.k }
-        ensures { T.number result ≡ (T.number a * T.number b) % trinomial F.p1 F.p2 F.k }
-    {
-        if is_low(F::p1(), F::p2(), F::k()) {
-            Self::reduce_double(a.product(b))
-        } else {
-            reduce_product(a, b, F::p1() as u32, Self::factor(), Self::fixed_modulus())
-        }
-    }
 }
 
-impl<T: TrinomialWord, F: Trinomial> Reducer<T> for TrinomialSolinas<T, F> {
-    ghost admits = { IsTrinomial T.width F.p1 F.p2 F.k };
+impl<T: TrinomialWord, F: Trinomial> FoldModulus<T> for TrinomialModulus<T, F> {
+    ghost taken = { IsTrinomial T.width F.p1 F.p2 F.k };
 
-    ghost form = { plain_form };
+    ghost modulus = { λ m. trinomial F.p1 F.p2 F.k };
 
-    ghost value = { plain_value };
-
-    ghost modulus = { λ r. trinomial F.p1 F.p2 F.k };
-
-    ghost admitted = { λ r. record { range = r.range; same = refl } };
-
-    ghost canonical = { λ r. trinomial_canonical r.range };
-
-    fn new(_m: &T) -> Self {
-        TrinomialSolinas {
+    fn of(_m: T) -> Self {
+        TrinomialModulus {
             word: PhantomData,
             of: PhantomData,
         }
     }
 
-    fn transform(&self, n: T) -> T {
-        Self::reduce_single(n)
+    fn number(&self) -> T {
+        TrinomialSolinas::<T, F>::fixed_modulus()
     }
 
-    fn check(&self, f: &T) -> bool {
-        f.is_below(Self::fixed_modulus())
+    fn reduced(&self, n: T) -> T {
+        TrinomialSolinas::<T, F>::reduce_single(n)
     }
 
-    fn modulus(&self) -> T {
-        Self::fixed_modulus()
+    fn product(&self, a: T, b: T) -> T {
+        if is_low(F::p1(), F::p2(), F::k()) {
+            TrinomialSolinas::<T, F>::reduce_double(a.product(b))
+        } else {
+            reduce_product(
+                a,
+                b,
+                F::p1() as u32,
+                TrinomialSolinas::<T, F>::factor(),
+                self.number(),
+            )
+        }
     }
 
-    fn residue(&self, f: T) -> T {
-        f
-    }
+    ghost was_taken = { λ m. record { range = m.range; same = refl } };
 
-    fn is_zero(&self, f: &T) -> bool {
-        f.is_zero_word()
-    }
-
-    fn add(&self, a: &T, b: &T) -> T {
-        add_below(*a, *b, Self::fixed_modulus())
-    }
-
-    fn dbl(&self, f: T) -> T {
-        dbl_below(f, Self::fixed_modulus())
-    }
-
-    fn sub(&self, a: &T, b: &T) -> T {
-        sub_below(*a, *b, Self::fixed_modulus())
-    }
-
-    fn neg(&self, f: T) -> T {
-        neg_below(f, Self::fixed_modulus())
-    }
-
-    fn mul(&self, a: &T, b: &T) -> T {
-        Self::product_below(*a, *b)
-    }
-
-    fn inv(&self, f: T) -> Option<T> {
-        invm(f, Self::fixed_modulus())
-    }
-
-    fn sqr(&self, f: T) -> T {
-        Self::product_below(f, f)
-    }
+    ghost canonical = { λ m. trinomial_canonical m.range };
 }
 
 #[cfg(test)]

@@ -1,6 +1,6 @@
 use Rattle.std.proofs.Common.{rules}
 use Rattle.modular_folds.specs.SolinasLaws.{trinomial_folding}
-use Rattle.modular_folds.proofs.solinas.TrinomialSolinas.reduce_counted.Goals as goal
+use Rattle.modular_folds.proofs.solinas.FoldRing+T+TrinomialModulus+T+F.reduce_counted.Goals as goal
 
 pub reduce_by_folds-requires : goal.reduce_by_folds-requires
 reduce_by_folds-requires g c =

@@ -1,6 +1,6 @@
 use Rattle.std.proofs.Common.{rules, arith, pos, ap, ◌∙◌}
 use Rattle.modular_folds.specs.SolinasLaws.{trinomial_fits, trinomial_is}
-use Rattle.modular_folds.proofs.solinas.TrinomialSolinas.fixed_modulus.Goals as goal
+use Rattle.modular_folds.proofs.solinas.FoldRing+T+TrinomialModulus+T+F.fixed_modulus.Goals as goal
 
 pub word_of-requires : goal.word_of-requires
 word_of-requires g c =

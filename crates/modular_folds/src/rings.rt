@@ -1,0 +1,123 @@
+//! The reducer of a modulus near a power of two, written once: each value is its own form.
+
+ghost use Rattle.std.specs.Prelude.{◌≡◌, ℕ, ◌*◌, ◌%◌, ◌<◌};
+ghost use Rattle.modular_reduced.specs.Forms.{IsCanonical};
+ghost use Rattle.modular_reduced.specs.Plain.{plain_form, plain_value};
+
+use crate::folds::FoldedWord;
+use modular_prim::below::{add_below, dbl_below, neg_below, sub_below};
+use modular_prim::euclid::invm;
+use modular_prim::plain_word::PlainWord;
+use modular_reduced::reducer::Reducer;
+use modular_word::path_word::PathWord;
+use modular_word::ring_word::RingWord;
+use std::marker::PhantomData;
+
+/// A modulus near a power of two, which is given by parameters of the type: its number, and how words
+/// and products are reduced by it. A value of the type is known to have parameters in range.
+pub trait FoldModulus<T: FoldedWord>: Copy {
+    // The moduli that are taken.
+    ghost taken: { ℕ → Type 0 };
+
+    ghost modulus: { Self → ℕ };
+
+    /// The modulus of the parameters. Condition: it is m, and the parameters are in range.
+    fn of(m: T) -> Self
+        requires { taken (T.number m) }
+        ensures { modulus result ≡ T.number m };
+
+    /// The modulus.
+    fn number(&self) -> T
+        ensures { T.number result ≡ modulus self.now };
+
+    /// The residue of a word.
+    fn reduced(&self, n: T) -> T
+        ensures { T.number result ≡ T.number n % modulus self.now };
+
+    /// The residue of a product. Condition: both factors are below the modulus.
+    fn product(&self, a: T, b: T) -> T
+        requires left { T.number a < modulus self.now }
+        requires right { T.number b < modulus self.now }
+        ensures { T.number result ≡ (T.number a * T.number b) % modulus self.now };
+
+    ghost was_taken: { (m : Self) → taken (modulus m) };
+
+    ghost canonical: { (m : Self) → IsCanonical plain_form plain_value T.width (modulus m) };
+}
+
+/// The reducer of a modulus near a power of two, over words T: the form of a value is the value itself.
+/// It keeps no number, and `new` takes the modulus of the parameters alone.
+#[derive(Debug, Clone, Copy)]
+pub struct FoldRing<T: FoldedWord, M: FoldModulus<T>> {
+    word: PhantomData<T>,
+    of: M,
+}
+
+impl<T: FoldedWord, M: FoldModulus<T>> Reducer<T> for FoldRing<T, M> {
+    ghost admits = { M.taken };
+
+    ghost form = { plain_form };
+
+    ghost value = { plain_value };
+
+    ghost modulus = { λ r. M.modulus r.of };
+
+    ghost admitted = { λ r. M.was_taken r.of };
+
+    ghost canonical = { λ r. M.canonical r.of };
+
+    fn new(m: &T) -> Self {
+        FoldRing {
+            word: PhantomData,
+            of: M::of(*m),
+        }
+    }
+
+    fn transform(&self, n: T) -> T {
+        self.of.reduced(n)
+    }
+
+    fn check(&self, f: &T) -> bool {
+        f.is_below(self.of.number())
+    }
+
+    fn modulus(&self) -> T {
+        self.of.number()
+    }
+
+    fn residue(&self, f: T) -> T {
+        f
+    }
+
+    fn is_zero(&self, f: &T) -> bool {
+        f.is_zero_word()
+    }
+
+    fn add(&self, a: &T, b: &T) -> T {
+        add_below(*a, *b, self.of.number())
+    }
+
+    fn dbl(&self, f: T) -> T {
+        dbl_below(f, self.of.number())
+    }
+
+    fn sub(&self, a: &T, b: &T) -> T {
+        sub_below(*a, *b, self.of.number())
+    }
+
+    fn neg(&self, f: T) -> T {
+        neg_below(f, self.of.number())
+    }
+
+    fn mul(&self, a: &T, b: &T) -> T {
+        self.of.product(*a, *b)
+    }
+
+    fn inv(&self, f: T) -> Option<T> {
+        invm(f, self.of.number())
+    }
+
+    fn sqr(&self, f: T) -> T {
+        self.of.product(f, f)
+    }
+}
