@@ -6,7 +6,6 @@ pub returns : goal.returns
 returns g c =
     let n = g.T.RingWord.number in
     let m = g.R.Reducer.modulus c.args.ring.now in
-    let canonical = g.met.R.Reducer.canonical c.args.ring.now in
-    sym (canonical.one_value _ _ c.residue.ensures) ∙ canonical.one_value _ _ c.mul.ensures
-    ∙ ap₂ (λ x y. (x * y) % m) (canonical.one_value _ _ c.transform.ensures) (canonical.one_value _ _ c.transform-2.ensures)
+    c.residue.ensures.value ∙ c.mul.ensures.value
+    ∙ ap₂ (λ x y. (x * y) % m) c.transform.ensures.value c.transform-2.ensures.value
     ∙ sym (mul-mod (n c.args.a) (n c.args.b) m)
