@@ -131,6 +131,12 @@ const ANSWERS: &[(&str, u8, &str, &str)] = &[
     ),
     ("montgomery 1 div,0,1,2", 0, ZEROS, ""),
     (
+        "montgomery 20 load,0,7 load,1,9 div,1,0,1",
+        0,
+        "7 3 0 0 0 0 0 0\n",
+        "",
+    ),
+    (
         "montgomery 20 load,0,7 load,1,9 mul,2,0,1",
         0,
         "7 9 3 0 0 0 0 0\n",
