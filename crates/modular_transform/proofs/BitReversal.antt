@@ -1,9 +1,9 @@
 -- Reversed bits: within range, and back again.
-use Rattle.std.proofs.Common.{◌≡◌, ℕ, suc, zero, ◌+◌, ◌*◌, ◌%◌, ◌/◌, ◌^◌, ◌<◌, ◌≤◌, ◌∙◌, ap, refl, arith, inl, inr}
-use Rattle.std.proofs.lemmas.Bool.{cases_eq}
-use Rattle.std.proofs.Math.Nat.{two-pow-succ}
-use Rattle.std.proofs.lemmas.Nat.{pow-add, shl-shr}
-use Rattle.std.specs.Int.{reverse_bits_onto}
+use Rattle.std.proofs.Common.{◌≡◌, ℕ, suc, zero, ◌+◌, ◌-◌, ◌*◌, ◌%◌, ◌/◌, ◌^◌, ◌<◌, ◌≤◌, ◌∙◌, ap, refl, arith, inl, inr}
+use Rattle.std.proofs.lemmas.Bool.{cases_lt, cases_eq}
+use Rattle.std.proofs.Math.Nat.{two-pow-succ, pow-le-pow_right, mod-eq_of_lt}
+use Rattle.std.specs.Int.Count.{count_trailing_zeros}
+use lib.Count.{under}
 use Rattle.modular_transform.specs.Orders.{bits_reversed}
 
 pub bits_reversed-zero : (p : ℕ) → bits_reversed 0 p ≡ 0
@@ -65,38 +65,92 @@ bits_reversed_twice (suc t) p below =
     omega (arith, e, h, ih)
 
 -- the bits of 0
-bits_reversed_of_zero : (t : ℕ) → bits_reversed t 0 ≡ 0
+pub bits_reversed_of_zero : (t : ℕ) → bits_reversed t 0 ≡ 0
 bits_reversed_of_zero zero = bits_reversed-zero 0
 bits_reversed_of_zero (suc t) = let e = bits_reversed-suc t 0 in let h = bits_reversed_of_zero t in let z : 0 / 2 ≡ 0 = refl in let a = ap (bits_reversed t) z in omega (arith, e, h, a)
 
--- more bits than the number has
-pub bits_reversed_wider : (t e p : ℕ) → p < 2 ^ t → bits_reversed (t + e) p ≡ bits_reversed t p * 2 ^ e
-bits_reversed_wider zero e p below =
-    let k : 2 ^ 0 ≡ 1 = refl in
-    let z : p ≡ 0 = omega (arith, k) in
-    let s : 0 + e ≡ e = omega arith in
-    let o = ap (λ v. v * 2 ^ e) (bits_reversed-zero p) in
-    ap (λ n. bits_reversed n p) s ∙ ap (bits_reversed e) z ∙ bits_reversed_of_zero e ∙ omega (arith, o)
-bits_reversed_wider (suc t) e p below =
-    let k = two-pow-succ t in
-    let s : suc t + e ≡ suc (t + e) = omega arith in
-    let ih = bits_reversed_wider t e (p / 2) (omega (arith, k)) in
-    let d = bits_reversed-suc (t + e) p in
-    let q = ap (λ v. p % 2 * v) (pow-add 2 t e) in
-    let r = ap (λ v. v * 2 ^ e) (bits_reversed-suc t p) in
-    ap (λ n. bits_reversed n p) s ∙ omega (arith, ih, d, q, r)
+-- how the reversed bits of p come from those of p - 1, where p ends in t zeros
+pub record NextReversed (b p t : ℕ) : Type 0 where
+  pub few : t < b
+  pub next : bits_reversed b p + 2 ^ b ≡ bits_reversed b (p - 1) + 3 * 2 ^ (b - 1 - t)
 
-onto : (t p a : ℕ) → reverse_bits_onto t p a ≡ a * 2 ^ t + bits_reversed t p
-unfolding reverse_bits_onto
-onto zero p a = let z = bits_reversed-zero p in let k : a * 2 ^ 0 ≡ a = omega arith in omega (arith, z, k)
-onto (suc t) p a =
-    let ih = onto t (p / 2) (a * 2 + p % 2) in
-    let e = bits_reversed-suc t p in
-    let k = ap (λ v. a * v) (two-pow-succ t) in
-    omega (arith, ih, e, k)
+next_step : (c p t r : ℕ) → p % 2 ≡ r → r < 2 → 0 < p → (0 < p / 2 → NextReversed c (p / 2) t) → NextReversed (suc c) p (under r t)
+next_step c p t zero even l some half =
+    let ih = half (omega arith) in
+    let few = ih.few in
+    let n = ih.next in
+    let k = two-pow-succ c in
+    let d = bits_reversed-suc c p in
+    let z : p % 2 * 2 ^ c ≡ 0 = ap (λ v. v * 2 ^ c) even ∙ omega arith in
+    let e = bits_reversed-suc c (p - 1) in
+    let h : (p - 1) / 2 ≡ p / 2 - 1 = omega arith in
+    let o : (p - 1) % 2 ≡ 1 = omega arith in
+    let f = ap (λ v. bits_reversed c v) h in
+    let g : (p - 1) % 2 * 2 ^ c ≡ 2 ^ c = ap (λ v. v * 2 ^ c) o ∙ omega arith in
+    let x : suc c - 1 - suc t ≡ c - 1 - t = omega arith in
+    let y = ap (λ v. 2 ^ v) x in
+    record { few = omega arith; next = omega (arith, n, k, d, z, e, f, g, y) }
+next_step c p t (suc zero) odd l some half =
+    let k = two-pow-succ c in
+    let d = bits_reversed-suc c p in
+    let z : p % 2 * 2 ^ c ≡ 2 ^ c = ap (λ v. v * 2 ^ c) odd ∙ omega arith in
+    let e = bits_reversed-suc c (p - 1) in
+    let h : (p - 1) / 2 ≡ p / 2 = omega arith in
+    let o : (p - 1) % 2 ≡ 0 = omega arith in
+    let f = ap (λ v. bits_reversed c v) h in
+    let g : (p - 1) % 2 * 2 ^ c ≡ 0 = ap (λ v. v * 2 ^ c) o ∙ omega arith in
+    let x : suc c - 1 - 0 ≡ c = omega arith in
+    let y = ap (λ v. 2 ^ v) x in
+    record { few = omega arith; next = omega (arith, k, d, z, e, f, g, y) }
+next_step c p t (suc (suc r)) e l some half = absurd (omega arith)
 
--- the highest bits of what `reverse_bits` gives
-pub reverse_bits_shifted : (t e p : ℕ) → p < 2 ^ t → reverse_bits_onto (t + e) p 0 / 2 ^ e ≡ bits_reversed t p
-reverse_bits_shifted t e p below =
-    let whole : reverse_bits_onto (t + e) p 0 ≡ bits_reversed t p * 2 ^ e = onto (t + e) p 0 ∙ (let w = bits_reversed_wider t e p below in omega (arith, w)) in
-    ap (λ v. v / 2 ^ e) whole ∙ shl-shr (bits_reversed t p) e
+pub next_reversed : (w b p : ℕ) → 0 < p → p < 2 ^ w → p < 2 ^ b → NextReversed b p (count_trailing_zeros w p)
+unfolding count_trailing_zeros
+next_reversed zero b p some k l = let z : 2 ^ 0 ≡ 1 = refl in absurd (omega (arith, z))
+next_reversed (suc w) zero p some k l = let z : 2 ^ 0 ≡ 1 = refl in absurd (omega (arith, z))
+next_reversed (suc w) (suc c) p some k l =
+    let u = two-pow-succ w in
+    let v = two-pow-succ c in
+    next_step c p (count_trailing_zeros w (p / 2)) (p % 2) refl (omega arith) some
+    (λ h. next_reversed w c (p / 2) h (omega (arith, u)) (omega (arith, v)))
+
+exponent_below_64 : (b : ℕ) → 2 ^ b < 2 ^ 64 → b ≤ 63
+exponent_below_64 b l = elim (cases_lt b 64) [
+  | inl h ↦ omega arith
+  | inr h ↦ let m = pow-le-pow_right {n = 2} (omega arith) {i = 64} {j = b} h in absurd (omega (arith, m))
+]
+
+-- one step of the reversed place of n places, o being the reversed place of p - 1
+pub record ReversedStep (b p n o s : ℕ) : Type 0 where
+  pub zeros : count_trailing_zeros 64 p ≤ b - 1
+  pub twice : 2 * s ≤ n
+  pub small : n ≤ 2 ^ 63
+  pub below : o < n
+  pub enough : n - 2 * s ≤ o + s
+  pub next : o + s - (n - 2 * s) ≡ bits_reversed b p
+
+pub reversed_step : (b p n o s : ℕ) → n ≡ 2 ^ b → n < 2 ^ 64 → 0 < p → p < n → o ≡ bits_reversed b (p - 1)
+    → s ≡ (1 * 2 ^ (b - 1 - count_trailing_zeros 64 p)) % 18446744073709551616 → ReversedStep b p n o s
+reversed_step zero p n o s whole fits some l is_o is_s = let z : 2 ^ 0 ≡ 1 = refl in absurd (omega (arith, z))
+reversed_step (suc c) p n o s whole fits some l is_o is_s =
+    let t : ℕ = count_trailing_zeros 64 p in
+    let k = next_reversed 64 (suc c) p some (omega arith) (omega arith) in
+    let few = k.few in
+    let next = k.next in
+    let u = two-pow-succ c in
+    let less = pow-le-pow_right {n = 2} (omega arith) {i = suc c - 1 - t} {j = c} (omega arith) in
+    let q : 2 ^ 64 ≡ 18446744073709551616 = refl in
+    let one : 1 * 2 ^ (suc c - 1 - t) ≡ 2 ^ (suc c - 1 - t) = omega arith in
+    let small : 2 ^ (suc c - 1 - t) < 18446744073709551616 = omega (arith, less, u, q) in
+    let step : s ≡ 2 ^ (suc c - 1 - t) = is_s ∙ ap (λ v. v % 18446744073709551616) one ∙ mod-eq_of_lt small in
+    let below = bits_reversed_below (suc c) (p - 1) in
+    let exponent : suc c ≤ 63 = exponent_below_64 (suc c) (omega arith) in
+    let most = pow-le-pow_right {n = 2} (omega arith) {i = suc c} {j = 63} exponent in
+    record {
+      zeros = omega arith;
+      twice = omega (arith, less, u, step);
+      small = omega (arith, most);
+      below = omega (arith, below);
+      enough = omega (arith, next, step, less, u);
+      next = omega (arith, next, step, less, u);
+    }

@@ -1,40 +1,116 @@
-use Rattle.std.proofs.Common.{◌+◌, ◌<◌, ◌≤◌, length, get_or, subst, sym, ◌∙◌, ap, arith}
+use Rattle.std.proofs.Common.{◌≡◌, ◌+◌, ◌-◌, ◌<◌, ◌≤◌, length, get_or, subst, sym, ◌∙◌, ap, arith, refl}
 use Rattle.std.proofs.lemmas.List.Edits.{swapped_from_swap}
+use Rattle.std.proofs.lemmas.Nat.{pow_pos}
 use Rattle.std.specs.List.{swap}
 use Rattle.modular_transform.specs.Orders.{bits_reversed}
-use Rattle.modular_transform.proofs.Reordering.{ReorderedSoFar}
-use Rattle.modular_transform.proofs.BitReversal.{bits_reversed_below}
-use Rattle.modular_transform.proofs.Reordering.{bits_exchange, reordered_swapped, reordered_passed, reordered_all}
+use Rattle.modular_transform.proofs.BitReversal.{bits_reversed_below, bits_reversed_of_zero, reversed_step}
+use Rattle.modular_transform.proofs.Reordering.{ReorderedSoFar, bits_exchange, reordered_none, reordered_swapped, reordered_passed, reordered_all}
 use Rattle.modular_transform.proofs.order.reverse_places.Goals as goal
 use Rattle.modular_transform.proofs.order.reverse_places.Goals.{then-place-other, else-place-other}
 
+pub places-init : goal.places-init
+places-init g c =
+    let n = length c.args.entries.now in
+    let s = bits_reversed c.args.bits in
+    let zero = bits_reversed_of_zero c.args.bits in
+    let some : 0 < n = let p = pow_pos c.args.bits in let w = c.requires.whole in omega (arith, p, w) in
+    record {
+      other = sym zero;
+      reordered = λ d. reordered_passed n 0 s (λ k. get_or c.args.entries.now k d) (λ k. get_or c.args.entries.now k d) (bits_exchange c.args.bits n c.requires.whole) some (omega (arith, zero)) (reordered_none n s (λ k. get_or c.args.entries.now k d));
+    }
+
+pub overflow_sub-step-in-places : goal.overflow_sub-step-in-places
+overflow_sub-step-in-places g c =
+    let step = reversed_step c.args.bits c.places.place (length c.args.entries.now) c.places.other _ c.requires.whole (omega arith) (omega arith) (omega arith) c.places.invariant.other refl in
+    let zeros = step.zeros in
+    let twice = step.twice in
+    let small = step.small in
+    let below = step.below in
+    let enough = step.enough in
+    let next = step.next in
+    omega (arith, zeros, twice, small, below, enough, next)
+
+pub overflow_add-other : goal.overflow_add-other
+overflow_add-other g c =
+    let step = reversed_step c.args.bits c.places.place (length c.args.entries.now) c.places.other _ c.requires.whole (omega arith) (omega arith) (omega arith) c.places.invariant.other refl in
+    let zeros = step.zeros in
+    let twice = step.twice in
+    let small = step.small in
+    let below = step.below in
+    let enough = step.enough in
+    let next = step.next in
+    omega (arith, zeros, twice, small, below, enough, next)
+
+pub overflow_mul-other : goal.overflow_mul-other
+overflow_mul-other g c =
+    let step = reversed_step c.args.bits c.places.place (length c.args.entries.now) c.places.other _ c.requires.whole (omega arith) (omega arith) (omega arith) c.places.invariant.other refl in
+    let zeros = step.zeros in
+    let twice = step.twice in
+    let small = step.small in
+    let below = step.below in
+    let enough = step.enough in
+    let next = step.next in
+    omega (arith, zeros, twice, small, below, enough, next)
+
+pub overflow_sub-other : goal.overflow_sub-other
+overflow_sub-other g c =
+    let step = reversed_step c.args.bits c.places.place (length c.args.entries.now) c.places.other _ c.requires.whole (omega arith) (omega arith) (omega arith) c.places.invariant.other refl in
+    let zeros = step.zeros in
+    let twice = step.twice in
+    let small = step.small in
+    let below = step.below in
+    let enough = step.enough in
+    let next = step.next in
+    omega (arith, zeros, twice, small, below, enough, next)
+
+pub overflow_sub-other-in-places : goal.overflow_sub-other-in-places
+overflow_sub-other-in-places g c =
+    let step = reversed_step c.args.bits c.places.place (length c.args.entries.now) c.places.other _ c.requires.whole (omega arith) (omega arith) (omega arith) c.places.invariant.other refl in
+    let zeros = step.zeros in
+    let twice = step.twice in
+    let small = step.small in
+    let below = step.below in
+    let enough = step.enough in
+    let next = step.next in
+    omega (arith, zeros, twice, small, below, enough, next)
+
 pub swap-requires-clause-b_in_bounds : goal.swap-requires-clause-b_in_bounds
 swap-requires-clause-b_in_bounds g c =
-    let e = c.reversed-other.ensures in
+    let step = reversed_step c.args.bits c.places.place (length c.args.entries.now) c.places.other _ c.requires.whole (omega arith) (omega arith) (omega arith) c.places.invariant.other refl in
+    let next = step.next in
     let b = bits_reversed_below c.args.bits c.places.place in
-    omega (arith, e, b)
+    omega (arith, next, b)
 
 pub places-preserved : goal.places-preserved
-places-preserved g c d =
+places-preserved g c =
+    let step = reversed_step c.args.bits c.places.place (length c.args.entries.now) c.places.other _ c.requires.whole (omega arith) (omega arith) (omega arith) c.places.invariant.other refl in
     let n = length c.args.entries.now in
     let i = c.places.place in
     let s = bits_reversed c.args.bits in
     let exchange = bits_exchange c.args.bits n c.requires.whole in
-    let is = c.reversed-other.ensures in
+    let is = step.next in
     let l : i < n = omega arith in
-    elim c.if-place-other.branch [
-      | then-place-other w ↦
-          let order : i < s i = omega (arith, is) in
-          let within : s i < length c.places.entries = let b = bits_reversed_below c.args.bits i in omega (arith, b) in
-          let e = w.entries-is ∙ w.swap.ensures.after ∙ ap (λ j. swap c.places.entries i j) is in
-          reordered_swapped n i s (λ k. get_or c.args.entries.now k d) (λ k. get_or c.places.entries k d) (λ k. get_or c.if-place-other.entries k d) exchange l order
-          (swapped_from_swap c.places.entries c.if-place-other.entries i (s i) d (omega arith) within e) (c.places.invariant d)
-      | else-place-other w ↦
-          let order : s i ≤ i = omega (arith, is) in
-          subst (λ es. ReorderedSoFar n (i + 1) s (λ k. get_or c.args.entries.now k d) (λ k. get_or es k d)) (sym w.entries-is) (reordered_passed n i s (λ k. get_or c.args.entries.now k d) (λ k. get_or c.places.entries k d) exchange l order (c.places.invariant d))
-    ]
+    let back : i + 1 - 1 ≡ i = omega arith in
+    record {
+      other = is ∙ ap s (sym back);
+      reordered = λ d. elim c.if-place-other.branch [
+        | then-place-other w ↦
+            let order : i < s i = omega (arith, is) in
+            let within : s i < length c.places.entries = let b = bits_reversed_below c.args.bits i in omega (arith, b) in
+            let e = w.entries-is ∙ w.swap.ensures.after ∙ ap (λ j. swap c.places.entries i j) is in
+            reordered_swapped n i s (λ k. get_or c.args.entries.now k d) (λ k. get_or c.places.entries k d) (λ k. get_or c.if-place-other.entries k d) exchange l order
+            (swapped_from_swap c.places.entries c.if-place-other.entries i (s i) d (omega arith) within e) (c.places.invariant.reordered d)
+        | else-place-other w ↦
+            let order : s i ≤ i = omega (arith, is) in
+            subst (λ es. ReorderedSoFar n (i + 1) s (λ k. get_or c.args.entries.now k d) (λ k. get_or es k d)) (sym w.entries-is)
+            (reordered_passed n i s (λ k. get_or c.args.entries.now k d) (λ k. get_or c.places.entries k d) exchange l order (c.places.invariant.reordered d))
+      ];
+    }
 
 pub returns : goal.returns
-returns g c = record {
-  each = λ i d l. reordered_all (length c.args.entries.now) c.places.place (bits_reversed c.args.bits) _ _ (omega arith) (c.places.invariant d) i l;
-}
+returns g c =
+    let n = length c.args.entries.now in
+    let some : 0 < n = let p = pow_pos c.args.bits in let w = c.requires.whole in omega (arith, p, w) in
+    record {
+      each = λ i d l. reordered_all n c.places.place (bits_reversed c.args.bits) _ _ (omega arith) (c.places.invariant.reordered d) i l;
+    }
