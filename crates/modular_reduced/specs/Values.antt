@@ -1,4 +1,4 @@
--- Lists of forms, and the values that they stand for.
+-- Lists of forms, and the values that they stand for. The words are the library's own.
 use Rattle.std.specs.Prelude.{ℕ, ◌<◌, List, map, length, slice_index_or}
 use Rattle.modular_reduced.specs.Forms.{Represents}
 

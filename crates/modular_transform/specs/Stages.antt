@@ -1,5 +1,5 @@
 -- The stages of a transform in place: blocks of h + h values, in which the values h apart make pairs
--- (Gentleman and Sande, "Fast Fourier transforms: for fun and profit").
+-- (Gentleman and Sande, "Fast Fourier transforms: for fun and profit", section 2). The words are the library's own.
 use Rattle.std.specs.Prelude.{◌≡◌, ◌≢◌, ℕ, ◌+◌, ◌*◌, ◌^◌, ◌<◌, ◌≤◌}
 use Rattle.modular_word.specs.Congruence.{Congruent}
 
@@ -8,10 +8,11 @@ pub record IsPair (m power a b sum difference : ℕ) : Type 0 where
   pub summed : Congruent m sum (a + b)
   pub subtracted : Congruent m (difference + b * power) (a * power)
 
--- the places of the pair of column i in block p
+-- the place of the first value of the pair of column i in block p
 abbrev pub low : ℕ → ℕ → ℕ → ℕ
 low h p i = p * (h + h) + i
 
+-- the place of its second value
 abbrev pub high : ℕ → ℕ → ℕ → ℕ
 high h p i = p * (h + h) + (h + i)
 
