@@ -128,30 +128,33 @@ fn list(n: usize, seed: u64) -> Vec<u64> {
     (0..n as u64).map(|i| (i * i).wrapping_mul(0x9e37_79b9_7f4a_7c15).wrapping_add(seed) % MODULUS).collect()
 }
 
-/// The milliseconds of the best of some turns, and the answer.
-fn best(turns: usize, n: usize, run: &dyn Fn(&mut [u64], &mut [u64])) -> (f64, Vec<u64>) {
-    let mut least = f64::INFINITY;
-    let mut answer = Vec::new();
-    for _ in 0..turns {
-        let (mut xs, mut ys) = (list(n, 3), list(n, 14));
-        let start = Instant::now();
-        run(&mut xs, &mut ys);
-        least = least.min(start.elapsed().as_secs_f64() * 1e3);
-        answer = xs;
-    }
-    (least, answer)
+/// The milliseconds of one turn, and the answer.
+fn turn(n: usize, run: &dyn Fn(&mut [u64], &mut [u64])) -> (f64, Vec<u64>) {
+    let (mut xs, mut ys) = (list(n, 3), list(n, 14));
+    let start = Instant::now();
+    run(&mut xs, &mut ys);
+    (start.elapsed().as_secs_f64() * 1e3, xs)
 }
 
+/// The best of some turns of the three, one after the other; false where their answers differ.
 fn print_line(name: &str, n: usize, runs: [&dyn Fn(&mut [u64], &mut [u64]); 3]) -> bool {
-    let turns = if n > 1 << 17 { 9 } else { 25 };
-    let [(port, ours), (columns, first), (table, second)] = runs.map(|run| best(turns, n, run));
+    let mut best = [f64::INFINITY; 3];
+    let mut same = true;
+    for _ in 0..if n > 1 << 17 { 15 } else { 60 } {
+        let turns = runs.map(|run| turn(n, run));
+        same &= turns[0].1 == turns[1].1 && turns[0].1 == turns[2].1;
+        for (least, (time, _)) in best.iter_mut().zip(&turns) {
+            *least = least.min(*time);
+        }
+    }
+    let [port, columns, table] = best;
     println!(
         "| {name} | 2^{} | {port:.3} | {columns:.3} | {table:.3} | {:.2} | {:.2} |",
         n.trailing_zeros(),
         port / columns,
         port / table
     );
-    ours == first && ours == second
+    same
 }
 
 fn transform_line<R: Reducer<u64>>(name: &str, r: &R, n: usize, port: Transform) -> bool {
