@@ -1,4 +1,4 @@
-use Rattle.std.proofs.Common.{rules, ◌≡◌, ◌-◌, ◌^◌, arith}
+use Rattle.std.proofs.Common.{rules, ◌≡◌, ◌+◌, ◌-◌, ◌*◌, ◌/◌, ◌%◌, ◌^◌, arith}
 use Rattle.std.proofs.Math.Nat.{mul-mod_left}
 use Rattle.modular_folds.proofs.FoldSteps.{power_fits}
 use Rattle.modular_folds.proofs.ProductFolds.{sum_by_one, sum_by_small}
@@ -28,8 +28,9 @@ returns-then-eq g c =
 
 pub fold_parts-rest-requires-clause-top : goal.fold_parts-rest-requires-clause-top
 fold_parts-rest-requires-clause-top g c =
+    let n = g.T.RingWord.number in
     let s = 2 ^ (g.T.RingWord.width - c.args.p) in
-    rw c.fold_parts-low.ensures.low (mul-mod_left _ s)
+    rw c.fold_parts-low.ensures.low (mul-mod_left ((n c.args.a * n c.args.b + n c.zero.result / s) % 2 ^ c.args.p) s)
 
 pub times-requires : goal.times-requires
 times-requires g c =
