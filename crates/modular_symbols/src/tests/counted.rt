@@ -2,25 +2,66 @@
 
 use crate::counted::{w8, w16, w32, w64, wsize};
 
-macro_rules! counted_rows {
-    ($rt:ident, $width:ident) => {
-        assert_eq!($rt; $width::checked_jacobi_counted(7, 15), Some((-1, 2)));
-        assert_eq!($rt; $width::checked_jacobi_counted(2, 15), Some((1, 2)));
-        assert_eq!($rt; $width::checked_jacobi_counted(1, 15), Some((1, 1)));
-        assert_eq!($rt; $width::checked_jacobi_counted(16, 255), Some((1, 5)));
-        assert_eq!($rt; $width::checked_jacobi_counted(0, 9), Some((0, 0)));
-        assert_eq!($rt; $width::checked_jacobi_counted(1, 1), Some((1, 0)));
-        assert_eq!($rt; $width::checked_jacobi_counted(3, 8), None);
-    };
+// A number, the one that its symbol is over, and the symbol with its count.
+const ROWS: [(u8, u8, Option<(i8, u32)>); 7] = [
+    (7, 15, Some((-1, 2))),
+    (2, 15, Some((1, 2))),
+    (1, 15, Some((1, 1))),
+    (16, 255, Some((1, 5))),
+    (0, 9, Some((0, 0))),
+    (1, 1, Some((1, 0))),
+    (3, 8, None),
+];
+
+#[test]
+fn symbols_of_w8(rt: HostRuntime) {
+    for (a, n, want) in ROWS {
+        assert_eq!(rt; w8::checked_jacobi_counted(a, n), want, "{a} over {n}");
+    }
 }
 
 #[test]
-fn symbols_at_each_width(rt: HostRuntime) {
-    counted_rows!(rt, w8);
-    counted_rows!(rt, w16);
-    counted_rows!(rt, w32);
-    counted_rows!(rt, w64);
-    counted_rows!(rt, wsize);
+fn symbols_of_w16(rt: HostRuntime) {
+    for (a, n, want) in ROWS {
+        assert_eq!(rt;
+            w16::checked_jacobi_counted(a as u16, n as u16),
+            want,
+            "{a} over {n}"
+        );
+    }
+}
+
+#[test]
+fn symbols_of_w32(rt: HostRuntime) {
+    for (a, n, want) in ROWS {
+        assert_eq!(rt;
+            w32::checked_jacobi_counted(a as u32, n as u32),
+            want,
+            "{a} over {n}"
+        );
+    }
+}
+
+#[test]
+fn symbols_of_w64(rt: HostRuntime) {
+    for (a, n, want) in ROWS {
+        assert_eq!(rt;
+            w64::checked_jacobi_counted(a as u64, n as u64),
+            want,
+            "{a} over {n}"
+        );
+    }
+}
+
+#[test]
+fn symbols_of_wsize(rt: HostRuntime) {
+    for (a, n, want) in ROWS {
+        assert_eq!(rt;
+            wsize::checked_jacobi_counted(a as usize, n as usize),
+            want,
+            "{a} over {n}"
+        );
+    }
 }
 
 // 2^63 over 2^64 - 1 takes 63 halvings and a swap: 2 has the symbol 1 there.

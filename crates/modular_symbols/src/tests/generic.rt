@@ -20,33 +20,58 @@ fn callers_of_generic_code(rt: HostRuntime) {
     assert_eq!(rt; legendre_of_three(), 1);
 }
 
-macro_rules! ref_rows {
-    ($rt:ident, $T:ty) => {
-        let (a, b, m): ($T, $T, $T) = (11, 9, 7);
-        assert_eq!($rt; a.addm_ref(&b, &m), 6);
-        assert_eq!($rt; a.subm_ref(&b, &m), 2);
-        assert_eq!($rt; a.mulm_ref(&b, &m), 1);
-        assert_eq!($rt; a.negm_ref(&m), 3);
-        assert_eq!($rt; a.invm_ref(&m), Some(2));
-        assert_eq!($rt; m.invm_ref(&m), None);
-        assert_eq!($rt; a.dblm_ref(&m), 1);
-        assert_eq!($rt; a.sqm_ref(&m), 2);
-        assert_eq!($rt; a.powm_ref(&b, &m), 1);
-        assert_eq!($rt; b.checked_legendre_ref(&17), Some(1));
-        assert_eq!($rt; b.checked_jacobi_ref(&m), Some(1));
-        assert_eq!($rt; m.checked_jacobi_ref(&8), None);
-        assert_eq!($rt; m.kronecker_ref(&15), -1);
-    };
+#[test]
+fn operations_on_references_to_8_bits(rt: HostRuntime) {
+    let (a, b, m): (u8, u8, u8) = (11, 9, 7);
+    let of_two = [
+        a.addm_ref(&b, &m),
+        a.subm_ref(&b, &m),
+        a.mulm_ref(&b, &m),
+        a.powm_ref(&b, &m),
+    ];
+    assert_eq!(rt; of_two, [6, 2, 1, 1]);
+    let of_one = [a.negm_ref(&m), a.dblm_ref(&m), a.sqm_ref(&m)];
+    assert_eq!(rt; of_one, [3, 1, 2]);
+    assert_eq!(rt; [a.invm_ref(&m), m.invm_ref(&m)], [Some(2), None]);
 }
 
 #[test]
-fn references_to_8_bits(rt: HostRuntime) {
-    ref_rows!(rt, u8);
+fn symbols_of_references_to_8_bits(rt: HostRuntime) {
+    let (b, m): (u8, u8) = (9, 7);
+    let checked = [
+        b.checked_legendre_ref(&17),
+        b.checked_jacobi_ref(&m),
+        m.checked_jacobi_ref(&8),
+    ];
+    assert_eq!(rt; checked, [Some(1), Some(1), None]);
+    assert_eq!(rt; m.kronecker_ref(&15), -1);
 }
 
 #[test]
-fn references_to_64_bits(rt: HostRuntime) {
-    ref_rows!(rt, u64);
+fn operations_on_references_to_64_bits(rt: HostRuntime) {
+    let (a, b, m): (u64, u64, u64) = (11, 9, 7);
+    let of_two = [
+        a.addm_ref(&b, &m),
+        a.subm_ref(&b, &m),
+        a.mulm_ref(&b, &m),
+        a.powm_ref(&b, &m),
+    ];
+    assert_eq!(rt; of_two, [6, 2, 1, 1]);
+    let of_one = [a.negm_ref(&m), a.dblm_ref(&m), a.sqm_ref(&m)];
+    assert_eq!(rt; of_one, [3, 1, 2]);
+    assert_eq!(rt; [a.invm_ref(&m), m.invm_ref(&m)], [Some(2), None]);
+}
+
+#[test]
+fn symbols_of_references_to_64_bits(rt: HostRuntime) {
+    let (b, m): (u64, u64) = (9, 7);
+    let checked = [
+        b.checked_legendre_ref(&17),
+        b.checked_jacobi_ref(&m),
+        m.checked_jacobi_ref(&8),
+    ];
+    assert_eq!(rt; checked, [Some(1), Some(1), None]);
+    assert_eq!(rt; m.kronecker_ref(&15), -1);
 }
 
 // Each number of a byte, over each odd number of a byte.

@@ -1,26 +1,29 @@
 //! The least numbers of each width, over themselves and over 1, 0 and -1.
 
+use crate::integer::SymbolWord;
 use crate::symbols::ModularSymbols;
+use std::process::Abort;
 
-macro_rules! least_rows {
-    ($rt:ident, $T:ty) => {
-        let least = <$T>::MIN;
-        assert_eq!($rt; least.kronecker(&least), 0);
-        assert_eq!($rt; least.kronecker(&-1), -1);
-        assert_eq!($rt; least.kronecker(&0), 0);
-        assert_eq!($rt; least.kronecker(&1), 1);
-        assert_eq!($rt; least.checked_jacobi(&least), None);
-        assert_eq!($rt; least.checked_jacobi(&1), Some(1));
-        assert_eq!($rt; least.checked_legendre(&least), None);
-        assert_eq!($rt; least.checked_legendre(&1), Some(0));
-    };
+// The rows of a width's least number, by the numbers -1, 0 and 1 of the width.
+fn assert_least<T: SymbolWord>(rt: &impl Abort, least: T, minus_one: T, zero: T, one: T) {
+    let kroneckers = [
+        least.kronecker(&least),
+        least.kronecker(&minus_one),
+        least.kronecker(&zero),
+        least.kronecker(&one),
+    ];
+    assert_eq!(rt; kroneckers, [0, -1, 0, 1]);
+    let jacobis = [least.checked_jacobi(&least), least.checked_jacobi(&one)];
+    assert_eq!(rt; jacobis, [None, Some(1)]);
+    let legendres = [least.checked_legendre(&least), least.checked_legendre(&one)];
+    assert_eq!(rt; legendres, [None, Some(0)]);
 }
 
 #[test]
 fn the_least_numbers(rt: HostRuntime) {
-    least_rows!(rt, i8);
-    least_rows!(rt, i16);
-    least_rows!(rt, i32);
-    least_rows!(rt, i64);
-    least_rows!(rt, isize);
+    assert_least(&rt, i8::MIN, -1, 0, 1);
+    assert_least(&rt, i16::MIN, -1, 0, 1);
+    assert_least(&rt, i32::MIN, -1, 0, 1);
+    assert_least(&rt, i64::MIN, -1, 0, 1);
+    assert_least(&rt, isize::MIN, -1, 0, 1);
 }
