@@ -26,8 +26,8 @@ fn multiply_each<T: RingWord, R: Reducer<T>>(r: &R, xs: &mut [T], ys: &[T])
     }
 }
 
-// Multiplies each entry by a factor.
-fn scale<T: RingWord, R: Reducer<T>>(r: &R, xs: &mut [T], factor: &T)
+/// Multiplies each entry by a factor. Conditions: the entries and the factor are checked forms.
+pub fn scale<T: RingWord, R: Reducer<T>>(r: &R, xs: &mut [T], factor: &T)
     requires checked { All (λ f. IsForm R.form R.value (R.modulus r.now) (T.number f)) xs.old }
     requires factor { IsForm R.form R.value (R.modulus r.now) (T.number factor.now) }
     ensures entries { let m = R.modulus r.now in

@@ -1,8 +1,8 @@
 -- The transform by the inverse of a root takes the transform back to n times the values.
-use Rattle.std.proofs.Common.{◌≡◌, ◌≢◌, ℕ, suc, zero, ◌+◌, ◌-◌, ◌*◌, ◌%◌, ◌/◌, ◌^◌, ◌<◌, ◌≤◌, List, length, sym, ◌∙◌, ap, refl, arith, inl, inr, subst}
+use Rattle.std.proofs.Common.{◌≡◌, ◌≢◌, ℕ, suc, zero, ◌+◌, ◌-◌, ◌*◌, ◌%◌, ◌/◌, ◌^◌, ◌<◌, sym, ◌∙◌, ap, arith, inl, inr}
 use Rattle.std.proofs.lemmas.Bool.{cases_lt, cases_eq}
 use Rattle.std.proofs.lemmas.Nat.{pow-add, mul-pow}
-use Rattle.std.proofs.Math.Nat.{zero-mod, mod-eq_of_lt, add-zero}
+use Rattle.std.proofs.Math.Nat.{zero-mod, mod-eq_of_lt}
 use Rattle.modular_word.specs.Congruence.{Congruent}
 use Rattle.modular_word.specs.Inverses.{IsInverse}
 use Rattle.modular_word.specs.Sums.{sum_below}
@@ -10,8 +10,7 @@ use Rattle.modular_word.proofs.Congruence.{of_equal, itself, turned, chained, ad
 use Rattle.modular_word.proofs.Powers.{one-pow, pow-mul}
 use Rattle.modular_word.proofs.Sums.{sum_below-zero, sum_below-suc, sum_below-same, sum_below-congruent, sum_below-mul, sum_below-exchanged}
 use Rattle.modular_transform.specs.Transforms.{Suits, transform}
-use Rattle.modular_transform.proofs.Geometry.{geometric}
-use Rattle.modular_transform.proofs.CyclicProducts.{HalfTurn, geometric_of_one, at_other_turns}
+use Rattle.modular_transform.proofs.CyclicProducts.{geometric_of_one, at_other_turns}
 use Rattle.modular_transform.proofs.ConvolveLemmas.{half_turn}
 
 -- a sum with one term that isn't 0

@@ -1,28 +1,16 @@
 //! Callers of transforms, proved from their contracts alone.
 #![tactic(auto)]
 
-ghost use Rattle.std.specs.Prelude.{◌≡◌, ◌*◌, ◌%◌, All, length, slice_index};
+ghost use Rattle.std.specs.Prelude.{All, length, slice_index};
 ghost use Rattle.modular_word.specs.Inverses.{IsInverse};
 ghost use Rattle.modular_reduced.specs.Forms.{IsForm};
 ghost use Rattle.modular_reduced.specs.Values.{values_of, HoldValues};
 ghost use Rattle.modular_transform.specs.Transforms.{Suits};
 
 use modular_reduced::reducer::Reducer;
+use modular_transform::convolution::scale;
 use modular_transform::transform::ntt;
 use modular_word::ring_word::RingWord;
-
-// Multiplies each entry by a factor.
-fn scale<T: RingWord, R: Reducer<T>>(r: &R, xs: &mut [T], factor: &T)
-    requires checked { All (λ f. IsForm R.form R.value (R.modulus r.now) (T.number f)) xs.old }
-    requires factor { IsForm R.form R.value (R.modulus r.now) (T.number factor.now) }
-    ensures { let m = R.modulus r.now in
-        HoldValues T.number R.form m xs.new
-        (λ i. (slice_index (values_of T.number R.value m xs.old) i * R.value m (T.number factor.now)) % m) }
-{
-    'entries: for i in 0..xs.len() {
-        xs[i] = r.mul(&xs[i], factor);
-    }
-}
 
 /// The transform by g and then the one by its inverse, each entry times the inverse `part` of the
 /// length: every entry has the value that it had.

@@ -36,5 +36,5 @@ returns g c = record {
       ∙ ap (λ k. transform m h k y i) first in
       subst (λ v. Represents form m (number (get_or c.scale.new.xs i d)) v)
       (ap (λ v. (v * part) % m) back ∙ value_back n i part x y c.requires.inverse c.requires.suits c.requires.part within small there)
-      (c.scale.ensures.each i d l);
+      (c.scale.ensures.entries.each i d l);
 }
