@@ -84,6 +84,17 @@ fn even_modulus(rt: HostRuntime) {
     assert!(rt; are_forms(&r, &xs, &[7, 9]) && are_forms(&r, &ys, &[1, 0]));
 }
 
+#[test]
+fn even_modulus_of_montgomery(rt: HostRuntime) {
+    let r = Montgomery::<u8>::new(20);
+    let mut xs = [7, 9];
+    assert_eq!(rt; transformed(&r, &mut xs, 19), Some(3));
+    assert!(rt; are_forms(&r, &xs, &[16, 18]));
+    let (mut xs, mut ys) = ([7, 9], [1, 0]);
+    assert_eq!(rt; multiplied(&r, &mut xs, &mut ys, 19), Some(false));
+    assert!(rt; are_forms(&r, &xs, &[7, 9]) && are_forms(&r, &ys, &[1, 0]));
+}
+
 // The modulus 2^64 - 2^32 + 1, whose units have the order 2^32 * (2^32 - 1), with the generator 7.
 const MODULUS: u64 = 18446744069414584321;
 
