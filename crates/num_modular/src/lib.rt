@@ -1,7 +1,8 @@
 //! Modular rings over machine words, by the names of the crate `num-modular`.
 //!
-//! The root exports the traits, types and aliases; the modules are those of the source, with `ring`
-//! (lists of commands run over any reducer) and `modrun` (the body of the program) beside them.
+//! The root exports the traits, types and aliases, and the bounds that generic code over them names;
+//! the modules are those of the source, with `ring` (lists of commands run over any reducer), `rings`
+//! (the generic types behind the aliases), `laws` and `modrun` (the body of the program) beside them.
 #![tactic(auto)]
 
 pub mod barrett;
@@ -13,28 +14,34 @@ pub mod prim;
 pub mod proth;
 pub mod reduced;
 pub mod ring;
+pub mod rings;
 pub mod solinas;
 pub mod word;
 
-pub use modular_barrett::normalized::Normalized2by1Divisor;
-pub use modular_barrett::one_by_one::PreMulInv1by1;
+pub use modular_barrett::normalized::{Normalized2by1Divisor, StoredDivisor};
+pub use modular_barrett::one_by_one::{FitsDivisor, PreMulInv1by1};
 pub use modular_barrett::premul::PreMulInv2by1;
 pub use modular_folds::mersenne::{FixedMersenne, FixedMersenne32, FixedMersenne64};
 pub use modular_folds::solinas::{FixedTrinomialSolinas32, FixedTrinomialSolinas64};
 pub use modular_monty::fixed::{FixedMontgomery32, FixedMontgomery64};
 pub use modular_monty::montgomery::Montgomery;
 pub use modular_monty::preinv;
-pub use modular_monty::preinv::PreModInv;
+pub use modular_monty::preinv::{PreModInv, PreparedInverse};
 pub use modular_monty::proth::{FixedProth32, FixedProth64};
 pub use modular_prim::exact::{DivExact, DivExactAssign};
+pub use modular_prim::numbered::Numbered;
 pub use modular_prim::ops::{ModularAbs, ModularCoreOps, ModularPow, ModularUnaryOps};
+pub use modular_prim::plain_word::PlainWord;
 pub use modular_reduced::int::{ReducedInt, VanillaInt};
 pub use modular_reduced::integer::ModularInteger;
 pub use modular_reduced::reducer::Reducer;
 pub use modular_reduced::vanilla::Vanilla;
+pub use modular_symbols::integer::{IntegerValued, SymbolWord, UnsignedOperand};
 pub use modular_symbols::ops::ModularOps;
 pub use modular_symbols::ref_ops::ModularRefOps;
 pub use modular_symbols::symbols::ModularSymbols;
+pub use modular_word::path_word::PathWord;
+pub use modular_word::ring_word::RingWord;
 
 /// An integer modulo a number from 1 up, over `Montgomery`.
 pub type MontgomeryInt<T> = ReducedInt<T, Montgomery<T>>;

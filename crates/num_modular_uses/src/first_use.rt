@@ -1,6 +1,6 @@
 //! A first use: an integer in a ring, and commands on registers.
 
-ghost use Rattle.std.specs.Prelude.{◌≡◌, ℕ, ◌+◌, ◌*◌, ◌%◌, ◌≤◌};
+ghost use Rattle.std.specs.Prelude.{◌≡◌, ◌+◌, ◌*◌, ◌%◌, ◌≤◌};
 
 use num_modular::ring::{RingCommand, RunEnd, run};
 use num_modular::{ModularInteger, MontgomeryInt, PreMulInv2by1, Reducer};
