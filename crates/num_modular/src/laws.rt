@@ -1,4 +1,8 @@
-//! Laws of lists of ring commands, as contracts of calls that do nothing.
+//! The laws that a proof may cite, as contracts of calls that do nothing, all in one place: a caller
+//! calls the function in its body, and its clauses are then known.
+//!
+//! The laws of rings (`sums_commute` and its like) answer both sides of a law, and they are known of
+//! these answers.
 
 ghost use Rattle.std.specs.Prelude.{◌≡◌, ℕ, ◌<◌, List, All, None, map};
 ghost use Rattle.modular_word.specs.Inverses.{HasInverse};
@@ -7,6 +11,28 @@ ghost use Rattle.num_modular.specs.Stops.{inverted_by, NeedsInverse};
 
 use crate::ring::RingCommand;
 use modular_word::ring_word::RingWord;
+
+// Whole numbers.
+pub use modular_word::laws::{
+    base_laws, congruence_laws, divisor_laws, euclids_lemma, inverse_laws, power_laws, residue_laws,
+    sum_laws,
+};
+
+// How many steps a call takes.
+pub use modular_prim::euclid::division_laws;
+pub use modular_reduced::power::digit_laws;
+pub use modular_symbols::halving::step_laws;
+
+// Forms and rings.
+pub use modular_folds::folds::fold_laws;
+pub use modular_monty::montgomery::form_laws;
+pub use modular_reduced::laws::{
+    negative_cancels, products_associate, products_commute, products_distribute, residue_by_form,
+    same_value, sums_associate, sums_commute,
+};
+
+// Symbols.
+pub use modular_symbols::laws::jacobi_laws;
 
 /// Where a run stops, by the inverses that its commands need: a list that needs none has no stop, a
 /// missing inverse is the stop where none is missing before it, and where there is no stop, which is
