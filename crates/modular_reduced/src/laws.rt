@@ -1,7 +1,8 @@
 //! The laws of rings, of the checked forms of any reducer. Each function computes both sides of a
-//! law and answers them: they are one word.
+//! law and answers them: they are one word. And the law of forms and values, of a call that does
+//! nothing.
 
-ghost use Rattle.std.specs.Prelude.{◌≡◌, ℕ, ◌+◌, ◌*◌, ◌%◌, ◌↔◌, IsTrue, pos, neg_ℤ};
+ghost use Rattle.std.specs.Prelude.{◌≡◌, ℕ, ◌+◌, ◌*◌, ◌%◌, ◌^◌, ◌<◌, ◌↔◌, IsTrue, pos, neg_ℤ};
 ghost use Rattle.modular_word.specs.Residues.{residue};
 ghost use Rattle.modular_reduced.specs.Forms.{Represents, IsForm};
 
@@ -111,3 +112,20 @@ pub fn same_value<T: RingWord, R: Reducer<T>>(reducer: &R, a: T, b: T) -> bool
 {
     reducer.residue(a) == reducer.residue(b)
 }
+
+/// Forms and values are one to one: the value of the form of v is v, which is a word and a checked
+/// form; a checked form is the form of its value, so that equal values have equal forms, which are
+/// one word; and what stands for a value is a checked form of that value.
+pub fn canonical_laws<T: RingWord, R: Reducer<T>>(reducer: &R)
+    ensures positive { 0 < R.modulus reducer.now }
+    ensures value { let m = R.modulus reducer.now in (v : ℕ) → v < m → R.value m (R.form m v) ≡ v }
+    ensures checked { let m = R.modulus reducer.now in (v : ℕ) → v < m → IsForm R.form R.value m (R.form m v) }
+    ensures fits { let m = R.modulus reducer.now in (v : ℕ) → v < m → R.form m v < 2 ^ T.width }
+    ensures same { let m = R.modulus reducer.now in (f g : ℕ) →
+        IsForm R.form R.value m f → IsForm R.form R.value m g → R.value m f ≡ R.value m g → f ≡ g }
+    ensures word { let m = R.modulus reducer.now in (a b : T) →
+        IsForm R.form R.value m (T.number a) → IsForm R.form R.value m (T.number b) →
+        R.value m (T.number a) ≡ R.value m (T.number b) → a ≡ b }
+    ensures stands { let m = R.modulus reducer.now in (f v : ℕ) →
+        Represents R.form m f v ↔ (IsForm R.form R.value m f × (R.value m f ≡ v)) }
+{}

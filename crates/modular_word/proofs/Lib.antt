@@ -7,6 +7,7 @@ pub mod MultiplierSteps
 pub mod Powers
 pub mod ReciprocalSteps
 pub mod ReductionSteps
+pub mod Remainders
 pub mod ResidueLemmas
 pub mod Shifts
 pub mod Sums

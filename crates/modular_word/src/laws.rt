@@ -30,6 +30,20 @@ pub fn residue_laws()
     ensures difference { (m a b : ℕ) → 0 < m → (residue m (pos a -ℤ pos b) + b) % m ≡ a % m }
 {}
 
+/// Nested remainders go away: in a sum, a product or a power modulo m a number may be replaced by its
+/// remainder. The set of rules `modular_word::proofs::Remainders::remainders` says the same for
+/// `using(..)` in a tactic.
+///
+/// Source: Gauss, Disquisitiones Arithmeticae, articles 6 to 8.
+pub fn remainder_laws()
+    ensures once { (m a : ℕ) → a % m % m ≡ a % m }
+    ensures sums { (m a b : ℕ) → (a % m + b % m) % m ≡ (a + b) % m }
+    ensures summand { (m a b : ℕ) → (a % m + b) % m ≡ (a + b) % m }
+    ensures products { (m a b : ℕ) → (a % m * (b % m)) % m ≡ (a * b) % m }
+    ensures factor { (m a b : ℕ) → (a % m * b) % m ≡ (a * b) % m }
+    ensures powers { (m a k : ℕ) → (a % m) ^ k % m ≡ a ^ k % m }
+{}
+
 /// Congruence modulo m is an equivalence, under which a number and its residue are equal. It is kept
 /// by sums, products and powers; a term cancels, and so does a factor with an inverse.
 ///
@@ -62,12 +76,14 @@ pub fn divisor_laws()
     ensures residue { (a n : ℕ) → Coprime (a % n) n ↔ Coprime a n }
 {}
 
-/// An inverse exists exactly where the greatest common divisor is 1, there is at most one, and
-/// `inverse_of` names it, or nothing where there is none. It depends on the residue alone.
+/// An inverse exists exactly where the greatest common divisor is 1, which is where the numbers are
+/// coprime; there is at most one, and `inverse_of` names it, or nothing where there is none. It
+/// depends on the residue alone.
 ///
 /// Source: Gauss, Disquisitiones Arithmeticae, articles 29 and 31.
 pub fn inverse_laws()
     ensures exists { (m a : ℕ) → 0 < m → HasInverse m a ↔ (gcd a m ≡ 1) }
+    ensures coprime { (m a : ℕ) → 0 < m → HasInverse m a ↔ Coprime a m }
     ensures unique { (m a x y : ℕ) → IsInverse m a x → IsInverse m a y → x ≡ y }
     ensures named { (m a : ℕ) → IsInversion (λ x. x) m a (inverse_of m a) }
     ensures found { (m a x : ℕ) → IsInverse m a x → inverse_of m a ≡ Some x }

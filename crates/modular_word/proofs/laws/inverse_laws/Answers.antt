@@ -1,10 +1,13 @@
 -- The laws of inverses, from the lemmas on divisors and on inverses.
-use Rattle.modular_word.proofs.Divisors.{HasInverse-gcd}
+use Rattle.modular_word.proofs.Divisors.{HasInverse-gcd, HasInverse-from_Coprime, Coprime-from_IsInverse}
 use Rattle.modular_word.proofs.InverseLemmas.{inverse_unique, inverse_of-found, inverse_of-is, inverse_from_mod, inverse_mod, HasInverse-from_mod, HasInverse-mod}
 use Rattle.modular_word.proofs.laws.inverse_laws.Goals as goal
 
 pub returns-clause-exists : goal.returns-clause-exists
 returns-clause-exists c m a p = HasInverse-gcd a m p
+
+pub returns-clause-coprime : goal.returns-clause-coprime
+returns-clause-coprime c m a p = ((λ h. Coprime-from_IsInverse a m h.0 h.1), HasInverse-from_Coprime a m p)
 
 pub returns-clause-unique : goal.returns-clause-unique
 returns-clause-unique c m a x y p q = inverse_unique m a x y p q
