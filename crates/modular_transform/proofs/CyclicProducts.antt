@@ -127,7 +127,7 @@ summand g k a b j x y =
     omega (arith, q)
 
 -- a factor of every summand of a double sum
-scaled : (n k c : ℕ) (f : ℕ → ℕ → ℕ) → sum_below n (λ a. sum_below k (λ b. c * f a b)) ≡ c * sum_below n (λ a. sum_below k (λ b. f a b))
+pub scaled : (n k c : ℕ) (f : ℕ → ℕ → ℕ) → sum_below n (λ a. sum_below k (λ b. c * f a b)) ≡ c * sum_below n (λ a. sum_below k (λ b. f a b))
 scaled n k c f =
     sum_below-same n (λ a. sum_below k (λ b. c * f a b)) (λ a. c * sum_below k (λ b. f a b)) (λ a l. sum_below-mul k c (f a)) ∙ sum_below-mul n c (λ a. sum_below k (λ b. f a b))
 
@@ -147,7 +147,7 @@ expanded g n k j x y =
     (λ b lb. let u : s * f a b ≡ f a b * s = omega arith in u ∙ summand g k a b j (x a) (y b)))
 
 -- the sum over j moves inside
-moved : (n : ℕ) (f : ℕ → ℕ → ℕ → ℕ)
+pub moved : (n : ℕ) (f : ℕ → ℕ → ℕ → ℕ)
     → sum_below n (λ j. sum_below n (λ a. sum_below n (λ b. f a b j))) ≡ sum_below n (λ a. sum_below n (λ b. sum_below n (λ j. f a b j)))
 moved n f =
     sum_below-exchanged n n (λ j a. sum_below n (λ b. f a b j))

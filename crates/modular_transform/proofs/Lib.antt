@@ -3,9 +3,11 @@ pub mod ConvolveLemmas
 pub mod CyclicProducts
 pub mod Geometry
 pub mod Halves
+pub mod InverseTransform
 pub mod MinusOne
 pub mod PairLemmas
 pub mod PlainSums
+pub mod PolynomialProducts
 pub mod PowersOfTwo
 pub mod Reordering
 pub mod StageLemmas

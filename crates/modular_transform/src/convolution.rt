@@ -1,6 +1,6 @@
 //! The cyclic product of two lists, by transforms.
 
-ghost use Rattle.std.specs.Prelude.{◌≡◌, ◌*◌, ◌%◌, ◌↔◌, IsTrue, All, length, slice_index};
+ghost use Rattle.std.specs.Prelude.{◌≡◌, ℕ, ◌*◌, ◌%◌, ◌<◌, ◌↔◌, IsTrue, All, length, slice_index};
 ghost use Rattle.modular_word.specs.Inverses.{HasInverse};
 ghost use Rattle.modular_reduced.specs.Forms.{IsForm};
 ghost use Rattle.modular_reduced.specs.Values.{values_of, HoldValues};
@@ -33,6 +33,9 @@ pub fn scale<T: RingWord, R: Reducer<T>>(r: &R, xs: &mut [T], factor: &T)
     ensures entries { let m = R.modulus r.now in
         HoldValues T.number R.form m xs.new
         (λ i. (slice_index (values_of T.number R.value m xs.old) i * R.value m (T.number factor.now)) % m) }
+    ensures values { let m = R.modulus r.now in
+        (i : ℕ) → i < length xs.old → slice_index (values_of T.number R.value m xs.new) i
+        ≡ (slice_index (values_of T.number R.value m xs.old) i * R.value m (T.number factor.now)) % m }
     ensures checked { All (λ f. IsForm R.form R.value (R.modulus r.now) (T.number f)) xs.new }
 {
     'entries: for i in 0..xs.len() {
@@ -62,6 +65,12 @@ pub fn convolve<T: RingWord, R: Reducer<T>>(r: &R, xs: &mut [T], ys: &mut [T], g
     ensures transformed { let m = R.modulus r.now in
         IsTrue result → HoldValues T.number R.form m ys.new
         (transform m (R.value m (T.number g.now)) (length xs.old) (slice_index (values_of T.number R.value m ys.old))) }
+    ensures values { let m = R.modulus r.now in
+        IsTrue result → (e : ℕ) → e < length xs.old → slice_index (values_of T.number R.value m xs.new) e
+        ≡ cyclic_product m (length xs.old) (slice_index (values_of T.number R.value m xs.old)) (slice_index (values_of T.number R.value m ys.old)) e }
+    ensures transformed_values { let m = R.modulus r.now in
+        IsTrue result → (j : ℕ) → j < length xs.old → slice_index (values_of T.number R.value m ys.new) j
+        ≡ transform m (R.value m (T.number g.now)) (length xs.old) (slice_index (values_of T.number R.value m ys.old)) j }
     ensures checked { let m = R.modulus r.now in
         All (λ f. IsForm R.form R.value m (T.number f)) xs.new × All (λ f. IsForm R.form R.value m (T.number f)) ys.new }
 {

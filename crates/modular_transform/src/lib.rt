@@ -2,6 +2,7 @@
 #![tactic(auto)]
 
 pub mod convolution;
+pub mod laws;
 mod order;
 pub mod plain;
 mod stage;

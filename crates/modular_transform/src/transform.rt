@@ -1,6 +1,6 @@
 //! The number-theoretic transform in place.
 
-ghost use Rattle.std.specs.Prelude.{◌≡◌, ℕ, ◌+◌, ◌-◌, ◌*◌, ◌/◌, ◌^◌, ◌↔◌, IsTrue, All, length, slice_index};
+ghost use Rattle.std.specs.Prelude.{◌≡◌, ℕ, ◌+◌, ◌-◌, ◌*◌, ◌/◌, ◌^◌, ◌<◌, ◌↔◌, IsTrue, All, length, slice_index};
 ghost use Rattle.modular_reduced.specs.Forms.{IsForm};
 ghost use Rattle.modular_reduced.specs.Values.{values_of, HoldValues};
 ghost use Rattle.modular_transform.specs.Transforms.{Suits, transform};
@@ -41,6 +41,9 @@ pub fn ntt_counted<T: RingWord, R: Reducer<T>>(r: &R, xs: &mut [T], g: &T) -> u1
     ensures entries { let m = R.modulus r.now in
         HoldValues T.number R.form m xs.new
         (transform m (R.value m (T.number g.now)) (length xs.old) (slice_index (values_of T.number R.value m xs.old))) }
+    ensures values { let m = R.modulus r.now in
+        (j : ℕ) → j < length xs.old → slice_index (values_of T.number R.value m xs.new) j
+        ≡ transform m (R.value m (T.number g.now)) (length xs.old) (slice_index (values_of T.number R.value m xs.old)) j }
     ensures checked { All (λ f. IsForm R.form R.value (R.modulus r.now) (T.number f)) xs.new }
     ensures count { (z : ℕ) → length xs.old ≡ 2 ^ z → result ≡ length xs.old * z / 2 + length xs.old - 1 + z }
 {
@@ -74,6 +77,9 @@ pub fn ntt<T: RingWord, R: Reducer<T>>(r: &R, xs: &mut [T], g: &T)
     ensures entries { let m = R.modulus r.now in
         HoldValues T.number R.form m xs.new
         (transform m (R.value m (T.number g.now)) (length xs.old) (slice_index (values_of T.number R.value m xs.old))) }
+    ensures values { let m = R.modulus r.now in
+        (j : ℕ) → j < length xs.old → slice_index (values_of T.number R.value m xs.new) j
+        ≡ transform m (R.value m (T.number g.now)) (length xs.old) (slice_index (values_of T.number R.value m xs.old)) j }
     ensures checked { All (λ f. IsForm R.form R.value (R.modulus r.now) (T.number f)) xs.new }
 {
     let _products = ntt_counted(r, xs, g);

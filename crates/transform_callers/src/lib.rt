@@ -1,4 +1,4 @@
-//! Callers of transforms, proved from their contracts alone.
+//! Callers of transforms, proved from their contracts and the public laws alone.
 #![tactic(auto)]
 
 ghost use Rattle.std.specs.Prelude.{All, length, slice_index};
@@ -9,6 +9,7 @@ ghost use Rattle.modular_transform.specs.Transforms.{Suits};
 
 use modular_reduced::reducer::Reducer;
 use modular_transform::convolution::scale;
+use modular_transform::laws::transform_laws;
 use modular_transform::transform::ntt;
 use modular_word::ring_word::RingWord;
 
@@ -26,6 +27,7 @@ pub fn there_and_back<T: RingWord, R: Reducer<T>>(r: &R, xs: &mut [T], g: &T, in
     ensures { let m = R.modulus r.now in
         HoldValues T.number R.form m xs.new (slice_index (values_of T.number R.value m xs.old)) }
 {
+    transform_laws();
     ntt(r, xs, g);
     ntt(r, xs, inverse);
     scale(r, xs, part);

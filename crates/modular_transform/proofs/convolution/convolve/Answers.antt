@@ -3,6 +3,7 @@ use Rattle.modular_word.specs.Inverses.{IsInverse}
 use Rattle.modular_reduced.proofs.FormLemmas.{form_of_value}
 use Rattle.modular_word.proofs.Congruence.{turned}
 use Rattle.modular_transform.proofs.ConvolveLemmas.{doubled_more, doubled_all, inverse_along, convolution_end}
+use Rattle.modular_transform.proofs.ValueLemmas.{held_value}
 use Rattle.modular_transform.proofs.convolution.convolve.Goals as goal
 
 pub doublings-preserved : goal.doublings-preserved
@@ -42,3 +43,7 @@ returns-in-Some-clause-product g c h =
     convolution_end number g.R.Reducer.form value _ m root n (value m (number c.in-Some.part)) c.args.xs.now c.args.ys.now c.ntt.new.xs c.ntt-in-Some.new.xs c.multiply_each.new.xs c.ntt-in-Some-2.new.xs c.mirror.new.entries c.scale.new.xs
     canonical c.requires.suits inverse refl c.requires.equal (omega arith) (omega arith) (omega arith) (omega arith) (omega arith) (omega arith)
     c.ntt.ensures.entries c.ntt-in-Some.ensures.entries c.multiply_each.ensures.entries c.ntt-in-Some-2.ensures.entries c.mirror.ensures c.scale.ensures.entries
+
+pub returns-in-Some-clause-values : goal.returns-in-Some-clause-values
+returns-in-Some-clause-values g c h e l =
+    held_value g.T.RingWord.number g.R.Reducer.form g.R.Reducer.value _ _ c.scale.new.xs _ e (g.met.R.Reducer.canonical c.args.r.now) (returns-in-Some-clause-product g c h) (omega arith)

@@ -3,7 +3,7 @@ use Rattle.std.specs.Int.{trailing_zeros, w64}
 use Rattle.std.proofs.lemmas.Nat.{pow_pos}
 use Rattle.std.proofs.Math.Nat.{pow-le-pow_right}
 use Rattle.modular_reduced.proofs.FormLemmas.{form_of_value}
-use Rattle.modular_transform.proofs.ValueLemmas.{values, held_forms}
+use Rattle.modular_transform.proofs.ValueLemmas.{values, held_value, held_forms}
 use Rattle.modular_transform.proofs.PowersOfTwo.{trailing_zeros_of_power}
 use Rattle.modular_transform.proofs.StageLemmas.{BlocksTransform}
 use Rattle.modular_word.proofs.Congruence.{of_equal}
@@ -92,6 +92,12 @@ returns-clause-entries g c =
     let kept = c.reverse_places.auto.entries in
     plain_order number g.R.Reducer.form value m root n z x c.stages.xs c.reverse_places.new.entries before.whole (omega arith) (omega (arith, same, kept)) before.checked
     (blocks_all root z c.stages._done n x (values number value m c.stages.xs) (omega arith) (omega arith) before.transforms) c.reverse_places.ensures
+
+pub returns-clause-values : goal.returns-clause-values
+returns-clause-values g c j l =
+    let kept = c.reverse_places.auto.entries in
+    let same = c.stages.auto.xs in
+    held_value g.T.RingWord.number g.R.Reducer.form g.R.Reducer.value _ _ c.reverse_places.new.entries _ j (g.met.R.Reducer.canonical c.args.r.now) (returns-clause-entries g c) (omega (arith, kept, same))
 
 pub returns-clause-checked : goal.returns-clause-checked
 returns-clause-checked g c = held_forms g.T.RingWord.number g.R.Reducer.form g.R.Reducer.value _ _ c.reverse_places.new.entries _ (g.met.R.Reducer.canonical c.args.r.now) (returns-clause-entries g c)

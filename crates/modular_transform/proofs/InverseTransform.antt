@@ -1,8 +1,9 @@
 -- The transform by the inverse of a root takes the transform back to n times the values.
-use Rattle.std.proofs.Common.{◌≡◌, ◌≢◌, ℕ, suc, zero, ◌+◌, ◌-◌, ◌*◌, ◌%◌, ◌/◌, ◌^◌, ◌<◌, sym, ◌∙◌, ap, arith, inl, inr}
+use Rattle.std.proofs.Common.{◌≡◌, ◌≢◌, ℕ, suc, zero, ◌+◌, ◌-◌, ◌*◌, ◌%◌, ◌/◌, ◌^◌, ◌<◌, sym, ◌∙◌, ap, refl, arith, inl, inr}
 use Rattle.std.proofs.lemmas.Bool.{cases_lt, cases_eq}
-use Rattle.std.proofs.lemmas.Nat.{pow-add, mul-pow}
-use Rattle.std.proofs.Math.Nat.{zero-mod, mod-eq_of_lt}
+use Rattle.std.proofs.lemmas.Nat.{pow-add, mul-pow, pow_pos}
+use Rattle.std.proofs.Math.Nat.{two-pow-succ, zero-mod}
+use Rattle.std.specs.Int.{IsPowerOfTwo}
 use Rattle.modular_word.specs.Congruence.{Congruent}
 use Rattle.modular_word.specs.Inverses.{IsInverse}
 use Rattle.modular_word.specs.Sums.{sum_below}
@@ -113,25 +114,51 @@ back_sum n k g h x =
     ∙ sum_below-same n (λ i. sum_below n (λ j. x i * (g ^ (i * j) * h ^ (j * k)))) (λ i. x i * sum_below n (λ j. g ^ (i * j) * h ^ (j * k)))
     (λ i l. sum_below-mul n (x i) (λ j. g ^ (i * j) * h ^ (j * k)))
 
+-- congruent values have one transform
+pub transform_congruent : {m : ℕ} (g n j : ℕ) (x y : ℕ → ℕ) → ((i : ℕ) → i < n → Congruent m (x i) (y i)) → transform m g n x j ≡ transform m g n y j
+transform_congruent {m} g n j x y same =
+    (sum_below-congruent n (λ i. x i * g ^ (i * j)) (λ i. y i * g ^ (i * j)) (λ i l. multiplied (same i l) (itself (g ^ (i * j))))).same
+
 -- entry k of the transform back is n times value k
-pub transformed_back : {m g h : ℕ} (n k : ℕ) (x y : ℕ → ℕ) → IsInverse m g h → Suits m g n → k < n
-    → ((j : ℕ) → j < n → y j ≡ transform m g n x j) → Congruent m (transform m h n y k) (n * x k)
-transformed_back {m} {g} {h} n k x y inverse suits l is =
+pub transformed_back : {m g h : ℕ} (n k : ℕ) (x : ℕ → ℕ) → IsInverse m g h → Suits m g n → k < n
+    → Congruent m (transform m h n (transform m g n x) k) (n * x k)
+transformed_back {m} {g} {h} n k x inverse suits l =
     let o : x k * n ≡ n * x k = omega arith in
-    chained (residue_of (sum_below n (λ i. y i * h ^ (i * k))))
-    (chained (sum_below-congruent n (λ j. y j * h ^ (j * k)) (λ j. sum_below n (λ i. x i * g ^ (i * j)) * h ^ (j * k))
-    (λ j t. multiplied (chained (of_equal (is j t)) (residue_of (sum_below n (λ i. x i * g ^ (i * j))))) (itself (h ^ (j * k)))))
+    chained (residue_of (sum_below n (λ j. transform m g n x j * h ^ (j * k))))
+    (chained (sum_below-congruent n (λ j. transform m g n x j * h ^ (j * k)) (λ j. sum_below n (λ i. x i * g ^ (i * j)) * h ^ (j * k))
+    (λ j t. multiplied (residue_of (sum_below n (λ i. x i * g ^ (i * j)))) (itself (h ^ (j * k)))))
     (chained (of_equal (back_sum n k g h x))
     (chained (sum_only n k (λ i. x i * sum_below n (λ j. g ^ (i * j) * h ^ (j * k))) l
     (λ i t ne. let z : x i * 0 ≡ 0 = omega arith in chained (multiplied (itself (x i)) (other_places n i k inverse suits t l ne)) (of_equal z)))
     (chained (multiplied (itself (x k)) (same_places n k inverse)) (of_equal o)))))
 
 -- .. and times 1/n the value itself
-pub value_back : {m g h : ℕ} (n k part : ℕ) (x y : ℕ → ℕ) → IsInverse m g h → Suits m g n → IsInverse m n part → k < n → x k < m
-    → ((j : ℕ) → j < n → y j ≡ transform m g n x j) → (transform m h n y k * part) % m ≡ x k
-value_back {m} {g} {h} n k part x y inverse suits of_length l small is =
+pub value_back : {m g h : ℕ} (n k part : ℕ) (x : ℕ → ℕ) → IsInverse m g h → IsInverse m n part → Suits m g n → k < n
+    → Congruent m (transform m h n (transform m g n x) k * part) (x k)
+value_back {m} {g} {h} n k part x inverse of_length suits l =
     let one : Congruent m (n * part) 1 = record { same = of_length.one } in
     let q : n * x k * part ≡ n * part * x k = omega arith in
     let o : 1 * x k ≡ x k = omega arith in
-    let r = chained (multiplied (transformed_back n k x y inverse suits l is) (itself part)) (chained (of_equal q) (chained (multiplied one (itself (x k))) (of_equal o))) in
-    r.same ∙ mod-eq_of_lt small
+    chained (multiplied (transformed_back n k x inverse suits l) (itself part)) (chained (of_equal q) (chained (multiplied one (itself (x k))) (of_equal o)))
+
+-- a power of two is 1 or even
+even_length : (z n : ℕ) → n ≡ 2 ^ z → 1 < n → n ≡ 2 * (n / 2)
+even_length zero n whole l = let k : 2 ^ 0 ≡ 1 = refl in absurd (omega (arith, k))
+even_length (suc z) n whole l = let d = two-pow-succ z in omega (arith, d)
+
+-- a power of a root that suits more values
+pub power_suits : {m g : ℕ} (k n : ℕ) → IsPowerOfTwo n → Suits m g (n * k) → Suits m (g ^ k % m) n
+power_suits {m} {g} k n power suits = record {
+  power_of_two = power;
+  half_turn = λ l.
+      let e = even_length power.0 n power.1 l in
+      let p = pow_pos suits.power_of_two.0 in
+      let q = suits.power_of_two.1 in
+      let w : n * k ≡ 2 * (k * (n / 2)) = ap (λ v. v * k) e ∙ omega arith in
+      let half : n * k / 2 ≡ k * (n / 2) = omega (arith, w) in
+      let more : 1 < n * k = omega (arith, w, p, q) in
+      let turn : Congruent m (g ^ (n * k / 2) + 1) 0 = record { same = suits.half_turn more ∙ sym (zero-mod m) } in
+      let same : Congruent m ((g ^ k % m) ^ (n / 2)) (g ^ (n * k / 2)) =
+      chained (powered (n / 2) (residue_of (g ^ k))) (of_equal (sym (ap (λ v. g ^ v) half ∙ pow-mul g k (n / 2)))) in
+      (chained (added same (itself 1)) turn).same ∙ zero-mod m;
+}

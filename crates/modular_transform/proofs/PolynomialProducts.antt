@@ -1,0 +1,126 @@
+-- A cyclic product with room for every term is the product of two polynomials.
+use Rattle.std.proofs.Common.{◌≡◌, ◌≢◌, ℕ, suc, zero, ◌+◌, ◌*◌, ◌%◌, ◌^◌, ◌<◌, ◌≤◌, sym, ◌∙◌, ap, arith, inl, inr, eqb, cond, ◌||◌}
+use Rattle.std.proofs.lemmas.Nat.{pow-add}
+use Rattle.std.proofs.lemmas.Bool.{cases_lt, cases_eq}
+use Rattle.std.proofs.lemmas.Bool.Decides.{eqb_tells}
+use Rattle.std.proofs.Math.Nat.{mod-eq_of_lt, mul-le-mul}
+use Rattle.modular_word.specs.Sums.{sum_below}
+use Rattle.modular_word.proofs.Sums.{sum_below-zero, sum_below-suc, sum_below-same, sum_below-times_sum, sum_below-of_zeros}
+use Rattle.modular_transform.specs.Transforms.{cyclic_product}
+use Rattle.modular_transform.proofs.CyclicProducts.{scaled, moved}
+
+-- a value at one place alone
+at_place : (s e v : ℕ) → s ≡ e → cond (eqb s e) v 0 ≡ v
+at_place s e v is = elim (eqb_tells s e) [ inl p ↦ rw p.0 (omega arith) | inr p ↦ absurd (p.1 is) ]
+
+at_other : (s e v : ℕ) → s ≢ e → cond (eqb s e) v 0 ≡ 0
+at_other s e v ne = elim (eqb_tells s e) [ inl p ↦ absurd (ne p.1) | inr p ↦ rw p.0 (omega arith) ]
+
+-- .. summed over places
+pub sum_at_place : (n s : ℕ) (f : ℕ → ℕ) → s < n → sum_below n (λ e. cond (eqb s e) (f e) 0) ≡ f s
+sum_at_place zero s f l = absurd (omega arith)
+sum_at_place (suc n) s f l =
+    let d = sum_below-suc n (λ e. cond (eqb s e) (f e) 0) in
+    elim (cases_eq s n) [
+      | inl is ↦
+          let z = sum_below-of_zeros n (λ e. cond (eqb s e) (f e) 0) (λ e t. at_other s e (f e) (omega arith)) in
+          let o = at_place s n (f n) is in
+          let w = ap f is in
+          omega (arith, d, z, o, w)
+      | inr ne ↦
+          let i = sum_at_place n s f (omega arith) in
+          let z = at_other s n (f n) ne in
+          omega (arith, d, i, z)
+    ]
+
+sum_at_none : (n s : ℕ) (f : ℕ → ℕ) → n ≤ s → sum_below n (λ e. cond (eqb s e) (f e) 0) ≡ 0
+sum_at_none n s f l = sum_below-of_zeros n (λ e. cond (eqb s e) (f e) 0) (λ e t. at_other s e (f e) (omega arith))
+
+-- a sum of bounded terms, and one in which at most one term counts
+sum_bounded : (n c : ℕ) (f : ℕ → ℕ) → ((i : ℕ) → i < n → f i ≤ c) → sum_below n f ≤ n * c
+sum_bounded zero c f few = let d = sum_below-zero f in omega (arith, d)
+sum_bounded (suc n) c f few =
+    let d = sum_below-suc n f in
+    let i = sum_bounded n c f (λ i l. few i (omega arith)) in
+    let l = few n (omega arith) in
+    omega (arith, d, i, l)
+
+row_bounded : (n i e c : ℕ) (f : ℕ → ℕ) → ((j : ℕ) → j < n → f j ≤ c) → sum_below n (λ j. cond (eqb (i + j) e) (f j) 0) ≤ c
+row_bounded zero i e c f few = let d = sum_below-zero (λ j. cond (eqb (i + j) e) (f j) 0) in omega (arith, d)
+row_bounded (suc n) i e c f few =
+    let d = sum_below-suc n (λ j. cond (eqb (i + j) e) (f j) 0) in
+    elim (cases_eq (i + n) e) [
+      | inl is ↦
+          let z = sum_below-of_zeros n (λ j. cond (eqb (i + j) e) (f j) 0) (λ j t. at_other (i + j) e (f j) (omega arith)) in
+          let o = at_place (i + n) e (f n) is in
+          let l = few n (omega arith) in
+          omega (arith, d, z, o, l)
+      | inr ne ↦
+          let r = row_bounded n i e c f (λ j l. few j (omega arith)) in
+          let z = at_other (i + n) e (f n) ne in
+          omega (arith, d, r, z)
+    ]
+
+-- where terms at places from n on are 0, a term of the cyclic product stands at one place
+one_place : (n i j e v : ℕ) → (n ≤ i + j → v ≡ 0) → cond (eqb (i + j) e || eqb (i + j) (e + n)) v 0 ≡ cond (eqb (i + j) e) v 0
+one_place n i j e v room = elim (eqb_tells (i + j) e) [
+  | inl p ↦ rw p.0 (omega arith)
+  | inr p ↦ elim (eqb_tells (i + j) (e + n)) [
+    | inl q ↦ let z = let h = q.1 in room (omega arith) in rw (p.0, q.0) z
+    | inr q ↦ rw (p.0, q.0) (omega arith)
+  ]
+]
+
+-- the terms at place e
+terms : ℕ → (ℕ → ℕ) → (ℕ → ℕ) → ℕ → ℕ
+terms n x y e = sum_below n (λ i. sum_below n (λ j. cond (eqb (i + j) e) (x i * y j) 0))
+
+entry : (m n s t : ℕ) (x y : ℕ → ℕ) (e : ℕ) → ((i : ℕ) → i < n → x i ≤ s) → ((j : ℕ) → j < n → y j ≤ t) → n * (s * t) < m
+    → ((i j : ℕ) → i < n → j < n → n ≤ i + j → x i * y j ≡ 0) → cyclic_product m n x y e ≡ terms n x y e
+unfolding terms
+entry m n s t x y e few few_y small room =
+    let same = sum_below-same n (λ i. sum_below n (λ j. cond (eqb (i + j) e || eqb (i + j) (e + n)) (x i * y j) 0)) (λ i. sum_below n (λ j. cond (eqb (i + j) e) (x i * y j) 0))
+    (λ i l. sum_below-same n (λ j. cond (eqb (i + j) e || eqb (i + j) (e + n)) (x i * y j) 0) (λ j. cond (eqb (i + j) e) (x i * y j) 0)
+    (λ j k. one_place n i j e (x i * y j) (room i j l k))) in
+    let below = sum_bounded n (s * t) (λ i. sum_below n (λ j. cond (eqb (i + j) e) (x i * y j) 0))
+    (λ i l. row_bounded n i e (s * t) (λ j. x i * y j) (λ j k. mul-le-mul (few i l) (few_y j k))) in
+    ap (λ v. v % m) same ∙ mod-eq_of_lt (omega (arith, below, small))
+
+-- one term of the product, in the sum over all places
+spread : (n b i j v w : ℕ) → (n ≤ i + j → v * w ≡ 0)
+    → sum_below n (λ e. cond (eqb (i + j) e) (b ^ e * (v * w)) 0) ≡ (v * b ^ i) * (w * b ^ j)
+spread n b i j v w room = elim (cases_lt (i + j) n) [
+  | inl l ↦
+      let p = ap (λ k. k * (v * w)) (pow-add b i j) in
+      sum_at_place n (i + j) (λ e. b ^ e * (v * w)) l ∙ p ∙ omega arith
+  | inr l ↦
+      let z = room (omega arith) in
+      let q : (v * b ^ i) * (w * b ^ j) ≡ v * w * (b ^ i * b ^ j) = omega arith in
+      let r : v * w * (b ^ i * b ^ j) ≡ 0 = ap (λ k. k * (b ^ i * b ^ j)) z ∙ omega arith in
+      sum_at_none n (i + j) (λ e. b ^ e * (v * w)) (omega arith) ∙ sym (q ∙ r)
+]
+
+factor_in : (s e c v : ℕ) → c * cond (eqb s e) v 0 ≡ cond (eqb s e) (c * v) 0
+factor_in s e c v = elim (eqb_tells s e) [ inl p ↦ rw p.0 (omega arith) | inr p ↦ rw p.0 (omega arith) ]
+
+placed : (n b e : ℕ) (x y : ℕ → ℕ) → terms n x y e * b ^ e ≡ sum_below n (λ i. sum_below n (λ j. cond (eqb (i + j) e) (b ^ e * (x i * y j)) 0))
+unfolding terms
+placed n b e x y =
+    let t = λ (i j : ℕ). cond (eqb (i + j) e) (x i * y j) 0 in
+    let q : sum_below n (λ i. sum_below n (λ j. t i j)) * b ^ e ≡ b ^ e * sum_below n (λ i. sum_below n (λ j. t i j)) = omega arith in
+    q ∙ sym (scaled n n (b ^ e) t)
+    ∙ sum_below-same n (λ i. sum_below n (λ j. b ^ e * t i j)) (λ i. sum_below n (λ j. cond (eqb (i + j) e) (b ^ e * (x i * y j)) 0))
+    (λ i l. sum_below-same n (λ j. b ^ e * t i j) (λ j. cond (eqb (i + j) e) (b ^ e * (x i * y j)) 0) (λ j k. factor_in (i + j) e (b ^ e) (x i * y j)))
+
+-- the entries are the coefficients of the product
+pub polynomial_product : {m : ℕ} (n b s t : ℕ) (x y : ℕ → ℕ) → ((i : ℕ) → i < n → x i ≤ s) → ((j : ℕ) → j < n → y j ≤ t) → n * (s * t) < m
+    → ((i j : ℕ) → i < n → j < n → n ≤ i + j → x i * y j ≡ 0)
+    → sum_below n (λ e. cyclic_product m n x y e * b ^ e) ≡ sum_below n (λ i. x i * b ^ i) * sum_below n (λ j. y j * b ^ j)
+polynomial_product {m} n b s t x y few few_y small room =
+    let f = λ (i j e : ℕ). cond (eqb (i + j) e) (b ^ e * (x i * y j)) 0 in
+    sum_below-same n (λ e. cyclic_product m n x y e * b ^ e) (λ e. sum_below n (λ i. sum_below n (λ j. f i j e)))
+    (λ e l. ap (λ v. v * b ^ e) (entry m n s t x y e few few_y small room) ∙ placed n b e x y)
+    ∙ moved n f
+    ∙ sum_below-same n (λ i. sum_below n (λ j. sum_below n (λ e. f i j e))) (λ i. sum_below n (λ j. (x i * b ^ i) * (y j * b ^ j)))
+    (λ i l. sum_below-same n (λ j. sum_below n (λ e. f i j e)) (λ j. (x i * b ^ i) * (y j * b ^ j)) (λ j k. spread n b i j (x i) (y j) (room i j l k)))
+    ∙ sym (sum_below-times_sum n n (λ i. x i * b ^ i) (λ j. y j * b ^ j))
