@@ -41,6 +41,9 @@ pub fn pow_counted<T: RingWord, R: Reducer<T>>(reducer: &R, base: T, exp: &T) ->
     requires { IsForm R.form R.value (R.modulus reducer.now) (T.number base) }
     ensures power { let m = R.modulus reducer.now in
         Represents R.form m (T.number result.0) (R.value m (T.number base) ^ T.number exp.now % m) }
+    ensures checked { IsForm R.form R.value (R.modulus reducer.now) (T.number result.0) }
+    ensures value { let m = R.modulus reducer.now in
+        R.value m (T.number result.0) ≡ R.value m (T.number base) ^ T.number exp.now % m }
     ensures count { result.1 ≡ products (T.number exp.now) }
     ensures at_most { result.1 ≤ 2 * digits (T.number exp.now) }
 {

@@ -14,8 +14,8 @@ use modular_word::ring_word::RingWord;
 
 // Whole numbers.
 pub use modular_word::laws::{
-    base_laws, congruence_laws, divisor_laws, euclids_lemma, inverse_laws, power_laws, residue_laws,
-    sum_laws,
+    base_laws, congruence_laws, divisor_laws, euclids_lemma, inverse_laws, power_laws,
+    remainder_laws, residue_laws, sum_laws,
 };
 
 // How many steps a call takes.
@@ -27,8 +27,8 @@ pub use modular_symbols::halving::step_laws;
 pub use modular_folds::folds::fold_laws;
 pub use modular_monty::montgomery::form_laws;
 pub use modular_reduced::laws::{
-    negative_cancels, products_associate, products_commute, products_distribute, residue_by_form,
-    same_value, sums_associate, sums_commute,
+    canonical_laws, negative_cancels, products_associate, products_commute, products_distribute,
+    residue_by_form, same_value, sums_associate, sums_commute,
 };
 
 // Symbols.

@@ -1,4 +1,5 @@
 use Rattle.std.proofs.Common.{rules, arith, ◌≡◌, ◌≢◌, ◌/◌, ◌%◌, ◌∙◌, sym, IsTrue}
+use Rattle.modular_reduced.proofs.FormLemmas.{form_of_value}
 use Rattle.modular_reduced.proofs.PowerForms.{power_of_one, power_of_two}
 use Rattle.modular_reduced.proofs.PowerCounts.{steps, products_of_one, products_of_two, products_else, products_at_most}
 use Rattle.modular_reduced.specs.Powers.{products}
@@ -10,8 +11,11 @@ returns-then-eq g c =
     let exp = g.T.RingWord.number c.args.exp.now in
     let same : IsTrue (g.T.PartialEq.eq c.args.exp.now c.one.result) = search rules in
     let one : exp ≡ 1 = (g.met.T.RingWord.equal c.args.exp.now c.one.result).0 same ∙ c.one.ensures in
+    let power = power_of_one c.requires one in
     record {
-      power = power_of_one c.requires one;
+      power = power;
+      checked = c.requires;
+      value = (g.met.R.Reducer.canonical c.args.reducer.now).one_value _ _ power;
       count = sym (products_of_one exp one);
       at_most = omega arith;
     }
@@ -25,8 +29,11 @@ returns-then-not-is_odd g c =
     let two : exp ≡ 2 = omega arith in
     let count = products_of_two exp two in
     let most = products_at_most exp in
+    let power = power_of_two (g.R.Reducer.value (g.R.Reducer.modulus c.args.reducer.now) (g.T.RingWord.number c.args.base)) exp two c.sqr.ensures.form in
     record {
-      power = power_of_two (g.R.Reducer.value (g.R.Reducer.modulus c.args.reducer.now) (g.T.RingWord.number c.args.base)) exp two c.sqr.ensures.form;
+      power = power;
+      checked = c.sqr.ensures.checked;
+      value = (g.met.R.Reducer.canonical c.args.reducer.now).one_value _ _ power;
       count = sym count;
       at_most = omega arith;
     }
@@ -49,8 +56,11 @@ returns g c =
     ] in
     let count : products exp ≡ steps exp = products_else exp not_one not_two in
     let most = products_at_most exp in
+    let canonical = g.met.R.Reducer.canonical c.args.reducer.now in
     record {
       power = c.binary_power.ensures.power;
+      checked = form_of_value canonical c.binary_power.ensures.power;
+      value = canonical.one_value _ _ c.binary_power.ensures.power;
       count = c.binary_power.ensures.count ∙ sym count;
       at_most = omega (arith, c.binary_power.ensures.count);
     }
