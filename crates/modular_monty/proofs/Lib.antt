@@ -1,4 +1,3 @@
-pub mod Lifting
 pub mod MontgomerySteps
 pub mod NegatedInverses
 pub mod ProthModuli

@@ -8,10 +8,11 @@ use Rattle.modular_word.specs.Inverses.{IsInverse}
 use Rattle.modular_word.specs.Reduction.{IsReduction, IsNegatedInverse}
 use Rattle.modular_word.specs.Residues.{residue}
 use Rattle.modular_word.proofs.Congruence.{same_sum, same_product, same_without}
+use Rattle.modular_word.proofs.ReductionSteps.{base_inverse}
 use Rattle.modular_word.proofs.ResidueLemmas.{residue_sub, residue_sub_wrapped}
 use Rattle.modular_reduced.specs.Forms.{Represents, IsForm, IsCanonical}
 use Rattle.modular_monty.specs.Montgomery.{montgomery_form, montgomery_value, IsOddRing}
-use Rattle.modular_monty.specs.MontgomeryLaws.{positive, base_inverse, base_cancels, value_of_form}
+use Rattle.modular_monty.specs.MontgomeryLaws.{positive, base_cancels, value_of_form}
 
 -- modulo m, f stands for the value v
 abbrev pub Stands : ℕ → ℕ → ℕ → ℕ → Type 0
@@ -62,7 +63,7 @@ below_is_form {w} {b} {m} {i} {square} r f h =
     let e : (f * j % m * b) % m ≡ f % m =
     mul-mod_first (f * j) b m
     ∙ ap (λ n. n % m) (let s : f * j * b ≡ f * (b * j) = omega arith in s)
-    ∙ same_product m f f (b * j) 1 refl (base_inverse r)
+    ∙ same_product m f f (b * j) 1 refl (base_inverse b m i (omega (arith, r.fits)) r.inverse)
     ∙ ap (λ n. n % m) (let s : f * 1 ≡ f = omega arith in s) in
     let v = value_stands r h refl (record { below = mod-lt (f * j) (positive r); congruent = e }) in
     let same = value_of_form r v in

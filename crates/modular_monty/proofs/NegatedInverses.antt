@@ -1,15 +1,8 @@
 -- The inverse of a number modulo the base, from its negated inverse.
-use Rattle.std.proofs.Common.{◌≡◌, ℕ, ◌+◌, ◌-◌, ◌*◌, ◌%◌, ◌<◌, ◌≤◌, ◌^◌, sym, ap, ◌∙◌, arith, refl}
+use Rattle.std.proofs.Common.{◌≡◌, ℕ, ◌+◌, ◌-◌, ◌*◌, ◌%◌, ◌<◌, sym, ap, ◌∙◌, arith, refl}
 use Rattle.std.proofs.Math.Nat.{mod-eq_of_lt, mod_self}
-use Rattle.std.proofs.lemmas.Nat.{pow_below}
 use Rattle.modular_word.specs.Reduction.{IsNegatedInverse}
 use Rattle.modular_word.proofs.Congruence.{same_sum, same_product, same_without}
-
--- a base of 8 bits or more is above 2
-pub base_above_two : (w b : ℕ) → b ≡ 2 ^ w → 8 ≤ w → 2 < b
-base_above_two w b eb h =
-    let many : 2 ^ 2 < 2 ^ w = pow_below 2 w (omega arith) in
-    omega (arith, many)
 
 -- the number that the negated inverse brings to 0 is the inverse
 pub inverse_of_negated : (b d n i : ℕ) → 1 < b → IsNegatedInverse b d n → (i + n) % b ≡ 0 → (d * i) % b ≡ 1

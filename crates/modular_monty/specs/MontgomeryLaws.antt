@@ -1,8 +1,9 @@
 -- Laws of Montgomery's representation modulo odd numbers: each value has one form, and each form one value.
 use Rattle.std.proofs.Common.{◌≡◌, ℕ, suc, zero, ◌+◌, ◌*◌, ◌/◌, ◌%◌, ◌^◌, ◌<◌, sym, ap, ◌∙◌, arith, cond, eqb}
-use Rattle.std.proofs.Math.Nat.{mod-lt, mod-eq_of_lt, div-add-mod, add-mul-mod_self_left}
+use Rattle.std.proofs.Math.Nat.{mod-lt, mod-eq_of_lt}
 use Rattle.std.proofs.lemmas.Bool.Decides.{nat_tests}
-use Rattle.modular_word.proofs.Congruence.{same_without_unit, next_is_multiple}
+use Rattle.modular_word.proofs.Congruence.{same_without_unit}
+use Rattle.modular_word.proofs.ReductionSteps.{base_inverse}
 use Rattle.modular_reduced.specs.Forms.{Represents, IsCanonical}
 use Rattle.modular_monty.specs.Values.{value_below}
 use Rattle.modular_monty.specs.Montgomery.{montgomery_form, montgomery_value, IsOddRing}
@@ -28,20 +29,11 @@ value_below-found form (suc b) v f only h e =
 pub positive : {w b m i square : ℕ} → IsOddRing w b m i square → 0 < m
 positive r = let odd = r.odd in omega arith
 
--- the base has an inverse modulo m
-pub base_inverse : {w b m i square : ℕ} → IsOddRing w b m i square → (b * ((m * i + 1) / b)) % m ≡ 1 % m
-base_inverse {w} {b} {m} {i} {square} r =
-    let some : 0 < b = omega (arith, r.fits) in
-    let z : (m * i + 1) % b ≡ 0 = next_is_multiple b (m * i) some r.inverse.product ∙ mod-eq_of_lt some in
-    let f : b * ((m * i + 1) / b) + (m * i + 1) % b ≡ m * i + 1 = div-add-mod (m * i + 1) b in
-    let g : b * ((m * i + 1) / b) ≡ 1 + m * i = omega arith in
-    ap (λ v. v % m) g ∙ add-mul-mod_self_left 1 m i
-
 -- so it cancels modulo m
 pub base_cancels : {w b m i square : ℕ} → IsOddRing w b m i square → (x y : ℕ)
     → (x * b) % m ≡ (y * b) % m → x % m ≡ y % m
 base_cancels {w} {b} {m} {i} {square} r x y e =
-    same_without_unit m x y b ((m * i + 1) / b) (base_inverse r) e
+    same_without_unit m x y b ((m * i + 1) / b) (base_inverse b m i (omega (arith, r.fits)) r.inverse) e
 
 -- two values of one form are one
 form_injective : {w b m i square : ℕ} → IsOddRing w b m i square → (v x : ℕ) → v < m → x < m

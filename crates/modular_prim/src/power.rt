@@ -7,13 +7,15 @@ use crate::core_ops::{reduced, sqm};
 use crate::plain_word::PlainWord;
 use crate::reciprocal::invert_word;
 use modular_word::path_word::PathWord;
-use modular_word::paths::div_2by1;
+use modular_word::paths::{div_2by1, neginv, redc};
 use modular_word::ring_word::RingWord;
 
 /// The residue of the product of `exp` factors `base`; that of 1 for the exponent 0. Condition: m
 /// is at least 1.
 ///
-/// The exponents 0, 1 and 2 cost one division at most. Above them no step divides a double word.
+/// The exponents 0, 1 and 2 cost one division at most. Above them no step divides a double word:
+/// modulo an odd m each product is reduced by Montgomery's way, modulo an even one by the reciprocal
+/// of m.
 pub fn powm<T: PlainWord>(base: T, exp: T, m: T) -> T
     requires { 1 ≤ T.number m }
     ensures { T.number result ≡ T.number base ^ T.number exp % T.number m }
@@ -21,7 +23,7 @@ pub fn powm<T: PlainWord>(base: T, exp: T, m: T) -> T
     let one = T::one();
     let two = one.plus(one);
     if two.is_below(exp) {
-        power_by_reciprocal(reduced(base, m), exp, m)
+        power_below(reduced(base, m), exp, m)
     } else if exp.is_zero_word() {
         reduced(one, m)
     } else if exp.is_odd() {
@@ -29,6 +31,46 @@ pub fn powm<T: PlainWord>(base: T, exp: T, m: T) -> T
     } else {
         sqm(base, m)
     }
+}
+
+// The residue of the power of a base below m, by the way that m admits.
+fn power_below<T: PlainWord>(base: T, exp: T, m: T) -> T
+    requires { T.number base < T.number m }
+    ensures { T.number result ≡ T.number base ^ T.number exp % T.number m }
+{
+    if m.is_odd() {
+        power_by_reduction(base, exp, m)
+    } else {
+        power_by_reciprocal(base, exp, m)
+    }
+}
+
+// The residue of the power of a base below an odd m, by binary digits. The power is a residue times
+// the base of the words, and the product is one as it is: a reduction of the two's product is the
+// next product.
+//
+// Source: Handbook of Applied Cryptography, section 14.3.2.
+fn power_by_reduction<T: PlainWord>(base: T, exp: T, m: T) -> T
+    requires odd { T.number m % 2 ≡ 1 }
+    requires below { T.number base < T.number m }
+    ensures { T.number result ≡ T.number base ^ T.number exp % T.number m }
+{
+    let negated_inverse = neginv(m);
+    let mut power = T::narrow_remainder(T::merge(T::zero(), base), m);
+    let mut product = if exp.is_odd() {
+        base
+    } else {
+        reduced(T::one(), m)
+    };
+    let mut rest = exp.half();
+    'digits: while !rest.is_zero_word() {
+        power = redc(m, negated_inverse, power.product(power));
+        if rest.is_odd() {
+            product = redc(m, negated_inverse, power.product(product));
+        }
+        rest = rest.half();
+    }
+    product
 }
 
 // The residue of the power of a base below m, by binary digits. All residues are scaled by the power

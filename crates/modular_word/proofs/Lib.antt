@@ -3,6 +3,7 @@ pub mod Congruence
 pub mod Divisors
 pub mod ExactSteps
 pub mod InverseLemmas
+pub mod Lifting
 pub mod MultiplierSteps
 pub mod Powers
 pub mod ReciprocalSteps

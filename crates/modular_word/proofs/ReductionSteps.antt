@@ -3,8 +3,8 @@ use Rattle.std.proofs.Common.{◌≡◌, ℕ, ◌+◌, ◌-◌, ◌*◌, ◌/◌
 use Rattle.std.proofs.Math.Nat.{mod-eq_of_lt, div-add-mod, mul-le-mul_left, mul-le-mul_right, add-mul-mod_self_left, add-mod_right, add-mod-mod, mul-mod_right, lt_of_mul-lt-mul_left}
 use Rattle.std.proofs.lemmas.Nat.{mul-mod_first, mul-mod_second}
 use Rattle.std.proofs.lemmas.Bool.{cases_lt}
-use Rattle.modular_word.proofs.Congruence.{mod_cancel}
-use Rattle.modular_word.specs.Reduction.{IsReduction}
+use Rattle.modular_word.proofs.Congruence.{mod_cancel, same_without_unit, next_is_multiple}
+use Rattle.modular_word.specs.Reduction.{IsReduction, IsNegatedInverse}
 
 -- the multiple of m that clears the low word t0
 pub low_is_zero : (B m i t0 t1 x : ℕ) → 0 < B → (m * i) % B ≡ B - 1 → x ≡ (t0 * i) % B
@@ -159,3 +159,17 @@ reduces_same B m t x t1 raised d less sum s hm hd ed el h es =
     let small : t1 + raised < m = omega arith in
     let is : sum ≡ t1 + raised = es ∙ mod-eq_of_lt (let l : t1 + raised < B = omega arith in l) in
     record { below = omega arith; congruent = ap (λ v. (v * B) % m) is ∙ residue_same B m t x (t1 + raised) s.whole }
+
+-- by the negated inverse the base has an inverse modulo m
+pub base_inverse : (B m i : ℕ) → 0 < B → IsNegatedInverse B m i → (B * ((m * i + 1) / B)) % m ≡ 1 % m
+base_inverse B m i some inverse =
+    let z : (m * i + 1) % B ≡ 0 = next_is_multiple B (m * i) some inverse.product ∙ mod-eq_of_lt some in
+    let f : B * ((m * i + 1) / B) + (m * i + 1) % B ≡ m * i + 1 = div-add-mod (m * i + 1) B in
+    let g : B * ((m * i + 1) / B) ≡ 1 + m * i = omega arith in
+    ap (λ v. v % m) g ∙ add-mul-mod_self_left 1 m i
+
+-- so what reduces a number congruent to x times the base is the residue of x
+pub reduced_is : (B m i x : ℕ) {t u : ℕ} → 0 < B → IsNegatedInverse B m i → t % m ≡ (x * B) % m → IsReduction B m t u → u ≡ x % m
+reduced_is B m i x {t} {u} some inverse e is =
+    sym (mod-eq_of_lt is.below)
+    ∙ same_without_unit m u x B ((m * i + 1) / B) (base_inverse B m i some inverse) (is.congruent ∙ e)

@@ -104,6 +104,25 @@ pub fn exact_2<T: PathWord>(d: T, inverse: T, limit: T, n: T::Double) -> Option<
     }
 }
 
+/// The word x whose product with m is -1 modulo the base. Condition: m is odd.
+///
+/// m is its own inverse modulo 8, and each step doubles the number of bits to which the inverse
+/// holds. Source: Dumas, "On Newton-Raphson iteration for multiplicative inverses modulo prime
+/// powers".
+pub fn neginv<T: PathWord>(m: T) -> T
+    requires { T.number m % 2 ≡ 1 }
+    ensures { IsNegatedInverse T.base (T.number m) (T.number result) }
+{
+    let two = T::one().plus(T::one());
+    let mut inverse = m;
+    let mut bits = 3;
+    'lift: while bits < T::bits() {
+        inverse = inverse.wrapping_mul(two.wrapping_sub(m.wrapping_mul(inverse)));
+        bits += bits;
+    }
+    T::zero().wrapping_sub(inverse)
+}
+
 /// The word x whose multiple x·m clears the low word of t: the first step of Montgomery's
 /// reduction. Condition: m times `negated_inverse` is -1 modulo the base.
 pub fn clearing<T: PathWord>(m: T, negated_inverse: T, t: T::Double) -> T

@@ -1,4 +1,4 @@
-use Rattle.std.proofs.Common.{◌≡◌, ◌%◌, ap, ◌∙◌}
+use Rattle.std.proofs.Common.{◌%◌, ap, ◌∙◌}
 use Rattle.modular_prim.proofs.core_ops.mulm.Goals as goal
 
 pub returns : goal.returns

@@ -11,8 +11,8 @@ plus-two-requires g c =
 pub returns-then-is_below : goal.returns-then-is_below
 returns-then-is_below g c =
     let n = g.T.RingWord.number in
-    power_of_rest (n c.args.m) (n c.args.base) (n c.reduced.result) (n c.args.exp) (n c.power_by_reciprocal.result)
-    c.reduced.ensures.value c.power_by_reciprocal.ensures
+    power_of_rest (n c.args.m) (n c.args.base) (n c.reduced.result) (n c.args.exp) (n c.power_below.result)
+    c.reduced.ensures.value c.power_below.ensures
 
 pub returns-then-is_odd : goal.returns-then-is_odd
 returns-then-is_odd g c =

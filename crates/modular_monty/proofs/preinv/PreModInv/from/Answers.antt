@@ -1,5 +1,6 @@
 use Rattle.std.proofs.Common.{◌≡◌, ◌-◌, ◌*◌, ◌/◌, ◌%◌, ◌^◌, ap, ◌∙◌, arith}
-use Rattle.modular_monty.proofs.NegatedInverses.{base_above_two, inverse_of_negated}
+use Rattle.modular_word.proofs.Lifting.{base_above_two}
+use Rattle.modular_monty.proofs.NegatedInverses.{inverse_of_negated}
 use Rattle.modular_monty.proofs.preinv.PreModInv.from.Goals as goal
 
 pub returns : goal.returns

@@ -1,8 +1,14 @@
 -- An inverse modulo a power of two, lifted to its square.
 use Rattle.std.proofs.Common.{◌≡◌, ℕ, zero, suc, ◌+◌, ◌-◌, ◌*◌, ◌/◌, ◌%◌, ◌^◌, ◌<◌, ◌≤◌, sym, ap, ◌∙◌, arith, refl, ap₂}
 use Rattle.std.proofs.Math.Nat.{mod-lt, mod-mod, mod-one, mod_self, mod-add-mod, add-mod-mod, div-add-mod, mod-eq_of_lt, add-mul-mod_self_left, pow-suc}
-use Rattle.std.proofs.lemmas.Nat.{pow_pos, pow-add, mul-mod, mul-mod_second}
+use Rattle.std.proofs.lemmas.Nat.{pow_below, pow_pos, pow-add, mul-mod, mul-mod_second}
 use Rattle.modular_word.proofs.Congruence.{mod_cancel, same_sum, same_product, same_without, mod_of_multiple}
+
+-- a base of 8 bits or more is above 2
+pub base_above_two : (w b : ℕ) → b ≡ 2 ^ w → 8 ≤ w → 2 < b
+base_above_two w b eb h =
+    let many : 2 ^ 2 < 2 ^ w = pow_below 2 w (omega arith) in
+    omega (arith, many)
 
 -- i is the inverse of m modulo each power of two up to the given one, in words of w bits
 pub record InverseTo (w m i bits : ℕ) : Type 0 where

@@ -1,6 +1,6 @@
 use Rattle.std.proofs.Common.{◌-◌, ◌≤◌}
-use Rattle.modular_monty.proofs.Lifting.{InverseTo}
-use Rattle.modular_monty.proofs.neg_mod_inv.neginv.Given as goal
+use Rattle.modular_word.proofs.Lifting.{InverseTo}
+use Rattle.modular_word.proofs.paths.neginv.Given as goal
 
 abbrev pub invariant-lift : goal.invariant-lift
 invariant-lift g l = record {

@@ -1,7 +1,6 @@
 use Rattle.std.proofs.Common.{arith, ◌≡◌, ◌∙◌, refl}
-use Rattle.modular_monty.proofs.Lifting.{lift_start, lift_step, lift_end}
-use Rattle.modular_monty.proofs.NegatedInverses.{base_above_two}
-use Rattle.modular_monty.proofs.neg_mod_inv.neginv.Goals as goal
+use Rattle.modular_word.proofs.Lifting.{base_above_two, lift_start, lift_step, lift_end}
+use Rattle.modular_word.proofs.paths.neginv.Goals as goal
 
 pub plus-two-requires : goal.plus-two-requires
 plus-two-requires g c =
