@@ -1,9 +1,11 @@
-//! A first use: an integer in a ring, and commands on registers.
+//! The README's examples, one of each kind of use.
 
-ghost use Rattle.std.specs.Prelude.{◌≡◌, ◌+◌, ◌*◌, ◌%◌, ◌≤◌};
+ghost use Rattle.std.specs.Prelude.{◌≡◌, ◌+◌, ◌*◌, ◌/◌, ◌%◌, ◌≤◌, pos};
+ghost use Rattle.num_modular.specs.Jacobi.{checked_jacobi_of};
 
 use num_modular::ring::{RingCommand, RunEnd, run};
-use num_modular::{ModularInteger, MontgomeryInt, PreMulInv2by1, Reducer};
+use num_modular::{FixedMersenne64, ModularInteger, ModularSymbols, MontgomeryInt};
+use num_modular::{PreMulInv1by1, PreMulInv2by1, Reducer, RingWord};
 
 /// x·y + 1 modulo 97, in Montgomery's representation.
 pub fn product_and_one(x: u64, y: u64) -> u64
@@ -24,4 +26,40 @@ pub fn residue_by_commands(n: u64, m: u64) -> u64
     let end = run(&reducer, &mut registers, &[RingCommand::Load { dst: 1, n }]);
     prove!(end == RunEnd::Done);
     reducer.residue(registers[1])
+}
+
+/// x·y modulo the Mersenne prime 2^61 - 1, by folds.
+#[tactic(auto, using(num_modular::proofs::Remainders::remainders))]
+pub fn product_by_folds(x: u64, y: u64) -> u64
+    ensures { result ≡ (x * y) % 2305843009213693951 }
+{
+    let ring = FixedMersenne64::<61, 1>::new(&FixedMersenne64::<61, 1>::fixed_modulus());
+    ring.residue(ring.mul(&ring.transform(x), &ring.transform(y)))
+}
+
+/// Whole minutes and seconds, by the multiplier of 60 in place of a division.
+pub fn minutes_and_seconds(seconds: u32) -> (u32, u32)
+    ensures minutes { result.0 ≡ seconds / 60 }
+    ensures left { result.1 ≡ seconds % 60 }
+{
+    let sixty = PreMulInv1by1::<u32>::new(60);
+    sixty.div_rem(seconds, 60)
+}
+
+/// The Jacobi symbol of x over n; `None` exactly for an even n and for 0.
+pub fn symbol(x: u64, n: u64) -> Option<i8>
+    ensures { result ≡ checked_jacobi_of (pos x) (pos n) }
+{
+    x.checked_jacobi(&n)
+}
+
+/// x^2 + y^2 modulo any reducer's modulus.
+#[tactic(auto, using(num_modular::proofs::Remainders::remainders))]
+pub fn sum_of_squares<T: RingWord, R: Reducer<T>>(ring: &R, x: T, y: T) -> T
+    ensures { let m = R.modulus ring.now in
+        T.number result ≡ (T.number x * T.number x + T.number y * T.number y) % m }
+{
+    let x = ring.transform(x);
+    let y = ring.transform(y);
+    ring.residue(ring.add(&ring.sqr(x), &ring.sqr(y)))
 }
