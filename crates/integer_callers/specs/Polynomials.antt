@@ -1,4 +1,4 @@
--- Polynomials over whole numbers.
+-- Polynomials over whole numbers (Knuth, The Art of Computer Programming, volume 2, section 4.6.4).
 use Rattle.std.specs.Prelude.{ℕ, ◌+◌, ◌*◌, ◌^◌, List, [], ◌∷◌, length}
 
 -- the value at x of the polynomial with these coefficients, the highest first: each coefficient times its power of x

@@ -1,4 +1,4 @@
--- Binary digits of whole numbers.
+-- Binary digits of whole numbers (Knuth, The Art of Computer Programming, volume 2, section 4.1).
 use Rattle.std.specs.Prelude.{ℕ, ◌-◌, ◌^◌, ◌<◌, ◌≤◌}
 
 -- x, which is above 0, has n binary digits, of w at most

@@ -1,4 +1,4 @@
--- What is known of a modulus 2^p - k whose parameters are in range.
+-- What is known of a modulus 2^p - k whose parameters are in range: proofs that the impls declare. Each name is the library's own word.
 use Rattle.std.proofs.Common.{ℕ, ◌^◌, ◌<◌, ◌≤◌, arith, lit<}
 use Rattle.std.proofs.Math.Nat.{pow-le-pow_right}
 use Rattle.modular_reduced.specs.Forms.{IsCanonical}

@@ -1,4 +1,4 @@
--- What is known of a modulus 2^p1 - 2^p2 + k whose parameters are in range.
+-- What is known of a modulus 2^p1 - 2^p2 + k whose parameters are in range: proofs that the impls declare. Each name is the library's own word.
 use Rattle.std.proofs.Common.{◌≡◌, ℕ, suc, ◌+◌, ◌*◌, ◌%◌, ◌^◌, ◌<◌, ◌≤◌, ℤ, pos, negsuc, ◌+ℤ◌, ◌-ℤ◌, ◌<ℤ◌, ◌≤ℤ◌, nat_abs, arith, lit<, ⊎_elim}
 use Rattle.std.specs.Int.Signed.{pos-nat_abs, yes_non_neg}
 use Rattle.std.proofs.Math.Nat.{pow-le-pow_right, pow-suc}

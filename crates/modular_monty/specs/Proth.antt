@@ -1,4 +1,4 @@
--- The moduli k * 2^n + 1, as the reducers of fixed moduli take them (Proth, "Théorèmes sur les nombres premiers", Comptes rendus 87).
+-- The moduli k * 2^n + 1, as the reducers of fixed moduli take them (Proth, "Théorèmes sur les nombres premiers", Comptes rendus 87, 1878).
 use Rattle.std.specs.Prelude.{◌≡◌, ℕ, ◌+◌, ◌*◌, ◌%◌, ◌^◌, ◌<◌, ◌≤◌}
 
 -- the modulus of the parameters n and k
@@ -9,6 +9,7 @@ proth_modulus n k = k * 2 ^ n + 1
 abbrev pub greatest_proth_32 : ℕ
 greatest_proth_32 = 2654435769
 
+-- at words of 64 bits
 abbrev pub greatest_proth_64 : ℕ
 greatest_proth_64 = 11400714819323199485
 

@@ -1,4 +1,5 @@
 -- The value of a form, where all that is given is the form of each value.
+-- Each name is the library's own word.
 use Rattle.std.specs.Prelude.{ℕ, suc, zero, ◌==◌, if◌then◌else◌}
 
 -- the number below the bound whose form is f, which is the greatest where several are

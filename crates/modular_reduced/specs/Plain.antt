@@ -1,4 +1,4 @@
--- The forms of `Vanilla`: each value is its own form.
+-- The forms of `Vanilla`: each value is its own form. Each name is the library's own word.
 use Rattle.std.specs.Prelude.{ℕ, ◌<◌, ◌≤◌, ◌^◌}
 use Rattle.std.proofs.Common.{arith}
 use Rattle.modular_reduced.specs.Forms.{IsCanonical}

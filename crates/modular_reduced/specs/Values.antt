@@ -1,4 +1,4 @@
--- Lists of forms, and the values that they stand for. The words are the library's own.
+-- Lists of forms, and the values that they stand for. Each name is the library's own word.
 use Rattle.std.specs.Prelude.{ℕ, ◌<◌, List, map, length, slice_index_or}
 use Rattle.modular_reduced.specs.Forms.{Represents}
 

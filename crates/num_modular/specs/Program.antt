@@ -1,4 +1,4 @@
--- What the program `modrun` prints and answers for the words after its name. A text is the list of its bytes.
+-- What the program `modrun` prints and answers for the words after its name. A text is the list of its bytes. Each name is the library's own word.
 use Rattle.std.specs.Prelude.{◌≡◌, ℕ, zero, suc, ◌<◌, List, [], ◌∷◌, ◌++◌, replicate, codes}
 use Rattle.std.specs.Borrow.{Bor}
 use Rattle.std.specs.Fmt.{decimal}
