@@ -19,48 +19,36 @@ pub fn signed_residue<T: PlainWord>(negative: bool, magnitude: T, m: T) -> T
 }
 
 impl ModularAbs<u8> for i8 {
-    ghost integer = { λ z. z };
-
     fn absm(self, m: &u8) -> u8 {
         signed_residue(self < 0, self.unsigned_abs(), *m)
     }
 }
 
 impl ModularAbs<u16> for i16 {
-    ghost integer = { λ z. z };
-
     fn absm(self, m: &u16) -> u16 {
         signed_residue(self < 0, self.unsigned_abs(), *m)
     }
 }
 
 impl ModularAbs<u32> for i32 {
-    ghost integer = { λ z. z };
-
     fn absm(self, m: &u32) -> u32 {
         signed_residue(self < 0, self.unsigned_abs(), *m)
     }
 }
 
 impl ModularAbs<u64> for i64 {
-    ghost integer = { λ z. z };
-
     fn absm(self, m: &u64) -> u64 {
         signed_residue(self < 0, self.unsigned_abs(), *m)
     }
 }
 
 impl ModularAbs<usize> for isize {
-    ghost integer = { λ z. z };
-
     fn absm(self, m: &usize) -> usize {
         signed_residue(self < 0, self.unsigned_abs(), *m)
     }
 }
 
 impl ModularAbs<u128> for i128 {
-    ghost integer = { λ z. z };
-
     fn absm(self, m: &u128) -> u128 {
         signed_residue_128(self < 0, self.unsigned_abs(), *m)
     }

@@ -1,6 +1,6 @@
-//! The whole number of an operand: of a word, and of a reference to one.
+//! The number of an operand: of a word with or without sign, and of a reference to one.
 
-ghost use Rattle.std.specs.Prelude.{ℕ};
+ghost use Rattle.std.specs.Prelude.{ℕ, ℤ, pos};
 
 /// An operand that contracts see as a whole number: a word, or a reference to a word.
 ///
@@ -36,4 +36,64 @@ impl Numbered for u128 {
 
 impl<T: Numbered> Numbered for &T {
     ghost whole_number = { λ x. T.whole_number x.now };
+}
+
+/// An operand that contracts see as an integer: a word with or without sign, or a reference to one.
+///
+/// It has no calls.
+pub trait IntegerValued {
+    // The integer of an operand.
+    ghost integer_value: { Self → ℤ };
+}
+
+impl IntegerValued for u8 {
+    ghost integer_value = { pos };
+}
+
+impl IntegerValued for u16 {
+    ghost integer_value = { pos };
+}
+
+impl IntegerValued for u32 {
+    ghost integer_value = { pos };
+}
+
+impl IntegerValued for u64 {
+    ghost integer_value = { pos };
+}
+
+impl IntegerValued for usize {
+    ghost integer_value = { pos };
+}
+
+impl IntegerValued for u128 {
+    ghost integer_value = { pos };
+}
+
+impl IntegerValued for i8 {
+    ghost integer_value = { λ z. z };
+}
+
+impl IntegerValued for i16 {
+    ghost integer_value = { λ z. z };
+}
+
+impl IntegerValued for i32 {
+    ghost integer_value = { λ z. z };
+}
+
+impl IntegerValued for i64 {
+    ghost integer_value = { λ z. z };
+}
+
+impl IntegerValued for isize {
+    ghost integer_value = { λ z. z };
+}
+
+impl IntegerValued for i128 {
+    ghost integer_value = { λ z. z };
+}
+
+impl<T: IntegerValued> IntegerValued for &T {
+    ghost integer_value = { λ x. T.integer_value x.now };
 }

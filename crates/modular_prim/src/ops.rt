@@ -1,10 +1,10 @@
 //! The modular operations, as traits.
 
-ghost use Rattle.std.specs.Prelude.{◌≡◌, ℕ, ◌+◌, ◌*◌, ◌%◌, ◌^◌, ◌≤◌, ℤ, pos, ◌-ℤ◌, neg_ℤ};
+ghost use Rattle.std.specs.Prelude.{◌≡◌, ℕ, ◌+◌, ◌*◌, ◌%◌, ◌^◌, ◌≤◌, pos, ◌-ℤ◌, neg_ℤ};
 ghost use Rattle.modular_word.specs.Inverses.{IsInversion};
 ghost use Rattle.modular_word.specs.Residues.{residue};
 
-use crate::numbered::Numbered;
+use crate::numbered::{IntegerValued, Numbered};
 
 /// Sums, differences and products modulo m, of operands that may be above m. Condition of each: m
 /// is at least 1.
@@ -72,13 +72,10 @@ pub trait ModularPow<Exp: Numbered, Modulus: Numbered>: Numbered {
 }
 
 /// Residues of signed numbers, as words without sign. Condition: m is at least 1.
-pub trait ModularAbs<Modulus: Numbered> {
-    // The signed number.
-    ghost integer: { Self → ℤ };
-
+pub trait ModularAbs<Modulus: Numbered>: IntegerValued {
     /// The residue of the signed number: the one number from 0 to m - 1 from which it differs by a
     /// multiple of m.
     fn absm(self, m: &Modulus) -> Modulus
         requires { 1 ≤ Modulus.whole_number m.now }
-        ensures { Modulus.whole_number result ≡ residue (Modulus.whole_number m.now) (integer self) };
+        ensures { Modulus.whole_number result ≡ residue (Modulus.whole_number m.now) (Self.integer_value self) };
 }

@@ -59,7 +59,7 @@ pub fn power<E: Numbered, M: Numbered, T: ModularPow<E, M>>(x: T, exp: E, m: M) 
 /// The residue of a signed number.
 pub fn signed<M: Numbered, T: ModularAbs<M>>(x: T, m: &M) -> M
     requires { 1 ≤ M.whole_number m.now }
-    ensures { M.whole_number result ≡ residue (M.whole_number m.now) (T.integer x) }
+    ensures { M.whole_number result ≡ residue (M.whole_number m.now) (T.integer_value x) }
 {
     x.absm(m)
 }

@@ -1,35 +1,29 @@
 //! The integer of an operand, and words given by their sign and their magnitude.
 
-ghost use Rattle.std.specs.Prelude.{◌≡◌, ℤ, pos, ◌<◌, IsTrue};
-ghost use Rattle.std.proofs.Common.{refl};
+ghost use Rattle.std.specs.Prelude.{◌≡◌, pos, ◌<◌, ◌↔◌, IsTrue};
+ghost use Rattle.std.proofs.Common.{refl, rules};
 ghost use Rattle.modular_symbols.specs.Kronecker.{signed};
 
+pub use modular_prim::numbered::IntegerValued;
 use modular_prim::numbered::Numbered;
 use modular_prim::plain_word::PlainWord;
 
-/// An operand that contracts see as an integer: a word with or without sign, or a reference to one.
-///
-/// It has no calls.
-pub trait IntegerValued {
-    // The integer of an operand.
-    ghost integer_value: { Self → ℤ };
-}
-
-impl<T: IntegerValued> IntegerValued for &T {
-    ghost integer_value = { λ x. T.integer_value x.now };
-}
-
-/// An operand without sign: its integer is its whole number.
+/// An operand without sign: its integer is its whole number, which `==` compares.
 ///
 /// It has no calls. By it code that is generic over the modular operations and the symbols speaks of
 /// one number.
-pub trait UnsignedOperand: Numbered + IntegerValued {
+pub trait UnsignedOperand: Numbered + IntegerValued + Eq {
     // The integer is the whole number.
     ghost whole: { (x : Self) → Self.integer_value x ≡ pos (Self.whole_number x) };
+
+    // `==` tells whether the numbers are equal.
+    ghost compares: { (x y : Self) → IsTrue (Self.eq x y) ↔ (Self.whole_number x ≡ Self.whole_number y) };
 }
 
 impl<T: UnsignedOperand> UnsignedOperand for &T {
     ghost whole = { λ x. T.whole x.now };
+
+    ghost compares = { λ x y. T.compares x.now y.now };
 }
 
 /// A machine word with or without sign.
@@ -43,64 +37,34 @@ pub trait SymbolWord: IntegerValued + Copy {
         ensures negative { IsTrue result.0 → 0 < Self.Magnitude.number result.1 };
 }
 
-impl IntegerValued for u8 {
-    ghost integer_value = { pos };
-}
-
-impl IntegerValued for u16 {
-    ghost integer_value = { pos };
-}
-
-impl IntegerValued for u32 {
-    ghost integer_value = { pos };
-}
-
-impl IntegerValued for u64 {
-    ghost integer_value = { pos };
-}
-
-impl IntegerValued for usize {
-    ghost integer_value = { pos };
-}
-
-impl IntegerValued for i8 {
-    ghost integer_value = { λ z. z };
-}
-
-impl IntegerValued for i16 {
-    ghost integer_value = { λ z. z };
-}
-
-impl IntegerValued for i32 {
-    ghost integer_value = { λ z. z };
-}
-
-impl IntegerValued for i64 {
-    ghost integer_value = { λ z. z };
-}
-
-impl IntegerValued for isize {
-    ghost integer_value = { λ z. z };
-}
-
 impl UnsignedOperand for u8 {
     ghost whole = { λ x. refl };
+
+    ghost compares = { Prim.search rules };
 }
 
 impl UnsignedOperand for u16 {
     ghost whole = { λ x. refl };
+
+    ghost compares = { Prim.search rules };
 }
 
 impl UnsignedOperand for u32 {
     ghost whole = { λ x. refl };
+
+    ghost compares = { Prim.search rules };
 }
 
 impl UnsignedOperand for u64 {
     ghost whole = { λ x. refl };
+
+    ghost compares = { Prim.search rules };
 }
 
 impl UnsignedOperand for usize {
     ghost whole = { λ x. refl };
+
+    ghost compares = { Prim.search rules };
 }
 
 impl SymbolWord for u8 {

@@ -1,5 +1,8 @@
 //! The trait that collects the modular operations and the symbols.
 
+ghost use Rattle.std.specs.Prelude.{◌≡◌};
+ghost use Rattle.std.proofs.Common.{sym, ◌∙◌};
+
 use crate::integer::{SymbolWord, UnsignedOperand};
 use crate::symbols::ModularSymbols;
 use modular_prim::numbered::Numbered;
@@ -12,6 +15,15 @@ pub trait ModularOps<Rhs: Numbered, Modulus: UnsignedOperand, Output: Numbered>:
     + ModularCoreOps<Rhs, Modulus, Output = Output>
     + ModularUnaryOps<Modulus, Output = Output>
     + ModularPow<Rhs, Modulus, Output = Output>
-    + ModularSymbols<Modulus> {}
+    + ModularSymbols<Modulus> {
+    // Operands of one number are equal, and so are answers.
+    ghost one_operand: { (x y : Self) → Self.whole_number x ≡ Self.whole_number y → x ≡ y };
 
-impl<T: PlainWord + SymbolWord + UnsignedOperand> ModularOps<T, &T, T> for T {}
+    ghost one_answer: { (x y : Output) → Output.whole_number x ≡ Output.whole_number y → x ≡ y };
+}
+
+impl<T: PlainWord + SymbolWord + UnsignedOperand> ModularOps<T, &T, T> for T {
+    ghost one_operand = { λ x y e. T.injective x y (sym (T.numbered x) ∙ e ∙ T.numbered y) };
+
+    ghost one_answer = { λ x y e. T.injective x y (sym (T.numbered x) ∙ e ∙ T.numbered y) };
+}

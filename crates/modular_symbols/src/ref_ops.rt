@@ -1,6 +1,7 @@
 //! The modular operations and the symbols over plain references.
 
 ghost use Rattle.std.specs.Prelude.{◌≡◌, ℕ, ◌+◌, ◌*◌, ◌%◌, ◌^◌, ◌≤◌, pos, ◌-ℤ◌, neg_ℤ};
+ghost use Rattle.std.proofs.Common.{sym, ◌∙◌};
 ghost use Rattle.modular_word.specs.Inverses.{IsInversion};
 ghost use Rattle.modular_word.specs.Residues.{residue};
 ghost use Rattle.modular_symbols.specs.Jacobi.{checked_jacobi_of};
@@ -73,6 +74,9 @@ pub trait ModularRefOps: UnsignedOperand + Copy {
     /// The Kronecker symbol.
     fn kronecker_ref(&self, n: &Self) -> i8
         ensures { result ≡ kronecker (pos (Self.whole_number self.now)) (pos (Self.whole_number n.now)) };
+
+    // Words of one number are one word.
+    ghost one_word: { (x y : Self) → Self.whole_number x ≡ Self.whole_number y → x ≡ y };
 }
 
 impl<T: PlainWord + SymbolWord + UnsignedOperand> ModularRefOps for T {
@@ -119,4 +123,6 @@ impl<T: PlainWord + SymbolWord + UnsignedOperand> ModularRefOps for T {
     fn kronecker_ref(&self, n: &T) -> i8 {
         self.kronecker(n)
     }
+
+    ghost one_word = { λ x y e. T.injective x y (sym (T.numbered x) ∙ e ∙ T.numbered y) };
 }
