@@ -27,7 +27,7 @@ square_of_last n k s =
     let t = ap (λ v. v * k) s in
     ap (λ v. v * v) u ∙ omega arith
 
-last_times_last : (n v : ℕ) → 1 < n → v % n ≡ n - 1 → (v * (n - 1)) % n ≡ 1
+pub last_times_last : (n v : ℕ) → 1 < n → v % n ≡ n - 1 → (v * (n - 1)) % n ≡ 1
 last_times_last n v l e =
     let s : n ≡ (n - 2) + 2 = omega arith in
     sym (mul-mod_first v (n - 1) n) ∙ ap (λ w. (w * (n - 1)) % n) e ∙ ap (λ w. w % n) (square_of_last n (n - 2) s)
@@ -38,7 +38,7 @@ one_times_last n v l e =
     let b : n - 1 < n = omega arith in
     sym (mul-mod_first v (n - 1) n) ∙ ap (λ w. (w * (n - 1)) % n) e ∙ ap (λ w. w % n) (one-mul (n - 1)) ∙ mod-eq_of_lt b
 
-powers_of_last : (n k : ℕ) → 1 < n
+pub powers_of_last : (n k : ℕ) → 1 < n
     → ((k % 2 ≡ 0) × ((n - 1) ^ k % n ≡ 1)) ⊎ ((k % 2 ≡ 1) × ((n - 1) ^ k % n ≡ n - 1))
 powers_of_last n zero l = inl (omega arith, ap (λ v. v % n) (pow-zero (n - 1)) ∙ mod-eq_of_lt l)
 powers_of_last n (suc k) l =

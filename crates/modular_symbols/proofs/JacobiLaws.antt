@@ -1,14 +1,14 @@
 -- The laws of the Jacobi symbol, from the count alone.
-use Rattle.std.proofs.Common.{◌≡◌, ℕ, Bool, true, false, zero, suc, ◌+◌, ◌-◌, ◌*◌, ◌%◌, ◌/◌, ◌<◌, cond, eqb, ltb, ◌&&◌, ◌||◌, ℤ, pos, negsuc, ◌*ℤ◌, neg_ℤ, nat_abs, sym, ◌∙◌, ap, arith, ⊎_elim, inl, inr, ◌≢◌, ◌⊎◌}
+use Rattle.std.proofs.Common.{◌≡◌, ℕ, Bool, true, false, zero, suc, ◌+◌, ◌-◌, ◌*◌, ◌%◌, ◌/◌, ◌<◌, cond, eqb, ltb, ◌&&◌, ◌||◌, ℤ, pos, negsuc, ◌*ℤ◌, neg_ℤ, nat_abs, sym, ◌∙◌, ap, arith, ⊎_elim, inl, inr, ◌≢◌, ◌⊎◌, ◌↔◌}
 use Rattle.std.proofs.lemmas.Bool.Decides.{nat_tests}
-use Rattle.std.proofs.lemmas.Bool.{cases_eq}
+use Rattle.std.proofs.lemmas.Bool.{cases_eq, cond-true, cond-false, eq-eqb, ne_eqb}
 use Rattle.std.proofs.lemmas.Int.{ints}
 use Rattle.std.proofs.lemmas.Nat.{mul-mod}
 use Rattle.std.proofs.Math.Nat.{zero-mod, mod_self}
 use Rattle.modular_word.specs.Divisors.{Coprime, gcd}
 use Rattle.modular_word.specs.Residues.{residue}
 use Rattle.modular_word.specs.Sums.{sum_to}
-use Rattle.modular_word.proofs.Divisors.{divides_rest, divides_through, divisor_below, Coprime-swap, Coprime-left, Coprime-right, Coprime-product, Coprime-mod, Coprime-from_mod, gcd-from_Coprime, Coprime-from_gcd}
+use Rattle.modular_word.proofs.Divisors.{gcd_is_positive, divides_rest, divides_through, divisor_below, Coprime-swap, Coprime-left, Coprime-right, Coprime-product, Coprime-mod, Coprime-from_mod, gcd-from_Coprime, Coprime-from_gcd}
 use Rattle.modular_word.proofs.Sums.{sum_to-same, sum_to-zero}
 use Rattle.modular_symbols.specs.Jacobi.{half_system_count, sign, jacobi}
 use Rattle.modular_symbols.proofs.HalfSystem.{above, above-small, half_system_count-sum, half_system_count-residue, half_system_count-product}
@@ -248,3 +248,44 @@ jacobi-zero_one =
 
 pub jacobi-zero : (n : ℕ) → 1 < n → jacobi (pos 0) n ≡ pos 0
 jacobi-zero n l = jacobi-shared (pos 0) n (omega arith) (λ c. let e = c.only_one n (zero-mod n) (mod_self n) in omega arith)
+
+-- ---- the values
+pub sign-values : (i : ℕ) → (sign i ≡ pos 1) ⊎ (sign i ≡ negsuc 0)
+sign-values i =
+    ⊎_elim
+    (λ (e : i % 2 ≡ 0). inl (sign-even i e))
+    (λ (e : i % 2 ≡ 1). inr (sign-odd i e))
+    (parities i)
+
+values_from : (a : ℤ) (n : ℕ) (z : ℤ) → jacobi a n ≡ z → (z ≡ pos 1) ⊎ (z ≡ negsuc 0)
+    → (jacobi a n ≡ pos 1) ⊎ ((jacobi a n ≡ negsuc 0) ⊎ (jacobi a n ≡ pos 0))
+values_from a n z e h =
+    ⊎_elim (λ (f : z ≡ pos 1). inl (e ∙ f)) (λ (f : z ≡ negsuc 0). inr (inl (e ∙ f))) h
+
+pub jacobi-values : (a : ℤ) (n : ℕ) → (jacobi a n ≡ pos 1) ⊎ ((jacobi a n ≡ negsuc 0) ⊎ (jacobi a n ≡ pos 0))
+unfolding jacobi
+jacobi-values a n =
+    ⊎_elim
+    (λ (e : gcd (nat_abs a) n ≡ 1).
+    values_from a n (sign (half_system_count a n)) (cond-true _ _ _ (eq-eqb (gcd (nat_abs a) n) 1 e)) (sign-values (half_system_count a n)))
+    (λ (z : gcd (nat_abs a) n ≡ 1 → ⊥). inr (inr (cond-false _ _ _ (ne_eqb (gcd (nat_abs a) n) 1 z))))
+    (cases_eq (gcd (nat_abs a) n) 1)
+
+sign-nonzero : (i : ℕ) → sign i ≡ pos 0 → ⊥
+sign-nonzero i e =
+    ⊎_elim
+    (λ (f : sign i ≡ pos 1). let g : pos 1 ≡ pos 0 = sym f ∙ e in absurd (cc))
+    (λ (f : sign i ≡ negsuc 0). let g : negsuc 0 ≡ pos 0 = sym f ∙ e in absurd (cc))
+    (sign-values i)
+
+-- the symbol is 0 exactly where there is a common divisor above 1
+pub jacobi-zero_exactly : (a : ℤ) (n : ℕ) → 0 < n → (jacobi a n ≡ pos 0) ↔ (1 < gcd (nat_abs a) n)
+jacobi-zero_exactly a n p =
+    let positive = (gcd_is_positive (nat_abs a) n p) in (
+      (λ e.
+          ⊎_elim
+          (λ (f : gcd (nat_abs a) n ≡ 1). absurd (sign-nonzero (half_system_count a n) (sym (jacobi-coprime a n p (Coprime-from_gcd (nat_abs a) n p f)) ∙ e)))
+          (λ (z : gcd (nat_abs a) n ≡ 1 → ⊥). omega arith)
+          (cases_eq (gcd (nat_abs a) n) 1)),
+      (λ l. jacobi-shared a n p (λ c. let e = gcd-from_Coprime (nat_abs a) n p c in omega arith)),
+    )

@@ -6,6 +6,7 @@ pub mod JacobiLaws
 pub mod KroneckerSteps
 pub mod LegendreClass
 pub mod Lattice
+pub mod PrimeLaws
 pub mod RangeProducts
 pub mod ResidueProducts
 pub mod StepCounts

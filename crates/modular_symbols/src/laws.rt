@@ -1,21 +1,26 @@
-//! The laws of the Jacobi symbol, as the contract of a call that does nothing. Each is shown from
-//! the count of the half system alone.
+//! The laws of the Jacobi symbol and of primes, as contracts of calls that do nothing. Those of the
+//! symbol are shown from the count of the half system alone.
 
-ghost use Rattle.std.specs.Prelude.{◌≡◌, ℕ, ◌%◌, ℤ, pos, negsuc, ◌*ℤ◌, ◌==◌, ◌&&◌, ◌||◌, Some, if◌then◌else◌};
-ghost use Rattle.modular_word.specs.Divisors.{gcd};
+ghost use Rattle.std.specs.Prelude.{◌≡◌, ℕ, ◌-◌, ◌%◌, ◌^◌, ◌<◌, ◌↔◌, ◌⊎◌, ℤ, pos, negsuc, ◌*ℤ◌, nat_abs, ◌==◌, ◌&&◌, ◌||◌, Some, IsSome, if◌then◌else◌};
+ghost use Rattle.modular_word.specs.Divisors.{Coprime, gcd};
+ghost use Rattle.modular_word.specs.Inverses.{HasInverse};
 ghost use Rattle.modular_word.specs.Residues.{residue};
-ghost use Rattle.modular_symbols.specs.Jacobi.{jacobi};
-ghost use Rattle.modular_symbols.specs.Legendre.{classed_power};
-ghost use Rattle.modular_symbols.specs.Primes.{IsPrime};
+ghost use Rattle.modular_symbols.specs.Jacobi.{jacobi, checked_jacobi_of};
+ghost use Rattle.modular_symbols.specs.Legendre.{classed_power, checked_legendre_of};
+ghost use Rattle.modular_symbols.specs.Primes.{IsPrime, IsOddPrime};
 
 /// The symbol of a over an odd n depends on the residue of a alone; that of a product is the product
 /// of the symbols; that of 2 is 1 exactly where n leaves 1 or 7 modulo 8; the two symbols of coprime
 /// odd numbers differ exactly where both leave 3 modulo 4; and over an odd prime the symbol is the
 /// class of the power a^((n - 1)/2).
 ///
+/// Besides it is 1, -1 or 0, and 0 exactly where a and n have a common divisor above 1.
+///
 /// Source: Hardy and Wright, "An Introduction to the Theory of Numbers", sections 6.5 to 6.13, there
 /// for primes.
 pub fn jacobi_laws()
+    ensures values { (a : ℤ) (n : ℕ) → (jacobi a n ≡ pos 1) ⊎ ((jacobi a n ≡ negsuc 0) ⊎ (jacobi a n ≡ pos 0)) }
+    ensures zero { (a : ℤ) (n : ℕ) → 0 < n → (jacobi a n ≡ pos 0) ↔ (1 < gcd (nat_abs a) n) }
     ensures residue { (a : ℤ) (n : ℕ) → n % 2 ≡ 1 → jacobi a n ≡ jacobi (pos (residue n a)) n }
     ensures product { (a b : ℤ) (n : ℕ) → n % 2 ≡ 1 → jacobi (a *ℤ b) n ≡ jacobi a n *ℤ jacobi b n }
     ensures two { (n : ℕ) → n % 2 ≡ 1
@@ -23,4 +28,18 @@ pub fn jacobi_laws()
     ensures reciprocity { (m n : ℕ) → m % 2 ≡ 1 → n % 2 ≡ 1 → gcd m n ≡ 1
         → jacobi (pos m) n *ℤ jacobi (pos n) m ≡ (if (m % 4 == 3) && (n % 4 == 3) then negsuc 0 else pos 1) }
     ensures prime { (a : ℤ) (n : ℕ) → n % 2 ≡ 1 → IsPrime n → classed_power a n ≡ Some (jacobi a n) }
+{}
+
+/// A number that a prime p doesn't divide is coprime to p, so it has an inverse, and its power with
+/// the exponent p - 1 leaves 1 (Fermat's theorem). Over an odd prime the Legendre symbol and the
+/// Jacobi symbol are there, and they are one.
+///
+/// Source: Hardy and Wright, "An Introduction to the Theory of Numbers", theorems 2, 71 and 83.
+pub fn prime_laws()
+    ensures coprime { (a p : ℕ) → IsPrime p → (a % p ≡ 0 → ⊥) → Coprime a p }
+    ensures inverse { (a p : ℕ) → IsPrime p → (a % p ≡ 0 → ⊥) → HasInverse p a }
+    ensures fermat { (a p : ℕ) → IsPrime p → (a % p ≡ 0 → ⊥) → a ^ (p - 1) % p ≡ 1 }
+    ensures is_some { (a p : ℤ) → IsOddPrime p → IsSome (checked_legendre_of a p) }
+    ensures legendre { (a p : ℤ) → IsOddPrime p → checked_legendre_of a p ≡ Some (jacobi a (nat_abs p)) }
+    ensures checked { (a p : ℤ) → IsOddPrime p → checked_jacobi_of a p ≡ Some (jacobi a (nat_abs p)) }
 {}

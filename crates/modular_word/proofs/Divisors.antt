@@ -224,6 +224,9 @@ gcd_is a n p =
       greatest = λ d g h. gcd_greatest a n n d (divisor_below d n p h).1 g h;
     }
 
+pub gcd_is_positive : (a n : ℕ) → 0 < n → 0 < gcd a n
+gcd_is_positive a n p = gcd_greatest a n n 1 p (mod-one a) (mod-one n)
+
 -- an inverse exists exactly where the greatest common divisor is 1
 pub HasInverse-gcd : (a n : ℕ) → 0 < n → HasInverse n a ↔ (gcd a n ≡ 1)
 HasInverse-gcd a n p = (

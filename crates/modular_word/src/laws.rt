@@ -4,7 +4,7 @@
 
 ghost use Rattle.std.specs.Prelude.{◌≡◌, ℕ, suc, ◌+◌, ◌-◌, ◌*◌, ◌%◌, ◌^◌, ◌<◌, ◌≤◌, ◌↔◌, Some, Bool, not, ℤ, pos, ◌-ℤ◌};
 ghost use Rattle.modular_word.specs.Congruence.{Congruent};
-ghost use Rattle.modular_word.specs.Divisors.{Coprime, gcd};
+ghost use Rattle.modular_word.specs.Divisors.{Coprime, IsGreatestCommonDivisor, gcd};
 ghost use Rattle.modular_word.specs.Inverses.{IsInverse, IsInversion, HasInverse, inverse_of};
 ghost use Rattle.modular_word.specs.Residues.{IsResidue, residue};
 ghost use Rattle.modular_word.specs.Sums.{sum_below, sum_to, count_to, Permutes};
@@ -67,11 +67,12 @@ pub fn power_laws()
     ensures product { (a b c : ℕ) → a ^ (b * c) ≡ (a ^ b) ^ c }
 {}
 
-/// Two numbers are coprime exactly where their greatest common divisor is 1, and being coprime to n
-/// depends on the residue modulo n alone.
+/// Two numbers have one greatest common divisor, `gcd`; they are coprime exactly where it is 1, and
+/// being coprime to n depends on the residue modulo n alone.
 ///
 /// Source: Euclid, Elements, book VII, propositions 1 and 2.
 pub fn divisor_laws()
+    ensures greatest { (a n : ℕ) → 0 < n → IsGreatestCommonDivisor a n (gcd a n) }
     ensures coprime { (a n : ℕ) → 0 < n → Coprime a n ↔ (gcd a n ≡ 1) }
     ensures residue { (a n : ℕ) → Coprime (a % n) n ↔ Coprime a n }
 {}

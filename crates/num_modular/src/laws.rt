@@ -31,8 +31,8 @@ pub use modular_reduced::laws::{
     residue_by_form, same_value, sums_associate, sums_commute,
 };
 
-// Symbols.
-pub use modular_symbols::laws::jacobi_laws;
+// Symbols and primes.
+pub use modular_symbols::laws::{jacobi_laws, prime_laws};
 
 /// Where a run stops, by the inverses that its commands need: a list that needs none has no stop, a
 /// missing inverse is the stop where none is missing before it, and where there is no stop, which is

@@ -2,8 +2,14 @@
 use Rattle.std.proofs.Common.{arith}
 use Rattle.modular_word.proofs.Divisors.{Coprime-from_gcd}
 use Rattle.modular_symbols.proofs.Euler.{classed_power-jacobi}
-use Rattle.modular_symbols.proofs.JacobiLaws.{jacobi-residue, jacobi-product, jacobi-two, jacobi-reciprocal}
+use Rattle.modular_symbols.proofs.JacobiLaws.{jacobi-values, jacobi-zero_exactly, jacobi-residue, jacobi-product, jacobi-two, jacobi-reciprocal}
 use Rattle.modular_symbols.proofs.laws.jacobi_laws.Goals as goal
+
+pub returns-clause-values : goal.returns-clause-values
+returns-clause-values c a n = jacobi-values a n
+
+pub returns-clause-zero : goal.returns-clause-zero
+returns-clause-zero c a n p = jacobi-zero_exactly a n p
 
 pub returns-clause-residue : goal.returns-clause-residue
 returns-clause-residue c a n o = jacobi-residue a n (omega arith)

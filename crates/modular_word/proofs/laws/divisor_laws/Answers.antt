@@ -1,6 +1,9 @@
 -- The laws of common divisors, from the lemmas on them.
-use Rattle.modular_word.proofs.Divisors.{gcd-from_Coprime, Coprime-from_gcd, Coprime-mod, Coprime-from_mod}
+use Rattle.modular_word.proofs.Divisors.{gcd_is, gcd-from_Coprime, Coprime-from_gcd, Coprime-mod, Coprime-from_mod}
 use Rattle.modular_word.proofs.laws.divisor_laws.Goals as goal
+
+pub returns-clause-greatest : goal.returns-clause-greatest
+returns-clause-greatest c a n h = gcd_is a n h
 
 pub returns-clause-coprime : goal.returns-clause-coprime
 returns-clause-coprime c a n h = (gcd-from_Coprime a n h, Coprime-from_gcd a n h)

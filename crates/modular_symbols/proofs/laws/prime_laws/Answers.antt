@@ -1,0 +1,22 @@
+-- The laws, from the lemmas on primes.
+use Rattle.modular_symbols.proofs.LegendreClass.{class_over_prime}
+use Rattle.modular_symbols.proofs.PrimeLaws.{prime_to, inverse_to, fermat, class_is_some, jacobi_over_prime}
+use Rattle.modular_symbols.proofs.laws.prime_laws.Goals as goal
+
+pub returns-clause-coprime : goal.returns-clause-coprime
+returns-clause-coprime c a p u z = prime_to a p u z
+
+pub returns-clause-inverse : goal.returns-clause-inverse
+returns-clause-inverse c a p u z = inverse_to a p u z
+
+pub returns-clause-fermat : goal.returns-clause-fermat
+returns-clause-fermat c a p u z = fermat a p u z
+
+pub returns-clause-is_some : goal.returns-clause-is_some
+returns-clause-is_some c a p u = class_is_some a p u
+
+pub returns-clause-legendre : goal.returns-clause-legendre
+returns-clause-legendre c a p u = class_over_prime a p u
+
+pub returns-clause-checked : goal.returns-clause-checked
+returns-clause-checked c a p u = jacobi_over_prime a p u
