@@ -9,6 +9,5 @@ pub use modular_prim::power::{powm_u32, powm_u64};
 pub use modular_symbols::integer::{IntegerValued, SymbolWord, UnsignedOperand};
 pub use modular_symbols::ops::ModularOps;
 pub use modular_symbols::primes::{is_prime_by_search, symbol_over_prime};
-pub use modular_symbols::primes::symbol_over_prime;
 pub use modular_symbols::ref_ops::ModularRefOps;
 pub use modular_symbols::symbols::ModularSymbols;
