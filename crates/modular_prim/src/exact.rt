@@ -7,7 +7,10 @@ use crate::numbered::Numbered;
 use crate::plain_word::PlainWord;
 use modular_word::ring_word::RingWord;
 
-/// Exact division, with what a divisor has stored; `()` stores nothing.
+/// Exact division, with what a divisor has stored: a multiplier, a prepared inverse, or `()`.
+///
+/// `()` stores nothing: the quotient is that of the primitive division, for words of 8 to 128 bits but
+/// usize, as in the Rust crate, and the condition is that the divisor is at least 1.
 pub trait DivExact<Rhs: Numbered, Precompute>: Numbered + Sized {
     /// The type of the quotients.
     type Output: Numbered;

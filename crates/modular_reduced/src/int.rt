@@ -21,6 +21,16 @@ mod sub;
 ///
 /// Contracts speak of its modulus (`modulus_of`), of its residue, which is a number below the
 /// modulus (`residue_of`), and of the form (`form_of`).
+///
+/// | Operators | Answer modulo m | Condition |
+/// |---|---|---|
+/// | `x + y`, `x - y`, `x * y`, and `+=`, `-=`, `*=` | the sum, difference, product | the moduli are equal |
+/// | the same with a word n on the right | n counts as n mod m | none |
+/// | `x / y` | the one q with q·y congruent to x | the moduli are equal, and y has an inverse |
+/// | `-x` | the negative | none |
+/// | `x == y` | whether the moduli and the residues are equal | none |
+///
+/// Each operand may be a reference too.
 #[derive(Debug)]
 pub struct ReducedInt<T: RingWord, R: Reducer<T>> {
     form: T,

@@ -37,6 +37,7 @@ fn binary_power<T: RingWord, R: Reducer<T>>(reducer: &R, base: T, exp: T) -> (T,
 /// exponent goes by binary steps from the form of 1, a square for each binary digit and a product
 /// for each one digit (Knuth, The Art of Computer Programming, volume 2, section 4.6.3, algorithm
 /// A, with a square at the last digit too); for the exponent 0 that is the form of 1 mod m itself.
+/// Condition: the base is a checked form.
 pub fn pow_counted<T: RingWord, R: Reducer<T>>(reducer: &R, base: T, exp: &T) -> (T, u32)
     requires { IsForm R.form R.value (R.modulus reducer.now) (T.number base) }
     ensures power { let m = R.modulus reducer.now in

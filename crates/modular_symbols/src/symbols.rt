@@ -47,7 +47,12 @@ pub trait ModularSymbols<Modulus: IntegerValued>: IntegerValued {
     fn checked_jacobi(&self, n: Modulus) -> Option<i8>
         ensures { result ≡ checked_jacobi_of (Self.integer_value self.now) (Modulus.integer_value n) };
 
-    /// The Kronecker symbol, of any number over any number, the least ones included.
+    /// The Kronecker symbol, of any number over any number, the least ones included: the product of the
+    /// Jacobi symbol over the odd part of the magnitude of n, of the symbol over 2 for each factor 2 of
+    /// n (0 for an even number, 1 for one that leaves 1 or 7 modulo 8, else -1), and of -1 where both
+    /// are negative. Over 0 it is 1 for 1 and -1, and else 0.
+    ///
+    /// Source: Cohen, "A Course in Computational Algebraic Number Theory", definition 1.4.8.
     fn kronecker(&self, n: Modulus) -> i8
         ensures { result ≡ kronecker (Self.integer_value self.now) (Modulus.integer_value n) };
 }

@@ -4,8 +4,10 @@ ghost use Rattle.std.specs.Prelude.{◌≡◌, ◌+◌, ◌*◌, ◌/◌, ◌%�
 ghost use Rattle.num_modular.specs.Jacobi.{checked_jacobi_of};
 
 use num_modular::ring::{RingCommand, RunEnd, run};
-use num_modular::{FixedMersenne64, ModularInteger, ModularSymbols, MontgomeryInt};
-use num_modular::{PreMulInv1by1, PreMulInv2by1, Reducer, RingWord};
+use num_modular::{
+    FixedMersenne64, ModularInteger, ModularSymbols, MontgomeryInt, PreMulInv1by1, PreMulInv2by1,
+    Reducer, RingWord,
+};
 
 /// x·y + 1 modulo 97, in Montgomery's representation.
 pub fn product_and_one(x: u64, y: u64) -> u64
