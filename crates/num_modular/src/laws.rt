@@ -10,6 +10,7 @@ ghost use Rattle.num_modular.specs.Ring.{whole, value_at, IsStop};
 ghost use Rattle.num_modular.specs.Stops.{inverted_by, NeedsInverse};
 
 use crate::ring::RingCommand;
+pub use modular_word::laws::{divisor_laws, inverse_laws, residue_laws};
 use modular_word::ring_word::RingWord;
 
 // Whole numbers.
