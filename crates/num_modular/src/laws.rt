@@ -10,7 +10,6 @@ ghost use Rattle.num_modular.specs.Ring.{whole, value_at, IsStop};
 ghost use Rattle.num_modular.specs.Stops.{inverted_by, NeedsInverse};
 
 use crate::ring::RingCommand;
-pub use modular_word::laws::{divisor_laws, inverse_laws, residue_laws};
 use modular_word::ring_word::RingWord;
 
 // Whole numbers.
@@ -31,6 +30,9 @@ pub use modular_reduced::laws::{
     canonical_laws, negative_cancels, products_associate, products_commute, products_distribute,
     residue_by_form, same_value, sums_associate, sums_commute,
 };
+
+// Transforms.
+pub use modular_transform::laws::{product_laws, transform_laws};
 
 // Symbols and primes.
 pub use modular_symbols::laws::{jacobi_laws, prime_laws};

@@ -7,7 +7,6 @@ ghost use Rattle.num_modular.specs.Ring.{whole, destination_of, outcome, value_a
 
 use modular_reduced::reducer::Reducer;
 pub use modular_transform::convolution::convolve;
-pub use modular_transform::laws::{product_laws, transform_laws};
 pub use modular_transform::transform::{ntt, ntt_counted, root_fits};
 use modular_word::ring_word::RingWord;
 
