@@ -111,23 +111,49 @@ fn seed(xs: &mut [u64], seed: u64) {
     }
 }
 
-// Whether a transform and a cyclic product of n entries, at most 256, are the plain sums at one place.
-fn are_plain_sums<R: Reducer<u64>>(r: &R, n: usize, g: u64, place: usize) -> bool {
+// The seeds of the two lists.
+const FIRST: u64 = 3;
+
+const SECOND: u64 = 14;
+
+// Puts the plain sums of the lists of a length in their place: the transform of the first, that of
+// the second, and the cyclic product.
+fn take_plain_sums(first: &mut [u64], second: &mut [u64], product: &mut [u64], g: u64) {
+    let (mut xs, mut ys) = ([0; 256], [0; 256]);
+    seed(&mut xs, FIRST);
+    seed(&mut ys, SECOND);
+    let n = product.len();
+    if n > 256 || first.len() != n || second.len() != n {
+        return;
+    }
+    for e in 0..n {
+        first[e] = transform_entry(MODULUS, g, &xs[..n], e);
+        second[e] = transform_entry(MODULUS, g, &ys[..n], e);
+        product[e] = product_entry(MODULUS, &xs[..n], &ys[..n], e);
+    }
+}
+
+// Whether the transforms and the cyclic product of the lists of a length are these sums, every entry.
+fn are_sums<R: Reducer<u64>>(
+    r: &R,
+    first: &[u64],
+    second: &[u64],
+    product: &[u64],
+    g: u64,
+) -> bool {
     let (mut xs, mut ys, mut zs) = ([0; 256], [0; 256], [0; 256]);
-    seed(&mut xs, 3);
-    seed(&mut ys, 14);
-    seed(&mut zs, 3);
-    if n == 0 || n > 256 || place >= n {
+    seed(&mut xs, FIRST);
+    seed(&mut ys, SECOND);
+    seed(&mut zs, FIRST);
+    let n = product.len();
+    if n > 256 {
         return false;
     }
-    let transform_there = r.transform(transform_entry(MODULUS, g, &xs[..n], place));
-    let other_there = r.transform(transform_entry(MODULUS, g, &ys[..n], place));
-    let product_there = r.transform(product_entry(MODULUS, &xs[..n], &ys[..n], place));
-    let transformed = transformed(r, &mut zs[..n], g).is_some() && zs[place] == transform_there;
-    transformed
+    transformed(r, &mut zs[..n], g).is_some()
+        && are_forms(r, &zs[..n], first)
         && multiplied(r, &mut xs[..n], &mut ys[..n], g) == Some(true)
-        && xs[place] == product_there
-        && ys[place] == other_there
+        && are_forms(r, &xs[..n], product)
+        && are_forms(r, &ys[..n], second)
 }
 
 #[test]
@@ -137,20 +163,18 @@ fn plain_sums_around_a_strip(rt: HostRuntime) {
     let solinas = FixedTrinomialSolinas64::<64, 32, 1>::new(&MODULUS);
     for n in [1, 2, 16, 32, 64, 128, 256] {
         let g = plain.residue(plain.pow(GENERATOR, &((MODULUS - 1) / n as u64)));
-        for place in [0, n / 2, n - 1] {
-            assert!(rt;
-                are_plain_sums(&plain, n, g, place),
-                "Vanilla, {n} at {place}"
-            );
-            assert!(rt;
-                are_plain_sums(&montgomery, n, g, place),
-                "Montgomery, {n} at {place}"
-            );
-            assert!(rt;
-                are_plain_sums(&solinas, n, g, place),
-                "Solinas, {n} at {place}"
-            );
-        }
+        let (mut first, mut second, mut product) = ([0; 256], [0; 256], [0; 256]);
+        let (first, second, product) = (&mut first[..n], &mut second[..n], &mut product[..n]);
+        take_plain_sums(first, second, product, g);
+        assert!(rt; are_sums(&plain, first, second, product, g), "Vanilla, {n}");
+        assert!(rt;
+            are_sums(&montgomery, first, second, product, g),
+            "Montgomery, {n}"
+        );
+        assert!(rt;
+            are_sums(&solinas, first, second, product, g),
+            "Solinas, {n}"
+        );
     }
 }
 
