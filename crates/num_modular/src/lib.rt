@@ -10,6 +10,7 @@ pub mod laws;
 pub mod mersenne;
 pub mod modrun;
 pub mod monty;
+pub mod preinv;
 pub mod prim;
 pub mod proth;
 pub mod reduced;
@@ -25,7 +26,6 @@ pub use modular_folds::mersenne::{FixedMersenne, FixedMersenne32, FixedMersenne6
 pub use modular_folds::solinas::{FixedTrinomialSolinas32, FixedTrinomialSolinas64};
 pub use modular_monty::fixed::{FixedMontgomery32, FixedMontgomery64};
 pub use modular_monty::montgomery::Montgomery;
-pub use modular_monty::preinv;
 pub use modular_monty::preinv::{PreModInv, PreparedInverse};
 pub use modular_monty::proth::{FixedProth32, FixedProth64};
 pub use modular_prim::exact::{DivExact, DivExactAssign};
