@@ -31,7 +31,7 @@ pub fn residue_by_commands(n: u64, m: u64) -> u64
 }
 
 /// x·y modulo the Mersenne prime 2^61 - 1, by folds.
-#[tactic(auto, using(num_modular::proofs::Remainders::remainders))]
+#[tactic(auto, using(num_modular::specs::Remainders::remainders))]
 pub fn product_by_folds(x: u64, y: u64) -> u64
     ensures { result ≡ (x * y) % 2305843009213693951 }
 {
@@ -56,7 +56,7 @@ pub fn symbol(x: u64, n: u64) -> Option<i8>
 }
 
 /// x^2 + y^2 modulo any reducer's modulus.
-#[tactic(auto, using(num_modular::proofs::Remainders::remainders))]
+#[tactic(auto, using(num_modular::specs::Remainders::remainders))]
 pub fn sum_of_squares<T: RingWord, R: Reducer<T>>(ring: &R, x: T, y: T) -> T
     ensures { let m = R.modulus ring.now in
         T.number result ≡ (T.number x * T.number x + T.number y * T.number y) % m }
