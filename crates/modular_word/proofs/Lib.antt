@@ -4,7 +4,9 @@ pub mod Divisors
 pub mod ExactSteps
 pub mod InverseLemmas
 pub mod Lifting
+pub mod LinearCongruences
 pub mod MultiplierSteps
+pub mod Polynomials
 pub mod Powers
 pub mod ReciprocalSteps
 pub mod ReductionSteps

@@ -1,10 +1,15 @@
 -- Sums and counts over a range of whole numbers (Graham, Knuth and Patashnik, "Concrete Mathematics", chapter 2).
-use Rattle.std.specs.Prelude.{◌≡◌, ℕ, zero, suc, ◌+◌, ◌<◌, ◌≤◌, Bool, if◌then◌else◌}
+use Rattle.std.specs.Prelude.{◌≡◌, ℕ, zero, suc, ◌+◌, ◌-◌, ◌*◌, ◌^◌, ◌<◌, ◌≤◌, Bool, if◌then◌else◌}
 
 -- f 0 + f 1 + .. + f (n - 1)
 unfoldable pub sum_below : ℕ → (ℕ → ℕ) → ℕ
 sum_below zero f = 0
 sum_below (suc n) f = sum_below n f + f n
+
+-- the value at x of the polynomial with the coefficients c 0, .., c (n - 1), the highest first
+-- (Knuth, The Art of Computer Programming, volume 2, section 4.6.4)
+abbrev pub polynomial : ℕ → (ℕ → ℕ) → ℕ → ℕ
+polynomial n c x = sum_below n (λ i. c i * x ^ (n - 1 - i))
 
 -- f 1 + f 2 + .. + f h
 unfoldable pub sum_to : (ℕ → ℕ) → ℕ → ℕ

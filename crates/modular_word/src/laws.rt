@@ -7,7 +7,7 @@ ghost use Rattle.modular_word.specs.Congruence.{Congruent};
 ghost use Rattle.modular_word.specs.Divisors.{Coprime, IsGreatestCommonDivisor, gcd};
 ghost use Rattle.modular_word.specs.Inverses.{IsInverse, IsInversion, HasInverse, inverse_of};
 ghost use Rattle.modular_word.specs.Residues.{IsResidue, residue};
-ghost use Rattle.modular_word.specs.Sums.{sum_below, sum_to, count_to, Permutes};
+ghost use Rattle.modular_word.specs.Sums.{sum_below, sum_to, count_to, polynomial, Permutes};
 
 use crate::path_word::PathWord;
 
@@ -111,4 +111,28 @@ pub fn sum_laws()
     ensures parity { (f g : ℕ → ℕ) (h : ℕ) → ((x : ℕ) → 0 < x → x ≤ h → f x % 2 ≡ g x % 2) → sum_to f h % 2 ≡ sum_to g h % 2 }
     ensures counted { (p : ℕ → Bool) (h : ℕ) → count_to p h + count_to (λ x. not (p x)) h ≡ h }
     ensures from_zero { (f : ℕ → ℕ) (h : ℕ) → sum_to f h ≡ sum_below h (λ x. f (suc x)) }
+{}
+
+/// A sum over no number is 0, and one over one number more has one term more. So a polynomial with one
+/// coefficient more, the highest first, is the polynomial so far times x, and the coefficient: Horner's
+/// rule.
+///
+/// Source: Knuth, The Art of Computer Programming, volume 2, section 4.6.4.
+pub fn range_laws()
+    ensures none { (f : ℕ → ℕ) → sum_below 0 f ≡ 0 }
+    ensures more { (f : ℕ → ℕ) (n : ℕ) → sum_below (n + 1) f ≡ sum_below n f + f n }
+    ensures horner { (n : ℕ) (c : ℕ → ℕ) (x : ℕ) → polynomial (n + 1) c x ≡ polynomial n c x * x + c n }
+{}
+
+/// The linear congruence a·y = b modulo m, where a has the inverse x, is solved by b·x. So where x is the
+/// inverse of m modulo n, a number below m·n that leaves what a leaves modulo m and what b leaves modulo n
+/// is named: the Chinese remainder theorem for two moduli.
+///
+/// Source: Gauss, Disquisitiones Arithmeticae, articles 29, 31 and 36; Knuth, The Art of Computer
+/// Programming, volume 2, section 4.3.2.
+pub fn linear_congruence_laws()
+    ensures solved { (m a b x : ℕ) → IsInverse m a x → (a * ((b * x) % m)) % m ≡ b % m }
+    ensures pair { (m n a b x : ℕ) → 0 < m → 0 < n → IsInverse n m x →
+        let both = a % m + m * ((residue n (pos b -ℤ pos (a % m)) * x) % n) in
+        (both < m * n) × (both % m ≡ a % m) × (both % n ≡ b % n) }
 {}

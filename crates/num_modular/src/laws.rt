@@ -14,8 +14,8 @@ use modular_word::ring_word::RingWord;
 
 // Whole numbers.
 pub use modular_word::laws::{
-    base_laws, congruence_laws, divisor_laws, euclids_lemma, inverse_laws, power_laws,
-    remainder_laws, residue_laws, sum_laws,
+    base_laws, congruence_laws, divisor_laws, euclids_lemma, inverse_laws, linear_congruence_laws,
+    power_laws, range_laws, remainder_laws, residue_laws, sum_laws,
 };
 
 // How many steps a call takes.

@@ -1,0 +1,5 @@
+-- The rules by which nested remainders go away, for `#[tactic(auto, using(num_modular::specs::Remainders::remainders))]`
+-- and for `simp` in an answer.
+use Rattle.modular_word.proofs.Remainders as words
+
+pub ruleset remainders = (words.remainders)
