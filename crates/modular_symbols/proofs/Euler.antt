@@ -21,7 +21,7 @@ use Rattle.modular_symbols.proofs.RangeProducts.{product_to, product_to-zero, pr
 use Rattle.modular_symbols.proofs.ResidueProducts.{residue_below}
 
 -- ---- the powers of n - 1, which stands for -1
-square_of_last : (n k : ℕ) → n ≡ k + 2 → (n - 1) * (n - 1) ≡ 1 + n * k
+pub square_of_last : (n k : ℕ) → n ≡ k + 2 → (n - 1) * (n - 1) ≡ 1 + n * k
 square_of_last n k s =
     let u : n - 1 ≡ k + 1 = omega arith in
     let t = ap (λ v. v * k) s in
@@ -127,7 +127,7 @@ factorial_coprime n (suc k) u l =
     (factorial_coprime n k u (omega arith)) (below_coprime n (suc k) u (omega arith) l))
 
 -- a coprime factor cancels
-cancel_below : (n c u v : ℕ) → Coprime c n → u < n → v < n → (c * u) % n ≡ (c * v) % n → u ≡ v
+pub cancel_below : (n c u v : ℕ) → Coprime c n → u < n → v < n → (c * u) % n ≡ (c * v) % n → u ≡ v
 cancel_below n c u v k h l e =
     ⊎_elim
     (λ (o : u < v). equal_remainders n c u v k (omega arith) l e)

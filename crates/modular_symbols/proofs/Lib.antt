@@ -9,5 +9,6 @@ pub mod Lattice
 pub mod PrimeLaws
 pub mod RangeProducts
 pub mod ResidueProducts
+pub mod Squares
 pub mod StepCounts
 pub mod TwoPart

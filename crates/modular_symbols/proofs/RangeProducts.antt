@@ -33,7 +33,7 @@ unfolding product_to
 product_to-times f g zero = refl
 product_to-times f g (suc h) = ap (λ v. v * (f (suc h) * g (suc h))) (product_to-times f g h) ∙ omega arith
 
-product_to-ones : (h : ℕ) → product_to (λ x. 1) h ≡ 1
+pub product_to-ones : (h : ℕ) → product_to (λ x. 1) h ≡ 1
 unfolding product_to
 product_to-ones zero = refl
 product_to-ones (suc h) = let i = product_to-ones h in omega arith
@@ -44,7 +44,7 @@ product_to-constant a zero = sym (pow-zero a)
 product_to-constant a (suc h) = ap (λ v. v * a) (product_to-constant a h) ∙ sym (pow-suc a h)
 
 -- powers of one number have for product its power with the sum of their exponents
-product_to-power : (g : ℕ) (f : ℕ → ℕ) (h : ℕ) → product_to (λ x. g ^ f x) h ≡ g ^ sum_to f h
+pub product_to-power : (g : ℕ) (f : ℕ → ℕ) (h : ℕ) → product_to (λ x. g ^ f x) h ≡ g ^ sum_to f h
 unfolding product_to sum_to
 product_to-power g f zero = sym (pow-zero g)
 product_to-power g f (suc h) =
@@ -60,7 +60,7 @@ product_to-swap f (suc h) k =
     ∙ sym (product_to-times (λ y. product_to (λ x. f x y) h) (λ y. f (suc h) y) k)
 
 -- one factor of a product stands alone
-product_to-only : (f : ℕ → ℕ) (h z : ℕ) → 0 < z → z ≤ h → ((x : ℕ) → 0 < x → x ≤ h → x ≢ z → f x ≡ 1)
+pub product_to-only : (f : ℕ → ℕ) (h z : ℕ) → 0 < z → z ≤ h → ((x : ℕ) → 0 < x → x ≤ h → x ≢ z → f x ≡ 1)
     → product_to f h ≡ f z
 unfolding product_to
 product_to-only f zero z p q e = absurd (omega arith)

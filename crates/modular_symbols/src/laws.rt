@@ -1,7 +1,7 @@
 //! The laws of the Jacobi symbol and of primes, as contracts of calls that do nothing. Those of the
 //! symbol are shown from the count of the half system alone.
 
-ghost use Rattle.std.specs.Prelude.{◌≡◌, ℕ, ◌-◌, ◌%◌, ◌^◌, ◌<◌, ◌↔◌, ◌⊎◌, ℤ, pos, negsuc, ◌*ℤ◌, nat_abs, ◌==◌, ◌&&◌, ◌||◌, Some, IsSome, if◌then◌else◌};
+ghost use Rattle.std.specs.Prelude.{◌≡◌, ℕ, ◌*◌, ◌-◌, ◌%◌, ◌^◌, ◌<◌, ◌↔◌, ◌⊎◌, ℤ, pos, negsuc, ◌*ℤ◌, nat_abs, ◌==◌, ◌&&◌, ◌||◌, Some, IsSome, if◌then◌else◌};
 ghost use Rattle.modular_word.specs.Divisors.{Coprime, gcd};
 ghost use Rattle.modular_word.specs.Inverses.{HasInverse};
 ghost use Rattle.modular_word.specs.Residues.{residue};
@@ -32,13 +32,16 @@ pub fn jacobi_laws()
 
 /// A number that a prime p doesn't divide is coprime to p, so it has an inverse, and its power with
 /// the exponent p - 1 leaves 1 (Fermat's theorem). Over an odd prime the Legendre symbol and the
-/// Jacobi symbol are there, and they are one.
+/// Jacobi symbol are there, and they are one; it is 1 exactly for a quadratic residue: a number
+/// congruent to the square of one that p doesn't divide.
 ///
-/// Source: Hardy and Wright, "An Introduction to the Theory of Numbers", theorems 2, 71 and 83.
+/// Source: Hardy and Wright, "An Introduction to the Theory of Numbers", sections 6.1 to 6.6.
 pub fn prime_laws()
     ensures coprime { (a p : ℕ) → IsPrime p → (a % p ≡ 0 → ⊥) → Coprime a p }
     ensures inverse { (a p : ℕ) → IsPrime p → (a % p ≡ 0 → ⊥) → HasInverse p a }
     ensures fermat { (a p : ℕ) → IsPrime p → (a % p ≡ 0 → ⊥) → a ^ (p - 1) % p ≡ 1 }
+    ensures square { (a : ℤ) (p : ℕ) → p % 2 ≡ 1 → IsPrime p →
+        (jacobi a p ≡ pos 1) ↔ ((x : ℕ) × (x % p ≡ 0 → ⊥) × ((x * x) % p ≡ residue p a)) }
     ensures is_some { (a p : ℤ) → IsOddPrime p → IsSome (checked_legendre_of a p) }
     ensures legendre { (a p : ℤ) → IsOddPrime p → checked_legendre_of a p ≡ Some (jacobi a (nat_abs p)) }
     ensures checked { (a p : ℤ) → IsOddPrime p → checked_jacobi_of a p ≡ Some (jacobi a (nat_abs p)) }

@@ -1,0 +1,289 @@
+-- Over an odd prime p the symbol of a is 1 exactly where a is the square of a number that p doesn't divide. Where a isn't
+-- one, the numbers below p fall into pairs of product a, so that their product is a^((p - 1)/2); and it is -1, by the
+-- pairs of product 1 (Wilson's theorem). Dirichlet's proof: Hardy and Wright, "An Introduction to the Theory of Numbers",
+-- section 6.5 and 6.6.
+use Rattle.std.proofs.Common.{◌≡◌, ◌≢◌, ℕ, zero, suc, ◌+◌, ◌-◌, ◌*◌, ◌/◌, ◌%◌, ◌^◌, ◌<◌, ◌≤◌, ◌↔◌, cond, eqb, ltb, ℤ, pos, negsuc, ◌*ℤ◌, Some, None, sym, ◌∙◌, ap, refl, arith, ⊎_elim, inl, inr, ◌⊎◌}
+use Rattle.std.proofs.lemmas.Bool.Decides.{nat_tests}
+use Rattle.std.proofs.lemmas.Bool.{cases_eq}
+use Rattle.std.proofs.lemmas.Int.{ints}
+use Rattle.std.proofs.lemmas.Nat.{mod_below, mul-mod_second}
+use Rattle.std.proofs.Math.Nat.{mod-eq_of_lt, mul-zero, mul-one, mul_comm, one-mul, pow-suc, pow-zero, zero-mod, add-mul-mod_self_left, mod-mod}
+use Rattle.modular_word.specs.Divisors.{Coprime}
+use Rattle.modular_word.specs.Residues.{residue}
+use Rattle.modular_word.specs.Sums.{sum_to, Permutes}
+use Rattle.modular_word.proofs.Congruence.{same_product, same_without}
+use Rattle.modular_word.proofs.Divisors.{coprime_cancel}
+use Rattle.modular_word.proofs.Powers.{pow-one}
+use Rattle.modular_word.proofs.Sums.{sum_to-same, sum_to-add, sum_to-ones, sum_to-permuted, last_or_before}
+use Rattle.modular_symbols.specs.Jacobi.{half_system_count, sign, jacobi}
+use Rattle.modular_symbols.specs.Legendre.{classed_power}
+use Rattle.modular_symbols.specs.Primes.{IsPrime}
+use Rattle.modular_symbols.proofs.Euler.{below_coprime, cancel_below, square_of_last, classed_power-jacobi}
+use Rattle.modular_symbols.proofs.JacobiLaws.{jacobi-residue, jacobi-product, jacobi-coprime, sign-values}
+use Rattle.modular_symbols.proofs.PrimeLaws.{prime_to, fermat}
+use Rattle.modular_symbols.proofs.RangeProducts.{product_to, product_to-zero, product_to-suc, product_to-same, product_to-times, product_to-ones, product_to-only, product_to-power, product_to-permuted}
+use Rattle.modular_symbols.proofs.ResidueProducts.{residue_below}
+
+-- ---- the partner of x: the number below p whose product with x leaves a
+abbrev partner : ℕ → ℕ → ℕ → ℕ
+partner p a x = (a * x ^ (p - 2)) % p
+
+below_not_divided : (p x : ℕ) → 0 < x → x < p → x % p ≢ 0
+below_not_divided p x q l e = let m = mod-eq_of_lt l in absurd (omega arith)
+
+partner_product : (p a x : ℕ) → IsPrime p → 0 < x → x < p → (x * partner p a x) % p ≡ a % p
+partner_product p a x u q l =
+    let two : 1 < p = u.above_one in
+    let w : ℕ = x ^ (p - 2) in
+    let s : suc (p - 2) ≡ p - 1 = omega arith in
+    let e : x * (a * w) ≡ a * (w * x) = omega arith in
+    let f : w * x ≡ x ^ (p - 1) = sym (pow-suc x (p - 2)) ∙ ap (λ k. x ^ k) s in
+    mul-mod_second x (a * w) p ∙ ap (λ v. v % p) e ∙ ap (λ v. (a * v) % p) f
+    ∙ sym (mul-mod_second a (x ^ (p - 1)) p) ∙ ap (λ v. (a * v) % p) (fermat x p u (below_not_divided p x q l))
+    ∙ ap (λ v. v % p) (mul-one a)
+
+partner_below : (p a x : ℕ) → IsPrime p → partner p a x < p
+partner_below p a x u = let two : 1 < p = u.above_one in mod_below (a * x ^ (p - 2)) p (omega arith)
+
+partner_positive : (p a x : ℕ) → IsPrime p → a % p ≢ 0 → 0 < x → x < p → 0 < partner p a x
+partner_positive p a x u z q l =
+    let never : partner p a x ≢ 0 =
+    λ e. z (sym (partner_product p a x u q l) ∙ ap (λ v. (x * v) % p) e ∙ ap (λ v. v % p) (mul-zero x) ∙ zero-mod p) in
+    omega arith
+
+partner_of_partner : (p a x : ℕ) → IsPrime p → a % p ≢ 0 → 0 < x → x < p → partner p a (partner p a x) ≡ x
+partner_of_partner p a x u z q l =
+    let y : ℕ = partner p a x in
+    let b : 0 < y = partner_positive p a x u z q l in
+    let m : y < p = partner_below p a x u in
+    cancel_below p y (partner p a y) x (below_coprime p y u b m) (partner_below p a y u) l
+    (partner_product p a y u b m ∙ sym (partner_product p a x u q l) ∙ ap (λ v. v % p) (mul_comm x y))
+
+partners_permute : (p a : ℕ) → IsPrime p → a % p ≢ 0 → Permutes (λ x. partner p a x) (p - 1)
+partners_permute p a u z = record {
+  positive = λ x q l. let two : 1 < p = u.above_one in partner_positive p a x u z q (omega arith);
+  within = λ x q l. let two : 1 < p = u.above_one in let b = partner_below p a x u in omega arith;
+  apart = λ x y q l r m e.
+      let two : 1 < p = u.above_one in
+      sym (partner_of_partner p a x u z q (omega arith)) ∙ ap (λ v. partner p a v) e
+      ∙ partner_of_partner p a y u z r (omega arith);
+}
+
+-- ---- a product over a range that a permutation pairs
+abbrev lower : (ℕ → ℕ) → ℕ → ℕ
+lower s x = cond (ltb x (s x)) x 1
+
+abbrev higher : (ℕ → ℕ) → ℕ → ℕ
+higher s x = cond (ltb (s x) x) x 1
+
+abbrev fixed : (ℕ → ℕ) → ℕ → ℕ
+fixed s x = cond (eqb x (s x)) x 1
+
+abbrev pair : (ℕ → ℕ) → ℕ → ℕ
+pair s x = cond (ltb x (s x)) (x * s x) 1
+
+one_of_three : (x y : ℕ) → x ≡ cond (ltb x y) x 1 * cond (ltb y x) x 1 * cond (eqb x y) x 1
+one_of_three x y = grind (arith, nat_tests)
+
+paired : (x y z : ℕ) → z ≡ x → cond (ltb x y) x 1 * cond (ltb z y) y 1 ≡ cond (ltb x y) (x * y) 1
+paired x y z e = grind (arith, nat_tests)
+
+product_in_pairs : (s : ℕ → ℕ) (h : ℕ) → Permutes s h → ((x : ℕ) → 0 < x → x ≤ h → s (s x) ≡ x)
+    → product_to (λ x. x) h ≡ product_to (pair s) h * product_to (fixed s) h
+product_in_pairs s h m twice =
+    product_to-same (λ x. x) (λ x. lower s x * higher s x * fixed s x) h (λ x p q. one_of_three x (s x))
+    ∙ product_to-times (λ x. lower s x * higher s x) (fixed s) h
+    ∙ ap (λ v. v * product_to (fixed s) h)
+    (product_to-times (lower s) (higher s) h
+    ∙ ap (λ v. product_to (lower s) h * v) (sym (product_to-permuted s (higher s) h m))
+    ∙ sym (product_to-times (lower s) (λ x. higher s (s x)) h)
+    ∙ product_to-same (λ x. lower s x * higher s (s x)) (pair s) h (λ x p q. paired x (s x) (s (s x)) (twice x p q)))
+
+-- congruent factors, congruent products
+product_to-congruent : (n : ℕ) (f g : ℕ → ℕ) (h : ℕ) → ((x : ℕ) → 0 < x → x ≤ h → f x % n ≡ g x % n)
+    → product_to f h % n ≡ product_to g h % n
+product_to-congruent n f g zero e = rw (product_to-zero f, product_to-zero g)
+product_to-congruent n f g (suc h) e =
+    rw (product_to-suc f h, product_to-suc g h)
+    (same_product n (product_to f h) (product_to g h) (f (suc h)) (g (suc h))
+    (product_to-congruent n f g h (λ x p q. e x p (omega arith))) (e (suc h) (omega arith) (omega arith)))
+
+-- ---- pairs of product a, where none is paired with itself
+abbrev leads : (ℕ → ℕ) → ℕ → ℕ
+leads s x = cond (ltb x (s x)) 1 0
+
+abbrev trails : (ℕ → ℕ) → ℕ → ℕ
+trails s x = cond (ltb (s x) x) 1 0
+
+leads_or_trails : (x y : ℕ) → x ≢ y → cond (ltb x y) 1 0 + cond (ltb y x) 1 0 ≡ 1
+leads_or_trails x y z = grind (arith, nat_tests)
+
+half_lead : (s : ℕ → ℕ) (h : ℕ) → Permutes s h → ((x : ℕ) → 0 < x → x ≤ h → s (s x) ≡ x)
+    → ((x : ℕ) → 0 < x → x ≤ h → x ≢ s x) → sum_to (leads s) h + sum_to (leads s) h ≡ h
+half_lead s h m twice apart =
+    let same : sum_to (leads s) h ≡ sum_to (trails s) h =
+    sum_to-same (leads s) (λ x. trails s (s x)) h (λ x p q. ap (λ v. cond (ltb v (s x)) 1 0) (sym (twice x p q)))
+    ∙ sum_to-permuted s (trails s) h m in
+    ap (λ v. sum_to (leads s) h + v) same ∙ sym (sum_to-add (leads s) (trails s) h)
+    ∙ sum_to-same (λ x. leads s x + trails s x) (λ x. 1) h (λ x p q. leads_or_trails x (s x) (apart x p q))
+    ∙ sum_to-ones h
+
+pair_power : (n a x y : ℕ) → (x * y) % n ≡ a % n → cond (ltb x y) (x * y) 1 % n ≡ a ^ cond (ltb x y) 1 0 % n
+pair_power n a x y e =
+    let o = pow-one a in
+    let z = pow-zero a in
+    grind (arith, nat_tests)
+
+fixed_one : (x y : ℕ) → x ≢ y → cond (eqb x y) x 1 ≡ 1
+fixed_one x y z = grind (arith, nat_tests)
+
+product_of_pairs : (p a : ℕ) → p % 2 ≡ 1 → IsPrime p → a % p ≢ 0
+    → ((x : ℕ) → 0 < x → x ≤ p - 1 → x ≢ partner p a x)
+    → product_to (λ x. x) (p - 1) % p ≡ a ^ ((p - 1) / 2) % p
+product_of_pairs p a o u z apart =
+    let two : 1 < p = u.above_one in
+    let s : ℕ → ℕ = λ x. partner p a x in
+    let h : ℕ = p - 1 in
+    let m = partners_permute p a u z in
+    let twice : (x : ℕ) → 0 < x → x ≤ h → s (s x) ≡ x = λ x q l. partner_of_partner p a x u z q (omega arith) in
+    let half = half_lead s h m twice apart in
+    let count : sum_to (leads s) h ≡ (p - 1) / 2 = omega (arith, half) in
+    ap (λ v. v % p)
+    (product_in_pairs s h m twice
+    ∙ ap (λ v. product_to (pair s) h * v)
+    (product_to-same (fixed s) (λ x. 1) h (λ x q l. fixed_one x (s x) (apart x q l)) ∙ product_to-ones h)
+    ∙ mul-one (product_to (pair s) h))
+    ∙ product_to-congruent p (pair s) (λ x. a ^ leads s x) h
+    (λ x q l. pair_power p a x (s x) (partner_product p a x u q (omega arith)))
+    ∙ ap (λ v. v % p) (product_to-power a (leads s) h ∙ ap (λ k. a ^ k) count)
+
+-- ---- Wilson's theorem: the pairs of product 1, where 1 and p - 1 alone are paired with themselves
+square_less_one : (y : ℕ) → suc y * suc y ≡ y * (y + 2) + 1
+square_less_one y = omega arith
+
+root_of_one : (p x : ℕ) → IsPrime p → 0 < x → x < p → (x * x) % p ≡ 1 → x ≢ p - 1 → x ≡ 1
+root_of_one p zero u q l e z = absurd (omega arith)
+root_of_one p (suc y) u q l e z =
+    ⊎_elim
+    (λ (n : y ≡ 0). omega arith)
+    (λ (n : y ≡ 0 → ⊥).
+    let two : 1 < p = u.above_one in
+    let below : y < p = omega arith in
+    let one : 1 % p ≡ 1 = mod-eq_of_lt two in
+    let positive : 0 < p = omega arith in
+    let gone : (y * (y + 2)) % p ≡ 0 % p =
+    same_without p (y * (y + 2)) 0 1 positive (sym (ap (λ v. v % p) (square_less_one y)) ∙ e ∙ sym one) in
+    let d = coprime_cancel y p (y + 2) positive (below_coprime p y u (omega arith) below) (gone ∙ zero-mod p) in
+    let small : y + 2 < p = omega arith in
+    absurd (below_not_divided p (y + 2) (omega arith) small d))
+    (cases_eq y 0)
+
+pair_one : (n x y : ℕ) → (x * y) % n ≡ 1 % n → cond (ltb x y) (x * y) 1 % n ≡ 1 % n
+pair_one n x y e = grind (arith, nat_tests)
+
+fixed_cases : (x y : ℕ) → (x ≡ y → x ≡ 1) → cond (eqb x y) x 1 ≡ 1
+fixed_cases x y h = grind (arith, nat_tests)
+
+fixed_at : (x y : ℕ) → x ≡ y → cond (eqb x y) x 1 ≡ x
+fixed_at x y e = grind (arith, nat_tests)
+
+last_is_fixed : (p : ℕ) → IsPrime p → p - 1 ≡ partner p 1 (p - 1)
+last_is_fixed p u =
+    let two : 1 < p = u.above_one in
+    let q : 0 < p - 1 = omega arith in
+    let l : p - 1 < p = omega arith in
+    let s : p ≡ (p - 2) + 2 = omega arith in
+    cancel_below p (p - 1) (p - 1) (partner p 1 (p - 1)) (below_coprime p (p - 1) u q l) l (partner_below p 1 (p - 1) u)
+    (ap (λ v. v % p) (square_of_last p (p - 2) s) ∙ add-mul-mod_self_left 1 p (p - 2)
+    ∙ sym (partner_product p 1 (p - 1) u q l))
+
+pub wilson : (p : ℕ) → IsPrime p → product_to (λ x. x) (p - 1) % p ≡ p - 1
+wilson p u =
+    let two : 1 < p = u.above_one in
+    let one : 1 % p ≡ 1 = mod-eq_of_lt two in
+    let z : 1 % p ≢ 0 = λ e. omega arith in
+    let s : ℕ → ℕ = λ x. partner p 1 x in
+    let h : ℕ = p - 1 in
+    let m = partners_permute p 1 u z in
+    let twice : (x : ℕ) → 0 < x → x ≤ h → s (s x) ≡ x = λ x q l. partner_of_partner p 1 x u z q (omega arith) in
+    let last : product_to (fixed s) h ≡ p - 1 =
+    product_to-only (fixed s) h h (omega arith) (omega arith)
+    (λ x q l n. fixed_cases x (s x) (λ e.
+    root_of_one p x u q (omega arith)
+    (ap (λ v. (x * v) % p) e ∙ partner_product p 1 x u q (omega arith) ∙ one) n))
+    ∙ fixed_at h (s h) (last_is_fixed p u) in
+    let pairs : product_to (pair s) h % p ≡ 1 % p =
+    product_to-congruent p (pair s) (λ x. 1) h (λ x q l. pair_one p x (s x) (partner_product p 1 x u q (omega arith)))
+    ∙ ap (λ v. v % p) (product_to-ones h) in
+    let l : p - 1 < p = omega arith in
+    ap (λ v. v % p) (product_in_pairs s h m twice)
+    ∙ same_product p (product_to (pair s) h) 1 (product_to (fixed s) h) (p - 1) pairs (ap (λ v. v % p) last)
+    ∙ ap (λ v. v % p) (one-mul (p - 1)) ∙ mod-eq_of_lt l
+
+-- ---- a root of r below k, or none
+abbrev IsRoot : ℕ → ℕ → ℕ → ℕ → Type 0
+IsRoot p r k x = (0 < x) × ((x ≤ k) × ((x * x) % p ≡ r))
+
+root_or_none : (p r k : ℕ) → ((x : ℕ) × IsRoot p r k x) ⊎ ((x : ℕ) → 0 < x → x ≤ k → (x * x) % p ≢ r)
+root_or_none p r zero = inr (λ x q l e. absurd (omega arith))
+root_or_none p r (suc k) =
+    ⊎_elim
+    (λ (f : (x : ℕ) × IsRoot p r k x). let l = f.1.1.0 in inl (f.0, (f.1.0, (omega arith, f.1.1.1))))
+    (λ (n : (x : ℕ) → 0 < x → x ≤ k → (x * x) % p ≢ r).
+    ⊎_elim
+    (λ (e : (suc k * suc k) % p ≡ r). inl (suc k, (omega arith, (omega arith, e))))
+    (λ (z : (suc k * suc k) % p ≡ r → ⊥). inr (λ x q l e.
+    ⊎_elim (λ (b : x ≤ k). n x q b e) (λ (b : x ≡ suc k). z (sym (ap (λ v. (v * v) % p) b) ∙ e)) (last_or_before x k l)))
+    (cases_eq ((suc k * suc k) % p) r))
+    (root_or_none p r k)
+
+-- ---- the theorem
+class_is_one : (n q : ℕ)
+    → cond (eqb q 0) (Some (pos 0)) (cond (eqb q 1) (Some (pos 1)) (cond (eqb q (n - 1)) (Some (negsuc 0)) None)) ≡ Some (pos 1)
+    → q ≡ 1
+class_is_one n q e = grind (arith, nat_tests)
+
+half_power_is_one : (a : ℤ) (p : ℕ) → p % 2 ≡ 1 → IsPrime p → jacobi a p ≡ pos 1 → residue p a ^ ((p - 1) / 2) % p ≡ 1
+half_power_is_one a p o u e =
+    class_is_one p (residue p a ^ ((p - 1) / 2) % p) (classed_power-jacobi a p o u ∙ ap Some e)
+
+not_zero_power : (p r : ℕ) → 1 < p → p % 2 ≡ 1 → r ^ ((p - 1) / 2) % p ≡ 1 → r ≢ 0
+not_zero_power p r l o e z =
+    let h : ℕ = (p - 1) / 2 in
+    let k : suc (h - 1) ≡ h = omega arith in
+    let n : 0 ^ h ≡ 0 = ap (λ v. 0 ^ v) (sym k) ∙ pow-suc 0 (h - 1) ∙ mul-zero (0 ^ (h - 1)) in
+    let m : r ^ h % p ≡ 0 = ap (λ v. v ^ h % p) z ∙ ap (λ v. v % p) n ∙ zero-mod p in
+    absurd (omega (arith, e, m))
+
+-- a number of symbol 1 has a root
+pub root_from_symbol : (a : ℤ) (p : ℕ) → p % 2 ≡ 1 → IsPrime p → jacobi a p ≡ pos 1
+    → (x : ℕ) × ((x % p ≢ 0) × ((x * x) % p ≡ residue p a))
+root_from_symbol a p o u e =
+    let two : 1 < p = u.above_one in
+    let r : ℕ = residue p a in
+    let below : r < p = residue_below p a (omega arith) in
+    let same : r % p ≡ r = mod-eq_of_lt below in
+    let half = half_power_is_one a p o u e in
+    let z : r % p ≢ 0 = λ n. not_zero_power p r two o half (sym same ∙ n) in
+    ⊎_elim
+    (λ (f : (x : ℕ) × IsRoot p r (p - 1) x).
+    let l = f.1.1.0 in
+    (f.0, (below_not_divided p f.0 f.1.0 (omega arith), f.1.1.1)))
+    (λ (n : (x : ℕ) → 0 < x → x ≤ p - 1 → (x * x) % p ≢ r).
+    let c = product_of_pairs p r o u z (λ x q l f.
+    n x q l (ap (λ v. (x * v) % p) f ∙ partner_product p r x u q (omega arith) ∙ same)) in
+    let w = wilson p u in
+    absurd (omega arith))
+    (root_or_none p r (p - 1))
+
+one_square : (z : ℤ) → (z ≡ pos 1) ⊎ (z ≡ negsuc 0) → z *ℤ z ≡ pos 1
+one_square z h = ⊎_elim (λ (e : z ≡ pos 1). ap (λ v. v *ℤ v) e) (λ (e : z ≡ negsuc 0). ap (λ v. v *ℤ v) e) h
+
+-- and a square has the symbol 1
+pub symbol_of_root : (a : ℤ) (p x : ℕ) → p % 2 ≡ 1 → IsPrime p → x % p ≢ 0 → (x * x) % p ≡ residue p a → jacobi a p ≡ pos 1
+symbol_of_root a p x o u z e =
+    let q : 0 < p = omega arith in
+    let j = jacobi-coprime (pos x) p q (prime_to x p u z) in
+    jacobi-residue a p q ∙ ap (λ v. jacobi (pos v) p) (sym e) ∙ sym (jacobi-residue (pos (x * x)) p q)
+    ∙ jacobi-product (pos x) (pos x) p o
+    ∙ ap (λ v. v *ℤ v) j ∙ one_square (sign (half_system_count (pos x) p)) (sign-values (half_system_count (pos x) p))
