@@ -1,98 +1,159 @@
 //! The same steps with the Rust crate `num-modular`, and the plain line of Rust for a product.
 
 use num_modular::{
-    DivExact, FixedMersenne64, FixedMontgomery64, FixedProth64, FixedTrinomialSolinas64,
-    ModularCoreOps, ModularPow, ModularUnaryOps, Montgomery, Normalized2by1Divisor, PreModInv,
-    PreMulInv1by1, PreMulInv2by1, Reducer, Vanilla,
+    DivExact, ModularCoreOps, ModularPow, ModularSymbols, ModularUnaryOps, Normalized2by1Divisor,
+    PreModInv, PreMulInv1by1, Reducer,
 };
 
-#[inline(never)]
-pub extern "C" fn plain_mulm(x: u64, y: u64, m: u64, n: u64) -> u64 {
-    let mut x = x;
-    for _ in 0..n {
-        x = (x as u128 * y as u128 % m as u128) as u64;
-    }
-    x
-}
-
-#[inline(never)]
-pub extern "C" fn mulm(x: u64, y: u64, m: u64, n: u64) -> u64 {
-    let mut x = x;
-    for _ in 0..n {
-        x = x.mulm(y, &m);
-    }
-    x
-}
-
-#[inline(never)]
-pub extern "C" fn powm(x: u64, y: u64, m: u64, n: u64) -> u64 {
-    let mut x = x;
-    for _ in 0..n {
-        x = x.powm(y, &m);
-    }
-    x
-}
-
-#[inline(never)]
-pub extern "C" fn invm(x: u64, y: u64, m: u64, n: u64) -> u64 {
-    let mut x = x;
-    for _ in 0..n {
-        x = (x.invm(&m).unwrap_or(1) >> 1).wrapping_add(y >> 1);
-    }
-    x
-}
-
-fn products<R: Reducer<u64>>(r: &R, x: u64, y: u64, n: u64) -> u64 {
-    let mut f = r.transform(x);
-    let g = r.transform(y);
-    for _ in 0..n {
-        f = r.mul(&f, &g);
-    }
-    r.residue(f)
-}
-
-fn powers<R: Reducer<u64>>(r: &R, x: u64, y: u64, n: u64) -> u64 {
-    let mut f = r.transform(x);
-    for _ in 0..n {
-        f = r.pow(f, &y);
-    }
-    r.residue(f)
-}
-
-fn inverses<R: Reducer<u64>>(r: &R, x: u64, y: u64, n: u64) -> u64 {
-    let mut f = r.transform(x);
-    let g = r.transform(y);
-    for _ in 0..n {
-        f = r.add(&r.inv(f).unwrap_or(g), &g);
-    }
-    r.residue(f)
-}
-
-macro_rules! over_reducer {
-    ($reducer:ident, $mul:ident, $pow:ident, $inv:ident) => {
+macro_rules! chain {
+    ($name:ident, $word:ty, |$x:ident, $y:ident, $m:ident| $step:expr) => {
         #[inline(never)]
-        pub extern "C" fn $mul(x: u64, y: u64, m: u64, n: u64) -> u64 {
-            products(&<$reducer<u64> as Reducer<u64>>::new(&m), x, y, n)
-        }
-
-        #[inline(never)]
-        pub extern "C" fn $pow(x: u64, y: u64, m: u64, n: u64) -> u64 {
-            powers(&<$reducer<u64> as Reducer<u64>>::new(&m), x, y, n)
-        }
-
-        #[inline(never)]
-        pub extern "C" fn $inv(x: u64, y: u64, m: u64, n: u64) -> u64 {
-            inverses(&<$reducer<u64> as Reducer<u64>>::new(&m), x, y, n)
+        pub fn $name(x: u64, y: u64, m: u64, n: u64) -> u64 {
+            let ($y, $m) = (y as $word, m as $word);
+            let mut $x = x as $word;
+            for _ in 0..n {
+                $x = $step;
+            }
+            $x as u64
         }
     };
 }
 
-over_reducer!(Vanilla, vanilla_mul, vanilla_pow, vanilla_inv);
-over_reducer!(PreMulInv2by1, premul_mul, premul_pow, premul_inv);
-over_reducer!(Montgomery, montgomery_mul, montgomery_pow, montgomery_inv);
+chain!(plain_mulm, u64, |x, y, m| (x as u128 * y as u128 % m as u128) as u64);
+chain!(mulm, u64, |x, y, m| x.mulm(y, &m));
+chain!(powm, u64, |x, y, m| x.powm(y, &m));
+chain!(invm, u64, |x, y, m| (x.invm(&m).unwrap_or(1) >> 1).wrapping_add(y >> 1));
+chain!(addm, u64, |x, y, m| x.addm(y, &m));
+chain!(subm, u64, |x, y, m| x.subm(y, &m));
+chain!(mulm_u8, u8, |x, y, m| x.mulm(y, &m));
+chain!(powm_u8, u8, |x, y, m| x.powm(y, &m));
+chain!(mulm_u32, u32, |x, y, m| x.mulm(y, &m));
+chain!(powm_u32, u32, |x, y, m| x.powm(y, &m));
 
 #[inline(never)]
-pub extern "C" fn premulinv1by1_div_rem(x: u64, y: u64, m: u64, n: u64) -> u64 {
+pub fn negm(x: u64, _: u64, m: u64, n: u64) -> u64 {
+    let mut x = x;
+    for _ in 0..n {
+        x = x.negm(&m);
+    }
+    x
+}
+
+#[inline(never)]
+pub fn mulm_eight(x: u64, y: u64, m: u64, n: u64) -> u64 {
+    let mut xs = [0, 1, 2, 3, 4, 5, 6, 7].map(|k| x ^ k);
+    for _ in 0..n {
+        xs = xs.map(|x| x.mulm(y, &m));
+    }
+    xs.iter().fold(0, |sum, x| sum ^ x)
+}
+
+fn symbols(x: u64, y: u64, m: u64, n: u64, symbol: impl Fn(u64) -> Option<i8>) -> u64 {
+    let shift = m.leading_zeros();
+    let mut x = x;
+    for _ in 0..n {
+        let term = match symbol(x) {
+            None => 3,
+            Some(symbol) => if symbol < 0 { 2 } else { symbol as u64 },
+        };
+        x = y.wrapping_mul(x).wrapping_add(term) >> shift;
+    }
+    x
+}
+
+#[inline(never)]
+pub fn jacobi(x: u64, y: u64, m: u64, n: u64) -> u64 {
+    symbols(x, y, m, n, |x| x.checked_jacobi(&m))
+}
+
+#[inline(never)]
+pub fn kronecker(x: u64, y: u64, m: u64, n: u64) -> u64 {
+    symbols(x, y, m, n, |x| Some(x.kronecker(&m)))
+}
+
+#[inline(never)]
+pub fn legendre(x: u64, y: u64, m: u64, n: u64) -> u64 {
+    symbols(x, y, m, n, |x| x.checked_legendre(&m))
+}
+
+/// The chains over a reducer of a word.
+macro_rules! chains_over {
+    ($module:ident, $word:ty) => {
+        pub mod $module {
+            use num_modular::Reducer;
+
+            #[inline(never)]
+            pub fn mul<R: Reducer<$word>>(x: u64, y: u64, m: u64, n: u64) -> u64 {
+                let r = R::new(&(m as $word));
+                let mut f = r.transform(x as $word);
+                let g = r.transform(y as $word);
+                for _ in 0..n {
+                    f = r.mul(&f, &g);
+                }
+                r.residue(f) as u64
+            }
+        }
+    };
+}
+
+chains_over!(u8s, u8);
+chains_over!(u32s, u32);
+chains_over!(u64s, u64);
+
+macro_rules! over {
+    ($name:ident, |$r:ident, $f:ident, $g:ident, $y:ident| $step:expr) => {
+        #[inline(never)]
+        pub fn $name<R: Reducer<u64>>(x: u64, $y: u64, m: u64, n: u64) -> u64 {
+            let $r = R::new(&m);
+            let mut $f = $r.transform(x);
+            let $g = $r.transform($y);
+            for _ in 0..n {
+                $f = $step;
+            }
+            $r.residue($f)
+        }
+    };
+}
+
+over!(pow, |r, f, _g, y| r.pow(f, &y));
+over!(inv, |r, f, g, y| r.add(&r.inv(f).unwrap_or(g), &g));
+over!(add, |r, f, g, y| r.add(&f, &g));
+over!(sub, |r, f, g, y| r.sub(&f, &g));
+over!(neg, |r, f, _g, y| r.neg(f));
+
+#[inline(never)]
+pub fn form<R: Reducer<u64>>(x: u64, y: u64, m: u64, n: u64) -> u64 {
+    let r = R::new(&m);
+    let mut x = x;
+    for _ in 0..n {
+        x = r.transform(x) ^ y;
+    }
+    x
+}
+
+#[inline(never)]
+pub fn residue<R: Reducer<u64>>(x: u64, y: u64, m: u64, n: u64) -> u64 {
+    let r = R::new(&m);
+    let mut x = x;
+    for _ in 0..n {
+        x = r.residue(r.transform(x)) ^ y;
+    }
+    x
+}
+
+#[inline(never)]
+pub fn eight<R: Reducer<u64>>(x: u64, y: u64, m: u64, n: u64) -> u64 {
+    let r = R::new(&m);
+    let g = r.transform(y);
+    let mut fs = [0, 1, 2, 3, 4, 5, 6, 7].map(|k| r.transform(x ^ k));
+    for _ in 0..n {
+        fs = fs.map(|f| r.mul(&f, &g));
+    }
+    fs.iter().fold(0, |sum, f| sum ^ r.residue(*f))
+}
+
+#[inline(never)]
+pub fn premulinv1by1_div_rem(x: u64, y: u64, m: u64, n: u64) -> u64 {
     let divider = PreMulInv1by1::<u64>::new(m);
     let mut x = x;
     for _ in 0..n {
@@ -103,7 +164,7 @@ pub extern "C" fn premulinv1by1_div_rem(x: u64, y: u64, m: u64, n: u64) -> u64 {
 }
 
 #[inline(never)]
-pub extern "C" fn normalized_div_rem_2by1(x: u64, y: u64, m: u64, n: u64) -> u64 {
+pub fn normalized_div_rem_2by1(x: u64, y: u64, m: u64, n: u64) -> u64 {
     let divider = Normalized2by1Divisor::<u64>::new(m);
     let mut low = x;
     let mut high = y % m;
@@ -116,7 +177,7 @@ pub extern "C" fn normalized_div_rem_2by1(x: u64, y: u64, m: u64, n: u64) -> u64
 }
 
 #[inline(never)]
-pub extern "C" fn preinv_div_exact(x: u64, y: u64, m: u64, n: u64) -> u64 {
+pub fn preinv_div_exact(x: u64, y: u64, m: u64, n: u64) -> u64 {
     let inverse = PreModInv::<u64>::from(m);
     let mut x = x;
     for _ in 0..n {
@@ -127,22 +188,3 @@ pub extern "C" fn preinv_div_exact(x: u64, y: u64, m: u64, n: u64) -> u64 {
     }
     x
 }
-
-macro_rules! over_fixed {
-    ($reducer:ty, $mul:ident, $pow:ident) => {
-        #[inline(never)]
-        pub extern "C" fn $mul(x: u64, y: u64, m: u64, n: u64) -> u64 {
-            products(&<$reducer as Reducer<u64>>::new(&m), x, y, n)
-        }
-
-        #[inline(never)]
-        pub extern "C" fn $pow(x: u64, y: u64, m: u64, n: u64) -> u64 {
-            powers(&<$reducer as Reducer<u64>>::new(&m), x, y, n)
-        }
-    };
-}
-
-over_fixed!(FixedMontgomery64<{ u64::MAX - 58 }>, fixed_montgomery_mul, fixed_montgomery_pow);
-over_fixed!(FixedProth64<57, 29>, fixed_proth_mul, fixed_proth_pow);
-over_fixed!(FixedMersenne64<61, 1>, fixed_mersenne_mul, fixed_mersenne_pow);
-over_fixed!(FixedTrinomialSolinas64<64, 32, 1>, fixed_solinas_mul, fixed_solinas_pow);

@@ -1,13 +1,14 @@
-//! The functions of the static library: each does `n` dependent steps on words of 64 bits.
+//! The functions of the static library: each does `n` dependent steps. What `m` must be for each is
+//! said there.
 
-pub type Bench = extern "C" fn(x: u64, y: u64, m: u64, n: u64) -> u64;
+pub type Bench = fn(x: u64, y: u64, m: u64, n: u64) -> u64;
 
 macro_rules! exported {
     ($($symbol:ident as $name:ident),* $(,)?) => {
         unsafe extern "C" {
             $(safe fn $symbol(x: u64, y: u64, m: u64, n: u64) -> u64;)*
         }
-        $(pub extern "C" fn $name(x: u64, y: u64, m: u64, n: u64) -> u64 {
+        $(pub fn $name(x: u64, y: u64, m: u64, n: u64) -> u64 {
             $symbol(x, y, m, n)
         })*
     };
@@ -17,6 +18,7 @@ exported! {
     bench_mulm as mulm,
     bench_powm as powm,
     bench_invm as invm,
+    bench_mulm_eight as mulm_eight,
     bench_vanilla_mul as vanilla_mul,
     bench_vanilla_pow as vanilla_pow,
     bench_vanilla_inv as vanilla_inv,
@@ -37,4 +39,84 @@ exported! {
     bench_fixed_mersenne_pow as fixed_mersenne_pow,
     bench_fixed_solinas_mul as fixed_solinas_mul,
     bench_fixed_solinas_pow as fixed_solinas_pow,
+}
+
+unsafe extern "C" {
+    safe fn bench_plain_u8(operation: u8, x: u8, y: u8, m: u8, n: u64) -> u8;
+    safe fn bench_plain_u32(operation: u8, x: u32, y: u32, m: u32, n: u64) -> u32;
+    safe fn bench_plain_u64(operation: u8, x: u64, y: u64, m: u64, n: u64) -> u64;
+    safe fn bench_montgomery_mul_u8(x: u8, y: u8, m: u8, n: u64) -> u8;
+    safe fn bench_montgomery_mul_u32(x: u32, y: u32, m: u32, n: u64) -> u32;
+    safe fn bench_symbols(operation: u8, x: u64, y: u64, m: u64, n: u64) -> u64;
+    safe fn bench_divisions(x: u64, m: u64) -> u32;
+    safe fn bench_halvings(x: u64, m: u64) -> u32;
+}
+
+/// The plain operations by their numbers: 0 the product, 1 the power, 2 the sum, 3 the difference, 4
+/// the negative.
+pub fn plain_u8<const OPERATION: u8>(x: u64, y: u64, m: u64, n: u64) -> u64 {
+    bench_plain_u8(OPERATION, x as u8, y as u8, m as u8, n) as u64
+}
+
+pub fn plain_u32<const OPERATION: u8>(x: u64, y: u64, m: u64, n: u64) -> u64 {
+    bench_plain_u32(OPERATION, x as u32, y as u32, m as u32, n) as u64
+}
+
+pub fn plain_u64<const OPERATION: u8>(x: u64, y: u64, m: u64, n: u64) -> u64 {
+    bench_plain_u64(OPERATION, x, y, m, n)
+}
+
+pub fn montgomery_mul_u8(x: u64, y: u64, m: u64, n: u64) -> u64 {
+    bench_montgomery_mul_u8(x as u8, y as u8, m as u8, n) as u64
+}
+
+pub fn montgomery_mul_u32(x: u64, y: u64, m: u64, n: u64) -> u64 {
+    bench_montgomery_mul_u32(x as u32, y as u32, m as u32, n) as u64
+}
+
+pub fn jacobi(x: u64, y: u64, m: u64, n: u64) -> u64 {
+    bench_symbols(0, x, y, m, n)
+}
+
+pub fn kronecker(x: u64, y: u64, m: u64, n: u64) -> u64 {
+    bench_symbols(1, x, y, m, n)
+}
+
+pub fn legendre(x: u64, y: u64, m: u64, n: u64) -> u64 {
+    bench_symbols(2, x, y, m, n)
+}
+
+/// The divisions of an inverse of x modulo m.
+pub fn divisions(x: u64, m: u64) -> u32 {
+    bench_divisions(x, m)
+}
+
+/// The halvings and swaps of a symbol of x over an odd m.
+pub fn halvings(x: u64, m: u64) -> u32 {
+    bench_halvings(x, m)
+}
+
+macro_rules! over_reducer {
+    ($($symbol:ident as $name:ident),* $(,)?) => {
+        unsafe extern "C" {
+            $(safe fn $symbol(operation: u8, x: u64, y: u64, m: u64, n: u64) -> u64;)*
+        }
+        $(
+            /// 2 the sum, 3 the difference, 4 the negative, 5 the form, 6 the residue of the form, 7 eight
+            /// chains of products.
+            pub fn $name<const OPERATION: u8>(x: u64, y: u64, m: u64, n: u64) -> u64 {
+                $symbol(OPERATION, x, y, m, n)
+            }
+        )*
+    };
+}
+
+over_reducer! {
+    bench_over_vanilla as over_vanilla,
+    bench_over_premul as over_premul,
+    bench_over_montgomery as over_montgomery,
+    bench_over_fixed_montgomery as over_fixed_montgomery,
+    bench_over_fixed_proth as over_fixed_proth,
+    bench_over_fixed_mersenne as over_fixed_mersenne,
+    bench_over_fixed_solinas as over_fixed_solinas,
 }

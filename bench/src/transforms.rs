@@ -1,6 +1,7 @@
 //! Transforms and cyclic products of whole lists: the port, and two loops over the Rust crate's
 //! reducers, by columns and with a table of powers on the heap.
 
+use crate::report::{Growth, Rows};
 use num_modular::{FixedTrinomialSolinas64, Montgomery, Reducer};
 use std::time::Instant;
 
@@ -128,69 +129,100 @@ fn list(n: usize, seed: u64) -> Vec<u64> {
     (0..n as u64).map(|i| (i * i).wrapping_mul(0x9e37_79b9_7f4a_7c15).wrapping_add(seed) % MODULUS).collect()
 }
 
+type Run<'a> = &'a dyn Fn(&mut [u64], &mut [u64]);
+
 /// The milliseconds of one turn, and the answer.
-fn turn(n: usize, run: &dyn Fn(&mut [u64], &mut [u64])) -> (f64, Vec<u64>) {
+fn turn(n: usize, run: Run) -> (f64, Vec<u64>) {
     let (mut xs, mut ys) = (list(n, 3), list(n, 14));
     let start = Instant::now();
     run(&mut xs, &mut ys);
     (start.elapsed().as_secs_f64() * 1e3, xs)
 }
 
-/// The best of some turns of the three, one after the other; false where their answers differ.
-fn print_line(name: &str, n: usize, runs: [&dyn Fn(&mut [u64], &mut [u64]); 3]) -> bool {
-    let mut best = [f64::INFINITY; 3];
-    let mut same = true;
-    for _ in 0..if n > 1 << 17 { 15 } else { 60 } {
-        let turns = runs.map(|run| turn(n, run));
-        same &= turns[0].1 == turns[1].1 && turns[0].1 == turns[2].1;
-        for (least, (time, _)) in best.iter_mut().zip(&turns) {
-            *least = least.min(*time);
+/// The best of some turns, one after the other.
+fn best<const N: usize>(n: usize, turns: usize, runs: [Run; N]) -> [f64; N] {
+    let mut best = [f64::INFINITY; N];
+    for _ in 0..turns {
+        for (least, run) in best.iter_mut().zip(runs) {
+            *least = least.min(turn(n, run).0);
         }
     }
-    let [port, columns, table] = best;
-    println!(
-        "| {name} | 2^{} | {port:.3} | {columns:.3} | {table:.3} | {:.2} | {:.2} |",
-        n.trailing_zeros(),
-        port / columns,
-        port / table
-    );
-    same
+    best
 }
 
-fn transform_line<R: Reducer<u64>>(name: &str, r: &R, n: usize, port: Transform) -> bool {
+/// What is measured at a length: the port, by columns and with a table.
+fn on_transform<R: Reducer<u64>, T>(r: &R, n: usize, port: Transform, then: impl Fn([Run; 3]) -> T) -> T {
     let g = root(n);
-    print_line(name, n, [
-        &|xs, _| port(xs, g),
-        &|xs, _| by_columns(r, xs, g),
-        &|xs, _| with_table(r, xs, g),
-    ])
+    then([&|xs, _| port(xs, g), &|xs, _| by_columns(r, xs, g), &|xs, _| with_table(r, xs, g)])
 }
 
-fn product_line<R: Reducer<u64>>(name: &str, r: &R, n: usize, port: Product) -> bool {
+fn on_product<R: Reducer<u64>, T>(r: &R, n: usize, port: Product, then: impl Fn([Run; 3]) -> T) -> T {
     let g = root(n);
-    print_line(name, n, [
+    then([
         &|xs, ys| port(xs, ys, g),
         &|xs, ys| convolve(r, xs, ys, g, by_columns),
         &|xs, ys| convolve(r, xs, ys, g, with_table),
     ])
 }
 
-/// Prints the table of transforms; false where answers differ.
-pub fn print_table() -> bool {
-    println!("| over | entries | port ms | columns ms | table ms | port/columns | port/table |");
-    println!("|---|---:|---:|---:|---:|---:|---:|");
+/// Something of each transform and each product at a length.
+fn each<T>(n: usize, then: impl Fn([Run; 3]) -> T) -> [(&'static str, T); 4] {
+    [
+        ("FixedTrinomialSolinas64: ntt", on_transform(&solinas(), n, port_solinas_ntt, &then)),
+        ("Montgomery: ntt", on_transform(&montgomery(), n, port_montgomery_ntt, &then)),
+        ("FixedTrinomialSolinas64: convolve", on_product(&solinas(), n, port_solinas_convolve, &then)),
+        ("Montgomery: convolve", on_product(&montgomery(), n, port_montgomery_convolve, &then)),
+    ]
+}
+
+/// Whether the three answer alike.
+pub fn agree() -> bool {
     let mut same = true;
-    for bits in [10, 16, 20] {
-        same &= transform_line("FixedTrinomialSolinas64: ntt", &solinas(), 1 << bits, port_solinas_ntt);
-    }
-    for bits in [10, 16, 20] {
-        same &= transform_line("Montgomery: ntt", &montgomery(), 1 << bits, port_montgomery_ntt);
-    }
-    for bits in [10, 16, 20] {
-        same &= product_line("FixedTrinomialSolinas64: convolve", &solinas(), 1 << bits, port_solinas_convolve);
-    }
-    for bits in [10, 16, 20] {
-        same &= product_line("Montgomery: convolve", &montgomery(), 1 << bits, port_montgomery_convolve);
+    for bits in [1, 2, 5, 10, 13] {
+        for (name, alike) in each(1 << bits, |runs| {
+            let [one, two, three] = runs.map(|run| turn(1 << bits, run).1);
+            one == two && one == three
+        }) {
+            if !alike {
+                eprintln!("{name}: other answers for 2^{bits} entries");
+                same = false;
+            }
+        }
     }
     same
+}
+
+/// The table of transforms and products.
+pub fn measured() -> Rows {
+    let mut lines = Vec::new();
+    for bits in [10, 16, 20] {
+        let turns = if bits > 17 { 15 } else { 60 };
+        for (place, (name, times)) in each(1 << bits, |runs| best(1 << bits, turns, runs)).into_iter().enumerate() {
+            let [port, columns, table] = times;
+            let line = (format!("{name}, 2^{bits}"), vec![port, columns, table, port / columns, port / table]);
+            lines.push((place, line));
+        }
+    }
+    lines.sort_by_key(|(place, _)| *place);
+    Rows {
+        key: "transforms",
+        title: "Transforms and cyclic products of whole lists over 2^64 - 2^32 + 1".to_string(),
+        heads: vec!["port ms", "columns ms", "table ms", "port/columns", "port/table"],
+        digits: 3,
+        ratios: 2,
+        lines: lines.into_iter().map(|(_, line)| line).collect(),
+        mean: None,
+    }
+}
+
+/// The times of the transforms against their lengths, the port's alone.
+pub fn growth() -> Growth {
+    let lines = (4..=18).step_by(2).map(|bits| {
+        let n = 1 << bits;
+        let turns = if bits > 14 { 20 } else { 200 };
+        let over_solinas = on_transform(&solinas(), n, port_solinas_ntt, |runs| best(n, turns, [runs[0]]))[0];
+        let over_montgomery = on_transform(&montgomery(), n, port_montgomery_ntt, |runs| best(n, turns, [runs[0]]))[0];
+        vec![n as f64, over_solinas * 1e6, over_montgomery * 1e6]
+    });
+    Growth { key: "transforms", heads: vec!["entries", "Solinas ns", "Montgomery ns"], lines: lines.collect() }
 }

@@ -1,11 +1,17 @@
-//! What `bench/` measures: functions that each do n dependent steps on words of 64 bits.
+//! What `bench/` measures: functions that each do n dependent steps on words.
 //!
-//! Each has the shape `bench_NAME(x, y, m, n) -> u64`. What m must be is its `requires`, which the
-//! driver keeps. The functions of `transforms` take a list instead.
+//! Each has the shape `bench_NAME(x, y, m, n)`, in words of 64 bits where the name has no other width,
+//! or `bench_NAME(operation, x, y, m, n)`, where a number names the operation. What m must be is its
+//! `requires`, which the driver keeps. The functions of `transforms` and `runs` take a list, and those
+//! of `counts` answer a number of steps.
 #![tactic(auto)]
 
+mod chains;
+mod counts;
 mod dividers;
 mod fixed;
 mod plain;
 mod rings;
+mod runs;
+mod symbols;
 mod transforms;

@@ -1,0 +1,113 @@
+//! What a run writes: tables in Markdown, and the same numbers as JSON.
+
+use std::fs;
+use std::io;
+use std::path::Path;
+
+/// A table: the heads of its columns, and for each line its name and numbers. The last numbers of a
+/// line may be ratios, which have two digits after the point as the others have `digits`.
+pub struct Rows {
+    pub key: &'static str,
+    pub title: String,
+    pub heads: Vec<&'static str>,
+    pub digits: usize,
+    pub ratios: usize,
+    pub lines: Vec<(String, Vec<f64>)>,
+    pub mean: Option<f64>,
+}
+
+/// Numbers against a size, for a picture: the head of each column, and the lines.
+pub struct Growth {
+    pub key: &'static str,
+    pub heads: Vec<&'static str>,
+    pub lines: Vec<Vec<f64>>,
+}
+
+/// All that a run found.
+pub struct Report {
+    pub machine: String,
+    pub tables: Vec<Rows>,
+    pub growth: Vec<Growth>,
+}
+
+const START: &str = "<!-- written by bench/run -->";
+const END: &str = "<!-- end of what bench/run writes -->";
+
+fn quoted(text: &str) -> String {
+    format!("\"{}\"", text.replace('\\', "\\\\").replace('"', "\\\""))
+}
+
+fn list<T>(items: &[T], write: impl Fn(&T) -> String) -> String {
+    let parts: Vec<String> = items.iter().map(write).collect();
+    format!("[{}]", parts.join(", "))
+}
+
+impl Rows {
+    fn markdown(&self) -> String {
+        let mut text = format!("{}:\n\n| operation | {} |\n|---|{}\n", self.title, self.heads.join(" | "), "---:|".repeat(self.heads.len()));
+        for (name, numbers) in &self.lines {
+            text += &format!("| {name} |");
+            for (place, number) in numbers.iter().enumerate() {
+                let digits = if place + self.ratios >= numbers.len() { 2 } else { self.digits };
+                text += &format!(" {number:.digits$} |");
+            }
+            text += "\n";
+        }
+        if let Some(mean) = self.mean {
+            text += &format!("| geometric mean |{} {mean:.2} |\n", " |".repeat(self.heads.len() - 1));
+        }
+        text
+    }
+
+    fn json(&self) -> String {
+        let lines = list(&self.lines, |(name, numbers)| {
+            format!("\n      {{\"name\": {}, \"numbers\": {}}}", quoted(name), list(numbers, |n| format!("{n:.4}")))
+        });
+        format!(
+            "{{\n    \"key\": {}, \"title\": {}, \"heads\": {},\n    \"lines\": {lines}\n    }}",
+            quoted(self.key),
+            quoted(&self.title),
+            list(&self.heads, |head| quoted(head)),
+        )
+    }
+}
+
+impl Growth {
+    fn json(&self) -> String {
+        format!(
+            "{{\n    \"key\": {}, \"heads\": {},\n    \"lines\": {}\n    }}",
+            quoted(self.key),
+            list(&self.heads, |head| quoted(head)),
+            list(&self.lines, |line| format!("\n      {}", list(line, |n| format!("{n:.4}")))),
+        )
+    }
+}
+
+impl Report {
+    /// The machine and the tables.
+    pub fn markdown(&self) -> String {
+        let tables: Vec<String> = self.tables.iter().map(Rows::markdown).collect();
+        format!("On {}.\n\n{}", self.machine, tables.join("\n"))
+    }
+
+    fn json(&self) -> String {
+        format!(
+            "{{\n  \"machine\": {},\n  \"tables\": {},\n  \"growth\": {}\n}}\n",
+            quoted(&self.machine),
+            list(&self.tables, |rows| format!("\n    {}", rows.json())),
+            list(&self.growth, |growth| format!("\n    {}", growth.json())),
+        )
+    }
+
+    /// Writes speed.json, and the tables between their marks in speed.md.
+    pub fn write(&self, folder: &Path) -> io::Result<()> {
+        fs::write(folder.join("speed.json"), self.json())?;
+        let page = folder.join("speed.md");
+        let text = fs::read_to_string(&page)?;
+        let parts = text.split_once(START).and_then(|(before, rest)| Some((before, rest.split_once(END)?.1)));
+        match parts {
+            Some((before, after)) => fs::write(page, format!("{before}{START}\n{}\n{END}{after}", self.markdown())),
+            None => Err(io::Error::other("speed.md lacks the marks between which the tables stand")),
+        }
+    }
+}

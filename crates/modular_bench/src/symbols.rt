@@ -1,0 +1,58 @@
+//! The symbols.
+
+ghost use Rattle.modular_bench.specs.Steps.{symbol_number, symbol_of, symbol_step};
+ghost use Rattle.std.specs.Fn.{iterate};
+ghost use Rattle.std.specs.Int.Count.{count_leading_zeros};
+ghost use Rattle.std.specs.Prelude.{◌≡◌, ◌≤◌, ◌<◌, ◌+◌, ◌*◌, ◌/◌, ◌%◌, ◌^◌};
+
+use num_modular::ModularSymbols;
+
+// The symbol of v over m, by the operation's number.
+fn symbol(operation: u8, v: u64, m: u64) -> Option<i8>
+    ensures { result ≡ symbol_of operation m v }
+{
+    match operation {
+        0 => v.checked_jacobi(&m),
+        1 => Some(v.kronecker(&m)),
+        _ => v.checked_legendre(&m),
+    }
+}
+
+// A symbol as a number from 0 to 3.
+fn number(found: Option<i8>) -> u64
+    ensures { result ≡ symbol_number found }
+{
+    match found {
+        None => 3,
+        Some(symbol) => if symbol < 0 { 2 } else { symbol as u64 },
+    }
+}
+
+fn steps<const OPERATION: u8>(x: u64, y: u64, m: u64, n: u64) -> u64
+    requires { 1 ≤ m }
+    ensures { result ≡ iterate (symbol_step OPERATION y m) n x }
+{
+    let mut x = x;
+    let shift = m.leading_zeros();
+    'steps: for _ in 0..n {
+        let term = number(symbol(OPERATION, x, m));
+        x = y.wrapping_mul(x).wrapping_add(term) >> shift;
+    }
+    x
+}
+
+/// A step: x becomes its product with y, with the number of its symbol over m, in as many bits as m
+/// has. The symbol is Jacobi's for operation 0, Kronecker's for 1 and Legendre's for 2. Condition: m
+/// is at least 1.
+#[unsafe(no_mangle)]
+pub extern "C" fn bench_symbols(operation: u8, x: u64, y: u64, m: u64, n: u64) -> u64
+    requires m { 1 ≤ m }
+    requires operation { operation ≤ 2 }
+    ensures { result ≡ iterate (symbol_step operation y m) n x }
+{
+    match operation {
+        0 => steps::<0>(x, y, m, n),
+        1 => steps::<1>(x, y, m, n),
+        _ => steps::<2>(x, y, m, n),
+    }
+}

@@ -1,0 +1,128 @@
+#!/usr/bin/env python3
+"""Draws speed-ratios.svg and speed-growth.svg from speed.json, which `bench/run` writes beside them.
+
+It needs matplotlib (Debian's python3-matplotlib). The pictures keep their words as text, have no ground of their
+own, and take their ink from the page's light or dark scheme.
+"""
+import json
+import math
+import pathlib
+import re
+from html import escape
+
+import matplotlib
+
+matplotlib.use("svg")
+import matplotlib.pyplot as plt
+
+FOLDER = pathlib.Path(__file__).resolve().parent
+INK = "#24292f"
+PORT, CRATE, THIRD = "#1f77b4", "#d1742c", "#3a9a5b"
+STYLE = """
+.axes text, text { fill: #24292f; }
+@media (prefers-color-scheme: dark) {
+  text { fill: #d7dde3 !important; }
+  .ink, [style*="#24292f"] { stroke: #d7dde3 !important; }
+}
+"""
+TABLES = (("any", "any modulus"), ("fixed", "fixed moduli"), ("symbols", "symbols, short operands"),
+          ("narrow", "words of 8 and 32 bits"), ("throughput", "eight chains side by side"))
+
+plt.rcParams.update({
+    "svg.fonttype": "none", "svg.hashsalt": "speed", "font.family": "sans-serif", "font.size": 10,
+    "text.color": INK, "axes.edgecolor": INK, "axes.labelcolor": INK, "xtick.color": INK, "ytick.color": INK,
+    "axes.spines.top": False, "axes.spines.right": False, "legend.frameon": False,
+})
+
+
+def save(figure, name, title, words):
+    """Writes a picture with a title, a description and the colours of both schemes."""
+    path = FOLDER / name
+    figure.savefig(path, transparent=True, bbox_inches="tight", metadata={"Date": None, "Creator": None})
+    plt.close(figure)
+    text = path.read_text(encoding="utf-8")
+    head = f'<title id="title">{escape(title)}</title>\n<desc id="desc">{escape(words)}</desc>\n<style>{STYLE}</style>\n'
+    text = re.sub(r"(<svg\b[^>]*)>", r'\1 role="img" aria-labelledby="title desc">\n' + head.replace("\\", r"\\"), text, count=1)
+    # the words take their ink from the style above
+    text = re.sub(r"fill: %s; *" % INK, "", text)
+    path.write_text("\n".join(line.rstrip() for line in text.split("\n")), encoding="utf-8")
+    return words
+
+
+def ratios(tables):
+    shown = [(title, tables[key]["lines"]) for key, title in TABLES if key in tables]
+    heights = [len(lines) for _, lines in shown]
+    figure, parts = plt.subplots(len(shown), 1, figsize=(8.6, 0.24 * sum(heights) + 0.75 * len(shown)), sharex=True,
+                                 gridspec_kw={"height_ratios": heights, "hspace": 0.28})
+    greatest = max(line["numbers"][2] for _, lines in shown for line in lines)
+    for part, (title, lines) in zip(parts, shown):
+        names = [line["name"] for line in lines]
+        values = [line["numbers"][2] for line in lines]
+        places = range(len(lines))
+        part.barh(places, values, color=[PORT if v <= 1 else CRATE for v in values], height=0.7)
+        for place, value in zip(places, values):
+            part.text(value + 0.01, place, f"{value:.2f}", va="center", fontsize=9)
+        part.set_yticks(list(places), names)
+        part.invert_yaxis()
+        part.axvline(1, color=INK, linewidth=1)
+        part.set_title(title, loc="left", fontsize=10, fontweight="bold")
+        part.set_xlim(0, max(1.15, greatest + 0.1))
+        part.tick_params(axis="y", length=0)
+    parts[-1].set_xlabel("time of the port / time of the Rust crate; the line is at 1")
+    parts_said = []
+    for title, lines in shown:
+        said = ", ".join(f"{line['name']} {line['numbers'][2]:.2f}" for line in lines)
+        parts_said.append(f"{title}: {said}")
+    words = "Bars of the time of each operation divided by the Rust crate's, with a line at 1. " + ". ".join(parts_said) + "."
+    return save(figure, "speed-ratios.svg", "Time of each operation beside the Rust crate's", words)
+
+
+def columns(growth):
+    return [list(column) for column in zip(*growth["lines"])]
+
+
+def growths(growth):
+    figure, ((powers, inverses), (symbols, transforms)) = plt.subplots(2, 2, figsize=(9.6, 7.4),
+                                                                      gridspec_kw={"hspace": 0.42, "wspace": 0.3})
+    digits, port, crate, montgomery = columns(growth["powers"])
+    powers.plot(digits, port, "o-", color=PORT, label="powm", markersize=3.5)
+    powers.plot(digits, montgomery, "s-", color=THIRD, label="Montgomery::pow", markersize=3.5)
+    powers.plot(digits, crate, "^-", color=CRATE, label="powm of the crate", markersize=3.5)
+    slope = port[-1] / digits[-1]
+    powers.plot(digits, [slope * d for d in digits], ":", color=INK, label="in proportion to the digits")
+    powers.set(title="A power, by its exponent's digits", xlabel="binary digits of the exponent", ylabel="ns", yscale="log")
+    said = [f"powm takes {port[0]:.0f} ns for {digits[0]:.0f} binary digits of the exponent and {port[-1]:.0f} ns for "
+            f"{digits[-1]:.0f}, the crate's {crate[-1]:.0f} ns"]
+    for part, key, title, what in ((inverses, "inverses", "An inverse, by its operands' bits", "divisions"),
+                                   (symbols, "symbols", "A Jacobi symbol, by its operands' bits", "halvings and swaps")):
+        bits, port, crate, mean, most, bound = columns(growth[key])
+        part.plot(bits, bound, "-", color=INK, label="proved bound")
+        part.plot(bits, most, "^", color=CRATE, label="most that was counted", markersize=4)
+        part.plot(bits, mean, "o-", color=PORT, label="mean", markersize=3.5)
+        part.set(title=title, xlabel="bits of the operands", ylabel=what)
+        said.append(f"at {bits[-1]:.0f} bits {title[0].lower()}{title[1:].split(',')[0]} takes {mean[-1]:.1f} {what} in the mean and "
+                    f"{most[-1]:.0f} at most in 2,000 trials, the proved bound is {bound[-1]:.0f}")
+    entries, solinas, montgomery = columns(growth["transforms"])
+    transforms.plot(entries, solinas, "o-", color=PORT, label="over FixedTrinomialSolinas64", markersize=3.5)
+    transforms.plot(entries, montgomery, "s-", color=THIRD, label="over Montgomery", markersize=3.5)
+    scale = solinas[len(solinas) // 2] / (entries[len(entries) // 2] * math.log2(entries[len(entries) // 2]))
+    transforms.plot(entries, [scale * n * math.log2(n) for n in entries], ":", color=INK, label="in proportion to n log n")
+    transforms.set(title="A transform, by its length", xlabel="entries", ylabel="ns", xscale="log", yscale="log")
+    transforms.set_xscale("log", base=2)
+    said.append(f"a transform of 2^{math.log2(entries[0]):.0f} entries takes {solinas[0] / 1e3:.2f} microseconds and of "
+                f"2^{math.log2(entries[-1]):.0f} {solinas[-1] / 1e6:.2f} ms, close to n log n")
+    for part in (powers, inverses, symbols, transforms):
+        part.legend(fontsize=8.5)
+        part.title.set_fontsize(10.5)
+    words = "Four curves against a size: " + "; ".join(said) + "."
+    return save(figure, "speed-growth.svg", "Times and counted steps against sizes", words)
+
+
+def main():
+    run = json.loads((FOLDER / "speed.json").read_text(encoding="utf-8"))
+    ratios({table["key"]: table for table in run["tables"]})
+    growths({growth["key"]: growth for growth in run["growth"]})
+
+
+if __name__ == "__main__":
+    main()
