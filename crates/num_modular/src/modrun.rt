@@ -62,7 +62,7 @@ pub fn run_words<O: Write, E: Write>(alloc: Global, words: &[&str], out: &mut O,
     run_words_in(&alloc, words, out, err)
 }
 
-// The same with the commands kept by any allocator, so that a test can refuse memory.
+// The same with the commands kept by any allocator.
 fn run_words_in<A: Allocator, O: Write, E: Write>(
     alloc: &A,
     words: &[&str],

@@ -3,8 +3,7 @@
 ghost use Rattle.std.specs.Prelude.{◌≤◌};
 
 use super::*;
-use linked_list_allocator::LocalHeap;
-use std::test::Fail;
+use std::str;
 
 const USAGE: &str = "usage: modrun REDUCER MODULUS COMMAND...\n";
 
@@ -35,6 +34,10 @@ impl Page {
 
     fn new() -> Page {
         Page::refusing(0)
+    }
+
+    fn text(&self) -> &str {
+        str::from_utf8(&self.bytes[..self.len]).unwrap_or("?")
     }
 
     fn holds(&self, text: &str) -> bool {
@@ -282,55 +285,53 @@ fn refused_writes(rt: HostRuntime) {
         let mut out = Page::refusing(39);
         let mut err = Page::refusing(39);
         assert_eq!(rt; run_typed(rt.alloc(), typed, &mut out, &mut err), status);
+        assert!(rt; out.writes < 39 && err.writes < 39, "{typed}");
     }
 }
 
-// Either a run ends as its words say, or memory was refused and it says that alone.
-// `rt try --test --fail-alloc N` refuses the growth N of the allocator itself.
-#[test]
-fn refused_memory(rt: HostRuntime) {
-    let mut out = Page::new();
-    let mut err = Page::new();
-    let status = run_typed(rt.alloc(), MISSING_INVERSE, &mut out, &mut err);
-    let refused = status == 3 && out.holds("") && err.holds("out of memory\n");
-    let stopped = status == 1
-        && out.holds("5 7 17 0 0 0 0 0\n")
-        && err.holds("no inverse at command 3\n");
-    assert!(rt; refused || stopped);
-}
-
-fn answer_in(heap: &LocalHeap, words: &[&str], out: &mut Page, err: &mut Page) -> u8 {
-    run_words_in(heap, words, out, err)
-}
-
-// Whether a heap carries out the commands, or refuses memory for them and says that alone.
-fn serves(heap: &LocalHeap, words: &[&str], is_served: bool) -> bool {
-    let mut out = Page::new();
-    let mut err = Page::new();
-    let status = answer_in(heap, words, &mut out, &mut err);
-    if is_served {
-        return status == 0 && out.holds(ZEROS) && err.holds("");
-    }
-    let told = status == 3 && out.holds("") && err.holds("out of memory\n");
-    let mut deaf = Page::refusing(1);
-    told && answer_in(heap, words, &mut out, &mut deaf) == 4
-}
-
-// Heaps that serve just so many growths: as many commands as fit run, and one more is refused.
-#[test]
-fn small_heaps(rt: HostRuntime) -> Result<(), Fail> {
-    let mut words = ["sqr,0,0"; 19];
-    words[0] = "vanilla";
-    words[1] = "21";
-    for (units, served) in [(1, 0), (8, 4), (24, 8), (56, 16)] {
-        let heap = LocalHeap::new(rt.alloc(), units * 16)?;
-        for count in 0..18usize {
-            let is_served = count <= served;
-            assert!(rt;
-                serves(&heap, &words[..2 + count], is_served),
-                "{units} {count}"
-            );
+// How many of 64 growths are had, each of a list of its own.
+fn growths_had(alloc: Global) -> u32 {
+    let mut had = 0;
+    'growths: for _ in 0..64 {
+        let mut list: Vec<u8> = Vec::new(alloc);
+        if list.push(0).is_ok() {
+            had = u32::min(had, 63) + 1;
         }
     }
+    had
+}
+
+// Prints the status and both texts of a run, and how many of 64 growths are had after it. Tells whether
+// the run ended as its words say, or said that memory was refused and no more.
+fn tries_memory(rt: &HostRuntime, words: &[&str], wanted: (u8, &str, &str)) -> io::Result<bool> {
+    let mut out = Page::new();
+    let mut err = Page::new();
+    let status = run_words(rt.alloc(), words, &mut out, &mut err);
+    let had = growths_had(rt.alloc());
+    println!(rt;
+        "status {status} {:?} {:?} had {had}",
+        out.text(),
+        err.text()
+    )?;
+    let is_full = status == wanted.0 && out.holds(wanted.1) && err.holds(wanted.2);
+    Ok(is_full || status == 3 && out.holds("") && err.holds("out of memory\n"))
+}
+
+// `checks/refused-memory` has the growths of the allocator refused one after the other, and reads what
+// these two tests print.
+#[test]
+fn refused_memory(rt: HostRuntime) -> io::Result<()> {
+    let (words, _) = words_of(MISSING_INVERSE);
+    let wanted = (1, "5 7 17 0 0 0 0 0\n", "no inverse at command 3\n");
+    assert!(rt; tries_memory(&rt, &words[..6], wanted)?);
+    Ok(())
+}
+
+#[test]
+fn refused_memory_after_commands(rt: HostRuntime) -> io::Result<()> {
+    let mut words = ["sqr,0,0"; 11];
+    words[0] = "vanilla";
+    words[1] = "21";
+    assert!(rt; tries_memory(&rt, &words, (0, ZEROS, ""))?);
     Ok(())
 }
