@@ -5,5 +5,6 @@
 pub mod callers;
 pub mod equality;
 pub mod polynomial;
+pub mod rings;
 #[cfg(test)]
 mod tests;

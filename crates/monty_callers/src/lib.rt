@@ -68,6 +68,13 @@ pub fn proth_modulus_of_2_and_3() -> u32
     FixedProth32::<2, 3>::fixed_modulus()
 }
 
+/// The reducer of 3 * 2^2 + 1.
+pub fn proth_ring_of_13() -> FixedProth32<2, 3>
+    ensures { ⟦<FixedProth32<2, 3> as Reducer<u32>>⟧.modulus result ≡ 13 }
+{
+    FixedProth32::<2, 3>::new(&13)
+}
+
 // The product of two words by their forms.
 fn product_by_forms<T: RingWord, R: Reducer<T>>(ring: &R, a: T, b: T) -> T
     ensures { T.number result ≡ (T.number a * T.number b) % R.modulus ring.now }

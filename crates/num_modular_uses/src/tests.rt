@@ -1,6 +1,7 @@
 //! Each public item once, by the path that a user writes, and the reducers side by side.
 
 mod dividers;
+mod edges;
 mod fixed;
 mod folds;
 mod hostile;
