@@ -18,11 +18,12 @@ import matplotlib.pyplot as plt
 FOLDER = pathlib.Path(__file__).resolve().parent
 INK = "#24292f"
 PORT, CRATE, THIRD = "#1f77b4", "#d1742c", "#3a9a5b"
+LIMIT = 1.05
 STYLE = """
-.axes text, text { fill: #24292f; }
+text { fill: #24292f; }
 @media (prefers-color-scheme: dark) {
-  text { fill: #d7dde3 !important; }
-  .ink, [style*="#24292f"] { stroke: #d7dde3 !important; }
+  text { fill: #d7dde3; }
+  [style*="stroke: #24292f"] { stroke: #d7dde3 !important; }
 }
 """
 TABLES = (("any", "any modulus"), ("fixed", "fixed moduli"), ("symbols", "symbols, short operands"),
@@ -42,9 +43,9 @@ def save(figure, name, title, words):
     plt.close(figure)
     text = path.read_text(encoding="utf-8")
     head = f'<title id="title">{escape(title)}</title>\n<desc id="desc">{escape(words)}</desc>\n<style>{STYLE}</style>\n'
-    text = re.sub(r"(<svg\b[^>]*)>", r'\1 role="img" aria-labelledby="title desc">\n' + head.replace("\\", r"\\"), text, count=1)
-    # the words take their ink from the style above
+    # the words take their ink from the style alone
     text = re.sub(r"fill: %s; *" % INK, "", text)
+    text = re.sub(r"(<svg\b[^>]*)>", lambda found: found[1] + ' role="img" aria-labelledby="title desc">\n' + head, text, count=1)
     path.write_text("\n".join(line.rstrip() for line in text.split("\n")), encoding="utf-8")
     return words
 
@@ -59,16 +60,16 @@ def ratios(tables):
         names = [line["name"] for line in lines]
         values = [line["numbers"][2] for line in lines]
         places = range(len(lines))
-        part.barh(places, values, color=[PORT if v <= 1 else CRATE for v in values], height=0.7)
+        part.barh(places, values, color=[PORT if v <= LIMIT else CRATE for v in values], height=0.7)
         for place, value in zip(places, values):
-            part.text(value + 0.01, place, f"{value:.2f}", va="center", fontsize=9)
+            part.text(value + 0.01 if not 0.9 < value < 1 else 1.01, place, f"{value:.2f}", va="center", fontsize=9)
         part.set_yticks(list(places), names)
         part.invert_yaxis()
         part.axvline(1, color=INK, linewidth=1)
         part.set_title(title, loc="left", fontsize=10, fontweight="bold")
         part.set_xlim(0, max(1.15, greatest + 0.1))
         part.tick_params(axis="y", length=0)
-    parts[-1].set_xlabel("time of the port / time of the Rust crate; the line is at 1")
+    parts[-1].set_xlabel("time of the port / time of the Rust crate; the line is at 1, bars above 1.05 are orange")
     parts_said = []
     for title, lines in shown:
         said = ", ".join(f"{line['name']} {line['numbers'][2]:.2f}" for line in lines)

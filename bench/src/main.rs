@@ -93,9 +93,9 @@ fn machine() -> String {
             .map_or("unknown", str::trim)
             .to_string()
     };
-    let cores = std::thread::available_parallelism().map_or(0, usize::from);
+    let cores = text.lines().filter(|line| line.starts_with("processor")).count();
     format!(
-        "\"{}\" (family {}, model {}, {cores} cores to it), with {}",
+        "\"{}\" (family {}, model {}, {cores} cores), with {}",
         field("model name"),
         field("cpu family"),
         field("model"),
