@@ -1,6 +1,6 @@
 //! Lists of commands on registers, run over any reducer, and transforms over any reducer.
 
-ghost use Rattle.std.specs.Prelude.{◌≡◌, ℕ, ◌*◌, ◌%◌, ◌<◌, ◌↔◌, IsTrue, All, length, map, option_map, slice_index};
+ghost use Rattle.std.specs.Prelude.{◌≡◌, ℕ, ◌*◌, ◌%◌, ◌<◌, ◌↔◌, IsTrue, All, length, map, option_map, slice_index, slice_index_or};
 ghost use Rattle.modular_word.specs.Inverses.{inverse_of};
 ghost use Rattle.modular_reduced.specs.Forms.{IsForm};
 ghost use Rattle.num_modular.specs.Ring.{whole, destination_of, outcome, value_at, IsStop, carried_out, IsFit, values_of, HoldValues, IsFormOf};
@@ -225,11 +225,16 @@ pub fn run<T: RingWord, R: Reducer<T>>(r: &R, regs: &mut [T], commands: &[RingCo
         HoldValues T.number R.form m regs.new (value_at m start wholes (carried_out result wholes)) }
     ensures checked { All (λ f. IsForm R.form R.value (R.modulus r.now) (T.number f)) regs.new }
 
-    // So its residue is that value.
+    // So its residue is that value: of each in the list of values, and of each register that is read.
     ensures residues { let m = R.modulus r.now in
         let start = values_of T.number R.value m regs.old in
         let wholes = map (whole T.number) commands.now in
         (n : ℕ) → n < length regs.old → slice_index (values_of T.number R.value m regs.new) n
+        ≡ value_at m start wholes (carried_out result wholes) n }
+    ensures read { let m = R.modulus r.now in
+        let start = values_of T.number R.value m regs.old in
+        let wholes = map (whole T.number) commands.now in
+        (n : ℕ) (other : T) → n < length regs.old → R.value m (T.number (slice_index_or regs.new n other))
         ≡ value_at m start wholes (carried_out result wholes) n }
 {
     'commands: for (at, command) in commands.iter().enumerate() {

@@ -66,6 +66,10 @@ pub returns-in-None-clause-residues : goal.returns-in-None-clause-residues
 returns-in-None-clause-residues g c n h =
     residues_are c.commands.regs (g.met.R.Reducer.canonical c.args.r.now) c.commands.invariant.held n (omega arith)
 
+pub returns-in-None-clause-read : goal.returns-in-None-clause-read
+returns-in-None-clause-read g c n other h =
+    (g.met.R.Reducer.canonical c.args.r.now).one_value _ _ (c.commands.invariant.held.each n other (omega arith))
+
 -- no command lacked its inverse
 never : (g : _) (c : goal.After-commands g) → (at : ℕ) → IsStop (g.R.Reducer.modulus c.args.r.now) (values_of g.T.RingWord.number g.R.Reducer.value (g.R.Reducer.modulus c.args.r.now) c.args.regs.now) (map (whole g.T.RingWord.number) c.args.commands.now) at → ⊥
 never g c =
@@ -96,3 +100,6 @@ returns-clause-checked g c = all_forms (g.met.R.Reducer.canonical c.args.r.now) 
 
 pub returns-clause-residues : goal.returns-clause-residues
 returns-clause-residues g c n h = residues_are c.commands.regs (g.met.R.Reducer.canonical c.args.r.now) (holds_last g c) n (omega arith)
+
+pub returns-clause-read : goal.returns-clause-read
+returns-clause-read g c n other h = (g.met.R.Reducer.canonical c.args.r.now).one_value _ _ ((holds_last g c).each n other (omega arith))
