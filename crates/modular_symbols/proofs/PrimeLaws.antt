@@ -1,5 +1,5 @@
 -- What holds of a prime: coprime numbers, Fermat's theorem, and that the symbols over an odd prime are there.
-use Rattle.std.proofs.Common.{◌≡◌, ◌≢◌, ℕ, zero, suc, ◌+◌, ◌-◌, ◌*◌, ◌/◌, ◌%◌, ◌^◌, ◌<◌, ◌≤◌, ℤ, pos, negsuc, nat_abs, Some, IsSome, sym, ◌∙◌, ap, subst, arith, ⊎_elim, inl, inr, refl, ◌⊎◌}
+use Rattle.std.proofs.Common.{◌≡◌, ◌≢◌, ℕ, ◌+◌, ◌-◌, ◌*◌, ◌/◌, ◌%◌, ◌^◌, ◌<◌, ℤ, pos, negsuc, nat_abs, Some, IsSome, sym, ◌∙◌, ap, subst, arith, ⊎_elim, inl, inr, refl, ◌⊎◌}
 use Rattle.std.proofs.lemmas.Bool.{cond-false, ne_eqb, cases_eq}
 use Rattle.std.proofs.lemmas.Nat.{mod_below, mul-mod, mul-mod_second, pow-add}
 use Rattle.std.proofs.Math.Nat.{mod-eq_of_lt}

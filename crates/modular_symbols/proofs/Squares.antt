@@ -2,13 +2,11 @@
 -- one, the numbers below p fall into pairs of product a, so that their product is a^((p - 1)/2); and it is -1, by the
 -- pairs of product 1 (Wilson's theorem). Dirichlet's proof: Hardy and Wright, "An Introduction to the Theory of Numbers",
 -- section 6.5 and 6.6.
-use Rattle.std.proofs.Common.{◌≡◌, ◌≢◌, ℕ, zero, suc, ◌+◌, ◌-◌, ◌*◌, ◌/◌, ◌%◌, ◌^◌, ◌<◌, ◌≤◌, ◌↔◌, cond, eqb, ltb, ℤ, pos, negsuc, ◌*ℤ◌, Some, None, sym, ◌∙◌, ap, refl, arith, ⊎_elim, inl, inr, ◌⊎◌}
+use Rattle.std.proofs.Common.{◌≡◌, ◌≢◌, ℕ, zero, suc, ◌+◌, ◌-◌, ◌*◌, ◌/◌, ◌%◌, ◌^◌, ◌<◌, ◌≤◌, cond, eqb, ltb, ℤ, pos, negsuc, ◌*ℤ◌, Some, None, sym, ◌∙◌, ap, arith, ⊎_elim, inl, inr, ◌⊎◌}
 use Rattle.std.proofs.lemmas.Bool.Decides.{nat_tests}
 use Rattle.std.proofs.lemmas.Bool.{cases_eq}
-use Rattle.std.proofs.lemmas.Int.{ints}
 use Rattle.std.proofs.lemmas.Nat.{mod_below, mul-mod_second}
-use Rattle.std.proofs.Math.Nat.{mod-eq_of_lt, mul-zero, mul-one, mul_comm, one-mul, pow-suc, pow-zero, zero-mod, add-mul-mod_self_left, mod-mod}
-use Rattle.modular_word.specs.Divisors.{Coprime}
+use Rattle.std.proofs.Math.Nat.{mod-eq_of_lt, mul-zero, mul-one, mul_comm, one-mul, pow-suc, pow-zero, zero-mod, add-mul-mod_self_left}
 use Rattle.modular_word.specs.Residues.{residue}
 use Rattle.modular_word.specs.Sums.{sum_to, Permutes}
 use Rattle.modular_word.proofs.Congruence.{same_product, same_without}
@@ -16,7 +14,6 @@ use Rattle.modular_word.proofs.Divisors.{coprime_cancel}
 use Rattle.modular_word.proofs.Powers.{pow-one}
 use Rattle.modular_word.proofs.Sums.{sum_to-same, sum_to-add, sum_to-ones, sum_to-permuted, last_or_before}
 use Rattle.modular_symbols.specs.Jacobi.{half_system_count, sign, jacobi}
-use Rattle.modular_symbols.specs.Legendre.{classed_power}
 use Rattle.modular_symbols.specs.Primes.{IsPrime}
 use Rattle.modular_symbols.proofs.Euler.{below_coprime, cancel_below, square_of_last, classed_power-jacobi}
 use Rattle.modular_symbols.proofs.JacobiLaws.{jacobi-residue, jacobi-product, jacobi-coprime, sign-values}
