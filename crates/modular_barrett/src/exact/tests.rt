@@ -5,14 +5,14 @@ use super::*;
 #[test]
 fn rows(rt: HostRuntime) {
     let divider = PreMulInv1by1::<u8>::new(3);
-    assert_eq!(rt; 255u8.div_exact(3, &divider), Some(85));
-    assert_eq!(rt; 254u8.div_exact(3, &divider), None);
+    let found = (255u8.div_exact(3, &divider), 254u8.div_exact(3, &divider));
+    assert!(rt; found == (Some(85), None));
     let mut number = 254u8;
-    assert_eq!(rt; number.div_exact_assign(3, &divider), false);
-    assert_eq!(rt; number, 254);
+    let found = (number.div_exact_assign(3, &divider), number);
+    assert!(rt; found == (false, 254));
     number = 255;
-    assert_eq!(rt; number.div_exact_assign(3, &divider), true);
-    assert_eq!(rt; number, 85);
+    let found = (number.div_exact_assign(3, &divider), number);
+    assert!(rt; found == (true, 85));
 }
 
 #[test]
@@ -23,27 +23,27 @@ fn wider_words(rt: HostRuntime) {
         10u64.div_exact(4, &PreMulInv1by1::<u64>::new(4)),
         10usize.div_exact(5, &PreMulInv1by1::<usize>::new(5)),
     );
-    assert_eq!(rt; found, (Some(255), Some(2), None, Some(2)));
+    assert!(rt; found == (Some(255), Some(2), None, Some(2)));
 }
 
 #[test]
 fn narrow_words_in_place(rt: HostRuntime) {
     let mut number = 65535u16;
     let stored = number.div_exact_assign(255, &PreMulInv1by1::<u16>::new(255));
-    assert_eq!(rt; (stored, number), (true, 257));
+    assert!(rt; (stored, number) == (true, 257));
     let mut number = u32::MAX;
     let stored = number.div_exact_assign(641, &PreMulInv1by1::<u32>::new(641));
-    assert_eq!(rt; (stored, number), (false, u32::MAX));
+    assert!(rt; (stored, number) == (false, u32::MAX));
 }
 
 #[test]
 fn wide_words_in_place(rt: HostRuntime) {
     let mut number = u64::MAX;
     let stored = number.div_exact_assign(641, &PreMulInv1by1::<u64>::new(641));
-    assert_eq!(rt; (stored, number), (true, 28778071877862015));
+    assert!(rt; (stored, number) == (true, 28778071877862015));
     let mut number = usize::MAX;
     let stored = number.div_exact_assign(641, &PreMulInv1by1::<usize>::new(641));
-    assert_eq!(rt; (stored, number), (true, 28778071877862015));
+    assert!(rt; (stored, number) == (true, 28778071877862015));
 }
 
 #[test]
@@ -52,14 +52,13 @@ fn every_byte(rt: HostRuntime) {
         let divider = PreMulInv1by1::<u8>::new(d);
         for n in 0..=255u8 {
             let want = if n % d == 0 { Some(n / d) } else { None };
-            assert_eq!(rt; n.div_exact(d, &divider), want, "{n} by {d}");
+            assert!(rt; n.div_exact(d, &divider) == want, "{n} by {d}");
             let mut number = n;
-            assert_eq!(rt;
-                number.div_exact_assign(d, &divider),
-                want.is_some(),
+            assert!(rt;
+                number.div_exact_assign(d, &divider) == want.is_some(),
                 "{n} by {d}"
             );
-            assert_eq!(rt; number, want.unwrap_or(n), "{n} by {d}");
+            assert!(rt; number == want.unwrap_or(n), "{n} by {d}");
         }
     }
 }

@@ -5,43 +5,46 @@ use super::*;
 #[test]
 fn rows(rt: HostRuntime) {
     let divider = Normalized2by1Divisor::<u8>::new(130);
-    assert_eq!(rt; divider.reciprocal, 248);
-    assert_eq!(rt; divider.div_rem_2by1(33023), (254, 3));
+    let found = (divider.reciprocal, divider.div_rem_2by1(33023));
+    assert!(rt; found == (248, (254, 3)));
     let divider = Normalized2by1Divisor::<u8>::new(255);
-    assert_eq!(rt; divider.reciprocal, 1);
-    assert_eq!(rt; divider.div_rem_2by1(65279), (255, 254));
+    let found = (divider.reciprocal, divider.div_rem_2by1(65279));
+    assert!(rt; found == (1, (255, 254)));
     let divider = Normalized2by1Divisor::<u64>::new(u64::MAX);
-    assert_eq!(rt; divider.div_rem_2by1(0), (0, 0));
-    assert_eq!(rt; Normalized2by1Divisor::<u8>::invert_word(128), 255);
+    let found = (
+        divider.div_rem_2by1(0),
+        Normalized2by1Divisor::<u8>::invert_word(128),
+    );
+    assert!(rt; found == ((0, 0), 255));
     let divider = Normalized2by1Divisor::<u8>::new(128);
-    assert_eq!(rt; divider.divisor(), 128);
-    assert_eq!(rt; divider.div_rem_2by1(32767), (255, 127));
-    assert_eq!(rt; divider.div_rem_1by1(255), (1, 127));
+    let found = (
+        divider.divisor(),
+        divider.div_rem_2by1(32767),
+        divider.div_rem_1by1(255),
+    );
+    assert!(rt; found == (128, (255, 127), (1, 127)));
 }
 
 #[test]
 fn wider_words(rt: HostRuntime) {
-    assert_eq!(rt;
+    let found = (
         Normalized2by1Divisor::<u16>::new(65535).div_rem_2by1(4294901759),
-        (65535, 65534)
-    );
-    assert_eq!(rt;
         Normalized2by1Divisor::<u32>::new(1 << 31).div_rem_2by1(1 << 62),
-        (1 << 31, 0)
-    );
-    assert_eq!(rt;
         Normalized2by1Divisor::<usize>::new(usize::MAX).div_rem_1by1(usize::MAX),
-        (1, 0)
     );
+    assert!(rt; found == ((65535, 65534), (1 << 31, 0), (1, 0)));
 }
 
 #[test]
 fn equality_and_copies(rt: HostRuntime) {
     let divider = Normalized2by1Divisor::<u8>::new(130);
     let copy = divider;
-    assert_eq!(rt; copy == divider, true);
-    assert_eq!(rt; divider == Normalized2by1Divisor::new(131), false);
-    assert_eq!(rt; format!(in rt.alloc(); "{divider:?}").is_ok(), true);
+    let found = (
+        copy == divider,
+        divider == Normalized2by1Divisor::new(131),
+        format!(in rt.alloc(); "{divider:?}").is_ok(),
+    );
+    assert!(rt; found == (true, false, true));
 }
 
 #[test]
@@ -49,15 +52,14 @@ fn every_double_byte(rt: HostRuntime) {
     for d in 128..=255u8 {
         let divider = Normalized2by1Divisor::<u8>::new(d);
         for a in 0..=255u8 {
-            assert_eq!(rt; divider.div_rem_1by1(a), (a / d, a % d), "{a} by {d}");
+            assert!(rt; divider.div_rem_1by1(a) == (a / d, a % d), "{a} by {d}");
         }
         for high in 0..d {
             for low in 0..=255u8 {
                 let a = low as u16 + 256 * high as u16;
                 let (q, r) = divider.div_rem_2by1(a);
-                assert_eq!(rt;
-                    (q as u16, r as u16),
-                    (a / d as u16, a % d as u16),
+                assert!(rt;
+                    (q as u16, r as u16) == (a / d as u16, a % d as u16),
                     "{a} by {d}"
                 );
             }

@@ -41,44 +41,50 @@ fn power<T: RingWord, R: Reducer<T>>(r: &R, n: T, exp: T) -> T {
 #[test]
 fn parts_of_a_ring(rt: HostRuntime) {
     let ring = PreMulInv2by1::<u8>::new(21);
-    assert_eq!(rt;
+    let found = (
         (ring.divisor(), ring.modulus(), ring.shift()),
-        (168, 21, 3)
+        ring.divider().divisor(),
     );
-    assert_eq!(rt; ring.divider().divisor(), 168);
+    assert!(rt; found == ((168, 21, 3), 168));
 }
 
 #[test]
 fn rows(rt: HostRuntime) {
     let ring = PreMulInv2by1::<u8>::new(21);
     let checks = [ring.check(&40), ring.check(&41), ring.check(&168)];
-    assert_eq!(rt; checks, [true, false, false]);
+    assert!(rt; checks == [true, false, false]);
     let forms = [ring.transform(5), ring.transform(7), ring.transform(17)];
-    assert_eq!(rt; forms, [40, 56, 136]);
-    assert_eq!(rt; [inverse(&ring, 5), inverse(&ring, 7)], [Some(17), None]);
-    assert_eq!(rt; ring.is_zero(&ring.transform(42)), true);
+    let found = (
+        forms,
+        [inverse(&ring, 5), inverse(&ring, 7)],
+        ring.is_zero(&ring.transform(42)),
+    );
+    assert!(rt; found == ([40, 56, 136], [Some(17), None], true));
 }
 
 #[test]
 fn widest_words(rt: HostRuntime) {
     let ring = PreMulInv2by1::<u64>::new(u64::MAX);
-    assert_eq!(rt; of_two(&ring, u64::MAX - 1, u64::MAX - 1).2, 1);
+    assert!(rt; of_two(&ring, u64::MAX - 1, u64::MAX - 1).2 == 1);
     let ring = PreMulInv2by1::<usize>::new(1000);
-    assert_eq!(rt; power(&ring, 2, 10), 24);
+    assert!(rt; power(&ring, 2, 10) == 24);
     let ring = PreMulInv2by1::<u32>::new(5000);
-    assert_eq!(rt; inverse(&ring, 3), Some(1667));
+    assert!(rt; inverse(&ring, 3) == Some(1667));
     let ring = PreMulInv2by1::<u16>::new(7);
-    assert_eq!(rt; power(&ring, 255, 255), 6);
+    assert!(rt; power(&ring, 255, 255) == 6);
 }
 
 #[test]
 fn equality_and_copies(rt: HostRuntime) {
     let ring = PreMulInv2by1::<u8>::new(21);
     let copy = ring;
-    assert_eq!(rt; copy == ring, true);
+    assert!(rt; copy == ring);
     // the same divisor, of another modulus
-    assert_eq!(rt; ring == PreMulInv2by1::new(42), false);
-    assert_eq!(rt; format!(in rt.alloc(); "{ring:?}").is_ok(), true);
+    let found = (
+        ring == PreMulInv2by1::new(42),
+        format!(in rt.alloc(); "{ring:?}").is_ok(),
+    );
+    assert!(rt; found == (false, true));
 }
 
 // Each modulus has as many checked forms as values.
@@ -91,9 +97,9 @@ fn forms_of_every_modulus(rt: HostRuntime) {
             if ring.check(&f) {
                 forms = forms.wrapping_add(1);
             }
-            assert_eq!(rt; value(&ring, f), f % m, "{f} modulo {m}");
+            assert!(rt; value(&ring, f) == f % m, "{f} modulo {m}");
         }
-        assert_eq!(rt; forms, m as u16, "{m}");
+        assert!(rt; forms == m as u16, "{m}");
     }
 }
 
@@ -112,7 +118,7 @@ fn operations_on_bytes(rt: HostRuntime) {
                         ((n + less) % modulus) as u8,
                         (n * k % modulus) as u8,
                     );
-                    assert_eq!(rt; of_two(&ring, a, b), want, "{a} and {b} modulo {m}");
+                    assert!(rt; of_two(&ring, a, b) == want, "{a} and {b} modulo {m}");
                 }
                 let n = a as u32;
                 let want = (
@@ -120,7 +126,7 @@ fn operations_on_bytes(rt: HostRuntime) {
                     ((256 * modulus - n) % modulus) as u8,
                     (n * n % modulus) as u8,
                 );
-                assert_eq!(rt; of_one(&ring, a), want, "{a} modulo {m}");
+                assert!(rt; of_one(&ring, a) == want, "{a} modulo {m}");
             }
         }
     }
