@@ -291,4 +291,4 @@ impl<const P: u8, const K: u64> Reducer<u128> for FixedMersenne<P, K> {
 }
 
 #[cfg(test)]
-mod tests;
+pub mod tests;
