@@ -8,139 +8,188 @@ use crate::power::pow_counted;
 use crate::reducer::Reducer;
 use crate::vanilla::Vanilla;
 use modular_word::ring_word::RingWord;
-use std::test::Fail;
 
-// The residues that each call leaves of a and b, the inverse of each, and what the tests answer.
-#[derive(Drop)]
-struct Answers<T> {
-    modulus: T,
-    added: [T; 3],
-    subtracted: [T; 3],
-    multiplied: [T; 4],
-    inverses: (Option<T>, Option<T>),
-    tests: [bool; 4],
-}
-
-fn exercise<T: RingWord, R: Reducer<T> + Copy>(m: T, a: T, b: T, exp: T) -> Answers<T>
-    requires { R.admits (T.number m) }
-{
-    let r = R::new(&m);
+// The residues of a sum, of one in place, and of a double.
+fn added<T: RingWord, R: Reducer<T>>(r: &R, a: T, b: T) -> [T; 3] {
     let f = r.transform(a);
     let g = r.transform(b);
     let mut sum = f;
     r.add_in_place(&mut sum, &g);
+    [
+        r.residue(r.add(&f, &g)),
+        r.residue(sum),
+        r.residue(r.dbl(f)),
+    ]
+}
+
+// Those of a difference, of one in place, and of a negative.
+fn subtracted<T: RingWord, R: Reducer<T>>(r: &R, a: T, b: T) -> [T; 3] {
+    let f = r.transform(a);
+    let g = r.transform(b);
     let mut difference = f;
     r.sub_in_place(&mut difference, &g);
+    [
+        r.residue(r.sub(&f, &g)),
+        r.residue(difference),
+        r.residue(r.neg(f)),
+    ]
+}
+
+// Those of a product, of one in place, of a square and of a power.
+fn multiplied<T: RingWord, R: Reducer<T>>(r: &R, a: T, b: T, exp: T) -> [T; 4] {
+    let f = r.transform(a);
+    let g = r.transform(b);
     let mut product = f;
     r.mul_in_place(&mut product, &g);
-    let of_f = match r.inv(f) {
+    [
+        r.residue(r.mul(&f, &g)),
+        r.residue(product),
+        r.residue(r.sqr(f)),
+        r.residue(r.pow(f, &exp)),
+    ]
+}
+
+fn inverse<T: RingWord, R: Reducer<T>>(r: &R, a: T) -> Option<T> {
+    match r.inv(r.transform(a)) {
         Some(x) => Some(r.residue(x)),
         None => None,
-    };
-    let of_g = match r.inv(g) {
-        Some(x) => Some(r.residue(x)),
-        None => None,
-    };
-    Answers {
-        modulus: r.modulus(),
-        added: [
-            r.residue(r.add(&f, &g)),
-            r.residue(sum),
-            r.residue(r.dbl(f)),
-        ],
-        subtracted: [
-            r.residue(r.sub(&f, &g)),
-            r.residue(difference),
-            r.residue(r.neg(f)),
-        ],
-        multiplied: [
-            r.residue(r.mul(&f, &g)),
-            r.residue(product),
-            r.residue(r.sqr(f)),
-            r.residue(r.pow(f, &exp)),
-        ],
-        inverses: (of_f, of_g),
-        tests: [
-            r.check(&f),
-            r.check(&m),
-            r.is_zero(&f),
-            r.is_zero(&r.sub(&f, &f)),
-        ],
     }
+}
+
+// Whether a form and the modulus are forms, and whether a form and a difference of equal forms are 0.
+fn tests<T: RingWord, R: Reducer<T>>(r: &R, a: T, m: T) -> [bool; 4] {
+    let f = r.transform(a);
+    [
+        r.check(&f),
+        r.check(&m),
+        r.is_zero(&f),
+        r.is_zero(&r.sub(&f, &f)),
+    ]
+}
+
+// The modulus, the residues that each call leaves of a and b, the inverse of each, and the tests.
+fn exercise<T: RingWord, R: Reducer<T> + Copy>(
+    m: T,
+    a: T,
+    b: T,
+    exp: T,
+) -> (T, [T; 3], [T; 3], [T; 4], [Option<T>; 2], [bool; 4])
+    requires { R.admits (T.number m) }
+{
+    let r = R::new(&m);
+    (
+        r.modulus(),
+        added(&r, a, b),
+        subtracted(&r, a, b),
+        multiplied(&r, a, b, exp),
+        [inverse(&r, a), inverse(&r, b)],
+        tests(&r, a, m),
+    )
 }
 
 macro_rules! at_greatest_modulus {
     ($rt:expr, $word:ty) => {
         let m = <$word>::MAX;
         let got = exercise::<$word, Vanilla<$word>>(m, m - 1, m - 2, 3);
-        assert_eq!($rt; got.modulus, m);
-        assert_eq!($rt; got.added, [m - 3, m - 3, m - 2]);
-        assert_eq!($rt; got.subtracted, [1, 1, 1]);
-        assert_eq!($rt; got.multiplied, [2, 2, 1, m - 1]);
-        assert_eq!($rt; got.inverses, (Some(m - 1), Some(m / 2)));
-        assert_eq!($rt; got.tests, [true, false, false, true]);
+        let added = [m - 3, m - 3, m - 2];
+        let inverses = [Some(m - 1), Some(m / 2)];
+        let tests = [true, false, false, true];
+        assert!($rt; got == (m, added, [1; 3], [2, 2, 1, m - 1], inverses, tests));
     };
 }
 
 #[test]
-fn at_each_width(rt: HostRuntime) -> Result<(), Fail> {
+fn at_each_width(rt: HostRuntime) {
     at_greatest_modulus!(rt, u8);
     at_greatest_modulus!(rt, u16);
     at_greatest_modulus!(rt, u32);
     at_greatest_modulus!(rt, u64);
     at_greatest_modulus!(rt, usize);
-    Ok(())
 }
 
 #[test]
-fn without_an_inverse(rt: HostRuntime) -> Result<(), Fail> {
+fn without_an_inverse(rt: HostRuntime) {
     let got = exercise::<u8, Vanilla<u8>>(21, 26, 7, 0);
-    assert_eq!(rt; got.added, [12, 12, 10]);
-    assert_eq!(rt; got.subtracted, [19, 19, 16]);
-    assert_eq!(rt; got.multiplied, [14, 14, 4, 1]);
-    assert_eq!(rt; got.inverses, (Some(17), None));
-    assert_eq!(rt; got.tests, [true, false, false, true]);
-    Ok(())
+    let inverses = [Some(17), None];
+    let tests = [true, false, false, true];
+    assert!(rt;
+        got == (
+            21,
+            [12, 12, 10],
+            [19, 19, 16],
+            [14, 14, 4, 1],
+            inverses,
+            tests
+        )
+    );
 }
 
 #[test]
-fn of_modulus_one(rt: HostRuntime) -> Result<(), Fail> {
+fn of_modulus_one(rt: HostRuntime) {
     let got = exercise::<u8, Vanilla<u8>>(1, 255, 0, 0);
-    assert_eq!(rt; got.added, [0, 0, 0]);
-    assert_eq!(rt; got.subtracted, [0, 0, 0]);
-    assert_eq!(rt; got.multiplied, [0, 0, 0, 0]);
-    assert_eq!(rt; got.inverses, (Some(0), Some(0)));
-    assert_eq!(rt; got.tests, [true, false, true, true]);
-    Ok(())
+    let tests = [true, false, true, true];
+    assert!(rt; got == (1, [0; 3], [0; 3], [0; 4], [Some(0); 2], tests));
+}
+
+// An exponent, the power of 5 modulo 21 and the number of products.
+const COUNTED_POWERS: &[(u8, u8, u32)] = &[
+    (0, 1, 0),
+    (1, 5, 0),
+    (2, 4, 1),
+    (3, 20, 4),
+    (4, 16, 4),
+    (255, 20, 16),
+];
+
+fn counted_power<T: RingWord, R: Reducer<T>>(r: &R, a: T, exp: T) -> (T, u32) {
+    pow_counted(r, r.transform(a), &exp)
 }
 
 #[test]
-fn products_counted(rt: HostRuntime) -> Result<(), Fail> {
+fn products_counted(rt: HostRuntime) {
     let r = Vanilla::<u8>::new(&21);
-    for (exp, power, count) in [
-        (0u8, 1u8, 0u32),
-        (1, 5, 0),
-        (2, 4, 1),
-        (3, 20, 4),
-        (4, 16, 4),
-        (255, 20, 16),
-    ] {
-        assert_eq!(rt; pow_counted(&r, 5, &exp), (power, count), "exponent {exp}");
+    for &(exp, power, count) in COUNTED_POWERS {
+        assert!(rt;
+            counted_power(&r, 5, exp) == (power, count),
+            "exponent {exp}"
+        );
     }
-    Ok(())
+}
+
+// Both sides of the laws of sums.
+fn laws_of_sums<T: RingWord, R: Reducer<T>>(r: &R, x: T, y: T, z: T) -> [(T, T); 3] {
+    let a = r.transform(x);
+    let b = r.transform(y);
+    let c = r.transform(z);
+    [
+        sums_commute(r, a, b),
+        sums_associate(r, a, b, c),
+        negative_cancels(r, b),
+    ]
+}
+
+// Both sides of the laws of products.
+fn laws_of_products<T: RingWord, R: Reducer<T>>(r: &R, x: T, y: T, z: T) -> [(T, T); 3] {
+    let a = r.transform(x);
+    let b = r.transform(y);
+    let c = r.transform(z);
+    [
+        products_commute(r, a, b),
+        products_associate(r, a, b, c),
+        products_distribute(r, a, b, c),
+    ]
+}
+
+// Whether the forms of two numbers have one value.
+fn same<T: RingWord, R: Reducer<T>>(r: &R, x: T, y: T) -> bool {
+    same_value(r, r.transform(x), r.transform(y))
 }
 
 #[test]
-fn laws(rt: HostRuntime) -> Result<(), Fail> {
+fn laws(rt: HostRuntime) {
     let r = Vanilla::<u8>::new(&21);
-    assert_eq!(rt; sums_commute(&r, 20, 5), (4, 4));
-    assert_eq!(rt; sums_associate(&r, 20, 5, 19), (2, 2));
-    assert_eq!(rt; products_commute(&r, 20, 5), (16, 16));
-    assert_eq!(rt; products_associate(&r, 20, 5, 19), (10, 10));
-    assert_eq!(rt; products_distribute(&r, 20, 5, 19), (18, 18));
-    assert_eq!(rt; negative_cancels(&r, 5), (16, 0));
-    assert_eq!(rt; residue_by_form(&r, 255), 3);
-    assert_eq!(rt; same_value(&r, 5, 5), true);
-    assert_eq!(rt; same_value(&r, 5, 6), false);
-    Ok(())
+    assert!(rt; laws_of_sums(&r, 20, 5, 19) == [(4, 4), (2, 2), (16, 0)]);
+    assert!(rt; laws_of_products(&r, 20, 5, 19) == [(16, 16), (10, 10), (18, 18)]);
+    assert!(rt; residue_by_form(&r, 255) == 3);
+    assert!(rt; same(&r, 5, 5) && !same(&r, 5, 6));
 }
