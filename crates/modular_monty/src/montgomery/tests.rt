@@ -5,7 +5,6 @@ ghost use Rattle.std.specs.Prelude.{◌≤◌};
 use super::Montgomery;
 use modular_reduced::reducer::Reducer;
 use modular_word::ring_word::RingWord;
-use std::test::Fail;
 
 // The residue of a product.
 fn product<T: RingWord, R: Reducer<T>>(ring: &R, x: T, y: T) -> T {
@@ -73,42 +72,46 @@ fn registers<R: Reducer<u8>>(ring: &R, v: u8, exp: u8) -> ([u8; 5], [u8; 5]) {
     )
 }
 
-#[test]
-fn rows(rt: HostRuntime) -> Result<(), Fail> {
-    let ring = Montgomery::<u8>::new(21);
-    assert_eq!(rt;
-        (ring.transform(5), ring.transform(7), ring.transform(17)),
-        (20, 7, 5)
-    );
-    let ring = Montgomery::<u8>::new(1);
-    assert_eq!(rt; ring.transform(255), 0);
-    assert_eq!(rt; inverse(&ring, 255) == Some(0), true);
-    let ring = Montgomery::<u64>::new(18446744073709551615);
-    assert_eq!(rt;
-        product(&ring, 18446744073709551614, 18446744073709551614),
-        1
-    );
-    assert_eq!(rt; sum_is_zero(&Montgomery::<u8>::new(11), 5, 6), true);
-    assert_eq!(rt; sum_is_zero(&Montgomery::<u8>::new(11), 5, 7), false);
-    assert_eq!(rt; product(&Montgomery::<u8>::new(5), 12, 13), 1);
-    assert_eq!(rt; product(&Montgomery::<u16>::new(65535), 65534, 65533), 2);
-    assert_eq!(rt;
-        product(&Montgomery::<u32>::new(4294967295), 4294967294, 4294967293),
-        2
-    );
-    assert_eq!(rt; product(&Montgomery::<usize>::new(3), 5, 7), 2);
-    Ok(())
+fn forms<T: RingWord, R: Reducer<T>>(ring: &R, words: [T; 3]) -> [T; 3] {
+    let [x, y, z] = words;
+    [ring.transform(x), ring.transform(y), ring.transform(z)]
 }
 
 #[test]
-fn five_registers(rt: HostRuntime) -> Result<(), Fail> {
+fn rows_of_bytes(rt: HostRuntime) {
+    let ring = Montgomery::<u8>::new(21);
+    assert!(rt; forms(&ring, [5, 7, 17]) == [20, 7, 5]);
+    let ring = Montgomery::<u8>::new(1);
+    let found = (forms(&ring, [255; 3]), inverse(&ring, 255));
+    assert!(rt; found == ([0; 3], Some(0)));
+    let ring = Montgomery::<u8>::new(11);
+    assert!(rt; sum_is_zero(&ring, 5, 6) && !sum_is_zero(&ring, 5, 7));
+    assert!(rt; product(&Montgomery::<u8>::new(5), 12, 13) == 1);
+}
+
+#[test]
+fn rows_of_each_width(rt: HostRuntime) {
+    let found = (
+        product(&Montgomery::<u16>::new(65535), 65534, 65533),
+        product(&Montgomery::<u32>::new(4294967295), 4294967294, 4294967293),
+        product(
+            &Montgomery::<u64>::new(18446744073709551615),
+            18446744073709551614,
+            18446744073709551614,
+        ),
+        product(&Montgomery::<usize>::new(3), 5, 7),
+    );
+    assert!(rt; found == (2, 2, 1, 2));
+}
+
+#[test]
+fn five_registers(rt: HostRuntime) {
     let (forms, values) = registers(&Montgomery::<u8>::new(255), 254, 255);
-    assert_eq!(rt; forms, [254, 1, 253, 254, 254]);
-    assert_eq!(rt; values, [254, 1, 253, 254, 254]);
+    let found = (forms, values);
+    assert!(rt; found == ([254, 1, 253, 254, 254], [254, 1, 253, 254, 254]));
     let (forms, values) = registers(&Montgomery::<u8>::new(253), 252, 255);
-    assert_eq!(rt; forms, [250, 3, 247, 250, 250]);
-    assert_eq!(rt; values, [252, 1, 251, 252, 252]);
-    Ok(())
+    let found = (forms, values);
+    assert!(rt; found == ([250, 3, 247, 250, 250], [252, 1, 251, 252, 252]));
 }
 
 // The forms of two numbers and of their product.
@@ -119,47 +122,54 @@ fn product_forms<R: Reducer<u8>>(ring: &R, x: u8, y: u8) -> (u8, u8, u8) {
 }
 
 #[test]
-fn even_moduli(rt: HostRuntime) -> Result<(), Fail> {
-    assert_eq!(rt;
-        product_forms(&Montgomery::<u8>::new(20), 7, 9),
-        (11, 17, 15)
-    );
+fn even_moduli_of_bytes(rt: HostRuntime) {
+    let ring = Montgomery::<u8>::new(20);
+    assert!(rt; product_forms(&ring, 7, 9) == (11, 17, 15));
     let ring = Montgomery::<u8>::new(254);
-    assert_eq!(rt; product_forms(&ring, 253, 253), (251, 251, 5));
-    assert_eq!(rt; inverse(&ring, 253) == Some(251), true);
-    assert_eq!(rt; inverse(&ring, 2) == None, true);
-    assert_eq!(rt; product(&Montgomery::<u16>::new(65534), 65533, 65533), 1);
-    assert_eq!(rt;
-        product(&Montgomery::<u32>::new(4294967294), 4294967293, 4294967293),
-        1
+    let found = (
+        product_forms(&ring, 253, 253),
+        inverse(&ring, 253),
+        inverse(&ring, 2),
     );
-    assert_eq!(rt;
-        product(
-            &Montgomery::<u64>::new(18446744073709551614),
-            18446744073709551613,
-            18446744073709551613
-        ),
-        1
-    );
-    assert_eq!(rt; product(&Montgomery::<usize>::new(6), 5, 7), 5);
+    assert!(rt; found == ((251, 251, 5), Some(251), None));
     let ring = Montgomery::<u8>::new(128);
     for v in 0..128 {
-        assert_eq!(rt; ring.transform(v), v);
+        assert!(rt; ring.transform(v) == v);
     }
-    Ok(())
 }
 
 #[test]
-fn each_modulus(rt: HostRuntime) -> Result<(), Fail> {
+fn even_moduli_of_each_width(rt: HostRuntime) {
+    let found = (
+        product(&Montgomery::<u16>::new(65534), 65533, 65533),
+        product(&Montgomery::<u32>::new(4294967294), 4294967293, 4294967293),
+        product(
+            &Montgomery::<u64>::new(18446744073709551614),
+            18446744073709551613,
+            18446744073709551613,
+        ),
+        product(&Montgomery::<usize>::new(6), 5, 7),
+    );
+    assert!(rt; found == (1, 1, 1, 5));
+}
+
+// Whether the residues of two numbers are the remainders.
+fn agree(ring: &Montgomery<u8>, m: u8, x: u8, y: u8) -> bool
+    requires { 1 ≤ m }
+{
+    residues(ring, x, y) == remainders(m, x, y)
+}
+
+#[test]
+fn each_modulus(rt: HostRuntime) {
     for m in 1..=255u8 {
         let ring = Montgomery::<u8>::new(m);
-        assert_eq!(rt; ring.modulus(), m);
+        assert!(rt; ring.modulus() == m);
         for x in [0, 1, 2, 84, 127, 128, 254, 255] {
-            assert_eq!(rt; ring.check(&x), x < m);
+            assert!(rt; ring.check(&x) == (x < m));
             for y in [0, 1, 3, 85, 126, 129, 253, 255] {
-                assert_eq!(rt; residues(&ring, x, y), remainders(m, x, y));
+                assert!(rt; agree(&ring, m, x, y));
             }
         }
     }
-    Ok(())
 }

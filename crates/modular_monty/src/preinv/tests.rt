@@ -2,78 +2,86 @@
 
 use super::PreModInv;
 use modular_prim::exact::{DivExact, DivExactAssign};
-use std::test::Fail;
+use modular_prim::plain_word::PlainWord;
 
 #[test]
-fn stored_numbers(rt: HostRuntime) -> Result<(), Fail> {
+fn stored_numbers(rt: HostRuntime) {
     let pre = PreModInv::<u8>::from(7);
-    assert_eq!(rt; (pre.d_inv, pre.q_lim), (183, 36));
+    assert!(rt; (pre.d_inv, pre.q_lim) == (183, 36));
     let same = PreModInv::<u8>::new(183, 36);
-    assert_eq!(rt; (same.d_inv, same.q_lim), (183, 36));
+    assert!(rt; (same.d_inv, same.q_lim) == (183, 36));
     let one = PreModInv::<u64>::from(1);
-    assert_eq!(rt; (one.d_inv, one.q_lim), (1, 18446744073709551615));
-    Ok(())
+    assert!(rt; (one.d_inv, one.q_lim) == (1, 18446744073709551615));
 }
 
 #[test]
-fn rows(rt: HostRuntime) -> Result<(), Fail> {
+fn rows(rt: HostRuntime) {
     let seven = PreModInv::<u8>::from(7);
-    assert_eq!(rt; 252u8.div_exact(7, &seven) == Some(36), true);
-    assert_eq!(rt; 253u8.div_exact(7, &seven) == None, true);
-    assert_eq!(rt; 65534u16.div_exact(7, &seven) == Some(9362), true);
-    assert_eq!(rt; 65535u16.div_exact(7, &seven) == None, true);
-    assert_eq!(rt; 1u16.div_exact(7, &seven) == None, true);
-    let mut word: u8 = 253;
-    assert_eq!(rt; (word.div_exact_assign(7, &seven), word), (false, 253));
-    word = 252;
-    assert_eq!(rt; (word.div_exact_assign(7, &seven), word), (true, 36));
-    let mut double: u16 = 65535;
-    assert_eq!(rt;
-        (double.div_exact_assign(7, &seven), double),
-        (false, 65535)
-    );
-    double = 65534;
-    assert_eq!(rt; (double.div_exact_assign(7, &seven), double), (true, 9362));
-    Ok(())
+    let words = [252u8.div_exact(7, &seven), 253u8.div_exact(7, &seven)];
+    assert!(rt; words == [Some(36), None]);
+    let doubles = [
+        65534u16.div_exact(7, &seven),
+        65535u16.div_exact(7, &seven),
+        1u16.div_exact(7, &seven),
+    ];
+    assert!(rt; doubles == [Some(9362), None, None]);
+}
+
+// Whether a number was divided in its place, and the number then.
+fn divided<T: PlainWord, N: DivExactAssign<T, PreModInv<T>> + Copy>(
+    number: N,
+    d: T,
+    pre: &PreModInv<T>,
+) -> (bool, N)
+    requires { N.fits d pre.now }
+{
+    let mut number = number;
+    (number.div_exact_assign(d, pre), number)
 }
 
 #[test]
-fn other_widths(rt: HostRuntime) -> Result<(), Fail> {
+fn rows_in_place(rt: HostRuntime) {
+    let seven = PreModInv::<u8>::from(7);
+    let words = [divided(253u8, 7, &seven), divided(252u8, 7, &seven)];
+    assert!(rt; words == [(false, 253), (true, 36)]);
+    let doubles = [divided(65535u16, 7, &seven), divided(65534u16, 7, &seven)];
+    assert!(rt; doubles == [(false, 65535), (true, 9362)]);
+}
+
+#[test]
+fn other_widths(rt: HostRuntime) {
     let three = PreModInv::<u16>::from(3);
-    assert_eq!(rt; 65535u16.div_exact(3, &three) == Some(21845), true);
-    assert_eq!(rt;
-        4294967295u32.div_exact(3, &three) == Some(1431655765),
-        true
+    let found = (
+        65535u16.div_exact(3, &three),
+        4294967295u32.div_exact(3, &three),
     );
+    assert!(rt; found == (Some(21845), Some(1431655765)));
     let three = PreModInv::<u32>::from(3);
-    assert_eq!(rt;
-        4294967295u32.div_exact(3, &three) == Some(1431655765),
-        true
+    let found = (
+        4294967295u32.div_exact(3, &three),
+        18446744073709551615u64.div_exact(3, &three),
     );
-    assert_eq!(rt;
-        18446744073709551615u64.div_exact(3, &three) == Some(6148914691236517205),
-        true
-    );
-    let three = PreModInv::<u64>::from(3);
-    assert_eq!(rt;
-        18446744073709551615u64.div_exact(3, &three) == Some(6148914691236517205),
-        true
-    );
-    assert_eq!(rt;
-        36893488147419103230u128.div_exact(3, &three) == Some(12297829382473034410),
-        true
-    );
-    let three = PreModInv::<usize>::from(3);
-    assert_eq!(rt;
-        18446744073709551614usize.div_exact(3, &three) == None,
-        true
-    );
-    assert_eq!(rt; 36893488147419103231u128.div_exact(3, &three) == None, true);
-    Ok(())
+    assert!(rt; found == (Some(1431655765), Some(6148914691236517205)));
 }
 
 #[test]
-fn each_odd_divisor_and_each_byte(rt: HostRuntime) -> Result<(), Fail> {
+fn the_widest_words(rt: HostRuntime) {
+    let three = PreModInv::<u64>::from(3);
+    let found = (
+        18446744073709551615u64.div_exact(3, &three),
+        36893488147419103230u128.div_exact(3, &three),
+    );
+    assert!(rt; found == (Some(6148914691236517205), Some(12297829382473034410)));
+    let three = PreModInv::<usize>::from(3);
+    let found = (
+        18446744073709551614usize.div_exact(3, &three),
+        36893488147419103231u128.div_exact(3, &three),
+    );
+    assert!(rt; found == (None, None));
+}
+
+#[test]
+fn each_odd_divisor_and_each_byte(rt: HostRuntime) {
     for half in 0..128 {
         let d: u8 = 2 * half + 1;
         let pre = PreModInv::<u8>::from(d);
@@ -82,7 +90,6 @@ fn each_odd_divisor_and_each_byte(rt: HostRuntime) -> Result<(), Fail> {
             let expected = if n % d == 0 { Some(n / d) } else { None };
             right = right && n.div_exact(d, &pre) == expected;
         }
-        assert_eq!(rt; right, true);
+        assert!(rt; right);
     }
-    Ok(())
 }

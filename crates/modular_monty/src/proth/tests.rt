@@ -3,7 +3,6 @@
 use super::{FixedProth32, FixedProth64};
 use modular_reduced::reducer::Reducer;
 use modular_word::ring_word::RingWord;
-use std::test::Fail;
 
 fn remainder<T: RingWord, R: Reducer<T>>(ring: &R, n: T) -> T {
     ring.residue(ring.transform(n))
@@ -31,78 +30,79 @@ fn edges<T: RingWord, R: Reducer<T>>(ring: &R, words: [T; 3]) -> [T; 6] {
 }
 
 #[test]
-fn small_moduli(rt: HostRuntime) -> Result<(), Fail> {
-    assert_eq!(rt; FixedProth32::<4, 1>::fixed_modulus(), 17);
+fn small_moduli(rt: HostRuntime) {
+    assert!(rt; FixedProth32::<4, 1>::fixed_modulus() == 17);
     let ring = FixedProth32::<4, 1>::new(&17);
-    assert_eq!(rt; (sum(&ring, 3, 5), product(&ring, 3, 5)), (8, 15));
-    assert_eq!(rt; FixedProth64::<5, 3>::fixed_modulus(), 97);
-    assert_eq!(rt; product(&FixedProth64::<5, 3>::new(&97), 10, 20), 6);
-    Ok(())
-}
-
-#[test]
-fn reductions_with_a_carry(rt: HostRuntime) -> Result<(), Fail> {
-    let ring = FixedProth32::<27, 17>::new(&2281701377);
-    assert_eq!(rt; remainder(&ring, 4294967295), 2013265918);
-    assert_eq!(rt; ring.of.shift_mul(4294967295), 9799832791171465215);
-    // (m - 1) * 2^32 + m: the sum is (2 * m - 1) * 2^32, which passes 64 bits
-    assert_eq!(rt; ring.reduce(9799832791439900673), 2281701376);
-    let ring = FixedProth32::<28, 9>::new(&2415919105);
-    assert_eq!(rt; ring.transform(4294967292), 2028179012);
-    assert_eq!(rt; remainder(&ring, 4294967292), 1879048187);
-    Ok(())
-}
-
-#[test]
-fn one_over_half_the_base(rt: HostRuntime) -> Result<(), Fail> {
-    let ring = FixedProth32::<31, 1>::new(&2147483649);
-    assert_eq!(rt; ring.transform(4294967295), 6);
-    assert_eq!(rt; remainder(&ring, 4294967295), 2147483646);
-    let ring = FixedProth64::<63, 1>::new(&9223372036854775809);
-    assert_eq!(rt; ring.transform(18446744073709551615), 6);
-    assert_eq!(rt; remainder(&ring, 18446744073709551615), 9223372036854775806);
-    Ok(())
-}
-
-#[test]
-fn edges_of_the_range(rt: HostRuntime) -> Result<(), Fail> {
-    assert_eq!(rt; FixedProth32::<1, 1>::fixed_modulus(), 3);
-    assert_eq!(rt;
-        edges(&FixedProth32::<1, 1>::new(&3), [2, 3, 4294967295]),
-        [0, 1, 2, 0, 0, 1]
+    let found = (
+        (sum(&ring, 3, 5), product(&ring, 3, 5)),
+        FixedProth64::<5, 3>::fixed_modulus(),
+        product(&FixedProth64::<5, 3>::new(&97), 10, 20),
     );
-    assert_eq!(rt; FixedProth32::<23, 255>::fixed_modulus(), 2139095041);
-    assert_eq!(rt;
+    assert!(rt; found == ((8, 15), 97, 6));
+}
+
+#[test]
+fn reductions_with_a_carry(rt: HostRuntime) {
+    let ring = FixedProth32::<27, 17>::new(&2281701377);
+    let found = (remainder(&ring, 4294967295), ring.of.shift_mul(4294967295));
+    assert!(rt; found == (2013265918, 9799832791171465215));
+    // (m - 1) * 2^32 + m: the sum is (2 * m - 1) * 2^32, which passes 64 bits
+    assert!(rt; ring.reduce(9799832791439900673) == 2281701376);
+    let ring = FixedProth32::<28, 9>::new(&2415919105);
+    let found = (ring.transform(4294967292), remainder(&ring, 4294967292));
+    assert!(rt; found == (2028179012, 1879048187));
+}
+
+#[test]
+fn one_over_half_the_base(rt: HostRuntime) {
+    let ring = FixedProth32::<31, 1>::new(&2147483649);
+    let found = (ring.transform(4294967295), remainder(&ring, 4294967295));
+    assert!(rt; found == (6, 2147483646));
+    let ring = FixedProth64::<63, 1>::new(&9223372036854775809);
+    let found = (
+        ring.transform(18446744073709551615),
+        remainder(&ring, 18446744073709551615),
+    );
+    assert!(rt; found == (6, 9223372036854775806));
+}
+
+#[test]
+fn edges_of_the_range(rt: HostRuntime) {
+    let found = (
+        FixedProth32::<1, 1>::fixed_modulus(),
+        edges(&FixedProth32::<1, 1>::new(&3), [2, 3, 4294967295]),
+        FixedProth32::<23, 255>::fixed_modulus(),
         edges(
             &FixedProth32::<23, 255>::new(&2139095041),
-            [2139095040, 2139095041, 4294967295]
+            [2139095040, 2139095041, 4294967295],
         ),
-        [0, 1, 2139095040, 0, 16777213, 1]
-    );
-    assert_eq!(rt;
         edges(
             &FixedProth32::<31, 1>::new(&2147483649),
-            [2147483648, 2147483649, 4294967295]
+            [2147483648, 2147483649, 4294967295],
         ),
-        [0, 1, 2147483648, 0, 2147483646, 1]
-    );
-    assert_eq!(rt;
         edges(
             &FixedProth32::<28, 9>::new(&2415919105),
-            [2415919104, 2415919105, 4294967295]
+            [2415919104, 2415919105, 4294967295],
         ),
-        [0, 1, 2415919104, 0, 1879048190, 1]
-    );
-    assert_eq!(rt;
         edges(
             &FixedProth64::<63, 1>::new(&9223372036854775809),
             [
                 9223372036854775808,
                 9223372036854775809,
-                18446744073709551615
-            ]
+                18446744073709551615,
+            ],
         ),
-        [0, 1, 9223372036854775808, 0, 9223372036854775806, 1]
     );
-    Ok(())
+    assert!(rt;
+        found
+            == (
+                3,
+                [0, 1, 2, 0, 0, 1],
+                2139095041,
+                [0, 1, 2139095040, 0, 16777213, 1],
+                [0, 1, 2147483648, 0, 2147483646, 1],
+                [0, 1, 2415919104, 0, 1879048190, 1],
+                [0, 1, 9223372036854775808, 0, 9223372036854775806, 1]
+            )
+    );
 }
