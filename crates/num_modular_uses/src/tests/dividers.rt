@@ -4,21 +4,19 @@ use num_modular::barrett::{Normalized2by1Divisor, PreMulInv1by1};
 use num_modular::monty::neg_mod_inv;
 use num_modular::preinv::PreModInv;
 use num_modular::{DivExact, DivExactAssign, PreMulInv2by1, Reducer};
-use std::test::Fail;
 
 #[test]
-fn a_divider_by_a_multiplier(rt: HostRuntime) -> Result<(), Fail> {
+fn a_divider_by_a_multiplier(rt: HostRuntime) {
     let three = PreMulInv1by1::<u8>::new(3);
-    assert_eq!(rt; three.div_rem(255, 3), (85, 0));
-    assert_eq!(rt; 255u8.div_exact(3, &three), Some(85));
+    let found = (three.div_rem(255, 3), 255u8.div_exact(3, &three));
+    assert!(rt; found == ((85, 0), Some(85)));
     let mut number = 254u8;
     assert!(rt; !number.div_exact_assign(3, &three));
-    assert_eq!(rt; number, 254);
-    Ok(())
+    assert!(rt; number == 254);
 }
 
 #[test]
-fn a_divider_by_a_reciprocal(rt: HostRuntime) -> Result<(), Fail> {
+fn a_divider_by_a_reciprocal(rt: HostRuntime) {
     let divisor = Normalized2by1Divisor::<u8>::new(128);
     let found = [
         (
@@ -28,41 +26,37 @@ fn a_divider_by_a_reciprocal(rt: HostRuntime) -> Result<(), Fail> {
         divisor.div_rem_1by1(255),
         divisor.div_rem_2by1(32767),
     ];
-    assert_eq!(rt; found, [(255, 128), (1, 127), (255, 127)]);
-    Ok(())
+    assert!(rt; found == [(255, 128), (1, 127), (255, 127)]);
 }
 
 #[test]
-fn the_parts_of_a_scaled_reducer(rt: HostRuntime) -> Result<(), Fail> {
+fn the_parts_of_a_scaled_reducer(rt: HostRuntime) {
     let reducer = PreMulInv2by1::<u8>::new(21);
-    assert_eq!(rt;
+    let found = (
         (reducer.divisor(), reducer.modulus(), reducer.shift()),
-        (168, 21, 3)
+        reducer.divider().divisor(),
     );
-    assert_eq!(rt; reducer.divider().divisor(), 168);
+    assert!(rt; found == ((168, 21, 3), 168));
     assert!(rt; reducer.check(&40) && !reducer.check(&41) && !reducer.check(&168));
-    Ok(())
 }
 
 #[test]
-fn prepared_inverses(rt: HostRuntime) -> Result<(), Fail> {
+fn prepared_inverses(rt: HostRuntime) {
     let seven = PreModInv::<u8>::from(7);
-    assert_eq!(rt; 252u8.div_exact(7, &seven), Some(36));
+    assert!(rt; 252u8.div_exact(7, &seven) == Some(36));
     let mut number = 253u8;
     assert!(rt; !number.div_exact_assign(7, &seven));
-    assert_eq!(rt; number, 253);
-    Ok(())
+    assert!(rt; number == 253);
 }
 
 #[test]
-fn a_prepared_inverse_from_its_parts(rt: HostRuntime) -> Result<(), Fail> {
+fn a_prepared_inverse_from_its_parts(rt: HostRuntime) {
     let seven = PreModInv::<u8>::new(183, 36);
-    assert_eq!(rt; 65534u16.div_exact(7, &seven), Some(9362));
-    Ok(())
+    assert!(rt; 65534u16.div_exact(7, &seven) == Some(9362));
 }
 
 #[test]
-fn negated_inverses(rt: HostRuntime) -> Result<(), Fail> {
+fn negated_inverses(rt: HostRuntime) {
     let found = [
         neg_mod_inv::w8::neginv(7) as u64,
         neg_mod_inv::w16::neginv(1) as u64,
@@ -71,6 +65,5 @@ fn negated_inverses(rt: HostRuntime) -> Result<(), Fail> {
         neg_mod_inv::wsize::neginv(1) as u64,
     ];
     let greatest = u64::MAX;
-    assert_eq!(rt; found, [73, 65535, 4294967295, greatest, greatest]);
-    Ok(())
+    assert!(rt; found == [73, 65535, 4294967295, greatest, greatest]);
 }

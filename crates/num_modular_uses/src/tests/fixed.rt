@@ -1,12 +1,11 @@
 //! The reducers of fixed moduli, and integers over them.
 
-use super::runs::run_over;
+use super::runs::{modulus, product, run_over, sum};
 use num_modular::ring::{RingCommand, RunEnd};
 use num_modular::{
     FixedMontgomery32, FixedMontgomery64, FixedMontgomeryInt32, FixedMontgomeryInt64, FixedProth32,
-    FixedProth64, FixedProthInt32, FixedProthInt64, ModularInteger, Reducer, Vanilla,
+    FixedProth64, FixedProthInt32, FixedProthInt64, Reducer, Vanilla,
 };
-use std::test::Fail;
 
 // 255, its inverse, its powers 0 and 1, and its negative.
 const OF_255: [RingCommand<u32>; 5] = [
@@ -26,11 +25,12 @@ const OF_255: [RingCommand<u32>; 5] = [
 ];
 
 #[test]
-fn modulo_1(rt: HostRuntime) -> Result<(), Fail> {
-    let found = run_over(&FixedMontgomery32::<1>::new(&1), &OF_255);
-    assert_eq!(rt; found, (Some(RunEnd::Done), [0; 5]));
-    assert_eq!(rt; run_over(&Vanilla::<u32>::new(&1), &OF_255), found);
-    Ok(())
+fn modulo_1(rt: HostRuntime) {
+    let found = [
+        run_over(&FixedMontgomery32::<1>::new(&1), &OF_255),
+        run_over(&Vanilla::<u32>::new(&1), &OF_255),
+    ];
+    assert!(rt; found == [(Some(RunEnd::Done), [0; 5]); 2]);
 }
 
 // 3 + 5, 3 * 5, and the missing inverse of 0.
@@ -43,12 +43,14 @@ const SMALL: [RingCommand<u32>; 5] = [
 ];
 
 #[test]
-fn modulo_17(rt: HostRuntime) -> Result<(), Fail> {
+fn modulo_17(rt: HostRuntime) {
     let end = (Some(RunEnd::NoInverse { at: 4 }), [3, 5, 8, 15, 0]);
-    assert_eq!(rt; run_over(&FixedMontgomery32::<17>::new(&17), &SMALL), end);
-    assert_eq!(rt; run_over(&FixedProth32::<4, 1>::new(&17), &SMALL), end);
-    assert_eq!(rt; run_over(&Vanilla::<u32>::new(&17), &SMALL), end);
-    Ok(())
+    let found = [
+        run_over(&FixedMontgomery32::<17>::new(&17), &SMALL),
+        run_over(&FixedProth32::<4, 1>::new(&17), &SMALL),
+        run_over(&Vanilla::<u32>::new(&17), &SMALL),
+    ];
+    assert!(rt; found == [end; 3]);
 }
 
 // 10, 20 and their product.
@@ -59,55 +61,53 @@ const PRODUCT: [RingCommand<u64>; 3] = [
 ];
 
 #[test]
-fn modulo_97(rt: HostRuntime) -> Result<(), Fail> {
+fn modulo_97(rt: HostRuntime) {
     let end = (Some(RunEnd::Done), [10, 20, 6, 0, 0]);
-    assert_eq!(rt; run_over(&FixedMontgomery64::<97>::new(&97), &PRODUCT), end);
-    assert_eq!(rt; run_over(&FixedProth64::<5, 3>::new(&97), &PRODUCT), end);
-    Ok(())
+    let found = [
+        run_over(&FixedMontgomery64::<97>::new(&97), &PRODUCT),
+        run_over(&FixedProth64::<5, 3>::new(&97), &PRODUCT),
+    ];
+    assert!(rt; found == [end; 2]);
 }
 
 #[test]
-fn fixed_moduli(rt: HostRuntime) -> Result<(), Fail> {
+fn fixed_moduli(rt: HostRuntime) {
     let found = [
         FixedMontgomery32::<17>::fixed_modulus(),
         FixedProth32::<4, 1>::fixed_modulus(),
     ];
-    assert_eq!(rt; found, [17, 17]);
+    assert!(rt; found == [17, 17]);
     let found = [
         FixedMontgomery64::<97>::fixed_modulus(),
         FixedProth64::<5, 3>::fixed_modulus(),
     ];
-    assert_eq!(rt; found, [97, 97]);
-    Ok(())
+    assert!(rt; found == [97, 97]);
 }
 
 #[test]
-fn integers_of_montgomery_forms(rt: HostRuntime) -> Result<(), Fail> {
+fn integers_of_montgomery_forms(rt: HostRuntime) {
     let x = FixedMontgomeryInt32::<17>::new(3, &17);
-    assert_eq!(rt; ((x * 5).residue(), x.modulus()), (15, 17));
+    assert!(rt; (product(x, 5), modulus(x)) == (15, 17));
     let x = FixedMontgomeryInt64::<97>::new(10, &97);
-    assert_eq!(rt; (x * 20).residue(), 6);
-    Ok(())
+    assert!(rt; product(x, 20) == 6);
 }
 
 #[test]
-fn integers_modulo_proth_numbers(rt: HostRuntime) -> Result<(), Fail> {
+fn integers_modulo_proth_numbers(rt: HostRuntime) {
     let x = FixedProthInt32::<4, 1>::new(3, &17);
-    assert_eq!(rt; ((x + 5).residue(), (x * 5).residue()), (8, 15));
+    assert!(rt; (sum(x, 5), product(x, 5)) == (8, 15));
     let x = FixedProthInt64::<5, 3>::new(10, &97);
-    assert_eq!(rt; (x * 20).residue(), 6);
-    Ok(())
+    assert!(rt; product(x, 20) == 6);
 }
 
 #[test]
-fn the_modules_of_the_source(rt: HostRuntime) -> Result<(), Fail> {
+fn the_modules_of_the_source(rt: HostRuntime) {
     let ring = num_modular::proth::FixedProth32::<27, 17>::new(&2281701377);
-    assert_eq!(rt; ring.reduce(9799832791439900673), 2281701376);
+    assert!(rt; ring.reduce(9799832791439900673) == 2281701376);
     let ring = num_modular::proth::FixedProth64::<63, 1>::new(&9223372036854775809);
-    assert_eq!(rt; ring.reduce(0), 0);
+    assert!(rt; ring.reduce(0) == 0);
     let ring = num_modular::monty::FixedMontgomery64::<97>::new(&97);
-    assert_eq!(rt; ring.modulus(), 97);
+    assert!(rt; ring.modulus() == 97);
     let ring = num_modular::monty::FixedMontgomery32::<17>::new(&17);
-    assert_eq!(rt; ring.modulus(), 17);
-    Ok(())
+    assert!(rt; ring.modulus() == 17);
 }

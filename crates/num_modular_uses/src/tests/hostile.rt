@@ -1,19 +1,11 @@
 //! Commands at the edges of a byte's moduli, with the forms that each reducer leaves.
 
+use super::runs::residue_of;
 use num_modular::ring::{RingCommand, RunEnd, all_checked, commands_fit, run};
 use num_modular::word::RingWord;
 use num_modular::{
     FixedMontgomery32, FixedTrinomialSolinas32, Montgomery, PreMulInv2by1, Reducer, Vanilla,
 };
-
-// The residue of a form; a word that is no form is left.
-fn residue_of<T: RingWord, R: Reducer<T>>(reducer: &R, f: T) -> T {
-    if reducer.check(&f) {
-        reducer.residue(f)
-    } else {
-        f
-    }
-}
 
 // The end of a run over five registers of value 0, its residues and its forms.
 fn left_by<T: RingWord, R: Reducer<T>>(
@@ -157,11 +149,11 @@ fn each_reducer_leaves_its_forms(rt: HostRuntime) {
     'rows: for &(m, commands, end, residues, scaled, montgomery) in ROWS {
         assert!(rt; m > 0 && m % 2 == 1);
         let left = left_by(&Vanilla::<u8>::new(&m), commands);
-        assert_eq!(rt; left, (Some(end), residues, residues), "modulo {m}");
+        assert!(rt; left == (Some(end), residues, residues), "modulo {m}");
         let left = left_by(&PreMulInv2by1::<u8>::new(m), commands);
-        assert_eq!(rt; left, (Some(end), residues, scaled), "modulo {m}");
+        assert!(rt; left == (Some(end), residues, scaled), "modulo {m}");
         let left = left_by(&Montgomery::<u8>::new(m), commands);
-        assert_eq!(rt; left, (Some(end), residues, montgomery), "modulo {m}");
+        assert!(rt; left == (Some(end), residues, montgomery), "modulo {m}");
     }
 }
 
@@ -185,10 +177,10 @@ const WIDE_MODULO_1: [RingCommand<u32>; 5] = [
 fn fixed_reducers_modulo_1(rt: HostRuntime) {
     let zeros = (Some(RunEnd::Done), [0; 5], [0; 5]);
     let left = left_by(&FixedMontgomery32::<1>::new(&1), &WIDE_MODULO_1);
-    assert_eq!(rt; left, zeros);
+    assert!(rt; left == zeros);
     let left = left_by(
         &FixedTrinomialSolinas32::<2, 1, -1>::new(&1),
         &WIDE_MODULO_1,
     );
-    assert_eq!(rt; left, zeros);
+    assert!(rt; left == zeros);
 }

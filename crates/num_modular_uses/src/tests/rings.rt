@@ -2,11 +2,11 @@
 
 ghost use Rattle.std.specs.Prelude.{◌≡◌, ◌≤◌};
 
+use super::runs::residue_of;
 use num_modular::ring::{RingCommand, RunEnd, all_checked, commands_fit, run};
 use num_modular::word::RingWord;
 use num_modular::{Montgomery, PreMulInv2by1, Reducer, Vanilla};
 use std::process::Abort;
-use std::test::Fail;
 
 // The end of a run over three registers of value 0, and their forms and residues then.
 #[derive(Clone, Copy, Debug, PartialEq, Eq)]
@@ -17,25 +17,20 @@ struct Run<T> {
 }
 
 fn run_over<T: RingWord, R: Reducer<T>>(reducer: &R, commands: &[RingCommand<T>]) -> Run<T> {
-    let mut registers = [reducer.transform(T::zero()); 3];
-    if all_checked(reducer, &registers) && commands_fit(commands, 3) {
-        let end = Some(run(reducer, &mut registers, commands));
-        let residues = [
-            reducer.residue(registers[0]),
-            reducer.residue(registers[1]),
-            reducer.residue(registers[2]),
-        ];
-        Run {
-            end,
-            forms: registers,
-            residues,
-        }
-    } else {
-        Run {
-            end: None,
-            forms: registers,
-            residues: [T::zero(); 3],
-        }
+    let mut forms = [reducer.transform(T::zero()); 3];
+    let mut end = None;
+    if all_checked(reducer, &forms) && commands_fit(commands, 3) {
+        end = Some(run(reducer, &mut forms, commands));
+    }
+    let residues = [
+        residue_of(reducer, forms[0]),
+        residue_of(reducer, forms[1]),
+        residue_of(reducer, forms[2]),
+    ];
+    Run {
+        end,
+        forms,
+        residues,
     }
 }
 
@@ -58,26 +53,23 @@ fn commands<T: RingWord>(x: T, y: T, exp: T) -> [RingCommand<T>; 12] {
 }
 
 #[test]
-fn the_three_reducers_end_alike_with_equal_residues(rt: HostRuntime) -> Result<(), Fail> {
+fn the_three_reducers_end_alike_with_equal_residues(rt: HostRuntime) {
     let commands = commands(201, 254, 77);
     for m in 1..=255u8 {
         let plain = run_over(&Vanilla::<u8>::new(&m), &commands);
         let scaled = run_over(&PreMulInv2by1::<u8>::new(m), &commands);
         let split = run_over(&Montgomery::<u8>::new(m), &commands);
-        assert!(rt; plain.end.is_some());
-        assert_eq!(rt; plain.end, scaled.end, "modulo {m}");
-        assert_eq!(rt; plain.end, split.end, "modulo {m}");
-        assert_eq!(rt; plain.residues, scaled.residues, "modulo {m}");
-        assert_eq!(rt; plain.residues, split.residues, "modulo {m}");
+        let want = (plain.end, plain.residues);
+        let found = [(scaled.end, scaled.residues), (split.end, split.residues)];
+        assert!(rt; plain.end.is_some() && found == [want; 2], "modulo {m}");
     }
-    Ok(())
 }
 
 // 2^63, 2^64 - 2 and 6 * 2^40.
 const LARGE_EVEN: [u64; 3] = [9223372036854775808, 18446744073709551614, 6597069766656];
 
 #[test]
-fn they_end_alike_for_large_even_moduli(rt: HostRuntime) -> Result<(), Fail> {
+fn they_end_alike_for_large_even_moduli(rt: HostRuntime) {
     let commands = commands(
         81985529216486896,
         18364758544493064721,
@@ -87,28 +79,25 @@ fn they_end_alike_for_large_even_moduli(rt: HostRuntime) -> Result<(), Fail> {
         let plain = run_over(&Vanilla::<u64>::new(&m), &commands);
         let scaled = run_over(&PreMulInv2by1::<u64>::new(m), &commands);
         let split = run_over(&Montgomery::<u64>::new(m), &commands);
-        assert!(rt; plain.end.is_some());
-        assert_eq!(rt; plain.end, scaled.end, "modulo {m}");
-        assert_eq!(rt; plain.end, split.end, "modulo {m}");
-        assert_eq!(rt; plain.residues, scaled.residues, "modulo {m}");
-        assert_eq!(rt; plain.residues, split.residues, "modulo {m}");
+        let want = (plain.end, plain.residues);
+        let found = [(scaled.end, scaled.residues), (split.end, split.residues)];
+        assert!(rt; plain.end.is_some() && found == [want; 2], "modulo {m}");
     }
-    Ok(())
 }
 
 fn assert_forms(rt: &impl Abort, found: Run<u8>, end: RunEnd, forms: [u8; 3], residues: [u8; 3]) {
-    assert_eq!(rt;
-        found,
-        Run {
-            end: Some(end),
-            forms,
-            residues
-        }
+    assert!(rt;
+        found
+            == Run {
+                end: Some(end),
+                forms,
+                residues
+            }
     );
 }
 
 #[test]
-fn a_missing_inverse_modulo_21(rt: HostRuntime) -> Result<(), Fail> {
+fn a_missing_inverse_modulo_21(rt: HostRuntime) {
     let commands = [
         RingCommand::Load { dst: 0, n: 5 },
         RingCommand::Load { dst: 1, n: 7 },
@@ -139,11 +128,10 @@ fn a_missing_inverse_modulo_21(rt: HostRuntime) -> Result<(), Fail> {
         [20, 7, 5],
         residues,
     );
-    Ok(())
 }
 
 #[test]
-fn the_ring_of_one_value(rt: HostRuntime) -> Result<(), Fail> {
+fn the_ring_of_one_value(rt: HostRuntime) {
     let commands = [
         RingCommand::Load { dst: 0, n: 255 },
         RingCommand::Inv { dst: 0, a: 0 },
@@ -169,7 +157,6 @@ fn the_ring_of_one_value(rt: HostRuntime) -> Result<(), Fail> {
         [0; 3],
         [0; 3],
     );
-    Ok(())
 }
 
 // The residue of a + b, in place and not.
@@ -236,20 +223,30 @@ fn tests_of_calls<R: Reducer<u8>>(reducer: &R, a: u8) -> (bool, bool, bool) {
 }
 
 #[test]
-fn each_call_of_a_reducer(rt: HostRuntime) -> Result<(), Fail> {
+fn each_call_of_a_reducer(rt: HostRuntime) {
     let residues = ([[12, 12], [19, 19], [14, 14]], [10, 16, 4, 20]);
     let plain = num_modular::reduced::Vanilla::<u8>::new(&21);
     let scaled = num_modular::barrett::PreMulInv2by1::<u8>::new(21);
     let odd = num_modular::monty::Montgomery::<u8>::new(21);
-    assert_eq!(rt; residues_of_calls(&plain, 5, 7), residues);
-    assert_eq!(rt; residues_of_calls(&scaled, 5, 7), residues);
-    assert_eq!(rt; residues_of_calls(&odd, 5, 7), residues);
-    assert_eq!(rt; tests_of_calls(&plain, 21), (true, true, false));
-    assert_eq!(rt; tests_of_calls(&scaled, 5), (true, false, true));
-    assert_eq!(rt; tests_of_calls(&odd, 7), (true, false, false));
-    assert_eq!(rt;
+    let found = (
+        residues_of_calls(&plain, 5, 7),
+        residues_of_calls(&scaled, 5, 7),
+        residues_of_calls(&odd, 5, 7),
+        tests_of_calls(&plain, 21),
+        tests_of_calls(&scaled, 5),
+        tests_of_calls(&odd, 7),
         (plain.modulus(), scaled.modulus(), odd.modulus()),
-        (21, 21, 21)
     );
-    Ok(())
+    assert!(rt;
+        found
+            == (
+                residues,
+                residues,
+                residues,
+                (true, true, false),
+                (true, false, true),
+                (true, false, false),
+                (21, 21, 21)
+            )
+    );
 }

@@ -1,11 +1,11 @@
-//! A run over any reducer, for the tests of each family.
+//! A run over any reducer, and the calls of its integers, for the tests of each family.
 
-use num_modular::Reducer;
 use num_modular::ring::{RingCommand, RunEnd, all_checked, commands_fit, run};
 use num_modular::word::RingWord;
+use num_modular::{ModularInteger, ReducedInt, Reducer};
 
-// The residue of a form; a word that is no form is left.
-fn residue_of<T: RingWord, R: Reducer<T>>(reducer: &R, f: T) -> T {
+/// The residue of a form; a word that is no form is left.
+pub fn residue_of<T: RingWord, R: Reducer<T>>(reducer: &R, f: T) -> T {
     if reducer.check(&f) {
         reducer.residue(f)
     } else {
@@ -31,4 +31,24 @@ pub fn run_over<T: RingWord, R: Reducer<T>>(
         residue_of(reducer, registers[4]),
     ];
     (end, residues)
+}
+
+/// The residue of a sum of an integer and a word.
+pub fn sum<T: RingWord, R: Reducer<T> + Copy>(a: ReducedInt<T, R>, n: T) -> T {
+    (a + n).residue()
+}
+
+/// The residue of their product.
+pub fn product<T: RingWord, R: Reducer<T> + Copy>(a: ReducedInt<T, R>, n: T) -> T {
+    (a * n).residue()
+}
+
+/// The residues of an integer's double and of its square.
+pub fn multiples<T: RingWord, R: Reducer<T> + Copy>(a: ReducedInt<T, R>) -> [T; 2] {
+    [a.double().residue(), a.square().residue()]
+}
+
+/// The modulus of an integer.
+pub fn modulus<T: RingWord, R: Reducer<T> + Copy>(a: ReducedInt<T, R>) -> T {
+    a.modulus()
 }
