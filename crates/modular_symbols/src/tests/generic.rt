@@ -1,5 +1,7 @@
 //! The generic code and the operations over references.
 
+ghost use Rattle.std.specs.Prelude.{◌≤◌};
+
 use crate::count::jacobi_by_count;
 use crate::ref_ops::ModularRefOps;
 use crate::symbols::ModularSymbols;
@@ -10,68 +12,90 @@ use crate::users::{
 
 #[test]
 fn callers_of_generic_code(rt: HostRuntime) {
-    assert_eq!(rt; product_symbol(7u16, 1, &15), Some(-1));
-    assert_eq!(rt; product_symbol(2u32, 1, &8), None);
-    assert_eq!(rt; product_symbol_ref(&2u16, &1, &15), Some(1));
-    assert_eq!(rt; product_symbol_ref(&3usize, &5, &9), Some(0));
-    assert_eq!(rt; symbols_of_8_bits(7, 1, 15), (Some(-1), Some(-1)));
-    assert_eq!(rt; symbols_of_64_bits(1, 2, 15), (Some(1), Some(1)));
-    assert_eq!(rt; jacobi_of_seven(), -1);
-    assert_eq!(rt; legendre_of_three(), 1);
+    let found = (
+        product_symbol(7u16, 1, &15),
+        product_symbol(2u32, 1, &8),
+        product_symbol_ref(&2u16, &1, &15),
+        product_symbol_ref(&3usize, &5, &9),
+        symbols_of_8_bits(7, 1, 15),
+        symbols_of_64_bits(1, 2, 15),
+        jacobi_of_seven(),
+        legendre_of_three(),
+    );
+    assert!(rt;
+        found
+            == (
+                Some(-1),
+                None,
+                Some(1),
+                Some(0),
+                (Some(-1), Some(-1)),
+                (Some(1), Some(1)),
+                -1,
+                1
+            )
+    );
+}
+
+fn of_two<T: ModularRefOps>(a: &T, b: &T, m: &T) -> [T; 4]
+    requires { 1 ≤ T.whole_number m.now }
+{
+    [
+        a.addm_ref(b, m),
+        a.subm_ref(b, m),
+        a.mulm_ref(b, m),
+        a.powm_ref(b, m),
+    ]
+}
+
+fn of_one<T: ModularRefOps>(a: &T, m: &T) -> [T; 3]
+    requires { 1 ≤ T.whole_number m.now }
+{
+    [a.negm_ref(m), a.dblm_ref(m), a.sqm_ref(m)]
+}
+
+fn inverses<T: ModularRefOps>(a: &T, m: &T) -> [Option<T>; 2]
+    requires { 1 ≤ T.whole_number m.now }
+{
+    [a.invm_ref(m), m.invm_ref(m)]
 }
 
 #[test]
-fn operations_on_references_to_8_bits(rt: HostRuntime) {
-    let (a, b, m): (u8, u8, u8) = (11, 9, 7);
-    let of_two = [
-        a.addm_ref(&b, &m),
-        a.subm_ref(&b, &m),
-        a.mulm_ref(&b, &m),
-        a.powm_ref(&b, &m),
-    ];
-    assert_eq!(rt; of_two, [6, 2, 1, 1]);
-    let of_one = [a.negm_ref(&m), a.dblm_ref(&m), a.sqm_ref(&m)];
-    assert_eq!(rt; of_one, [3, 1, 2]);
-    assert_eq!(rt; [a.invm_ref(&m), m.invm_ref(&m)], [Some(2), None]);
+fn operations_on_references(rt: HostRuntime) {
+    let bytes = (
+        of_two(&11u8, &9, &7),
+        of_one(&11u8, &7),
+        inverses(&11u8, &7),
+    );
+    assert!(rt; bytes == ([6, 2, 1, 1], [3, 1, 2], [Some(2), None]));
+    let words = (
+        of_two(&11u64, &9, &7),
+        of_one(&11u64, &7),
+        inverses(&11u64, &7),
+    );
+    assert!(rt; words == ([6, 2, 1, 1], [3, 1, 2], [Some(2), None]));
+}
+
+// The symbols of 9 over 17 and 7, and those of 7 over 8 and 15.
+fn symbols<T: ModularRefOps>(nine: &T, seven: &T, over: [T; 3]) -> ([Option<i8>; 3], i8) {
+    let [seventeen, eight, fifteen] = over;
+    (
+        [
+            nine.checked_legendre_ref(&seventeen),
+            nine.checked_jacobi_ref(seven),
+            seven.checked_jacobi_ref(&eight),
+        ],
+        seven.kronecker_ref(&fifteen),
+    )
 }
 
 #[test]
-fn symbols_of_references_to_8_bits(rt: HostRuntime) {
-    let (b, m): (u8, u8) = (9, 7);
-    let checked = [
-        b.checked_legendre_ref(&17),
-        b.checked_jacobi_ref(&m),
-        m.checked_jacobi_ref(&8),
+fn symbols_of_references(rt: HostRuntime) {
+    let found = [
+        symbols(&9u8, &7, [17, 8, 15]),
+        symbols(&9u64, &7, [17, 8, 15]),
     ];
-    assert_eq!(rt; checked, [Some(1), Some(1), None]);
-    assert_eq!(rt; m.kronecker_ref(&15), -1);
-}
-
-#[test]
-fn operations_on_references_to_64_bits(rt: HostRuntime) {
-    let (a, b, m): (u64, u64, u64) = (11, 9, 7);
-    let of_two = [
-        a.addm_ref(&b, &m),
-        a.subm_ref(&b, &m),
-        a.mulm_ref(&b, &m),
-        a.powm_ref(&b, &m),
-    ];
-    assert_eq!(rt; of_two, [6, 2, 1, 1]);
-    let of_one = [a.negm_ref(&m), a.dblm_ref(&m), a.sqm_ref(&m)];
-    assert_eq!(rt; of_one, [3, 1, 2]);
-    assert_eq!(rt; [a.invm_ref(&m), m.invm_ref(&m)], [Some(2), None]);
-}
-
-#[test]
-fn symbols_of_references_to_64_bits(rt: HostRuntime) {
-    let (b, m): (u64, u64) = (9, 7);
-    let checked = [
-        b.checked_legendre_ref(&17),
-        b.checked_jacobi_ref(&m),
-        m.checked_jacobi_ref(&8),
-    ];
-    assert_eq!(rt; checked, [Some(1), Some(1), None]);
-    assert_eq!(rt; m.kronecker_ref(&15), -1);
+    assert!(rt; found == [([Some(1), Some(1), None], -1); 2]);
 }
 
 // Each number of a byte, over each odd number of a byte.
@@ -80,9 +104,8 @@ fn the_count_and_the_symbol(rt: HostRuntime) {
     for half in 0..128u8 {
         let n = 2 * half + 1;
         for a in 0..=255u8 {
-            assert_eq!(rt;
-                a.checked_jacobi(&n),
-                Some(jacobi_by_count(false, a, n)),
+            assert!(rt;
+                a.checked_jacobi(&n) == Some(jacobi_by_count(false, a, n)),
                 "{a} over {n}"
             );
         }

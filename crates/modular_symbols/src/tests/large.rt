@@ -10,11 +10,11 @@ use std::process::Abort;
 fn assert_rows<T: SymbolWord>(rt: &impl Abort, rows: &[(T, T, i8)]) {
     for (a, n, want) in rows {
         let checked = a.checked_jacobi(n);
-        assert_eq!(rt; checked, Some(*want));
+        assert!(rt; checked == Some(*want));
         if checked.is_some() {
-            assert_eq!(rt; a.jacobi(n), *want);
+            assert!(rt; a.jacobi(n) == *want);
         }
-        assert_eq!(rt; a.kronecker(n), *want);
+        assert!(rt; a.kronecker(n) == *want);
     }
 }
 
@@ -35,7 +35,7 @@ fn large_numbers(rt: HostRuntime) {
     assert_rows(&rt, &WIDE);
     assert_rows(&rt, &SIZES);
     assert_rows(&rt, &[(-1i64, 9223372036854775807, -1)]);
-    assert_eq!(rt; 3u64.checked_legendre(&18446744073709551557), Some(-1));
+    assert!(rt; 3u64.checked_legendre(&18446744073709551557) == Some(-1));
 }
 
 // Each magnitude of a byte with the other sign, over each odd number of a byte.
@@ -44,9 +44,8 @@ fn the_count_and_the_loop(rt: HostRuntime) {
     for half in 0..128u8 {
         let n = 2 * half + 1;
         for a in 0..=255u8 {
-            assert_eq!(rt;
-                jacobi_by_halving(true, a, n),
-                jacobi_by_count(true, a, n),
+            assert!(rt;
+                jacobi_by_halving(true, a, n) == jacobi_by_count(true, a, n),
                 "-{a} over {n}"
             );
         }

@@ -18,9 +18,8 @@ fn symbols_over_primes(rt: HostRuntime) {
     for n in [3, 5, 7, 11, 13, 17, 19, 23, 29] {
         assert!(rt; is_prime_by_search(n) && n % 2 == 1, "{n}");
         for a in 0..2 * n {
-            assert_eq!(rt;
-                symbol_over_prime(a, n),
-                jacobi_by_count(false, a, n),
+            assert!(rt;
+                symbol_over_prime(a, n) == jacobi_by_count(false, a, n),
                 "{a} over {n}"
             );
         }
