@@ -2,5 +2,6 @@
 #![tactic(auto)]
 
 pub mod first_use;
+pub mod names;
 #[cfg(test)]
 mod tests;
