@@ -160,6 +160,12 @@ fn parts() -> Vec<Line> {
     ];
     parts!(lines, "Vanilla", port::over_vanilla, Vanilla<u64>, Any);
     parts!(lines, "PreMulInv2by1", port::over_premul, PreMulInv2by1<u64>, Any);
+    for (name, port, original) in [
+        ("PreMulInv2by1::transform, 61 bits", port::over_premul::<5> as Bench, original::form::<PreMulInv2by1<u64>> as Bench),
+        ("PreMulInv2by1::transform, residue, 61 bits", port::over_premul::<6>, original::residue::<PreMulInv2by1<u64>>),
+    ] {
+        lines.push(Line { modulus: MERSENNE, ..line(name, port, original, Any) });
+    }
     parts!(lines, "Montgomery", port::over_montgomery, Montgomery<u64>, Odd);
     parts!(lines, "FixedMontgomery64", port::over_fixed_montgomery, FixedMontgomery, One(PRIME));
     parts!(lines, "FixedProth64", port::over_fixed_proth, FixedProth, One(PROTH));
