@@ -60,16 +60,7 @@ pub fn measured() -> Vec<Growth> {
     vec![
         powers(),
         against_bits("inverses", [port::invm, original::invm], port::divisions),
-        against_bits("symbols", [symbol_port, symbol_crate], port::halvings),
+        against_bits("symbols", [port::jacobi_short, original::jacobi_short], port::halvings),
         transforms::growth(),
     ]
-}
-
-/// A symbol of a number of as many bits as the modulus has, by a step that keeps y odd and whole.
-fn symbol_port(x: u64, _: u64, m: u64, n: u64) -> u64 {
-    port::jacobi(x, SECOND, m, n)
-}
-
-fn symbol_crate(x: u64, _: u64, m: u64, n: u64) -> u64 {
-    original::jacobi(x, SECOND, m, n)
 }

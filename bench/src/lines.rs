@@ -120,7 +120,7 @@ fn symbols() -> Vec<Line> {
         line("checked_jacobi", port::jacobi, original::jacobi, Any),
         line("kronecker", port::kronecker, original::kronecker, Any),
         line("checked_legendre", port::legendre, original::legendre, Odd),
-        narrow("checked_jacobi, 32 bits in words of 64", 32, port::jacobi, original::jacobi, Any),
+        narrow("checked_jacobi, 32 bits in words of 64", 32, port::jacobi_short, original::jacobi_short, Any),
         narrow("invm, 32 bits in words of 64", 32, port::invm, original::invm, Any),
     ]
 }

@@ -1,5 +1,6 @@
 //! The same steps with the Rust crate `num-modular`, and the plain line of Rust for a product.
 
+use crate::measure::SECOND;
 use num_modular::{
     DivExact, ModularCoreOps, ModularPow, ModularSymbols, ModularUnaryOps, Normalized2by1Divisor,
     PreModInv, PreMulInv1by1, Reducer,
@@ -64,6 +65,10 @@ fn symbols(x: u64, y: u64, m: u64, n: u64, symbol: impl Fn(u64) -> Option<i8>) -
 #[inline(never)]
 pub fn jacobi(x: u64, y: u64, m: u64, n: u64) -> u64 {
     symbols(x, y, m, n, |x| x.checked_jacobi(&m))
+}
+
+pub fn jacobi_short(x: u64, _: u64, m: u64, n: u64) -> u64 {
+    jacobi(x, SECOND, m, n)
 }
 
 #[inline(never)]

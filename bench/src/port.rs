@@ -1,6 +1,8 @@
 //! The functions of the static library: each does `n` dependent steps. What `m` must be for each is
 //! said there.
 
+use crate::measure::SECOND;
+
 pub type Bench = fn(x: u64, y: u64, m: u64, n: u64) -> u64;
 
 macro_rules! exported {
@@ -76,6 +78,11 @@ pub fn montgomery_mul_u32(x: u64, y: u64, m: u64, n: u64) -> u64 {
 
 pub fn jacobi(x: u64, y: u64, m: u64, n: u64) -> u64 {
     bench_symbols(0, x, y, m, n)
+}
+
+/// The same with a y of 64 bits, by which a short x stays without a pattern.
+pub fn jacobi_short(x: u64, _: u64, m: u64, n: u64) -> u64 {
+    jacobi(x, SECOND, m, n)
 }
 
 pub fn kronecker(x: u64, y: u64, m: u64, n: u64) -> u64 {
