@@ -2,11 +2,10 @@
 
 pub use modular_word::paths::neginv;
 
+#[cfg(test)]
+mod tests;
 pub mod w16;
 pub mod w32;
 pub mod w64;
 pub mod w8;
 pub mod wsize;
-
-#[cfg(test)]
-mod tests;
