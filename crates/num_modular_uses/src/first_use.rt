@@ -10,6 +10,7 @@ use num_modular::{
 };
 
 /// x·y + 1 modulo 97, in Montgomery's representation.
+#[tactic(auto, using(num_modular::specs::Remainders::remainders))]
 pub fn product_and_one(x: u64, y: u64) -> u64
     ensures { result ≡ (x * y + 1) % 97 }
 {
