@@ -1,7 +1,5 @@
 //! The generic code and the operations over references.
 
-ghost use Rattle.std.specs.Prelude.{◌≤◌};
-
 use crate::count::jacobi_by_count;
 use crate::ref_ops::ModularRefOps;
 use crate::symbols::ModularSymbols;
@@ -37,65 +35,58 @@ fn callers_of_generic_code(rt: HostRuntime) {
     );
 }
 
-fn of_two<T: ModularRefOps>(a: &T, b: &T, m: &T) -> [T; 4]
-    requires { 1 ≤ T.whole_number m.now }
-{
-    [
-        a.addm_ref(b, m),
-        a.subm_ref(b, m),
-        a.mulm_ref(b, m),
-        a.powm_ref(b, m),
-    ]
-}
-
-fn of_one<T: ModularRefOps>(a: &T, m: &T) -> [T; 3]
-    requires { 1 ≤ T.whole_number m.now }
-{
-    [a.negm_ref(m), a.dblm_ref(m), a.sqm_ref(m)]
-}
-
-fn inverses<T: ModularRefOps>(a: &T, m: &T) -> [Option<T>; 2]
-    requires { 1 ≤ T.whole_number m.now }
-{
-    [a.invm_ref(m), m.invm_ref(m)]
-}
-
 #[test]
-fn operations_on_references(rt: HostRuntime) {
-    let bytes = (
-        of_two(&11u8, &9, &7),
-        of_one(&11u8, &7),
-        inverses(&11u8, &7),
-    );
-    assert!(rt; bytes == ([6, 2, 1, 1], [3, 1, 2], [Some(2), None]));
-    let words = (
-        of_two(&11u64, &9, &7),
-        of_one(&11u64, &7),
-        inverses(&11u64, &7),
-    );
-    assert!(rt; words == ([6, 2, 1, 1], [3, 1, 2], [Some(2), None]));
-}
-
-// The symbols of 9 over 17 and 7, and those of 7 over 8 and 15.
-fn symbols<T: ModularRefOps>(nine: &T, seven: &T, over: [T; 3]) -> ([Option<i8>; 3], i8) {
-    let [seventeen, eight, fifteen] = over;
-    (
-        [
-            nine.checked_legendre_ref(&seventeen),
-            nine.checked_jacobi_ref(seven),
-            seven.checked_jacobi_ref(&eight),
-        ],
-        seven.kronecker_ref(&fifteen),
-    )
-}
-
-#[test]
-fn symbols_of_references(rt: HostRuntime) {
-    let found = [
-        symbols(&9u8, &7, [17, 8, 15]),
-        symbols(&9u64, &7, [17, 8, 15]),
+fn operations_on_references_to_8_bits(rt: HostRuntime) {
+    let (a, b, m): (u8, u8, u8) = (11, 9, 7);
+    let of_two = [
+        a.addm_ref(&b, &m),
+        a.subm_ref(&b, &m),
+        a.mulm_ref(&b, &m),
+        a.powm_ref(&b, &m),
     ];
-    assert!(rt; found == [([Some(1), Some(1), None], -1); 2]);
+    assert!(rt; of_two == [6, 2, 1, 1]);
+    let of_one = [a.negm_ref(&m), a.dblm_ref(&m), a.sqm_ref(&m)];
+    let found = (of_one, [a.invm_ref(&m), m.invm_ref(&m)]);
+    assert!(rt; found == ([3, 1, 2], [Some(2), None]));
+}
+
+#[test]
+fn symbols_of_references_to_8_bits(rt: HostRuntime) {
+    let (b, m): (u8, u8) = (9, 7);
+    let checked = [
+        b.checked_legendre_ref(&17),
+        b.checked_jacobi_ref(&m),
+        m.checked_jacobi_ref(&8),
+    ];
+    let found = (checked, m.kronecker_ref(&15));
+    assert!(rt; found == ([Some(1), Some(1), None], -1));
+}
+
+#[test]
+fn operations_on_references_to_64_bits(rt: HostRuntime) {
+    let (a, b, m): (u64, u64, u64) = (11, 9, 7);
+    let of_two = [
+        a.addm_ref(&b, &m),
+        a.subm_ref(&b, &m),
+        a.mulm_ref(&b, &m),
+        a.powm_ref(&b, &m),
+    ];
+    assert!(rt; of_two == [6, 2, 1, 1]);
+    let of_one = [a.negm_ref(&m), a.dblm_ref(&m), a.sqm_ref(&m)];
+    let found = (of_one, [a.invm_ref(&m), m.invm_ref(&m)]);
+    assert!(rt; found == ([3, 1, 2], [Some(2), None]));
+}
+
+#[test]
+fn symbols_of_references_to_64_bits(rt: HostRuntime) {
+    let (b, m): (u64, u64) = (9, 7);
+    let checked = [
+        b.checked_legendre_ref(&17),
+        b.checked_jacobi_ref(&m),
+        m.checked_jacobi_ref(&8),
+    ];
+    let found = (checked, m.kronecker_ref(&15));
+    assert!(rt; found == ([Some(1), Some(1), None], -1));
 }
 
 // Each number of a byte, over each odd number of a byte.
