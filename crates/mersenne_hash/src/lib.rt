@@ -1,0 +1,92 @@
+//! A search by polynomial hashes modulo 2^61 - 1: the hash of a window that moves costs two products.
+#![tactic(auto)]
+
+ghost use Rattle.std.specs.Prelude.{◌≡◌, ℕ, ◌+◌, ◌%◌, ◌^◌, ◌≤◌, ◌↔◌, List, [], ◌∷◌, ◌++◌, IsTrue, length, slice_range};
+ghost use Rattle.num_modular.specs.Integers.{residue_of};
+ghost use Rattle.num_modular.specs.Mersenne.{mersenne};
+ghost use Rattle.mersenne_hash.specs.Hashes.{polynomial_value, StandsAt, IsSearch};
+
+use num_modular::laws::residue_laws;
+use num_modular::{FixedMersenne64, FixedMersenneInt64, ModularInteger};
+
+/// A hash: an integer modulo 2^61 - 1, which is prime.
+pub type Hash = FixedMersenneInt64<61, 1>;
+
+/// A base of hashes: n modulo 2^61 - 1. Texts of n bytes that differ have one hash for fewer than n
+/// bases, so a base that is drawn at random keeps them apart.
+pub fn base(n: u64) -> Hash
+    ensures { residue_of result ≡ n % mersenne 61 1 }
+{
+    Hash::new(n, &FixedMersenne64::<61, 1>::fixed_modulus())
+}
+
+/// The hash of a text: the value at the base of the polynomial with its bytes as coefficients, the
+/// highest first, modulo 2^61 - 1. It goes by Horner's rule.
+///
+/// Source: Karp and Rabin, "Efficient randomized pattern-matching algorithms".
+pub fn hash(base: Hash, text: &[u8]) -> Hash
+    ensures { residue_of result ≡ polynomial_value text.now (residue_of base) % mersenne 61 1 }
+{
+    let mut value = base.convert(0);
+    'bytes: for byte in text {
+        value = value * base + *byte as u64;
+    }
+    value
+}
+
+/// The hash of a window that moves by one byte: `first` leaves it at its start, and `next` comes in
+/// at its end. The hash of the window and the power of the base by its length have to be right.
+pub fn moved(base: Hash, power: Hash, window: Hash, first: u8, next: u8) -> Hash
+    ensures { (old moved : List ℕ) → old ++ (next ∷ []) ≡ first ∷ moved →
+        residue_of window ≡ polynomial_value old (residue_of base) % mersenne 61 1 →
+        residue_of power ≡ residue_of base ^ length old % mersenne 61 1 →
+        residue_of result ≡ polynomial_value moved (residue_of base) % mersenne 61 1 }
+{
+    residue_laws();
+    let longer = window * base + next as u64;
+    longer - power * first as u64
+}
+
+// Whether the pattern stands in the text at a position, by the hashes of the window there and of the
+// pattern: where they differ, the bytes aren't read.
+fn is_hit(wanted: Hash, window: Hash, text: &[u8], pattern: &[u8], at: usize) -> bool
+    requires within { at + length pattern.now ≤ length text.now }
+    requires alike { slice_range text.now at (at + length pattern.now) ≡ pattern.now →
+        residue_of window ≡ residue_of wanted }
+    ensures { IsTrue result ↔ StandsAt text.now pattern.now at }
+{
+    window == wanted && &text[at..at + pattern.len()] == pattern
+}
+
+/// The first position where the pattern stands in the text; `None` exactly where it stands nowhere.
+///
+/// The answer is right for every base: each hit of the hash is compared. A window moves by two
+/// products, and bytes are compared at hits alone.
+///
+/// Source: Karp and Rabin, "Efficient randomized pattern-matching algorithms".
+pub fn find(base: Hash, text: &[u8], pattern: &[u8]) -> Option<usize>
+    ensures { IsSearch text.now pattern.now result }
+{
+    let length = pattern.len();
+    if length > text.len() {
+        return None;
+    }
+    let wanted = hash(base, pattern);
+    let power = base.pow(&(length as u64));
+    let mut window = hash(base, &text[..length]);
+    let last = text.len() - length;
+    'windows: for at in 0..last {
+        if is_hit(wanted, window, text, pattern, at) {
+            return Some(at);
+        }
+        window = moved(base, power, window, text[at], text[at + length]);
+    }
+    if is_hit(wanted, window, text, pattern, last) {
+        Some(last)
+    } else {
+        None
+    }
+}
+
+#[cfg(test)]
+mod tests;
