@@ -1,0 +1,47 @@
+//! Computations over any reducer: stated once, for every word and every modulus.
+
+ghost use Rattle.num_modular.specs.Forms.{IsForm};
+ghost use Rattle.std.specs.Prelude.{◌≡◌, ◌+◌, ◌*◌, ◌%◌};
+
+use num_modular::{Reducer, RingWord};
+
+/// x modulo m, by way of its form.
+pub fn round_trip<T: RingWord, R: Reducer<T>>(r: &R, x: T) -> T
+    ensures { T.number result ≡ T.number x % R.modulus r.now }
+{
+    r.residue(r.transform(x))
+}
+
+/// x·y + 1 modulo m.
+#[tactic(auto, using(num_modular::specs::Remainders::remainders))]
+pub fn product_and_one<T: RingWord, R: Reducer<T>>(r: &R, x: T, y: T) -> T
+    ensures { T.number result ≡ (T.number x * T.number y + 1) % R.modulus r.now }
+{
+    let product = r.mul(&r.transform(x), &r.transform(y));
+    r.residue(r.add(&product, &r.transform(T::one())))
+}
+
+// The form of a product of two words.
+#[tactic(auto, using(num_modular::specs::Remainders::remainders))]
+fn product<T: RingWord, R: Reducer<T>>(r: &R, x: T, y: T) -> T
+    ensures checked { IsForm R.form R.value (R.modulus r.now) (T.number result) }
+    ensures value { R.value (R.modulus r.now) (T.number result) ≡ (T.number x * T.number y) % R.modulus r.now }
+{
+    r.mul(&r.transform(x), &r.transform(y))
+}
+
+/// The inner product of four words with four others, modulo m.
+#[tactic(auto, using(num_modular::specs::Remainders::remainders))]
+pub fn inner_product_of_four<T: RingWord, R: Reducer<T>>(
+    r: &R,
+    x: (T, T, T, T),
+    y: (T, T, T, T),
+) -> T
+    ensures { T.number result
+        ≡ (T.number x.0 * T.number y.0 + T.number x.1 * T.number y.1
+        + (T.number x.2 * T.number y.2 + T.number x.3 * T.number y.3)) % R.modulus r.now }
+{
+    let left = r.add(&product(r, x.0, y.0), &product(r, x.1, y.1));
+    let right = r.add(&product(r, x.2, y.2), &product(r, x.3, y.3));
+    r.residue(r.add(&left, &right))
+}

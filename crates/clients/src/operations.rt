@@ -1,0 +1,29 @@
+//! Generic code over the modular operations of words.
+
+ghost use Rattle.std.specs.Prelude.{◌≡◌, ◌+◌, ◌*◌, ◌%◌, ◌≤◌};
+
+use num_modular::{ModularOps, Montgomery, PlainWord, Reducer, UnsignedOperand};
+
+/// x·y + z modulo m. Condition: m is at least 1.
+#[tactic(auto, using(num_modular::specs::Remainders::remainders))]
+pub fn product_and_sum<M: UnsignedOperand + Copy, T: ModularOps<T, M, T>>(
+    x: T,
+    y: T,
+    z: T,
+    m: M,
+) -> T
+    requires { 1 ≤ M.whole_number m }
+    ensures { T.whole_number result ≡ (T.whole_number x * T.whole_number y + T.whole_number z) % M.whole_number m }
+{
+    x.mulm(y, m).addm(z, m)
+}
+
+/// x² modulo m in Montgomery's representation, for every width. Condition: m is at least 1.
+#[tactic(auto, using(num_modular::specs::Remainders::remainders))]
+pub fn square<T: PlainWord>(x: T, m: T) -> T
+    requires { 1 ≤ T.number m }
+    ensures { T.number result ≡ (T.number x * T.number x) % T.number m }
+{
+    let r = Montgomery::<T>::new(m);
+    r.residue(r.sqr(r.transform(x)))
+}
