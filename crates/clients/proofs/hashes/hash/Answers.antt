@@ -2,12 +2,6 @@ use Rattle.std.proofs.Common.{◌∙◌, slice_index}
 use Rattle.num_modular.specs.Remainders.{remainders}
 use Rattle.clients.proofs.hashes.hash.Goals as goal
 
-pub bytes-init : goal.bytes-init
-bytes-init c = record {
-  modulus = c.convert-value.ensures.modulus ∙ c.new-point.ensures.modulus;
-  residue = simp (c.convert-value.ensures.residue, c.new-point.ensures.modulus, c.range_laws.ensures.none);
-}
-
 pub bytes-preserved : goal.bytes-preserved
 bytes-preserved c =
     let more = c.range_laws.ensures.horner c.bytes.byte-index (slice_index c.args.bytes.now) c.args.x in
