@@ -1,7 +1,7 @@
 -- Over an odd prime p the symbol of a is 1 exactly where a is the square of a number that p doesn't divide. Where a isn't
 -- one, the numbers below p fall into pairs of product a, so that their product is a^((p - 1)/2); and it is -1, by the
 -- pairs of product 1 (Wilson's theorem). Dirichlet's proof: Hardy and Wright, "An Introduction to the Theory of Numbers",
--- section 6.5 and 6.6.
+-- sections 6.5 and 6.6.
 use Rattle.std.proofs.Common.{◌≡◌, ◌≢◌, ℕ, zero, suc, ◌+◌, ◌-◌, ◌*◌, ◌/◌, ◌%◌, ◌^◌, ◌<◌, ◌≤◌, cond, eqb, ltb, ℤ, pos, negsuc, ◌*ℤ◌, Some, None, sym, ◌∙◌, ap, arith, ⊎_elim, inl, inr, ◌⊎◌}
 use Rattle.std.proofs.lemmas.Bool.Decides.{nat_tests}
 use Rattle.std.proofs.lemmas.Bool.{cases_eq}
