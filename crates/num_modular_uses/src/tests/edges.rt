@@ -47,13 +47,17 @@ fn commands<T: RingWord>(last: T, greatest: T) -> [RingCommand<T>; 8] {
 // The end of a run over five registers of value 0, and their residues then.
 type Run<T> = (Option<RunEnd>, [T; 5]);
 
-// What a reducer of m shows, given m - 1 and a greatest word: the edges of its words, the run of the
-// commands, and the run of none.
-fn seen<T: RingWord, R: Reducer<T>>(ring: &R, last: T, greatest: T) -> ([T; 6], Run<T>, Run<T>) {
+// What a reducer of m shows, given m - 1 and a greatest word: the edges of its words, the run of a
+// list of commands, and the run of none.
+fn seen<T: RingWord, R: Reducer<T>>(
+    ring: &R,
+    words: (T, T),
+    list: &[RingCommand<T>],
+) -> ([T; 6], Run<T>, Run<T>) {
     (
-        edges(ring, last, greatest),
-        run_over(ring, &commands(last, greatest)),
-        run_over(ring, &[]),
+        edges(ring, words.0, words.1),
+        run_over(ring, list),
+        run_over(ring, &list[..0]),
     )
 }
 
@@ -63,16 +67,20 @@ const STOPPED: Option<RunEnd> = Some(RunEnd::NoInverse { at: 7 });
 
 #[test]
 fn modulo_1(rt: HostRuntime) {
-    let found = seen(&FixedMontgomery32::<1>::new(&1), 0, u32::MAX);
+    let words = (0, u32::MAX);
+    let list = commands(words.0, words.1);
+    let found = seen(&FixedMontgomery32::<1>::new(&1), words, &list);
     assert_eq!(rt; found, ([0; 6], (DONE, [0; 5]), (DONE, [0; 5])));
     let ring = FixedTrinomialSolinas32::<2, 1, -1>::new(&1);
-    assert_eq!(rt; seen(&ring, 0, u32::MAX), found);
-    assert_eq!(rt; seen(&Vanilla::<u32>::new(&1), 0, u32::MAX), found);
+    assert_eq!(rt; seen(&ring, words, &list), found);
+    assert_eq!(rt; seen(&Vanilla::<u32>::new(&1), words, &list), found);
 }
 
 #[test]
 fn modulo_3(rt: HostRuntime) {
-    let found = seen(&FixedMersenne32::<2, 1>::new(&3), 2, u32::MAX);
+    let words = (2, u32::MAX);
+    let list = commands(words.0, words.1);
+    let found = seen(&FixedMersenne32::<2, 1>::new(&3), words, &list);
     assert_eq!(rt;
         found,
         (
@@ -82,19 +90,17 @@ fn modulo_3(rt: HostRuntime) {
         )
     );
     let ring = FixedProth32::<1, 1>::new(&3);
-    assert_eq!(rt; seen(&ring, 2, u32::MAX), found);
-    assert_eq!(rt; seen(&Vanilla::<u32>::new(&3), 2, u32::MAX), found);
+    assert_eq!(rt; seen(&ring, words, &list), found);
+    assert_eq!(rt; seen(&Vanilla::<u32>::new(&3), words, &list), found);
 }
 
 #[test]
 fn near_the_greatest_words_of_32_bits(rt: HostRuntime) {
-    let found = seen(
-        &FixedMersenne32::<32, 5>::new(&4294967291),
-        4294967290,
-        u32::MAX,
-    );
+    let words = (4294967290, u32::MAX);
+    let list = commands(words.0, words.1);
+    let found = seen(&FixedMersenne32::<32, 5>::new(&4294967291), words, &list);
     let plain = Vanilla::<u32>::new(&4294967291);
-    assert_eq!(rt; seen(&plain, 4294967290, u32::MAX), found);
+    assert_eq!(rt; seen(&plain, words, &list), found);
     assert_eq!(rt;
         found,
         (
@@ -107,10 +113,12 @@ fn near_the_greatest_words_of_32_bits(rt: HostRuntime) {
 
 #[test]
 fn modulo_2147483647(rt: HostRuntime) {
+    let words = (2147483646, u32::MAX);
+    let list = commands(words.0, words.1);
     let ring = FixedTrinomialSolinas32::<32, 31, -1>::new(&2147483647);
-    let found = seen(&ring, 2147483646, u32::MAX);
+    let found = seen(&ring, words, &list);
     let plain = Vanilla::<u32>::new(&2147483647);
-    assert_eq!(rt; seen(&plain, 2147483646, u32::MAX), found);
+    assert_eq!(rt; seen(&plain, words, &list), found);
     assert_eq!(rt;
         found,
         (
@@ -123,10 +131,12 @@ fn modulo_2147483647(rt: HostRuntime) {
 
 #[test]
 fn modulo_2139095041(rt: HostRuntime) {
+    let words = (2139095040, u32::MAX);
+    let list = commands(words.0, words.1);
     let ring = FixedProth32::<23, 255>::new(&2139095041);
-    let found = seen(&ring, 2139095040, u32::MAX);
+    let found = seen(&ring, words, &list);
     let plain = Vanilla::<u32>::new(&2139095041);
-    assert_eq!(rt; seen(&plain, 2139095040, u32::MAX), found);
+    assert_eq!(rt; seen(&plain, words, &list), found);
     assert_eq!(rt;
         found,
         (
@@ -139,10 +149,12 @@ fn modulo_2139095041(rt: HostRuntime) {
 
 #[test]
 fn modulo_2147483649(rt: HostRuntime) {
+    let words = (2147483648, u32::MAX);
+    let list = commands(words.0, words.1);
     let ring = FixedProth32::<31, 1>::new(&2147483649);
-    let found = seen(&ring, 2147483648, u32::MAX);
+    let found = seen(&ring, words, &list);
     let plain = Vanilla::<u32>::new(&2147483649);
-    assert_eq!(rt; seen(&plain, 2147483648, u32::MAX), found);
+    assert_eq!(rt; seen(&plain, words, &list), found);
     assert_eq!(rt;
         found,
         (
@@ -155,10 +167,12 @@ fn modulo_2147483649(rt: HostRuntime) {
 
 #[test]
 fn modulo_2415919105(rt: HostRuntime) {
+    let words = (2415919104, u32::MAX);
+    let list = commands(words.0, words.1);
     let ring = FixedProth32::<28, 9>::new(&2415919105);
-    let found = seen(&ring, 2415919104, u32::MAX);
+    let found = seen(&ring, words, &list);
     let plain = Vanilla::<u32>::new(&2415919105);
-    assert_eq!(rt; seen(&plain, 2415919104, u32::MAX), found);
+    assert_eq!(rt; seen(&plain, words, &list), found);
     assert_eq!(rt;
         found,
         (
@@ -172,9 +186,11 @@ fn modulo_2415919105(rt: HostRuntime) {
 #[test]
 fn modulo_9223372036854775809(rt: HostRuntime) {
     let m = 9223372036854775809;
+    let words = (m - 1, u64::MAX);
+    let list = commands(words.0, words.1);
     let ring = FixedProth64::<63, 1>::new(&m);
-    let found = seen(&ring, m - 1, u64::MAX);
-    assert_eq!(rt; seen(&Vanilla::<u64>::new(&m), m - 1, u64::MAX), found);
+    let found = seen(&ring, words, &list);
+    assert_eq!(rt; seen(&Vanilla::<u64>::new(&m), words, &list), found);
     assert_eq!(rt;
         found,
         (
@@ -190,9 +206,11 @@ fn modulo_9223372036854775809(rt: HostRuntime) {
 #[test]
 fn modulo_18446744069414584321(rt: HostRuntime) {
     let m = 18446744069414584321;
+    let words = (m - 1, u64::MAX);
+    let list = commands(words.0, words.1);
     let ring = FixedTrinomialSolinas64::<64, 32, 1>::new(&m);
-    let found = seen(&ring, m - 1, u64::MAX);
-    assert_eq!(rt; seen(&Vanilla::<u64>::new(&m), m - 1, u64::MAX), found);
+    let found = seen(&ring, words, &list);
+    assert_eq!(rt; seen(&Vanilla::<u64>::new(&m), words, &list), found);
     assert_eq!(rt;
         found,
         (
@@ -206,9 +224,11 @@ fn modulo_18446744069414584321(rt: HostRuntime) {
 #[test]
 fn modulo_18446744073709551557(rt: HostRuntime) {
     let m = 18446744073709551557;
+    let words = (m - 1, u64::MAX);
+    let list = commands(words.0, words.1);
     let ring = FixedMersenne64::<64, 59>::new(&m);
-    let found = seen(&ring, m - 1, u64::MAX);
-    assert_eq!(rt; seen(&Vanilla::<u64>::new(&m), m - 1, u64::MAX), found);
+    let found = seen(&ring, words, &list);
+    assert_eq!(rt; seen(&Vanilla::<u64>::new(&m), words, &list), found);
     assert_eq!(rt;
         found,
         (
@@ -226,7 +246,9 @@ fn over_words_of_128_bits(rt: HostRuntime) {
     let ring = FixedMersenne::<64, 59>::new(&m);
     assert_eq!(rt; edges(&ring, m - 1, u128::MAX), [0, 1, m - 1, 0, 3480, 1]);
     let greatest = u64::MAX as u128;
-    let (_, (end, residues), none) = seen(&ring, m - 1, greatest);
+    let words = (m - 1, greatest);
+    let list = commands(words.0, words.1);
+    let (_, (end, residues), none) = seen(&ring, words, &list);
     assert_eq!(rt; none, (DONE, [0; 5]));
     assert_eq!(rt; residues, [0, m - 1, 1, 59, 4959809447704153900]);
     let last = 18446744073709551556;
