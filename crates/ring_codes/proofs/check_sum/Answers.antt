@@ -1,5 +1,4 @@
 use Rattle.std.proofs.Common.{◌≡◌, ◌+◌, ◌*◌, ◌%◌, get_or, ap, sym, ◌∙◌}
-use Rattle.std.proofs.Math.Nat.{zero-mod}
 use Rattle.num_modular.specs.Integers.{residue_of}
 use Rattle.ring_codes.proofs.CheckSums.{sum_none, sum_more, residue_more}
 use Rattle.ring_codes.proofs.check_sum.Goals as goal

@@ -1,9 +1,9 @@
-use Rattle.std.proofs.Common.{◌≡◌, ℕ, ◌+◌, ◌*◌, ◌%◌, ◌<◌, subst, pos, ◌-ℤ◌, get_or, set, sym, ◌∙◌, ap}
+use Rattle.std.proofs.Common.{◌≡◌, ◌+◌, ◌*◌, ◌%◌, ◌<◌, subst, pos, ◌-ℤ◌, get_or, sym, ◌∙◌, ap}
 use Rattle.std.proofs.Math.Nat.{mod-mod}
 use Rattle.std.proofs.lemmas.Nat.{mul-mod_second}
-use Rattle.num_modular.specs.Integers.{residue_of, modulus_of}
+use Rattle.num_modular.specs.Integers.{residue_of}
 use Rattle.num_modular.specs.Residues.{residue}
-use Rattle.ring_codes.specs.Codes.{weighted_sum, IsCodeword}
+use Rattle.ring_codes.specs.Codes.{weighted_sum}
 use Rattle.ring_codes.proofs.CheckSums.{changed_symbol, restored_sum, one_symbol}
 use Rattle.ring_codes.proofs.restore.Goals as goal
 
