@@ -5,7 +5,7 @@ use Rattle.std.proofs.lemmas.Nat.{mul-add-lt, mul-mod, mul-mod_second}
 use Rattle.std.proofs.lemmas.Bool.{cases_lt}
 use Rattle.num_modular.specs.Divisors.{Coprime, gcd}
 use Rattle.num_modular.specs.Inverses.{IsInverse, HasInverse}
-use Rattle.residue_numbers.specs.Systems.{product_below, range_of, IsSystem, AreResidues}
+use Rattle.residue_numbers.specs.Systems.{product_below, IsSystem}
 
 pub product_none : (ms : List ℕ) → product_below 0 ms ≡ 1
 unfolding product_below

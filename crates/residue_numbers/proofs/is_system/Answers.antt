@@ -1,8 +1,8 @@
-use Rattle.std.proofs.Common.{◌≡◌, ℕ, ◌+◌, ◌*◌, ◌<◌, ◌^◌, List, length, get_or, IsTrue, true, false, arith, rules, lit<, ap, sym, subst, ◌∙◌, refl, below_more}
+use Rattle.std.proofs.Common.{◌≡◌, ℕ, ◌+◌, ◌*◌, ◌<◌, ◌^◌, List, length, get_or, true, false, arith, rules, lit<, ap, sym, subst, ◌∙◌, refl, below_more}
 use Rattle.std.proofs.lemmas.Bool.{false≢true}
 use Rattle.num_modular.specs.Divisors.{Coprime}
 use Rattle.num_modular.specs.Inverses.{HasInverse}
-use Rattle.residue_numbers.specs.Systems.{product_below, range_of, IsSystem}
+use Rattle.residue_numbers.specs.Systems.{product_below}
 use Rattle.residue_numbers.proofs.Remainders.{product_none, product_more, each_of_unit, unit_here, next_fits}
 use Rattle.residue_numbers.proofs.is_system.Goals as goal
 use Rattle.residue_numbers.proofs.is_system.Goals.{then-modulus-eq0-via-then-modulus-eq0, then-modulus-eq0-via-else-modulus-eq0+then-not-has_inverse}

@@ -1,4 +1,4 @@
-use Rattle.std.proofs.Common.{◌≡◌, ℕ, ◌+◌, ◌*◌, ◌%◌, pos, ◌-ℤ◌, ap, ◌∙◌}
+use Rattle.std.proofs.Common.{◌≡◌, ◌+◌, ◌*◌, ◌%◌, pos, ◌-ℤ◌, ap, ◌∙◌}
 use Rattle.num_modular.specs.Integers.{residue_of}
 use Rattle.num_modular.specs.Residues.{residue}
 use Rattle.residue_numbers.proofs.Remainders.{digit_right}
