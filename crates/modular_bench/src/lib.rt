@@ -2,8 +2,8 @@
 //!
 //! Each has the shape `bench_NAME(x, y, m, n)`, in words of 64 bits where the name has no other width,
 //! or `bench_NAME(operation, x, y, m, n)`, where a number names the operation. What m must be is its
-//! `requires`, which the driver keeps. The functions of `transforms` and `runs` take a list, and those
-//! of `counts` answer a number of steps.
+//! `requires`, which the driver keeps. The functions of `transforms`, `runs` and `users` take lists, and
+//! those of `counts` answer a number of steps.
 #![tactic(auto)]
 
 mod chains;
@@ -15,3 +15,4 @@ mod rings;
 mod runs;
 mod symbols;
 mod transforms;
+mod users;
