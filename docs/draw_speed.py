@@ -83,8 +83,8 @@ def columns(growth):
 
 
 def growths(growth):
-    figure, ((powers, inverses), (symbols, transforms)) = plt.subplots(2, 2, figsize=(9.6, 7.4),
-                                                                      gridspec_kw={"hspace": 0.42, "wspace": 0.3})
+    figure, parts = plt.subplots(3, 2, figsize=(9.6, 11.2), gridspec_kw={"hspace": 0.42, "wspace": 0.3})
+    (powers, inverses), (symbols, transforms), (products, searches) = parts
     digits, port, crate, montgomery = columns(growth["powers"])
     powers.plot(digits, port, "o-", color=PORT, label="powm", markersize=3.5)
     powers.plot(digits, montgomery, "s-", color=THIRD, label="Montgomery::pow", markersize=3.5)
@@ -112,10 +112,26 @@ def growths(growth):
     transforms.set_xscale("log", base=2)
     said.append(f"a transform of 2^{math.log2(entries[0]):.0f} entries takes {solinas[0] / 1e3:.2f} microseconds and of "
                 f"2^{math.log2(entries[-1]):.0f} {solinas[-1] / 1e6:.2f} ms, close to n log n")
-    for part in (powers, inverses, symbols, transforms):
+    digits, port, school = columns(growth["products"])
+    products.plot(digits, port, "o-", color=PORT, label="big_product::product", markersize=3.5)
+    products.plot(digits, school, "^-", color=CRATE, label="the schoolbook's, in Rust", markersize=3.5)
+    products.set(title="A product, by its factors' digits", xlabel="digits of 16 bits", ylabel="ns", yscale="log")
+    products.set_xscale("log", base=2)
+    said.append(f"a product of numbers of 2^{math.log2(digits[-1]):.0f} digits of 16 bits takes {port[-1] / 1e6:.2f} ms by transforms "
+                f"and {school[-1] / 1e6:.2f} ms by the schoolbook's way")
+    lengths, port, loop, windows, strings = columns(growth["searches"])
+    searches.plot(lengths, port, "o-", color=PORT, label="mersenne_hash::find", markersize=3.5)
+    searches.plot(lengths, loop, "^-", color=CRATE, label="a loop in Rust", markersize=3.5)
+    searches.plot(lengths, windows, "s-", color=THIRD, label="windows(n).position", markersize=3.5)
+    searches.plot(lengths, strings, ":", color=INK, label="str::find")
+    searches.set(title="A search in one letter, by the pattern's length", xlabel="bytes of the pattern", ylabel="ms", yscale="log")
+    searches.set_xscale("log", base=2)
+    said.append(f"a search in 1,000,000 equal letters takes {port[0]:.1f} ms for a pattern of {lengths[0]:.0f} bytes and {port[-1]:.1f} ms "
+                f"for one of {lengths[-1]:.0f}, a loop {loop[0]:.1f} and {loop[-1]:.1f} ms")
+    for part in parts.flat:
         part.legend(fontsize=8.5)
         part.title.set_fontsize(10.5)
-    words = "Four curves against a size: " + "; ".join(said) + "."
+    words = "Six curves against a size: " + "; ".join(said) + "."
     return save(figure, "speed-growth.svg", "Times and counted steps against sizes", words)
 
 

@@ -6,6 +6,7 @@ use crate::original;
 use crate::port::{self, Bench};
 use crate::report::Growth;
 use crate::transforms;
+use crate::users;
 
 /// How many pairs of numbers are counted for each size.
 const PAIRS: usize = 2000;
@@ -57,10 +58,13 @@ fn against_bits(key: &'static str, functions: [Bench; 2], count: fn(u64, u64) ->
 
 /// Each growth that the picture shows.
 pub fn measured() -> Vec<Growth> {
+    let [products, searches] = users::growth();
     vec![
         powers(),
         against_bits("inverses", [port::invm, original::invm], port::divisions),
         against_bits("symbols", [port::jacobi_short, original::jacobi_short], port::halvings),
         transforms::growth(),
+        products,
+        searches,
     ]
 }

@@ -1,7 +1,7 @@
 //! Measures the port beside the Rust crate, turn by turn in one run: a line an operation, with the
 //! time of one step and the ratio of the two. Then come even moduli, lists of commands, transforms of
-//! whole lists, and times and counted steps against sizes. Before anything is measured the answers are
-//! compared; where they differ it says so and ends with status 1.
+//! whole lists, searches, products of long numbers, and times and counted steps against sizes. Before
+//! anything is measured the answers are compared; where they differ it says so and ends with status 1.
 //!
 //! With a folder as argument it writes speed.json and the tables of speed.md there, else it prints the
 //! tables.
@@ -14,6 +14,7 @@ mod port;
 mod report;
 mod runs;
 mod transforms;
+mod users;
 
 use lines::{Moduli, Table};
 use measure::{FIRST, SECOND, agree, best, operands};
@@ -105,7 +106,7 @@ fn machine() -> String {
 
 fn main() -> ExitCode {
     let tables = lines::tables();
-    if !all_agree(&tables) || !runs::agree() || !transforms::agree() {
+    if !all_agree(&tables) || !runs::agree() || !transforms::agree() || !users::agree() {
         eprintln!("the answers differ");
         return ExitCode::from(1);
     }
@@ -113,6 +114,8 @@ fn main() -> ExitCode {
     rows.push(measured_even());
     rows.push(runs::measured());
     rows.push(transforms::measured());
+    rows.push(users::searches());
+    rows.push(users::products());
     let report = Report { machine: machine(), tables: rows, growth: growth::measured() };
     match env::args().nth(1) {
         None => print!("{}", report.markdown()),
