@@ -1,21 +1,15 @@
 -- The inverse of a number modulo the base, from its negated inverse.
-use Rattle.std.proofs.Common.{◌≡◌, ℕ, ◌+◌, ◌-◌, ◌*◌, ◌%◌, ◌<◌, sym, ap, ◌∙◌, arith, refl}
-use Rattle.std.proofs.Math.Nat.{mod-eq_of_lt, mod_self}
+use Rattle.std.proofs.Common.{◌≡◌, ℕ, ◌+◌, ◌*◌, ◌%◌, ◌<◌, sym, ap, ◌∙◌, arith, refl}
+use Rattle.std.proofs.Math.Nat.{mod-eq_of_lt}
 use Rattle.modular_word.specs.Reduction.{IsNegatedInverse}
-use Rattle.modular_word.proofs.Congruence.{same_sum, same_product, same_without}
+use Rattle.modular_word.proofs.Congruence.{same_product, same_without, next_is_multiple}
 
 -- the number that the negated inverse brings to 0 is the inverse
 pub inverse_of_negated : (b d n i : ℕ) → 1 < b → IsNegatedInverse b d n → (i + n) % b ≡ 0 → (d * i) % b ≡ 1
 inverse_of_negated b d n i h is e =
     let z : 0 % b ≡ 0 = mod-eq_of_lt (omega arith) in
-    let minus : (d * n) % b ≡ (b - 1) % b =
-    is.product ∙ sym (mod-eq_of_lt (let l : b - 1 < b = omega arith in l)) in
-    let none : (d * i + d * n) % b ≡ 0 =
+    let both : (d * i + d * n) % b ≡ (1 + d * n) % b =
     ap (λ v. v % b) (let s : d * i + d * n ≡ d * (i + n) = omega arith in s)
-    ∙ same_product b d d (i + n) 0 refl (e ∙ sym z)
-    ∙ ap (λ v. v % b) (let s : d * 0 ≡ 0 = omega arith in s) ∙ z in
-    let base : (1 + (b - 1)) % b ≡ 0 =
-    ap (λ v. v % b) (let s : 1 + (b - 1) ≡ b = omega arith in s) ∙ mod_self b in
-    let both : (d * i + (b - 1)) % b ≡ (1 + (b - 1)) % b =
-    same_sum b (d * i) (d * i) (b - 1) (d * n) refl (sym minus) ∙ none ∙ sym base in
-    same_without b (d * i) 1 (b - 1) (omega arith) both ∙ mod-eq_of_lt h
+    ∙ same_product b d d (i + n) 0 refl (e ∙ sym z) ∙ ap (λ v. v % b) (let s : d * 0 ≡ 0 = omega arith in s)
+    ∙ sym (next_is_multiple b (d * n) (omega arith) is.product) ∙ ap (λ v. v % b) (let s : d * n + 1 ≡ 1 + d * n = omega arith in s) in
+    same_without b (d * i) 1 (d * n) (omega arith) both ∙ mod-eq_of_lt h

@@ -40,24 +40,23 @@ split_at zero m h k = absurd (omega arith)
 split_at (suc w) m h k =
     split_step w m (count_trailing_zeros w (m / 2)) (m % 2) refl (mod-lt m (omega arith)) h k (split_at w (m / 2))
 
--- so they split a number below the base b, h being what a shift leaves of it and k the same
-pub split_of : (w b m s h k : ℕ) → b ≡ 2 ^ w → 0 < m → m < b → s ≡ count_trailing_zeros w m → h ≡ m / 2 ^ s
-    → k ≡ h → IsSplit w m s k
-split_of w b m s h k eb some fits es eh ek =
+-- so they split a number below the base b, h being what a shift leaves of it
+pub split_of : (w b m s h : ℕ) → b ≡ 2 ^ w → 0 < m → m < b → s ≡ count_trailing_zeros w m → h ≡ m / 2 ^ s → IsSplit w m s h
+split_of w b m s h eb some fits es eh =
     let at = split_at w m some (omega (arith, eb)) in
-    subst (λ n. IsSplit w m s n) (sym (ek ∙ eh)) (subst (λ n. IsSplit w m n (m / 2 ^ n)) (sym es) at)
+    subst (λ n. IsSplit w m s n) (sym eh) (subst (λ n. IsSplit w m n (m / 2 ^ n)) (sym es) at)
 
--- and with what is kept of k they are what is kept of the number
-pub split_ring : (w b m s h k : ℕ) {i square : ℕ} → IsOddRing w b k i square → 0 < m → m < b
-    → s ≡ count_trailing_zeros w m → h ≡ m / 2 ^ s → k ≡ h → IsSplitRing w b (k * 2 ^ s) s k i square
-split_ring w b m s h k {i} {square} r some fits es eh ek =
-    let split = split_of w b m s h k r.base some fits es eh ek in
+-- and with what is kept of k, which is h, they are what is kept of the number
+pub split_ring : {w b m s h k i square : ℕ} → IsOddRing w b k i square → IsSplit w m s h → m < b → s ≡ count_trailing_zeros w m → k ≡ h
+    → IsSplitRing w b (k * 2 ^ s) s k i square
+split_ring {w} {b} {m} {s} {h} {k} r split fits es ek =
+    let whole : k * 2 ^ s ≡ m = ap (λ n. n * 2 ^ s) ek ∙ split.whole in
     record {
       odd = r;
-      twos = es ∙ ap (count_trailing_zeros w) (sym split.whole);
+      twos = es ∙ ap (count_trailing_zeros w) (sym whole);
       few = split.few;
       whole = refl;
-      fits = omega (arith, split.whole);
+      fits = omega (arith, whole);
     }
 
 -- an odd number has none

@@ -26,36 +26,33 @@ value_below-found form (suc b) v f only h e =
     found_step form b v f (value_below form b f) only
     (λ k. value_below-found form b v f (λ w l. only w (omega arith)) k e) h e
 
--- an odd modulus is not 0
-pub positive : {w b m i square : ℕ} → IsOddRing w b m i square → 0 < m
-positive r = let odd = r.odd in omega arith
+module _ {w b m i square : ℕ} (r : IsOddRing w b m i square) where
+  -- an odd modulus is not 0
+  pub positive : 0 < m
+  positive = let odd = r.odd in omega arith
 
--- so it cancels modulo m
-pub base_cancels : {w b m i square : ℕ} → IsOddRing w b m i square → (x y : ℕ)
-    → (x * b) % m ≡ (y * b) % m → x % m ≡ y % m
-base_cancels {w} {b} {m} {i} {square} r x y e =
-    same_without_unit m x y b ((m * i + 1) / b) (base_inverse b m i (omega (arith, r.fits)) r.inverse) e
+  -- so it cancels modulo m
+  pub base_cancels : (x y : ℕ) → (x * b) % m ≡ (y * b) % m → x % m ≡ y % m
+  base_cancels x y e =
+      same_without_unit m x y b ((m * i + 1) / b) (base_inverse b m i (omega (arith, r.fits)) r.inverse) e
 
--- two values of one form are one
-form_injective : {w b m i square : ℕ} → IsOddRing w b m i square → (v x : ℕ) → v < m → x < m
-    → montgomery_form w m x ≡ montgomery_form w m v → x ≡ v
-form_injective {w} {b} {m} {i} {square} r v x hv hx e =
-    let by_base : (x * b) % m ≡ (v * b) % m =
-    ap (λ n. (x * n) % m) r.base ∙ e ∙ ap (λ n. (v * n) % m) (sym r.base) in
-    sym (mod-eq_of_lt hx) ∙ base_cancels r x v by_base ∙ mod-eq_of_lt hv
+  -- two values of one form are one
+  form_injective : (v x : ℕ) → v < m → x < m → montgomery_form w m x ≡ montgomery_form w m v → x ≡ v
+  form_injective v x hv hx e =
+      let by_base : (x * b) % m ≡ (v * b) % m =
+      ap (λ n. (x * n) % m) r.base ∙ e ∙ ap (λ n. (v * n) % m) (sym r.base) in
+      sym (mod-eq_of_lt hx) ∙ base_cancels x v by_base ∙ mod-eq_of_lt hv
 
--- the value of the form of v is v
-pub value_of_form : {w b m i square : ℕ} → IsOddRing w b m i square → {f v : ℕ}
-    → Represents (montgomery_form w) m f v → montgomery_value w m f ≡ v
-value_of_form {w} {b} {m} {i} {square} r {f} {v} h =
-    value_below-found (montgomery_form w m) m v f
-    (λ x l e. form_injective r v x h.below l (e ∙ h.same)) h.below (sym h.same)
+  -- the value of the form of v is v
+  pub value_of_form : {f v : ℕ} → Represents (montgomery_form w) m f v → montgomery_value w m f ≡ v
+  value_of_form {f} {v} h =
+      value_below-found (montgomery_form w m) m v f
+      (λ x l e. form_injective v x h.below l (e ∙ h.same)) h.below (sym h.same)
 
--- each value has one form, a word, and each form one value
-pub montgomery_canonical : {w b m i square : ℕ} → IsOddRing w b m i square
-    → IsCanonical (montgomery_form w) (montgomery_value w) w m
-montgomery_canonical {w} {b} {m} {i} {square} r = record {
-  positive = positive r;
-  one_value = λ f v h. value_of_form r h;
-  fits = λ v h. omega (arith, mod-lt (v * 2 ^ w) (positive r), r.fits, r.base);
-}
+  -- each value has one form, a word, and each form one value
+  pub montgomery_canonical : IsCanonical (montgomery_form w) (montgomery_value w) w m
+  montgomery_canonical = record {
+    positive = positive;
+    one_value = λ f v h. value_of_form h;
+    fits = λ v h. omega (arith, mod-lt (v * 2 ^ w) (positive), r.fits, r.base);
+  }

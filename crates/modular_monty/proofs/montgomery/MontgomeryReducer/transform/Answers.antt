@@ -1,16 +1,10 @@
 use Rattle.std.proofs.Common.{refl}
-use Rattle.modular_reduced.proofs.FormLemmas.{answered}
-use Rattle.modular_monty.specs.SplitLaws.{split_canonical}
-use Rattle.modular_monty.proofs.SplitSteps.{stands, joined_none}
+use Rattle.modular_monty.proofs.SplitSteps.{made, joined_none}
 use Rattle.modular_monty.proofs.montgomery.MontgomeryReducer.transform.Goals as goal
 
 pub returns-then-self-eq0 : goal.returns-then-self-eq0
 returns-then-self-eq0 g c =
-    answered (split_canonical c.args.self.now.ring)
-    (stands c.args.self.now.ring _ (g.T.RingWord.number c.args.n) c.transform-high.ensures.form refl refl
-    (joined_none _ _ _ c.if-self-eq0.true))
+    made c.args.self.now.ring _ (g.T.RingWord.number c.args.n) c.transform-high.ensures.form refl refl (joined_none _ _ _ c.if-self-eq0.true)
 
 pub returns : goal.returns
-returns g c =
-    answered (split_canonical c.args.self.now.ring)
-    (stands c.args.self.now.ring _ _ c.transform-high.ensures.form refl refl c.join.ensures)
+returns g c = made c.args.self.now.ring _ _ c.transform-high.ensures.form refl refl c.join.ensures

@@ -1,12 +1,8 @@
-use Rattle.modular_reduced.proofs.FormLemmas.{answered}
-use Rattle.modular_monty.specs.MontgomeryLaws.{montgomery_canonical}
-use Rattle.modular_monty.proofs.MontgomerySteps.{negative_stands, form_below}
+use Rattle.modular_monty.proofs.MontgomerySteps.{negative_made, form_below}
 use Rattle.modular_monty.proofs.odd_ring.OddRingReducer.neg.Goals as goal
 
 pub neg_below-requires : goal.neg_below-requires
 neg_below-requires g c = rw c.number.ensures (form_below (g.met.M.OddModulus.is_odd_ring c.args.self.now.of) c.requires)
 
 pub returns : goal.returns
-returns g c =
-    answered (montgomery_canonical (g.met.M.OddModulus.is_odd_ring c.args.self.now.of))
-    (negative_stands (g.met.M.OddModulus.is_odd_ring c.args.self.now.of) c.requires (rw c.number.ensures at c.neg_below.ensures.value))
+returns g c = negative_made (g.met.M.OddModulus.is_odd_ring c.args.self.now.of) c.requires (rw c.number.ensures at c.neg_below.ensures.value)
