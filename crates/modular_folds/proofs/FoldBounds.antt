@@ -1,6 +1,6 @@
 -- How far folds in a row take a number that is no more than a product of two numbers below 2^p.
-use Rattle.std.proofs.Common.{◌≡◌, ℕ, zero, suc, ◌+◌, ◌*◌, ◌/◌, ◌%◌, ◌^◌, ◌<◌, ◌≤◌, arith, lit<}
-use Rattle.std.proofs.Math.Nat.{mul-le-mul_right, div-lt_iff_lt-mul, mod-lt, pow-le-pow_right}
+use Rattle.std.proofs.Common.{◌≡◌, ℕ, zero, suc, ◌+◌, ◌*◌, ◌/◌, ◌%◌, ◌^◌, ◌<◌, ◌≤◌, ap, arith, lit<}
+use Rattle.std.proofs.Math.Nat.{mul-le-mul_right, div-lt_iff_lt-mul, lt-div-mul-add, mod-lt, pow-le-pow_right}
 use Rattle.std.proofs.lemmas.Nat.{shr_split, pow_pos, pow-add, mul-le}
 use Rattle.modular_folds.specs.Folds.{fold_of}
 
@@ -31,11 +31,15 @@ next_fold p c h s high =
     let most : s / 2 ^ p * c ≤ h * c = mul-le-mul_right c high in
     omega (arith, most, low)
 
--- by 1, the first fold is less than twice 2^p by 1 at least
-pub first_fold_by_one : (p v : ℕ) → v / 2 ^ p < 2 ^ p → fold_of p 1 v + 1 < 2 * 2 ^ p
-first_fold_by_one p v product =
-    let low = mod-lt v (pow_pos p) in
-    omega (arith, product, low)
+-- by 1, the first fold is less than twice 2^p by 1 at least, so that two folds do
+pub two_low : (p v : ℕ) → v / 2 ^ p < 2 ^ p → fold_of p 1 (fold_of p 1 v) < 2 ^ p
+two_low p v product = last_fold p 1 (fold_of p 1 v) (omega (arith, product, mod-lt v (pow_pos p)))
+
+-- by a small number, three do
+pub three_low : (p c v : ℕ) → c * c + c ≤ 2 ^ p → v / 2 ^ p < 2 ^ p → fold_of p c (fold_of p c (fold_of p c v)) < 2 ^ p
+three_low p c v small product =
+    let near = next_fold p c c (fold_of p c v) (first_fold p c v product) in
+    last_fold p c (fold_of p c (fold_of p c v)) (omega (arith, near))
 
 -- a factor of half as many bits as p has a small square
 pub small_square : (p c : ℕ) → c < 2 ^ (p / 2) → c * c + 2 * c < 2 ^ p
@@ -48,6 +52,4 @@ small_square p c less =
 
 -- a number that has no part above the bit p is below 2^p
 pub low_only : (p v : ℕ) → v / 2 ^ p ≡ 0 → v < 2 ^ p
-low_only p v none =
-    let less : v < 1 * 2 ^ p = (div-lt_iff_lt-mul {x = v} {y = 1} (pow_pos p)).0 (omega (arith, none)) in
-    omega (arith, less)
+low_only p v none = omega (arith, lt-div-mul-add {a = v} (pow_pos p), ap (λ h. h * 2 ^ p) none)

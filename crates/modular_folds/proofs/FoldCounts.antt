@@ -1,12 +1,12 @@
 -- How many folds a number takes, and that these are few.
-use Rattle.std.proofs.Common.{◌≡◌, ℕ, zero, suc, ◌+◌, ◌-◌, ◌*◌, ◌/◌, ◌%◌, ◌^◌, ◌<◌, ◌≤◌, sym, ◌∙◌, ap, arith, ⊎_elim}
-use Rattle.std.proofs.Math.Nat.{div-eq_of_lt-le, div-lt_iff_lt-mul, mod-eq_of_lt, mul-add-mod_self_right, mul-le-mul_right, pow-suc}
+use Rattle.std.proofs.Common.{◌≡◌, ℕ, zero, suc, ◌+◌, ◌-◌, ◌*◌, ◌/◌, ◌^◌, ◌<◌, ◌≤◌, sym, ◌∙◌, ap, ap₂, arith, ⊎_elim}
+use Rattle.std.proofs.Math.Nat.{div-lt_iff_lt-mul, mul-le-mul_right, pow-suc}
 use Rattle.std.proofs.lemmas.Bool.Decides.{nat_tests}
 use Rattle.std.proofs.lemmas.Bool.{cases_lt}
-use Rattle.std.proofs.lemmas.Nat.{pow_pos, pow-add, shr_split}
+use Rattle.std.proofs.lemmas.Nat.{pow_pos, pow-add, shr_split, div-mul-add, mod-mul-add}
 use Rattle.modular_folds.specs.Folds.{fold_of, folds_within, folds, IsFewFolds}
 use Rattle.modular_folds.proofs.FoldSteps.{fold_less, fold_halves}
-use Rattle.modular_folds.proofs.FoldBounds.{first_fold_by_one, first_fold, next_fold, last_fold, small_square}
+use Rattle.modular_folds.proofs.FoldBounds.{two_low, three_low, next_fold, last_fold, small_square}
 
 within_none : (k p c v : ℕ) → v < 2 ^ p → folds_within k p c v ≡ 0
 unfolding folds_within
@@ -58,19 +58,15 @@ after p c v n b few =
 -- by 1, two folds do for a product of two numbers below 2^p
 few_by_one : (p v : ℕ) → 1 < 2 ^ p → v / 2 ^ p < 2 ^ p → folds p 1 v ≤ 2
 few_by_one p v b product =
-    let first = fold_of p 1 v in
-    let low = last_fold p 1 first (first_fold_by_one p v product) in
-    let none = folds-none p 1 (fold_of p 1 first) low in
-    after p 1 v 1 b (after p 1 first 0 b (omega (arith, none)))
+    let none = folds-none p 1 (fold_of p 1 (fold_of p 1 v)) (two_low p v product) in
+    after p 1 v 1 b (after p 1 (fold_of p 1 v) 0 b (omega (arith, none)))
 
 -- by a small number, three
 few_by_small : (p c v : ℕ) → c < 2 ^ p → c * c + c ≤ 2 ^ p → v / 2 ^ p < 2 ^ p → folds p c v ≤ 3
 few_by_small p c v b small product =
     let first = fold_of p c v in
     let second = fold_of p c first in
-    let near = next_fold p c c first (first_fold p c v product) in
-    let low = last_fold p c second (omega (arith, near)) in
-    let none = folds-none p c (fold_of p c second) low in
+    let none = folds-none p c (fold_of p c second) (three_low p c v small product) in
     after p c v 2 b (after p c first 1 b (after p c second 0 b (omega (arith, none))))
 
 -- two below twice 2^p, and one more for each doubling
@@ -135,9 +131,6 @@ count_one p c v rest b is some =
 -- the law of a fold, of a number given by its parts
 pub folds-parts : (p c hi lo : ℕ) → c < 2 ^ p → lo < 2 ^ p → 0 < hi → folds p c (hi * 2 ^ p + lo) ≡ 1 + folds p c (hi * c + lo)
 folds-parts p c hi lo b low some =
-    let v = hi * 2 ^ p + lo in
     let most : 1 * 2 ^ p ≤ hi * 2 ^ p = mul-le-mul_right (2 ^ p) (omega arith) in
-    let above : v / 2 ^ p ≡ hi = div-eq_of_lt-le (2 ^ p) (let a : hi * 2 ^ p ≤ v = omega arith in a) (let b : v < (hi + 1) * 2 ^ p = omega arith in b) in
-    let below : v % 2 ^ p ≡ lo = mul-add-mod_self_right hi (2 ^ p) lo ∙ mod-eq_of_lt low in
-    let next = folds-next p c v b (omega (arith, most)) in
-    next ∙ ap (λ n. 1 + folds p c n) (ap (λ h. h * c + v % 2 ^ p) above ∙ ap (λ l. hi * c + l) below)
+    folds-next p c (hi * 2 ^ p + lo) b (omega (arith, most))
+    ∙ ap₂ (λ h l. 1 + folds p c (h * c + l)) (div-mul-add hi (2 ^ p) lo low) (mod-mul-add hi (2 ^ p) lo low)

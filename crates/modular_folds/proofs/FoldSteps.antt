@@ -1,5 +1,5 @@
 -- What a fold makes of a number.
-use Rattle.std.proofs.Common.{◌≡◌, ℕ, ◌+◌, ◌-◌, ◌*◌, ◌/◌, ◌%◌, ◌^◌, ◌<◌, ◌≤◌, arith, ap, sym, ◌∙◌, ⊎_elim, bit_and, lit<}
+use Rattle.std.proofs.Common.{◌≡◌, ℕ, zero, suc, ◌+◌, ◌-◌, ◌*◌, ◌/◌, ◌%◌, ◌^◌, ◌<◌, ◌≤◌, arith, ap, sym, ◌∙◌, ⊎_elim, bit_and, lit<}
 use Rattle.std.proofs.Math.Nat.{add-mul-mod_self_right, mod-lt, mul-le-mul_left, mul-lt-mul_of_pos_left, pow-le-pow_right}
 use Rattle.std.proofs.lemmas.Nat.{shr_split, pow_pos, le-div, and_mask}
 use Rattle.std.proofs.lemmas.Bool.{cases_lt}
@@ -40,9 +40,9 @@ fold_keeps p c m v is =
     sym (add-mul-mod_self_right (fold_of p c v) (v / 2 ^ p) m) ∙ ap (λ n. n % m) whole
 
 -- so do two
-pub two_folds_keep : (p c m v first second : ℕ) → m + c ≡ 2 ^ p → first ≡ fold_of p c v → second ≡ fold_of p c first
+pub two_folds_keep : (p c m v : ℕ) {first second : ℕ} → m + c ≡ 2 ^ p → first ≡ fold_of p c v → second ≡ fold_of p c first
     → second % m ≡ v % m
-two_folds_keep p c m v first second is one two =
+two_folds_keep p c m v {first} {second} is one two =
     ap (λ n. n % m) two ∙ fold_keeps p c m first is ∙ ap (λ n. n % m) one ∙ fold_keeps p c m v is
 
 -- a word of w bits that is 2^p at least has more than p bits
@@ -56,3 +56,8 @@ bit_inside w p v high fits =
 -- 2^p is among the numbers up to 2^w
 pub power_fits : {w p c m : ℕ} → IsFolding w p c m → 2 ^ p ≤ 2 ^ w
 power_fits is = pow-le-pow_right {n = 2} (lit< tt) is.fits
+
+-- so p is not 0
+pub some_bits : {w p c m : ℕ} → IsFolding w p c m → 0 < p
+some_bits {w} {p = zero} {c} {m} is = absurd (omega (arith, is.some, is.whole, is.half))
+some_bits {w} {p = suc p} {c} {m} is = omega arith

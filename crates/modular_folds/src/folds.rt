@@ -6,6 +6,7 @@ ghost use Rattle.modular_folds.specs.Folds.{fold_of, folds, IsFewFolds, IsFoldin
 use crate::fold_word::FoldWord;
 use modular_prim::plain_word::PlainWord;
 use modular_word::path_word::PathWord;
+use modular_word::ring_word::RingWord;
 
 // One fold at the bit p: the part above it times c, plus the part below it. The mask has the bits
 // below p. A number that has no part above it stays as it is, which counts for no fold.
@@ -129,6 +130,20 @@ impl FoldedWord for u64 {
     }
 }
 
+// The residue of a + b. Condition: b is at most m, and the sum below 2m.
+pub(crate) fn sum_once<T: PathWord>(a: T, b: T, m: T) -> T
+    requires most { T.number b ≤ T.number m }
+    requires twice { T.number a + T.number b < 2 * T.number m }
+    ensures { T.number result ≡ (T.number a + T.number b) % T.number m }
+{
+    let gap = m.minus(b);
+    if a.is_below(gap) {
+        a.plus(b)
+    } else {
+        a.minus(gap)
+    }
+}
+
 /// v modulo m, where m is 2^p - c and more than half of 2^p: as many folds as it takes, and one
 /// subtraction of words at most; and the number of the folds.
 ///
@@ -143,11 +158,7 @@ pub fn reduce_by_folds<T: FoldedWord>(v: T::Double, p: u32, c: T, m: T) -> (T, u
     ensures few { IsFewFolds p (T.number c) (T.whole v) result.1 }
 {
     let (rest, count) = T::fold_double(v, p, c, m);
-    if rest.is_below(m) {
-        (rest, count)
-    } else {
-        (rest.minus(m), count)
-    }
+    (sum_once(rest, T::zero(), m), count)
 }
 
 /// No folds below 2^p, and one more than from hi·c + lo where c is below 2^p and v isn't, hi and lo being

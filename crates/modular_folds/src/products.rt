@@ -4,23 +4,9 @@
 ghost use Rattle.std.specs.Prelude.{◌≡◌, ℕ, ◌+◌, ◌-◌, ◌*◌, ◌/◌, ◌%◌, ◌^◌, ◌<◌, ◌≤◌};
 ghost use Rattle.modular_folds.specs.Folds.{IsFolding};
 
-use crate::folds::{FoldedWord, reduce_by_folds};
+use crate::folds::{FoldedWord, reduce_by_folds, sum_once};
 use modular_word::path_word::PathWord;
 use modular_word::ring_word::RingWord;
-
-// The residue of a + b. Condition: b is at most m, and the sum below 2m.
-fn sum_once<T: PathWord>(a: T, b: T, m: T) -> T
-    requires most { T.number b ≤ T.number m }
-    requires twice { T.number a + T.number b < 2 * T.number m }
-    ensures { T.number result ≡ (T.number a + T.number b) % T.number m }
-{
-    let gap = m.minus(b);
-    if a.is_below(gap) {
-        a.plus(b)
-    } else {
-        a.minus(gap)
-    }
-}
 
 // The parts at the bit p of high·c + low, where the lower part, given and answered, stands at the top of
 // its word, so that the two parts are the words of a double word. Condition: c is below 2^p.

@@ -18,3 +18,6 @@ returns-then-not-is_below-clause-count g c =
     let n = g.V.RingWord.number in
     let low : n c.args.v < 2 ^ c.args.p = grind (arith, c.is_below.ensures.below, c.if-not-is_below.true) in
     sym (folds-none c.args.p (n c.args.c) (n c.args.v) low)
+
+pub returns-then-is_below : goal.returns-then-is_below
+returns-then-is_below g c = c.fold_on.ensures

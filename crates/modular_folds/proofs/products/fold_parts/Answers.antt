@@ -1,12 +1,11 @@
-use Rattle.std.proofs.Common.{◌≡◌, ◌+◌, ◌-◌, ◌*◌, ◌^◌, ◌∙◌, ap, arith}
+use Rattle.std.proofs.Common.{◌≡◌, ◌+◌, ◌-◌, ◌*◌, ◌/◌, ◌^◌, ◌∙◌, ap, arith}
 use Rattle.std.proofs.Math.Nat.{mul-lt-mul_of_pos_right}
 use Rattle.std.proofs.lemmas.Nat.{pow_pos, shr_split}
-use Rattle.modular_folds.proofs.ProductFolds.{scaled_parts, scaled_fold, power_whole}
+use Rattle.modular_folds.proofs.ProductFolds.{scaled_parts, power_whole}
 use Rattle.modular_folds.proofs.products.fold_parts.Goals as goal
 
 pub shift_left-requires-clause-fits : goal.shift_left-requires-clause-fits
 shift_left-requires-clause-fits g c =
-    let n = g.T.RingWord.number in
     let by = g.T.RingWord.width - c.args.p in
     let whole = power_whole _ c.args.p _ c.requires.fits g.met.T.PathWord.base_is in
     let less = mul-lt-mul_of_pos_right {k = 2 ^ by} c.requires.less (pow_pos by) in
@@ -15,16 +14,23 @@ shift_left-requires-clause-fits g c =
 pub returns : goal.returns
 returns g c =
     let n = g.T.RingWord.number in
-    let by = g.T.RingWord.width - c.args.p in
-    let split = shr_split (n c.args.low) by in
-    let words : n c.args.high * n c.shift_left.result + n c.args.low ≡ n c.split.result.0 + g.T.PathWord.base * n c.split.result.1 =
-    omega (arith, c.split.ensures.value, c.double_plus.ensures, c.product-scaled.ensures.value, c.merge.ensures.value, ap (λ z. g.T.PathWord.base * z) c.zero.ensures) in
-    let is =
-    scaled_fold (2 ^ c.args.p) (2 ^ by) g.T.PathWord.base (n c.args.high) (n c.args.c) (n c.args.low) (n c.shift_left.result)
-    (n c.split.result.0) (n c.split.result.1) (pow_pos by)
-    (power_whole _ c.args.p _ c.requires.fits g.met.T.PathWord.base_is)
-    (omega (arith, split, c.requires.top))
-    (c.shift_left.ensures ∙ ap (λ b. n c.args.c * 2 ^ (b - c.args.p)) c.bits.ensures)
-    words c.split.ensures.low_fits in
-    let parts = scaled_parts is in
+    let s = 2 ^ (g.T.RingWord.width - c.args.p) in
+    let whole = power_whole _ c.args.p _ c.requires.fits g.met.T.PathWord.base_is in
+    let scaled = c.shift_left.ensures ∙ ap (λ b. n c.args.c * 2 ^ (b - c.args.p)) c.bits.ensures in
+    let words : (n c.args.high * n c.args.c + n c.args.low / s) * s ≡ n c.split.result.0 + 2 ^ c.args.p * s * n c.split.result.1 =
+    omega (
+      arith,
+      c.split.ensures.value,
+      c.double_plus.ensures,
+      c.product-scaled.ensures.value,
+      c.merge.ensures.value,
+      ap (λ z. g.T.PathWord.base * z) c.zero.ensures,
+      ap (λ u. n c.args.high * u) scaled,
+      ap (λ u. u * n c.split.result.1) whole,
+      shr_split (n c.args.low) (g.T.RingWord.width - c.args.p),
+      c.requires.top,
+    ) in
+    let parts =
+    scaled_parts (2 ^ c.args.p) s (n c.args.high * n c.args.c + n c.args.low / s) (pow_pos (g.T.RingWord.width - c.args.p)) words
+    (omega (arith, whole, c.split.ensures.low_fits)) in
     record { low = parts.0; high = parts.1 }
