@@ -21,6 +21,20 @@ pub value_of : {T : Type 0} {number : T → ℕ} {form value : ℕ → ℕ → �
 value_of {T} {number} {form} {value} {width} {m} a x canonical holds below is =
     ap (λ y. value m (number y)) is ∙ canonical.one_value _ _ (holds.each a x below)
 
+-- what stands for a number that is computed from the value of what was read of register a stands for that of v a
+pub form_of_one : {T : Type 0} {number : T → ℕ} {form value : ℕ → ℕ → ℕ} {width m f : ℕ} {registers : List T} {v : ℕ → ℕ} (F : ℕ → ℕ) (a : ℕ) (x : T)
+    → IsCanonical form value width m → HoldValues number form m registers v → a < length registers → x ≡ get_or registers a x
+    → Represents form m f (F (value m (number x))) → Represents form m f (F (v a))
+form_of_one {T} {number} {form} {value} {width} {m} {f} F a x canonical holds below is stands =
+    subst (λ u. Represents form m f (F u)) (value_of a x canonical holds below is) stands
+
+-- the same of two registers
+pub form_of_two : {T : Type 0} {number : T → ℕ} {form value : ℕ → ℕ → ℕ} {width m f : ℕ} {registers : List T} {v : ℕ → ℕ} (F : ℕ → ℕ → ℕ) (a b : ℕ) (x y : T)
+    → IsCanonical form value width m → HoldValues number form m registers v → a < length registers → b < length registers → x ≡ get_or registers a x → y ≡ get_or registers b y
+    → Represents form m f (F (value m (number x)) (value m (number y))) → Represents form m f (F (v a) (v b))
+form_of_two {T} {number} {form} {value} {width} {m} {f} {registers} {v} F a b x y canonical holds below_a below_b is_a is_b stands =
+    form_of_one {v = v} (λ u. F u (v b)) a x canonical holds below_a is_a (form_of_one {v = v} (F (value m (number x))) b y canonical holds below_b is_b stands)
+
 -- what `inv` answers is the form of what `inverse_of` names
 pub inverse_form : {T : Type 0} (number : T → ℕ) (form : ℕ → ℕ → ℕ) (m u : ℕ) (found : Option T)
     → IsInverseForm number form m u found → IsFormOf number form m (inverse_of m u) found

@@ -40,3 +40,53 @@ returns-in_err-dst-in-div c =
 pub returns-in_err-dst-in-pow : goal.returns-in_err-dst-in-pow
 returns-in_err-dst-in-pow c =
     rw c.from_residual-in_err-dst-in-pow.ensures (no_pow _ _ c.in-pow.is c.in_err-dst-in-pow.ensures)
+
+pub returns-in_ok-dst-in-load : goal.returns-in_ok-dst-in-load
+returns-in_ok-dst-in-load c =
+    let h = c.in_ok-dst-in-load.ensures in
+    record { named = c.in-load.is; read = h.1; fit = h.0 }
+
+pub returns-in_ok-dst-in-add : goal.returns-in_ok-dst-in-add
+returns-in_ok-dst-in-add c =
+    let h = c.in_ok-dst-in-add.ensures in
+    record { named = c.in-add.is; read = h.3; fit = (h.0, h.1, h.2) }
+
+pub returns-in_ok-dst-in-sub : goal.returns-in_ok-dst-in-sub
+returns-in_ok-dst-in-sub c =
+    let h = c.in_ok-dst-in-sub.ensures in
+    record { named = c.in-sub.is; read = h.3; fit = (h.0, h.1, h.2) }
+
+pub returns-in_ok-dst-in-mul : goal.returns-in_ok-dst-in-mul
+returns-in_ok-dst-in-mul c =
+    let h = c.in_ok-dst-in-mul.ensures in
+    record { named = c.in-mul.is; read = h.3; fit = (h.0, h.1, h.2) }
+
+pub returns-in_ok-dst-in-neg : goal.returns-in_ok-dst-in-neg
+returns-in_ok-dst-in-neg c =
+    let h = c.in_ok-dst-in-neg.ensures in
+    record { named = c.in-neg.is; read = h.2; fit = (h.0, h.1) }
+
+pub returns-in_ok-dst-in-dbl : goal.returns-in_ok-dst-in-dbl
+returns-in_ok-dst-in-dbl c =
+    let h = c.in_ok-dst-in-dbl.ensures in
+    record { named = c.in-dbl.is; read = h.2; fit = (h.0, h.1) }
+
+pub returns-in_ok-dst-in-sqr : goal.returns-in_ok-dst-in-sqr
+returns-in_ok-dst-in-sqr c =
+    let h = c.in_ok-dst-in-sqr.ensures in
+    record { named = c.in-sqr.is; read = h.2; fit = (h.0, h.1) }
+
+pub returns-in_ok-dst-in-inv : goal.returns-in_ok-dst-in-inv
+returns-in_ok-dst-in-inv c =
+    let h = c.in_ok-dst-in-inv.ensures in
+    record { named = c.in-inv.is; read = h.2; fit = (h.0, h.1) }
+
+pub returns-in_ok-dst-in-div : goal.returns-in_ok-dst-in-div
+returns-in_ok-dst-in-div c =
+    let h = c.in_ok-dst-in-div.ensures in
+    record { named = c.in-div.is; read = h.3; fit = (h.0, h.1, h.2) }
+
+pub returns-in_ok-dst-in-pow : goal.returns-in_ok-dst-in-pow
+returns-in_ok-dst-in-pow c =
+    let h = c.in_ok-dst-in-pow.ensures in
+    record { named = c.in-pow.is; read = h.2; fit = (h.0, h.1) }
