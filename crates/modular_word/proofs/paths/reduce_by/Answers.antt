@@ -42,7 +42,7 @@ returns-then-is_below g c =
     reduces_less g.T.PathWord.base (n c.args.m) (g.T.PathWord.whole c.args.t) (n c.args.x) (n c.split-low.result.1)
     (n c.if-is_zero_word.raised) (n c.wrapping_sub.result) (n c.wrapping_add-less.result)
     (high_words g (goal.at.returns-then-is_below g c).After-wrapping_add-less) c.requires.fits
-    c.wrapping_sub.ensures.fits c.wrapping_sub.ensures.value c.wrapping_add-less.ensures.value (grind arith)
+    c.wrapping_sub.ensures.fits c.wrapping_sub.ensures.value c.wrapping_add-less.ensures.value (c.is_below.ensures.below.0 c.if-is_below.true)
 
 pub returns-else-is_below : goal.returns-else-is_below
 returns-else-is_below g c =
