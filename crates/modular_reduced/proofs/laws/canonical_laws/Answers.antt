@@ -1,5 +1,5 @@
 -- From the law `canonical` of the reducer.
-use Rattle.std.proofs.Common.{◌≡◌, refl, sym, ap, ◌∙◌}
+use Rattle.std.proofs.Common.{refl, sym, ap, ◌∙◌}
 use Rattle.modular_reduced.proofs.FormLemmas.{form_of_value, form_as}
 use Rattle.modular_reduced.proofs.laws.canonical_laws.Goals as goal
 
