@@ -34,6 +34,7 @@ returns-then-is_below g c =
     ((λ h. is_form _ _ _ _ _ _ is (omega (arith, c.divisor.ensures.scaled)) bits (zero.0 h)), (λ form. zero.1 (is_clear _ _ _ _ _ _ is bits form)))
 
 pub returns-else-is_below : goal.returns-else-is_below
-returns-else-is_below g c =
-    ((λ h. absurd (cc)),
-    (λ form. sym c.if-is_below.false ∙ c.is_below.ensures.below.1 (form_below _ _ _ _ c.divisor.ensures.scaled form)))
+returns-else-is_below g c = (
+  (λ h. absurd (cc)),
+  (λ form. sym c.if-is_below.false ∙ c.is_below.ensures.below.1 (form_below _ _ _ _ c.divisor.ensures.scaled form)),
+)
