@@ -1,3 +1,5 @@
+use Rattle.std.proofs.Common.{◌+◌, ◌*◌, ◌%◌, subst}
+use Rattle.modular_reduced.specs.Forms.{Represents}
 use Rattle.modular_reduced.proofs.RingLaws as law
 use Rattle.modular_reduced.proofs.laws.products_distribute.Goals as goal
 
@@ -7,3 +9,19 @@ returns-clause-same g c =
     g.met.T.RingWord.injective _ _
     (law.products_distribute (v c.args.a) (v c.args.b) (v c.args.c) (g.met.R.Reducer.canonical c.args.reducer.now)
     c.add.ensures.form c.mul-left.ensures.form c.mul.ensures.form c.mul-2.ensures.form c.add-right.ensures.form)
+
+pub returns-clause-left : goal.returns-clause-left
+returns-clause-left g c =
+    let m = g.R.Reducer.modulus c.args.reducer.now in
+    let n = g.T.RingWord.number in
+    subst (λ k. Represents g.R.Reducer.form m (n c.mul-left.result) ((g.R.Reducer.value m (n c.args.a) * k) % m))
+    c.add.ensures.value c.mul-left.ensures.form
+
+pub returns-clause-right : goal.returns-clause-right
+returns-clause-right g c =
+    let m = g.R.Reducer.modulus c.args.reducer.now in
+    let n = g.T.RingWord.number in
+    let v = g.R.Reducer.value m (n c.mul-2.result) in
+    subst (λ k. Represents g.R.Reducer.form m (n c.add-right.result) ((g.R.Reducer.value m (n c.args.a) * g.R.Reducer.value m (n c.args.b) % m + k) % m))
+    c.mul-2.ensures.value
+    (subst (λ k. Represents g.R.Reducer.form m (n c.add-right.result) ((k + v) % m)) c.mul.ensures.value c.add-right.ensures.form)
