@@ -1,13 +1,15 @@
 //! Every operand form of the operators, rows that were worked by hand, and equality.
 
-ghost use Rattle.modular_reduced.specs.Integers.{IsReduced};
-ghost use Rattle.std.specs.Prelude.{◌%◌};
+ghost use Rattle.modular_reduced.specs.Integers.{CanDivide, IsReduced, modulus_of};
+ghost use Rattle.std.specs.Prelude.{◌≡◌, ◌%◌};
 
 use crate::callers::*;
 use crate::equality::is_equivalence;
 use crate::polynomial::{horner, value_by_forms, value_of_bytes};
-use modular_reduced::int::VanillaInt;
+use modular_reduced::int::{ReducedInt, VanillaInt};
 use modular_reduced::integer::ModularInteger;
+use modular_reduced::reducer::Reducer;
+use modular_word::ring_word::RingWord;
 use std::test::Fail;
 
 // n modulo 21
@@ -17,146 +19,314 @@ fn ring(n: u8) -> VanillaInt<u8>
     VanillaInt::<u8>::new(n, &21)
 }
 
-#[test]
-fn sums(rt: HostRuntime) {
-    let (a, b, n) = (ring(20), ring(5), 5u8);
-    let all = [
-        a + b,
-        a + &b,
-        &a + b,
-        &a + &b,
-        a + n,
-        a + &n,
-        &a + n,
-        &a + &n,
-    ];
-    for z in &all {
-        assert_eq!(rt; z.residue(), 4);
-    }
+// The residues of the sums of two integers, in each form of the operands.
+fn sums_of_two<T: RingWord, R: Reducer<T> + Copy>(
+    a: ReducedInt<T, R>,
+    b: ReducedInt<T, R>,
+) -> [T; 4]
+    requires { modulus_of a ≡ modulus_of b }
+{
+    [
+        (a + b).residue(),
+        (a + &b).residue(),
+        (&a + b).residue(),
+        (&a + &b).residue(),
+    ]
+}
+
+// Those of the sums of an integer and a word.
+fn sums_with_a_word<T: RingWord, R: Reducer<T> + Copy>(a: ReducedInt<T, R>, n: T) -> [T; 4] {
+    [
+        (a + n).residue(),
+        (a + &n).residue(),
+        (&a + n).residue(),
+        (&a + &n).residue(),
+    ]
+}
+
+// Those after each of two sums in place.
+fn sums_in_place<T: RingWord, R: Reducer<T> + Copy>(
+    a: ReducedInt<T, R>,
+    b: ReducedInt<T, R>,
+) -> [T; 2]
+    requires { modulus_of a ≡ modulus_of b }
+{
     let mut z = a;
     z += b;
-    assert_eq!(rt; z.residue(), 4);
+    let once = z.residue();
     z += &b;
-    assert_eq!(rt; z.residue(), 9);
-    z += 255u8;
-    assert_eq!(rt; z.residue(), 12);
+    [once, z.residue()]
+}
+
+fn sums_with_words_in_place<T: RingWord, R: Reducer<T> + Copy>(
+    a: ReducedInt<T, R>,
+    m: T,
+    n: T,
+) -> [T; 2] {
+    let mut z = a;
+    z += m;
+    let once = z.residue();
     z += &n;
-    assert_eq!(rt; z.residue(), 17);
-    assert_eq!(rt; sum_modulo_21(), 4);
+    [once, z.residue()]
+}
+
+#[test]
+fn sums(rt: HostRuntime) {
+    let found = [
+        sums_of_two(ring(20), ring(5)),
+        sums_with_a_word(ring(20), 5),
+    ];
+    assert!(rt; found == [[4; 4]; 2]);
+    let found = [
+        sums_in_place(ring(20), ring(5)),
+        sums_with_words_in_place(ring(9), 255, 5),
+    ];
+    assert!(rt; found == [[4, 9], [12, 17]]);
+    assert!(rt; sum_modulo_21() == 4);
+}
+
+// The residues of the differences of two integers, in each form of the operands.
+fn differences_of_two<T: RingWord, R: Reducer<T> + Copy>(
+    a: ReducedInt<T, R>,
+    b: ReducedInt<T, R>,
+) -> [T; 4]
+    requires { modulus_of a ≡ modulus_of b }
+{
+    [
+        (a - b).residue(),
+        (a - &b).residue(),
+        (&a - b).residue(),
+        (&a - &b).residue(),
+    ]
+}
+
+// Those of the differences of an integer and a word.
+fn differences_with_a_word<T: RingWord, R: Reducer<T> + Copy>(a: ReducedInt<T, R>, n: T) -> [T; 4] {
+    [
+        (a - n).residue(),
+        (a - &n).residue(),
+        (&a - n).residue(),
+        (&a - &n).residue(),
+    ]
+}
+
+// Those after each of two differences in place.
+fn differences_in_place<T: RingWord, R: Reducer<T> + Copy>(
+    a: ReducedInt<T, R>,
+    b: ReducedInt<T, R>,
+) -> [T; 2]
+    requires { modulus_of a ≡ modulus_of b }
+{
+    let mut z = a;
+    z -= b;
+    let once = z.residue();
+    z -= &b;
+    [once, z.residue()]
+}
+
+fn differences_with_words_in_place<T: RingWord, R: Reducer<T> + Copy>(
+    a: ReducedInt<T, R>,
+    m: T,
+    n: T,
+) -> [T; 2] {
+    let mut z = a;
+    z -= m;
+    let once = z.residue();
+    z -= &n;
+    [once, z.residue()]
 }
 
 #[test]
 fn differences(rt: HostRuntime) {
-    let (a, b, n) = (ring(3), ring(5), 5u8);
-    let all = [
-        a - b,
-        a - &b,
-        &a - b,
-        &a - &b,
-        a - n,
-        a - &n,
-        &a - n,
-        &a - &n,
+    let found = [
+        differences_of_two(ring(3), ring(5)),
+        differences_with_a_word(ring(3), 5),
     ];
-    for z in &all {
-        assert_eq!(rt; z.residue(), 19);
-    }
+    assert!(rt; found == [[19; 4]; 2]);
+    let found = [
+        differences_in_place(ring(3), ring(5)),
+        differences_with_words_in_place(ring(14), 255, 5),
+    ];
+    assert!(rt; found == [[19, 14], [11, 6]]);
+    assert!(rt; differences_with_a_word(ring(5), 255) == [2; 4]);
+    assert!(rt; difference_modulo_21() == 2);
+}
+
+// The residues of the products of two integers, in each form of the operands.
+fn products_of_two<T: RingWord, R: Reducer<T> + Copy>(
+    a: ReducedInt<T, R>,
+    b: ReducedInt<T, R>,
+) -> [T; 4]
+    requires { modulus_of a ≡ modulus_of b }
+{
+    [
+        (a * b).residue(),
+        (a * &b).residue(),
+        (&a * b).residue(),
+        (&a * &b).residue(),
+    ]
+}
+
+// Those of the products of an integer and a word.
+fn products_with_a_word<T: RingWord, R: Reducer<T> + Copy>(a: ReducedInt<T, R>, n: T) -> [T; 4] {
+    [
+        (a * n).residue(),
+        (a * &n).residue(),
+        (&a * n).residue(),
+        (&a * &n).residue(),
+    ]
+}
+
+// Those after each of two products in place.
+fn products_in_place<T: RingWord, R: Reducer<T> + Copy>(
+    a: ReducedInt<T, R>,
+    b: ReducedInt<T, R>,
+) -> [T; 2]
+    requires { modulus_of a ≡ modulus_of b }
+{
     let mut z = a;
-    z -= b;
-    assert_eq!(rt; z.residue(), 19);
-    z -= &b;
-    assert_eq!(rt; z.residue(), 14);
-    z -= 255u8;
-    assert_eq!(rt; z.residue(), 11);
-    z -= &n;
-    assert_eq!(rt; z.residue(), 6);
-    assert_eq!(rt; (ring(5) - 255u8).residue(), 2);
-    assert_eq!(rt; difference_modulo_21(), 2);
+    z *= b;
+    let once = z.residue();
+    z *= &b;
+    [once, z.residue()]
+}
+
+fn products_with_words_in_place<T: RingWord, R: Reducer<T> + Copy>(
+    a: ReducedInt<T, R>,
+    m: T,
+    n: T,
+) -> [T; 2] {
+    let mut z = a;
+    z *= m;
+    let once = z.residue();
+    z *= &n;
+    [once, z.residue()]
 }
 
 #[test]
 fn products(rt: HostRuntime) {
-    let (a, b, n) = (ring(10), ring(5), 5u8);
-    let all = [
-        a * b,
-        a * &b,
-        &a * b,
-        &a * &b,
-        a * n,
-        a * &n,
-        &a * n,
-        &a * &n,
+    let found = [
+        products_of_two(ring(10), ring(5)),
+        products_with_a_word(ring(10), 5),
     ];
-    for z in &all {
-        assert_eq!(rt; z.residue(), 8);
+    assert!(rt; found == [[8; 4]; 2]);
+    let found = [
+        products_in_place(ring(10), ring(5)),
+        products_with_words_in_place(ring(19), 255, 5),
+    ];
+    assert!(rt; found == [[8, 19], [15, 12]]);
+    let twelve = VanillaInt::<u8>::new(12, &5);
+    assert!(rt; products_with_a_word(twelve, 13) == [1; 4]);
+}
+
+// The residues of the quotients of two integers, in each form of the operands.
+fn quotients_of_two<T: RingWord, R: Reducer<T> + Copy>(
+    a: ReducedInt<T, R>,
+    b: ReducedInt<T, R>,
+) -> [T; 4]
+    requires { CanDivide a b }
+{
+    [
+        (a / b).residue(),
+        (a / &b).residue(),
+        (&a / b).residue(),
+        (&a / &b).residue(),
+    ]
+}
+
+fn negatives<T: RingWord, R: Reducer<T> + Copy>(a: ReducedInt<T, R>) -> [T; 2] {
+    [(-a).residue(), (-&a).residue()]
+}
+
+// The residue of an integer, if there is one.
+fn residue_if_any<T: RingWord, R: Reducer<T> + Copy>(a: Option<ReducedInt<T, R>>) -> Option<T> {
+    match a {
+        Some(a) => Some(a.residue()),
+        None => None,
     }
-    let mut z = a;
-    z *= b;
-    assert_eq!(rt; z.residue(), 8);
-    z *= &b;
-    assert_eq!(rt; z.residue(), 19);
-    z *= 255u8;
-    assert_eq!(rt; z.residue(), 15);
-    z *= &n;
-    assert_eq!(rt; z.residue(), 12);
-    let five = VanillaInt::<u8>::new(12, &5);
-    assert_eq!(rt; (five * 13u8).residue(), 1);
 }
 
 #[test]
 fn negatives_and_quotients(rt: HostRuntime) {
-    let a = ring(10);
-    let b = five_modulo_21();
-    assert_eq!(rt; ((-a).residue(), (-&a).residue()), (11, 11));
-    let all = [a / b, a / &b, &a / b, &a / &b];
-    for z in &all {
-        assert_eq!(rt; z.residue(), 2);
-    }
-    assert_eq!(rt; quotient_modulo_21(), 2);
-    assert!(rt; ring(7).inv().is_none());
-    assert!(rt; quotient_if_any(a, ring(7)).is_none());
-    assert!(rt; quotient_if_any(a, VanillaInt::<u8>::new(5, &22)).is_none());
-    assert_eq!(rt; quotient_if_any(a, b).map(|q| q.residue()), Some(2));
-    assert_eq!(rt; b.inv().map(|x| x.residue()), Some(17));
+    assert!(rt; negatives(ring(10)) == [11, 11]);
+    assert!(rt; quotients_of_two(ring(10), five_modulo_21()) == [2; 4]);
+    assert!(rt; quotient_modulo_21() == 2);
 }
 
 #[test]
-fn methods(rt: HostRuntime) -> Result<(), Fail> {
+fn inverses_and_quotients_if_any(rt: HostRuntime) {
+    let quotients = [
+        residue_if_any(quotient_if_any(ring(10), ring(7))),
+        residue_if_any(quotient_if_any(ring(10), VanillaInt::<u8>::new(5, &22))),
+        residue_if_any(quotient_if_any(ring(10), ring(5))),
+    ];
+    assert!(rt; quotients == [None, None, Some(2)]);
+    let inverses = [residue_if_any(ring(7).inv()), residue_if_any(ring(5).inv())];
+    assert!(rt; inverses == [None, Some(17)]);
+}
+
+// The modulus, the residue and the form of an integer, and the residues of its double and its square.
+fn parts<T: RingWord, R: Reducer<T> + Copy>(a: ReducedInt<T, R>) -> [T; 5] {
+    [
+        a.modulus(),
+        a.residue(),
+        *a.repr(),
+        a.double().residue(),
+        a.square().residue(),
+    ]
+}
+
+fn power<T: RingWord, R: Reducer<T> + Copy>(a: ReducedInt<T, R>, exp: T) -> T {
+    a.pow(&exp).residue()
+}
+
+#[test]
+fn methods(rt: HostRuntime) {
+    assert!(rt; parts(ring(255)) == [21, 3, 3, 6, 9]);
+    let powers = [
+        power(ring(255), 0),
+        power(ring(255), 5),
+        power(VanillaInt::<u8>::new(0, &1), 0),
+    ];
+    assert!(rt; powers == [1, 12, 0]);
     let a = ring(255);
-    assert_eq!(rt; (a.modulus(), a.residue(), *a.repr()), (21, 3, 3));
-    assert_eq!(rt; (a.double().residue(), a.square().residue()), (6, 9));
-    assert_eq!(rt;
-        (
-            a.convert(255).residue(),
-            a.convert(21).is_zero(),
-            a.is_zero()
-        ),
-        (3, true, false)
-    );
-    assert_eq!(rt; (a.pow(&0).residue(), a.pow(&5).residue()), (1, 12));
-    assert_eq!(rt; VanillaInt::<u8>::new(0, &1).pow(&0).residue(), 0);
+    assert!(rt; a.convert(255).residue() == 3);
+    assert!(rt; a.convert(21).is_zero() && !a.is_zero());
+}
+
+#[test]
+fn copies_and_text(rt: HostRuntime) -> Result<(), Fail> {
+    let a = ring(255);
     assert!(rt; a.clone()? == a);
     assert!(rt; format!(in rt.alloc(); "{a:?}").is_ok());
     Ok(())
 }
 
-#[test]
-fn equality(rt: HostRuntime) {
-    let (three, seven) = (VanillaInt::<u8>::new(3, &7), VanillaInt::<u8>::new(10, &7));
-    let other = VanillaInt::<u8>::new(3, &11);
-    assert!(rt; are_equal(&seven, &three));
-    assert!(rt; !are_equal(&three, &other));
-    for a in [three, seven, other] {
-        for b in [three, seven, other] {
-            for c in [three, seven, other] {
-                assert!(rt; is_equivalence(&a, &b, &c));
+// Whether `==` is reflexive, symmetric and transitive at the integers of a list.
+fn are_equivalent<I: ModularInteger>(all: &[I]) -> bool {
+    for a in all {
+        for b in all {
+            for c in all {
+                if !is_equivalence(a, b, c) {
+                    return false;
+                }
             }
         }
     }
+    true
+}
+
+#[test]
+fn equality(rt: HostRuntime) {
+    let three = VanillaInt::<u8>::new(3, &7);
+    let seven = VanillaInt::<u8>::new(10, &7);
+    let other = VanillaInt::<u8>::new(3, &11);
+    assert!(rt; are_equal(&seven, &three) && !are_equal(&three, &other));
+    assert!(rt; are_equivalent(&[three, seven, other]));
 }
 
 #[test]
 fn polynomials(rt: HostRuntime) {
-    assert_eq!(rt; (value_of_bytes(), value_by_forms()), (19, 19));
-    assert_eq!(rt; horner(&[], ring(7)).residue(), 0);
+    assert!(rt; value_of_bytes() == 19 && value_by_forms() == 19);
+    assert!(rt; horner(&[], ring(7)).residue() == 0);
 }
