@@ -1,29 +1,17 @@
 //! Rows of the reducers of a parameter.
 
 use super::{FixedMontgomery32, FixedMontgomery64};
+use crate::tests::{inverse, product, remainder};
 use modular_reduced::reducer::Reducer;
-use modular_word::ring_word::RingWord;
-
-fn remainder<T: RingWord, R: Reducer<T>>(ring: &R, n: T) -> T {
-    ring.residue(ring.transform(n))
-}
-
-fn product<T: RingWord, R: Reducer<T>>(ring: &R, x: T, y: T) -> T {
-    ring.residue(ring.mul(&ring.transform(x), &ring.transform(y)))
-}
-
-fn inverse<T: RingWord, R: Reducer<T>>(ring: &R, x: T) -> Option<T> {
-    ring.inv(ring.transform(x))
-}
 
 #[test]
 fn products(rt: HostRuntime) {
-    let found = (
-        product(&FixedMontgomery32::<17>::new(&17), 3, 5),
-        product(&FixedMontgomery64::<97>::new(&97), 10, 20),
-    );
-    assert!(rt; found == (15, 6));
-    // the greatest odd words
+    assert!(rt; product(&FixedMontgomery32::<17>::new(&17), 3, 5) == 15);
+    assert!(rt; product(&FixedMontgomery64::<97>::new(&97), 10, 20) == 6);
+}
+
+#[test]
+fn products_modulo_the_greatest_odd_words(rt: HostRuntime) {
     let ring = FixedMontgomery32::<4294967295>::new(&4294967295);
     assert!(rt; product(&ring, 4294967294, 4294967293) == 2);
     let ring = FixedMontgomery64::<18446744073709551615>::new(&18446744073709551615);

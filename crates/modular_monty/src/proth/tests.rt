@@ -1,19 +1,12 @@
 //! Rows of the reducers of the moduli K * 2^N + 1.
 
 use super::{FixedProth32, FixedProth64};
+use crate::tests::{product, remainder};
 use modular_reduced::reducer::Reducer;
 use modular_word::ring_word::RingWord;
 
-fn remainder<T: RingWord, R: Reducer<T>>(ring: &R, n: T) -> T {
-    ring.residue(ring.transform(n))
-}
-
 fn sum<T: RingWord, R: Reducer<T>>(ring: &R, x: T, y: T) -> T {
     ring.residue(ring.add(&ring.transform(x), &ring.transform(y)))
-}
-
-fn product<T: RingWord, R: Reducer<T>>(ring: &R, x: T, y: T) -> T {
-    ring.residue(ring.mul(&ring.transform(x), &ring.transform(y)))
 }
 
 // The residues of 0, 1, m - 1, m and the greatest word, and that of the square of m - 1.
@@ -31,14 +24,20 @@ fn edges<T: RingWord, R: Reducer<T>>(ring: &R, words: [T; 3]) -> [T; 6] {
 
 #[test]
 fn small_moduli(rt: HostRuntime) {
-    assert!(rt; FixedProth32::<4, 1>::fixed_modulus() == 17);
     let ring = FixedProth32::<4, 1>::new(&17);
-    let found = (
-        (sum(&ring, 3, 5), product(&ring, 3, 5)),
-        FixedProth64::<5, 3>::fixed_modulus(),
-        product(&FixedProth64::<5, 3>::new(&97), 10, 20),
-    );
-    assert!(rt; found == ((8, 15), 97, 6));
+    assert!(rt; [sum(&ring, 3, 5), product(&ring, 3, 5)] == [8, 15]);
+    assert!(rt; product(&FixedProth64::<5, 3>::new(&97), 10, 20) == 6);
+}
+
+#[test]
+fn fixed_moduli(rt: HostRuntime) {
+    let found = [
+        FixedProth32::<4, 1>::fixed_modulus(),
+        FixedProth32::<1, 1>::fixed_modulus(),
+        FixedProth32::<23, 255>::fixed_modulus(),
+    ];
+    assert!(rt; found == [17, 3, 2139095041]);
+    assert!(rt; FixedProth64::<5, 3>::fixed_modulus() == 97);
 }
 
 #[test]
@@ -67,11 +66,9 @@ fn one_over_half_the_base(rt: HostRuntime) {
 }
 
 #[test]
-fn edges_of_the_range(rt: HostRuntime) {
-    let found = (
-        FixedProth32::<1, 1>::fixed_modulus(),
+fn edges_of_the_range_of_32_bits(rt: HostRuntime) {
+    let found = [
         edges(&FixedProth32::<1, 1>::new(&3), [2, 3, 4294967295]),
-        FixedProth32::<23, 255>::fixed_modulus(),
         edges(
             &FixedProth32::<23, 255>::new(&2139095041),
             [2139095040, 2139095041, 4294967295],
@@ -84,25 +81,25 @@ fn edges_of_the_range(rt: HostRuntime) {
             &FixedProth32::<28, 9>::new(&2415919105),
             [2415919104, 2415919105, 4294967295],
         ),
-        edges(
-            &FixedProth64::<63, 1>::new(&9223372036854775809),
-            [
-                9223372036854775808,
-                9223372036854775809,
-                18446744073709551615,
-            ],
-        ),
-    );
+    ];
     assert!(rt;
         found
-            == (
-                3,
+            == [
                 [0, 1, 2, 0, 0, 1],
-                2139095041,
                 [0, 1, 2139095040, 0, 16777213, 1],
                 [0, 1, 2147483648, 0, 2147483646, 1],
-                [0, 1, 2415919104, 0, 1879048190, 1],
-                [0, 1, 9223372036854775808, 0, 9223372036854775806, 1]
-            )
+                [0, 1, 2415919104, 0, 1879048190, 1]
+            ]
     );
+}
+
+#[test]
+fn edges_of_the_range_of_64_bits(rt: HostRuntime) {
+    let m = 9223372036854775809;
+    let last = 9223372036854775808;
+    let found = edges(
+        &FixedProth64::<63, 1>::new(&m),
+        [last, m, 18446744073709551615],
+    );
+    assert!(rt; found == [0, 1, last, 0, 9223372036854775806, 1]);
 }
