@@ -3,7 +3,7 @@
 use crate::counted::{w8, w16, w32, w64, wsize};
 
 // A number, the one that its symbol is over, and the symbol with its count.
-const ROWS: [(u8, u8, Option<(i8, u32)>); 7] = [
+const ROWS: &[(u8, u8, Option<(i8, u32)>)] = &[
     (7, 15, Some((-1, 2))),
     (2, 15, Some((1, 2))),
     (1, 15, Some((1, 1))),
@@ -13,50 +13,21 @@ const ROWS: [(u8, u8, Option<(i8, u32)>); 7] = [
     (3, 8, None),
 ];
 
-#[test]
-fn symbols_of_w8(rt: HostRuntime) {
-    for (a, n, want) in ROWS {
-        assert!(rt; w8::checked_jacobi_counted(a, n) == want, "{a} over {n}");
-    }
+// What each width answers.
+fn answers(a: u8, n: u8) -> [Option<(i8, u32)>; 5] {
+    [
+        w8::checked_jacobi_counted(a, n),
+        w16::checked_jacobi_counted(a as u16, n as u16),
+        w32::checked_jacobi_counted(a as u32, n as u32),
+        w64::checked_jacobi_counted(a as u64, n as u64),
+        wsize::checked_jacobi_counted(a as usize, n as usize),
+    ]
 }
 
 #[test]
-fn symbols_of_w16(rt: HostRuntime) {
-    for (a, n, want) in ROWS {
-        assert!(rt;
-            w16::checked_jacobi_counted(a as u16, n as u16) == want,
-            "{a} over {n}"
-        );
-    }
-}
-
-#[test]
-fn symbols_of_w32(rt: HostRuntime) {
-    for (a, n, want) in ROWS {
-        assert!(rt;
-            w32::checked_jacobi_counted(a as u32, n as u32) == want,
-            "{a} over {n}"
-        );
-    }
-}
-
-#[test]
-fn symbols_of_w64(rt: HostRuntime) {
-    for (a, n, want) in ROWS {
-        assert!(rt;
-            w64::checked_jacobi_counted(a as u64, n as u64) == want,
-            "{a} over {n}"
-        );
-    }
-}
-
-#[test]
-fn symbols_of_wsize(rt: HostRuntime) {
-    for (a, n, want) in ROWS {
-        assert!(rt;
-            wsize::checked_jacobi_counted(a as usize, n as usize) == want,
-            "{a} over {n}"
-        );
+fn symbols_at_each_width(rt: HostRuntime) {
+    for &(a, n, want) in ROWS {
+        assert!(rt; answers(a, n) == [want; 5], "{a} over {n}");
     }
 }
 

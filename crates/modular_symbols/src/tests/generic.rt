@@ -1,5 +1,7 @@
 //! The generic code and the operations over references.
 
+ghost use Rattle.std.specs.Prelude.{◌≤◌};
+
 use crate::count::jacobi_by_count;
 use crate::ref_ops::ModularRefOps;
 use crate::symbols::ModularSymbols;
@@ -35,58 +37,56 @@ fn callers_of_generic_code(rt: HostRuntime) {
     );
 }
 
-#[test]
-fn operations_on_references_to_8_bits(rt: HostRuntime) {
-    let (a, b, m): (u8, u8, u8) = (11, 9, 7);
-    let of_two = [
-        a.addm_ref(&b, &m),
-        a.subm_ref(&b, &m),
-        a.mulm_ref(&b, &m),
-        a.powm_ref(&b, &m),
-    ];
-    assert!(rt; of_two == [6, 2, 1, 1]);
-    let of_one = [a.negm_ref(&m), a.dblm_ref(&m), a.sqm_ref(&m)];
-    let found = (of_one, [a.invm_ref(&m), m.invm_ref(&m)]);
-    assert!(rt; found == ([3, 1, 2], [Some(2), None]));
+// The residues of a sum, a difference, a product and a power.
+fn of_two<T: ModularRefOps>(a: &T, b: &T, m: &T) -> [T; 4]
+    requires { 1 ≤ T.whole_number m.now }
+{
+    [
+        a.addm_ref(b, m),
+        a.subm_ref(b, m),
+        a.mulm_ref(b, m),
+        a.powm_ref(b, m),
+    ]
+}
+
+// Those of a negative, a double and a square.
+fn of_one<T: ModularRefOps>(a: &T, m: &T) -> [T; 3]
+    requires { 1 ≤ T.whole_number m.now }
+{
+    [a.negm_ref(m), a.dblm_ref(m), a.sqm_ref(m)]
 }
 
 #[test]
-fn symbols_of_references_to_8_bits(rt: HostRuntime) {
-    let (b, m): (u8, u8) = (9, 7);
+fn operations_on_references(rt: HostRuntime) {
+    assert!(rt; of_two(&11u8, &9, &7) == [6, 2, 1, 1]);
+    assert!(rt; of_two(&11u64, &9, &7) == [6, 2, 1, 1]);
+    assert!(rt; of_one(&11u8, &7) == [3, 1, 2]);
+    assert!(rt; of_one(&11u64, &7) == [3, 1, 2]);
+}
+
+#[test]
+fn inverses_of_references(rt: HostRuntime) {
+    let found = [11u8.invm_ref(&7), 7u8.invm_ref(&7)];
+    assert!(rt; found == [Some(2), None]);
+    let found = [11u64.invm_ref(&7), 7u64.invm_ref(&7)];
+    assert!(rt; found == [Some(2), None]);
+}
+
+// The symbols of b over 17 and over m, of m over 8, and the Kronecker symbol of m over 15.
+fn symbols<T: ModularRefOps + From<u8>>(b: u8, m: u8) -> ([Option<i8>; 3], i8) {
+    let (b, m) = (T::from(b), T::from(m));
     let checked = [
-        b.checked_legendre_ref(&17),
+        b.checked_legendre_ref(&T::from(17)),
         b.checked_jacobi_ref(&m),
-        m.checked_jacobi_ref(&8),
+        m.checked_jacobi_ref(&T::from(8)),
     ];
-    let found = (checked, m.kronecker_ref(&15));
-    assert!(rt; found == ([Some(1), Some(1), None], -1));
+    (checked, m.kronecker_ref(&T::from(15)))
 }
 
 #[test]
-fn operations_on_references_to_64_bits(rt: HostRuntime) {
-    let (a, b, m): (u64, u64, u64) = (11, 9, 7);
-    let of_two = [
-        a.addm_ref(&b, &m),
-        a.subm_ref(&b, &m),
-        a.mulm_ref(&b, &m),
-        a.powm_ref(&b, &m),
-    ];
-    assert!(rt; of_two == [6, 2, 1, 1]);
-    let of_one = [a.negm_ref(&m), a.dblm_ref(&m), a.sqm_ref(&m)];
-    let found = (of_one, [a.invm_ref(&m), m.invm_ref(&m)]);
-    assert!(rt; found == ([3, 1, 2], [Some(2), None]));
-}
-
-#[test]
-fn symbols_of_references_to_64_bits(rt: HostRuntime) {
-    let (b, m): (u64, u64) = (9, 7);
-    let checked = [
-        b.checked_legendre_ref(&17),
-        b.checked_jacobi_ref(&m),
-        m.checked_jacobi_ref(&8),
-    ];
-    let found = (checked, m.kronecker_ref(&15));
-    assert!(rt; found == ([Some(1), Some(1), None], -1));
+fn symbols_of_references(rt: HostRuntime) {
+    let want = ([Some(1), Some(1), None], -1);
+    assert!(rt; symbols::<u8>(9, 7) == want && symbols::<u64>(9, 7) == want);
 }
 
 // Each number of a byte, over each odd number of a byte.
