@@ -2,6 +2,7 @@
 
 mod dividers;
 mod edges;
+mod examples;
 mod fixed;
 mod folds;
 mod hostile;

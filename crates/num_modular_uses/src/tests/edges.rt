@@ -1,6 +1,6 @@
 //! Reducers at the edges of their parameters, each beside the plain reducer of its modulus.
 
-use super::runs::run_over;
+use super::runs::ends_with;
 use num_modular::ring::{RingCommand, RunEnd};
 use num_modular::word::RingWord;
 use num_modular::{
@@ -44,227 +44,216 @@ fn commands<T: RingWord>(last: T, greatest: T) -> [RingCommand<T>; 8] {
     ]
 }
 
-// The end of a run over five registers of value 0, and their residues then.
-type Run<T> = (Option<RunEnd>, [T; 5]);
-
-// What a reducer of m shows, given m - 1 and a greatest word: the edges of its words, the run of a
-// list of commands, and the run of none.
-fn seen<T: RingWord, R: Reducer<T>>(
-    ring: &R,
-    words: (T, T),
-    list: &[RingCommand<T>],
-) -> ([T; 6], Run<T>, Run<T>) {
-    (
-        edges(ring, words.0, words.1),
-        run_over(ring, list),
-        run_over(ring, &list[..0]),
-    )
+// What each reducer of a modulus shows: m, m - 1, the edges of its words, and the end of the run of the
+// commands with the residues that it leaves.
+struct Row<T> {
+    modulus: T,
+    last: T,
+    edges: [T; 6],
+    end: RunEnd,
+    residues: [T; 5],
 }
 
-const DONE: Option<RunEnd> = Some(RunEnd::Done);
+const STOPPED: RunEnd = RunEnd::NoInverse { at: 7 };
 
-const STOPPED: Option<RunEnd> = Some(RunEnd::NoInverse { at: 7 });
+// Whether a reducer shows it with the greatest word, and leaves zeros after no command.
+fn shows_32<R: Reducer<u32>>(ring: &R, row: &Row<u32>) -> bool {
+    let list = commands(row.last, u32::MAX);
+    edges(ring, row.last, u32::MAX) == row.edges
+        && ends_with(ring, &list, row.end, row.residues)
+        && ends_with(ring, &list[..0], RunEnd::Done, [0; 5])
+}
+
+fn shows_64<R: Reducer<u64>>(ring: &R, row: &Row<u64>) -> bool {
+    let list = commands(row.last, u64::MAX);
+    edges(ring, row.last, u64::MAX) == row.edges
+        && ends_with(ring, &list, row.end, row.residues)
+        && ends_with(ring, &list[..0], RunEnd::Done, [0; 5])
+}
+
+const MODULO_1: Row<u32> = Row {
+    modulus: 1,
+    last: 0,
+    edges: [0; 6],
+    end: RunEnd::Done,
+    residues: [0; 5],
+};
+
+const MODULO_3: Row<u32> = Row {
+    modulus: 3,
+    last: 2,
+    edges: [0, 1, 2, 0, 0, 1],
+    end: STOPPED,
+    residues: [0, 2, 1, 1, 0],
+};
+
+const MODULO_4294967291: Row<u32> = Row {
+    modulus: 4294967291,
+    last: 4294967290,
+    edges: [0, 1, 4294967290, 0, 4, 1],
+    end: STOPPED,
+    residues: [0, 4294967290, 1, 5, 1024],
+};
+
+const MODULO_2147483647: Row<u32> = Row {
+    modulus: 2147483647,
+    last: 2147483646,
+    edges: [0, 1, 2147483646, 0, 1, 1],
+    end: STOPPED,
+    residues: [0, 2147483646, 1, 2, 1],
+};
+
+const MODULO_2139095041: Row<u32> = Row {
+    modulus: 2139095041,
+    last: 2139095040,
+    edges: [0, 1, 2139095040, 0, 16777213, 1],
+    end: STOPPED,
+    residues: [0, 2139095040, 1, 16777214, 1220518082],
+};
+
+const MODULO_2147483649: Row<u32> = Row {
+    modulus: 2147483649,
+    last: 2147483648,
+    edges: [0, 1, 2147483648, 0, 2147483646, 1],
+    end: STOPPED,
+    residues: [0, 2147483648, 1, 2147483647, 2147483622],
+};
+
+const MODULO_2415919105: Row<u32> = Row {
+    modulus: 2415919105,
+    last: 2415919104,
+    edges: [0, 1, 2415919104, 0, 1879048190, 1],
+    end: STOPPED,
+    residues: [0, 2415919104, 1, 1879048191, 1165849440],
+};
 
 #[test]
-fn modulo_1(rt: HostRuntime) {
-    let words = (0, u32::MAX);
-    let list = commands(words.0, words.1);
-    let found = seen(&FixedMontgomery32::<1>::new(&1), words, &list);
-    assert_eq!(rt; found, ([0; 6], (DONE, [0; 5]), (DONE, [0; 5])));
+fn plain_reducers_of_32_bits(rt: HostRuntime) {
+    for row in [
+        &MODULO_1,
+        &MODULO_3,
+        &MODULO_4294967291,
+        &MODULO_2147483647,
+        &MODULO_2139095041,
+        &MODULO_2147483649,
+        &MODULO_2415919105,
+    ] {
+        assert!(rt; row.modulus > 0);
+        assert!(rt;
+            shows_32(&Vanilla::<u32>::new(&row.modulus), row),
+            "{}",
+            row.modulus
+        );
+    }
+}
+
+#[test]
+fn a_modulus_of_32_bits_by_montgomery_forms(rt: HostRuntime) {
+    assert!(rt; shows_32(&FixedMontgomery32::<1>::new(&1), &MODULO_1));
+}
+
+#[test]
+fn moduli_of_32_bits_by_folds(rt: HostRuntime) {
     let ring = FixedTrinomialSolinas32::<2, 1, -1>::new(&1);
-    assert_eq!(rt; seen(&ring, words, &list), found);
-    assert_eq!(rt; seen(&Vanilla::<u32>::new(&1), words, &list), found);
-}
-
-#[test]
-fn modulo_3(rt: HostRuntime) {
-    let words = (2, u32::MAX);
-    let list = commands(words.0, words.1);
-    let found = seen(&FixedMersenne32::<2, 1>::new(&3), words, &list);
-    assert_eq!(rt;
-        found,
-        (
-            [0, 1, 2, 0, 0, 1],
-            (STOPPED, [0, 2, 1, 1, 0]),
-            (DONE, [0; 5])
-        )
-    );
-    let ring = FixedProth32::<1, 1>::new(&3);
-    assert_eq!(rt; seen(&ring, words, &list), found);
-    assert_eq!(rt; seen(&Vanilla::<u32>::new(&3), words, &list), found);
-}
-
-#[test]
-fn near_the_greatest_words_of_32_bits(rt: HostRuntime) {
-    let words = (4294967290, u32::MAX);
-    let list = commands(words.0, words.1);
-    let found = seen(&FixedMersenne32::<32, 5>::new(&4294967291), words, &list);
-    let plain = Vanilla::<u32>::new(&4294967291);
-    assert_eq!(rt; seen(&plain, words, &list), found);
-    assert_eq!(rt;
-        found,
-        (
-            [0, 1, 4294967290, 0, 4, 1],
-            (STOPPED, [0, 4294967290, 1, 5, 1024]),
-            (DONE, [0; 5])
-        )
-    );
-}
-
-#[test]
-fn modulo_2147483647(rt: HostRuntime) {
-    let words = (2147483646, u32::MAX);
-    let list = commands(words.0, words.1);
+    assert!(rt; shows_32(&ring, &MODULO_1));
     let ring = FixedTrinomialSolinas32::<32, 31, -1>::new(&2147483647);
-    let found = seen(&ring, words, &list);
-    let plain = Vanilla::<u32>::new(&2147483647);
-    assert_eq!(rt; seen(&plain, words, &list), found);
-    assert_eq!(rt;
-        found,
-        (
-            [0, 1, 2147483646, 0, 1, 1],
-            (STOPPED, [0, 2147483646, 1, 2, 1]),
-            (DONE, [0; 5])
-        )
-    );
+    assert!(rt; shows_32(&ring, &MODULO_2147483647));
+    assert!(rt; shows_32(&FixedMersenne32::<2, 1>::new(&3), &MODULO_3));
+    let ring = FixedMersenne32::<32, 5>::new(&4294967291);
+    assert!(rt; shows_32(&ring, &MODULO_4294967291));
 }
 
 #[test]
-fn modulo_2139095041(rt: HostRuntime) {
-    let words = (2139095040, u32::MAX);
-    let list = commands(words.0, words.1);
+fn proth_numbers_of_32_bits(rt: HostRuntime) {
+    assert!(rt; shows_32(&FixedProth32::<1, 1>::new(&3), &MODULO_3));
     let ring = FixedProth32::<23, 255>::new(&2139095041);
-    let found = seen(&ring, words, &list);
-    let plain = Vanilla::<u32>::new(&2139095041);
-    assert_eq!(rt; seen(&plain, words, &list), found);
-    assert_eq!(rt;
-        found,
-        (
-            [0, 1, 2139095040, 0, 16777213, 1],
-            (STOPPED, [0, 2139095040, 1, 16777214, 1220518082]),
-            (DONE, [0; 5])
-        )
-    );
-}
-
-#[test]
-fn modulo_2147483649(rt: HostRuntime) {
-    let words = (2147483648, u32::MAX);
-    let list = commands(words.0, words.1);
+    assert!(rt; shows_32(&ring, &MODULO_2139095041));
     let ring = FixedProth32::<31, 1>::new(&2147483649);
-    let found = seen(&ring, words, &list);
-    let plain = Vanilla::<u32>::new(&2147483649);
-    assert_eq!(rt; seen(&plain, words, &list), found);
-    assert_eq!(rt;
-        found,
-        (
-            [0, 1, 2147483648, 0, 2147483646, 1],
-            (STOPPED, [0, 2147483648, 1, 2147483647, 2147483622]),
-            (DONE, [0; 5])
-        )
-    );
-}
-
-#[test]
-fn modulo_2415919105(rt: HostRuntime) {
-    let words = (2415919104, u32::MAX);
-    let list = commands(words.0, words.1);
+    assert!(rt; shows_32(&ring, &MODULO_2147483649));
     let ring = FixedProth32::<28, 9>::new(&2415919105);
-    let found = seen(&ring, words, &list);
-    let plain = Vanilla::<u32>::new(&2415919105);
-    assert_eq!(rt; seen(&plain, words, &list), found);
-    assert_eq!(rt;
-        found,
-        (
-            [0, 1, 2415919104, 0, 1879048190, 1],
-            (STOPPED, [0, 2415919104, 1, 1879048191, 1165849440]),
-            (DONE, [0; 5])
-        )
-    );
+    assert!(rt; shows_32(&ring, &MODULO_2415919105));
+}
+
+const MODULO_9223372036854775809: Row<u64> = Row {
+    modulus: 9223372036854775809,
+    last: 9223372036854775808,
+    edges: [0, 1, 9223372036854775808, 0, 9223372036854775806, 1],
+    end: STOPPED,
+    residues: [
+        0,
+        9223372036854775808,
+        1,
+        9223372036854775807,
+        1631756369875208049,
+    ],
+};
+
+const MODULO_18446744069414584321: Row<u64> = Row {
+    modulus: 18446744069414584321,
+    last: 18446744069414584320,
+    edges: [0, 1, 18446744069414584320, 0, 4294967294, 1],
+    end: STOPPED,
+    residues: [0, 18446744069414584320, 1, 4294967295, 16916351865793422117],
+};
+
+const MODULO_18446744073709551557: Row<u64> = Row {
+    modulus: 18446744073709551557,
+    last: 18446744073709551556,
+    edges: [0, 1, 18446744073709551556, 0, 58, 1],
+    end: STOPPED,
+    residues: [0, 18446744073709551556, 1, 59, 4959809447704153900],
+};
+
+#[test]
+fn plain_reducers_of_64_bits(rt: HostRuntime) {
+    for row in [
+        &MODULO_9223372036854775809,
+        &MODULO_18446744069414584321,
+        &MODULO_18446744073709551557,
+    ] {
+        assert!(rt; row.modulus > 0);
+        assert!(rt;
+            shows_64(&Vanilla::<u64>::new(&row.modulus), row),
+            "{}",
+            row.modulus
+        );
+    }
 }
 
 #[test]
-fn modulo_9223372036854775809(rt: HostRuntime) {
-    let m = 9223372036854775809;
-    let words = (m - 1, u64::MAX);
-    let list = commands(words.0, words.1);
-    let ring = FixedProth64::<63, 1>::new(&m);
-    let found = seen(&ring, words, &list);
-    assert_eq!(rt; seen(&Vanilla::<u64>::new(&m), words, &list), found);
-    assert_eq!(rt;
-        found,
-        (
-            [0, 1, m - 1, 0, m - 3, 1],
-            (STOPPED, [0, m - 1, 1, m - 2, 1631756369875208049]),
-            (DONE, [0; 5])
-        )
-    );
+fn a_proth_number_of_64_bits(rt: HostRuntime) {
+    let ring = FixedProth64::<63, 1>::new(&9223372036854775809);
+    assert!(rt; shows_64(&ring, &MODULO_9223372036854775809));
     // (m - 1) * 2^64 + m: the sum is (2 * m - 1) * 2^64, which passes 128 bits
-    assert_eq!(rt; ring.reduce(170141183460469231740910675752738881537), m - 1);
+    assert!(rt; ring.reduce(170141183460469231740910675752738881537) == 9223372036854775808);
 }
 
 #[test]
-fn modulo_18446744069414584321(rt: HostRuntime) {
-    let m = 18446744069414584321;
-    let words = (m - 1, u64::MAX);
-    let list = commands(words.0, words.1);
-    let ring = FixedTrinomialSolinas64::<64, 32, 1>::new(&m);
-    let found = seen(&ring, words, &list);
-    assert_eq!(rt; seen(&Vanilla::<u64>::new(&m), words, &list), found);
-    assert_eq!(rt;
-        found,
-        (
-            [0, 1, m - 1, 0, 4294967294, 1],
-            (STOPPED, [0, m - 1, 1, 4294967295, 16916351865793422117]),
-            (DONE, [0; 5])
-        )
-    );
+fn moduli_of_64_bits_by_folds(rt: HostRuntime) {
+    let ring = FixedTrinomialSolinas64::<64, 32, 1>::new(&18446744069414584321);
+    assert!(rt; shows_64(&ring, &MODULO_18446744069414584321));
+    let ring = FixedMersenne64::<64, 59>::new(&18446744073709551557);
+    assert!(rt; shows_64(&ring, &MODULO_18446744073709551557));
 }
 
-#[test]
-fn modulo_18446744073709551557(rt: HostRuntime) {
-    let m = 18446744073709551557;
-    let words = (m - 1, u64::MAX);
-    let list = commands(words.0, words.1);
-    let ring = FixedMersenne64::<64, 59>::new(&m);
-    let found = seen(&ring, words, &list);
-    assert_eq!(rt; seen(&Vanilla::<u64>::new(&m), words, &list), found);
-    assert_eq!(rt;
-        found,
-        (
-            [0, 1, m - 1, 0, 58, 1],
-            (STOPPED, [0, m - 1, 1, 59, 4959809447704153900]),
-            (DONE, [0; 5])
-        )
-    );
-}
-
-// The commands with the greatest word of 64 bits, beside the plain reducer over those words.
+// The commands with the greatest word of 64 bits, and the edges with that of 128.
 #[test]
 fn over_words_of_128_bits(rt: HostRuntime) {
-    let m = 18446744073709551557;
-    let ring = FixedMersenne::<64, 59>::new(&m);
-    assert_eq!(rt; edges(&ring, m - 1, u128::MAX), [0, 1, m - 1, 0, 3480, 1]);
-    let greatest = u64::MAX as u128;
-    let words = (m - 1, greatest);
-    let list = commands(words.0, words.1);
-    let (_, (end, residues), none) = seen(&ring, words, &list);
-    assert_eq!(rt; none, (DONE, [0; 5]));
-    assert_eq!(rt; residues, [0, m - 1, 1, 59, 4959809447704153900]);
     let last = 18446744073709551556;
-    let plain = Vanilla::<u64>::new(&18446744073709551557);
-    assert_eq!(rt;
-        run_over(&plain, &commands(last, u64::MAX)),
-        (end, [0, last, 1, 59, 4959809447704153900])
-    );
-    assert_eq!(rt; end, STOPPED);
+    let ring = FixedMersenne::<64, 59>::new(&18446744073709551557);
+    assert!(rt; edges(&ring, last, u128::MAX) == [0, 1, last, 0, 3480, 1]);
+    let list = commands(last, u64::MAX as u128);
+    let residues = [0, last, 1, 59, 4959809447704153900];
+    assert!(rt; ends_with(&ring, &list, STOPPED, residues));
+    assert!(rt; ends_with(&ring, &list[..0], RunEnd::Done, [0; 5]));
 }
 
 #[test]
 fn the_empty_list(rt: HostRuntime) {
-    let done = (DONE, [0; 5]);
-    assert_eq!(rt; run_over(&PreMulInv2by1::<u8>::new(21), &[]), done);
-    assert_eq!(rt; run_over(&Montgomery::<u8>::new(21), &[]), done);
-    let done = (DONE, [0; 5]);
-    assert_eq!(rt; run_over(&FixedMontgomery64::<97>::new(&97), &[]), done);
+    let bytes = PreMulInv2by1::<u8>::new(21);
+    assert!(rt; ends_with(&bytes, &[], RunEnd::Done, [0; 5]));
+    let bytes = Montgomery::<u8>::new(21);
+    assert!(rt; ends_with(&bytes, &[], RunEnd::Done, [0; 5]));
+    let words = FixedMontgomery64::<97>::new(&97);
+    assert!(rt; ends_with(&words, &[], RunEnd::Done, [0; 5]));
 }

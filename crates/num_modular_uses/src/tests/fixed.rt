@@ -1,6 +1,6 @@
 //! The reducers of fixed moduli, and integers over them.
 
-use super::runs::{modulus, product, run_over, sum};
+use super::runs::{ends_with, modulus, product, sum};
 use num_modular::ring::{RingCommand, RunEnd};
 use num_modular::{
     FixedMontgomery32, FixedMontgomery64, FixedMontgomeryInt32, FixedMontgomeryInt64, FixedProth32,
@@ -26,11 +26,10 @@ const OF_255: [RingCommand<u32>; 5] = [
 
 #[test]
 fn modulo_1(rt: HostRuntime) {
-    let found = [
-        run_over(&FixedMontgomery32::<1>::new(&1), &OF_255),
-        run_over(&Vanilla::<u32>::new(&1), &OF_255),
-    ];
-    assert!(rt; found == [(Some(RunEnd::Done), [0; 5]); 2]);
+    let ring = FixedMontgomery32::<1>::new(&1);
+    assert!(rt; ends_with(&ring, &OF_255, RunEnd::Done, [0; 5]));
+    let ring = Vanilla::<u32>::new(&1);
+    assert!(rt; ends_with(&ring, &OF_255, RunEnd::Done, [0; 5]));
 }
 
 // 3 + 5, 3 * 5, and the missing inverse of 0.
@@ -44,13 +43,14 @@ const SMALL: [RingCommand<u32>; 5] = [
 
 #[test]
 fn modulo_17(rt: HostRuntime) {
-    let end = (Some(RunEnd::NoInverse { at: 4 }), [3, 5, 8, 15, 0]);
-    let found = [
-        run_over(&FixedMontgomery32::<17>::new(&17), &SMALL),
-        run_over(&FixedProth32::<4, 1>::new(&17), &SMALL),
-        run_over(&Vanilla::<u32>::new(&17), &SMALL),
-    ];
-    assert!(rt; found == [end; 3]);
+    let end = RunEnd::NoInverse { at: 4 };
+    let residues = [3, 5, 8, 15, 0];
+    let ring = FixedMontgomery32::<17>::new(&17);
+    assert!(rt; ends_with(&ring, &SMALL, end, residues));
+    let ring = FixedProth32::<4, 1>::new(&17);
+    assert!(rt; ends_with(&ring, &SMALL, end, residues));
+    let ring = Vanilla::<u32>::new(&17);
+    assert!(rt; ends_with(&ring, &SMALL, end, residues));
 }
 
 // 10, 20 and their product.
@@ -62,12 +62,11 @@ const PRODUCT: [RingCommand<u64>; 3] = [
 
 #[test]
 fn modulo_97(rt: HostRuntime) {
-    let end = (Some(RunEnd::Done), [10, 20, 6, 0, 0]);
-    let found = [
-        run_over(&FixedMontgomery64::<97>::new(&97), &PRODUCT),
-        run_over(&FixedProth64::<5, 3>::new(&97), &PRODUCT),
-    ];
-    assert!(rt; found == [end; 2]);
+    let residues = [10, 20, 6, 0, 0];
+    let ring = FixedMontgomery64::<97>::new(&97);
+    assert!(rt; ends_with(&ring, &PRODUCT, RunEnd::Done, residues));
+    let ring = FixedProth64::<5, 3>::new(&97);
+    assert!(rt; ends_with(&ring, &PRODUCT, RunEnd::Done, residues));
 }
 
 #[test]

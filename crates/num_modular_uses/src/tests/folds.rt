@@ -1,6 +1,6 @@
 //! The reducers of moduli near a power of two, and the same commands over each.
 
-use super::runs::{modulus, multiples, product, run_over, sum};
+use super::runs::{ends_with, modulus, multiples, product, sum};
 use num_modular::ring::{RingCommand, RunEnd};
 use num_modular::word::RingWord;
 use num_modular::{
@@ -24,38 +24,58 @@ fn commands<T: RingWord>(greatest: T, last: T) -> [RingCommand<T>; 6] {
     ]
 }
 
-const END: Option<RunEnd> = Some(RunEnd::NoInverse { at: 5 });
+const END: RunEnd = RunEnd::NoInverse { at: 5 };
+
+// Whether the run with the greatest word, whose residue is n, misses the inverse of 0.
+fn misses_32<R: Reducer<u32>>(ring: &R, last: u32, n: u32) -> bool {
+    ends_with(ring, &commands(u32::MAX, last), END, [n, last, 1, 0, 0])
+}
+
+fn misses_64<R: Reducer<u64>>(ring: &R, last: u64, n: u64) -> bool {
+    ends_with(ring, &commands(u64::MAX, last), END, [n, last, 1, 0, 0])
+}
+
+// The modulus, that less 1, and the residue of the greatest word.
+const MODULI_OF_32_BITS: &[(u32, u32, u32)] = &[
+    (3, 2, 0),
+    (4294967291, 4294967290, 4),
+    (13, 12, 8),
+    (2147483647, 2147483646, 1),
+];
+
+const MODULI_OF_64_BITS: &[(u64, u64, u64)] = &[
+    (18446744073709551557, 18446744073709551556, 58),
+    (18446744069414584321, 18446744069414584320, 4294967294),
+];
+
+#[test]
+fn the_run_over_plain_reducers(rt: HostRuntime) {
+    for &(m, last, n) in MODULI_OF_32_BITS {
+        assert!(rt; m > 0);
+        assert!(rt; misses_32(&Vanilla::<u32>::new(&m), last, n), "{m}");
+    }
+    for &(m, last, n) in MODULI_OF_64_BITS {
+        assert!(rt; m > 0);
+        assert!(rt; misses_64(&Vanilla::<u64>::new(&m), last, n), "{m}");
+    }
+}
 
 #[test]
 fn the_run_over_mersenne_moduli_of_32_bits(rt: HostRuntime) {
-    let list = commands(u32::MAX, 2);
-    let found = [
-        run_over(&FixedMersenne32::<2, 1>::new(&3), &list),
-        run_over(&Vanilla::<u32>::new(&3), &list),
-    ];
-    assert!(rt; found == [(END, [0, 2, 1, 0, 0]); 2]);
-    let last = 4294967290;
-    let list = commands(u32::MAX, last);
-    let found = [
-        run_over(&FixedMersenne32::<32, 5>::new(&4294967291), &list),
-        run_over(&Vanilla::<u32>::new(&4294967291), &list),
-    ];
-    assert!(rt; found == [(END, [4, last, 1, 0, 0]); 2]);
+    let ring = FixedMersenne32::<2, 1>::new(&3);
+    assert!(rt; misses_32(&ring, 2, 0));
+    let ring = FixedMersenne32::<32, 5>::new(&4294967291);
+    assert!(rt; misses_32(&ring, 4294967290, 4));
 }
 
 #[test]
 fn the_run_over_mersenne_moduli_of_64_bits(rt: HostRuntime) {
-    let (m, last) = (18446744073709551557, 18446744073709551556);
-    let list = commands(u64::MAX, last);
-    let found = [
-        run_over(&FixedMersenne64::<64, 59>::new(&m), &list),
-        run_over(&Vanilla::<u64>::new(&m), &list),
-    ];
-    assert!(rt; found == [(END, [58, last, 1, 0, 0]); 2]);
-    let (m, last) = (18446744073709551557, 18446744073709551556);
+    let ring = FixedMersenne64::<64, 59>::new(&18446744073709551557);
+    assert!(rt; misses_64(&ring, 18446744073709551556, 58));
+    let ring = FixedMersenne::<64, 59>::new(&18446744073709551557);
+    let last = 18446744073709551556;
     let list = commands(umax::MAX, last);
-    let found = run_over(&FixedMersenne::<64, 59>::new(&m), &list);
-    assert!(rt; found == (END, [3480, last, 1, 0, 0]));
+    assert!(rt; ends_with(&ring, &list, END, [3480, last, 1, 0, 0]));
 }
 
 #[test]
@@ -107,32 +127,15 @@ fn residues_of_words(rt: HostRuntime) {
 }
 
 #[test]
-fn the_run_over_solinas_moduli_of_32_bits(rt: HostRuntime) {
-    let list = commands(u32::MAX, 12);
-    let found = [
-        run_over(&FixedTrinomialSolinas32::<5, 4, -3>::new(&13), &list),
-        run_over(&FixedTrinomialSolinas32::<4, 2, 1>::new(&13), &list),
-        run_over(&Vanilla::<u32>::new(&13), &list),
-    ];
-    assert!(rt; found == [(END, [8, 12, 1, 0, 0]); 3]);
-    let (m, last) = (2147483647, 2147483646);
-    let list = commands(u32::MAX, last);
-    let found = [
-        run_over(&FixedTrinomialSolinas32::<32, 31, -1>::new(&m), &list),
-        run_over(&Vanilla::<u32>::new(&m), &list),
-    ];
-    assert!(rt; found == [(END, [1, last, 1, 0, 0]); 2]);
-}
-
-#[test]
-fn the_run_over_a_solinas_modulus_of_64_bits(rt: HostRuntime) {
-    let (m, last) = (18446744069414584321, 18446744069414584320);
-    let list = commands(u64::MAX, last);
-    let found = [
-        run_over(&FixedTrinomialSolinas64::<64, 32, 1>::new(&m), &list),
-        run_over(&Vanilla::<u64>::new(&m), &list),
-    ];
-    assert!(rt; found == [(END, [4294967294, last, 1, 0, 0]); 2]);
+fn the_run_over_solinas_moduli(rt: HostRuntime) {
+    let ring = FixedTrinomialSolinas32::<5, 4, -3>::new(&13);
+    assert!(rt; misses_32(&ring, 12, 8));
+    let ring = FixedTrinomialSolinas32::<4, 2, 1>::new(&13);
+    assert!(rt; misses_32(&ring, 12, 8));
+    let ring = FixedTrinomialSolinas32::<32, 31, -1>::new(&2147483647);
+    assert!(rt; misses_32(&ring, 2147483646, 1));
+    let ring = FixedTrinomialSolinas64::<64, 32, 1>::new(&18446744069414584321);
+    assert!(rt; misses_64(&ring, 18446744069414584320, 4294967294));
 }
 
 #[test]
@@ -152,11 +155,10 @@ fn the_run_modulo_1(rt: HostRuntime) {
         },
         RingCommand::Neg { dst: 0, a: 0 },
     ];
-    let found = [
-        run_over(&FixedTrinomialSolinas32::<2, 1, -1>::new(&1), &list),
-        run_over(&Vanilla::<u32>::new(&1), &list),
-    ];
-    assert!(rt; found == [(Some(RunEnd::Done), [0; 5]); 2]);
+    let ring = FixedTrinomialSolinas32::<2, 1, -1>::new(&1);
+    assert!(rt; ends_with(&ring, &list, RunEnd::Done, [0; 5]));
+    let ring = Vanilla::<u32>::new(&1);
+    assert!(rt; ends_with(&ring, &list, RunEnd::Done, [0; 5]));
 }
 
 #[test]

@@ -1,31 +1,10 @@
 //! Commands at the edges of a byte's moduli, with the forms that each reducer leaves.
 
-use super::runs::residue_of;
-use num_modular::ring::{RingCommand, RunEnd, all_checked, commands_fit, run};
-use num_modular::word::RingWord;
+use super::runs::leaves;
+use num_modular::ring::{RingCommand, RunEnd};
 use num_modular::{
     FixedMontgomery32, FixedTrinomialSolinas32, Montgomery, PreMulInv2by1, Reducer, Vanilla,
 };
-
-// The end of a run over five registers of value 0, its residues and its forms.
-fn left_by<T: RingWord, R: Reducer<T>>(
-    reducer: &R,
-    commands: &[RingCommand<T>],
-) -> (Option<RunEnd>, [T; 5], [T; 5]) {
-    let mut forms = [reducer.transform(T::zero()); 5];
-    let mut end = None;
-    if all_checked(reducer, &forms) && commands_fit(commands, 5) {
-        end = Some(run(reducer, &mut forms, commands));
-    }
-    let residues = [
-        residue_of(reducer, forms[0]),
-        residue_of(reducer, forms[1]),
-        residue_of(reducer, forms[2]),
-        residue_of(reducer, forms[3]),
-        residue_of(reducer, forms[4]),
-    ];
-    (end, residues, forms)
-}
 
 const MODULO_1: [RingCommand<u8>; 5] = [
     RingCommand::Load { dst: 0, n: 255 },
@@ -146,14 +125,23 @@ const ROWS: &[Row] = &[
 
 #[test]
 fn each_reducer_leaves_its_forms(rt: HostRuntime) {
-    'rows: for &(m, commands, end, residues, scaled, montgomery) in ROWS {
-        assert!(rt; m > 0 && m % 2 == 1);
-        let left = left_by(&Vanilla::<u8>::new(&m), commands);
-        assert!(rt; left == (Some(end), residues, residues), "modulo {m}");
-        let left = left_by(&PreMulInv2by1::<u8>::new(m), commands);
-        assert!(rt; left == (Some(end), residues, scaled), "modulo {m}");
-        let left = left_by(&Montgomery::<u8>::new(m), commands);
-        assert!(rt; left == (Some(end), residues, montgomery), "modulo {m}");
+    for &(m, commands, end, residues, scaled, montgomery) in ROWS {
+        assert!(rt; m > 0);
+        let ring = Vanilla::<u8>::new(&m);
+        assert!(rt;
+            leaves(&ring, commands, end, residues, residues),
+            "modulo {m}"
+        );
+        let ring = PreMulInv2by1::<u8>::new(m);
+        assert!(rt;
+            leaves(&ring, commands, end, residues, scaled),
+            "modulo {m}"
+        );
+        let ring = Montgomery::<u8>::new(m);
+        assert!(rt;
+            leaves(&ring, commands, end, residues, montgomery),
+            "modulo {m}"
+        );
     }
 }
 
@@ -175,12 +163,8 @@ const WIDE_MODULO_1: [RingCommand<u32>; 5] = [
 
 #[test]
 fn fixed_reducers_modulo_1(rt: HostRuntime) {
-    let zeros = (Some(RunEnd::Done), [0; 5], [0; 5]);
-    let left = left_by(&FixedMontgomery32::<1>::new(&1), &WIDE_MODULO_1);
-    assert!(rt; left == zeros);
-    let left = left_by(
-        &FixedTrinomialSolinas32::<2, 1, -1>::new(&1),
-        &WIDE_MODULO_1,
-    );
-    assert!(rt; left == zeros);
+    let ring = FixedMontgomery32::<1>::new(&1);
+    assert!(rt; leaves(&ring, &WIDE_MODULO_1, RunEnd::Done, [0; 5], [0; 5]));
+    let ring = FixedTrinomialSolinas32::<2, 1, -1>::new(&1);
+    assert!(rt; leaves(&ring, &WIDE_MODULO_1, RunEnd::Done, [0; 5], [0; 5]));
 }

@@ -1,38 +1,9 @@
 //! The same commands over each reducer.
 
-ghost use Rattle.std.specs.Prelude.{◌≡◌, ◌≤◌};
-
-use super::runs::residue_of;
-use num_modular::ring::{RingCommand, RunEnd, all_checked, commands_fit, run};
+use super::runs::{leaves, run_over};
+use num_modular::ring::{RingCommand, RunEnd};
 use num_modular::word::RingWord;
 use num_modular::{Montgomery, PreMulInv2by1, Reducer, Vanilla};
-use std::process::Abort;
-
-// The end of a run over three registers of value 0, and their forms and residues then.
-#[derive(Clone, Copy, Debug, PartialEq, Eq)]
-struct Run<T> {
-    end: Option<RunEnd>,
-    forms: [T; 3],
-    residues: [T; 3],
-}
-
-fn run_over<T: RingWord, R: Reducer<T>>(reducer: &R, commands: &[RingCommand<T>]) -> Run<T> {
-    let mut forms = [reducer.transform(T::zero()); 3];
-    let mut end = None;
-    if all_checked(reducer, &forms) && commands_fit(commands, 3) {
-        end = Some(run(reducer, &mut forms, commands));
-    }
-    let residues = [
-        residue_of(reducer, forms[0]),
-        residue_of(reducer, forms[1]),
-        residue_of(reducer, forms[2]),
-    ];
-    Run {
-        end,
-        forms,
-        residues,
-    }
-}
 
 // Every command; a run ends where an inverse is missing.
 fn commands<T: RingWord>(x: T, y: T, exp: T) -> [RingCommand<T>; 12] {
@@ -52,21 +23,32 @@ fn commands<T: RingWord>(x: T, y: T, exp: T) -> [RingCommand<T>; 12] {
     ]
 }
 
+// The end of a run over three registers of value 0, and their residues then.
+fn run_of_three<T: RingWord, R: Reducer<T>>(
+    reducer: &R,
+    commands: &[RingCommand<T>],
+) -> (Option<RunEnd>, [T; 3]) {
+    let mut registers = [T::zero(); 3];
+    let end = run_over(reducer, commands, &mut registers);
+    (end, registers)
+}
+
 #[test]
 fn the_three_reducers_end_alike_with_equal_residues(rt: HostRuntime) {
     let commands = commands(201, 254, 77);
     for m in 1..=255u8 {
-        let plain = run_over(&Vanilla::<u8>::new(&m), &commands);
-        let scaled = run_over(&PreMulInv2by1::<u8>::new(m), &commands);
-        let split = run_over(&Montgomery::<u8>::new(m), &commands);
-        let want = (plain.end, plain.residues);
-        let found = [(scaled.end, scaled.residues), (split.end, split.residues)];
-        assert!(rt; plain.end.is_some() && found == [want; 2], "modulo {m}");
+        let want = run_of_three(&Vanilla::<u8>::new(&m), &commands);
+        let scaled = run_of_three(&PreMulInv2by1::<u8>::new(m), &commands);
+        let split = run_of_three(&Montgomery::<u8>::new(m), &commands);
+        assert!(rt;
+            want.0.is_some() && scaled == want && split == want,
+            "modulo {m}"
+        );
     }
 }
 
 // 2^63, 2^64 - 2 and 6 * 2^40.
-const LARGE_EVEN: [u64; 3] = [9223372036854775808, 18446744073709551614, 6597069766656];
+const LARGE_EVEN: &[u64] = &[9223372036854775808, 18446744073709551614, 6597069766656];
 
 #[test]
 fn they_end_alike_for_large_even_moduli(rt: HostRuntime) {
@@ -75,25 +57,16 @@ fn they_end_alike_for_large_even_moduli(rt: HostRuntime) {
         18364758544493064721,
         12297829382473034411,
     );
-    for m in LARGE_EVEN {
-        let plain = run_over(&Vanilla::<u64>::new(&m), &commands);
-        let scaled = run_over(&PreMulInv2by1::<u64>::new(m), &commands);
-        let split = run_over(&Montgomery::<u64>::new(m), &commands);
-        let want = (plain.end, plain.residues);
-        let found = [(scaled.end, scaled.residues), (split.end, split.residues)];
-        assert!(rt; plain.end.is_some() && found == [want; 2], "modulo {m}");
+    for &m in LARGE_EVEN {
+        assert!(rt; m > 0);
+        let want = run_of_three(&Vanilla::<u64>::new(&m), &commands);
+        let scaled = run_of_three(&PreMulInv2by1::<u64>::new(m), &commands);
+        let split = run_of_three(&Montgomery::<u64>::new(m), &commands);
+        assert!(rt;
+            want.0.is_some() && scaled == want && split == want,
+            "modulo {m}"
+        );
     }
-}
-
-fn assert_forms(rt: &impl Abort, found: Run<u8>, end: RunEnd, forms: [u8; 3], residues: [u8; 3]) {
-    assert!(rt;
-        found
-            == Run {
-                end: Some(end),
-                forms,
-                residues
-            }
-    );
 }
 
 #[test]
@@ -107,27 +80,12 @@ fn a_missing_inverse_modulo_21(rt: HostRuntime) {
     ];
     let end = RunEnd::NoInverse { at: 3 };
     let residues = [5, 7, 17];
-    assert_forms(
-        &rt,
-        run_over(&Vanilla::<u8>::new(&21), &commands),
-        end,
-        residues,
-        residues,
-    );
-    assert_forms(
-        &rt,
-        run_over(&PreMulInv2by1::<u8>::new(21), &commands),
-        end,
-        [40, 56, 136],
-        residues,
-    );
-    assert_forms(
-        &rt,
-        run_over(&Montgomery::<u8>::new(21), &commands),
-        end,
-        [20, 7, 5],
-        residues,
-    );
+    let ring = Vanilla::<u8>::new(&21);
+    assert!(rt; leaves(&ring, &commands, end, residues, residues));
+    let ring = PreMulInv2by1::<u8>::new(21);
+    assert!(rt; leaves(&ring, &commands, end, residues, [40, 56, 136]));
+    let ring = Montgomery::<u8>::new(21);
+    assert!(rt; leaves(&ring, &commands, end, residues, [20, 7, 5]));
 }
 
 #[test]
@@ -136,27 +94,12 @@ fn the_ring_of_one_value(rt: HostRuntime) {
         RingCommand::Load { dst: 0, n: 255 },
         RingCommand::Inv { dst: 0, a: 0 },
     ];
-    assert_forms(
-        &rt,
-        run_over(&Vanilla::<u8>::new(&1), &commands),
-        RunEnd::Done,
-        [0; 3],
-        [0; 3],
-    );
-    assert_forms(
-        &rt,
-        run_over(&PreMulInv2by1::<u8>::new(1), &commands),
-        RunEnd::Done,
-        [0; 3],
-        [0; 3],
-    );
-    assert_forms(
-        &rt,
-        run_over(&Montgomery::<u8>::new(1), &commands),
-        RunEnd::Done,
-        [0; 3],
-        [0; 3],
-    );
+    let ring = Vanilla::<u8>::new(&1);
+    assert!(rt; leaves(&ring, &commands, RunEnd::Done, [0; 3], [0; 3]));
+    let ring = PreMulInv2by1::<u8>::new(1);
+    assert!(rt; leaves(&ring, &commands, RunEnd::Done, [0; 3], [0; 3]));
+    let ring = Montgomery::<u8>::new(1);
+    assert!(rt; leaves(&ring, &commands, RunEnd::Done, [0; 3], [0; 3]));
 }
 
 // The residue of a + b, in place and not.

@@ -51,48 +51,76 @@ fn multiplied<T: RingWord, R: Reducer<T>>(r: &R, xs: &mut [T], ys: &mut [T], g: 
     }
 }
 
+// The number whose transform is asked for, its length, and whether it is a root of -1.
+const ROOTS: &[(u8, usize, bool)] = &[
+    (8, 2, false),
+    (20, 2, true),
+    (5, 1, true),
+    (20, 0, false),
+    (20, 3, false),
+];
+
 #[test]
 fn roots(rt: HostRuntime) {
     let r = Vanilla::<u8>::new(&21);
-    for (g, n, fits) in [
-        (8, 2, false),
-        (20, 2, true),
-        (5, 1, true),
-        (20, 0, false),
-        (20, 3, false),
-    ] {
-        assert_eq!(rt; root_fits(&r, &r.transform(g), n), fits, "{g} for {n}");
+    for &(g, n, fits) in ROOTS {
+        assert!(rt; root_fits(&r, &r.transform(g), n) == fits, "{g} for {n}");
     }
+}
+
+// Whether a transform takes so many products, and leaves the forms of these residues.
+fn is_transform<T: RingWord, R: Reducer<T>>(
+    r: &R,
+    xs: &mut [T],
+    g: T,
+    products: u128,
+    want: &[T],
+) -> bool {
+    transformed(r, xs, g) == Some(products) && are_forms(r, xs, want)
+}
+
+// Whether a cyclic product ends so, and leaves the forms of these residues in both lists.
+fn is_product<T: RingWord, R: Reducer<T>>(
+    r: &R,
+    xs: &mut [T],
+    ys: &mut [T],
+    g: T,
+    inverted: bool,
+    want: (&[T], &[T]),
+) -> bool {
+    multiplied(r, xs, ys, g) == Some(inverted)
+        && are_forms(r, xs, want.0)
+        && are_forms(r, ys, want.1)
 }
 
 #[test]
 fn known_products(rt: HostRuntime) {
     let r = Montgomery::<u8>::new(85);
     let (mut xs, mut ys) = ([1, 2, 3, 4], [1, 1, 0, 0]);
-    assert_eq!(rt; multiplied(&r, &mut xs, &mut ys, 13), Some(true));
-    assert!(rt; are_forms(&r, &xs, &[5, 3, 5, 7]) && are_forms(&r, &ys, &[2, 14, 0, 73]));
+    assert!(rt;
+        is_product(
+            &r,
+            &mut xs,
+            &mut ys,
+            13,
+            true,
+            (&[5, 3, 5, 7], &[2, 14, 0, 73])
+        )
+    );
+}
+
+// Whether a reducer of 20 transforms two entries, and leaves both lists of a product that it can't
+// divide by 2.
+fn is_even_ring<R: Reducer<u8>>(r: &R) -> bool {
+    let (mut xs, mut ys, mut zs) = ([7, 9], [1, 0], [7, 9]);
+    is_transform(r, &mut zs, 19, 3, &[16, 18])
+        && is_product(r, &mut xs, &mut ys, 19, false, (&[7, 9], &[1, 0]))
 }
 
 #[test]
 fn even_modulus(rt: HostRuntime) {
-    let r = PreMulInv2by1::<u8>::new(20);
-    let mut xs = [7, 9];
-    assert_eq!(rt; transformed(&r, &mut xs, 19), Some(3));
-    assert!(rt; are_forms(&r, &xs, &[16, 18]));
-    let (mut xs, mut ys) = ([7, 9], [1, 0]);
-    assert_eq!(rt; multiplied(&r, &mut xs, &mut ys, 19), Some(false));
-    assert!(rt; are_forms(&r, &xs, &[7, 9]) && are_forms(&r, &ys, &[1, 0]));
-}
-
-#[test]
-fn even_modulus_of_montgomery(rt: HostRuntime) {
-    let r = Montgomery::<u8>::new(20);
-    let mut xs = [7, 9];
-    assert_eq!(rt; transformed(&r, &mut xs, 19), Some(3));
-    assert!(rt; are_forms(&r, &xs, &[16, 18]));
-    let (mut xs, mut ys) = ([7, 9], [1, 0]);
-    assert_eq!(rt; multiplied(&r, &mut xs, &mut ys, 19), Some(false));
-    assert!(rt; are_forms(&r, &xs, &[7, 9]) && are_forms(&r, &ys, &[1, 0]));
+    assert!(rt; is_even_ring(&PreMulInv2by1::<u8>::new(20)));
+    assert!(rt; is_even_ring(&Montgomery::<u8>::new(20)));
 }
 
 // The modulus 2^64 - 2^32 + 1, whose units have the order 2^32 * (2^32 - 1), with the generator 7.
@@ -116,65 +144,77 @@ const FIRST: u64 = 3;
 
 const SECOND: u64 = 14;
 
-// Puts the plain sums of the lists of a length in their place: the transform of the first, that of
-// the second, and the cyclic product.
-fn take_plain_sums(first: &mut [u64], second: &mut [u64], product: &mut [u64], g: u64) {
-    let (mut xs, mut ys) = ([0; 256], [0; 256]);
-    seed(&mut xs, FIRST);
-    seed(&mut ys, SECOND);
-    let n = product.len();
-    if n > 256 || first.len() != n || second.len() != n {
-        return;
-    }
-    for e in 0..n {
-        first[e] = transform_entry(MODULUS, g, &xs[..n], e);
-        second[e] = transform_entry(MODULUS, g, &ys[..n], e);
-        product[e] = product_entry(MODULUS, &xs[..n], &ys[..n], e);
+// Puts the plain transform by g of a list in its place.
+fn take_transform(entries: &mut [u64], xs: &[u64], g: u64) {
+    for e in 0..entries.len() {
+        entries[e] = transform_entry(MODULUS, g, xs, e);
     }
 }
 
-// Whether the transforms and the cyclic product of the lists of a length are these sums, every entry.
-fn are_sums<R: Reducer<u64>>(
-    r: &R,
-    first: &[u64],
-    second: &[u64],
-    product: &[u64],
-    g: u64,
-) -> bool {
+// Puts the plain cyclic product of two lists of the same length in its place.
+fn take_product(entries: &mut [u64], xs: &[u64], ys: &[u64]) {
+    let n = entries.len();
+    if n > 256 || xs.len() != n || ys.len() != n {
+        return;
+    }
+    for e in 0..n {
+        entries[e] = product_entry(MODULUS, xs, ys, e);
+    }
+}
+
+// The plain sums of the lists of n entries: the transforms of both, and the cyclic product.
+#[derive(Drop)]
+struct Sums {
+    first: [u64; 256],
+    second: [u64; 256],
+    product: [u64; 256],
+}
+
+fn plain_sums(n: usize, g: u64) -> Sums {
+    let (mut xs, mut ys) = ([0; 256], [0; 256]);
+    seed(&mut xs, FIRST);
+    seed(&mut ys, SECOND);
+    let mut sums = Sums {
+        first: [0; 256],
+        second: [0; 256],
+        product: [0; 256],
+    };
+    if n <= 256 {
+        take_transform(&mut sums.first[..n], &xs[..n], g);
+        take_transform(&mut sums.second[..n], &ys[..n], g);
+        take_product(&mut sums.product[..n], &xs[..n], &ys[..n]);
+    }
+    sums
+}
+
+// Whether a reducer's transforms and its cyclic product are these sums, every entry.
+fn are_sums<R: Reducer<u64>>(r: &R, sums: &Sums, n: usize, g: u64) -> bool {
     let (mut xs, mut ys, mut zs) = ([0; 256], [0; 256], [0; 256]);
     seed(&mut xs, FIRST);
     seed(&mut ys, SECOND);
     seed(&mut zs, FIRST);
-    let n = product.len();
-    if n > 256 {
-        return false;
-    }
-    transformed(r, &mut zs[..n], g).is_some()
-        && are_forms(r, &zs[..n], first)
+    n <= 256
+        && transformed(r, &mut zs[..n], g).is_some()
+        && are_forms(r, &zs[..n], &sums.first[..n])
         && multiplied(r, &mut xs[..n], &mut ys[..n], g) == Some(true)
-        && are_forms(r, &xs[..n], product)
-        && are_forms(r, &ys[..n], second)
+        && are_forms(r, &xs[..n], &sums.product[..n])
+        && are_forms(r, &ys[..n], &sums.second[..n])
 }
+
+const LENGTHS: &[usize] = &[1, 2, 16, 32, 64, 128, 256];
 
 #[test]
 fn plain_sums_around_a_strip(rt: HostRuntime) {
     let plain = Vanilla::<u64>::new(&MODULUS);
     let montgomery = Montgomery::<u64>::new(MODULUS);
     let solinas = FixedTrinomialSolinas64::<64, 32, 1>::new(&MODULUS);
-    for n in [1, 2, 16, 32, 64, 128, 256] {
-        let g = plain.residue(plain.pow(GENERATOR, &((MODULUS - 1) / n as u64)));
-        let (mut first, mut second, mut product) = ([0; 256], [0; 256], [0; 256]);
-        let (first, second, product) = (&mut first[..n], &mut second[..n], &mut product[..n]);
-        take_plain_sums(first, second, product, g);
-        assert!(rt; are_sums(&plain, first, second, product, g), "Vanilla, {n}");
-        assert!(rt;
-            are_sums(&montgomery, first, second, product, g),
-            "Montgomery, {n}"
-        );
-        assert!(rt;
-            are_sums(&solinas, first, second, product, g),
-            "Solinas, {n}"
-        );
+    for &n in LENGTHS {
+        assert!(rt; n > 0);
+        let g = plain.residue(plain.pow(plain.transform(GENERATOR), &((MODULUS - 1) / n as u64)));
+        let sums = plain_sums(n, g);
+        assert!(rt; are_sums(&plain, &sums, n, g), "Vanilla, {n}");
+        assert!(rt; are_sums(&montgomery, &sums, n, g), "Montgomery, {n}");
+        assert!(rt; are_sums(&solinas, &sums, n, g), "Solinas, {n}");
     }
 }
 

@@ -1,0 +1,30 @@
+//! The README's examples, run. Each value was computed with Python's whole numbers.
+
+use crate::first_use::{
+    minutes_and_seconds, product_and_one, product_by_folds, residue_by_commands, sum_of_squares,
+    symbol,
+};
+use num_modular::Montgomery;
+
+const X: u64 = 18446744073709551615;
+
+const Y: u64 = 12345678901234567890;
+
+#[test]
+fn products_and_residues(rt: HostRuntime) {
+    assert!(rt; product_and_one(X, Y) == 84);
+    assert!(rt; product_by_folds(X, Y) == 1103560967735299043);
+    assert!(rt; residue_by_commands(X, 1000000007) == 582344007);
+}
+
+#[test]
+fn squares_over_a_reducer(rt: HostRuntime) {
+    assert!(rt; sum_of_squares(&Montgomery::<u64>::new(97), X, 50) == 86);
+}
+
+#[test]
+fn quotients_and_symbols(rt: HostRuntime) {
+    assert!(rt; minutes_and_seconds(4294967295) == (71582788, 15));
+    assert!(rt; symbol(1001, 9907) == Some(-1));
+    assert!(rt; symbol(7, 8) == None);
+}
