@@ -13,36 +13,52 @@ use crate::remainders::from_remainders;
 use crate::squares::is_quadratic_residue;
 use num_modular::prim::is_prime_by_search;
 use num_modular::{Montgomery, Reducer};
-use std::test::Fail;
 
 const X: (u64, u64, u64, u64) = (18446744073709551615, 12345678901234567890, 7, 1000000007);
 
 const Y: (u64, u64, u64, u64) = (18446744073709551557, 9876543210987654321, 11, 998244353);
 
-#[test]
-fn words_of_64_bits(rt: HostRuntime) -> Result<(), Fail> {
-    assert_eq!(rt; by_plain_remainders(X, Y, 97), [60, 24, 19]);
-    assert_eq!(rt; by_plain_remainders(X, Y, 1), [0, 0, 0]);
-    assert_eq!(rt;
-        by_reciprocals(X, Y, 18446744073709551557),
-        [58, 1, 3738633023172175820]
-    );
-    assert_eq!(rt; by_montgomery(X, Y, 6), [3, 4, 3]);
-    assert_eq!(rt; modulo_15(X, Y), [0, 1, 3]);
-    assert_eq!(rt; modulo_97(X, Y), [60, 24, 19]);
-    assert_eq!(rt; modulo_29(X, Y), [23, 8, 5]);
-    assert_eq!(rt; modulo_247(X, Y), [54, 32, 84]);
-    Ok(())
+// x and y modulo 15, 97, 29 and 247.
+fn modulo_words_of_64_bits(x: (u64, u64, u64, u64), y: (u64, u64, u64, u64)) -> [[u64; 3]; 4] {
+    [
+        modulo_15(x, y),
+        modulo_97(x, y),
+        modulo_29(x, y),
+        modulo_247(x, y),
+    ]
 }
 
 #[test]
-fn words_of_other_widths(rt: HostRuntime) -> Result<(), Fail> {
+fn words_of_64_bits(rt: HostRuntime) {
+    let found = modulo_words_of_64_bits(X, Y);
+    assert!(rt; found == [[0, 1, 3], [60, 24, 19], [23, 8, 5], [54, 32, 84]]);
+}
+
+#[test]
+fn words_of_64_bits_by_each_reducer(rt: HostRuntime) {
+    assert!(rt; by_plain_remainders(X, Y, 97) == [60, 24, 19]);
+    assert!(rt; by_plain_remainders(X, Y, 1) == [0, 0, 0]);
+    let found = by_reciprocals(X, Y, 18446744073709551557);
+    assert!(rt; found == [58, 1, 3738633023172175820]);
+    assert!(rt; by_montgomery(X, Y, 6) == [3, 4, 3]);
+}
+
+// x and y modulo 13, 17, 31 and 241.
+fn modulo_words_of_32_bits(x: (u32, u32, u32, u32), y: (u32, u32, u32, u32)) -> [[u32; 3]; 4] {
+    [
+        modulo_13(x, y),
+        modulo_17(x, y),
+        modulo_31(x, y),
+        modulo_241(x, y),
+    ]
+}
+
+#[test]
+fn words_of_other_widths(rt: HostRuntime) {
     let x = (4294967295, 123456789, 7, 65537);
     let y = (4294967291, 987654321, 11, 257);
-    assert_eq!(rt; modulo_13(x, y), [8, 7, 10]);
-    assert_eq!(rt; modulo_17(x, y), [0, 1, 13]);
-    assert_eq!(rt; modulo_31(x, y), [3, 29, 27]);
-    assert_eq!(rt; modulo_241(x, y), [14, 141, 126]);
+    let found = modulo_words_of_32_bits(x, y);
+    assert!(rt; found == [[8, 7, 10], [0, 1, 13], [3, 29, 27], [14, 141, 126]]);
     let x = (
         u128::MAX,
         170141183460469231731687303715884105733,
@@ -55,39 +71,76 @@ fn words_of_other_widths(rt: HostRuntime) -> Result<(), Fail> {
         11,
         36893488147419103231,
     );
-    assert_eq!(rt; modulo_127(x, y), [3, 4, 123]);
-    Ok(())
+    assert!(rt; modulo_127(x, y) == [3, 4, 123]);
+}
+
+// Two lists, the modulus and the residue of their inner product.
+const INNER_PRODUCTS: &[([u64; 4], [u64; 4], u64, u64)] = &[
+    ([1, 2, 3, 4], [5, 6, 7, 8], 97, 70),
+    ([u64::MAX; 4], [u64::MAX - 1; 4], 6, 0),
+];
+
+// The modulus, x, a, b and the residue of the cubic.
+const CUBICS: &[(u64, u64, u64, u64, u64)] = &[(97, 5, 2, 3, 41), (6, 9, 1, 1, 1)];
+
+#[test]
+fn inner_products_and_cubics(rt: HostRuntime) {
+    for &(xs, ys, m, want) in INNER_PRODUCTS {
+        assert!(rt; m > 0);
+        assert!(rt; inner_product_of_four(xs, ys, m) == want);
+    }
+    for &(m, x, a, b, want) in CUBICS {
+        assert!(rt; m > 0);
+        assert!(rt; cubic(&Montgomery::<u64>::new(m), x, a, b) == want);
+    }
 }
 
 #[test]
-fn lists_and_commands(rt: HostRuntime) -> Result<(), Fail> {
-    assert_eq!(rt; inner_product_of_four([1, 2, 3, 4], [5, 6, 7, 8], 97), 70);
-    assert_eq!(rt;
-        inner_product_of_four([u64::MAX; 4], [u64::MAX - 1; 4], 6),
-        0
-    );
-    assert_eq!(rt; cubic(&Montgomery::<u64>::new(97), 5, 2, 3), 41);
-    assert_eq!(rt; cubic(&Montgomery::<u64>::new(6), 9, 1, 1), 1);
-    assert_eq!(rt; residue_over_copies(100, 97), 3);
-    assert_eq!(rt; product_by_commands(10, 20, 97), 6);
-    assert_eq!(rt; hash(b"", 5), 0);
-    assert_eq!(rt; hash(b"a", 5), 97);
-    assert_eq!(rt; hash(b"hash", 257), 1771794084);
-    assert_eq!(rt; hash(b"num-modular", u64::MAX), 36474047787);
-    Ok(())
+fn lists_of_commands(rt: HostRuntime) {
+    assert!(rt; residue_over_copies(100, 97) == 3);
+    assert!(rt; product_by_commands(10, 20, 97) == 6);
+}
+
+// Whether the hash of a text at x is this.
+fn is_hash(text: &[u8], x: u64, want: u64) -> bool {
+    hash(text, x) == want
 }
 
 #[test]
-fn pairs_squares_and_operations(rt: HostRuntime) -> Result<(), Fail> {
-    assert_eq!(rt; from_remainders(2, 3, 3, 5), Some(8));
-    assert_eq!(rt; from_remainders(10, 7, 25, 9), Some(52));
-    assert_eq!(rt; from_remainders(0, 1, 0, 1), Some(0));
-    assert_eq!(rt; from_remainders(1, 4, 3, 6), None);
-    let found = from_remainders(4294967295, 4294967291, 123456789, 4294967279);
-    assert_eq!(rt; found, Some(7730330229127364619));
-    assert_eq!(rt; product_and_sum(7u8, 250, 9, &21), 16);
-    assert_eq!(rt; square(1000003u32, 97), 27);
-    Ok(())
+fn hashes(rt: HostRuntime) {
+    assert!(rt; is_hash(b"", 5, 0));
+    assert!(rt; is_hash(b"a", 5, 97));
+    assert!(rt; is_hash(b"hash", 257, 1771794084));
+    assert!(rt; is_hash(b"num-modular", u64::MAX, 36474047787));
+}
+
+// A residue and its modulus, twice, and the number that has both.
+const PAIRS: &[(u32, u32, u32, u32, Option<u64>)] = &[
+    (2, 3, 3, 5, Some(8)),
+    (10, 7, 25, 9, Some(52)),
+    (0, 1, 0, 1, Some(0)),
+    (1, 4, 3, 6, None),
+    (
+        4294967295,
+        4294967291,
+        123456789,
+        4294967279,
+        Some(7730330229127364619),
+    ),
+];
+
+#[test]
+fn pairs_of_residues(rt: HostRuntime) {
+    for &(a, m, b, n, want) in PAIRS {
+        assert!(rt; m > 0 && n > 0);
+        assert!(rt; from_remainders(a, m, b, n) == want);
+    }
+}
+
+#[test]
+fn squares_and_operations(rt: HostRuntime) {
+    assert!(rt; product_and_sum(7u8, 250, 9, &21) == 16);
+    assert!(rt; square(1000003u32, 97) == 27);
 }
 
 fn residue_of_a_prime(a: u64, p: u64) -> Option<bool> {
@@ -98,13 +151,26 @@ fn residue_of_a_prime(a: u64, p: u64) -> Option<bool> {
     }
 }
 
+// A number, and whether it is a square modulo 11 that 11 doesn't divide.
+const RESIDUES: &[(u64, bool)] = &[
+    (1, true),
+    (3, true),
+    (4, true),
+    (5, true),
+    (9, true),
+    (12, true),
+    (0, false),
+    (2, false),
+    (6, false),
+    (7, false),
+    (8, false),
+    (10, false),
+    (11, false),
+];
+
 #[test]
-fn quadratic_residues(rt: HostRuntime) -> Result<(), Fail> {
-    for a in [1, 3, 4, 5, 9, 12] {
-        assert_eq!(rt; residue_of_a_prime(a, 11), Some(true), "{a}");
+fn quadratic_residues(rt: HostRuntime) {
+    for &(a, want) in RESIDUES {
+        assert!(rt; residue_of_a_prime(a, 11) == Some(want), "{a}");
     }
-    for a in [0, 2, 6, 7, 8, 10, 11] {
-        assert_eq!(rt; residue_of_a_prime(a, 11), Some(false), "{a}");
-    }
-    Ok(())
 }
