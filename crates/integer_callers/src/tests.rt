@@ -1,7 +1,7 @@
 //! Every operand form of the operators, rows that were worked by hand, and equality.
 
 ghost use Rattle.modular_reduced.specs.Integers.{CanDivide, IsReduced, modulus_of};
-ghost use Rattle.std.specs.Prelude.{◌≡◌, ◌%◌};
+ghost use Rattle.std.specs.Prelude.{◌≡◌, ◌≤◌, ◌%◌};
 
 use crate::callers::*;
 use crate::equality::is_equivalence;
@@ -316,17 +316,28 @@ fn are_equivalent<I: ModularInteger>(all: &[I]) -> bool {
     true
 }
 
+// n modulo m.
+fn integer(n: u8, m: u8) -> VanillaInt<u8>
+    requires { 1 ≤ m }
+{
+    VanillaInt::<u8>::new(n, &m)
+}
+
 #[test]
 fn equality(rt: HostRuntime) {
-    let three = VanillaInt::<u8>::new(3, &7);
-    let seven = VanillaInt::<u8>::new(10, &7);
-    let other = VanillaInt::<u8>::new(3, &11);
-    assert!(rt; are_equal(&seven, &three) && !are_equal(&three, &other));
+    let (three, seven, other) = (integer(3, 7), integer(10, 7), integer(3, 11));
+    assert!(rt; are_equal(&seven, &three));
+    assert!(rt; !are_equal(&three, &other));
     assert!(rt; are_equivalent(&[three, seven, other]));
 }
 
 #[test]
 fn polynomials(rt: HostRuntime) {
-    assert!(rt; value_of_bytes() == 19 && value_by_forms() == 19);
-    assert!(rt; horner(&[], ring(7)).residue() == 0);
+    assert!(rt; value_of_bytes() == 19);
+    assert!(rt; value_by_forms() == 19);
+}
+
+#[test]
+fn the_polynomial_of_no_coefficients(rt: HostRuntime) {
+    assert!(rt; horner(&[], integer(7, 21)).residue() == 0);
 }
