@@ -101,17 +101,17 @@ fn lists_of_commands(rt: HostRuntime) {
     assert!(rt; product_by_commands(10, 20, 97) == 6);
 }
 
-// Whether the hash of a text at x is this.
-fn is_hash(text: &[u8], x: u64, want: u64) -> bool {
-    hash(text, x) == want
+// The hash alone, so that what it promises isn't kept beside the rows.
+fn hash_of(text: &[u8], x: u64) -> u64 {
+    hash(text, x)
 }
 
 #[test]
 fn hashes(rt: HostRuntime) {
-    assert!(rt; is_hash(b"", 5, 0));
-    assert!(rt; is_hash(b"a", 5, 97));
-    assert!(rt; is_hash(b"hash", 257, 1771794084));
-    assert!(rt; is_hash(b"num-modular", u64::MAX, 36474047787));
+    assert!(rt; hash_of(b"", 5) == 0);
+    assert!(rt; hash_of(b"a", 5) == 97);
+    assert!(rt; hash_of(b"hash", 257) == 1771794084);
+    assert!(rt; hash_of(b"num-modular", u64::MAX) == 36474047787);
 }
 
 // A residue and its modulus, twice, and the number that has both.
