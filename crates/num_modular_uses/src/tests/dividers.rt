@@ -1,18 +1,40 @@
 //! Division by divisors that stay the same.
 
+ghost use Rattle.std.specs.Prelude.{◌≤◌};
+
 use num_modular::barrett::{Normalized2by1Divisor, PreMulInv1by1};
 use num_modular::monty::neg_mod_inv;
 use num_modular::preinv::PreModInv;
 use num_modular::{DivExact, DivExactAssign, PreMulInv2by1, Reducer};
 
+fn quotient_and_remainder(n: u8, d: u8) -> (u8, u8)
+    requires { 2 ≤ d }
+{
+    PreMulInv1by1::<u8>::new(d).div_rem(n, d)
+}
+
+fn exact_quotient(n: u8, d: u8) -> Option<u8>
+    requires { 2 ≤ d }
+{
+    n.div_exact(d, &PreMulInv1by1::<u8>::new(d))
+}
+
+// Whether a number was divided in its place, and the number then.
+fn divided(n: u8, d: u8) -> (bool, u8)
+    requires { 2 ≤ d }
+{
+    let mut number = n;
+    (
+        number.div_exact_assign(d, &PreMulInv1by1::<u8>::new(d)),
+        number,
+    )
+}
+
 #[test]
 fn a_divider_by_a_multiplier(rt: HostRuntime) {
-    let three = PreMulInv1by1::<u8>::new(3);
-    let found = (three.div_rem(255, 3), 255u8.div_exact(3, &three));
-    assert!(rt; found == ((85, 0), Some(85)));
-    let mut number = 254u8;
-    assert!(rt; !number.div_exact_assign(3, &three));
-    assert!(rt; number == 254);
+    assert!(rt; quotient_and_remainder(255, 3) == (85, 0));
+    assert!(rt; exact_quotient(255, 3) == Some(85));
+    assert!(rt; divided(254, 3) == (false, 254));
 }
 
 #[test]
