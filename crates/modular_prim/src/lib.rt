@@ -15,4 +15,3 @@ pub mod power;
 pub mod reciprocal;
 #[cfg(test)]
 mod tests;
-pub mod users;

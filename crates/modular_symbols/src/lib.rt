@@ -14,4 +14,3 @@ pub mod ref_ops;
 pub mod symbols;
 #[cfg(test)]
 mod tests;
-pub mod users;

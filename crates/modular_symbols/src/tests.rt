@@ -1,8 +1,8 @@
 //! Known values of the symbols.
 
 mod counted;
-mod generic;
 mod large;
 mod least;
 mod primes;
+mod references;
 mod tables;

@@ -1,41 +1,10 @@
-//! The generic code and the operations over references.
+//! The operations over references, and the symbol by a count.
 
 ghost use Rattle.std.specs.Prelude.{◌≤◌};
 
 use crate::count::jacobi_by_count;
 use crate::ref_ops::ModularRefOps;
 use crate::symbols::ModularSymbols;
-use crate::users::{
-    jacobi_of_seven, legendre_of_three, product_symbol, product_symbol_ref, symbols_of_8_bits,
-    symbols_of_64_bits,
-};
-
-#[test]
-fn callers_of_generic_code(rt: HostRuntime) {
-    let found = (
-        product_symbol(7u16, 1, &15),
-        product_symbol(2u32, 1, &8),
-        product_symbol_ref(&2u16, &1, &15),
-        product_symbol_ref(&3usize, &5, &9),
-        symbols_of_8_bits(7, 1, 15),
-        symbols_of_64_bits(1, 2, 15),
-        jacobi_of_seven(),
-        legendre_of_three(),
-    );
-    assert!(rt;
-        found
-            == (
-                Some(-1),
-                None,
-                Some(1),
-                Some(0),
-                (Some(-1), Some(-1)),
-                (Some(1), Some(1)),
-                -1,
-                1
-            )
-    );
-}
 
 // The residues of a sum, a difference, a product and a power.
 fn of_two<T: ModularRefOps>(a: &T, b: &T, m: &T) -> [T; 4]

@@ -6,9 +6,9 @@ ghost use Rattle.modular_word.specs.Division.{IsExactQuotient};
 ghost use Rattle.modular_word.specs.Inverses.{IsInversion};
 ghost use Rattle.modular_word.specs.Residues.{residue};
 
-use crate::exact::{DivExact, DivExactAssign};
-use crate::numbered::Numbered;
-use crate::ops::{ModularAbs, ModularCoreOps, ModularPow, ModularUnaryOps};
+use modular_prim::exact::{DivExact, DivExactAssign};
+use modular_prim::numbered::Numbered;
+use modular_prim::ops::{ModularAbs, ModularCoreOps, ModularPow, ModularUnaryOps};
 
 /// The residue of x·y + y, in any operand form.
 pub fn product_and_sum<R: Numbered + Copy, M: Numbered + Copy, T: ModularCoreOps<R, M, Output = T>>(

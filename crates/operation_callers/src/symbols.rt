@@ -3,10 +3,10 @@
 ghost use Rattle.std.specs.Prelude.{◌≡◌, ◌*◌, ◌%◌, ◌≤◌, pos};
 ghost use Rattle.modular_symbols.specs.Jacobi.{jacobi, checked_jacobi_of};
 
-use crate::integer::UnsignedOperand;
-use crate::ops::ModularOps;
-use crate::ref_ops::ModularRefOps;
-use crate::symbols::ModularSymbols;
+use modular_symbols::integer::UnsignedOperand;
+use modular_symbols::ops::ModularOps;
+use modular_symbols::ref_ops::ModularRefOps;
+use modular_symbols::symbols::ModularSymbols;
 
 /// The Jacobi symbol over m of the residue of x·y; `None` exactly for an even m. Condition: m is at
 /// least 1.

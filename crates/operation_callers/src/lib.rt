@@ -1,0 +1,8 @@
+//! Code that is generic over the traits of modular operations and of symbols, proved from what these
+//! traits promise alone, and callers of the symbols.
+#![tactic(auto)]
+
+pub mod operations;
+pub mod symbols;
+#[cfg(test)]
+mod tests;
