@@ -1,8 +1,8 @@
 -- The reciprocal of a divisor with its top bit set.
 use Rattle.std.proofs.Common.{◌≡◌, ℕ, ◌+◌, ◌-◌, ◌*◌, ◌/◌, ◌%◌, ◌<◌, ◌≤◌, sym, ap, ◌∙◌, arith, ⊎_elim}
-use Rattle.std.proofs.Math.Nat.{mod-lt, mod_self, div-add-mod, mul-le-mul_left}
+use Rattle.std.proofs.Math.Nat.{mod-lt, div-add-mod, mul-le-mul_left}
 use Rattle.std.proofs.lemmas.Bool.{cases_lt}
-use Rattle.modular_word.proofs.Congruence.{same_rest, mod_cancel}
+use Rattle.modular_word.proofs.Congruence.{same_rest}
 use Rattle.modular_word.specs.Reciprocals.{IsReciprocal}
 
 -- the low word of the quotient is the quotient less the base
@@ -36,11 +36,3 @@ reciprocal_of B d v a hd hn ea ev =
     let l : a % d < d = mod-lt a (omega arith) in
     let e : d * (v + B) ≡ d * (a / d) = ap (λ n. d * n) (reciprocal_is B d v a hd hn ea ev) in
     record { normalized = hn; below = omega arith; close = omega arith }
-
--- the word that is 1 below 0
-pub greatest_word : (B x : ℕ) → 0 < B → x < B → (x + 1) % B ≡ 0 → x + 1 ≡ B
-greatest_word B x hB hx e =
-    let u : B - 1 + 1 ≡ B = omega arith in
-    let s : x ≡ B - 1 =
-    mod_cancel B x (B - 1) 1 hx (omega arith) (e ∙ sym (mod_self B) ∙ ap (λ n. n % B) (sym u)) in
-    omega arith

@@ -7,7 +7,7 @@ use crate::core_ops::{reduced, sqm};
 use crate::plain_word::PlainWord;
 use crate::reciprocal::invert_word;
 use modular_word::path_word::PathWord;
-use modular_word::paths::{div_2by1, neginv, redc};
+use modular_word::paths::{div_2by1, neginv, redc, two};
 use modular_word::ring_word::RingWord;
 
 /// The residue of the product of `exp` factors `base`; that of 1 for the exponent 0. Condition: m
@@ -21,8 +21,7 @@ pub fn powm<T: PlainWord>(base: T, exp: T, m: T) -> T
     ensures { T.number result ≡ T.number base ^ T.number exp % T.number m }
 {
     let one = T::one();
-    let two = one.plus(one);
-    if two.is_below(exp) {
+    if two::<T>().is_below(exp) {
         power_below(reduced(base, m), exp, m)
     } else if exp.is_zero_word() {
         reduced(one, m)

@@ -5,6 +5,7 @@ ghost use Rattle.modular_word.specs.Reciprocals.{IsReciprocal};
 
 use crate::plain_word::PlainWord;
 use modular_word::path_word::PathWord;
+use modular_word::paths::ones;
 use modular_word::ring_word::RingWord;
 
 /// The reciprocal of a divisor: the greatest double word divided by it, less the base. Condition:
@@ -15,6 +16,6 @@ pub fn invert_word<T: PlainWord>(d: T) -> T
     requires { T.base ≤ 2 * T.number d }
     ensures { IsReciprocal T.base (T.number d) (T.number result) }
 {
-    let greatest = T::zero().wrapping_sub(T::one());
+    let greatest = ones::<T>(T::bits());
     T::low_quotient(T::merge(greatest, greatest), d)
 }

@@ -21,6 +21,13 @@ pub fn ones<T: PathWord>(n: u32) -> T
     }
 }
 
+/// The word of 2.
+pub fn two<T: PathWord>() -> T
+    ensures { T.number result ≡ 2 }
+{
+    T::one().plus(T::one())
+}
+
 /// Quotient and remainder of a double word by a divisor d with its top bit set, by the reciprocal
 /// of d. Conditions: `reciprocal` is that of d, and the high word of the dividend is below d.
 ///
@@ -98,10 +105,8 @@ pub fn exact_2<T: PathWord>(d: T, inverse: T, limit: T, n: T::Double) -> Option<
     if n1.is_below(h) {
         return None;
     }
-    match exact_1(d, inverse, limit, n1.minus(h)) {
-        Some(q1) => Some(T::merge(q0, q1)),
-        None => None,
-    }
+    let q1 = exact_1(d, inverse, limit, n1.minus(h))?;
+    Some(T::merge(q0, q1))
 }
 
 /// The word x whose product with m is -1 modulo the base. Condition: m is odd.
@@ -113,7 +118,7 @@ pub fn neginv<T: PathWord>(m: T) -> T
     requires { T.number m % 2 ≡ 1 }
     ensures { IsNegatedInverse T.base (T.number m) (T.number result) }
 {
-    let two = T::one().plus(T::one());
+    let two = two::<T>();
     let mut inverse = m;
     let mut bits = 3;
     'lift: while bits < T::bits() {

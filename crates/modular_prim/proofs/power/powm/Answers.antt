@@ -1,12 +1,6 @@
-use Rattle.std.proofs.Common.{◌≡◌, ◌≢◌, ◌^◌, ◌<◌, ◌≤◌, ◌%◌, arith}
-use Rattle.std.proofs.Math.Nat.{pow-le-pow_right}
+use Rattle.std.proofs.Common.{◌≡◌, ◌≢◌, ◌≤◌, ◌%◌, arith}
 use Rattle.modular_prim.proofs.PowerSteps.{power_one, power_two, power_of_rest}
 use Rattle.modular_prim.proofs.power.powm.Goals as goal
-
-pub plus-two-requires : goal.plus-two-requires
-plus-two-requires g c =
-    let many : 2 ^ 8 ≤ 2 ^ g.T.RingWord.width = pow-le-pow_right (let h : 0 < 2 = omega arith in h) g.met.T.RingWord.width_from in
-    omega (arith, many, g.met.T.PathWord.base_is)
 
 pub returns-then-is_below : goal.returns-then-is_below
 returns-then-is_below g c =
@@ -18,15 +12,15 @@ pub returns-then-is_odd : goal.returns-then-is_odd
 returns-then-is_odd g c =
     let n = g.T.RingWord.number in
     let odd : n c.args.exp % 2 ≡ 1 = grind arith in
-    let small : n c.args.exp ≤ n c.plus-two.result = grind arith in
+    let small : n c.args.exp ≤ n c.two.result = grind arith in
     power_one (n c.args.m) (n c.args.base) (n c.args.exp) (n c.reduced-then-is_odd.result)
-    (omega (arith, c.plus-two.ensures, c.one-one.ensures)) c.reduced-then-is_odd.ensures.value
+    (omega (arith, c.two.ensures)) c.reduced-then-is_odd.ensures.value
 
 pub returns-else-is_odd : goal.returns-else-is_odd
 returns-else-is_odd g c =
     let n = g.T.RingWord.number in
     let even : n c.args.exp % 2 ≢ 1 = grind arith in
     let some : n c.args.exp ≢ 0 = grind arith in
-    let small : n c.args.exp ≤ n c.plus-two.result = grind arith in
+    let small : n c.args.exp ≤ n c.two.result = grind arith in
     power_two (n c.args.m) (n c.args.base) (n c.args.exp) (n c.sqm.result)
-    (omega (arith, c.plus-two.ensures, c.one-one.ensures)) c.sqm.ensures
+    (omega (arith, c.two.ensures)) c.sqm.ensures

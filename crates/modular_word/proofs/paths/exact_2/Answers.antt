@@ -28,28 +28,28 @@ returns-then-is_below g c =
     c.wrapping_mul-q0.ensures.value parts (e ∙ c.split-n0.ensures.value) in
     absurd (omega arith)
 
-pub returns-in-Some : goal.returns-in-Some
-returns-in-Some g c =
+pub returns : goal.returns
+returns g c =
     let n = g.T.RingWord.number in
     let B = g.T.PathWord.base in
-    let parts = low_word g (goal.at.returns-in-Some g c).After-split-h in
+    let parts = low_word g (goal.at.returns g c).After-split-h in
     let d = n c.args.d in
-    let x = n c.in-Some.q1 in
+    let x = n c.in_ok-q1.q1 in
     let high : x * d + n c.split-h.result.1 ≡ n c.split-n0.result.1 =
-    omega (arith, c.in-Some.ensures, c.minus.ensures.value) in
+    omega (arith, c.in_ok-q1.ensures, c.minus.ensures.value) in
     let scaled : B * (x * d + n c.split-h.result.1) ≡ B * n c.split-n0.result.1 = ap (λ v. B * v) high in
     let whole : (n c.wrapping_mul-q0.result + B * x) * d ≡ g.T.PathWord.whole c.args.n =
     omega (arith, c.split-n0.ensures.value) in
     ap (λ v. v * d) c.merge.ensures.value ∙ whole
 
-pub returns-in-None : goal.returns-in-None
-returns-in-None g c =
+pub returns-in_err-q1 : goal.returns-in_err-q1
+returns-in_err-q1 g c =
     let n = g.T.RingWord.number in
     let B = g.T.PathWord.base in
-    let parts = low_word g (goal.at.returns-in-None g c).After-split-h in
-    λ K e.
+    let parts = low_word g (goal.at.returns-in_err-q1 g c).After-split-h in
+    rw c.from_residual.ensures (λ K e.
     let left =
     high_left B (n c.args.d) (n c.args.inverse) (n c.split-n0.result.0) (n c.split-n0.result.1)
     (n c.wrapping_mul-q0.result) (n c.split-h.result.1) K c.split-n0.ensures.low_fits c.requires.unit
     c.wrapping_mul-q0.ensures.value parts (e ∙ c.split-n0.ensures.value) in
-    c.in-None.ensures (K / B) (omega (arith, c.minus.ensures.value))
+    c.in_err-q1.ensures (K / B) (omega (arith, c.minus.ensures.value)))
