@@ -1,4 +1,5 @@
-//! The definition of the Jacobi symbol as a program: right and slow.
+//! The definition of the Jacobi symbol as a program: right and slow. It is what the tests compare the
+//! fast calls with, and nothing of the library stands on it.
 
 ghost use Rattle.std.specs.Prelude.{◌≡◌, ◌%◌, pos};
 ghost use Rattle.modular_symbols.specs.Jacobi.{jacobi};
@@ -12,7 +13,9 @@ use modular_word::path_word::PathWord;
 use modular_word::ring_word::RingWord;
 
 /// The Jacobi symbol over n of a number, given by its sign and its magnitude, by a count of the half
-/// system of n: of (n - 1)/2 residues. Condition: n is odd.
+/// system of n, of (n - 1)/2 residues: -1, 0 or 1. Condition: n is odd.
+///
+/// Source: Schering, "Zur Theorie der quadratischen Reste" (Gauss's lemma over any odd number).
 #[tactic(auto, using(crate::proofs::CountSteps::counted_none))]
 pub fn jacobi_by_count<T: PlainWord>(a_minus: bool, a: T, n: T) -> i8
     requires { T.number n % 2 ≡ 1 }

@@ -1,5 +1,5 @@
-//! The definitions as programs: plain and slow, each with the definition for its contract. The fast
-//! calls are compared with them in tests.
+//! The definitions of `specs/` as programs: plain and slow, each with the definition for its contract.
+//! They are what the tests compare the fast calls with, and nothing of the library stands on them.
 
 ghost use Rattle.std.specs.Prelude.{◌≡◌, ◌+◌, ◌*◌, ◌^◌, ◌%◌, ◌≤◌, ◌<◌, ◌↔◌, ◌==◌, ◌||◌, if◌then◌else◌, IsTrue, length, slice_index};
 ghost use Rattle.modular_word.specs.Sums.{sum_below};
@@ -7,7 +7,8 @@ ghost use Rattle.modular_transform.specs.Transforms.{Suits, transform, cyclic_pr
 
 use modular_word::plain::power_of;
 
-/// Whether g suits transforms of n entries modulo m. Condition: m is at least 1.
+/// Whether g suits transforms of n entries modulo m: n is a power of two, and for n above 1 the power
+/// n/2 of g is -1 modulo m. Condition: m is at least 1.
 pub fn suits(m: u64, g: u64, n: usize) -> bool
     requires { 1 ≤ m }
     ensures { IsTrue result ↔ Suits m g n }

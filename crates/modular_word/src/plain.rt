@@ -1,5 +1,5 @@
-//! The definitions as programs: plain and slow, each with the definition for its contract. The fast
-//! calls are compared with them in tests.
+//! The definitions of `specs/` as programs: plain and slow, each with the definition for its contract.
+//! They are what the tests compare the fast calls with, and nothing of the library stands on them.
 
 ghost use Rattle.std.specs.Prelude.{◌≡◌, ℕ, ◌-◌, ◌*◌, ◌%◌, ◌^◌, ◌<◌, ◌≤◌, ◌↔◌};
 ghost use Rattle.modular_word.specs.Divisors.{IsGreatestCommonDivisor, gcd};
