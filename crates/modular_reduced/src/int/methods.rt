@@ -33,16 +33,15 @@ impl<T: RingWord, R: Reducer<T> + Copy> ReducedInt<T, R> {
             MatchOption result ((x : ℕ) → IsInverse m (residue_of self) x → ⊥)
             (λ y. (modulus_of y ≡ m) × IsInverse m (residue_of self) (residue_of y)) }
     {
-        match self.reducer.inv(self.form) {
-            Some(form) => Some(ReducedInt {
-                form,
-                reducer: self.reducer,
-            }),
-            None => None,
-        }
+        let form = self.reducer.inv(self.form)?;
+        Some(ReducedInt {
+            form,
+            reducer: self.reducer,
+        })
     }
 
-    /// The product of `exp` factors; 1 mod m for the exponent 0.
+    /// The product of `exp` factors; 1 mod m for the exponent 0. It goes by binary steps, as
+    /// `pow_counted`.
     pub fn pow(self, exp: &T) -> Self
         ensures { let m = modulus_of self in IsReduced m (residue_of self ^ T.number exp.now % m) result }
     {
