@@ -1,9 +1,10 @@
 //! A search by polynomial hashes modulo 2^61 - 1: the hash of a window that moves costs two products.
 #![tactic(auto)]
 
-ghost use Rattle.std.specs.Prelude.{◌≡◌, ℕ, ◌+◌, ◌%◌, ◌^◌, ◌≤◌, ◌↔◌, List, [], ◌∷◌, ◌++◌, IsTrue, length, slice_range};
+ghost use Rattle.std.specs.Prelude.{◌≡◌, ℕ, ◌+◌, ◌*◌, ◌%◌, ◌^◌, ◌≤◌, ◌↔◌, List, [], ◌∷◌, ◌++◌, IsTrue, length, slice_range, pos, ◌-ℤ◌};
 ghost use Rattle.num_modular.specs.Integers.{residue_of};
 ghost use Rattle.num_modular.specs.Mersenne.{mersenne};
+ghost use Rattle.num_modular.specs.Residues.{residue};
 ghost use Rattle.mersenne_hash.specs.Hashes.{polynomial_value, StandsAt, IsSearch};
 
 use num_modular::laws::residue_laws;
@@ -35,9 +36,15 @@ pub fn hash(base: Hash, text: &[u8]) -> Hash
 }
 
 /// The hash of a window that moves by one byte: `first` leaves it at its start, and `next` comes in
-/// at its end. The hash of the window and the power of the base by its length have to be right.
+/// at its end. It is the window's times the base, and `next`, less the power times `first`; so it is
+/// the hash of the moved window where `window` is that of the old one, and `power` the power of the base
+/// by its length.
+///
+/// Source: Karp and Rabin, "Efficient randomized pattern-matching algorithms".
 pub fn moved(base: Hash, power: Hash, window: Hash, first: u8, next: u8) -> Hash
-    ensures { (old moved : List ℕ) → old ++ (next ∷ []) ≡ first ∷ moved →
+    ensures value { let m = mersenne 61 1 in residue_of result
+        ≡ residue m (pos ((residue_of window * residue_of base + next) % m) -ℤ pos ((residue_of power * first) % m)) }
+    ensures hash { (old moved : List ℕ) → old ++ (next ∷ []) ≡ first ∷ moved →
         residue_of window ≡ polynomial_value old (residue_of base) % mersenne 61 1 →
         residue_of power ≡ residue_of base ^ length old % mersenne 61 1 →
         residue_of result ≡ polynomial_value moved (residue_of base) % mersenne 61 1 }

@@ -4,8 +4,8 @@ use Rattle.num_modular.specs.Mersenne.{mersenne}
 use Rattle.mersenne_hash.proofs.Windows.{residue_moved}
 use Rattle.mersenne_hash.proofs.moved.Goals as goal
 
-pub returns : goal.returns
-returns c old new same window_is power_is =
+pub returns-clause-hash : goal.returns-clause-hash
+returns-clause-hash c old new same window_is power_is =
     let m : ℕ = mersenne 61 1 in
     let positive : 0 < m = lit< tt in
     let x = residue_of c.args.base in
