@@ -1,11 +1,52 @@
 -- The multiplier and the shift of a divisor.
 use Rattle.std.proofs.Common.{◌≡◌, ℕ, suc, ◌+◌, ◌-◌, ◌*◌, ◌/◌, ◌%◌, ◌^◌, ◌<◌, ◌≤◌, sym, ap, ◌∙◌, subst, arith, ⊎_elim}
 use Rattle.std.proofs.Math.Nat.{mod-lt, div-add-mod, mod-eq_of_lt, mul-le-mul_left, pow-succ'}
+use Rattle.std.proofs.Math.Pow.{pow_mono}
 use Rattle.std.proofs.lemmas.Bool.{cases_lt}
 use Rattle.std.proofs.lemmas.Nat.{leading_top}
 use Rattle.std.specs.Int.Count.{count_leading_zeros}
 use Rattle.modular_word.specs.Reciprocals.{IsMultiplier}
-use Rattle.modular_barrett.specs.Digits.{HasDigits}
+use Rattle.modular_reduced.specs.Powers.{digits}
+use Rattle.modular_reduced.proofs.PowerCounts.{digits_above, digits_least}
+
+-- x, which is above 0, has n binary digits, of w at most
+pub record HasDigits (w x n : ℕ) : Type 0 where
+  pub some : 0 < n
+  pub at_most : n ≤ w
+  pub top : 2 ^ (n - 1) ≤ x
+  pub below : x < 2 ^ n
+
+-- their number is the least n with x below 2^n
+pub counted_digits : {w x n : ℕ} → HasDigits w x n → n ≡ digits x
+counted_digits {w} {x} {n} h =
+    let least : digits x ≤ n = digits_least x n h.below in
+    let above : n ≤ digits x =
+    ⊎_elim
+    (λ (l : digits x < n).
+    let m : 2 ^ digits x ≤ 2 ^ (n - 1) = pow_mono (let k : digits x ≤ n - 1 = omega arith in k) in
+    absurd (omega (arith, h.top, digits_above x)))
+    (λ (l : n ≤ digits x). l)
+    (cases_lt (digits x) n) in
+    omega arith
+
+pub digits_counted : (w x n : ℕ) → 0 < x → n ≡ digits x → n ≤ w → HasDigits w x n
+digits_counted w x n some e most =
+    let below : x < 2 ^ n = subst (λ k. x < 2 ^ k) (sym e) (digits_above x) in
+    let positive : 0 < n =
+    ⊎_elim
+    (λ (l : 0 < n). l)
+    (λ (l : n ≤ 0). let z : x < 2 ^ 0 = subst (λ k. x < 2 ^ k) (let k : n ≡ 0 = omega arith in k) below in absurd (omega arith))
+    (cases_lt 0 n) in
+    record {
+      some = positive;
+      at_most = most;
+      top =
+          ⊎_elim
+          (λ (l : x < 2 ^ (n - 1)). let m = digits_least x (n - 1) l in absurd (omega arith))
+          (λ (l : 2 ^ (n - 1) ≤ x). l)
+          (cases_lt x (2 ^ (n - 1)));
+      below = below;
+    }
 
 digits_at : (w x leading j : ℕ) → leading + suc j ≡ w → 2 ^ j ≤ x → x < 2 ^ suc j → HasDigits w x (suc j)
 digits_at w x leading j e low high =
@@ -36,11 +77,11 @@ pub record IsPrepared (w b d less n gap : ℕ) : Type 0 where
   pub fits : d < b
   pub whole : gap + d ≡ 2 ^ n
 
-pub prepared : (w b d less n gap one all : ℕ) → HasDigits w less n → d < b → one ≡ 1 → less + one ≡ d
+pub prepared : (w b d less n gap one all : ℕ) → 0 < less → n ≡ digits less → n ≤ w → d < b → one ≡ 1 → less + one ≡ d
     → all + 1 ≡ 2 ^ n → gap + less ≡ all
     → IsPrepared w b d less n gap
-prepared w b d less n gap one all digits fits e1 e2 e3 e4 =
-    record { digits = digits; next = omega arith; fits = fits; whole = omega arith }
+prepared w b d less n gap one all some counted most fits e1 e2 e3 e4 =
+    record { digits = digits_counted w less n some counted most; next = omega arith; fits = fits; whole = omega arith }
 
 -- the quotient leaves room for one more
 quotient_below : (w b d less n gap : ℕ) → IsPrepared w b d less n gap → b * gap / d + 1 < b

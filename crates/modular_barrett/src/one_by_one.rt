@@ -1,9 +1,9 @@
 //! Division of a word by a word, by the divisor's multiplier and shift.
 
-ghost use Rattle.std.specs.Prelude.{◌≡◌, ℕ, ◌+◌, ◌-◌, ◌*◌, ◌/◌, ◌^◌, ◌<◌};
+ghost use Rattle.std.specs.Prelude.{◌≡◌, ℕ, ◌+◌, ◌-◌, ◌*◌, ◌/◌, ◌^◌, ◌<◌, ◌≤◌};
 ghost use Rattle.modular_word.specs.Division.{IsDivision};
 ghost use Rattle.modular_word.specs.Reciprocals.{IsMultiplier};
-ghost use Rattle.modular_barrett.specs.Digits.{HasDigits};
+ghost use Rattle.modular_reduced.specs.Powers.{digits};
 
 use modular_prim::plain_word::PlainWord;
 use modular_word::path_word::PathWord;
@@ -27,9 +27,10 @@ pub struct PreMulInv1by1<T: PathWord> {
 }
 
 // How many binary digits a word has.
-fn digits<T: PathWord>(x: T) -> u32
+fn binary_digits<T: PathWord>(x: T) -> u32
     requires { 0 < T.number x }
-    ensures { HasDigits T.width (T.number x) result }
+    ensures value { result ≡ digits (T.number x) }
+    ensures at_most { result ≤ T.width }
 {
     T::bits() - x.leading_zeros()
 }
@@ -40,6 +41,9 @@ impl<T: PathWord> FitsDivisor for PreMulInv1by1<T> {
 
 impl<T: PathWord> PreMulInv1by1<T> {
     /// Quotient and remainder of a word. Condition: the multiplier and the shift fit the divisor.
+    ///
+    /// Source: Granlund and Montgomery, "Division by invariant integers using multiplication", figure
+    /// 4.1.
     pub fn div_rem(&self, a: T, d: T) -> (T, T)
         requires { ⟦<PreMulInv1by1<T> as FitsDivisor>⟧.fits self.now (T.number d) }
         ensures { IsDivision (T.number a) (T.number d) (T.number result.0) (T.number result.1) }
@@ -52,12 +56,15 @@ impl<T: PlainWord> PreMulInv1by1<T> {
     /// The multiplier and the shift of a divisor: with n the least number such that the divisor d is
     /// at most 2^n, and B the number of words, B·(2^n - d)/d rounded down, and 1 more; and n - 1.
     /// Condition: the divisor is above 1.
+    ///
+    /// Source: Granlund and Montgomery, "Division by invariant integers using multiplication", section
+    /// 4.
     pub fn new(d: T) -> Self
         requires { 1 < T.number d }
         ensures { ⟦<PreMulInv1by1<T> as FitsDivisor>⟧.fits result (T.number d) }
     {
         let less = d.minus(T::one());
-        let n = digits(less);
+        let n = binary_digits(less);
         let gap = ones::<T>(n).minus(less);
         let quotient = T::low_quotient(T::merge(T::zero(), gap), d);
         PreMulInv1by1 {

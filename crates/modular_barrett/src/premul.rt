@@ -145,10 +145,8 @@ impl<T: PlainWord> Reducer<T> for PreMulInv2by1<T> {
     }
 
     fn inv(&self, f: T) -> Option<T> {
-        match invm(self.residue(f), self.modulus()) {
-            Some(x) => Some(x.shift_left(self.shift)),
-            None => None,
-        }
+        let inverse = invm(self.residue(f), self.modulus())?;
+        Some(inverse.shift_left(self.shift))
     }
 
     fn sqr(&self, f: T) -> T {

@@ -1,16 +1,21 @@
-use Rattle.std.proofs.Common.{◌≡◌, ◌*◌, ◌/◌, ◌%◌, ap, ◌∙◌, arith}
+use Rattle.std.proofs.Common.{◌≡◌, ◌*◌, ◌/◌, ◌%◌, ◌^◌, ◌<◌, ap, ◌∙◌, sym, subst, arith}
+use Rattle.modular_reduced.proofs.PowerCounts.{digits_above}
 use Rattle.modular_barrett.proofs.Multiplier.{IsPrepared, prepared, multiplier_fits, multiplier_is}
 use Rattle.modular_barrett.proofs.one_by_one.PreMulInv1by1.new.Goals as goal
 use Rattle.modular_barrett.proofs.one_by_one.PreMulInv1by1.new.Goals.{After-low_quotient-quotient}
 
 pub minus-gap-requires : goal.minus-gap-requires
-minus-gap-requires g c = omega (arith, c.digits-n.ensures.below, c.ones.ensures)
+minus-gap-requires g c =
+    let below = subst (λ k. g.T.RingWord.number c.minus-less.result < 2 ^ k) (sym c.binary_digits-n.ensures.value)
+    (digits_above (g.T.RingWord.number c.minus-less.result)) in
+    omega (arith, below, c.ones.ensures)
 
 is_prepared : (g : _) (c : After-low_quotient-quotient g)
     → IsPrepared g.T.RingWord.width g.T.PathWord.base (g.T.RingWord.number c.args.d) (g.T.RingWord.number c.minus-less.result)
-    c.digits-n.result (g.T.RingWord.number c.minus-gap.result)
+    c.binary_digits-n.result (g.T.RingWord.number c.minus-gap.result)
 is_prepared g c =
-    prepared _ _ _ _ _ _ _ _ c.digits-n.ensures c.low_quotient-quotient.ensures.fits c.one.ensures
+    prepared _ _ _ _ _ _ _ _ (omega (arith, c.requires, c.one.ensures, c.minus-less.ensures.value))
+    c.binary_digits-n.ensures.value c.binary_digits-n.ensures.at_most c.low_quotient-quotient.ensures.fits c.one.ensures
     c.minus-less.ensures.value c.ones.ensures c.minus-gap.ensures.value
 
 quotient_is : (g : _) (c : After-low_quotient-quotient g)
