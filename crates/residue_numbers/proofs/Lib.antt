@@ -1,1 +1,2 @@
 mod Remainders
+mod Encodings

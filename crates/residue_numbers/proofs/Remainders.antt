@@ -42,10 +42,10 @@ grows n (suc k) ms positive h =
     omega (arith, before, mul-le-mul_left (product_below k ms) one))
     (cases_lt k n)
 
-spread : (m a b : ℕ) → a % m ≡ b % m → a + m * (b / m) ≡ b + m * (a / m)
+pub spread : (m a b : ℕ) → a % m ≡ b % m → a + m * (b / m) ≡ b + m * (a / m)
 spread m a b e = omega (arith, div-add-mod a m, div-add-mod b m)
 
-gathered : (m a b j k : ℕ) → a + m * j ≡ b + m * k → a % m ≡ b % m
+pub gathered : (m a b j k : ℕ) → a + m * j ≡ b + m * k → a % m ≡ b % m
 gathered m a b j k e = sym (add-mul-mod_self_left a m j) ∙ ap (λ n. n % m) e ∙ add-mul-mod_self_left b m k
 
 -- a product of numbers with inverses has one

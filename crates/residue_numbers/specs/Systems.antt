@@ -1,5 +1,5 @@
 -- Residue number systems (Garner, "The residue number system", IRE Transactions on Electronic Computers 8, 1959; Knuth, The Art of Computer Programming, volume 2, section 4.3.2).
-use Rattle.std.specs.Prelude.{◌≡◌, ℕ, zero, suc, ◌*◌, ◌%◌, ◌^◌, ◌<◌, List, length, slice_index}
+use Rattle.std.specs.Prelude.{◌≡◌, ℕ, zero, suc, ◌*◌, ◌%◌, ◌^◌, ◌<◌, ◌≤◌, List, length, slice_index}
 use Rattle.num_modular.specs.Divisors.{Coprime}
 
 -- the product of the first n moduli
@@ -16,6 +16,11 @@ pub record IsSystem (moduli : List ℕ) : Type 0 where
   pub positive : (i : ℕ) → i < length moduli → 0 < slice_index moduli i
   pub coprime : (i j : ℕ) → j < i → i < length moduli → Coprime (slice_index moduli j) (slice_index moduli i)
   pub fits : range_of moduli < 2 ^ 128
+
+-- the moduli are a system of eight at most
+pub record IsSmallSystem (moduli : List ℕ) : Type 0 where
+  pub system : IsSystem moduli
+  pub few : length moduli ≤ 8
 
 -- the residues are those of x
 pub record AreResidues (moduli residues : List ℕ) (x : ℕ) : Type 0 where

@@ -5,8 +5,11 @@ ghost use Rattle.std.specs.Prelude.{◌≡◌, ℕ, ◌+◌, ◌*◌, ◌%◌, �
 ghost use Rattle.num_modular.specs.Inverses.{HasInverse};
 ghost use Rattle.residue_numbers.specs.Systems.{range_of, IsSystem, AreResidues};
 
+mod system;
+
 use num_modular::laws::{divisor_laws, inverse_laws, residue_laws};
 use num_modular::{ModularInteger, VanillaInt};
+pub use system::ResidueSystem;
 
 // Whether n has an inverse modulo m.
 fn has_inverse(n: u128, m: u64) -> bool
@@ -61,9 +64,10 @@ fn next_digit(m: u64, residue: u64, number: u128, range: u128) -> u64
     ((known.convert(residue) - known) / weight).residue()
 }
 
-/// The residues of a number. Condition: there is room for one a modulus, and the moduli are a system.
+/// The residues of a number. Conditions: each modulus is above 0, and there is room for one residue
+/// a modulus.
 pub fn encode(moduli: &[u64], number: u128, residues: &mut [u64])
-    requires system { IsSystem moduli.now }
+    requires positive { (i : ℕ) → i < length moduli.now → 0 < slice_index moduli.now i }
     requires room { length residues.old ≡ length moduli.now }
     ensures { AreResidues moduli.now residues.new number }
 {

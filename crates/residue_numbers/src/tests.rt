@@ -42,3 +42,82 @@ fn numbers(rt: HostRuntime) {
         )
     );
 }
+
+// Whether the moduli are admitted, as is said, by a system that keeps them.
+fn admitted(moduli: &[u64], answer: bool) -> bool {
+    match ResidueSystem::new(moduli) {
+        Some(system) => answer && system.moduli == moduli,
+        None => !answer,
+    }
+}
+
+#[test]
+fn small_systems(rt: HostRuntime) {
+    assert!(rt; admitted(&[3, 5, 7], true) && admitted(&[], true));
+    assert!(rt; admitted(&[3, 0], false) && admitted(&[4, 9, 10], false));
+    assert!(rt; admitted(&[2, 3, 5, 7, 11, 13, 17, 19], true));
+    assert!(rt; admitted(&[2, 3, 5, 7, 11, 13, 17, 19, 23], false));
+    // 2^128 - 1, and (2^64 - 1)·(2^64 + 6)
+    assert!(rt; admitted(&[18446744073709551615, 274177, 67280421310721], true));
+    assert!(rt; admitted(&[18446744073709551615, 2, 9223372036854775811], false));
+}
+
+// Whether the residues of x and y have as their sums, differences and products those of the results.
+fn computes(moduli: &[u64], x: u128, y: u128, results: [u128; 3]) -> bool {
+    let Some(system) = ResidueSystem::new(moduli) else {
+        return false;
+    };
+    let count = system.moduli.len();
+    let (mut left, mut right) = ([0u64; 8], [0u64; 8]);
+    let (mut found, mut wanted) = ([0u64; 8], [0u64; 8]);
+    system.encode(x, &mut left[..count]);
+    system.encode(y, &mut right[..count]);
+    system.add(&left[..count], &right[..count], &mut found[..count]);
+    system.encode(results[0], &mut wanted[..count]);
+    let sums = found == wanted;
+    system.sub(&left[..count], &right[..count], &mut found[..count]);
+    system.encode(results[1], &mut wanted[..count]);
+    let differences = found == wanted;
+    system.mul(&left[..count], &right[..count], &mut found[..count]);
+    system.encode(results[2], &mut wanted[..count]);
+    sums && differences && found == wanted
+}
+
+#[test]
+fn results(rt: HostRuntime) {
+    // by Python's whole numbers
+    assert!(rt; computes(&[3, 5, 7], 23, 104, [22, 24, 82]));
+    assert!(rt; computes(&[3, 5, 7], 0, 1, [1, 104, 0]));
+    assert!(rt; computes(&[1], 5, 7, [0, 0, 0]) && computes(&[], 5, 7, [0, 0, 0]));
+    assert!(rt; computes(&[8, 27, 25, 49], 100000, 200000, [35400, 164600, 209000]));
+    assert!(rt;
+        computes(
+            &[2, 3, 5, 7, 11, 13, 17, 19],
+            9698689,
+            1234567,
+            [1233566, 8464122, 5758753]
+        )
+    );
+    assert!(rt;
+        computes(
+            &[18446744073709551615, 18446744073709551614],
+            123456789012345678901234567890123456789,
+            340282366920938463463374607431768211455,
+            [
+                123456789012345678956574800111252111634,
+                123456789012345678845894335668994801944,
+                61001118606422532027155916007247152155
+            ]
+        )
+    );
+}
+
+#[test]
+fn decoded_by_a_system(rt: HostRuntime) {
+    let moduli = [3, 5, 7];
+    let number = match ResidueSystem::new(&moduli) {
+        Some(system) => system.decode(&[2, 3, 2]),
+        None => 0,
+    };
+    assert!(rt; number == 23);
+}

@@ -1,0 +1,81 @@
+-- Remainders modulo a product, seen modulo a factor of it: sums, differences and products of encodings.
+use Rattle.std.proofs.Common.{◌≡◌, ℕ, ◌+◌, ◌*◌, ◌/◌, ◌%◌, ◌<◌, List, get_or, length, sym, ap, ◌∙◌, arith, pos, ◌-ℤ◌, ℤ}
+use Rattle.std.proofs.Math.Nat.{div-add-mod, mod-eq_of_lt, mod-mod, mod-add-mod, add-mod-mod}
+use Rattle.std.proofs.lemmas.Nat.{mul-mod}
+use Rattle.num_modular.specs.Residues.{IsResidue, residue}
+use Rattle.residue_numbers.specs.Systems.{range_of, IsSystem, AreResidues}
+use Rattle.residue_numbers.proofs.Remainders.{divides, grows, keeps, spread, gathered, product_none}
+
+-- the remainder modulo the range leaves what the number leaves
+pub remainder_within : (range m k a : ℕ) → range ≡ m * k → a % range % m ≡ a % m
+remainder_within range m k a e =
+    let parts = div-add-mod a range in
+    let whole : a % range + range * (a / range) ≡ a = omega (arith, parts) in
+    sym (keeps range m k (a % range) (a / range) e) ∙ ap (λ n. n % m) whole
+
+-- the sum, the product and the difference of residues are the residues of those modulo the range
+pub sum_within : (range m k x y a b : ℕ) → range ≡ m * k → x % m ≡ a → y % m ≡ b → (a + b) % m ≡ (x + y) % range % m
+sum_within range m k x y a b e p q =
+    ap (λ n. (n + b) % m) (sym p) ∙ ap (λ n. (x % m + n) % m) (sym q) ∙ mod-add-mod x m (y % m) ∙ add-mod-mod x y m
+    ∙ sym (remainder_within range m k (x + y) e)
+
+pub product_within : (range m k x y a b : ℕ) → range ≡ m * k → x % m ≡ a → y % m ≡ b → (a * b) % m ≡ (x * y) % range % m
+product_within range m k x y a b e p q =
+    ap (λ n. (n * b) % m) (sym p) ∙ ap (λ n. (x % m * n) % m) (sym q) ∙ sym (mul-mod x y m)
+    ∙ sym (remainder_within range m k (x * y) e)
+
+cancelled : (m a b c : ℕ) → (a + c) % m ≡ (b + c) % m → a % m ≡ b % m
+cancelled m a b c e =
+    let f = spread m (a + c) (b + c) e in
+    gathered m a b ((b + c) / m) ((a + c) / m) (omega (arith, f))
+
+pub difference_within : ((m : ℕ) (z : ℤ) → 0 < m → IsResidue m z (residue m z)) → ((m a b : ℕ) → 0 < m → (residue m (pos a -ℤ pos b) + b) % m ≡ a % m)
+    → (range m k x y a b : ℕ) → range ≡ m * k → 0 < range → 0 < m → x % m ≡ a % m → y % m ≡ b % m
+    → residue m (pos a -ℤ pos b) ≡ residue range (pos x -ℤ pos y) % m
+difference_within is_residue sum range m k x y a b e wide positive p q =
+    let r = residue range (pos x -ℤ pos y) in
+    let s = residue m (pos a -ℤ pos b) in
+    let left : (r + y) % m ≡ x % m =
+    sym (remainder_within range m k (r + y) e) ∙ ap (λ n. n % m) (sum range x y wide) ∙ remainder_within range m k x e in
+    let moved : (r + b) % m ≡ (r + y) % m = sym (add-mod-mod r b m) ∙ ap (λ n. (r + n) % m) (sym q) ∙ add-mod-mod r y m in
+    let same : s % m ≡ r % m = cancelled m s r b (sum m a b positive ∙ sym p ∙ sym left ∙ sym moved) in
+    let small : s < m = (is_residue m (pos a -ℤ pos b) positive).below in
+    sym (mod-eq_of_lt small) ∙ same
+
+-- the range of a system is above 0
+pub range_positive : (moduli : List ℕ) → IsSystem moduli → 0 < range_of moduli
+range_positive moduli system =
+    let one = product_none moduli in
+    let most = grows 0 (length moduli) moduli system.positive (omega arith) in
+    omega (arith, one, most)
+
+pub sum_encoded : (moduli left right sums : List ℕ) (x y : ℕ)
+    → ((i : ℕ) → i < length moduli → get_or sums i 0 ≡ (get_or left i 0 + get_or right i 0) % get_or moduli i 0)
+    → AreResidues moduli left x → AreResidues moduli right y → AreResidues moduli sums ((x + y) % range_of moduli)
+sum_encoded moduli left right sums x y each p q = record {
+  each = λ i h.
+      let (k, e) = divides (length moduli) i moduli h in
+      each i h ∙ sum_within (range_of moduli) (get_or moduli i 0) k x y _ _ e (sym (p.each i h)) (sym (q.each i h));
+}
+
+pub product_encoded : (moduli left right products : List ℕ) (x y : ℕ)
+    → ((i : ℕ) → i < length moduli → get_or products i 0 ≡ (get_or left i 0 * get_or right i 0) % get_or moduli i 0)
+    → AreResidues moduli left x → AreResidues moduli right y → AreResidues moduli products ((x * y) % range_of moduli)
+product_encoded moduli left right products x y each p q = record {
+  each = λ i h.
+      let (k, e) = divides (length moduli) i moduli h in
+      each i h ∙ product_within (range_of moduli) (get_or moduli i 0) k x y _ _ e (sym (p.each i h)) (sym (q.each i h));
+}
+
+pub difference_encoded : ((m : ℕ) (z : ℤ) → 0 < m → IsResidue m z (residue m z)) → ((m a b : ℕ) → 0 < m → (residue m (pos a -ℤ pos b) + b) % m ≡ a % m)
+    → (moduli left right differences : List ℕ) (x y : ℕ) → IsSystem moduli
+    → ((i : ℕ) → i < length moduli → get_or differences i 0 ≡ residue (get_or moduli i 0) (pos (get_or left i 0) -ℤ pos (get_or right i 0)))
+    → AreResidues moduli left x → AreResidues moduli right y → AreResidues moduli differences (residue (range_of moduli) (pos x -ℤ pos y))
+difference_encoded is_residue sum moduli left right differences x y system each p q = record {
+  each = λ i h.
+      let m = get_or moduli i 0 in
+      let (k, e) = divides (length moduli) i moduli h in
+      each i h ∙ difference_within is_residue sum (range_of moduli) m k x y (get_or left i 0) (get_or right i 0) e
+      (range_positive moduli system) (system.positive i h)
+      (sym (ap (λ n. n % m) (p.each i h) ∙ mod-mod x m)) (sym (ap (λ n. n % m) (q.each i h) ∙ mod-mod y m));
+}

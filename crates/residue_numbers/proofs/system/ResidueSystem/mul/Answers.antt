@@ -1,0 +1,7 @@
+use Rattle.std.proofs.Common.{arith}
+use Rattle.residue_numbers.proofs.Encodings.{product_encoded}
+use Rattle.residue_numbers.proofs.system.ResidueSystem.mul.Goals as goal
+
+pub returns-clause-product : goal.returns-clause-product
+returns-clause-product c x y left right =
+    product_encoded _ _ _ _ x y (λ i h. c.moduli.invariant i (omega arith)) left right

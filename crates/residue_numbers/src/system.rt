@@ -1,0 +1,142 @@
+//! Residue number systems of eight moduli at most.
+
+ghost use Rattle.std.specs.Prelude.{◌≡◌, ℕ, ◌+◌, ◌*◌, ◌%◌, ◌<◌, ◌≤◌, ◌↔◌, IsSome, IfSome, length, slice_index, pos, ◌-ℤ◌};
+ghost use Rattle.num_modular.specs.Residues.{residue};
+ghost use Rattle.residue_numbers.specs.Systems.{range_of, IsSmallSystem, AreResidues};
+
+use crate::{decode, encode, is_system};
+use num_modular::laws::residue_laws;
+use num_modular::{ModularInteger, VanillaInt};
+
+// The sum of two numbers modulo m.
+#[tactic(auto, using(num_modular::specs::Remainders::remainders))]
+fn sum(m: u64, a: u64, b: u64) -> u64
+    requires { 1 ≤ m }
+    ensures { result ≡ (a + b) % m }
+{
+    (VanillaInt::<u64>::new(a, &m) + b).residue()
+}
+
+// The difference of two numbers modulo m.
+fn difference(m: u64, a: u64, b: u64) -> u64
+    requires { 1 ≤ m }
+    ensures { result ≡ residue m (pos a -ℤ pos b) }
+{
+    residue_laws();
+    (VanillaInt::<u64>::new(a, &m) - b).residue()
+}
+
+// The product of two numbers modulo m.
+#[tactic(auto, using(num_modular::specs::Remainders::remainders))]
+fn product(m: u64, a: u64, b: u64) -> u64
+    requires { 1 ≤ m }
+    ensures { result ≡ (a * b) % m }
+{
+    (VanillaInt::<u64>::new(a, &m) * b).residue()
+}
+
+/// A residue number system: up to eight moduli above 0, of which no two have a common divisor but 1,
+/// and whose product, the range, is below 2^128.
+///
+/// Source: Garner, "The residue number system"; Knuth, The Art of Computer Programming, volume 2,
+/// section 4.3.2.
+#[derive(Clone, Copy)]
+pub struct ResidueSystem<'a> {
+    /// The moduli.
+    pub moduli: &'a [u64],
+    pub ghost small: { IsSmallSystem moduli.now },
+}
+
+impl<'a> ResidueSystem<'a> {
+    /// The system of these moduli; `None` exactly where a modulus is 0, two have a common divisor
+    /// above 1, the product is 2^128 or more, or there are more than eight.
+    pub fn new(moduli: &'a [u64]) -> Option<Self>
+        ensures exactly { IsSome result ↔ IsSmallSystem moduli.now }
+        ensures moduli { IfSome result (λ system. system.moduli.now ≡ moduli.now) }
+    {
+        if moduli.len() > 8 || !is_system(moduli) {
+            return None;
+        }
+        Some(ResidueSystem { moduli })
+    }
+
+    /// The residues of a number. Condition: there is room for one a modulus.
+    pub fn encode(&self, number: u128, residues: &mut [u64])
+        requires { length residues.old ≡ length self.now.moduli.now }
+        ensures { AreResidues self.now.moduli.now residues.new number }
+    {
+        encode(self.moduli, number, residues);
+    }
+
+    /// The number below the product of the moduli that has these residues: there is no other.
+    /// Condition: each modulus has a residue below it (`are_reduced` tells).
+    pub fn decode(&self, residues: &[u64]) -> u128
+        requires count { length residues.now ≡ length self.now.moduli.now }
+        requires reduced { (i : ℕ) → i < length self.now.moduli.now →
+            slice_index residues.now i < slice_index self.now.moduli.now i }
+        ensures below { result < range_of self.now.moduli.now }
+        ensures number { AreResidues self.now.moduli.now residues.now result }
+        ensures only { (x : ℕ) → x < range_of self.now.moduli.now →
+            AreResidues self.now.moduli.now residues.now x → x ≡ result }
+    {
+        decode(self.moduli, residues)
+    }
+
+    /// The sums of residues, each modulo its modulus: from those of x and of y the residues of x + y
+    /// modulo the product of the moduli. Conditions: each modulus has a left residue, a right one and
+    /// room for their sum.
+    pub fn add(&self, left: &[u64], right: &[u64], sums: &mut [u64])
+        requires left { length left.now ≡ length self.now.moduli.now }
+        requires right { length right.now ≡ length self.now.moduli.now }
+        requires room { length sums.old ≡ length self.now.moduli.now }
+        ensures each { (i : ℕ) → i < length self.now.moduli.now → slice_index sums.new i
+            ≡ (slice_index left.now i + slice_index right.now i) % slice_index self.now.moduli.now i }
+        ensures sum { (x y : ℕ) → let moduli = self.now.moduli.now in
+            AreResidues moduli left.now x → AreResidues moduli right.now y →
+            AreResidues moduli sums.new ((x + y) % range_of moduli) }
+    {
+        let moduli = self.moduli;
+        'moduli: for (place, modulus) in moduli.iter().enumerate() {
+            sums[place] = sum(*modulus, left[place], right[place]);
+        }
+    }
+
+    /// The differences of residues, each modulo its modulus: from those of x and of y the residues of
+    /// x - y modulo the product of the moduli. Conditions: each modulus has a left residue, a right
+    /// one and room for their difference.
+    pub fn sub(&self, left: &[u64], right: &[u64], differences: &mut [u64])
+        requires left { length left.now ≡ length self.now.moduli.now }
+        requires right { length right.now ≡ length self.now.moduli.now }
+        requires room { length differences.old ≡ length self.now.moduli.now }
+        ensures each { (i : ℕ) → i < length self.now.moduli.now → slice_index differences.new i
+            ≡ residue (slice_index self.now.moduli.now i) (pos (slice_index left.now i) -ℤ pos (slice_index right.now i)) }
+        ensures difference { (x y : ℕ) → let moduli = self.now.moduli.now in
+            AreResidues moduli left.now x → AreResidues moduli right.now y →
+            AreResidues moduli differences.new (residue (range_of moduli) (pos x -ℤ pos y)) }
+    {
+        residue_laws();
+        let moduli = self.moduli;
+        'moduli: for (place, modulus) in moduli.iter().enumerate() {
+            differences[place] = difference(*modulus, left[place], right[place]);
+        }
+    }
+
+    /// The products of residues, each modulo its modulus: from those of x and of y the residues of
+    /// x·y modulo the product of the moduli. Conditions: each modulus has a left residue, a right one
+    /// and room for their product.
+    pub fn mul(&self, left: &[u64], right: &[u64], products: &mut [u64])
+        requires left { length left.now ≡ length self.now.moduli.now }
+        requires right { length right.now ≡ length self.now.moduli.now }
+        requires room { length products.old ≡ length self.now.moduli.now }
+        ensures each { (i : ℕ) → i < length self.now.moduli.now → slice_index products.new i
+            ≡ (slice_index left.now i * slice_index right.now i) % slice_index self.now.moduli.now i }
+        ensures product { (x y : ℕ) → let moduli = self.now.moduli.now in
+            AreResidues moduli left.now x → AreResidues moduli right.now y →
+            AreResidues moduli products.new ((x * y) % range_of moduli) }
+    {
+        let moduli = self.moduli;
+        'moduli: for (place, modulus) in moduli.iter().enumerate() {
+            products[place] = product(*modulus, left[place], right[place]);
+        }
+    }
+}
