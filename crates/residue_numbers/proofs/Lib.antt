@@ -1,2 +1,3 @@
-mod Remainders
 mod Encodings
+mod Remainders
+mod Runs

@@ -5,6 +5,7 @@ ghost use Rattle.std.specs.Prelude.{◌≡◌, ℕ, ◌+◌, ◌*◌, ◌%◌, �
 ghost use Rattle.num_modular.specs.Inverses.{HasInverse};
 ghost use Rattle.residue_numbers.specs.Systems.{range_of, IsSystem, AreResidues};
 
+mod commands;
 mod system;
 
 use num_modular::laws::{divisor_laws, inverse_laws, residue_laws};
