@@ -1,6 +1,7 @@
 //! Numbers by their residues, with values from outside.
 
 use super::*;
+use num_modular::ring::{RingCommand, commands_fit};
 
 // Whether the moduli are a system in which the number has these residues, and is decoded from them.
 fn there_and_back(moduli: &[u64], number: u128, residues: &[u64]) -> bool {
@@ -120,4 +121,88 @@ fn decoded_by_a_system(rt: HostRuntime) {
         None => 0,
     };
     assert!(rt; number == 23);
+}
+
+// Whether the commands, from these numbers, leave these residues in register 1; none are wanted where
+// an inverse is missing.
+fn runs(
+    moduli: &[u64],
+    commands: &[RingCommand<u64>],
+    numbers: &[u64],
+    residues: Option<&[u64]>,
+) -> bool {
+    let Some(system) = ResidueSystem::new(moduli) else {
+        return false;
+    };
+    let (places, count) = (numbers.len(), system.moduli.len());
+    let (mut registers, mut found) = ([0u64; 3], [0u64; 8]);
+    if places < 2 || places > 3 || !commands_fit(commands, places) {
+        return false;
+    }
+    let done = system.run(
+        commands,
+        numbers,
+        1,
+        &mut registers[..places],
+        &mut found[..count],
+    );
+    match residues {
+        Some(wanted) => done && &found[..count] == wanted,
+        None => !done,
+    }
+}
+
+#[test]
+fn all_commands(rt: HostRuntime) {
+    // by Python's whole numbers modulo 1009091, which give 378740
+    let commands = [
+        RingCommand::Mul { dst: 2, a: 0, b: 1 },
+        RingCommand::Sub { dst: 1, a: 0, b: 2 },
+        RingCommand::Div { dst: 0, a: 1, b: 2 },
+        RingCommand::Pow {
+            dst: 0,
+            a: 0,
+            exp: 20,
+        },
+        RingCommand::Add { dst: 0, a: 0, b: 1 },
+        RingCommand::Neg { dst: 1, a: 0 },
+        RingCommand::Dbl { dst: 1, a: 1 },
+        RingCommand::Sqr { dst: 1, a: 1 },
+        RingCommand::Load {
+            dst: 2,
+            n: 18446744073709551615,
+        },
+        RingCommand::Add { dst: 1, a: 1, b: 2 },
+        RingCommand::Inv { dst: 1, a: 1 },
+    ];
+    assert!(rt; runs(&[97, 101, 103], &commands, &[5, 7, 11], Some(&[52, 91, 9])));
+}
+
+#[test]
+fn inverses(rt: HostRuntime) {
+    let inverse = [RingCommand::Inv { dst: 1, a: 0 }];
+    assert!(rt; runs(&[9, 8, 125, 7], &inverse, &[11, 0], Some(&[5, 3, 91, 2])));
+    // 14 has an inverse modulo 9 and 125, but none modulo 8 and 7
+    assert!(rt; runs(&[9, 8, 125, 7], &inverse, &[14, 0], None));
+    assert!(rt; runs(&[9, 125], &inverse, &[14, 0], Some(&[2, 9])));
+}
+
+#[test]
+fn cube_less_itself(rt: HostRuntime) {
+    let commands = [
+        RingCommand::Pow {
+            dst: 1,
+            a: 0,
+            exp: 3,
+        },
+        RingCommand::Sub { dst: 1, a: 1, b: 0 },
+    ];
+    assert!(rt;
+        runs(
+            &[18446744073709551615, 18446744073709551614],
+            &commands,
+            &[12345678901234567890, 0],
+            Some(&[5231233000476675645, 4399121249006070328])
+        )
+    );
 }
