@@ -1,4 +1,7 @@
 //! Numbers by their residues modulo several numbers, of which no two have a common divisor.
+//!
+//! `ResidueSystem` holds up to eight moduli that were admitted once, and computes on encodings; the
+//! functions here take any count of moduli, with their conditions.
 #![tactic(auto)]
 
 ghost use Rattle.std.specs.Prelude.{◌≡◌, ℕ, ◌+◌, ◌*◌, ◌%◌, ◌^◌, ◌<◌, ◌≤◌, ◌↔◌, IsTrue, MatchOption, length, slice_index};

@@ -68,8 +68,10 @@ impl<'a> ResidueSystem<'a> {
         encode(self.moduli, number, residues);
     }
 
-    /// The number below the product of the moduli that has these residues: there is no other.
-    /// Condition: each modulus has a residue below it (`are_reduced` tells).
+    /// The number below the product of the moduli that has these residues: there is no other. So
+    /// `decode` takes the residues of a number below the product back to it (clause `only`), and
+    /// `encode` takes the number back to its residues (clause `number`). Condition: each modulus has
+    /// a residue below it (`are_reduced` tells).
     pub fn decode(&self, residues: &[u64]) -> u128
         requires count { length residues.now ≡ length self.now.moduli.now }
         requires reduced { (i : ℕ) → i < length self.now.moduli.now →
