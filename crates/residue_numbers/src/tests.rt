@@ -63,25 +63,28 @@ fn small_systems(rt: HostRuntime) {
     assert!(rt; admitted(&[18446744073709551615, 2, 9223372036854775811], false));
 }
 
+// The residues of a number, with zeros behind them.
+fn encoded(system: ResidueSystem<'_>, number: u128) -> [u64; 8] {
+    let mut residues = [0u64; 8];
+    let count = system.moduli.len();
+    system.encode(number, &mut residues[..count]);
+    residues
+}
+
 // Whether the residues of x and y have as their sums, differences and products those of the results.
 fn computes(moduli: &[u64], x: u128, y: u128, results: [u128; 3]) -> bool {
     let Some(system) = ResidueSystem::new(moduli) else {
         return false;
     };
     let count = system.moduli.len();
-    let (mut left, mut right) = ([0u64; 8], [0u64; 8]);
-    let (mut found, mut wanted) = ([0u64; 8], [0u64; 8]);
-    system.encode(x, &mut left[..count]);
-    system.encode(y, &mut right[..count]);
-    system.add(&left[..count], &right[..count], &mut found[..count]);
-    system.encode(results[0], &mut wanted[..count]);
-    let sums = found == wanted;
-    system.sub(&left[..count], &right[..count], &mut found[..count]);
-    system.encode(results[1], &mut wanted[..count]);
-    let differences = found == wanted;
-    system.mul(&left[..count], &right[..count], &mut found[..count]);
-    system.encode(results[2], &mut wanted[..count]);
-    sums && differences && found == wanted
+    let (left, right) = (encoded(system, x), encoded(system, y));
+    let (mut sums, mut differences, mut products) = ([0u64; 8], [0u64; 8], [0u64; 8]);
+    system.add(&left[..count], &right[..count], &mut sums[..count]);
+    system.sub(&left[..count], &right[..count], &mut differences[..count]);
+    system.mul(&left[..count], &right[..count], &mut products[..count]);
+    sums == encoded(system, results[0])
+        && differences == encoded(system, results[1])
+        && products == encoded(system, results[2])
 }
 
 #[test]
