@@ -4,8 +4,8 @@ ghost use Rattle.modular_reduced.specs.Integers.{CanDivide, IsQuotient, IsReduce
 ghost use Rattle.modular_word.specs.Inverses.{HasInverse};
 ghost use Rattle.std.specs.Prelude.{◌≡◌, ◌↔◌, IfSome, IsSome, IsTrue};
 
-use modular_reduced::int::{ReducedInt, VanillaInt};
-use modular_reduced::integer::ModularInteger;
+use modular_reduced::modular_integer::ModularInteger;
+use modular_reduced::reduced_int::{ReducedInt, VanillaInt};
 use modular_reduced::reducer::Reducer;
 use modular_word::ring_word::RingWord;
 

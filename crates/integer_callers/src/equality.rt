@@ -2,7 +2,7 @@
 
 ghost use Rattle.std.specs.Prelude.{◌≡◌, ◌↔◌, IsTrue};
 
-use modular_reduced::integer::ModularInteger;
+use modular_reduced::modular_integer::ModularInteger;
 
 /// Whether `==` is reflexive at a, symmetric at a and b, and transitive at a, b and c: it always is.
 pub fn is_equivalence<I: ModularInteger>(a: &I, b: &I, c: &I) -> bool

@@ -5,8 +5,8 @@ ghost use Rattle.modular_reduced.specs.Integers.{IsInteger};
 ghost use Rattle.std.specs.Prelude.{◌≡◌, ◌%◌, All, map};
 
 use modular_barrett::premul::PreMulInv2by1;
-use modular_reduced::int::{ReducedInt, VanillaInt};
-use modular_reduced::integer::ModularInteger;
+use modular_reduced::modular_integer::ModularInteger;
+use modular_reduced::reduced_int::{ReducedInt, VanillaInt};
 
 /// The value at x of the polynomial with these coefficients, the highest first, by Horner's rule.
 /// Condition: all moduli are equal.

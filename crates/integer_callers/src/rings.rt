@@ -4,7 +4,7 @@ ghost use Rattle.modular_word.specs.Inverses.{IsInversion};
 ghost use Rattle.std.specs.Prelude.{◌≡◌, ◌≤◌};
 
 use modular_barrett::premul::PreMulInv2by1;
-use modular_prim::ops::{ModularCoreOps, ModularUnaryOps};
+use modular_prim::operations::{ModularCoreOps, ModularUnaryOps};
 use modular_reduced::reducer::Reducer;
 use modular_reduced::vanilla::Vanilla;
 

@@ -1,4 +1,4 @@
-//! Every operand form of the operators, rows that were worked by hand, and equality.
+//! Every kind of operand of the operators, rows that were worked by hand, and equality.
 
 ghost use Rattle.modular_reduced.specs.Integers.{CanDivide, IsReduced, modulus_of};
 ghost use Rattle.std.specs.Prelude.{◌≡◌, ◌≤◌, ◌%◌};
@@ -6,8 +6,8 @@ ghost use Rattle.std.specs.Prelude.{◌≡◌, ◌≤◌, ◌%◌};
 use crate::callers::*;
 use crate::equality::is_equivalence;
 use crate::polynomial::{horner, value_by_forms, value_of_bytes};
-use modular_reduced::int::{ReducedInt, VanillaInt};
-use modular_reduced::integer::ModularInteger;
+use modular_reduced::modular_integer::ModularInteger;
+use modular_reduced::reduced_int::{ReducedInt, VanillaInt};
 use modular_reduced::reducer::Reducer;
 use modular_word::ring_word::RingWord;
 use std::test::Fail;

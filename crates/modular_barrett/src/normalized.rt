@@ -67,9 +67,9 @@ impl<T: PathWord> Normalized2by1Divisor<T> {
 
     /// Quotient and remainder of a double word. Condition: its high word is below the divisor.
     pub fn div_rem_2by1(&self, a: T::Double) -> (T, T)
-        requires { T.whole a < ⟦<Normalized2by1Divisor<T> as StoredDivisor>⟧.divisor self.now * T.base }
+        requires { T.double_number a < ⟦<Normalized2by1Divisor<T> as StoredDivisor>⟧.divisor self.now * T.base }
         ensures { let d = ⟦<Normalized2by1Divisor<T> as StoredDivisor>⟧.divisor self.now in
-            IsDivision (T.whole a) d (T.number result.0) (T.number result.1) }
+            IsDivision (T.double_number a) d (T.number result.0) (T.number result.1) }
     {
         div_2by1(self.divisor, self.reciprocal, a)
     }

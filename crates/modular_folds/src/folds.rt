@@ -112,8 +112,8 @@ pub trait FoldedWord: PlainWord {
     fn fold_double(v: Self::Double, p: u32, c: Self, m: Self) -> (Self, u32)
         requires { IsFolding Self.width p (Self.number c) (Self.number m) }
         ensures below { Self.number result.0 < 2 ^ p }
-        ensures same { Self.number result.0 % Self.number m ≡ Self.whole v % Self.number m }
-        ensures count { result.1 ≡ folds p (Self.number c) (Self.whole v) };
+        ensures same { Self.number result.0 % Self.number m ≡ Self.double_number v % Self.number m }
+        ensures count { result.1 ≡ folds p (Self.number c) (Self.double_number v) };
 }
 
 impl FoldedWord for u32 {
@@ -153,9 +153,9 @@ pub(crate) fn sum_once<T: PathWord>(a: T, b: T, m: T) -> T
 /// Source: Handbook of Applied Cryptography, algorithm 14.47.
 pub fn reduce_by_folds<T: FoldedWord>(v: T::Double, p: u32, c: T, m: T) -> (T, u32)
     requires { IsFolding T.width p (T.number c) (T.number m) }
-    ensures value { T.number result.0 ≡ T.whole v % T.number m }
-    ensures count { result.1 ≡ folds p (T.number c) (T.whole v) }
-    ensures few { IsFewFolds p (T.number c) (T.whole v) result.1 }
+    ensures value { T.number result.0 ≡ T.double_number v % T.number m }
+    ensures count { result.1 ≡ folds p (T.number c) (T.double_number v) }
+    ensures few { IsFewFolds p (T.number c) (T.double_number v) result.1 }
 {
     let (rest, count) = T::fold_double(v, p, c, m);
     (sum_once(rest, T::zero(), m), count)

@@ -70,11 +70,11 @@ impl<const P: u8, const K: u32> FoldModulus<u32> for Mersenne32<P, K> {
 
     ghost modulus = { λ m. mersenne P K };
 
-    fn of(_m: u32) -> Self {
+    fn keep(_m: u32) -> Self {
         Mersenne32 { made: () }
     }
 
-    fn number(&self) -> u32 {
+    fn modulus(&self) -> u32 {
         FixedMersenne32::<P, K>::fixed_modulus()
     }
 
@@ -83,7 +83,7 @@ impl<const P: u8, const K: u32> FoldModulus<u32> for Mersenne32<P, K> {
     }
 
     fn product(&self, a: u32, b: u32) -> u32 {
-        reduce_product(a, b, P as u32, K, self.number())
+        reduce_product(a, b, P as u32, K, self.modulus())
     }
 
     ghost was_taken = { λ m. record { range = m.range; same = refl } };
@@ -149,11 +149,11 @@ impl<const P: u8, const K: u64> FoldModulus<u64> for Mersenne64<P, K> {
 
     ghost modulus = { λ m. mersenne P K };
 
-    fn of(_m: u64) -> Self {
+    fn keep(_m: u64) -> Self {
         Mersenne64 { made: () }
     }
 
-    fn number(&self) -> u64 {
+    fn modulus(&self) -> u64 {
         FixedMersenne64::<P, K>::fixed_modulus()
     }
 
@@ -162,7 +162,7 @@ impl<const P: u8, const K: u64> FoldModulus<u64> for Mersenne64<P, K> {
     }
 
     fn product(&self, a: u64, b: u64) -> u64 {
-        reduce_product(a, b, P as u32, K, self.number())
+        reduce_product(a, b, P as u32, K, self.modulus())
     }
 
     ghost was_taken = { λ m. record { range = m.range; same = refl } };
@@ -228,9 +228,9 @@ impl<const P: u8, const K: u64> Reducer<u128> for FixedMersenne<P, K> {
 
     ghost modulus = { λ r. mersenne P K };
 
-    ghost admitted = { λ r. record { range = r.ring.of.range; same = refl } };
+    ghost admitted = { λ r. record { range = r.ring.kept.range; same = refl } };
 
-    ghost canonical = { λ r. mersenne_canonical 128 (lit≤ tt) r.ring.of.range };
+    ghost canonical = { λ r. mersenne_canonical 128 (lit≤ tt) r.ring.kept.range };
 
     fn new(_m: &u128) -> Self {
         FixedMersenne {

@@ -22,12 +22,12 @@ pub trait FoldModulus<T: FoldedWord>: Copy {
     ghost modulus: { Self → ℕ };
 
     /// The modulus of the parameters. Condition: it is m, and the parameters are in range.
-    fn of(m: T) -> Self
+    fn keep(m: T) -> Self
         requires { taken (T.number m) }
         ensures { modulus result ≡ T.number m };
 
     /// The modulus.
-    fn number(&self) -> T
+    fn modulus(&self) -> T
         ensures { T.number result ≡ modulus self.now };
 
     /// The residue of a word.
@@ -50,7 +50,7 @@ pub trait FoldModulus<T: FoldedWord>: Copy {
 #[derive(Debug, Clone, Copy)]
 pub struct FoldRing<T: FoldedWord, M: FoldModulus<T>> {
     word: PhantomData<T>,
-    of: M,
+    kept: M,
 }
 
 impl<T: FoldedWord, M: FoldModulus<T>> Reducer<T> for FoldRing<T, M> {
@@ -60,29 +60,29 @@ impl<T: FoldedWord, M: FoldModulus<T>> Reducer<T> for FoldRing<T, M> {
 
     ghost value = { plain_value };
 
-    ghost modulus = { λ r. M.modulus r.of };
+    ghost modulus = { λ r. M.modulus r.kept };
 
-    ghost admitted = { λ r. M.was_taken r.of };
+    ghost admitted = { λ r. M.was_taken r.kept };
 
-    ghost canonical = { λ r. M.canonical r.of };
+    ghost canonical = { λ r. M.canonical r.kept };
 
     fn new(m: &T) -> Self {
         FoldRing {
             word: PhantomData,
-            of: M::of(*m),
+            kept: M::keep(*m),
         }
     }
 
     fn transform(&self, n: T) -> T {
-        self.of.reduced(n)
+        self.kept.reduced(n)
     }
 
     fn check(&self, f: &T) -> bool {
-        f.is_below(self.of.number())
+        f.is_below(self.kept.modulus())
     }
 
     fn modulus(&self) -> T {
-        self.of.number()
+        self.kept.modulus()
     }
 
     fn residue(&self, f: T) -> T {
@@ -94,30 +94,30 @@ impl<T: FoldedWord, M: FoldModulus<T>> Reducer<T> for FoldRing<T, M> {
     }
 
     fn add(&self, a: &T, b: &T) -> T {
-        add_below(*a, *b, self.of.number())
+        add_below(*a, *b, self.kept.modulus())
     }
 
     fn dbl(&self, f: T) -> T {
-        dbl_below(f, self.of.number())
+        dbl_below(f, self.kept.modulus())
     }
 
     fn sub(&self, a: &T, b: &T) -> T {
-        sub_below(*a, *b, self.of.number())
+        sub_below(*a, *b, self.kept.modulus())
     }
 
     fn neg(&self, f: T) -> T {
-        neg_below(f, self.of.number())
+        neg_below(f, self.kept.modulus())
     }
 
     fn mul(&self, a: &T, b: &T) -> T {
-        self.of.product(*a, *b)
+        self.kept.product(*a, *b)
     }
 
     fn inv(&self, f: T) -> Option<T> {
-        invm(f, self.of.number())
+        invm(f, self.kept.modulus())
     }
 
     fn sqr(&self, f: T) -> T {
-        self.of.product(f, f)
+        self.kept.product(f, f)
     }
 }

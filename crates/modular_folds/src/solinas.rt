@@ -141,7 +141,7 @@ impl TrinomialWord for u64 {
 #[derive(Debug)]
 pub struct TrinomialModulus<T: TrinomialWord, F: Trinomial> {
     word: PhantomData<T>,
-    of: PhantomData<F>,
+    parameters: PhantomData<F>,
     ghost range: { IsTrinomialRange T.width F.p1 F.p2 F.k },
 }
 
@@ -209,7 +209,7 @@ impl<T: TrinomialWord, F: Trinomial> FoldRing<T, TrinomialModulus<T, F>> {
     /// The residue of a double word. Condition: the parameters are in range.
     pub fn reduce_double(v: T::Double) -> T
         requires { IsTrinomialRange T.width F.p1 F.p2 F.k }
-        ensures { T.number result ≡ T.whole v % trinomial F.p1 F.p2 F.k }
+        ensures { T.number result ≡ T.double_number v % trinomial F.p1 F.p2 F.k }
     {
         Self::reduce_counted(v).0
     }
@@ -218,11 +218,11 @@ impl<T: TrinomialWord, F: Trinomial> FoldRing<T, TrinomialModulus<T, F>> {
     /// remainder is taken. Condition: the parameters are in range.
     pub fn reduce_counted(v: T::Double) -> (T, u32)
         requires { IsTrinomialRange T.width F.p1 F.p2 F.k }
-        ensures value { T.number result.0 ≡ T.whole v % trinomial F.p1 F.p2 F.k }
+        ensures value { T.number result.0 ≡ T.double_number v % trinomial F.p1 F.p2 F.k }
         ensures none { IsLowTrinomial F.p1 F.p2 F.k → result.1 ≡ 0 }
         ensures count { ¬ IsLowTrinomial F.p1 F.p2 F.k
-            → result.1 ≡ folds F.p1 (trinomial_factor F.p1 F.p2 F.k) (T.whole v) }
-        ensures few { IsFewFolds F.p1 (trinomial_factor F.p1 F.p2 F.k) (T.whole v) result.1 }
+            → result.1 ≡ folds F.p1 (trinomial_factor F.p1 F.p2 F.k) (T.double_number v) }
+        ensures few { IsFewFolds F.p1 (trinomial_factor F.p1 F.p2 F.k) (T.double_number v) result.1 }
     {
         let modulus = Self::fixed_modulus();
         if is_low(F::p1(), F::p2(), F::k()) {
@@ -238,14 +238,14 @@ impl<T: TrinomialWord, F: Trinomial> FoldModulus<T> for TrinomialModulus<T, F> {
 
     ghost modulus = { λ m. trinomial F.p1 F.p2 F.k };
 
-    fn of(_m: T) -> Self {
+    fn keep(_m: T) -> Self {
         TrinomialModulus {
             word: PhantomData,
-            of: PhantomData,
+            parameters: PhantomData,
         }
     }
 
-    fn number(&self) -> T {
+    fn modulus(&self) -> T {
         TrinomialSolinas::<T, F>::fixed_modulus()
     }
 
@@ -262,7 +262,7 @@ impl<T: TrinomialWord, F: Trinomial> FoldModulus<T> for TrinomialModulus<T, F> {
                 b,
                 F::p1() as u32,
                 TrinomialSolinas::<T, F>::factor(),
-                self.number(),
+                self.modulus(),
             )
         }
     }

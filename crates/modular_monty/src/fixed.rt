@@ -42,7 +42,7 @@ impl<const P: u32> OddModulus<u32> for OddNumber32<P> {
 
     ghost square = { λ m. m.square };
 
-    fn of(m: u32) -> Self {
+    fn keep(m: u32) -> Self {
         let (negated_inverse, square) = computed_once(m);
         OddNumber32 {
             negated_inverse,
@@ -50,7 +50,7 @@ impl<const P: u32> OddModulus<u32> for OddNumber32<P> {
         }
     }
 
-    fn number(&self) -> u32 {
+    fn modulus(&self) -> u32 {
         P
     }
 
@@ -100,7 +100,7 @@ impl<const P: u64> OddModulus<u64> for OddNumber64<P> {
 
     ghost square = { λ m. m.square };
 
-    fn of(m: u64) -> Self {
+    fn keep(m: u64) -> Self {
         let (negated_inverse, square) = computed_once(m);
         OddNumber64 {
             negated_inverse,
@@ -108,7 +108,7 @@ impl<const P: u64> OddModulus<u64> for OddNumber64<P> {
         }
     }
 
-    fn number(&self) -> u64 {
+    fn modulus(&self) -> u64 {
         P
     }
 

@@ -29,8 +29,8 @@ pub struct Montgomery<T: PlainWord> {
     odd: OddRing<T, StoredModulus<T>>,
     // The exponent s.
     twos: u32,
-    ghost ring: { IsSplitRing T.width T.base (T.number odd.of.modulus * 2 ^ twos) twos (T.number odd.of.modulus)
-        (T.number odd.of.negated_inverse) (T.number odd.of.square) },
+    ghost ring: { IsSplitRing T.width T.base (T.number odd.kept.modulus * 2 ^ twos) twos (T.number odd.kept.modulus)
+        (T.number odd.kept.negated_inverse) (T.number odd.kept.square) },
 }
 
 impl<T: PlainWord> Clone for Montgomery<T> {
@@ -61,17 +61,17 @@ impl<T: PlainWord> Montgomery<T> {
     // The part of a form above the lowest bits.
     fn high(&self, f: T) -> T
         requires { IsForm (split_form T.width) (split_value T.width)
-            (T.number self.now.odd.of.modulus * 2 ^ self.now.twos) (T.number f) }
+            (T.number self.now.odd.kept.modulus * 2 ^ self.now.twos) (T.number f) }
         ensures value { T.number result ≡ T.number f / 2 ^ self.now.twos }
         ensures form { IsForm (montgomery_form T.width) (montgomery_value T.width)
-            (T.number self.now.odd.of.modulus) (T.number result) }
+            (T.number self.now.odd.kept.modulus) (T.number result) }
     {
         f.shift_right(self.twos)
     }
 
     // The form of a given part above the lowest bits, and of the lowest bits of a word.
     fn join(&self, high: T, low: T) -> T
-        requires { T.number high < T.number self.now.odd.of.modulus }
+        requires { T.number high < T.number self.now.odd.kept.modulus }
         ensures { T.number result ≡ T.number high * 2 ^ self.now.twos + T.number low % 2 ^ self.now.twos }
     {
         high.shift_left(self.twos).plus(low.low_bits(self.twos))
@@ -86,7 +86,7 @@ impl<T: PlainWord> Reducer<T> for Montgomery<T> {
 
     ghost value = { split_value T.width };
 
-    ghost modulus = { λ r. T.number r.odd.of.modulus * 2 ^ r.twos };
+    ghost modulus = { λ r. T.number r.odd.kept.modulus * 2 ^ r.twos };
 
     ghost admitted = { λ r. modulus_positive r.ring };
 
@@ -120,9 +120,9 @@ impl<T: PlainWord> Reducer<T> for Montgomery<T> {
         let value = self.odd.residue(self.high(f));
         let behind = value.wrapping_sub(f);
         let steps = behind
-            .wrapping_mul(self.odd.of.negated_inverse)
+            .wrapping_mul(self.odd.kept.negated_inverse)
             .low_bits(self.twos);
-        value.plus(self.odd.of.modulus.times(steps))
+        value.plus(self.odd.kept.modulus.times(steps))
     }
 
     fn is_zero(&self, f: &T) -> bool {

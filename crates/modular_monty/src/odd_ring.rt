@@ -31,12 +31,12 @@ pub trait OddModulus<T: PlainWord>: Copy {
     ghost square: { Self → ℕ };
 
     /// What is kept of m. Condition: m is taken.
-    fn of(m: T) -> Self
+    fn keep(m: T) -> Self
         requires { taken (T.number m) }
         ensures { modulus result ≡ T.number m };
 
     /// The modulus.
-    fn number(&self) -> T
+    fn modulus(&self) -> T
         ensures { T.number result ≡ modulus self.now };
 
     /// The square of the base modulo it.
@@ -45,8 +45,8 @@ pub trait OddModulus<T: PlainWord>: Copy {
 
     /// Montgomery's reduction of t. Condition: t is below the modulus times the base.
     fn reduced(&self, t: T::Double) -> T
-        requires { T.whole t < T.base * modulus self.now }
-        ensures { IsReduction T.base (modulus self.now) (T.whole t) (T.number result) };
+        requires { T.double_number t < T.base * modulus self.now }
+        ensures { IsReduction T.base (modulus self.now) (T.double_number t) (T.number result) };
 
     ghost was_taken: { (m : Self) → taken (modulus m) };
 
@@ -72,7 +72,7 @@ pub(crate) fn computed_once<T: PlainWord>(m: T) -> (T, T)
 /// Source: Handbook of Applied Cryptography, section 14.3.2.
 #[derive(Debug, Clone, Copy)]
 pub struct OddRing<T: PlainWord, M: OddModulus<T>> {
-    pub(crate) of: M,
+    pub(crate) kept: M,
     word: PhantomData<T>,
 }
 
@@ -83,15 +83,15 @@ impl<T: PlainWord, M: OddModulus<T>> Reducer<T> for OddRing<T, M> {
 
     ghost value = { montgomery_value T.width };
 
-    ghost modulus = { λ r. M.modulus r.of };
+    ghost modulus = { λ r. M.modulus r.kept };
 
-    ghost admitted = { λ r. M.was_taken r.of };
+    ghost admitted = { λ r. M.was_taken r.kept };
 
-    ghost canonical = { λ r. montgomery_canonical (M.is_odd_ring r.of) };
+    ghost canonical = { λ r. montgomery_canonical (M.is_odd_ring r.kept) };
 
     fn new(m: &T) -> Self {
         OddRing {
-            of: M::of(*m),
+            kept: M::keep(*m),
             word: PhantomData,
         }
     }
@@ -101,19 +101,19 @@ impl<T: PlainWord, M: OddModulus<T>> Reducer<T> for OddRing<T, M> {
         if n.is_zero_word() {
             return n;
         }
-        self.of.reduced(n.product(self.of.square_of_base()))
+        self.kept.reduced(n.product(self.kept.square_of_base()))
     }
 
     fn check(&self, f: &T) -> bool {
-        f.is_below(self.of.number())
+        f.is_below(self.kept.modulus())
     }
 
     fn modulus(&self) -> T {
-        self.of.number()
+        self.kept.modulus()
     }
 
     fn residue(&self, f: T) -> T {
-        self.of.reduced(T::merge(f, T::zero()))
+        self.kept.reduced(T::merge(f, T::zero()))
     }
 
     fn is_zero(&self, f: &T) -> bool {
@@ -121,28 +121,28 @@ impl<T: PlainWord, M: OddModulus<T>> Reducer<T> for OddRing<T, M> {
     }
 
     fn add(&self, a: &T, b: &T) -> T {
-        add_below(*a, *b, self.of.number())
+        add_below(*a, *b, self.kept.modulus())
     }
 
     fn dbl(&self, f: T) -> T {
-        dbl_below(f, self.of.number())
+        dbl_below(f, self.kept.modulus())
     }
 
     fn sub(&self, a: &T, b: &T) -> T {
-        sub_below(*a, *b, self.of.number())
+        sub_below(*a, *b, self.kept.modulus())
     }
 
     fn neg(&self, f: T) -> T {
-        neg_below(f, self.of.number())
+        neg_below(f, self.kept.modulus())
     }
 
     fn mul(&self, a: &T, b: &T) -> T {
-        self.of.reduced(a.product(*b))
+        self.kept.reduced(a.product(*b))
     }
 
     // Through the value: its inverse by Euclid's algorithm, and the form of that.
     fn inv(&self, f: T) -> Option<T> {
-        match invm(self.residue(f), self.of.number()) {
+        match invm(self.residue(f), self.kept.modulus()) {
             Some(x) => Some(self.transform(x)),
             None => None,
         }
@@ -183,7 +183,7 @@ impl<T: PlainWord> OddModulus<T> for StoredModulus<T> {
 
     ghost square = { λ m. T.number m.square };
 
-    fn of(m: T) -> Self {
+    fn keep(m: T) -> Self {
         let (negated_inverse, square) = computed_once(m);
         StoredModulus {
             modulus: m,
@@ -192,7 +192,7 @@ impl<T: PlainWord> OddModulus<T> for StoredModulus<T> {
         }
     }
 
-    fn number(&self) -> T {
+    fn modulus(&self) -> T {
         self.modulus
     }
 

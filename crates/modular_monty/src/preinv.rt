@@ -79,7 +79,7 @@ fn word_quotient<T: PathWord>(n: T, d: T, pre: &PreModInv<T>) -> Option<T>
 // The quotient of a double word; `None` exactly where d doesn't divide it.
 fn double_quotient<T: PathWord>(n: T::Double, d: T, pre: &PreModInv<T>) -> Option<T::Double>
     requires { ⟦<PreModInv<T> as PreparedInverse>⟧.fits pre.now (T.number d) }
-    ensures { IsExactQuotient T.whole (T.whole n) (T.number d) result }
+    ensures { IsExactQuotient T.double_number (T.double_number n) (T.number d) result }
 {
     exact_2(d, pre.d_inv, pre.q_lim, n)
 }

@@ -61,7 +61,7 @@ impl<const N: u8, const K: u8> OddRing<u32, ProthNumber32<N, K>> {
         requires { t < 2 ^ 32 * proth_modulus N K }
         ensures { IsReduction (2 ^ 32) (proth_modulus N K) t result }
     {
-        self.of.reduced(t)
+        self.kept.reduced(t)
     }
 }
 
@@ -74,7 +74,7 @@ impl<const N: u8, const K: u8> OddModulus<u32> for ProthNumber32<N, K> {
 
     ghost square = { λ m. m.square };
 
-    fn of(m: u32) -> Self {
+    fn keep(m: u32) -> Self {
         let (negated_inverse, square) = computed_once(m);
         ProthNumber32 {
             negated_inverse,
@@ -82,7 +82,7 @@ impl<const N: u8, const K: u8> OddModulus<u32> for ProthNumber32<N, K> {
         }
     }
 
-    fn number(&self) -> u32 {
+    fn modulus(&self) -> u32 {
         Self::value()
     }
 
@@ -151,7 +151,7 @@ impl<const N: u8, const K: u8> OddRing<u64, ProthNumber64<N, K>> {
         requires { t < 2 ^ 64 * proth_modulus N K }
         ensures { IsReduction (2 ^ 64) (proth_modulus N K) t result }
     {
-        self.of.reduced(t)
+        self.kept.reduced(t)
     }
 }
 
@@ -164,7 +164,7 @@ impl<const N: u8, const K: u8> OddModulus<u64> for ProthNumber64<N, K> {
 
     ghost square = { λ m. m.square };
 
-    fn of(m: u64) -> Self {
+    fn keep(m: u64) -> Self {
         let (negated_inverse, square) = computed_once(m);
         ProthNumber64 {
             negated_inverse,
@@ -172,7 +172,7 @@ impl<const N: u8, const K: u8> OddModulus<u64> for ProthNumber64<N, K> {
         }
     }
 
-    fn number(&self) -> u64 {
+    fn modulus(&self) -> u64 {
         Self::value()
     }
 

@@ -4,9 +4,9 @@ ghost use Rattle.std.specs.Prelude.{◌≡◌, ◌≤◌, Bool, if◌then◌else
 ghost use Rattle.modular_word.specs.Residues.{residue};
 
 use crate::below::neg_below;
-use crate::core_ops::reduced;
-use crate::ops::ModularAbs;
+use crate::operations::ModularAbs;
 use crate::plain_word::PlainWord;
+use crate::residues::reduced;
 
 /// The residue of a signed number, given by its sign and its magnitude. Condition: m is at least 1.
 pub fn signed_residue<T: PlainWord>(negative: bool, magnitude: T, m: T) -> T

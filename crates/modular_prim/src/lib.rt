@@ -3,15 +3,15 @@
 
 pub mod abs;
 pub mod below;
-pub mod core_ops;
 pub mod counted;
 pub mod euclid;
 pub mod exact;
-pub mod forms;
 pub mod numbered;
-pub mod ops;
+pub mod operands;
+pub mod operations;
 pub mod plain_word;
 pub mod power;
 pub mod reciprocal;
+pub mod residues;
 #[cfg(test)]
 mod tests;

@@ -23,13 +23,13 @@ pub trait PlainWord: PathWord + Numbered {
     /// The low word of the quotient of a double word by a word. Condition: d is at least 1.
     fn low_quotient(double: Self::Double, d: Self) -> Self
         requires { 1 ≤ Self.number d }
-        ensures value { Self.number result ≡ (Self.whole double / Self.number d) % Self.base }
+        ensures value { Self.number result ≡ (Self.double_number double / Self.number d) % Self.base }
         ensures fits { Self.number d < Self.base };
 
     /// The remainder of a double word by a word. Condition: d is at least 1.
     fn narrow_remainder(double: Self::Double, d: Self) -> Self
         requires { 1 ≤ Self.number d }
-        ensures value { Self.number result ≡ Self.whole double % Self.number d }
+        ensures value { Self.number result ≡ Self.double_number double % Self.number d }
         ensures fits { Self.number d < Self.base };
 
     // The number of a word is its whole number.

@@ -3,9 +3,9 @@
 ghost use Rattle.std.specs.Prelude.{◌≡◌, ℕ, ◌*◌, ◌/◌, ◌%◌, ◌^◌, ◌<◌, ◌≤◌};
 ghost use Rattle.modular_word.specs.Reciprocals.{IsReciprocal};
 
-use crate::core_ops::{reduced, sqm};
 use crate::plain_word::PlainWord;
 use crate::reciprocal::invert_word;
+use crate::residues::{reduced, sqm};
 use modular_word::path_word::PathWord;
 use modular_word::paths::{div_2by1, neginv, redc, two};
 use modular_word::ring_word::RingWord;

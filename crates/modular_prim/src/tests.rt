@@ -3,5 +3,5 @@
 
 mod counted;
 mod definitions;
-mod forms;
+mod operands;
 mod rows;

@@ -2,7 +2,7 @@
 use Rattle.std.specs.Prelude.{◌≡◌, ℕ, ◌+◌, ◌*◌, ◌%◌, ◌<◌, pos, ◌-ℤ◌, neg_ℤ}
 use Rattle.modular_word.specs.Inverses.{HasInverse}
 use Rattle.modular_word.specs.Residues.{residue}
-use Rattle.modular_reduced.specs.declared.int.ReducedInt.{ReducedInt}
+use Rattle.modular_reduced.specs.declared.reduced_int.ReducedInt.{ReducedInt}
 
 -- x is the integer of residue v modulo m, as the two functions name the modulus and the residue of an integer
 pub record IsInteger {I : Type 0} (its_modulus its_residue : I → ℕ) (m v : ℕ) (x : I) : Type 0 where

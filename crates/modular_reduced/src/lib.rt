@@ -1,10 +1,10 @@
 //! Rings of residues: reducers, which compute modulo m by forms, and integers over any of them.
 #![tactic(auto)]
 
-pub mod int;
-pub mod integer;
 pub mod laws;
+pub mod modular_integer;
 pub mod power;
+pub mod reduced_int;
 pub mod reducer;
 #[cfg(test)]
 mod tests;

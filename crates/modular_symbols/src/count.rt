@@ -6,9 +6,9 @@ ghost use Rattle.modular_symbols.specs.Jacobi.{jacobi};
 ghost use Rattle.modular_symbols.specs.Kronecker.{signed};
 
 use modular_prim::abs::signed_residue;
-use modular_prim::core_ops::mulm;
 use modular_prim::euclid::invm;
 use modular_prim::plain_word::PlainWord;
+use modular_prim::residues::mulm;
 use modular_word::path_word::PathWord;
 use modular_word::ring_word::RingWord;
 

@@ -5,12 +5,12 @@
 pub mod count;
 pub mod counted;
 pub mod halving;
-pub mod integer;
 pub mod laws;
 pub mod magnitudes;
-pub mod ops;
+pub mod operands;
+pub mod operations;
 pub mod primes;
-pub mod ref_ops;
+pub mod reference_operations;
 pub mod symbols;
 #[cfg(test)]
 mod tests;

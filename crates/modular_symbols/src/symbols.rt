@@ -6,8 +6,8 @@ ghost use Rattle.modular_symbols.specs.Kronecker.{kronecker};
 ghost use Rattle.modular_symbols.specs.Legendre.{checked_legendre_of};
 ghost use Rattle.modular_symbols.specs.Primes.{IsOddPrime};
 
-use crate::integer::{IntegerValued, SymbolWord};
 use crate::magnitudes;
+use crate::operands::{IntegerValued, SymbolWord};
 
 /// The symbols of a number over n. A symbol is -1, 0 or 1.
 pub trait ModularSymbols<Modulus: IntegerValued>: IntegerValued {

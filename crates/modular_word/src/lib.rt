@@ -2,8 +2,8 @@
 //! Montgomery's reduction, each written and proved once for every width.
 #![tactic(auto)]
 
-pub mod impls;
 pub mod laws;
+pub mod machine_words;
 pub mod path_word;
 pub mod paths;
 pub mod plain;

@@ -13,7 +13,7 @@ pub trait PathWord: RingWord {
     type Double: Copy;
 
     // The number of a double word.
-    ghost whole: { Self.Double → ℕ };
+    ghost double_number: { Self.Double → ℕ };
 
     // How many words there are: 2 to the width.
     ghost base: { ℕ };
@@ -86,32 +86,32 @@ pub trait PathWord: RingWord {
 
     /// The whole product of two words.
     fn product(self, rhs: Self) -> Self::Double
-        ensures value { whole result ≡ Self.number self * Self.number rhs }
+        ensures value { double_number result ≡ Self.number self * Self.number rhs }
         ensures fits { Self.number self < base }
         ensures other_fits { Self.number rhs < base };
 
     /// The word times a power of two, as a double word. Condition: `by` is below the width.
     fn shift_left_wide(self, by: u32) -> Self::Double
         requires { by < Self.width }
-        ensures value { whole result ≡ Self.number self * 2 ^ by }
+        ensures value { double_number result ≡ Self.number self * 2 ^ by }
         ensures fits { Self.number self < base };
 
     /// The low and the high word of a double word.
     fn split(double: Self::Double) -> (Self, Self)
-        ensures value { whole double ≡ Self.number result.0 + base * Self.number result.1 }
+        ensures value { double_number double ≡ Self.number result.0 + base * Self.number result.1 }
         ensures low_fits { Self.number result.0 < base }
         ensures high_fits { Self.number result.1 < base };
 
     /// The double word of a low and a high word.
     fn merge(low: Self, high: Self) -> Self::Double
-        ensures value { whole result ≡ Self.number low + base * Self.number high }
+        ensures value { double_number result ≡ Self.number low + base * Self.number high }
         ensures low_fits { Self.number low < base }
         ensures high_fits { Self.number high < base };
 
     /// The sum of two double words. Condition: it fits a double word.
     fn double_plus(first: Self::Double, second: Self::Double) -> Self::Double
-        requires { whole first + whole second < base * base }
-        ensures { whole result ≡ whole first + whole second };
+        requires { double_number first + double_number second < base * base }
+        ensures { double_number result ≡ double_number first + double_number second };
 
     // The base is 2 to the width.
     ghost base_is: { base ≡ 2 ^ Self.width };

@@ -34,8 +34,8 @@ pub fn two<T: PathWord>() -> T
 /// Source: Möller and Granlund, "Improved division by invariant integers", algorithm 4.
 pub fn div_2by1<T: PathWord>(d: T, reciprocal: T, a: T::Double) -> (T, T)
     requires reciprocal { IsReciprocal T.base (T.number d) (T.number reciprocal) }
-    requires high { T.whole a < T.number d * T.base }
-    ensures { IsDivision (T.whole a) (T.number d) (T.number result.0) (T.number result.1) }
+    requires high { T.double_number a < T.number d * T.base }
+    ensures { IsDivision (T.double_number a) (T.number d) (T.number result.0) (T.number result.1) }
 {
     let (low, high) = T::split(a);
     let (q0, q1) = T::split(T::double_plus(reciprocal.product(high), a));
@@ -97,7 +97,7 @@ pub fn exact_1<T: PathWord>(d: T, inverse: T, limit: T, n: T) -> Option<T>
 /// Source: as `exact_1`, a word at a time from the lowest.
 pub fn exact_2<T: PathWord>(d: T, inverse: T, limit: T, n: T::Double) -> Option<T::Double>
     requires { IsExactDivisor T.base (T.number d) (T.number inverse) (T.number limit) }
-    ensures { IsExactQuotient T.whole (T.whole n) (T.number d) result }
+    ensures { IsExactQuotient T.double_number (T.double_number n) (T.number d) result }
 {
     let (n0, n1) = T::split(n);
     let q0 = n0.wrapping_mul(inverse);
@@ -132,7 +132,7 @@ pub fn neginv<T: PathWord>(m: T) -> T
 /// reduction. Condition: m times `negated_inverse` is -1 modulo the base.
 pub fn clearing<T: PathWord>(m: T, negated_inverse: T, t: T::Double) -> T
     requires { IsNegatedInverse T.base (T.number m) (T.number negated_inverse) }
-    ensures low { (T.whole t + T.number result * T.number m) % T.base ≡ 0 }
+    ensures low { (T.double_number t + T.number result * T.number m) % T.base ≡ 0 }
     ensures fits { T.number result < T.base }
 {
     let (low, _) = T::split(t);
@@ -147,12 +147,12 @@ pub fn clearing<T: PathWord>(m: T, negated_inverse: T, t: T::Double) -> T
 /// that of x·m, raised by 1 where the low word of t isn't 0. Less m it wraps exactly where it is
 /// below m, which tells a carry and a high word from m on alike.
 pub fn reduce_by<T: PathWord>(m: T, t: T::Double, x: T, multiple: T::Double) -> T
-    requires below { T.whole t < T.base * T.number m }
-    requires multiple { T.whole multiple ≡ T.number x * T.number m }
-    requires low { (T.whole t + T.whole multiple) % T.base ≡ 0 }
+    requires below { T.double_number t < T.base * T.number m }
+    requires multiple { T.double_number multiple ≡ T.number x * T.number m }
+    requires low { (T.double_number t + T.double_number multiple) % T.base ≡ 0 }
     requires x_fits { T.number x < T.base }
     requires fits { T.number m < T.base }
-    ensures { IsReduction T.base (T.number m) (T.whole t) (T.number result) }
+    ensures { IsReduction T.base (T.number m) (T.double_number t) (T.number result) }
 {
     let (low, high) = T::split(t);
     let (_, multiple_high) = T::split(multiple);
@@ -175,8 +175,8 @@ pub fn reduce_by<T: PathWord>(m: T, t: T::Double, x: T, multiple: T::Double) -> 
 /// Source: Handbook of Applied Cryptography, algorithm 14.32, for one word.
 pub fn redc<T: PathWord>(m: T, negated_inverse: T, t: T::Double) -> T
     requires inverse { IsNegatedInverse T.base (T.number m) (T.number negated_inverse) }
-    requires below { T.whole t < T.base * T.number m }
-    ensures { IsReduction T.base (T.number m) (T.whole t) (T.number result) }
+    requires below { T.double_number t < T.base * T.number m }
+    ensures { IsReduction T.base (T.number m) (T.double_number t) (T.number result) }
 {
     let x = clearing(m, negated_inverse, t);
     reduce_by(m, t, x, x.product(m))

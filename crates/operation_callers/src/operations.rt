@@ -8,9 +8,9 @@ ghost use Rattle.modular_word.specs.Residues.{residue};
 
 use modular_prim::exact::{DivExact, DivExactAssign};
 use modular_prim::numbered::Numbered;
-use modular_prim::ops::{ModularAbs, ModularCoreOps, ModularPow, ModularUnaryOps};
+use modular_prim::operations::{ModularAbs, ModularCoreOps, ModularPow, ModularUnaryOps};
 
-/// The residue of x·y + y, in any operand form.
+/// The residue of x·y + y, of any kind of operands.
 pub fn product_and_sum<R: Numbered + Copy, M: Numbered + Copy, T: ModularCoreOps<R, M, Output = T>>(
     x: T,
     y: R,
@@ -23,7 +23,7 @@ pub fn product_and_sum<R: Numbered + Copy, M: Numbered + Copy, T: ModularCoreOps
     x.mulm(y, m).addm(y, m)
 }
 
-/// The residue of x - y, in any operand form.
+/// The residue of x - y, of any kind of operands.
 pub fn difference<R: Numbered, M: Numbered, T: ModularCoreOps<R, M>>(x: T, y: R, m: M) -> T::Output
     requires { 1 ≤ M.whole_number m }
     ensures { T.Output.whole_number result ≡ residue (M.whole_number m) (pos (T.whole_number x) -ℤ pos (R.whole_number y)) }
@@ -31,7 +31,7 @@ pub fn difference<R: Numbered, M: Numbered, T: ModularCoreOps<R, M>>(x: T, y: R,
     x.subm(y, m)
 }
 
-/// The residue of (2x)^2, in any operand form.
+/// The residue of (2x)^2, of any kind of operands.
 pub fn square_of_double<M: Numbered + Copy, T: ModularUnaryOps<M, Output = T>>(x: T, m: M) -> T
     requires { 1 ≤ M.whole_number m }
     ensures { T.whole_number result
@@ -40,7 +40,7 @@ pub fn square_of_double<M: Numbered + Copy, T: ModularUnaryOps<M, Output = T>>(x
     x.dblm(m).sqm(m)
 }
 
-/// The inverse of x, in any operand form; `None` exactly where there is none.
+/// The inverse of x, of any kind of operands; `None` exactly where there is none.
 pub fn inverse<M: Numbered, T: ModularUnaryOps<M>>(x: T, m: M) -> Option<T::Output>
     requires { 1 ≤ M.whole_number m }
     ensures { IsInversion T.Output.whole_number (M.whole_number m) (T.whole_number x) result }
@@ -48,7 +48,7 @@ pub fn inverse<M: Numbered, T: ModularUnaryOps<M>>(x: T, m: M) -> Option<T::Outp
     x.invm(m)
 }
 
-/// The residue of a power, in any operand form.
+/// The residue of a power, of any kind of operands.
 pub fn power<E: Numbered, M: Numbered, T: ModularPow<E, M>>(x: T, exp: E, m: M) -> T::Output
     requires { 1 ≤ M.whole_number m }
     ensures { T.Output.whole_number result ≡ T.whole_number x ^ E.whole_number exp % M.whole_number m }

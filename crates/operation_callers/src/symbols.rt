@@ -3,9 +3,9 @@
 ghost use Rattle.std.specs.Prelude.{◌≡◌, ◌*◌, ◌%◌, ◌≤◌, pos};
 ghost use Rattle.modular_symbols.specs.Jacobi.{jacobi, checked_jacobi_of};
 
-use modular_symbols::integer::UnsignedOperand;
-use modular_symbols::ops::ModularOps;
-use modular_symbols::ref_ops::ModularRefOps;
+use modular_symbols::operands::UnsignedOperand;
+use modular_symbols::operations::ModularOps;
+use modular_symbols::reference_operations::ModularRefOps;
 use modular_symbols::symbols::ModularSymbols;
 
 /// The Jacobi symbol over m of the residue of x·y; `None` exactly for an even m. Condition: m is at

@@ -2,7 +2,7 @@
 
 ghost use Rattle.std.specs.Prelude.{◌≤◌};
 
-use crate::ops::{ModularAbs, ModularCoreOps, ModularPow, ModularUnaryOps};
+use crate::operations::{ModularAbs, ModularCoreOps, ModularPow, ModularUnaryOps};
 use modular_word::plain::{inverse_by_search, power_of, residue_of};
 
 // The residues of a sum, a difference and a product.

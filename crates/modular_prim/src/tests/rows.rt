@@ -4,7 +4,7 @@ ghost use Rattle.std.specs.Prelude.{◌≤◌};
 
 use crate::exact::{DivExact, DivExactAssign};
 use crate::numbered::Numbered;
-use crate::ops::{ModularAbs, ModularCoreOps, ModularPow, ModularUnaryOps};
+use crate::operations::{ModularAbs, ModularCoreOps, ModularPow, ModularUnaryOps};
 use crate::plain_word::PlainWord;
 use crate::power::{powm_u32, powm_u64};
 use std::process::Abort;

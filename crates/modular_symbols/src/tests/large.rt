@@ -2,7 +2,7 @@
 
 use crate::count::jacobi_by_count;
 use crate::halving::jacobi_by_halving;
-use crate::integer::SymbolWord;
+use crate::operands::SymbolWord;
 use crate::symbols::ModularSymbols;
 use std::process::Abort;
 

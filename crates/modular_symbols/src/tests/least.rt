@@ -1,6 +1,6 @@
 //! The least numbers of each width, over themselves and over 1, 0 and -1.
 
-use crate::integer::SymbolWord;
+use crate::operands::SymbolWord;
 use crate::symbols::ModularSymbols;
 use std::process::Abort;
 

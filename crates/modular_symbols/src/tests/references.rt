@@ -3,7 +3,7 @@
 ghost use Rattle.std.specs.Prelude.{◌≤◌};
 
 use crate::count::jacobi_by_count;
-use crate::ref_ops::ModularRefOps;
+use crate::reference_operations::ModularRefOps;
 use crate::symbols::ModularSymbols;
 
 // The residues of a sum, a difference, a product and a power.

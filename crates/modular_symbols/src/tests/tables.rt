@@ -1,6 +1,6 @@
 //! The tables of the three symbols, at every width that holds their numbers.
 
-use crate::integer::SymbolWord;
+use crate::operands::SymbolWord;
 use crate::symbols::ModularSymbols;
 use std::process::Abort;
 

@@ -14,5 +14,5 @@ returns g c =
     record {
       value = rw (c.sum_once.ensures, sum) c.fold_double-rest.ensures.same;
       count = c.fold_double-rest.ensures.count;
-      few = few_folds c.args.p (n c.args.c) (g.T.PathWord.whole c.args.v) _ (omega arith) c.fold_double-rest.ensures.count;
+      few = few_folds c.args.p (n c.args.c) (g.T.PathWord.double_number c.args.v) _ (omega arith) c.fold_double-rest.ensures.count;
     }

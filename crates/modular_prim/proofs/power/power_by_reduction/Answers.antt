@@ -43,7 +43,7 @@ digits-preserved g c =
           reduced_odd b m (n c.neginv-negated_inverse.result) _ (n c.digits.power) (n c.digits.product) (n c.digits.rest)
           (n c.redc-power.result) (n c.if-is_odd-2.product) (n c.half-rest-in-digits.result) reducer c.digits.invariant
           c.product.ensures.value c.redc-power.ensures w.product-then-is_odd-2.ensures.value
-          (subst (λ v. IsReduction b m (g.T.PathWord.whole w.product-then-is_odd-2.result) v) (sym (ap n w.product-is)) w.redc-product.ensures)
+          (subst (λ v. IsReduction b m (g.T.PathWord.double_number w.product-then-is_odd-2.result) v) (sym (ap n w.product-is)) w.redc-product.ensures)
           c.half-rest-in-digits.ensures.value odd
       | else-is_odd-2 w ↦
           let even : n c.digits.rest % 2 ≢ 1 = grind arith in

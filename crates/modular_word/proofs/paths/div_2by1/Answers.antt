@@ -9,7 +9,7 @@ pub returns : goal.returns
 returns g c =
     let n = g.T.RingWord.number in
     let B = g.T.PathWord.base in
-    let W = g.T.PathWord.whole in
+    let W = g.T.PathWord.double_number in
     let d = n c.args.d in
     let a0 = n c.split-low.result.0 in
     let a1 = n c.split-low.result.1 in

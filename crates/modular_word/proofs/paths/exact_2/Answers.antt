@@ -38,7 +38,7 @@ returns g c =
     let high : x * d + n c.split-h.result.1 ≡ n c.split-n0.result.1 =
     omega (arith, c.in_ok-q1.ensures, c.minus.ensures.value) in
     let scaled : B * (x * d + n c.split-h.result.1) ≡ B * n c.split-n0.result.1 = ap (λ v. B * v) high in
-    let whole : (n c.wrapping_mul-q0.result + B * x) * d ≡ g.T.PathWord.whole c.args.n =
+    let whole : (n c.wrapping_mul-q0.result + B * x) * d ≡ g.T.PathWord.double_number c.args.n =
     omega (arith, c.split-n0.ensures.value) in
     ap (λ v. v * d) c.merge.ensures.value ∙ whole
 

@@ -6,12 +6,12 @@ use Rattle.modular_word.proofs.paths.reduce_by.Goals.{After-wrapping_add-less, t
 
 -- the sum divided by the base, whether the low words have a carry or not
 high_words : (g : _) (c : After-wrapping_add-less g)
-    → HighSum g.T.PathWord.base (g.T.RingWord.number c.args.m) (g.T.PathWord.whole c.args.t) (g.T.RingWord.number c.args.x)
+    → HighSum g.T.PathWord.base (g.T.RingWord.number c.args.m) (g.T.PathWord.double_number c.args.t) (g.T.RingWord.number c.args.x)
     (g.T.RingWord.number c.split-low.result.1) (g.T.RingWord.number c.if-is_zero_word.raised)
 high_words g c =
     let n = g.T.RingWord.number in
     let B = g.T.PathWord.base in
-    let W = g.T.PathWord.whole in
+    let W = g.T.PathWord.double_number in
     let t0 = n c.split-low.result.0 in
     let t1 = n c.split-low.result.1 in
     let p0 = n c.split-multiple_high.result.0 in
@@ -39,7 +39,7 @@ high_words g c =
 pub returns-then-is_below : goal.returns-then-is_below
 returns-then-is_below g c =
     let n = g.T.RingWord.number in
-    reduces_less g.T.PathWord.base (n c.args.m) (g.T.PathWord.whole c.args.t) (n c.args.x) (n c.split-low.result.1)
+    reduces_less g.T.PathWord.base (n c.args.m) (g.T.PathWord.double_number c.args.t) (n c.args.x) (n c.split-low.result.1)
     (n c.if-is_zero_word.raised) (n c.wrapping_sub.result) (n c.wrapping_add-less.result)
     (high_words g (goal.at.returns-then-is_below g c).After-wrapping_add-less) c.requires.fits
     c.wrapping_sub.ensures.fits c.wrapping_sub.ensures.value c.wrapping_add-less.ensures.value (c.is_below.ensures.below.0 c.if-is_below.true)
@@ -47,7 +47,7 @@ returns-then-is_below g c =
 pub returns-else-is_below : goal.returns-else-is_below
 returns-else-is_below g c =
     let n = g.T.RingWord.number in
-    reduces_same g.T.PathWord.base (n c.args.m) (g.T.PathWord.whole c.args.t) (n c.args.x) (n c.split-low.result.1)
+    reduces_same g.T.PathWord.base (n c.args.m) (g.T.PathWord.double_number c.args.t) (n c.args.x) (n c.split-low.result.1)
     (n c.if-is_zero_word.raised) (n c.wrapping_sub.result) (n c.wrapping_add-less.result) (n c.wrapping_add.result)
     (high_words g (goal.at.returns-else-is_below g c).After-wrapping_add-less) c.requires.fits
     c.wrapping_sub.ensures.fits c.wrapping_sub.ensures.value c.wrapping_add-less.ensures.value (grind arith) c.wrapping_add.ensures.value

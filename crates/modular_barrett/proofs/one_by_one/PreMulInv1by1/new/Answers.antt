@@ -24,7 +24,7 @@ quotient_is : (g : _) (c : After-low_quotient-quotient g)
 quotient_is g c =
     let n = g.T.RingWord.number in
     let b = g.T.PathWord.base in
-    let dividend : g.T.PathWord.whole c.merge.result ≡ b * n c.minus-gap.result = omega (arith, c.merge.ensures.value, c.zero.ensures) in
+    let dividend : g.T.PathWord.double_number c.merge.result ≡ b * n c.minus-gap.result = omega (arith, c.merge.ensures.value, c.zero.ensures) in
     c.low_quotient-quotient.ensures.value ∙ ap (λ v. v / n c.args.d % b) dividend
 
 pub plus-requires : goal.plus-requires

@@ -4,4 +4,4 @@ use Rattle.modular_folds.proofs.solinas.TrinomialModulusFoldModulus.product.Goal
 
 pub reduce_product-requires-clause-folding : goal.reduce_product-requires-clause-folding
 reduce_product-requires-clause-folding g c =
-    trinomial_folding c.args.self.now.range _ _ _ (search rules) (search rules) c.factor.ensures c.number.ensures
+    trinomial_folding c.args.self.now.range _ _ _ (search rules) (search rules) c.factor.ensures c.modulus.ensures

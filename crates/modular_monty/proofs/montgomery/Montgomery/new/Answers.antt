@@ -16,7 +16,7 @@ new-requires g c = (split g (goal.at.new-requires g c).After-shift_right).odd
 pub invariant_of-result : goal.invariant_of-result
 invariant_of-result g c =
     let twos = c.trailing_zeros-twos.ensures in
-    record { ring = split_ring c.new.result.of.ring (split g (goal.at.invariant_of-result g c).After-shift_right) twos.fits twos.value c.new.ensures }
+    record { ring = split_ring c.new.result.kept.ring (split g (goal.at.invariant_of-result g c).After-shift_right) twos.fits twos.value c.new.ensures }
 
 pub returns : goal.returns
 returns g c =

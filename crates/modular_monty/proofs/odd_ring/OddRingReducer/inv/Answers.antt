@@ -3,14 +3,14 @@ use Rattle.modular_monty.proofs.MontgomerySteps.{inverted, not_inverted}
 use Rattle.modular_monty.proofs.odd_ring.OddRingReducer.inv.Goals as goal
 
 pub invm-requires : goal.invm-requires
-invm-requires g c = rw c.number.ensures (positive (g.met.M.OddModulus.is_odd_ring c.args.self.now.of))
+invm-requires g c = rw c.modulus.ensures (positive (g.met.M.OddModulus.is_odd_ring c.args.self.now.kept))
 
 pub returns-in-Some : goal.returns-in-Some
 returns-in-Some g c =
-    inverted g.T.RingWord.number (montgomery_canonical (g.met.M.OddModulus.is_odd_ring c.args.self.now.of))
-    c.residue.ensures.form (rw c.number.ensures at c.in-Some.ensures) c.transform.ensures.form
+    inverted g.T.RingWord.number (montgomery_canonical (g.met.M.OddModulus.is_odd_ring c.args.self.now.kept))
+    c.residue.ensures.form (rw c.modulus.ensures at c.in-Some.ensures) c.transform.ensures.form
 
 pub returns-in-None : goal.returns-in-None
 returns-in-None g c =
-    not_inverted g.T.RingWord.number (montgomery_canonical (g.met.M.OddModulus.is_odd_ring c.args.self.now.of))
-    c.residue.ensures.form (rw c.number.ensures at c.in-None.ensures)
+    not_inverted g.T.RingWord.number (montgomery_canonical (g.met.M.OddModulus.is_odd_ring c.args.self.now.kept))
+    c.residue.ensures.form (rw c.modulus.ensures at c.in-None.ensures)

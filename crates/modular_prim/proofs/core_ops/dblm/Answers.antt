@@ -1,9 +1,0 @@
-use Rattle.std.proofs.Common.{◌*◌, ◌%◌, ap, ◌∙◌}
-use Rattle.std.proofs.lemmas.Nat.{mul-mod_second}
-use Rattle.modular_prim.proofs.core_ops.dblm.Goals as goal
-
-pub returns : goal.returns
-returns g c =
-    let n = g.T.RingWord.number in
-    c.dbl_below.ensures.value ∙ ap (λ v. (2 * v) % n c.args.m) c.reduced.ensures.value
-    ∙ mul-mod_second 2 (n c.args.a) (n c.args.m)

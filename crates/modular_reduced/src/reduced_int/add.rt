@@ -1,0 +1,134 @@
+//! Sums of integers: `+` and `+=`, with an integer or a word on the right.
+
+ghost use Rattle.modular_reduced.specs.Integers.{IsSum, modulus_of, residue_of};
+ghost use Rattle.std.specs.Prelude.{◌≡◌};
+
+use super::ReducedInt;
+use super::operations::{sum, sum_with};
+use crate::reducer::Reducer;
+use modular_word::ring_word::RingWord;
+use std::ops::{Add, AddAssign};
+
+impl<T: RingWord, R: Reducer<T> + Copy> Add<ReducedInt<T, R>> for ReducedInt<T, R> {
+    type Output = ReducedInt<T, R>;
+
+    ghost can_add = { λ x y. modulus_of x ≡ modulus_of y };
+
+    ghost add_gives = { λ x y z. IsSum x (residue_of y) z };
+
+    fn add(self, rhs: ReducedInt<T, R>) -> ReducedInt<T, R> {
+        sum(&self, &rhs)
+    }
+}
+
+impl<T: RingWord, R: Reducer<T> + Copy> Add<&ReducedInt<T, R>> for ReducedInt<T, R> {
+    type Output = ReducedInt<T, R>;
+
+    ghost can_add = { λ x y. modulus_of x ≡ modulus_of y.now };
+
+    ghost add_gives = { λ x y z. IsSum x (residue_of y.now) z };
+
+    fn add(self, rhs: &ReducedInt<T, R>) -> ReducedInt<T, R> {
+        sum(&self, rhs)
+    }
+}
+
+impl<T: RingWord, R: Reducer<T> + Copy> Add<T> for ReducedInt<T, R> {
+    type Output = ReducedInt<T, R>;
+
+    ghost add_gives = { λ x n z. IsSum x (T.number n) z };
+
+    fn add(self, rhs: T) -> ReducedInt<T, R> {
+        sum_with(&self, rhs)
+    }
+}
+
+impl<T: RingWord, R: Reducer<T> + Copy> Add<&T> for ReducedInt<T, R> {
+    type Output = ReducedInt<T, R>;
+
+    ghost add_gives = { λ x n z. IsSum x (T.number n.now) z };
+
+    fn add(self, rhs: &T) -> ReducedInt<T, R> {
+        sum_with(&self, *rhs)
+    }
+}
+
+impl<T: RingWord, R: Reducer<T> + Copy> Add<ReducedInt<T, R>> for &ReducedInt<T, R> {
+    type Output = ReducedInt<T, R>;
+
+    ghost can_add = { λ x y. modulus_of x.now ≡ modulus_of y };
+
+    ghost add_gives = { λ x y z. IsSum x.now (residue_of y) z };
+
+    fn add(self, rhs: ReducedInt<T, R>) -> ReducedInt<T, R> {
+        sum(self, &rhs)
+    }
+}
+
+impl<T: RingWord, R: Reducer<T> + Copy> Add<&ReducedInt<T, R>> for &ReducedInt<T, R> {
+    type Output = ReducedInt<T, R>;
+
+    ghost can_add = { λ x y. modulus_of x.now ≡ modulus_of y.now };
+
+    ghost add_gives = { λ x y z. IsSum x.now (residue_of y.now) z };
+
+    fn add(self, rhs: &ReducedInt<T, R>) -> ReducedInt<T, R> {
+        sum(self, rhs)
+    }
+}
+
+impl<T: RingWord, R: Reducer<T> + Copy> Add<T> for &ReducedInt<T, R> {
+    type Output = ReducedInt<T, R>;
+
+    ghost add_gives = { λ x n z. IsSum x.now (T.number n) z };
+
+    fn add(self, rhs: T) -> ReducedInt<T, R> {
+        sum_with(self, rhs)
+    }
+}
+
+impl<T: RingWord, R: Reducer<T> + Copy> Add<&T> for &ReducedInt<T, R> {
+    type Output = ReducedInt<T, R>;
+
+    ghost add_gives = { λ x n z. IsSum x.now (T.number n.now) z };
+
+    fn add(self, rhs: &T) -> ReducedInt<T, R> {
+        sum_with(self, *rhs)
+    }
+}
+
+impl<T: RingWord, R: Reducer<T> + Copy> AddAssign<ReducedInt<T, R>> for ReducedInt<T, R> {
+    ghost can_add_assign = { λ x y. modulus_of x ≡ modulus_of y };
+
+    ghost add_assign_gives = { λ x y z. IsSum x (residue_of y) z };
+
+    fn add_assign(&mut self, rhs: ReducedInt<T, R>) {
+        *self = sum(self, &rhs);
+    }
+}
+
+impl<T: RingWord, R: Reducer<T> + Copy> AddAssign<&ReducedInt<T, R>> for ReducedInt<T, R> {
+    ghost can_add_assign = { λ x y. modulus_of x ≡ modulus_of y.now };
+
+    ghost add_assign_gives = { λ x y z. IsSum x (residue_of y.now) z };
+
+    fn add_assign(&mut self, rhs: &ReducedInt<T, R>) {
+        *self = sum(self, rhs);
+    }
+}
+
+impl<T: RingWord, R: Reducer<T> + Copy> AddAssign<T> for ReducedInt<T, R> {
+    ghost add_assign_gives = { λ x n z. IsSum x (T.number n) z };
+
+    fn add_assign(&mut self, rhs: T) {
+        *self = sum_with(self, rhs);
+    }
+}
+
+impl<T: RingWord, R: Reducer<T> + Copy> AddAssign<&T> for ReducedInt<T, R> {
+    ghost add_assign_gives = { λ x n z. IsSum x (T.number n.now) z };
+
+    fn add_assign(&mut self, rhs: &T) {
+        *self = sum_with(self, *rhs);
+    }
+}

@@ -1,0 +1,70 @@
+//! `ReducedInt` as a `ModularInteger`.
+
+ghost use Rattle.modular_reduced.specs.Integers.{modulus_of, residue_of};
+ghost use Rattle.std.proofs.Common.{rules};
+
+use super::ReducedInt;
+use super::operations::in_ring;
+use crate::modular_integer::ModularInteger;
+use crate::reducer::Reducer;
+use modular_word::ring_word::RingWord;
+
+impl<T: RingWord, R: Reducer<T> + Copy> ModularInteger for ReducedInt<T, R> {
+    type Base = T;
+
+    ghost modulus_number = { modulus_of };
+
+    ghost residue_number = { residue_of };
+
+    ghost base_number = { T.number };
+
+    fn modulus(&self) -> T {
+        self.reducer.modulus()
+    }
+
+    fn residue(&self) -> T {
+        self.reducer.residue(self.form)
+    }
+
+    fn is_zero(&self) -> bool {
+        self.reducer.is_zero(&self.form)
+    }
+
+    fn convert(&self, n: T) -> Self {
+        in_ring(self, n)
+    }
+
+    fn double(self) -> Self {
+        ReducedInt {
+            form: self.reducer.dbl(self.form),
+            reducer: self.reducer,
+        }
+    }
+
+    fn square(self) -> Self {
+        ReducedInt {
+            form: self.reducer.sqr(self.form),
+            reducer: self.reducer,
+        }
+    }
+
+    ghost below = { λ a. a.checked.below };
+
+    ghost equal = { Prim.search rules };
+
+    ghost may_add = { λ a b same. same };
+
+    ghost adds = { λ a b c same gives. gives };
+
+    ghost may_subtract = { λ a b same. same };
+
+    ghost subtracts = { λ a b c same gives. gives };
+
+    ghost may_multiply = { λ a b same. same };
+
+    ghost multiplies = { λ a b c same gives. gives };
+
+    ghost may_negate = { λ a. tt };
+
+    ghost negates = { λ a c gives. gives };
+}

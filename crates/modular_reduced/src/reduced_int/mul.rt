@@ -1,0 +1,134 @@
+//! Products of integers: `*` and `*=`, with an integer or a word on the right.
+
+ghost use Rattle.modular_reduced.specs.Integers.{IsProduct, modulus_of, residue_of};
+ghost use Rattle.std.specs.Prelude.{◌≡◌};
+
+use super::ReducedInt;
+use super::operations::{product, product_with};
+use crate::reducer::Reducer;
+use modular_word::ring_word::RingWord;
+use std::ops::{Mul, MulAssign};
+
+impl<T: RingWord, R: Reducer<T> + Copy> Mul<ReducedInt<T, R>> for ReducedInt<T, R> {
+    type Output = ReducedInt<T, R>;
+
+    ghost can_mul = { λ x y. modulus_of x ≡ modulus_of y };
+
+    ghost mul_gives = { λ x y z. IsProduct x (residue_of y) z };
+
+    fn mul(self, rhs: ReducedInt<T, R>) -> ReducedInt<T, R> {
+        product(&self, &rhs)
+    }
+}
+
+impl<T: RingWord, R: Reducer<T> + Copy> Mul<&ReducedInt<T, R>> for ReducedInt<T, R> {
+    type Output = ReducedInt<T, R>;
+
+    ghost can_mul = { λ x y. modulus_of x ≡ modulus_of y.now };
+
+    ghost mul_gives = { λ x y z. IsProduct x (residue_of y.now) z };
+
+    fn mul(self, rhs: &ReducedInt<T, R>) -> ReducedInt<T, R> {
+        product(&self, rhs)
+    }
+}
+
+impl<T: RingWord, R: Reducer<T> + Copy> Mul<T> for ReducedInt<T, R> {
+    type Output = ReducedInt<T, R>;
+
+    ghost mul_gives = { λ x n z. IsProduct x (T.number n) z };
+
+    fn mul(self, rhs: T) -> ReducedInt<T, R> {
+        product_with(&self, rhs)
+    }
+}
+
+impl<T: RingWord, R: Reducer<T> + Copy> Mul<&T> for ReducedInt<T, R> {
+    type Output = ReducedInt<T, R>;
+
+    ghost mul_gives = { λ x n z. IsProduct x (T.number n.now) z };
+
+    fn mul(self, rhs: &T) -> ReducedInt<T, R> {
+        product_with(&self, *rhs)
+    }
+}
+
+impl<T: RingWord, R: Reducer<T> + Copy> Mul<ReducedInt<T, R>> for &ReducedInt<T, R> {
+    type Output = ReducedInt<T, R>;
+
+    ghost can_mul = { λ x y. modulus_of x.now ≡ modulus_of y };
+
+    ghost mul_gives = { λ x y z. IsProduct x.now (residue_of y) z };
+
+    fn mul(self, rhs: ReducedInt<T, R>) -> ReducedInt<T, R> {
+        product(self, &rhs)
+    }
+}
+
+impl<T: RingWord, R: Reducer<T> + Copy> Mul<&ReducedInt<T, R>> for &ReducedInt<T, R> {
+    type Output = ReducedInt<T, R>;
+
+    ghost can_mul = { λ x y. modulus_of x.now ≡ modulus_of y.now };
+
+    ghost mul_gives = { λ x y z. IsProduct x.now (residue_of y.now) z };
+
+    fn mul(self, rhs: &ReducedInt<T, R>) -> ReducedInt<T, R> {
+        product(self, rhs)
+    }
+}
+
+impl<T: RingWord, R: Reducer<T> + Copy> Mul<T> for &ReducedInt<T, R> {
+    type Output = ReducedInt<T, R>;
+
+    ghost mul_gives = { λ x n z. IsProduct x.now (T.number n) z };
+
+    fn mul(self, rhs: T) -> ReducedInt<T, R> {
+        product_with(self, rhs)
+    }
+}
+
+impl<T: RingWord, R: Reducer<T> + Copy> Mul<&T> for &ReducedInt<T, R> {
+    type Output = ReducedInt<T, R>;
+
+    ghost mul_gives = { λ x n z. IsProduct x.now (T.number n.now) z };
+
+    fn mul(self, rhs: &T) -> ReducedInt<T, R> {
+        product_with(self, *rhs)
+    }
+}
+
+impl<T: RingWord, R: Reducer<T> + Copy> MulAssign<ReducedInt<T, R>> for ReducedInt<T, R> {
+    ghost can_mul_assign = { λ x y. modulus_of x ≡ modulus_of y };
+
+    ghost mul_assign_gives = { λ x y z. IsProduct x (residue_of y) z };
+
+    fn mul_assign(&mut self, rhs: ReducedInt<T, R>) {
+        *self = product(self, &rhs);
+    }
+}
+
+impl<T: RingWord, R: Reducer<T> + Copy> MulAssign<&ReducedInt<T, R>> for ReducedInt<T, R> {
+    ghost can_mul_assign = { λ x y. modulus_of x ≡ modulus_of y.now };
+
+    ghost mul_assign_gives = { λ x y z. IsProduct x (residue_of y.now) z };
+
+    fn mul_assign(&mut self, rhs: &ReducedInt<T, R>) {
+        *self = product(self, rhs);
+    }
+}
+
+impl<T: RingWord, R: Reducer<T> + Copy> MulAssign<T> for ReducedInt<T, R> {
+    ghost mul_assign_gives = { λ x n z. IsProduct x (T.number n) z };
+
+    fn mul_assign(&mut self, rhs: T) {
+        *self = product_with(self, rhs);
+    }
+}
+
+impl<T: RingWord, R: Reducer<T> + Copy> MulAssign<&T> for ReducedInt<T, R> {
+    ghost mul_assign_gives = { λ x n z. IsProduct x (T.number n.now) z };
+
+    fn mul_assign(&mut self, rhs: &T) {
+        *self = product_with(self, *rhs);
+    }
+}

@@ -1,0 +1,112 @@
+//! What the operators of integers compute: all kinds of operands of an operator call one of these.
+
+ghost use Rattle.modular_reduced.specs.Integers.{CanDivide, IsDifference, IsNegative, IsProduct, IsQuotient, IsReduced, IsSum, modulus_of, residue_of};
+ghost use Rattle.std.specs.Prelude.{◌≡◌, ◌%◌};
+
+use super::ReducedInt;
+use crate::reducer::Reducer;
+use modular_word::ring_word::RingWord;
+
+/// The integer n in the ring of x.
+pub fn in_ring<T: RingWord, R: Reducer<T> + Copy>(x: &ReducedInt<T, R>, n: T) -> ReducedInt<T, R>
+    ensures { let m = modulus_of x.now in IsReduced m (T.number n % m) result }
+{
+    ReducedInt {
+        form: x.reducer.transform(n),
+        reducer: x.reducer,
+    }
+}
+
+/// The sum. Condition: the moduli are equal.
+pub fn sum<T: RingWord, R: Reducer<T> + Copy>(
+    x: &ReducedInt<T, R>,
+    y: &ReducedInt<T, R>,
+) -> ReducedInt<T, R>
+    requires { modulus_of x.now ≡ modulus_of y.now }
+    ensures { IsSum x.now (residue_of y.now) result }
+{
+    ReducedInt {
+        form: x.reducer.add(&x.form, &y.form),
+        reducer: x.reducer,
+    }
+}
+
+/// The sum with a word.
+pub fn sum_with<T: RingWord, R: Reducer<T> + Copy>(x: &ReducedInt<T, R>, n: T) -> ReducedInt<T, R>
+    ensures { IsSum x.now (T.number n) result }
+{
+    sum(x, &in_ring(x, n))
+}
+
+/// The difference. Condition: the moduli are equal.
+pub fn difference<T: RingWord, R: Reducer<T> + Copy>(
+    x: &ReducedInt<T, R>,
+    y: &ReducedInt<T, R>,
+) -> ReducedInt<T, R>
+    requires { modulus_of x.now ≡ modulus_of y.now }
+    ensures { IsDifference x.now (residue_of y.now) result }
+{
+    ReducedInt {
+        form: x.reducer.sub(&x.form, &y.form),
+        reducer: x.reducer,
+    }
+}
+
+/// The difference with a word.
+pub fn difference_with<T: RingWord, R: Reducer<T> + Copy>(
+    x: &ReducedInt<T, R>,
+    n: T,
+) -> ReducedInt<T, R>
+    ensures { IsDifference x.now (T.number n) result }
+{
+    difference(x, &in_ring(x, n))
+}
+
+/// The product. Condition: the moduli are equal.
+pub fn product<T: RingWord, R: Reducer<T> + Copy>(
+    x: &ReducedInt<T, R>,
+    y: &ReducedInt<T, R>,
+) -> ReducedInt<T, R>
+    requires { modulus_of x.now ≡ modulus_of y.now }
+    ensures { IsProduct x.now (residue_of y.now) result }
+{
+    ReducedInt {
+        form: x.reducer.mul(&x.form, &y.form),
+        reducer: x.reducer,
+    }
+}
+
+/// The product with a word.
+pub fn product_with<T: RingWord, R: Reducer<T> + Copy>(
+    x: &ReducedInt<T, R>,
+    n: T,
+) -> ReducedInt<T, R>
+    ensures { IsProduct x.now (T.number n) result }
+{
+    product(x, &in_ring(x, n))
+}
+
+/// The quotient: the integer whose product with y is x. Condition: the moduli are equal, and y has
+/// an inverse.
+pub fn quotient<T: RingWord, R: Reducer<T> + Copy>(
+    x: &ReducedInt<T, R>,
+    y: &ReducedInt<T, R>,
+) -> ReducedInt<T, R>
+    requires { CanDivide x.now y.now }
+    ensures { IsQuotient x.now y.now result }
+{
+    let Some(inverse) = y.inv() else {
+        unreachable!()
+    };
+    product(x, &inverse)
+}
+
+/// The negative.
+pub fn negative<T: RingWord, R: Reducer<T> + Copy>(x: &ReducedInt<T, R>) -> ReducedInt<T, R>
+    ensures { IsNegative x.now result }
+{
+    ReducedInt {
+        form: x.reducer.neg(x.form),
+        reducer: x.reducer,
+    }
+}

@@ -1,0 +1,134 @@
+//! Differences of integers: `-` and `-=`, with an integer or a word on the right.
+
+ghost use Rattle.modular_reduced.specs.Integers.{IsDifference, modulus_of, residue_of};
+ghost use Rattle.std.specs.Prelude.{◌≡◌};
+
+use super::ReducedInt;
+use super::operations::{difference, difference_with};
+use crate::reducer::Reducer;
+use modular_word::ring_word::RingWord;
+use std::ops::{Sub, SubAssign};
+
+impl<T: RingWord, R: Reducer<T> + Copy> Sub<ReducedInt<T, R>> for ReducedInt<T, R> {
+    type Output = ReducedInt<T, R>;
+
+    ghost can_sub = { λ x y. modulus_of x ≡ modulus_of y };
+
+    ghost sub_gives = { λ x y z. IsDifference x (residue_of y) z };
+
+    fn sub(self, rhs: ReducedInt<T, R>) -> ReducedInt<T, R> {
+        difference(&self, &rhs)
+    }
+}
+
+impl<T: RingWord, R: Reducer<T> + Copy> Sub<&ReducedInt<T, R>> for ReducedInt<T, R> {
+    type Output = ReducedInt<T, R>;
+
+    ghost can_sub = { λ x y. modulus_of x ≡ modulus_of y.now };
+
+    ghost sub_gives = { λ x y z. IsDifference x (residue_of y.now) z };
+
+    fn sub(self, rhs: &ReducedInt<T, R>) -> ReducedInt<T, R> {
+        difference(&self, rhs)
+    }
+}
+
+impl<T: RingWord, R: Reducer<T> + Copy> Sub<T> for ReducedInt<T, R> {
+    type Output = ReducedInt<T, R>;
+
+    ghost sub_gives = { λ x n z. IsDifference x (T.number n) z };
+
+    fn sub(self, rhs: T) -> ReducedInt<T, R> {
+        difference_with(&self, rhs)
+    }
+}
+
+impl<T: RingWord, R: Reducer<T> + Copy> Sub<&T> for ReducedInt<T, R> {
+    type Output = ReducedInt<T, R>;
+
+    ghost sub_gives = { λ x n z. IsDifference x (T.number n.now) z };
+
+    fn sub(self, rhs: &T) -> ReducedInt<T, R> {
+        difference_with(&self, *rhs)
+    }
+}
+
+impl<T: RingWord, R: Reducer<T> + Copy> Sub<ReducedInt<T, R>> for &ReducedInt<T, R> {
+    type Output = ReducedInt<T, R>;
+
+    ghost can_sub = { λ x y. modulus_of x.now ≡ modulus_of y };
+
+    ghost sub_gives = { λ x y z. IsDifference x.now (residue_of y) z };
+
+    fn sub(self, rhs: ReducedInt<T, R>) -> ReducedInt<T, R> {
+        difference(self, &rhs)
+    }
+}
+
+impl<T: RingWord, R: Reducer<T> + Copy> Sub<&ReducedInt<T, R>> for &ReducedInt<T, R> {
+    type Output = ReducedInt<T, R>;
+
+    ghost can_sub = { λ x y. modulus_of x.now ≡ modulus_of y.now };
+
+    ghost sub_gives = { λ x y z. IsDifference x.now (residue_of y.now) z };
+
+    fn sub(self, rhs: &ReducedInt<T, R>) -> ReducedInt<T, R> {
+        difference(self, rhs)
+    }
+}
+
+impl<T: RingWord, R: Reducer<T> + Copy> Sub<T> for &ReducedInt<T, R> {
+    type Output = ReducedInt<T, R>;
+
+    ghost sub_gives = { λ x n z. IsDifference x.now (T.number n) z };
+
+    fn sub(self, rhs: T) -> ReducedInt<T, R> {
+        difference_with(self, rhs)
+    }
+}
+
+impl<T: RingWord, R: Reducer<T> + Copy> Sub<&T> for &ReducedInt<T, R> {
+    type Output = ReducedInt<T, R>;
+
+    ghost sub_gives = { λ x n z. IsDifference x.now (T.number n.now) z };
+
+    fn sub(self, rhs: &T) -> ReducedInt<T, R> {
+        difference_with(self, *rhs)
+    }
+}
+
+impl<T: RingWord, R: Reducer<T> + Copy> SubAssign<ReducedInt<T, R>> for ReducedInt<T, R> {
+    ghost can_sub_assign = { λ x y. modulus_of x ≡ modulus_of y };
+
+    ghost sub_assign_gives = { λ x y z. IsDifference x (residue_of y) z };
+
+    fn sub_assign(&mut self, rhs: ReducedInt<T, R>) {
+        *self = difference(self, &rhs);
+    }
+}
+
+impl<T: RingWord, R: Reducer<T> + Copy> SubAssign<&ReducedInt<T, R>> for ReducedInt<T, R> {
+    ghost can_sub_assign = { λ x y. modulus_of x ≡ modulus_of y.now };
+
+    ghost sub_assign_gives = { λ x y z. IsDifference x (residue_of y.now) z };
+
+    fn sub_assign(&mut self, rhs: &ReducedInt<T, R>) {
+        *self = difference(self, rhs);
+    }
+}
+
+impl<T: RingWord, R: Reducer<T> + Copy> SubAssign<T> for ReducedInt<T, R> {
+    ghost sub_assign_gives = { λ x n z. IsDifference x (T.number n) z };
+
+    fn sub_assign(&mut self, rhs: T) {
+        *self = difference_with(self, rhs);
+    }
+}
+
+impl<T: RingWord, R: Reducer<T> + Copy> SubAssign<&T> for ReducedInt<T, R> {
+    ghost sub_assign_gives = { λ x n z. IsDifference x (T.number n.now) z };
+
+    fn sub_assign(&mut self, rhs: &T) {
+        *self = difference_with(self, *rhs);
+    }
+}

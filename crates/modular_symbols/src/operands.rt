@@ -1,0 +1,148 @@
+//! The integer of an operand, and words given by their sign and their magnitude.
+
+ghost use Rattle.std.specs.Prelude.{◌≡◌, pos, ◌<◌, ◌↔◌, IsTrue};
+ghost use Rattle.std.proofs.Common.{refl, rules};
+ghost use Rattle.modular_symbols.specs.Kronecker.{signed};
+
+pub use modular_prim::numbered::IntegerValued;
+use modular_prim::numbered::Numbered;
+use modular_prim::plain_word::PlainWord;
+
+/// An operand without sign: its integer is its whole number, which `==` compares.
+///
+/// It has no calls. By it code that is generic over the modular operations and the symbols speaks of
+/// one number.
+pub trait UnsignedOperand: Numbered + IntegerValued + Eq {
+    // The integer is the whole number.
+    ghost integer_is_number: { (x : Self) → Self.integer_value x ≡ pos (Self.whole_number x) };
+
+    // `==` tells whether the numbers are equal.
+    ghost compares: { (x y : Self) → IsTrue (Self.eq x y) ↔ (Self.whole_number x ≡ Self.whole_number y) };
+}
+
+impl<T: UnsignedOperand> UnsignedOperand for &T {
+    ghost integer_is_number = { λ x. T.integer_is_number x.now };
+
+    ghost compares = { λ x y. T.compares x.now y.now };
+}
+
+/// A machine word with or without sign.
+pub trait SymbolWord: IntegerValued + Copy {
+    /// The word without sign that holds the magnitude, the least number's too.
+    type Magnitude: PlainWord;
+
+    /// Whether the number is negative, and its magnitude.
+    fn sign_and_magnitude(self) -> (bool, Self::Magnitude)
+        ensures value { signed result.0 (pos (Self.Magnitude.number result.1)) ≡ Self.integer_value self }
+        ensures negative { IsTrue result.0 → 0 < Self.Magnitude.number result.1 };
+}
+
+impl UnsignedOperand for u8 {
+    ghost integer_is_number = { λ x. refl };
+
+    ghost compares = { Prim.search rules };
+}
+
+impl UnsignedOperand for u16 {
+    ghost integer_is_number = { λ x. refl };
+
+    ghost compares = { Prim.search rules };
+}
+
+impl UnsignedOperand for u32 {
+    ghost integer_is_number = { λ x. refl };
+
+    ghost compares = { Prim.search rules };
+}
+
+impl UnsignedOperand for u64 {
+    ghost integer_is_number = { λ x. refl };
+
+    ghost compares = { Prim.search rules };
+}
+
+impl UnsignedOperand for usize {
+    ghost integer_is_number = { λ x. refl };
+
+    ghost compares = { Prim.search rules };
+}
+
+impl SymbolWord for u8 {
+    type Magnitude = u8;
+
+    fn sign_and_magnitude(self) -> (bool, u8) {
+        (false, self)
+    }
+}
+
+impl SymbolWord for u16 {
+    type Magnitude = u16;
+
+    fn sign_and_magnitude(self) -> (bool, u16) {
+        (false, self)
+    }
+}
+
+impl SymbolWord for u32 {
+    type Magnitude = u32;
+
+    fn sign_and_magnitude(self) -> (bool, u32) {
+        (false, self)
+    }
+}
+
+impl SymbolWord for u64 {
+    type Magnitude = u64;
+
+    fn sign_and_magnitude(self) -> (bool, u64) {
+        (false, self)
+    }
+}
+
+impl SymbolWord for usize {
+    type Magnitude = usize;
+
+    fn sign_and_magnitude(self) -> (bool, usize) {
+        (false, self)
+    }
+}
+
+impl SymbolWord for i8 {
+    type Magnitude = u8;
+
+    fn sign_and_magnitude(self) -> (bool, u8) {
+        (self < 0, self.unsigned_abs())
+    }
+}
+
+impl SymbolWord for i16 {
+    type Magnitude = u16;
+
+    fn sign_and_magnitude(self) -> (bool, u16) {
+        (self < 0, self.unsigned_abs())
+    }
+}
+
+impl SymbolWord for i32 {
+    type Magnitude = u32;
+
+    fn sign_and_magnitude(self) -> (bool, u32) {
+        (self < 0, self.unsigned_abs())
+    }
+}
+
+impl SymbolWord for i64 {
+    type Magnitude = u64;
+
+    fn sign_and_magnitude(self) -> (bool, u64) {
+        (self < 0, self.unsigned_abs())
+    }
+}
+
+impl SymbolWord for isize {
+    type Magnitude = usize;
+
+    fn sign_and_magnitude(self) -> (bool, usize) {
+        (self < 0, self.unsigned_abs())
+    }
+}

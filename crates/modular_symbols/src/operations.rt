@@ -1,0 +1,29 @@
+//! The trait that collects the modular operations and the symbols.
+
+ghost use Rattle.std.specs.Prelude.{◌≡◌};
+ghost use Rattle.std.proofs.Common.{sym, ◌∙◌};
+
+use crate::operands::{SymbolWord, UnsignedOperand};
+use crate::symbols::ModularSymbols;
+use modular_prim::numbered::Numbered;
+use modular_prim::operations::{ModularCoreOps, ModularPow, ModularUnaryOps};
+use modular_prim::plain_word::PlainWord;
+
+/// All modular operations and the symbols of a word, with operands by value and the modulus by
+/// reference. Code that is generic over it knows each answer by the contracts of these traits.
+pub trait ModularOps<Rhs: Numbered, Modulus: UnsignedOperand, Output: Numbered>: UnsignedOperand
+    + ModularCoreOps<Rhs, Modulus, Output = Output>
+    + ModularUnaryOps<Modulus, Output = Output>
+    + ModularPow<Rhs, Modulus, Output = Output>
+    + ModularSymbols<Modulus> {
+    // Operands of one number are equal, and so are answers.
+    ghost one_operand: { (x y : Self) → Self.whole_number x ≡ Self.whole_number y → x ≡ y };
+
+    ghost one_answer: { (x y : Output) → Output.whole_number x ≡ Output.whole_number y → x ≡ y };
+}
+
+impl<T: PlainWord + SymbolWord + UnsignedOperand> ModularOps<T, &T, T> for T {
+    ghost one_operand = { λ x y e. T.injective x y (sym (T.numbered x) ∙ e ∙ T.numbered y) };
+
+    ghost one_answer = { λ x y e. T.injective x y (sym (T.numbered x) ∙ e ∙ T.numbered y) };
+}
