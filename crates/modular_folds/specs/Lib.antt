@@ -1,4 +1,3 @@
-pub mod Folds
 pub mod Mersenne
 pub mod MersenneLaws
 pub mod Solinas

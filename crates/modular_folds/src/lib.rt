@@ -1,9 +1,6 @@
-//! Reduction by folds, and the reducers of moduli near a power of two.
+//! The reducers of moduli near a power of two, which reduce by folds.
 #![tactic(auto)]
 
-pub mod fold_word;
-pub mod folds;
 pub mod mersenne;
-pub mod products;
 pub mod rings;
 pub mod solinas;

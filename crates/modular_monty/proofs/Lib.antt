@@ -1,5 +1,3 @@
 pub mod MontgomerySteps
 pub mod NegatedInverses
 pub mod ProthModuli
-pub mod SplitSteps
-pub mod Twos

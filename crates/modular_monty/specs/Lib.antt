@@ -1,7 +1,6 @@
 pub mod Montgomery
 pub mod MontgomeryLaws
 pub mod Proth
-pub mod SplitLaws
 pub mod Values
 pub use Rattle.modular_reduced.specs.Forms
 pub use Rattle.modular_word.specs.Division

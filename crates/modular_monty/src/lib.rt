@@ -2,7 +2,6 @@
 #![tactic(auto)]
 
 pub mod fixed;
-pub mod montgomery;
 pub mod neg_mod_inv;
 pub mod odd_ring;
 pub mod preinv;

@@ -72,7 +72,7 @@ pub(crate) fn computed_once<T: PlainWord>(m: T) -> (T, T)
 /// Source: Handbook of Applied Cryptography, section 14.3.2.
 #[derive(Debug, Clone, Copy)]
 pub struct OddRing<T: PlainWord, M: OddModulus<T>> {
-    pub(crate) kept: M,
+    pub kept: M,
     word: PhantomData<T>,
 }
 
@@ -153,12 +153,12 @@ impl<T: PlainWord, M: OddModulus<T>> Reducer<T> for OddRing<T, M> {
     }
 }
 
-// An odd modulus that is known when the program runs.
+/// An odd modulus that is known when the program runs, with what is computed once of it.
 #[derive(Debug)]
-pub(crate) struct StoredModulus<T: PlainWord> {
-    pub(crate) modulus: T,
-    pub(crate) negated_inverse: T,
-    square: T,
+pub struct StoredModulus<T: PlainWord> {
+    pub modulus: T,
+    pub negated_inverse: T,
+    pub square: T,
     ghost ring: { IsOddRing T.width T.base (T.number modulus) (T.number negated_inverse) (T.number square) },
 }
 

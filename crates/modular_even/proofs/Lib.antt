@@ -1,0 +1,2 @@
+pub mod SplitSteps
+pub mod Twos

@@ -1,0 +1,187 @@
+//! The reducer by Montgomery's representation, for every modulus.
+
+ghost use Rattle.std.specs.Prelude.{◌≡◌, ℕ, ◌+◌, ◌*◌, ◌/◌, ◌%◌, ◌^◌, ◌<◌, ◌≤◌, ⊤};
+ghost use Rattle.modular_reduced.specs.Forms.{IsForm};
+ghost use Rattle.modular_monty.specs.Montgomery.{montgomery_form, montgomery_value};
+ghost use Rattle.modular_even.specs.Split.{split_form, split_value, two_part, odd_part, IsSplitRing};
+ghost use Rattle.modular_even.specs.SplitLaws.{modulus_positive, split_canonical};
+
+use modular_monty::odd_ring::{OddModulus, OddRing, StoredModulus};
+use modular_prim::euclid::invm;
+use modular_prim::plain_word::PlainWord;
+use modular_reduced::reducer::Reducer;
+use modular_word::path_word::PathWord;
+use modular_word::ring_word::RingWord;
+use std::alloc::AllocError;
+
+/// The reducer of a modulus m from 1 up by Montgomery's representation. With m = 2^s·k, k being odd,
+/// the form of v has two parts: above the lowest s bits v times the base, modulo k, the base being 2
+/// to the width of the words, and in these bits v modulo 2^s. So for odd m it is v times the base,
+/// modulo m.
+///
+/// A product of forms takes one product of words and one reduction, which divides by the base alone,
+/// and for even m one wrapping product besides.
+///
+/// Source: Handbook of Applied Cryptography, section 14.3.2; for even m Koç, "Montgomery reduction with
+/// even modulus".
+#[derive(Debug)]
+pub struct Montgomery<T: PlainWord> {
+    // The ring modulo k.
+    odd: OddRing<T, StoredModulus<T>>,
+    // The exponent s.
+    twos: u32,
+    ghost ring: { IsSplitRing T.width T.base (T.number odd.kept.modulus * 2 ^ twos) twos (T.number odd.kept.modulus)
+        (T.number odd.kept.negated_inverse) (T.number odd.kept.square) },
+}
+
+impl<T: PlainWord> Clone for Montgomery<T> {
+    ghost is_clone = { λ x y. y ≡ x };
+
+    ghost is_infallible = { λ _. ⊤ };
+
+    fn clone(&self) -> Result<Self, AllocError> {
+        Ok(*self)
+    }
+}
+
+impl<T: PlainWord> Copy for Montgomery<T> {}
+
+impl<T: PlainWord> Montgomery<T> {
+    /// The reducer of m. Condition: m is at least 1.
+    pub fn new(m: T) -> Self
+        requires { 1 ≤ T.number m }
+        ensures { ⟦<Montgomery<T> as Reducer<T>>⟧.modulus result ≡ T.number m }
+    {
+        let twos = m.trailing_zeros();
+        Montgomery {
+            odd: OddRing::new(&m.shift_right(twos)),
+            twos,
+        }
+    }
+
+    // The part of a form above the lowest bits.
+    fn high(&self, f: T) -> T
+        requires { IsForm (split_form T.width) (split_value T.width)
+            (T.number self.now.odd.kept.modulus * 2 ^ self.now.twos) (T.number f) }
+        ensures value { T.number result ≡ T.number f / 2 ^ self.now.twos }
+        ensures form { IsForm (montgomery_form T.width) (montgomery_value T.width)
+            (T.number self.now.odd.kept.modulus) (T.number result) }
+    {
+        f.shift_right(self.twos)
+    }
+
+    // The form of a given part above the lowest bits, and of the lowest bits of a word.
+    fn join(&self, high: T, low: T) -> T
+        requires { T.number high < T.number self.now.odd.kept.modulus }
+        ensures { T.number result ≡ T.number high * 2 ^ self.now.twos + T.number low % 2 ^ self.now.twos }
+    {
+        high.shift_left(self.twos).plus(low.low_bits(self.twos))
+    }
+}
+
+// An early test of s keeps odd moduli as fast as they are without the second part.
+impl<T: PlainWord> Reducer<T> for Montgomery<T> {
+    ghost admits = { λ m. 1 ≤ m };
+
+    ghost form = { split_form T.width };
+
+    ghost value = { split_value T.width };
+
+    ghost modulus = { λ r. T.number r.odd.kept.modulus * 2 ^ r.twos };
+
+    ghost admitted = { λ r. modulus_positive r.ring };
+
+    ghost canonical = { λ r. split_canonical r.ring };
+
+    fn new(m: &T) -> Self {
+        Montgomery::new(*m)
+    }
+
+    fn transform(&self, n: T) -> T {
+        let high = self.odd.transform(n);
+        if self.twos == 0 {
+            return high;
+        }
+        self.join(high, n)
+    }
+
+    fn check(&self, f: &T) -> bool {
+        f.is_below(self.modulus())
+    }
+
+    fn modulus(&self) -> T {
+        self.odd.modulus().shift_left(self.twos)
+    }
+
+    // The value modulo the odd part, and as many times that part more as the lowest bits ask for.
+    fn residue(&self, f: T) -> T {
+        if self.twos == 0 {
+            return self.odd.residue(f);
+        }
+        let value = self.odd.residue(self.high(f));
+        let behind = value.wrapping_sub(f);
+        let steps = behind
+            .wrapping_mul(self.odd.kept.negated_inverse)
+            .low_bits(self.twos);
+        value.plus(self.odd.kept.modulus.times(steps))
+    }
+
+    fn is_zero(&self, f: &T) -> bool {
+        f.is_zero_word()
+    }
+
+    fn add(&self, a: &T, b: &T) -> T {
+        if self.twos == 0 {
+            return self.odd.add(a, b);
+        }
+        let high = self.odd.add(&self.high(*a), &self.high(*b));
+        self.join(high, a.wrapping_add(*b))
+    }
+
+    fn dbl(&self, f: T) -> T {
+        self.add(&f, &f)
+    }
+
+    fn sub(&self, a: &T, b: &T) -> T {
+        if self.twos == 0 {
+            return self.odd.sub(a, b);
+        }
+        let high = self.odd.sub(&self.high(*a), &self.high(*b));
+        self.join(high, a.wrapping_sub(*b))
+    }
+
+    fn neg(&self, f: T) -> T {
+        self.sub(&T::zero(), &f)
+    }
+
+    fn mul(&self, a: &T, b: &T) -> T {
+        if self.twos == 0 {
+            return self.odd.mul(a, b);
+        }
+        let high = self.odd.mul(&self.high(*a), &self.high(*b));
+        self.join(high, a.wrapping_mul(*b))
+    }
+
+    // Through the value: its inverse by Euclid's algorithm, and the form of that.
+    fn inv(&self, f: T) -> Option<T> {
+        match invm(self.residue(f), self.modulus()) {
+            Some(x) => Some(self.transform(x)),
+            None => None,
+        }
+    }
+
+    fn sqr(&self, f: T) -> T {
+        self.mul(&f, &f)
+    }
+}
+
+/// The two parts of a modulus are an odd number and a power of two, and for an odd modulus the form of
+/// a value is the value times the base.
+pub fn form_laws<T: RingWord>()
+    ensures whole { (m : ℕ) → 1 ≤ m → m < 2 ^ T.width → odd_part T.width m * two_part T.width m ≡ m }
+    ensures odd { (m : ℕ) → 1 ≤ m → m < 2 ^ T.width → odd_part T.width m % 2 ≡ 1 }
+    ensures form { (m v : ℕ) → m % 2 ≡ 1 → split_form T.width m v ≡ (v * 2 ^ T.width) % m }
+{}
+
+#[cfg(test)]
+mod tests;

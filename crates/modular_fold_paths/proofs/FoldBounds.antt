@@ -1,0 +1,55 @@
+-- How far folds in a row take a number that is no more than a product of two numbers below 2^p.
+use Rattle.std.proofs.Common.{◌≡◌, ℕ, zero, suc, ◌+◌, ◌*◌, ◌/◌, ◌%◌, ◌^◌, ◌<◌, ◌≤◌, ap, arith, lit<}
+use Rattle.std.proofs.Math.Nat.{mul-le-mul_right, div-lt_iff_lt-mul, lt-div-mul-add, mod-lt, pow-le-pow_right}
+use Rattle.std.proofs.lemmas.Nat.{shr_split, pow_pos, pow-add, mul-le}
+use Rattle.modular_fold_paths.specs.Folds.{fold_of}
+
+-- a number that is less than 2 * b by c has a quotient of 1 at most
+last_of : (b c q r s : ℕ) → q * b + r ≡ s → r < b → s + c < 2 * b → q * c + r < b
+last_of b c zero r s is low near = omega arith
+last_of b c (suc zero) r s is low near = omega arith
+last_of b c (suc (suc k)) r s is low near = absurd (omega arith)
+
+-- so that one fold takes it below 2^p
+pub last_fold : (p c s : ℕ) → s + c < 2 * 2 ^ p → fold_of p c s < 2 ^ p
+last_fold p c s near =
+    last_of (2 ^ p) c (s / 2 ^ p) (s % 2 ^ p) s (shr_split s p) (mod-lt s (pow_pos p)) near
+
+-- the first fold leaves a part above the bit p of c at most
+pub first_fold : (p c v : ℕ) → v / 2 ^ p < 2 ^ p → fold_of p c v / 2 ^ p ≤ c
+first_fold p c v product =
+    let low = mod-lt v (pow_pos p) in
+    let most : v / 2 ^ p * c + c ≤ 2 ^ p * c = omega (arith, mul-le-mul_right c (let e : suc (v / 2 ^ p) ≤ 2 ^ p = omega arith in e)) in
+    let whole : fold_of p c v < suc c * 2 ^ p = omega (arith, most, low) in
+    let below = (div-lt_iff_lt-mul {x = fold_of p c v} {y = suc c} (pow_pos p)).1 whole in
+    omega (arith, below)
+
+-- and a fold of a number with a part of h at most less than 2^p and h times c
+pub next_fold : (p c h s : ℕ) → s / 2 ^ p ≤ h → fold_of p c s < 2 ^ p + h * c
+next_fold p c h s high =
+    let low = mod-lt s (pow_pos p) in
+    let most : s / 2 ^ p * c ≤ h * c = mul-le-mul_right c high in
+    omega (arith, most, low)
+
+-- by 1, the first fold is less than twice 2^p by 1 at least, so that two folds do
+pub two_low : (p v : ℕ) → v / 2 ^ p < 2 ^ p → fold_of p 1 (fold_of p 1 v) < 2 ^ p
+two_low p v product = last_fold p 1 (fold_of p 1 v) (omega (arith, product, mod-lt v (pow_pos p)))
+
+-- by a small number, three do
+pub three_low : (p c v : ℕ) → c * c + c ≤ 2 ^ p → v / 2 ^ p < 2 ^ p → fold_of p c (fold_of p c (fold_of p c v)) < 2 ^ p
+three_low p c v small product =
+    let near = next_fold p c c (fold_of p c v) (first_fold p c v product) in
+    last_fold p c (fold_of p c (fold_of p c v)) (omega (arith, near))
+
+-- a factor of half as many bits as p has a small square
+pub small_square : (p c : ℕ) → c < 2 ^ (p / 2) → c * c + 2 * c < 2 ^ p
+small_square p c less =
+    let square : suc c * suc c ≤ 2 ^ (p / 2) * 2 ^ (p / 2) = mul-le (suc c) (suc c) (2 ^ (p / 2)) (2 ^ (p / 2)) less less in
+    let whole : 2 ^ (p / 2 + p / 2) ≡ 2 ^ (p / 2) * 2 ^ (p / 2) = pow-add 2 (p / 2) (p / 2) in
+    let halves : p / 2 + p / 2 ≤ p = omega arith in
+    let most = pow-le-pow_right {n = 2} (lit< tt) halves in
+    omega (arith, square, whole, most)
+
+-- a number that has no part above the bit p is below 2^p
+pub low_only : (p v : ℕ) → v / 2 ^ p ≡ 0 → v < 2 ^ p
+low_only p v none = omega (arith, lt-div-mul-add {a = v} (pow_pos p), ap (λ h. h * 2 ^ p) none)
