@@ -1,4 +1,4 @@
-use Rattle.std.proofs.Common.{◌≡◌, ◌*◌, ◌<◌, ap, arith}
+use Rattle.std.proofs.Common.{◌≡◌, ◌*◌, ap, arith}
 use Rattle.modular_barrett.proofs.normalized.Normalized2by1Divisor.div_rem_1by1.Goals as goal
 
 pub returns-then-is_below : goal.returns-then-is_below
