@@ -6,5 +6,3 @@ pub mod callers;
 pub mod equality;
 pub mod polynomial;
 pub mod rings;
-#[cfg(test)]
-mod tests;

@@ -98,5 +98,3 @@ impl DivExactAssign<usize, PreMulInv1by1<usize>> for usize {
     }
 }
 
-#[cfg(test)]
-mod tests;

@@ -96,5 +96,3 @@ impl<T: PlainWord> Normalized2by1Divisor<T> {
     }
 }
 
-#[cfg(test)]
-mod tests;

@@ -74,5 +74,3 @@ impl<T: PlainWord> PreMulInv1by1<T> {
     }
 }
 
-#[cfg(test)]
-mod tests;

@@ -154,5 +154,3 @@ impl<T: PlainWord> Reducer<T> for PreMulInv2by1<T> {
     }
 }
 
-#[cfg(test)]
-mod tests;

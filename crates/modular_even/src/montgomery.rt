@@ -183,5 +183,3 @@ pub fn form_laws<T: RingWord>()
     ensures form { (m v : ℕ) → m % 2 ≡ 1 → split_form T.width m v ≡ (v * 2 ^ T.width) % m }
 {}
 
-#[cfg(test)]
-mod tests;

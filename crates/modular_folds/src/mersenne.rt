@@ -290,5 +290,3 @@ impl<const P: u8, const K: u64> Reducer<u128> for FixedMersenne<P, K> {
     }
 }
 
-#[cfg(test)]
-pub mod tests;

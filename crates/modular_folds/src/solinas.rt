@@ -272,5 +272,3 @@ impl<T: TrinomialWord, F: Trinomial> FoldModulus<T> for TrinomialModulus<T, F> {
     ghost canonical = { λ m. trinomial_canonical m.range };
 }
 
-#[cfg(test)]
-mod tests;

@@ -6,5 +6,3 @@ pub mod neg_mod_inv;
 pub mod odd_ring;
 pub mod preinv;
 pub mod proth;
-#[cfg(test)]
-mod tests;

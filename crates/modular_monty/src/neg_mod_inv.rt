@@ -2,8 +2,6 @@
 
 pub use modular_word::paths::neginv;
 
-#[cfg(test)]
-mod tests;
 pub mod w16;
 pub mod w32;
 pub mod w64;

@@ -13,5 +13,3 @@ pub mod plain_word;
 pub mod power;
 pub mod reciprocal;
 pub mod residues;
-#[cfg(test)]
-mod tests;

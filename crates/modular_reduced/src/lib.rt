@@ -6,6 +6,4 @@ pub mod modular_integer;
 pub mod power;
 pub mod reduced_int;
 pub mod reducer;
-#[cfg(test)]
-mod tests;
 pub mod vanilla;

@@ -12,5 +12,3 @@ pub mod operations;
 pub mod primes;
 pub mod reference_operations;
 pub mod symbols;
-#[cfg(test)]
-mod tests;

@@ -6,6 +6,4 @@ pub mod laws;
 mod order;
 pub mod plain;
 mod stage;
-#[cfg(test)]
-mod tests;
 pub mod transform;

@@ -8,6 +8,4 @@ pub mod path_word;
 pub mod paths;
 pub mod plain;
 pub mod ring_word;
-#[cfg(test)]
-mod tests;
 pub mod word;

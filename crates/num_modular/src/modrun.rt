@@ -18,8 +18,6 @@ use std::alloc::{Allocator, Global};
 use std::io;
 use std::io::Write;
 
-#[cfg(test)]
-mod tests;
 pub mod words;
 
 /// The reducers, by the words that name them.

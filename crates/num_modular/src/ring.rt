@@ -246,5 +246,3 @@ pub fn run<T: RingWord, R: Reducer<T>>(r: &R, regs: &mut [T], commands: &[RingCo
     RunEnd::Done
 }
 
-#[cfg(test)]
-mod tests;

@@ -1,0 +1,5 @@
+//! Rows of the dividers and of exact division.
+#![tactic(auto)]
+
+#[cfg(test)]
+mod tests;

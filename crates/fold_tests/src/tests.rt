@@ -1,0 +1,5 @@
+//! Rows of the reducers and of their reductions.
+
+mod folds;
+mod mersenne;
+mod solinas;

@@ -1,0 +1,343 @@
+//! Every kind of operand of the operators, rows that were worked by hand, and equality.
+
+ghost use Rattle.modular_reduced.specs.Integers.{CanDivide, IsReduced, modulus_of};
+ghost use Rattle.std.specs.Prelude.{◌≡◌, ◌≤◌, ◌%◌};
+
+use integer_callers::callers::*;
+use integer_callers::equality::is_equivalence;
+use integer_callers::polynomial::{horner, value_by_forms, value_of_bytes};
+use modular_reduced::modular_integer::ModularInteger;
+use modular_reduced::reduced_int::{ReducedInt, VanillaInt};
+use modular_reduced::reducer::Reducer;
+use modular_word::ring_word::RingWord;
+use std::test::Fail;
+
+// n modulo 21
+fn ring(n: u8) -> VanillaInt<u8>
+    ensures { IsReduced 21 (n % 21) result }
+{
+    VanillaInt::<u8>::new(n, &21)
+}
+
+// The residues of the sums of two integers, in each form of the operands.
+fn sums_of_two<T: RingWord, R: Reducer<T> + Copy>(
+    a: ReducedInt<T, R>,
+    b: ReducedInt<T, R>,
+) -> [T; 4]
+    requires { modulus_of a ≡ modulus_of b }
+{
+    [
+        (a + b).residue(),
+        (a + &b).residue(),
+        (&a + b).residue(),
+        (&a + &b).residue(),
+    ]
+}
+
+// Those of the sums of an integer and a word.
+fn sums_with_a_word<T: RingWord, R: Reducer<T> + Copy>(a: ReducedInt<T, R>, n: T) -> [T; 4] {
+    [
+        (a + n).residue(),
+        (a + &n).residue(),
+        (&a + n).residue(),
+        (&a + &n).residue(),
+    ]
+}
+
+// Those after each of two sums in place.
+fn sums_in_place<T: RingWord, R: Reducer<T> + Copy>(
+    a: ReducedInt<T, R>,
+    b: ReducedInt<T, R>,
+) -> [T; 2]
+    requires { modulus_of a ≡ modulus_of b }
+{
+    let mut z = a;
+    z += b;
+    let once = z.residue();
+    z += &b;
+    [once, z.residue()]
+}
+
+fn sums_with_words_in_place<T: RingWord, R: Reducer<T> + Copy>(
+    a: ReducedInt<T, R>,
+    m: T,
+    n: T,
+) -> [T; 2] {
+    let mut z = a;
+    z += m;
+    let once = z.residue();
+    z += &n;
+    [once, z.residue()]
+}
+
+#[test]
+fn sums(rt: HostRuntime) {
+    let found = [
+        sums_of_two(ring(20), ring(5)),
+        sums_with_a_word(ring(20), 5),
+    ];
+    assert!(rt; found == [[4; 4]; 2]);
+    let found = [
+        sums_in_place(ring(20), ring(5)),
+        sums_with_words_in_place(ring(9), 255, 5),
+    ];
+    assert!(rt; found == [[4, 9], [12, 17]]);
+    assert!(rt; sum_modulo_21() == 4);
+}
+
+// The residues of the differences of two integers, in each form of the operands.
+fn differences_of_two<T: RingWord, R: Reducer<T> + Copy>(
+    a: ReducedInt<T, R>,
+    b: ReducedInt<T, R>,
+) -> [T; 4]
+    requires { modulus_of a ≡ modulus_of b }
+{
+    [
+        (a - b).residue(),
+        (a - &b).residue(),
+        (&a - b).residue(),
+        (&a - &b).residue(),
+    ]
+}
+
+// Those of the differences of an integer and a word.
+fn differences_with_a_word<T: RingWord, R: Reducer<T> + Copy>(a: ReducedInt<T, R>, n: T) -> [T; 4] {
+    [
+        (a - n).residue(),
+        (a - &n).residue(),
+        (&a - n).residue(),
+        (&a - &n).residue(),
+    ]
+}
+
+// Those after each of two differences in place.
+fn differences_in_place<T: RingWord, R: Reducer<T> + Copy>(
+    a: ReducedInt<T, R>,
+    b: ReducedInt<T, R>,
+) -> [T; 2]
+    requires { modulus_of a ≡ modulus_of b }
+{
+    let mut z = a;
+    z -= b;
+    let once = z.residue();
+    z -= &b;
+    [once, z.residue()]
+}
+
+fn differences_with_words_in_place<T: RingWord, R: Reducer<T> + Copy>(
+    a: ReducedInt<T, R>,
+    m: T,
+    n: T,
+) -> [T; 2] {
+    let mut z = a;
+    z -= m;
+    let once = z.residue();
+    z -= &n;
+    [once, z.residue()]
+}
+
+#[test]
+fn differences(rt: HostRuntime) {
+    let found = [
+        differences_of_two(ring(3), ring(5)),
+        differences_with_a_word(ring(3), 5),
+    ];
+    assert!(rt; found == [[19; 4]; 2]);
+    let found = [
+        differences_in_place(ring(3), ring(5)),
+        differences_with_words_in_place(ring(14), 255, 5),
+    ];
+    assert!(rt; found == [[19, 14], [11, 6]]);
+    assert!(rt; differences_with_a_word(ring(5), 255) == [2; 4]);
+    assert!(rt; difference_modulo_21() == 2);
+}
+
+// The residues of the products of two integers, in each form of the operands.
+fn products_of_two<T: RingWord, R: Reducer<T> + Copy>(
+    a: ReducedInt<T, R>,
+    b: ReducedInt<T, R>,
+) -> [T; 4]
+    requires { modulus_of a ≡ modulus_of b }
+{
+    [
+        (a * b).residue(),
+        (a * &b).residue(),
+        (&a * b).residue(),
+        (&a * &b).residue(),
+    ]
+}
+
+// Those of the products of an integer and a word.
+fn products_with_a_word<T: RingWord, R: Reducer<T> + Copy>(a: ReducedInt<T, R>, n: T) -> [T; 4] {
+    [
+        (a * n).residue(),
+        (a * &n).residue(),
+        (&a * n).residue(),
+        (&a * &n).residue(),
+    ]
+}
+
+// Those after each of two products in place.
+fn products_in_place<T: RingWord, R: Reducer<T> + Copy>(
+    a: ReducedInt<T, R>,
+    b: ReducedInt<T, R>,
+) -> [T; 2]
+    requires { modulus_of a ≡ modulus_of b }
+{
+    let mut z = a;
+    z *= b;
+    let once = z.residue();
+    z *= &b;
+    [once, z.residue()]
+}
+
+fn products_with_words_in_place<T: RingWord, R: Reducer<T> + Copy>(
+    a: ReducedInt<T, R>,
+    m: T,
+    n: T,
+) -> [T; 2] {
+    let mut z = a;
+    z *= m;
+    let once = z.residue();
+    z *= &n;
+    [once, z.residue()]
+}
+
+#[test]
+fn products(rt: HostRuntime) {
+    let found = [
+        products_of_two(ring(10), ring(5)),
+        products_with_a_word(ring(10), 5),
+    ];
+    assert!(rt; found == [[8; 4]; 2]);
+    let found = [
+        products_in_place(ring(10), ring(5)),
+        products_with_words_in_place(ring(19), 255, 5),
+    ];
+    assert!(rt; found == [[8, 19], [15, 12]]);
+    let twelve = VanillaInt::<u8>::new(12, &5);
+    assert!(rt; products_with_a_word(twelve, 13) == [1; 4]);
+}
+
+// The residues of the quotients of two integers, in each form of the operands.
+fn quotients_of_two<T: RingWord, R: Reducer<T> + Copy>(
+    a: ReducedInt<T, R>,
+    b: ReducedInt<T, R>,
+) -> [T; 4]
+    requires { CanDivide a b }
+{
+    [
+        (a / b).residue(),
+        (a / &b).residue(),
+        (&a / b).residue(),
+        (&a / &b).residue(),
+    ]
+}
+
+fn negatives<T: RingWord, R: Reducer<T> + Copy>(a: ReducedInt<T, R>) -> [T; 2] {
+    [(-a).residue(), (-&a).residue()]
+}
+
+// The residue of an integer, if there is one.
+fn residue_if_any<T: RingWord, R: Reducer<T> + Copy>(a: Option<ReducedInt<T, R>>) -> Option<T> {
+    match a {
+        Some(a) => Some(a.residue()),
+        None => None,
+    }
+}
+
+#[test]
+fn negatives_and_quotients(rt: HostRuntime) {
+    assert!(rt; negatives(ring(10)) == [11, 11]);
+    assert!(rt; quotients_of_two(ring(10), five_modulo_21()) == [2; 4]);
+    assert!(rt; quotient_modulo_21() == 2);
+}
+
+#[test]
+fn inverses_and_quotients_if_any(rt: HostRuntime) {
+    let quotients = [
+        residue_if_any(quotient_if_any(ring(10), ring(7))),
+        residue_if_any(quotient_if_any(ring(10), VanillaInt::<u8>::new(5, &22))),
+        residue_if_any(quotient_if_any(ring(10), ring(5))),
+    ];
+    assert!(rt; quotients == [None, None, Some(2)]);
+    let inverses = [residue_if_any(ring(7).inv()), residue_if_any(ring(5).inv())];
+    assert!(rt; inverses == [None, Some(17)]);
+}
+
+// The modulus, the residue and the form of an integer, and the residues of its double and its square.
+fn parts<T: RingWord, R: Reducer<T> + Copy>(a: ReducedInt<T, R>) -> [T; 5] {
+    [
+        a.modulus(),
+        a.residue(),
+        *a.repr(),
+        a.double().residue(),
+        a.square().residue(),
+    ]
+}
+
+fn power<T: RingWord, R: Reducer<T> + Copy>(a: ReducedInt<T, R>, exp: T) -> T {
+    a.pow(&exp).residue()
+}
+
+#[test]
+fn methods(rt: HostRuntime) {
+    assert!(rt; parts(ring(255)) == [21, 3, 3, 6, 9]);
+    let powers = [
+        power(ring(255), 0),
+        power(ring(255), 5),
+        power(VanillaInt::<u8>::new(0, &1), 0),
+    ];
+    assert!(rt; powers == [1, 12, 0]);
+    let a = ring(255);
+    assert!(rt; a.convert(255).residue() == 3);
+    assert!(rt; a.convert(21).is_zero() && !a.is_zero());
+}
+
+#[test]
+fn copies_and_text(rt: HostRuntime) -> Result<(), Fail> {
+    let a = ring(255);
+    assert!(rt; a.clone()? == a);
+    assert!(rt; format!(in rt.alloc(); "{a:?}").is_ok());
+    Ok(())
+}
+
+// Whether `==` is reflexive, symmetric and transitive at the integers of a list.
+fn are_equivalent<I: ModularInteger>(all: &[I]) -> bool {
+    for a in all {
+        for b in all {
+            for c in all {
+                if !is_equivalence(a, b, c) {
+                    return false;
+                }
+            }
+        }
+    }
+    true
+}
+
+// n modulo m.
+fn integer(n: u8, m: u8) -> VanillaInt<u8>
+    requires { 1 ≤ m }
+{
+    VanillaInt::<u8>::new(n, &m)
+}
+
+#[test]
+fn equality(rt: HostRuntime) {
+    let (three, seven, other) = (integer(3, 7), integer(10, 7), integer(3, 11));
+    assert!(rt; are_equal(&seven, &three));
+    assert!(rt; !are_equal(&three, &other));
+    assert!(rt; are_equivalent(&[three, seven, other]));
+}
+
+#[test]
+fn polynomials(rt: HostRuntime) {
+    assert!(rt; value_of_bytes() == 19);
+    assert!(rt; value_by_forms() == 19);
+}
+
+#[test]
+fn the_polynomial_of_no_coefficients(rt: HostRuntime) {
+    assert!(rt; horner(&[], integer(7, 21)).residue() == 0);
+}

@@ -1,0 +1,5 @@
+//! Rows of the plain reducer, of the laws of rings and of the reducer by a reciprocal.
+#![tactic(auto)]
+
+#[cfg(test)]
+mod tests;

@@ -1,0 +1,4 @@
+//! Rows of `run`, and what the program prints and answers.
+
+mod modrun;
+mod ring;
