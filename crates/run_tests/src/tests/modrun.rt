@@ -2,8 +2,8 @@
 
 ghost use Rattle.std.specs.Prelude.{◌≤◌};
 
-use num_modular::modrun::words::{command, number};
-use num_modular::modrun::{ReducerName, run_words};
+use num_modular::modrun::run_words;
+use std::alloc::Global;
 use std::io::Write;
 use std::{io, str};
 
