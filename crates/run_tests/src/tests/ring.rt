@@ -1,5 +1,6 @@
 //! Runs over the plain reducer of 21.
 
+use modular_reduced::reducer::Reducer;
 use modular_reduced::vanilla::Vanilla;
 use num_modular::ring::{RingCommand, RunEnd, all_checked, commands_fit, run};
 
