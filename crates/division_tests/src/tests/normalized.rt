@@ -1,5 +1,7 @@
 //! Rows that were worked by hand, and every divisor and dividend of 8 bits against `/` and `%`.
 
+ghost use Rattle.std.specs.Prelude.{◌≤◌, ◌<◌, ◌*◌};
+
 use modular_barrett::normalized::Normalized2by1Divisor;
 
 // The reciprocal of a divisor, and what it divides a number into.
