@@ -1,11 +1,11 @@
 //! The reducers of fixed moduli, and integers over them.
 
-use super::runs::{ends_with, modulus, product, sum};
 use num_modular::ring::{RingCommand, RunEnd};
 use num_modular::{
     FixedMontgomery32, FixedMontgomery64, FixedMontgomeryInt32, FixedMontgomeryInt64, FixedProth32,
     FixedProth64, FixedProthInt32, FixedProthInt64, Reducer, Vanilla,
 };
+use run_helpers::{ends_with, modulus, product, sum};
 
 // 255, its inverse, its powers 0 and 1, and its negative.
 const OF_255: [RingCommand<u32>; 5] = [

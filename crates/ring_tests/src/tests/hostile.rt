@@ -1,10 +1,10 @@
 //! Commands at the edges of a byte's moduli, with the forms that each reducer leaves.
 
-use super::runs::leaves;
 use num_modular::ring::{RingCommand, RunEnd};
 use num_modular::{
     FixedMontgomery32, FixedTrinomialSolinas32, Montgomery, PreMulInv2by1, Reducer, Vanilla,
 };
+use run_helpers::leaves;
 
 const MODULO_1: [RingCommand<u8>; 5] = [
     RingCommand::Load { dst: 0, n: 255 },

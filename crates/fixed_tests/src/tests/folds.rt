@@ -1,6 +1,5 @@
 //! The reducers of moduli near a power of two, and the same commands over each.
 
-use super::runs::{ends_with, modulus, multiples, product, sum};
 use num_modular::ring::{RingCommand, RunEnd};
 use num_modular::word::RingWord;
 use num_modular::{
@@ -8,6 +7,7 @@ use num_modular::{
     FixedMersenneInt64, FixedSolinasInt32, FixedSolinasInt64, FixedTrinomialSolinas32,
     FixedTrinomialSolinas64, ModularAbs, Reducer, Vanilla, imax, umax,
 };
+use run_helpers::{ends_with, modulus, multiples, product, sum};
 
 // Two loads, a product, an inverse and a difference; then the inverse of 0, which doesn't exist.
 fn commands<T: RingWord>(greatest: T, last: T) -> [RingCommand<T>; 6] {

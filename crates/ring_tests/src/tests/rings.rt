@@ -1,9 +1,9 @@
 //! The same commands over each reducer.
 
-use super::runs::{leaves, run_over};
 use num_modular::ring::{RingCommand, RunEnd};
 use num_modular::word::RingWord;
 use num_modular::{Montgomery, PreMulInv2by1, Reducer, Vanilla};
+use run_helpers::{leaves, run_over};
 
 // Every command; a run ends where an inverse is missing.
 fn commands<T: RingWord>(x: T, y: T, exp: T) -> [RingCommand<T>; 12] {

@@ -1,6 +1,5 @@
 //! Reducers at the edges of their parameters, each beside the plain reducer of its modulus.
 
-use super::runs::ends_with;
 use num_modular::ring::{RingCommand, RunEnd};
 use num_modular::word::RingWord;
 use num_modular::{
@@ -8,6 +7,7 @@ use num_modular::{
     FixedProth32, FixedProth64, FixedTrinomialSolinas32, FixedTrinomialSolinas64, Montgomery,
     PreMulInv2by1, Reducer, Vanilla,
 };
+use run_helpers::ends_with;
 
 // The residues of 0, 1, m - 1, m and a greatest word, m being the modulus, and that of (m - 1)^2.
 fn edges<T: RingWord, R: Reducer<T>>(ring: &R, last: T, greatest: T) -> [T; 6] {

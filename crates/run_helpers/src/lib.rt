@@ -1,4 +1,5 @@
-//! A run over any reducer, and the calls of its integers, for the tests of each family.
+//! A run over any reducer, and the calls of its integers, for the crates of tests.
+#![tactic(auto)]
 
 use num_modular::ring::{RingCommand, RunEnd, all_checked, commands_fit, run};
 use num_modular::word::RingWord;

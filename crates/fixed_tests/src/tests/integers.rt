@@ -1,12 +1,12 @@
 //! Integers of a ring, powers with their count, and the program's body.
 
-use super::runs::{multiples, product, sum};
 use num_modular::modrun::run_words;
 use num_modular::modrun::words::{command, number};
 use num_modular::reduced::pow_counted;
 use num_modular::ring::RingCommand;
 use num_modular::word::RingWord;
 use num_modular::{ModularInteger, MontgomeryInt, ReducedInt, Reducer, Vanilla, VanillaInt};
+use run_helpers::{multiples, product, sum};
 
 // What the form, the residue and the modulus of an integer are, and whether it is the integer of a word.
 fn parts<T: RingWord, R: Reducer<T> + Copy>(a: ReducedInt<T, R>, n: T) -> ([T; 3], bool) {

@@ -1,0 +1,5 @@
+//! Integers and runs, by family.
+
+mod fixed;
+mod folds;
+mod integers;
