@@ -156,8 +156,11 @@ impl<T: PlainWord, M: OddModulus<T>> Reducer<T> for OddRing<T, M> {
 /// An odd modulus that is known when the program runs, with what is computed once of it.
 #[derive(Debug)]
 pub struct StoredModulus<T: PlainWord> {
+    /// The modulus m.
     pub modulus: T,
+    /// The number n below the base with m * n congruent to -1 modulo the base.
     pub negated_inverse: T,
+    /// The square of the base modulo m.
     pub square: T,
     ghost ring: { IsOddRing T.width T.base (T.number modulus) (T.number negated_inverse) (T.number square) },
 }
