@@ -97,4 +97,3 @@ impl DivExactAssign<usize, PreMulInv1by1<usize>> for usize {
         assign_exact(self, d, pre)
     }
 }
-

@@ -95,4 +95,3 @@ impl<T: PlainWord> Normalized2by1Divisor<T> {
         }
     }
 }
-

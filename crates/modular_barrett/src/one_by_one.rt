@@ -73,4 +73,3 @@ impl<T: PlainWord> PreMulInv1by1<T> {
         }
     }
 }
-

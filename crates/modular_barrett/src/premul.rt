@@ -153,4 +153,3 @@ impl<T: PlainWord> Reducer<T> for PreMulInv2by1<T> {
         self.mul(&f, &f)
     }
 }
-

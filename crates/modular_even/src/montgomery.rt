@@ -182,4 +182,3 @@ pub fn form_laws<T: RingWord>()
     ensures odd { (m : ℕ) → 1 ≤ m → m < 2 ^ T.width → odd_part T.width m % 2 ≡ 1 }
     ensures form { (m v : ℕ) → m % 2 ≡ 1 → split_form T.width m v ≡ (v * 2 ^ T.width) % m }
 {}
-

@@ -169,4 +169,3 @@ pub fn fold_laws()
     ensures next { (p c hi lo : ℕ) → c < 2 ^ p → lo < 2 ^ p → 0 < hi → folds p c (hi * 2 ^ p + lo) ≡ 1 + folds p c (hi * c + lo) }
     ensures few { (p c v : ℕ) → 2 * c < 2 ^ p → IsFewFolds p c v (folds p c v) }
 {}
-

@@ -289,4 +289,3 @@ impl<const P: u8, const K: u64> Reducer<u128> for FixedMersenne<P, K> {
         self.ring.sqr(Self::narrow(f)) as u128
     }
 }
-

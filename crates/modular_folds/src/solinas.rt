@@ -271,4 +271,3 @@ impl<T: TrinomialWord, F: Trinomial> FoldModulus<T> for TrinomialModulus<T, F> {
 
     ghost canonical = { λ m. trinomial_canonical m.range };
 }
-

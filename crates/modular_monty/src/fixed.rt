@@ -124,4 +124,3 @@ impl<const P: u64> OddModulus<u64> for OddNumber64<P> {
 
     ghost is_odd_ring = { λ m. m.ring };
 }
-

@@ -83,4 +83,3 @@ fn double_quotient<T: PathWord>(n: T::Double, d: T, pre: &PreModInv<T>) -> Optio
 {
     exact_2(d, pre.d_inv, pre.q_lim, n)
 }
-

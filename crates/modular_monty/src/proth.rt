@@ -190,4 +190,3 @@ impl<const N: u8, const K: u8> OddModulus<u64> for ProthNumber64<N, K> {
 
     ghost is_odd_ring = { λ m. m.ring };
 }
-

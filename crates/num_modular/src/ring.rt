@@ -245,4 +245,3 @@ pub fn run<T: RingWord, R: Reducer<T>>(r: &R, regs: &mut [T], commands: &[RingCo
     }
     RunEnd::Done
 }
-
