@@ -5,35 +5,8 @@ ghost use Rattle.num_modular.specs.Residues.{residue};
 ghost use Rattle.residue_numbers.specs.Systems.{range_of, IsSmallSystem, AreResidues};
 
 use crate::{decode, encode, is_system};
+use num_modular::ModularCoreOps;
 use num_modular::laws::residue_laws;
-use num_modular::{ModularInteger, VanillaInt};
-
-// The sum of two numbers modulo m.
-#[tactic(auto, using(num_modular::specs::Remainders::remainders))]
-fn sum(m: u64, a: u64, b: u64) -> u64
-    requires { 1 ≤ m }
-    ensures { result ≡ (a + b) % m }
-{
-    (VanillaInt::<u64>::new(a, &m) + b).residue()
-}
-
-// The difference of two numbers modulo m.
-fn difference(m: u64, a: u64, b: u64) -> u64
-    requires { 1 ≤ m }
-    ensures { result ≡ residue m (pos a -ℤ pos b) }
-{
-    residue_laws();
-    (VanillaInt::<u64>::new(a, &m) - b).residue()
-}
-
-// The product of two numbers modulo m.
-#[tactic(auto, using(num_modular::specs::Remainders::remainders))]
-fn product(m: u64, a: u64, b: u64) -> u64
-    requires { 1 ≤ m }
-    ensures { result ≡ (a * b) % m }
-{
-    (VanillaInt::<u64>::new(a, &m) * b).residue()
-}
 
 /// A residue number system: up to eight moduli above 0, of which no two have a common divisor but 1,
 /// and whose product, the range, is below 2^128.
@@ -99,7 +72,7 @@ impl<'a> ResidueSystem<'a> {
     {
         let moduli = self.moduli;
         'moduli: for (place, modulus) in moduli.iter().enumerate() {
-            sums[place] = sum(*modulus, left[place], right[place]);
+            sums[place] = left[place].addm(right[place], modulus);
         }
     }
 
@@ -119,7 +92,7 @@ impl<'a> ResidueSystem<'a> {
         residue_laws();
         let moduli = self.moduli;
         'moduli: for (place, modulus) in moduli.iter().enumerate() {
-            differences[place] = difference(*modulus, left[place], right[place]);
+            differences[place] = left[place].subm(right[place], modulus);
         }
     }
 
@@ -138,7 +111,7 @@ impl<'a> ResidueSystem<'a> {
     {
         let moduli = self.moduli;
         'moduli: for (place, modulus) in moduli.iter().enumerate() {
-            products[place] = product(*modulus, left[place], right[place]);
+            products[place] = left[place].mulm(right[place], modulus);
         }
     }
 }
