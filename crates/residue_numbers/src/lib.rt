@@ -117,6 +117,3 @@ pub fn decode(moduli: &[u64], residues: &[u64]) -> u128
     }
     number
 }
-
-#[cfg(test)]
-mod tests;

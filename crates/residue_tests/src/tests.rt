@@ -1,7 +1,7 @@
 //! Numbers by their residues, with values from outside.
 
-use super::*;
 use num_modular::ring::{RingCommand, commands_fit};
+use residue_numbers::{ResidueSystem, are_reduced, decode, encode, is_system};
 
 // Whether the moduli are a system in which the number has these residues, and is decoded from them.
 fn there_and_back(moduli: &[u64], number: u128, residues: &[u64]) -> bool {

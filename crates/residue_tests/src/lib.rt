@@ -1,0 +1,5 @@
+//! Rows of `residue_numbers`.
+#![tactic(auto)]
+
+#[cfg(test)]
+mod tests;
