@@ -89,11 +89,11 @@ impl<'a> ResidueSystem<'a> {
             AreResidues moduli left.now x → AreResidues moduli right.now y →
             AreResidues moduli differences.new (residue (range_of moduli) (pos x -ℤ pos y)) }
     {
-        residue_laws();
         let moduli = self.moduli;
         'moduli: for (place, modulus) in moduli.iter().enumerate() {
             differences[place] = left[place].subm(right[place], modulus);
         }
+        residue_laws();
     }
 
     /// The products of residues, each modulo its modulus: from those of x and of y the residues of
