@@ -1,4 +1,4 @@
-//! Rows of the folds and of the reducers by folds.
+//! Rows of the reducers by folds.
 #![tactic(auto)]
 
 #[cfg(test)]

@@ -1,5 +1,4 @@
 //! Rows of the reducers and of their reductions.
 
-mod folds;
 mod mersenne;
 mod solinas;

@@ -27,9 +27,9 @@ fn fold<V: FoldWord>(v: V, p: u32, mask: V, c: V) -> (V, u32)
     }
 }
 
-/// Two folds in a row, which are enough for a product of two numbers below 2^p where c is 1: a number
-/// below 2^p of the same remainder modulo m, and how many folds had anything to fold.
-pub fn fold_two<V: FoldWord>(v: V, p: u32, mask: V, c: V, m: V) -> (V, u32)
+// Two folds in a row, which are enough for a product of two numbers below 2^p where c is 1: a number
+// below 2^p of the same remainder modulo m, and how many folds had anything to fold.
+fn fold_two<V: FoldWord>(v: V, p: u32, mask: V, c: V, m: V) -> (V, u32)
     requires folding { IsFolding V.width p (V.number c) (V.number m) }
     requires inside { p < V.width }
     requires mask { V.number mask + 1 ≡ 2 ^ p }
@@ -44,9 +44,9 @@ pub fn fold_two<V: FoldWord>(v: V, p: u32, mask: V, c: V, m: V) -> (V, u32)
     (second, one + two)
 }
 
-/// Three folds in a row, which are enough for a product of two numbers below 2^p where c·(c + 1) is at
-/// most 2^p: a number below 2^p of the same remainder modulo m, and how many folds had anything to fold.
-pub fn fold_three<V: FoldWord>(v: V, p: u32, mask: V, c: V, m: V) -> (V, u32)
+// Three folds in a row, which are enough for a product of two numbers below 2^p where c·(c + 1) is at
+// most 2^p: a number below 2^p of the same remainder modulo m, and how many folds had anything to fold.
+fn fold_three<V: FoldWord>(v: V, p: u32, mask: V, c: V, m: V) -> (V, u32)
     requires folding { IsFolding V.width p (V.number c) (V.number m) }
     requires inside { p < V.width }
     requires mask { V.number mask + 1 ≡ 2 ^ p }
@@ -169,3 +169,6 @@ pub fn fold_laws()
     ensures next { (p c hi lo : ℕ) → c < 2 ^ p → lo < 2 ^ p → 0 < hi → folds p c (hi * 2 ^ p + lo) ≡ 1 + folds p c (hi * c + lo) }
     ensures few { (p c v : ℕ) → 2 * c < 2 ^ p → IsFewFolds p c v (folds p c v) }
 {}
+
+#[cfg(test)]
+mod tests;

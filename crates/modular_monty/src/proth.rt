@@ -29,8 +29,8 @@ impl<const N: u8, const K: u8> ProthNumber32<N, K> {
         ((K as u32) << N) + 1
     }
 
-    /// The product with the modulus, by a product with K and a shift.
-    pub fn shift_mul(&self, x: u32) -> u64
+    // The product with the modulus, by a product with K and a shift.
+    fn shift_mul(&self, x: u32) -> u64
         ensures { result ≡ x * proth_modulus N K }
     {
         ((x as u64 * K as u64) << N) + x as u64
@@ -119,8 +119,8 @@ impl<const N: u8, const K: u8> ProthNumber64<N, K> {
         ((K as u64) << N) + 1
     }
 
-    /// The product with the modulus, by a product with K and a shift.
-    pub fn shift_mul(&self, x: u64) -> u128
+    // The product with the modulus, by a product with K and a shift.
+    fn shift_mul(&self, x: u64) -> u128
         ensures { result ≡ x * proth_modulus N K }
     {
         ((x as u128 * K as u128) << N) + x as u128
@@ -190,3 +190,6 @@ impl<const N: u8, const K: u8> OddModulus<u64> for ProthNumber64<N, K> {
 
     ghost is_odd_ring = { λ m. m.ring };
 }
+
+#[cfg(test)]
+mod tests;

@@ -43,11 +43,7 @@ fn fixed_moduli(rt: HostRuntime) {
 #[test]
 fn reductions_with_a_carry(rt: HostRuntime) {
     let ring = FixedProth32::<27, 17>::new(&2281701377);
-    let found = (
-        remainder(&ring, 4294967295),
-        ring.kept.shift_mul(4294967295),
-    );
-    assert!(rt; found == (2013265918, 9799832791171465215));
+    assert!(rt; remainder(&ring, 4294967295) == 2013265918);
     // (m - 1) * 2^32 + m: the sum is (2 * m - 1) * 2^32, which passes 64 bits
     assert!(rt; ring.reduce(9799832791439900673) == 2281701376);
     let ring = FixedProth32::<28, 9>::new(&2415919105);

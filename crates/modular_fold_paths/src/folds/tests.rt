@@ -1,6 +1,6 @@
 //! Rows of the reduction.
 
-use modular_fold_paths::folds::{fold_all, fold_three, fold_two, reduce_by_folds};
+use super::{fold_all, fold_three, fold_two, reduce_by_folds};
 
 #[test]
 fn greatest_dividends(rt: HostRuntime) {
