@@ -12,5 +12,3 @@ pub mod laws;
 pub mod operations;
 pub mod remainders;
 pub mod squares;
-#[cfg(test)]
-mod tests;

@@ -1,4 +1,4 @@
-//! Rows of integers, and of runs over the reducers of a parameter.
+//! Rows of integers and runs over the reducers of a parameter.
 #![tactic(auto)]
 
 #[cfg(test)]

@@ -2,4 +2,3 @@
 
 mod fixed;
 mod folds;
-mod integers;

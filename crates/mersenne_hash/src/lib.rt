@@ -94,6 +94,3 @@ pub fn find(base: Hash, text: &[u8], pattern: &[u8]) -> Option<usize>
         None
     }
 }
-
-#[cfg(test)]
-mod tests;

@@ -3,5 +3,3 @@
 
 pub mod first_use;
 pub mod names;
-#[cfg(test)]
-mod tests;

@@ -4,5 +4,3 @@
 
 pub mod operations;
 pub mod symbols;
-#[cfg(test)]
-mod tests;

@@ -124,6 +124,3 @@ pub fn restore(m: u64, weights: &[u64], word: &[u64], place: usize) -> u64
     let weight = sum.convert(weights[place]);
     (sum.convert(word[place]) - sum / weight).residue()
 }
-
-#[cfg(test)]
-mod tests;

@@ -1,5 +1,6 @@
 //! Known values of the symbols.
 
+mod callers;
 mod counted;
 mod large;
 mod least;

@@ -2,6 +2,8 @@
 
 use modular_barrett::one_by_one::PreMulInv1by1;
 use modular_prim::exact::{DivExact, DivExactAssign};
+use modular_prim::numbered::Numbered;
+use std::process::Abort;
 
 #[test]
 fn rows(rt: HostRuntime) {
@@ -62,4 +64,28 @@ fn every_byte(rt: HostRuntime) {
             assert!(rt; number == want.unwrap_or(n), "{n} by {d}");
         }
     }
+}
+
+// 252 and 253 by 7, and 252 divided in place twice.
+fn assert_exact<T: DivExactAssign<T, ()> + Numbered + Copy + PartialEq + From<u8>>(
+    rt: &impl Abort,
+    seven: T,
+    pre: &(),
+)
+    requires { T.fits seven pre.now }
+{
+    let mut number = T::from(252);
+    assert!(rt; number.div_exact(seven, pre) == Some(T::from(36)));
+    assert!(rt; T::from(253).div_exact(seven, pre) == None);
+    assert!(rt; number.div_exact_assign(seven, pre) && number == T::from(36));
+    assert!(rt; !number.div_exact_assign(seven, pre) && number == T::from(36));
+}
+
+#[test]
+fn exact_quotients(rt: HostRuntime) {
+    assert_exact(&rt, 7u8, &());
+    assert_exact(&rt, 7u16, &());
+    assert_exact(&rt, 7u32, &());
+    assert_exact(&rt, 7u64, &());
+    assert_exact(&rt, 7u128, &());
 }

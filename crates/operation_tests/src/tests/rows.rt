@@ -2,7 +2,6 @@
 
 ghost use Rattle.std.specs.Prelude.{◌≤◌};
 
-use modular_prim::exact::{DivExact, DivExactAssign};
 use modular_prim::numbered::Numbered;
 use modular_prim::operations::{ModularAbs, ModularCoreOps, ModularPow, ModularUnaryOps};
 use modular_prim::plain_word::PlainWord;
@@ -275,28 +274,4 @@ fn least_signed_numbers(rt: HostRuntime) {
         i128::MIN.absm(&7),
     );
     assert!(rt; residues == (2, 9223372036854775807, 5));
-}
-
-// 252 and 253 by 7, and 252 divided in place twice.
-fn assert_exact<T: DivExactAssign<T, ()> + Numbered + Copy + PartialEq + From<u8>>(
-    rt: &impl Abort,
-    seven: T,
-    pre: &(),
-)
-    requires { T.fits seven pre.now }
-{
-    let mut number = T::from(252);
-    assert!(rt; number.div_exact(seven, pre) == Some(T::from(36)));
-    assert!(rt; T::from(253).div_exact(seven, pre) == None);
-    assert!(rt; number.div_exact_assign(seven, pre) && number == T::from(36));
-    assert!(rt; !number.div_exact_assign(seven, pre) && number == T::from(36));
-}
-
-#[test]
-fn exact_quotients(rt: HostRuntime) {
-    assert_exact(&rt, 7u8, &());
-    assert_exact(&rt, 7u16, &());
-    assert_exact(&rt, 7u32, &());
-    assert_exact(&rt, 7u64, &());
-    assert_exact(&rt, 7u128, &());
 }

@@ -1,7 +1,7 @@
 //! Real numbers with check symbols: every change of one symbol, exchanges of neighbours, and erased
 //! symbols.
 
-use super::*;
+use ring_codes::{EAN_13, ISBN_10, accepts, can_restore, finds_change, finds_exchange, restore};
 
 // 0-306-40615-2 and 0-8044-2957-X (ISO 2108).
 const BOOKS: [[u64; 10]; 2] = [

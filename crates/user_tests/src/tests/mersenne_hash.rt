@@ -1,6 +1,7 @@
 //! Hashes and searches, with values from outside.
 
-use super::*;
+use mersenne_hash::{Hash, base, find, hash, moved};
+use num_modular::ModularInteger;
 
 // A text, a pattern, and the first position where it stands.
 const SEARCHES: [(&[u8], &[u8], Option<usize>); 14] = [

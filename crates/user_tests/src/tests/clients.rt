@@ -1,16 +1,16 @@
 //! Rows of each client; the values were computed with Python.
 
-use crate::commands::{product_by_commands, residue_over_copies};
-use crate::cubic::cubic;
-use crate::each_reducer::{
+use clients::commands::{product_by_commands, residue_over_copies};
+use clients::cubic::cubic;
+use clients::each_reducer::{
     by_montgomery, by_plain_remainders, by_reciprocals, modulo_13, modulo_15, modulo_17, modulo_29,
     modulo_31, modulo_97, modulo_127, modulo_241, modulo_247,
 };
-use crate::hashes::hash;
-use crate::inner_products::inner_product_of_four;
-use crate::operations::{product_and_sum, square};
-use crate::remainders::from_remainders;
-use crate::squares::is_quadratic_residue;
+use clients::hashes::hash;
+use clients::inner_products::inner_product_of_four;
+use clients::operations::{product_and_sum, square};
+use clients::remainders::from_remainders;
+use clients::squares::is_quadratic_residue;
 use num_modular::prim::is_prime_by_search;
 use num_modular::{Montgomery, Reducer};
 
