@@ -19,6 +19,9 @@ pair_by is h = record {
   subtracted = chained (added (itself _) (multiplied (itself _) (turned is))) (chained h.subtracted (multiplied (itself _) is));
 }
 
+pub none_between : (a i : ℕ) → a ≤ i → i < a + 0 → ⊥
+none_between a i s t = omega arith
+
 -- nothing is done where there are no blocks or no columns
 pub none_done : (m : ℕ) (power : ℕ → ℕ) (h a b c d : ℕ) (x : ℕ → ℕ) → ((p i : ℕ) → a ≤ p → p < b → c ≤ i → i < d → ⊥)
     → PairsDone m power h a b c d x x

@@ -1,7 +1,7 @@
 //! One stage of a transform in place: the sums and differences of pairs, by strips of columns.
 
-ghost use Rattle.std.specs.Prelude.{◌≡◌, ◌+◌, ◌*◌, ◌<◌, All, length, slice_index};
-ghost use Rattle.modular_reduced.specs.Forms.{IsForm};
+ghost use Rattle.std.specs.Prelude.{◌≡◌, ◌+◌, ◌*◌, ◌%◌, ◌<◌, All, length, slice_index};
+ghost use Rattle.modular_reduced.specs.Forms.{Represents, IsForm};
 ghost use Rattle.modular_reduced.specs.Values.{values_of};
 ghost use Rattle.modular_transform.specs.Stages.{PairDone, IsStage};
 
@@ -28,6 +28,19 @@ fn pair<T: RingWord, R: Reducer<T>>(r: &R, forms: &mut [T], first: usize, second
     let difference = r.sub(&a, &b);
     forms[second] = r.mul(&difference, power);
     forms[first] = r.add(&a, &b);
+}
+
+// Multiplies the running power by the root, and answers what it was before. It takes one product.
+fn advance<T: RingWord, R: Reducer<T>>(r: &R, running: &mut T, root: &T) -> T
+    requires running { IsForm R.form R.value (R.modulus r.now) (T.number running.old) }
+    requires root { IsForm R.form R.value (R.modulus r.now) (T.number root.now) }
+    ensures last { result ≡ running.old }
+    ensures next { let m = R.modulus r.now in
+        Represents R.form m (T.number running.new) ((R.value m (T.number running.old) * R.value m (T.number root.now)) % m) }
+{
+    let last = *running;
+    *running = r.mul(&last, root);
+    last
 }
 
 /// A stage with a root: in each block of `half` and `half` entries the pair of column i becomes its
@@ -58,8 +71,7 @@ pub fn stage<T: RingWord, R: Reducer<T>>(
     'strips: while column < half {
         let width = STRIP.min(half - column);
         'fill: for i in 0..width {
-            powers[i] = running;
-            running = r.mul(&running, root);
+            powers[i] = advance(r, &mut running, root);
             products += 1;
         }
         'each_block: for block in 0..blocks {

@@ -1,8 +1,8 @@
-use Rattle.std.proofs.Common.{rules, ◌≡◌, ℕ, ◌+◌, ◌-◌, ◌*◌, ◌%◌, ◌^◌, ◌<◌, length, ◌∙◌, ap, arith, subst}
+use Rattle.std.proofs.Common.{rules, ◌≡◌, ℕ, ◌+◌, ◌-◌, ◌*◌, ◌%◌, ◌^◌, ◌<◌, length, sym, ◌∙◌, ap, arith, subst}
 use Rattle.modular_reduced.specs.Forms.{Represents}
 use Rattle.modular_reduced.proofs.FormLemmas.{form_of_value}
 use Rattle.modular_transform.specs.Stages.{PairsDone}
-use Rattle.modular_transform.proofs.PairLemmas.{none_done, one_done, columns_joined, blocks_joined, done_by, stage_done, block_fits, columns_fit, pairs_fit}
+use Rattle.modular_transform.proofs.PairLemmas.{none_between, none_done, one_done, columns_joined, blocks_joined, done_by, stage_done, block_fits, columns_fit, pairs_fit}
 use Rattle.modular_transform.proofs.StripPowers.{one_form, first_power, power_first, power_next, strip_power, strip_next}
 use Rattle.modular_transform.proofs.ValueLemmas.{values, value_at, forms_written, entry_done}
 use Rattle.modular_transform.proofs.stage.stage.Goals as goal
@@ -81,7 +81,7 @@ strips-init g c =
       running_form = form;
       running = first_power w canonical c.one.ensures c.transform-running.ensures.form;
       within = omega arith;
-      done = none_done m (λ i. w ^ i) c.args.half 0 c.args.blocks 0 0 (values number value m c.args.forms.now) (λ p i u v s t. absurd (omega arith));
+      done = none_done m (λ i. w ^ i) c.args.half 0 c.args.blocks 0 0 (values number value m c.args.forms.now) (λ p i u v s t. none_between 0 i s t);
       count = omega arith;
     }
 
@@ -93,6 +93,49 @@ fill-init g c = record {
   count = let n = c.strips.invariant.count in omega (arith, n);
 }
 
+pub each_block-init : goal.each_block-init
+each_block-init g c =
+    let m = g.R.Reducer.modulus c.args.r.now in
+    let number = g.T.RingWord.number in
+    let value = g.R.Reducer.value in
+    let column = c.strips.column in
+    let width = c.min-width.result in
+    let power = λ (j : ℕ). values number value m c.fill.powers (j - column) in
+    let all : c.fill.i ≡ width = omega arith in
+    let count = c.fill.invariant.count in
+    record {
+      checked = c.strips.invariant.checked;
+      done = none_done m power c.args.half 0 0 column (column + width) (values number value m c.strips.forms) (λ p i u v s t. none_between 0 p u v);
+      count = omega (arith, count, all);
+    }
+
+pub advance-requires-clause-running : goal.advance-requires-clause-running
+advance-requires-clause-running g c = form_of_value (g.met.R.Reducer.canonical c.args.r.now) c.fill.invariant.running
+
+pub advance-requires-clause-root : goal.advance-requires-clause-root
+advance-requires-clause-root g c = c.requires.root
+
+pub pair-requires-clause-checked : goal.pair-requires-clause-checked
+pair-requires-clause-checked g c = c.columns.invariant.checked
+
+pub pair-requires-clause-power : goal.pair-requires-clause-power
+pair-requires-clause-power g c =
+    let least = c.min-width.ensures in
+    c.fill.invariant.powers c.columns.k c.index-powers-k.result (omega (arith, least))
+
+pub pair-requires-clause-order : goal.pair-requires-clause-order
+pair-requires-clause-order g c = let least = c.min-width.ensures in omega (arith, least)
+
+pub returns-clause-checked : goal.returns-clause-checked
+returns-clause-checked g c = c.strips.invariant.checked
+
+pub returns-clause-count : goal.returns-clause-count
+returns-clause-count g c =
+    let count = c.strips.invariant.count in
+    let within = c.strips.invariant.within in
+    let all : c.strips.column ≡ c.args.half = omega arith in
+    count ∙ ap (λ n. n * (c.args.blocks + 1)) all
+
 pub fill-preserved : goal.fill-preserved
 fill-preserved g c =
     let m = g.R.Reducer.modulus c.args.r.now in
@@ -103,11 +146,26 @@ fill-preserved g c =
     let w = value m (number c.args.root.now) in
     let i = c.fill.i in
     let before = c.fill.invariant in
+    let here = subst (λ f. Represents g.R.Reducer.form m (number f) ((s * w ^ i) % m)) (sym c.advance.ensures.last) before.running in
     record {
-      powers = forms_written number g.R.Reducer.form value _ m c.fill.powers i _ c.fill.running canonical before.running before.powers;
-      running = power_next s w i canonical before.running c.mul-running.ensures.form;
-      written = entry_done number value m c.fill.powers i c.fill.running (λ k. (s * w ^ k) % m) (omega arith) before.written (canonical.one_value _ _ before.running);
+      powers = forms_written number g.R.Reducer.form value _ m c.fill.powers i ((s * w ^ i) % m) c.advance.result canonical here before.powers;
+      running = power_next s w i canonical before.running c.advance.ensures.next;
+      written = entry_done number value m c.fill.powers i c.advance.result (λ k. (s * w ^ k) % m) (omega arith) before.written (canonical.one_value _ _ here);
       count = let n = before.count in omega (arith, n);
+    }
+
+pub columns-init : goal.columns-init
+columns-init g c =
+    let m = g.R.Reducer.modulus c.args.r.now in
+    let number = g.T.RingWord.number in
+    let value = g.R.Reducer.value in
+    let p = c.each_block.block in
+    let column = c.strips.column in
+    let power = λ (j : ℕ). values number value m c.fill.powers (j - column) in
+    record {
+      checked = c.each_block.invariant.checked;
+      done = none_done m power c.args.half p (p + 1) column (column + 0) (values number value m c.each_block.forms) (λ q i u v s t. none_between column i s t);
+      count = let n = c.each_block.invariant.count in omega (arith, n);
     }
 
 pub columns-preserved : goal.columns-preserved
@@ -132,7 +190,7 @@ columns-preserved g c =
     let is_power = value_at number value m powers k c.index-powers-k.result within ∙ ap (values number value m powers) place in
     let next : i + 1 ≡ column + (k + 1) = omega arith in
     let one = one_done power h p i y z (omega (arith, least)) (omega arith) (omega arith) is_power c.pair.ensures.done in
-    let joined = columns_joined {power = power} x y z (omega arith) (omega arith) (omega (arith, least)) before.done one in
+    let joined = columns_joined {m = m} {h = h} {a = p} {b = p + 1} {c = column} {d = i} {e = i + 1} {power = power} x y z (omega arith) (omega arith) (omega (arith, least)) before.done one in
     record {
       checked = c.pair.ensures.checked;
       done = subst (λ e. PairsDone m power h p (p + 1) column e x z) next joined;
@@ -158,7 +216,7 @@ each_block-preserved g c =
     let count = c.columns.invariant.count in
     record {
       checked = c.columns.invariant.checked;
-      done = blocks_joined {power = power} x y z (omega arith) (omega arith) (omega (arith, least)) c.each_block.invariant.done here;
+      done = blocks_joined {m = m} {h = h} {a = 0} {b = p} {c = column} {d = column + width} {e = p + 1} {power = power} x y z (omega arith) (omega arith) (omega (arith, least)) c.each_block.invariant.done here;
       count = omega (arith, count, all);
     }
 
@@ -194,7 +252,7 @@ strips-preserved g c =
       running_form = form_of_value canonical running;
       running = strip_next w column width canonical running before.running;
       within = omega (arith, least);
-      done = columns_joined x y z (omega arith) (omega arith) (omega (arith, least)) before.done by_root;
+      done = columns_joined {m = m} {h = h} {a = 0} {b = c.args.blocks} {c = 0} {d = column} {e = column + width} {power = λ i. w ^ i} x y z (omega arith) (omega arith) (omega (arith, least)) before.done by_root;
       count = omega (arith, count, rows);
     }
 
