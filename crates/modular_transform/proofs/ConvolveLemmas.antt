@@ -1,12 +1,12 @@
 -- A convolution by three transforms: each entry at the end, and the inverse of the length.
-use Rattle.std.proofs.Common.{◌≡◌, ℕ, suc, zero, ◌+◌, ◌*◌, ◌%◌, ◌/◌, ◌^◌, ◌<◌, List, length, get_or, sym, ◌∙◌, ap, refl, arith, subst, inl, inr}
+use Rattle.std.proofs.Common.{◌≡◌, ℕ, suc, zero, ◌+◌, ◌*◌, ◌%◌, ◌/◌, ◌^◌, ◌<◌, All, List, length, get_or, sym, ◌∙◌, ap, refl, arith, subst, inl, inr}
 use Rattle.std.proofs.lemmas.Nat.{mod_below}
 use Rattle.std.proofs.lemmas.Bool.{cases_eq}
 use Rattle.std.proofs.Math.Nat.{two-pow-succ, zero-mod, mod-eq_of_lt}
-use Rattle.std.specs.Int.{trailing_zeros, w64}
-use Rattle.modular_transform.proofs.TransformLemmas.{suited_length}
+use Rattle.std.specs.Int.{IsPowerOfTwo, trailing_zeros, w64}
+use Rattle.modular_transform.proofs.PowersOfTwo.{power_by_zeros}
 use Rattle.modular_word.specs.Inverses.{IsInverse}
-use Rattle.modular_reduced.specs.Forms.{Represents, IsCanonical}
+use Rattle.modular_reduced.specs.Forms.{Represents, IsForm, IsCanonical}
 use Rattle.modular_transform.specs.Transforms.{transform, cyclic_product, Suits}
 use Rattle.modular_word.specs.Congruence.{Congruent}
 use Rattle.modular_transform.specs.Orders.{IsReordered, mirrored}
@@ -72,6 +72,13 @@ reordered_value : {T : Type 0} (number : T → ℕ) (value : ℕ → ℕ → ℕ
 reordered_value number value m i d s old new reordered l l_new l_s =
     sym (value_at number value m new i d l_new) ∙ ap (λ f. value m (number f)) (reordered.each i d l) ∙ value_at number value m old (s i) d l_s
 
+-- the forms of the mirrored list are those of the list
+pub mirrored_forms : {T : Type 0} (number : T → ℕ) (form value : ℕ → ℕ → ℕ) (m : ℕ) (old new : List T) → IsReordered (mirrored (length old)) old new
+    → length new ≡ length old → All (λ f. IsForm form value m (number f)) old → All (λ f. IsForm form value m (number f)) new
+mirrored_forms number form value m old new reordered same all i d l =
+    let l_old : i < length old = omega arith in
+    subst (λ f. IsForm form value m (number f)) (sym (reordered.each i d l_old)) (all (mirrored (length old) i) d (mirrored_place (length old) i l_old).image)
+
 -- the lists on the way from xs and ys to their cyclic product
 pub convolution_end : {T : Type 0} (number : T → ℕ) (form value : ℕ → ℕ → ℕ) (width m g n part : ℕ) (xs ys xs1 ys1 xs2 xs3 xs4 xs5 : List T)
     → IsCanonical form value width m → Suits m g n → IsInverse m n part
@@ -106,5 +113,5 @@ convolution_end number form value width m g n part xs ys xs1 ys1 xs2 xs3 xs4 xs5
 }
 
 -- the doublings of 1 come to the length
-pub doubled_all : {m g n : ℕ} (v t : ℕ) → Congruent m v (2 ^ t) → t ≡ trailing_zeros w64 n → Suits m g n → n < 2 ^ 64 → Congruent m v n
-doubled_all v t is e suits below = chained is (of_equal (ap (λ k. 2 ^ k) e ∙ sym (suited_length suits below)))
+pub doubled_all : {m n : ℕ} (v t : ℕ) → Congruent m v (2 ^ t) → t ≡ trailing_zeros w64 n → IsPowerOfTwo n → n < 2 ^ 64 → Congruent m v n
+doubled_all {m} {n} v t is e power below = chained is (of_equal (ap (λ k. 2 ^ k) e ∙ sym (power_by_zeros n power below)))

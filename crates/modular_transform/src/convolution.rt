@@ -1,7 +1,9 @@
 //! The cyclic product of two lists, by transforms.
 
 ghost use Rattle.std.specs.Prelude.{◌≡◌, ℕ, ◌*◌, ◌%◌, ◌<◌, ◌↔◌, IsTrue, All, length, slice_index};
-ghost use Rattle.modular_word.specs.Inverses.{HasInverse};
+ghost use Rattle.std.specs.Int.{IsPowerOfTwo};
+ghost use Rattle.modular_word.specs.Congruence.{Congruent};
+ghost use Rattle.modular_word.specs.Inverses.{IsInverse, HasInverse};
 ghost use Rattle.modular_reduced.specs.Forms.{IsForm};
 ghost use Rattle.modular_reduced.specs.Values.{values_of, HoldValues};
 ghost use Rattle.modular_transform.specs.Transforms.{Suits, transform, cyclic_product};
@@ -43,6 +45,45 @@ pub fn scale<T: RingWord, R: Reducer<T>>(r: &R, xs: &mut [T], factor: &T)
     }
 }
 
+// The form of a power of two, by doublings of 1: it may be too large for the word.
+fn length_form<T: RingWord, R: Reducer<T>>(r: &R, n: usize) -> T
+    requires { IsPowerOfTwo n }
+    ensures form { IsForm R.form R.value (R.modulus r.now) (T.number result) }
+    ensures counted { let m = R.modulus r.now in Congruent m (R.value m (T.number result)) n }
+{
+    let mut length = r.transform(T::one());
+    'doublings: for _done in 0..n.trailing_zeros() {
+        length = r.dbl(length);
+    }
+    length
+}
+
+// Puts the cyclic product in xs and the transform of ys in ys, by g and an inverse of the length.
+fn multiply<T: RingWord, R: Reducer<T>>(r: &R, xs: &mut [T], ys: &mut [T], g: &T, part: &T)
+    requires checked_xs { All (λ f. IsForm R.form R.value (R.modulus r.now) (T.number f)) xs.old }
+    requires checked_ys { All (λ f. IsForm R.form R.value (R.modulus r.now) (T.number f)) ys.old }
+    requires root { IsForm R.form R.value (R.modulus r.now) (T.number g.now) }
+    requires suits { let m = R.modulus r.now in Suits m (R.value m (T.number g.now)) (length xs.old) }
+    requires equal { length ys.old ≡ length xs.old }
+    requires part { IsForm R.form R.value (R.modulus r.now) (T.number part.now) }
+    requires inverse { let m = R.modulus r.now in IsInverse m (length xs.old) (R.value m (T.number part.now)) }
+    ensures product { let m = R.modulus r.now in
+        HoldValues T.number R.form m xs.new
+        (cyclic_product m (length xs.old) (slice_index (values_of T.number R.value m xs.old)) (slice_index (values_of T.number R.value m ys.old))) }
+    ensures transformed { let m = R.modulus r.now in
+        HoldValues T.number R.form m ys.new
+        (transform m (R.value m (T.number g.now)) (length xs.old) (slice_index (values_of T.number R.value m ys.old))) }
+    ensures checked { let m = R.modulus r.now in
+        All (λ f. IsForm R.form R.value m (T.number f)) xs.new × All (λ f. IsForm R.form R.value m (T.number f)) ys.new }
+{
+    ntt(r, xs, g);
+    ntt(r, ys, g);
+    multiply_each(r, xs, ys);
+    ntt(r, xs, g);
+    mirror(xs);
+    scale(r, xs, part);
+}
+
 /// Puts the cyclic product of xs and ys in xs and the transform of ys in ys, both by g; false, with
 /// both lists unchanged, exactly where their length n has no inverse modulo m.
 ///
@@ -74,18 +115,10 @@ pub fn convolve<T: RingWord, R: Reducer<T>>(r: &R, xs: &mut [T], ys: &mut [T], g
     ensures checked { let m = R.modulus r.now in
         All (λ f. IsForm R.form R.value m (T.number f)) xs.new × All (λ f. IsForm R.form R.value m (T.number f)) ys.new }
 {
-    let mut length = r.transform(T::one());
-    'doublings: for _done in 0..xs.len().trailing_zeros() {
-        length = r.dbl(length);
-    }
+    let length = length_form(r, xs.len());
     match r.inv(length) {
         Some(part) => {
-            ntt(r, xs, g);
-            ntt(r, ys, g);
-            multiply_each(r, xs, ys);
-            ntt(r, xs, g);
-            mirror(xs);
-            scale(r, xs, &part);
+            multiply(r, xs, ys, g, &part);
             true
         }
         None => false,

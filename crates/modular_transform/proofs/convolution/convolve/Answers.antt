@@ -1,49 +1,82 @@
-use Rattle.std.proofs.Common.{◌^◌, ◌<◌, length, refl, sym, arith, subst}
+use Rattle.std.proofs.Common.{refl, sym, arith, subst}
+use Rattle.std.proofs.lemmas.Bool.{false≢true}
 use Rattle.modular_word.specs.Inverses.{IsInverse}
-use Rattle.modular_reduced.proofs.FormLemmas.{form_of_value}
 use Rattle.modular_word.proofs.Congruence.{turned}
-use Rattle.modular_transform.proofs.ConvolveLemmas.{doubled_more, doubled_all, inverse_along, convolution_end}
+use Rattle.modular_transform.proofs.ConvolveLemmas.{inverse_along}
 use Rattle.modular_transform.proofs.ValueLemmas.{held_value}
 use Rattle.modular_transform.proofs.convolution.convolve.Goals as goal
 
-pub doublings-preserved : goal.doublings-preserved
-doublings-preserved g c =
-    let canonical = g.met.R.Reducer.canonical c.args.r.now in
-    record {
-      form = form_of_value canonical c.dbl-length.ensures.form;
-      count = doubled_more _ _ c.doublings._done c.doublings.invariant.count (canonical.one_value _ _ c.dbl-length.ensures.form);
-    }
+pub length_form-length-requires : goal.length_form-length-requires
+length_form-length-requires g c = c.requires.suits.power_of_two
+
+pub inv-requires : goal.inv-requires
+inv-requires g c = c.length_form-length.ensures.form
+
+pub multiply-requires-clause-checked_xs : goal.multiply-requires-clause-checked_xs
+multiply-requires-clause-checked_xs g c = c.requires.checked_xs
+
+pub multiply-requires-clause-checked_ys : goal.multiply-requires-clause-checked_ys
+multiply-requires-clause-checked_ys g c = c.requires.checked_ys
+
+pub multiply-requires-clause-root : goal.multiply-requires-clause-root
+multiply-requires-clause-root g c = c.requires.root
+
+pub multiply-requires-clause-suits : goal.multiply-requires-clause-suits
+multiply-requires-clause-suits g c = c.requires.suits
+
+pub multiply-requires-clause-equal : goal.multiply-requires-clause-equal
+multiply-requires-clause-equal g c = c.requires.equal
+
+pub multiply-requires-clause-part : goal.multiply-requires-clause-part
+multiply-requires-clause-part g c = c.in-Some.ensures.checked
+
+pub multiply-requires-clause-inverse : goal.multiply-requires-clause-inverse
+multiply-requires-clause-inverse g c =
+    let m = g.R.Reducer.modulus c.args.r.now in
+    let found = c.in-Some.ensures.form in
+    let part_is = (g.met.R.Reducer.canonical c.args.r.now).one_value _ _ found.2 in
+    subst (IsInverse m _) (sym part_is) (inverse_along c.length_form-length.ensures.counted found.1)
 
 pub returns-in-Some-clause-inverse : goal.returns-in-Some-clause-inverse
 returns-in-Some-clause-inverse g c =
-    let below : length c.args.xs.now < 2 ^ 64 = omega arith in
-    let counted = doubled_all _ _ c.doublings.invariant.count (omega arith) c.requires.suits below in
     let found = c.in-Some.ensures.form in
-    (λ h. (found.0, inverse_along counted found.1), λ h. refl)
+    (λ h. (found.0, inverse_along c.length_form-length.ensures.counted found.1), λ h. refl)
 
-pub returns-in-None-clause-inverse : goal.returns-in-None-clause-inverse
-returns-in-None-clause-inverse g c =
-    let below : length c.args.xs.now < 2 ^ 64 = omega arith in
-    let counted = doubled_all _ _ c.doublings.invariant.count (omega arith) c.requires.suits below in
-    (λ h. cc, λ h. absurd (c.in-None.ensures.form h.0 (inverse_along (turned counted) h.1)))
+pub returns-in-Some-clause-unchanged : goal.returns-in-Some-clause-unchanged
+returns-in-Some-clause-unchanged g c none = absurd (none refl)
 
 pub returns-in-Some-clause-product : goal.returns-in-Some-clause-product
-returns-in-Some-clause-product g c h =
-    let m = g.R.Reducer.modulus c.args.r.now in
-    let number = g.T.RingWord.number in
-    let value = g.R.Reducer.value in
-    let root = value m (number c.args.g.now) in
-    let n = length c.args.xs.now in
-    let canonical = g.met.R.Reducer.canonical c.args.r.now in
-    let below : length c.args.xs.now < 2 ^ 64 = omega arith in
-    let counted = doubled_all _ _ c.doublings.invariant.count (omega arith) c.requires.suits below in
-    let found = c.in-Some.ensures.form in
-    let part_is = canonical.one_value _ _ found.2 in
-    let inverse = subst (IsInverse m n) (sym part_is) (inverse_along counted found.1) in
-    convolution_end number g.R.Reducer.form value _ m root n (value m (number c.in-Some.part)) c.args.xs.now c.args.ys.now c.ntt.new.xs c.ntt-in-Some.new.xs c.multiply_each.new.xs c.ntt-in-Some-2.new.xs c.mirror.new.entries c.scale.new.xs
-    canonical c.requires.suits inverse refl c.requires.equal (omega arith) (omega arith) (omega arith) (omega arith) (omega arith) (omega arith)
-    c.ntt.ensures.entries c.ntt-in-Some.ensures.entries c.multiply_each.ensures.entries c.ntt-in-Some-2.ensures.entries c.mirror.ensures c.scale.ensures.entries
+returns-in-Some-clause-product g c h = c.multiply.ensures.product
+
+pub returns-in-Some-clause-transformed : goal.returns-in-Some-clause-transformed
+returns-in-Some-clause-transformed g c h = c.multiply.ensures.transformed
 
 pub returns-in-Some-clause-values : goal.returns-in-Some-clause-values
 returns-in-Some-clause-values g c h e l =
-    held_value g.T.RingWord.number g.R.Reducer.form g.R.Reducer.value _ _ c.scale.new.xs _ e (g.met.R.Reducer.canonical c.args.r.now) (returns-in-Some-clause-product g c h) (omega arith)
+    held_value g.T.RingWord.number g.R.Reducer.form g.R.Reducer.value _ _ c.multiply.new.xs _ e (g.met.R.Reducer.canonical c.args.r.now) c.multiply.ensures.product (omega arith)
+
+pub returns-in-Some-clause-transformed_values : goal.returns-in-Some-clause-transformed_values
+returns-in-Some-clause-transformed_values g c h j l =
+    held_value g.T.RingWord.number g.R.Reducer.form g.R.Reducer.value _ _ c.multiply.new.ys _ j (g.met.R.Reducer.canonical c.args.r.now) c.multiply.ensures.transformed (let equal = c.requires.equal in omega arith)
+
+pub returns-in-Some-clause-checked : goal.returns-in-Some-clause-checked
+returns-in-Some-clause-checked g c = c.multiply.ensures.checked
+
+pub returns-in-None-clause-inverse : goal.returns-in-None-clause-inverse
+returns-in-None-clause-inverse g c =
+    (λ h. absurd (false≢true h), λ h. absurd (c.in-None.ensures.form h.0 (inverse_along (turned c.length_form-length.ensures.counted) h.1)))
+
+pub returns-in-None-clause-unchanged : goal.returns-in-None-clause-unchanged
+returns-in-None-clause-unchanged g c none = (refl, refl)
+
+pub returns-in-None-clause-product : goal.returns-in-None-clause-product
+returns-in-None-clause-product g c h = absurd (false≢true h)
+
+pub returns-in-None-clause-transformed : goal.returns-in-None-clause-transformed
+returns-in-None-clause-transformed g c h = absurd (false≢true h)
+
+pub returns-in-None-clause-values : goal.returns-in-None-clause-values
+returns-in-None-clause-values g c h = absurd (false≢true h)
+
+pub returns-in-None-clause-transformed_values : goal.returns-in-None-clause-transformed_values
+returns-in-None-clause-transformed_values g c h = absurd (false≢true h)
