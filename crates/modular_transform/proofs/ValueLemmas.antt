@@ -64,10 +64,11 @@ residue_restored m v w lv lw = elim (cases_lt v w) [
 ]
 
 -- the sum of two values, and their difference times a power
-pair_of : {m : ℕ} (a b power d sum difference : ℕ) → a < m → b < m → sum ≡ (a + b) % m → d ≡ residue m (pos a -ℤ pos b)
-    → difference ≡ (d * power) % m → IsPair m power a b sum difference
-pair_of {m} a b power d sum difference la lb is_sum is_d is_difference =
-    let restored : Congruent m (d + b) a = chained (of_equal (ap (λ v. v + b) is_d)) (residue_restored m a b la lb) in
+pair_of : {m : ℕ} (a b power sum difference : ℕ) → a < m → b < m → sum ≡ (a + b) % m
+    → difference ≡ (residue m (pos a -ℤ pos b) * power) % m → IsPair m power a b sum difference
+pair_of {m} a b power sum difference la lb is_sum is_difference =
+    let d = residue m (pos a -ℤ pos b) in
+    let restored : Congruent m (d + b) a = residue_restored m a b la lb in
     let spread : d * power + b * power ≡ (d + b) * power = omega arith in
     record {
       summed = chained (of_equal is_sum) (residue_of (a + b));
@@ -77,14 +78,13 @@ pair_of {m} a b power d sum difference la lb is_sum is_d is_difference =
     }
 
 -- what a pair writes
-pub pair_written : {T : Type 0} (number : T → ℕ) (form value : ℕ → ℕ → ℕ) (width m : ℕ) (forms : List T) (low high : ℕ) (a b sum difference product : T) (power : ℕ)
+pub pair_written : {T : Type 0} (number : T → ℕ) (form value : ℕ → ℕ → ℕ) (width m : ℕ) (forms : List T) (low high : ℕ) (a b sum product : T) (power : ℕ)
     → IsCanonical form value width m → All (λ f. IsForm form value m (number f)) forms
     → low < high → high < length forms → a ≡ get_or forms low a → b ≡ get_or forms high b
     → Represents form m (number sum) ((value m (number a) + value m (number b)) % m)
-    → Represents form m (number difference) (residue m (pos (value m (number a)) -ℤ pos (value m (number b))))
-    → Represents form m (number product) ((value m (number difference) * power) % m)
+    → Represents form m (number product) ((residue m (pos (value m (number a)) -ℤ pos (value m (number b))) * power) % m)
     → PairDone m power low high (values number value m forms) (values number value m (set (set forms high product) low sum))
-pair_written number form value width m forms low high a b sum difference product power canonical all order within read_a read_b is_sum is_difference is_product =
+pair_written number form value width m forms low high a b sum product power canonical all order within read_a read_b is_sum is_product =
     let x = values number value m forms in
     let y = values number value m (set (set forms high product) low sum) in
     let l : low < length forms = omega arith in
@@ -96,8 +96,8 @@ pair_written number form value width m forms low high a b sum difference product
     let ne : high ≢ low = omega arith in
     let at_low : y low ≡ value m (number sum) = values-set_same number value m (set forms high product) low sum ls in
     let at_high : y high ≡ value m (number product) = values-set_other number value m (set forms high product) low high sum ne ∙ values-set_same number value m forms high product within in
-    let done = pair_of (value m (number a)) (value m (number b)) power (value m (number difference)) (y low) (y high) is_a.below is_b.below
-    (at_low ∙ canonical.one_value _ _ is_sum) (canonical.one_value _ _ is_difference) (at_high ∙ canonical.one_value _ _ is_product) in
+    let done = pair_of (value m (number a)) (value m (number b)) power (y low) (y high) is_a.below is_b.below
+    (at_low ∙ canonical.one_value _ _ is_sum) (at_high ∙ canonical.one_value _ _ is_product) in
     record {
       pair = subst (λ v. IsPair m power v (x high) (y low) (y high)) va (subst (λ v. IsPair m power (value m (number a)) v (y low) (y high)) vb done);
       kept = λ i nl nh. values-set_other number value m (set forms high product) low i sum nl ∙ values-set_other number value m forms high i product nh;
