@@ -214,6 +214,14 @@ impl<T: TrinomialWord, F: Trinomial> FoldRing<T, TrinomialModulus<T, F>> {
         Self::reduce_counted(v).0
     }
 
+    // The residue of a double word, by the primitive remainder.
+    fn remainder(v: T::Double) -> T
+        requires { IsTrinomialRange T.width F.p1 F.p2 F.k }
+        ensures { T.number result ≡ T.double_number v % trinomial F.p1 F.p2 F.k }
+    {
+        T::narrow_remainder(v, Self::fixed_modulus())
+    }
+
     /// The residue of a double word, and the number of folds that take it below 2^p1: 0 where the primitive
     /// remainder is taken. Condition: the parameters are in range.
     pub fn reduce_counted(v: T::Double) -> (T, u32)
@@ -224,11 +232,10 @@ impl<T: TrinomialWord, F: Trinomial> FoldRing<T, TrinomialModulus<T, F>> {
             → result.1 ≡ folds F.p1 (trinomial_factor F.p1 F.p2 F.k) (T.double_number v) }
         ensures few { IsFewFolds F.p1 (trinomial_factor F.p1 F.p2 F.k) (T.double_number v) result.1 }
     {
-        let modulus = Self::fixed_modulus();
         if is_low(F::p1(), F::p2(), F::k()) {
-            (T::narrow_remainder(v, modulus), 0)
+            (Self::remainder(v), 0)
         } else {
-            reduce_by_folds(v, F::p1() as u32, Self::factor(), modulus)
+            reduce_by_folds(v, F::p1() as u32, Self::factor(), Self::fixed_modulus())
         }
     }
 }

@@ -4,4 +4,4 @@ use Rattle.modular_folds.proofs.solinas.FoldRing+T+TrinomialModulus+T+F.reduce_c
 
 pub reduce_by_folds-requires : goal.reduce_by_folds-requires
 reduce_by_folds-requires g c =
-    trinomial_folding c.requires _ _ _ (search rules) (search rules) c.factor.ensures c.fixed_modulus-modulus.ensures.value
+    trinomial_folding c.requires _ _ _ (search rules) (search rules) c.factor.ensures c.fixed_modulus.ensures.value
