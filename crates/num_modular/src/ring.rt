@@ -110,6 +110,20 @@ pub enum RunEnd {
     },
 }
 
+// Whether two register numbers are below `len`.
+fn two_fit(dst: usize, a: usize, len: usize) -> bool
+    ensures { IsTrue result ↔ (dst < len) × (a < len) }
+{
+    dst < len && a < len
+}
+
+// Whether three register numbers are below `len`.
+fn three_fit(dst: usize, a: usize, b: usize, len: usize) -> bool
+    ensures { IsTrue result ↔ (dst < len) × (a < len) × (b < len) }
+{
+    two_fit(dst, a, len) && b < len
+}
+
 // Whether each register number of a command is below `len`.
 fn command_fits<T: RingWord>(command: &RingCommand<T>, len: usize) -> bool
     ensures { IsTrue result ↔ IsFit len command.now }
@@ -119,12 +133,12 @@ fn command_fits<T: RingWord>(command: &RingCommand<T>, len: usize) -> bool
         RingCommand::Add { dst, a, b }
         | RingCommand::Sub { dst, a, b }
         | RingCommand::Mul { dst, a, b }
-        | RingCommand::Div { dst, a, b } => *dst < len && *a < len && *b < len,
+        | RingCommand::Div { dst, a, b } => three_fit(*dst, *a, *b, len),
         RingCommand::Neg { dst, a }
         | RingCommand::Dbl { dst, a }
         | RingCommand::Sqr { dst, a }
-        | RingCommand::Inv { dst, a } => *dst < len && *a < len,
-        RingCommand::Pow { dst, a, .. } => *dst < len && *a < len,
+        | RingCommand::Inv { dst, a } => two_fit(*dst, *a, len),
+        RingCommand::Pow { dst, a, .. } => two_fit(*dst, *a, len),
     }
 }
 

@@ -59,6 +59,9 @@ returns-in-None-clause-stops g c = stops_at (stop_here g c)
 pub returns-in-None-clause-done : goal.returns-in-None-clause-done
 returns-in-None-clause-done g c = not_done (stop_here g c)
 
+pub returns-in-None-clause-values : goal.returns-in-None-clause-values
+returns-in-None-clause-values g c = c.commands.invariant.held
+
 pub returns-in-None-clause-checked : goal.returns-in-None-clause-checked
 returns-in-None-clause-checked g c = all_forms (g.met.R.Reducer.canonical c.args.r.now) c.commands.invariant.held
 

@@ -1,0 +1,9 @@
+use Rattle.std.proofs.Common.{arith, ◌↔◌, All, IsTrue}
+use Rattle.std.proofs.lemmas.Grind.{common_steps}
+use Rattle.num_modular.specs.Ring.{IsFit}
+use Rattle.num_modular.proofs.ring.commands_fit.Goals as goal
+
+pub returns : goal.returns
+returns g c =
+    let told : IsTrue c.all.result ↔ All (IsFit {T = g.row.T.Denot} c.args.len) c.args.commands.now = grind (arith, common_steps) in
+    told
