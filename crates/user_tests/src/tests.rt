@@ -1,7 +1,7 @@
 //! Values of each user, had from outside, and the README's examples run.
 
-mod big_product;
-mod clients;
+mod check_symbols;
+mod each_client;
 mod examples;
-mod mersenne_hash;
-mod ring_codes;
+mod hashes;
+mod long_products;
