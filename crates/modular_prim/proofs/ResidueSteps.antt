@@ -1,4 +1,4 @@
--- Residues of sums that pass the word, and of negatives.
+-- Residues of sums, those that pass the word among them, and of negatives.
 use Rattle.std.proofs.Common.{◌≡◌, ℕ, ◌+◌, ◌-◌, ◌*◌, ◌/◌, ◌%◌, ◌<◌, ◌≤◌, pos, negsuc, neg_ℤ, ◌-ℤ◌, sym, ap, ◌∙◌, arith, ⊎_elim}
 use Rattle.std.proofs.Math.Nat.{mod-lt, mod-mod, mod_self, mod-eq_of_lt, div-add-mod, add-mul-mod_self_left}
 use Rattle.std.proofs.lemmas.Bool.{cases_lt}
@@ -66,6 +66,18 @@ neg_value m n h =
     left ∙ sym right)
     (cases_lt 0 n)
 
+-- the negative of a number below m
+pub neg_of_zero : (m a : ℕ) → a < m → a ≡ 0 → a ≡ residue m (neg_ℤ (pos a))
+neg_of_zero m a l e =
+    let some : 0 < m = omega arith in
+    e ∙ sym (ap (λ v. residue m (neg_ℤ (pos v))) e ∙ mod-eq_of_lt some)
+
+pub neg_of_some : (m a d : ℕ) → a < m → 0 < a → d + a ≡ m → d ≡ residue m (neg_ℤ (pos a))
+neg_of_some m a d l s e =
+    let f : m - a ≡ d = omega arith in
+    let b : d < m = omega arith in
+    sym (neg_value m a (omega arith) ∙ ap (λ v. (m - v) % m) (mod-eq_of_lt l) ∙ ap (λ v. v % m) f ∙ mod-eq_of_lt b)
+
 -- a number and its remainder have negatives of one residue
 pub neg_of_rest : (m n r : ℕ) → 0 < m → r ≡ n % m → residue m (neg_ℤ (pos r)) ≡ residue m (neg_ℤ (pos n))
 neg_of_rest m n r h e =
@@ -76,3 +88,12 @@ pub sub_of_less : (m a b d : ℕ) → d + a ≡ b → residue m (neg_ℤ (pos d)
 sub_of_less m a b d e =
     let f : neg_ℤ (pos d) ≡ pos a -ℤ pos b = omega (arith, ints) in
     ap (residue m) f
+
+-- by the gap that b leaves below m: the sum of a and b below m, and the one from m on
+pub sum_within : (m a b gap r : ℕ) → gap + b ≡ m → a < gap → r ≡ a + b → r ≡ (a + b) % m
+sum_within m a b gap r e h er = er ∙ sym (mod-eq_of_lt (let k : a + b < m = omega arith in k))
+
+pub sum_past : (m a b gap r : ℕ) → gap + b ≡ m → a + b < 2 * m → r + gap ≡ a → r ≡ (a + b) % m
+sum_past m a b gap r e twice er =
+    let whole : a + b ≡ r + m * 1 = omega arith in
+    sym (ap (λ v. v % m) whole ∙ add-mul-mod_self_left r m 1 ∙ mod-eq_of_lt (let l : r < m = omega arith in l))

@@ -114,7 +114,7 @@ fn power_or_zero<T: PlainWord>(base: T, exp: T, m: T) -> T
     ensures zero { T.number m ≡ 0 → T.number result ≡ 0 }
 {
     if m.is_zero_word() {
-        m
+        T::zero()
     } else {
         powm(base, exp, m)
     }

@@ -1,6 +1,6 @@
 -- How nested remainders go away: the remainder of a sum, of a product and of a power by remainders. A caller names the
 -- set `remainders` in `#[tactic(auto, using(modular_word::proofs::Remainders::remainders))]`.
-use Rattle.std.proofs.Common.{◌≡◌, ℕ, ◌+◌, ◌*◌, ◌%◌, sym}
+use Rattle.std.proofs.Common.{◌≡◌, ℕ, ◌+◌, ◌%◌, sym}
 use Rattle.std.proofs.Math.Nat.{add-mod, mod-add-mod}
 use Rattle.std.proofs.lemmas.Nat.{mul-mod_first, mul-mod_second, pow-mod}
 

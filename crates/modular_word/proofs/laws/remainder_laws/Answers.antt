@@ -1,5 +1,5 @@
 -- The laws of nested remainders, from std's.
-use Rattle.std.proofs.Common.{◌≡◌, sym}
+use Rattle.std.proofs.Common.{sym}
 use Rattle.std.proofs.Math.Nat.{mod-mod, mod-add-mod}
 use Rattle.std.proofs.lemmas.Nat.{mul-mod, mul-mod_first, pow-mod}
 use Rattle.modular_word.proofs.Remainders.{sum_of_remainders}
