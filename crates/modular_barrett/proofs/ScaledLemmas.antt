@@ -150,8 +150,17 @@ scaled_fits w b m d s n whole is hn e =
 word_stands : (w m d s n r : ℕ) → IsScaling w m d s → n < m → r ≡ n * 2 ^ s → Stands w m r n
 word_stands w m d s n r is h e = record { below = h; same = e ∙ ap (λ v. n * 2 ^ v) is.zeros }
 
-pub below_stands : (w m d s n r : ℕ) → IsScaling w m d s → n < m → r ≡ n * 2 ^ s → Stands w m r (n % m)
-below_stands w m d s n r is h e = subst (Stands w m r) (sym (mod-eq_of_lt h)) (word_stands w m d s n r is h e)
+pub below_stands : (w m d s modulus n r : ℕ) → IsScaling w m d s → modulus ≡ m → n < modulus → r ≡ n * 2 ^ s
+    → Stands w m r (n % m)
+below_stands w m d s modulus n r is em h e =
+    let below : n < m = omega arith in
+    subst (Stands w m r) (sym (mod-eq_of_lt below)) (word_stands w m d s n r is below e)
+
+-- it fits the word
+pub below_fits : (w b m d s modulus n : ℕ) → b ≡ 2 ^ w → IsScaling w m d s → modulus ≡ m → n < modulus → n * 2 ^ s < b
+below_fits w b m d s modulus n eb is em h =
+    let k : n * 2 ^ s < m * 2 ^ s = mul-lt-mul_of_pos_right (let below : n < m = omega arith in below) (pow_pos s) in
+    omega (arith, is.scaled, is.fits)
 
 -- what is kept for a modulus
 pub scaling_of : (w b m d s : ℕ) → b ≡ 2 ^ w → 0 < m → m < b → s ≡ count_leading_zeros w m → d ≡ m * 2 ^ s
