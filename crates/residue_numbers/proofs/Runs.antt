@@ -1,11 +1,11 @@
 -- Runs of one list of commands modulo the range and modulo the moduli.
-use Rattle.std.proofs.Common.{◌≡◌, ℕ, zero, suc, ◌+◌, ◌*◌, ◌%◌, ◌^◌, ◌<◌, ◌==◌, if◌then◌else◌, List, Bool, true, false, Option, Some, None, option_map, unwrap_or, IsSomeAnd, get_or, length, map, set, below_more, All, sym, ap, subst, ◌∙◌, refl, arith, pos, neg_ℤ, ◌-ℤ◌, ℤ, ◌↔◌}
+use Rattle.std.proofs.Common.{◌≡◌, ℕ, zero, suc, ◌+◌, ◌*◌, ◌%◌, ◌^◌, ◌<◌, ◌==◌, if◌then◌else◌, List, Bool, true, false, Option, Some, None, option_map, unwrap_or, IsSomeAnd, get_or, length, map, All, sym, ap, subst, ◌∙◌, refl, arith, pos, neg_ℤ, ◌-ℤ◌, ℤ, ◌↔◌}
 use Rattle.std.specs.List.{slice_get}
 use Rattle.std.proofs.Math.ListN.{get_or-map}
 use Rattle.std.proofs.Math.Nat.{mod-lt, mod-mod, mod-eq_of_lt}
 use Rattle.std.proofs.Math.IntN.{+ℤ_idl}
 use Rattle.std.proofs.lemmas.Nat.{mul-mod_second}
-use Rattle.std.proofs.lemmas.List.{get_or-map as get_or-map_within, length-map, map-id, get_or-set_same, get_or-set_other}
+use Rattle.std.proofs.lemmas.List.{get_or-map as get_or-map_within, length-map, map-id}
 use Rattle.std.proofs.lemmas.Option.{slice_get-map}
 use Rattle.num_modular.specs.Divisors.{Coprime}
 use Rattle.num_modular.specs.Forms.{IsForm}
@@ -294,11 +294,3 @@ run_value m modulus numbers registers commands end register found e is done told
     told ∙ ap (λ k. value_at k (map (λ f. f) registers) commands (carried_out end commands) register) e
     ∙ ap (λ s. value_at m s commands (carried_out end commands) register) (map-id registers ∙ is)
     ∙ ap (λ o. value_at m (starts m numbers) commands (carried_out o commands) register) done
-
--- a write of one place more keeps what holds of the places so far
-pub set_more : (xs : List ℕ) (place v : ℕ) (P : ℕ → ℕ → Type 0) → place < length xs → ((i : ℕ) → i < place → P i (get_or xs i 0)) → P place v
-    → (i : ℕ) → i < place + 1 → P i (get_or (set xs place v) i 0)
-set_more xs place v P within before here =
-    below_more (λ i. P i (get_or (set xs place v) i 0)) place
-    (λ i h. subst (P i) (sym (get_or-set_other xs place i v 0 (λ e. omega (arith, h, e)))) (before i h))
-    (subst (P place) (sym (get_or-set_same xs place v 0 within)) here)

@@ -1,7 +1,8 @@
 use Rattle.std.proofs.Common.{◌≡◌, ℕ, ◌<◌, List, arith, get_or, length, map, refl, below_more}
 use Rattle.std.proofs.lemmas.Bool.{false≢true}
 use Rattle.num_modular.specs.Ring.{whole, value_at, IsStop}
-use Rattle.residue_numbers.proofs.Runs.{Laws, starts, set_more, never_whole, residues_whole, never_within}
+use Rattle.residue_numbers.proofs.Encodings.{set_more}
+use Rattle.residue_numbers.proofs.Runs.{Laws, starts, never_whole, residues_whole, never_within}
 use Rattle.residue_numbers.proofs.system.ResidueSystem.run.Goals as goal
 
 pub moduli-preserved : goal.moduli-preserved
@@ -32,6 +33,9 @@ returns-in-None-clause-done c =
       λ never. c.in-None.ensures.done.1 (never_within laws c.stop_laws.ensures.each c.args.self.now.moduli.now c.args.numbers.now c.args.commands.now
           c.args.self.now.small.system never c.moduli.place c.moduli-test.true),
     )
+
+pub returns-in-None-clause-residues : goal.returns-in-None-clause-residues
+returns-in-None-clause-residues c t = absurd (false≢true t)
 
 pub returns-clause-done : goal.returns-clause-done
 returns-clause-done c =
