@@ -45,3 +45,22 @@ pub fn inner_product_of_four<T: RingWord, R: Reducer<T>>(
     let right = r.add(&product(r, x.2, y.2), &product(r, x.3, y.3));
     r.residue(r.add(&left, &right))
 }
+
+/// The first word of x, one more than its product with the first of y, and the inner product, modulo m.
+pub fn three_results<T: RingWord, R: Reducer<T>>(
+    r: &R,
+    x: (T, T, T, T),
+    y: (T, T, T, T),
+) -> (T, T, T)
+    ensures trip { T.number result.0 ≡ T.number x.0 % R.modulus r.now }
+    ensures one { T.number result.1 ≡ (T.number x.0 * T.number y.0 + 1) % R.modulus r.now }
+    ensures inner { T.number result.2
+        ≡ (T.number x.0 * T.number y.0 + T.number x.1 * T.number y.1
+        + (T.number x.2 * T.number y.2 + T.number x.3 * T.number y.3)) % R.modulus r.now }
+{
+    (
+        round_trip(r, x.0),
+        product_and_one(r, x.0, y.0),
+        inner_product_of_four(r, x, y),
+    )
+}

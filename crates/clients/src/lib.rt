@@ -11,4 +11,5 @@ pub mod inner_products;
 pub mod laws;
 pub mod operations;
 pub mod remainders;
+pub mod repeated_products;
 pub mod squares;

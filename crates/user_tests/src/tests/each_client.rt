@@ -19,7 +19,10 @@ const X: (u64, u64, u64, u64) = (18446744073709551615, 12345678901234567890, 7, 
 const Y: (u64, u64, u64, u64) = (18446744073709551557, 9876543210987654321, 11, 998244353);
 
 // x and y modulo 15, 97, 29 and 247.
-fn modulo_words_of_64_bits(x: (u64, u64, u64, u64), y: (u64, u64, u64, u64)) -> [[u64; 3]; 4] {
+fn modulo_words_of_64_bits(
+    x: (u64, u64, u64, u64),
+    y: (u64, u64, u64, u64),
+) -> [(u64, u64, u64); 4] {
     [
         modulo_15(x, y),
         modulo_97(x, y),
@@ -31,20 +34,23 @@ fn modulo_words_of_64_bits(x: (u64, u64, u64, u64), y: (u64, u64, u64, u64)) -> 
 #[test]
 fn words_of_64_bits(rt: HostRuntime) {
     let found = modulo_words_of_64_bits(X, Y);
-    assert!(rt; found == [[0, 1, 3], [60, 24, 19], [23, 8, 5], [54, 32, 84]]);
+    assert!(rt; found == [(0, 1, 3), (60, 24, 19), (23, 8, 5), (54, 32, 84)]);
 }
 
 #[test]
 fn words_of_64_bits_by_each_reducer(rt: HostRuntime) {
-    assert!(rt; by_plain_remainders(X, Y, 97) == [60, 24, 19]);
-    assert!(rt; by_plain_remainders(X, Y, 1) == [0, 0, 0]);
+    assert!(rt; by_plain_remainders(X, Y, 97) == (60, 24, 19));
+    assert!(rt; by_plain_remainders(X, Y, 1) == (0, 0, 0));
     let found = by_reciprocals(X, Y, 18446744073709551557);
-    assert!(rt; found == [58, 1, 3738633023172175820]);
-    assert!(rt; by_montgomery(X, Y, 6) == [3, 4, 3]);
+    assert!(rt; found == (58, 1, 3738633023172175820));
+    assert!(rt; by_montgomery(X, Y, 6) == (3, 4, 3));
 }
 
 // x and y modulo 13, 17, 31 and 241.
-fn modulo_words_of_32_bits(x: (u32, u32, u32, u32), y: (u32, u32, u32, u32)) -> [[u32; 3]; 4] {
+fn modulo_words_of_32_bits(
+    x: (u32, u32, u32, u32),
+    y: (u32, u32, u32, u32),
+) -> [(u32, u32, u32); 4] {
     [
         modulo_13(x, y),
         modulo_17(x, y),
@@ -58,7 +64,7 @@ fn words_of_other_widths(rt: HostRuntime) {
     let x = (4294967295, 123456789, 7, 65537);
     let y = (4294967291, 987654321, 11, 257);
     let found = modulo_words_of_32_bits(x, y);
-    assert!(rt; found == [[8, 7, 10], [0, 1, 13], [3, 29, 27], [14, 141, 126]]);
+    assert!(rt; found == [(8, 7, 10), (0, 1, 13), (3, 29, 27), (14, 141, 126)]);
     let x = (
         u128::MAX,
         170141183460469231731687303715884105733,
@@ -71,7 +77,7 @@ fn words_of_other_widths(rt: HostRuntime) {
         11,
         36893488147419103231,
     );
-    assert!(rt; modulo_127(x, y) == [3, 4, 123]);
+    assert!(rt; modulo_127(x, y) == (3, 4, 123));
 }
 
 // Two lists, the modulus and the residue of their inner product.
