@@ -56,3 +56,18 @@ pub extern "C" fn bench_symbols(operation: u8, x: u64, y: u64, m: u64, n: u64) -
         _ => steps::<2>(x, y, m, n),
     }
 }
+
+/// A step: that of Jacobi's symbol, by the loop of subtractions. Condition: m is odd.
+#[unsafe(no_mangle)]
+pub extern "C" fn bench_jacobi(x: u64, y: u64, m: u64, n: u64) -> u64
+    requires { m % 2 ≡ 1 }
+    ensures { result ≡ iterate (symbol_step 0 y m) n x }
+{
+    let mut x = x;
+    let shift = m.leading_zeros();
+    'steps: for _ in 0..n {
+        let term = number(Some(x.jacobi(&m)));
+        x = y.wrapping_mul(x).wrapping_add(term) >> shift;
+    }
+    x
+}

@@ -1,9 +1,8 @@
 -- The Kronecker symbol by the parts of the two numbers: their signs, the power of two, the odd part.
-use Rattle.std.proofs.Common.{◌≡◌, ◌≢◌, ℕ, zero, suc, ◌/◌, ◌%◌, ◌^◌, ◌<◌, ◌≤◌, Bool, true, false, IsTrue, if◌then◌else◌, ◌==◌, eqb, ◌&&◌, ◌||◌, ◌↔◌, ℤ, pos, negsuc, ◌*ℤ◌, nat_abs, int_lt, sym, ◌∙◌, ap, refl, arith}
+use Rattle.std.proofs.Common.{◌≡◌, ◌≢◌, ℕ, zero, suc, ◌+◌, ◌/◌, ◌%◌, ◌^◌, ◌<◌, ◌≤◌, Bool, true, false, IsTrue, if◌then◌else◌, ◌==◌, eqb, ◌&&◌, ◌||◌, ◌↔◌, ℤ, pos, negsuc, ◌*ℤ◌, nat_abs, int_lt, sym, ◌∙◌, ap, refl, arith}
 use Rattle.std.specs.Int.{int_pow}
 use Rattle.std.proofs.lemmas.Bool.Decides.{nat_tests}
 use Rattle.std.specs.Int.Count.{count_trailing_zeros}
-use Rattle.std.proofs.Math.Bool.{beq, not}
 use Rattle.std.proofs.Math.Nat.{div-one, pow-zero, pow-suc}
 use Rattle.modular_word.proofs.Powers.{one-pow}
 use Rattle.modular_symbols.specs.Jacobi.{jacobi}
@@ -35,10 +34,10 @@ over_two-even false a e = grind (arith, nat_tests)
 abbrev pub leaves_3_or_5 : ℕ → Bool
 leaves_3_or_5 a = (a % 8 == 3) || (a % 8 == 5)
 
--- the two bits above the lowest one of an odd number
-pub bits-3_or_5 : (a h i k : ℕ) (s t : Bool) → a % 2 ≡ 1 → h ≡ a / 2 → i ≡ a / 2 → k ≡ i / 2
-    → (IsTrue s ↔ (h % 2 ≡ 1)) → (IsTrue t ↔ (k % 2 ≡ 1)) → not (beq s t) ≡ leaves_3_or_5 a
-bits-3_or_5 a h i k s t o e f j b d = grind (arith, nat_tests)
+-- half of an odd number, and 1, has an odd half for these
+pub half_more-3_or_5 : (a h k q : ℕ) (s : Bool) → a % 2 ≡ 1 → h ≡ a / 2 → k ≡ h + 1 → q ≡ k / 2
+    → (IsTrue s ↔ (q % 2 ≡ 1)) → s ≡ leaves_3_or_5 a
+half_more-3_or_5 a h k q s o e f g d = grind (arith, nat_tests)
 
 over_two-odd : (minus : Bool) (a : ℕ) → a % 2 ≡ 1 → over_two (signed minus (pos a)) ≡ signed (leaves_3_or_5 a) (pos 1)
 over_two-odd true zero e = absurd (omega arith)

@@ -11,4 +11,6 @@ pub mod RangeProducts
 pub mod ResidueProducts
 pub mod Squares
 pub mod StepCounts
+pub mod SubtractionSteps
+pub mod TurnedSymbols
 pub mod TwoPart

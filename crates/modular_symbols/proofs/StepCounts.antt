@@ -5,7 +5,7 @@ use Rattle.std.proofs.lemmas.Nat.{mod_below, mul-lt, pow_pos}
 use Rattle.std.proofs.Math.Nat.{mul-le-mul_left, pow-suc, mul-one}
 use Rattle.modular_prim.proofs.FewSteps.{zero_or_positive, doubled, rest_twice, few_steps}
 use Rattle.modular_symbols.specs.Steps.{steps_within, jacobi_steps}
-use Rattle.modular_symbols.proofs.HalvingSteps.{Halved}
+use Rattle.modular_symbols.proofs.TwoPart.{Halved}
 use Rattle.modular_symbols.proofs.JacobiLaws.{parities}
 
 within_none : (k a n : ℕ) → a ≡ 0 → steps_within k a n ≡ 0

@@ -1,12 +1,12 @@
 -- The power of two in a number, and the odd number that is left.
-use Rattle.std.proofs.Common.{◌≡◌, ◌≢◌, ℕ, zero, suc, ◌+◌, ◌-◌, ◌*◌, ◌/◌, ◌%◌, ◌^◌, ◌<◌, ◌≤◌, sym, ap, ◌∙◌, arith, refl, ⊎_elim}
-use Rattle.std.proofs.Math.Nat.{pow-suc, div-div-eq-div-mul, pow-zero, div-one, mod-lt, mul-le-mul_right}
+use Rattle.std.proofs.Common.{◌≡◌, ◌≢◌, ℕ, zero, suc, ◌+◌, ◌-◌, ◌*◌, ◌/◌, ◌%◌, ◌^◌, ◌<◌, ◌≤◌, sym, ap, ◌∙◌, arith, refl, ⊎_elim, subst}
+use Rattle.std.proofs.Math.Nat.{pow-suc, div-div-eq-div-mul, pow-zero, div-one, mod-lt, mul-le-mul_left, mul-le-mul_right}
 use Rattle.std.proofs.lemmas.Bool.Decides.{nat_tests}
-use Rattle.std.proofs.lemmas.Nat.{pow_pos, pow-add}
+use Rattle.std.proofs.lemmas.Nat.{pow_pos, pow-add, trailing_le}
 use Rattle.std.specs.Int.Count.{count_trailing_zeros}
 use lib.Count.{under}
 use Rattle.modular_word.proofs.Congruence.{factor_cancel}
-use Rattle.modular_word.proofs.Divisors.{divides, divides_through, multiple_of}
+use Rattle.modular_word.proofs.Divisors.{divides, divides_rest, divides_through, multiple_of}
 use Rattle.modular_word.proofs.Sums.{last_or_before}
 use Rattle.modular_symbols.specs.Kronecker.{twos_up_to, twos}
 
@@ -88,3 +88,49 @@ split_at zero n h k = let z = pow-zero 2 in absurd (omega arith)
 split_at (suc w) n h k =
     split_step n (count_trailing_zeros w (n / 2)) (n % 2) refl (mod-lt n (omega arith)) h
     (λ p. split_at w (n / 2) p (omega (arith, pow-suc 2 w)))
+
+-- the trailing zeros of the number that a power of two lacks d
+pub split_opposite : (w v d : ℕ) → 0 < v → 0 < d → v + d ≡ 2 ^ w → SplitAt d (count_trailing_zeros w v)
+split_opposite w v d p q e =
+    let s : ℕ = count_trailing_zeros w v in
+    let split : SplitAt v s = split_at w v p (omega arith) in
+    let most : s ≤ w = trailing_le w v in
+    let u : ℕ = v / 2 ^ s in
+    let whole : u * 2 ^ s ≡ v = split.whole in
+    let odd : u % 2 ≡ 1 = split.odd in
+    let one : 1 * 2 ^ s ≤ u * 2 ^ s = mul-le-mul_right (2 ^ s) (let b : 1 ≤ u = omega arith in b) in
+    let below : s ≢ w = λ f. let g = ap (λ k. 2 ^ k) f in omega arith in
+    let m : ℕ = 2 ^ (w - suc s) in
+    let power : 2 ^ w ≡ 2 ^ s * (2 * m) =
+    ap (λ k. 2 ^ k) (let f : w ≡ suc s + (w - suc s) = omega arith in f) ∙ pow-add 2 (suc s) (w - suc s)
+    ∙ ap (λ k. k * m) (pow-suc 2 s) ∙ omega arith in
+    let first : v % 2 ^ s ≡ 0 = divides (2 ^ s) v u (omega arith) in
+    let both : (v + d) % 2 ^ s ≡ 0 = divides (2 ^ s) (v + d) (2 * m) (e ∙ power) in
+    let rest : d ≡ 2 ^ s * (d / 2 ^ s) = multiple_of (2 ^ s) d (divides_rest (2 ^ s) v d first both) in
+    let sum : u + d / 2 ^ s ≡ 2 * m = factor_cancel (2 ^ s) (u + d / 2 ^ s) (2 * m) (pow_pos s) (omega arith) in
+    record {
+      whole = omega arith;
+      odd = omega arith;
+    }
+
+-- ---- the odd part
+-- x is 2 ^ s times the odd number a
+pub record Halved (x s a : ℕ) : Type 0 where
+  pub odd : a % 2 ≡ 1
+  pub whole : a * 2 ^ s ≡ x
+  pub within : a ≤ x
+
+pub halved_split : (x s a : ℕ) → SplitAt x s → a ≡ x / 2 ^ s → Halved x s a
+halved_split x s a split f =
+    let one : 1 ≤ 2 ^ s = pow_pos s in
+    let t = mul-le-mul_left a one in
+    let m : a * 2 ^ s ≡ x = ap (λ v. v * 2 ^ s) f ∙ split.whole in
+    record {
+      odd = ap (λ v. v % 2) f ∙ split.odd;
+      whole = m;
+      within = omega arith;
+    }
+
+pub halved : (w x s a : ℕ) → (x ≡ 0 → ⊥) → x < 2 ^ w → s ≡ count_trailing_zeros w x → a ≡ x / 2 ^ s → Halved x s a
+halved w x s a p l e f =
+    halved_split x s a (subst (λ v. SplitAt x v) (sym e) (split_at w x (omega arith) l)) f

@@ -1,41 +1,25 @@
-//! The Jacobi symbol by halving and swapping, with the number of these steps.
+//! The Jacobi symbol by halving and swapping, with the number of these steps. `subtraction` has the faster
+//! loop, which counts none.
 
-ghost use Rattle.std.specs.Prelude.{◌≡◌, ℕ, ◌+◌, ◌*◌, ◌%◌, ◌^◌, ◌<◌, ◌≤◌, ◌==◌, ◌||◌, pos};
+ghost use Rattle.std.specs.Prelude.{◌≡◌, ℕ, ◌+◌, ◌*◌, ◌%◌, ◌^◌, ◌<◌, ◌≤◌, pos};
 ghost use Rattle.modular_symbols.specs.Jacobi.{jacobi};
 ghost use Rattle.modular_symbols.specs.Kronecker.{signed};
 ghost use Rattle.modular_symbols.specs.Steps.{jacobi_steps};
 ghost use Rattle.modular_word.specs.Residues.{residue};
 
+use crate::turns::{is_turned_by_swap, is_turned_by_twos};
 use modular_prim::abs::signed_residue;
 use modular_prim::plain_word::PlainWord;
 use modular_word::path_word::PathWord;
 use modular_word::ring_word::RingWord;
 
-// Whether an odd number leaves 3 modulo 4.
-fn leaves_3<T: PlainWord>(n: T) -> bool
-    requires { T.number n % 2 ≡ 1 }
-    ensures { result ≡ T.number n % 4 == 3 }
-{
-    n.half().is_odd()
-}
-
-/// Whether 2 has the symbol -1 over an odd number: the number leaves 3 or 5 modulo 8. Condition: it is
-/// odd.
-pub fn is_minus_over_two<T: PlainWord>(n: T) -> bool
-    requires { T.number n % 2 ≡ 1 }
-    ensures { result ≡ (T.number n % 8 == 3) || (T.number n % 8 == 5) }
-{
-    n.half().is_odd() ^ n.half().half().is_odd()
-}
-
 // Whether the symbol is turned where `a` times 2 to the power `twos` over n becomes n over `a`.
-#[tactic(auto, using(crate::proofs::HalvingSteps::halved_and_swapped))]
 fn is_turned<T: PlainWord>(a: T, twos: u32, n: T) -> bool
     requires a_odd { T.number a % 2 ≡ 1 }
     requires n_odd { T.number n % 2 ≡ 1 }
     ensures { jacobi (pos (T.number a * 2 ^ twos)) (T.number n) ≡ signed result (jacobi (pos (T.number n)) (T.number a)) }
 {
-    ((twos % 2 == 1) & is_minus_over_two(n)) ^ (leaves_3(a) & leaves_3(n))
+    is_turned_by_twos(twos, n) ^ is_turned_by_swap(a, n)
 }
 
 // The Jacobi symbol of a over n, and the number of halvings and swaps. Condition: n is odd and above a.

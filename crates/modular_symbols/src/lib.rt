@@ -11,4 +11,6 @@ pub mod operands;
 pub mod operations;
 pub mod primes;
 pub mod reference_operations;
+pub mod subtraction;
 pub mod symbols;
+pub mod turns;

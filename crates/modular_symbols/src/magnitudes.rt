@@ -6,7 +6,8 @@ ghost use Rattle.modular_symbols.specs.Kronecker.{signed, kronecker_above, krone
 ghost use Rattle.modular_symbols.specs.Legendre.{checked_legendre_of};
 ghost use Rattle.modular_symbols.specs.Primes.{IsOddPrime};
 
-use crate::halving::{is_minus_over_two, jacobi_by_halving};
+use crate::halving::jacobi_by_halving;
+use crate::turns::is_minus_over_two;
 use modular_prim::abs::signed_residue;
 use modular_prim::plain_word::PlainWord;
 use modular_prim::power::powm;

@@ -6,4 +6,5 @@ mod large;
 mod least;
 mod primes;
 mod references;
+mod subtraction;
 mod tables;

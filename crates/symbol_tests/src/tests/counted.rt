@@ -1,6 +1,7 @@
 //! Jacobi symbols with the numbers of their halvings and swaps.
 
 use modular_symbols::counted::{w8, w16, w32, w64, wsize};
+use modular_symbols::symbols::ModularSymbols;
 
 // A number, the one that its symbol is over, and the symbol with its count.
 const ROWS: &[(u8, u8, Option<(i8, u32)>)] = &[
@@ -28,6 +29,9 @@ fn answers(a: u8, n: u8) -> [Option<(i8, u32)>; 5] {
 fn symbols_at_each_width(rt: HostRuntime) {
     for &(a, n, want) in ROWS {
         assert!(rt; answers(a, n) == [want; 5], "{a} over {n}");
+        if let Some((symbol, _)) = w8::checked_jacobi_counted(a, n) {
+            assert!(rt; a.jacobi(&n) == symbol, "{a} over {n}");
+        }
     }
 }
 
@@ -37,4 +41,5 @@ fn halvings_of_64_bits(rt: HostRuntime) {
     assert!(rt;
         w64::checked_jacobi_counted(9223372036854775808, 18446744073709551615) == Some((1, 64))
     );
+    assert!(rt; 9223372036854775808u64.jacobi(&18446744073709551615) == 1);
 }

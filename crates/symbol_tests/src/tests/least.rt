@@ -15,6 +15,9 @@ fn assert_least<T: SymbolWord>(rt: &impl Abort, least: T, minus_one: T, zero: T,
     assert!(rt; kroneckers == [0, -1, 0, 1]);
     let jacobis = [least.checked_jacobi(&least), least.checked_jacobi(&one)];
     assert!(rt; jacobis == [None, Some(1)]);
+    if jacobis[1].is_some() {
+        assert!(rt; least.jacobi(&one) == 1);
+    }
     let legendres = [least.checked_legendre(&least), least.checked_legendre(&one)];
     assert!(rt; legendres == [None, Some(0)]);
 }

@@ -2,7 +2,9 @@
 use Rattle.std.proofs.Common.{rules, arith, ◌≡◌, ◌≢◌, ◌+◌, ◌∙◌, IsTrue, ℤ, pos, sym, ap}
 use Rattle.modular_symbols.specs.Jacobi.{jacobi}
 use Rattle.modular_symbols.specs.Kronecker.{signed}
-use Rattle.modular_symbols.proofs.HalvingSteps.{halved, smaller, kept_start, kept_swapped, kept_one, kept_none}
+use Rattle.modular_symbols.proofs.HalvingSteps.{smaller, kept_swapped}
+use Rattle.modular_symbols.proofs.TurnedSymbols.{kept_start, kept_one, kept_none}
+use Rattle.modular_symbols.proofs.TwoPart.{halved}
 use Rattle.modular_symbols.proofs.StepCounts.{counts_start, counts_turn, counts_end, counts_few}
 use Rattle.modular_symbols.proofs.halving.halve_and_swap.Goals as goal
 

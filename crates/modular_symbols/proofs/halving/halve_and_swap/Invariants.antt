@@ -1,6 +1,6 @@
 use Rattle.std.proofs.Common.{pos}
 use Rattle.modular_symbols.specs.Jacobi.{jacobi}
-use Rattle.modular_symbols.proofs.HalvingSteps.{Keeps}
+use Rattle.modular_symbols.proofs.TurnedSymbols.{Keeps}
 use Rattle.modular_symbols.proofs.StepCounts.{Counts}
 use Rattle.modular_symbols.proofs.halving.halve_and_swap.Given as goal
 

@@ -1,9 +1,12 @@
 -- A halving and a swap.
-use Rattle.modular_symbols.proofs.HalvingSteps.{halved_and_swapped}
+use Rattle.std.proofs.Common.{◌*◌, ◌^◌, pos}
+use Rattle.modular_symbols.specs.Jacobi.{jacobi}
+use Rattle.modular_symbols.proofs.TurnedSymbols.{turned_twice}
 use Rattle.modular_symbols.proofs.halving.is_turned.Goals as goal
 
 pub returns : goal.returns
 returns g c =
     let n = g.T.RingWord.number in
-    halved_and_swapped (n c.args.a) c.args.twos (n c.args.n) _ _ _ c.requires.a_odd c.requires.n_odd
-    c.is_minus_over_two.ensures c.leaves_3.ensures c.leaves_3-2.ensures
+    turned_twice (jacobi (pos (n c.args.a * 2 ^ c.args.twos)) (n c.args.n)) (jacobi (pos (n c.args.a)) (n c.args.n))
+    (jacobi (pos (n c.args.n)) (n c.args.a)) c.is_turned_by_twos.result c.is_turned_by_swap.result
+    (c.is_turned_by_twos.ensures (n c.args.a)) c.is_turned_by_swap.ensures

@@ -1,0 +1,44 @@
+//! What turns a Jacobi symbol: a power of 2 taken out of the upper number, and two odd numbers that
+//! change places.
+
+ghost use Rattle.std.specs.Prelude.{◌≡◌, ℕ, ◌*◌, ◌%◌, ◌^◌, ◌==◌, ◌||◌, pos};
+ghost use Rattle.modular_symbols.specs.Jacobi.{jacobi};
+ghost use Rattle.modular_symbols.specs.Kronecker.{signed};
+
+use modular_prim::plain_word::PlainWord;
+use modular_word::path_word::PathWord;
+use modular_word::ring_word::RingWord;
+
+// Whether an odd number leaves 3 modulo 4.
+fn leaves_3<T: PlainWord>(n: T) -> bool
+    requires { T.number n % 2 ≡ 1 }
+    ensures { result ≡ T.number n % 4 == 3 }
+{
+    n.half().is_odd()
+}
+
+/// Whether 2 has the symbol -1 over an odd number: the number leaves 3 or 5 modulo 8. Condition: it is
+/// odd.
+pub fn is_minus_over_two<T: PlainWord>(n: T) -> bool
+    requires { T.number n % 2 ≡ 1 }
+    ensures { result ≡ (T.number n % 8 == 3) || (T.number n % 8 == 5) }
+{
+    n.half().plus(T::one()).half().is_odd()
+}
+
+// Whether the symbol over an odd n is turned where 2 to the power `twos` is taken out of the upper number.
+pub(crate) fn is_turned_by_twos<T: PlainWord>(twos: u32, n: T) -> bool
+    requires { T.number n % 2 ≡ 1 }
+    ensures { (a : ℕ) → jacobi (pos (a * 2 ^ twos)) (T.number n) ≡ signed result (jacobi (pos a) (T.number n)) }
+{
+    (twos % 2 == 1) & is_minus_over_two(n)
+}
+
+// Whether the symbol is turned where two odd numbers change places.
+pub(crate) fn is_turned_by_swap<T: PlainWord>(a: T, n: T) -> bool
+    requires a_odd { T.number a % 2 ≡ 1 }
+    requires n_odd { T.number n % 2 ≡ 1 }
+    ensures { jacobi (pos (T.number a)) (T.number n) ≡ signed result (jacobi (pos (T.number n)) (T.number a)) }
+{
+    leaves_3(a) & leaves_3(n)
+}
