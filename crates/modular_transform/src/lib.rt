@@ -3,7 +3,7 @@
 
 pub mod convolution;
 pub mod laws;
-mod order;
+pub mod order;
 pub mod plain;
 mod stage;
 pub mod transform;

@@ -1,0 +1,5 @@
+pub mod Entries
+pub mod Levels
+pub mod Quotients
+pub mod Steps
+pub mod Tables

@@ -1,0 +1,95 @@
+-- Pairs make blocks, and blocks make stages.
+use Rattle.std.proofs.Common.{◌≡◌, ◌≢◌, ℕ, ◌+◌, ◌*◌, ◌%◌, ◌<◌, ◌≤◌, List, length, inl, inr, refl, sym, ◌∙◌, ap, arith, subst}
+use Rattle.std.proofs.Math.ListN.{set, length-set}
+use Rattle.std.proofs.Math.Nat.{add-mul-mod_self_right, mul-le-mul_right}
+use Rattle.std.proofs.lemmas.Bool.{cases_eq}
+use Rattle.modular_word.specs.Congruence.{Congruent}
+use Rattle.modular_word.proofs.Congruence.{of_equal, itself, turned, chained, added, mod_of_multiple_left}
+use Rattle.modular_plan.specs.Plans.{numbers}
+use Rattle.modular_plan.specs.Steps.{IsPairSplit, PairSplit, BlockSplit, StageSplit}
+use Rattle.modular_plan.proofs.Entries.{written, not_written}
+
+-- the sum and the difference of a pair
+pub pair_of : {m : ℕ} (w a b x t rest sum difference : ℕ) → x ≡ a % (2 * m) → Congruent m t (b * w) → rest + t ≡ 2 * m → sum ≡ x + t → difference ≡ x + rest
+    → IsPairSplit m w a b sum difference
+pair_of {m} w a b x t rest sum difference is_x is_t is_rest is_sum is_difference =
+    let first : Congruent m x a = record { same = ap (λ v. v % m) is_x ∙ mod_of_multiple_left m 2 a } in
+    let whole : difference + t ≡ x + 2 * m = omega arith in
+    let gone : Congruent m (x + 2 * m) x = record { same = add-mul-mod_self_right x 2 m } in
+    record {
+      summed = chained (of_equal is_sum) (added first is_t);
+      subtracted = chained (added (itself difference) (turned is_t)) (chained (of_equal whole) (chained gone first));
+    }
+
+-- what a pair writes
+pub pair_written : {T : Type 0} (number : T → ℕ) (m w : ℕ) (words : List T) (low high : ℕ) (sum difference : T) → low < high → high < length words
+    → IsPairSplit m w (numbers number words low) (numbers number words high) (number sum) (number difference)
+    → PairSplit m w low high (numbers number words) (numbers number (set (set words high difference) low sum))
+pair_written number m w words low high sum difference order within pair =
+    let x = numbers number words in
+    let y = numbers number (set (set words high difference) low sum) in
+    let l : low < length words = omega arith in
+    let ls : low < length (set words high difference) = subst (λ n. low < n) (sym (length-set words high difference)) l in
+    let ne : high ≢ low = omega arith in
+    let at_low : y low ≡ number sum = written number (set words high difference) low sum ls in
+    let at_high : y high ≡ number difference = not_written number (set words high difference) low high sum ne ∙ written number words high difference within in
+    record {
+      pair = subst (λ v. IsPairSplit m w (x low) (x high) (y low) v) (sym at_high) (subst (λ v. IsPairSplit m w (x low) (x high) v (number difference)) (sym at_low) pair);
+      kept = λ k nl nh. not_written number (set words high difference) low k sum nl ∙ not_written number words high k difference nh;
+    }
+
+pair_along : {m w a b s d a' b' s' d' : ℕ} → a ≡ a' → b ≡ b' → s ≡ s' → d ≡ d' → IsPairSplit m w a b s d → IsPairSplit m w a' b' s' d'
+pair_along {m} {w} {a} {b} {s} {d} {a'} {b'} {s'} {d'} ea eb es ed h =
+    subst (λ v. IsPairSplit m w v b' s' d') ea (subst (λ v. IsPairSplit m w a v s' d') eb (subst (λ v. IsPairSplit m w a b v d') es (subst (λ v. IsPairSplit m w a b s v) ed h)))
+
+pub block_none : (m w first half : ℕ) (x : ℕ → ℕ) → BlockSplit m w first half 0 x x
+block_none m w first half x = record { pairs = λ i l. absurd (omega arith); kept = λ k n1 n2. refl }
+
+-- one more column
+pub block_more : (m w first half i : ℕ) (x y after : ℕ → ℕ) → i < half → BlockSplit m w first half i x y → PairSplit m w (first + i) (first + (half + i)) y after
+    → BlockSplit m w first half (i + 1) x after
+block_more m w first half i x y after within before step = record {
+  pairs = λ k l. elim (cases_eq k i) [
+    | inl e ↦
+        let low_kept = before.kept (first + i) (λ n s. omega arith) (λ n s. omega arith) in
+        let high_kept = before.kept (first + (half + i)) (λ n s. omega arith) (λ n s. omega arith) in
+        subst (λ n. IsPairSplit m w (x (first + n)) (x (first + (half + n))) (after (first + n)) (after (first + (half + n)))) (sym e)
+        (pair_along low_kept high_kept refl refl step.pair)
+    | inr ne ↦
+        pair_along refl refl (sym (step.kept (first + k) (omega arith) (omega arith))) (sym (step.kept (first + (half + k)) (omega arith) (omega arith)))
+        (before.pairs k (omega arith))
+  ];
+  kept = λ k n1 n2. step.kept k (n1 i (omega arith)) (n2 i (omega arith)) ∙ before.kept k (λ n s. n1 n (omega arith)) (λ n s. n2 n (omega arith));
+}
+
+pub stage_none : (m half : ℕ) (w x : ℕ → ℕ) → StageSplit m half 0 w x x
+stage_none m half w x = record { pairs = λ p i l k. absurd (omega arith); kept = λ k l. refl }
+
+-- one more block
+pub stage_more : (m half p factor : ℕ) (w x y after : ℕ → ℕ) → factor ≡ w p → StageSplit m half p w x y → BlockSplit m factor (p * (half + half)) half half y after
+    → StageSplit m half (p + 1) w x after
+stage_more m half p factor w x y after is before step = record {
+  pairs = λ q i l k. elim (cases_eq q p) [
+    | inl e ↦
+        let low_kept = before.kept (p * (half + half) + i) (omega arith) in
+        let high_kept = before.kept (p * (half + half) + (half + i)) (omega arith) in
+        subst (λ n. IsPairSplit m (w n) (x (n * (half + half) + i)) (x (n * (half + half) + (half + i))) (after (n * (half + half) + i)) (after (n * (half + half) + (half + i)))) (sym e)
+        (subst (λ v. IsPairSplit m v (x (p * (half + half) + i)) (x (p * (half + half) + (half + i))) (after (p * (half + half) + i)) (after (p * (half + half) + (half + i)))) is
+        (pair_along low_kept high_kept refl refl (step.pairs i k)))
+    | inr ne ↦
+        let room = mul-le-mul_right (half + half) (let r : q + 1 ≤ p = omega arith in r) in
+        pair_along refl refl
+        (sym (step.kept (q * (half + half) + i) (λ n s. omega (arith, room)) (λ n s. omega (arith, room))))
+        (sym (step.kept (q * (half + half) + (half + i)) (λ n s. omega (arith, room)) (λ n s. omega (arith, room))))
+        (before.pairs q i (omega arith) k)
+  ];
+  kept = λ k l. step.kept k (λ n s. omega arith) (λ n s. omega arith) ∙ before.kept k (omega arith);
+}
+
+-- all columns
+pub block_all : {m w first half i : ℕ} {x y : ℕ → ℕ} → BlockSplit m w first half i x y → i ≡ half → BlockSplit m w first half half x y
+block_all {m} {w} {first} {half} {i} {x} {y} done e = subst (λ n. BlockSplit m w first half n x y) e done
+
+-- all blocks
+pub stage_all : {m half p blocks : ℕ} {w x y : ℕ → ℕ} → StageSplit m half p w x y → p ≡ blocks → StageSplit m half blocks w x y
+stage_all {m} {half} {p} {blocks} {w} {x} {y} done e = subst (λ n. StageSplit m half n w x y) e done

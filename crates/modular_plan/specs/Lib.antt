@@ -1,0 +1,3 @@
+pub mod Factors
+pub mod Plans
+pub mod Steps

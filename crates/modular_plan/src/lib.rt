@@ -1,0 +1,6 @@
+//! Transforms by a plan: a table of factors with their quotients, which the caller keeps.
+#![tactic(auto)]
+
+pub mod modulus;
+pub mod plan;
+pub mod split;
