@@ -1,5 +1,5 @@
-//! The laws of `num_modular::laws`, each called, and a clause of each cited, from a crate that lists the
-//! root alone.
+//! Laws of `num_modular::laws` on whole numbers, symbols and counts, called from a crate that lists the root
+//! alone; of those on numbers, and of two on symbols, a clause is cited.
 
 ghost use Rattle.num_modular.specs.Congruence.{Congruent};
 ghost use Rattle.num_modular.specs.Divisors.{Coprime};
@@ -10,7 +10,7 @@ ghost use Rattle.num_modular.specs.Residues.{IsResidue, residue};
 ghost use Rattle.num_modular.specs.Sums.{sum_to};
 ghost use Rattle.std.specs.Prelude.{◌≡◌, ℕ, suc, ◌-◌, ◌*◌, ◌%◌, ◌^◌, ◌<◌, ◌≤◌, ◌↔◌, ℤ, ◌*ℤ◌};
 
-use num_modular::PathWord;
+use num_modular::PlainWord;
 use num_modular::laws::{
     base_laws, congruence_laws, digit_laws, division_laws, divisor_laws, euclids_lemma, fold_laws,
     form_laws, inverse_laws, jacobi_laws, power_laws, prime_laws, remainder_laws, residue_laws,
@@ -18,7 +18,7 @@ use num_modular::laws::{
 };
 
 /// Laws of whole numbers.
-pub fn laws_of_numbers<T: PathWord>()
+pub fn laws_of_numbers<T: PlainWord>()
     ensures base { 256 ≤ T.base }
     ensures residue { (m : ℕ) (z : ℤ) → 0 < m → IsResidue m z (residue m z) }
     ensures remainder { (m a : ℕ) → a % m % m ≡ a % m }
@@ -41,7 +41,7 @@ pub fn laws_of_numbers<T: PathWord>()
 }
 
 /// Laws of symbols and primes; those of steps, forms and runs are called.
-pub fn laws_of_symbols<T: PathWord>()
+pub fn laws_of_symbols<T: PlainWord>()
     ensures product { (a b : ℤ) (n : ℕ) → n % 2 ≡ 1 → jacobi (a *ℤ b) n ≡ jacobi a n *ℤ jacobi b n }
     ensures fermat { (a p : ℕ) → IsPrime p → (a % p ≡ 0 → ⊥) → a ^ (p - 1) % p ≡ 1 }
 {

@@ -18,6 +18,12 @@ pub use modular_word::laws::{
     power_laws, range_laws, remainder_laws, residue_laws, sum_laws,
 };
 
+// In the shape that calls and loops leave.
+pub use modular_laws::laws::{
+    coefficient_laws, inverse_product_laws, prime_power_laws, product_below_laws, sum_below_laws,
+    undoing_laws,
+};
+
 // How many steps a call takes.
 pub use modular_prim::euclid::division_laws;
 pub use modular_reduced::power::digit_laws;

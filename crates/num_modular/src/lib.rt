@@ -40,7 +40,6 @@ pub use modular_symbols::operands::{IntegerValued, SymbolWord, UnsignedOperand};
 pub use modular_symbols::operations::ModularOps;
 pub use modular_symbols::reference_operations::ModularRefOps;
 pub use modular_symbols::symbols::ModularSymbols;
-pub use modular_word::path_word::PathWord;
 pub use modular_word::ring_word::RingWord;
 
 /// An integer modulo a number from 1 up, over `Montgomery`.

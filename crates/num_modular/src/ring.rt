@@ -5,6 +5,7 @@ ghost use Rattle.modular_word.specs.Inverses.{inverse_of};
 ghost use Rattle.modular_reduced.specs.Forms.{IsForm};
 ghost use Rattle.num_modular.specs.Ring.{whole, destination_of, outcome, value_at, IsStop, carried_out, IsFit, values_of, HoldValues, IsFormOf};
 
+pub use modular_laws::lists::{load_forms, unload_forms};
 use modular_reduced::reducer::Reducer;
 pub use modular_transform::convolution::convolve;
 pub use modular_transform::transform::{ntt, ntt_counted, root_fits};

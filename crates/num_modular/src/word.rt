@@ -1,6 +1,5 @@
 //! Words and their double words: the helpers of each width, and the traits of words.
 
 pub use modular_prim::plain_word::PlainWord;
-pub use modular_word::path_word::PathWord;
 pub use modular_word::ring_word::RingWord;
 pub use modular_word::word::{w8, w16, w32, w64, wsize};

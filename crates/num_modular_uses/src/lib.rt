@@ -2,4 +2,5 @@
 #![tactic(auto)]
 
 pub mod first_use;
+pub mod modrun;
 pub mod names;

@@ -1,0 +1,6 @@
+pub mod Calls
+pub mod Coefficients
+pub mod InnerRemainders
+pub mod InverseProducts
+pub mod PrimePowers
+pub mod Ranges

@@ -1,0 +1,61 @@
+-- Powers modulo a prime: Fermat's theorem for every number, Euler's criterion in whole numbers, and square roots.
+use Rattle.std.proofs.Common.{◌≡◌, ◌≢◌, ℕ, ◌+◌, ◌-◌, ◌*◌, ◌/◌, ◌%◌, ◌^◌, ◌<◌, pos, sym, ◌∙◌, ap, refl, arith, inl, inr}
+use Rattle.std.proofs.Math.Nat.{zero-mod}
+use Rattle.std.proofs.lemmas.Bool.{cases_eq}
+use Rattle.std.proofs.lemmas.Bool.Decides.{nat_tests}
+use Rattle.std.proofs.lemmas.Nat.{mul-mod, mul-mod_first, pow-add, mul-pow, pow-mod}
+use Rattle.modular_word.proofs.Congruence.{same_product}
+use Rattle.modular_word.proofs.Powers.{pow-one}
+use Rattle.modular_symbols.specs.Jacobi.{jacobi}
+use Rattle.modular_symbols.specs.Primes.{IsPrime}
+use Rattle.modular_symbols.proofs.Euler.{classed_power-jacobi}
+use Rattle.modular_symbols.proofs.PrimeLaws.{fermat}
+use Rattle.modular_symbols.proofs.Squares.{root_from_symbol}
+
+-- equal remainders have equal powers
+same_power : (m a b k : ℕ) → a % m ≡ b % m → a ^ k % m ≡ b ^ k % m
+same_power m a b k e = sym (pow-mod a k m) ∙ ap (λ v. v ^ k % m) e ∙ pow-mod b k m
+
+-- a power of at least one factor, one factor taken out
+one_out : (a k : ℕ) → 0 < k → a ^ k ≡ a ^ (k - 1) * a
+one_out a k l = let e : k ≡ (k - 1) + 1 = omega arith in ap (λ n. a ^ n) e ∙ pow-add a (k - 1) 1 ∙ ap (λ v. a ^ (k - 1) * v) (pow-one a)
+
+-- the p-th power leaves what the number leaves
+pub fermat_for_all : (a p : ℕ) → IsPrime p → a ^ p % p ≡ a % p
+fermat_for_all a p u =
+    let l = u.above_one in
+    let out = ap (λ v. v % p) (one_out a p (omega arith)) in
+    elim (cases_eq (a % p) 0) [
+      | inl z ↦
+          out ∙ mul-mod (a ^ (p - 1)) a p ∙ ap (λ v. (a ^ (p - 1) % p * v) % p) z
+          ∙ ap (λ v. v % p) (let e : a ^ (p - 1) % p * 0 ≡ 0 = omega arith in e) ∙ zero-mod p ∙ sym z
+      | inr n ↦
+          let one : 1 * a ≡ a = omega arith in
+          out ∙ sym (mul-mod_first (a ^ (p - 1)) a p) ∙ ap (λ v. (v * a) % p) (fermat a p u n) ∙ ap (λ v. v % p) one
+    ]
+
+-- the half power of a square of a number that p doesn't divide
+pub half_of_square : (a p x : ℕ) → p % 2 ≡ 1 → IsPrime p → x % p ≢ 0 → (x * x) % p ≡ a % p → a ^ ((p - 1) / 2) % p ≡ 1
+half_of_square a p x o u z e =
+    let h : ℕ = (p - 1) / 2 in
+    let twice : h + h ≡ p - 1 = omega arith in
+    sym (same_power p (x * x) a h e) ∙ ap (λ v. v % p) (mul-pow x x h ∙ sym (pow-add x h h) ∙ ap (λ n. x ^ n) twice) ∙ fermat x p u z
+
+-- where the half power is 1, there is such a number
+pub root_of_half : (a p : ℕ) → p % 2 ≡ 1 → IsPrime p → a ^ ((p - 1) / 2) % p ≡ 1 → (x : ℕ) × (x % p ≢ 0) × ((x * x) % p ≡ a % p)
+root_of_half a p o u e =
+    let c = classed_power-jacobi (pos a) p o u in
+    let v : (a % p) ^ ((p - 1) / 2) % p ≡ 1 = pow-mod a ((p - 1) / 2) p ∙ e in
+    let j : jacobi (pos a) p ≡ pos 1 = grind (arith, nat_tests) in
+    let r = root_from_symbol (pos a) p o u j in
+    (r.0, r.1.0, r.1.1)
+
+-- modulo a prime that leaves 3 modulo 4, a square has the power to (p + 1) / 4 as a root
+pub root_power : (a p x : ℕ) → p % 4 ≡ 3 → IsPrime p → (x * x) % p ≡ a % p
+    → (a ^ ((p + 1) / 4) * a ^ ((p + 1) / 4)) % p ≡ a % p
+root_power a p x o u e =
+    let k : ℕ = (p + 1) / 4 in
+    let four : (k + k) + (k + k) ≡ p + 1 = omega arith in
+    ap (λ v. v % p) (sym (pow-add a k k)) ∙ sym (same_power p (x * x) a (k + k) e)
+    ∙ ap (λ v. v % p) (mul-pow x x (k + k) ∙ sym (pow-add x (k + k) (k + k)) ∙ ap (λ n. x ^ n) four ∙ pow-add x p 1 ∙ ap (λ v. x ^ p * v) (pow-one x))
+    ∙ same_product p (x ^ p) x x x (fermat_for_all x p u) refl ∙ e

@@ -1,0 +1,5 @@
+//! What the loops of callers need: laws in the shape that calls leave, and lists of forms.
+#![tactic(auto)]
+
+pub mod laws;
+pub mod lists;
