@@ -1,6 +1,9 @@
 -- Residue number systems (Garner, "The residue number system", IRE Transactions on Electronic Computers 8, 1959; Knuth, The Art of Computer Programming, volume 2, section 4.3.2).
-use Rattle.std.specs.Prelude.{◌≡◌, ℕ, zero, suc, ◌*◌, ◌%◌, ◌^◌, ◌<◌, ◌≤◌, List, length, slice_index}
+use Rattle.std.specs.Prelude.{◌≡◌, ℕ, zero, suc, ◌+◌, ◌*◌, ◌%◌, ◌^◌, ◌<◌, ◌≤◌, pos, ◌-ℤ◌, List, length, slice_index}
 use Rattle.num_modular.specs.Divisors.{Coprime}
+use Rattle.num_modular.specs.Residues.{residue}
+use Rattle.residue_numbers.specs.declared.system.Operation.{Operation}
+use Rattle.residue_numbers.specs.declared.system.Operation.TheVariants.{Sum, Difference, Product}
 
 -- the product of the first n moduli
 unfoldable pub product_below : ℕ → List ℕ → ℕ
@@ -25,3 +28,9 @@ pub record IsSmallSystem (moduli : List ℕ) : Type 0 where
 -- the residues are those of x
 pub record AreResidues (moduli residues : List ℕ) (x : ℕ) : Type 0 where
   pub each : (i : ℕ) → i < length moduli → slice_index residues i ≡ x % slice_index moduli i
+
+-- what an operation on residues a and b gives modulo m
+abbrev pub result_of : Operation → ℕ → ℕ → ℕ → ℕ
+result_of Sum m a b = (a + b) % m
+result_of Difference m a b = residue m (pos a -ℤ pos b)
+result_of Product m a b = (a * b) % m

@@ -2,7 +2,7 @@
 
 ghost use Rattle.std.specs.Prelude.{◌≡◌, ℕ, ◌+◌, ◌*◌, ◌%◌, ◌<◌, ◌≤◌, ◌↔◌, IsSome, IfSome, length, slice_index, pos, ◌-ℤ◌};
 ghost use Rattle.num_modular.specs.Residues.{residue};
-ghost use Rattle.residue_numbers.specs.Systems.{range_of, IsSmallSystem, AreResidues};
+ghost use Rattle.residue_numbers.specs.Systems.{range_of, IsSmallSystem, AreResidues, result_of};
 
 use crate::{decode, encode, is_system};
 use num_modular::ModularCoreOps;
@@ -18,6 +18,26 @@ pub struct ResidueSystem<'a> {
     /// The moduli.
     pub moduli: &'a [u64],
     pub ghost small: { IsSmallSystem moduli.now },
+}
+
+// What is done at each modulus with the two residues there.
+#[derive(Clone, Copy)]
+enum Operation {
+    Sum,
+    Difference,
+    Product,
+}
+
+// The result modulo m. There is no division for a sum or a difference of residues below m.
+fn result_at(operation: Operation, m: u64, left: u64, right: u64) -> u64
+    requires { 1 ≤ m }
+    ensures { result ≡ result_of operation m left right }
+{
+    match operation {
+        Operation::Sum => left.addm(right, &m),
+        Operation::Difference => left.subm(right, &m),
+        Operation::Product => left.mulm(right, &m),
+    }
 }
 
 impl<'a> ResidueSystem<'a> {
@@ -57,6 +77,20 @@ impl<'a> ResidueSystem<'a> {
         decode(self.moduli, residues)
     }
 
+    // The results at each modulus.
+    fn combine(&self, operation: Operation, left: &[u64], right: &[u64], results: &mut [u64])
+        requires left { length left.now ≡ length self.now.moduli.now }
+        requires right { length right.now ≡ length self.now.moduli.now }
+        requires room { length results.old ≡ length self.now.moduli.now }
+        ensures { (i : ℕ) → i < length self.now.moduli.now → slice_index results.new i
+            ≡ result_of operation (slice_index self.now.moduli.now i) (slice_index left.now i) (slice_index right.now i) }
+    {
+        let moduli = self.moduli;
+        'moduli: for (place, modulus) in moduli.iter().enumerate() {
+            results[place] = result_at(operation, *modulus, left[place], right[place]);
+        }
+    }
+
     /// The sums of residues, each modulo its modulus: from those of x and of y the residues of x + y
     /// modulo the product of the moduli. Conditions: each modulus has a left residue, a right one and
     /// room for their sum.
@@ -70,10 +104,7 @@ impl<'a> ResidueSystem<'a> {
             AreResidues moduli left.now x → AreResidues moduli right.now y →
             AreResidues moduli sums.new ((x + y) % range_of moduli) }
     {
-        let moduli = self.moduli;
-        'moduli: for (place, modulus) in moduli.iter().enumerate() {
-            sums[place] = left[place].addm(right[place], modulus);
-        }
+        self.combine(Operation::Sum, left, right, sums);
     }
 
     /// The differences of residues, each modulo its modulus: from those of x and of y the residues of
@@ -89,11 +120,8 @@ impl<'a> ResidueSystem<'a> {
             AreResidues moduli left.now x → AreResidues moduli right.now y →
             AreResidues moduli differences.new (residue (range_of moduli) (pos x -ℤ pos y)) }
     {
-        let moduli = self.moduli;
-        'moduli: for (place, modulus) in moduli.iter().enumerate() {
-            differences[place] = left[place].subm(right[place], modulus);
-        }
         residue_laws();
+        self.combine(Operation::Difference, left, right, differences);
     }
 
     /// The products of residues, each modulo its modulus: from those of x and of y the residues of
@@ -109,9 +137,6 @@ impl<'a> ResidueSystem<'a> {
             AreResidues moduli left.now x → AreResidues moduli right.now y →
             AreResidues moduli products.new ((x * y) % range_of moduli) }
     {
-        let moduli = self.moduli;
-        'moduli: for (place, modulus) in moduli.iter().enumerate() {
-            products[place] = left[place].mulm(right[place], modulus);
-        }
+        self.combine(Operation::Product, left, right, products);
     }
 }

@@ -1,6 +1,6 @@
 -- Sums that differ in one term, and what a changed sum is modulo m.
 use Rattle.std.proofs.Common.{Bool, true, false, not, IsTrue, ◌↔◌, ◌≡◌, ◌≢◌, ℕ, zero, suc, ◌+◌, ◌*◌, ◌/◌, ◌%◌, ◌<◌, ◌≤◌, List, length, get_or, set, sym, ap, ◌∙◌, refl, arith, add-one, Option, Some, None, is_some, MatchOption, ⊎_elim, length-set, get_or-set_same, get_or-set_other}
-use Rattle.std.proofs.Math.Nat.{add-mod, mod-add-mod, div-add-mod, add-mul-mod_self_left, zero-mod, mod-eq_of_lt}
+use Rattle.std.proofs.Math.Nat.{add-mod, add-mod-mod, mod-add-mod, div-add-mod, add-mul-mod_self_left, zero-mod, mod-eq_of_lt}
 use Rattle.std.proofs.lemmas.Nat.{mul-mod_first}
 use Rattle.std.proofs.lemmas.Bool.{cases_lt}
 use Rattle.num_modular.specs.Inverses.{IsInverse, HasInverse}
@@ -74,24 +74,32 @@ spread m a b e = omega (arith, div-add-mod a m, div-add-mod b m)
 gathered : (m a b j k : ℕ) → a + m * j ≡ b + m * k → a % m ≡ b % m
 gathered m a b j k e = sym (add-mul-mod_self_left a m j) ∙ ap (λ n. n % m) e ∙ add-mul-mod_self_left b m k
 
--- the sum of an accepted word with a symbol changed, d being the difference of the symbols
-pub changed_sum : (m S S' w x s d : ℕ) → S % m ≡ 0 → S' + w * x ≡ S + w * s → (d + x) % m ≡ s % m
-    → S' % m ≡ (w * d) % m
-changed_sum m S S' w x s d zero_sum e difference =
-    let whole = div-add-mod S m in
+-- the sum of a word with a symbol changed, d being the difference of the symbols
+pub changed_sum : (m S S' w x s d : ℕ) → S' + w * x ≡ S + w * s → (d + x) % m ≡ s % m → S' % m ≡ (S + w * d) % m
+changed_sum m S S' w x s d moved difference =
     let times = ap (λ n. w * n) (spread m (d + x) s difference) in
-    gathered m S' (w * d) (w * ((d + x) / m)) (S / m + w * (s / m)) (omega (arith, times, whole))
+    gathered m S' (S + w * d) (w * ((d + x) / m)) (w * (s / m)) (omega (arith, times, moved))
 
 -- and with two neighbours exchanged, e being the difference of the weights
-pub exchanged_sum : (m S S' v w x y e d : ℕ) → S % m ≡ 0 → S' + v * x + w * y ≡ S + v * y + w * x
-    → (e + w) % m ≡ v % m → (d + x) % m ≡ y % m → S' % m ≡ (e * d) % m
-exchanged_sum m S S' v w x y e d zero_sum moved weights symbols =
-    let whole = div-add-mod S m in
+pub exchanged_sum : (m S S' v w x y e d : ℕ) → S' + v * x + w * y ≡ S + v * y + w * x
+    → (e + w) % m ≡ v % m → (d + x) % m ≡ y % m → S' % m ≡ (S + e * d) % m
+exchanged_sum m S S' v w x y e d moved weights symbols =
     let weights_x = ap (λ n. n * x) (spread m (e + w) v weights) in
     let weights_y = ap (λ n. n * y) (spread m (e + w) v weights) in
     let times = ap (λ n. e * n) (spread m (d + x) y symbols) in
-    gathered m S' (e * d) (e * ((d + x) / m) + (e + w) / m * y + v / m * x)
-    (S / m + e * (y / m) + v / m * y + (e + w) / m * x) (omega (arith, times, whole, weights_x, weights_y))
+    gathered m S' (S + e * d) (e * ((d + x) / m) + (e + w) / m * y + v / m * x)
+    (e * (y / m) + v / m * y + (e + w) / m * x) (omega (arith, times, moved, weights_x, weights_y))
+
+-- a sum still leaves r, exactly where what it is changed by leaves 0
+pub still_leaves : (m r S S' p : ℕ) → S % m ≡ r % m → S' % m ≡ (S + p) % m → (S' % m ≡ r % m) ↔ (p % m ≡ 0)
+still_leaves m r S S' p leaves changed = (
+  λ h.
+      let equal = spread m (S + p) S (sym changed ∙ h ∙ sym leaves) in
+      gathered m p 0 _ _ (let e : p + m * (S / m) ≡ 0 + m * ((S + p) / m) = omega (arith, equal) in e) ∙ zero-mod m,
+  λ none.
+      let same : S + 0 ≡ S = omega arith in
+      changed ∙ sym (add-mod-mod S p m) ∙ ap (λ n. (S + n) % m) none ∙ ap (λ n. n % m) same ∙ leaves,
+)
 
 cancels_at : (m e i d j k q : ℕ) → e * i + m * j ≡ 1 + m * k → m * q ≡ e * d → d + m * (k * d) ≡ 0 + m * (i * q + j * d)
 cancels_at m e i d j k q one whole =
@@ -118,38 +126,35 @@ refused_where true v P t f g = ((λ h. cc), λ h. absurd (h (g (t.0 refl))))
 refused_where false v P t f g =
     ((λ h p. let wrong : false ≡ true = t.1 (f p) in cc), λ h. refl)
 
-restored_at : (m S S' w x s q a b j k : ℕ) → S' + w * x ≡ S + w * s → q * w + m * a ≡ S + m * b → s + q + m * j ≡ x + m * k
-    → S' + m * (w * j + b) ≡ 0 + m * (w * k + a)
-restored_at m S S' w x s q a b j k moved quotient difference =
+restored_at : (m S S' w x s q t r a b c d j k : ℕ) → S' + w * x ≡ S + w * s → q * w + m * a ≡ t + m * b → t + r + m * c ≡ S + m * d
+    → s + q + m * j ≡ x + m * k → S' + m * (b + w * j + d) ≡ r + m * (c + w * k + a)
+restored_at m S S' w x s q t r a b c d j k moved quotient less difference =
     let times = ap (λ n. w * n) difference in
-    omega (arith, times)
+    omega (arith, times, moved, quotient, less)
 
--- the restored symbol: q times the weight is the sum, modulo m, and s is the symbol there less q
-pub restored_sum : (m S S' w x s q : ℕ) → S' + w * x ≡ S + w * s → (q * w) % m ≡ S % m → (s + q) % m ≡ x % m
-    → S' % m ≡ 0
-restored_sum m S S' w x s q moved quotient difference =
-    gathered m S' 0 _ _ (restored_at m S S' w x s q _ _ _ _ moved (spread m (q * w) S quotient) (spread m (s + q) x difference))
-    ∙ zero-mod m
+-- the restored symbol: q times the weight is t, which is the sum less r, modulo m, and s is the symbol there less q
+pub restored_sum : (m S S' w x s q t r : ℕ) → S' + w * x ≡ S + w * s → (q * w) % m ≡ t % m → (t + r) % m ≡ S % m → (s + q) % m ≡ x % m
+    → S' % m ≡ r % m
+restored_sum m S S' w x s q t r moved quotient less difference =
+    gathered m S' r _ _
+    (restored_at m S S' w x s q t r _ _ _ _ _ _ moved (spread m (q * w) t quotient) (spread m (t + r) S less) (spread m (s + q) x difference))
 
-one_at : (m S S' S'' w x s t i a b j k : ℕ) → S' + w * x ≡ S + w * s → S'' + w * x ≡ S + w * t → m * a ≡ S' → m * b ≡ S''
-    → w * i + m * j ≡ 1 + m * k → t + m * (k * t + j * s + i * a) ≡ s + m * (k * s + j * t + i * b)
-one_at m S S' S'' w x s t i a b j k moved other whole whole_other one =
+one_at : (m S S' S'' w x s t i a b j k : ℕ) → S' + w * x ≡ S + w * s → S'' + w * x ≡ S + w * t → S' + m * a ≡ S'' + m * b
+    → w * i + m * j ≡ 1 + m * k → t + m * (k * t + j * s + i * b) ≡ s + m * (k * s + j * t + i * a)
+one_at m S S' S'' w x s t i a b j k moved other equal one =
     let times_s = ap (λ n. n * s) one in
     let times_t = ap (λ n. n * t) one in
     let left = ap (λ n. i * n) moved in
     let right = ap (λ n. i * n) other in
-    let along = ap (λ n. i * n) whole in
-    let along_other = ap (λ n. i * n) whole_other in
-    omega (arith, times_s, times_t, left, right, along, along_other)
+    let along = ap (λ n. i * n) equal in
+    omega (arith, times_s, times_t, left, right, along)
 
--- two symbols that both make the sum 0 are one
-pub one_symbol : (m S S' S'' w x s t : ℕ) → HasInverse m w → s < m → t < m → S' % m ≡ 0 → S'' % m ≡ 0
+-- two symbols below m that make the sum leave the same are one
+pub one_symbol : (m S S' S'' w x s t : ℕ) → HasInverse m w → s < m → t < m → S' % m ≡ S'' % m
     → S' + w * x ≡ S + w * s → S'' + w * x ≡ S + w * t → t ≡ s
-one_symbol m S S' S'' w x s t (i, inverse) s_below t_below zero_sum zero_other moved other =
-    let whole = div-add-mod S' m in
-    let whole_other = div-add-mod S'' m in
+one_symbol m S S' S'' w x s t (i, inverse) s_below t_below equal moved other =
     sym (mod-eq_of_lt t_below)
-    ∙ gathered m t s _ _ (one_at m S S' S'' w x s t i (S' / m) (S'' / m) _ _ moved other (omega (arith, whole)) (omega (arith, whole_other)) (spread m (w * i) 1 inverse.one))
+    ∙ gathered m t s _ _ (one_at m S S' S'' w x s t i _ _ _ _ moved other (spread m S' S'' equal) (spread m (w * i) 1 inverse.one))
     ∙ mod-eq_of_lt s_below
 
 -- an inversion tells whether there is an inverse

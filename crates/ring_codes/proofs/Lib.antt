@@ -1,1 +1,2 @@
 mod CheckSums
+mod Ibans

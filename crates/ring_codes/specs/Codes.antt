@@ -6,9 +6,9 @@ use Rattle.num_modular.specs.Sums.{sum_below}
 abbrev pub weighted_sum : List ℕ → List ℕ → ℕ
 weighted_sum weights word = sum_below (length word) (λ i. slice_index weights i * slice_index word i)
 
--- the word is of the code: its weighted sum is 0 modulo m
-pub record IsCodeword (m : ℕ) (weights word : List ℕ) : Type 0 where
-  pub zero : weighted_sum weights word % m ≡ 0
+-- the word is of the code: its weighted sum leaves what the residue leaves modulo m
+pub record IsCodeword (m residue : ℕ) (weights word : List ℕ) : Type 0 where
+  pub leaves : weighted_sum weights word % m ≡ residue % m
 
 -- the word with the symbols at the places i and i + 1 exchanged
 abbrev pub exchanged : List ℕ → ℕ → List ℕ

@@ -1,0 +1,37 @@
+-- IBANs as their standard reads them (ISO 13616-1, International bank account number, by ISO/IEC 7064, MOD 97-10).
+use Rattle.std.specs.Prelude.{◌≡◌, ℕ, ◌-◌, ◌/◌, ◌%◌, ◌≤◌, ◌⊎◌, if◌then◌else◌, nat_le, List, All, [], ◌∷◌, ◌++◌, length, slice_index, take, drop}
+use Rattle.std.specs.List.{flat_map}
+use Rattle.num_modular.specs.Sums.{polynomial}
+
+-- one of the characters 0 to 9, by its number in ASCII
+abbrev pub IsDigit : ℕ → Type 0
+IsDigit c = (48 ≤ c) × (c ≤ 57)
+
+-- one of the characters A to Z
+abbrev pub IsLetter : ℕ → Type 0
+IsLetter c = (65 ≤ c) × (c ≤ 90)
+
+-- the text has the form of an IBAN: two letters of a country, two check digits, and one to thirty digits and letters
+pub record IsIbanForm (text : List ℕ) : Type 0 where
+  pub least : 5 ≤ length text
+  pub most : length text ≤ 34
+  pub country : IsLetter (slice_index text 0) × IsLetter (slice_index text 1)
+  pub check : IsDigit (slice_index text 2) × IsDigit (slice_index text 3)
+  pub characters : All (λ c. IsDigit c ⊎ IsLetter c) text
+
+-- the digits that a character is read as: one of 0 to 9 as itself, a letter as the two of its number from A, which is 10, to Z, which is 35
+abbrev pub digits_of : ℕ → List ℕ
+digits_of c = if nat_le c 57 then (c - 48) ∷ [] else ((c - 55) / 10) ∷ ((c - 55) % 10) ∷ []
+
+-- the digits of a text, whose first four characters go to its end
+abbrev pub iban_digits : List ℕ → List ℕ
+iban_digits text = flat_map digits_of (drop 4 text ++ take 4 text)
+
+-- the number that they write in decimal
+abbrev pub iban_number : List ℕ → ℕ
+iban_number text = polynomial (length (iban_digits text)) (slice_index (iban_digits text)) 10
+
+-- the text is an IBAN: it has the form, and its number leaves 1 modulo 97
+pub record IsIban (text : List ℕ) : Type 0 where
+  pub form : IsIbanForm text
+  pub leaves : iban_number text % 97 ≡ 1
