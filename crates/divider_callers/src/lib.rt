@@ -7,7 +7,7 @@ ghost use Rattle.modular_word.specs.Division.{IsDivision, IsExactQuotient};
 use modular_barrett::normalized::{Normalized2by1Divisor, StoredDivisor};
 use modular_barrett::one_by_one::{FitsDivisor, PreMulInv1by1};
 use modular_prim::exact::DivExact;
-use modular_word::path_word::PathWord;
+use modular_prim::plain_word::PlainWord;
 
 /// Weeks and days.
 pub fn weeks(days: u8) -> (u8, u8)
@@ -50,7 +50,7 @@ pub fn of_two_bytes() -> (u8, u8)
 }
 
 /// Quotients and remainders of two words by one divisor, for which one divider serves.
-pub fn both_by_one<T: PathWord>(divider: &PreMulInv1by1<T>, a: T, b: T, d: T) -> ((T, T), (T, T))
+pub fn both_by_one<T: PlainWord>(divider: &PreMulInv1by1<T>, a: T, b: T, d: T) -> ((T, T), (T, T))
     requires { ⟦<PreMulInv1by1<T> as FitsDivisor>⟧.fits divider.now (T.number d) }
     ensures first { IsDivision (T.number a) (T.number d) (T.number result.0.0) (T.number result.0.1) }
     ensures second { IsDivision (T.number b) (T.number d) (T.number result.1.0) (T.number result.1.1) }
@@ -59,7 +59,7 @@ pub fn both_by_one<T: PathWord>(divider: &PreMulInv1by1<T>, a: T, b: T, d: T) ->
 }
 
 /// The remainder of a number of three words, by two divisions of two words by one.
-pub fn remainder_of_three<T: PathWord>(divider: &Normalized2by1Divisor<T>, words: (T, T, T)) -> T
+pub fn remainder_of_three<T: PlainWord>(divider: &Normalized2by1Divisor<T>, words: (T, T, T)) -> T
     requires { T.number words.2 < ⟦<Normalized2by1Divisor<T> as StoredDivisor>⟧.divisor divider.now }
     ensures { T.number result ≡ (T.number words.0 + T.base * (T.number words.1 + T.base * T.number words.2))
         % ⟦<Normalized2by1Divisor<T> as StoredDivisor>⟧.divisor divider.now }
@@ -71,7 +71,7 @@ pub fn remainder_of_three<T: PathWord>(divider: &Normalized2by1Divisor<T>, words
 }
 
 /// Whether two dividers are equal, which they are exactly where they divide by one number.
-pub fn same_divisor<T: PathWord>(
+pub fn same_divisor<T: PlainWord>(
     left: &Normalized2by1Divisor<T>,
     right: &Normalized2by1Divisor<T>,
 ) -> bool

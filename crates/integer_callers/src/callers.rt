@@ -2,7 +2,7 @@
 
 ghost use Rattle.modular_reduced.specs.Integers.{CanDivide, IsQuotient, IsReduced, modulus_of, residue_of};
 ghost use Rattle.modular_word.specs.Inverses.{HasInverse};
-ghost use Rattle.std.specs.Prelude.{◌≡◌, ◌↔◌, IfSome, IsSome, IsTrue};
+ghost use Rattle.std.specs.Prelude.{◌≡◌, ◌+◌, ◌%◌, ◌↔◌, IfSome, IsSome, IsTrue};
 
 use modular_reduced::modular_integer::ModularInteger;
 use modular_reduced::reduced_int::{ReducedInt, VanillaInt};
@@ -33,6 +33,23 @@ pub fn quotient_if_any<T: RingWord, R: Reducer<T> + Copy>(
     } else {
         None
     }
+}
+
+/// The residue of the sum of two integers whose words have 64 bits, whatever their type. Condition:
+/// their moduli are equal.
+pub fn residue_of_sum<I: ModularInteger<Base = u64> + Copy>(a: I, b: I) -> u64
+    requires { I.modulus_number a ≡ I.modulus_number b }
+    ensures { result ≡ (I.residue_number a + I.residue_number b) % I.modulus_number a }
+{
+    (a + b).residue()
+}
+
+/// x + y modulo m, by the integers of a ring whose words have 64 bits: `ring` is any of them.
+#[tactic(auto, using(modular_word::proofs::Remainders::remainders))]
+pub fn sum_in_ring<I: ModularInteger<Base = u64> + Copy>(ring: I, x: u64, y: u64) -> u64
+    ensures { result ≡ (x + y) % I.modulus_number ring }
+{
+    residue_of_sum(ring.convert(x), ring.convert(y))
 }
 
 /// 5 modulo 21, which has an inverse.

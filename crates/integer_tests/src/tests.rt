@@ -6,6 +6,7 @@ ghost use Rattle.std.specs.Prelude.{◌≡◌, ◌≤◌, ◌%◌};
 use integer_callers::callers::*;
 use integer_callers::equality::is_equivalence;
 use integer_callers::polynomial::{horner, value_by_forms, value_of_bytes};
+use modular_barrett::premul::PreMulInv2by1;
 use modular_reduced::modular_integer::ModularInteger;
 use modular_reduced::reduced_int::{ReducedInt, VanillaInt};
 use modular_reduced::reducer::Reducer;
@@ -340,4 +341,16 @@ fn polynomials(rt: HostRuntime) {
 #[test]
 fn the_polynomial_of_no_coefficients(rt: HostRuntime) {
     assert!(rt; horner(&[], integer(7, 21)).residue() == 0);
+}
+
+#[test]
+fn sums_of_64_bits_of_any_integers(rt: HostRuntime) {
+    // 2^64 - 59
+    let (m, top) = (18446744073709551557, u64::MAX);
+    let plain = VanillaInt::<u64>::new(top, &m);
+    let scaled = ReducedInt::<u64, PreMulInv2by1<u64>>::new(top, &m);
+    assert!(rt; residue_of_sum(plain, plain) == 116);
+    assert!(rt; residue_of_sum(scaled, scaled) == 116);
+    assert!(rt; sum_in_ring(plain, top, top - 60) == 56);
+    assert!(rt; sum_in_ring(scaled, top, top - 60) == 56);
 }

@@ -4,6 +4,7 @@ ghost use Rattle.modular_reduced.specs.Integers.{IsInteger};
 ghost use Rattle.modular_word.specs.Residues.{residue};
 ghost use Rattle.std.specs.Prelude.{◌≡◌, ℕ, ◌+◌, ◌*◌, ◌%◌, ◌<◌, ◌↔◌, IsTrue, pos, ◌-ℤ◌, neg_ℤ};
 
+use modular_word::ring_word::RingWord;
 use std::ops::{Add, Mul, Neg, Sub};
 
 /// An integer modulo m, with its modulus.
@@ -16,7 +17,7 @@ pub trait ModularInteger: PartialEq
     + Mul<Self, Output = Self>
     + Neg<Output = Self> {
     /// The words that moduli and residues are.
-    type Base;
+    type Base: RingWord;
 
     // The modulus.
     ghost modulus_number: { Self → ℕ };
@@ -24,16 +25,13 @@ pub trait ModularInteger: PartialEq
     // The residue: a number below the modulus.
     ghost residue_number: { Self → ℕ };
 
-    // The number of a word.
-    ghost base_number: { Self.Base → ℕ };
-
     /// The modulus.
     fn modulus(&self) -> Self::Base
-        ensures { base_number result ≡ modulus_number self.now };
+        ensures { Self.Base.number result ≡ modulus_number self.now };
 
     /// The residue.
     fn residue(&self) -> Self::Base
-        ensures { base_number result ≡ residue_number self.now };
+        ensures { Self.Base.number result ≡ residue_number self.now };
 
     /// Whether the residue is 0.
     fn is_zero(&self) -> bool
@@ -42,7 +40,7 @@ pub trait ModularInteger: PartialEq
     /// The integer n mod m, in the ring of `self`.
     fn convert(&self, n: Self::Base) -> Self
         ensures { let m = modulus_number self.now in
-            IsInteger modulus_number residue_number m (base_number n % m) result };
+            IsInteger modulus_number residue_number m (Self.Base.number n % m) result };
 
     /// Twice the integer.
     fn double(self) -> Self

@@ -50,6 +50,7 @@ impl<T: PlainWord> Reducer<T> for Vanilla<T> {
         let modulus = *m;
         // a word that was read is known to fit
         let _ = modulus.is_odd();
+        prove!(!modulus.is_zero_word());
         Vanilla { modulus }
     }
 

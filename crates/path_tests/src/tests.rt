@@ -2,6 +2,7 @@
 
 mod dividers;
 mod integers;
+mod modrun;
 mod plain;
 mod symbols;
 mod words;

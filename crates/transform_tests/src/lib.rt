@@ -2,4 +2,6 @@
 #![tactic(auto)]
 
 #[cfg(test)]
+mod long;
+#[cfg(test)]
 mod tests;

@@ -16,8 +16,6 @@ impl<T: RingWord, R: Reducer<T> + Copy> ModularInteger for ReducedInt<T, R> {
 
     ghost residue_number = { residue_of };
 
-    ghost base_number = { T.number };
-
     fn modulus(&self) -> T {
         self.reducer.modulus()
     }

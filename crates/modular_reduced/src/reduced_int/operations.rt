@@ -25,6 +25,7 @@ pub fn sum<T: RingWord, R: Reducer<T> + Copy>(
     requires { modulus_of x.now ≡ modulus_of y.now }
     ensures { IsSum x.now (residue_of y.now) result }
 {
+    prove!(x.reducer.modulus() == y.reducer.modulus());
     ReducedInt {
         form: x.reducer.add(&x.form, &y.form),
         reducer: x.reducer,
@@ -46,6 +47,7 @@ pub fn difference<T: RingWord, R: Reducer<T> + Copy>(
     requires { modulus_of x.now ≡ modulus_of y.now }
     ensures { IsDifference x.now (residue_of y.now) result }
 {
+    prove!(x.reducer.modulus() == y.reducer.modulus());
     ReducedInt {
         form: x.reducer.sub(&x.form, &y.form),
         reducer: x.reducer,
@@ -70,6 +72,7 @@ pub fn product<T: RingWord, R: Reducer<T> + Copy>(
     requires { modulus_of x.now ≡ modulus_of y.now }
     ensures { IsProduct x.now (residue_of y.now) result }
 {
+    prove!(x.reducer.modulus() == y.reducer.modulus());
     ReducedInt {
         form: x.reducer.mul(&x.form, &y.form),
         reducer: x.reducer,

@@ -1,9 +1,6 @@
-//! Integers of a ring, powers with their count, and the program's body.
+//! Integers of a ring, and powers with their count.
 
-use num_modular::modrun::run_words;
-use num_modular::modrun::words::{command, number};
 use num_modular::reduced::pow_counted;
-use num_modular::ring::RingCommand;
 use num_modular::word::RingWord;
 use num_modular::{ModularInteger, MontgomeryInt, ReducedInt, Reducer, Vanilla, VanillaInt};
 use run_helpers::{multiples, product, sum};
@@ -49,31 +46,4 @@ fn products_of_a_power(rt: HostRuntime) {
     for (exp, products) in [(0, 0), (1, 0), (2, 1), (3, 4), (4, 4), (255, 16)] {
         assert!(rt; count_of(&reducer, exp) == products, "the exponent {exp}");
     }
-}
-
-#[test]
-fn words_of_the_program(rt: HostRuntime) {
-    let found = (
-        (number("0021"), number("18446744073709551616")),
-        command("load,00,05"),
-        command("load,8,1"),
-    );
-    assert!(rt;
-        found
-            == (
-                (Some(21), None),
-                Some(RingCommand::Load { dst: 0, n: 5 }),
-                None
-            )
-    );
-}
-
-#[test]
-fn the_body_of_the_program(rt: HostRuntime) {
-    let mut out = [0u8; 18];
-    let mut err = [0u8; 4];
-    let words = ["vanilla", "97", "load,0,10", "load,1,20", "mul,2,0,1"];
-    let status = run_words(rt.alloc(), &words, &mut &mut out[..], &mut &mut err[..]);
-    let found = (status, out);
-    assert!(rt; found == (0, *b"10 20 6 0 0 0 0 0\n"));
 }

@@ -1,10 +1,9 @@
 //! Transforms and cyclic products over several reducers, beside their plain sums.
 
 use modular_transform::plain::{product_entry, transform_entry};
-use num_modular::ring::{all_checked, convolve, ntt, ntt_counted, root_fits};
+use num_modular::ring::{all_checked, convolve, ntt_counted, root_fits};
 use num_modular::word::RingWord;
 use num_modular::{FixedTrinomialSolinas64, Montgomery, PreMulInv2by1, Reducer, Vanilla};
-use std::test::Fail;
 
 // Puts the forms of residues in their place.
 fn take_forms<T: RingWord, R: Reducer<T>>(r: &R, xs: &mut [T]) {
@@ -216,30 +215,4 @@ fn plain_sums_around_a_strip(rt: HostRuntime) {
         assert!(rt; are_sums(&montgomery, &sums, n, g), "Montgomery, {n}");
         assert!(rt; are_sums(&solinas, &sums, n, g), "Solinas, {n}");
     }
-}
-
-// The transform by a form g, where its conditions hold.
-fn transform_in_place<R: Reducer<u64>>(r: &R, xs: &mut [u64], g: &u64) -> bool {
-    if r.check(g) && all_checked(r, xs) && root_fits(r, g, xs.len()) {
-        ntt(r, xs, g);
-        true
-    } else {
-        false
-    }
-}
-
-// How many entries the long transform has.
-fn a_million() -> usize {
-    1 << 20
-}
-
-#[test]
-fn a_million_ones(rt: HostRuntime) -> Result<(), Fail> {
-    let r = FixedTrinomialSolinas64::<64, 32, 1>::new(&MODULUS);
-    let g = r.pow(r.transform(GENERATOR), &17592186040320);
-    let mut xs = vec![in rt.alloc(); 1; a_million()]?;
-    assert!(rt; transform_in_place(&r, xs.as_mut_slice(), &g));
-    assert_eq!(rt; xs.get(0), Some(&1048576));
-    assert!(rt; xs.iter().skip(1).all(|form| *form == 0));
-    Ok(())
 }
