@@ -71,6 +71,7 @@ impl<T: PathWord> Normalized2by1Divisor<T> {
         ensures { let d = ⟦<Normalized2by1Divisor<T> as StoredDivisor>⟧.divisor self.now in
             IsDivision (T.double_number a) d (T.number result.0) (T.number result.1) }
     {
+        prove!(T::split(a).1.is_below(self.divisor));
         div_2by1(self.divisor, self.reciprocal, a)
     }
 }
@@ -89,6 +90,7 @@ impl<T: PlainWord> Normalized2by1Divisor<T> {
         requires { T.base ≤ 2 * T.number d }
         ensures { ⟦<Normalized2by1Divisor<T> as StoredDivisor>⟧.divisor result ≡ T.number d }
     {
+        prove!(T::zero().wrapping_sub(T::one()).half().is_below(d));
         Normalized2by1Divisor {
             divisor: d,
             reciprocal: Self::invert_word(d),

@@ -63,6 +63,7 @@ impl<T: PlainWord> PreMulInv1by1<T> {
         requires { 1 < T.number d }
         ensures { ⟦<PreMulInv1by1<T> as FitsDivisor>⟧.fits result (T.number d) }
     {
+        prove!(!d.half().is_zero_word());
         let less = d.minus(T::one());
         let n = binary_digits(less);
         let gap = ones::<T>(n).minus(less);

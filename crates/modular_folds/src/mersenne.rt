@@ -34,6 +34,7 @@ impl<const P: u8, const K: u32> FoldRing<u32, Mersenne32<P, K>> {
         requires { IsMersenneRange 32 P K }
         ensures { result ≡ mersenne P K }
     {
+        prove!(P <= 32 && K % 2 == 1 && 2 * (K as u64) < 1 << P);
         ((1u64 << P) - K as u64) as u32
     }
 
@@ -70,7 +71,8 @@ impl<const P: u8, const K: u32> FoldModulus<u32> for Mersenne32<P, K> {
 
     ghost modulus = { λ m. mersenne P K };
 
-    fn keep(_m: u32) -> Self {
+    fn keep(m: u32) -> Self {
+        prove!(m == FixedMersenne32::<P, K>::fixed_modulus());
         Mersenne32 { made: () }
     }
 
@@ -113,6 +115,7 @@ impl<const P: u8, const K: u64> FoldRing<u64, Mersenne64<P, K>> {
         requires { IsMersenneRange 64 P K }
         ensures { result ≡ mersenne P K }
     {
+        prove!(P <= 64 && K % 2 == 1 && 2 * (K as u128) < 1 << P);
         ((1u128 << P) - K as u128) as u64
     }
 
@@ -149,7 +152,8 @@ impl<const P: u8, const K: u64> FoldModulus<u64> for Mersenne64<P, K> {
 
     ghost modulus = { λ m. mersenne P K };
 
-    fn keep(_m: u64) -> Self {
+    fn keep(m: u64) -> Self {
+        prove!(m == FixedMersenne64::<P, K>::fixed_modulus());
         Mersenne64 { made: () }
     }
 
@@ -232,7 +236,8 @@ impl<const P: u8, const K: u64> Reducer<u128> for FixedMersenne<P, K> {
 
     ghost canonical = { λ r. mersenne_canonical 128 (lit≤ tt) r.ring.kept.range };
 
-    fn new(_m: &u128) -> Self {
+    fn new(m: &u128) -> Self {
+        prove!(*m == Self::fixed_modulus());
         FixedMersenne {
             ring: FixedMersenne64::<P, K>::new(&FixedMersenne64::<P, K>::fixed_modulus()),
         }

@@ -195,6 +195,8 @@ impl<T: TrinomialWord, F: Trinomial> FoldRing<T, TrinomialModulus<T, F>> {
         ensures value { T.number result ≡ trinomial F.p1 F.p2 F.k }
         ensures whole { pos (T.number result) ≡ (pos (2 ^ F.p1) -ℤ pos (2 ^ F.p2)) +ℤ F.k }
     {
+        prove!(F::p1() as u32 <= T::bits() && 0 < F::p2() && F::p2() < F::p1());
+        prove!(F::k().unsigned_abs() % 2 == 1 && F::k().unsigned_abs() < 1 << F::p2());
         T::word_of(modulus_of(F::p1(), F::p2(), F::k()))
     }
 
@@ -245,7 +247,8 @@ impl<T: TrinomialWord, F: Trinomial> FoldModulus<T> for TrinomialModulus<T, F> {
 
     ghost modulus = { λ m. trinomial F.p1 F.p2 F.k };
 
-    fn keep(_m: T) -> Self {
+    fn keep(m: T) -> Self {
+        prove!(m == TrinomialSolinas::<T, F>::fixed_modulus());
         TrinomialModulus {
             word: PhantomData,
             parameters: PhantomData,

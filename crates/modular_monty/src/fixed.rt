@@ -29,6 +29,7 @@ impl<const P: u32> OddRing<u32, OddNumber32<P>> {
         requires { P % 2 ≡ 1 }
         ensures { result ≡ P }
     {
+        prove!(P % 2 == 1);
         P
     }
 }
@@ -43,6 +44,7 @@ impl<const P: u32> OddModulus<u32> for OddNumber32<P> {
     ghost square = { λ m. m.square };
 
     fn keep(m: u32) -> Self {
+        prove!(m == FixedMontgomery32::<P>::fixed_modulus());
         let (negated_inverse, square) = computed_once(m);
         OddNumber32 {
             negated_inverse,
@@ -87,6 +89,7 @@ impl<const P: u64> OddRing<u64, OddNumber64<P>> {
         requires { P % 2 ≡ 1 }
         ensures { result ≡ P }
     {
+        prove!(P % 2 == 1);
         P
     }
 }
@@ -101,6 +104,7 @@ impl<const P: u64> OddModulus<u64> for OddNumber64<P> {
     ghost square = { λ m. m.square };
 
     fn keep(m: u64) -> Self {
+        prove!(m == FixedMontgomery64::<P>::fixed_modulus());
         let (negated_inverse, square) = computed_once(m);
         OddNumber64 {
             negated_inverse,

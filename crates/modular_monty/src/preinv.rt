@@ -62,6 +62,7 @@ impl<T: PlainWord> PreModInv<T> {
         requires { T.number d % 2 ≡ 1 }
         ensures { ⟦<PreModInv<T> as PreparedInverse>⟧.fits result (T.number d) }
     {
+        prove!(d.is_odd());
         let d_inv = T::zero().wrapping_sub(neginv(d));
         let q_lim = ones::<T>(T::bits()).quotient(d);
         PreModInv::new(d_inv, q_lim)
@@ -73,6 +74,7 @@ fn word_quotient<T: PathWord>(n: T, d: T, pre: &PreModInv<T>) -> Option<T>
     requires { ⟦<PreModInv<T> as PreparedInverse>⟧.fits pre.now (T.number d) }
     ensures { IsExactQuotient T.number (T.number n) (T.number d) result }
 {
+    prove!(d.wrapping_mul(pre.d_inv) == T::one());
     exact_1(d, pre.d_inv, pre.q_lim, n)
 }
 
@@ -81,5 +83,6 @@ fn double_quotient<T: PathWord>(n: T::Double, d: T, pre: &PreModInv<T>) -> Optio
     requires { ⟦<PreModInv<T> as PreparedInverse>⟧.fits pre.now (T.number d) }
     ensures { IsExactQuotient T.double_number (T.double_number n) (T.number d) result }
 {
+    prove!(d.wrapping_mul(pre.d_inv) == T::one());
     exact_2(d, pre.d_inv, pre.q_lim, n)
 }

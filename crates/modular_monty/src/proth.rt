@@ -26,6 +26,8 @@ impl<const N: u8, const K: u8> ProthNumber32<N, K> {
         requires { IsProthRange 32 greatest_proth_32 N K }
         ensures { result ≡ proth_modulus N K }
     {
+        prove!(0 < N && N < 32 && K % 2 == 1 && (K as u32) < 1 << N);
+        prove!(((K as u64) << N) < 2654435769);
         ((K as u32) << N) + 1
     }
 
@@ -75,6 +77,7 @@ impl<const N: u8, const K: u8> OddModulus<u32> for ProthNumber32<N, K> {
     ghost square = { λ m. m.square };
 
     fn keep(m: u32) -> Self {
+        prove!(m == Self::value());
         let (negated_inverse, square) = computed_once(m);
         ProthNumber32 {
             negated_inverse,
@@ -116,6 +119,8 @@ impl<const N: u8, const K: u8> ProthNumber64<N, K> {
         requires { IsProthRange 64 greatest_proth_64 N K }
         ensures { result ≡ proth_modulus N K }
     {
+        prove!(0 < N && N < 64 && K % 2 == 1 && (K as u64) < 1 << N);
+        prove!(((K as u128) << N) < 11400714819323199485);
         ((K as u64) << N) + 1
     }
 
@@ -165,6 +170,7 @@ impl<const N: u8, const K: u8> OddModulus<u64> for ProthNumber64<N, K> {
     ghost square = { λ m. m.square };
 
     fn keep(m: u64) -> Self {
+        prove!(m == Self::value());
         let (negated_inverse, square) = computed_once(m);
         ProthNumber64 {
             negated_inverse,
