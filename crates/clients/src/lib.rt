@@ -10,6 +10,7 @@ pub mod hashes;
 pub mod inner_products;
 pub mod laws;
 pub mod operations;
+pub mod quotients;
 pub mod remainders;
 pub mod repeated_products;
 pub mod squares;

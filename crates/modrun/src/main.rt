@@ -17,13 +17,22 @@ fn run(rt: &HostRuntime) -> io::Result<u8> {
     Ok(run_words(rt.alloc(), words.as_slice(), &mut out, &mut err))
 }
 
+// The status where the words after the program's name weren't had: one isn't UTF-8, which is refused
+// as too few words are, or memory was refused.
+fn refuse(rt: &HostRuntime, error: &io::Error) -> u8 {
+    if error.kind() == io::ErrorKind::InvalidData {
+        return run_words(rt.alloc(), &[], &mut rt.stdout(), &mut rt.stderr());
+    }
+    match eprintln!(rt; "out of memory") {
+        Ok(()) => 3,
+        Err(_) => 4,
+    }
+}
+
 fn main(rt: HostRuntime) -> ExitCode {
     let status = match run(&rt) {
         Ok(status) => status,
-        Err(_) => match eprintln!(rt; "out of memory") {
-            Ok(()) => 3,
-            Err(_) => 4,
-        },
+        Err(error) => refuse(&rt, &error),
     };
     ExitCode::from(status)
 }
