@@ -1,0 +1,56 @@
+//! Division of a word by a word, by the divisor's multiplier and shift.
+
+use crate::modular_prim::plain_word::PlainWord;
+use crate::modular_word::path_word::PathWord;
+use crate::modular_word::paths::{div_1by1, ones};
+use crate::modular_word::ring_word::RingWord;
+
+/// Which divisors a divider fits, for contracts.
+pub trait FitsDivisor: Sized {}
+
+impl<Any> FitsDivisor for Any {}
+
+/// The multiplier and the shift of a divisor, which isn't kept: each call is given it again.
+///
+/// Source: Granlund and Montgomery, "Division by invariant integers using multiplication", section
+/// 4.
+#[derive(Debug, Clone, Copy, PartialEq, Eq)]
+pub struct PreMulInv1by1<T: PathWord> {
+    multiplier: T,
+    shift: u32,
+}
+
+// How many binary digits a word has.
+fn binary_digits<T: PathWord>(x: T) -> u32 {
+    T::bits() - x.leading_zeros()
+}
+
+impl<T: PathWord> PreMulInv1by1<T> {
+    /// Quotient and remainder of a word. Condition: the multiplier and the shift fit the divisor.
+    ///
+    /// Source: Granlund and Montgomery, "Division by invariant integers using multiplication", figure
+    /// 4.1.
+    pub fn div_rem(&self, a: T, d: T) -> (T, T) {
+        div_1by1(d, self.multiplier, self.shift, a)
+    }
+}
+
+impl<T: PlainWord> PreMulInv1by1<T> {
+    /// The multiplier and the shift of a divisor: with n the least number such that the divisor d is
+    /// at most 2^n, and B the number of words, B·(2^n - d)/d rounded down, and 1 more; and n - 1.
+    /// Condition: the divisor is above 1.
+    ///
+    /// Source: Granlund and Montgomery, "Division by invariant integers using multiplication", section
+    /// 4.
+    pub fn new(d: T) -> Self {
+        assert!(!d.half().is_zero_word());
+        let less = d.minus(T::one());
+        let n = binary_digits(less);
+        let gap = ones::<T>(n).minus(less);
+        let quotient = T::low_quotient(T::merge(T::zero(), gap), d);
+        PreMulInv1by1 {
+            multiplier: quotient.plus(T::one()),
+            shift: n - 1,
+        }
+    }
+}

@@ -1,0 +1,120 @@
+//! The reducer whose forms are the values scaled to the top of a word.
+
+use crate::modular_barrett::normalized::{Normalized2by1Divisor, StoredDivisor};
+use crate::modular_prim::below::{add_below, dbl_below, neg_below, sub_below};
+use crate::modular_prim::euclid::invm;
+use crate::modular_prim::plain_word::PlainWord;
+use crate::modular_reduced::reducer::Reducer;
+use crate::modular_word::path_word::PathWord;
+use crate::modular_word::ring_word::RingWord;
+
+/// The reducer of a modulus from 1 up by a division of two words by one: with s the leading zeros of
+/// the modulus m, the form of a value v is v·2^s, and the divisor m·2^s, which has its top bit set.
+///
+/// Sums, differences, doubles and negatives are taken modulo m·2^s without a division; a product is
+/// one product of words and one division by the reciprocal of m·2^s.
+///
+/// Source: Möller and Granlund, "Improved division by invariant integers".
+#[derive(Debug, PartialEq, Eq)]
+pub struct PreMulInv2by1<T: PlainWord> {
+    divider: Normalized2by1Divisor<T>,
+    shift: u32,
+}
+
+impl<T: PlainWord> Clone for PreMulInv2by1<T> {
+    fn clone(&self) -> Self {
+        *self
+    }
+}
+
+impl<T: PlainWord> Copy for PreMulInv2by1<T> {}
+
+impl<T: PlainWord> PreMulInv2by1<T> {
+    /// The reducer of a modulus. Condition: it is at least 1.
+    pub fn new(m: T) -> Self {
+        let shift = m.leading_zeros();
+        PreMulInv2by1 {
+            divider: Normalized2by1Divisor::new(m.shift_left(shift)),
+            shift,
+        }
+    }
+
+    /// The divider by the scaled modulus.
+    pub fn divider(&self) -> &Normalized2by1Divisor<T> {
+        &self.divider
+    }
+
+    /// How many leading zeros the modulus has.
+    pub fn shift(&self) -> u32 {
+        self.shift
+    }
+
+    /// The scaled modulus, which has its top bit set.
+    pub fn divisor(&self) -> T {
+        self.divider.divisor()
+    }
+}
+
+impl<T: PlainWord> Reducer<T> for PreMulInv2by1<T> {
+    fn new(m: &T) -> Self {
+        Self::new(*m)
+    }
+
+    fn transform(&self, n: T) -> T {
+        if n.is_below(self.modulus()) {
+            n.shift_left(self.shift)
+        } else {
+            self.divider.div_rem_2by1(n.shift_left_wide(self.shift)).1
+        }
+    }
+
+    fn check(&self, f: &T) -> bool {
+        if f.is_below(self.divisor()) {
+            f.low_bits(self.shift).is_zero_word()
+        } else {
+            false
+        }
+    }
+
+    fn modulus(&self) -> T {
+        self.divisor().shift_right(self.shift)
+    }
+
+    fn residue(&self, f: T) -> T {
+        f.shift_right(self.shift)
+    }
+
+    fn is_zero(&self, f: &T) -> bool {
+        f.is_zero_word()
+    }
+
+    fn add(&self, a: &T, b: &T) -> T {
+        add_below(*a, *b, self.divisor())
+    }
+
+    fn dbl(&self, f: T) -> T {
+        dbl_below(f, self.divisor())
+    }
+
+    fn sub(&self, a: &T, b: &T) -> T {
+        sub_below(*a, *b, self.divisor())
+    }
+
+    fn neg(&self, f: T) -> T {
+        neg_below(f, self.divisor())
+    }
+
+    fn mul(&self, a: &T, b: &T) -> T {
+        let value = self.residue(*a);
+        self.divider.div_rem_2by1(value.product(*b)).1
+    }
+
+    fn inv(&self, f: T) -> Option<T> {
+        let inverse = invm(self.residue(f), self.modulus())?;
+        Some(inverse.shift_left(self.shift))
+    }
+
+    fn sqr(&self, f: T) -> T {
+        self.mul(&f, &f)
+    }
+}

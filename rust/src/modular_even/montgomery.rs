@@ -1,0 +1,143 @@
+//! The reducer by Montgomery's representation, for every modulus.
+
+use crate::modular_monty::odd_ring::{OddModulus, OddRing, StoredModulus};
+use crate::modular_prim::euclid::invm;
+use crate::modular_prim::plain_word::PlainWord;
+use crate::modular_reduced::reducer::Reducer;
+use crate::modular_word::path_word::PathWord;
+use crate::modular_word::ring_word::RingWord;
+
+/// The reducer of a modulus m from 1 up by Montgomery's representation. With m = 2^s·k, k being odd,
+/// the form of v has two parts: above the lowest s bits v times the base, modulo k, the base being 2
+/// to the width of the words, and in these bits v modulo 2^s. So for odd m it is v times the base,
+/// modulo m.
+///
+/// A product of forms takes one product of words and one reduction, which divides by the base alone,
+/// and for even m one wrapping product besides.
+///
+/// Source: Handbook of Applied Cryptography, section 14.3.2; for even m Koç, "Montgomery reduction with
+/// even modulus".
+#[derive(Debug)]
+pub struct Montgomery<T: PlainWord> {
+    // The ring modulo k.
+    odd: OddRing<T, StoredModulus<T>>,
+    // The exponent s.
+    twos: u32,
+}
+
+impl<T: PlainWord> Clone for Montgomery<T> {
+    fn clone(&self) -> Self {
+        *self
+    }
+}
+
+impl<T: PlainWord> Copy for Montgomery<T> {}
+
+impl<T: PlainWord> Montgomery<T> {
+    /// The reducer of m. Condition: m is at least 1.
+    pub fn new(m: T) -> Self {
+        let twos = m.trailing_zeros();
+        Montgomery {
+            odd: OddRing::new(&m.shift_right(twos)),
+            twos,
+        }
+    }
+
+    // The part of a form above the lowest bits.
+    fn high(&self, f: T) -> T {
+        f.shift_right(self.twos)
+    }
+
+    // The form of a given part above the lowest bits, and of the lowest bits of a word.
+    fn join(&self, high: T, low: T) -> T {
+        high.shift_left(self.twos).plus(low.low_bits(self.twos))
+    }
+}
+
+// An early test of s keeps odd moduli as fast as they are without the second part.
+impl<T: PlainWord> Reducer<T> for Montgomery<T> {
+    fn new(m: &T) -> Self {
+        Montgomery::new(*m)
+    }
+
+    fn transform(&self, n: T) -> T {
+        let high = self.odd.transform(n);
+        if self.twos == 0 {
+            return high;
+        }
+        self.join(high, n)
+    }
+
+    fn check(&self, f: &T) -> bool {
+        f.is_below(self.modulus())
+    }
+
+    fn modulus(&self) -> T {
+        self.odd.modulus().shift_left(self.twos)
+    }
+
+    // The value modulo the odd part, and as many times that part more as the lowest bits ask for.
+    fn residue(&self, f: T) -> T {
+        if self.twos == 0 {
+            return self.odd.residue(f);
+        }
+        let value = self.odd.residue(self.high(f));
+        let behind = value.wrapping_sub(f);
+        let steps = behind
+            .wrapping_mul(self.odd.kept.negated_inverse)
+            .low_bits(self.twos);
+        value.plus(self.odd.kept.modulus.times(steps))
+    }
+
+    fn is_zero(&self, f: &T) -> bool {
+        f.is_zero_word()
+    }
+
+    fn add(&self, a: &T, b: &T) -> T {
+        if self.twos == 0 {
+            return self.odd.add(a, b);
+        }
+        let high = self.odd.add(&self.high(*a), &self.high(*b));
+        self.join(high, a.wrapping_add(*b))
+    }
+
+    fn dbl(&self, f: T) -> T {
+        self.add(&f, &f)
+    }
+
+    fn sub(&self, a: &T, b: &T) -> T {
+        if self.twos == 0 {
+            return self.odd.sub(a, b);
+        }
+        let high = self.odd.sub(&self.high(*a), &self.high(*b));
+        self.join(high, a.wrapping_sub(*b))
+    }
+
+    fn neg(&self, f: T) -> T {
+        self.sub(&T::zero(), &f)
+    }
+
+    fn mul(&self, a: &T, b: &T) -> T {
+        if self.twos == 0 {
+            return self.odd.mul(a, b);
+        }
+        let high = self.odd.mul(&self.high(*a), &self.high(*b));
+        self.join(high, a.wrapping_mul(*b))
+    }
+
+    // Through the value: its inverse by Euclid's algorithm, and the form of that.
+    fn inv(&self, f: T) -> Option<T> {
+        match invm(self.residue(f), self.modulus()) {
+            Some(x) => Some(self.transform(x)),
+            None => None,
+        }
+    }
+
+    fn sqr(&self, f: T) -> T {
+        self.mul(&f, &f)
+    }
+}
+
+/// The two parts of a modulus are an odd number and a power of two, and for an odd modulus the form of
+/// a value is the value times the base.
+pub fn form_laws<T: RingWord>() {}

@@ -1,0 +1,77 @@
+//! What a fold needs of a dividend. There is no division and no remainder among the calls, so code
+//! over this trait alone divides by none.
+
+use crate::modular_word::ring_word::RingWord;
+
+/// A dividend that folds: a word of 64 or 128 bits.
+pub trait FoldWord: Sized + RingWord {
+    /// The sum. Condition: it fits the word.
+    fn plus(self, rhs: Self) -> Self;
+
+    /// The difference. Condition: it is not below 0.
+    fn minus(self, rhs: Self) -> Self;
+
+    /// The product. Condition: it fits the word.
+    fn times(self, rhs: Self) -> Self;
+
+    /// The word divided by a power of two, rounded down. Condition: `by` is below the width.
+    fn shift_right(self, by: u32) -> Self;
+
+    /// The bits that the word and a mask share.
+    fn masked(self, mask: Self) -> Self;
+
+    /// Whether the word is below another.
+    fn is_below(self, other: Self) -> bool;
+}
+
+impl FoldWord for u64 {
+    fn plus(self, rhs: u64) -> u64 {
+        self + rhs
+    }
+
+    fn minus(self, rhs: u64) -> u64 {
+        self - rhs
+    }
+
+    fn times(self, rhs: u64) -> u64 {
+        self * rhs
+    }
+
+    fn shift_right(self, by: u32) -> u64 {
+        self >> by
+    }
+
+    fn masked(self, mask: u64) -> u64 {
+        self & mask
+    }
+
+    fn is_below(self, other: u64) -> bool {
+        self < other
+    }
+}
+
+impl FoldWord for u128 {
+    fn plus(self, rhs: u128) -> u128 {
+        self + rhs
+    }
+
+    fn minus(self, rhs: u128) -> u128 {
+        self - rhs
+    }
+
+    fn times(self, rhs: u128) -> u128 {
+        self * rhs
+    }
+
+    fn shift_right(self, by: u32) -> u128 {
+        self >> by
+    }
+
+    fn masked(self, mask: u128) -> u128 {
+        self & mask
+    }
+
+    fn is_below(self, other: u128) -> bool {
+        self < other
+    }
+}

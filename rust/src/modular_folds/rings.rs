@@ -1,0 +1,91 @@
+//! The reducer of a modulus near a power of two, written once: each value is its own form.
+
+use crate::modular_fold_paths::folds::FoldedWord;
+use crate::modular_prim::below::{add_below, dbl_below, neg_below, sub_below};
+use crate::modular_prim::euclid::invm;
+use crate::modular_prim::plain_word::PlainWord;
+use crate::modular_reduced::reducer::Reducer;
+use crate::modular_word::path_word::PathWord;
+use crate::modular_word::ring_word::RingWord;
+use core::marker::PhantomData;
+
+/// A modulus near a power of two, which is given by parameters of the type: its number, and how words
+/// and products are reduced by it. A value of the type is known to have parameters in range.
+pub trait FoldModulus<T: FoldedWord>: Copy {
+    /// The modulus of the parameters. Condition: it is m, and the parameters are in range.
+    fn keep(m: T) -> Self;
+
+    /// The modulus.
+    fn modulus(&self) -> T;
+
+    /// The residue of a word.
+    fn reduced(&self, n: T) -> T;
+
+    /// The residue of a product. Condition: both factors are below the modulus.
+    fn product(&self, a: T, b: T) -> T;
+}
+
+/// The reducer of a modulus near a power of two, over words T: the form of a value is the value itself.
+/// It keeps no number, and `new` takes the modulus of the parameters alone.
+#[derive(Debug, Clone, Copy)]
+pub struct FoldRing<T: FoldedWord, M: FoldModulus<T>> {
+    word: PhantomData<T>,
+    kept: M,
+}
+
+impl<T: FoldedWord, M: FoldModulus<T>> Reducer<T> for FoldRing<T, M> {
+    fn new(m: &T) -> Self {
+        FoldRing {
+            word: PhantomData,
+            kept: M::keep(*m),
+        }
+    }
+
+    fn transform(&self, n: T) -> T {
+        self.kept.reduced(n)
+    }
+
+    fn check(&self, f: &T) -> bool {
+        f.is_below(self.kept.modulus())
+    }
+
+    fn modulus(&self) -> T {
+        self.kept.modulus()
+    }
+
+    fn residue(&self, f: T) -> T {
+        f
+    }
+
+    fn is_zero(&self, f: &T) -> bool {
+        f.is_zero_word()
+    }
+
+    fn add(&self, a: &T, b: &T) -> T {
+        add_below(*a, *b, self.kept.modulus())
+    }
+
+    fn dbl(&self, f: T) -> T {
+        dbl_below(f, self.kept.modulus())
+    }
+
+    fn sub(&self, a: &T, b: &T) -> T {
+        sub_below(*a, *b, self.kept.modulus())
+    }
+
+    fn neg(&self, f: T) -> T {
+        neg_below(f, self.kept.modulus())
+    }
+
+    fn mul(&self, a: &T, b: &T) -> T {
+        self.kept.product(*a, *b)
+    }
+
+    fn inv(&self, f: T) -> Option<T> {
+        invm(f, self.kept.modulus())
+    }
+
+    fn sqr(&self, f: T) -> T {
+        self.kept.product(f, f)
+    }
+}

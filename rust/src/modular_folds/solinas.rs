@@ -1,0 +1,200 @@
+//! The reducers of the moduli 2^P1 - 2^P2 + K.
+
+use crate::modular_folds::rings::{FoldModulus, FoldRing};
+use crate::modular_fold_paths::folds::{FoldedWord, reduce_by_folds};
+use crate::modular_fold_paths::products::reduce_product;
+use crate::modular_prim::plain_word::PlainWord;
+use crate::modular_word::path_word::PathWord;
+use crate::modular_word::ring_word::RingWord;
+use core::marker::PhantomData;
+
+/// The trinomial 2^p1 - 2^p2 + k, as a type: so a type with an invariant can speak of a signed
+/// constant, and the code has the three numbers as constants.
+pub trait Trinomial: Sized {
+    /// The greater exponent.
+    fn p1() -> u8;
+
+    /// The lower exponent.
+    fn p2() -> u8;
+
+    /// The last term.
+    fn k() -> i64;
+}
+
+/// The trinomial 2^P1 - 2^P2 + K, for words of 32 bits.
+#[derive(Debug, Clone, Copy)]
+pub struct Trinomial32<const P1: u8, const P2: u8, const K: i32> {}
+
+impl<const P1: u8, const P2: u8, const K: i32> Trinomial for Trinomial32<P1, P2, K> {
+    fn p1() -> u8 {
+        P1
+    }
+
+    fn p2() -> u8 {
+        P2
+    }
+
+    fn k() -> i64 {
+        K as i64
+    }
+}
+
+/// The trinomial 2^P1 - 2^P2 + K, for words of 64 bits.
+#[derive(Debug, Clone, Copy)]
+pub struct Trinomial64<const P1: u8, const P2: u8, const K: i64> {}
+
+impl<const P1: u8, const P2: u8, const K: i64> Trinomial for Trinomial64<P1, P2, K> {
+    fn p1() -> u8 {
+        P1
+    }
+
+    fn p2() -> u8 {
+        P2
+    }
+
+    fn k() -> i64 {
+        K
+    }
+}
+
+// What a fold at the bit p1 multiplies by: 2^p2 - k.
+fn factor_of(p1: u8, p2: u8, k: i64) -> u64 {
+    ((1u64 << p2) as i128 - k as i128) as u64
+}
+
+fn modulus_of(p1: u8, p2: u8, k: i64) -> u64 {
+    ((1u128 << p1) - factor_of(p1, p2, k) as u128) as u64
+}
+
+// Whether the modulus is less than half of 2^p1: folds could take very many turns then, and leave
+// many times the modulus.
+fn is_low(p1: u8, p2: u8, k: i64) -> bool {
+    p1 == p2 + 1 && k < 0
+}
+
+/// A word whose trinomial reducers exist: u32 and u64.
+pub trait TrinomialWord: Sized + FoldedWord {
+    /// The word of a number. Condition: it fits.
+    fn word_of(n: u64) -> Self;
+}
+
+impl TrinomialWord for u32 {
+    fn word_of(n: u64) -> u32 {
+        n as u32
+    }
+}
+
+impl TrinomialWord for u64 {
+    fn word_of(n: u64) -> u64 {
+        n
+    }
+}
+
+/// The modulus 2^p1 - 2^p2 + k of the trinomial F, over words T.
+#[derive(Debug)]
+pub struct TrinomialModulus<T: TrinomialWord, F: Trinomial> {
+    word: PhantomData<T>,
+    parameters: PhantomData<F>,
+}
+
+/// The reducer of the modulus m = 2^p1 - 2^p2 + k of the trinomial F, over words T: the form of a
+/// value is the value itself. It keeps no number.
+///
+/// The parameters are in range where p1 is the width of T at most, p2 is from 1 to p1 - 1, and k is
+/// odd and less than 2^p2 either way. A product is reduced by folds with no division, but where
+/// p1 = p2 + 1 and k is negative: m is less than half of 2^p1 then, and what is left by m is taken
+/// by the primitive remainder. `inv` divides by Euclid's algorithm.
+///
+/// Source: Solinas, "Generalized Mersenne numbers" (1999).
+pub type TrinomialSolinas<T, F> = FoldRing<T, TrinomialModulus<T, F>>;
+
+/// The reducer of the modulus 2^P1 - 2^P2 + K of at most 32 bits.
+pub type FixedTrinomialSolinas32<const P1: u8, const P2: u8, const K: i32> = TrinomialSolinas<
+    u32,
+    Trinomial32<P1, P2, K>,
+>;
+
+/// The reducer of the modulus 2^P1 - 2^P2 + K of at most 64 bits.
+pub type FixedTrinomialSolinas64<const P1: u8, const P2: u8, const K: i64> = TrinomialSolinas<
+    u64,
+    Trinomial64<P1, P2, K>,
+>;
+
+impl<T: TrinomialWord, F: Trinomial> Clone for TrinomialModulus<T, F> {
+    fn clone(&self) -> Self {
+        *self
+    }
+}
+
+impl<T: TrinomialWord, F: Trinomial> Copy for TrinomialModulus<T, F> {}
+
+impl<T: TrinomialWord, F: Trinomial> FoldRing<T, TrinomialModulus<T, F>> {
+    // What a fold at the bit p1 multiplies by.
+    fn factor() -> T {
+        T::word_of(factor_of(F::p1(), F::p2(), F::k()))
+    }
+
+    /// The modulus. Condition: the parameters are in range.
+    pub fn fixed_modulus() -> T {
+        assert!(F::p1() as u32 <= T::bits() && 0 < F::p2() && F::p2() < F::p1());
+        assert!(F::k().unsigned_abs() % 2 == 1 && F::k().unsigned_abs() < 1 << F::p2());
+        T::word_of(modulus_of(F::p1(), F::p2(), F::k()))
+    }
+
+    /// The residue of a word. Condition: the parameters are in range.
+    pub fn reduce_single(v: T) -> T {
+        Self::reduce_counted(T::merge(v, T::zero())).0
+    }
+
+    /// The residue of a double word. Condition: the parameters are in range.
+    pub fn reduce_double(v: T::Double) -> T {
+        Self::reduce_counted(v).0
+    }
+
+    // The residue of a double word, by the primitive remainder.
+    fn remainder(v: T::Double) -> T {
+        T::narrow_remainder(v, Self::fixed_modulus())
+    }
+
+    /// The residue of a double word, and the number of folds that take it below 2^p1: 0 where the primitive
+    /// remainder is taken. Condition: the parameters are in range.
+    pub fn reduce_counted(v: T::Double) -> (T, u32) {
+        if is_low(F::p1(), F::p2(), F::k()) {
+            (Self::remainder(v), 0)
+        } else {
+            reduce_by_folds(v, F::p1() as u32, Self::factor(), Self::fixed_modulus())
+        }
+    }
+}
+
+impl<T: TrinomialWord, F: Trinomial> FoldModulus<T> for TrinomialModulus<T, F> {
+    fn keep(m: T) -> Self {
+        assert!(m == TrinomialSolinas::<T, F>::fixed_modulus());
+        TrinomialModulus {
+            word: PhantomData,
+            parameters: PhantomData,
+        }
+    }
+
+    fn modulus(&self) -> T {
+        TrinomialSolinas::<T, F>::fixed_modulus()
+    }
+
+    fn reduced(&self, n: T) -> T {
+        TrinomialSolinas::<T, F>::reduce_single(n)
+    }
+
+    fn product(&self, a: T, b: T) -> T {
+        if is_low(F::p1(), F::p2(), F::k()) {
+            TrinomialSolinas::<T, F>::reduce_double(a.product(b))
+        } else {
+            reduce_product(
+                a,
+                b,
+                F::p1() as u32,
+                TrinomialSolinas::<T, F>::factor(),
+                self.modulus(),
+            )
+        }
+    }
+}

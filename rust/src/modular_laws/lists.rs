@@ -1,0 +1,23 @@
+//! Lists of words as lists of forms, and back.
+
+use crate::modular_reduced::reducer::Reducer;
+use crate::modular_word::ring_word::RingWord;
+
+/// Puts the forms of the words in place, and the form of 0 at each place behind the last word; a word
+/// behind the last place is left out.
+///
+/// It is what `convolve` and `ntt` take: the values are the residues of the words.
+pub fn load_forms<T: RingWord, R: Reducer<T>>(r: &R, words: &[T], forms: &mut [T]) {
+    'entries: for i in 0..forms.len() {
+        let word = if i < words.len() { words[i] } else { T::zero() };
+        forms[i] = r.transform(word);
+    }
+}
+
+/// Puts the values of the forms in place, from the first on: numbers below the modulus. Conditions: the
+/// forms are checked, and at least as many as the places.
+pub fn unload_forms<T: RingWord, R: Reducer<T>>(r: &R, forms: &[T], words: &mut [T]) {
+    'entries: for i in 0..words.len() {
+        words[i] = r.residue(forms[i]);
+    }
+}

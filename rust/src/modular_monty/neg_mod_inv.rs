@@ -1,0 +1,9 @@
+//! The negated inverse of an odd word modulo the base, a module a width.
+
+pub use crate::modular_word::paths::neginv;
+
+pub mod w16;
+pub mod w32;
+pub mod w64;
+pub mod w8;
+pub mod wsize;

@@ -1,0 +1,8 @@
+//! The negated inverse of an odd word of the size of a pointer, 64 bits.
+
+use crate::modular_word::word::wsize::Word;
+
+/// The word x with m * x = -1 modulo 2^64. Condition: m is odd.
+pub fn neginv(m: Word) -> Word {
+    super::neginv(m)
+}

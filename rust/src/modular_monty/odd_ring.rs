@@ -1,0 +1,156 @@
+//! Odd moduli by Montgomery's representation, which every reducer of this crate rests on: the calls
+//! of a reducer once, over whatever knows an odd modulus and reduces by it.
+
+use crate::modular_monty::neg_mod_inv::neginv;
+use crate::modular_prim::below::{add_below, dbl_below, neg_below, sub_below};
+use crate::modular_prim::euclid::invm;
+use crate::modular_prim::plain_word::PlainWord;
+use crate::modular_reduced::reducer::Reducer;
+use crate::modular_word::path_word::PathWord;
+use crate::modular_word::paths::redc;
+use crate::modular_word::ring_word::RingWord;
+use core::marker::PhantomData;
+
+/// An odd modulus, with what is computed once of it: its negated inverse modulo the base, and the
+/// square of the base modulo it. A type that knows its modulus need not store it, and one of a
+/// special form may have a multiple of it at a lower cost.
+pub trait OddModulus<T: PlainWord>: Copy {
+    /// What is kept of m. Condition: m is taken.
+    fn keep(m: T) -> Self;
+
+    /// The modulus.
+    fn modulus(&self) -> T;
+
+    /// The square of the base modulo it.
+    fn square_of_base(&self) -> T;
+
+    /// Montgomery's reduction of t. Condition: t is below the modulus times the base.
+    fn reduced(&self, t: T::Double) -> T;
+}
+
+// The two numbers that are computed once of an odd modulus.
+pub(crate) fn computed_once<T: PlainWord>(m: T) -> (T, T) {
+    let negated_inverse = neginv(m);
+    let base = T::narrow_remainder(T::merge(T::zero(), T::one()), m);
+    let square = T::narrow_remainder(base.product(base), m);
+    (negated_inverse, square)
+}
+
+/// The reducer by Montgomery's representation modulo what it holds: the form of v is v times the
+/// base, modulo m, the base being 2 to the width of the words T. `new` takes the moduli that M takes.
+///
+/// A product of forms takes one product of words and one reduction, which divides by the base alone.
+///
+/// Source: Handbook of Applied Cryptography, section 14.3.2.
+#[derive(Debug, Clone, Copy)]
+pub struct OddRing<T: PlainWord, M: OddModulus<T>> {
+    pub kept: M,
+    word: PhantomData<T>,
+}
+
+impl<T: PlainWord, M: OddModulus<T>> Reducer<T> for OddRing<T, M> {
+    fn new(m: &T) -> Self {
+        OddRing {
+            kept: M::keep(*m),
+            word: PhantomData,
+        }
+    }
+
+    // A product and a reduction in place of the division of a double word.
+    fn transform(&self, n: T) -> T {
+        if n.is_zero_word() {
+            return n;
+        }
+        self.kept.reduced(n.product(self.kept.square_of_base()))
+    }
+
+    fn check(&self, f: &T) -> bool {
+        f.is_below(self.kept.modulus())
+    }
+
+    fn modulus(&self) -> T {
+        self.kept.modulus()
+    }
+
+    fn residue(&self, f: T) -> T {
+        self.kept.reduced(T::merge(f, T::zero()))
+    }
+
+    fn is_zero(&self, f: &T) -> bool {
+        f.is_zero_word()
+    }
+
+    fn add(&self, a: &T, b: &T) -> T {
+        add_below(*a, *b, self.kept.modulus())
+    }
+
+    fn dbl(&self, f: T) -> T {
+        dbl_below(f, self.kept.modulus())
+    }
+
+    fn sub(&self, a: &T, b: &T) -> T {
+        sub_below(*a, *b, self.kept.modulus())
+    }
+
+    fn neg(&self, f: T) -> T {
+        neg_below(f, self.kept.modulus())
+    }
+
+    fn mul(&self, a: &T, b: &T) -> T {
+        self.kept.reduced(a.product(*b))
+    }
+
+    // Through the value: its inverse by Euclid's algorithm, and the form of that.
+    fn inv(&self, f: T) -> Option<T> {
+        match invm(self.residue(f), self.kept.modulus()) {
+            Some(x) => Some(self.transform(x)),
+            None => None,
+        }
+    }
+
+    fn sqr(&self, f: T) -> T {
+        self.mul(&f, &f)
+    }
+}
+
+/// An odd modulus that is known when the program runs, with what is computed once of it.
+#[derive(Debug)]
+pub struct StoredModulus<T: PlainWord> {
+    /// The modulus m.
+    pub modulus: T,
+    /// The number n below the base with m * n congruent to -1 modulo the base.
+    pub negated_inverse: T,
+    /// The square of the base modulo m.
+    pub square: T,
+}
+
+impl<T: PlainWord> Clone for StoredModulus<T> {
+    fn clone(&self) -> Self {
+        *self
+    }
+}
+
+impl<T: PlainWord> Copy for StoredModulus<T> {}
+
+impl<T: PlainWord> OddModulus<T> for StoredModulus<T> {
+    fn keep(m: T) -> Self {
+        let (negated_inverse, square) = computed_once(m);
+        StoredModulus {
+            modulus: m,
+            negated_inverse,
+            square,
+        }
+    }
+
+    fn modulus(&self) -> T {
+        self.modulus
+    }
+
+    fn square_of_base(&self) -> T {
+        self.square
+    }
+
+    fn reduced(&self, t: T::Double) -> T {
+        redc(self.modulus, self.negated_inverse, t)
+    }
+}

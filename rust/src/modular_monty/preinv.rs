@@ -1,0 +1,57 @@
+//! Exact division by an odd divisor whose inverse modulo the base is prepared.
+
+use crate::modular_monty::neg_mod_inv::neginv;
+use crate::modular_prim::plain_word::PlainWord;
+use crate::modular_word::path_word::PathWord;
+use crate::modular_word::paths::{exact_1, exact_2, ones};
+
+mod doubles;
+mod words;
+
+/// What contracts see of a prepared inverse.
+pub trait PreparedInverse: Sized {}
+
+impl<Any> PreparedInverse for Any {}
+
+/// The inverse of an odd divisor modulo the base, and the greatest quotient of a word by it.
+///
+/// The two numbers fit a divisor d where d * d_inv is 1 modulo the base and q_lim is the greatest
+/// word divided by d, rounded down. The type itself promises nothing of them: a division by d asks
+/// that they fit d.
+///
+/// Source: Granlund and Montgomery, "Division by invariant integers using multiplication",
+/// section 9.
+#[derive(Debug, Clone, Copy)]
+pub struct PreModInv<T: PathWord> {
+    d_inv: T,
+    q_lim: T,
+}
+
+impl<T: PathWord> PreModInv<T> {
+    /// The two numbers, as they are given.
+    pub fn new(d_inv: T, q_lim: T) -> Self {
+        PreModInv { d_inv, q_lim }
+    }
+}
+
+impl<T: PlainWord> PreModInv<T> {
+    /// What fits the divisor d. Condition: d is odd.
+    pub fn from(d: T) -> Self {
+        assert!(d.is_odd());
+        let d_inv = T::zero().wrapping_sub(neginv(d));
+        let q_lim = ones::<T>(T::bits()).quotient(d);
+        PreModInv::new(d_inv, q_lim)
+    }
+}
+
+// The quotient of a word; `None` exactly where d doesn't divide it.
+fn word_quotient<T: PathWord>(n: T, d: T, pre: &PreModInv<T>) -> Option<T> {
+    debug_assert!(d.wrapping_mul(pre.d_inv) == T::one());
+    exact_1(d, pre.d_inv, pre.q_lim, n)
+}
+
+// The quotient of a double word; `None` exactly where d doesn't divide it.
+fn double_quotient<T: PathWord>(n: T::Double, d: T, pre: &PreModInv<T>) -> Option<T::Double> {
+    debug_assert!(d.wrapping_mul(pre.d_inv) == T::one());
+    exact_2(d, pre.d_inv, pre.q_lim, n)
+}

@@ -1,0 +1,74 @@
+//! Exact division of a double word by a word.
+
+use super::{PreModInv, PreparedInverse, double_quotient};
+use crate::modular_prim::exact::{DivExact, DivExactAssign, assign_exact};
+
+impl DivExact<u8, PreModInv<u8>> for u16 {
+    type Output = u16;
+
+    fn div_exact(self, d: u8, pre: &PreModInv<u8>) -> Option<u16> {
+        double_quotient(self, d, pre)
+    }
+}
+
+impl DivExact<u16, PreModInv<u16>> for u32 {
+    type Output = u32;
+
+    fn div_exact(self, d: u16, pre: &PreModInv<u16>) -> Option<u32> {
+        double_quotient(self, d, pre)
+    }
+}
+
+impl DivExact<u32, PreModInv<u32>> for u64 {
+    type Output = u64;
+
+    fn div_exact(self, d: u32, pre: &PreModInv<u32>) -> Option<u64> {
+        double_quotient(self, d, pre)
+    }
+}
+
+impl DivExact<u64, PreModInv<u64>> for u128 {
+    type Output = u128;
+
+    fn div_exact(self, d: u64, pre: &PreModInv<u64>) -> Option<u128> {
+        double_quotient(self, d, pre)
+    }
+}
+
+impl DivExact<usize, PreModInv<usize>> for u128 {
+    type Output = u128;
+
+    fn div_exact(self, d: usize, pre: &PreModInv<usize>) -> Option<u128> {
+        double_quotient(self, d, pre)
+    }
+}
+
+impl DivExactAssign<u8, PreModInv<u8>> for u16 {
+    fn div_exact_assign(&mut self, d: u8, pre: &PreModInv<u8>) -> bool {
+        assign_exact(self, d, pre)
+    }
+}
+
+impl DivExactAssign<u16, PreModInv<u16>> for u32 {
+    fn div_exact_assign(&mut self, d: u16, pre: &PreModInv<u16>) -> bool {
+        assign_exact(self, d, pre)
+    }
+}
+
+impl DivExactAssign<u32, PreModInv<u32>> for u64 {
+    fn div_exact_assign(&mut self, d: u32, pre: &PreModInv<u32>) -> bool {
+        assign_exact(self, d, pre)
+    }
+}
+
+impl DivExactAssign<u64, PreModInv<u64>> for u128 {
+    fn div_exact_assign(&mut self, d: u64, pre: &PreModInv<u64>) -> bool {
+        assign_exact(self, d, pre)
+    }
+}
+
+impl DivExactAssign<usize, PreModInv<usize>> for u128 {
+    fn div_exact_assign(&mut self, d: usize, pre: &PreModInv<usize>) -> bool {
+        assign_exact(self, d, pre)
+    }
+}

@@ -1,0 +1,144 @@
+//! Reducers by Montgomery's representation of the moduli K * 2^N + 1.
+
+use crate::modular_monty::odd_ring::{OddModulus, OddRing, computed_once};
+use crate::modular_reduced::reducer::Reducer;
+use crate::modular_word::paths::{clearing, reduce_by};
+
+/// The number K * 2^N + 1 as a modulus for words of 32 bits.
+#[derive(Debug, Clone, Copy)]
+pub struct ProthNumber32<const N: u8, const K: u8> {
+    negated_inverse: u32,
+    square: u32,
+}
+
+impl<const N: u8, const K: u8> ProthNumber32<N, K> {
+    // The modulus.
+    fn value() -> u32 {
+        assert!(0 < N && N < 32 && K % 2 == 1 && (K as u32) < 1 << N);
+        assert!(((K as u64) << N) < 2654435769);
+        ((K as u32) << N) + 1
+    }
+
+    // The product with the modulus, by a product with K and a shift.
+    fn shift_mul(&self, x: u32) -> u64 {
+        ((x as u64 * K as u64) << N) + x as u64
+    }
+}
+
+/// The reducer of m = K * 2^N + 1 by Montgomery's representation in words of 32 bits: the form of v
+/// is v * 2^32 modulo m.
+///
+/// The parameters are in range where N is from 1 to 31, K is odd and below 2^N, and m, as a whole
+/// number, is at most 2654435769.
+///
+/// Source: Handbook of Applied Cryptography, section 14.3.2.
+pub type FixedProth32<const N: u8, const K: u8> = OddRing<u32, ProthNumber32<N, K>>;
+
+impl<const N: u8, const K: u8> OddRing<u32, ProthNumber32<N, K>> {
+    /// The modulus K * 2^N + 1. Condition: the parameters are in range.
+    pub fn fixed_modulus() -> u32 {
+        ProthNumber32::<N, K>::value()
+    }
+
+    /// Montgomery's reduction of t: the u below the modulus with u * 2^32 congruent to t.
+    /// Condition: t is below the modulus times 2^32.
+    pub fn reduce(&self, t: u64) -> u32 {
+        self.kept.reduced(t)
+    }
+}
+
+impl<const N: u8, const K: u8> OddModulus<u32> for ProthNumber32<N, K> {
+    fn keep(m: u32) -> Self {
+        assert!(m == Self::value());
+        let (negated_inverse, square) = computed_once(m);
+        ProthNumber32 {
+            negated_inverse,
+            square,
+        }
+    }
+
+    fn modulus(&self) -> u32 {
+        Self::value()
+    }
+
+    fn square_of_base(&self) -> u32 {
+        self.square
+    }
+
+    fn reduced(&self, t: u64) -> u32 {
+        let m = Self::value();
+        let x = clearing(m, self.negated_inverse, t);
+        reduce_by(m, t, x, self.shift_mul(x))
+    }
+}
+
+/// The number K * 2^N + 1 as a modulus for words of 64 bits.
+#[derive(Debug, Clone, Copy)]
+pub struct ProthNumber64<const N: u8, const K: u8> {
+    negated_inverse: u64,
+    square: u64,
+}
+
+impl<const N: u8, const K: u8> ProthNumber64<N, K> {
+    // The modulus.
+    fn value() -> u64 {
+        assert!(0 < N && N < 64 && K % 2 == 1 && (K as u64) < 1 << N);
+        assert!(((K as u128) << N) < 11400714819323199485);
+        ((K as u64) << N) + 1
+    }
+
+    // The product with the modulus, by a product with K and a shift.
+    fn shift_mul(&self, x: u64) -> u128 {
+        ((x as u128 * K as u128) << N) + x as u128
+    }
+}
+
+/// The reducer of m = K * 2^N + 1 by Montgomery's representation in words of 64 bits: the form of v
+/// is v * 2^64 modulo m.
+///
+/// The parameters are in range where N is from 1 to 63, K is odd and below 2^N, and m, as a whole
+/// number, is at most 11400714819323199485.
+///
+/// Source: Handbook of Applied Cryptography, section 14.3.2.
+pub type FixedProth64<const N: u8, const K: u8> = OddRing<u64, ProthNumber64<N, K>>;
+
+impl<const N: u8, const K: u8> OddRing<u64, ProthNumber64<N, K>> {
+    /// The modulus K * 2^N + 1. Condition: the parameters are in range.
+    pub fn fixed_modulus() -> u64 {
+        ProthNumber64::<N, K>::value()
+    }
+
+    /// Montgomery's reduction of t: the u below the modulus with u * 2^64 congruent to t.
+    /// Condition: t is below the modulus times 2^64.
+    pub fn reduce(&self, t: u128) -> u64 {
+        self.kept.reduced(t)
+    }
+}
+
+impl<const N: u8, const K: u8> OddModulus<u64> for ProthNumber64<N, K> {
+    fn keep(m: u64) -> Self {
+        assert!(m == Self::value());
+        let (negated_inverse, square) = computed_once(m);
+        ProthNumber64 {
+            negated_inverse,
+            square,
+        }
+    }
+
+    fn modulus(&self) -> u64 {
+        Self::value()
+    }
+
+    fn square_of_base(&self) -> u64 {
+        self.square
+    }
+
+    fn reduced(&self, t: u128) -> u64 {
+        let m = Self::value();
+        let x = clearing(m, self.negated_inverse, t);
+        reduce_by(m, t, x, self.shift_mul(x))
+    }
+}
+
+#[cfg(test)]
+mod tests;

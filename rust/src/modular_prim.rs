@@ -1,0 +1,14 @@
+//! Modular operations on plain integers.
+
+pub mod abs;
+pub mod below;
+pub mod counted;
+pub mod euclid;
+pub mod exact;
+pub mod numbered;
+pub mod operands;
+pub mod operations;
+pub mod plain_word;
+pub mod power;
+pub mod reciprocal;
+pub mod residues;

@@ -1,0 +1,32 @@
+//! Sums, differences, doubles and negatives modulo m of words below m, without a division.
+
+use crate::modular_word::path_word::PathWord;
+
+/// The residue of a + b. Condition: both are below m.
+pub fn add_below<T: PathWord>(a: T, b: T, m: T) -> T {
+    let gap = m.minus(b);
+    if a.is_below(gap) {
+        a.plus(b)
+    } else {
+        a.minus(gap)
+    }
+}
+
+/// The residue of a - b. Condition: both are below m.
+pub fn sub_below<T: PathWord>(a: T, b: T, m: T) -> T {
+    if a.is_below(b) {
+        m.minus(b.minus(a))
+    } else {
+        a.minus(b)
+    }
+}
+
+/// The residue of 2a. Condition: a is below m.
+pub fn dbl_below<T: PathWord>(a: T, m: T) -> T {
+    add_below(a, a, m)
+}
+
+/// The residue of -a. Condition: a is below m.
+pub fn neg_below<T: PathWord>(a: T, m: T) -> T {
+    if a.is_zero_word() { a } else { m.minus(a) }
+}

@@ -1,0 +1,125 @@
+//! Exact division.
+
+use crate::modular_prim::numbered::Numbered;
+use crate::modular_prim::plain_word::PlainWord;
+use crate::modular_word::ring_word::RingWord;
+
+/// Exact division, with what a divisor has stored: a multiplier, a prepared inverse, or `()`.
+///
+/// `()` stores nothing: the quotient is that of the primitive division, for words of 8 to 128 bits but
+/// usize, as in the Rust crate, and the condition is that the divisor is at least 1.
+pub trait DivExact<Rhs: Numbered, Precompute>: Numbered + Sized {
+    /// The type of the quotients.
+    type Output: Numbered;
+
+    /// The quotient by d; `None` exactly where d doesn't divide the number. Condition: what is
+    /// stored fits d.
+    fn div_exact(self, d: Rhs, pre: &Precompute) -> Option<Self::Output>;
+}
+
+/// Exact division in place, with what a divisor has stored; `()` stores nothing.
+pub trait DivExactAssign<Rhs: Numbered, Precompute>: Sized + DivExact<Rhs, Precompute, Output = Self> {
+    /// Puts the quotient by d in place and answers true; where d doesn't divide the number, answers
+    /// false and leaves it unchanged. Condition: what is stored fits d.
+    fn div_exact_assign(&mut self, d: Rhs, pre: &Precompute) -> bool;
+}
+
+/// Exact division in place by exact division: the body of `div_exact_assign` for words. Condition:
+/// what is stored fits d.
+pub fn assign_exact<N: DivExact<Rhs, Precompute, Output = N> + Copy, Rhs: Numbered, Precompute>(
+    number: &mut N,
+    d: Rhs,
+    pre: &Precompute,
+) -> bool {
+    match (*number).div_exact(d, pre) {
+        Some(quotient) => {
+            *number = quotient;
+            true
+        }
+        None => false,
+    }
+}
+
+/// The quotient by d; `None` exactly where d doesn't divide n. Condition: d is at least 1.
+pub fn exact_quotient<T: PlainWord>(n: T, d: T) -> Option<T> {
+    if n.remainder(d).is_zero_word() {
+        Some(n.quotient(d))
+    } else {
+        None
+    }
+}
+
+impl DivExact<u8, ()> for u8 {
+    type Output = u8;
+
+    fn div_exact(self, d: u8, _pre: &()) -> Option<u8> {
+        exact_quotient(self, d)
+    }
+}
+
+impl DivExact<u16, ()> for u16 {
+    type Output = u16;
+
+    fn div_exact(self, d: u16, _pre: &()) -> Option<u16> {
+        exact_quotient(self, d)
+    }
+}
+
+impl DivExact<u32, ()> for u32 {
+    type Output = u32;
+
+    fn div_exact(self, d: u32, _pre: &()) -> Option<u32> {
+        exact_quotient(self, d)
+    }
+}
+
+impl DivExact<u64, ()> for u64 {
+    type Output = u64;
+
+    fn div_exact(self, d: u64, _pre: &()) -> Option<u64> {
+        exact_quotient(self, d)
+    }
+}
+
+impl DivExact<u128, ()> for u128 {
+    type Output = u128;
+
+    fn div_exact(self, d: u128, _pre: &()) -> Option<u128> {
+        let quotient = self / d;
+        if quotient * d == self {
+            Some(quotient)
+        } else {
+            None
+        }
+    }
+}
+
+impl DivExactAssign<u8, ()> for u8 {
+    fn div_exact_assign(&mut self, d: u8, pre: &()) -> bool {
+        assign_exact(self, d, pre)
+    }
+}
+
+impl DivExactAssign<u16, ()> for u16 {
+    fn div_exact_assign(&mut self, d: u16, pre: &()) -> bool {
+        assign_exact(self, d, pre)
+    }
+}
+
+impl DivExactAssign<u32, ()> for u32 {
+    fn div_exact_assign(&mut self, d: u32, pre: &()) -> bool {
+        assign_exact(self, d, pre)
+    }
+}
+
+impl DivExactAssign<u64, ()> for u64 {
+    fn div_exact_assign(&mut self, d: u64, pre: &()) -> bool {
+        assign_exact(self, d, pre)
+    }
+}
+
+impl DivExactAssign<u128, ()> for u128 {
+    fn div_exact_assign(&mut self, d: u128, pre: &()) -> bool {
+        assign_exact(self, d, pre)
+    }
+}

@@ -1,0 +1,142 @@
+//! The kinds of operands: each operand by value or by reference, the modulus by reference. All forms of
+//! a call go to one function.
+
+use crate::modular_prim::operations::{ModularCoreOps, ModularPow, ModularUnaryOps};
+use crate::modular_prim::plain_word::PlainWord;
+use crate::modular_prim::{euclid, power, residues};
+
+impl<T: PlainWord> ModularCoreOps<T, &T> for T {
+    type Output = T;
+
+    fn addm(self, rhs: T, m: &T) -> T {
+        residues::addm(self, rhs, *m)
+    }
+
+    fn subm(self, rhs: T, m: &T) -> T {
+        residues::subm(self, rhs, *m)
+    }
+
+    fn mulm(self, rhs: T, m: &T) -> T {
+        residues::mulm(self, rhs, *m)
+    }
+}
+
+impl<T: PlainWord> ModularCoreOps<&T, &T> for T {
+    type Output = T;
+
+    fn addm(self, rhs: &T, m: &T) -> T {
+        residues::addm(self, *rhs, *m)
+    }
+
+    fn subm(self, rhs: &T, m: &T) -> T {
+        residues::subm(self, *rhs, *m)
+    }
+
+    fn mulm(self, rhs: &T, m: &T) -> T {
+        residues::mulm(self, *rhs, *m)
+    }
+}
+
+impl<T: PlainWord> ModularCoreOps<T, &T> for &T {
+    type Output = T;
+
+    fn addm(self, rhs: T, m: &T) -> T {
+        residues::addm(*self, rhs, *m)
+    }
+
+    fn subm(self, rhs: T, m: &T) -> T {
+        residues::subm(*self, rhs, *m)
+    }
+
+    fn mulm(self, rhs: T, m: &T) -> T {
+        residues::mulm(*self, rhs, *m)
+    }
+}
+
+impl<T: PlainWord> ModularCoreOps<&T, &T> for &T {
+    type Output = T;
+
+    fn addm(self, rhs: &T, m: &T) -> T {
+        residues::addm(*self, *rhs, *m)
+    }
+
+    fn subm(self, rhs: &T, m: &T) -> T {
+        residues::subm(*self, *rhs, *m)
+    }
+
+    fn mulm(self, rhs: &T, m: &T) -> T {
+        residues::mulm(*self, *rhs, *m)
+    }
+}
+
+impl<T: PlainWord> ModularUnaryOps<&T> for T {
+    type Output = T;
+
+    fn negm(self, m: &T) -> T {
+        residues::negm(self, *m)
+    }
+
+    fn invm(self, m: &T) -> Option<T> {
+        euclid::invm(self, *m)
+    }
+
+    fn dblm(self, m: &T) -> T {
+        residues::dblm(self, *m)
+    }
+
+    fn sqm(self, m: &T) -> T {
+        residues::sqm(self, *m)
+    }
+}
+
+impl<T: PlainWord> ModularUnaryOps<&T> for &T {
+    type Output = T;
+
+    fn negm(self, m: &T) -> T {
+        residues::negm(*self, *m)
+    }
+
+    fn invm(self, m: &T) -> Option<T> {
+        euclid::invm(*self, *m)
+    }
+
+    fn dblm(self, m: &T) -> T {
+        residues::dblm(*self, *m)
+    }
+
+    fn sqm(self, m: &T) -> T {
+        residues::sqm(*self, *m)
+    }
+}
+
+impl<T: PlainWord> ModularPow<T, &T> for T {
+    type Output = T;
+
+    fn powm(self, exp: T, m: &T) -> T {
+        power::powm(self, exp, *m)
+    }
+}
+
+impl<T: PlainWord> ModularPow<&T, &T> for T {
+    type Output = T;
+
+    fn powm(self, exp: &T, m: &T) -> T {
+        power::powm(self, *exp, *m)
+    }
+}
+
+impl<T: PlainWord> ModularPow<T, &T> for &T {
+    type Output = T;
+
+    fn powm(self, exp: T, m: &T) -> T {
+        power::powm(*self, exp, *m)
+    }
+}
+
+impl<T: PlainWord> ModularPow<&T, &T> for &T {
+    type Output = T;
+
+    fn powm(self, exp: &T, m: &T) -> T {
+        power::powm(*self, *exp, *m)
+    }
+}

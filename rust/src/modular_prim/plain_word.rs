@@ -1,0 +1,110 @@
+//! Words with division: what plain modular operations need beside the paths.
+
+use crate::modular_prim::numbered::Numbered;
+use crate::modular_word::path_word::PathWord;
+use crate::modular_word::word::{w8, w16, w32, w64, wsize};
+
+/// A machine word with quotients and remainders.
+pub trait PlainWord: Sized + PathWord + Numbered {
+    /// The quotient of two words. Condition: d is at least 1.
+    fn quotient(self, d: Self) -> Self;
+
+    /// The remainder of two words. Condition: d is at least 1.
+    fn remainder(self, d: Self) -> Self;
+
+    /// The low word of the quotient of a double word by a word. Condition: d is at least 1.
+    fn low_quotient(double: Self::Double, d: Self) -> Self;
+
+    /// The remainder of a double word by a word. Condition: d is at least 1.
+    fn narrow_remainder(double: Self::Double, d: Self) -> Self;
+}
+
+impl PlainWord for u8 {
+    fn quotient(self, d: u8) -> u8 {
+        self / d
+    }
+
+    fn remainder(self, d: u8) -> u8 {
+        self % d
+    }
+
+    fn low_quotient(double: u16, d: u8) -> u8 {
+        ((double / d as u16) & 0xff) as u8
+    }
+
+    fn narrow_remainder(double: u16, d: u8) -> u8 {
+        w8::nrem(double, d)
+    }
+}
+
+impl PlainWord for u16 {
+    fn quotient(self, d: u16) -> u16 {
+        self / d
+    }
+
+    fn remainder(self, d: u16) -> u16 {
+        self % d
+    }
+
+    fn low_quotient(double: u32, d: u16) -> u16 {
+        ((double / d as u32) & 0xffff) as u16
+    }
+
+    fn narrow_remainder(double: u32, d: u16) -> u16 {
+        w16::nrem(double, d)
+    }
+}
+
+impl PlainWord for u32 {
+    fn quotient(self, d: u32) -> u32 {
+        self / d
+    }
+
+    fn remainder(self, d: u32) -> u32 {
+        self % d
+    }
+
+    fn low_quotient(double: u64, d: u32) -> u32 {
+        ((double / d as u64) & 0xffff_ffff) as u32
+    }
+
+    fn narrow_remainder(double: u64, d: u32) -> u32 {
+        w32::nrem(double, d)
+    }
+}
+
+impl PlainWord for u64 {
+    fn quotient(self, d: u64) -> u64 {
+        self / d
+    }
+
+    fn remainder(self, d: u64) -> u64 {
+        self % d
+    }
+
+    fn low_quotient(double: u128, d: u64) -> u64 {
+        ((double / d as u128) & 0xffff_ffff_ffff_ffff) as u64
+    }
+
+    fn narrow_remainder(double: u128, d: u64) -> u64 {
+        w64::nrem(double, d)
+    }
+}
+
+impl PlainWord for usize {
+    fn quotient(self, d: usize) -> usize {
+        self / d
+    }
+
+    fn remainder(self, d: usize) -> usize {
+        self % d
+    }
+
+    fn low_quotient(double: u128, d: usize) -> usize {
+        ((double / d as u128) & 0xffff_ffff_ffff_ffff) as usize
+    }
+
+    fn narrow_remainder(double: u128, d: usize) -> usize {
+        wsize::nrem(double, d)
+    }
+}

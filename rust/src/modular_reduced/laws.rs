@@ -1,0 +1,58 @@
+//! The laws of rings, of the checked forms of any reducer. Each function computes both sides of a
+//! law and answers them: they are one word. And the law of forms and values, of a call that does
+//! nothing.
+
+use crate::modular_reduced::reducer::Reducer;
+use crate::modular_word::ring_word::RingWord;
+
+/// Addition is commutative: a + b and b + a.
+pub fn sums_commute<T: RingWord, R: Reducer<T>>(reducer: &R, a: T, b: T) -> (T, T) {
+    (reducer.add(&a, &b), reducer.add(&b, &a))
+}
+
+/// Addition is associative: (a + b) + c and a + (b + c).
+pub fn sums_associate<T: RingWord, R: Reducer<T>>(reducer: &R, a: T, b: T, c: T) -> (T, T) {
+    let left = reducer.add(&reducer.add(&a, &b), &c);
+    let right = reducer.add(&a, &reducer.add(&b, &c));
+    (left, right)
+}
+
+/// Multiplication is commutative: a b and b a.
+pub fn products_commute<T: RingWord, R: Reducer<T>>(reducer: &R, a: T, b: T) -> (T, T) {
+    (reducer.mul(&a, &b), reducer.mul(&b, &a))
+}
+
+/// Multiplication is associative: (a b) c and a (b c).
+pub fn products_associate<T: RingWord, R: Reducer<T>>(reducer: &R, a: T, b: T, c: T) -> (T, T) {
+    let left = reducer.mul(&reducer.mul(&a, &b), &c);
+    let right = reducer.mul(&a, &reducer.mul(&b, &c));
+    (left, right)
+}
+
+/// Multiplication distributes over addition: a (b + c) and a b + a c.
+pub fn products_distribute<T: RingWord, R: Reducer<T>>(reducer: &R, a: T, b: T, c: T) -> (T, T) {
+    let left = reducer.mul(&a, &reducer.add(&b, &c));
+    let right = reducer.add(&reducer.mul(&a, &b), &reducer.mul(&a, &c));
+    (left, right)
+}
+
+/// The negative is the additive inverse: -a, and a + (-a), which is the form of 0.
+pub fn negative_cancels<T: RingWord, R: Reducer<T>>(reducer: &R, a: T) -> (T, T) {
+    let negative = reducer.neg(a);
+    (negative, reducer.add(&a, &negative))
+}
+
+/// n mod m, by way of its form.
+pub fn residue_by_form<T: RingWord, R: Reducer<T>>(reducer: &R, n: T) -> T {
+    reducer.residue(reducer.transform(n))
+}
+
+/// Whether the values of two checked forms are equal: exactly where the forms are one word.
+pub fn same_value<T: RingWord, R: Reducer<T>>(reducer: &R, a: T, b: T) -> bool {
+    reducer.residue(a) == reducer.residue(b)
+}
+
+/// Forms and values are one to one: the value of the form of v is v, which is a word and a checked
+/// form; a checked form is the form of its value, so that equal values have equal forms, which are
+/// one word; and what stands for a value is a checked form of that value.
+pub fn canonical_laws<T: RingWord, R: Reducer<T>>(reducer: &R) {}

@@ -1,0 +1,95 @@
+//! Sums of integers: `+` and `+=`, with an integer or a word on the right.
+
+use super::ReducedInt;
+use super::operations::{sum, sum_with};
+use crate::modular_reduced::reducer::Reducer;
+use crate::modular_word::ring_word::RingWord;
+use core::ops::{Add, AddAssign};
+
+impl<T: RingWord, R: Reducer<T> + Copy> Add<ReducedInt<T, R>> for ReducedInt<T, R> {
+    type Output = ReducedInt<T, R>;
+
+    fn add(self, rhs: ReducedInt<T, R>) -> ReducedInt<T, R> {
+        sum(&self, &rhs)
+    }
+}
+
+impl<T: RingWord, R: Reducer<T> + Copy> Add<&ReducedInt<T, R>> for ReducedInt<T, R> {
+    type Output = ReducedInt<T, R>;
+
+    fn add(self, rhs: &ReducedInt<T, R>) -> ReducedInt<T, R> {
+        sum(&self, rhs)
+    }
+}
+
+impl<T: RingWord, R: Reducer<T> + Copy> Add<T> for ReducedInt<T, R> {
+    type Output = ReducedInt<T, R>;
+
+    fn add(self, rhs: T) -> ReducedInt<T, R> {
+        sum_with(&self, rhs)
+    }
+}
+
+impl<T: RingWord, R: Reducer<T> + Copy> Add<&T> for ReducedInt<T, R> {
+    type Output = ReducedInt<T, R>;
+
+    fn add(self, rhs: &T) -> ReducedInt<T, R> {
+        sum_with(&self, *rhs)
+    }
+}
+
+impl<T: RingWord, R: Reducer<T> + Copy> Add<ReducedInt<T, R>> for &ReducedInt<T, R> {
+    type Output = ReducedInt<T, R>;
+
+    fn add(self, rhs: ReducedInt<T, R>) -> ReducedInt<T, R> {
+        sum(self, &rhs)
+    }
+}
+
+impl<T: RingWord, R: Reducer<T> + Copy> Add<&ReducedInt<T, R>> for &ReducedInt<T, R> {
+    type Output = ReducedInt<T, R>;
+
+    fn add(self, rhs: &ReducedInt<T, R>) -> ReducedInt<T, R> {
+        sum(self, rhs)
+    }
+}
+
+impl<T: RingWord, R: Reducer<T> + Copy> Add<T> for &ReducedInt<T, R> {
+    type Output = ReducedInt<T, R>;
+
+    fn add(self, rhs: T) -> ReducedInt<T, R> {
+        sum_with(self, rhs)
+    }
+}
+
+impl<T: RingWord, R: Reducer<T> + Copy> Add<&T> for &ReducedInt<T, R> {
+    type Output = ReducedInt<T, R>;
+
+    fn add(self, rhs: &T) -> ReducedInt<T, R> {
+        sum_with(self, *rhs)
+    }
+}
+
+impl<T: RingWord, R: Reducer<T> + Copy> AddAssign<ReducedInt<T, R>> for ReducedInt<T, R> {
+    fn add_assign(&mut self, rhs: ReducedInt<T, R>) {
+        *self = sum(self, &rhs);
+    }
+}
+
+impl<T: RingWord, R: Reducer<T> + Copy> AddAssign<&ReducedInt<T, R>> for ReducedInt<T, R> {
+    fn add_assign(&mut self, rhs: &ReducedInt<T, R>) {
+        *self = sum(self, rhs);
+    }
+}
+
+impl<T: RingWord, R: Reducer<T> + Copy> AddAssign<T> for ReducedInt<T, R> {
+    fn add_assign(&mut self, rhs: T) {
+        *self = sum_with(self, rhs);
+    }
+}
+
+impl<T: RingWord, R: Reducer<T> + Copy> AddAssign<&T> for ReducedInt<T, R> {
+    fn add_assign(&mut self, rhs: &T) {
+        *self = sum_with(self, *rhs);
+    }
+}

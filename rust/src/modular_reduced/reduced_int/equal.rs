@@ -1,0 +1,11 @@
+//! Equality of integers: one modulus and one form.
+
+use super::ReducedInt;
+use crate::modular_reduced::reducer::Reducer;
+use crate::modular_word::ring_word::RingWord;
+
+impl<T: RingWord, R: Reducer<T> + Copy> PartialEq for ReducedInt<T, R> {
+    fn eq(&self, other: &Self) -> bool {
+        self.reducer.modulus() == other.reducer.modulus() && self.form == other.form
+    }
+}

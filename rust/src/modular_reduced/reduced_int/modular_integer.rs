@@ -1,0 +1,41 @@
+//! `ReducedInt` as a `ModularInteger`.
+
+use super::ReducedInt;
+use super::operations::in_ring;
+use crate::modular_reduced::modular_integer::ModularInteger;
+use crate::modular_reduced::reducer::Reducer;
+use crate::modular_word::ring_word::RingWord;
+
+impl<T: RingWord, R: Reducer<T> + Copy> ModularInteger for ReducedInt<T, R> {
+    type Base = T;
+
+    fn modulus(&self) -> T {
+        self.reducer.modulus()
+    }
+
+    fn residue(&self) -> T {
+        self.reducer.residue(self.form)
+    }
+
+    fn is_zero(&self) -> bool {
+        self.reducer.is_zero(&self.form)
+    }
+
+    fn convert(&self, n: T) -> Self {
+        in_ring(self, n)
+    }
+
+    fn double(self) -> Self {
+        ReducedInt {
+            form: self.reducer.dbl(self.form),
+            reducer: self.reducer,
+        }
+    }
+
+    fn square(self) -> Self {
+        ReducedInt {
+            form: self.reducer.sqr(self.form),
+            reducer: self.reducer,
+        }
+    }
+}

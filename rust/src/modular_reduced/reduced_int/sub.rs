@@ -1,0 +1,95 @@
+//! Differences of integers: `-` and `-=`, with an integer or a word on the right.
+
+use super::ReducedInt;
+use super::operations::{difference, difference_with};
+use crate::modular_reduced::reducer::Reducer;
+use crate::modular_word::ring_word::RingWord;
+use core::ops::{Sub, SubAssign};
+
+impl<T: RingWord, R: Reducer<T> + Copy> Sub<ReducedInt<T, R>> for ReducedInt<T, R> {
+    type Output = ReducedInt<T, R>;
+
+    fn sub(self, rhs: ReducedInt<T, R>) -> ReducedInt<T, R> {
+        difference(&self, &rhs)
+    }
+}
+
+impl<T: RingWord, R: Reducer<T> + Copy> Sub<&ReducedInt<T, R>> for ReducedInt<T, R> {
+    type Output = ReducedInt<T, R>;
+
+    fn sub(self, rhs: &ReducedInt<T, R>) -> ReducedInt<T, R> {
+        difference(&self, rhs)
+    }
+}
+
+impl<T: RingWord, R: Reducer<T> + Copy> Sub<T> for ReducedInt<T, R> {
+    type Output = ReducedInt<T, R>;
+
+    fn sub(self, rhs: T) -> ReducedInt<T, R> {
+        difference_with(&self, rhs)
+    }
+}
+
+impl<T: RingWord, R: Reducer<T> + Copy> Sub<&T> for ReducedInt<T, R> {
+    type Output = ReducedInt<T, R>;
+
+    fn sub(self, rhs: &T) -> ReducedInt<T, R> {
+        difference_with(&self, *rhs)
+    }
+}
+
+impl<T: RingWord, R: Reducer<T> + Copy> Sub<ReducedInt<T, R>> for &ReducedInt<T, R> {
+    type Output = ReducedInt<T, R>;
+
+    fn sub(self, rhs: ReducedInt<T, R>) -> ReducedInt<T, R> {
+        difference(self, &rhs)
+    }
+}
+
+impl<T: RingWord, R: Reducer<T> + Copy> Sub<&ReducedInt<T, R>> for &ReducedInt<T, R> {
+    type Output = ReducedInt<T, R>;
+
+    fn sub(self, rhs: &ReducedInt<T, R>) -> ReducedInt<T, R> {
+        difference(self, rhs)
+    }
+}
+
+impl<T: RingWord, R: Reducer<T> + Copy> Sub<T> for &ReducedInt<T, R> {
+    type Output = ReducedInt<T, R>;
+
+    fn sub(self, rhs: T) -> ReducedInt<T, R> {
+        difference_with(self, rhs)
+    }
+}
+
+impl<T: RingWord, R: Reducer<T> + Copy> Sub<&T> for &ReducedInt<T, R> {
+    type Output = ReducedInt<T, R>;
+
+    fn sub(self, rhs: &T) -> ReducedInt<T, R> {
+        difference_with(self, *rhs)
+    }
+}
+
+impl<T: RingWord, R: Reducer<T> + Copy> SubAssign<ReducedInt<T, R>> for ReducedInt<T, R> {
+    fn sub_assign(&mut self, rhs: ReducedInt<T, R>) {
+        *self = difference(self, &rhs);
+    }
+}
+
+impl<T: RingWord, R: Reducer<T> + Copy> SubAssign<&ReducedInt<T, R>> for ReducedInt<T, R> {
+    fn sub_assign(&mut self, rhs: &ReducedInt<T, R>) {
+        *self = difference(self, rhs);
+    }
+}
+
+impl<T: RingWord, R: Reducer<T> + Copy> SubAssign<T> for ReducedInt<T, R> {
+    fn sub_assign(&mut self, rhs: T) {
+        *self = difference_with(self, rhs);
+    }
+}
+
+impl<T: RingWord, R: Reducer<T> + Copy> SubAssign<&T> for ReducedInt<T, R> {
+    fn sub_assign(&mut self, rhs: &T) {
+        *self = difference_with(self, *rhs);
+    }
+}

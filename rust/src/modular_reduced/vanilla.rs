@@ -1,0 +1,82 @@
+//! The plain reducer: each value is its own form.
+
+use crate::modular_reduced::reducer::Reducer;
+use crate::modular_prim::below::{add_below, dbl_below, neg_below, sub_below};
+use crate::modular_prim::euclid::invm;
+use crate::modular_prim::plain_word::PlainWord;
+
+/// The plain reducer of a modulus from 1 up: the form of a value is the value itself.
+///
+/// Sums, differences, doubles and negatives take no division. A product is the classical one, the
+/// remainder of a double word by a word (Handbook of Applied Cryptography, section 14.3.1), and an
+/// inverse goes by Euclid's algorithm.
+#[derive(Debug)]
+pub struct Vanilla<T: PlainWord> {
+    modulus: T,
+}
+
+impl<T: PlainWord> Clone for Vanilla<T> {
+    fn clone(&self) -> Self {
+        *self
+    }
+}
+
+impl<T: PlainWord> Copy for Vanilla<T> {}
+
+impl<T: PlainWord> Reducer<T> for Vanilla<T> {
+    fn new(m: &T) -> Self {
+        let modulus = *m;
+        // a word that was read is known to fit
+        let _ = modulus.is_odd();
+        assert!(!modulus.is_zero_word());
+        Vanilla { modulus }
+    }
+
+    fn transform(&self, n: T) -> T {
+        n.remainder(self.modulus)
+    }
+
+    fn check(&self, f: &T) -> bool {
+        f.is_below(self.modulus)
+    }
+
+    fn modulus(&self) -> T {
+        self.modulus
+    }
+
+    fn residue(&self, f: T) -> T {
+        f
+    }
+
+    fn is_zero(&self, f: &T) -> bool {
+        f.is_zero_word()
+    }
+
+    fn add(&self, a: &T, b: &T) -> T {
+        add_below(*a, *b, self.modulus)
+    }
+
+    fn dbl(&self, f: T) -> T {
+        dbl_below(f, self.modulus)
+    }
+
+    fn sub(&self, a: &T, b: &T) -> T {
+        sub_below(*a, *b, self.modulus)
+    }
+
+    fn neg(&self, f: T) -> T {
+        neg_below(f, self.modulus)
+    }
+
+    fn mul(&self, a: &T, b: &T) -> T {
+        T::narrow_remainder(a.product(*b), self.modulus)
+    }
+
+    fn inv(&self, f: T) -> Option<T> {
+        invm(f, self.modulus)
+    }
+
+    fn sqr(&self, f: T) -> T {
+        T::narrow_remainder(f.product(f), self.modulus)
+    }
+}

@@ -1,0 +1,15 @@
+//! The Legendre, Jacobi and Kronecker symbols of machine words, with and without sign, and the traits
+//! that collect the modular operations.
+
+pub mod count;
+pub mod counted;
+pub mod halving;
+pub mod laws;
+pub mod magnitudes;
+pub mod operands;
+pub mod operations;
+pub mod primes;
+pub mod reference_operations;
+pub mod subtraction;
+pub mod symbols;
+pub mod turns;

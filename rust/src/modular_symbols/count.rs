@@ -1,0 +1,30 @@
+//! The definition of the Jacobi symbol as a program: right and slow. It is what the tests compare the
+//! fast calls with, and nothing of the library stands on it.
+
+use crate::modular_prim::abs::signed_residue;
+use crate::modular_prim::euclid::invm;
+use crate::modular_prim::plain_word::PlainWord;
+use crate::modular_prim::residues::mulm;
+use crate::modular_word::path_word::PathWord;
+use crate::modular_word::ring_word::RingWord;
+
+/// The Jacobi symbol over n of a number, given by its sign and its magnitude, by a count of the half
+/// system of n, of (n - 1)/2 residues: -1, 0 or 1. Condition: n is odd.
+///
+/// Source: Schering, "Zur Theorie der quadratischen Reste" (Gauss's lemma over any odd number).
+pub fn jacobi_by_count<T: PlainWord>(a_minus: bool, a: T, n: T) -> i8 {
+    if invm(a, n).is_none() {
+        return 0;
+    }
+    let residue = signed_residue(a_minus, a, n);
+    let half = n.half();
+    let mut x = T::zero();
+    let mut odd = false;
+    'half_system: while x.is_below(half) {
+        x = x.plus(T::one());
+        if half.is_below(mulm(residue, x, n)) {
+            odd = !odd;
+        }
+    }
+    if odd { -1 } else { 1 }
+}

@@ -1,0 +1,21 @@
+//! The Jacobi symbol with the number of its steps, a module a width.
+
+use crate::modular_symbols::halving::jacobi_counted;
+use crate::modular_prim::plain_word::PlainWord;
+use crate::modular_word::ring_word::RingWord;
+
+pub mod w16;
+pub mod w32;
+pub mod w64;
+pub mod w8;
+pub mod wsize;
+
+/// The Jacobi symbol, `None` exactly for an even n, and the number of halvings and swaps from the
+/// residue of a over n.
+pub fn checked_jacobi_counted<T: PlainWord>(a: T, n: T) -> Option<(i8, u32)> {
+    if n.is_odd() {
+        Some(jacobi_counted(false, a, n))
+    } else {
+        None
+    }
+}

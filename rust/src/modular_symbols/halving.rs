@@ -1,0 +1,55 @@
+//! The Jacobi symbol by halving and swapping, with the number of these steps. `subtraction` has the faster
+//! loop, which counts none.
+
+use crate::modular_symbols::turns::{is_turned_by_swap, is_turned_by_twos};
+use crate::modular_prim::abs::signed_residue;
+use crate::modular_prim::plain_word::PlainWord;
+use crate::modular_word::path_word::PathWord;
+use crate::modular_word::ring_word::RingWord;
+
+// Whether the symbol is turned where `a` times 2 to the power `twos` over n becomes n over `a`.
+fn is_turned<T: PlainWord>(a: T, twos: u32, n: T) -> bool {
+    is_turned_by_twos(twos, n) ^ is_turned_by_swap(a, n)
+}
+
+// The Jacobi symbol of a over n, and the number of halvings and swaps. Condition: n is odd and above a.
+fn halve_and_swap<T: PlainWord>(a: T, n: T) -> (i8, u32) {
+    let mut above = a;
+    let mut below = n;
+    let mut turned = false;
+    let mut count = 0;
+    'swaps: while !above.is_zero_word() {
+        let twos = above.trailing_zeros();
+        let odd = above.shift_right(twos);
+        turned ^= is_turned(odd, twos, below);
+        above = below.remainder(odd);
+        below = odd;
+        count += twos + 1;
+    }
+    if below == T::one() {
+        if turned { (-1, count) } else { (1, count) }
+    } else {
+        (0, count)
+    }
+}
+
+/// The Jacobi symbol over n of a number, given by its sign and its magnitude. Condition: n is odd.
+pub fn jacobi_by_halving<T: PlainWord>(a_minus: bool, a: T, n: T) -> i8 {
+    jacobi_counted(a_minus, a, n).0
+}
+
+/// The Jacobi symbol over n of a number, given by its sign and its magnitude, and the number of halvings
+/// and swaps from its residue over n. Condition: n is odd.
+///
+/// A turn of the loop takes all twos out of the upper number, swaps the two and reduces, with one
+/// division.
+///
+/// Source: Cohen, "A Course in Computational Algebraic Number Theory", algorithm 1.4.10, without
+/// its first steps.
+pub fn jacobi_counted<T: PlainWord>(a_minus: bool, a: T, n: T) -> (i8, u32) {
+    halve_and_swap(signed_residue(a_minus, a, n), n)
+}
+
+/// From 0 there are no steps; from 2^z times an odd number there are z halvings, a swap, and those from
+/// what the swap leaves; and 2 to their number is at most 2·a·n, for a from 1 to n - 1.
+pub fn step_laws() {}

@@ -1,0 +1,102 @@
+//! The integer of an operand, and words given by their sign and their magnitude.
+
+pub use crate::modular_prim::numbered::IntegerValued;
+use crate::modular_prim::numbered::Numbered;
+use crate::modular_prim::plain_word::PlainWord;
+
+/// An operand without sign: its integer is its whole number, which `==` compares.
+///
+/// It has no calls. By it code that is generic over the modular operations and the symbols speaks of
+/// one number.
+pub trait UnsignedOperand: Sized + Numbered + IntegerValued + Eq {}
+
+impl<Any: Numbered + IntegerValued + Eq> UnsignedOperand for Any {}
+
+/// A machine word with or without sign.
+pub trait SymbolWord: IntegerValued + Copy {
+    /// The word without sign that holds the magnitude, the least number's too.
+    type Magnitude: PlainWord;
+
+    /// Whether the number is negative, and its magnitude.
+    fn sign_and_magnitude(self) -> (bool, Self::Magnitude);
+}
+
+impl SymbolWord for u8 {
+    type Magnitude = u8;
+
+    fn sign_and_magnitude(self) -> (bool, u8) {
+        (false, self)
+    }
+}
+
+impl SymbolWord for u16 {
+    type Magnitude = u16;
+
+    fn sign_and_magnitude(self) -> (bool, u16) {
+        (false, self)
+    }
+}
+
+impl SymbolWord for u32 {
+    type Magnitude = u32;
+
+    fn sign_and_magnitude(self) -> (bool, u32) {
+        (false, self)
+    }
+}
+
+impl SymbolWord for u64 {
+    type Magnitude = u64;
+
+    fn sign_and_magnitude(self) -> (bool, u64) {
+        (false, self)
+    }
+}
+
+impl SymbolWord for usize {
+    type Magnitude = usize;
+
+    fn sign_and_magnitude(self) -> (bool, usize) {
+        (false, self)
+    }
+}
+
+impl SymbolWord for i8 {
+    type Magnitude = u8;
+
+    fn sign_and_magnitude(self) -> (bool, u8) {
+        (self < 0, self.unsigned_abs())
+    }
+}
+
+impl SymbolWord for i16 {
+    type Magnitude = u16;
+
+    fn sign_and_magnitude(self) -> (bool, u16) {
+        (self < 0, self.unsigned_abs())
+    }
+}
+
+impl SymbolWord for i32 {
+    type Magnitude = u32;
+
+    fn sign_and_magnitude(self) -> (bool, u32) {
+        (self < 0, self.unsigned_abs())
+    }
+}
+
+impl SymbolWord for i64 {
+    type Magnitude = u64;
+
+    fn sign_and_magnitude(self) -> (bool, u64) {
+        (self < 0, self.unsigned_abs())
+    }
+}
+
+impl SymbolWord for isize {
+    type Magnitude = usize;
+
+    fn sign_and_magnitude(self) -> (bool, usize) {
+        (self < 0, self.unsigned_abs())
+    }
+}

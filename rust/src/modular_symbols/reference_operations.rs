@@ -1,0 +1,90 @@
+//! The modular operations and the symbols over plain references.
+
+use crate::modular_symbols::operands::{SymbolWord, UnsignedOperand};
+use crate::modular_symbols::symbols::ModularSymbols;
+use crate::modular_prim::plain_word::PlainWord;
+use crate::modular_prim::{euclid, power, residues};
+
+/// All modular operations and the symbols of a word, with every operand by reference: the answers of
+/// `ModularOps`. Condition of each operation: m is at least 1. The symbols have none.
+pub trait ModularRefOps: UnsignedOperand + Copy {
+    /// The residue of the sum.
+    fn addm_ref(&self, rhs: &Self, m: &Self) -> Self;
+
+    /// The residue of the difference.
+    fn subm_ref(&self, rhs: &Self, m: &Self) -> Self;
+
+    /// The residue of the product.
+    fn mulm_ref(&self, rhs: &Self, m: &Self) -> Self;
+
+    /// The residue of the negative.
+    fn negm_ref(&self, m: &Self) -> Self;
+
+    /// The inverse modulo m; `None` exactly where there is none. It is 0 for m = 1.
+    fn invm_ref(&self, m: &Self) -> Option<Self>;
+
+    /// The residue of the double.
+    fn dblm_ref(&self, m: &Self) -> Self;
+
+    /// The residue of the square.
+    fn sqm_ref(&self, m: &Self) -> Self;
+
+    /// The residue of the product of `exp` factors; that of 1 for the exponent 0.
+    fn powm_ref(&self, exp: &Self, m: &Self) -> Self;
+
+    /// The class of the power, as `checked_legendre` has it: 0, 1 or -1. `None` where the power is none
+    /// of these, and for n = 0.
+    fn checked_legendre_ref(&self, n: &Self) -> Option<i8>;
+
+    /// The Jacobi symbol; `None` exactly for an even n.
+    fn checked_jacobi_ref(&self, n: &Self) -> Option<i8>;
+
+    /// The Kronecker symbol.
+    fn kronecker_ref(&self, n: &Self) -> i8;
+}
+
+impl<T: PlainWord + SymbolWord + UnsignedOperand> ModularRefOps for T {
+    fn addm_ref(&self, rhs: &T, m: &T) -> T {
+        residues::addm(*self, *rhs, *m)
+    }
+
+    fn subm_ref(&self, rhs: &T, m: &T) -> T {
+        residues::subm(*self, *rhs, *m)
+    }
+
+    fn mulm_ref(&self, rhs: &T, m: &T) -> T {
+        residues::mulm(*self, *rhs, *m)
+    }
+
+    fn negm_ref(&self, m: &T) -> T {
+        residues::negm(*self, *m)
+    }
+
+    fn invm_ref(&self, m: &T) -> Option<T> {
+        euclid::invm(*self, *m)
+    }
+
+    fn dblm_ref(&self, m: &T) -> T {
+        residues::dblm(*self, *m)
+    }
+
+    fn sqm_ref(&self, m: &T) -> T {
+        residues::sqm(*self, *m)
+    }
+
+    fn powm_ref(&self, exp: &T, m: &T) -> T {
+        power::powm(*self, *exp, *m)
+    }
+
+    fn checked_legendre_ref(&self, n: &T) -> Option<i8> {
+        self.checked_legendre(n)
+    }
+
+    fn checked_jacobi_ref(&self, n: &T) -> Option<i8> {
+        self.checked_jacobi(n)
+    }
+
+    fn kronecker_ref(&self, n: &T) -> i8 {
+        self.kronecker(n)
+    }
+}

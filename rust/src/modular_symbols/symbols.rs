@@ -1,0 +1,78 @@
+//! The trait of the symbols.
+
+use crate::modular_symbols::magnitudes;
+use crate::modular_symbols::operands::{IntegerValued, SymbolWord};
+use crate::modular_symbols::subtraction::jacobi_by_subtraction;
+use crate::modular_word::ring_word::RingWord;
+
+/// The symbols of a number over n. A symbol is -1, 0 or 1.
+pub trait ModularSymbols<Modulus: IntegerValued = Self>: Sized + IntegerValued {
+    /// The value inside `checked_legendre`. Condition: that is `Some`.
+    fn legendre(&self, n: Modulus) -> i8 {
+        match self.checked_legendre(n) {
+            Some(symbol) => symbol,
+            None => unreachable!(),
+        }
+    }
+
+    /// The class of the power a^((n - 1)/2) modulo n, its exponent rounded down: 0, 1 or -1 where the
+    /// power leaves 0, 1 or n - 1, tried in this order. `None` for any other power, and for n below 1.
+    ///
+    /// For an odd prime n this is the Legendre symbol, which is the Jacobi symbol. That n is prime isn't
+    /// tested.
+    fn checked_legendre(&self, n: Modulus) -> Option<i8>;
+
+    /// The value inside `checked_jacobi`. Condition: that is `Some`, so n is odd and above 0.
+    ///
+    /// Words take another loop than there, and the faster one: it subtracts where that one divides. Take it
+    /// where n is known to be odd.
+    fn jacobi(&self, n: Modulus) -> i8 {
+        match self.checked_jacobi(n) {
+            Some(symbol) => symbol,
+            None => unreachable!(),
+        }
+    }
+
+    /// The Jacobi symbol; `None` exactly for an even n and for n below 1.
+    ///
+    /// Words take the loop whose halvings and swaps are counted, with a division a swap. `jacobi` needs an odd n,
+    /// and is faster.
+    fn checked_jacobi(&self, n: Modulus) -> Option<i8>;
+
+    /// The Kronecker symbol, of any number over any number, the least ones included: the product of the
+    /// Jacobi symbol over the odd part of the magnitude of n, of the symbol over 2 for each factor 2 of
+    /// n (0 for an even number, 1 for one that leaves 1 or 7 modulo 8, else -1), and of -1 where both
+    /// are negative. Over 0 it is 1 for 1 and -1, and else 0.
+    ///
+    /// Source: Cohen, "A Course in Computational Algebraic Number Theory", definition 1.4.8.
+    fn kronecker(&self, n: Modulus) -> i8;
+}
+
+impl<T: SymbolWord> ModularSymbols<&T> for T {
+    fn checked_legendre(&self, n: &T) -> Option<i8> {
+        let (a_minus, a) = self.sign_and_magnitude();
+        let (n_minus, n) = n.sign_and_magnitude();
+        magnitudes::checked_legendre(a_minus, a, n_minus, n)
+    }
+
+    fn jacobi(&self, n: &T) -> i8 {
+        let (a_minus, a) = self.sign_and_magnitude();
+        let (n_minus, n) = n.sign_and_magnitude();
+        if n_minus | !n.is_odd() {
+            unreachable!();
+        }
+        jacobi_by_subtraction(a_minus, a, n)
+    }
+
+    fn checked_jacobi(&self, n: &T) -> Option<i8> {
+        let (a_minus, a) = self.sign_and_magnitude();
+        let (n_minus, n) = n.sign_and_magnitude();
+        magnitudes::checked_jacobi(a_minus, a, n_minus, n)
+    }
+
+    fn kronecker(&self, n: &T) -> i8 {
+        let (a_minus, a) = self.sign_and_magnitude();
+        let (n_minus, n) = n.sign_and_magnitude();
+        magnitudes::kronecker_symbol(a_minus, a, n_minus, n)
+    }
+}

@@ -1,0 +1,27 @@
+//! What turns a Jacobi symbol: a power of 2 taken out of the upper number, and two odd numbers that
+//! change places.
+
+use crate::modular_prim::plain_word::PlainWord;
+use crate::modular_word::path_word::PathWord;
+use crate::modular_word::ring_word::RingWord;
+
+// Whether an odd number leaves 3 modulo 4.
+fn leaves_3<T: PlainWord>(n: T) -> bool {
+    n.half().is_odd()
+}
+
+/// Whether 2 has the symbol -1 over an odd number: the number leaves 3 or 5 modulo 8. Condition: it is
+/// odd.
+pub fn is_minus_over_two<T: PlainWord>(n: T) -> bool {
+    n.half().plus(T::one()).half().is_odd()
+}
+
+// Whether the symbol over an odd n is turned where 2 to the power `twos` is taken out of the upper number.
+pub(crate) fn is_turned_by_twos<T: PlainWord>(twos: u32, n: T) -> bool {
+    (twos % 2 == 1) & is_minus_over_two(n)
+}
+
+// Whether the symbol is turned where two odd numbers change places.
+pub(crate) fn is_turned_by_swap<T: PlainWord>(a: T, n: T) -> bool {
+    leaves_3(a) & leaves_3(n)
+}

@@ -1,0 +1,8 @@
+//! Number-theoretic transforms and cyclic products, in place, over any reducer.
+
+pub mod convolution;
+pub mod laws;
+pub mod order;
+pub mod plain;
+mod stage;
+pub mod transform;

@@ -1,0 +1,58 @@
+//! The cyclic product of two lists, by transforms.
+
+use crate::modular_transform::order::mirror;
+use crate::modular_transform::transform::ntt;
+use crate::modular_reduced::reducer::Reducer;
+use crate::modular_word::ring_word::RingWord;
+
+// Multiplies each entry by the one at its place.
+fn multiply_each<T: RingWord, R: Reducer<T>>(r: &R, xs: &mut [T], ys: &[T]) {
+    'entries: for i in 0..xs.len() {
+        xs[i] = r.mul(&xs[i], &ys[i]);
+    }
+}
+
+/// Multiplies each entry by a factor. Conditions: the entries and the factor are checked forms.
+pub fn scale<T: RingWord, R: Reducer<T>>(r: &R, xs: &mut [T], factor: &T) {
+    'entries: for i in 0..xs.len() {
+        xs[i] = r.mul(&xs[i], factor);
+    }
+}
+
+// The form of a power of two, by doublings of 1: it may be too large for the word.
+fn length_form<T: RingWord, R: Reducer<T>>(r: &R, n: usize) -> T {
+    let mut length = r.transform(T::one());
+    'doublings: for _done in 0..n.trailing_zeros() {
+        length = r.dbl(length);
+    }
+    length
+}
+
+// Puts the cyclic product in xs and the transform of ys in ys, by g and an inverse of the length.
+fn multiply<T: RingWord, R: Reducer<T>>(r: &R, xs: &mut [T], ys: &mut [T], g: &T, part: &T) {
+    ntt(r, xs, g);
+    ntt(r, ys, g);
+    multiply_each(r, xs, ys);
+    ntt(r, xs, g);
+    mirror(xs);
+    scale(r, xs, part);
+}
+
+/// Puts the cyclic product of xs and ys in xs and the transform of ys in ys, both by g; false, with
+/// both lists unchanged, exactly where their length n has no inverse modulo m.
+///
+/// Entry e of xs becomes the form of the sum of x_i·y_j modulo m over i + j = e or e + n. Conditions:
+/// the lists have one length, g and all entries are checked forms, and g suits the length
+/// (`root_fits` tells). It takes no memory. The method is that of Knuth (The Art of Computer
+/// Programming, volume 2, section 4.3.3, part C): a transform of each list, a product at each place,
+/// a transform back. The length comes by doublings of 1, so it may be too large for the word.
+pub fn convolve<T: RingWord, R: Reducer<T>>(r: &R, xs: &mut [T], ys: &mut [T], g: &T) -> bool {
+    let length = length_form(r, xs.len());
+    match r.inv(length) {
+        Some(part) => {
+            multiply(r, xs, ys, g, &part);
+            true
+        }
+        None => false,
+    }
+}

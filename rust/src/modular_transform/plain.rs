@@ -1,0 +1,59 @@
+//! The definitions of `specs/` as programs: plain and slow, each with the definition for its contract.
+//! They are what the tests compare the fast calls with, and nothing of the library stands on them.
+
+use crate::modular_word::plain::power_of;
+
+/// Whether g suits transforms of n entries modulo m: n is a power of two, and for n above 1 the power
+/// n/2 of g is -1 modulo m. Condition: m is at least 1.
+pub fn suits(m: u64, g: u64, n: usize) -> bool {
+    if !n.is_power_of_two() {
+        return false;
+    }
+    if n == 1 {
+        return true;
+    }
+    (power_of(g, n as u64 / 2, m) as u128 + 1) % m as u128 == 0
+}
+
+/// Entry j of the transform by g of the entries modulo m, term by term. Condition: m is at least 1.
+pub fn transform_entry(m: u64, g: u64, xs: &[u64], j: usize) -> u64 {
+    let step = power_of(g, j as u64, m);
+    let mut power = 1 % m;
+    let mut sum = 0;
+    'terms: for i in 0..xs.len() {
+        sum = ((sum as u128 + xs[i] as u128 * power as u128) % m as u128) as u64;
+        power = (power as u128 * step as u128 % m as u128) as u64;
+    }
+    sum
+}
+
+// A product of two entries, where their places i and j add up to e or to e + n, and else 0.
+fn term(product: u128, i: usize, j: usize, e: usize, n: usize) -> u128 {
+    if i + j == e || i + j == e + n {
+        product
+    } else {
+        0
+    }
+}
+
+// The terms of entry e of the cyclic product with the factor x at place i.
+fn row_sum(m: u64, x: u64, i: usize, ys: &[u64], e: usize) -> u64 {
+    let mut sum = 0;
+    'terms: for j in 0..ys.len() {
+        let product = x as u128 * ys[j] as u128;
+        let term = term(product, i, j, e, ys.len()) % m as u128;
+        sum = ((sum as u128 + term) % m as u128) as u64;
+    }
+    sum
+}
+
+/// Entry e of the cyclic product of two lists modulo m, term by term. Conditions: m is at least 1,
+/// the lists have one length, and e is below it.
+pub fn product_entry(m: u64, xs: &[u64], ys: &[u64], e: usize) -> u64 {
+    let mut sum = 0;
+    'rows: for i in 0..xs.len() {
+        let row = row_sum(m, xs[i], i, ys, e);
+        sum = ((sum as u128 + row as u128) % m as u128) as u64;
+    }
+    sum
+}

@@ -1,0 +1,63 @@
+//! One stage of a transform in place: the sums and differences of pairs, by strips of columns.
+
+use crate::modular_reduced::reducer::Reducer;
+use crate::modular_word::ring_word::RingWord;
+
+// How many columns are taken together: their powers stand on the stack, and in each block their
+// pairs are neighbours in memory.
+const STRIP: usize = 64;
+
+// A difference times a power. It takes one product.
+fn weighted_difference<T: RingWord, R: Reducer<T>>(r: &R, a: &T, b: &T, power: &T) -> T {
+    let difference = r.sub(a, b);
+    r.mul(&difference, power)
+}
+
+// The pair at two places: its sum, and its difference times a power. It takes one product.
+fn pair<T: RingWord, R: Reducer<T>>(r: &R, forms: &mut [T], first: usize, second: usize, power: &T) {
+    let a = forms[first];
+    let b = forms[second];
+    forms[second] = weighted_difference(r, &a, &b, power);
+    forms[first] = r.add(&a, &b);
+}
+
+// Multiplies the running power by the root, and answers what it was before. It takes one product.
+fn advance<T: RingWord, R: Reducer<T>>(r: &R, running: &mut T, root: &T) -> T {
+    let last = *running;
+    *running = r.mul(&last, root);
+    last
+}
+
+/// A stage with a root: in each block of `half` and `half` entries the pair of column i becomes its
+/// sum, and its difference times the power i of the root. Answers how many products that took.
+///
+/// The columns are taken in strips, so that what is read next lies beside what was read last.
+pub fn stage<T: RingWord, R: Reducer<T>>(
+    r: &R,
+    forms: &mut [T],
+    half: usize,
+    blocks: usize,
+    root: &T,
+) -> usize {
+    let mut running = r.transform(T::one());
+    let mut powers = [running; STRIP];
+    let mut column = 0;
+    let mut products = 0;
+    'strips: while column < half {
+        let width = STRIP.min(half - column);
+        'fill: for i in 0..width {
+            powers[i] = advance(r, &mut running, root);
+            products += 1;
+        }
+        'each_block: for block in 0..blocks {
+            let first = block * (half + half) + column;
+            'columns: for k in 0..width {
+                let power = powers[k];
+                pair(r, forms, first + k, first + k + half, &power);
+                products += 1;
+            }
+        }
+        column += width;
+    }
+    products
+}

@@ -1,0 +1,55 @@
+//! The number-theoretic transform in place.
+
+use crate::modular_transform::order::reverse_places;
+use crate::modular_transform::stage::stage;
+use crate::modular_reduced::reducer::Reducer;
+use crate::modular_word::ring_word::RingWord;
+
+/// Whether g suits transforms of n entries: n is a power of two, and for n above 1 the value of g to
+/// the power n/2 is -1 modulo m. The power comes by squares, so n may be too large for the word.
+pub fn root_fits<T: RingWord, R: Reducer<T>>(r: &R, g: &T, n: usize) -> bool {
+    if !n.is_power_of_two() {
+        return false;
+    }
+    if n == 1 {
+        return true;
+    }
+    let mut power = *g;
+    'squares: for _done in 1..n.trailing_zeros() {
+        power = r.sqr(power);
+    }
+    let one = r.transform(T::one());
+    r.is_zero(&r.add(&power, &one))
+}
+
+/// `ntt`, and how many products of the reducer it took: for n = 2^z that is n·z/2 + n - 1 + z.
+///
+/// The z stages have half blocks of n/2, n/4, .., 1 entries. A stage takes a product for each of its
+/// n/2 pairs, one for the running power in each column, and a square for the root of the next.
+pub fn ntt_counted<T: RingWord, R: Reducer<T>>(r: &R, xs: &mut [T], g: &T) -> u128 {
+    let stages = xs.len().trailing_zeros();
+    let mut half = xs.len() / 2;
+    let mut blocks = 1;
+    let mut root = *g;
+    let mut products = 0;
+    'stages: for _done in 0..stages {
+        products += stage(r, xs, half, blocks, &root) as u128;
+        root = r.sqr(root);
+        products += 1;
+        half /= 2;
+        blocks *= 2;
+    }
+    reverse_places(xs, stages);
+    products
+}
+
+/// Puts the transform by g of the entries in their place: entry j becomes the form of the sum of
+/// x_i·g^(i·j) modulo m, x_i being the value of entry i.
+///
+/// Conditions: g and the entries are checked forms, and g suits the length (`root_fits` tells). The
+/// modulus need not be prime. It takes no memory. The method is that of Cooley and Tukey in the order
+/// of Gentleman and Sande ("Fast Fourier transforms: for fun and profit"), over residues (Pollard,
+/// "The fast Fourier transform in a finite field").
+pub fn ntt<T: RingWord, R: Reducer<T>>(r: &R, xs: &mut [T], g: &T) {
+    let _products = ntt_counted(r, xs, g);
+}

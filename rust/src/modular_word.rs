@@ -1,0 +1,10 @@
+//! Machine words seen as whole numbers, and the paths: division by a reciprocal, exact division and
+//! Montgomery's reduction, each written and proved once for every width.
+
+pub mod laws;
+pub mod machine_words;
+pub mod path_word;
+pub mod paths;
+pub mod plain;
+pub mod ring_word;
+pub mod word;

@@ -1,0 +1,369 @@
+//! The words of the five widths, with their double words.
+
+use crate::modular_word::path_word::PathWord;
+
+impl PathWord for u8 {
+    type Double = u16;
+
+    fn plus(self, rhs: u8) -> u8 {
+        self + rhs
+    }
+
+    fn minus(self, rhs: u8) -> u8 {
+        self - rhs
+    }
+
+    fn times(self, rhs: u8) -> u8 {
+        self * rhs
+    }
+
+    fn wrapping_add(self, rhs: u8) -> u8 {
+        self.wrapping_add(rhs)
+    }
+
+    fn wrapping_sub(self, rhs: u8) -> u8 {
+        self.wrapping_sub(rhs)
+    }
+
+    fn wrapping_mul(self, rhs: u8) -> u8 {
+        self.wrapping_mul(rhs)
+    }
+
+    fn shift_right(self, by: u32) -> u8 {
+        self >> by
+    }
+
+    fn shift_left(self, by: u32) -> u8 {
+        self << by
+    }
+
+    fn low_bits(self, count: u32) -> u8 {
+        self & ((1 << count) - 1)
+    }
+
+    fn leading_zeros(self) -> u32 {
+        self.leading_zeros()
+    }
+
+    fn trailing_zeros(self) -> u32 {
+        self.trailing_zeros()
+    }
+
+    fn is_below(self, other: u8) -> bool {
+        self < other
+    }
+
+    fn product(self, rhs: u8) -> u16 {
+        self as u16 * rhs as u16
+    }
+
+    fn shift_left_wide(self, by: u32) -> u16 {
+        (self as u16) << by
+    }
+
+    fn split(double: u16) -> (u8, u8) {
+        ((double & 0xff) as u8, (double >> 8) as u8)
+    }
+
+    fn merge(low: u8, high: u8) -> u16 {
+        low as u16 + ((high as u16) << 8)
+    }
+
+    fn double_plus(first: u16, second: u16) -> u16 {
+        first + second
+    }
+}
+
+impl PathWord for u16 {
+    type Double = u32;
+
+    fn plus(self, rhs: u16) -> u16 {
+        self + rhs
+    }
+
+    fn minus(self, rhs: u16) -> u16 {
+        self - rhs
+    }
+
+    fn times(self, rhs: u16) -> u16 {
+        self * rhs
+    }
+
+    fn wrapping_add(self, rhs: u16) -> u16 {
+        self.wrapping_add(rhs)
+    }
+
+    fn wrapping_sub(self, rhs: u16) -> u16 {
+        self.wrapping_sub(rhs)
+    }
+
+    fn wrapping_mul(self, rhs: u16) -> u16 {
+        self.wrapping_mul(rhs)
+    }
+
+    fn shift_right(self, by: u32) -> u16 {
+        self >> by
+    }
+
+    fn shift_left(self, by: u32) -> u16 {
+        self << by
+    }
+
+    fn low_bits(self, count: u32) -> u16 {
+        self & ((1 << count) - 1)
+    }
+
+    fn leading_zeros(self) -> u32 {
+        self.leading_zeros()
+    }
+
+    fn trailing_zeros(self) -> u32 {
+        self.trailing_zeros()
+    }
+
+    fn is_below(self, other: u16) -> bool {
+        self < other
+    }
+
+    fn product(self, rhs: u16) -> u32 {
+        self as u32 * rhs as u32
+    }
+
+    fn shift_left_wide(self, by: u32) -> u32 {
+        (self as u32) << by
+    }
+
+    fn split(double: u32) -> (u16, u16) {
+        ((double & 0xffff) as u16, (double >> 16) as u16)
+    }
+
+    fn merge(low: u16, high: u16) -> u32 {
+        low as u32 + ((high as u32) << 16)
+    }
+
+    fn double_plus(first: u32, second: u32) -> u32 {
+        first + second
+    }
+}
+
+impl PathWord for u32 {
+    type Double = u64;
+
+    fn plus(self, rhs: u32) -> u32 {
+        self + rhs
+    }
+
+    fn minus(self, rhs: u32) -> u32 {
+        self - rhs
+    }
+
+    fn times(self, rhs: u32) -> u32 {
+        self * rhs
+    }
+
+    fn wrapping_add(self, rhs: u32) -> u32 {
+        self.wrapping_add(rhs)
+    }
+
+    fn wrapping_sub(self, rhs: u32) -> u32 {
+        self.wrapping_sub(rhs)
+    }
+
+    fn wrapping_mul(self, rhs: u32) -> u32 {
+        self.wrapping_mul(rhs)
+    }
+
+    fn shift_right(self, by: u32) -> u32 {
+        self >> by
+    }
+
+    fn shift_left(self, by: u32) -> u32 {
+        self << by
+    }
+
+    fn low_bits(self, count: u32) -> u32 {
+        self & ((1 << count) - 1)
+    }
+
+    fn leading_zeros(self) -> u32 {
+        self.leading_zeros()
+    }
+
+    fn trailing_zeros(self) -> u32 {
+        self.trailing_zeros()
+    }
+
+    fn is_below(self, other: u32) -> bool {
+        self < other
+    }
+
+    fn product(self, rhs: u32) -> u64 {
+        self as u64 * rhs as u64
+    }
+
+    fn shift_left_wide(self, by: u32) -> u64 {
+        (self as u64) << by
+    }
+
+    fn split(double: u64) -> (u32, u32) {
+        ((double & 0xffff_ffff) as u32, (double >> 32) as u32)
+    }
+
+    fn merge(low: u32, high: u32) -> u64 {
+        low as u64 + ((high as u64) << 32)
+    }
+
+    fn double_plus(first: u64, second: u64) -> u64 {
+        first + second
+    }
+}
+
+impl PathWord for u64 {
+    type Double = u128;
+
+    fn plus(self, rhs: u64) -> u64 {
+        self + rhs
+    }
+
+    fn minus(self, rhs: u64) -> u64 {
+        self - rhs
+    }
+
+    fn times(self, rhs: u64) -> u64 {
+        self * rhs
+    }
+
+    fn wrapping_add(self, rhs: u64) -> u64 {
+        self.wrapping_add(rhs)
+    }
+
+    fn wrapping_sub(self, rhs: u64) -> u64 {
+        self.wrapping_sub(rhs)
+    }
+
+    fn wrapping_mul(self, rhs: u64) -> u64 {
+        self.wrapping_mul(rhs)
+    }
+
+    fn shift_right(self, by: u32) -> u64 {
+        self >> by
+    }
+
+    fn shift_left(self, by: u32) -> u64 {
+        self << by
+    }
+
+    fn low_bits(self, count: u32) -> u64 {
+        self & ((1 << count) - 1)
+    }
+
+    fn leading_zeros(self) -> u32 {
+        self.leading_zeros()
+    }
+
+    fn trailing_zeros(self) -> u32 {
+        self.trailing_zeros()
+    }
+
+    fn is_below(self, other: u64) -> bool {
+        self < other
+    }
+
+    fn product(self, rhs: u64) -> u128 {
+        self as u128 * rhs as u128
+    }
+
+    fn shift_left_wide(self, by: u32) -> u128 {
+        (self as u128) << by
+    }
+
+    fn split(double: u128) -> (u64, u64) {
+        (
+            (double & 0xffff_ffff_ffff_ffff) as u64,
+            (double >> 64) as u64,
+        )
+    }
+
+    fn merge(low: u64, high: u64) -> u128 {
+        low as u128 + ((high as u128) << 64)
+    }
+
+    fn double_plus(first: u128, second: u128) -> u128 {
+        first + second
+    }
+}
+
+impl PathWord for usize {
+    type Double = u128;
+
+    fn plus(self, rhs: usize) -> usize {
+        self + rhs
+    }
+
+    fn minus(self, rhs: usize) -> usize {
+        self - rhs
+    }
+
+    fn times(self, rhs: usize) -> usize {
+        self * rhs
+    }
+
+    fn wrapping_add(self, rhs: usize) -> usize {
+        self.wrapping_add(rhs)
+    }
+
+    fn wrapping_sub(self, rhs: usize) -> usize {
+        self.wrapping_sub(rhs)
+    }
+
+    fn wrapping_mul(self, rhs: usize) -> usize {
+        self.wrapping_mul(rhs)
+    }
+
+    fn shift_right(self, by: u32) -> usize {
+        self >> by
+    }
+
+    fn shift_left(self, by: u32) -> usize {
+        self << by
+    }
+
+    fn low_bits(self, count: u32) -> usize {
+        self & ((1 << count) - 1)
+    }
+
+    fn leading_zeros(self) -> u32 {
+        self.leading_zeros()
+    }
+
+    fn trailing_zeros(self) -> u32 {
+        self.trailing_zeros()
+    }
+
+    fn is_below(self, other: usize) -> bool {
+        self < other
+    }
+
+    fn product(self, rhs: usize) -> u128 {
+        self as u128 * rhs as u128
+    }
+
+    fn shift_left_wide(self, by: u32) -> u128 {
+        (self as u128) << by
+    }
+
+    fn split(double: u128) -> (usize, usize) {
+        (
+            (double & 0xffff_ffff_ffff_ffff) as usize,
+            (double >> 64) as usize,
+        )
+    }
+
+    fn merge(low: usize, high: usize) -> u128 {
+        low as u128 + ((high as u128) << 64)
+    }
+
+    fn double_plus(first: u128, second: u128) -> u128 {
+        first + second
+    }
+}

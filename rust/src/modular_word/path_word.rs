@@ -1,0 +1,62 @@
+//! What the paths need of a word: exact and wrapping sums, differences, products, shifts and
+//! comparisons of words and double words. There is no division and no remainder among the calls, so
+//! code over this trait alone divides by none.
+
+use crate::modular_word::ring_word::RingWord;
+
+/// A machine word with its double word.
+pub trait PathWord: Sized + RingWord {
+    /// The type that holds the product of two words.
+    type Double: Copy;
+
+    /// The sum. Condition: it fits a word.
+    fn plus(self, rhs: Self) -> Self;
+
+    /// The difference. Condition: it is not below 0.
+    fn minus(self, rhs: Self) -> Self;
+
+    /// The product. Condition: it fits a word.
+    fn times(self, rhs: Self) -> Self;
+
+    /// The sum modulo the base.
+    fn wrapping_add(self, rhs: Self) -> Self;
+
+    /// The difference modulo the base: the word that gives `self` when `rhs` is added to it.
+    fn wrapping_sub(self, rhs: Self) -> Self;
+
+    /// The product modulo the base.
+    fn wrapping_mul(self, rhs: Self) -> Self;
+
+    /// The word divided by a power of two, rounded down. Condition: `by` is below the width.
+    fn shift_right(self, by: u32) -> Self;
+
+    /// The word times a power of two. Condition: `by` is below the width, and the product fits.
+    fn shift_left(self, by: u32) -> Self;
+
+    /// The word modulo a power of two. Condition: `count` is below the width.
+    fn low_bits(self, count: u32) -> Self;
+
+    /// How many of the highest bits are 0; the width for 0.
+    fn leading_zeros(self) -> u32;
+
+    /// How many of the lowest bits are 0; the width for 0.
+    fn trailing_zeros(self) -> u32;
+
+    /// Whether the word is below another.
+    fn is_below(self, other: Self) -> bool;
+
+    /// The whole product of two words.
+    fn product(self, rhs: Self) -> Self::Double;
+
+    /// The word times a power of two, as a double word. Condition: `by` is below the width.
+    fn shift_left_wide(self, by: u32) -> Self::Double;
+
+    /// The low and the high word of a double word.
+    fn split(double: Self::Double) -> (Self, Self);
+
+    /// The double word of a low and a high word.
+    fn merge(low: Self, high: Self) -> Self::Double;
+
+    /// The sum of two double words. Condition: it fits a double word.
+    fn double_plus(first: Self::Double, second: Self::Double) -> Self::Double;
+}

@@ -1,0 +1,136 @@
+//! The paths: division by a reciprocal, exact division and Montgomery's reduction, written and
+//! proved once for every width. What a divisor stores comes as arguments.
+
+use crate::modular_word::path_word::PathWord;
+
+/// The word whose low n bits are ones: 2^n - 1. Condition: n is at most the width.
+pub fn ones<T: PathWord>(n: u32) -> T {
+    if n == 0 {
+        T::zero()
+    } else {
+        T::zero().wrapping_sub(T::one()).shift_right(T::bits() - n)
+    }
+}
+
+/// The word of 2.
+pub fn two<T: PathWord>() -> T {
+    T::one().plus(T::one())
+}
+
+/// Quotient and remainder of a double word by a divisor d with its top bit set, by the reciprocal
+/// of d. Conditions: `reciprocal` is that of d, and the high word of the dividend is below d.
+///
+/// Source: Möller and Granlund, "Improved division by invariant integers", algorithm 4.
+pub fn div_2by1<T: PathWord>(d: T, reciprocal: T, a: T::Double) -> (T, T) {
+    let (low, high) = T::split(a);
+    let (q0, q1) = T::split(T::double_plus(reciprocal.product(high), a));
+    let mut q = q1.wrapping_add(T::one());
+    let mut r = low.wrapping_sub(q.wrapping_mul(d));
+    if q0.is_below(r) {
+        q = q.wrapping_sub(T::one());
+        r = r.wrapping_add(d);
+    }
+    if !r.is_below(d) {
+        q = q.wrapping_add(T::one());
+        r = r.wrapping_sub(d);
+    }
+    (q, r)
+}
+
+// The quotient of a word by a divisor, by the divisor's multiplier and shift.
+fn quotient_1by1<T: PathWord>(d: T, multiplier: T, shift: u32, a: T) -> T {
+    let (_, t) = T::split(multiplier.product(a));
+    t.plus(a.minus(t).shift_right(1)).shift_right(shift)
+}
+
+/// Quotient and remainder of a word by a divisor, by the divisor's multiplier and shift. Condition:
+/// the two are those of d.
+///
+/// Source: Granlund and Montgomery, "Division by invariant integers using multiplication",
+/// figure 4.1.
+pub fn div_1by1<T: PathWord>(d: T, multiplier: T, shift: u32, a: T) -> (T, T) {
+    let q = quotient_1by1(d, multiplier, shift, a);
+    let r = a.minus(q.times(d));
+    (q, r)
+}
+
+/// The quotient of a word by an odd divisor d, by the inverse of d; `None` exactly where d doesn't
+/// divide it. Condition: `inverse` is that of d modulo the base, and `limit` the greatest quotient
+/// of a word by d.
+///
+/// Source: Granlund and Montgomery, "Division by invariant integers using multiplication",
+/// section 9.
+pub fn exact_1<T: PathWord>(d: T, inverse: T, limit: T, n: T) -> Option<T> {
+    let q = n.wrapping_mul(inverse);
+    if limit.is_below(q) { None } else { Some(q) }
+}
+
+/// The quotient of a double word by an odd divisor d, by the inverse of d; `None` exactly where d
+/// doesn't divide it. Condition: as `exact_1`.
+///
+/// Source: as `exact_1`, a word at a time from the lowest.
+pub fn exact_2<T: PathWord>(d: T, inverse: T, limit: T, n: T::Double) -> Option<T::Double> {
+    let (n0, n1) = T::split(n);
+    let q0 = n0.wrapping_mul(inverse);
+    let (_, h) = T::split(q0.product(d));
+    if n1.is_below(h) {
+        return None;
+    }
+    let q1 = exact_1(d, inverse, limit, n1.minus(h))?;
+    Some(T::merge(q0, q1))
+}
+
+/// The word x whose product with m is -1 modulo the base. Condition: m is odd.
+///
+/// m is its own inverse modulo 8, and each step doubles the number of bits to which the inverse
+/// holds. Source: Dumas, "On Newton-Raphson iteration for multiplicative inverses modulo prime
+/// powers".
+pub fn neginv<T: PathWord>(m: T) -> T {
+    let two = two::<T>();
+    let mut inverse = m;
+    let mut bits = 3;
+    'lift: while bits < T::bits() {
+        inverse = inverse.wrapping_mul(two.wrapping_sub(m.wrapping_mul(inverse)));
+        bits += bits;
+    }
+    T::zero().wrapping_sub(inverse)
+}
+
+/// The word x whose multiple x·m clears the low word of t: the first step of Montgomery's
+/// reduction. Condition: m times `negated_inverse` is -1 modulo the base.
+pub fn clearing<T: PathWord>(m: T, negated_inverse: T, t: T::Double) -> T {
+    let (low, _) = T::split(t);
+    low.wrapping_mul(negated_inverse)
+}
+
+/// Montgomery's reduction of t, given the word x of `clearing` and the product x·m: the second
+/// step, with the carry of the sum kept. A modulus of a special form may have x·m at a lower cost.
+/// Conditions: t is below m times the base, and x·m clears the low word of t.
+///
+/// The low words of t and x·m add up to 0 or to the base, so the sum's high word is that of t and
+/// that of x·m, raised by 1 where the low word of t isn't 0. Less m it wraps exactly where it is
+/// below m, which tells a carry and a high word from m on alike.
+pub fn reduce_by<T: PathWord>(m: T, t: T::Double, x: T, multiple: T::Double) -> T {
+    let (low, high) = T::split(t);
+    let (_, multiple_high) = T::split(multiple);
+    let raised = if low.is_zero_word() {
+        multiple_high
+    } else {
+        multiple_high.wrapping_add(T::one())
+    };
+    let less = high.wrapping_sub(m).wrapping_add(raised);
+    if less.is_below(raised) {
+        less
+    } else {
+        high.wrapping_add(raised)
+    }
+}
+
+/// Montgomery's reduction of a double word t modulo an odd m. Conditions: m times `negated_inverse`
+/// is -1 modulo the base, and t is below m times the base.
+///
+/// Source: Handbook of Applied Cryptography, algorithm 14.32, for one word.
+pub fn redc<T: PathWord>(m: T, negated_inverse: T, t: T::Double) -> T {
+    let x = clearing(m, negated_inverse, t);
+    reduce_by(m, t, x, x.product(m))
+}

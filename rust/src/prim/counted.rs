@@ -1,0 +1,31 @@
+//! Calls that answer how many steps they took besides, a module a width.
+
+/// Words of 8 bits.
+pub mod w8 {
+    pub use crate::modular_prim::counted::w8::invm_counted;
+    pub use crate::modular_symbols::counted::w8::checked_jacobi_counted;
+}
+
+/// Words of 16 bits.
+pub mod w16 {
+    pub use crate::modular_prim::counted::w16::invm_counted;
+    pub use crate::modular_symbols::counted::w16::checked_jacobi_counted;
+}
+
+/// Words of 32 bits.
+pub mod w32 {
+    pub use crate::modular_prim::counted::w32::invm_counted;
+    pub use crate::modular_symbols::counted::w32::checked_jacobi_counted;
+}
+
+/// Words of 64 bits.
+pub mod w64 {
+    pub use crate::modular_prim::counted::w64::invm_counted;
+    pub use crate::modular_symbols::counted::w64::checked_jacobi_counted;
+}
+
+/// Words of the pointer width.
+pub mod wsize {
+    pub use crate::modular_prim::counted::wsize::invm_counted;
+    pub use crate::modular_symbols::counted::wsize::checked_jacobi_counted;
+}

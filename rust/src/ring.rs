@@ -1,0 +1,202 @@
+//! Lists of commands on registers, run over any reducer, and transforms over any reducer.
+
+pub use crate::modular_laws::lists::{load_forms, unload_forms};
+use crate::modular_reduced::reducer::Reducer;
+pub use crate::modular_transform::convolution::convolve;
+pub use crate::modular_transform::transform::{ntt, ntt_counted, root_fits};
+use crate::modular_word::ring_word::RingWord;
+
+/// A command on registers, which are named by their numbers in a slice of forms.
+///
+/// Operands are read before `dst` is written, so `dst` may be an operand.
+#[derive(Clone, Copy, Debug, PartialEq, Eq)]
+pub enum RingCommand<T> {
+    /// Writes n modulo m.
+    Load {
+        /// The register that is written.
+        dst: usize,
+        /// Any word, also one from m on.
+        n: T,
+    },
+    /// Writes the sum of two registers.
+    Add {
+        /// The register that is written.
+        dst: usize,
+        /// The register of the first term.
+        a: usize,
+        /// The register of the second term.
+        b: usize,
+    },
+    /// Writes the difference of two registers.
+    Sub {
+        /// The register that is written.
+        dst: usize,
+        /// The register of the number that is taken from.
+        a: usize,
+        /// The register of the number that is taken away.
+        b: usize,
+    },
+    /// Writes the product of two registers.
+    Mul {
+        /// The register that is written.
+        dst: usize,
+        /// The register of the first factor.
+        a: usize,
+        /// The register of the second factor.
+        b: usize,
+    },
+    /// Writes the negative of a register.
+    Neg {
+        /// The register that is written.
+        dst: usize,
+        /// The register of the operand.
+        a: usize,
+    },
+    /// Writes the double of a register.
+    Dbl {
+        /// The register that is written.
+        dst: usize,
+        /// The register of the operand.
+        a: usize,
+    },
+    /// Writes the square of a register.
+    Sqr {
+        /// The register that is written.
+        dst: usize,
+        /// The register of the operand.
+        a: usize,
+    },
+    /// Writes the inverse of a register; where there is none, the run stops.
+    Inv {
+        /// The register that is written.
+        dst: usize,
+        /// The register of the operand.
+        a: usize,
+    },
+    /// Writes the quotient of two registers: the first times the inverse of the second. Where that has
+    /// none, the run stops, also where the first holds 0.
+    Div {
+        /// The register that is written.
+        dst: usize,
+        /// The register of the dividend.
+        a: usize,
+        /// The register of the divisor.
+        b: usize,
+    },
+    /// Writes a power of a register, which for the exponent 0 is 1 modulo m.
+    Pow {
+        /// The register that is written.
+        dst: usize,
+        /// The register of the base.
+        a: usize,
+        /// The exponent itself, not a register.
+        exp: T,
+    },
+}
+
+/// How a run ended.
+#[derive(Clone, Copy, Debug, PartialEq, Eq)]
+pub enum RunEnd {
+    /// Every command was carried out.
+    Done,
+    /// A command found no inverse; neither it nor a later one wrote anything.
+    NoInverse {
+        /// The number of that command, the first having the number 0.
+        at: usize,
+    },
+}
+
+// Whether two register numbers are below `len`.
+fn two_fit(dst: usize, a: usize, len: usize) -> bool {
+    dst < len && a < len
+}
+
+// Whether three register numbers are below `len`.
+fn three_fit(dst: usize, a: usize, b: usize, len: usize) -> bool {
+    two_fit(dst, a, len) && b < len
+}
+
+// Whether each register number of a command is below `len`.
+fn command_fits<T: RingWord>(command: &RingCommand<T>, len: usize) -> bool {
+    match command {
+        RingCommand::Load { dst, .. } => *dst < len,
+        RingCommand::Add { dst, a, b }
+        | RingCommand::Sub { dst, a, b }
+        | RingCommand::Mul { dst, a, b }
+        | RingCommand::Div { dst, a, b } => three_fit(*dst, *a, *b, len),
+        RingCommand::Neg { dst, a }
+        | RingCommand::Dbl { dst, a }
+        | RingCommand::Sqr { dst, a }
+        | RingCommand::Inv { dst, a } => two_fit(*dst, *a, len),
+        RingCommand::Pow { dst, a, .. } => two_fit(*dst, *a, len),
+    }
+}
+
+/// Whether each register number of the commands is below `len`.
+pub fn commands_fit<T: RingWord>(commands: &[RingCommand<T>], len: usize) -> bool {
+    commands.iter().all(|command| command_fits(command, len))
+}
+
+/// Whether each register holds a checked form of the reducer.
+pub fn all_checked<T: RingWord, R: Reducer<T>>(r: &R, regs: &[T]) -> bool {
+    regs.iter().all(|form| r.check(form))
+}
+
+// The register that a command writes.
+fn destination<T: RingWord>(command: &RingCommand<T>) -> usize {
+    match command {
+        RingCommand::Load { dst, .. }
+        | RingCommand::Add { dst, .. }
+        | RingCommand::Sub { dst, .. }
+        | RingCommand::Mul { dst, .. }
+        | RingCommand::Neg { dst, .. }
+        | RingCommand::Dbl { dst, .. }
+        | RingCommand::Sqr { dst, .. }
+        | RingCommand::Inv { dst, .. }
+        | RingCommand::Div { dst, .. }
+        | RingCommand::Pow { dst, .. } => *dst,
+    }
+}
+
+// The form of the quotient of two forms; `None` exactly where the second has no inverse.
+fn quotient<T: RingWord, R: Reducer<T>>(r: &R, a: &T, b: T) -> Option<T> {
+    let inverse = r.inv(b)?;
+    Some(r.mul(a, &inverse))
+}
+
+// The form that a command writes; `None` exactly where it finds no inverse.
+fn computed_form<T: RingWord, R: Reducer<T>>(
+    r: &R,
+    regs: &[T],
+    command: &RingCommand<T>,
+) -> Option<T> {
+    match command {
+        RingCommand::Load { n, .. } => Some(r.transform(*n)),
+        RingCommand::Add { a, b, .. } => Some(r.add(&regs[*a], &regs[*b])),
+        RingCommand::Sub { a, b, .. } => Some(r.sub(&regs[*a], &regs[*b])),
+        RingCommand::Mul { a, b, .. } => Some(r.mul(&regs[*a], &regs[*b])),
+        RingCommand::Neg { a, .. } => Some(r.neg(regs[*a])),
+        RingCommand::Dbl { a, .. } => Some(r.dbl(regs[*a])),
+        RingCommand::Sqr { a, .. } => Some(r.sqr(regs[*a])),
+        RingCommand::Inv { a, .. } => r.inv(regs[*a]),
+        RingCommand::Div { a, b, .. } => quotient(r, &regs[*a], regs[*b]),
+        RingCommand::Pow { a, exp, .. } => Some(r.pow(regs[*a], exp)),
+    }
+}
+
+/// Carries out the commands in order, up to the first whose inverse doesn't exist.
+///
+/// Conditions: each register holds a checked form (`all_checked` tells), and each register number is
+/// below the number of registers (`commands_fit` tells). The run stops exactly at the first `Inv`
+/// or `Div` whose operand (for `Div`: b) has no inverse modulo m; that command and all later ones
+/// write nothing, and earlier ones stand. Each register then holds the one checked form of its value
+/// after the commands that were carried out, computed on whole numbers modulo m. It takes no memory.
+pub fn run<T: RingWord, R: Reducer<T>>(r: &R, regs: &mut [T], commands: &[RingCommand<T>]) -> RunEnd {
+    'commands: for (at, command) in commands.iter().enumerate() {
+        match computed_form(r, regs, command) {
+            Some(form) => regs[destination(command)] = form,
+            None => return RunEnd::NoInverse { at },
+        }
+    }
+    RunEnd::Done
+}

@@ -1,0 +1,15 @@
+//! Clients of `num_modular`, written from its README and docs/clients.md alone: each states its own
+//! theorem over the public clauses.
+
+pub mod any_reducer;
+pub mod commands;
+pub mod cubic;
+pub mod each_reducer;
+pub mod hashes;
+pub mod inner_products;
+pub mod laws;
+pub mod operations;
+pub mod quotients;
+pub mod remainders;
+pub mod repeated_products;
+pub mod squares;

@@ -1,0 +1,27 @@
+//! Lists of commands: the second example of the README from other registers, and with three commands.
+
+use num_modular::ring::{RingCommand, RunEnd, run};
+use num_modular::{PreMulInv2by1, Reducer};
+
+/// n modulo m, from registers that hold n. Condition: m is at least 1.
+pub fn residue_over_copies(n: u64, m: u64) -> u64 {
+    let reducer = PreMulInv2by1::<u64>::new(m);
+    let mut registers = [reducer.transform(n); 2];
+    let end = run(&reducer, &mut registers, &[RingCommand::Load { dst: 1, n }]);
+    debug_assert!(end == RunEnd::Done);
+    reducer.residue(registers[1])
+}
+
+/// x·n modulo m by three commands. Condition: m is at least 1.
+pub fn product_by_commands(x: u64, n: u64, m: u64) -> u64 {
+    let reducer = PreMulInv2by1::<u64>::new(m);
+    let mut registers = [reducer.transform(0); 2];
+    let commands = [
+        RingCommand::Load { dst: 0, n: x },
+        RingCommand::Load { dst: 1, n },
+        RingCommand::Mul { dst: 1, a: 0, b: 1 },
+    ];
+    let end = run(&reducer, &mut registers, &commands);
+    debug_assert!(end == RunEnd::Done);
+    reducer.residue(registers[1])
+}

@@ -1,0 +1,19 @@
+//! Generic code over the modular operations of words.
+
+use num_modular::{ModularOps, Montgomery, PlainWord, Reducer, UnsignedOperand};
+
+/// x·y + z modulo m. Condition: m is at least 1.
+pub fn product_and_sum<M: UnsignedOperand + Copy, T: ModularOps<T, M, T>>(
+    x: T,
+    y: T,
+    z: T,
+    m: M,
+) -> T {
+    x.mulm(y, m).addm(z, m)
+}
+
+/// x² modulo m in Montgomery's representation, for every width. Condition: m is at least 1.
+pub fn square<T: PlainWord>(x: T, m: T) -> T {
+    let r = Montgomery::<T>::new(m);
+    r.residue(r.sqr(r.transform(x)))
+}

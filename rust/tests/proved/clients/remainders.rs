@@ -1,0 +1,14 @@
+//! A number from two remainders, by the Chinese remainder theorem.
+
+use num_modular::laws::linear_congruence_laws;
+use num_modular::{ModularCoreOps, ModularUnaryOps};
+
+/// The number below m·n that leaves what a leaves modulo m and what b leaves modulo n; `None` exactly
+/// where m has no inverse modulo n. Condition: m and n are at least 1.
+pub fn from_remainders(a: u32, m: u32, b: u32, n: u32) -> Option<u64> {
+    linear_congruence_laws();
+    let a = a % m;
+    let inverse = m.invm(&n)?;
+    let steps = b.subm(a, &n).mulm(inverse, &n);
+    Some(u64::from(a) + u64::from(m) * u64::from(steps))
+}

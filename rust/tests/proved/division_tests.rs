@@ -1,0 +1,4 @@
+//! Rows of the dividers and of exact division.
+
+#[cfg(test)]
+mod tests;

@@ -1,0 +1,32 @@
+//! Negated inverses at each width.
+
+use num_modular::modular_monty::neg_mod_inv::{w8, w16, w32, w64, wsize};
+
+#[test]
+fn rows() {
+    let found = (
+        (w8::neginv(1), w8::neginv(7)),
+        w16::neginv(65535),
+        w32::neginv(3),
+        w64::neginv(3),
+        wsize::neginv(3),
+    );
+    assert!(
+        found
+            == (
+                (255, 73),
+                1,
+                1431655765,
+                6148914691236517205,
+                6148914691236517205
+            )
+    );
+}
+
+#[test]
+fn each_odd_byte() {
+    for half in 0..128 {
+        let m: u8 = 2 * half + 1;
+        assert!(m.wrapping_mul(w8::neginv(m)) == 255);
+    }
+}

@@ -1,0 +1,73 @@
+//! Rows that were worked by hand, and every divisor and dividend of 8 bits against `/` and `%`.
+
+use num_modular::modular_barrett::normalized::Normalized2by1Divisor;
+
+// The reciprocal of a divisor, and what it divides a number into.
+fn reciprocal_and_division(d: u8, a: u16) -> (u8, (u8, u8)) {
+    (
+        Normalized2by1Divisor::<u8>::invert_word(d),
+        Normalized2by1Divisor::<u8>::new(d).div_rem_2by1(a),
+    )
+}
+
+#[test]
+fn rows() {
+    assert!(reciprocal_and_division(130, 33023) == (248, (254, 3)));
+    assert!(reciprocal_and_division(255, 65279) == (1, (255, 254)));
+    let divider = Normalized2by1Divisor::<u64>::new(u64::MAX);
+    let found = (
+        divider.div_rem_2by1(0),
+        Normalized2by1Divisor::<u8>::invert_word(128),
+    );
+    assert!(found == ((0, 0), 255));
+    let divider = Normalized2by1Divisor::<u8>::new(128);
+    let found = (
+        divider.divisor(),
+        divider.div_rem_2by1(32767),
+        divider.div_rem_1by1(255),
+    );
+    assert!(found == (128, (255, 127), (1, 127)));
+}
+
+#[test]
+fn wider_words() {
+    let found = (
+        Normalized2by1Divisor::<u16>::new(65535).div_rem_2by1(4294901759),
+        Normalized2by1Divisor::<u32>::new(1 << 31).div_rem_2by1(1 << 62),
+        Normalized2by1Divisor::<usize>::new(usize::MAX).div_rem_1by1(usize::MAX),
+    );
+    assert!(found == ((65535, 65534), (1 << 31, 0), (1, 0)));
+}
+
+#[test]
+fn equality_and_copies() {
+    let rt = crate::runtime::HostRuntime;
+    let divider = Normalized2by1Divisor::<u8>::new(130);
+    let copy = divider;
+    let found = (
+        copy == divider,
+        divider == Normalized2by1Divisor::new(131),
+        format!(in rt.alloc(); "{divider:?}").is_ok(),
+    );
+    assert!(found == (true, false, true));
+}
+
+#[test]
+fn every_double_byte() {
+    for d in 128..=255u8 {
+        let divider = Normalized2by1Divisor::<u8>::new(d);
+        for a in 0..=255u8 {
+            assert!(divider.div_rem_1by1(a) == (a / d, a % d), "{a} by {d}");
+        }
+        for high in 0..d {
+            for low in 0..=255u8 {
+                let a = low as u16 + 256 * high as u16;
+                let (q, r) = divider.div_rem_2by1(a);
+                assert!(
+                    (q as u16, r as u16) == (a / d as u16, a % d as u16),
+                    "{a} by {d}"
+                );
+            }
+        }
+    }
+}

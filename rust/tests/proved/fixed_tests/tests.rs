@@ -1,0 +1,4 @@
+//! Integers and runs, by family.
+
+mod fixed;
+mod folds;

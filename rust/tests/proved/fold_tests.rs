@@ -1,0 +1,4 @@
+//! Rows of the reducers by folds.
+
+#[cfg(test)]
+mod tests;

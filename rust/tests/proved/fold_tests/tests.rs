@@ -1,0 +1,4 @@
+//! Rows of the reducers and of their reductions.
+
+mod mersenne;
+mod solinas;

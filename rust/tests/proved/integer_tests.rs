@@ -1,0 +1,4 @@
+//! Rows of integers over reducers, through generic callers.
+
+#[cfg(test)]
+mod tests;

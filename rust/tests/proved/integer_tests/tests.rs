@@ -1,0 +1,336 @@
+//! Every kind of operand of the operators, rows that were worked by hand, and equality.
+
+use crate::integer_callers::callers::*;
+use crate::integer_callers::equality::is_equivalence;
+use crate::integer_callers::polynomial::{horner, value_by_forms, value_of_bytes};
+use num_modular::modular_barrett::premul::PreMulInv2by1;
+use num_modular::modular_reduced::modular_integer::ModularInteger;
+use num_modular::modular_reduced::reduced_int::{ReducedInt, VanillaInt};
+use num_modular::modular_reduced::reducer::Reducer;
+use num_modular::modular_word::ring_word::RingWord;
+use crate::runtime::Fail;
+
+// n modulo 21
+fn ring(n: u8) -> VanillaInt<u8> {
+    VanillaInt::<u8>::new(n, &21)
+}
+
+// The residues of the sums of two integers, in each form of the operands.
+fn sums_of_two<T: RingWord, R: Reducer<T> + Copy>(
+    a: ReducedInt<T, R>,
+    b: ReducedInt<T, R>,
+) -> [T; 4] {
+    [
+        (a + b).residue(),
+        (a + &b).residue(),
+        (&a + b).residue(),
+        (&a + &b).residue(),
+    ]
+}
+
+// Those of the sums of an integer and a word.
+fn sums_with_a_word<T: RingWord, R: Reducer<T> + Copy>(a: ReducedInt<T, R>, n: T) -> [T; 4] {
+    [
+        (a + n).residue(),
+        (a + &n).residue(),
+        (&a + n).residue(),
+        (&a + &n).residue(),
+    ]
+}
+
+// Those after each of two sums in place.
+fn sums_in_place<T: RingWord, R: Reducer<T> + Copy>(
+    a: ReducedInt<T, R>,
+    b: ReducedInt<T, R>,
+) -> [T; 2] {
+    let mut z = a;
+    z += b;
+    let once = z.residue();
+    z += &b;
+    [once, z.residue()]
+}
+
+fn sums_with_words_in_place<T: RingWord, R: Reducer<T> + Copy>(
+    a: ReducedInt<T, R>,
+    m: T,
+    n: T,
+) -> [T; 2] {
+    let mut z = a;
+    z += m;
+    let once = z.residue();
+    z += &n;
+    [once, z.residue()]
+}
+
+#[test]
+fn sums() {
+    let found = [
+        sums_of_two(ring(20), ring(5)),
+        sums_with_a_word(ring(20), 5),
+    ];
+    assert!(found == [[4; 4]; 2]);
+    let found = [
+        sums_in_place(ring(20), ring(5)),
+        sums_with_words_in_place(ring(9), 255, 5),
+    ];
+    assert!(found == [[4, 9], [12, 17]]);
+    assert!(sum_modulo_21() == 4);
+}
+
+// The residues of the differences of two integers, in each form of the operands.
+fn differences_of_two<T: RingWord, R: Reducer<T> + Copy>(
+    a: ReducedInt<T, R>,
+    b: ReducedInt<T, R>,
+) -> [T; 4] {
+    [
+        (a - b).residue(),
+        (a - &b).residue(),
+        (&a - b).residue(),
+        (&a - &b).residue(),
+    ]
+}
+
+// Those of the differences of an integer and a word.
+fn differences_with_a_word<T: RingWord, R: Reducer<T> + Copy>(a: ReducedInt<T, R>, n: T) -> [T; 4] {
+    [
+        (a - n).residue(),
+        (a - &n).residue(),
+        (&a - n).residue(),
+        (&a - &n).residue(),
+    ]
+}
+
+// Those after each of two differences in place.
+fn differences_in_place<T: RingWord, R: Reducer<T> + Copy>(
+    a: ReducedInt<T, R>,
+    b: ReducedInt<T, R>,
+) -> [T; 2] {
+    let mut z = a;
+    z -= b;
+    let once = z.residue();
+    z -= &b;
+    [once, z.residue()]
+}
+
+fn differences_with_words_in_place<T: RingWord, R: Reducer<T> + Copy>(
+    a: ReducedInt<T, R>,
+    m: T,
+    n: T,
+) -> [T; 2] {
+    let mut z = a;
+    z -= m;
+    let once = z.residue();
+    z -= &n;
+    [once, z.residue()]
+}
+
+#[test]
+fn differences() {
+    let found = [
+        differences_of_two(ring(3), ring(5)),
+        differences_with_a_word(ring(3), 5),
+    ];
+    assert!(found == [[19; 4]; 2]);
+    let found = [
+        differences_in_place(ring(3), ring(5)),
+        differences_with_words_in_place(ring(14), 255, 5),
+    ];
+    assert!(found == [[19, 14], [11, 6]]);
+    assert!(differences_with_a_word(ring(5), 255) == [2; 4]);
+    assert!(difference_modulo_21() == 2);
+}
+
+// The residues of the products of two integers, in each form of the operands.
+fn products_of_two<T: RingWord, R: Reducer<T> + Copy>(
+    a: ReducedInt<T, R>,
+    b: ReducedInt<T, R>,
+) -> [T; 4] {
+    [
+        (a * b).residue(),
+        (a * &b).residue(),
+        (&a * b).residue(),
+        (&a * &b).residue(),
+    ]
+}
+
+// Those of the products of an integer and a word.
+fn products_with_a_word<T: RingWord, R: Reducer<T> + Copy>(a: ReducedInt<T, R>, n: T) -> [T; 4] {
+    [
+        (a * n).residue(),
+        (a * &n).residue(),
+        (&a * n).residue(),
+        (&a * &n).residue(),
+    ]
+}
+
+// Those after each of two products in place.
+fn products_in_place<T: RingWord, R: Reducer<T> + Copy>(
+    a: ReducedInt<T, R>,
+    b: ReducedInt<T, R>,
+) -> [T; 2] {
+    let mut z = a;
+    z *= b;
+    let once = z.residue();
+    z *= &b;
+    [once, z.residue()]
+}
+
+fn products_with_words_in_place<T: RingWord, R: Reducer<T> + Copy>(
+    a: ReducedInt<T, R>,
+    m: T,
+    n: T,
+) -> [T; 2] {
+    let mut z = a;
+    z *= m;
+    let once = z.residue();
+    z *= &n;
+    [once, z.residue()]
+}
+
+#[test]
+fn products() {
+    let found = [
+        products_of_two(ring(10), ring(5)),
+        products_with_a_word(ring(10), 5),
+    ];
+    assert!(found == [[8; 4]; 2]);
+    let found = [
+        products_in_place(ring(10), ring(5)),
+        products_with_words_in_place(ring(19), 255, 5),
+    ];
+    assert!(found == [[8, 19], [15, 12]]);
+    let twelve = VanillaInt::<u8>::new(12, &5);
+    assert!(products_with_a_word(twelve, 13) == [1; 4]);
+}
+
+// The residues of the quotients of two integers, in each form of the operands.
+fn quotients_of_two<T: RingWord, R: Reducer<T> + Copy>(
+    a: ReducedInt<T, R>,
+    b: ReducedInt<T, R>,
+) -> [T; 4] {
+    [
+        (a / b).residue(),
+        (a / &b).residue(),
+        (&a / b).residue(),
+        (&a / &b).residue(),
+    ]
+}
+
+fn negatives<T: RingWord, R: Reducer<T> + Copy>(a: ReducedInt<T, R>) -> [T; 2] {
+    [(-a).residue(), (-&a).residue()]
+}
+
+// The residue of an integer, if there is one.
+fn residue_if_any<T: RingWord, R: Reducer<T> + Copy>(a: Option<ReducedInt<T, R>>) -> Option<T> {
+    match a {
+        Some(a) => Some(a.residue()),
+        None => None,
+    }
+}
+
+#[test]
+fn negatives_and_quotients() {
+    assert!(negatives(ring(10)) == [11, 11]);
+    assert!(quotients_of_two(ring(10), five_modulo_21()) == [2; 4]);
+    assert!(quotient_modulo_21() == 2);
+}
+
+#[test]
+fn inverses_and_quotients_if_any() {
+    let quotients = [
+        residue_if_any(quotient_if_any(ring(10), ring(7))),
+        residue_if_any(quotient_if_any(ring(10), VanillaInt::<u8>::new(5, &22))),
+        residue_if_any(quotient_if_any(ring(10), ring(5))),
+    ];
+    assert!(quotients == [None, None, Some(2)]);
+    let inverses = [residue_if_any(ring(7).inv()), residue_if_any(ring(5).inv())];
+    assert!(inverses == [None, Some(17)]);
+}
+
+// The modulus, the residue and the form of an integer, and the residues of its double and its square.
+fn parts<T: RingWord, R: Reducer<T> + Copy>(a: ReducedInt<T, R>) -> [T; 5] {
+    [
+        a.modulus(),
+        a.residue(),
+        *a.repr(),
+        a.double().residue(),
+        a.square().residue(),
+    ]
+}
+
+fn power<T: RingWord, R: Reducer<T> + Copy>(a: ReducedInt<T, R>, exp: T) -> T {
+    a.pow(&exp).residue()
+}
+
+#[test]
+fn methods() {
+    assert!(parts(ring(255)) == [21, 3, 3, 6, 9]);
+    let powers = [
+        power(ring(255), 0),
+        power(ring(255), 5),
+        power(VanillaInt::<u8>::new(0, &1), 0),
+    ];
+    assert!(powers == [1, 12, 0]);
+    let a = ring(255);
+    assert!(a.convert(255).residue() == 3);
+    assert!(a.convert(21).is_zero() && !a.is_zero());
+}
+
+#[test]
+fn copies_and_text() -> Result<(), Fail> {
+    let rt = crate::runtime::HostRuntime;
+    let a = ring(255);
+    assert!(a.clone() == a);
+    assert!(format!(in rt.alloc(); "{a:?}").is_ok());
+    Ok(())
+}
+
+// Whether `==` is reflexive, symmetric and transitive at the integers of a list.
+fn are_equivalent<I: ModularInteger>(all: &[I]) -> bool {
+    for a in all {
+        for b in all {
+            for c in all {
+                if !is_equivalence(a, b, c) {
+                    return false;
+                }
+            }
+        }
+    }
+    true
+}
+
+// n modulo m.
+fn integer(n: u8, m: u8) -> VanillaInt<u8> {
+    VanillaInt::<u8>::new(n, &m)
+}
+
+#[test]
+fn equality() {
+    let (three, seven, other) = (integer(3, 7), integer(10, 7), integer(3, 11));
+    assert!(are_equal(&seven, &three));
+    assert!(!are_equal(&three, &other));
+    assert!(are_equivalent(&[three, seven, other]));
+}
+
+#[test]
+fn polynomials() {
+    assert!(value_of_bytes() == 19);
+    assert!(value_by_forms() == 19);
+}
+
+#[test]
+fn the_polynomial_of_no_coefficients() {
+    assert!(horner(&[], integer(7, 21)).residue() == 0);
+}
+
+#[test]
+fn sums_of_64_bits_of_any_integers() {
+    // 2^64 - 59
+    let (m, top) = (18446744073709551557, u64::MAX);
+    let plain = VanillaInt::<u64>::new(top, &m);
+    let scaled = ReducedInt::<u64, PreMulInv2by1<u64>>::new(top, &m);
+    assert!(residue_of_sum(plain, plain) == 116);
+    assert!(residue_of_sum(scaled, scaled) == 116);
+    assert!(sum_in_ring(plain, top, top - 60) == 56);
+    assert!(sum_in_ring(scaled, top, top - 60) == 56);
+}

@@ -1,0 +1,38 @@
+//! The tests of the proved sources, and the crates that they use.
+#![allow(clippy::all, dead_code, unstable_name_collisions)]
+#![allow(unused_imports, unused_labels, unused_macros, unused_variables)]
+
+#[macro_use]
+#[path = "../../runtime.rs"]
+mod runtime;
+pub mod modular_plan;
+pub mod operation_callers;
+pub mod ring_callers;
+pub mod monty_callers;
+pub mod integer_callers;
+pub mod divider_callers;
+pub mod fold_callers;
+pub mod transform_callers;
+pub mod word_tests;
+pub mod operation_tests;
+pub mod symbol_tests;
+pub mod division_tests;
+pub mod reducer_tests;
+pub mod montgomery_tests;
+pub mod fold_tests;
+pub mod transform_tests;
+pub mod plan_tests;
+pub mod run_tests;
+pub mod run_helpers;
+pub mod ring_tests;
+pub mod fixed_tests;
+pub mod integer_tests;
+pub mod clients;
+pub mod ring_codes;
+pub mod big_product;
+pub mod mersenne_hash;
+pub mod residue_numbers;
+pub mod residue_tests;
+pub mod num_modular_uses;
+pub mod path_tests;
+pub mod user_tests;

@@ -1,0 +1,71 @@
+//! A search by polynomial hashes modulo 2^61 - 1: the hash of a window that moves costs two products.
+
+use num_modular::laws::residue_laws;
+use num_modular::{FixedMersenne64, FixedMersenneInt64, ModularInteger};
+
+/// A hash: an integer modulo 2^61 - 1, which is prime.
+pub type Hash = FixedMersenneInt64<61, 1>;
+
+/// A base of hashes: n modulo 2^61 - 1. Texts of n bytes that differ have one hash for fewer than n
+/// bases, so a base that is drawn at random keeps them apart.
+pub fn base(n: u64) -> Hash {
+    Hash::new(n, &FixedMersenne64::<61, 1>::fixed_modulus())
+}
+
+/// The hash of a text: the value at the base of the polynomial with its bytes as coefficients, the
+/// highest first, modulo 2^61 - 1. It goes by Horner's rule.
+///
+/// Source: Karp and Rabin, "Efficient randomized pattern-matching algorithms".
+pub fn hash(base: Hash, text: &[u8]) -> Hash {
+    let mut value = base.convert(0);
+    'bytes: for byte in text {
+        value = value * base + *byte as u64;
+    }
+    value
+}
+
+/// The hash of a window that moves by one byte: `first` leaves it at its start, and `next` comes in
+/// at its end. It is the window's times the base, and `next`, less the power times `first`; so it is
+/// the hash of the moved window where `window` is that of the old one, and `power` the power of the base
+/// by its length.
+///
+/// Source: Karp and Rabin, "Efficient randomized pattern-matching algorithms".
+pub fn moved(base: Hash, power: Hash, window: Hash, first: u8, next: u8) -> Hash {
+    residue_laws();
+    let longer = window * base + next as u64;
+    longer - power * first as u64
+}
+
+// Whether the pattern stands in the text at a position, by the hashes of the window there and of the
+// pattern: where they differ, the bytes aren't read.
+fn is_hit(wanted: Hash, window: Hash, text: &[u8], pattern: &[u8], at: usize) -> bool {
+    window == wanted && &text[at..at + pattern.len()] == pattern
+}
+
+/// The first position where the pattern stands in the text; `None` exactly where it stands nowhere.
+///
+/// The answer is right for every base: each hit of the hash is compared. A window moves by two
+/// products, and bytes are compared at hits alone.
+///
+/// Source: Karp and Rabin, "Efficient randomized pattern-matching algorithms".
+pub fn find(base: Hash, text: &[u8], pattern: &[u8]) -> Option<usize> {
+    let length = pattern.len();
+    if length > text.len() {
+        return None;
+    }
+    let wanted = hash(base, pattern);
+    let power = base.pow(&(length as u64));
+    let mut window = hash(base, &text[..length]);
+    let last = text.len() - length;
+    'windows: for at in 0..last {
+        if is_hit(wanted, window, text, pattern, at) {
+            return Some(at);
+        }
+        window = moved(base, power, window, text[at], text[at + length]);
+    }
+    if is_hit(wanted, window, text, pattern, last) {
+        Some(last)
+    } else {
+        None
+    }
+}

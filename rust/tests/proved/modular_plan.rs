@@ -1,0 +1,5 @@
+//! Transforms by a plan: a table of factors with their quotients, which the caller keeps.
+
+pub mod modulus;
+pub mod plan;
+pub mod split;

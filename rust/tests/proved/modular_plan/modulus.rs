@@ -1,0 +1,111 @@
+//! Products by factors with a precomputed quotient, modulo numbers of at most a fourth of the words.
+
+use num_modular::modular_prim::plain_word::PlainWord;
+use num_modular::modular_prim::reciprocal::invert_word;
+use num_modular::modular_word::path_word::PathWord;
+use num_modular::modular_word::paths::div_2by1;
+use num_modular::modular_word::ring_word::RingWord;
+
+/// A factor w below a modulus m, and the quotient by m of w times the number of words.
+///
+/// Source: Harvey, "Faster arithmetic for number-theoretic transforms", section 3, after Shoup.
+#[derive(Debug, PartialEq, Eq)]
+pub struct Factor<T: PathWord> {
+    /// The factor.
+    pub value: T,
+    /// Its quotient.
+    pub quotient: T,
+}
+
+impl<T: PathWord> Clone for Factor<T> {
+    fn clone(&self) -> Self {
+        *self
+    }
+}
+
+impl<T: PathWord> Copy for Factor<T> {}
+
+/// A modulus m with what is computed once of it. It is from 1 to a fourth of the number of words, so
+/// that words below 4m are at hand for sums that aren't reduced.
+#[derive(Debug, PartialEq, Eq)]
+pub struct PlannedModulus<T: PathWord> {
+    /// The modulus.
+    pub modulus: T,
+    shift: u32,
+    reciprocal: T,
+}
+
+impl<T: PathWord> Clone for PlannedModulus<T> {
+    fn clone(&self) -> Self {
+        *self
+    }
+}
+
+impl<T: PathWord> Copy for PlannedModulus<T> {}
+
+/// The word, less a bound where it isn't below it. Condition: it is below twice the bound.
+pub fn reduced_once<T: PathWord>(x: T, bound: T) -> T {
+    if x.is_below(bound) { x } else { x.minus(bound) }
+}
+
+impl<T: PlainWord> PlannedModulus<T> {
+    /// Whether plans admit the modulus m: it is at least 1, and 4m is at most the number of words.
+    pub fn admits(m: T) -> bool {
+        let greatest = T::one().shift_left(T::bits() - 2);
+        if m.is_zero_word() {
+            false
+        } else {
+            !greatest.is_below(m)
+        }
+    }
+
+    /// The modulus with its reciprocal. Condition: plans admit it (`admits` tells).
+    pub fn new(m: T) -> Self {
+        let shift = m.leading_zeros();
+        let reciprocal = invert_word(m.shift_left(shift));
+        PlannedModulus {
+            modulus: m,
+            shift,
+            reciprocal,
+        }
+    }
+
+    /// The factor w with its quotient. Condition: w is below m. It divides by the reciprocal.
+    pub fn factor(&self, w: T) -> Factor<T> {
+        let divisor = self.modulus.shift_left(self.shift);
+        let scaled = w.shift_left(self.shift);
+        let (quotient, _) = div_2by1(divisor, self.reciprocal, T::merge(T::zero(), scaled));
+        Factor { value: w, quotient }
+    }
+
+    /// A number below 2m that is congruent to the product of any word x with a factor. Condition: the
+    /// factor is one modulo m.
+    ///
+    /// It takes the high word of one product and the low words of two. Source: Harvey, "Faster
+    /// arithmetic for number-theoretic transforms", section 3.
+    pub fn times(&self, x: T, w: &Factor<T>) -> T {
+        let (_, whole) = T::split(x.product(w.quotient));
+        let product = x.wrapping_mul(w.value);
+        product.wrapping_sub(whole.wrapping_mul(self.modulus))
+    }
+
+    /// The residue of the product of any word x with a factor. Condition: the factor is one modulo m.
+    pub fn product(&self, x: T, w: &Factor<T>) -> T {
+        reduced_once(self.times(x, w), self.modulus)
+    }
+
+    /// The word 2m.
+    pub fn twice(&self) -> T {
+        self.modulus.plus(self.modulus)
+    }
+
+    /// Whether a word is below 4m.
+    pub fn has_room(&self, x: T) -> bool {
+        x.half().is_below(self.twice())
+    }
+
+    /// The residue of a word. Condition: it is below 4m (`has_room` tells).
+    pub fn residue(&self, x: T) -> T {
+        reduced_once(reduced_once(x, self.twice()), self.modulus)
+    }
+}

@@ -1,0 +1,28 @@
+//! The plan: a table of the powers of a root, as factors, which the caller keeps.
+
+use crate::modular_plan::modulus::{Factor, PlannedModulus};
+use num_modular::modular_prim::plain_word::PlainWord;
+use num_modular::modular_transform::order::reverse_places;
+use num_modular::modular_word::path_word::PathWord;
+use num_modular::modular_word::ring_word::RingWord;
+
+// The powers 1, g, g^2, .. as factors.
+fn powers<T: PlainWord>(m: &PlannedModulus<T>, g: T, table: &mut [Factor<T>]) {
+    let root = m.factor(g);
+    let mut power = m.residue(T::one());
+    'places: for place in 0..table.len() {
+        table[place] = m.factor(power);
+        power = m.product(power, &root);
+    }
+}
+
+/// Fills the table with the plan by g for transforms of n entries, n being twice its length: entry k
+/// becomes the factor of g to the power of the reversed bits of k.
+///
+/// Conditions: g is below m and suits n. The first entries of a plan are a plan for fewer entries, by
+/// the power of g that suits them.
+pub fn plan<T: PlainWord>(m: &PlannedModulus<T>, g: T, table: &mut [Factor<T>]) {
+    powers(m, g, table);
+    let bits = table.len().trailing_zeros();
+    reverse_places(table, bits);
+}

@@ -1,0 +1,4 @@
+//! Rows of the reducers by Montgomery's reduction.
+
+#[cfg(test)]
+mod tests;

@@ -1,0 +1,4 @@
+//! Rows of `modular_plan`, and comparisons with the plain sums.
+
+#[cfg(test)]
+mod tests;

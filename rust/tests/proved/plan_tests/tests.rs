@@ -1,0 +1,4 @@
+//! Factors, plans and remainders by them.
+
+mod factors;
+mod remainders;

@@ -1,0 +1,56 @@
+//! Moduli that plans admit, quotients of factors, and products by them.
+
+use crate::modular_plan::modulus::PlannedModulus;
+use num_modular::modular_prim::plain_word::PlainWord;
+use num_modular::modular_word::path_word::PathWord;
+
+// Whether a factor has this quotient, and its product with x is this residue.
+fn is_product<T: PlainWord>(m: T, w: T, quotient: T, x: T, residue: T) -> bool {
+    if !PlannedModulus::admits(m) || !w.is_below(m) {
+        return false;
+    }
+    let m = PlannedModulus::new(m);
+    let factor = m.factor(w);
+    factor.value == w && factor.quotient == quotient && m.product(x, &factor) == residue
+}
+
+#[test]
+fn admitted_moduli() {
+    assert!(!PlannedModulus::admits(0_u64));
+    assert!(PlannedModulus::admits(1_u64));
+    assert!(PlannedModulus::admits(1_u64 << 62));
+    assert!(!PlannedModulus::admits((1_u64 << 62) + 1));
+    assert!(PlannedModulus::admits(16384_u16));
+    assert!(!PlannedModulus::admits(16385_u16));
+    assert!(PlannedModulus::admits(8380417_u32));
+    assert!(!PlannedModulus::admits(usize::MAX));
+}
+
+#[test]
+fn quotients_and_products() {
+    assert!(is_product(17_u16, 3, 11565, 65535, 0));
+    assert!(is_product(17_u16, 3, 11565, 16, 14));
+    assert!(is_product(16384_u16, 16383, 65532, 65535, 1));
+    assert!(is_product(3329_u32, 17, 21932845, 4294967295, 3010));
+    assert!(is_product(8380417_u32, 1753, 898413, 4294967295, 2089914));
+    assert!(
+        is_product(
+            4611686018427387904_u64,
+            4611686018427387903,
+            18446744073709551612,
+            u64::MAX,
+            1
+        )
+    );
+    assert!(
+        is_product(
+            4611686018427387847_u64,
+            12345678901234567,
+            49382715604938268,
+            u64::MAX,
+            2802469110580246709
+        )
+    );
+    assert!(is_product(1_u64, 0, 0, u64::MAX, 0));
+    assert!(is_product(17_usize, 3, 3255307777713450285, 16, 14));
+}

@@ -1,0 +1,4 @@
+//! Each call of `Reducer`, through its bound.
+
+mod premul;
+mod vanilla;

@@ -1,0 +1,88 @@
+//! Numbers by their residues modulo several numbers, of which no two have a common divisor.
+//!
+//! `ResidueSystem` holds up to eight moduli that were admitted once, and computes on encodings; the
+//! functions here take any count of moduli, with their conditions.
+
+mod commands;
+mod system;
+
+use num_modular::laws::{divisor_laws, inverse_laws, residue_laws};
+use num_modular::{ModularInteger, VanillaInt};
+pub use system::ResidueSystem;
+
+// Whether n has an inverse modulo m.
+fn has_inverse(n: u128, m: u64) -> bool {
+    inverse_laws();
+    VanillaInt::<u64>::new((n % m as u128) as u64, &m)
+        .inv()
+        .is_some()
+}
+
+// The product with one more modulus; `None` exactly where it is no word.
+fn next_range(range: u128, m: u64) -> Option<u128> {
+    range.checked_mul(m as u128)
+}
+
+/// Whether the moduli are those of a system: each is above 0, no two have a common divisor but 1, and
+/// their product is below 2^128.
+pub fn is_system(moduli: &[u64]) -> bool {
+    divisor_laws();
+    inverse_laws();
+    let mut range: u128 = 1;
+    'moduli: for (place, modulus) in moduli.iter().enumerate() {
+        if *modulus == 0 || !has_inverse(range, *modulus) {
+            return false;
+        }
+        match next_range(range, *modulus) {
+            Some(product) => range = product,
+            None => return false,
+        }
+    }
+    true
+}
+
+// The next digit of a number in the mixed radix of the moduli: what `range` is taken times, so that
+// the number has the residue.
+fn next_digit(m: u64, residue: u64, number: u128, range: u128) -> u64 {
+    inverse_laws();
+    residue_laws();
+    let known = VanillaInt::<u64>::new((number % m as u128) as u64, &m);
+    let weight = known.convert((range % m as u128) as u64);
+    ((known.convert(residue) - known) / weight).residue()
+}
+
+/// The residues of a number. Conditions: each modulus is above 0, and there is room for one residue
+/// a modulus.
+pub fn encode(moduli: &[u64], number: u128, residues: &mut [u64]) {
+    'moduli: for (place, modulus) in moduli.iter().enumerate() {
+        residues[place] = (number % *modulus as u128) as u64;
+    }
+}
+
+/// Whether each residue is below its modulus. Condition: each modulus has a residue.
+pub fn are_reduced(moduli: &[u64], residues: &[u64]) -> bool {
+    'moduli: for (place, modulus) in moduli.iter().enumerate() {
+        if residues[place] >= *modulus {
+            return false;
+        }
+    }
+    true
+}
+
+/// The number below the product of the moduli that has these residues: there is no other. Conditions:
+/// the moduli are a system (`is_system` tells), and each has a residue below it (`are_reduced` tells).
+///
+/// Source: Garner, "The residue number system"; Knuth, The Art of Computer Programming, volume 2,
+/// section 4.3.2, (24) and (25).
+pub fn decode(moduli: &[u64], residues: &[u64]) -> u128 {
+    divisor_laws();
+    inverse_laws();
+    let mut number: u128 = 0;
+    let mut range: u128 = 1;
+    'moduli: for (place, modulus) in moduli.iter().enumerate() {
+        let digit = next_digit(*modulus, residues[place], number, range);
+        number += range * digit as u128;
+        range *= *modulus as u128;
+    }
+    number
+}

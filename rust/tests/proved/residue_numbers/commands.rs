@@ -1,0 +1,63 @@
+//! Lists of ring commands, run modulo each modulus of a system.
+
+use crate::residue_numbers::ResidueSystem;
+use num_modular::laws::{inverse_laws, remainder_laws, residue_laws, stop_laws};
+use num_modular::ring::{RingCommand, RunEnd, run};
+use num_modular::{Reducer, Vanilla};
+
+// Writes the residues of the numbers modulo m.
+fn load(m: u64, numbers: &[u64], registers: &mut [u64]) {
+    'places: for (place, number) in numbers.iter().enumerate() {
+        registers[place] = *number % m;
+    }
+}
+
+// The residue that the commands leave in a register modulo m, where the registers start with the
+// residues of the numbers; `None` exactly where a command finds no inverse.
+fn residue_by_run(
+    m: u64,
+    commands: &[RingCommand<u64>],
+    numbers: &[u64],
+    register: usize,
+    registers: &mut [u64],
+) -> Option<u64> {
+    load(m, numbers, registers);
+    let reducer = Vanilla::<u64>::new(&m);
+    match run(&reducer, registers, commands) {
+        RunEnd::Done => Some(registers[register]),
+        RunEnd::NoInverse { .. } => None,
+    }
+}
+
+impl<'a> ResidueSystem<'a> {
+    /// Runs the commands modulo each modulus, from registers that start with the numbers, and writes
+    /// the residues that one register is left with: those of its value after the commands on whole
+    /// numbers modulo the product of the moduli. The answer is whether all were carried out, which is
+    /// exactly where each inverse that they need exists modulo the product; where it is false, some
+    /// of the residues may be unwritten. What the registers hold before doesn't matter.
+    ///
+    /// Conditions: each register number is below the count of the numbers (`commands_fit` tells),
+    /// that of the wanted register too; there is room for as many registers as numbers, and for one
+    /// residue a modulus.
+    pub fn run(
+        &self,
+        commands: &[RingCommand<u64>],
+        numbers: &[u64],
+        register: usize,
+        registers: &mut [u64],
+        residues: &mut [u64],
+    ) -> bool {
+        residue_laws();
+        remainder_laws();
+        inverse_laws();
+        stop_laws::<u64>();
+        let moduli = self.moduli;
+        'moduli: for (place, modulus) in moduli.iter().enumerate() {
+            match residue_by_run(*modulus, commands, numbers, register, registers) {
+                Some(residue) => residues[place] = residue,
+                None => return false,
+            }
+        }
+        true
+    }
+}

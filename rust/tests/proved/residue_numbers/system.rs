@@ -1,0 +1,87 @@
+//! Residue number systems of eight moduli at most.
+
+use crate::residue_numbers::{decode, encode, is_system};
+use num_modular::ModularCoreOps;
+use num_modular::laws::residue_laws;
+
+/// A residue number system: up to eight moduli above 0, of which no two have a common divisor but 1,
+/// and whose product, the range, is below 2^128.
+///
+/// Source: Garner, "The residue number system"; Knuth, The Art of Computer Programming, volume 2,
+/// section 4.3.2.
+#[derive(Clone, Copy)]
+pub struct ResidueSystem<'a> {
+    /// The moduli.
+    pub moduli: &'a [u64],
+}
+
+// What is done at each modulus with the two residues there.
+#[derive(Clone, Copy)]
+enum Operation {
+    Sum,
+    Difference,
+    Product,
+}
+
+// The result modulo m. There is no division for a sum or a difference of residues below m.
+fn result_at(operation: Operation, m: u64, left: u64, right: u64) -> u64 {
+    match operation {
+        Operation::Sum => left.addm(right, &m),
+        Operation::Difference => left.subm(right, &m),
+        Operation::Product => left.mulm(right, &m),
+    }
+}
+
+impl<'a> ResidueSystem<'a> {
+    /// The system of these moduli; `None` exactly where a modulus is 0, two have a common divisor
+    /// above 1, the product is 2^128 or more, or there are more than eight.
+    pub fn new(moduli: &'a [u64]) -> Option<Self> {
+        if moduli.len() > 8 || !is_system(moduli) {
+            return None;
+        }
+        Some(ResidueSystem { moduli })
+    }
+
+    /// The residues of a number. Condition: there is room for one a modulus.
+    pub fn encode(&self, number: u128, residues: &mut [u64]) {
+        encode(self.moduli, number, residues);
+    }
+
+    /// The number below the product of the moduli that has these residues: there is no other. So
+    /// `decode` takes the residues of a number below the product back to it (clause `only`), and
+    /// `encode` takes the number back to its residues (clause `number`). Condition: each modulus has
+    /// a residue below it (`are_reduced` tells).
+    pub fn decode(&self, residues: &[u64]) -> u128 {
+        decode(self.moduli, residues)
+    }
+
+    // The results at each modulus.
+    fn combine(&self, operation: Operation, left: &[u64], right: &[u64], results: &mut [u64]) {
+        let moduli = self.moduli;
+        'moduli: for (place, modulus) in moduli.iter().enumerate() {
+            results[place] = result_at(operation, *modulus, left[place], right[place]);
+        }
+    }
+
+    /// The sums of residues, each modulo its modulus: from those of x and of y the residues of x + y
+    /// modulo the product of the moduli. Conditions: each modulus has a left residue, a right one and
+    /// room for their sum.
+    pub fn add(&self, left: &[u64], right: &[u64], sums: &mut [u64]) {
+        self.combine(Operation::Sum, left, right, sums);
+    }
+
+    /// The differences of residues, each modulo its modulus: from those of x and of y the residues of
+    /// x - y modulo the product of the moduli. Conditions: each modulus has a left residue, a right
+    /// one and room for their difference.
+    pub fn sub(&self, left: &[u64], right: &[u64], differences: &mut [u64]) {
+        residue_laws();
+        self.combine(Operation::Difference, left, right, differences);
+    }
+
+    /// The products of residues, each modulo its modulus: from those of x and of y the residues of
+    /// x·y modulo the product of the moduli. Conditions: each modulus has a left residue, a right one
+    /// and room for their product.
+    pub fn mul(&self, left: &[u64], right: &[u64], products: &mut [u64]) {
+        self.combine(Operation::Product, left, right, products);
+    }
+}

@@ -1,0 +1,4 @@
+//! Rows of `residue_numbers`.
+
+#[cfg(test)]
+mod tests;

@@ -1,0 +1,96 @@
+//! IBANs, as their standard reads them.
+//!
+//! The symbols of their code are digits: what is said of the change of one symbol is said of one digit,
+//! and the change of a letter is that of its two digits.
+
+use crate::ring_codes::Code;
+
+// The powers of ten from 10^67 down, modulo 97: a text of 34 characters has 68 digits at most.
+const POWERS: [u64; 68] = [
+    80, 8, 59, 35, 52, 44, 82, 47, 92, 48, 63, 16, 21, 70, 7, 88, 67, 94, 87, 96, 29, 32, 42, 43,
+    14, 79, 37, 91, 77, 95, 58, 64, 84, 86, 28, 61, 74, 85, 57, 93, 19, 31, 71, 75, 56, 25, 51, 73,
+    17, 89, 38, 62, 45, 53, 15, 50, 5, 49, 34, 81, 76, 27, 90, 9, 30, 3, 10, 1,
+];
+
+/// The code of the IBANs of so many digits: modulo 97, the weights are the powers of ten, and a word
+/// leaves 1 (ISO/IEC 7064, MOD 97-10). Condition: there are 68 digits at most.
+pub fn iban_code(count: usize) -> Code<'static> {
+    let powers: &'static [u64] = &POWERS;
+    Code {
+        modulus: 97,
+        weights: &powers[powers.len() - count..],
+        residue: 1,
+    }
+}
+
+// Whether a character is one of 0 to 9.
+fn is_digit(c: u8) -> bool {
+    c >= b'0' && c <= b'9'
+}
+
+// Whether a character is one of A to Z.
+fn is_letter(c: u8) -> bool {
+    c >= b'A' && c <= b'Z'
+}
+
+// Whether each character is one of 0 to 9 or of A to Z.
+fn all_characters(text: &[u8]) -> bool {
+    text.iter().all(|c| is_digit(*c) || is_letter(*c))
+}
+
+/// Whether the text, in ASCII, has the form of an IBAN: two letters A to Z, two digits, and one to
+/// thirty letters and digits, with no space.
+pub fn has_iban_form(text: &[u8]) -> bool {
+    if text.len() < 5 || text.len() > 34 {
+        return false;
+    }
+    let country = is_letter(text[0]) && is_letter(text[1]);
+    let check = is_digit(text[2]) && is_digit(text[3]);
+    country && check && all_characters(text)
+}
+
+// Writes the digits of a character into the places from `end` on, and says where they end.
+fn write_character(c: u8, digits: &mut [u64], end: usize) -> usize {
+    if c <= b'9' {
+        digits[end] = (c - b'0') as u64;
+        return end + 1;
+    }
+    let number = (c - b'A') as u64 + 10;
+    digits[end] = number / 10;
+    digits[end + 1] = number % 10;
+    end + 2
+}
+
+// The same for each character of a text.
+fn write_text(text: &[u8], digits: &mut [u64], start: usize) -> usize {
+    let mut end = start;
+    'characters: for c in text {
+        end = write_character(*c, digits, end);
+    }
+    end
+}
+
+/// Writes the digits that an IBAN is read as, and says how many there are: its first four characters
+/// go to the end, and a letter is two digits, those of its number from A, which is 10, to Z, which is
+/// 35. Conditions: the text has the form of an IBAN (`has_iban_form` tells), and there is room for
+/// 68 digits.
+pub fn iban_digits(text: &[u8], digits: &mut [u64]) -> usize {
+    let end = write_text(&text[4..], digits, 0);
+    write_text(&text[..4], digits, end)
+}
+
+/// Whether the text is an IBAN: exactly where it has the form of one, and the number that its digits
+/// write in decimal leaves 1 modulo 97. How long the IBANs of its country are isn't looked at.
+///
+/// Where it has the form, it is one exactly where its digits are a word of `iban_code`, whose call
+/// `finds_change` tells that a change of one digit is found: always, where the weight of its place
+/// has an inverse modulo 97. The change of a letter for another is one of the two digits that it is
+/// read as, or of both; `finds_change` speaks of one.
+pub fn accepts_iban(text: &[u8]) -> bool {
+    if !has_iban_form(text) {
+        return false;
+    }
+    let mut digits = [0; 68];
+    let count = iban_digits(text, &mut digits);
+    iban_code(count).accepts(&digits[..count])
+}

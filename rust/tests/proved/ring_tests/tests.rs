@@ -1,0 +1,5 @@
+//! Runs over each reducer.
+
+mod edges;
+mod hostile;
+mod rings;

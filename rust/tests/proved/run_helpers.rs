@@ -1,0 +1,87 @@
+//! A run over any reducer, and the calls of its integers, for the crates of tests.
+
+use num_modular::ring::{RingCommand, RunEnd, all_checked, commands_fit, run};
+use num_modular::word::RingWord;
+use num_modular::{ModularInteger, ReducedInt, Reducer};
+
+/// The end of a run over registers that begin with value 0.
+pub fn run_from_zeros<T: RingWord, R: Reducer<T>>(
+    reducer: &R,
+    commands: &[RingCommand<T>],
+    registers: &mut [T],
+) -> Option<RunEnd> {
+    let zero = reducer.transform(T::zero());
+    for i in 0..registers.len() {
+        registers[i] = zero;
+    }
+    if all_checked(reducer, registers) && commands_fit(commands, registers.len()) {
+        Some(run(reducer, registers, commands))
+    } else {
+        None
+    }
+}
+
+/// Puts the residues of forms in their place; a word that is no form is left.
+pub fn take_residues<T: RingWord, R: Reducer<T>>(reducer: &R, forms: &mut [T]) {
+    for i in 0..forms.len() {
+        if reducer.check(&forms[i]) {
+            forms[i] = reducer.residue(forms[i]);
+        }
+    }
+}
+
+/// The end of a run over registers that begin with value 0, whose residues come in their place.
+pub fn run_over<T: RingWord, R: Reducer<T>>(
+    reducer: &R,
+    commands: &[RingCommand<T>],
+    registers: &mut [T],
+) -> Option<RunEnd> {
+    let end = run_from_zeros(reducer, commands, registers);
+    take_residues(reducer, registers);
+    end
+}
+
+/// Whether a run over registers of value 0 ends so, and leaves these residues.
+pub fn ends_with<T: RingWord, R: Reducer<T>, const N: usize>(
+    reducer: &R,
+    commands: &[RingCommand<T>],
+    end: RunEnd,
+    residues: [T; N],
+) -> bool {
+    let mut left = [T::zero(); N];
+    run_over(reducer, commands, &mut left) == Some(end) && left == residues
+}
+
+/// Whether a run over registers of value 0 ends so, and leaves these residues and these forms.
+pub fn leaves<T: RingWord, R: Reducer<T>, const N: usize>(
+    reducer: &R,
+    commands: &[RingCommand<T>],
+    end: RunEnd,
+    residues: [T; N],
+    forms: [T; N],
+) -> bool {
+    let mut left = [T::zero(); N];
+    run_from_zeros(reducer, commands, &mut left) == Some(end)
+        && left == forms
+        && ends_with(reducer, commands, end, residues)
+}
+
+/// The residue of a sum of an integer and a word.
+pub fn sum<T: RingWord, R: Reducer<T> + Copy>(a: ReducedInt<T, R>, n: T) -> T {
+    (a + n).residue()
+}
+
+/// The residue of their product.
+pub fn product<T: RingWord, R: Reducer<T> + Copy>(a: ReducedInt<T, R>, n: T) -> T {
+    (a * n).residue()
+}
+
+/// The residues of an integer's double and of its square.
+pub fn multiples<T: RingWord, R: Reducer<T> + Copy>(a: ReducedInt<T, R>) -> [T; 2] {
+    [a.double().residue(), a.square().residue()]
+}
+
+/// The modulus of an integer.
+pub fn modulus<T: RingWord, R: Reducer<T> + Copy>(a: ReducedInt<T, R>) -> T {
+    a.modulus()
+}

@@ -1,0 +1,2 @@
+//! Rows of `run`, and what the program prints and answers.
+mod ring;

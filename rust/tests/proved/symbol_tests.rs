@@ -1,0 +1,4 @@
+//! Rows of `modular_symbols`: the Legendre, Jacobi and Kronecker symbols.
+
+#[cfg(test)]
+mod tests;

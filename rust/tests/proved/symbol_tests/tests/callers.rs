@@ -1,0 +1,75 @@
+//! Rows that were worked by hand, by the code that is generic over the traits.
+
+use crate::operation_callers::operations::{
+    difference, divided, inverse, power, product_and_sum, quotient, signed, square_of_double,
+};
+use crate::operation_callers::symbols::{
+    jacobi_of_seven, legendre_of_three, product_symbol, product_symbol_ref, symbols_of_8_bits,
+    symbols_of_64_bits,
+};
+
+#[test]
+fn generic_sums_and_products() {
+    let found = (
+        product_and_sum(12u8, &13, &5),
+        product_and_sum(12u64, 13, &5),
+        difference(&2u8, 5, &7),
+        difference(2u64, &5, &7),
+        square_of_double(3u8, &7),
+        square_of_double(3usize, &7),
+    );
+    assert!(found == (4, 4, 4, 4, 1, 1));
+}
+
+#[test]
+fn generic_inverses_powers_and_signs() {
+    let found = (
+        inverse(&5u16, &11),
+        inverse(7u64, &21),
+        power(&2u8, &5, &7),
+        power(2u32, 5, &7),
+        signed(-12i8, &5u8),
+        signed(-12i64, &5u64),
+    );
+    assert!(found == (Some(9), None, 4, 4, 3, 3));
+}
+
+#[test]
+fn generic_quotients() {
+    let (mut bytes, mut words) = (98u8, 15u64);
+    let found = (
+        quotient(252u8, 7, &()),
+        quotient(253u128, 7, &()),
+        divided(&mut bytes, 7, &()),
+        divided(&mut words, 7, &()),
+    );
+    assert!(found == (Some(36), None, true, false));
+    assert!((bytes, words) == (14, 15));
+}
+
+#[test]
+fn callers_of_generic_code() {
+    let found = (
+        product_symbol(7u16, 1, &15),
+        product_symbol(2u32, 1, &8),
+        product_symbol_ref(&2u16, &1, &15),
+        product_symbol_ref(&3usize, &5, &9),
+        symbols_of_8_bits(7, 1, 15),
+        symbols_of_64_bits(1, 2, 15),
+        jacobi_of_seven(),
+        legendre_of_three(),
+    );
+    assert!(
+        found
+            == (
+                Some(-1),
+                None,
+                Some(1),
+                Some(0),
+                (Some(-1), Some(-1)),
+                (Some(1), Some(1)),
+                -1,
+                1
+            )
+    );
+}

@@ -1,0 +1,27 @@
+//! Prime numbers, and the symbols over them.
+
+use num_modular::modular_symbols::count::jacobi_by_count;
+use num_modular::modular_symbols::primes::{is_prime_by_search, symbol_over_prime};
+
+#[test]
+fn primes_below_thirty() {
+    for n in [2, 3, 5, 7, 11, 13, 17, 19, 23, 29] {
+        assert!(is_prime_by_search(n), "{n}");
+    }
+    for n in [0, 1, 4, 9, 15, 21, 25, 27] {
+        assert!(!is_prime_by_search(n), "{n}");
+    }
+}
+
+#[test]
+fn symbols_over_primes() {
+    for n in [3, 5, 7, 11, 13, 17, 19, 23, 29] {
+        assert!(is_prime_by_search(n) && n % 2 == 1, "{n}");
+        for a in 0..2 * n {
+            assert!(
+                symbol_over_prime(a, n) == jacobi_by_count(false, a, n),
+                "{a} over {n}"
+            );
+        }
+    }
+}

@@ -1,0 +1,4 @@
+//! Transforms and cyclic products beside their plain sums.
+
+mod plain_sums;
+mod reducers;

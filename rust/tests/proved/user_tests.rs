@@ -1,0 +1,4 @@
+//! Rows of the crates that use `num_modular`.
+
+#[cfg(test)]
+mod tests;

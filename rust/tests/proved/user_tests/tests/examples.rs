@@ -1,0 +1,30 @@
+//! The README's examples, run. Each value was computed with Python's whole numbers.
+
+use num_modular::Montgomery;
+use crate::num_modular_uses::first_use::{
+    minutes_and_seconds, product_and_one, product_by_folds, residue_by_commands, sum_of_squares,
+    symbol,
+};
+
+const X: u64 = 18446744073709551615;
+
+const Y: u64 = 12345678901234567890;
+
+#[test]
+fn products_and_residues() {
+    assert!(product_and_one(X, Y) == 84);
+    assert!(product_by_folds(X, Y) == 1103560967735299043);
+    assert!(residue_by_commands(X, 1000000007) == 582344007);
+}
+
+#[test]
+fn squares_over_a_reducer() {
+    assert!(sum_of_squares(&Montgomery::<u64>::new(97), X, 50) == 86);
+}
+
+#[test]
+fn quotients_and_symbols() {
+    assert!(minutes_and_seconds(4294967295) == (71582788, 15));
+    assert!(symbol(1001, 9907) == Some(-1));
+    assert!(symbol(7, 8) == None);
+}

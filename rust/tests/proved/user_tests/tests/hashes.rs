@@ -1,0 +1,58 @@
+//! Hashes and searches, with values from outside.
+
+use crate::mersenne_hash::{Hash, base, find, hash, moved};
+use num_modular::ModularInteger;
+
+// A text, a pattern, and the first position where it stands.
+const SEARCHES: [(&[u8], &[u8], Option<usize>); 14] = [
+    (b"abracadabra", b"cad", Some(4)),
+    (b"abracadabra", b"bra", Some(1)),
+    (b"abracadabra", b"abra", Some(0)),
+    (b"abracadabra", b"brac", Some(1)),
+    (b"abracadabra", b"dabra", Some(6)),
+    (b"abracadabra", b"x", None),
+    (b"abracadabra", b"", Some(0)),
+    (b"", b"", Some(0)),
+    (b"", b"a", None),
+    (b"aaa", b"aaaa", None),
+    (b"listen silent", b"silent", Some(7)),
+    (b"aaaaab", b"aab", Some(3)),
+    (b"abracadabra", b"abracadabra", Some(0)),
+    (b"a", b"a", Some(0)),
+];
+
+// Whether each search is answered so. At the base 0 a hash is the last byte, and at 1 it is the sum of
+// the bytes, so that hits are many.
+fn finds_each(base: Hash) -> bool {
+    for (text, pattern, position) in SEARCHES {
+        if find(base, text, pattern) != position {
+            return false;
+        }
+    }
+    true
+}
+
+#[test]
+fn searches() {
+    for n in [0, 1, 256, 1000003, 2305843009213693950] {
+        assert!(finds_each(base(n)));
+    }
+}
+
+#[test]
+fn hashes() {
+    assert_eq!(
+        hash(base(256), b"abracadabra").residue(),
+        100030700541806068
+    );
+    assert_eq!(
+        hash(base(2305843009213693950), b"abracadabra").residue(),
+        102
+    );
+    assert_eq!(hash(base(5), b"").residue(), 0);
+    let base = base(1000003);
+    let window = hash(base, b"abracadabra");
+    assert_eq!(window.residue(), 2019167997446549444);
+    let moved = moved(base, base.pow(&11), window, b'a', b'a');
+    assert_eq!(moved.residue(), 2038550280337484571);
+}
