@@ -104,11 +104,11 @@ def growths(growth):
         said.append(f"at {bits[-1]:.0f} bits {title[0].lower()}{title[1:].split(',')[0]} takes {mean[-1]:.1f} {what} in the mean and "
                     f"{most[-1]:.0f} at most in 2,000 trials, the proved bound is {bound[-1]:.0f}")
     entries, solinas, montgomery = columns(growth["transforms"])
-    transforms.plot(entries, solinas, "o-", color=PORT, label="over FixedTrinomialSolinas64", markersize=3.5)
-    transforms.plot(entries, montgomery, "s-", color=THIRD, label="over Montgomery", markersize=3.5)
-    scale = solinas[len(solinas) // 2] / (entries[len(entries) // 2] * math.log2(entries[len(entries) // 2]))
-    transforms.plot(entries, [scale * n * math.log2(n) for n in entries], ":", color=INK, label="in proportion to n log n")
-    transforms.set(title="A transform, by its length", xlabel="entries", ylabel="ns", xscale="log", yscale="log")
+    shares = lambda times: [time / (n * math.log2(n)) for n, time in zip(entries, times)]
+    transforms.plot(entries, shares(solinas), "o-", color=PORT, label="over FixedTrinomialSolinas64", markersize=3.5)
+    transforms.plot(entries, shares(montgomery), "s-", color=THIRD, label="over Montgomery", markersize=3.5)
+    transforms.set(title="A transform, by its length", xlabel="entries, n", ylabel="ns / (n log n)")
+    transforms.set_ylim(0, 1.25 * max(shares(solinas) + shares(montgomery)))
     transforms.set_xscale("log", base=2)
     said.append(f"a transform of 2^{math.log2(entries[0]):.0f} entries takes {solinas[0] / 1e3:.2f} microseconds and of "
                 f"2^{math.log2(entries[-1]):.0f} {solinas[-1] / 1e6:.2f} ms, close to n log n")

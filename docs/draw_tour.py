@@ -70,7 +70,10 @@ def main():
     y = (TOP + 3 * ROW + FORMS_TOP) / 2 + 4
     parts.append(text(side - 16, y, "form", "note", "end"))
     parts.append(text(side + 16, y, "residue", "note", "start"))
-    width, height = x + 150, FORMS_TOP + 3 * ROW + 22
+    y = FORMS_TOP + 3 * ROW + 26
+    parts.append(f'<rect x="{LEFT}" y="{y}" width="22" height="16" class="cell written"/>')
+    parts.append(text(LEFT + 30, y + 13, "the register that the command before has written", "note", "start"))
+    width, height = x + 180, y + 36
     print(
         f"""<svg xmlns="http://www.w3.org/2000/svg" viewBox="0 0 {width} {height}" width="{width}" height="{height}" role="img" aria-labelledby="title about">
 <title id="title">A run modulo 21, on whole numbers and on forms</title>
