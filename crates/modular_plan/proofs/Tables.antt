@@ -53,7 +53,7 @@ pub half_power : {n : ℕ} → IsPowerOfTwo (2 * n) → IsPowerOfTwo n
 half_power {n} p = half_of p.0 n p.1
 
 -- the number at a place of the new list is that at a place of the old one
-number_reordered : {T : Type 0} (number : T → ℕ) (old new : List T) (k j : ℕ) → k < length new → j < length old → ((d : T) → get_or new k d ≡ get_or old j d)
+pub number_reordered : {T : Type 0} (number : T → ℕ) (old new : List T) (k j : ℕ) → k < length new → j < length old → ((d : T) → get_or new k d ≡ get_or old j d)
     → numbers number new k ≡ numbers number old j
 number_reordered number old [] k j l lo e = absurd (omega arith)
 number_reordered number old (x ∷ xs) k j l lo e = sym (number_at number (x ∷ xs) k x l) ∙ ap number (e x) ∙ number_at number old j x lo

@@ -1,3 +1,4 @@
 pub mod Factors
 pub mod Plans
+pub mod Roots
 pub mod Steps

@@ -1,4 +1,6 @@
 //! Factors, plans and remainders by them.
 
 mod factors;
+mod natural_order;
 mod remainders;
+mod roots;

@@ -13,14 +13,14 @@ use modular_word::path_word::PathWord;
 use modular_word::ring_word::RingWord;
 
 // Whether each entry is below 4m.
-fn all_in_room<T: PlainWord>(m: &PlannedModulus<T>, xs: &[T]) -> bool
+pub fn all_in_room<T: PlainWord>(m: &PlannedModulus<T>, xs: &[T]) -> bool
     ensures { IsTrue result ↔ All (λ x. T.number x < 4 * T.number m.now.modulus) xs.now }
 {
     xs.iter().all(|x| m.has_room(*x))
 }
 
 // Whether two lists are the same.
-fn are_same<T: RingWord>(xs: &[T], ys: &[T]) -> bool {
+pub fn are_same<T: RingWord>(xs: &[T], ys: &[T]) -> bool {
     for i in 0..xs.len() {
         if i >= ys.len() || xs[i] != ys[i] {
             return false;
