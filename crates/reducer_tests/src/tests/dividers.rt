@@ -1,4 +1,4 @@
-//! Rows that were worked by hand, and bytes against `/` and `%`.
+//! Rows of the dividers and of exact division that were worked by hand, and bytes against `/` and `%`.
 
 mod exact;
 mod neg_mod_inv;

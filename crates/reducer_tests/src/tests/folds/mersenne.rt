@@ -1,40 +1,9 @@
 //! Rows of the reducers and of their reductions.
 
+use crate::tests::residues::{edges, inverse, residues};
 use modular_folds::mersenne::{FixedMersenne, FixedMersenne32, FixedMersenne64};
 use modular_reduced::reducer::Reducer;
 use modular_word::ring_word::RingWord;
-
-/// The residues of 0, 1, m - 1, m and a greatest word, m being the modulus, and of (m - 1)^2.
-pub fn edges<T: RingWord, R: Reducer<T>>(ring: &R, last: T, greatest: T) -> [T; 6] {
-    let minus_one = ring.transform(last);
-    [
-        ring.residue(ring.transform(T::zero())),
-        ring.residue(ring.transform(T::one())),
-        ring.residue(minus_one),
-        ring.residue(ring.transform(ring.modulus())),
-        ring.residue(ring.transform(greatest)),
-        ring.residue(ring.mul(&minus_one, &minus_one)),
-    ]
-}
-
-/// The residues of a sum, a difference, a product, a double, a negative and a square.
-pub fn residues<T: RingWord, R: Reducer<T>>(ring: &R, x: T, y: T) -> [T; 6] {
-    let a = ring.transform(x);
-    let b = ring.transform(y);
-    [
-        ring.residue(ring.add(&a, &b)),
-        ring.residue(ring.sub(&a, &b)),
-        ring.residue(ring.mul(&a, &b)),
-        ring.residue(ring.dbl(a)),
-        ring.residue(ring.neg(a)),
-        ring.residue(ring.sqr(a)),
-    ]
-}
-
-/// The form of an inverse.
-pub fn inverse<T: RingWord, R: Reducer<T>>(ring: &R, x: T) -> Option<T> {
-    ring.inv(ring.transform(x))
-}
 
 /// Whether two words are forms, and whether a number stands for 0.
 pub fn checks<T: RingWord, R: Reducer<T>>(ring: &R, last: T, m: T, multiple: T) -> [bool; 3] {

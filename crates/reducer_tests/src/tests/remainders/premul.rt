@@ -1,5 +1,6 @@
 //! Rows that were worked by hand, and bytes against `%`.
 
+use crate::tests::residues::{inverse_residue, remainder};
 use modular_barrett::premul::PreMulInv2by1;
 use modular_reduced::reducer::Reducer;
 use modular_word::ring_word::RingWord;
@@ -25,17 +26,6 @@ fn of_one<T: RingWord, R: Reducer<T>>(r: &R, n: T) -> (T, T, T) {
     )
 }
 
-fn value<T: RingWord, R: Reducer<T>>(r: &R, n: T) -> T {
-    r.residue(r.transform(n))
-}
-
-fn inverse<T: RingWord, R: Reducer<T>>(r: &R, n: T) -> Option<T> {
-    match r.inv(r.transform(n)) {
-        Some(f) => Some(r.residue(f)),
-        None => None,
-    }
-}
-
 fn power<T: RingWord, R: Reducer<T>>(r: &R, n: T, exp: T) -> T {
     r.residue(r.pow(r.transform(n), &exp))
 }
@@ -58,7 +48,7 @@ fn rows(rt: HostRuntime) {
     let forms = [ring.transform(5), ring.transform(7), ring.transform(17)];
     let found = (
         forms,
-        [inverse(&ring, 5), inverse(&ring, 7)],
+        [inverse_residue(&ring, 5), inverse_residue(&ring, 7)],
         ring.is_zero(&ring.transform(42)),
     );
     assert!(rt; found == ([40, 56, 136], [Some(17), None], true));
@@ -71,7 +61,7 @@ fn widest_words(rt: HostRuntime) {
     let ring = PreMulInv2by1::<usize>::new(1000);
     assert!(rt; power(&ring, 2, 10) == 24);
     let ring = PreMulInv2by1::<u32>::new(5000);
-    assert!(rt; inverse(&ring, 3) == Some(1667));
+    assert!(rt; inverse_residue(&ring, 3) == Some(1667));
     let ring = PreMulInv2by1::<u16>::new(7);
     assert!(rt; power(&ring, 255, 255) == 6);
 }
@@ -99,7 +89,7 @@ fn forms_of_every_modulus(rt: HostRuntime) {
             if ring.check(&f) {
                 forms = forms.wrapping_add(1);
             }
-            assert!(rt; value(&ring, f) == f % m, "{f} modulo {m}");
+            assert!(rt; remainder(&ring, f) == f % m, "{f} modulo {m}");
         }
         assert!(rt; forms == m as u16, "{m}");
     }

@@ -1,6 +1,7 @@
 //! Rows of the reducers and of their reductions.
 
-use super::mersenne::{checks, edges, inverse, residues};
+use super::mersenne::checks;
+use crate::tests::residues::{edges, inverse, residues};
 use modular_folds::solinas::{FixedTrinomialSolinas32, FixedTrinomialSolinas64};
 use modular_reduced::reducer::Reducer;
 

@@ -1,6 +1,6 @@
 //! Rows of the reducers of a parameter.
 
-use super::residues::{inverse, product, remainder};
+use crate::tests::residues::{inverse, product, remainder};
 use modular_monty::fixed::{FixedMontgomery32, FixedMontgomery64};
 use modular_reduced::reducer::Reducer;
 

@@ -1,25 +1,12 @@
 //! Rows of the reducers of the moduli K * 2^N + 1.
 
-use super::residues::{product, remainder};
+use crate::tests::residues::{edges, product, remainder};
 use modular_monty::proth::{FixedProth32, FixedProth64};
 use modular_reduced::reducer::Reducer;
 use modular_word::ring_word::RingWord;
 
 fn sum<T: RingWord, R: Reducer<T>>(ring: &R, x: T, y: T) -> T {
     ring.residue(ring.add(&ring.transform(x), &ring.transform(y)))
-}
-
-// The residues of 0, 1, m - 1, m and the greatest word, and that of the square of m - 1.
-fn edges<T: RingWord, R: Reducer<T>>(ring: &R, words: [T; 3]) -> [T; 6] {
-    let [less, m, greatest] = words;
-    [
-        remainder(ring, T::zero()),
-        remainder(ring, T::one()),
-        remainder(ring, less),
-        remainder(ring, m),
-        remainder(ring, greatest),
-        product(ring, less, less),
-    ]
 }
 
 #[test]
@@ -67,18 +54,21 @@ fn one_over_half_the_base(rt: HostRuntime) {
 #[test]
 fn edges_of_the_range_of_32_bits(rt: HostRuntime) {
     let found = [
-        edges(&FixedProth32::<1, 1>::new(&3), [2, 3, 4294967295]),
+        edges(&FixedProth32::<1, 1>::new(&3), 2, 4294967295),
         edges(
             &FixedProth32::<23, 255>::new(&2139095041),
-            [2139095040, 2139095041, 4294967295],
+            2139095040,
+            4294967295,
         ),
         edges(
             &FixedProth32::<31, 1>::new(&2147483649),
-            [2147483648, 2147483649, 4294967295],
+            2147483648,
+            4294967295,
         ),
         edges(
             &FixedProth32::<28, 9>::new(&2415919105),
-            [2415919104, 2415919105, 4294967295],
+            2415919104,
+            4294967295,
         ),
     ];
     assert!(rt;
@@ -96,9 +86,6 @@ fn edges_of_the_range_of_32_bits(rt: HostRuntime) {
 fn edges_of_the_range_of_64_bits(rt: HostRuntime) {
     let m = 9223372036854775809;
     let last = 9223372036854775808;
-    let found = edges(
-        &FixedProth64::<63, 1>::new(&m),
-        [last, m, 18446744073709551615],
-    );
+    let found = edges(&FixedProth64::<63, 1>::new(&m), last, 18446744073709551615);
     assert!(rt; found == [0, 1, last, 0, 9223372036854775806, 1]);
 }

@@ -2,27 +2,13 @@
 
 ghost use Rattle.std.specs.Prelude.{◌≤◌};
 
-use super::residues::{inverse, product};
+use crate::tests::residues::{inverse, product, residues};
 use modular_even::montgomery::Montgomery;
 use modular_prim::plain_word::PlainWord;
 use modular_reduced::reducer::Reducer;
 use std::process::Abort;
 
-// The residues of a sum, a difference, a product, a double, a negative and a square.
-fn residues<R: Reducer<u8>>(ring: &R, x: u8, y: u8) -> [u8; 6] {
-    let a = ring.transform(x);
-    let b = ring.transform(y);
-    [
-        ring.residue(ring.add(&a, &b)),
-        ring.residue(ring.sub(&a, &b)),
-        ring.residue(ring.mul(&a, &b)),
-        ring.residue(ring.dbl(a)),
-        ring.residue(ring.neg(a)),
-        ring.residue(ring.sqr(a)),
-    ]
-}
-
-// The same by plain remainders.
+// The residues of a sum, a difference, a product, a double, a negative and a square, by plain remainders.
 fn remainders(m: u8, x: u8, y: u8) -> [u8; 6]
     requires { 1 ≤ m }
 {

@@ -1,5 +1,6 @@
 //! Each call of `Reducer`, through its bound, on the plain reducer at each width.
 
+use crate::tests::residues::inverse_residue;
 use modular_reduced::laws::{
     negative_cancels, products_associate, products_commute, products_distribute, residue_by_form,
     same_value, sums_associate, sums_commute,
@@ -49,13 +50,6 @@ fn multiplied<T: RingWord, R: Reducer<T>>(r: &R, a: T, b: T, exp: T) -> [T; 4] {
     ]
 }
 
-fn inverse<T: RingWord, R: Reducer<T>>(r: &R, a: T) -> Option<T> {
-    match r.inv(r.transform(a)) {
-        Some(x) => Some(r.residue(x)),
-        None => None,
-    }
-}
-
 // Whether a form and the modulus are forms, and whether a form and a difference of equal forms are 0.
 fn tests<T: RingWord, R: Reducer<T>>(r: &R, a: T, m: T) -> [bool; 4] {
     let f = r.transform(a);
@@ -82,7 +76,7 @@ fn exercise<T: RingWord, R: Reducer<T> + Copy>(
         added(&r, a, b),
         subtracted(&r, a, b),
         multiplied(&r, a, b, exp),
-        [inverse(&r, a), inverse(&r, b)],
+        [inverse_residue(&r, a), inverse_residue(&r, b)],
         tests(&r, a, m),
     )
 }
