@@ -1,5 +1,6 @@
 //! The same commands over each reducer.
 
+use super::commands::STOPPING;
 use num_modular::ring::{RingCommand, RunEnd};
 use num_modular::word::RingWord;
 use num_modular::{Montgomery, PreMulInv2by1, Reducer, Vanilla};
@@ -71,21 +72,14 @@ fn they_end_alike_for_large_even_moduli(rt: HostRuntime) {
 
 #[test]
 fn a_missing_inverse_modulo_21(rt: HostRuntime) {
-    let commands = [
-        RingCommand::Load { dst: 0, n: 5 },
-        RingCommand::Load { dst: 1, n: 7 },
-        RingCommand::Inv { dst: 2, a: 0 },
-        RingCommand::Inv { dst: 0, a: 1 },
-        RingCommand::Add { dst: 0, a: 0, b: 1 },
-    ];
     let end = RunEnd::NoInverse { at: 3 };
     let residues = [5, 7, 17];
     let ring = Vanilla::<u8>::new(&21);
-    assert!(rt; leaves(&ring, &commands, end, residues, residues));
+    assert!(rt; leaves(&ring, &STOPPING, end, residues, residues));
     let ring = PreMulInv2by1::<u8>::new(21);
-    assert!(rt; leaves(&ring, &commands, end, residues, [40, 56, 136]));
+    assert!(rt; leaves(&ring, &STOPPING, end, residues, [40, 56, 136]));
     let ring = Montgomery::<u8>::new(21);
-    assert!(rt; leaves(&ring, &commands, end, residues, [20, 7, 5]));
+    assert!(rt; leaves(&ring, &STOPPING, end, residues, [20, 7, 5]));
 }
 
 #[test]

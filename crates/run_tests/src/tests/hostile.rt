@@ -1,5 +1,6 @@
 //! Commands at the edges of a byte's moduli, with the forms that each reducer leaves.
 
+use super::fixed::OF_255;
 use num_modular::ring::{RingCommand, RunEnd};
 use num_modular::{
     FixedMontgomery32, FixedTrinomialSolinas32, Montgomery, PreMulInv2by1, Reducer, Vanilla,
@@ -145,26 +146,10 @@ fn each_reducer_leaves_its_forms(rt: HostRuntime) {
     }
 }
 
-const WIDE_MODULO_1: [RingCommand<u32>; 5] = [
-    RingCommand::Load { dst: 0, n: 255 },
-    RingCommand::Inv { dst: 1, a: 0 },
-    RingCommand::Pow {
-        dst: 2,
-        a: 0,
-        exp: 0,
-    },
-    RingCommand::Pow {
-        dst: 3,
-        a: 0,
-        exp: 1,
-    },
-    RingCommand::Neg { dst: 4, a: 0 },
-];
-
 #[test]
 fn fixed_reducers_modulo_1(rt: HostRuntime) {
     let ring = FixedMontgomery32::<1>::new(&1);
-    assert!(rt; leaves(&ring, &WIDE_MODULO_1, RunEnd::Done, [0; 5], [0; 5]));
+    assert!(rt; leaves(&ring, &OF_255, RunEnd::Done, [0; 5], [0; 5]));
     let ring = FixedTrinomialSolinas32::<2, 1, -1>::new(&1);
-    assert!(rt; leaves(&ring, &WIDE_MODULO_1, RunEnd::Done, [0; 5], [0; 5]));
+    assert!(rt; leaves(&ring, &OF_255, RunEnd::Done, [0; 5], [0; 5]));
 }

@@ -141,7 +141,8 @@ const RUNS: &[([u8; 3], &[RingCommand<u8>], RunEnd, [u8; 3])] = &[
     ),
 ];
 
-const STOPPING: [RingCommand<u8>; 5] = [
+/// The inverse of 7 doesn't exist modulo 21; then comes a sum.
+pub const STOPPING: [RingCommand<u8>; 5] = [
     RingCommand::Load { dst: 0, n: 5 },
     RingCommand::Load { dst: 1, n: 7 },
     RingCommand::Inv { dst: 2, a: 0 },

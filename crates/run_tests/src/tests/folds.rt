@@ -1,5 +1,6 @@
 //! The reducers of moduli near a power of two, and the same commands over each.
 
+use super::fixed::OF_255;
 use num_modular::ring::{RingCommand, RunEnd};
 use num_modular::word::RingWord;
 use num_modular::{
@@ -140,25 +141,10 @@ fn the_run_over_solinas_moduli(rt: HostRuntime) {
 
 #[test]
 fn the_run_modulo_1(rt: HostRuntime) {
-    let list = [
-        RingCommand::Load { dst: 0, n: 255 },
-        RingCommand::Inv { dst: 1, a: 0 },
-        RingCommand::Pow {
-            dst: 2,
-            a: 0,
-            exp: 0,
-        },
-        RingCommand::Pow {
-            dst: 3,
-            a: 0,
-            exp: 1,
-        },
-        RingCommand::Neg { dst: 0, a: 0 },
-    ];
     let ring = FixedTrinomialSolinas32::<2, 1, -1>::new(&1);
-    assert!(rt; ends_with(&ring, &list, RunEnd::Done, [0; 5]));
+    assert!(rt; ends_with(&ring, &OF_255, RunEnd::Done, [0; 5]));
     let ring = Vanilla::<u32>::new(&1);
-    assert!(rt; ends_with(&ring, &list, RunEnd::Done, [0; 5]));
+    assert!(rt; ends_with(&ring, &OF_255, RunEnd::Done, [0; 5]));
 }
 
 #[test]

@@ -7,8 +7,8 @@ use num_modular::{
 };
 use run_helpers::{ends_with, modulus, product, sum};
 
-// 255, its inverse, its powers 0 and 1, and its negative.
-const OF_255: [RingCommand<u32>; 5] = [
+/// 255, its inverse, its powers 0 and 1, and its negative.
+pub const OF_255: [RingCommand<u32>; 5] = [
     RingCommand::Load { dst: 0, n: 255 },
     RingCommand::Inv { dst: 1, a: 0 },
     RingCommand::Pow {
