@@ -1,6 +1,6 @@
 use Rattle.std.proofs.Common.{arith}
-use Rattle.ring_callers.proofs.SameRuns.{run_of, run_as, same_end, same_residues}
-use Rattle.ring_callers.proofs.run_both.Goals as goal
+use Rattle.run_callers.proofs.SameRuns.{run_of, run_as, same_end, same_residues}
+use Rattle.run_callers.proofs.run_both.Goals as goal
 
 pub returns-clause-one_end : goal.returns-clause-one_end
 returns-clause-one_end g c =

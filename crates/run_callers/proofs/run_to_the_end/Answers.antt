@@ -1,4 +1,4 @@
-use Rattle.ring_callers.proofs.run_to_the_end.Goals as goal
+use Rattle.run_callers.proofs.run_to_the_end.Goals as goal
 
 pub returns : goal.returns
 returns g c =
