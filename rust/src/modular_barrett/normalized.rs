@@ -3,7 +3,7 @@
 use crate::modular_prim::plain_word::PlainWord;
 use crate::modular_prim::reciprocal;
 use crate::modular_word::path_word::PathWord;
-use crate::modular_word::paths::{div_2by1, ones};
+use crate::modular_word::paths::div_2by1;
 use crate::modular_word::ring_word::RingWord;
 
 /// What a divider divides by, for contracts.
@@ -60,7 +60,7 @@ impl<T: PlainWord> Normalized2by1Divisor<T> {
 
     /// A divisor with its reciprocal. Condition: the divisor's top bit is set.
     pub fn new(d: T) -> Self {
-        assert!(ones::<T>(T::bits()).half().is_below(d));
+        assert!(T::zero().wrapping_sub(T::one()).half().is_below(d));
         Normalized2by1Divisor {
             divisor: d,
             reciprocal: Self::invert_word(d),
