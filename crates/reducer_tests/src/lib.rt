@@ -1,4 +1,4 @@
-//! Rows of the plain reducer, of the laws of rings and of the reducer by a reciprocal.
+//! Rows of the dividers, of each reducer, and of integers over reducers.
 #![tactic(auto)]
 
 #[cfg(test)]

@@ -1,4 +1,8 @@
-//! Each call of `Reducer`, through its bound.
+//! Dividers, the reducers by kind, and integers.
 
-mod premul;
-mod vanilla;
+mod dividers;
+mod folds;
+mod integers;
+mod montgomery;
+mod remainders;
+mod residues;

@@ -1,4 +1,9 @@
-//! Rows of `run`, and what the program prints and answers.
+//! Runs of commands, and what the program prints and answers.
 
+mod commands;
+mod edges;
+mod fixed;
+mod folds;
+mod hostile;
 mod modrun;
-mod ring;
+mod reducers;

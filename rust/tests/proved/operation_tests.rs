@@ -1,4 +1,4 @@
-//! Rows of `modular_prim`: modular operations on plain integers.
+//! Rows of words, of modular operations on plain integers, and of symbols.
 
 #[cfg(test)]
 mod tests;

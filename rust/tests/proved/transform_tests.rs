@@ -1,4 +1,4 @@
-//! Rows of `modular_transform`, and comparisons with the plain sums.
+//! Rows of `modular_transform` and `modular_plan`, and comparisons with the plain sums.
 
 #[cfg(test)]
 mod long;

@@ -36,8 +36,8 @@ fn convolved<T: RingWord, R: Reducer<T>>(r: &R, xs: &mut [T], ys: &mut [T], g: T
     Some(convolve(r, xs, ys, &g))
 }
 
-// Whether two lists are the same.
-fn are_same<T: RingWord>(xs: &[T], ys: &[T]) -> bool {
+/// Whether two lists are the same.
+pub fn are_same<T: RingWord>(xs: &[T], ys: &[T]) -> bool {
     for i in 0..xs.len() {
         if i >= ys.len() || xs[i] != ys[i] {
             return false;

@@ -1,7 +1,5 @@
-//! Rows that were worked by hand, at each width that holds them, and the plain definitions at every
-//! small operand: that the contracts mean them.
+//! Words, plain operations and symbols.
 
-mod counted;
-mod definitions;
-mod operands;
-mod rows;
+mod operations;
+mod symbols;
+mod words;

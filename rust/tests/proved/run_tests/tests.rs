@@ -1,2 +1,8 @@
-//! Rows of `run`, and what the program prints and answers.
-mod ring;
+//! Runs of commands, and what the program prints and answers.
+
+mod commands;
+mod edges;
+mod fixed;
+mod folds;
+mod hostile;
+mod reducers;

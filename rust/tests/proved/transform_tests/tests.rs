@@ -1,4 +1,6 @@
-//! Transforms and cyclic products beside their plain sums.
+//! Transforms and cyclic products beside their plain sums, and plans with their factors.
 
+mod factors;
 mod plain_sums;
 mod reducers;
+mod remainders;

@@ -1,7 +1,9 @@
-//! Values of each user, had from outside, and the README's examples run.
+//! Values of each user, had from outside, the README's examples run, and each public item once.
 
 mod check_symbols;
 mod each_client;
 mod examples;
 mod hashes;
 mod long_products;
+mod paths;
+mod residues;

@@ -1,5 +1,0 @@
-//! Rows of integers and runs over the reducers of a parameter.
-#![tactic(auto)]
-
-#[cfg(test)]
-mod tests;

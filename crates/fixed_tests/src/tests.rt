@@ -1,4 +1,0 @@
-//! Integers and runs, by family.
-
-mod fixed;
-mod folds;

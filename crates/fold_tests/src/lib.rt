@@ -1,5 +1,0 @@
-//! Rows of the reducers by folds.
-#![tactic(auto)]
-
-#[cfg(test)]
-mod tests;

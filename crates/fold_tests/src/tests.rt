@@ -1,4 +1,0 @@
-//! Rows of the reducers and of their reductions.
-
-mod mersenne;
-mod solinas;

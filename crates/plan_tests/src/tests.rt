@@ -1,6 +1,0 @@
-//! Factors, plans and remainders by them.
-
-mod factors;
-mod natural_order;
-mod remainders;
-mod roots;

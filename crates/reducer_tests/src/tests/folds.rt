@@ -1,0 +1,4 @@
+//! Rows of the reducers by folds and of their reductions.
+
+mod mersenne;
+mod solinas;

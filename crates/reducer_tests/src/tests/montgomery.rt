@@ -1,0 +1,5 @@
+//! Rows of each reducer by Montgomery's reduction, and comparisons with plain remainders.
+
+mod any_modulus;
+mod fixed;
+mod proth;

@@ -1,0 +1,189 @@
+//! Each call of `Reducer`, through its bound, on the plain reducer at each width.
+
+use crate::tests::residues::inverse_residue;
+use modular_reduced::laws::{
+    negative_cancels, products_associate, products_commute, products_distribute, residue_by_form,
+    same_value, sums_associate, sums_commute,
+};
+use modular_reduced::power::pow_counted;
+use modular_reduced::reducer::Reducer;
+use modular_reduced::vanilla::Vanilla;
+use modular_word::ring_word::RingWord;
+
+// The residues of a sum, of one in place, and of a double.
+fn added<T: RingWord, R: Reducer<T>>(r: &R, a: T, b: T) -> [T; 3] {
+    let f = r.transform(a);
+    let g = r.transform(b);
+    let mut sum = f;
+    r.add_in_place(&mut sum, &g);
+    [
+        r.residue(r.add(&f, &g)),
+        r.residue(sum),
+        r.residue(r.dbl(f)),
+    ]
+}
+
+// Those of a difference, of one in place, and of a negative.
+fn subtracted<T: RingWord, R: Reducer<T>>(r: &R, a: T, b: T) -> [T; 3] {
+    let f = r.transform(a);
+    let g = r.transform(b);
+    let mut difference = f;
+    r.sub_in_place(&mut difference, &g);
+    [
+        r.residue(r.sub(&f, &g)),
+        r.residue(difference),
+        r.residue(r.neg(f)),
+    ]
+}
+
+// Those of a product, of one in place, of a square and of a power.
+fn multiplied<T: RingWord, R: Reducer<T>>(r: &R, a: T, b: T, exp: T) -> [T; 4] {
+    let f = r.transform(a);
+    let g = r.transform(b);
+    let mut product = f;
+    r.mul_in_place(&mut product, &g);
+    [
+        r.residue(r.mul(&f, &g)),
+        r.residue(product),
+        r.residue(r.sqr(f)),
+        r.residue(r.pow(f, &exp)),
+    ]
+}
+
+// Whether a form and the modulus are forms, and whether a form and a difference of equal forms are 0.
+fn tests<T: RingWord, R: Reducer<T>>(r: &R, a: T, m: T) -> [bool; 4] {
+    let f = r.transform(a);
+    [
+        r.check(&f),
+        r.check(&m),
+        r.is_zero(&f),
+        r.is_zero(&r.sub(&f, &f)),
+    ]
+}
+
+// The modulus, the residues that each call leaves of a and b, the inverse of each, and the tests.
+fn exercise<T: RingWord, R: Reducer<T> + Copy>(
+    m: T,
+    a: T,
+    b: T,
+    exp: T,
+) -> (T, [T; 3], [T; 3], [T; 4], [Option<T>; 2], [bool; 4])
+    requires { R.admits (T.number m) }
+{
+    let r = R::new(&m);
+    (
+        r.modulus(),
+        added(&r, a, b),
+        subtracted(&r, a, b),
+        multiplied(&r, a, b, exp),
+        [inverse_residue(&r, a), inverse_residue(&r, b)],
+        tests(&r, a, m),
+    )
+}
+
+macro_rules! at_greatest_modulus {
+    ($rt:expr, $word:ty) => {
+        let m = <$word>::MAX;
+        let got = exercise::<$word, Vanilla<$word>>(m, m - 1, m - 2, 3);
+        let added = [m - 3, m - 3, m - 2];
+        let inverses = [Some(m - 1), Some(m / 2)];
+        let tests = [true, false, false, true];
+        assert!($rt; got == (m, added, [1; 3], [2, 2, 1, m - 1], inverses, tests));
+    };
+}
+
+#[test]
+fn at_each_width(rt: HostRuntime) {
+    at_greatest_modulus!(rt, u8);
+    at_greatest_modulus!(rt, u16);
+    at_greatest_modulus!(rt, u32);
+    at_greatest_modulus!(rt, u64);
+    at_greatest_modulus!(rt, usize);
+}
+
+#[test]
+fn without_an_inverse(rt: HostRuntime) {
+    let got = exercise::<u8, Vanilla<u8>>(21, 26, 7, 0);
+    let inverses = [Some(17), None];
+    let tests = [true, false, false, true];
+    assert!(rt;
+        got == (
+            21,
+            [12, 12, 10],
+            [19, 19, 16],
+            [14, 14, 4, 1],
+            inverses,
+            tests
+        )
+    );
+}
+
+#[test]
+fn of_modulus_one(rt: HostRuntime) {
+    let got = exercise::<u8, Vanilla<u8>>(1, 255, 0, 0);
+    let tests = [true, false, true, true];
+    assert!(rt; got == (1, [0; 3], [0; 3], [0; 4], [Some(0); 2], tests));
+}
+
+// An exponent, the power of 5 modulo 21 and the number of products.
+const COUNTED_POWERS: &[(u8, u8, u32)] = &[
+    (0, 1, 0),
+    (1, 5, 0),
+    (2, 4, 1),
+    (3, 20, 4),
+    (4, 16, 4),
+    (255, 20, 16),
+];
+
+fn counted_power<T: RingWord, R: Reducer<T>>(r: &R, a: T, exp: T) -> (T, u32) {
+    pow_counted(r, r.transform(a), &exp)
+}
+
+#[test]
+fn products_counted(rt: HostRuntime) {
+    let r = Vanilla::<u8>::new(&21);
+    for &(exp, power, count) in COUNTED_POWERS {
+        assert!(rt;
+            counted_power(&r, 5, exp) == (power, count),
+            "exponent {exp}"
+        );
+    }
+}
+
+// Both sides of the laws of sums.
+fn laws_of_sums<T: RingWord, R: Reducer<T>>(r: &R, x: T, y: T, z: T) -> [(T, T); 3] {
+    let a = r.transform(x);
+    let b = r.transform(y);
+    let c = r.transform(z);
+    [
+        sums_commute(r, a, b),
+        sums_associate(r, a, b, c),
+        negative_cancels(r, b),
+    ]
+}
+
+// Both sides of the laws of products.
+fn laws_of_products<T: RingWord, R: Reducer<T>>(r: &R, x: T, y: T, z: T) -> [(T, T); 3] {
+    let a = r.transform(x);
+    let b = r.transform(y);
+    let c = r.transform(z);
+    [
+        products_commute(r, a, b),
+        products_associate(r, a, b, c),
+        products_distribute(r, a, b, c),
+    ]
+}
+
+// Whether the forms of two numbers have one value.
+fn same<T: RingWord, R: Reducer<T>>(r: &R, x: T, y: T) -> bool {
+    same_value(r, r.transform(x), r.transform(y))
+}
+
+#[test]
+fn laws(rt: HostRuntime) {
+    let r = Vanilla::<u8>::new(&21);
+    assert!(rt; laws_of_sums(&r, 20, 5, 19) == [(4, 4), (2, 2), (16, 0)]);
+    assert!(rt; laws_of_products(&r, 20, 5, 19) == [(16, 16), (10, 10), (18, 18)]);
+    assert!(rt; residue_by_form(&r, 255) == 3);
+    assert!(rt; same(&r, 5, 5) && !same(&r, 5, 6));
+}

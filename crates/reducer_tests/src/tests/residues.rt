@@ -1,0 +1,54 @@
+//! What tests of several reducers ask of one.
+
+use modular_reduced::reducer::Reducer;
+use modular_word::ring_word::RingWord;
+
+/// The residue of a word.
+pub fn remainder<T: RingWord, R: Reducer<T>>(ring: &R, n: T) -> T {
+    ring.residue(ring.transform(n))
+}
+
+/// The residue of a product.
+pub fn product<T: RingWord, R: Reducer<T>>(ring: &R, x: T, y: T) -> T {
+    ring.residue(ring.mul(&ring.transform(x), &ring.transform(y)))
+}
+
+/// The form of an inverse.
+pub fn inverse<T: RingWord, R: Reducer<T>>(ring: &R, x: T) -> Option<T> {
+    ring.inv(ring.transform(x))
+}
+
+/// The residue of an inverse.
+pub fn inverse_residue<T: RingWord, R: Reducer<T>>(ring: &R, x: T) -> Option<T> {
+    match ring.inv(ring.transform(x)) {
+        Some(form) => Some(ring.residue(form)),
+        None => None,
+    }
+}
+
+/// The residues of 0, 1, m - 1, m and a greatest word, m being the modulus, and of (m - 1)^2.
+pub fn edges<T: RingWord, R: Reducer<T>>(ring: &R, last: T, greatest: T) -> [T; 6] {
+    let minus_one = ring.transform(last);
+    [
+        ring.residue(ring.transform(T::zero())),
+        ring.residue(ring.transform(T::one())),
+        ring.residue(minus_one),
+        ring.residue(ring.transform(ring.modulus())),
+        ring.residue(ring.transform(greatest)),
+        ring.residue(ring.mul(&minus_one, &minus_one)),
+    ]
+}
+
+/// The residues of a sum, a difference, a product, a double, a negative and a square.
+pub fn residues<T: RingWord, R: Reducer<T>>(ring: &R, x: T, y: T) -> [T; 6] {
+    let a = ring.transform(x);
+    let b = ring.transform(y);
+    [
+        ring.residue(ring.add(&a, &b)),
+        ring.residue(ring.sub(&a, &b)),
+        ring.residue(ring.mul(&a, &b)),
+        ring.residue(ring.dbl(a)),
+        ring.residue(ring.neg(a)),
+        ring.residue(ring.sqr(a)),
+    ]
+}

@@ -1,5 +1,0 @@
-//! Rows of `residue_numbers`.
-#![tactic(auto)]
-
-#[cfg(test)]
-mod tests;

@@ -1,4 +1,0 @@
-//! Rows of the dividers and of exact division.
-
-#[cfg(test)]
-mod tests;

@@ -1,4 +1,0 @@
-//! Rows of the reducers by folds.
-
-#[cfg(test)]
-mod tests;

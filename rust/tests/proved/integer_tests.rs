@@ -1,4 +1,0 @@
-//! Rows of integers over reducers, through generic callers.
-
-#[cfg(test)]
-mod tests;

@@ -1,4 +1,0 @@
-//! Rows of the reducers by Montgomery's reduction.
-
-#[cfg(test)]
-mod tests;

@@ -1,0 +1,7 @@
+//! Rows that were worked by hand, at each width that holds them, and the plain definitions at every
+//! small operand: that the contracts mean them.
+
+mod counted;
+mod definitions;
+mod operands;
+mod rows;

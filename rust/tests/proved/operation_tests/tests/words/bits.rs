@@ -1,0 +1,26 @@
+//! What a word says of its bits.
+
+use num_modular::modular_word::path_word::PathWord;
+
+// Of 12: the zeros above its bits, those below them, and the low three bits.
+#[test]
+fn bits_of_words() {
+    let found = (
+        PathWord::leading_zeros(12u8),
+        PathWord::leading_zeros(12u16),
+        PathWord::leading_zeros(12u32),
+        PathWord::leading_zeros(12u64),
+        PathWord::leading_zeros(12usize),
+        PathWord::trailing_zeros(12u8),
+        PathWord::trailing_zeros(0u64),
+        12u8.low_bits(3),
+        12u8.shift_left(4),
+    );
+    assert!(found == (4, 12, 28, 60, 60, 2, 64, 4, 192));
+    let found = (
+        12u8.shift_left_wide(5),
+        12usize.low_bits(3),
+        12usize.shift_right(2),
+    );
+    assert!(found == (384, 4, 3));
+}

@@ -1,4 +1,0 @@
-//! Factors, plans and remainders by them.
-
-mod factors;
-mod remainders;

@@ -1,0 +1,100 @@
+//! Rows of the reducers and of their reductions.
+
+use super::mersenne::checks;
+use crate::reducer_tests::tests::residues::{edges, inverse, residues};
+use num_modular::modular_folds::solinas::{FixedTrinomialSolinas32, FixedTrinomialSolinas64};
+use num_modular::modular_reduced::reducer::Reducer;
+
+#[test]
+fn greatest_words() {
+    let found = (
+        FixedTrinomialSolinas32::<4, 2, 1>::reduce_double(u64::MAX),
+        FixedTrinomialSolinas32::<4, 2, 1>::reduce_double(255),
+        FixedTrinomialSolinas32::<32, 31, -1>::reduce_double(u64::MAX),
+        FixedTrinomialSolinas32::<5, 4, -3>::reduce_single(31),
+        FixedTrinomialSolinas32::<5, 4, -3>::reduce_double(u64::MAX),
+        FixedTrinomialSolinas64::<64, 32, 1>::reduce_single(u64::MAX),
+        FixedTrinomialSolinas64::<64, 32, 1>::reduce_double(u128::MAX),
+        FixedTrinomialSolinas64::<64, 63, -1>::reduce_double(u128::MAX),
+        FixedTrinomialSolinas64::<64, 63, 1>::reduce_double(u128::MAX),
+    );
+    assert!(found == (2, 8, 3, 5, 2, 4294967294, 18446744065119617024, 3, 3));
+}
+
+#[test]
+fn counts() {
+    let found = (
+        FixedTrinomialSolinas32::<4, 2, 1>::reduce_counted(255),
+        FixedTrinomialSolinas32::<5, 4, -3>::reduce_counted(31),
+    );
+    assert!(found == ((8, 3), (5, 0)));
+    let low = FixedTrinomialSolinas32::<5, 4, -3>::new(&13);
+    assert!(low.transform(31) == 5);
+}
+
+#[test]
+fn moduli() {
+    let found = (
+        FixedTrinomialSolinas32::<2, 1, -1>::fixed_modulus(),
+        FixedTrinomialSolinas32::<4, 2, 1>::fixed_modulus(),
+        FixedTrinomialSolinas32::<5, 4, -3>::fixed_modulus(),
+        FixedTrinomialSolinas32::<32, 31, -1>::fixed_modulus(),
+        FixedTrinomialSolinas64::<6, 2, 1>::fixed_modulus(),
+        FixedTrinomialSolinas64::<64, 32, 1>::fixed_modulus(),
+    );
+    assert!(found == (1, 13, 13, 2147483647, 61, 18446744069414584321));
+}
+
+#[test]
+fn edge_parameters() {
+    let found = (
+        edges(&FixedTrinomialSolinas32::<2, 1, -1>::new(&1), 0, u32::MAX),
+        edges(&FixedTrinomialSolinas32::<5, 4, -3>::new(&13), 12, u32::MAX),
+        edges(
+            &FixedTrinomialSolinas32::<32, 31, -1>::new(&2147483647),
+            2147483646,
+            u32::MAX,
+        ),
+        edges(
+            &FixedTrinomialSolinas64::<64, 32, 1>::new(&18446744069414584321),
+            18446744069414584320,
+            u64::MAX,
+        ),
+    );
+    assert!(
+        found
+            == (
+                [0, 0, 0, 0, 0, 0],
+                [0, 1, 12, 0, 8, 1],
+                [0, 1, 2147483646, 0, 1, 1],
+                [0, 1, 18446744069414584320, 0, 4294967294, 1]
+            )
+    );
+}
+
+#[test]
+fn each_operation() {
+    let small = FixedTrinomialSolinas32::<4, 2, 1>::new(&13);
+    assert!(residues(&small, 3, 5) == [8, 11, 2, 6, 10, 9]);
+    let middle = FixedTrinomialSolinas64::<6, 2, 1>::new(&61);
+    assert!(residues(&middle, 10, 20) == [30, 51, 17, 20, 51, 39]);
+    let m = 18446744069414584321;
+    let wide = FixedTrinomialSolinas64::<64, 32, 1>::new(&m);
+    assert!(
+        residues(&wide, m - 1, m - 2) == [18446744069414584318, 1, 2, 18446744069414584319, 1, 1]
+    );
+}
+
+#[test]
+fn checks_and_inverses() {
+    let small = FixedTrinomialSolinas32::<4, 2, 1>::new(&13);
+    let found = [inverse(&small, 7), inverse(&small, 0)];
+    assert!(found == [Some(2), None]);
+    assert!(checks(&small, 12, 13, 26) == [true, false, true]);
+    let one = FixedTrinomialSolinas32::<2, 1, -1>::new(&1);
+    assert!(inverse(&one, 0) == Some(0));
+    let (m, last) = (18446744069414584321, 18446744069414584320);
+    let wide = FixedTrinomialSolinas64::<64, 32, 1>::new(&m);
+    assert!(inverse(&wide, 2) == Some(9223372034707292161));
+    assert!(checks(&wide, last, m, m) == [true, false, true]);
+}

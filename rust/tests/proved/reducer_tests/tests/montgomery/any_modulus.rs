@@ -1,0 +1,208 @@
+//! Rows of the reducer, and comparisons with plain remainders.
+
+use crate::reducer_tests::tests::residues::{inverse, product, residues};
+use num_modular::modular_even::montgomery::Montgomery;
+use num_modular::modular_prim::plain_word::PlainWord;
+use num_modular::modular_reduced::reducer::Reducer;
+use crate::runtime::Abort;
+
+// The residues of a sum, a difference, a product, a double, a negative and a square, by plain remainders.
+fn remainders(m: u8, x: u8, y: u8) -> [u8; 6] {
+    let (n, a, b) = (m as u16, x as u16, y as u16);
+    [
+        ((a + b) % n) as u8,
+        ((a + (n - b % n)) % n) as u8,
+        (a * b % n) as u8,
+        (2 * a % n) as u8,
+        ((n - a % n) % n) as u8,
+        (a * a % n) as u8,
+    ]
+}
+
+// The forms of v, of its square, its double, its inverse and a power.
+fn registers<R: Reducer<u8>>(ring: &R, v: u8, exp: u8) -> [u8; 5] {
+    let load = ring.transform(v);
+    let inverse = match ring.inv(load) {
+        Some(x) => x,
+        None => load,
+    };
+    [
+        load,
+        ring.mul(&load, &load),
+        ring.add(&load, &load),
+        inverse,
+        ring.pow(load, &exp),
+    ]
+}
+
+// Their residues.
+fn values<R: Reducer<u8>>(ring: &R, v: u8, exp: u8) -> [u8; 5] {
+    let load = ring.transform(v);
+    let inverse = match ring.inv(load) {
+        Some(x) => x,
+        None => load,
+    };
+    [
+        ring.residue(load),
+        ring.residue(ring.mul(&load, &load)),
+        ring.residue(ring.add(&load, &load)),
+        ring.residue(inverse),
+        ring.residue(ring.pow(load, &exp)),
+    ]
+}
+
+// The modulus, a number, an exponent, the forms of five registers and their residues.
+const REGISTERS: &[(u8, u8, u8, [u8; 5], [u8; 5])] = &[
+    (
+        255,
+        254,
+        255,
+        [254, 1, 253, 254, 254],
+        [254, 1, 253, 254, 254],
+    ),
+    (
+        253,
+        252,
+        255,
+        [250, 3, 247, 250, 250],
+        [252, 1, 251, 252, 252],
+    ),
+];
+
+#[test]
+fn five_registers() {
+    for &(m, v, exp, forms, residues) in REGISTERS {
+        assert!(m > 0);
+        let ring = Montgomery::<u8>::new(m);
+        assert!(registers(&ring, v, exp) == forms && values(&ring, v, exp) == residues);
+    }
+}
+
+fn forms<R: Reducer<u8>>(ring: &R, words: [u8; 3]) -> [u8; 3] {
+    let [x, y, z] = words;
+    [ring.transform(x), ring.transform(y), ring.transform(z)]
+}
+
+// The modulus, words and their forms.
+const FORMS: &[(u8, [u8; 3], [u8; 3])] = &[(21, [5, 7, 17], [20, 7, 5]), (1, [255; 3], [0; 3])];
+
+#[test]
+fn forms_of_words() {
+    for &(m, words, want) in FORMS {
+        assert!(m > 0);
+        assert!(forms(&Montgomery::<u8>::new(m), words) == want);
+    }
+    let ring = Montgomery::<u8>::new(128);
+    for v in 0..128 {
+        assert!(ring.transform(v) == v);
+    }
+}
+
+// The modulus, a number and the form of its inverse.
+const INVERSES: &[(u8, u8, Option<u8>)] = &[
+    (1, 255, Some(0)),
+    (254, 253, Some(251)),
+    (254, 2, None),
+];
+
+#[test]
+fn inverses() {
+    for &(m, x, want) in INVERSES {
+        assert!(m > 0);
+        assert!(inverse(&Montgomery::<u8>::new(m), x) == want);
+    }
+}
+
+// Whether a sum is 0.
+fn sum_is_zero<R: Reducer<u8>>(ring: &R, x: u8, y: u8) -> bool {
+    ring.is_zero(&ring.add(&ring.transform(x), &ring.transform(y)))
+}
+
+#[test]
+fn sums_of_zero() {
+    let ring = Montgomery::<u8>::new(11);
+    assert!(sum_is_zero(&ring, 5, 6) && !sum_is_zero(&ring, 5, 7));
+}
+
+// Rows are the modulus, two factors and the residue of their product.
+fn assert_products<T: PlainWord>(rt: &impl Abort, rows: &[(T, T, T, T)]) {
+    for &(m, x, y, want) in rows {
+        assert!(!m.is_zero_word());
+        assert!(product(&Montgomery::<T>::new(m), x, y) == want);
+    }
+}
+
+const PRODUCTS_OF_16_BITS: &[(u16, u16, u16, u16)] = &[
+    (65535, 65534, 65533, 2),
+    (65534, 65533, 65533, 1),
+];
+
+const PRODUCTS_OF_32_BITS: &[(u32, u32, u32, u32)] = &[
+    (4294967295, 4294967294, 4294967293, 2),
+    (4294967294, 4294967293, 4294967293, 1),
+];
+
+const PRODUCTS_OF_64_BITS: &[(u64, u64, u64, u64)] = &[
+    (
+        18446744073709551615,
+        18446744073709551614,
+        18446744073709551614,
+        1,
+    ),
+    (
+        18446744073709551614,
+        18446744073709551613,
+        18446744073709551613,
+        1,
+    ),
+];
+
+#[test]
+fn products_at_each_width() {
+    let rt = crate::runtime::HostRuntime;
+    assert_products::<u8>(&rt, &[(5, 12, 13, 1)]);
+    assert_products::<u16>(&rt, PRODUCTS_OF_16_BITS);
+    assert_products::<u32>(&rt, PRODUCTS_OF_32_BITS);
+    assert_products::<u64>(&rt, PRODUCTS_OF_64_BITS);
+    assert_products::<usize>(&rt, &[(3, 5, 7, 2), (6, 5, 7, 5)]);
+}
+
+// The forms of two numbers and of their product.
+fn product_forms<R: Reducer<u8>>(ring: &R, x: u8, y: u8) -> [u8; 3] {
+    let a = ring.transform(x);
+    let b = ring.transform(y);
+    [a, b, ring.mul(&a, &b)]
+}
+
+// An even modulus, two numbers, their forms and that of their product.
+const PRODUCT_FORMS: &[(u8, u8, u8, [u8; 3])] = &[
+    (20, 7, 9, [11, 17, 15]),
+    (254, 253, 253, [251, 251, 5]),
+];
+
+#[test]
+fn even_moduli_of_bytes() {
+    for &(m, x, y, want) in PRODUCT_FORMS {
+        assert!(m > 0);
+        assert!(product_forms(&Montgomery::<u8>::new(m), x, y) == want);
+    }
+}
+
+// Whether the residues of two numbers are the remainders.
+fn agree(ring: &Montgomery<u8>, m: u8, x: u8, y: u8) -> bool {
+    residues(ring, x, y) == remainders(m, x, y)
+}
+
+#[test]
+fn each_modulus() {
+    for m in 1..=255u8 {
+        let ring = Montgomery::<u8>::new(m);
+        assert!(ring.modulus() == m);
+        for x in [0, 1, 2, 84, 127, 128, 254, 255] {
+            assert!(ring.check(&x) == (x < m));
+            for y in [0, 1, 3, 85, 126, 129, 253, 255] {
+                assert!(agree(&ring, m, x, y));
+            }
+        }
+    }
+}

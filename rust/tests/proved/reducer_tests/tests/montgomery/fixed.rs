@@ -1,0 +1,38 @@
+//! Rows of the reducers of a parameter.
+
+use crate::reducer_tests::tests::residues::{inverse, product, remainder};
+use num_modular::modular_monty::fixed::{FixedMontgomery32, FixedMontgomery64};
+use num_modular::modular_reduced::reducer::Reducer;
+
+#[test]
+fn products() {
+    assert!(product(&FixedMontgomery32::<17>::new(&17), 3, 5) == 15);
+    assert!(product(&FixedMontgomery64::<97>::new(&97), 10, 20) == 6);
+}
+
+#[test]
+fn products_modulo_the_greatest_odd_words() {
+    let ring = FixedMontgomery32::<4294967295>::new(&4294967295);
+    assert!(product(&ring, 4294967294, 4294967293) == 2);
+    let ring = FixedMontgomery64::<18446744073709551615>::new(&18446744073709551615);
+    assert!(product(&ring, 18446744073709551614, 18446744073709551614) == 1);
+}
+
+#[test]
+fn modulo_1() {
+    assert!(FixedMontgomery32::<1>::fixed_modulus() == 1);
+    let ring = FixedMontgomery32::<1>::new(&1);
+    let found = (ring.transform(4294967295), inverse(&ring, 4294967295));
+    assert!(found == (0, Some(0)));
+    for n in [0, 1, 4294967295] {
+        assert!(remainder(&ring, n) == 0);
+    }
+}
+
+#[test]
+fn what_is_no_form() {
+    assert!(FixedMontgomery64::<97>::fixed_modulus() == 97);
+    let ring = FixedMontgomery64::<97>::new(&97);
+    assert!(ring.check(&96) && !ring.check(&97));
+    assert!(inverse(&ring, 97) == None);
+}

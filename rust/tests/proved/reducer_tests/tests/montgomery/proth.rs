@@ -1,0 +1,91 @@
+//! Rows of the reducers of the moduli K * 2^N + 1.
+
+use crate::reducer_tests::tests::residues::{edges, product, remainder};
+use num_modular::modular_monty::proth::{FixedProth32, FixedProth64};
+use num_modular::modular_reduced::reducer::Reducer;
+use num_modular::modular_word::ring_word::RingWord;
+
+fn sum<T: RingWord, R: Reducer<T>>(ring: &R, x: T, y: T) -> T {
+    ring.residue(ring.add(&ring.transform(x), &ring.transform(y)))
+}
+
+#[test]
+fn small_moduli() {
+    let ring = FixedProth32::<4, 1>::new(&17);
+    assert!([sum(&ring, 3, 5), product(&ring, 3, 5)] == [8, 15]);
+    assert!(product(&FixedProth64::<5, 3>::new(&97), 10, 20) == 6);
+}
+
+#[test]
+fn fixed_moduli() {
+    let found = [
+        FixedProth32::<4, 1>::fixed_modulus(),
+        FixedProth32::<1, 1>::fixed_modulus(),
+        FixedProth32::<23, 255>::fixed_modulus(),
+    ];
+    assert!(found == [17, 3, 2139095041]);
+    assert!(FixedProth64::<5, 3>::fixed_modulus() == 97);
+}
+
+#[test]
+fn reductions_with_a_carry() {
+    let ring = FixedProth32::<27, 17>::new(&2281701377);
+    assert!(remainder(&ring, 4294967295) == 2013265918);
+    // (m - 1) * 2^32 + m: the sum is (2 * m - 1) * 2^32, which passes 64 bits
+    assert!(ring.reduce(9799832791439900673) == 2281701376);
+    let ring = FixedProth32::<28, 9>::new(&2415919105);
+    let found = (ring.transform(4294967292), remainder(&ring, 4294967292));
+    assert!(found == (2028179012, 1879048187));
+}
+
+#[test]
+fn one_over_half_the_base() {
+    let ring = FixedProth32::<31, 1>::new(&2147483649);
+    let found = (ring.transform(4294967295), remainder(&ring, 4294967295));
+    assert!(found == (6, 2147483646));
+    let ring = FixedProth64::<63, 1>::new(&9223372036854775809);
+    let found = (
+        ring.transform(18446744073709551615),
+        remainder(&ring, 18446744073709551615),
+    );
+    assert!(found == (6, 9223372036854775806));
+}
+
+#[test]
+fn edges_of_the_range_of_32_bits() {
+    let found = [
+        edges(&FixedProth32::<1, 1>::new(&3), 2, 4294967295),
+        edges(
+            &FixedProth32::<23, 255>::new(&2139095041),
+            2139095040,
+            4294967295,
+        ),
+        edges(
+            &FixedProth32::<31, 1>::new(&2147483649),
+            2147483648,
+            4294967295,
+        ),
+        edges(
+            &FixedProth32::<28, 9>::new(&2415919105),
+            2415919104,
+            4294967295,
+        ),
+    ];
+    assert!(
+        found
+            == [
+                [0, 1, 2, 0, 0, 1],
+                [0, 1, 2139095040, 0, 16777213, 1],
+                [0, 1, 2147483648, 0, 2147483646, 1],
+                [0, 1, 2415919104, 0, 1879048190, 1]
+            ]
+    );
+}
+
+#[test]
+fn edges_of_the_range_of_64_bits() {
+    let m = 9223372036854775809;
+    let last = 9223372036854775808;
+    let found = edges(&FixedProth64::<63, 1>::new(&m), last, 18446744073709551615);
+    assert!(found == [0, 1, last, 0, 9223372036854775806, 1]);
+}

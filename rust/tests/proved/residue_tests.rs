@@ -1,4 +1,0 @@
-//! Rows of `residue_numbers`.
-
-#[cfg(test)]
-mod tests;

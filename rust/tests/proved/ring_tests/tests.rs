@@ -1,5 +1,0 @@
-//! Runs over each reducer.
-
-mod edges;
-mod hostile;
-mod rings;

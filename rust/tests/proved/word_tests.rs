@@ -1,4 +1,0 @@
-//! Rows of `modular_word`: words, paths and plain definitions.
-
-#[cfg(test)]
-mod tests;
