@@ -8,6 +8,7 @@ pub mod cubic;
 pub mod each_reducer;
 pub mod hashes;
 pub mod inner_products;
+pub mod keys;
 pub mod laws;
 pub mod operations;
 pub mod quotients;

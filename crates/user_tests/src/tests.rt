@@ -5,3 +5,4 @@ mod each_client;
 mod examples;
 mod hashes;
 mod long_products;
+mod loops;
