@@ -6,6 +6,7 @@ pub mod any_reducer;
 pub mod commands;
 pub mod cubic;
 pub mod each_reducer;
+pub mod fermat_tests;
 pub mod hashes;
 pub mod inner_products;
 pub mod keys;

@@ -1,5 +1,6 @@
 //! Rows of the clients with powers and loops; the values were computed with Python.
 
+use clients::fermat_tests::is_shown_composite;
 use clients::keys::{keys, known_word};
 
 #[test]
@@ -10,4 +11,26 @@ fn keys_of_two_parties(rt: HostRuntime) {
     let m = 18446744073709551557;
     assert!(rt; known_word(5, 123456789, m) == 10053095613067059088);
     assert!(rt; keys(5, 123456789, 987654321, m).1 == 13238872984339080984);
+}
+
+// A number, a base, and whether Fermat's test to it shows that the number isn't prime.
+const FERMAT_TESTS: &[(u64, u64, bool)] = &[
+    (341, 2, false),
+    (341, 3, true),
+    (561, 2, false),
+    (561, 3, true),
+    (15, 4, false),
+    (15, 2, true),
+    (97, 5, false),
+    (97, 97, true),
+    (1, 1, true),
+    (18446744073709551557, 2, false),
+];
+
+#[test]
+fn fermat_tests(rt: HostRuntime) {
+    for &(n, a, want) in FERMAT_TESTS {
+        assert!(rt; n > 0);
+        assert!(rt; is_shown_composite(n, a) == want, "{n} {a}");
+    }
 }
