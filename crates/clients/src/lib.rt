@@ -15,4 +15,5 @@ pub mod operations;
 pub mod quotients;
 pub mod remainders;
 pub mod repeated_products;
+pub mod square_roots;
 pub mod squares;

@@ -2,6 +2,8 @@
 
 use clients::fermat_tests::is_shown_composite;
 use clients::keys::{keys, known_word};
+use clients::square_roots::square_root;
+use num_modular::prim::is_prime_by_search;
 
 #[test]
 fn keys_of_two_parties(rt: HostRuntime) {
@@ -32,5 +34,34 @@ fn fermat_tests(rt: HostRuntime) {
     for &(n, a, want) in FERMAT_TESTS {
         assert!(rt; n > 0);
         assert!(rt; is_shown_composite(n, a) == want, "{n} {a}");
+    }
+}
+
+fn root_modulo_a_prime(a: u64, p: u64) -> Option<Option<u64>> {
+    if p % 4 == 3 && is_prime_by_search(p) {
+        Some(square_root(a, p))
+    } else {
+        None
+    }
+}
+
+// A number, a prime and the root.
+const ROOTS: &[(u64, u64, Option<u64>)] = &[
+    (0, 3, Some(0)),
+    (1, 3, Some(1)),
+    (2, 3, None),
+    (2, 7, Some(4)),
+    (9, 7, Some(4)),
+    (3, 7, None),
+    (3, 11, Some(5)),
+    (2, 11, None),
+    (17, 65519, Some(256)),
+    (123456789, 65519, None),
+];
+
+#[test]
+fn square_roots(rt: HostRuntime) {
+    for &(a, p, want) in ROOTS {
+        assert!(rt; root_modulo_a_prime(a, p) == Some(want), "{a} {p}");
     }
 }
