@@ -7,6 +7,7 @@ pub mod commands;
 pub mod cubic;
 pub mod each_reducer;
 pub mod fermat_tests;
+pub mod generators;
 pub mod hashes;
 pub mod inner_products;
 pub mod keys;

@@ -1,9 +1,11 @@
 //! Rows of the clients with powers and loops; the values were computed with Python.
 
 use clients::fermat_tests::is_shown_composite;
+use clients::generators::jump;
 use clients::keys::{keys, known_word};
 use clients::square_roots::square_root;
 use num_modular::prim::is_prime_by_search;
+use num_modular::{Montgomery, Reducer};
 
 #[test]
 fn keys_of_two_parties(rt: HostRuntime) {
@@ -63,5 +65,34 @@ const ROOTS: &[(u64, u64, Option<u64>)] = &[
 fn square_roots(rt: HostRuntime) {
     for &(a, p, want) in ROOTS {
         assert!(rt; root_modulo_a_prime(a, p) == Some(want), "{a} {p}");
+    }
+}
+
+// The modulus, a, c, the first state, the number of steps and the last state; the first row is the check of
+// Park and Miller, "Random number generators: good ones are hard to find".
+const JUMPS: &[(u64, u64, u64, u64, u64, u64)] = &[
+    (2147483647, 16807, 0, 1, 10000, 1043618065),
+    (4294967296, 1664525, 1013904223, 12345, 1000, 350778849),
+    (97, 5, 3, 200, 0, 6),
+    (97, 5, 3, 7, 1, 38),
+    (10, 3, 7, 4, 123, 9),
+    (
+        9223372036854775833,
+        6364136223846793005,
+        1442695040888963407,
+        42,
+        u64::MAX,
+        6614070146432703964,
+    ),
+];
+
+#[test]
+fn jumps(rt: HostRuntime) {
+    for &(m, a, c, x, n, want) in JUMPS {
+        assert!(rt; m > 0);
+        assert!(rt;
+            jump(&Montgomery::<u64>::new(m), a, c, x, n) == want,
+            "{m} {n}"
+        );
     }
 }
