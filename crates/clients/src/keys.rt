@@ -1,0 +1,29 @@
+//! A key that two parties agree on by powers (Diffie and Hellman, "New directions in cryptography").
+
+ghost use Rattle.std.specs.Prelude.{◌≡◌, ◌*◌, ◌%◌, ◌^◌, ◌≤◌};
+
+use num_modular::ModularPow;
+use num_modular::laws::power_laws;
+
+/// The word that a party makes known: the power of the base g by the party's secret, modulo m.
+/// Condition: m is at least 1.
+pub fn known_word(g: u64, secret: u64, m: u64) -> u64
+    requires { 1 ≤ m }
+    ensures { result ≡ g ^ secret % m }
+{
+    g.powm(secret, &m)
+}
+
+/// The key of each of two parties, from its own secret and the word that the other makes known: they are
+/// equal. Condition: m is at least 1.
+#[tactic(auto, using(num_modular::specs::Remainders::remainders))]
+pub fn keys(g: u64, first: u64, second: u64, m: u64) -> (u64, u64)
+    requires { 1 ≤ m }
+    ensures key { result.0 ≡ g ^ (first * second) % m }
+    ensures agreed { result.1 ≡ result.0 }
+{
+    power_laws();
+    let from_second = known_word(g, second, m).powm(first, &m);
+    let from_first = known_word(g, first, m).powm(second, &m);
+    (from_second, from_first)
+}
