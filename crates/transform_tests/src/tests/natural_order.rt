@@ -15,6 +15,7 @@ use modular_word::path_word::PathWord;
 
 // Whether the list becomes this transform, by the plan by g; the table is for n entries, n being twice
 // its length.
+#[tactic(auto, using(modular_transform::proofs::PowersOfTwo::power_of_two_tested))]
 fn is_transform<T: PlainWord>(
     m: T,
     g: T,
