@@ -87,8 +87,11 @@ const fn line(name: &'static str, port: Bench, flint: Bench, cut: Cut) -> Line {
 static LINES: [Line; 8] = [
     line("PreMulInv2by1::mul, n_mulmod2_preinv, chain", port::premul_mul, mulm, Cut::Both),
     Line {
+        name: "PreMulInv2by1::mul, n_mulmod2_preinv, eight chains side by side",
+        port: port::over_premul::<7>,
+        flint: mulm_eight,
+        cut: Cut::Both,
         products: 8.0,
-        ..line("PreMulInv2by1::mul, n_mulmod2_preinv, eight chains side by side", port::over_premul::<7>, mulm_eight, Cut::Both)
     },
     line("powm, n_powmod2_preinv, chain", port::powm, powm, Cut::Both),
     line("powm, n_powmod2_preinv, list", list::<0>, powm_list, Cut::Neither),
