@@ -4,12 +4,15 @@
 //! anything is measured the answers are compared; where they differ it says so and ends with status 1.
 //!
 //! With a folder as argument it writes speed.json and the tables of speed.md there, else it prints the
-//! tables.
+//! tables. With `--peers` before it, which the feature `peers` brings, it measures the port beside FLINT in
+//! place of all that.
 
 mod growth;
 mod lines;
 mod measure;
 mod original;
+#[cfg(feature = "peers")]
+mod peers;
 mod port;
 mod report;
 mod runs;
@@ -19,7 +22,7 @@ mod users;
 use lines::{Moduli, Table};
 use measure::{FIRST, SECOND, agree, best, operands};
 use port::Bench;
-use report::{Report, Rows};
+use report::{Place, Report, Rows};
 use std::env;
 use std::fs;
 use std::path::Path;
@@ -104,11 +107,11 @@ fn machine() -> String {
     )
 }
 
-fn main() -> ExitCode {
+/// Each table beside the Rust crate, and each curve; `None` where the answers differ.
+fn beside_crate() -> Option<Report> {
     let tables = lines::tables();
     if !all_agree(&tables) || !runs::agree() || !transforms::agree() || !users::agree() {
-        eprintln!("the answers differ");
-        return ExitCode::from(1);
+        return None;
     }
     let mut rows: Vec<Rows> = tables.iter().map(measured).collect();
     rows.push(measured_even());
@@ -116,11 +119,39 @@ fn main() -> ExitCode {
     rows.push(transforms::measured());
     rows.push(users::searches());
     rows.push(users::products());
-    let report = Report { machine: machine(), tables: rows, growth: growth::measured() };
-    match env::args().nth(1) {
+    Some(Report { machine: machine(), tables: rows, growth: growth::measured() })
+}
+
+#[cfg(feature = "peers")]
+fn beside_peers() -> Option<Report> {
+    peers::agree().then(|| Report {
+        machine: format!("{}, and FLINT {}", machine(), peers::version()),
+        tables: peers::measured(),
+        growth: Vec::new(),
+    })
+}
+
+#[cfg(not(feature = "peers"))]
+fn beside_peers() -> Option<Report> {
+    eprintln!("built without the feature peers");
+    None
+}
+
+fn main() -> ExitCode {
+    let mut words = env::args().skip(1).peekable();
+    let (report, place) = if words.next_if(|word| word == "--peers").is_some() {
+        (beside_peers(), Place { numbers: "speed-peers.json", command: "bench/run --peers" })
+    } else {
+        (beside_crate(), Place { numbers: "speed.json", command: "bench/run" })
+    };
+    let Some(report) = report else {
+        eprintln!("nothing was measured");
+        return ExitCode::from(1);
+    };
+    match words.next() {
         None => print!("{}", report.markdown()),
         Some(folder) => {
-            if let Err(error) = report.write(Path::new(&folder)) {
+            if let Err(error) = report.write(Path::new(&folder), &place) {
                 eprintln!("{folder}: {error}");
                 return ExitCode::from(2);
             }

@@ -3,6 +3,7 @@
 use crate::lines::{Line, Moduli};
 use crate::port::Bench;
 use std::hint::black_box;
+use std::sync::LazyLock;
 use std::time::Instant;
 
 const TURNS: usize = 25;
@@ -30,30 +31,47 @@ impl Random {
     }
 }
 
-fn once(function: Bench, operands: (u64, u64, u64), steps: u64) -> f64 {
+/// The seconds of the clock on the wall, from the first call.
+fn wall() -> f64 {
+    static START: LazyLock<Instant> = LazyLock::new(Instant::now);
+    START.elapsed().as_secs_f64()
+}
+
+/// The nanoseconds of some steps.
+fn once(clock: fn() -> f64, function: Bench, operands: (u64, u64, u64), steps: u64) -> f64 {
     let (x, y, m) = operands;
-    let start = Instant::now();
+    let start = clock();
     black_box(function(black_box(x), black_box(y), black_box(m), black_box(steps)));
-    start.elapsed().as_secs_f64() * 1e9
+    (clock() - start) * 1e9
 }
 
 /// How many steps of a function fill a turn.
-fn steps_of_turn(function: Bench, operands: (u64, u64, u64)) -> u64 {
+fn steps_of_turn(clock: fn() -> f64, function: Bench, operands: (u64, u64, u64)) -> u64 {
     let steps = 500;
-    let time = once(function, operands, steps).min(once(function, operands, steps));
+    let time = once(clock, function, operands, steps).min(once(clock, function, operands, steps));
     (TURN * steps as f64 / time.max(1.0)) as u64 + 1
 }
 
-/// The nanoseconds of one step of each function: the best of some turns, the functions in turn.
-pub fn best<const N: usize>(functions: [Bench; N], operands: (u64, u64, u64)) -> [f64; N] {
-    let steps = functions.map(|function| steps_of_turn(function, operands));
+/// The nanoseconds of one step of each function, by a clock: the best of some turns, the functions in turn.
+pub fn best_by<const N: usize>(
+    clock: fn() -> f64,
+    turns: usize,
+    functions: [Bench; N],
+    operands: (u64, u64, u64),
+) -> [f64; N] {
+    let steps = functions.map(|function| steps_of_turn(clock, function, operands));
     let mut best = [f64::INFINITY; N];
-    for _ in 0..TURNS {
+    for _ in 0..turns {
         for ((best, function), steps) in best.iter_mut().zip(functions).zip(steps) {
-            *best = best.min(once(function, operands, steps) / steps as f64);
+            *best = best.min(once(clock, function, operands, steps) / steps as f64);
         }
     }
     best
+}
+
+/// The same by the clock on the wall.
+pub fn best<const N: usize>(functions: [Bench; N], operands: (u64, u64, u64)) -> [f64; N] {
+    best_by(wall, TURNS, functions, operands)
 }
 
 /// The operands of a line: of as many bits as its words have.
@@ -62,7 +80,8 @@ pub fn operands(line: &Line) -> (u64, u64, u64) {
     (FIRST >> unused, SECOND >> unused | 1, line.modulus)
 }
 
-fn compare(name: &str, first: Bench, second: Bench, operands: (u64, u64, u64)) -> bool {
+/// Whether two functions answer alike after 1, 2 and 7 steps.
+pub fn compare(name: &str, first: Bench, second: Bench, operands: (u64, u64, u64)) -> bool {
     let (x, y, m) = operands;
     for steps in [1, 2, 7] {
         let one = first(x, y, m, steps);

@@ -30,8 +30,11 @@ pub struct Report {
     pub growth: Vec<Growth>,
 }
 
-const START: &str = "<!-- written by bench/run -->";
-const END: &str = "<!-- end of what bench/run writes -->";
+/// Where a report is written: the file of its numbers, and the command that the marks in speed.md name.
+pub struct Place {
+    pub numbers: &'static str,
+    pub command: &'static str,
+}
 
 fn quoted(text: &str) -> String {
     format!("\"{}\"", text.replace('\\', "\\\\").replace('"', "\\\""))
@@ -99,14 +102,16 @@ impl Report {
         )
     }
 
-    /// Writes speed.json, and the tables between their marks in speed.md.
-    pub fn write(&self, folder: &Path) -> io::Result<()> {
-        fs::write(folder.join("speed.json"), self.json())?;
+    /// Writes the numbers, and the tables between their marks in speed.md.
+    pub fn write(&self, folder: &Path, place: &Place) -> io::Result<()> {
+        fs::write(folder.join(place.numbers), self.json())?;
+        let start = format!("<!-- written by {} -->", place.command);
+        let end = format!("<!-- end of what {} writes -->", place.command);
         let page = folder.join("speed.md");
         let text = fs::read_to_string(&page)?;
-        let parts = text.split_once(START).and_then(|(before, rest)| Some((before, rest.split_once(END)?.1)));
+        let parts = text.split_once(&start).and_then(|(before, rest)| Some((before, rest.split_once(&end)?.1)));
         match parts {
-            Some((before, after)) => fs::write(page, format!("{before}{START}\n{}\n{END}{after}", self.markdown())),
+            Some((before, after)) => fs::write(page, format!("{before}{start}\n{}\n{end}{after}", self.markdown())),
             None => Err(io::Error::other("speed.md lacks the marks between which the tables stand")),
         }
     }

@@ -10,6 +10,7 @@ mod chains;
 mod counts;
 mod dividers;
 mod fixed;
+mod lists;
 mod plain;
 mod rings;
 mod runs;

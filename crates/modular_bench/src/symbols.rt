@@ -1,14 +1,15 @@
 //! The symbols.
 
 ghost use Rattle.modular_bench.specs.Steps.{symbol_number, symbol_of, symbol_step};
+ghost use Rattle.modular_symbols.specs.Jacobi.{checked_jacobi_of};
 ghost use Rattle.std.specs.Fn.{iterate};
 ghost use Rattle.std.specs.Int.Count.{count_leading_zeros};
-ghost use Rattle.std.specs.Prelude.{◌≡◌, ◌≤◌, ◌<◌, ◌+◌, ◌*◌, ◌/◌, ◌%◌, ◌^◌};
+ghost use Rattle.std.specs.Prelude.{◌≡◌, ◌≤◌, ◌<◌, ◌+◌, ◌*◌, ◌/◌, ◌%◌, ◌^◌, pos};
 
 use num_modular::ModularSymbols;
 
 // The symbol of v over m, by the operation's number.
-fn symbol(operation: u8, v: u64, m: u64) -> Option<i8>
+pub(crate) fn symbol(operation: u8, v: u64, m: u64) -> Option<i8>
     ensures { result ≡ symbol_of operation m v }
 {
     match operation {
@@ -19,13 +20,21 @@ fn symbol(operation: u8, v: u64, m: u64) -> Option<i8>
 }
 
 // A symbol as a number from 0 to 3.
-fn number(found: Option<i8>) -> u64
+pub(crate) fn number(found: Option<i8>) -> u64
     ensures { result ≡ symbol_number found }
 {
     match found {
         None => 3,
         Some(symbol) => if symbol < 0 { 2 } else { symbol as u64 },
     }
+}
+
+// The number of Jacobi's symbol of v over m, by the loop of subtractions.
+pub(crate) fn subtracted(v: u64, m: u64) -> u64
+    requires { m % 2 ≡ 1 }
+    ensures { result ≡ symbol_number (checked_jacobi_of (pos v) (pos m)) }
+{
+    number(Some(v.jacobi(&m)))
 }
 
 fn steps<const OPERATION: u8>(x: u64, y: u64, m: u64, n: u64) -> u64
@@ -66,7 +75,7 @@ pub extern "C" fn bench_jacobi(x: u64, y: u64, m: u64, n: u64) -> u64
     let mut x = x;
     let shift = m.leading_zeros();
     'steps: for _ in 0..n {
-        let term = number(Some(x.jacobi(&m)));
+        let term = subtracted(x, m);
         x = y.wrapping_mul(x).wrapping_add(term) >> shift;
     }
     x

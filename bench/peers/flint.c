@@ -1,0 +1,100 @@
+/* FLINT's word-sized calls, in the steps of the functions of crates/modular_bench that stand beside them. */
+#include <flint/flint.h>
+#include <flint/ulong_extras.h>
+#include <time.h>
+
+/* The seconds that this thread has computed for. */
+double peer_seconds(void)
+{
+    struct timespec time;
+    clock_gettime(CLOCK_THREAD_CPUTIME_ID, &time);
+    return (double) time.tv_sec + 1e-9 * (double) time.tv_nsec;
+}
+
+const char *peer_version(void)
+{
+    return FLINT_VERSION;
+}
+
+static unsigned unused_bits(ulong m)
+{
+    return __builtin_clzl(m);
+}
+
+/* A symbol as a number from 0 to 2. */
+static ulong number(int symbol)
+{
+    return symbol < 0 ? 2 : (ulong) symbol;
+}
+
+ulong peer_mulm(ulong x, ulong y, ulong m, ulong n)
+{
+    ulong inverse = n_preinvert_limb(m);
+    for (; n > 0; n--)
+        x = n_mulmod2_preinv(x, y, m, inverse);
+    return x;
+}
+
+ulong peer_mulm_eight(ulong x, ulong y, ulong m, ulong n)
+{
+    ulong inverse = n_preinvert_limb(m);
+    ulong xs[8], sum = 0;
+    for (int k = 0; k < 8; k++)
+        xs[k] = x ^ (ulong) k;
+    for (; n > 0; n--)
+        for (int k = 0; k < 8; k++)
+            xs[k] = n_mulmod2_preinv(xs[k], y, m, inverse);
+    for (int k = 0; k < 8; k++)
+        sum ^= xs[k];
+    return sum;
+}
+
+ulong peer_powm(ulong x, ulong y, ulong m, ulong n)
+{
+    ulong inverse = n_preinvert_limb(m);
+    for (; n > 0; n--)
+        x = n_powmod2_preinv(x, (slong) y, m, inverse);
+    return x;
+}
+
+ulong peer_invm(ulong x, ulong y, ulong m, ulong n)
+{
+    for (; n > 0; n--)
+        x = (n_invmod(x, m) >> 1) + (y >> 1);
+    return x;
+}
+
+ulong peer_jacobi(ulong x, ulong y, ulong m, ulong n)
+{
+    unsigned unused = unused_bits(m);
+    for (; n > 0; n--)
+        x = (y * x + number(n_jacobi_unsigned(x, m))) >> unused;
+    return x;
+}
+
+ulong peer_powm_list(ulong x, ulong y, ulong m, ulong n)
+{
+    ulong inverse = n_preinvert_limb(m), sum = 0;
+    unsigned unused = unused_bits(m);
+    for (; n > 0; n--, x = y * x + 1)
+        sum ^= n_powmod2_preinv(x >> unused, (slong) (y >> unused), m, inverse);
+    return sum;
+}
+
+ulong peer_invm_list(ulong x, ulong y, ulong m, ulong n)
+{
+    ulong sum = 0;
+    unsigned unused = unused_bits(m);
+    for (; n > 0; n--, x = y * x + 1)
+        sum ^= n_invmod(x >> unused, m);
+    return sum;
+}
+
+ulong peer_jacobi_list(ulong x, ulong y, ulong m, ulong n)
+{
+    ulong sum = 0;
+    unsigned unused = unused_bits(m);
+    for (; n > 0; n--, x = y * x + 1)
+        sum ^= number(n_jacobi_unsigned(x >> unused, m));
+    return sum;
+}
