@@ -1,12 +1,21 @@
-use Rattle.std.proofs.Common.{◌≡◌, ◌+◌, ◌-◌, ◌<◌, ◌≤◌, length, get_or, subst, sym, ◌∙◌, ap, arith, refl}
+use Rattle.std.proofs.Common.{◌≡◌, ◌+◌, ◌*◌, ◌-◌, ◌%◌, ◌^◌, ◌<◌, ◌≤◌, length, get_or, subst, sym, ◌∙◌, ap, arith, refl}
+use Rattle.std.specs.Int.Count.{count_trailing_zeros}
 use Rattle.std.proofs.lemmas.List.Edits.{swapped_from_swap}
 use Rattle.std.proofs.lemmas.Nat.{pow_pos}
 use Rattle.std.specs.List.{swap}
 use Rattle.modular_transform.specs.Orders.{bits_reversed}
-use Rattle.modular_transform.proofs.BitReversal.{bits_reversed_below, bits_reversed_of_zero, reversed_step}
+use Rattle.modular_transform.proofs.BitReversal.{ReversedStep, bits_reversed_below, bits_reversed_of_zero, reversed_step}
 use Rattle.modular_transform.proofs.Reordering.{ReorderedSoFar, bits_exchange, reordered_none, reordered_swapped, reordered_passed, reordered_all}
 use Rattle.modular_transform.proofs.order.reverse_places.Goals as goal
-use Rattle.modular_transform.proofs.order.reverse_places.Goals.{then-place-other, else-place-other}
+use Rattle.modular_transform.proofs.order.reverse_places.Goals.{In-places, then-place-other, else-place-other}
+
+-- how the reversed place goes from one place to the next
+step_taken : (g : _) (c : In-places g)
+    → ReversedStep c.args.bits c.places.place (length c.args.entries.now) c.places.other
+      ((1 * 2 ^ (c.args.bits - 1 - count_trailing_zeros 64 c.places.place)) % 18446744073709551616)
+step_taken g c =
+    reversed_step c.args.bits c.places.place (length c.args.entries.now) c.places.other _ c.requires.whole
+    (omega arith) (omega arith) (omega arith) c.places.invariant.other refl
 
 pub places-init : goal.places-init
 places-init g c =
@@ -21,69 +30,39 @@ places-init g c =
 
 pub overflow_sub-step-in-places : goal.overflow_sub-step-in-places
 overflow_sub-step-in-places g c =
-    let step = reversed_step c.args.bits c.places.place (length c.args.entries.now) c.places.other _ c.requires.whole (omega arith) (omega arith) (omega arith) c.places.invariant.other refl in
-    let zeros = step.zeros in
-    let twice = step.twice in
-    let small = step.small in
-    let below = step.below in
-    let enough = step.enough in
-    let next = step.next in
-    omega (arith, zeros, twice, small, below, enough, next)
+    let step = step_taken g (goal.at.overflow_sub-step-in-places g c).In-places in
+    omega (arith, step.zeros, step.twice, step.small, step.below, step.enough, step.next)
 
 pub overflow_add-other : goal.overflow_add-other
 overflow_add-other g c =
-    let step = reversed_step c.args.bits c.places.place (length c.args.entries.now) c.places.other _ c.requires.whole (omega arith) (omega arith) (omega arith) c.places.invariant.other refl in
-    let zeros = step.zeros in
-    let twice = step.twice in
-    let small = step.small in
-    let below = step.below in
-    let enough = step.enough in
-    let next = step.next in
-    omega (arith, zeros, twice, small, below, enough, next)
+    let step = step_taken g (goal.at.overflow_add-other g c).In-places in
+    omega (arith, step.zeros, step.twice, step.small, step.below, step.enough, step.next)
 
 pub overflow_mul-other : goal.overflow_mul-other
 overflow_mul-other g c =
-    let step = reversed_step c.args.bits c.places.place (length c.args.entries.now) c.places.other _ c.requires.whole (omega arith) (omega arith) (omega arith) c.places.invariant.other refl in
-    let zeros = step.zeros in
-    let twice = step.twice in
-    let small = step.small in
-    let below = step.below in
-    let enough = step.enough in
-    let next = step.next in
-    omega (arith, zeros, twice, small, below, enough, next)
+    let step = step_taken g (goal.at.overflow_mul-other g c).In-places in
+    omega (arith, step.zeros, step.twice, step.small, step.below, step.enough, step.next)
 
 pub overflow_sub-other : goal.overflow_sub-other
 overflow_sub-other g c =
-    let step = reversed_step c.args.bits c.places.place (length c.args.entries.now) c.places.other _ c.requires.whole (omega arith) (omega arith) (omega arith) c.places.invariant.other refl in
-    let zeros = step.zeros in
-    let twice = step.twice in
-    let small = step.small in
-    let below = step.below in
-    let enough = step.enough in
-    let next = step.next in
-    omega (arith, zeros, twice, small, below, enough, next)
+    let step = step_taken g (goal.at.overflow_sub-other g c).In-places in
+    omega (arith, step.zeros, step.twice, step.small, step.below, step.enough, step.next)
 
 pub overflow_sub-other-in-places : goal.overflow_sub-other-in-places
 overflow_sub-other-in-places g c =
-    let step = reversed_step c.args.bits c.places.place (length c.args.entries.now) c.places.other _ c.requires.whole (omega arith) (omega arith) (omega arith) c.places.invariant.other refl in
-    let zeros = step.zeros in
-    let twice = step.twice in
-    let small = step.small in
-    let below = step.below in
-    let enough = step.enough in
-    let next = step.next in
-    omega (arith, zeros, twice, small, below, enough, next)
+    let step = step_taken g (goal.at.overflow_sub-other-in-places g c).In-places in
+    omega (arith, step.zeros, step.twice, step.small, step.below, step.enough, step.next)
 
 pub swap-requires-clause-b_in_bounds : goal.swap-requires-clause-b_in_bounds
 swap-requires-clause-b_in_bounds g c =
-    let step = reversed_step c.args.bits c.places.place (length c.args.entries.now) c.places.other _ c.requires.whole (omega arith) (omega arith) (omega arith) c.places.invariant.other refl in
+    let step = step_taken g (goal.at.swap-requires-clause-b_in_bounds g c).In-places in
     let next = step.next in
     let b = bits_reversed_below c.args.bits c.places.place in
     omega (arith, next, b)
 
 pub places-preserved : goal.places-preserved
 places-preserved g c =
-    let step = reversed_step c.args.bits c.places.place (length c.args.entries.now) c.places.other _ c.requires.whole (omega arith) (omega arith) (omega arith) c.places.invariant.other refl in
+    let step = step_taken g (goal.at.places-preserved g c).In-places in
     let n = length c.args.entries.now in
     let i = c.places.place in
     let s = bits_reversed c.args.bits in
