@@ -3,6 +3,7 @@
 ghost use Rattle.std.specs.Prelude.{◌↔◌, IsTrue, All};
 ghost use Rattle.modular_reduced.specs.Forms.{IsForm};
 
+use super::remainders::are_same;
 use modular_reduced::reducer::Reducer;
 use modular_reduced::vanilla::Vanilla;
 use modular_transform::convolution::convolve;
@@ -34,16 +35,6 @@ fn convolved<T: RingWord, R: Reducer<T>>(r: &R, xs: &mut [T], ys: &mut [T], g: T
         return None;
     }
     Some(convolve(r, xs, ys, &g))
-}
-
-/// Whether two lists are the same.
-pub fn are_same<T: RingWord>(xs: &[T], ys: &[T]) -> bool {
-    for i in 0..xs.len() {
-        if i >= ys.len() || xs[i] != ys[i] {
-            return false;
-        }
-    }
-    xs.len() == ys.len()
 }
 
 // Whether a transform takes so many products, and leaves this.

@@ -2,7 +2,6 @@
 
 ghost use Rattle.std.specs.Prelude.{◌*◌, ◌<◌, ◌↔◌, IsTrue, All};
 
-use super::plain_sums::are_same;
 use modular_plan::modulus::{Factor, PlannedModulus};
 use modular_plan::plan::plan;
 use modular_plan::split::{split, splits};
@@ -11,12 +10,23 @@ use modular_reduced::reducer::Reducer;
 use modular_reduced::vanilla::Vanilla;
 use modular_transform::transform::root_fits;
 use modular_word::path_word::PathWord;
+use modular_word::ring_word::RingWord;
 
 // Whether each entry is below 4m.
 pub fn all_in_room<T: PlainWord>(m: &PlannedModulus<T>, xs: &[T]) -> bool
     ensures { IsTrue result ↔ All (λ x. T.number x < 4 * T.number m.now.modulus) xs.now }
 {
     xs.iter().all(|x| m.has_room(*x))
+}
+
+// Whether two lists are the same.
+pub fn are_same<T: RingWord>(xs: &[T], ys: &[T]) -> bool {
+    for i in 0..xs.len() {
+        if i >= ys.len() || xs[i] != ys[i] {
+            return false;
+        }
+    }
+    xs.len() == ys.len()
 }
 
 // Whether block b splits by the plan by g into these remainders; the table is for n entries, n being

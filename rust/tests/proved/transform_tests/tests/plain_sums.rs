@@ -1,5 +1,6 @@
 //! The known transforms and products over the plain reducer, and the plain programs beside them.
 
+use super::remainders::are_same;
 use num_modular::modular_reduced::reducer::Reducer;
 use num_modular::modular_reduced::vanilla::Vanilla;
 use num_modular::modular_transform::convolution::convolve;
@@ -29,16 +30,6 @@ fn convolved<T: RingWord, R: Reducer<T>>(r: &R, xs: &mut [T], ys: &mut [T], g: T
         return None;
     }
     Some(convolve(r, xs, ys, &g))
-}
-
-/// Whether two lists are the same.
-pub fn are_same<T: RingWord>(xs: &[T], ys: &[T]) -> bool {
-    for i in 0..xs.len() {
-        if i >= ys.len() || xs[i] != ys[i] {
-            return false;
-        }
-    }
-    xs.len() == ys.len()
 }
 
 // Whether a transform takes so many products, and leaves this.

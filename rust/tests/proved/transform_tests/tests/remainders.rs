@@ -1,6 +1,5 @@
 //! Known lists of remainders, by plans.
 
-use super::plain_sums::are_same;
 use crate::modular_plan::modulus::{Factor, PlannedModulus};
 use crate::modular_plan::plan::plan;
 use crate::modular_plan::split::{split, splits};
@@ -9,10 +8,21 @@ use num_modular::modular_reduced::reducer::Reducer;
 use num_modular::modular_reduced::vanilla::Vanilla;
 use num_modular::modular_transform::transform::root_fits;
 use num_modular::modular_word::path_word::PathWord;
+use num_modular::modular_word::ring_word::RingWord;
 
 // Whether each entry is below 4m.
-fn all_in_room<T: PlainWord>(m: &PlannedModulus<T>, xs: &[T]) -> bool {
+pub fn all_in_room<T: PlainWord>(m: &PlannedModulus<T>, xs: &[T]) -> bool {
     xs.iter().all(|x| m.has_room(*x))
+}
+
+// Whether two lists are the same.
+pub fn are_same<T: RingWord>(xs: &[T], ys: &[T]) -> bool {
+    for i in 0..xs.len() {
+        if i >= ys.len() || xs[i] != ys[i] {
+            return false;
+        }
+    }
+    xs.len() == ys.len()
 }
 
 // Whether block b splits by the plan by g into these remainders; the table is for n entries, n being
