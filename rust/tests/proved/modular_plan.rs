@@ -2,4 +2,6 @@
 
 pub mod modulus;
 pub mod plan;
+pub mod roots;
 pub mod split;
+pub mod transform;

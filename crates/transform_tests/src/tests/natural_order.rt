@@ -2,8 +2,7 @@
 
 ghost use Rattle.std.specs.Prelude.{◌*◌, ◌<◌, ◌↔◌, IsTrue, All};
 
-use super::plain_sums::are_same;
-use super::remainders::all_in_room;
+use super::remainders::{all_in_room, are_same};
 use modular_plan::modulus::{Factor, PlannedModulus};
 use modular_plan::plan::plan;
 use modular_plan::transform::ntt_planned;

@@ -5,5 +5,6 @@ mod each_client;
 mod examples;
 mod hashes;
 mod long_products;
+mod loops;
 mod paths;
 mod residues;

@@ -1,0 +1,38 @@
+//! Roots that suit transforms, found by powers of small numbers.
+
+use num_modular::modular_reduced::reducer::Reducer;
+use num_modular::modular_transform::transform::root_fits;
+use num_modular::modular_word::ring_word::RingWord;
+
+// (m - 1) / n, rounded down. Condition: n is a power of two.
+fn exponent<T: RingWord, R: Reducer<T>>(r: &R, n: usize) -> T {
+    let mut rest = r.residue(r.neg(r.transform(T::one())));
+    'halvings: for _done in 0..n.trailing_zeros() {
+        rest = rest.half();
+    }
+    rest
+}
+
+/// The form of a root that suits transforms of n entries: x to the power (m - 1) / n, rounded down, for
+/// the least x from 2 to 255 for which that suits. `None` exactly where none of these x gives one, as
+/// where n is no power of two.
+///
+/// For a prime m and an n above 1 that divides m - 1 these are the x that aren't squares modulo m.
+///
+/// Source: Pollard, "The fast Fourier transform in a finite field", section 3.
+pub fn find_root<T: RingWord, R: Reducer<T>>(r: &R, n: usize) -> Option<T> {
+    if !n.is_power_of_two() {
+        return None;
+    }
+    let exponent = exponent::<T, R>(r, n);
+    let one = r.transform(T::one());
+    let mut base = one;
+    'bases: for _x in 2u32..256 {
+        base = r.add(&base, &one);
+        let g = r.pow(base, &exponent);
+        if root_fits(r, &g, n) {
+            return Some(g);
+        }
+    }
+    None
+}

@@ -1,0 +1,20 @@
+//! The transform by a plan, in natural order.
+
+use crate::modular_plan::modulus::{Factor, PlannedModulus};
+use crate::modular_plan::split::split;
+use num_modular::modular_prim::plain_word::PlainWord;
+use num_modular::modular_transform::order::reverse_places;
+
+/// The transform of n entries in place, in natural order: entry j becomes the sum over i of
+/// x_i·h^(i·j) modulo m, h being the root that the plan is for, or that power of it that suits n
+/// entries where the plan is for more.
+///
+/// Conditions: the entries are below 4m; n is a power of two, and at most twice as many as the table's
+/// factors; these are factors modulo m. Values are below m.
+///
+/// Source: `split`, and the places with their bits in the opposite order.
+pub fn ntt_planned<T: PlainWord>(m: &PlannedModulus<T>, xs: &mut [T], table: &[Factor<T>]) {
+    split(m, xs, table, 0, 1);
+    let bits = xs.len().trailing_zeros();
+    reverse_places(xs, bits);
+}

@@ -1,0 +1,51 @@
+//! Roots that are found.
+
+use crate::modular_plan::roots::find_root;
+use num_modular::modular_prim::plain_word::PlainWord;
+use num_modular::modular_reduced::reducer::Reducer;
+use num_modular::modular_reduced::vanilla::Vanilla;
+use num_modular::modular_transform::transform::root_fits;
+use num_modular::modular_word::ring_word::RingWord;
+
+// The residue of the root that is found modulo m for n entries, where it suits.
+fn found<T: PlainWord>(m: T, n: usize) -> Option<T> {
+    if m.is_zero_word() {
+        return None;
+    }
+    let r = Vanilla::new(&m);
+    let g = find_root(&r, n)?;
+    if root_fits(&r, &g, n) {
+        Some(r.residue(g))
+    } else {
+        None
+    }
+}
+
+#[test]
+fn roots_of_known_primes() {
+    assert!(found(18446744069414584321_u64, 1 << 32) == Some(1753635133440165772));
+    assert!(found(8380417_u32, 512) == Some(6757063));
+    assert!(found(3329_u16, 256) == Some(3061));
+    assert!(found(4611685941117976577_u64, 1 << 32) == Some(69433692538710738));
+    assert!(found(4611685692009873409_u64, 1 << 32) == Some(3385523647569167919));
+    assert!(found(4611685606110527489_usize, 1 << 32) == Some(3318345213167893729));
+    assert!(found(17_u8, 16) == Some(3));
+    assert!(found(251_u8, 2) == Some(250));
+}
+
+#[test]
+fn roots_of_other_moduli() {
+    assert!(found(1_u8, 1) == Some(0));
+    assert!(found(1_u64, 2) == Some(0));
+    assert!(found(15_u8, 2) == Some(14));
+    assert!(found(20_u32, 2) == Some(19));
+    assert!(found(85_u16, 4) == Some(13));
+}
+
+#[test]
+fn no_roots() {
+    assert!(found(7_u8, 4) == None);
+    assert!(found(13_u32, 3) == None);
+    assert!(found(17_u64, 32) == None);
+    assert!(found(17_u64, 0) == None);
+}
