@@ -3,8 +3,10 @@
 use clients::fermat_tests::is_shown_composite;
 use clients::generators::jump;
 use clients::keys::{keys, known_word};
+use clients::polynomials::product_of;
 use clients::square_roots::square_root;
 use num_modular::prim::is_prime_by_search;
+use num_modular::ring::root_fits;
 use num_modular::{Montgomery, Reducer};
 
 #[test]
@@ -95,4 +97,26 @@ fn jumps(rt: HostRuntime) {
             "{m} {n}"
         );
     }
+}
+
+// The product by the powers of 372528824, modulo 998244353; `None` where a coefficient is above 1000.
+fn product_of_four_and_five(xs: &[u64; 4], ys: &[u64; 5]) -> Option<[u64; 8]> {
+    let r = Montgomery::<u64>::new(998244353);
+    let g = r.transform(372528824);
+    let mut product = [0; 8];
+    if root_fits(&r, &g, 8) && xs.iter().all(|x| *x <= 1000) && ys.iter().all(|y| *y <= 1000) {
+        let (mut left, mut right) = ([0; 8], [0; 8]);
+        if product_of(&r, g, xs, ys, &mut product, &mut left, &mut right, 1000) {
+            return Some(product);
+        }
+    }
+    None
+}
+
+#[test]
+fn products_of_polynomials(rt: HostRuntime) {
+    let found = product_of_four_and_five(&[1, 2, 3, 0], &[4, 5, 6, 7, 0]);
+    assert!(rt; found == Some([4, 13, 28, 34, 32, 21, 0, 0]));
+    let found = product_of_four_and_five(&[999, 0, 1000, 1], &[1000, 1000, 1, 2, 3]);
+    assert!(rt; found == Some([999000, 999000, 1000999, 1002998, 4997, 2001, 3002, 3]));
 }

@@ -1,0 +1,46 @@
+//! The inverses of a whole list by one inversion.
+
+ghost use Rattle.std.specs.Prelude.{◌≡◌, ℕ, ◌<◌, ◌↔◌, IsTrue, All, length};
+ghost use Rattle.num_modular.specs.Entries.{entry};
+ghost use Rattle.num_modular.specs.Forms.{IsForm};
+ghost use Rattle.num_modular.specs.Inverses.{HasInverse, IsInverse};
+
+use num_modular::laws::{inverse_laws, inverse_product_laws, product_below_laws};
+use num_modular::{Reducer, RingWord};
+
+/// Puts the inverse of each form in its place, and anything into the scratch list; false, with the forms
+/// unchanged, exactly where one has no inverse modulo m. Conditions: the forms are checked, and the
+/// scratch list is as long.
+///
+/// One inverse is computed, that of the product, and three products a form (Montgomery, "Speeding the
+/// Pollard and elliptic curve methods of factorization", section 10.3.1).
+#[tactic(auto, using(num_modular::specs::Remainders::remainders))]
+pub fn invert_each<T: RingWord, R: Reducer<T>>(r: &R, forms: &mut [T], products: &mut [T]) -> bool
+    requires checked { All (λ f. IsForm R.form R.value (R.modulus r.now) (T.number f)) forms.old }
+    requires equal { length products.old ≡ length forms.old }
+    ensures each { let m = R.modulus r.now in
+        IsTrue result ↔ ((i : ℕ) → i < length forms.old → HasInverse m (entry T.number R.value m forms.old i)) }
+    ensures inverses { let m = R.modulus r.now in IsTrue result → (i : ℕ) → i < length forms.old →
+        IsInverse m (entry T.number R.value m forms.old i) (entry T.number R.value m forms.new i) }
+    ensures checked { All (λ f. IsForm R.form R.value (R.modulus r.now) (T.number f)) forms.new }
+    ensures unchanged { (IsTrue result → ⊥) → forms.new ≡ forms.old }
+{
+    inverse_laws();
+    inverse_product_laws();
+    product_below_laws();
+    let mut product = r.transform(T::one());
+    'forward: for i in 0..forms.len() {
+        products[i] = product;
+        product = r.mul(&product, &forms[i]);
+    }
+    let Some(mut inverse) = r.inv(product) else {
+        return false;
+    };
+    'backward: for k in 0..forms.len() {
+        let i = forms.len() - 1 - k;
+        let form = forms[i];
+        forms[i] = r.mul(&inverse, &products[i]);
+        inverse = r.mul(&inverse, &form);
+    }
+    true
+}
