@@ -1,12 +1,15 @@
 //! Rows of the clients with powers and loops; the values were computed with Python.
 
+ghost use Rattle.std.specs.Prelude.{◌≤◌};
+
 use clients::fermat_tests::is_shown_composite;
 use clients::generators::jump;
 use clients::keys::{keys, known_word};
+use clients::list_inverses::invert_each;
 use clients::polynomials::product_of;
 use clients::square_roots::square_root;
 use num_modular::prim::is_prime_by_search;
-use num_modular::ring::root_fits;
+use num_modular::ring::{load_forms, root_fits, unload_forms};
 use num_modular::{Montgomery, Reducer};
 
 #[test]
@@ -97,6 +100,27 @@ fn jumps(rt: HostRuntime) {
             "{m} {n}"
         );
     }
+}
+
+fn inverses(words: [u64; 4], m: u64) -> ([u64; 4], bool)
+    requires { 1 ≤ m }
+{
+    let r = Montgomery::<u64>::new(m);
+    let mut forms = [0; 4];
+    let mut products = [0; 4];
+    let mut inverses = [0; 4];
+    load_forms(&r, &words, &mut forms);
+    let found = invert_each(&r, &mut forms, &mut products);
+    unload_forms(&r, &forms, &mut inverses);
+    (inverses, found)
+}
+
+#[test]
+fn inverses_of_lists(rt: HostRuntime) {
+    assert!(rt; inverses([1, 2, 3, 96], 97) == ([1, 49, 65, 96], true));
+    assert!(rt; inverses([2, 4, 5, 20], 21) == ([11, 16, 17, 20], true));
+    assert!(rt; inverses([2, 4, 6, 20], 21) == ([2, 4, 6, 20], false));
+    assert!(rt; inverses([1, 2, 3, 4], 1) == ([0; 4], true));
 }
 
 // The product by the powers of 372528824, modulo 998244353; `None` where a coefficient is above 1000.
