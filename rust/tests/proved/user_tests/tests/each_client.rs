@@ -9,6 +9,7 @@ use crate::clients::each_reducer::{
 use crate::clients::hashes::hash;
 use crate::clients::inner_products::inner_product_of_four;
 use crate::clients::operations::{product_and_sum, square};
+use crate::clients::quotients::{by_inverse, by_operator, ten_by_five};
 use crate::clients::remainders::from_remainders;
 use crate::clients::squares::is_quadratic_residue;
 use num_modular::prim::is_prime_by_search;
@@ -179,4 +180,14 @@ fn quadratic_residues() {
     for &(a, want) in RESIDUES {
         assert!(residue_of_a_prime(a, 11) == Some(want), "{a}");
     }
+}
+
+#[test]
+fn quotients() {
+    assert!(ten_by_five() == 2);
+    assert!(by_inverse(10, 5, 21) == Some(2) && by_operator(10, 5, 21) == Some(2));
+    assert!(by_inverse(10, 7, 21) == None && by_operator(10, 7, 21) == None);
+    assert!(by_inverse(1, 2, u64::MAX - 1) == None);
+    assert!(by_operator(1, 2, u64::MAX) == Some(1 << 63));
+    assert!(by_inverse(5, 0, 1) == Some(0));
 }

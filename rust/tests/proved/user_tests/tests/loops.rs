@@ -3,8 +3,11 @@
 use crate::clients::fermat_tests::is_shown_composite;
 use crate::clients::generators::jump;
 use crate::clients::keys::{keys, known_word};
+use crate::clients::list_inverses::invert_each;
+use crate::clients::polynomials::product_of;
 use crate::clients::square_roots::square_root;
 use num_modular::prim::is_prime_by_search;
+use num_modular::ring::{load_forms, root_fits, unload_forms};
 use num_modular::{Montgomery, Reducer};
 
 #[test]
@@ -95,4 +98,45 @@ fn jumps() {
             "{m} {n}"
         );
     }
+}
+
+fn inverses(words: [u64; 4], m: u64) -> ([u64; 4], bool) {
+    let r = Montgomery::<u64>::new(m);
+    let mut forms = [0; 4];
+    let mut products = [0; 4];
+    let mut inverses = [0; 4];
+    load_forms(&r, &words, &mut forms);
+    let found = invert_each(&r, &mut forms, &mut products);
+    unload_forms(&r, &forms, &mut inverses);
+    (inverses, found)
+}
+
+#[test]
+fn inverses_of_lists() {
+    assert!(inverses([1, 2, 3, 96], 97) == ([1, 49, 65, 96], true));
+    assert!(inverses([2, 4, 5, 20], 21) == ([11, 16, 17, 20], true));
+    assert!(inverses([2, 4, 6, 20], 21) == ([2, 4, 6, 20], false));
+    assert!(inverses([1, 2, 3, 4], 1) == ([0; 4], true));
+}
+
+// The product by the powers of 372528824, modulo 998244353; `None` where a coefficient is above 1000.
+fn product_of_four_and_five(xs: &[u64; 4], ys: &[u64; 5]) -> Option<[u64; 8]> {
+    let r = Montgomery::<u64>::new(998244353);
+    let g = r.transform(372528824);
+    let mut product = [0; 8];
+    if root_fits(&r, &g, 8) && xs.iter().all(|x| *x <= 1000) && ys.iter().all(|y| *y <= 1000) {
+        let (mut left, mut right) = ([0; 8], [0; 8]);
+        if product_of(&r, g, xs, ys, &mut product, &mut left, &mut right, 1000) {
+            return Some(product);
+        }
+    }
+    None
+}
+
+#[test]
+fn products_of_polynomials() {
+    let found = product_of_four_and_five(&[1, 2, 3, 0], &[4, 5, 6, 7, 0]);
+    assert!(found == Some([4, 13, 28, 34, 32, 21, 0, 0]));
+    let found = product_of_four_and_five(&[999, 0, 1000, 1], &[1000, 1000, 1, 2, 3]);
+    assert!(found == Some([999000, 999000, 1000999, 1002998, 4997, 2001, 3002, 3]));
 }

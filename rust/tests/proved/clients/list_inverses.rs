@@ -1,0 +1,31 @@
+//! The inverses of a whole list by one inversion.
+
+use num_modular::laws::{inverse_laws, inverse_product_laws, product_below_laws};
+use num_modular::{Reducer, RingWord};
+
+/// Puts the inverse of each form in its place, and anything into the scratch list; false, with the forms
+/// unchanged, exactly where one has no inverse modulo m. Conditions: the forms are checked, and the
+/// scratch list is as long.
+///
+/// One inverse is computed, that of the product, and three products a form (Montgomery, "Speeding the
+/// Pollard and elliptic curve methods of factorization", section 10.3.1).
+pub fn invert_each<T: RingWord, R: Reducer<T>>(r: &R, forms: &mut [T], products: &mut [T]) -> bool {
+    inverse_laws();
+    inverse_product_laws();
+    product_below_laws();
+    let mut product = r.transform(T::one());
+    'forward: for i in 0..forms.len() {
+        products[i] = product;
+        product = r.mul(&product, &forms[i]);
+    }
+    let Some(mut inverse) = r.inv(product) else {
+        return false;
+    };
+    'backward: for k in 0..forms.len() {
+        let i = forms.len() - 1 - k;
+        let form = forms[i];
+        forms[i] = r.mul(&inverse, &products[i]);
+        inverse = r.mul(&inverse, &form);
+    }
+    true
+}

@@ -1,0 +1,31 @@
+//! Products of polynomials with whole numbers as coefficients.
+
+use num_modular::Reducer;
+use num_modular::laws::coefficient_laws;
+use num_modular::ring::{convolve, load_forms, unload_forms};
+
+/// Puts the coefficients of the product of the polynomials xs and ys in `product`, the lowest first, and
+/// anything in the scratch lists; false, with `product` unchanged, exactly where the length n of the scratch
+/// lists has no inverse modulo m.
+///
+/// Conditions: no coefficient is above `bound`, and m is above n·bound^2; n is at least the number of
+/// coefficients of the product; and g is the checked form of a root that suits n.
+pub fn product_of<R: Reducer<u64>>(
+    r: &R,
+    g: u64,
+    xs: &[u64],
+    ys: &[u64],
+    product: &mut [u64],
+    left: &mut [u64],
+    right: &mut [u64],
+    bound: u64,
+) -> bool {
+    coefficient_laws();
+    load_forms(r, xs, left);
+    load_forms(r, ys, right);
+    if !convolve(r, left, right, &g) {
+        return false;
+    }
+    unload_forms(r, left, product);
+    true
+}
