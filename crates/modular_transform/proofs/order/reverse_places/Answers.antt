@@ -12,7 +12,7 @@ use Rattle.modular_transform.proofs.order.reverse_places.Goals.{In-places, then-
 -- how the reversed place goes from one place to the next
 step_taken : (g : _) (c : In-places g)
     → ReversedStep c.args.bits c.places.place (length c.args.entries.now) c.places.other
-      ((1 * 2 ^ (c.args.bits - 1 - count_trailing_zeros 64 c.places.place)) % 18446744073709551616)
+    ((1 * 2 ^ (c.args.bits - 1 - count_trailing_zeros 64 c.places.place)) % 18446744073709551616)
 step_taken g c =
     reversed_step c.args.bits c.places.place (length c.args.entries.now) c.places.other _ c.requires.whole
     (omega arith) (omega arith) (omega arith) c.places.invariant.other refl
