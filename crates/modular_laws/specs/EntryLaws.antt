@@ -1,5 +1,5 @@
 -- Laws of entries: what is read, what is written, and what lists that hold values give and take. A caller's lemma files
--- and answers cite them, and `entries` names those that a search may take.
+-- and answers cite them. The words are the library's own.
 use Rattle.std.proofs.Common.{◌≡◌, ◌≢◌, ℕ, ◌+◌, ◌<◌, ◌≤◌, List, [], ◌∷◌, length, map, get_or, All, inl, inr, sym, ◌∙◌, ap, arith, subst, get_or-set_same, get_or-set_other}
 use Rattle.std.proofs.Math.ListN.{set, length-set}
 use Rattle.std.proofs.lemmas.Bool.{cases_eq}
@@ -107,6 +107,7 @@ pub held_forms : {T : Type 0} (number : T → ℕ) (form value : ℕ → ℕ →
     → HoldBelow number form value m forms v n → length forms ≤ n → All (λ f. IsForm form value m (number f)) forms
 held_forms number form value m forms v n held all i d l = (held.each i d (omega (arith, l, all))).checked
 
+-- and the entry there is its value
 pub held_entry : {T : Type 0} (number : T → ℕ) (form value : ℕ → ℕ → ℕ) (m : ℕ) (forms : List T) (v : ℕ → ℕ) (n i : ℕ)
     → HoldBelow number form value m forms v n → i < n → i < length forms → entry number value m forms i ≡ v i
 held_entry number form value m [] v n i held l within = absurd (omega arith)
