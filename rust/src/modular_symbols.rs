@@ -5,6 +5,7 @@ pub mod count;
 pub mod counted;
 pub mod halving;
 pub mod laws;
+pub mod low_part;
 pub mod magnitudes;
 pub mod operands;
 pub mod operations;

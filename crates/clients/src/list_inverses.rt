@@ -5,7 +5,6 @@ ghost use Rattle.num_modular.specs.Entries.{entry};
 ghost use Rattle.num_modular.specs.Forms.{IsForm};
 ghost use Rattle.num_modular.specs.Inverses.{HasInverse, IsInverse};
 
-use num_modular::laws::{inverse_laws, inverse_product_laws, product_below_laws};
 use num_modular::{Reducer, RingWord};
 
 /// Puts the inverse of each form in its place, and anything into the scratch list; false, with the forms
@@ -14,7 +13,7 @@ use num_modular::{Reducer, RingWord};
 ///
 /// One inverse is computed, that of the product, and three products a form (Montgomery, "Speeding the
 /// Pollard and elliptic curve methods of factorization", section 10.3.1).
-#[tactic(auto, using(num_modular::specs::Remainders::remainders))]
+#[tactic(auto, using(num_modular::specs::Remainders::remainders, crate::proofs::Inversions::inversion_steps))]
 pub fn invert_each<T: RingWord, R: Reducer<T>>(r: &R, forms: &mut [T], products: &mut [T]) -> bool
     requires checked { All (λ f. IsForm R.form R.value (R.modulus r.now) (T.number f)) forms.old }
     requires equal { length products.old ≡ length forms.old }
@@ -25,9 +24,6 @@ pub fn invert_each<T: RingWord, R: Reducer<T>>(r: &R, forms: &mut [T], products:
     ensures checked { All (λ f. IsForm R.form R.value (R.modulus r.now) (T.number f)) forms.new }
     ensures unchanged { (IsTrue result → ⊥) → forms.new ≡ forms.old }
 {
-    inverse_laws();
-    inverse_product_laws();
-    product_below_laws();
     let mut product = r.transform(T::one());
     'forward: for i in 0..forms.len() {
         products[i] = product;
@@ -38,9 +34,9 @@ pub fn invert_each<T: RingWord, R: Reducer<T>>(r: &R, forms: &mut [T], products:
     };
     'backward: for k in 0..forms.len() {
         let i = forms.len() - 1 - k;
-        let form = forms[i];
+        let before = r.mul(&inverse, &forms[i]);
         forms[i] = r.mul(&inverse, &products[i]);
-        inverse = r.mul(&inverse, &form);
+        inverse = before;
     }
     true
 }

@@ -1,5 +1,6 @@
 -- Horner's rule: one more coefficient.
-use Rattle.std.proofs.Common.{◌≡◌, ℕ, suc, ◌+◌, ◌*◌, ◌%◌, ◌^◌, ◌<◌, List, [], ◌∷◌, ◌++◌, length, map, take, get_or, arith, ap, sym, ◌∙◌, refl, length-append, add-one}
+use Rattle.std.proofs.Common.{◌≡◌, ℕ, suc, ◌+◌, ◌*◌, ◌%◌, ◌^◌, ◌<◌, List, [], ◌∷◌, ◌++◌, length}
+use Rattle.std.proofs.Common.{map, take, get_or, arith, ap, sym, ◌∙◌, refl, length-append, add-one}
 use Rattle.std.proofs.lemmas.List.{take_more, map-append}
 use Rattle.std.proofs.lemmas.Nat.{mul-mod_first}
 use Rattle.std.proofs.Math.Nat.{pow-zero, pow-succ', mod-add-mod}
@@ -25,7 +26,8 @@ value_more (d ∷ cs) c x =
 
 -- the same modulo m, with each number reduced first
 pub residue_more : (m : ℕ) (cs : List ℕ) (c x value product : ℕ)
-    → value ≡ polynomial_value cs x % m → product ≡ (value * x) % m → (product + c) % m ≡ polynomial_value (cs ++ c ∷ []) x % m
+    → value ≡ polynomial_value cs x % m → product ≡ (value * x) % m
+    → (product + c) % m ≡ polynomial_value (cs ++ c ∷ []) x % m
 residue_more m cs c x value product e f =
     ap (λ k. (k + c) % m) (f ∙ ap (λ k. (k * x) % m) e ∙ mul-mod_first (polynomial_value cs x) x m)
     ∙ mod-add-mod (polynomial_value cs x * x) m c ∙ ap (λ k. k % m) (sym (value_more cs c x))
@@ -37,6 +39,7 @@ mapped_more f xs i item h e =
     ap (map f) (take_more xs i item h ∙ ap (λ y. take i xs ++ y ∷ []) (sym e)) ∙ map-append f (take i xs) (item ∷ [])
 
 -- 2·7^2 + 3·7 + 5 is 19 modulo 21
-pub value_at_7 : (m a b c x : ℕ) → m ≡ 21 → a ≡ 2 % m → b ≡ 3 % m → c ≡ 5 % m → x ≡ 7 % 21 → polynomial_value (a ∷ b ∷ c ∷ []) x % m ≡ 19
+pub value_at_7 : (m a b c x : ℕ) → m ≡ 21 → a ≡ 2 % m → b ≡ 3 % m → c ≡ 5 % m → x ≡ 7 % 21
+    → polynomial_value (a ∷ b ∷ c ∷ []) x % m ≡ 19
 unfolding polynomial_value
 value_at_7 m a b c x em ea eb ec ex = rw (ea, eb, ec, ex, em)

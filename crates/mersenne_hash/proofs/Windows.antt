@@ -1,8 +1,10 @@
 -- Horner's rule, and the values of a window that moves.
-use Rattle.std.proofs.Common.{◌≡◌, ℕ, suc, ◌+◌, ◌-◌, ◌*◌, ◌%◌, ◌/◌, ◌^◌, ◌<◌, List, [], ◌∷◌, ◌++◌, length, take, drop, get_or, arith, ap, sym, ◌∙◌, refl, length-append, length-drop, add-one, slice_range}
+use Rattle.std.proofs.Common.{◌≡◌, ℕ, suc, ◌+◌, ◌-◌, ◌*◌, ◌%◌, ◌/◌, ◌^◌, ◌<◌, List, [], ◌∷◌, ◌++◌, length, take, drop}
+use Rattle.std.proofs.Common.{get_or, arith, ap, sym, ◌∙◌, refl, length-append, length-drop, add-one, slice_range}
 use Rattle.std.proofs.lemmas.List.{take_more, get_or-drop}
 use Rattle.std.proofs.lemmas.Nat.{mul-mod_first}
-use Rattle.std.proofs.Math.Nat.{pow-zero, pow-succ', mod-add-mod, add-mod-mod, mod-mod, div-add-mod, add-mul-mod_self_left, mod-eq_of_lt}
+use Rattle.std.proofs.Math.Nat.{pow-zero, pow-succ', mod-add-mod, add-mod-mod, mod-mod}
+use Rattle.std.proofs.Math.Nat.{div-add-mod, add-mul-mod_self_left, mod-eq_of_lt}
 use Rattle.std.proofs.Math.Seq.{drop-cons}
 use Rattle.mersenne_hash.specs.Hashes.{polynomial_value}
 
@@ -31,7 +33,8 @@ value_first cs c x = refl
 
 -- one step of Horner's rule, modulo m
 pub residue_more : (m : ℕ) (cs : List ℕ) (c x value product : ℕ)
-    → value ≡ polynomial_value cs x % m → product ≡ (value * x) % m → (product + c) % m ≡ polynomial_value (cs ++ c ∷ []) x % m
+    → value ≡ polynomial_value cs x % m → product ≡ (value * x) % m
+    → (product + c) % m ≡ polynomial_value (cs ++ c ∷ []) x % m
 residue_more m cs c x value product e f =
     ap (λ k. (k + c) % m) (f ∙ ap (λ k. (k * x) % m) e ∙ mul-mod_first (polynomial_value cs x) x m)
     ∙ mod-add-mod (polynomial_value cs x * x) m c ∙ ap (λ k. k % m) (sym (value_more cs c x))
@@ -43,7 +46,8 @@ spread m a b e = omega (arith, div-add-mod a m, div-add-mod b m)
 gathered : (m a b j k : ℕ) → a + m * j ≡ b + m * k → a % m ≡ b % m
 gathered m a b j k e = sym (add-mul-mod_self_left a m j) ∙ ap (λ n. n % m) e ∙ add-mul-mod_self_left b m k
 
-less_at : (m r t l v j k a b : ℕ) → r + t + m * j ≡ l + m * k → l + m * a ≡ t + v + m * b → r + m * (j + a) ≡ v + m * (k + b)
+less_at : (m r t l v j k a b : ℕ) → r + t + m * j ≡ l + m * k → l + m * a ≡ t + v + m * b
+    → r + m * (j + a) ≡ v + m * (k + b)
 less_at m r t l v j k a b e f = omega (arith, e, f)
 
 -- r is l less t, and l is t and v
@@ -60,7 +64,8 @@ residue_moved m x c d old new window power longer out value same is power_is lon
     let count : length old ≡ length new = omega (arith, lengths, length-append old (d ∷ [])) in
     let whole = residue_more m old d x window _ is refl in
     let turn : x ^ length new * c ≡ c * x ^ length new = omega arith in
-    let term : out ≡ (c * x ^ length new) % m = out_is ∙ ap (λ k. (k * c) % m) power_is ∙ mul-mod_first (x ^ length old) c m
+    let term : out ≡ (c * x ^ length new) % m =
+    out_is ∙ ap (λ k. (k * c) % m) power_is ∙ mul-mod_first (x ^ length old) c m
     ∙ ap (λ k. (x ^ k * c) % m) count ∙ ap (λ k. k % m) turn in
     let l = polynomial_value (old ++ d ∷ []) x in
     let t = c * x ^ length new in
@@ -68,7 +73,8 @@ residue_moved m x c d old new window power longer out value same is power_is lon
     let whole_is : longer ≡ l % m = longer_is ∙ whole in
     sym (mod-eq_of_lt below)
     ∙ less m value t l v
-    (sym (add-mod-mod value t m) ∙ ap (λ k. (value + k) % m) (sym term) ∙ difference ∙ ap (λ k. k % m) whole_is ∙ mod-mod l m)
+    (sym (add-mod-mod value t m) ∙ ap (λ k. (value + k) % m) (sym term) ∙ difference
+    ∙ ap (λ k. k % m) whole_is ∙ mod-mod l m)
     (ap (λ cs. polynomial_value cs x % m) same ∙ ap (λ k. k % m) (value_first new c x))
 
 -- the window at a position and the byte behind it are the byte there and the next window

@@ -1,4 +1,5 @@
--- Polynomial hashes and searches (Karp and Rabin, "Efficient randomized pattern-matching algorithms", IBM Journal of Research and Development 31, 1987; Carter and Wegman, "Universal classes of hash functions", 1979).
+-- Polynomial hashes and searches (Karp and Rabin, "Efficient randomized pattern-matching algorithms",
+-- IBM Journal of Research and Development 31, 1987; Carter and Wegman, "Universal classes of hash functions", 1979).
 use Rattle.std.specs.Prelude.{◌≡◌, ℕ, ◌+◌, ◌*◌, ◌^◌, ◌<◌, ◌≤◌, List, [], ◌∷◌, length, slice_range, Option, MatchOption}
 
 -- the value at x of the polynomial with these coefficients, the highest first: each coefficient times its power of x

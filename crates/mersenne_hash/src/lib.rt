@@ -1,7 +1,8 @@
 //! A search by polynomial hashes modulo 2^61 - 1: the hash of a window that moves costs two products.
 #![tactic(auto)]
 
-ghost use Rattle.std.specs.Prelude.{◌≡◌, ℕ, ◌+◌, ◌*◌, ◌%◌, ◌^◌, ◌≤◌, ◌↔◌, List, [], ◌∷◌, ◌++◌, IsTrue, length, slice_range, pos, ◌-ℤ◌};
+ghost use Rattle.std.specs.Prelude.{◌≡◌, ℕ, ◌+◌, ◌*◌, ◌%◌, ◌^◌, ◌≤◌, ◌↔◌, List, []};
+ghost use Rattle.std.specs.Prelude.{◌∷◌, ◌++◌, IsTrue, length, slice_range, pos, ◌-ℤ◌};
 ghost use Rattle.num_modular.specs.Integers.{residue_of};
 ghost use Rattle.num_modular.specs.Mersenne.{mersenne};
 ghost use Rattle.num_modular.specs.Residues.{residue};

@@ -35,7 +35,8 @@ digits_counted w x n some e most =
     let positive : 0 < n =
     ⊎_elim
     (λ (l : 0 < n). l)
-    (λ (l : n ≤ 0). let z : x < 2 ^ 0 = subst (λ k. x < 2 ^ k) (let k : n ≡ 0 = omega arith in k) below in absurd (omega arith))
+    (λ (l : n ≤ 0). let z : x < 2 ^ 0 = subst (λ k. x < 2 ^ k) (let k : n ≡ 0 = omega arith in k) below in
+    absurd (omega arith))
     (cases_lt 0 n) in
     record {
       some = positive;
@@ -68,7 +69,8 @@ digits_below_leading w b bits leading x eb eB some below ez =
 
 -- the power of two of the digits is twice that of one digit less
 pub digits_power : {w x n : ℕ} → HasDigits w x n → 2 ^ n ≡ 2 * 2 ^ (n - 1)
-digits_power {w} {x} {n} p = ap (λ k. 2 ^ k) (let e : n ≡ suc (n - 1) = omega (arith, p.some) in e) ∙ pow-succ' 2 (n - 1)
+digits_power {w} {x} {n} p =
+    ap (λ k. 2 ^ k) (let e : n ≡ suc (n - 1) = omega (arith, p.some) in e) ∙ pow-succ' 2 (n - 1)
 
 -- what is stored for d, where less is d - 1 and gap is 2^n - d
 pub record IsPrepared (w b d less n gap : ℕ) : Type 0 where

@@ -1,6 +1,8 @@
 -- What each operation modulo m = k * 2^s makes of forms, k being odd.
-use Rattle.std.proofs.Common.{◌≡◌, ℕ, ◌+◌, ◌-◌, ◌*◌, ◌/◌, ◌%◌, ◌^◌, ◌<◌, ◌↔◌, sym, ap, ap₂, ◌∙◌, arith, refl, pos, ◌-ℤ◌, neg_ℤ, subst}
-use Rattle.std.proofs.Math.Nat.{mod-lt, mod-mod, mod-eq_of_lt, add-mod_right, add-mul-mod_self_left, div-add-mod, div-one, mod-one}
+use Rattle.std.proofs.Common.{◌≡◌, ℕ, ◌+◌, ◌-◌, ◌*◌, ◌/◌, ◌%◌, ◌^◌, ◌<◌, ◌↔◌, sym}
+use Rattle.std.proofs.Common.{ap, ap₂, ◌∙◌, arith, refl, pos, ◌-ℤ◌, neg_ℤ, subst}
+use Rattle.std.proofs.Math.Nat.{mod-lt, mod-mod, mod-eq_of_lt, add-mod_right}
+use Rattle.std.proofs.Math.Nat.{add-mul-mod_self_left, div-add-mod, div-one, mod-one}
 use Rattle.std.proofs.lemmas.Nat.{pow_pos, div_below, div-mul-add, mod-mul-add, mul-add-lt}
 use Rattle.std.proofs.lemmas.Int.{ints}
 use Rattle.modular_word.specs.Residues.{residue}
@@ -92,7 +94,8 @@ module _ {w b m s k i square : ℕ} (r : IsSplitRing w b m s k i square) where
   low_word x {t} e = within r t x (odd.same_residue x b e)
 
   -- an operation that keeps congruence, as the sum and the product, on two forms
-  pub operation_made : (op : ℕ → ℕ → ℕ) → ((n a c d e : ℕ) → a % n ≡ c % n → d % n ≡ e % n → op a d % n ≡ op c e % n) → {f g y z u t h : ℕ}
+  pub operation_made : (op : ℕ → ℕ → ℕ) → ((n a c d e : ℕ) → a % n ≡ c % n → d % n ≡ e % n → op a d % n ≡ op c e % n)
+      → {f g y z u t h : ℕ}
       → Checked w m f → Checked w m g → y ≡ f / 2 ^ s → z ≡ g / 2 ^ s
       → odd.Stands w k u (op (montgomery_value w k y) (montgomery_value w k z) % k)
       → t ≡ op f g % b → h ≡ u * 2 ^ s + t % 2 ^ s → Made w m h (op (split_value w m f) (split_value w m g) % m)
@@ -122,7 +125,8 @@ module _ {w b m s k i square : ℕ} (r : IsSplitRing w b m s k i square) where
       let high_sum : (c + x) % k ≡ (d + x) % k =
       same_sum k c c x vz refl (sym (odd.same_residue x k (high_value isg ez)))
       ∙ difference_and k vy vz some ∙ odd.same_residue v k (high_value isf ey) ∙ sym back.0 in
-      let high : c ≡ d % k = sym (mod-eq_of_lt (odd.difference_below k vy vz some)) ∙ same_without k c d x some high_sum in
+      let high : c ≡ d % k =
+      sym (mod-eq_of_lt (odd.difference_below k vy vz some)) ∙ same_without k c d x some high_sum in
       let low_sum : (t + x) % 2 ^ s ≡ (d + x) % 2 ^ s =
       same_sum (2 ^ s) t t x g refl (sym (parts isg).low) ∙ et ∙ (parts isf).low ∙ sym back.1 in
       subst (Made w m h) (mod-eq_of_lt less) (made d t eu high (same_without (2 ^ s) t d x (pow_pos s) low_sum) eh)
@@ -130,11 +134,13 @@ module _ {w b m s k i square : ℕ} (r : IsSplitRing w b m s k i square) where
   -- a number below the odd part, and fewer than 2^s times the odd part, are below the modulus
   pub turns_below : (x : ℕ) {u steps : ℕ} → u < k → steps ≡ x % 2 ^ s → u + k * steps < m
   turns_below x {u} {steps} h few =
-      let below : steps * k + u < k * 2 ^ s = mul-add-lt steps k u (2 ^ s) (omega (arith, few, mod-lt x (pow_pos s))) h in
+      let below : steps * k + u < k * 2 ^ s =
+      mul-add-lt steps k u (2 ^ s) (omega (arith, few, mod-lt x (pow_pos s))) h in
       omega (arith, r.whole)
 
   -- the value of a form, u being its value modulo the odd part
-  pub value_made : (d : ℕ) {f y u steps v : ℕ} → y ≡ f / 2 ^ s → odd.Stands w k y u → (d + f) % b ≡ u → steps ≡ (d * i) % 2 ^ s
+  pub value_made : (d : ℕ) {f y u steps v : ℕ} → y ≡ f / 2 ^ s → odd.Stands w k y u
+      → (d + f) % b ≡ u → steps ≡ (d * i) % 2 ^ s
       → v ≡ u + k * steps → ValueAnswered (split_form w) (split_value w) m f v
   value_made d {f} {y} {u} {steps} {v} ey of ed es ev =
       let q = 2 ^ s in
@@ -167,7 +173,8 @@ module _ {w b m s k i square : ℕ} (r : IsSplitRing w b m s k i square) where
       let ed : (d + f) % b ≡ u =
       ap (λ n. n % b) (let e : d + f ≡ u + b = omega (arith, r.fits) in e) ∙ add-mod_right u b
       ∙ mod-eq_of_lt (let l : u < b = omega (arith, of.below, r.odd.fits) in l) in
-      form_of_value (split_canonical r) (value_made d refl (record { below = of.below; same = of.same }) ed refl refl).form
+      form_of_value (split_canonical r)
+      (value_made d refl (record { below = of.below; same = of.same }) ed refl refl).form
 
   -- 0 is the form of 0
   zero_value : split_value w m 0 ≡ 0
@@ -183,17 +190,21 @@ module _ {w b m s k i square : ℕ} (r : IsSplitRing w b m s k i square) where
   )
 
   -- the sum of a form and itself is the form of the double
-  pub double_made : (f : ℕ) {h : ℕ} → Made w m h ((split_value w m f + split_value w m f) % m) → Made w m h ((2 * split_value w m f) % m)
+  pub double_made : (f : ℕ) {h : ℕ} → Made w m h ((split_value w m f + split_value w m f) % m)
+      → Made w m h ((2 * split_value w m f) % m)
   double_made f {h} =
-      let twice : split_value w m f + split_value w m f ≡ 2 * split_value w m f = omega arith in subst (λ n. Made w m h (n % m)) twice
+      let twice : split_value w m f + split_value w m f ≡ 2 * split_value w m f = omega arith in
+      subst (λ n. Made w m h (n % m)) twice
 
   -- the difference of 0 and a form is the form of the negative
-  pub negative_made : (f : ℕ) {z h : ℕ} → z ≡ 0 → Made w m h (residue m (pos (split_value w m z) -ℤ pos (split_value w m f)))
+  pub negative_made : (f : ℕ) {z h : ℕ} → z ≡ 0
+      → Made w m h (residue m (pos (split_value w m z) -ℤ pos (split_value w m f)))
       → Made w m h (residue m (neg_ℤ (pos (split_value w m f))))
   negative_made f {z} {h} e =
       let v = split_value w m f in
       let minus : pos 0 -ℤ pos v ≡ neg_ℤ (pos v) = omega (arith, ints) in
-      subst (Made w m h) (ap (λ n. residue m (pos n -ℤ pos v)) (ap (split_value w m) e ∙ zero_value) ∙ ap (residue m) minus)
+      subst (Made w m h)
+      (ap (λ n. residue m (pos n -ℤ pos v)) (ap (split_value w m) e ∙ zero_value) ∙ ap (residue m) minus)
 
   -- for an odd modulus, what is its value modulo the odd part is its value
   pub odd_value_made : s ≡ 0 → {f u : ℕ} → odd.Stands w k f u → ValueAnswered (split_form w) (split_value w) m f u

@@ -14,7 +14,8 @@ pub record IsSplit (w m s k : ℕ) : Type 0 where
 
 -- one bit more, r being the lowest
 split_step : (w m t r : ℕ) → m % 2 ≡ r → r < 2 → 0 < m → m < 2 ^ suc w
-    → (0 < m / 2 → m / 2 < 2 ^ w → IsSplit w (m / 2) t (m / 2 / 2 ^ t)) → IsSplit (suc w) m (under r t) (m / 2 ^ under r t)
+    → (0 < m / 2 → m / 2 < 2 ^ w → IsSplit w (m / 2) t (m / 2 / 2 ^ t))
+    → IsSplit (suc w) m (under r t) (m / 2 ^ under r t)
 split_step w m t zero e l h k half =
     let twice : 2 ^ suc w ≡ 2 * 2 ^ w = omega (arith, pow-suc 2 w) in
     let rest = half (omega arith) (omega arith) in
@@ -42,13 +43,15 @@ split_at (suc w) m h k =
     split_step w m (count_trailing_zeros w (m / 2)) (m % 2) refl (mod-lt m (omega arith)) h k (split_at w (m / 2))
 
 -- so they split a number below the base b, h being what a shift leaves of it
-pub split_of : (w b m s h : ℕ) → b ≡ 2 ^ w → 0 < m → m < b → s ≡ count_trailing_zeros w m → h ≡ m / 2 ^ s → IsSplit w m s h
+pub split_of : (w b m s h : ℕ) → b ≡ 2 ^ w → 0 < m → m < b → s ≡ count_trailing_zeros w m
+    → h ≡ m / 2 ^ s → IsSplit w m s h
 split_of w b m s h eb some fits es eh =
     let at = split_at w m some (omega (arith, eb)) in
     subst (λ n. IsSplit w m s n) (sym eh) (subst (λ n. IsSplit w m n (m / 2 ^ n)) (sym es) at)
 
 -- and with what is kept of k, which is h, they are what is kept of the number
-pub split_ring : {w b m s h k i square : ℕ} → IsOddRing w b k i square → IsSplit w m s h → m < b → s ≡ count_trailing_zeros w m → k ≡ h
+pub split_ring : {w b m s h k i square : ℕ} → IsOddRing w b k i square → IsSplit w m s h → m < b
+    → s ≡ count_trailing_zeros w m → k ≡ h
     → IsSplitRing w b (k * 2 ^ s) s k i square
 split_ring {w} {b} {m} {s} {h} {k} r split fits es ek =
     let whole : k * 2 ^ s ≡ m = ap (λ n. n * 2 ^ s) ek ∙ split.whole in

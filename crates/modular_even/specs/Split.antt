@@ -1,5 +1,5 @@
--- Montgomery's representation modulo any number, as forms of two parts (Koç, "Montgomery reduction with even modulus"; Handbook of
--- Applied Cryptography, section 14.3.2). The words have w bits and b numbers.
+-- Montgomery's representation modulo any number, as forms of two parts (Koç, "Montgomery reduction with
+-- even modulus"; Handbook of Applied Cryptography, section 14.3.2). The words have w bits and b numbers.
 use Rattle.std.specs.Prelude.{◌≡◌, ℕ, ◌+◌, ◌*◌, ◌/◌, ◌%◌, ◌^◌, ◌<◌}
 use Rattle.std.specs.Int.Count.{count_trailing_zeros}
 use Rattle.modular_monty.specs.Montgomery.{montgomery_form, IsOddRing}
@@ -13,7 +13,9 @@ two_part w m = 2 ^ count_trailing_zeros w m
 abbrev pub odd_part : ℕ → ℕ → ℕ
 odd_part w m = m / two_part w m
 
--- modulo any m, the form of the value v: since the base has no inverse modulo an even number, v times the base stands modulo the odd part alone, above the bits of the power of two, and in these bits v itself modulo that power (Koç, "Montgomery reduction with even modulus"; Handbook of Applied Cryptography, section 14.3.2)
+-- modulo any m, the form of the value v: since the base has no inverse modulo an even number, v times the
+-- base stands modulo the odd part alone, above the bits of the power of two, and in these bits v itself modulo
+-- that power (Koç, "Montgomery reduction with even modulus"; Handbook of Applied Cryptography, section 14.3.2)
 unfoldable pub split_form : ℕ → ℕ → ℕ → ℕ
 split_form w m v = montgomery_form w (odd_part w m) v * two_part w m + v % two_part w m
 
@@ -28,3 +30,7 @@ pub record IsSplitRing (w b m s k i square : ℕ) : Type 0 where
   pub few : s < w
   pub whole : k * 2 ^ s ≡ m
   pub fits : m < b
+
+-- what is computed once of m: the negated inverse i of its odd part, and the square of the base modulo that part
+abbrev pub IsComputedOnce : ℕ → ℕ → ℕ → ℕ → ℕ → Type 0
+IsComputedOnce w b m i square = IsOddRing w b (odd_part w m) i square

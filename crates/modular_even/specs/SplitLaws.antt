@@ -10,14 +10,17 @@ use Rattle.modular_even.specs.Split.{two_part, odd_part, split_form, split_value
 use Rattle.modular_monty.specs.MontgomeryLaws.{positive, base_cancels, value_below-found}
 
 module _ {w b m s k i square : ℕ} (r : IsSplitRing w b m s k i square) where
+  two_part_is : two_part w m ≡ 2 ^ s
+  two_part_is = ap (λ n. 2 ^ n) (sym r.twos)
+
+  -- the odd part is the one that is kept
+  pub odd_part_is : odd_part w m ≡ k
+  odd_part_is = ap (λ n. m / n) two_part_is ∙ ap (λ n. n / 2 ^ s) (sym r.whole) ∙ mul-div_cancel k (pow_pos s)
+
   -- the form of v, by the odd part and the exponent that are kept
   pub form_is : (v : ℕ) → split_form w m v ≡ montgomery_form w k v * 2 ^ s + v % 2 ^ s
   unfolding split_form
-  form_is v =
-      let two : two_part w m ≡ 2 ^ s = ap (λ n. 2 ^ n) (sym r.twos) in
-      let odd : odd_part w m ≡ k =
-      ap (λ n. m / n) two ∙ ap (λ n. n / 2 ^ s) (sym r.whole) ∙ mul-div_cancel k (pow_pos s) in
-      ap₂ (λ n q. montgomery_form w n v * q + v % q) odd two
+  form_is v = ap₂ (λ n q. montgomery_form w n v * q + v % q) odd_part_is two_part_is
 
   -- the modulus is not 0
   pub modulus_positive : 0 < m

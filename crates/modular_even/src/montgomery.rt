@@ -1,9 +1,9 @@
 //! The reducer by Montgomery's representation, for every modulus.
 
-ghost use Rattle.std.specs.Prelude.{◌≡◌, ℕ, ◌+◌, ◌*◌, ◌/◌, ◌%◌, ◌^◌, ◌<◌, ◌≤◌, ⊤};
+ghost use Rattle.std.specs.Prelude.{◌≡◌, ℕ, ◌+◌, ◌*◌, ◌/◌, ◌%◌, ◌^◌, ◌<◌, ◌≤◌, ⊤, MatchOption};
 ghost use Rattle.modular_reduced.specs.Forms.{IsForm};
 ghost use Rattle.modular_monty.specs.Montgomery.{montgomery_form, montgomery_value};
-ghost use Rattle.modular_even.specs.Split.{split_form, split_value, two_part, odd_part, IsSplitRing};
+ghost use Rattle.modular_even.specs.Split.{split_form, split_value, two_part, odd_part, IsComputedOnce, IsSplitRing};
 ghost use Rattle.modular_even.specs.SplitLaws.{modulus_positive, split_canonical};
 
 use modular_monty::odd_ring::{OddModulus, OddRing, StoredModulus};
@@ -57,6 +57,32 @@ impl<T: PlainWord> Montgomery<T> {
             odd: OddRing::new(&m.shift_right(twos)),
             twos,
         }
+    }
+
+    /// What is computed once of m: the negated inverse of its odd part modulo the base, and the square
+    /// of the base modulo that part.
+    pub fn computed_once(&self) -> (T, T)
+        ensures { let m = ⟦<Montgomery<T> as Reducer<T>>⟧.modulus self.now in
+            IsComputedOnce T.width T.base m (T.number result.0) (T.number result.1) }
+    {
+        (self.odd.kept.negated_inverse, self.odd.kept.square)
+    }
+
+    /// The reducer of m by what `computed_once` gave of it; `None` exactly where these aren't the two
+    /// numbers of m. No division is made.
+    pub fn restored(m: T, negated_inverse: T, square: T) -> Option<Self>
+        ensures { let fits = IsComputedOnce T.width T.base (T.number m) (T.number negated_inverse) (T.number square) in
+            MatchOption result (fits → ⊥) (λ r. (⟦<Montgomery<T> as Reducer<T>>⟧.modulus r ≡ T.number m) × fits) }
+    {
+        if m.is_zero_word() {
+            return None;
+        }
+        let twos = m.trailing_zeros();
+        let kept = StoredModulus::<T>::restored(m.shift_right(twos), negated_inverse, square)?;
+        Some(Montgomery {
+            odd: OddRing::over(kept),
+            twos,
+        })
     }
 
     // The part of a form above the lowest bits.

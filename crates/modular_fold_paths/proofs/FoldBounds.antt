@@ -19,7 +19,8 @@ last_fold p c s near =
 pub first_fold : (p c v : ℕ) → v / 2 ^ p < 2 ^ p → fold_of p c v / 2 ^ p ≤ c
 first_fold p c v product =
     let low = mod-lt v (pow_pos p) in
-    let most : v / 2 ^ p * c + c ≤ 2 ^ p * c = omega (arith, mul-le-mul_right c (let e : suc (v / 2 ^ p) ≤ 2 ^ p = omega arith in e)) in
+    let most : v / 2 ^ p * c + c ≤ 2 ^ p * c =
+    omega (arith, mul-le-mul_right c (let e : suc (v / 2 ^ p) ≤ 2 ^ p = omega arith in e)) in
     let whole : fold_of p c v < suc c * 2 ^ p = omega (arith, most, low) in
     let below = (div-lt_iff_lt-mul {x = fold_of p c v} {y = suc c} (pow_pos p)).1 whole in
     omega (arith, below)
@@ -44,7 +45,8 @@ three_low p c v small product =
 -- a factor of half as many bits as p has a small square
 pub small_square : (p c : ℕ) → c < 2 ^ (p / 2) → c * c + 2 * c < 2 ^ p
 small_square p c less =
-    let square : suc c * suc c ≤ 2 ^ (p / 2) * 2 ^ (p / 2) = mul-le (suc c) (suc c) (2 ^ (p / 2)) (2 ^ (p / 2)) less less in
+    let square : suc c * suc c ≤ 2 ^ (p / 2) * 2 ^ (p / 2) =
+    mul-le (suc c) (suc c) (2 ^ (p / 2)) (2 ^ (p / 2)) less less in
     let whole : 2 ^ (p / 2 + p / 2) ≡ 2 ^ (p / 2) * 2 ^ (p / 2) = pow-add 2 (p / 2) (p / 2) in
     let halves : p / 2 + p / 2 ≤ p = omega arith in
     let most = pow-le-pow_right {n = 2} (lit< tt) halves in

@@ -30,7 +30,8 @@ within_enough (suc k) (suc l) p c v b h i =
     (λ (low : v < 2 ^ p). within_none (suc k) p c v low ∙ sym (within_none (suc l) p c v low))
     (λ (high : 2 ^ p ≤ v).
     let less = fold_less p c v b high in
-    within_next k p c v high ∙ ap suc (within_enough k l p c (fold_of p c v) b (omega (arith, less)) (omega (arith, less))) ∙ sym (within_next l p c v high))
+    within_next k p c v high ∙ ap suc (within_enough k l p c (fold_of p c v) b (omega (arith, less))
+    (omega (arith, less))) ∙ sym (within_next l p c v high))
     (cases_lt v (2 ^ p))
 
 -- ---- the equations of the count
@@ -42,7 +43,8 @@ pub folds-next : (p c v : ℕ) → c < 2 ^ p → 2 ^ p ≤ v → folds p c v ≡
 unfolding folds
 folds-next p c v b h =
     let less = fold_less p c v b h in
-    let next : folds_within (suc v) p c v ≡ 1 + folds_within v p c (fold_of p c v) = within_next v p c v h ∙ omega arith in
+    let next : folds_within (suc v) p c v ≡ 1 + folds_within v p c (fold_of p c v) =
+    within_next v p c v h ∙ omega arith in
     within_enough v (suc v) p c v b (omega arith) (omega arith) ∙ next
     ∙ ap (λ n. 1 + n) (within_enough v (fold_of p c v) p c (fold_of p c v) b (omega (arith, less)) (omega arith))
 
@@ -91,13 +93,15 @@ few_from p c (suc j) v b l =
 
 pub few_in : (p c v w : ℕ) → 2 * c < 2 ^ p → p ≤ w → v < 2 ^ w → folds p c v ≤ w - p + 2
 few_in p c v w b fits l =
-    let whole : 2 ^ w ≡ 2 ^ (w - p) * 2 ^ p = ap (λ a. 2 ^ a) (let s : w ≡ w - p + p = omega arith in s) ∙ pow-add 2 (w - p) p in
+    let whole : 2 ^ w ≡ 2 ^ (w - p) * 2 ^ p =
+    ap (λ a. 2 ^ a) (let s : w ≡ w - p + p = omega arith in s) ∙ pow-add 2 (w - p) p in
     few_from p c (w - p) v b (omega (arith, whole))
 
 -- a number of 2p bits has a part above the bit p of p bits
 high_part : (p v : ℕ) → v < 2 ^ (2 * p) → v / 2 ^ p < 2 ^ p
 high_part p v l =
-    let square : 2 ^ (2 * p) ≡ 2 ^ p * 2 ^ p = ap (λ n. 2 ^ n) (let e : 2 * p ≡ p + p = omega arith in e) ∙ pow-add 2 p p in
+    let square : 2 ^ (2 * p) ≡ 2 ^ p * 2 ^ p =
+    ap (λ n. 2 ^ n) (let e : 2 * p ≡ p + p = omega arith in e) ∙ pow-add 2 p p in
     (div-lt_iff_lt-mul {x = v} {y = 2 ^ p} (pow_pos p)).1 (omega (arith, square))
 
 pub few_folds : (p c v n : ℕ) → 2 * c < 2 ^ p → n ≡ folds p c v → IsFewFolds p c v n
@@ -129,7 +133,8 @@ count_one p c v rest b is some =
     omega (arith, ap (folds p c) is, folds-next p c v b (omega (arith, split, most)))
 
 -- the law of a fold, of a number given by its parts
-pub folds-parts : (p c hi lo : ℕ) → c < 2 ^ p → lo < 2 ^ p → 0 < hi → folds p c (hi * 2 ^ p + lo) ≡ 1 + folds p c (hi * c + lo)
+pub folds-parts : (p c hi lo : ℕ) → c < 2 ^ p → lo < 2 ^ p → 0 < hi
+    → folds p c (hi * 2 ^ p + lo) ≡ 1 + folds p c (hi * c + lo)
 folds-parts p c hi lo b low some =
     let most : 1 * 2 ^ p ≤ hi * 2 ^ p = mul-le-mul_right (2 ^ p) (omega arith) in
     folds-next p c (hi * 2 ^ p + lo) b (omega (arith, most))

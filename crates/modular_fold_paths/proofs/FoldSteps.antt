@@ -1,6 +1,8 @@
 -- What a fold makes of a number.
-use Rattle.std.proofs.Common.{◌≡◌, ℕ, zero, suc, ◌+◌, ◌-◌, ◌*◌, ◌/◌, ◌%◌, ◌^◌, ◌<◌, ◌≤◌, arith, ap, sym, ◌∙◌, ⊎_elim, bit_and, lit<}
-use Rattle.std.proofs.Math.Nat.{add-mul-mod_self_right, mod-lt, mul-le-mul_left, mul-lt-mul_of_pos_left, pow-le-pow_right}
+use Rattle.std.proofs.Common.{◌≡◌, ℕ, zero, suc, ◌+◌, ◌-◌, ◌*◌, ◌/◌, ◌%◌, ◌^◌, ◌<◌}
+use Rattle.std.proofs.Common.{◌≤◌, arith, ap, sym, ◌∙◌, ⊎_elim, bit_and, lit<}
+use Rattle.std.proofs.Math.Nat.{add-mul-mod_self_right, mod-lt, mul-le-mul_left}
+use Rattle.std.proofs.Math.Nat.{mul-lt-mul_of_pos_left, pow-le-pow_right}
 use Rattle.std.proofs.lemmas.Nat.{shr_split, pow_pos, le-div, and_mask}
 use Rattle.std.proofs.lemmas.Bool.{cases_lt}
 use Rattle.modular_fold_paths.specs.Folds.{fold_of, IsFolding}
@@ -40,7 +42,8 @@ fold_keeps p c m v is =
     sym (add-mul-mod_self_right (fold_of p c v) (v / 2 ^ p) m) ∙ ap (λ n. n % m) whole
 
 -- so do two
-pub two_folds_keep : (p c m v : ℕ) {first second : ℕ} → m + c ≡ 2 ^ p → first ≡ fold_of p c v → second ≡ fold_of p c first
+pub two_folds_keep : (p c m v : ℕ) {first second : ℕ} → m + c ≡ 2 ^ p
+    → first ≡ fold_of p c v → second ≡ fold_of p c first
     → second % m ≡ v % m
 two_folds_keep p c m v {first} {second} is one two =
     ap (λ n. n % m) two ∙ fold_keeps p c m first is ∙ ap (λ n. n % m) one ∙ fold_keeps p c m v is

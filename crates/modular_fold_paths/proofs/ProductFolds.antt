@@ -1,16 +1,19 @@
 -- Folds of a product whose parts at the bit p are words, the lower one at the top of its word.
 use Rattle.std.proofs.Common.{◌≡◌, ℕ, ◌+◌, ◌-◌, ◌*◌, ◌/◌, ◌%◌, ◌^◌, ◌<◌, ◌≤◌, arith, ap, sym, ◌∙◌}
-use Rattle.std.proofs.Math.Nat.{mul-le-mul_left, mul-le-mul_right, mod-lt, mul-div_left, mul-div-mul_right, div-add-mod, div-lt_iff_lt-mul, zero-div}
+use Rattle.std.proofs.Math.Nat.{mul-le-mul_left, mul-le-mul_right, mod-lt, mul-div_left}
+use Rattle.std.proofs.Math.Nat.{mul-div-mul_right, div-add-mod, div-lt_iff_lt-mul, zero-div}
 use Rattle.std.proofs.lemmas.Nat.{div-mul-add, pow_pos, pow-add, mul-lt}
 use Rattle.modular_fold_paths.specs.Folds.{fold_of, IsFolding}
 use Rattle.modular_fold_paths.proofs.FoldSteps.{fold_keeps}
 use Rattle.modular_fold_paths.proofs.FoldBounds.{first_fold, small_square}
 
 -- the words of n times s, where there are q * s words, are the parts of n at q, the lower one times s
-pub scaled_parts : (q s n : ℕ) {low high : ℕ} → 0 < s → n * s ≡ low + q * s * high → low < q * s → (low ≡ n % q * s) × (high ≡ n / q)
+pub scaled_parts : (q s n : ℕ) {low high : ℕ} → 0 < s → n * s ≡ low + q * s * high → low < q * s
+    → (low ≡ n % q * s) × (high ≡ n / q)
 scaled_parts q s n {low} {high} some words below =
     let split : high * (q * s) + low ≡ n * s = omega (arith, words) in
-    let high_is : high ≡ n / q = sym (div-mul-add high (q * s) low below) ∙ ap (λ v. v / (q * s)) split ∙ mul-div-mul_right n q some in
+    let high_is : high ≡ n / q = sym (div-mul-add high (q * s) low below) ∙ ap (λ v. v / (q * s)) split
+    ∙ mul-div-mul_right n q some in
     let scaled : (q * (n / q) + n % q) * s ≡ n * s = ap (λ k. k * s) (div-add-mod n q) in
     (omega (arith, words, scaled, ap (λ h. q * s * h) high_is), high_is)
 
@@ -66,7 +69,8 @@ module _ (w p c m : ℕ) (is : IsFolding w p c m) where
       → low ≡ (a * b + none / 2 ^ (w - p)) % 2 ^ p * 2 ^ (w - p) → high ≡ (a * b + none / 2 ^ (w - p)) / 2 ^ p
       → next ≡ (high * c + low / 2 ^ (w - p)) % 2 ^ p * 2 ^ (w - p) → over ≡ (high * c + low / 2 ^ (w - p)) / 2 ^ p
       → bits ≡ w → back ≡ next / 2 ^ (bits - p) → IsLastSum m (a * b) back (over * c)
-  sum_by_small {a} {b} {none} {low} {high} {next} {over} {bits} {back} small left right zeros low_is high_is next_is over_is width shift =
+  sum_by_small {a} {b} {none} {low} {high} {next} {over} {bits}
+      {back} small left right zeros low_is high_is next_is over_is width shift =
       let v = a * b in
       let gone = ap (λ z. z / 2 ^ (w - p)) zeros ∙ zero-div (2 ^ (w - p)) in
       let first = parts w p v (v + none / 2 ^ (w - p)) (omega (arith, gone)) low_is high_is in

@@ -1,5 +1,6 @@
 -- Folds: reduction modulo a number that is near a power of two, with no division.
--- (Handbook of Applied Cryptography, section 14.3.4, algorithm 14.47; Crandall and Pomerance, Prime Numbers, section 9.2.3.)
+-- (Handbook of Applied Cryptography, section 14.3.4, algorithm 14.47;
+-- Crandall and Pomerance, Prime Numbers, section 9.2.3.)
 use Rattle.std.specs.Prelude.{◌≡◌, ℕ, zero, suc, ◌+◌, ◌-◌, ◌*◌, ◌/◌, ◌%◌, ◌^◌, ◌<◌, ◌≤◌, nat_lt, if◌then◌else◌}
 
 -- what one fold makes of v at the bit p by c: hi * c + lo, where v is hi * 2^p + lo and lo is below 2^p
@@ -13,7 +14,8 @@ pub record IsFolding (w p c m : ℕ) : Type 0 where
   pub whole : m + c ≡ 2 ^ p
   pub half : c < m
 
--- the folds that take v below 2^p, if there are at most `bound`: none where it is below, else one more than those of hi * c + lo
+-- the folds that take v below 2^p, if there are at most `bound`:
+-- none where it is below, else one more than those of hi * c + lo
 unfoldable pub folds_within : ℕ → ℕ → ℕ → ℕ → ℕ
 folds_within zero p c v = 0
 folds_within (suc bound) p c v = if nat_lt v (2 ^ p) then 0 else 1 + folds_within bound p c (fold_of p c v)

@@ -166,7 +166,8 @@ pub fn reduce_by_folds<T: FoldedWord>(v: T::Double, p: u32, c: T, m: T) -> (T, u
 /// the parts of v at the bit p; and few where c is less than half of 2^p.
 pub fn fold_laws()
     ensures none { (p c v : ℕ) → v < 2 ^ p → folds p c v ≡ 0 }
-    ensures next { (p c hi lo : ℕ) → c < 2 ^ p → lo < 2 ^ p → 0 < hi → folds p c (hi * 2 ^ p + lo) ≡ 1 + folds p c (hi * c + lo) }
+    ensures next { (p c hi lo : ℕ) → c < 2 ^ p → lo < 2 ^ p → 0 < hi
+        → folds p c (hi * 2 ^ p + lo) ≡ 1 + folds p c (hi * c + lo) }
     ensures few { (p c v : ℕ) → 2 * c < 2 ^ p → IsFewFolds p c v (folds p c v) }
 {}
 

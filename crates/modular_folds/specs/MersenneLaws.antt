@@ -1,4 +1,5 @@
--- What is known of a modulus 2^p - k whose parameters are in range: proofs that the impls declare. Each name is the library's own word.
+-- What is known of a modulus 2^p - k whose parameters are in range:
+-- proofs that the impls declare. Each name is the library's own word.
 use Rattle.std.proofs.Common.{ℕ, ◌≤◌, arith, lit<}
 use Rattle.std.proofs.Math.Nat.{pow-le-pow_right}
 use Rattle.modular_reduced.specs.Forms.{IsCanonical}
@@ -6,7 +7,8 @@ use Rattle.modular_reduced.specs.Plain.{plain_form, plain_value, plain_canonical
 use Rattle.modular_folds.specs.Mersenne.{IsMersenneRange, mersenne}
 
 -- it is above 0 and fits a word of as many bits or more, so each value is its own form
-pub mersenne_canonical : {w p k : ℕ} → (v : ℕ) → w ≤ v → IsMersenneRange w p k → IsCanonical plain_form plain_value v (mersenne p k)
+pub mersenne_canonical : {w p k : ℕ} → (v : ℕ) → w ≤ v → IsMersenneRange w p k
+    → IsCanonical plain_form plain_value v (mersenne p k)
 mersenne_canonical v wide r =
     let most = pow-le-pow_right {n = 2} (lit< tt) r.fits in
     let more = pow-le-pow_right {n = 2} (lit< tt) wide in

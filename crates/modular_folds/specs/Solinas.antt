@@ -2,7 +2,8 @@
 -- (Solinas, Generalized Mersenne numbers, technical report CORR 99-39, University of Waterloo, 1999).
 use Rattle.std.specs.Prelude.{◌≡◌, ℕ, ◌+◌, ◌-◌, ◌%◌, ◌^◌, ◌<◌, ◌≤◌, ℤ, pos, ◌+ℤ◌, ◌-ℤ◌, ◌<ℤ◌, nat_abs}
 
--- p1, p2 and k are in range for moduli of w bits: p1 is w at most, p2 is from 1 to p1 - 1, and k is odd and less than 2^p2 either way
+-- p1, p2 and k are in range for moduli of w bits: p1 is w at most,
+-- p2 is from 1 to p1 - 1, and k is odd and less than 2^p2 either way
 pub record IsTrinomialRange (w p1 p2 : ℕ) (k : ℤ) : Type 0 where
   pub fits : p1 ≤ w
   pub positive : 0 < p2

@@ -1,5 +1,7 @@
--- What is known of a modulus 2^p1 - 2^p2 + k whose parameters are in range: proofs that the impls declare. Each name is the library's own word.
-use Rattle.std.proofs.Common.{◌≡◌, ℕ, suc, ◌+◌, ◌*◌, ◌%◌, ◌^◌, ◌<◌, ◌≤◌, ℤ, pos, negsuc, ◌+ℤ◌, ◌-ℤ◌, ◌<ℤ◌, nat_abs, arith, lit<, ⊎_elim}
+-- What is known of a modulus 2^p1 - 2^p2 + k whose parameters are in range:
+-- proofs that the impls declare. Each name is the library's own word.
+use Rattle.std.proofs.Common.{◌≡◌, ℕ, suc, ◌+◌, ◌*◌, ◌%◌, ◌^◌, ◌<◌, ◌≤◌, ℤ, pos}
+use Rattle.std.proofs.Common.{negsuc, ◌+ℤ◌, ◌-ℤ◌, ◌<ℤ◌, nat_abs, arith, lit<, ⊎_elim}
 use Rattle.std.specs.Int.Signed.{pos-nat_abs, yes_non_neg}
 use Rattle.std.proofs.Math.Nat.{pow-le-pow_right, pow-suc}
 use Rattle.std.proofs.lemmas.Bool.{cases_lt}
@@ -34,7 +36,8 @@ module _ {w p1 p2 : ℕ} {k : ℤ} (r : IsTrinomialRange w p1 p2 k) where
   pub trinomial_is : pos (trinomial p1 p2 k) ≡ (pos (2 ^ p1) -ℤ pos (2 ^ p2)) +ℤ k
   trinomial_is =
       let up = last_term.0 in
-      pos-nat_abs ((pos (2 ^ p1) -ℤ pos (2 ^ p2)) +ℤ k) (yes_non_neg (omega (arith, ints, power_doubles p2 p1 r.falling, up)))
+      pos-nat_abs ((pos (2 ^ p1) -ℤ pos (2 ^ p2)) +ℤ k)
+      (yes_non_neg (omega (arith, ints, power_doubles p2 p1 r.falling, up)))
 
   -- it is above 0
   pub trinomial_positive : 0 < trinomial p1 p2 k
@@ -56,7 +59,8 @@ module _ {w p1 p2 : ℕ} {k : ℤ} (r : IsTrinomialRange w p1 p2 k) where
   pub trinomial_half : ¬ IsLowTrinomial p1 p2 k → 2 ^ p1 < 2 * trinomial p1 p2 k
   trinomial_half high =
       ⊎_elim
-      (λ (far : suc p2 < p1). omega (arith, ints, power_doubles (suc p2) p1 far, pow-suc 2 p2, last_term.0, trinomial_is))
+      (λ (far : suc p2 < p1).
+      omega (arith, ints, power_doubles (suc p2) p1 far, pow-suc 2 p2, last_term.0, trinomial_is))
       (λ (near : p1 ≤ suc p2).
       let next : p1 ≡ p2 + 1 = omega (arith, r.falling) in
       let up = above_zero k r.odd (λ low. high (next, low)) in
@@ -64,7 +68,8 @@ module _ {w p1 p2 : ℕ} {k : ℤ} (r : IsTrinomialRange w p1 p2 k) where
       (cases_lt (suc p2) p1)
 
   -- folds at the bit p1 by the rest of 2^p1 then reduce modulo it
-  pub trinomial_folding : (p c m : ℕ) → ¬ IsLowTrinomial p1 p2 k → p ≡ p1 → c + trinomial p1 p2 k ≡ 2 ^ p1 → m ≡ trinomial p1 p2 k
+  pub trinomial_folding : (p c m : ℕ) → ¬ IsLowTrinomial p1 p2 k → p ≡ p1
+      → c + trinomial p1 p2 k ≡ 2 ^ p1 → m ≡ trinomial p1 p2 k
       → IsFolding w p c m
   trinomial_folding p c m high at rest is =
       let half = trinomial_half high in

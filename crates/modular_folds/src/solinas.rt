@@ -4,7 +4,8 @@ ghost use Rattle.std.specs.Prelude.{◌≡◌, ℕ, ℤ, ◌+◌, ◌*◌, ◌/�
 ghost use Rattle.std.proofs.Common.{lit≤, refl};
 ghost use Rattle.modular_reduced.specs.Plain.{plain_form, plain_value};
 ghost use Rattle.modular_fold_paths.specs.Folds.{folds, IsFewFolds};
-ghost use Rattle.modular_folds.specs.Solinas.{IsTrinomialRange, IsTrinomial, IsLowTrinomial, trinomial, trinomial_factor};
+ghost use Rattle.modular_folds.specs.Solinas.{IsTrinomialRange, IsTrinomial};
+ghost use Rattle.modular_folds.specs.Solinas.{IsLowTrinomial, trinomial, trinomial_factor};
 ghost use Rattle.modular_folds.specs.SolinasLaws.{trinomial_canonical};
 
 use crate::rings::{FoldModulus, FoldRing};

@@ -1,5 +1,6 @@
 -- The entries of a cyclic product with room are the coefficients of the product of polynomials.
-use Rattle.std.proofs.Common.{◌≡◌, ◌≢◌, ℕ, ◌+◌, ◌-◌, ◌*◌, ◌%◌, ◌<◌, ◌≤◌, List, length, get_or, cond, eqb, ◌||◌, ap, ◌∙◌, arith, inl, inr}
+use Rattle.std.proofs.Common.{◌≡◌, ◌≢◌, ℕ, ◌+◌, ◌-◌, ◌*◌, ◌%◌, ◌<◌, ◌≤◌, List, length}
+use Rattle.std.proofs.Common.{get_or, cond, eqb, ◌||◌, ap, ◌∙◌, arith, inl, inr}
 use Rattle.std.proofs.Math.Nat.{mod-eq_of_lt, mul-le-mul, mul-le-mul_right}
 use Rattle.std.proofs.lemmas.Bool.{cases_lt}
 use Rattle.std.proofs.lemmas.Bool.Decides.{eqb_tells}
@@ -39,7 +40,8 @@ no_row n e i x y within room l =
     (λ j k. elsewhere n (i + j) e (x i * y j) (room i j within k) (omega arith))
 
 -- entry e
-pub coefficient : (m n s t e : ℕ) (x y : ℕ → ℕ) → ((i : ℕ) → i < n → x i ≤ s) → ((j : ℕ) → j < n → y j ≤ t) → n * (s * t) < m
+pub coefficient : (m n s t e : ℕ) (x y : ℕ → ℕ) → ((i : ℕ) → i < n → x i ≤ s)
+    → ((j : ℕ) → j < n → y j ≤ t) → n * (s * t) < m
     → ((i j : ℕ) → i < n → j < n → n ≤ i + j → x i * y j ≡ 0) → e < n
     → cyclic_product m n x y e ≡ sum_below (e + 1) (λ i. x i * y (e - i))
 coefficient m n s t e x y few few_y small room below =
@@ -49,7 +51,8 @@ coefficient m n s t e x y few few_y small room below =
     let sum : sum_below n f ≡ sum_below (e + 1) (λ i. x i * y (e - i)) =
     ap (λ k. sum_below k f) whole ∙ tail (e + 1) d f (λ i a b. no_row n e i x y (omega arith) room (omega arith))
     ∙ sum_below-same (e + 1) f (λ i. x i * y (e - i)) (λ i l. row n e i x y below (omega arith) room (omega arith)) in
-    let each : (i : ℕ) → i < e + 1 → x i * y (e - i) ≤ s * t = λ i l. mul-le-mul (few i (omega arith)) (few_y (e - i) (omega arith)) in
+    let each : (i : ℕ) → i < e + 1 → x i * y (e - i) ≤ s * t =
+    λ i l. mul-le-mul (few i (omega arith)) (few_y (e - i) (omega arith)) in
     let most = bounded (e + 1) (s * t) (λ i. x i * y (e - i)) each in
     let up : (e + 1) * (s * t) ≤ n * (s * t) = mul-le-mul_right (s * t) (omega arith) in
     ap (λ v. v % m) sum ∙ mod-eq_of_lt (omega (arith, most, up, small))
@@ -68,10 +71,14 @@ pub coefficient_of_lists : (m n s t e : ℕ) (xs ys : List ℕ) (x y : ℕ → �
     → length xs + length ys ≤ n + 1 → e < n
     → cyclic_product m n x y e ≡ sum_below (e + 1) (λ i. get_or xs i 0 * get_or ys (e - i) 0)
 coefficient_of_lists m n s t e xs ys x y loaded loaded_y few few_y below_s below_t small room below =
-    let is_x : (i : ℕ) → i < n → x i ≡ get_or xs i 0 = λ i l. loaded i l ∙ mod-eq_of_lt (let f = few i in omega arith) in
-    let is_y : (j : ℕ) → j < n → y j ≡ get_or ys j 0 = λ j l. loaded_y j l ∙ mod-eq_of_lt (let f = few_y j in omega arith) in
+    let is_x : (i : ℕ) → i < n → x i ≡ get_or xs i 0 =
+    λ i l. loaded i l ∙ mod-eq_of_lt (let f = few i in omega arith) in
+    let is_y : (j : ℕ) → j < n → y j ≡ get_or ys j 0 =
+    λ j l. loaded_y j l ∙ mod-eq_of_lt (let f = few_y j in omega arith) in
     let product : (i j : ℕ) → i < n → j < n → x i * y j ≡ get_or xs i 0 * get_or ys j 0 =
     λ i j k l. ap (λ v. v * y j) (is_x i k) ∙ ap (λ v. get_or xs i 0 * v) (is_y j l) in
-    coefficient m n s t e x y (λ i l. let f = few i in let g = is_x i l in omega arith) (λ j l. let f = few_y j in let g = is_y j l in omega arith)
+    coefficient m n s t e x y (λ i l. let f = few i in let g = is_x i l in omega arith)
+    (λ j l. let f = few_y j in let g = is_y j l in omega arith)
     small (λ i j k l beyond. product i j k l ∙ no_term xs ys n i j room beyond) below
-    ∙ sum_below-same (e + 1) (λ i. x i * y (e - i)) (λ i. get_or xs i 0 * get_or ys (e - i) 0) (λ i l. product i (e - i) (omega arith) (omega arith))
+    ∙ sum_below-same (e + 1) (λ i. x i * y (e - i)) (λ i. get_or xs i 0 * get_or ys (e - i) 0)
+    (λ i l. product i (e - i) (omega arith) (omega arith))

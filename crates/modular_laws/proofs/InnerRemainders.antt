@@ -38,4 +38,15 @@ pub factor_and_power : (a b k m : ℕ) → (b * (a % m) ^ k) % m ≡ (b * a ^ k)
 factor_and_power a b k m =
     sym (mul-mod_second b ((a % m) ^ k) m) ∙ ap (λ v. (b * v) % m) (pow-mod a k m) ∙ mul-mod_second b (a ^ k) m
 
-pub ruleset inner_remainders = (mod-mod, add-mod-mod, product_and_term, product_and_term_second, term_and_product, term_and_product_second, first_of_three, second_of_three, power_and_factor, factor_and_power)
+pub ruleset inner_remainders = (
+  mod-mod,
+  add-mod-mod,
+  product_and_term,
+  product_and_term_second,
+  term_and_product,
+  term_and_product_second,
+  first_of_three,
+  second_of_three,
+  power_and_factor,
+  factor_and_power,
+)

@@ -1,6 +1,5 @@
 pub mod Calls
 pub mod Coefficients
 pub mod InnerRemainders
-pub mod InverseProducts
 pub mod PrimePowers
 pub mod Ranges

@@ -18,7 +18,8 @@ same_power m a b k e = sym (pow-mod a k m) ∙ ap (λ v. v ^ k % m) e ∙ pow-mo
 
 -- a power of at least one factor, one factor taken out
 one_out : (a k : ℕ) → 0 < k → a ^ k ≡ a ^ (k - 1) * a
-one_out a k l = let e : k ≡ (k - 1) + 1 = omega arith in ap (λ n. a ^ n) e ∙ pow-add a (k - 1) 1 ∙ ap (λ v. a ^ (k - 1) * v) (pow-one a)
+one_out a k l = let e : k ≡ (k - 1) + 1 = omega arith in
+    ap (λ n. a ^ n) e ∙ pow-add a (k - 1) 1 ∙ ap (λ v. a ^ (k - 1) * v) (pow-one a)
 
 -- the p-th power leaves what the number leaves
 pub fermat_for_all : (a p : ℕ) → IsPrime p → a ^ p % p ≡ a % p
@@ -39,10 +40,12 @@ pub half_of_square : (a p x : ℕ) → p % 2 ≡ 1 → IsPrime p → x % p ≢ 0
 half_of_square a p x o u z e =
     let h : ℕ = (p - 1) / 2 in
     let twice : h + h ≡ p - 1 = omega arith in
-    sym (same_power p (x * x) a h e) ∙ ap (λ v. v % p) (mul-pow x x h ∙ sym (pow-add x h h) ∙ ap (λ n. x ^ n) twice) ∙ fermat x p u z
+    sym (same_power p (x * x) a h e) ∙ ap (λ v. v % p) (mul-pow x x h ∙ sym (pow-add x h h) ∙ ap (λ n. x ^ n) twice)
+    ∙ fermat x p u z
 
 -- where the half power is 1, there is such a number
-pub root_of_half : (a p : ℕ) → p % 2 ≡ 1 → IsPrime p → a ^ ((p - 1) / 2) % p ≡ 1 → (x : ℕ) × (x % p ≢ 0) × ((x * x) % p ≡ a % p)
+pub root_of_half : (a p : ℕ) → p % 2 ≡ 1 → IsPrime p → a ^ ((p - 1) / 2) % p ≡ 1
+    → (x : ℕ) × (x % p ≢ 0) × ((x * x) % p ≡ a % p)
 root_of_half a p o u e =
     let c = classed_power-jacobi (pos a) p o u in
     let v : (a % p) ^ ((p - 1) / 2) % p ≡ 1 = pow-mod a ((p - 1) / 2) p ∙ e in
@@ -57,5 +60,6 @@ root_power a p x o u e =
     let k : ℕ = (p + 1) / 4 in
     let four : (k + k) + (k + k) ≡ p + 1 = omega arith in
     ap (λ v. v % p) (sym (pow-add a k k)) ∙ sym (same_power p (x * x) a (k + k) e)
-    ∙ ap (λ v. v % p) (mul-pow x x (k + k) ∙ sym (pow-add x (k + k) (k + k)) ∙ ap (λ n. x ^ n) four ∙ pow-add x p 1 ∙ ap (λ v. x ^ p * v) (pow-one x))
+    ∙ ap (λ v. v % p) (mul-pow x x (k + k) ∙ sym (pow-add x (k + k) (k + k)) ∙ ap (λ n. x ^ n) four ∙ pow-add x p 1
+    ∙ ap (λ v. x ^ p * v) (pow-one x))
     ∙ same_product p (x ^ p) x x x (fermat_for_all x p u) refl ∙ e

@@ -14,7 +14,8 @@ pub record IsCheckedFormOf (form value : ℕ → ℕ → ℕ) (m f v : ℕ) : Ty
   pub same : value m f ≡ v
 
 -- each place before i holds the form of the value v k
-pub record HoldBelow {T : Type 0} (number : T → ℕ) (form value : ℕ → ℕ → ℕ) (m : ℕ) (forms : List T) (v : ℕ → ℕ) (i : ℕ) : Type 0 where
+pub record HoldBelow {T : Type 0} (number : T → ℕ) (form value : ℕ → ℕ → ℕ) (m : ℕ) (forms : List T)
+    (v : ℕ → ℕ) (i : ℕ) : Type 0 where
   pub each : (k : ℕ) (d : T) → k < i → IsCheckedFormOf form value m (number (slice_index_or forms k d)) (v k)
 
 -- from the values old to the values new, P holds of the places before i, and from i on they are as before

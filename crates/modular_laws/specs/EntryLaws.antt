@@ -1,6 +1,7 @@
 -- Laws of entries: what is read, what is written, and what lists that hold values give and take. A caller's lemma files
 -- and answers cite them. The words are the library's own.
-use Rattle.std.proofs.Common.{◌≡◌, ◌≢◌, ℕ, ◌+◌, ◌<◌, ◌≤◌, List, [], ◌∷◌, length, map, get_or, All, inl, inr, sym, ◌∙◌, ap, arith, subst, get_or-set_same, get_or-set_other}
+use Rattle.std.proofs.Common.{◌≡◌, ◌≢◌, ℕ, ◌+◌, ◌<◌, ◌≤◌, List, [], ◌∷◌, length, map, get_or, All}
+use Rattle.std.proofs.Common.{inl, inr, sym, ◌∙◌, ap, arith, subst, get_or-set_same, get_or-set_other}
 use Rattle.std.proofs.Math.ListN.{set, length-set}
 use Rattle.std.proofs.lemmas.Bool.{cases_eq}
 use Rattle.std.proofs.lemmas.List.{get_or-map, get_or_past, length-map, map-set}
@@ -22,8 +23,10 @@ entry_read number value m forms i x below is =
 
 -- it is a checked form where all are
 pub form_read : {T : Type 0} (number : T → ℕ) (form value : ℕ → ℕ → ℕ) (m : ℕ) (forms : List T) (i : ℕ) (x : T)
-    → All (λ f. IsForm form value m (number f)) forms → i < length forms → x ≡ get_or forms i x → IsForm form value m (number x)
-form_read number form value m forms i x all below is = subst (λ f. IsForm form value m (number f)) (sym is) (all i x below)
+    → All (λ f. IsForm form value m (number f)) forms → i < length forms → x ≡ get_or forms i x
+    → IsForm form value m (number x)
+form_read number form value m forms i x all below is =
+    subst (λ f. IsForm form value m (number f)) (sym is) (all i x below)
 
 -- behind the last place there is no value
 pub entry_past : {T : Type 0} (number : T → ℕ) (value : ℕ → ℕ → ℕ) (m : ℕ) (forms : List T) (i : ℕ)
@@ -37,7 +40,8 @@ pub entry_written : {T : Type 0} (number : T → ℕ) (value : ℕ → ℕ → �
     → i < length forms → entry number value m (set forms i x) i ≡ value m (number x)
 entry_written number value m forms i x below =
     let l : i < length (set forms i x) = subst (λ n. i < n) (sym (length-set forms i x)) below in
-    sym (entry_at number value m (set forms i x) i x l) ∙ ap (λ f. value m (number f)) (get_or-set_same forms i x x below)
+    sym (entry_at number value m (set forms i x) i x l)
+    ∙ ap (λ f. value m (number f)) (get_or-set_same forms i x x below)
 
 -- .. and every other
 pub entry_kept : {T : Type 0} (number : T → ℕ) (value : ℕ → ℕ → ℕ) (m : ℕ) (forms : List T) (i k : ℕ) (x : T)
@@ -57,7 +61,8 @@ pub done_none : (P : ℕ → ℕ → Type 0) (old : ℕ → ℕ) → DoneBelow P
 done_none P old = record { done = λ k l. absurd (omega arith); kept = λ k l i. old k }
 
 -- one more place is written, from the first on ..
-pub done_more : {T : Type 0} (number : T → ℕ) (value : ℕ → ℕ → ℕ) (m : ℕ) (forms : List T) (i : ℕ) (x : T) (P : ℕ → ℕ → Type 0) (old : ℕ → ℕ)
+pub done_more : {T : Type 0} (number : T → ℕ) (value : ℕ → ℕ → ℕ) (m : ℕ) (forms : List T) (i : ℕ) (x : T)
+    (P : ℕ → ℕ → Type 0) (old : ℕ → ℕ)
     → i < length forms → DoneBelow P i old (entry number value m forms) → P i (value m (number x))
     → DoneBelow P (i + 1) old (entry number value m (set forms i x))
 done_more number value m forms i x P old within before here = record {
@@ -71,7 +76,8 @@ done_more number value m forms i x P old within before here = record {
 }
 
 -- .. and from the last on
-pub done_before : {T : Type 0} (number : T → ℕ) (value : ℕ → ℕ → ℕ) (m : ℕ) (forms : List T) (i j n : ℕ) (x : T) (P : ℕ → ℕ → Type 0) (old : ℕ → ℕ)
+pub done_before : {T : Type 0} (number : T → ℕ) (value : ℕ → ℕ → ℕ) (m : ℕ) (forms : List T) (i j n : ℕ) (x : T)
+    (P : ℕ → ℕ → Type 0) (old : ℕ → ℕ)
     → i < length forms → j ≡ i + 1 → DoneFrom P j n old (entry number value m forms) → P i (value m (number x))
     → DoneFrom P i n old (entry number value m (set forms i x))
 done_before number value m forms i j n x P old within next before here = record {
@@ -81,26 +87,35 @@ done_before number value m forms i j n x P old within next before here = record 
         subst (λ j. P j (entry number value m (set forms i x) j)) (sym e) at_i
     | inr other ↦ subst (P k) (sym (entry_kept number value m forms i k x other)) (before.done k (omega arith) b)
   ];
-  kept = λ k l. let other : k ≢ i = omega arith in entry_kept number value m forms i k x other ∙ before.kept k (omega arith);
+  kept = λ k l. let other : k ≢ i = omega arith in
+      entry_kept number value m forms i k x other ∙ before.kept k (omega arith);
 }
 
 -- one more place holds the form of its value
-pub hold_more : {T : Type 0} (number : T → ℕ) (form value : ℕ → ℕ → ℕ) (m : ℕ) (forms : List T) (i : ℕ) (x : T) (v : ℕ → ℕ)
-    → i < length forms → HoldBelow number form value m forms v i → IsForm form value m (number x) → value m (number x) ≡ v i
+pub hold_more : {T : Type 0} (number : T → ℕ) (form value : ℕ → ℕ → ℕ) (m : ℕ)
+    (forms : List T) (i : ℕ) (x : T) (v : ℕ → ℕ)
+    → i < length forms → HoldBelow number form value m forms v i
+    → IsForm form value m (number x) → value m (number x) ≡ v i
     → HoldBelow number form value m (set forms i x) v (i + 1)
 hold_more number form value m forms i x v within before is same = record {
   each = λ k d l. elim (cases_eq k i) [
     | inl e ↦
-        let f : get_or (set forms i x) k d ≡ x = ap (λ j. get_or (set forms i x) j d) e ∙ get_or-set_same forms i x d within in
-        subst (λ y. IsCheckedFormOf form value m (number y) (v k)) (sym f) (record { checked = is; same = same ∙ ap v (sym e) })
-    | inr n ↦ subst (λ y. IsCheckedFormOf form value m (number y) (v k)) (sym (get_or-set_other forms i k x d n)) (before.each k d (omega arith))
+        let f : get_or (set forms i x) k d ≡ x =
+        ap (λ j. get_or (set forms i x) j d) e ∙ get_or-set_same forms i x d within in
+        subst (λ y. IsCheckedFormOf form value m (number y) (v k)) (sym f)
+        (record { checked = is; same = same ∙ ap v (sym e) })
+    | inr n ↦ subst (λ y. IsCheckedFormOf form value m (number y) (v k)) (sym (get_or-set_other forms i k x d n))
+        (before.each k d (omega arith))
   ];
 }
 
 -- what is read at a place that holds a value
-pub held_read : {T : Type 0} (number : T → ℕ) (form value : ℕ → ℕ → ℕ) (m : ℕ) (forms : List T) (k i : ℕ) (x : T) (v : ℕ → ℕ)
-    → HoldBelow number form value m forms v i → k < i → x ≡ get_or forms k x → IsCheckedFormOf form value m (number x) (v k)
-held_read number form value m forms k i x v held l is = subst (λ f. IsCheckedFormOf form value m (number f) (v k)) (sym is) (held.each k x l)
+pub held_read : {T : Type 0} (number : T → ℕ) (form value : ℕ → ℕ → ℕ) (m : ℕ)
+    (forms : List T) (k i : ℕ) (x : T) (v : ℕ → ℕ)
+    → HoldBelow number form value m forms v i → k < i → x ≡ get_or forms k x
+    → IsCheckedFormOf form value m (number x) (v k)
+held_read number form value m forms k i x v held l is =
+    subst (λ f. IsCheckedFormOf form value m (number f) (v k)) (sym is) (held.each k x l)
 
 -- where each place holds its value, all forms are checked, and the values are those
 pub held_forms : {T : Type 0} (number : T → ℕ) (form value : ℕ → ℕ → ℕ) (m : ℕ) (forms : List T) (v : ℕ → ℕ) (n : ℕ)

@@ -1,3 +1,4 @@
 pub mod Entries
 pub mod EntryLaws
+pub mod ProductLaws
 pub mod Products

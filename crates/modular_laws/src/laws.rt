@@ -1,7 +1,8 @@
 //! Laws in the shape that calls and loops leave, as contracts of calls that do nothing. A caller calls
 //! the function and cites its clauses.
 
-ghost use Rattle.std.specs.Prelude.{◌≡◌, ◌≢◌, ℕ, ◌+◌, ◌-◌, ◌*◌, ◌/◌, ◌%◌, ◌^◌, ◌<◌, ◌≤◌, ◌↔◌, pos, ◌-ℤ◌, List, length, slice_index};
+ghost use Rattle.std.specs.Prelude.{◌≡◌, ◌≢◌, ℕ, ◌+◌, ◌-◌, ◌*◌, ◌/◌, ◌%◌, ◌^◌, ◌<◌};
+ghost use Rattle.std.specs.Prelude.{◌≤◌, ◌↔◌, pos, ◌-ℤ◌, List, length, slice_index};
 ghost use Rattle.modular_word.specs.Inverses.{IsInverse, HasInverse};
 ghost use Rattle.modular_word.specs.Residues.{residue};
 ghost use Rattle.modular_word.specs.Sums.{sum_below};
@@ -26,7 +27,8 @@ pub fn undoing_laws()
 pub fn sum_below_laws()
     ensures same { (n : ℕ) (f g : ℕ → ℕ) → ((i : ℕ) → i < n → f i ≡ g i) → sum_below n f ≡ sum_below n g }
     ensures single { (n k : ℕ) (f : ℕ → ℕ) → k < n → ((i : ℕ) → i < n → i ≢ k → f i ≡ 0) → sum_below n f ≡ f k }
-    ensures tail { (n d : ℕ) (f : ℕ → ℕ) → ((i : ℕ) → n ≤ i → i < n + d → f i ≡ 0) → sum_below (n + d) f ≡ sum_below n f }
+    ensures tail { (n d : ℕ) (f : ℕ → ℕ) → ((i : ℕ) → n ≤ i → i < n + d → f i ≡ 0)
+        → sum_below (n + d) f ≡ sum_below n f }
     ensures bound { (n b : ℕ) (f : ℕ → ℕ) → ((i : ℕ) → i < n → f i ≤ b) → sum_below n f ≤ n * b }
 {}
 
@@ -42,7 +44,8 @@ pub fn product_below_laws()
 
 /// A product has an inverse exactly where both factors have, and one over a range exactly where each
 /// factor has. An inverse of a·b times b is one of a, times a it is one of b, and the product of the
-/// inverses is one of the product.
+/// inverses is one of the product. Over a range, an inverse of the product times the last factor is one of
+/// the product before it, and times that product's residue it is one of the last factor.
 ///
 /// Source: Gauss, Disquisitiones Arithmeticae, articles 29 and 31; for a range, Montgomery, "Speeding the
 /// Pollard and elliptic curve methods of factorization", section 10.3.1.
@@ -51,6 +54,10 @@ pub fn inverse_product_laws()
     ensures left { (m a b x : ℕ) → IsInverse m (a * b) x → IsInverse m a ((x * b) % m) }
     ensures right { (m a b x : ℕ) → IsInverse m (a * b) x → IsInverse m b ((x * a) % m) }
     ensures product { (m a b x y : ℕ) → IsInverse m a x → IsInverse m b y → IsInverse m (a * b) ((x * y) % m) }
+    ensures before { (m i j b w x : ℕ) (f : ℕ → ℕ) → IsInverse m (product_below j f) x → j ≡ i + 1 →
+        w ≡ (x * b) % m → b ≡ f i → IsInverse m (product_below i f) w }
+    ensures last { (m i j b w x : ℕ) (f : ℕ → ℕ) → IsInverse m (product_below j f) x → j ≡ i + 1 →
+        w ≡ (x * b) % m → b ≡ product_below i f % m → IsInverse m (f i) w }
     ensures each { (m n : ℕ) (f : ℕ → ℕ) → 0 < m →
         HasInverse m (product_below n f) ↔ ((i : ℕ) → i < n → HasInverse m (f i)) }
 {}

@@ -1,3 +1,4 @@
 pub mod MontgomerySteps
 pub mod NegatedInverses
 pub mod ProthModuli
+pub mod SquareTests

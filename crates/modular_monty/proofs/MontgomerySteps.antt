@@ -1,5 +1,6 @@
 -- What each operation modulo an odd m makes of forms.
-use Rattle.std.proofs.Common.{◌≡◌, ℕ, ◌+◌, ◌*◌, ◌/◌, ◌%◌, ◌<◌, ◌↔◌, Some, None, sym, ap, ◌∙◌, arith, refl, pos, ◌-ℤ◌, neg_ℤ, subst}
+use Rattle.std.proofs.Common.{◌≡◌, ℕ, ◌+◌, ◌*◌, ◌/◌, ◌%◌, ◌<◌, ◌↔◌, Some, None}
+use Rattle.std.proofs.Common.{sym, ap, ◌∙◌, arith, refl, pos, ◌-ℤ◌, neg_ℤ, subst}
 use Rattle.std.proofs.Math.Nat.{mul-le-mul_left, mod-lt, mod-mod, mod-eq_of_lt}
 use Rattle.std.proofs.lemmas.Nat.{mul-mod_first, mul-lt}
 use Rattle.std.proofs.lemmas.Int.{ints}
@@ -39,7 +40,10 @@ module _ {w b m i square : ℕ} (r : IsOddRing w b m i square) where
   pub made : (x : ℕ) {f : ℕ} → f ≡ (x * b) % m → Made w m f (x % m)
   made x e =
       answered (montgomery_canonical r)
-      (record { below = mod-lt x (positive r); same = e ∙ sym (mul-mod_first x b m) ∙ ap (λ n. (x % m * n) % m) r.base })
+      (record {
+        below = mod-lt x (positive r);
+        same = e ∙ sym (mul-mod_first x b m) ∙ ap (λ n. (x % m * n) % m) r.base;
+      })
 
   -- what reduces x * b * b is the form of x modulo m
   reduced_made : (x : ℕ) {t f : ℕ} → t % m ≡ (x * b * b) % m → IsReduction b m t f → Made w m f (x % m)
@@ -90,7 +94,8 @@ module _ {w b m i square : ℕ} (r : IsOddRing w b m i square) where
   double_made {f} is eh =
       let v = montgomery_value w m f in
       made (2 * v)
-      (eh ∙ same_product m 2 2 f (v * b) refl (same_form is) ∙ ap (λ n. n % m) (let e : 2 * (v * b) ≡ 2 * v * b = omega arith in e))
+      (eh ∙ same_product m 2 2 f (v * b) refl (same_form is)
+      ∙ ap (λ n. n % m) (let e : 2 * (v * b) ≡ 2 * v * b = omega arith in e))
 
   -- the reduction of a product of two forms is the form of the product
   pub product_made : {f g t h : ℕ} → Checked w m f → Checked w m g → t ≡ f * g → IsReduction b m t h
@@ -112,7 +117,8 @@ module _ {w b m i square : ℕ} (r : IsOddRing w b m i square) where
       let some = positive r in
       let hh : h < m = omega (arith, eh, difference_below m f g some) in
       let sum : (h + x * b) % m ≡ (d * b + x * b) % m =
-      same_sum m h h (x * b) g refl (sym (same_form isg)) ∙ ap (λ n. (n + g) % m) eh ∙ difference_and m f g some ∙ same_form isf
+      same_sum m h h (x * b) g refl (sym (same_form isg)) ∙ ap (λ n. (n + g) % m) eh
+      ∙ difference_and m f g some ∙ same_form isf
       ∙ same_product m v (d + x) b b (sym (difference_and m v x some)) refl
       ∙ ap (λ n. n % m) (let e : (d + x) * b ≡ d * b + x * b = omega arith in e) in
       subst (Made w m h) (mod-eq_of_lt (difference_below m v x some))
@@ -163,7 +169,8 @@ module _ {w b m i square : ℕ} (r : IsOddRing w b m i square) where
       (omega arith, omega (arith, none, r.fits, mul-le-mul_left b (positive r)))
 
 -- an inverse of the value, and its form
-pub inverted : {T : Type 0} (number : T → ℕ) {form value : ℕ → ℕ → ℕ} {w m : ℕ} → IsCanonical form value w m → {f v x : ℕ} {h : T}
+pub inverted : {T : Type 0} (number : T → ℕ) {form value : ℕ → ℕ → ℕ} {w m : ℕ}
+    → IsCanonical form value w m → {f v x : ℕ} {h : T}
     → Represents form m f v → IsInverse m v x → Represents form m (number h) (x % m)
     → InverseAnswered number form value m (value m f) (Some h)
 inverted number {form} {value} {w} {m} r {f} {v} {x} {h} of is made =
@@ -174,7 +181,8 @@ inverted number {form} {value} {w} {m} r {f} {v} {x} {h} of is made =
     )
 
 -- where the value has no inverse, the form's value has none
-pub not_inverted : {T : Type 0} (number : T → ℕ) {form value : ℕ → ℕ → ℕ} {w m : ℕ} → IsCanonical form value w m → {f v : ℕ}
+pub not_inverted : {T : Type 0} (number : T → ℕ) {form value : ℕ → ℕ → ℕ} {w m : ℕ}
+    → IsCanonical form value w m → {f v : ℕ}
     → Represents form m f v → ((x : ℕ) → IsInverse m v x → ⊥) → InverseAnswered number form value m (value m f) None
 not_inverted number {form} {value} {w} {m} r {f} {v} of none =
     inverse_answered number (value m f) None r

@@ -11,5 +11,6 @@ inverse_of_negated b d n i h is e =
     let both : (d * i + d * n) % b ≡ (1 + d * n) % b =
     ap (λ v. v % b) (let s : d * i + d * n ≡ d * (i + n) = omega arith in s)
     ∙ same_product b d d (i + n) 0 refl (e ∙ sym z) ∙ ap (λ v. v % b) (let s : d * 0 ≡ 0 = omega arith in s)
-    ∙ sym (next_is_multiple b (d * n) (omega arith) is.product) ∙ ap (λ v. v % b) (let s : d * n + 1 ≡ 1 + d * n = omega arith in s) in
+    ∙ sym (next_is_multiple b (d * n) (omega arith) is.product)
+    ∙ ap (λ v. v % b) (let s : d * n + 1 ≡ 1 + d * n = omega arith in s) in
     same_without b (d * i) 1 (d * n) (omega arith) both ∙ mod-eq_of_lt h

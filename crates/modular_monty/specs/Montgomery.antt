@@ -1,4 +1,5 @@
--- Montgomery's representation of residues (Handbook of Applied Cryptography, section 14.3.2). The words have w bits and b numbers.
+-- Montgomery's representation of residues (Handbook of Applied Cryptography,
+-- section 14.3.2). The words have w bits and b numbers.
 use Rattle.std.specs.Prelude.{◌≡◌, ℕ, ◌*◌, ◌%◌, ◌^◌, ◌<◌}
 use Rattle.modular_word.specs.Reduction.{IsNegatedInverse}
 use Rattle.modular_monty.specs.Values.{value_from}

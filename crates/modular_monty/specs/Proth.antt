@@ -1,11 +1,13 @@
--- The moduli k * 2^n + 1, as the reducers of fixed moduli take them (Proth, "Théorèmes sur les nombres premiers", Comptes rendus 87, 1878).
+-- The moduli k * 2^n + 1, as the reducers of fixed moduli take them (Proth,
+-- "Théorèmes sur les nombres premiers", Comptes rendus 87, 1878).
 use Rattle.std.specs.Prelude.{◌≡◌, ℕ, ◌+◌, ◌*◌, ◌%◌, ◌^◌, ◌<◌, ◌≤◌}
 
 -- the modulus of the parameters n and k
 abbrev pub proth_modulus : ℕ → ℕ → ℕ
 proth_modulus n k = k * 2 ^ n + 1
 
--- the greatest moduli that are taken are those of the Rust crate num-modular: the base by the golden ratio, rounded down, at 32 bits, and 1000 more than that at 64; no modulus of the form lies so near to either
+-- the greatest moduli that are taken are those of the Rust crate num-modular: the base by the golden ratio,
+-- rounded down, at 32 bits, and 1000 more than that at 64; no modulus of the form lies so near to either
 abbrev pub greatest_proth_32 : ℕ
 greatest_proth_32 = 2654435769
 

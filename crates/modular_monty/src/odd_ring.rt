@@ -1,8 +1,8 @@
 //! Odd moduli by Montgomery's representation, which every reducer of this crate rests on: the calls
 //! of a reducer once, over whatever knows an odd modulus and reduces by it.
 
-ghost use Rattle.std.specs.Prelude.{◌≡◌, ℕ, ◌*◌, ◌%◌, ◌<◌, ⊤};
-ghost use Rattle.modular_word.specs.Reduction.{IsReduction};
+ghost use Rattle.std.specs.Prelude.{◌≡◌, ℕ, ◌*◌, ◌%◌, ◌<◌, ◌↔◌, ⊤, IsTrue, MatchOption};
+ghost use Rattle.modular_word.specs.Reduction.{IsNegatedInverse, IsReduction};
 ghost use Rattle.modular_monty.specs.Montgomery.{montgomery_form, montgomery_value, IsOddRing};
 ghost use Rattle.modular_monty.specs.MontgomeryLaws.{montgomery_canonical};
 
@@ -64,6 +64,34 @@ pub(crate) fn computed_once<T: PlainWord>(m: T) -> (T, T)
     (negated_inverse, square)
 }
 
+// Whether a word is 1.
+fn is_one<T: PathWord>(x: T) -> bool
+    ensures { IsTrue result ↔ (T.number x ≡ 1) }
+{
+    x == T::one()
+}
+
+// Whether n is the negated inverse of m modulo the base.
+fn is_negated_inverse<T: PathWord>(m: T, n: T) -> bool
+    ensures { IsTrue result ↔ IsNegatedInverse T.base (T.number m) (T.number n) }
+{
+    m.wrapping_mul(n).wrapping_add(T::one()).is_zero_word()
+}
+
+// Whether a word is the square of the base modulo m: two reductions make 1 of that alone.
+fn is_square_of_base<T: PathWord>(m: T, negated_inverse: T, square: T) -> bool
+    requires odd { T.number m % 2 ≡ 1 }
+    requires inverse { IsNegatedInverse T.base (T.number m) (T.number negated_inverse) }
+    ensures { IsTrue result ↔ (T.number square ≡ (T.base * T.base) % T.number m) }
+{
+    if !square.is_below(m) {
+        return false;
+    }
+    let base = redc(m, negated_inverse, T::merge(square, T::zero()));
+    let unit = redc(m, negated_inverse, T::merge(base, T::zero()));
+    is_one(unit) || is_one(m)
+}
+
 /// The reducer by Montgomery's representation modulo what it holds: the form of v is v times the
 /// base, modulo m, the base being 2 to the width of the words T. `new` takes the moduli that M takes.
 ///
@@ -74,6 +102,18 @@ pub(crate) fn computed_once<T: PlainWord>(m: T) -> (T, T)
 pub struct OddRing<T: PlainWord, M: OddModulus<T>> {
     pub kept: M,
     word: PhantomData<T>,
+}
+
+impl<T: PlainWord, M: OddModulus<T>> OddRing<T, M> {
+    /// The reducer by what is kept of its modulus.
+    pub fn over(kept: M) -> Self
+        ensures { result.kept ≡ kept }
+    {
+        OddRing {
+            kept,
+            word: PhantomData,
+        }
+    }
 }
 
 impl<T: PlainWord, M: OddModulus<T>> Reducer<T> for OddRing<T, M> {
@@ -90,10 +130,7 @@ impl<T: PlainWord, M: OddModulus<T>> Reducer<T> for OddRing<T, M> {
     ghost canonical = { λ r. montgomery_canonical (M.is_odd_ring r.kept) };
 
     fn new(m: &T) -> Self {
-        OddRing {
-            kept: M::keep(*m),
-            word: PhantomData,
-        }
+        OddRing::over(M::keep(*m))
     }
 
     // A product and a reduction in place of the division of a double word.
@@ -176,6 +213,29 @@ impl<T: PlainWord> Clone for StoredModulus<T> {
 }
 
 impl<T: PlainWord> Copy for StoredModulus<T> {}
+
+impl<T: PlainWord> StoredModulus<T> {
+    /// What is stored of m, by the two numbers that were computed of it before; `None` exactly where m is
+    /// even or one of them isn't that number. No division is made.
+    pub fn restored(m: T, negated_inverse: T, square: T) -> Option<StoredModulus<T>>
+        ensures { MatchOption result
+            (IsOddRing T.width T.base (T.number m) (T.number negated_inverse) (T.number square) → ⊥)
+            (λ s. (s.modulus ≡ m) × (s.negated_inverse ≡ negated_inverse) × (s.square ≡ square)) }
+    {
+        if m.is_odd()
+            && is_negated_inverse(m, negated_inverse)
+            && is_square_of_base(m, negated_inverse, square)
+        {
+            Some(StoredModulus {
+                modulus: m,
+                negated_inverse,
+                square,
+            })
+        } else {
+            None
+        }
+    }
+}
 
 impl<T: PlainWord> OddModulus<T> for StoredModulus<T> {
     ghost taken = { λ m. m % 2 ≡ 1 };

@@ -1,5 +1,6 @@
 -- A list of words as the function from places to numbers: what is read and what is written.
-use Rattle.std.proofs.Common.{◌≡◌, ◌≢◌, ℕ, ◌+◌, ◌%◌, ◌<◌, ◌≤◌, List, All, map, get_or, length, inl, inr, sym, ◌∙◌, ap, arith, subst, get_or-set_same, get_or-set_other}
+use Rattle.std.proofs.Common.{◌≡◌, ◌≢◌, ℕ, ◌+◌, ◌%◌, ◌<◌, ◌≤◌, List, All, map, get_or, length, inl}
+use Rattle.std.proofs.Common.{inr, sym, ◌∙◌, ap, arith, subst, get_or-set_same, get_or-set_other}
 use Rattle.std.proofs.Math.Nat.{mod-lt}
 use Rattle.std.proofs.lemmas.Bool.{cases_eq}
 use Rattle.std.proofs.Math.ListN.{set, length-set}
@@ -7,42 +8,51 @@ use Rattle.std.proofs.lemmas.List.{get_or-map, map-set}
 use Rattle.modular_plan.specs.Plans.{numbers}
 
 -- the number at place i
-pub number_at : {T : Type 0} (number : T → ℕ) (words : List T) (i : ℕ) (d : T) → i < length words → number (get_or words i d) ≡ numbers number words i
+pub number_at : {T : Type 0} (number : T → ℕ) (words : List T) (i : ℕ) (d : T) → i < length words
+    → number (get_or words i d) ≡ numbers number words i
 number_at number words i d below = sym (get_or-map number words i d 0 below)
 
 -- the number of a word that was read at place i
-pub number_read : {T : Type 0} (number : T → ℕ) (words : List T) (i : ℕ) (x : T) → i < length words → x ≡ get_or words i x → number x ≡ numbers number words i
+pub number_read : {T : Type 0} (number : T → ℕ) (words : List T) (i : ℕ) (x : T) → i < length words
+    → x ≡ get_or words i x → number x ≡ numbers number words i
 number_read number words i x below is = ap number is ∙ number_at number words i x below
 
 -- after a write: the place itself ..
-pub written : {T : Type 0} (number : T → ℕ) (words : List T) (i : ℕ) (x : T) → i < length words → numbers number (set words i x) i ≡ number x
+pub written : {T : Type 0} (number : T → ℕ) (words : List T) (i : ℕ) (x : T) → i < length words
+    → numbers number (set words i x) i ≡ number x
 written number words i x below =
     let l : i < length (set words i x) = subst (λ n. i < n) (sym (length-set words i x)) below in
     sym (number_at number (set words i x) i x l) ∙ ap number (get_or-set_same words i x x below)
 
 -- .. and every other
-pub not_written : {T : Type 0} (number : T → ℕ) (words : List T) (i j : ℕ) (x : T) → j ≢ i → numbers number (set words i x) j ≡ numbers number words j
+pub not_written : {T : Type 0} (number : T → ℕ) (words : List T) (i j : ℕ) (x : T) → j ≢ i
+    → numbers number (set words i x) j ≡ numbers number words j
 not_written number words i j x ne =
     ap (λ vs. get_or vs j 0) (map-set number words i x) ∙ get_or-set_other (map number words) i j (number x) 0 ne
 
 -- a bound of all words
-pub bounded : {T : Type 0} (number : T → ℕ) (bound : ℕ) (words : List T) (i : ℕ) (d : T) → All (λ x. number x < bound) words → i < length words → numbers number words i < bound
+pub bounded : {T : Type 0} (number : T → ℕ) (bound : ℕ) (words : List T) (i : ℕ) (d : T)
+    → All (λ x. number x < bound) words → i < length words → numbers number words i < bound
 bounded number bound words i d all below = subst (λ v. v < bound) (number_at number words i d below) (all i d below)
 
 -- a loop that writes entry after entry
-pub entry_done : {T : Type 0} (number : T → ℕ) (words : List T) (i : ℕ) (x : T) (target : ℕ → ℕ) → i < length words → ((k : ℕ) → k < i → numbers number words k ≡ target k)
+pub entry_done : {T : Type 0} (number : T → ℕ) (words : List T) (i : ℕ) (x : T) (target : ℕ → ℕ) → i < length words
+    → ((k : ℕ) → k < i → numbers number words k ≡ target k)
     → number x ≡ target i → (k : ℕ) → k < i + 1 → numbers number (set words i x) k ≡ target k
 entry_done number words i x target within before is k l = elim (cases_eq k i) [
   | inl e ↦ ap (numbers number (set words i x)) e ∙ written number words i x within ∙ is ∙ ap target (sym e)
   | inr ne ↦ not_written number words i k x ne ∙ before k (omega arith)
 ]
 
-pub entry_kept : {T : Type 0} (number : T → ℕ) (words : List T) (i : ℕ) (x : T) (old : ℕ → ℕ) → ((k : ℕ) → i ≤ k → numbers number words k ≡ old k)
+pub entry_kept : {T : Type 0} (number : T → ℕ) (words : List T) (i : ℕ) (x : T) (old : ℕ → ℕ)
+    → ((k : ℕ) → i ≤ k → numbers number words k ≡ old k)
     → (k : ℕ) → i + 1 ≤ k → numbers number (set words i x) k ≡ old k
-entry_kept number words i x old before k l = let ne : k ≢ i = omega arith in not_written number words i k x ne ∙ before k (omega arith)
+entry_kept number words i x old before k l = let ne : k ≢ i = omega arith in
+    not_written number words i k x ne ∙ before k (omega arith)
 
 -- all words below m, by their residues
-pub all_residues : {T : Type 0} (number : T → ℕ) (m n : ℕ) (words : List T) (old : ℕ → ℕ) → 0 < m → length words ≡ n → ((k : ℕ) → k < n → numbers number words k ≡ old k % m)
+pub all_residues : {T : Type 0} (number : T → ℕ) (m n : ℕ) (words : List T) (old : ℕ → ℕ) → 0 < m → length words ≡ n
+    → ((k : ℕ) → k < n → numbers number words k ≡ old k % m)
     → All (λ x. number x < m) words
 all_residues number m n words old some len is i d below =
     subst (λ v. v < m) (sym (number_at number words i d below ∙ is i (omega arith))) (mod-lt (old i) some)

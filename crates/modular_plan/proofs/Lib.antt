@@ -1,7 +1,16 @@
+pub mod Columns
+pub mod Constants
+pub mod Convolutions
 pub mod Entries
+pub mod Fours
+pub mod Joins
 pub mod Levels
+pub mod Mirrors
 pub mod NaturalOrder
 pub mod Quotients
 pub mod SmallBases
+pub mod SmallProducts
 pub mod Steps
 pub mod Tables
+pub mod TwoJoins
+pub mod TwoLevels

@@ -1,5 +1,6 @@
 -- The remainders modulo X - c, put in natural order, are the transform.
-use Rattle.std.proofs.Common.{◌≡◌, ℕ, suc, zero, ◌+◌, ◌-◌, ◌*◌, ◌/◌, ◌%◌, ◌^◌, ◌<◌, ◌≤◌, List, length, inl, inr, refl, sym, ◌∙◌, ap, arith}
+use Rattle.std.proofs.Common.{◌≡◌, ℕ, suc, zero, ◌+◌, ◌-◌, ◌*◌, ◌/◌, ◌%◌, ◌^◌, ◌<◌}
+use Rattle.std.proofs.Common.{◌≤◌, List, length, inl, inr, refl, sym, ◌∙◌, ap, arith}
 use Rattle.std.proofs.Math.Nat.{two-pow-succ, pow-le-pow_right, mul-div_cancel_left}
 use Rattle.std.proofs.lemmas.Bool.{cases_lt}
 use Rattle.std.proofs.lemmas.Nat.{pow-add, pow_pos}
@@ -7,7 +8,8 @@ use Rattle.modular_word.proofs.Powers.{pow-mul}
 use Rattle.modular_word.proofs.Sums.{sum_below-same}
 use Rattle.modular_transform.specs.Orders.{bits_reversed, IsReordered}
 use Rattle.modular_transform.specs.Transforms.{transform}
-use Rattle.modular_transform.proofs.BitReversal.{bits_reversed-suc, bits_reversed_of_zero, bits_reversed_below, bits_reversed_twice}
+use Rattle.modular_transform.proofs.BitReversal.{bits_reversed-suc, bits_reversed_of_zero}
+use Rattle.modular_transform.proofs.BitReversal.{bits_reversed_below, bits_reversed_twice}
 use Rattle.modular_plan.specs.Plans.{numbers, constant, AreRemainders}
 use Rattle.modular_plan.proofs.Tables.{number_reordered}
 
@@ -28,7 +30,8 @@ reversed_among_more d (suc t) w p e below =
     let r = bits_reversed t (p / 2) in
     let b = p % 2 in
     let product : r * 2 ^ d + b * (2 ^ t * 2 ^ d) ≡ (r + b * 2 ^ t) * 2 ^ d = omega arith in
-    ap (λ n. bits_reversed n p) is_next ∙ bits_reversed-suc (t + d) p ∙ ap (λ n. n + b * 2 ^ (t + d)) rest ∙ ap (λ n. r * 2 ^ d + b * n) (pow-add 2 t d) ∙ product
+    ap (λ n. bits_reversed n p) is_next ∙ bits_reversed-suc (t + d) p ∙ ap (λ n. n + b * 2 ^ (t + d)) rest
+    ∙ ap (λ n. r * 2 ^ d + b * n) (pow-add 2 t d) ∙ product
     ∙ ap (λ n. n * 2 ^ d) (sym (bits_reversed-suc t p))
 
 -- a plan for 2^z entries is long enough for 2^bits
@@ -55,8 +58,10 @@ constant_power g d z n bits j k is_more below =
     ap (λ v. (g ^ v) ^ k) turn ∙ sym (pow-mul g (j * 2 ^ d) k) ∙ ap (λ v. g ^ v) same ∙ pow-mul g (2 ^ d) (k * j)
 
 -- the list of remainders modulo X - c, with its places' bits reversed, is the transform
-pub in_natural_order : {T : Type 0} (number : T → ℕ) (m g z n count bits : ℕ) (x : ℕ → ℕ) (split new : List T) → n ≡ 2 ^ bits → count ≡ 2 ^ z / 2
-    → n / 2 ≤ count → length split ≡ n → length new ≡ n → IsReordered (bits_reversed bits) split new → AreRemainders m g z 0 n 1 x (numbers number split)
+pub in_natural_order : {T : Type 0} (number : T → ℕ) (m g z n count bits : ℕ) (x : ℕ → ℕ) (split new : List T)
+    → n ≡ 2 ^ bits → count ≡ 2 ^ z / 2
+    → n / 2 ≤ count → length split ≡ n → length new ≡ n → IsReordered (bits_reversed bits) split new
+    → AreRemainders m g z 0 n 1 x (numbers number split)
     → (j : ℕ) → j < n → numbers number new j ≡ transform m (g ^ (2 ^ z / n)) n x j
 in_natural_order number m g z n count bits x split new whole half within len len_new reordered remainders j below =
     let p = bits_reversed bits j in
@@ -69,10 +74,13 @@ in_natural_order number m g z n count bits x split new whole half within len len
     let at = number_reordered number split new j p (omega (arith, len_new, below)) (omega (arith, len, p_below))
     (λ e. reordered.each j e (omega (arith, len, below))) in
     let place : p ≡ p * 1 + 0 = omega arith in
-    let root : 2 ^ z / n ≡ 2 ^ d = ap (λ v. 2 ^ v / n) is_more ∙ ap (λ v. v / n) (pow-add 2 bits d) ∙ ap (λ v. 2 ^ bits * 2 ^ d / v) whole
+    let root : 2 ^ z / n ≡ 2 ^ d = ap (λ v. 2 ^ v / n) is_more ∙ ap (λ v. v / n) (pow-add 2 bits d)
+    ∙ ap (λ v. 2 ^ bits * 2 ^ d / v) whole
     ∙ mul-div_cancel_left (2 ^ d) (pow_pos bits) in
-    let terms = sum_below-same n (λ k. x (k * 1 + 0) * constant g z (0 * n + p) ^ k) (λ k. x k * (g ^ (2 ^ d)) ^ (k * j))
+    let terms = sum_below-same n (λ k. x (k * 1 + 0) * constant g z (0 * n + p) ^ k)
+    (λ k. x k * (g ^ (2 ^ d)) ^ (k * j))
     (λ k l. let e : k * 1 + 0 ≡ k = omega arith in
-    ap (λ v. x v * constant g z (0 * n + p) ^ k) e ∙ ap (λ v. x k * v) (constant_power g d z n bits j k is_more inside)) in
+    ap (λ v. x v * constant g z (0 * n + p) ^ k) e
+    ∙ ap (λ v. x k * v) (constant_power g d z n bits j k is_more inside)) in
     at ∙ ap (λ v. numbers number split v) place ∙ remainders.each p 0 p_below (omega arith) ∙ ap (λ v. v % m) terms
     ∙ ap (λ v. transform m (g ^ v) n x j) (sym root)

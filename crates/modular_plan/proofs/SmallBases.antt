@@ -1,5 +1,6 @@
 -- Roots by powers of small numbers.
-use Rattle.std.proofs.Common.{◌≡◌, ℕ, suc, zero, ◌+◌, ◌-◌, ◌*◌, ◌/◌, ◌%◌, ◌^◌, ◌<◌, neg_ℤ, pos, sym, ◌∙◌, ap, refl, arith}
+use Rattle.std.proofs.Common.{◌≡◌, ℕ, suc, zero, ◌+◌, ◌-◌, ◌*◌, ◌/◌, ◌%◌, ◌^◌}
+use Rattle.std.proofs.Common.{◌<◌, neg_ℤ, pos, sym, ◌∙◌, ap, refl, arith}
 use Rattle.std.proofs.Math.Nat.{mod-eq_of_lt, div-div-eq-div-mul, add-mod}
 use Rattle.std.proofs.lemmas.Nat.{pow-add, pow-mod}
 use Rattle.modular_word.specs.Residues.{residue}

@@ -1,16 +1,19 @@
 -- Pairs make blocks, and blocks make stages.
-use Rattle.std.proofs.Common.{◌≡◌, ◌≢◌, ℕ, ◌+◌, ◌*◌, ◌%◌, ◌<◌, ◌≤◌, List, length, inl, inr, refl, sym, ◌∙◌, ap, arith, subst}
+use Rattle.std.proofs.Common.{◌≡◌, ◌≢◌, ℕ, ◌+◌, ◌*◌, ◌%◌, ◌<◌, ◌≤◌, List, length}
+use Rattle.std.proofs.Common.{inl, inr, refl, sym, ◌∙◌, ap, arith, subst}
 use Rattle.std.proofs.Math.ListN.{set, length-set}
 use Rattle.std.proofs.Math.Nat.{add-mul-mod_self_right, mul-le-mul_right}
 use Rattle.std.proofs.lemmas.Bool.{cases_eq}
 use Rattle.modular_word.specs.Congruence.{Congruent}
-use Rattle.modular_word.proofs.Congruence.{of_equal, itself, turned, chained, added, mod_of_multiple_left}
+use Rattle.modular_word.proofs.Congruence.{of_equal, itself, turned, chained, added}
+use Rattle.modular_word.proofs.Congruence.{multiplied, cancelled, mod_of_multiple_left}
 use Rattle.modular_plan.specs.Plans.{numbers}
-use Rattle.modular_plan.specs.Steps.{IsPairSplit, PairSplit, BlockSplit, StageSplit}
+use Rattle.modular_plan.specs.Steps.{IsPairSplit, IsPairJoin, IsMinusInverse, PairDone, BlockDone, StageDone}
 use Rattle.modular_plan.proofs.Entries.{written, not_written}
 
 -- the sum and the difference of a pair
-pub pair_of : {m : ℕ} (w a b x t rest sum difference : ℕ) → x ≡ a % (2 * m) → Congruent m t (b * w) → rest + t ≡ 2 * m → sum ≡ x + t → difference ≡ x + rest
+pub pair_of : {m : ℕ} (w a b x t rest sum difference : ℕ) → x ≡ a % (2 * m) → Congruent m t (b * w) → rest + t ≡ 2 * m
+    → sum ≡ x + t → difference ≡ x + rest
     → IsPairSplit m w a b sum difference
 pair_of {m} w a b x t rest sum difference is_x is_t is_rest is_sum is_difference =
     let first : Congruent m x a = record { same = ap (λ v. v % m) is_x ∙ mod_of_multiple_left m 2 a } in
@@ -21,64 +24,96 @@ pair_of {m} w a b x t rest sum difference is_x is_t is_rest is_sum is_difference
       subtracted = chained (added (itself difference) (turned is_t)) (chained (of_equal whole) (chained gone first));
     }
 
+-- the sum of a pair, and its difference times v, minus the inverse of w
+pub joined_pair_of : {m : ℕ} (w v a b x y rest product sum : ℕ) → x ≡ a % (2 * m) → y ≡ b % (2 * m) → rest + x ≡ 2 * m
+    → sum ≡ x + y → Congruent m product ((y + rest) * v)
+    → IsMinusInverse m w v → IsPairJoin m w a b sum product
+joined_pair_of {m} w v a b x y rest product sum is_x is_y is_rest is_sum is_product inverse =
+    let first : Congruent m x a = record { same = ap (λ v. v % m) is_x ∙ mod_of_multiple_left m 2 a } in
+    let second : Congruent m y b = record { same = ap (λ v. v % m) is_y ∙ mod_of_multiple_left m 2 b } in
+    let spread : (y + rest) * v * w + y + rest ≡ (y + rest) * (w * v + 1) = omega arith in
+    let none : (y + rest) * 0 ≡ 0 = omega arith in
+    let all : Congruent m (product * w + y + rest) 0 =
+    chained (added (added (multiplied is_product (itself w)) (itself y)) (itself rest))
+    (chained (of_equal spread) (chained (multiplied (itself (y + rest)) inverse.product) (of_equal none))) in
+    let whole : x + rest ≡ 0 + 2 * m = omega arith in
+    let gone : Congruent m (0 + 2 * m) 0 = record { same = add-mul-mod_self_right 0 2 m } in
+    let left : Congruent m (product * w + y) x =
+    cancelled rest (chained all (turned (chained (of_equal whole) gone))) in
+    record {
+      summed = chained (of_equal is_sum) (added first second);
+      subtracted = chained (added (itself (product * w)) (turned second)) (chained left first);
+    }
+
 -- what a pair writes
-pub pair_written : {T : Type 0} (number : T → ℕ) (m w : ℕ) (words : List T) (low high : ℕ) (sum difference : T) → low < high → high < length words
-    → IsPairSplit m w (numbers number words low) (numbers number words high) (number sum) (number difference)
-    → PairSplit m w low high (numbers number words) (numbers number (set (set words high difference) low sum))
-pair_written number m w words low high sum difference order within pair =
+pub pair_written : {T : Type 0} (number : T → ℕ) (R : ℕ → ℕ → ℕ → ℕ → Type 0) (words : List T) (low high : ℕ)
+    (sum difference : T) → low < high → high < length words
+    → R (numbers number words low) (numbers number words high) (number sum) (number difference)
+    → PairDone R low high (numbers number words) (numbers number (set (set words high difference) low sum))
+pair_written number R words low high sum difference order within pair =
     let x = numbers number words in
     let y = numbers number (set (set words high difference) low sum) in
     let l : low < length words = omega arith in
-    let ls : low < length (set words high difference) = subst (λ n. low < n) (sym (length-set words high difference)) l in
+    let ls : low < length (set words high difference) =
+    subst (λ n. low < n) (sym (length-set words high difference)) l in
     let ne : high ≢ low = omega arith in
     let at_low : y low ≡ number sum = written number (set words high difference) low sum ls in
-    let at_high : y high ≡ number difference = not_written number (set words high difference) low high sum ne ∙ written number words high difference within in
+    let at_high : y high ≡ number difference =
+    not_written number (set words high difference) low high sum ne ∙ written number words high difference within in
     record {
-      pair = subst (λ v. IsPairSplit m w (x low) (x high) (y low) v) (sym at_high) (subst (λ v. IsPairSplit m w (x low) (x high) v (number difference)) (sym at_low) pair);
-      kept = λ k nl nh. not_written number (set words high difference) low k sum nl ∙ not_written number words high k difference nh;
+      pair = subst (λ v. R (x low) (x high) (y low) v) (sym at_high)
+          (subst (λ v. R (x low) (x high) v (number difference)) (sym at_low) pair);
+      kept = λ k nl nh.
+          not_written number (set words high difference) low k sum nl ∙ not_written number words high k difference nh;
     }
 
-pair_along : {m w a b s d a' b' s' d' : ℕ} → a ≡ a' → b ≡ b' → s ≡ s' → d ≡ d' → IsPairSplit m w a b s d → IsPairSplit m w a' b' s' d'
-pair_along {m} {w} {a} {b} {s} {d} {a'} {b'} {s'} {d'} ea eb es ed h =
-    subst (λ v. IsPairSplit m w v b' s' d') ea (subst (λ v. IsPairSplit m w a v s' d') eb (subst (λ v. IsPairSplit m w a b v d') es (subst (λ v. IsPairSplit m w a b s v) ed h)))
+pair_along : (R : ℕ → ℕ → ℕ → ℕ → Type 0) {a b s d a' b' s' d' : ℕ} → a ≡ a' → b ≡ b' → s ≡ s'
+    → d ≡ d' → R a b s d → R a' b' s' d'
+pair_along R {a} {b} {s} {d} {a'} {b'} {s'} {d'} ea eb es ed h =
+    subst (λ v. R v b' s' d') ea
+    (subst (λ v. R a v s' d') eb (subst (λ v. R a b v d') es (subst (λ v. R a b s v) ed h)))
 
-pub block_none : (m w first half : ℕ) (x : ℕ → ℕ) → BlockSplit m w first half 0 x x
-block_none m w first half x = record { pairs = λ i l. absurd (omega arith); kept = λ k n1 n2. refl }
+pub block_none : (R : ℕ → ℕ → ℕ → ℕ → Type 0) (first half : ℕ) (x : ℕ → ℕ) → BlockDone R first half 0 x x
+block_none R first half x = record { pairs = λ i l. absurd (omega arith); kept = λ k n1 n2. refl }
 
 -- one more column
-pub block_more : (m w first half i : ℕ) (x y after : ℕ → ℕ) → i < half → BlockSplit m w first half i x y → PairSplit m w (first + i) (first + (half + i)) y after
-    → BlockSplit m w first half (i + 1) x after
-block_more m w first half i x y after within before step = record {
+pub block_more : (R : ℕ → ℕ → ℕ → ℕ → Type 0) (first half i : ℕ) (x y after : ℕ → ℕ) → i < half
+    → BlockDone R first half i x y → PairDone R (first + i) (first + (half + i)) y after
+    → BlockDone R first half (i + 1) x after
+block_more R first half i x y after within before step = record {
   pairs = λ k l. elim (cases_eq k i) [
     | inl e ↦
         let low_kept = before.kept (first + i) (λ n s. omega arith) (λ n s. omega arith) in
         let high_kept = before.kept (first + (half + i)) (λ n s. omega arith) (λ n s. omega arith) in
-        subst (λ n. IsPairSplit m w (x (first + n)) (x (first + (half + n))) (after (first + n)) (after (first + (half + n)))) (sym e)
-        (pair_along low_kept high_kept refl refl step.pair)
+        subst (λ n. R (x (first + n)) (x (first + (half + n))) (after (first + n)) (after (first + (half + n)))) (sym e)
+        (pair_along R low_kept high_kept refl refl step.pair)
     | inr ne ↦
-        pair_along refl refl (sym (step.kept (first + k) (omega arith) (omega arith))) (sym (step.kept (first + (half + k)) (omega arith) (omega arith)))
+        pair_along R refl refl (sym (step.kept (first + k) (omega arith) (omega arith)))
+        (sym (step.kept (first + (half + k)) (omega arith) (omega arith)))
         (before.pairs k (omega arith))
   ];
-  kept = λ k n1 n2. step.kept k (n1 i (omega arith)) (n2 i (omega arith)) ∙ before.kept k (λ n s. n1 n (omega arith)) (λ n s. n2 n (omega arith));
+  kept = λ k n1 n2. step.kept k (n1 i (omega arith)) (n2 i (omega arith))
+      ∙ before.kept k (λ n s. n1 n (omega arith)) (λ n s. n2 n (omega arith));
 }
 
-pub stage_none : (m half : ℕ) (w x : ℕ → ℕ) → StageSplit m half 0 w x x
-stage_none m half w x = record { pairs = λ p i l k. absurd (omega arith); kept = λ k l. refl }
+pub stage_none : (R : ℕ → ℕ → ℕ → ℕ → ℕ → Type 0) (half : ℕ) (x : ℕ → ℕ) → StageDone R half 0 x x
+stage_none R half x = record { pairs = λ p i l k. absurd (omega arith); kept = λ k l. refl }
 
 -- one more block
-pub stage_more : (m half p factor : ℕ) (w x y after : ℕ → ℕ) → factor ≡ w p → StageSplit m half p w x y → BlockSplit m factor (p * (half + half)) half half y after
-    → StageSplit m half (p + 1) w x after
-stage_more m half p factor w x y after is before step = record {
+pub stage_more : (R : ℕ → ℕ → ℕ → ℕ → ℕ → Type 0) (half p : ℕ) (x y after : ℕ → ℕ) → StageDone R half p x y
+    → BlockDone (R p) (p * (half + half)) half half y after
+    → StageDone R half (p + 1) x after
+stage_more R half p x y after before step = record {
   pairs = λ q i l k. elim (cases_eq q p) [
     | inl e ↦
         let low_kept = before.kept (p * (half + half) + i) (omega arith) in
         let high_kept = before.kept (p * (half + half) + (half + i)) (omega arith) in
-        subst (λ n. IsPairSplit m (w n) (x (n * (half + half) + i)) (x (n * (half + half) + (half + i))) (after (n * (half + half) + i)) (after (n * (half + half) + (half + i)))) (sym e)
-        (subst (λ v. IsPairSplit m v (x (p * (half + half) + i)) (x (p * (half + half) + (half + i))) (after (p * (half + half) + i)) (after (p * (half + half) + (half + i)))) is
-        (pair_along low_kept high_kept refl refl (step.pairs i k)))
+        subst (λ n. R n (x (n * (half + half) + i)) (x (n * (half + half) + (half + i))) (after (n * (half + half) + i))
+        (after (n * (half + half) + (half + i)))) (sym e)
+        (pair_along (R p) low_kept high_kept refl refl (step.pairs i k))
     | inr ne ↦
         let room = mul-le-mul_right (half + half) (let r : q + 1 ≤ p = omega arith in r) in
-        pair_along refl refl
+        pair_along (R q) refl refl
         (sym (step.kept (q * (half + half) + i) (λ n s. omega (arith, room)) (λ n s. omega (arith, room))))
         (sym (step.kept (q * (half + half) + (half + i)) (λ n s. omega (arith, room)) (λ n s. omega (arith, room))))
         (before.pairs q i (omega arith) k)
@@ -87,9 +122,11 @@ stage_more m half p factor w x y after is before step = record {
 }
 
 -- all columns
-pub block_all : {m w first half i : ℕ} {x y : ℕ → ℕ} → BlockSplit m w first half i x y → i ≡ half → BlockSplit m w first half half x y
-block_all {m} {w} {first} {half} {i} {x} {y} done e = subst (λ n. BlockSplit m w first half n x y) e done
+pub block_all : {R : ℕ → ℕ → ℕ → ℕ → Type 0} {first half i : ℕ} {x y : ℕ → ℕ} → BlockDone R first half i x y → i ≡ half
+    → BlockDone R first half half x y
+block_all {R} {first} {half} {i} {x} {y} done e = subst (λ n. BlockDone R first half n x y) e done
 
 -- all blocks
-pub stage_all : {m half p blocks : ℕ} {w x y : ℕ → ℕ} → StageSplit m half p w x y → p ≡ blocks → StageSplit m half blocks w x y
-stage_all {m} {half} {p} {blocks} {w} {x} {y} done e = subst (λ n. StageSplit m half n w x y) e done
+pub stage_all : {R : ℕ → ℕ → ℕ → ℕ → ℕ → Type 0} {half p blocks : ℕ} {x y : ℕ → ℕ} → StageDone R half p x y
+    → p ≡ blocks → StageDone R half blocks x y
+stage_all {R} {half} {p} {blocks} {x} {y} done e = subst (λ n. StageDone R half n x y) e done

@@ -1,5 +1,6 @@
 -- The table of a plan: the powers of the root, put in bit-reversed order.
-use Rattle.std.proofs.Common.{◌≡◌, ℕ, suc, zero, ◌+◌, ◌-◌, ◌*◌, ◌/◌, ◌%◌, ◌^◌, ◌<◌, List, [], ◌∷◌, All, get_or, length, inl, inr, refl, sym, ◌∙◌, ap, arith, subst, get_or-set_same, get_or-set_other}
+use Rattle.std.proofs.Common.{◌≡◌, ℕ, suc, zero, ◌+◌, ◌-◌, ◌*◌, ◌/◌, ◌%◌, ◌^◌, ◌<◌, List, [], ◌∷◌, All, get_or}
+use Rattle.std.proofs.Common.{length, inl, inr, refl, sym, ◌∙◌, ap, arith, subst, get_or-set_same, get_or-set_other}
 use Rattle.std.proofs.Math.ListN.{set}
 use Rattle.std.proofs.Math.Nat.{two-pow-succ, pow-zero}
 use Rattle.std.proofs.lemmas.Bool.{cases_eq}
@@ -17,10 +18,12 @@ power_first m one power g is_one is = is ∙ ap (λ v. v % m) (is_one ∙ sym (p
 
 pub power_next : (m g k power next : ℕ) → power ≡ g ^ k % m → next ≡ (power * g) % m → next ≡ g ^ (k + 1) % m
 power_next m g k power next is e =
-    e ∙ ap (λ v. (v * g) % m) is ∙ mul-mod_first (g ^ k) g m ∙ ap (λ v. v % m) (ap (λ v. g ^ k * v) (sym (pow-one g)) ∙ sym (pow-add g k 1))
+    e ∙ ap (λ v. (v * g) % m) is ∙ mul-mod_first (g ^ k) g m
+    ∙ ap (λ v. v % m) (ap (λ v. g ^ k * v) (sym (pow-one g)) ∙ sym (pow-add g k 1))
 
 -- one more entry of which something holds
-pub factors_more : {T : Type 0} (P : T → Type 0) (words : List T) (i : ℕ) (x : T) → i < length words → ((k : ℕ) (d : T) → k < i → P (get_or words k d)) → P x
+pub factors_more : {T : Type 0} (P : T → Type 0) (words : List T) (i : ℕ) (x : T) → i < length words
+    → ((k : ℕ) (d : T) → k < i → P (get_or words k d)) → P x
     → (k : ℕ) (d : T) → k < i + 1 → P (get_or (set words i x) k d)
 factors_more P words i x within before is k d l = elim (cases_eq k i) [
   | inl e ↦ subst (λ n. P (get_or (set words i x) n d)) (sym e) (subst P (sym (get_or-set_same words i x d within)) is)
@@ -28,7 +31,8 @@ factors_more P words i x within before is k d l = elim (cases_eq k i) [
 ]
 
 -- a list in another order has what all had
-pub all_reordered : {T : Type 0} (P : T → Type 0) (bits n : ℕ) (old new : List T) → n ≡ 2 ^ bits → length old ≡ n → length new ≡ n
+pub all_reordered : {T : Type 0} (P : T → Type 0) (bits n : ℕ) (old new : List T) → n ≡ 2 ^ bits
+    → length old ≡ n → length new ≡ n
     → IsReordered (bits_reversed bits) old new → All P old → All P new
 all_reordered P bits n old new whole len len_new reordered all i d l =
     let b = bits_reversed_below bits i in
@@ -37,8 +41,10 @@ all_reordered P bits n old new whole len len_new reordered all i d l =
 -- one power of two has one exponent
 pow2_injective : (a b : ℕ) → 2 ^ a ≡ 2 ^ b → a ≡ b
 pow2_injective zero zero e = refl
-pow2_injective zero (suc b) e = let two = two-pow-succ b in let p = pow_pos b in let one : 2 ^ 0 ≡ 1 = refl in absurd (omega (arith, e, two, p, one))
-pow2_injective (suc a) zero e = let two = two-pow-succ a in let p = pow_pos a in let one : 2 ^ 0 ≡ 1 = refl in absurd (omega (arith, e, two, p, one))
+pow2_injective zero (suc b) e = let two = two-pow-succ b in let p = pow_pos b in
+    let one : 2 ^ 0 ≡ 1 = refl in absurd (omega (arith, e, two, p, one))
+pow2_injective (suc a) zero e = let two = two-pow-succ a in let p = pow_pos a in
+    let one : 2 ^ 0 ≡ 1 = refl in absurd (omega (arith, e, two, p, one))
 pow2_injective (suc a) (suc b) e =
     let f = two-pow-succ a in
     let h = two-pow-succ b in
@@ -53,10 +59,12 @@ pub half_power : {n : ℕ} → IsPowerOfTwo (2 * n) → IsPowerOfTwo n
 half_power {n} p = half_of p.0 n p.1
 
 -- the number at a place of the new list is that at a place of the old one
-pub number_reordered : {T : Type 0} (number : T → ℕ) (old new : List T) (k j : ℕ) → k < length new → j < length old → ((d : T) → get_or new k d ≡ get_or old j d)
+pub number_reordered : {T : Type 0} (number : T → ℕ) (old new : List T) (k j : ℕ) → k < length new → j < length old
+    → ((d : T) → get_or new k d ≡ get_or old j d)
     → numbers number new k ≡ numbers number old j
 number_reordered number old [] k j l lo e = absurd (omega arith)
-number_reordered number old (x ∷ xs) k j l lo e = sym (number_at number (x ∷ xs) k x l) ∙ ap number (e x) ∙ number_at number old j x lo
+number_reordered number old (x ∷ xs) k j l lo e =
+    sym (number_at number (x ∷ xs) k x l) ∙ ap number (e x) ∙ number_at number old j x lo
 
 -- the exponent of the length of a table
 pub exponent : (z n bits : ℕ) → 2 ^ z ≡ 2 * n → n ≡ 2 ^ bits → (bits ≡ z - 1) × (n ≡ 2 ^ z / 2)
@@ -67,8 +75,10 @@ exponent z n bits e whole =
     (omega arith, omega (arith, e))
 
 -- the powers in bit-reversed order
-pub planned : {T : Type 0} (number : T → ℕ) (m g n bits z : ℕ) (old new : List T) → Suits m g (2 * n) → 2 ^ z ≡ 2 * n → n ≡ 2 ^ bits → length old ≡ n → length new ≡ n
-    → IsReordered (bits_reversed bits) old new → ((k : ℕ) → k < n → numbers number old k ≡ g ^ k % m) → IsPlan m g z n (numbers number new)
+pub planned : {T : Type 0} (number : T → ℕ) (m g n bits z : ℕ) (old new : List T) → Suits m g (2 * n) → 2 ^ z ≡ 2 * n
+    → n ≡ 2 ^ bits → length old ≡ n → length new ≡ n
+    → IsReordered (bits_reversed bits) old new → ((k : ℕ) → k < n → numbers number old k ≡ g ^ k % m)
+    → IsPlan m g z n (numbers number new)
 planned number m g n bits z old new suits e whole len len_new reordered powers =
     let ex = exponent z n bits e whole in
     record {
@@ -76,6 +86,7 @@ planned number m g n bits z old new suits e whole len len_new reordered powers =
       half = ex.1;
       entry = λ k l.
           let b = bits_reversed_below bits k in
-          let at = number_reordered number old new k (bits_reversed bits k) (omega arith) (omega arith) (λ d. reordered.each k d (omega arith)) in
+          let at = number_reordered number old new k (bits_reversed bits k) (omega arith) (omega arith)
+          (λ d. reordered.each k d (omega arith)) in
           at ∙ powers (bits_reversed bits k) (omega arith) ∙ ap (λ v. g ^ bits_reversed v k % m) ex.0;
     }

@@ -1,5 +1,6 @@
--- The roots that are tried for transforms of n entries modulo m: powers of small numbers, as for a prime m each root of one of order n
--- is a power of a primitive root to the exponent (m - 1) / n (Pollard, "The fast Fourier transform in a finite field", section 3).
+-- The roots that are tried for transforms of n entries modulo m: powers of small numbers,
+-- as for a prime m each root of one of order n is a power of a primitive root to the
+-- exponent (m - 1) / n (Pollard, "The fast Fourier transform in a finite field", section 3).
 -- The words are the library's own.
 use Rattle.std.specs.Prelude.{ℕ, ◌-◌, ◌/◌, ◌%◌, ◌^◌, ◌<◌, ◌≤◌}
 use Rattle.modular_transform.specs.Transforms.{Suits}

@@ -1,5 +1,6 @@
--- The steps of a split in place: pairs of entries, the blocks that they make, and stages of blocks
--- (Cooley and Tukey, "An algorithm for the machine calculation of complex Fourier series"). The words are the library's own.
+-- The steps of a split and of a join in place: pairs of entries, the blocks that they make, and stages of blocks
+-- (Cooley and Tukey, "An algorithm for the machine calculation
+-- of complex Fourier series"). The words are the library's own.
 use Rattle.std.specs.Prelude.{◌≡◌, ◌≢◌, ℕ, ◌+◌, ◌*◌, ◌^◌, ◌<◌, ◌≤◌}
 use Rattle.modular_word.specs.Congruence.{Congruent}
 use Rattle.modular_word.specs.Sums.{sum_below}
@@ -10,21 +11,80 @@ pub record IsPairSplit (m w a b sum difference : ℕ) : Type 0 where
   pub summed : Congruent m sum (a + b * w)
   pub subtracted : Congruent m (difference + b * w) a
 
--- from the entries x to the entries y, the pair at two places is split and nothing else changes
-pub record PairSplit (m w low high : ℕ) (x y : ℕ → ℕ) : Type 0 where
-  pub pair : IsPairSplit m w (x low) (x high) (y low) (y high)
+-- a, b, c and d, a quarter of a block apart, are split by w, and what comes of them by u and by v
+pub record IsFourSplit (m w u v a b c d a' b' c' d' : ℕ) : Type 0 where
+  pub e : ℕ
+  pub f : ℕ
+  pub g : ℕ
+  pub h : ℕ
+  pub first : IsPairSplit m w a c e g
+  pub second : IsPairSplit m w b d f h
+  pub low : IsPairSplit m u e f a' b'
+  pub high : IsPairSplit m v g h c' d'
+
+-- a and b become a + b and the quotient of a - b by w
+pub record IsPairJoin (m w a b sum quotient : ℕ) : Type 0 where
+  pub summed : Congruent m sum (a + b)
+  pub subtracted : Congruent m (quotient * w + b) a
+
+-- a, b, c and d, a quarter of a block apart, are joined by u and by v, and what comes of them by w
+pub record IsFourJoin (m w u v a b c d a' b' c' d' : ℕ) : Type 0 where
+  pub e : ℕ
+  pub f : ℕ
+  pub g : ℕ
+  pub h : ℕ
+  pub low : IsPairJoin m u a b e f
+  pub high : IsPairJoin m v c d g h
+  pub first : IsPairJoin m w e g a' c'
+  pub second : IsPairJoin m w f h b' d'
+
+-- v is minus the inverse of w
+pub record IsMinusInverse (m w v : ℕ) : Type 0 where
+  pub product : Congruent m (w * v + 1) 0
+
+-- from the entries x to the entries y, the pair at two places is
+-- done and nothing else changes: R tells what becomes of a pair
+pub record PairDone (R : ℕ → ℕ → ℕ → ℕ → Type 0) (low high : ℕ) (x y : ℕ → ℕ) : Type 0 where
+  pub pair : R (x low) (x high) (y low) (y high)
   pub kept : (k : ℕ) → k ≢ low → k ≢ high → y k ≡ x k
 
--- the first pairs of the block of half + half entries from place first on are split, and nothing else changes
-pub record BlockSplit (m w first half done : ℕ) (x y : ℕ → ℕ) : Type 0 where
-  pub pairs : (i : ℕ) → i < done → IsPairSplit m w (x (first + i)) (x (first + (half + i))) (y (first + i)) (y (first + (half + i)))
+-- the first pairs of the block of half + half entries from place first on are done, and nothing else changes
+pub record BlockDone (R : ℕ → ℕ → ℕ → ℕ → Type 0) (first half done : ℕ) (x y : ℕ → ℕ) : Type 0 where
+  pub pairs : (i : ℕ) → i < done → R (x (first + i)) (x (first + (half + i))) (y (first + i)) (y (first + (half + i)))
   pub kept : (k : ℕ) → ((i : ℕ) → i < done → k ≢ first + i) → ((i : ℕ) → i < done → k ≢ first + (half + i)) → y k ≡ x k
 
--- the first blocks of half + half entries are split, block p by w p, and the other entries are kept
-pub record StageSplit (m half blocks : ℕ) (w : ℕ → ℕ) (x y : ℕ → ℕ) : Type 0 where
+-- the first blocks of half + half entries are done, block p by R p, and the other entries are kept
+pub record StageDone (R : ℕ → ℕ → ℕ → ℕ → ℕ → Type 0) (half blocks : ℕ) (x y : ℕ → ℕ) : Type 0 where
   pub pairs : (p i : ℕ) → p < blocks → i < half
-      → IsPairSplit m (w p) (x (p * (half + half) + i)) (x (p * (half + half) + (half + i))) (y (p * (half + half) + i)) (y (p * (half + half) + (half + i)))
+      → R p (x (p * (half + half) + i)) (x (p * (half + half) + (half + i))) (y (p * (half + half) + i))
+      (y (p * (half + half) + (half + i)))
   pub kept : (k : ℕ) → blocks * (half + half) ≤ k → y k ≡ x k
+
+-- from the entries x to the entries y, the entries at four places are done and nothing else changes
+pub record FourDone (R : ℕ → ℕ → ℕ → ℕ → ℕ → ℕ → ℕ → ℕ → Type 0) (i j k l : ℕ) (x y : ℕ → ℕ) : Type 0 where
+  pub four : R (x i) (x j) (x k) (x l) (y i) (y j) (y k) (y l)
+  pub kept : (e : ℕ) → e ≢ i → e ≢ j → e ≢ k → e ≢ l → y e ≡ x e
+
+-- column i of the block of four times q entries from place first on
+abbrev pub FourAt : (ℕ → ℕ → ℕ → ℕ → ℕ → ℕ → ℕ → ℕ → Type 0) → ℕ → ℕ → ℕ → (ℕ → ℕ) → (ℕ → ℕ) → Type 0
+FourAt R first q i x y =
+    R (x (first + i)) (x (first + (q + i))) (x (first + (q + q + i))) (x (first + (q + q + (q + i))))
+    (y (first + i)) (y (first + (q + i))) (y (first + (q + q + i))) (y (first + (q + q + (q + i))))
+
+-- the first columns of that block are done, and nothing else changes
+pub record BlockOfFours (R : ℕ → ℕ → ℕ → ℕ → ℕ → ℕ → ℕ → ℕ → Type 0) (first q done : ℕ) (x y : ℕ → ℕ) : Type 0 where
+  pub fours : (i : ℕ) → i < done → FourAt R first q i x y
+  pub others : (i : ℕ) → done ≤ i → i < q
+      → (y (first + i) ≡ x (first + i)) × (y (first + (q + i)) ≡ x (first + (q + i)))
+      × (y (first + (q + q + i)) ≡ x (first + (q + q + i)))
+      × (y (first + (q + q + (q + i))) ≡ x (first + (q + q + (q + i))))
+  pub before : (k : ℕ) → k < first → y k ≡ x k
+  pub after : (k : ℕ) → first + (q + q + (q + q)) ≤ k → y k ≡ x k
+
+-- the first blocks of four times q entries are done, block p by R p, and the other entries are kept
+pub record StageOfFours (R : ℕ → ℕ → ℕ → ℕ → ℕ → ℕ → ℕ → ℕ → ℕ → Type 0) (q blocks : ℕ) (x y : ℕ → ℕ) : Type 0 where
+  pub fours : (p i : ℕ) → p < blocks → i < q → FourAt (R p) (p * (q + q + (q + q))) q i x y
+  pub kept : (k : ℕ) → blocks * (q + q + (q + q)) ≤ k → y k ≡ x k
 
 -- the count blocks of size entries y are congruent to the remainders of the polynomial with the coefficients x
 pub record IsLevel (m g z b count size : ℕ) (x y : ℕ → ℕ) : Type 0 where

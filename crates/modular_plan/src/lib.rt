@@ -1,8 +1,11 @@
 //! Transforms by a plan: a table of factors with their quotients, which the caller keeps.
 #![tactic(auto)]
 
+pub mod convolution;
+pub mod join;
 pub mod modulus;
 pub mod plan;
+pub mod products;
 pub mod roots;
 pub mod split;
 pub mod transform;

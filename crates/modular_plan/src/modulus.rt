@@ -102,7 +102,8 @@ impl<T: PlainWord> PlannedModulus<T> {
     pub fn factor(&self, w: T) -> Factor<T>
         requires { T.number w < T.number self.now.modulus }
         ensures value { T.number result.value ≡ T.number w }
-        ensures factor { IsFactor T.base (T.number self.now.modulus) (T.number result.value) (T.number result.quotient) }
+        ensures factor { IsFactor T.base (T.number self.now.modulus)
+            (T.number result.value) (T.number result.quotient) }
     {
         let divisor = self.modulus.shift_left(self.shift);
         let scaled = w.shift_left(self.shift);
@@ -118,7 +119,8 @@ impl<T: PlainWord> PlannedModulus<T> {
     pub fn times(&self, x: T, w: &Factor<T>) -> T
         requires { IsFactor T.base (T.number self.now.modulus) (T.number w.now.value) (T.number w.now.quotient) }
         ensures below { T.number result < 2 * T.number self.now.modulus }
-        ensures congruent { Congruent (T.number self.now.modulus) (T.number result) (T.number x * T.number w.now.value) }
+        ensures congruent { Congruent (T.number self.now.modulus) (T.number result)
+            (T.number x * T.number w.now.value) }
     {
         let (_, whole) = T::split(x.product(w.quotient));
         let product = x.wrapping_mul(w.value);
@@ -131,6 +133,17 @@ impl<T: PlainWord> PlannedModulus<T> {
         ensures { T.number result ≡ (T.number x * T.number w.now.value) % T.number self.now.modulus }
     {
         reduced_once(self.times(x, w), self.modulus)
+    }
+
+    /// The residue of the product of a word below m with any word. It divides by the reciprocal.
+    pub fn multiply(&self, x: T, y: T) -> T
+        requires { T.number x < T.number self.now.modulus }
+        ensures { T.number result ≡ (T.number x * T.number y) % T.number self.now.modulus }
+    {
+        let divisor = self.modulus.shift_left(self.shift);
+        let scaled = x.shift_left(self.shift);
+        let (_, rest) = div_2by1(divisor, self.reciprocal, scaled.product(y));
+        rest.shift_right(self.shift)
     }
 
     /// The word 2m.

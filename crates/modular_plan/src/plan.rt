@@ -14,8 +14,10 @@ use modular_word::ring_word::RingWord;
 // The powers 1, g, g^2, .. as factors.
 fn powers<T: PlainWord>(m: &PlannedModulus<T>, g: T, table: &mut [Factor<T>])
     requires { T.number g < T.number m.now.modulus }
-    ensures factors { All (λ f. IsFactor T.base (T.number m.now.modulus) (T.number f.value) (T.number f.quotient)) table.new }
-    ensures powers { (k : ℕ) → k < length table.old → numbers (λ f. T.number f.value) table.new k ≡ T.number g ^ k % T.number m.now.modulus }
+    ensures factors { All (λ f. IsFactor T.base (T.number m.now.modulus) (T.number f.value) (T.number f.quotient))
+        table.new }
+    ensures powers { (k : ℕ) → k < length table.old
+        → numbers (λ f. T.number f.value) table.new k ≡ T.number g ^ k % T.number m.now.modulus }
 {
     let root = m.factor(g);
     let mut power = m.residue(T::one());
@@ -33,7 +35,8 @@ fn powers<T: PlainWord>(m: &PlannedModulus<T>, g: T, table: &mut [Factor<T>])
 pub fn plan<T: PlainWord>(m: &PlannedModulus<T>, g: T, table: &mut [Factor<T>])
     requires below { T.number g < T.number m.now.modulus }
     requires suits { Suits (T.number m.now.modulus) (T.number g) (2 * length table.old) }
-    ensures factors { All (λ f. IsFactor T.base (T.number m.now.modulus) (T.number f.value) (T.number f.quotient)) table.new }
+    ensures factors { All (λ f. IsFactor T.base (T.number m.now.modulus) (T.number f.value) (T.number f.quotient))
+        table.new }
     ensures plan { (z : ℕ) → 2 ^ z ≡ 2 * length table.old →
         IsPlan (T.number m.now.modulus) (T.number g) z (length table.old) (numbers (λ f. T.number f.value) table.new) }
 {

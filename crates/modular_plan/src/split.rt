@@ -4,13 +4,29 @@ ghost use Rattle.std.specs.Prelude.{◌≡◌, ℕ, ◌+◌, ◌*◌, ◌/◌, �
 ghost use Rattle.std.specs.Int.{IsPowerOfTwo};
 ghost use Rattle.modular_plan.specs.Factors.{IsFactor};
 ghost use Rattle.modular_plan.specs.Plans.{numbers, IsPlan, AreRemainders};
-ghost use Rattle.modular_plan.specs.Steps.{PairSplit, BlockSplit, StageSplit};
+ghost use Rattle.modular_plan.specs.Steps.{IsPairSplit, IsFourSplit, PairDone, BlockDone};
+ghost use Rattle.modular_plan.specs.Steps.{StageDone, FourDone, BlockOfFours, StageOfFours};
 
 use crate::modulus::{Factor, PlannedModulus, reduced_once};
 use modular_prim::plain_word::PlainWord;
 use modular_word::path_word::PathWord;
 
-// The pair at two places: x + y·w and x - y·w, below 4m.
+// x + y·w and x - y·w, below 4m.
+fn split_values<T: PlainWord>(m: &PlannedModulus<T>, x: T, y: T, w: &Factor<T>) -> (T, T)
+    requires below { T.number x < 4 * T.number m.now.modulus }
+    requires factor { IsFactor T.base (T.number m.now.modulus) (T.number w.now.value) (T.number w.now.quotient) }
+    ensures below { T.number result.0 < 4 * T.number m.now.modulus }
+    ensures difference_below { T.number result.1 < 4 * T.number m.now.modulus }
+    ensures pair { IsPairSplit (T.number m.now.modulus) (T.number w.now.value) (T.number x) (T.number y)
+        (T.number result.0) (T.number result.1) }
+{
+    let twice = m.twice();
+    let x = reduced_once(x, twice);
+    let product = m.times(y, w);
+    (x.plus(product), x.plus(twice.minus(product)))
+}
+
+// The pair at two places.
 fn split_pair<T: PlainWord>(
     m: &PlannedModulus<T>,
     xs: &mut [T],
@@ -23,13 +39,12 @@ fn split_pair<T: PlainWord>(
     requires order { low < high }
     requires within { high < length xs.old }
     ensures entries { All (λ x. T.number x < 4 * T.number m.now.modulus) xs.new }
-    ensures done { PairSplit (T.number m.now.modulus) (T.number w.now.value) low high (numbers T.number xs.old) (numbers T.number xs.new) }
+    ensures done { PairDone (IsPairSplit (T.number m.now.modulus) (T.number w.now.value)) low high
+        (numbers T.number xs.old) (numbers T.number xs.new) }
 {
-    let twice = m.twice();
-    let x = reduced_once(xs[low], twice);
-    let product = m.times(xs[high], w);
-    xs[high] = x.plus(twice.minus(product));
-    xs[low] = x.plus(product);
+    let (sum, difference) = split_values(m, xs[low], xs[high], w);
+    xs[high] = difference;
+    xs[low] = sum;
 }
 
 // The pairs of the block from place `first` on.
@@ -44,7 +59,8 @@ fn split_block<T: PlainWord>(
     requires factor { IsFactor T.base (T.number m.now.modulus) (T.number w.now.value) (T.number w.now.quotient) }
     requires within { first + (half + half) ≤ length xs.old }
     ensures entries { All (λ x. T.number x < 4 * T.number m.now.modulus) xs.new }
-    ensures done { BlockSplit (T.number m.now.modulus) (T.number w.now.value) first half half (numbers T.number xs.old) (numbers T.number xs.new) }
+    ensures done { BlockDone (IsPairSplit (T.number m.now.modulus) (T.number w.now.value)) first half half
+        (numbers T.number xs.old) (numbers T.number xs.new) }
 {
     'columns: for i in 0..half {
         split_pair(m, xs, first + i, first + (half + i), w);
@@ -61,22 +77,121 @@ fn split_stage<T: PlainWord>(
     first: usize,
 )
     requires entries { All (λ x. T.number x < 4 * T.number m.now.modulus) xs.old }
-    requires factors { All (λ f. IsFactor T.base (T.number m.now.modulus) (T.number f.value) (T.number f.quotient)) table.now }
+    requires factors { All (λ f. IsFactor T.base (T.number m.now.modulus) (T.number f.value) (T.number f.quotient))
+        table.now }
     requires whole { blocks * (half + half) ≡ length xs.old }
     requires within { first + blocks ≤ length table.now }
     requires some { 0 < half }
     ensures entries { All (λ x. T.number x < 4 * T.number m.now.modulus) xs.new }
-    ensures done { StageSplit (T.number m.now.modulus) half blocks (λ p. numbers (λ f. T.number f.value) table.now (first + p)) (numbers T.number xs.old) (numbers T.number xs.new) }
+    ensures done { StageDone
+        (λ p. IsPairSplit (T.number m.now.modulus) (numbers (λ f. T.number f.value) table.now (first + p))) half blocks
+        (numbers T.number xs.old) (numbers T.number xs.new) }
 {
     'each_block: for p in 0..blocks {
         split_block(m, xs, p * (half + half), half, &table[first + p]);
     }
 }
 
+// The entries at four places, a quarter of a block apart: by the block's factor w, and by those of its
+// halves.
+fn split_four<T: PlainWord>(
+    m: &PlannedModulus<T>,
+    xs: &mut [T],
+    places: (usize, usize, usize, usize),
+    w: &Factor<T>,
+    u: &Factor<T>,
+    v: &Factor<T>,
+)
+    requires entries { All (λ x. T.number x < 4 * T.number m.now.modulus) xs.old }
+    requires factor { IsFactor T.base (T.number m.now.modulus) (T.number w.now.value) (T.number w.now.quotient) }
+    requires low_factor { IsFactor T.base (T.number m.now.modulus) (T.number u.now.value) (T.number u.now.quotient) }
+    requires high_factor { IsFactor T.base (T.number m.now.modulus) (T.number v.now.value) (T.number v.now.quotient) }
+    requires order { (places.0 < places.1) × (places.1 < places.2) × (places.2 < places.3) }
+    requires within { places.3 < length xs.old }
+    ensures entries { All (λ x. T.number x < 4 * T.number m.now.modulus) xs.new }
+    ensures done { FourDone (IsFourSplit (T.number m.now.modulus) (T.number w.now.value)
+        (T.number u.now.value) (T.number v.now.value))
+        places.0 places.1 places.2 places.3 (numbers T.number xs.old) (numbers T.number xs.new) }
+{
+    let (i, j, k, l) = places;
+    let (e, g) = split_values(m, xs[i], xs[k], w);
+    let (f, h) = split_values(m, xs[j], xs[l], w);
+    let (a, b) = split_values(m, e, f, u);
+    let (c, d) = split_values(m, g, h, v);
+    xs[l] = d;
+    xs[k] = c;
+    xs[j] = b;
+    xs[i] = a;
+}
+
+// Two stages of the block of four times q entries from place `first` on.
+fn split_quarters<T: PlainWord>(
+    m: &PlannedModulus<T>,
+    xs: &mut [T],
+    first: usize,
+    q: usize,
+    w: &Factor<T>,
+    u: &Factor<T>,
+    v: &Factor<T>,
+)
+    requires entries { All (λ x. T.number x < 4 * T.number m.now.modulus) xs.old }
+    requires factor { IsFactor T.base (T.number m.now.modulus) (T.number w.now.value) (T.number w.now.quotient) }
+    requires low_factor { IsFactor T.base (T.number m.now.modulus) (T.number u.now.value) (T.number u.now.quotient) }
+    requires high_factor { IsFactor T.base (T.number m.now.modulus) (T.number v.now.value) (T.number v.now.quotient) }
+    requires within { first + (q + q + (q + q)) ≤ length xs.old }
+    ensures entries { All (λ x. T.number x < 4 * T.number m.now.modulus) xs.new }
+    ensures done { BlockOfFours (IsFourSplit (T.number m.now.modulus) (T.number w.now.value)
+        (T.number u.now.value) (T.number v.now.value))
+        first q q (numbers T.number xs.old) (numbers T.number xs.new) }
+{
+    'columns: for i in 0..q {
+        let low = first + i;
+        let high = first + (q + q + i);
+        split_four(
+            m,
+            xs,
+            (low, first + (q + i), high, first + (q + q + (q + i))),
+            w,
+            u,
+            v,
+        );
+    }
+}
+
+// Two stages of all blocks, block p by entry first + p of the table, and its halves by the entries at
+// twice that place.
+fn split_two_stages<T: PlainWord>(
+    m: &PlannedModulus<T>,
+    xs: &mut [T],
+    q: usize,
+    blocks: usize,
+    table: &[Factor<T>],
+    first: usize,
+)
+    requires entries { All (λ x. T.number x < 4 * T.number m.now.modulus) xs.old }
+    requires factors { All (λ f. IsFactor T.base (T.number m.now.modulus) (T.number f.value) (T.number f.quotient))
+        table.now }
+    requires whole { blocks * (q + q + (q + q)) ≡ length xs.old }
+    requires within { 2 * (first + blocks) ≤ length table.now }
+    requires some { 0 < q }
+    ensures entries { All (λ x. T.number x < 4 * T.number m.now.modulus) xs.new }
+    ensures done { let w = numbers (λ f. T.number f.value) table.now in
+        StageOfFours (λ p. IsFourSplit (T.number m.now.modulus) (w (first + p)) (w (2 * (first + p)))
+        (w (2 * (first + p) + 1))) q blocks
+        (numbers T.number xs.old) (numbers T.number xs.new) }
+{
+    'four_quarters: for p in 0..blocks {
+        let place = first + p;
+        let (u, v) = (&table[2 * place], &table[2 * place + 1]);
+        split_quarters(m, xs, p * (q + q + (q + q)), q, &table[place], u, v);
+    }
+}
+
 // Each entry's residue.
-fn reduce_each<T: PlainWord>(m: &PlannedModulus<T>, xs: &mut [T])
+pub(crate) fn reduce_each<T: PlainWord>(m: &PlannedModulus<T>, xs: &mut [T])
     requires { All (λ x. T.number x < 4 * T.number m.now.modulus) xs.old }
-    ensures residues { (i : ℕ) → i < length xs.old → numbers T.number xs.new i ≡ numbers T.number xs.old i % T.number m.now.modulus }
+    ensures residues { (i : ℕ) → i < length xs.old
+        → numbers T.number xs.new i ≡ numbers T.number xs.old i % T.number m.now.modulus }
     ensures below { All (λ x. T.number x < T.number m.now.modulus) xs.new }
 {
     'entries: for i in 0..xs.len() {
@@ -116,7 +231,8 @@ pub fn splits(length: usize, factors: usize, b: usize, last: usize) -> bool
 /// entries are factors modulo m, and there are (b + 1)·count/2 of them or more (`splits` tells).
 ///
 /// Source: the sums and differences are those of Cooley and Tukey, with one factor a block, as
-/// Bernstein ("Multidigit multiplication for mathematicians", section 2) has them.
+/// Bernstein ("Multidigit multiplication for mathematicians", section 2) has them. A pass over the list
+/// does two stages where two are left.
 pub fn split<T: PlainWord>(
     m: &PlannedModulus<T>,
     xs: &mut [T],
@@ -125,7 +241,8 @@ pub fn split<T: PlainWord>(
     last: usize,
 )
     requires entries { All (λ x. T.number x < 4 * T.number m.now.modulus) xs.old }
-    requires factors { All (λ f. IsFactor T.base (T.number m.now.modulus) (T.number f.value) (T.number f.quotient)) table.now }
+    requires factors { All (λ f. IsFactor T.base (T.number m.now.modulus) (T.number f.value) (T.number f.quotient))
+        table.now }
     requires some { 1 ≤ last }
     requires count { IsPowerOfTwo (length xs.old / last) }
     requires whole { length xs.old / last * last ≡ length xs.old }
@@ -138,9 +255,15 @@ pub fn split<T: PlainWord>(
     let mut size = xs.len();
     let mut blocks = 1;
     'stages: while last < size {
-        size /= 2;
-        split_stage(m, xs, size, blocks, table, b * blocks);
-        blocks *= 2;
+        if last < size / 2 {
+            size /= 4;
+            split_two_stages(m, xs, size, blocks, table, b * blocks);
+            blocks *= 4;
+        } else {
+            size /= 2;
+            split_stage(m, xs, size, blocks, table, b * blocks);
+            blocks *= 2;
+        }
     }
     reduce_each(m, xs);
 }

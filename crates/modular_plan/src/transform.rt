@@ -21,13 +21,15 @@ use modular_transform::order::reverse_places;
 /// Source: `split`, and the places with their bits in the opposite order.
 pub fn ntt_planned<T: PlainWord>(m: &PlannedModulus<T>, xs: &mut [T], table: &[Factor<T>])
     requires entries { All (λ x. T.number x < 4 * T.number m.now.modulus) xs.old }
-    requires factors { All (λ f. IsFactor T.base (T.number m.now.modulus) (T.number f.value) (T.number f.quotient)) table.now }
+    requires factors { All (λ f. IsFactor T.base (T.number m.now.modulus) (T.number f.value) (T.number f.quotient))
+        table.now }
     requires count { IsPowerOfTwo (length xs.old) }
     requires within { length xs.old / 2 ≤ length table.now }
     ensures below { All (λ x. T.number x < T.number m.now.modulus) xs.new }
     ensures values { let modulus = T.number m.now.modulus in (g z j : ℕ) →
         IsPlan modulus g z (length table.now) (numbers (λ f. T.number f.value) table.now) → j < length xs.old →
-        numbers T.number xs.new j ≡ transform modulus (g ^ (2 ^ z / length xs.old)) (length xs.old) (numbers T.number xs.old) j }
+        numbers T.number xs.new j ≡ transform modulus (g ^ (2 ^ z / length xs.old))
+        (length xs.old) (numbers T.number xs.old) j }
 {
     split(m, xs, table, 0, 1);
     let bits = xs.len().trailing_zeros();

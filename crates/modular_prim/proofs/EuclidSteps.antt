@@ -1,7 +1,9 @@
 -- The steps of Euclid's loop with the magnitudes of the coefficients, whose signs alternate.
-use Rattle.std.proofs.Common.{◌≡◌, ℕ, Bool, true, false, not, ◌+◌, ◌-◌, ◌*◌, ◌/◌, ◌%◌, ◌<◌, ◌≤◌, pos, neg_ℤ, sym, ap, ◌∙◌, subst, arith, ⊎_elim}
+use Rattle.std.proofs.Common.{◌≡◌, ℕ, Bool, true, false, not, ◌+◌, ◌-◌, ◌*◌, ◌/◌, ◌%◌}
+use Rattle.std.proofs.Common.{◌<◌, ◌≤◌, pos, neg_ℤ, sym, ap, ◌∙◌, subst, arith, ⊎_elim}
 use Rattle.std.specs.Int.{IsGcd}
-use Rattle.std.proofs.Math.Nat.{mod-lt, mod-eq_of_lt, div-add-mod, mod-add-mod, add-mul-mod_self_left, mod-mod_of_dvd, le_of_dvd, mul-le-mul_left, mul-le-mul_right}
+use Rattle.std.proofs.Math.Nat.{mod-lt, mod-eq_of_lt, div-add-mod, mod-add-mod, add-mul-mod_self_left}
+use Rattle.std.proofs.Math.Nat.{mod-mod_of_dvd, le_of_dvd, mul-le-mul_left, mul-le-mul_right}
 use Rattle.std.proofs.lemmas.Bool.{cases_lt}
 use Rattle.std.proofs.lemmas.Nat.{mul-mod_first}
 use Rattle.std.proofs.lemmas.Nat.Gcd.{IsGcd-from_mod, IsGcd-from_zero, mod-eq-zero_of_dvd}
@@ -82,7 +84,8 @@ pub euclid_step : (a m last_r r last_t t next q rest : ℕ) (odd : Bool) → Euc
     → Euclid a m r rest t next (not odd)
 euclid_step a m last_r r last_t t next q rest odd s hr eq erest enext =
     let left : rest ≡ last_r % r = rest_is last_r r q rest eq erest in
-    let one : 1 ≤ q = ⊎_elim (λ (h : 0 < q). h) (λ (h : q ≤ 0). let z : q * r ≤ 0 * r = mul-le-mul_right r h in absurd (omega (arith, s.falling, mod-lt last_r {m = r} hr))) (cases_lt 0 q) in
+    let one : 1 ≤ q = ⊎_elim (λ (h : 0 < q). h) (λ (h : q ≤ 0). let z : q * r ≤ 0 * r = mul-le-mul_right r h in
+    absurd (omega (arith, s.falling, mod-lt last_r {m = r} hr))) (cases_lt 0 q) in
     let grows : 1 * t ≤ q * t = mul-le-mul_right t one in
     let two : t * 2 ≤ t * last_r = mul-le-mul_left t (let l : 2 ≤ last_r = omega (arith, s.falling) in l) in
     let nr : next * r ≡ (last_t + q * t) * r = ap (λ n. n * r) enext in
@@ -95,7 +98,8 @@ euclid_step a m last_r r last_t t next q rest odd s hr eq erest enext =
       last = s.current;
       current =
           let P : ℕ → Type 0 = λ n. Leaves m a (not (not odd)) n rest in
-          subst P (sym enext) (leaves_twice m a (last_t + q * t) rest odd (leaves_next m a q t r last_t last_r rest odd erest s.last s.current));
+          subst P (sym enext) (leaves_twice m a (last_t + q * t) rest odd
+          (leaves_next m a q t r last_t last_r rest odd erest s.last s.current));
       common = λ g h. s.common g (IsGcd-from_mod last_r r g (let P : ℕ → Type 0 = λ n. IsGcd r n g in subst P left h));
     }
 
@@ -123,7 +127,8 @@ with_negative m v x h e =
     (cases_lt 0 v)
 
 -- at the end, where the last remainder is 1, the negative of the coefficient of a negative sign is the inverse
-pub euclid_found_negative : (a m last_r r last_t t x : ℕ) (odd : Bool) → Euclid a m last_r r last_t t odd → odd ≡ false → last_r ≤ 1
+pub euclid_found_negative : (a m last_r r last_t t x : ℕ) (odd : Bool)
+    → Euclid a m last_r r last_t t odd → odd ≡ false → last_r ≤ 1
     → x ≡ residue m (neg_ℤ (pos last_t)) → IsInverse m a x
 euclid_found_negative a m last_r r last_t t x true s o h ex = absurd (cc)
 euclid_found_negative a m last_r r last_t t x false s o h ex =

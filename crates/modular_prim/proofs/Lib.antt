@@ -1,3 +1,4 @@
+pub mod DifferenceSteps
 pub mod DivisionCounts
 pub mod EuclidSteps
 pub mod FewSteps

@@ -18,7 +18,8 @@ pub record PowerSoFar (m s target power product rest : ℕ) : Type 0 where
   pub product_is : product ≡ y * 2 ^ s
   pub left : (y * (x * x % m) ^ rest) % m ≡ target
 
-pub start_odd : (m s x n power product rest : ℕ) → x < m → power ≡ x * 2 ^ s → product ≡ power → n % 2 ≡ 1 → rest ≡ n / 2
+pub start_odd : (m s x n power product rest : ℕ) → x < m → power ≡ x * 2 ^ s
+    → product ≡ power → n % 2 ≡ 1 → rest ≡ n / 2
     → PowerSoFar m s (x ^ n % m) power product rest
 start_odd m s x n power product rest h ep er odd en = record {
   x = x;
@@ -35,7 +36,8 @@ start_odd m s x n power product rest h ep er odd en = record {
       ∙ power_odd m 1 x n odd ∙ ap (λ v. v % m) (one-mul (x ^ n));
 }
 
-pub start_even : (m s x n power product rest unit : ℕ) → x < m → power ≡ x * 2 ^ s → unit ≡ 1 % m → product ≡ unit * 2 ^ s → n % 2 ≡ 0 → rest ≡ n / 2
+pub start_even : (m s x n power product rest unit : ℕ) → x < m → power ≡ x * 2 ^ s → unit ≡ 1 % m
+    → product ≡ unit * 2 ^ s → n % 2 ≡ 0 → rest ≡ n / 2
     → PowerSoFar m s (x ^ n % m) power product rest
 start_even m s x n power product rest unit h ep eu er even en = record {
   x = x;
@@ -49,12 +51,14 @@ start_even m s x n power product rest unit h ep eu er even en = record {
       ∙ mul-mod_first 1 ((x * x % m) ^ (n / 2)) m ∙ power_even m 1 x n even ∙ ap (λ v. v % m) (one-mul (x ^ n));
 }
 
-pub power_below : (m s d target power product rest : ℕ) → d ≡ m * 2 ^ s → PowerSoFar m s target power product rest → power < d
+pub power_below : (m s d target power product rest : ℕ) → d ≡ m * 2 ^ s
+    → PowerSoFar m s target power product rest → power < d
 power_below m s d target power product rest ed w =
     let h : w.x * 2 ^ s < m * 2 ^ s = scaled_below w.x m s w.x_below in
     omega (arith, w.power_is)
 
-pub product_below : (m s d target power product rest : ℕ) → d ≡ m * 2 ^ s → PowerSoFar m s target power product rest → product < d
+pub product_below : (m s d target power product rest : ℕ) → d ≡ m * 2 ^ s
+    → PowerSoFar m s target power product rest → product < d
 product_below m s d target power product rest ed w =
     let h : w.y * 2 ^ s < m * 2 ^ s = scaled_below w.y m s w.y_below in
     omega (arith, w.product_is)
@@ -104,11 +108,13 @@ step_even m s d target power product rest power' rest' ed w ep en even =
     }
 
 -- nothing is left to do
-pub finished : (m s target power product rest r : ℕ) → PowerSoFar m s target power product rest → rest ≡ 0 → r ≡ product / 2 ^ s
+pub finished : (m s target power product rest r : ℕ) → PowerSoFar m s target power product rest
+    → rest ≡ 0 → r ≡ product / 2 ^ s
     → r ≡ target
 finished m s target power product rest r w e er =
     er ∙ ap (λ v. v / 2 ^ s) w.product_is ∙ shl-shr w.y s
-    ∙ sym (ap (λ v. (w.y * (w.x * w.x % m) ^ v) % m) e ∙ ap (λ v. (w.y * v) % m) (pow-zero (w.x * w.x % m)) ∙ ap (λ v. v % m) (mul-one w.y) ∙ mod-eq_of_lt w.y_below)
+    ∙ sym (ap (λ v. (w.y * (w.x * w.x % m) ^ v) % m) e ∙ ap (λ v. (w.y * v) % m) (pow-zero (w.x * w.x % m))
+    ∙ ap (λ v. v % m) (mul-one w.y) ∙ mod-eq_of_lt w.y_below)
     ∙ w.left
 
 -- the short powers
@@ -219,5 +225,6 @@ pub reduced_end : (b m target power product rest : ℕ) → ReducedSoFar b m tar
     → product ≡ target
 reduced_end b m target power product rest w e =
     sym (ap (λ v. (product * (w.x * w.x % m) ^ v) % m) e
-    ∙ ap (λ v. (product * v) % m) (pow-zero (w.x * w.x % m)) ∙ ap (λ v. v % m) (mul-one product) ∙ mod-eq_of_lt w.product_below)
+    ∙ ap (λ v. (product * v) % m) (pow-zero (w.x * w.x % m)) ∙ ap (λ v. v % m) (mul-one product)
+    ∙ mod-eq_of_lt w.product_below)
     ∙ w.left

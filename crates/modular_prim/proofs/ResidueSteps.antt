@@ -1,5 +1,6 @@
 -- Residues of sums, those that pass the word among them, and of negatives.
-use Rattle.std.proofs.Common.{◌≡◌, ℕ, ◌+◌, ◌-◌, ◌*◌, ◌/◌, ◌%◌, ◌<◌, ◌≤◌, pos, negsuc, neg_ℤ, ◌-ℤ◌, sym, ap, ◌∙◌, arith, ⊎_elim}
+use Rattle.std.proofs.Common.{◌≡◌, ℕ, ◌+◌, ◌-◌, ◌*◌, ◌/◌, ◌%◌, ◌<◌, ◌≤◌, pos}
+use Rattle.std.proofs.Common.{negsuc, neg_ℤ, ◌-ℤ◌, sym, ap, ◌∙◌, arith, ⊎_elim}
 use Rattle.std.proofs.Math.Nat.{mod-lt, mod-mod, mod_self, mod-eq_of_lt, div-add-mod, add-mul-mod_self_left}
 use Rattle.std.proofs.lemmas.Bool.{cases_lt}
 use Rattle.std.proofs.lemmas.Int.{ints}
@@ -62,7 +63,8 @@ neg_value m n h =
     let zero_rest : 0 % m ≡ 0 = mod-eq_of_lt h in
     let left : residue m (neg_ℤ (pos n)) ≡ 0 = ap (λ v. residue m (neg_ℤ (pos v))) z ∙ zero_rest in
     let right : (m - n % m) % m ≡ 0 =
-    ap (λ v. (m - v % m) % m) z ∙ ap (λ v. (m - v) % m) zero_rest ∙ ap (λ v. v % m) (let u : m - 0 ≡ m = omega arith in u) ∙ mod_self m in
+    ap (λ v. (m - v % m) % m) z ∙ ap (λ v. (m - v) % m) zero_rest
+    ∙ ap (λ v. v % m) (let u : m - 0 ≡ m = omega arith in u) ∙ mod_self m in
     left ∙ sym right)
     (cases_lt 0 n)
 

@@ -1,6 +1,7 @@
 -- Residues scaled by the power of two that takes the modulus to the top bit.
 use Rattle.std.proofs.Common.{◌≡◌, ℕ, suc, ◌+◌, ◌*◌, ◌/◌, ◌%◌, ◌^◌, ◌<◌, ◌≤◌, sym, ap, ◌∙◌, subst, arith}
-use Rattle.std.proofs.Math.Nat.{mod-lt, div-add-mod, mod-eq_of_lt, mul-le-mul_right, mul-lt-mul_of_pos_right, add-mul-mod_self_left, pow-succ'}
+use Rattle.std.proofs.Math.Nat.{mod-lt, div-add-mod, mod-eq_of_lt, mul-le-mul_right}
+use Rattle.std.proofs.Math.Nat.{mul-lt-mul_of_pos_right, add-mul-mod_self_left, pow-succ'}
 use Rattle.std.proofs.lemmas.Nat.{leading_top, shl_below, shl-shr, pow_pos, pow-add, mod-mul-add}
 use Rattle.std.specs.Int.Count.{count_leading_zeros}
 use Rattle.modular_word.specs.Division.{IsDivision}
@@ -16,7 +17,8 @@ scaled_to_top w b m s eb some below es =
     let t = leading_top w m some (subst (λ n. m < n) eb below) in
     let e : s + suc t.0 ≡ w = omega (arith, t.1) in
     let whole : b ≡ 2 * (2 ^ t.0 * 2 ^ s) =
-    eb ∙ ap (λ n. 2 ^ n) (let u : w ≡ suc (t.0 + s) = omega arith in u) ∙ pow-succ' 2 (t.0 + s) ∙ ap (λ n. 2 * n) (pow-add 2 t.0 s) in
+    eb ∙ ap (λ n. 2 ^ n) (let u : w ≡ suc (t.0 + s) = omega arith in u) ∙ pow-succ' 2 (t.0 + s)
+    ∙ ap (λ n. 2 * n) (pow-add 2 t.0 s) in
     let up : 2 ^ t.0 * 2 ^ s ≤ m * 2 ^ s = mul-le-mul_right (2 ^ s) t.2 in
     let power : 2 ^ (suc t.0 + s) ≡ b = ap (λ n. 2 ^ n) (let u : suc t.0 + s ≡ w = omega arith in u) ∙ sym eb in
     record {
@@ -35,10 +37,12 @@ scaled_remainder x m p hm hp =
     let f : m * (x / m) + x % m ≡ x = div-add-mod x m in
     let g : (m * (x / m) + x % m) * p ≡ x * p = ap (λ n. n * p) f in
     let e : x * p ≡ x % m * p + m * p * (x / m) = omega arith in
-    ap (λ n. n % (m * p)) e ∙ add-mul-mod_self_left (x % m * p) (m * p) (x / m) ∙ mod-eq_of_lt (mul-lt-mul_of_pos_right (mod-lt x hm) hp)
+    ap (λ n. n % (m * p)) e ∙ add-mul-mod_self_left (x % m * p) (m * p) (x / m)
+    ∙ mod-eq_of_lt (mul-lt-mul_of_pos_right (mod-lt x hm) hp)
 
 -- a scaled residue, unscaled, times a scaled residue leaves the scaled residue of the product
-pub scaled_product_of : (m s d x y a b r : ℕ) → 0 < m → d ≡ m * 2 ^ s → a ≡ x * 2 ^ s → b ≡ y * 2 ^ s → r ≡ (a / 2 ^ s * b) % d
+pub scaled_product_of : (m s d x y a b r : ℕ) → 0 < m → d ≡ m * 2 ^ s → a ≡ x * 2 ^ s
+    → b ≡ y * 2 ^ s → r ≡ (a / 2 ^ s * b) % d
     → r ≡ x * y % m * 2 ^ s
 scaled_product_of m s d x y a b r h ed ea eb er =
     let un : a / 2 ^ s ≡ x = ap (λ v. v / 2 ^ s) ea ∙ shl-shr x s in

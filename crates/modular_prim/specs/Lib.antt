@@ -1,3 +1,4 @@
+pub mod Differences
 pub mod Divisions
 pub use Rattle.modular_word.specs.Division
 pub use Rattle.modular_word.specs.Inverses

@@ -1,21 +1,29 @@
-//! The inverse modulo m, by Euclid's algorithm, with the number of its divisions.
+//! The inverse modulo m, and by Euclid's algorithm with the number of its divisions.
 
 ghost use Rattle.std.specs.Prelude.{◌≡◌, ℕ, ◌+◌, ◌*◌, ◌%◌, ◌^◌, ◌<◌, ◌≤◌};
 ghost use Rattle.modular_prim.specs.Divisions.{divisions, inverse_divisions};
 ghost use Rattle.modular_word.specs.Inverses.{IsInversion};
 
 use crate::below::neg_below;
+use crate::inverse::inverse_by_subtraction;
 use crate::plain_word::PlainWord;
 use modular_word::path_word::PathWord;
 use modular_word::ring_word::RingWord;
 
 /// The inverse of a modulo m; `None` exactly where there is none. Condition: m is at least 1; a may
 /// be above it.
+///
+/// For an odd m it is found by subtraction, as `inverse_by_subtraction` does, for an even one by Euclid's
+/// divisions, as `invm_counted` does.
 pub fn invm<T: PlainWord>(a: T, m: T) -> Option<T>
     requires { 1 ≤ T.number m }
     ensures { IsInversion T.number (T.number m) (T.number a) result }
 {
-    invm_counted(a, m).0
+    if m.is_odd() {
+        inverse_by_subtraction(a, m)
+    } else {
+        invm_counted(a, m).0
+    }
 }
 
 /// The inverse of a modulo m, `None` exactly where there is none, and the number of divisions.

@@ -6,6 +6,7 @@ pub mod below;
 pub mod counted;
 pub mod euclid;
 pub mod exact;
+pub mod inverse;
 pub mod numbered;
 pub mod operands;
 pub mod operations;

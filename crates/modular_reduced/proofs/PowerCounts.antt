@@ -1,5 +1,6 @@
 -- The number of products of a power by binary steps.
-use Rattle.std.proofs.Common.{◌≡◌, ◌≢◌, ℕ, zero, suc, ◌+◌, ◌*◌, ◌/◌, ◌%◌, ◌^◌, ◌<◌, ◌≤◌, Bool, true, false, cond, nat_le, ap, refl, arith, count_ones}
+use Rattle.std.proofs.Common.{◌≡◌, ◌≢◌, ℕ, zero, suc, ◌+◌, ◌*◌, ◌/◌, ◌%◌, ◌^◌, ◌<◌, ◌≤◌}
+use Rattle.std.proofs.Common.{Bool, true, false, cond, nat_le, ap, refl, arith, count_ones}
 use Rattle.std.proofs.lemmas.Bool.Decides.{nat_tests}
 use Rattle.std.proofs.lemmas.Nat.{ones-le}
 use Rattle.std.proofs.Math.Nat.{pow-suc, lt_of_not-le}
@@ -75,7 +76,8 @@ abbrev pub steps : ℕ → ℕ
 steps e = digits e + count_ones e
 
 pub steps_of_zero : (e : ℕ) → e ≡ 0 → steps e ≡ 0
-steps_of_zero e h = let l = digits_least e 0 (let b : e < 2 ^ 0 = omega arith in b) in let o = ones_at_most e in omega arith
+steps_of_zero e h = let l = digits_least e 0 (let b : e < 2 ^ 0 = omega arith in b) in
+    let o = ones_at_most e in omega arith
 
 -- a digit is worked off by a square, and a one digit besides by a product
 pub steps_step : (e half : ℕ) → half ≡ e / 2 → e ≢ 0 → steps e ≡ 1 + e % 2 + steps half

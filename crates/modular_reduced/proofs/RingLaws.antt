@@ -11,10 +11,13 @@ pub same_form : {form : ℕ → ℕ → ℕ} {m f g v w : ℕ} → Represents fo
 same_form {form} {m} h k e = h.same ∙ ap (form m) e ∙ sym k.same
 
 -- and a form one value
-pub same_value : {form value : ℕ → ℕ → ℕ} {width m f v w : ℕ} → IsCanonical form value width m → Represents form m f v → Represents form m f w → v ≡ w
-same_value {form} {value} {width} {m} {f} {v} {w} canonical h k = sym (canonical.one_value f v h) ∙ canonical.one_value f w k
+pub same_value : {form value : ℕ → ℕ → ℕ} {width m f v w : ℕ} → IsCanonical form value width m → Represents form m f v
+    → Represents form m f w → v ≡ w
+same_value {form} {value} {width} {m} {f} {v} {w} canonical h k =
+    sym (canonical.one_value f v h) ∙ canonical.one_value f w k
 
-pub sums_associate : {form value : ℕ → ℕ → ℕ} {width m xy left yz right : ℕ} (x y z : ℕ) → IsCanonical form value width m
+pub sums_associate : {form value : ℕ → ℕ → ℕ} {width m xy left yz right : ℕ} (x y z : ℕ)
+    → IsCanonical form value width m
     → Represents form m xy ((x + y) % m) → Represents form m left ((value m xy + z) % m)
     → Represents form m yz ((y + z) % m) → Represents form m right ((x + value m yz) % m) → left ≡ right
 sums_associate {form} {value} {width} {m} {xy} {left} {yz} {right} x y z canonical hxy hl hyz hr =
@@ -22,29 +25,35 @@ sums_associate {form} {value} {width} {m} {xy} {left} {yz} {right} x y z canonic
     let eyz = canonical.one_value yz ((y + z) % m) hyz in
     let regrouped : x + y + z ≡ x + (y + z) = omega arith in
     same_form hl hr
-    (ap (λ v. (v + z) % m) exy ∙ same_sum m ((x + y) % m) (x + y) z z (mod-mod (x + y) m) refl ∙ ap (λ v. v % m) regrouped
+    (ap (λ v. (v + z) % m) exy ∙ same_sum m ((x + y) % m) (x + y) z z (mod-mod (x + y) m) refl
+    ∙ ap (λ v. v % m) regrouped
     ∙ sym (same_sum m x x ((y + z) % m) (y + z) refl (mod-mod (y + z) m)) ∙ sym (ap (λ v. (x + v) % m) eyz))
 
-pub products_associate : {form value : ℕ → ℕ → ℕ} {width m xy left yz right : ℕ} (x y z : ℕ) → IsCanonical form value width m
+pub products_associate : {form value : ℕ → ℕ → ℕ} {width m xy left yz right : ℕ} (x y z : ℕ)
+    → IsCanonical form value width m
     → Represents form m xy ((x * y) % m) → Represents form m left ((value m xy * z) % m)
     → Represents form m yz ((y * z) % m) → Represents form m right ((x * value m yz) % m) → left ≡ right
 products_associate {form} {value} {width} {m} {xy} {left} {yz} {right} x y z canonical hxy hl hyz hr =
     let exy = canonical.one_value xy ((x * y) % m) hxy in
     let eyz = canonical.one_value yz ((y * z) % m) hyz in
     same_form hl hr
-    (ap (λ v. (v * z) % m) exy ∙ same_product m ((x * y) % m) (x * y) z z (mod-mod (x * y) m) refl ∙ ap (λ v. v % m) (mul_assoc x y z)
+    (ap (λ v. (v * z) % m) exy ∙ same_product m ((x * y) % m) (x * y) z z (mod-mod (x * y) m) refl
+    ∙ ap (λ v. v % m) (mul_assoc x y z)
     ∙ sym (same_product m x x ((y * z) % m) (y * z) refl (mod-mod (y * z) m)) ∙ sym (ap (λ v. (x * v) % m) eyz))
 
-pub products_distribute : {form value : ℕ → ℕ → ℕ} {width m yz left xy xz right : ℕ} (x y z : ℕ) → IsCanonical form value width m
+pub products_distribute : {form value : ℕ → ℕ → ℕ} {width m yz left xy xz right : ℕ} (x y z : ℕ)
+    → IsCanonical form value width m
     → Represents form m yz ((y + z) % m) → Represents form m left ((x * value m yz) % m)
-    → Represents form m xy ((x * y) % m) → Represents form m xz ((x * z) % m) → Represents form m right ((value m xy + value m xz) % m) → left ≡ right
+    → Represents form m xy ((x * y) % m) → Represents form m xz ((x * z) % m)
+    → Represents form m right ((value m xy + value m xz) % m) → left ≡ right
 products_distribute {form} {value} {width} {m} {yz} {left} {xy} {xz} {right} x y z canonical hyz hl hxy hxz hr =
     let eyz = canonical.one_value yz ((y + z) % m) hyz in
     let exy = canonical.one_value xy ((x * y) % m) hxy in
     let exz = canonical.one_value xz ((x * z) % m) hxz in
     let spread : x * (y + z) ≡ x * y + x * z = omega arith in
     same_form hl hr
-    (ap (λ v. (x * v) % m) eyz ∙ same_product m x x ((y + z) % m) (y + z) refl (mod-mod (y + z) m) ∙ ap (λ v. v % m) spread
+    (ap (λ v. (x * v) % m) eyz ∙ same_product m x x ((y + z) % m) (y + z) refl (mod-mod (y + z) m)
+    ∙ ap (λ v. v % m) spread
     ∙ sym (same_sum m (x * y % m) (x * y) (x * z % m) (x * z) (mod-mod (x * y) m) (mod-mod (x * z) m))
     ∙ sym (ap (λ v. (v + value m xz) % m) exy ∙ ap (λ v. (x * y % m + v) % m) exz))
 
@@ -55,8 +64,10 @@ cancels m (suc v) h =
     let whole : suc v + (m - suc v) ≡ m = omega arith in
     ap (λ n. (suc v + n) % m) e ∙ ap (λ n. n % m) whole ∙ mod_self m
 
-pub negative_cancels : {form value : ℕ → ℕ → ℕ} {width m negative sum : ℕ} (v : ℕ) → IsCanonical form value width m → v < m
-    → Represents form m negative (residue m (neg_ℤ (pos v))) → Represents form m sum ((v + value m negative) % m) → Represents form m sum 0
+pub negative_cancels : {form value : ℕ → ℕ → ℕ} {width m negative sum : ℕ} (v : ℕ)
+    → IsCanonical form value width m → v < m
+    → Represents form m negative (residue m (neg_ℤ (pos v))) → Represents form m sum ((v + value m negative) % m)
+    → Represents form m sum 0
 negative_cancels {form} {value} {width} {m} {negative} {sum} v canonical h hn hs =
     let e = canonical.one_value negative (residue m (neg_ℤ (pos v))) hn in
     subst (Represents form m sum) (ap (λ n. (v + n) % m) e ∙ cancels m v h) hs

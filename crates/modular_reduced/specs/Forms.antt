@@ -1,5 +1,6 @@
 -- What is said of the forms of a reducer. Forms and values are whole numbers, without width.
--- A reducer says by two functions what its forms are: modulo m, `form m v` is the form of the value v, and `value m f` the value of the form f.
+-- A reducer says by two functions what its forms are: modulo m,
+-- `form m v` is the form of the value v, and `value m f` the value of the form f.
 -- Form, checked form and canonical are the library's own word for it, after the Rust crate's `Reducer`.
 use Rattle.std.specs.Prelude.{◌≡◌, ℕ, ◌<◌, ◌^◌, Option, MatchOption}
 use Rattle.modular_word.specs.Inverses.{IsInverse}

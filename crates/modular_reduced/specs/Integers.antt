@@ -27,29 +27,37 @@ abbrev pub residue_of : {T R : Type 0} {word : _} {eq : _} {reducer : _} → Red
 residue_of {word} {reducer} x = reducer.value (reducer.modulus x.reducer) (word.number x.form)
 
 -- x is the `ReducedInt` of residue v modulo m
-abbrev pub IsReduced : {T R : Type 0} {word : _} {eq : _} {reducer : _} → ℕ → ℕ → ReducedInt T R word eq reducer → Type 0
+abbrev pub IsReduced : {T R : Type 0} {word : _} {eq : _} {reducer : _} → ℕ → ℕ
+    → ReducedInt T R word eq reducer → Type 0
 IsReduced m v x = IsInteger modulus_of residue_of m v x
 
 -- z is the sum of x and n
-abbrev pub IsSum : {T R : Type 0} {word : _} {eq : _} {reducer : _} → ReducedInt T R word eq reducer → ℕ → ReducedInt T R word eq reducer → Type 0
+abbrev pub IsSum : {T R : Type 0} {word : _} {eq : _} {reducer : _} → ReducedInt T R word eq reducer → ℕ
+    → ReducedInt T R word eq reducer → Type 0
 IsSum x n z = IsReduced (modulus_of x) ((residue_of x + n) % modulus_of x) z
 
 -- z is the difference of x and n
-abbrev pub IsDifference : {T R : Type 0} {word : _} {eq : _} {reducer : _} → ReducedInt T R word eq reducer → ℕ → ReducedInt T R word eq reducer → Type 0
+abbrev pub IsDifference : {T R : Type 0} {word : _} {eq : _} {reducer : _} → ReducedInt T R word eq reducer → ℕ
+    → ReducedInt T R word eq reducer → Type 0
 IsDifference x n z = IsReduced (modulus_of x) (residue (modulus_of x) (pos (residue_of x) -ℤ pos n)) z
 
 -- z is the product of x and n
-abbrev pub IsProduct : {T R : Type 0} {word : _} {eq : _} {reducer : _} → ReducedInt T R word eq reducer → ℕ → ReducedInt T R word eq reducer → Type 0
+abbrev pub IsProduct : {T R : Type 0} {word : _} {eq : _} {reducer : _} → ReducedInt T R word eq reducer → ℕ
+    → ReducedInt T R word eq reducer → Type 0
 IsProduct x n z = IsReduced (modulus_of x) ((residue_of x * n) % modulus_of x) z
 
 -- z is the negative of x
-abbrev pub IsNegative : {T R : Type 0} {word : _} {eq : _} {reducer : _} → ReducedInt T R word eq reducer → ReducedInt T R word eq reducer → Type 0
+abbrev pub IsNegative : {T R : Type 0} {word : _} {eq : _} {reducer : _} → ReducedInt T R word eq reducer
+    → ReducedInt T R word eq reducer → Type 0
 IsNegative x z = IsReduced (modulus_of x) (residue (modulus_of x) (neg_ℤ (pos (residue_of x)))) z
 
 -- x may be divided by y: the moduli are equal, and y has an inverse
-abbrev pub CanDivide : {T R : Type 0} {word : _} {eq : _} {reducer : _} → ReducedInt T R word eq reducer → ReducedInt T R word eq reducer → Type 0
+abbrev pub CanDivide : {T R : Type 0} {word : _} {eq : _} {reducer : _} → ReducedInt T R word eq reducer
+    → ReducedInt T R word eq reducer → Type 0
 CanDivide x y = (modulus_of x ≡ modulus_of y) × HasInverse (modulus_of y) (residue_of y)
 
 -- z is the quotient of x by y
-abbrev pub IsQuotient : {T R : Type 0} {word : _} {eq : _} {reducer : _} → ReducedInt T R word eq reducer → ReducedInt T R word eq reducer → ReducedInt T R word eq reducer → Type 0
-IsQuotient x y z = (modulus_of z ≡ modulus_of x) × IsModularQuotient (modulus_of x) (residue_of x) (residue_of y) (residue_of z)
+abbrev pub IsQuotient : {T R : Type 0} {word : _} {eq : _} {reducer : _} → ReducedInt T R word eq reducer
+    → ReducedInt T R word eq reducer → ReducedInt T R word eq reducer → Type 0
+IsQuotient x y z =
+    (modulus_of z ≡ modulus_of x) × IsModularQuotient (modulus_of x) (residue_of x) (residue_of y) (residue_of z)

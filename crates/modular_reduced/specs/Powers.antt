@@ -1,4 +1,5 @@
--- How many products a power by binary steps takes (Knuth, The Art of Computer Programming, volume 2, section 4.6.3, algorithm A).
+-- How many products a power by binary steps takes (Knuth,
+-- The Art of Computer Programming, volume 2, section 4.6.3, algorithm A).
 use Rattle.std.specs.Prelude.{ℕ, zero, suc, ◌+◌, ◌^◌, ◌==◌, nat_le, if◌then◌else◌, count_ones}
 
 -- how many binary digits e has, if it has at most `bound`

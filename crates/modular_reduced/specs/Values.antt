@@ -7,5 +7,6 @@ abbrev pub values_of : {T : Type 0} → (T → ℕ) → (ℕ → ℕ → ℕ) �
 values_of number value m forms = map (λ f. value m (number f)) forms
 
 -- each place i holds the form of the value v i
-pub record HoldValues {T : Type 0} (number : T → ℕ) (form : ℕ → ℕ → ℕ) (m : ℕ) (forms : List T) (v : ℕ → ℕ) : Type 0 where
+pub record HoldValues {T : Type 0} (number : T → ℕ) (form : ℕ → ℕ → ℕ) (m : ℕ)
+    (forms : List T) (v : ℕ → ℕ) : Type 0 where
   pub each : (i : ℕ) (d : T) → i < length forms → Represents form m (number (slice_index_or forms i d)) (v i)

@@ -1,5 +1,7 @@
 -- The count of the half system, one number after the other.
-use Rattle.std.proofs.Common.{◌≡◌, ℕ, suc, ◌+◌, ◌-◌, ◌*◌, ◌/◌, ◌%◌, ◌<◌, ◌≤◌, ◌≢◌, Bool, true, false, not, cond, ltb, eqb, ℤ, pos, negsuc, ◌*ℤ◌, nat_abs, Option, Some, None, is_some, zero, sym, ◌∙◌, ap, refl, arith}
+use Rattle.std.proofs.Common.{◌≡◌, ℕ, suc, ◌+◌, ◌-◌, ◌*◌, ◌/◌, ◌%◌, ◌<◌, ◌≤◌, ◌≢◌, Bool, true}
+use Rattle.std.proofs.Common.{false, not, cond, ltb, eqb, ℤ, pos, negsuc, ◌*ℤ◌, nat_abs}
+use Rattle.std.proofs.Common.{Option, Some, None, is_some, zero, sym, ◌∙◌, ap, refl, arith}
 use Rattle.std.proofs.lemmas.Bool.Decides.{nat_tests}
 use Rattle.modular_word.specs.Divisors.{gcd}
 use Rattle.modular_word.specs.Inverses.{IsInversion}
@@ -68,7 +70,8 @@ sum_next {z = z} {n = n} {x = x} {y = y} t =
     ap (λ v. sum_to (above z n) v) e ∙ sum_to-suc (above z n) x
     ∙ sym (ap (λ v. sum_to (above z n) x + above z n v) e)
 
-pub counted_high : {z : ℤ} {n x one y half s r : ℕ} {odd : Bool} → Next z n x one y half s r → CountedTo z n x odd → half < r
+pub counted_high : {z : ℤ} {n x one y half s r : ℕ} {odd : Bool} → Next z n x one y half s r
+    → CountedTo z n x odd → half < r
     → CountedTo z n y (not odd)
 counted_high {z = z} {n = n} {x = x} {y = y} {odd = odd} t c h = record {
   within = next_within t;
@@ -80,7 +83,8 @@ counted_high {z = z} {n = n} {x = x} {y = y} {odd = odd} t c h = record {
       ∙ other_parity (sum_to (above z n) x) (above z n y) odd c.parity (above_high z n y (omega arith));
 }
 
-pub counted_low : {z : ℤ} {n x one y half s r : ℕ} {odd : Bool} → Next z n x one y half s r → CountedTo z n x odd → r ≤ half
+pub counted_low : {z : ℤ} {n x one y half s r : ℕ} {odd : Bool} → Next z n x one y half s r
+    → CountedTo z n x odd → r ≤ half
     → CountedTo z n y odd
 counted_low {z = z} {n = n} {x = x} {y = y} {odd = odd} t c h = record {
   within = next_within t;
@@ -112,13 +116,15 @@ nat_abs-signed true (suc a) = refl
 nat_abs-signed false a = refl
 
 -- what an inversion tells of the greatest common divisor
-pub no_inverse : {A : Type 0} (number : A → ℕ) (m a : ℕ) (minus : Bool) (found : Option A) → 0 < m → IsInversion number m a found
+pub no_inverse : {A : Type 0} (number : A → ℕ) (m a : ℕ) (minus : Bool) (found : Option A) → 0 < m
+    → IsInversion number m a found
     → is_some found ≡ false → gcd (nat_abs (signed minus (pos a))) m ≢ 1
 no_inverse number m a minus None p none e =
     λ g. let h = (HasInverse-gcd a m p).1 (sym (ap (λ v. gcd v m) (nat_abs-signed minus a)) ∙ g) in none h.0 h.1
 no_inverse number m a minus (Some x) p i e = absurd (cc)
 
-pub with_inverse : {A : Type 0} (number : A → ℕ) (m a : ℕ) (minus : Bool) (found : Option A) → 0 < m → IsInversion number m a found
+pub with_inverse : {A : Type 0} (number : A → ℕ) (m a : ℕ) (minus : Bool) (found : Option A) → 0 < m
+    → IsInversion number m a found
     → is_some found ≡ true → gcd (nat_abs (signed minus (pos a))) m ≡ 1
 with_inverse number m a minus None p none e = absurd (cc)
 with_inverse number m a minus (Some x) p i e =

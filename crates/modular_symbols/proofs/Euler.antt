@@ -1,6 +1,7 @@
 -- Euler's criterion: over an odd prime n the power with exponent (n - 1) / 2 is congruent to the Jacobi symbol. The
 -- products a * x of the half system are its numbers in another order, up to as many signs as the count says.
-use Rattle.std.proofs.Common.{◌≡◌, ℕ, zero, suc, ◌+◌, ◌-◌, ◌*◌, ◌%◌, ◌/◌, ◌^◌, ◌<◌, ◌≤◌, cond, eqb, ℤ, pos, negsuc, Option, Some, None, sym, ◌∙◌, ap, arith, ⊎_elim, inl, inr, ◌⊎◌, subst}
+use Rattle.std.proofs.Common.{◌≡◌, ℕ, zero, suc, ◌+◌, ◌-◌, ◌*◌, ◌%◌, ◌/◌, ◌^◌, ◌<◌, ◌≤◌, cond, eqb, ℤ, pos}
+use Rattle.std.proofs.Common.{negsuc, Option, Some, None, sym, ◌∙◌, ap, arith, ⊎_elim, inl, inr, ◌⊎◌, subst}
 use Rattle.std.proofs.lemmas.Bool.Decides.{nat_tests}
 use Rattle.std.proofs.lemmas.Bool.{cases_lt, cases_eq}
 use Rattle.std.proofs.lemmas.Nat.{mod_below, mul-mod_first, mul-mod_second, pow-add}
@@ -15,9 +16,11 @@ use Rattle.modular_word.proofs.Sums.{sum_to-zero, sum_to-suc}
 use Rattle.modular_symbols.specs.Jacobi.{half_system_count, jacobi}
 use Rattle.modular_symbols.specs.Legendre.{classed_power}
 use Rattle.modular_symbols.specs.Primes.{IsPrime}
-use Rattle.modular_symbols.proofs.HalfSystem.{above, above_high, above_low, distance, distance_high, distance_low, half_system_count-sum, half_system_permuted, equal_remainders}
+use Rattle.modular_symbols.proofs.HalfSystem.{above, above_high, above_low, distance, distance_high, distance_low}
+use Rattle.modular_symbols.proofs.HalfSystem.{half_system_count-sum, half_system_permuted, equal_remainders}
 use Rattle.modular_symbols.proofs.JacobiLaws.{jacobi-residue, jacobi-coprime, jacobi-shared, sign-even, sign-odd}
-use Rattle.modular_symbols.proofs.RangeProducts.{product_to, product_to-zero, product_to-suc, product_to-times, product_to-constant, product_to-permuted}
+use Rattle.modular_symbols.proofs.RangeProducts.{product_to, product_to-zero, product_to-suc}
+use Rattle.modular_symbols.proofs.RangeProducts.{product_to-times, product_to-constant, product_to-permuted}
 use Rattle.modular_symbols.proofs.ResidueProducts.{residue_below}
 
 -- ---- the powers of n - 1, which stands for -1
@@ -161,7 +164,8 @@ zero_power (suc k) p = pow-suc 0 k ∙ omega arith
 
 -- the class of p modulo n
 abbrev class_of : ℕ → ℕ → Option ℤ
-class_of n p = cond (eqb p 0) (Some (pos 0)) (cond (eqb p 1) (Some (pos 1)) (cond (eqb p (n - 1)) (Some (negsuc 0)) None))
+class_of n p =
+    cond (eqb p 0) (Some (pos 0)) (cond (eqb p 1) (Some (pos 1)) (cond (eqb p (n - 1)) (Some (negsuc 0)) None))
 
 class_zero : (n p : ℕ) → p ≡ 0 → class_of n p ≡ Some (pos 0)
 class_zero n p e = grind (arith, nat_tests)

@@ -1,5 +1,6 @@
 -- The half system 1, 2, .., (n - 1) / 2 of an odd n, and what a factor coprime to n does to it.
-use Rattle.std.proofs.Common.{◌≡◌, ℕ, ◌+◌, ◌-◌, ◌*◌, ◌%◌, ◌/◌, ◌<◌, ◌≤◌, ℤ, pos, ◌*ℤ◌, cond, ltb, sym, ◌∙◌, ap, refl, arith, ⊎_elim, ◌≢◌, ◌⊎◌}
+use Rattle.std.proofs.Common.{◌≡◌, ℕ, ◌+◌, ◌-◌, ◌*◌, ◌%◌, ◌/◌, ◌<◌, ◌≤◌, ℤ, pos, ◌*ℤ◌}
+use Rattle.std.proofs.Common.{cond, ltb, sym, ◌∙◌, ap, refl, arith, ⊎_elim, ◌≢◌, ◌⊎◌}
 use Rattle.std.proofs.lemmas.Bool.Decides.{nat_tests}
 use Rattle.std.proofs.lemmas.Bool.{cases_lt}
 use Rattle.std.proofs.lemmas.Nat.{mul-mod_second, mod_below}
@@ -51,7 +52,8 @@ unfolding half_system_count above
 half_system_count-sum a n = refl
 
 -- the count sees a factor by its residue alone
-pub half_system_count-residue : (a : ℤ) (n : ℕ) → 0 < n → half_system_count a n ≡ half_system_count (pos (residue n a)) n
+pub half_system_count-residue : (a : ℤ) (n : ℕ) → 0 < n
+    → half_system_count a n ≡ half_system_count (pos (residue n a)) n
 unfolding half_system_count above
 half_system_count-residue a n p =
     let h : ℕ = (n - 1) / 2 in
@@ -92,7 +94,8 @@ opposite_product n a v p z =
     let u : (n - v % n) + v % n ≡ n = omega arith in
     let k = ap (λ x. a * x) u in
     let t : a * (n - v % n) + a * (v % n) ≡ n * a = omega arith in
-    let o = opposite_remainders n (a * (n - v % n)) (a * (v % n)) p (ap (λ u. u % n) t ∙ mul-mod_right n a) (λ e. z (sym r ∙ e)) in
+    let o = opposite_remainders n (a * (n - v % n)) (a * (v % n)) p
+    (ap (λ u. u % n) t ∙ mul-mod_right n a) (λ e. z (sym r ∙ e)) in
     omega arith
 
 -- a * v lies above as a times the distance of v does, and the other way where v itself lies above
@@ -128,7 +131,8 @@ equal_remainders n b x z c l h e =
     let k = ap (λ v. b * v) u in
     let s : n * (b * x / n) + b * (z - x) ≡ n * (b * z / n) = omega arith in
     let d : (b * (z - x)) % n ≡ 0 =
-    divides_rest n (n * (b * x / n)) (b * (z - x)) (mul-mod_right n (b * x / n)) (ap (λ v. v % n) s ∙ mul-mod_right n (b * z / n)) in
+    divides_rest n (n * (b * x / n)) (b * (z - x)) (mul-mod_right n (b * x / n))
+    (ap (λ v. v % n) s ∙ mul-mod_right n (b * z / n)) in
     let r = coprime_cancel b n (z - x) (omega arith) c d in
     let m : z - x < n = omega arith in
     let q = mod-eq_of_lt m in

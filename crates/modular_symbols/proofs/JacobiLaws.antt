@@ -1,5 +1,7 @@
 -- The laws of the Jacobi symbol, from the count alone.
-use Rattle.std.proofs.Common.{◌≡◌, ℕ, Bool, true, false, zero, suc, ◌+◌, ◌-◌, ◌*◌, ◌%◌, ◌/◌, ◌<◌, cond, eqb, ltb, ◌&&◌, ◌||◌, ℤ, pos, negsuc, ◌*ℤ◌, neg_ℤ, nat_abs, sym, ◌∙◌, ap, arith, ⊎_elim, inl, inr, ◌≢◌, ◌⊎◌, ◌↔◌}
+use Rattle.std.proofs.Common.{◌≡◌, ℕ, Bool, true, false, zero, suc, ◌+◌, ◌-◌, ◌*◌, ◌%◌, ◌/◌}
+use Rattle.std.proofs.Common.{◌<◌, cond, eqb, ltb, ◌&&◌, ◌||◌, ℤ, pos, negsuc, ◌*ℤ◌, neg_ℤ}
+use Rattle.std.proofs.Common.{nat_abs, sym, ◌∙◌, ap, arith, ⊎_elim, inl, inr, ◌≢◌, ◌⊎◌, ◌↔◌}
 use Rattle.std.proofs.lemmas.Bool.Decides.{nat_tests}
 use Rattle.std.proofs.lemmas.Bool.{cases_eq, cond-true, cond-false, eq-eqb, ne_eqb}
 use Rattle.std.proofs.lemmas.Int.{ints}
@@ -8,10 +10,13 @@ use Rattle.std.proofs.Math.Nat.{zero-mod, mod_self}
 use Rattle.modular_word.specs.Divisors.{Coprime, gcd}
 use Rattle.modular_word.specs.Residues.{residue}
 use Rattle.modular_word.specs.Sums.{sum_to}
-use Rattle.modular_word.proofs.Divisors.{gcd_is_positive, divides_rest, divides_through, divisor_below, Coprime-swap, Coprime-left, Coprime-right, Coprime-product, Coprime-mod, Coprime-from_mod, gcd-from_Coprime, Coprime-from_gcd}
+use Rattle.modular_word.proofs.Divisors.{gcd_is_positive, divides_rest, divides_through, divisor_below}
+use Rattle.modular_word.proofs.Divisors.{Coprime-swap, Coprime-left, Coprime-right, Coprime-product}
+use Rattle.modular_word.proofs.Divisors.{Coprime-mod, Coprime-from_mod, gcd-from_Coprime, Coprime-from_gcd}
 use Rattle.modular_word.proofs.Sums.{sum_to-same, sum_to-zero}
 use Rattle.modular_symbols.specs.Jacobi.{half_system_count, sign, jacobi}
-use Rattle.modular_symbols.proofs.HalfSystem.{above, above-small, half_system_count-sum, half_system_count-residue, half_system_count-product}
+use Rattle.modular_symbols.proofs.HalfSystem.{above, above-small, half_system_count-sum}
+use Rattle.modular_symbols.proofs.HalfSystem.{half_system_count-residue, half_system_count-product}
 use Rattle.modular_symbols.proofs.Lattice.{counts_reciprocal}
 use Rattle.modular_symbols.proofs.ResidueProducts.{residue_opposite, residue-product}
 
@@ -132,7 +137,8 @@ jacobi-product a b n o =
     let s : ℕ = residue n b in
     jacobi-residue (a *ℤ b) n p ∙ ap (λ v. jacobi (pos v) n) (residue-product n a b p)
     ∙ sym (jacobi-residue (pos (r * s)) n p) ∙ jacobi-natural_product r s n o
-    ∙ sym (ap (λ v. v *ℤ jacobi (pos s) n) (jacobi-residue a n p)) ∙ sym (ap (λ v. jacobi a n *ℤ v) (jacobi-residue b n p))
+    ∙ sym (ap (λ v. v *ℤ jacobi (pos s) n) (jacobi-residue a n p))
+    ∙ sym (ap (λ v. jacobi a n *ℤ v) (jacobi-residue b n p))
 
 -- ---- the symbol of 2
 doubles_step : (h k s : ℕ) → s ≡ k - h / 2 → s + cond (ltb h (2 * suc k)) 1 0 ≡ suc k - h / 2
@@ -148,7 +154,8 @@ half_system_count-two : (n : ℕ) → n % 2 ≡ 1 → half_system_count (pos 2) 
 half_system_count-two n o =
     let h : ℕ = (n - 1) / 2 in
     half_system_count-sum 2 n
-    ∙ sum_to-same (λ x. above n (2 * x)) (λ x. cond (ltb h (2 * x)) 1 0) h (λ x p q. above-small n (2 * x) (omega arith))
+    ∙ sum_to-same (λ x. above n (2 * x)) (λ x. cond (ltb h (2 * x)) 1 0) h
+    (λ x p q. above-small n (2 * x) (omega arith))
     ∙ doubles_above h h
 
 Coprime-two : (n : ℕ) → n % 2 ≡ 1 → Coprime 2 n
@@ -243,11 +250,13 @@ jacobi-reciprocal m n k o c =
 pub jacobi-zero_one : jacobi (pos 0) 1 ≡ pos 1
 jacobi-zero_one =
     let one : 0 < 1 = omega arith in
-    jacobi-coprime (pos 0) 1 one (record { only_one = λ d g h. let b = divisor_below d 1 one h in omega (arith, b.0, b.1) })
+    jacobi-coprime (pos 0) 1 one
+    (record { only_one = λ d g h. let b = divisor_below d 1 one h in omega (arith, b.0, b.1) })
     ∙ ap sign (half_system_count-sum 0 1 ∙ sum_to-zero (λ x. above 1 (0 * x)))
 
 pub jacobi-zero : (n : ℕ) → 1 < n → jacobi (pos 0) n ≡ pos 0
-jacobi-zero n l = jacobi-shared (pos 0) n (omega arith) (λ c. let e = c.only_one n (zero-mod n) (mod_self n) in omega arith)
+jacobi-zero n l =
+    jacobi-shared (pos 0) n (omega arith) (λ c. let e = c.only_one n (zero-mod n) (mod_self n) in omega arith)
 
 -- ---- the values
 pub sign-values : (i : ℕ) → (sign i ≡ pos 1) ⊎ (sign i ≡ negsuc 0)
@@ -267,7 +276,8 @@ unfolding jacobi
 jacobi-values a n =
     ⊎_elim
     (λ (e : gcd (nat_abs a) n ≡ 1).
-    values_from a n (sign (half_system_count a n)) (cond-true _ _ _ (eq-eqb (gcd (nat_abs a) n) 1 e)) (sign-values (half_system_count a n)))
+    values_from a n (sign (half_system_count a n)) (cond-true _ _ _ (eq-eqb (gcd (nat_abs a) n) 1 e))
+    (sign-values (half_system_count a n)))
     (λ (z : gcd (nat_abs a) n ≡ 1 → ⊥). inr (inr (cond-false _ _ _ (ne_eqb (gcd (nat_abs a) n) 1 z))))
     (cases_eq (gcd (nat_abs a) n) 1)
 
@@ -284,7 +294,8 @@ jacobi-zero_exactly a n p =
     let positive = (gcd_is_positive (nat_abs a) n p) in (
       (λ e.
           ⊎_elim
-          (λ (f : gcd (nat_abs a) n ≡ 1). absurd (sign-nonzero (half_system_count a n) (sym (jacobi-coprime a n p (Coprime-from_gcd (nat_abs a) n p f)) ∙ e)))
+          (λ (f : gcd (nat_abs a) n ≡ 1). absurd
+          (sign-nonzero (half_system_count a n) (sym (jacobi-coprime a n p (Coprime-from_gcd (nat_abs a) n p f)) ∙ e)))
           (λ (z : gcd (nat_abs a) n ≡ 1 → ⊥). omega arith)
           (cases_eq (gcd (nat_abs a) n) 1)),
       (λ l. jacobi-shared a n p (λ c. let e = gcd-from_Coprime (nat_abs a) n p c in omega arith)),

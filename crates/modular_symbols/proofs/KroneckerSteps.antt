@@ -1,5 +1,7 @@
 -- The Kronecker symbol by the parts of the two numbers: their signs, the power of two, the odd part.
-use Rattle.std.proofs.Common.{◌≡◌, ◌≢◌, ℕ, zero, suc, ◌+◌, ◌/◌, ◌%◌, ◌^◌, ◌<◌, ◌≤◌, Bool, true, false, IsTrue, if◌then◌else◌, ◌==◌, eqb, ◌&&◌, ◌||◌, ◌↔◌, ℤ, pos, negsuc, ◌*ℤ◌, nat_abs, int_lt, sym, ◌∙◌, ap, refl, arith}
+use Rattle.std.proofs.Common.{◌≡◌, ◌≢◌, ℕ, zero, suc, ◌+◌, ◌/◌, ◌%◌, ◌^◌, ◌<◌, ◌≤◌, Bool, true}
+use Rattle.std.proofs.Common.{false, IsTrue, if◌then◌else◌, ◌==◌, eqb, ◌&&◌, ◌||◌, ◌↔◌, ℤ, pos}
+use Rattle.std.proofs.Common.{negsuc, ◌*ℤ◌, nat_abs, int_lt, sym, ◌∙◌, ap, refl, arith}
 use Rattle.std.specs.Int.{int_pow}
 use Rattle.std.proofs.lemmas.Bool.Decides.{nat_tests}
 use Rattle.std.specs.Int.Count.{count_trailing_zeros}

@@ -1,6 +1,7 @@
--- Reciprocity of the counts for odd m and n, by the pairs (x, y) of a number x of the half system of n and a number y of
--- the half system of m, and by where m * x - n * y lies.
-use Rattle.std.proofs.Common.{◌≡◌, ℕ, suc, ◌+◌, ◌-◌, ◌*◌, ◌%◌, ◌/◌, ◌<◌, ◌≤◌, pos, cond, ltb, leb, ◌&&◌, sym, ◌∙◌, ap, arith, ⊎_elim, ◌≢◌}
+-- Reciprocity of the counts for odd m and n, by the pairs (x, y) of a number x of the half
+-- system of n and a number y of the half system of m, and by where m * x - n * y lies.
+use Rattle.std.proofs.Common.{◌≡◌, ℕ, suc, ◌+◌, ◌-◌, ◌*◌, ◌%◌, ◌/◌, ◌<◌, ◌≤◌, pos}
+use Rattle.std.proofs.Common.{cond, ltb, leb, ◌&&◌, sym, ◌∙◌, ap, arith, ⊎_elim, ◌≢◌}
 use Rattle.std.proofs.lemmas.Bool.Decides.{nat_tests}
 use Rattle.std.proofs.lemmas.Bool.{cases_lt, cases_eq}
 use Rattle.std.proofs.lemmas.Nat.{mod_below}
@@ -8,7 +9,8 @@ use Rattle.std.proofs.Math.Nat.{mul-le-mul_left, lt_of_mul-lt-mul_left}
 use Rattle.modular_word.specs.Divisors.{Coprime}
 use Rattle.modular_word.specs.Sums.{sum_to}
 use Rattle.modular_word.proofs.Divisors.{divides}
-use Rattle.modular_word.proofs.Sums.{sum_to-same, sum_to-add, sum_to-ones, sum_to-nothing, sum_to-only, sum_to-swap, sum_to-scale, sum_to-reversed}
+use Rattle.modular_word.proofs.Sums.{sum_to-same, sum_to-add, sum_to-ones, sum_to-nothing}
+use Rattle.modular_word.proofs.Sums.{sum_to-only, sum_to-swap, sum_to-scale, sum_to-reversed}
 use Rattle.modular_symbols.specs.Jacobi.{half_system_count}
 use Rattle.modular_symbols.proofs.HalfSystem.{above, above_high, above_low, half_system_count-sum, not_divided}
 
@@ -114,7 +116,8 @@ row_within m n x o k p h =
 row : (m n x : ℕ) → n % 2 ≡ 1 → m % 2 ≡ 1 → x ≤ (n - 1) / 2
     → sum_to (λ y. just_below n (m * x) (n * y)) ((m - 1) / 2) ≡ above n (m * x)
 row m n x o k p =
-    let others : (y : ℕ) → y ≢ suc (m * x / n) → just_below n (m * x) (n * y) ≡ 0 = λ y z. row_other m n x y (omega arith) z in
+    let others : (y : ℕ) → y ≢ suc (m * x / n) → just_below n (m * x) (n * y) ≡ 0 =
+    λ y z. row_other m n x y (omega arith) z in
     ⊎_elim
     (λ (l : (n - 1) / 2 < (m * x) % n).
     sum_to-only (λ y. just_below n (m * x) (n * y)) ((m - 1) / 2) (suc (m * x / n)) (omega arith)

@@ -1,5 +1,6 @@
 -- The class of the power: by the power itself, and over an odd prime.
-use Rattle.std.proofs.Common.{◌≡◌, ◌≢◌, ℕ, ◌-◌, ◌/◌, ◌%◌, ◌^◌, ◌==◌, if◌then◌else◌, Bool, false, ℤ, pos, negsuc, nat_abs, Option, Some, None, ◌∙◌, sym, ap, arith}
+use Rattle.std.proofs.Common.{◌≡◌, ◌≢◌, ℕ, ◌-◌, ◌/◌, ◌%◌, ◌^◌, ◌==◌, if◌then◌else◌, Bool, false}
+use Rattle.std.proofs.Common.{ℤ, pos, negsuc, nat_abs, Option, Some, None, ◌∙◌, sym, ap, arith}
 use Rattle.std.proofs.lemmas.Bool.{cond-true, cond-false, eq-eqb, ne_eqb}
 use Rattle.modular_word.specs.Residues.{residue}
 use Rattle.modular_symbols.specs.Jacobi.{jacobi}
@@ -19,15 +20,18 @@ class_over_prime a (negsuc n) p = absurd p
 -- of a power that is found, `last` the number before n
 abbrev pub class_by : ℕ → ℕ → Option ℤ
 class_by last power =
-    if power == 0 then Some (pos 0) else if power == 1 then Some (pos 1) else if power == last then Some (negsuc 0) else None
+    if power == 0 then Some (pos 0) else if power == 1 then Some (pos 1) else if power
+    == last then Some (negsuc 0) else None
 
-pub class_is : (z : ℤ) (minus : Bool) (n last half rest power : ℕ) → minus ≡ false → n ≢ 0 → last ≡ n - 1 → half ≡ last / 2
+pub class_is : (z : ℤ) (minus : Bool) (n last half rest power : ℕ) → minus ≡ false → n ≢ 0
+    → last ≡ n - 1 → half ≡ last / 2
     → rest ≡ residue n z → power ≡ rest ^ half % n → checked_legendre_of z (signed minus (pos n)) ≡ class_by last power
 class_is z minus n last half rest power m some l h r p =
     ap (λ b. checked_legendre_of z (signed b (pos n))) m
     ∙ cond-false _ _ _ (ne_eqb n 0 some)
     ∙ sym (ap (λ k. class_by k power) l
-    ∙ ap (λ v. class_by (n - 1) v) (p ∙ ap (λ v. v ^ half % n) r ∙ ap (λ k. residue n z ^ k % n) (h ∙ ap (λ k. k / 2) l)))
+    ∙ ap (λ v. class_by (n - 1) v)
+    (p ∙ ap (λ v. v ^ half % n) r ∙ ap (λ k. residue n z ^ k % n) (h ∙ ap (λ k. k / 2) l)))
 
 pub class_zero : (last power : ℕ) → power ≡ 0 → class_by last power ≡ Some (pos 0)
 class_zero last power e = cond-true _ _ _ (eq-eqb power 0 e)

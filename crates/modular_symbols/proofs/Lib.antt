@@ -12,5 +12,7 @@ pub mod ResidueProducts
 pub mod Squares
 pub mod StepCounts
 pub mod SubtractionSteps
+pub mod SymbolBytes
+pub mod TurnBits
 pub mod TurnedSymbols
 pub mod TwoPart

@@ -1,5 +1,6 @@
 -- What holds of a prime: coprime numbers, Fermat's theorem, and that the symbols over an odd prime are there.
-use Rattle.std.proofs.Common.{◌≡◌, ◌≢◌, ℕ, ◌+◌, ◌-◌, ◌*◌, ◌/◌, ◌%◌, ◌^◌, ◌<◌, ℤ, pos, negsuc, nat_abs, Some, IsSome, sym, ◌∙◌, ap, subst, arith, ⊎_elim, inl, inr, refl, ◌⊎◌}
+use Rattle.std.proofs.Common.{◌≡◌, ◌≢◌, ℕ, ◌+◌, ◌-◌, ◌*◌, ◌/◌, ◌%◌, ◌^◌, ◌<◌, ℤ, pos, negsuc, nat_abs}
+use Rattle.std.proofs.Common.{Some, IsSome, sym, ◌∙◌, ap, subst, arith, ⊎_elim, inl, inr, refl, ◌⊎◌}
 use Rattle.std.proofs.lemmas.Bool.{cond-false, ne_eqb, cases_eq}
 use Rattle.std.proofs.lemmas.Nat.{mod_below, mul-mod, mul-mod_second, pow-add}
 use Rattle.std.proofs.Math.Nat.{mod-eq_of_lt}
@@ -57,7 +58,8 @@ fermat a p u z =
     (λ (o : p % 2 ≡ 1).
     let h : ℕ = (p - 1) / 2 in
     let e : p - 1 ≡ h + h = omega arith in
-    ap (λ k. a ^ k % p) e ∙ ap (λ v. v % p) (pow-add a h h) ∙ square_of_half p (a ^ h) u.above_one (half_power a p o u z))
+    ap (λ k. a ^ k % p) e ∙ ap (λ v. v % p) (pow-add a h h)
+    ∙ square_of_half p (a ^ h) u.above_one (half_power a p o u z))
     (λ (n : p % 2 ≡ 1 → ⊥).
     let two = even_prime p u n in
     let e : p - 1 ≡ 1 = omega arith in

@@ -1,5 +1,6 @@
 -- The residue of a product of integers is that of the residues' product.
-use Rattle.std.proofs.Common.{◌≡◌, ℕ, zero, suc, ◌+◌, ◌*◌, ◌/◌, ◌%◌, ◌<◌, ℤ, pos, negsuc, ◌*ℤ◌, neg_ℤ, sym, ◌∙◌, ap, arith}
+use Rattle.std.proofs.Common.{◌≡◌, ℕ, zero, suc, ◌+◌, ◌*◌, ◌/◌, ◌%◌, ◌<◌, ℤ}
+use Rattle.std.proofs.Common.{pos, negsuc, ◌*ℤ◌, neg_ℤ, sym, ◌∙◌, ap, arith}
 use Rattle.std.proofs.lemmas.Nat.{mod_below, mul-mod, mul-mod_second}
 use Rattle.std.proofs.Math.Nat.{mod-eq_of_lt, mod-add-mod, zero-mod, add-mul-mod_self_left}
 use Rattle.modular_word.specs.Residues.{residue}
@@ -56,7 +57,8 @@ residue-product n (negsuc a) (pos b) p =
     (ap (λ v. (v + suc a * b) % n) (mul-mod_second r b n)
     ∙ opposite_product n r (suc a) b (residue_opposite n a p))
 residue-product n (negsuc a) (negsuc b) p =
-    both_opposite n (residue n (negsuc a)) (residue n (negsuc b)) (suc a) (suc b) (residue_opposite n a p) (residue_opposite n b p)
+    both_opposite n (residue n (negsuc a)) (residue n (negsuc b)) (suc a) (suc b)
+    (residue_opposite n a p) (residue_opposite n b p)
 
 -- that of a multiple
 pub residue-multiple : (n : ℕ) (z : ℤ) (x : ℕ) → 0 < n → residue n (z *ℤ pos x) ≡ (residue n z * x) % n

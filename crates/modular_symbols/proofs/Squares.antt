@@ -1,12 +1,14 @@
--- Over an odd prime p the symbol of a is 1 exactly where a is the square of a number that p doesn't divide. Where a isn't
--- one, the numbers below p fall into pairs of product a, so that their product is a^((p - 1)/2); and it is -1, by the
--- pairs of product 1 (Wilson's theorem). Dirichlet's proof: Hardy and Wright, "An Introduction to the Theory of Numbers",
--- sections 6.5 and 6.6.
-use Rattle.std.proofs.Common.{◌≡◌, ◌≢◌, ℕ, zero, suc, ◌+◌, ◌-◌, ◌*◌, ◌/◌, ◌%◌, ◌^◌, ◌<◌, ◌≤◌, cond, eqb, ltb, ℤ, pos, negsuc, ◌*ℤ◌, Some, None, sym, ◌∙◌, ap, arith, ⊎_elim, inl, inr, ◌⊎◌}
+-- Over an odd prime p the symbol of a is 1 exactly where a is the square of a number that
+-- p doesn't divide. Where a isn't one, the numbers below p fall into pairs of product a,
+-- so that their product is a^((p - 1)/2); and it is -1, by the pairs of product 1 (Wilson's theorem).
+-- Dirichlet's proof: Hardy and Wright, "An Introduction to the Theory of Numbers", sections 6.5 and 6.6.
+use Rattle.std.proofs.Common.{◌≡◌, ◌≢◌, ℕ, zero, suc, ◌+◌, ◌-◌, ◌*◌, ◌/◌, ◌%◌, ◌^◌, ◌<◌, ◌≤◌, cond, eqb, ltb}
+use Rattle.std.proofs.Common.{ℤ, pos, negsuc, ◌*ℤ◌, Some, None, sym, ◌∙◌, ap, arith, ⊎_elim, inl, inr, ◌⊎◌}
 use Rattle.std.proofs.lemmas.Bool.Decides.{nat_tests}
 use Rattle.std.proofs.lemmas.Bool.{cases_eq}
 use Rattle.std.proofs.lemmas.Nat.{mod_below, mul-mod_second}
-use Rattle.std.proofs.Math.Nat.{mod-eq_of_lt, mul-zero, mul-one, mul_comm, one-mul, pow-suc, pow-zero, zero-mod, add-mul-mod_self_left}
+use Rattle.std.proofs.Math.Nat.{mod-eq_of_lt, mul-zero, mul-one, mul_comm, one-mul}
+use Rattle.std.proofs.Math.Nat.{pow-suc, pow-zero, zero-mod, add-mul-mod_self_left}
 use Rattle.modular_word.specs.Residues.{residue}
 use Rattle.modular_word.specs.Sums.{sum_to, Permutes}
 use Rattle.modular_word.proofs.Congruence.{same_product, same_without}
@@ -18,7 +20,9 @@ use Rattle.modular_symbols.specs.Primes.{IsPrime}
 use Rattle.modular_symbols.proofs.Euler.{below_coprime, cancel_below, square_of_last, classed_power-jacobi}
 use Rattle.modular_symbols.proofs.JacobiLaws.{jacobi-residue, jacobi-product, jacobi-coprime, sign-values}
 use Rattle.modular_symbols.proofs.PrimeLaws.{prime_to, fermat}
-use Rattle.modular_symbols.proofs.RangeProducts.{product_to, product_to-zero, product_to-suc, product_to-same, product_to-times, product_to-ones, product_to-only, product_to-power, product_to-permuted}
+use Rattle.modular_symbols.proofs.RangeProducts.{product_to, product_to-zero, product_to-suc}
+use Rattle.modular_symbols.proofs.RangeProducts.{product_to-same, product_to-times, product_to-ones}
+use Rattle.modular_symbols.proofs.RangeProducts.{product_to-only, product_to-power, product_to-permuted}
 use Rattle.modular_symbols.proofs.ResidueProducts.{residue_below}
 
 -- ---- the partner of x: the number below p whose product with x leaves a
@@ -230,13 +234,15 @@ root_or_none p r (suc k) =
     ⊎_elim
     (λ (e : (suc k * suc k) % p ≡ r). inl (suc k, (omega arith, (omega arith, e))))
     (λ (z : (suc k * suc k) % p ≡ r → ⊥). inr (λ x q l e.
-    ⊎_elim (λ (b : x ≤ k). n x q b e) (λ (b : x ≡ suc k). z (sym (ap (λ v. (v * v) % p) b) ∙ e)) (last_or_before x k l)))
+    ⊎_elim (λ (b : x ≤ k). n x q b e) (λ (b : x ≡ suc k). z (sym (ap (λ v. (v * v) % p) b) ∙ e))
+    (last_or_before x k l)))
     (cases_eq ((suc k * suc k) % p) r))
     (root_or_none p r k)
 
 -- ---- the theorem
 class_is_one : (n q : ℕ)
-    → cond (eqb q 0) (Some (pos 0)) (cond (eqb q 1) (Some (pos 1)) (cond (eqb q (n - 1)) (Some (negsuc 0)) None)) ≡ Some (pos 1)
+    → cond (eqb q 0) (Some (pos 0)) (cond (eqb q 1) (Some (pos 1)) (cond (eqb q (n - 1)) (Some (negsuc 0)) None))
+    ≡ Some (pos 1)
     → q ≡ 1
 class_is_one n q e = grind (arith, nat_tests)
 
@@ -277,7 +283,8 @@ one_square : (z : ℤ) → (z ≡ pos 1) ⊎ (z ≡ negsuc 0) → z *ℤ z ≡ p
 one_square z h = ⊎_elim (λ (e : z ≡ pos 1). ap (λ v. v *ℤ v) e) (λ (e : z ≡ negsuc 0). ap (λ v. v *ℤ v) e) h
 
 -- and a square has the symbol 1
-pub symbol_of_root : (a : ℤ) (p x : ℕ) → p % 2 ≡ 1 → IsPrime p → x % p ≢ 0 → (x * x) % p ≡ residue p a → jacobi a p ≡ pos 1
+pub symbol_of_root : (a : ℤ) (p x : ℕ) → p % 2 ≡ 1 → IsPrime p → x % p ≢ 0
+    → (x * x) % p ≡ residue p a → jacobi a p ≡ pos 1
 symbol_of_root a p x o u z e =
     let q : 0 < p = omega arith in
     let j = jacobi-coprime (pos x) p q (prime_to x p u z) in

@@ -1,5 +1,6 @@
 -- How many halvings and swaps the loop of the Jacobi symbol takes, and that these are few.
-use Rattle.std.proofs.Common.{◌≡◌, ℕ, zero, suc, ◌+◌, ◌*◌, ◌/◌, ◌%◌, ◌^◌, ◌<◌, ◌≤◌, sym, ◌∙◌, ap, refl, arith, ⊎_elim, ◌⊎◌, inl, inr}
+use Rattle.std.proofs.Common.{◌≡◌, ℕ, zero, suc, ◌+◌, ◌*◌, ◌/◌, ◌%◌, ◌^◌, ◌<◌, ◌≤◌}
+use Rattle.std.proofs.Common.{sym, ◌∙◌, ap, refl, arith, ⊎_elim, ◌⊎◌, inl, inr}
 use Rattle.std.proofs.lemmas.Bool.Decides.{nat_tests}
 use Rattle.std.proofs.lemmas.Nat.{mod_below, mul-lt, pow_pos}
 use Rattle.std.proofs.Math.Nat.{mul-le-mul_left, pow-suc, mul-one}

@@ -1,13 +1,15 @@
 -- What the loop of differences keeps.
-use Rattle.std.proofs.Common.{◌≡◌, ◌≢◌, ℕ, ◌+◌, ◌-◌, ◌*◌, ◌/◌, ◌%◌, ◌^◌, ◌<◌, Bool, true, false, ◌&&◌, ℤ, pos, sym, ◌∙◌, ap, arith, subst, refl}
-use Rattle.std.proofs.Math.Bool.{beq, not}
+use Rattle.std.proofs.Common.{◌≡◌, ◌≢◌, ℕ, ◌+◌, ◌-◌, ◌*◌, ◌/◌, ◌%◌, ◌^◌, ◌<◌, Bool, true, false}
+use Rattle.std.proofs.Common.{eqb, if◌then◌else◌, ℤ, pos, negsuc, sym, ◌∙◌, ap, arith, subst, refl}
+use Rattle.std.proofs.lemmas.Bool.{eq-eqb, ne_eqb}
 use Rattle.std.proofs.Math.Nat.{add-mod_left, add-mod_right, mod-eq_of_lt, mod_self, zero-mod}
 use Rattle.std.specs.Int.Count.{count_trailing_zeros}
 use Rattle.modular_word.proofs.Congruence.{mod_cancel}
 use Rattle.modular_symbols.specs.Jacobi.{jacobi}
 use Rattle.modular_symbols.specs.Kronecker.{signed}
 use Rattle.modular_symbols.proofs.JacobiLaws.{jacobi-residue}
-use Rattle.modular_symbols.proofs.TurnedSymbols.{Keeps, kept_one, kept_none, turned_twice}
+use Rattle.modular_symbols.proofs.TurnBits.{is_odd, odd-sum}
+use Rattle.modular_symbols.proofs.TurnedSymbols.{Keeps, kept_one, kept_none, signed-other, turned_twice}
 use Rattle.modular_symbols.proofs.TwoPart.{SplitAt, split_at, split_opposite, Halved, halved_split}
 
 -- numbers that leave the same remainder have the same symbol
@@ -25,7 +27,8 @@ pub record Wraps (w base v a n : ℕ) : Type 0 where
   pub n_fits : n < base
 
 -- the first number is the greater one
-pub halved_above : (w b v a n d s o : ℕ) → Wraps w b v a n → a ≢ n → d + n ≡ a → s ≡ count_trailing_zeros w v → o ≡ d / 2 ^ s
+pub halved_above : (w b v a n d s o : ℕ) → Wraps w b v a n → a ≢ n → d + n ≡ a
+    → s ≡ count_trailing_zeros w v → o ≡ d / 2 ^ s
     → Halved d s o
 halved_above w b v a n d s o r z e f g =
     let l = r.a_fits in
@@ -36,7 +39,8 @@ halved_above w b v a n d s o r z e f g =
     (subst (λ k. SplitAt d k) (sym (f ∙ ap (λ k. count_trailing_zeros w k) same)) (split_at w d (omega arith) fits)) g
 
 -- the second number is the greater one
-pub halved_below : (w b v a n d s o : ℕ) → Wraps w b v a n → a ≢ n → d + a ≡ n → s ≡ count_trailing_zeros w v → o ≡ d / 2 ^ s
+pub halved_below : (w b v a n d s o : ℕ) → Wraps w b v a n → a ≢ n → d + a ≡ n
+    → s ≡ count_trailing_zeros w v → o ≡ d / 2 ^ s
     → Halved d s o
 halved_below w b v a n d s o r z e f g =
     let l = r.a_fits in
@@ -59,23 +63,43 @@ pub jacobi-odd_part : (x d y s o : ℕ) (p : Bool) → TurnsBy s y p → Halved 
 jacobi-odd_part x d y s o p t h l e =
     jacobi-congruent x d y l e ∙ sym (ap (λ v. jacobi (pos v) y) h.whole) ∙ t.law o
 
--- the symbol of the greater one of two numbers over the smaller one, y
-pub jacobi-above : (l q p : Bool) (a n y d s o : ℕ) → l ≡ false → y ≡ n → TurnsBy s y p → Halved d s o → n % 2 ≡ 1 → d + n ≡ a
-    → jacobi (pos a) n ≡ signed (not (beq (l && q) p)) (jacobi (pos o) y)
-jacobi-above l q p a n y d s o e b t h k f =
-    turned_twice (jacobi (pos a) n) (jacobi (pos a) y) (jacobi (pos o) y) false p (ap (λ v. jacobi (pos a) v) (sym b))
-    (jacobi-odd_part a d y s o p t h (omega arith) (ap (λ v. v % y) (sym f) ∙ ap (λ v. (d + v) % y) (sym b) ∙ add-mod_right d y))
-    ∙ sym (ap (λ v. signed (not (beq (v && q) p)) (jacobi (pos o) y)) e)
+-- a symbol that is that of the greater one of two odd numbers over the smaller one, y, turned as x says
+jacobi-difference : (z : ℤ) (x q m y d s o : ℕ) → z ≡ signed (is_odd (x / 2)) (jacobi (pos m) y)
+    → TurnsBy s y (is_odd q)
+    → Halved d s o → y % 2 ≡ 1 → d + y ≡ m → z ≡ signed (is_odd (x / 2 + q)) (jacobi (pos o) y)
+jacobi-difference z x q m y d s o e t h k f =
+    turned_twice z (jacobi (pos m) y) (jacobi (pos o) y) (is_odd (x / 2)) (is_odd q) e
+    (jacobi-odd_part m d y s o (is_odd q) t h (omega arith) (ap (λ v. v % y) (sym f) ∙ add-mod_right d y))
+    ∙ sym (ap (λ v. signed v (jacobi (pos o) y)) (odd-sum (x / 2) q))
+
+-- the symbol of the greater one over the smaller one
+pub jacobi-above : (l : Bool) (x q a n y d s o : ℕ) → l ≡ false → y ≡ n
+    → jacobi (pos a) n ≡ signed (is_odd (x / 2)) (if l then jacobi (pos n) a else jacobi (pos a) n)
+    → TurnsBy s y (is_odd q) → Halved d s o → n % 2 ≡ 1 → d + n ≡ a
+    → jacobi (pos a) n ≡ signed (is_odd (x / 2 + q)) (jacobi (pos o) y)
+jacobi-above l x q a n y d s o e b r t h k f =
+    jacobi-difference (jacobi (pos a) n) x q a y d s o
+    (r ∙ ap (λ v. signed (is_odd (x / 2)) (if v then jacobi (pos n) a else jacobi (pos a) n)) e
+    ∙ ap (λ v. signed (is_odd (x / 2)) (jacobi (pos a) v)) (sym b))
+    t h (ap (λ v. v % 2) b ∙ k) (ap (λ v. d + v) b ∙ f)
 
 -- the symbol of the smaller one over the greater one, by the other way round
-pub jacobi-below : (l q p : Bool) (a n y d s o : ℕ) → l ≡ true → y ≡ a → jacobi (pos a) n ≡ signed q (jacobi (pos n) a)
-    → TurnsBy s y p → Halved d s o → a % 2 ≡ 1 → d + a ≡ n
-    → jacobi (pos a) n ≡ signed (not (beq (l && q) p)) (jacobi (pos o) y)
-jacobi-below l q p a n y d s o e b r t h k f =
-    turned_twice (jacobi (pos a) n) (jacobi (pos n) y) (jacobi (pos o) y) q p
-    (r ∙ ap (λ v. signed q (jacobi (pos n) v)) (sym b))
-    (jacobi-odd_part n d y s o p t h (omega arith) (ap (λ v. v % y) (sym f) ∙ ap (λ v. (d + v) % y) (sym b) ∙ add-mod_right d y))
-    ∙ sym (ap (λ v. signed (not (beq (v && q) p)) (jacobi (pos o) y)) e)
+pub jacobi-below : (l : Bool) (x q a n y d s o : ℕ) → l ≡ true → y ≡ a
+    → jacobi (pos a) n ≡ signed (is_odd (x / 2)) (if l then jacobi (pos n) a else jacobi (pos a) n)
+    → TurnsBy s y (is_odd q) → Halved d s o → a % 2 ≡ 1 → d + a ≡ n
+    → jacobi (pos a) n ≡ signed (is_odd (x / 2 + q)) (jacobi (pos o) y)
+jacobi-below l x q a n y d s o e b r t h k f =
+    jacobi-difference (jacobi (pos a) n) x q n y d s o
+    (r ∙ ap (λ v. signed (is_odd (x / 2)) (if v then jacobi (pos n) a else jacobi (pos a) n)) e
+    ∙ ap (λ v. signed (is_odd (x / 2)) (jacobi (pos n) v)) (sym b))
+    t h (ap (λ v. v % 2) b ∙ k) (ap (λ v. d + v) b ∙ f)
+
+-- the same with the turns before: t of them, u by this difference, and k together
+pub turns_added : (x z : ℤ) (t u k : ℕ) → x ≡ signed (is_odd u) z → k % 2 ≡ (t + u) % 2
+    → signed (is_odd t) x ≡ signed (is_odd k) z
+turns_added x z t u k e f =
+    ap (λ v. signed (is_odd t) v) e
+    ∙ sym (ap (λ v. signed v z) (ap (λ v. eqb v 1) f ∙ odd-sum t u) ∙ signed-other (is_odd t) (is_odd u) z)
 
 -- ---- two equal numbers
 kept_equal : (w : ℤ) (x y : ℕ) (t : Bool) → Keeps w x y t → x ≡ y → Keeps w 0 y t
@@ -84,12 +108,24 @@ kept_equal w x y t k e =
     record {
       odd = o;
       value =
-          ap (λ z. signed t z) (jacobi-congruent 0 x y (omega arith) (zero-mod y ∙ sym (ap (λ v. v % y) e ∙ mod_self y)))
+          ap (λ z. signed t z)
+          (jacobi-congruent 0 x y (omega arith) (zero-mod y ∙ sym (ap (λ v. v % y) e ∙ mod_self y)))
           ∙ k.value;
     }
 
-pub kept_equal_one : (w : ℤ) (x y : ℕ) (t : Bool) → Keeps w x y t → x ≡ y → y ≡ 1 → signed t (pos 1) ≡ w
+kept_equal_one : (w : ℤ) (x y : ℕ) (t : Bool) → Keeps w x y t → x ≡ y → y ≡ 1 → signed t (pos 1) ≡ w
 kept_equal_one w x y t k e f = kept_one w 0 y t (kept_equal w x y t k e) refl f
+
+-- t turns, as the lowest bit of b tells
+pub kept_equal_turned : (w : ℤ) (x y t b : ℕ) → Keeps w x y (is_odd t) → x ≡ y → y ≡ 1
+    → b % 2 ≡ t % 2 → b % 2 ≡ 1 → negsuc 0 ≡ w
+kept_equal_turned w x y t b k e f g h =
+    sym (ap (λ v. signed v (pos 1)) (eq-eqb (t % 2) 1 (sym g ∙ h))) ∙ kept_equal_one w x y (is_odd t) k e f
+
+pub kept_equal_not_turned : (w : ℤ) (x y t b : ℕ) → Keeps w x y (is_odd t) → x ≡ y → y ≡ 1
+    → b % 2 ≡ t % 2 → b % 2 ≢ 1 → pos 1 ≡ w
+kept_equal_not_turned w x y t b k e f g h =
+    sym (ap (λ v. signed v (pos 1)) (ne_eqb (t % 2) 1 (λ z. h (g ∙ z)))) ∙ kept_equal_one w x y (is_odd t) k e f
 
 pub kept_equal_none : (w : ℤ) (x y : ℕ) (t : Bool) → Keeps w x y t → x ≡ y → y ≢ 1 → pos 0 ≡ w
 kept_equal_none w x y t k e f = kept_none w 0 y t (kept_equal w x y t k e) refl f

@@ -1,5 +1,6 @@
 -- What turns a symbol, and what a loop keeps of it: the symbol, up to a sign.
-use Rattle.std.proofs.Common.{◌≡◌, ◌≢◌, ℕ, zero, suc, ◌+◌, ◌*◌, ◌%◌, ◌^◌, ◌<◌, Bool, true, false, cond, eqb, ◌&&◌, ℤ, pos, ◌*ℤ◌, sym, ◌∙◌, ap, refl, arith, ⊎_elim, inl, inr, ◌⊎◌}
+use Rattle.std.proofs.Common.{◌≡◌, ◌≢◌, ℕ, zero, suc, ◌+◌, ◌*◌, ◌%◌, ◌^◌, ◌<◌, Bool, true, false, cond}
+use Rattle.std.proofs.Common.{eqb, ◌&&◌, ℤ, pos, ◌*ℤ◌, sym, ◌∙◌, ap, refl, arith, ⊎_elim, inl, inr, ◌⊎◌}
 use Rattle.std.proofs.lemmas.Bool.Decides.{nat_tests}
 use Rattle.std.proofs.lemmas.Bool.{cases_eq, eq-eqb, ne_eqb}
 use Rattle.std.proofs.Math.IntN.{neg_ℤ-neg_ℤ}
@@ -9,7 +10,9 @@ use Rattle.modular_word.specs.Divisors.{Coprime}
 use Rattle.modular_word.proofs.Divisors.{Coprime-swap}
 use Rattle.modular_symbols.specs.Jacobi.{jacobi, half_system_count, sign}
 use Rattle.modular_symbols.specs.Kronecker.{signed}
-use Rattle.modular_symbols.proofs.JacobiLaws.{jacobi-coprime, jacobi-shared, coprime_or_not, sign-even, sign-odd, parities, pairs-parity, one_times, minus_one_times, jacobi-product, jacobi-two_kept, jacobi-two_turned, jacobi-zero_one, jacobi-zero}
+use Rattle.modular_symbols.proofs.JacobiLaws.{jacobi-coprime, jacobi-shared, coprime_or_not, sign-even, sign-odd}
+use Rattle.modular_symbols.proofs.JacobiLaws.{parities, pairs-parity, one_times, minus_one_times, jacobi-product}
+use Rattle.modular_symbols.proofs.JacobiLaws.{jacobi-two_kept, jacobi-two_turned, jacobi-zero_one, jacobi-zero}
 use Rattle.modular_symbols.proofs.KroneckerSteps.{leaves_3_or_5}
 use Rattle.modular_symbols.proofs.Lattice.{counts_reciprocal}
 
@@ -73,7 +76,7 @@ one_more_two s t z =
     (parities s)
 
 -- a factor 2 ^ s turns the symbol where s is odd and n leaves 3 or 5 modulo 8
-pub jacobi-twos : (a s n : ℕ) → n % 2 ≡ 1
+jacobi-twos : (a s n : ℕ) → n % 2 ≡ 1
     → jacobi (pos (a * 2 ^ s)) n ≡ signed (eqb (s % 2) 1 && leaves_3_or_5 n) (jacobi (pos a) n)
 jacobi-twos a zero n o = ap (λ v. jacobi (pos v) n) (mul-one a)
 jacobi-twos a (suc s) n o =
@@ -82,6 +85,11 @@ jacobi-twos a (suc s) n o =
     ap (λ v. jacobi (pos v) n) e ∙ jacobi-twice (a * 2 ^ s) n o
     ∙ ap (λ z. signed (leaves_3_or_5 n) z) (jacobi-twos a s n o)
     ∙ one_more_two s (leaves_3_or_5 n) (jacobi (pos a) n)
+
+-- the same by a test of one's own
+pub jacobi-twos_by : (b : Bool) (a s n : ℕ) → n % 2 ≡ 1 → b ≡ eqb (s % 2) 1 && leaves_3_or_5 n
+    → jacobi (pos (a * 2 ^ s)) n ≡ signed b (jacobi (pos a) n)
+jacobi-twos_by b a s n o e = jacobi-twos a s n o ∙ sym (ap (λ v. signed v (jacobi (pos a) n)) e)
 
 -- ---- two odd numbers that change places
 sign-turned : (i j : ℕ) (t : Bool) → (i + j) % 2 ≡ cond t 1 0 → sign i ≡ signed t (sign j)
@@ -101,7 +109,7 @@ abbrev pub both_leave_3 : ℕ → ℕ → Bool
 both_leave_3 m n = eqb (m % 4) 3 && eqb (n % 4) 3
 
 -- the symbol is turned where both leave 3 modulo 4
-pub jacobi-swapped : (m n : ℕ) → m % 2 ≡ 1 → n % 2 ≡ 1 → jacobi (pos m) n ≡ signed (both_leave_3 m n) (jacobi (pos n) m)
+jacobi-swapped : (m n : ℕ) → m % 2 ≡ 1 → n % 2 ≡ 1 → jacobi (pos m) n ≡ signed (both_leave_3 m n) (jacobi (pos n) m)
 jacobi-swapped m n k o =
     let p : 0 < n = omega arith in
     let q : 0 < m = omega arith in
@@ -116,6 +124,11 @@ jacobi-swapped m n k o =
     ∙ sym (ap (λ z. signed (both_leave_3 m n) z) (jacobi-shared (pos n) m q (λ c. z (Coprime-swap n m c)))
     ∙ signed-zero (both_leave_3 m n)))
     (coprime_or_not m n p)
+
+-- the same by a test of one's own
+pub jacobi-swapped_by : (b : Bool) (m n : ℕ) → m % 2 ≡ 1 → n % 2 ≡ 1 → b ≡ both_leave_3 m n
+    → jacobi (pos m) n ≡ signed b (jacobi (pos n) m)
+jacobi-swapped_by b m n k o e = jacobi-swapped m n k o ∙ sym (ap (λ v. signed v (jacobi (pos n) m)) e)
 
 -- two turns, one after the other
 pub turned_twice : (x y z : ℤ) (t u : Bool) → x ≡ signed t y → y ≡ signed u z → x ≡ signed (not (beq t u)) z

@@ -1,6 +1,8 @@
 -- The power of two in a number, and the odd number that is left.
-use Rattle.std.proofs.Common.{◌≡◌, ◌≢◌, ℕ, zero, suc, ◌+◌, ◌-◌, ◌*◌, ◌/◌, ◌%◌, ◌^◌, ◌<◌, ◌≤◌, sym, ap, ◌∙◌, arith, refl, ⊎_elim, subst}
-use Rattle.std.proofs.Math.Nat.{pow-suc, div-div-eq-div-mul, pow-zero, div-one, mod-lt, mul-le-mul_left, mul-le-mul_right}
+use Rattle.std.proofs.Common.{◌≡◌, ◌≢◌, ℕ, zero, suc, ◌+◌, ◌-◌, ◌*◌, ◌/◌, ◌%◌, ◌^◌}
+use Rattle.std.proofs.Common.{◌<◌, ◌≤◌, sym, ap, ◌∙◌, arith, refl, ⊎_elim, subst}
+use Rattle.std.proofs.Math.Nat.{pow-suc, div-div-eq-div-mul, pow-zero, div-one}
+use Rattle.std.proofs.Math.Nat.{mod-lt, mul-le-mul_left, mul-le-mul_right}
 use Rattle.std.proofs.lemmas.Bool.Decides.{nat_tests}
 use Rattle.std.proofs.lemmas.Nat.{pow_pos, pow-add, trailing_le}
 use Rattle.std.specs.Int.Count.{count_trailing_zeros}
@@ -43,7 +45,8 @@ no_more : (n s k : ℕ) → s < k → SplitAt n s → n % 2 ^ k ≢ 0
 no_more n s k l split e =
     let p : 2 ^ k ≡ 2 ^ suc s * 2 ^ (k - suc s) =
     ap (λ v. 2 ^ v) (let f : k ≡ suc s + (k - suc s) = omega arith in f) ∙ pow-add 2 (suc s) (k - suc s) in
-    let d : n % 2 ^ suc s ≡ 0 = divides_through (2 ^ suc s) (2 ^ k) n (divides (2 ^ suc s) (2 ^ k) (2 ^ (k - suc s)) p) e in
+    let d : n % 2 ^ suc s ≡ 0 = divides_through (2 ^ suc s) (2 ^ k) n
+    (divides (2 ^ suc s) (2 ^ k) (2 ^ (k - suc s)) p) e in
     let q : ℕ = n / 2 ^ suc s in
     let m : n ≡ 2 ^ suc s * q = multiple_of (2 ^ suc s) n d in
     let t : 2 ^ suc s ≡ 2 ^ s * 2 = pow-suc 2 s in
@@ -65,7 +68,8 @@ twos_from n s (suc k) l split =
 -- it is the exponent of 2
 pub twos-is : (n s : ℕ) → SplitAt n s → twos n ≡ s
 twos-is n s split =
-    let one : 1 * 2 ^ s ≤ n / 2 ^ s * 2 ^ s = mul-le-mul_right (2 ^ s) (let o = split.odd in let b : 1 ≤ n / 2 ^ s = omega arith in b) in
+    let one : 1 * 2 ^ s ≤ n / 2 ^ s * 2 ^ s =
+    mul-le-mul_right (2 ^ s) (let o = split.odd in let b : 1 ≤ n / 2 ^ s = omega arith in b) in
     let below = exponent-below s in
     twos_from n s n (let w = split.whole in omega arith) split
 
@@ -76,7 +80,8 @@ split_step n t zero e l h half =
     let q : 2 ^ suc t ≡ 2 * 2 ^ t = omega (arith, pow-suc 2 t) in
     let d : n / 2 ^ suc t ≡ n / 2 / 2 ^ t = ap (λ v. n / v) q ∙ sym (div-div-eq-div-mul n 2 (2 ^ t)) in
     record {
-      whole = rw (d, q) (let w : n / 2 / 2 ^ t * (2 * 2 ^ t) ≡ 2 * (n / 2 / 2 ^ t * 2 ^ t) = omega arith in w ∙ ap (λ v. 2 * v) ih.whole ∙ omega arith);
+      whole = rw (d, q) (let w : n / 2 / 2 ^ t * (2 * 2 ^ t) ≡ 2 * (n / 2 / 2 ^ t * 2 ^ t) = omega arith in
+          w ∙ ap (λ v. 2 * v) ih.whole ∙ omega arith);
       odd = rw d ih.odd;
     }
 split_step n t (suc zero) e l h half = split_odd n e

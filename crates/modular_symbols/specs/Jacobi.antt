@@ -1,7 +1,8 @@
 -- The Jacobi symbol by a count of residues (Gauss's lemma as Schering generalised it, "Zur Theorie der quadratischen
 -- Reste", Acta Mathematica 1, 1882; for a prime n: Hardy and Wright, "An Introduction to the Theory of Numbers",
 -- theorem 92). Neither reciprocity nor the factors of n stand here.
-use Rattle.std.specs.Prelude.{ℕ, ◌-◌, ◌/◌, ◌%◌, ℤ, pos, negsuc, ◌*ℤ◌, nat_abs, ◌==◌, nat_lt, if◌then◌else◌, Option, Some, None}
+use Rattle.std.specs.Prelude.{ℕ, ◌-◌, ◌/◌, ◌%◌, ℤ, pos, negsuc, ◌*ℤ◌, nat_abs}
+use Rattle.std.specs.Prelude.{◌==◌, nat_lt, if◌then◌else◌, Option, Some, None}
 use Rattle.modular_word.specs.Divisors.{gcd}
 use Rattle.modular_word.specs.Residues.{residue}
 use Rattle.modular_word.specs.Sums.{count_to}

@@ -1,6 +1,7 @@
 -- The Kronecker symbol: the Jacobi symbol over any whole number (Cohen, "A Course in Computational Algebraic Number
 -- Theory", definition 1.4.8).
-use Rattle.std.specs.Prelude.{ℕ, zero, suc, ◌/◌, ◌%◌, ◌^◌, ℤ, pos, negsuc, ◌*ℤ◌, neg_ℤ, nat_abs, int_lt, Bool, ◌==◌, ◌&&◌, ◌||◌, if◌then◌else◌}
+use Rattle.std.specs.Prelude.{ℕ, zero, suc, ◌/◌, ◌%◌, ◌^◌, ℤ, pos, negsuc, ◌*ℤ◌, neg_ℤ}
+use Rattle.std.specs.Prelude.{nat_abs, int_lt, Bool, ◌==◌, ◌&&◌, ◌||◌, if◌then◌else◌}
 use Rattle.std.specs.Int.{int_pow}
 use Rattle.modular_word.specs.Residues.{residue}
 use Rattle.modular_symbols.specs.Jacobi.{jacobi}

@@ -1,5 +1,6 @@
--- How many steps find a Jacobi symbol by halving and swapping (Cohen, "A Course in Computational Algebraic Number Theory",
--- algorithm 1.4.10: a step takes out one factor 2 there, or interchanges the two numbers and reduces one by the other).
+-- How many steps find a Jacobi symbol by halving and swapping (Cohen,
+-- "A Course in Computational Algebraic Number Theory", algorithm 1.4.10: a step takes
+-- out one factor 2 there, or interchanges the two numbers and reduces one by the other).
 use Rattle.std.specs.Prelude.{ℕ, zero, suc, ◌+◌, ◌/◌, ◌%◌, ◌==◌, if◌then◌else◌}
 
 -- the steps from a over n, if there are at most `bound`

@@ -17,7 +17,8 @@ use modular_word::ring_word::RingWord;
 fn is_turned<T: PlainWord>(a: T, twos: u32, n: T) -> bool
     requires a_odd { T.number a % 2 ≡ 1 }
     requires n_odd { T.number n % 2 ≡ 1 }
-    ensures { jacobi (pos (T.number a * 2 ^ twos)) (T.number n) ≡ signed result (jacobi (pos (T.number n)) (T.number a)) }
+    ensures { jacobi (pos (T.number a * 2 ^ twos)) (T.number n)
+        ≡ signed result (jacobi (pos (T.number n)) (T.number a)) }
 {
     is_turned_by_twos(twos, n) ^ is_turned_by_swap(a, n)
 }

@@ -6,6 +6,7 @@ pub mod count;
 pub mod counted;
 pub mod halving;
 pub mod laws;
+pub mod low_part;
 pub mod magnitudes;
 pub mod operands;
 pub mod operations;

@@ -42,7 +42,8 @@ pub fn checked_jacobi<T: PlainWord>(a_minus: bool, a: T, n_minus: bool, n: T) ->
 /// Over an odd prime it is the Jacobi symbol. Condition: a negative n has a magnitude of at least 1.
 pub fn checked_legendre<T: PlainWord>(a_minus: bool, a: T, n_minus: bool, n: T) -> Option<i8>
     requires { IsTrue n_minus → 0 < T.number n }
-    ensures class { result ≡ checked_legendre_of (signed a_minus (pos (T.number a))) (signed n_minus (pos (T.number n))) }
+    ensures class { result ≡ checked_legendre_of (signed a_minus (pos (T.number a)))
+        (signed n_minus (pos (T.number n))) }
     ensures prime { IsOddPrime (signed n_minus (pos (T.number n)))
         → result ≡ Some (jacobi (signed a_minus (pos (T.number a))) (nat_abs (signed n_minus (pos (T.number n))))) }
 {

@@ -4,6 +4,7 @@ ghost use Rattle.std.specs.Prelude.{◌≡◌, pos, ◌<◌, ◌↔◌, IsTrue};
 ghost use Rattle.std.proofs.Common.{refl, rules};
 ghost use Rattle.modular_symbols.specs.Kronecker.{signed};
 
+use crate::low_part::LowPart;
 pub use modular_prim::numbered::IntegerValued;
 use modular_prim::numbered::Numbered;
 use modular_prim::plain_word::PlainWord;
@@ -29,7 +30,7 @@ impl<T: UnsignedOperand> UnsignedOperand for &T {
 /// A machine word with or without sign.
 pub trait SymbolWord: IntegerValued + Copy {
     /// The word without sign that holds the magnitude, the least number's too.
-    type Magnitude: PlainWord;
+    type Magnitude: LowPart;
 
     /// Whether the number is negative, and its magnitude.
     fn sign_and_magnitude(self) -> (bool, Self::Magnitude)

@@ -1,10 +1,11 @@
 //! What turns a Jacobi symbol: a power of 2 taken out of the upper number, and two odd numbers that
 //! change places.
 
-ghost use Rattle.std.specs.Prelude.{◌≡◌, ℕ, ◌*◌, ◌%◌, ◌^◌, ◌==◌, ◌||◌, pos};
+ghost use Rattle.std.specs.Prelude.{◌≡◌, ℕ, ◌*◌, ◌/◌, ◌%◌, ◌^◌, ◌==◌, ◌||◌, pos, if◌then◌else◌};
 ghost use Rattle.modular_symbols.specs.Jacobi.{jacobi};
 ghost use Rattle.modular_symbols.specs.Kronecker.{signed};
 
+use crate::low_part::LowPart;
 use modular_prim::plain_word::PlainWord;
 use modular_word::path_word::PathWord;
 use modular_word::ring_word::RingWord;
@@ -41,4 +42,26 @@ pub(crate) fn is_turned_by_swap<T: PlainWord>(a: T, n: T) -> bool
     ensures { jacobi (pos (T.number a)) (T.number n) ≡ signed result (jacobi (pos (T.number n)) (T.number a)) }
 {
     leaves_3(a) & leaves_3(n)
+}
+
+// The turn by 2 to the power `twos`, taken out of the upper number over an odd n,
+// in the lowest bit of a word; its other bits mean nothing.
+pub(crate) fn turn_by_twos<T: LowPart>(twos: u32, n: T) -> u32
+    requires { T.number n % 2 ≡ 1 }
+    ensures { (a : ℕ)
+        → jacobi (pos (a * 2 ^ twos)) (T.number n) ≡ signed (result % 2 == 1) (jacobi (pos a) (T.number n)) }
+{
+    twos & (n.low_part().wrapping_add(2) >> 2)
+}
+
+// The turn of two odd numbers that change places where `swap` says so, in the second bit of a word; its other bits mean
+// nothing.
+pub(crate) fn turn_by_swap<T: LowPart>(swap: bool, a: T, n: T) -> u32
+    requires a_odd { T.number a % 2 ≡ 1 }
+    requires n_odd { T.number n % 2 ≡ 1 }
+    ensures { jacobi (pos (T.number a)) (T.number n)
+        ≡ signed (result / 2 % 2 == 1)
+        (if swap then jacobi (pos (T.number n)) (T.number a) else jacobi (pos (T.number a)) (T.number n)) }
+{
+    if swap { a.low_part() & n.low_part() } else { 0 }
 }

@@ -31,7 +31,8 @@ bits_reversed_below (suc t) p =
     omega (arith, e, h, b, k)
 
 -- the highest bit becomes the lowest
-pub bits_reversed_of_high : (t p b : ℕ) → p < 2 ^ t → b < 2 → bits_reversed (suc t) (p + b * 2 ^ t) ≡ 2 * bits_reversed t p + b
+pub bits_reversed_of_high : (t p b : ℕ) → p < 2 ^ t → b < 2
+    → bits_reversed (suc t) (p + b * 2 ^ t) ≡ 2 * bits_reversed t p + b
 bits_reversed_of_high zero p b below bit =
     let k : 2 ^ 0 ≡ 1 = refl in
     let e = bits_reversed-suc 0 (p + b * 2 ^ 0) in
@@ -56,7 +57,8 @@ bits_reversed_of_high (suc t) p b below bit =
 
 -- reversing twice changes nothing
 pub bits_reversed_twice : (t p : ℕ) → p < 2 ^ t → bits_reversed t (bits_reversed t p) ≡ p
-bits_reversed_twice zero p below = let k : 2 ^ 0 ≡ 1 = refl in let e = bits_reversed-zero (bits_reversed 0 p) in omega (arith, e)
+bits_reversed_twice zero p below = let k : 2 ^ 0 ≡ 1 = refl in
+    let e = bits_reversed-zero (bits_reversed 0 p) in omega (arith, e)
 bits_reversed_twice (suc t) p below =
     let k = two-pow-succ t in
     let e = ap (λ v. bits_reversed (suc t) v) (bits_reversed-suc t p) in
@@ -67,14 +69,17 @@ bits_reversed_twice (suc t) p below =
 -- the bits of 0
 pub bits_reversed_of_zero : (t : ℕ) → bits_reversed t 0 ≡ 0
 bits_reversed_of_zero zero = bits_reversed-zero 0
-bits_reversed_of_zero (suc t) = let e = bits_reversed-suc t 0 in let h = bits_reversed_of_zero t in let z : 0 / 2 ≡ 0 = refl in let a = ap (bits_reversed t) z in omega (arith, e, h, a)
+bits_reversed_of_zero (suc t) = let e = bits_reversed-suc t 0 in
+    let h = bits_reversed_of_zero t in let z : 0 / 2 ≡ 0 = refl in
+    let a = ap (bits_reversed t) z in omega (arith, e, h, a)
 
 -- how the reversed bits of p come from those of p - 1, where p ends in t zeros
 pub record NextReversed (b p t : ℕ) : Type 0 where
   pub few : t < b
   pub next : bits_reversed b p + 2 ^ b ≡ bits_reversed b (p - 1) + 3 * 2 ^ (b - 1 - t)
 
-next_step : (c p t r : ℕ) → p % 2 ≡ r → r < 2 → 0 < p → (0 < p / 2 → NextReversed c (p / 2) t) → NextReversed (suc c) p (under r t)
+next_step : (c p t r : ℕ) → p % 2 ≡ r → r < 2 → 0 < p → (0 < p / 2 → NextReversed c (p / 2) t)
+    → NextReversed (suc c) p (under r t)
 next_step c p t zero even l some half =
     let ih = half (omega arith) in
     let few = ih.few in

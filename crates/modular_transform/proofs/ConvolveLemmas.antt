@@ -1,5 +1,6 @@
 -- A convolution by three transforms: each entry at the end, and the inverse of the length.
-use Rattle.std.proofs.Common.{◌≡◌, ℕ, suc, zero, ◌+◌, ◌*◌, ◌%◌, ◌/◌, ◌^◌, ◌<◌, All, List, length, get_or, sym, ◌∙◌, ap, refl, arith, subst, inl, inr}
+use Rattle.std.proofs.Common.{◌≡◌, ℕ, suc, zero, ◌+◌, ◌*◌, ◌%◌, ◌/◌, ◌^◌, ◌<◌, All, List}
+use Rattle.std.proofs.Common.{length, get_or, sym, ◌∙◌, ap, refl, arith, subst, inl, inr}
 use Rattle.std.proofs.lemmas.Nat.{mod_below}
 use Rattle.std.proofs.lemmas.Bool.{cases_eq}
 use Rattle.std.proofs.Math.Nat.{two-pow-succ, zero-mod, mod-eq_of_lt}
@@ -21,7 +22,13 @@ half_turn_at : {m g n : ℕ} (z : ℕ) → n ≡ 2 ^ z → Suits m g n → HalfT
 half_turn_at zero whole suits = let k : 2 ^ 0 ≡ 1 = refl in record { known = λ l. absurd (omega (arith, k)) }
 half_turn_at {m} {g} {n} (suc y) whole suits =
     let h : n / 2 ≡ 2 ^ y = let d = two-pow-succ y in omega (arith, d) in
-    record { known = λ l. (y, whole, record { and_one = record { same = ap (λ k. (g ^ k + 1) % m) (sym h) ∙ suits.half_turn l ∙ sym (zero-mod m) } }) }
+    record {
+      known = λ l. (
+        y,
+        whole,
+        record { and_one = record { same = ap (λ k. (g ^ k + 1) % m) (sym h) ∙ suits.half_turn l ∙ sym (zero-mod m) } },
+      );
+    }
 
 pub half_turn : {m g n : ℕ} → Suits m g n → HalfTurn m g n
 half_turn suits = half_turn_at suits.power_of_two.0 suits.power_of_two.1 suits
@@ -37,7 +44,8 @@ mirrored_place n e l = elim (cases_eq e 0) [
       record { place = l; image = omega (arith, k); sum = inr (omega (arith, k)) }
 ]
 
--- entry e of the cyclic product, from the transform of the product of the transforms, mirrored and multiplied by the inverse of n
+-- entry e of the cyclic product, from the transform of the product
+-- of the transforms, mirrored and multiplied by the inverse of n
 pub convolved_entry : {m : ℕ} (g n e part : ℕ) (x y c : ℕ → ℕ) → 0 < m → Suits m g n → e < n → IsInverse m n part
     → ((j : ℕ) → j < n → c j ≡ (transform m g n x j * transform m g n y j) % m)
     → (transform m g n c (mirrored n e) * part) % m ≡ cyclic_product m n x y e
@@ -51,7 +59,8 @@ convolved_entry {m} g n e part x y c positive suits l inverse is =
     let one : Congruent m (n * part) 1 = record { same = inverse.one } in
     let q : n * p * part ≡ n * part * p = omega arith in
     let o : 1 * p ≡ p = omega arith in
-    let r = chained (multiplied whole (itself part)) (chained (of_equal q) (chained (multiplied one (itself p)) (of_equal o))) in
+    let r = chained (multiplied whole (itself part))
+    (chained (of_equal q) (chained (multiplied one (itself p)) (of_equal o))) in
     let small : p < m = mod_below _ m positive in
     r.same ∙ mod-eq_of_lt small
 
@@ -64,25 +73,33 @@ doubled_more v w t is e =
 
 -- congruent numbers have the same inverses
 pub inverse_along : {m a b x : ℕ} → Congruent m a b → IsInverse m a x → IsInverse m b x
-inverse_along {m} {a} {b} {x} same h = record { below = h.below; one = (multiplied (turned same) (itself x)).same ∙ h.one }
+inverse_along {m} {a} {b} {x} same h =
+    record { below = h.below; one = (multiplied (turned same) (itself x)).same ∙ h.one }
 
 -- the value at a place of a reordered list
 reordered_value : {T : Type 0} (number : T → ℕ) (value : ℕ → ℕ → ℕ) (m i : ℕ) (d : T) (s : ℕ → ℕ) (old new : List T)
-    → IsReordered s old new → i < length old → i < length new → s i < length old → values number value m new i ≡ values number value m old (s i)
+    → IsReordered s old new → i < length old → i < length new → s i < length old
+    → values number value m new i ≡ values number value m old (s i)
 reordered_value number value m i d s old new reordered l l_new l_s =
-    sym (value_at number value m new i d l_new) ∙ ap (λ f. value m (number f)) (reordered.each i d l) ∙ value_at number value m old (s i) d l_s
+    sym (value_at number value m new i d l_new) ∙ ap (λ f. value m (number f)) (reordered.each i d l)
+    ∙ value_at number value m old (s i) d l_s
 
 -- the forms of the mirrored list are those of the list
-pub mirrored_forms : {T : Type 0} (number : T → ℕ) (form value : ℕ → ℕ → ℕ) (m : ℕ) (old new : List T) → IsReordered (mirrored (length old)) old new
-    → length new ≡ length old → All (λ f. IsForm form value m (number f)) old → All (λ f. IsForm form value m (number f)) new
+pub mirrored_forms : {T : Type 0} (number : T → ℕ) (form value : ℕ → ℕ → ℕ) (m : ℕ) (old new : List T)
+    → IsReordered (mirrored (length old)) old new
+    → length new ≡ length old → All (λ f. IsForm form value m (number f)) old
+    → All (λ f. IsForm form value m (number f)) new
 mirrored_forms number form value m old new reordered same all i d l =
     let l_old : i < length old = omega arith in
-    subst (λ f. IsForm form value m (number f)) (sym (reordered.each i d l_old)) (all (mirrored (length old) i) d (mirrored_place (length old) i l_old).image)
+    subst (λ f. IsForm form value m (number f)) (sym (reordered.each i d l_old))
+    (all (mirrored (length old) i) d (mirrored_place (length old) i l_old).image)
 
 -- the lists on the way from xs and ys to their cyclic product
-pub convolution_end : {T : Type 0} (number : T → ℕ) (form value : ℕ → ℕ → ℕ) (width m g n part : ℕ) (xs ys xs1 ys1 xs2 xs3 xs4 xs5 : List T)
+pub convolution_end : {T : Type 0} (number : T → ℕ) (form value : ℕ → ℕ → ℕ) (width m g n part : ℕ)
+    (xs ys xs1 ys1 xs2 xs3 xs4 xs5 : List T)
     → IsCanonical form value width m → Suits m g n → IsInverse m n part
-    → length xs ≡ n → length ys ≡ n → length xs1 ≡ n → length ys1 ≡ n → length xs2 ≡ n → length xs3 ≡ n → length xs4 ≡ n → length xs5 ≡ n
+    → length xs ≡ n → length ys ≡ n → length xs1 ≡ n → length ys1 ≡ n → length xs2 ≡ n → length xs3 ≡ n
+    → length xs4 ≡ n → length xs5 ≡ n
     → HoldValues number form m xs1 (transform m g (length xs) (values number value m xs))
     → HoldValues number form m ys1 (transform m g (length ys) (values number value m ys))
     → HoldValues number form m xs2 (λ i. (values number value m xs1 i * values number value m ys1 i) % m)
@@ -90,28 +107,38 @@ pub convolution_end : {T : Type 0} (number : T → ℕ) (form value : ℕ → �
     → IsReordered (mirrored (length xs3)) xs3 xs4
     → HoldValues number form m xs5 (λ i. (values number value m xs4 i * part) % m)
     → HoldValues number form m xs5 (cyclic_product m n (values number value m xs) (values number value m ys))
-convolution_end number form value width m g n part xs ys xs1 ys1 xs2 xs3 xs4 xs5 canonical suits inverse l l_ys l1 l_ys1 l2 l3 l4 l5 is1 is_ys1 is2 is3 is4 is5 = record {
-  each = λ i d in_range.
-      let x = values number value m xs in
-      let y = values number value m ys in
-      let c = values number value m xs2 in
-      let li : i < n = omega arith in
-      let k = mirrored n i in
-      let lk : k < n = (mirrored_place n i li).image in
-      let product : (j : ℕ) → j < n → c j ≡ (transform m g n x j * transform m g n y j) % m = λ j h.
-      let x1 = held_value number form value width m xs1 (transform m g (length xs) x) j canonical is1 (omega arith) ∙ ap (λ v. transform m g v x j) l in
-      let y1 = held_value number form value width m ys1 (transform m g (length ys) y) j canonical is_ys1 (omega arith) ∙ ap (λ v. transform m g v y j) l_ys in
-      held_value number form value width m xs2 (λ i. (values number value m xs1 i * values number value m ys1 i) % m) j canonical is2 (omega arith)
-      ∙ ap (λ v. (v * values number value m ys1 j) % m) x1 ∙ ap (λ v. (transform m g n x j * v) % m) y1 in
-      let e : mirrored (length xs3) i ≡ k = ap (λ v. mirrored v i) l3 in
-      let v4 : values number value m xs4 i ≡ transform m g n c k =
-      reordered_value number value m i d (mirrored (length xs3)) xs3 xs4 is4 (omega arith) (omega arith) (omega arith)
-      ∙ ap (values number value m xs3) e
-      ∙ held_value number form value width m xs3 (transform m g (length xs2) c) k canonical is3 (omega arith) ∙ ap (λ v. transform m g v c k) l2 in
-      let whole = ap (λ v. (v * part) % m) v4 ∙ convolved_entry g n i part x y c canonical.positive suits li inverse product in
-      subst (λ v. Represents form m (number (get_or xs5 i d)) v) whole (is5.each i d in_range);
-}
+convolution_end number form value width m g n part xs ys xs1 ys1 xs2 xs3 xs4 xs5 canonical suits inverse l l_ys l1 l_ys1
+    l2 l3 l4 l5 is1 is_ys1 is2 is3 is4 is5 = record {
+      each = λ i d in_range.
+          let x = values number value m xs in
+          let y = values number value m ys in
+          let c = values number value m xs2 in
+          let li : i < n = omega arith in
+          let k = mirrored n i in
+          let lk : k < n = (mirrored_place n i li).image in
+          let product : (j : ℕ) → j < n → c j ≡ (transform m g n x j * transform m g n y j) % m = λ j h.
+          let x1 = held_value number form value width m xs1 (transform m g (length xs) x) j canonical is1 (omega arith)
+          ∙ ap (λ v. transform m g v x j) l in
+          let y1 = held_value number form value width m ys1
+          (transform m g (length ys) y) j canonical is_ys1 (omega arith)
+          ∙ ap (λ v. transform m g v y j) l_ys in
+          held_value number form value width m xs2
+          (λ i. (values number value m xs1 i * values number value m ys1 i) % m) j canonical is2 (omega arith)
+          ∙ ap (λ v. (v * values number value m ys1 j) % m) x1 ∙ ap (λ v. (transform m g n x j * v) % m) y1 in
+          let e : mirrored (length xs3) i ≡ k = ap (λ v. mirrored v i) l3 in
+          let v4 : values number value m xs4 i ≡ transform m g n c k =
+          reordered_value number value m i d (mirrored (length xs3)) xs3 xs4 is4
+          (omega arith) (omega arith) (omega arith)
+          ∙ ap (values number value m xs3) e
+          ∙ held_value number form value width m xs3 (transform m g (length xs2) c) k canonical is3 (omega arith)
+          ∙ ap (λ v. transform m g v c k) l2 in
+          let whole =
+          ap (λ v. (v * part) % m) v4 ∙ convolved_entry g n i part x y c canonical.positive suits li inverse product in
+          subst (λ v. Represents form m (number (get_or xs5 i d)) v) whole (is5.each i d in_range);
+    }
 
 -- the doublings of 1 come to the length
-pub doubled_all : {m n : ℕ} (v t : ℕ) → Congruent m v (2 ^ t) → t ≡ trailing_zeros w64 n → IsPowerOfTwo n → n < 2 ^ 64 → Congruent m v n
-doubled_all {m} {n} v t is e power below = chained is (of_equal (ap (λ k. 2 ^ k) e ∙ sym (power_by_zeros n power below)))
+pub doubled_all : {m n : ℕ} (v t : ℕ) → Congruent m v (2 ^ t) → t ≡ trailing_zeros w64 n → IsPowerOfTwo n
+    → n < 2 ^ 64 → Congruent m v n
+doubled_all {m} {n} v t is e power below =
+    chained is (of_equal (ap (λ k. 2 ^ k) e ∙ sym (power_by_zeros n power below)))

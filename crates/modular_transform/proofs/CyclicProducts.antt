@@ -1,5 +1,6 @@
 -- The transform of a product of transforms: the cyclic product, n times over and mirrored.
-use Rattle.std.proofs.Common.{◌≡◌, ℕ, suc, ◌+◌, ◌-◌, ◌*◌, ◌^◌, ◌<◌, ◌≢◌, sym, ◌∙◌, ap, arith, inl, inr, ◌⊎◌, eqb, cond, ◌||◌}
+use Rattle.std.proofs.Common.{◌≡◌, ℕ, suc, ◌+◌, ◌-◌, ◌*◌, ◌^◌, ◌<◌, ◌≢◌, sym}
+use Rattle.std.proofs.Common.{◌∙◌, ap, arith, inl, inr, ◌⊎◌, eqb, cond, ◌||◌}
 use Rattle.std.proofs.lemmas.Nat.{pow-add}
 use Rattle.std.proofs.lemmas.Bool.{cases_lt}
 use Rattle.std.proofs.lemmas.Bool.Decides.{eqb_tells}
@@ -9,7 +10,8 @@ use Rattle.modular_word.specs.Congruence.{Congruent}
 use Rattle.modular_word.proofs.Congruence.{of_equal, itself, chained, multiplied, powered}
 use Rattle.modular_word.proofs.Powers.{pow-mul, one-pow}
 use Rattle.modular_transform.proofs.MinusOne.{IsMinusOne, even_power_of_minus_one}
-use Rattle.modular_word.proofs.Sums.{sum_below-same, sum_below-congruent, sum_below-mul, sum_below-of_constant, sum_below-exchanged, sum_below-times_sum}
+use Rattle.modular_word.proofs.Sums.{sum_below-same, sum_below-congruent, sum_below-mul}
+use Rattle.modular_word.proofs.Sums.{sum_below-of_constant, sum_below-exchanged, sum_below-times_sum}
 use Rattle.modular_transform.proofs.Geometry.{geometric, powers_vanish}
 
 -- beyond one value, n is even, and g to its half is -1
@@ -27,25 +29,30 @@ full_turn g n turn l =
 pub geometric_of_one : {m : ℕ} (n h : ℕ) → Congruent m h 1 → Congruent m (geometric n h) n
 geometric_of_one n h is =
     let o : n * 1 ≡ n = omega arith in
-    chained (sum_below-congruent n (λ j. h ^ j) (λ j. 1) (λ j l. chained (powered j is) (of_equal (one-pow j)))) (of_equal (sum_below-of_constant n 1 ∙ o))
+    chained (sum_below-congruent n (λ j. h ^ j) (λ j. 1) (λ j l. chained (powered j is) (of_equal (one-pow j))))
+    (of_equal (sum_below-of_constant n 1 ∙ o))
 
 -- g to some full turns
 turns : {m : ℕ} (g n q : ℕ) → HalfTurn m g n → 1 < n → Congruent m (g ^ (n * q)) 1
-turns g n q turn l = chained (of_equal (pow-mul g n q)) (chained (powered q (full_turn g n turn l)) (of_equal (one-pow q)))
+turns g n q turn l =
+    chained (of_equal (pow-mul g n q)) (chained (powered q (full_turn g n turn l)) (of_equal (one-pow q)))
 
 -- full turns add up to n ..
 at_full_turns : {m : ℕ} (g n q d : ℕ) → HalfTurn m g n → 1 < n → d ≡ n * q → Congruent m (geometric n (g ^ d)) n
-at_full_turns g n q d turn l e = geometric_of_one n (g ^ d) (chained (of_equal (ap (λ v. g ^ v) e)) (turns g n q turn l))
+at_full_turns g n q d turn l e =
+    geometric_of_one n (g ^ d) (chained (of_equal (ap (λ v. g ^ v) e)) (turns g n q turn l))
 
 at_no_turn : {m : ℕ} (g n : ℕ) → Congruent m (geometric n (g ^ 0)) n
 at_no_turn g n = geometric_of_one n (g ^ 0) (of_equal (pow-zero g))
 
 -- .. and others to 0
-pub at_other_turns : {m : ℕ} (g n q r d : ℕ) → HalfTurn m g n → 1 < n → 0 < r → r < n → d ≡ n * q + r → Congruent m (geometric n (g ^ d)) 0
+pub at_other_turns : {m : ℕ} (g n q r d : ℕ) → HalfTurn m g n → 1 < n → 0 < r → r < n → d ≡ n * q + r
+    → Congruent m (geometric n (g ^ d)) 0
 at_other_turns {m} g n q r d turn l some below e =
     let k = turn.known l in
     let o : 1 * g ^ r ≡ g ^ r = omega arith in
-    let same : Congruent m (g ^ d) (g ^ r) = chained (of_equal (ap (λ v. g ^ v) e ∙ pow-add g (n * q) r)) (chained (multiplied (turns g n q turn l) (itself (g ^ r))) (of_equal o)) in
+    let same : Congruent m (g ^ d) (g ^ r) = chained (of_equal (ap (λ v. g ^ v) e ∙ pow-add g (n * q) r))
+    (chained (multiplied (turns g n q turn l) (itself (g ^ r))) (of_equal o)) in
     let within : r < 2 ^ suc k.0 = let s = k.1 in omega arith in
     chained (sum_below-congruent n (λ j. (g ^ d) ^ j) (λ j. (g ^ r) ^ j) (λ j h. powered j same))
     (chained (of_equal (ap (λ v. geometric v (g ^ r)) k.1)) (powers_vanish k.0 g r k.2 some within))
@@ -57,13 +64,15 @@ pub record Mirrored (n e k : ℕ) : Type 0 where
   pub sum : (e + k ≡ 0) ⊎ (e + k ≡ n)
 
 -- the sum of the powers of g ^ (a + b + k), where a + b is e or e + n ..
-summed_at : {m : ℕ} (g n e k a b : ℕ) → HalfTurn m g n → Mirrored n e k → a < n → b < n → (a + b ≡ e) ⊎ (a + b ≡ e + n) → Congruent m (geometric n (g ^ (a + b + k))) n
+summed_at : {m : ℕ} (g n e k a b : ℕ) → HalfTurn m g n → Mirrored n e k → a < n → b < n → (a + b ≡ e) ⊎ (a + b ≡ e + n)
+    → Congruent m (geometric n (g ^ (a + b + k))) n
 summed_at {m} g n e k a b turn mirror la lb at =
     let le = mirror.place in
     let lk = mirror.image in
     elim at [
       | inl is ↦ elim mirror.sum [
-        | inl none ↦ let d : a + b + k ≡ 0 = omega arith in chained (of_equal (ap (λ v. geometric n (g ^ v)) d)) (at_no_turn g n)
+        | inl none ↦ let d : a + b + k ≡ 0 = omega arith in
+            chained (of_equal (ap (λ v. geometric n (g ^ v)) d)) (at_no_turn g n)
         | inr whole ↦ elim (cases_lt 1 n) [
           | inl l ↦ at_full_turns g n 1 (a + b + k) turn l (omega arith)
           | inr s ↦ absurd (omega arith)
@@ -81,7 +90,8 @@ summed_at {m} g n e k a b turn mirror la lb at =
       ]
     ]
 
-between : {m : ℕ} (g n d : ℕ) → HalfTurn m g n → 1 < n → d < n + n + n → d ≢ 0 → d ≢ n → d ≢ n + n → Congruent m (geometric n (g ^ d)) 0
+between : {m : ℕ} (g n d : ℕ) → HalfTurn m g n → 1 < n → d < n + n + n → d ≢ 0 → d ≢ n → d ≢ n + n
+    → Congruent m (geometric n (g ^ d)) 0
 between g n d turn l below no_0 no_1 no_2 =
     elim (cases_lt d n) [
       | inl h ↦ at_other_turns g n 0 d d turn l (omega arith) h (omega arith)
@@ -92,7 +102,8 @@ between g n d turn l below no_0 no_1 no_2 =
     ]
 
 -- .. and where it is neither
-vanished_at : {m : ℕ} (g n e k a b : ℕ) → HalfTurn m g n → Mirrored n e k → a < n → b < n → a + b ≢ e → a + b ≢ e + n → Congruent m (geometric n (g ^ (a + b + k))) 0
+vanished_at : {m : ℕ} (g n e k a b : ℕ) → HalfTurn m g n → Mirrored n e k → a < n → b < n → a + b ≢ e → a + b ≢ e + n
+    → Congruent m (geometric n (g ^ (a + b + k))) 0
 vanished_at {m} g n e k a b turn mirror la lb not_e not_en =
     let le = mirror.place in
     let lk = mirror.image in
@@ -111,10 +122,13 @@ tested {m} g n e k a b c turn mirror la lb =
     let yes : c * n ≡ n * c = omega arith in
     let no : c * 0 ≡ n * 0 = omega arith in
     elim (eqb_tells (a + b) e) [
-      | inl p ↦ rw p.0 (chained (multiplied (itself c) (summed_at g n e k a b turn mirror la lb (inl p.1))) (of_equal yes))
+      | inl p ↦
+          rw p.0 (chained (multiplied (itself c) (summed_at g n e k a b turn mirror la lb (inl p.1))) (of_equal yes))
       | inr p ↦ elim (eqb_tells (a + b) (e + n)) [
-        | inl q ↦ rw (p.0, q.0) (chained (multiplied (itself c) (summed_at g n e k a b turn mirror la lb (inr q.1))) (of_equal yes))
-        | inr q ↦ rw (p.0, q.0) (chained (multiplied (itself c) (vanished_at g n e k a b turn mirror la lb p.1 q.1)) (of_equal no))
+        | inl q ↦ rw (p.0, q.0)
+            (chained (multiplied (itself c) (summed_at g n e k a b turn mirror la lb (inr q.1))) (of_equal yes))
+        | inr q ↦ rw (p.0, q.0)
+            (chained (multiplied (itself c) (vanished_at g n e k a b turn mirror la lb p.1 q.1)) (of_equal no))
       ]
     ]
 
@@ -122,14 +136,17 @@ tested {m} g n e k a b c turn mirror la lb =
 summand : (g k a b j x y : ℕ) → (x * g ^ (a * j)) * (y * g ^ (b * j)) * g ^ (j * k) ≡ x * y * (g ^ (a + b + k)) ^ j
 summand g k a b j x y =
     let e : (a + b + k) * j ≡ a * j + b * j + j * k = omega arith in
-    let p = sym (pow-mul g (a + b + k) j) ∙ ap (λ n. g ^ n) e ∙ pow-add g (a * j + b * j) (j * k) ∙ ap (λ v. v * g ^ (j * k)) (pow-add g (a * j) (b * j)) in
+    let p = sym (pow-mul g (a + b + k) j) ∙ ap (λ n. g ^ n) e ∙ pow-add g (a * j + b * j) (j * k)
+    ∙ ap (λ v. v * g ^ (j * k)) (pow-add g (a * j) (b * j)) in
     let q = ap (λ v. x * y * v) p in
     omega (arith, q)
 
 -- a factor of every summand of a double sum
-pub scaled : (n k c : ℕ) (f : ℕ → ℕ → ℕ) → sum_below n (λ a. sum_below k (λ b. c * f a b)) ≡ c * sum_below n (λ a. sum_below k (λ b. f a b))
+pub scaled : (n k c : ℕ) (f : ℕ → ℕ → ℕ)
+    → sum_below n (λ a. sum_below k (λ b. c * f a b)) ≡ c * sum_below n (λ a. sum_below k (λ b. f a b))
 scaled n k c f =
-    sum_below-same n (λ a. sum_below k (λ b. c * f a b)) (λ a. c * sum_below k (λ b. f a b)) (λ a l. sum_below-mul k c (f a)) ∙ sum_below-mul n c (λ a. sum_below k (λ b. f a b))
+    sum_below-same n (λ a. sum_below k (λ b. c * f a b)) (λ a. c * sum_below k (λ b. f a b))
+    (λ a l. sum_below-mul k c (f a)) ∙ sum_below-mul n c (λ a. sum_below k (λ b. f a b))
 
 -- entry j of a product of transforms, in the sum of its own transform
 expanded : (g n k j : ℕ) (x y : ℕ → ℕ)
@@ -140,7 +157,8 @@ expanded g n k j x y =
     let f = λ (a b : ℕ). (x a * g ^ (a * j)) * (y b * g ^ (b * j)) in
     let t = sum_below-times_sum n n (λ a. x a * g ^ (a * j)) (λ b. y b * g ^ (b * j)) in
     let p = ap (λ v. v * s) t in
-    let q : sum_below n (λ a. sum_below n (λ b. f a b)) * s ≡ s * sum_below n (λ a. sum_below n (λ b. f a b)) = omega arith in
+    let q : sum_below n (λ a. sum_below n (λ b. f a b)) * s ≡ s * sum_below n (λ a. sum_below n (λ b. f a b)) =
+    omega arith in
     p ∙ q ∙ sym (scaled n n s f)
     ∙ sum_below-same n (λ a. sum_below n (λ b. s * f a b)) (λ a. sum_below n (λ b. x a * y b * (g ^ (a + b + k)) ^ j))
     (λ a la. sum_below-same n (λ b. s * f a b) (λ b. x a * y b * (g ^ (a + b + k)) ^ j)
@@ -148,22 +166,30 @@ expanded g n k j x y =
 
 -- the sum over j moves inside
 pub moved : (n : ℕ) (f : ℕ → ℕ → ℕ → ℕ)
-    → sum_below n (λ j. sum_below n (λ a. sum_below n (λ b. f a b j))) ≡ sum_below n (λ a. sum_below n (λ b. sum_below n (λ j. f a b j)))
+    → sum_below n (λ j. sum_below n (λ a. sum_below n (λ b. f a b j)))
+    ≡ sum_below n (λ a. sum_below n (λ b. sum_below n (λ j. f a b j)))
 moved n f =
     sum_below-exchanged n n (λ j a. sum_below n (λ b. f a b j))
-    ∙ sum_below-same n (λ a. sum_below n (λ j. sum_below n (λ b. f a b j))) (λ a. sum_below n (λ b. sum_below n (λ j. f a b j)))
+    ∙ sum_below-same n (λ a. sum_below n (λ j. sum_below n (λ b. f a b j)))
+    (λ a. sum_below n (λ b. sum_below n (λ j. f a b j)))
     (λ a l. sum_below-exchanged n n (λ j b. f a b j))
 
--- the convolution theorem: at the mirror image of e, the transform of the product of two transforms is n times entry e of the cyclic product
+-- the convolution theorem: at the mirror image of e, the transform of
+-- the product of two transforms is n times entry e of the cyclic product
 pub convolved : {m : ℕ} (g n e k : ℕ) (x y c : ℕ → ℕ) → HalfTurn m g n → Mirrored n e k
-    → ((j : ℕ) → j < n → Congruent m (c j) (sum_below n (λ a. x a * g ^ (a * j)) * sum_below n (λ b. y b * g ^ (b * j))))
-    → Congruent m (sum_below n (λ j. c j * g ^ (j * k))) (n * sum_below n (λ a. sum_below n (λ b. cond (eqb (a + b) e || eqb (a + b) (e + n)) (x a * y b) 0)))
+    → ((j : ℕ) → j < n
+    → Congruent m (c j) (sum_below n (λ a. x a * g ^ (a * j)) * sum_below n (λ b. y b * g ^ (b * j))))
+    → Congruent m (sum_below n (λ j. c j * g ^ (j * k)))
+    (n * sum_below n (λ a. sum_below n (λ b. cond (eqb (a + b) e || eqb (a + b) (e + n)) (x a * y b) 0)))
 convolved {m} g n e k x y c turn mirror is =
     let f = λ (a b j : ℕ). x a * y b * (g ^ (a + b + k)) ^ j in
     chained (sum_below-congruent n (λ j. c j * g ^ (j * k)) (λ j. sum_below n (λ a. sum_below n (λ b. f a b j)))
     (λ j l. chained (multiplied (is j l) (itself (g ^ (j * k)))) (of_equal (expanded g n k j x y))))
     (chained (of_equal (moved n f))
-    (chained (sum_below-congruent n (λ a. sum_below n (λ b. sum_below n (λ j. f a b j))) (λ a. sum_below n (λ b. n * (cond (eqb (a + b) e || eqb (a + b) (e + n)) (x a * y b) 0)))
-    (λ a la. sum_below-congruent n (λ b. sum_below n (λ j. f a b j)) (λ b. n * (cond (eqb (a + b) e || eqb (a + b) (e + n)) (x a * y b) 0))
-    (λ b lb. chained (of_equal (sum_below-mul n (x a * y b) (λ j. (g ^ (a + b + k)) ^ j))) (tested g n e k a b (x a * y b) turn mirror la lb))))
+    (chained (sum_below-congruent n (λ a. sum_below n (λ b. sum_below n (λ j. f a b j)))
+    (λ a. sum_below n (λ b. n * (cond (eqb (a + b) e || eqb (a + b) (e + n)) (x a * y b) 0)))
+    (λ a la. sum_below-congruent n (λ b. sum_below n (λ j. f a b j))
+    (λ b. n * (cond (eqb (a + b) e || eqb (a + b) (e + n)) (x a * y b) 0))
+    (λ b lb. chained (of_equal (sum_below-mul n (x a * y b) (λ j. (g ^ (a + b + k)) ^ j)))
+    (tested g n e k a b (x a * y b) turn mirror la lb))))
     (of_equal (scaled n n n (λ a b. cond (eqb (a + b) e || eqb (a + b) (e + n)) (x a * y b) 0)))))

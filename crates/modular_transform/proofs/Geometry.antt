@@ -26,15 +26,18 @@ geometric_doubled n h =
 pub geometric_vanishes : {m : ℕ} (z t h : ℕ) → t < z → IsMinusOne m (h ^ (2 ^ t)) → Congruent m (geometric (2 ^ z) h) 0
 geometric_vanishes zero t h l factor = absurd (omega arith)
 geometric_vanishes {m} (suc z) t h l factor =
-    let double : geometric (2 ^ suc z) h ≡ geometric (2 ^ z) h * (h ^ (2 ^ z) + 1) = ap (λ n. geometric n h) (two-pow-succ z) ∙ geometric_doubled (2 ^ z) h in
+    let double : geometric (2 ^ suc z) h ≡ geometric (2 ^ z) h * (h ^ (2 ^ z) + 1) =
+    ap (λ n. geometric n h) (two-pow-succ z) ∙ geometric_doubled (2 ^ z) h in
     let left : 0 * (h ^ (2 ^ z) + 1) ≡ 0 = omega arith in
     let right : geometric (2 ^ z) h * 0 ≡ 0 = omega arith in
     elim (cases_lt t z) [
-      | inl k ↦ chained (of_equal double) (chained (multiplied (geometric_vanishes z t h k factor) (itself (h ^ (2 ^ z) + 1))) (of_equal left))
+      | inl k ↦ chained (of_equal double)
+          (chained (multiplied (geometric_vanishes z t h k factor) (itself (h ^ (2 ^ z) + 1))) (of_equal left))
       | inr k ↦
           let same : t ≡ z = omega arith in
           let factor_z : IsMinusOne m (h ^ (2 ^ z)) = same_minus_one (ap (λ n. h ^ (2 ^ n)) same) factor in
-          chained (of_equal double) (chained (multiplied (itself (geometric (2 ^ z) h)) factor_z.and_one) (of_equal right))
+          chained (of_equal double)
+          (chained (multiplied (itself (geometric (2 ^ z) h)) factor_z.and_one) (of_equal right))
     ]
 
 -- some doubling of d is an odd multiple of 2 ^ y
@@ -55,7 +58,12 @@ of_even y d even k =
     let q = ap (λ v. v * (2 * k.half + 1)) (two-pow-succ y) in
     let r = k.reached in
     let f = k.few in
-    record { doublings = k.doublings; half = k.half; few = omega arith; reached = ap (λ v. v * 2 ^ k.doublings) e ∙ omega (arith, r, q) }
+    record {
+      doublings = k.doublings;
+      half = k.half;
+      few = omega arith;
+      reached = ap (λ v. v * 2 ^ k.doublings) e ∙ omega (arith, r, q);
+    }
 
 pub odd_multiple : (y d : ℕ) → 0 < d → d < 2 ^ suc y → OddMultiple y d
 odd_multiple zero d some below =
@@ -68,8 +76,11 @@ odd_multiple (suc y) d some below =
     ]
 
 -- the powers of g ^ d add up to 0, where g to the half of 2 ^ (y + 1) is -1
-pub powers_vanish : {m : ℕ} (y g d : ℕ) → IsMinusOne m (g ^ (2 ^ y)) → 0 < d → d < 2 ^ suc y → Congruent m (geometric (2 ^ suc y) (g ^ d)) 0
+pub powers_vanish : {m : ℕ} (y g d : ℕ) → IsMinusOne m (g ^ (2 ^ y)) → 0 < d → d < 2 ^ suc y
+    → Congruent m (geometric (2 ^ suc y) (g ^ d)) 0
 powers_vanish {m} y g d half_turn some below =
     let k = odd_multiple y d some below in
-    let e : (g ^ d) ^ (2 ^ k.doublings) ≡ (g ^ (2 ^ y)) ^ (2 * k.half + 1) = sym (pow-mul g d (2 ^ k.doublings)) ∙ ap (λ n. g ^ n) k.reached ∙ pow-mul g (2 ^ y) (2 * k.half + 1) in
-    geometric_vanishes (suc y) k.doublings (g ^ d) k.few (same_minus_one (sym e) (odd_power_of_minus_one k.half half_turn))
+    let e : (g ^ d) ^ (2 ^ k.doublings) ≡ (g ^ (2 ^ y)) ^ (2 * k.half + 1) =
+    sym (pow-mul g d (2 ^ k.doublings)) ∙ ap (λ n. g ^ n) k.reached ∙ pow-mul g (2 ^ y) (2 * k.half + 1) in
+    geometric_vanishes (suc y) k.doublings (g ^ d) k.few
+    (same_minus_one (sym e) (odd_power_of_minus_one k.half half_turn))

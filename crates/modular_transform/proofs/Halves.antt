@@ -5,14 +5,16 @@ use Rattle.modular_word.specs.Sums.{sum_below}
 use Rattle.modular_word.specs.Congruence.{Congruent}
 use Rattle.modular_word.proofs.Congruence.{of_equal, itself, turned, chained, added, multiplied, cancelled}
 use Rattle.modular_word.proofs.Powers.{pow-mul}
-use Rattle.modular_transform.proofs.MinusOne.{IsMinusOne, pow_of_square, even_power_of_minus_one, odd_power_of_minus_one}
+use Rattle.modular_transform.proofs.MinusOne.{IsMinusOne, pow_of_square}
+use Rattle.modular_transform.proofs.MinusOne.{even_power_of_minus_one, odd_power_of_minus_one}
 use Rattle.modular_word.proofs.Sums.{sum_below-joined, sum_below-add, sum_below-congruent}
 
 -- the sum over 2 h values, by pairs of values h apart
 pairs : (h w k : ℕ) (x : ℕ → ℕ)
     → sum_below (h + h) (λ i. x i * w ^ (i * k)) ≡ sum_below h (λ i. x i * w ^ (i * k) + x (h + i) * w ^ ((h + i) * k))
 pairs h w k x =
-    sum_below-joined h h (λ i. x i * w ^ (i * k)) ∙ sym (sum_below-add h (λ i. x i * w ^ (i * k)) (λ i. x (h + i) * w ^ ((h + i) * k)))
+    sum_below-joined h h (λ i. x i * w ^ (i * k))
+    ∙ sym (sum_below-add h (λ i. x i * w ^ (i * k)) (λ i. x (h + i) * w ^ ((h + i) * k)))
 
 -- a power at a place h further
 further : (h w k i : ℕ) → w ^ ((h + i) * k) ≡ (w ^ h) ^ k * w ^ (i * k)
@@ -28,16 +30,20 @@ even_pair : {m : ℕ} (w h r i x y u : ℕ) → IsMinusOne m (w ^ h) → Congrue
 even_pair {m} w h r i x y u half_turn is =
     let q = w ^ (i * (2 * r)) in
     let o : 1 * q ≡ q = omega arith in
-    let one : Congruent m (w ^ ((h + i) * (2 * r))) q = chained (of_equal (further h w (2 * r) i)) (chained (multiplied (even_power_of_minus_one r half_turn) (itself q)) (of_equal o)) in
+    let one : Congruent m (w ^ ((h + i) * (2 * r))) q = chained (of_equal (further h w (2 * r) i))
+    (chained (multiplied (even_power_of_minus_one r half_turn) (itself q)) (of_equal o)) in
     let d : x * q + y * q ≡ (x + y) * q = omega arith in
-    chained (added (itself (x * q)) (multiplied (itself y) one)) (chained (of_equal d) (multiplied (turned is) (of_equal (sym (square_root w i r)))))
+    chained (added (itself (x * q)) (multiplied (itself y) one))
+    (chained (of_equal d) (multiplied (turned is) (of_equal (sym (square_root w i r)))))
 
 -- the entries at even places
-pub even_entries : {m : ℕ} (w h r : ℕ) (x u : ℕ → ℕ) → IsMinusOne m (w ^ h) → ((i : ℕ) → i < h → Congruent m (u i) (x i + x (h + i)))
+pub even_entries : {m : ℕ} (w h r : ℕ) (x u : ℕ → ℕ) → IsMinusOne m (w ^ h)
+    → ((i : ℕ) → i < h → Congruent m (u i) (x i + x (h + i)))
     → Congruent m (sum_below (h + h) (λ i. x i * w ^ (i * (2 * r)))) (sum_below h (λ i. u i * (w * w) ^ (i * r)))
 even_entries {m} w h r x u half_turn is =
     chained (of_equal (pairs h w (2 * r) x))
-    (sum_below-congruent h (λ i. x i * w ^ (i * (2 * r)) + x (h + i) * w ^ ((h + i) * (2 * r))) (λ i. u i * (w * w) ^ (i * r)) (λ i l. even_pair w h r i (x i) (x (h + i)) (u i) half_turn (is i l)))
+    (sum_below-congruent h (λ i. x i * w ^ (i * (2 * r)) + x (h + i) * w ^ ((h + i) * (2 * r)))
+    (λ i. u i * (w * w) ^ (i * r)) (λ i l. even_pair w h r i (x i) (x (h + i)) (u i) half_turn (is i l)))
 
 odd_pair : {m : ℕ} (w h r i x y v : ℕ) → IsMinusOne m (w ^ h) → Congruent m (v + y * w ^ i) (x * w ^ i)
     → Congruent m (x * w ^ (i * (2 * r + 1)) + y * w ^ ((h + i) * (2 * r + 1))) (v * (w * w) ^ (i * r))
@@ -46,7 +52,8 @@ odd_pair {m} w h r i x y v half_turn is =
     let q = w ^ (i * (2 * r + 1)) in
     let p = (w ^ h) ^ (2 * r + 1) in
     let e : i * (2 * r + 1) ≡ i + i * (2 * r) = omega arith in
-    let qs : q ≡ w ^ i * s = ap (λ n. w ^ n) e ∙ pow-add w i (i * (2 * r)) ∙ ap (λ n. w ^ i * n) (sym (square_root w i r)) in
+    let qs : q ≡ w ^ i * s =
+    ap (λ n. w ^ n) e ∙ pow-add w i (i * (2 * r)) ∙ ap (λ n. w ^ i * n) (sym (square_root w i r)) in
     let z : w ^ ((h + i) * (2 * r + 1)) ≡ p * q = further h w (2 * r + 1) i in
     let yz = ap (λ n. y * n) z in
     let yq = ap (λ n. y * n) qs in
@@ -61,8 +68,10 @@ odd_pair {m} w h r i x y v half_turn is =
     (chained (of_equal none) (chained (multiplied (turned is) (itself s)) (of_equal right)))))
 
 -- the entries at odd places
-pub odd_entries : {m : ℕ} (w h r : ℕ) (x v : ℕ → ℕ) → IsMinusOne m (w ^ h) → ((i : ℕ) → i < h → Congruent m (v i + x (h + i) * w ^ i) (x i * w ^ i))
+pub odd_entries : {m : ℕ} (w h r : ℕ) (x v : ℕ → ℕ) → IsMinusOne m (w ^ h)
+    → ((i : ℕ) → i < h → Congruent m (v i + x (h + i) * w ^ i) (x i * w ^ i))
     → Congruent m (sum_below (h + h) (λ i. x i * w ^ (i * (2 * r + 1)))) (sum_below h (λ i. v i * (w * w) ^ (i * r)))
 odd_entries {m} w h r x v half_turn is =
     chained (of_equal (pairs h w (2 * r + 1) x))
-    (sum_below-congruent h (λ i. x i * w ^ (i * (2 * r + 1)) + x (h + i) * w ^ ((h + i) * (2 * r + 1))) (λ i. v i * (w * w) ^ (i * r)) (λ i l. odd_pair w h r i (x i) (x (h + i)) (v i) half_turn (is i l)))
+    (sum_below-congruent h (λ i. x i * w ^ (i * (2 * r + 1)) + x (h + i) * w ^ ((h + i) * (2 * r + 1)))
+    (λ i. v i * (w * w) ^ (i * r)) (λ i l. odd_pair w h r i (x i) (x (h + i)) (v i) half_turn (is i l)))

@@ -1,5 +1,6 @@
 -- The transform by the inverse of a root takes the transform back to n times the values.
-use Rattle.std.proofs.Common.{◌≡◌, ◌≢◌, ℕ, suc, zero, ◌+◌, ◌-◌, ◌*◌, ◌%◌, ◌/◌, ◌^◌, ◌<◌, sym, ◌∙◌, ap, refl, arith, inl, inr}
+use Rattle.std.proofs.Common.{◌≡◌, ◌≢◌, ℕ, suc, zero, ◌+◌, ◌-◌, ◌*◌, ◌%◌, ◌/◌}
+use Rattle.std.proofs.Common.{◌^◌, ◌<◌, sym, ◌∙◌, ap, refl, arith, inl, inr}
 use Rattle.std.proofs.lemmas.Bool.{cases_lt, cases_eq}
 use Rattle.std.proofs.lemmas.Nat.{pow-add, mul-pow, pow_pos}
 use Rattle.std.proofs.Math.Nat.{two-pow-succ, zero-mod}
@@ -9,7 +10,8 @@ use Rattle.modular_word.specs.Inverses.{IsInverse}
 use Rattle.modular_word.specs.Sums.{sum_below}
 use Rattle.modular_word.proofs.Congruence.{of_equal, itself, turned, chained, added, multiplied, powered, residue_of}
 use Rattle.modular_word.proofs.Powers.{one-pow, pow-mul}
-use Rattle.modular_word.proofs.Sums.{sum_below-zero, sum_below-suc, sum_below-same, sum_below-congruent, sum_below-mul, sum_below-exchanged}
+use Rattle.modular_word.proofs.Sums.{sum_below-zero, sum_below-suc, sum_below-same}
+use Rattle.modular_word.proofs.Sums.{sum_below-congruent, sum_below-mul, sum_below-exchanged}
 use Rattle.modular_transform.specs.Transforms.{Suits, transform}
 use Rattle.modular_transform.proofs.CyclicProducts.{geometric_of_one, at_other_turns}
 use Rattle.modular_transform.proofs.ConvolveLemmas.{half_turn}
@@ -19,17 +21,21 @@ sum_zeros : {m : ℕ} (n : ℕ) (f : ℕ → ℕ) → ((i : ℕ) → i < n → C
 sum_zeros zero f none = of_equal (sum_below-zero f)
 sum_zeros (suc n) f none =
     let z : 0 + 0 ≡ 0 = omega arith in
-    chained (of_equal (sum_below-suc n f)) (chained (added (sum_zeros n f (λ i l. none i (omega arith))) (none n (omega arith))) (of_equal z))
+    chained (of_equal (sum_below-suc n f))
+    (chained (added (sum_zeros n f (λ i l. none i (omega arith))) (none n (omega arith))) (of_equal z))
 
-sum_only : {m : ℕ} (n k : ℕ) (f : ℕ → ℕ) → k < n → ((i : ℕ) → i < n → i ≢ k → Congruent m (f i) 0) → Congruent m (sum_below n f) (f k)
+sum_only : {m : ℕ} (n k : ℕ) (f : ℕ → ℕ) → k < n → ((i : ℕ) → i < n → i ≢ k → Congruent m (f i) 0)
+    → Congruent m (sum_below n f) (f k)
 sum_only zero k f l none = absurd (omega arith)
 sum_only {m} (suc n) k f l none = elim (cases_eq k n) [
   | inl e ↦
       let z : 0 + f n ≡ f k = ap (λ v. 0 + f v) (sym e) ∙ omega arith in
-      chained (of_equal (sum_below-suc n f)) (chained (added (sum_zeros n f (λ i j. none i (omega arith) (omega arith))) (itself (f n))) (of_equal z))
+      chained (of_equal (sum_below-suc n f))
+      (chained (added (sum_zeros n f (λ i j. none i (omega arith) (omega arith))) (itself (f n))) (of_equal z))
   | inr s ↦
       let z : f k + 0 ≡ f k = omega arith in
-      chained (of_equal (sum_below-suc n f)) (chained (added (sum_only n k f (omega arith) (λ i j ne. none i (omega arith) ne)) (none n (omega arith) (omega arith))) (of_equal z))
+      chained (of_equal (sum_below-suc n f)) (chained (added (sum_only n k f (omega arith)
+      (λ i j ne. none i (omega arith) ne)) (none n (omega arith) (omega arith))) (of_equal z))
 ]
 
 -- powers of a number and of its inverse cancel
@@ -63,12 +69,15 @@ above {m} {g} {h} i k j inverse l =
     let e : i * j ≡ (i - k) * j + j * k = ap (λ v. v * j) d ∙ omega arith in
     let p = ap (λ v. g ^ v) e ∙ pow-add g ((i - k) * j) (j * k) in
     let q = ap (λ v. v * h ^ (j * k)) p in
-    let r : g ^ ((i - k) * j) * g ^ (j * k) * h ^ (j * k) ≡ g ^ ((i - k) * j) * (g ^ (j * k) * h ^ (j * k)) = omega arith in
+    let r : g ^ ((i - k) * j) * g ^ (j * k) * h ^ (j * k) ≡ g ^ ((i - k) * j) * (g ^ (j * k) * h ^ (j * k)) =
+    omega arith in
     let o : g ^ ((i - k) * j) * 1 ≡ g ^ ((i - k) * j) = omega arith in
-    chained (of_equal (q ∙ r)) (chained (multiplied (itself (g ^ ((i - k) * j))) (powers_cancel (j * k) inverse)) (of_equal (o ∙ pow-mul g (i - k) j)))
+    chained (of_equal (q ∙ r)) (chained (multiplied (itself (g ^ ((i - k) * j))) (powers_cancel (j * k) inverse))
+    (of_equal (o ∙ pow-mul g (i - k) j)))
 
 swapped : {m g h : ℕ} → IsInverse m g h → Congruent m (h * g) 1
-swapped {m} {g} {h} inverse = let e : h * g ≡ g * h = omega arith in chained (of_equal e) (record { same = inverse.one })
+swapped {m} {g} {h} inverse = let e : h * g ≡ g * h = omega arith in
+    chained (of_equal e) (record { same = inverse.one })
 
 below : {m g h : ℕ} (i k j : ℕ) → IsInverse m g h → i < k → Congruent m (g ^ (i * j) * h ^ (j * k)) ((h ^ (k - i)) ^ j)
 below {m} {g} {h} i k j inverse l =
@@ -76,9 +85,11 @@ below {m} {g} {h} i k j inverse l =
     let e : j * k ≡ (k - i) * j + i * j = ap (λ v. j * v) d ∙ omega arith in
     let p = ap (λ v. h ^ v) e ∙ pow-add h ((k - i) * j) (i * j) in
     let q = ap (λ v. g ^ (i * j) * v) p in
-    let r : g ^ (i * j) * (h ^ ((k - i) * j) * h ^ (i * j)) ≡ h ^ ((k - i) * j) * (g ^ (i * j) * h ^ (i * j)) = omega arith in
+    let r : g ^ (i * j) * (h ^ ((k - i) * j) * h ^ (i * j)) ≡ h ^ ((k - i) * j) * (g ^ (i * j) * h ^ (i * j)) =
+    omega arith in
     let o : h ^ ((k - i) * j) * 1 ≡ h ^ ((k - i) * j) = omega arith in
-    chained (of_equal (q ∙ r)) (chained (multiplied (itself (h ^ ((k - i) * j))) (powers_cancel (i * j) inverse)) (of_equal (o ∙ pow-mul h (k - i) j)))
+    chained (of_equal (q ∙ r)) (chained (multiplied (itself (h ^ ((k - i) * j))) (powers_cancel (i * j) inverse))
+    (of_equal (o ∙ pow-mul h (k - i) j)))
 
 -- the sum of g^(i * j) * h^(j * k) over j: n for i = k ..
 same_places : {m g h : ℕ} (n k : ℕ) → IsInverse m g h → Congruent m (sum_below n (λ j. g ^ (k * j) * h ^ (j * k))) n
@@ -86,7 +97,8 @@ same_places {m} {g} {h} n k inverse =
     let o : n * 1 ≡ n = omega arith in
     chained (sum_below-congruent n (λ j. g ^ (k * j) * h ^ (j * k)) (λ j. 1 ^ j)
     (λ j l. let e : k * j ≡ j * k = omega arith in
-    chained (of_equal (ap (λ v. g ^ v * h ^ (j * k)) e)) (chained (powers_cancel (j * k) inverse) (of_equal (sym (one-pow j))))))
+    chained (of_equal (ap (λ v. g ^ v * h ^ (j * k)) e))
+    (chained (powers_cancel (j * k) inverse) (of_equal (sym (one-pow j))))))
     (geometric_of_one n 1 (itself 1))
 
 -- .. and else 0
@@ -94,30 +106,40 @@ other_places : {m g h : ℕ} (n i k : ℕ) → IsInverse m g h → Suits m g n �
     → Congruent m (sum_below n (λ j. g ^ (i * j) * h ^ (j * k))) 0
 other_places {m} {g} {h} n i k inverse suits li lk ne = elim (cases_lt k i) [
   | inl l ↦
-      chained (sum_below-congruent n (λ j. g ^ (i * j) * h ^ (j * k)) (λ j. (g ^ (i - k)) ^ j) (λ j t. above i k j inverse l))
+      chained (sum_below-congruent n (λ j. g ^ (i * j) * h ^ (j * k)) (λ j. (g ^ (i - k)) ^ j)
+      (λ j t. above i k j inverse l))
       (at_other_turns g n 0 (i - k) (i - k) (half_turn suits) (omega arith) (omega arith) (omega arith) (omega arith))
   | inr s ↦
-      chained (sum_below-congruent n (λ j. g ^ (i * j) * h ^ (j * k)) (λ j. (h ^ (k - i)) ^ j) (λ j t. below i k j inverse (omega arith)))
-      (at_other_turns h n 0 (k - i) (k - i) (half_turn (inverse_suits inverse suits)) (omega arith) (omega arith) (omega arith) (omega arith))
+      chained (sum_below-congruent n (λ j. g ^ (i * j) * h ^ (j * k)) (λ j. (h ^ (k - i)) ^ j)
+      (λ j t. below i k j inverse (omega arith)))
+      (at_other_turns h n 0 (k - i) (k - i) (half_turn (inverse_suits inverse suits)) (omega arith)
+      (omega arith) (omega arith) (omega arith))
 ]
 
 -- one entry of the transform back, by the values
 back_sum : (n k g h : ℕ) (x : ℕ → ℕ)
-    → sum_below n (λ j. sum_below n (λ i. x i * g ^ (i * j)) * h ^ (j * k)) ≡ sum_below n (λ i. x i * sum_below n (λ j. g ^ (i * j) * h ^ (j * k)))
+    → sum_below n (λ j. sum_below n (λ i. x i * g ^ (i * j)) * h ^ (j * k))
+    ≡ sum_below n (λ i. x i * sum_below n (λ j. g ^ (i * j) * h ^ (j * k)))
 back_sum n k g h x =
-    sum_below-same n (λ j. sum_below n (λ i. x i * g ^ (i * j)) * h ^ (j * k)) (λ j. sum_below n (λ i. x i * (g ^ (i * j) * h ^ (j * k))))
+    sum_below-same n (λ j. sum_below n (λ i. x i * g ^ (i * j)) * h ^ (j * k))
+    (λ j. sum_below n (λ i. x i * (g ^ (i * j) * h ^ (j * k))))
     (λ j l.
     let s = sum_below-mul n (h ^ (j * k)) (λ i. x i * g ^ (i * j)) in
-    let t : sum_below n (λ i. x i * g ^ (i * j)) * h ^ (j * k) ≡ h ^ (j * k) * sum_below n (λ i. x i * g ^ (i * j)) = omega arith in
-    t ∙ sym s ∙ sum_below-same n (λ i. h ^ (j * k) * (x i * g ^ (i * j))) (λ i. x i * (g ^ (i * j) * h ^ (j * k))) (λ i u. omega arith))
+    let t : sum_below n (λ i. x i * g ^ (i * j)) * h ^ (j * k) ≡ h ^ (j * k) * sum_below n (λ i. x i * g ^ (i * j)) =
+    omega arith in
+    t ∙ sym s ∙ sum_below-same n (λ i. h ^ (j * k) * (x i * g ^ (i * j)))
+    (λ i. x i * (g ^ (i * j) * h ^ (j * k))) (λ i u. omega arith))
     ∙ sum_below-exchanged n n (λ j i. x i * (g ^ (i * j) * h ^ (j * k)))
-    ∙ sum_below-same n (λ i. sum_below n (λ j. x i * (g ^ (i * j) * h ^ (j * k)))) (λ i. x i * sum_below n (λ j. g ^ (i * j) * h ^ (j * k)))
+    ∙ sum_below-same n (λ i. sum_below n (λ j. x i * (g ^ (i * j) * h ^ (j * k))))
+    (λ i. x i * sum_below n (λ j. g ^ (i * j) * h ^ (j * k)))
     (λ i l. sum_below-mul n (x i) (λ j. g ^ (i * j) * h ^ (j * k)))
 
 -- congruent values have one transform
-pub transform_congruent : {m : ℕ} (g n j : ℕ) (x y : ℕ → ℕ) → ((i : ℕ) → i < n → Congruent m (x i) (y i)) → transform m g n x j ≡ transform m g n y j
+pub transform_congruent : {m : ℕ} (g n j : ℕ) (x y : ℕ → ℕ) → ((i : ℕ) → i < n → Congruent m (x i) (y i))
+    → transform m g n x j ≡ transform m g n y j
 transform_congruent {m} g n j x y same =
-    (sum_below-congruent n (λ i. x i * g ^ (i * j)) (λ i. y i * g ^ (i * j)) (λ i l. multiplied (same i l) (itself (g ^ (i * j))))).same
+    (sum_below-congruent n (λ i. x i * g ^ (i * j)) (λ i. y i * g ^ (i * j))
+    (λ i l. multiplied (same i l) (itself (g ^ (i * j))))).same
 
 -- entry k of the transform back is n times value k
 pub transformed_back : {m g h : ℕ} (n k : ℕ) (x : ℕ → ℕ) → IsInverse m g h → Suits m g n → k < n
@@ -125,11 +147,13 @@ pub transformed_back : {m g h : ℕ} (n k : ℕ) (x : ℕ → ℕ) → IsInverse
 transformed_back {m} {g} {h} n k x inverse suits l =
     let o : x k * n ≡ n * x k = omega arith in
     chained (residue_of (sum_below n (λ j. transform m g n x j * h ^ (j * k))))
-    (chained (sum_below-congruent n (λ j. transform m g n x j * h ^ (j * k)) (λ j. sum_below n (λ i. x i * g ^ (i * j)) * h ^ (j * k))
+    (chained (sum_below-congruent n (λ j. transform m g n x j * h ^ (j * k))
+    (λ j. sum_below n (λ i. x i * g ^ (i * j)) * h ^ (j * k))
     (λ j t. multiplied (residue_of (sum_below n (λ i. x i * g ^ (i * j)))) (itself (h ^ (j * k)))))
     (chained (of_equal (back_sum n k g h x))
     (chained (sum_only n k (λ i. x i * sum_below n (λ j. g ^ (i * j) * h ^ (j * k))) l
-    (λ i t ne. let z : x i * 0 ≡ 0 = omega arith in chained (multiplied (itself (x i)) (other_places n i k inverse suits t l ne)) (of_equal z)))
+    (λ i t ne. let z : x i * 0 ≡ 0 = omega arith in
+    chained (multiplied (itself (x i)) (other_places n i k inverse suits t l ne)) (of_equal z)))
     (chained (multiplied (itself (x k)) (same_places n k inverse)) (of_equal o)))))
 
 -- .. and times 1/n the value itself
@@ -139,7 +163,8 @@ value_back {m} {g} {h} n k part x inverse of_length suits l =
     let one : Congruent m (n * part) 1 = record { same = of_length.one } in
     let q : n * x k * part ≡ n * part * x k = omega arith in
     let o : 1 * x k ≡ x k = omega arith in
-    chained (multiplied (transformed_back n k x inverse suits l) (itself part)) (chained (of_equal q) (chained (multiplied one (itself (x k))) (of_equal o)))
+    chained (multiplied (transformed_back n k x inverse suits l) (itself part))
+    (chained (of_equal q) (chained (multiplied one (itself (x k))) (of_equal o)))
 
 -- a power of two is 1 or even
 even_length : (z n : ℕ) → n ≡ 2 ^ z → 1 < n → n ≡ 2 * (n / 2)

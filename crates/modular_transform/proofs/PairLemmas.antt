@@ -7,7 +7,8 @@ use Rattle.modular_word.proofs.Congruence.{itself, turned, chained, added, multi
 use Rattle.modular_transform.specs.Stages.{IsPair, PairDone, PairsDone, IsStage, low, high}
 
 -- the same pair by other names of its values
-pair_along : {m u a b c d a' b' c' d' : ℕ} → a ≡ a' → b ≡ b' → c ≡ c' → d ≡ d' → IsPair m u a b c d → IsPair m u a' b' c' d'
+pair_along : {m u a b c d a' b' c' d' : ℕ} → a ≡ a' → b ≡ b' → c ≡ c' → d ≡ d'
+    → IsPair m u a b c d → IsPair m u a' b' c' d'
 pair_along {m} {u} {a} {b} {c} {d} {a'} {b'} {c'} {d'} ea eb ec ed h =
     subst (λ v. IsPair m u v b' c' d') ea
     (subst (λ v. IsPair m u a v c' d') eb (subst (λ v. IsPair m u a b v d') ec (subst (λ v. IsPair m u a b c v) ed h)))
@@ -16,7 +17,8 @@ pair_along {m} {u} {a} {b} {c} {d} {a'} {b'} {c'} {d'} ea eb ec ed h =
 pair_by : {m u v a b c d : ℕ} → Congruent m u v → IsPair m u a b c d → IsPair m v a b c d
 pair_by is h = record {
   summed = h.summed;
-  subtracted = chained (added (itself _) (multiplied (itself _) (turned is))) (chained h.subtracted (multiplied (itself _) is));
+  subtracted =
+      chained (added (itself _) (multiplied (itself _) (turned is))) (chained h.subtracted (multiplied (itself _) is));
 }
 
 -- no place stands from a to before a
@@ -32,7 +34,8 @@ none_done m power h a b c d x empty = record {
 }
 
 -- one pair alone
-pub one_done : {m u first second : ℕ} (power : ℕ → ℕ) (h p i : ℕ) (x y : ℕ → ℕ) → i < h → first ≡ low h p i → second ≡ high h p i → u ≡ power i
+pub one_done : {m u first second : ℕ} (power : ℕ → ℕ) (h p i : ℕ) (x y : ℕ → ℕ) → i < h → first ≡ low h p i
+    → second ≡ high h p i → u ≡ power i
     → PairDone m u first second x y → PairsDone m power h p (p + 1) i (i + 1) x y
 one_done {m} {u} {first} {second} power h p i x y l is_first is_second is_power done = record {
   pairs = λ q j a b c d.
@@ -44,11 +47,16 @@ one_done {m} {u} {first} {second} power h p i x y l is_first is_second is_power 
       (pair_along (ap x ef) (ap x es) (ap y ef) (ap y es) done.pair);
   kept = λ q j k outside. (
     done.kept (low h q j)
-        (λ e. let s = same_from_place q j p i (h + h) (omega arith) (omega arith) (e ∙ is_first) in outside (let z = s.0 in omega arith) (let z = s.0 in omega arith) (let z = s.1 in omega arith) (let z = s.1 in omega arith))
-        (λ e. let s = same_from_place q j p (h + i) (h + h) (omega arith) (omega arith) (e ∙ is_second) in absurd (let z = s.1 in omega arith)),
+        (λ e. let s = same_from_place q j p i (h + h) (omega arith) (omega arith) (e ∙ is_first) in outside (let z =
+        s.0 in omega arith) (let z = s.0 in omega arith) (let z = s.1 in omega arith) (let z = s.1 in omega arith))
+        (λ e. let s = same_from_place q j p (h + i) (h + h) (omega arith) (omega arith) (e ∙ is_second) in
+        absurd (let z = s.1 in omega arith)),
     done.kept (high h q j)
-        (λ e. let s = same_from_place q (h + j) p i (h + h) (omega arith) (omega arith) (e ∙ is_first) in absurd (let z = s.1 in omega arith))
-        (λ e. let s = same_from_place q (h + j) p (h + i) (h + h) (omega arith) (omega arith) (e ∙ is_second) in outside (let z = s.0 in omega arith) (let z = s.0 in omega arith) (let z = s.1 in omega arith) (let z = s.1 in omega arith)),
+        (λ e. let s = same_from_place q (h + j) p i (h + h) (omega arith) (omega arith) (e ∙ is_first) in
+        absurd (let z = s.1 in omega arith))
+        (λ e. let s = same_from_place q (h + j) p (h + i) (h + h) (omega arith) (omega arith) (e ∙ is_second) in
+        outside (let z = s.0 in omega arith) (let z = s.0 in omega arith) (let z = s.1 in omega arith)
+        (let z = s.1 in omega arith)),
   );
 }
 
@@ -57,8 +65,10 @@ pub columns_joined : {m h a b c d e : ℕ} {power : ℕ → ℕ} (x y z : ℕ �
     → PairsDone m power h a b c d x y → PairsDone m power h a b d e y z → PairsDone m power h a b c e x z
 columns_joined {m} {h} {a} {b} {c} {d} {e} x y z lc ld le one two = record {
   pairs = λ p i u v s t. elim (cases_lt i d) [
-    | inl l ↦ let k = two.kept p i (omega arith) (λ f g j k. absurd (omega arith)) in pair_along refl refl (sym k.0) (sym k.1) (one.pairs p i u v s l)
-    | inr l ↦ let k = one.kept p i (omega arith) (λ f g j k. absurd (omega arith)) in pair_along k.0 k.1 refl refl (two.pairs p i u v l t)
+    | inl l ↦ let k = two.kept p i (omega arith) (λ f g j k. absurd (omega arith)) in
+        pair_along refl refl (sym k.0) (sym k.1) (one.pairs p i u v s l)
+    | inr l ↦ let k = one.kept p i (omega arith) (λ f g j k. absurd (omega arith)) in
+        pair_along k.0 k.1 refl refl (two.pairs p i u v l t)
   ];
   kept = λ p i l outside.
       let j = one.kept p i l (λ u v s t. outside u v s (omega arith)) in
@@ -71,8 +81,10 @@ pub blocks_joined : {m h a b c d e : ℕ} {power : ℕ → ℕ} (x y z : ℕ →
     → PairsDone m power h a b c d x y → PairsDone m power h b e c d y z → PairsDone m power h a e c d x z
 blocks_joined {m} {h} {a} {b} {c} {d} {e} x y z la lb ld one two = record {
   pairs = λ p i u v s t. elim (cases_lt p b) [
-    | inl l ↦ let k = two.kept p i (omega arith) (λ f g j k. absurd (omega arith)) in pair_along refl refl (sym k.0) (sym k.1) (one.pairs p i u l s t)
-    | inr l ↦ let k = one.kept p i (omega arith) (λ f g j k. absurd (omega arith)) in pair_along k.0 k.1 refl refl (two.pairs p i l v s t)
+    | inl l ↦ let k = two.kept p i (omega arith) (λ f g j k. absurd (omega arith)) in
+        pair_along refl refl (sym k.0) (sym k.1) (one.pairs p i u l s t)
+    | inr l ↦ let k = one.kept p i (omega arith) (λ f g j k. absurd (omega arith)) in
+        pair_along k.0 k.1 refl refl (two.pairs p i l v s t)
   ];
   kept = λ p i l outside.
       let j = one.kept p i l (λ u v s t. outside u (omega arith) s t) in
@@ -81,7 +93,8 @@ blocks_joined {m} {h} {a} {b} {c} {d} {e} x y z la lb ld one two = record {
 }
 
 -- the same pairs by powers that are congruent
-pub done_by : {m h a b c d : ℕ} {power other : ℕ → ℕ} (x y : ℕ → ℕ) → ((i : ℕ) → c ≤ i → i < d → Congruent m (power i) (other i))
+pub done_by : {m h a b c d : ℕ} {power other : ℕ → ℕ} (x y : ℕ → ℕ)
+    → ((i : ℕ) → c ≤ i → i < d → Congruent m (power i) (other i))
     → PairsDone m power h a b c d x y → PairsDone m other h a b c d x y
 done_by x y is done = record {
   pairs = λ p i u v s t. pair_by (is i s t) (done.pairs p i u v s t);
@@ -89,11 +102,13 @@ done_by x y is done = record {
 }
 
 -- all blocks and all columns
-pub stage_done : {m w h blocks : ℕ} (x y : ℕ → ℕ) → PairsDone m (λ i. w ^ i) h 0 blocks 0 h x y → IsStage m w h blocks x y
+pub stage_done : {m w h blocks : ℕ} (x y : ℕ → ℕ)
+    → PairsDone m (λ i. w ^ i) h 0 blocks 0 h x y → IsStage m w h blocks x y
 stage_done x y done = record { pairs = λ p i u v. done.pairs p i (omega arith) u (omega arith) v }
 
 -- a stage by a root that is congruent
-pub stage_by : {m v w h blocks : ℕ} (x y : ℕ → ℕ) → Congruent m v w → IsStage m v h blocks x y → IsStage m w h blocks x y
+pub stage_by : {m v w h blocks : ℕ} (x y : ℕ → ℕ) → Congruent m v w
+    → IsStage m v h blocks x y → IsStage m w h blocks x y
 stage_by x y is stage = record { pairs = λ p i u v. pair_by (powered i is) (stage.pairs p i u v) }
 
 -- the places of a block are places of the list

@@ -16,10 +16,12 @@ pub sum_none : (m : ℕ) (f : ℕ → ℕ) → 0 ≡ sum_below 0 f % m
 sum_none m f = sym (ap (λ v. v % m) (sum_below-zero f) ∙ zero-mod m)
 
 -- one term more
-pub sum_more : (m i s t : ℕ) (f : ℕ → ℕ) → s ≡ sum_below i f % m → Congruent m t (f i) → (s + t) % m ≡ sum_below (i + 1) f % m
+pub sum_more : (m i s t : ℕ) (f : ℕ → ℕ) → s ≡ sum_below i f % m → Congruent m t (f i)
+    → (s + t) % m ≡ sum_below (i + 1) f % m
 sum_more m i s t f so_far term =
     let e : suc i ≡ i + 1 = omega arith in
-    let c : Congruent m (s + t) (sum_below i f + f i) = added (chained (of_equal so_far) (residue_of (sum_below i f))) term in
+    let c : Congruent m (s + t) (sum_below i f + f i) =
+    added (chained (of_equal so_far) (residue_of (sum_below i f))) term in
     c.same ∙ ap (λ v. v % m) (sym (sum_below-suc i f) ∙ ap (λ n. sum_below n f) e)
 
 -- the power of the first term, and of the next
@@ -28,7 +30,8 @@ term_power_first m g j one is =
     let z : 0 * j ≡ 0 = omega arith in
     chained (of_equal is) (chained (residue_of 1) (of_equal (sym (ap (λ n. g ^ n) z ∙ pow-zero g))))
 
-pub term_power_next : (m g i j p step q : ℕ) → Congruent m p (g ^ (i * j)) → step ≡ g ^ j % m → q ≡ p * step % m → Congruent m q (g ^ ((i + 1) * j))
+pub term_power_next : (m g i j p step q : ℕ) → Congruent m p (g ^ (i * j)) → step ≡ g ^ j % m → q ≡ p * step % m
+    → Congruent m q (g ^ ((i + 1) * j))
 term_power_next m g i j p step q power is_step is_q =
     let e : (i + 1) * j ≡ i * j + j = omega arith in
     chained (of_equal is_q)
@@ -40,9 +43,11 @@ test_of_zero : (a : ℕ) → IsTrue (nat_eq a 0) ↔ (a ≡ 0)
 test_of_zero a = (λ (h : IsTrue (nat_eq a 0)). grind (arith, nat_tests, h), λ (e : a ≡ 0). grind (arith, nat_tests, e))
 
 -- the power to the half of n, and 1
-pub suits_by_power : (m g n p : ℕ) → IsPowerOfTwo n → n ≢ 1 → p ≡ g ^ (n / 2) % m → IsTrue (nat_eq ((p + 1) % m) 0) ↔ Suits m g n
+pub suits_by_power : (m g n p : ℕ) → IsPowerOfTwo n → n ≢ 1 → p ≡ g ^ (n / 2) % m
+    → IsTrue (nat_eq ((p + 1) % m) 0) ↔ Suits m g n
 suits_by_power m g n p power other is =
-    let same : (p + 1) % m ≡ (g ^ (n / 2) + 1) % m = (added (chained (of_equal is) (residue_of (g ^ (n / 2)))) (itself 1)).same in
+    let same : (p + 1) % m ≡ (g ^ (n / 2) + 1) % m =
+    (added (chained (of_equal is) (residue_of (g ^ (n / 2)))) (itself 1)).same in
     let test = test_of_zero ((p + 1) % m) in (
       λ (h : IsTrue (nat_eq ((p + 1) % m) 0)). record { power_of_two = power; half_turn = λ l. sym same ∙ test.0 h },
       λ (suits : Suits m g n). test.1 (same ∙ suits.half_turn (beyond_one n power other)),

@@ -1,11 +1,13 @@
 -- A cyclic product with room for every term is the product of two polynomials.
-use Rattle.std.proofs.Common.{◌≡◌, ◌≢◌, ℕ, suc, zero, ◌+◌, ◌*◌, ◌%◌, ◌^◌, ◌<◌, ◌≤◌, sym, ◌∙◌, ap, arith, inl, inr, eqb, cond, ◌||◌}
+use Rattle.std.proofs.Common.{◌≡◌, ◌≢◌, ℕ, suc, zero, ◌+◌, ◌*◌, ◌%◌, ◌^◌, ◌<◌}
+use Rattle.std.proofs.Common.{◌≤◌, sym, ◌∙◌, ap, arith, inl, inr, eqb, cond, ◌||◌}
 use Rattle.std.proofs.lemmas.Nat.{pow-add}
 use Rattle.std.proofs.lemmas.Bool.{cases_lt, cases_eq}
 use Rattle.std.proofs.lemmas.Bool.Decides.{eqb_tells}
 use Rattle.std.proofs.Math.Nat.{mod-eq_of_lt, mul-le-mul}
 use Rattle.modular_word.specs.Sums.{sum_below}
-use Rattle.modular_word.proofs.Sums.{sum_below-zero, sum_below-suc, sum_below-same, sum_below-times_sum, sum_below-of_zeros}
+use Rattle.modular_word.proofs.Sums.{sum_below-zero, sum_below-suc, sum_below-same}
+use Rattle.modular_word.proofs.Sums.{sum_below-times_sum, sum_below-of_zeros}
 use Rattle.modular_transform.specs.Transforms.{cyclic_product}
 use Rattle.modular_transform.proofs.CyclicProducts.{scaled, moved}
 
@@ -45,13 +47,15 @@ sum_bounded (suc n) c f few =
     let l = few n (omega arith) in
     omega (arith, d, i, l)
 
-row_bounded : (n i e c : ℕ) (f : ℕ → ℕ) → ((j : ℕ) → j < n → f j ≤ c) → sum_below n (λ j. cond (eqb (i + j) e) (f j) 0) ≤ c
+row_bounded : (n i e c : ℕ) (f : ℕ → ℕ) → ((j : ℕ) → j < n → f j ≤ c)
+    → sum_below n (λ j. cond (eqb (i + j) e) (f j) 0) ≤ c
 row_bounded zero i e c f few = let d = sum_below-zero (λ j. cond (eqb (i + j) e) (f j) 0) in omega (arith, d)
 row_bounded (suc n) i e c f few =
     let d = sum_below-suc n (λ j. cond (eqb (i + j) e) (f j) 0) in
     elim (cases_eq (i + n) e) [
       | inl is ↦
-          let z = sum_below-of_zeros n (λ j. cond (eqb (i + j) e) (f j) 0) (λ j t. at_other (i + j) e (f j) (omega arith)) in
+          let z = sum_below-of_zeros n (λ j. cond (eqb (i + j) e) (f j) 0)
+          (λ j t. at_other (i + j) e (f j) (omega arith)) in
           let o = at_place (i + n) e (f n) is in
           let l = few n (omega arith) in
           omega (arith, d, z, o, l)
@@ -62,7 +66,8 @@ row_bounded (suc n) i e c f few =
     ]
 
 -- where terms at places from n on are 0, a term of the cyclic product stands at one place
-one_place : (n i j e v : ℕ) → (n ≤ i + j → v ≡ 0) → cond (eqb (i + j) e || eqb (i + j) (e + n)) v 0 ≡ cond (eqb (i + j) e) v 0
+one_place : (n i j e v : ℕ) → (n ≤ i + j → v ≡ 0)
+    → cond (eqb (i + j) e || eqb (i + j) (e + n)) v 0 ≡ cond (eqb (i + j) e) v 0
 one_place n i j e v room = elim (eqb_tells (i + j) e) [
   | inl p ↦ rw p.0 (omega arith)
   | inr p ↦ elim (eqb_tells (i + j) (e + n)) [
@@ -75,12 +80,15 @@ one_place n i j e v room = elim (eqb_tells (i + j) e) [
 terms : ℕ → (ℕ → ℕ) → (ℕ → ℕ) → ℕ → ℕ
 terms n x y e = sum_below n (λ i. sum_below n (λ j. cond (eqb (i + j) e) (x i * y j) 0))
 
-entry : (m n s t : ℕ) (x y : ℕ → ℕ) (e : ℕ) → ((i : ℕ) → i < n → x i ≤ s) → ((j : ℕ) → j < n → y j ≤ t) → n * (s * t) < m
+entry : (m n s t : ℕ) (x y : ℕ → ℕ) (e : ℕ) → ((i : ℕ) → i < n → x i ≤ s)
+    → ((j : ℕ) → j < n → y j ≤ t) → n * (s * t) < m
     → ((i j : ℕ) → i < n → j < n → n ≤ i + j → x i * y j ≡ 0) → cyclic_product m n x y e ≡ terms n x y e
 unfolding terms
 entry m n s t x y e few few_y small room =
-    let same = sum_below-same n (λ i. sum_below n (λ j. cond (eqb (i + j) e || eqb (i + j) (e + n)) (x i * y j) 0)) (λ i. sum_below n (λ j. cond (eqb (i + j) e) (x i * y j) 0))
-    (λ i l. sum_below-same n (λ j. cond (eqb (i + j) e || eqb (i + j) (e + n)) (x i * y j) 0) (λ j. cond (eqb (i + j) e) (x i * y j) 0)
+    let same = sum_below-same n (λ i. sum_below n (λ j. cond (eqb (i + j) e || eqb (i + j) (e + n)) (x i * y j) 0))
+    (λ i. sum_below n (λ j. cond (eqb (i + j) e) (x i * y j) 0))
+    (λ i l. sum_below-same n (λ j. cond (eqb (i + j) e || eqb (i + j) (e + n)) (x i * y j) 0)
+    (λ j. cond (eqb (i + j) e) (x i * y j) 0)
     (λ j k. one_place n i j e (x i * y j) (room i j l k))) in
     let below = sum_bounded n (s * t) (λ i. sum_below n (λ j. cond (eqb (i + j) e) (x i * y j) 0))
     (λ i l. row_bounded n i e (s * t) (λ j. x i * y j) (λ j k. mul-le-mul (few i l) (few_y j k))) in
@@ -103,24 +111,32 @@ spread n b i j v w room = elim (cases_lt (i + j) n) [
 factor_in : (s e c v : ℕ) → c * cond (eqb s e) v 0 ≡ cond (eqb s e) (c * v) 0
 factor_in s e c v = elim (eqb_tells s e) [ inl p ↦ rw p.0 (omega arith) | inr p ↦ rw p.0 (omega arith) ]
 
-placed : (n b e : ℕ) (x y : ℕ → ℕ) → terms n x y e * b ^ e ≡ sum_below n (λ i. sum_below n (λ j. cond (eqb (i + j) e) (b ^ e * (x i * y j)) 0))
+placed : (n b e : ℕ) (x y : ℕ → ℕ)
+    → terms n x y e * b ^ e ≡ sum_below n (λ i. sum_below n (λ j. cond (eqb (i + j) e) (b ^ e * (x i * y j)) 0))
 unfolding terms
 placed n b e x y =
     let t = λ (i j : ℕ). cond (eqb (i + j) e) (x i * y j) 0 in
-    let q : sum_below n (λ i. sum_below n (λ j. t i j)) * b ^ e ≡ b ^ e * sum_below n (λ i. sum_below n (λ j. t i j)) = omega arith in
+    let q : sum_below n (λ i. sum_below n (λ j. t i j)) * b ^ e ≡ b ^ e * sum_below n (λ i. sum_below n (λ j. t i j)) =
+    omega arith in
     q ∙ sym (scaled n n (b ^ e) t)
-    ∙ sum_below-same n (λ i. sum_below n (λ j. b ^ e * t i j)) (λ i. sum_below n (λ j. cond (eqb (i + j) e) (b ^ e * (x i * y j)) 0))
-    (λ i l. sum_below-same n (λ j. b ^ e * t i j) (λ j. cond (eqb (i + j) e) (b ^ e * (x i * y j)) 0) (λ j k. factor_in (i + j) e (b ^ e) (x i * y j)))
+    ∙ sum_below-same n (λ i. sum_below n (λ j. b ^ e * t i j))
+    (λ i. sum_below n (λ j. cond (eqb (i + j) e) (b ^ e * (x i * y j)) 0))
+    (λ i l. sum_below-same n (λ j. b ^ e * t i j) (λ j. cond (eqb (i + j) e) (b ^ e * (x i * y j)) 0)
+    (λ j k. factor_in (i + j) e (b ^ e) (x i * y j)))
 
 -- the entries are the coefficients of the product
-pub polynomial_product : {m : ℕ} (n b s t : ℕ) (x y : ℕ → ℕ) → ((i : ℕ) → i < n → x i ≤ s) → ((j : ℕ) → j < n → y j ≤ t) → n * (s * t) < m
+pub polynomial_product : {m : ℕ} (n b s t : ℕ) (x y : ℕ → ℕ) → ((i : ℕ) → i < n → x i ≤ s)
+    → ((j : ℕ) → j < n → y j ≤ t) → n * (s * t) < m
     → ((i j : ℕ) → i < n → j < n → n ≤ i + j → x i * y j ≡ 0)
-    → sum_below n (λ e. cyclic_product m n x y e * b ^ e) ≡ sum_below n (λ i. x i * b ^ i) * sum_below n (λ j. y j * b ^ j)
+    → sum_below n (λ e. cyclic_product m n x y e * b ^ e)
+    ≡ sum_below n (λ i. x i * b ^ i) * sum_below n (λ j. y j * b ^ j)
 polynomial_product {m} n b s t x y few few_y small room =
     let f = λ (i j e : ℕ). cond (eqb (i + j) e) (b ^ e * (x i * y j)) 0 in
     sum_below-same n (λ e. cyclic_product m n x y e * b ^ e) (λ e. sum_below n (λ i. sum_below n (λ j. f i j e)))
     (λ e l. ap (λ v. v * b ^ e) (entry m n s t x y e few few_y small room) ∙ placed n b e x y)
     ∙ moved n f
-    ∙ sum_below-same n (λ i. sum_below n (λ j. sum_below n (λ e. f i j e))) (λ i. sum_below n (λ j. (x i * b ^ i) * (y j * b ^ j)))
-    (λ i l. sum_below-same n (λ j. sum_below n (λ e. f i j e)) (λ j. (x i * b ^ i) * (y j * b ^ j)) (λ j k. spread n b i j (x i) (y j) (room i j l k)))
+    ∙ sum_below-same n (λ i. sum_below n (λ j. sum_below n (λ e. f i j e)))
+    (λ i. sum_below n (λ j. (x i * b ^ i) * (y j * b ^ j)))
+    (λ i l. sum_below-same n (λ j. sum_below n (λ e. f i j e)) (λ j. (x i * b ^ i) * (y j * b ^ j))
+    (λ j k. spread n b i j (x i) (y j) (room i j l k)))
     ∙ sym (sum_below-times_sum n n (λ i. x i * b ^ i) (λ j. y j * b ^ j))

@@ -1,5 +1,6 @@
 -- A power of two has one bit set, and its trailing zeros are its exponent.
-use Rattle.std.proofs.Common.{◌↔◌, ◌≡◌, ◌≢◌, ℕ, suc, zero, ◌%◌, ◌/◌, ◌^◌, ◌<◌, ◌≤◌, IsTrue, count_ones, inl, inr, sym, ◌∙◌, ap, refl, arith}
+use Rattle.std.proofs.Common.{◌↔◌, ◌≡◌, ◌≢◌, ℕ, suc, zero, ◌%◌, ◌/◌, ◌^◌, ◌<◌, ◌≤◌}
+use Rattle.std.proofs.Common.{IsTrue, count_ones, inl, inr, sym, ◌∙◌, ap, refl, arith}
 use Rattle.std.proofs.lemmas.Bool.{cases_eq}
 use Rattle.std.proofs.lemmas.Bool.Decides.{nat_tests}
 use Rattle.std.proofs.lemmas.Nat.{pow_pos, zero_from_ones, ones_le_self}
@@ -45,8 +46,10 @@ power_of_ones (suc fuel) n l h = elim (cases_eq (n % 2) 0) [
 -- the test of one bit is the test of a power of two
 pub power_of_two_tested : (n : ℕ) → IsTrue (is_power_of_two n) ↔ IsPowerOfTwo n
 power_of_two_tested n = (
-  λ (h : IsTrue (is_power_of_two n)). power_of_ones n n (omega arith) (let e : count_ones n ≡ 1 = grind (arith, nat_tests, h) in e),
-  λ (p : IsPowerOfTwo n). let e : count_ones n ≡ 1 = ap (λ v. count_ones v) p.1 ∙ ones_of_power p.0 in grind (arith, nat_tests, e),
+  λ (h : IsTrue (is_power_of_two n)).
+      power_of_ones n n (omega arith) (let e : count_ones n ≡ 1 = grind (arith, nat_tests, h) in e),
+  λ (p : IsPowerOfTwo n). let e : count_ones n ≡ 1 = ap (λ v. count_ones v) p.1 ∙ ones_of_power p.0 in
+      grind (arith, nat_tests, e),
 )
 
 -- a power of two tells its exponent by its trailing zeros

@@ -24,7 +24,8 @@ reordered_none n s old = record {
 }
 
 -- the pair of i is swapped
-pub reordered_swapped : {T : Type 0} (n i : ℕ) (s : ℕ → ℕ) (old new newer : ℕ → T) → IsExchange n s → i < n → i < s i → Swapped new newer i (s i) → ReorderedSoFar n i s old new → ReorderedSoFar n (i + 1) s old newer
+pub reordered_swapped : {T : Type 0} (n i : ℕ) (s : ℕ → ℕ) (old new newer : ℕ → T) → IsExchange n s → i < n → i < s i
+    → Swapped new newer i (s i) → ReorderedSoFar n i s old new → ReorderedSoFar n (i + 1) s old newer
 reordered_swapped n i s old new newer exchange li order swapped so_far =
     let lj = exchange.within i li in
     let back = exchange.twice i li in
@@ -53,7 +54,8 @@ reordered_swapped n i s old new newer exchange li order swapped so_far =
     }
 
 -- the pair of i was swapped before, or is i alone
-pub reordered_passed : {T : Type 0} (n i : ℕ) (s : ℕ → ℕ) (old new : ℕ → T) → IsExchange n s → i < n → s i ≤ i → ReorderedSoFar n i s old new → ReorderedSoFar n (i + 1) s old new
+pub reordered_passed : {T : Type 0} (n i : ℕ) (s : ℕ → ℕ) (old new : ℕ → T) → IsExchange n s → i < n → s i ≤ i
+    → ReorderedSoFar n i s old new → ReorderedSoFar n (i + 1) s old new
 reordered_passed n i s old new exchange li order so_far =
     let here : new i ≡ old (s i) = elim (cases_eq (s i) i) [
       | inl e ↦ so_far.kept i li (omega arith) (omega arith) ∙ ap old (sym e)
@@ -75,7 +77,8 @@ reordered_passed n i s old new exchange li order so_far =
       kept = λ k l a b. so_far.kept k l (omega arith) (omega arith);
     }
 
-pub reordered_all : {T : Type 0} (n i : ℕ) (s : ℕ → ℕ) (old new : ℕ → T) → n ≤ i → ReorderedSoFar n i s old new → (k : ℕ) → k < n → new k ≡ old (s k)
+pub reordered_all : {T : Type 0} (n i : ℕ) (s : ℕ → ℕ) (old new : ℕ → T) → n ≤ i → ReorderedSoFar n i s old new
+    → (k : ℕ) → k < n → new k ≡ old (s k)
 reordered_all n i s old new all so_far k l = so_far.done k l (inl (omega arith))
 
 pub bits_exchange : (bits n : ℕ) → n ≡ 2 ^ bits → IsExchange n (bits_reversed bits)

@@ -15,38 +15,46 @@ pub one_form : {T : Type 0} (number : T → ℕ) (form value : ℕ → ℕ → �
 one_form {T} number form value m n x is = let P = λ (f : T). IsForm form value m (number f) in All-replicate P n x is
 
 -- a start and its products with powers of w
-pub power_first : {form value : ℕ → ℕ → ℕ} {m f : ℕ} (w : ℕ) → IsForm form value m f → Represents form m f ((value m f * w ^ 0) % m)
+pub power_first : {form value : ℕ → ℕ → ℕ} {m f : ℕ} (w : ℕ) → IsForm form value m f
+    → Represents form m f ((value m f * w ^ 0) % m)
 power_first {form} {value} {m} {f} w is =
     let o : value m f * 1 ≡ value m f = omega arith in
     form_as is (sym (ap (λ v. (value m f * v) % m) (pow-zero w) ∙ ap (λ v. v % m) o ∙ mod-eq_of_lt is.below))
 
-pub power_next : {form value : ℕ → ℕ → ℕ} {width m f p : ℕ} (s w k : ℕ) → IsCanonical form value width m → Represents form m f ((s * w ^ k) % m)
+pub power_next : {form value : ℕ → ℕ → ℕ} {width m f p : ℕ} (s w k : ℕ) → IsCanonical form value width m
+    → Represents form m f ((s * w ^ k) % m)
     → Represents form m p ((value m f * w) % m) → Represents form m p ((s * w ^ (k + 1)) % m)
 power_next {form} {value} {width} {m} {f} {p} s w k canonical is next =
     let e : s * w ^ k * w ≡ s * (w ^ k * w) = omega arith in
     let q : w ^ k * w ≡ w ^ (k + 1) = ap (λ v. w ^ k * v) (sym (pow-one w)) ∙ sym (pow-add w k 1) in
     subst (Represents form m p)
-    (ap (λ v. (v * w) % m) (canonical.one_value _ _ is) ∙ mul-mod_first (s * w ^ k) w m ∙ ap (λ v. v % m) (e ∙ ap (λ v. s * v) q))
+    (ap (λ v. (v * w) % m) (canonical.one_value _ _ is) ∙ mul-mod_first (s * w ^ k) w m
+    ∙ ap (λ v. v % m) (e ∙ ap (λ v. s * v) q))
     next
 
 -- the powers of the strip from a column on
-pub strip_power : {m p : ℕ} (w column width : ℕ) (v : ℕ → ℕ) → ((k : ℕ) → k < width → v k ≡ (p * w ^ k) % m) → Congruent m p (w ^ column)
+pub strip_power : {m p : ℕ} (w column width : ℕ) (v : ℕ → ℕ)
+    → ((k : ℕ) → k < width → v k ≡ (p * w ^ k) % m) → Congruent m p (w ^ column)
     → (i : ℕ) → column ≤ i → i < column + width → Congruent m (v (i - column)) (w ^ i)
 strip_power {m} {p} w column width v holds is i l k =
     let e : column + (i - column) ≡ i = omega arith in
     chained (of_equal (holds (i - column) (omega arith)))
     (chained (residue_of (p * w ^ (i - column)))
-    (chained (multiplied is (itself (w ^ (i - column)))) (of_equal (sym (pow-add w column (i - column)) ∙ ap (λ n. w ^ n) e))))
+    (chained (multiplied is (itself (w ^ (i - column))))
+    (of_equal (sym (pow-add w column (i - column)) ∙ ap (λ n. w ^ n) e))))
 
 -- the running power of the strip after it
 pub strip_next : {form value : ℕ → ℕ → ℕ} {width m f p : ℕ} (w column count : ℕ) → IsCanonical form value width m
-    → Represents form m f ((p * w ^ count) % m) → Congruent m p (w ^ column) → Congruent m (value m f) (w ^ (column + count))
+    → Represents form m f ((p * w ^ count) % m) → Congruent m p (w ^ column)
+    → Congruent m (value m f) (w ^ (column + count))
 strip_next {form} {value} {width} {m} {f} {p} w column count canonical next is =
     chained (of_equal (canonical.one_value _ _ next))
-    (chained (residue_of (p * w ^ count)) (chained (multiplied is (itself (w ^ count))) (of_equal (sym (pow-add w column count)))))
+    (chained (residue_of (p * w ^ count))
+    (chained (multiplied is (itself (w ^ count))) (of_equal (sym (pow-add w column count)))))
 
 -- the first running power is 1
-pub first_power : {form value : ℕ → ℕ → ℕ} {width m f one : ℕ} (w : ℕ) → IsCanonical form value width m → one ≡ 1 → Represents form m f (one % m)
+pub first_power : {form value : ℕ → ℕ → ℕ} {width m f one : ℕ} (w : ℕ) → IsCanonical form value width m → one ≡ 1
+    → Represents form m f (one % m)
     → Congruent m (value m f) (w ^ 0)
 first_power {form} {value} {width} {m} {f} {one} w canonical is_one is =
     chained (of_equal (canonical.one_value _ _ is)) (chained (residue_of one) (of_equal (is_one ∙ sym (pow-zero w))))

@@ -1,5 +1,6 @@
 -- The whole transform: its sizes, its root, its count, and its end.
-use Rattle.std.proofs.Common.{◌↔◌, ◌≡◌, ℕ, suc, zero, ◌+◌, ◌-◌, ◌*◌, ◌%◌, ◌/◌, ◌^◌, ◌<◌, ◌≤◌, List, length, get_or, All, sym, ◌∙◌, ap, refl, arith, subst}
+use Rattle.std.proofs.Common.{◌↔◌, ◌≡◌, ℕ, suc, zero, ◌+◌, ◌-◌, ◌*◌, ◌%◌, ◌/◌, ◌^◌, ◌<◌, ◌≤◌}
+use Rattle.std.proofs.Common.{List, length, get_or, All, sym, ◌∙◌, ap, refl, arith, subst}
 use Rattle.std.proofs.lemmas.Nat.{pow-add, pow_pos}
 use Rattle.std.proofs.Math.Nat.{two-pow-succ, zero-mod, mul-le-mul_right}
 use Rattle.std.specs.Int.{trailing_zeros, w64}
@@ -30,14 +31,16 @@ pub record StageSizes (z t n half blocks : ℕ) : Type 0 where
   pub some : 0 < blocks
   pub more : 2 ^ (t + 1) ≡ blocks * 2
 
-pub stage_sizes : (z t n half blocks : ℕ) → t < z → n ≡ 2 ^ z → half ≡ 2 ^ (z - t) / 2 → blocks ≡ 2 ^ t → StageSizes z t n half blocks
+pub stage_sizes : (z t n half blocks : ℕ) → t < z → n ≡ 2 ^ z → half ≡ 2 ^ (z - t) / 2 → blocks ≡ 2 ^ t
+    → StageSizes z t n half blocks
 stage_sizes z t n half blocks l whole is_half is_blocks =
     let u = z - (t + 1) in
     let s : z - t ≡ suc u = omega arith in
     let now = ap (λ k. 2 ^ k) s ∙ two-pow-succ u in
     let next : 2 ^ u ≡ half = omega (arith, now) in
     let a : z ≡ t + suc u = omega arith in
-    let w = whole ∙ ap (λ k. 2 ^ k) a ∙ pow-add 2 t (suc u) ∙ ap (λ v. v * 2 ^ suc u) (sym is_blocks) ∙ ap (λ v. blocks * v) (two-pow-succ u ∙ ap (λ v. v + v) next) in
+    let w = whole ∙ ap (λ k. 2 ^ k) a ∙ pow-add 2 t (suc u) ∙ ap (λ v. v * 2 ^ suc u) (sym is_blocks)
+    ∙ ap (λ v. blocks * v) (two-pow-succ u ∙ ap (λ v. v + v) next) in
     let t1 : t + 1 ≡ suc t = omega arith in
     let m = ap (λ k. 2 ^ k) t1 ∙ two-pow-succ t in
     record {
@@ -49,34 +52,42 @@ stage_sizes z t n half blocks l whole is_half is_blocks =
     }
 
 -- g to the half of n, by stages
-pub stage_half_turn : {m : ℕ} (g z t n half blocks : ℕ) → StageSizes z t n half blocks → blocks ≡ 2 ^ t → 0 < half → Suits m g n → IsMinusOne m ((g ^ (2 ^ t)) ^ half)
+pub stage_half_turn : {m : ℕ} (g z t n half blocks : ℕ) → StageSizes z t n half blocks → blocks ≡ 2 ^ t → 0 < half
+    → Suits m g n → IsMinusOne m ((g ^ (2 ^ t)) ^ half)
 stage_half_turn {m} g z t n half blocks sizes is_blocks some suits =
     let w = sizes.whole in
     let p = sizes.some in
     let b = mul-le-mul_right (half + half) p in
     let l : 1 < n = omega (arith, w, b) in
     let e : n / 2 ≡ blocks * half = omega (arith, w) in
-    let f : g ^ (n / 2) ≡ (g ^ (2 ^ t)) ^ half = ap (λ v. g ^ v) (e ∙ ap (λ v. v * half) is_blocks) ∙ pow-mul g (2 ^ t) half in
+    let f : g ^ (n / 2) ≡ (g ^ (2 ^ t)) ^ half =
+    ap (λ v. g ^ v) (e ∙ ap (λ v. v * half) is_blocks) ∙ pow-mul g (2 ^ t) half in
     same_minus_one f (record { and_one = record { same = suits.half_turn l ∙ sym (zero-mod m) } })
 
 -- the root of the next stage
-pub root_more : {m : ℕ} (g t v w : ℕ) → Congruent m v (g ^ (2 ^ t)) → w ≡ (v * v) % m → Congruent m w (g ^ (2 ^ (t + 1)))
+pub root_more : {m : ℕ} (g t v w : ℕ) → Congruent m v (g ^ (2 ^ t)) → w ≡ (v * v) % m
+    → Congruent m w (g ^ (2 ^ (t + 1)))
 root_more g t v w is e =
     let s : suc t ≡ t + 1 = omega arith in
-    chained (of_equal e) (chained (residue_of (v * v)) (chained (multiplied is is) (of_equal (root_squared g t ∙ ap (λ k. g ^ (2 ^ k)) s))))
+    chained (of_equal e)
+    (chained (residue_of (v * v)) (chained (multiplied is is) (of_equal (root_squared g t ∙ ap (λ k. g ^ (2 ^ k)) s))))
 
 -- one stage of the loop
-pub blocks_more : {m : ℕ} (g z t n half blocks v : ℕ) (x y w : ℕ → ℕ) → StageSizes z t n half blocks → blocks ≡ 2 ^ t → 0 < half → Suits m g n → Congruent m v (g ^ (2 ^ t))
-    → BlocksTransform m g n t (2 ^ (z - t)) x y → IsStage m v half blocks y w → BlocksTransform m g n (t + 1) (2 ^ (z - (t + 1))) x w
+pub blocks_more : {m : ℕ} (g z t n half blocks v : ℕ) (x y w : ℕ → ℕ) → StageSizes z t n half blocks → blocks ≡ 2 ^ t
+    → 0 < half → Suits m g n → Congruent m v (g ^ (2 ^ t))
+    → BlocksTransform m g n t (2 ^ (z - t)) x y → IsStage m v half blocks y w
+    → BlocksTransform m g n (t + 1) (2 ^ (z - (t + 1))) x w
 blocks_more {m} g z t n half blocks v x y w sizes is_blocks some suits root before stage =
     let s : suc t ≡ t + 1 = omega arith in
     let b = subst (λ k. BlocksTransform m g n t k x y) sizes.now before in
     let st = subst (λ k. IsStage m (g ^ (2 ^ t)) half k y w) is_blocks (stage_by y w root stage) in
     let after = stages_more g n t half x y w (stage_half_turn g z t n half blocks sizes is_blocks some suits) b st in
-    subst (λ k. BlocksTransform m g n (t + 1) k x w) (sym sizes.next) (subst (λ k. BlocksTransform m g n k half x w) s after)
+    subst (λ k. BlocksTransform m g n (t + 1) k x w) (sym sizes.next)
+    (subst (λ k. BlocksTransform m g n k half x w) s after)
 
 -- the products of the stages so far
-pub products_more : (z t n half blocks products more : ℕ) → StageSizes z t n half blocks → products + 2 ^ (z - t) ≡ t * (n / 2) + n + t → more ≡ half * (blocks + 1)
+pub products_more : (z t n half blocks products more : ℕ) → StageSizes z t n half blocks
+    → products + 2 ^ (z - t) ≡ t * (n / 2) + n + t → more ≡ half * (blocks + 1)
     → products + more + 1 + 2 ^ (z - (t + 1)) ≡ (t + 1) * (n / 2) + n + (t + 1)
 products_more z t n half blocks products more sizes before is =
     let w = sizes.whole in
@@ -107,13 +118,15 @@ plain_order number form value m g n z x forms new whole len len_new checked bloc
 }
 
 -- after the last stage
-pub blocks_all : {m : ℕ} (g z t n : ℕ) (x y : ℕ → ℕ) → z ≤ t → t ≤ z → BlocksTransform m g n t (2 ^ (z - t)) x y → BlocksTransform m g n z 1 x y
+pub blocks_all : {m : ℕ} (g z t n : ℕ) (x y : ℕ → ℕ) → z ≤ t → t ≤ z → BlocksTransform m g n t (2 ^ (z - t)) x y
+    → BlocksTransform m g n z 1 x y
 blocks_all {m} g z t n x y a b blocks =
     let e : t ≡ z = omega arith in
     let o : z - t ≡ 0 = omega arith in
     subst (λ k. BlocksTransform m g n k 1 x y) e (subst (λ k. BlocksTransform m g n t (2 ^ k) x y) o blocks)
 
-pub products_all : (z t n products : ℕ) → z ≤ t → t ≤ z → n ≡ 2 ^ z → products + 2 ^ (z - t) ≡ t * (n / 2) + n + t → products ≡ n * z / 2 + n - 1 + z
+pub products_all : (z t n products : ℕ) → z ≤ t → t ≤ z → n ≡ 2 ^ z → products + 2 ^ (z - t) ≡ t * (n / 2) + n + t
+    → products ≡ n * z / 2 + n - 1 + z
 products_all zero t n products a b whole count =
     let e : t ≡ 0 = omega arith in
     let te = ap (λ v. v * (n / 2)) e in
@@ -142,7 +155,8 @@ suits_one {m} {g} {n} one = record {
 }
 
 -- .. and beyond one entry that 1 added to the power is 0
-pub suits_tested : {m : ℕ} (g n z t v one o s : ℕ) → n ≡ 2 ^ z → 0 < z → t ≡ z - 1 → Congruent m v (g ^ (2 ^ t)) → one ≡ 1
+pub suits_tested : {m : ℕ} (g n z t v one o s : ℕ) → n ≡ 2 ^ z → 0 < z → t ≡ z - 1
+    → Congruent m v (g ^ (2 ^ t)) → one ≡ 1
     → o ≡ one % m → s ≡ (v + o) % m → (s ≡ 0) ↔ Suits m g n
 suits_tested {m} g n z t v one o s whole some is_t power is_one is_o is_s =
     let e : z ≡ suc t = omega arith in
@@ -150,5 +164,7 @@ suits_tested {m} g n z t v one o s whole some is_t power is_one is_o is_s =
     let h : n / 2 ≡ 2 ^ t = omega (arith, d) in
     let o1 : Congruent m o 1 = chained (of_equal is_o) (chained (residue_of one) (of_equal is_one)) in
     let same : s ≡ (g ^ (n / 2) + 1) % m = is_s ∙ (added power o1).same ∙ ap (λ k. (g ^ k + 1) % m) (sym h) in
-    let p = pow_pos t in
-    (λ zero. record { power_of_two = (z, whole); half_turn = λ l. sym same ∙ zero }, λ suits. same ∙ suits.half_turn (omega (arith, d, p)))
+    let p = pow_pos t in (
+      λ zero. record { power_of_two = (z, whole); half_turn = λ l. sym same ∙ zero },
+      λ suits. same ∙ suits.half_turn (omega (arith, d, p)),
+    )

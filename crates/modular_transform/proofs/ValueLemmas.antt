@@ -1,5 +1,6 @@
 -- A list of forms as the function from places to values: what is read and what is written.
-use Rattle.std.proofs.Common.{◌≡◌, ◌≢◌, ℕ, ◌+◌, ◌*◌, ◌%◌, ◌<◌, ◌≤◌, List, [], ◌∷◌, length, map, get_or, All, pos, ◌-ℤ◌, inl, inr, sym, ◌∙◌, ap, arith, subst, get_or-set_same, get_or-set_other}
+use Rattle.std.proofs.Common.{◌≡◌, ◌≢◌, ℕ, ◌+◌, ◌*◌, ◌%◌, ◌<◌, ◌≤◌, List, [], ◌∷◌, length, map, get_or, All, pos}
+use Rattle.std.proofs.Common.{◌-ℤ◌, inl, inr, sym, ◌∙◌, ap, arith, subst, get_or-set_same, get_or-set_other}
 use Rattle.std.proofs.Math.ListN.{set, length-set}
 use Rattle.std.proofs.Math.Nat.{add-mod_right}
 use Rattle.std.proofs.lemmas.Bool.{cases_lt, cases_eq}
@@ -33,7 +34,8 @@ pub values-set_same : {T : Type 0} (number : T → ℕ) (value : ℕ → ℕ →
     → i < length forms → values number value m (set forms i x) i ≡ value m (number x)
 values-set_same number value m forms i x below =
     let l : i < length (set forms i x) = subst (λ n. i < n) (sym (length-set forms i x)) below in
-    sym (value_at number value m (set forms i x) i x l) ∙ ap (λ f. value m (number f)) (get_or-set_same forms i x x below)
+    sym (value_at number value m (set forms i x) i x l)
+    ∙ ap (λ f. value m (number f)) (get_or-set_same forms i x x below)
 
 -- .. and every other
 pub values-set_other : {T : Type 0} (number : T → ℕ) (value : ℕ → ℕ → ℕ) (m : ℕ) (forms : List T) (i j : ℕ) (x : T)
@@ -43,7 +45,8 @@ values-set_other number value m forms i j x ne =
     ∙ get_or-set_other (map (λ f. value m (number f)) forms) i j (value m (number x)) 0 ne
 
 -- a form is written
-pub forms_written : {T : Type 0} (number : T → ℕ) (form value : ℕ → ℕ → ℕ) (width m : ℕ) (forms : List T) (i v : ℕ) (f : T)
+pub forms_written : {T : Type 0} (number : T → ℕ) (form value : ℕ → ℕ → ℕ) (width m : ℕ)
+    (forms : List T) (i v : ℕ) (f : T)
     → IsCanonical form value width m → Represents form m (number f) v → All (λ f. IsForm form value m (number f)) forms
     → All (λ f. IsForm form value m (number f)) (set forms i f)
 forms_written number form value width m forms i v f canonical is all =
@@ -78,41 +81,53 @@ pair_of {m} a b power sum difference la lb is_sum is_difference =
     }
 
 -- what a pair writes
-pub pair_written : {T : Type 0} (number : T → ℕ) (form value : ℕ → ℕ → ℕ) (width m : ℕ) (forms : List T) (low high : ℕ) (a b sum product : T) (power : ℕ)
+pub pair_written : {T : Type 0} (number : T → ℕ) (form value : ℕ → ℕ → ℕ) (width m : ℕ) (forms : List T) (low high : ℕ)
+    (a b sum product : T) (power : ℕ)
     → IsCanonical form value width m → All (λ f. IsForm form value m (number f)) forms
     → low < high → high < length forms → a ≡ get_or forms low a → b ≡ get_or forms high b
     → Represents form m (number sum) ((value m (number a) + value m (number b)) % m)
-    → Represents form m (number product) ((residue m (pos (value m (number a)) -ℤ pos (value m (number b))) * power) % m)
-    → PairDone m power low high (values number value m forms) (values number value m (set (set forms high product) low sum))
-pair_written number form value width m forms low high a b sum product power canonical all order within read_a read_b is_sum is_product =
+    → Represents form m (number product)
+    ((residue m (pos (value m (number a)) -ℤ pos (value m (number b))) * power) % m)
+    → PairDone m power low high (values number value m forms)
+    (values number value m (set (set forms high product) low sum))
+pair_written number form value width m forms low high a b sum product power canonical all order within
+    read_a read_b is_sum is_product =
     let x = values number value m forms in
     let y = values number value m (set (set forms high product) low sum) in
     let l : low < length forms = omega arith in
-    let is_a : IsForm form value m (number a) = subst (λ f. IsForm form value m (number f)) (sym read_a) (all low a l) in
-    let is_b : IsForm form value m (number b) = subst (λ f. IsForm form value m (number f)) (sym read_b) (all high b within) in
+    let is_a : IsForm form value m (number a) =
+    subst (λ f. IsForm form value m (number f)) (sym read_a) (all low a l) in
+    let is_b : IsForm form value m (number b) =
+    subst (λ f. IsForm form value m (number f)) (sym read_b) (all high b within) in
     let ls : low < length (set forms high product) = subst (λ n. low < n) (sym (length-set forms high product)) l in
     let va : value m (number a) ≡ x low = value_read number value m forms low a l read_a in
     let vb : value m (number b) ≡ x high = value_read number value m forms high b within read_b in
     let ne : high ≢ low = omega arith in
     let at_low : y low ≡ value m (number sum) = values-set_same number value m (set forms high product) low sum ls in
-    let at_high : y high ≡ value m (number product) = values-set_other number value m (set forms high product) low high sum ne ∙ values-set_same number value m forms high product within in
+    let at_high : y high ≡ value m (number product) = values-set_other number value m
+    (set forms high product) low high sum ne ∙ values-set_same number value m forms high product within in
     let done = pair_of (value m (number a)) (value m (number b)) power (y low) (y high) is_a.below is_b.below
     (at_low ∙ canonical.one_value _ _ is_sum) (at_high ∙ canonical.one_value _ _ is_product) in
     record {
-      pair = subst (λ v. IsPair m power v (x high) (y low) (y high)) va (subst (λ v. IsPair m power (value m (number a)) v (y low) (y high)) vb done);
-      kept = λ i nl nh. values-set_other number value m (set forms high product) low i sum nl ∙ values-set_other number value m forms high i product nh;
+      pair = subst (λ v. IsPair m power v (x high) (y low) (y high)) va
+          (subst (λ v. IsPair m power (value m (number a)) v (y low) (y high)) vb done);
+      kept = λ i nl nh. values-set_other number value m (set forms high product) low i sum nl
+          ∙ values-set_other number value m forms high i product nh;
     }
 
 -- a loop that writes entry after entry
-pub entry_done : {T : Type 0} (number : T → ℕ) (value : ℕ → ℕ → ℕ) (m : ℕ) (forms : List T) (i : ℕ) (f : T) (target : ℕ → ℕ)
+pub entry_done : {T : Type 0} (number : T → ℕ) (value : ℕ → ℕ → ℕ) (m : ℕ) (forms : List T)
+    (i : ℕ) (f : T) (target : ℕ → ℕ)
     → i < length forms → ((k : ℕ) → k < i → values number value m forms k ≡ target k) → value m (number f) ≡ target i
     → (k : ℕ) → k < i + 1 → values number value m (set forms i f) k ≡ target k
 entry_done number value m forms i f target within before is k l = elim (cases_eq k i) [
-  | inl e ↦ ap (values number value m (set forms i f)) e ∙ values-set_same number value m forms i f within ∙ is ∙ ap target (sym e)
+  | inl e ↦ ap (values number value m (set forms i f)) e ∙ values-set_same number value m forms i f within ∙ is
+      ∙ ap target (sym e)
   | inr n ↦ values-set_other number value m forms i k f n ∙ before k (omega arith)
 ]
 
-pub entry_kept : {T : Type 0} (number : T → ℕ) (value : ℕ → ℕ → ℕ) (m : ℕ) (forms : List T) (i : ℕ) (f : T) (old : ℕ → ℕ)
+pub entry_kept : {T : Type 0} (number : T → ℕ) (value : ℕ → ℕ → ℕ) (m : ℕ)
+    (forms : List T) (i : ℕ) (f : T) (old : ℕ → ℕ)
     → ((k : ℕ) → i ≤ k → values number value m forms k ≡ old k)
     → (k : ℕ) → i + 1 ≤ k → values number value m (set forms i f) k ≡ old k
 entry_kept number value m forms i f old before k l =
@@ -120,12 +135,15 @@ entry_kept number value m forms i f old before k l =
     values-set_other number value m forms i k f n ∙ before k (omega arith)
 
 -- the value at a place of a list that holds values
-pub held_value : {T : Type 0} (number : T → ℕ) (form value : ℕ → ℕ → ℕ) (width m : ℕ) (forms : List T) (v : ℕ → ℕ) (i : ℕ)
-    → IsCanonical form value width m → HoldValues number form m forms v → i < length forms → values number value m forms i ≡ v i
+pub held_value : {T : Type 0} (number : T → ℕ) (form value : ℕ → ℕ → ℕ) (width m : ℕ)
+    (forms : List T) (v : ℕ → ℕ) (i : ℕ)
+    → IsCanonical form value width m → HoldValues number form m forms v → i < length forms
+    → values number value m forms i ≡ v i
 held_value number form value width m [] v i canonical holds l = absurd (omega arith)
 held_value number form value width m (x ∷ xs) v i canonical holds l =
     sym (value_at number value m (x ∷ xs) i x l) ∙ canonical.one_value _ _ (holds.each i x l)
 
 pub held_forms : {T : Type 0} (number : T → ℕ) (form value : ℕ → ℕ → ℕ) (width m : ℕ) (forms : List T) (v : ℕ → ℕ)
-    → IsCanonical form value width m → HoldValues number form m forms v → All (λ f. IsForm form value m (number f)) forms
+    → IsCanonical form value width m → HoldValues number form m forms v
+    → All (λ f. IsForm form value m (number f)) forms
 held_forms number form value width m forms v canonical holds i d l = form_of_value canonical (holds.each i d l)

@@ -21,7 +21,8 @@ pub record PairDone (m power first second : ℕ) (x y : ℕ → ℕ) : Type 0 wh
   pub pair : IsPair m power (x first) (x second) (y first) (y second)
   pub kept : (k : ℕ) → k ≢ first → k ≢ second → y k ≡ x k
 
--- from the values x to the values y, the pairs of the blocks from a to b - 1 in the columns from c to d - 1 are done and no others
+-- from the values x to the values y, the pairs of the blocks from
+-- a to b - 1 in the columns from c to d - 1 are done and no others
 pub record PairsDone (m : ℕ) (power : ℕ → ℕ) (h a b c d : ℕ) (x y : ℕ → ℕ) : Type 0 where
   pub pairs : (p i : ℕ) → a ≤ p → p < b → c ≤ i → i < d
       → IsPair m (power i) (x (low h p i)) (x (high h p i)) (y (low h p i)) (y (high h p i))

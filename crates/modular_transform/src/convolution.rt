@@ -20,7 +20,8 @@ fn multiply_each<T: RingWord, R: Reducer<T>>(r: &R, xs: &mut [T], ys: &[T])
     requires equal { length xs.old ≡ length ys.now }
     ensures entries { let m = R.modulus r.now in
         HoldValues T.number R.form m xs.new
-        (λ i. (slice_index (values_of T.number R.value m xs.old) i * slice_index (values_of T.number R.value m ys.now) i) % m) }
+        (λ i. (slice_index (values_of T.number R.value m xs.old) i
+        * slice_index (values_of T.number R.value m ys.now) i) % m) }
     ensures checked { All (λ f. IsForm R.form R.value (R.modulus r.now) (T.number f)) xs.new }
 {
     'entries: for i in 0..xs.len() {
@@ -69,12 +70,14 @@ fn multiply<T: RingWord, R: Reducer<T>>(r: &R, xs: &mut [T], ys: &mut [T], g: &T
     requires inverse { let m = R.modulus r.now in IsInverse m (length xs.old) (R.value m (T.number part.now)) }
     ensures product { let m = R.modulus r.now in
         HoldValues T.number R.form m xs.new
-        (cyclic_product m (length xs.old) (slice_index (values_of T.number R.value m xs.old)) (slice_index (values_of T.number R.value m ys.old))) }
+        (cyclic_product m (length xs.old) (slice_index (values_of T.number R.value m xs.old))
+        (slice_index (values_of T.number R.value m ys.old))) }
     ensures transformed { let m = R.modulus r.now in
         HoldValues T.number R.form m ys.new
         (transform m (R.value m (T.number g.now)) (length xs.old) (slice_index (values_of T.number R.value m ys.old))) }
     ensures checked { let m = R.modulus r.now in
-        All (λ f. IsForm R.form R.value m (T.number f)) xs.new × All (λ f. IsForm R.form R.value m (T.number f)) ys.new }
+        All (λ f. IsForm R.form R.value m (T.number f)) xs.new
+        × All (λ f. IsForm R.form R.value m (T.number f)) ys.new }
 {
     ntt(r, xs, g);
     ntt(r, ys, g);
@@ -102,18 +105,22 @@ pub fn convolve<T: RingWord, R: Reducer<T>>(r: &R, xs: &mut [T], ys: &mut [T], g
     ensures unchanged { (IsTrue result → ⊥) → (xs.new ≡ xs.old) × (ys.new ≡ ys.old) }
     ensures product { let m = R.modulus r.now in
         IsTrue result → HoldValues T.number R.form m xs.new
-        (cyclic_product m (length xs.old) (slice_index (values_of T.number R.value m xs.old)) (slice_index (values_of T.number R.value m ys.old))) }
+        (cyclic_product m (length xs.old) (slice_index (values_of T.number R.value m xs.old))
+        (slice_index (values_of T.number R.value m ys.old))) }
     ensures transformed { let m = R.modulus r.now in
         IsTrue result → HoldValues T.number R.form m ys.new
         (transform m (R.value m (T.number g.now)) (length xs.old) (slice_index (values_of T.number R.value m ys.old))) }
     ensures values { let m = R.modulus r.now in
         IsTrue result → (e : ℕ) → e < length xs.old → slice_index (values_of T.number R.value m xs.new) e
-        ≡ cyclic_product m (length xs.old) (slice_index (values_of T.number R.value m xs.old)) (slice_index (values_of T.number R.value m ys.old)) e }
+        ≡ cyclic_product m (length xs.old) (slice_index (values_of T.number R.value m xs.old))
+        (slice_index (values_of T.number R.value m ys.old)) e }
     ensures transformed_values { let m = R.modulus r.now in
         IsTrue result → (j : ℕ) → j < length xs.old → slice_index (values_of T.number R.value m ys.new) j
-        ≡ transform m (R.value m (T.number g.now)) (length xs.old) (slice_index (values_of T.number R.value m ys.old)) j }
+        ≡ transform m (R.value m (T.number g.now)) (length xs.old)
+        (slice_index (values_of T.number R.value m ys.old)) j }
     ensures checked { let m = R.modulus r.now in
-        All (λ f. IsForm R.form R.value m (T.number f)) xs.new × All (λ f. IsForm R.form R.value m (T.number f)) ys.new }
+        All (λ f. IsForm R.form R.value m (T.number f)) xs.new
+        × All (λ f. IsForm R.form R.value m (T.number f)) ys.new }
 {
     let length = length_form(r, xs.len());
     match r.inv(length) {

@@ -1,7 +1,8 @@
 //! The definitions of `specs/` as programs: plain and slow, each with the definition for its contract.
 //! They are what the tests compare the fast calls with, and nothing of the library stands on them.
 
-ghost use Rattle.std.specs.Prelude.{◌≡◌, ◌+◌, ◌*◌, ◌^◌, ◌%◌, ◌≤◌, ◌<◌, ◌↔◌, ◌==◌, ◌||◌, if◌then◌else◌, IsTrue, length, slice_index};
+ghost use Rattle.std.specs.Prelude.{◌≡◌, ◌+◌, ◌*◌, ◌^◌, ◌%◌, ◌≤◌, ◌<◌, ◌↔◌, ◌==◌};
+ghost use Rattle.std.specs.Prelude.{◌||◌, if◌then◌else◌, IsTrue, length, slice_index};
 ghost use Rattle.modular_word.specs.Sums.{sum_below};
 ghost use Rattle.modular_transform.specs.Transforms.{Suits, transform, cyclic_product};
 
@@ -57,7 +58,8 @@ fn row_sum(m: u64, x: u64, i: usize, ys: &[u64], e: usize) -> u64
     requires modulus { 1 ≤ m }
     requires place { i < length ys.now }
     requires entry { e < length ys.now }
-    ensures { result ≡ sum_below (length ys.now) (λ j. if (i + j == e) || (i + j == e + length ys.now) then x * slice_index ys.now j else 0) % m }
+    ensures { result ≡ sum_below (length ys.now)
+        (λ j. if (i + j == e) || (i + j == e + length ys.now) then x * slice_index ys.now j else 0) % m }
 {
     let mut sum = 0;
     'terms: for j in 0..ys.len() {

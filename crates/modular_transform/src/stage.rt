@@ -20,7 +20,8 @@ fn weighted_difference<T: RingWord, R: Reducer<T>>(r: &R, a: &T, b: &T, power: &
     requires power { IsForm R.form R.value (R.modulus r.now) (T.number power.now) }
     ensures { let m = R.modulus r.now in
         Represents R.form m (T.number result)
-        ((residue m (pos (R.value m (T.number a.now)) -ℤ pos (R.value m (T.number b.now))) * R.value m (T.number power.now)) % m) }
+        ((residue m (pos (R.value m (T.number a.now)) -ℤ pos (R.value m (T.number b.now)))
+        * R.value m (T.number power.now)) % m) }
 {
     let difference = r.sub(a, b);
     r.mul(&difference, power)
@@ -49,7 +50,8 @@ fn advance<T: RingWord, R: Reducer<T>>(r: &R, running: &mut T, root: &T) -> T
     requires root { IsForm R.form R.value (R.modulus r.now) (T.number root.now) }
     ensures last { result ≡ running.old }
     ensures next { let m = R.modulus r.now in
-        Represents R.form m (T.number running.new) ((R.value m (T.number running.old) * R.value m (T.number root.now)) % m) }
+        Represents R.form m (T.number running.new)
+        ((R.value m (T.number running.old) * R.value m (T.number root.now)) % m) }
 {
     let last = *running;
     *running = r.mul(&last, root);

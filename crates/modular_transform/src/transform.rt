@@ -43,7 +43,8 @@ pub fn ntt_counted<T: RingWord, R: Reducer<T>>(r: &R, xs: &mut [T], g: &T) -> u1
         (transform m (R.value m (T.number g.now)) (length xs.old) (slice_index (values_of T.number R.value m xs.old))) }
     ensures values { let m = R.modulus r.now in
         (j : ℕ) → j < length xs.old → slice_index (values_of T.number R.value m xs.new) j
-        ≡ transform m (R.value m (T.number g.now)) (length xs.old) (slice_index (values_of T.number R.value m xs.old)) j }
+        ≡ transform m (R.value m (T.number g.now)) (length xs.old)
+        (slice_index (values_of T.number R.value m xs.old)) j }
     ensures checked { All (λ f. IsForm R.form R.value (R.modulus r.now) (T.number f)) xs.new }
     ensures count { (z : ℕ) → length xs.old ≡ 2 ^ z → result ≡ length xs.old * z / 2 + length xs.old - 1 + z }
 {
@@ -79,7 +80,8 @@ pub fn ntt<T: RingWord, R: Reducer<T>>(r: &R, xs: &mut [T], g: &T)
         (transform m (R.value m (T.number g.now)) (length xs.old) (slice_index (values_of T.number R.value m xs.old))) }
     ensures values { let m = R.modulus r.now in
         (j : ℕ) → j < length xs.old → slice_index (values_of T.number R.value m xs.new) j
-        ≡ transform m (R.value m (T.number g.now)) (length xs.old) (slice_index (values_of T.number R.value m xs.old)) j }
+        ≡ transform m (R.value m (T.number g.now)) (length xs.old)
+        (slice_index (values_of T.number R.value m xs.old)) j }
     ensures checked { All (λ f. IsForm R.form R.value (R.modulus r.now) (T.number f)) xs.new }
 {
     let _products = ntt_counted(r, xs, g);

@@ -1,7 +1,8 @@
 -- Congruence: numbers that leave the same remainder modulo m.
 -- First by equal remainders, then by the relation `Congruent`.
 use Rattle.std.proofs.Common.{◌≡◌, ℕ, suc, zero, ◌^◌, ◌+◌, ◌-◌, ◌*◌, ◌/◌, ◌%◌, ◌<◌, sym, ap, ◌∙◌, arith, refl}
-use Rattle.std.proofs.Math.Nat.{add-mod, mod-add-mod, mod-mod, mod-zero, mod-lt, mod-eq_of_lt, mod-mod_of_dvd, dvd-mul_left, dvd-mul_right, div-add-mod, add-mul-mod_self_left, mul-div_cancel_left}
+use Rattle.std.proofs.Math.Nat.{add-mod, mod-add-mod, mod-mod, mod-zero, mod-lt, mod-eq_of_lt, mod-mod_of_dvd}
+use Rattle.std.proofs.Math.Nat.{dvd-mul_left, dvd-mul_right, div-add-mod, add-mul-mod_self_left, mul-div_cancel_left}
 use Rattle.std.proofs.lemmas.Nat.{mul-mod, pow-mod}
 use Rattle.modular_word.specs.Congruence.{Congruent}
 

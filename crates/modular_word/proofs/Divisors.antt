@@ -1,8 +1,10 @@
 -- Common divisors: Euclid's lemma, and where an inverse exists. That d divides n is written n % d ≡ 0.
-use Rattle.std.proofs.Common.{◌↔◌, ◌≢◌, ◌≡◌, ℕ, zero, suc, ◌+◌, ◌-◌, ◌*◌, ◌%◌, ◌/◌, ◌<◌, ◌≤◌, cond, eqb, ◌&&◌, sym, ◌∙◌, ap, refl, arith, ⊎_elim}
+use Rattle.std.proofs.Common.{◌↔◌, ◌≢◌, ◌≡◌, ℕ, zero, suc, ◌+◌, ◌-◌, ◌*◌, ◌%◌, ◌/◌, ◌<◌}
+use Rattle.std.proofs.Common.{◌≤◌, cond, eqb, ◌&&◌, sym, ◌∙◌, ap, refl, arith, ⊎_elim}
 use Rattle.std.proofs.lemmas.Bool.Decides.{nat_tests}
 use Rattle.std.proofs.lemmas.Bool.{cases_lt}
-use Rattle.std.proofs.Math.Nat.{mul-mod_right, mod_self, mod-zero, mod-one, mod-lt, mod-eq_of_lt, div-add-mod, add-mul-mod_self_left}
+use Rattle.std.proofs.Math.Nat.{mul-mod_right, mod_self, mod-zero, mod-one, mod-lt}
+use Rattle.std.proofs.Math.Nat.{mod-eq_of_lt, div-add-mod, add-mul-mod_self_left}
 use Rattle.std.proofs.lemmas.Nat.{mul-mod_first, mul-mod_second}
 use Rattle.modular_word.specs.Divisors.{Coprime, IsGreatestCommonDivisor, gcd_up_to, gcd}
 use Rattle.modular_word.specs.Inverses.{IsInverse, HasInverse}

@@ -1,6 +1,7 @@
 -- The arithmetic of exact division by an inverse modulo the base.
 use Rattle.std.proofs.Common.{◌≡◌, ℕ, ◌+◌, ◌-◌, ◌*◌, ◌/◌, ◌%◌, ◌<◌, ◌≤◌, sym, ap, ◌∙◌, arith, ⊎_elim}
-use Rattle.std.proofs.Math.Nat.{mod-eq_of_lt, div-add-mod, mul-le-mul_left, mul-le-mul_right, add-mul-mod_self_left, zero-mod}
+use Rattle.std.proofs.Math.Nat.{mod-eq_of_lt, div-add-mod, mul-le-mul_left}
+use Rattle.std.proofs.Math.Nat.{mul-le-mul_right, add-mul-mod_self_left, zero-mod}
 use Rattle.std.proofs.lemmas.Nat.{mul-mod_first, mul-mod_second, le-div}
 use Rattle.std.proofs.lemmas.Bool.{cases_lt}
 use Rattle.modular_word.proofs.Congruence.{factor_cancel}

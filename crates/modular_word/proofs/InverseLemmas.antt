@@ -1,5 +1,6 @@
 -- Inverses modulo m: there is at most one, and `inverse_of` names it.
-use Rattle.std.proofs.Common.{◌≡◌, ℕ, suc, zero, ◌*◌, ◌%◌, ◌<◌, Option, Some, None, sym, ◌∙◌, ap, refl, arith, eqb, cond}
+use Rattle.std.proofs.Common.{◌≡◌, ℕ, suc, zero, ◌*◌, ◌%◌, ◌<◌, Option, Some}
+use Rattle.std.proofs.Common.{None, sym, ◌∙◌, ap, refl, arith, eqb, cond}
 use Rattle.std.proofs.lemmas.Bool.Decides.{nat_tests}
 use Rattle.std.proofs.lemmas.Nat.{mul-mod_first}
 use Rattle.std.proofs.Math.Nat.{mod-eq_of_lt, one-mul, mul_right_comm}

@@ -1,6 +1,7 @@
 -- An inverse modulo a power of two, lifted to its square.
 use Rattle.std.proofs.Common.{◌≡◌, ℕ, zero, suc, ◌+◌, ◌-◌, ◌*◌, ◌/◌, ◌%◌, ◌^◌, ◌<◌, ◌≤◌, sym, ap, ◌∙◌, arith, refl, ap₂}
-use Rattle.std.proofs.Math.Nat.{mod-lt, mod-mod, mod-one, mod_self, mod-add-mod, add-mod-mod, div-add-mod, mod-eq_of_lt, add-mul-mod_self_left, pow-suc}
+use Rattle.std.proofs.Math.Nat.{mod-lt, mod-mod, mod-one, mod_self, mod-add-mod, add-mod-mod}
+use Rattle.std.proofs.Math.Nat.{div-add-mod, mod-eq_of_lt, add-mul-mod_self_left, pow-suc}
 use Rattle.std.proofs.lemmas.Nat.{pow_below, pow_pos, pow-add, mul-mod, mul-mod_second}
 use Rattle.modular_word.proofs.Congruence.{mod_cancel, same_sum, same_product, same_without, mod_of_multiple}
 

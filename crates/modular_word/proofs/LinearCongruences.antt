@@ -21,9 +21,11 @@ swapped a b = omega arith
 
 -- the number of the parts r modulo m and d, the difference, times x, modulo n
 pub both_remainders : (m n a b d x : ℕ) → 0 < m → 0 < n → IsInverse n m x → (d + a % m) % n ≡ b % n
-    → (a % m + m * ((d * x) % n) < m * n) × ((a % m + m * ((d * x) % n)) % m ≡ a % m) × ((a % m + m * ((d * x) % n)) % n ≡ b % n)
+    → (a % m + m * ((d * x) % n) < m * n) × ((a % m + m * ((d * x) % n)) % m ≡ a % m)
+    × ((a % m + m * ((d * x) % n)) % n ≡ b % n)
 both_remainders m n a b d x p q h e =
-    let below : (d * x) % n * m + a % m < m * n = mul-add-lt ((d * x) % n) m (a % m) n (mod-lt (d * x) q) (mod-lt a p) in (
+    let below : (d * x) % n * m + a % m < m * n =
+    mul-add-lt ((d * x) % n) m (a % m) n (mod-lt (d * x) q) (mod-lt a p) in (
       omega (arith, below),
       add-mul-mod_self_left (a % m) m ((d * x) % n) ∙ mod-mod a m,
       ap (λ s. s % n) (swapped (a % m) (m * ((d * x) % n))) ∙ sym (mod-add-mod (m * ((d * x) % n)) n (a % m))

@@ -1,6 +1,8 @@
 -- The arithmetic of a division of two words by one through a reciprocal.
-use Rattle.std.proofs.Common.{◌≡◌, ℕ, ◌+◌, ◌-◌, ◌*◌, ◌/◌, ◌%◌, ◌<◌, ◌≤◌, sym, ap, ◌∙◌, subst, arith, ◌⊎◌, inl, inr, ⊎_elim}
-use Rattle.std.proofs.Math.Nat.{mod-eq_of_lt, mod-lt, div-add-mod, mul-le-mul_left, mul-le-mul_right, lt_of_mul-lt-mul_right}
+use Rattle.std.proofs.Common.{◌≡◌, ℕ, ◌+◌, ◌-◌, ◌*◌, ◌/◌, ◌%◌, ◌<◌, ◌≤◌, sym}
+use Rattle.std.proofs.Common.{ap, ◌∙◌, subst, arith, ◌⊎◌, inl, inr, ⊎_elim}
+use Rattle.std.proofs.Math.Nat.{mod-eq_of_lt, mod-lt, div-add-mod, mul-le-mul_left}
+use Rattle.std.proofs.Math.Nat.{mul-le-mul_right, lt_of_mul-lt-mul_right}
 use Rattle.std.proofs.lemmas.Bool.{cases_lt}
 use Rattle.modular_word.specs.Reciprocals.{IsReciprocal}
 use Rattle.modular_word.proofs.Congruence.{same_rest, mod_cancel}

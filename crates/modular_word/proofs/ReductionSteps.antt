@@ -1,6 +1,7 @@
 -- The arithmetic of a reduction that divides by the base.
 use Rattle.std.proofs.Common.{◌≡◌, ℕ, ◌+◌, ◌-◌, ◌*◌, ◌/◌, ◌%◌, ◌<◌, ◌≤◌, sym, ap, ◌∙◌, arith, refl, ⊎_elim}
-use Rattle.std.proofs.Math.Nat.{mod-eq_of_lt, div-add-mod, mul-le-mul_left, mul-le-mul_right, add-mul-mod_self_left, add-mod_right, add-mod-mod, mul-mod_right, lt_of_mul-lt-mul_left}
+use Rattle.std.proofs.Math.Nat.{mod-eq_of_lt, div-add-mod, mul-le-mul_left, mul-le-mul_right, add-mul-mod_self_left}
+use Rattle.std.proofs.Math.Nat.{add-mod_right, add-mod-mod, mul-mod_right, lt_of_mul-lt-mul_left}
 use Rattle.std.proofs.lemmas.Nat.{mul-mod_first, mul-mod_second}
 use Rattle.std.proofs.lemmas.Bool.{cases_lt}
 use Rattle.modular_word.proofs.Congruence.{mod_cancel, same_without_unit, next_is_multiple}
@@ -80,7 +81,8 @@ high_sum : (B m t x p t0 t1 p0 p1 k raised : ℕ) → Sum B m t x p t0 t1 p0 p1 
 high_sum B m t x p t0 t1 p0 p1 k raised s e hk er =
     let hB : 0 < B = omega (arith, s.modulus_fits) in
     let under : x * m < B * m =
-    ⊎_elim (λ (h : 0 < m). let a : (x + 1) * m ≤ B * m = mul-le-mul_right m (let l : x + 1 ≤ B = omega (arith, s.multiplier_fits) in l) in omega arith)
+    ⊎_elim (λ (h : 0 < m). let a : (x + 1) * m ≤ B * m =
+    mul-le-mul_right m (let l : x + 1 ≤ B = omega (arith, s.multiplier_fits) in l) in omega arith)
     (λ (h : m ≤ 0). let a : B * m ≤ B * 0 = mul-le-mul_left B h in absurd (omega (arith, s.below)))
     (cases_lt 0 m) in
     let multiple_below : p1 < m =
@@ -111,7 +113,8 @@ pub high_with_carry : (B m t x p t0 t1 p0 p1 raised : ℕ) → Sum B m t x p t0 
 high_with_carry B m t x p t0 t1 p0 p1 raised s some er =
     let z : (t0 + p0) % B ≡ 0 =
     sym (add-mul-mod_self_left (t0 + p0) B (t1 + p1))
-    ∙ ap (λ v. v % B) (let h : t0 + p0 + B * (t1 + p1) ≡ t + p = omega (arith, s.parts, s.multiple_parts) in h) ∙ s.low in
+    ∙ ap (λ v. v % B) (let h : t0 + p0 + B * (t1 + p1) ≡ t + p = omega (arith, s.parts, s.multiple_parts) in h)
+    ∙ s.low in
     let both = low_words B t0 p0 s.low_fits s.multiple_low_fits z some in
     high_sum B m t x p t0 t1 p0 p1 1 raised s (omega arith) (omega arith)
     (λ below. er ∙ mod-eq_of_lt (let l : p1 + 1 < B = omega (arith, s.modulus_fits) in l))
@@ -169,7 +172,8 @@ base_inverse B m i some inverse =
     ap (λ v. v % m) g ∙ add-mul-mod_self_left 1 m i
 
 -- so what reduces a number congruent to x times the base is the residue of x
-pub reduced_is : (B m i x : ℕ) {t u : ℕ} → 0 < B → IsNegatedInverse B m i → t % m ≡ (x * B) % m → IsReduction B m t u → u ≡ x % m
+pub reduced_is : (B m i x : ℕ) {t u : ℕ} → 0 < B → IsNegatedInverse B m i → t % m ≡ (x * B) % m
+    → IsReduction B m t u → u ≡ x % m
 reduced_is B m i x {t} {u} some inverse e is =
     sym (mod-eq_of_lt is.below)
     ∙ same_without_unit m u x B ((m * i + 1) / B) (base_inverse B m i some inverse) (is.congruent ∙ e)

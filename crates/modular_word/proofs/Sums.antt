@@ -1,5 +1,6 @@
 -- Sums over a range: of f 0, .., f (n - 1), and of f 1, .., f h.
-use Rattle.std.proofs.Common.{Bool, true, false, ◌≡◌, ℕ, zero, suc, ◌+◌, ◌-◌, ◌*◌, ◌%◌, ◌<◌, ◌≤◌, cond, eqb, sym, ◌∙◌, ap, refl, arith, ⊎_elim, ◌≢◌, ◌⊎◌}
+use Rattle.std.proofs.Common.{Bool, true, false, ◌≡◌, ℕ, zero, suc, ◌+◌, ◌-◌, ◌*◌, ◌%◌, ◌<◌}
+use Rattle.std.proofs.Common.{◌≤◌, cond, eqb, sym, ◌∙◌, ap, refl, arith, ⊎_elim, ◌≢◌, ◌⊎◌}
 use Rattle.std.proofs.lemmas.Bool.Decides.{nat_tests}
 use Rattle.std.proofs.Math.Nat.{add-zero, mul-zero}
 use Rattle.modular_word.specs.Congruence.{Congruent}

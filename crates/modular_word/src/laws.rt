@@ -105,10 +105,12 @@ pub fn euclids_lemma()
 ///
 /// Source: Graham, Knuth and Patashnik, Concrete Mathematics, chapter 2.
 pub fn sum_laws()
-    ensures exchanged { (f : ℕ → ℕ → ℕ) (h k : ℕ) → sum_to (λ x. sum_to (λ y. f x y) k) h ≡ sum_to (λ y. sum_to (λ x. f x y) h) k }
+    ensures exchanged { (f : ℕ → ℕ → ℕ) (h k : ℕ)
+        → sum_to (λ x. sum_to (λ y. f x y) k) h ≡ sum_to (λ y. sum_to (λ x. f x y) h) k }
     ensures permuted { (f g : ℕ → ℕ) (h : ℕ) → Permutes f h → sum_to (λ x. g (f x)) h ≡ sum_to g h }
     ensures reversed { (g : ℕ → ℕ) (h : ℕ) → sum_to (λ x. g (suc h - x)) h ≡ sum_to g h }
-    ensures parity { (f g : ℕ → ℕ) (h : ℕ) → ((x : ℕ) → 0 < x → x ≤ h → f x % 2 ≡ g x % 2) → sum_to f h % 2 ≡ sum_to g h % 2 }
+    ensures parity { (f g : ℕ → ℕ) (h : ℕ) → ((x : ℕ) → 0 < x → x ≤ h → f x % 2 ≡ g x % 2)
+        → sum_to f h % 2 ≡ sum_to g h % 2 }
     ensures counted { (p : ℕ → Bool) (h : ℕ) → count_to p h + count_to (λ x. not (p x)) h ≡ h }
     ensures from_zero { (f : ℕ → ℕ) (h : ℕ) → sum_to f h ≡ sum_below h (λ x. f (suc x)) }
 {}

@@ -1,5 +1,7 @@
 -- Lemmas on the words of the program, and on what it prints.
-use Rattle.std.proofs.Common.{◌≡◌, ◌↔◌, ℕ, zero, suc, replicate, append_assoc, ◌%◌, ◌+◌, ◌<◌, ◌≤◌, List, [], ◌∷◌, ◌++◌, Option, Some, None, Result, Ok, Err, IfOk, length, map, take, get_or, All, arith, rules, refl, sym, ◌∙◌, ap, subst, Bor}
+use Rattle.std.proofs.Common.{◌≡◌, ◌↔◌, ℕ, zero, suc, replicate, append_assoc, ◌%◌, ◌+◌, ◌<◌, ◌≤◌}
+use Rattle.std.proofs.Common.{List, [], ◌∷◌, ◌++◌, Option, Some, None, Result, Ok, Err, IfOk, length}
+use Rattle.std.proofs.Common.{map, take, get_or, All, arith, rules, refl, sym, ◌∙◌, ap, subst, Bor}
 use Rattle.std.proofs.lemmas.List.{take_more}
 use Rattle.std.specs.Fmt.{decimal}
 use Rattle.std.proofs.Math.Nat.{mod-eq_of_lt}
@@ -13,35 +15,42 @@ use Rattle.num_modular.specs.declared.ring.RingCommand.TheVariants.{Load, Add, S
 use Rattle.num_modular.specs.declared.modrun.ReducerName.{ReducerName}
 use Rattle.num_modular.specs.Ring.{IsFit, IsStop, whole, value_at, carried_out}
 use Rattle.num_modular.specs.Words.{IsCommandWord, IsCommandParts, parts}
-use Rattle.num_modular.specs.Program.{AreCommands, IsHeading, Ask, IsAnswer, IsEnd, numbers_to, line_of, printed, zeros, usage}
+use Rattle.num_modular.specs.Program.{AreCommands, IsHeading, Ask, IsAnswer, IsEnd}
+use Rattle.num_modular.specs.Program.{numbers_to, line_of, printed, zeros, usage}
 
 fit_parts : (ps : List (List ℕ)) (command : RingCommand ℕ) → IsCommandParts ps command → IsFit 8 command
 fit_parts [] command h = absurd h
 fit_parts (name ∷ numbers) command h = h.fit
 
 -- commands that were read fit eight registers
-pub commands_fit : (words : List (Bor (List ℕ))) (commands : List (RingCommand ℕ)) → AreCommands words commands → All (IsFit 8) commands
+pub commands_fit : (words : List (Bor (List ℕ))) (commands : List (RingCommand ℕ))
+    → AreCommands words commands → All (IsFit 8) commands
 commands_fit [] [] read k d below = absurd (omega arith)
 commands_fit [] (c ∷ cs) read k d below = absurd read
 commands_fit (w ∷ ws) [] read k d below = absurd read
 commands_fit (w ∷ ws) (c ∷ cs) read zero d below = fit_parts (parts w.now) c read.0
 commands_fit (w ∷ ws) (c ∷ cs) read (suc k) d below = commands_fit ws cs read.1 k d (omega arith)
 
-both_read : (words more : List (Bor (List ℕ))) (commands others : List (RingCommand ℕ)) → AreCommands words commands → AreCommands more others → AreCommands (words ++ more) (commands ++ others)
+both_read : (words more : List (Bor (List ℕ))) (commands others : List (RingCommand ℕ)) → AreCommands words commands
+    → AreCommands more others → AreCommands (words ++ more) (commands ++ others)
 both_read [] more [] others read h = h
 both_read [] more (c ∷ cs) others read h = absurd read
 both_read (w ∷ ws) more [] others read h = absurd read
 both_read (w ∷ ws) more (c ∷ cs) others read h = (read.0, both_read ws more cs others read.1 h)
 
 -- one word more
-pub more_read : (words : List (Bor (List ℕ))) (i : ℕ) (d : Bor (List ℕ)) (commands : List (RingCommand ℕ)) (command : RingCommand ℕ)
-    → i < length words → AreCommands (take i words) commands → IsCommandWord (get_or words i d).now command → AreCommands (take (i + 1) words) (commands ++ (command ∷ []))
+pub more_read : (words : List (Bor (List ℕ))) (i : ℕ) (d : Bor (List ℕ))
+    (commands : List (RingCommand ℕ)) (command : RingCommand ℕ)
+    → i < length words → AreCommands (take i words) commands → IsCommandWord (get_or words i d).now command
+    → AreCommands (take (i + 1) words) (commands ++ (command ∷ []))
 more_read words i d commands command below read this =
-    subst (λ ws. AreCommands ws (commands ++ (command ∷ []))) (sym (take_more words i d below)) (both_read (take i words) (get_or words i d ∷ []) commands (command ∷ []) read (this, tt))
+    subst (λ ws. AreCommands ws (commands ++ (command ∷ []))) (sym (take_more words i d below))
+    (both_read (take i words) (get_or words i d ∷ []) commands (command ∷ []) read (this, tt))
 
 -- no commands are read of words of which one isn't readable
 pub unreadable_at : (words : List (Bor (List ℕ))) (i : ℕ) (d : Bor (List ℕ)) → i < length words
-    → ((command : RingCommand ℕ) → IsCommandWord (get_or words i d).now command → ⊥) → (commands : List (RingCommand ℕ)) → AreCommands words commands → ⊥
+    → ((command : RingCommand ℕ) → IsCommandWord (get_or words i d).now command → ⊥) → (commands : List (RingCommand ℕ))
+    → AreCommands words commands → ⊥
 unreadable_at [] i d below none commands read = omega arith
 unreadable_at (w ∷ ws) i d below none [] read = read
 unreadable_at (w ∷ ws) zero d below none (c ∷ cs) read = none c read.0
@@ -72,21 +81,27 @@ numbers_same v w (suc i) h =
     rw (before, this) refl
 
 -- what a run that is told of equal lists ends with and prints
-pub end_of_run : (m : ℕ) (start : List ℕ) (wholes commands : List (RingCommand ℕ)) (end : RunEnd) → start ≡ zeros → wholes ≡ commands
-    → ((at : ℕ) → (end ≡ NoInverse at) ↔ IsStop m start wholes at) → ((end ≡ Done) ↔ ((at : ℕ) → IsStop m start wholes at → ⊥)) → IsEnd m commands end
+pub end_of_run : (m : ℕ) (start : List ℕ) (wholes commands : List (RingCommand ℕ)) (end : RunEnd)
+    → start ≡ zeros → wholes ≡ commands
+    → ((at : ℕ) → (end ≡ NoInverse at) ↔ IsStop m start wholes at)
+    → ((end ≡ Done) ↔ ((at : ℕ) → IsStop m start wholes at → ⊥)) → IsEnd m commands end
 end_of_run m start wholes commands Done e1 e2 stops done =
-    λ at stop. done.0 refl at (subst (λ s. IsStop m s wholes at) (sym e1) (subst (λ cs. IsStop m zeros cs at) (sym e2) stop))
+    λ at stop.
+    done.0 refl at (subst (λ s. IsStop m s wholes at) (sym e1) (subst (λ cs. IsStop m zeros cs at) (sym e2) stop))
 end_of_run m start wholes commands (NoInverse at) e1 e2 stops done =
     subst (λ cs. IsStop m zeros cs at) e2 (subst (λ s. IsStop m s wholes at) e1 ((stops at).0 refl))
 
-pub line_of_run : (m : ℕ) (start : List ℕ) (wholes commands : List (RingCommand ℕ)) (end : RunEnd) (v : ℕ → ℕ) → start ≡ zeros → wholes ≡ commands
+pub line_of_run : (m : ℕ) (start : List ℕ) (wholes commands : List (RingCommand ℕ)) (end : RunEnd) (v : ℕ → ℕ)
+    → start ≡ zeros → wholes ≡ commands
     → ((r : ℕ) → r < 8 → v r ≡ value_at m start wholes (carried_out end wholes) r) → line_of v ≡ printed m commands end
 line_of_run m start wholes commands end v e1 e2 h =
     ap (λ text. text ++ (10 ∷ [])) (numbers_same v (value_at m zeros commands (carried_out end commands)) 7
-    (λ r below. h r (omega arith) ∙ (ap (λ s. value_at m s wholes (carried_out end wholes) r) e1 ∙ ap (λ cs. value_at m zeros cs (carried_out end cs) r) e2)))
+    (λ r below. h r (omega arith) ∙ (ap (λ s. value_at m s wholes (carried_out end wholes) r) e1
+    ∙ ap (λ cs. value_at m zeros cs (carried_out end cs) r) e2)))
 
 -- the form of 0 has the value 0
-pub value_zero : (form value : ℕ → ℕ → ℕ) (width m f : ℕ) → IsCanonical form value width m → Represents form m f (0 % m) → value m f ≡ 0
+pub value_zero : (form value : ℕ → ℕ → ℕ) (width m f : ℕ) → IsCanonical form value width m
+    → Represents form m f (0 % m) → value m f ≡ 0
 value_zero form value width m f canonical h = canonical.one_value f (0 % m) h ∙ mod-eq_of_lt canonical.positive
 
 pub all_zeros : (x : ℕ) → x ≡ 0 → replicate 8 x ≡ zeros
@@ -115,13 +130,24 @@ same_heading words x y m n xs ys h k =
     (h.read.value ∙ (ap (λ w. digits_value 10 w.now) moduli ∙ sym k.read.value), rests)
 
 -- an answer to the words of commands is one to all words
-pub answer_all : (words : List (Bor (List ℕ))) (reducer : ReducerName) (m modulus : ℕ) (rest : List (Bor (List ℕ))) (untouched : Type 0) (Printed Told : List ℕ → Type 0)
+pub answer_all : (words : List (Bor (List ℕ))) (reducer : ReducerName) (m modulus : ℕ) (rest : List (Bor (List ℕ)))
+    (untouched : Type 0) (Printed Told : List ℕ → Type 0)
     → IsHeading words reducer m rest → modulus ≡ m
-    → (status : ℕ) → IsAnswer (λ n commands. (n ≡ modulus) × AreCommands rest commands) untouched Printed Told status → IsAnswer (Ask words) untouched Printed Told status
+    → (status : ℕ) → IsAnswer (λ n commands. (n ≡ modulus) × AreCommands rest commands) untouched Printed Told status
+    → IsAnswer (Ask words) untouched Printed Told status
 answer_all words reducer m modulus rest untouched Printed Told h e status answer = record {
   ran = λ below.
-      let (n, commands, asked, run) = answer.ran below in
-      (n, commands, record { reducer = reducer; rest = rest; heading = subst (λ k. IsHeading words reducer k rest) (sym (asked.0 ∙ e)) h; read = asked.1 }, run);
+      let (n, commands, asked, run) = answer.ran below in (
+        n,
+        commands,
+        record {
+          reducer = reducer;
+          rest = rest;
+          heading = subst (λ k. IsHeading words reducer k rest) (sym (asked.0 ∙ e)) h;
+          read = asked.1;
+        },
+        run,
+      );
   unreadable = λ two. (
     λ n commands ask.
         let same = same_heading words ask.reducer reducer n m ask.rest rest ask.heading h in

@@ -1,5 +1,6 @@
 -- Where a run stops, by the inverses that its commands need.
-use Rattle.std.proofs.Common.{◌≡◌, ℕ, suc, zero, ◌<◌, List, map, refl, sym, subst, arith, Option, Some, None, option_map, All, IsSomeAnd, inl, inr}
+use Rattle.std.proofs.Common.{◌≡◌, ℕ, suc, zero, ◌<◌, List, map, refl, sym, subst, arith}
+use Rattle.std.proofs.Common.{Option, Some, None, option_map, All, IsSomeAnd, inl, inr}
 use Rattle.std.specs.List.{slice_get}
 use Rattle.std.proofs.lemmas.Bool.{cases_lt}
 use Rattle.std.proofs.lemmas.Option.{slice_get-map, slice_get_within, get_or_from_slice_get}
@@ -25,30 +26,37 @@ lacks number m v _ r e none = absurd (cc)
 
 -- the same of a place of a list
 lacking_read : {T : Type 0} (number : T → ℕ) (m : ℕ) (v : ℕ → ℕ) (read : Option (RingCommand T))
-    → IsSomeAnd (option_map (whole number) read) (LacksInverse m v) → (r : ℕ) × IsSomeAnd read (λ command. inverted_by command ≡ Some r) × (HasInverse m (v r) → ⊥)
+    → IsSomeAnd (option_map (whole number) read) (LacksInverse m v)
+    → (r : ℕ) × IsSomeAnd read (λ command. inverted_by command ≡ Some r) × (HasInverse m (v r) → ⊥)
 lacking_read number m v None h = absurd h
 lacking_read number m v (Some command) h = lacking number m v command h
 
 lacks_read : {T : Type 0} (number : T → ℕ) (m : ℕ) (v : ℕ → ℕ) (read : Option (RingCommand T)) (r : ℕ)
-    → IsSomeAnd read (λ command. inverted_by command ≡ Some r) → (HasInverse m (v r) → ⊥) → IsSomeAnd (option_map (whole number) read) (LacksInverse m v)
+    → IsSomeAnd read (λ command. inverted_by command ≡ Some r) → (HasInverse m (v r) → ⊥)
+    → IsSomeAnd (option_map (whole number) read) (LacksInverse m v)
 lacks_read number m v None r e none = absurd e
 lacks_read number m v (Some command) r e none = lacks number m v command r e none
 
 lacking_at : {T : Type 0} (number : T → ℕ) (m : ℕ) (start : List ℕ) (commands : List (RingCommand T)) (i : ℕ)
     → LacksInverseAt m start (map (whole number) commands) i
     → (r : ℕ) × NeedsInverse commands i r × (HasInverse m (value_at m start (map (whole number) commands) i r) → ⊥)
-lacking_at number m start commands i h = lacking_read number m _ (slice_get commands i) (rw (slice_get-map (whole number) commands i) at h)
+lacking_at number m start commands i h =
+    lacking_read number m _ (slice_get commands i) (rw (slice_get-map (whole number) commands i) at h)
 
 lacks_at : {T : Type 0} (number : T → ℕ) (m : ℕ) (start : List ℕ) (commands : List (RingCommand T)) (i r : ℕ)
-    → NeedsInverse commands i r → (HasInverse m (value_at m start (map (whole number) commands) i r) → ⊥) → LacksInverseAt m start (map (whole number) commands) i
+    → NeedsInverse commands i r → (HasInverse m (value_at m start (map (whole number) commands) i r) → ⊥)
+    → LacksInverseAt m start (map (whole number) commands) i
 lacks_at number m start commands i r needs none =
     rw (slice_get-map (whole number) commands i) (lacks_read number m _ (slice_get commands i) r needs none)
 
-needs_none : {T : Type 0} (commands : List (RingCommand T)) (i r : ℕ) (read : Option (RingCommand T)) → slice_get commands i ≡ read
-    → All (λ command. inverted_by command ≡ None) commands → IsSomeAnd read (λ command. inverted_by command ≡ Some r) → ⊥
+needs_none : {T : Type 0} (commands : List (RingCommand T)) (i r : ℕ) (read : Option (RingCommand T))
+    → slice_get commands i ≡ read
+    → All (λ command. inverted_by command ≡ None) commands
+    → IsSomeAnd read (λ command. inverted_by command ≡ Some r) → ⊥
 needs_none commands i r None e all needs = needs
 needs_none commands i r (Some command) e all needs =
-    let here : inverted_by command ≡ None = subst (λ c. inverted_by c ≡ None) (get_or_from_slice_get commands i command command e) (all i command (slice_get_within commands i command e)) in
+    let here : inverted_by command ≡ None = subst (λ c. inverted_by c ≡ None)
+    (get_or_from_slice_get commands i command command e) (all i command (slice_get_within commands i command e)) in
     absurd (cc)
 
 -- a list that needs no inverse has no stop
@@ -61,7 +69,8 @@ no_stop number m start commands at all stop =
 -- a missing inverse with none before it is the stop
 pub first_stop : {T : Type 0} (number : T → ℕ) (m : ℕ) (start : List ℕ) (commands : List (RingCommand T)) (at r : ℕ)
     → NeedsInverse commands at r → (HasInverse m (value_at m start (map (whole number) commands) at r) → ⊥)
-    → ((i q : ℕ) → i < at → NeedsInverse commands i q → HasInverse m (value_at m start (map (whole number) commands) i q))
+    → ((i q : ℕ) → i < at → NeedsInverse commands i q
+    → HasInverse m (value_at m start (map (whole number) commands) i q))
     → IsStop m start (map (whole number) commands) at
 first_stop number m start commands at r needs none before = record {
   lacks = lacks_at number m start commands at r needs none;
@@ -86,4 +95,5 @@ pub each_inverse : {T : Type 0} (number : T → ℕ) (m : ℕ) (start : List ℕ
     → ((at : ℕ) → IsStop m start (map (whole number) commands) at → ⊥)
     → (i r : ℕ) → NeedsInverse commands i r → HasInverse m (value_at m start (map (whole number) commands) i r)
 each_inverse number m start commands never i r needs =
-    inverse_or_none m _ _ refl (λ none. none_lacks never (suc i) i (omega arith) (lacks_at number m start commands i r needs none))
+    inverse_or_none m _ _ refl
+    (λ none. none_lacks never (suc i) i (omega arith) (lacks_at number m start commands i r needs none))

@@ -1,4 +1,5 @@
--- What the program `modrun` prints and answers for the words after its name. A text is the list of its bytes. Each name is the library's own word.
+-- What the program `modrun` prints and answers for the words after its name.
+-- A text is the list of its bytes. Each name is the library's own word.
 use Rattle.std.specs.Prelude.{◌≡◌, ℕ, zero, suc, ◌<◌, List, [], ◌∷◌, ◌++◌, replicate, codes}
 use Rattle.std.specs.Borrow.{Bor}
 use Rattle.std.specs.Fmt.{decimal}
@@ -31,7 +32,8 @@ IsFault words Unreadable = (commands : List (RingCommand ℕ)) → AreCommands w
 IsFault words OutOfMemory = Unit {0}
 
 -- the words are the name of the reducer, the modulus, which is not 0, and the words of commands
-pub record IsHeading (words : List (Bor (List ℕ))) (reducer : ReducerName) (m : ℕ) (rest : List (Bor (List ℕ))) : Type 0 where
+pub record IsHeading (words : List (Bor (List ℕ))) (reducer : ReducerName) (m : ℕ)
+    (rest : List (Bor (List ℕ))) : Type 0 where
   pub name : Bor (List ℕ)
   pub modulus : Bor (List ℕ)
   pub split : words ≡ name ∷ modulus ∷ rest
@@ -91,8 +93,11 @@ pub record IsRun (m : ℕ) (commands : List (RingCommand ℕ)) (status : ℕ) (O
   pub error : Err (told end)
 
 -- an answer to words that ask for commands as Asked says; `untouched` says that nothing was written to the first output
-pub record IsAnswer (Asked : ℕ → List (RingCommand ℕ) → Type 0) (untouched : Type 0) (Out Err : List ℕ → Type 0) (status : ℕ) : Type 0 where
-  pub ran : status < 2 → (m : ℕ) × (commands : List (RingCommand ℕ)) × Asked m commands × IsRun m commands status Out Err
-  pub unreadable : status ≡ 2 → ((m : ℕ) (commands : List (RingCommand ℕ)) → Asked m commands → ⊥) × untouched × Err usage
+pub record IsAnswer (Asked : ℕ → List (RingCommand ℕ) → Type 0) (untouched : Type 0)
+    (Out Err : List ℕ → Type 0) (status : ℕ) : Type 0 where
+  pub ran : status < 2
+      → (m : ℕ) × (commands : List (RingCommand ℕ)) × Asked m commands × IsRun m commands status Out Err
+  pub unreadable : status ≡ 2
+      → ((m : ℕ) (commands : List (RingCommand ℕ)) → Asked m commands → ⊥) × untouched × Err usage
   pub memory : status ≡ 3 → untouched × Err (codes "out of memory\n")
   pub range : status < 4

@@ -1,4 +1,5 @@
--- The rules by which nested remainders go away, for `#[tactic(auto, using(num_modular::specs::Remainders::remainders))]`
+-- The rules by which nested remainders go away, for `#[tactic(auto,
+-- using(num_modular::specs::Remainders::remainders))]`
 -- and for `simp` in an answer. The names are the library's own words.
 use Rattle.modular_word.proofs.Remainders as words
 use Rattle.modular_laws.proofs.InnerRemainders as laws
@@ -7,5 +8,6 @@ use Rattle.modular_laws.proofs.InnerRemainders as laws
 pub ruleset remainders = (words.remainders)
 
 -- what these leave: a remainder of a remainder, one as the second term of a sum or in a sum of three terms, and one in
--- a product or a power that is a term or a factor. It stands beside the first set, and is named with it where it is needed.
+-- a product or a power that is a term or a factor.
+-- It stands beside the first set, and is named with it where it is needed.
 pub ruleset inner_remainders = (laws.inner_remainders)

@@ -1,5 +1,8 @@
--- What a list of ring commands gives on whole numbers modulo m, and where it stops: the result sequence of a straight-line program, and where it isn't executable (Buergisser, Clausen, Shokrollahi, Algebraic Complexity Theory, section 4.1). No form and no width stands in the table.
-use Rattle.std.specs.Prelude.{ℕ, suc, zero, ◌+◌, ◌*◌, ◌%◌, ◌^◌, ◌<◌, ◌==◌, if◌then◌else◌, pos, ◌-ℤ◌, neg_ℤ, List, length, option_map, slice_get, slice_index, Option, Some, None, IsSomeAnd, unwrap_or}
+-- What a list of ring commands gives on whole numbers modulo m, and where it stops:
+-- the result sequence of a straight-line program, and where it isn't executable (Buergisser, Clausen,
+-- Shokrollahi, Algebraic Complexity Theory, section 4.1). No form and no width stands in the table.
+use Rattle.std.specs.Prelude.{ℕ, suc, zero, ◌+◌, ◌*◌, ◌%◌, ◌^◌, ◌<◌, ◌==◌, if◌then◌else◌, pos, ◌-ℤ◌, neg_ℤ, List}
+use Rattle.std.specs.Prelude.{length, option_map, slice_get, slice_index, Option, Some, None, IsSomeAnd, unwrap_or}
 use Rattle.modular_word.specs.Residues.{residue}
 use Rattle.modular_word.specs.Inverses.{HasInverse, inverse_of}
 use Rattle.modular_reduced.specs.Forms.{Represents}

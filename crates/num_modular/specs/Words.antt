@@ -1,4 +1,6 @@
--- How numbers and ring commands are written as text, which is the list of its bytes. Numbers stand in positional notation (Knuth, The Art of Computer Programming 2, section 4.1), and a command is its name and its numbers, a comma before each number.
+-- How numbers and ring commands are written as text, which is the list of its bytes.
+-- Numbers stand in positional notation (Knuth, The Art of Computer Programming 2,
+-- section 4.1), and a command is its name and its numbers, a comma before each number.
 use Rattle.std.specs.Prelude.{◌≡◌, ℕ, ◌<◌, ◌^◌, ◌==◌, List, [], ◌∷◌, Option, MatchOption, codes}
 use Rattle.std.specs.List.{slice_split}
 use Rattle.std.specs.Str.Parse.{IsNumeral, digits_value}

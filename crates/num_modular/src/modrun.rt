@@ -5,7 +5,8 @@ ghost use Rattle.std.specs.Borrow.{Bor};
 ghost use Rattle.std.specs.Io.KnownBytes.{Appends};
 ghost use Rattle.modular_reduced.specs.Forms.{IsForm};
 ghost use Rattle.num_modular.specs.Ring.{IsFit, values_of};
-ghost use Rattle.num_modular.specs.Program.{Ask, AreCommands, IsHeading, IsRun, IsAnswer, IsFault, reducer_name, usage, line_of};
+ghost use Rattle.num_modular.specs.Program.{Ask, AreCommands, IsHeading, IsRun, IsAnswer};
+ghost use Rattle.num_modular.specs.Program.{IsFault, reducer_name, usage, line_of};
 ghost use Rattle.num_modular.specs.Words.{FindsWhere};
 
 use self::words::{REGISTERS, command, number};
@@ -144,7 +145,8 @@ fn run_over<R: Reducer<u64>, A: Allocator, O: Write, E: Write>(
     out: &mut O,
     err: &mut E,
 ) -> io::Result<u8>
-    ensures { IfOk result (IsAnswer (λ m commands. (m ≡ R.modulus reducer.now) × AreCommands words.now commands) (out.new ≡ out.old)
+    ensures { IfOk result
+        (IsAnswer (λ m commands. (m ≡ R.modulus reducer.now) × AreCommands words.now commands) (out.new ≡ out.old)
         (Appends (O.contents out.old) (O.contents out.new))
         (Appends (E.contents err.old) (E.contents err.new))) }
 {

@@ -1,9 +1,11 @@
 //! Lists of commands on registers, run over any reducer, and transforms over any reducer.
 
-ghost use Rattle.std.specs.Prelude.{◌≡◌, ℕ, ◌*◌, ◌%◌, ◌<◌, ◌↔◌, IsTrue, All, length, map, option_map, slice_index, slice_index_or};
+ghost use Rattle.std.specs.Prelude.{◌≡◌, ℕ, ◌*◌, ◌%◌, ◌<◌, ◌↔◌, IsTrue, All, length};
+ghost use Rattle.std.specs.Prelude.{map, option_map, slice_index, slice_index_or};
 ghost use Rattle.modular_word.specs.Inverses.{inverse_of};
 ghost use Rattle.modular_reduced.specs.Forms.{IsForm};
-ghost use Rattle.num_modular.specs.Ring.{whole, destination_of, outcome, value_at, IsStop, carried_out, IsFit, values_of, HoldValues, IsFormOf};
+ghost use Rattle.num_modular.specs.Ring.{whole, destination_of, outcome, value_at, IsStop};
+ghost use Rattle.num_modular.specs.Ring.{carried_out, IsFit, values_of, HoldValues, IsFormOf};
 
 pub use modular_laws::lists::{load_forms, unload_forms};
 use modular_reduced::reducer::Reducer;

@@ -26,7 +26,8 @@ pub fn product_and_sum<R: Numbered + Copy, M: Numbered + Copy, T: ModularCoreOps
 /// The residue of x - y, of any kind of operands.
 pub fn difference<R: Numbered, M: Numbered, T: ModularCoreOps<R, M>>(x: T, y: R, m: M) -> T::Output
     requires { 1 ≤ M.whole_number m }
-    ensures { T.Output.whole_number result ≡ residue (M.whole_number m) (pos (T.whole_number x) -ℤ pos (R.whole_number y)) }
+    ensures { T.Output.whole_number result
+        ≡ residue (M.whole_number m) (pos (T.whole_number x) -ℤ pos (R.whole_number y)) }
 {
     x.subm(y, m)
 }

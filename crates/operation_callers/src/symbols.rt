@@ -26,7 +26,8 @@ pub fn product_symbol<M: UnsignedOperand + Copy, T: ModularOps<T, M, T> + Copy>(
 pub fn product_symbol_ref<T: ModularRefOps>(x: &T, y: &T, m: &T) -> Option<i8>
     requires { 1 ≤ T.whole_number m.now }
     ensures { result
-        ≡ checked_jacobi_of (pos ((T.whole_number x.now * T.whole_number y.now) % T.whole_number m.now)) (pos (T.whole_number m.now)) }
+        ≡ checked_jacobi_of (pos ((T.whole_number x.now * T.whole_number y.now) % T.whole_number m.now))
+        (pos (T.whole_number m.now)) }
 {
     x.mulm_ref(y, m).checked_jacobi_ref(m)
 }

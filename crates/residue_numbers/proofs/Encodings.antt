@@ -1,5 +1,6 @@
 -- Remainders modulo a product, seen modulo a factor of it: sums, differences and products of encodings.
-use Rattle.std.proofs.Common.{◌≡◌, ℕ, ◌+◌, ◌*◌, ◌/◌, ◌%◌, ◌<◌, List, get_or, length, set, below_more, sym, ap, subst, ◌∙◌, arith, pos, ◌-ℤ◌, ℤ}
+use Rattle.std.proofs.Common.{◌≡◌, ℕ, ◌+◌, ◌*◌, ◌/◌, ◌%◌, ◌<◌, List, get_or, length}
+use Rattle.std.proofs.Common.{set, below_more, sym, ap, subst, ◌∙◌, arith, pos, ◌-ℤ◌, ℤ}
 use Rattle.std.proofs.Math.Nat.{div-add-mod, mod-eq_of_lt, mod-mod, mod-add-mod, add-mod-mod}
 use Rattle.std.proofs.lemmas.Nat.{mul-mod}
 use Rattle.std.proofs.lemmas.List.{get_or-set_same, get_or-set_other}
@@ -30,15 +31,18 @@ cancelled m a b c e =
     let f = spread m (a + c) (b + c) e in
     gathered m a b ((b + c) / m) ((a + c) / m) (omega (arith, f))
 
-pub difference_within : ((m : ℕ) (z : ℤ) → 0 < m → IsResidue m z (residue m z)) → ((m a b : ℕ) → 0 < m → (residue m (pos a -ℤ pos b) + b) % m ≡ a % m)
+pub difference_within : ((m : ℕ) (z : ℤ) → 0 < m → IsResidue m z (residue m z))
+    → ((m a b : ℕ) → 0 < m → (residue m (pos a -ℤ pos b) + b) % m ≡ a % m)
     → (range m k x y a b : ℕ) → range ≡ m * k → 0 < range → 0 < m → x % m ≡ a % m → y % m ≡ b % m
     → residue m (pos a -ℤ pos b) ≡ residue range (pos x -ℤ pos y) % m
 difference_within is_residue sum range m k x y a b e wide positive p q =
     let r = residue range (pos x -ℤ pos y) in
     let s = residue m (pos a -ℤ pos b) in
     let left : (r + y) % m ≡ x % m =
-    sym (remainder_within range m k (r + y) e) ∙ ap (λ n. n % m) (sum range x y wide) ∙ remainder_within range m k x e in
-    let moved : (r + b) % m ≡ (r + y) % m = sym (add-mod-mod r b m) ∙ ap (λ n. (r + n) % m) (sym q) ∙ add-mod-mod r y m in
+    sym (remainder_within range m k (r + y) e) ∙ ap (λ n. n % m) (sum range x y wide)
+    ∙ remainder_within range m k x e in
+    let moved : (r + b) % m ≡ (r + y) % m =
+    sym (add-mod-mod r b m) ∙ ap (λ n. (r + n) % m) (sym q) ∙ add-mod-mod r y m in
     let same : s % m ≡ r % m = cancelled m s r b (sum m a b positive ∙ sym p ∙ sym left ∙ sym moved) in
     let small : s < m = (is_residue m (pos a -ℤ pos b) positive).below in
     sym (mod-eq_of_lt small) ∙ same
@@ -68,10 +72,13 @@ product_encoded moduli left right products x y each p q = record {
       each i h ∙ product_within (range_of moduli) (get_or moduli i 0) k x y _ _ e (sym (p.each i h)) (sym (q.each i h));
 }
 
-pub difference_encoded : ((m : ℕ) (z : ℤ) → 0 < m → IsResidue m z (residue m z)) → ((m a b : ℕ) → 0 < m → (residue m (pos a -ℤ pos b) + b) % m ≡ a % m)
+pub difference_encoded : ((m : ℕ) (z : ℤ) → 0 < m → IsResidue m z (residue m z))
+    → ((m a b : ℕ) → 0 < m → (residue m (pos a -ℤ pos b) + b) % m ≡ a % m)
     → (moduli left right differences : List ℕ) (x y : ℕ) → IsSystem moduli
-    → ((i : ℕ) → i < length moduli → get_or differences i 0 ≡ residue (get_or moduli i 0) (pos (get_or left i 0) -ℤ pos (get_or right i 0)))
-    → AreResidues moduli left x → AreResidues moduli right y → AreResidues moduli differences (residue (range_of moduli) (pos x -ℤ pos y))
+    → ((i : ℕ) → i < length moduli
+    → get_or differences i 0 ≡ residue (get_or moduli i 0) (pos (get_or left i 0) -ℤ pos (get_or right i 0)))
+    → AreResidues moduli left x → AreResidues moduli right y
+    → AreResidues moduli differences (residue (range_of moduli) (pos x -ℤ pos y))
 difference_encoded is_residue sum moduli left right differences x y system each p q = record {
   each = λ i h.
       let m = get_or moduli i 0 in
@@ -82,7 +89,8 @@ difference_encoded is_residue sum moduli left right differences x y system each 
 }
 
 -- a write of one place more keeps what holds of the places so far
-pub set_more : (xs : List ℕ) (place v : ℕ) (P : ℕ → ℕ → Type 0) → place < length xs → ((i : ℕ) → i < place → P i (get_or xs i 0)) → P place v
+pub set_more : (xs : List ℕ) (place v : ℕ) (P : ℕ → ℕ → Type 0) → place < length xs
+    → ((i : ℕ) → i < place → P i (get_or xs i 0)) → P place v
     → (i : ℕ) → i < place + 1 → P i (get_or (set xs place v) i 0)
 set_more xs place v P within before here =
     below_more (λ i. P i (get_or (set xs place v) i 0)) place

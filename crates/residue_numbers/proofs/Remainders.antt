@@ -1,6 +1,9 @@
 -- Products of moduli, and the step of Garner's method.
-use Rattle.std.proofs.Common.{◌≡◌, ℕ, zero, suc, ◌+◌, ◌*◌, ◌/◌, ◌%◌, ◌^◌, ◌<◌, ◌≤◌, List, get_or, length, sym, ap, subst, ◌∙◌, refl, arith, ⊎_elim, add-one, Bool, true, false, IsTrue, ◌↔◌, Option, Some, None, is_some, MatchOption}
-use Rattle.std.proofs.Math.Nat.{div-add-mod, add-mul-mod_self_left, mod-eq_of_lt, mod-lt, mod-mod, mod-add-mod, add-mod-mod, mul-le-mul_left}
+use Rattle.std.proofs.Common.{◌≡◌, ℕ, zero, suc, ◌+◌, ◌*◌, ◌/◌, ◌%◌, ◌^◌, ◌<◌, ◌≤◌, List, get_or}
+use Rattle.std.proofs.Common.{length, sym, ap, subst, ◌∙◌, refl, arith, ⊎_elim, add-one, Bool}
+use Rattle.std.proofs.Common.{true, false, IsTrue, ◌↔◌, Option, Some, None, is_some, MatchOption}
+use Rattle.std.proofs.Math.Nat.{div-add-mod, add-mul-mod_self_left, mod-eq_of_lt, mod-lt}
+use Rattle.std.proofs.Math.Nat.{mod-mod, mod-add-mod, add-mod-mod, mul-le-mul_left}
 use Rattle.std.proofs.lemmas.Nat.{mul-add-lt, mul-mod, mul-mod_second}
 use Rattle.std.proofs.lemmas.Bool.{cases_lt}
 use Rattle.num_modular.specs.Divisors.{Coprime, gcd}
@@ -30,7 +33,8 @@ divides (suc n) j ms h =
     (cases_lt j n)
 
 -- products grow
-pub grows : (n k : ℕ) (ms : List ℕ) → ((i : ℕ) → i < k → 0 < get_or ms i 0) → n ≤ k → product_below n ms ≤ product_below k ms
+pub grows : (n k : ℕ) (ms : List ℕ) → ((i : ℕ) → i < k → 0 < get_or ms i 0) → n ≤ k
+    → product_below n ms ≤ product_below k ms
 unfolding product_below
 grows n zero ms positive h = let e : n ≡ 0 = omega arith in omega (arith, ap (λ i. product_below i ms) e)
 grows n (suc k) ms positive h =
@@ -74,13 +78,15 @@ factor_unit m a b positive (x, p) =
 pub unit_one : (m : ℕ) → 0 < m → HasInverse m 1
 unit_one m positive = (1 % m, record { below = mod-lt 1 positive; one = mul-mod_second 1 1 m })
 
-pub unit_of_all : (m n : ℕ) (ms : List ℕ) → 0 < m → ((j : ℕ) → j < n → HasInverse m (get_or ms j 0)) → HasInverse m (product_below n ms)
+pub unit_of_all : (m n : ℕ) (ms : List ℕ) → 0 < m → ((j : ℕ) → j < n → HasInverse m (get_or ms j 0))
+    → HasInverse m (product_below n ms)
 unfolding product_below
 unit_of_all m zero ms positive each = unit_one m positive
 unit_of_all m (suc n) ms positive each =
     product_unit m _ _ positive (unit_of_all m n ms positive (λ j h. each j (omega arith))) (each n (omega arith))
 
-pub each_of_unit : (m n j : ℕ) (ms : List ℕ) → 0 < m → HasInverse m (product_below n ms) → j < n → HasInverse m (get_or ms j 0)
+pub each_of_unit : (m n j : ℕ) (ms : List ℕ) → 0 < m → HasInverse m (product_below n ms) → j < n
+    → HasInverse m (get_or ms j 0)
 each_of_unit m n j ms positive unit h =
     let (k, e) = divides n j ms h in
     factor_unit m (get_or ms j 0) k positive (subst (HasInverse m) e unit)
@@ -89,7 +95,8 @@ each_of_unit m n j ms positive unit h =
 pub inversion_tells : {A : Type 0} (its_modulus its_residue : A → ℕ) (m a : ℕ) (found : Option A) (b : Bool)
     → MatchOption found ((x : ℕ) → IsInverse m a x → ⊥) (λ y. (its_modulus y ≡ m) × IsInverse m a (its_residue y))
     → b ≡ is_some found → IsTrue b ↔ HasInverse m a
-inversion_tells its_modulus its_residue m a None b h e = ((λ t. let wrong : false ≡ true = sym e ∙ t in cc), λ (x, inverse). absurd (h x inverse))
+inversion_tells its_modulus its_residue m a None b h e =
+    ((λ t. let wrong : false ≡ true = sym e ∙ t in cc), λ (x, inverse). absurd (h x inverse))
 inversion_tells its_modulus its_residue m a (Some y) b h e = ((λ t. (its_residue y, h.1)), λ inverse. e)
 
 -- the digit t gives the residue r
@@ -97,7 +104,8 @@ pub digit_right : (m number range t r s k w : ℕ) → k ≡ number % m % m → 
     → (s + k) % m ≡ r % m % m → (number + range * t) % m ≡ r % m
 digit_right m number range t r s k w known weight quotient difference =
     let turn : number + range * t ≡ t * range + number = omega arith in
-    let product : (t * range) % m ≡ s = sym (mul-mod_second t range m) ∙ ap (λ n. (t * n) % m) (sym (weight ∙ mod-mod range m)) ∙ quotient in
+    let product : (t * range) % m ≡ s =
+    sym (mul-mod_second t range m) ∙ ap (λ n. (t * n) % m) (sym (weight ∙ mod-mod range m)) ∙ quotient in
     ap (λ n. n % m) turn ∙ sym (mod-add-mod (t * range) m number) ∙ ap (λ n. (n + number) % m) product
     ∙ sym (add-mod-mod s number m) ∙ ap (λ n. (s + n) % m) (sym (known ∙ mod-mod number m)) ∙ difference ∙ mod-mod r m
 
@@ -120,7 +128,8 @@ only_at range m v d q i j k a b e one =
     omega (arith, along, times_q, times_d)
 
 -- it is the one number there with its residues
-pub only_digit : (range m x v d : ℕ) → HasInverse m range → x % range ≡ v → (v + range * d) % m ≡ x % m → v < range → d < m
+pub only_digit : (range m x v d : ℕ) → HasInverse m range → x % range ≡ v
+    → (v + range * d) % m ≡ x % m → v < range → d < m
     → x % (range * m) ≡ v + range * d
 only_digit range m x v d (i, inverse) is same h k =
     let q = x / range in
@@ -133,10 +142,12 @@ only_digit range m x v d (i, inverse) is same h k =
     let digits : q ≡ m * (q / m) + d = omega arith in
     let along = ap (λ n. range * n) digits in
     let sum : x ≡ v + range * d + range * m * (q / m) = omega arith in
-    ap (λ n. n % (range * m)) sum ∙ add-mul-mod_self_left (v + range * d) (range * m) (q / m) ∙ mod-eq_of_lt (within range m v d h k)
+    ap (λ n. n % (range * m)) sum ∙ add-mul-mod_self_left (v + range * d) (range * m) (q / m)
+    ∙ mod-eq_of_lt (within range m v d h k)
 
 -- in a system the product of the moduli before one has an inverse modulo it, by the laws of divisors and of inverses
-pub unit_here : (ms : List ℕ) (n : ℕ) → ((a m : ℕ) → 0 < m → Coprime a m ↔ (gcd a m ≡ 1)) → ((m a : ℕ) → 0 < m → HasInverse m a ↔ (gcd a m ≡ 1))
+pub unit_here : (ms : List ℕ) (n : ℕ) → ((a m : ℕ) → 0 < m → Coprime a m ↔ (gcd a m ≡ 1))
+    → ((m a : ℕ) → 0 < m → HasInverse m a ↔ (gcd a m ≡ 1))
     → IsSystem ms → n < length ms → HasInverse (get_or ms n 0) (product_below n ms)
 unit_here ms n coprime exists system h =
     let m = get_or ms n 0 in
@@ -145,10 +156,13 @@ unit_here ms n coprime exists system h =
     (exists m (get_or ms j 0) positive).1 ((coprime (get_or ms j 0) m positive).0 (system.coprime n j l h)))
 
 -- and the product with it is a word
-pub next_fits : (ms : List ℕ) (n range : ℕ) → range ≡ product_below n ms → IsSystem ms → n < length ms → range * get_or ms n 0 < 2 ^ 128
+pub next_fits : (ms : List ℕ) (n range : ℕ) → range ≡ product_below n ms → IsSystem ms → n < length ms
+    → range * get_or ms n 0 < 2 ^ 128
 next_fits ms n range e system h =
-    let whole : range * get_or ms n 0 ≡ product_below (n + 1) ms = ap (λ k. k * get_or ms n 0) e ∙ sym (product_more n ms) in
-    let most : product_below (n + 1) ms ≤ product_below (length ms) ms = grows (n + 1) (length ms) ms system.positive (omega arith) in
+    let whole : range * get_or ms n 0 ≡ product_below (n + 1) ms =
+    ap (λ k. k * get_or ms n 0) e ∙ sym (product_more n ms) in
+    let most : product_below (n + 1) ms ≤ product_below (length ms) ms =
+    grows (n + 1) (length ms) ms system.positive (omega arith) in
     let fits : product_below (length ms) ms < 2 ^ 128 = system.fits in
     omega (arith, whole, most, fits)
 

@@ -1,5 +1,7 @@
 -- Runs of one list of commands modulo the range and modulo the moduli.
-use Rattle.std.proofs.Common.{◌≡◌, ℕ, zero, suc, ◌+◌, ◌*◌, ◌%◌, ◌^◌, ◌<◌, ◌==◌, if◌then◌else◌, List, Bool, true, false, Option, Some, None, option_map, unwrap_or, IsSomeAnd, get_or, length, map, All, sym, ap, subst, ◌∙◌, refl, arith, pos, neg_ℤ, ◌-ℤ◌, ℤ, ◌↔◌}
+use Rattle.std.proofs.Common.{◌≡◌, ℕ, zero, suc, ◌+◌, ◌*◌, ◌%◌, ◌^◌, ◌<◌, ◌==◌, if◌then◌else◌, List, Bool}
+use Rattle.std.proofs.Common.{true, false, Option, Some, None, option_map, unwrap_or, IsSomeAnd, get_or}
+use Rattle.std.proofs.Common.{length, map, All, sym, ap, subst, ◌∙◌, refl, arith, pos, neg_ℤ, ◌-ℤ◌, ℤ, ◌↔◌}
 use Rattle.std.specs.List.{slice_get}
 use Rattle.std.proofs.Math.ListN.{get_or-map}
 use Rattle.std.proofs.Math.Nat.{mod-lt, mod-mod, mod-eq_of_lt}
@@ -16,11 +18,13 @@ use Rattle.num_modular.specs.declared.ring.RingCommand.{RingCommand}
 use Rattle.num_modular.specs.declared.ring.RingCommand.TheVariants.{Load, Add, Sub, Mul, Neg, Dbl, Sqr, Inv, Div, Pow}
 use Rattle.num_modular.specs.declared.ring.RunEnd.{RunEnd}
 use Rattle.num_modular.specs.declared.ring.RunEnd.TheVariants.{Done}
-use Rattle.num_modular.specs.Ring.{whole, destination_of, outcome, value_after, value_at, LacksInverse, IsStop, carried_out}
+use Rattle.num_modular.specs.Ring.{whole, destination_of, outcome, value_after}
+use Rattle.num_modular.specs.Ring.{value_at, LacksInverse, IsStop, carried_out}
 use Rattle.num_modular.specs.Stops.{inverted_by, NeedsInverse}
 use Rattle.residue_numbers.specs.Systems.{product_below, range_of, IsSystem, AreResidues}
 use Rattle.residue_numbers.proofs.Remainders.{divides, keeps, unit_of_all}
-use Rattle.residue_numbers.proofs.Encodings.{remainder_within, sum_within, product_within, difference_within, range_positive}
+use Rattle.residue_numbers.proofs.Encodings.{remainder_within, sum_within, product_within}
+use Rattle.residue_numbers.proofs.Encodings.{difference_within, range_positive}
 
 -- the laws that are taken from the library's calls
 pub record Laws : Type 0 where
@@ -41,17 +45,21 @@ pub record IsFactor (range m : ℕ) : Type 0 where
 negative_is : (n : ℕ) → pos 0 -ℤ pos n ≡ neg_ℤ (pos n)
 negative_is n = +ℤ_idl (neg_ℤ (pos n))
 
-inverse_within : {range m : ℕ} (f : IsFactor range m) (x a i : ℕ) → x % m ≡ a → IsInverse range x i → IsInverse m a (i % m)
+inverse_within : {range m : ℕ} (f : IsFactor range m) (x a i : ℕ) → x % m ≡ a
+    → IsInverse range x i → IsInverse m a (i % m)
 inverse_within {range} {m} f x a i p inverse = record {
   below = mod-lt i f.positive;
-  one = product_within range m f.times x i a (i % m) f.is p refl ∙ ap (λ n. n % m) inverse.one ∙ remainder_within range m f.times 1 f.is;
+  one = product_within range m f.times x i a (i % m) f.is p refl ∙ ap (λ n. n % m) inverse.one
+      ∙ remainder_within range m f.times 1 f.is;
 }
 
 -- what a command gives modulo the range leaves what it gives modulo m, where the inverse that it needs is there
-outcome_within : Laws → {range m : ℕ} (f : IsFactor range m) (V v : ℕ → ℕ) → ((r : ℕ) → V r % m ≡ v r) → (command : RingCommand ℕ)
+outcome_within : Laws → {range m : ℕ} (f : IsFactor range m) (V v : ℕ → ℕ)
+    → ((r : ℕ) → V r % m ≡ v r) → (command : RingCommand ℕ)
     → ((r : ℕ) → inverted_by command ≡ Some r → HasInverse range (V r))
     → (w : ℕ) × (outcome range V command ≡ Some w) × (outcome m v command ≡ Some (w % m))
-outcome_within laws {range} {m} f V v same (Load dst n) unit = (n % range, refl, ap Some (sym (remainder_within range m f.times n f.is)))
+outcome_within laws {range} {m} f V v same (Load dst n) unit =
+    (n % range, refl, ap Some (sym (remainder_within range m f.times n f.is)))
 outcome_within laws {range} {m} f V v same (Add dst a b) unit =
     ((V a + V b) % range, refl, ap Some (sum_within range m f.times (V a) (V b) (v a) (v b) f.is (same a) (same b)))
 outcome_within laws {range} {m} f V v same (Sub dst a b) unit = (
@@ -73,7 +81,8 @@ outcome_within laws {range} {m} f V v same (Neg dst a) unit = (
 outcome_within laws {range} {m} f V v same (Dbl dst a) unit = (
   (2 * V a) % range,
   refl,
-  ap Some (ap (λ n. (2 * n) % m) (sym (same a)) ∙ mul-mod_second 2 (V a) m ∙ sym (remainder_within range m f.times (2 * V a) f.is)),
+  ap Some (ap (λ n. (2 * n) % m) (sym (same a)) ∙ mul-mod_second 2 (V a) m
+      ∙ sym (remainder_within range m f.times (2 * V a) f.is)),
 )
 outcome_within laws {range} {m} f V v same (Sqr dst a) unit =
     ((V a * V a) % range, refl, ap Some (product_within range m f.times (V a) (V a) (v a) (v a) f.is (same a) (same a)))
@@ -84,13 +93,15 @@ outcome_within laws {range} {m} f V v same (Div dst a b) unit =
     let (x, inverse) = unit b refl in (
       (V a * x) % range,
       ap (option_map (λ y. (V a * y) % range)) (laws.found range (V b) x inverse),
-      ap (option_map (λ y. (v a * y) % m)) (laws.found m (v b) (x % m) (inverse_within f (V b) (v b) x (same b) inverse))
+      ap (option_map (λ y. (v a * y) % m))
+          (laws.found m (v b) (x % m) (inverse_within f (V b) (v b) x (same b) inverse))
           ∙ ap Some (product_within range m f.times (V a) x (v a) (x % m) f.is (same a) refl),
     )
 outcome_within laws {range} {m} f V v same (Pow dst a exp) unit = (
   V a ^ exp % range,
   refl,
-  ap Some (ap (λ n. n ^ exp % m) (sym (same a)) ∙ laws.powers m (V a) exp ∙ sym (remainder_within range m f.times (V a ^ exp) f.is)),
+  ap Some (ap (λ n. n ^ exp % m) (sym (same a)) ∙ laws.powers m (V a) exp
+      ∙ sym (remainder_within range m f.times (V a ^ exp) f.is)),
 )
 
 chosen : (b : Bool) (o p : Option ℕ) (x y w m : ℕ) → o ≡ Some w → p ≡ Some (w % m) → x % m ≡ y
@@ -98,7 +109,8 @@ chosen : (b : Bool) (o p : Option ℕ) (x y w m : ℕ) → o ≡ Some w → p �
 chosen true o p x y w m e f h = ap (λ q. unwrap_or q x % m) e ∙ sym (ap (λ q. unwrap_or q y) f)
 chosen false o p x y w m e f h = h
 
-after_within : Laws → {range m : ℕ} (f : IsFactor range m) (V v : ℕ → ℕ) → ((r : ℕ) → V r % m ≡ v r) → (read : Option (RingCommand ℕ))
+after_within : Laws → {range m : ℕ} (f : IsFactor range m) (V v : ℕ → ℕ) → ((r : ℕ) → V r % m ≡ v r)
+    → (read : Option (RingCommand ℕ))
     → ((r : ℕ) → IsSomeAnd read (λ command. inverted_by command ≡ Some r) → HasInverse range (V r))
     → (r : ℕ) → value_after range V read r % m ≡ value_after m v read r
 after_within laws f V v same None unit r = same r
@@ -107,7 +119,8 @@ after_within laws {range} {m} f V v same (Some command) unit r =
     chosen (r == destination_of command) (outcome range V command) (outcome m v command) (V r) (v r) w m p q (same r)
 
 -- so the values modulo the range leave the values modulo m, as long as each inverse is there modulo the range
-pub values_within : Laws → {range m : ℕ} (f : IsFactor range m) (start starts : List ℕ) (commands : List (RingCommand ℕ)) (i : ℕ)
+pub values_within : Laws
+    → {range m : ℕ} (f : IsFactor range m) (start starts : List ℕ) (commands : List (RingCommand ℕ)) (i : ℕ)
     → ((r : ℕ) → get_or start r 0 % m ≡ get_or starts r 0)
     → ((j r : ℕ) → j < i → NeedsInverse commands j r → HasInverse range (value_at range start commands j r))
     → (r : ℕ) → value_at range start commands i r % m ≡ value_at m starts commands i r
@@ -133,13 +146,15 @@ turned : Laws → (m a : ℕ) → 0 < m → 0 < a → HasInverse m a → HasInve
 turned laws m a positive above unit = (laws.coprime a m above).1 (swapped ((laws.coprime m a positive).0 unit))
 
 -- a number with an inverse modulo each modulus has one modulo their product
-unit_above : Laws → (n : ℕ) (moduli : List ℕ) (a : ℕ) → 0 < a → 0 < product_below n moduli → ((i : ℕ) → i < n → 0 < get_or moduli i 0)
+unit_above : Laws → (n : ℕ) (moduli : List ℕ) (a : ℕ) → 0 < a → 0 < product_below n moduli
+    → ((i : ℕ) → i < n → 0 < get_or moduli i 0)
     → ((i : ℕ) → i < n → HasInverse (get_or moduli i 0) a) → HasInverse (product_below n moduli) a
 unit_above laws n moduli a above wide positive each =
     turned laws a (product_below n moduli) above wide
     (unit_of_all a n moduli above (λ i h. turned laws (get_or moduli i 0) a (positive i h) above (each i h)))
 
-pub unit_of_product : Laws → (n : ℕ) (moduli : List ℕ) (a : ℕ) → 0 < product_below n moduli → ((i : ℕ) → i < n → 0 < get_or moduli i 0)
+pub unit_of_product : Laws → (n : ℕ) (moduli : List ℕ) (a : ℕ) → 0 < product_below n moduli
+    → ((i : ℕ) → i < n → 0 < get_or moduli i 0)
     → ((i : ℕ) → i < n → HasInverse (get_or moduli i 0) a) → HasInverse (product_below n moduli) a
 unit_of_product laws n moduli a wide positive each =
     let range = product_below n moduli in
@@ -150,15 +165,18 @@ unit_of_product laws n moduli a wide positive each =
     let unit = unit_above laws n moduli b above wide positive (λ i h.
     let m = get_or moduli i 0 in
     let (k, e) = divides n i moduli h in
-    (laws.has_residue m b).0 (subst (HasInverse m) (sym (keeps range m k a 1 e)) ((laws.has_residue m a).1 (each i h)))) in
+    (laws.has_residue m b).0
+    (subst (HasInverse m) (sym (keeps range m k a 1 e)) ((laws.has_residue m a).1 (each i h)))) in
     (laws.has_residue range a).0 (subst (HasInverse range) alike ((laws.has_residue range b).1 unit))
 
 -- where each inverse is there modulo each modulus, it is there modulo their product
 units_below : Laws → (n : ℕ) (moduli start : List ℕ) (starts : ℕ → List ℕ) (commands : List (RingCommand ℕ))
     → ((i : ℕ) → i < n → IsFactor (product_below n moduli) (get_or moduli i 0)) → 0 < product_below n moduli
     → ((i r : ℕ) → i < n → get_or start r 0 % get_or moduli i 0 ≡ get_or (starts i) r 0)
-    → ((i j r : ℕ) → i < n → NeedsInverse commands j r → HasInverse (get_or moduli i 0) (value_at (get_or moduli i 0) (starts i) commands j r))
-    → (count j r : ℕ) → j < count → NeedsInverse commands j r → HasInverse (product_below n moduli) (value_at (product_below n moduli) start commands j r)
+    → ((i j r : ℕ) → i < n → NeedsInverse commands j r
+    → HasInverse (get_or moduli i 0) (value_at (get_or moduli i 0) (starts i) commands j r))
+    → (count j r : ℕ) → j < count → NeedsInverse commands j r
+    → HasInverse (product_below n moduli) (value_at (product_below n moduli) start commands j r)
 units_below laws n moduli start starts commands factors wide begin units zero j r h needs = absurd (omega (arith, h))
 units_below laws n moduli start starts commands factors wide begin units (suc count) j r h needs =
     let before = units_below laws n moduli start starts commands factors wide begin units count in
@@ -166,14 +184,17 @@ units_below laws n moduli start starts commands factors wide begin units (suc co
     unit_of_product laws n moduli (value_at range start commands j r) wide (λ i l. (factors i l).positive)
     (λ i l.
     let m = get_or moduli i 0 in
-    let same = values_within laws (factors i l) start (starts i) commands j (λ q. begin i q l) (λ k q b. before k q (omega (arith, h, b))) r in
+    let same = values_within laws (factors i l) start (starts i) commands j (λ q. begin i q l)
+    (λ k q b. before k q (omega (arith, h, b))) r in
     (laws.has_residue m (value_at range start commands j r)).0 (subst (HasInverse m) (sym same) (units i j r l needs)))
 
 pub units_above : Laws → (n : ℕ) (moduli start : List ℕ) (starts : ℕ → List ℕ) (commands : List (RingCommand ℕ))
     → ((i : ℕ) → i < n → IsFactor (product_below n moduli) (get_or moduli i 0)) → 0 < product_below n moduli
     → ((i r : ℕ) → i < n → get_or start r 0 % get_or moduli i 0 ≡ get_or (starts i) r 0)
-    → ((i j r : ℕ) → i < n → NeedsInverse commands j r → HasInverse (get_or moduli i 0) (value_at (get_or moduli i 0) (starts i) commands j r))
-    → (j r : ℕ) → NeedsInverse commands j r → HasInverse (product_below n moduli) (value_at (product_below n moduli) start commands j r)
+    → ((i j r : ℕ) → i < n → NeedsInverse commands j r
+    → HasInverse (get_or moduli i 0) (value_at (get_or moduli i 0) (starts i) commands j r))
+    → (j r : ℕ) → NeedsInverse commands j r
+    → HasInverse (product_below n moduli) (value_at (product_below n moduli) start commands j r)
 units_above laws n moduli start starts commands factors wide begin units j r needs =
     units_below laws n moduli start starts commands factors wide begin units (suc j) j r (omega arith) needs
 
@@ -186,11 +207,14 @@ lacks_none m v (Some (Div dst a b)) h unit = h (unit b refl)
 lacks_none m v (Some _) h unit = h
 
 pub no_stop : {m : ℕ} {start : List ℕ} {commands : List (RingCommand ℕ)}
-    → ((j r : ℕ) → NeedsInverse commands j r → HasInverse m (value_at m start commands j r)) → (at : ℕ) → IsStop m start commands at → ⊥
-no_stop {m} {start} {commands} unit at stop = lacks_none m (value_at m start commands at) (slice_get commands at) stop.lacks (unit at)
+    → ((j r : ℕ) → NeedsInverse commands j r → HasInverse m (value_at m start commands j r)) → (at : ℕ)
+    → IsStop m start commands at → ⊥
+no_stop {m} {start} {commands} unit at stop =
+    lacks_none m (value_at m start commands at) (slice_get commands at) stop.lacks (unit at)
 
 -- a command over whole numbers needs the inverse that the command needs
-inverted_whole : {T : Type 0} (number : T → ℕ) (command : RingCommand T) → inverted_by (whole number command) ≡ inverted_by command
+inverted_whole : {T : Type 0} (number : T → ℕ) (command : RingCommand T)
+    → inverted_by (whole number command) ≡ inverted_by command
 inverted_whole number (Load dst n) = refl
 inverted_whole number (Add dst a b) = refl
 inverted_whole number (Sub dst a b) = refl
@@ -203,14 +227,16 @@ inverted_whole number (Div dst a b) = refl
 inverted_whole number (Pow dst a exp) = refl
 
 needs_read : {T : Type 0} (number : T → ℕ) (r : ℕ) (read : Option (RingCommand T))
-    → IsSomeAnd (option_map (whole number) read) (λ command. inverted_by command ≡ Some r) → IsSomeAnd read (λ command. inverted_by command ≡ Some r)
+    → IsSomeAnd (option_map (whole number) read) (λ command. inverted_by command ≡ Some r)
+    → IsSomeAnd read (λ command. inverted_by command ≡ Some r)
 needs_read number r None h = h
 needs_read number r (Some command) h = sym (inverted_whole number command) ∙ h
 
 pub needs_whole : {T : Type 0} (number : T → ℕ) (commands : List (RingCommand T)) (j r : ℕ)
     → NeedsInverse (map (whole number) commands) j r → NeedsInverse commands j r
 needs_whole number commands j r h =
-    needs_read number r (slice_get commands j) (subst (λ o. IsSomeAnd o (λ command. inverted_by command ≡ Some r)) (slice_get-map (whole number) commands j) h)
+    needs_read number r (slice_get commands j)
+    (subst (λ o. IsSomeAnd o (λ command. inverted_by command ≡ Some r)) (slice_get-map (whole number) commands j) h)
 
 -- the residues of the numbers that the registers start with
 abbrev pub starts : ℕ → List ℕ → List ℕ
@@ -218,43 +244,58 @@ starts m numbers = map (λ n. n % m) numbers
 
 begins : (m : ℕ) (numbers : List ℕ) → 0 < m → (r : ℕ) → get_or numbers r 0 % m ≡ get_or (starts m numbers) r 0
 begins m numbers positive r =
-    sym (subst (λ d. get_or (starts m numbers) r d ≡ get_or numbers r 0 % m) (mod-eq_of_lt positive) (get_or-map (λ n. n % m) numbers r 0))
+    sym (subst (λ d. get_or (starts m numbers) r d ≡ get_or numbers r 0 % m) (mod-eq_of_lt positive)
+    (get_or-map (λ n. n % m) numbers r 0))
 
-factor : (moduli : List ℕ) → IsSystem moduli → (i : ℕ) → i < length moduli → IsFactor (range_of moduli) (get_or moduli i 0)
+factor : (moduli : List ℕ) → IsSystem moduli → (i : ℕ) → i < length moduli
+    → IsFactor (range_of moduli) (get_or moduli i 0)
 factor moduli system i h =
     let (k, e) = divides (length moduli) i moduli h in
     record { times = k; is = e; wide = range_positive moduli system; positive = system.positive i h }
 
 -- where a list has no stop, each inverse is there
 abbrev pub EachInverse : Type 0
-EachInverse = (m : ℕ) (start : List ℕ) (commands : List (RingCommand ℕ)) → ((at : ℕ) → IsStop m start (map (whole (λ n. n)) commands) at → ⊥)
+EachInverse = (m : ℕ) (start : List ℕ) (commands : List (RingCommand ℕ))
+    → ((at : ℕ) → IsStop m start (map (whole (λ n. n)) commands) at → ⊥)
     → (i r : ℕ) → NeedsInverse commands i r → HasInverse m (value_at m start (map (whole (λ n. n)) commands) i r)
 
 -- where the list has no stop modulo any modulus, each inverse is there modulo the range
 units_whole : Laws → EachInverse → (moduli numbers : List ℕ) (commands : List (RingCommand ℕ)) → IsSystem moduli
-    → ((i : ℕ) → i < length moduli → (at : ℕ) → IsStop (get_or moduli i 0) (starts (get_or moduli i 0) numbers) (map (whole (λ n. n)) commands) at → ⊥)
-    → (j r : ℕ) → NeedsInverse (map (whole (λ n. n)) commands) j r → HasInverse (range_of moduli) (value_at (range_of moduli) numbers (map (whole (λ n. n)) commands) j r)
+    → ((i : ℕ) → i < length moduli → (at : ℕ)
+    → IsStop (get_or moduli i 0) (starts (get_or moduli i 0) numbers) (map (whole (λ n. n)) commands) at → ⊥)
+    → (j r : ℕ) → NeedsInverse (map (whole (λ n. n)) commands) j r
+    → HasInverse (range_of moduli) (value_at (range_of moduli) numbers (map (whole (λ n. n)) commands) j r)
 units_whole laws each moduli numbers commands system never =
-    units_above laws (length moduli) moduli numbers (λ i. starts (get_or moduli i 0) numbers) (map (whole (λ n. n)) commands)
-    (factor moduli system) (range_positive moduli system) (λ i r h. begins (get_or moduli i 0) numbers (system.positive i h) r)
-    (λ i j r h needs. each (get_or moduli i 0) (starts (get_or moduli i 0) numbers) commands (never i h) j r (needs_whole (λ n. n) commands j r needs))
+    units_above laws (length moduli) moduli numbers (λ i. starts (get_or moduli i 0) numbers)
+    (map (whole (λ n. n)) commands)
+    (factor moduli system) (range_positive moduli system)
+    (λ i r h. begins (get_or moduli i 0) numbers (system.positive i h) r)
+    (λ i j r h needs. each (get_or moduli i 0) (starts (get_or moduli i 0) numbers) commands (never i h) j r
+    (needs_whole (λ n. n) commands j r needs))
 
 -- so it has none modulo the range
 pub never_whole : Laws → EachInverse → (moduli numbers : List ℕ) (commands : List (RingCommand ℕ)) → IsSystem moduli
-    → ((i : ℕ) → i < length moduli → (at : ℕ) → IsStop (get_or moduli i 0) (starts (get_or moduli i 0) numbers) (map (whole (λ n. n)) commands) at → ⊥)
+    → ((i : ℕ) → i < length moduli → (at : ℕ)
+    → IsStop (get_or moduli i 0) (starts (get_or moduli i 0) numbers) (map (whole (λ n. n)) commands) at → ⊥)
     → (at : ℕ) → IsStop (range_of moduli) numbers (map (whole (λ n. n)) commands) at → ⊥
-never_whole laws each moduli numbers commands system never = no_stop (units_whole laws each moduli numbers commands system never)
+never_whole laws each moduli numbers commands system never =
+    no_stop (units_whole laws each moduli numbers commands system never)
 
 -- and leaves the residues of the value modulo the range
-pub residues_whole : Laws → EachInverse → (moduli numbers residues : List ℕ) (commands : List (RingCommand ℕ)) (register : ℕ) → IsSystem moduli
-    → ((i : ℕ) → i < length moduli → (at : ℕ) → IsStop (get_or moduli i 0) (starts (get_or moduli i 0) numbers) (map (whole (λ n. n)) commands) at → ⊥)
+pub residues_whole : Laws → EachInverse
+    → (moduli numbers residues : List ℕ) (commands : List (RingCommand ℕ)) (register : ℕ) → IsSystem moduli
+    → ((i : ℕ) → i < length moduli → (at : ℕ)
+    → IsStop (get_or moduli i 0) (starts (get_or moduli i 0) numbers) (map (whole (λ n. n)) commands) at → ⊥)
     → ((i : ℕ) → i < length moduli → get_or residues i 0
-    ≡ value_at (get_or moduli i 0) (starts (get_or moduli i 0) numbers) (map (whole (λ n. n)) commands) (length (map (whole (λ n. n)) commands)) register)
-    → AreResidues moduli residues (value_at (range_of moduli) numbers (map (whole (λ n. n)) commands) (length (map (whole (λ n. n)) commands)) register)
+    ≡ value_at (get_or moduli i 0) (starts (get_or moduli i 0) numbers) (map (whole (λ n. n)) commands)
+    (length (map (whole (λ n. n)) commands)) register)
+    → AreResidues moduli residues (value_at (range_of moduli) numbers (map (whole (λ n. n)) commands)
+    (length (map (whole (λ n. n)) commands)) register)
 residues_whole laws each moduli numbers residues commands register system never left = record {
   each = λ i h.
       let wholes = map (whole (λ n. n)) commands in
-      left i h ∙ sym (values_within laws (factor moduli system i h) numbers (starts (get_or moduli i 0) numbers) wholes (length wholes)
+      left i h ∙ sym (values_within laws (factor moduli system i h) numbers
+      (starts (get_or moduli i 0) numbers) wholes (length wholes)
       (begins (get_or moduli i 0) numbers (system.positive i h))
       (λ j r b needs. units_whole laws each moduli numbers commands system never j r needs) register);
 }
@@ -262,9 +303,11 @@ residues_whole laws each moduli numbers residues commands register system never 
 -- a list without a stop modulo the range has none modulo a modulus
 pub never_within : Laws → EachInverse → (moduli numbers : List ℕ) (commands : List (RingCommand ℕ)) → IsSystem moduli
     → ((at : ℕ) → IsStop (range_of moduli) numbers (map (whole (λ n. n)) commands) at → ⊥)
-    → (i : ℕ) → i < length moduli → (at : ℕ) → IsStop (get_or moduli i 0) (starts (get_or moduli i 0) numbers) (map (whole (λ n. n)) commands) at → ⊥
+    → (i : ℕ) → i < length moduli → (at : ℕ)
+    → IsStop (get_or moduli i 0) (starts (get_or moduli i 0) numbers) (map (whole (λ n. n)) commands) at → ⊥
 never_within laws each moduli numbers commands system never i h =
-    no_stop (units_within laws (factor moduli system i h) numbers (starts (get_or moduli i 0) numbers) (map (whole (λ n. n)) commands)
+    no_stop (units_within laws (factor moduli system i h) numbers (starts (get_or moduli i 0) numbers)
+    (map (whole (λ n. n)) commands)
     (begins (get_or moduli i 0) numbers (system.positive i h))
     (λ j r needs. each (range_of moduli) numbers commands never j r (needs_whole (λ n. n) commands j r needs)))
 
@@ -275,20 +318,24 @@ forms m modulus numbers registers positive e is =
     subst (λ k. All (λ f. IsForm plain_form plain_value k f) registers) (sym e)
     (subst (λ rs. All (λ f. IsForm plain_form plain_value m f) rs) (sym is)
     (λ i d h. record {
-      below = subst (λ n. n < m) (sym (get_or-map_within (λ n. n % m) numbers i 0 d (subst (λ n. i < n) (length-map numbers (λ n. n % m)) h))) (mod-lt (get_or numbers i 0) positive);
+      below = subst (λ n. n < m) (sym (get_or-map_within (λ n. n % m) numbers i 0 d
+          (subst (λ n. i < n) (length-map numbers (λ n. n % m)) h))) (mod-lt (get_or numbers i 0) positive);
       same = refl;
     }))
 
 -- what a run over the plain reducer tells, in the words of the numbers
-pub run_done : (m modulus : ℕ) (numbers registers : List ℕ) (commands : List (RingCommand ℕ)) (end : RunEnd) → modulus ≡ m → registers ≡ starts m numbers
+pub run_done : (m modulus : ℕ) (numbers registers : List ℕ) (commands : List (RingCommand ℕ)) (end : RunEnd)
+    → modulus ≡ m → registers ≡ starts m numbers
     → ((end ≡ Done) ↔ ((at : ℕ) → IsStop modulus (map (λ f. f) registers) commands at → ⊥))
     → (end ≡ Done) ↔ ((at : ℕ) → IsStop m (starts m numbers) commands at → ⊥)
 run_done m modulus numbers registers commands end e is told =
     subst (λ k. (end ≡ Done) ↔ ((at : ℕ) → IsStop k (starts m numbers) commands at → ⊥)) e
     (subst (λ s. (end ≡ Done) ↔ ((at : ℕ) → IsStop modulus s commands at → ⊥)) (map-id registers ∙ is) told)
 
-pub run_value : (m modulus : ℕ) (numbers registers : List ℕ) (commands : List (RingCommand ℕ)) (end : RunEnd) (register found : ℕ) → modulus ≡ m
-    → registers ≡ starts m numbers → end ≡ Done → found ≡ value_at modulus (map (λ f. f) registers) commands (carried_out end commands) register
+pub run_value : (m modulus : ℕ) (numbers registers : List ℕ) (commands : List (RingCommand ℕ)) (end : RunEnd)
+    (register found : ℕ) → modulus ≡ m
+    → registers ≡ starts m numbers → end ≡ Done
+    → found ≡ value_at modulus (map (λ f. f) registers) commands (carried_out end commands) register
     → found ≡ value_at m (starts m numbers) commands (length commands) register
 run_value m modulus numbers registers commands end register found e is done told =
     told ∙ ap (λ k. value_at k (map (λ f. f) registers) commands (carried_out end commands) register) e

@@ -1,4 +1,5 @@
--- Residue number systems (Garner, "The residue number system", IRE Transactions on Electronic Computers 8, 1959; Knuth, The Art of Computer Programming, volume 2, section 4.3.2).
+-- Residue number systems (Garner, "The residue number system", IRE Transactions on Electronic
+-- Computers 8, 1959; Knuth, The Art of Computer Programming, volume 2, section 4.3.2).
 use Rattle.std.specs.Prelude.{◌≡◌, ℕ, zero, suc, ◌+◌, ◌*◌, ◌%◌, ◌^◌, ◌<◌, ◌≤◌, pos, ◌-ℤ◌, List, length, slice_index}
 use Rattle.num_modular.specs.Divisors.{Coprime}
 use Rattle.num_modular.specs.Residues.{residue}

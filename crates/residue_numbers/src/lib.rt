@@ -4,7 +4,8 @@
 //! functions here take any count of moduli, with their conditions.
 #![tactic(auto)]
 
-ghost use Rattle.std.specs.Prelude.{◌≡◌, ℕ, ◌+◌, ◌*◌, ◌%◌, ◌^◌, ◌<◌, ◌≤◌, ◌↔◌, IsTrue, MatchOption, length, slice_index};
+ghost use Rattle.std.specs.Prelude.{◌≡◌, ℕ, ◌+◌, ◌*◌, ◌%◌, ◌^◌, ◌<◌, ◌≤◌, ◌↔◌};
+ghost use Rattle.std.specs.Prelude.{IsTrue, MatchOption, length, slice_index};
 ghost use Rattle.num_modular.specs.Inverses.{HasInverse};
 ghost use Rattle.residue_numbers.specs.Systems.{range_of, IsSystem, AreResidues};
 
@@ -83,7 +84,8 @@ pub fn encode(moduli: &[u64], number: u128, residues: &mut [u64])
 /// Whether each residue is below its modulus. Condition: each modulus has a residue.
 pub fn are_reduced(moduli: &[u64], residues: &[u64]) -> bool
     requires { length residues.now ≡ length moduli.now }
-    ensures { IsTrue result ↔ ((i : ℕ) → i < length moduli.now → slice_index residues.now i < slice_index moduli.now i) }
+    ensures { IsTrue result
+        ↔ ((i : ℕ) → i < length moduli.now → slice_index residues.now i < slice_index moduli.now i) }
 {
     'moduli: for (place, modulus) in moduli.iter().enumerate() {
         if residues[place] >= *modulus {

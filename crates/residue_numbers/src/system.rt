@@ -1,6 +1,7 @@
 //! Residue number systems of eight moduli at most.
 
-ghost use Rattle.std.specs.Prelude.{◌≡◌, ℕ, ◌+◌, ◌*◌, ◌%◌, ◌<◌, ◌≤◌, ◌↔◌, IsSome, IfSome, length, slice_index, pos, ◌-ℤ◌};
+ghost use Rattle.std.specs.Prelude.{◌≡◌, ℕ, ◌+◌, ◌*◌, ◌%◌, ◌<◌, ◌≤◌, ◌↔◌, IsSome};
+ghost use Rattle.std.specs.Prelude.{IfSome, length, slice_index, pos, ◌-ℤ◌};
 ghost use Rattle.num_modular.specs.Residues.{residue};
 ghost use Rattle.residue_numbers.specs.Systems.{range_of, IsSmallSystem, AreResidues, result_of};
 
@@ -83,7 +84,8 @@ impl<'a> ResidueSystem<'a> {
         requires right { length right.now ≡ length self.now.moduli.now }
         requires room { length results.old ≡ length self.now.moduli.now }
         ensures { (i : ℕ) → i < length self.now.moduli.now → slice_index results.new i
-            ≡ result_of operation (slice_index self.now.moduli.now i) (slice_index left.now i) (slice_index right.now i) }
+            ≡ result_of operation (slice_index self.now.moduli.now i)
+            (slice_index left.now i) (slice_index right.now i) }
     {
         let moduli = self.moduli;
         'moduli: for (place, modulus) in moduli.iter().enumerate() {
@@ -115,7 +117,8 @@ impl<'a> ResidueSystem<'a> {
         requires right { length right.now ≡ length self.now.moduli.now }
         requires room { length differences.old ≡ length self.now.moduli.now }
         ensures each { (i : ℕ) → i < length self.now.moduli.now → slice_index differences.new i
-            ≡ residue (slice_index self.now.moduli.now i) (pos (slice_index left.now i) -ℤ pos (slice_index right.now i)) }
+            ≡ residue (slice_index self.now.moduli.now i)
+            (pos (slice_index left.now i) -ℤ pos (slice_index right.now i)) }
         ensures difference { (x y : ℕ) → let moduli = self.now.moduli.now in
             AreResidues moduli left.now x → AreResidues moduli right.now y →
             AreResidues moduli differences.new (residue (range_of moduli) (pos x -ℤ pos y)) }

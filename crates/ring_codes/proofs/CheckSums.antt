@@ -1,6 +1,9 @@
 -- Sums that differ in one term, and what a changed sum is modulo m.
-use Rattle.std.proofs.Common.{Bool, true, false, not, IsTrue, ◌↔◌, ◌≡◌, ◌≢◌, ℕ, zero, suc, ◌+◌, ◌*◌, ◌/◌, ◌%◌, ◌<◌, ◌≤◌, List, length, get_or, set, sym, ap, ◌∙◌, refl, arith, add-one, Option, Some, None, is_some, MatchOption, ⊎_elim, length-set, get_or-set_same, get_or-set_other}
-use Rattle.std.proofs.Math.Nat.{add-mod, add-mod-mod, mod-add-mod, div-add-mod, add-mul-mod_self_left, zero-mod, mod-eq_of_lt}
+use Rattle.std.proofs.Common.{Bool, true, false, not, IsTrue, ◌↔◌, ◌≡◌, ◌≢◌, ℕ, zero, suc, ◌+◌, ◌*◌, ◌/◌, ◌%◌, ◌<◌}
+use Rattle.std.proofs.Common.{◌≤◌, List, length, get_or, set, sym, ap, ◌∙◌, refl, arith, add-one, Option, Some}
+use Rattle.std.proofs.Common.{None, is_some, MatchOption, ⊎_elim, length-set, get_or-set_same, get_or-set_other}
+use Rattle.std.proofs.Math.Nat.{add-mod, add-mod-mod, mod-add-mod, div-add-mod}
+use Rattle.std.proofs.Math.Nat.{add-mul-mod_self_left, zero-mod, mod-eq_of_lt}
 use Rattle.std.proofs.lemmas.Nat.{mul-mod_first}
 use Rattle.std.proofs.lemmas.Bool.{cases_lt}
 use Rattle.num_modular.specs.Inverses.{IsInverse, HasInverse}
@@ -111,35 +114,42 @@ cancels_at m e i d j k q one whole =
 unit_cancels : (m e i d : ℕ) → (e * i) % m ≡ 1 % m → (e * d) % m ≡ 0 → d % m ≡ 0
 unit_cancels m e i d one zero_product =
     let whole = div-add-mod (e * d) m in
-    gathered m d 0 _ _ (cancels_at m e i d (1 / m) (e * i / m) (e * d / m) (spread m (e * i) 1 one) (omega (arith, whole)))
+    gathered m d 0 _ _
+    (cancels_at m e i d (1 / m) (e * i / m) (e * d / m) (spread m (e * i) 1 one) (omega (arith, whole)))
     ∙ zero-mod m
 
 -- so it shows a difference
 pub unit_finds : (m e d x s : ℕ) → HasInverse m e → (d + x) % m ≡ s % m → s % m ≢ x % m → (e * d) % m ≢ 0
 unit_finds m e d x s (i, inverse) difference apart zero_product =
-    apart (sym difference ∙ sym (mod-add-mod d m x) ∙ ap (λ n. (n + x) % m) (unit_cancels m e i d inverse.one zero_product)
+    apart (sym difference ∙ sym (mod-add-mod d m x)
+    ∙ ap (λ n. (n + x) % m) (unit_cancels m e i d inverse.one zero_product)
     ∙ ap (λ n. n % m) (let e : 0 + x ≡ x = omega arith in e))
 
 -- what a negated test for 0 tells
-pub refused_where : (b : Bool) (v : ℕ) (P : Type 0) → (IsTrue b ↔ (v ≡ 0)) → (P → v ≡ 0) → (v ≡ 0 → P) → IsTrue (not b) ↔ ¬ P
+pub refused_where : (b : Bool) (v : ℕ) (P : Type 0) → (IsTrue b ↔ (v ≡ 0)) → (P → v ≡ 0)
+    → (v ≡ 0 → P) → IsTrue (not b) ↔ ¬ P
 refused_where true v P t f g = ((λ h. cc), λ h. absurd (h (g (t.0 refl))))
 refused_where false v P t f g =
     ((λ h p. let wrong : false ≡ true = t.1 (f p) in cc), λ h. refl)
 
-restored_at : (m S S' w x s q t r a b c d j k : ℕ) → S' + w * x ≡ S + w * s → q * w + m * a ≡ t + m * b → t + r + m * c ≡ S + m * d
+restored_at : (m S S' w x s q t r a b c d j k : ℕ) → S' + w * x ≡ S + w * s
+    → q * w + m * a ≡ t + m * b → t + r + m * c ≡ S + m * d
     → s + q + m * j ≡ x + m * k → S' + m * (b + w * j + d) ≡ r + m * (c + w * k + a)
 restored_at m S S' w x s q t r a b c d j k moved quotient less difference =
     let times = ap (λ n. w * n) difference in
     omega (arith, times, moved, quotient, less)
 
 -- the restored symbol: q times the weight is t, which is the sum less r, modulo m, and s is the symbol there less q
-pub restored_sum : (m S S' w x s q t r : ℕ) → S' + w * x ≡ S + w * s → (q * w) % m ≡ t % m → (t + r) % m ≡ S % m → (s + q) % m ≡ x % m
+pub restored_sum : (m S S' w x s q t r : ℕ) → S' + w * x ≡ S + w * s → (q * w) % m ≡ t % m
+    → (t + r) % m ≡ S % m → (s + q) % m ≡ x % m
     → S' % m ≡ r % m
 restored_sum m S S' w x s q t r moved quotient less difference =
     gathered m S' r _ _
-    (restored_at m S S' w x s q t r _ _ _ _ _ _ moved (spread m (q * w) t quotient) (spread m (t + r) S less) (spread m (s + q) x difference))
+    (restored_at m S S' w x s q t r _ _ _ _ _ _ moved (spread m (q * w) t quotient) (spread m (t + r) S less)
+    (spread m (s + q) x difference))
 
-one_at : (m S S' S'' w x s t i a b j k : ℕ) → S' + w * x ≡ S + w * s → S'' + w * x ≡ S + w * t → S' + m * a ≡ S'' + m * b
+one_at : (m S S' S'' w x s t i a b j k : ℕ) → S' + w * x ≡ S + w * s
+    → S'' + w * x ≡ S + w * t → S' + m * a ≡ S'' + m * b
     → w * i + m * j ≡ 1 + m * k → t + m * (k * t + j * s + i * b) ≡ s + m * (k * s + j * t + i * a)
 one_at m S S' S'' w x s t i a b j k moved other equal one =
     let times_s = ap (λ n. n * s) one in
@@ -154,12 +164,14 @@ pub one_symbol : (m S S' S'' w x s t : ℕ) → HasInverse m w → s < m → t <
     → S' + w * x ≡ S + w * s → S'' + w * x ≡ S + w * t → t ≡ s
 one_symbol m S S' S'' w x s t (i, inverse) s_below t_below equal moved other =
     sym (mod-eq_of_lt t_below)
-    ∙ gathered m t s _ _ (one_at m S S' S'' w x s t i _ _ _ _ moved other (spread m S' S'' equal) (spread m (w * i) 1 inverse.one))
+    ∙ gathered m t s _ _
+    (one_at m S S' S'' w x s t i _ _ _ _ moved other (spread m S' S'' equal) (spread m (w * i) 1 inverse.one))
     ∙ mod-eq_of_lt s_below
 
 -- an inversion tells whether there is an inverse
 pub inversion_tells : {A : Type 0} (its_modulus its_residue : A → ℕ) (m a : ℕ) (found : Option A) (b : Bool)
     → MatchOption found ((x : ℕ) → IsInverse m a x → ⊥) (λ y. (its_modulus y ≡ m) × IsInverse m a (its_residue y))
     → b ≡ is_some found → IsTrue b ↔ HasInverse m a
-inversion_tells its_modulus its_residue m a None b h e = ((λ t. let wrong : false ≡ true = sym e ∙ t in cc), λ (x, inverse). absurd (h x inverse))
+inversion_tells its_modulus its_residue m a None b h e =
+    ((λ t. let wrong : false ≡ true = sym e ∙ t in cc), λ (x, inverse). absurd (h x inverse))
 inversion_tells its_modulus its_residue m a (Some y) b h e = ((λ t. (its_residue y, h.1)), λ inverse. e)

@@ -1,4 +1,5 @@
--- Codes over the integers modulo m with one check equation (Gallian, "The mathematics of identification numbers", The College Mathematics Journal 22, 1991; Verhoeff, Error Detecting Decimal Codes, chapter 2).
+-- Codes over the integers modulo m with one check equation (Gallian, "The mathematics of identification numbers",
+-- The College Mathematics Journal 22, 1991; Verhoeff, Error Detecting Decimal Codes, chapter 2).
 use Rattle.std.specs.Prelude.{◌≡◌, ℕ, suc, ◌*◌, ◌%◌, List, length, slice_index, slice_set}
 use Rattle.num_modular.specs.Sums.{sum_below}
 

@@ -1,5 +1,6 @@
 -- IBANs as their standard reads them (ISO 13616-1, International bank account number, by ISO/IEC 7064, MOD 97-10).
-use Rattle.std.specs.Prelude.{◌≡◌, ℕ, ◌-◌, ◌/◌, ◌%◌, ◌≤◌, ◌⊎◌, if◌then◌else◌, nat_le, List, All, [], ◌∷◌, ◌++◌, length, slice_index, take, drop}
+use Rattle.std.specs.Prelude.{◌≡◌, ℕ, ◌-◌, ◌/◌, ◌%◌, ◌≤◌, ◌⊎◌, if◌then◌else◌, nat_le}
+use Rattle.std.specs.Prelude.{List, All, [], ◌∷◌, ◌++◌, length, slice_index, take, drop}
 use Rattle.std.specs.List.{flat_map}
 use Rattle.num_modular.specs.Sums.{polynomial}
 
@@ -19,7 +20,8 @@ pub record IsIbanForm (text : List ℕ) : Type 0 where
   pub check : IsDigit (slice_index text 2) × IsDigit (slice_index text 3)
   pub characters : All (λ c. IsDigit c ⊎ IsLetter c) text
 
--- the digits that a character is read as: one of 0 to 9 as itself, a letter as the two of its number from A, which is 10, to Z, which is 35
+-- the digits that a character is read as: one of 0 to 9 as itself,
+-- a letter as the two of its number from A, which is 10, to Z, which is 35
 abbrev pub digits_of : ℕ → List ℕ
 digits_of c = if nat_le c 57 then (c - 48) ∷ [] else ((c - 55) / 10) ∷ ((c - 55) % 10) ∷ []
 

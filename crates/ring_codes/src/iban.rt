@@ -3,7 +3,8 @@
 //! The symbols of their code are digits: what is said of the change of one symbol is said of one digit,
 //! and the change of a letter is that of its two digits.
 
-ghost use Rattle.std.specs.Prelude.{◌≡◌, ℕ, suc, ◌+◌, ◌-◌, ◌*◌, ◌%◌, ◌^◌, ◌<◌, ◌≤◌, ◌↔◌, ◌⊎◌, ◌++◌, IsTrue, All, length, slice_index, take};
+ghost use Rattle.std.specs.Prelude.{◌≡◌, ℕ, suc, ◌+◌, ◌-◌, ◌*◌, ◌%◌, ◌^◌, ◌<◌, ◌≤◌, ◌↔◌};
+ghost use Rattle.std.specs.Prelude.{◌⊎◌, ◌++◌, IsTrue, All, length, slice_index, take};
 ghost use Rattle.std.specs.List.{flat_map};
 ghost use Rattle.ring_codes.specs.Ibans.{IsDigit, IsLetter, IsIbanForm, digits_of, iban_digits, IsIban};
 

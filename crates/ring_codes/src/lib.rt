@@ -5,7 +5,8 @@
 //! ISBN-13, 1 modulo 97 for IBAN, and any other.
 #![tactic(auto)]
 
-ghost use Rattle.std.specs.Prelude.{◌≡◌, ◌≢◌, ℕ, suc, ◌+◌, ◌*◌, ◌%◌, ◌<◌, ◌≤◌, ◌↔◌, IsTrue, length, slice_index, slice_set, pos, ◌-ℤ◌};
+ghost use Rattle.std.specs.Prelude.{◌≡◌, ◌≢◌, ℕ, suc, ◌+◌, ◌*◌, ◌%◌, ◌<◌, ◌≤◌, ◌↔◌};
+ghost use Rattle.std.specs.Prelude.{IsTrue, length, slice_index, slice_set, pos, ◌-ℤ◌};
 ghost use Rattle.num_modular.specs.Integers.{IsReduced};
 ghost use Rattle.num_modular.specs.Inverses.{HasInverse};
 ghost use Rattle.num_modular.specs.Residues.{residue};
@@ -146,7 +147,8 @@ impl<'a> Code<'a> {
         requires within { place < length word.now }
         requires unit { HasInverse self.now.modulus (slice_index self.now.weights.now place) }
         ensures below { result < self.now.modulus }
-        ensures accepted { IsCodeword self.now.modulus self.now.residue self.now.weights.now (slice_set word.now place result) }
+        ensures accepted { IsCodeword self.now.modulus self.now.residue self.now.weights.now
+            (slice_set word.now place result) }
         ensures only { (symbol : ℕ) → symbol < self.now.modulus →
             IsCodeword self.now.modulus self.now.residue self.now.weights.now (slice_set word.now place symbol) →
             symbol ≡ result }

@@ -8,18 +8,21 @@ use Rattle.num_modular.specs.declared.ring.RunEnd.TheVariants.{Done, NoInverse}
 use Rattle.num_modular.specs.Ring.{value_at, IsStop, carried_out, values_of}
 
 -- what a run says of its end and of the residues that it leaves
-pub record IsRun (m : ℕ) (start : List ℕ) (commands : List (RingCommand ℕ)) (end : RunEnd) (left : List ℕ) : Type 0 where
+pub record IsRun (m : ℕ) (start : List ℕ) (commands : List (RingCommand ℕ)) (end : RunEnd)
+    (left : List ℕ) : Type 0 where
   pub stops : (at : ℕ) → (end ≡ NoInverse at) ↔ IsStop m start commands at
   pub done : (end ≡ Done) ↔ ((at : ℕ) → IsStop m start commands at → ⊥)
   pub count : length left ≡ length start
   pub residues : (n : ℕ) → n < length start → get_or left n 0 ≡ value_at m start commands (carried_out end commands) n
 
 -- of registers, by the clauses of `run`
-pub run_of : {T : Type 0} (number : T → ℕ) (value : ℕ → ℕ → ℕ) (m : ℕ) (old new : List T) (commands : List (RingCommand ℕ)) (end : RunEnd)
+pub run_of : {T : Type 0} (number : T → ℕ) (value : ℕ → ℕ → ℕ) (m : ℕ) (old new : List T)
+    (commands : List (RingCommand ℕ)) (end : RunEnd)
     → length new ≡ length old
     → ((at : ℕ) → (end ≡ NoInverse at) ↔ IsStop m (values_of number value m old) commands at)
     → ((end ≡ Done) ↔ ((at : ℕ) → IsStop m (values_of number value m old) commands at → ⊥))
-    → ((n : ℕ) → n < length old → get_or (values_of number value m new) n 0 ≡ value_at m (values_of number value m old) commands (carried_out end commands) n)
+    → ((n : ℕ) → n < length old → get_or (values_of number value m new) n 0
+    ≡ value_at m (values_of number value m old) commands (carried_out end commands) n)
     → IsRun m (values_of number value m old) commands end (values_of number value m new)
 run_of {T} number value m old new commands end kept stops done residues =
     let values = λ (f : T). value m (number f) in
@@ -33,8 +36,10 @@ run_of {T} number value m old new commands end kept stops done residues =
     }
 
 -- equal starts and lists
-pub run_as : {m m' : ℕ} {start start' : List ℕ} {commands commands' : List (RingCommand ℕ)} (end : RunEnd) (left : List ℕ)
-    → m ≡ m' → start ≡ start' → commands ≡ commands' → IsRun m' start' commands' end left → IsRun m start commands end left
+pub run_as : {m m' : ℕ} {start start' : List ℕ} {commands commands' : List (RingCommand ℕ)}
+    (end : RunEnd) (left : List ℕ)
+    → m ≡ m' → start ≡ start' → commands ≡ commands' → IsRun m' start' commands' end left
+    → IsRun m start commands end left
 run_as {m} {m'} {start} {start'} {commands} {commands'} end left e f g h =
     subst (λ n. IsRun n start commands end left) (sym e)
     (subst (λ s. IsRun m' s commands end left) (sym f) (subst (λ c. IsRun m' start' c end left) (sym g) h))

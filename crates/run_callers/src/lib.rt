@@ -33,7 +33,8 @@ pub fn checked_run<T: RingWord, R: Reducer<T>>(
     ensures values { let m = R.modulus r.now in
         let start = values_of T.number R.value m regs.old in
         let wholes = map (whole T.number) commands.now in
-        IfSome result (λ end. HoldValues T.number R.form m regs.new (value_at m start wholes (carried_out end wholes))) }
+        IfSome result
+        (λ end. HoldValues T.number R.form m regs.new (value_at m start wholes (carried_out end wholes))) }
 {
     if all_checked(r, regs) && commands_fit(commands, regs.len()) {
         Some(run(r, regs, commands))

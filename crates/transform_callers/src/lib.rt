@@ -1,6 +1,8 @@
 //! Callers of transforms, proved from their contracts and the public laws alone.
 #![tactic(auto)]
 
+pub mod plans;
+
 ghost use Rattle.std.specs.Prelude.{All, length, slice_index};
 ghost use Rattle.modular_word.specs.Inverses.{IsInverse};
 ghost use Rattle.modular_reduced.specs.Forms.{IsForm};

@@ -1,8 +1,10 @@
 //! Transforms and cyclic products beside their plain sums, and plans with their factors.
 
 mod factors;
+mod joins;
 mod natural_order;
 mod plain_sums;
+mod products;
 mod reducers;
 mod remainders;
 mod roots;

@@ -43,6 +43,26 @@ impl<T: PlainWord> Montgomery<T> {
         }
     }
 
+    /// What is computed once of m: the negated inverse of its odd part modulo the base, and the square
+    /// of the base modulo that part.
+    pub fn computed_once(&self) -> (T, T) {
+        (self.odd.kept.negated_inverse, self.odd.kept.square)
+    }
+
+    /// The reducer of m by what `computed_once` gave of it; `None` exactly where these aren't the two
+    /// numbers of m. No division is made.
+    pub fn restored(m: T, negated_inverse: T, square: T) -> Option<Self> {
+        if m.is_zero_word() {
+            return None;
+        }
+        let twos = m.trailing_zeros();
+        let kept = StoredModulus::<T>::restored(m.shift_right(twos), negated_inverse, square)?;
+        Some(Montgomery {
+            odd: OddRing::over(kept),
+            twos,
+        })
+    }
+
     // The part of a form above the lowest bits.
     fn high(&self, f: T) -> T {
         f.shift_right(self.twos)

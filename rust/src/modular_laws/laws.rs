@@ -21,7 +21,8 @@ pub fn product_below_laws() {}
 
 /// A product has an inverse exactly where both factors have, and one over a range exactly where each
 /// factor has. An inverse of a·b times b is one of a, times a it is one of b, and the product of the
-/// inverses is one of the product.
+/// inverses is one of the product. Over a range, an inverse of the product times the last factor is one of
+/// the product before it, and times that product's residue it is one of the last factor.
 ///
 /// Source: Gauss, Disquisitiones Arithmeticae, articles 29 and 31; for a range, Montgomery, "Speeding the
 /// Pollard and elliptic curve methods of factorization", section 10.3.1.

@@ -36,6 +36,26 @@ pub(crate) fn computed_once<T: PlainWord>(m: T) -> (T, T) {
     (negated_inverse, square)
 }
 
+// Whether a word is 1.
+fn is_one<T: PathWord>(x: T) -> bool {
+    x == T::one()
+}
+
+// Whether n is the negated inverse of m modulo the base.
+fn is_negated_inverse<T: PathWord>(m: T, n: T) -> bool {
+    m.wrapping_mul(n).wrapping_add(T::one()).is_zero_word()
+}
+
+// Whether a word is the square of the base modulo m: two reductions make 1 of that alone.
+fn is_square_of_base<T: PathWord>(m: T, negated_inverse: T, square: T) -> bool {
+    if !square.is_below(m) {
+        return false;
+    }
+    let base = redc(m, negated_inverse, T::merge(square, T::zero()));
+    let unit = redc(m, negated_inverse, T::merge(base, T::zero()));
+    is_one(unit) || is_one(m)
+}
+
 /// The reducer by Montgomery's representation modulo what it holds: the form of v is v times the
 /// base, modulo m, the base being 2 to the width of the words T. `new` takes the moduli that M takes.
 ///
@@ -48,12 +68,19 @@ pub struct OddRing<T: PlainWord, M: OddModulus<T>> {
     word: PhantomData<T>,
 }
 
-impl<T: PlainWord, M: OddModulus<T>> Reducer<T> for OddRing<T, M> {
-    fn new(m: &T) -> Self {
+impl<T: PlainWord, M: OddModulus<T>> OddRing<T, M> {
+    /// The reducer by what is kept of its modulus.
+    pub fn over(kept: M) -> Self {
         OddRing {
-            kept: M::keep(*m),
+            kept,
             word: PhantomData,
         }
+    }
+}
+
+impl<T: PlainWord, M: OddModulus<T>> Reducer<T> for OddRing<T, M> {
+    fn new(m: &T) -> Self {
+        OddRing::over(M::keep(*m))
     }
 
     // A product and a reduction in place of the division of a double word.
@@ -131,6 +158,25 @@ impl<T: PlainWord> Clone for StoredModulus<T> {
 }
 
 impl<T: PlainWord> Copy for StoredModulus<T> {}
+
+impl<T: PlainWord> StoredModulus<T> {
+    /// What is stored of m, by the two numbers that were computed of it before; `None` exactly where m is
+    /// even or one of them isn't that number. No division is made.
+    pub fn restored(m: T, negated_inverse: T, square: T) -> Option<StoredModulus<T>> {
+        if m.is_odd()
+            && is_negated_inverse(m, negated_inverse)
+            && is_square_of_base(m, negated_inverse, square)
+        {
+            Some(StoredModulus {
+                modulus: m,
+                negated_inverse,
+                square,
+            })
+        } else {
+            None
+        }
+    }
+}
 
 impl<T: PlainWord> OddModulus<T> for StoredModulus<T> {
     fn keep(m: T) -> Self {

@@ -1,5 +1,6 @@
 //! The integer of an operand, and words given by their sign and their magnitude.
 
+use crate::modular_symbols::low_part::LowPart;
 pub use crate::modular_prim::numbered::IntegerValued;
 use crate::modular_prim::numbered::Numbered;
 use crate::modular_prim::plain_word::PlainWord;
@@ -15,7 +16,7 @@ impl<Any: Numbered + IntegerValued + Eq> UnsignedOperand for Any {}
 /// A machine word with or without sign.
 pub trait SymbolWord: IntegerValued + Copy {
     /// The word without sign that holds the magnitude, the least number's too.
-    type Magnitude: PlainWord;
+    type Magnitude: LowPart;
 
     /// Whether the number is negative, and its magnitude.
     fn sign_and_magnitude(self) -> (bool, Self::Magnitude);

@@ -1,7 +1,10 @@
 //! Transforms by a plan: a table of factors with their quotients, which the caller keeps.
 
+pub mod convolution;
+pub mod join;
 pub mod modulus;
 pub mod plan;
+pub mod products;
 pub mod roots;
 pub mod split;
 pub mod transform;

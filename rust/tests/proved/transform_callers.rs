@@ -1,5 +1,7 @@
 //! Callers of transforms, proved from their contracts and the public laws alone.
 
+pub mod plans;
+
 use num_modular::modular_reduced::reducer::Reducer;
 use num_modular::modular_transform::convolution::scale;
 use num_modular::modular_transform::laws::transform_laws;

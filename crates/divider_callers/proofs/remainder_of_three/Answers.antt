@@ -14,4 +14,5 @@ two_steps b d low middle high first second q rest k r e h f i =
 
 pub returns : goal.returns
 returns g c =
-    two_steps _ _ _ _ _ _ _ _ _ _ _ c.merge.ensures.value c.div_rem_2by1-rest.ensures c.merge-2.ensures.value c.div_rem_2by1-remainder.ensures
+    two_steps _ _ _ _ _ _ _ _ _ _ _ c.merge.ensures.value c.div_rem_2by1-rest.ensures c.merge-2.ensures.value
+    c.div_rem_2by1-remainder.ensures

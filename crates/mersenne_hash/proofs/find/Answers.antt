@@ -1,4 +1,5 @@
-use Rattle.std.proofs.Common.{◌≡◌, ℕ, ◌+◌, ◌≤◌, ◌<◌, ◌%◌, ◌^◌, List, length, take, drop, arith, ap, sym, ◌∙◌, below_more, length-drop}
+use Rattle.std.proofs.Common.{◌≡◌, ℕ, ◌+◌, ◌≤◌, ◌<◌, ◌%◌, ◌^◌, List, length, take}
+use Rattle.std.proofs.Common.{drop, arith, ap, sym, ◌∙◌, below_more, length-drop}
 use Rattle.std.proofs.lemmas.Bool.{false≢true}
 use Rattle.std.proofs.lemmas.List.{length-take-le}
 use Rattle.num_modular.specs.Integers.{residue_of}
@@ -15,7 +16,10 @@ windows-preserved c =
     let room : n ≤ length (drop at text) = omega (arith, length-drop at text) in
     let count : length (take n (drop at text)) ≡ n = length-take-le n (drop at text) room in
     record {
-      hashed = c.moved-window.ensures.hash (take n (drop at text)) (take n (drop (at + 1) text)) (window_moves n at text inside)
-          c.windows.invariant.hashed (c.pow-power.ensures.residue ∙ ap (λ k. residue_of c.args.base ^ k % mersenne 61 1) (sym count));
-      nowhere = below_more _ _ c.windows.invariant.nowhere (λ stands. false≢true (sym c.if-is_hit.false ∙ c.is_hit.ensures.1 stands));
+      hashed = c.moved-window.ensures.hash (take n (drop at text)) (take n (drop (at + 1) text))
+          (window_moves n at text inside)
+          c.windows.invariant.hashed
+          (c.pow-power.ensures.residue ∙ ap (λ k. residue_of c.args.base ^ k % mersenne 61 1) (sym count));
+      nowhere = below_more _ _ c.windows.invariant.nowhere
+          (λ stands. false≢true (sym c.if-is_hit.false ∙ c.is_hit.ensures.1 stands));
     }

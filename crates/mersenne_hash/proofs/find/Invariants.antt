@@ -7,6 +7,7 @@ use Rattle.mersenne_hash.proofs.find.Given as goal
 -- the hash is that of the window, and the pattern stands nowhere before it
 abbrev pub invariant-windows : goal.invariant-windows
 invariant-windows l = record {
-  hashed : residue_of l.window ≡ polynomial_value (take l.length (drop l.at l.text)) (residue_of l.base) % mersenne 61 1;
+  hashed : residue_of l.window
+      ≡ polynomial_value (take l.length (drop l.at l.text)) (residue_of l.base) % mersenne 61 1;
   nowhere : (j : ℕ) → j < l.at → StandsAt l.text l.pattern j → ⊥;
 }

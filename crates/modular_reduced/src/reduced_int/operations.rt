@@ -1,6 +1,7 @@
 //! What the operators of integers compute: all kinds of operands of an operator call one of these.
 
-ghost use Rattle.modular_reduced.specs.Integers.{CanDivide, IsDifference, IsNegative, IsProduct, IsQuotient, IsReduced, IsSum, modulus_of, residue_of};
+ghost use Rattle.modular_reduced.specs.Integers.{CanDivide, IsDifference, IsNegative, IsProduct};
+ghost use Rattle.modular_reduced.specs.Integers.{IsQuotient, IsReduced, IsSum, modulus_of, residue_of};
 ghost use Rattle.std.specs.Prelude.{◌≡◌, ◌%◌};
 
 use super::ReducedInt;

@@ -1,7 +1,8 @@
 //! How numbers and ring commands are read from text.
 
 ghost use Rattle.std.specs.Prelude.{◌≡◌, ℕ, ◌<◌, List, ◌∷◌, [], MatchOption};
-ghost use Rattle.num_modular.specs.Words.{IsNumberText, AreNumberTexts, IsReadAs, IsCommand, IsCommandWord, FindsWhere, parts};
+ghost use Rattle.num_modular.specs.Words.{IsNumberText, AreNumberTexts, IsReadAs};
+ghost use Rattle.num_modular.specs.Words.{IsCommand, IsCommandWord, FindsWhere, parts};
 
 use crate::ring::RingCommand;
 
@@ -68,7 +69,8 @@ fn two_registers_and_number(text: &str) -> Option<(usize, usize, u64)>
 
 // Three registers.
 fn three_registers(text: &str) -> Option<(usize, usize, usize)>
-    ensures { FindsWhere (λ p. (p.0 < 8) × (p.1 < 8) × (p.2 < 8) × AreNumberTexts (parts text.now) (p.0 ∷ p.1 ∷ p.2 ∷ [])) result }
+    ensures { FindsWhere
+        (λ p. (p.0 < 8) × (p.1 < 8) × (p.2 < 8) × AreNumberTexts (parts text.now) (p.0 ∷ p.1 ∷ p.2 ∷ [])) result }
 {
     let (dst, rest) = first_register(text)?;
     let (a, b) = two_registers(rest)?;

@@ -3,5 +3,6 @@
 
 mod counted;
 mod definitions;
+mod inverses;
 mod operands;
 mod rows;

@@ -7,8 +7,10 @@ use Rattle.residue_numbers.proofs.has_inverse.Goals as goal
 pub returns : goal.returns
 returns c =
     let m = c.args.m in
-    let tells = inversion_tells modulus_of residue_of (modulus_of c.new.result) (residue_of c.new.result) c.inv.result c.is_some.result c.inv.ensures c.is_some.ensures in
-    let residues : IsTrue c.is_some.result ↔ HasInverse m (c.args.n % m % m) = rw (c.new.ensures.modulus, c.new.ensures.residue) at tells in
+    let tells = inversion_tells modulus_of residue_of (modulus_of c.new.result)
+    (residue_of c.new.result) c.inv.result c.is_some.result c.inv.ensures c.is_some.ensures in
+    let residues : IsTrue c.is_some.result ↔ HasInverse m (c.args.n % m % m) =
+    rw (c.new.ensures.modulus, c.new.ensures.residue) at tells in
     let once = c.inverse_laws.ensures.has_residue m (c.args.n % m) in
     let twice = c.inverse_laws.ensures.has_residue m c.args.n in
     ((λ b. twice.0 (once.0 (residues.0 b))), λ unit. residues.1 (once.1 (twice.1 unit)))

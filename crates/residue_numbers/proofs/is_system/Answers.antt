@@ -1,11 +1,13 @@
-use Rattle.std.proofs.Common.{◌≡◌, ℕ, ◌*◌, ◌<◌, ◌^◌, List, length, get_or, true, false, arith, rules, lit<, ap, sym, subst, ◌∙◌, refl, below_more}
+use Rattle.std.proofs.Common.{◌≡◌, ℕ, ◌*◌, ◌<◌, ◌^◌, List, length, get_or, true, false}
+use Rattle.std.proofs.Common.{arith, rules, lit<, ap, sym, subst, ◌∙◌, refl, below_more}
 use Rattle.std.proofs.lemmas.Bool.{false≢true}
 use Rattle.num_modular.specs.Divisors.{Coprime}
 use Rattle.num_modular.specs.Inverses.{HasInverse}
 use Rattle.residue_numbers.specs.Systems.{product_below}
 use Rattle.residue_numbers.proofs.Remainders.{product_none, product_more, each_of_unit, unit_here, next_fits}
 use Rattle.residue_numbers.proofs.is_system.Goals as goal
-use Rattle.residue_numbers.proofs.is_system.Goals.{then-modulus-eq0-via-then-modulus-eq0, then-modulus-eq0-via-else-modulus-eq0+then-not-has_inverse}
+use Rattle.residue_numbers.proofs.is_system.Goals.{then-modulus-eq0-via-then-modulus-eq0}
+use Rattle.residue_numbers.proofs.is_system.Goals.{then-modulus-eq0-via-else-modulus-eq0+then-not-has_inverse}
 
 pub moduli-init : goal.moduli-init
 moduli-init c = record {
@@ -22,7 +24,8 @@ returns-then-modulus-eq0 c = (
       let positive = system.positive c.moduli.place c.moduli-test.true in
       let unit : HasInverse (get_or c.args.moduli.now c.moduli.place 0) c.moduli.range =
       subst (HasInverse (get_or c.args.moduli.now c.moduli.place 0)) (sym c.moduli.invariant.range)
-      (unit_here c.args.moduli.now c.moduli.place c.divisor_laws.ensures.coprime c.inverse_laws.ensures.exists system c.moduli-test.true) in
+      (unit_here c.args.moduli.now c.moduli.place c.divisor_laws.ensures.coprime
+      c.inverse_laws.ensures.exists system c.moduli-test.true) in
       elim c.then-modulus-eq0.branch [
         | then-modulus-eq0-via-then-modulus-eq0 w ↦ absurd (omega arith)
         | then-modulus-eq0-via-else-modulus-eq0+then-not-has_inverse w ↦
@@ -36,7 +39,8 @@ pub returns-in-None : goal.returns-in-None
 returns-in-None c = (
   (λ t. absurd (false≢true t)),
   λ system.
-      let fits = next_fits c.args.moduli.now c.moduli.place c.moduli.range c.moduli.invariant.range system c.moduli-test.true in
+      let fits =
+      next_fits c.args.moduli.now c.moduli.place c.moduli.range c.moduli.invariant.range system c.moduli-test.true in
       absurd (omega (arith, fits, c.in-None.ensures)),
 )
 
@@ -67,7 +71,8 @@ returns c =
       (λ t. record {
         positive = λ i h. c.moduli.invariant.positive i (subst (λ n. i < n) (sym full) h);
         coprime = λ i j h k. c.moduli.invariant.coprime i j h (subst (λ n. i < n) (sym full) k);
-        fits = subst (λ n. n < 2 ^ 128) (c.moduli.invariant.range ∙ ap (λ n. product_below n ms) full) c.moduli.invariant.fits;
+        fits = subst (λ n. n < 2 ^ 128)
+            (c.moduli.invariant.range ∙ ap (λ n. product_below n ms) full) c.moduli.invariant.fits;
       }),
       λ system. refl,
     )

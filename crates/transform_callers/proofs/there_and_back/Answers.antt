@@ -11,7 +11,8 @@ pub ntt-requires-2-clause-suits : goal.ntt-requires-2-clause-suits
 ntt-requires-2-clause-suits g c =
     let m = g.R.Reducer.modulus c.args.r.now in
     let h = g.R.Reducer.value m (g.T.RingWord.number c.args.inverse.now) in
-    subst (λ n. Suits m h n) (sym c.ntt.auto.xs) (c.transform_laws.ensures.inverse _ _ _ _ c.requires.inverse c.requires.suits)
+    subst (λ n. Suits m h n) (sym c.ntt.auto.xs)
+    (c.transform_laws.ensures.inverse _ _ _ _ c.requires.inverse c.requires.suits)
 
 pub returns : goal.returns
 returns g c = record {
@@ -31,13 +32,17 @@ returns g c = record {
       let second : length c.ntt-2.new.xs ≡ length c.ntt.new.xs = c.ntt-2.auto.xs in
       let third : length c.scale.new.xs ≡ length c.ntt-2.new.xs = c.scale.auto.xs in
       let within : i < n = omega arith in
-      let v_is : value m (number (get_or c.args.xs.now i d)) ≡ x i = sym (get_or-map (λ f. value m (number f)) c.args.xs.now i d 0 within) in
+      let v_is : value m (number (get_or c.args.xs.now i d)) ≡ x i =
+      sym (get_or-map (λ f. value m (number f)) c.args.xs.now i d 0 within) in
       let small : x i < m = subst (λ v. v < m) v_is (c.requires.checked i d within).below in
       let there : (j : ℕ) → j < n → Congruent m (y j) (transform m w n x j) =
       λ j k. record { same = ap (λ v. v % m) (c.ntt.ensures.values j k) } in
       let back : z i ≡ transform m h n (transform m w n x) i =
-      c.ntt-2.ensures.values i (omega arith) ∙ ap (λ k. transform m h k y i) first ∙ laws.congruent m h n i y (transform m w n x) there in
+      c.ntt-2.ensures.values i (omega arith) ∙ ap (λ k. transform m h k y i) first
+      ∙ laws.congruent m h n i y (transform m w n x) there in
       let restored : (z i * part) % m ≡ x i =
-      ap (λ v. (v * part) % m) back ∙ (laws.restored m w h part n i x c.requires.inverse c.requires.part c.requires.suits within).same ∙ mod-eq_of_lt small in
-      subst (λ v. Represents g.R.Reducer.form m (number (get_or c.scale.new.xs i d)) v) restored (c.scale.ensures.entries.each i d l);
+      ap (λ v. (v * part) % m) back ∙ (laws.restored m w h part n i x c.requires.inverse c.requires.part
+      c.requires.suits within).same ∙ mod-eq_of_lt small in
+      subst (λ v. Represents g.R.Reducer.form m (number (get_or c.scale.new.xs i d)) v) restored
+      (c.scale.ensures.entries.each i d l);
 }

@@ -4,14 +4,18 @@ use modular_plan::modulus::PlannedModulus;
 use modular_prim::plain_word::PlainWord;
 use modular_word::path_word::PathWord;
 
-// Whether a factor has this quotient, and its product with x is this residue.
+// Whether a factor has this quotient, and its product with x, also without the quotient, is this
+// residue.
 fn is_product<T: PlainWord>(m: T, w: T, quotient: T, x: T, residue: T) -> bool {
     if !PlannedModulus::admits(m) || !w.is_below(m) {
         return false;
     }
     let m = PlannedModulus::new(m);
     let factor = m.factor(w);
-    factor.value == w && factor.quotient == quotient && m.product(x, &factor) == residue
+    factor.value == w
+        && factor.quotient == quotient
+        && m.product(x, &factor) == residue
+        && m.multiply(w, x) == residue
 }
 
 #[test]

@@ -1,6 +1,7 @@
 //! Known lists of remainders, by plans.
 
-ghost use Rattle.std.specs.Prelude.{◌*◌, ◌<◌, ◌↔◌, IsTrue, All};
+ghost use Rattle.std.specs.Prelude.{◌*◌, ◌<◌, ◌↔◌, IsTrue, All, MatchOption, ⊤};
+ghost use Rattle.modular_plan.specs.Factors.{IsFactor};
 
 use modular_plan::modulus::{Factor, PlannedModulus};
 use modular_plan::plan::plan;
@@ -29,8 +30,25 @@ pub fn are_same<T: RingWord>(xs: &[T], ys: &[T]) -> bool {
     xs.len() == ys.len()
 }
 
-// Whether block b splits by the plan by g into these remainders; the table is for n entries, n being
-// twice its length.
+// The modulus with the plan by g in the table, which is for n entries, n being twice its length; `None`
+// where they don't suit.
+pub fn planned<T: PlainWord>(m: T, g: T, table: &mut [Factor<T>]) -> Option<PlannedModulus<T>>
+    ensures { MatchOption result ⊤
+        (λ m. All (λ f. IsFactor T.base (T.number m.modulus) (T.number f.value) (T.number f.quotient)) table.new) }
+{
+    if !PlannedModulus::admits(m) || !g.is_below(m) || table.len() > 64 {
+        return None;
+    }
+    let r = Vanilla::new(&m);
+    if !root_fits(&r, &g, 2 * table.len()) {
+        return None;
+    }
+    let m = PlannedModulus::new(m);
+    plan(&m, g, table);
+    Some(m)
+}
+
+// Whether block b splits by the plan by g into these remainders.
 fn is_split<T: PlainWord>(
     m: T,
     g: T,
@@ -40,18 +58,12 @@ fn is_split<T: PlainWord>(
     xs: &mut [T],
     want: &[T],
 ) -> bool {
-    if !PlannedModulus::admits(m) || !g.is_below(m) || table.len() > 64 {
+    let Some(m) = planned(m, g, table) else {
+        return false;
+    };
+    if !splits(xs.len(), table.len(), b, last) || !all_in_room(&m, xs) {
         return false;
     }
-    if !splits(xs.len(), table.len(), b, last) {
-        return false;
-    }
-    let r = Vanilla::new(&m);
-    let m = PlannedModulus::new(m);
-    if !root_fits(&r, &g, 2 * table.len()) || !all_in_room(&m, xs) {
-        return false;
-    }
-    plan(&m, g, table);
     split(&m, xs, table, b, last);
     are_same(xs, want)
 }

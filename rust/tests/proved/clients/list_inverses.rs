@@ -1,6 +1,5 @@
 //! The inverses of a whole list by one inversion.
 
-use num_modular::laws::{inverse_laws, inverse_product_laws, product_below_laws};
 use num_modular::{Reducer, RingWord};
 
 /// Puts the inverse of each form in its place, and anything into the scratch list; false, with the forms
@@ -10,9 +9,6 @@ use num_modular::{Reducer, RingWord};
 /// One inverse is computed, that of the product, and three products a form (Montgomery, "Speeding the
 /// Pollard and elliptic curve methods of factorization", section 10.3.1).
 pub fn invert_each<T: RingWord, R: Reducer<T>>(r: &R, forms: &mut [T], products: &mut [T]) -> bool {
-    inverse_laws();
-    inverse_product_laws();
-    product_below_laws();
     let mut product = r.transform(T::one());
     'forward: for i in 0..forms.len() {
         products[i] = product;
@@ -23,9 +19,9 @@ pub fn invert_each<T: RingWord, R: Reducer<T>>(r: &R, forms: &mut [T], products:
     };
     'backward: for k in 0..forms.len() {
         let i = forms.len() - 1 - k;
-        let form = forms[i];
+        let before = r.mul(&inverse, &forms[i]);
         forms[i] = r.mul(&inverse, &products[i]);
-        inverse = r.mul(&inverse, &form);
+        inverse = before;
     }
     true
 }

@@ -94,6 +94,14 @@ impl<T: PlainWord> PlannedModulus<T> {
         reduced_once(self.times(x, w), self.modulus)
     }
 
+    /// The residue of the product of a word below m with any word. It divides by the reciprocal.
+    pub fn multiply(&self, x: T, y: T) -> T {
+        let divisor = self.modulus.shift_left(self.shift);
+        let scaled = x.shift_left(self.shift);
+        let (_, rest) = div_2by1(divisor, self.reciprocal, scaled.product(y));
+        rest.shift_right(self.shift)
+    }
+
     /// The word 2m.
     pub fn twice(&self) -> T {
         self.modulus.plus(self.modulus)

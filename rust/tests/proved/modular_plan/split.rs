@@ -4,7 +4,15 @@ use crate::modular_plan::modulus::{Factor, PlannedModulus, reduced_once};
 use num_modular::modular_prim::plain_word::PlainWord;
 use num_modular::modular_word::path_word::PathWord;
 
-// The pair at two places: x + y·w and x - y·w, below 4m.
+// x + y·w and x - y·w, below 4m.
+fn split_values<T: PlainWord>(m: &PlannedModulus<T>, x: T, y: T, w: &Factor<T>) -> (T, T) {
+    let twice = m.twice();
+    let x = reduced_once(x, twice);
+    let product = m.times(y, w);
+    (x.plus(product), x.plus(twice.minus(product)))
+}
+
+// The pair at two places.
 fn split_pair<T: PlainWord>(
     m: &PlannedModulus<T>,
     xs: &mut [T],
@@ -12,11 +20,9 @@ fn split_pair<T: PlainWord>(
     high: usize,
     w: &Factor<T>,
 ) {
-    let twice = m.twice();
-    let x = reduced_once(xs[low], twice);
-    let product = m.times(xs[high], w);
-    xs[high] = x.plus(twice.minus(product));
-    xs[low] = x.plus(product);
+    let (sum, difference) = split_values(m, xs[low], xs[high], w);
+    xs[high] = difference;
+    xs[low] = sum;
 }
 
 // The pairs of the block from place `first` on.
@@ -46,8 +52,70 @@ fn split_stage<T: PlainWord>(
     }
 }
 
+// The entries at four places, a quarter of a block apart: by the block's factor w, and by those of its
+// halves.
+fn split_four<T: PlainWord>(
+    m: &PlannedModulus<T>,
+    xs: &mut [T],
+    places: (usize, usize, usize, usize),
+    w: &Factor<T>,
+    u: &Factor<T>,
+    v: &Factor<T>,
+) {
+    let (i, j, k, l) = places;
+    let (e, g) = split_values(m, xs[i], xs[k], w);
+    let (f, h) = split_values(m, xs[j], xs[l], w);
+    let (a, b) = split_values(m, e, f, u);
+    let (c, d) = split_values(m, g, h, v);
+    xs[l] = d;
+    xs[k] = c;
+    xs[j] = b;
+    xs[i] = a;
+}
+
+// Two stages of the block of four times q entries from place `first` on.
+fn split_quarters<T: PlainWord>(
+    m: &PlannedModulus<T>,
+    xs: &mut [T],
+    first: usize,
+    q: usize,
+    w: &Factor<T>,
+    u: &Factor<T>,
+    v: &Factor<T>,
+) {
+    'columns: for i in 0..q {
+        let low = first + i;
+        let high = first + (q + q + i);
+        split_four(
+            m,
+            xs,
+            (low, first + (q + i), high, first + (q + q + (q + i))),
+            w,
+            u,
+            v,
+        );
+    }
+}
+
+// Two stages of all blocks, block p by entry first + p of the table, and its halves by the entries at
+// twice that place.
+fn split_two_stages<T: PlainWord>(
+    m: &PlannedModulus<T>,
+    xs: &mut [T],
+    q: usize,
+    blocks: usize,
+    table: &[Factor<T>],
+    first: usize,
+) {
+    'four_quarters: for p in 0..blocks {
+        let place = first + p;
+        let (u, v) = (&table[2 * place], &table[2 * place + 1]);
+        split_quarters(m, xs, p * (q + q + (q + q)), q, &table[place], u, v);
+    }
+}
+
 // Each entry's residue.
-fn reduce_each<T: PlainWord>(m: &PlannedModulus<T>, xs: &mut [T]) {
+pub(crate) fn reduce_each<T: PlainWord>(m: &PlannedModulus<T>, xs: &mut [T]) {
     'entries: for i in 0..xs.len() {
         xs[i] = m.residue(xs[i]);
     }
@@ -82,7 +150,8 @@ pub fn splits(length: usize, factors: usize, b: usize, last: usize) -> bool {
 /// entries are factors modulo m, and there are (b + 1)·count/2 of them or more (`splits` tells).
 ///
 /// Source: the sums and differences are those of Cooley and Tukey, with one factor a block, as
-/// Bernstein ("Multidigit multiplication for mathematicians", section 2) has them.
+/// Bernstein ("Multidigit multiplication for mathematicians", section 2) has them. A pass over the list
+/// does two stages where two are left.
 pub fn split<T: PlainWord>(
     m: &PlannedModulus<T>,
     xs: &mut [T],
@@ -93,9 +162,15 @@ pub fn split<T: PlainWord>(
     let mut size = xs.len();
     let mut blocks = 1;
     'stages: while last < size {
-        size /= 2;
-        split_stage(m, xs, size, blocks, table, b * blocks);
-        blocks *= 2;
+        if last < size / 2 {
+            size /= 4;
+            split_two_stages(m, xs, size, blocks, table, b * blocks);
+            blocks *= 4;
+        } else {
+            size /= 2;
+            split_stage(m, xs, size, blocks, table, b * blocks);
+            blocks *= 2;
+        }
     }
     reduce_each(m, xs);
 }

@@ -18,6 +18,7 @@ abbrev pub invariant-backward : goal.invariant-backward
 invariant-backward g l =
     let ring = g.R.Reducer in let m = ring.modulus l.fn.r in let number = g.T.RingWord.number in
     let v = entry number ring.value m l.fn.forms in let left = length l.fn.forms - l.k in
-    All (λ f. IsForm ring.form ring.value m (number f)) l.forms × IsForm ring.form ring.value m (number l.inverse)
+    IsForm ring.form ring.value m (number l.inverse)
     × IsInverse m (product_below left v) (ring.value m (number l.inverse))
+    × All (λ f. IsForm ring.form ring.value m (number f)) l.forms
     × DoneFrom (λ k w. IsInverse m (v k) w) left (length l.fn.forms) v (entry number ring.value m l.forms)

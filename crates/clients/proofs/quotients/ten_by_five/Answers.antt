@@ -7,5 +7,7 @@ inverse_of_5 : IsInverse 21 5 17
 inverse_of_5 = record { below = lit< tt; one = refl }
 
 pub div-requires : goal.div-requires
-div-requires c =
-    (c.new-ten.ensures.modulus ∙ sym c.new-five.ensures.modulus, (17, rw (c.new-five.ensures.modulus, c.new-five.ensures.residue) inverse_of_5))
+div-requires c = (
+  c.new-ten.ensures.modulus ∙ sym c.new-five.ensures.modulus,
+  (17, rw (c.new-five.ensures.modulus, c.new-five.ensures.residue) inverse_of_5),
+)

@@ -17,7 +17,8 @@ terms-init g c =
     let nothing : v - v ≡ 0 = omega arith in
     record {
       modulus = zero_is.modulus;
-      residue = zero_is.residue ∙ residue_sub m v v (laws.below c.args.x) itself ∙ nothing ∙ sym (zero-mod m) ∙ ap (λ k. k % m) (sym (value_none v));
+      residue = zero_is.residue ∙ residue_sub m v v (laws.below c.args.x) itself ∙ nothing ∙ sym (zero-mod m)
+          ∙ ap (λ k. k % m) (sym (value_none v));
     }
 
 pub terms-preserved : goal.terms-preserved
@@ -31,12 +32,15 @@ terms-preserved g c =
     let product_is = laws.multiplies c.terms.value x c.mul.result so_far.modulus c.mul.ensures in
     let product_modulus : ring.modulus_number c.mul.result ≡ m = product_is.modulus ∙ so_far.modulus in
     let in_ring : ring.modulus_number item ≡ m =
-    ap ring.modulus_number c.c-item.is ∙ All-get_or (λ i. ring.modulus_number i ≡ m) c.args.coefficients.now c.terms.c-index item c.terms-test.true c.requires in
+    ap ring.modulus_number c.c-item.is ∙ All-get_or (λ i. ring.modulus_number i ≡ m) c.args.coefficients.now
+    c.terms.c-index item c.terms-test.true c.requires in
     let sum_is = laws.adds c.mul.result item c.add-value.result (product_modulus ∙ sym in_ring) c.add-value.ensures in
     let product_residue = rw so_far.modulus at product_is.residue in
     let sum_residue = rw product_modulus at sum_is.residue in
     record {
       modulus = sum_is.modulus ∙ product_modulus;
-      residue = sum_residue ∙ residue_more m _ (ring.residue_number item) (ring.residue_number x) _ _ so_far.residue product_residue
-          ∙ ap (λ cs. polynomial_value cs (ring.residue_number x) % m) (sym (mapped_more ring.residue_number c.args.coefficients.now c.terms.c-index item c.terms-test.true c.c-item.is));
+      residue = sum_residue
+          ∙ residue_more m _ (ring.residue_number item) (ring.residue_number x) _ _ so_far.residue product_residue
+          ∙ ap (λ cs. polynomial_value cs (ring.residue_number x) % m) (sym
+          (mapped_more ring.residue_number c.args.coefficients.now c.terms.c-index item c.terms-test.true c.c-item.is));
     }

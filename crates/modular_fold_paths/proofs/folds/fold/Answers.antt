@@ -16,14 +16,30 @@ plus-rest-requires g c =
     let n = g.V.RingWord.number in
     let most = fold_at_most c.args.p (n c.args.c) (n c.args.v) c.requires.less in
     let low = masked c.args.p (n c.args.mask) (n c.args.v) c.requires.mask in
-    omega (arith, most, low, c.shift_right-high.ensures.fits, c.times.ensures, c.masked.ensures, ap (λ h. h * n c.args.c) c.shift_right-high.ensures.value)
+    omega (
+      arith,
+      most,
+      low,
+      c.shift_right-high.ensures.fits,
+      c.times.ensures,
+      c.masked.ensures,
+      ap (λ h. h * n c.args.c) c.shift_right-high.ensures.value,
+    )
 
 folded : (g : _) (c : After-plus-rest g)
-    → g.V.RingWord.number c.plus-rest.result ≡ fold_of c.args.p (g.V.RingWord.number c.args.c) (g.V.RingWord.number c.args.v)
+    → g.V.RingWord.number c.plus-rest.result
+    ≡ fold_of c.args.p (g.V.RingWord.number c.args.c) (g.V.RingWord.number c.args.v)
 folded g c =
     let n = g.V.RingWord.number in
     let low = masked c.args.p (n c.args.mask) (n c.args.v) c.requires.mask in
-    omega (arith, low, c.plus-rest.ensures, c.times.ensures, c.masked.ensures, ap (λ h. h * n c.args.c) c.shift_right-high.ensures.value)
+    omega (
+      arith,
+      low,
+      c.plus-rest.ensures,
+      c.times.ensures,
+      c.masked.ensures,
+      ap (λ h. h * n c.args.c) c.shift_right-high.ensures.value,
+    )
 
 pub returns-then-is_zero_word : goal.returns-then-is_zero_word
 returns-then-is_zero_word g c =

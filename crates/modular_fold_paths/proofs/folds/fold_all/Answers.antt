@@ -10,7 +10,8 @@ plus-mask-requires g c = omega (arith, power_fits c.requires)
 pub fold_three-requires-clause-small : goal.fold_three-requires-clause-small
 fold_three-requires-clause-small g c =
     let n = g.V.RingWord.number in
-    let less = low_only (c.args.p / 2) (n c.args.c) (sym c.shift_right-2.ensures.value ∙ c.is_zero_word.ensures.zero.0 c.if-is_zero_word.true) in
+    let less = low_only (c.args.p / 2) (n c.args.c)
+    (sym c.shift_right-2.ensures.value ∙ c.is_zero_word.ensures.zero.0 c.if-is_zero_word.true) in
     omega (arith, small_square c.args.p (n c.args.c) less)
 
 pub returns-then-not-is_below-clause-count : goal.returns-then-not-is_below-clause-count

@@ -16,6 +16,13 @@ returns g c =
     record {
       below = below;
       same =
-          last ∙ two_folds_keep c.args.p (n c.args.c) (n c.args.m) (n c.args.v) whole c.fold-first.ensures.value c.fold-second.ensures.value;
-      count = omega (arith, folds-none _ (n c.args.c) _ below, c.fold-first.ensures.count, c.fold-second.ensures.count, c.fold-third.ensures.count);
+          last ∙ two_folds_keep c.args.p (n c.args.c) (n c.args.m)
+          (n c.args.v) whole c.fold-first.ensures.value c.fold-second.ensures.value;
+      count = omega (
+        arith,
+        folds-none _ (n c.args.c) _ below,
+        c.fold-first.ensures.count,
+        c.fold-second.ensures.count,
+        c.fold-third.ensures.count,
+      );
     }

@@ -8,7 +8,8 @@ pub returns : goal.returns
 returns g c =
     let n = g.V.RingWord.number in
     let below : n c.fold-second.result.0 < 2 ^ c.args.p =
-    rw c.fold-second.ensures.value (rw c.fold-first.ensures.value (rw c.requires.one (two_low c.args.p (n c.args.v) c.requires.product))) in
+    rw c.fold-second.ensures.value
+    (rw c.fold-first.ensures.value (rw c.requires.one (two_low c.args.p (n c.args.v) c.requires.product))) in
     record {
       below = below;
       same =

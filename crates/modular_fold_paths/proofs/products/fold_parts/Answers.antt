@@ -17,7 +17,8 @@ returns g c =
     let s = 2 ^ (g.T.RingWord.width - c.args.p) in
     let whole = power_whole _ c.args.p _ c.requires.fits g.met.T.PathWord.base_is in
     let scaled = c.shift_left.ensures ∙ ap (λ b. n c.args.c * 2 ^ (b - c.args.p)) c.bits.ensures in
-    let words : (n c.args.high * n c.args.c + n c.args.low / s) * s ≡ n c.split.result.0 + 2 ^ c.args.p * s * n c.split.result.1 =
+    let words : (n c.args.high * n c.args.c + n c.args.low / s) * s
+    ≡ n c.split.result.0 + 2 ^ c.args.p * s * n c.split.result.1 =
     omega (
       arith,
       c.split.ensures.value,
@@ -31,6 +32,7 @@ returns g c =
       c.requires.top,
     ) in
     let parts =
-    scaled_parts (2 ^ c.args.p) s (n c.args.high * n c.args.c + n c.args.low / s) (pow_pos (g.T.RingWord.width - c.args.p)) words
+    scaled_parts (2 ^ c.args.p) s (n c.args.high * n c.args.c + n c.args.low / s)
+    (pow_pos (g.T.RingWord.width - c.args.p)) words
     (omega (arith, whole, c.split.ensures.low_fits)) in
     record { low = parts.0; high = parts.1 }

@@ -35,7 +35,8 @@ fold_parts-rest-requires g c =
       some = some_bits c.requires.folding;
       fits = c.requires.folding.fits;
       less = omega (arith, c.requires.folding.whole);
-      top = rw c.fold_parts-low.ensures.low (mul-mod_left ((n c.args.a * n c.args.b + n c.zero.result / s) % 2 ^ c.args.p) s);
+      top = rw c.fold_parts-low.ensures.low
+          (mul-mod_left ((n c.args.a * n c.args.b + n c.zero.result / s) % 2 ^ c.args.p) s);
     }
 
 pub shift_right-requires-2 : goal.shift_right-requires-2
@@ -43,16 +44,25 @@ shift_right-requires-2 g c = omega (arith, c.bits-2.ensures, some_bits c.require
 
 by_small : (g : _) (c : After-shift_right-2 g)
     → IsLastSum (g.T.RingWord.number c.args.m) (g.T.RingWord.number c.args.a * g.T.RingWord.number c.args.b)
-    (g.T.RingWord.number c.shift_right-2.result) (g.T.RingWord.number c.fold_parts-rest.result.1 * g.T.RingWord.number c.args.c)
+    (g.T.RingWord.number c.shift_right-2.result)
+    (g.T.RingWord.number c.fold_parts-rest.result.1 * g.T.RingWord.number c.args.c)
 by_small g c =
     sum_by_small _ _ _ _ c.requires.folding c.requires.small c.requires.left c.requires.right c.zero.ensures
-    c.fold_parts-low.ensures.low c.fold_parts-low.ensures.high c.fold_parts-rest.ensures.low c.fold_parts-rest.ensures.high
+    c.fold_parts-low.ensures.low c.fold_parts-low.ensures.high c.fold_parts-rest.ensures.low
+    c.fold_parts-rest.ensures.high
     c.bits-2.ensures c.shift_right-2.ensures.value
 
 pub times-requires : goal.times-requires
 times-requires g c =
     let last = by_small g (goal.at.times-requires g c).After-shift_right-2 in
-    omega (arith, last.most, c.requires.folding.whole, power_fits c.requires.folding, c.requires.folding.some, g.met.T.PathWord.base_is)
+    omega (
+      arith,
+      last.most,
+      c.requires.folding.whole,
+      power_fits c.requires.folding,
+      c.requires.folding.some,
+      g.met.T.PathWord.base_is,
+    )
 
 pub sum_once-requires-2 : goal.sum_once-requires-2
 sum_once-requires-2 g c =

@@ -1,4 +1,5 @@
-use Rattle.modular_laws.proofs.InverseProducts.{inverse_left, inverse_right, inverse_both, has_both, has_each, has_product}
+use Rattle.modular_laws.specs.ProductLaws.{inverse_left, inverse_right, inverse_both, inverse_before}
+use Rattle.modular_laws.specs.ProductLaws.{inverse_last, has_both, has_each, has_product}
 use Rattle.modular_laws.proofs.laws.inverse_product_laws.Goals as goal
 
 pub returns : goal.returns
@@ -7,5 +8,7 @@ returns c = record {
   left = inverse_left;
   right = inverse_right;
   product = inverse_both;
+  before = inverse_before;
+  last = inverse_last;
   each = λ m n f p. (has_each m n f, has_product m n f p);
 }

@@ -1,4 +1,4 @@
-use Rattle.modular_laws.proofs.InverseProducts.{product-zero, product-more, product-same}
+use Rattle.modular_laws.specs.ProductLaws.{product-zero, product-more, product-same}
 use Rattle.modular_laws.proofs.laws.product_below_laws.Goals as goal
 
 pub returns : goal.returns

@@ -2,4 +2,5 @@ use Rattle.modular_laws.proofs.Calls.{quotient_times, quotient_times_below, diff
 use Rattle.modular_laws.proofs.laws.undoing_laws.Goals as goal
 
 pub returns : goal.returns
-returns c = record { quotient = quotient_times; quotient_below = quotient_times_below; difference_below = difference_below }
+returns c =
+    record { quotient = quotient_times; quotient_below = quotient_times_below; difference_below = difference_below }

@@ -6,4 +6,5 @@ use Rattle.modular_laws.proofs.lists.unload_forms.Given as goal
 abbrev pub invariant-entries : goal.invariant-entries
 invariant-entries g l =
     let ring = g.R.Reducer in let m = ring.modulus l.fn.r in let number = g.T.RingWord.number in
-    DoneBelow (λ k v. v ≡ entry number ring.value m l.fn.forms k) l.i (slice_index (map number l.fn.words)) (slice_index (map number l.words))
+    DoneBelow (λ k v. v ≡ entry number ring.value m l.fn.forms k) l.i (slice_index (map number l.fn.words))
+    (slice_index (map number l.words))

@@ -8,8 +8,10 @@ returns g c =
     let b = g.T.PathWord.base in
     let m = n c.args.m in
     let one : b * n c.one.result ≡ b * 1 = ap (λ o. b * o) c.one.ensures in
-    let whole : g.T.PathWord.double_number c.merge.result ≡ b = omega (arith, one, c.merge.ensures.value, c.zero.ensures) in
-    let rest : n c.narrow_remainder-base.result ≡ b % m = c.narrow_remainder-base.ensures.value ∙ ap (λ v. v % m) whole in
+    let whole : g.T.PathWord.double_number c.merge.result ≡ b =
+    omega (arith, one, c.merge.ensures.value, c.zero.ensures) in
+    let rest : n c.narrow_remainder-base.result ≡ b % m =
+    c.narrow_remainder-base.ensures.value ∙ ap (λ v. v % m) whole in
     let square = c.product.ensures.value ∙ ap₂ (λ x y. x * y) rest rest in
     record {
       base = g.met.T.PathWord.base_is;

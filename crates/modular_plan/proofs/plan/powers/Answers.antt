@@ -22,7 +22,8 @@ pub factor-requires : goal.factor-requires
 factor-requires g c =
     let m = c.args.m.now in
     let some = m.some in
-    let below = mod-lt (g.T.RingWord.number c.args.g ^ c.places.place) (let p : 0 < g.T.RingWord.number m.modulus = omega arith in p) in
+    let below = mod-lt (g.T.RingWord.number c.args.g ^ c.places.place)
+    (let p : 0 < g.T.RingWord.number m.modulus = omega arith in p) in
     omega (arith, c.places.invariant.power, below)
 
 pub product-power-requires : goal.product-power-requires
@@ -38,9 +39,12 @@ places-preserved g c =
     let root = n c.args.g in
     let within : i < length table = omega arith in
     record {
-      power = power_next m root i _ _ before.power (c.product-power.ensures ∙ ap (λ v. (n c.places.power * v) % m) c.factor-root.ensures.value);
-      factors = factors_more (λ f. IsFactor g.T.PathWord.base m (n f.value) (n f.quotient)) table i c.factor.result within before.factors c.factor.ensures.factor;
-      powers = entry_done (λ f. n f.value) table i c.factor.result (λ k. root ^ k % m) within before.powers (c.factor.ensures.value ∙ before.power);
+      power = power_next m root i _ _ before.power
+          (c.product-power.ensures ∙ ap (λ v. (n c.places.power * v) % m) c.factor-root.ensures.value);
+      factors = factors_more (λ f. IsFactor g.T.PathWord.base m (n f.value) (n f.quotient)) table i c.factor.result
+          within before.factors c.factor.ensures.factor;
+      powers = entry_done (λ f. n f.value) table i c.factor.result (λ k. root ^ k % m) within before.powers
+          (c.factor.ensures.value ∙ before.power);
     }
 
 pub returns : goal.returns

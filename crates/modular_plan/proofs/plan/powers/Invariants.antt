@@ -10,6 +10,7 @@ invariant-places g l =
     let m = number l.m.modulus in
     record {
       power : number l.power ≡ number l.fn.g ^ l.place % m;
-      factors : (k : ℕ) (d : _) → k < l.place → IsFactor g.T.PathWord.base m (number (get_or l.table k d).value) (number (get_or l.table k d).quotient);
+      factors : (k : ℕ) (d : _) → k < l.place
+          → IsFactor g.T.PathWord.base m (number (get_or l.table k d).value) (number (get_or l.table k d).quotient);
       powers : (k : ℕ) → k < l.place → numbers (λ f. number f.value) l.table k ≡ number l.fn.g ^ k % m;
     }

@@ -11,7 +11,8 @@ halvings-init g c =
     let m = g.R.Reducer.modulus c.args.r.now in
     let some = (g.met.R.Reducer.canonical c.args.r.now).positive in
     let one = c.transform.ensures.value ∙ ap (λ v. v % m) c.one.ensures in
-    let rest = c.residue-rest.ensures.value ∙ c.neg.ensures.value ∙ ap (λ v. residue m (neg_ℤ (pos v))) one ∙ residue_of_minus_one m some in
+    let rest = c.residue-rest.ensures.value ∙ c.neg.ensures.value ∙ ap (λ v. residue m (neg_ℤ (pos v))) one
+    ∙ residue_of_minus_one m some in
     rest ∙ sym (div-one (m - 1)) ∙ ap (λ v. (m - 1) / v) (sym (pow-zero 2))
 
 pub halvings-preserved : goal.halvings-preserved
@@ -25,4 +26,5 @@ returns g c =
     let below : c.args.n < 2 ^ 64 = omega arith in
     let z = trailing_zeros w64 c.args.n in
     let done : c.halvings._done ≡ z = omega arith in
-    c.halvings.invariant ∙ ap (λ v. (m - 1) / 2 ^ v) done ∙ ap (λ v. (m - 1) / v) (sym (power_by_zeros c.args.n c.requires below))
+    c.halvings.invariant ∙ ap (λ v. (m - 1) / 2 ^ v) done
+    ∙ ap (λ v. (m - 1) / v) (sym (power_by_zeros c.args.n c.requires below))

@@ -7,7 +7,8 @@ use Rattle.modular_plan.proofs.SmallBases.{one_more, power_of_rest}
 use Rattle.modular_plan.proofs.roots.find_root.Goals as goal
 
 pub returns-then-not-is_power_of_two : goal.returns-then-not-is_power_of_two
-returns-then-not-is_power_of_two g c = λ x from below suits. let t = (power_of_two_tested c.args.n).1 suits.power_of_two in cc
+returns-then-not-is_power_of_two g c =
+    λ x from below suits. let t = (power_of_two_tested c.args.n).1 suits.power_of_two in cc
 
 pub exponent-exponent-requires : goal.exponent-exponent-requires
 exponent-exponent-requires g c = (power_of_two_tested c.args.n).0 cc
@@ -26,9 +27,17 @@ returns-then-root_fits g c =
     let n = c.args.n in
     let from : 2 ≤ x = omega arith in
     let is_one = c.transform-one.ensures.value ∙ ap (λ v. v % m) c.one.ensures in
-    let root = tried m x ((m - 1) / n) _ _ _ _ _ from c.bases.invariant.base is_one c.add-base.ensures.value c.exponent-exponent.ensures c.pow-g.ensures.value in
-    let suits = c.root_fits.ensures.0 cc in
-    (c.pow-g.ensures.checked, (x, omega arith, record { from = from; suits = subst (λ v. Suits m v n) root suits; least = c.bases.invariant.tried }, root))
+    let root = tried m x ((m - 1) / n) _ _ _ _ _ from c.bases.invariant.base is_one c.add-base.ensures.value
+    c.exponent-exponent.ensures c.pow-g.ensures.value in
+    let suits = c.root_fits.ensures.0 cc in (
+      c.pow-g.ensures.checked,
+      (
+        x,
+        omega arith,
+        record { from = from; suits = subst (λ v. Suits m v n) root suits; least = c.bases.invariant.tried },
+        root,
+      ),
+    )
 
 pub bases-preserved : goal.bases-preserved
 bases-preserved g c =
@@ -38,7 +47,8 @@ bases-preserved g c =
     let from : 2 ≤ x = omega arith in
     let is_one = c.transform-one.ensures.value ∙ ap (λ v. v % m) c.one.ensures in
     let same : x - 1 + 1 ≡ x + 1 - 1 = omega (arith, from) in
-    let root = tried m x ((m - 1) / n) _ _ _ _ _ from c.bases.invariant.base is_one c.add-base.ensures.value c.exponent-exponent.ensures c.pow-g.ensures.value in
+    let root = tried m x ((m - 1) / n) _ _ _ _ _ from c.bases.invariant.base is_one c.add-base.ensures.value
+    c.exponent-exponent.ensures c.pow-g.ensures.value in
     record {
       form = c.add-base.ensures.checked;
       base = c.add-base.ensures.value ∙ one_more m (x - 1) _ _ c.bases.invariant.base is_one ∙ ap (λ v. v % m) same;

@@ -25,7 +25,8 @@ entries-preserved g c =
     let same = number_read n xs i x within c.index-xs-i.is ∙ c.entries.invariant.kept i (omega arith) in
     let old = numbers n c.args.xs.now in
     record {
-      done = entry_done n xs i c.residue.result (λ k. old k % m) within c.entries.invariant.done (c.residue.ensures ∙ ap (λ v. v % m) same);
+      done = entry_done n xs i c.residue.result (λ k. old k % m) within c.entries.invariant.done
+          (c.residue.ensures ∙ ap (λ v. v % m) same);
       kept = entry_kept n xs i c.residue.result old c.entries.invariant.kept;
     }
 
@@ -33,5 +34,6 @@ pub returns-clause-below : goal.returns-clause-below
 returns-clause-below g c =
     let n = g.T.RingWord.number in
     let m = n c.args.m.now.modulus in
-    all_residues n m (length c.args.xs.now) c.entries.xs (numbers n c.args.xs.now) (let s = c.args.m.now.some in omega arith) (omega arith)
+    all_residues n m (length c.args.xs.now) c.entries.xs (numbers n c.args.xs.now)
+    (let s = c.args.m.now.some in omega arith) (omega arith)
     (λ k l. c.entries.invariant.done k (omega arith))

@@ -13,7 +13,8 @@ invariant-stages g l =
       sized : l.size ≡ 2 ^ rest * l.last;
       counted : l.blocks * 2 ^ rest ≡ length l.fn.xs / l.last;
       entries : All (λ x. number x < 4 * m) l.xs;
-      level : (g z : ℕ) → IsPlan m g z (length l.table) (numbers (λ f. number f.value) l.table) → IsLevel m g z l.b l.blocks l.size (numbers number l.fn.xs) (numbers number l.xs);
+      level : (g z : ℕ) → IsPlan m g z (length l.table) (numbers (λ f. number f.value) l.table)
+          → IsLevel m g z l.b l.blocks l.size (numbers number l.fn.xs) (numbers number l.xs);
     }
 
 abbrev pub decreases-stages : goal.decreases-stages

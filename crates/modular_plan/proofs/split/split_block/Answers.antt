@@ -5,13 +5,14 @@ use Rattle.modular_plan.proofs.split.split_block.Goals as goal
 pub columns-init : goal.columns-init
 columns-init g c = record {
   entries = c.requires.entries;
-  done = block_none _ _ c.args.first c.args.half _;
+  done = block_none _ c.args.first c.args.half _;
 }
 
 pub columns-preserved : goal.columns-preserved
 columns-preserved g c = record {
   entries = c.split_pair.ensures.entries;
-  done = block_more _ _ c.args.first c.args.half c.columns.i _ _ _ (omega arith) c.columns.invariant.done c.split_pair.ensures.done;
+  done = block_more _ c.args.first c.args.half c.columns.i _ _ _
+      (omega arith) c.columns.invariant.done c.split_pair.ensures.done;
 }
 
 pub returns : goal.returns

@@ -1,6 +1,6 @@
 use Rattle.std.proofs.Common.{◌*◌, ◌<◌, All}
 use Rattle.modular_plan.specs.Plans.{numbers}
-use Rattle.modular_plan.specs.Steps.{BlockSplit}
+use Rattle.modular_plan.specs.Steps.{IsPairSplit, BlockDone}
 use Rattle.modular_plan.proofs.split.split_block.Given as goal
 
 -- the first i columns are done
@@ -9,5 +9,6 @@ invariant-columns g l =
     let number = g.T.RingWord.number in
     record {
       entries : All (λ x. number x < 4 * number l.m.modulus) l.xs;
-      done : BlockSplit (number l.m.modulus) (number l.w.value) l.first l.half l.i (numbers number l.fn.xs) (numbers number l.xs);
+      done : BlockDone (IsPairSplit (number l.m.modulus) (number l.w.value)) l.first l.half l.i
+          (numbers number l.fn.xs) (numbers number l.xs);
     }

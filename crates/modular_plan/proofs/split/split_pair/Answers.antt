@@ -1,8 +1,8 @@
-use Rattle.std.proofs.Common.{◌≡◌, ◌*◌, ◌%◌, ◌<◌, length, ◌∙◌, ap, arith, subst}
-use Rattle.modular_word.specs.Congruence.{Congruent}
+use Rattle.std.proofs.Common.{◌<◌, length, arith, subst}
 use Rattle.modular_plan.specs.Plans.{numbers}
+use Rattle.modular_plan.specs.Steps.{IsPairSplit}
 use Rattle.modular_plan.proofs.Entries.{number_read}
-use Rattle.modular_plan.proofs.Steps.{pair_of, pair_written}
+use Rattle.modular_plan.proofs.Steps.{pair_written}
 use Rattle.modular_plan.proofs.split.split_pair.Goals as goal
 
 pub returns-clause-done : goal.returns-clause-done
@@ -13,13 +13,11 @@ returns-clause-done g c =
     let xs = c.args.xs.now in
     let low = c.args.low in
     let high = c.args.high in
-    let low_within : low < length xs = omega arith in
-    let a_is = number_read n xs low c.index-xs-low.result low_within c.index-xs-low.is in
+    let a_is = number_read n xs low c.index-xs-low.result
+    (let l : low < length xs = omega arith in l) c.index-xs-low.is in
     let b_is = number_read n xs high c.index-xs-high.result c.requires.within c.index-xs-high.is in
-    let x_is : n c.reduced_once-x.result ≡ numbers n xs low % (2 * m) =
-    c.reduced_once-x.ensures.value ∙ ap (λ v. n c.index-xs-low.result % v) c.twice-twice.ensures ∙ ap (λ v. v % (2 * m)) a_is in
-    let product = subst (λ v. Congruent m (n c.times-product.result) (v * w)) b_is c.times-product.ensures.congruent in
-    let rest = c.minus.ensures.value ∙ c.twice-twice.ensures in
-    pair_written n m w xs low high c.plus-2.result c.plus.result c.requires.order c.requires.within
-    (pair_of w (numbers n xs low) (numbers n xs high) (n c.reduced_once-x.result) (n c.times-product.result) (n c.minus.result) (n c.plus-2.result) (n c.plus.result)
-    x_is product rest c.plus-2.ensures c.plus.ensures)
+    let values = c.split_values-sum.result in
+    pair_written n (IsPairSplit m w) xs low high values.0 values.1 c.requires.order c.requires.within
+    (subst (λ a. IsPairSplit m w a (numbers n xs high) (n values.0) (n values.1)) a_is
+    (subst (λ b. IsPairSplit m w (n c.index-xs-low.result) b (n values.0) (n values.1)) b_is
+    c.split_values-sum.ensures.pair))

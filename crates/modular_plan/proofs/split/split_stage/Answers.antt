@@ -1,4 +1,6 @@
-use Rattle.std.proofs.Common.{◌+◌, ◌<◌, length, arith}
+use Rattle.std.proofs.Common.{◌+◌, ◌*◌, ◌<◌, length, arith, subst}
+use Rattle.modular_plan.specs.Plans.{numbers}
+use Rattle.modular_plan.specs.Steps.{IsPairSplit, BlockDone}
 use Rattle.modular_plan.proofs.Entries.{number_read}
 use Rattle.modular_plan.proofs.Steps.{stage_more, stage_all}
 use Rattle.modular_plan.proofs.split.split_stage.Goals as goal
@@ -6,13 +8,18 @@ use Rattle.modular_plan.proofs.split.split_stage.Goals as goal
 pub each_block-preserved : goal.each_block-preserved
 each_block-preserved g c =
     let n = g.T.RingWord.number in
-    let within : c.args.first + c.each_block.p < length c.args.table.now = omega arith in
+    let m = n c.args.m.now.modulus in
+    let p = c.each_block.p in
+    let half = c.args.half in
+    let within : c.args.first + p < length c.args.table.now = omega arith in
+    let factor = number_read (λ f. n f.value) c.args.table.now
+    (c.args.first + p) c.index-table-first.result within c.index-table-first.is in
     record {
       entries = c.split_block.ensures.entries;
       done =
-          stage_more _ c.args.half c.each_block.p _ _ _ _ _
-          (number_read (λ f. n f.value) c.args.table.now (c.args.first + c.each_block.p) c.index-table-first.result within c.index-table-first.is)
-          c.each_block.invariant.done c.split_block.ensures.done;
+          stage_more _ half p _ _ _ c.each_block.invariant.done
+          (subst (λ v. BlockDone (IsPairSplit m v) (p * (half + half)) half half (numbers n c.each_block.xs)
+          (numbers n c.split_block.new.xs)) factor c.split_block.ensures.done);
     }
 
 pub returns-clause-done : goal.returns-clause-done

@@ -1,6 +1,6 @@
 use Rattle.std.proofs.Common.{◌+◌, ◌*◌, ◌<◌, All}
 use Rattle.modular_plan.specs.Plans.{numbers}
-use Rattle.modular_plan.specs.Steps.{StageSplit}
+use Rattle.modular_plan.specs.Steps.{IsPairSplit, StageDone}
 use Rattle.modular_plan.proofs.split.split_stage.Given as goal
 
 -- the first p blocks are done
@@ -9,5 +9,6 @@ invariant-each_block g l =
     let number = g.T.RingWord.number in
     record {
       entries : All (λ x. number x < 4 * number l.m.modulus) l.xs;
-      done : StageSplit (number l.m.modulus) l.half l.p (λ p. numbers (λ f. number f.value) l.table (l.first + p)) (numbers number l.fn.xs) (numbers number l.xs);
+      done : StageDone (λ p. IsPairSplit (number l.m.modulus) (numbers (λ f. number f.value) l.table (l.first + p)))
+          l.half l.p (numbers number l.fn.xs) (numbers number l.xs);
     }

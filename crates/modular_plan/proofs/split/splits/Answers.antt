@@ -21,7 +21,8 @@ enough b half factors l =
 less : (b half factors : ℕ) → 0 < half → (b + 1) * half ≤ factors → b < factors / half
 less b half factors some room = elim (cases_lt b (factors / half)) [
   | inl l ↦ l
-  | inr l ↦ let few = (div-lt_iff_lt-mul {x = factors} {y = b + 1} some).0 (omega arith) in absurd (omega (arith, few, room))
+  | inr l ↦ let few = (div-lt_iff_lt-mul {x = factors} {y = b + 1} some).0 (omega arith) in
+      absurd (omega (arith, few, room))
 ]
 
 pub returns-then-not-is_power_of_two : goal.returns-then-not-is_power_of_two
@@ -33,7 +34,13 @@ pub returns : goal.returns
 returns c =
     let count = c.args.length / c.args.last in
     let power = (power_of_two_tested count).0 cc in
-    let some : 0 < count / 2 = let p = pow_pos power.0 in let e = power.1 in let other = c.if-count-eq1.false in omega (arith, p, e) in (
-      λ h. (omega arith, power, c.if-count-last.false, enough c.args.b (count / 2) c.args.factors (less_of c.args.b (c.args.factors / (count / 2)) h)),
+    let some : 0 < count / 2 = let p = pow_pos power.0 in let e = power.1 in
+    let other = c.if-count-eq1.false in omega (arith, p, e) in (
+      λ h. (
+        omega arith,
+        power,
+        c.if-count-last.false,
+        enough c.args.b (count / 2) c.args.factors (less_of c.args.b (c.args.factors / (count / 2)) h),
+      ),
       λ h. test_of c.args.b (c.args.factors / (count / 2)) (less c.args.b (count / 2) c.args.factors some h.3),
     )

@@ -16,7 +16,8 @@ returns-clause-below g c =
     let n = g.T.RingWord.number in
     let split = c.split.new.xs in
     let whole = power_by_zeros (length split) (subst IsPowerOfTwo (omega arith) c.requires.count) (omega arith) in
-    all_reordered (λ x. n x < n c.args.m.now.modulus) (trailing_zeros w64 (length split)) (length split) split c.reverse_places.new.entries whole refl (omega arith)
+    all_reordered (λ x. n x < n c.args.m.now.modulus) (trailing_zeros w64 (length split))
+    (length split) split c.reverse_places.new.entries whole refl (omega arith)
     c.reverse_places.ensures c.split.ensures.below
 
 pub returns-clause-values : goal.returns-clause-values
@@ -28,6 +29,9 @@ returns-clause-values g c =
     let whole = power_by_zeros (length split) (subst IsPowerOfTwo (omega arith) c.requires.count) (omega arith) in
     let one : length c.args.xs.now / 1 ≡ length c.args.xs.now = omega arith in
     λ root z j plan below.
-    let remainders = subst (λ v. AreRemainders m root z 0 v 1 (numbers n c.args.xs.now) (numbers n split)) one (c.split.ensures.remainders root z plan) in
-    in_natural_order n m root z (length c.args.xs.now) (length c.args.table.now) (trailing_zeros w64 (length split)) (numbers n c.args.xs.now) split
-    c.reverse_places.new.entries (sym length_is ∙ whole) plan.half c.requires.within length_is (omega arith) c.reverse_places.ensures remainders j below
+    let remainders = subst (λ v. AreRemainders m root z 0 v 1 (numbers n c.args.xs.now) (numbers n split)) one
+    (c.split.ensures.remainders root z plan) in
+    in_natural_order n m root z (length c.args.xs.now) (length c.args.table.now) (trailing_zeros w64 (length split))
+    (numbers n c.args.xs.now) split
+    c.reverse_places.new.entries (sym length_is ∙ whole) plan.half c.requires.within length_is
+    (omega arith) c.reverse_places.ensures remainders j below

@@ -6,7 +6,8 @@ pub returns-then-is_below-clause-value : goal.returns-then-is_below-clause-value
 returns-then-is_below-clause-value g c =
     let n = g.T.RingWord.number in
     let less = c.is_below.ensures.below.0 c.if-is_below.true in
-    sum_within (n c.args.m) (n c.args.a) (n c.args.b) (n c.minus-gap.result) (n c.plus.result) c.minus-gap.ensures.value less c.plus.ensures
+    sum_within (n c.args.m) (n c.args.a) (n c.args.b) (n c.minus-gap.result)
+    (n c.plus.result) c.minus-gap.ensures.value less c.plus.ensures
 
 pub returns-then-is_below-clause-below : goal.returns-then-is_below-clause-below
 returns-then-is_below-clause-below g c =

@@ -1,7 +1,8 @@
 use Rattle.std.proofs.Common.{◌≡◌, ◌+◌, ◌<◌, ◌≤◌, ◌%◌, ◌*◌, sym, arith}
 use Rattle.std.proofs.Math.Nat.{mod-eq_of_lt}
 use Rattle.modular_prim.proofs.DivisionCounts.{counts_below, counts_above, counts_next, counts_end, counts_few}
-use Rattle.modular_prim.proofs.EuclidSteps.{euclid_start, euclid_fits, rest_is, euclid_step, euclid_found, euclid_found_negative, euclid_none}
+use Rattle.modular_prim.proofs.EuclidSteps.{euclid_start, euclid_fits, rest_is, euclid_step}
+use Rattle.modular_prim.proofs.EuclidSteps.{euclid_found, euclid_found_negative, euclid_none}
 use Rattle.modular_prim.proofs.euclid.invm_counted.Goals as goal
 use Rattle.modular_prim.proofs.euclid.invm_counted.Goals.{then-not-is_below, else-not-is_below}
 
@@ -23,10 +24,12 @@ euclid-init g c =
           elim c.if-not-is_below.branch [
             | then-not-is_below w ↦
                 let above : n c.args.m ≤ n c.args.a = grind arith in
-                counts_above (n c.args.a) (n c.args.m) (n c.if-not-is_below.r) c.if-not-is_below.count above start w.count-is
+                counts_above (n c.args.a) (n c.args.m)
+                (n c.if-not-is_below.r) c.if-not-is_below.count above start w.count-is
             | else-not-is_below w ↦
                 let below : n c.args.a < n c.args.m = grind arith in
-                counts_below (n c.args.a) (n c.args.m) (n c.if-not-is_below.r) c.if-not-is_below.count below start w.count-is
+                counts_below (n c.args.a) (n c.args.m)
+                (n c.if-not-is_below.r) c.if-not-is_below.count below start w.count-is
           ];
     }
 
@@ -86,11 +89,14 @@ euclid-preserved g c =
           euclid_step (n c.args.a) (n c.args.m) (n c.euclid.last_r) (n c.euclid.r) (n c.euclid.last_t) (n c.euclid.t)
           (n c.plus-next.result) (n c.quotient-quotient.result) (n c.minus-rest.result) c.euclid.odd
           c.euclid.invariant.steps positive c.quotient-quotient.ensures rest
-          (let e : n c.plus-next.result ≡ n c.euclid.last_t + n c.quotient-quotient.result * n c.euclid.t = omega (arith, c.plus-next.ensures, c.times-in-euclid.ensures) in e);
+          (let e : n c.plus-next.result ≡ n c.euclid.last_t + n c.quotient-quotient.result * n c.euclid.t =
+          omega (arith, c.plus-next.ensures, c.times-in-euclid.ensures) in e);
       counts =
-          counts_next (n c.args.a) (n c.args.m) (n c.euclid.last_r) (n c.euclid.r) (n c.minus-rest.result) c.euclid.count
+          counts_next (n c.args.a) (n c.args.m) (n c.euclid.last_r) (n c.euclid.r)
+          (n c.minus-rest.result) c.euclid.count
           c.euclid.invariant.counts positive
-          (rest_is (n c.euclid.last_r) (n c.euclid.r) (n c.quotient-quotient.result) (n c.minus-rest.result) c.quotient-quotient.ensures rest);
+          (rest_is (n c.euclid.last_r) (n c.euclid.r) (n c.quotient-quotient.result)
+          (n c.minus-rest.result) c.quotient-quotient.ensures rest);
     }
 
 pub returns-then-is_below : goal.returns-then-is_below
@@ -106,7 +112,8 @@ returns-then-is_below g c =
       inverse =
           λ x i. euclid_none (n c.args.a) (n c.args.m) (n c.euclid.last_r) (n c.euclid.r) (n c.euclid.last_t)
           (n c.euclid.t) x c.euclid.odd c.euclid.invariant.steps ended above i;
-      count = counts_end (n c.args.a) (n c.args.m) (n c.euclid.last_r) (n c.euclid.r) c.euclid.count c.euclid.invariant.counts ended;
+      count = counts_end (n c.args.a) (n c.args.m) (n c.euclid.last_r)
+          (n c.euclid.r) c.euclid.count c.euclid.invariant.counts ended;
       at_most = few;
     }
 
@@ -123,7 +130,8 @@ returns-then-odd g c =
       inverse =
           euclid_found (n c.args.a) (n c.args.m) (n c.euclid.last_r) (n c.euclid.r) (n c.euclid.last_t) (n c.euclid.t)
           c.euclid.odd c.euclid.invariant.steps c.if-odd.true small;
-      count = counts_end (n c.args.a) (n c.args.m) (n c.euclid.last_r) (n c.euclid.r) c.euclid.count c.euclid.invariant.counts ended;
+      count = counts_end (n c.args.a) (n c.args.m) (n c.euclid.last_r)
+          (n c.euclid.r) c.euclid.count c.euclid.invariant.counts ended;
       at_most = few;
     }
 
@@ -138,8 +146,10 @@ returns-else-odd g c =
     c.is_below.ensures.fits c.is_below.ensures.other_fits in
     record {
       inverse =
-          euclid_found_negative (n c.args.a) (n c.args.m) (n c.euclid.last_r) (n c.euclid.r) (n c.euclid.last_t) (n c.euclid.t)
+          euclid_found_negative (n c.args.a) (n c.args.m) (n c.euclid.last_r) (n c.euclid.r)
+          (n c.euclid.last_t) (n c.euclid.t)
           (n c.neg_below.result) c.euclid.odd c.euclid.invariant.steps c.if-odd.false small c.neg_below.ensures.value;
-      count = counts_end (n c.args.a) (n c.args.m) (n c.euclid.last_r) (n c.euclid.r) c.euclid.count c.euclid.invariant.counts ended;
+      count = counts_end (n c.args.a) (n c.args.m) (n c.euclid.last_r)
+          (n c.euclid.r) c.euclid.count c.euclid.invariant.counts ended;
       at_most = few;
     }

@@ -1,5 +1,6 @@
 use Rattle.std.proofs.Common.{◌≡◌, ◌≢◌, ◌%◌, ◌^◌, ◌<◌, sym, ap, ◌∙◌, subst, arith}
-use Rattle.modular_prim.proofs.PowerSteps.{IsReducer, ReducedSoFar, reduced_start, start_from_base, start_from_one, product_fits, reduced_odd, reduced_even, reduced_end}
+use Rattle.modular_prim.proofs.PowerSteps.{IsReducer, ReducedSoFar, reduced_start, start_from_base}
+use Rattle.modular_prim.proofs.PowerSteps.{start_from_one, product_fits, reduced_odd, reduced_even, reduced_end}
 use Rattle.std.proofs.Math.Nat.{mod-eq_of_lt}
 use Rattle.modular_word.specs.Reduction.{IsReduction}
 use Rattle.modular_prim.proofs.power.power_by_reduction.Goals as goal
@@ -13,12 +14,15 @@ digits-init g c =
     elim c.if-is_odd.branch [
       | then-is_odd w ↦
           let odd : n c.args.exp % 2 ≡ 1 = grind arith in
-          reduced_start g.T.PathWord.base m x (n c.args.exp) x (n c.narrow_remainder-power.result) (n c.if-is_odd.product) (n c.half-rest.result)
+          reduced_start g.T.PathWord.base m x (n c.args.exp) x (n c.narrow_remainder-power.result)
+          (n c.if-is_odd.product) (n c.half-rest.result)
           c.requires.below c.merge.ensures.value c.zero.ensures c.narrow_remainder-power.ensures.value
-          (ap n w.product-is ∙ sym (mod-eq_of_lt c.requires.below)) (start_from_base m x (n c.args.exp) odd) c.half-rest.ensures.value
+          (ap n w.product-is ∙ sym (mod-eq_of_lt c.requires.below)) (start_from_base m x (n c.args.exp) odd)
+          c.half-rest.ensures.value
       | else-is_odd w ↦
           let even : n c.args.exp % 2 ≢ 1 = grind arith in
-          reduced_start g.T.PathWord.base m x (n c.args.exp) 1 (n c.narrow_remainder-power.result) (n c.if-is_odd.product) (n c.half-rest.result)
+          reduced_start g.T.PathWord.base m x (n c.args.exp) 1 (n c.narrow_remainder-power.result)
+          (n c.if-is_odd.product) (n c.half-rest.result)
           c.requires.below c.merge.ensures.value c.zero.ensures c.narrow_remainder-power.ensures.value
           (ap n w.product-is ∙ w.reduced-product.ensures.value ∙ ap (λ v. v % m) w.one.ensures)
           (start_from_one m x (n c.args.exp) (omega arith)) c.half-rest.ensures.value
@@ -40,15 +44,19 @@ digits-preserved g c =
     elim c.if-is_odd-2.branch [
       | then-is_odd-2 w ↦
           let odd : n c.digits.rest % 2 ≡ 1 = grind arith in
-          reduced_odd b m (n c.neginv-negated_inverse.result) _ (n c.digits.power) (n c.digits.product) (n c.digits.rest)
+          reduced_odd b m (n c.neginv-negated_inverse.result) _ (n c.digits.power)
+          (n c.digits.product) (n c.digits.rest)
           (n c.redc-power.result) (n c.if-is_odd-2.product) (n c.half-rest-in-digits.result) reducer c.digits.invariant
           c.product.ensures.value c.redc-power.ensures w.product-then-is_odd-2.ensures.value
-          (subst (λ v. IsReduction b m (g.T.PathWord.double_number w.product-then-is_odd-2.result) v) (sym (ap n w.product-is)) w.redc-product.ensures)
+          (subst (λ v. IsReduction b m (g.T.PathWord.double_number w.product-then-is_odd-2.result) v)
+          (sym (ap n w.product-is)) w.redc-product.ensures)
           c.half-rest-in-digits.ensures.value odd
       | else-is_odd-2 w ↦
           let even : n c.digits.rest % 2 ≢ 1 = grind arith in
-          subst (λ v. ReducedSoFar b m (n c.args.base ^ n c.args.exp % m) (n c.redc-power.result) v (n c.half-rest-in-digits.result)) (sym (ap n w.product-is))
-          (reduced_even b m (n c.neginv-negated_inverse.result) _ (n c.digits.power) (n c.digits.product) (n c.digits.rest)
+          subst (λ v. ReducedSoFar b m (n c.args.base ^ n c.args.exp % m) (n c.redc-power.result) v
+          (n c.half-rest-in-digits.result)) (sym (ap n w.product-is))
+          (reduced_even b m (n c.neginv-negated_inverse.result) _ (n c.digits.power)
+          (n c.digits.product) (n c.digits.rest)
           (n c.redc-power.result) (n c.half-rest-in-digits.result) reducer c.digits.invariant
           c.product.ensures.value c.redc-power.ensures c.half-rest-in-digits.ensures.value even)
     ]
@@ -57,4 +65,5 @@ pub returns : goal.returns
 returns g c =
     let n = g.T.RingWord.number in
     let ended : n c.digits.rest ≡ 0 = grind arith in
-    reduced_end g.T.PathWord.base (n c.args.m) _ (n c.digits.power) (n c.digits.product) (n c.digits.rest) c.digits.invariant ended
+    reduced_end g.T.PathWord.base (n c.args.m) _ (n c.digits.power) (n c.digits.product)
+    (n c.digits.rest) c.digits.invariant ended

@@ -14,4 +14,5 @@ pub returns-else-is_zero_word-clause-power : goal.returns-else-is_zero_word-clau
 returns-else-is_zero_word-clause-power g c p = c.powm.ensures
 
 pub returns-else-is_zero_word-clause-zero : goal.returns-else-is_zero_word-clause-zero
-returns-else-is_zero_word-clause-zero g c z = let t = c.is_zero_word.ensures.zero.1 z in absurd (cc (t, c.if-is_zero_word.false))
+returns-else-is_zero_word-clause-zero g c z = let t = c.is_zero_word.ensures.zero.1 z in
+    absurd (cc (t, c.if-is_zero_word.false))

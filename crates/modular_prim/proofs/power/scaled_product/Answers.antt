@@ -5,4 +5,5 @@ use Rattle.modular_prim.proofs.power.scaled_product.Goals as goal
 pub returns : goal.returns
 returns g c =
     let n = g.T.RingWord.number in
-    remainder_of c.div_2by1.ensures ∙ ap (λ v. v % n c.args.divisor) (c.product.ensures.value ∙ ap (λ v. v * n c.args.b) c.shift_right.ensures.value)
+    remainder_of c.div_2by1.ensures
+    ∙ ap (λ v. v % n c.args.divisor) (c.product.ensures.value ∙ ap (λ v. v * n c.args.b) c.shift_right.ensures.value)

@@ -11,7 +11,8 @@ returns-then-is_below-3 g c =
     sum_carried B (n c.args.a) (n c.args.b) (n c.wrapping_add-sum.result) c.is_below.ensures.fits
     c.is_below-2.ensures.other_fits c.wrapping_add-sum.ensures.value less in
     let one : B * n c.one.result ≡ B * 1 = ap (λ v. B * v) c.one.ensures in
-    let whole : g.T.PathWord.double_number c.merge.result ≡ n c.args.a + n c.args.b = omega (arith, c.merge.ensures.value) in
+    let whole : g.T.PathWord.double_number c.merge.result ≡ n c.args.a + n c.args.b =
+    omega (arith, c.merge.ensures.value) in
     c.narrow_remainder.ensures.value ∙ ap (λ v. v % n c.args.m) whole
 
 pub returns-else-is_below-3 : goal.returns-else-is_below-3

@@ -9,16 +9,19 @@ returns-clause-positive g c = (g.met.R.Reducer.canonical c.args.reducer.now).pos
 pub returns-clause-value : goal.returns-clause-value
 returns-clause-value g c v h =
     let canonical = g.met.R.Reducer.canonical c.args.reducer.now in
-    canonical.one_value (g.R.Reducer.form (g.R.Reducer.modulus c.args.reducer.now) v) v (record { below = h; same = refl })
+    canonical.one_value (g.R.Reducer.form (g.R.Reducer.modulus c.args.reducer.now) v) v
+    (record { below = h; same = refl })
 
 pub returns-clause-checked : goal.returns-clause-checked
-returns-clause-checked g c v h = form_of_value (g.met.R.Reducer.canonical c.args.reducer.now) (record { below = h; same = refl })
+returns-clause-checked g c v h =
+    form_of_value (g.met.R.Reducer.canonical c.args.reducer.now) (record { below = h; same = refl })
 
 pub returns-clause-fits : goal.returns-clause-fits
 returns-clause-fits g c v h = (g.met.R.Reducer.canonical c.args.reducer.now).fits v h
 
 pub returns-clause-same : goal.returns-clause-same
-returns-clause-same g c a b p q e = p.same ∙ ap (g.R.Reducer.form (g.R.Reducer.modulus c.args.reducer.now)) e ∙ sym q.same
+returns-clause-same g c a b p q e =
+    p.same ∙ ap (g.R.Reducer.form (g.R.Reducer.modulus c.args.reducer.now)) e ∙ sym q.same
 
 pub returns-clause-word : goal.returns-clause-word
 returns-clause-word g c a b p q e =

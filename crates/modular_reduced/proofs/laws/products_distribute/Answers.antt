@@ -22,6 +22,8 @@ returns-clause-right g c =
     let m = g.R.Reducer.modulus c.args.reducer.now in
     let n = g.T.RingWord.number in
     let v = g.R.Reducer.value m (n c.mul-2.result) in
-    subst (λ k. Represents g.R.Reducer.form m (n c.add-right.result) ((g.R.Reducer.value m (n c.args.a) * g.R.Reducer.value m (n c.args.b) % m + k) % m))
+    subst (λ k. Represents g.R.Reducer.form m (n c.add-right.result)
+    ((g.R.Reducer.value m (n c.args.a) * g.R.Reducer.value m (n c.args.b) % m + k) % m))
     c.mul-2.ensures.value
-    (subst (λ k. Represents g.R.Reducer.form m (n c.add-right.result) ((k + v) % m)) c.mul.ensures.value c.add-right.ensures.form)
+    (subst (λ k. Represents g.R.Reducer.form m (n c.add-right.result) ((k + v) % m))
+    c.mul.ensures.value c.add-right.ensures.form)

@@ -15,6 +15,7 @@ returns-clause-word g c =
     let left = c.residue.ensures.value in
     let right = c.residue-2.ensures.value in (
       (λ h. g.met.T.RingWord.injective c.args.a c.args.b
-          (c.requires.a.same ∙ ap (g.R.Reducer.form m) (sym left ∙ equal.0 (sym c.eq.ensures ∙ h) ∙ right) ∙ sym c.requires.b.same)),
+          (c.requires.a.same ∙ ap (g.R.Reducer.form m) (sym left ∙ equal.0 (sym c.eq.ensures ∙ h) ∙ right)
+          ∙ sym c.requires.b.same)),
       (λ h. c.eq.ensures ∙ equal.1 (left ∙ ap (λ x. g.R.Reducer.value m (g.T.RingWord.number x)) h ∙ sym right)),
     )

@@ -6,7 +6,8 @@ use Rattle.modular_reduced.proofs.power.binary_power.Goals.{then-is_odd, else-is
 
 pub digits-init : goal.digits-init
 digits-init g c = record {
-  so_far = power_start (g.met.R.Reducer.canonical c.args.reducer.now) c.requires.form c.one.ensures c.transform-product.ensures.form;
+  so_far = power_start (g.met.R.Reducer.canonical c.args.reducer.now) c.requires.form c.one.ensures
+      c.transform-product.ensures.form;
   counted = omega arith;
 }
 
@@ -49,13 +50,15 @@ digits-preserved g c =
       | then-is_odd w ↦
           let odd : number c.digits.rest % 2 ≡ 1 = search rules in
           record {
-            so_far = rw w.product-is (power_odd_step canonical c.digits.invariant.so_far odd w.mul-product.ensures.form c.sqr-power.ensures.form half);
+            so_far = rw w.product-is (power_odd_step canonical c.digits.invariant.so_far odd w.mul-product.ensures.form
+                c.sqr-power.ensures.form half);
             counted = omega (arith, c.digits.invariant.counted);
           }
       | else-is_odd w ↦
           let even : number c.digits.rest % 2 ≢ 1 = search rules in
           record {
-            so_far = rw w.product-is (power_even_step canonical c.digits.invariant.so_far even c.sqr-power.ensures.form half);
+            so_far = rw w.product-is
+                (power_even_step canonical c.digits.invariant.so_far even c.sqr-power.ensures.form half);
             counted = omega (arith, c.digits.invariant.counted);
           }
     ]

@@ -9,7 +9,8 @@ invariant-digits g l =
     let number = g.T.RingWord.number in
     let value = g.R.Reducer.value in
     record {
-      so_far : PowerSoFar g.R.Reducer.form value m (number l.product) (number l.power) (number l.rest) (value m (number l.fn.base) ^ number l.fn.exp % m);
+      so_far : PowerSoFar g.R.Reducer.form value m (number l.product) (number l.power) (number l.rest)
+          (value m (number l.fn.base) ^ number l.fn.exp % m);
       counted : l.count + steps (number l.rest) ≡ steps (number l.fn.exp);
     }
 

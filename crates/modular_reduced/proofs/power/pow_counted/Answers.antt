@@ -24,12 +24,14 @@ pub returns-then-not-is_odd : goal.returns-then-not-is_odd
 returns-then-not-is_odd g c =
     let exp = g.T.RingWord.number c.args.exp.now in
     let same : IsTrue (g.T.PartialEq.eq c.half.result c.one-2.result) = search rules in
-    let half : exp / 2 ≡ 1 = sym c.half.ensures.value ∙ (g.met.T.RingWord.equal c.half.result c.one-2.result).0 same ∙ c.one-2.ensures in
+    let half : exp / 2 ≡ 1 =
+    sym c.half.ensures.value ∙ (g.met.T.RingWord.equal c.half.result c.one-2.result).0 same ∙ c.one-2.ensures in
     let even : exp % 2 ≢ 1 = search rules in
     let two : exp ≡ 2 = omega arith in
     let count = products_of_two exp two in
     let most = products_at_most exp in
-    let power = power_of_two (g.R.Reducer.value (g.R.Reducer.modulus c.args.reducer.now) (g.T.RingWord.number c.args.base)) exp two c.sqr.ensures.form in
+    let power = power_of_two (g.R.Reducer.value (g.R.Reducer.modulus c.args.reducer.now)
+    (g.T.RingWord.number c.args.base)) exp two c.sqr.ensures.form in
     record {
       power = power;
       checked = c.sqr.ensures.checked;
@@ -43,7 +45,8 @@ returns g c =
     let exp = g.T.RingWord.number c.args.exp.now in
     let equal = g.met.T.RingWord.equal in
     let not_one : exp ≢ 1 = λ e.
-    let same : IsTrue (g.T.PartialEq.eq c.args.exp.now c.one.result) = (equal c.args.exp.now c.one.result).1 (e ∙ sym c.one.ensures) in
+    let same : IsTrue (g.T.PartialEq.eq c.args.exp.now c.one.result) =
+    (equal c.args.exp.now c.one.result).1 (e ∙ sym c.one.ensures) in
     search rules in
     let not_two : exp ≢ 2 = elim c.if-eq-2.branch [
       | then-eq-2+else-not-is_odd w ↦
@@ -51,7 +54,8 @@ returns g c =
           λ e. omega arith
       | else-eq-2 w ↦ λ e.
           let half : exp / 2 ≡ 1 = omega arith in
-          let same : IsTrue (g.T.PartialEq.eq c.half.result c.one-2.result) = (equal c.half.result c.one-2.result).1 (c.half.ensures.value ∙ half ∙ sym c.one-2.ensures) in
+          let same : IsTrue (g.T.PartialEq.eq c.half.result c.one-2.result) =
+          (equal c.half.result c.one-2.result).1 (c.half.ensures.value ∙ half ∙ sym c.one-2.ensures) in
           search rules
     ] in
     let count : products exp ≡ steps exp = products_else exp not_one not_two in

@@ -1,7 +1,8 @@
 -- The count one number on, and the symbol at its end.
 use Rattle.std.proofs.Common.{◌<◌, ◌≤◌, cond, pos, negsuc, sym, ap, ◌∙◌, arith}
 use Rattle.modular_symbols.specs.Kronecker.{signed}
-use Rattle.modular_symbols.proofs.CountSteps.{Next, counted_high, counted_low, counted_all, shared_divisor, no_inverse, with_inverse}
+use Rattle.modular_symbols.proofs.CountSteps.{Next, counted_high, counted_low, counted_all}
+use Rattle.modular_symbols.proofs.CountSteps.{shared_divisor, no_inverse, with_inverse}
 use Rattle.modular_symbols.proofs.count.jacobi_by_count.Goals as goal
 
 pub returns-then-is_none : goal.returns-then-is_none
@@ -16,7 +17,8 @@ half_system-preserved-then-is_below g c =
     let n = g.T.RingWord.number in
     let before : n c.half_system.x < n c.half-half.result = grind arith in
     let high : n c.half-half.result < n c.mulm.result = grind arith in
-    let next : Next (signed c.args.a_minus (pos (n c.args.a))) (n c.args.n) (n c.half_system.x) (n c.one.result) (n c.plus-x.result)
+    let next : Next (signed c.args.a_minus (pos (n c.args.a))) (n c.args.n) (n c.half_system.x)
+    (n c.one.result) (n c.plus-x.result)
     (n c.half-half.result) (n c.signed_residue-residue.result) (n c.mulm.result) = record {
       odd_modulus = c.requires;
       half_is = c.half-half.ensures.value;
@@ -33,7 +35,8 @@ half_system-preserved g c =
     let n = g.T.RingWord.number in
     let before : n c.half_system.x < n c.half-half.result = grind arith in
     let low : n c.mulm.result ≤ n c.half-half.result = grind arith in
-    let next : Next (signed c.args.a_minus (pos (n c.args.a))) (n c.args.n) (n c.half_system.x) (n c.one.result) (n c.plus-x.result)
+    let next : Next (signed c.args.a_minus (pos (n c.args.a))) (n c.args.n) (n c.half_system.x)
+    (n c.one.result) (n c.plus-x.result)
     (n c.half-half.result) (n c.signed_residue-residue.result) (n c.mulm.result) = record {
       odd_modulus = c.requires;
       half_is = c.half-half.ensures.value;
@@ -49,9 +52,11 @@ pub returns-then-odd : goal.returns-then-odd
 returns-then-odd g c =
     let n = g.T.RingWord.number in
     let p : 0 < n c.args.n = omega (arith, c.requires) in
-    let coprime = with_inverse n (n c.args.n) (n c.args.a) c.args.a_minus c.invm.result p c.invm.ensures c.if-is_none.ensures in
+    let coprime = with_inverse n (n c.args.n)
+    (n c.args.a) c.args.a_minus c.invm.result p c.invm.ensures c.if-is_none.ensures in
     let reached : n c.half-half.result ≤ n c.half_system.x = grind arith in
-    sym (counted_all (signed c.args.a_minus (pos (n c.args.a))) (n c.args.n) (n c.half_system.x) (n c.half-half.result) c.half_system.odd
+    sym (counted_all (signed c.args.a_minus (pos (n c.args.a))) (n c.args.n) (n c.half_system.x)
+    (n c.half-half.result) c.half_system.odd
     c.half_system.invariant c.requires c.half-half.ensures.value reached coprime
     ∙ ap (λ v. cond v (negsuc 0) (pos 1)) c.if-odd.true)
 
@@ -59,8 +64,10 @@ pub returns-else-odd : goal.returns-else-odd
 returns-else-odd g c =
     let n = g.T.RingWord.number in
     let p : 0 < n c.args.n = omega (arith, c.requires) in
-    let coprime = with_inverse n (n c.args.n) (n c.args.a) c.args.a_minus c.invm.result p c.invm.ensures c.if-is_none.ensures in
+    let coprime = with_inverse n (n c.args.n)
+    (n c.args.a) c.args.a_minus c.invm.result p c.invm.ensures c.if-is_none.ensures in
     let reached : n c.half-half.result ≤ n c.half_system.x = grind arith in
-    sym (counted_all (signed c.args.a_minus (pos (n c.args.a))) (n c.args.n) (n c.half_system.x) (n c.half-half.result) c.half_system.odd
+    sym (counted_all (signed c.args.a_minus (pos (n c.args.a))) (n c.args.n) (n c.half_system.x)
+    (n c.half-half.result) c.half_system.odd
     c.half_system.invariant c.requires c.half-half.ensures.value reached coprime
     ∙ ap (λ v. cond v (negsuc 0) (pos 1)) c.if-odd.false)

@@ -1,5 +1,5 @@
 -- Each turn of the loop keeps the symbol up to its sign, and counts its steps.
-use Rattle.std.proofs.Common.{rules, arith, ◌≡◌, ◌≢◌, ◌+◌, ◌∙◌, IsTrue, ℤ, pos, sym, ap}
+use Rattle.std.proofs.Common.{rules, arith, ◌≢◌, ◌+◌, ◌∙◌, pos, sym, ap}
 use Rattle.modular_symbols.specs.Jacobi.{jacobi}
 use Rattle.modular_symbols.specs.Kronecker.{signed}
 use Rattle.modular_symbols.proofs.HalvingSteps.{smaller, kept_swapped}
@@ -38,7 +38,8 @@ swaps-smaller g c =
     let some : n c.swaps.above ≢ 0 = search rules in
     let h = halved g.T.RingWord.width (n c.swaps.above) c.trailing_zeros-twos.result (n c.shift_right-odd.result) some
     c.is_zero_word.ensures.fits c.trailing_zeros-twos.ensures.value c.shift_right-odd.ensures.value in
-    let less = smaller (n c.swaps.above) c.trailing_zeros-twos.result (n c.shift_right-odd.result) (n c.swaps.below) h in
+    let less = smaller (n c.swaps.above) c.trailing_zeros-twos.result
+    (n c.shift_right-odd.result) (n c.swaps.below) h in
     omega (arith, c.remainder-above.ensures.value)
 
 pub swaps-preserved : goal.swaps-preserved
@@ -49,29 +50,16 @@ swaps-preserved g c =
     c.is_zero_word.ensures.fits c.trailing_zeros-twos.ensures.value c.shift_right-odd.ensures.value in
     record {
       symbol =
-          kept_swapped (jacobi (pos (n c.args.a)) (n c.args.n)) (n c.swaps.above) (n c.swaps.below) c.trailing_zeros-twos.result
+          kept_swapped (jacobi (pos (n c.args.a)) (n c.args.n)) (n c.swaps.above)
+          (n c.swaps.below) c.trailing_zeros-twos.result
           (n c.shift_right-odd.result) (n c.remainder-above.result) c.swaps.turned c.is_turned-turned.result
           c.swaps.invariant.symbol h c.is_turned-turned.ensures c.remainder-above.ensures.value;
       counts =
           counts_turn g.T.RingWord.width g.T.PathWord.base (n c.args.a) (n c.args.n) (n c.swaps.above) (n c.swaps.below)
           c.trailing_zeros-twos.result (n c.shift_right-odd.result) (n c.remainder-above.result) c.swaps.count
-          c.swaps.invariant.counts h c.remainder-above.ensures.value g.met.T.PathWord.base_is c.remainder-above.ensures.fits;
+          c.swaps.invariant.counts h c.remainder-above.ensures.value g.met.T.PathWord.base_is
+          c.remainder-above.ensures.fits;
     }
-
-pub overflow_add-count : goal.overflow_add-count
-overflow_add-count g c =
-    let n = g.T.RingWord.number in
-    let some : n c.swaps.above ≢ 0 = search rules in
-    let h = halved g.T.RingWord.width (n c.swaps.above) c.trailing_zeros-twos.result (n c.shift_right-odd.result) some
-    c.is_zero_word.ensures.fits c.trailing_zeros-twos.ensures.value c.shift_right-odd.ensures.value in
-    let after =
-    counts_turn g.T.RingWord.width g.T.PathWord.base (n c.args.a) (n c.args.n) (n c.swaps.above) (n c.swaps.below)
-    c.trailing_zeros-twos.result (n c.shift_right-odd.result) (n c.remainder-above.result) c.swaps.count
-    c.swaps.invariant.counts h c.remainder-above.ensures.value g.met.T.PathWord.base_is c.remainder-above.ensures.fits in
-    let few =
-    counts_few g.T.RingWord.width (n c.args.a) (n c.args.n) (n c.remainder-above.result) (n c.shift_right-odd.result)
-    (c.swaps.count + (c.trailing_zeros-twos.result + 1)) after c.requires.below in
-    omega (arith, g.met.T.RingWord.width_to)
 
 pub overflow_add-count-in-swaps : goal.overflow_add-count-in-swaps
 overflow_add-count-in-swaps g c =
@@ -82,7 +70,8 @@ overflow_add-count-in-swaps g c =
     let after =
     counts_turn g.T.RingWord.width g.T.PathWord.base (n c.args.a) (n c.args.n) (n c.swaps.above) (n c.swaps.below)
     c.trailing_zeros-twos.result (n c.shift_right-odd.result) (n c.remainder-above.result) c.swaps.count
-    c.swaps.invariant.counts h c.remainder-above.ensures.value g.met.T.PathWord.base_is c.remainder-above.ensures.fits in
+    c.swaps.invariant.counts h c.remainder-above.ensures.value g.met.T.PathWord.base_is
+    c.remainder-above.ensures.fits in
     let few =
     counts_few g.T.RingWord.width (n c.args.a) (n c.args.n) (n c.remainder-above.result) (n c.shift_right-odd.result)
     (c.swaps.count + (c.trailing_zeros-twos.result + 1)) after c.requires.below in
@@ -91,50 +80,35 @@ overflow_add-count-in-swaps g c =
 pub returns-then-turned : goal.returns-then-turned
 returns-then-turned g c =
     let n = g.T.RingWord.number in
-    let none : n c.swaps.above ≡ 0 = search rules in
-    let same : IsTrue (g.T.PartialEq.eq c.swaps.below c.one.result) = search rules in
-    let one : n c.swaps.below ≡ 1 = (g.met.T.RingWord.equal c.swaps.below c.one.result).0 same ∙ c.one.ensures in
-    let w : ℤ = jacobi (pos (n c.args.a)) (n c.args.n) in
     record {
       symbol =
           ap (λ t. signed t (pos 1)) (sym c.if-turned.true)
-          ∙ kept_one w (n c.swaps.above) (n c.swaps.below) c.swaps.turned c.swaps.invariant.symbol none one;
-      count = counts_end g.T.RingWord.width (n c.args.a) (n c.args.n) (n c.swaps.above) (n c.swaps.below) c.swaps.count c.swaps.invariant.counts none;
-      at_most =
-          counts_few g.T.RingWord.width (n c.args.a) (n c.args.n) (n c.swaps.above) (n c.swaps.below) c.swaps.count
-          c.swaps.invariant.counts c.requires.below;
+          ∙ kept_one _ (n c.swaps.above) (n c.swaps.below) c.swaps.turned c.swaps.invariant.symbol (search rules)
+          ((g.met.T.RingWord.equal c.swaps.below c.one.result).0 (search rules) ∙ c.one.ensures);
+      count = counts_end _ _ _ _ _ _ c.swaps.invariant.counts (search rules);
+      at_most = counts_few _ _ _ _ _ _ c.swaps.invariant.counts c.requires.below;
     }
 
 pub returns-else-turned : goal.returns-else-turned
 returns-else-turned g c =
     let n = g.T.RingWord.number in
-    let none : n c.swaps.above ≡ 0 = search rules in
-    let same : IsTrue (g.T.PartialEq.eq c.swaps.below c.one.result) = search rules in
-    let one : n c.swaps.below ≡ 1 = (g.met.T.RingWord.equal c.swaps.below c.one.result).0 same ∙ c.one.ensures in
-    let w : ℤ = jacobi (pos (n c.args.a)) (n c.args.n) in
     record {
       symbol =
           ap (λ t. signed t (pos 1)) (sym c.if-turned.false)
-          ∙ kept_one w (n c.swaps.above) (n c.swaps.below) c.swaps.turned c.swaps.invariant.symbol none one;
-      count = counts_end g.T.RingWord.width (n c.args.a) (n c.args.n) (n c.swaps.above) (n c.swaps.below) c.swaps.count c.swaps.invariant.counts none;
-      at_most =
-          counts_few g.T.RingWord.width (n c.args.a) (n c.args.n) (n c.swaps.above) (n c.swaps.below) c.swaps.count
-          c.swaps.invariant.counts c.requires.below;
+          ∙ kept_one _ (n c.swaps.above) (n c.swaps.below) c.swaps.turned c.swaps.invariant.symbol (search rules)
+          ((g.met.T.RingWord.equal c.swaps.below c.one.result).0 (search rules) ∙ c.one.ensures);
+      count = counts_end _ _ _ _ _ _ c.swaps.invariant.counts (search rules);
+      at_most = counts_few _ _ _ _ _ _ c.swaps.invariant.counts c.requires.below;
     }
 
 pub returns-else-eq : goal.returns-else-eq
 returns-else-eq g c =
     let n = g.T.RingWord.number in
-    let none : n c.swaps.above ≡ 0 = search rules in
-    let other : n c.swaps.below ≢ 1 = λ e.
-    let same : IsTrue (g.T.PartialEq.eq c.swaps.below c.one.result) =
-    (g.met.T.RingWord.equal c.swaps.below c.one.result).1 (e ∙ sym c.one.ensures) in
-    search rules in
     record {
       symbol =
-          kept_none (jacobi (pos (n c.args.a)) (n c.args.n)) (n c.swaps.above) (n c.swaps.below) c.swaps.turned c.swaps.invariant.symbol none other;
-      count = counts_end g.T.RingWord.width (n c.args.a) (n c.args.n) (n c.swaps.above) (n c.swaps.below) c.swaps.count c.swaps.invariant.counts none;
-      at_most =
-          counts_few g.T.RingWord.width (n c.args.a) (n c.args.n) (n c.swaps.above) (n c.swaps.below) c.swaps.count
-          c.swaps.invariant.counts c.requires.below;
+          kept_none _ (n c.swaps.above) (n c.swaps.below) c.swaps.turned c.swaps.invariant.symbol (search rules)
+          (λ e. let one = (g.met.T.RingWord.equal c.swaps.below c.one.result).1 (e ∙ sym c.one.ensures) in
+          search rules);
+      count = counts_end _ _ _ _ _ _ c.swaps.invariant.counts (search rules);
+      at_most = counts_few _ _ _ _ _ _ c.swaps.invariant.counts c.requires.below;
     }

@@ -2,7 +2,8 @@
 use Rattle.std.proofs.Common.{arith}
 use Rattle.modular_word.proofs.Divisors.{Coprime-from_gcd}
 use Rattle.modular_symbols.proofs.Euler.{classed_power-jacobi}
-use Rattle.modular_symbols.proofs.JacobiLaws.{jacobi-values, jacobi-zero_exactly, jacobi-residue, jacobi-product, jacobi-two, jacobi-reciprocal}
+use Rattle.modular_symbols.proofs.JacobiLaws.{jacobi-values, jacobi-zero_exactly, jacobi-residue}
+use Rattle.modular_symbols.proofs.JacobiLaws.{jacobi-product, jacobi-two, jacobi-reciprocal}
 use Rattle.modular_symbols.proofs.laws.jacobi_laws.Goals as goal
 
 pub returns-clause-values : goal.returns-clause-values

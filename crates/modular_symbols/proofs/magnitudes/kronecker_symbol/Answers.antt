@@ -1,11 +1,9 @@
 -- The symbol over 0, and over a number of at least 1.
 use Rattle.std.proofs.Common.{◌≡◌, ◌≢◌, ◌&&◌, ℤ, pos, sym, ap, ◌∙◌, arith, rules}
 use Rattle.std.proofs.lemmas.Bool.{cond-true, cond-false, eq-eqb, ne_eqb}
-use Rattle.std.proofs.lemmas.Int.{to_z-of_z}
-use Rattle.std.specs.Int.{w8}
-use mir.Val.{SFits}
 use Rattle.modular_symbols.specs.Kronecker.{signed, kronecker_above}
 use Rattle.modular_symbols.proofs.KroneckerSteps.{kronecker-over_zero, kronecker-over}
+use Rattle.modular_symbols.proofs.SymbolBytes.{in_byte}
 use Rattle.modular_symbols.proofs.magnitudes.kronecker_symbol.Goals as goal
 use Rattle.modular_symbols.proofs.magnitudes.kronecker_symbol.Goals.{then-a_minus, else-a_minus}
 
@@ -35,11 +33,12 @@ returns-after-a_minus g c =
     let turned : c.if-a_minus.turned_symbol ≡ c.args.a_minus && c.args.n_minus =
     elim c.if-a_minus.branch [
       | then-a_minus w ↦ w.turned_symbol-is ∙ sym (ap (λ b. b && c.args.n_minus) w.if-a_minus.true)
-      | else-a_minus w ↦ w.turned_symbol-is ∙ w.if-a_minus.false ∙ sym (ap (λ b. b && c.args.n_minus) w.if-a_minus.false)
+      | else-a_minus w ↦
+          w.turned_symbol-is ∙ w.if-a_minus.false ∙ sym (ap (λ b. b && c.args.n_minus) w.if-a_minus.false)
     ] in
-    let fits : SFits w8 c.symbol_above.result = search rules in
-    let fits_turned : SFits w8 c.turned_symbol.result = search rules in
-    to_z-of_z w8 c.turned_symbol.result fits_turned ∙ c.turned_symbol.ensures.value
-    ∙ ap (λ v. signed c.if-a_minus.turned_symbol v) (to_z-of_z w8 c.symbol_above.result fits ∙ c.symbol_above.ensures.value)
+    in_byte c.turned_symbol.result (search rules) ∙ c.turned_symbol.ensures.value
+    ∙ ap (λ v. signed c.if-a_minus.turned_symbol v)
+    (in_byte c.symbol_above.result (search rules) ∙ c.symbol_above.ensures.value)
     ∙ ap (λ b. signed b (kronecker_above z (n c.args.n))) turned
-    ∙ sym (kronecker-over c.args.a_minus c.args.n_minus (n c.args.a) (n c.args.n) c.requires.a_sign c.requires.n_sign (omega arith))
+    ∙ sym (kronecker-over c.args.a_minus c.args.n_minus (n c.args.a) (n c.args.n) c.requires.a_sign c.requires.n_sign
+    (omega arith))

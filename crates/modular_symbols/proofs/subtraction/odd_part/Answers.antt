@@ -2,37 +2,40 @@
 use Rattle.std.proofs.Common.{◌≡◌, ◌≢◌, ◌%◌, ◌^◌, ◌<◌, arith, ap, sym, ◌∙◌}
 use Rattle.std.proofs.Math.Nat.{mod_self, zero-mod}
 use Rattle.modular_symbols.proofs.SubtractionSteps.{jacobi-odd_part}
-use Rattle.modular_symbols.proofs.TwoPart.{halved}
+use Rattle.modular_symbols.proofs.TurnBits.{is_odd}
+use Rattle.modular_symbols.proofs.TwoPart.{Halved, halved}
+use Rattle.modular_symbols.proofs.subtraction.odd_part.Given.{Over}
 use Rattle.modular_symbols.proofs.subtraction.odd_part.Goals as goal
 use Rattle.modular_symbols.proofs.subtraction.odd_part.Goals.{then-is_zero_word, else-is_zero_word}
 
-pub returns-clause-odd : goal.returns-clause-odd
-returns-clause-odd g c =
+halves : (g : Over) (c : goal.After-turn_by_twos g)
+    → Halved (g.T.RingWord.number c.if-is_zero_word.some) c.trailing_zeros-twos.result
+    (g.T.RingWord.number c.shift_right.result)
+halves g c =
     let n = g.T.RingWord.number in
     let some : n c.if-is_zero_word.some ≢ 0 = elim c.if-is_zero_word.branch [
       | then-is_zero_word w ↦ λ e. let f = ap n w.some-is in omega (arith, c.requires)
-      | else-is_zero_word w ↦ λ e. let t = c.is_zero_word.ensures.zero.1 (sym (ap n w.some-is) ∙ e) in cc (t, w.if-is_zero_word.false)
+      | else-is_zero_word w ↦
+          λ e. let t = c.is_zero_word.ensures.zero.1 (sym (ap n w.some-is) ∙ e) in cc (t, w.if-is_zero_word.false)
     ] in
-    let fits : n c.if-is_zero_word.some < 2 ^ g.T.RingWord.width = omega (arith, c.trailing_zeros-twos.ensures.fits, g.met.T.PathWord.base_is) in
-    (halved g.T.RingWord.width (n c.if-is_zero_word.some) c.trailing_zeros-twos.result (n c.shift_right.result) some fits
-    c.trailing_zeros-twos.ensures.value c.shift_right.ensures.value).odd
+    let fits : n c.if-is_zero_word.some < 2 ^ g.T.RingWord.width =
+    omega (arith, c.trailing_zeros-twos.ensures.fits, g.met.T.PathWord.base_is) in
+    halved g.T.RingWord.width (n c.if-is_zero_word.some) c.trailing_zeros-twos.result (n c.shift_right.result) some fits
+    c.trailing_zeros-twos.ensures.value c.shift_right.ensures.value
+
+pub returns-clause-odd : goal.returns-clause-odd
+returns-clause-odd g c = (halves g c).odd
 
 pub returns-clause-symbol : goal.returns-clause-symbol
 returns-clause-symbol g c =
     let n = g.T.RingWord.number in
-    let some : n c.if-is_zero_word.some ≢ 0 = elim c.if-is_zero_word.branch [
-      | then-is_zero_word w ↦ λ e. let f = ap n w.some-is in omega (arith, c.requires)
-      | else-is_zero_word w ↦ λ e. let t = c.is_zero_word.ensures.zero.1 (sym (ap n w.some-is) ∙ e) in cc (t, w.if-is_zero_word.false)
-    ] in
-    let fits : n c.if-is_zero_word.some < 2 ^ g.T.RingWord.width = omega (arith, c.trailing_zeros-twos.ensures.fits, g.met.T.PathWord.base_is) in
     let same : n c.args.a % n c.args.n ≡ n c.if-is_zero_word.some % n c.args.n = elim c.if-is_zero_word.branch [
       | then-is_zero_word w ↦
           ap (λ v. v % n c.args.n) (c.is_zero_word.ensures.zero.0 w.if-is_zero_word.true) ∙ zero-mod (n c.args.n)
           ∙ sym (ap (λ v. n v % n c.args.n) w.some-is ∙ mod_self (n c.args.n))
       | else-is_zero_word w ↦ sym (ap (λ v. n v % n c.args.n) w.some-is)
     ] in
-    jacobi-odd_part (n c.args.a) (n c.if-is_zero_word.some) (n c.args.n) c.trailing_zeros-twos.result (n c.shift_right.result)
-    c.is_turned_by_twos.result (record { law = c.is_turned_by_twos.ensures })
-    (halved g.T.RingWord.width (n c.if-is_zero_word.some) c.trailing_zeros-twos.result (n c.shift_right.result) some fits
-    c.trailing_zeros-twos.ensures.value c.shift_right.ensures.value)
+    jacobi-odd_part (n c.args.a) (n c.if-is_zero_word.some)
+    (n c.args.n) c.trailing_zeros-twos.result (n c.shift_right.result)
+    (is_odd c.turn_by_twos.result) (record { law = c.turn_by_twos.ensures }) (halves g c)
     (omega (arith, c.requires)) same

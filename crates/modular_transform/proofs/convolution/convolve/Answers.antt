@@ -53,18 +53,23 @@ returns-in-Some-clause-transformed g c h = c.multiply.ensures.transformed
 
 pub returns-in-Some-clause-values : goal.returns-in-Some-clause-values
 returns-in-Some-clause-values g c h e l =
-    held_value g.T.RingWord.number g.R.Reducer.form g.R.Reducer.value _ _ c.multiply.new.xs _ e (g.met.R.Reducer.canonical c.args.r.now) c.multiply.ensures.product (omega arith)
+    held_value g.T.RingWord.number g.R.Reducer.form g.R.Reducer.value _ _ c.multiply.new.xs _ e
+    (g.met.R.Reducer.canonical c.args.r.now) c.multiply.ensures.product (omega arith)
 
 pub returns-in-Some-clause-transformed_values : goal.returns-in-Some-clause-transformed_values
 returns-in-Some-clause-transformed_values g c h j l =
-    held_value g.T.RingWord.number g.R.Reducer.form g.R.Reducer.value _ _ c.multiply.new.ys _ j (g.met.R.Reducer.canonical c.args.r.now) c.multiply.ensures.transformed (let equal = c.requires.equal in omega arith)
+    held_value g.T.RingWord.number g.R.Reducer.form g.R.Reducer.value _ _ c.multiply.new.ys _ j
+    (g.met.R.Reducer.canonical c.args.r.now) c.multiply.ensures.transformed
+    (let equal = c.requires.equal in omega arith)
 
 pub returns-in-Some-clause-checked : goal.returns-in-Some-clause-checked
 returns-in-Some-clause-checked g c = c.multiply.ensures.checked
 
 pub returns-in-None-clause-inverse : goal.returns-in-None-clause-inverse
-returns-in-None-clause-inverse g c =
-    (λ h. absurd (false≢true h), λ h. absurd (c.in-None.ensures.form h.0 (inverse_along (turned c.length_form-length.ensures.counted) h.1)))
+returns-in-None-clause-inverse g c = (
+  λ h. absurd (false≢true h),
+  λ h. absurd (c.in-None.ensures.form h.0 (inverse_along (turned c.length_form-length.ensures.counted) h.1)),
+)
 
 pub returns-in-None-clause-unchanged : goal.returns-in-None-clause-unchanged
 returns-in-None-clause-unchanged g c none = (refl, refl)

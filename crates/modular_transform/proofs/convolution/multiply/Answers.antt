@@ -47,7 +47,8 @@ ntt-requires-3-clause-suits g c =
 
 pub scale-requires-clause-checked : goal.scale-requires-clause-checked
 scale-requires-clause-checked g c =
-    mirrored_forms g.T.RingWord.number g.R.Reducer.form g.R.Reducer.value _ _ _ c.mirror.ensures (omega arith) c.ntt-3.ensures.checked
+    mirrored_forms g.T.RingWord.number g.R.Reducer.form g.R.Reducer.value _ _ _ c.mirror.ensures
+    (omega arith) c.ntt-3.ensures.checked
 
 pub returns-clause-product : goal.returns-clause-product
 returns-clause-product g c =
@@ -55,9 +56,13 @@ returns-clause-product g c =
     let number = g.T.RingWord.number in
     let value = g.R.Reducer.value in
     let root = value m (number c.args.g.now) in
-    convolution_end number g.R.Reducer.form value g.T.RingWord.width m root (length c.args.xs.now) (value m (number c.args.part.now)) c.args.xs.now c.args.ys.now c.ntt.new.xs c.ntt-2.new.xs c.multiply_each.new.xs c.ntt-3.new.xs c.mirror.new.entries c.scale.new.xs
-    (g.met.R.Reducer.canonical c.args.r.now) c.requires.suits c.requires.inverse refl c.requires.equal (omega arith) (omega arith) (omega arith) (omega arith) (omega arith) (omega arith)
-    c.ntt.ensures.entries c.ntt-2.ensures.entries c.multiply_each.ensures.entries c.ntt-3.ensures.entries c.mirror.ensures c.scale.ensures.entries
+    convolution_end number g.R.Reducer.form value g.T.RingWord.width m root (length c.args.xs.now)
+    (value m (number c.args.part.now)) c.args.xs.now c.args.ys.now c.ntt.new.xs c.ntt-2.new.xs c.multiply_each.new.xs
+    c.ntt-3.new.xs c.mirror.new.entries c.scale.new.xs
+    (g.met.R.Reducer.canonical c.args.r.now) c.requires.suits c.requires.inverse refl c.requires.equal (omega arith)
+    (omega arith) (omega arith) (omega arith) (omega arith) (omega arith)
+    c.ntt.ensures.entries c.ntt-2.ensures.entries c.multiply_each.ensures.entries c.ntt-3.ensures.entries
+    c.mirror.ensures c.scale.ensures.entries
 
 pub returns-clause-transformed : goal.returns-clause-transformed
 returns-clause-transformed g c =
@@ -65,7 +70,8 @@ returns-clause-transformed g c =
     let number = g.T.RingWord.number in
     let value = g.R.Reducer.value in
     let root = value m (number c.args.g.now) in
-    subst (λ n. HoldValues number g.R.Reducer.form m c.ntt-2.new.xs (transform m root n (values number value m c.args.ys.now))) c.requires.equal c.ntt-2.ensures.entries
+    subst (λ n. HoldValues number g.R.Reducer.form m c.ntt-2.new.xs
+    (transform m root n (values number value m c.args.ys.now))) c.requires.equal c.ntt-2.ensures.entries
 
 pub returns-clause-checked : goal.returns-clause-checked
 returns-clause-checked g c = (c.scale.ensures.checked, c.ntt-2.ensures.checked)

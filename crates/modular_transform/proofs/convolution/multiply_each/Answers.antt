@@ -18,9 +18,11 @@ entries-preserved g c =
     let within_ys : i < length c.args.ys.now = let e = c.requires.equal in omega arith in
     let x_is = value_at number value m xs i c.index-xs-i.result within ∙ before.kept i (omega arith) in
     let y_is = value_read number value m c.args.ys.now i c.index-ys-i.result within_ys c.index-ys-i.is in
-    let is = canonical.one_value _ _ c.mul.ensures.form ∙ ap (λ v. v * value m (number c.index-ys-i.result) % m) x_is ∙ ap (λ v. old i * v % m) y_is in
+    let is = canonical.one_value _ _ c.mul.ensures.form ∙ ap (λ v. v * value m (number c.index-ys-i.result) % m) x_is
+    ∙ ap (λ v. old i * v % m) y_is in
     record {
-      checked = forms_written number g.R.Reducer.form value _ m xs i _ c.mul.result canonical c.mul.ensures.form before.checked;
+      checked = forms_written number g.R.Reducer.form value _ m xs i _ c.mul.result canonical
+          c.mul.ensures.form before.checked;
       done = entry_done number value m xs i c.mul.result (λ k. (old k * y k) % m) within before.done is;
       kept = entry_kept number value m xs i c.mul.result old before.kept;
     }

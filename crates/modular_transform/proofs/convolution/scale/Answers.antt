@@ -18,7 +18,8 @@ entries-preserved g c =
     let x_is = value_at number value m xs i c.index-xs-i.result within ∙ before.kept i (omega arith) in
     let is = canonical.one_value _ _ c.mul.ensures.form ∙ ap (λ v. v * factor % m) x_is in
     record {
-      checked = forms_written number g.R.Reducer.form value _ m xs i _ c.mul.result canonical c.mul.ensures.form before.checked;
+      checked = forms_written number g.R.Reducer.form value _ m xs i _ c.mul.result canonical
+          c.mul.ensures.form before.checked;
       done = entry_done number value m xs i c.mul.result (λ k. (old k * factor) % m) within before.done is;
       kept = entry_kept number value m xs i c.mul.result old before.kept;
     }

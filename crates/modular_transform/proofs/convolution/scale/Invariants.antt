@@ -11,6 +11,7 @@ invariant-entries g l =
     let value = g.R.Reducer.value in
     record {
       checked : All (λ f. IsForm g.R.Reducer.form value m (number f)) l.xs;
-      done : (k : ℕ) → k < l.i → values number value m l.xs k ≡ (values number value m l.fn.xs k * value m (number l.factor)) % m;
+      done : (k : ℕ) → k < l.i
+          → values number value m l.xs k ≡ (values number value m l.fn.xs k * value m (number l.factor)) % m;
       kept : (k : ℕ) → l.i ≤ k → values number value m l.xs k ≡ values number value m l.fn.xs k;
     }

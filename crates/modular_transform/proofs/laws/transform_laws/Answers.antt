@@ -1,5 +1,6 @@
 -- The laws of transforms, from the lemmas on the transform back.
-use Rattle.modular_transform.proofs.InverseTransform.{inverse_suits, power_suits, transform_congruent, transformed_back, value_back}
+use Rattle.modular_transform.proofs.InverseTransform.{inverse_suits, power_suits, transform_congruent}
+use Rattle.modular_transform.proofs.InverseTransform.{transformed_back, value_back}
 use Rattle.modular_transform.proofs.laws.transform_laws.Goals as goal
 
 pub returns-clause-inverse : goal.returns-clause-inverse

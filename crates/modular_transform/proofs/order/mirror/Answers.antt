@@ -3,7 +3,8 @@ use Rattle.std.proofs.lemmas.List.Edits.{swapped_from_swap}
 use Rattle.std.specs.List.{swap}
 use Rattle.modular_transform.specs.Orders.{mirrored}
 use Rattle.modular_transform.proofs.Reordering.{ReorderedSoFar}
-use Rattle.modular_transform.proofs.Reordering.{mirror_exchange, mirrored_other, reordered_swapped, reordered_passed, reordered_all}
+use Rattle.modular_transform.proofs.Reordering.{mirror_exchange, mirrored_other, reordered_swapped}
+use Rattle.modular_transform.proofs.Reordering.{reordered_passed, reordered_all}
 use Rattle.modular_transform.proofs.order.mirror.Goals as goal
 use Rattle.modular_transform.proofs.order.mirror.Goals.{then-place-other, else-place-other}
 
@@ -19,15 +20,20 @@ places-preserved g c d =
           let order : i < s i = omega (arith, is) in
           let within : s i < length c.places.entries = omega (arith, is) in
           let e = w.entries-is ∙ w.swap.ensures.after ∙ ap (λ j. swap c.places.entries i j) is in
-          reordered_swapped n i s (λ k. get_or c.args.entries.now k d) (λ k. get_or c.places.entries k d) (λ k. get_or c.if-place-other.entries k d) (mirror_exchange n) l order
-          (swapped_from_swap c.places.entries c.if-place-other.entries i (s i) d (omega arith) within e) (c.places.invariant d)
+          reordered_swapped n i s (λ k. get_or c.args.entries.now k d) (λ k. get_or c.places.entries k d)
+          (λ k. get_or c.if-place-other.entries k d) (mirror_exchange n) l order
+          (swapped_from_swap c.places.entries c.if-place-other.entries i (s i) d (omega arith) within e)
+          (c.places.invariant d)
       | else-place-other w ↦
           let order : s i ≤ i = omega (arith, is) in
-          subst (λ es. ReorderedSoFar n (i + 1) s (λ k. get_or c.args.entries.now k d) (λ k. get_or es k d)) (sym w.entries-is)
-          (reordered_passed n i s (λ k. get_or c.args.entries.now k d) (λ k. get_or c.places.entries k d) (mirror_exchange n) l order (c.places.invariant d))
+          subst (λ es. ReorderedSoFar n (i + 1) s (λ k. get_or c.args.entries.now k d) (λ k. get_or es k d))
+          (sym w.entries-is)
+          (reordered_passed n i s (λ k. get_or c.args.entries.now k d) (λ k. get_or c.places.entries k d)
+          (mirror_exchange n) l order (c.places.invariant d))
     ]
 
 pub returns : goal.returns
 returns g c = record {
-  each = λ i d l. reordered_all (length c.args.entries.now) c.places.place (mirrored (length c.args.entries.now)) _ _ (omega arith) (c.places.invariant d) i l;
+  each = λ i d l. reordered_all (length c.args.entries.now) c.places.place (mirrored (length c.args.entries.now)) _ _
+      (omega arith) (c.places.invariant d) i l;
 }

@@ -4,8 +4,10 @@ use Rattle.std.proofs.lemmas.List.Edits.{swapped_from_swap}
 use Rattle.std.proofs.lemmas.Nat.{pow_pos}
 use Rattle.std.specs.List.{swap}
 use Rattle.modular_transform.specs.Orders.{bits_reversed}
-use Rattle.modular_transform.proofs.BitReversal.{ReversedStep, bits_reversed_below, bits_reversed_of_zero, reversed_step}
-use Rattle.modular_transform.proofs.Reordering.{ReorderedSoFar, bits_exchange, reordered_none, reordered_swapped, reordered_passed, reordered_all}
+use Rattle.modular_transform.proofs.BitReversal.{ReversedStep, bits_reversed_below}
+use Rattle.modular_transform.proofs.BitReversal.{bits_reversed_of_zero, reversed_step}
+use Rattle.modular_transform.proofs.Reordering.{ReorderedSoFar, bits_exchange, reordered_none}
+use Rattle.modular_transform.proofs.Reordering.{reordered_swapped, reordered_passed, reordered_all}
 use Rattle.modular_transform.proofs.order.reverse_places.Goals as goal
 use Rattle.modular_transform.proofs.order.reverse_places.Goals.{In-places, then-place-other, else-place-other}
 
@@ -25,7 +27,9 @@ places-init g c =
     let some : 0 < n = let p = pow_pos c.args.bits in let w = c.requires.whole in omega (arith, p, w) in
     record {
       other = sym zero;
-      reordered = λ d. reordered_passed n 0 s (λ k. get_or c.args.entries.now k d) (λ k. get_or c.args.entries.now k d) (bits_exchange c.args.bits n c.requires.whole) some (omega (arith, zero)) (reordered_none n s (λ k. get_or c.args.entries.now k d));
+      reordered = λ d. reordered_passed n 0 s (λ k. get_or c.args.entries.now k d)
+          (λ k. get_or c.args.entries.now k d) (bits_exchange c.args.bits n c.requires.whole) some (omega (arith, zero))
+          (reordered_none n s (λ k. get_or c.args.entries.now k d));
     }
 
 pub overflow_sub-step-in-places : goal.overflow_sub-step-in-places
@@ -75,14 +79,19 @@ places-preserved g c =
       reordered = λ d. elim c.if-place-other.branch [
         | then-place-other w ↦
             let order : i < s i = omega (arith, is) in
-            let within : s i < length c.places.entries = let b = bits_reversed_below c.args.bits i in omega (arith, b) in
+            let within : s i < length c.places.entries = let b = bits_reversed_below c.args.bits i in
+            omega (arith, b) in
             let e = w.entries-is ∙ w.swap.ensures.after ∙ ap (λ j. swap c.places.entries i j) is in
-            reordered_swapped n i s (λ k. get_or c.args.entries.now k d) (λ k. get_or c.places.entries k d) (λ k. get_or c.if-place-other.entries k d) exchange l order
-            (swapped_from_swap c.places.entries c.if-place-other.entries i (s i) d (omega arith) within e) (c.places.invariant.reordered d)
+            reordered_swapped n i s (λ k. get_or c.args.entries.now k d) (λ k. get_or c.places.entries k d)
+            (λ k. get_or c.if-place-other.entries k d) exchange l order
+            (swapped_from_swap c.places.entries c.if-place-other.entries i (s i) d (omega arith) within e)
+            (c.places.invariant.reordered d)
         | else-place-other w ↦
             let order : s i ≤ i = omega (arith, is) in
-            subst (λ es. ReorderedSoFar n (i + 1) s (λ k. get_or c.args.entries.now k d) (λ k. get_or es k d)) (sym w.entries-is)
-            (reordered_passed n i s (λ k. get_or c.args.entries.now k d) (λ k. get_or c.places.entries k d) exchange l order (c.places.invariant.reordered d))
+            subst (λ es. ReorderedSoFar n (i + 1) s (λ k. get_or c.args.entries.now k d) (λ k. get_or es k d))
+            (sym w.entries-is)
+            (reordered_passed n i s (λ k. get_or c.args.entries.now k d)
+            (λ k. get_or c.places.entries k d) exchange l order (c.places.invariant.reordered d))
       ];
     }
 
@@ -91,5 +100,6 @@ returns g c =
     let n = length c.args.entries.now in
     let some : 0 < n = let p = pow_pos c.args.bits in let w = c.requires.whole in omega (arith, p, w) in
     record {
-      each = λ i d l. reordered_all n c.places.place (bits_reversed c.args.bits) _ _ (omega arith) (c.places.invariant.reordered d) i l;
+      each = λ i d l. reordered_all n c.places.place (bits_reversed c.args.bits) _ _ (omega arith)
+          (c.places.invariant.reordered d) i l;
     }

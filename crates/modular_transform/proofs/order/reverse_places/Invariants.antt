@@ -7,5 +7,6 @@ use Rattle.modular_transform.proofs.order.reverse_places.Given as goal
 abbrev pub invariant-places : goal.invariant-places
 invariant-places g l = record {
   other : l.other ≡ bits_reversed l.bits (l.place - 1);
-  reordered : (d : g.row.T.Denot) → ReorderedSoFar (length l.fn.entries) l.place (bits_reversed l.bits) (λ i. get_or l.fn.entries i d) (λ i. get_or l.entries i d);
+  reordered : (d : g.row.T.Denot) → ReorderedSoFar (length l.fn.entries) l.place (bits_reversed l.bits)
+      (λ i. get_or l.fn.entries i d) (λ i. get_or l.entries i d);
 }

@@ -9,5 +9,7 @@ rows-init c = sum_none _ _
 
 pub rows-preserved : goal.rows-preserved
 rows-preserved c =
-    let row = λ (n : ℕ). sum_below n (λ j. cond (eqb (c.rows.i + j) c.args.e || eqb (c.rows.i + j) (c.args.e + n)) (slice_index c.args.xs.now c.rows.i * slice_index c.args.ys.now j) 0) in
-    sum_more _ c.rows.i _ _ _ c.rows.invariant (chained (of_equal c.row_sum-row.ensures) (chained (residue_of _) (of_equal (ap row (sym c.requires.equal)))))
+    let row = λ (n : ℕ). sum_below n (λ j. cond (eqb (c.rows.i + j) c.args.e || eqb (c.rows.i + j) (c.args.e + n))
+    (slice_index c.args.xs.now c.rows.i * slice_index c.args.ys.now j) 0) in
+    sum_more _ c.rows.i _ _ _ c.rows.invariant
+    (chained (of_equal c.row_sum-row.ensures) (chained (residue_of _) (of_equal (ap row (sym c.requires.equal)))))

@@ -2,8 +2,10 @@ use Rattle.std.proofs.Common.{rules, ◌≡◌, ℕ, ◌+◌, ◌-◌, ◌*◌, 
 use Rattle.modular_reduced.specs.Forms.{Represents}
 use Rattle.modular_reduced.proofs.FormLemmas.{form_of_value}
 use Rattle.modular_transform.specs.Stages.{PairsDone}
-use Rattle.modular_transform.proofs.PairLemmas.{none_between, none_done, one_done, columns_joined, blocks_joined, done_by, stage_done, block_fits, columns_fit, pairs_fit}
-use Rattle.modular_transform.proofs.StripPowers.{one_form, first_power, power_first, power_next, strip_power, strip_next}
+use Rattle.modular_transform.proofs.PairLemmas.{none_between, none_done, one_done, columns_joined, blocks_joined}
+use Rattle.modular_transform.proofs.PairLemmas.{done_by, stage_done, block_fits, columns_fit, pairs_fit}
+use Rattle.modular_transform.proofs.StripPowers.{one_form, first_power, power_first}
+use Rattle.modular_transform.proofs.StripPowers.{power_next, strip_power, strip_next}
 use Rattle.modular_transform.proofs.ValueLemmas.{values, value_at, forms_written, entry_done}
 use Rattle.modular_transform.proofs.stage.stage.Goals as goal
 
@@ -19,7 +21,8 @@ pub overflow_add-products : goal.overflow_add-products
 overflow_add-products g c =
     let least = c.min-width.ensures in
     let count = c.fill.invariant.count in
-    let fit = columns_fit c.strips.column c.min-width.result c.args.half c.args.blocks _ (omega (arith, least)) c.requires.whole c.requires.some in
+    let fit = columns_fit c.strips.column c.min-width.result c.args.half c.args.blocks _
+    (omega (arith, least)) c.requires.whole c.requires.some in
     omega (arith, count, fit)
 
 pub overflow_add-first-in-each_block : goal.overflow_add-first-in-each_block
@@ -64,7 +67,8 @@ pub overflow_add-products-in-columns : goal.overflow_add-products-in-columns
 overflow_add-products-in-columns g c =
     let least = c.min-width.ensures in
     let count = c.columns.invariant.count in
-    let fit = pairs_fit c.strips.column c.min-width.result c.args.half c.each_block.block c.args.blocks _ (omega arith) (omega (arith, least)) c.requires.whole in
+    let fit = pairs_fit c.strips.column c.min-width.result c.args.half c.each_block.block c.args.blocks _ (omega arith)
+    (omega (arith, least)) c.requires.whole in
     omega (arith, count, fit)
 
 pub strips-init : goal.strips-init
@@ -81,7 +85,8 @@ strips-init g c =
       running_form = form;
       running = first_power w canonical c.one.ensures c.transform-running.ensures.form;
       within = omega arith;
-      done = none_done m (λ i. w ^ i) c.args.half 0 c.args.blocks 0 0 (values number value m c.args.forms.now) (λ p i u v s t. none_between 0 i s t);
+      done = none_done m (λ i. w ^ i) c.args.half 0 c.args.blocks 0 0 (values number value m c.args.forms.now)
+          (λ p i u v s t. none_between 0 i s t);
       count = omega arith;
     }
 
@@ -105,7 +110,8 @@ each_block-init g c =
     let count = c.fill.invariant.count in
     record {
       checked = c.strips.invariant.checked;
-      done = none_done m power c.args.half 0 0 column (column + width) (values number value m c.strips.forms) (λ p i u v s t. none_between 0 p u v);
+      done = none_done m power c.args.half 0 0 column (column + width) (values number value m c.strips.forms)
+          (λ p i u v s t. none_between 0 p u v);
       count = omega (arith, count, all);
     }
 
@@ -146,11 +152,14 @@ fill-preserved g c =
     let w = value m (number c.args.root.now) in
     let i = c.fill.i in
     let before = c.fill.invariant in
-    let here = subst (λ f. Represents g.R.Reducer.form m (number f) ((s * w ^ i) % m)) (sym c.advance.ensures.last) before.running in
+    let here = subst (λ f. Represents g.R.Reducer.form m (number f) ((s * w ^ i) % m))
+    (sym c.advance.ensures.last) before.running in
     record {
-      powers = forms_written number g.R.Reducer.form value _ m c.fill.powers i ((s * w ^ i) % m) c.advance.result canonical here before.powers;
+      powers = forms_written number g.R.Reducer.form value _ m c.fill.powers i
+          ((s * w ^ i) % m) c.advance.result canonical here before.powers;
       running = power_next s w i canonical before.running c.advance.ensures.next;
-      written = entry_done number value m c.fill.powers i c.advance.result (λ k. (s * w ^ k) % m) (omega arith) before.written (canonical.one_value _ _ here);
+      written = entry_done number value m c.fill.powers i c.advance.result (λ k. (s * w ^ k) % m)
+          (omega arith) before.written (canonical.one_value _ _ here);
       count = let n = before.count in omega (arith, n);
     }
 
@@ -164,7 +173,8 @@ columns-init g c =
     let power = λ (j : ℕ). values number value m c.fill.powers (j - column) in
     record {
       checked = c.each_block.invariant.checked;
-      done = none_done m power c.args.half p (p + 1) column (column + 0) (values number value m c.each_block.forms) (λ q i u v s t. none_between column i s t);
+      done = none_done m power c.args.half p (p + 1) column (column + 0) (values number value m c.each_block.forms)
+          (λ q i u v s t. none_between column i s t);
       count = let n = c.each_block.invariant.count in omega (arith, n);
     }
 
@@ -187,10 +197,13 @@ columns-preserved g c =
     let within : k < length powers = omega (arith, least) in
     let power = λ (j : ℕ). values number value m powers (j - column) in
     let place : k ≡ i - column = omega arith in
-    let is_power = value_at number value m powers k c.index-powers-k.result within ∙ ap (values number value m powers) place in
+    let is_power = value_at number value m powers k c.index-powers-k.result within
+    ∙ ap (values number value m powers) place in
     let next : i + 1 ≡ column + (k + 1) = omega arith in
-    let one = one_done power h p i y z (omega (arith, least)) (omega arith) (omega arith) is_power c.pair.ensures.done in
-    let joined = columns_joined {m = m} {h = h} {a = p} {b = p + 1} {c = column} {d = i} {e = i + 1} {power = power} x y z (omega arith) (omega arith) (omega (arith, least)) before.done one in
+    let one = one_done power h p i y z (omega (arith, least)) (omega arith)
+    (omega arith) is_power c.pair.ensures.done in
+    let joined = columns_joined {m = m} {h = h} {a = p} {b = p + 1} {c = column} {d = i} {e = i + 1}
+    {power = power} x y z (omega arith) (omega arith) (omega (arith, least)) before.done one in
     record {
       checked = c.pair.ensures.checked;
       done = subst (λ e. PairsDone m power h p (p + 1) column e x z) next joined;
@@ -216,7 +229,8 @@ each_block-preserved g c =
     let count = c.columns.invariant.count in
     record {
       checked = c.columns.invariant.checked;
-      done = blocks_joined {m = m} {h = h} {a = 0} {b = p} {c = column} {d = column + width} {e = p + 1} {power = power} x y z (omega arith) (omega arith) (omega (arith, least)) c.each_block.invariant.done here;
+      done = blocks_joined {m = m} {h = h} {a = 0} {b = p} {c = column} {d = column + width} {e = p + 1}
+          {power = power} x y z (omega arith) (omega arith) (omega (arith, least)) c.each_block.invariant.done here;
       count = omega (arith, count, all);
     }
 
@@ -239,11 +253,14 @@ strips-preserved g c =
     let filled = c.fill.invariant in
     let all : c.fill.i ≡ width = omega arith in
     let blocks : c.each_block.block ≡ c.args.blocks = omega arith in
-    let written = subst (λ (n : ℕ). (k : ℕ) → k < n → values number value m c.fill.powers k ≡ (s * w ^ k) % m) all filled.written in
+    let written =
+    subst (λ (n : ℕ). (k : ℕ) → k < n → values number value m c.fill.powers k ≡ (s * w ^ k) % m) all filled.written in
     let power = λ (j : ℕ). values number value m c.fill.powers (j - column) in
     let strip = subst (λ b. PairsDone m power h 0 b column (column + width) y z) blocks c.each_block.invariant.done in
-    let by_root = done_by {power = power} y z (strip_power w column width (values number value m c.fill.powers) written before.running) strip in
-    let running = subst (λ n. Represents g.R.Reducer.form m (number c.fill.running) ((s * w ^ n) % m)) all filled.running in
+    let by_root = done_by {power = power} y z
+    (strip_power w column width (values number value m c.fill.powers) written before.running) strip in
+    let running =
+    subst (λ n. Represents g.R.Reducer.form m (number c.fill.running) ((s * w ^ n) % m)) all filled.running in
     let count = c.each_block.invariant.count in
     let rows = ap (λ b. b * width) blocks in
     record {
@@ -252,7 +269,8 @@ strips-preserved g c =
       running_form = form_of_value canonical running;
       running = strip_next w column width canonical running before.running;
       within = omega (arith, least);
-      done = columns_joined {m = m} {h = h} {a = 0} {b = c.args.blocks} {c = 0} {d = column} {e = column + width} {power = λ i. w ^ i} x y z (omega arith) (omega arith) (omega (arith, least)) before.done by_root;
+      done = columns_joined {m = m} {h = h} {a = 0} {b = c.args.blocks} {c = 0} {d = column} {e = column + width}
+          {power = λ i. w ^ i} x y z (omega arith) (omega arith) (omega (arith, least)) before.done by_root;
       count = omega (arith, count, rows);
     }
 

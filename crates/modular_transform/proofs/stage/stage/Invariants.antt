@@ -18,7 +18,8 @@ invariant-strips g l =
       running_form : IsForm g.R.Reducer.form value m (number l.running);
       running : Congruent m (value m (number l.running)) (w ^ l.column);
       within : l.column ≤ l.half;
-      done : PairsDone m (λ i. w ^ i) l.half 0 l.blocks 0 l.column (values number value m l.fn.forms) (values number value m l.forms);
+      done : PairsDone m (λ i. w ^ i) l.half 0 l.blocks 0 l.column (values number value m l.fn.forms)
+          (values number value m l.forms);
       count : l.products ≡ l.column * (l.blocks + 1);
     }
 
@@ -48,7 +49,8 @@ invariant-each_block g l =
     let value = g.R.Reducer.value in
     record {
       checked : All (λ f. IsForm g.R.Reducer.form value m (number f)) l.forms;
-      done : PairsDone m (λ i. values number value m l.powers (i - l.column)) l.half 0 l.block l.column (l.column + l.width) (values number value m l.initial.forms) (values number value m l.forms);
+      done : PairsDone m (λ i. values number value m l.powers (i - l.column)) l.half 0 l.block l.column
+          (l.column + l.width) (values number value m l.initial.forms) (values number value m l.forms);
       count : l.products ≡ l.column * (l.blocks + 1) + l.width + l.block * l.width;
     }
 
@@ -60,6 +62,7 @@ invariant-columns g l =
     let value = g.R.Reducer.value in
     record {
       checked : All (λ f. IsForm g.R.Reducer.form value m (number f)) l.forms;
-      done : PairsDone m (λ i. values number value m l.powers (i - l.column)) l.half l.block (l.block + 1) l.column (l.column + l.k) (values number value m l.initial.forms) (values number value m l.forms);
+      done : PairsDone m (λ i. values number value m l.powers (i - l.column)) l.half l.block (l.block + 1) l.column
+          (l.column + l.k) (values number value m l.initial.forms) (values number value m l.forms);
       count : l.products ≡ l.column * (l.blocks + 1) + l.width + l.block * l.width + l.k;
     }

@@ -7,4 +7,5 @@ returns g c =
     let m = g.R.Reducer.modulus c.args.r.now in
     let number = g.T.RingWord.number in
     let power = g.R.Reducer.value m (number c.args.power.now) in
-    subst (λ d. Represents g.R.Reducer.form m (number c.mul.result) ((d * power) % m)) c.sub-difference.ensures.value c.mul.ensures.form
+    subst (λ d. Represents g.R.Reducer.form m (number c.mul.result) ((d * power) % m))
+    c.sub-difference.ensures.value c.mul.ensures.form

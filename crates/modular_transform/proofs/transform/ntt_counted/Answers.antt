@@ -10,7 +10,8 @@ use Rattle.modular_word.proofs.Congruence.{of_equal}
 use Rattle.modular_word.proofs.Powers.{pow-one}
 use Rattle.modular_transform.proofs.PowersOfTwo.{trailing_zeros_of_power}
 use Rattle.modular_transform.proofs.StageLemmas.{stages_start}
-use Rattle.modular_transform.proofs.TransformLemmas.{stage_sizes, suited_length, root_more, blocks_more, products_more, blocks_all, products_all, plain_order}
+use Rattle.modular_transform.proofs.TransformLemmas.{stage_sizes, suited_length, root_more, blocks_more}
+use Rattle.modular_transform.proofs.TransformLemmas.{products_more, blocks_all, products_all, plain_order}
 use Rattle.modular_transform.proofs.transform.ntt_counted.Goals as goal
 
 pub stages-init : goal.stages-init
@@ -63,7 +64,8 @@ stages-preserved g c =
     let t = c.stages._done in
     let canonical = g.met.R.Reducer.canonical c.args.r.now in
     let before = c.stages.invariant in
-    let sizes = stage_sizes z t n c.stages.half c.stages.blocks c.stages-test.true before.whole before.half before.blocks in
+    let sizes =
+    stage_sizes z t n c.stages.half c.stages.blocks c.stages-test.true before.whole before.half before.blocks in
     let next = sizes.next in
     let some : 0 < c.stages.half = let p = pow_pos (z - (t + 1)) in omega (arith, next, p) in
     record {
@@ -73,9 +75,11 @@ stages-preserved g c =
       whole = before.whole;
       half = ap (λ v. v / 2) (sym next);
       blocks = sym sizes.more;
-      transforms = blocks_more root z t n c.stages.half c.stages.blocks (value m (number c.stages.root)) (values number value m c.args.xs.now) (values number value m c.stages.xs) (values number value m c.stage.new.forms)
+      transforms = blocks_more root z t n c.stages.half c.stages.blocks (value m (number c.stages.root)) (values number
+          value m c.args.xs.now) (values number value m c.stages.xs) (values number value m c.stage.new.forms)
           sizes before.blocks some c.requires.suits before.root before.transforms c.stage.ensures.stage;
-      count = products_more z t n c.stages.half c.stages.blocks c.stages.products c.stage.result sizes before.count c.stage.ensures.count;
+      count = products_more z t n c.stages.half c.stages.blocks c.stages.products c.stage.result sizes
+          before.count c.stage.ensures.count;
     }
 
 pub returns-clause-entries : goal.returns-clause-entries
@@ -90,17 +94,21 @@ returns-clause-entries g c =
     let before = c.stages.invariant in
     let same = c.stages.auto.xs in
     let kept = c.reverse_places.auto.entries in
-    plain_order number g.R.Reducer.form value m root n z x c.stages.xs c.reverse_places.new.entries before.whole (omega arith) (omega (arith, same, kept)) before.checked
-    (blocks_all root z c.stages._done n x (values number value m c.stages.xs) (omega arith) (omega arith) before.transforms) c.reverse_places.ensures
+    plain_order number g.R.Reducer.form value m root n z x c.stages.xs c.reverse_places.new.entries before.whole
+    (omega arith) (omega (arith, same, kept)) before.checked
+    (blocks_all root z c.stages._done n x (values number value m c.stages.xs) (omega arith)
+    (omega arith) before.transforms) c.reverse_places.ensures
 
 pub returns-clause-values : goal.returns-clause-values
 returns-clause-values g c j l =
     let kept = c.reverse_places.auto.entries in
     let same = c.stages.auto.xs in
-    held_value g.T.RingWord.number g.R.Reducer.form g.R.Reducer.value _ _ c.reverse_places.new.entries _ j (g.met.R.Reducer.canonical c.args.r.now) (returns-clause-entries g c) (omega (arith, kept, same))
+    held_value g.T.RingWord.number g.R.Reducer.form g.R.Reducer.value _ _ c.reverse_places.new.entries _ j
+    (g.met.R.Reducer.canonical c.args.r.now) (returns-clause-entries g c) (omega (arith, kept, same))
 
 pub returns-clause-checked : goal.returns-clause-checked
-returns-clause-checked g c = held_forms g.T.RingWord.number g.R.Reducer.form g.R.Reducer.value _ _ c.reverse_places.new.entries _ (g.met.R.Reducer.canonical c.args.r.now) (returns-clause-entries g c)
+returns-clause-checked g c = held_forms g.T.RingWord.number g.R.Reducer.form g.R.Reducer.value _ _
+    c.reverse_places.new.entries _ (g.met.R.Reducer.canonical c.args.r.now) (returns-clause-entries g c)
 
 pub returns-clause-count : goal.returns-clause-count
 returns-clause-count g c z is =
@@ -108,4 +116,5 @@ returns-clause-count g c z is =
     let below : n < 2 ^ 64 = omega arith in
     let e = trailing_zeros_of_power z n is below in
     let before = c.stages.invariant in
-    products_all (trailing_zeros w64 n) c.stages._done n c.stages.products (omega arith) (omega arith) before.whole before.count ∙ ap (λ k. n * k / 2 + n - 1 + k) e
+    products_all (trailing_zeros w64 n) c.stages._done n c.stages.products (omega arith)
+    (omega arith) before.whole before.count ∙ ap (λ k. n * k / 2 + n - 1 + k) e

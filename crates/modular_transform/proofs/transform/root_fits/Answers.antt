@@ -28,7 +28,8 @@ squares-preserved g c =
     let e : t - 1 + 1 ≡ t + 1 - 1 = omega arith in
     record {
       form = form_of_value canonical c.sqr-power.ensures.form;
-      power = subst (λ k. Congruent m (g.R.Reducer.value m (g.T.RingWord.number c.sqr-power.result)) (root ^ (2 ^ k))) e (root_more root (t - 1) _ _ c.squares.invariant.power (canonical.one_value _ _ c.sqr-power.ensures.form));
+      power = subst (λ k. Congruent m (g.R.Reducer.value m (g.T.RingWord.number c.sqr-power.result)) (root ^ (2 ^ k))) e
+          (root_more root (t - 1) _ _ c.squares.invariant.power (canonical.one_value _ _ c.sqr-power.ensures.form));
     }
 
 pub returns : goal.returns
@@ -41,5 +42,7 @@ returns g c =
     let below : n < 2 ^ 64 = omega arith in
     let whole = power_by_zeros n ((power_of_two_tested n).0 cc) below in
     let some = exponent_above_zero z n whole (omega arith) in
-    let tested = suits_tested root n z (c.squares._done - 1) _ _ _ _ whole some (omega (arith, some)) c.squares.invariant.power c.one.ensures (canonical.one_value _ _ c.transform-one.ensures.form) (canonical.one_value _ _ c.add.ensures.form) in
+    let tested = suits_tested root n z (c.squares._done - 1) _ _ _ _ whole some
+    (omega (arith, some)) c.squares.invariant.power c.one.ensures (canonical.one_value _ _ c.transform-one.ensures.form)
+    (canonical.one_value _ _ c.add.ensures.form) in
     (λ h. tested.0 (c.is_zero.ensures.0 h), λ suits. c.is_zero.ensures.1 (tested.1 suits))

@@ -1,5 +1,6 @@
 -- The laws of congruence, from the lemmas on the relation.
-use Rattle.modular_word.proofs.Congruence.{residue_of, turned, chained, added, multiplied, powered, cancelled, cancelled_unit}
+use Rattle.modular_word.proofs.Congruence.{residue_of, turned, chained, added, multiplied}
+use Rattle.modular_word.proofs.Congruence.{powered, cancelled, cancelled_unit}
 use Rattle.modular_word.proofs.laws.congruence_laws.Goals as goal
 
 pub returns-clause-residue : goal.returns-clause-residue

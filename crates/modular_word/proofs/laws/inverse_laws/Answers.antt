@@ -1,6 +1,7 @@
 -- The laws of inverses, from the lemmas on divisors and on inverses.
 use Rattle.modular_word.proofs.Divisors.{HasInverse-gcd, HasInverse-from_Coprime, Coprime-from_IsInverse}
-use Rattle.modular_word.proofs.InverseLemmas.{inverse_unique, inverse_of-found, inverse_of-is, inverse_from_mod, inverse_mod, HasInverse-from_mod, HasInverse-mod}
+use Rattle.modular_word.proofs.InverseLemmas.{inverse_unique, inverse_of-found, inverse_of-is, inverse_from_mod}
+use Rattle.modular_word.proofs.InverseLemmas.{inverse_mod, HasInverse-from_mod, HasInverse-mod}
 use Rattle.modular_word.proofs.laws.inverse_laws.Goals as goal
 
 pub returns-clause-exists : goal.returns-clause-exists

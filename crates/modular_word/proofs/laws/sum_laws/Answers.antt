@@ -1,5 +1,6 @@
 -- The laws of sums, from the lemmas on sums over a range.
-use Rattle.modular_word.proofs.Sums.{sum_to-swap, sum_to-permuted, sum_to-reversed, sum_to-from_below, sum_to-parity, count_to-parts}
+use Rattle.modular_word.proofs.Sums.{sum_to-swap, sum_to-permuted, sum_to-reversed}
+use Rattle.modular_word.proofs.Sums.{sum_to-from_below, sum_to-parity, count_to-parts}
 use Rattle.modular_word.proofs.laws.sum_laws.Goals as goal
 
 pub returns-clause-exchanged : goal.returns-clause-exchanged

@@ -27,7 +27,13 @@ returns g c =
       high_fits = c.split-q0.ensures.high_fits;
       rest_fits = c.split-q0.ensures.low_fits;
       product =
-          omega (arith, c.product.ensures.value, c.double_plus.ensures, c.split-q0.ensures.value, c.split-low.ensures.value);
+          omega (
+            arith,
+            c.product.ensures.value,
+            c.double_plus.ensures,
+            c.split-q0.ensures.value,
+            c.split-low.ensures.value,
+          );
     } in
     let eq : q ≡ (q1 + 1) % B = c.wrapping_add-q.ensures.value ∙ ap (λ x. (q1 + x) % B) c.one.ensures in
     let er : (r + (q * d) % B) % B ≡ a0 =

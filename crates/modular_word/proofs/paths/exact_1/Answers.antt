@@ -18,4 +18,5 @@ returns-else-is_below g c =
     let n = g.T.RingWord.number in
     let within : n c.wrapping_mul-q.result ≤ n c.args.limit = grind arith in
     exact_within g.T.PathWord.base (n c.args.d) (n c.args.inverse) (n c.args.n) (n c.wrapping_mul-q.result)
-    c.wrapping_mul-q.ensures.self_fits c.requires.unit c.wrapping_mul-q.ensures.value (omega (arith, c.requires.greatest))
+    c.wrapping_mul-q.ensures.self_fits c.requires.unit c.wrapping_mul-q.ensures.value
+    (omega (arith, c.requires.greatest))

@@ -1,12 +1,14 @@
 -- The high words with the carry of the low ones, less the modulus where they come to it.
 use Rattle.std.proofs.Common.{◌≡◌, ◌+◌, ◌%◌, ◌<◌, ap, ◌∙◌, arith}
-use Rattle.modular_word.proofs.ReductionSteps.{Sum, HighSum, high_without_carry, high_with_carry, reduces_less, reduces_same}
+use Rattle.modular_word.proofs.ReductionSteps.{Sum, HighSum, high_without_carry}
+use Rattle.modular_word.proofs.ReductionSteps.{high_with_carry, reduces_less, reduces_same}
 use Rattle.modular_word.proofs.paths.reduce_by.Goals as goal
 use Rattle.modular_word.proofs.paths.reduce_by.Goals.{After-wrapping_add-less, then-is_zero_word, else-is_zero_word}
 
 -- the sum divided by the base, whether the low words have a carry or not
 high_words : (g : _) (c : After-wrapping_add-less g)
-    → HighSum g.T.PathWord.base (g.T.RingWord.number c.args.m) (g.T.PathWord.double_number c.args.t) (g.T.RingWord.number c.args.x)
+    → HighSum g.T.PathWord.base (g.T.RingWord.number c.args.m) (g.T.PathWord.double_number c.args.t)
+    (g.T.RingWord.number c.args.x)
     (g.T.RingWord.number c.split-low.result.1) (g.T.RingWord.number c.if-is_zero_word.raised)
 high_words g c =
     let n = g.T.RingWord.number in
@@ -39,15 +41,19 @@ high_words g c =
 pub returns-then-is_below : goal.returns-then-is_below
 returns-then-is_below g c =
     let n = g.T.RingWord.number in
-    reduces_less g.T.PathWord.base (n c.args.m) (g.T.PathWord.double_number c.args.t) (n c.args.x) (n c.split-low.result.1)
+    reduces_less g.T.PathWord.base (n c.args.m) (g.T.PathWord.double_number c.args.t)
+    (n c.args.x) (n c.split-low.result.1)
     (n c.if-is_zero_word.raised) (n c.wrapping_sub.result) (n c.wrapping_add-less.result)
     (high_words g (goal.at.returns-then-is_below g c).After-wrapping_add-less) c.requires.fits
-    c.wrapping_sub.ensures.fits c.wrapping_sub.ensures.value c.wrapping_add-less.ensures.value (c.is_below.ensures.below.0 c.if-is_below.true)
+    c.wrapping_sub.ensures.fits c.wrapping_sub.ensures.value c.wrapping_add-less.ensures.value
+    (c.is_below.ensures.below.0 c.if-is_below.true)
 
 pub returns-else-is_below : goal.returns-else-is_below
 returns-else-is_below g c =
     let n = g.T.RingWord.number in
-    reduces_same g.T.PathWord.base (n c.args.m) (g.T.PathWord.double_number c.args.t) (n c.args.x) (n c.split-low.result.1)
+    reduces_same g.T.PathWord.base (n c.args.m) (g.T.PathWord.double_number c.args.t)
+    (n c.args.x) (n c.split-low.result.1)
     (n c.if-is_zero_word.raised) (n c.wrapping_sub.result) (n c.wrapping_add-less.result) (n c.wrapping_add.result)
     (high_words g (goal.at.returns-else-is_below g c).After-wrapping_add-less) c.requires.fits
-    c.wrapping_sub.ensures.fits c.wrapping_sub.ensures.value c.wrapping_add-less.ensures.value (grind arith) c.wrapping_add.ensures.value
+    c.wrapping_sub.ensures.fits c.wrapping_sub.ensures.value c.wrapping_add-less.ensures.value
+    (grind arith) c.wrapping_add.ensures.value

@@ -3,7 +3,10 @@ use Rattle.std.proofs.Common.{◌≡◌, ◌≢◌, ◌%◌, ◌+◌, add-one, r
 use Rattle.modular_word.specs.Divisors.{gcd, gcd_up_to}
 use Rattle.modular_word.proofs.Divisors.{gcd_is, HasInverse-gcd, gcd_up_to-hit, gcd_up_to-miss}
 use Rattle.modular_word.proofs.plain.greatest_common_divisor.Goals as goal
-use Rattle.modular_word.proofs.plain.greatest_common_divisor.Goals.{then-a-divisor-eq0+then-n-divisor-eq0, else-a-divisor-eq0, else-a-divisor-eq0-via-then-a-divisor-eq0+else-n-divisor-eq0, else-a-divisor-eq0-via-else-a-divisor-eq0}
+use Rattle.modular_word.proofs.plain.greatest_common_divisor.Goals.{then-a-divisor-eq0+then-n-divisor-eq0}
+use Rattle.modular_word.proofs.plain.greatest_common_divisor.Goals.{else-a-divisor-eq0}
+use Rattle.modular_word.proofs.plain.greatest_common_divisor.Goals.{else-a-divisor-eq0-via-then-a-divisor-eq0+else-n-divisor-eq0}
+use Rattle.modular_word.proofs.plain.greatest_common_divisor.Goals.{else-a-divisor-eq0-via-else-a-divisor-eq0}
 
 pub divisors-init : goal.divisors-init
 unfolding gcd_up_to

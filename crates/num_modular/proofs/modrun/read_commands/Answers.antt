@@ -11,11 +11,13 @@ pub words-preserved : goal.words-preserved
 words-preserved g c =
     let pushed : c.push.new.self.items ≡ c.words.commands.items ++ (c.in-Some.read ∷ []) = search rules in
     subst (AreCommands (take (c.words.word-index + 1) c.args.words.now)) (sym pushed)
-    (more_read c.args.words.now c.words.word-index _ c.words.commands.items c.in-Some.read c.words-test.true c.words.invariant c.in-Some.ensures)
+    (more_read c.args.words.now c.words.word-index _ c.words.commands.items c.in-Some.read c.words-test.true
+    c.words.invariant c.in-Some.ensures)
 
 pub returns-in_default : goal.returns-in_default
 returns-in_default g c = unreadable_at c.args.words.now c.words.word-index _ c.words-test.true c.in_default.ensures
 
 pub returns : goal.returns
 returns g c =
-    subst (λ ws. AreCommands ws c.words.commands.items) (take_all c.words.word-index c.args.words.now c.words-test.false) c.words.invariant
+    subst (λ ws. AreCommands ws c.words.commands.items)
+    (take_all c.words.word-index c.args.words.now c.words-test.false) c.words.invariant

@@ -5,5 +5,6 @@ use Rattle.num_modular.proofs.ring.commands_fit.Goals as goal
 
 pub returns : goal.returns
 returns g c =
-    let told : IsTrue c.all.result ↔ All (IsFit {T = g.row.T.Denot} c.args.len) c.args.commands.now = grind (arith, common_steps) in
+    let told : IsTrue c.all.result ↔ All (IsFit {T = g.row.T.Denot} c.args.len) c.args.commands.now =
+    grind (arith, common_steps) in
     told

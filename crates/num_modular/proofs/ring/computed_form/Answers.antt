@@ -13,42 +13,49 @@ returns-in-Add g c v holds =
     let m = g.R.Reducer.modulus c.args.r.now in
     let canonical = g.met.R.Reducer.canonical c.args.r.now in
     let fit = rw c.in-Add.is at c.requires.fit in
-    rw c.in-Add.is (form_of_two {v = v} (λ x y. (x + y) % m) c.in-Add.a c.in-Add.b c.index-regs-a.result c.index-regs-b.result canonical holds fit.1 fit.2 c.index-regs-a.is c.index-regs-b.is c.add.ensures.form)
+    rw c.in-Add.is (form_of_two {v = v} (λ x y. (x + y) % m) c.in-Add.a c.in-Add.b c.index-regs-a.result
+    c.index-regs-b.result canonical holds fit.1 fit.2 c.index-regs-a.is c.index-regs-b.is c.add.ensures.form)
 
 pub returns-in-Mul : goal.returns-in-Mul
 returns-in-Mul g c v holds =
     let m = g.R.Reducer.modulus c.args.r.now in
     let canonical = g.met.R.Reducer.canonical c.args.r.now in
     let fit = rw c.in-Mul.is at c.requires.fit in
-    rw c.in-Mul.is (form_of_two {v = v} (λ x y. (x * y) % m) c.in-Mul.a c.in-Mul.b c.index-regs-a-in-Mul.result c.index-regs-b-in-Mul.result canonical holds fit.1 fit.2 c.index-regs-a-in-Mul.is c.index-regs-b-in-Mul.is c.mul.ensures.form)
+    rw c.in-Mul.is (form_of_two {v = v}
+    (λ x y. (x * y) % m) c.in-Mul.a c.in-Mul.b c.index-regs-a-in-Mul.result c.index-regs-b-in-Mul.result canonical holds
+    fit.1 fit.2 c.index-regs-a-in-Mul.is c.index-regs-b-in-Mul.is c.mul.ensures.form)
 
 pub returns-in-Neg : goal.returns-in-Neg
 returns-in-Neg g c v holds =
     let m = g.R.Reducer.modulus c.args.r.now in
     let canonical = g.met.R.Reducer.canonical c.args.r.now in
     let fit = rw c.in-Neg.is at c.requires.fit in
-    rw c.in-Neg.is (form_of_one {v = v} (λ x. residue m (neg_ℤ (pos x))) c.in-Neg.a c.index-regs-a-in-Neg.result canonical holds fit.1 c.index-regs-a-in-Neg.is c.neg.ensures.form)
+    rw c.in-Neg.is (form_of_one {v = v} (λ x. residue m (neg_ℤ (pos x))) c.in-Neg.a c.index-regs-a-in-Neg.result
+    canonical holds fit.1 c.index-regs-a-in-Neg.is c.neg.ensures.form)
 
 pub returns-in-Dbl : goal.returns-in-Dbl
 returns-in-Dbl g c v holds =
     let m = g.R.Reducer.modulus c.args.r.now in
     let canonical = g.met.R.Reducer.canonical c.args.r.now in
     let fit = rw c.in-Dbl.is at c.requires.fit in
-    rw c.in-Dbl.is (form_of_one {v = v} (λ x. (2 * x) % m) c.in-Dbl.a c.index-regs-a-in-Dbl.result canonical holds fit.1 c.index-regs-a-in-Dbl.is c.dbl.ensures.form)
+    rw c.in-Dbl.is (form_of_one {v = v} (λ x. (2 * x) % m) c.in-Dbl.a c.index-regs-a-in-Dbl.result canonical holds fit.1
+    c.index-regs-a-in-Dbl.is c.dbl.ensures.form)
 
 pub returns-in-Sqr : goal.returns-in-Sqr
 returns-in-Sqr g c v holds =
     let m = g.R.Reducer.modulus c.args.r.now in
     let canonical = g.met.R.Reducer.canonical c.args.r.now in
     let fit = rw c.in-Sqr.is at c.requires.fit in
-    rw c.in-Sqr.is (form_of_one {v = v} (λ x. (x * x) % m) c.in-Sqr.a c.index-regs-a-in-Sqr.result canonical holds fit.1 c.index-regs-a-in-Sqr.is c.sqr.ensures.form)
+    rw c.in-Sqr.is (form_of_one {v = v} (λ x. (x * x) % m) c.in-Sqr.a c.index-regs-a-in-Sqr.result canonical holds fit.1
+    c.index-regs-a-in-Sqr.is c.sqr.ensures.form)
 
 pub returns-in-Pow : goal.returns-in-Pow
 returns-in-Pow g c v holds =
     let m = g.R.Reducer.modulus c.args.r.now in
     let canonical = g.met.R.Reducer.canonical c.args.r.now in
     let fit = rw c.in-Pow.is at c.requires.fit in
-    rw c.in-Pow.is (form_of_one {v = v} (λ x. x ^ g.T.RingWord.number c.in-Pow.exp % m) c.in-Pow.a c.index-regs-a-in-Pow.result canonical holds fit.1 c.index-regs-a-in-Pow.is c.pow.ensures.form)
+    rw c.in-Pow.is (form_of_one {v = v} (λ x. x ^ g.T.RingWord.number c.in-Pow.exp % m) c.in-Pow.a
+    c.index-regs-a-in-Pow.result canonical holds fit.1 c.index-regs-a-in-Pow.is c.pow.ensures.form)
 
 pub returns-in-Inv : goal.returns-in-Inv
 returns-in-Inv g c v holds =
@@ -65,7 +72,12 @@ returns-in-Div g c v holds =
     let canonical = g.met.R.Reducer.canonical c.args.r.now in
     let number = g.T.RingWord.number in
     let fit = rw c.in-Div.is at c.requires.fit in
-    let is_a = value_of {v = v} c.in-Div.a c.index-regs-a-in-Div.result canonical holds fit.1 c.index-regs-a-in-Div.is in
-    let is_b = value_of {v = v} c.in-Div.b c.index-regs-b-in-Div.result canonical holds fit.2 c.index-regs-b-in-Div.is in
-    let first = subst (λ u. IsFormOf number g.R.Reducer.form m (option_map (λ y. (g.R.Reducer.value m (number c.index-regs-a-in-Div.result) * y) % m) (inverse_of m u)) c.quotient.result) is_b c.quotient.ensures in
-    rw c.in-Div.is (subst (λ u. IsFormOf number g.R.Reducer.form m (option_map (λ y. (u * y) % m) (inverse_of m (v c.in-Div.b))) c.quotient.result) is_a first)
+    let is_a = value_of {v = v} c.in-Div.a c.index-regs-a-in-Div.result canonical holds
+    fit.1 c.index-regs-a-in-Div.is in
+    let is_b = value_of {v = v} c.in-Div.b c.index-regs-b-in-Div.result canonical holds
+    fit.2 c.index-regs-b-in-Div.is in
+    let first = subst (λ u. IsFormOf number g.R.Reducer.form m (option_map
+    (λ y. (g.R.Reducer.value m (number c.index-regs-a-in-Div.result) * y) % m) (inverse_of m u)) c.quotient.result) is_b
+    c.quotient.ensures in
+    rw c.in-Div.is (subst (λ u. IsFormOf number g.R.Reducer.form m
+    (option_map (λ y. (u * y) % m) (inverse_of m (v c.in-Div.b))) c.quotient.result) is_a first)

@@ -8,4 +8,5 @@ returns-in_err-inverse g c =
 
 pub returns : goal.returns
 returns g c =
-    quotient_form g.T.RingWord.number _ _ c.in_ok-inverse.inverse c.mul.result (g.met.R.Reducer.canonical c.args.r.now) c.in_ok-inverse.ensures.form c.mul.ensures.form
+    quotient_form g.T.RingWord.number _ _ c.in_ok-inverse.inverse c.mul.result
+    (g.met.R.Reducer.canonical c.args.r.now) c.in_ok-inverse.ensures.form c.mul.ensures.form

@@ -18,5 +18,6 @@ places-preserved c =
     let total : residue_of c.add_assign.new.self ≡ (residue_of c.places.sum + residue_of c.mul.result) % m = cc in
     record {
       modulus = cc;
-      residue = total ∙ residue_more m _ w x _ _ c.places.invariant.residue term ∙ ap (λ n. n % m) (sym (sum_more c.places.place _));
+      residue = total ∙ residue_more m _ w x _ _ c.places.invariant.residue term
+          ∙ ap (λ n. n % m) (sym (sum_more c.places.place _));
     }

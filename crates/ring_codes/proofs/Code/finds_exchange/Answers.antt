@@ -8,17 +8,22 @@ use Rattle.ring_codes.proofs.Code.finds_exchange.Goals as goal
 
 -- the sum of the changed word has a difference of the weights times one of the symbols more
 sum_is : (c : goal.After-is_zero) (e d : ℕ)
-    → (e + get_or c.args.self.now.weights.now (suc c.args.place) 0) % c.args.self.now.modulus ≡ get_or c.args.self.now.weights.now c.args.place 0 % c.args.self.now.modulus
-    → (d + get_or c.args.word.now c.args.place 0) % c.args.self.now.modulus ≡ get_or c.args.word.now (suc c.args.place) 0 % c.args.self.now.modulus
-    → IsCodeword c.args.self.now.modulus c.args.self.now.residue c.args.self.now.weights.now (exchanged c.args.word.now c.args.place) ↔ ((e * d) % c.args.self.now.modulus ≡ 0)
+    → (e + get_or c.args.self.now.weights.now (suc c.args.place) 0) % c.args.self.now.modulus
+    ≡ get_or c.args.self.now.weights.now c.args.place 0 % c.args.self.now.modulus
+    → (d + get_or c.args.word.now c.args.place 0) % c.args.self.now.modulus
+    ≡ get_or c.args.word.now (suc c.args.place) 0 % c.args.self.now.modulus
+    → IsCodeword c.args.self.now.modulus c.args.self.now.residue c.args.self.now.weights.now
+    (exchanged c.args.word.now c.args.place) ↔ ((e * d) % c.args.self.now.modulus ≡ 0)
 sum_is c e d weights symbols =
     let moved = exchanged_symbols c.args.self.now.weights.now c.args.word.now c.args.place c.requires.within in
-    let still = still_leaves c.args.self.now.modulus c.args.self.now.residue _ _ _ c.requires.accepted.leaves (exchanged_sum c.args.self.now.modulus _ _ _ _ _ _ e d moved weights symbols) in
+    let still = still_leaves c.args.self.now.modulus c.args.self.now.residue _ _ _ c.requires.accepted.leaves
+    (exchanged_sum c.args.self.now.modulus _ _ _ _ _ _ e d moved weights symbols) in
     ((λ p. still.0 p.leaves), λ h. record { leaves = still.1 h })
 
 -- which the test computes
 sum_tested : (c : goal.After-is_zero)
-    → IsCodeword c.args.self.now.modulus c.args.self.now.residue c.args.self.now.weights.now (exchanged c.args.word.now c.args.place) ↔ (residue_of c.mul.result ≡ 0)
+    → IsCodeword c.args.self.now.modulus c.args.self.now.residue c.args.self.now.weights.now
+    (exchanged c.args.word.now c.args.place) ↔ (residue_of c.mul.result ≡ 0)
 sum_tested c =
     let m = c.args.self.now.modulus in
     let v = get_or c.args.self.now.weights.now c.args.place 0 in
@@ -44,4 +49,5 @@ returns-clause-product c =
 
 pub returns-clause-unit : goal.returns-clause-unit
 returns-clause-unit c inverse apart =
-    (returns-clause-product c).1 (unit_finds _ _ _ _ _ inverse (c.residue_laws.ensures.difference _ _ _ c.args.self.now.positive) apart)
+    (returns-clause-product c).1
+    (unit_finds _ _ _ _ _ inverse (c.residue_laws.ensures.difference _ _ _ c.args.self.now.positive) apart)

@@ -8,7 +8,8 @@ use Rattle.ring_codes.proofs.CheckSums.{changed_symbol, restored_sum, one_symbol
 use Rattle.ring_codes.proofs.Code.restore.Goals as goal
 
 symbol_is : (c : goal.After-residue)
-    → c.residue.result ≡ residue c.args.self.now.modulus (pos (get_or c.args.word.now c.args.place 0 % c.args.self.now.modulus) -ℤ pos (residue_of c.div.result))
+    → c.residue.result ≡ residue c.args.self.now.modulus
+    (pos (get_or c.args.word.now c.args.place 0 % c.args.self.now.modulus) -ℤ pos (residue_of c.div.result))
 symbol_is c = cc
 
 pub returns-clause-accepted : goal.returns-clause-accepted
@@ -28,13 +29,15 @@ returns-clause-accepted c =
           (changed_symbol c.args.self.now.weights.now c.args.word.now c.args.place c.residue.result c.requires.within)
           (sym (mul-mod_second q w m) ∙ product ∙ sym (mod-eq_of_lt small))
           (c.residue_laws.ensures.difference m (S % m) r c.args.self.now.positive ∙ mod-mod S m)
-          (ap (λ s. (s + q) % m) symbol ∙ c.residue_laws.ensures.difference m (x % m) q c.args.self.now.positive ∙ mod-mod x m);
+          (ap (λ s. (s + q) % m) symbol ∙ c.residue_laws.ensures.difference m (x % m) q c.args.self.now.positive
+          ∙ mod-mod x m);
     }
 
 pub returns-clause-only : goal.returns-clause-only
 returns-clause-only c t below accepted =
     one_symbol c.args.self.now.modulus _ _ _ _ _ _ t c.requires.unit
-    (subst (λ n. n < c.args.self.now.modulus) (sym (symbol_is c)) (c.residue_laws.ensures.residue c.args.self.now.modulus _ c.args.self.now.positive).below)
+    (subst (λ n. n < c.args.self.now.modulus) (sym (symbol_is c))
+    (c.residue_laws.ensures.residue c.args.self.now.modulus _ c.args.self.now.positive).below)
     below ((returns-clause-accepted c).leaves ∙ sym accepted.leaves)
     (changed_symbol c.args.self.now.weights.now c.args.word.now c.args.place c.residue.result c.requires.within)
     (changed_symbol c.args.self.now.weights.now c.args.word.now c.args.place t c.requires.within)

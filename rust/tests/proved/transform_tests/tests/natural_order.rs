@@ -1,17 +1,11 @@
 //! Known transforms in natural order, by plans.
 
-use super::remainders::{all_in_room, are_same};
-use crate::modular_plan::modulus::{Factor, PlannedModulus};
-use crate::modular_plan::plan::plan;
+use super::remainders::{all_in_room, are_same, planned};
+use crate::modular_plan::modulus::Factor;
 use crate::modular_plan::transform::ntt_planned;
 use num_modular::modular_prim::plain_word::PlainWord;
-use num_modular::modular_reduced::reducer::Reducer;
-use num_modular::modular_reduced::vanilla::Vanilla;
-use num_modular::modular_transform::transform::root_fits;
-use num_modular::modular_word::path_word::PathWord;
 
-// Whether the list becomes this transform, by the plan by g; the table is for n entries, n being twice
-// its length.
+// Whether the list becomes this transform, by the plan by g.
 fn is_transform<T: PlainWord>(
     m: T,
     g: T,
@@ -19,18 +13,12 @@ fn is_transform<T: PlainWord>(
     xs: &mut [T],
     want: &[T],
 ) -> bool {
-    if !PlannedModulus::admits(m) || !g.is_below(m) || table.len() > 64 {
+    let Some(m) = planned(m, g, table) else {
+        return false;
+    };
+    if !xs.len().is_power_of_two() || xs.len() / 2 > table.len() || !all_in_room(&m, xs) {
         return false;
     }
-    if !xs.len().is_power_of_two() || xs.len() / 2 > table.len() {
-        return false;
-    }
-    let r = Vanilla::new(&m);
-    let m = PlannedModulus::new(m);
-    if !root_fits(&r, &g, 2 * table.len()) || !all_in_room(&m, xs) {
-        return false;
-    }
-    plan(&m, g, table);
     ntt_planned(&m, xs, table);
     are_same(xs, want)
 }

@@ -25,8 +25,22 @@ pub fn are_same<T: RingWord>(xs: &[T], ys: &[T]) -> bool {
     xs.len() == ys.len()
 }
 
-// Whether block b splits by the plan by g into these remainders; the table is for n entries, n being
-// twice its length.
+// The modulus with the plan by g in the table, which is for n entries, n being twice its length; `None`
+// where they don't suit.
+pub fn planned<T: PlainWord>(m: T, g: T, table: &mut [Factor<T>]) -> Option<PlannedModulus<T>> {
+    if !PlannedModulus::admits(m) || !g.is_below(m) || table.len() > 64 {
+        return None;
+    }
+    let r = Vanilla::new(&m);
+    if !root_fits(&r, &g, 2 * table.len()) {
+        return None;
+    }
+    let m = PlannedModulus::new(m);
+    plan(&m, g, table);
+    Some(m)
+}
+
+// Whether block b splits by the plan by g into these remainders.
 fn is_split<T: PlainWord>(
     m: T,
     g: T,
@@ -36,18 +50,12 @@ fn is_split<T: PlainWord>(
     xs: &mut [T],
     want: &[T],
 ) -> bool {
-    if !PlannedModulus::admits(m) || !g.is_below(m) || table.len() > 64 {
+    let Some(m) = planned(m, g, table) else {
+        return false;
+    };
+    if !splits(xs.len(), table.len(), b, last) || !all_in_room(&m, xs) {
         return false;
     }
-    if !splits(xs.len(), table.len(), b, last) {
-        return false;
-    }
-    let r = Vanilla::new(&m);
-    let m = PlannedModulus::new(m);
-    if !root_fits(&r, &g, 2 * table.len()) || !all_in_room(&m, xs) {
-        return false;
-    }
-    plan(&m, g, table);
     split(&m, xs, table, b, last);
     are_same(xs, want)
 }

@@ -11,7 +11,8 @@ minus-gap-requires g c =
     omega (arith, below, c.ones.ensures)
 
 is_prepared : (g : _) (c : After-low_quotient-quotient g)
-    → IsPrepared g.T.RingWord.width g.T.PathWord.base (g.T.RingWord.number c.args.d) (g.T.RingWord.number c.minus-less.result)
+    → IsPrepared g.T.RingWord.width g.T.PathWord.base (g.T.RingWord.number c.args.d)
+    (g.T.RingWord.number c.minus-less.result)
     c.binary_digits-n.result (g.T.RingWord.number c.minus-gap.result)
 is_prepared g c =
     prepared _ _ _ _ _ _ _ _ (omega (arith, c.requires, c.one.ensures, c.minus-less.ensures.value))
@@ -24,7 +25,8 @@ quotient_is : (g : _) (c : After-low_quotient-quotient g)
 quotient_is g c =
     let n = g.T.RingWord.number in
     let b = g.T.PathWord.base in
-    let dividend : g.T.PathWord.double_number c.merge.result ≡ b * n c.minus-gap.result = omega (arith, c.merge.ensures.value, c.zero.ensures) in
+    let dividend : g.T.PathWord.double_number c.merge.result ≡ b * n c.minus-gap.result =
+    omega (arith, c.merge.ensures.value, c.zero.ensures) in
     c.low_quotient-quotient.ensures.value ∙ ap (λ v. v / n c.args.d % b) dividend
 
 pub plus-requires : goal.plus-requires
@@ -35,4 +37,5 @@ plus-requires g c =
 pub returns : goal.returns
 returns g c =
     let here = (goal.at.returns g c).After-low_quotient-quotient in
-    multiplier_is _ _ _ _ _ _ _ _ (is_prepared g here) (quotient_is g here) (omega (arith, c.plus.ensures, c.one-2.ensures))
+    multiplier_is _ _ _ _ _ _ _ _ (is_prepared g here) (quotient_is g here)
+    (omega (arith, c.plus.ensures, c.one-2.ensures))

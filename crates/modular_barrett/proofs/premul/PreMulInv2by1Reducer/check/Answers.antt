@@ -30,8 +30,10 @@ returns-then-is_below g c =
     let is = c.args.self.now.scaling in
     let below = c.is_below.ensures.below.0 c.if-is_below.true in
     let bits = c.low_bits.ensures.value in
-    let zero = c.is_zero_word.ensures.zero in
-    ((λ h. is_form _ _ _ _ _ _ is (omega (arith, c.divisor.ensures.scaled)) bits (zero.0 h)), (λ form. zero.1 (is_clear _ _ _ _ _ _ is bits form)))
+    let zero = c.is_zero_word.ensures.zero in (
+      (λ h. is_form _ _ _ _ _ _ is (omega (arith, c.divisor.ensures.scaled)) bits (zero.0 h)),
+      (λ form. zero.1 (is_clear _ _ _ _ _ _ is bits form)),
+    )
 
 pub returns-else-is_below : goal.returns-else-is_below
 returns-else-is_below g c = (

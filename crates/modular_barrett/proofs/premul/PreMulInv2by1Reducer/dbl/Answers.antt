@@ -6,4 +6,5 @@ use Rattle.modular_barrett.proofs.premul.PreMulInv2by1Reducer.dbl.Goals as goal
 pub returns : goal.returns
 returns g c =
     answered (scaled_canonical c.args.self.now.scaling)
-    (double_stands _ _ _ _ _ c.args.self.now.scaling.positive c.divisor.ensures.scaled c.requires c.dbl_below.ensures.value)
+    (double_stands _ _ _ _ _ c.args.self.now.scaling.positive c.divisor.ensures.scaled
+    c.requires c.dbl_below.ensures.value)

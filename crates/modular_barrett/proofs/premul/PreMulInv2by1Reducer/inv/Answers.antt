@@ -15,7 +15,8 @@ shift_left-requires-clause-fits g c =
 pub returns : goal.returns
 returns g c =
     inverse_answered g.T.RingWord.number _ (Some c.shift_left.result) (scaled_canonical c.args.self.now.scaling)
-    (inverse_stands _ _ _ _ _ _ _ _ _ c.args.self.now.scaling c.modulus.ensures c.residue.ensures.form c.in_ok-inverse.ensures
+    (inverse_stands _ _ _ _ _ _ _ _ _ c.args.self.now.scaling c.modulus.ensures
+    c.residue.ensures.form c.in_ok-inverse.ensures
     c.shift_left.ensures)
 
 pub returns-in_err-inverse : goal.returns-in_err-inverse

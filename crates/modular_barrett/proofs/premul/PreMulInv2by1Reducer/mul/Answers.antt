@@ -6,7 +6,8 @@ use Rattle.modular_barrett.proofs.premul.PreMulInv2by1Reducer.mul.Goals as goal
 pub div_rem_2by1-requires : goal.div_rem_2by1-requires
 div_rem_2by1-requires g c =
     let product = c.product.ensures in
-    product_fits _ _ _ _ _ _ _ c.args.self.now.scaling.scaled c.residue-value.ensures.form.below product.other_fits product.value
+    product_fits _ _ _ _ _ _ _ c.args.self.now.scaling.scaled c.residue-value.ensures.form.below
+    product.other_fits product.value
 
 pub returns : goal.returns
 returns g c =

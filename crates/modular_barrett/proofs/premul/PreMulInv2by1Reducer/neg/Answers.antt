@@ -6,4 +6,5 @@ use Rattle.modular_barrett.proofs.premul.PreMulInv2by1Reducer.neg.Goals as goal
 pub returns : goal.returns
 returns g c =
     answered (scaled_canonical c.args.self.now.scaling)
-    (negative_stands _ _ _ _ _ c.args.self.now.scaling.positive c.divisor.ensures.scaled c.requires c.neg_below.ensures.value)
+    (negative_stands _ _ _ _ _ c.args.self.now.scaling.positive c.divisor.ensures.scaled
+    c.requires c.neg_below.ensures.value)

@@ -4,5 +4,6 @@ use Rattle.modular_barrett.proofs.premul.PreMulInv2by1Reducer.residue.Goals as g
 
 pub returns : goal.returns
 returns g c =
-    let value = c.shift_right.ensures.value ∙ ap (λ k. g.T.RingWord.number c.args.f / 2 ^ k) c.args.self.now.scaling.zeros in
+    let value =
+    c.shift_right.ensures.value ∙ ap (λ k. g.T.RingWord.number c.args.f / 2 ^ k) c.args.self.now.scaling.zeros in
     record { form = form_as c.requires (sym value); value = value }

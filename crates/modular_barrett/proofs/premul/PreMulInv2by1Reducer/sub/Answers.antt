@@ -19,5 +19,6 @@ sub_below-requires-clause-right g c =
 pub returns : goal.returns
 returns g c =
     answered (scaled_canonical c.args.self.now.scaling)
-    (difference_stands _ _ _ _ _ _ c.args.self.now.scaling.positive c.divisor.ensures.scaled c.requires.left c.requires.right
+    (difference_stands _ _ _ _ _ _ c.args.self.now.scaling.positive c.divisor.ensures.scaled
+    c.requires.left c.requires.right
     c.sub_below.ensures.value)

@@ -16,7 +16,8 @@ shift_left-requires-clause-fits g c =
 pub returns-then-is_below : goal.returns-then-is_below
 returns-then-is_below g c =
     answered (scaled_canonical c.args.self.now.scaling)
-    (below_stands _ _ _ _ _ _ _ c.args.self.now.scaling c.modulus.ensures (c.is_below.ensures.below.0 c.if-is_below.true)
+    (below_stands _ _ _ _ _ _ _ c.args.self.now.scaling c.modulus.ensures
+    (c.is_below.ensures.below.0 c.if-is_below.true)
     c.shift_left.ensures)
 
 pub returns-else-is_below : goal.returns-else-is_below

@@ -7,15 +7,20 @@ pub mul-requires : goal.mul-requires
 mul-requires g c =
     let r = c.args.self.now.ring in
     let none = c.if-self-eq0.true in
-    record { left = high_checked r c.requires.left (all_high _ _ none); right = high_checked r c.requires.right (all_high _ _ none) }
+    record {
+      left = high_checked r c.requires.left (all_high _ _ none);
+      right = high_checked r c.requires.right (all_high _ _ none);
+    }
 
 pub returns-then-self-eq0 : goal.returns-then-self-eq0
 returns-then-self-eq0 g c =
     let none = c.if-self-eq0.true in
-    operation_made c.args.self.now.ring (λ x y. x * y) same_product c.requires.left c.requires.right (all_high _ _ none) (all_high _ _ none)
+    operation_made c.args.self.now.ring (λ x y. x * y) same_product c.requires.left c.requires.right
+    (all_high _ _ none) (all_high _ _ none)
     c.mul.ensures.form refl (joined_none _ _ _ none)
 
 pub returns : goal.returns
 returns g c =
-    operation_made c.args.self.now.ring (λ x y. x * y) same_product c.requires.left c.requires.right c.high.ensures.value c.high-2.ensures.value
+    operation_made c.args.self.now.ring (λ x y. x * y) same_product c.requires.left c.requires.right
+    c.high.ensures.value c.high-2.ensures.value
     c.mul-high.ensures.form c.wrapping_mul.ensures.value c.join.ensures

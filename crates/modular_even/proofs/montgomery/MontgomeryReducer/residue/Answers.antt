@@ -11,7 +11,12 @@ returns-then-self-eq0 g c = odd_value_made c.args.self.now.ring c.if-self-eq0.tr
 pub plus-requires : goal.plus-requires
 plus-requires g c =
     let r = c.args.self.now.ring in
-    omega (arith, turns_below r _ c.residue-value.ensures.form.below c.low_bits-steps.ensures.value, c.times.ensures, r.fits)
+    omega (
+      arith,
+      turns_below r _ c.residue-value.ensures.form.below c.low_bits-steps.ensures.value,
+      c.times.ensures,
+      r.fits,
+    )
 
 pub returns : goal.returns
 returns g c =

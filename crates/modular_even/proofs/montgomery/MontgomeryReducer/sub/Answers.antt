@@ -6,7 +6,10 @@ pub sub-requires : goal.sub-requires
 sub-requires g c =
     let r = c.args.self.now.ring in
     let none = c.if-self-eq0.true in
-    record { left = high_checked r c.requires.left (all_high _ _ none); right = high_checked r c.requires.right (all_high _ _ none) }
+    record {
+      left = high_checked r c.requires.left (all_high _ _ none);
+      right = high_checked r c.requires.right (all_high _ _ none);
+    }
 
 pub returns-then-self-eq0 : goal.returns-then-self-eq0
 returns-then-self-eq0 g c =

@@ -5,4 +5,5 @@ use Rattle.modular_folds.proofs.rings.FoldRingReducer.add.Goals as goal
 pub returns : goal.returns
 returns g c =
     let canonical = g.met.M.FoldModulus.canonical c.args.self.now.kept in
-    answered canonical (record { below = mod-lt _ canonical.positive; same = rw c.modulus.ensures at c.add_below.ensures.value })
+    answered canonical
+    (record { below = mod-lt _ canonical.positive; same = rw c.modulus.ensures at c.add_below.ensures.value })

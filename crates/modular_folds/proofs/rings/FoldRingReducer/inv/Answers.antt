@@ -6,7 +6,8 @@ use Rattle.modular_reduced.proofs.FormLemmas.{inverse_answered}
 use Rattle.modular_folds.proofs.rings.FoldRingReducer.inv.Goals as goal
 
 -- each value is its own form, inverses too
-plain_inverse : {T : Type 0} (number : T → ℕ) (m v : ℕ) (found : Option T) → IsInversion number m v found → IsInverseForm number plain_form m v found
+plain_inverse : {T : Type 0} (number : T → ℕ) (m v : ℕ) (found : Option T) → IsInversion number m v found
+    → IsInverseForm number plain_form m v found
 plain_inverse number m v None h = h
 plain_inverse number m v (Some x) h = (number x, h, record { below = h.below; same = refl })
 

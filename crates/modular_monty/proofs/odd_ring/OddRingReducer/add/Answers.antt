@@ -7,4 +7,5 @@ add_below-requires g c =
     rw c.modulus.ensures (record { left = form_below r c.requires.left; right = form_below r c.requires.right })
 
 pub returns : goal.returns
-returns g c = sum_made (g.met.M.OddModulus.is_odd_ring c.args.self.now.kept) c.requires.left c.requires.right (rw c.modulus.ensures at c.add_below.ensures.value)
+returns g c = sum_made (g.met.M.OddModulus.is_odd_ring c.args.self.now.kept) c.requires.left c.requires.right
+    (rw c.modulus.ensures at c.add_below.ensures.value)

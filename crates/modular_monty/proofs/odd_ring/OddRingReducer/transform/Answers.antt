@@ -4,10 +4,12 @@ use Rattle.modular_monty.proofs.odd_ring.OddRingReducer.transform.Goals as goal
 
 pub reduced-requires : goal.reduced-requires
 reduced-requires g c =
-    product_below _ _ c.product.ensures.value c.product.ensures.fits (rw c.square_of_base.ensures (square_below (g.met.M.OddModulus.is_odd_ring c.args.self.now.kept)))
+    product_below _ _ c.product.ensures.value c.product.ensures.fits
+    (rw c.square_of_base.ensures (square_below (g.met.M.OddModulus.is_odd_ring c.args.self.now.kept)))
 
 pub returns-then-is_zero_word : goal.returns-then-is_zero_word
 returns-then-is_zero_word g c = zero_made (g.met.M.OddModulus.is_odd_ring c.args.self.now.kept) (search rules)
 
 pub returns : goal.returns
-returns g c = transform_made (g.met.M.OddModulus.is_odd_ring c.args.self.now.kept) _ (rw c.square_of_base.ensures at c.product.ensures.value) c.reduced.ensures
+returns g c = transform_made (g.met.M.OddModulus.is_odd_ring c.args.self.now.kept) _
+    (rw c.square_of_base.ensures at c.product.ensures.value) c.reduced.ensures

@@ -12,4 +12,5 @@ pub returns : goal.returns
 returns g c =
     let n = g.T.RingWord.number in
     let m = n c.args.self.now.modulus in
-    c.reduced_once-2.ensures.value ∙ ap (λ v. v % m) (c.reduced_once.ensures.value ∙ ap (λ v. n c.args.x % v) c.twice.ensures) ∙ mod_of_multiple_left m 2 (n c.args.x)
+    c.reduced_once-2.ensures.value ∙ ap (λ v. v % m)
+    (c.reduced_once.ensures.value ∙ ap (λ v. n c.args.x % v) c.twice.ensures) ∙ mod_of_multiple_left m 2 (n c.args.x)

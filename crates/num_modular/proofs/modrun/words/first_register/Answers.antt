@@ -9,7 +9,8 @@ returns-in_err-first c =
 pub returns-in_err-register : goal.returns-in_err-register
 returns-in_err-register c =
     let split = rw c.in_ok-first.was at (cut c.args.text.now c.split_once.result c.split_once.ensures.cases) in
-    rw c.from_residual-in_err-register.ensures (λ r n ns below all. c.in_err-register.ensures r (below, (rw split at all).0))
+    rw c.from_residual-in_err-register.ensures
+    (λ r n ns below all. c.in_err-register.ensures r (below, (rw split at all).0))
 
 pub returns : goal.returns
 returns c =

@@ -1,4 +1,5 @@
-use Rattle.num_modular.proofs.CommandTexts.{no_load, no_add, no_sub, no_mul, no_neg, no_dbl, no_sqr, no_inv, no_div, no_pow}
+use Rattle.num_modular.proofs.CommandTexts.{no_load, no_add, no_sub, no_mul, no_neg}
+use Rattle.num_modular.proofs.CommandTexts.{no_dbl, no_sqr, no_inv, no_div, no_pow}
 use Rattle.num_modular.proofs.modrun.words.named_command.Goals as goal
 
 pub returns-in_err-dst-in-load : goal.returns-in_err-dst-in-load

@@ -7,7 +7,8 @@ returns-in_err-dst c = rw c.from_residual.ensures (λ p h. c.in_err-dst.ensures 
 
 pub returns-in_err-number : goal.returns-in_err-number
 returns-in_err-number c =
-    rw c.from_residual-in_err-number.ensures (λ p h. c.in_err-number.ensures p.1 (last_number _ _ (read_rest _ _ _ _ _ c.in_ok-dst.ensures.1 h.1)))
+    rw c.from_residual-in_err-number.ensures
+    (λ p h. c.in_err-number.ensures p.1 (last_number _ _ (read_rest _ _ _ _ _ c.in_ok-dst.ensures.1 h.1)))
 
 pub returns : goal.returns
 returns c = (c.in_ok-dst.ensures.0, read_more _ _ _ _ c.in_ok-dst.ensures.1 (last_text _ _ c.in_ok-number.ensures))

@@ -7,7 +7,12 @@ returns-in_err-dst c = rw c.from_residual.ensures (λ p h. c.in_err-dst.ensures 
 
 pub returns-in_err-register : goal.returns-in_err-register
 returns-in_err-register c =
-    rw c.from_residual-in_err-register.ensures (λ p h. c.in_err-register.ensures p.1 (h.1, last_number _ _ (read_rest _ _ _ _ _ c.in_ok-dst.ensures.1 h.2)))
+    rw c.from_residual-in_err-register.ensures
+    (λ p h. c.in_err-register.ensures p.1 (h.1, last_number _ _ (read_rest _ _ _ _ _ c.in_ok-dst.ensures.1 h.2)))
 
 pub returns : goal.returns
-returns c = (c.in_ok-dst.ensures.0, c.in_ok-register.ensures.0, read_more _ _ _ _ c.in_ok-dst.ensures.1 (last_text _ _ c.in_ok-register.ensures.1))
+returns c = (
+  c.in_ok-dst.ensures.0,
+  c.in_ok-register.ensures.0,
+  read_more _ _ _ _ c.in_ok-dst.ensures.1 (last_text _ _ c.in_ok-register.ensures.1),
+)

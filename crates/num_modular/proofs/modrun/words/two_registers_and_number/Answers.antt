@@ -6,4 +6,5 @@ pub returns-in_err-dst : goal.returns-in_err-dst
 returns-in_err-dst c = rw c.from_residual.ensures (λ p h. c.in_err-dst.ensures p.0 p.1 (p.2 ∷ []) h.0 h.2)
 
 pub returns-in_err-a : goal.returns-in_err-a
-returns-in_err-a c = rw c.from_residual-in_err-a.ensures (λ p h. c.in_err-a.ensures (p.1, p.2) (h.1, read_rest _ _ _ _ _ c.in_ok-dst.ensures.1 h.2))
+returns-in_err-a c = rw c.from_residual-in_err-a.ensures
+    (λ p h. c.in_err-a.ensures (p.1, p.2) (h.1, read_rest _ _ _ _ _ c.in_ok-dst.ensures.1 h.2))

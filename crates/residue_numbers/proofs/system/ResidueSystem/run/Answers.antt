@@ -12,10 +12,12 @@ moduli-preserved c =
     let wholes = map (whole (λ n. n)) c.args.commands.now in
     let within : c.moduli.place < length c.moduli.residues = omega arith in
     record {
-      done = below_more (λ i. (at : ℕ) → IsStop (get_or moduli i 0) (starts (get_or moduli i 0) numbers) wholes at → ⊥) c.moduli.place c.moduli.invariant.done
+      done = below_more (λ i. (at : ℕ) → IsStop (get_or moduli i 0) (starts (get_or moduli i 0) numbers) wholes at → ⊥)
+          c.moduli.place c.moduli.invariant.done
           (c.in-Some.ensures.done.0 refl);
       left = set_more c.moduli.residues c.moduli.place c.in-Some.residue
-          (λ i r. r ≡ value_at (get_or moduli i 0) (starts (get_or moduli i 0) numbers) wholes (length wholes) c.args.register) within
+          (λ i r. r ≡ value_at (get_or moduli i 0) (starts (get_or moduli i 0) numbers) wholes
+          (length wholes) c.args.register) within
           c.moduli.invariant.left c.in-Some.ensures.value;
     }
 
@@ -30,7 +32,8 @@ returns-in-None-clause-done c =
       has_residue = c.inverse_laws.ensures.has_residue;
     } in (
       (λ t. absurd (false≢true t)),
-      λ never. c.in-None.ensures.done.1 (never_within laws c.stop_laws.ensures.each c.args.self.now.moduli.now c.args.numbers.now c.args.commands.now
+      λ never. c.in-None.ensures.done.1
+          (never_within laws c.stop_laws.ensures.each c.args.self.now.moduli.now c.args.numbers.now c.args.commands.now
           c.args.self.now.small.system never c.moduli.place c.moduli-test.true),
     )
 
@@ -62,5 +65,7 @@ returns-clause-residues c t =
       coprime = c.inverse_laws.ensures.coprime;
       has_residue = c.inverse_laws.ensures.has_residue;
     } in
-    residues_whole laws c.stop_laws.ensures.each c.args.self.now.moduli.now c.args.numbers.now c.moduli.residues c.args.commands.now c.args.register
-    c.args.self.now.small.system (λ i h. c.moduli.invariant.done i (omega arith)) (λ i h. c.moduli.invariant.left i (omega arith))
+    residues_whole laws c.stop_laws.ensures.each c.args.self.now.moduli.now c.args.numbers.now c.moduli.residues
+    c.args.commands.now c.args.register
+    c.args.self.now.small.system (λ i h. c.moduli.invariant.done i (omega arith))
+    (λ i h. c.moduli.invariant.left i (omega arith))

@@ -1,10 +1,12 @@
--- Inverses of products.
-use Rattle.std.proofs.Common.{◌≡◌, ◌↔◌, ℕ, zero, suc, ◌+◌, ◌*◌, ◌%◌, ◌<◌, ap, sym, ◌∙◌, arith, refl, inl, inr, subst, add-one}
+-- Laws of products over a range, and of the inverses of products. A caller's lemma files and answers cite them.
+use Rattle.std.proofs.Common.{◌≡◌, ◌↔◌, ℕ, zero, suc, ◌+◌, ◌*◌, ◌%◌, ◌<◌, ap}
+use Rattle.std.proofs.Common.{sym, ◌∙◌, arith, refl, inl, inr, subst, add-one}
 use Rattle.std.proofs.Math.Nat.{mod-lt}
 use Rattle.std.proofs.lemmas.Bool.{cases_eq}
-use Rattle.std.proofs.lemmas.Nat.{mul-mod_second}
+use Rattle.std.proofs.lemmas.Nat.{mul-mod_first, mul-mod_second}
 use Rattle.modular_word.specs.Inverses.{IsInverse, HasInverse}
 use Rattle.modular_word.proofs.Congruence.{same_product}
+use Rattle.modular_laws.specs.EntryLaws.{entry_at, hold_more}
 use Rattle.modular_laws.specs.Products.{product_below}
 
 pub product-zero : (f : ℕ → ℕ) → product_below 0 f ≡ 1
@@ -19,7 +21,17 @@ pub product-same : (n : ℕ) (f g : ℕ → ℕ) → ((i : ℕ) → i < n → f 
 unfolding product_below
 product-same zero f g same = refl
 product-same (suc n) f g same =
-    ap (λ v. v * f n) (product-same n f g (λ i l. same i (omega arith))) ∙ ap (λ v. product_below n g * v) (same n (omega arith))
+    ap (λ v. v * f n) (product-same n f g (λ i l. same i (omega arith)))
+    ∙ ap (λ v. product_below n g * v) (same n (omega arith))
+
+-- the product so far, as a residue: over no number, and one factor more
+pub product_none : (m a : ℕ) (f : ℕ → ℕ) → a ≡ 1 % m → a ≡ product_below 0 f % m
+product_none m a f e = e ∙ ap (λ v. v % m) (sym (product-zero f))
+
+pub product_step : (m i a b : ℕ) (f : ℕ → ℕ) → a ≡ product_below i f % m → b ≡ f i
+    → (a * b) % m ≡ product_below (i + 1) f % m
+product_step m i a b f p q =
+    rw (p, q) (mul-mod_first (product_below i f) (f i) m) ∙ ap (λ w. w % m) (sym (product-more f i))
 
 -- the inverse of a product gives those of the factors
 pub inverse_left : (m a b x : ℕ) → IsInverse m (a * b) x → IsInverse m a ((x * b) % m)
@@ -33,6 +45,23 @@ inverse_right m a b x h =
     let l = h.below in
     let e : b * (x * a) ≡ a * b * x = omega arith in
     record { below = mod-lt (x * a) (omega (arith, l)); one = mul-mod_second b (x * a) m ∙ ap (λ v. v % m) e ∙ h.one }
+
+-- .. and over a range, in the shape that `mul` leaves, those of the product before the last factor ..
+one_more : (m i j x : ℕ) (f : ℕ → ℕ) → IsInverse m (product_below j f) x → j ≡ i + 1
+    → IsInverse m (product_below i f * f i) x
+one_more m i j x f h e = subst (λ p. IsInverse m p x) (ap (λ k. product_below k f) e ∙ product-more f i) h
+
+pub inverse_before : (m i j b w x : ℕ) (f : ℕ → ℕ) → IsInverse m (product_below j f) x → j ≡ i + 1
+    → w ≡ (x * b) % m → b ≡ f i → IsInverse m (product_below i f) w
+inverse_before m i j b w x f h e is factor =
+    rw (is, factor) (inverse_left m (product_below i f) (f i) x (one_more m i j x f h e))
+
+-- .. and of the last factor
+pub inverse_last : (m i j b w x : ℕ) (f : ℕ → ℕ) → IsInverse m (product_below j f) x → j ≡ i + 1
+    → w ≡ (x * b) % m → b ≡ product_below i f % m → IsInverse m (f i) w
+inverse_last m i j b w x f h e is before =
+    let same = is ∙ ap (λ v. (x * v) % m) before ∙ mul-mod_second x (product_below i f) m in
+    subst (IsInverse m (f i)) (sym same) (inverse_right m (product_below i f) (f i) x (one_more m i j x f h e))
 
 -- the product of the inverses is the inverse of the product
 pub inverse_both : (m a b x y : ℕ) → IsInverse m a x → IsInverse m b y → IsInverse m (a * b) ((x * y) % m)
@@ -67,8 +96,20 @@ has_each m (suc n) f h i l =
       | inr other ↦ has_each m n f both.0 i (omega arith)
     ]
 
-pub has_product : (m n : ℕ) (f : ℕ → ℕ) → 0 < m → ((i : ℕ) → i < n → HasInverse m (f i)) → HasInverse m (product_below n f)
+pub has_product : (m n : ℕ) (f : ℕ → ℕ) → 0 < m → ((i : ℕ) → i < n → HasInverse m (f i))
+    → HasInverse m (product_below n f)
 unfolding product_below
 has_product m zero f p each = has_one m p
 has_product m (suc n) f p each =
     (has_both m (product_below n f) (f n)).1 (has_product m n f p (λ i l. each i (omega arith)), each n (omega arith))
+
+-- where the product's residue has no inverse, not each factor has one
+pub no_inverse : (m n p : ℕ) (f : ℕ → ℕ) → p ≡ product_below n f % m → p < m → ((x : ℕ) → IsInverse m p x → ⊥)
+    → ((i : ℕ) → i < n → HasInverse m (f i)) → ⊥
+no_inverse m n p f e l none each =
+    let h = has_product m n f (omega (arith, l)) each in
+    none h.0
+    (record { below = h.1.below; one = ap (λ v. (v * h.0) % m) e ∙ mul-mod_first (product_below n f) h.0 m ∙ h.1.one })
+
+-- what `using` names, so that a loop that fills a list with the products so far needs no answer
+pub ruleset products_so_far = (entry_at, hold_more, product_none, product_step, no_inverse)

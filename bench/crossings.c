@@ -1,0 +1,99 @@
+/* What a call of the library from C costs, beside FLINT's word-sized calls where FLINT is at hand.
+ *
+ * Each step takes the answer of the step before it. Prints the least time of a step over several rounds, in
+ * nanoseconds, and compares the last answers of calls that compute the same. */
+#define _POSIX_C_SOURCE 199309L
+#include <inttypes.h>
+#include <num_modular.h>
+#include <stdio.h>
+#include <time.h>
+#ifdef WITH_FLINT
+#include <flint/ulong_extras.h>
+#endif
+
+enum { ROUNDS = 7, PLACES = 65536 };
+
+static const uint64_t modulus = UINT64_C(18446744073709551557), factor = UINT64_C(1234567890123456789);
+static const uint64_t exponent = UINT64_C(9223372036854775778);
+static nm_montgomery_t ring;
+static uint64_t factor_form, list[PLACES], root;
+
+static uint64_t mulm(uint64_t x) {
+    (void)nm_mulm(x, factor, modulus, &x);
+    return x;
+}
+
+static uint64_t montgomery_mul(uint64_t x) {
+    (void)nm_montgomery_mul(&ring, x, factor_form, &x);
+    return x;
+}
+
+static uint64_t powm(uint64_t x) {
+    (void)nm_powm(x, exponent, modulus, &x);
+    return x;
+}
+
+static uint64_t montgomery_pow(uint64_t x) {
+    (void)nm_montgomery_pow(&ring, x, exponent, &x);
+    return x;
+}
+
+static uint64_t transform(uint64_t x) {
+    list[0] = x;
+    (void)nm_solinas_ntt(list, PLACES, root);
+    return list[0];
+}
+
+#ifdef WITH_FLINT
+static uint64_t flint_mul(uint64_t x) { return n_mulmod2_preinv(x, factor, modulus, n_preinvert_limb(modulus)); }
+
+static uint64_t inverse;
+static uint64_t flint_mul_preinv(uint64_t x) { return n_mulmod2_preinv(x, factor, modulus, inverse); }
+
+static uint64_t flint_pow(uint64_t x) { return n_powmod2(x, (slong)exponent, modulus); }
+#endif
+
+/* The least time of a step, and the answer of the last. */
+static double measured(uint64_t (*step)(uint64_t), uint64_t x, long steps, uint64_t *last) {
+    double least = 1e300;
+    for (int round = 0; round < ROUNDS; round++) {
+        struct timespec from, to;
+        *last = x;
+        clock_gettime(CLOCK_MONOTONIC, &from);
+        for (long i = 0; i < steps; i++) *last = step(*last);
+        clock_gettime(CLOCK_MONOTONIC, &to);
+        double took = ((double)(to.tv_sec - from.tv_sec) * 1e9 + (double)(to.tv_nsec - from.tv_nsec)) / (double)steps;
+        if (took < least) least = took;
+    }
+    return least;
+}
+
+static uint64_t line(const char *name, uint64_t (*step)(uint64_t), uint64_t x, long steps) {
+    uint64_t last;
+    printf("%-24s %12.1f ns\n", name, measured(step, x, steps, &last));
+    return last;
+}
+
+static uint64_t value(uint64_t form) {
+    (void)nm_montgomery_residue(&ring, form, &form);
+    return form;
+}
+
+int main(void) {
+    uint64_t three, wrong = 0;
+    if (nm_montgomery(modulus, &ring) || nm_montgomery_transform(&ring, factor, &factor_form)) return 1;
+    if (nm_montgomery_transform(&ring, 3, &three) || nm_solinas_find_root(PLACES, &root)) return 1;
+    uint64_t product = line("nm_mulm", mulm, 3, 1000000);
+    wrong |= product ^ value(line("nm_montgomery_mul", montgomery_mul, three, 1000000));
+    uint64_t power = line("nm_powm", powm, 3, 20000);
+    wrong |= power ^ value(line("nm_montgomery_pow", montgomery_pow, three, 20000));
+#ifdef WITH_FLINT
+    inverse = n_preinvert_limb(modulus);
+    wrong |= product ^ line("n_mulmod2_preinv", flint_mul_preinv, 3, 1000000);
+    wrong |= product ^ line("n_preinvert_limb with it", flint_mul, 3, 1000000);
+    wrong |= power ^ line("n_powmod2", flint_pow, 3, 20000);
+#endif
+    line("nm_solinas_ntt, 2^16", transform, 3, 10);
+    if (wrong) printf("the answers differ\n");
+    return wrong != 0;
+}

@@ -1,0 +1,228 @@
+/* Arithmetic modulo m on words of 64 bits: the library num_modular, proved, for C.
+ *
+ * Each function tests what its call needs and answers a code. It writes what is asked for with NM_OK
+ * and nothing with any other code; nm_montgomery_run alone also writes with NM_NO_INVERSE. No function takes memory,
+ * keeps a state or calls back, so all may be called from any thread at any time.
+ *
+ * What a caller owes is what the types say, and isn't tested: a pointer that isn't for a list points to
+ * one value of its type, a list's to as many words as the number behind it says (NULL may stand for an
+ * empty list), and what a call writes lies apart from all else that it is given.
+ */
+#ifndef NUM_MODULAR_H
+#define NUM_MODULAR_H
+
+#include <stddef.h>
+#include <stdint.h>
+
+#ifdef __cplusplus
+extern "C" {
+#endif
+
+/* The codes. */
+#define NM_OK ((uint32_t)0)           /* what was asked for is written */
+#define NM_NO_INVERSE ((uint32_t)1)   /* an inverse that is needed doesn't exist */
+#define NM_BAD_ARGUMENT ((uint32_t)2) /* an argument isn't one that the call takes */
+#define NM_BAD_CONTEXT ((uint32_t)3)  /* a divider or a context isn't one that the library makes */
+#define NM_NO_ROOT ((uint32_t)4)      /* no root was found, or the one given doesn't suit the length */
+#define NM_NOT_FOUND ((uint32_t)5)    /* what was looked for stands nowhere */
+
+/* --- Operations modulo m, of words that may be above m. NM_BAD_ARGUMENT: m is 0. --- */
+
+/* The residue of a + b. */
+uint32_t nm_addm(uint64_t a, uint64_t b, uint64_t m, uint64_t *sum);
+
+/* The residue of a - b, from 0 to m - 1. */
+uint32_t nm_subm(uint64_t a, uint64_t b, uint64_t m, uint64_t *difference);
+
+/* The residue of a * b. */
+uint32_t nm_mulm(uint64_t a, uint64_t b, uint64_t m, uint64_t *product);
+
+/* The residue of a to the power exponent; that of 1 for the exponent 0. */
+uint32_t nm_powm(uint64_t a, uint64_t exponent, uint64_t m, uint64_t *power);
+
+/* The inverse of a. NM_NO_INVERSE: a has none. */
+uint32_t nm_invm(uint64_t a, uint64_t m, uint64_t *inverse);
+
+/* --- Symbols of a over n: -1, 0 or 1. --- */
+
+/* The Jacobi symbol. NM_BAD_ARGUMENT: n is even. */
+uint32_t nm_jacobi(uint64_t a, uint64_t n, int32_t *symbol);
+
+/* The Jacobi symbol of numbers with sign. NM_BAD_ARGUMENT: n is even or below 1. */
+uint32_t nm_jacobi_signed(int64_t a, int64_t n, int32_t *symbol);
+
+/* The class of a to the power (n - 1)/2, rounded down, modulo n: 0, 1 or -1 where that leaves 0, 1 or n - 1,
+ * tried in this order. For an odd prime n it is the Legendre symbol; that n is one isn't tested.
+ * NM_BAD_ARGUMENT: the power leaves another number, or n is 0. */
+uint32_t nm_legendre(uint64_t a, uint64_t n, int32_t *symbol);
+
+/* nm_legendre of numbers with sign. NM_BAD_ARGUMENT: as there, or n is below 1. */
+uint32_t nm_legendre_signed(int64_t a, int64_t n, int32_t *symbol);
+
+/* The Kronecker symbol, which every two numbers have: always NM_OK. */
+uint32_t nm_kronecker(uint64_t a, uint64_t n, int32_t *symbol);
+
+/* The Kronecker symbol of numbers with sign: always NM_OK. */
+uint32_t nm_kronecker_signed(int64_t a, int64_t n, int32_t *symbol);
+
+/* --- Division by a divisor that stays the same. --- */
+
+/* A divisor with what nm_divider computes of it once. It may be copied and kept; where its numbers were
+ * changed so that they don't fit each other, each call finds that and answers NM_BAD_CONTEXT. */
+typedef struct {
+    uint64_t divisor;    /* the divisor */
+    uint64_t reciprocal; /* the reciprocal of the divisor, moved up to the top of the word */
+} nm_divider_t;
+
+/* A quotient, rounded down, and a remainder. */
+typedef struct {
+    uint64_t quotient;
+    uint64_t remainder;
+} nm_division_t;
+
+/* The divider by d. NM_BAD_ARGUMENT: d is 0. */
+uint32_t nm_divider(uint64_t d, nm_divider_t *divider);
+
+/* Quotient and remainder of n. NM_BAD_CONTEXT: the divider isn't one that nm_divider makes. */
+uint32_t nm_div_rem(const nm_divider_t *divider, uint64_t n, nm_division_t *division);
+
+/* Quotient and remainder of low + 2^64 * high. NM_BAD_CONTEXT: as nm_div_rem. NM_BAD_ARGUMENT: high isn't
+ * below the divisor, so that the quotient has no place in a word. */
+uint32_t nm_div_rem_2by1(const nm_divider_t *divider, uint64_t low, uint64_t high, nm_division_t *division);
+
+/* --- Montgomery's representation modulo any m from 1 up. --- */
+
+/* A modulus with what nm_montgomery computes of it once. It may be copied and kept; where its numbers were
+ * changed so that they aren't those of its modulus, each call finds that and answers NM_BAD_CONTEXT. */
+typedef struct {
+    uint64_t modulus;         /* m */
+    uint64_t negated_inverse; /* times the odd part of m it is -1 modulo 2^64 */
+    uint64_t square;          /* 2^128 modulo the odd part of m */
+} nm_montgomery_t;
+
+/* The context of m. NM_BAD_ARGUMENT: m is 0. */
+uint32_t nm_montgomery(uint64_t m, nm_montgomery_t *context);
+
+/* The calls below take and give forms: words that stand for values modulo m, each of which has one form,
+ * below m. NM_BAD_CONTEXT: the context isn't one that nm_montgomery makes. NM_BAD_ARGUMENT: a word that
+ * has to be a form isn't one. */
+
+/* The form of n modulo m. */
+uint32_t nm_montgomery_transform(const nm_montgomery_t *context, uint64_t n, uint64_t *form);
+
+/* The value of a form: a number below m. */
+uint32_t nm_montgomery_residue(const nm_montgomery_t *context, uint64_t form, uint64_t *value);
+
+/* The form of the sum of two forms. */
+uint32_t nm_montgomery_add(const nm_montgomery_t *context, uint64_t a, uint64_t b, uint64_t *sum);
+
+/* The form of the difference of two forms. */
+uint32_t nm_montgomery_sub(const nm_montgomery_t *context, uint64_t a, uint64_t b, uint64_t *difference);
+
+/* The form of the product of two forms. */
+uint32_t nm_montgomery_mul(const nm_montgomery_t *context, uint64_t a, uint64_t b, uint64_t *product);
+
+/* The form of the power of a form; that of 1 for the exponent 0. */
+uint32_t nm_montgomery_pow(const nm_montgomery_t *context, uint64_t form, uint64_t exponent, uint64_t *power);
+
+/* The form of the inverse of a form. NM_NO_INVERSE: its value has none. */
+uint32_t nm_montgomery_inv(const nm_montgomery_t *context, uint64_t form, uint64_t *inverse);
+
+/* --- Transforms and cyclic products of lists of words, modulo m. ---
+ *
+ * The words may be above m, and the results are below m. A root suits lists of n words where n is a power of
+ * two and, for n above 1, the root to the power n/2 is -1 modulo m. NM_BAD_CONTEXT: as above. */
+
+/* NM_OK where the root suits lists of n words, and NM_NO_ROOT where it doesn't. */
+uint32_t nm_montgomery_root_fits(const nm_montgomery_t *context, uint64_t root, size_t n);
+
+/* A root that suits lists of n words: for the least x from 2 to 255 that gives one, x to the power
+ * (m - 1)/n, rounded down. NM_NO_ROOT: no x gives one, as where n is no power of two. */
+uint32_t nm_montgomery_find_root(const nm_montgomery_t *context, size_t n, uint64_t *root);
+
+/* Puts the transform by the root in place of the n words: at place j the sum of x_i * root^(i * j).
+ * NM_NO_ROOT: the root doesn't suit n. */
+uint32_t nm_montgomery_ntt(const nm_montgomery_t *context, uint64_t *xs, size_t n, uint64_t root);
+
+/* Puts the cyclic product of both lists in place of the first: at place e the sum of x_i * y_j over all
+ * i + j = e or e + n. The second list becomes its transform by the root. NM_BAD_ARGUMENT: the lengths n and k
+ * differ. NM_NO_ROOT: the root doesn't suit n. NM_NO_INVERSE: n has no inverse modulo m. */
+uint32_t nm_montgomery_convolve(const nm_montgomery_t *context, uint64_t *xs, size_t n, uint64_t *ys, size_t k,
+                                uint64_t root);
+
+/* --- Lists of commands on registers, modulo m. --- */
+
+/* What a command does. Operands are read before dst is written, so dst may be an operand. */
+#define NM_LOAD ((uint32_t)0) /* writes n in dst */
+#define NM_ADD ((uint32_t)1)  /* the sum of a and b */
+#define NM_SUB ((uint32_t)2)  /* the difference of a and b */
+#define NM_MUL ((uint32_t)3)  /* the product of a and b */
+#define NM_NEG ((uint32_t)4)  /* the negative of a */
+#define NM_DBL ((uint32_t)5)  /* the double of a */
+#define NM_SQR ((uint32_t)6)  /* the square of a */
+#define NM_INV ((uint32_t)7)  /* the inverse of a; where there is none, the run stops */
+#define NM_DIV ((uint32_t)8)  /* the product of a and the inverse of b; where b has none, the run stops */
+#define NM_POW ((uint32_t)9)  /* the power of a to the exponent n */
+
+/* A command. Fields that its operation doesn't name may hold anything. */
+typedef struct {
+    uint32_t operation; /* NM_LOAD to NM_POW */
+    size_t dst;         /* the register that is written */
+    size_t a;           /* the register of the first operand */
+    size_t b;           /* the register of the second operand */
+    uint64_t n;         /* the number that is loaded, or the exponent */
+} nm_command_t;
+
+/* Carries out the commands in order on the residues of the count words in registers, and puts the residues that
+ * they leave in place; carried_out becomes how many commands were carried out. NM_NO_INVERSE: command number
+ * carried_out, the first having the number 0, finds no inverse, and the residues are those that the commands
+ * before it leave. NM_BAD_ARGUMENT: an operation has no name, or a register number isn't below count; nothing is
+ * written. NM_BAD_CONTEXT: as above. */
+uint32_t nm_montgomery_run(const nm_montgomery_t *context, uint64_t *registers, size_t count,
+                           const nm_command_t *commands, size_t length, size_t *carried_out);
+
+/* --- Transforms and cyclic products modulo 2^64 - 2^32 + 1. --- */
+
+/* As the calls with a context, modulo the prime 2^64 - 2^32 + 1, which needs no context. */
+#define NM_SOLINAS UINT64_C(18446744069414584321)
+uint32_t nm_solinas_root_fits(uint64_t root, size_t n);
+uint32_t nm_solinas_find_root(size_t n, uint64_t *root);
+uint32_t nm_solinas_ntt(uint64_t *xs, size_t n, uint64_t root);
+uint32_t nm_solinas_convolve(uint64_t *xs, size_t n, uint64_t *ys, size_t k, uint64_t root);
+
+/* --- What the crates that stand on the library offer. --- */
+
+/* The hash of the n bytes at the base x: the value at x of the polynomial with the bytes as coefficients, the
+ * highest first, modulo 2^61 - 1. Always NM_OK. */
+uint32_t nm_hash(uint64_t x, const uint8_t *bytes, size_t n, uint64_t *hash);
+
+/* The first position where the pattern of k bytes stands in the text of n bytes, by hashes at the base x; it is
+ * right for every x. NM_NOT_FOUND: it stands nowhere. */
+uint32_t nm_find(uint64_t x, const uint8_t *text, size_t n, const uint8_t *pattern, size_t k, size_t *position);
+
+/* The number low + 2^64 * high. */
+typedef struct {
+    uint64_t low;
+    uint64_t high;
+} nm_double_t;
+
+/* The number below the product of the n moduli that leaves the k residues: there is no other. NM_BAD_ARGUMENT: n
+ * and k differ, a modulus is 0, two have a common divisor above 1, their product isn't below 2^128, or a
+ * residue isn't below its modulus. */
+uint32_t nm_decode(const uint64_t *moduli, size_t n, const uint64_t *residues, size_t k, nm_double_t *number);
+
+/* How long each scratch list of a product of so many places has to be: the least power of two from there on.
+ * NM_BAD_ARGUMENT: there are more than 2^32 places. */
+uint32_t nm_product_scratch(size_t places, size_t *length);
+
+/* The digits of the product of two numbers of n and k digits, which have 16 bits, the lowest first. The scratch
+ * lists left and right hold anything afterwards. NM_BAD_ARGUMENT: places isn't n + k, it is above 2^32, or a
+ * scratch list is shorter than nm_product_scratch says. */
+uint32_t nm_product(const uint16_t *xs, size_t n, const uint16_t *ys, size_t k, uint16_t *digits, size_t places,
+                    uint64_t *left, size_t left_length, uint64_t *right, size_t right_length);
+
+#ifdef __cplusplus
+}
+#endif
+
+#endif

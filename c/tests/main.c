@@ -1,0 +1,25 @@
+/* Tries each call of the library. The last line is 'N passed, M failed'. */
+#include "calls.h"
+
+int passed = 0, failed = 0;
+
+void row(const char *call, int holds, uint32_t code) {
+    if (holds) {
+        passed++;
+    } else {
+        failed++;
+        printf("%s: code %" PRIu32 "\n", call, code);
+    }
+}
+
+int main(void) {
+    plain_rows();
+    symbol_rows();
+    divider_rows();
+    montgomery_rows();
+    run_rows();
+    transform_rows();
+    user_rows();
+    printf("%d passed, %d failed\n", passed, failed);
+    return failed != 0;
+}

@@ -1,0 +1,74 @@
+/* Hashes and searches, numbers by their residues, and products of long numbers. */
+#include "calls.h"
+
+#define BYTES(text) (const uint8_t *)(text), sizeof(text) - 1
+
+/* A call that writes the position out. */
+#define POSITION(want_code, want, call)                                                                                \
+    do {                                                                                                               \
+        size_t out = 77;                                                                                               \
+        uint32_t code = (call);                                                                                        \
+        row(#call, code == (want_code) && out == (code == NM_OK ? (size_t)(want) : 77), code);                         \
+    } while (0)
+
+/* A call that writes the number out. */
+#define NUMBER(want_code, want_low, want_high, call)                                                                   \
+    do {                                                                                                               \
+        nm_double_t out = {UNTOUCHED, UNTOUCHED}, want = {want_low, want_high};                                        \
+        uint32_t code = (call);                                                                                        \
+        if (code != NM_OK) want.low = want.high = UNTOUCHED;                                                           \
+        row(#call, code == (want_code) && out.low == want.low && out.high == want.high, code);                         \
+    } while (0)
+
+static void hash_rows(void) {
+    WORD(NM_OK, 97098099, nm_hash(1000, BYTES("abc"), &out));
+    WORD(NM_OK, UINT64_C(1441598765653), nm_hash(UINT64_MAX, BYTES("a longer text"), &out));
+    WORD(NM_OK, 0, nm_hash(5, NULL, 0, &out));
+    POSITION(NM_OK, 2, nm_find(1000, BYTES("a longer text"), BYTES("longer"), &out));
+    POSITION(NM_OK, 0, nm_find(0, BYTES("aaa"), BYTES("aa"), &out));
+    POSITION(NM_OK, 0, nm_find(1, BYTES("abc"), NULL, 0, &out));
+    POSITION(NM_NOT_FOUND, 0, nm_find(1, BYTES("abc"), BYTES("cba"), &out));
+    POSITION(NM_NOT_FOUND, 0, nm_find(1, BYTES("abc"), BYTES("abcd"), &out));
+    POSITION(NM_NOT_FOUND, 0, nm_find(1, NULL, 0, BYTES("a"), &out));
+}
+
+static void decode_rows(void) {
+    static const uint64_t small[3] = {3, 5, 7}, residues[3] = {2, 3, 2}, above[3] = {2, 5, 2};
+    static const uint64_t zero[3] = {3, 0, 7}, common[3] = {3, 5, 9}, none[3] = {0, 0, 0};
+    static const uint64_t large[2] = {UINT64_C(18446744073709551557), UINT64_C(9223372036854775783)};
+    static const uint64_t of_large[2] = {123456789, 987654321};
+    static const uint64_t too_large[3] = {UINT64_C(18446744073709551557), UINT64_C(9223372036854775783), 3};
+    NUMBER(NM_OK, 23, 0, nm_decode(small, 3, residues, 3, &out));
+    NUMBER(NM_OK, UINT64_C(9223372042643529004), UINT64_C(9223372036758753805), nm_decode(large, 2, of_large, 2, &out));
+    NUMBER(NM_OK, 0, 0, nm_decode(NULL, 0, NULL, 0, &out));
+    NUMBER(NM_BAD_ARGUMENT, 0, 0, nm_decode(small, 3, residues, 2, &out));
+    NUMBER(NM_BAD_ARGUMENT, 0, 0, nm_decode(small, 3, NULL, 0, &out));
+    NUMBER(NM_BAD_ARGUMENT, 0, 0, nm_decode(small, 3, above, 3, &out));
+    NUMBER(NM_BAD_ARGUMENT, 0, 0, nm_decode(zero, 3, none, 3, &out));
+    NUMBER(NM_BAD_ARGUMENT, 0, 0, nm_decode(common, 3, none, 3, &out));
+    NUMBER(NM_BAD_ARGUMENT, 0, 0, nm_decode(too_large, 3, none, 3, &out));
+}
+
+/* 0x123456789abcdef0fedcba98 times 2^64 - 1 */
+static void product_rows(void) {
+    static const uint16_t xs[6] = {47768, 65244, 57072, 39612, 22136, 4660}, ys[4] = {65535, 65535, 65535, 65535};
+    static const uint16_t want[10] = {17768, 291, 8463, 25923, 25631, 60584, 57072, 39612, 22136, 4660};
+    uint16_t digits[10] = {7, 7, 7, 7, 7, 7, 7, 7, 7, 7}, before[10];
+    uint64_t left[16] = {7}, right[16] = {7};
+    memcpy(before, digits, sizeof digits);
+    POSITION(NM_OK, 16, nm_product_scratch(10, &out));
+    POSITION(NM_OK, UINT64_C(4294967296), nm_product_scratch((size_t)UINT64_C(4294967296), &out));
+    POSITION(NM_BAD_ARGUMENT, 0, nm_product_scratch((size_t)UINT64_C(4294967297), &out));
+    CODE(NM_BAD_ARGUMENT, nm_product(xs, 6, ys, 4, digits, 9, left, 16, right, 16));
+    CODE(NM_BAD_ARGUMENT, nm_product(xs, 6, ys, 4, digits, 10, left, 15, right, 16));
+    CODE(NM_BAD_ARGUMENT, nm_product(xs, 6, ys, 4, digits, 10, left, 16, right, 8));
+    row("a refused product writes nothing", memcmp(digits, before, sizeof digits) == 0 && left[0] == 7 && right[0] == 7, 0);
+    CODE(NM_OK, nm_product(xs, 6, ys, 4, digits, 10, left, 16, right, 16));
+    row("the digits of the product", memcmp(digits, want, sizeof want) == 0, 0);
+}
+
+void user_rows(void) {
+    hash_rows();
+    decode_rows();
+    product_rows();
+}

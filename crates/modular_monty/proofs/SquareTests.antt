@@ -1,0 +1,46 @@
+-- Two reductions make 1 modulo m of the square of the base alone.
+use Rattle.std.proofs.Common.{◌≡◌, ℕ, ◌+◌, ◌*◌, ◌/◌, ◌%◌, ◌<◌, sym, ap, ◌∙◌, arith, refl, ⊎_elim}
+use Rattle.std.proofs.Math.Nat.{mod-lt, mod-eq_of_lt}
+use Rattle.std.proofs.lemmas.Bool.{cases_lt}
+use Rattle.modular_word.specs.Reduction.{IsReduction, IsNegatedInverse}
+use Rattle.modular_word.proofs.Congruence.{same_product, same_without_unit}
+use Rattle.modular_word.proofs.ReductionSteps.{base_inverse}
+
+module _ {b m i square t r s u : ℕ} (some : 0 < b) (inverse : IsNegatedInverse b m i) (below : square < m)
+    (first : t ≡ square) (once : IsReduction b m t r) (second : s ≡ r) (twice : IsReduction b m s u) where
+  -- the number that the first reduction makes, times the base
+  times_base : (r * b) % m ≡ square
+  times_base = once.congruent ∙ ap (λ n. n % m) first ∙ mod-eq_of_lt below
+
+  -- and the second
+  again : (u * b) % m ≡ r % m
+  again = twice.congruent ∙ ap (λ n. n % m) second
+
+  cancels : (x y : ℕ) → (x * b) % m ≡ (y * b) % m → x % m ≡ y % m
+  cancels x y e = same_without_unit m x y b ((m * i + 1) / b) (base_inverse b m i some inverse) e
+
+  -- of the square of the base they make 1
+  unit_of_square : square ≡ (b * b) % m → u ≡ 1 % m
+  unit_of_square e =
+      let base : r % m ≡ b % m = cancels r b (times_base ∙ e) in
+      let one : 1 * b ≡ b = omega arith in
+      sym (mod-eq_of_lt twice.below) ∙ cancels u 1 (again ∙ base ∙ ap (λ n. n % m) (sym one))
+
+  -- and what they make 1 of is that square
+  pub square_of_unit : u % m ≡ 1 % m → square ≡ (b * b) % m
+  square_of_unit e =
+      let one : 1 * b ≡ b = omega arith in
+      let base : r % m ≡ b % m = sym again ∙ same_product m u 1 b b e refl ∙ ap (λ n. n % m) one in
+      sym times_base ∙ same_product m r b b b base refl
+
+  -- modulo 1 there is one number alone
+  pub square_modulo_one : m ≡ 1 → square ≡ (b * b) % m
+  square_modulo_one e =
+      let least : 0 < m = omega (arith, e) in
+      omega (arith, e, below, mod-lt (b * b) least)
+
+  -- so where they don't make 1 of it the modulus is 1
+  pub modulus_is_one : (u ≡ 1 → ⊥) → square ≡ (b * b) % m → m ≡ 1
+  modulus_is_one other e =
+      let is = unit_of_square e in
+      ⊎_elim (λ above. absurd (other (is ∙ mod-eq_of_lt above))) (λ most. omega (arith, below, most)) (cases_lt 1 m)

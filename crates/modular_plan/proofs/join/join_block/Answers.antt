@@ -1,0 +1,22 @@
+use Rattle.std.proofs.Common.{arith}
+use Rattle.modular_plan.proofs.Steps.{block_none, block_more, block_all}
+use Rattle.modular_plan.proofs.join.join_block.Goals as goal
+
+pub columns-init : goal.columns-init
+columns-init g c = record {
+  entries = c.requires.entries;
+  done = λ w inverse. block_none _ c.args.first c.args.half _;
+}
+
+pub columns-preserved : goal.columns-preserved
+columns-preserved g c = record {
+  entries = c.join_pair.ensures.entries;
+  done = λ w inverse. block_more _ c.args.first c.args.half c.columns.i _ _ _ (omega arith)
+      (c.columns.invariant.done w inverse) (c.join_pair.ensures.done w inverse);
+}
+
+pub returns : goal.returns
+returns g c = record {
+  entries = c.columns.invariant.entries;
+  done = λ w inverse. block_all (c.columns.invariant.done w inverse) (omega arith);
+}

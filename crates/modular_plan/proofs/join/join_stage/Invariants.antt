@@ -1,0 +1,16 @@
+use Rattle.std.proofs.Common.{ℕ, ◌+◌, ◌*◌, ◌<◌, All, length}
+use Rattle.modular_plan.specs.Plans.{numbers, IsPlan}
+use Rattle.modular_plan.specs.Steps.{IsPairJoin, StageDone}
+use Rattle.modular_plan.proofs.join.join_stage.Given as goal
+
+-- the first p blocks are done
+abbrev pub invariant-each_block : goal.invariant-each_block
+invariant-each_block g l =
+    let number = g.T.RingWord.number in
+    let m = number l.m.modulus in
+    let w = numbers (λ f. number f.value) l.table in
+    record {
+      entries : All (λ x. number x < 4 * m) l.xs;
+      done : (g z : ℕ) → IsPlan m g z (length l.table) w
+          → StageDone (λ p. IsPairJoin m (w (l.first + p))) l.half l.p (numbers number l.fn.xs) (numbers number l.xs);
+    }

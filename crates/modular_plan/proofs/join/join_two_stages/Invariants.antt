@@ -1,0 +1,17 @@
+use Rattle.std.proofs.Common.{ℕ, ◌+◌, ◌*◌, ◌<◌, All, length}
+use Rattle.modular_plan.specs.Plans.{numbers, IsPlan}
+use Rattle.modular_plan.specs.Steps.{IsFourJoin, StageOfFours}
+use Rattle.modular_plan.proofs.join.join_two_stages.Given as goal
+
+-- the first p blocks are done
+abbrev pub invariant-four_quarters : goal.invariant-four_quarters
+invariant-four_quarters g l =
+    let number = g.T.RingWord.number in
+    let m = number l.m.modulus in
+    let w = numbers (λ f. number f.value) l.table in
+    record {
+      entries : All (λ x. number x < 4 * m) l.xs;
+      done : (g z : ℕ) → IsPlan m g z (length l.table) w
+          → StageOfFours (λ p. IsFourJoin m (w (l.first + p)) (w (2 * (l.first + p))) (w (2 * (l.first + p) + 1))) l.q
+          l.p (numbers number l.fn.xs) (numbers number l.xs);
+    }

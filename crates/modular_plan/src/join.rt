@@ -1,0 +1,352 @@
+//! From remainders modulo X^last - c back to the polynomial, in place, by stages.
+
+ghost use Rattle.std.specs.Prelude.{◌≡◌, ℕ, ◌+◌, ◌*◌, ◌/◌, ◌%◌, ◌<◌, ◌≤◌, All, length};
+ghost use Rattle.std.specs.Int.{IsPowerOfTwo};
+ghost use Rattle.modular_word.specs.Congruence.{Congruent};
+ghost use Rattle.modular_plan.specs.Factors.{IsFactor};
+ghost use Rattle.modular_plan.specs.Plans.{numbers, IsPlan, AreRemainders};
+ghost use Rattle.modular_plan.specs.Steps.{IsPairJoin, IsFourJoin, IsMinusInverse, PairDone};
+ghost use Rattle.modular_plan.specs.Steps.{BlockDone, StageDone, FourDone, BlockOfFours, StageOfFours};
+
+use crate::modulus::{Factor, PlannedModulus, reduced_once};
+use crate::split::reduce_each;
+use modular_prim::plain_word::PlainWord;
+use modular_word::path_word::PathWord;
+use modular_word::ring_word::RingWord;
+
+// Minus the inverse of an entry: the one at the place mirrored in its power of two, and -1 for the
+// first. Where the table is no plan the mirrored place may lie behind it.
+fn minus_inverse<T: PlainWord>(
+    m: &PlannedModulus<T>,
+    table: &[Factor<T>],
+    place: usize,
+    minus: Factor<T>,
+) -> Factor<T>
+    requires factors { All (λ f. IsFactor T.base (T.number m.now.modulus) (T.number f.value) (T.number f.quotient))
+        table.now }
+    requires minus_factor { IsFactor T.base (T.number m.now.modulus) (T.number minus.value) (T.number minus.quotient) }
+    requires minus { T.number minus.value + 1 ≡ T.number m.now.modulus }
+    requires within { place < length table.now }
+    ensures factor { IsFactor T.base (T.number m.now.modulus) (T.number result.value) (T.number result.quotient) }
+    ensures inverse { let modulus = T.number m.now.modulus in
+        let w = numbers (λ f. T.number f.value) table.now in (g z : ℕ) →
+        IsPlan modulus g z (length table.now) w → IsMinusInverse modulus (w place) (T.number result.value) }
+{
+    if place == 0 {
+        return minus;
+    }
+    let power = 1 << place.ilog2();
+    let mirrored = power + (power - 1 - (place - power));
+    if mirrored < table.len() {
+        table[mirrored]
+    } else {
+        minus
+    }
+}
+
+// x + y and (y - x)·v, below 4m.
+fn join_values<T: PlainWord>(m: &PlannedModulus<T>, x: T, y: T, v: &Factor<T>) -> (T, T)
+    requires below { T.number x < 4 * T.number m.now.modulus }
+    requires other_below { T.number y < 4 * T.number m.now.modulus }
+    requires factor { IsFactor T.base (T.number m.now.modulus) (T.number v.now.value) (T.number v.now.quotient) }
+    ensures below { T.number result.0 < 4 * T.number m.now.modulus }
+    ensures product_below { T.number result.1 < 4 * T.number m.now.modulus }
+    ensures pair { (w : ℕ) → IsMinusInverse (T.number m.now.modulus) w (T.number v.now.value) →
+        IsPairJoin (T.number m.now.modulus) w (T.number x) (T.number y) (T.number result.0) (T.number result.1) }
+{
+    let twice = m.twice();
+    let x = reduced_once(x, twice);
+    let y = reduced_once(y, twice);
+    (x.plus(y), m.times(y.plus(twice.minus(x)), v))
+}
+
+// The pair at two places.
+fn join_pair<T: PlainWord>(
+    m: &PlannedModulus<T>,
+    xs: &mut [T],
+    low: usize,
+    high: usize,
+    v: &Factor<T>,
+)
+    requires entries { All (λ x. T.number x < 4 * T.number m.now.modulus) xs.old }
+    requires factor { IsFactor T.base (T.number m.now.modulus) (T.number v.now.value) (T.number v.now.quotient) }
+    requires order { low < high }
+    requires within { high < length xs.old }
+    ensures entries { All (λ x. T.number x < 4 * T.number m.now.modulus) xs.new }
+    ensures done { (w : ℕ) → IsMinusInverse (T.number m.now.modulus) w (T.number v.now.value) →
+        PairDone (IsPairJoin (T.number m.now.modulus) w) low high (numbers T.number xs.old) (numbers T.number xs.new) }
+{
+    let (sum, product) = join_values(m, xs[low], xs[high], v);
+    xs[high] = product;
+    xs[low] = sum;
+}
+
+// The pairs of the block from place `first` on.
+fn join_block<T: PlainWord>(
+    m: &PlannedModulus<T>,
+    xs: &mut [T],
+    first: usize,
+    half: usize,
+    v: &Factor<T>,
+)
+    requires entries { All (λ x. T.number x < 4 * T.number m.now.modulus) xs.old }
+    requires factor { IsFactor T.base (T.number m.now.modulus) (T.number v.now.value) (T.number v.now.quotient) }
+    requires within { first + (half + half) ≤ length xs.old }
+    ensures entries { All (λ x. T.number x < 4 * T.number m.now.modulus) xs.new }
+    ensures done { (w : ℕ) → IsMinusInverse (T.number m.now.modulus) w (T.number v.now.value) →
+        BlockDone (IsPairJoin (T.number m.now.modulus) w) first half half
+        (numbers T.number xs.old) (numbers T.number xs.new) }
+{
+    'columns: for i in 0..half {
+        join_pair(m, xs, first + i, first + (half + i), v);
+    }
+}
+
+// All blocks of a stage, block p by entry first + p of the table.
+fn join_stage<T: PlainWord>(
+    m: &PlannedModulus<T>,
+    xs: &mut [T],
+    half: usize,
+    blocks: usize,
+    table: &[Factor<T>],
+    first: usize,
+    minus: &Factor<T>,
+)
+    requires entries { All (λ x. T.number x < 4 * T.number m.now.modulus) xs.old }
+    requires factors { All (λ f. IsFactor T.base (T.number m.now.modulus) (T.number f.value) (T.number f.quotient))
+        table.now }
+    requires minus_factor { IsFactor T.base (T.number m.now.modulus)
+        (T.number minus.now.value) (T.number minus.now.quotient) }
+    requires minus { T.number minus.now.value + 1 ≡ T.number m.now.modulus }
+    requires whole { blocks * (half + half) ≡ length xs.old }
+    requires within { first + blocks ≤ length table.now }
+    requires some { 0 < half }
+    ensures entries { All (λ x. T.number x < 4 * T.number m.now.modulus) xs.new }
+    ensures done { let modulus = T.number m.now.modulus in
+        let w = numbers (λ f. T.number f.value) table.now in (g z : ℕ) →
+        IsPlan modulus g z (length table.now) w →
+        StageDone (λ p. IsPairJoin modulus (w (first + p))) half blocks
+        (numbers T.number xs.old) (numbers T.number xs.new) }
+{
+    'each_block: for p in 0..blocks {
+        let v = minus_inverse(m, table, first + p, *minus);
+        join_block(m, xs, p * (half + half), half, &v);
+    }
+}
+
+// The entries at four places, a quarter of a block apart: by minus the inverses of the factors of the
+// block's halves, and of its own.
+fn join_four<T: PlainWord>(
+    m: &PlannedModulus<T>,
+    xs: &mut [T],
+    places: (usize, usize, usize, usize),
+    w: &Factor<T>,
+    u: &Factor<T>,
+    v: &Factor<T>,
+)
+    requires entries { All (λ x. T.number x < 4 * T.number m.now.modulus) xs.old }
+    requires factor { IsFactor T.base (T.number m.now.modulus) (T.number w.now.value) (T.number w.now.quotient) }
+    requires low_factor { IsFactor T.base (T.number m.now.modulus) (T.number u.now.value) (T.number u.now.quotient) }
+    requires high_factor { IsFactor T.base (T.number m.now.modulus) (T.number v.now.value) (T.number v.now.quotient) }
+    requires order { (places.0 < places.1) × (places.1 < places.2) × (places.2 < places.3) }
+    requires within { places.3 < length xs.old }
+    ensures entries { All (λ x. T.number x < 4 * T.number m.now.modulus) xs.new }
+    ensures done { let modulus = T.number m.now.modulus in (a b c : ℕ) →
+        IsMinusInverse modulus a (T.number w.now.value) → IsMinusInverse modulus b (T.number u.now.value)
+        → IsMinusInverse modulus c (T.number v.now.value) →
+        FourDone (IsFourJoin modulus a b c) places.0 places.1 places.2 places.3
+        (numbers T.number xs.old) (numbers T.number xs.new) }
+{
+    let (i, j, k, l) = places;
+    let (e, f) = join_values(m, xs[i], xs[j], u);
+    let (g, h) = join_values(m, xs[k], xs[l], v);
+    let (a, c) = join_values(m, e, g, w);
+    let (b, d) = join_values(m, f, h, w);
+    xs[l] = d;
+    xs[k] = c;
+    xs[j] = b;
+    xs[i] = a;
+}
+
+// Two stages of the block of four times q entries from place `first` on.
+fn join_quarters<T: PlainWord>(
+    m: &PlannedModulus<T>,
+    xs: &mut [T],
+    first: usize,
+    q: usize,
+    w: &Factor<T>,
+    u: &Factor<T>,
+    v: &Factor<T>,
+)
+    requires entries { All (λ x. T.number x < 4 * T.number m.now.modulus) xs.old }
+    requires factor { IsFactor T.base (T.number m.now.modulus) (T.number w.now.value) (T.number w.now.quotient) }
+    requires low_factor { IsFactor T.base (T.number m.now.modulus) (T.number u.now.value) (T.number u.now.quotient) }
+    requires high_factor { IsFactor T.base (T.number m.now.modulus) (T.number v.now.value) (T.number v.now.quotient) }
+    requires within { first + (q + q + (q + q)) ≤ length xs.old }
+    ensures entries { All (λ x. T.number x < 4 * T.number m.now.modulus) xs.new }
+    ensures done { let modulus = T.number m.now.modulus in (a b c : ℕ) →
+        IsMinusInverse modulus a (T.number w.now.value) → IsMinusInverse modulus b (T.number u.now.value)
+        → IsMinusInverse modulus c (T.number v.now.value) →
+        BlockOfFours (IsFourJoin modulus a b c) first q q (numbers T.number xs.old) (numbers T.number xs.new) }
+{
+    'columns_of_four: for i in 0..q {
+        let low = first + i;
+        let high = first + (q + q + i);
+        join_four(
+            m,
+            xs,
+            (low, first + (q + i), high, first + (q + q + (q + i))),
+            w,
+            u,
+            v,
+        );
+    }
+}
+
+// Two stages of all blocks, block p by entry first + p of the table, and its halves by the entries at
+// twice that place.
+fn join_two_stages<T: PlainWord>(
+    m: &PlannedModulus<T>,
+    xs: &mut [T],
+    q: usize,
+    blocks: usize,
+    table: &[Factor<T>],
+    first: usize,
+    minus: &Factor<T>,
+)
+    requires entries { All (λ x. T.number x < 4 * T.number m.now.modulus) xs.old }
+    requires factors { All (λ f. IsFactor T.base (T.number m.now.modulus) (T.number f.value) (T.number f.quotient))
+        table.now }
+    requires minus_factor { IsFactor T.base (T.number m.now.modulus)
+        (T.number minus.now.value) (T.number minus.now.quotient) }
+    requires minus { T.number minus.now.value + 1 ≡ T.number m.now.modulus }
+    requires whole { blocks * (q + q + (q + q)) ≡ length xs.old }
+    requires within { 2 * (first + blocks) ≤ length table.now }
+    requires some { 0 < q }
+    ensures entries { All (λ x. T.number x < 4 * T.number m.now.modulus) xs.new }
+    ensures done { let modulus = T.number m.now.modulus in
+        let w = numbers (λ f. T.number f.value) table.now in (g z : ℕ) →
+        IsPlan modulus g z (length table.now) w →
+        StageOfFours (λ p. IsFourJoin modulus (w (first + p)) (w (2 * (first + p))) (w (2 * (first + p) + 1))) q blocks
+        (numbers T.number xs.old) (numbers T.number xs.new) }
+{
+    'four_quarters: for p in 0..blocks {
+        let place = first + p;
+        let w = minus_inverse(m, table, place, *minus);
+        let u = minus_inverse(m, table, 2 * place, *minus);
+        let v = minus_inverse(m, table, 2 * place + 1, *minus);
+        join_quarters(m, xs, p * (q + q + (q + q)), q, &w, &u, &v);
+    }
+}
+
+// All stages: the number of blocks times the list whose remainders the entries are, below 4m.
+fn join_stages<T: PlainWord>(
+    m: &PlannedModulus<T>,
+    xs: &mut [T],
+    table: &[Factor<T>],
+    b: usize,
+    last: usize,
+)
+    requires entries { All (λ x. T.number x < 4 * T.number m.now.modulus) xs.old }
+    requires factors { All (λ f. IsFactor T.base (T.number m.now.modulus) (T.number f.value) (T.number f.quotient))
+        table.now }
+    requires some { 1 ≤ last }
+    requires count { IsPowerOfTwo (length xs.old / last) }
+    requires whole { length xs.old / last * last ≡ length xs.old }
+    requires within { (b + 1) * (length xs.old / last / 2) ≤ length table.now }
+    ensures entries { All (λ x. T.number x < 4 * T.number m.now.modulus) xs.new }
+    ensures joined { let modulus = T.number m.now.modulus in (g z : ℕ) (x : ℕ → ℕ) →
+        IsPlan modulus g z (length table.now) (numbers (λ f. T.number f.value) table.now) →
+        AreRemainders modulus g z b (length xs.old / last) last x (λ i. numbers T.number xs.old i % modulus) →
+        (i : ℕ) → i < length xs.old → Congruent modulus (numbers T.number xs.new i) (length xs.old / last * x i) }
+{
+    let minus = m.factor(m.modulus.minus(T::one()));
+    let mut size = last;
+    let mut blocks = xs.len() / last;
+    'stages: while size < xs.len() {
+        if 2 < blocks {
+            blocks /= 4;
+            join_two_stages(m, xs, size, blocks, table, b * blocks, &minus);
+            size *= 4;
+        } else {
+            blocks /= 2;
+            join_stage(m, xs, size, blocks, table, b * blocks, &minus);
+            size *= 2;
+        }
+    }
+}
+
+// Each entry's product with a factor.
+fn scale_each<T: PlainWord>(m: &PlannedModulus<T>, xs: &mut [T], w: &Factor<T>)
+    requires { IsFactor T.base (T.number m.now.modulus) (T.number w.now.value) (T.number w.now.quotient) }
+    ensures products { (i : ℕ) → i < length xs.old →
+        numbers T.number xs.new i ≡ (numbers T.number xs.old i * T.number w.now.value) % T.number m.now.modulus }
+    ensures below { All (λ x. T.number x < T.number m.now.modulus) xs.new }
+{
+    'entries: for i in 0..xs.len() {
+        xs[i] = m.product(xs[i], w);
+    }
+}
+
+/// Joins the blocks of `last` entries into block b of the tree of remainders, the way back from
+/// `split`: where the entries are the remainders of a polynomial modulo X^last - c, as `split` has
+/// them, entry i becomes its coefficient x_i times the number of blocks, modulo m.
+///
+/// The table is the plan by g that they were split by, or a longer one. Conditions: those of `split`
+/// (`splits` tells); the entries are below 4m.
+///
+/// Source: each step undoes one of `split` but for the factor 2 (Gentleman and Sande, "Fast Fourier
+/// transforms: for fun and profit", section 2). A pass over the list does two stages where two are left.
+pub fn join<T: PlainWord>(
+    m: &PlannedModulus<T>,
+    xs: &mut [T],
+    table: &[Factor<T>],
+    b: usize,
+    last: usize,
+)
+    requires entries { All (λ x. T.number x < 4 * T.number m.now.modulus) xs.old }
+    requires factors { All (λ f. IsFactor T.base (T.number m.now.modulus) (T.number f.value) (T.number f.quotient))
+        table.now }
+    requires some { 1 ≤ last }
+    requires count { IsPowerOfTwo (length xs.old / last) }
+    requires whole { length xs.old / last * last ≡ length xs.old }
+    requires within { (b + 1) * (length xs.old / last / 2) ≤ length table.now }
+    ensures below { All (λ x. T.number x < T.number m.now.modulus) xs.new }
+    ensures joined { let modulus = T.number m.now.modulus in (g z : ℕ) (x : ℕ → ℕ) →
+        IsPlan modulus g z (length table.now) (numbers (λ f. T.number f.value) table.now) →
+        AreRemainders modulus g z b (length xs.old / last) last x (λ i. numbers T.number xs.old i % modulus) →
+        (i : ℕ) → i < length xs.old → numbers T.number xs.new i ≡ (length xs.old / last * x i) % modulus }
+{
+    join_stages(m, xs, table, b, last);
+    reduce_each(m, xs);
+}
+
+/// Joins the blocks as `join` does, each coefficient times a factor: by the inverse modulo m of the
+/// number of blocks they are the coefficients themselves. Conditions: those of `join`; w is a factor
+/// modulo m.
+pub fn join_scaled<T: PlainWord>(
+    m: &PlannedModulus<T>,
+    xs: &mut [T],
+    table: &[Factor<T>],
+    b: usize,
+    last: usize,
+    w: &Factor<T>,
+)
+    requires entries { All (λ x. T.number x < 4 * T.number m.now.modulus) xs.old }
+    requires factors { All (λ f. IsFactor T.base (T.number m.now.modulus) (T.number f.value) (T.number f.quotient))
+        table.now }
+    requires some { 1 ≤ last }
+    requires count { IsPowerOfTwo (length xs.old / last) }
+    requires whole { length xs.old / last * last ≡ length xs.old }
+    requires within { (b + 1) * (length xs.old / last / 2) ≤ length table.now }
+    requires factor { IsFactor T.base (T.number m.now.modulus) (T.number w.now.value) (T.number w.now.quotient) }
+    ensures below { All (λ x. T.number x < T.number m.now.modulus) xs.new }
+    ensures joined { let modulus = T.number m.now.modulus in (g z : ℕ) (x : ℕ → ℕ) →
+        IsPlan modulus g z (length table.now) (numbers (λ f. T.number f.value) table.now) →
+        AreRemainders modulus g z b (length xs.old / last) last x (λ i. numbers T.number xs.old i % modulus) →
+        (i : ℕ) → i < length xs.old
+        → numbers T.number xs.new i ≡ (length xs.old / last * x i * T.number w.now.value) % modulus }
+{
+    join_stages(m, xs, table, b, last);
+    scale_each(m, xs, w);
+}

@@ -1,0 +1,127 @@
+//! Products of blocks: of polynomials modulo X^last - c.
+
+ghost use Rattle.std.specs.Prelude.{◌≡◌, ℕ, ◌+◌, ◌*◌, ◌/◌, ◌%◌, ◌^◌, ◌<◌, ◌≤◌, All, length};
+ghost use Rattle.modular_word.specs.Congruence.{Congruent};
+ghost use Rattle.modular_plan.specs.Factors.{IsFactor};
+ghost use Rattle.modular_plan.specs.Plans.{numbers, constant, IsPlan};
+ghost use Rattle.modular_plan.specs.Products.{AreProducts};
+ghost use Rattle.modular_plan.specs.Steps.{PairDone};
+
+use crate::modulus::{Factor, PlannedModulus, reduced_once};
+use modular_prim::plain_word::PlainWord;
+use modular_word::path_word::PathWord;
+
+// Each entry times the one at its place.
+fn multiply_each<T: PlainWord>(m: &PlannedModulus<T>, xs: &mut [T], ys: &[T])
+    requires below { All (λ x. T.number x < T.number m.now.modulus) xs.old }
+    requires equal { length ys.now ≡ length xs.old }
+    ensures products { (i : ℕ) → i < length xs.old →
+        numbers T.number xs.new i ≡ (numbers T.number xs.old i * numbers T.number ys.now i) % T.number m.now.modulus }
+    ensures below { All (λ x. T.number x < T.number m.now.modulus) xs.new }
+{
+    'entries: for i in 0..xs.len() {
+        xs[i] = m.multiply(xs[i], ys[i]);
+    }
+}
+
+// The constant of block b·count + j of the tree, below or at m: an entry of the plan, or minus it.
+fn block_constant<T: PlainWord>(
+    m: &PlannedModulus<T>,
+    table: &[Factor<T>],
+    b: usize,
+    count: usize,
+    j: usize,
+) -> T
+    requires factors { All (λ f. IsFactor T.base (T.number m.now.modulus) (T.number f.value) (T.number f.quotient))
+        table.now }
+    requires block { j < count }
+    requires fits { count + count < 2 ^ 64 }
+    requires within { (b + 1) * count ≤ 2 * length table.now }
+    ensures { let modulus = T.number m.now.modulus in (g z : ℕ) →
+        IsPlan modulus g z (length table.now) (numbers (λ f. T.number f.value) table.now) →
+        Congruent modulus (T.number result) (constant g z (b * count + j)) }
+{
+    let rest = b % 2 * count + j;
+    let w = table[b / 2 * count + rest / 2].value;
+    if rest % 2 == 0 { w } else { m.modulus.minus(w) }
+}
+
+// The polynomial x_0 + x_1·X, from a place on, times the one of the other list, modulo X^2 - c.
+fn multiply_pair<T: PlainWord>(m: &PlannedModulus<T>, xs: &mut [T], ys: &[T], place: usize, c: T)
+    requires below { All (λ x. T.number x < T.number m.now.modulus) xs.old }
+    requires equal { length ys.now ≡ length xs.old }
+    requires within { place + 1 < length xs.old }
+    ensures below { All (λ x. T.number x < T.number m.now.modulus) xs.new }
+    ensures done { let x = numbers T.number xs.old in let y = numbers T.number ys.now in
+        PairDone (λ u v s t. (s ≡ (u * y place + T.number c * (v * y (place + 1))) % T.number m.now.modulus)
+        × (t ≡ (u * y (place + 1) + v * y place) % T.number m.now.modulus)) place
+        (place + 1) x (numbers T.number xs.new) }
+{
+    let (x, y) = (xs[place], ys[place]);
+    let (u, v) = (xs[place + 1], ys[place + 1]);
+    let turned = m.multiply(m.multiply(u, v), c);
+    xs[place + 1] = reduced_once(m.multiply(x, v).plus(m.multiply(u, y)), m.modulus);
+    xs[place] = reduced_once(m.multiply(x, y).plus(turned), m.modulus);
+}
+
+// The products of blocks of two entries.
+fn multiply_pairs<T: PlainWord>(
+    m: &PlannedModulus<T>,
+    xs: &mut [T],
+    ys: &[T],
+    table: &[Factor<T>],
+    b: usize,
+)
+    requires below { All (λ x. T.number x < T.number m.now.modulus) xs.old }
+    requires factors { All (λ f. IsFactor T.base (T.number m.now.modulus) (T.number f.value) (T.number f.quotient))
+        table.now }
+    requires equal { length ys.now ≡ length xs.old }
+    requires within { (b + 1) * (length xs.old / 2) ≤ 2 * length table.now }
+    ensures below { All (λ x. T.number x < T.number m.now.modulus) xs.new }
+    ensures products { let modulus = T.number m.now.modulus in (g z : ℕ) →
+        IsPlan modulus g z (length table.now) (numbers (λ f. T.number f.value) table.now) →
+        AreProducts modulus g z b (length xs.old / 2) 2 (numbers T.number xs.old)
+        (numbers T.number ys.now) (numbers T.number xs.new) }
+{
+    let count = xs.len() / 2;
+    'each_block: for j in 0..count {
+        let c = block_constant(m, table, b, count, j);
+        multiply_pair(m, xs, ys, 2 * j, c);
+    }
+}
+
+/// Multiplies the blocks of `last` entries of the two lists, below block b of the tree of remainders,
+/// as polynomials modulo X^last - c, the constants c being those of `split`. So the products of two
+/// lists of remainders are the remainders of a product.
+///
+/// Conditions: `last` is 1 or 2; the lists have one length, a multiple of `last`; the entries of xs are
+/// below m; the table's entries are factors modulo m, and there are (b + 1)·count/2 of them or more, count
+/// being the number of blocks. For `last` = 1 each entry is multiplied by the one at its place.
+pub fn multiply<T: PlainWord>(
+    m: &PlannedModulus<T>,
+    xs: &mut [T],
+    ys: &[T],
+    table: &[Factor<T>],
+    b: usize,
+    last: usize,
+)
+    requires below { All (λ x. T.number x < T.number m.now.modulus) xs.old }
+    requires factors { All (λ f. IsFactor T.base (T.number m.now.modulus) (T.number f.value) (T.number f.quotient))
+        table.now }
+    requires equal { length ys.now ≡ length xs.old }
+    requires some { 1 ≤ last }
+    requires few { last ≤ 2 }
+    requires whole { length xs.old / last * last ≡ length xs.old }
+    requires within { (b + 1) * (length xs.old / last) ≤ 2 * length table.now }
+    ensures below { All (λ x. T.number x < T.number m.now.modulus) xs.new }
+    ensures products { let modulus = T.number m.now.modulus in (g z : ℕ) →
+        IsPlan modulus g z (length table.now) (numbers (λ f. T.number f.value) table.now) →
+        AreProducts modulus g z b (length xs.old / last) last (numbers T.number xs.old)
+        (numbers T.number ys.now) (numbers T.number xs.new) }
+{
+    if last == 1 {
+        multiply_each(m, xs, ys);
+    } else {
+        multiply_pairs(m, xs, ys, table, b);
+    }
+}

@@ -1,0 +1,410 @@
+-- What the loop of differences keeps of a pair, and what is read off its last one.
+use Rattle.std.proofs.Common.{◌≡◌, ◌≢◌, ℕ, Bool, true, false, not, zero, suc, ◌+◌, ◌-◌, ◌*◌, ◌/◌, ◌%◌, ◌^◌}
+use Rattle.std.proofs.Common.{◌<◌, ◌≤◌, Option, Some, None, sym, ap, ◌∙◌, refl, arith, subst, ⊎_elim}
+use Rattle.std.proofs.Math.Nat.{mul-le-mul_left, mul-le-mul_right, pow-le-pow_right, pow-suc, pow-zero, mod_self}
+use Rattle.std.proofs.Math.Nat.{add-mul-mod_self_left, div-add-mod, mod-one}
+use Rattle.std.proofs.lemmas.Bool.{cases_lt}
+use Rattle.std.proofs.lemmas.Nat.{pow_pos, pow-add, mul-pow, trailing_le, mul-mod_first}
+use Rattle.std.specs.Int.Count.{count_trailing_zeros}
+use mathlib.Core.Bool.{beq}
+use lib.Count.{under}
+use Rattle.modular_word.specs.Congruence.{Congruent}
+use Rattle.modular_word.specs.Inverses.{IsInverse, IsInversion}
+use Rattle.modular_word.specs.Reduction.{IsReduction}
+use Rattle.modular_word.proofs.Congruence.{of_equal, itself, turned, chained, added, multiplied, powered}
+use Rattle.modular_word.proofs.Congruence.{cancelled, cancelled_unit}
+use Rattle.modular_word.proofs.Divisors.{divides, divides_sum, divides_rest, divides_product, multiple_of}
+use Rattle.modular_word.proofs.Divisors.{Coprime-from_IsInverse}
+use Rattle.modular_word.proofs.Powers.{one-pow}
+use Rattle.modular_prim.specs.Differences.{CongruentBySign, IsPair, PairFits}
+
+-- ---- the trailing zeros
+-- the power of two that they make divides the number
+zeros_step : (n k t : ℕ) → (n / 2) % 2 ^ t ≡ 0 → (r : ℕ) → r ≡ n % 2 → n % 2 ^ under r t ≡ 0
+zeros_step n k t h zero e =
+    let q = n / 2 / 2 ^ t in
+    let half : n / 2 ≡ 2 ^ t * q = multiple_of (2 ^ t) (n / 2) h in
+    let power : 2 ^ suc t ≡ 2 ^ t * 2 = pow-suc 2 t in
+    let scaled : 2 ^ suc t * q ≡ 2 ^ t * 2 * q = ap (λ v. v * q) power in
+    divides (2 ^ suc t) n q (omega arith)
+zeros_step n k t h (suc r) e = ap (λ v. n % v) (pow-zero 2) ∙ mod-one n
+
+pub zeros_divide : (w n : ℕ) → n % 2 ^ count_trailing_zeros w n ≡ 0
+unfolding count_trailing_zeros
+zeros_divide zero n = ap (λ v. n % v) (pow-zero 2) ∙ mod-one n
+zeros_divide (suc w) n =
+    zeros_step n w (count_trailing_zeros w (n / 2)) (zeros_divide w (n / 2)) (n % 2) refl
+
+-- a power of at most the width divides the base
+base_divided : (w t : ℕ) → t ≤ w → 2 ^ w % 2 ^ t ≡ 0
+base_divided w t h =
+    divides (2 ^ t) (2 ^ w) (2 ^ (w - t))
+    (ap (λ v. 2 ^ v) (let s : w ≡ t + (w - t) = omega arith in s) ∙ pow-add 2 t (w - t))
+
+-- v is the difference of a and b modulo the base, 2 ^ w: its zeros are those of the difference d
+zeros_of_wrapped : (w base v a b t : ℕ) → base ≡ 2 ^ w → (v + b) % base ≡ a → t ≡ count_trailing_zeros w v
+    → (v % 2 ^ t ≡ 0) × ((base * ((v + b) / base)) % 2 ^ t ≡ 0) × (base * ((v + b) / base) + a ≡ v + b)
+zeros_of_wrapped w base v a b t eb ev et =
+    let most : t ≤ w = omega (arith, trailing_le w v) in
+    let f : base * ((v + b) / base) + (v + b) % base ≡ v + b = div-add-mod (v + b) base in (
+      ap (λ k. v % 2 ^ k) et ∙ zeros_divide w v,
+      divides_product (2 ^ t) base ((v + b) / base) (ap (λ k. k % 2 ^ t) eb ∙ base_divided w t most),
+      omega arith,
+    )
+
+pub zeros_above : (w base v a b d t : ℕ) → base ≡ 2 ^ w → (v + b) % base ≡ a → t ≡ count_trailing_zeros w v
+    → d + b ≡ a → d % 2 ^ t ≡ 0
+zeros_above w base v a b d t eb ev et e =
+    let z = zeros_of_wrapped w base v a b t eb ev et in
+    let s : base * ((v + b) / base) + d ≡ v = omega (arith, z.2) in
+    divides_rest (2 ^ t) (base * ((v + b) / base)) d z.1 (ap (λ k. k % 2 ^ t) s ∙ z.0)
+
+pub zeros_below : (w base v a b d t : ℕ) → base ≡ 2 ^ w → (v + b) % base ≡ a → t ≡ count_trailing_zeros w v
+    → d + a ≡ b → d % 2 ^ t ≡ 0
+zeros_below w base v a b d t eb ev et e =
+    let z = zeros_of_wrapped w base v a b t eb ev et in
+    let s : v + d ≡ base * ((v + b) / base) = omega (arith, z.2) in
+    divides_rest (2 ^ t) v d z.0 (ap (λ k. k % 2 ^ t) s ∙ z.1)
+
+-- a positive number without a power of two that divides it
+pub record Without (d t o : ℕ) : Type 0 where
+  pub whole : o * 2 ^ t ≡ d
+  pub some : 0 < o
+  pub within : o ≤ d
+
+pub without : (d t o : ℕ) → 0 < d → d % 2 ^ t ≡ 0 → o ≡ d / 2 ^ t → Without d t o
+without d t o p h e =
+    let m : d ≡ 2 ^ t * (d / 2 ^ t) = multiple_of (2 ^ t) d h in
+    let f : 2 ^ t * o ≡ 2 ^ t * (d / 2 ^ t) = ap (λ v. 2 ^ t * v) e in
+    let one : o * 1 ≤ o * 2 ^ t = mul-le-mul_left o (pow_pos t) in
+    let some : 0 < o =
+    ⊎_elim (λ (l : 0 < o). l)
+    (λ (l : o ≤ 0). let z : o * 2 ^ t ≤ 0 * 2 ^ t = mul-le-mul_right (2 ^ t) l in absurd (omega arith))
+    (cases_lt 0 o) in
+    record {
+      whole = omega arith;
+      some = some;
+      within = omega arith;
+    }
+
+-- the power is one of fewer bits than the number has
+pub fewer_zeros : (w d t o : ℕ) → Without d t o → d < 2 ^ w → t < w
+fewer_zeros w d t o h l =
+    ⊎_elim (λ (b : t < w). b)
+    (λ (b : w ≤ t).
+    let p : 2 ^ w ≤ 2 ^ t = pow-le-pow_right {n = 2} (omega arith) b in
+    let one : 1 * 2 ^ t ≤ o * 2 ^ t = mul-le-mul_right (2 ^ t) h.some in
+    absurd (omega (arith, h.whole)))
+    (cases_lt t w)
+
+-- ---- signs
+turned_twice : (m : ℕ) (s : Bool) (p q : ℕ) → CongruentBySign m s p q → CongruentBySign m (not (not s)) p q
+turned_twice m true p q h = h
+turned_twice m false p q h = h
+
+scaled : (m : ℕ) (s : Bool) (p q c : ℕ) → CongruentBySign m s p q → CongruentBySign m s (p * c) (q * c)
+scaled m true p q c h =
+    let e : p * c + q * c ≡ (p + q) * c = omega arith in
+    let z : 0 * c ≡ 0 = omega arith in
+    chained (of_equal e) (chained (multiplied h (itself c)) (of_equal z))
+scaled m false p q c h = multiplied h (itself c)
+
+difference : (m : ℕ) (s : Bool) (d b a p q : ℕ) → d + b ≡ a → CongruentBySign m s a p → CongruentBySign m (not s) b q
+    → CongruentBySign m s d (p + q)
+difference m true d b a p q e h l =
+    let f : d + (p + q) ≡ d + p + q = omega arith in
+    let g : d + p + b ≡ a + p = omega arith in
+    chained (of_equal f) (chained (added (itself (d + p)) (turned l)) (chained (of_equal g) h))
+difference m false d b a p q e h l =
+    let f : d ≡ d + 0 = omega arith in
+    let g : d + (b + q) ≡ a + q = omega arith in
+    chained (of_equal f) (chained (added (itself d) (turned l)) (chained (of_equal g) (added h (itself q))))
+
+-- ---- a turn of the loop
+-- the numbers change places
+pub pair_turned : (m x a b u v k : ℕ) (s : Bool) → IsPair m x a b u v k s → IsPair m x b a v u k (not s)
+pair_turned m x a b u v k s p = record {
+  whole = omega (arith, p.whole);
+  above = p.below;
+  below = turned_twice m s (a * 2 ^ k) (u * x) p.above;
+  common = λ d g h. p.common d h g;
+}
+
+pub fits_turned : (base a b u v k : ℕ) → PairFits base a b u v k → PairFits base b a v u k
+fits_turned base a b u v k f =
+    let e : b * a * 2 ^ k ≡ a * b * 2 ^ k = omega arith in
+    record {
+      above_some = f.below_some;
+      below_some = f.above_some;
+      above_factor = f.below_factor;
+      below_factor = f.above_factor;
+      factors = omega (arith, f.factors);
+      twos = omega (arith, f.twos);
+    }
+
+-- the difference without its twos takes the place of the greater number
+factors_same : (a b u v d t o : ℕ) → d + b ≡ a → o * 2 ^ t ≡ d → o * (v * 2 ^ t) + b * (u + v) ≡ a * v + b * u
+factors_same a b u v d t o e h =
+    let f : o * 2 ^ t * v ≡ d * v = ap (λ n. n * v) h in
+    let g : (d + b) * v ≡ a * v = ap (λ n. n * v) e in
+    omega arith
+
+pub pair_next : (m x a b u v k d t o u' v' : ℕ) (s : Bool) → d + b ≡ a → Without d t o
+    → u' ≡ u + v → v' ≡ v * 2 ^ t → IsPair m x a b u v k s → IsPair m x o b u' v' (k + t) s
+pair_next m x a b u v k d t o u' v' s e h eu ev p =
+    let power : 2 ^ (k + t) ≡ 2 ^ k * 2 ^ t = pow-add 2 k t in
+    let eo : o * 2 ^ (k + t) ≡ d * 2 ^ k =
+    ap (λ n. o * n) power ∙ (let r : o * (2 ^ k * 2 ^ t) ≡ o * 2 ^ t * 2 ^ k = omega arith in r)
+    ∙ ap (λ n. n * 2 ^ k) h.whole in
+    let ed : d * 2 ^ k + b * 2 ^ k ≡ a * 2 ^ k =
+    (let r : d * 2 ^ k + b * 2 ^ k ≡ (d + b) * 2 ^ k = omega arith in r) ∙ ap (λ n. n * 2 ^ k) e in
+    let ex : u' * x ≡ u * x + v * x = ap (λ n. n * x) eu ∙ omega arith in
+    let eb : b * 2 ^ (k + t) ≡ b * 2 ^ k * 2 ^ t = ap (λ n. b * n) power ∙ omega arith in
+    let ey : v' * x ≡ v * x * 2 ^ t = ap (λ n. n * x) ev ∙ omega arith in
+    let sum = difference m s (d * 2 ^ k) (b * 2 ^ k) (a * 2 ^ k) (u * x) (v * x) ed p.above p.below in
+    let kept = scaled m (not s) (b * 2 ^ k) (v * x) (2 ^ t) p.below in
+    record {
+      whole =
+          ap (λ n. o * n + b * u') ev ∙ ap (λ n. o * (v * 2 ^ t) + b * n) eu
+          ∙ factors_same a b u v d t o e h.whole ∙ p.whole;
+      above = rw (eo, ex) sum;
+      below = rw (eb, ey) kept;
+      common = λ g i j.
+          let id : d % g ≡ 0 = ap (λ n. n % g) (sym h.whole) ∙ divides_product g o (2 ^ t) i in
+          p.common g (ap (λ n. n % g) (sym e) ∙ divides_sum g d b id j) j;
+    }
+
+pub fits_next : (base a b u v k d t o u' v' : ℕ) → d + b ≡ a → Without d t o
+    → u' ≡ u + v → v' ≡ v * 2 ^ t → PairFits base a b u v k → PairFits base o b u' v' (k + t)
+fits_next base a b u v k d t o u' v' e h eu ev f =
+    let dsome : 0 < d = omega (arith, h.some, h.within) in
+    let vsome : 0 < v =
+    ⊎_elim (λ (l : 0 < v). l)
+    (λ (l : v ≤ 0). let z : a < b = f.below_factor (let r : v ≡ 0 = omega arith in r) in absurd (omega arith))
+    (cases_lt 0 v) in
+    let grown : v * 1 ≤ v * 2 ^ t = mul-le-mul_left v (pow_pos t) in
+    let power : 2 ^ (k + t) ≡ 2 ^ k * 2 ^ t = pow-add 2 k t in
+    let eo : o * b * 2 ^ (k + t) ≡ d * (b * 2 ^ k) =
+    ap (λ n. o * b * n) power ∙ (let r : o * b * (2 ^ k * 2 ^ t) ≡ o * 2 ^ t * (b * 2 ^ k) = omega arith in r)
+    ∙ ap (λ n. n * (b * 2 ^ k)) h.whole in
+    let less : d * (b * 2 ^ k) ≤ a * (b * 2 ^ k) = mul-le-mul_right (b * 2 ^ k) (let r : d ≤ a = omega arith in r) in
+    let same : o * v' + b * u' ≡ a * v + b * u =
+    ap (λ n. o * n + b * u') ev ∙ ap (λ n. o * (v * 2 ^ t) + b * n) eu ∙ factors_same a b u v d t o e h.whole in
+    record {
+      above_some = h.some;
+      below_some = f.below_some;
+      above_factor = λ z. absurd (omega arith);
+      below_factor = λ z. absurd (omega arith);
+      factors = omega (arith, f.factors);
+      twos = omega (arith, f.twos);
+    }
+
+-- what a turn starts from, a pair with its greater number first: its difference d, smaller number y and this one's
+-- factor f
+pub record Ordered (base a b u v k d y f : ℕ) (s s' : Bool) : Type 0 where
+  pub greater : ℕ
+  pub factor : ℕ
+  pub whole : d + y ≡ greater
+  pub sum : u + v ≡ factor + f
+  pub fits : PairFits base greater y factor f k
+  pub pair : (m x : ℕ) → IsPair m x a b u v k s → IsPair m x greater y factor f k s'
+
+same_sign : (s l : Bool) → l ≡ false → s ≡ not (beq s l)
+same_sign true false e = refl
+same_sign false false e = refl
+same_sign s true e = absurd (cc)
+
+other_sign : (s l : Bool) → l ≡ true → not s ≡ not (beq s l)
+other_sign true true e = refl
+other_sign false true e = refl
+other_sign s false e = absurd (cc)
+
+pub ordered_above : (base a b u v k d y f : ℕ) (s l : Bool) → PairFits base a b u v k → l ≡ false → d + b ≡ a → y ≡ b
+    → f ≡ v → Ordered base a b u v k d y f s (not (beq s l))
+ordered_above base a b u v k d y f s l h el e ey ef = record {
+  greater = a;
+  factor = u;
+  whole = omega arith;
+  sum = omega arith;
+  fits = rw (ey, ef) h;
+  pair = λ m x p. rw (ey, ef) (subst (λ t. IsPair m x a b u v k t) (same_sign s l el) p);
+}
+
+pub ordered_below : (base a b u v k d y f : ℕ) (s l : Bool) → PairFits base a b u v k → l ≡ true → d + a ≡ b → y ≡ a
+    → f ≡ u → Ordered base a b u v k d y f s (not (beq s l))
+ordered_below base a b u v k d y f s l h el e ey ef = record {
+  greater = b;
+  factor = v;
+  whole = omega arith;
+  sum = omega arith;
+  fits = rw (ey, ef) (fits_turned base a b u v k h);
+  pair = λ m x p.
+      rw (ey, ef) (subst (λ t. IsPair m x b a v u k t) (other_sign s l el) (pair_turned m x a b u v k s p));
+}
+
+-- the shift of a turn fits
+pub shift_fits : (base a b u v k d t o : ℕ) → d + b ≡ a → Without d t o → PairFits base a b u v k → v * 2 ^ t < base
+shift_fits base a b u v k d t o e h f =
+    let n = fits_next base a b u v k d t o (u + v) (v * 2 ^ t) e h refl refl f in
+    let l : 1 * (v * 2 ^ t) ≤ o * (v * 2 ^ t) = mul-le-mul_right (v * 2 ^ t) h.some in
+    omega (arith, n.factors)
+
+-- the twos are fewer than two words have
+pub few_twos : (w base a b u v k : ℕ) → base ≡ 2 ^ w → PairFits base a b u v k → k < w + w
+few_twos w base a b u v k eb f =
+    let double : 2 ^ (w + w) ≡ base * base =
+    pow-add 2 w w ∙ ap (λ n. n * 2 ^ w) (sym eb) ∙ ap (λ n. base * n) (sym eb) in
+    let some : 1 * 1 ≤ a * 1 = mul-le-mul_right 1 f.above_some in
+    let both : a * 1 ≤ a * b = mul-le-mul_left a f.below_some in
+    let power : 1 * 2 ^ k ≤ a * b * 2 ^ k = mul-le-mul_right (2 ^ k) (let r : 1 ≤ a * b = omega arith in r) in
+    ⊎_elim (λ (l : k < w + w). l)
+    (λ (l : w + w ≤ k).
+    let p : 2 ^ (w + w) ≤ 2 ^ k = pow-le-pow_right {n = 2} (omega arith) l in
+    absurd (omega (arith, f.twos)))
+    (cases_lt k (w + w))
+
+-- ---- the first and the last pair
+pub first_pair : (m x t o u v : ℕ) → Without x t o → u ≡ 1 → v ≡ 0 → IsPair m x o m u v t false
+first_pair m x t o u v h eu ev =
+    let ov : o * v ≡ o * 0 = ap (λ n. o * n) ev in
+    let mu : m * u ≡ m * 1 = ap (λ n. m * n) eu in
+    let ux : u * x ≡ 1 * x = ap (λ n. n * x) eu in
+    let vx : v * x ≡ 0 * x = ap (λ n. n * x) ev in
+    let above : o * 2 ^ t ≡ u * x = omega (arith, h.whole) in
+    let below : m * 2 ^ t + v * x ≡ 0 + m * 2 ^ t = omega arith in
+    record {
+      whole = omega arith;
+      above = of_equal above;
+      below = record { same = ap (λ n. n % m) below ∙ add-mul-mod_self_left 0 m (2 ^ t) };
+      common = λ d g i. (i, ap (λ n. n % d) (sym h.whole) ∙ divides_product d o (2 ^ t) g);
+    }
+
+pub first_fits : (base m x t o u v : ℕ) → Without x t o → u ≡ 1 → v ≡ 0 → x < m → m < base → PairFits base o m u v t
+first_fits base m x t o u v h eu ev l b =
+    let ov : o * v ≡ o * 0 = ap (λ n. o * n) ev in
+    let mu : m * u ≡ m * 1 = ap (λ n. m * n) eu in
+    let e : o * m * 2 ^ t ≡ x * m = (let r : o * m * 2 ^ t ≡ o * 2 ^ t * m = omega arith in r)
+    ∙ ap (λ n. n * m) h.whole in
+    let p : (x + 1) * m ≤ base * m = mul-le-mul_right m (let r : x + 1 ≤ base = omega arith in r) in
+    let q : base * m ≤ base * base = mul-le-mul_left base (let r : m ≤ base = omega arith in r) in
+    record {
+      above_some = h.some;
+      below_some = omega arith;
+      above_factor = λ z. absurd (omega arith);
+      below_factor = λ z. omega (arith, h.within);
+      factors = omega arith;
+      twos = omega arith;
+    }
+
+-- where the numbers are equal, the factor of the one is a residue other than 0
+pub last_factor : (base m x a b u v k : ℕ) (s : Bool) → IsPair m x a b u v k s → PairFits base a b u v k → a ≡ b
+    → (0 < u) × (u < m)
+last_factor base m x a b u v k s p f e =
+    let some : (n : ℕ) → (n ≡ 0 → ⊥) → 0 < n = λ n h.
+    ⊎_elim (λ (l : 0 < n). l) (λ (l : n ≤ 0). absurd (h (let r : n ≡ 0 = omega arith in r))) (cases_lt 0 n) in
+    let us : 0 < u = some u (λ z. let l = f.above_factor z in omega arith) in
+    let vs : 0 < v = some v (λ z. let l = f.below_factor z in omega arith) in
+    let av : 1 * v ≤ a * v = mul-le-mul_right v f.above_some in
+    let bu : 1 * u ≤ b * u = mul-le-mul_right u f.below_some in
+    (us, omega (arith, p.whole))
+
+-- their common value divides x and m, so where it isn't 1 there is no inverse
+pub last_none : (m x a b u v k y : ℕ) (s : Bool) → IsPair m x a b u v k s → a ≡ b → a ≢ 1 → IsInverse m x y → ⊥
+last_none m x a b u v k y s p e h i =
+    let c = p.common a (mod_self a) (ap (λ n. n % a) (sym e) ∙ mod_self a) in
+    h ((Coprime-from_IsInverse x m y i).only_one a c.1 c.0)
+
+-- ---- powers of two modulo an odd number
+unit_power : (m k : ℕ) → m % 2 ≡ 1 → Congruent m (2 ^ k * ((m + 1) / 2) ^ k) 1
+unit_power m k o =
+    let j = (m + 1) / 2 in
+    let e : 2 * j ≡ 1 + m * 1 = omega arith in
+    let one : Congruent m (2 * j) 1 = record { same = ap (λ n. n % m) e ∙ add-mul-mod_self_left 1 m 1 } in
+    chained (of_equal (sym (mul-pow 2 j k))) (chained (powered k one) (of_equal (one-pow k)))
+
+without_power : {m a b : ℕ} (k : ℕ) → m % 2 ≡ 1 → Congruent m (a * 2 ^ k) (b * 2 ^ k) → Congruent m a b
+without_power {m} {a} {b} k o h = cancelled_unit (2 ^ k) (((m + 1) / 2) ^ k) (unit_power m k o) h
+
+-- the factor with its sign
+pub factor_minus : (m u w : ℕ) (s : Bool) → s ≡ true → w + u ≡ m → CongruentBySign m s w u
+factor_minus m u w false e h = absurd (cc)
+factor_minus m u w true e h =
+    let f : w + u ≡ 0 + m * 1 = omega arith in
+    record { same = ap (λ n. n % m) f ∙ add-mul-mod_self_left 0 m 1 }
+
+pub factor_plus : (m u w : ℕ) (s : Bool) → s ≡ false → w ≡ u → CongruentBySign m s w u
+factor_plus m u w false e h = of_equal h
+factor_plus m u w true e h = absurd (cc)
+
+factor_power : (m x u p w : ℕ) (s : Bool) → CongruentBySign m s p (u * x) → CongruentBySign m s w u
+    → Congruent m (x * w) p
+factor_power m x u p w true h f =
+    let e : x * w + u * x ≡ x * (w + u) = omega arith in
+    let z : x * 0 ≡ 0 = omega arith in
+    cancelled (u * x) (chained (of_equal e) (chained (multiplied (itself x) f) (chained (of_equal z) (turned h))))
+factor_power m x u p w false h f =
+    let e : x * u ≡ u * x = omega arith in
+    chained (multiplied (itself x) f) (chained (of_equal e) (turned h))
+
+-- where it is 1, the factor with its sign, without the twos, is the inverse
+pub last_inverse : (m x a b u v k w y : ℕ) (s : Bool) → m % 2 ≡ 1 → IsPair m x a b u v k s → a ≡ 1
+    → CongruentBySign m s w u → y < m → Congruent m (y * 2 ^ k) w → IsInverse m x y
+last_inverse m x a b u v k w y s o p e f l h =
+    let r : x * y * 2 ^ k ≡ x * (y * 2 ^ k) = omega arith in
+    let t : a * 2 ^ k ≡ 1 * 2 ^ k = ap (λ n. n * 2 ^ k) e in
+    let product : Congruent m (x * w) (a * 2 ^ k) = factor_power m x u (a * 2 ^ k) w s p.above f in
+    let one : Congruent m (x * y) 1 =
+    without_power k o
+    (chained (of_equal r) (chained (multiplied (itself x) h) (chained product (of_equal t)))) in
+    record { below = l; one = one.same }
+
+-- ---- the twos taken out
+-- a reduction takes out as many as a word has bits
+pub word_taken : (m base w r r' t z j x : ℕ) → base ≡ 2 ^ w → t ≡ r + base * z → z ≡ 0 → IsReduction base m t r'
+    → Congruent m (r * 2 ^ j) x → Congruent m (r' * 2 ^ (w + j)) x
+word_taken m base w r r' t z j x eb et ez h c =
+    let p : 2 ^ (w + j) ≡ base * 2 ^ j = pow-add 2 w j ∙ ap (λ n. n * 2 ^ j) (sym eb) in
+    let e : r' * 2 ^ (w + j) ≡ r' * base * 2 ^ j = ap (λ n. r' * n) p ∙ omega arith in
+    let b : base * z ≡ base * 0 = ap (λ n. base * n) ez in
+    let low : t ≡ r = omega arith in
+    let g : Congruent m (r' * base) r = record { same = h.congruent ∙ ap (λ n. n % m) low } in
+    chained (of_equal e) (chained (multiplied g (itself (2 ^ j))) c)
+
+-- the last one, of a number times what is left up to a word
+pub rest_taken : (m base w v r r' t k j x : ℕ) → m % 2 ≡ 1 → base ≡ 2 ^ w → k ≤ w → v ≡ w → t ≡ r * 2 ^ (v - k)
+    → IsReduction base m t r' → Congruent m (r * 2 ^ j) x → Congruent m (r' * 2 ^ (k + j)) x
+rest_taken m base w v r r' t k j x o eb l ev et h c =
+    let p : base ≡ 2 ^ k * 2 ^ (w - k) =
+    eb ∙ ap (λ n. 2 ^ n) (let s : w ≡ k + (w - k) = omega arith in s) ∙ pow-add 2 k (w - k) in
+    let f : r' * 2 ^ k * 2 ^ (w - k) ≡ r' * (2 ^ k * 2 ^ (w - k)) = omega arith in
+    let e : r' * 2 ^ k * 2 ^ (w - k) ≡ r' * base = f ∙ ap (λ n. r' * n) (sym p) in
+    let shifted : t ≡ r * 2 ^ (w - k) = et ∙ ap (λ n. r * 2 ^ (n - k)) ev in
+    let g : Congruent m (r' * base) (r * 2 ^ (w - k)) = record { same = h.congruent ∙ ap (λ n. n % m) shifted } in
+    let here : Congruent m (r' * 2 ^ k) r = without_power (w - k) o (chained (of_equal e) g) in
+    let q : r' * 2 ^ (k + j) ≡ r' * 2 ^ k * 2 ^ j = ap (λ n. r' * n) (pow-add 2 k j) ∙ omega arith in
+    chained (of_equal q) (chained (multiplied here (itself (2 ^ j))) c)
+
+-- what is reduced is below the modulus times the base
+pub scaled_fits : (base m r t v k w : ℕ) → base ≡ 2 ^ w → v ≡ w → t ≡ r * 2 ^ (v - k) → r < m → t < base * m
+scaled_fits base m r t v k w eb ev et h =
+    let p : 2 ^ (v - k) ≤ 2 ^ w = pow-le-pow_right {n = 2} (omega arith) (omega arith) in
+    let one : 0 < 2 ^ (v - k) = pow_pos (v - k) in
+    let q : (r + 1) * 2 ^ (v - k) ≤ m * 2 ^ (v - k) =
+    mul-le-mul_right (2 ^ (v - k)) (let s : r + 1 ≤ m = omega arith in s) in
+    let a : m * 2 ^ (v - k) ≤ m * 2 ^ w = mul-le-mul_left m p in
+    let b : m * base ≡ m * 2 ^ w = ap (λ n. m * n) eb in
+    omega arith
+
+-- ---- the number itself
+-- a number has the inverse of its residue
+pub inversion_of_residue : {T : Type 0} (number : T → ℕ) (m a x : ℕ) (found : Option T) → x ≡ a % m
+    → IsInversion number m x found → IsInversion number m a found
+inversion_of_residue number m a x None e h =
+    λ y i. h y (record {
+      below = i.below;
+      one = ap (λ n. (n * y) % m) e ∙ mul-mod_first a y m ∙ i.one;
+    })
+inversion_of_residue number m a x (Some y) e h = record {
+  below = h.below;
+  one = sym (mul-mod_first a (number y) m) ∙ ap (λ n. (n * number y) % m) (sym e) ∙ h.one;
+}

@@ -1,0 +1,25 @@
+-- The law of reciprocity, where the numbers change places.
+use Rattle.std.proofs.Common.{◌/◌, if◌then◌else◌, pos, sym, ap, ◌∙◌}
+use Rattle.std.specs.Int.Bits.{bit_and}
+use Rattle.modular_symbols.specs.Jacobi.{jacobi}
+use Rattle.modular_symbols.specs.Kronecker.{signed}
+use Rattle.modular_symbols.proofs.TurnBits.{is_odd, odd-both}
+use Rattle.modular_symbols.proofs.TurnedSymbols.{jacobi-swapped_by}
+use Rattle.modular_symbols.proofs.turns.turn_by_swap.Goals as goal
+
+pub returns-then-swap : goal.returns-then-swap
+returns-then-swap g c =
+    let n = g.T.RingWord.number in
+    let k = c.low_part.result in
+    let l = c.low_part-then-swap.result in
+    jacobi-swapped_by _ (n c.args.a) (n c.args.n) c.requires.a_odd c.requires.n_odd
+    (odd-both (n c.args.a) (n c.args.n) k l c.requires.a_odd c.requires.n_odd
+    c.low_part.ensures c.low_part-then-swap.ensures)
+    ∙ sym (ap (λ v. signed (is_odd (bit_and k l / 2)) (if v then jacobi (pos (n c.args.n)) (n c.args.a)
+    else jacobi (pos (n c.args.a)) (n c.args.n))) c.if-swap.true)
+
+pub returns-else-swap : goal.returns-else-swap
+returns-else-swap g c =
+    let n = g.T.RingWord.number in
+    sym (ap (λ v. if v then jacobi (pos (n c.args.n)) (n c.args.a) else jacobi (pos (n c.args.a)) (n c.args.n))
+    c.if-swap.false)

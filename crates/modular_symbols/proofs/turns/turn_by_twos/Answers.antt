@@ -1,0 +1,9 @@
+-- The lowest bit tells whether each factor 2 turns the symbol.
+use Rattle.modular_symbols.proofs.TurnBits.{odd-twos}
+use Rattle.modular_symbols.proofs.TurnedSymbols.{jacobi-twos_by}
+use Rattle.modular_symbols.proofs.turns.turn_by_twos.Goals as goal
+
+pub returns : goal.returns
+returns g c = λ a.
+    let n = g.T.RingWord.number c.args.n in
+    jacobi-twos_by _ a c.args.twos n c.requires (odd-twos c.args.twos n c.low_part.result c.requires c.low_part.ensures)

@@ -1,0 +1,42 @@
+//! The low part of a word, of which bits are taken: a word of 32 bits, whatever the width.
+
+ghost use Rattle.std.specs.Prelude.{◌≡◌, ◌%◌, ◌^◌};
+
+use modular_prim::plain_word::PlainWord;
+
+/// A machine word whose low part can be read.
+pub trait LowPart: PlainWord {
+    /// The lowest 32 bits: the word itself, where it has no more.
+    fn low_part(self) -> u32
+        ensures { result ≡ Self.number self % 2 ^ 32 };
+}
+
+impl LowPart for u8 {
+    fn low_part(self) -> u32 {
+        self as u32
+    }
+}
+
+impl LowPart for u16 {
+    fn low_part(self) -> u32 {
+        self as u32
+    }
+}
+
+impl LowPart for u32 {
+    fn low_part(self) -> u32 {
+        self
+    }
+}
+
+impl LowPart for u64 {
+    fn low_part(self) -> u32 {
+        (self & 0xffff_ffff) as u32
+    }
+}
+
+impl LowPart for usize {
+    fn low_part(self) -> u32 {
+        (self & 0xffff_ffff) as u32
+    }
+}

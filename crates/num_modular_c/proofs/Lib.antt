@@ -1,0 +1,4 @@
+pub mod Division
+pub mod InPlace
+pub mod SameTerms
+pub mod Steps

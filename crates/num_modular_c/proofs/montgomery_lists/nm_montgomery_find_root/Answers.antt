@@ -1,0 +1,4 @@
+use Rattle.num_modular_c.proofs.montgomery_lists.nm_montgomery_find_root.Goals as goal
+
+pub returns-in-Some-clause-did : goal.returns-in-Some-clause-did
+returns-in-Some-clause-did c context = rw c.in-Some.ensures.0 at c.found_root.ensures.did

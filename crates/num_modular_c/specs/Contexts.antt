@@ -1,0 +1,29 @@
+-- What is made once of a divisor or a modulus, in words of 64 bits; each name is the library's own word.
+use Rattle.std.specs.Prelude.{◌≡◌, ℕ, ◌*◌, ◌^◌}
+use Rattle.std.specs.Int.Count.{count_leading_zeros}
+use Rattle.num_modular.specs.Forms.{IsForm}
+use Rattle.num_modular.specs.Reciprocals.{IsReciprocal}
+use Rattle.num_modular.specs.Split.{IsComputedOnce, split_form, split_value}
+use Rattle.num_modular_c.specs.declared.dividers.NmDivider.{NmDivider}
+use Rattle.num_modular_c.specs.declared.montgomery.NmMontgomery.{NmMontgomery}
+
+-- the reciprocal is that of the divisor, moved up until its top bit is set
+abbrev pub IsDivider : NmDivider → Type 0
+IsDivider divider =
+    IsReciprocal (2 ^ 64) (divider.divisor * 2 ^ count_leading_zeros 64 divider.divisor) divider.reciprocal
+
+-- the two numbers are those that are computed once of the modulus
+abbrev pub IsMontgomery : NmMontgomery → Type 0
+IsMontgomery context = IsComputedOnce 64 (2 ^ 64) context.modulus context.negated_inverse context.square
+
+-- f is a form modulo m
+abbrev pub IsMontgomeryForm : ℕ → ℕ → Type 0
+IsMontgomeryForm m f = IsForm (split_form 64) (split_value 64) m f
+
+-- the value of the form f modulo m
+abbrev pub value_of : ℕ → ℕ → ℕ
+value_of m f = split_value 64 m f
+
+-- f is the form of v modulo m
+abbrev pub IsFormOf : ℕ → ℕ → ℕ → Type 0
+IsFormOf m f v = IsMontgomeryForm m f × (value_of m f ≡ v)

@@ -1,0 +1,5 @@
+pub mod Codes
+pub mod Contexts
+pub mod Transforms
+pub mod Commands
+pub mod Systems

@@ -1,0 +1,12 @@
+-- Lists of words as lists of residues; each name is the library's own word.
+use Rattle.std.specs.Prelude.{◌≡◌, ℕ, ◌%◌, ◌<◌, List, slice_index}
+use Rattle.num_modular.specs.Transforms.{transform, cyclic_product}
+
+-- the residue modulo m of the word at each place
+abbrev pub residues : ℕ → List ℕ → ℕ → ℕ
+residues m words i = slice_index words i % m
+
+-- p is the cyclic product of the n values x and the n values y, and t the transform of y by g
+pub record IsConvolution (m g n : ℕ) (x y p t : ℕ → ℕ) : Type 0 where
+  pub product : (e : ℕ) → e < n → p e ≡ cyclic_product m n x y e
+  pub transformed : (j : ℕ) → j < n → t j ≡ transform m g n y j

@@ -1,0 +1,78 @@
+//! Lists of commands for C.
+
+ghost use Rattle.std.specs.Prelude.{◌≡◌, ◌<◌, ◌↔◌, IsTrue, All};
+ghost use Rattle.num_modular.specs.Ring.{IsFit};
+ghost use Rattle.num_modular_c.specs.Commands.{ring_command_of, IsTaken};
+
+use num_modular::ring::{RingCommand, commands_fit};
+
+/// Writes n modulo m in dst.
+pub const NM_LOAD: u32 = 0;
+/// Writes the sum of a and b.
+pub const NM_ADD: u32 = 1;
+/// Writes the difference of a and b.
+pub const NM_SUB: u32 = 2;
+/// Writes the product of a and b.
+pub const NM_MUL: u32 = 3;
+/// Writes the negative of a.
+pub const NM_NEG: u32 = 4;
+/// Writes the double of a.
+pub const NM_DBL: u32 = 5;
+/// Writes the square of a.
+pub const NM_SQR: u32 = 6;
+/// Writes the inverse of a; where there is none, the run stops.
+pub const NM_INV: u32 = 7;
+/// Writes the product of a and the inverse of b; where b has none, the run stops.
+pub const NM_DIV: u32 = 8;
+/// Writes the power of a to the exponent n.
+pub const NM_POW: u32 = 9;
+
+/// A command on registers, which are named by their numbers. Fields that an operation doesn't name may
+/// hold anything.
+#[repr(C)]
+#[derive(Clone, Copy)]
+pub struct NmCommand {
+    /// What is done: `NM_LOAD` to `NM_POW`.
+    pub operation: u32,
+    /// The register that is written.
+    pub dst: usize,
+    /// The register of the first operand.
+    pub a: usize,
+    /// The register of the second operand.
+    pub b: usize,
+    /// The number that is loaded, or the exponent.
+    pub n: u64,
+}
+
+// The ring command of a command.
+pub(crate) fn ring_command(c: &NmCommand) -> RingCommand<u64>
+    ensures { result ≡ ring_command_of c.now }
+{
+    let (dst, a, b, n) = (c.dst, c.a, c.b, c.n);
+    match c.operation {
+        NM_LOAD => RingCommand::Load { dst, n },
+        NM_ADD => RingCommand::Add { dst, a, b },
+        NM_SUB => RingCommand::Sub { dst, a, b },
+        NM_MUL => RingCommand::Mul { dst, a, b },
+        NM_NEG => RingCommand::Neg { dst, a },
+        NM_DBL => RingCommand::Dbl { dst, a },
+        NM_SQR => RingCommand::Sqr { dst, a },
+        NM_INV => RingCommand::Inv { dst, a },
+        NM_DIV => RingCommand::Div { dst, a, b },
+        _ => RingCommand::Pow { dst, a, exp: n },
+    }
+}
+
+// Whether a run on `count` registers takes the command.
+fn is_taken(c: &NmCommand, count: usize) -> bool
+    ensures { IsTrue result ↔ IsTaken count c.now }
+{
+    c.operation < 10 && commands_fit(&[ring_command(c)], count)
+}
+
+// Whether a run on `count` registers takes the commands.
+pub(crate) fn all_taken(commands: &[NmCommand], count: usize) -> bool
+    ensures { IsTrue result ↔ All (IsTaken count) commands.now }
+{
+    commands.iter().all(|c| is_taken(c, count))
+}

@@ -1,0 +1,16 @@
+//! The library for C: functions over words of 64 bits, each of which tests what its call needs and
+//! answers a code. `c/num_modular.h` declares them.
+#![tactic(auto)]
+
+mod codes;
+mod commands;
+mod dividers;
+mod lists;
+mod montgomery;
+mod montgomery_lists;
+mod plain;
+mod runs;
+mod solinas;
+mod symbols;
+mod transforms;
+mod users;

@@ -1,0 +1,212 @@
+//! Montgomery's representation modulo m, by what is computed of m once.
+
+ghost use Rattle.std.specs.Prelude.{◌≡◌, ◌+◌, ◌*◌, ◌%◌, ◌^◌, ◌<◌, ◌≤◌, ◌↔◌, IsTrue, pos, ◌-ℤ◌, MatchOption};
+ghost use Rattle.num_modular.specs.Inverses.{HasInverse, IsInverse};
+ghost use Rattle.num_modular.specs.Residues.{residue};
+ghost use Rattle.num_modular_c.specs.Codes.{Did, Refused};
+ghost use Rattle.num_modular_c.specs.Contexts.{IsMontgomery, IsMontgomeryForm, IsFormOf, value_of};
+
+use crate::codes::{NM_BAD_ARGUMENT, NM_BAD_CONTEXT, NM_NO_INVERSE, NM_OK};
+use num_modular::{Montgomery, Reducer};
+
+/// A modulus m with what `nm_montgomery` computes of it once.
+#[repr(C)]
+#[derive(Clone, Copy)]
+pub struct NmMontgomery {
+    /// The modulus.
+    pub modulus: u64,
+    /// The number whose product with the odd part of m is -1 modulo 2^64.
+    pub negated_inverse: u64,
+    /// 2^128 modulo the odd part of m.
+    pub square: u64,
+}
+
+// The reducer of a modulus with what was computed of it; `None` where these don't fit each other.
+pub(crate) fn reducer(context: &NmMontgomery) -> Option<Montgomery<u64>>
+    ensures { MatchOption result (IsMontgomery context.now → ⊥)
+        (λ r. (⟦<Montgomery<u64> as Reducer<u64>>⟧.modulus r ≡ context.now.modulus) × IsMontgomery context.now) }
+{
+    Montgomery::restored(context.modulus, context.negated_inverse, context.square)
+}
+
+// Whether a word is a form: it is below the modulus.
+fn is_form(ring: &Montgomery<u64>, word: u64) -> bool
+    ensures below { IsTrue result ↔ (word < ⟦<Montgomery<u64> as Reducer<u64>>⟧.modulus ring.now) }
+    ensures form { IsTrue result → IsMontgomeryForm (⟦<Montgomery<u64> as Reducer<u64>>⟧.modulus ring.now) word }
+{
+    ring.check(&word)
+}
+
+/// The context of m. `NM_BAD_ARGUMENT`: m is 0.
+#[unsafe(no_mangle)]
+pub extern "C" fn nm_montgomery(m: u64, context: &mut NmMontgomery) -> u32
+    ensures did { 1 ≤ m → Did result ((context.new.modulus ≡ m) × IsMontgomery context.new) }
+    ensures bad_argument { m ≡ 0 → Refused NM_BAD_ARGUMENT result context.old context.new }
+{
+    if m == 0 {
+        return NM_BAD_ARGUMENT;
+    }
+    let (negated_inverse, square) = Montgomery::<u64>::new(m).computed_once();
+    *context = NmMontgomery {
+        modulus: m,
+        negated_inverse,
+        square,
+    };
+    NM_OK
+}
+
+/// The form of n modulo m. `NM_BAD_CONTEXT`: the context isn't one that `nm_montgomery` makes.
+#[unsafe(no_mangle)]
+pub extern "C" fn nm_montgomery_transform(context: &NmMontgomery, n: u64, form: &mut u64) -> u32
+    ensures did { let m = context.now.modulus in
+        IsMontgomery context.now → Did result (IsFormOf m form.new (n % m)) }
+    ensures bad_context { (IsMontgomery context.now → ⊥) → Refused NM_BAD_CONTEXT result form.old form.new }
+{
+    let Some(ring) = reducer(context) else {
+        return NM_BAD_CONTEXT;
+    };
+    *form = ring.transform(n);
+    NM_OK
+}
+
+/// The value of a form. `NM_BAD_CONTEXT`: as `nm_montgomery_transform`. `NM_BAD_ARGUMENT`: the word isn't
+/// below m, and so no form.
+#[unsafe(no_mangle)]
+pub extern "C" fn nm_montgomery_residue(context: &NmMontgomery, form: u64, value: &mut u64) -> u32
+    ensures did { let m = context.now.modulus in
+        IsMontgomery context.now → form < m → Did result (value.new ≡ value_of m form) }
+    ensures bad_argument { let m = context.now.modulus in
+        IsMontgomery context.now → m ≤ form → Refused NM_BAD_ARGUMENT result value.old value.new }
+    ensures bad_context { (IsMontgomery context.now → ⊥) → Refused NM_BAD_CONTEXT result value.old value.new }
+{
+    let Some(ring) = reducer(context) else {
+        return NM_BAD_CONTEXT;
+    };
+    if !is_form(&ring, form) {
+        return NM_BAD_ARGUMENT;
+    }
+    *value = ring.residue(form);
+    NM_OK
+}
+
+/// The form of the sum of two forms. The codes are those of `nm_montgomery_residue`.
+#[unsafe(no_mangle)]
+pub extern "C" fn nm_montgomery_add(context: &NmMontgomery, a: u64, b: u64, sum: &mut u64) -> u32
+    ensures did { let m = context.now.modulus in IsMontgomery context.now → a < m → b < m
+        → Did result (IsFormOf m sum.new ((value_of m a + value_of m b) % m)) }
+    ensures bad_argument { let m = context.now.modulus in
+        IsMontgomery context.now → ((a < m) × (b < m) → ⊥)
+        → Refused NM_BAD_ARGUMENT result sum.old sum.new }
+    ensures bad_context { (IsMontgomery context.now → ⊥) → Refused NM_BAD_CONTEXT result sum.old sum.new }
+{
+    let Some(ring) = reducer(context) else {
+        return NM_BAD_CONTEXT;
+    };
+    if !is_form(&ring, a) || !is_form(&ring, b) {
+        return NM_BAD_ARGUMENT;
+    }
+    *sum = ring.add(&a, &b);
+    NM_OK
+}
+
+/// The form of the difference of two forms. The codes are those of `nm_montgomery_residue`.
+#[unsafe(no_mangle)]
+pub extern "C" fn nm_montgomery_sub(
+    context: &NmMontgomery,
+    a: u64,
+    b: u64,
+    difference: &mut u64,
+) -> u32
+    ensures did { let m = context.now.modulus in IsMontgomery context.now → a < m → b < m
+        → Did result (IsFormOf m difference.new (residue m (pos (value_of m a) -ℤ pos (value_of m b)))) }
+    ensures bad_argument { let m = context.now.modulus in
+        IsMontgomery context.now → ((a < m) × (b < m) → ⊥)
+        → Refused NM_BAD_ARGUMENT result difference.old difference.new }
+    ensures bad_context { (IsMontgomery context.now → ⊥) → Refused NM_BAD_CONTEXT result difference.old difference.new }
+{
+    let Some(ring) = reducer(context) else {
+        return NM_BAD_CONTEXT;
+    };
+    if !is_form(&ring, a) || !is_form(&ring, b) {
+        return NM_BAD_ARGUMENT;
+    }
+    *difference = ring.sub(&a, &b);
+    NM_OK
+}
+
+/// The form of the product of two forms. The codes are those of `nm_montgomery_residue`.
+#[unsafe(no_mangle)]
+pub extern "C" fn nm_montgomery_mul(
+    context: &NmMontgomery,
+    a: u64,
+    b: u64,
+    product: &mut u64,
+) -> u32
+    ensures did { let m = context.now.modulus in IsMontgomery context.now → a < m → b < m
+        → Did result (IsFormOf m product.new ((value_of m a * value_of m b) % m)) }
+    ensures bad_argument { let m = context.now.modulus in
+        IsMontgomery context.now → ((a < m) × (b < m) → ⊥)
+        → Refused NM_BAD_ARGUMENT result product.old product.new }
+    ensures bad_context { (IsMontgomery context.now → ⊥) → Refused NM_BAD_CONTEXT result product.old product.new }
+{
+    let Some(ring) = reducer(context) else {
+        return NM_BAD_CONTEXT;
+    };
+    if !is_form(&ring, a) || !is_form(&ring, b) {
+        return NM_BAD_ARGUMENT;
+    }
+    *product = ring.mul(&a, &b);
+    NM_OK
+}
+
+/// The form of the power of a form; that of 1 for the exponent 0. The codes are those of
+/// `nm_montgomery_residue`.
+#[unsafe(no_mangle)]
+pub extern "C" fn nm_montgomery_pow(
+    context: &NmMontgomery,
+    form: u64,
+    exponent: u64,
+    power: &mut u64,
+) -> u32
+    ensures did { let m = context.now.modulus in IsMontgomery context.now → form < m
+        → Did result (IsFormOf m power.new (value_of m form ^ exponent % m)) }
+    ensures bad_argument { let m = context.now.modulus in
+        IsMontgomery context.now → m ≤ form → Refused NM_BAD_ARGUMENT result power.old power.new }
+    ensures bad_context { (IsMontgomery context.now → ⊥) → Refused NM_BAD_CONTEXT result power.old power.new }
+{
+    let Some(ring) = reducer(context) else {
+        return NM_BAD_CONTEXT;
+    };
+    if !is_form(&ring, form) {
+        return NM_BAD_ARGUMENT;
+    }
+    *power = ring.pow(form, &exponent);
+    NM_OK
+}
+
+/// The form of the inverse of a form. `NM_NO_INVERSE`: its value has none. The other codes are those of
+/// `nm_montgomery_residue`.
+#[unsafe(no_mangle)]
+pub extern "C" fn nm_montgomery_inv(context: &NmMontgomery, form: u64, inverse: &mut u64) -> u32
+    ensures did { let m = context.now.modulus in
+        IsMontgomery context.now → form < m → HasInverse m (value_of m form)
+        → Did result (IsMontgomeryForm m inverse.new × IsInverse m (value_of m form) (value_of m inverse.new)) }
+    ensures no_inverse { let m = context.now.modulus in
+        IsMontgomery context.now → form < m → (HasInverse m (value_of m form) → ⊥)
+        → Refused NM_NO_INVERSE result inverse.old inverse.new }
+    ensures bad_argument { let m = context.now.modulus in
+        IsMontgomery context.now → m ≤ form → Refused NM_BAD_ARGUMENT result inverse.old inverse.new }
+    ensures bad_context { (IsMontgomery context.now → ⊥) → Refused NM_BAD_CONTEXT result inverse.old inverse.new }
+{
+    let Some(ring) = reducer(context) else {
+        return NM_BAD_CONTEXT;
+    };
+    if !is_form(&ring, form) {
+        return NM_BAD_ARGUMENT;
+    }
+    let Some(found) = ring.inv(form) else {
+        return NM_NO_INVERSE;
+    };
+    *inverse = found;
+    NM_OK
+}

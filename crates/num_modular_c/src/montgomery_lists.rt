@@ -1,0 +1,135 @@
+//! Transforms and cyclic products of lists of words modulo any m, and runs of commands, by a context.
+
+ghost use Rattle.std.specs.Prelude.{◌≡◌, ◌≢◌, ℕ, ◌%◌, ◌<◌, ◌≤◌, All, length, map, slice_index};
+ghost use Rattle.modular_plan.specs.Roots.{root_by, IsFirstBase};
+ghost use Rattle.num_modular.specs.Inverses.{HasInverse};
+ghost use Rattle.num_modular.specs.Ring.{IsStop};
+ghost use Rattle.num_modular.specs.Transforms.{Suits, transform};
+ghost use Rattle.num_modular_c.specs.Codes.{Did, Refused, BothRefused};
+ghost use Rattle.num_modular_c.specs.Commands.{ring_command_of, residues_of, IsTaken, IsRunTo};
+ghost use Rattle.num_modular_c.specs.Contexts.{IsMontgomery};
+ghost use Rattle.num_modular_c.specs.Transforms.{residues, IsConvolution};
+
+use crate::codes::{NM_BAD_ARGUMENT, NM_BAD_CONTEXT, NM_NO_INVERSE, NM_NO_ROOT, NM_OK};
+use crate::commands::NmCommand;
+use crate::montgomery::{NmMontgomery, reducer};
+use crate::runs::carry_out;
+use crate::transforms::{found_root, multiplied, root_code, transformed};
+
+/// Whether the root suits lists of n words: n is a power of two, and for n above 1 the root to the
+/// power n/2 is -1 modulo m. `NM_NO_ROOT`: it doesn't. `NM_BAD_CONTEXT`: the context isn't one that
+/// `nm_montgomery` makes.
+#[unsafe(no_mangle)]
+pub extern "C" fn nm_montgomery_root_fits(context: &NmMontgomery, root: u64, n: usize) -> u32
+    ensures fits { let m = context.now.modulus in IsMontgomery context.now → Suits m (root % m) n → result ≡ NM_OK }
+    ensures no_root { let m = context.now.modulus in
+        IsMontgomery context.now → (Suits m (root % m) n → ⊥) → result ≡ NM_NO_ROOT }
+    ensures bad_context { (IsMontgomery context.now → ⊥) → result ≡ NM_BAD_CONTEXT }
+{
+    match reducer(context) {
+        Some(ring) => root_code(&ring, root, n),
+        None => NM_BAD_CONTEXT,
+    }
+}
+
+/// A root that suits lists of n words: for the least x from 2 to 255 that gives one, x to the power
+/// (m - 1)/n, rounded down. `NM_NO_ROOT`: no x gives one, as where n is no power of two.
+/// `NM_BAD_CONTEXT`: as `nm_montgomery_root_fits`.
+#[unsafe(no_mangle)]
+pub extern "C" fn nm_montgomery_find_root(context: &NmMontgomery, n: usize, root: &mut u64) -> u32
+    ensures did { let m = context.now.modulus in
+        IsMontgomery context.now → ((x : ℕ) × (2 ≤ x) × (x < 256) × Suits m (root_by m n x) n) → Did result
+        ((x : ℕ) × (x < 256) × IsFirstBase m n x × (root.new ≡ root_by m n x)) }
+    ensures no_root { let m = context.now.modulus in
+        IsMontgomery context.now → ((x : ℕ) → 2 ≤ x → x < 256 → Suits m (root_by m n x) n → ⊥)
+        → Refused NM_NO_ROOT result root.old root.new }
+    ensures bad_context { (IsMontgomery context.now → ⊥) → Refused NM_BAD_CONTEXT result root.old root.new }
+{
+    match reducer(context) {
+        Some(ring) => found_root(&ring, n, root),
+        None => NM_BAD_CONTEXT,
+    }
+}
+
+/// Puts the transform by the root in place of the words: at place j the sum of x_i·root^(i·j) modulo m.
+/// `NM_NO_ROOT`: the root doesn't suit the length. `NM_BAD_CONTEXT`: as `nm_montgomery_root_fits`.
+#[unsafe(no_mangle)]
+pub extern "C" fn nm_montgomery_ntt(context: &NmMontgomery, xs: &mut [u64], root: u64) -> u32
+    ensures did { let m = context.now.modulus in let n = length xs.old in
+        IsMontgomery context.now → Suits m (root % m) n → Did result
+        ((j : ℕ) → j < n → slice_index xs.new j ≡ transform m (root % m) n (residues m xs.old) j) }
+    ensures no_root { let m = context.now.modulus in
+        IsMontgomery context.now → (Suits m (root % m) (length xs.old) → ⊥)
+        → Refused NM_NO_ROOT result xs.old xs.new }
+    ensures bad_context { (IsMontgomery context.now → ⊥) → Refused NM_BAD_CONTEXT result xs.old xs.new }
+{
+    match reducer(context) {
+        Some(ring) => transformed(&ring, xs, root),
+        None => NM_BAD_CONTEXT,
+    }
+}
+
+/// Puts the cyclic product of both lists modulo m in place of the first, and the transform of the second
+/// by the root in its place. `NM_BAD_ARGUMENT`: the lengths differ. `NM_NO_ROOT`: the root doesn't suit
+/// them. `NM_NO_INVERSE`: the length has no inverse modulo m. `NM_BAD_CONTEXT`: as
+/// `nm_montgomery_root_fits`.
+#[unsafe(no_mangle)]
+pub extern "C" fn nm_montgomery_convolve(
+    context: &NmMontgomery,
+    xs: &mut [u64],
+    ys: &mut [u64],
+    root: u64,
+) -> u32
+    ensures did { let m = context.now.modulus in let n = length xs.old in
+        IsMontgomery context.now → length ys.old ≡ n → Suits m (root % m) n → HasInverse m n → Did result
+        (IsConvolution m (root % m) n (residues m xs.old) (residues m ys.old)
+        (slice_index xs.new) (slice_index ys.new)) }
+    ensures no_inverse { let m = context.now.modulus in let n = length xs.old in
+        IsMontgomery context.now → length ys.old ≡ n → Suits m (root % m) n → (HasInverse m n → ⊥)
+        → BothRefused NM_NO_INVERSE result xs.old xs.new ys.old ys.new }
+    ensures no_root { let m = context.now.modulus in let n = length xs.old in
+        IsMontgomery context.now → length ys.old ≡ n → (Suits m (root % m) n → ⊥)
+        → BothRefused NM_NO_ROOT result xs.old xs.new ys.old ys.new }
+    ensures bad_argument { IsMontgomery context.now → length ys.old ≢ length xs.old
+        → BothRefused NM_BAD_ARGUMENT result xs.old xs.new ys.old ys.new }
+    ensures bad_context { (IsMontgomery context.now → ⊥)
+        → BothRefused NM_BAD_CONTEXT result xs.old xs.new ys.old ys.new }
+{
+    match reducer(context) {
+        Some(ring) => multiplied(&ring, xs, ys, root),
+        None => NM_BAD_CONTEXT,
+    }
+}
+
+/// Carries out the commands in order on the residues of the words, and puts the residues that they leave
+/// in place; `carried_out` is how many were carried out. `NM_NO_INVERSE`: command number `carried_out` finds no
+/// inverse, and the residues are those that the commands before it leave. `NM_BAD_ARGUMENT`: an
+/// operation has no name, or a register number isn't below the number of registers; nothing is written.
+/// `NM_BAD_CONTEXT`: as `nm_montgomery_root_fits`.
+#[unsafe(no_mangle)]
+pub extern "C" fn nm_montgomery_run(
+    context: &NmMontgomery,
+    registers: &mut [u64],
+    commands: &[NmCommand],
+    carried_out: &mut usize,
+) -> u32
+    ensures did { let m = context.now.modulus in let start = residues_of m registers.old in
+        let wholes = map ring_command_of commands.now in
+        IsMontgomery context.now → All (IsTaken (length registers.old)) commands.now
+        → ((at : ℕ) → IsStop m start wholes at → ⊥)
+        → Did result (IsRunTo m start wholes (length commands.now) carried_out.new registers.new) }
+    ensures no_inverse { let m = context.now.modulus in let start = residues_of m registers.old in
+        let wholes = map ring_command_of commands.now in
+        (at : ℕ) → IsMontgomery context.now → All (IsTaken (length registers.old)) commands.now
+        → IsStop m start wholes at
+        → (result ≡ NM_NO_INVERSE) × IsRunTo m start wholes at carried_out.new registers.new }
+    ensures bad_argument { IsMontgomery context.now → (All (IsTaken (length registers.old)) commands.now → ⊥)
+        → BothRefused NM_BAD_ARGUMENT result registers.old registers.new carried_out.old carried_out.new }
+    ensures bad_context { (IsMontgomery context.now → ⊥)
+        → BothRefused NM_BAD_CONTEXT result registers.old registers.new carried_out.old carried_out.new }
+{
+    match reducer(context) {
+        Some(ring) => carry_out(&ring, registers, commands, carried_out),
+        None => NM_BAD_CONTEXT,
+    }
+}

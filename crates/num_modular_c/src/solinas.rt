@@ -1,0 +1,78 @@
+//! Transforms and cyclic products of lists of words modulo 2^64 - 2^32 + 1.
+
+ghost use Rattle.std.specs.Prelude.{◌≡◌, ◌≢◌, ℕ, ◌%◌, ◌<◌, ◌≤◌, length, slice_index};
+ghost use Rattle.modular_plan.specs.Roots.{root_by, IsFirstBase};
+ghost use Rattle.num_modular.specs.Inverses.{HasInverse};
+ghost use Rattle.num_modular.specs.Transforms.{Suits, transform};
+ghost use Rattle.num_modular_c.specs.Codes.{Did, Refused, BothRefused};
+ghost use Rattle.num_modular_c.specs.Transforms.{residues, IsConvolution};
+
+use crate::codes::{NM_BAD_ARGUMENT, NM_NO_INVERSE, NM_NO_ROOT, NM_OK};
+use crate::transforms::{found_root, multiplied, root_code, transformed};
+use num_modular::{FixedTrinomialSolinas64, Reducer};
+
+/// The prime 2^64 - 2^32 + 1.
+pub const NM_SOLINAS: u64 = 18446744069414584321;
+
+// Its reducer.
+fn solinas() -> FixedTrinomialSolinas64<64, 32, 1>
+    ensures { ⟦<FixedTrinomialSolinas64<64, 32, 1> as Reducer<u64>>⟧.modulus result ≡ NM_SOLINAS }
+{
+    <FixedTrinomialSolinas64<64, 32, 1> as Reducer<u64>>::new(&NM_SOLINAS)
+}
+
+/// Whether the root suits lists of n words: n is a power of two, and for n above 1 the root to the
+/// power n/2 is -1 modulo 2^64 - 2^32 + 1. `NM_NO_ROOT`: it doesn't.
+#[unsafe(no_mangle)]
+pub extern "C" fn nm_solinas_root_fits(root: u64, n: usize) -> u32
+    ensures fits { Suits NM_SOLINAS (root % NM_SOLINAS) n → result ≡ NM_OK }
+    ensures no_root { (Suits NM_SOLINAS (root % NM_SOLINAS) n → ⊥) → result ≡ NM_NO_ROOT }
+{
+    root_code(&solinas(), root, n)
+}
+
+/// A root that suits lists of n words: for the least x from 2 to 255 that gives one, x to the power
+/// (m - 1)/n, rounded down, m being 2^64 - 2^32 + 1. `NM_NO_ROOT`: no x gives one, as where n is no
+/// power of two.
+#[unsafe(no_mangle)]
+pub extern "C" fn nm_solinas_find_root(n: usize, root: &mut u64) -> u32
+    ensures did { ((x : ℕ) × (2 ≤ x) × (x < 256) × Suits NM_SOLINAS (root_by NM_SOLINAS n x) n) → Did result
+        ((x : ℕ) × (x < 256) × IsFirstBase NM_SOLINAS n x × (root.new ≡ root_by NM_SOLINAS n x)) }
+    ensures no_root { ((x : ℕ) → 2 ≤ x → x < 256 → Suits NM_SOLINAS (root_by NM_SOLINAS n x) n → ⊥)
+        → Refused NM_NO_ROOT result root.old root.new }
+{
+    found_root(&solinas(), n, root)
+}
+
+/// Puts the transform by the root in place of the words: at place j the sum of x_i·root^(i·j) modulo
+/// 2^64 - 2^32 + 1. `NM_NO_ROOT`: the root doesn't suit the length.
+#[unsafe(no_mangle)]
+pub extern "C" fn nm_solinas_ntt(xs: &mut [u64], root: u64) -> u32
+    ensures did { let g = root % NM_SOLINAS in let n = length xs.old in Suits NM_SOLINAS g n → Did result
+        ((j : ℕ) → j < n → slice_index xs.new j ≡ transform NM_SOLINAS g n (residues NM_SOLINAS xs.old) j) }
+    ensures no_root { (Suits NM_SOLINAS (root % NM_SOLINAS) (length xs.old) → ⊥)
+        → Refused NM_NO_ROOT result xs.old xs.new }
+{
+    transformed(&solinas(), xs, root)
+}
+
+/// Puts the cyclic product of both lists modulo 2^64 - 2^32 + 1 in place of the first, and the transform
+/// of the second by the root in its place. `NM_BAD_ARGUMENT`: the lengths differ. `NM_NO_ROOT`: the root
+/// doesn't suit them. `NM_NO_INVERSE`: the length has no inverse.
+#[unsafe(no_mangle)]
+pub extern "C" fn nm_solinas_convolve(xs: &mut [u64], ys: &mut [u64], root: u64) -> u32
+    ensures did { let g = root % NM_SOLINAS in let n = length xs.old in
+        length ys.old ≡ n → Suits NM_SOLINAS g n → HasInverse NM_SOLINAS n → Did result
+        (IsConvolution NM_SOLINAS g n (residues NM_SOLINAS xs.old) (residues NM_SOLINAS ys.old)
+        (slice_index xs.new) (slice_index ys.new)) }
+    ensures no_inverse { let n = length xs.old in
+        length ys.old ≡ n → Suits NM_SOLINAS (root % NM_SOLINAS) n → (HasInverse NM_SOLINAS n → ⊥)
+        → BothRefused NM_NO_INVERSE result xs.old xs.new ys.old ys.new }
+    ensures no_root { let n = length xs.old in
+        length ys.old ≡ n → (Suits NM_SOLINAS (root % NM_SOLINAS) n → ⊥)
+        → BothRefused NM_NO_ROOT result xs.old xs.new ys.old ys.new }
+    ensures bad_argument { length ys.old ≢ length xs.old
+        → BothRefused NM_BAD_ARGUMENT result xs.old xs.new ys.old ys.new }
+{
+    multiplied(&solinas(), xs, ys, root)
+}

@@ -1,0 +1,113 @@
+//! What the crates that stand on the library offer: hashes and a search, numbers by their residues, and
+//! the product of long numbers.
+
+ghost use Rattle.std.specs.Prelude.{◌≡◌, ℕ, ◌+◌, ◌*◌, ◌%◌, ◌^◌, ◌<◌, ◌≤◌, ◌↔◌, IsTrue, length};
+ghost use Rattle.big_product.specs.Numbers.{number_of, HasRoom, IsTransformLength};
+ghost use Rattle.mersenne_hash.specs.Hashes.{polynomial_value, IsFirst, StandsAt};
+ghost use Rattle.num_modular_c.specs.Codes.{Did, Refused};
+ghost use Rattle.num_modular_c.specs.Systems.{IsEncoding, IsDecoded};
+
+use crate::codes::{NM_BAD_ARGUMENT, NM_NOT_FOUND, NM_OK};
+use num_modular::ModularInteger;
+use num_modular::word::w64::split;
+use residue_numbers::{are_reduced, is_system};
+
+/// A number of two words.
+#[repr(C)]
+#[derive(Clone, Copy)]
+pub struct NmDouble {
+    /// The number modulo 2^64.
+    pub low: u64,
+    /// The number divided by 2^64, rounded down.
+    pub high: u64,
+}
+
+/// The hash of the bytes at the base x: the value at x of the polynomial with the bytes as coefficients,
+/// the highest first, modulo 2^61 - 1. The code is `NM_OK`.
+#[unsafe(no_mangle)]
+pub extern "C" fn nm_hash(x: u64, bytes: &[u8], hash: &mut u64) -> u32
+    ensures { Did result (hash.new ≡ polynomial_value bytes.now (x % 2305843009213693951) % 2305843009213693951) }
+{
+    *hash = mersenne_hash::hash(mersenne_hash::base(x), bytes).residue();
+    NM_OK
+}
+
+/// The first position where the pattern stands in the text, by hashes at the base x; it is right for
+/// every x. `NM_NOT_FOUND`: it stands nowhere.
+#[unsafe(no_mangle)]
+pub extern "C" fn nm_find(x: u64, text: &[u8], pattern: &[u8], position: &mut usize) -> u32
+    ensures did { (i : ℕ) → StandsAt text.now pattern.now i → Did result (IsFirst text.now pattern.now position.new) }
+    ensures not_found { ((i : ℕ) → StandsAt text.now pattern.now i → ⊥)
+        → Refused NM_NOT_FOUND result position.old position.new }
+{
+    match mersenne_hash::find(mersenne_hash::base(x), text, pattern) {
+        Some(at) => {
+            *position = at;
+            NM_OK
+        }
+        None => NM_NOT_FOUND,
+    }
+}
+
+// Whether residues stand for a number: the moduli are a system, and each has a residue below it.
+fn is_encoding(moduli: &[u64], residues: &[u64]) -> bool
+    ensures { IsTrue result ↔ IsEncoding moduli.now residues.now }
+{
+    moduli.len() == residues.len() && is_system(moduli) && are_reduced(moduli, residues)
+}
+
+/// The number below the product of the moduli that leaves these residues: there is no other.
+/// `NM_BAD_ARGUMENT`: the lengths differ, a modulus is 0, two have a common divisor above 1, their product
+/// isn't below 2^128, or a residue isn't below its modulus.
+#[unsafe(no_mangle)]
+pub extern "C" fn nm_decode(moduli: &[u64], residues: &[u64], number: &mut NmDouble) -> u32
+    ensures did { IsEncoding moduli.now residues.now
+        → Did result (IsDecoded moduli.now residues.now (number.new.low + 2 ^ 64 * number.new.high)) }
+    ensures bad_argument { (IsEncoding moduli.now residues.now → ⊥)
+        → Refused NM_BAD_ARGUMENT result number.old number.new }
+{
+    if !is_encoding(moduli, residues) {
+        return NM_BAD_ARGUMENT;
+    }
+    let (low, high) = split(residue_numbers::decode(moduli, residues));
+    *number = NmDouble { low, high };
+    NM_OK
+}
+
+/// How long the scratch slices of a product of so many places have to be: the least power of two from
+/// there on. `NM_BAD_ARGUMENT`: there are more than 2^32 places.
+#[unsafe(no_mangle)]
+pub extern "C" fn nm_product_scratch(places: usize, length: &mut usize) -> u32
+    ensures did { places ≤ 2 ^ 32 → Did result (IsTransformLength places length.new) }
+    ensures bad_argument { 2 ^ 32 < places → Refused NM_BAD_ARGUMENT result length.old length.new }
+{
+    if places > big_product::MOST_PLACES {
+        return NM_BAD_ARGUMENT;
+    }
+    *length = big_product::transform_length(places);
+    NM_OK
+}
+
+/// The digits of the product of two numbers, by their digits of 16 bits, the lowest first; the scratch
+/// slices hold anything afterwards. `NM_BAD_ARGUMENT`: `digits` hasn't as many places as both factors
+/// together, these are more than 2^32, or a scratch slice is shorter than `nm_product_scratch` says.
+#[unsafe(no_mangle)]
+pub extern "C" fn nm_product(
+    xs: &[u16],
+    ys: &[u16],
+    digits: &mut [u16],
+    left: &mut [u64],
+    right: &mut [u64],
+) -> u32
+    ensures did { HasRoom (length xs.now) (length ys.now) (length digits.old) (length left.old) (length right.old)
+        → Did result (number_of digits.new ≡ number_of xs.now * number_of ys.now) }
+    ensures bad_argument { (HasRoom (length xs.now) (length ys.now) (length digits.old)
+        (length left.old) (length right.old) → ⊥)
+        → Refused NM_BAD_ARGUMENT result digits.old digits.new × (left.new ≡ left.old) × (right.new ≡ right.old) }
+{
+    if big_product::product(xs, ys, digits, left, right) {
+        NM_OK
+    } else {
+        NM_BAD_ARGUMENT
+    }
+}

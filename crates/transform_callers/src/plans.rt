@@ -1,0 +1,43 @@
+//! Callers of plans, proved from their contracts alone.
+
+ghost use Rattle.std.specs.Prelude.{◌≡◌, ℕ, ◌+◌, ◌*◌, ◌/◌, ◌%◌, ◌<◌, ◌≤◌, All, length};
+ghost use Rattle.std.specs.Int.{IsPowerOfTwo};
+ghost use Rattle.modular_word.specs.Inverses.{IsInverse};
+ghost use Rattle.modular_transform.specs.Transforms.{Suits};
+ghost use Rattle.modular_plan.specs.Factors.{IsFactor};
+ghost use Rattle.modular_plan.specs.Plans.{numbers};
+
+use modular_plan::join::join_scaled;
+use modular_plan::modulus::{Factor, PlannedModulus};
+use modular_plan::plan::plan;
+use modular_plan::split::split;
+use modular_prim::plain_word::PlainWord;
+use modular_word::path_word::PathWord;
+
+/// Block b split by the plan by g, and joined with the inverse `part` of the number of blocks: every
+/// entry has the residue that it had.
+pub fn split_and_joined<T: PlainWord>(
+    m: &PlannedModulus<T>,
+    g: T,
+    table: &mut [Factor<T>],
+    xs: &mut [T],
+    block: (usize, usize),
+    part: &Factor<T>,
+)
+    requires below { T.number g < T.number m.now.modulus }
+    requires suits { Suits (T.number m.now.modulus) (T.number g) (2 * length table.old) }
+    requires entries { All (λ x. T.number x < 4 * T.number m.now.modulus) xs.old }
+    requires some { 1 ≤ block.1 }
+    requires count { IsPowerOfTwo (length xs.old / block.1) }
+    requires whole { length xs.old / block.1 * block.1 ≡ length xs.old }
+    requires within { (block.0 + 1) * (length xs.old / block.1 / 2) ≤ length table.old }
+    requires factor { IsFactor T.base (T.number m.now.modulus) (T.number part.now.value) (T.number part.now.quotient) }
+    requires inverse { IsInverse (T.number m.now.modulus) (length xs.old / block.1) (T.number part.now.value) }
+    ensures { (i : ℕ) → i < length xs.old
+        → numbers T.number xs.new i ≡ numbers T.number xs.old i % T.number m.now.modulus }
+{
+    let (b, last) = block;
+    plan(m, g, table);
+    split(m, xs, table, b, last);
+    join_scaled(m, xs, table, b, last, part);
+}

@@ -1,0 +1,107 @@
+//! The inverse modulo an odd m by subtraction: the fast loop, which counts no steps.
+
+use crate::modular_prim::plain_word::PlainWord;
+use crate::modular_prim::residues::reduced;
+use crate::modular_word::path_word::PathWord;
+use crate::modular_word::paths::{neginv, redc};
+use crate::modular_word::ring_word::RingWord;
+
+// Two numbers on the way to a common divisor of x and m, each with a factor: times 2 to the power
+// `twos`, the one is its factor times x modulo m, the other that with a minus; `minus` says that it is the
+// other way round.
+#[derive(Clone, Copy)]
+struct Pair<T: PlainWord> {
+    above: T,
+    below: T,
+    above_factor: T,
+    below_factor: T,
+    twos: u32,
+    minus: bool,
+}
+
+// The difference of the two numbers without its twos, and the smaller of them.
+//
+// The zeros are those of the wrapped difference, which has as many, so that they are counted beside the
+// comparison. The choice is of plain values, and so without a branch: which number is the greater can't be foreseen.
+fn one_difference<T: PlainWord>(pair: Pair<T>) -> Pair<T> {
+    let less = pair.above.is_below(pair.below);
+    let zeros = pair.above.wrapping_sub(pair.below).trailing_zeros();
+    let chosen = if less {
+        (pair.below.minus(pair.above), pair.above, pair.above_factor)
+    } else {
+        (pair.above.minus(pair.below), pair.below, pair.below_factor)
+    };
+    let (difference, smaller, factor) = chosen;
+    Pair {
+        above: difference.shift_right(zeros),
+        below: smaller,
+        above_factor: pair.above_factor.plus(pair.below_factor),
+        below_factor: factor.shift_left(zeros),
+        twos: pair.twos + zeros,
+        minus: pair.minus != less,
+    }
+}
+
+// The pair of x and m where its numbers are equal. Conditions: x is at least 1 and below m.
+fn last_pair<T: PlainWord>(x: T, m: T) -> Pair<T> {
+    let twos = x.trailing_zeros();
+    let mut pair = Pair {
+        above: x.shift_right(twos),
+        below: m,
+        above_factor: T::one(),
+        below_factor: T::zero(),
+        twos: twos,
+        minus: false,
+    };
+    'differences: while pair.above != pair.below {
+        pair = one_difference(pair);
+    }
+    pair
+}
+
+// The residue that 2 to the power `twos` takes to w, modulo an odd m. Condition: w is below m.
+fn without_twos<T: PlainWord>(w: T, twos: u32, m: T) -> T {
+    let negated_inverse = neginv(m);
+    let mut rest = w;
+    let mut left = twos;
+    'words: while T::bits() < left {
+        rest = redc(m, negated_inverse, T::merge(rest, T::zero()));
+        left -= T::bits();
+    }
+    if left == 0 {
+        rest
+    } else {
+        redc(m, negated_inverse, rest.shift_left_wide(T::bits() - left))
+    }
+}
+
+// The inverse of a number below an odd m; `None` exactly where there is none.
+fn inverse_below<T: PlainWord>(x: T, m: T) -> Option<T> {
+    let has_units = T::one().is_below(m);
+    if x.is_zero_word() {
+        return if has_units { None } else { Some(x) };
+    }
+    let pair = last_pair(x, m);
+    if pair.above != T::one() {
+        return None;
+    }
+    let factor = if pair.minus {
+        m.minus(pair.above_factor)
+    } else {
+        pair.above_factor
+    };
+    Some(without_twos(factor, pair.twos, m))
+}
+
+/// The inverse of a modulo m; `None` exactly where there is none. Condition: m is odd; a may be above
+/// it.
+///
+/// A turn of the loop has two numbers. Their difference loses its twos and stands in place of the
+/// greater one, until they are equal; the inverse is a factor that was kept beside them, without the twos,
+/// which are taken out by Montgomery's reduction. There is one division at most, at the beginning: for
+/// a number that isn't below m.
+///
+/// Source: Kaliski, "The Montgomery inverse and its applications", IEEE Transactions on Computers 44, 1995.
+pub fn inverse_by_subtraction<T: PlainWord>(a: T, m: T) -> Option<T> {
+    inverse_below(reduced(a, m), m)
+}

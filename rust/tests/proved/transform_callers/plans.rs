@@ -1,0 +1,24 @@
+//! Callers of plans, proved from their contracts alone.
+
+use crate::modular_plan::join::join_scaled;
+use crate::modular_plan::modulus::{Factor, PlannedModulus};
+use crate::modular_plan::plan::plan;
+use crate::modular_plan::split::split;
+use num_modular::modular_prim::plain_word::PlainWord;
+use num_modular::modular_word::path_word::PathWord;
+
+/// Block b split by the plan by g, and joined with the inverse `part` of the number of blocks: every
+/// entry has the residue that it had.
+pub fn split_and_joined<T: PlainWord>(
+    m: &PlannedModulus<T>,
+    g: T,
+    table: &mut [Factor<T>],
+    xs: &mut [T],
+    block: (usize, usize),
+    part: &Factor<T>,
+) {
+    let (b, last) = block;
+    plan(m, g, table);
+    split(m, xs, table, b, last);
+    join_scaled(m, xs, table, b, last, part);
+}
