@@ -9,6 +9,13 @@ LISTED = {
     name: libraries.split()
     for name, libraries in re.findall(r"^(\w+)[^:\n]*:(.*)$", (TOP / "crates.txt").read_text(), re.M)
 }
+# Those of them that aren't built as a library for other crates: programs and static libraries.
+ENDS = {
+    name
+    for name in LISTED
+    if re.search(rf"^{name} staticlib:", (TOP / "crates.txt").read_text(), re.M)
+    or not (TOP / f"crates/{name}/src/lib.rt").exists()
+}
 # Measured functions stand on the whole library, which would have to be proved for them alone; `fold_callers` names
 # types by aliases with numbers put in, which aren't resolved here.
 LEFT_OUT = {"modular_bench", "fold_callers"}

@@ -1,3 +1,2 @@
 pub mod Coefficients
-pub mod Inversions
 pub mod Jumps

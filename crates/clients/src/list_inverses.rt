@@ -13,7 +13,7 @@ use num_modular::{Reducer, RingWord};
 ///
 /// One inverse is computed, that of the product, and three products a form (Montgomery, "Speeding the
 /// Pollard and elliptic curve methods of factorization", section 10.3.1).
-#[tactic(auto, using(num_modular::specs::Remainders::remainders, crate::proofs::Inversions::inversion_steps))]
+#[tactic(auto, using(num_modular::specs::Remainders::remainders, num_modular::specs::Callers::products_so_far))]
 pub fn invert_each<T: RingWord, R: Reducer<T>>(r: &R, forms: &mut [T], products: &mut [T]) -> bool
     requires checked { All (λ f. IsForm R.form R.value (R.modulus r.now) (T.number f)) forms.old }
     requires equal { length products.old ≡ length forms.old }

@@ -1,5 +1,5 @@
 -- Laws of entries: what is read, what is written, and what lists that hold values give and take. A caller's lemma files
--- and answers cite them. The words are the library's own.
+-- and answers cite them. The names are the library's own words.
 use Rattle.std.proofs.Common.{◌≡◌, ◌≢◌, ℕ, ◌+◌, ◌<◌, ◌≤◌, List, [], ◌∷◌, length, map, get_or, All}
 use Rattle.std.proofs.Common.{inl, inr, sym, ◌∙◌, ap, arith, subst, get_or-set_same, get_or-set_other}
 use Rattle.std.proofs.Math.ListN.{set, length-set}

@@ -1,4 +1,5 @@
--- Laws of products over a range, and of the inverses of products. A caller's lemma files and answers cite them.
+-- Laws of products over a range, and of the inverses of products. A caller's lemma files and answers cite them. The
+-- names are the library's own words.
 use Rattle.std.proofs.Common.{◌≡◌, ◌↔◌, ℕ, zero, suc, ◌+◌, ◌*◌, ◌%◌, ◌<◌, ap}
 use Rattle.std.proofs.Common.{sym, ◌∙◌, arith, refl, inl, inr, subst, add-one}
 use Rattle.std.proofs.Math.Nat.{mod-lt}
@@ -9,14 +10,17 @@ use Rattle.modular_word.proofs.Congruence.{same_product}
 use Rattle.modular_laws.specs.EntryLaws.{entry_at, hold_more}
 use Rattle.modular_laws.specs.Products.{product_below}
 
+-- the product over no number
 pub product-zero : (f : ℕ → ℕ) → product_below 0 f ≡ 1
 unfolding product_below
 product-zero f = refl
 
+-- .. over one number more
 pub product-more : (f : ℕ → ℕ) (n : ℕ) → product_below (n + 1) f ≡ product_below n f * f n
 unfolding product_below
 product-more f n = ap (λ k. product_below k f) (add-one n)
 
+-- .. and of equal factors
 pub product-same : (n : ℕ) (f g : ℕ → ℕ) → ((i : ℕ) → i < n → f i ≡ g i) → product_below n f ≡ product_below n g
 unfolding product_below
 product-same zero f g same = refl
@@ -24,33 +28,35 @@ product-same (suc n) f g same =
     ap (λ v. v * f n) (product-same n f g (λ i l. same i (omega arith)))
     ∙ ap (λ v. product_below n g * v) (same n (omega arith))
 
--- the product so far, as a residue: over no number, and one factor more
+-- the product so far, as a residue: over no number ..
 pub product_none : (m a : ℕ) (f : ℕ → ℕ) → a ≡ 1 % m → a ≡ product_below 0 f % m
 product_none m a f e = e ∙ ap (λ v. v % m) (sym (product-zero f))
 
+-- .. and one factor more
 pub product_step : (m i a b : ℕ) (f : ℕ → ℕ) → a ≡ product_below i f % m → b ≡ f i
     → (a * b) % m ≡ product_below (i + 1) f % m
 product_step m i a b f p q =
     rw (p, q) (mul-mod_first (product_below i f) (f i) m) ∙ ap (λ w. w % m) (sym (product-more f i))
 
--- the inverse of a product gives those of the factors
+-- the inverse of a product gives that of the left factor ..
 pub inverse_left : (m a b x : ℕ) → IsInverse m (a * b) x → IsInverse m a ((x * b) % m)
 inverse_left m a b x h =
     let l = h.below in
     let e : a * (x * b) ≡ a * b * x = omega arith in
     record { below = mod-lt (x * b) (omega (arith, l)); one = mul-mod_second a (x * b) m ∙ ap (λ v. v % m) e ∙ h.one }
 
+-- .. and of the right one
 pub inverse_right : (m a b x : ℕ) → IsInverse m (a * b) x → IsInverse m b ((x * a) % m)
 inverse_right m a b x h =
     let l = h.below in
     let e : b * (x * a) ≡ a * b * x = omega arith in
     record { below = mod-lt (x * a) (omega (arith, l)); one = mul-mod_second b (x * a) m ∙ ap (λ v. v % m) e ∙ h.one }
 
--- .. and over a range, in the shape that `mul` leaves, those of the product before the last factor ..
 one_more : (m i j x : ℕ) (f : ℕ → ℕ) → IsInverse m (product_below j f) x → j ≡ i + 1
     → IsInverse m (product_below i f * f i) x
 one_more m i j x f h e = subst (λ p. IsInverse m p x) (ap (λ k. product_below k f) e ∙ product-more f i) h
 
+-- over a range, in the shape that `mul` leaves, that of the product before the last factor ..
 pub inverse_before : (m i j b w x : ℕ) (f : ℕ → ℕ) → IsInverse m (product_below j f) x → j ≡ i + 1
     → w ≡ (x * b) % m → b ≡ f i → IsInverse m (product_below i f) w
 inverse_before m i j b w x f h e is factor =
@@ -85,7 +91,7 @@ has_one m p =
     let e : 1 * 1 ≡ 1 = omega arith in
     (1 % m, record { below = mod-lt 1 p; one = mul-mod_second 1 1 m ∙ ap (λ v. v % m) e })
 
--- .. and one over a range exactly where each has
+-- .. one over a range only where each has ..
 pub has_each : (m n : ℕ) (f : ℕ → ℕ) → HasInverse m (product_below n f) → (i : ℕ) → i < n → HasInverse m (f i)
 unfolding product_below
 has_each m zero f h i l = absurd (omega arith)
@@ -96,6 +102,7 @@ has_each m (suc n) f h i l =
       | inr other ↦ has_each m n f both.0 i (omega arith)
     ]
 
+-- .. and wherever each has
 pub has_product : (m n : ℕ) (f : ℕ → ℕ) → 0 < m → ((i : ℕ) → i < n → HasInverse m (f i))
     → HasInverse m (product_below n f)
 unfolding product_below

@@ -1,6 +1,6 @@
 -- The steps of a split and of a join in place: pairs of entries, the blocks that they make, and stages of blocks
--- (Cooley and Tukey, "An algorithm for the machine calculation
--- of complex Fourier series"). The words are the library's own.
+-- (Cooley and Tukey, "An algorithm for the machine calculation of complex Fourier series", 1965). The names are the
+-- library's own words.
 use Rattle.std.specs.Prelude.{◌≡◌, ◌≢◌, ℕ, ◌+◌, ◌*◌, ◌^◌, ◌<◌, ◌≤◌}
 use Rattle.modular_word.specs.Congruence.{Congruent}
 use Rattle.modular_word.specs.Sums.{sum_below}

@@ -1,4 +1,4 @@
--- IBANs as their standard reads them (ISO 13616-1, International bank account number, by ISO/IEC 7064, MOD 97-10).
+-- IBANs as their standard reads them (ISO 13616-1:2020, by ISO/IEC 7064:2003, MOD 97-10).
 use Rattle.std.specs.Prelude.{◌≡◌, ℕ, ◌-◌, ◌/◌, ◌%◌, ◌≤◌, ◌⊎◌, if◌then◌else◌, nat_le}
 use Rattle.std.specs.Prelude.{List, All, [], ◌∷◌, ◌++◌, length, slice_index, take, drop}
 use Rattle.std.specs.List.{flat_map}

@@ -1,8 +1,5 @@
-use Rattle.std.proofs.Common.{ℕ, ◌%◌, ◌-◌, length, All}
-use Rattle.num_modular.specs.Entries.{entry, IsCheckedFormOf, HoldBelow, DoneFrom}
-use Rattle.num_modular.specs.Forms.{IsForm}
-use Rattle.num_modular.specs.Inverses.{IsInverse}
-use Rattle.num_modular.specs.Products.{product_below}
+use Rattle.num_modular.specs.Callers.{ℕ, ◌-◌, ◌%◌, length, All, IsForm, IsCheckedFormOf, IsInverse}
+use Rattle.num_modular.specs.Callers.{entry, product_below, HoldBelow, DoneFrom}
 use Rattle.clients.proofs.list_inverses.invert_each.Given as goal
 
 -- the products before each place so far
