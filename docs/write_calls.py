@@ -29,12 +29,13 @@ SUBJECTS = [
     ("Reducers", "modular_reduced::reducer modular_reduced::vanilla modular_barrett::premul modular_even::montgomery modular_reduced::power"),
     ("Reducers of a fixed modulus", "modular_monty::fixed modular_monty::proth modular_folds::mersenne modular_folds::solinas"),
     ("Lists of commands", "num_modular::ring"),
-    ("Transforms", "modular_transform::transform modular_transform::convolution"),
+    ("Transforms", "modular_transform::transform modular_transform::convolution modular_plan::roots modular_laws::lists"),
+    ("Transforms by a plan", "modular_plan"),
     ("Dividers", "modular_barrett::one_by_one modular_barrett::normalized modular_monty::preinv modular_monty::neg_mod_inv modular_word::paths"),
     ("Words, and what generic code names", "modular_word::ring_word modular_word::path_word modular_prim::plain_word modular_prim::numbered "
      "modular_symbols::operands modular_word::word modular_fold_paths::fold_word modular_fold_paths::folds modular_folds::rings modular_monty::odd_ring"),
     ("Laws", "modular_word::laws modular_prim::euclid modular_symbols::halving modular_symbols::laws modular_reduced::laws modular_fold_paths::laws "
-     "modular_transform::laws num_modular::laws"),
+     "modular_transform::laws modular_laws::laws num_modular::laws"),
     ("The program", "num_modular::modrun"),
 ]
 LAWS = {"modular_reduced::power::digit_laws", "modular_even::montgomery::form_laws", "modular_fold_paths::folds::fold_laws"}

@@ -1,8 +1,9 @@
 //! Modular rings over machine words, by the names of the crate `num-modular`.
 //!
 //! The root exports the traits, types and aliases, and the bounds that generic code over them names;
-//! the modules are those of the source, with `ring` (lists of commands run over any reducer), `rings`
-//! (the generic types behind the aliases), `laws` and `modrun` (the body of the program) beside them.
+//! the modules are those of the source, with `ring` (lists of commands run over any reducer, and
+//! transforms), `plans` (transforms by a table), `rings` (the generic types behind the aliases), `laws`
+//! and `modrun` (the body of the program) beside them.
 #![no_std]
 #![forbid(unsafe_code)]
 #![doc = include_str!("../README.md")]
@@ -33,12 +34,15 @@ pub mod modular_folds;
 #[doc(hidden)]
 pub mod modular_transform;
 #[doc(hidden)]
+pub mod modular_plan;
+#[doc(hidden)]
 pub mod modular_laws;
 
 pub mod barrett;
 pub mod laws;
 pub mod mersenne;
 pub mod monty;
+pub mod plans;
 pub mod preinv;
 pub mod prim;
 pub mod proth;

@@ -1,6 +1,7 @@
 //! Lists of commands on registers, run over any reducer, and transforms over any reducer.
 
 pub use crate::modular_laws::lists::{load_forms, unload_forms};
+pub use crate::modular_plan::roots::find_root;
 use crate::modular_reduced::reducer::Reducer;
 pub use crate::modular_transform::convolution::convolve;
 pub use crate::modular_transform::transform::{ntt, ntt_counted, root_fits};

@@ -1,8 +1,9 @@
 //! Modular rings over machine words, by the names of the crate `num-modular`.
 //!
 //! The root exports the traits, types and aliases, and the bounds that generic code over them names;
-//! the modules are those of the source, with `ring` (lists of commands run over any reducer), `rings`
-//! (the generic types behind the aliases), `laws` and `modrun` (the body of the program) beside them.
+//! the modules are those of the source, with `ring` (lists of commands run over any reducer, and
+//! transforms), `plans` (transforms by a table), `rings` (the generic types behind the aliases), `laws`
+//! and `modrun` (the body of the program) beside them.
 #![tactic(auto)]
 
 pub mod barrett;
@@ -10,6 +11,7 @@ pub mod laws;
 pub mod mersenne;
 pub mod modrun;
 pub mod monty;
+pub mod plans;
 pub mod preinv;
 pub mod prim;
 pub mod proth;

@@ -5,7 +5,6 @@
 #[macro_use]
 #[path = "../../runtime.rs"]
 mod runtime;
-pub mod modular_plan;
 pub mod num_modular_uses;
 pub mod clients;
 pub mod ring_codes;

@@ -3,11 +3,9 @@
 ghost use Rattle.std.specs.Prelude.{◌*◌, ◌<◌, ◌↔◌, IsTrue, All};
 
 use super::remainders::{all_in_room, are_same, planned};
-use modular_plan::join::{join, join_scaled};
-use modular_plan::modulus::Factor;
-use modular_plan::split::splits;
 use modular_prim::plain_word::PlainWord;
 use modular_word::path_word::PathWord;
+use num_modular::plans::{Factor, join, join_scaled, splits};
 
 // Whether the blocks join by the plan by g into this list.
 fn is_joined<T: PlainWord>(

@@ -3,9 +3,8 @@
 ghost use Rattle.std.specs.Prelude.{◌*◌, ◌<◌, ◌↔◌, IsTrue, All};
 
 use super::remainders::{all_in_room, are_same, planned};
-use modular_plan::modulus::Factor;
-use modular_plan::transform::ntt_planned;
 use modular_prim::plain_word::PlainWord;
+use num_modular::plans::{Factor, ntt_planned};
 
 // Whether the list becomes this transform, by the plan by g.
 #[tactic(auto, using(modular_transform::proofs::PowersOfTwo::power_of_two_tested))]

@@ -1,12 +1,14 @@
 //! Known products of polynomials, by plans.
 
 ghost use Rattle.std.specs.Prelude.{◌*◌, ◌<◌, ◌↔◌, IsTrue, All};
-ghost use Rattle.modular_plan.specs.Factors.{IsFactor};
+ghost use Rattle.num_modular.specs.Factors.{IsFactor};
 
-use super::remainders::{all_in_room, are_same, planned};
-use modular_plan::convolution::{convolve_block, convolve_negacyclic, convolve_planned, convolves};
-use modular_plan::modulus::{Factor, PlannedModulus};
+use super::remainders::{all_below, all_in_room, are_same, planned};
 use modular_prim::plain_word::PlainWord;
+use num_modular::plans::{
+    Factor, PlannedModulus, convolve_block, convolve_negacyclic, convolve_planned, convolves,
+    multiply,
+};
 
 // The product as block b, where its conditions hold: by its own call for the blocks 0 and 1.
 fn convolved<T: PlainWord>(
@@ -68,6 +70,51 @@ fn is_refused<T: PlainWord>(
     convolved(&m, table, 0, 1, xs, ys) == Some(false)
         && are_same(xs, want.0)
         && are_same(ys, want.1)
+}
+
+// Whether the lists become these products modulo the two polynomials X^2 - c of block 1, by the plan by g.
+fn are_products<T: PlainWord>(
+    root: (T, T),
+    table: &mut [Factor<T>],
+    lists: (&mut [T], &[T]),
+    want: &[T],
+) -> bool {
+    let (modulus, g) = root;
+    let (xs, ys) = lists;
+    let Some(m) = planned(modulus, g, table) else {
+        return false;
+    };
+    if xs.len() != 4 || ys.len() != 4 || table.len() < 2 || !all_below(&m, xs) {
+        return false;
+    }
+    multiply(&m, xs, ys, table, 1, 2);
+    are_same(xs, want)
+}
+
+#[test]
+fn blocks_of_two(rt: HostRuntime) {
+    let mut table = [Factor::<u64> {
+        value: 0,
+        quotient: 0,
+    }; 8];
+    let mut xs = [1, 2, 3, 4];
+    assert!(rt;
+        are_products(
+            (17, 3),
+            &mut table,
+            (&mut xs, &[5, 6, 7, 8]),
+            &[8, 16, 13, 1]
+        )
+    );
+    let mut xs = [16, 16, 16, 16];
+    assert!(rt;
+        are_products(
+            (17, 3),
+            &mut table,
+            (&mut xs, &[16, 16, 16, 16]),
+            &[14, 2, 5, 2]
+        )
+    );
 }
 
 #[test]

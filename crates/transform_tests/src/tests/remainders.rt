@@ -1,23 +1,28 @@
 //! Known lists of remainders, by plans.
 
 ghost use Rattle.std.specs.Prelude.{◌*◌, ◌<◌, ◌↔◌, IsTrue, All, MatchOption, ⊤};
-ghost use Rattle.modular_plan.specs.Factors.{IsFactor};
+ghost use Rattle.num_modular.specs.Factors.{IsFactor};
 
-use modular_plan::modulus::{Factor, PlannedModulus};
-use modular_plan::plan::plan;
-use modular_plan::split::{split, splits};
 use modular_prim::plain_word::PlainWord;
 use modular_reduced::reducer::Reducer;
 use modular_reduced::vanilla::Vanilla;
 use modular_transform::transform::root_fits;
 use modular_word::path_word::PathWord;
 use modular_word::ring_word::RingWord;
+use num_modular::plans::{Factor, PlannedModulus, plan, split, splits};
 
 // Whether each entry is below 4m.
 pub fn all_in_room<T: PlainWord>(m: &PlannedModulus<T>, xs: &[T]) -> bool
     ensures { IsTrue result ↔ All (λ x. T.number x < 4 * T.number m.now.modulus) xs.now }
 {
     xs.iter().all(|x| m.has_room(*x))
+}
+
+// Whether each entry is below m.
+pub fn all_below<T: PlainWord>(m: &PlannedModulus<T>, xs: &[T]) -> bool
+    ensures { IsTrue result ↔ All (λ x. T.number x < T.number m.now.modulus) xs.now }
+{
+    xs.iter().all(|x| x.is_below(m.modulus))
 }
 
 // Whether two lists are the same.

@@ -1,11 +1,11 @@
 //! Roots that are found.
 
-use modular_plan::roots::find_root;
 use modular_prim::plain_word::PlainWord;
 use modular_reduced::reducer::Reducer;
 use modular_reduced::vanilla::Vanilla;
 use modular_transform::transform::root_fits;
 use modular_word::ring_word::RingWord;
+use num_modular::ring::find_root;
 
 // The residue of the root that is found modulo m for n entries, where it suits.
 fn found<T: PlainWord>(m: T, n: usize) -> Option<T> {

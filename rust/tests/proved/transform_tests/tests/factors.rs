@@ -1,8 +1,8 @@
 //! Moduli that plans admit, quotients of factors, and products by them.
 
-use crate::modular_plan::modulus::PlannedModulus;
 use num_modular::modular_prim::plain_word::PlainWord;
 use num_modular::modular_word::path_word::PathWord;
+use num_modular::plans::PlannedModulus;
 
 // Whether a factor has this quotient, and its product with x, also without the quotient, is this
 // residue.

@@ -1,11 +1,9 @@
 //! Known lists of remainders, joined by plans.
 
 use super::remainders::{all_in_room, are_same, planned};
-use crate::modular_plan::join::{join, join_scaled};
-use crate::modular_plan::modulus::Factor;
-use crate::modular_plan::split::splits;
 use num_modular::modular_prim::plain_word::PlainWord;
 use num_modular::modular_word::path_word::PathWord;
+use num_modular::plans::{Factor, join, join_scaled, splits};
 
 // Whether the blocks join by the plan by g into this list.
 fn is_joined<T: PlainWord>(

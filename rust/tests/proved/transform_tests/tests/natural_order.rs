@@ -1,9 +1,8 @@
 //! Known transforms in natural order, by plans.
 
 use super::remainders::{all_in_room, are_same, planned};
-use crate::modular_plan::modulus::Factor;
-use crate::modular_plan::transform::ntt_planned;
 use num_modular::modular_prim::plain_word::PlainWord;
+use num_modular::plans::{Factor, ntt_planned};
 
 // Whether the list becomes this transform, by the plan by g.
 fn is_transform<T: PlainWord>(

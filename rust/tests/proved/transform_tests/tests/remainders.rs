@@ -1,18 +1,21 @@
 //! Known lists of remainders, by plans.
 
-use crate::modular_plan::modulus::{Factor, PlannedModulus};
-use crate::modular_plan::plan::plan;
-use crate::modular_plan::split::{split, splits};
 use num_modular::modular_prim::plain_word::PlainWord;
 use num_modular::modular_reduced::reducer::Reducer;
 use num_modular::modular_reduced::vanilla::Vanilla;
 use num_modular::modular_transform::transform::root_fits;
 use num_modular::modular_word::path_word::PathWord;
 use num_modular::modular_word::ring_word::RingWord;
+use num_modular::plans::{Factor, PlannedModulus, plan, split, splits};
 
 // Whether each entry is below 4m.
 pub fn all_in_room<T: PlainWord>(m: &PlannedModulus<T>, xs: &[T]) -> bool {
     xs.iter().all(|x| m.has_room(*x))
+}
+
+// Whether each entry is below m.
+pub fn all_below<T: PlainWord>(m: &PlannedModulus<T>, xs: &[T]) -> bool {
+    xs.iter().all(|x| x.is_below(m.modulus))
 }
 
 // Whether two lists are the same.

@@ -1,11 +1,11 @@
 //! Roots that are found.
 
-use crate::modular_plan::roots::find_root;
 use num_modular::modular_prim::plain_word::PlainWord;
 use num_modular::modular_reduced::reducer::Reducer;
 use num_modular::modular_reduced::vanilla::Vanilla;
 use num_modular::modular_transform::transform::root_fits;
 use num_modular::modular_word::ring_word::RingWord;
+use num_modular::ring::find_root;
 
 // The residue of the root that is found modulo m for n entries, where it suits.
 fn found<T: PlainWord>(m: T, n: usize) -> Option<T> {

@@ -1,10 +1,10 @@
 //! The plan: a table of the powers of a root, as factors, which the caller keeps.
 
 use crate::modular_plan::modulus::{Factor, PlannedModulus};
-use num_modular::modular_prim::plain_word::PlainWord;
-use num_modular::modular_transform::order::reverse_places;
-use num_modular::modular_word::path_word::PathWord;
-use num_modular::modular_word::ring_word::RingWord;
+use crate::modular_prim::plain_word::PlainWord;
+use crate::modular_transform::order::reverse_places;
+use crate::modular_word::path_word::PathWord;
+use crate::modular_word::ring_word::RingWord;
 
 // The powers 1, g, g^2, .. as factors.
 fn powers<T: PlainWord>(m: &PlannedModulus<T>, g: T, table: &mut [Factor<T>]) {

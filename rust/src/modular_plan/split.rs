@@ -1,8 +1,8 @@
 //! From a polynomial to its remainders modulo X^last - c, in place, by stages.
 
 use crate::modular_plan::modulus::{Factor, PlannedModulus, reduced_once};
-use num_modular::modular_prim::plain_word::PlainWord;
-use num_modular::modular_word::path_word::PathWord;
+use crate::modular_prim::plain_word::PlainWord;
+use crate::modular_word::path_word::PathWord;
 
 // x + y·w and x - y·w, below 4m.
 fn split_values<T: PlainWord>(m: &PlannedModulus<T>, x: T, y: T, w: &Factor<T>) -> (T, T) {

@@ -4,10 +4,10 @@ use crate::modular_plan::join::join_scaled;
 use crate::modular_plan::modulus::{Factor, PlannedModulus, reduced_once};
 use crate::modular_plan::products::multiply;
 use crate::modular_plan::split::{split, splits};
-use num_modular::modular_prim::euclid::invm;
-use num_modular::modular_prim::plain_word::PlainWord;
-use num_modular::modular_word::path_word::PathWord;
-use num_modular::modular_word::ring_word::RingWord;
+use crate::modular_prim::euclid::invm;
+use crate::modular_prim::plain_word::PlainWord;
+use crate::modular_word::path_word::PathWord;
+use crate::modular_word::ring_word::RingWord;
 
 // The residue of a power of two, by doublings of 1: it may be too large for the word.
 fn residue_of_count<T: PlainWord>(m: &PlannedModulus<T>, count: usize) -> T {

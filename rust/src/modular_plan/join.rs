@@ -2,9 +2,9 @@
 
 use crate::modular_plan::modulus::{Factor, PlannedModulus, reduced_once};
 use crate::modular_plan::split::reduce_each;
-use num_modular::modular_prim::plain_word::PlainWord;
-use num_modular::modular_word::path_word::PathWord;
-use num_modular::modular_word::ring_word::RingWord;
+use crate::modular_prim::plain_word::PlainWord;
+use crate::modular_word::path_word::PathWord;
+use crate::modular_word::ring_word::RingWord;
 
 // Minus the inverse of an entry: the one at the place mirrored in its power of two, and -1 for the
 // first. Where the table is no plan the mirrored place may lie behind it.

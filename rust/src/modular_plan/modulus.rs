@@ -1,10 +1,10 @@
 //! Products by factors with a precomputed quotient, modulo numbers of at most a fourth of the words.
 
-use num_modular::modular_prim::plain_word::PlainWord;
-use num_modular::modular_prim::reciprocal::invert_word;
-use num_modular::modular_word::path_word::PathWord;
-use num_modular::modular_word::paths::div_2by1;
-use num_modular::modular_word::ring_word::RingWord;
+use crate::modular_prim::plain_word::PlainWord;
+use crate::modular_prim::reciprocal::invert_word;
+use crate::modular_word::path_word::PathWord;
+use crate::modular_word::paths::div_2by1;
+use crate::modular_word::ring_word::RingWord;
 
 /// A factor w below a modulus m, and the quotient by m of w times the number of words.
 ///

@@ -1,8 +1,8 @@
 //! Products of blocks: of polynomials modulo X^last - c.
 
 use crate::modular_plan::modulus::{Factor, PlannedModulus, reduced_once};
-use num_modular::modular_prim::plain_word::PlainWord;
-use num_modular::modular_word::path_word::PathWord;
+use crate::modular_prim::plain_word::PlainWord;
+use crate::modular_word::path_word::PathWord;
 
 // Each entry times the one at its place.
 fn multiply_each<T: PlainWord>(m: &PlannedModulus<T>, xs: &mut [T], ys: &[T]) {

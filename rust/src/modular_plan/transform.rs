@@ -2,8 +2,8 @@
 
 use crate::modular_plan::modulus::{Factor, PlannedModulus};
 use crate::modular_plan::split::split;
-use num_modular::modular_prim::plain_word::PlainWord;
-use num_modular::modular_transform::order::reverse_places;
+use crate::modular_prim::plain_word::PlainWord;
+use crate::modular_transform::order::reverse_places;
 
 /// The transform of n entries in place, in natural order: entry j becomes the sum over i of
 /// x_i·h^(i·j) modulo m, h being the root that the plan is for, or that power of it that suits n

@@ -1,8 +1,8 @@
 //! Roots that suit transforms, found by powers of small numbers.
 
-use num_modular::modular_reduced::reducer::Reducer;
-use num_modular::modular_transform::transform::root_fits;
-use num_modular::modular_word::ring_word::RingWord;
+use crate::modular_reduced::reducer::Reducer;
+use crate::modular_transform::transform::root_fits;
+use crate::modular_word::ring_word::RingWord;
 
 // (m - 1) / n, rounded down. Condition: n is a power of two.
 fn exponent<T: RingWord, R: Reducer<T>>(r: &R, n: usize) -> T {
