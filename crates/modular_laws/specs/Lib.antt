@@ -1,4 +1,5 @@
 pub mod Entries
 pub mod EntryLaws
+pub mod NumberLaws
 pub mod ProductLaws
 pub mod Products

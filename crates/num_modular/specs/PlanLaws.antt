@@ -1,0 +1,8 @@
+-- Laws of remainders and their products, which proofs of callers cite. The names are the library's own words.
+
+-- reversed bits: below the same power of two, with one bit more, and twice
+pub use Rattle.modular_transform.proofs.BitReversal.{bits_reversed_below, bits_reversed_of_high, bits_reversed_twice}
+-- products modulo X - c and X^2 - c, coefficient by coefficient
+pub use Rattle.modular_plan.proofs.SmallProducts.{product_of_one, product_of_two_low, product_of_two_high}
+-- the products of remainders are those of the product; block 1 starts from X^n + 1
+pub use Rattle.modular_plan.proofs.Convolutions.{remainders_of_product, negacyclic}
