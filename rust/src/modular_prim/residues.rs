@@ -6,6 +6,7 @@ use crate::modular_word::path_word::PathWord;
 use crate::modular_word::ring_word::RingWord;
 
 /// The residue of a word. Condition: m is at least 1. A word below m is its own, with no division.
+#[inline]
 pub fn reduced<T: PlainWord>(a: T, m: T) -> T {
     if a.is_below(m) { a } else { a.remainder(m) }
 }
@@ -26,6 +27,7 @@ pub fn addm<T: PlainWord>(a: T, b: T, m: T) -> T {
 }
 
 /// The residue of a - b. Condition: m is at least 1. There is no division where both are below m.
+#[inline]
 pub fn subm<T: PlainWord>(a: T, b: T, m: T) -> T {
     if a.is_below(b) {
         neg_below(reduced(b.minus(a), m), m)
@@ -35,21 +37,25 @@ pub fn subm<T: PlainWord>(a: T, b: T, m: T) -> T {
 }
 
 /// The residue of a·b. Condition: m is at least 1.
+#[inline]
 pub fn mulm<T: PlainWord>(a: T, b: T, m: T) -> T {
     T::narrow_remainder(a.product(b), m)
 }
 
 /// The residue of -a. Condition: m is at least 1.
+#[inline]
 pub fn negm<T: PlainWord>(a: T, m: T) -> T {
     neg_below(reduced(a, m), m)
 }
 
 /// The residue of 2a. Condition: m is at least 1.
+#[inline]
 pub fn dblm<T: PlainWord>(a: T, m: T) -> T {
     dbl_below(reduced(a, m), m)
 }
 
 /// The residue of a·a. Condition: m is at least 1.
+#[inline]
 pub fn sqm<T: PlainWord>(a: T, m: T) -> T {
     mulm(a, a, m)
 }
