@@ -7,7 +7,7 @@ use crate::modular_prim::euclid::invm;
 use crate::modular_prim::plain_word::PlainWord;
 use crate::modular_reduced::reducer::Reducer;
 use crate::modular_word::path_word::PathWord;
-use crate::modular_word::paths::redc;
+use crate::modular_word::paths::{ones, redc};
 use crate::modular_word::ring_word::RingWord;
 use core::marker::PhantomData;
 
@@ -29,12 +29,13 @@ pub trait OddModulus<T: PlainWord>: Copy {
     fn reduced(&self, t: T::Double) -> T;
 }
 
-// The two numbers that are computed once of an odd modulus.
+// The two numbers that are computed once of an odd modulus. The square of the base less m fits a double word,
+// and leaves what the square leaves.
 #[inline]
 pub(crate) fn computed_once<T: PlainWord>(m: T) -> (T, T) {
     let negated_inverse = neginv(m);
-    let base = T::narrow_remainder(T::merge(T::zero(), T::one()), m);
-    let square = T::narrow_remainder(base.product(base), m);
+    let less = T::merge(T::zero().wrapping_sub(m), ones::<T>(T::bits()));
+    let square = T::narrow_remainder(less, m);
     (negated_inverse, square)
 }
 
