@@ -41,4 +41,5 @@ pub use crate::modular_symbols::laws::{jacobi_laws, prime_laws};
 /// Where a run stops, by the inverses that its commands need: a list that needs none has no stop, a
 /// missing inverse is the stop where none is missing before it, and where there is no stop, which is
 /// where a run is done, each inverse was there.
+#[inline]
 pub fn stop_laws<T: RingWord>() {}

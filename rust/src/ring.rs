@@ -108,11 +108,13 @@ pub enum RunEnd {
 }
 
 // Whether two register numbers are below `len`.
+#[inline]
 fn two_fit(dst: usize, a: usize, len: usize) -> bool {
     dst < len && a < len
 }
 
 // Whether three register numbers are below `len`.
+#[inline]
 fn three_fit(dst: usize, a: usize, b: usize, len: usize) -> bool {
     two_fit(dst, a, len) && b < len
 }
@@ -134,11 +136,13 @@ fn command_fits<T: RingWord>(command: &RingCommand<T>, len: usize) -> bool {
 }
 
 /// Whether each register number of the commands is below `len`.
+#[inline]
 pub fn commands_fit<T: RingWord>(commands: &[RingCommand<T>], len: usize) -> bool {
     commands.iter().all(|command| command_fits(command, len))
 }
 
 /// Whether each register holds a checked form of the reducer.
+#[inline]
 pub fn all_checked<T: RingWord, R: Reducer<T>>(r: &R, regs: &[T]) -> bool {
     regs.iter().all(|form| r.check(form))
 }
@@ -160,6 +164,7 @@ fn destination<T: RingWord>(command: &RingCommand<T>) -> usize {
 }
 
 // The form of the quotient of two forms; `None` exactly where the second has no inverse.
+#[inline]
 fn quotient<T: RingWord, R: Reducer<T>>(r: &R, a: &T, b: T) -> Option<T> {
     let inverse = r.inv(b)?;
     Some(r.mul(a, &inverse))
@@ -192,6 +197,7 @@ fn computed_form<T: RingWord, R: Reducer<T>>(
 /// or `Div` whose operand (for `Div`: b) has no inverse modulo m; that command and all later ones
 /// write nothing, and earlier ones stand. Each register then holds the one checked form of its value
 /// after the commands that were carried out, computed on whole numbers modulo m. It takes no memory.
+#[inline]
 pub fn run<T: RingWord, R: Reducer<T>>(r: &R, regs: &mut [T], commands: &[RingCommand<T>]) -> RunEnd {
     'commands: for (at, command) in commands.iter().enumerate() {
         match computed_form(r, regs, command) {

@@ -1,7 +1,7 @@
 -- Forms that are scaled: what the operations on forms, modulo the scaled modulus, are to the values.
 use Rattle.std.proofs.Common.{◌≡◌, ℕ, ◌+◌, ◌-◌, ◌*◌, ◌/◌, ◌%◌, ◌^◌, ◌<◌, ◌≤◌, pos}
 use Rattle.std.proofs.Common.{◌-ℤ◌, neg_ℤ, sym, ap, ◌∙◌, subst, arith, ⊎_elim}
-use Rattle.std.proofs.Math.Nat.{mod-lt, mod-eq_of_lt, mul-le-mul_left, mul-le-mul_right, mul-lt-mul_of_pos_right}
+use Rattle.std.proofs.Math.Nat.{mod-lt, mul-le-mul_left, mul-le-mul_right, mul-lt-mul_of_pos_right}
 use Rattle.std.proofs.lemmas.Bool.{cases_lt}
 use Rattle.std.proofs.lemmas.Nat.{shl-shr, pow_pos, mul-lt}
 use Rattle.std.proofs.lemmas.Int.{ints}
@@ -151,13 +151,7 @@ scaled_fits w b m d s n whole is hn e =
 word_stands : (w m d s n r : ℕ) → IsScaling w m d s → n < m → r ≡ n * 2 ^ s → Stands w m r n
 word_stands w m d s n r is h e = record { below = h; same = e ∙ ap (λ v. n * 2 ^ v) is.zeros }
 
-pub below_stands : (w m d s modulus n r : ℕ) → IsScaling w m d s → modulus ≡ m → n < modulus → r ≡ n * 2 ^ s
-    → Stands w m r (n % m)
-below_stands w m d s modulus n r is em h e =
-    let below : n < m = omega arith in
-    subst (Stands w m r) (sym (mod-eq_of_lt below)) (word_stands w m d s n r is below e)
-
--- it fits the word
+-- a number below the modulus fits the word when scaled
 pub below_fits : (w b m d s modulus n : ℕ) → b ≡ 2 ^ w → IsScaling w m d s → modulus ≡ m → n < modulus → n * 2 ^ s < b
 below_fits w b m d s modulus n eb is em h =
     let k : n * 2 ^ s < m * 2 ^ s = mul-lt-mul_of_pos_right (let below : n < m = omega arith in below) (pow_pos s) in

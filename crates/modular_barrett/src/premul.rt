@@ -96,8 +96,8 @@ impl<T: PlainWord> Reducer<T> for PreMulInv2by1<T> {
     }
 
     fn transform(&self, n: T) -> T {
-        if n.is_below(self.modulus()) {
-            n.shift_left(self.shift)
+        if self.shift == 0 {
+            self.divider.div_rem_1by1(n).1
         } else {
             self.divider.div_rem_2by1(n.shift_left_wide(self.shift)).1
         }

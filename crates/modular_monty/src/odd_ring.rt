@@ -12,7 +12,7 @@ use modular_prim::euclid::invm;
 use modular_prim::plain_word::PlainWord;
 use modular_reduced::reducer::Reducer;
 use modular_word::path_word::PathWord;
-use modular_word::paths::redc;
+use modular_word::paths::{ones, redc};
 use modular_word::ring_word::RingWord;
 use std::alloc::AllocError;
 use std::marker::PhantomData;
@@ -53,14 +53,15 @@ pub trait OddModulus<T: PlainWord>: Copy {
     ghost is_odd_ring: { (m : Self) → IsOddRing T.width T.base (modulus m) (negated_inverse m) (square m) };
 }
 
-// The two numbers that are computed once of an odd modulus.
+// The two numbers that are computed once of an odd modulus. The square of the base less m fits a double word,
+// and leaves what the square leaves.
 pub(crate) fn computed_once<T: PlainWord>(m: T) -> (T, T)
     requires { T.number m % 2 ≡ 1 }
     ensures { IsOddRing T.width T.base (T.number m) (T.number result.0) (T.number result.1) }
 {
     let negated_inverse = neginv(m);
-    let base = T::narrow_remainder(T::merge(T::zero(), T::one()), m);
-    let square = T::narrow_remainder(base.product(base), m);
+    let less = T::merge(T::zero().wrapping_sub(m), ones::<T>(T::bits()));
+    let square = T::narrow_remainder(less, m);
     (negated_inverse, square)
 }
 

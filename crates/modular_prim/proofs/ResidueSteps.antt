@@ -1,35 +1,10 @@
--- Residues of sums, those that pass the word among them, and of negatives.
+-- Residues of sums and of negatives.
 use Rattle.std.proofs.Common.{◌≡◌, ℕ, ◌+◌, ◌-◌, ◌*◌, ◌/◌, ◌%◌, ◌<◌, ◌≤◌, pos}
 use Rattle.std.proofs.Common.{negsuc, neg_ℤ, ◌-ℤ◌, sym, ap, ◌∙◌, arith, ⊎_elim}
 use Rattle.std.proofs.Math.Nat.{mod-lt, mod-mod, mod_self, mod-eq_of_lt, div-add-mod, add-mul-mod_self_left}
 use Rattle.std.proofs.lemmas.Bool.{cases_lt}
 use Rattle.std.proofs.lemmas.Int.{ints}
-use Rattle.modular_word.proofs.Congruence.{same_rest}
 use Rattle.modular_word.specs.Residues.{residue}
-
--- a sum of words that comes out below a summand has passed the word
-pub sum_carried : (B a b s : ℕ) → a < B → b < B → s ≡ (a + b) % B → s < b → s + B ≡ a + b
-sum_carried B a b s ha hb e h =
-    let f : B * ((a + b) / B) + (a + b) % B ≡ a + b = div-add-mod (a + b) B in
-    let carry : B ≤ a + b =
-    ⊎_elim
-    (λ (l : a + b < B). let m : (a + b) % B ≡ a + b = mod-eq_of_lt l in absurd (omega arith))
-    (λ (l : B ≤ a + b). l) (cases_lt (a + b) B) in
-    let m : s ≡ a + b - B =
-    same_rest B s (a + b - B) ((a + b) / B) 1 (omega arith) (omega arith) (omega arith) in
-    omega arith
-
--- and one that doesn't has not
-pub sum_fits : (B a b s : ℕ) → a < B → b < B → s ≡ (a + b) % B → b ≤ s → s ≡ a + b
-sum_fits B a b s ha hb e h =
-    let f : B * ((a + b) / B) + (a + b) % B ≡ a + b = div-add-mod (a + b) B in
-    ⊎_elim
-    (λ (l : a + b < B). e ∙ mod-eq_of_lt l)
-    (λ (l : B ≤ a + b).
-    let w : s < B = omega (arith, mod-lt (a + b) {m = B} (let p : 0 < B = omega arith in p)) in
-    let m : s ≡ a + b - B =
-    same_rest B s (a + b - B) ((a + b) / B) 1 w (omega arith) (omega arith) in
-    absurd (omega arith)) (cases_lt (a + b) B)
 
 -- the residue of a negative, by the remainder of the number
 pub neg_value : (m n : ℕ) → 0 < m → residue m (neg_ℤ (pos n)) ≡ (m - n % m) % m

@@ -1,6 +1,6 @@
 //! Residues of sums, differences and products of words, which may be above the modulus.
 
-ghost use Rattle.std.specs.Prelude.{◌≡◌, ℕ, ◌+◌, ◌*◌, ◌%◌, ◌<◌, ◌≤◌, pos, ◌-ℤ◌, neg_ℤ};
+ghost use Rattle.std.specs.Prelude.{◌≡◌, ℕ, ◌+◌, ◌*◌, ◌%◌, ◌<◌, ◌≤◌, pos, ◌-ℤ◌, neg_ℤ, IsTrue};
 ghost use Rattle.modular_word.specs.Residues.{residue};
 
 use crate::below::{add_below, dbl_below, neg_below};
@@ -8,42 +8,73 @@ use crate::plain_word::PlainWord;
 use modular_word::path_word::PathWord;
 use modular_word::ring_word::RingWord;
 
-/// The residue of a word. Condition: m is at least 1. A word below m is its own, with no division.
+// Whether a word is below m, where that spares a division that takes longer than a wrong guess of the answer:
+// words of at most 16 bits are divided as fast as that.
+fn spares_division<T: PlainWord>(a: T, m: T) -> bool
+    ensures { IsTrue result → T.number a < T.number m }
+{
+    T::bits() > 16 && a.is_below(m)
+}
+
+/// The residue of a word. Condition: m is at least 1. A word of more than 16 bits that is below m is its own,
+/// with no division.
 pub fn reduced<T: PlainWord>(a: T, m: T) -> T
     requires { 1 ≤ T.number m }
     ensures value { T.number result ≡ T.number a % T.number m }
     ensures below { T.number result < T.number m }
 {
-    if a.is_below(m) { a } else { a.remainder(m) }
+    if spares_division(a, m) {
+        a
+    } else {
+        a.remainder(m)
+    }
 }
 
-/// The residue of a + b. Condition: m is at least 1. There is no division where both are below m.
+// The whole sum.
+fn whole_sum<T: PlainWord>(a: T, b: T) -> T::Double
+    ensures { T.double_number result ≡ T.number a + T.number b }
+{
+    T::double_plus(T::merge(a, T::zero()), T::merge(b, T::zero()))
+}
+
+// How far a and b are from each other.
+fn distance<T: PlainWord>(a: T, b: T) -> T
+    ensures above { T.number b ≤ T.number a → T.number result + T.number b ≡ T.number a }
+    ensures below { T.number a < T.number b → T.number result + T.number a ≡ T.number b }
+{
+    if a.is_below(b) {
+        b.minus(a)
+    } else {
+        a.minus(b)
+    }
+}
+
+/// The residue of a + b. Condition: m is at least 1. There is no division where words have more than 16 bits and
+/// both are below m.
 pub fn addm<T: PlainWord>(a: T, b: T, m: T) -> T
     requires { 1 ≤ T.number m }
     ensures { T.number result ≡ (T.number a + T.number b) % T.number m }
 {
-    if a.is_below(m) {
-        if b.is_below(m) {
-            return add_below(a, b, m);
-        }
-    }
-    let sum = a.wrapping_add(b);
-    if sum.is_below(b) {
-        T::narrow_remainder(T::merge(sum, T::one()), m)
+    if spares_division(a, m) & spares_division(b, m) {
+        add_below(a, b, m)
     } else {
-        sum.remainder(m)
+        T::narrow_remainder(whole_sum(a, b), m)
     }
 }
 
-/// The residue of a - b. Condition: m is at least 1. There is no division where both are below m.
+/// The residue of a - b. Condition: m is at least 1. There is no division where words have more than 16 bits and
+/// both are below m.
+///
+/// Which of the two is the greater is often no better than a guess, so one remainder serves both cases.
 pub fn subm<T: PlainWord>(a: T, b: T, m: T) -> T
     requires { 1 ≤ T.number m }
     ensures { T.number result ≡ residue (T.number m) (pos (T.number a) -ℤ pos (T.number b)) }
 {
+    let rest = reduced(distance(a, b), m);
     if a.is_below(b) {
-        neg_below(reduced(b.minus(a), m), m)
+        neg_below(rest, m)
     } else {
-        reduced(a.minus(b), m)
+        rest
     }
 }
 

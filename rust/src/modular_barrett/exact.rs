@@ -7,6 +7,7 @@ use crate::modular_word::ring_word::RingWord;
 
 /// The quotient by d; `None` exactly where d doesn't divide n. Condition: the multiplier and the
 /// shift fit d.
+#[inline]
 pub fn exact_quotient<T: PathWord>(n: T, d: T, divider: &PreMulInv1by1<T>) -> Option<T> {
     let (q, r) = divider.div_rem(n, d);
     if r.is_zero_word() { Some(q) } else { None }
@@ -15,6 +16,7 @@ pub fn exact_quotient<T: PathWord>(n: T, d: T, divider: &PreMulInv1by1<T>) -> Op
 impl DivExact<u8, PreMulInv1by1<u8>> for u8 {
     type Output = u8;
 
+    #[inline]
     fn div_exact(self, d: u8, pre: &PreMulInv1by1<u8>) -> Option<u8> {
         exact_quotient(self, d, pre)
     }
@@ -23,6 +25,7 @@ impl DivExact<u8, PreMulInv1by1<u8>> for u8 {
 impl DivExact<u16, PreMulInv1by1<u16>> for u16 {
     type Output = u16;
 
+    #[inline]
     fn div_exact(self, d: u16, pre: &PreMulInv1by1<u16>) -> Option<u16> {
         exact_quotient(self, d, pre)
     }
@@ -31,6 +34,7 @@ impl DivExact<u16, PreMulInv1by1<u16>> for u16 {
 impl DivExact<u32, PreMulInv1by1<u32>> for u32 {
     type Output = u32;
 
+    #[inline]
     fn div_exact(self, d: u32, pre: &PreMulInv1by1<u32>) -> Option<u32> {
         exact_quotient(self, d, pre)
     }
@@ -39,6 +43,7 @@ impl DivExact<u32, PreMulInv1by1<u32>> for u32 {
 impl DivExact<u64, PreMulInv1by1<u64>> for u64 {
     type Output = u64;
 
+    #[inline]
     fn div_exact(self, d: u64, pre: &PreMulInv1by1<u64>) -> Option<u64> {
         exact_quotient(self, d, pre)
     }
@@ -47,36 +52,42 @@ impl DivExact<u64, PreMulInv1by1<u64>> for u64 {
 impl DivExact<usize, PreMulInv1by1<usize>> for usize {
     type Output = usize;
 
+    #[inline]
     fn div_exact(self, d: usize, pre: &PreMulInv1by1<usize>) -> Option<usize> {
         exact_quotient(self, d, pre)
     }
 }
 
 impl DivExactAssign<u8, PreMulInv1by1<u8>> for u8 {
+    #[inline]
     fn div_exact_assign(&mut self, d: u8, pre: &PreMulInv1by1<u8>) -> bool {
         assign_exact(self, d, pre)
     }
 }
 
 impl DivExactAssign<u16, PreMulInv1by1<u16>> for u16 {
+    #[inline]
     fn div_exact_assign(&mut self, d: u16, pre: &PreMulInv1by1<u16>) -> bool {
         assign_exact(self, d, pre)
     }
 }
 
 impl DivExactAssign<u32, PreMulInv1by1<u32>> for u32 {
+    #[inline]
     fn div_exact_assign(&mut self, d: u32, pre: &PreMulInv1by1<u32>) -> bool {
         assign_exact(self, d, pre)
     }
 }
 
 impl DivExactAssign<u64, PreMulInv1by1<u64>> for u64 {
+    #[inline]
     fn div_exact_assign(&mut self, d: u64, pre: &PreMulInv1by1<u64>) -> bool {
         assign_exact(self, d, pre)
     }
 }
 
 impl DivExactAssign<usize, PreMulInv1by1<usize>> for usize {
+    #[inline]
     fn div_exact_assign(&mut self, d: usize, pre: &PreMulInv1by1<usize>) -> bool {
         assign_exact(self, d, pre)
     }

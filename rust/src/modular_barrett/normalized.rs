@@ -16,12 +16,14 @@ impl<Any> StoredDivisor for Any {}
 ///
 /// Source: Möller and Granlund, "Improved division by invariant integers".
 #[derive(Debug, PartialEq, Eq)]
+#[must_use]
 pub struct Normalized2by1Divisor<T: PathWord> {
     divisor: T,
     reciprocal: T,
 }
 
 impl<T: PathWord> Clone for Normalized2by1Divisor<T> {
+    #[inline]
     fn clone(&self) -> Self {
         *self
     }
@@ -31,12 +33,14 @@ impl<T: PathWord> Copy for Normalized2by1Divisor<T> {}
 
 impl<T: PathWord> Normalized2by1Divisor<T> {
     /// The divisor.
+    #[inline]
     pub fn divisor(&self) -> T {
         self.divisor
     }
 
     /// Quotient and remainder of a word. A divisor with its top bit set goes into a word once at
     /// most.
+    #[inline]
     pub fn div_rem_1by1(&self, a: T) -> (T, T) {
         if a.is_below(self.divisor) {
             (T::zero(), a)
@@ -46,6 +50,11 @@ impl<T: PathWord> Normalized2by1Divisor<T> {
     }
 
     /// Quotient and remainder of a double word. Condition: its high word is below the divisor.
+    ///
+    /// # Panics
+    ///
+    /// Outside the condition, in a debug build.
+    #[inline]
     pub fn div_rem_2by1(&self, a: T::Double) -> (T, T) {
         debug_assert!(T::split(a).1.is_below(self.divisor));
         div_2by1(self.divisor, self.reciprocal, a)
@@ -54,11 +63,17 @@ impl<T: PathWord> Normalized2by1Divisor<T> {
 
 impl<T: PlainWord> Normalized2by1Divisor<T> {
     /// The reciprocal of a divisor. Condition: the divisor's top bit is set.
+    #[inline]
     pub fn invert_word(d: T) -> T {
         reciprocal::invert_word(d)
     }
 
     /// A divisor with its reciprocal. Condition: the divisor's top bit is set.
+    ///
+    /// # Panics
+    ///
+    /// Outside the condition.
+    #[inline]
     pub fn new(d: T) -> Self {
         assert!(T::zero().wrapping_sub(T::one()).half().is_below(d));
         Normalized2by1Divisor {

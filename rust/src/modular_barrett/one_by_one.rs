@@ -15,12 +15,14 @@ impl<Any> FitsDivisor for Any {}
 /// Source: Granlund and Montgomery, "Division by invariant integers using multiplication", section
 /// 4.
 #[derive(Debug, Clone, Copy, PartialEq, Eq)]
+#[must_use]
 pub struct PreMulInv1by1<T: PathWord> {
     multiplier: T,
     shift: u32,
 }
 
 // How many binary digits a word has.
+#[inline]
 fn binary_digits<T: PathWord>(x: T) -> u32 {
     T::bits() - x.leading_zeros()
 }
@@ -30,6 +32,7 @@ impl<T: PathWord> PreMulInv1by1<T> {
     ///
     /// Source: Granlund and Montgomery, "Division by invariant integers using multiplication", figure
     /// 4.1.
+    #[inline]
     pub fn div_rem(&self, a: T, d: T) -> (T, T) {
         div_1by1(d, self.multiplier, self.shift, a)
     }
@@ -42,6 +45,10 @@ impl<T: PlainWord> PreMulInv1by1<T> {
     ///
     /// Source: Granlund and Montgomery, "Division by invariant integers using multiplication", section
     /// 4.
+    ///
+    /// # Panics
+    ///
+    /// Outside the condition.
     pub fn new(d: T) -> Self {
         assert!(!d.half().is_zero_word());
         let less = d.minus(T::one());

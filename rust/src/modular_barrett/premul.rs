@@ -16,12 +16,14 @@ use crate::modular_word::ring_word::RingWord;
 ///
 /// Source: Möller and Granlund, "Improved division by invariant integers".
 #[derive(Debug, PartialEq, Eq)]
+#[must_use]
 pub struct PreMulInv2by1<T: PlainWord> {
     divider: Normalized2by1Divisor<T>,
     shift: u32,
 }
 
 impl<T: PlainWord> Clone for PreMulInv2by1<T> {
+    #[inline]
     fn clone(&self) -> Self {
         *self
     }
@@ -31,6 +33,7 @@ impl<T: PlainWord> Copy for PreMulInv2by1<T> {}
 
 impl<T: PlainWord> PreMulInv2by1<T> {
     /// The reducer of a modulus. Condition: it is at least 1.
+    #[inline]
     pub fn new(m: T) -> Self {
         let shift = m.leading_zeros();
         PreMulInv2by1 {
@@ -40,34 +43,40 @@ impl<T: PlainWord> PreMulInv2by1<T> {
     }
 
     /// The divider by the scaled modulus.
+    #[inline]
     pub fn divider(&self) -> &Normalized2by1Divisor<T> {
         &self.divider
     }
 
     /// How many leading zeros the modulus has.
+    #[inline]
     pub fn shift(&self) -> u32 {
         self.shift
     }
 
     /// The scaled modulus, which has its top bit set.
+    #[inline]
     pub fn divisor(&self) -> T {
         self.divider.divisor()
     }
 }
 
 impl<T: PlainWord> Reducer<T> for PreMulInv2by1<T> {
+    #[inline]
     fn new(m: &T) -> Self {
         Self::new(*m)
     }
 
+    #[inline]
     fn transform(&self, n: T) -> T {
-        if n.is_below(self.modulus()) {
-            n.shift_left(self.shift)
+        if self.shift == 0 {
+            self.divider.div_rem_1by1(n).1
         } else {
             self.divider.div_rem_2by1(n.shift_left_wide(self.shift)).1
         }
     }
 
+    #[inline]
     fn check(&self, f: &T) -> bool {
         if f.is_below(self.divisor()) {
             f.low_bits(self.shift).is_zero_word()
@@ -76,44 +85,54 @@ impl<T: PlainWord> Reducer<T> for PreMulInv2by1<T> {
         }
     }
 
+    #[inline]
     fn modulus(&self) -> T {
         self.divisor().shift_right(self.shift)
     }
 
+    #[inline]
     fn residue(&self, f: T) -> T {
         f.shift_right(self.shift)
     }
 
+    #[inline]
     fn is_zero(&self, f: &T) -> bool {
         f.is_zero_word()
     }
 
+    #[inline]
     fn add(&self, a: &T, b: &T) -> T {
         add_below(*a, *b, self.divisor())
     }
 
+    #[inline]
     fn dbl(&self, f: T) -> T {
         dbl_below(f, self.divisor())
     }
 
+    #[inline]
     fn sub(&self, a: &T, b: &T) -> T {
         sub_below(*a, *b, self.divisor())
     }
 
+    #[inline]
     fn neg(&self, f: T) -> T {
         neg_below(f, self.divisor())
     }
 
+    #[inline]
     fn mul(&self, a: &T, b: &T) -> T {
         let value = self.residue(*a);
         self.divider.div_rem_2by1(value.product(*b)).1
     }
 
+    #[inline]
     fn inv(&self, f: T) -> Option<T> {
         let inverse = invm(self.residue(f), self.modulus())?;
         Some(inverse.shift_left(self.shift))
     }
 
+    #[inline]
     fn sqr(&self, f: T) -> T {
         self.mul(&f, &f)
     }

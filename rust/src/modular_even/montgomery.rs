@@ -18,6 +18,7 @@ use crate::modular_word::ring_word::RingWord;
 /// Source: Handbook of Applied Cryptography, section 14.3.2; for even m Koç, "Montgomery reduction with
 /// even modulus".
 #[derive(Debug)]
+#[must_use]
 pub struct Montgomery<T: PlainWord> {
     // The ring modulo k.
     odd: OddRing<T, StoredModulus<T>>,
@@ -26,6 +27,7 @@ pub struct Montgomery<T: PlainWord> {
 }
 
 impl<T: PlainWord> Clone for Montgomery<T> {
+    #[inline]
     fn clone(&self) -> Self {
         *self
     }
@@ -35,6 +37,7 @@ impl<T: PlainWord> Copy for Montgomery<T> {}
 
 impl<T: PlainWord> Montgomery<T> {
     /// The reducer of m. Condition: m is at least 1.
+    #[inline]
     pub fn new(m: T) -> Self {
         let twos = m.trailing_zeros();
         Montgomery {
@@ -45,6 +48,7 @@ impl<T: PlainWord> Montgomery<T> {
 
     /// What is computed once of m: the negated inverse of its odd part modulo the base, and the square
     /// of the base modulo that part.
+    #[inline]
     pub fn computed_once(&self) -> (T, T) {
         (self.odd.kept.negated_inverse, self.odd.kept.square)
     }
@@ -64,11 +68,13 @@ impl<T: PlainWord> Montgomery<T> {
     }
 
     // The part of a form above the lowest bits.
+    #[inline]
     fn high(&self, f: T) -> T {
         f.shift_right(self.twos)
     }
 
     // The form of a given part above the lowest bits, and of the lowest bits of a word.
+    #[inline]
     fn join(&self, high: T, low: T) -> T {
         high.shift_left(self.twos).plus(low.low_bits(self.twos))
     }
@@ -76,10 +82,12 @@ impl<T: PlainWord> Montgomery<T> {
 
 // An early test of s keeps odd moduli as fast as they are without the second part.
 impl<T: PlainWord> Reducer<T> for Montgomery<T> {
+    #[inline]
     fn new(m: &T) -> Self {
         Montgomery::new(*m)
     }
 
+    #[inline]
     fn transform(&self, n: T) -> T {
         let high = self.odd.transform(n);
         if self.twos == 0 {
@@ -88,10 +96,12 @@ impl<T: PlainWord> Reducer<T> for Montgomery<T> {
         self.join(high, n)
     }
 
+    #[inline]
     fn check(&self, f: &T) -> bool {
         f.is_below(self.modulus())
     }
 
+    #[inline]
     fn modulus(&self) -> T {
         self.odd.modulus().shift_left(self.twos)
     }
@@ -109,6 +119,7 @@ impl<T: PlainWord> Reducer<T> for Montgomery<T> {
         value.plus(self.odd.kept.modulus.times(steps))
     }
 
+    #[inline]
     fn is_zero(&self, f: &T) -> bool {
         f.is_zero_word()
     }
@@ -121,6 +132,7 @@ impl<T: PlainWord> Reducer<T> for Montgomery<T> {
         self.join(high, a.wrapping_add(*b))
     }
 
+    #[inline]
     fn dbl(&self, f: T) -> T {
         self.add(&f, &f)
     }
@@ -133,6 +145,7 @@ impl<T: PlainWord> Reducer<T> for Montgomery<T> {
         self.join(high, a.wrapping_sub(*b))
     }
 
+    #[inline]
     fn neg(&self, f: T) -> T {
         self.sub(&T::zero(), &f)
     }
@@ -146,6 +159,7 @@ impl<T: PlainWord> Reducer<T> for Montgomery<T> {
     }
 
     // Through the value: its inverse by Euclid's algorithm, and the form of that.
+    #[inline]
     fn inv(&self, f: T) -> Option<T> {
         match invm(self.residue(f), self.modulus()) {
             Some(x) => Some(self.transform(x)),
@@ -153,6 +167,7 @@ impl<T: PlainWord> Reducer<T> for Montgomery<T> {
         }
     }
 
+    #[inline]
     fn sqr(&self, f: T) -> T {
         self.mul(&f, &f)
     }
@@ -160,4 +175,5 @@ impl<T: PlainWord> Reducer<T> for Montgomery<T> {
 
 /// The two parts of a modulus are an odd number and a power of two, and for an odd modulus the form of
 /// a value is the value times the base.
+#[inline]
 pub fn form_laws<T: RingWord>() {}

@@ -6,18 +6,23 @@ use crate::modular_word::ring_word::RingWord;
 /// A dividend that folds: a word of 64 or 128 bits.
 pub trait FoldWord: Sized + RingWord {
     /// The sum. Condition: it fits the word.
+    #[must_use]
     fn plus(self, rhs: Self) -> Self;
 
     /// The difference. Condition: it is not below 0.
+    #[must_use]
     fn minus(self, rhs: Self) -> Self;
 
     /// The product. Condition: it fits the word.
+    #[must_use]
     fn times(self, rhs: Self) -> Self;
 
     /// The word divided by a power of two, rounded down. Condition: `by` is below the width.
+    #[must_use]
     fn shift_right(self, by: u32) -> Self;
 
     /// The bits that the word and a mask share.
+    #[must_use]
     fn masked(self, mask: Self) -> Self;
 
     /// Whether the word is below another.
@@ -25,52 +30,64 @@ pub trait FoldWord: Sized + RingWord {
 }
 
 impl FoldWord for u64 {
+    #[inline]
     fn plus(self, rhs: u64) -> u64 {
         self + rhs
     }
 
+    #[inline]
     fn minus(self, rhs: u64) -> u64 {
         self - rhs
     }
 
+    #[inline]
     fn times(self, rhs: u64) -> u64 {
         self * rhs
     }
 
+    #[inline]
     fn shift_right(self, by: u32) -> u64 {
         self >> by
     }
 
+    #[inline]
     fn masked(self, mask: u64) -> u64 {
         self & mask
     }
 
+    #[inline]
     fn is_below(self, other: u64) -> bool {
         self < other
     }
 }
 
 impl FoldWord for u128 {
+    #[inline]
     fn plus(self, rhs: u128) -> u128 {
         self + rhs
     }
 
+    #[inline]
     fn minus(self, rhs: u128) -> u128 {
         self - rhs
     }
 
+    #[inline]
     fn times(self, rhs: u128) -> u128 {
         self * rhs
     }
 
+    #[inline]
     fn shift_right(self, by: u32) -> u128 {
         self >> by
     }
 
+    #[inline]
     fn masked(self, mask: u128) -> u128 {
         self & mask
     }
 
+    #[inline]
     fn is_below(self, other: u128) -> bool {
         self < other
     }

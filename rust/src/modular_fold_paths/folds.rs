@@ -7,6 +7,7 @@ use crate::modular_word::ring_word::RingWord;
 
 // One fold at the bit p: the part above it times c, plus the part below it. The mask has the bits
 // below p. A number that has no part above it stays as it is, which counts for no fold.
+#[inline]
 fn fold<V: FoldWord>(v: V, p: u32, mask: V, c: V) -> (V, u32) {
     let high = v.shift_right(p);
     let rest = high.times(c).plus(v.masked(mask));
@@ -19,6 +20,7 @@ fn fold<V: FoldWord>(v: V, p: u32, mask: V, c: V) -> (V, u32) {
 
 // Two folds in a row, which are enough for a product of two numbers below 2^p where c is 1: a number
 // below 2^p of the same remainder modulo m, and how many folds had anything to fold.
+#[inline]
 fn fold_two<V: FoldWord>(v: V, p: u32, mask: V, c: V, m: V) -> (V, u32) {
     let (first, one) = fold(v, p, mask, c);
     let (second, two) = fold(first, p, mask, c);
@@ -35,6 +37,7 @@ fn fold_three<V: FoldWord>(v: V, p: u32, mask: V, c: V, m: V) -> (V, u32) {
 }
 
 // As many folds as it takes, one after a comparison each.
+#[inline]
 fn fold_on<V: FoldWord>(v: V, p: u32, mask: V, c: V, m: V) -> (V, u32) {
     let mut rest = v;
     let mut count = 0;
@@ -74,6 +77,7 @@ pub trait FoldedWord: Sized + PlainWord {
 }
 
 impl FoldedWord for u32 {
+    #[inline]
     fn fold_double(v: u64, p: u32, c: u32, m: u32) -> (u32, u32) {
         let (rest, count) = fold_all(v, p, c as u64, m as u64);
         (rest as u32, count)
@@ -81,6 +85,7 @@ impl FoldedWord for u32 {
 }
 
 impl FoldedWord for u64 {
+    #[inline]
     fn fold_double(v: u128, p: u32, c: u64, m: u64) -> (u64, u32) {
         let (rest, count) = fold_all(v, p, c as u128, m as u128);
         (rest as u64, count)
@@ -88,6 +93,7 @@ impl FoldedWord for u64 {
 }
 
 // The residue of a + b. Condition: b is at most m, and the sum below 2m.
+#[inline]
 pub(crate) fn sum_once<T: PathWord>(a: T, b: T, m: T) -> T {
     let gap = m.minus(b);
     if a.is_below(gap) {
@@ -104,6 +110,7 @@ pub(crate) fn sum_once<T: PathWord>(a: T, b: T, m: T) -> T {
 /// modulo m. p may be the width of a word.
 ///
 /// Source: Handbook of Applied Cryptography, algorithm 14.47.
+#[inline]
 pub fn reduce_by_folds<T: FoldedWord>(v: T::Double, p: u32, c: T, m: T) -> (T, u32) {
     let (rest, count) = T::fold_double(v, p, c, m);
     (sum_once(rest, T::zero(), m), count)
@@ -111,6 +118,7 @@ pub fn reduce_by_folds<T: FoldedWord>(v: T::Double, p: u32, c: T, m: T) -> (T, u
 
 /// No folds below 2^p, and one more than from hi·c + lo where c is below 2^p and v isn't, hi and lo being
 /// the parts of v at the bit p; and few where c is less than half of 2^p.
+#[inline]
 pub fn fold_laws() {}
 
 #[cfg(test)]

@@ -7,6 +7,7 @@ use crate::modular_word::ring_word::RingWord;
 
 // The parts at the bit p of high·c + low, where the lower part, given and answered, stands at the top of
 // its word, so that the two parts are the words of a double word. Condition: c is below 2^p.
+#[inline]
 fn fold_parts<T: PathWord>(low: T, high: T, p: u32, c: T) -> (T, T) {
     let scaled = high.product(c.shift_left(T::bits() - p));
     T::split(T::double_plus(scaled, T::merge(low, T::zero())))
@@ -31,6 +32,7 @@ fn product_by_folds<T: PathWord>(a: T, b: T, p: u32, c: T, m: T) -> T {
 /// Where c is small the product is folded by its parts, and no number is tested: c and p alone choose.
 ///
 /// Source: Handbook of Applied Cryptography, algorithm 14.47.
+#[inline]
 pub fn reduce_product<T: FoldedWord>(a: T, b: T, p: u32, c: T, m: T) -> T {
     if c.shift_right(p / 2).is_zero_word() {
         product_by_folds(a, b, p, c, m)

@@ -7,6 +7,7 @@ use crate::modular_reduced::reducer::Reducer;
 
 /// The modulus 2^P - K of at most 32 bits.
 #[derive(Debug, Clone, Copy)]
+#[must_use]
 pub struct Mersenne32<const P: u8, const K: u32> {
     // Private, so that a value stands for parameters in range; the modulus comes from the parameters.
     made: (),
@@ -22,42 +23,54 @@ pub type FixedMersenne32<const P: u8, const K: u32> = FoldRing<u32, Mersenne32<P
 
 impl<const P: u8, const K: u32> FoldRing<u32, Mersenne32<P, K>> {
     /// The modulus. Condition: the parameters are in range.
+    ///
+    /// # Panics
+    ///
+    /// Outside the condition.
+    #[inline]
     pub fn fixed_modulus() -> u32 {
         assert!(P <= 32 && K % 2 == 1 && 2 * (K as u64) < 1 << P);
         ((1u64 << P) - K as u64) as u32
     }
 
     /// The residue of a word. Condition: the parameters are in range.
+    #[inline]
     pub fn reduce_single(v: u32) -> u32 {
         Self::reduce_counted(v as u64).0
     }
 
     /// The residue of a double word. Condition: the parameters are in range.
+    #[inline]
     pub fn reduce_double(v: u64) -> u32 {
         Self::reduce_counted(v).0
     }
 
     /// The residue of a double word, and the number of folds that take it below 2^P. Condition: the
     /// parameters are in range.
+    #[inline]
     pub fn reduce_counted(v: u64) -> (u32, u32) {
         reduce_by_folds::<u32>(v, P as u32, K, Self::fixed_modulus())
     }
 }
 
 impl<const P: u8, const K: u32> FoldModulus<u32> for Mersenne32<P, K> {
+    #[inline]
     fn keep(m: u32) -> Self {
         assert!(m == FixedMersenne32::<P, K>::fixed_modulus());
         Mersenne32 { made: () }
     }
 
+    #[inline]
     fn modulus(&self) -> u32 {
         FixedMersenne32::<P, K>::fixed_modulus()
     }
 
+    #[inline]
     fn reduced(&self, n: u32) -> u32 {
         FixedMersenne32::<P, K>::reduce_single(n)
     }
 
+    #[inline]
     fn product(&self, a: u32, b: u32) -> u32 {
         reduce_product(a, b, P as u32, K, self.modulus())
     }
@@ -65,6 +78,7 @@ impl<const P: u8, const K: u32> FoldModulus<u32> for Mersenne32<P, K> {
 
 /// The modulus 2^P - K of at most 64 bits.
 #[derive(Debug, Clone, Copy)]
+#[must_use]
 pub struct Mersenne64<const P: u8, const K: u64> {
     // Private, so that a value stands for parameters in range; the modulus comes from the parameters.
     made: (),
@@ -80,42 +94,54 @@ pub type FixedMersenne64<const P: u8, const K: u64> = FoldRing<u64, Mersenne64<P
 
 impl<const P: u8, const K: u64> FoldRing<u64, Mersenne64<P, K>> {
     /// The modulus. Condition: the parameters are in range.
+    ///
+    /// # Panics
+    ///
+    /// Outside the condition.
+    #[inline]
     pub fn fixed_modulus() -> u64 {
         assert!(P <= 64 && K % 2 == 1 && 2 * (K as u128) < 1 << P);
         ((1u128 << P) - K as u128) as u64
     }
 
     /// The residue of a word. Condition: the parameters are in range.
+    #[inline]
     pub fn reduce_single(v: u64) -> u64 {
         Self::reduce_counted(v as u128).0
     }
 
     /// The residue of a double word. Condition: the parameters are in range.
+    #[inline]
     pub fn reduce_double(v: u128) -> u64 {
         Self::reduce_counted(v).0
     }
 
     /// The residue of a double word, and the number of folds that take it below 2^P. Condition: the
     /// parameters are in range.
+    #[inline]
     pub fn reduce_counted(v: u128) -> (u64, u32) {
         reduce_by_folds::<u64>(v, P as u32, K, Self::fixed_modulus())
     }
 }
 
 impl<const P: u8, const K: u64> FoldModulus<u64> for Mersenne64<P, K> {
+    #[inline]
     fn keep(m: u64) -> Self {
         assert!(m == FixedMersenne64::<P, K>::fixed_modulus());
         Mersenne64 { made: () }
     }
 
+    #[inline]
     fn modulus(&self) -> u64 {
         FixedMersenne64::<P, K>::fixed_modulus()
     }
 
+    #[inline]
     fn reduced(&self, n: u64) -> u64 {
         FixedMersenne64::<P, K>::reduce_single(n)
     }
 
+    #[inline]
     fn product(&self, a: u64, b: u64) -> u64 {
         reduce_product(a, b, P as u32, K, self.modulus())
     }
@@ -127,35 +153,41 @@ impl<const P: u8, const K: u64> FoldModulus<u64> for Mersenne64<P, K> {
 /// The parameters are in range where P is 64 at most and K is odd and less than half of 2^P. Forms are
 /// below 2^64, so all but the reduction of words is computed by `FixedMersenne64`.
 #[derive(Debug, Clone, Copy)]
+#[must_use]
 pub struct FixedMersenne<const P: u8, const K: u64> {
     ring: FixedMersenne64<P, K>,
 }
 
 impl<const P: u8, const K: u64> FixedMersenne<P, K> {
     /// The modulus. Condition: the parameters are in range.
+    #[inline]
     pub fn fixed_modulus() -> u128 {
         FixedMersenne64::<P, K>::fixed_modulus() as u128
     }
 
     /// The residue of a word. Condition: the parameters are in range.
+    #[inline]
     pub fn reduce_single(v: u128) -> u128 {
         Self::reduce_counted(v).0
     }
 
     /// The residue of a word, and the number of folds that take it below 2^P. Condition: the parameters
     /// are in range.
+    #[inline]
     pub fn reduce_counted(v: u128) -> (u128, u32) {
         let (rest, count) = FixedMersenne64::<P, K>::reduce_counted(v);
         (rest as u128, count)
     }
 
     // A form as a word of 64 bits.
+    #[inline]
     fn narrow(f: u128) -> u64 {
         f as u64
     }
 }
 
 impl<const P: u8, const K: u64> Reducer<u128> for FixedMersenne<P, K> {
+    #[inline]
     fn new(m: &u128) -> Self {
         assert!(*m == Self::fixed_modulus());
         FixedMersenne {
@@ -163,46 +195,57 @@ impl<const P: u8, const K: u64> Reducer<u128> for FixedMersenne<P, K> {
         }
     }
 
+    #[inline]
     fn transform(&self, n: u128) -> u128 {
         Self::reduce_single(n)
     }
 
+    #[inline]
     fn check(&self, f: &u128) -> bool {
         *f < Self::fixed_modulus()
     }
 
+    #[inline]
     fn modulus(&self) -> u128 {
         Self::fixed_modulus()
     }
 
+    #[inline]
     fn residue(&self, f: u128) -> u128 {
         f
     }
 
+    #[inline]
     fn is_zero(&self, f: &u128) -> bool {
         *f == 0
     }
 
+    #[inline]
     fn add(&self, a: &u128, b: &u128) -> u128 {
         self.ring.add(&Self::narrow(*a), &Self::narrow(*b)) as u128
     }
 
+    #[inline]
     fn dbl(&self, f: u128) -> u128 {
         self.ring.dbl(Self::narrow(f)) as u128
     }
 
+    #[inline]
     fn sub(&self, a: &u128, b: &u128) -> u128 {
         self.ring.sub(&Self::narrow(*a), &Self::narrow(*b)) as u128
     }
 
+    #[inline]
     fn neg(&self, f: u128) -> u128 {
         self.ring.neg(Self::narrow(f)) as u128
     }
 
+    #[inline]
     fn mul(&self, a: &u128, b: &u128) -> u128 {
         self.ring.mul(&Self::narrow(*a), &Self::narrow(*b)) as u128
     }
 
+    #[inline]
     fn inv(&self, f: u128) -> Option<u128> {
         match self.ring.inv(Self::narrow(f)) {
             Some(x) => Some(x as u128),
@@ -210,6 +253,7 @@ impl<const P: u8, const K: u64> Reducer<u128> for FixedMersenne<P, K> {
         }
     }
 
+    #[inline]
     fn sqr(&self, f: u128) -> u128 {
         self.ring.sqr(Self::narrow(f)) as u128
     }

@@ -13,6 +13,7 @@ use core::marker::PhantomData;
 /// and products are reduced by it. A value of the type is known to have parameters in range.
 pub trait FoldModulus<T: FoldedWord>: Copy {
     /// The modulus of the parameters. Condition: it is m, and the parameters are in range.
+    #[must_use]
     fn keep(m: T) -> Self;
 
     /// The modulus.
@@ -28,12 +29,14 @@ pub trait FoldModulus<T: FoldedWord>: Copy {
 /// The reducer of a modulus near a power of two, over words T: the form of a value is the value itself.
 /// It keeps no number, and `new` takes the modulus of the parameters alone.
 #[derive(Debug, Clone, Copy)]
+#[must_use]
 pub struct FoldRing<T: FoldedWord, M: FoldModulus<T>> {
     word: PhantomData<T>,
     kept: M,
 }
 
 impl<T: FoldedWord, M: FoldModulus<T>> Reducer<T> for FoldRing<T, M> {
+    #[inline]
     fn new(m: &T) -> Self {
         FoldRing {
             word: PhantomData,
@@ -41,50 +44,62 @@ impl<T: FoldedWord, M: FoldModulus<T>> Reducer<T> for FoldRing<T, M> {
         }
     }
 
+    #[inline]
     fn transform(&self, n: T) -> T {
         self.kept.reduced(n)
     }
 
+    #[inline]
     fn check(&self, f: &T) -> bool {
         f.is_below(self.kept.modulus())
     }
 
+    #[inline]
     fn modulus(&self) -> T {
         self.kept.modulus()
     }
 
+    #[inline]
     fn residue(&self, f: T) -> T {
         f
     }
 
+    #[inline]
     fn is_zero(&self, f: &T) -> bool {
         f.is_zero_word()
     }
 
+    #[inline]
     fn add(&self, a: &T, b: &T) -> T {
         add_below(*a, *b, self.kept.modulus())
     }
 
+    #[inline]
     fn dbl(&self, f: T) -> T {
         dbl_below(f, self.kept.modulus())
     }
 
+    #[inline]
     fn sub(&self, a: &T, b: &T) -> T {
         sub_below(*a, *b, self.kept.modulus())
     }
 
+    #[inline]
     fn neg(&self, f: T) -> T {
         neg_below(f, self.kept.modulus())
     }
 
+    #[inline]
     fn mul(&self, a: &T, b: &T) -> T {
         self.kept.product(*a, *b)
     }
 
+    #[inline]
     fn inv(&self, f: T) -> Option<T> {
         invm(f, self.kept.modulus())
     }
 
+    #[inline]
     fn sqr(&self, f: T) -> T {
         self.kept.product(f, f)
     }

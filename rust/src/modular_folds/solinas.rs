@@ -23,17 +23,21 @@ pub trait Trinomial: Sized {
 
 /// The trinomial 2^P1 - 2^P2 + K, for words of 32 bits.
 #[derive(Debug, Clone, Copy)]
+#[must_use]
 pub struct Trinomial32<const P1: u8, const P2: u8, const K: i32> {}
 
 impl<const P1: u8, const P2: u8, const K: i32> Trinomial for Trinomial32<P1, P2, K> {
+    #[inline]
     fn p1() -> u8 {
         P1
     }
 
+    #[inline]
     fn p2() -> u8 {
         P2
     }
 
+    #[inline]
     fn k() -> i64 {
         K as i64
     }
@@ -41,33 +45,40 @@ impl<const P1: u8, const P2: u8, const K: i32> Trinomial for Trinomial32<P1, P2,
 
 /// The trinomial 2^P1 - 2^P2 + K, for words of 64 bits.
 #[derive(Debug, Clone, Copy)]
+#[must_use]
 pub struct Trinomial64<const P1: u8, const P2: u8, const K: i64> {}
 
 impl<const P1: u8, const P2: u8, const K: i64> Trinomial for Trinomial64<P1, P2, K> {
+    #[inline]
     fn p1() -> u8 {
         P1
     }
 
+    #[inline]
     fn p2() -> u8 {
         P2
     }
 
+    #[inline]
     fn k() -> i64 {
         K
     }
 }
 
 // What a fold at the bit p1 multiplies by: 2^p2 - k.
+#[inline]
 fn factor_of(p1: u8, p2: u8, k: i64) -> u64 {
     ((1u64 << p2) as i128 - k as i128) as u64
 }
 
+#[inline]
 fn modulus_of(p1: u8, p2: u8, k: i64) -> u64 {
     ((1u128 << p1) - factor_of(p1, p2, k) as u128) as u64
 }
 
 // Whether the modulus is less than half of 2^p1: folds could take very many turns then, and leave
 // many times the modulus.
+#[inline]
 fn is_low(p1: u8, p2: u8, k: i64) -> bool {
     p1 == p2 + 1 && k < 0
 }
@@ -75,16 +86,19 @@ fn is_low(p1: u8, p2: u8, k: i64) -> bool {
 /// A word whose trinomial reducers exist: u32 and u64.
 pub trait TrinomialWord: Sized + FoldedWord {
     /// The word of a number. Condition: it fits.
+    #[must_use]
     fn word_of(n: u64) -> Self;
 }
 
 impl TrinomialWord for u32 {
+    #[inline]
     fn word_of(n: u64) -> u32 {
         n as u32
     }
 }
 
 impl TrinomialWord for u64 {
+    #[inline]
     fn word_of(n: u64) -> u64 {
         n
     }
@@ -92,6 +106,7 @@ impl TrinomialWord for u64 {
 
 /// The modulus 2^p1 - 2^p2 + k of the trinomial F, over words T.
 #[derive(Debug)]
+#[must_use]
 pub struct TrinomialModulus<T: TrinomialWord, F: Trinomial> {
     word: PhantomData<T>,
     parameters: PhantomData<F>,
@@ -121,6 +136,7 @@ pub type FixedTrinomialSolinas64<const P1: u8, const P2: u8, const K: i64> = Tri
 >;
 
 impl<T: TrinomialWord, F: Trinomial> Clone for TrinomialModulus<T, F> {
+    #[inline]
     fn clone(&self) -> Self {
         *self
     }
@@ -130,11 +146,16 @@ impl<T: TrinomialWord, F: Trinomial> Copy for TrinomialModulus<T, F> {}
 
 impl<T: TrinomialWord, F: Trinomial> FoldRing<T, TrinomialModulus<T, F>> {
     // What a fold at the bit p1 multiplies by.
+    #[inline]
     fn factor() -> T {
         T::word_of(factor_of(F::p1(), F::p2(), F::k()))
     }
 
     /// The modulus. Condition: the parameters are in range.
+    ///
+    /// # Panics
+    ///
+    /// Outside the condition.
     pub fn fixed_modulus() -> T {
         assert!(F::p1() as u32 <= T::bits() && 0 < F::p2() && F::p2() < F::p1());
         assert!(F::k().unsigned_abs() % 2 == 1 && F::k().unsigned_abs() < 1 << F::p2());
@@ -142,22 +163,26 @@ impl<T: TrinomialWord, F: Trinomial> FoldRing<T, TrinomialModulus<T, F>> {
     }
 
     /// The residue of a word. Condition: the parameters are in range.
+    #[inline]
     pub fn reduce_single(v: T) -> T {
         Self::reduce_counted(T::merge(v, T::zero())).0
     }
 
     /// The residue of a double word. Condition: the parameters are in range.
+    #[inline]
     pub fn reduce_double(v: T::Double) -> T {
         Self::reduce_counted(v).0
     }
 
     // The residue of a double word, by the primitive remainder.
+    #[inline]
     fn remainder(v: T::Double) -> T {
         T::narrow_remainder(v, Self::fixed_modulus())
     }
 
     /// The residue of a double word, and the number of folds that take it below 2^p1: 0 where the primitive
     /// remainder is taken. Condition: the parameters are in range.
+    #[inline]
     pub fn reduce_counted(v: T::Double) -> (T, u32) {
         if is_low(F::p1(), F::p2(), F::k()) {
             (Self::remainder(v), 0)
@@ -168,6 +193,7 @@ impl<T: TrinomialWord, F: Trinomial> FoldRing<T, TrinomialModulus<T, F>> {
 }
 
 impl<T: TrinomialWord, F: Trinomial> FoldModulus<T> for TrinomialModulus<T, F> {
+    #[inline]
     fn keep(m: T) -> Self {
         assert!(m == TrinomialSolinas::<T, F>::fixed_modulus());
         TrinomialModulus {
@@ -176,10 +202,12 @@ impl<T: TrinomialWord, F: Trinomial> FoldModulus<T> for TrinomialModulus<T, F> {
         }
     }
 
+    #[inline]
     fn modulus(&self) -> T {
         TrinomialSolinas::<T, F>::fixed_modulus()
     }
 
+    #[inline]
     fn reduced(&self, n: T) -> T {
         TrinomialSolinas::<T, F>::reduce_single(n)
     }

@@ -5,18 +5,21 @@
 /// away is what it was taken from.
 ///
 /// Source: Gauss, Disquisitiones Arithmeticae, articles 1 to 8 and 31.
+#[inline]
 pub fn undoing_laws() {}
 
 /// Sums over a range are equal where their terms are; where one term alone isn't 0, the sum is that term;
 /// terms of 0 at the end go; and n terms of at most b make at most n·b.
 ///
 /// Source: Graham, Knuth and Patashnik, Concrete Mathematics, chapter 2.
+#[inline]
 pub fn sum_below_laws() {}
 
 /// A product over no number is 1, one over one number more has one factor more, and products are equal
 /// where their factors are.
 ///
 /// Source: Graham, Knuth and Patashnik, Concrete Mathematics, section 2.1.
+#[inline]
 pub fn product_below_laws() {}
 
 /// A product has an inverse exactly where both factors have, and one over a range exactly where each
@@ -26,6 +29,7 @@ pub fn product_below_laws() {}
 ///
 /// Source: Gauss, Disquisitiones Arithmeticae, articles 29 and 31; for a range, Montgomery, "Speeding the
 /// Pollard and elliptic curve methods of factorization", section 10.3.1.
+#[inline]
 pub fn inverse_product_laws() {}
 
 /// Over a prime p, a^p leaves what a leaves (Fermat's theorem, without a condition). Over an odd one,
@@ -35,6 +39,7 @@ pub fn inverse_product_laws() {}
 ///
 /// Source: Hardy and Wright, "An Introduction to the Theory of Numbers", theorems 70 and 83; for the root
 /// Cohen, "A Course in Computational Algebraic Number Theory", section 1.5.1.
+#[inline]
 pub fn prime_power_laws() {}
 
 /// The cyclic product multiplies polynomials, coefficient by coefficient: where the terms at places that
@@ -43,4 +48,5 @@ pub fn prime_power_laws() {}
 /// which together have one coefficient more than n at most.
 ///
 /// Source: Knuth, The Art of Computer Programming, volume 2, section 4.3.3, part C.
+#[inline]
 pub fn coefficient_laws() {}

@@ -7,6 +7,7 @@ use crate::modular_word::ring_word::RingWord;
 /// behind the last place is left out.
 ///
 /// It is what `convolve` and `ntt` take: the values are the residues of the words.
+#[inline]
 pub fn load_forms<T: RingWord, R: Reducer<T>>(r: &R, words: &[T], forms: &mut [T]) {
     'entries: for i in 0..forms.len() {
         let word = if i < words.len() { words[i] } else { T::zero() };
@@ -16,6 +17,7 @@ pub fn load_forms<T: RingWord, R: Reducer<T>>(r: &R, words: &[T], forms: &mut [T
 
 /// Puts the values of the forms in place, from the first on: numbers below the modulus. Conditions: the
 /// forms are checked, and at least as many as the places.
+#[inline]
 pub fn unload_forms<T: RingWord, R: Reducer<T>>(r: &R, forms: &[T], words: &mut [T]) {
     'entries: for i in 0..words.len() {
         words[i] = r.residue(forms[i]);

@@ -6,6 +6,7 @@ use crate::modular_word::paths::redc;
 
 /// The odd number P as a modulus for words of 32 bits, which each operation knows when it is compiled.
 #[derive(Debug, Clone, Copy)]
+#[must_use]
 pub struct OddNumber32<const P: u32> {
     negated_inverse: u32,
     square: u32,
@@ -19,6 +20,11 @@ pub type FixedMontgomery32<const P: u32> = OddRing<u32, OddNumber32<P>>;
 
 impl<const P: u32> OddRing<u32, OddNumber32<P>> {
     /// The modulus P. Condition: P is odd.
+    ///
+    /// # Panics
+    ///
+    /// Outside the condition.
+    #[inline]
     pub fn fixed_modulus() -> u32 {
         assert!(P % 2 == 1);
         P
@@ -26,6 +32,7 @@ impl<const P: u32> OddRing<u32, OddNumber32<P>> {
 }
 
 impl<const P: u32> OddModulus<u32> for OddNumber32<P> {
+    #[inline]
     fn keep(m: u32) -> Self {
         assert!(m == FixedMontgomery32::<P>::fixed_modulus());
         let (negated_inverse, square) = computed_once(m);
@@ -35,14 +42,17 @@ impl<const P: u32> OddModulus<u32> for OddNumber32<P> {
         }
     }
 
+    #[inline]
     fn modulus(&self) -> u32 {
         P
     }
 
+    #[inline]
     fn square_of_base(&self) -> u32 {
         self.square
     }
 
+    #[inline]
     fn reduced(&self, t: u64) -> u32 {
         redc(P, self.negated_inverse, t)
     }
@@ -50,6 +60,7 @@ impl<const P: u32> OddModulus<u32> for OddNumber32<P> {
 
 /// The odd number P as a modulus for words of 64 bits, which each operation knows when it is compiled.
 #[derive(Debug, Clone, Copy)]
+#[must_use]
 pub struct OddNumber64<const P: u64> {
     negated_inverse: u64,
     square: u64,
@@ -63,6 +74,11 @@ pub type FixedMontgomery64<const P: u64> = OddRing<u64, OddNumber64<P>>;
 
 impl<const P: u64> OddRing<u64, OddNumber64<P>> {
     /// The modulus P. Condition: P is odd.
+    ///
+    /// # Panics
+    ///
+    /// Outside the condition.
+    #[inline]
     pub fn fixed_modulus() -> u64 {
         assert!(P % 2 == 1);
         P
@@ -70,6 +86,7 @@ impl<const P: u64> OddRing<u64, OddNumber64<P>> {
 }
 
 impl<const P: u64> OddModulus<u64> for OddNumber64<P> {
+    #[inline]
     fn keep(m: u64) -> Self {
         assert!(m == FixedMontgomery64::<P>::fixed_modulus());
         let (negated_inverse, square) = computed_once(m);
@@ -79,14 +96,17 @@ impl<const P: u64> OddModulus<u64> for OddNumber64<P> {
         }
     }
 
+    #[inline]
     fn modulus(&self) -> u64 {
         P
     }
 
+    #[inline]
     fn square_of_base(&self) -> u64 {
         self.square
     }
 
+    #[inline]
     fn reduced(&self, t: u128) -> u64 {
         redc(P, self.negated_inverse, t)
     }

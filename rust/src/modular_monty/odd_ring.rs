@@ -7,7 +7,7 @@ use crate::modular_prim::euclid::invm;
 use crate::modular_prim::plain_word::PlainWord;
 use crate::modular_reduced::reducer::Reducer;
 use crate::modular_word::path_word::PathWord;
-use crate::modular_word::paths::redc;
+use crate::modular_word::paths::{ones, redc};
 use crate::modular_word::ring_word::RingWord;
 use core::marker::PhantomData;
 
@@ -16,6 +16,7 @@ use core::marker::PhantomData;
 /// special form may have a multiple of it at a lower cost.
 pub trait OddModulus<T: PlainWord>: Copy {
     /// What is kept of m. Condition: m is taken.
+    #[must_use]
     fn keep(m: T) -> Self;
 
     /// The modulus.
@@ -28,20 +29,24 @@ pub trait OddModulus<T: PlainWord>: Copy {
     fn reduced(&self, t: T::Double) -> T;
 }
 
-// The two numbers that are computed once of an odd modulus.
+// The two numbers that are computed once of an odd modulus. The square of the base less m fits a double word,
+// and leaves what the square leaves.
+#[inline]
 pub(crate) fn computed_once<T: PlainWord>(m: T) -> (T, T) {
     let negated_inverse = neginv(m);
-    let base = T::narrow_remainder(T::merge(T::zero(), T::one()), m);
-    let square = T::narrow_remainder(base.product(base), m);
+    let less = T::merge(T::zero().wrapping_sub(m), ones::<T>(T::bits()));
+    let square = T::narrow_remainder(less, m);
     (negated_inverse, square)
 }
 
 // Whether a word is 1.
+#[inline]
 fn is_one<T: PathWord>(x: T) -> bool {
     x == T::one()
 }
 
 // Whether n is the negated inverse of m modulo the base.
+#[inline]
 fn is_negated_inverse<T: PathWord>(m: T, n: T) -> bool {
     m.wrapping_mul(n).wrapping_add(T::one()).is_zero_word()
 }
@@ -63,6 +68,7 @@ fn is_square_of_base<T: PathWord>(m: T, negated_inverse: T, square: T) -> bool {
 ///
 /// Source: Handbook of Applied Cryptography, section 14.3.2.
 #[derive(Debug, Clone, Copy)]
+#[must_use]
 pub struct OddRing<T: PlainWord, M: OddModulus<T>> {
     pub kept: M,
     word: PhantomData<T>,
@@ -70,6 +76,7 @@ pub struct OddRing<T: PlainWord, M: OddModulus<T>> {
 
 impl<T: PlainWord, M: OddModulus<T>> OddRing<T, M> {
     /// The reducer by what is kept of its modulus.
+    #[inline]
     pub fn over(kept: M) -> Self {
         OddRing {
             kept,
@@ -79,11 +86,13 @@ impl<T: PlainWord, M: OddModulus<T>> OddRing<T, M> {
 }
 
 impl<T: PlainWord, M: OddModulus<T>> Reducer<T> for OddRing<T, M> {
+    #[inline]
     fn new(m: &T) -> Self {
         OddRing::over(M::keep(*m))
     }
 
     // A product and a reduction in place of the division of a double word.
+    #[inline]
     fn transform(&self, n: T) -> T {
         if n.is_zero_word() {
             return n;
@@ -91,43 +100,53 @@ impl<T: PlainWord, M: OddModulus<T>> Reducer<T> for OddRing<T, M> {
         self.kept.reduced(n.product(self.kept.square_of_base()))
     }
 
+    #[inline]
     fn check(&self, f: &T) -> bool {
         f.is_below(self.kept.modulus())
     }
 
+    #[inline]
     fn modulus(&self) -> T {
         self.kept.modulus()
     }
 
+    #[inline]
     fn residue(&self, f: T) -> T {
         self.kept.reduced(T::merge(f, T::zero()))
     }
 
+    #[inline]
     fn is_zero(&self, f: &T) -> bool {
         f.is_zero_word()
     }
 
+    #[inline]
     fn add(&self, a: &T, b: &T) -> T {
         add_below(*a, *b, self.kept.modulus())
     }
 
+    #[inline]
     fn dbl(&self, f: T) -> T {
         dbl_below(f, self.kept.modulus())
     }
 
+    #[inline]
     fn sub(&self, a: &T, b: &T) -> T {
         sub_below(*a, *b, self.kept.modulus())
     }
 
+    #[inline]
     fn neg(&self, f: T) -> T {
         neg_below(f, self.kept.modulus())
     }
 
+    #[inline]
     fn mul(&self, a: &T, b: &T) -> T {
         self.kept.reduced(a.product(*b))
     }
 
     // Through the value: its inverse by Euclid's algorithm, and the form of that.
+    #[inline]
     fn inv(&self, f: T) -> Option<T> {
         match invm(self.residue(f), self.kept.modulus()) {
             Some(x) => Some(self.transform(x)),
@@ -135,6 +154,7 @@ impl<T: PlainWord, M: OddModulus<T>> Reducer<T> for OddRing<T, M> {
         }
     }
 
+    #[inline]
     fn sqr(&self, f: T) -> T {
         self.mul(&f, &f)
     }
@@ -142,6 +162,7 @@ impl<T: PlainWord, M: OddModulus<T>> Reducer<T> for OddRing<T, M> {
 
 /// An odd modulus that is known when the program runs, with what is computed once of it.
 #[derive(Debug)]
+#[must_use]
 pub struct StoredModulus<T: PlainWord> {
     /// The modulus m.
     pub modulus: T,
@@ -152,6 +173,7 @@ pub struct StoredModulus<T: PlainWord> {
 }
 
 impl<T: PlainWord> Clone for StoredModulus<T> {
+    #[inline]
     fn clone(&self) -> Self {
         *self
     }
@@ -162,6 +184,7 @@ impl<T: PlainWord> Copy for StoredModulus<T> {}
 impl<T: PlainWord> StoredModulus<T> {
     /// What is stored of m, by the two numbers that were computed of it before; `None` exactly where m is
     /// even or one of them isn't that number. No division is made.
+    #[inline]
     pub fn restored(m: T, negated_inverse: T, square: T) -> Option<StoredModulus<T>> {
         if m.is_odd()
             && is_negated_inverse(m, negated_inverse)
@@ -179,6 +202,7 @@ impl<T: PlainWord> StoredModulus<T> {
 }
 
 impl<T: PlainWord> OddModulus<T> for StoredModulus<T> {
+    #[inline]
     fn keep(m: T) -> Self {
         let (negated_inverse, square) = computed_once(m);
         StoredModulus {
@@ -188,14 +212,17 @@ impl<T: PlainWord> OddModulus<T> for StoredModulus<T> {
         }
     }
 
+    #[inline]
     fn modulus(&self) -> T {
         self.modulus
     }
 
+    #[inline]
     fn square_of_base(&self) -> T {
         self.square
     }
 
+    #[inline]
     fn reduced(&self, t: T::Double) -> T {
         redc(self.modulus, self.negated_inverse, t)
     }

@@ -22,6 +22,7 @@ impl<Any> PreparedInverse for Any {}
 /// Source: Granlund and Montgomery, "Division by invariant integers using multiplication",
 /// section 9.
 #[derive(Debug, Clone, Copy)]
+#[must_use]
 pub struct PreModInv<T: PathWord> {
     d_inv: T,
     q_lim: T,
@@ -29,6 +30,7 @@ pub struct PreModInv<T: PathWord> {
 
 impl<T: PathWord> PreModInv<T> {
     /// The two numbers, as they are given.
+    #[inline]
     pub fn new(d_inv: T, q_lim: T) -> Self {
         PreModInv { d_inv, q_lim }
     }
@@ -36,6 +38,11 @@ impl<T: PathWord> PreModInv<T> {
 
 impl<T: PlainWord> PreModInv<T> {
     /// What fits the divisor d. Condition: d is odd.
+    ///
+    /// # Panics
+    ///
+    /// Outside the condition.
+    #[inline]
     pub fn from(d: T) -> Self {
         assert!(d.is_odd());
         let d_inv = T::zero().wrapping_sub(neginv(d));
@@ -45,12 +52,14 @@ impl<T: PlainWord> PreModInv<T> {
 }
 
 // The quotient of a word; `None` exactly where d doesn't divide it.
+#[inline]
 fn word_quotient<T: PathWord>(n: T, d: T, pre: &PreModInv<T>) -> Option<T> {
     debug_assert!(d.wrapping_mul(pre.d_inv) == T::one());
     exact_1(d, pre.d_inv, pre.q_lim, n)
 }
 
 // The quotient of a double word; `None` exactly where d doesn't divide it.
+#[inline]
 fn double_quotient<T: PathWord>(n: T::Double, d: T, pre: &PreModInv<T>) -> Option<T::Double> {
     debug_assert!(d.wrapping_mul(pre.d_inv) == T::one());
     exact_2(d, pre.d_inv, pre.q_lim, n)

@@ -6,6 +6,7 @@ use crate::modular_word::paths::{clearing, reduce_by};
 
 /// The number K * 2^N + 1 as a modulus for words of 32 bits.
 #[derive(Debug, Clone, Copy)]
+#[must_use]
 pub struct ProthNumber32<const N: u8, const K: u8> {
     negated_inverse: u32,
     square: u32,
@@ -20,6 +21,7 @@ impl<const N: u8, const K: u8> ProthNumber32<N, K> {
     }
 
     // The product with the modulus, by a product with K and a shift.
+    #[inline]
     fn shift_mul(&self, x: u32) -> u64 {
         ((x as u64 * K as u64) << N) + x as u64
     }
@@ -36,18 +38,21 @@ pub type FixedProth32<const N: u8, const K: u8> = OddRing<u32, ProthNumber32<N, 
 
 impl<const N: u8, const K: u8> OddRing<u32, ProthNumber32<N, K>> {
     /// The modulus K * 2^N + 1. Condition: the parameters are in range.
+    #[inline]
     pub fn fixed_modulus() -> u32 {
         ProthNumber32::<N, K>::value()
     }
 
     /// Montgomery's reduction of t: the u below the modulus with u * 2^32 congruent to t.
     /// Condition: t is below the modulus times 2^32.
+    #[inline]
     pub fn reduce(&self, t: u64) -> u32 {
         self.kept.reduced(t)
     }
 }
 
 impl<const N: u8, const K: u8> OddModulus<u32> for ProthNumber32<N, K> {
+    #[inline]
     fn keep(m: u32) -> Self {
         assert!(m == Self::value());
         let (negated_inverse, square) = computed_once(m);
@@ -57,14 +62,17 @@ impl<const N: u8, const K: u8> OddModulus<u32> for ProthNumber32<N, K> {
         }
     }
 
+    #[inline]
     fn modulus(&self) -> u32 {
         Self::value()
     }
 
+    #[inline]
     fn square_of_base(&self) -> u32 {
         self.square
     }
 
+    #[inline]
     fn reduced(&self, t: u64) -> u32 {
         let m = Self::value();
         let x = clearing(m, self.negated_inverse, t);
@@ -74,6 +82,7 @@ impl<const N: u8, const K: u8> OddModulus<u32> for ProthNumber32<N, K> {
 
 /// The number K * 2^N + 1 as a modulus for words of 64 bits.
 #[derive(Debug, Clone, Copy)]
+#[must_use]
 pub struct ProthNumber64<const N: u8, const K: u8> {
     negated_inverse: u64,
     square: u64,
@@ -88,6 +97,7 @@ impl<const N: u8, const K: u8> ProthNumber64<N, K> {
     }
 
     // The product with the modulus, by a product with K and a shift.
+    #[inline]
     fn shift_mul(&self, x: u64) -> u128 {
         ((x as u128 * K as u128) << N) + x as u128
     }
@@ -104,18 +114,21 @@ pub type FixedProth64<const N: u8, const K: u8> = OddRing<u64, ProthNumber64<N, 
 
 impl<const N: u8, const K: u8> OddRing<u64, ProthNumber64<N, K>> {
     /// The modulus K * 2^N + 1. Condition: the parameters are in range.
+    #[inline]
     pub fn fixed_modulus() -> u64 {
         ProthNumber64::<N, K>::value()
     }
 
     /// Montgomery's reduction of t: the u below the modulus with u * 2^64 congruent to t.
     /// Condition: t is below the modulus times 2^64.
+    #[inline]
     pub fn reduce(&self, t: u128) -> u64 {
         self.kept.reduced(t)
     }
 }
 
 impl<const N: u8, const K: u8> OddModulus<u64> for ProthNumber64<N, K> {
+    #[inline]
     fn keep(m: u64) -> Self {
         assert!(m == Self::value());
         let (negated_inverse, square) = computed_once(m);
@@ -125,14 +138,17 @@ impl<const N: u8, const K: u8> OddModulus<u64> for ProthNumber64<N, K> {
         }
     }
 
+    #[inline]
     fn modulus(&self) -> u64 {
         Self::value()
     }
 
+    #[inline]
     fn square_of_base(&self) -> u64 {
         self.square
     }
 
+    #[inline]
     fn reduced(&self, t: u128) -> u64 {
         let m = Self::value();
         let x = clearing(m, self.negated_inverse, t);

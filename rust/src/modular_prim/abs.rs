@@ -6,48 +6,56 @@ use crate::modular_prim::plain_word::PlainWord;
 use crate::modular_prim::residues::reduced;
 
 /// The residue of a signed number, given by its sign and its magnitude. Condition: m is at least 1.
+#[inline]
 pub fn signed_residue<T: PlainWord>(negative: bool, magnitude: T, m: T) -> T {
     let rest = reduced(magnitude, m);
     if negative { neg_below(rest, m) } else { rest }
 }
 
 impl ModularAbs<u8> for i8 {
+    #[inline]
     fn absm(self, m: &u8) -> u8 {
         signed_residue(self < 0, self.unsigned_abs(), *m)
     }
 }
 
 impl ModularAbs<u16> for i16 {
+    #[inline]
     fn absm(self, m: &u16) -> u16 {
         signed_residue(self < 0, self.unsigned_abs(), *m)
     }
 }
 
 impl ModularAbs<u32> for i32 {
+    #[inline]
     fn absm(self, m: &u32) -> u32 {
         signed_residue(self < 0, self.unsigned_abs(), *m)
     }
 }
 
 impl ModularAbs<u64> for i64 {
+    #[inline]
     fn absm(self, m: &u64) -> u64 {
         signed_residue(self < 0, self.unsigned_abs(), *m)
     }
 }
 
 impl ModularAbs<usize> for isize {
+    #[inline]
     fn absm(self, m: &usize) -> usize {
         signed_residue(self < 0, self.unsigned_abs(), *m)
     }
 }
 
 impl ModularAbs<u128> for i128 {
+    #[inline]
     fn absm(self, m: &u128) -> u128 {
         signed_residue_128(self < 0, self.unsigned_abs(), *m)
     }
 }
 
 // The residue of a signed number of 128 bits, whose words have no double words.
+#[inline]
 fn signed_residue_128(negative: bool, magnitude: u128, m: u128) -> u128 {
     let rest = magnitude % m;
     if !negative {

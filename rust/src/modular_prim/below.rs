@@ -3,6 +3,7 @@
 use crate::modular_word::path_word::PathWord;
 
 /// The residue of a + b. Condition: both are below m.
+#[inline]
 pub fn add_below<T: PathWord>(a: T, b: T, m: T) -> T {
     let gap = m.minus(b);
     if a.is_below(gap) {
@@ -13,6 +14,7 @@ pub fn add_below<T: PathWord>(a: T, b: T, m: T) -> T {
 }
 
 /// The residue of a - b. Condition: both are below m.
+#[inline]
 pub fn sub_below<T: PathWord>(a: T, b: T, m: T) -> T {
     if a.is_below(b) {
         m.minus(b.minus(a))
@@ -22,11 +24,13 @@ pub fn sub_below<T: PathWord>(a: T, b: T, m: T) -> T {
 }
 
 /// The residue of 2a. Condition: a is below m.
+#[inline]
 pub fn dbl_below<T: PathWord>(a: T, m: T) -> T {
     add_below(a, a, m)
 }
 
 /// The residue of -a. Condition: a is below m.
+#[inline]
 pub fn neg_below<T: PathWord>(a: T, m: T) -> T {
     if a.is_zero_word() { a } else { m.minus(a) }
 }

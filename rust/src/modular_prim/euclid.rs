@@ -11,6 +11,7 @@ use crate::modular_word::ring_word::RingWord;
 ///
 /// For an odd m it is found by subtraction, as `inverse_by_subtraction` does, for an even one by Euclid's
 /// divisions, as `invm_counted` does.
+#[inline]
 pub fn invm<T: PlainWord>(a: T, m: T) -> Option<T> {
     if m.is_odd() {
         inverse_by_subtraction(a, m)
@@ -58,4 +59,5 @@ pub fn invm_counted<T: PlainWord>(a: T, m: T) -> (Option<T>, u32) {
 
 /// From u and 0 there are no divisions, from u and v one more than from v and the remainder; and 2 to
 /// their number is at most 2·u·v, for v from 1 to u - 1.
+#[inline]
 pub fn division_laws() {}

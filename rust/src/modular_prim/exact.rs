@@ -26,6 +26,7 @@ pub trait DivExactAssign<Rhs: Numbered, Precompute>: Sized + DivExact<Rhs, Preco
 
 /// Exact division in place by exact division: the body of `div_exact_assign` for words. Condition:
 /// what is stored fits d.
+#[inline]
 pub fn assign_exact<N: DivExact<Rhs, Precompute, Output = N> + Copy, Rhs: Numbered, Precompute>(
     number: &mut N,
     d: Rhs,
@@ -41,6 +42,7 @@ pub fn assign_exact<N: DivExact<Rhs, Precompute, Output = N> + Copy, Rhs: Number
 }
 
 /// The quotient by d; `None` exactly where d doesn't divide n. Condition: d is at least 1.
+#[inline]
 pub fn exact_quotient<T: PlainWord>(n: T, d: T) -> Option<T> {
     if n.remainder(d).is_zero_word() {
         Some(n.quotient(d))
@@ -52,6 +54,7 @@ pub fn exact_quotient<T: PlainWord>(n: T, d: T) -> Option<T> {
 impl DivExact<u8, ()> for u8 {
     type Output = u8;
 
+    #[inline]
     fn div_exact(self, d: u8, _pre: &()) -> Option<u8> {
         exact_quotient(self, d)
     }
@@ -60,6 +63,7 @@ impl DivExact<u8, ()> for u8 {
 impl DivExact<u16, ()> for u16 {
     type Output = u16;
 
+    #[inline]
     fn div_exact(self, d: u16, _pre: &()) -> Option<u16> {
         exact_quotient(self, d)
     }
@@ -68,6 +72,7 @@ impl DivExact<u16, ()> for u16 {
 impl DivExact<u32, ()> for u32 {
     type Output = u32;
 
+    #[inline]
     fn div_exact(self, d: u32, _pre: &()) -> Option<u32> {
         exact_quotient(self, d)
     }
@@ -76,6 +81,7 @@ impl DivExact<u32, ()> for u32 {
 impl DivExact<u64, ()> for u64 {
     type Output = u64;
 
+    #[inline]
     fn div_exact(self, d: u64, _pre: &()) -> Option<u64> {
         exact_quotient(self, d)
     }
@@ -84,6 +90,7 @@ impl DivExact<u64, ()> for u64 {
 impl DivExact<u128, ()> for u128 {
     type Output = u128;
 
+    #[inline]
     fn div_exact(self, d: u128, _pre: &()) -> Option<u128> {
         let quotient = self / d;
         if quotient * d == self {
@@ -95,30 +102,35 @@ impl DivExact<u128, ()> for u128 {
 }
 
 impl DivExactAssign<u8, ()> for u8 {
+    #[inline]
     fn div_exact_assign(&mut self, d: u8, pre: &()) -> bool {
         assign_exact(self, d, pre)
     }
 }
 
 impl DivExactAssign<u16, ()> for u16 {
+    #[inline]
     fn div_exact_assign(&mut self, d: u16, pre: &()) -> bool {
         assign_exact(self, d, pre)
     }
 }
 
 impl DivExactAssign<u32, ()> for u32 {
+    #[inline]
     fn div_exact_assign(&mut self, d: u32, pre: &()) -> bool {
         assign_exact(self, d, pre)
     }
 }
 
 impl DivExactAssign<u64, ()> for u64 {
+    #[inline]
     fn div_exact_assign(&mut self, d: u64, pre: &()) -> bool {
         assign_exact(self, d, pre)
     }
 }
 
 impl DivExactAssign<u128, ()> for u128 {
+    #[inline]
     fn div_exact_assign(&mut self, d: u128, pre: &()) -> bool {
         assign_exact(self, d, pre)
     }

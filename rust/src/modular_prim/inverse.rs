@@ -102,6 +102,7 @@ fn inverse_below<T: PlainWord>(x: T, m: T) -> Option<T> {
 /// a number that isn't below m.
 ///
 /// Source: Kaliski, "The Montgomery inverse and its applications", IEEE Transactions on Computers 44, 1995.
+#[inline]
 pub fn inverse_by_subtraction<T: PlainWord>(a: T, m: T) -> Option<T> {
     inverse_below(reduced(a, m), m)
 }

@@ -7,103 +7,127 @@ use crate::modular_word::word::{w8, w16, w32, w64, wsize};
 /// A machine word with quotients and remainders.
 pub trait PlainWord: Sized + PathWord + Numbered {
     /// The quotient of two words. Condition: d is at least 1.
+    #[must_use]
     fn quotient(self, d: Self) -> Self;
 
     /// The remainder of two words. Condition: d is at least 1.
+    #[must_use]
     fn remainder(self, d: Self) -> Self;
 
     /// The low word of the quotient of a double word by a word. Condition: d is at least 1.
+    #[must_use]
     fn low_quotient(double: Self::Double, d: Self) -> Self;
 
     /// The remainder of a double word by a word. Condition: d is at least 1.
+    #[must_use]
     fn narrow_remainder(double: Self::Double, d: Self) -> Self;
 }
 
 impl PlainWord for u8 {
+    #[inline]
     fn quotient(self, d: u8) -> u8 {
         self / d
     }
 
+    #[inline]
     fn remainder(self, d: u8) -> u8 {
         self % d
     }
 
+    #[inline]
     fn low_quotient(double: u16, d: u8) -> u8 {
         ((double / d as u16) & 0xff) as u8
     }
 
+    #[inline]
     fn narrow_remainder(double: u16, d: u8) -> u8 {
         w8::nrem(double, d)
     }
 }
 
 impl PlainWord for u16 {
+    #[inline]
     fn quotient(self, d: u16) -> u16 {
         self / d
     }
 
+    #[inline]
     fn remainder(self, d: u16) -> u16 {
         self % d
     }
 
+    #[inline]
     fn low_quotient(double: u32, d: u16) -> u16 {
         ((double / d as u32) & 0xffff) as u16
     }
 
+    #[inline]
     fn narrow_remainder(double: u32, d: u16) -> u16 {
         w16::nrem(double, d)
     }
 }
 
 impl PlainWord for u32 {
+    #[inline]
     fn quotient(self, d: u32) -> u32 {
         self / d
     }
 
+    #[inline]
     fn remainder(self, d: u32) -> u32 {
         self % d
     }
 
+    #[inline]
     fn low_quotient(double: u64, d: u32) -> u32 {
         ((double / d as u64) & 0xffff_ffff) as u32
     }
 
+    #[inline]
     fn narrow_remainder(double: u64, d: u32) -> u32 {
         w32::nrem(double, d)
     }
 }
 
 impl PlainWord for u64 {
+    #[inline]
     fn quotient(self, d: u64) -> u64 {
         self / d
     }
 
+    #[inline]
     fn remainder(self, d: u64) -> u64 {
         self % d
     }
 
+    #[inline]
     fn low_quotient(double: u128, d: u64) -> u64 {
         ((double / d as u128) & 0xffff_ffff_ffff_ffff) as u64
     }
 
+    #[inline]
     fn narrow_remainder(double: u128, d: u64) -> u64 {
         w64::nrem(double, d)
     }
 }
 
 impl PlainWord for usize {
+    #[inline]
     fn quotient(self, d: usize) -> usize {
         self / d
     }
 
+    #[inline]
     fn remainder(self, d: usize) -> usize {
         self % d
     }
 
+    #[inline]
     fn low_quotient(double: u128, d: usize) -> usize {
         ((double / d as u128) & 0xffff_ffff_ffff_ffff) as usize
     }
 
+    #[inline]
     fn narrow_remainder(double: u128, d: usize) -> usize {
         wsize::nrem(double, d)
     }

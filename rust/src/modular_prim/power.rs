@@ -27,6 +27,7 @@ pub fn powm<T: PlainWord>(base: T, exp: T, m: T) -> T {
 }
 
 // The residue of the power of a base below m, by the way that m admits.
+#[inline]
 fn power_below<T: PlainWord>(base: T, exp: T, m: T) -> T {
     if m.is_odd() {
         power_by_reduction(base, exp, m)
@@ -83,11 +84,13 @@ fn power_by_reciprocal<T: PlainWord>(base: T, exp: T, m: T) -> T {
 }
 
 // The scaled residue of the product of two scaled residues.
+#[inline]
 fn scaled_product<T: PlainWord>(divisor: T, reciprocal: T, shift: u32, a: T, b: T) -> T {
     div_2by1(divisor, reciprocal, a.shift_right(shift).product(b)).1
 }
 
 // The residue of the power, and 0 for m = 0.
+#[inline]
 fn power_or_zero<T: PlainWord>(base: T, exp: T, m: T) -> T {
     if m.is_zero_word() {
         T::zero()
@@ -97,11 +100,13 @@ fn power_or_zero<T: PlainWord>(base: T, exp: T, m: T) -> T {
 }
 
 /// `powm` of words of 32 bits, and 0 for m = 0.
+#[inline]
 pub fn powm_u32(base: u32, exp: u32, m: u32) -> u32 {
     power_or_zero(base, exp, m)
 }
 
 /// `powm` of words of 64 bits, and 0 for m = 0.
+#[inline]
 pub fn powm_u64(base: u64, exp: u64, m: u64) -> u64 {
     power_or_zero(base, exp, m)
 }

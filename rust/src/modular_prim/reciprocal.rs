@@ -9,6 +9,7 @@ use crate::modular_word::ring_word::RingWord;
 /// the divisor's top bit is set.
 ///
 /// Source: Möller and Granlund, "Improved division by invariant integers", section 3.
+#[inline]
 pub fn invert_word<T: PlainWord>(d: T) -> T {
     let greatest = ones::<T>(T::bits());
     T::low_quotient(T::merge(greatest, greatest), d)

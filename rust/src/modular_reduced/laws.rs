@@ -6,11 +6,13 @@ use crate::modular_reduced::reducer::Reducer;
 use crate::modular_word::ring_word::RingWord;
 
 /// Addition is commutative: a + b and b + a.
+#[inline]
 pub fn sums_commute<T: RingWord, R: Reducer<T>>(reducer: &R, a: T, b: T) -> (T, T) {
     (reducer.add(&a, &b), reducer.add(&b, &a))
 }
 
 /// Addition is associative: (a + b) + c and a + (b + c).
+#[inline]
 pub fn sums_associate<T: RingWord, R: Reducer<T>>(reducer: &R, a: T, b: T, c: T) -> (T, T) {
     let left = reducer.add(&reducer.add(&a, &b), &c);
     let right = reducer.add(&a, &reducer.add(&b, &c));
@@ -18,11 +20,13 @@ pub fn sums_associate<T: RingWord, R: Reducer<T>>(reducer: &R, a: T, b: T, c: T)
 }
 
 /// Multiplication is commutative: a b and b a.
+#[inline]
 pub fn products_commute<T: RingWord, R: Reducer<T>>(reducer: &R, a: T, b: T) -> (T, T) {
     (reducer.mul(&a, &b), reducer.mul(&b, &a))
 }
 
 /// Multiplication is associative: (a b) c and a (b c).
+#[inline]
 pub fn products_associate<T: RingWord, R: Reducer<T>>(reducer: &R, a: T, b: T, c: T) -> (T, T) {
     let left = reducer.mul(&reducer.mul(&a, &b), &c);
     let right = reducer.mul(&a, &reducer.mul(&b, &c));
@@ -30,6 +34,7 @@ pub fn products_associate<T: RingWord, R: Reducer<T>>(reducer: &R, a: T, b: T, c
 }
 
 /// Multiplication distributes over addition: a (b + c) and a b + a c.
+#[inline]
 pub fn products_distribute<T: RingWord, R: Reducer<T>>(reducer: &R, a: T, b: T, c: T) -> (T, T) {
     let left = reducer.mul(&a, &reducer.add(&b, &c));
     let right = reducer.add(&reducer.mul(&a, &b), &reducer.mul(&a, &c));
@@ -37,17 +42,20 @@ pub fn products_distribute<T: RingWord, R: Reducer<T>>(reducer: &R, a: T, b: T, 
 }
 
 /// The negative is the additive inverse: -a, and a + (-a), which is the form of 0.
+#[inline]
 pub fn negative_cancels<T: RingWord, R: Reducer<T>>(reducer: &R, a: T) -> (T, T) {
     let negative = reducer.neg(a);
     (negative, reducer.add(&a, &negative))
 }
 
 /// n mod m, by way of its form.
+#[inline]
 pub fn residue_by_form<T: RingWord, R: Reducer<T>>(reducer: &R, n: T) -> T {
     reducer.residue(reducer.transform(n))
 }
 
 /// Whether the values of two checked forms are equal: exactly where the forms are one word.
+#[inline]
 pub fn same_value<T: RingWord, R: Reducer<T>>(reducer: &R, a: T, b: T) -> bool {
     reducer.residue(a) == reducer.residue(b)
 }
@@ -55,4 +63,5 @@ pub fn same_value<T: RingWord, R: Reducer<T>>(reducer: &R, a: T, b: T) -> bool {
 /// Forms and values are one to one: the value of the form of v is v, which is a word and a checked
 /// form; a checked form is the form of its value, so that equal values have equal forms, which are
 /// one word; and what stands for a value is a checked form of that value.
+#[inline]
 pub fn canonical_laws<T: RingWord, R: Reducer<T>>(reducer: &R) {}

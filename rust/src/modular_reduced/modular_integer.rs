@@ -25,11 +25,14 @@ pub trait ModularInteger: Sized + PartialEq
     fn is_zero(&self) -> bool;
 
     /// The integer n mod m, in the ring of `self`.
+    #[must_use]
     fn convert(&self, n: Self::Base) -> Self;
 
     /// Twice the integer.
+    #[must_use]
     fn double(self) -> Self;
 
     /// The integer times itself.
+    #[must_use]
     fn square(self) -> Self;
 }

@@ -41,4 +41,5 @@ pub fn pow_counted<T: RingWord, R: Reducer<T>>(reducer: &R, base: T, exp: &T) ->
 }
 
 /// The number of binary digits of e is the least k with e below 2^k.
+#[inline]
 pub fn digit_laws() {}

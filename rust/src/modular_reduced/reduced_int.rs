@@ -28,6 +28,7 @@ mod sub;
 ///
 /// Each operand may be a reference too.
 #[derive(Debug)]
+#[must_use]
 pub struct ReducedInt<T: RingWord, R: Reducer<T>> {
     form: T,
     reducer: R,
@@ -39,6 +40,7 @@ pub type VanillaInt<T> = ReducedInt<T, Vanilla<T>>;
 impl<T: RingWord, R: Reducer<T> + Copy> Copy for ReducedInt<T, R> {}
 
 impl<T: RingWord, R: Reducer<T> + Copy> Clone for ReducedInt<T, R> {
+    #[inline]
     fn clone(&self) -> Self {
         *self
     }

@@ -9,6 +9,7 @@ use crate::modular_word::ring_word::RingWord;
 /// checked form one value. Every call but `check` and `transform` takes checked forms alone.
 pub trait Reducer<T: RingWord>: Sized {
     /// The reducer of a modulus. Condition: it is admitted.
+    #[must_use]
     fn new(m: &T) -> Self;
 
     /// The form of n mod m, for every word n.
@@ -30,6 +31,7 @@ pub trait Reducer<T: RingWord>: Sized {
     fn add(&self, a: &T, b: &T) -> T;
 
     /// `add`, in the first operand.
+    #[inline]
     fn add_in_place(&self, a: &mut T, b: &T) {
         *a = self.add(a, b);
     }
@@ -41,6 +43,7 @@ pub trait Reducer<T: RingWord>: Sized {
     fn sub(&self, a: &T, b: &T) -> T;
 
     /// `sub`, in the first operand.
+    #[inline]
     fn sub_in_place(&self, a: &mut T, b: &T) {
         *a = self.sub(a, b);
     }
@@ -52,6 +55,7 @@ pub trait Reducer<T: RingWord>: Sized {
     fn mul(&self, a: &T, b: &T) -> T;
 
     /// `mul`, in the first operand.
+    #[inline]
     fn mul_in_place(&self, a: &mut T, b: &T) {
         *a = self.mul(a, b);
     }
@@ -60,7 +64,11 @@ pub trait Reducer<T: RingWord>: Sized {
     fn inv(&self, f: T) -> Option<T>;
 
     /// The form of the square modulo m.
-    fn sqr(&self, f: T) -> T; fn pow(&self, f: T, exp: &T) -> T {
+    fn sqr(&self, f: T) -> T;
+
+    /// The form of the product of `exp` factors, modulo m; that of 1 for the exponent 0.
+    #[inline]
+    fn pow(&self, f: T, exp: &T) -> T {
         pow_counted(self, f, exp).0
     }
 }

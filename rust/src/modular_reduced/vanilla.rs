@@ -11,11 +11,13 @@ use crate::modular_prim::plain_word::PlainWord;
 /// remainder of a double word by a word (Handbook of Applied Cryptography, section 14.3.1), and an
 /// inverse goes by Euclid's algorithm.
 #[derive(Debug)]
+#[must_use]
 pub struct Vanilla<T: PlainWord> {
     modulus: T,
 }
 
 impl<T: PlainWord> Clone for Vanilla<T> {
+    #[inline]
     fn clone(&self) -> Self {
         *self
     }
@@ -24,6 +26,7 @@ impl<T: PlainWord> Clone for Vanilla<T> {
 impl<T: PlainWord> Copy for Vanilla<T> {}
 
 impl<T: PlainWord> Reducer<T> for Vanilla<T> {
+    #[inline]
     fn new(m: &T) -> Self {
         let modulus = *m;
         // a word that was read is known to fit
@@ -32,50 +35,62 @@ impl<T: PlainWord> Reducer<T> for Vanilla<T> {
         Vanilla { modulus }
     }
 
+    #[inline]
     fn transform(&self, n: T) -> T {
         n.remainder(self.modulus)
     }
 
+    #[inline]
     fn check(&self, f: &T) -> bool {
         f.is_below(self.modulus)
     }
 
+    #[inline]
     fn modulus(&self) -> T {
         self.modulus
     }
 
+    #[inline]
     fn residue(&self, f: T) -> T {
         f
     }
 
+    #[inline]
     fn is_zero(&self, f: &T) -> bool {
         f.is_zero_word()
     }
 
+    #[inline]
     fn add(&self, a: &T, b: &T) -> T {
         add_below(*a, *b, self.modulus)
     }
 
+    #[inline]
     fn dbl(&self, f: T) -> T {
         dbl_below(f, self.modulus)
     }
 
+    #[inline]
     fn sub(&self, a: &T, b: &T) -> T {
         sub_below(*a, *b, self.modulus)
     }
 
+    #[inline]
     fn neg(&self, f: T) -> T {
         neg_below(f, self.modulus)
     }
 
+    #[inline]
     fn mul(&self, a: &T, b: &T) -> T {
         T::narrow_remainder(a.product(*b), self.modulus)
     }
 
+    #[inline]
     fn inv(&self, f: T) -> Option<T> {
         invm(f, self.modulus)
     }
 
+    #[inline]
     fn sqr(&self, f: T) -> T {
         T::narrow_remainder(f.product(f), self.modulus)
     }

@@ -12,6 +12,7 @@ pub mod wsize;
 
 /// The Jacobi symbol, `None` exactly for an even n, and the number of halvings and swaps from the
 /// residue of a over n.
+#[inline]
 pub fn checked_jacobi_counted<T: PlainWord>(a: T, n: T) -> Option<(i8, u32)> {
     if n.is_odd() {
         Some(jacobi_counted(false, a, n))

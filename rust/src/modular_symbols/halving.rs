@@ -8,6 +8,7 @@ use crate::modular_word::path_word::PathWord;
 use crate::modular_word::ring_word::RingWord;
 
 // Whether the symbol is turned where `a` times 2 to the power `twos` over n becomes n over `a`.
+#[inline]
 fn is_turned<T: PlainWord>(a: T, twos: u32, n: T) -> bool {
     is_turned_by_twos(twos, n) ^ is_turned_by_swap(a, n)
 }
@@ -34,6 +35,7 @@ fn halve_and_swap<T: PlainWord>(a: T, n: T) -> (i8, u32) {
 }
 
 /// The Jacobi symbol over n of a number, given by its sign and its magnitude. Condition: n is odd.
+#[inline]
 pub fn jacobi_by_halving<T: PlainWord>(a_minus: bool, a: T, n: T) -> i8 {
     jacobi_counted(a_minus, a, n).0
 }
@@ -46,10 +48,12 @@ pub fn jacobi_by_halving<T: PlainWord>(a_minus: bool, a: T, n: T) -> i8 {
 ///
 /// Source: Cohen, "A Course in Computational Algebraic Number Theory", algorithm 1.4.10, without
 /// its first steps.
+#[inline]
 pub fn jacobi_counted<T: PlainWord>(a_minus: bool, a: T, n: T) -> (i8, u32) {
     halve_and_swap(signed_residue(a_minus, a, n), n)
 }
 
 /// From 0 there are no steps; from 2^z times an odd number there are z halvings, a swap, and those from
 /// what the swap leaves; and 2 to their number is at most 2·a·n, for a from 1 to n - 1.
+#[inline]
 pub fn step_laws() {}

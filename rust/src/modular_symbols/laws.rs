@@ -10,6 +10,7 @@
 ///
 /// Source: Hardy and Wright, "An Introduction to the Theory of Numbers", sections 6.5 to 6.13, there
 /// for primes.
+#[inline]
 pub fn jacobi_laws() {}
 
 /// A number that a prime p doesn't divide is coprime to p, so it has an inverse, and its power with
@@ -18,4 +19,5 @@ pub fn jacobi_laws() {}
 /// congruent to the square of one that p doesn't divide.
 ///
 /// Source: Hardy and Wright, "An Introduction to the Theory of Numbers", sections 6.1 to 6.6.
+#[inline]
 pub fn prime_laws() {}

@@ -9,30 +9,35 @@ pub trait LowPart: Sized + PlainWord {
 }
 
 impl LowPart for u8 {
+    #[inline]
     fn low_part(self) -> u32 {
         self as u32
     }
 }
 
 impl LowPart for u16 {
+    #[inline]
     fn low_part(self) -> u32 {
         self as u32
     }
 }
 
 impl LowPart for u32 {
+    #[inline]
     fn low_part(self) -> u32 {
         self
     }
 }
 
 impl LowPart for u64 {
+    #[inline]
     fn low_part(self) -> u32 {
         (self & 0xffff_ffff) as u32
     }
 }
 
 impl LowPart for usize {
+    #[inline]
     fn low_part(self) -> u32 {
         (self & 0xffff_ffff) as u32
     }

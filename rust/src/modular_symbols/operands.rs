@@ -25,6 +25,7 @@ pub trait SymbolWord: IntegerValued + Copy {
 impl SymbolWord for u8 {
     type Magnitude = u8;
 
+    #[inline]
     fn sign_and_magnitude(self) -> (bool, u8) {
         (false, self)
     }
@@ -33,6 +34,7 @@ impl SymbolWord for u8 {
 impl SymbolWord for u16 {
     type Magnitude = u16;
 
+    #[inline]
     fn sign_and_magnitude(self) -> (bool, u16) {
         (false, self)
     }
@@ -41,6 +43,7 @@ impl SymbolWord for u16 {
 impl SymbolWord for u32 {
     type Magnitude = u32;
 
+    #[inline]
     fn sign_and_magnitude(self) -> (bool, u32) {
         (false, self)
     }
@@ -49,6 +52,7 @@ impl SymbolWord for u32 {
 impl SymbolWord for u64 {
     type Magnitude = u64;
 
+    #[inline]
     fn sign_and_magnitude(self) -> (bool, u64) {
         (false, self)
     }
@@ -57,6 +61,7 @@ impl SymbolWord for u64 {
 impl SymbolWord for usize {
     type Magnitude = usize;
 
+    #[inline]
     fn sign_and_magnitude(self) -> (bool, usize) {
         (false, self)
     }
@@ -65,6 +70,7 @@ impl SymbolWord for usize {
 impl SymbolWord for i8 {
     type Magnitude = u8;
 
+    #[inline]
     fn sign_and_magnitude(self) -> (bool, u8) {
         (self < 0, self.unsigned_abs())
     }
@@ -73,6 +79,7 @@ impl SymbolWord for i8 {
 impl SymbolWord for i16 {
     type Magnitude = u16;
 
+    #[inline]
     fn sign_and_magnitude(self) -> (bool, u16) {
         (self < 0, self.unsigned_abs())
     }
@@ -81,6 +88,7 @@ impl SymbolWord for i16 {
 impl SymbolWord for i32 {
     type Magnitude = u32;
 
+    #[inline]
     fn sign_and_magnitude(self) -> (bool, u32) {
         (self < 0, self.unsigned_abs())
     }
@@ -89,6 +97,7 @@ impl SymbolWord for i32 {
 impl SymbolWord for i64 {
     type Magnitude = u64;
 
+    #[inline]
     fn sign_and_magnitude(self) -> (bool, u64) {
         (self < 0, self.unsigned_abs())
     }
@@ -97,6 +106,7 @@ impl SymbolWord for i64 {
 impl SymbolWord for isize {
     type Magnitude = usize;
 
+    #[inline]
     fn sign_and_magnitude(self) -> (bool, usize) {
         (self < 0, self.unsigned_abs())
     }

@@ -9,27 +9,34 @@ use crate::modular_prim::{euclid, power, residues};
 /// `ModularOps`. Condition of each operation: m is at least 1. The symbols have none.
 pub trait ModularRefOps: UnsignedOperand + Copy {
     /// The residue of the sum.
+    #[must_use]
     fn addm_ref(&self, rhs: &Self, m: &Self) -> Self;
 
     /// The residue of the difference.
+    #[must_use]
     fn subm_ref(&self, rhs: &Self, m: &Self) -> Self;
 
     /// The residue of the product.
+    #[must_use]
     fn mulm_ref(&self, rhs: &Self, m: &Self) -> Self;
 
     /// The residue of the negative.
+    #[must_use]
     fn negm_ref(&self, m: &Self) -> Self;
 
     /// The inverse modulo m; `None` exactly where there is none. It is 0 for m = 1.
     fn invm_ref(&self, m: &Self) -> Option<Self>;
 
     /// The residue of the double.
+    #[must_use]
     fn dblm_ref(&self, m: &Self) -> Self;
 
     /// The residue of the square.
+    #[must_use]
     fn sqm_ref(&self, m: &Self) -> Self;
 
     /// The residue of the product of `exp` factors; that of 1 for the exponent 0.
+    #[must_use]
     fn powm_ref(&self, exp: &Self, m: &Self) -> Self;
 
     /// The class of the power, as `checked_legendre` has it: 0, 1 or -1. `None` where the power is none
@@ -44,46 +51,57 @@ pub trait ModularRefOps: UnsignedOperand + Copy {
 }
 
 impl<T: PlainWord + SymbolWord + UnsignedOperand> ModularRefOps for T {
+    #[inline]
     fn addm_ref(&self, rhs: &T, m: &T) -> T {
         residues::addm(*self, *rhs, *m)
     }
 
+    #[inline]
     fn subm_ref(&self, rhs: &T, m: &T) -> T {
         residues::subm(*self, *rhs, *m)
     }
 
+    #[inline]
     fn mulm_ref(&self, rhs: &T, m: &T) -> T {
         residues::mulm(*self, *rhs, *m)
     }
 
+    #[inline]
     fn negm_ref(&self, m: &T) -> T {
         residues::negm(*self, *m)
     }
 
+    #[inline]
     fn invm_ref(&self, m: &T) -> Option<T> {
         euclid::invm(*self, *m)
     }
 
+    #[inline]
     fn dblm_ref(&self, m: &T) -> T {
         residues::dblm(*self, *m)
     }
 
+    #[inline]
     fn sqm_ref(&self, m: &T) -> T {
         residues::sqm(*self, *m)
     }
 
+    #[inline]
     fn powm_ref(&self, exp: &T, m: &T) -> T {
         power::powm(*self, *exp, *m)
     }
 
+    #[inline]
     fn checked_legendre_ref(&self, n: &T) -> Option<i8> {
         self.checked_legendre(n)
     }
 
+    #[inline]
     fn checked_jacobi_ref(&self, n: &T) -> Option<i8> {
         self.checked_jacobi(n)
     }
 
+    #[inline]
     fn kronecker_ref(&self, n: &T) -> i8 {
         self.kronecker(n)
     }

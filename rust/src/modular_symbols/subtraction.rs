@@ -8,6 +8,7 @@ use crate::modular_word::path_word::PathWord;
 use crate::modular_word::ring_word::RingWord;
 
 // The odd part of a number, or n in place of 0, and in the lowest bit whether the symbol over n is turned.
+#[inline]
 fn odd_part<T: LowPart>(a: T, n: T) -> (T, u32) {
     let some = if a.is_zero_word() { n } else { a };
     let twos = some.trailing_zeros();
@@ -66,6 +67,7 @@ fn subtract_and_halve<T: LowPart>(a: T, n: T) -> i8 {
 /// isn't below n.
 ///
 /// Source: Shallit and Sorenson, "A binary algorithm for the Jacobi symbol", ACM SIGSAM Bulletin 27, 1993.
+#[inline]
 pub fn jacobi_by_subtraction<T: LowPart>(a_minus: bool, a: T, n: T) -> i8 {
     subtract_and_halve(signed_residue(a_minus, a, n), n)
 }

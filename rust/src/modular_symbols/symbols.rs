@@ -8,6 +8,7 @@ use crate::modular_word::ring_word::RingWord;
 /// The symbols of a number over n. A symbol is -1, 0 or 1.
 pub trait ModularSymbols<Modulus: IntegerValued = Self>: Sized + IntegerValued {
     /// The value inside `checked_legendre`. Condition: that is `Some`.
+    #[inline]
     fn legendre(&self, n: Modulus) -> i8 {
         match self.checked_legendre(n) {
             Some(symbol) => symbol,
@@ -26,6 +27,7 @@ pub trait ModularSymbols<Modulus: IntegerValued = Self>: Sized + IntegerValued {
     ///
     /// Words take another loop than there, and the faster one: it subtracts where that one divides. Take it
     /// where n is known to be odd.
+    #[inline]
     fn jacobi(&self, n: Modulus) -> i8 {
         match self.checked_jacobi(n) {
             Some(symbol) => symbol,
@@ -49,12 +51,14 @@ pub trait ModularSymbols<Modulus: IntegerValued = Self>: Sized + IntegerValued {
 }
 
 impl<T: SymbolWord> ModularSymbols<&T> for T {
+    #[inline]
     fn checked_legendre(&self, n: &T) -> Option<i8> {
         let (a_minus, a) = self.sign_and_magnitude();
         let (n_minus, n) = n.sign_and_magnitude();
         magnitudes::checked_legendre(a_minus, a, n_minus, n)
     }
 
+    #[inline]
     fn jacobi(&self, n: &T) -> i8 {
         let (a_minus, a) = self.sign_and_magnitude();
         let (n_minus, n) = n.sign_and_magnitude();
@@ -64,12 +68,14 @@ impl<T: SymbolWord> ModularSymbols<&T> for T {
         jacobi_by_subtraction(a_minus, a, n)
     }
 
+    #[inline]
     fn checked_jacobi(&self, n: &T) -> Option<i8> {
         let (a_minus, a) = self.sign_and_magnitude();
         let (n_minus, n) = n.sign_and_magnitude();
         magnitudes::checked_jacobi(a_minus, a, n_minus, n)
     }
 
+    #[inline]
     fn kronecker(&self, n: &T) -> i8 {
         let (a_minus, a) = self.sign_and_magnitude();
         let (n_minus, n) = n.sign_and_magnitude();

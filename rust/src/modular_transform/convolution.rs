@@ -6,6 +6,7 @@ use crate::modular_reduced::reducer::Reducer;
 use crate::modular_word::ring_word::RingWord;
 
 // Multiplies each entry by the one at its place.
+#[inline]
 fn multiply_each<T: RingWord, R: Reducer<T>>(r: &R, xs: &mut [T], ys: &[T]) {
     'entries: for i in 0..xs.len() {
         xs[i] = r.mul(&xs[i], &ys[i]);
@@ -13,6 +14,7 @@ fn multiply_each<T: RingWord, R: Reducer<T>>(r: &R, xs: &mut [T], ys: &[T]) {
 }
 
 /// Multiplies each entry by a factor. Conditions: the entries and the factor are checked forms.
+#[inline]
 pub fn scale<T: RingWord, R: Reducer<T>>(r: &R, xs: &mut [T], factor: &T) {
     'entries: for i in 0..xs.len() {
         xs[i] = r.mul(&xs[i], factor);
@@ -20,6 +22,7 @@ pub fn scale<T: RingWord, R: Reducer<T>>(r: &R, xs: &mut [T], factor: &T) {
 }
 
 // The form of a power of two, by doublings of 1: it may be too large for the word.
+#[inline]
 fn length_form<T: RingWord, R: Reducer<T>>(r: &R, n: usize) -> T {
     let mut length = r.transform(T::one());
     'doublings: for _done in 0..n.trailing_zeros() {
@@ -29,6 +32,7 @@ fn length_form<T: RingWord, R: Reducer<T>>(r: &R, n: usize) -> T {
 }
 
 // Puts the cyclic product in xs and the transform of ys in ys, by g and an inverse of the length.
+#[inline]
 fn multiply<T: RingWord, R: Reducer<T>>(r: &R, xs: &mut [T], ys: &mut [T], g: &T, part: &T) {
     ntt(r, xs, g);
     ntt(r, ys, g);
@@ -46,6 +50,7 @@ fn multiply<T: RingWord, R: Reducer<T>>(r: &R, xs: &mut [T], ys: &mut [T], g: &T
 /// (`root_fits` tells). It takes no memory. The method is that of Knuth (The Art of Computer
 /// Programming, volume 2, section 4.3.3, part C): a transform of each list, a product at each place,
 /// a transform back. The length comes by doublings of 1, so it may be too large for the word.
+#[inline]
 pub fn convolve<T: RingWord, R: Reducer<T>>(r: &R, xs: &mut [T], ys: &mut [T], g: &T) -> bool {
     let length = length_form(r, xs.len());
     match r.inv(length) {

@@ -6,6 +6,7 @@
 /// times the values, and times an inverse of n to the values.
 ///
 /// Source: Pollard, "The fast Fourier transform in a finite field", section 2.
+#[inline]
 pub fn transform_laws() {}
 
 /// The cyclic product multiplies polynomials: where the terms at places that add up to n or more are
@@ -13,4 +14,5 @@ pub fn transform_laws() {}
 /// by the values of the polynomials at each b.
 ///
 /// Source: Knuth, The Art of Computer Programming, volume 2, section 4.3.3, part C.
+#[inline]
 pub fn product_laws() {}

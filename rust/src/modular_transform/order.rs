@@ -17,6 +17,7 @@ pub fn reverse_places<T: Copy>(entries: &mut [T], bits: u32) {
 }
 
 /// Exchanges each entry but the first with the one as far from the end.
+#[inline]
 pub fn mirror<T: Copy>(entries: &mut [T]) {
     let n = entries.len();
     'places: for place in 1..n {

@@ -5,6 +5,7 @@ use crate::modular_word::plain::power_of;
 
 /// Whether g suits transforms of n entries modulo m: n is a power of two, and for n above 1 the power
 /// n/2 of g is -1 modulo m. Condition: m is at least 1.
+#[inline]
 pub fn suits(m: u64, g: u64, n: usize) -> bool {
     if !n.is_power_of_two() {
         return false;
@@ -28,6 +29,7 @@ pub fn transform_entry(m: u64, g: u64, xs: &[u64], j: usize) -> u64 {
 }
 
 // A product of two entries, where their places i and j add up to e or to e + n, and else 0.
+#[inline]
 fn term(product: u128, i: usize, j: usize, e: usize, n: usize) -> u128 {
     if i + j == e || i + j == e + n {
         product

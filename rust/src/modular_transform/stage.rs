@@ -8,12 +8,14 @@ use crate::modular_word::ring_word::RingWord;
 const STRIP: usize = 64;
 
 // A difference times a power. It takes one product.
+#[inline]
 fn weighted_difference<T: RingWord, R: Reducer<T>>(r: &R, a: &T, b: &T, power: &T) -> T {
     let difference = r.sub(a, b);
     r.mul(&difference, power)
 }
 
 // The pair at two places: its sum, and its difference times a power. It takes one product.
+#[inline]
 fn pair<T: RingWord, R: Reducer<T>>(r: &R, forms: &mut [T], first: usize, second: usize, power: &T) {
     let a = forms[first];
     let b = forms[second];
@@ -22,6 +24,7 @@ fn pair<T: RingWord, R: Reducer<T>>(r: &R, forms: &mut [T], first: usize, second
 }
 
 // Multiplies the running power by the root, and answers what it was before. It takes one product.
+#[inline]
 fn advance<T: RingWord, R: Reducer<T>>(r: &R, running: &mut T, root: &T) -> T {
     let last = *running;
     *running = r.mul(&last, root);

@@ -50,6 +50,7 @@ pub fn ntt_counted<T: RingWord, R: Reducer<T>>(r: &R, xs: &mut [T], g: &T) -> u1
 /// modulus need not be prime. It takes no memory. The method is that of Cooley and Tukey in the order
 /// of Gentleman and Sande ("Fast Fourier transforms: for fun and profit"), over residues (Pollard,
 /// "The fast Fourier transform in a finite field").
+#[inline]
 pub fn ntt<T: RingWord, R: Reducer<T>>(r: &R, xs: &mut [T], g: &T) {
     let _products = ntt_counted(r, xs, g);
 }

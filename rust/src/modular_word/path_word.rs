@@ -10,30 +10,39 @@ pub trait PathWord: Sized + RingWord {
     type Double: Copy;
 
     /// The sum. Condition: it fits a word.
+    #[must_use]
     fn plus(self, rhs: Self) -> Self;
 
     /// The difference. Condition: it is not below 0.
+    #[must_use]
     fn minus(self, rhs: Self) -> Self;
 
     /// The product. Condition: it fits a word.
+    #[must_use]
     fn times(self, rhs: Self) -> Self;
 
     /// The sum modulo the base.
+    #[must_use]
     fn wrapping_add(self, rhs: Self) -> Self;
 
     /// The difference modulo the base: the word that gives `self` when `rhs` is added to it.
+    #[must_use]
     fn wrapping_sub(self, rhs: Self) -> Self;
 
     /// The product modulo the base.
+    #[must_use]
     fn wrapping_mul(self, rhs: Self) -> Self;
 
     /// The word divided by a power of two, rounded down. Condition: `by` is below the width.
+    #[must_use]
     fn shift_right(self, by: u32) -> Self;
 
     /// The word times a power of two. Condition: `by` is below the width, and the product fits.
+    #[must_use]
     fn shift_left(self, by: u32) -> Self;
 
     /// The word modulo a power of two. Condition: `count` is below the width.
+    #[must_use]
     fn low_bits(self, count: u32) -> Self;
 
     /// How many of the highest bits are 0; the width for 0.

@@ -4,6 +4,7 @@
 use crate::modular_word::path_word::PathWord;
 
 /// The word whose low n bits are ones: 2^n - 1. Condition: n is at most the width.
+#[inline]
 pub fn ones<T: PathWord>(n: u32) -> T {
     if n == 0 {
         T::zero()
@@ -13,6 +14,7 @@ pub fn ones<T: PathWord>(n: u32) -> T {
 }
 
 /// The word of 2.
+#[inline]
 pub fn two<T: PathWord>() -> T {
     T::one().plus(T::one())
 }
@@ -26,9 +28,12 @@ pub fn div_2by1<T: PathWord>(d: T, reciprocal: T, a: T::Double) -> (T, T) {
     let (q0, q1) = T::split(T::double_plus(reciprocal.product(high), a));
     let mut q = q1.wrapping_add(T::one());
     let mut r = low.wrapping_sub(q.wrapping_mul(d));
+    // The sum of r and d. By a product of its own it doesn't wait for r, and compilers choose without a branch,
+    // which would often be guessed wrongly.
+    let more = low.wrapping_sub(q1.wrapping_mul(d));
     if q0.is_below(r) {
-        q = q.wrapping_sub(T::one());
-        r = r.wrapping_add(d);
+        q = q1;
+        r = more;
     }
     if !r.is_below(d) {
         q = q.wrapping_add(T::one());
@@ -38,6 +43,7 @@ pub fn div_2by1<T: PathWord>(d: T, reciprocal: T, a: T::Double) -> (T, T) {
 }
 
 // The quotient of a word by a divisor, by the divisor's multiplier and shift.
+#[inline]
 fn quotient_1by1<T: PathWord>(d: T, multiplier: T, shift: u32, a: T) -> T {
     let (_, t) = T::split(multiplier.product(a));
     t.plus(a.minus(t).shift_right(1)).shift_right(shift)
@@ -48,6 +54,7 @@ fn quotient_1by1<T: PathWord>(d: T, multiplier: T, shift: u32, a: T) -> T {
 ///
 /// Source: Granlund and Montgomery, "Division by invariant integers using multiplication",
 /// figure 4.1.
+#[inline]
 pub fn div_1by1<T: PathWord>(d: T, multiplier: T, shift: u32, a: T) -> (T, T) {
     let q = quotient_1by1(d, multiplier, shift, a);
     let r = a.minus(q.times(d));
@@ -60,6 +67,7 @@ pub fn div_1by1<T: PathWord>(d: T, multiplier: T, shift: u32, a: T) -> (T, T) {
 ///
 /// Source: Granlund and Montgomery, "Division by invariant integers using multiplication",
 /// section 9.
+#[inline]
 pub fn exact_1<T: PathWord>(d: T, inverse: T, limit: T, n: T) -> Option<T> {
     let q = n.wrapping_mul(inverse);
     if limit.is_below(q) { None } else { Some(q) }
@@ -98,6 +106,7 @@ pub fn neginv<T: PathWord>(m: T) -> T {
 
 /// The word x whose multiple x·m clears the low word of t: the first step of Montgomery's
 /// reduction. Condition: m times `negated_inverse` is -1 modulo the base.
+#[inline]
 pub fn clearing<T: PathWord>(m: T, negated_inverse: T, t: T::Double) -> T {
     let (low, _) = T::split(t);
     low.wrapping_mul(negated_inverse)
@@ -130,6 +139,7 @@ pub fn reduce_by<T: PathWord>(m: T, t: T::Double, x: T, multiple: T::Double) -> 
 /// is -1 modulo the base, and t is below m times the base.
 ///
 /// Source: Handbook of Applied Cryptography, algorithm 14.32, for one word.
+#[inline]
 pub fn redc<T: PathWord>(m: T, negated_inverse: T, t: T::Double) -> T {
     let x = clearing(m, negated_inverse, t);
     reduce_by(m, t, x, x.product(m))

@@ -2,6 +2,7 @@
 //! They are what the tests compare the fast calls with, and nothing of the library stands on them.
 
 // The residue of a signed number modulo m, by its computing form.
+#[inline]
 fn computed_residue(z: i64, m: u64) -> u64 {
     if z < 0 {
         m - 1 - (-(z + 1)) as u64 % m
@@ -14,11 +15,13 @@ fn computed_residue(z: i64, m: u64) -> u64 {
 ///
 /// The definition and its computing form agree: the answer is `residue m z`, it is a residue of z
 /// modulo m, and no other number is.
+#[inline]
 pub fn residue_of(z: i64, m: u64) -> u64 {
     computed_residue(z, m)
 }
 
 /// The residue modulo m of the product of `exp` factors `base`. Condition: m is at least 1.
+#[inline]
 pub fn power_of(base: u64, exp: u64, m: u64) -> u64 {
     let mut power = 1 % m;
     for _ in 0..exp {
@@ -29,6 +32,7 @@ pub fn power_of(base: u64, exp: u64, m: u64) -> u64 {
 
 /// The inverse of a modulo m, by trying each number below m; `None` exactly where there is none.
 /// Condition: m is at least 1.
+#[inline]
 pub fn inverse_by_search(a: u64, m: u64) -> Option<u64> {
     for x in 0..m {
         if a as u128 * x as u128 % m as u128 == (1 % m) as u128 {
@@ -40,6 +44,7 @@ pub fn inverse_by_search(a: u64, m: u64) -> Option<u64> {
 
 /// The greatest common divisor of a and n, by trying each number up to n. Condition: n is at
 /// least 1. It is 1 exactly where a has an inverse modulo n.
+#[inline]
 pub fn greatest_common_divisor(a: u64, n: u64) -> u64 {
     let mut greatest = 0;
     'divisors: for below in 0..n {

@@ -3,6 +3,7 @@
 use crate::modular_word::word::wsize::Word;
 
 /// The word x with m * x = -1 modulo 2^64. Condition: m is odd.
+#[inline]
 pub fn neginv(m: Word) -> Word {
     super::neginv(m)
 }

@@ -6,6 +6,7 @@ use crate::modular_prim::exact::{DivExact, DivExactAssign, assign_exact};
 impl DivExact<u8, PreModInv<u8>> for u16 {
     type Output = u16;
 
+    #[inline]
     fn div_exact(self, d: u8, pre: &PreModInv<u8>) -> Option<u16> {
         double_quotient(self, d, pre)
     }
@@ -14,6 +15,7 @@ impl DivExact<u8, PreModInv<u8>> for u16 {
 impl DivExact<u16, PreModInv<u16>> for u32 {
     type Output = u32;
 
+    #[inline]
     fn div_exact(self, d: u16, pre: &PreModInv<u16>) -> Option<u32> {
         double_quotient(self, d, pre)
     }
@@ -22,6 +24,7 @@ impl DivExact<u16, PreModInv<u16>> for u32 {
 impl DivExact<u32, PreModInv<u32>> for u64 {
     type Output = u64;
 
+    #[inline]
     fn div_exact(self, d: u32, pre: &PreModInv<u32>) -> Option<u64> {
         double_quotient(self, d, pre)
     }
@@ -30,6 +33,7 @@ impl DivExact<u32, PreModInv<u32>> for u64 {
 impl DivExact<u64, PreModInv<u64>> for u128 {
     type Output = u128;
 
+    #[inline]
     fn div_exact(self, d: u64, pre: &PreModInv<u64>) -> Option<u128> {
         double_quotient(self, d, pre)
     }
@@ -38,36 +42,42 @@ impl DivExact<u64, PreModInv<u64>> for u128 {
 impl DivExact<usize, PreModInv<usize>> for u128 {
     type Output = u128;
 
+    #[inline]
     fn div_exact(self, d: usize, pre: &PreModInv<usize>) -> Option<u128> {
         double_quotient(self, d, pre)
     }
 }
 
 impl DivExactAssign<u8, PreModInv<u8>> for u16 {
+    #[inline]
     fn div_exact_assign(&mut self, d: u8, pre: &PreModInv<u8>) -> bool {
         assign_exact(self, d, pre)
     }
 }
 
 impl DivExactAssign<u16, PreModInv<u16>> for u32 {
+    #[inline]
     fn div_exact_assign(&mut self, d: u16, pre: &PreModInv<u16>) -> bool {
         assign_exact(self, d, pre)
     }
 }
 
 impl DivExactAssign<u32, PreModInv<u32>> for u64 {
+    #[inline]
     fn div_exact_assign(&mut self, d: u32, pre: &PreModInv<u32>) -> bool {
         assign_exact(self, d, pre)
     }
 }
 
 impl DivExactAssign<u64, PreModInv<u64>> for u128 {
+    #[inline]
     fn div_exact_assign(&mut self, d: u64, pre: &PreModInv<u64>) -> bool {
         assign_exact(self, d, pre)
     }
 }
 
 impl DivExactAssign<usize, PreModInv<usize>> for u128 {
+    #[inline]
     fn div_exact_assign(&mut self, d: usize, pre: &PreModInv<usize>) -> bool {
         assign_exact(self, d, pre)
     }

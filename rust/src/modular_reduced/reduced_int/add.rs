@@ -9,6 +9,7 @@ use core::ops::{Add, AddAssign};
 impl<T: RingWord, R: Reducer<T> + Copy> Add<ReducedInt<T, R>> for ReducedInt<T, R> {
     type Output = ReducedInt<T, R>;
 
+    #[inline]
     fn add(self, rhs: ReducedInt<T, R>) -> ReducedInt<T, R> {
         sum(&self, &rhs)
     }
@@ -17,6 +18,7 @@ impl<T: RingWord, R: Reducer<T> + Copy> Add<ReducedInt<T, R>> for ReducedInt<T, 
 impl<T: RingWord, R: Reducer<T> + Copy> Add<&ReducedInt<T, R>> for ReducedInt<T, R> {
     type Output = ReducedInt<T, R>;
 
+    #[inline]
     fn add(self, rhs: &ReducedInt<T, R>) -> ReducedInt<T, R> {
         sum(&self, rhs)
     }
@@ -25,6 +27,7 @@ impl<T: RingWord, R: Reducer<T> + Copy> Add<&ReducedInt<T, R>> for ReducedInt<T,
 impl<T: RingWord, R: Reducer<T> + Copy> Add<T> for ReducedInt<T, R> {
     type Output = ReducedInt<T, R>;
 
+    #[inline]
     fn add(self, rhs: T) -> ReducedInt<T, R> {
         sum_with(&self, rhs)
     }
@@ -33,6 +36,7 @@ impl<T: RingWord, R: Reducer<T> + Copy> Add<T> for ReducedInt<T, R> {
 impl<T: RingWord, R: Reducer<T> + Copy> Add<&T> for ReducedInt<T, R> {
     type Output = ReducedInt<T, R>;
 
+    #[inline]
     fn add(self, rhs: &T) -> ReducedInt<T, R> {
         sum_with(&self, *rhs)
     }
@@ -41,6 +45,7 @@ impl<T: RingWord, R: Reducer<T> + Copy> Add<&T> for ReducedInt<T, R> {
 impl<T: RingWord, R: Reducer<T> + Copy> Add<ReducedInt<T, R>> for &ReducedInt<T, R> {
     type Output = ReducedInt<T, R>;
 
+    #[inline]
     fn add(self, rhs: ReducedInt<T, R>) -> ReducedInt<T, R> {
         sum(self, &rhs)
     }
@@ -49,6 +54,7 @@ impl<T: RingWord, R: Reducer<T> + Copy> Add<ReducedInt<T, R>> for &ReducedInt<T,
 impl<T: RingWord, R: Reducer<T> + Copy> Add<&ReducedInt<T, R>> for &ReducedInt<T, R> {
     type Output = ReducedInt<T, R>;
 
+    #[inline]
     fn add(self, rhs: &ReducedInt<T, R>) -> ReducedInt<T, R> {
         sum(self, rhs)
     }
@@ -57,6 +63,7 @@ impl<T: RingWord, R: Reducer<T> + Copy> Add<&ReducedInt<T, R>> for &ReducedInt<T
 impl<T: RingWord, R: Reducer<T> + Copy> Add<T> for &ReducedInt<T, R> {
     type Output = ReducedInt<T, R>;
 
+    #[inline]
     fn add(self, rhs: T) -> ReducedInt<T, R> {
         sum_with(self, rhs)
     }
@@ -65,30 +72,35 @@ impl<T: RingWord, R: Reducer<T> + Copy> Add<T> for &ReducedInt<T, R> {
 impl<T: RingWord, R: Reducer<T> + Copy> Add<&T> for &ReducedInt<T, R> {
     type Output = ReducedInt<T, R>;
 
+    #[inline]
     fn add(self, rhs: &T) -> ReducedInt<T, R> {
         sum_with(self, *rhs)
     }
 }
 
 impl<T: RingWord, R: Reducer<T> + Copy> AddAssign<ReducedInt<T, R>> for ReducedInt<T, R> {
+    #[inline]
     fn add_assign(&mut self, rhs: ReducedInt<T, R>) {
         *self = sum(self, &rhs);
     }
 }
 
 impl<T: RingWord, R: Reducer<T> + Copy> AddAssign<&ReducedInt<T, R>> for ReducedInt<T, R> {
+    #[inline]
     fn add_assign(&mut self, rhs: &ReducedInt<T, R>) {
         *self = sum(self, rhs);
     }
 }
 
 impl<T: RingWord, R: Reducer<T> + Copy> AddAssign<T> for ReducedInt<T, R> {
+    #[inline]
     fn add_assign(&mut self, rhs: T) {
         *self = sum_with(self, rhs);
     }
 }
 
 impl<T: RingWord, R: Reducer<T> + Copy> AddAssign<&T> for ReducedInt<T, R> {
+    #[inline]
     fn add_assign(&mut self, rhs: &T) {
         *self = sum_with(self, *rhs);
     }

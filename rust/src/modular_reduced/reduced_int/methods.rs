@@ -6,6 +6,7 @@ use crate::modular_word::ring_word::RingWord;
 
 impl<T: RingWord, R: Reducer<T> + Copy> ReducedInt<T, R> {
     /// The integer n mod m. Condition: the reducer admits m.
+    #[inline]
     pub fn new(n: T, m: &T) -> Self {
         let reducer = R::new(m);
         let form = reducer.transform(n);
@@ -13,11 +14,13 @@ impl<T: RingWord, R: Reducer<T> + Copy> ReducedInt<T, R> {
     }
 
     /// The form that stands for the residue.
+    #[inline]
     pub fn repr(&self) -> &T {
         &self.form
     }
 
     /// The inverse modulo m; `None` exactly where there is none.
+    #[inline]
     pub fn inv(self) -> Option<Self> {
         let form = self.reducer.inv(self.form)?;
         Some(ReducedInt {
@@ -28,6 +31,7 @@ impl<T: RingWord, R: Reducer<T> + Copy> ReducedInt<T, R> {
 
     /// The product of `exp` factors; 1 mod m for the exponent 0. It goes by binary steps, as
     /// `pow_counted`.
+    #[inline]
     pub fn pow(self, exp: &T) -> Self {
         ReducedInt {
             form: self.reducer.pow(self.form, exp),

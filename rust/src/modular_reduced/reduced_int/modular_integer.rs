@@ -9,22 +9,27 @@ use crate::modular_word::ring_word::RingWord;
 impl<T: RingWord, R: Reducer<T> + Copy> ModularInteger for ReducedInt<T, R> {
     type Base = T;
 
+    #[inline]
     fn modulus(&self) -> T {
         self.reducer.modulus()
     }
 
+    #[inline]
     fn residue(&self) -> T {
         self.reducer.residue(self.form)
     }
 
+    #[inline]
     fn is_zero(&self) -> bool {
         self.reducer.is_zero(&self.form)
     }
 
+    #[inline]
     fn convert(&self, n: T) -> Self {
         in_ring(self, n)
     }
 
+    #[inline]
     fn double(self) -> Self {
         ReducedInt {
             form: self.reducer.dbl(self.form),
@@ -32,6 +37,7 @@ impl<T: RingWord, R: Reducer<T> + Copy> ModularInteger for ReducedInt<T, R> {
         }
     }
 
+    #[inline]
     fn square(self) -> Self {
         ReducedInt {
             form: self.reducer.sqr(self.form),

@@ -9,6 +9,7 @@ use core::ops::{Mul, MulAssign};
 impl<T: RingWord, R: Reducer<T> + Copy> Mul<ReducedInt<T, R>> for ReducedInt<T, R> {
     type Output = ReducedInt<T, R>;
 
+    #[inline]
     fn mul(self, rhs: ReducedInt<T, R>) -> ReducedInt<T, R> {
         product(&self, &rhs)
     }
@@ -17,6 +18,7 @@ impl<T: RingWord, R: Reducer<T> + Copy> Mul<ReducedInt<T, R>> for ReducedInt<T, 
 impl<T: RingWord, R: Reducer<T> + Copy> Mul<&ReducedInt<T, R>> for ReducedInt<T, R> {
     type Output = ReducedInt<T, R>;
 
+    #[inline]
     fn mul(self, rhs: &ReducedInt<T, R>) -> ReducedInt<T, R> {
         product(&self, rhs)
     }
@@ -25,6 +27,7 @@ impl<T: RingWord, R: Reducer<T> + Copy> Mul<&ReducedInt<T, R>> for ReducedInt<T,
 impl<T: RingWord, R: Reducer<T> + Copy> Mul<T> for ReducedInt<T, R> {
     type Output = ReducedInt<T, R>;
 
+    #[inline]
     fn mul(self, rhs: T) -> ReducedInt<T, R> {
         product_with(&self, rhs)
     }
@@ -33,6 +36,7 @@ impl<T: RingWord, R: Reducer<T> + Copy> Mul<T> for ReducedInt<T, R> {
 impl<T: RingWord, R: Reducer<T> + Copy> Mul<&T> for ReducedInt<T, R> {
     type Output = ReducedInt<T, R>;
 
+    #[inline]
     fn mul(self, rhs: &T) -> ReducedInt<T, R> {
         product_with(&self, *rhs)
     }
@@ -41,6 +45,7 @@ impl<T: RingWord, R: Reducer<T> + Copy> Mul<&T> for ReducedInt<T, R> {
 impl<T: RingWord, R: Reducer<T> + Copy> Mul<ReducedInt<T, R>> for &ReducedInt<T, R> {
     type Output = ReducedInt<T, R>;
 
+    #[inline]
     fn mul(self, rhs: ReducedInt<T, R>) -> ReducedInt<T, R> {
         product(self, &rhs)
     }
@@ -49,6 +54,7 @@ impl<T: RingWord, R: Reducer<T> + Copy> Mul<ReducedInt<T, R>> for &ReducedInt<T,
 impl<T: RingWord, R: Reducer<T> + Copy> Mul<&ReducedInt<T, R>> for &ReducedInt<T, R> {
     type Output = ReducedInt<T, R>;
 
+    #[inline]
     fn mul(self, rhs: &ReducedInt<T, R>) -> ReducedInt<T, R> {
         product(self, rhs)
     }
@@ -57,6 +63,7 @@ impl<T: RingWord, R: Reducer<T> + Copy> Mul<&ReducedInt<T, R>> for &ReducedInt<T
 impl<T: RingWord, R: Reducer<T> + Copy> Mul<T> for &ReducedInt<T, R> {
     type Output = ReducedInt<T, R>;
 
+    #[inline]
     fn mul(self, rhs: T) -> ReducedInt<T, R> {
         product_with(self, rhs)
     }
@@ -65,30 +72,35 @@ impl<T: RingWord, R: Reducer<T> + Copy> Mul<T> for &ReducedInt<T, R> {
 impl<T: RingWord, R: Reducer<T> + Copy> Mul<&T> for &ReducedInt<T, R> {
     type Output = ReducedInt<T, R>;
 
+    #[inline]
     fn mul(self, rhs: &T) -> ReducedInt<T, R> {
         product_with(self, *rhs)
     }
 }
 
 impl<T: RingWord, R: Reducer<T> + Copy> MulAssign<ReducedInt<T, R>> for ReducedInt<T, R> {
+    #[inline]
     fn mul_assign(&mut self, rhs: ReducedInt<T, R>) {
         *self = product(self, &rhs);
     }
 }
 
 impl<T: RingWord, R: Reducer<T> + Copy> MulAssign<&ReducedInt<T, R>> for ReducedInt<T, R> {
+    #[inline]
     fn mul_assign(&mut self, rhs: &ReducedInt<T, R>) {
         *self = product(self, rhs);
     }
 }
 
 impl<T: RingWord, R: Reducer<T> + Copy> MulAssign<T> for ReducedInt<T, R> {
+    #[inline]
     fn mul_assign(&mut self, rhs: T) {
         *self = product_with(self, rhs);
     }
 }
 
 impl<T: RingWord, R: Reducer<T> + Copy> MulAssign<&T> for ReducedInt<T, R> {
+    #[inline]
     fn mul_assign(&mut self, rhs: &T) {
         *self = product_with(self, *rhs);
     }

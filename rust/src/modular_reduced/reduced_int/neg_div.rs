@@ -9,6 +9,7 @@ use core::ops::{Div, Neg};
 impl<T: RingWord, R: Reducer<T> + Copy> Neg for ReducedInt<T, R> {
     type Output = ReducedInt<T, R>;
 
+    #[inline]
     fn neg(self) -> ReducedInt<T, R> {
         negative(&self)
     }
@@ -17,6 +18,7 @@ impl<T: RingWord, R: Reducer<T> + Copy> Neg for ReducedInt<T, R> {
 impl<T: RingWord, R: Reducer<T> + Copy> Neg for &ReducedInt<T, R> {
     type Output = ReducedInt<T, R>;
 
+    #[inline]
     fn neg(self) -> ReducedInt<T, R> {
         negative(self)
     }
@@ -25,6 +27,7 @@ impl<T: RingWord, R: Reducer<T> + Copy> Neg for &ReducedInt<T, R> {
 impl<T: RingWord, R: Reducer<T> + Copy> Div<ReducedInt<T, R>> for ReducedInt<T, R> {
     type Output = ReducedInt<T, R>;
 
+    #[inline]
     fn div(self, rhs: ReducedInt<T, R>) -> ReducedInt<T, R> {
         quotient(&self, &rhs)
     }
@@ -33,6 +36,7 @@ impl<T: RingWord, R: Reducer<T> + Copy> Div<ReducedInt<T, R>> for ReducedInt<T, 
 impl<T: RingWord, R: Reducer<T> + Copy> Div<&ReducedInt<T, R>> for ReducedInt<T, R> {
     type Output = ReducedInt<T, R>;
 
+    #[inline]
     fn div(self, rhs: &ReducedInt<T, R>) -> ReducedInt<T, R> {
         quotient(&self, rhs)
     }
@@ -41,6 +45,7 @@ impl<T: RingWord, R: Reducer<T> + Copy> Div<&ReducedInt<T, R>> for ReducedInt<T,
 impl<T: RingWord, R: Reducer<T> + Copy> Div<ReducedInt<T, R>> for &ReducedInt<T, R> {
     type Output = ReducedInt<T, R>;
 
+    #[inline]
     fn div(self, rhs: ReducedInt<T, R>) -> ReducedInt<T, R> {
         quotient(self, &rhs)
     }
@@ -49,6 +54,7 @@ impl<T: RingWord, R: Reducer<T> + Copy> Div<ReducedInt<T, R>> for &ReducedInt<T,
 impl<T: RingWord, R: Reducer<T> + Copy> Div<&ReducedInt<T, R>> for &ReducedInt<T, R> {
     type Output = ReducedInt<T, R>;
 
+    #[inline]
     fn div(self, rhs: &ReducedInt<T, R>) -> ReducedInt<T, R> {
         quotient(self, rhs)
     }

@@ -5,6 +5,7 @@ use crate::modular_reduced::reducer::Reducer;
 use crate::modular_word::ring_word::RingWord;
 
 /// The integer n in the ring of x.
+#[inline]
 pub fn in_ring<T: RingWord, R: Reducer<T> + Copy>(x: &ReducedInt<T, R>, n: T) -> ReducedInt<T, R> {
     ReducedInt {
         form: x.reducer.transform(n),
@@ -13,6 +14,11 @@ pub fn in_ring<T: RingWord, R: Reducer<T> + Copy>(x: &ReducedInt<T, R>, n: T) ->
 }
 
 /// The sum. Condition: the moduli are equal.
+///
+/// # Panics
+///
+/// Outside the condition, in a debug build.
+#[inline]
 pub fn sum<T: RingWord, R: Reducer<T> + Copy>(
     x: &ReducedInt<T, R>,
     y: &ReducedInt<T, R>,
@@ -25,11 +31,17 @@ pub fn sum<T: RingWord, R: Reducer<T> + Copy>(
 }
 
 /// The sum with a word.
+#[inline]
 pub fn sum_with<T: RingWord, R: Reducer<T> + Copy>(x: &ReducedInt<T, R>, n: T) -> ReducedInt<T, R> {
     sum(x, &in_ring(x, n))
 }
 
 /// The difference. Condition: the moduli are equal.
+///
+/// # Panics
+///
+/// Outside the condition, in a debug build.
+#[inline]
 pub fn difference<T: RingWord, R: Reducer<T> + Copy>(
     x: &ReducedInt<T, R>,
     y: &ReducedInt<T, R>,
@@ -42,6 +54,7 @@ pub fn difference<T: RingWord, R: Reducer<T> + Copy>(
 }
 
 /// The difference with a word.
+#[inline]
 pub fn difference_with<T: RingWord, R: Reducer<T> + Copy>(
     x: &ReducedInt<T, R>,
     n: T,
@@ -50,6 +63,11 @@ pub fn difference_with<T: RingWord, R: Reducer<T> + Copy>(
 }
 
 /// The product. Condition: the moduli are equal.
+///
+/// # Panics
+///
+/// Outside the condition, in a debug build.
+#[inline]
 pub fn product<T: RingWord, R: Reducer<T> + Copy>(
     x: &ReducedInt<T, R>,
     y: &ReducedInt<T, R>,
@@ -62,6 +80,7 @@ pub fn product<T: RingWord, R: Reducer<T> + Copy>(
 }
 
 /// The product with a word.
+#[inline]
 pub fn product_with<T: RingWord, R: Reducer<T> + Copy>(
     x: &ReducedInt<T, R>,
     n: T,
@@ -71,6 +90,7 @@ pub fn product_with<T: RingWord, R: Reducer<T> + Copy>(
 
 /// The quotient: the integer whose product with y is x. Condition: the moduli are equal, and y has
 /// an inverse.
+#[inline]
 pub fn quotient<T: RingWord, R: Reducer<T> + Copy>(
     x: &ReducedInt<T, R>,
     y: &ReducedInt<T, R>,
@@ -82,6 +102,7 @@ pub fn quotient<T: RingWord, R: Reducer<T> + Copy>(
 }
 
 /// The negative.
+#[inline]
 pub fn negative<T: RingWord, R: Reducer<T> + Copy>(x: &ReducedInt<T, R>) -> ReducedInt<T, R> {
     ReducedInt {
         form: x.reducer.neg(x.form),

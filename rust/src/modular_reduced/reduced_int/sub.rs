@@ -9,6 +9,7 @@ use core::ops::{Sub, SubAssign};
 impl<T: RingWord, R: Reducer<T> + Copy> Sub<ReducedInt<T, R>> for ReducedInt<T, R> {
     type Output = ReducedInt<T, R>;
 
+    #[inline]
     fn sub(self, rhs: ReducedInt<T, R>) -> ReducedInt<T, R> {
         difference(&self, &rhs)
     }
@@ -17,6 +18,7 @@ impl<T: RingWord, R: Reducer<T> + Copy> Sub<ReducedInt<T, R>> for ReducedInt<T, 
 impl<T: RingWord, R: Reducer<T> + Copy> Sub<&ReducedInt<T, R>> for ReducedInt<T, R> {
     type Output = ReducedInt<T, R>;
 
+    #[inline]
     fn sub(self, rhs: &ReducedInt<T, R>) -> ReducedInt<T, R> {
         difference(&self, rhs)
     }
@@ -25,6 +27,7 @@ impl<T: RingWord, R: Reducer<T> + Copy> Sub<&ReducedInt<T, R>> for ReducedInt<T,
 impl<T: RingWord, R: Reducer<T> + Copy> Sub<T> for ReducedInt<T, R> {
     type Output = ReducedInt<T, R>;
 
+    #[inline]
     fn sub(self, rhs: T) -> ReducedInt<T, R> {
         difference_with(&self, rhs)
     }
@@ -33,6 +36,7 @@ impl<T: RingWord, R: Reducer<T> + Copy> Sub<T> for ReducedInt<T, R> {
 impl<T: RingWord, R: Reducer<T> + Copy> Sub<&T> for ReducedInt<T, R> {
     type Output = ReducedInt<T, R>;
 
+    #[inline]
     fn sub(self, rhs: &T) -> ReducedInt<T, R> {
         difference_with(&self, *rhs)
     }
@@ -41,6 +45,7 @@ impl<T: RingWord, R: Reducer<T> + Copy> Sub<&T> for ReducedInt<T, R> {
 impl<T: RingWord, R: Reducer<T> + Copy> Sub<ReducedInt<T, R>> for &ReducedInt<T, R> {
     type Output = ReducedInt<T, R>;
 
+    #[inline]
     fn sub(self, rhs: ReducedInt<T, R>) -> ReducedInt<T, R> {
         difference(self, &rhs)
     }
@@ -49,6 +54,7 @@ impl<T: RingWord, R: Reducer<T> + Copy> Sub<ReducedInt<T, R>> for &ReducedInt<T,
 impl<T: RingWord, R: Reducer<T> + Copy> Sub<&ReducedInt<T, R>> for &ReducedInt<T, R> {
     type Output = ReducedInt<T, R>;
 
+    #[inline]
     fn sub(self, rhs: &ReducedInt<T, R>) -> ReducedInt<T, R> {
         difference(self, rhs)
     }
@@ -57,6 +63,7 @@ impl<T: RingWord, R: Reducer<T> + Copy> Sub<&ReducedInt<T, R>> for &ReducedInt<T
 impl<T: RingWord, R: Reducer<T> + Copy> Sub<T> for &ReducedInt<T, R> {
     type Output = ReducedInt<T, R>;
 
+    #[inline]
     fn sub(self, rhs: T) -> ReducedInt<T, R> {
         difference_with(self, rhs)
     }
@@ -65,30 +72,35 @@ impl<T: RingWord, R: Reducer<T> + Copy> Sub<T> for &ReducedInt<T, R> {
 impl<T: RingWord, R: Reducer<T> + Copy> Sub<&T> for &ReducedInt<T, R> {
     type Output = ReducedInt<T, R>;
 
+    #[inline]
     fn sub(self, rhs: &T) -> ReducedInt<T, R> {
         difference_with(self, *rhs)
     }
 }
 
 impl<T: RingWord, R: Reducer<T> + Copy> SubAssign<ReducedInt<T, R>> for ReducedInt<T, R> {
+    #[inline]
     fn sub_assign(&mut self, rhs: ReducedInt<T, R>) {
         *self = difference(self, &rhs);
     }
 }
 
 impl<T: RingWord, R: Reducer<T> + Copy> SubAssign<&ReducedInt<T, R>> for ReducedInt<T, R> {
+    #[inline]
     fn sub_assign(&mut self, rhs: &ReducedInt<T, R>) {
         *self = difference(self, rhs);
     }
 }
 
 impl<T: RingWord, R: Reducer<T> + Copy> SubAssign<T> for ReducedInt<T, R> {
+    #[inline]
     fn sub_assign(&mut self, rhs: T) {
         *self = difference_with(self, rhs);
     }
 }
 
 impl<T: RingWord, R: Reducer<T> + Copy> SubAssign<&T> for ReducedInt<T, R> {
+    #[inline]
     fn sub_assign(&mut self, rhs: &T) {
         *self = difference_with(self, *rhs);
     }

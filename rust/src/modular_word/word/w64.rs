@@ -10,46 +10,55 @@ pub type Word = u64;
 pub type DoubleWord = u128;
 
 /// The word whose low n bits are ones: 2^n - 1. Condition: n is at most 64.
+#[inline]
 pub fn ones(n: u32) -> Word {
     paths::ones(n)
 }
 
 /// The word as a double word of the same number.
+#[inline]
 pub fn extend(word: Word) -> DoubleWord {
     word as DoubleWord
 }
 
 /// The low word of a double word: its number modulo 2^64.
+#[inline]
 pub fn low(dw: DoubleWord) -> Word {
     Word::split(dw).0
 }
 
 /// The high word of a double word: its number divided by 2^64, rounded down.
+#[inline]
 pub fn high(dw: DoubleWord) -> Word {
     Word::split(dw).1
 }
 
 /// The low and the high word of a double word, in this order.
+#[inline]
 pub fn split(dw: DoubleWord) -> (Word, Word) {
     Word::split(dw)
 }
 
 /// The double word of a low and a high word.
+#[inline]
 pub fn merge(low: Word, high: Word) -> DoubleWord {
     Word::merge(low, high)
 }
 
 /// The whole product of two words.
+#[inline]
 pub fn wmul(a: Word, b: Word) -> DoubleWord {
     a.product(b)
 }
 
 /// The whole square of a word.
+#[inline]
 pub fn wsqr(a: Word) -> DoubleWord {
     a.product(a)
 }
 
 /// The remainder of a double word by a word. Condition: d is at least 1.
+#[inline]
 pub fn nrem(n: DoubleWord, d: Word) -> Word {
     (n % extend(d)) as Word
 }

@@ -1,22 +1,34 @@
-use Rattle.std.proofs.Common.{◌≡◌, ◌*◌, ◌%◌, ap, ap₂, sym, ◌∙◌, arith}
-use Rattle.std.proofs.lemmas.Nat.{mul-mod}
+use Rattle.std.proofs.Common.{◌≡◌, ℕ, ◌+◌, ◌-◌, ◌*◌, ◌%◌, ◌^◌, ◌<◌, ap, sym, ◌∙◌, arith}
+use Rattle.std.proofs.Math.Nat.{mod_self, add-mul-mod_self_left}
+use Rattle.modular_word.proofs.Congruence.{mod_cancel}
 use Rattle.modular_monty.proofs.odd_ring.computed_once.Goals as goal
+
+-- a double word that is m less than the square of the base
+square_less : (b m low high double : ℕ) → 0 < m → m < b → low < b → (low + m) % b ≡ 0 → high + 1 ≡ b
+    → double ≡ low + b * high → double % m ≡ (b * b) % m
+square_less b m low high double some below fits rest top e =
+    let s : b - m + m ≡ b = omega arith in
+    let l : low ≡ b - m =
+    mod_cancel b low (b - m) m fits (omega arith) (rest ∙ sym (ap (λ v. v % b) s ∙ mod_self b)) in
+    let h : b * (high + 1) ≡ b * b = ap (λ v. b * v) top in
+    let whole : b * b ≡ double + m * 1 = omega arith in
+    sym (ap (λ v. v % m) whole ∙ add-mul-mod_self_left double m 1)
 
 pub returns : goal.returns
 returns g c =
     let n = g.T.RingWord.number in
     let b = g.T.PathWord.base in
     let m = n c.args.m in
-    let one : b * n c.one.result ≡ b * 1 = ap (λ o. b * o) c.one.ensures in
-    let whole : g.T.PathWord.double_number c.merge.result ≡ b =
-    omega (arith, one, c.merge.ensures.value, c.zero.ensures) in
-    let rest : n c.narrow_remainder-base.result ≡ b % m =
-    c.narrow_remainder-base.ensures.value ∙ ap (λ v. v % m) whole in
-    let square = c.product.ensures.value ∙ ap₂ (λ x y. x * y) rest rest in
+    let top : n c.ones.result + 1 ≡ b =
+    c.ones.ensures ∙ ap (λ v. 2 ^ v) c.bits.ensures ∙ sym g.met.T.PathWord.base_is in
     record {
       base = g.met.T.PathWord.base_is;
       odd = c.requires;
-      fits = c.narrow_remainder-base.ensures.fits;
+      fits = c.narrow_remainder-square.ensures.fits;
       inverse = c.neginv-negated_inverse.ensures;
-      is_square = c.narrow_remainder-square.ensures.value ∙ ap (λ v. v % m) square ∙ sym (mul-mod b b m);
+      is_square =
+          c.narrow_remainder-square.ensures.value
+          ∙ square_less b m (n c.wrapping_sub.result) (n c.ones.result) _ (omega (arith, c.requires))
+          c.narrow_remainder-square.ensures.fits c.wrapping_sub.ensures.fits
+          (c.wrapping_sub.ensures.value ∙ c.zero.ensures) top c.merge-less.ensures.value;
     }

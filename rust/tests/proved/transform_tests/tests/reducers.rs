@@ -160,6 +160,8 @@ fn take_product(entries: &mut [u64], xs: &[u64], ys: &[u64]) {
         entries[e] = product_entry(MODULUS, xs, ys, e);
     }
 }
+
+// The plain sums of the lists of n entries: the transforms of both, and the cyclic product.
 struct Sums {
     first: [u64; 256],
     second: [u64; 256],

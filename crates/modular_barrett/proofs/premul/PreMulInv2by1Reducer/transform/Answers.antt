@@ -1,6 +1,8 @@
+use Rattle.std.proofs.Common.{◌≡◌, ◌*◌, ◌^◌, ap, ◌∙◌, arith}
+use Rattle.std.proofs.Math.Nat.{pow-zero}
 use Rattle.modular_reduced.proofs.FormLemmas.{answered}
 use Rattle.modular_barrett.specs.ScaledForms.{scaled_canonical}
-use Rattle.modular_barrett.proofs.ScaledLemmas.{scaled_fits, remainder_stands, below_stands, below_fits}
+use Rattle.modular_barrett.proofs.ScaledLemmas.{scaled_fits, remainder_stands}
 use Rattle.modular_barrett.proofs.premul.PreMulInv2by1Reducer.transform.Goals as goal
 
 pub div_rem_2by1-requires : goal.div_rem_2by1-requires
@@ -8,19 +10,18 @@ div_rem_2by1-requires g c =
     let shifted = c.shift_left_wide.ensures in
     scaled_fits _ _ _ _ _ _ _ c.args.self.now.scaling shifted.fits shifted.value
 
-pub shift_left-requires-clause-fits : goal.shift_left-requires-clause-fits
-shift_left-requires-clause-fits g c =
-    below_fits _ _ _ _ _ _ _ g.met.T.PathWord.base_is c.args.self.now.scaling c.modulus.ensures
-    (c.is_below.ensures.below.0 c.if-is_below.true)
-
-pub returns-then-is_below : goal.returns-then-is_below
-returns-then-is_below g c =
+-- where nothing is scaled, the word itself is divided
+pub returns-then-self-eq0 : goal.returns-then-self-eq0
+returns-then-self-eq0 g c =
+    let n = g.T.RingWord.number c.args.n in
+    let s = c.args.self.now.shift in
+    let power : 2 ^ s ≡ 1 = ap (λ v. 2 ^ v) (let z : s ≡ 0 = grind arith in z) ∙ pow-zero 2 in
+    let scaled : n * 2 ^ s ≡ n * 1 = ap (λ v. n * v) power in
     answered (scaled_canonical c.args.self.now.scaling)
-    (below_stands _ _ _ _ _ _ _ c.args.self.now.scaling c.modulus.ensures
-    (c.is_below.ensures.below.0 c.if-is_below.true)
-    c.shift_left.ensures)
+    (remainder_stands _ _ _ _ _ _ _ _ c.args.self.now.scaling (let w : n ≡ n * 2 ^ s = omega arith in w)
+    c.div_rem_1by1.ensures)
 
-pub returns-else-is_below : goal.returns-else-is_below
-returns-else-is_below g c =
+pub returns-else-self-eq0 : goal.returns-else-self-eq0
+returns-else-self-eq0 g c =
     answered (scaled_canonical c.args.self.now.scaling)
     (remainder_stands _ _ _ _ _ _ _ _ c.args.self.now.scaling c.shift_left_wide.ensures.value c.div_rem_2by1.ensures)
