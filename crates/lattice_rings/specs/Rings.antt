@@ -1,9 +1,10 @@
 -- The rings of polynomials modulo X^256 + 1 of the lattice standards: FIPS 204, "Module-Lattice-Based Digital
 -- Signature Standard", 2024, sections 2.3, 2.5 and 7.5 (ML-DSA: q = 8380417, zeta = 1753), and FIPS 203,
 -- "Module-Lattice-Based Key-Encapsulation Mechanism Standard", 2024, section 4.3 (ML-KEM: q = 3329, zeta = 17).
-use Rattle.std.specs.Prelude.{◌≡◌, ℕ, ◌+◌, ◌-◌, ◌*◌, ◌%◌, ◌^◌, ◌<◌, ◌==◌, if◌then◌else◌}
+use Rattle.std.specs.Prelude.{◌≡◌, ℕ, ◌+◌, ◌*◌, ◌%◌, ◌^◌, ◌<◌}
 use Rattle.modular_word.specs.Sums.{sum_below}
 use Rattle.modular_transform.specs.Orders.{bits_reversed}
+use Rattle.modular_plan.specs.Products.{coefficient}
 
 -- the value at x of the polynomial with the n coefficients w, the constant first, modulo q
 abbrev pub value_at : ℕ → ℕ → (ℕ → ℕ) → ℕ → ℕ
@@ -22,15 +23,11 @@ pub record IsKemTransform (w v : ℕ → ℕ) : Type 0 where
   pub linear : (i : ℕ) → i < 128
       → v (2 * i + 1) ≡ value_at 3329 128 (λ k. w (2 * k + 1)) (17 ^ (2 * bits_reversed 7 i + 1))
 
--- the sum of x i * y j over i + j = s, for 256 coefficients each
-abbrev pub convolved : (ℕ → ℕ) → (ℕ → ℕ) → ℕ → ℕ
-convolved x y s = sum_below 256 (λ i. sum_below 256 (λ j. if i + j == s then x i * y j else 0))
-
 -- p is the product of x and y modulo X^256 + 1 and q: as X^256 is -1, what is past the
 -- 256 coefficients is taken away from the first ones
 pub record IsRingProduct (q : ℕ) (x y p : ℕ → ℕ) : Type 0 where
   pub below : (e : ℕ) → e < 256 → p e < q
-  pub each : (e : ℕ) → e < 256 → (p e + convolved x y (e + 256)) % q ≡ convolved x y e % q
+  pub each : (e : ℕ) → e < 256 → (p e + coefficient 256 x y (e + 256)) % q ≡ coefficient 256 x y e % q
 
 -- FIPS 204: p is the product of the transforms u and v, place by place
 pub record IsDsaProduct (u v p : ℕ → ℕ) : Type 0 where

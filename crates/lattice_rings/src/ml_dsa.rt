@@ -12,6 +12,7 @@ use modular_plan::modulus::{Factor, PlannedModulus};
 use modular_plan::plan::plan;
 use modular_plan::products::multiply;
 use modular_plan::split::split;
+use modular_transform::laws::transform_laws;
 
 /// The modulus q.
 pub const MODULUS: u32 = 8380417;
@@ -81,6 +82,7 @@ impl Ring {
         ensures unique { (x : ℕ → ℕ) → IsDsaTransform x (slice_index w.old) →
             (i : ℕ) → i < 256 → slice_index w.new i ≡ x i % 8380417 }
     {
+        transform_laws();
         join_scaled(&self.modulus, w, &self.table, 1, 1, &self.part);
     }
 

@@ -12,6 +12,7 @@ use modular_plan::modulus::{Factor, PlannedModulus};
 use modular_plan::plan::plan;
 use modular_plan::products::multiply;
 use modular_plan::split::split;
+use modular_transform::laws::transform_laws;
 
 /// The modulus q.
 pub const MODULUS: u32 = 3329;
@@ -82,6 +83,7 @@ impl Ring {
         ensures unique { (x : ℕ → ℕ) → IsKemTransform x (slice_index w.old) →
             (i : ℕ) → i < 256 → slice_index w.new i ≡ x i % 3329 }
     {
+        transform_laws();
         join_scaled(&self.modulus, w, &self.table, 1, 2, &self.part);
     }
 
