@@ -30,10 +30,16 @@ plan_of m g s count w suits is entry = record {
   entry = λ k l. let e : s ≡ suc s - 1 = omega arith in entry k l ∙ ap (λ v. g ^ bits_reversed v k % m) e;
 }
 
-pub plan_as : (q g s m entries : ℕ) (w : ℕ → ℕ) → m ≡ q → entries ≡ 2 ^ s → IsPlan q g (suc s) (2 ^ s) w
-    → IsPlan m g (suc s) entries w
-plan_as q g s m entries w is room plan =
-    subst (λ k. IsPlan m g (suc s) k w) (sym room) (subst (λ k. IsPlan k g (suc s) (2 ^ s) w) (sym is) plan)
+-- the modulus m, the number n of blocks and the table of so many entries w that a ring's calls have
+pub record IsRingPlan (q g s m n entries : ℕ) (w : ℕ → ℕ) : Type 0 where
+  pub modulus : m ≡ q
+  pub count : n ≡ 2 ^ s
+  pub room : entries ≡ 2 ^ s
+  pub plan : IsPlan q g (suc s) (2 ^ s) w
+
+plan_as : {q g s m n entries : ℕ} {w : ℕ → ℕ} → IsRingPlan q g s m n entries w → IsPlan m g (suc s) entries w
+plan_as {q} {g} {s} {m} {n} {entries} {w} ring =
+    subst (λ k. IsPlan m g (suc s) k w) (sym ring.room) (subst (λ k. IsPlan k g (suc s) (2 ^ s) w) (sym ring.modulus) ring.plan)
 
 -- the constant of block j below block 1
 pub constant_is : (g s j : ℕ) → j < 2 ^ s → constant g (suc s) (1 * 2 ^ s + j) ≡ g ^ (2 * bits_reversed s j + 1)
@@ -52,7 +58,8 @@ values_of m g s last x y are = record {
       ∙ ap (λ c. value_at m (2 ^ s) (λ k. x (k * last + i)) c) (constant_is g s j lj);
 }
 
-pub remainders_of : (m g s last : ℕ) (x y : ℕ → ℕ) → AreValues m g s last x y → AreRemainders m g (suc s) 1 (2 ^ s) last x y
+pub remainders_of : (m g s last : ℕ) (x y : ℕ → ℕ) → AreValues m g s last x y
+    → AreRemainders m g (suc s) 1 (2 ^ s) last x y
 remainders_of m g s last x y are = record {
   each = λ j i lj li. are.each j i lj li
       ∙ ap (λ c. value_at m (2 ^ s) (λ k. x (k * last + i)) c) (sym (constant_is g s j lj));
@@ -112,18 +119,21 @@ preimage_values {m} g h G H s last part y inverse square of_number back below = 
       let is : (k : ℕ) → x (k * last + i) ≡ (part * h ^ k * u k) % m = λ k.
       ap (λ d. (part * h ^ d * transform m H n (v ((k * last + i) % last)) d) % m) (div-mul-add k last i li)
       ∙ ap (λ e. (part * h ^ k * transform m H n (v e) k) % m) (mod-mul-add k last i li) in
-      let all : Congruent m (sum_below n (λ k. x (k * last + i) * c ^ k)) (sum_below n (λ k. part * (u k * G ^ (k * r)))) =
-      sum_below-congruent n (λ k. x (k * last + i) * c ^ k) (λ k. part * (u k * G ^ (k * r)))
+      let f = λ (k : ℕ). x (k * last + i) * c ^ k in
+      let w = λ (k : ℕ). u k * G ^ (k * r) in
+      let all : Congruent m (sum_below n f) (sum_below n (λ k. part * w k)) =
+      sum_below-congruent n f (λ k. part * w k)
       (λ k l. chained (multiplied (chained (of_equal (is k)) (residue_of (part * h ^ k * u k))) (itself (c ^ k)))
       (term g h G r k part (u k) inverse square)) in
-      let whole : Congruent m (part * sum_below n (λ k. u k * G ^ (k * r))) (part * (n * v i r)) =
+      let whole : Congruent m (part * sum_below n w) (part * (n * v i r)) =
       multiplied (itself part)
-      (chained (turned (residue_of (sum_below n (λ k. u k * G ^ (k * r))))) (back (v i) r (bits_reversed_below s j))) in
+      (chained (turned (residue_of (sum_below n w))) (back (v i) r (bits_reversed_below s j))) in
       let place : v i r ≡ y (j * last + i) = ap (λ q. y (q * last + i)) (bits_reversed_twice s j lj) in
       let turn : part * (n * v i r) ≡ n * part * v i r = omega arith in
       let o : 1 * v i r ≡ v i r = omega arith in
-      let end : Congruent m (sum_below n (λ k. x (k * last + i) * c ^ k)) (y (j * last + i)) =
-      chained all (chained (of_equal (sum_below-mul n part (λ k. u k * G ^ (k * r))))
+      let end : Congruent m (sum_below n f) (y (j * last + i)) =
+      chained all
+      (chained (of_equal (sum_below-mul n part w))
       (chained whole (chained (of_equal turn) (chained (multiplied of_number (itself (v i r))) (of_equal (o ∙ place)))))) in
       sym (mod-eq_of_lt (below j i lj li)) ∙ sym end.same;
 }
@@ -145,66 +155,69 @@ added_to m a b p below is =
     ∙ add-mul-mod_self_right p b m ∙ mod-eq_of_lt below
 
 -- what `split` says of words, in the words of the standards
-pub told : (q g s last m n entries : ℕ) (w : ℕ → ℕ) (xs ys : List ℕ) → m ≡ q → n ≡ 2 ^ s → entries ≡ 2 ^ s
-    → IsPlan q g (suc s) (2 ^ s) w
-    → (IsPlan m g (suc s) entries w
-    → AreRemainders m g (suc s) 1 n last (numbers (λ x. x) xs) (numbers (λ x. x) ys))
+pub told : {q g s m n entries : ℕ} {w : ℕ → ℕ} (last : ℕ) (xs ys : List ℕ) → IsRingPlan q g s m n entries w
+    → (IsPlan m g (suc s) entries w → AreRemainders m g (suc s) 1 n last (numbers (λ x. x) xs) (numbers (λ x. x) ys))
     → AreValues q g s last (slice_index xs) (slice_index ys)
-told q g s last m n entries w xs ys is count room plan known =
+told {q} {g} {s} {m} {n} last xs ys ring known =
     values_of q g s last (slice_index xs) (slice_index ys)
     (subst (λ f. AreRemainders q g (suc s) 1 (2 ^ s) last f (slice_index ys)) (own_numbers xs)
     (subst (λ f. AreRemainders q g (suc s) 1 (2 ^ s) last (numbers (λ x. x) xs) f) (own_numbers ys)
-    (subst (λ k. AreRemainders q g (suc s) 1 k last (numbers (λ x. x) xs) (numbers (λ x. x) ys)) count
-    (subst (λ k. AreRemainders k g (suc s) 1 n last (numbers (λ x. x) xs) (numbers (λ x. x) ys)) is
-    (known (plan_as q g s m entries w is room plan))))))
+    (subst (λ k. AreRemainders q g (suc s) 1 k last (numbers (λ x. x) xs) (numbers (λ x. x) ys)) ring.count
+    (subst (λ k. AreRemainders k g (suc s) 1 n last (numbers (λ x. x) xs) (numbers (λ x. x) ys)) ring.modulus
+    (known (plan_as ring))))))
 
 -- what `join_scaled` says of words
-pub joined : (q g s last m n entries part : ℕ) (w x : ℕ → ℕ) (ys zs : List ℕ) → m ≡ q → n ≡ 2 ^ s → entries ≡ 2 ^ s
-    → Congruent q (2 ^ s * part) 1 → IsPlan q g (suc s) (2 ^ s) w → AreValues q g s last x (slice_index ys)
+pub joined : {q g s m n entries : ℕ} {w : ℕ → ℕ} (last part : ℕ) (x : ℕ → ℕ) (ys zs : List ℕ)
+    → IsRingPlan q g s m n entries w → Congruent q (2 ^ s * part) 1 → AreValues q g s last x (slice_index ys)
     → (IsPlan m g (suc s) entries w → AreRemainders m g (suc s) 1 n last x (λ i. numbers (λ v. v) ys i % m)
     → (i : ℕ) → i < length ys → numbers (λ v. v) zs i ≡ (n * x i * part) % m)
     → (i : ℕ) → i < length ys → slice_index zs i ≡ x i % q
-joined q g s last m n entries part w x ys zs is count room one plan are known i l =
+joined {q} {g} {s} {m} {n} last part x ys zs ring one are known i l =
     let own = own_residues q g s last x (slice_index ys) are in
     let there = subst (λ f. AreRemainders q g (suc s) 1 (2 ^ s) last x (λ i. f i % q)) (sym (own_numbers ys))
     (remainders_of q g s last x (λ i. slice_index ys i % q) own) in
-    let given = subst (λ k. AreRemainders k g (suc s) 1 n last x (λ i. numbers (λ v. v) ys i % k)) (sym is)
-    (subst (λ k. AreRemainders q g (suc s) 1 k last x (λ i. numbers (λ v. v) ys i % q)) (sym count) there) in
-    sym (ap (λ f. f i) (own_numbers zs)) ∙ known (plan_as q g s m entries w is room plan) given i l
-    ∙ ap (λ k. (n * x i * part) % k) is ∙ ap (λ k. (k * x i * part) % q) count ∙ number_gone q (2 ^ s) part (x i) one
+    let given = subst (λ k. AreRemainders k g (suc s) 1 n last x (λ i. numbers (λ v. v) ys i % k)) (sym ring.modulus)
+    (subst (λ k. AreRemainders q g (suc s) 1 k last x (λ i. numbers (λ v. v) ys i % q)) (sym ring.count) there) in
+    sym (ap (λ f. f i) (own_numbers zs)) ∙ known (plan_as ring) given i l ∙ ap (λ k. (n * x i * part) % k) ring.modulus
+    ∙ ap (λ k. (k * x i * part) % q) ring.count ∙ number_gone q (2 ^ s) part (x i) one
 
 -- what `convolve_negacyclic` says of words
-pub product_of : (q g s m n entries : ℕ) (w : ℕ → ℕ) (xs ys zs : List ℕ) → 0 < q → m ≡ q → n ≡ 256 → entries ≡ 2 ^ s
-    → IsPlan q g (suc s) (2 ^ s) w
-    → ((e : ℕ) → IsPlan m g (suc s) entries w → e < n → numbers (λ v. v) zs e
-    ≡ product_modulo m n (m - 1) (numbers (λ v. v) xs) (numbers (λ v. v) ys) e)
+pub product_of : {q g s m n entries : ℕ} {w : ℕ → ℕ} (size : ℕ) (xs ys zs : List ℕ)
+    → IsRingPlan q g s m n entries w → 0 < q → size ≡ 256
+    → ((e : ℕ) → IsPlan m g (suc s) entries w → e < size → numbers (λ v. v) zs e
+    ≡ product_modulo m size (m - 1) (numbers (λ v. v) xs) (numbers (λ v. v) ys) e)
     → IsRingProduct q (slice_index xs) (slice_index ys) (slice_index zs)
-product_of q g s m n entries w xs ys zs some is size room plan known =
-    let entry : (e : ℕ) → e < 256 → slice_index zs e ≡ product_modulo q 256 (q - 1) (slice_index xs) (slice_index ys) e =
-    λ e l. sym (ap (λ f. f e) (own_numbers zs)) ∙ known e (plan_as q g s m entries w is room plan) (omega arith)
-    ∙ ap (λ k. product_modulo k n (k - 1) (numbers (λ v. v) xs) (numbers (λ v. v) ys) e) is
-    ∙ ap (λ k. product_modulo q k (q - 1) (numbers (λ v. v) xs) (numbers (λ v. v) ys) e) size
-    ∙ ap (λ f. product_modulo q 256 (q - 1) f (numbers (λ v. v) ys) e) (own_numbers xs)
-    ∙ ap (λ f. product_modulo q 256 (q - 1) (slice_index xs) f e) (own_numbers ys) in
+product_of {q} size xs ys zs ring some is known =
+    let x = numbers (λ v. v) xs in
+    let y = numbers (λ v. v) ys in
+    let u = slice_index xs in
+    let v = slice_index ys in
+    let entry : (e : ℕ) → e < 256 → slice_index zs e ≡ product_modulo q 256 (q - 1) u v e =
+    λ e l. sym (ap (λ f. f e) (own_numbers zs)) ∙ known e (plan_as ring) (omega arith)
+    ∙ ap (λ k. product_modulo k size (k - 1) x y e) ring.modulus ∙ ap (λ k. product_modulo q k (q - 1) x y e) is
+    ∙ ap (λ f. product_modulo q 256 (q - 1) f y e) (own_numbers xs)
+    ∙ ap (λ f. product_modulo q 256 (q - 1) u f e) (own_numbers ys) in
     record {
       below = λ e l. subst (λ v. v < q) (sym (entry e l)) (mod-lt _ some);
-      each = λ e l. taken_away q (coefficient 256 (slice_index xs) (slice_index ys) e)
-          (coefficient 256 (slice_index xs) (slice_index ys) (e + 256)) (slice_index zs e) some (entry e l);
+      each = λ e l.
+          taken_away q (coefficient 256 u v e) (coefficient 256 u v (e + 256)) (slice_index zs e) some (entry e l);
     }
 
 -- what `multiply` says of words
-pub multiplied_words : (q g s last m n entries : ℕ) (w : ℕ → ℕ) (xs ys zs : List ℕ) → m ≡ q → n ≡ 2 ^ s
-    → entries ≡ 2 ^ s → IsPlan q g (suc s) (2 ^ s) w
+pub multiplied_words : {q g s m n entries : ℕ} {w : ℕ → ℕ} (last : ℕ) (xs ys zs : List ℕ)
+    → IsRingPlan q g s m n entries w
     → (IsPlan m g (suc s) entries w
     → AreProducts m g (suc s) 1 n last (numbers (λ x. x) xs) (numbers (λ x. x) ys) (numbers (λ x. x) zs))
     → AreProducts q g (suc s) 1 (2 ^ s) last (slice_index xs) (slice_index ys) (slice_index zs)
-multiplied_words q g s last m n entries w xs ys zs is count room plan known =
+multiplied_words {q} {g} {s} {m} {n} last xs ys zs ring known =
+    let x = numbers (λ x. x) xs in
+    let y = numbers (λ x. x) ys in
+    let z = numbers (λ x. x) zs in
     subst (λ f. AreProducts q g (suc s) 1 (2 ^ s) last f (slice_index ys) (slice_index zs)) (own_numbers xs)
-    (subst (λ f. AreProducts q g (suc s) 1 (2 ^ s) last (numbers (λ x. x) xs) f (slice_index zs)) (own_numbers ys)
-    (subst (λ f. AreProducts q g (suc s) 1 (2 ^ s) last (numbers (λ x. x) xs) (numbers (λ x. x) ys) f) (own_numbers zs)
-    (subst (λ k. AreProducts q g (suc s) 1 k last (numbers (λ x. x) xs) (numbers (λ x. x) ys) (numbers (λ x. x) zs)) count
-    (subst (λ k. AreProducts k g (suc s) 1 n last (numbers (λ x. x) xs) (numbers (λ x. x) ys) (numbers (λ x. x) zs)) is
-    (known (plan_as q g s m entries w is room plan))))))
+    (subst (λ f. AreProducts q g (suc s) 1 (2 ^ s) last x f (slice_index zs)) (own_numbers ys)
+    (subst (λ f. AreProducts q g (suc s) 1 (2 ^ s) last x y f) (own_numbers zs)
+    (subst (λ k. AreProducts q g (suc s) 1 k last x y z) ring.count
+    (subst (λ k. AreProducts k g (suc s) 1 n last x y z) ring.modulus (known (plan_as ring))))))
 
 -- the product of two transforms is the transform of the product
 pub product_transformed : (q g s last : ℕ) (w x y p u v r : ℕ → ℕ) → 0 < q → 2 ^ s * last ≡ 256
@@ -226,6 +239,7 @@ product_transformed q g s last w x y p u v r some size plan product first second
           let value = products.each j i lj li in
           value ∙ sym (mod-mod _ q) ∙ ap (λ a. a % q) (sym value) ∙ are.each j i lj li
           ∙ value_same q n (g ^ (2 * bits_reversed s j + 1)) (λ k. z (k * last + i)) (λ k. p (k * last + i))
-          (λ k lk. let most : (k + 1) * last ≤ n * last = mul-le-mul_right last (let a : k + 1 ≤ n = omega arith in a) in
+          (λ k lk.
+          let most : (k + 1) * last ≤ n * last = mul-le-mul_right last (let a : k + 1 ≤ n = omega arith in a) in
           is (k * last + i) (omega (arith, most, size, li)));
     }

@@ -1,19 +1,31 @@
 -- The numbers of FIPS 204, and its transform as remainders modulo X - c.
-use Rattle.std.proofs.Common.{◌≡◌, ℕ, ◌+◌, ◌*◌, ◌%◌, ◌^◌, ◌<◌, refl, sym, ◌∙◌, ap, arith}
+use Rattle.std.proofs.Common.{◌≡◌, ℕ, ◌+◌, ◌*◌, ◌%◌, ◌^◌, ◌<◌, length, refl, sym, ◌∙◌, ap, arith}
 use Rattle.modular_word.specs.Congruence.{Congruent}
 use Rattle.modular_word.specs.Inverses.{HasInverse, IsInverse}
 use Rattle.modular_transform.specs.Orders.{bits_reversed}
 use Rattle.modular_transform.specs.Transforms.{Suits, transform}
-use Rattle.modular_plan.specs.Plans.{constant}
+use Rattle.modular_plan.specs.Plans.{numbers, constant}
 use Rattle.modular_plan.specs.Products.{AreProducts}
 use Rattle.modular_plan.proofs.SmallProducts.{product_of_one}
+use Rattle.lattice_rings.specs.declared.ml_dsa.Ring.{Ring}
 use Rattle.lattice_rings.specs.Rings.{IsDsaTransform, IsDsaProduct}
-use Rattle.lattice_rings.proofs.Blocks.{AreValues, value_same, preimage, preimage_values}
+use Rattle.lattice_rings.proofs.Blocks.{IsRingPlan, plan_of, AreValues, value_same, preimage, preimage_values}
 
--- zeta and the inverse of its square suit
+-- zeta suits
 pub zeta_suits : Suits 8380417 1753 512
 zeta_suits = record { power_of_two = (9, refl); half_turn = λ l. refl }
 
+-- what a ring has
+pub ring_plan : (r : Ring) (n : ℕ) → n ≡ 256 → length r.table ≡ 256
+    → IsRingPlan 8380417 1753 8 r.modulus.modulus n (length r.table) (numbers (λ f. f.value) r.table)
+ring_plan r n count room = record {
+  modulus = r.modulus_is;
+  count = count;
+  room = room;
+  plan = plan_of 8380417 1753 8 256 (numbers (λ f. f.value) r.table) zeta_suits refl r.powers;
+}
+
+-- the inverse of the square of zeta suits, and the number of blocks has an inverse
 pub back_suits : Suits 8380417 6635910 256
 back_suits = record { power_of_two = (8, refl); half_turn = λ l. refl }
 

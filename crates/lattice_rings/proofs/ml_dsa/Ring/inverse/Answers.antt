@@ -1,9 +1,8 @@
-use Rattle.std.proofs.Common.{◌≡◌, ℕ, ◌*◌, ◌%◌, ◌/◌, ◌<◌, length, slice_index, ◌∙◌, refl, sym, arith, subst}
+use Rattle.std.proofs.Common.{◌≡◌, ℕ, ◌*◌, ◌%◌, ◌/◌, ◌<◌, length, slice_index, ◌∙◌, sym, arith, subst}
 use Rattle.std.proofs.Math.Nat.{mod-mod}
 use Rattle.modular_word.specs.Congruence.{Congruent}
-use Rattle.modular_plan.specs.Plans.{numbers}
-use Rattle.lattice_rings.proofs.Blocks.{AreValues, plan_of, joined}
-use Rattle.lattice_rings.proofs.Dsa.{zeta_suits, back_suits, back_inverse, of_number}
+use Rattle.lattice_rings.proofs.Blocks.{AreValues, joined}
+use Rattle.lattice_rings.proofs.Dsa.{ring_plan, back_suits, back_inverse, of_number}
 use Rattle.lattice_rings.proofs.Dsa.{transform_of, values_of_transform, transform_same, before, before_values}
 use Rattle.lattice_rings.proofs.ml_dsa.Ring.inverse.Goals as goal
 
@@ -14,11 +13,10 @@ join_scaled-requires-clause-count c = (8, omega arith)
 entries : (c : goal.After-join_scaled) (x : ℕ → ℕ) → AreValues 8380417 1753 8 1 x (slice_index c.args.w.now)
     → (i : ℕ) → i < 256 → slice_index c.join_scaled.new.xs i ≡ x i % 8380417
 entries c x are i l =
-    let table = numbers (λ f. f.value) c.args.self.now.table in
-    let plan = plan_of 8380417 1753 8 256 table zeta_suits refl c.args.self.now.powers in
-    joined 8380417 1753 8 1 c.args.self.now.modulus.modulus (length c.args.w.now / 1) (length c.args.self.now.table)
-    c.args.self.now.part.value table x c.args.w.now c.join_scaled.new.xs c.args.self.now.modulus_is
-    (omega arith) (omega arith) (subst (λ v. Congruent 8380417 (256 * v) 1) (sym c.args.self.now.part_is) of_number) plan are (c.join_scaled.ensures.joined 1753 9 x) i (omega arith)
+    let ring = ring_plan c.args.self.now (length c.args.w.now / 1) (omega arith) (omega arith) in
+    let one = subst (λ v. Congruent 8380417 (256 * v) 1) (sym c.args.self.now.part_is) of_number in
+    joined 1 c.args.self.now.part.value x c.args.w.now c.join_scaled.new.xs ring one are
+    (c.join_scaled.ensures.joined 1753 9 x) i (omega arith)
 
 pub returns-clause-unique : goal.returns-clause-unique
 returns-clause-unique c = λ x is. entries c x (values_of_transform x (slice_index c.args.w.now) is)

@@ -1,7 +1,6 @@
-use Rattle.std.proofs.Common.{length, slice_index, ◌/◌, refl, arith}
-use Rattle.modular_plan.specs.Plans.{numbers}
-use Rattle.lattice_rings.proofs.Blocks.{plan_of, told}
-use Rattle.lattice_rings.proofs.Dsa.{zeta_suits, transform_of}
+use Rattle.std.proofs.Common.{length, ◌/◌, arith}
+use Rattle.lattice_rings.proofs.Blocks.{told}
+use Rattle.lattice_rings.proofs.Dsa.{ring_plan, transform_of}
 use Rattle.lattice_rings.proofs.ml_dsa.Ring.ntt.Goals as goal
 
 pub split-requires-clause-count : goal.split-requires-clause-count
@@ -9,9 +8,5 @@ split-requires-clause-count c = (8, omega arith)
 
 pub returns-clause-values : goal.returns-clause-values
 returns-clause-values c =
-    let table = numbers (λ f. f.value) c.args.self.now.table in
-    let plan = plan_of 8380417 1753 8 256 table zeta_suits refl c.args.self.now.powers in
-    transform_of (slice_index c.args.w.now) (slice_index c.split.new.xs)
-    (told 8380417 1753 8 1 c.args.self.now.modulus.modulus (length c.args.w.now / 1) (length c.args.self.now.table) table
-    c.args.w.now c.split.new.xs c.args.self.now.modulus_is (omega arith) (omega arith) plan
-    (c.split.ensures.remainders 1753 9))
+    let ring = ring_plan c.args.self.now (length c.args.w.now / 1) (omega arith) (omega arith) in
+    transform_of _ _ (told 1 c.args.w.now c.split.new.xs ring (c.split.ensures.remainders 1753 9))

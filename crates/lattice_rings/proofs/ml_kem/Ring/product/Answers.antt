@@ -1,8 +1,7 @@
-use Rattle.std.proofs.Common.{◌≡◌, ◌/◌, ◌<◌, All, IsTrue, length, slice_index, refl, sym, arith, subst}
+use Rattle.std.proofs.Common.{◌≡◌, ◌/◌, ◌<◌, All, IsTrue, length, sym, arith, subst}
 use Rattle.modular_word.specs.Inverses.{HasInverse}
-use Rattle.modular_plan.specs.Plans.{numbers}
-use Rattle.lattice_rings.proofs.Blocks.{plan_of, told, product_of}
-use Rattle.lattice_rings.proofs.Kem.{zeta_suits, number_inverse, transform_of}
+use Rattle.lattice_rings.proofs.Blocks.{told, product_of}
+use Rattle.lattice_rings.proofs.Kem.{ring_plan, number_inverse, transform_of}
 use Rattle.lattice_rings.proofs.ml_kem.Ring.product.Goals as goal
 
 pub convolve_negacyclic-always-requires-clause-count : goal.convolve_negacyclic-always-requires-clause-count
@@ -21,18 +20,12 @@ returns-clause-residues c =
 
 pub returns-clause-product : goal.returns-clause-product
 returns-clause-product c =
-    let table = numbers (λ f. f.value) c.args.self.now.table in
-    let plan = plan_of 3329 17 7 128 table zeta_suits refl c.args.self.now.powers in
-    product_of 3329 17 7 c.args.self.now.modulus.modulus (length c.args.xs.now) (length c.args.self.now.table) table
-    c.args.xs.now c.args.ys.now c.convolve_negacyclic-always.new.xs (omega arith) c.args.self.now.modulus_is
-    (omega arith) (omega arith) plan
-    (λ e p l. c.convolve_negacyclic-always.ensures.product (always c) 17 8 e p l)
+    let ring = ring_plan c.args.self.now (length c.args.xs.now / 2) (omega arith) (omega arith) in
+    product_of (length c.args.xs.now) c.args.xs.now c.args.ys.now c.convolve_negacyclic-always.new.xs ring (omega arith)
+    (omega arith) (c.convolve_negacyclic-always.ensures.product (always c) 17 8)
 
 pub returns-clause-transform : goal.returns-clause-transform
 returns-clause-transform c =
-    let table = numbers (λ f. f.value) c.args.self.now.table in
-    let plan = plan_of 3329 17 7 128 table zeta_suits refl c.args.self.now.powers in
-    transform_of (slice_index c.args.ys.now) (slice_index c.convolve_negacyclic-always.new.ys)
-    (told 3329 17 7 2 c.args.self.now.modulus.modulus (length c.args.xs.now / 2) (length c.args.self.now.table) table
-    c.args.ys.now c.convolve_negacyclic-always.new.ys c.args.self.now.modulus_is (omega arith) (omega arith) plan
+    let ring = ring_plan c.args.self.now (length c.args.xs.now / 2) (omega arith) (omega arith) in
+    transform_of _ _ (told 2 c.args.ys.now c.convolve_negacyclic-always.new.ys ring
     (c.convolve_negacyclic-always.ensures.remainders (always c) 17 8))
