@@ -39,7 +39,8 @@ pub record IsRingPlan (q g s m n entries : ℕ) (w : ℕ → ℕ) : Type 0 where
 
 plan_as : {q g s m n entries : ℕ} {w : ℕ → ℕ} → IsRingPlan q g s m n entries w → IsPlan m g (suc s) entries w
 plan_as {q} {g} {s} {m} {n} {entries} {w} ring =
-    subst (λ k. IsPlan m g (suc s) k w) (sym ring.room) (subst (λ k. IsPlan k g (suc s) (2 ^ s) w) (sym ring.modulus) ring.plan)
+    subst (λ k. IsPlan m g (suc s) k w) (sym ring.room)
+    (subst (λ k. IsPlan k g (suc s) (2 ^ s) w) (sym ring.modulus) ring.plan)
 
 -- the constant of block j below block 1
 pub constant_is : (g s j : ℕ) → j < 2 ^ s → constant g (suc s) (1 * 2 ^ s + j) ≡ g ^ (2 * bits_reversed s j + 1)
@@ -134,7 +135,8 @@ preimage_values {m} g h G H s last part y inverse square of_number back below = 
       let end : Congruent m (sum_below n f) (y (j * last + i)) =
       chained all
       (chained (of_equal (sum_below-mul n part w))
-      (chained whole (chained (of_equal turn) (chained (multiplied of_number (itself (v i r))) (of_equal (o ∙ place)))))) in
+      (chained whole (chained (of_equal turn)
+      (chained (multiplied of_number (itself (v i r))) (of_equal (o ∙ place)))))) in
       sym (mod-eq_of_lt (below j i lj li)) ∙ sym end.same;
 }
 

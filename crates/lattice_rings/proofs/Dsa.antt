@@ -70,7 +70,8 @@ pub before_values : (y : ℕ → ℕ) → ((i : ℕ) → i < 256 → y i < 83804
     → Congruent 8380417 (transform 8380417 3073009 256 (transform 8380417 6635910 256 v) k) (256 * v k))
     → AreValues 8380417 1753 8 1 (before y) y
 before_values y below back =
-    preimage_values 1753 731434 3073009 6635910 8 1 8347681 y (record { same = refl }) (record { same = refl }) of_number
+    preimage_values 1753 731434 3073009 6635910 8 1 8347681 y (record { same = refl }) (record { same = refl })
+    of_number
     back (λ j i lj li. below (j * 1 + i) (omega arith))
 
 -- products of remainders modulo X - c are products of values

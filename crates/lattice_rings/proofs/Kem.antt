@@ -10,7 +10,8 @@ use Rattle.modular_plan.specs.Products.{AreProducts}
 use Rattle.modular_plan.proofs.SmallProducts.{product_of_two_low, product_of_two_high}
 use Rattle.lattice_rings.specs.declared.ml_kem.Ring.{Ring}
 use Rattle.lattice_rings.specs.Rings.{IsKemTransform, IsKemProduct}
-use Rattle.lattice_rings.proofs.Blocks.{IsRingPlan, plan_of, AreValues, constant_is, value_same, preimage, preimage_values}
+use Rattle.lattice_rings.proofs.Blocks.{IsRingPlan, plan_of, AreValues, constant_is}
+use Rattle.lattice_rings.proofs.Blocks.{value_same, preimage, preimage_values}
 
 -- zeta suits
 pub zeta_suits : Suits 3329 17 256

@@ -23,8 +23,11 @@ pub const ZETA: u32 = 1753;
 // The inverse of 256.
 const PART: u32 = 8347681;
 
-/// The ring with its table: the powers of zeta in the order of the standard's appendix B, each with its
-/// quotient.
+/// The ring with its table, of 2 KB: zeta^BitRev8(k) modulo q for k from 0 to 255, each with its
+/// quotient; from k = 1 on these are the numbers of the standard's appendix B.
+///
+/// It is the plan by zeta itself, which suits 512 entries: below its block 1, modulo X^256 + 1, the
+/// constants are the odd powers zeta^(2·BitRev8(i) + 1), in the standard's order.
 #[derive(Drop)]
 pub struct Ring {
     modulus: PlannedModulus<u32>,

@@ -23,8 +23,12 @@ pub const ZETA: u32 = 17;
 // The inverse of 128.
 const PART: u32 = 3303;
 
-/// The ring with its table: the powers of zeta in the order of the standard's appendix A, each with its
-/// quotient.
+/// The ring with its table, of 1 KB: zeta^BitRev7(k) modulo q for k from 0 to 127, the numbers of the
+/// standard's appendix A, each with its quotient.
+///
+/// It is the plan by zeta itself, which suits 256 entries: below its block 1, modulo X^256 + 1, the
+/// constants are the odd powers zeta^(2·BitRev7(i) + 1), in the standard's order. There is no root of
+/// one of order 512 modulo q, so the transform stops at remainders of two coefficients.
 #[derive(Drop)]
 pub struct Ring {
     modulus: PlannedModulus<u32>,
