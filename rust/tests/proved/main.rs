@@ -11,6 +11,7 @@ pub mod ring_codes;
 pub mod big_product;
 pub mod mersenne_hash;
 pub mod residue_numbers;
+pub mod lattice_rings;
 pub mod operation_callers;
 pub mod integer_callers;
 pub mod divider_callers;

@@ -1,0 +1,247 @@
+-- The remainders below block 1 of the tree, in the words of the standards.
+use Rattle.std.proofs.Common.{◌≡◌, ℕ, suc, ◌+◌, ◌-◌, ◌*◌, ◌/◌, ◌%◌, ◌^◌, ◌<◌, ◌≤◌}
+use Rattle.std.proofs.Common.{List, length, slice_index, refl, sym, ◌∙◌, ap, arith, subst}
+use Rattle.std.proofs.Math.Nat.{two-pow-succ, mod-eq_of_lt, add-mul-mod_self_right, mod-mod, mod-lt, mul-le-mul_right}
+use Rattle.std.proofs.lemmas.Nat.{div-mul-add, mod-mul-add, mul-pow, pow-add, pow_pos}
+use Rattle.std.proofs.lemmas.List.{map-id}
+use Rattle.modular_word.specs.Congruence.{Congruent}
+use Rattle.modular_word.specs.Sums.{sum_below}
+use Rattle.modular_word.proofs.Congruence.{of_equal, itself, turned, chained, added, multiplied, powered, residue_of}
+use Rattle.modular_word.proofs.Powers.{one-pow, pow-mul}
+use Rattle.modular_word.proofs.Sums.{sum_below-same, sum_below-congruent, sum_below-mul}
+use Rattle.modular_transform.specs.Orders.{bits_reversed}
+use Rattle.modular_transform.specs.Transforms.{Suits, transform}
+use Rattle.modular_transform.proofs.BitReversal.{bits_reversed_below, bits_reversed_of_high, bits_reversed_twice}
+use Rattle.modular_plan.specs.Plans.{numbers, constant, IsPlan, AreRemainders}
+use Rattle.modular_plan.specs.Products.{coefficient, product_modulo, AreProducts}
+use Rattle.modular_plan.proofs.Convolutions.{negacyclic, remainders_of_product}
+use Rattle.lattice_rings.specs.Rings.{value_at, IsRingProduct}
+
+-- words of 32 bits are their own numbers
+pub own_numbers : (w : List ℕ) → numbers (λ x. x) w ≡ slice_index w
+own_numbers w = ap (λ l. slice_index l) (map-id w)
+
+-- the table as a plan
+pub plan_of : (m g s count : ℕ) (w : ℕ → ℕ) → Suits m g (2 ^ suc s) → count ≡ 2 ^ s
+    → ((k : ℕ) → k < count → w k ≡ g ^ bits_reversed s k % m) → IsPlan m g (suc s) count w
+plan_of m g s count w suits is entry = record {
+  suits = suits;
+  half = let d = two-pow-succ s in omega (arith, is, d);
+  entry = λ k l. let e : s ≡ suc s - 1 = omega arith in entry k l ∙ ap (λ v. g ^ bits_reversed v k % m) e;
+}
+
+-- the modulus m, the number n of blocks and the table of so many entries w that a ring's calls have
+pub record IsRingPlan (q g s m n entries : ℕ) (w : ℕ → ℕ) : Type 0 where
+  pub modulus : m ≡ q
+  pub count : n ≡ 2 ^ s
+  pub room : entries ≡ 2 ^ s
+  pub plan : IsPlan q g (suc s) (2 ^ s) w
+
+plan_as : {q g s m n entries : ℕ} {w : ℕ → ℕ} → IsRingPlan q g s m n entries w → IsPlan m g (suc s) entries w
+plan_as {q} {g} {s} {m} {n} {entries} {w} ring =
+    subst (λ k. IsPlan m g (suc s) k w) (sym ring.room)
+    (subst (λ k. IsPlan k g (suc s) (2 ^ s) w) (sym ring.modulus) ring.plan)
+
+-- the constant of block j below block 1
+pub constant_is : (g s j : ℕ) → j < 2 ^ s → constant g (suc s) (1 * 2 ^ s + j) ≡ g ^ (2 * bits_reversed s j + 1)
+constant_is g s j below =
+    let turn : 1 * 2 ^ s + j ≡ j + 1 * 2 ^ s = omega arith in
+    ap (λ v. g ^ bits_reversed (suc s) v) turn ∙ ap (λ e. g ^ e) (bits_reversed_of_high s j 1 below (omega arith))
+
+-- entry i of remainder j is the value of every last-th coefficient from place i on
+pub record AreValues (m g s last : ℕ) (x y : ℕ → ℕ) : Type 0 where
+  pub each : (j i : ℕ) → j < 2 ^ s → i < last
+      → y (j * last + i) ≡ value_at m (2 ^ s) (λ k. x (k * last + i)) (g ^ (2 * bits_reversed s j + 1))
+
+pub values_of : (m g s last : ℕ) (x y : ℕ → ℕ) → AreRemainders m g (suc s) 1 (2 ^ s) last x y → AreValues m g s last x y
+values_of m g s last x y are = record {
+  each = λ j i lj li. are.each j i lj li
+      ∙ ap (λ c. value_at m (2 ^ s) (λ k. x (k * last + i)) c) (constant_is g s j lj);
+}
+
+pub remainders_of : (m g s last : ℕ) (x y : ℕ → ℕ) → AreValues m g s last x y
+    → AreRemainders m g (suc s) 1 (2 ^ s) last x y
+remainders_of m g s last x y are = record {
+  each = λ j i lj li. are.each j i lj li
+      ∙ ap (λ c. value_at m (2 ^ s) (λ k. x (k * last + i)) c) (sym (constant_is g s j lj));
+}
+
+-- equal coefficients, equal values
+pub value_same : (m n c : ℕ) (x f : ℕ → ℕ) → ((k : ℕ) → k < n → x k ≡ f k) → value_at m n x c ≡ value_at m n f c
+value_same m n c x f same =
+    ap (λ v. v % m) (sum_below-same n (λ k. x k * c ^ k) (λ k. f k * c ^ k) (λ k l. ap (λ v. v * c ^ k) (same k l)))
+
+-- residues are their own residues
+pub own_residues : (m g s last : ℕ) (x y : ℕ → ℕ) → AreValues m g s last x y → AreValues m g s last x (λ i. y i % m)
+own_residues m g s last x y are = record { each = λ j i lj li. ap (λ v. v % m) (are.each j i lj li) ∙ mod-mod _ m }
+
+-- an inverse of the number of blocks takes it away
+pub number_gone : (m count part x : ℕ) → Congruent m (count * part) 1 → (count * x * part) % m ≡ x % m
+number_gone m count part x one =
+    let turn : count * x * part ≡ count * part * x = omega arith in
+    let o : 1 * x ≡ x = omega arith in
+    (chained (of_equal turn) (chained (multiplied one (itself x)) (of_equal o))).same
+
+-- the powers of g and of its inverse h in a term, G being congruent to g^2
+term : {m : ℕ} (g h G r k part u : ℕ) → Congruent m (g * h) 1 → Congruent m G (g * g)
+    → Congruent m (part * h ^ k * u * (g ^ (2 * r + 1)) ^ k) (part * (u * G ^ (k * r)))
+term {m} g h G r k part u inverse square =
+    let e : (2 * r + 1) * k ≡ k + (k * r + k * r) = omega arith in
+    let a : (g ^ (2 * r + 1)) ^ k ≡ g ^ k * (g * g) ^ (k * r) =
+    sym (pow-mul g (2 * r + 1) k) ∙ ap (λ n. g ^ n) e ∙ pow-add g k (k * r + k * r)
+    ∙ ap (λ v. g ^ k * v) (pow-add g (k * r) (k * r) ∙ sym (mul-pow g g (k * r))) in
+    let b : part * h ^ k * u * (g ^ k * (g * g) ^ (k * r)) ≡ g ^ k * h ^ k * (part * (u * (g * g) ^ (k * r))) =
+    omega arith in
+    let o : 1 * (part * (u * G ^ (k * r))) ≡ part * (u * G ^ (k * r)) = omega arith in
+    let one : Congruent m (g ^ k * h ^ k) 1 =
+    chained (of_equal (sym (mul-pow g h k))) (chained (powered k inverse) (of_equal (one-pow k))) in
+    chained (of_equal (ap (λ v. part * h ^ k * u * v) a ∙ b))
+    (chained (multiplied one (multiplied (itself part) (multiplied (itself u) (powered (k * r) (turned square)))))
+    (of_equal o))
+
+-- the polynomial whose values are given, h being the inverse of g, H that of g^2 and part that of the number of blocks
+abbrev pub preimage : ℕ → ℕ → ℕ → ℕ → ℕ → ℕ → (ℕ → ℕ) → ℕ → ℕ
+preimage m h H s last part y p =
+    (part * h ^ (p / last) * transform m H (2 ^ s) (λ q. y (bits_reversed s q * last + p % last)) (p / last)) % m
+
+pub preimage_values : {m : ℕ} (g h G H s last part : ℕ) (y : ℕ → ℕ) → Congruent m (g * h) 1 → Congruent m G (g * g)
+    → Congruent m (2 ^ s * part) 1
+    → ((v : ℕ → ℕ) (k : ℕ) → k < 2 ^ s → Congruent m (transform m G (2 ^ s) (transform m H (2 ^ s) v) k) (2 ^ s * v k))
+    → ((j i : ℕ) → j < 2 ^ s → i < last → y (j * last + i) < m)
+    → AreValues m g s last (preimage m h H s last part y) y
+preimage_values {m} g h G H s last part y inverse square of_number back below = record {
+  each = λ j i lj li.
+      let r = bits_reversed s j in
+      let c = g ^ (2 * r + 1) in
+      let n = 2 ^ s in
+      let v = λ (e q : ℕ). y (bits_reversed s q * last + e) in
+      let u = transform m H n (v i) in
+      let x = preimage m h H s last part y in
+      let is : (k : ℕ) → x (k * last + i) ≡ (part * h ^ k * u k) % m = λ k.
+      ap (λ d. (part * h ^ d * transform m H n (v ((k * last + i) % last)) d) % m) (div-mul-add k last i li)
+      ∙ ap (λ e. (part * h ^ k * transform m H n (v e) k) % m) (mod-mul-add k last i li) in
+      let f = λ (k : ℕ). x (k * last + i) * c ^ k in
+      let w = λ (k : ℕ). u k * G ^ (k * r) in
+      let all : Congruent m (sum_below n f) (sum_below n (λ k. part * w k)) =
+      sum_below-congruent n f (λ k. part * w k)
+      (λ k l. chained (multiplied (chained (of_equal (is k)) (residue_of (part * h ^ k * u k))) (itself (c ^ k)))
+      (term g h G r k part (u k) inverse square)) in
+      let whole : Congruent m (part * sum_below n w) (part * (n * v i r)) =
+      multiplied (itself part)
+      (chained (turned (residue_of (sum_below n w))) (back (v i) r (bits_reversed_below s j))) in
+      let place : v i r ≡ y (j * last + i) = ap (λ q. y (q * last + i)) (bits_reversed_twice s j lj) in
+      let turn : part * (n * v i r) ≡ n * part * v i r = omega arith in
+      let o : 1 * v i r ≡ v i r = omega arith in
+      let end : Congruent m (sum_below n f) (y (j * last + i)) =
+      chained all
+      (chained (of_equal (sum_below-mul n part w))
+      (chained whole (chained (of_equal turn)
+      (chained (multiplied of_number (itself (v i r))) (of_equal (o ∙ place)))))) in
+      sym (mod-eq_of_lt (below j i lj li)) ∙ sym end.same;
+}
+
+-- what is past the coefficients, taken away, is added with m - 1
+pub taken_away : (m a b p : ℕ) → 0 < m → p ≡ (a + (m - 1) * b) % m → (p + b) % m ≡ a % m
+taken_away m a b p some is =
+    let s : a + (m - 1) * b + b ≡ a + b * m = (let o : m - 1 + 1 ≡ m = omega (arith, some) in
+    let d : (m - 1) * b + b ≡ b * (m - 1 + 1) = omega arith in let f = ap (λ v. b * v) o in omega (arith, d, f)) in
+    (chained (added (chained (of_equal is) (residue_of (a + (m - 1) * b))) (itself b)) (of_equal s)).same
+    ∙ add-mul-mod_self_right a b m
+
+pub added_to : (m a b p : ℕ) → p < m → (p + b) % m ≡ a % m → (a + (m - 1) * b) % m ≡ p
+added_to m a b p below is =
+    let s : p + b + (m - 1) * b ≡ p + b * m = (let o : m - 1 + 1 ≡ m = omega (arith, below) in
+    let d : (m - 1) * b + b ≡ b * (m - 1 + 1) = omega arith in let f = ap (λ v. b * v) o in omega (arith, d, f)) in
+    let known : Congruent m (p + b) a = record { same = is } in
+    (chained (added (turned known) (itself ((m - 1) * b))) (of_equal s)).same
+    ∙ add-mul-mod_self_right p b m ∙ mod-eq_of_lt below
+
+-- what `split` says of words, in the words of the standards
+pub told : {q g s m n entries : ℕ} {w : ℕ → ℕ} (last : ℕ) (xs ys : List ℕ) → IsRingPlan q g s m n entries w
+    → (IsPlan m g (suc s) entries w → AreRemainders m g (suc s) 1 n last (numbers (λ x. x) xs) (numbers (λ x. x) ys))
+    → AreValues q g s last (slice_index xs) (slice_index ys)
+told {q} {g} {s} {m} {n} last xs ys ring known =
+    values_of q g s last (slice_index xs) (slice_index ys)
+    (subst (λ f. AreRemainders q g (suc s) 1 (2 ^ s) last f (slice_index ys)) (own_numbers xs)
+    (subst (λ f. AreRemainders q g (suc s) 1 (2 ^ s) last (numbers (λ x. x) xs) f) (own_numbers ys)
+    (subst (λ k. AreRemainders q g (suc s) 1 k last (numbers (λ x. x) xs) (numbers (λ x. x) ys)) ring.count
+    (subst (λ k. AreRemainders k g (suc s) 1 n last (numbers (λ x. x) xs) (numbers (λ x. x) ys)) ring.modulus
+    (known (plan_as ring))))))
+
+-- what `join_scaled` says of words
+pub joined : {q g s m n entries : ℕ} {w : ℕ → ℕ} (last part : ℕ) (x : ℕ → ℕ) (ys zs : List ℕ)
+    → IsRingPlan q g s m n entries w → Congruent q (2 ^ s * part) 1 → AreValues q g s last x (slice_index ys)
+    → (IsPlan m g (suc s) entries w → AreRemainders m g (suc s) 1 n last x (λ i. numbers (λ v. v) ys i % m)
+    → (i : ℕ) → i < length ys → numbers (λ v. v) zs i ≡ (n * x i * part) % m)
+    → (i : ℕ) → i < length ys → slice_index zs i ≡ x i % q
+joined {q} {g} {s} {m} {n} last part x ys zs ring one are known i l =
+    let own = own_residues q g s last x (slice_index ys) are in
+    let there = subst (λ f. AreRemainders q g (suc s) 1 (2 ^ s) last x (λ i. f i % q)) (sym (own_numbers ys))
+    (remainders_of q g s last x (λ i. slice_index ys i % q) own) in
+    let given = subst (λ k. AreRemainders k g (suc s) 1 n last x (λ i. numbers (λ v. v) ys i % k)) (sym ring.modulus)
+    (subst (λ k. AreRemainders q g (suc s) 1 k last x (λ i. numbers (λ v. v) ys i % q)) (sym ring.count) there) in
+    sym (ap (λ f. f i) (own_numbers zs)) ∙ known (plan_as ring) given i l ∙ ap (λ k. (n * x i * part) % k) ring.modulus
+    ∙ ap (λ k. (k * x i * part) % q) ring.count ∙ number_gone q (2 ^ s) part (x i) one
+
+-- what `convolve_negacyclic` says of words
+pub product_of : {q g s m n entries : ℕ} {w : ℕ → ℕ} (size : ℕ) (xs ys zs : List ℕ)
+    → IsRingPlan q g s m n entries w → 0 < q → size ≡ 256
+    → ((e : ℕ) → IsPlan m g (suc s) entries w → e < size → numbers (λ v. v) zs e
+    ≡ product_modulo m size (m - 1) (numbers (λ v. v) xs) (numbers (λ v. v) ys) e)
+    → IsRingProduct q (slice_index xs) (slice_index ys) (slice_index zs)
+product_of {q} size xs ys zs ring some is known =
+    let x = numbers (λ v. v) xs in
+    let y = numbers (λ v. v) ys in
+    let u = slice_index xs in
+    let v = slice_index ys in
+    let entry : (e : ℕ) → e < 256 → slice_index zs e ≡ product_modulo q 256 (q - 1) u v e =
+    λ e l. sym (ap (λ f. f e) (own_numbers zs)) ∙ known e (plan_as ring) (omega arith)
+    ∙ ap (λ k. product_modulo k size (k - 1) x y e) ring.modulus ∙ ap (λ k. product_modulo q k (q - 1) x y e) is
+    ∙ ap (λ f. product_modulo q 256 (q - 1) f y e) (own_numbers xs)
+    ∙ ap (λ f. product_modulo q 256 (q - 1) u f e) (own_numbers ys) in
+    record {
+      below = λ e l. subst (λ v. v < q) (sym (entry e l)) (mod-lt _ some);
+      each = λ e l.
+          taken_away q (coefficient 256 u v e) (coefficient 256 u v (e + 256)) (slice_index zs e) some (entry e l);
+    }
+
+-- what `multiply` says of words
+pub multiplied_words : {q g s m n entries : ℕ} {w : ℕ → ℕ} (last : ℕ) (xs ys zs : List ℕ)
+    → IsRingPlan q g s m n entries w
+    → (IsPlan m g (suc s) entries w
+    → AreProducts m g (suc s) 1 n last (numbers (λ x. x) xs) (numbers (λ x. x) ys) (numbers (λ x. x) zs))
+    → AreProducts q g (suc s) 1 (2 ^ s) last (slice_index xs) (slice_index ys) (slice_index zs)
+multiplied_words {q} {g} {s} {m} {n} last xs ys zs ring known =
+    let x = numbers (λ x. x) xs in
+    let y = numbers (λ x. x) ys in
+    let z = numbers (λ x. x) zs in
+    subst (λ f. AreProducts q g (suc s) 1 (2 ^ s) last f (slice_index ys) (slice_index zs)) (own_numbers xs)
+    (subst (λ f. AreProducts q g (suc s) 1 (2 ^ s) last x f (slice_index zs)) (own_numbers ys)
+    (subst (λ f. AreProducts q g (suc s) 1 (2 ^ s) last x y f) (own_numbers zs)
+    (subst (λ k. AreProducts q g (suc s) 1 k last x y z) ring.count
+    (subst (λ k. AreProducts k g (suc s) 1 n last x y z) ring.modulus (known (plan_as ring))))))
+
+-- the product of two transforms is the transform of the product
+pub product_transformed : (q g s last : ℕ) (w x y p u v r : ℕ → ℕ) → 0 < q → 2 ^ s * last ≡ 256
+    → IsPlan q g (suc s) (2 ^ s) w → IsRingProduct q x y p → AreValues q g s last x u → AreValues q g s last y v
+    → AreProducts q g (suc s) 1 (2 ^ s) last u v r → AreValues q g s last p r
+product_transformed q g s last w x y p u v r some size plan product first second products =
+    let n = 2 ^ s in
+    let z = product_modulo q (n * last) (constant g (suc s) 1) x y in
+    let is : (e : ℕ) → e < 256 → z e ≡ p e = λ e l.
+    ap (λ k. product_modulo q k (constant g (suc s) 1) x y e) size
+    ∙ negacyclic 256 e g (suc s) n w x y some (pow_pos s) plan
+    ∙ added_to q (coefficient 256 x y e) (coefficient 256 x y (e + 256)) (p e) (product.below e l) (product.each e l) in
+    let room : (1 + 1) * (n / 2) ≤ n = omega arith in
+    let are = values_of q g s last z (λ i. r i % q)
+    (remainders_of_product g (suc s) 1 n last n w x y u v r (s, refl) room plan
+    (remainders_of q g s last x u first) (remainders_of q g s last y v second) products) in
+    record {
+      each = λ j i lj li.
+          let value = products.each j i lj li in
+          value ∙ sym (mod-mod _ q) ∙ ap (λ a. a % q) (sym value) ∙ are.each j i lj li
+          ∙ value_same q n (g ^ (2 * bits_reversed s j + 1)) (λ k. z (k * last + i)) (λ k. p (k * last + i))
+          (λ k lk.
+          let most : (k + 1) * last ≤ n * last = mul-le-mul_right last (let a : k + 1 ≤ n = omega arith in a) in
+          is (k * last + i) (omega (arith, most, size, li)));
+    }

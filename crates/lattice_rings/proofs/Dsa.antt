@@ -1,0 +1,85 @@
+-- The numbers of FIPS 204, and its transform as remainders modulo X - c.
+use Rattle.std.proofs.Common.{◌≡◌, ℕ, ◌+◌, ◌*◌, ◌%◌, ◌^◌, ◌<◌, length, refl, sym, ◌∙◌, ap, arith}
+use Rattle.modular_word.specs.Congruence.{Congruent}
+use Rattle.modular_word.specs.Inverses.{HasInverse, IsInverse}
+use Rattle.modular_transform.specs.Orders.{bits_reversed}
+use Rattle.modular_transform.specs.Transforms.{Suits, transform}
+use Rattle.modular_plan.specs.Plans.{numbers, constant}
+use Rattle.modular_plan.specs.Products.{AreProducts}
+use Rattle.modular_plan.proofs.SmallProducts.{product_of_one}
+use Rattle.lattice_rings.specs.declared.ml_dsa.Ring.{Ring}
+use Rattle.lattice_rings.specs.Rings.{IsDsaTransform, IsDsaProduct}
+use Rattle.lattice_rings.proofs.Blocks.{IsRingPlan, plan_of, AreValues, value_same, preimage, preimage_values}
+
+-- zeta suits
+pub zeta_suits : Suits 8380417 1753 512
+zeta_suits = record { power_of_two = (9, refl); half_turn = λ l. refl }
+
+-- what a ring has
+pub ring_plan : (r : Ring) (n : ℕ) → n ≡ 256 → length r.table ≡ 256
+    → IsRingPlan 8380417 1753 8 r.modulus.modulus n (length r.table) (numbers (λ f. f.value) r.table)
+ring_plan r n count room = record {
+  modulus = r.modulus_is;
+  count = count;
+  room = room;
+  plan = plan_of 8380417 1753 8 256 (numbers (λ f. f.value) r.table) zeta_suits refl r.powers;
+}
+
+-- the inverse of the square of zeta suits, and the number of blocks has an inverse
+pub back_suits : Suits 8380417 6635910 256
+back_suits = record { power_of_two = (8, refl); half_turn = λ l. refl }
+
+pub back_inverse : IsInverse 8380417 6635910 3073009
+back_inverse = record { below = omega arith; one = refl }
+
+pub of_number : Congruent 8380417 (256 * 8347681) 1
+of_number = record { same = refl }
+
+pub number_inverse : HasInverse 8380417 256
+number_inverse = (8347681, record { below = omega arith; one = refl })
+
+pub transform_of : (x y : ℕ → ℕ) → AreValues 8380417 1753 8 1 x y → IsDsaTransform x y
+transform_of x y are = record {
+  each = λ i l.
+      ap y (let e : i ≡ i * 1 + 0 = omega arith in e) ∙ are.each i 0 l (omega arith)
+      ∙ value_same 8380417 256 (1753 ^ (2 * bits_reversed 8 i + 1)) (λ k. x (k * 1 + 0)) x
+      (λ k _. ap x (let e : k * 1 + 0 ≡ k = omega arith in e));
+}
+
+pub values_of_transform : (x y : ℕ → ℕ) → IsDsaTransform x y → AreValues 8380417 1753 8 1 x y
+values_of_transform x y are = record {
+  each = λ j i lj li.
+      ap y (let e : j * 1 + i ≡ j = omega arith in e) ∙ are.each j lj
+      ∙ value_same 8380417 256 (1753 ^ (2 * bits_reversed 8 j + 1)) x (λ k. x (k * 1 + i))
+      (λ k _. ap x (let e : k ≡ k * 1 + i = omega arith in e));
+}
+
+-- the transform depends on the 256 coefficients alone
+pub transform_same : (w x y : ℕ → ℕ) → ((i : ℕ) → i < 256 → w i ≡ x i) → IsDsaTransform x y → IsDsaTransform w y
+transform_same w x y same are = record {
+  each = λ i l. are.each i l
+      ∙ sym (value_same 8380417 256 (1753 ^ (2 * bits_reversed 8 i + 1)) w x same);
+}
+
+-- the polynomial whose transform is given
+abbrev pub before : (ℕ → ℕ) → ℕ → ℕ
+before = preimage 8380417 731434 6635910 8 1 8347681
+
+pub before_values : (y : ℕ → ℕ) → ((i : ℕ) → i < 256 → y i < 8380417)
+    → ((v : ℕ → ℕ) (k : ℕ) → k < 256
+    → Congruent 8380417 (transform 8380417 3073009 256 (transform 8380417 6635910 256 v) k) (256 * v k))
+    → AreValues 8380417 1753 8 1 (before y) y
+before_values y below back =
+    preimage_values 1753 731434 3073009 6635910 8 1 8347681 y (record { same = refl }) (record { same = refl })
+    of_number
+    back (λ j i lj li. below (j * 1 + i) (omega arith))
+
+-- products of remainders modulo X - c are products of values
+pub product_of_places : (u v p : ℕ → ℕ) → AreProducts 8380417 1753 9 1 256 1 u v p → IsDsaProduct u v p
+product_of_places u v p are = record {
+  each = λ i l.
+      let e : i ≡ i * 1 + 0 = omega arith in
+      ap p e ∙ are.each i 0 l (omega arith)
+      ∙ product_of_one 8380417 (constant 1753 9 (1 * 256 + i)) (λ k. u (i * 1 + k)) (λ k. v (i * 1 + k))
+      ∙ ap (λ k. (u k * v k) % 8380417) (sym e);
+}

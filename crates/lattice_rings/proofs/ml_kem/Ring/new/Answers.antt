@@ -1,0 +1,19 @@
+use Rattle.std.proofs.Common.{◌^◌, ◌%◌, All, sym, ◌∙◌, ap, refl, subst}
+use Rattle.modular_plan.specs.Factors.{IsFactor}
+use Rattle.modular_transform.specs.Orders.{bits_reversed}
+use Rattle.modular_transform.specs.Transforms.{Suits}
+use Rattle.lattice_rings.proofs.Kem.{zeta_suits}
+use Rattle.lattice_rings.proofs.ml_kem.Ring.new.Goals as goal
+
+pub plan-requires-clause-suits : goal.plan-requires-clause-suits
+plan-requires-clause-suits c = subst (λ m. Suits m 17 256) (sym c.new-modulus.ensures) zeta_suits
+
+pub invariant_of-result-clause-factors : goal.invariant_of-result-clause-factors
+invariant_of-result-clause-factors c =
+    subst (λ m. All (λ f. IsFactor 4294967296 m f.value f.quotient) c.plan.new.table) c.new-modulus.ensures
+    c.plan.ensures.factors
+
+pub invariant_of-result-clause-powers : goal.invariant_of-result-clause-powers
+invariant_of-result-clause-powers c =
+    λ k l. (c.plan.ensures.plan 8 refl).entry k l
+    ∙ ap (λ m. 17 ^ bits_reversed 7 k % m) c.new-modulus.ensures

@@ -1,0 +1,12 @@
+use Rattle.std.proofs.Common.{length, ◌/◌, arith}
+use Rattle.lattice_rings.proofs.Blocks.{told}
+use Rattle.lattice_rings.proofs.Kem.{ring_plan, transform_of}
+use Rattle.lattice_rings.proofs.ml_kem.Ring.ntt.Goals as goal
+
+pub split-requires-clause-count : goal.split-requires-clause-count
+split-requires-clause-count c = (7, omega arith)
+
+pub returns-clause-remainders : goal.returns-clause-remainders
+returns-clause-remainders c =
+    let ring = ring_plan c.args.self.now (length c.args.w.now / 2) (omega arith) (omega arith) in
+    transform_of _ _ (told 2 c.args.w.now c.split.new.xs ring (c.split.ensures.remainders 17 8))

@@ -1,0 +1,121 @@
+//! The ring of FIPS 204 (ML-DSA): polynomials modulo X^256 + 1 over the residues of q = 8380417.
+
+ghost use Rattle.std.specs.Prelude.{◌≡◌, ℕ, ◌*◌, ◌%◌, ◌^◌, ◌<◌, ◌↔◌, IsTrue, All, slice_index};
+ghost use Rattle.modular_plan.specs.Factors.{IsFactor};
+ghost use Rattle.modular_plan.specs.Plans.{numbers};
+ghost use Rattle.modular_transform.specs.Orders.{bits_reversed};
+ghost use Rattle.lattice_rings.specs.Rings.{IsDsaTransform, IsDsaProduct, IsRingProduct};
+
+use modular_plan::convolution::convolve_negacyclic;
+use modular_plan::join::join_scaled;
+use modular_plan::modulus::{Factor, PlannedModulus};
+use modular_plan::plan::plan;
+use modular_plan::products::multiply;
+use modular_plan::split::split;
+use modular_transform::laws::transform_laws;
+
+/// The modulus q.
+pub const MODULUS: u32 = 8380417;
+
+/// The standard's zeta, a root of one of order 512.
+pub const ZETA: u32 = 1753;
+
+// The inverse of 256.
+const PART: u32 = 8347681;
+
+/// The ring with its table, of 2 KB: zeta^BitRev8(k) modulo q for k from 0 to 255, each with its
+/// quotient; from k = 1 on these are the numbers of the standard's appendix B.
+///
+/// It is the plan by zeta itself, which suits 512 entries: below its block 1, modulo X^256 + 1, the
+/// constants are the odd powers zeta^(2·BitRev8(i) + 1), in the standard's order.
+#[derive(Drop)]
+pub struct Ring {
+    modulus: PlannedModulus<u32>,
+    part: Factor<u32>,
+    table: [Factor<u32>; 256],
+    ghost modulus_is: { modulus.modulus ≡ 8380417 },
+    ghost part_is: { part.value ≡ 8347681 },
+    ghost part_factor: { IsFactor (2 ^ 32) 8380417 part.value part.quotient },
+    ghost factors: { All (λ f. IsFactor (2 ^ 32) 8380417 f.value f.quotient) table },
+    ghost powers: { (k : ℕ) → k < 256
+        → numbers (λ f. f.value) table k ≡ 1753 ^ bits_reversed 8 k % 8380417 },
+}
+
+/// Whether each coefficient is a residue, below q.
+pub fn are_residues(w: &[u32; 256]) -> bool
+    ensures { IsTrue result ↔ All (λ x. x < 8380417) w.now }
+{
+    w.iter().all(|x| *x < MODULUS)
+}
+
+impl Ring {
+    /// The ring, its table made.
+    pub fn new() -> Self {
+        let modulus = PlannedModulus::new(MODULUS);
+        let part = modulus.factor(PART);
+        let mut table = [part; 256];
+        plan(&modulus, ZETA, &mut table);
+        Ring {
+            modulus,
+            part,
+            table,
+        }
+    }
+
+    /// NTT(w) in place: place i becomes the value w(zeta^(2·BitRev8(i) + 1)). Condition: the
+    /// coefficients are residues (`are_residues` tells), as the values are.
+    ///
+    /// Source: FIPS 204, section 7.5, algorithm 41.
+    pub fn ntt(&self, w: &mut [u32; 256])
+        requires { All (λ x. x < 8380417) w.old }
+        ensures residues { All (λ x. x < 8380417) w.new }
+        ensures values { IsDsaTransform (slice_index w.old) (slice_index w.new) }
+    {
+        split(&self.modulus, w, &self.table, 1, 1);
+    }
+
+    /// The inverse of `ntt` in place: the one polynomial whose NTT the list is. Condition: the values are
+    /// residues, as the coefficients are.
+    ///
+    /// Source: FIPS 204, section 7.5, algorithm 42.
+    pub fn inverse(&self, w: &mut [u32; 256])
+        requires { All (λ x. x < 8380417) w.old }
+        ensures residues { All (λ x. x < 8380417) w.new }
+        ensures inverse { IsDsaTransform (slice_index w.new) (slice_index w.old) }
+        ensures unique { (x : ℕ → ℕ) → IsDsaTransform x (slice_index w.old) →
+            (i : ℕ) → i < 256 → slice_index w.new i ≡ x i % 8380417 }
+    {
+        transform_laws();
+        join_scaled(&self.modulus, w, &self.table, 1, 1, &self.part);
+    }
+
+    /// The product of xs and ys modulo X^256 + 1 and q in xs, and NTT(ys) in ys. Condition: the
+    /// coefficients are residues, as those of the product are.
+    ///
+    /// Source: FIPS 204, section 2.5: the product of NTT(xs) and NTT(ys), place by place, is transformed
+    /// back.
+    pub fn product(&self, xs: &mut [u32; 256], ys: &mut [u32; 256])
+        requires xs { All (λ x. x < 8380417) xs.old }
+        requires ys { All (λ x. x < 8380417) ys.old }
+        ensures residues { All (λ x. x < 8380417) xs.new }
+        ensures product { IsRingProduct 8380417 (slice_index xs.old) (slice_index ys.old) (slice_index xs.new) }
+        ensures transform { IsDsaTransform (slice_index ys.old) (slice_index ys.new) }
+    {
+        let _always = convolve_negacyclic(&self.modulus, xs, ys, &self.table, 1);
+    }
+
+    /// The product of two transforms in xs, place by place: that of two polynomials' transforms is the
+    /// transform of their product. Condition: the entries are residues, as those of the product are.
+    ///
+    /// Source: FIPS 204, section 7.6, algorithm 45.
+    pub fn multiply(&self, xs: &mut [u32; 256], ys: &[u32; 256])
+        requires xs { All (λ x. x < 8380417) xs.old }
+        requires ys { All (λ x. x < 8380417) ys.now }
+        ensures residues { All (λ x. x < 8380417) xs.new }
+        ensures products { IsDsaProduct (slice_index xs.old) (slice_index ys.now) (slice_index xs.new) }
+        ensures product { (x y p : ℕ → ℕ) → IsRingProduct 8380417 x y p → IsDsaTransform x (slice_index xs.old) →
+            IsDsaTransform y (slice_index ys.now) → IsDsaTransform p (slice_index xs.new) }
+    {
+        multiply(&self.modulus, xs, ys, &self.table, 1, 1);
+    }
+}

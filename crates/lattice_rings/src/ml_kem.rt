@@ -1,0 +1,122 @@
+//! The ring of FIPS 203 (ML-KEM): polynomials modulo X^256 + 1 over the residues of q = 3329.
+
+ghost use Rattle.std.specs.Prelude.{◌≡◌, ℕ, ◌*◌, ◌%◌, ◌^◌, ◌<◌, ◌↔◌, IsTrue, All, slice_index};
+ghost use Rattle.modular_plan.specs.Factors.{IsFactor};
+ghost use Rattle.modular_plan.specs.Plans.{numbers};
+ghost use Rattle.modular_transform.specs.Orders.{bits_reversed};
+ghost use Rattle.lattice_rings.specs.Rings.{IsKemTransform, IsKemProduct, IsRingProduct};
+
+use modular_plan::convolution::convolve_negacyclic;
+use modular_plan::join::join_scaled;
+use modular_plan::modulus::{Factor, PlannedModulus};
+use modular_plan::plan::plan;
+use modular_plan::products::multiply;
+use modular_plan::split::split;
+use modular_transform::laws::transform_laws;
+
+/// The modulus q.
+pub const MODULUS: u32 = 3329;
+
+/// The standard's zeta, a root of one of order 256.
+pub const ZETA: u32 = 17;
+
+// The inverse of 128.
+const PART: u32 = 3303;
+
+/// The ring with its table, of 1 KB: zeta^BitRev7(k) modulo q for k from 0 to 127, the numbers of the
+/// standard's appendix A, each with its quotient.
+///
+/// It is the plan by zeta itself, which suits 256 entries: below its block 1, modulo X^256 + 1, the
+/// constants are the odd powers zeta^(2·BitRev7(i) + 1), in the standard's order. There is no root of
+/// one of order 512 modulo q, so the transform stops at remainders of two coefficients.
+#[derive(Drop)]
+pub struct Ring {
+    modulus: PlannedModulus<u32>,
+    part: Factor<u32>,
+    table: [Factor<u32>; 128],
+    ghost modulus_is: { modulus.modulus ≡ 3329 },
+    ghost part_is: { part.value ≡ 3303 },
+    ghost part_factor: { IsFactor (2 ^ 32) 3329 part.value part.quotient },
+    ghost factors: { All (λ f. IsFactor (2 ^ 32) 3329 f.value f.quotient) table },
+    ghost powers: { (k : ℕ) → k < 128
+        → numbers (λ f. f.value) table k ≡ 17 ^ bits_reversed 7 k % 3329 },
+}
+
+/// Whether each coefficient is a residue, below q.
+pub fn are_residues(w: &[u32; 256]) -> bool
+    ensures { IsTrue result ↔ All (λ x. x < 3329) w.now }
+{
+    w.iter().all(|x| *x < MODULUS)
+}
+
+impl Ring {
+    /// The ring, its table made.
+    pub fn new() -> Self {
+        let modulus = PlannedModulus::new(MODULUS);
+        let part = modulus.factor(PART);
+        let mut table = [part; 128];
+        plan(&modulus, ZETA, &mut table);
+        Ring {
+            modulus,
+            part,
+            table,
+        }
+    }
+
+    /// NTT(w) in place: the places 2i and 2i + 1 become the remainder of w modulo
+    /// X^2 - zeta^(2·BitRev7(i) + 1), the constant first. Condition: the coefficients are residues
+    /// (`are_residues` tells), as those of the remainders are.
+    ///
+    /// Source: FIPS 203, section 4.3, algorithm 9.
+    pub fn ntt(&self, w: &mut [u32; 256])
+        requires { All (λ x. x < 3329) w.old }
+        ensures residues { All (λ x. x < 3329) w.new }
+        ensures remainders { IsKemTransform (slice_index w.old) (slice_index w.new) }
+    {
+        split(&self.modulus, w, &self.table, 1, 2);
+    }
+
+    /// The inverse of `ntt` in place: the one polynomial whose NTT the list is. Condition: the entries are
+    /// residues, as the coefficients are.
+    ///
+    /// Source: FIPS 203, section 4.3, algorithm 10.
+    pub fn inverse(&self, w: &mut [u32; 256])
+        requires { All (λ x. x < 3329) w.old }
+        ensures residues { All (λ x. x < 3329) w.new }
+        ensures inverse { IsKemTransform (slice_index w.new) (slice_index w.old) }
+        ensures unique { (x : ℕ → ℕ) → IsKemTransform x (slice_index w.old) →
+            (i : ℕ) → i < 256 → slice_index w.new i ≡ x i % 3329 }
+    {
+        transform_laws();
+        join_scaled(&self.modulus, w, &self.table, 1, 2, &self.part);
+    }
+
+    /// The product of xs and ys modulo X^256 + 1 and q in xs, and NTT(ys) in ys. Condition: the
+    /// coefficients are residues, as those of the product are.
+    ///
+    /// Source: FIPS 203, section 4.3, algorithms 11 and 12: the products of the remainders are joined.
+    pub fn product(&self, xs: &mut [u32; 256], ys: &mut [u32; 256])
+        requires xs { All (λ x. x < 3329) xs.old }
+        requires ys { All (λ x. x < 3329) ys.old }
+        ensures residues { All (λ x. x < 3329) xs.new }
+        ensures product { IsRingProduct 3329 (slice_index xs.old) (slice_index ys.old) (slice_index xs.new) }
+        ensures transform { IsKemTransform (slice_index ys.old) (slice_index ys.new) }
+    {
+        let _always = convolve_negacyclic(&self.modulus, xs, ys, &self.table, 2);
+    }
+
+    /// The product of two transforms in xs, remainder by remainder: that of two polynomials' transforms is the
+    /// transform of their product. Condition: the entries are residues, as those of the product are.
+    ///
+    /// Source: FIPS 203, section 4.3, algorithms 11 and 12.
+    pub fn multiply(&self, xs: &mut [u32; 256], ys: &[u32; 256])
+        requires xs { All (λ x. x < 3329) xs.old }
+        requires ys { All (λ x. x < 3329) ys.now }
+        ensures residues { All (λ x. x < 3329) xs.new }
+        ensures products { IsKemProduct (slice_index xs.old) (slice_index ys.now) (slice_index xs.new) }
+        ensures product { (x y p : ℕ → ℕ) → IsRingProduct 3329 x y p → IsKemTransform x (slice_index xs.old) →
+            IsKemTransform y (slice_index ys.now) → IsKemTransform p (slice_index xs.new) }
+    {
+        multiply(&self.modulus, xs, ys, &self.table, 1, 2);
+    }
+}

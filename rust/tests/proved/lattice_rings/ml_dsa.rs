@@ -1,0 +1,77 @@
+//! The ring of FIPS 204 (ML-DSA): polynomials modulo X^256 + 1 over the residues of q = 8380417.
+
+use crate::modular_plan::convolution::convolve_negacyclic;
+use crate::modular_plan::join::join_scaled;
+use crate::modular_plan::modulus::{Factor, PlannedModulus};
+use crate::modular_plan::plan::plan;
+use crate::modular_plan::products::multiply;
+use crate::modular_plan::split::split;
+use num_modular::modular_transform::laws::transform_laws;
+
+/// The modulus q.
+pub const MODULUS: u32 = 8380417;
+
+/// The standard's zeta, a root of one of order 512.
+pub const ZETA: u32 = 1753;
+
+// The inverse of 256.
+const PART: u32 = 8347681;
+pub struct Ring {
+    modulus: PlannedModulus<u32>,
+    part: Factor<u32>,
+    table: [Factor<u32>; 256],
+}
+
+/// Whether each coefficient is a residue, below q.
+pub fn are_residues(w: &[u32; 256]) -> bool {
+    w.iter().all(|x| *x < MODULUS)
+}
+
+impl Ring {
+    /// The ring, its table made.
+    pub fn new() -> Self {
+        let modulus = PlannedModulus::new(MODULUS);
+        let part = modulus.factor(PART);
+        let mut table = [part; 256];
+        plan(&modulus, ZETA, &mut table);
+        Ring {
+            modulus,
+            part,
+            table,
+        }
+    }
+
+    /// NTT(w) in place: place i becomes the value w(zeta^(2·BitRev8(i) + 1)). Condition: the
+    /// coefficients are residues (`are_residues` tells), as the values are.
+    ///
+    /// Source: FIPS 204, section 7.5, algorithm 41.
+    pub fn ntt(&self, w: &mut [u32; 256]) {
+        split(&self.modulus, w, &self.table, 1, 1);
+    }
+
+    /// The inverse of `ntt` in place: the one polynomial whose NTT the list is. Condition: the values are
+    /// residues, as the coefficients are.
+    ///
+    /// Source: FIPS 204, section 7.5, algorithm 42.
+    pub fn inverse(&self, w: &mut [u32; 256]) {
+        transform_laws();
+        join_scaled(&self.modulus, w, &self.table, 1, 1, &self.part);
+    }
+
+    /// The product of xs and ys modulo X^256 + 1 and q in xs, and NTT(ys) in ys. Condition: the
+    /// coefficients are residues, as those of the product are.
+    ///
+    /// Source: FIPS 204, section 2.5: the product of NTT(xs) and NTT(ys), place by place, is transformed
+    /// back.
+    pub fn product(&self, xs: &mut [u32; 256], ys: &mut [u32; 256]) {
+        let _always = convolve_negacyclic(&self.modulus, xs, ys, &self.table, 1);
+    }
+
+    /// The product of two transforms in xs, place by place: that of two polynomials' transforms is the
+    /// transform of their product. Condition: the entries are residues, as those of the product are.
+    ///
+    /// Source: FIPS 204, section 7.6, algorithm 45.
+    pub fn multiply(&self, xs: &mut [u32; 256], ys: &[u32; 256]) {
+        multiply(&self.modulus, xs, ys, &self.table, 1, 1);
+    }
+}

@@ -1,0 +1,77 @@
+//! The ring of FIPS 203 (ML-KEM): polynomials modulo X^256 + 1 over the residues of q = 3329.
+
+use crate::modular_plan::convolution::convolve_negacyclic;
+use crate::modular_plan::join::join_scaled;
+use crate::modular_plan::modulus::{Factor, PlannedModulus};
+use crate::modular_plan::plan::plan;
+use crate::modular_plan::products::multiply;
+use crate::modular_plan::split::split;
+use num_modular::modular_transform::laws::transform_laws;
+
+/// The modulus q.
+pub const MODULUS: u32 = 3329;
+
+/// The standard's zeta, a root of one of order 256.
+pub const ZETA: u32 = 17;
+
+// The inverse of 128.
+const PART: u32 = 3303;
+pub struct Ring {
+    modulus: PlannedModulus<u32>,
+    part: Factor<u32>,
+    table: [Factor<u32>; 128],
+}
+
+/// Whether each coefficient is a residue, below q.
+pub fn are_residues(w: &[u32; 256]) -> bool {
+    w.iter().all(|x| *x < MODULUS)
+}
+
+impl Ring {
+    /// The ring, its table made.
+    pub fn new() -> Self {
+        let modulus = PlannedModulus::new(MODULUS);
+        let part = modulus.factor(PART);
+        let mut table = [part; 128];
+        plan(&modulus, ZETA, &mut table);
+        Ring {
+            modulus,
+            part,
+            table,
+        }
+    }
+
+    /// NTT(w) in place: the places 2i and 2i + 1 become the remainder of w modulo
+    /// X^2 - zeta^(2·BitRev7(i) + 1), the constant first. Condition: the coefficients are residues
+    /// (`are_residues` tells), as those of the remainders are.
+    ///
+    /// Source: FIPS 203, section 4.3, algorithm 9.
+    pub fn ntt(&self, w: &mut [u32; 256]) {
+        split(&self.modulus, w, &self.table, 1, 2);
+    }
+
+    /// The inverse of `ntt` in place: the one polynomial whose NTT the list is. Condition: the entries are
+    /// residues, as the coefficients are.
+    ///
+    /// Source: FIPS 203, section 4.3, algorithm 10.
+    pub fn inverse(&self, w: &mut [u32; 256]) {
+        transform_laws();
+        join_scaled(&self.modulus, w, &self.table, 1, 2, &self.part);
+    }
+
+    /// The product of xs and ys modulo X^256 + 1 and q in xs, and NTT(ys) in ys. Condition: the
+    /// coefficients are residues, as those of the product are.
+    ///
+    /// Source: FIPS 203, section 4.3, algorithms 11 and 12: the products of the remainders are joined.
+    pub fn product(&self, xs: &mut [u32; 256], ys: &mut [u32; 256]) {
+        let _always = convolve_negacyclic(&self.modulus, xs, ys, &self.table, 2);
+    }
+
+    /// The product of two transforms in xs, remainder by remainder: that of two polynomials' transforms is the
+    /// transform of their product. Condition: the entries are residues, as those of the product are.
+    ///
+    /// Source: FIPS 203, section 4.3, algorithms 11 and 12.
+    pub fn multiply(&self, xs: &mut [u32; 256], ys: &[u32; 256]) {
+        multiply(&self.modulus, xs, ys, &self.table, 1, 2);
+    }
+}
