@@ -1,7 +1,8 @@
 //! Products of polynomials modulo X^n - c, by a plan.
 
+use crate::modular_plan::entry::PlanEntry;
 use crate::modular_plan::join::join_scaled;
-use crate::modular_plan::modulus::{Factor, PlannedModulus, reduced_once};
+use crate::modular_plan::modulus::{PlannedModulus, reduced_once};
 use crate::modular_plan::products::multiply;
 use crate::modular_plan::split::{split, splits};
 use num_modular::modular_prim::euclid::invm;
@@ -43,11 +44,11 @@ pub fn convolves(length: usize, factors: usize, b: usize, last: usize) -> bool {
 ///
 /// Source: Bernstein, "Multidigit multiplication for mathematicians", section 2: both lists are split,
 /// the remainders multiplied, and the products joined.
-pub fn convolve_block<T: PlainWord>(
+pub fn convolve_block<T: PlainWord, F: PlanEntry<T>>(
     m: &PlannedModulus<T>,
     xs: &mut [T],
     ys: &mut [T],
-    table: &[Factor<T>],
+    table: &[F],
     b: usize,
     last: usize,
 ) -> bool {
@@ -68,11 +69,11 @@ pub fn convolve_block<T: PlainWord>(
 /// Puts the cyclic product of xs and ys in xs, as `convolve_block` for b = 0: entry e becomes the sum
 /// of x_i·y_j modulo m over i + j = e or e + n; false, with both lists unchanged, exactly where the
 /// number n/last of blocks has no inverse modulo m. Conditions: those of `convolve_block`.
-pub fn convolve_planned<T: PlainWord>(
+pub fn convolve_planned<T: PlainWord, F: PlanEntry<T>>(
     m: &PlannedModulus<T>,
     xs: &mut [T],
     ys: &mut [T],
-    table: &[Factor<T>],
+    table: &[F],
     last: usize,
 ) -> bool {
     convolve_block(m, xs, ys, table, 0, last)
@@ -82,11 +83,11 @@ pub fn convolve_planned<T: PlainWord>(
 /// the sum of x_i·y_j modulo m over i + j = e, less that over i + j = e + n; false, with both lists
 /// unchanged, exactly where the number n/last of blocks has no inverse modulo m. Conditions: those of
 /// `convolve_block`.
-pub fn convolve_negacyclic<T: PlainWord>(
+pub fn convolve_negacyclic<T: PlainWord, F: PlanEntry<T>>(
     m: &PlannedModulus<T>,
     xs: &mut [T],
     ys: &mut [T],
-    table: &[Factor<T>],
+    table: &[F],
     last: usize,
 ) -> bool {
     convolve_block(m, xs, ys, table, 1, last)

@@ -1,0 +1,25 @@
+//! The entries of a plan: factors, or structs of a caller's own that stand for them.
+
+use crate::modular_plan::modulus::Factor;
+use num_modular::modular_word::path_word::PathWord;
+use num_modular::modular_word::ring_word::RingWord;
+
+/// An entry of a plan: `Factor` itself, or another struct of two words, such as one that crosses to
+/// another language.
+pub trait PlanEntry<T: PathWord>: Copy {
+    /// The entry as a factor.
+    fn factor(&self) -> Factor<T>;
+
+    /// The entry that stands for a factor.
+    fn entry(factor: Factor<T>) -> Self;
+}
+
+impl<T: PathWord> PlanEntry<T> for Factor<T> {
+    fn factor(&self) -> Factor<T> {
+        *self
+    }
+
+    fn entry(factor: Factor<T>) -> Factor<T> {
+        factor
+    }
+}
