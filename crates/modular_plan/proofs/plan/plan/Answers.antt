@@ -17,7 +17,8 @@ returns-clause-factors g c =
     let new = c.reverse_places.new.entries in
     let whole = power_by_zeros (length old)
     (half_power (subst (λ n. IsPowerOfTwo (2 * n)) (omega arith) c.requires.suits.power_of_two)) (omega arith) in
-    all_reordered (λ f. IsFactor g.T.PathWord.base m (g.F.PlanEntry.value f) (g.F.PlanEntry.quotient f)) (trailing_zeros w64 (length old))
+    all_reordered (λ f. IsFactor g.T.PathWord.base m (g.F.PlanEntry.value f) (g.F.PlanEntry.quotient f))
+    (trailing_zeros w64 (length old))
     (length old) old new whole refl (omega arith)
     c.reverse_places.ensures c.powers.ensures.factors
 
