@@ -17,6 +17,10 @@ static const uint64_t modulus = UINT64_C(18446744073709551557), factor = UINT64_
 static const uint64_t exponent = UINT64_C(9223372036854775778);
 static nm_montgomery_t ring;
 static uint64_t factor_form, list[PLACES], root;
+static const uint64_t prime = UINT64_C(4179340454199820289); /* 29 * 2^57 + 1 */
+static nm_montgomery_t prime_ring;
+static nm_factor_t table[PLACES / 2];
+static uint64_t prime_root;
 
 static uint64_t mulm(uint64_t x) {
     (void)nm_mulm(x, factor, modulus, &x);
@@ -43,6 +47,22 @@ static uint64_t transform(uint64_t x) {
     (void)nm_solinas_ntt(list, PLACES, root);
     return list[0];
 }
+
+static uint64_t transform_montgomery(uint64_t x) {
+    list[0] = x;
+    (void)nm_montgomery_ntt(&prime_ring, list, PLACES, prime_root);
+    return list[0];
+}
+
+static uint64_t transform_planned(uint64_t x) {
+    list[0] = x;
+    (void)nm_ntt_planned(prime, list, PLACES, table, PLACES / 2);
+    return list[0];
+}
+
+static uint64_t table_tried(uint64_t x) { return x ^ nm_plan_fits(prime, prime_root, table, PLACES / 2); }
+
+static uint64_t table_filled(uint64_t x) { return x ^ nm_plan(prime, prime_root, table, PLACES / 2); }
 
 #ifdef WITH_FLINT
 static uint64_t flint_mul(uint64_t x) { return n_mulmod2_preinv(x, factor, modulus, n_preinvert_limb(modulus)); }
@@ -94,6 +114,12 @@ int main(void) {
     wrong |= power ^ line("n_powmod2", flint_pow, 3, 20000);
 #endif
     line("nm_solinas_ntt, 2^16", transform, 3, 10);
+    if (nm_montgomery(prime, &prime_ring) || nm_montgomery_find_root(&prime_ring, PLACES, &prime_root)) return 1;
+    wrong |= line("nm_plan, 2^15 entries", table_filled, 0, 10) | line("nm_plan_fits, 2^15", table_tried, 0, 10);
+    for (size_t i = 0; i < PLACES; i++) list[i] = i;
+    uint64_t transformed = line("nm_montgomery_ntt, 2^16", transform_montgomery, 3, 10);
+    for (size_t i = 0; i < PLACES; i++) list[i] = i;
+    wrong |= transformed ^ line("nm_ntt_planned, 2^16", transform_planned, 3, 10);
     if (wrong) printf("the answers differ\n");
     return wrong != 0;
 }

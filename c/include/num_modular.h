@@ -22,7 +22,7 @@ extern "C" {
 #define NM_OK ((uint32_t)0)           /* what was asked for is written */
 #define NM_NO_INVERSE ((uint32_t)1)   /* an inverse that is needed doesn't exist */
 #define NM_BAD_ARGUMENT ((uint32_t)2) /* an argument isn't one that the call takes */
-#define NM_BAD_CONTEXT ((uint32_t)3)  /* a divider or a context isn't one that the library makes */
+#define NM_BAD_CONTEXT ((uint32_t)3)  /* a divider, a context or a table isn't one that the library makes */
 #define NM_NO_ROOT ((uint32_t)4)      /* no root was found, or the one given doesn't suit the length */
 #define NM_NOT_FOUND ((uint32_t)5)    /* what was looked for stands nowhere */
 
@@ -189,6 +189,59 @@ uint32_t nm_solinas_root_fits(uint64_t root, size_t n);
 uint32_t nm_solinas_find_root(size_t n, uint64_t *root);
 uint32_t nm_solinas_ntt(uint64_t *xs, size_t n, uint64_t root);
 uint32_t nm_solinas_convolve(uint64_t *xs, size_t n, uint64_t *ys, size_t k, uint64_t root);
+
+/* --- Transforms and products by a plan, modulo m from 1 to 2^62. ---
+ *
+ * A plan is a table of factors that the caller keeps, which makes them some times as fast. Words may be up to
+ * 4 * m - 1 going in, and are below m coming out. Each call tests its list and its table: that entries are factors
+ * modulo m with their quotients, by a product an entry. A table that passes but is no plan, as after an exchange of
+ * two entries, does no harm but that the words that come out say nothing; nm_plan_fits tells it from a plan.
+ *
+ * NM_BAD_ARGUMENT: m is 0 or above 2^62, or what is said with the call. NM_BAD_CONTEXT: an entry of the table is no
+ * factor modulo m with its quotient. */
+
+/* A factor below m, and 2^64 times it divided by m, rounded down. */
+typedef struct {
+    uint64_t value;
+    uint64_t quotient;
+} nm_factor_t;
+
+/* Fills the table with the plan by the root for transforms of n words, n being twice its length. NM_NO_ROOT: the
+ * root doesn't suit n. The first entries, up to a power of two, are a plan for fewer words. */
+uint32_t nm_plan(uint64_t m, uint64_t root, nm_factor_t *table, size_t length);
+
+/* NM_OK where the table is what nm_plan leaves for this m and this root, and NM_BAD_CONTEXT where it isn't.
+ * NM_NO_ROOT: as nm_plan. */
+uint32_t nm_plan_fits(uint64_t m, uint64_t root, const nm_factor_t *table, size_t length);
+
+/* Puts the transform in place of the n words: at place j the sum of x_i * h^(i * j), h being the root that the plan
+ * is for, or that power of it that suits n where the plan is for more words. NM_BAD_ARGUMENT: a word isn't below
+ * 4 * m, or n is no power of two, or above twice the length of the table. */
+uint32_t nm_ntt_planned(uint64_t m, uint64_t *xs, size_t n, const nm_factor_t *table, size_t length);
+
+/* Splits block b of the tree of remainders into count = n / last blocks: word i of block j becomes the sum over k of
+ * x_(k * last + i) * c^k, the coefficient of the remainder modulo X^last - c, where c is the power of the plan's
+ * root by the reversed bits of b * count + j. So b = 0 and last = 1 give the transform with its places in
+ * bit-reversed order, and b = 1 starts from a polynomial modulo X^n + 1. NM_BAD_ARGUMENT: a word isn't below 4 * m,
+ * n isn't last times a power of two, or the table has fewer than (b + 1) * count / 2 entries. */
+uint32_t nm_split(uint64_t m, uint64_t *xs, size_t n, const nm_factor_t *table, size_t length, size_t b, size_t last);
+
+/* The way back from nm_split: each word times count. The codes are those of nm_split. */
+uint32_t nm_join(uint64_t m, uint64_t *xs, size_t n, const nm_factor_t *table, size_t length, size_t b, size_t last);
+
+/* Puts the cyclic product of both lists in place of the first: at place e the sum of x_i * y_j over all i + j = e or
+ * e + n. The second list becomes what nm_split makes of it for b = 0. The work ends at blocks of last words, which is
+ * 1, or 2 where the plan is for n / 2. NM_BAD_ARGUMENT: a word isn't below 4 * m, the lengths n and k differ, last
+ * isn't 1 or 2, n isn't last times a power of two, or the table has fewer than n / last / 2 entries, or none.
+ * NM_NO_INVERSE: n / last has no inverse modulo m. */
+uint32_t nm_convolve_planned(uint64_t m, uint64_t *xs, size_t n, uint64_t *ys, size_t k, const nm_factor_t *table,
+                             size_t length, size_t last);
+
+/* The same modulo X^n + 1: at place e the sum of x_i * y_j over all i + j = e, less that over all i + j = e + n. The
+ * second list becomes what nm_split makes of it for b = 1. The codes are those of nm_convolve_planned, but that the
+ * table has at least n / last entries. */
+uint32_t nm_convolve_negacyclic(uint64_t m, uint64_t *xs, size_t n, uint64_t *ys, size_t k, const nm_factor_t *table,
+                                size_t length, size_t last);
 
 /* --- What the crates that stand on the library offer. --- */
 

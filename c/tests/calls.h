@@ -53,6 +53,7 @@ void divider_rows(void);
 void montgomery_rows(void);
 void run_rows(void);
 void transform_rows(void);
+void plan_rows(void);
 void user_rows(void);
 
 #endif

@@ -19,6 +19,7 @@ int main(void) {
     montgomery_rows();
     run_rows();
     transform_rows();
+    plan_rows();
     user_rows();
     printf("%d passed, %d failed\n", passed, failed);
     return failed != 0;

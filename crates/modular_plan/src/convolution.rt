@@ -8,8 +8,9 @@ ghost use Rattle.modular_plan.specs.Factors.{IsFactor};
 ghost use Rattle.modular_plan.specs.Plans.{numbers, constant, IsPlan, AreRemainders};
 ghost use Rattle.modular_plan.specs.Products.{product_modulo};
 
+use crate::entry::PlanEntry;
 use crate::join::join_scaled;
-use crate::modulus::{Factor, PlannedModulus, reduced_once};
+use crate::modulus::{PlannedModulus, reduced_once};
 use crate::products::multiply;
 use crate::split::{split, splits};
 use modular_prim::euclid::invm;
@@ -57,18 +58,18 @@ pub fn convolves(length: usize, factors: usize, b: usize, last: usize) -> bool
 ///
 /// Source: Bernstein, "Multidigit multiplication for mathematicians", section 2: both lists are split,
 /// the remainders multiplied, and the products joined.
-pub fn convolve_block<T: PlainWord>(
+pub fn convolve_block<T: PlainWord, F: PlanEntry<T>>(
     m: &PlannedModulus<T>,
     xs: &mut [T],
     ys: &mut [T],
-    table: &[Factor<T>],
+    table: &[F],
     b: usize,
     last: usize,
 ) -> bool
     requires entries_xs { All (λ x. T.number x < 4 * T.number m.now.modulus) xs.old }
     requires entries_ys { All (λ x. T.number x < 4 * T.number m.now.modulus) ys.old }
     requires equal { length ys.old ≡ length xs.old }
-    requires factors { All (λ f. IsFactor T.base (T.number m.now.modulus) (T.number f.value) (T.number f.quotient))
+    requires factors { All (λ f. IsFactor T.base (T.number m.now.modulus) (F.value f) (F.quotient f))
         table.now }
     requires some { 1 ≤ last }
     requires few { last ≤ 2 }
@@ -80,11 +81,11 @@ pub fn convolve_block<T: PlainWord>(
     ensures below { IsTrue result → All (λ x. T.number x < T.number m.now.modulus) xs.new
         × All (λ x. T.number x < T.number m.now.modulus) ys.new }
     ensures product { let modulus = T.number m.now.modulus in IsTrue result → (g z e : ℕ) →
-        IsPlan modulus g z (length table.now) (numbers (λ f. T.number f.value) table.now) → e < length xs.old →
+        IsPlan modulus g z (length table.now) (numbers F.value table.now) → e < length xs.old →
         numbers T.number xs.new e ≡ product_modulo modulus (length xs.old) (constant g z b)
         (numbers T.number xs.old) (numbers T.number ys.old) e }
     ensures remainders { let modulus = T.number m.now.modulus in IsTrue result → (g z : ℕ) →
-        IsPlan modulus g z (length table.now) (numbers (λ f. T.number f.value) table.now) →
+        IsPlan modulus g z (length table.now) (numbers F.value table.now) →
         AreRemainders modulus g z b (length xs.old / last) last (numbers T.number ys.old) (numbers T.number ys.new) }
 {
     let count = residue_of_count(m, xs.len() / last);
@@ -104,17 +105,17 @@ pub fn convolve_block<T: PlainWord>(
 /// Puts the cyclic product of xs and ys in xs, as `convolve_block` for b = 0: entry e becomes the sum
 /// of x_i·y_j modulo m over i + j = e or e + n; false, with both lists unchanged, exactly where the
 /// number n/last of blocks has no inverse modulo m. Conditions: those of `convolve_block`.
-pub fn convolve_planned<T: PlainWord>(
+pub fn convolve_planned<T: PlainWord, F: PlanEntry<T>>(
     m: &PlannedModulus<T>,
     xs: &mut [T],
     ys: &mut [T],
-    table: &[Factor<T>],
+    table: &[F],
     last: usize,
 ) -> bool
     requires entries_xs { All (λ x. T.number x < 4 * T.number m.now.modulus) xs.old }
     requires entries_ys { All (λ x. T.number x < 4 * T.number m.now.modulus) ys.old }
     requires equal { length ys.old ≡ length xs.old }
-    requires factors { All (λ f. IsFactor T.base (T.number m.now.modulus) (T.number f.value) (T.number f.quotient))
+    requires factors { All (λ f. IsFactor T.base (T.number m.now.modulus) (F.value f) (F.quotient f))
         table.now }
     requires some { 1 ≤ last }
     requires few { last ≤ 2 }
@@ -126,11 +127,11 @@ pub fn convolve_planned<T: PlainWord>(
     ensures below { IsTrue result → All (λ x. T.number x < T.number m.now.modulus) xs.new
         × All (λ x. T.number x < T.number m.now.modulus) ys.new }
     ensures product { let modulus = T.number m.now.modulus in IsTrue result → (g z e : ℕ) →
-        IsPlan modulus g z (length table.now) (numbers (λ f. T.number f.value) table.now) → e < length xs.old →
+        IsPlan modulus g z (length table.now) (numbers F.value table.now) → e < length xs.old →
         numbers T.number xs.new e ≡ cyclic_product modulus (length xs.old)
         (numbers T.number xs.old) (numbers T.number ys.old) e }
     ensures remainders { let modulus = T.number m.now.modulus in IsTrue result → (g z : ℕ) →
-        IsPlan modulus g z (length table.now) (numbers (λ f. T.number f.value) table.now) →
+        IsPlan modulus g z (length table.now) (numbers F.value table.now) →
         AreRemainders modulus g z 0 (length xs.old / last) last (numbers T.number ys.old) (numbers T.number ys.new) }
 {
     convolve_block(m, xs, ys, table, 0, last)
@@ -140,17 +141,17 @@ pub fn convolve_planned<T: PlainWord>(
 /// the sum of x_i·y_j modulo m over i + j = e, less that over i + j = e + n; false, with both lists
 /// unchanged, exactly where the number n/last of blocks has no inverse modulo m. Conditions: those of
 /// `convolve_block`.
-pub fn convolve_negacyclic<T: PlainWord>(
+pub fn convolve_negacyclic<T: PlainWord, F: PlanEntry<T>>(
     m: &PlannedModulus<T>,
     xs: &mut [T],
     ys: &mut [T],
-    table: &[Factor<T>],
+    table: &[F],
     last: usize,
 ) -> bool
     requires entries_xs { All (λ x. T.number x < 4 * T.number m.now.modulus) xs.old }
     requires entries_ys { All (λ x. T.number x < 4 * T.number m.now.modulus) ys.old }
     requires equal { length ys.old ≡ length xs.old }
-    requires factors { All (λ f. IsFactor T.base (T.number m.now.modulus) (T.number f.value) (T.number f.quotient))
+    requires factors { All (λ f. IsFactor T.base (T.number m.now.modulus) (F.value f) (F.quotient f))
         table.now }
     requires some { 1 ≤ last }
     requires few { last ≤ 2 }
@@ -162,11 +163,11 @@ pub fn convolve_negacyclic<T: PlainWord>(
     ensures below { IsTrue result → All (λ x. T.number x < T.number m.now.modulus) xs.new
         × All (λ x. T.number x < T.number m.now.modulus) ys.new }
     ensures product { let modulus = T.number m.now.modulus in IsTrue result → (g z e : ℕ) →
-        IsPlan modulus g z (length table.now) (numbers (λ f. T.number f.value) table.now) → e < length xs.old →
+        IsPlan modulus g z (length table.now) (numbers F.value table.now) → e < length xs.old →
         numbers T.number xs.new e ≡ product_modulo modulus (length xs.old) (modulus - 1)
         (numbers T.number xs.old) (numbers T.number ys.old) e }
     ensures remainders { let modulus = T.number m.now.modulus in IsTrue result → (g z : ℕ) →
-        IsPlan modulus g z (length table.now) (numbers (λ f. T.number f.value) table.now) →
+        IsPlan modulus g z (length table.now) (numbers F.value table.now) →
         AreRemainders modulus g z 1 (length xs.old / last) last (numbers T.number ys.old) (numbers T.number ys.new) }
 {
     convolve_block(m, xs, ys, table, 1, last)

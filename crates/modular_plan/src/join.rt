@@ -8,6 +8,7 @@ ghost use Rattle.modular_plan.specs.Plans.{numbers, IsPlan, AreRemainders};
 ghost use Rattle.modular_plan.specs.Steps.{IsPairJoin, IsFourJoin, IsMinusInverse, PairDone};
 ghost use Rattle.modular_plan.specs.Steps.{BlockDone, StageDone, FourDone, BlockOfFours, StageOfFours};
 
+use crate::entry::PlanEntry;
 use crate::modulus::{Factor, PlannedModulus, reduced_once};
 use crate::split::reduce_each;
 use modular_prim::plain_word::PlainWord;
@@ -16,20 +17,20 @@ use modular_word::ring_word::RingWord;
 
 // Minus the inverse of an entry: the one at the place mirrored in its power of two, and -1 for the
 // first. Where the table is no plan the mirrored place may lie behind it.
-fn minus_inverse<T: PlainWord>(
+fn minus_inverse<T: PlainWord, F: PlanEntry<T>>(
     m: &PlannedModulus<T>,
-    table: &[Factor<T>],
+    table: &[F],
     place: usize,
     minus: Factor<T>,
 ) -> Factor<T>
-    requires factors { All (λ f. IsFactor T.base (T.number m.now.modulus) (T.number f.value) (T.number f.quotient))
+    requires factors { All (λ f. IsFactor T.base (T.number m.now.modulus) (F.value f) (F.quotient f))
         table.now }
     requires minus_factor { IsFactor T.base (T.number m.now.modulus) (T.number minus.value) (T.number minus.quotient) }
     requires minus { T.number minus.value + 1 ≡ T.number m.now.modulus }
     requires within { place < length table.now }
     ensures factor { IsFactor T.base (T.number m.now.modulus) (T.number result.value) (T.number result.quotient) }
     ensures inverse { let modulus = T.number m.now.modulus in
-        let w = numbers (λ f. T.number f.value) table.now in (g z : ℕ) →
+        let w = numbers F.value table.now in (g z : ℕ) →
         IsPlan modulus g z (length table.now) w → IsMinusInverse modulus (w place) (T.number result.value) }
 {
     if place == 0 {
@@ -38,7 +39,7 @@ fn minus_inverse<T: PlainWord>(
     let power = 1 << place.ilog2();
     let mirrored = power + (power - 1 - (place - power));
     if mirrored < table.len() {
-        table[mirrored]
+        table[mirrored].factor()
     } else {
         minus
     }
@@ -103,17 +104,17 @@ fn join_block<T: PlainWord>(
 }
 
 // All blocks of a stage, block p by entry first + p of the table.
-fn join_stage<T: PlainWord>(
+fn join_stage<T: PlainWord, F: PlanEntry<T>>(
     m: &PlannedModulus<T>,
     xs: &mut [T],
     half: usize,
     blocks: usize,
-    table: &[Factor<T>],
+    table: &[F],
     first: usize,
     minus: &Factor<T>,
 )
     requires entries { All (λ x. T.number x < 4 * T.number m.now.modulus) xs.old }
-    requires factors { All (λ f. IsFactor T.base (T.number m.now.modulus) (T.number f.value) (T.number f.quotient))
+    requires factors { All (λ f. IsFactor T.base (T.number m.now.modulus) (F.value f) (F.quotient f))
         table.now }
     requires minus_factor { IsFactor T.base (T.number m.now.modulus)
         (T.number minus.now.value) (T.number minus.now.quotient) }
@@ -123,7 +124,7 @@ fn join_stage<T: PlainWord>(
     requires some { 0 < half }
     ensures entries { All (λ x. T.number x < 4 * T.number m.now.modulus) xs.new }
     ensures done { let modulus = T.number m.now.modulus in
-        let w = numbers (λ f. T.number f.value) table.now in (g z : ℕ) →
+        let w = numbers F.value table.now in (g z : ℕ) →
         IsPlan modulus g z (length table.now) w →
         StageDone (λ p. IsPairJoin modulus (w (first + p))) half blocks
         (numbers T.number xs.old) (numbers T.number xs.new) }
@@ -205,17 +206,17 @@ fn join_quarters<T: PlainWord>(
 
 // Two stages of all blocks, block p by entry first + p of the table, and its halves by the entries at
 // twice that place.
-fn join_two_stages<T: PlainWord>(
+fn join_two_stages<T: PlainWord, F: PlanEntry<T>>(
     m: &PlannedModulus<T>,
     xs: &mut [T],
     q: usize,
     blocks: usize,
-    table: &[Factor<T>],
+    table: &[F],
     first: usize,
     minus: &Factor<T>,
 )
     requires entries { All (λ x. T.number x < 4 * T.number m.now.modulus) xs.old }
-    requires factors { All (λ f. IsFactor T.base (T.number m.now.modulus) (T.number f.value) (T.number f.quotient))
+    requires factors { All (λ f. IsFactor T.base (T.number m.now.modulus) (F.value f) (F.quotient f))
         table.now }
     requires minus_factor { IsFactor T.base (T.number m.now.modulus)
         (T.number minus.now.value) (T.number minus.now.quotient) }
@@ -225,7 +226,7 @@ fn join_two_stages<T: PlainWord>(
     requires some { 0 < q }
     ensures entries { All (λ x. T.number x < 4 * T.number m.now.modulus) xs.new }
     ensures done { let modulus = T.number m.now.modulus in
-        let w = numbers (λ f. T.number f.value) table.now in (g z : ℕ) →
+        let w = numbers F.value table.now in (g z : ℕ) →
         IsPlan modulus g z (length table.now) w →
         StageOfFours (λ p. IsFourJoin modulus (w (first + p)) (w (2 * (first + p))) (w (2 * (first + p) + 1))) q blocks
         (numbers T.number xs.old) (numbers T.number xs.new) }
@@ -240,15 +241,15 @@ fn join_two_stages<T: PlainWord>(
 }
 
 // All stages: the number of blocks times the list whose remainders the entries are, below 4m.
-fn join_stages<T: PlainWord>(
+fn join_stages<T: PlainWord, F: PlanEntry<T>>(
     m: &PlannedModulus<T>,
     xs: &mut [T],
-    table: &[Factor<T>],
+    table: &[F],
     b: usize,
     last: usize,
 )
     requires entries { All (λ x. T.number x < 4 * T.number m.now.modulus) xs.old }
-    requires factors { All (λ f. IsFactor T.base (T.number m.now.modulus) (T.number f.value) (T.number f.quotient))
+    requires factors { All (λ f. IsFactor T.base (T.number m.now.modulus) (F.value f) (F.quotient f))
         table.now }
     requires some { 1 ≤ last }
     requires count { IsPowerOfTwo (length xs.old / last) }
@@ -256,7 +257,7 @@ fn join_stages<T: PlainWord>(
     requires within { (b + 1) * (length xs.old / last / 2) ≤ length table.now }
     ensures entries { All (λ x. T.number x < 4 * T.number m.now.modulus) xs.new }
     ensures joined { let modulus = T.number m.now.modulus in (g z : ℕ) (x : ℕ → ℕ) →
-        IsPlan modulus g z (length table.now) (numbers (λ f. T.number f.value) table.now) →
+        IsPlan modulus g z (length table.now) (numbers F.value table.now) →
         AreRemainders modulus g z b (length xs.old / last) last x (λ i. numbers T.number xs.old i % modulus) →
         (i : ℕ) → i < length xs.old → Congruent modulus (numbers T.number xs.new i) (length xs.old / last * x i) }
 {
@@ -297,15 +298,15 @@ fn scale_each<T: PlainWord>(m: &PlannedModulus<T>, xs: &mut [T], w: &Factor<T>)
 ///
 /// Source: each step undoes one of `split` but for the factor 2 (Gentleman and Sande, "Fast Fourier
 /// transforms: for fun and profit", section 2). A pass over the list does two stages where two are left.
-pub fn join<T: PlainWord>(
+pub fn join<T: PlainWord, F: PlanEntry<T>>(
     m: &PlannedModulus<T>,
     xs: &mut [T],
-    table: &[Factor<T>],
+    table: &[F],
     b: usize,
     last: usize,
 )
     requires entries { All (λ x. T.number x < 4 * T.number m.now.modulus) xs.old }
-    requires factors { All (λ f. IsFactor T.base (T.number m.now.modulus) (T.number f.value) (T.number f.quotient))
+    requires factors { All (λ f. IsFactor T.base (T.number m.now.modulus) (F.value f) (F.quotient f))
         table.now }
     requires some { 1 ≤ last }
     requires count { IsPowerOfTwo (length xs.old / last) }
@@ -313,7 +314,7 @@ pub fn join<T: PlainWord>(
     requires within { (b + 1) * (length xs.old / last / 2) ≤ length table.now }
     ensures below { All (λ x. T.number x < T.number m.now.modulus) xs.new }
     ensures joined { let modulus = T.number m.now.modulus in (g z : ℕ) (x : ℕ → ℕ) →
-        IsPlan modulus g z (length table.now) (numbers (λ f. T.number f.value) table.now) →
+        IsPlan modulus g z (length table.now) (numbers F.value table.now) →
         AreRemainders modulus g z b (length xs.old / last) last x (λ i. numbers T.number xs.old i % modulus) →
         (i : ℕ) → i < length xs.old → numbers T.number xs.new i ≡ (length xs.old / last * x i) % modulus }
 {
@@ -324,16 +325,16 @@ pub fn join<T: PlainWord>(
 /// Joins the blocks as `join` does, each coefficient times a factor: by the inverse modulo m of the
 /// number of blocks they are the coefficients themselves. Conditions: those of `join`; w is a factor
 /// modulo m.
-pub fn join_scaled<T: PlainWord>(
+pub fn join_scaled<T: PlainWord, F: PlanEntry<T>>(
     m: &PlannedModulus<T>,
     xs: &mut [T],
-    table: &[Factor<T>],
+    table: &[F],
     b: usize,
     last: usize,
     w: &Factor<T>,
 )
     requires entries { All (λ x. T.number x < 4 * T.number m.now.modulus) xs.old }
-    requires factors { All (λ f. IsFactor T.base (T.number m.now.modulus) (T.number f.value) (T.number f.quotient))
+    requires factors { All (λ f. IsFactor T.base (T.number m.now.modulus) (F.value f) (F.quotient f))
         table.now }
     requires some { 1 ≤ last }
     requires count { IsPowerOfTwo (length xs.old / last) }
@@ -342,7 +343,7 @@ pub fn join_scaled<T: PlainWord>(
     requires factor { IsFactor T.base (T.number m.now.modulus) (T.number w.now.value) (T.number w.now.quotient) }
     ensures below { All (λ x. T.number x < T.number m.now.modulus) xs.new }
     ensures joined { let modulus = T.number m.now.modulus in (g z : ℕ) (x : ℕ → ℕ) →
-        IsPlan modulus g z (length table.now) (numbers (λ f. T.number f.value) table.now) →
+        IsPlan modulus g z (length table.now) (numbers F.value table.now) →
         AreRemainders modulus g z b (length xs.old / last) last x (λ i. numbers T.number xs.old i % modulus) →
         (i : ℕ) → i < length xs.old
         → numbers T.number xs.new i ≡ (length xs.old / last * x i * T.number w.now.value) % modulus }

@@ -2,6 +2,7 @@
 #![tactic(auto)]
 
 pub mod convolution;
+pub mod entry;
 pub mod join;
 pub mod modulus;
 pub mod plan;

@@ -5,24 +5,25 @@ ghost use Rattle.modular_transform.specs.Transforms.{Suits};
 ghost use Rattle.modular_plan.specs.Factors.{IsFactor};
 ghost use Rattle.modular_plan.specs.Plans.{numbers, IsPlan};
 
-use crate::modulus::{Factor, PlannedModulus};
+use crate::entry::PlanEntry;
+use crate::modulus::PlannedModulus;
 use modular_prim::plain_word::PlainWord;
 use modular_transform::order::reverse_places;
 use modular_word::path_word::PathWord;
 use modular_word::ring_word::RingWord;
 
 // The powers 1, g, g^2, .. as factors.
-fn powers<T: PlainWord>(m: &PlannedModulus<T>, g: T, table: &mut [Factor<T>])
+fn powers<T: PlainWord, F: PlanEntry<T>>(m: &PlannedModulus<T>, g: T, table: &mut [F])
     requires { T.number g < T.number m.now.modulus }
-    ensures factors { All (λ f. IsFactor T.base (T.number m.now.modulus) (T.number f.value) (T.number f.quotient))
+    ensures factors { All (λ f. IsFactor T.base (T.number m.now.modulus) (F.value f) (F.quotient f))
         table.new }
     ensures powers { (k : ℕ) → k < length table.old
-        → numbers (λ f. T.number f.value) table.new k ≡ T.number g ^ k % T.number m.now.modulus }
+        → numbers F.value table.new k ≡ T.number g ^ k % T.number m.now.modulus }
 {
     let root = m.factor(g);
     let mut power = m.residue(T::one());
     'places: for place in 0..table.len() {
-        table[place] = m.factor(power);
+        table[place] = F::entry(m.factor(power));
         power = m.product(power, &root);
     }
 }
@@ -32,13 +33,13 @@ fn powers<T: PlainWord>(m: &PlannedModulus<T>, g: T, table: &mut [Factor<T>])
 ///
 /// Conditions: g is below m and suits n. The first entries of a plan are a plan for fewer entries, by
 /// the power of g that suits them.
-pub fn plan<T: PlainWord>(m: &PlannedModulus<T>, g: T, table: &mut [Factor<T>])
+pub fn plan<T: PlainWord, F: PlanEntry<T>>(m: &PlannedModulus<T>, g: T, table: &mut [F])
     requires below { T.number g < T.number m.now.modulus }
     requires suits { Suits (T.number m.now.modulus) (T.number g) (2 * length table.old) }
-    ensures factors { All (λ f. IsFactor T.base (T.number m.now.modulus) (T.number f.value) (T.number f.quotient))
+    ensures factors { All (λ f. IsFactor T.base (T.number m.now.modulus) (F.value f) (F.quotient f))
         table.new }
     ensures plan { (z : ℕ) → 2 ^ z ≡ 2 * length table.old →
-        IsPlan (T.number m.now.modulus) (T.number g) z (length table.old) (numbers (λ f. T.number f.value) table.new) }
+        IsPlan (T.number m.now.modulus) (T.number g) z (length table.old) (numbers F.value table.new) }
 {
     powers(m, g, table);
     let bits = table.len().trailing_zeros();

@@ -7,7 +7,8 @@ ghost use Rattle.modular_plan.specs.Plans.{numbers, constant, IsPlan};
 ghost use Rattle.modular_plan.specs.Products.{AreProducts};
 ghost use Rattle.modular_plan.specs.Steps.{PairDone};
 
-use crate::modulus::{Factor, PlannedModulus, reduced_once};
+use crate::entry::PlanEntry;
+use crate::modulus::{PlannedModulus, reduced_once};
 use modular_prim::plain_word::PlainWord;
 use modular_word::path_word::PathWord;
 
@@ -25,24 +26,24 @@ fn multiply_each<T: PlainWord>(m: &PlannedModulus<T>, xs: &mut [T], ys: &[T])
 }
 
 // The constant of block b·count + j of the tree, below or at m: an entry of the plan, or minus it.
-fn block_constant<T: PlainWord>(
+fn block_constant<T: PlainWord, F: PlanEntry<T>>(
     m: &PlannedModulus<T>,
-    table: &[Factor<T>],
+    table: &[F],
     b: usize,
     count: usize,
     j: usize,
 ) -> T
-    requires factors { All (λ f. IsFactor T.base (T.number m.now.modulus) (T.number f.value) (T.number f.quotient))
+    requires factors { All (λ f. IsFactor T.base (T.number m.now.modulus) (F.value f) (F.quotient f))
         table.now }
     requires block { j < count }
     requires fits { count + count < 2 ^ 64 }
     requires within { (b + 1) * count ≤ 2 * length table.now }
     ensures { let modulus = T.number m.now.modulus in (g z : ℕ) →
-        IsPlan modulus g z (length table.now) (numbers (λ f. T.number f.value) table.now) →
+        IsPlan modulus g z (length table.now) (numbers F.value table.now) →
         Congruent modulus (T.number result) (constant g z (b * count + j)) }
 {
     let rest = b % 2 * count + j;
-    let w = table[b / 2 * count + rest / 2].value;
+    let w = table[b / 2 * count + rest / 2].factor().value;
     if rest % 2 == 0 { w } else { m.modulus.minus(w) }
 }
 
@@ -65,21 +66,21 @@ fn multiply_pair<T: PlainWord>(m: &PlannedModulus<T>, xs: &mut [T], ys: &[T], pl
 }
 
 // The products of blocks of two entries.
-fn multiply_pairs<T: PlainWord>(
+fn multiply_pairs<T: PlainWord, F: PlanEntry<T>>(
     m: &PlannedModulus<T>,
     xs: &mut [T],
     ys: &[T],
-    table: &[Factor<T>],
+    table: &[F],
     b: usize,
 )
     requires below { All (λ x. T.number x < T.number m.now.modulus) xs.old }
-    requires factors { All (λ f. IsFactor T.base (T.number m.now.modulus) (T.number f.value) (T.number f.quotient))
+    requires factors { All (λ f. IsFactor T.base (T.number m.now.modulus) (F.value f) (F.quotient f))
         table.now }
     requires equal { length ys.now ≡ length xs.old }
     requires within { (b + 1) * (length xs.old / 2) ≤ 2 * length table.now }
     ensures below { All (λ x. T.number x < T.number m.now.modulus) xs.new }
     ensures products { let modulus = T.number m.now.modulus in (g z : ℕ) →
-        IsPlan modulus g z (length table.now) (numbers (λ f. T.number f.value) table.now) →
+        IsPlan modulus g z (length table.now) (numbers F.value table.now) →
         AreProducts modulus g z b (length xs.old / 2) 2 (numbers T.number xs.old)
         (numbers T.number ys.now) (numbers T.number xs.new) }
 {
@@ -97,16 +98,16 @@ fn multiply_pairs<T: PlainWord>(
 /// Conditions: `last` is 1 or 2; the lists have one length, a multiple of `last`; the entries of xs are
 /// below m; the table's entries are factors modulo m, and there are (b + 1)·count/2 of them or more, count
 /// being the number of blocks. For `last` = 1 each entry is multiplied by the one at its place.
-pub fn multiply<T: PlainWord>(
+pub fn multiply<T: PlainWord, F: PlanEntry<T>>(
     m: &PlannedModulus<T>,
     xs: &mut [T],
     ys: &[T],
-    table: &[Factor<T>],
+    table: &[F],
     b: usize,
     last: usize,
 )
     requires below { All (λ x. T.number x < T.number m.now.modulus) xs.old }
-    requires factors { All (λ f. IsFactor T.base (T.number m.now.modulus) (T.number f.value) (T.number f.quotient))
+    requires factors { All (λ f. IsFactor T.base (T.number m.now.modulus) (F.value f) (F.quotient f))
         table.now }
     requires equal { length ys.now ≡ length xs.old }
     requires some { 1 ≤ last }
@@ -115,7 +116,7 @@ pub fn multiply<T: PlainWord>(
     requires within { (b + 1) * (length xs.old / last) ≤ 2 * length table.now }
     ensures below { All (λ x. T.number x < T.number m.now.modulus) xs.new }
     ensures products { let modulus = T.number m.now.modulus in (g z : ℕ) →
-        IsPlan modulus g z (length table.now) (numbers (λ f. T.number f.value) table.now) →
+        IsPlan modulus g z (length table.now) (numbers F.value table.now) →
         AreProducts modulus g z b (length xs.old / last) last (numbers T.number xs.old)
         (numbers T.number ys.now) (numbers T.number xs.new) }
 {

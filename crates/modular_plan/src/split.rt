@@ -7,6 +7,7 @@ ghost use Rattle.modular_plan.specs.Plans.{numbers, IsPlan, AreRemainders};
 ghost use Rattle.modular_plan.specs.Steps.{IsPairSplit, IsFourSplit, PairDone, BlockDone};
 ghost use Rattle.modular_plan.specs.Steps.{StageDone, FourDone, BlockOfFours, StageOfFours};
 
+use crate::entry::PlanEntry;
 use crate::modulus::{Factor, PlannedModulus, reduced_once};
 use modular_prim::plain_word::PlainWord;
 use modular_word::path_word::PathWord;
@@ -68,27 +69,28 @@ fn split_block<T: PlainWord>(
 }
 
 // All blocks of a stage, block p by entry first + p of the table.
-fn split_stage<T: PlainWord>(
+fn split_stage<T: PlainWord, F: PlanEntry<T>>(
     m: &PlannedModulus<T>,
     xs: &mut [T],
     half: usize,
     blocks: usize,
-    table: &[Factor<T>],
+    table: &[F],
     first: usize,
 )
     requires entries { All (λ x. T.number x < 4 * T.number m.now.modulus) xs.old }
-    requires factors { All (λ f. IsFactor T.base (T.number m.now.modulus) (T.number f.value) (T.number f.quotient))
+    requires factors { All (λ f. IsFactor T.base (T.number m.now.modulus) (F.value f) (F.quotient f))
         table.now }
     requires whole { blocks * (half + half) ≡ length xs.old }
     requires within { first + blocks ≤ length table.now }
     requires some { 0 < half }
     ensures entries { All (λ x. T.number x < 4 * T.number m.now.modulus) xs.new }
     ensures done { StageDone
-        (λ p. IsPairSplit (T.number m.now.modulus) (numbers (λ f. T.number f.value) table.now (first + p))) half blocks
+        (λ p. IsPairSplit (T.number m.now.modulus) (numbers F.value table.now (first + p))) half blocks
         (numbers T.number xs.old) (numbers T.number xs.new) }
 {
     'each_block: for p in 0..blocks {
-        split_block(m, xs, p * (half + half), half, &table[first + p]);
+        let w = table[first + p].factor();
+        split_block(m, xs, p * (half + half), half, &w);
     }
 }
 
@@ -160,30 +162,32 @@ fn split_quarters<T: PlainWord>(
 
 // Two stages of all blocks, block p by entry first + p of the table, and its halves by the entries at
 // twice that place.
-fn split_two_stages<T: PlainWord>(
+fn split_two_stages<T: PlainWord, F: PlanEntry<T>>(
     m: &PlannedModulus<T>,
     xs: &mut [T],
     q: usize,
     blocks: usize,
-    table: &[Factor<T>],
+    table: &[F],
     first: usize,
 )
     requires entries { All (λ x. T.number x < 4 * T.number m.now.modulus) xs.old }
-    requires factors { All (λ f. IsFactor T.base (T.number m.now.modulus) (T.number f.value) (T.number f.quotient))
+    requires factors { All (λ f. IsFactor T.base (T.number m.now.modulus) (F.value f) (F.quotient f))
         table.now }
     requires whole { blocks * (q + q + (q + q)) ≡ length xs.old }
     requires within { 2 * (first + blocks) ≤ length table.now }
     requires some { 0 < q }
     ensures entries { All (λ x. T.number x < 4 * T.number m.now.modulus) xs.new }
-    ensures done { let w = numbers (λ f. T.number f.value) table.now in
+    ensures done { let w = numbers F.value table.now in
         StageOfFours (λ p. IsFourSplit (T.number m.now.modulus) (w (first + p)) (w (2 * (first + p)))
         (w (2 * (first + p) + 1))) q blocks
         (numbers T.number xs.old) (numbers T.number xs.new) }
 {
     'four_quarters: for p in 0..blocks {
         let place = first + p;
-        let (u, v) = (&table[2 * place], &table[2 * place + 1]);
-        split_quarters(m, xs, p * (q + q + (q + q)), q, &table[place], u, v);
+        let w = table[place].factor();
+        let u = table[2 * place].factor();
+        let v = table[2 * place + 1].factor();
+        split_quarters(m, xs, p * (q + q + (q + q)), q, &w, &u, &v);
     }
 }
 
@@ -233,15 +237,15 @@ pub fn splits(length: usize, factors: usize, b: usize, last: usize) -> bool
 /// Source: the sums and differences are those of Cooley and Tukey, with one factor a block, as
 /// Bernstein ("Multidigit multiplication for mathematicians", section 2) has them. A pass over the list
 /// does two stages where two are left.
-pub fn split<T: PlainWord>(
+pub fn split<T: PlainWord, F: PlanEntry<T>>(
     m: &PlannedModulus<T>,
     xs: &mut [T],
-    table: &[Factor<T>],
+    table: &[F],
     b: usize,
     last: usize,
 )
     requires entries { All (λ x. T.number x < 4 * T.number m.now.modulus) xs.old }
-    requires factors { All (λ f. IsFactor T.base (T.number m.now.modulus) (T.number f.value) (T.number f.quotient))
+    requires factors { All (λ f. IsFactor T.base (T.number m.now.modulus) (F.value f) (F.quotient f))
         table.now }
     requires some { 1 ≤ last }
     requires count { IsPowerOfTwo (length xs.old / last) }
@@ -249,7 +253,7 @@ pub fn split<T: PlainWord>(
     requires within { (b + 1) * (length xs.old / last / 2) ≤ length table.now }
     ensures below { All (λ x. T.number x < T.number m.now.modulus) xs.new }
     ensures remainders { let modulus = T.number m.now.modulus in (g z : ℕ) →
-        IsPlan modulus g z (length table.now) (numbers (λ f. T.number f.value) table.now) →
+        IsPlan modulus g z (length table.now) (numbers F.value table.now) →
         AreRemainders modulus g z b (length xs.old / last) last (numbers T.number xs.old) (numbers T.number xs.new) }
 {
     let mut size = xs.len();

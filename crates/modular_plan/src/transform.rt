@@ -6,7 +6,8 @@ ghost use Rattle.modular_transform.specs.Transforms.{transform};
 ghost use Rattle.modular_plan.specs.Factors.{IsFactor};
 ghost use Rattle.modular_plan.specs.Plans.{numbers, IsPlan};
 
-use crate::modulus::{Factor, PlannedModulus};
+use crate::entry::PlanEntry;
+use crate::modulus::PlannedModulus;
 use crate::split::split;
 use modular_prim::plain_word::PlainWord;
 use modular_transform::order::reverse_places;
@@ -19,15 +20,15 @@ use modular_transform::order::reverse_places;
 /// factors; these are factors modulo m. Values are below m.
 ///
 /// Source: `split`, and the places with their bits in the opposite order.
-pub fn ntt_planned<T: PlainWord>(m: &PlannedModulus<T>, xs: &mut [T], table: &[Factor<T>])
+pub fn ntt_planned<T: PlainWord, F: PlanEntry<T>>(m: &PlannedModulus<T>, xs: &mut [T], table: &[F])
     requires entries { All (λ x. T.number x < 4 * T.number m.now.modulus) xs.old }
-    requires factors { All (λ f. IsFactor T.base (T.number m.now.modulus) (T.number f.value) (T.number f.quotient))
+    requires factors { All (λ f. IsFactor T.base (T.number m.now.modulus) (F.value f) (F.quotient f))
         table.now }
     requires count { IsPowerOfTwo (length xs.old) }
     requires within { length xs.old / 2 ≤ length table.now }
     ensures below { All (λ x. T.number x < T.number m.now.modulus) xs.new }
     ensures values { let modulus = T.number m.now.modulus in (g z j : ℕ) →
-        IsPlan modulus g z (length table.now) (numbers (λ f. T.number f.value) table.now) → j < length xs.old →
+        IsPlan modulus g z (length table.now) (numbers F.value table.now) → j < length xs.old →
         numbers T.number xs.new j ≡ transform modulus (g ^ (2 ^ z / length xs.old))
         (length xs.old) (numbers T.number xs.old) j }
 {

@@ -3,3 +3,4 @@ pub mod Contexts
 pub mod Transforms
 pub mod Commands
 pub mod Systems
+pub mod Plans

@@ -9,6 +9,8 @@ mod lists;
 mod montgomery;
 mod montgomery_lists;
 mod plain;
+mod planned;
+mod plans;
 mod runs;
 mod solinas;
 mod symbols;

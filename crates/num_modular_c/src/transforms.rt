@@ -18,6 +18,7 @@ use num_modular::ring::{convolve, ntt, root_fits};
 pub(crate) fn root_code<R: Reducer<u64>>(r: &R, root: u64, n: usize) -> u32
     ensures fits { let m = R.modulus r.now in Suits m (root % m) n → result ≡ NM_OK }
     ensures no_root { let m = R.modulus r.now in (Suits m (root % m) n → ⊥) → result ≡ NM_NO_ROOT }
+    ensures suits { let m = R.modulus r.now in result ≡ NM_OK → Suits m (root % m) n }
 {
     if root_fits(r, &r.transform(root), n) {
         NM_OK

@@ -1,7 +1,8 @@
 //! Products of polynomials modulo X^n - c, by a plan.
 
+use crate::modular_plan::entry::PlanEntry;
 use crate::modular_plan::join::join_scaled;
-use crate::modular_plan::modulus::{Factor, PlannedModulus, reduced_once};
+use crate::modular_plan::modulus::{PlannedModulus, reduced_once};
 use crate::modular_plan::products::multiply;
 use crate::modular_plan::split::{split, splits};
 use crate::modular_prim::euclid::invm;
@@ -10,6 +11,7 @@ use crate::modular_word::path_word::PathWord;
 use crate::modular_word::ring_word::RingWord;
 
 // The residue of a power of two, by doublings of 1: it may be too large for the word.
+#[inline]
 fn residue_of_count<T: PlainWord>(m: &PlannedModulus<T>, count: usize) -> T {
     let mut residue = m.residue(T::one());
     'doublings: for _done in 0..count.trailing_zeros() {
@@ -20,6 +22,7 @@ fn residue_of_count<T: PlainWord>(m: &PlannedModulus<T>, count: usize) -> T {
 
 /// Whether `convolve_block` takes lists of so many entries as block b, down to blocks of `last`, by a
 /// plan of so many factors.
+#[inline]
 pub fn convolves(length: usize, factors: usize, b: usize, last: usize) -> bool {
     if last > 2 {
         return false;
@@ -43,11 +46,11 @@ pub fn convolves(length: usize, factors: usize, b: usize, last: usize) -> bool {
 ///
 /// Source: Bernstein, "Multidigit multiplication for mathematicians", section 2: both lists are split,
 /// the remainders multiplied, and the products joined.
-pub fn convolve_block<T: PlainWord>(
+pub fn convolve_block<T: PlainWord, F: PlanEntry<T>>(
     m: &PlannedModulus<T>,
     xs: &mut [T],
     ys: &mut [T],
-    table: &[Factor<T>],
+    table: &[F],
     b: usize,
     last: usize,
 ) -> bool {
@@ -68,11 +71,12 @@ pub fn convolve_block<T: PlainWord>(
 /// Puts the cyclic product of xs and ys in xs, as `convolve_block` for b = 0: entry e becomes the sum
 /// of x_i·y_j modulo m over i + j = e or e + n; false, with both lists unchanged, exactly where the
 /// number n/last of blocks has no inverse modulo m. Conditions: those of `convolve_block`.
-pub fn convolve_planned<T: PlainWord>(
+#[inline]
+pub fn convolve_planned<T: PlainWord, F: PlanEntry<T>>(
     m: &PlannedModulus<T>,
     xs: &mut [T],
     ys: &mut [T],
-    table: &[Factor<T>],
+    table: &[F],
     last: usize,
 ) -> bool {
     convolve_block(m, xs, ys, table, 0, last)
@@ -82,11 +86,12 @@ pub fn convolve_planned<T: PlainWord>(
 /// the sum of x_i·y_j modulo m over i + j = e, less that over i + j = e + n; false, with both lists
 /// unchanged, exactly where the number n/last of blocks has no inverse modulo m. Conditions: those of
 /// `convolve_block`.
-pub fn convolve_negacyclic<T: PlainWord>(
+#[inline]
+pub fn convolve_negacyclic<T: PlainWord, F: PlanEntry<T>>(
     m: &PlannedModulus<T>,
     xs: &mut [T],
     ys: &mut [T],
-    table: &[Factor<T>],
+    table: &[F],
     last: usize,
 ) -> bool {
     convolve_block(m, xs, ys, table, 1, last)

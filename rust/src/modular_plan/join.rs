@@ -1,5 +1,6 @@
 //! From remainders modulo X^last - c back to the polynomial, in place, by stages.
 
+use crate::modular_plan::entry::PlanEntry;
 use crate::modular_plan::modulus::{Factor, PlannedModulus, reduced_once};
 use crate::modular_plan::split::reduce_each;
 use crate::modular_prim::plain_word::PlainWord;
@@ -8,9 +9,9 @@ use crate::modular_word::ring_word::RingWord;
 
 // Minus the inverse of an entry: the one at the place mirrored in its power of two, and -1 for the
 // first. Where the table is no plan the mirrored place may lie behind it.
-fn minus_inverse<T: PlainWord>(
+fn minus_inverse<T: PlainWord, F: PlanEntry<T>>(
     m: &PlannedModulus<T>,
-    table: &[Factor<T>],
+    table: &[F],
     place: usize,
     minus: Factor<T>,
 ) -> Factor<T> {
@@ -20,13 +21,14 @@ fn minus_inverse<T: PlainWord>(
     let power = 1 << place.ilog2();
     let mirrored = power + (power - 1 - (place - power));
     if mirrored < table.len() {
-        table[mirrored]
+        table[mirrored].factor()
     } else {
         minus
     }
 }
 
 // x + y and (y - x)·v, below 4m.
+#[inline]
 fn join_values<T: PlainWord>(m: &PlannedModulus<T>, x: T, y: T, v: &Factor<T>) -> (T, T) {
     let twice = m.twice();
     let x = reduced_once(x, twice);
@@ -35,6 +37,7 @@ fn join_values<T: PlainWord>(m: &PlannedModulus<T>, x: T, y: T, v: &Factor<T>) -
 }
 
 // The pair at two places.
+#[inline]
 fn join_pair<T: PlainWord>(
     m: &PlannedModulus<T>,
     xs: &mut [T],
@@ -48,6 +51,7 @@ fn join_pair<T: PlainWord>(
 }
 
 // The pairs of the block from place `first` on.
+#[inline]
 fn join_block<T: PlainWord>(
     m: &PlannedModulus<T>,
     xs: &mut [T],
@@ -61,12 +65,13 @@ fn join_block<T: PlainWord>(
 }
 
 // All blocks of a stage, block p by entry first + p of the table.
-fn join_stage<T: PlainWord>(
+#[inline]
+fn join_stage<T: PlainWord, F: PlanEntry<T>>(
     m: &PlannedModulus<T>,
     xs: &mut [T],
     half: usize,
     blocks: usize,
-    table: &[Factor<T>],
+    table: &[F],
     first: usize,
     minus: &Factor<T>,
 ) {
@@ -123,12 +128,12 @@ fn join_quarters<T: PlainWord>(
 
 // Two stages of all blocks, block p by entry first + p of the table, and its halves by the entries at
 // twice that place.
-fn join_two_stages<T: PlainWord>(
+fn join_two_stages<T: PlainWord, F: PlanEntry<T>>(
     m: &PlannedModulus<T>,
     xs: &mut [T],
     q: usize,
     blocks: usize,
-    table: &[Factor<T>],
+    table: &[F],
     first: usize,
     minus: &Factor<T>,
 ) {
@@ -142,10 +147,10 @@ fn join_two_stages<T: PlainWord>(
 }
 
 // All stages: the number of blocks times the list whose remainders the entries are, below 4m.
-fn join_stages<T: PlainWord>(
+fn join_stages<T: PlainWord, F: PlanEntry<T>>(
     m: &PlannedModulus<T>,
     xs: &mut [T],
-    table: &[Factor<T>],
+    table: &[F],
     b: usize,
     last: usize,
 ) {
@@ -166,6 +171,7 @@ fn join_stages<T: PlainWord>(
 }
 
 // Each entry's product with a factor.
+#[inline]
 fn scale_each<T: PlainWord>(m: &PlannedModulus<T>, xs: &mut [T], w: &Factor<T>) {
     'entries: for i in 0..xs.len() {
         xs[i] = m.product(xs[i], w);
@@ -181,10 +187,11 @@ fn scale_each<T: PlainWord>(m: &PlannedModulus<T>, xs: &mut [T], w: &Factor<T>) 
 ///
 /// Source: each step undoes one of `split` but for the factor 2 (Gentleman and Sande, "Fast Fourier
 /// transforms: for fun and profit", section 2). A pass over the list does two stages where two are left.
-pub fn join<T: PlainWord>(
+#[inline]
+pub fn join<T: PlainWord, F: PlanEntry<T>>(
     m: &PlannedModulus<T>,
     xs: &mut [T],
-    table: &[Factor<T>],
+    table: &[F],
     b: usize,
     last: usize,
 ) {
@@ -195,10 +202,11 @@ pub fn join<T: PlainWord>(
 /// Joins the blocks as `join` does, each coefficient times a factor: by the inverse modulo m of the
 /// number of blocks they are the coefficients themselves. Conditions: those of `join`; w is a factor
 /// modulo m.
-pub fn join_scaled<T: PlainWord>(
+#[inline]
+pub fn join_scaled<T: PlainWord, F: PlanEntry<T>>(
     m: &PlannedModulus<T>,
     xs: &mut [T],
-    table: &[Factor<T>],
+    table: &[F],
     b: usize,
     last: usize,
     w: &Factor<T>,

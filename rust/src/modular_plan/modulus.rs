@@ -10,6 +10,7 @@ use crate::modular_word::ring_word::RingWord;
 ///
 /// Source: Harvey, "Faster arithmetic for number-theoretic transforms", section 3, after Shoup.
 #[derive(Debug, PartialEq, Eq)]
+#[must_use]
 pub struct Factor<T: PathWord> {
     /// The factor.
     pub value: T,
@@ -18,6 +19,7 @@ pub struct Factor<T: PathWord> {
 }
 
 impl<T: PathWord> Clone for Factor<T> {
+    #[inline]
     fn clone(&self) -> Self {
         *self
     }
@@ -28,6 +30,7 @@ impl<T: PathWord> Copy for Factor<T> {}
 /// A modulus m with what is computed once of it. It is from 1 to a fourth of the number of words, so
 /// that words below 4m are at hand for sums that aren't reduced.
 #[derive(Debug, PartialEq, Eq)]
+#[must_use]
 pub struct PlannedModulus<T: PathWord> {
     /// The modulus.
     pub modulus: T,
@@ -36,6 +39,7 @@ pub struct PlannedModulus<T: PathWord> {
 }
 
 impl<T: PathWord> Clone for PlannedModulus<T> {
+    #[inline]
     fn clone(&self) -> Self {
         *self
     }
@@ -44,12 +48,14 @@ impl<T: PathWord> Clone for PlannedModulus<T> {
 impl<T: PathWord> Copy for PlannedModulus<T> {}
 
 /// The word, less a bound where it isn't below it. Condition: it is below twice the bound.
+#[inline]
 pub fn reduced_once<T: PathWord>(x: T, bound: T) -> T {
     if x.is_below(bound) { x } else { x.minus(bound) }
 }
 
 impl<T: PlainWord> PlannedModulus<T> {
     /// Whether plans admit the modulus m: it is at least 1, and 4m is at most the number of words.
+    #[inline]
     pub fn admits(m: T) -> bool {
         let greatest = T::one().shift_left(T::bits() - 2);
         if m.is_zero_word() {
@@ -60,6 +66,7 @@ impl<T: PlainWord> PlannedModulus<T> {
     }
 
     /// The modulus with its reciprocal. Condition: plans admit it (`admits` tells).
+    #[inline]
     pub fn new(m: T) -> Self {
         let shift = m.leading_zeros();
         let reciprocal = invert_word(m.shift_left(shift));
@@ -83,6 +90,7 @@ impl<T: PlainWord> PlannedModulus<T> {
     ///
     /// It takes the high word of one product and the low words of two. Source: Harvey, "Faster
     /// arithmetic for number-theoretic transforms", section 3.
+    #[inline]
     pub fn times(&self, x: T, w: &Factor<T>) -> T {
         let (_, whole) = T::split(x.product(w.quotient));
         let product = x.wrapping_mul(w.value);
@@ -90,11 +98,13 @@ impl<T: PlainWord> PlannedModulus<T> {
     }
 
     /// The residue of the product of any word x with a factor. Condition: the factor is one modulo m.
+    #[inline]
     pub fn product(&self, x: T, w: &Factor<T>) -> T {
         reduced_once(self.times(x, w), self.modulus)
     }
 
     /// The residue of the product of a word below m with any word. It divides by the reciprocal.
+    #[inline]
     pub fn multiply(&self, x: T, y: T) -> T {
         let divisor = self.modulus.shift_left(self.shift);
         let scaled = x.shift_left(self.shift);
@@ -103,16 +113,19 @@ impl<T: PlainWord> PlannedModulus<T> {
     }
 
     /// The word 2m.
+    #[inline]
     pub fn twice(&self) -> T {
         self.modulus.plus(self.modulus)
     }
 
     /// Whether a word is below 4m.
+    #[inline]
     pub fn has_room(&self, x: T) -> bool {
         x.half().is_below(self.twice())
     }
 
     /// The residue of a word. Condition: it is below 4m (`has_room` tells).
+    #[inline]
     pub fn residue(&self, x: T) -> T {
         reduced_once(reduced_once(x, self.twice()), self.modulus)
     }

@@ -1,17 +1,18 @@
 //! The plan: a table of the powers of a root, as factors, which the caller keeps.
 
-use crate::modular_plan::modulus::{Factor, PlannedModulus};
+use crate::modular_plan::entry::PlanEntry;
+use crate::modular_plan::modulus::PlannedModulus;
 use crate::modular_prim::plain_word::PlainWord;
 use crate::modular_transform::order::reverse_places;
 use crate::modular_word::path_word::PathWord;
 use crate::modular_word::ring_word::RingWord;
 
 // The powers 1, g, g^2, .. as factors.
-fn powers<T: PlainWord>(m: &PlannedModulus<T>, g: T, table: &mut [Factor<T>]) {
+fn powers<T: PlainWord, F: PlanEntry<T>>(m: &PlannedModulus<T>, g: T, table: &mut [F]) {
     let root = m.factor(g);
     let mut power = m.residue(T::one());
     'places: for place in 0..table.len() {
-        table[place] = m.factor(power);
+        table[place] = F::entry(m.factor(power));
         power = m.product(power, &root);
     }
 }
@@ -21,7 +22,8 @@ fn powers<T: PlainWord>(m: &PlannedModulus<T>, g: T, table: &mut [Factor<T>]) {
 ///
 /// Conditions: g is below m and suits n. The first entries of a plan are a plan for fewer entries, by
 /// the power of g that suits them.
-pub fn plan<T: PlainWord>(m: &PlannedModulus<T>, g: T, table: &mut [Factor<T>]) {
+#[inline]
+pub fn plan<T: PlainWord, F: PlanEntry<T>>(m: &PlannedModulus<T>, g: T, table: &mut [F]) {
     powers(m, g, table);
     let bits = table.len().trailing_zeros();
     reverse_places(table, bits);

@@ -1,10 +1,12 @@
 //! Products of blocks: of polynomials modulo X^last - c.
 
-use crate::modular_plan::modulus::{Factor, PlannedModulus, reduced_once};
+use crate::modular_plan::entry::PlanEntry;
+use crate::modular_plan::modulus::{PlannedModulus, reduced_once};
 use crate::modular_prim::plain_word::PlainWord;
 use crate::modular_word::path_word::PathWord;
 
 // Each entry times the one at its place.
+#[inline]
 fn multiply_each<T: PlainWord>(m: &PlannedModulus<T>, xs: &mut [T], ys: &[T]) {
     'entries: for i in 0..xs.len() {
         xs[i] = m.multiply(xs[i], ys[i]);
@@ -12,15 +14,16 @@ fn multiply_each<T: PlainWord>(m: &PlannedModulus<T>, xs: &mut [T], ys: &[T]) {
 }
 
 // The constant of block b·count + j of the tree, below or at m: an entry of the plan, or minus it.
-fn block_constant<T: PlainWord>(
+#[inline]
+fn block_constant<T: PlainWord, F: PlanEntry<T>>(
     m: &PlannedModulus<T>,
-    table: &[Factor<T>],
+    table: &[F],
     b: usize,
     count: usize,
     j: usize,
 ) -> T {
     let rest = b % 2 * count + j;
-    let w = table[b / 2 * count + rest / 2].value;
+    let w = table[b / 2 * count + rest / 2].factor().value;
     if rest % 2 == 0 { w } else { m.modulus.minus(w) }
 }
 
@@ -34,11 +37,12 @@ fn multiply_pair<T: PlainWord>(m: &PlannedModulus<T>, xs: &mut [T], ys: &[T], pl
 }
 
 // The products of blocks of two entries.
-fn multiply_pairs<T: PlainWord>(
+#[inline]
+fn multiply_pairs<T: PlainWord, F: PlanEntry<T>>(
     m: &PlannedModulus<T>,
     xs: &mut [T],
     ys: &[T],
-    table: &[Factor<T>],
+    table: &[F],
     b: usize,
 ) {
     let count = xs.len() / 2;
@@ -55,11 +59,12 @@ fn multiply_pairs<T: PlainWord>(
 /// Conditions: `last` is 1 or 2; the lists have one length, a multiple of `last`; the entries of xs are
 /// below m; the table's entries are factors modulo m, and there are (b + 1)·count/2 of them or more, count
 /// being the number of blocks. For `last` = 1 each entry is multiplied by the one at its place.
-pub fn multiply<T: PlainWord>(
+#[inline]
+pub fn multiply<T: PlainWord, F: PlanEntry<T>>(
     m: &PlannedModulus<T>,
     xs: &mut [T],
     ys: &[T],
-    table: &[Factor<T>],
+    table: &[F],
     b: usize,
     last: usize,
 ) {

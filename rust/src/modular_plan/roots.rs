@@ -5,6 +5,7 @@ use crate::modular_transform::transform::root_fits;
 use crate::modular_word::ring_word::RingWord;
 
 // (m - 1) / n, rounded down. Condition: n is a power of two.
+#[inline]
 fn exponent<T: RingWord, R: Reducer<T>>(r: &R, n: usize) -> T {
     let mut rest = r.residue(r.neg(r.transform(T::one())));
     'halvings: for _done in 0..n.trailing_zeros() {

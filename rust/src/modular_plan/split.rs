@@ -1,10 +1,12 @@
 //! From a polynomial to its remainders modulo X^last - c, in place, by stages.
 
+use crate::modular_plan::entry::PlanEntry;
 use crate::modular_plan::modulus::{Factor, PlannedModulus, reduced_once};
 use crate::modular_prim::plain_word::PlainWord;
 use crate::modular_word::path_word::PathWord;
 
 // x + y·w and x - y·w, below 4m.
+#[inline]
 fn split_values<T: PlainWord>(m: &PlannedModulus<T>, x: T, y: T, w: &Factor<T>) -> (T, T) {
     let twice = m.twice();
     let x = reduced_once(x, twice);
@@ -13,6 +15,7 @@ fn split_values<T: PlainWord>(m: &PlannedModulus<T>, x: T, y: T, w: &Factor<T>) 
 }
 
 // The pair at two places.
+#[inline]
 fn split_pair<T: PlainWord>(
     m: &PlannedModulus<T>,
     xs: &mut [T],
@@ -26,6 +29,7 @@ fn split_pair<T: PlainWord>(
 }
 
 // The pairs of the block from place `first` on.
+#[inline]
 fn split_block<T: PlainWord>(
     m: &PlannedModulus<T>,
     xs: &mut [T],
@@ -39,16 +43,18 @@ fn split_block<T: PlainWord>(
 }
 
 // All blocks of a stage, block p by entry first + p of the table.
-fn split_stage<T: PlainWord>(
+#[inline]
+fn split_stage<T: PlainWord, F: PlanEntry<T>>(
     m: &PlannedModulus<T>,
     xs: &mut [T],
     half: usize,
     blocks: usize,
-    table: &[Factor<T>],
+    table: &[F],
     first: usize,
 ) {
     'each_block: for p in 0..blocks {
-        split_block(m, xs, p * (half + half), half, &table[first + p]);
+        let w = table[first + p].factor();
+        split_block(m, xs, p * (half + half), half, &w);
     }
 }
 
@@ -99,22 +105,25 @@ fn split_quarters<T: PlainWord>(
 
 // Two stages of all blocks, block p by entry first + p of the table, and its halves by the entries at
 // twice that place.
-fn split_two_stages<T: PlainWord>(
+fn split_two_stages<T: PlainWord, F: PlanEntry<T>>(
     m: &PlannedModulus<T>,
     xs: &mut [T],
     q: usize,
     blocks: usize,
-    table: &[Factor<T>],
+    table: &[F],
     first: usize,
 ) {
     'four_quarters: for p in 0..blocks {
         let place = first + p;
-        let (u, v) = (&table[2 * place], &table[2 * place + 1]);
-        split_quarters(m, xs, p * (q + q + (q + q)), q, &table[place], u, v);
+        let w = table[place].factor();
+        let u = table[2 * place].factor();
+        let v = table[2 * place + 1].factor();
+        split_quarters(m, xs, p * (q + q + (q + q)), q, &w, &u, &v);
     }
 }
 
 // Each entry's residue.
+#[inline]
 pub(crate) fn reduce_each<T: PlainWord>(m: &PlannedModulus<T>, xs: &mut [T]) {
     'entries: for i in 0..xs.len() {
         xs[i] = m.residue(xs[i]);
@@ -123,6 +132,7 @@ pub(crate) fn reduce_each<T: PlainWord>(m: &PlannedModulus<T>, xs: &mut [T]) {
 
 /// Whether `split` takes a list of so many entries from block b down to blocks of `last`, by a plan of
 /// so many factors.
+#[inline]
 pub fn splits(length: usize, factors: usize, b: usize, last: usize) -> bool {
     if last == 0 {
         return false;
@@ -152,10 +162,10 @@ pub fn splits(length: usize, factors: usize, b: usize, last: usize) -> bool {
 /// Source: the sums and differences are those of Cooley and Tukey, with one factor a block, as
 /// Bernstein ("Multidigit multiplication for mathematicians", section 2) has them. A pass over the list
 /// does two stages where two are left.
-pub fn split<T: PlainWord>(
+pub fn split<T: PlainWord, F: PlanEntry<T>>(
     m: &PlannedModulus<T>,
     xs: &mut [T],
-    table: &[Factor<T>],
+    table: &[F],
     b: usize,
     last: usize,
 ) {

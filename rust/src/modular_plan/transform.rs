@@ -1,6 +1,7 @@
 //! The transform by a plan, in natural order.
 
-use crate::modular_plan::modulus::{Factor, PlannedModulus};
+use crate::modular_plan::entry::PlanEntry;
+use crate::modular_plan::modulus::PlannedModulus;
 use crate::modular_plan::split::split;
 use crate::modular_prim::plain_word::PlainWord;
 use crate::modular_transform::order::reverse_places;
@@ -13,7 +14,8 @@ use crate::modular_transform::order::reverse_places;
 /// factors; these are factors modulo m. Values are below m.
 ///
 /// Source: `split`, and the places with their bits in the opposite order.
-pub fn ntt_planned<T: PlainWord>(m: &PlannedModulus<T>, xs: &mut [T], table: &[Factor<T>]) {
+#[inline]
+pub fn ntt_planned<T: PlainWord, F: PlanEntry<T>>(m: &PlannedModulus<T>, xs: &mut [T], table: &[F]) {
     split(m, xs, table, 0, 1);
     let bits = xs.len().trailing_zeros();
     reverse_places(xs, bits);

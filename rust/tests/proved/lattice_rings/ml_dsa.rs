@@ -1,11 +1,11 @@
 //! The ring of FIPS 204 (ML-DSA): polynomials modulo X^256 + 1 over the residues of q = 8380417.
 
-use crate::modular_plan::convolution::convolve_negacyclic;
-use crate::modular_plan::join::join_scaled;
-use crate::modular_plan::modulus::{Factor, PlannedModulus};
-use crate::modular_plan::plan::plan;
-use crate::modular_plan::products::multiply;
-use crate::modular_plan::split::split;
+use num_modular::modular_plan::convolution::convolve_negacyclic;
+use num_modular::modular_plan::join::join_scaled;
+use num_modular::modular_plan::modulus::{Factor, PlannedModulus};
+use num_modular::modular_plan::plan::plan;
+use num_modular::modular_plan::products::multiply;
+use num_modular::modular_plan::split::split;
 use num_modular::modular_transform::laws::transform_laws;
 
 /// The modulus q.
@@ -16,6 +16,12 @@ pub const ZETA: u32 = 1753;
 
 // The inverse of 256.
 const PART: u32 = 8347681;
+
+/// The ring with its table, of 2 KB: zeta^BitRev8(k) modulo q for k from 0 to 255, each with its
+/// quotient; from k = 1 on these are the numbers of the standard's appendix B.
+///
+/// It is the plan by zeta itself, which suits 512 entries: below its block 1, modulo X^256 + 1, the
+/// constants are the odd powers zeta^(2·BitRev8(i) + 1), in the standard's order.
 pub struct Ring {
     modulus: PlannedModulus<u32>,
     part: Factor<u32>,

@@ -1,11 +1,11 @@
 //! The ring of FIPS 203 (ML-KEM): polynomials modulo X^256 + 1 over the residues of q = 3329.
 
-use crate::modular_plan::convolution::convolve_negacyclic;
-use crate::modular_plan::join::join_scaled;
-use crate::modular_plan::modulus::{Factor, PlannedModulus};
-use crate::modular_plan::plan::plan;
-use crate::modular_plan::products::multiply;
-use crate::modular_plan::split::split;
+use num_modular::modular_plan::convolution::convolve_negacyclic;
+use num_modular::modular_plan::join::join_scaled;
+use num_modular::modular_plan::modulus::{Factor, PlannedModulus};
+use num_modular::modular_plan::plan::plan;
+use num_modular::modular_plan::products::multiply;
+use num_modular::modular_plan::split::split;
 use num_modular::modular_transform::laws::transform_laws;
 
 /// The modulus q.
@@ -16,6 +16,13 @@ pub const ZETA: u32 = 17;
 
 // The inverse of 128.
 const PART: u32 = 3303;
+
+/// The ring with its table, of 1 KB: zeta^BitRev7(k) modulo q for k from 0 to 127, the numbers of the
+/// standard's appendix A, each with its quotient.
+///
+/// It is the plan by zeta itself, which suits 256 entries: below its block 1, modulo X^256 + 1, the
+/// constants are the odd powers zeta^(2·BitRev7(i) + 1), in the standard's order. There is no root of
+/// one of order 512 modulo q, so the transform stops at remainders of two coefficients.
 pub struct Ring {
     modulus: PlannedModulus<u32>,
     part: Factor<u32>,

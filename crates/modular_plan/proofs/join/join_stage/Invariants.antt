@@ -8,7 +8,7 @@ abbrev pub invariant-each_block : goal.invariant-each_block
 invariant-each_block g l =
     let number = g.T.RingWord.number in
     let m = number l.m.modulus in
-    let w = numbers (λ f. number f.value) l.table in
+    let w = numbers g.F.PlanEntry.value l.table in
     record {
       entries : All (λ x. number x < 4 * m) l.xs;
       done : (g z : ℕ) → IsPlan m g z (length l.table) w

@@ -1,4 +1,4 @@
-use Rattle.std.proofs.Common.{◌≡◌, ℕ, ◌+◌, ◌-◌, ◌*◌, ◌%◌, ◌^◌, length, arith, subst, sym, refl}
+use Rattle.std.proofs.Common.{◌≡◌, ℕ, ◌+◌, ◌-◌, ◌*◌, ◌%◌, ◌^◌, length, arith, subst, sym, refl, ◌∙◌}
 use Rattle.modular_plan.specs.Plans.{numbers}
 use Rattle.modular_plan.specs.Steps.{IsMinusInverse}
 use Rattle.modular_plan.proofs.Entries.{number_read}
@@ -9,7 +9,7 @@ pub returns-then-place-eq0-clause-inverse : goal.returns-then-place-eq0-clause-i
 returns-then-place-eq0-clause-inverse g c =
     let n = g.T.RingWord.number in
     let m = n c.args.m.now.modulus in
-    let w = numbers (λ f. n f.value) c.args.table.now in
+    let w = numbers g.F.PlanEntry.value c.args.table.now in
     let first : 0 ≡ c.args.place = omega arith in
     λ root z plan. subst (λ p. IsMinusInverse m (w p) (n c.args.minus.value)) first
     (first_of_plan root z (length c.args.table.now) (n c.args.minus.value) w plan
@@ -19,13 +19,13 @@ pub returns-then-mirrored-table-clause-inverse : goal.returns-then-mirrored-tabl
 returns-then-mirrored-table-clause-inverse g c =
     let n = g.T.RingWord.number in
     let m = n c.args.m.now.modulus in
-    let w = numbers (λ f. n f.value) c.args.table.now in
+    let w = numbers g.F.PlanEntry.value c.args.table.now in
     let k = c.ilog2.result in
     let least = c.ilog2.ensures.power_le in
     let most = c.ilog2.ensures.next_power_gt in
     let power : ℕ = 1 * 2 ^ k % 18446744073709551616 in
     let at : ℕ = power + (power - 1 - (c.args.place - power)) in
-    let is = number_read (λ f. n f.value) c.args.table.now at c.index-table-mirrored.result
+    let is = c.factor.ensures.value ∙ number_read g.F.PlanEntry.value c.args.table.now at c.index-table-mirrored.result
     c.if-mirrored-table.true c.index-table-mirrored.is in
     let mirror = mirrored_place k c.args.place power least most (omega arith) refl in
     λ root z plan. subst (λ v. IsMinusInverse m (w c.args.place) v) (sym is)
@@ -35,7 +35,7 @@ returns-then-mirrored-table-clause-inverse g c =
 pub returns-else-mirrored-table-clause-inverse : goal.returns-else-mirrored-table-clause-inverse
 returns-else-mirrored-table-clause-inverse g c =
     let n = g.T.RingWord.number in
-    let w = numbers (λ f. n f.value) c.args.table.now in
+    let w = numbers g.F.PlanEntry.value c.args.table.now in
     let k = c.ilog2.result in
     let least = c.ilog2.ensures.power_le in
     let most = c.ilog2.ensures.next_power_gt in

@@ -17,7 +17,8 @@ returns-clause-factors g c =
     let new = c.reverse_places.new.entries in
     let whole = power_by_zeros (length old)
     (half_power (subst (λ n. IsPowerOfTwo (2 * n)) (omega arith) c.requires.suits.power_of_two)) (omega arith) in
-    all_reordered (λ f. IsFactor g.T.PathWord.base m (n f.value) (n f.quotient)) (trailing_zeros w64 (length old))
+    all_reordered (λ f. IsFactor g.T.PathWord.base m (g.F.PlanEntry.value f) (g.F.PlanEntry.quotient f))
+    (trailing_zeros w64 (length old))
     (length old) old new whole refl (omega arith)
     c.reverse_places.ensures c.powers.ensures.factors
 
@@ -31,6 +32,6 @@ returns-clause-plan g c =
     let whole = power_by_zeros (length old)
     (half_power (subst (λ n. IsPowerOfTwo (2 * n)) (omega arith) c.requires.suits.power_of_two)) (omega arith) in
     λ z e.
-    planned (λ f. n f.value) m (n c.args.g) (length c.args.table.now)
+    planned g.F.PlanEntry.value m (n c.args.g) (length c.args.table.now)
     (trailing_zeros w64 (length old)) z old new c.requires.suits e (omega (arith, whole, len)) len (omega arith)
     c.reverse_places.ensures c.powers.ensures.powers

@@ -1,4 +1,4 @@
-use Rattle.std.proofs.Common.{◌*◌, ◌%◌, ◌^◌, ◌<◌, length, ◌∙◌, ap, arith}
+use Rattle.std.proofs.Common.{◌*◌, ◌%◌, ◌^◌, ◌<◌, length, ◌∙◌, ap, arith, subst, sym}
 use Rattle.std.proofs.Math.Nat.{mod-lt}
 use Rattle.modular_plan.specs.Factors.{IsFactor}
 use Rattle.modular_plan.proofs.Entries.{entry_done}
@@ -38,13 +38,17 @@ places-preserved g c =
     let table = c.places.table in
     let root = n c.args.g in
     let within : i < length table = omega arith in
+    let base = g.T.PathWord.base in
+    let entered : IsFactor base m (g.F.PlanEntry.value c.entry.result) (g.F.PlanEntry.quotient c.entry.result) =
+    subst (λ v. IsFactor base m v (g.F.PlanEntry.quotient c.entry.result)) (sym c.entry.ensures.value)
+    (subst (IsFactor base m (n c.factor.result.value)) (sym c.entry.ensures.quotient) c.factor.ensures.factor) in
     record {
       power = power_next m root i _ _ before.power
           (c.product-power.ensures ∙ ap (λ v. (n c.places.power * v) % m) c.factor-root.ensures.value);
-      factors = factors_more (λ f. IsFactor g.T.PathWord.base m (n f.value) (n f.quotient)) table i c.factor.result
-          within before.factors c.factor.ensures.factor;
-      powers = entry_done (λ f. n f.value) table i c.factor.result (λ k. root ^ k % m) within before.powers
-          (c.factor.ensures.value ∙ before.power);
+      factors = factors_more (λ f. IsFactor base m (g.F.PlanEntry.value f) (g.F.PlanEntry.quotient f)) table i
+          c.entry.result within before.factors entered;
+      powers = entry_done g.F.PlanEntry.value table i c.entry.result (λ k. root ^ k % m) within before.powers
+          (c.entry.ensures.value ∙ c.factor.ensures.value ∙ before.power);
     }
 
 pub returns : goal.returns

@@ -11,6 +11,7 @@ invariant-places g l =
     record {
       power : number l.power ≡ number l.fn.g ^ l.place % m;
       factors : (k : ℕ) (d : _) → k < l.place
-          → IsFactor g.T.PathWord.base m (number (get_or l.table k d).value) (number (get_or l.table k d).quotient);
-      powers : (k : ℕ) → k < l.place → numbers (λ f. number f.value) l.table k ≡ number l.fn.g ^ k % m;
+          → IsFactor g.T.PathWord.base m (g.F.PlanEntry.value (get_or l.table k d))
+          (g.F.PlanEntry.quotient (get_or l.table k d));
+      powers : (k : ℕ) → k < l.place → numbers g.F.PlanEntry.value l.table k ≡ number l.fn.g ^ k % m;
     }

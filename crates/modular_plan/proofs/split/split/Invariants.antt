@@ -7,13 +7,14 @@ use Rattle.modular_plan.proofs.split.split.Given as goal
 abbrev pub invariant-stages : goal.invariant-stages
 invariant-stages g l =
     let number = g.T.RingWord.number in
+    let value = g.F.PlanEntry.value in
     let m = number l.m.modulus in
     record {
       rest : ℕ;
       sized : l.size ≡ 2 ^ rest * l.last;
       counted : l.blocks * 2 ^ rest ≡ length l.fn.xs / l.last;
       entries : All (λ x. number x < 4 * m) l.xs;
-      level : (g z : ℕ) → IsPlan m g z (length l.table) (numbers (λ f. number f.value) l.table)
+      level : (g z : ℕ) → IsPlan m g z (length l.table) (numbers value l.table)
           → IsLevel m g z l.b l.blocks l.size (numbers number l.fn.xs) (numbers number l.xs);
     }
 

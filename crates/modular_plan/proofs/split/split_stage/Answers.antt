@@ -1,4 +1,4 @@
-use Rattle.std.proofs.Common.{◌+◌, ◌*◌, ◌<◌, length, arith, subst}
+use Rattle.std.proofs.Common.{◌+◌, ◌*◌, ◌<◌, length, ◌∙◌, arith, subst}
 use Rattle.modular_plan.specs.Plans.{numbers}
 use Rattle.modular_plan.specs.Steps.{IsPairSplit, BlockDone}
 use Rattle.modular_plan.proofs.Entries.{number_read}
@@ -12,7 +12,7 @@ each_block-preserved g c =
     let p = c.each_block.p in
     let half = c.args.half in
     let within : c.args.first + p < length c.args.table.now = omega arith in
-    let factor = number_read (λ f. n f.value) c.args.table.now
+    let factor = c.factor-w.ensures.value ∙ number_read g.F.PlanEntry.value c.args.table.now
     (c.args.first + p) c.index-table-first.result within c.index-table-first.is in
     record {
       entries = c.split_block.ensures.entries;

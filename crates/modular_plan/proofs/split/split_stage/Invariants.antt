@@ -9,6 +9,6 @@ invariant-each_block g l =
     let number = g.T.RingWord.number in
     record {
       entries : All (λ x. number x < 4 * number l.m.modulus) l.xs;
-      done : StageDone (λ p. IsPairSplit (number l.m.modulus) (numbers (λ f. number f.value) l.table (l.first + p)))
+      done : StageDone (λ p. IsPairSplit (number l.m.modulus) (numbers g.F.PlanEntry.value l.table (l.first + p)))
           l.half l.p (numbers number l.fn.xs) (numbers number l.xs);
     }

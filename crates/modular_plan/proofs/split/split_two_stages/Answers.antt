@@ -1,4 +1,4 @@
-use Rattle.std.proofs.Common.{ℕ, ◌+◌, ◌*◌, arith, subst}
+use Rattle.std.proofs.Common.{ℕ, ◌+◌, ◌*◌, ◌∙◌, arith, subst}
 use Rattle.modular_plan.specs.Plans.{numbers}
 use Rattle.modular_plan.specs.Steps.{IsFourSplit, BlockOfFours}
 use Rattle.modular_plan.proofs.Entries.{number_read}
@@ -13,12 +13,13 @@ four_quarters-preserved g c =
     let p = c.four_quarters.p in
     let table = c.args.table.now in
     let place : ℕ = c.args.first + p in
-    let factor = λ (k : ℕ). number_read (λ f. n f.value) table k in
-    let w = factor place c.index-table-place-in-four_quarters-2.result
-    (omega arith) c.index-table-place-in-four_quarters-2.is in
-    let u = factor (2 * place) c.index-table-place.result (omega arith) c.index-table-place.is in
-    let v = factor (2 * place + 1) c.index-table-place-in-four_quarters.result
+    let factor = λ (k : ℕ). number_read g.F.PlanEntry.value table k in
+    let w = c.factor-w.ensures.value ∙ factor place c.index-table-place.result
+    (omega arith) c.index-table-place.is in
+    let u = c.factor-u.ensures.value ∙ factor (2 * place) c.index-table-place-in-four_quarters.result
     (omega arith) c.index-table-place-in-four_quarters.is in
+    let v = c.factor-v.ensures.value ∙ factor (2 * place + 1) c.index-table-place-in-four_quarters-2.result
+    (omega arith) c.index-table-place-in-four_quarters-2.is in
     let first : ℕ = p * (q + q + (q + q)) in
     let x = numbers n c.four_quarters.xs in
     let y = numbers n c.split_quarters.new.xs in
@@ -26,12 +27,12 @@ four_quarters-preserved g c =
       entries = c.split_quarters.ensures.entries;
       done =
           stage_of_fours_more _ q p _ _ _ c.four_quarters.invariant.done
-          (subst (λ e. BlockOfFours (IsFourSplit m e (numbers (λ f. n f.value) table (2 * place))
-          (numbers (λ f. n f.value) table (2 * place + 1))) first q q x y) w
-          (subst (λ e. BlockOfFours (IsFourSplit m (n c.index-table-place-in-four_quarters-2.result.value) e
-          (numbers (λ f. n f.value) table (2 * place + 1))) first q q x y) u
-          (subst (λ e. BlockOfFours (IsFourSplit m (n c.index-table-place-in-four_quarters-2.result.value)
-          (n c.index-table-place.result.value) e) first q q x y) v
+          (subst (λ e. BlockOfFours (IsFourSplit m e (numbers g.F.PlanEntry.value table (2 * place))
+          (numbers g.F.PlanEntry.value table (2 * place + 1))) first q q x y) w
+          (subst (λ e. BlockOfFours (IsFourSplit m (n c.factor-w.result.value) e
+          (numbers g.F.PlanEntry.value table (2 * place + 1))) first q q x y) u
+          (subst (λ e. BlockOfFours (IsFourSplit m (n c.factor-w.result.value)
+          (n c.factor-u.result.value) e) first q q x y) v
           c.split_quarters.ensures.done)));
     }
 

@@ -8,7 +8,7 @@ abbrev pub invariant-four_quarters : goal.invariant-four_quarters
 invariant-four_quarters g l =
     let number = g.T.RingWord.number in
     let m = number l.m.modulus in
-    let w = numbers (λ f. number f.value) l.table in
+    let w = numbers g.F.PlanEntry.value l.table in
     record {
       entries : All (λ x. number x < 4 * m) l.xs;
       done : StageOfFours (λ p. IsFourSplit m (w (l.first + p)) (w (2 * (l.first + p))) (w (2 * (l.first + p) + 1))) l.q

@@ -3,3 +3,4 @@
 mod any_modulus;
 mod fixed;
 mod proth;
+mod restored;

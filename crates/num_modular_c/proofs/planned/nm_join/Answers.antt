@@ -1,0 +1,6 @@
+use Rattle.std.proofs.Common.{rules}
+use Rattle.num_modular_c.proofs.planned.nm_join.Goals as goal
+
+pub returns-then-code-eq-NM_OK-clause-did : goal.returns-then-code-eq-NM_OK-clause-did
+returns-then-code-eq-NM_OK-clause-did c split factors =
+    (search rules, (rw c.new.ensures at c.join.ensures.below, rw c.new.ensures at c.join.ensures.joined))

@@ -1,0 +1,62 @@
+-- Plans for C, and the lists of words that calls by them take; each name is the library's own word.
+use Rattle.std.specs.Prelude.{◌≡◌, ℕ, ◌+◌, ◌*◌, ◌/◌, ◌^◌, ◌<◌, ◌≤◌, List, All, length}
+use Rattle.std.specs.Int.{IsPowerOfTwo}
+use Rattle.modular_plan.specs.Factors.{IsFactor}
+use Rattle.modular_plan.specs.Plans.{numbers, IsPlan, AreRemainders}
+use Rattle.num_modular_c.specs.declared.plans.NmFactor.{NmFactor}
+
+-- plans admit m: it is from 1 to 2^62
+abbrev pub IsAdmitted : ℕ → Type 0
+IsAdmitted m = (1 ≤ m) × (4 * m ≤ 2 ^ 64)
+
+-- each word is below the bound
+abbrev pub AreBelow : ℕ → List ℕ → Type 0
+AreBelow bound words = All (λ x. x < bound) words
+
+-- the words of a list, by their places
+abbrev pub words_of : List ℕ → ℕ → ℕ
+words_of words = numbers (λ x. x) words
+
+-- each entry is a factor below m with its quotient by m
+abbrev pub AreFactors : ℕ → List NmFactor → Type 0
+AreFactors m table = All (λ f. IsFactor (2 ^ 64) m f.value f.quotient) table
+
+-- the table's values are the plan by g for transforms of 2^z entries
+abbrev pub IsPlanBy : ℕ → ℕ → ℕ → List NmFactor → Type 0
+IsPlanBy m g z table = IsPlan m g z (length table) (numbers (λ f. f.value) table)
+
+-- the table is the plan by g, with the quotients by m, for as many entries as twice its length
+pub record IsTable (m g : ℕ) (table : List NmFactor) : Type 0 where
+  pub factors : AreFactors m table
+  pub plan : (z : ℕ) → 2 ^ z ≡ 2 * length table → IsPlanBy m g z table
+
+-- the words are below 4m, and so many factors split them, as block b, into blocks of `last`
+pub record IsSplit (m factors b last : ℕ) (words : List ℕ) : Type 0 where
+  pub admitted : IsAdmitted m
+  pub room : AreBelow (4 * m) words
+  pub some : 1 ≤ last
+  pub count : IsPowerOfTwo (length words / last)
+  pub whole : length words / last * last ≡ length words
+  pub within : (b + 1) * (length words / last / 2) ≤ factors
+
+-- two lists of words below 4m of one length, of which so many factors give the product as block b by blocks of `last`
+pub record IsPair (m factors b last : ℕ) (words others : List ℕ) : Type 0 where
+  pub admitted : IsAdmitted m
+  pub room : AreBelow (4 * m) words
+  pub other_room : AreBelow (4 * m) others
+  pub equal : length others ≡ length words
+  pub some : 1 ≤ last
+  pub few : last ≤ 2
+  pub count : IsPowerOfTwo (length words / last)
+  pub whole : length words / last * last ≡ length words
+  pub within : (b + 1) * (length words / last) ≤ 2 * factors
+
+-- after a product: entry e is p e for each plan by g, the words are below m, and
+-- the other list holds the remainders of block b that `split` leaves of it
+pub record IsPlannedProduct (m b last : ℕ) (table : List NmFactor) (p : ℕ → ℕ → ℕ → ℕ)
+    (others words new_others : List ℕ) : Type 0 where
+  pub below : AreBelow m words
+  pub product : (g z e : ℕ) → IsPlanBy m g z table → e < length words → words_of words e ≡ p g z e
+  pub others_below : AreBelow m new_others
+  pub remainders : (g z : ℕ) → IsPlanBy m g z table
+      → AreRemainders m g z b (length others / last) last (words_of others) (words_of new_others)

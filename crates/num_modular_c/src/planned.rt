@@ -1,0 +1,231 @@
+//! Transforms and products of lists of words by a plan.
+
+ghost use Rattle.std.specs.Prelude.{◌≡◌, ℕ, ◌+◌, ◌-◌, ◌*◌, ◌/◌, ◌%◌, ◌^◌, ◌<◌, ◌↔◌, IsTrue, length};
+ghost use Rattle.modular_plan.specs.Plans.{constant, AreRemainders};
+ghost use Rattle.modular_plan.specs.Products.{product_modulo};
+ghost use Rattle.num_modular.specs.Inverses.{HasInverse};
+ghost use Rattle.num_modular.specs.Transforms.{transform, cyclic_product};
+ghost use Rattle.num_modular_c.specs.Codes.{Did, Refused, BothRefused};
+ghost use Rattle.num_modular_c.specs.Plans.{words_of, AreBelow, AreFactors, IsPlanBy};
+ghost use Rattle.num_modular_c.specs.Plans.{IsSplit, IsPair, IsPlannedProduct};
+
+use crate::codes::{NM_BAD_ARGUMENT, NM_BAD_CONTEXT, NM_NO_INVERSE, NM_OK};
+use crate::plans::{NmFactor, are_factors};
+use modular_plan::convolution::{convolve_negacyclic, convolve_planned, convolves};
+use modular_plan::join::join;
+use modular_plan::modulus::PlannedModulus;
+use modular_plan::split::{split, splits};
+use modular_plan::transform::ntt_planned;
+
+// Whether each word is below 4m.
+fn have_room(m: &PlannedModulus<u64>, words: &[u64]) -> bool
+    ensures { IsTrue result ↔ AreBelow (4 * m.now.modulus) words.now }
+{
+    'words: for place in 0..words.len() {
+        if !m.has_room(words[place]) {
+            return false;
+        }
+    }
+    true
+}
+
+// Whether a list splits.
+fn is_split(m: u64, words: &[u64], factors: usize, b: usize, last: usize) -> bool
+    ensures { IsTrue result ↔ IsSplit m factors b last words.now }
+{
+    PlannedModulus::<u64>::admits(m)
+        && splits(words.len(), factors, b, last)
+        && have_room(&PlannedModulus::<u64>::new(m), words)
+}
+
+// What a call by a plan answers of a list before it works.
+fn split_code(m: u64, words: &[u64], table: &[NmFactor], b: usize, last: usize) -> u32
+    ensures fits { let admitted = IsSplit m (length table.now) b last words.now in
+        (result ≡ NM_OK) ↔ (admitted × AreFactors m table.now) }
+    ensures bad_context { IsSplit m (length table.now) b last words.now → (AreFactors m table.now → ⊥)
+        → result ≡ NM_BAD_CONTEXT }
+    ensures bad_argument { (IsSplit m (length table.now) b last words.now → ⊥) → result ≡ NM_BAD_ARGUMENT }
+{
+    if !is_split(m, words, table.len(), b, last) {
+        return NM_BAD_ARGUMENT;
+    }
+    if are_factors(m, table) {
+        NM_OK
+    } else {
+        NM_BAD_CONTEXT
+    }
+}
+
+/// Puts the transform by a plan in place of the n words: at place j the sum of x_i·h^(i·j) modulo m, h
+/// being the root that the plan is for, or that power of it that suits n words where the plan is for more.
+///
+/// `NM_BAD_ARGUMENT`: m is 0 or above 2^62, a word isn't below 4m, n is no power of two or above twice
+/// the length of the table. `NM_BAD_CONTEXT`: an entry of the table is no factor modulo m with its
+/// quotient. Where the table is no plan, the words that are left are below m and say nothing.
+#[unsafe(no_mangle)]
+pub extern "C" fn nm_ntt_planned(m: u64, xs: &mut [u64], table: &[NmFactor]) -> u32
+    ensures did { let n = length xs.old in
+        IsSplit m (length table.now) 0 1 xs.old → AreFactors m table.now → Did result (AreBelow m xs.new
+        × ((g z j : ℕ) → IsPlanBy m g z table.now → j < n → words_of xs.new j
+        ≡ transform m (g ^ (2 ^ z / n)) n (words_of xs.old) j)) }
+    ensures bad_context { IsSplit m (length table.now) 0 1 xs.old → (AreFactors m table.now → ⊥)
+        → Refused NM_BAD_CONTEXT result xs.old xs.new }
+    ensures bad_argument { (IsSplit m (length table.now) 0 1 xs.old → ⊥)
+        → Refused NM_BAD_ARGUMENT result xs.old xs.new }
+{
+    let code = split_code(m, xs, table, 0, 1);
+    if code == NM_OK {
+        ntt_planned(&PlannedModulus::<u64>::new(m), xs, table);
+    }
+    code
+}
+
+/// Splits block b of the tree of remainders into blocks of `last` words, in place: word i of block j
+/// becomes the sum over k of x_(k·last + i)·c^k modulo m, c being the power of the plan's root by the
+/// reversed bits of b·count + j, and count the number of blocks.
+///
+/// `NM_BAD_ARGUMENT`: m is 0 or above 2^62, a word isn't below 4m, n is no power of two times `last`, or
+/// the table has fewer than (b + 1)·count/2 entries. `NM_BAD_CONTEXT`: as `nm_ntt_planned`.
+#[unsafe(no_mangle)]
+pub extern "C" fn nm_split(m: u64, xs: &mut [u64], table: &[NmFactor], b: usize, last: usize) -> u32
+    ensures did { let count = length xs.old / last in
+        IsSplit m (length table.now) b last xs.old → AreFactors m table.now → Did result (AreBelow m xs.new
+        × ((g z : ℕ) → IsPlanBy m g z table.now
+        → AreRemainders m g z b count last (words_of xs.old) (words_of xs.new))) }
+    ensures bad_context { IsSplit m (length table.now) b last xs.old → (AreFactors m table.now → ⊥)
+        → Refused NM_BAD_CONTEXT result xs.old xs.new }
+    ensures bad_argument { (IsSplit m (length table.now) b last xs.old → ⊥)
+        → Refused NM_BAD_ARGUMENT result xs.old xs.new }
+{
+    let code = split_code(m, xs, table, b, last);
+    if code == NM_OK {
+        split(&PlannedModulus::<u64>::new(m), xs, table, b, last);
+    }
+    code
+}
+
+/// Joins the blocks of `last` words into block b, the way back from `nm_split`: where the words are the
+/// remainders of a list, each word of the list times the number of blocks, modulo m, comes back. The
+/// codes are those of `nm_split`.
+#[unsafe(no_mangle)]
+pub extern "C" fn nm_join(m: u64, xs: &mut [u64], table: &[NmFactor], b: usize, last: usize) -> u32
+    ensures did { let count = length xs.old / last in
+        IsSplit m (length table.now) b last xs.old → AreFactors m table.now → Did result (AreBelow m xs.new
+        × ((g z : ℕ) (x : ℕ → ℕ) → IsPlanBy m g z table.now
+        → AreRemainders m g z b count last x (λ i. words_of xs.old i % m)
+        → (i : ℕ) → i < length xs.old → words_of xs.new i ≡ (count * x i) % m)) }
+    ensures bad_context { IsSplit m (length table.now) b last xs.old → (AreFactors m table.now → ⊥)
+        → Refused NM_BAD_CONTEXT result xs.old xs.new }
+    ensures bad_argument { (IsSplit m (length table.now) b last xs.old → ⊥)
+        → Refused NM_BAD_ARGUMENT result xs.old xs.new }
+{
+    let code = split_code(m, xs, table, b, last);
+    if code == NM_OK {
+        join(&PlannedModulus::<u64>::new(m), xs, table, b, last);
+    }
+    code
+}
+
+// Whether two lists are multiplied.
+fn is_pair(m: u64, xs: &[u64], ys: &[u64], factors: usize, b: usize, last: usize) -> bool
+    ensures { IsTrue result ↔ IsPair m factors b last xs.now ys.now }
+{
+    if !PlannedModulus::<u64>::admits(m) {
+        return false;
+    }
+    let modulus = PlannedModulus::<u64>::new(m);
+    xs.len() == ys.len()
+        && convolves(xs.len(), factors, b, last)
+        && have_room(&modulus, xs)
+        && have_room(&modulus, ys)
+}
+
+// What a product by a plan answers before it works.
+fn pair_code(m: u64, xs: &[u64], ys: &[u64], table: &[NmFactor], b: usize, last: usize) -> u32
+    ensures fits { let admitted = IsPair m (length table.now) b last xs.now ys.now in
+        (result ≡ NM_OK) ↔ (admitted × AreFactors m table.now) }
+    ensures bad_context { IsPair m (length table.now) b last xs.now ys.now → (AreFactors m table.now → ⊥)
+        → result ≡ NM_BAD_CONTEXT }
+    ensures bad_argument { (IsPair m (length table.now) b last xs.now ys.now → ⊥) → result ≡ NM_BAD_ARGUMENT }
+{
+    if !is_pair(m, xs, ys, table.len(), b, last) {
+        return NM_BAD_ARGUMENT;
+    }
+    if are_factors(m, table) {
+        NM_OK
+    } else {
+        NM_BAD_CONTEXT
+    }
+}
+
+/// Puts the cyclic product of two lists of n words in place of the first, and in that of the second what
+/// `nm_split` leaves of it for b = 0: at place e the sum of x_i·y_j modulo m over i + j = e or e + n.
+///
+/// `NM_BAD_ARGUMENT`: m is 0 or above 2^62, a word isn't below 4m, the lengths differ, `last` isn't 1 or 2,
+/// n/last is no power of two, or the table has fewer than n/last/2 entries, or none. `NM_BAD_CONTEXT`: as
+/// `nm_ntt_planned`. `NM_NO_INVERSE`: n/last has no inverse modulo m.
+#[unsafe(no_mangle)]
+pub extern "C" fn nm_convolve_planned(
+    m: u64,
+    xs: &mut [u64],
+    ys: &mut [u64],
+    table: &[NmFactor],
+    last: usize,
+) -> u32
+    ensures did { let n = length xs.old in
+        IsPair m (length table.now) 0 last xs.old ys.old → AreFactors m table.now → HasInverse m (n / last)
+        → Did result (IsPlannedProduct m 0 last table.now
+        (λ g z e. cyclic_product m n (words_of xs.old) (words_of ys.old) e) ys.old xs.new ys.new) }
+    ensures no_inverse { IsPair m (length table.now) 0 last xs.old ys.old → AreFactors m table.now
+        → (HasInverse m (length xs.old / last) → ⊥)
+        → BothRefused NM_NO_INVERSE result xs.old xs.new ys.old ys.new }
+    ensures bad_context { IsPair m (length table.now) 0 last xs.old ys.old → (AreFactors m table.now → ⊥)
+        → BothRefused NM_BAD_CONTEXT result xs.old xs.new ys.old ys.new }
+    ensures bad_argument { (IsPair m (length table.now) 0 last xs.old ys.old → ⊥)
+        → BothRefused NM_BAD_ARGUMENT result xs.old xs.new ys.old ys.new }
+{
+    let code = pair_code(m, xs, ys, table, 0, last);
+    if code != NM_OK {
+        return code;
+    }
+    if convolve_planned(&PlannedModulus::<u64>::new(m), xs, ys, table, last) {
+        NM_OK
+    } else {
+        NM_NO_INVERSE
+    }
+}
+
+/// Puts the product of two lists of n words modulo X^n + 1 in place of the first, and in that of the
+/// second what `nm_split` leaves of it for b = 1: at place e the sum of x_i·y_j modulo m over i + j = e,
+/// less that over i + j = e + n. The codes are those of `nm_convolve_planned`, but that the table has at
+/// least n/last entries.
+#[unsafe(no_mangle)]
+pub extern "C" fn nm_convolve_negacyclic(
+    m: u64,
+    xs: &mut [u64],
+    ys: &mut [u64],
+    table: &[NmFactor],
+    last: usize,
+) -> u32
+    ensures did { let n = length xs.old in
+        IsPair m (length table.now) 1 last xs.old ys.old → AreFactors m table.now → HasInverse m (n / last)
+        → Did result (IsPlannedProduct m 1 last table.now
+        (λ g z e. product_modulo m n (m - 1) (words_of xs.old) (words_of ys.old) e) ys.old xs.new ys.new) }
+    ensures no_inverse { IsPair m (length table.now) 1 last xs.old ys.old → AreFactors m table.now
+        → (HasInverse m (length xs.old / last) → ⊥)
+        → BothRefused NM_NO_INVERSE result xs.old xs.new ys.old ys.new }
+    ensures bad_context { IsPair m (length table.now) 1 last xs.old ys.old → (AreFactors m table.now → ⊥)
+        → BothRefused NM_BAD_CONTEXT result xs.old xs.new ys.old ys.new }
+    ensures bad_argument { (IsPair m (length table.now) 1 last xs.old ys.old → ⊥)
+        → BothRefused NM_BAD_ARGUMENT result xs.old xs.new ys.old ys.new }
+{
+    let code = pair_code(m, xs, ys, table, 1, last);
+    if code != NM_OK {
+        return code;
+    }
+    if convolve_negacyclic(&PlannedModulus::<u64>::new(m), xs, ys, table, last) {
+        NM_OK
+    } else {
+        NM_NO_INVERSE
+    }
+}

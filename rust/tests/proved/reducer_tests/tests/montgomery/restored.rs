@@ -1,0 +1,86 @@
+//! The two numbers that are computed once of a modulus, and which of them a reducer is restored by.
+
+use num_modular::modular_even::montgomery::Montgomery;
+use num_modular::modular_prim::plain_word::PlainWord;
+use num_modular::modular_reduced::reducer::Reducer;
+use crate::runtime::Abort;
+
+// Whether a reducer of m is restored by the two numbers.
+fn is_restored<T: PlainWord>(m: T, negated_inverse: T, square: T) -> bool {
+    match Montgomery::<T>::restored(m, negated_inverse, square) {
+        Some(ring) => ring.modulus() == m,
+        None => false,
+    }
+}
+
+// Whether these are the numbers of m, and the reducer of m is restored by them.
+fn are_computed<T: PlainWord>(m: T, negated_inverse: T, square: T) -> bool {
+    let computed = Montgomery::<T>::new(m).computed_once();
+    computed.0 == negated_inverse && computed.1 == square && is_restored(m, negated_inverse, square)
+}
+
+// The moduli 1, odd, even and powers of two, with their numbers.
+const COMPUTED: &[(u8, u8, u8)] = &[
+    (1, 255, 0),
+    (2, 255, 0),
+    (3, 85, 1),
+    (20, 51, 1),
+    (97, 95, 61),
+    (128, 255, 0),
+    (254, 129, 4),
+    (255, 1, 1),
+];
+
+// Rows are a modulus and its two numbers.
+fn assert_computed<T: PlainWord>(rt: &impl Abort, rows: &[(T, T, T)]) {
+    for &(m, negated_inverse, square) in rows {
+        assert!(!m.is_zero_word());
+        assert!(are_computed(m, negated_inverse, square));
+    }
+}
+
+const COMPUTED_OF_64_BITS: &[(u64, u64, u64)] = &[
+    (1, 18446744073709551615, 0),
+    (20, 3689348814741910323, 1),
+    (97, 6656041676080766047, 35),
+    (9223372036854775808, 18446744073709551615, 0),
+    (18446744073709551557, 14694863923124558067, 3481),
+];
+
+#[test]
+fn computed() {
+    let rt = crate::runtime::HostRuntime;
+    assert_computed::<u8>(&rt, COMPUTED);
+    assert_computed::<u16>(&rt, &[(97, 23647, 35)]);
+    assert_computed::<u32>(&rt, &[(97, 2700958815, 61), (4294967295, 1, 1)]);
+    assert_computed::<u64>(&rt, COMPUTED_OF_64_BITS);
+}
+
+// Whether two numbers have one odd part; 0 has none.
+fn have_one_odd_part(m: u8, n: u8) -> bool {
+    m != 0 && n != 0 && m >> m.trailing_zeros() == n >> n.trailing_zeros()
+}
+
+#[test]
+fn changed_words() {
+    for &(m, negated_inverse, square) in COMPUTED {
+        for word in 0..=255u8 {
+            let one_part = have_one_odd_part(word, m);
+            assert!(is_restored(word, negated_inverse, square) == one_part);
+            assert!(is_restored(m, word, square) == (word == negated_inverse));
+            assert!(is_restored(m, negated_inverse, word) == (word == square));
+        }
+    }
+}
+
+#[test]
+fn changed_words_of_64_bits() {
+    let (m, negated_inverse, square) = (18446744073709551557u64, 14694863923124558067, 3481);
+    for bit in 0..64u32 {
+        let changed = 1 << bit;
+        assert!(!is_restored(m ^ changed, negated_inverse, square));
+        assert!(!is_restored(m, negated_inverse ^ changed, square));
+        assert!(!is_restored(m, negated_inverse, square ^ changed));
+    }
+    assert!(!is_restored::<u64>(0, 18446744073709551615, 0));
+}
