@@ -4,17 +4,17 @@ use Rattle.std.proofs.Common.{List, length, slice_index, refl, sym, ◌∙◌, a
 use Rattle.std.proofs.Math.Nat.{two-pow-succ, mod-eq_of_lt, add-mul-mod_self_right, mod-mod, mod-lt, mul-le-mul_right}
 use Rattle.std.proofs.lemmas.Nat.{div-mul-add, mod-mul-add, mul-pow, pow-add, pow_pos}
 use Rattle.std.proofs.lemmas.List.{map-id}
-use Rattle.modular_word.specs.Congruence.{Congruent}
-use Rattle.modular_word.specs.Sums.{sum_below}
-use Rattle.modular_word.proofs.Congruence.{of_equal, itself, turned, chained, added, multiplied, powered, residue_of}
-use Rattle.modular_word.proofs.Powers.{one-pow, pow-mul}
-use Rattle.modular_word.proofs.Sums.{sum_below-same, sum_below-congruent, sum_below-mul}
-use Rattle.modular_transform.specs.Orders.{bits_reversed}
-use Rattle.modular_transform.specs.Transforms.{Suits, transform}
-use Rattle.modular_transform.proofs.BitReversal.{bits_reversed_below, bits_reversed_of_high, bits_reversed_twice}
-use Rattle.modular_plan.specs.Plans.{numbers, constant, IsPlan, AreRemainders}
-use Rattle.modular_plan.specs.Products.{coefficient, product_modulo, AreProducts}
-use Rattle.modular_plan.proofs.Convolutions.{negacyclic, remainders_of_product}
+use Rattle.num_modular.specs.Congruence.{Congruent}
+use Rattle.num_modular.specs.Sums.{sum_below}
+use Rattle.num_modular.specs.NumberLaws.{of_equal, itself, turned, chained, added, multiplied, powered, residue_of}
+use Rattle.num_modular.specs.NumberLaws.{one-pow, pow-mul}
+use Rattle.num_modular.specs.NumberLaws.{sum_below-same, sum_below-congruent, sum_below-mul}
+use Rattle.num_modular.specs.Orders.{bits_reversed}
+use Rattle.num_modular.specs.Transforms.{Suits, transform}
+use Rattle.num_modular.specs.PlanLaws.{bits_reversed_below, bits_reversed_of_high, bits_reversed_twice}
+use Rattle.num_modular.specs.Plans.{numbers, constant, IsPlan, AreRemainders}
+use Rattle.num_modular.specs.PlanProducts.{coefficient, product_modulo, AreProducts}
+use Rattle.num_modular.specs.PlanLaws.{negacyclic, remainders_of_product}
 use Rattle.lattice_rings.specs.Rings.{value_at, IsRingProduct}
 
 -- words of 32 bits are their own numbers

@@ -1,12 +1,12 @@
 -- The numbers of FIPS 204, and its transform as remainders modulo X - c.
 use Rattle.std.proofs.Common.{◌≡◌, ℕ, ◌+◌, ◌*◌, ◌%◌, ◌^◌, ◌<◌, length, refl, sym, ◌∙◌, ap, arith}
-use Rattle.modular_word.specs.Congruence.{Congruent}
-use Rattle.modular_word.specs.Inverses.{HasInverse, IsInverse}
-use Rattle.modular_transform.specs.Orders.{bits_reversed}
-use Rattle.modular_transform.specs.Transforms.{Suits, transform}
-use Rattle.modular_plan.specs.Plans.{numbers, constant}
-use Rattle.modular_plan.specs.Products.{AreProducts}
-use Rattle.modular_plan.proofs.SmallProducts.{product_of_one}
+use Rattle.num_modular.specs.Congruence.{Congruent}
+use Rattle.num_modular.specs.Inverses.{HasInverse, IsInverse}
+use Rattle.num_modular.specs.Orders.{bits_reversed}
+use Rattle.num_modular.specs.Transforms.{Suits, transform}
+use Rattle.num_modular.specs.Plans.{numbers, constant}
+use Rattle.num_modular.specs.PlanProducts.{AreProducts}
+use Rattle.num_modular.specs.PlanLaws.{product_of_one}
 use Rattle.lattice_rings.specs.declared.ml_dsa.Ring.{Ring}
 use Rattle.lattice_rings.specs.Rings.{IsDsaTransform, IsDsaProduct}
 use Rattle.lattice_rings.proofs.Blocks.{IsRingPlan, plan_of, AreValues, value_same, preimage, preimage_values}

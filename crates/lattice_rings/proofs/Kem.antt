@@ -1,13 +1,13 @@
 -- The numbers of FIPS 203, and its transform as remainders modulo X^2 - c.
 use Rattle.std.proofs.Common.{◌≡◌, ℕ, ◌+◌, ◌*◌, ◌%◌, ◌^◌, ◌<◌, length, refl, sym, ◌∙◌, ap, arith, inl, inr}
 use Rattle.std.proofs.lemmas.Bool.{cases_eq}
-use Rattle.modular_word.specs.Congruence.{Congruent}
-use Rattle.modular_word.specs.Inverses.{HasInverse, IsInverse}
-use Rattle.modular_transform.specs.Orders.{bits_reversed}
-use Rattle.modular_transform.specs.Transforms.{Suits, transform}
-use Rattle.modular_plan.specs.Plans.{numbers, constant}
-use Rattle.modular_plan.specs.Products.{AreProducts}
-use Rattle.modular_plan.proofs.SmallProducts.{product_of_two_low, product_of_two_high}
+use Rattle.num_modular.specs.Congruence.{Congruent}
+use Rattle.num_modular.specs.Inverses.{HasInverse, IsInverse}
+use Rattle.num_modular.specs.Orders.{bits_reversed}
+use Rattle.num_modular.specs.Transforms.{Suits, transform}
+use Rattle.num_modular.specs.Plans.{numbers, constant}
+use Rattle.num_modular.specs.PlanProducts.{AreProducts}
+use Rattle.num_modular.specs.PlanLaws.{product_of_two_low, product_of_two_high}
 use Rattle.lattice_rings.specs.declared.ml_kem.Ring.{Ring}
 use Rattle.lattice_rings.specs.Rings.{IsKemTransform, IsKemProduct}
 use Rattle.lattice_rings.proofs.Blocks.{IsRingPlan, plan_of, AreValues, constant_is}

@@ -2,9 +2,9 @@
 -- Signature Standard", 2024, sections 2.3, 2.5 and 7.5 (ML-DSA: q = 8380417, zeta = 1753), and FIPS 203,
 -- "Module-Lattice-Based Key-Encapsulation Mechanism Standard", 2024, section 4.3 (ML-KEM: q = 3329, zeta = 17).
 use Rattle.std.specs.Prelude.{◌≡◌, ℕ, ◌+◌, ◌*◌, ◌%◌, ◌^◌, ◌<◌}
-use Rattle.modular_word.specs.Sums.{sum_below}
-use Rattle.modular_transform.specs.Orders.{bits_reversed}
-use Rattle.modular_plan.specs.Products.{coefficient}
+use Rattle.num_modular.specs.Sums.{sum_below}
+use Rattle.num_modular.specs.Orders.{bits_reversed}
+use Rattle.num_modular.specs.PlanProducts.{coefficient}
 
 -- the value at x of the polynomial with the n coefficients w, the constant first, modulo q
 abbrev pub value_at : ℕ → ℕ → (ℕ → ℕ) → ℕ → ℕ

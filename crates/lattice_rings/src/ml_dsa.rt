@@ -1,18 +1,15 @@
 //! The ring of FIPS 204 (ML-DSA): polynomials modulo X^256 + 1 over the residues of q = 8380417.
 
 ghost use Rattle.std.specs.Prelude.{◌≡◌, ℕ, ◌*◌, ◌%◌, ◌^◌, ◌<◌, ◌↔◌, IsTrue, All, slice_index};
-ghost use Rattle.modular_plan.specs.Factors.{IsFactor};
-ghost use Rattle.modular_plan.specs.Plans.{numbers};
-ghost use Rattle.modular_transform.specs.Orders.{bits_reversed};
+ghost use Rattle.num_modular.specs.Factors.{IsFactor};
+ghost use Rattle.num_modular.specs.Plans.{numbers};
+ghost use Rattle.num_modular.specs.Orders.{bits_reversed};
 ghost use Rattle.lattice_rings.specs.Rings.{IsDsaTransform, IsDsaProduct, IsRingProduct};
 
-use modular_plan::convolution::convolve_negacyclic;
-use modular_plan::join::join_scaled;
-use modular_plan::modulus::{Factor, PlannedModulus};
-use modular_plan::plan::plan;
-use modular_plan::products::multiply;
-use modular_plan::split::split;
-use modular_transform::laws::transform_laws;
+use num_modular::laws::transform_laws;
+use num_modular::plans::{
+    Factor, PlannedModulus, convolve_negacyclic, join_scaled, multiply, plan, split,
+};
 
 /// The modulus q.
 pub const MODULUS: u32 = 8380417;

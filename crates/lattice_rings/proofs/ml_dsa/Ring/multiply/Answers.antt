@@ -1,6 +1,6 @@
 use Rattle.std.proofs.Common.{◌/◌, length, slice_index, refl, arith}
-use Rattle.modular_plan.specs.Plans.{numbers}
-use Rattle.modular_plan.specs.Products.{AreProducts}
+use Rattle.num_modular.specs.Plans.{numbers}
+use Rattle.num_modular.specs.PlanProducts.{AreProducts}
 use Rattle.lattice_rings.proofs.Blocks.{IsRingPlan, multiplied_words, product_transformed}
 use Rattle.lattice_rings.proofs.Dsa.{ring_plan, transform_of, values_of_transform, product_of_places}
 use Rattle.lattice_rings.proofs.ml_dsa.Ring.multiply.Goals as goal

@@ -1,7 +1,7 @@
 use Rattle.std.proofs.Common.{◌^◌, ◌%◌, All, sym, ◌∙◌, ap, refl, subst}
-use Rattle.modular_plan.specs.Factors.{IsFactor}
-use Rattle.modular_transform.specs.Orders.{bits_reversed}
-use Rattle.modular_transform.specs.Transforms.{Suits}
+use Rattle.num_modular.specs.Factors.{IsFactor}
+use Rattle.num_modular.specs.Orders.{bits_reversed}
+use Rattle.num_modular.specs.Transforms.{Suits}
 use Rattle.lattice_rings.proofs.Dsa.{zeta_suits}
 use Rattle.lattice_rings.proofs.ml_dsa.Ring.new.Goals as goal
 

@@ -1,5 +1,5 @@
 use Rattle.std.proofs.Common.{◌≡◌, ◌/◌, ◌<◌, All, IsTrue, length, sym, arith, subst}
-use Rattle.modular_word.specs.Inverses.{HasInverse}
+use Rattle.num_modular.specs.Inverses.{HasInverse}
 use Rattle.lattice_rings.proofs.Blocks.{told, product_of}
 use Rattle.lattice_rings.proofs.Dsa.{ring_plan, number_inverse, transform_of}
 use Rattle.lattice_rings.proofs.ml_dsa.Ring.product.Goals as goal

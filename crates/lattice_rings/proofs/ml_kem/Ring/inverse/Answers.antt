@@ -1,6 +1,6 @@
 use Rattle.std.proofs.Common.{◌≡◌, ℕ, ◌*◌, ◌%◌, ◌/◌, ◌<◌, length, slice_index, ◌∙◌, sym, arith, subst}
 use Rattle.std.proofs.Math.Nat.{mod-mod}
-use Rattle.modular_word.specs.Congruence.{Congruent}
+use Rattle.num_modular.specs.Congruence.{Congruent}
 use Rattle.lattice_rings.proofs.Blocks.{AreValues, joined}
 use Rattle.lattice_rings.proofs.Kem.{ring_plan, back_suits, back_inverse, of_number}
 use Rattle.lattice_rings.proofs.Kem.{transform_of, values_of_transform, transform_same, before, before_values}
