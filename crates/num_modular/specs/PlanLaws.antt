@@ -1,5 +1,9 @@
 -- Laws of remainders and their products, which proofs of callers cite. The names are the library's own words.
 
+-- an entry of a plan, as `num_modular::plans` has it
+pub use Rattle.modular_plan.specs.declared.modulus.Factor.{Factor}
+-- what the test of a power of two answers
+pub use Rattle.modular_transform.proofs.PowersOfTwo.{power_of_two_tested}
 -- reversed bits: below the same power of two, with one bit more, and twice
 pub use Rattle.modular_transform.proofs.BitReversal.{bits_reversed_below, bits_reversed_of_high, bits_reversed_twice}
 -- products modulo X - c and X^2 - c, coefficient by coefficient
