@@ -1,5 +1,5 @@
 //! Links the static library that `rt lib` makes of the crate `modular_bench`, and with the feature
-//! `peers` FLINT.
+//! `peers` FLINT and NTL.
 
 use std::env;
 use std::path::Path;
@@ -13,23 +13,28 @@ fn main() {
     println!("cargo:rustc-env=RUSTC_VERSION={}", compiler());
     println!("cargo:rerun-if-changed={}", folder.join("libmodular_bench.a").display());
     if env::var_os("CARGO_FEATURE_PEERS").is_some() {
-        link_peers(&Path::new(&here).join("peers/flint.c"));
+        link_peers(&Path::new(&here).join("peers"));
     }
 }
 
-/// Compiles the steps over FLINT's calls.
-fn link_peers(source: &Path) {
+/// Compiles the steps over FLINT's and NTL's calls.
+fn link_peers(sources: &Path) {
     let folder = env::var("OUT_DIR").expect("cargo names the folder of what is built");
-    let object = Path::new(&folder).join("flint.o");
     let library = Path::new(&folder).join("libpeers.a");
-    let compiled = Command::new("cc").args(["-O2", "-c", "-o"]).arg(&object).arg(source).status();
-    assert!(compiled.is_ok_and(|status| status.success()), "cc compiles {}", source.display());
-    let joined = Command::new("ar").arg("crs").arg(&library).arg(&object).status();
-    assert!(joined.is_ok_and(|status| status.success()), "ar joins {}", library.display());
+    for (compiler, name) in [("cc", "flint.c"), ("c++", "ntl.cpp")] {
+        let source = sources.join(name);
+        let object = Path::new(&folder).join(name).with_extension("o");
+        let compiled = Command::new(compiler).args(["-O2", "-c", "-o"]).arg(&object).arg(&source).status();
+        assert!(compiled.is_ok_and(|status| status.success()), "{compiler} compiles {}", source.display());
+        let joined = Command::new("ar").arg("crs").arg(&library).arg(&object).status();
+        assert!(joined.is_ok_and(|status| status.success()), "ar joins {}", library.display());
+        println!("cargo:rerun-if-changed={}", source.display());
+    }
     println!("cargo:rustc-link-search=native={folder}");
     println!("cargo:rustc-link-lib=static=peers");
-    println!("cargo:rustc-link-lib=flint");
-    println!("cargo:rerun-if-changed={}", source.display());
+    for library in ["ntl", "flint", "gmp", "stdc++"] {
+        println!("cargo:rustc-link-lib={library}");
+    }
 }
 
 /// The compiler's name and version.

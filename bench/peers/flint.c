@@ -1,5 +1,7 @@
-/* FLINT's word-sized calls, in the steps of the functions of crates/modular_bench that stand beside them. */
+/* FLINT's word-sized calls, in the steps of the functions of crates/modular_bench that stand beside them, and its
+ * products of polynomials. */
 #include <flint/flint.h>
+#include <flint/nmod_poly.h>
 #include <flint/ulong_extras.h>
 #include <time.h>
 
@@ -97,4 +99,28 @@ ulong peer_jacobi_list(ulong x, ulong y, ulong m, ulong n)
     for (; n > 0; n--, x = y * x + 1)
         sum ^= number(n_jacobi_unsigned(x >> unused, m));
     return sum;
+}
+
+/* The product of two polynomials of n terms modulo p. */
+static nmod_poly_t first, second, product;
+
+void peer_flint_set(ulong p, const ulong *xs, const ulong *ys, slong n)
+{
+    nmod_poly_init(first, p);
+    nmod_poly_init(second, p);
+    nmod_poly_init(product, p);
+    for (slong i = 0; i < n; i++) {
+        nmod_poly_set_coeff_ui(first, i, xs[i]);
+        nmod_poly_set_coeff_ui(second, i, ys[i]);
+    }
+}
+
+void peer_flint_multiply(void)
+{
+    nmod_poly_mul(product, first, second);
+}
+
+ulong peer_flint_coefficient(slong i)
+{
+    return nmod_poly_get_coeff_ui(product, i);
 }

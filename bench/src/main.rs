@@ -4,8 +4,8 @@
 //! anything is measured the answers are compared; where they differ it says so and ends with status 1.
 //!
 //! With a folder as argument it writes speed.json and the tables of speed.md there, else it prints the
-//! tables. With `--peers` before it, which the feature `peers` brings, it measures the port beside FLINT in
-//! place of all that.
+//! tables. With `--peers` before it, which the feature `peers` brings, it measures the port beside FLINT and
+//! NTL in place of all that; with `--plans` the transforms by a plan alone.
 
 mod growth;
 mod lines;
@@ -13,6 +13,8 @@ mod measure;
 mod original;
 #[cfg(feature = "peers")]
 mod peers;
+#[cfg(feature = "peers")]
+mod plans;
 mod port;
 mod report;
 mod runs;
@@ -131,31 +133,61 @@ fn beside_peers() -> Option<Report> {
     })
 }
 
+#[cfg(feature = "peers")]
+fn plans_beside_peers() -> Option<Report> {
+    plans::agree().then(|| Report {
+        machine: format!("{}, NTL {} and FLINT {}", machine(), plans::version(), peers::version()),
+        tables: plans::measured(),
+        growth: Vec::new(),
+    })
+}
+
 #[cfg(not(feature = "peers"))]
 fn beside_peers() -> Option<Report> {
     eprintln!("built without the feature peers");
     None
 }
 
-fn main() -> ExitCode {
-    let mut words = env::args().skip(1).peekable();
-    let (report, place) = if words.next_if(|word| word == "--peers").is_some() {
-        (beside_peers(), Place { numbers: "speed-peers.json", command: "bench/run --peers" })
-    } else {
-        (beside_crate(), Place { numbers: "speed.json", command: "bench/run" })
-    };
-    let Some(report) = report else {
+#[cfg(not(feature = "peers"))]
+fn plans_beside_peers() -> Option<Report> {
+    beside_peers()
+}
+
+/// What is measured, and where it is written.
+type Part = (fn() -> Option<Report>, Place);
+
+fn parts(which: Option<String>) -> Vec<Part> {
+    let peers: Part = (beside_peers, Place { numbers: "speed-peers.json", command: "bench/run --peers" });
+    let plans: Part = (plans_beside_peers, Place { numbers: "speed-plans.json", command: "bench/run --plans" });
+    match which.as_deref() {
+        None => vec![(beside_crate, Place { numbers: "speed.json", command: "bench/run" })],
+        Some("--plans") => vec![plans],
+        Some(_) => vec![peers, plans],
+    }
+}
+
+/// Measures a part, and writes or prints it.
+fn carry_out((measure, place): Part, folder: Option<&str>) -> ExitCode {
+    let Some(report) = measure() else {
         eprintln!("nothing was measured");
         return ExitCode::from(1);
     };
-    match words.next() {
+    match folder {
         None => print!("{}", report.markdown()),
         Some(folder) => {
-            if let Err(error) = report.write(Path::new(&folder), &place) {
+            if let Err(error) = report.write(Path::new(folder), &place) {
                 eprintln!("{folder}: {error}");
                 return ExitCode::from(2);
             }
         }
     }
     ExitCode::SUCCESS
+}
+
+fn main() -> ExitCode {
+    let mut words = env::args().skip(1).peekable();
+    let parts = parts(words.next_if(|word| word.starts_with("--")));
+    let folder = words.next();
+    let statuses = parts.into_iter().map(|part| carry_out(part, folder.as_deref()));
+    statuses.into_iter().find(|status| *status != ExitCode::SUCCESS).unwrap_or(ExitCode::SUCCESS)
 }

@@ -58,7 +58,7 @@ pub fn version() -> String {
 }
 
 /// The thread's time.
-fn seconds() -> f64 {
+pub fn seconds() -> f64 {
     peer_seconds()
 }
 

@@ -22,7 +22,7 @@ fn port_solinas_ntt(xs: &mut [u64], g: u64) {
     assert!(unsafe { bench_solinas_ntt(xs.as_mut_ptr(), xs.len(), g) });
 }
 
-fn port_montgomery_ntt(xs: &mut [u64], g: u64) {
+pub fn port_montgomery_ntt(xs: &mut [u64], g: u64) {
     assert!(unsafe { bench_montgomery_ntt(xs.as_mut_ptr(), xs.len(), g) });
 }
 
@@ -30,7 +30,7 @@ fn port_solinas_convolve(xs: &mut [u64], ys: &mut [u64], g: u64) {
     assert!(unsafe { bench_solinas_convolve(xs.as_mut_ptr(), xs.len(), ys.as_mut_ptr(), ys.len(), g) });
 }
 
-fn port_montgomery_convolve(xs: &mut [u64], ys: &mut [u64], g: u64) {
+pub fn port_montgomery_convolve(xs: &mut [u64], ys: &mut [u64], g: u64) {
     assert!(unsafe { bench_montgomery_convolve(xs.as_mut_ptr(), xs.len(), ys.as_mut_ptr(), ys.len(), g) });
 }
 
@@ -113,7 +113,7 @@ fn montgomery() -> Montgomery<u64> {
 }
 
 /// 7 to the (m - 1)/n: a root of -1 to the half of n.
-fn root(n: usize) -> u64 {
+pub fn root(n: usize) -> u64 {
     let (mut power, mut product, mut rest) = (7u128, 1u128, (MODULUS - 1) / n as u64);
     while rest > 0 {
         if rest % 2 == 1 {

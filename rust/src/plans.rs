@@ -1,9 +1,11 @@
 //! Transforms by a plan: factors with their quotients in a table that the caller keeps, over moduli below a quarter of
-//! the base. `ring` has the transforms that need no table, over any reducer, and `find_root`.
+//! the base. An entry of the table is a `Factor`, or a struct of the caller's own that stands for one (`PlanEntry`).
+//! `ring` has the transforms that need no table, over any reducer, and `find_root`.
 
 pub use crate::modular_plan::convolution::{
     convolve_block, convolve_negacyclic, convolve_planned, convolves,
 };
+pub use crate::modular_plan::entry::PlanEntry;
 pub use crate::modular_plan::join::{join, join_scaled};
 pub use crate::modular_plan::modulus::{Factor, PlannedModulus};
 pub use crate::modular_plan::plan::plan;

@@ -12,6 +12,7 @@ mod dividers;
 mod fixed;
 mod lists;
 mod plain;
+mod plans;
 mod rings;
 mod runs;
 mod symbols;

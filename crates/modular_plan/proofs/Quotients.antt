@@ -1,5 +1,6 @@
 -- The arithmetic of products by a precomputed quotient, in words of which there are b.
-use Rattle.std.proofs.Common.{◌≡◌, ℕ, ◌+◌, ◌-◌, ◌*◌, ◌/◌, ◌%◌, ◌^◌, ◌<◌, ◌≤◌, sym, ap, ◌∙◌, arith, refl}
+use Rattle.std.proofs.Common.{◌≡◌, ℕ, ◌+◌, ◌-◌, ◌*◌, ◌/◌, ◌%◌, ◌^◌, ◌<◌, ◌≤◌, inl, inr, sym, ap, ◌∙◌, arith, refl}
+use Rattle.std.proofs.lemmas.Bool.{cases_lt}
 use Rattle.std.proofs.Math.Nat.{mod-lt, div-add-mod, mod-eq_of_lt, mul-le-mul_left}
 use Rattle.std.proofs.Math.Nat.{mul-le-mul_right, lt_of_mul-lt-mul_right, le_of_mul-le-mul_right}
 use Rattle.std.proofs.Math.Nat.{add-mul-mod_self_right, add-mod_right, add-mod}
@@ -80,6 +81,25 @@ pub once : (m x r : ℕ) → m ≤ x → x < 2 * m → r + m ≡ x → r ≡ x %
 once m x r low high e =
     let small : r < m = omega arith in
     sym (ap (λ v. v % m) (sym e) ∙ add-mod_right r m ∙ mod-eq_of_lt small)
+
+-- what wraps around when a bound is taken from a word
+pub record IsWrapped (m x r : ℕ) : Type 0 where
+  pub taken : r < x → r + m ≡ x
+  pub left : x ≤ r → x < m
+
+pub wrapped : (b m x r : ℕ) → m < b → r < b → x < 2 * m → (r + m) % b ≡ x
+    → IsWrapped m x r
+wrapped b m x r m_fits r_fits below e = elim (cases_lt (r + m) b) [
+  | inl less ↦
+      let is : r + m ≡ x = sym (mod-eq_of_lt less) ∙ e in
+      record { taken = λ l. is; left = λ l. omega (arith, is) }
+  | inr more ↦
+      let rest : (r + m - b) + b ≡ r + m = omega arith in
+      let small : r + m - b < b = omega arith in
+      let is : r + m - b ≡ x =
+      sym (mod-eq_of_lt small) ∙ sym (add-mod_right (r + m - b) b) ∙ ap (λ v. v % b) rest ∙ e in
+      record { taken = λ l. absurd (omega (arith, is, rest, l)); left = λ l. omega (arith, is, rest) }
+]
 
 -- a fourth of 2 ^ w
 pub fourth : (w b f : ℕ) → b ≡ 2 ^ w → 2 ≤ w → f ≡ 2 ^ (w - 2) → 4 * f ≡ b

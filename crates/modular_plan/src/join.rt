@@ -1,6 +1,6 @@
 //! From remainders modulo X^last - c back to the polynomial, in place, by stages.
 
-ghost use Rattle.std.specs.Prelude.{◌≡◌, ℕ, ◌+◌, ◌*◌, ◌/◌, ◌%◌, ◌<◌, ◌≤◌, All, length};
+ghost use Rattle.std.specs.Prelude.{◌≡◌, ℕ, ◌+◌, ◌*◌, ◌/◌, ◌%◌, ◌^◌, ◌<◌, ◌≤◌, All, length};
 ghost use Rattle.std.specs.Int.{IsPowerOfTwo};
 ghost use Rattle.modular_word.specs.Congruence.{Congruent};
 ghost use Rattle.modular_plan.specs.Factors.{IsFactor};
@@ -14,6 +14,15 @@ use crate::split::reduce_each;
 use modular_prim::plain_word::PlainWord;
 use modular_word::path_word::PathWord;
 use modular_word::ring_word::RingWord;
+
+// The place mirrored in its power of two, 2^k.
+fn mirrored(place: usize) -> usize
+    requires { 0 < place }
+    ensures { (k : ℕ) × (2 ^ k ≤ place) × (place < 2 * 2 ^ k) × (place + result + 1 ≡ 3 * 2 ^ k) }
+{
+    let power = 1 << place.ilog2();
+    power + (power - 1 - (place - power))
+}
 
 // Minus the inverse of an entry: the one at the place mirrored in its power of two, and -1 for the
 // first. Where the table is no plan the mirrored place may lie behind it.
@@ -36,12 +45,51 @@ fn minus_inverse<T: PlainWord, F: PlanEntry<T>>(
     if place == 0 {
         return minus;
     }
-    let power = 1 << place.ilog2();
-    let mirrored = power + (power - 1 - (place - power));
-    if mirrored < table.len() {
-        table[mirrored].factor()
+    let other = mirrored(place);
+    if other < table.len() {
+        table[other].factor()
     } else {
         minus
+    }
+}
+
+// Minus the inverses of a block's entry, and of those of its halves: from one mirrored place, since
+// those of the halves lie at twice that place, in the opposite order.
+fn minus_inverses<T: PlainWord, F: PlanEntry<T>>(
+    m: &PlannedModulus<T>,
+    table: &[F],
+    place: usize,
+    minus: Factor<T>,
+) -> (Factor<T>, Factor<T>, Factor<T>)
+    requires factors { All (λ f. IsFactor T.base (T.number m.now.modulus) (F.value f) (F.quotient f))
+        table.now }
+    requires minus_factor { IsFactor T.base (T.number m.now.modulus) (T.number minus.value) (T.number minus.quotient) }
+    requires minus { T.number minus.value + 1 ≡ T.number m.now.modulus }
+    requires within { 2 * place + 1 < length table.now }
+    ensures factor { IsFactor T.base (T.number m.now.modulus)
+        (T.number result.0.value) (T.number result.0.quotient) }
+    ensures low_factor { IsFactor T.base (T.number m.now.modulus)
+        (T.number result.1.value) (T.number result.1.quotient) }
+    ensures high_factor { IsFactor T.base (T.number m.now.modulus)
+        (T.number result.2.value) (T.number result.2.quotient) }
+    ensures inverses { let modulus = T.number m.now.modulus in
+        let w = numbers F.value table.now in (g z : ℕ) →
+        IsPlan modulus g z (length table.now) w → IsMinusInverse modulus (w place) (T.number result.0.value)
+        × IsMinusInverse modulus (w (2 * place)) (T.number result.1.value)
+        × IsMinusInverse modulus (w (2 * place + 1)) (T.number result.2.value) }
+{
+    if place == 0 {
+        return (minus, minus, table[1].factor());
+    }
+    let other = mirrored(place);
+    if other < table.len() / 2 {
+        (
+            table[other].factor(),
+            table[2 * other + 1].factor(),
+            table[2 * other].factor(),
+        )
+    } else {
+        (minus, minus, minus)
     }
 }
 
@@ -232,10 +280,7 @@ fn join_two_stages<T: PlainWord, F: PlanEntry<T>>(
         (numbers T.number xs.old) (numbers T.number xs.new) }
 {
     'four_quarters: for p in 0..blocks {
-        let place = first + p;
-        let w = minus_inverse(m, table, place, *minus);
-        let u = minus_inverse(m, table, 2 * place, *minus);
-        let v = minus_inverse(m, table, 2 * place + 1, *minus);
+        let (w, u, v) = minus_inverses(m, table, first + p, *minus);
         join_quarters(m, xs, p * (q + q + (q + q)), q, &w, &u, &v);
     }
 }

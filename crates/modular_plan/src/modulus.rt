@@ -61,13 +61,17 @@ impl<T: PathWord> Clone for PlannedModulus<T> {
 
 impl<T: PathWord> Copy for PlannedModulus<T> {}
 
-/// The word, less a bound where it isn't below it. Condition: it is below twice the bound.
+/// The word, less a bound where it isn't below it: the less of the word and of what wraps around when
+/// the bound is taken from it. Condition: it is below twice the bound.
 pub fn reduced_once<T: PathWord>(x: T, bound: T) -> T
     requires { T.number x < 2 * T.number bound }
     ensures value { T.number result ≡ T.number x % T.number bound }
     ensures below { T.number result < T.number bound }
 {
-    if x.is_below(bound) { x } else { x.minus(bound) }
+    // a word that was read is known to fit
+    let _ = bound.is_below(x);
+    let less = x.wrapping_sub(bound);
+    if less.is_below(x) { less } else { x }
 }
 
 impl<T: PlainWord> PlannedModulus<T> {

@@ -7,8 +7,16 @@ use crate::modular_prim::plain_word::PlainWord;
 use crate::modular_word::path_word::PathWord;
 use crate::modular_word::ring_word::RingWord;
 
+// The place mirrored in its power of two, 2^k.
+#[inline]
+fn mirrored(place: usize) -> usize {
+    let power = 1 << place.ilog2();
+    power + (power - 1 - (place - power))
+}
+
 // Minus the inverse of an entry: the one at the place mirrored in its power of two, and -1 for the
 // first. Where the table is no plan the mirrored place may lie behind it.
+#[inline]
 fn minus_inverse<T: PlainWord, F: PlanEntry<T>>(
     m: &PlannedModulus<T>,
     table: &[F],
@@ -18,12 +26,34 @@ fn minus_inverse<T: PlainWord, F: PlanEntry<T>>(
     if place == 0 {
         return minus;
     }
-    let power = 1 << place.ilog2();
-    let mirrored = power + (power - 1 - (place - power));
-    if mirrored < table.len() {
-        table[mirrored].factor()
+    let other = mirrored(place);
+    if other < table.len() {
+        table[other].factor()
     } else {
         minus
+    }
+}
+
+// Minus the inverses of a block's entry, and of those of its halves: from one mirrored place, since
+// those of the halves lie at twice that place, in the opposite order.
+fn minus_inverses<T: PlainWord, F: PlanEntry<T>>(
+    m: &PlannedModulus<T>,
+    table: &[F],
+    place: usize,
+    minus: Factor<T>,
+) -> (Factor<T>, Factor<T>, Factor<T>) {
+    if place == 0 {
+        return (minus, minus, table[1].factor());
+    }
+    let other = mirrored(place);
+    if other < table.len() / 2 {
+        (
+            table[other].factor(),
+            table[2 * other + 1].factor(),
+            table[2 * other].factor(),
+        )
+    } else {
+        (minus, minus, minus)
     }
 }
 
@@ -138,10 +168,7 @@ fn join_two_stages<T: PlainWord, F: PlanEntry<T>>(
     minus: &Factor<T>,
 ) {
     'four_quarters: for p in 0..blocks {
-        let place = first + p;
-        let w = minus_inverse(m, table, place, *minus);
-        let u = minus_inverse(m, table, 2 * place, *minus);
-        let v = minus_inverse(m, table, 2 * place + 1, *minus);
+        let (w, u, v) = minus_inverses(m, table, first + p, *minus);
         join_quarters(m, xs, p * (q + q + (q + q)), q, &w, &u, &v);
     }
 }

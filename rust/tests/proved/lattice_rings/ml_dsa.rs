@@ -1,12 +1,9 @@
 //! The ring of FIPS 204 (ML-DSA): polynomials modulo X^256 + 1 over the residues of q = 8380417.
 
-use num_modular::modular_plan::convolution::convolve_negacyclic;
-use num_modular::modular_plan::join::join_scaled;
-use num_modular::modular_plan::modulus::{Factor, PlannedModulus};
-use num_modular::modular_plan::plan::plan;
-use num_modular::modular_plan::products::multiply;
-use num_modular::modular_plan::split::split;
-use num_modular::modular_transform::laws::transform_laws;
+use num_modular::laws::transform_laws;
+use num_modular::plans::{
+    Factor, PlannedModulus, convolve_negacyclic, join_scaled, multiply, plan, split,
+};
 
 /// The modulus q.
 pub const MODULUS: u32 = 8380417;

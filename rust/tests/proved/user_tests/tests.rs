@@ -1,5 +1,6 @@
 //! Values of each user, had from outside, the README's examples run, and each public item once.
 
+mod big_products;
 mod check_symbols;
 mod each_client;
 mod examples;

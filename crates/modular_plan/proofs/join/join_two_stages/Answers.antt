@@ -11,11 +11,10 @@ four_quarters-init g c = record {
 pub four_quarters-preserved : goal.four_quarters-preserved
 four_quarters-preserved g c = record {
   entries = c.join_quarters.ensures.entries;
-  done =
-      λ root z plan. stage_of_fours_more _ c.args.q c.four_quarters.p _ _ _ (c.four_quarters.invariant.done root z plan)
-      (c.join_quarters.ensures.done _ _ _ (c.minus_inverse-w.ensures.inverse root z plan)
-      (c.minus_inverse-u.ensures.inverse root z plan)
-      (c.minus_inverse-v.ensures.inverse root z plan));
+  done = λ root z plan.
+      let are = c.minus_inverses-w.ensures.inverses root z plan in
+      stage_of_fours_more _ c.args.q c.four_quarters.p _ _ _ (c.four_quarters.invariant.done root z plan)
+      (c.join_quarters.ensures.done _ _ _ are.0 are.1 are.2);
 }
 
 pub returns-clause-done : goal.returns-clause-done

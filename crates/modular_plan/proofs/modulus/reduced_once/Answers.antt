@@ -1,18 +1,31 @@
 use Rattle.std.proofs.Common.{◌≤◌, arith, sym}
 use Rattle.std.proofs.Math.Nat.{mod-eq_of_lt}
-use Rattle.modular_plan.proofs.Quotients.{once}
+use Rattle.modular_plan.proofs.Quotients.{once, wrapped, IsWrapped}
 use Rattle.modular_plan.proofs.modulus.reduced_once.Goals as goal
+use Rattle.modular_plan.proofs.modulus.reduced_once.Goals.{After-wrapping_sub-less}
+
+-- what the word is when the bound is taken from it
+taken : (g : _) (c : After-wrapping_sub-less g)
+    → IsWrapped (g.T.RingWord.number c.args.bound) (g.T.RingWord.number c.args.x)
+    (g.T.RingWord.number c.wrapping_sub-less.result)
+taken g c =
+    let n = g.T.RingWord.number in
+    wrapped g.T.PathWord.base (n c.args.bound) (n c.args.x) (n c.wrapping_sub-less.result)
+    c.is_below.ensures.fits c.wrapping_sub-less.ensures.fits c.requires c.wrapping_sub-less.ensures.value
 
 pub returns-then-is_below : goal.returns-then-is_below
 returns-then-is_below g c =
-    let less = c.is_below.ensures.below.0 c.if-is_below.true in
-    record { value = sym (mod-eq_of_lt less); below = less }
+    let n = g.T.RingWord.number in
+    let is = (taken g (goal.at.returns-then-is_below g c).After-wrapping_sub-less).taken
+    (c.is_below-2.ensures.below.0 c.if-is_below.true) in
+    record {
+      value = once (n c.args.bound) (n c.args.x) (n c.wrapping_sub-less.result) (omega (arith, is)) c.requires is;
+      below = omega (arith, is);
+    }
 
 pub returns-else-is_below : goal.returns-else-is_below
 returns-else-is_below g c =
     let n = g.T.RingWord.number in
-    let more : n c.args.bound ≤ n c.args.x = grind arith in
-    record {
-      value = once (n c.args.bound) (n c.args.x) (n c.minus.result) more c.requires c.minus.ensures.value;
-      below = omega (arith, c.minus.ensures.value);
-    }
+    let less = (taken g (goal.at.returns-else-is_below g c).After-wrapping_sub-less).left
+    (let more : n c.args.x ≤ n c.wrapping_sub-less.result = grind arith in more) in
+    record { value = sym (mod-eq_of_lt less); below = less }

@@ -2,7 +2,7 @@
 
 use num_modular::modular_prim::plain_word::PlainWord;
 use num_modular::modular_word::path_word::PathWord;
-use num_modular::plans::PlannedModulus;
+use num_modular::plans::{Factor, PlanEntry, PlannedModulus};
 
 // Whether a factor has this quotient, and its product with x, also without the quotient, is this
 // residue.
@@ -11,7 +11,7 @@ fn is_product<T: PlainWord>(m: T, w: T, quotient: T, x: T, residue: T) -> bool {
         return false;
     }
     let m = PlannedModulus::new(m);
-    let factor = m.factor(w);
+    let factor = Factor::entry(m.factor(w)).factor();
     factor.value == w
         && factor.quotient == quotient
         && m.product(x, &factor) == residue

@@ -1,0 +1,154 @@
+//! Transforms and products by a plan of at most 2^19 factors, which stand on the stack.
+
+ghost use Rattle.std.specs.Prelude.{◌≡◌, ℕ, ◌+◌, ◌*◌, ◌/◌, ◌^◌, ◌<◌, ◌≤◌, All, length};
+ghost use Rattle.std.specs.Int.{IsPowerOfTwo};
+ghost use Rattle.modular_transform.specs.Transforms.{Suits};
+ghost use Rattle.modular_plan.specs.Factors.{IsFactor};
+
+use modular_plan::convolution::convolve_planned;
+use modular_plan::join::join_scaled;
+use modular_plan::modulus::{Factor, PlannedModulus};
+use modular_plan::plan::plan;
+use modular_plan::split::split;
+use modular_plan::transform::ntt_planned;
+use modular_prim::plain_word::PlainWord;
+use modular_word::path_word::PathWord;
+use modular_word::ring_word::RingWord;
+
+// What is done n times with the lists, by the number of an operation.
+fn carried_out<T: PlainWord>(
+    m: &PlannedModulus<T>,
+    operation: u8,
+    xs: &mut [T],
+    ys: &mut [T],
+    table: &[Factor<T>],
+    n: u64,
+)
+    requires entries_xs { All (λ x. T.number x < T.number m.now.modulus) xs.old }
+    requires entries_ys { All (λ x. T.number x < T.number m.now.modulus) ys.old }
+    requires equal { length ys.old ≡ length xs.old }
+    requires factors { All (λ f. IsFactor T.base (T.number m.now.modulus) (T.number f.value) (T.number f.quotient))
+        table.now }
+    requires count { IsPowerOfTwo (length xs.old) }
+    requires within { length xs.old ≤ 2 * length table.now }
+{
+    let one = m.factor(m.residue(T::one()));
+    'turns: for _ in 0..n {
+        match operation {
+            0 => (),
+            1 => split(m, xs, table, 0, 1),
+            2 => join_scaled(m, xs, table, 0, 1, &one),
+            3 => ntt_planned(m, xs, table),
+            _ => {
+                let _ = convolve_planned(m, xs, ys, table, 1);
+            }
+        }
+    }
+}
+
+// The same with a plan by g, which is made before.
+fn planned<T: PlainWord>(
+    operation: u8,
+    words: (T, T),
+    xs: &mut [T],
+    ys: &mut [T],
+    table: &mut [Factor<T>],
+    n: u64,
+)
+    requires some { 1 ≤ T.number words.0 }
+    requires room { 4 * T.number words.0 ≤ T.base }
+    requires below { T.number words.1 < T.number words.0 }
+    requires suits { Suits (T.number words.0) (T.number words.1) (length xs.old) }
+    requires entries_xs { All (λ x. T.number x < T.number words.0) xs.old }
+    requires entries_ys { All (λ x. T.number x < T.number words.0) ys.old }
+    requires equal { length ys.old ≡ length xs.old }
+    requires length { length xs.old ≡ 2 * length table.old }
+{
+    let (m, g) = words;
+    let modulus = PlannedModulus::new(m);
+    plan(&modulus, g, table);
+    carried_out(&modulus, operation, xs, ys, table, n);
+}
+
+// The same with the table on the stack.
+fn on_the_stack<const FACTORS: usize>(
+    operation: u8,
+    m: u64,
+    g: u64,
+    xs: &mut [u64],
+    ys: &mut [u64],
+    n: u64,
+)
+    requires few { FACTORS ≤ 524288 }
+    requires some { 1 ≤ m }
+    requires room { 4 * m ≤ 2 ^ 64 }
+    requires below { g < m }
+    requires suits { Suits m g (length xs.old) }
+    requires entries_xs { All (λ x. x < m) xs.old }
+    requires entries_ys { All (λ x. x < m) ys.old }
+    requires equal { length ys.old ≡ length xs.old }
+    requires length { length xs.old ≡ 2 * FACTORS }
+{
+    let none = Factor {
+        value: 0,
+        quotient: 0,
+    };
+    let mut table = [none; FACTORS];
+    planned::<u64>(operation, (m, g), xs, ys, &mut table, n);
+}
+
+/// Makes the plan by g for 2^10, 2^16 or 2^20 entries, on the stack, and then does n times what the
+/// operation says: nothing for 0, `split` for 1, `join_scaled` by 1 for 2, `ntt_planned` for 3,
+/// `convolve_planned` for 4. Where the lists have another length it does nothing. Conditions: m and g
+/// are those of a plan for so many entries; these are below m; the lists have one length.
+#[unsafe(no_mangle)]
+pub extern "C" fn bench_planned(
+    operation: u8,
+    m: u64,
+    g: u64,
+    xs: &mut [u64],
+    ys: &mut [u64],
+    n: u64,
+)
+    requires some { 1 ≤ m }
+    requires room { 4 * m ≤ 2 ^ 64 }
+    requires below { g < m }
+    requires suits { Suits m g (length xs.old) }
+    requires entries_xs { All (λ x. x < m) xs.old }
+    requires entries_ys { All (λ x. x < m) ys.old }
+    requires equal { length ys.old ≡ length xs.old }
+{
+    match xs.len() {
+        1024 => on_the_stack::<512>(operation, m, g, xs, ys, n),
+        65536 => on_the_stack::<32768>(operation, m, g, xs, ys, n),
+        1048576 => on_the_stack::<524288>(operation, m, g, xs, ys, n),
+        _ => (),
+    }
+}
+
+/// The same in words of 32 bits, for 256 entries.
+#[unsafe(no_mangle)]
+pub extern "C" fn bench_planned_u32(
+    operation: u8,
+    m: u32,
+    g: u32,
+    xs: &mut [u32],
+    ys: &mut [u32],
+    n: u64,
+)
+    requires some { 1 ≤ m }
+    requires room { 4 * m ≤ 2 ^ 32 }
+    requires below { g < m }
+    requires suits { Suits m g (length xs.old) }
+    requires entries_xs { All (λ x. x < m) xs.old }
+    requires entries_ys { All (λ x. x < m) ys.old }
+    requires equal { length ys.old ≡ length xs.old }
+{
+    let none = Factor {
+        value: 0,
+        quotient: 0,
+    };
+    if xs.len() == 256 {
+        planned::<u32>(operation, (m, g), xs, ys, &mut [none; 128], n);
+    }
+}

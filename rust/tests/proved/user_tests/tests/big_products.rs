@@ -1,0 +1,99 @@
+//! Products known from elsewhere, and slices without room.
+
+use crate::big_product::{product, transform_length};
+
+// Two factors and their product, computed with another program: 20! and 40!/20!, 50! and 100!/50!,
+// and 2^48 - 1 twice.
+const ROWS: &[(&[u16], &[u16], &[u16])] = &[
+    (
+        &[0, 33460, 26492, 8643],
+        &[0, 34960, 20943, 52182, 10521, 15265, 4],
+        &[
+            0, 0, 9536, 65285, 56932, 2063, 62078, 33991, 59419, 36586, 0,
+        ],
+    ),
+    (
+        &[
+            0, 0, 32768, 53959, 29601, 20313, 6568, 62093, 7924, 45099, 53881, 38430, 61116, 73,
+        ],
+        &[
+            0, 0, 0, 56972, 42741, 20887, 8310, 34913, 53210, 36024, 55759, 32090, 19983, 38255,
+            45125, 23429, 61756, 9527, 9685, 94,
+        ],
+        &[
+            0, 0, 0, 0, 0, 0, 50714, 10037, 746, 61067, 11986, 46007, 50924, 37920, 3274, 17751,
+            14615, 57104, 12828, 37946, 46514, 60193, 39536, 26351, 5865, 41997, 19389, 10453,
+            1685, 56356, 50069, 38478, 6960, 0,
+        ],
+    ),
+    (
+        &[65535, 65535, 65535],
+        &[65535, 65535, 65535],
+        &[1, 0, 0, 65534, 65535, 65535],
+    ),
+];
+
+#[test]
+fn known_products() {
+    for (xs, ys, known) in ROWS {
+        let (mut digits, mut left, mut right) = ([7; 64], [0; 64], [0; 64]);
+        let n = known.len().min(64);
+        assert!(product(xs, ys, &mut digits[..n], &mut left, &mut right));
+        assert_eq!(&digits[..n], *known);
+    }
+}
+
+// The square of 2^(16n) - 1 is 2^(32n) - 2^(16n + 1) + 1.
+#[test]
+fn squares_of_all_ones() {
+    let ones = [65535; 64];
+    for n in [1, 2, 5, 31, 32, 33, 64] {
+        let (mut digits, mut left, mut right) = ([7; 128], [0; 128], [0; 128]);
+        let (xs, places) = (&ones[..n], 2 * n);
+        assert!(product(xs, xs, &mut digits[..places], &mut left, &mut right));
+        for i in 0..places {
+            let known = match i {
+                0 => 1,
+                _ if i < n => 0,
+                _ if i == n => 65534,
+                _ => 65535,
+            };
+            assert_eq!(digits[i], known, "place {i} of {places}");
+        }
+    }
+}
+
+#[test]
+fn room() {
+    let (xs, ys) = ([1, 2, 3], [4, 5]);
+    for (places, left, right, fits) in [
+        (5, 8, 8, true),
+        (5, 9, 16, true),
+        (4, 8, 8, false),
+        (6, 8, 8, false),
+        (5, 7, 8, false),
+        (5, 8, 7, false),
+    ] {
+        let (mut digits, mut first, mut second) = ([7; 16], [7; 16], [7; 16]);
+        let done = product(
+            &xs,
+            &ys,
+            &mut digits[..places],
+            &mut first[..left],
+            &mut second[..right],
+        );
+        assert_eq!(done, fits);
+        assert_eq!(digits[0], if fits { 4 } else { 7 });
+    }
+    let mut none = [0; 1];
+    assert!(product(&[], &[], &mut [], &mut none, &mut [0]));
+    assert!(!product(&[], &[], &mut [], &mut none, &mut []));
+    assert_eq!(
+        (
+            transform_length(0),
+            transform_length(5),
+            transform_length(64)
+        ),
+        (1, 8, 64)
+    );
+}
