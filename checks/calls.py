@@ -217,9 +217,17 @@ class Promise:
         for it in re.finditer(rf"(?<![\w.])([\w.]+)\.{self.name}\(", function.code):
             is_own = it[1] == "self" and self.is_trait
             is_other = it[1] == "self" and not self.is_trait and function.is_of != self.of.block
+            is_other |= self.is_trait and self.is_without_impl(function, it[1])
             if not is_other and arguments(function.code, it.end() - 1) == expected:
                 is_borrowed = it[1] == "self" or re.search(rf"\b{it[1]}: &", function.code)
                 yield Call(self, function, it, f"({'' if is_borrowed else '&'}{it[1]}, ", is_own)
+
+    def is_without_impl(self, function, name):
+        """Whether a name is a parameter of a struct that doesn't have the promise's trait."""
+        of = re.search(rf"[(\s]{re.escape(name)}: &?(\w+)", function.code)
+        is_struct = of and any(re.search(rf"^pub struct {of[1]}\b", it.whole, re.M) for crate in LISTED for it in functions(crate))
+        impls = ((it.trait.split("<")[0], it.type.split("<")[0]) for crate in LISTED for it in functions(crate))
+        return bool(is_struct) and (self.of.block, of[1]) not in impls
 
     def calls_of_types(self, function):
         for it in re.finditer(rf"(?<![\w.:])(\w+)(?:::<([^()]*)>)?::{self.name}\(", function.code):
