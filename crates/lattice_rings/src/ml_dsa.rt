@@ -6,7 +6,6 @@ ghost use Rattle.modular_plan.specs.Plans.{numbers};
 ghost use Rattle.modular_transform.specs.Orders.{bits_reversed};
 ghost use Rattle.lattice_rings.specs.Rings.{IsDsaTransform, IsDsaProduct, IsRingProduct};
 
-use modular_plan::convolution::convolve_negacyclic;
 use modular_plan::join::join_scaled;
 use modular_plan::modulus::{Factor, PlannedModulus};
 use modular_plan::plan::plan;
@@ -101,7 +100,10 @@ impl Ring {
         ensures product { IsRingProduct 8380417 (slice_index xs.old) (slice_index ys.old) (slice_index xs.new) }
         ensures transform { IsDsaTransform (slice_index ys.old) (slice_index ys.new) }
     {
-        let _always = convolve_negacyclic(&self.modulus, xs, ys, &self.table, 1);
+        self.ntt(xs);
+        self.ntt(ys);
+        self.multiply(xs, ys);
+        self.inverse(xs);
     }
 
     /// The product of two transforms in xs, place by place: that of two polynomials' transforms is the

@@ -1,6 +1,5 @@
 //! The ring of FIPS 204 (ML-DSA): polynomials modulo X^256 + 1 over the residues of q = 8380417.
 
-use crate::modular_plan::convolution::convolve_negacyclic;
 use crate::modular_plan::join::join_scaled;
 use crate::modular_plan::modulus::{Factor, PlannedModulus};
 use crate::modular_plan::plan::plan;
@@ -64,7 +63,10 @@ impl Ring {
     /// Source: FIPS 204, section 2.5: the product of NTT(xs) and NTT(ys), place by place, is transformed
     /// back.
     pub fn product(&self, xs: &mut [u32; 256], ys: &mut [u32; 256]) {
-        let _always = convolve_negacyclic(&self.modulus, xs, ys, &self.table, 1);
+        self.ntt(xs);
+        self.ntt(ys);
+        self.multiply(xs, ys);
+        self.inverse(xs);
     }
 
     /// The product of two transforms in xs, place by place: that of two polynomials' transforms is the
