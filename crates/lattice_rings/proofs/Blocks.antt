@@ -141,14 +141,13 @@ preimage_values {m} g h G H s last part y inverse square of_number back below = 
 }
 
 -- what is past the coefficients, taken away, is added with m - 1
-pub taken_away : (m a b p : ℕ) → 0 < m → p ≡ (a + (m - 1) * b) % m → (p + b) % m ≡ a % m
-taken_away m a b p some is =
+taken_away : (m a b : ℕ) → 0 < m → ((a + (m - 1) * b) % m + b) % m ≡ a % m
+taken_away m a b some =
     let s : a + (m - 1) * b + b ≡ a + b * m = (let o : m - 1 + 1 ≡ m = omega (arith, some) in
     let d : (m - 1) * b + b ≡ b * (m - 1 + 1) = omega arith in let f = ap (λ v. b * v) o in omega (arith, d, f)) in
-    (chained (added (chained (of_equal is) (residue_of (a + (m - 1) * b))) (itself b)) (of_equal s)).same
-    ∙ add-mul-mod_self_right a b m
+    (chained (added (residue_of (a + (m - 1) * b)) (itself b)) (of_equal s)).same ∙ add-mul-mod_self_right a b m
 
-pub added_to : (m a b p : ℕ) → p < m → (p + b) % m ≡ a % m → (a + (m - 1) * b) % m ≡ p
+added_to : (m a b p : ℕ) → p < m → (p + b) % m ≡ a % m → (a + (m - 1) * b) % m ≡ p
 added_to m a b p below is =
     let s : p + b + (m - 1) * b ≡ p + b * m = (let o : m - 1 + 1 ≡ m = omega (arith, below) in
     let d : (m - 1) * b + b ≡ b * (m - 1 + 1) = omega arith in let f = ap (λ v. b * v) o in omega (arith, d, f)) in
@@ -183,27 +182,20 @@ joined {q} {g} {s} {m} {n} last part x ys zs ring one are known i l =
     sym (ap (λ f. f i) (own_numbers zs)) ∙ known (plan_as ring) given i l ∙ ap (λ k. (n * x i * part) % k) ring.modulus
     ∙ ap (λ k. (k * x i * part) % q) ring.count ∙ number_gone q (2 ^ s) part (x i) one
 
--- what `convolve_negacyclic` says of words
-pub product_of : {q g s m n entries : ℕ} {w : ℕ → ℕ} (size : ℕ) (xs ys zs : List ℕ)
-    → IsRingPlan q g s m n entries w → 0 < q → size ≡ 256
-    → ((e : ℕ) → IsPlan m g (suc s) entries w → e < size → numbers (λ v. v) zs e
-    ≡ product_modulo m size (m - 1) (numbers (λ v. v) xs) (numbers (λ v. v) ys) e)
-    → IsRingProduct q (slice_index xs) (slice_index ys) (slice_index zs)
-product_of {q} size xs ys zs ring some is known =
-    let x = numbers (λ v. v) xs in
-    let y = numbers (λ v. v) ys in
-    let u = slice_index xs in
-    let v = slice_index ys in
-    let entry : (e : ℕ) → e < 256 → slice_index zs e ≡ product_modulo q 256 (q - 1) u v e =
-    λ e l. sym (ap (λ f. f e) (own_numbers zs)) ∙ known e (plan_as ring) (omega arith)
-    ∙ ap (λ k. product_modulo k size (k - 1) x y e) ring.modulus ∙ ap (λ k. product_modulo q k (q - 1) x y e) is
-    ∙ ap (λ f. product_modulo q 256 (q - 1) f y e) (own_numbers xs)
-    ∙ ap (λ f. product_modulo q 256 (q - 1) u f e) (own_numbers ys) in
-    record {
-      below = λ e l. subst (λ v. v < q) (sym (entry e l)) (mod-lt _ some);
-      each = λ e l.
-          taken_away q (coefficient 256 u v e) (coefficient 256 u v (e + 256)) (slice_index zs e) some (entry e l);
-    }
+-- the product in the ring, by a formula
+pub ring_product : (q : ℕ) (x y : ℕ → ℕ) → 0 < q → IsRingProduct q x y (product_modulo q 256 (q - 1) x y)
+ring_product q x y some = record {
+  below = λ e l. mod-lt (coefficient 256 x y e + (q - 1) * coefficient 256 x y (e + 256)) some;
+  each = λ e l. taken_away q (coefficient 256 x y e) (coefficient 256 x y (e + 256)) some;
+}
+
+pub ring_product_same : (q : ℕ) (x y p r : ℕ → ℕ) → IsRingProduct q x y p → ((e : ℕ) → e < 256 → r e ≡ p e % q)
+    → IsRingProduct q x y r
+ring_product_same q x y p r is same = record {
+  below = λ e l. subst (λ v. v < q) (sym (same e l ∙ mod-eq_of_lt (is.below e l))) (is.below e l);
+  each = λ e l.
+      ap (λ v. (v + coefficient 256 x y (e + 256)) % q) (same e l ∙ mod-eq_of_lt (is.below e l)) ∙ is.each e l;
+}
 
 -- what `multiply` says of words
 pub multiplied_words : {q g s m n entries : ℕ} {w : ℕ → ℕ} (last : ℕ) (xs ys zs : List ℕ)

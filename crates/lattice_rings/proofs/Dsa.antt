@@ -1,7 +1,7 @@
 -- The numbers of FIPS 204, and its transform as remainders modulo X - c.
 use Rattle.std.proofs.Common.{◌≡◌, ℕ, ◌+◌, ◌*◌, ◌%◌, ◌^◌, ◌<◌, length, refl, sym, ◌∙◌, ap, arith}
 use Rattle.num_modular.specs.Congruence.{Congruent}
-use Rattle.num_modular.specs.Inverses.{HasInverse, IsInverse}
+use Rattle.num_modular.specs.Inverses.{IsInverse}
 use Rattle.num_modular.specs.Orders.{bits_reversed}
 use Rattle.num_modular.specs.Transforms.{Suits, transform}
 use Rattle.num_modular.specs.Plans.{numbers, constant}
@@ -25,7 +25,7 @@ ring_plan r n count room = record {
   plan = plan_of 8380417 1753 8 256 (numbers (λ f. f.value) r.table) zeta_suits refl r.powers;
 }
 
--- the inverse of the square of zeta suits, and the number of blocks has an inverse
+-- the inverse of the square of zeta suits
 pub back_suits : Suits 8380417 6635910 256
 back_suits = record { power_of_two = (8, refl); half_turn = λ l. refl }
 
@@ -34,9 +34,6 @@ back_inverse = record { below = omega arith; one = refl }
 
 pub of_number : Congruent 8380417 (256 * 8347681) 1
 of_number = record { same = refl }
-
-pub number_inverse : HasInverse 8380417 256
-number_inverse = (8347681, record { below = omega arith; one = refl })
 
 pub transform_of : (x y : ℕ → ℕ) → AreValues 8380417 1753 8 1 x y → IsDsaTransform x y
 transform_of x y are = record {

@@ -1,12 +1,12 @@
 -- The numbers of FIPS 203, and its transform as remainders modulo X^2 - c.
-use Rattle.std.proofs.Common.{◌≡◌, ℕ, ◌+◌, ◌*◌, ◌%◌, ◌^◌, ◌<◌, length, refl, sym, ◌∙◌, ap, arith, inl, inr}
+use Rattle.std.proofs.Common.{◌≡◌, ℕ, ◌+◌, ◌*◌, ◌%◌, ◌^◌, ◌<◌, length, refl, sym, ◌∙◌, ap, arith, subst, inl, inr}
 use Rattle.std.proofs.lemmas.Bool.{cases_eq}
 use Rattle.num_modular.specs.Congruence.{Congruent}
-use Rattle.num_modular.specs.Inverses.{HasInverse, IsInverse}
+use Rattle.num_modular.specs.Inverses.{IsInverse}
 use Rattle.num_modular.specs.Orders.{bits_reversed}
 use Rattle.num_modular.specs.Transforms.{Suits, transform}
 use Rattle.num_modular.specs.Plans.{numbers, constant}
-use Rattle.num_modular.specs.PlanProducts.{AreProducts}
+use Rattle.num_modular.specs.PlanProducts.{product_modulo, AreProducts}
 use Rattle.num_modular.specs.PlanLaws.{product_of_two_low, product_of_two_high}
 use Rattle.lattice_rings.specs.declared.ml_kem.Ring.{Ring}
 use Rattle.lattice_rings.specs.Rings.{IsKemTransform, IsKemProduct}
@@ -27,7 +27,7 @@ ring_plan r n count room = record {
   plan = plan_of 3329 17 7 128 (numbers (λ f. f.value) r.table) zeta_suits refl r.powers;
 }
 
--- the inverse of the square of zeta suits, and the number of blocks has an inverse
+-- the inverse of the square of zeta suits
 pub back_suits : Suits 3329 2419 128
 back_suits = record { power_of_two = (7, refl); half_turn = λ l. refl }
 
@@ -36,9 +36,6 @@ back_inverse = record { below = omega arith; one = refl }
 
 pub of_number : Congruent 3329 (128 * 3303) 1
 of_number = record { same = refl }
-
-pub number_inverse : HasInverse 3329 128
-number_inverse = (3303, record { below = omega arith; one = refl })
 
 pub transform_of : (x y : ℕ → ℕ) → AreValues 3329 17 7 2 x y → IsKemTransform x y
 transform_of x y are = record {
@@ -89,25 +86,28 @@ before_values y below back =
     preimage_values 17 1175 289 2419 7 2 3303 y (record { same = refl }) (record { same = refl }) of_number
     back (λ j i lj li. below (j * 2 + i) (omega arith))
 
--- products of remainders modulo X^2 - c, in the words of the standard
-pub product_of_places : (u v p : ℕ → ℕ) → AreProducts 3329 17 8 1 128 2 u v p → IsKemProduct u v p
-product_of_places u v p are = record {
-  constant = λ i l.
-      let c = 17 ^ (2 * bits_reversed 7 i + 1) in
-      let e : 2 * i ≡ i * 2 + 0 = omega arith in
-      let f : 2 * i + 1 ≡ i * 2 + 1 = omega arith in
-      let turn : c * (u (2 * i + 1) * v (2 * i + 1)) ≡ u (2 * i + 1) * v (2 * i + 1) * c = omega arith in
-      ap p e ∙ are.each i 0 l (omega arith)
-      ∙ product_of_two_low 3329 (constant 17 8 (1 * 128 + i)) (λ k. u (i * 2 + k)) (λ k. v (i * 2 + k))
-      ∙ ap (λ a. (u (i * 2 + 0) * v (i * 2 + 0) + a * (u (i * 2 + 1) * v (i * 2 + 1))) % 3329) (constant_is 17 7 i l)
-      ∙ ap (λ k. (u k * v k + c * (u (i * 2 + 1) * v (i * 2 + 1))) % 3329) (sym e)
-      ∙ ap (λ k. (u (2 * i) * v (2 * i) + c * (u k * v k)) % 3329) (sym f)
-      ∙ ap (λ a. (u (2 * i) * v (2 * i) + a) % 3329) turn;
-  linear = λ i l.
-      let e : 2 * i ≡ i * 2 + 0 = omega arith in
-      let f : 2 * i + 1 ≡ i * 2 + 1 = omega arith in
-      ap p f ∙ are.each i 1 l (omega arith)
-      ∙ product_of_two_high 3329 (constant 17 8 (1 * 128 + i)) (λ k. u (i * 2 + k)) (λ k. v (i * 2 + k))
-      ∙ ap (λ k. (u k * v (i * 2 + 1) + u (i * 2 + 1) * v k) % 3329) (sym e)
-      ∙ ap (λ k. (u (2 * i) * v k + u k * v (2 * i)) % 3329) (sym f);
+-- products in the words of the standard are those of remainders modulo X^2 - c
+pub products_of_remainders : (u v p : ℕ → ℕ) → IsKemProduct u v p → AreProducts 3329 17 8 1 128 2 u v p
+products_of_remainders u v p are = record {
+  each = λ j i lj li.
+      let c = 17 ^ (2 * bits_reversed 7 j + 1) in
+      let e : 2 * j ≡ j * 2 + 0 = omega arith in
+      let f : 2 * j + 1 ≡ j * 2 + 1 = omega arith in
+      let x = λ (k : ℕ). u (j * 2 + k) in
+      let y = λ (k : ℕ). v (j * 2 + k) in
+      let k = constant 17 8 (1 * 128 + j) in
+      let turn : u (2 * j + 1) * v (2 * j + 1) * c ≡ c * (u (2 * j + 1) * v (2 * j + 1)) = omega arith in
+      let low : p (j * 2 + 0) ≡ product_modulo 3329 2 k x y 0 =
+      ap p (sym e) ∙ are.constant j lj ∙ ap (λ a. (u (2 * j) * v (2 * j) + a) % 3329) turn
+      ∙ ap (λ a. (u (2 * j) * v (2 * j) + a * (u (2 * j + 1) * v (2 * j + 1))) % 3329) (sym (constant_is 17 7 j lj))
+      ∙ ap (λ n. (u n * v n + k * (u (2 * j + 1) * v (2 * j + 1))) % 3329) e
+      ∙ ap (λ n. (x 0 * y 0 + k * (u n * v n)) % 3329) f ∙ sym (product_of_two_low 3329 k x y) in
+      let high : p (j * 2 + 1) ≡ product_modulo 3329 2 k x y 1 =
+      ap p (sym f) ∙ are.linear j lj ∙ ap (λ n. (u n * v (2 * j + 1) + u (2 * j + 1) * v n) % 3329) e
+      ∙ ap (λ n. (x 0 * v n + u n * y 0) % 3329) f ∙ sym (product_of_two_high 3329 k x y) in
+      elim (cases_eq i 0) [
+        | inl z ↦ subst (λ n. p (j * 2 + n) ≡ product_modulo 3329 2 k x y n) (sym z) low
+        | inr n ↦
+            subst (λ n. p (j * 2 + n) ≡ product_modulo 3329 2 k x y n) (let o : 1 ≡ i = omega arith in o) high
+      ];
 }

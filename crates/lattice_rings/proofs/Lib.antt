@@ -1,3 +1,4 @@
 pub mod Blocks
 pub mod Dsa
 pub mod Kem
+pub mod Remainders

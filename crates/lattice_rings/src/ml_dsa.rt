@@ -7,9 +7,7 @@ ghost use Rattle.num_modular.specs.Orders.{bits_reversed};
 ghost use Rattle.lattice_rings.specs.Rings.{IsDsaTransform, IsDsaProduct, IsRingProduct};
 
 use num_modular::laws::transform_laws;
-use num_modular::plans::{
-    Factor, PlannedModulus, convolve_negacyclic, join_scaled, multiply, plan, split,
-};
+use num_modular::plans::{Factor, PlannedModulus, join_scaled, multiply, plan, split};
 
 /// The modulus q.
 pub const MODULUS: u32 = 8380417;
@@ -98,7 +96,10 @@ impl Ring {
         ensures product { IsRingProduct 8380417 (slice_index xs.old) (slice_index ys.old) (slice_index xs.new) }
         ensures transform { IsDsaTransform (slice_index ys.old) (slice_index ys.new) }
     {
-        let _always = convolve_negacyclic(&self.modulus, xs, ys, &self.table, 1);
+        self.ntt(xs);
+        self.ntt(ys);
+        self.multiply(xs, ys);
+        self.inverse(xs);
     }
 
     /// The product of two transforms in xs, place by place: that of two polynomials' transforms is the

@@ -1,15 +1,14 @@
 //! The ring of FIPS 203 (ML-KEM): polynomials modulo X^256 + 1 over the residues of q = 3329.
 
-ghost use Rattle.std.specs.Prelude.{◌≡◌, ℕ, ◌*◌, ◌%◌, ◌^◌, ◌<◌, ◌↔◌, IsTrue, All, slice_index};
+ghost use Rattle.std.specs.Prelude.{◌≡◌, ℕ, ◌+◌, ◌*◌, ◌%◌, ◌^◌, ◌<◌, ◌≤◌, ◌↔◌, IsTrue, All, slice_index};
+ghost use Rattle.num_modular.specs.Congruence.{Congruent};
 ghost use Rattle.num_modular.specs.Factors.{IsFactor};
 ghost use Rattle.num_modular.specs.Plans.{numbers};
 ghost use Rattle.num_modular.specs.Orders.{bits_reversed};
 ghost use Rattle.lattice_rings.specs.Rings.{IsKemTransform, IsKemProduct, IsRingProduct};
 
 use num_modular::laws::transform_laws;
-use num_modular::plans::{
-    Factor, PlannedModulus, convolve_negacyclic, join_scaled, multiply, plan, split,
-};
+use num_modular::plans::{Factor, PlannedModulus, join_scaled, plan, split};
 
 /// The modulus q.
 pub const MODULUS: u32 = 3329;
@@ -44,6 +43,22 @@ pub fn are_residues(w: &[u32; 256]) -> bool
     ensures { IsTrue result ↔ All (λ x. x < 3329) w.now }
 {
     w.iter().all(|x| *x < MODULUS)
+}
+
+// The product of two remainders modulo X^2 - c, the constants first. Products of three residues fit 64
+// bits, so that each sum is divided once.
+fn multiply_remainders(x: (u32, u32), y: (u32, u32), c: u32) -> (u32, u32)
+    requires x { (x.0 < 3329) × (x.1 < 3329) }
+    requires y { (y.0 < 3329) × (y.1 < 3329) }
+    requires c { c ≤ 3329 }
+    ensures constant { result.0 ≡ (x.0 * y.0 + x.1 * y.1 * c) % 3329 }
+    ensures linear { result.1 ≡ (x.0 * y.1 + x.1 * y.0) % 3329 }
+{
+    let constant = (x.0 * y.0) as u64 + (x.1 * y.1) as u64 * c as u64;
+    (
+        (constant % MODULUS as u64) as u32,
+        (x.0 * y.1 + x.1 * y.0) % MODULUS,
+    )
 }
 
 impl Ring {
@@ -99,11 +114,15 @@ impl Ring {
         ensures product { IsRingProduct 3329 (slice_index xs.old) (slice_index ys.old) (slice_index xs.new) }
         ensures transform { IsKemTransform (slice_index ys.old) (slice_index ys.new) }
     {
-        let _always = convolve_negacyclic(&self.modulus, xs, ys, &self.table, 2);
+        self.ntt(xs);
+        self.ntt(ys);
+        self.multiply(xs, ys);
+        self.inverse(xs);
     }
 
-    /// The product of two transforms in xs, remainder by remainder: that of two polynomials' transforms is the
-    /// transform of their product. Condition: the entries are residues, as those of the product are.
+    /// The product of two transforms in xs, remainder by remainder: that of two polynomials' transforms
+    /// is the transform of their product. Condition: the entries are residues, as those of the product
+    /// are.
     ///
     /// Source: FIPS 203, section 4.3, algorithms 11 and 12.
     pub fn multiply(&self, xs: &mut [u32; 256], ys: &[u32; 256])
@@ -114,6 +133,22 @@ impl Ring {
         ensures product { (x y p : ℕ → ℕ) → IsRingProduct 3329 x y p → IsKemTransform x (slice_index xs.old) →
             IsKemTransform y (slice_index ys.now) → IsKemTransform p (slice_index xs.new) }
     {
-        multiply(&self.modulus, xs, ys, &self.table, 1, 2);
+        'remainders: for i in 0..128 {
+            let (x, y) = ((xs[2 * i], xs[2 * i + 1]), (ys[2 * i], ys[2 * i + 1]));
+            let (constant, linear) = multiply_remainders(x, y, self.square(i));
+            xs[2 * i] = constant;
+            xs[2 * i + 1] = linear;
+        }
+    }
+
+    // What X^2 leaves in remainder i, zeta^(2·BitRev7(i) + 1), at most q: an entry of the table, or minus
+    // one.
+    fn square(&self, i: usize) -> u32
+        requires { i < 128 }
+        ensures few { result ≤ 3329 }
+        ensures value { Congruent 3329 result (17 ^ (2 * bits_reversed 7 i + 1)) }
+    {
+        let power = self.table[64 + i / 2].value;
+        if i % 2 == 0 { power } else { MODULUS - power }
     }
 }

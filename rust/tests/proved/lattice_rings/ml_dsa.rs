@@ -1,9 +1,7 @@
 //! The ring of FIPS 204 (ML-DSA): polynomials modulo X^256 + 1 over the residues of q = 8380417.
 
 use num_modular::laws::transform_laws;
-use num_modular::plans::{
-    Factor, PlannedModulus, convolve_negacyclic, join_scaled, multiply, plan, split,
-};
+use num_modular::plans::{Factor, PlannedModulus, join_scaled, multiply, plan, split};
 
 /// The modulus q.
 pub const MODULUS: u32 = 8380417;
@@ -67,7 +65,10 @@ impl Ring {
     /// Source: FIPS 204, section 2.5: the product of NTT(xs) and NTT(ys), place by place, is transformed
     /// back.
     pub fn product(&self, xs: &mut [u32; 256], ys: &mut [u32; 256]) {
-        let _always = convolve_negacyclic(&self.modulus, xs, ys, &self.table, 1);
+        self.ntt(xs);
+        self.ntt(ys);
+        self.multiply(xs, ys);
+        self.inverse(xs);
     }
 
     /// The product of two transforms in xs, place by place: that of two polynomials' transforms is the

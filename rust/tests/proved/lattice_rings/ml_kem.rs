@@ -1,9 +1,7 @@
 //! The ring of FIPS 203 (ML-KEM): polynomials modulo X^256 + 1 over the residues of q = 3329.
 
 use num_modular::laws::transform_laws;
-use num_modular::plans::{
-    Factor, PlannedModulus, convolve_negacyclic, join_scaled, multiply, plan, split,
-};
+use num_modular::plans::{Factor, PlannedModulus, join_scaled, plan, split};
 
 /// The modulus q.
 pub const MODULUS: u32 = 3329;
@@ -29,6 +27,16 @@ pub struct Ring {
 /// Whether each coefficient is a residue, below q.
 pub fn are_residues(w: &[u32; 256]) -> bool {
     w.iter().all(|x| *x < MODULUS)
+}
+
+// The product of two remainders modulo X^2 - c, the constants first. Products of three residues fit 64
+// bits, so that each sum is divided once.
+fn multiply_remainders(x: (u32, u32), y: (u32, u32), c: u32) -> (u32, u32) {
+    let constant = (x.0 * y.0) as u64 + (x.1 * y.1) as u64 * c as u64;
+    (
+        (constant % MODULUS as u64) as u32,
+        (x.0 * y.1 + x.1 * y.0) % MODULUS,
+    )
 }
 
 impl Ring {
@@ -68,14 +76,30 @@ impl Ring {
     ///
     /// Source: FIPS 203, section 4.3, algorithms 11 and 12: the products of the remainders are joined.
     pub fn product(&self, xs: &mut [u32; 256], ys: &mut [u32; 256]) {
-        let _always = convolve_negacyclic(&self.modulus, xs, ys, &self.table, 2);
+        self.ntt(xs);
+        self.ntt(ys);
+        self.multiply(xs, ys);
+        self.inverse(xs);
     }
 
-    /// The product of two transforms in xs, remainder by remainder: that of two polynomials' transforms is the
-    /// transform of their product. Condition: the entries are residues, as those of the product are.
+    /// The product of two transforms in xs, remainder by remainder: that of two polynomials' transforms
+    /// is the transform of their product. Condition: the entries are residues, as those of the product
+    /// are.
     ///
     /// Source: FIPS 203, section 4.3, algorithms 11 and 12.
     pub fn multiply(&self, xs: &mut [u32; 256], ys: &[u32; 256]) {
-        multiply(&self.modulus, xs, ys, &self.table, 1, 2);
+        'remainders: for i in 0..128 {
+            let (x, y) = ((xs[2 * i], xs[2 * i + 1]), (ys[2 * i], ys[2 * i + 1]));
+            let (constant, linear) = multiply_remainders(x, y, self.square(i));
+            xs[2 * i] = constant;
+            xs[2 * i + 1] = linear;
+        }
+    }
+
+    // What X^2 leaves in remainder i, zeta^(2·BitRev7(i) + 1), at most q: an entry of the table, or minus
+    // one.
+    fn square(&self, i: usize) -> u32 {
+        let power = self.table[64 + i / 2].value;
+        if i % 2 == 0 { power } else { MODULUS - power }
     }
 }

@@ -1,31 +1,13 @@
-use Rattle.std.proofs.Common.{◌≡◌, ◌/◌, ◌<◌, All, IsTrue, length, sym, arith, subst}
-use Rattle.num_modular.specs.Inverses.{HasInverse}
-use Rattle.lattice_rings.proofs.Blocks.{told, product_of}
-use Rattle.lattice_rings.proofs.Dsa.{ring_plan, number_inverse, transform_of}
+use Rattle.std.proofs.Common.{◌-◌, slice_index, arith}
+use Rattle.num_modular.specs.PlanProducts.{product_modulo}
+use Rattle.lattice_rings.proofs.Blocks.{ring_product, ring_product_same}
 use Rattle.lattice_rings.proofs.ml_dsa.Ring.product.Goals as goal
-
-pub convolve_negacyclic-always-requires-clause-count : goal.convolve_negacyclic-always-requires-clause-count
-convolve_negacyclic-always-requires-clause-count c = (8, omega arith)
-
--- the number of blocks has an inverse
-always : (c : goal.After-convolve_negacyclic-always) → IsTrue c.convolve_negacyclic-always.result
-always c = c.convolve_negacyclic-always.ensures.inverse.1
-    (subst (λ m. HasInverse m (length c.args.xs.now / 1)) (sym c.args.self.now.modulus_is)
-    (subst (λ n. HasInverse 8380417 n) (let e : 256 ≡ length c.args.xs.now / 1 = omega arith in e) number_inverse))
-
-pub returns-clause-residues : goal.returns-clause-residues
-returns-clause-residues c =
-    subst (λ m. All (λ x. x < m) c.convolve_negacyclic-always.new.xs) c.args.self.now.modulus_is
-    (c.convolve_negacyclic-always.ensures.below (always c)).0
 
 pub returns-clause-product : goal.returns-clause-product
 returns-clause-product c =
-    let ring = ring_plan c.args.self.now (length c.args.xs.now / 1) (omega arith) (omega arith) in
-    product_of (length c.args.xs.now) c.args.xs.now c.args.ys.now c.convolve_negacyclic-always.new.xs ring (omega arith)
-    (omega arith) (c.convolve_negacyclic-always.ensures.product (always c) 1753 9)
-
-pub returns-clause-transform : goal.returns-clause-transform
-returns-clause-transform c =
-    let ring = ring_plan c.args.self.now (length c.args.xs.now / 1) (omega arith) (omega arith) in
-    transform_of _ _ (told 1 c.args.ys.now c.convolve_negacyclic-always.new.ys ring
-    (c.convolve_negacyclic-always.ensures.remainders (always c) 1753 9))
+    let x = slice_index c.args.xs.now in
+    let y = slice_index c.args.ys.now in
+    let p = product_modulo 8380417 256 (8380417 - 1) x y in
+    let is = ring_product 8380417 x y (omega arith) in
+    ring_product_same 8380417 x y p (slice_index c.inverse.new.w) is
+    (c.inverse.ensures.unique p (c.multiply.ensures.product x y p is c.ntt.ensures.values c.ntt-2.ensures.values))

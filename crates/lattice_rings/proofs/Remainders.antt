@@ -1,0 +1,106 @@
+-- The products of the remainders modulo X^2 - c, one after another in place.
+use Rattle.std.proofs.Common.{◌≡◌, ◌≢◌, ℕ, ◌+◌, ◌-◌, ◌*◌, ◌/◌, ◌%◌, ◌^◌, ◌<◌, ◌≤◌, List, length, get_or}
+use Rattle.std.proofs.Common.{inl, inr, refl, sym, ◌∙◌, ap, arith, subst, get_or-set_same, get_or-set_other}
+use Rattle.std.proofs.Math.ListN.{set, length-set}
+use Rattle.std.proofs.Math.Nat.{mod-lt}
+use Rattle.std.proofs.lemmas.Bool.{cases_eq}
+use Rattle.num_modular.specs.Congruence.{Congruent}
+use Rattle.num_modular.specs.NumberLaws.{of_equal, itself, chained, added, multiplied}
+use Rattle.num_modular.specs.Orders.{bits_reversed}
+use Rattle.num_modular.specs.Plans.{numbers, constant}
+use Rattle.modular_plan.proofs.Constants.{IsPairOfConstants, pair_of_constants}
+use Rattle.lattice_rings.specs.declared.ml_kem.Ring.{Ring}
+use Rattle.lattice_rings.proofs.Blocks.{constant_is, plan_of}
+use Rattle.lattice_rings.proofs.Kem.{zeta_suits}
+
+-- the entry of the table for the remainders 2 * h and 2 * h + 1
+pair_at : (r : Ring) (h : ℕ) → h < 64
+    → IsPairOfConstants 3329 17 8 (64 + h) (numbers (λ f. f.value) r.table (64 + h))
+pair_at r h below =
+    pair_of_constants 17 8 128 (64 + h) (numbers (λ f. f.value) r.table)
+    (plan_of 3329 17 7 128 (numbers (λ f. f.value) r.table) zeta_suits refl r.powers) (omega arith)
+
+pub entry_below : (r : Ring) (k : ℕ) → k < 128 → numbers (λ f. f.value) r.table k < 3329
+entry_below r k l = subst (λ v. v < 3329) (sym (r.powers k l)) (mod-lt (17 ^ bits_reversed 7 k) (omega arith))
+
+pub even_square : (r : Ring) (i : ℕ) → i < 128 → i % 2 ≡ 0
+    → Congruent 3329 (numbers (λ f. f.value) r.table (64 + i / 2)) (17 ^ (2 * bits_reversed 7 i + 1))
+even_square r i below even =
+    let e : 2 * (64 + i / 2) ≡ 1 * 128 + i = omega arith in
+    chained (pair_at r (i / 2) (omega arith)).even (of_equal (ap (constant 17 8) e ∙ constant_is 17 7 i below))
+
+pub odd_square : (r : Ring) (i : ℕ) → i < 128 → i % 2 ≢ 0
+    → Congruent 3329 (3329 - numbers (λ f. f.value) r.table (64 + i / 2)) (17 ^ (2 * bits_reversed 7 i + 1))
+odd_square r i below odd =
+    let e : 2 * (64 + i / 2) + 1 ≡ 1 * 128 + i = omega arith in
+    let w = numbers (λ f. f.value) r.table (64 + i / 2) in
+    let few : w < 3329 = entry_below r (64 + i / 2) (omega arith) in
+    chained ((pair_at r (i / 2) (omega arith)).odd (3329 - w) (omega (arith, few)))
+    (of_equal (ap (constant 17 8) e ∙ constant_is 17 7 i below))
+
+-- the first i remainders of p are the products of those of x and y, and the others are those of x
+pub record ProductsBelow (i : ℕ) (x y p : List ℕ) : Type 0 where
+  pub below : (k : ℕ) → get_or p k 0 < 3329
+  pub constant : (k : ℕ) → k < i → get_or p (2 * k) 0
+      ≡ (get_or x (2 * k) 0 * get_or y (2 * k) 0
+      + get_or x (2 * k + 1) 0 * get_or y (2 * k + 1) 0 * 17 ^ (2 * bits_reversed 7 k + 1)) % 3329
+  pub linear : (k : ℕ) → k < i → get_or p (2 * k + 1) 0
+      ≡ (get_or x (2 * k) 0 * get_or y (2 * k + 1) 0 + get_or x (2 * k + 1) 0 * get_or y (2 * k) 0) % 3329
+  pub kept : (k : ℕ) → 2 * i ≤ k → get_or p k 0 ≡ get_or x k 0
+
+-- two writes
+low : (p : List ℕ) (e f a b : ℕ) → e < length p → e ≢ f → get_or (set (set p e a) f b) e 0 ≡ a
+low p e f a b l ne = get_or-set_other (set p e a) f e b 0 ne ∙ get_or-set_same p e a 0 l
+
+high : (p : List ℕ) (e f a b : ℕ) → f < length p → get_or (set (set p e a) f b) f 0 ≡ b
+high p e f a b l =
+    get_or-set_same (set p e a) f b 0 (subst (λ n. f < n) (sym (length-set p e a)) l)
+
+other : (p : List ℕ) (e f k a b : ℕ) → k ≢ e → k ≢ f → get_or (set (set p e a) f b) k 0 ≡ get_or p k 0
+other p e f k a b ne nf = get_or-set_other (set p e a) f k b 0 nf ∙ get_or-set_other p e k a 0 ne
+
+pub products_more : (i a b c : ℕ) (x y p : List ℕ) → 2 * i + 1 < length p
+    → Congruent 3329 c (17 ^ (2 * bits_reversed 7 i + 1)) → ProductsBelow i x y p
+    → a ≡ (get_or p (2 * i) 0 * get_or y (2 * i) 0 + get_or p (2 * i + 1) 0 * get_or y (2 * i + 1) 0 * c) % 3329
+    → b ≡ (get_or p (2 * i) 0 * get_or y (2 * i + 1) 0 + get_or p (2 * i + 1) 0 * get_or y (2 * i) 0) % 3329
+    → ProductsBelow (i + 1) x y (set (set p (2 * i) a) (2 * i + 1) b)
+products_more i a b c x y p within square before is_a is_b =
+    let e : ℕ = 2 * i in
+    let f : ℕ = 2 * i + 1 in
+    let u = before.kept e (omega arith) in
+    let v = before.kept f (omega arith) in
+    let few_a : a < 3329 = subst (λ n. n < 3329) (sym is_a) (mod-lt _ (omega arith)) in
+    let few_b : b < 3329 = subst (λ n. n < 3329) (sym is_b) (mod-lt _ (omega arith)) in
+    let at_e = low p e f a b (omega arith) (omega arith) in
+    let at_f = high p e f a b within in
+    record {
+      below = λ k. elim (cases_eq k e) [
+        | inl s ↦ subst (λ n. get_or (set (set p e a) f b) n 0 < 3329) (sym s) (subst (λ n. n < 3329) (sym at_e) few_a)
+        | inr n ↦ elim (cases_eq k f) [
+          | inl s ↦
+              subst (λ n. get_or (set (set p e a) f b) n 0 < 3329) (sym s) (subst (λ n. n < 3329) (sym at_f) few_b)
+          | inr o ↦ subst (λ n. n < 3329) (sym (other p e f k a b n o)) (before.below k)
+        ]
+      ];
+      constant = λ k l. elim (cases_eq k i) [
+        | inl s ↦
+            subst (λ n. get_or (set (set p e a) f b) (2 * n) 0
+            ≡ (get_or x (2 * n) 0 * get_or y (2 * n) 0
+            + get_or x (2 * n + 1) 0 * get_or y (2 * n + 1) 0 * 17 ^ (2 * bits_reversed 7 n + 1)) % 3329) (sym s)
+            (at_e ∙ is_a
+            ∙ (added (multiplied (of_equal u) (itself (get_or y e 0)))
+            (multiplied (multiplied (of_equal v) (itself (get_or y f 0))) square)).same)
+        | inr n ↦ other p e f (2 * k) a b (omega arith) (omega arith) ∙ before.constant k (omega arith)
+      ];
+      linear = λ k l. elim (cases_eq k i) [
+        | inl s ↦
+            subst (λ n. get_or (set (set p e a) f b) (2 * n + 1) 0
+            ≡ (get_or x (2 * n) 0 * get_or y (2 * n + 1) 0 + get_or x (2 * n + 1) 0 * get_or y (2 * n) 0) % 3329)
+            (sym s)
+            (at_f ∙ is_b
+            ∙ (added (multiplied {m = 3329} (of_equal u) (itself (get_or y f 0)))
+            (multiplied (of_equal v) (itself (get_or y e 0)))).same)
+        | inr n ↦ other p e f (2 * k + 1) a b (omega arith) (omega arith) ∙ before.linear k (omega arith)
+      ];
+      kept = λ k l. other p e f k a b (omega arith) (omega arith) ∙ before.kept k (omega arith);
+    }

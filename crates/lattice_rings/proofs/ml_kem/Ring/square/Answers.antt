@@ -1,0 +1,16 @@
+use Rattle.std.proofs.Common.{◌+◌, ◌-◌, ◌/◌, arith, ap}
+use Rattle.num_modular.specs.NumberLaws.{of_equal, chained}
+use Rattle.modular_plan.proofs.Entries.{number_at}
+use Rattle.lattice_rings.proofs.Remainders.{even_square, odd_square}
+use Rattle.lattice_rings.proofs.ml_kem.Ring.square.Goals as goal
+
+pub returns-then-i-eq0-clause-value : goal.returns-then-i-eq0-clause-value
+returns-then-i-eq0-clause-value c =
+    chained (of_equal (number_at (λ f. f.value) c.args.self.now.table (64 + c.args.i / 2) _ (omega arith)))
+    (even_square c.args.self.now c.args.i c.requires c.if-i-eq0.true)
+
+pub returns-else-i-eq0-clause-value : goal.returns-else-i-eq0-clause-value
+returns-else-i-eq0-clause-value c =
+    chained
+    (of_equal (ap (λ v. 3329 - v) (number_at (λ f. f.value) c.args.self.now.table (64 + c.args.i / 2) _ (omega arith))))
+    (odd_square c.args.self.now c.args.i c.requires c.if-i-eq0.false)
