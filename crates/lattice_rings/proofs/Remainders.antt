@@ -8,7 +8,7 @@ use Rattle.num_modular.specs.Congruence.{Congruent}
 use Rattle.num_modular.specs.NumberLaws.{of_equal, itself, chained, added, multiplied}
 use Rattle.num_modular.specs.Orders.{bits_reversed}
 use Rattle.num_modular.specs.Plans.{numbers, constant}
-use Rattle.modular_plan.proofs.Constants.{IsPairOfConstants, pair_of_constants}
+use Rattle.num_modular.specs.PlanLaws.{IsPairOfConstants, pair_of_constants}
 use Rattle.lattice_rings.specs.declared.ml_kem.Ring.{Ring}
 use Rattle.lattice_rings.proofs.Blocks.{constant_is, plan_of}
 use Rattle.lattice_rings.proofs.Kem.{zeta_suits}

@@ -1,6 +1,6 @@
 use Rattle.std.proofs.Common.{◌+◌, ◌-◌, ◌/◌, arith, ap}
 use Rattle.num_modular.specs.NumberLaws.{of_equal, chained}
-use Rattle.modular_plan.proofs.Entries.{number_at}
+use Rattle.num_modular.specs.PlanLaws.{number_at}
 use Rattle.lattice_rings.proofs.Remainders.{even_square, odd_square}
 use Rattle.lattice_rings.proofs.ml_kem.Ring.square.Goals as goal
 
