@@ -1,5 +1,5 @@
 -- The rings of polynomials modulo X^256 + 1 of the lattice standards: FIPS 204, "Module-Lattice-Based Digital
--- Signature Standard", 2024, sections 2.3, 2.5 and 7.5 (ML-DSA: q = 8380417, zeta = 1753), and FIPS 203,
+-- Signature Standard", 2024, sections 2.5, 7.5 and 7.6 (ML-DSA: q = 8380417, zeta = 1753), and FIPS 203,
 -- "Module-Lattice-Based Key-Encapsulation Mechanism Standard", 2024, section 4.3 (ML-KEM: q = 3329, zeta = 17).
 use Rattle.std.specs.Prelude.{◌≡◌, ℕ, ◌+◌, ◌*◌, ◌%◌, ◌^◌, ◌<◌}
 use Rattle.num_modular.specs.Sums.{sum_below}
