@@ -46,10 +46,10 @@ returns-then-other-table-clause-inverses g c =
     let within = c.requires.within in
     let own = number_read (λ f. n f.value) table other c.index-table-other.result (omega (arith, inside))
     c.index-table-other.is in
-    let low = number_read (λ f. n f.value) table (2 * other + 1) c.index-table-other-then-other-table.result (omega (arith, inside))
-    c.index-table-other-then-other-table.is in
-    let high = number_read (λ f. n f.value) table (2 * other) c.index-table-other-then-other-table-2.result (omega (arith, inside))
-    c.index-table-other-then-other-table-2.is in
+    let low = number_read (λ f. n f.value) table (2 * other + 1) c.index-table-other-then-other-table.result
+    (omega (arith, inside)) c.index-table-other-then-other-table.is in
+    let high = number_read (λ f. n f.value) table (2 * other) c.index-table-other-then-other-table-2.result
+    (omega (arith, inside)) c.index-table-other-then-other-table-2.is in
     λ root z plan. (
       subst (λ v. IsMinusInverse m (w place) v) (sym own)
           (mirror_of_plan root z (length table) at.0 place other w plan (omega (arith, within)) least most sum).inverse,
