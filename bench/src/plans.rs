@@ -32,7 +32,16 @@ unsafe extern "C" {
     safe fn peer_flint_multiply();
     safe fn peer_flint_coefficient(i: i64) -> u64;
     fn bench_planned(operation: u8, m: u64, g: u64, xs: *mut u64, length: usize, ys: *mut u64, others: usize, n: u64);
-    fn bench_planned_u32(operation: u8, m: u32, g: u32, xs: *mut u32, length: usize, ys: *mut u32, others: usize, n: u64);
+    fn bench_planned_u32(
+        operation: u8,
+        m: u32,
+        g: u32,
+        xs: *mut u32,
+        length: usize,
+        ys: *mut u32,
+        others: usize,
+        n: u64,
+    );
 }
 
 const SPLIT: u8 = 1;
@@ -117,7 +126,13 @@ fn repeated<'a>(mut once: impl FnMut() + 'a) -> Run<'a> {
 
 /// The milliseconds of each operation alone, and of the plan: each operation is done so many times after the plan
 /// is made, and the plan alone is taken off.
-fn best_planned(rounds: usize, times: u64, lists: &Lists, operations: &[u8], others: &mut [Run]) -> (f64, Vec<f64>, Vec<f64>) {
+fn best_planned(
+    rounds: usize,
+    times: u64,
+    lists: &Lists,
+    operations: &[u8],
+    others: &mut [Run],
+) -> (f64, Vec<f64>, Vec<f64>) {
     let run = |operation: u8, turns: u64| -> Run {
         let mut lists = Lists { p: lists.p, g: lists.g, xs: lists.xs.clone(), ys: lists.ys.clone() };
         Box::new(move |_| lists.planned(operation, turns))
@@ -143,7 +158,7 @@ fn rounds(bits: usize) -> (usize, u64) {
     match bits {
         0..=12 => (400, 200),
         13..=17 => (100, 4),
-        _ => (25, 2),
+        _ => (50, 2),
     }
 }
 
@@ -188,10 +203,9 @@ fn measured_products() -> [Vec<(String, Vec<f64>)>; 2] {
         unsafe { peer_flint_set(p, lists.xs.as_ptr(), lists.ys.as_ptr(), n as i64 / 2) };
         let flint = best(many.min(8), 1, &mut [repeated(|| peer_flint_multiply())])[0];
         let name = format!("2^{} terms", bits - 1);
-        lines.push((
-            name.clone(),
-            vec![ours[0], with_plan, theirs[0], flint, theirs[1], ours[0] / theirs[0], with_plan / theirs[0], ours[0] / theirs[1]],
-        ));
+        let [ours, ntl, convolve] = [ours[0], theirs[0], theirs[1]];
+        let quotients = [ours / ntl, with_plan / ntl, ours / convolve];
+        lines.push((name.clone(), [&[ours, with_plan, ntl, flint, convolve][..], &quotients].concat()));
         let lists = Lists::new(LARGE, terms(LARGE, n, 1), terms(LARGE, n, 2));
         unsafe {
             peer_flint_set(LARGE, lists.xs.as_ptr(), lists.ys.as_ptr(), n as i64 / 2);
@@ -293,12 +307,27 @@ pub fn measured() -> Vec<Rows> {
         mean: None,
     };
     vec![
-        table("planned", "Transforms by a plan, in bit-reversed order", &["plan ms", "NTL ms", "plan/NTL"], 1, transforms),
+        table(
+            "planned",
+            "Transforms by a plan, in bit-reversed order",
+            &["plan ms", "NTL ms", "plan/NTL"],
+            1,
+            transforms,
+        ),
         table("natural", "In natural order, beside `ntt`", &["ntt_planned ms", "ntt ms", "quotient"], 1, natural),
         table(
             "products",
             "Products of two polynomials",
-            &["plan ms", "with the plan ms", "NTL ms", "FLINT ms", "convolve ms", "plan/NTL", "with the plan/NTL", "plan/convolve"],
+            &[
+                "plan ms",
+                "with the plan ms",
+                "NTL ms",
+                "FLINT ms",
+                "convolve ms",
+                "plan/NTL",
+                "with the plan/NTL",
+                "plan/convolve",
+            ],
             3,
             products,
         ),
