@@ -1,5 +1,5 @@
 -- A pair of numbers on the way from x and m to a common divisor, with the factors of x that they are made by
--- (Kaliski, "The Montgomery inverse and its applications").
+-- (Kaliski, "The Montgomery inverse and its applications", 1995).
 use Rattle.std.specs.Prelude.{◌≡◌, ℕ, Bool, true, false, not, ◌+◌, ◌*◌, ◌%◌, ◌^◌, ◌<◌}
 use Rattle.modular_word.specs.Congruence.{Congruent}
 
