@@ -52,13 +52,13 @@ const ROWS: &[(usize, usize, u64)] = &[
     (2, 3, 6452021824853671393),
     (3, 3, 15533595335603152633),
     (40, 25, 8818169417417719212),
-    (159, 160, 7382517849626876012),
-    (160, 159, 11099290110613195991),
-    (160, 160, 1362837806540763316),
-    (161, 300, 10332098212347355805),
     (256, 256, 7227567340809137110),
-    (700, 163, 4899376503023364419),
+    (399, 400, 12634318158291136064),
+    (400, 399, 905890306631130754),
+    (400, 400, 13903027981042542856),
+    (401, 500, 17717939063126059312),
     (512, 512, 8486745439180781407),
+    (700, 403, 13978700984090788672),
 ];
 
 #[test]
@@ -97,9 +97,9 @@ fn a_known_product() {
 // The square of 2^(64n) - 1 is 2^(128n) - 2^(64n + 1) + 1.
 #[test]
 fn squares_of_all_ones() {
-    let ones = [18446744073709551615; 300];
-    for n in [1, 2, 3, 40, 159, 160, 256, 300] {
-        let (mut digits, mut words, mut factors) = ([7; 600], [7; 4096], [NONE; 1536]);
+    let ones = [18446744073709551615; 512];
+    for n in [1, 2, 3, 40, 300, 399, 400, 512] {
+        let (mut digits, mut words, mut factors) = ([7; 1024], [7; 4096], [NONE; 1536]);
         let (xs, places) = (&ones[..n], 2 * n);
         assert!(product(xs, xs, &mut digits[..places], &mut words, &mut factors));
         for i in 0..places {
@@ -117,14 +117,14 @@ fn squares_of_all_ones() {
 // Plans for more entries serve as well, for one product after another.
 #[test]
 fn plans_at_hand() {
-    let (mut first, mut second, mut third) = ([NONE; 512], [NONE; 512], [NONE; 512]);
+    let (mut first, mut second, mut third) = ([NONE; 1024], [NONE; 1024], [NONE; 1024]);
     assert!(fill_plans(&mut first, &mut second, &mut third));
     let (mut xs, mut ys) = ([0; 700], [0; 700]);
     fill_digits(1, &mut xs);
     fill_digits(2, &mut ys);
     for (length, other, known) in ROWS {
         let (xs, ys) = (&xs[..(*length).min(700)], &ys[..(*other).min(700)]);
-        let (mut digits, mut words) = ([7; 1400], [7; 4096]);
+        let (mut digits, mut words) = ([7; 1400], [7; 8192]);
         let places = xs.len() + ys.len();
         let done = product_planned(
             xs,
@@ -144,10 +144,10 @@ fn plans_at_hand() {
 fn the_room_of_products() {
     for (xs, ys, words, factors) in [
         (0, 0, 0, 0),
-        (159, 100000, 0, 0),
-        (160, 160, 2048, 256),
-        (160, 352, 2048, 256),
-        (160, 353, 4096, 512),
+        (399, 100000, 0, 0),
+        (400, 400, 4096, 512),
+        (400, 624, 4096, 512),
+        (400, 625, 8192, 1024),
         (2147483648, 2147483648, 17179869184, 2147483648),
     ] {
         assert_eq!(room(xs, ys), (words, factors), "{xs} and {ys} digits");
@@ -156,19 +156,19 @@ fn the_room_of_products() {
 
 #[test]
 fn room_is_told() {
-    let (mut xs, mut ys) = ([0; 160], [0; 352]);
+    let (mut xs, mut ys) = ([0; 400], [0; 624]);
     fill_digits(1, &mut xs);
     fill_digits(2, &mut ys);
     for (length, places, words, factors, fits) in [
-        (160, 512, 2048, 768, true),
-        (160, 512, 2047, 768, false),
-        (160, 512, 2048, 767, false),
-        (160, 511, 2048, 768, false),
-        (160, 513, 4096, 1536, false),
-        (159, 511, 0, 0, true),
-        (159, 512, 2048, 768, false),
+        (400, 1024, 4096, 1536, true),
+        (400, 1024, 4095, 1536, false),
+        (400, 1024, 4096, 1535, false),
+        (400, 1023, 4096, 1536, false),
+        (400, 1025, 8192, 3072, false),
+        (399, 1023, 0, 0, true),
+        (399, 1024, 4096, 1536, false),
     ] {
-        let (mut digits, mut room, mut tables) = ([7; 513], [7; 4096], [NONE; 1536]);
+        let (mut digits, mut room, mut tables) = ([7; 1025], [7; 8192], [NONE; 3072]);
         let done = product(
             &xs[..length],
             &ys,
