@@ -5,7 +5,7 @@ mod check_symbols;
 mod each_client;
 mod examples;
 mod hashes;
-mod lattice_rings;
+mod lattices;
 mod long_products;
 mod loops;
 mod paths;
