@@ -1,7 +1,8 @@
 -- Reversed bits: within range, and back again.
-use Rattle.std.proofs.Common.{◌≡◌, ℕ, suc, zero, ◌+◌, ◌-◌, ◌*◌, ◌%◌, ◌/◌, ◌^◌, ◌<◌, ◌≤◌, ◌∙◌, ap, refl, arith, inl, inr}
+use Rattle.std.proofs.Common.{◌≡◌, ◌≢◌, ℕ, suc, zero, ◌+◌, ◌-◌, ◌*◌, ◌%◌, ◌/◌, ◌^◌, ◌<◌, ◌≤◌, ◌∙◌, ap, refl, arith, inl, inr}
 use Rattle.std.proofs.lemmas.Bool.{cases_lt, cases_eq}
 use Rattle.std.proofs.Math.Nat.{two-pow-succ, pow-le-pow_right, mod-eq_of_lt}
+use Rattle.std.proofs.lemmas.Nat.{pow-add}
 use Rattle.std.specs.Int.Count.{count_trailing_zeros}
 use lib.Count.{under}
 use Rattle.modular_transform.specs.Orders.{bits_reversed}
@@ -65,6 +66,33 @@ bits_reversed_twice (suc t) p below =
     let h = bits_reversed_of_high t (bits_reversed t (p / 2)) (p % 2) (bits_reversed_below t (p / 2)) (omega arith) in
     let ih = bits_reversed_twice t (p / 2) (omega (arith, k)) in
     omega (arith, e, h, ih)
+
+-- the bits of two parts are reversed apart, and the parts change their places
+pub bits_reversed_of_parts : (t u x y : ℕ) → x < 2 ^ t
+    → bits_reversed (t + u) (x + 2 ^ t * y) ≡ bits_reversed t x * 2 ^ u + bits_reversed u y
+bits_reversed_of_parts zero u x y below =
+    let k : 2 ^ 0 ≡ 1 = refl in
+    let ky = ap (λ v. v * y) k in
+    let place : x + 2 ^ 0 * y ≡ y = omega (arith, k, ky) in
+    let z = ap (λ v. v * 2 ^ u) (bits_reversed-zero x) in
+    let whole : 0 + u ≡ u = omega arith in
+    let e = ap (λ v. bits_reversed v (x + 2 ^ 0 * y)) whole in
+    let f = ap (bits_reversed u) place in
+    omega (arith, z, e, f)
+bits_reversed_of_parts (suc t) u x y below =
+    let k = two-pow-succ t in
+    let ky = ap (λ v. v * y) k in
+    let half : (x + 2 ^ suc t * y) / 2 ≡ x / 2 + 2 ^ t * y = omega (arith, ky) in
+    let low : (x + 2 ^ suc t * y) % 2 ≡ x % 2 = omega (arith, ky) in
+    let ih = bits_reversed_of_parts t u (x / 2) y (omega (arith, k)) in
+    let whole : suc t + u ≡ suc (t + u) = omega arith in
+    let w = ap (λ v. bits_reversed v (x + 2 ^ suc t * y)) whole in
+    let e = bits_reversed-suc (t + u) (x + 2 ^ suc t * y) in
+    let f = ap (λ v. bits_reversed (t + u) v) half in
+    let g = ap (λ v. v * 2 ^ (t + u)) low in
+    let p = ap (λ v. x % 2 * v) (pow-add 2 t u) in
+    let d = ap (λ v. v * 2 ^ u) (bits_reversed-suc t x) in
+    omega (arith, w, e, f, g, ih, p, d)
 
 -- the bits of 0
 pub bits_reversed_of_zero : (t : ℕ) → bits_reversed t 0 ≡ 0
@@ -159,3 +187,16 @@ reversed_step (suc c) p n o s whole fits some l is_o is_s =
       enough = omega (arith, next, step, less, u);
       next = omega (arith, next, step, less, u);
     }
+
+-- the same of 2^b places in a word, the number of the places being a shifted one
+pub step_in_word : (o p b : ℕ) → b ≤ 63 → p < 2 ^ b → o ≡ bits_reversed b (p - 1) → p ≢ 0
+    → ReversedStep b p ((1 * 2 ^ b) % 18446744073709551616) o
+    ((1 * 2 ^ (b - 1 - count_trailing_zeros 64 p)) % 18446744073709551616)
+step_in_word o p b few below is_o some =
+    let most = pow-le-pow_right {n = 2} (omega arith) {i = b} {j = 63} few in
+    let q : 2 ^ 63 ≡ 9223372036854775808 = refl in
+    let r : 2 ^ 64 ≡ 18446744073709551616 = refl in
+    let one : 1 * 2 ^ b ≡ 2 ^ b = omega arith in
+    let whole : (1 * 2 ^ b) % 18446744073709551616 ≡ 2 ^ b =
+    ap (λ v. v % 18446744073709551616) one ∙ mod-eq_of_lt (omega (arith, most, q)) in
+    reversed_step b p _ o _ whole (omega (arith, most, q, r, whole)) (omega arith) (omega (arith, whole)) is_o refl

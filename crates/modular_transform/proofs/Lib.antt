@@ -12,5 +12,6 @@ pub mod PowersOfTwo
 pub mod Reordering
 pub mod StageLemmas
 pub mod StripPowers
+pub mod Tiles
 pub mod TransformLemmas
 pub mod ValueLemmas

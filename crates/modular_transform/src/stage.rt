@@ -11,7 +11,7 @@ use modular_word::ring_word::RingWord;
 
 // How many columns are taken together: their powers stand on the stack, and in each block their
 // pairs are neighbours in memory.
-const STRIP: usize = 64;
+const STRIP: usize = 128;
 
 // A difference times a power. It takes one product.
 fn weighted_difference<T: RingWord, R: Reducer<T>>(r: &R, a: &T, b: &T, power: &T) -> T

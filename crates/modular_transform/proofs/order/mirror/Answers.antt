@@ -4,7 +4,7 @@ use Rattle.std.specs.List.{swap}
 use Rattle.modular_transform.specs.Orders.{mirrored}
 use Rattle.modular_transform.proofs.Reordering.{ReorderedSoFar}
 use Rattle.modular_transform.proofs.Reordering.{mirror_exchange, mirrored_other, reordered_swapped}
-use Rattle.modular_transform.proofs.Reordering.{reordered_passed, reordered_all}
+use Rattle.modular_transform.proofs.Reordering.{exchanged_of_swapped, reordered_passed, reordered_all}
 use Rattle.modular_transform.proofs.order.mirror.Goals as goal
 use Rattle.modular_transform.proofs.order.mirror.Goals.{then-place-other, else-place-other}
 
@@ -22,7 +22,8 @@ places-preserved g c d =
           let e = w.entries-is ∙ w.swap.ensures.after ∙ ap (λ j. swap c.places.entries i j) is in
           reordered_swapped n i s (λ k. get_or c.args.entries.now k d) (λ k. get_or c.places.entries k d)
           (λ k. get_or c.if-place-other.entries k d) (mirror_exchange n) l order
-          (swapped_from_swap c.places.entries c.if-place-other.entries i (s i) d (omega arith) within e)
+          (exchanged_of_swapped n i (s i) _ _
+          (swapped_from_swap c.places.entries c.if-place-other.entries i (s i) d (omega arith) within e))
           (c.places.invariant d)
       | else-place-other w ↦
           let order : s i ≤ i = omega (arith, is) in

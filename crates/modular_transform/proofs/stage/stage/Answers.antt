@@ -81,7 +81,7 @@ strips-init g c =
     let form = form_of_value canonical c.transform-running.ensures.form in
     record {
       checked = c.requires.checked;
-      powers = one_form number g.R.Reducer.form value m 64 c.transform-running.result form;
+      powers = one_form number g.R.Reducer.form value m 128 c.transform-running.result form;
       running_form = form;
       running = first_power w canonical c.one.ensures c.transform-running.ensures.form;
       within = omega arith;

@@ -1,7 +1,7 @@
 use Rattle.std.proofs.Common.{◌≡◌, ◌-◌, length, get_or}
 use Rattle.modular_transform.specs.Orders.{bits_reversed}
 use Rattle.modular_transform.proofs.Reordering.{ReorderedSoFar}
-use Rattle.modular_transform.proofs.order.reverse_places.Given as goal
+use Rattle.modular_transform.proofs.order.reverse_one_by_one.Given as goal
 
 -- the places before this one are done, and `other` is the reversed place of the last of them
 abbrev pub invariant-places : goal.invariant-places

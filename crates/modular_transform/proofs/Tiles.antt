@@ -1,0 +1,250 @@
+-- Places numbered tile by tile: number (tile * 8 + row) * 8 + column is place row * step + tile * 8 + column.
+use Rattle.std.proofs.Common.{◌≡◌, ℕ, ◌+◌, ◌-◌, ◌*◌, ◌%◌, ◌/◌, ◌^◌, ◌<◌, ◌≤◌, subst, sym, ◌∙◌, ap, refl, arith}
+use Rattle.std.proofs.Math.Nat.{mul-le-mul_right, div-lt_iff_lt-mul, mod-lt}
+use Rattle.std.proofs.lemmas.Nat.{div-mul-add, mod-mul-add, div-add-mod', pow-add}
+use Rattle.modular_transform.specs.Orders.{bits_reversed}
+use Rattle.modular_transform.proofs.BitReversal.{bits_reversed_below, bits_reversed_twice, bits_reversed_of_parts}
+use Rattle.std.proofs.lemmas.List.Edits.{Swapped}
+use Rattle.modular_transform.proofs.Reordering.{IsExchange, ExchangedBelow, ReorderedSoFar, reordered_at}
+use Rattle.modular_transform.proofs.Reordering.{reordered_swapped, reordered_passed, reordered_passed_by, reordered_all}
+
+-- the place with a number
+abbrev pub place_of : ℕ → ℕ → ℕ
+place_of step t = t / 8 % 8 * step + t / 64 * 8 + t % 8
+
+-- and the number of a place
+abbrev pub number_of : ℕ → ℕ → ℕ
+number_of step k = (k % step) / 8 * 64 + k / step * 8 + (k % step) % 8
+
+-- the number of the place with the reversed bits, where the tiles have b bits
+abbrev pub tiles_reversed : ℕ → ℕ → ℕ
+tiles_reversed b t = bits_reversed b (t / 64) * 64 + bits_reversed 3 (t % 8) * 8 + bits_reversed 3 (t / 8 % 8)
+
+-- the parts of a number
+record Parts (t tile row column : ℕ) : Type 0 where
+  pub tile_is : t / 64 ≡ tile
+  pub row_is : t / 8 % 8 ≡ row
+  pub column_is : t % 8 ≡ column
+
+parts : (tile row column : ℕ) → row < 8 → column < 8 → Parts (tile * 64 + row * 8 + column) tile row column
+parts tile row column r c = record { tile_is = omega arith; row_is = omega arith; column_is = omega arith }
+
+pub place_of_parts : (step tile row column : ℕ) → row < 8 → column < 8
+    → place_of step (tile * 64 + row * 8 + column) ≡ row * step + tile * 8 + column
+place_of_parts step tile row column r c =
+    let p = parts tile row column r c in
+    let a = ap (λ v. v * step) p.row_is in
+    let t = p.tile_is in
+    let k = p.column_is in
+    omega (arith, a, t, k)
+
+pub reversed_parts : (b tile row column : ℕ) → row < 8 → column < 8
+    → tiles_reversed b (tile * 64 + row * 8 + column)
+    ≡ bits_reversed b tile * 64 + bits_reversed 3 column * 8 + bits_reversed 3 row
+reversed_parts b tile row column r c =
+    let p = parts tile row column r c in
+    let x = ap (bits_reversed b) p.tile_is in
+    let y = ap (bits_reversed 3) p.row_is in
+    let z = ap (bits_reversed 3) p.column_is in
+    omega (arith, x, y, z)
+
+pub reversed_below_8 : (k : ℕ) → bits_reversed 3 k < 8
+reversed_below_8 k = let b = bits_reversed_below 3 k in let e : 2 ^ 3 ≡ 8 = refl in omega (arith, b, e)
+
+pub tiles_exchange : (b n : ℕ) → n ≡ 2 ^ b * 64 → IsExchange n (tiles_reversed b)
+tiles_exchange b n is_n = record {
+  within = λ t l.
+      let x = bits_reversed_below b (t / 64) in
+      let y = reversed_below_8 (t % 8) in
+      let z = reversed_below_8 (t / 8 % 8) in
+      omega (arith, x, y, z);
+  twice = λ t l.
+      let e : 2 ^ 3 ≡ 8 = refl in
+      let again = reversed_parts b (bits_reversed b (t / 64)) (bits_reversed 3 (t % 8)) (bits_reversed 3 (t / 8 % 8))
+      (reversed_below_8 (t % 8)) (reversed_below_8 (t / 8 % 8)) in
+      let x = bits_reversed_twice b (t / 64) (omega arith) in
+      let y = bits_reversed_twice 3 (t % 8) (omega (arith, e)) in
+      let z = bits_reversed_twice 3 (t / 8 % 8) (omega (arith, e)) in
+      omega (arith, again, x, y, z);
+}
+
+-- the bits of a place are reversed as those of its tile, its row and its column
+pub place_reversed : (bits b step t : ℕ) → bits ≡ b + 6 → step ≡ 2 ^ b * 8 → t < 2 ^ b * 64
+    → bits_reversed bits (place_of step t) ≡ place_of step (tiles_reversed b t)
+place_reversed bits b step t is_bits is_step l =
+    let e : 2 ^ 3 ≡ 8 = refl in
+    let tile = t / 64 in
+    let row = t / 8 % 8 in
+    let column = t % 8 in
+    let high = tile + 2 ^ b * row in
+    let rows = ap (λ v. row * v) is_step in
+    let eights = ap (λ v. v * high) e in
+    let place : place_of step t ≡ column + 2 ^ 3 * high = omega (arith, rows, eights) in
+    let number : bits ≡ 3 + (b + 3) = omega arith in
+    let one = bits_reversed_of_parts 3 (b + 3) column high (omega (arith, e)) in
+    let two = bits_reversed_of_parts b 3 tile row (omega arith) in
+    let other = ap (λ v. bits_reversed b tile * v) e in
+    let third = ap (λ v. bits_reversed 3 column * v) (pow-add 2 b 3 ∙ ap (λ v. 2 ^ b * v) e ∙ sym is_step) in
+    let to = place_of_parts step (bits_reversed b tile) (bits_reversed 3 column) (bits_reversed 3 row)
+    (reversed_below_8 column) (reversed_below_8 row) in
+    let all = ap (λ v. bits_reversed v (place_of step t)) number
+    ∙ ap (bits_reversed (3 + (b + 3))) place ∙ one in
+    omega (arith, all, two, other, third, to)
+
+place_below : (step tile row column : ℕ) → tile * 8 + 8 ≤ step → row < 8 → column < 8
+    → row * step + tile * 8 + column < step * 8
+place_below step tile row column t r c =
+    let m = mul-le-mul_right {m = row} {n = 7} step (omega arith) in
+    omega (arith, m)
+
+-- the number of the place of a number
+number_again : (b step t : ℕ) → step ≡ 2 ^ b * 8 → t < 2 ^ b * 64 → number_of step (place_of step t) ≡ t
+number_again b step t is_step l =
+    let rest = t / 64 * 8 + t % 8 in
+    let small : rest < step = omega (arith, is_step) in
+    let sum : place_of step t ≡ t / 8 % 8 * step + rest = omega arith in
+    let q = ap (λ v. v / step) sum ∙ div-mul-add (t / 8 % 8) step rest small in
+    let r = ap (λ v. v % step) sum ∙ mod-mul-add (t / 8 % 8) step rest small in
+    let a = ap (λ v. v / 8) r in
+    let c = ap (λ v. v % 8) r in
+    omega (arith, q, a, c)
+
+place_injective : (b step j k : ℕ) → step ≡ 2 ^ b * 8 → j < 2 ^ b * 64 → k < 2 ^ b * 64
+    → place_of step j ≡ place_of step k → j ≡ k
+place_injective b step j k is_step lj lk e =
+    sym (number_again b step j is_step lj) ∙ ap (number_of step) e ∙ number_again b step k is_step lk
+
+-- two places exchanged are two numbers exchanged
+pub exchanged_numbers : {T : Type 0} (b step i j : ℕ) (x y : ℕ → T) → step ≡ 2 ^ b * 8 → i < 2 ^ b * 64 → j < 2 ^ b * 64
+    → Swapped x y (place_of step i) (place_of step j)
+    → ExchangedBelow (2 ^ b * 64) i j (λ t. x (place_of step t)) (λ t. y (place_of step t))
+exchanged_numbers b step i j x y is_step li lj swapped = record {
+  first = swapped.0;
+  second = swapped.1;
+  others = λ k l ni nj. swapped.2 (place_of step k) (λ e. ni (place_injective b step k i is_step l li e))
+      (λ e. nj (place_injective b step k j is_step l lj e));
+}
+
+-- once all numbers are done, all places are
+pub places_reversed : {T : Type 0} (bits b step i : ℕ) (old new : ℕ → T) → bits ≡ b + 6 → step ≡ 2 ^ b * 8
+    → 2 ^ b * 64 ≤ i
+    → ReorderedSoFar (2 ^ b * 64) i (tiles_reversed b) (λ t. old (place_of step t)) (λ t. new (place_of step t))
+    → (k : ℕ) → k < 2 ^ b * 64 → new k ≡ old (bits_reversed bits k)
+places_reversed bits b step i old new is_bits is_step all so_far k l =
+    let t = number_of step k in
+    let some : 0 < step = omega arith in
+    let eight : k < 8 * step = omega (arith, is_step) in
+    let row : k / step < 8 = (div-lt_iff_lt-mul {k = step} {x = k} {y = 8} some).1 eight in
+    let rest : k % step < step = mod-lt k some in
+    let again = div-add-mod' k step in
+    let below : t < 2 ^ b * 64 = omega (arith, is_step, row, rest) in
+    let place : place_of step t ≡ k =
+    place_of_parts step ((k % step) / 8) (k / step) ((k % step) % 8) row (omega arith) ∙ omega (arith, again) in
+    ap new (sym place) ∙ reordered_all (2 ^ b * 64) i (tiles_reversed b) _ _ all so_far t below
+    ∙ ap old (sym (place_reversed bits b step t is_bits is_step below) ∙ ap (bits_reversed bits) place)
+
+pub tiles_of_whole : (bits n : ℕ) → 6 ≤ bits → n ≡ 2 ^ bits → n ≡ 2 ^ (bits - 6) * 64
+tiles_of_whole bits n some whole =
+    let e : bits - 6 + 6 ≡ bits = omega arith in
+    let q : 2 ^ 6 ≡ 64 = refl in
+    whole ∙ ap (λ v. 2 ^ v) (sym e) ∙ pow-add 2 (bits - 6) 6 ∙ ap (λ v. 2 ^ (bits - 6) * v) q
+
+-- the places that change with one another at a row and a column of a tile
+pub record Spot (b step tile other row column to_row to_column : ℕ) : Type 0 where
+  pub step_is : step ≡ 2 ^ b * 8
+  pub tile_below : tile < 2 ^ b
+  pub other_below : other < 2 ^ b
+  pub to_row_below : to_row < 8
+  pub to_column_below : to_column < 8
+  pub number_below : tile * 64 + row * 8 + column < 2 ^ b * 64
+  pub number : tiles_reversed b (tile * 64 + row * 8 + column) ≡ other * 64 + to_row * 8 + to_column
+  pub first : place_of step (tile * 64 + row * 8 + column) ≡ row * step + tile * 8 + column
+  pub first_below : row * step + tile * 8 + column < step * 8
+  pub second : place_of step (tiles_reversed b (tile * 64 + row * 8 + column)) ≡ to_row * step + other * 8 + to_column
+  pub second_below : to_row * step + other * 8 + to_column < step * 8
+
+pub spot : (b step tile other row column to_row to_column : ℕ) → step ≡ 2 ^ b * 8 → tile < 2 ^ b → row < 8 → column < 8
+    → other ≡ bits_reversed b tile → to_row ≡ bits_reversed 3 column → to_column ≡ bits_reversed 3 row
+    → Spot b step tile other row column to_row to_column
+spot b step tile other row column to_row to_column is_step lt lr lc is_other is_row is_column =
+    let x = bits_reversed_below b tile in
+    let y = reversed_below_8 column in
+    let z = reversed_below_8 row in
+    let lo : other < 2 ^ b = omega (arith, x, is_other) in
+    let ly : to_row < 8 = omega (arith, y, is_row) in
+    let lz : to_column < 8 = omega (arith, z, is_column) in
+    let is : tiles_reversed b (tile * 64 + row * 8 + column) ≡ other * 64 + to_row * 8 + to_column =
+    reversed_parts b tile row column lr lc ∙ omega (arith, is_other, is_row, is_column) in
+    record {
+      step_is = is_step;
+      tile_below = lt;
+      other_below = lo;
+      to_row_below = ly;
+      to_column_below = lz;
+      number_below = omega (arith, lt, lr, lc);
+      number = is;
+      first = place_of_parts step tile row column lr lc;
+      first_below = place_below step tile row column (omega (arith, is_step, lt)) lr lc;
+      second = ap (place_of step) is ∙ place_of_parts step other to_row to_column ly lz;
+      second_below = place_below step other to_row to_column (omega (arith, is_step, lo)) ly lz;
+    }
+
+-- the two places are swapped
+pub spot_swapped : {T : Type 0} (b step tile other row column to_row to_column : ℕ) (old new newer : ℕ → T)
+    → Spot b step tile other row column to_row to_column
+    → tile * 64 + row * 8 + column < other * 64 + to_row * 8 + to_column
+    → Swapped new newer (row * step + tile * 8 + column) (to_row * step + other * 8 + to_column)
+    → ReorderedSoFar (2 ^ b * 64) (tile * 64 + row * 8 + column) (tiles_reversed b) (λ t. old (place_of step t))
+    (λ t. new (place_of step t))
+    → ReorderedSoFar (2 ^ b * 64) (tile * 64 + row * 8 + (column + 1)) (tiles_reversed b) (λ t. old (place_of step t))
+    (λ t. newer (place_of step t))
+spot_swapped b step tile other row column to_row to_column old new newer here order swapped so_far =
+    let n = 2 ^ b * 64 in
+    let s = tiles_reversed b in
+    let t = tile * 64 + row * 8 + column in
+    let exchange = tiles_exchange b n refl in
+    let is = here.number in
+    let at : Swapped new newer (place_of step t) (place_of step (s t)) =
+    subst (λ i. Swapped new newer i (place_of step (s t))) (sym here.first)
+    (subst (λ j. Swapped new newer (row * step + tile * 8 + column) j) (sym here.second) swapped) in
+    reordered_at n (t + 1) (tile * 64 + row * 8 + (column + 1)) s _ _ (omega arith)
+    (reordered_swapped n t s (λ k. old (place_of step k)) (λ k. new (place_of step k)) (λ k. newer (place_of step k))
+    exchange here.number_below (omega (arith, order, is))
+    (exchanged_numbers b step t (s t) new newer here.step_is here.number_below (exchange.within t here.number_below)
+    at) so_far)
+
+-- they were swapped before, or are one place
+pub spot_passed : {T : Type 0} (b step tile other row column to_row to_column : ℕ) (old new : ℕ → T)
+    → Spot b step tile other row column to_row to_column
+    → other * 64 + to_row * 8 + to_column ≤ tile * 64 + row * 8 + column
+    → ReorderedSoFar (2 ^ b * 64) (tile * 64 + row * 8 + column) (tiles_reversed b) (λ t. old (place_of step t))
+    (λ t. new (place_of step t))
+    → ReorderedSoFar (2 ^ b * 64) (tile * 64 + row * 8 + (column + 1)) (tiles_reversed b) (λ t. old (place_of step t))
+    (λ t. new (place_of step t))
+spot_passed b step tile other row column to_row to_column old new here order so_far =
+    let n = 2 ^ b * 64 in
+    let s = tiles_reversed b in
+    let t = tile * 64 + row * 8 + column in
+    let is = here.number in
+    reordered_at n (t + 1) (tile * 64 + row * 8 + (column + 1)) s _ _ (omega arith)
+    (reordered_passed n t s (λ k. old (place_of step k)) (λ k. new (place_of step k)) (tiles_exchange b n refl)
+    here.number_below (omega (arith, order, is)) so_far)
+
+-- so were all places of a tile
+pub tile_passed : {T : Type 0} (b step tile other : ℕ) (old new : ℕ → T) → other ≡ bits_reversed b tile → other < tile
+    → ReorderedSoFar (2 ^ b * 64) (tile * 64) (tiles_reversed b) (λ t. old (place_of step t))
+    (λ t. new (place_of step t))
+    → ReorderedSoFar (2 ^ b * 64) ((tile + 1) * 64) (tiles_reversed b) (λ t. old (place_of step t))
+    (λ t. new (place_of step t))
+tile_passed b step tile other old new is_other order so_far =
+    let n = 2 ^ b * 64 in
+    let s = tiles_reversed b in
+    reordered_at n (tile * 64 + 64) ((tile + 1) * 64) s _ _ (omega arith)
+    (reordered_passed_by n (tile * 64) 64 s (λ k. old (place_of step k)) (λ k. new (place_of step k))
+    (tiles_exchange b n refl)
+    (λ k l from to.
+    let at : k / 64 ≡ tile = omega arith in
+    let x = ap (bits_reversed b) at in
+    let y = reversed_below_8 (k % 8) in
+    let z = reversed_below_8 (k / 8 % 8) in
+    omega (arith, x, y, z, is_other)) so_far)

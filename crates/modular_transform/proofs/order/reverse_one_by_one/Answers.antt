@@ -1,0 +1,59 @@
+use Rattle.std.proofs.Common.{◌≡◌, ◌+◌, ◌-◌, ◌<◌, ◌≤◌, length, get_or, subst, sym, ◌∙◌, ap, arith}
+use Rattle.std.proofs.lemmas.List.Edits.{swapped_from_swap}
+use Rattle.std.specs.List.{swap}
+use Rattle.modular_transform.specs.Orders.{bits_reversed}
+use Rattle.modular_transform.proofs.BitReversal.{bits_reversed_below, bits_reversed_of_zero}
+use Rattle.modular_transform.proofs.Reordering.{ReorderedSoFar, bits_exchange, exchanged_of_swapped, reordered_none}
+use Rattle.modular_transform.proofs.Reordering.{reordered_swapped, reordered_passed, reordered_all}
+use Rattle.modular_transform.proofs.order.reverse_one_by_one.Goals as goal
+use Rattle.modular_transform.proofs.order.reverse_one_by_one.Goals.{then-place-other, else-place-other}
+
+pub places-init : goal.places-init
+places-init g c = record {
+  other = sym (bits_reversed_of_zero c.args.bits);
+  reordered = λ d. reordered_none (length c.args.entries.now) (bits_reversed c.args.bits)
+      (λ k. get_or c.args.entries.now k d);
+}
+
+pub swap-requires-clause-b_in_bounds : goal.swap-requires-clause-b_in_bounds
+swap-requires-clause-b_in_bounds g c =
+    let b = bits_reversed_below c.args.bits c.places.place in
+    let next = c.next_reversed-other.ensures in
+    omega (arith, b, next)
+
+pub places-preserved : goal.places-preserved
+places-preserved g c =
+    let n = length c.args.entries.now in
+    let i = c.places.place in
+    let s = bits_reversed c.args.bits in
+    let exchange = bits_exchange c.args.bits n c.requires.whole in
+    let is = c.next_reversed-other.ensures in
+    let l : i < n = omega arith in
+    let back : i + 1 - 1 ≡ i = omega arith in
+    record {
+      other = is ∙ ap s (sym back);
+      reordered = λ d. elim c.if-place-other.branch [
+        | then-place-other w ↦
+            let order : i < s i = omega (arith, is) in
+            let within : s i < length c.places.entries = let b = bits_reversed_below c.args.bits i in
+            omega (arith, b) in
+            let e = w.entries-is ∙ w.swap.ensures.after ∙ ap (λ j. swap c.places.entries i j) is in
+            reordered_swapped n i s (λ k. get_or c.args.entries.now k d) (λ k. get_or c.places.entries k d)
+            (λ k. get_or c.if-place-other.entries k d) exchange l order
+            (exchanged_of_swapped n i (s i) _ _
+            (swapped_from_swap c.places.entries c.if-place-other.entries i (s i) d (omega arith) within e))
+            (c.places.invariant.reordered d)
+        | else-place-other w ↦
+            let order : s i ≤ i = omega (arith, is) in
+            subst (λ es. ReorderedSoFar n (i + 1) s (λ k. get_or c.args.entries.now k d) (λ k. get_or es k d))
+            (sym w.entries-is)
+            (reordered_passed n i s (λ k. get_or c.args.entries.now k d)
+            (λ k. get_or c.places.entries k d) exchange l order (c.places.invariant.reordered d))
+      ];
+    }
+
+pub returns : goal.returns
+returns g c = record {
+  each = λ i d l. reordered_all (length c.args.entries.now) c.places.place (bits_reversed c.args.bits) _ _ (omega arith)
+      (c.places.invariant.reordered d) i l;
+}
