@@ -5,7 +5,7 @@ ghost use Rattle.std.specs.Int.{IsPowerOfTwo};
 ghost use Rattle.modular_plan.specs.Factors.{IsFactor};
 ghost use Rattle.modular_plan.specs.Plans.{numbers, IsPlan, AreRemainders};
 ghost use Rattle.modular_plan.specs.Steps.{IsPairSplit, IsFourSplit, PairDone, BlockDone};
-ghost use Rattle.modular_plan.specs.Steps.{StageDone, FourDone, BlockOfFours, StageOfFours};
+ghost use Rattle.modular_plan.specs.Steps.{StageDone, FourDone, BlockOfFours, StageOfFours, IsLevel};
 
 use crate::entry::PlanEntry;
 use crate::modulus::{Factor, PlannedModulus, reduced_once};
@@ -191,6 +191,65 @@ fn split_two_stages<T: PlainWord, F: PlanEntry<T>>(
     }
 }
 
+// Two stages of the four entries from place `first` on, which become residues.
+fn split_neighbours<T: PlainWord>(
+    m: &PlannedModulus<T>,
+    xs: &mut [T],
+    first: usize,
+    w: &Factor<T>,
+    u: &Factor<T>,
+    v: &Factor<T>,
+)
+    requires entries { All (λ x. T.number x < 4 * T.number m.now.modulus) xs.old }
+    requires factor { IsFactor T.base (T.number m.now.modulus) (T.number w.now.value) (T.number w.now.quotient) }
+    requires low_factor { IsFactor T.base (T.number m.now.modulus) (T.number u.now.value) (T.number u.now.quotient) }
+    requires high_factor { IsFactor T.base (T.number m.now.modulus) (T.number v.now.value) (T.number v.now.quotient) }
+    requires within { first + 3 < length xs.old }
+    ensures entries { All (λ x. T.number x < 4 * T.number m.now.modulus) xs.new }
+    ensures below { (k : ℕ) → first ≤ k → k < first + 4
+        → numbers T.number xs.new k < T.number m.now.modulus }
+    ensures done { FourDone (IsFourSplit (T.number m.now.modulus) (T.number w.now.value)
+        (T.number u.now.value) (T.number v.now.value))
+        first (first + 1) (first + 2) (first + 3) (numbers T.number xs.old) (numbers T.number xs.new) }
+{
+    let (e, g) = split_values(m, xs[first], xs[first + 2], w);
+    let (f, h) = split_values(m, xs[first + 1], xs[first + 3], w);
+    let (a, b) = split_values(m, e, f, u);
+    let (c, d) = split_values(m, g, h, v);
+    xs[first + 3] = m.residue(d);
+    xs[first + 2] = m.residue(c);
+    xs[first + 1] = m.residue(b);
+    xs[first] = m.residue(a);
+}
+
+// The last two stages: those of `split_two_stages` on each four neighbours, and their residues.
+fn split_fours<T: PlainWord, F: PlanEntry<T>>(
+    m: &PlannedModulus<T>,
+    xs: &mut [T],
+    blocks: usize,
+    table: &[F],
+    first: usize,
+)
+    requires entries { All (λ x. T.number x < 4 * T.number m.now.modulus) xs.old }
+    requires factors { All (λ f. IsFactor T.base (T.number m.now.modulus) (F.value f) (F.quotient f))
+        table.now }
+    requires whole { blocks * 4 ≡ length xs.old }
+    requires within { 2 * (first + blocks) ≤ length table.now }
+    ensures below { All (λ x. T.number x < T.number m.now.modulus) xs.new }
+    ensures done { let w = numbers F.value table.now in
+        StageOfFours (λ p. IsFourSplit (T.number m.now.modulus) (w (first + p)) (w (2 * (first + p)))
+        (w (2 * (first + p) + 1))) 1 blocks
+        (numbers T.number xs.old) (numbers T.number xs.new) }
+{
+    'fours: for p in 0..blocks {
+        let place = first + p;
+        let w = table[place].factor();
+        let u = table[2 * place].factor();
+        let v = table[2 * place + 1].factor();
+        split_neighbours(m, xs, p * 4, &w, &u, &v);
+    }
+}
+
 // Each entry's residue.
 pub(crate) fn reduce_each<T: PlainWord>(m: &PlannedModulus<T>, xs: &mut [T])
     requires { All (λ x. T.number x < 4 * T.number m.now.modulus) xs.old }
@@ -225,6 +284,45 @@ pub fn splits(length: usize, factors: usize, b: usize, last: usize) -> bool
     b < factors / (count / 2)
 }
 
+// All stages from block b down to blocks of `last`, by the conditions of `split`. Where their number is
+// odd a single one comes first, so that the other passes do two.
+fn split_stages<T: PlainWord, F: PlanEntry<T>>(
+    m: &PlannedModulus<T>,
+    xs: &mut [T],
+    table: &[F],
+    b: usize,
+    last: usize,
+)
+    requires entries { All (λ x. T.number x < 4 * T.number m.now.modulus) xs.old }
+    requires factors { All (λ f. IsFactor T.base (T.number m.now.modulus) (F.value f) (F.quotient f))
+        table.now }
+    requires some { 1 ≤ last }
+    requires count { IsPowerOfTwo (length xs.old / last) }
+    requires whole { length xs.old / last * last ≡ length xs.old }
+    requires within { (b + 1) * (length xs.old / last / 2) ≤ length table.now }
+    ensures entries { All (λ x. T.number x < 4 * T.number m.now.modulus) xs.new }
+    ensures level { let modulus = T.number m.now.modulus in (g z : ℕ) →
+        IsPlan modulus g z (length table.now) (numbers F.value table.now) →
+        IsLevel modulus g z b (length xs.old / last) last (numbers T.number xs.old) (numbers T.number xs.new) }
+{
+    let mut left = (xs.len() / last).trailing_zeros();
+    let mut size = xs.len();
+    let mut blocks = 1;
+    'stages: while 0 < left {
+        if left % 2 == 0 {
+            size /= 4;
+            split_two_stages(m, xs, size, blocks, table, b * blocks);
+            blocks *= 4;
+            left -= 2;
+        } else {
+            size /= 2;
+            split_stage(m, xs, size, blocks, table, b * blocks);
+            blocks *= 2;
+            left -= 1;
+        }
+    }
+}
+
 /// Splits block b of the tree of remainders into blocks of `last` entries: entry i of block j becomes
 /// the sum over k of x_(k·last + i)·c^k modulo m, the coefficient of the remainder modulo X^last - c,
 /// where c is the power of g by the reversed bits of b·count + j, count being the number of blocks.
@@ -236,7 +334,7 @@ pub fn splits(length: usize, factors: usize, b: usize, last: usize) -> bool
 ///
 /// Source: the sums and differences are those of Cooley and Tukey, with one factor a block, as
 /// Bernstein ("Multidigit multiplication for mathematicians", section 2) has them. A pass over the list
-/// does two stages where two are left.
+/// does two stages; a single one comes first where their number is odd.
 pub fn split<T: PlainWord, F: PlanEntry<T>>(
     m: &PlannedModulus<T>,
     xs: &mut [T],
@@ -256,18 +354,12 @@ pub fn split<T: PlainWord, F: PlanEntry<T>>(
         IsPlan modulus g z (length table.now) (numbers F.value table.now) →
         AreRemainders modulus g z b (length xs.old / last) last (numbers T.number xs.old) (numbers T.number xs.new) }
 {
-    let mut size = xs.len();
-    let mut blocks = 1;
-    'stages: while last < size {
-        if last < size / 2 {
-            size /= 4;
-            split_two_stages(m, xs, size, blocks, table, b * blocks);
-            blocks *= 4;
-        } else {
-            size /= 2;
-            split_stage(m, xs, size, blocks, table, b * blocks);
-            blocks *= 2;
-        }
+    if last == 1 && 4 <= xs.len() {
+        let fours = xs.len() / 4;
+        split_stages(m, xs, table, b, 4);
+        split_fours(m, xs, fours, table, b * fours);
+    } else {
+        split_stages(m, xs, table, b, last);
+        reduce_each(m, xs);
     }
-    reduce_each(m, xs);
 }
