@@ -94,36 +94,47 @@ fn split_stage<T: PlainWord, F: PlanEntry<T>>(
     }
 }
 
-// The entries at four places, a quarter of a block apart: by the block's factor w, and by those of its
-// halves.
-fn split_four<T: PlainWord>(
+// Two stages of the four quarters of a block: by the block's factor w, and by those of its halves.
+fn split_columns<T: PlainWord>(
     m: &PlannedModulus<T>,
-    xs: &mut [T],
-    places: (usize, usize, usize, usize),
+    first: &mut [T],
+    second: &mut [T],
+    third: &mut [T],
+    fourth: &mut [T],
     w: &Factor<T>,
     u: &Factor<T>,
     v: &Factor<T>,
 )
-    requires entries { All (λ x. T.number x < 4 * T.number m.now.modulus) xs.old }
+    requires first { All (λ x. T.number x < 4 * T.number m.now.modulus) first.old }
+    requires second { All (λ x. T.number x < 4 * T.number m.now.modulus) second.old }
+    requires third { All (λ x. T.number x < 4 * T.number m.now.modulus) third.old }
+    requires fourth { All (λ x. T.number x < 4 * T.number m.now.modulus) fourth.old }
     requires factor { IsFactor T.base (T.number m.now.modulus) (T.number w.now.value) (T.number w.now.quotient) }
     requires low_factor { IsFactor T.base (T.number m.now.modulus) (T.number u.now.value) (T.number u.now.quotient) }
     requires high_factor { IsFactor T.base (T.number m.now.modulus) (T.number v.now.value) (T.number v.now.quotient) }
-    requires order { (places.0 < places.1) × (places.1 < places.2) × (places.2 < places.3) }
-    requires within { places.3 < length xs.old }
-    ensures entries { All (λ x. T.number x < 4 * T.number m.now.modulus) xs.new }
-    ensures done { FourDone (IsFourSplit (T.number m.now.modulus) (T.number w.now.value)
-        (T.number u.now.value) (T.number v.now.value))
-        places.0 places.1 places.2 places.3 (numbers T.number xs.old) (numbers T.number xs.new) }
+    requires quarters { (length second.old ≡ length first.old) × (length third.old ≡ length first.old)
+        × (length fourth.old ≡ length first.old) }
+    ensures first { All (λ x. T.number x < 4 * T.number m.now.modulus) first.new }
+    ensures second { All (λ x. T.number x < 4 * T.number m.now.modulus) second.new }
+    ensures third { All (λ x. T.number x < 4 * T.number m.now.modulus) third.new }
+    ensures fourth { All (λ x. T.number x < 4 * T.number m.now.modulus) fourth.new }
+    ensures done { (i : ℕ) → i < length first.old → IsFourSplit (T.number m.now.modulus)
+        (T.number w.now.value) (T.number u.now.value) (T.number v.now.value)
+        (numbers T.number first.old i) (numbers T.number second.old i)
+        (numbers T.number third.old i) (numbers T.number fourth.old i)
+        (numbers T.number first.new i) (numbers T.number second.new i)
+        (numbers T.number third.new i) (numbers T.number fourth.new i) }
 {
-    let (i, j, k, l) = places;
-    let (e, g) = split_values(m, xs[i], xs[k], w);
-    let (f, h) = split_values(m, xs[j], xs[l], w);
-    let (a, b) = split_values(m, e, f, u);
-    let (c, d) = split_values(m, g, h, v);
-    xs[l] = d;
-    xs[k] = c;
-    xs[j] = b;
-    xs[i] = a;
+    'columns: for i in 0..first.len() {
+        let (e, g) = split_values(m, first[i], third[i], w);
+        let (f, h) = split_values(m, second[i], fourth[i], w);
+        let (a, b) = split_values(m, e, f, u);
+        let (c, d) = split_values(m, g, h, v);
+        first[i] = a;
+        second[i] = b;
+        third[i] = c;
+        fourth[i] = d;
+    }
 }
 
 // Two stages of the block of four times q entries from place `first` on.
@@ -146,18 +157,12 @@ fn split_quarters<T: PlainWord>(
         (T.number u.now.value) (T.number v.now.value))
         first q q (numbers T.number xs.old) (numbers T.number xs.new) }
 {
-    'columns: for i in 0..q {
-        let low = first + i;
-        let high = first + (q + q + i);
-        split_four(
-            m,
-            xs,
-            (low, first + (q + i), high, first + (q + q + (q + i))),
-            w,
-            u,
-            v,
-        );
-    }
+    let (_before, block) = xs.split_at_mut(first);
+    let (a, rest) = block.split_at_mut(q);
+    let (b, rest) = rest.split_at_mut(q);
+    let (c, rest) = rest.split_at_mut(q);
+    let (d, _after) = rest.split_at_mut(q);
+    split_columns(m, a, b, c, d, w, u, v);
 }
 
 // Two stages of all blocks, block p by entry first + p of the table, and its halves by the entries at
