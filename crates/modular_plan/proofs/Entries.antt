@@ -1,5 +1,5 @@
 -- A list of words as the function from places to numbers: what is read and what is written.
-use Rattle.std.proofs.Common.{◌≡◌, ◌≢◌, ℕ, ◌+◌, ◌%◌, ◌<◌, ◌≤◌, List, All, map, get_or, length, inl}
+use Rattle.std.proofs.Common.{◌≡◌, ◌≢◌, ℕ, ◌+◌, ◌%◌, ◌<◌, ◌≤◌, List, [], ◌∷◌, All, map, get_or, length, inl}
 use Rattle.std.proofs.Common.{inr, sym, ◌∙◌, ap, arith, subst, get_or-set_same, get_or-set_other}
 use Rattle.std.proofs.Math.Nat.{mod-lt}
 use Rattle.std.proofs.lemmas.Bool.{cases_eq}
@@ -35,6 +35,12 @@ pub bounded : {T : Type 0} (number : T → ℕ) (bound : ℕ) (words : List T) (
     → All (λ x. number x < bound) words → i < length words → numbers number words i < bound
 bounded number bound words i d all below = subst (λ v. v < bound) (number_at number words i d below) (all i d below)
 
+-- .. where none is at hand
+pub bounded_at : {T : Type 0} (number : T → ℕ) (bound : ℕ) (words : List T) (i : ℕ)
+    → All (λ x. number x < bound) words → i < length words → numbers number words i < bound
+bounded_at number bound [] i all below = absurd (omega arith)
+bounded_at number bound (x ∷ xs) i all below = bounded number bound (x ∷ xs) i x all below
+
 -- a loop that writes entry after entry
 pub entry_done : {T : Type 0} (number : T → ℕ) (words : List T) (i : ℕ) (x : T) (target : ℕ → ℕ) → i < length words
     → ((k : ℕ) → k < i → numbers number words k ≡ target k)
@@ -50,9 +56,15 @@ pub entry_kept : {T : Type 0} (number : T → ℕ) (words : List T) (i : ℕ) (x
 entry_kept number words i x old before k l = let ne : k ≢ i = omega arith in
     not_written number words i k x ne ∙ before k (omega arith)
 
+-- .. of their numbers
+pub all_below : {T : Type 0} (number : T → ℕ) (bound n : ℕ) (words : List T) → length words ≡ n
+    → ((k : ℕ) → k < n → numbers number words k < bound) → All (λ x. number x < bound) words
+all_below number bound n words len each i d below =
+    subst (λ v. v < bound) (sym (number_at number words i d below)) (each i (omega arith))
+
 -- all words below m, by their residues
 pub all_residues : {T : Type 0} (number : T → ℕ) (m n : ℕ) (words : List T) (old : ℕ → ℕ) → 0 < m → length words ≡ n
     → ((k : ℕ) → k < n → numbers number words k ≡ old k % m)
     → All (λ x. number x < m) words
-all_residues number m n words old some len is i d below =
-    subst (λ v. v < m) (sym (number_at number words i d below ∙ is i (omega arith))) (mod-lt (old i) some)
+all_residues number m n words old some len is =
+    all_below number m n words len (λ k l. subst (λ v. v < m) (sym (is k l)) (mod-lt (old k) some))

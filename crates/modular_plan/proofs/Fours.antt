@@ -3,9 +3,9 @@ use Rattle.std.proofs.Common.{◌≡◌, ℕ, ◌+◌, ◌*◌, ◌<◌, ◌≤�
 use Rattle.std.proofs.Common.{sym, ◌∙◌, arith, subst, get_or, get_or-set_same, get_or-set_other}
 use Rattle.std.proofs.Math.ListN.{set, length-set}
 use Rattle.std.proofs.Math.Nat.{mul-le-mul_right}
-use Rattle.std.proofs.lemmas.Bool.{cases_eq}
+use Rattle.std.proofs.lemmas.Bool.{cases_eq, cases_lt}
 use Rattle.modular_plan.specs.Plans.{numbers}
-use Rattle.modular_plan.specs.Steps.{FourDone, FourAt, BlockOfFours, StageOfFours}
+use Rattle.modular_plan.specs.Steps.{IsPairSplit, IsFourSplit, FourDone, FourAt, BlockOfFours, StageOfFours}
 use Rattle.modular_plan.proofs.Entries.{written, not_written}
 
 -- one more word of which something holds
@@ -18,6 +18,22 @@ all_set P words i x all is k d l =
           subst (λ n. P (get_or (set words i x) n d)) (sym e) (subst P (sym (get_or-set_same words i x d at)) is)
       | inr ne ↦ subst P (sym (get_or-set_other words i k x d ne)) (all k d below)
     ]
+
+-- a split of four entries by those of its pairs
+pub four_of_pairs : {m : ℕ} (w u v : ℕ) {a b c d a' b' c' d' e f g h p q r s : ℕ} → a' ≡ a → b' ≡ b → c' ≡ c → d' ≡ d
+    → IsPairSplit m w a' c' e g → IsPairSplit m w b' d' f h → IsPairSplit m u e f p q → IsPairSplit m v g h r s
+    → IsFourSplit m w u v a b c d p q r s
+four_of_pairs {m} w u v {a} {b} {c} {d} {a'} {b'} {c'} {d'} {e} {f} {g} {h} {p} {q} {r} {s} ia ib ic id
+    first second low high = record {
+      e = e;
+      f = f;
+      g = g;
+      h = h;
+      first = subst (λ n. IsPairSplit m w n c e g) ia (subst (λ n. IsPairSplit m w a' n e g) ic first);
+      second = subst (λ n. IsPairSplit m w n d f h) ib (subst (λ n. IsPairSplit m w b' n f h) id second);
+      low = low;
+      high = high;
+    }
 
 -- what four writes leave
 pub four_written : {T : Type 0} (number : T → ℕ) (R : ℕ → ℕ → ℕ → ℕ → ℕ → ℕ → ℕ → ℕ → Type 0) (words : List T)
@@ -51,7 +67,7 @@ four_written number R words i j k l a b c d ij jk kl within four =
           ∙ not_written number words l e d nl;
     }
 
-four_along : (R : ℕ → ℕ → ℕ → ℕ → ℕ → ℕ → ℕ → ℕ → Type 0) {a b c d e f g h a' b' c' d' e' f' g' h' : ℕ} → a ≡ a'
+pub four_along : (R : ℕ → ℕ → ℕ → ℕ → ℕ → ℕ → ℕ → ℕ → Type 0) {a b c d e f g h a' b' c' d' e' f' g' h' : ℕ} → a ≡ a'
     → b ≡ b' → c ≡ c' → d ≡ d' → e ≡ e' → f ≡ f' → g ≡ g' → h ≡ h'
     → R a b c d e f g h → R a' b' c' d' e' f' g' h'
 four_along R {a} {b} {c} {d} {e} {f} {g} {h} {a'} {b'} {c'} {d'} {e'} {f'} {g'} {h'} pa pb pc pd pe pf pg ph r =
@@ -100,6 +116,42 @@ fours_more R first q i x y z within done step = record {
 pub fours_all : {R : ℕ → ℕ → ℕ → ℕ → ℕ → ℕ → ℕ → ℕ → Type 0} {first q i : ℕ} {x y : ℕ → ℕ}
     → BlockOfFours R first q i x y → i ≡ q → BlockOfFours R first q q x y
 fours_all {R} {first} {q} {i} {x} {y} done e = subst (λ n. BlockOfFours R first q n x y) e done
+
+-- a bound of four neighbours
+pub four_below : (bound first : ℕ) (x : ℕ → ℕ) → x first < bound → x (first + 1) < bound → x (first + 2) < bound
+    → x (first + 3) < bound
+    → (k : ℕ) → first ≤ k → k < first + 4 → x k < bound
+four_below bound first x a b c d k le lt = elim (cases_eq k first) [
+  | inl e ↦ subst (λ n. x n < bound) (sym e) a
+  | inr n0 ↦ elim (cases_eq k (first + 1)) [
+    | inl e ↦ subst (λ n. x n < bound) (sym e) b
+    | inr n1 ↦ elim (cases_eq k (first + 2)) [
+      | inl e ↦ subst (λ n. x n < bound) (sym e) c
+      | inr n2 ↦ subst (λ n. x n < bound) (let e : first + 3 ≡ k = omega arith in e) d
+    ]
+  ]
+]
+
+-- four neighbours are a block of four
+pub neighbours_done : (R : ℕ → ℕ → ℕ → ℕ → ℕ → ℕ → ℕ → ℕ → Type 0) (first : ℕ) (x y : ℕ → ℕ)
+    → FourDone R first (first + 1) (first + 2) (first + 3) x y
+    → BlockOfFours R first 1 1 x y
+neighbours_done R first x y step =
+    let zero : first ≡ first + 0 = omega arith in
+    fours_more R first 1 0 x x y (omega arith) (fours_none R first 1 x)
+    (subst (λ n. FourDone R n (first + 1) (first + 2) (first + 3) x y) zero step)
+
+-- the neighbours of one more block are below a bound
+pub neighbours_below : {R : ℕ → ℕ → ℕ → ℕ → ℕ → ℕ → ℕ → ℕ → Type 0} (bound p : ℕ) (x y : ℕ → ℕ)
+    → ((k : ℕ) → k < p * 4 → x k < bound)
+    → ((k : ℕ) → p * 4 ≤ k → k < p * 4 + 4 → y k < bound)
+    → FourDone R (p * 4) (p * 4 + 1) (p * 4 + 2) (p * 4 + 3) x y
+    → (k : ℕ) → k < (p + 1) * 4 → y k < bound
+neighbours_below {R} bound p x y before four step k l = elim (cases_lt k (p * 4)) [
+  | inl less ↦
+      subst (λ n. n < bound) (sym (step.kept k (omega arith) (omega arith) (omega arith) (omega arith))) (before k less)
+  | inr more ↦ four k more (omega arith)
+]
 
 pub stage_of_fours_none : (R : ℕ → ℕ → ℕ → ℕ → ℕ → ℕ → ℕ → ℕ → ℕ → Type 0) (q : ℕ) (x : ℕ → ℕ) → StageOfFours R q 0 x x
 stage_of_fours_none R q x = record { fours = λ p i l k. absurd (omega arith); kept = λ k l. refl }

@@ -305,32 +305,35 @@ level_next {m} g (suc u) b blocks size last rest count length entries w x y afte
     (subst (λ n. IsLevel m g (suc u) b blocks n x y) sizes.twice before) stage
 
 -- no stage is left
-none_left : (size last rest : ℕ) → 1 ≤ last → size ≤ last → size ≡ 2 ^ rest * last → rest ≡ 0
-none_left size last zero some few sized = refl
-none_left size last (suc rest) some few sized =
-    let two = two-pow-succ rest in
-    let p = mul-le-mul_right last (pow_pos rest) in
-    let e : 2 ^ suc rest * last ≡ 2 ^ rest * last + 2 ^ rest * last = ap (λ v. v * last) two ∙ omega arith in
-    absurd (omega (arith, e, p, sized, few, some))
-
-pub level_end : {m : ℕ} (g z b size last blocks rest count length : ℕ) (x y out : ℕ → ℕ) → 1 ≤ last → size ≤ last
-    → size ≡ 2 ^ rest * last → blocks * 2 ^ rest ≡ count
-    → count * last ≡ length → IsLevel m g z b blocks size x y → ((i : ℕ) → i < length → out i ≡ y i % m)
-    → AreRemainders m g z b count last x out
-level_end {m} g z b size last blocks rest count length x y out some few sized counted whole level residues =
-    let none = none_left size last rest some few sized in
+pub level_end : {m : ℕ} (g z b size last blocks rest count : ℕ) (x y : ℕ → ℕ) → rest ≡ 0 → size ≡ 2 ^ rest * last
+    → blocks * 2 ^ rest ≡ count → IsLevel m g z b blocks size x y
+    → IsLevel m g z b count last x y
+level_end {m} g z b size last blocks rest count x y none sized counted level =
     let one : 2 ^ 0 ≡ 1 = refl in
     let p : 2 ^ rest ≡ 1 = ap (λ k. 2 ^ k) none ∙ one in
     let size_is : size ≡ last = sized ∙ ap (λ v. v * last) p ∙ omega arith in
     let blocks_is : blocks ≡ count =
     (let e : blocks ≡ blocks * 1 = omega arith in e) ∙ ap (λ v. blocks * v) (sym p) ∙ counted in
-    let at : IsLevel m g z b count last x y =
-    subst (λ n. IsLevel m g z b n last x y) blocks_is (subst (λ n. IsLevel m g z b blocks n x y) size_is level) in
-    record {
-      each = λ j i lj li.
-          let room = mul-le-mul_right last (let k : j + 1 ≤ count = omega arith in k) in
-          residues (j * last + i) (omega (arith, room, whole, li)) ∙ (at.each j i lj li).same;
-    }
+    subst (λ n. IsLevel m g z b n last x y) blocks_is (subst (λ n. IsLevel m g z b blocks n x y) size_is level)
+
+-- the residues of a level
+pub remainders_of : {m : ℕ} (g z b count last length : ℕ) (x y out : ℕ → ℕ) → count * last ≡ length
+    → IsLevel m g z b count last x y → ((i : ℕ) → i < length → out i ≡ y i % m)
+    → AreRemainders m g z b count last x out
+remainders_of {m} g z b count last length x y out whole level residues = record {
+  each = λ j i lj li.
+      let room = mul-le-mul_right last (let k : j + 1 ≤ count = omega arith in k) in
+      residues (j * last + i) (omega (arith, room, whole, li)) ∙ (level.each j i lj li).same;
+}
+
+-- blocks of which stages are left are larger than the last
+pub larger : (size last rest : ℕ) → 1 ≤ last → 0 < rest → size ≡ 2 ^ rest * last → last < size
+larger size last zero some more sized = absurd (omega arith)
+larger size last (suc rest) some more sized =
+    let two = two-pow-succ rest in
+    let p = mul-le-mul_right last (pow_pos rest) in
+    let e : 2 ^ suc rest * last ≡ 2 ^ rest * last + 2 ^ rest * last = ap (λ v. v * last) two ∙ omega arith in
+    omega (arith, e, p, sized, some)
 
 -- the entries of the plan for a stage
 pub table_room : {size last blocks rest count length : ℕ} (b entries : ℕ)

@@ -6,7 +6,7 @@ use Rattle.std.proofs.Math.Nat.{add-mul-mod_self_right, mul-le-mul_right}
 use Rattle.std.proofs.lemmas.Bool.{cases_eq}
 use Rattle.modular_word.specs.Congruence.{Congruent}
 use Rattle.modular_word.proofs.Congruence.{of_equal, itself, turned, chained, added}
-use Rattle.modular_word.proofs.Congruence.{multiplied, cancelled, mod_of_multiple_left}
+use Rattle.modular_word.proofs.Congruence.{multiplied, cancelled, mod_of_multiple_left, residue_of}
 use Rattle.modular_plan.specs.Plans.{numbers}
 use Rattle.modular_plan.specs.Steps.{IsPairSplit, IsPairJoin, IsMinusInverse, PairDone, BlockDone, StageDone}
 use Rattle.modular_plan.proofs.Entries.{written, not_written}
@@ -23,6 +23,16 @@ pair_of {m} w a b x t rest sum difference is_x is_t is_rest is_sum is_difference
       summed = chained (of_equal is_sum) (added first is_t);
       subtracted = chained (added (itself difference) (turned is_t)) (chained (of_equal whole) (chained gone first));
     }
+
+-- the residues of both do as well
+pub pair_of_residues : {m : ℕ} (w a b sum difference sum' difference' : ℕ) → sum' ≡ sum % m
+    → difference' ≡ difference % m → IsPairSplit m w a b sum difference
+    → IsPairSplit m w a b sum' difference'
+pair_of_residues {m} w a b sum difference sum' difference' is_sum is_difference pair = record {
+  summed = chained (of_equal is_sum) (chained (residue_of sum) pair.summed);
+  subtracted = chained (added (chained (of_equal is_difference) (residue_of difference)) (itself (b * w)))
+      pair.subtracted;
+}
 
 -- the sum of a pair, and its difference times v, minus the inverse of w
 pub joined_pair_of : {m : ℕ} (w v a b x y rest product sum : ℕ) → x ≡ a % (2 * m) → y ≡ b % (2 * m) → rest + x ≡ 2 * m

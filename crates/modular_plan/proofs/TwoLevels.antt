@@ -1,7 +1,7 @@
 -- Two stages take the remainders of one level of the tree to those two levels below.
 use Rattle.std.proofs.Common.{◌≡◌, ℕ, suc, zero, ◌+◌, ◌-◌, ◌*◌, ◌/◌, ◌%◌, ◌^◌, ◌<◌}
 use Rattle.std.proofs.Common.{◌≤◌, inl, inr, refl, sym, ◌∙◌, ap, arith, subst}
-use Rattle.std.proofs.Math.Nat.{two-pow-succ, mul-le-mul_left}
+use Rattle.std.proofs.Math.Nat.{two-pow-succ, mul-le-mul_left, mod-eq_of_lt}
 use Rattle.std.proofs.lemmas.Bool.{cases_eq}
 use Rattle.std.specs.Int.{IsPowerOfTwo}
 use Rattle.modular_word.specs.Congruence.{Congruent}
@@ -9,9 +9,9 @@ use Rattle.modular_word.specs.Sums.{sum_below}
 use Rattle.modular_word.proofs.Congruence.{of_equal, chained, residue_of}
 use Rattle.modular_transform.specs.Orders.{bits_reversed}
 use Rattle.modular_transform.specs.Transforms.{Suits}
-use Rattle.modular_plan.specs.Plans.{constant, IsPlan}
+use Rattle.modular_plan.specs.Plans.{constant, IsPlan, AreRemainders}
 use Rattle.modular_plan.specs.Steps.{IsFourSplit, FourAt, StageOfFours, IsLevel}
-use Rattle.modular_plan.proofs.Levels.{level_pair, StageSizes, sizes_of, table_room, twice_fits}
+use Rattle.modular_plan.proofs.Levels.{level_pair, StageSizes, sizes_of, table_room, twice_fits, larger, remainders_of}
 
 -- the four entries of a column
 record AreFour (m g z count q i block : ℕ) (x : ℕ → ℕ) (a b c d : ℕ) : Type 0 where
@@ -98,6 +98,7 @@ level_fours {m} g u b count q x y after w room suits is_w before stage = record 
 -- the sizes of two stages
 pub record TwoSizes (size last blocks rest count length : ℕ) : Type 0 where
   pub left : ℕ
+  pub more : rest ≡ suc (suc left)
   pub first : StageSizes size last blocks rest count length
   pub second : StageSizes (size / 2) last (blocks * 2) (suc left) count length
   pub quarter : size / 4 ≡ 2 ^ left * last
@@ -107,11 +108,14 @@ pub record TwoSizes (size last blocks rest count length : ℕ) : Type 0 where
   pub some : 0 < size / 4
 
 pub two_sizes : (size last blocks rest length : ℕ) → 1 ≤ last → IsPowerOfTwo (length / last)
-    → length / last * last ≡ length → last < size / 2 → size ≡ 2 ^ rest * last
+    → length / last * last ≡ length → 1 < rest → size ≡ 2 ^ rest * last
     → blocks * 2 ^ rest ≡ length / last → TwoSizes size last blocks rest (length / last) length
 two_sizes size last blocks rest length some power all more sized counted =
-    let one = sizes_of size last blocks rest length some power all (omega arith) sized counted in
-    let two = sizes_of (size / 2) last (blocks * 2) one.left length some power all more one.half one.counted in
+    let one = sizes_of size last blocks rest length some power all
+    (larger size last rest some (omega arith) sized) sized counted in
+    let next = one.more in
+    let two = sizes_of (size / 2) last (blocks * 2) one.left length some power all
+    (larger (size / 2) last one.left some (omega (arith, next, more)) one.half) one.half one.counted in
     let half = two.half in
     let twice_one = one.twice in
     let twice_two = two.twice in
@@ -123,6 +127,7 @@ two_sizes size last blocks rest length some power all more sized counted =
     ap (λ v. v * 2 ^ two.left) (let e : blocks * 2 * 2 ≡ blocks * 4 = omega arith in e) in
     record {
       left = two.left;
+      more = one.more ∙ ap (λ n. suc n) two.more;
       first = one;
       second = subst (λ r. StageSizes (size / 2) last (blocks * 2) r (length / last) length) two.more two;
       quarter = omega (arith, half, same);
@@ -132,6 +137,30 @@ two_sizes size last blocks rest length some power all more sized counted =
       some = omega (arith, some_two, same);
     }
 
+-- two stages, by the plan
+pub level_after_fours : {m : ℕ} (g z b blocks q entries : ℕ) (w x y after : ℕ → ℕ) → 0 < blocks
+    → (b + 1) * (blocks * 2) ≤ entries → IsPlan m g z entries w → IsLevel m g z b blocks (q + q + (q + q)) x y
+    → StageOfFours (λ p. IsFourSplit m (w (b * blocks + p)) (w (2 * (b * blocks + p))) (w (2 * (b * blocks + p) + 1)))
+    q blocks y after
+    → IsLevel m g z b (blocks * 4) q x after
+level_after_fours {m} g zero b blocks q entries w x y after some room plan before stage =
+    let half = plan.half in
+    let none : 2 ^ 0 / 2 ≡ 0 = refl in
+    let spread : (b + 1) * (blocks * 2) ≡ b * (blocks * 2) + blocks * 2 = omega arith in
+    absurd (omega (arith, half, none, some, spread, room))
+level_after_fours {m} g (suc u) b blocks q entries w x y after some room plan before stage =
+    let half = plan.half in
+    let two = two-pow-succ u in
+    let enough : (b + 1) * (blocks * 2) ≤ 2 ^ u = omega (arith, room, half, two) in
+    let e : suc u - 1 ≡ u = omega arith in
+    let four : blocks * 2 * 2 ≡ blocks * 4 = omega arith in
+    subst (λ n. IsLevel m g (suc u) b n q x after) four
+    (level_fours g u b blocks q x y after w enough plan.suits
+    (λ k l.
+    chained (of_equal (plan.entry k (let i : k < entries = omega (arith, half, two, l) in i)))
+    (chained (residue_of (g ^ bits_reversed (suc u - 1) k)) (of_equal (ap (λ v. g ^ bits_reversed v k) e))))
+    before stage)
+
 -- two stages of the loop
 pub level_after_two : {m : ℕ} (g z b blocks size last rest count length entries : ℕ) (w x y after : ℕ → ℕ)
     → TwoSizes size last blocks rest count length
@@ -139,26 +168,11 @@ pub level_after_two : {m : ℕ} (g z b blocks size last rest count length entrie
     → StageOfFours (λ p. IsFourSplit m (w (b * blocks + p)) (w (2 * (b * blocks + p))) (w (2 * (b * blocks + p) + 1)))
     (size / 4) blocks y after
     → IsLevel m g z b (blocks * 4) (size / 4) x after
-level_after_two {m} g zero b blocks size last rest count length entries w x y after sizes room plan before stage =
-    let half = plan.half in
-    let none : 2 ^ 0 / 2 ≡ 0 = refl in
-    let some = sizes.first.blocks_some in
-    let few = sizes.first.blocks_few in
-    let spread : (b + 1) * (count / 2) ≡ b * (count / 2) + count / 2 = omega arith in
-    absurd (omega (arith, half, none, some, few, spread, room))
-level_after_two {m} g (suc u) b blocks size last rest count length entries w x y after sizes room plan before stage =
-    let half = plan.half in
-    let two = two-pow-succ u in
+level_after_two {m} g z b blocks size last rest count length entries w x y after sizes room plan before stage =
     let few = mul-le-mul_left (b + 1) sizes.second.blocks_few in
-    let enough : (b + 1) * (blocks * 2) ≤ 2 ^ u = omega (arith, few, room, half, two) in
-    let e : suc u - 1 ≡ u = omega arith in
-    let four : blocks * 2 * 2 ≡ blocks * 4 = omega arith in
-    subst (λ n. IsLevel m g (suc u) b n (size / 4) x after) four
-    (level_fours g u b blocks (size / 4) x y after w enough plan.suits
-    (λ k l.
-    chained (of_equal (plan.entry k (let i : k < entries = omega (arith, half, two, l) in i)))
-    (chained (residue_of (g ^ bits_reversed (suc u - 1) k)) (of_equal (ap (λ v. g ^ bits_reversed v k) e))))
-    (subst (λ n. IsLevel m g (suc u) b blocks n x y) sizes.size_is before) stage)
+    level_after_fours g z b blocks (size / 4) entries w x y after sizes.first.blocks_some
+    (omega (arith, few, room)) plan
+    (subst (λ n. IsLevel m g z b blocks n x y) sizes.size_is before) stage
 
 -- four times as many blocks
 pub four_fit : {size last blocks rest count length : ℕ}
@@ -173,3 +187,57 @@ two_rooms {size} {last} {blocks} {rest} {count} {length} b entries sizes room =
     let enough = table_room b entries sizes.second room in
     let spread : b * (blocks * 2) ≡ 2 * (b * blocks) = omega arith in
     omega (arith, enough, spread)
+
+-- a list of whole fours, for the stages above its last two and for these
+pub record WholeFours (n b entries : ℕ) : Type 0 where
+  pub power : IsPowerOfTwo (n / 4)
+  pub whole : n / 4 * 4 ≡ n
+  pub some : 0 < n / 4
+  pub room : (b + 1) * (n / 4 / 2) ≤ entries
+  pub last_room : (b + 1) * (n / 4 * 2) ≤ entries
+  pub places : 2 * (b * (n / 4) + n / 4) ≤ entries
+
+fours_of_power : (e n b entries : ℕ) → n ≡ 2 ^ e → 4 ≤ n → (b + 1) * (n / 2) ≤ entries → WholeFours n b entries
+fours_of_power zero n b entries is large room = let one : 2 ^ 0 ≡ 1 = refl in absurd (omega (arith, is, one, large))
+fours_of_power (suc zero) n b entries is large room =
+    let two : 2 ^ 1 ≡ 2 = refl in absurd (omega (arith, is, two, large))
+fours_of_power (suc (suc e)) n b entries is large room =
+    let outer = two-pow-succ (suc e) in
+    let inner = two-pow-succ e in
+    let quarter : n / 4 ≡ 2 ^ e = omega (arith, is, outer, inner) in
+    let whole : n / 4 * 4 ≡ n = omega (arith, is, outer, inner, quarter) in
+    let twice : n / 4 * 2 ≡ n / 2 = omega (arith, whole) in
+    let last : (b + 1) * (n / 4 * 2) ≤ entries = subst (λ v. (b + 1) * v ≤ entries) (sym twice) room in
+    let less = mul-le-mul_left (b + 1) (let l : n / 4 / 2 ≤ n / 4 * 2 = omega arith in l) in
+    let spread : (b + 1) * (n / 4 * 2) ≡ 2 * (b * (n / 4) + n / 4) = omega arith in
+    record {
+      power = (e, quarter);
+      whole = whole;
+      some = omega (arith, whole, large);
+      room = omega (arith, less, last);
+      last_room = last;
+      places = omega (arith, spread, last);
+    }
+
+pub whole_fours : (n last b entries : ℕ) → last ≡ 1 → 4 ≤ n → IsPowerOfTwo (n / last)
+    → (b + 1) * (n / last / 2) ≤ entries → WholeFours n b entries
+whole_fours n last b entries is large power room =
+    let all : n / last ≡ n = ap (λ v. n / v) is ∙ omega arith in
+    fours_of_power power.0 n b entries (sym all ∙ power.1) large
+    (subst (λ v. (b + 1) * (v / 2) ≤ entries) all room)
+
+-- the last two stages leave the remainders
+pub remainders_of_fours : {m : ℕ} (g z b n last entries : ℕ) (w x y after : ℕ → ℕ) → last ≡ 1 → WholeFours n b entries
+    → IsPlan m g z entries w → IsLevel m g z b (n / 4) 4 x y
+    → StageOfFours (λ p. IsFourSplit m (w (b * (n / 4) + p)) (w (2 * (b * (n / 4) + p)))
+    (w (2 * (b * (n / 4) + p) + 1))) 1 (n / 4) y after
+    → ((i : ℕ) → i < n → after i < m) → AreRemainders m g z b (n / last) last x after
+remainders_of_fours {m} g z b n last entries w x y after is fours plan before stage below =
+    let level = level_after_fours g z b (n / 4) 1 entries w x y after fours.some fours.last_room plan before stage in
+    let all : n ≡ n / last = sym (ap (λ v. n / v) is ∙ omega arith) in
+    let whole : n * 1 ≡ n = omega arith in
+    subst (λ v. AreRemainders m g z b (n / last) v x after) (sym is)
+    (subst (λ v. AreRemainders m g z b v 1 x after) all
+    (remainders_of g z b n 1 n x after after whole
+    (subst (λ v. IsLevel m g z b v 1 x after) fours.whole level)
+    (λ i l. sym (mod-eq_of_lt (below i l)))))

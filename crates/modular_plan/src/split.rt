@@ -5,7 +5,7 @@ ghost use Rattle.std.specs.Int.{IsPowerOfTwo};
 ghost use Rattle.modular_plan.specs.Factors.{IsFactor};
 ghost use Rattle.modular_plan.specs.Plans.{numbers, IsPlan, AreRemainders};
 ghost use Rattle.modular_plan.specs.Steps.{IsPairSplit, IsFourSplit, PairDone, BlockDone};
-ghost use Rattle.modular_plan.specs.Steps.{StageDone, FourDone, BlockOfFours, StageOfFours};
+ghost use Rattle.modular_plan.specs.Steps.{StageDone, FourDone, BlockOfFours, StageOfFours, IsLevel};
 
 use crate::entry::PlanEntry;
 use crate::modulus::{Factor, PlannedModulus, reduced_once};
@@ -94,36 +94,47 @@ fn split_stage<T: PlainWord, F: PlanEntry<T>>(
     }
 }
 
-// The entries at four places, a quarter of a block apart: by the block's factor w, and by those of its
-// halves.
-fn split_four<T: PlainWord>(
+// Two stages of the four quarters of a block: by the block's factor w, and by those of its halves.
+fn split_columns<T: PlainWord>(
     m: &PlannedModulus<T>,
-    xs: &mut [T],
-    places: (usize, usize, usize, usize),
+    first: &mut [T],
+    second: &mut [T],
+    third: &mut [T],
+    fourth: &mut [T],
     w: &Factor<T>,
     u: &Factor<T>,
     v: &Factor<T>,
 )
-    requires entries { All (λ x. T.number x < 4 * T.number m.now.modulus) xs.old }
+    requires first { All (λ x. T.number x < 4 * T.number m.now.modulus) first.old }
+    requires second { All (λ x. T.number x < 4 * T.number m.now.modulus) second.old }
+    requires third { All (λ x. T.number x < 4 * T.number m.now.modulus) third.old }
+    requires fourth { All (λ x. T.number x < 4 * T.number m.now.modulus) fourth.old }
     requires factor { IsFactor T.base (T.number m.now.modulus) (T.number w.now.value) (T.number w.now.quotient) }
     requires low_factor { IsFactor T.base (T.number m.now.modulus) (T.number u.now.value) (T.number u.now.quotient) }
     requires high_factor { IsFactor T.base (T.number m.now.modulus) (T.number v.now.value) (T.number v.now.quotient) }
-    requires order { (places.0 < places.1) × (places.1 < places.2) × (places.2 < places.3) }
-    requires within { places.3 < length xs.old }
-    ensures entries { All (λ x. T.number x < 4 * T.number m.now.modulus) xs.new }
-    ensures done { FourDone (IsFourSplit (T.number m.now.modulus) (T.number w.now.value)
-        (T.number u.now.value) (T.number v.now.value))
-        places.0 places.1 places.2 places.3 (numbers T.number xs.old) (numbers T.number xs.new) }
+    requires quarters { (length second.old ≡ length first.old) × (length third.old ≡ length first.old)
+        × (length fourth.old ≡ length first.old) }
+    ensures first { All (λ x. T.number x < 4 * T.number m.now.modulus) first.new }
+    ensures second { All (λ x. T.number x < 4 * T.number m.now.modulus) second.new }
+    ensures third { All (λ x. T.number x < 4 * T.number m.now.modulus) third.new }
+    ensures fourth { All (λ x. T.number x < 4 * T.number m.now.modulus) fourth.new }
+    ensures done { (i : ℕ) → i < length first.old → IsFourSplit (T.number m.now.modulus)
+        (T.number w.now.value) (T.number u.now.value) (T.number v.now.value)
+        (numbers T.number first.old i) (numbers T.number second.old i)
+        (numbers T.number third.old i) (numbers T.number fourth.old i)
+        (numbers T.number first.new i) (numbers T.number second.new i)
+        (numbers T.number third.new i) (numbers T.number fourth.new i) }
 {
-    let (i, j, k, l) = places;
-    let (e, g) = split_values(m, xs[i], xs[k], w);
-    let (f, h) = split_values(m, xs[j], xs[l], w);
-    let (a, b) = split_values(m, e, f, u);
-    let (c, d) = split_values(m, g, h, v);
-    xs[l] = d;
-    xs[k] = c;
-    xs[j] = b;
-    xs[i] = a;
+    'columns: for i in 0..first.len() {
+        let (e, g) = split_values(m, first[i], third[i], w);
+        let (f, h) = split_values(m, second[i], fourth[i], w);
+        let (a, b) = split_values(m, e, f, u);
+        let (c, d) = split_values(m, g, h, v);
+        first[i] = a;
+        second[i] = b;
+        third[i] = c;
+        fourth[i] = d;
+    }
 }
 
 // Two stages of the block of four times q entries from place `first` on.
@@ -146,18 +157,12 @@ fn split_quarters<T: PlainWord>(
         (T.number u.now.value) (T.number v.now.value))
         first q q (numbers T.number xs.old) (numbers T.number xs.new) }
 {
-    'columns: for i in 0..q {
-        let low = first + i;
-        let high = first + (q + q + i);
-        split_four(
-            m,
-            xs,
-            (low, first + (q + i), high, first + (q + q + (q + i))),
-            w,
-            u,
-            v,
-        );
-    }
+    let (_before, block) = xs.split_at_mut(first);
+    let (a, rest) = block.split_at_mut(q);
+    let (b, rest) = rest.split_at_mut(q);
+    let (c, rest) = rest.split_at_mut(q);
+    let (d, _after) = rest.split_at_mut(q);
+    split_columns(m, a, b, c, d, w, u, v);
 }
 
 // Two stages of all blocks, block p by entry first + p of the table, and its halves by the entries at
@@ -188,6 +193,65 @@ fn split_two_stages<T: PlainWord, F: PlanEntry<T>>(
         let u = table[2 * place].factor();
         let v = table[2 * place + 1].factor();
         split_quarters(m, xs, p * (q + q + (q + q)), q, &w, &u, &v);
+    }
+}
+
+// Two stages of the four entries from place `first` on, which become residues.
+fn split_neighbours<T: PlainWord>(
+    m: &PlannedModulus<T>,
+    xs: &mut [T],
+    first: usize,
+    w: &Factor<T>,
+    u: &Factor<T>,
+    v: &Factor<T>,
+)
+    requires entries { All (λ x. T.number x < 4 * T.number m.now.modulus) xs.old }
+    requires factor { IsFactor T.base (T.number m.now.modulus) (T.number w.now.value) (T.number w.now.quotient) }
+    requires low_factor { IsFactor T.base (T.number m.now.modulus) (T.number u.now.value) (T.number u.now.quotient) }
+    requires high_factor { IsFactor T.base (T.number m.now.modulus) (T.number v.now.value) (T.number v.now.quotient) }
+    requires within { first + 3 < length xs.old }
+    ensures entries { All (λ x. T.number x < 4 * T.number m.now.modulus) xs.new }
+    ensures below { (k : ℕ) → first ≤ k → k < first + 4
+        → numbers T.number xs.new k < T.number m.now.modulus }
+    ensures done { FourDone (IsFourSplit (T.number m.now.modulus) (T.number w.now.value)
+        (T.number u.now.value) (T.number v.now.value))
+        first (first + 1) (first + 2) (first + 3) (numbers T.number xs.old) (numbers T.number xs.new) }
+{
+    let (e, g) = split_values(m, xs[first], xs[first + 2], w);
+    let (f, h) = split_values(m, xs[first + 1], xs[first + 3], w);
+    let (a, b) = split_values(m, e, f, u);
+    let (c, d) = split_values(m, g, h, v);
+    xs[first + 3] = m.residue(d);
+    xs[first + 2] = m.residue(c);
+    xs[first + 1] = m.residue(b);
+    xs[first] = m.residue(a);
+}
+
+// The last two stages: those of `split_two_stages` on each four neighbours, and their residues.
+fn split_fours<T: PlainWord, F: PlanEntry<T>>(
+    m: &PlannedModulus<T>,
+    xs: &mut [T],
+    blocks: usize,
+    table: &[F],
+    first: usize,
+)
+    requires entries { All (λ x. T.number x < 4 * T.number m.now.modulus) xs.old }
+    requires factors { All (λ f. IsFactor T.base (T.number m.now.modulus) (F.value f) (F.quotient f))
+        table.now }
+    requires whole { blocks * 4 ≡ length xs.old }
+    requires within { 2 * (first + blocks) ≤ length table.now }
+    ensures below { All (λ x. T.number x < T.number m.now.modulus) xs.new }
+    ensures done { let w = numbers F.value table.now in
+        StageOfFours (λ p. IsFourSplit (T.number m.now.modulus) (w (first + p)) (w (2 * (first + p)))
+        (w (2 * (first + p) + 1))) 1 blocks
+        (numbers T.number xs.old) (numbers T.number xs.new) }
+{
+    'fours: for p in 0..blocks {
+        let place = first + p;
+        let w = table[place].factor();
+        let u = table[2 * place].factor();
+        let v = table[2 * place + 1].factor();
+        split_neighbours(m, xs, p * 4, &w, &u, &v);
     }
 }
 
@@ -225,6 +289,45 @@ pub fn splits(length: usize, factors: usize, b: usize, last: usize) -> bool
     b < factors / (count / 2)
 }
 
+// All stages from block b down to blocks of `last`, by the conditions of `split`. Where their number is
+// odd a single one comes first, so that the other passes do two.
+fn split_stages<T: PlainWord, F: PlanEntry<T>>(
+    m: &PlannedModulus<T>,
+    xs: &mut [T],
+    table: &[F],
+    b: usize,
+    last: usize,
+)
+    requires entries { All (λ x. T.number x < 4 * T.number m.now.modulus) xs.old }
+    requires factors { All (λ f. IsFactor T.base (T.number m.now.modulus) (F.value f) (F.quotient f))
+        table.now }
+    requires some { 1 ≤ last }
+    requires count { IsPowerOfTwo (length xs.old / last) }
+    requires whole { length xs.old / last * last ≡ length xs.old }
+    requires within { (b + 1) * (length xs.old / last / 2) ≤ length table.now }
+    ensures entries { All (λ x. T.number x < 4 * T.number m.now.modulus) xs.new }
+    ensures level { let modulus = T.number m.now.modulus in (g z : ℕ) →
+        IsPlan modulus g z (length table.now) (numbers F.value table.now) →
+        IsLevel modulus g z b (length xs.old / last) last (numbers T.number xs.old) (numbers T.number xs.new) }
+{
+    let mut left = (xs.len() / last).trailing_zeros();
+    let mut size = xs.len();
+    let mut blocks = 1;
+    'stages: while 0 < left {
+        if left % 2 == 0 {
+            size /= 4;
+            split_two_stages(m, xs, size, blocks, table, b * blocks);
+            blocks *= 4;
+            left -= 2;
+        } else {
+            size /= 2;
+            split_stage(m, xs, size, blocks, table, b * blocks);
+            blocks *= 2;
+            left -= 1;
+        }
+    }
+}
+
 /// Splits block b of the tree of remainders into blocks of `last` entries: entry i of block j becomes
 /// the sum over k of x_(k·last + i)·c^k modulo m, the coefficient of the remainder modulo X^last - c,
 /// where c is the power of g by the reversed bits of b·count + j, count being the number of blocks.
@@ -236,7 +339,7 @@ pub fn splits(length: usize, factors: usize, b: usize, last: usize) -> bool
 ///
 /// Source: the sums and differences are those of Cooley and Tukey, with one factor a block, as
 /// Bernstein ("Multidigit multiplication for mathematicians", section 2) has them. A pass over the list
-/// does two stages where two are left.
+/// does two stages; a single one comes first where their number is odd.
 pub fn split<T: PlainWord, F: PlanEntry<T>>(
     m: &PlannedModulus<T>,
     xs: &mut [T],
@@ -256,18 +359,12 @@ pub fn split<T: PlainWord, F: PlanEntry<T>>(
         IsPlan modulus g z (length table.now) (numbers F.value table.now) →
         AreRemainders modulus g z b (length xs.old / last) last (numbers T.number xs.old) (numbers T.number xs.new) }
 {
-    let mut size = xs.len();
-    let mut blocks = 1;
-    'stages: while last < size {
-        if last < size / 2 {
-            size /= 4;
-            split_two_stages(m, xs, size, blocks, table, b * blocks);
-            blocks *= 4;
-        } else {
-            size /= 2;
-            split_stage(m, xs, size, blocks, table, b * blocks);
-            blocks *= 2;
-        }
+    if last == 1 && 4 <= xs.len() {
+        let fours = xs.len() / 4;
+        split_stages(m, xs, table, b, 4);
+        split_fours(m, xs, fours, table, b * fours);
+    } else {
+        split_stages(m, xs, table, b, last);
+        reduce_each(m, xs);
     }
-    reduce_each(m, xs);
 }

@@ -1,0 +1,146 @@
+use Rattle.std.proofs.Common.{◌≡◌, ◌+◌, ◌-◌, ◌*◌, ◌/◌, ◌^◌, length, sym, ◌∙◌, ap, arith}
+use Rattle.modular_transform.proofs.PowersOfTwo.{power_by_zeros}
+use Rattle.modular_plan.proofs.Levels.{sizes_of, table_room, twice_fits, level_first, level_next, level_end, larger}
+use Rattle.modular_plan.proofs.TwoLevels.{two_sizes, two_rooms, four_fit, level_after_two}
+use Rattle.modular_plan.proofs.split.split_stages.Goals as goal
+
+pub stages-init : goal.stages-init
+stages-init g c =
+    let count = length c.args.xs.now / c.args.last in
+    let e = power_by_zeros count c.requires.count (omega arith) in
+    let scaled = ap (λ v. v * c.args.last) e in
+    record {
+      sized = sym c.requires.whole ∙ scaled;
+      counted = omega (arith, e);
+      entries = c.requires.entries;
+      level = λ r z plan. level_first r z c.args.b (length c.args.xs.now) _;
+    }
+
+pub overflow_mul-b : goal.overflow_mul-b
+overflow_mul-b g c =
+    let before = c.stages.invariant in
+    let sizes = two_sizes c.stages.size c.args.last c.stages.blocks c.stages.left (length c.args.xs.now)
+    c.requires.some c.requires.count c.requires.whole (omega arith) before.sized before.counted in
+    let enough = two_rooms c.args.b (length c.args.table.now) sizes c.requires.within in
+    omega (arith, enough)
+
+pub split_two_stages-requires-clause-whole : goal.split_two_stages-requires-clause-whole
+split_two_stages-requires-clause-whole g c =
+    let before = c.stages.invariant in
+    let sizes = two_sizes c.stages.size c.args.last c.stages.blocks c.stages.left (length c.args.xs.now)
+    c.requires.some c.requires.count c.requires.whole (omega arith) before.sized before.counted in
+    let whole = sizes.whole in
+    let same = c.stages.auto.xs in
+    omega (arith, whole, same)
+
+pub split_two_stages-requires-clause-within : goal.split_two_stages-requires-clause-within
+split_two_stages-requires-clause-within g c =
+    let before = c.stages.invariant in
+    let sizes = two_sizes c.stages.size c.args.last c.stages.blocks c.stages.left (length c.args.xs.now)
+    c.requires.some c.requires.count c.requires.whole (omega arith) before.sized before.counted in
+    two_rooms c.args.b (length c.args.table.now) sizes c.requires.within
+
+pub split_two_stages-requires-clause-some : goal.split_two_stages-requires-clause-some
+split_two_stages-requires-clause-some g c =
+    let before = c.stages.invariant in
+    let sizes = two_sizes c.stages.size c.args.last c.stages.blocks c.stages.left (length c.args.xs.now)
+    c.requires.some c.requires.count c.requires.whole (omega arith) before.sized before.counted in
+    sizes.some
+
+pub overflow_mul-blocks : goal.overflow_mul-blocks
+overflow_mul-blocks g c =
+    let before = c.stages.invariant in
+    let sizes = two_sizes c.stages.size c.args.last c.stages.blocks c.stages.left (length c.args.xs.now)
+    c.requires.some c.requires.count c.requires.whole (omega arith) before.sized before.counted in
+    let fit = four_fit sizes in
+    omega (arith, fit)
+
+pub stages-preserved-then-left-eq0 : goal.stages-preserved-then-left-eq0
+stages-preserved-then-left-eq0 g c =
+    let before = c.stages.invariant in
+    let sizes = two_sizes c.stages.size c.args.last c.stages.blocks c.stages.left (length c.args.xs.now)
+    c.requires.some c.requires.count c.requires.whole (omega arith) before.sized before.counted in
+    let more = sizes.more in
+    let left : sizes.left ≡ c.stages.left - 2 = omega (arith, more) in
+    let power = ap (λ k. 2 ^ k) left in
+    record {
+      sized = sizes.quarter ∙ ap (λ v. v * c.args.last) power;
+      counted = ap (λ v. c.stages.blocks * 4 * v) (sym power) ∙ sizes.counted;
+      entries = c.split_two_stages.ensures.entries;
+      level =
+          λ r z plan.
+          level_after_two r z c.args.b c.stages.blocks c.stages.size c.args.last c.stages.left
+          (length c.args.xs.now / c.args.last) (length c.args.xs.now) (length c.args.table.now) _ _ _ _ sizes
+          c.requires.within plan (before.level r z plan) c.split_two_stages.ensures.done;
+    }
+
+pub overflow_mul-b-else-left-eq0 : goal.overflow_mul-b-else-left-eq0
+overflow_mul-b-else-left-eq0 g c =
+    let before = c.stages.invariant in
+    let sizes = sizes_of c.stages.size c.args.last c.stages.blocks c.stages.left (length c.args.xs.now) c.requires.some
+    c.requires.count c.requires.whole (larger c.stages.size c.args.last c.stages.left c.requires.some
+    c.stages-test.true before.sized) before.sized before.counted in
+    let enough = table_room c.args.b (length c.args.table.now) sizes c.requires.within in
+    omega (arith, enough)
+
+pub split_stage-requires-clause-whole : goal.split_stage-requires-clause-whole
+split_stage-requires-clause-whole g c =
+    let before = c.stages.invariant in
+    let sizes = sizes_of c.stages.size c.args.last c.stages.blocks c.stages.left (length c.args.xs.now) c.requires.some
+    c.requires.count c.requires.whole (larger c.stages.size c.args.last c.stages.left c.requires.some
+    c.stages-test.true before.sized) before.sized before.counted in
+    let whole = sizes.whole in
+    let same = c.stages.auto.xs in
+    omega (arith, whole, same)
+
+pub split_stage-requires-clause-within : goal.split_stage-requires-clause-within
+split_stage-requires-clause-within g c =
+    let before = c.stages.invariant in
+    let sizes = sizes_of c.stages.size c.args.last c.stages.blocks c.stages.left (length c.args.xs.now) c.requires.some
+    c.requires.count c.requires.whole (larger c.stages.size c.args.last c.stages.left c.requires.some
+    c.stages-test.true before.sized) before.sized before.counted in
+    table_room c.args.b (length c.args.table.now) sizes c.requires.within
+
+pub split_stage-requires-clause-some : goal.split_stage-requires-clause-some
+split_stage-requires-clause-some g c =
+    let before = c.stages.invariant in
+    let sizes = sizes_of c.stages.size c.args.last c.stages.blocks c.stages.left (length c.args.xs.now) c.requires.some
+    c.requires.count c.requires.whole (larger c.stages.size c.args.last c.stages.left c.requires.some
+    c.stages-test.true before.sized) before.sized before.counted in
+    sizes.some
+
+pub overflow_mul-blocks-else-left-eq0 : goal.overflow_mul-blocks-else-left-eq0
+overflow_mul-blocks-else-left-eq0 g c =
+    let before = c.stages.invariant in
+    let sizes = sizes_of c.stages.size c.args.last c.stages.blocks c.stages.left (length c.args.xs.now) c.requires.some
+    c.requires.count c.requires.whole (larger c.stages.size c.args.last c.stages.left c.requires.some
+    c.stages-test.true before.sized) before.sized before.counted in
+    let fit = twice_fits sizes in
+    omega (arith, fit)
+
+pub stages-preserved : goal.stages-preserved
+stages-preserved g c =
+    let before = c.stages.invariant in
+    let sizes = sizes_of c.stages.size c.args.last c.stages.blocks c.stages.left (length c.args.xs.now) c.requires.some
+    c.requires.count c.requires.whole (larger c.stages.size c.args.last c.stages.left c.requires.some
+    c.stages-test.true before.sized) before.sized before.counted in
+    let more = sizes.more in
+    let left : sizes.left ≡ c.stages.left - 1 = omega (arith, more) in
+    let power = ap (λ k. 2 ^ k) left in
+    record {
+      sized = sizes.half ∙ ap (λ v. v * c.args.last) power;
+      counted = ap (λ v. c.stages.blocks * 2 * v) (sym power) ∙ sizes.counted;
+      entries = c.split_stage.ensures.entries;
+      level =
+          λ r z plan.
+          level_next r z c.args.b c.stages.blocks c.stages.size c.args.last c.stages.left
+          (length c.args.xs.now / c.args.last) (length c.args.xs.now) (length c.args.table.now) _ _ _ _ sizes
+          c.requires.within plan (before.level r z plan) c.split_stage.ensures.done;
+    }
+
+pub returns-clause-level : goal.returns-clause-level
+returns-clause-level g c =
+    let before = c.stages.invariant in
+    λ r z plan.
+    level_end r z c.args.b c.stages.size c.args.last c.stages.blocks c.stages.left
+    (length c.args.xs.now / c.args.last) _ _ (omega arith) before.sized before.counted (before.level r z plan)
