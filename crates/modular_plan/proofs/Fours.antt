@@ -51,7 +51,7 @@ four_written number R words i j k l a b c d ij jk kl within four =
           ∙ not_written number words l e d nl;
     }
 
-four_along : (R : ℕ → ℕ → ℕ → ℕ → ℕ → ℕ → ℕ → ℕ → Type 0) {a b c d e f g h a' b' c' d' e' f' g' h' : ℕ} → a ≡ a'
+pub four_along : (R : ℕ → ℕ → ℕ → ℕ → ℕ → ℕ → ℕ → ℕ → Type 0) {a b c d e f g h a' b' c' d' e' f' g' h' : ℕ} → a ≡ a'
     → b ≡ b' → c ≡ c' → d ≡ d' → e ≡ e' → f ≡ f' → g ≡ g' → h ≡ h'
     → R a b c d e f g h → R a' b' c' d' e' f' g' h'
 four_along R {a} {b} {c} {d} {e} {f} {g} {h} {a'} {b'} {c'} {d'} {e'} {f'} {g'} {h'} pa pb pc pd pe pf pg ph r =

@@ -7,6 +7,7 @@ pub mod Joins
 pub mod Levels
 pub mod Mirrors
 pub mod NaturalOrder
+pub mod Quarters
 pub mod Quotients
 pub mod SmallBases
 pub mod SmallProducts
