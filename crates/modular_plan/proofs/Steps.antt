@@ -35,25 +35,28 @@ pair_of_residues {m} w a b sum difference sum' difference' is_sum is_difference 
 }
 
 -- the sum of a pair, and its difference times v, minus the inverse of w
-pub joined_pair_of : {m : ℕ} (w v a b x y rest product sum : ℕ) → x ≡ a % (2 * m) → y ≡ b % (2 * m) → rest + x ≡ 2 * m
-    → sum ≡ x + y → Congruent m product ((y + rest) * v)
-    → IsMinusInverse m w v → IsPairJoin m w a b sum product
-joined_pair_of {m} w v a b x y rest product sum is_x is_y is_rest is_sum is_product inverse =
-    let first : Congruent m x a = record { same = ap (λ v. v % m) is_x ∙ mod_of_multiple_left m 2 a } in
-    let second : Congruent m y b = record { same = ap (λ v. v % m) is_y ∙ mod_of_multiple_left m 2 b } in
-    let spread : (y + rest) * v * w + y + rest ≡ (y + rest) * (w * v + 1) = omega arith in
-    let none : (y + rest) * 0 ≡ 0 = omega arith in
-    let all : Congruent m (product * w + y + rest) 0 =
-    chained (added (added (multiplied is_product (itself w)) (itself y)) (itself rest))
-    (chained (of_equal spread) (chained (multiplied (itself (y + rest)) inverse.product) (of_equal none))) in
-    let whole : x + rest ≡ 0 + 2 * m = omega arith in
+pub joined_pair_of : {m : ℕ} (w v a b rest product sum : ℕ) → rest + a ≡ 2 * m → sum ≡ (a + b) % (2 * m)
+    → Congruent m product ((b + rest) * v) → IsMinusInverse m w v → IsPairJoin m w a b sum product
+joined_pair_of {m} w v a b rest product sum is_rest is_sum is_product inverse =
+    let spread : (b + rest) * v * w + b + rest ≡ (b + rest) * (w * v + 1) = omega arith in
+    let none : (b + rest) * 0 ≡ 0 = omega arith in
+    let all : Congruent m (product * w + b + rest) 0 =
+    chained (added (added (multiplied is_product (itself w)) (itself b)) (itself rest))
+    (chained (of_equal spread) (chained (multiplied (itself (b + rest)) inverse.product) (of_equal none))) in
+    let whole : a + rest ≡ 0 + 2 * m = omega arith in
     let gone : Congruent m (0 + 2 * m) 0 = record { same = add-mul-mod_self_right 0 2 m } in
-    let left : Congruent m (product * w + y) x =
-    cancelled rest (chained all (turned (chained (of_equal whole) gone))) in
     record {
-      summed = chained (of_equal is_sum) (added first second);
-      subtracted = chained (added (itself (product * w)) (turned second)) (chained left first);
+      summed = record { same = ap (λ v. v % m) is_sum ∙ mod_of_multiple_left m 2 (a + b) };
+      subtracted = cancelled rest (chained all (turned (chained (of_equal whole) gone)));
     }
+
+-- a pair that was reduced before
+pub joined_pair_along : {m : ℕ} (w a b x y sum product : ℕ) → Congruent m x a → Congruent m y b
+    → IsPairJoin m w x y sum product → IsPairJoin m w a b sum product
+joined_pair_along {m} w a b x y sum product first second pair = record {
+  summed = chained pair.summed (added first second);
+  subtracted = chained (added (itself (product * w)) (turned second)) (chained pair.subtracted first);
+}
 
 -- what a pair writes
 pub pair_written : {T : Type 0} (number : T → ℕ) (R : ℕ → ℕ → ℕ → ℕ → Type 0) (words : List T) (low high : ℕ)

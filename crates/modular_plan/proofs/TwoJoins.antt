@@ -1,17 +1,20 @@
 -- Two stages of a join take the remainders of one level of the tree to those two levels above it, times 4.
-use Rattle.std.proofs.Common.{◌≡◌, ℕ, suc, zero, ◌+◌, ◌-◌, ◌*◌, ◌/◌, ◌^◌, ◌<◌}
+use Rattle.std.proofs.Common.{◌≡◌, ℕ, suc, zero, ◌+◌, ◌-◌, ◌*◌, ◌/◌, ◌%◌, ◌^◌, ◌<◌}
 use Rattle.std.proofs.Common.{◌≤◌, inl, inr, refl, sym, ◌∙◌, ap, arith, subst}
 use Rattle.std.proofs.Math.Nat.{two-pow-succ, mul-le-mul_left, mul-le-mul_right}
-use Rattle.std.proofs.lemmas.Bool.{cases_lt}
+use Rattle.std.proofs.lemmas.Bool.{cases_eq, cases_lt}
+use Rattle.std.specs.Int.{IsPowerOfTwo}
 use Rattle.modular_word.specs.Congruence.{Congruent}
 use Rattle.modular_word.specs.Sums.{sum_below}
-use Rattle.modular_word.proofs.Congruence.{of_equal, chained, residue_of}
+use Rattle.modular_word.proofs.Congruence.{of_equal, chained, residue_of, mod_of_multiple_left}
 use Rattle.modular_transform.specs.Orders.{bits_reversed}
 use Rattle.modular_transform.specs.Transforms.{Suits}
-use Rattle.modular_plan.specs.Plans.{constant, IsPlan}
-use Rattle.modular_plan.specs.Steps.{IsFourJoin, FourAt, StageOfFours, IsLevel}
+use Rattle.modular_plan.specs.Plans.{constant, IsPlan, AreRemainders}
+use Rattle.modular_plan.specs.Steps.{IsFourJoin, FourAt, FourDone, BlockOfFours, StageOfFours, IsLevel}
+use Rattle.modular_plan.proofs.Fours.{fours_none, fours_more}
 use Rattle.modular_plan.proofs.Levels.{table_room}
-use Rattle.modular_plan.proofs.Joins.{joined_pair, level_entry, JoinSizes, join_sizes}
+use Rattle.modular_plan.proofs.Joins.{joined_pair, level_entry, level_lowest, JoinSizes, join_sizes}
+use Rattle.modular_plan.proofs.Steps.{joined_pair_along}
 
 -- the four entries of a column
 record AreFourAbove (m g z count size i q block : ℕ) (x : ℕ → ℕ) (a b c d : ℕ) : Type 0 where
@@ -173,3 +176,124 @@ two_join_rooms {size} {last} {blocks} {done} {count} {length} b entries sizes ro
     let half = sizes.half in
     let same : b * (blocks / 2) ≡ 2 * (b * (blocks / 4)) = ap (λ v. b * v) half ∙ omega arith in
     omega (arith, enough, same, half)
+
+-- an entry that was reduced by 2m
+pub reduced_entry : {m : ℕ} (a x y bound : ℕ) → a ≡ x % bound → bound ≡ 2 * m → x ≡ y → Congruent m a y
+reduced_entry {m} a x y bound is bound_is same = record {
+  same = ap (λ v. v % m) (is ∙ ap (λ v. x % v) bound_is) ∙ mod_of_multiple_left m 2 x ∙ ap (λ v. v % m) same;
+}
+
+-- four entries that were reduced before
+pub joined_four_along : {m a b c d a' b' c' d' e f g h : ℕ} (w u v : ℕ) → Congruent m a a' → Congruent m b b'
+    → Congruent m c c' → Congruent m d d'
+    → IsFourJoin m w u v a b c d e f g h → IsFourJoin m w u v a' b' c' d' e f g h
+joined_four_along w u v first second third fourth four = record {
+  e = four.e;
+  f = four.f;
+  g = four.g;
+  h = four.h;
+  low = joined_pair_along u _ _ _ _ _ _ first second four.low;
+  high = joined_pair_along v _ _ _ _ _ _ third fourth four.high;
+  first = four.first;
+  second = four.second;
+}
+
+-- four entries below a bound
+pub record AreFourBelow (bound a b c d : ℕ) : Type 0 where
+  pub first : a < bound
+  pub second : b < bound
+  pub third : c < bound
+  pub fourth : d < bound
+
+-- .. and all before them
+pub four_below : (bound i : ℕ) (x y : ℕ → ℕ)
+    → FourDone (λ a b c d. AreFourBelow bound) i (i + 1) (i + 2) (i + 3) x y
+    → ((k : ℕ) → k < i → x k < bound) → (k : ℕ) → k < i + 4 → y k < bound
+four_below bound i x y step before k l = elim (cases_eq k i) [
+  | inl e ↦ subst (λ v. y v < bound) (sym e) step.four.first
+  | inr n0 ↦ elim (cases_eq k (i + 1)) [
+    | inl e ↦ subst (λ v. y v < bound) (sym e) step.four.second
+    | inr n1 ↦ elim (cases_eq k (i + 2)) [
+      | inl e ↦ subst (λ v. y v < bound) (sym e) step.four.third
+      | inr n2 ↦ elim (cases_eq k (i + 3)) [
+        | inl e ↦ subst (λ v. y v < bound) (sym e) step.four.fourth
+        | inr n3 ↦ subst (λ v. v < bound) (sym (step.kept k n0 n1 n2 n3)) (before k (omega arith))
+      ]
+    ]
+  ]
+]
+
+-- a block of four entries
+pub block_of_four : (R : ℕ → ℕ → ℕ → ℕ → ℕ → ℕ → ℕ → ℕ → Type 0) (i : ℕ) (x y : ℕ → ℕ)
+    → FourDone R i (i + 1) (i + 2) (i + 3) x y
+    → BlockOfFours R i 1 1 x y
+block_of_four R i x y step =
+    let e : i ≡ i + 0 = omega arith in
+    fours_more R i 1 0 x x y (omega arith) (fours_none R i 1 x)
+    (subst (λ v. FourDone R v (i + 1) (i + 2) (i + 3) x y) e step)
+
+-- the sizes where the first two stages make blocks of four entries
+pub record FirstFours (b last length entries : ℕ) : Type 0 where
+  pub sizes : TwoJoinSizes last last (length / last) 0 (length / last) length
+  pub count : length / last ≡ length
+  pub power : IsPowerOfTwo (length / 4)
+  pub whole : length / 4 * 4 ≡ length
+  pub room : 2 * (b * (length / 4) + length / 4) ≤ entries
+  pub rest : (b + 1) * (length / 4 / 2) ≤ entries
+
+pub first_fours : (b last length entries : ℕ) → last ≡ 1 → 0 < length / 4 → IsPowerOfTwo (length / last)
+    → length / last * last ≡ length → (b + 1) * (length / last / 2) ≤ entries → FirstFours b last length entries
+first_fours b last length entries last_is some power whole room =
+    let one : 2 ^ 0 ≡ 1 = refl in
+    let count : length / last ≡ length =
+    (let e : length / last ≡ length / last * 1 = omega arith in e)
+    ∙ ap (λ v. length / last * v) (sym last_is) ∙ whole in
+    let sizes = two_join_sizes last last (length / last) power.0 0 (length / last) length
+    (omega (arith, last_is)) (omega (arith, last_is)) power.1
+    (omega (arith, ap (λ v. v * last) one)) (omega (arith, ap (λ v. length / last * v) one)) whole (omega (arith, count, some)) (omega (arith, last_is, some)) in
+    let quarter : length / last / 4 ≡ length / 4 = ap (λ v. v / 4) count in
+    let two = two_join_rooms b entries sizes room in
+    let same = ap (λ v. b * v) quarter in
+    let fill = sizes.twice in
+    let less = mul-le-mul_left (b + 1) (let k : length / 4 / 2 ≤ length / last / 2 = omega (arith, count) in k) in
+    record {
+      sizes = sizes;
+      count = count;
+      power = (sizes.rest, sym quarter ∙ sizes.halved);
+      whole = omega (arith, quarter, fill, count);
+      room = omega (arith, two, same, quarter);
+      rest = omega (arith, less, room);
+    }
+
+-- .. and what they make of the remainders
+pub remainders_of_fours : {m : ℕ} (g z b last length entries : ℕ) (w x y after : ℕ → ℕ) → last ≡ 1
+    → FirstFours b last length entries → (b + 1) * (length / last / 2) ≤ entries → IsPlan m g z entries w
+    → AreRemainders m g z b (length / last) last x (λ i. y i % m)
+    → StageOfFours (λ p. IsFourJoin m (w (b * (length / 4) + p)) (w (2 * (b * (length / 4) + p)))
+    (w (2 * (b * (length / 4) + p) + 1))) 1 (length / 4) y after
+    → AreRemainders m g z b (length / 4) 4 (λ k. 4 * x k) (λ i. after i % m)
+remainders_of_fours {m} g z b last length entries w x y after last_is are room plan before stage =
+    let count = length / last in
+    let quarter : length / 4 ≡ count / 4 = ap (λ v. v / 4) (sym are.count) in
+    let four : last * 4 ≡ 4 = ap (λ v. v * 4) last_is in
+    let joined = level_joined_two g z b count last last 0 count length entries w x y after are.sizes room plan
+    (level_lowest g z b count last x y before)
+    (subst (λ q. StageOfFours (λ p. IsFourJoin m (w (b * (count / 4) + p)) (w (2 * (b * (count / 4) + p)))
+    (w (2 * (b * (count / 4) + p) + 1))) q (count / 4) y after) (sym last_is)
+    (subst (λ n. StageOfFours (λ p. IsFourJoin m (w (b * n + p)) (w (2 * (b * n + p)))
+    (w (2 * (b * n + p) + 1))) 1 n y after) quarter stage)) in
+    let level : IsLevel m g z b (length / 4) 4 (λ k. 4 * x k) after =
+    subst (λ n. IsLevel m g z b n 4 (λ k. 4 * x k) after) (sym quarter)
+    (subst (λ s. IsLevel m g z b (count / 4) s (λ k. 4 * x k) after) four joined) in
+    record { each = λ j i lj li. (level.each j i lj li).same }
+
+-- remainders of which each was reduced by 2m
+pub remainders_reduced : {m : ℕ} (g z b count last length bound : ℕ) (x y after : ℕ → ℕ) → bound ≡ 2 * m
+    → count * last ≡ length → ((i : ℕ) → i < length → after i ≡ y i % bound)
+    → AreRemainders m g z b count last x (λ i. y i % m) → AreRemainders m g z b count last x (λ i. after i % m)
+remainders_reduced {m} g z b count last length bound x y after bound_is whole reduced are = record {
+  each = λ j i lj li.
+      let room = mul-le-mul_right last (let k : j + 1 ≤ count = omega arith in k) in
+      let place : ℕ = j * last + i in
+      (reduced_entry _ _ _ _ (reduced place (omega (arith, room, whole, li))) bound_is refl).same ∙ are.each j i lj li;
+}

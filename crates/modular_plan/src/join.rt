@@ -10,7 +10,6 @@ ghost use Rattle.modular_plan.specs.Steps.{BlockDone, StageDone, FourDone, Block
 
 use crate::entry::PlanEntry;
 use crate::modulus::{Factor, PlannedModulus, reduced_once};
-use crate::split::reduce_each;
 use modular_prim::plain_word::PlainWord;
 use modular_word::path_word::PathWord;
 use modular_word::ring_word::RingWord;
@@ -93,20 +92,19 @@ fn minus_inverses<T: PlainWord, F: PlanEntry<T>>(
     }
 }
 
-// x + y and (y - x)·v, below 4m.
+// x + y and (y - x)·v, below 2m.
 fn join_values<T: PlainWord>(m: &PlannedModulus<T>, x: T, y: T, v: &Factor<T>) -> (T, T)
-    requires below { T.number x < 4 * T.number m.now.modulus }
-    requires other_below { T.number y < 4 * T.number m.now.modulus }
+    requires below { T.number x < 2 * T.number m.now.modulus }
+    requires other_below { T.number y < 2 * T.number m.now.modulus }
     requires factor { IsFactor T.base (T.number m.now.modulus) (T.number v.now.value) (T.number v.now.quotient) }
-    ensures below { T.number result.0 < 4 * T.number m.now.modulus }
-    ensures product_below { T.number result.1 < 4 * T.number m.now.modulus }
+    ensures below { T.number result.0 < 2 * T.number m.now.modulus }
+    ensures product_below { T.number result.1 < 2 * T.number m.now.modulus }
     ensures pair { (w : ℕ) → IsMinusInverse (T.number m.now.modulus) w (T.number v.now.value) →
         IsPairJoin (T.number m.now.modulus) w (T.number x) (T.number y) (T.number result.0) (T.number result.1) }
 {
     let twice = m.twice();
-    let x = reduced_once(x, twice);
-    let y = reduced_once(y, twice);
-    (x.plus(y), m.times(y.plus(twice.minus(x)), v))
+    let sum = reduced_once(x.plus(y), twice);
+    (sum, m.times(y.plus(twice.minus(x)), v))
 }
 
 // The pair at two places.
@@ -117,11 +115,11 @@ fn join_pair<T: PlainWord>(
     high: usize,
     v: &Factor<T>,
 )
-    requires entries { All (λ x. T.number x < 4 * T.number m.now.modulus) xs.old }
+    requires entries { All (λ x. T.number x < 2 * T.number m.now.modulus) xs.old }
     requires factor { IsFactor T.base (T.number m.now.modulus) (T.number v.now.value) (T.number v.now.quotient) }
     requires order { low < high }
     requires within { high < length xs.old }
-    ensures entries { All (λ x. T.number x < 4 * T.number m.now.modulus) xs.new }
+    ensures entries { All (λ x. T.number x < 2 * T.number m.now.modulus) xs.new }
     ensures done { (w : ℕ) → IsMinusInverse (T.number m.now.modulus) w (T.number v.now.value) →
         PairDone (IsPairJoin (T.number m.now.modulus) w) low high (numbers T.number xs.old) (numbers T.number xs.new) }
 {
@@ -138,10 +136,10 @@ fn join_block<T: PlainWord>(
     half: usize,
     v: &Factor<T>,
 )
-    requires entries { All (λ x. T.number x < 4 * T.number m.now.modulus) xs.old }
+    requires entries { All (λ x. T.number x < 2 * T.number m.now.modulus) xs.old }
     requires factor { IsFactor T.base (T.number m.now.modulus) (T.number v.now.value) (T.number v.now.quotient) }
     requires within { first + (half + half) ≤ length xs.old }
-    ensures entries { All (λ x. T.number x < 4 * T.number m.now.modulus) xs.new }
+    ensures entries { All (λ x. T.number x < 2 * T.number m.now.modulus) xs.new }
     ensures done { (w : ℕ) → IsMinusInverse (T.number m.now.modulus) w (T.number v.now.value) →
         BlockDone (IsPairJoin (T.number m.now.modulus) w) first half half
         (numbers T.number xs.old) (numbers T.number xs.new) }
@@ -161,7 +159,7 @@ fn join_stage<T: PlainWord, F: PlanEntry<T>>(
     first: usize,
     minus: &Factor<T>,
 )
-    requires entries { All (λ x. T.number x < 4 * T.number m.now.modulus) xs.old }
+    requires entries { All (λ x. T.number x < 2 * T.number m.now.modulus) xs.old }
     requires factors { All (λ f. IsFactor T.base (T.number m.now.modulus) (F.value f) (F.quotient f))
         table.now }
     requires minus_factor { IsFactor T.base (T.number m.now.modulus)
@@ -170,7 +168,7 @@ fn join_stage<T: PlainWord, F: PlanEntry<T>>(
     requires whole { blocks * (half + half) ≡ length xs.old }
     requires within { first + blocks ≤ length table.now }
     requires some { 0 < half }
-    ensures entries { All (λ x. T.number x < 4 * T.number m.now.modulus) xs.new }
+    ensures entries { All (λ x. T.number x < 2 * T.number m.now.modulus) xs.new }
     ensures done { let modulus = T.number m.now.modulus in
         let w = numbers F.value table.now in (g z : ℕ) →
         IsPlan modulus g z (length table.now) w →
@@ -183,38 +181,75 @@ fn join_stage<T: PlainWord, F: PlanEntry<T>>(
     }
 }
 
-// The entries at four places, a quarter of a block apart: by minus the inverses of the factors of the
-// block's halves, and of its own.
+// Four numbers, a quarter of a block apart: by minus the inverses of the factors of the block's halves,
+// and of its own.
 fn join_four<T: PlainWord>(
     m: &PlannedModulus<T>,
-    xs: &mut [T],
-    places: (usize, usize, usize, usize),
+    four: (T, T, T, T),
+    w: &Factor<T>,
+    u: &Factor<T>,
+    v: &Factor<T>,
+) -> (T, T, T, T)
+    requires low_below { (T.number four.0 < 2 * T.number m.now.modulus) × (T.number four.1 < 2 * T.number m.now.modulus) }
+    requires high_below { (T.number four.2 < 2 * T.number m.now.modulus) × (T.number four.3 < 2 * T.number m.now.modulus) }
+    requires factor { IsFactor T.base (T.number m.now.modulus) (T.number w.now.value) (T.number w.now.quotient) }
+    requires low_factor { IsFactor T.base (T.number m.now.modulus) (T.number u.now.value) (T.number u.now.quotient) }
+    requires high_factor { IsFactor T.base (T.number m.now.modulus) (T.number v.now.value) (T.number v.now.quotient) }
+    ensures first_below { T.number result.0 < 2 * T.number m.now.modulus }
+    ensures second_below { T.number result.1 < 2 * T.number m.now.modulus }
+    ensures third_below { T.number result.2 < 2 * T.number m.now.modulus }
+    ensures fourth_below { T.number result.3 < 2 * T.number m.now.modulus }
+    ensures four { let modulus = T.number m.now.modulus in (a b c : ℕ) →
+        IsMinusInverse modulus a (T.number w.now.value) → IsMinusInverse modulus b (T.number u.now.value)
+        → IsMinusInverse modulus c (T.number v.now.value) →
+        IsFourJoin modulus a b c (T.number four.0) (T.number four.1) (T.number four.2) (T.number four.3)
+        (T.number result.0) (T.number result.1) (T.number result.2) (T.number result.3) }
+{
+    let (e, f) = join_values(m, four.0, four.1, u);
+    let (g, h) = join_values(m, four.2, four.3, v);
+    let (a, c) = join_values(m, e, g, w);
+    let (b, d) = join_values(m, f, h, w);
+    (a, b, c, d)
+}
+
+// The columns of a block whose quarters are lists of their own.
+fn join_columns<T: PlainWord>(
+    m: &PlannedModulus<T>,
+    a: &mut [T],
+    b: &mut [T],
+    c: &mut [T],
+    d: &mut [T],
     w: &Factor<T>,
     u: &Factor<T>,
     v: &Factor<T>,
 )
-    requires entries { All (λ x. T.number x < 4 * T.number m.now.modulus) xs.old }
+    requires first { All (λ x. T.number x < 2 * T.number m.now.modulus) a.old }
+    requires second { All (λ x. T.number x < 2 * T.number m.now.modulus) b.old }
+    requires third { All (λ x. T.number x < 2 * T.number m.now.modulus) c.old }
+    requires fourth { All (λ x. T.number x < 2 * T.number m.now.modulus) d.old }
     requires factor { IsFactor T.base (T.number m.now.modulus) (T.number w.now.value) (T.number w.now.quotient) }
     requires low_factor { IsFactor T.base (T.number m.now.modulus) (T.number u.now.value) (T.number u.now.quotient) }
     requires high_factor { IsFactor T.base (T.number m.now.modulus) (T.number v.now.value) (T.number v.now.quotient) }
-    requires order { (places.0 < places.1) × (places.1 < places.2) × (places.2 < places.3) }
-    requires within { places.3 < length xs.old }
-    ensures entries { All (λ x. T.number x < 4 * T.number m.now.modulus) xs.new }
-    ensures done { let modulus = T.number m.now.modulus in (a b c : ℕ) →
-        IsMinusInverse modulus a (T.number w.now.value) → IsMinusInverse modulus b (T.number u.now.value)
-        → IsMinusInverse modulus c (T.number v.now.value) →
-        FourDone (IsFourJoin modulus a b c) places.0 places.1 places.2 places.3
-        (numbers T.number xs.old) (numbers T.number xs.new) }
+    requires second_length { length b.old ≡ length a.old }
+    requires third_length { length c.old ≡ length a.old }
+    requires fourth_length { length d.old ≡ length a.old }
+    ensures first { All (λ x. T.number x < 2 * T.number m.now.modulus) a.new }
+    ensures second { All (λ x. T.number x < 2 * T.number m.now.modulus) b.new }
+    ensures third { All (λ x. T.number x < 2 * T.number m.now.modulus) c.new }
+    ensures fourth { All (λ x. T.number x < 2 * T.number m.now.modulus) d.new }
+    ensures done { let modulus = T.number m.now.modulus in let n = numbers T.number in (x y z i : ℕ) →
+        IsMinusInverse modulus x (T.number w.now.value) → IsMinusInverse modulus y (T.number u.now.value)
+        → IsMinusInverse modulus z (T.number v.now.value) → i < length a.old →
+        IsFourJoin modulus x y z (n a.old i) (n b.old i) (n c.old i) (n d.old i)
+        (n a.new i) (n b.new i) (n c.new i) (n d.new i) }
 {
-    let (i, j, k, l) = places;
-    let (e, f) = join_values(m, xs[i], xs[j], u);
-    let (g, h) = join_values(m, xs[k], xs[l], v);
-    let (a, c) = join_values(m, e, g, w);
-    let (b, d) = join_values(m, f, h, w);
-    xs[l] = d;
-    xs[k] = c;
-    xs[j] = b;
-    xs[i] = a;
+    'columns_of_four: for i in 0..a.len() {
+        let (e, f, g, h) = join_four(m, (a[i], b[i], c[i], d[i]), w, u, v);
+        a[i] = e;
+        b[i] = f;
+        c[i] = g;
+        d[i] = h;
+    }
 }
 
 // Two stages of the block of four times q entries from place `first` on.
@@ -227,29 +262,23 @@ fn join_quarters<T: PlainWord>(
     u: &Factor<T>,
     v: &Factor<T>,
 )
-    requires entries { All (λ x. T.number x < 4 * T.number m.now.modulus) xs.old }
+    requires entries { All (λ x. T.number x < 2 * T.number m.now.modulus) xs.old }
     requires factor { IsFactor T.base (T.number m.now.modulus) (T.number w.now.value) (T.number w.now.quotient) }
     requires low_factor { IsFactor T.base (T.number m.now.modulus) (T.number u.now.value) (T.number u.now.quotient) }
     requires high_factor { IsFactor T.base (T.number m.now.modulus) (T.number v.now.value) (T.number v.now.quotient) }
     requires within { first + (q + q + (q + q)) ≤ length xs.old }
-    ensures entries { All (λ x. T.number x < 4 * T.number m.now.modulus) xs.new }
+    ensures entries { All (λ x. T.number x < 2 * T.number m.now.modulus) xs.new }
     ensures done { let modulus = T.number m.now.modulus in (a b c : ℕ) →
         IsMinusInverse modulus a (T.number w.now.value) → IsMinusInverse modulus b (T.number u.now.value)
         → IsMinusInverse modulus c (T.number v.now.value) →
         BlockOfFours (IsFourJoin modulus a b c) first q q (numbers T.number xs.old) (numbers T.number xs.new) }
 {
-    'columns_of_four: for i in 0..q {
-        let low = first + i;
-        let high = first + (q + q + i);
-        join_four(
-            m,
-            xs,
-            (low, first + (q + i), high, first + (q + q + (q + i))),
-            w,
-            u,
-            v,
-        );
-    }
+    let (_, block) = xs.split_at_mut(first);
+    let (a, rest) = block.split_at_mut(q);
+    let (b, rest) = rest.split_at_mut(q);
+    let (c, rest) = rest.split_at_mut(q);
+    let (d, _) = rest.split_at_mut(q);
+    join_columns(m, a, b, c, d, w, u, v);
 }
 
 // Two stages of all blocks, block p by entry first + p of the table, and its halves by the entries at
@@ -263,7 +292,7 @@ fn join_two_stages<T: PlainWord, F: PlanEntry<T>>(
     first: usize,
     minus: &Factor<T>,
 )
-    requires entries { All (λ x. T.number x < 4 * T.number m.now.modulus) xs.old }
+    requires entries { All (λ x. T.number x < 2 * T.number m.now.modulus) xs.old }
     requires factors { All (λ f. IsFactor T.base (T.number m.now.modulus) (F.value f) (F.quotient f))
         table.now }
     requires minus_factor { IsFactor T.base (T.number m.now.modulus)
@@ -272,7 +301,7 @@ fn join_two_stages<T: PlainWord, F: PlanEntry<T>>(
     requires whole { blocks * (q + q + (q + q)) ≡ length xs.old }
     requires within { 2 * (first + blocks) ≤ length table.now }
     requires some { 0 < q }
-    ensures entries { All (λ x. T.number x < 4 * T.number m.now.modulus) xs.new }
+    ensures entries { All (λ x. T.number x < 2 * T.number m.now.modulus) xs.new }
     ensures done { let modulus = T.number m.now.modulus in
         let w = numbers F.value table.now in (g z : ℕ) →
         IsPlan modulus g z (length table.now) w →
@@ -285,7 +314,127 @@ fn join_two_stages<T: PlainWord, F: PlanEntry<T>>(
     }
 }
 
-// All stages: the number of blocks times the list whose remainders the entries are, below 4m.
+// The four entries from place `first` on, where all before them are below 2m.
+fn join_neighbours<T: PlainWord>(
+    m: &PlannedModulus<T>,
+    xs: &mut [T],
+    first: usize,
+    w: &Factor<T>,
+    u: &Factor<T>,
+    v: &Factor<T>,
+)
+    requires entries { All (λ x. T.number x < 4 * T.number m.now.modulus) xs.old }
+    requires before { (k : ℕ) → k < first → numbers T.number xs.old k < 2 * T.number m.now.modulus }
+    requires factor { IsFactor T.base (T.number m.now.modulus) (T.number w.now.value) (T.number w.now.quotient) }
+    requires low_factor { IsFactor T.base (T.number m.now.modulus) (T.number u.now.value) (T.number u.now.quotient) }
+    requires high_factor { IsFactor T.base (T.number m.now.modulus) (T.number v.now.value) (T.number v.now.quotient) }
+    requires within { first + 3 < length xs.old }
+    ensures entries { All (λ x. T.number x < 4 * T.number m.now.modulus) xs.new }
+    ensures before { (k : ℕ) → k < first + 4 → numbers T.number xs.new k < 2 * T.number m.now.modulus }
+    ensures done { let modulus = T.number m.now.modulus in (a b c : ℕ) →
+        IsMinusInverse modulus a (T.number w.now.value) → IsMinusInverse modulus b (T.number u.now.value)
+        → IsMinusInverse modulus c (T.number v.now.value) →
+        FourDone (IsFourJoin modulus a b c) first (first + 1) (first + 2) (first + 3)
+        (numbers T.number xs.old) (numbers T.number xs.new) }
+{
+    let twice = m.twice();
+    let a = reduced_once(xs[first], twice);
+    let b = reduced_once(xs[first + 1], twice);
+    let c = reduced_once(xs[first + 2], twice);
+    let d = reduced_once(xs[first + 3], twice);
+    let (a, b, c, d) = join_four(m, (a, b, c, d), w, u, v);
+    xs[first + 3] = d;
+    xs[first + 2] = c;
+    xs[first + 1] = b;
+    xs[first] = a;
+}
+
+// The first two stages of all blocks of four entries, which come below 2m: block p by entry first + p of
+// the table, and its halves by the entries at twice that place.
+fn join_fours<T: PlainWord, F: PlanEntry<T>>(
+    m: &PlannedModulus<T>,
+    xs: &mut [T],
+    blocks: usize,
+    table: &[F],
+    first: usize,
+    minus: &Factor<T>,
+)
+    requires entries { All (λ x. T.number x < 4 * T.number m.now.modulus) xs.old }
+    requires factors { All (λ f. IsFactor T.base (T.number m.now.modulus) (F.value f) (F.quotient f))
+        table.now }
+    requires minus_factor { IsFactor T.base (T.number m.now.modulus)
+        (T.number minus.now.value) (T.number minus.now.quotient) }
+    requires minus { T.number minus.now.value + 1 ≡ T.number m.now.modulus }
+    requires whole { blocks * 4 ≡ length xs.old }
+    requires within { 2 * (first + blocks) ≤ length table.now }
+    ensures entries { All (λ x. T.number x < 2 * T.number m.now.modulus) xs.new }
+    ensures done { let modulus = T.number m.now.modulus in
+        let w = numbers F.value table.now in (g z : ℕ) →
+        IsPlan modulus g z (length table.now) w →
+        StageOfFours (λ p. IsFourJoin modulus (w (first + p)) (w (2 * (first + p))) (w (2 * (first + p) + 1))) 1 blocks
+        (numbers T.number xs.old) (numbers T.number xs.new) }
+{
+    'fours: for p in 0..blocks {
+        let (w, u, v) = minus_inverses(m, table, first + p, *minus);
+        join_neighbours(m, xs, p * 4, &w, &u, &v);
+    }
+}
+
+// Each entry reduced once by a bound.
+fn reduce_each_once<T: PlainWord>(xs: &mut [T], bound: T)
+    requires { All (λ x. T.number x < 2 * T.number bound) xs.old }
+    ensures residues { (i : ℕ) → i < length xs.old
+        → numbers T.number xs.new i ≡ numbers T.number xs.old i % T.number bound }
+    ensures below { All (λ x. T.number x < T.number bound) xs.new }
+{
+    'entries: for i in 0..xs.len() {
+        xs[i] = reduced_once(xs[i], bound);
+    }
+}
+
+// The stages from blocks of `last` entries on: the number of blocks times the list whose remainders the
+// entries are, below 2m.
+fn join_blocks<T: PlainWord, F: PlanEntry<T>>(
+    m: &PlannedModulus<T>,
+    xs: &mut [T],
+    table: &[F],
+    b: usize,
+    last: usize,
+    minus: &Factor<T>,
+)
+    requires entries { All (λ x. T.number x < 2 * T.number m.now.modulus) xs.old }
+    requires factors { All (λ f. IsFactor T.base (T.number m.now.modulus) (F.value f) (F.quotient f))
+        table.now }
+    requires minus_factor { IsFactor T.base (T.number m.now.modulus)
+        (T.number minus.now.value) (T.number minus.now.quotient) }
+    requires minus { T.number minus.now.value + 1 ≡ T.number m.now.modulus }
+    requires some { 1 ≤ last }
+    requires count { IsPowerOfTwo (length xs.old / last) }
+    requires whole { length xs.old / last * last ≡ length xs.old }
+    requires within { (b + 1) * (length xs.old / last / 2) ≤ length table.now }
+    ensures entries { All (λ x. T.number x < 2 * T.number m.now.modulus) xs.new }
+    ensures joined { let modulus = T.number m.now.modulus in (g z : ℕ) (x : ℕ → ℕ) →
+        IsPlan modulus g z (length table.now) (numbers F.value table.now) →
+        AreRemainders modulus g z b (length xs.old / last) last x (λ i. numbers T.number xs.old i % modulus) →
+        (i : ℕ) → i < length xs.old → Congruent modulus (numbers T.number xs.new i) (length xs.old / last * x i) }
+{
+    let mut size = last;
+    let mut blocks = xs.len() / last;
+    'stages: while size < xs.len() {
+        if 2 < blocks {
+            blocks /= 4;
+            join_two_stages(m, xs, size, blocks, table, b * blocks, minus);
+            size *= 4;
+        } else {
+            blocks /= 2;
+            join_stage(m, xs, size, blocks, table, b * blocks, minus);
+            size *= 2;
+        }
+    }
+}
+
+// All stages: the number of blocks times the list whose remainders the entries are, below 2m. The first
+// pass brings the entries there.
 fn join_stages<T: PlainWord, F: PlanEntry<T>>(
     m: &PlannedModulus<T>,
     xs: &mut [T],
@@ -300,25 +449,20 @@ fn join_stages<T: PlainWord, F: PlanEntry<T>>(
     requires count { IsPowerOfTwo (length xs.old / last) }
     requires whole { length xs.old / last * last ≡ length xs.old }
     requires within { (b + 1) * (length xs.old / last / 2) ≤ length table.now }
-    ensures entries { All (λ x. T.number x < 4 * T.number m.now.modulus) xs.new }
+    ensures entries { All (λ x. T.number x < 2 * T.number m.now.modulus) xs.new }
     ensures joined { let modulus = T.number m.now.modulus in (g z : ℕ) (x : ℕ → ℕ) →
         IsPlan modulus g z (length table.now) (numbers F.value table.now) →
         AreRemainders modulus g z b (length xs.old / last) last x (λ i. numbers T.number xs.old i % modulus) →
         (i : ℕ) → i < length xs.old → Congruent modulus (numbers T.number xs.new i) (length xs.old / last * x i) }
 {
     let minus = m.factor(m.modulus.minus(T::one()));
-    let mut size = last;
-    let mut blocks = xs.len() / last;
-    'stages: while size < xs.len() {
-        if 2 < blocks {
-            blocks /= 4;
-            join_two_stages(m, xs, size, blocks, table, b * blocks, &minus);
-            size *= 4;
-        } else {
-            blocks /= 2;
-            join_stage(m, xs, size, blocks, table, b * blocks, &minus);
-            size *= 2;
-        }
+    let fours = xs.len() / 4;
+    if last == 1 && fours > 0 {
+        join_fours(m, xs, fours, table, b * fours, &minus);
+        join_blocks(m, xs, table, b, 4, &minus);
+    } else {
+        reduce_each_once(xs, m.twice());
+        join_blocks(m, xs, table, b, last, &minus);
     }
 }
 
@@ -364,7 +508,7 @@ pub fn join<T: PlainWord, F: PlanEntry<T>>(
         (i : ℕ) → i < length xs.old → numbers T.number xs.new i ≡ (length xs.old / last * x i) % modulus }
 {
     join_stages(m, xs, table, b, last);
-    reduce_each(m, xs);
+    reduce_each_once(xs, m.modulus);
 }
 
 /// Joins the blocks as `join` does, each coefficient times a factor: by the inverse modulo m of the

@@ -9,7 +9,7 @@ invariant-columns g l =
     let number = g.T.RingWord.number in
     let m = number l.m.modulus in
     record {
-      entries : All (λ x. number x < 4 * m) l.xs;
+      entries : All (λ x. number x < 2 * m) l.xs;
       done : (w : ℕ) → IsMinusInverse m w (number l.v.value)
           → BlockDone (IsPairJoin m w) l.first l.half l.i (numbers number l.fn.xs) (numbers number l.xs);
     }

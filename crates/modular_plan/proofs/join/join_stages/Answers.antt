@@ -1,165 +1,84 @@
-use Rattle.std.proofs.Common.{◌≡◌, ◌+◌, ◌*◌, ◌/◌, ◌^◌, suc, length, sym, ◌∙◌, ap, arith, refl, subst}
-use Rattle.modular_plan.specs.Plans.{numbers}
-use Rattle.modular_plan.specs.Steps.{IsLevel}
-use Rattle.modular_plan.proofs.Levels.{table_room}
-use Rattle.modular_plan.proofs.Joins.{join_sizes, level_lowest, level_joined, level_top}
-use Rattle.modular_plan.proofs.TwoJoins.{two_join_sizes, two_join_rooms, level_joined_two}
+use Rattle.std.proofs.Common.{◌≡◌, ℕ, ◌+◌, ◌*◌, ◌/◌, ◌%◌, ◌<◌, length, sym, ◌∙◌, ap, arith, subst}
+use Rattle.modular_word.specs.Congruence.{Congruent}
+use Rattle.modular_word.proofs.Congruence.{of_equal, chained}
+use Rattle.modular_plan.specs.Plans.{numbers, AreRemainders}
+use Rattle.modular_plan.proofs.TwoJoins.{first_fours, remainders_of_fours, remainders_reduced}
 use Rattle.modular_plan.proofs.join.join_stages.Goals as goal
 
-pub stages-init : goal.stages-init
-stages-init g c = record {
-  rest = c.requires.count.0;
-  done = 0;
-  halved = c.requires.count.1;
-  sized = (let one : 2 ^ 0 ≡ 1 = refl in omega (arith, ap (λ v. v * c.args.last) one));
-  counted = (let one : 2 ^ 0 ≡ 1 = refl in omega (arith, ap (λ v. length c.args.xs.now / c.args.last * v) one));
-  some = c.requires.some;
-  entries = c.requires.entries;
-  level = λ r z x plan are. level_lowest r z c.args.b (length c.args.xs.now / c.args.last) c.args.last x _ are;
-}
+pub join_fours-requires-clause-whole : goal.join_fours-requires-clause-whole
+join_fours-requires-clause-whole g c =
+    let one = c.if-last-eq1.true in
+    let some = c.if-fours-gt0.true in
+    let all = first_fours c.args.b c.args.last (length c.args.xs.now) (length c.args.table.now) (omega (arith, one))
+    (omega (arith, some)) c.requires.count c.requires.whole c.requires.within in
+    all.whole
 
-pub overflow_mul-b : goal.overflow_mul-b
-overflow_mul-b g c =
-    let before = c.stages.invariant in
-    let less = c.stages-test.true in
-    let count = length c.args.xs.now / c.args.last in
-    let sizes = two_join_sizes c.stages.size c.args.last c.stages.blocks before.rest before.done count
-    (length c.args.xs.now) c.requires.some before.some before.halved before.sized before.counted c.requires.whole
-    c.if-blocks-gt2.true (omega arith) in
-    let enough = two_join_rooms c.args.b (length c.args.table.now) sizes c.requires.within in
-    omega (arith, enough)
+pub join_fours-requires-clause-within : goal.join_fours-requires-clause-within
+join_fours-requires-clause-within g c =
+    let one = c.if-last-eq1.true in
+    let some = c.if-fours-gt0.true in
+    let all = first_fours c.args.b c.args.last (length c.args.xs.now) (length c.args.table.now) (omega (arith, one))
+    (omega (arith, some)) c.requires.count c.requires.whole c.requires.within in
+    all.room
 
-pub join_two_stages-requires-clause-whole : goal.join_two_stages-requires-clause-whole
-join_two_stages-requires-clause-whole g c =
-    let before = c.stages.invariant in
-    let less = c.stages-test.true in
-    let count = length c.args.xs.now / c.args.last in
-    let sizes = two_join_sizes c.stages.size c.args.last c.stages.blocks before.rest before.done count
-    (length c.args.xs.now) c.requires.some before.some before.halved before.sized before.counted c.requires.whole
-    c.if-blocks-gt2.true (omega arith) in
-    let fill = sizes.whole in
-    let same = c.stages.auto.xs in
-    omega (arith, fill, same)
+pub join_blocks-requires-clause-count : goal.join_blocks-requires-clause-count
+join_blocks-requires-clause-count g c =
+    let one = c.if-last-eq1.true in
+    let some = c.if-fours-gt0.true in
+    let all = first_fours c.args.b c.args.last (length c.args.xs.now) (length c.args.table.now) (omega (arith, one))
+    (omega (arith, some)) c.requires.count c.requires.whole c.requires.within in
+    let kept = c.join_fours.auto.xs in
+    let same : length c.join_fours.new.xs ≡ length c.args.xs.now = omega (arith, kept) in
+    (all.power.0, ap (λ v. v / 4) same ∙ all.power.1)
 
-pub join_two_stages-requires-clause-within : goal.join_two_stages-requires-clause-within
-join_two_stages-requires-clause-within g c =
-    let before = c.stages.invariant in
-    let less = c.stages-test.true in
-    let count = length c.args.xs.now / c.args.last in
-    let sizes = two_join_sizes c.stages.size c.args.last c.stages.blocks before.rest before.done count
-    (length c.args.xs.now) c.requires.some before.some before.halved before.sized before.counted c.requires.whole
-    c.if-blocks-gt2.true (omega arith) in
-    two_join_rooms c.args.b (length c.args.table.now) sizes c.requires.within
+pub join_blocks-requires-clause-whole : goal.join_blocks-requires-clause-whole
+join_blocks-requires-clause-whole g c =
+    let one = c.if-last-eq1.true in
+    let some = c.if-fours-gt0.true in
+    let all = first_fours c.args.b c.args.last (length c.args.xs.now) (length c.args.table.now) (omega (arith, one))
+    (omega (arith, some)) c.requires.count c.requires.whole c.requires.within in
+    let kept = c.join_fours.auto.xs in
+    let whole = all.whole in
+    omega (arith, kept, whole)
 
-pub overflow_mul-size : goal.overflow_mul-size
-overflow_mul-size g c =
-    let before = c.stages.invariant in
-    let less = c.stages-test.true in
-    let count = length c.args.xs.now / c.args.last in
-    let sizes = two_join_sizes c.stages.size c.args.last c.stages.blocks before.rest before.done count
-    (length c.args.xs.now) c.requires.some before.some before.halved before.sized before.counted c.requires.whole
-    c.if-blocks-gt2.true (omega arith) in
-    let fit = sizes.fits in
-    omega (arith, fit)
-
-pub stages-preserved-then-blocks-gt2 : goal.stages-preserved-then-blocks-gt2
-stages-preserved-then-blocks-gt2 g c =
-    let before = c.stages.invariant in
-    let less = c.stages-test.true in
-    let count = length c.args.xs.now / c.args.last in
-    let sizes = two_join_sizes c.stages.size c.args.last c.stages.blocks before.rest before.done count
-    (length c.args.xs.now) c.requires.some before.some before.halved before.sized before.counted c.requires.whole
-    c.if-blocks-gt2.true (omega arith) in
-    let some = before.some in
-    record {
-      rest = sizes.rest;
-      done = suc (suc before.done);
-      halved = sizes.halved;
-      sized = sizes.sized;
-      counted = sizes.counted;
-      some = omega (arith, some);
-      entries = c.join_two_stages.ensures.entries;
-      level = λ r z x plan are.
-          level_joined_two r z c.args.b c.stages.blocks c.stages.size c.args.last before.done count
-          (length c.args.xs.now) (length c.args.table.now) _ x _ _ sizes c.requires.within plan
-          (before.level r z x plan are) (c.join_two_stages.ensures.done r z plan);
-    }
-
-pub overflow_mul-b-else-blocks-gt2 : goal.overflow_mul-b-else-blocks-gt2
-overflow_mul-b-else-blocks-gt2 g c =
-    let before = c.stages.invariant in
-    let less = c.stages-test.true in
-    let count = length c.args.xs.now / c.args.last in
-    let sizes = join_sizes c.stages.size c.args.last c.stages.blocks before.rest before.done count
-    (length c.args.xs.now) c.requires.some before.halved before.sized before.counted c.requires.whole (omega arith) in
-    let enough = table_room c.args.b (length c.args.table.now) sizes.stage c.requires.within in
-    omega (arith, enough)
-
-pub join_stage-requires-clause-whole : goal.join_stage-requires-clause-whole
-join_stage-requires-clause-whole g c =
-    let before = c.stages.invariant in
-    let less = c.stages-test.true in
-    let count = length c.args.xs.now / c.args.last in
-    let sizes = join_sizes c.stages.size c.args.last c.stages.blocks before.rest before.done count
-    (length c.args.xs.now) c.requires.some before.halved before.sized before.counted c.requires.whole (omega arith) in
-    let fill = sizes.whole in
-    let same = c.stages.auto.xs in
-    omega (arith, fill, same)
-
-pub join_stage-requires-clause-within : goal.join_stage-requires-clause-within
-join_stage-requires-clause-within g c =
-    let before = c.stages.invariant in
-    let less = c.stages-test.true in
-    let count = length c.args.xs.now / c.args.last in
-    let sizes = join_sizes c.stages.size c.args.last c.stages.blocks before.rest before.done count
-    (length c.args.xs.now) c.requires.some before.halved before.sized before.counted c.requires.whole (omega arith) in
-    table_room c.args.b (length c.args.table.now) sizes.stage c.requires.within
-
-pub overflow_mul-size-else-blocks-gt2 : goal.overflow_mul-size-else-blocks-gt2
-overflow_mul-size-else-blocks-gt2 g c =
-    let before = c.stages.invariant in
-    let less = c.stages-test.true in
-    let count = length c.args.xs.now / c.args.last in
-    let sizes = join_sizes c.stages.size c.args.last c.stages.blocks before.rest before.done count
-    (length c.args.xs.now) c.requires.some before.halved before.sized before.counted c.requires.whole (omega arith) in
-    let fit = sizes.fits in
-    omega (arith, fit)
-
-pub stages-preserved : goal.stages-preserved
-stages-preserved g c =
-    let before = c.stages.invariant in
-    let less = c.stages-test.true in
-    let count = length c.args.xs.now / c.args.last in
-    let sizes = join_sizes c.stages.size c.args.last c.stages.blocks before.rest before.done count
-    (length c.args.xs.now) c.requires.some before.halved before.sized before.counted c.requires.whole (omega arith) in
-    let some = before.some in
-    let m = g.T.RingWord.number c.args.m.now.modulus in
-    let twice : c.stages.size + c.stages.size ≡ c.stages.size * 2 = omega arith in
-    record {
-      rest = sizes.rest;
-      done = suc before.done;
-      halved = sizes.halved;
-      sized = sym twice ∙ sizes.sized;
-      counted = sizes.counted;
-      some = omega (arith, some);
-      entries = c.join_stage.ensures.entries;
-      level = λ r z x plan are.
-          subst (λ n. IsLevel m r z c.args.b (c.stages.blocks / 2) n (λ k. 2 ^ suc before.done * x k)
-          (numbers g.T.RingWord.number c.join_stage.new.xs)) twice
-          (level_joined r z c.args.b (c.stages.blocks / 2) c.stages.size c.args.last before.done count
-          (length c.args.xs.now) (length c.args.table.now) _ x _ _ sizes.stage c.requires.within plan
-          (subst (λ n. IsLevel m r z c.args.b n c.stages.size (λ k. 2 ^ before.done * x k)
-          (numbers g.T.RingWord.number c.stages.xs)) sizes.twice (before.level r z x plan are))
-          (c.join_stage.ensures.done r z plan));
-    }
-
-pub returns-clause-joined : goal.returns-clause-joined
-returns-clause-joined g c =
-    let before = c.stages.invariant in
-    let full = c.stages-test.false in
-    let whole = c.requires.whole in
+pub returns-then-fours-gt0-clause-joined : goal.returns-then-fours-gt0-clause-joined
+returns-then-fours-gt0-clause-joined g c =
+    let one = c.if-last-eq1.true in
+    let some = c.if-fours-gt0.true in
+    let all = first_fours c.args.b c.args.last (length c.args.xs.now) (length c.args.table.now) (omega (arith, one))
+    (omega (arith, some)) c.requires.count c.requires.whole c.requires.within in
+    let n = g.T.RingWord.number in
+    let m = n c.args.m.now.modulus in
+    let b = c.args.b in
+    let before = c.args.xs.now in
+    let after = c.join_fours.new.xs in
+    let kept = c.join_fours.auto.xs in
+    let same : length after ≡ length before = omega (arith, kept) in
     λ r z x plan are i l.
-    level_top r z c.args.b c.stages.size c.args.last c.stages.blocks before.rest before.done
-    (length c.args.xs.now / c.args.last) (length c.args.xs.now) x _
-    c.requires.some (omega (arith, l)) (omega arith) before.halved before.sized before.counted whole
-    (before.level r z x plan are) i l
+    let fours = remainders_of_fours r z b c.args.last (length before) (length c.args.table.now)
+    (numbers g.F.PlanEntry.value c.args.table.now) x (numbers n before) (numbers n after) (omega (arith, one)) all
+    c.requires.within plan are (c.join_fours.ensures.done r z plan) in
+    let spread : length before / 4 * (4 * x i) ≡ length before / 4 * 4 * x i = omega arith in
+    let times : length after / 4 * (4 * x i) ≡ length before / c.args.last * x i =
+    ap (λ v. v / 4 * (4 * x i)) same ∙ spread ∙ ap (λ v. v * x i) (all.whole ∙ sym all.count) in
+    chained (c.join_blocks.ensures.joined r z (λ k. 4 * x k) plan
+    (subst (λ v. AreRemainders m r z b (v / 4) 4 (λ k. 4 * x k) (λ k. numbers n after k % m)) (sym same) fours) i
+    (omega (arith, l, same))) (of_equal times)
+
+pub returns-else-last-eq1-clause-joined : goal.returns-else-last-eq1-clause-joined
+returns-else-last-eq1-clause-joined g c =
+    let n = g.T.RingWord.number in
+    let m = n c.args.m.now.modulus in
+    let b = c.args.b in
+    let last = c.args.last in
+    let before = c.args.xs.now in
+    let after = c.reduce_each_once.new.xs in
+    let kept = c.reduce_each_once.auto.xs in
+    let same : length after ≡ length before = omega (arith, kept) in
+    λ r z x plan are i l.
+    let reduced = remainders_reduced r z b (length before / last) last (length before) (n c.twice.result) x
+    (numbers n before) (numbers n after) c.twice.ensures c.requires.whole c.reduce_each_once.ensures.residues are in
+    subst (λ v. Congruent m (numbers n c.join_blocks-else-last-eq1.new.xs i) (v / last * x i)) same
+    (c.join_blocks-else-last-eq1.ensures.joined r z x plan
+    (subst (λ v. AreRemainders m r z b (v / last) last x (λ k. numbers n after k % m)) (sym same) reduced) i
+    (omega (arith, l, same)))

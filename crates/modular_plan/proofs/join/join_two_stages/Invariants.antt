@@ -10,7 +10,7 @@ invariant-four_quarters g l =
     let m = number l.m.modulus in
     let w = numbers g.F.PlanEntry.value l.table in
     record {
-      entries : All (λ x. number x < 4 * m) l.xs;
+      entries : All (λ x. number x < 2 * m) l.xs;
       done : (g z : ℕ) → IsPlan m g z (length l.table) w
           → StageOfFours (λ p. IsFourJoin m (w (l.first + p)) (w (2 * (l.first + p))) (w (2 * (l.first + p) + 1))) l.q
           l.p (numbers number l.fn.xs) (numbers number l.xs);

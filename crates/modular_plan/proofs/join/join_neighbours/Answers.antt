@@ -1,0 +1,47 @@
+use Rattle.std.proofs.Common.{◌+◌, ◌*◌, ◌<◌, length, arith}
+use Rattle.modular_plan.specs.Steps.{IsFourJoin}
+use Rattle.modular_plan.proofs.Entries.{number_read}
+use Rattle.modular_plan.proofs.Fours.{all_set, four_written}
+use Rattle.modular_plan.proofs.TwoJoins.{reduced_entry, joined_four_along, AreFourBelow, four_below}
+use Rattle.modular_plan.proofs.join.join_neighbours.Goals as goal
+
+pub returns-clause-before : goal.returns-clause-before
+returns-clause-before g c =
+    let n = g.T.RingWord.number in
+    let bound = 2 * n c.args.m.now.modulus in
+    let i = c.args.first in
+    let four = c.join_four-a.result in
+    let are = c.join_four-a.ensures in
+    four_below bound i _ _
+    (four_written n (λ a b c d. AreFourBelow bound) c.args.xs.now i (i + 1) (i + 2) (i + 3) four.0 four.1 four.2 four.3
+    (omega arith) (omega arith) (omega arith) c.requires.within
+    (record {
+      first = are.first_below;
+      second = are.second_below;
+      third = are.third_below;
+      fourth = are.fourth_below;
+    })) c.requires.before
+
+pub returns-clause-done : goal.returns-clause-done
+returns-clause-done g c =
+    let n = g.T.RingWord.number in
+    let m = n c.args.m.now.modulus in
+    let xs = c.args.xs.now in
+    let i = c.args.first in
+    let within = c.requires.within in
+    let twice = c.twice-twice.ensures in
+    let a = reduced_entry _ _ _ _ c.reduced_once-a.ensures.value twice
+    (number_read n xs i c.index-xs-first.result (let l : i < length xs = omega arith in l) c.index-xs-first.is) in
+    let b = reduced_entry _ _ _ _ c.reduced_once-b.ensures.value twice
+    (number_read n xs (i + 1) c.index-xs-first-2.result (let l : i + 1 < length xs = omega arith in l)
+    c.index-xs-first-2.is) in
+    let d = reduced_entry _ _ _ _ c.reduced_once-c.ensures.value twice
+    (number_read n xs (i + 2) c.index-xs-first-3.result (let l : i + 2 < length xs = omega arith in l)
+    c.index-xs-first-3.is) in
+    let e = reduced_entry _ _ _ _ c.reduced_once-d.ensures.value twice
+    (number_read n xs (i + 3) c.index-xs-first-4.result within c.index-xs-first-4.is) in
+    let four = c.join_four-a.result in
+    λ w u v is_w is_u is_v.
+    four_written n (IsFourJoin m w u v) xs i (i + 1) (i + 2) (i + 3) four.0 four.1 four.2 four.3
+    (omega arith) (omega arith) (omega arith) within
+    (joined_four_along w u v a b d e (c.join_four-a.ensures.four w u v is_w is_u is_v))
