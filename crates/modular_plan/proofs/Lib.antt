@@ -8,6 +8,7 @@ pub mod Levels
 pub mod Mirrors
 pub mod NaturalOrder
 pub mod Quotients
+pub mod Reductions
 pub mod SmallBases
 pub mod SmallProducts
 pub mod Steps

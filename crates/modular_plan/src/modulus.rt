@@ -115,6 +115,14 @@ impl<T: PlainWord> PlannedModulus<T> {
         Factor { value: w, quotient }
     }
 
+    // The residue of a factor times the number of words: what its quotient leaves.
+    pub(crate) fn times_base(&self, w: &Factor<T>) -> T
+        requires { IsFactor T.base (T.number self.now.modulus) (T.number w.now.value) (T.number w.now.quotient) }
+        ensures { T.number result ≡ (T.number w.now.value * T.base) % T.number self.now.modulus }
+    {
+        T::zero().wrapping_sub(w.quotient.wrapping_mul(self.modulus))
+    }
+
     /// A number below 2m that is congruent to the product of any word x with a factor. Condition: the
     /// factor is one modulo m.
     ///

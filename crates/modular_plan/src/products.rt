@@ -2,6 +2,7 @@
 
 ghost use Rattle.std.specs.Prelude.{◌≡◌, ℕ, ◌+◌, ◌*◌, ◌/◌, ◌%◌, ◌^◌, ◌<◌, ◌≤◌, All, length};
 ghost use Rattle.modular_word.specs.Congruence.{Congruent};
+ghost use Rattle.modular_word.specs.Inverses.{IsInverse};
 ghost use Rattle.modular_plan.specs.Factors.{IsFactor};
 ghost use Rattle.modular_plan.specs.Plans.{numbers, constant, IsPlan};
 ghost use Rattle.modular_plan.specs.Products.{AreProducts};
@@ -22,6 +23,39 @@ fn multiply_each<T: PlainWord>(m: &PlannedModulus<T>, xs: &mut [T], ys: &[T])
 {
     'entries: for i in 0..xs.len() {
         xs[i] = m.multiply(xs[i], ys[i]);
+    }
+}
+
+// A number below 2m that is the product of two words over the number of words, modulo m: Montgomery's
+// reduction, by the inverse of m. The multiple of m that it gives has the low word of the product, so
+// that the high words are all that is left of the difference. (By the negated inverse there is a carry.)
+fn reduced_product<T: PlainWord>(m: &PlannedModulus<T>, inverse: T, x: T, y: T) -> T
+    requires inverse { IsInverse T.base (T.number m.now.modulus) (T.number inverse) }
+    requires below { T.number x < T.number m.now.modulus }
+    ensures below { T.number result < 2 * T.number m.now.modulus }
+    ensures congruent { Congruent (T.number m.now.modulus) (T.number result * T.base) (T.number x * T.number y) }
+{
+    let (low, high) = T::split(x.product(y));
+    let (_, multiple) = T::split(low.wrapping_mul(inverse).product(m.modulus));
+    high.plus(m.modulus.minus(multiple))
+}
+
+// Each entry times the one at its place, over the number of words, modulo m.
+pub(crate) fn reduce_products<T: PlainWord>(
+    m: &PlannedModulus<T>,
+    inverse: T,
+    xs: &mut [T],
+    ys: &[T],
+)
+    requires inverse { IsInverse T.base (T.number m.now.modulus) (T.number inverse) }
+    requires below { All (λ x. T.number x < T.number m.now.modulus) xs.old }
+    requires equal { length ys.now ≡ length xs.old }
+    ensures below { All (λ x. T.number x < 2 * T.number m.now.modulus) xs.new }
+    ensures products { (i : ℕ) → i < length xs.old → Congruent (T.number m.now.modulus)
+        (numbers T.number xs.new i * T.base) (numbers T.number xs.old i * numbers T.number ys.now i) }
+{
+    'entries: for i in 0..xs.len() {
+        xs[i] = reduced_product(m, inverse, xs[i], ys[i]);
     }
 }
 

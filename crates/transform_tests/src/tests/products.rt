@@ -413,6 +413,17 @@ fn composite_and_even_moduli(rt: HostRuntime) {
             (&want.0, &want.1)
         )
     );
+    let (mut xs, mut ys) = ([27], [43]);
+    let want = ([1], [3]);
+    assert!(rt;
+        is_product(
+            (20, 19),
+            &mut table,
+            (0, 1),
+            (&mut xs, &mut ys),
+            (&want.0, &want.1)
+        )
+    );
     assert!(rt;
         is_refused(
             (20, 19),
