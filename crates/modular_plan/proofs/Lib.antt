@@ -12,6 +12,7 @@ pub mod Reductions
 pub mod SmallBases
 pub mod SmallProducts
 pub mod Steps
+pub mod SumsOfProducts
 pub mod Tables
 pub mod TwoJoins
 pub mod TwoLevels

@@ -158,6 +158,21 @@ impl<T: PlainWord> PlannedModulus<T> {
         rest.shift_right(self.shift)
     }
 
+    // The residue of x·v + u·y. Condition: x + u is below 2m. It divides once by the reciprocal, and
+    // modulo 2m, since the sum may have a high word from m on.
+    pub(crate) fn product_sum(&self, x: T, v: T, u: T, y: T) -> T
+        requires { T.number x + T.number u < 2 * T.number self.now.modulus }
+        ensures value { T.number result ≡ (T.number x * T.number v + T.number u * T.number y)
+            % T.number self.now.modulus }
+        ensures below { T.number result < T.number self.now.modulus }
+    {
+        let divisor = self.modulus.shift_left(self.shift);
+        let by = self.shift - 1;
+        let sum = T::double_plus(x.shift_left(by).product(v), u.shift_left(by).product(y));
+        let (_, rest) = div_2by1(divisor, self.reciprocal, sum);
+        reduced_once(rest.shift_right(by), self.modulus)
+    }
+
     /// The word 2m.
     pub fn twice(&self) -> T
         ensures { T.number result ≡ 2 * T.number self.now.modulus }

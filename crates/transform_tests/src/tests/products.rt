@@ -115,6 +115,15 @@ fn blocks_of_two(rt: HostRuntime) {
             &[14, 2, 5, 2]
         )
     );
+    let mut xs = [16, 16, 16, 16];
+    assert!(rt;
+        are_products(
+            (17, 3),
+            &mut table,
+            (&mut xs, &[18446744073709551614; 4]),
+            &[14, 2, 5, 2]
+        )
+    );
 }
 
 #[test]
