@@ -42,13 +42,19 @@ bounded_at number bound [] i all below = absurd (omega arith)
 bounded_at number bound (x ∷ xs) i all below = bounded number bound (x ∷ xs) i x all below
 
 -- a loop that writes entry after entry
+pub entry_written : {T : Type 0} (number : T → ℕ) (words : List T) (i : ℕ) (x : T) (P : ℕ → ℕ → Type 0) → i < length words
+    → ((k : ℕ) → k < i → P k (numbers number words k)) → P i (number x)
+    → (k : ℕ) → k < i + 1 → P k (numbers number (set words i x) k)
+entry_written number words i x P within before is k l = elim (cases_eq k i) [
+  | inl e ↦
+      subst (λ n. P n (numbers number (set words i x) n)) (sym e) (subst (P i) (sym (written number words i x within)) is)
+  | inr ne ↦ subst (P k) (sym (not_written number words i k x ne)) (before k (omega arith))
+]
+
 pub entry_done : {T : Type 0} (number : T → ℕ) (words : List T) (i : ℕ) (x : T) (target : ℕ → ℕ) → i < length words
     → ((k : ℕ) → k < i → numbers number words k ≡ target k)
     → number x ≡ target i → (k : ℕ) → k < i + 1 → numbers number (set words i x) k ≡ target k
-entry_done number words i x target within before is k l = elim (cases_eq k i) [
-  | inl e ↦ ap (numbers number (set words i x)) e ∙ written number words i x within ∙ is ∙ ap target (sym e)
-  | inr ne ↦ not_written number words i k x ne ∙ before k (omega arith)
-]
+entry_done number words i x target = entry_written number words i x (λ k v. v ≡ target k)
 
 pub entry_kept : {T : Type 0} (number : T → ℕ) (words : List T) (i : ℕ) (x : T) (old : ℕ → ℕ)
     → ((k : ℕ) → i ≤ k → numbers number words k ≡ old k)

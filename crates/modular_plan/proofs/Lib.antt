@@ -9,9 +9,11 @@ pub mod Mirrors
 pub mod NaturalOrder
 pub mod Quarters
 pub mod Quotients
+pub mod Reductions
 pub mod SmallBases
 pub mod SmallProducts
 pub mod Steps
+pub mod SumsOfProducts
 pub mod Tables
 pub mod TwoJoins
 pub mod TwoLevels

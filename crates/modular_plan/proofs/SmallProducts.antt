@@ -1,9 +1,10 @@
 -- Products of polynomials of one and of two coefficients, in place.
-use Rattle.std.proofs.Common.{◌≡◌, ℕ, ◌+◌, ◌*◌, ◌%◌, ◌<◌, ◌≤◌, inl, inr, sym, ◌∙◌, ap, arith, subst}
+use Rattle.std.proofs.Common.{◌≡◌, ℕ, ◌+◌, ◌-◌, ◌*◌, ◌%◌, ◌<◌, ◌≤◌, inl, inr, sym, ◌∙◌, ap, arith, subst}
 use Rattle.std.proofs.lemmas.Bool.{cases_eq}
+use Rattle.std.proofs.Math.Nat.{add-mul-mod_self_right}
 use Rattle.modular_word.specs.Congruence.{Congruent}
 use Rattle.modular_word.specs.Sums.{sum_below}
-use Rattle.modular_word.proofs.Congruence.{of_equal, itself, chained, added, multiplied, residue_of}
+use Rattle.modular_word.proofs.Congruence.{of_equal, itself, turned, chained, added, multiplied, cancelled, residue_of}
 use Rattle.modular_plan.specs.Plans.{constant}
 use Rattle.modular_plan.specs.Products.{product_modulo, AreProducts}
 use Rattle.modular_plan.specs.Steps.{PairDone}
@@ -29,41 +30,41 @@ product_of_two_high m c x y =
     (let e : (0 + (0 + 0 + x 0 * y 1) + (0 + x 1 * y 0 + 0)) + c * (0 + (0 + 0 + 0) + (0 + 0 + 0))
     ≡ x 0 * y 1 + x 1 * y 0 = omega arith in e)
 
--- the words of a pair
-pub low_word : (m x y u v c xy uv turned sum r : ℕ) → uv ≡ (u * v) % m → turned ≡ (uv * c) % m → xy ≡ (x * y) % m
-    → sum ≡ xy + turned → r ≡ sum % m
-    → r ≡ (x * y + c * (u * v)) % m
-low_word m x y u v c xy uv turned sum r is_uv is_turned is_xy is_sum is =
-    let turn : u * v * c ≡ c * (u * v) = omega arith in
-    let product : Congruent m turned (c * (u * v)) =
-    chained (of_equal is_turned) (chained (residue_of (uv * c))
-    (chained (multiplied (chained (of_equal is_uv) (residue_of (u * v))) (itself c)) (of_equal turn))) in
-    is ∙ ap (λ n. n % m) is_sum ∙ (added (chained (of_equal is_xy) (residue_of (x * y))) product).same
-
-pub high_word : (m x y u v xv uy sum r : ℕ) → xv ≡ (x * v) % m → uy ≡ (u * y) % m → sum ≡ xv + uy
-    → r ≡ sum % m → r ≡ (x * v + u * y) % m
-high_word m x y u v xv uy sum r is_xv is_uy is_sum is =
-    is ∙ ap (λ n. n % m) is_sum
-    ∙ (added (chained (of_equal is_xv) (residue_of (x * v))) (chained (of_equal is_uy) (residue_of (u * y)))).same
-
--- what becomes of a pair, by the pair y, z of the other list
+-- what becomes of a pair u, v, by the pair y, z of the other list and the product of v and the constant
 abbrev pub IsPairProduct : ℕ → ℕ → ℕ → ℕ → ℕ → ℕ → ℕ → ℕ → Type 0
-IsPairProduct m c y z u v s t = (s ≡ (u * y + c * (v * z)) % m) × (t ≡ (u * z + v * y) % m)
+IsPairProduct m turned y z u v s t = (s ≡ (u * y + turned * z) % m) × (t ≡ (u * z + v * y) % m)
+
+-- minus the product by an entry is the product by the constant of the next block
+pub product_by_odd : {m : ℕ} (x w c product rest : ℕ) → w < m → ((v : ℕ) → v + w ≡ m → Congruent m v c)
+    → product ≡ (x * w) % m → rest + product ≡ m → Congruent m rest (x * c)
+product_by_odd {m} x w c product rest below odd is whole =
+    let v : ℕ = m - w in
+    let e : v + w ≡ m = omega arith in
+    let both : x * (v + w) ≡ x * m = ap (λ k. x * k) e in
+    let none : Congruent m (x * v + product) 0 =
+    chained (added (itself (x * v)) (chained (of_equal is) (residue_of (x * w))))
+    (chained (of_equal (let k : x * v + x * w ≡ 0 + x * m = omega (arith, both) in k))
+    (record { same = add-mul-mod_self_right 0 x m })) in
+    let gone : Congruent m (rest + product) 0 =
+    chained (of_equal (let k : rest + product ≡ 0 + 1 * m = omega (arith, whole) in k))
+    (record { same = add-mul-mod_self_right 0 1 m }) in
+    chained (cancelled product (chained gone (turned none))) (multiplied (itself x) (odd v e))
 
 -- the block that was multiplied
-block_multiplied : {m : ℕ} (j value c : ℕ) (x y before after : ℕ → ℕ) → Congruent m value c
+block_multiplied : {m : ℕ} (j turned c : ℕ) (x y before after : ℕ → ℕ) → Congruent m turned (before (2 * j + 1) * c)
     → ((k : ℕ) → j * 2 ≤ k → before k ≡ x k)
-    → PairDone (λ u v s t. IsPairProduct m value (y (2 * j)) (y (2 * j + 1)) u v s t) (2 * j) (2 * j + 1) before after
+    → PairDone (λ u v s t. IsPairProduct m turned (y (2 * j)) (y (2 * j + 1)) u v s t) (2 * j) (2 * j + 1) before after
     → (i : ℕ) → i < 2 → after (j * 2 + i) ≡ product_modulo m 2 c (λ k. x (j * 2 + k)) (λ k. y (j * 2 + k)) i
-block_multiplied {m} j value c x y before after is kept step i below =
+block_multiplied {m} j turned c x y before after is kept step i below =
     let first : 2 * j ≡ j * 2 + 0 = omega arith in
     let second : 2 * j + 1 ≡ j * 2 + 1 = omega arith in
     let u : before (2 * j) ≡ x (j * 2 + 0) = kept (2 * j) (omega arith) ∙ ap x first in
     let v : before (2 * j + 1) ≡ x (j * 2 + 1) = kept (2 * j + 1) (omega arith) ∙ ap x second in
-    let w : Congruent m (before (2 * j) * y (2 * j) + value * (before (2 * j + 1) * y (2 * j + 1)))
+    let turn : x (j * 2 + 1) * c * y (j * 2 + 1) ≡ c * (x (j * 2 + 1) * y (j * 2 + 1)) = omega arith in
+    let w : Congruent m (before (2 * j) * y (2 * j) + turned * y (2 * j + 1))
     (x (j * 2 + 0) * y (j * 2 + 0) + c * (x (j * 2 + 1) * y (j * 2 + 1))) =
     added (multiplied (of_equal u) (of_equal (ap y first)))
-    (multiplied is (multiplied (of_equal v) (of_equal (ap y second)))) in
+    (chained (multiplied (chained is (multiplied (of_equal v) (itself c))) (of_equal (ap y second))) (of_equal turn)) in
     let z : Congruent m (before (2 * j) * y (2 * j + 1) + before (2 * j + 1) * y (2 * j))
     (x (j * 2 + 0) * y (j * 2 + 1) + x (j * 2 + 1) * y (j * 2 + 0)) =
     added (multiplied (of_equal u) (of_equal (ap y second))) (multiplied (of_equal v) (of_equal (ap y first))) in
@@ -80,17 +81,17 @@ block_multiplied {m} j value c x y before after is kept step i below =
     ]
 
 -- one more block
-pub pairs_more : {m : ℕ} (j value : ℕ) (c x y before after : ℕ → ℕ) → Congruent m value (c j)
+pub pairs_more : {m : ℕ} (j turned : ℕ) (c x y before after : ℕ → ℕ) → Congruent m turned (before (2 * j + 1) * c j)
     → ((k : ℕ) → j * 2 ≤ k → before k ≡ x k)
-    → PairDone (λ u v s t. IsPairProduct m value (y (2 * j)) (y (2 * j + 1)) u v s t) (2 * j) (2 * j + 1) before after
+    → PairDone (λ u v s t. IsPairProduct m turned (y (2 * j)) (y (2 * j + 1)) u v s t) (2 * j) (2 * j + 1) before after
     → ((k i : ℕ) → k < j → i < 2
     → before (k * 2 + i) ≡ product_modulo m 2 (c k) (λ e. x (k * 2 + e)) (λ e. y (k * 2 + e)) i)
     → (k i : ℕ) → k < j + 1 → i < 2
     → after (k * 2 + i) ≡ product_modulo m 2 (c k) (λ e. x (k * 2 + e)) (λ e. y (k * 2 + e)) i
-pairs_more {m} j value c x y before after is kept step done k i lk li = elim (cases_eq k j) [
+pairs_more {m} j turned c x y before after is kept step done k i lk li = elim (cases_eq k j) [
   | inl e ↦
       subst (λ n. after (n * 2 + i) ≡ product_modulo m 2 (c n) (λ e. x (n * 2 + e)) (λ e. y (n * 2 + e)) i) (sym e)
-      (block_multiplied j value (c j) x y before after is kept step i li)
+      (block_multiplied j turned (c j) x y before after is kept step i li)
   | inr ne ↦ step.kept (k * 2 + i) (omega arith) (omega arith) ∙ done k i (omega arith) li
 ]
 

@@ -6,16 +6,17 @@ ghost use Rattle.modular_word.specs.Inverses.{HasInverse};
 ghost use Rattle.modular_transform.specs.Transforms.{cyclic_product};
 ghost use Rattle.modular_plan.specs.Factors.{IsFactor};
 ghost use Rattle.modular_plan.specs.Plans.{numbers, constant, IsPlan, AreRemainders};
-ghost use Rattle.modular_plan.specs.Products.{product_modulo};
+ghost use Rattle.modular_plan.specs.Products.{product_modulo, AreProducts};
 
 use crate::entry::PlanEntry;
 use crate::join::join_scaled;
-use crate::modulus::{PlannedModulus, reduced_once};
-use crate::products::multiply;
+use crate::modulus::{Factor, PlannedModulus, reduced_once};
+use crate::products::{multiply, reduce_products};
 use crate::split::{split, splits};
 use modular_prim::euclid::invm;
 use modular_prim::plain_word::PlainWord;
 use modular_word::path_word::PathWord;
+use modular_word::paths::neginv;
 use modular_word::ring_word::RingWord;
 
 // The residue of a power of two, by doublings of 1: it may be too large for the word.
@@ -28,6 +29,48 @@ fn residue_of_count<T: PlainWord>(m: &PlannedModulus<T>, count: usize) -> T
         residue = reduced_once(residue.plus(residue), m.modulus);
     }
     residue
+}
+
+// Multiplies the blocks as `multiply` does, and joins the products as `join_scaled` does. Single entries
+// are multiplied by Montgomery's reduction where m is odd: then the number of words, by which it
+// divides, is made up for by the factor.
+fn join_products<T: PlainWord, F: PlanEntry<T>>(
+    m: &PlannedModulus<T>,
+    xs: &mut [T],
+    ys: &[T],
+    table: &[F],
+    b: usize,
+    last: usize,
+    w: &Factor<T>,
+)
+    requires below { All (λ x. T.number x < T.number m.now.modulus) xs.old }
+    requires equal { length ys.now ≡ length xs.old }
+    requires factors { All (λ f. IsFactor T.base (T.number m.now.modulus) (F.value f) (F.quotient f))
+        table.now }
+    requires some { 1 ≤ last }
+    requires few { last ≤ 2 }
+    requires count { IsPowerOfTwo (length xs.old / last) }
+    requires whole { length xs.old / last * last ≡ length xs.old }
+    requires within { (b + 1) * (length xs.old / last) ≤ 2 * length table.now }
+    requires factor { IsFactor T.base (T.number m.now.modulus) (T.number w.now.value) (T.number w.now.quotient) }
+    ensures below { All (λ x. T.number x < T.number m.now.modulus) xs.new }
+    ensures joined { let modulus = T.number m.now.modulus in (g z : ℕ) →
+        IsPlan modulus g z (length table.now) (numbers F.value table.now) →
+        (p : ℕ → ℕ) × AreProducts modulus g z b (length xs.old / last) last (numbers T.number xs.old)
+        (numbers T.number ys.now) p
+        × ((x : ℕ → ℕ) → AreRemainders modulus g z b (length xs.old / last) last x (λ i. p i % modulus) →
+        (i : ℕ) → i < length xs.old
+        → numbers T.number xs.new i ≡ (length xs.old / last * x i * T.number w.now.value) % modulus) }
+{
+    if last == 1 && m.modulus.is_odd() {
+        let inverse = T::zero().wrapping_sub(neginv(m.modulus));
+        reduce_products(m, inverse, xs, ys);
+        let scaled = m.factor(m.times_base(w));
+        join_scaled(m, xs, table, b, last, &scaled);
+    } else {
+        multiply(m, xs, ys, table, b, last);
+        join_scaled(m, xs, table, b, last, w);
+    }
 }
 
 /// Whether `convolve_block` takes lists of so many entries as block b, down to blocks of `last`, by a
@@ -94,8 +137,7 @@ pub fn convolve_block<T: PlainWord, F: PlanEntry<T>>(
             let part = m.factor(part);
             split(m, xs, table, b, last);
             split(m, ys, table, b, last);
-            multiply(m, xs, ys, table, b, last);
-            join_scaled(m, xs, table, b, last, &part);
+            join_products(m, xs, ys, table, b, last, &part);
             true
         }
         None => false,

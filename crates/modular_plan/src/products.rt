@@ -2,13 +2,14 @@
 
 ghost use Rattle.std.specs.Prelude.{◌≡◌, ℕ, ◌+◌, ◌*◌, ◌/◌, ◌%◌, ◌^◌, ◌<◌, ◌≤◌, All, length};
 ghost use Rattle.modular_word.specs.Congruence.{Congruent};
+ghost use Rattle.modular_word.specs.Inverses.{IsInverse};
 ghost use Rattle.modular_plan.specs.Factors.{IsFactor};
 ghost use Rattle.modular_plan.specs.Plans.{numbers, constant, IsPlan};
 ghost use Rattle.modular_plan.specs.Products.{AreProducts};
 ghost use Rattle.modular_plan.specs.Steps.{PairDone};
 
 use crate::entry::PlanEntry;
-use crate::modulus::{PlannedModulus, reduced_once};
+use crate::modulus::PlannedModulus;
 use modular_prim::plain_word::PlainWord;
 use modular_word::path_word::PathWord;
 
@@ -25,44 +26,92 @@ fn multiply_each<T: PlainWord>(m: &PlannedModulus<T>, xs: &mut [T], ys: &[T])
     }
 }
 
-// The constant of block b·count + j of the tree, below or at m: an entry of the plan, or minus it.
-fn block_constant<T: PlainWord, F: PlanEntry<T>>(
+// A number below 2m that is the product of two words over the number of words, modulo m: Montgomery's
+// reduction, by the inverse of m. The multiple of m that it gives has the low word of the product, so
+// that the high words are all that is left of the difference. (By the negated inverse there is a carry.)
+fn reduced_product<T: PlainWord>(m: &PlannedModulus<T>, inverse: T, x: T, y: T) -> T
+    requires inverse { IsInverse T.base (T.number m.now.modulus) (T.number inverse) }
+    requires below { T.number x < T.number m.now.modulus }
+    ensures below { T.number result < 2 * T.number m.now.modulus }
+    ensures congruent { Congruent (T.number m.now.modulus) (T.number result * T.base) (T.number x * T.number y) }
+{
+    let (low, high) = T::split(x.product(y));
+    let (_, multiple) = T::split(low.wrapping_mul(inverse).product(m.modulus));
+    high.plus(m.modulus.minus(multiple))
+}
+
+// Each entry times the one at its place, over the number of words, modulo m.
+pub(crate) fn reduce_products<T: PlainWord>(
+    m: &PlannedModulus<T>,
+    inverse: T,
+    xs: &mut [T],
+    ys: &[T],
+)
+    requires inverse { IsInverse T.base (T.number m.now.modulus) (T.number inverse) }
+    requires below { All (λ x. T.number x < T.number m.now.modulus) xs.old }
+    requires equal { length ys.now ≡ length xs.old }
+    ensures below { All (λ x. T.number x < 2 * T.number m.now.modulus) xs.new }
+    ensures products { (i : ℕ) → i < length xs.old → Congruent (T.number m.now.modulus)
+        (numbers T.number xs.new i * T.base) (numbers T.number xs.old i * numbers T.number ys.now i) }
+{
+    'entries: for i in 0..xs.len() {
+        xs[i] = reduced_product(m, inverse, xs[i], ys[i]);
+    }
+}
+
+// A word times the constant of block b·count + j of the tree, below or at m: times an entry of the plan,
+// or minus that.
+fn times_constant<T: PlainWord, F: PlanEntry<T>>(
     m: &PlannedModulus<T>,
     table: &[F],
     b: usize,
     count: usize,
     j: usize,
+    x: T,
 ) -> T
     requires factors { All (λ f. IsFactor T.base (T.number m.now.modulus) (F.value f) (F.quotient f))
         table.now }
     requires block { j < count }
     requires fits { count + count < 2 ^ 64 }
     requires within { (b + 1) * count ≤ 2 * length table.now }
-    ensures { let modulus = T.number m.now.modulus in (g z : ℕ) →
+    ensures most { T.number result ≤ T.number m.now.modulus }
+    ensures product { let modulus = T.number m.now.modulus in (g z : ℕ) →
         IsPlan modulus g z (length table.now) (numbers F.value table.now) →
-        Congruent modulus (T.number result) (constant g z (b * count + j)) }
+        Congruent modulus (T.number result) (T.number x * constant g z (b * count + j)) }
 {
     let rest = b % 2 * count + j;
-    let w = table[b / 2 * count + rest / 2].factor().value;
-    if rest % 2 == 0 { w } else { m.modulus.minus(w) }
+    let w = table[b / 2 * count + rest / 2].factor();
+    let turned = m.product(x, &w);
+    if rest % 2 == 0 {
+        turned
+    } else {
+        m.modulus.minus(turned)
+    }
 }
 
-// The polynomial x_0 + x_1·X, from a place on, times the one of the other list, modulo X^2 - c.
-fn multiply_pair<T: PlainWord>(m: &PlannedModulus<T>, xs: &mut [T], ys: &[T], place: usize, c: T)
+// The polynomial x_0 + x_1·X, from a place on, times the one of the other list, modulo X^2 - c, by
+// x_1·c.
+fn multiply_pair<T: PlainWord>(
+    m: &PlannedModulus<T>,
+    xs: &mut [T],
+    ys: &[T],
+    place: usize,
+    turned: T,
+)
     requires below { All (λ x. T.number x < T.number m.now.modulus) xs.old }
     requires equal { length ys.now ≡ length xs.old }
     requires within { place + 1 < length xs.old }
+    requires most { T.number turned ≤ T.number m.now.modulus }
     ensures below { All (λ x. T.number x < T.number m.now.modulus) xs.new }
     ensures done { let x = numbers T.number xs.old in let y = numbers T.number ys.now in
-        PairDone (λ u v s t. (s ≡ (u * y place + T.number c * (v * y (place + 1))) % T.number m.now.modulus)
+        PairDone (λ u v s t. (s ≡ (u * y place + T.number turned * y (place + 1)) % T.number m.now.modulus)
         × (t ≡ (u * y (place + 1) + v * y place) % T.number m.now.modulus)) place
         (place + 1) x (numbers T.number xs.new) }
 {
     let (x, y) = (xs[place], ys[place]);
     let (u, v) = (xs[place + 1], ys[place + 1]);
-    let turned = m.multiply(m.multiply(u, v), c);
-    xs[place + 1] = reduced_once(m.multiply(x, v).plus(m.multiply(u, y)), m.modulus);
-    xs[place] = reduced_once(m.multiply(x, y).plus(turned), m.modulus);
+    xs[place + 1] = m.product_sum(x, v, u, y);
+    xs[place] = m.product_sum(x, y, turned, v);
 }
 
 // The products of blocks of two entries.
@@ -86,8 +135,8 @@ fn multiply_pairs<T: PlainWord, F: PlanEntry<T>>(
 {
     let count = xs.len() / 2;
     'each_block: for j in 0..count {
-        let c = block_constant(m, table, b, count, j);
-        multiply_pair(m, xs, ys, 2 * j, c);
+        let turned = times_constant(m, table, b, count, j, xs[2 * j + 1]);
+        multiply_pair(m, xs, ys, 2 * j, turned);
     }
 }
 

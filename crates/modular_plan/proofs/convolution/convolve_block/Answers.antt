@@ -18,12 +18,6 @@ split-requires-in-Some-clause-within g c =
     subst (λ n. (c.args.b + 1) * (n / c.args.last / 2) ≤ length c.args.table.now) same
     (half_room c.args.b (length c.args.xs.now / c.args.last) (length c.args.table.now) c.requires.within)
 
-pub join_scaled-requires-clause-within : goal.join_scaled-requires-clause-within
-join_scaled-requires-clause-within g c =
-    let same : length c.args.xs.now ≡ length c.multiply.new.xs = omega arith in
-    subst (λ n. (c.args.b + 1) * (n / c.args.last / 2) ≤ length c.args.table.now) same
-    (half_room c.args.b (length c.args.xs.now / c.args.last) (length c.args.table.now) c.requires.within)
-
 pub returns-in-Some-clause-inverse : goal.returns-in-Some-clause-inverse
 returns-in-Some-clause-inverse g c =
     let m = g.T.RingWord.number c.args.m.now.modulus in
@@ -45,22 +39,21 @@ returns-in-Some-clause-product g c =
     chained (multiplied (turned (chained (of_equal c.residue_of_count-count.ensures) (residue_of count)))
     (of_equal c.factor-part.ensures.value)) (record { same = c.in-Some.ensures.one }) in
     λ h root z e plan below.
+    let joined = c.join_products.ensures.joined root z plan in
+    let same = size_is (length c.split.new.xs) (omega arith) in
     joined_product root z b last (length c.args.table.now) count (length xs) (n c.factor-part.result.value) _
     (numbers n xs) (numbers n c.args.ys.now)
-    (numbers n c.split.new.xs) (numbers n c.split-in-Some.new.xs) (numbers n c.multiply.new.xs)
-    (numbers n c.join_scaled.new.xs)
+    (numbers n c.split.new.xs) (numbers n c.split-in-Some.new.xs) joined.0
+    (numbers n c.join_products.new.xs)
     c.requires.count c.requires.whole c.requires.within plan part
     (c.split.ensures.remainders root z plan)
     (subst (λ k. AreRemainders m root z b k last (numbers n c.args.ys.now) (numbers n c.split-in-Some.new.xs))
     (size_is (length c.args.ys.now) (omega arith)) (c.split-in-Some.ensures.remainders root z plan))
     (subst (λ k. AreProducts m root z b k last (numbers n c.split.new.xs) (numbers n c.split-in-Some.new.xs)
-    (numbers n c.multiply.new.xs)) (size_is (length c.split.new.xs) (omega arith))
-    (c.multiply.ensures.products root z plan))
+    joined.0) same joined.1)
     (λ r are i l.
-    let same = size_is (length c.multiply.new.xs) (omega arith) in
-    subst (λ k. numbers n c.join_scaled.new.xs i ≡ (k * r i * n c.factor-part.result.value) % m) same
-    (c.join_scaled.ensures.joined root z r plan (subst
-    (λ k. AreRemainders m root z b k last r (λ i. numbers n c.multiply.new.xs i % m)) (sym same) are) i (omega arith)))
+    subst (λ k. numbers n c.join_products.new.xs i ≡ (k * r i * n c.factor-part.result.value) % m) same
+    (joined.2 r (subst (λ k. AreRemainders m root z b k last r (λ i. joined.0 i % m)) (sym same) are) i (omega arith)))
     e below
 
 pub returns-in-None-clause-inverse : goal.returns-in-None-clause-inverse
