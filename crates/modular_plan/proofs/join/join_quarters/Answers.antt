@@ -1,4 +1,4 @@
-use Rattle.std.proofs.Common.{ℕ, ◌*◌, ◌<◌, ◌++◌, refl, arith}
+use Rattle.std.proofs.Common.{◌*◌, ◌<◌, ◌++◌, refl, arith}
 use Rattle.std.proofs.lemmas.List.Elements.{All-append}
 use Rattle.modular_plan.specs.Steps.{IsFourJoin}
 use Rattle.modular_plan.proofs.Quarters.{block_of_columns, all_around, cut}
