@@ -1,4 +1,4 @@
-use Rattle.std.proofs.Common.{ℕ, ◌*◌, ◌<◌, ◌≤◌, length, arith, refl, ◌∙◌}
+use Rattle.std.proofs.Common.{◌*◌, ◌<◌, length, arith, refl, ◌∙◌}
 use Rattle.modular_plan.specs.Plans.{numbers}
 use Rattle.modular_plan.specs.Steps.{IsFourJoin}
 use Rattle.modular_plan.proofs.Entries.{number_read, entry_kept}

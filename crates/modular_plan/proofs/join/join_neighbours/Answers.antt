@@ -1,7 +1,7 @@
 use Rattle.std.proofs.Common.{◌+◌, ◌*◌, ◌<◌, length, arith}
 use Rattle.modular_plan.specs.Steps.{IsFourJoin}
 use Rattle.modular_plan.proofs.Entries.{number_read}
-use Rattle.modular_plan.proofs.Fours.{all_set, four_written}
+use Rattle.modular_plan.proofs.Fours.{four_written}
 use Rattle.modular_plan.proofs.TwoJoins.{reduced_entry, joined_four_along, AreFourBelow, four_below}
 use Rattle.modular_plan.proofs.join.join_neighbours.Goals as goal
 
