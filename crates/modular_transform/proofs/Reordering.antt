@@ -1,5 +1,6 @@
 -- A list reordered in place by swaps.
-use Rattle.std.proofs.Common.{◌≡◌, ◌≢◌, ℕ, ◌+◌, ◌-◌, ◌%◌, ◌^◌, ◌<◌, ◌≤◌, ◌⊎◌, inl, inr, subst, sym, ◌∙◌, ap, refl, arith}
+use Rattle.std.proofs.Common.{◌≡◌, ◌≢◌, ℕ, ◌+◌, ◌-◌, ◌%◌, ◌^◌, ◌<◌, ◌≤◌, ◌⊎◌, inl, inr, subst, sym, ◌∙◌, ap, refl}
+use Rattle.std.proofs.Common.{arith}
 use Rattle.std.proofs.lemmas.Bool.{cases_eq, cases_lt}
 use Rattle.std.proofs.lemmas.List.Edits.{Swapped}
 use Rattle.modular_transform.specs.Orders.{bits_reversed, mirrored}
@@ -94,7 +95,8 @@ reordered_passed n i s old new exchange li order so_far =
 
 -- w pairs, all of them swapped before
 pub reordered_passed_by : {T : Type 0} (n i w : ℕ) (s : ℕ → ℕ) (old new : ℕ → T) → IsExchange n s
-    → ((k : ℕ) → k < n → i ≤ k → k < i + w → s k < i) → ReorderedSoFar n i s old new → ReorderedSoFar n (i + w) s old new
+    → ((k : ℕ) → k < n → i ≤ k → k < i + w → s k < i) → ReorderedSoFar n i s old new
+    → ReorderedSoFar n (i + w) s old new
 reordered_passed_by n i w s old new exchange passed so_far = record {
   done = λ k l h. elim (cases_lt k i) [
     | inl a ↦ so_far.done k l (inl a)

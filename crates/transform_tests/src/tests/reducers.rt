@@ -153,7 +153,7 @@ fn take_transform(entries: &mut [u64], xs: &[u64], g: u64) {
 // Puts the plain cyclic product of two lists of the same length in its place.
 fn take_product(entries: &mut [u64], xs: &[u64], ys: &[u64]) {
     let n = entries.len();
-    if n > 512 || xs.len() != n || ys.len() != n {
+    if n > 256 || xs.len() != n || ys.len() != n {
         return;
     }
     for e in 0..n {
@@ -164,21 +164,21 @@ fn take_product(entries: &mut [u64], xs: &[u64], ys: &[u64]) {
 // The plain sums of the lists of n entries: the transforms of both, and the cyclic product.
 #[derive(Drop)]
 struct Sums {
-    first: [u64; 512],
-    second: [u64; 512],
-    product: [u64; 512],
+    first: [u64; 256],
+    second: [u64; 256],
+    product: [u64; 256],
 }
 
 fn plain_sums(n: usize, g: u64) -> Sums {
-    let (mut xs, mut ys) = ([0; 512], [0; 512]);
+    let (mut xs, mut ys) = ([0; 256], [0; 256]);
     seed(&mut xs, FIRST);
     seed(&mut ys, SECOND);
     let mut sums = Sums {
-        first: [0; 512],
-        second: [0; 512],
-        product: [0; 512],
+        first: [0; 256],
+        second: [0; 256],
+        product: [0; 256],
     };
-    if n <= 512 {
+    if n <= 256 {
         take_transform(&mut sums.first[..n], &xs[..n], g);
         take_transform(&mut sums.second[..n], &ys[..n], g);
         take_product(&mut sums.product[..n], &xs[..n], &ys[..n]);
@@ -188,11 +188,11 @@ fn plain_sums(n: usize, g: u64) -> Sums {
 
 // Whether a reducer's transforms and its cyclic product are these sums, every entry.
 fn are_sums<R: Reducer<u64>>(r: &R, sums: &Sums, n: usize, g: u64) -> bool {
-    let (mut xs, mut ys, mut zs) = ([0; 512], [0; 512], [0; 512]);
+    let (mut xs, mut ys, mut zs) = ([0; 256], [0; 256], [0; 256]);
     seed(&mut xs, FIRST);
     seed(&mut ys, SECOND);
     seed(&mut zs, FIRST);
-    n <= 512
+    n <= 256
         && transformed(r, &mut zs[..n], g).is_some()
         && are_forms(r, &zs[..n], &sums.first[..n])
         && multiplied(r, &mut xs[..n], &mut ys[..n], g) == Some(true)
@@ -200,7 +200,7 @@ fn are_sums<R: Reducer<u64>>(r: &R, sums: &Sums, n: usize, g: u64) -> bool {
         && are_forms(r, &ys[..n], &sums.second[..n])
 }
 
-const LENGTHS: &[usize] = &[1, 2, 16, 32, 64, 128, 256, 512];
+const LENGTHS: &[usize] = &[1, 2, 16, 32, 64, 128, 256];
 
 #[test]
 fn plain_sums_around_a_strip(rt: HostRuntime) {

@@ -1,5 +1,7 @@
 //! Lists in the order of reversed bits, of fewer and more places than a tile has.
 
+ghost use Rattle.std.specs.Prelude.{◌<◌, ◌≤◌};
+
 use modular_transform::order::reverse_places;
 
 // Writes to each place its number.

@@ -7,7 +7,10 @@ use Rattle.modular_transform.proofs.Tiles.{place_of, tiles_reversed, tiles_of_wh
 use Rattle.modular_transform.proofs.Tiles.{spot_swapped, spot_passed, tile_passed, places_reversed}
 use Rattle.modular_transform.proofs.order.reverse_by_tiles.Goals as goal
 use Rattle.modular_transform.proofs.order.reverse_by_tiles.Goals.{then-tile-other+else-rows-test, else-tile-other}
-use Rattle.modular_transform.proofs.order.reverse_by_tiles.Goals.{then-tile-other-2, then-tile-other-2-via-then-tile-other-2, then-tile-other-2-via-else-tile-other-2+then-row-column, else-tile-other-2+else-row-column}
+use Rattle.modular_transform.proofs.order.reverse_by_tiles.Goals.{then-tile-other-2}
+use Rattle.modular_transform.proofs.order.reverse_by_tiles.Goals.{then-tile-other-2-via-then-tile-other-2}
+use Rattle.modular_transform.proofs.order.reverse_by_tiles.Goals.{then-tile-other-2-via-else-tile-other-2+then-row-column}
+use Rattle.modular_transform.proofs.order.reverse_by_tiles.Goals.{else-tile-other-2+else-row-column}
 
 spot_of : (bits n tile other row column to_row to_column : ℕ) → 6 ≤ bits → n ≡ 2 ^ bits → tile < n / 8 / 8 → row < 8
     → column < 8 → other ≡ bits_reversed (bits - 6) tile → to_row ≡ bits_reversed 3 column
@@ -188,7 +191,7 @@ returns g c =
     let n = length c.args.entries.now in
     let w = tiles_of_whole c.args.bits n c.requires.tiles c.requires.whole in
     record {
-      each = λ i d l. places_reversed c.args.bits (c.args.bits - 6) (n / 8) (c.tiles.tile * 64) (λ k. get_or c.args.entries.now k d)
-          (λ k. get_or c.tiles.entries k d) (omega arith) (omega (arith, w)) (omega (arith, w))
+      each = λ i d l. places_reversed c.args.bits (c.args.bits - 6) (n / 8) (c.tiles.tile * 64)
+          (λ k. get_or c.args.entries.now k d) (λ k. get_or c.tiles.entries k d) (omega arith) (omega (arith, w)) (omega (arith, w))
           (c.tiles.invariant.reordered d) i (omega (arith, w));
     }
