@@ -1,5 +1,5 @@
-//! Measures the port beside the Rust crate, turn by turn in one run: a line an operation, with the
-//! time of one step and the ratio of the two. Then come even moduli, lists of commands, transforms of
+//! Measures the port beside the Rust crate, and the Cargo crate of rust/ too, turn by turn in one run: a line an
+//! operation, with the time of one step and the ratios to the Rust crate's. Then come even moduli, lists of commands, transforms of
 //! whole lists, searches, products of long numbers, and times and counted steps against sizes. Before
 //! anything is measured the answers are compared; where they differ it says so and ends with status 1.
 //!
@@ -7,6 +7,7 @@
 //! tables. With `--peers` before it, which the feature `peers` brings, it measures the port beside FLINT and
 //! NTL in place of all that; with `--plans` the transforms by a plan and what stands on them alone, beside GMP too.
 
+mod erased;
 mod growth;
 #[cfg(feature = "peers")]
 mod lattices;
@@ -47,6 +48,7 @@ fn all_agree(tables: &[Table]) -> bool {
     let mut same = true;
     for it in tables.iter().flat_map(|table| &table.lines) {
         same &= agree(&it.name, it.port, it.original, it.bits, it.moduli, it.modulus);
+        same &= agree(&it.name, it.erased, it.original, it.bits, it.moduli, it.modulus);
     }
     for (name, [montgomery, premul, vanilla]) in EVEN_MODULUS {
         same &= agree(name, montgomery, vanilla, 64, Moduli::Any, EVEN);
@@ -57,23 +59,26 @@ fn all_agree(tables: &[Table]) -> bool {
 
 fn measured(table: &Table) -> Rows {
     let mut lines = Vec::new();
-    let mut logarithms = Vec::new();
+    let mut logarithms = [0.0, 0.0];
+    let mut count = 0.0;
     for it in &table.lines {
-        let [ours, theirs] = best([it.port, it.original], operands(it)).map(|time| time / it.products);
+        let functions = [it.port, it.original, it.erased];
+        let [ours, theirs, erased] = best(functions, operands(it)).map(|time| time / it.products);
         if !it.name.ends_with("(plain line)") {
-            logarithms.push((ours / theirs).ln());
+            logarithms[0] += (ours / theirs).ln();
+            logarithms[1] += (erased / theirs).ln();
+            count += 1.0;
         }
-        lines.push((it.name.clone(), vec![ours, theirs, ours / theirs]));
+        lines.push((it.name.clone(), vec![ours, theirs, ours / theirs, erased, erased / theirs]));
     }
-    let mean = logarithms.iter().sum::<f64>() / logarithms.len() as f64;
+    let [ours, erased] = logarithms.map(|sum| Some((sum / count).exp()));
     Rows {
         key: table.key,
         title: table.title.to_string(),
-        heads: vec!["port ns", "crate ns", "port/crate"],
+        heads: vec!["port ns", "crate ns", "port/crate", "Cargo crate ns", "Cargo crate/crate"],
         digits: 1,
-        ratios: 1,
         lines,
-        mean: Some(mean.exp()),
+        means: vec![None, None, ours, None, erased],
     }
 }
 
@@ -87,9 +92,8 @@ fn measured_even() -> Rows {
         title: "Modulo an even number, 2^64 - 2, which the crate's `Montgomery` refuses".to_string(),
         heads: vec!["Montgomery ns", "PreMulInv2by1 ns", "Vanilla ns"],
         digits: 1,
-        ratios: 0,
         lines,
-        mean: None,
+        means: Vec::new(),
     }
 }
 

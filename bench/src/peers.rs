@@ -164,9 +164,8 @@ pub fn measured() -> Vec<Rows> {
         title: title.to_string(),
         heads: heads.to_vec(),
         digits: 1,
-        ratios: 1,
         lines,
-        mean: None,
+        means: Vec::new(),
     };
     vec![
         table("peers", "Beside FLINT's calls", ["port ns", "FLINT ns", "port/FLINT"], rows(0..LINES.len())),

@@ -297,24 +297,22 @@ pub fn measured() -> Vec<Rows> {
     let [transforms, natural] = with_room(measured_transforms);
     let [products, large] = with_room(measured_products);
     let entries = with_room(measured_entries);
-    let table = |key, title: &str, heads: &[&'static str], ratios, lines| Rows {
+    let table = |key, title: &str, heads: &[&'static str], lines| Rows {
         key,
         title: title.to_string(),
         heads: heads.to_vec(),
         digits: 3,
-        ratios,
         lines,
-        mean: None,
+        means: Vec::new(),
     };
     vec![
         table(
             "planned",
             "Transforms by a plan, in bit-reversed order",
             &["plan ms", "NTL ms", "plan/NTL"],
-            1,
             transforms,
         ),
-        table("natural", "In natural order, beside `ntt`", &["ntt_planned ms", "ntt ms", "quotient"], 1, natural),
+        table("natural", "In natural order, beside `ntt`", &["ntt_planned ms", "ntt ms", "quotient"], natural),
         table(
             "products",
             "Products of two polynomials",
@@ -328,21 +326,18 @@ pub fn measured() -> Vec<Rows> {
                 "with the plan/NTL",
                 "plan/convolve",
             ],
-            3,
             products,
         ),
         table(
             "large",
             "The same modulo 29·2^57 + 1, of 62 bits",
             &["plan ms", "NTL ms", "FLINT ms", "plan/NTL", "plan/FLINT"],
-            2,
             large,
         ),
         table(
             "words",
             "An entry of 256 words of 32 bits, and of 1024 words of 64",
             &["u32 ns", "u64 ns", "quotient"],
-            1,
             entries,
         ),
     ]

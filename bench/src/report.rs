@@ -4,16 +4,15 @@ use std::fs;
 use std::io;
 use std::path::Path;
 
-/// A table: the heads of its columns, and for each line its name and numbers. The last numbers of a
-/// line may be ratios, which have two digits after the point as the others have `digits`.
+/// A table: the heads of its columns, and for each line its name and numbers. Times, whose heads end with the unit, have
+/// `digits` after the point, and ratios two. `means` has the mean of each column that has one, or is empty.
 pub struct Rows {
     pub key: &'static str,
     pub title: String,
     pub heads: Vec<&'static str>,
     pub digits: usize,
-    pub ratios: usize,
     pub lines: Vec<(String, Vec<f64>)>,
-    pub mean: Option<f64>,
+    pub means: Vec<Option<f64>>,
 }
 
 /// Numbers against a size, for a picture: the head of each column, and the lines.
@@ -50,14 +49,15 @@ impl Rows {
         let mut text = format!("{}:\n\n| operation | {} |\n|---|{}\n", self.title, self.heads.join(" | "), "---:|".repeat(self.heads.len()));
         for (name, numbers) in &self.lines {
             text += &format!("| {name} |");
-            for (place, number) in numbers.iter().enumerate() {
-                let digits = if place + self.ratios >= numbers.len() { 2 } else { self.digits };
+            for (head, number) in self.heads.iter().zip(numbers) {
+                let digits = if head.ends_with(" ns") || head.ends_with(" ms") { self.digits } else { 2 };
                 text += &format!(" {number:.digits$} |");
             }
             text += "\n";
         }
-        if let Some(mean) = self.mean {
-            text += &format!("| geometric mean |{} {mean:.2} |\n", " |".repeat(self.heads.len() - 1));
+        if !self.means.is_empty() {
+            let means: Vec<String> = self.means.iter().map(|mean| mean.map_or(String::new(), |mean| format!(" {mean:.2}"))).collect();
+            text += &format!("| geometric mean |{} |\n", means.join(" |"));
         }
         text
     }

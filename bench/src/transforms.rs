@@ -209,9 +209,8 @@ pub fn measured() -> Rows {
         title: "Transforms and cyclic products of whole lists over 2^64 - 2^32 + 1".to_string(),
         heads: vec!["port ms", "columns ms", "table ms", "port/columns", "port/table"],
         digits: 3,
-        ratios: 2,
         lines: lines.into_iter().map(|(_, line)| line).collect(),
-        mean: None,
+        means: Vec::new(),
     }
 }
 

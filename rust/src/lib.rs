@@ -7,6 +7,9 @@
 #![no_std]
 #![forbid(unsafe_code)]
 #![doc = include_str!("../README.md")]
+// Contracts are gone, and with them the uses of some imports, parameters and fields; labels name loops to proofs.
+#![allow(dead_code, unused_imports, unused_labels, unused_variables)]
+#![allow(clippy::style, clippy::complexity, clippy::needless_range_loop)]
 
 #[cfg(not(target_pointer_width = "64"))]
 compile_error!("the proofs hold for usize of 64 bits");

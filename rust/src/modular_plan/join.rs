@@ -10,7 +10,7 @@ use crate::modular_word::ring_word::RingWord;
 // The place mirrored in its power of two, 2^k.
 #[inline]
 fn mirrored(place: usize) -> usize {
-    let power = 1 << place.ilog2();
+    let power = 1 << crate::additions::ilog2(place);
     power + (power - 1 - (place - power))
 }
 

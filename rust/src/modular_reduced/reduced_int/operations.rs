@@ -95,9 +95,9 @@ pub fn quotient<T: RingWord, R: Reducer<T> + Copy>(
     x: &ReducedInt<T, R>,
     y: &ReducedInt<T, R>,
 ) -> ReducedInt<T, R> {
-    let Some(inverse) = y.inv() else {
+    let inverse = match y.inv() { Some(it) => it, None => {
         unreachable!()
-    };
+    } };
     product(x, &inverse)
 }
 

@@ -14,9 +14,9 @@ pub fn invert_each<T: RingWord, R: Reducer<T>>(r: &R, forms: &mut [T], products:
         products[i] = product;
         product = r.mul(&product, &forms[i]);
     }
-    let Some(mut inverse) = r.inv(product) else {
+    let mut inverse = match r.inv(product) { Some(it) => it, None => {
         return false;
-    };
+    } };
     'backward: for k in 0..forms.len() {
         let i = forms.len() - 1 - k;
         let before = r.mul(&inverse, &forms[i]);

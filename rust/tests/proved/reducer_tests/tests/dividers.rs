@@ -11,5 +11,5 @@ use std::fmt::Debug;
 
 /// Whether a value shows the numbers that it stores as this text.
 pub fn shows<V: Debug>(alloc: Global, value: &V, text: &str) -> bool {
-    format!(in alloc; "{value:?}").is_ok_and(|shown| shown.as_str() == text)
+    format!(in alloc; "{value:?}").map_or(false, |shown| shown.as_str() == text)
 }

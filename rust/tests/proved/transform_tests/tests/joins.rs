@@ -15,9 +15,9 @@ fn is_joined<T: PlainWord>(
     xs: &mut [T],
     want: &[T],
 ) -> bool {
-    let Some(m) = planned(m, g, table) else {
+    let m = match planned(m, g, table) { Some(it) => it, None => {
         return false;
-    };
+    } };
     if !splits(xs.len(), table.len(), b, last) || !all_in_room(&m, xs) {
         return false;
     }
@@ -34,9 +34,9 @@ fn is_scaled<T: PlainWord>(
     xs: &mut [T],
     want: &[T],
 ) -> bool {
-    let Some(m) = planned(m, g, table) else {
+    let m = match planned(m, g, table) { Some(it) => it, None => {
         return false;
-    };
+    } };
     if !splits(xs.len(), table.len(), 1, 1) || !all_in_room(&m, xs) || !w.is_below(m.modulus) {
         return false;
     }

@@ -12,9 +12,9 @@ fn is_transform<T: PlainWord>(
     xs: &mut [T],
     want: &[T],
 ) -> bool {
-    let Some(m) = planned(m, g, table) else {
+    let m = match planned(m, g, table) { Some(it) => it, None => {
         return false;
-    };
+    } };
     if !xs.len().is_power_of_two() || xs.len() / 2 > table.len() || !all_in_room(&m, xs) {
         return false;
     }

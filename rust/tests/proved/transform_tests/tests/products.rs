@@ -42,9 +42,9 @@ fn is_product<T: PlainWord>(
     let (modulus, g) = root;
     let (b, last) = block;
     let (xs, ys) = lists;
-    let Some(m) = planned(modulus, g, table) else {
+    let m = match planned(modulus, g, table) { Some(it) => it, None => {
         return false;
-    };
+    } };
     convolved(&m, table, b, last, xs, ys) == Some(true)
         && are_same(xs, want.0)
         && are_same(ys, want.1)
@@ -59,9 +59,9 @@ fn is_refused<T: PlainWord>(
 ) -> bool {
     let (modulus, g) = root;
     let (xs, ys) = lists;
-    let Some(m) = planned(modulus, g, table) else {
+    let m = match planned(modulus, g, table) { Some(it) => it, None => {
         return false;
-    };
+    } };
     convolved(&m, table, 0, 1, xs, ys) == Some(false)
         && are_same(xs, want.0)
         && are_same(ys, want.1)
@@ -76,9 +76,9 @@ fn are_products<T: PlainWord>(
 ) -> bool {
     let (modulus, g) = root;
     let (xs, ys) = lists;
-    let Some(m) = planned(modulus, g, table) else {
+    let m = match planned(modulus, g, table) { Some(it) => it, None => {
         return false;
-    };
+    } };
     if xs.len() != 4 || ys.len() != 4 || table.len() < 2 || !all_below(&m, xs) {
         return false;
     }

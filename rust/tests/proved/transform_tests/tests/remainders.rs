@@ -53,9 +53,9 @@ fn is_split<T: PlainWord>(
     xs: &mut [T],
     want: &[T],
 ) -> bool {
-    let Some(m) = planned(m, g, table) else {
+    let m = match planned(m, g, table) { Some(it) => it, None => {
         return false;
-    };
+    } };
     if !splits(xs.len(), table.len(), b, last) || !all_in_room(&m, xs) {
         return false;
     }

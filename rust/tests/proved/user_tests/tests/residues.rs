@@ -73,9 +73,9 @@ fn encoded(system: ResidueSystem<'_>, number: u128) -> [u64; 8] {
 
 // Whether the residues of x and y have as their sums, differences and products those of the results.
 fn computes(moduli: &[u64], x: u128, y: u128, results: [u128; 3]) -> bool {
-    let Some(system) = ResidueSystem::new(moduli) else {
+    let system = match ResidueSystem::new(moduli) { Some(it) => it, None => {
         return false;
-    };
+    } };
     let count = system.moduli.len();
     let (left, right) = (encoded(system, x), encoded(system, y));
     let (mut sums, mut differences, mut products) = ([0u64; 8], [0u64; 8], [0u64; 8]);
@@ -134,9 +134,9 @@ fn runs(
     numbers: &[u64],
     residues: Option<&[u64]>,
 ) -> bool {
-    let Some(system) = ResidueSystem::new(moduli) else {
+    let system = match ResidueSystem::new(moduli) { Some(it) => it, None => {
         return false;
-    };
+    } };
     let (places, count) = (numbers.len(), system.moduli.len());
     let (mut registers, mut found) = ([0u64; 3], [0u64; 8]);
     if places < 2 || places > 3 || !commands_fit(commands, places) {
