@@ -221,8 +221,7 @@ pub fn measured() -> Rows {
         title: "The rings of `lattice_rings`, 256 coefficients".to_string(),
         heads: vec!["port us", "loop us", "port/loop"],
         digits: 2,
-        ratios: 1,
         lines: with_rings(lines).concat(),
-        mean: None,
+        means: Vec::new(),
     }
 }

@@ -132,8 +132,7 @@ pub fn measured() -> Rows {
             "at hand/big_product",
         ],
         digits: 3,
-        ratios: 3,
         lines: with_room(lines),
-        mean: None,
+        means: Vec::new(),
     }
 }
