@@ -15,7 +15,7 @@ unsafe extern "C" {
     fn bench_long_product(
         xs: *const u64, xs_length: usize, ys: *const u64, ys_length: usize, digits: *mut u64, places: usize,
         words: *mut u64, room: usize, n: u64,
-    );
+    ) -> bool;
 }
 
 /// GMP's version.
@@ -42,12 +42,12 @@ impl Factors {
     /// Makes the plans, and multiplies so many times.
     fn port(&mut self, times: u64) {
         let (xs, ys, digits, words) = (&self.xs, &self.ys, &mut self.digits, &mut self.words);
-        unsafe {
+        assert!(unsafe {
             bench_long_product(
                 xs.as_ptr(), xs.len(), ys.as_ptr(), ys.len(), digits.as_mut_ptr(), digits.len(),
                 words.as_mut_ptr(), words.len(), times,
             )
-        }
+        });
     }
 
     fn gmp(&mut self) {
