@@ -1,5 +1,5 @@
 //! Links the static library that `rt lib` makes of the crate `modular_bench`, and with the feature
-//! `peers` FLINT and NTL.
+//! `peers` FLINT, GMP and NTL.
 
 use std::env;
 use std::path::Path;
@@ -17,11 +17,11 @@ fn main() {
     }
 }
 
-/// Compiles the steps over FLINT's and NTL's calls.
+/// Compiles the steps over the calls of FLINT, GMP and NTL.
 fn link_peers(sources: &Path) {
     let folder = env::var("OUT_DIR").expect("cargo names the folder of what is built");
     let library = Path::new(&folder).join("libpeers.a");
-    for (compiler, name) in [("cc", "flint.c"), ("c++", "ntl.cpp")] {
+    for (compiler, name) in [("cc", "flint.c"), ("cc", "gmp.c"), ("c++", "ntl.cpp")] {
         let source = sources.join(name);
         let object = Path::new(&folder).join(name).with_extension("o");
         let compiled = Command::new(compiler).args(["-O2", "-c", "-o"]).arg(&object).arg(&source).status();

@@ -5,11 +5,15 @@
 //!
 //! With a folder as argument it writes speed.json and the tables of speed.md there, else it prints the
 //! tables. With `--peers` before it, which the feature `peers` brings, it measures the port beside FLINT and
-//! NTL in place of all that; with `--plans` the transforms by a plan alone.
+//! NTL in place of all that; with `--plans` the transforms by a plan and what stands on them alone, beside GMP too.
 
 mod erased;
 mod growth;
+#[cfg(feature = "peers")]
+mod lattices;
 mod lines;
+#[cfg(feature = "peers")]
+mod long_products;
 mod measure;
 mod original;
 #[cfg(feature = "peers")]
@@ -139,11 +143,14 @@ fn beside_peers() -> Option<Report> {
 
 #[cfg(feature = "peers")]
 fn plans_beside_peers() -> Option<Report> {
-    plans::agree().then(|| Report {
-        machine: format!("{}, NTL {} and FLINT {}", machine(), plans::version(), peers::version()),
-        tables: plans::measured(),
-        growth: Vec::new(),
-    })
+    if !plans::agree() || !long_products::agree() || !lattices::agree() {
+        return None;
+    }
+    let (ntl, flint, gmp) = (plans::version(), peers::version(), long_products::version());
+    let mut tables = plans::measured();
+    tables.push(long_products::measured());
+    tables.push(lattices::measured());
+    Some(Report { machine: format!("{}, NTL {ntl}, FLINT {flint} and GMP {gmp}", machine()), tables, growth: Vec::new() })
 }
 
 #[cfg(not(feature = "peers"))]

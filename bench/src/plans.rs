@@ -105,10 +105,10 @@ impl Lists {
 }
 
 /// What is measured: something done so many times.
-type Run<'a> = Box<dyn FnMut(u64) + 'a>;
+pub type Run<'a> = Box<dyn FnMut(u64) + 'a>;
 
 /// The milliseconds of one of each: the best of some rounds, in turn.
-fn best(rounds: usize, times: u64, runs: &mut [Run]) -> Vec<f64> {
+pub fn best(rounds: usize, times: u64, runs: &mut [Run]) -> Vec<f64> {
     let mut best = vec![f64::INFINITY; runs.len()];
     for _ in 0..rounds {
         for (least, run) in best.iter_mut().zip(&mut *runs) {
@@ -120,7 +120,7 @@ fn best(rounds: usize, times: u64, runs: &mut [Run]) -> Vec<f64> {
     best
 }
 
-fn repeated<'a>(mut once: impl FnMut() + 'a) -> Run<'a> {
+pub fn repeated<'a>(mut once: impl FnMut() + 'a) -> Run<'a> {
     Box::new(move |times| (0..times).for_each(|_| once()))
 }
 
@@ -281,7 +281,7 @@ fn all_agree() -> bool {
 }
 
 /// Runs something with room for a plan on the stack.
-fn with_room<T: Send>(run: impl FnOnce() -> T + Send) -> T {
+pub fn with_room<T: Send>(run: impl FnOnce() -> T + Send) -> T {
     thread::scope(|scope| {
         let started = thread::Builder::new().stack_size(STACK).spawn_scoped(scope, run);
         started.expect("a thread starts").join().expect("it ends")

@@ -1,0 +1,138 @@
+//! Products of numbers of 64-bit digits, beside GMP's and beside the product by one prime of digits of 16 bits.
+
+use crate::measure::Random;
+use crate::plans::{best, repeated, with_room};
+use crate::report::Rows;
+use crate::users::port_big_product;
+use std::ffi::{CStr, c_char};
+
+/// From so many digits on a factor is transformed; shorter ones are multiplied by rows.
+const LEAST_TRANSFORMED: usize = 400;
+
+unsafe extern "C" {
+    safe fn peer_gmp_version() -> *const c_char;
+    fn peer_gmp_multiply(digits: *mut u64, xs: *const u64, ys: *const u64, n: i64);
+    fn bench_long_product(
+        xs: *const u64, xs_length: usize, ys: *const u64, ys_length: usize, digits: *mut u64, places: usize,
+        words: *mut u64, room: usize, n: u64,
+    ) -> bool;
+}
+
+/// GMP's version.
+pub fn version() -> String {
+    unsafe { CStr::from_ptr(peer_gmp_version()) }.to_string_lossy().into_owned()
+}
+
+/// Two factors of so many digits, with room for the product.
+struct Factors {
+    xs: Vec<u64>,
+    ys: Vec<u64>,
+    digits: Vec<u64>,
+    words: Vec<u64>,
+}
+
+impl Factors {
+    fn new(n: usize) -> Factors {
+        let mut random = Random(n as u64);
+        let mut list = || (0..n).map(|_| random.next()).collect();
+        let (xs, ys) = (list(), list());
+        Factors { xs, ys, digits: vec![0; 2 * n], words: vec![0; 4 * (2 * n).next_power_of_two()] }
+    }
+
+    /// Makes the plans, and multiplies so many times.
+    fn port(&mut self, times: u64) {
+        let (xs, ys, digits, words) = (&self.xs, &self.ys, &mut self.digits, &mut self.words);
+        assert!(unsafe {
+            bench_long_product(
+                xs.as_ptr(), xs.len(), ys.as_ptr(), ys.len(), digits.as_mut_ptr(), digits.len(),
+                words.as_mut_ptr(), words.len(), times,
+            )
+        });
+    }
+
+    fn gmp(&mut self) {
+        unsafe { peer_gmp_multiply(self.digits.as_mut_ptr(), self.xs.as_ptr(), self.ys.as_ptr(), self.xs.len() as i64) }
+    }
+
+    /// The same by `big_product`, over digits of 16 bits.
+    fn big_product(&self) -> impl FnMut() {
+        let halves = |it: &[u64]| it.iter().flat_map(|x| [*x as u16, (*x >> 16) as u16, (*x >> 32) as u16, (*x >> 48) as u16]).collect();
+        let (xs, ys): (Vec<u16>, Vec<u16>) = (halves(&self.xs), halves(&self.ys));
+        let mut digits = vec![0u16; 2 * xs.len()];
+        let n = digits.len().next_power_of_two();
+        let (mut left, mut right) = (vec![0u64; n], vec![0u64; n]);
+        move || port_big_product(&xs, &ys, &mut digits, &mut left, &mut right)
+    }
+}
+
+/// Whether the products are GMP's, by rows and by transforms.
+fn all_agree() -> bool {
+    let same = [256, 399, 400, 512, 4096].iter().all(|n| {
+        let (mut ours, mut theirs) = (Factors::new(*n), Factors::new(*n));
+        ours.xs[0] = u64::MAX;
+        theirs.xs[0] = u64::MAX;
+        ours.port(1);
+        theirs.gmp();
+        ours.digits == theirs.digits
+    });
+    if !same {
+        eprintln!("long products: other answers");
+    }
+    same
+}
+
+pub fn agree() -> bool {
+    with_room(all_agree)
+}
+
+/// The milliseconds of a product with the plans at hand, of the plans, of GMP's product and of `big_product`'s.
+fn measured_line(n: usize) -> [f64; 4] {
+    let (rounds, times) = match n {
+        0..=4096 => (100, 20),
+        4097..=65536 => (20, 2),
+        _ => (6, 1),
+    };
+    let (mut plans, mut ours, mut theirs) = (Factors::new(n), Factors::new(n), Factors::new(n));
+    let mut big_product = Factors::new(n).big_product();
+    let mut least = [f64::INFINITY; 4];
+    for _ in 0..rounds {
+        let turn = [
+            best(1, 1, &mut [Box::new(|_| plans.port(0))])[0],
+            best(1, 1, &mut [Box::new(|_| ours.port(times))])[0],
+            best(1, times, &mut [repeated(|| theirs.gmp())])[0],
+            best(1, 1, &mut [repeated(&mut big_product)])[0],
+        ];
+        for (least, time) in least.iter_mut().zip(turn) {
+            *least = least.min(time);
+        }
+    }
+    let plan = if n < LEAST_TRANSFORMED { 0.0 } else { least[0] };
+    [(least[1] - least[0]) / times as f64, plan, least[2], least[3]]
+}
+
+fn lines() -> Vec<(String, Vec<f64>)> {
+    let at = |name: String, n: usize| {
+        let [product, plan, gmp, big] = measured_line(n);
+        (name, vec![product, product + plan, gmp, big, product / gmp, (product + plan) / gmp, product / big])
+    };
+    let mut lines = vec![at("2^8 digits, by rows".to_string(), 256)];
+    lines.push(at(format!("{} digits, by rows", LEAST_TRANSFORMED - 1), LEAST_TRANSFORMED - 1));
+    lines.push(at(format!("{LEAST_TRANSFORMED} digits, by transforms"), LEAST_TRANSFORMED));
+    lines.extend([10, 12, 14, 16, 18, 20].map(|bits| at(format!("2^{bits} digits"), 1 << bits)));
+    lines
+}
+
+/// The table.
+pub fn measured() -> Rows {
+    Rows {
+        key: "long",
+        title: "A product by `long_product` of two numbers of so many digits of 64 bits".to_string(),
+        heads: vec![
+            "with plans at hand ms", "with the plans ms", "GMP ms", "big_product ms", "at hand/GMP", "with the plans/GMP",
+            "at hand/big_product",
+        ],
+        digits: 3,
+        lines: with_room(lines),
+        means: Vec::new(),
+    }
+}

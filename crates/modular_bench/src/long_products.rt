@@ -1,0 +1,59 @@
+//! Products of numbers of 64-bit digits, by three plans of at most 2^20 factors, which stand on the stack.
+
+ghost use Rattle.std.specs.Prelude.{◌≡◌, ◌*◌, ◌<◌, ◌≤◌, IsTrue};
+ghost use Rattle.long_product.specs.Numbers.{number_of};
+
+use long_product::{fill_plans, product_planned};
+use num_modular::plans::Factor;
+
+// Makes the plans, and then the product n times; false where the slices haven't the room.
+fn multiplied<const FACTORS: usize>(
+    xs: &[u64],
+    ys: &[u64],
+    digits: &mut [u64],
+    words: &mut [u64],
+    n: u64,
+) -> bool
+    requires few { FACTORS ≤ 1048576 }
+    ensures { IsTrue result → 0 < n → number_of digits.new ≡ number_of xs.now * number_of ys.now }
+{
+    let none = Factor {
+        value: 0,
+        quotient: 0,
+    };
+    let (mut first, mut second, mut third) = ([none; FACTORS], [none; FACTORS], [none; FACTORS]);
+    if !fill_plans(&mut first, &mut second, &mut third) {
+        return false;
+    }
+    'turns: for _ in 0..n {
+        if !product_planned(xs, ys, digits, words, &first, &second, &third) {
+            return false;
+        }
+    }
+    true
+}
+
+/// Makes the plans for 2^10 to 2^21 places, on the stack, and then puts the digits of the product of xs and
+/// ys in `digits` n times; false where there are fewer digits or more than one of these has, or where the
+/// slices haven't the room.
+#[unsafe(no_mangle)]
+pub extern "C" fn bench_long_product(
+    xs: &[u64],
+    ys: &[u64],
+    digits: &mut [u64],
+    words: &mut [u64],
+    n: u64,
+) -> bool
+    ensures { IsTrue result → 0 < n → number_of digits.new ≡ number_of xs.now * number_of ys.now }
+{
+    match digits.len() {
+        512..=1024 => multiplied::<512>(xs, ys, digits, words, n),
+        2048 => multiplied::<1024>(xs, ys, digits, words, n),
+        8192 => multiplied::<4096>(xs, ys, digits, words, n),
+        32768 => multiplied::<16384>(xs, ys, digits, words, n),
+        131072 => multiplied::<65536>(xs, ys, digits, words, n),
+        524288 => multiplied::<262144>(xs, ys, digits, words, n),
+        2097152 => multiplied::<1048576>(xs, ys, digits, words, n),
+        _ => false,
+    }
+}
