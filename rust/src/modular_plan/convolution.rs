@@ -2,12 +2,13 @@
 
 use crate::modular_plan::entry::PlanEntry;
 use crate::modular_plan::join::join_scaled;
-use crate::modular_plan::modulus::{PlannedModulus, reduced_once};
-use crate::modular_plan::products::multiply;
+use crate::modular_plan::modulus::{Factor, PlannedModulus, reduced_once};
+use crate::modular_plan::products::{multiply, reduce_products};
 use crate::modular_plan::split::{split, splits};
 use crate::modular_prim::euclid::invm;
 use crate::modular_prim::plain_word::PlainWord;
 use crate::modular_word::path_word::PathWord;
+use crate::modular_word::paths::neginv;
 use crate::modular_word::ring_word::RingWord;
 
 // The residue of a power of two, by doublings of 1: it may be too large for the word.
@@ -18,6 +19,29 @@ fn residue_of_count<T: PlainWord>(m: &PlannedModulus<T>, count: usize) -> T {
         residue = reduced_once(residue.plus(residue), m.modulus);
     }
     residue
+}
+
+// Multiplies the blocks as `multiply` does, and joins the products as `join_scaled` does. Single entries
+// are multiplied by Montgomery's reduction where m is odd: then the number of words, by which it
+// divides, is made up for by the factor.
+fn join_products<T: PlainWord, F: PlanEntry<T>>(
+    m: &PlannedModulus<T>,
+    xs: &mut [T],
+    ys: &[T],
+    table: &[F],
+    b: usize,
+    last: usize,
+    w: &Factor<T>,
+) {
+    if last == 1 && m.modulus.is_odd() {
+        let inverse = T::zero().wrapping_sub(neginv(m.modulus));
+        reduce_products(m, inverse, xs, ys);
+        let scaled = m.factor(m.times_base(w));
+        join_scaled(m, xs, table, b, last, &scaled);
+    } else {
+        multiply(m, xs, ys, table, b, last);
+        join_scaled(m, xs, table, b, last, w);
+    }
 }
 
 /// Whether `convolve_block` takes lists of so many entries as block b, down to blocks of `last`, by a
@@ -60,8 +84,7 @@ pub fn convolve_block<T: PlainWord, F: PlanEntry<T>>(
             let part = m.factor(part);
             split(m, xs, table, b, last);
             split(m, ys, table, b, last);
-            multiply(m, xs, ys, table, b, last);
-            join_scaled(m, xs, table, b, last, &part);
+            join_products(m, xs, ys, table, b, last, &part);
             true
         }
         None => false,

@@ -2,7 +2,6 @@
 
 use crate::modular_plan::entry::PlanEntry;
 use crate::modular_plan::modulus::{Factor, PlannedModulus, reduced_once};
-use crate::modular_plan::split::reduce_each;
 use crate::modular_prim::plain_word::PlainWord;
 use crate::modular_word::path_word::PathWord;
 use crate::modular_word::ring_word::RingWord;
@@ -57,13 +56,12 @@ fn minus_inverses<T: PlainWord, F: PlanEntry<T>>(
     }
 }
 
-// x + y and (y - x)·v, below 4m.
+// x + y and (y - x)·v, below 2m.
 #[inline]
 fn join_values<T: PlainWord>(m: &PlannedModulus<T>, x: T, y: T, v: &Factor<T>) -> (T, T) {
     let twice = m.twice();
-    let x = reduced_once(x, twice);
-    let y = reduced_once(y, twice);
-    (x.plus(y), m.times(y.plus(twice.minus(x)), v))
+    let sum = reduced_once(x.plus(y), twice);
+    (sum, m.times(y.plus(twice.minus(x)), v))
 }
 
 // The pair at two places.
@@ -111,25 +109,40 @@ fn join_stage<T: PlainWord, F: PlanEntry<T>>(
     }
 }
 
-// The entries at four places, a quarter of a block apart: by minus the inverses of the factors of the
-// block's halves, and of its own.
+// Four numbers, a quarter of a block apart: by minus the inverses of the factors of the block's halves,
+// and of its own.
 fn join_four<T: PlainWord>(
     m: &PlannedModulus<T>,
-    xs: &mut [T],
-    places: (usize, usize, usize, usize),
+    four: (T, T, T, T),
+    w: &Factor<T>,
+    u: &Factor<T>,
+    v: &Factor<T>,
+) -> (T, T, T, T) {
+    let (e, f) = join_values(m, four.0, four.1, u);
+    let (g, h) = join_values(m, four.2, four.3, v);
+    let (a, c) = join_values(m, e, g, w);
+    let (b, d) = join_values(m, f, h, w);
+    (a, b, c, d)
+}
+
+// The columns of a block whose quarters are lists of their own.
+fn join_columns<T: PlainWord>(
+    m: &PlannedModulus<T>,
+    a: &mut [T],
+    b: &mut [T],
+    c: &mut [T],
+    d: &mut [T],
     w: &Factor<T>,
     u: &Factor<T>,
     v: &Factor<T>,
 ) {
-    let (i, j, k, l) = places;
-    let (e, f) = join_values(m, xs[i], xs[j], u);
-    let (g, h) = join_values(m, xs[k], xs[l], v);
-    let (a, c) = join_values(m, e, g, w);
-    let (b, d) = join_values(m, f, h, w);
-    xs[l] = d;
-    xs[k] = c;
-    xs[j] = b;
-    xs[i] = a;
+    'columns_of_four: for i in 0..a.len() {
+        let (e, f, g, h) = join_four(m, (a[i], b[i], c[i], d[i]), w, u, v);
+        a[i] = e;
+        b[i] = f;
+        c[i] = g;
+        d[i] = h;
+    }
 }
 
 // Two stages of the block of four times q entries from place `first` on.
@@ -142,18 +155,12 @@ fn join_quarters<T: PlainWord>(
     u: &Factor<T>,
     v: &Factor<T>,
 ) {
-    'columns_of_four: for i in 0..q {
-        let low = first + i;
-        let high = first + (q + q + i);
-        join_four(
-            m,
-            xs,
-            (low, first + (q + i), high, first + (q + q + (q + i))),
-            w,
-            u,
-            v,
-        );
-    }
+    let (_, block) = xs.split_at_mut(first);
+    let (a, rest) = block.split_at_mut(q);
+    let (b, rest) = rest.split_at_mut(q);
+    let (c, rest) = rest.split_at_mut(q);
+    let (d, _) = rest.split_at_mut(q);
+    join_columns(m, a, b, c, d, w, u, v);
 }
 
 // Two stages of all blocks, block p by entry first + p of the table, and its halves by the entries at
@@ -173,7 +180,79 @@ fn join_two_stages<T: PlainWord, F: PlanEntry<T>>(
     }
 }
 
-// All stages: the number of blocks times the list whose remainders the entries are, below 4m.
+// The four entries from place `first` on, where all before them are below 2m.
+fn join_neighbours<T: PlainWord>(
+    m: &PlannedModulus<T>,
+    xs: &mut [T],
+    first: usize,
+    w: &Factor<T>,
+    u: &Factor<T>,
+    v: &Factor<T>,
+) {
+    let twice = m.twice();
+    let a = reduced_once(xs[first], twice);
+    let b = reduced_once(xs[first + 1], twice);
+    let c = reduced_once(xs[first + 2], twice);
+    let d = reduced_once(xs[first + 3], twice);
+    let (a, b, c, d) = join_four(m, (a, b, c, d), w, u, v);
+    xs[first + 3] = d;
+    xs[first + 2] = c;
+    xs[first + 1] = b;
+    xs[first] = a;
+}
+
+// The first two stages of all blocks of four entries, which come below 2m: block p by entry first + p of
+// the table, and its halves by the entries at twice that place.
+#[inline]
+fn join_fours<T: PlainWord, F: PlanEntry<T>>(
+    m: &PlannedModulus<T>,
+    xs: &mut [T],
+    blocks: usize,
+    table: &[F],
+    first: usize,
+    minus: &Factor<T>,
+) {
+    'fours: for p in 0..blocks {
+        let (w, u, v) = minus_inverses(m, table, first + p, *minus);
+        join_neighbours(m, xs, p * 4, &w, &u, &v);
+    }
+}
+
+// Each entry reduced once by a bound.
+#[inline]
+fn reduce_each_once<T: PlainWord>(xs: &mut [T], bound: T) {
+    'entries: for i in 0..xs.len() {
+        xs[i] = reduced_once(xs[i], bound);
+    }
+}
+
+// The stages from blocks of `last` entries on: the number of blocks times the list whose remainders the
+// entries are, below 2m.
+fn join_blocks<T: PlainWord, F: PlanEntry<T>>(
+    m: &PlannedModulus<T>,
+    xs: &mut [T],
+    table: &[F],
+    b: usize,
+    last: usize,
+    minus: &Factor<T>,
+) {
+    let mut size = last;
+    let mut blocks = xs.len() / last;
+    'stages: while size < xs.len() {
+        if 2 < blocks {
+            blocks /= 4;
+            join_two_stages(m, xs, size, blocks, table, b * blocks, minus);
+            size *= 4;
+        } else {
+            blocks /= 2;
+            join_stage(m, xs, size, blocks, table, b * blocks, minus);
+            size *= 2;
+        }
+    }
+}
+
+// All stages: the number of blocks times the list whose remainders the entries are, below 2m. The first
+// pass brings the entries there.
 fn join_stages<T: PlainWord, F: PlanEntry<T>>(
     m: &PlannedModulus<T>,
     xs: &mut [T],
@@ -182,18 +261,13 @@ fn join_stages<T: PlainWord, F: PlanEntry<T>>(
     last: usize,
 ) {
     let minus = m.factor(m.modulus.minus(T::one()));
-    let mut size = last;
-    let mut blocks = xs.len() / last;
-    'stages: while size < xs.len() {
-        if 2 < blocks {
-            blocks /= 4;
-            join_two_stages(m, xs, size, blocks, table, b * blocks, &minus);
-            size *= 4;
-        } else {
-            blocks /= 2;
-            join_stage(m, xs, size, blocks, table, b * blocks, &minus);
-            size *= 2;
-        }
+    let fours = xs.len() / 4;
+    if last == 1 && fours > 0 {
+        join_fours(m, xs, fours, table, b * fours, &minus);
+        join_blocks(m, xs, table, b, 4, &minus);
+    } else {
+        reduce_each_once(xs, m.twice());
+        join_blocks(m, xs, table, b, last, &minus);
     }
 }
 
@@ -223,7 +297,7 @@ pub fn join<T: PlainWord, F: PlanEntry<T>>(
     last: usize,
 ) {
     join_stages(m, xs, table, b, last);
-    reduce_each(m, xs);
+    reduce_each_once(xs, m.modulus);
 }
 
 /// Joins the blocks as `join` does, each coefficient times a factor: by the inverse modulo m of the

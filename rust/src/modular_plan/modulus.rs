@@ -89,6 +89,12 @@ impl<T: PlainWord> PlannedModulus<T> {
         Factor { value: w, quotient }
     }
 
+    // The residue of a factor times the number of words: what its quotient leaves.
+    #[inline]
+    pub(crate) fn times_base(&self, w: &Factor<T>) -> T {
+        T::zero().wrapping_sub(w.quotient.wrapping_mul(self.modulus))
+    }
+
     /// A number below 2m that is congruent to the product of any word x with a factor. Condition: the
     /// factor is one modulo m.
     ///
@@ -114,6 +120,16 @@ impl<T: PlainWord> PlannedModulus<T> {
         let scaled = x.shift_left(self.shift);
         let (_, rest) = div_2by1(divisor, self.reciprocal, scaled.product(y));
         rest.shift_right(self.shift)
+    }
+
+    // The residue of x·v + u·y. Condition: x + u is below 2m. It divides once by the reciprocal, and
+    // modulo 2m, since the sum may have a high word from m on.
+    pub(crate) fn product_sum(&self, x: T, v: T, u: T, y: T) -> T {
+        let divisor = self.modulus.shift_left(self.shift);
+        let by = self.shift - 1;
+        let sum = T::double_plus(x.shift_left(by).product(v), u.shift_left(by).product(y));
+        let (_, rest) = div_2by1(divisor, self.reciprocal, sum);
+        reduced_once(rest.shift_right(by), self.modulus)
     }
 
     /// The word 2m.

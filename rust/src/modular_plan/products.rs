@@ -1,7 +1,7 @@
 //! Products of blocks: of polynomials modulo X^last - c.
 
 use crate::modular_plan::entry::PlanEntry;
-use crate::modular_plan::modulus::{PlannedModulus, reduced_once};
+use crate::modular_plan::modulus::PlannedModulus;
 use crate::modular_prim::plain_word::PlainWord;
 use crate::modular_word::path_word::PathWord;
 
@@ -13,31 +13,65 @@ fn multiply_each<T: PlainWord>(m: &PlannedModulus<T>, xs: &mut [T], ys: &[T]) {
     }
 }
 
-// The constant of block b·count + j of the tree, below or at m: an entry of the plan, or minus it.
+// A number below 2m that is the product of two words over the number of words, modulo m: Montgomery's
+// reduction, by the inverse of m. The multiple of m that it gives has the low word of the product, so
+// that the high words are all that is left of the difference. (By the negated inverse there is a carry.)
 #[inline]
-fn block_constant<T: PlainWord, F: PlanEntry<T>>(
+fn reduced_product<T: PlainWord>(m: &PlannedModulus<T>, inverse: T, x: T, y: T) -> T {
+    let (low, high) = T::split(x.product(y));
+    let (_, multiple) = T::split(low.wrapping_mul(inverse).product(m.modulus));
+    high.plus(m.modulus.minus(multiple))
+}
+
+// Each entry times the one at its place, over the number of words, modulo m.
+#[inline]
+pub(crate) fn reduce_products<T: PlainWord>(
+    m: &PlannedModulus<T>,
+    inverse: T,
+    xs: &mut [T],
+    ys: &[T],
+) {
+    'entries: for i in 0..xs.len() {
+        xs[i] = reduced_product(m, inverse, xs[i], ys[i]);
+    }
+}
+
+// A word times the constant of block b·count + j of the tree, below or at m: times an entry of the plan,
+// or minus that.
+fn times_constant<T: PlainWord, F: PlanEntry<T>>(
     m: &PlannedModulus<T>,
     table: &[F],
     b: usize,
     count: usize,
     j: usize,
+    x: T,
 ) -> T {
     let rest = b % 2 * count + j;
-    let w = table[b / 2 * count + rest / 2].factor().value;
-    if rest % 2 == 0 { w } else { m.modulus.minus(w) }
+    let w = table[b / 2 * count + rest / 2].factor();
+    let turned = m.product(x, &w);
+    if rest % 2 == 0 {
+        turned
+    } else {
+        m.modulus.minus(turned)
+    }
 }
 
-// The polynomial x_0 + x_1·X, from a place on, times the one of the other list, modulo X^2 - c.
-fn multiply_pair<T: PlainWord>(m: &PlannedModulus<T>, xs: &mut [T], ys: &[T], place: usize, c: T) {
+// The polynomial x_0 + x_1·X, from a place on, times the one of the other list, modulo X^2 - c, by
+// x_1·c.
+fn multiply_pair<T: PlainWord>(
+    m: &PlannedModulus<T>,
+    xs: &mut [T],
+    ys: &[T],
+    place: usize,
+    turned: T,
+) {
     let (x, y) = (xs[place], ys[place]);
     let (u, v) = (xs[place + 1], ys[place + 1]);
-    let turned = m.multiply(m.multiply(u, v), c);
-    xs[place + 1] = reduced_once(m.multiply(x, v).plus(m.multiply(u, y)), m.modulus);
-    xs[place] = reduced_once(m.multiply(x, y).plus(turned), m.modulus);
+    xs[place + 1] = m.product_sum(x, v, u, y);
+    xs[place] = m.product_sum(x, y, turned, v);
 }
 
 // The products of blocks of two entries.
-#[inline]
 fn multiply_pairs<T: PlainWord, F: PlanEntry<T>>(
     m: &PlannedModulus<T>,
     xs: &mut [T],
@@ -47,8 +81,8 @@ fn multiply_pairs<T: PlainWord, F: PlanEntry<T>>(
 ) {
     let count = xs.len() / 2;
     'each_block: for j in 0..count {
-        let c = block_constant(m, table, b, count, j);
-        multiply_pair(m, xs, ys, 2 * j, c);
+        let turned = times_constant(m, table, b, count, j, xs[2 * j + 1]);
+        multiply_pair(m, xs, ys, 2 * j, turned);
     }
 }
 

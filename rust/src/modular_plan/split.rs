@@ -58,25 +58,27 @@ fn split_stage<T: PlainWord, F: PlanEntry<T>>(
     }
 }
 
-// The entries at four places, a quarter of a block apart: by the block's factor w, and by those of its
-// halves.
-fn split_four<T: PlainWord>(
+// Two stages of the four quarters of a block: by the block's factor w, and by those of its halves.
+fn split_columns<T: PlainWord>(
     m: &PlannedModulus<T>,
-    xs: &mut [T],
-    places: (usize, usize, usize, usize),
+    first: &mut [T],
+    second: &mut [T],
+    third: &mut [T],
+    fourth: &mut [T],
     w: &Factor<T>,
     u: &Factor<T>,
     v: &Factor<T>,
 ) {
-    let (i, j, k, l) = places;
-    let (e, g) = split_values(m, xs[i], xs[k], w);
-    let (f, h) = split_values(m, xs[j], xs[l], w);
-    let (a, b) = split_values(m, e, f, u);
-    let (c, d) = split_values(m, g, h, v);
-    xs[l] = d;
-    xs[k] = c;
-    xs[j] = b;
-    xs[i] = a;
+    'columns: for i in 0..first.len() {
+        let (e, g) = split_values(m, first[i], third[i], w);
+        let (f, h) = split_values(m, second[i], fourth[i], w);
+        let (a, b) = split_values(m, e, f, u);
+        let (c, d) = split_values(m, g, h, v);
+        first[i] = a;
+        second[i] = b;
+        third[i] = c;
+        fourth[i] = d;
+    }
 }
 
 // Two stages of the block of four times q entries from place `first` on.
@@ -89,18 +91,12 @@ fn split_quarters<T: PlainWord>(
     u: &Factor<T>,
     v: &Factor<T>,
 ) {
-    'columns: for i in 0..q {
-        let low = first + i;
-        let high = first + (q + q + i);
-        split_four(
-            m,
-            xs,
-            (low, first + (q + i), high, first + (q + q + (q + i))),
-            w,
-            u,
-            v,
-        );
-    }
+    let (_before, block) = xs.split_at_mut(first);
+    let (a, rest) = block.split_at_mut(q);
+    let (b, rest) = rest.split_at_mut(q);
+    let (c, rest) = rest.split_at_mut(q);
+    let (d, _after) = rest.split_at_mut(q);
+    split_columns(m, a, b, c, d, w, u, v);
 }
 
 // Two stages of all blocks, block p by entry first + p of the table, and its halves by the entries at
@@ -119,6 +115,42 @@ fn split_two_stages<T: PlainWord, F: PlanEntry<T>>(
         let u = table[2 * place].factor();
         let v = table[2 * place + 1].factor();
         split_quarters(m, xs, p * (q + q + (q + q)), q, &w, &u, &v);
+    }
+}
+
+// Two stages of the four entries from place `first` on, which become residues.
+fn split_neighbours<T: PlainWord>(
+    m: &PlannedModulus<T>,
+    xs: &mut [T],
+    first: usize,
+    w: &Factor<T>,
+    u: &Factor<T>,
+    v: &Factor<T>,
+) {
+    let (e, g) = split_values(m, xs[first], xs[first + 2], w);
+    let (f, h) = split_values(m, xs[first + 1], xs[first + 3], w);
+    let (a, b) = split_values(m, e, f, u);
+    let (c, d) = split_values(m, g, h, v);
+    xs[first + 3] = m.residue(d);
+    xs[first + 2] = m.residue(c);
+    xs[first + 1] = m.residue(b);
+    xs[first] = m.residue(a);
+}
+
+// The last two stages: those of `split_two_stages` on each four neighbours, and their residues.
+fn split_fours<T: PlainWord, F: PlanEntry<T>>(
+    m: &PlannedModulus<T>,
+    xs: &mut [T],
+    blocks: usize,
+    table: &[F],
+    first: usize,
+) {
+    'fours: for p in 0..blocks {
+        let place = first + p;
+        let w = table[place].factor();
+        let u = table[2 * place].factor();
+        let v = table[2 * place + 1].factor();
+        split_neighbours(m, xs, p * 4, &w, &u, &v);
     }
 }
 
@@ -150,6 +182,33 @@ pub fn splits(length: usize, factors: usize, b: usize, last: usize) -> bool {
     b < factors / (count / 2)
 }
 
+// All stages from block b down to blocks of `last`, by the conditions of `split`. Where their number is
+// odd a single one comes first, so that the other passes do two.
+fn split_stages<T: PlainWord, F: PlanEntry<T>>(
+    m: &PlannedModulus<T>,
+    xs: &mut [T],
+    table: &[F],
+    b: usize,
+    last: usize,
+) {
+    let mut left = (xs.len() / last).trailing_zeros();
+    let mut size = xs.len();
+    let mut blocks = 1;
+    'stages: while 0 < left {
+        if left % 2 == 0 {
+            size /= 4;
+            split_two_stages(m, xs, size, blocks, table, b * blocks);
+            blocks *= 4;
+            left -= 2;
+        } else {
+            size /= 2;
+            split_stage(m, xs, size, blocks, table, b * blocks);
+            blocks *= 2;
+            left -= 1;
+        }
+    }
+}
+
 /// Splits block b of the tree of remainders into blocks of `last` entries: entry i of block j becomes
 /// the sum over k of x_(k·last + i)·c^k modulo m, the coefficient of the remainder modulo X^last - c,
 /// where c is the power of g by the reversed bits of b·count + j, count being the number of blocks.
@@ -161,7 +220,7 @@ pub fn splits(length: usize, factors: usize, b: usize, last: usize) -> bool {
 ///
 /// Source: the sums and differences are those of Cooley and Tukey, with one factor a block, as
 /// Bernstein ("Multidigit multiplication for mathematicians", section 2) has them. A pass over the list
-/// does two stages where two are left.
+/// does two stages; a single one comes first where their number is odd.
 pub fn split<T: PlainWord, F: PlanEntry<T>>(
     m: &PlannedModulus<T>,
     xs: &mut [T],
@@ -169,18 +228,12 @@ pub fn split<T: PlainWord, F: PlanEntry<T>>(
     b: usize,
     last: usize,
 ) {
-    let mut size = xs.len();
-    let mut blocks = 1;
-    'stages: while last < size {
-        if last < size / 2 {
-            size /= 4;
-            split_two_stages(m, xs, size, blocks, table, b * blocks);
-            blocks *= 4;
-        } else {
-            size /= 2;
-            split_stage(m, xs, size, blocks, table, b * blocks);
-            blocks *= 2;
-        }
+    if last == 1 && 4 <= xs.len() {
+        let fours = xs.len() / 4;
+        split_stages(m, xs, table, b, 4);
+        split_fours(m, xs, fours, table, b * fours);
+    } else {
+        split_stages(m, xs, table, b, last);
+        reduce_each(m, xs);
     }
-    reduce_each(m, xs);
 }

@@ -5,7 +5,7 @@ use crate::modular_word::ring_word::RingWord;
 
 // How many columns are taken together: their powers stand on the stack, and in each block their
 // pairs are neighbours in memory.
-const STRIP: usize = 64;
+const STRIP: usize = 128;
 
 // A difference times a power. It takes one product.
 #[inline]

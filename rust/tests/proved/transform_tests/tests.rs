@@ -7,4 +7,5 @@ mod plain_sums;
 mod products;
 mod reducers;
 mod remainders;
+mod reversals;
 mod roots;

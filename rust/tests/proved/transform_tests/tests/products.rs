@@ -110,6 +110,15 @@ fn blocks_of_two() {
             &[14, 2, 5, 2]
         )
     );
+    let mut xs = [16, 16, 16, 16];
+    assert!(
+        are_products(
+            (17, 3),
+            &mut table,
+            (&mut xs, &[18446744073709551614; 4]),
+            &[14, 2, 5, 2]
+        )
+    );
 }
 
 #[test]
@@ -404,6 +413,17 @@ fn composite_and_even_moduli() {
             (20, 19),
             &mut table,
             (1, 2),
+            (&mut xs, &mut ys),
+            (&want.0, &want.1)
+        )
+    );
+    let (mut xs, mut ys) = ([27], [43]);
+    let want = ([1], [3]);
+    assert!(
+        is_product(
+            (20, 19),
+            &mut table,
+            (0, 1),
             (&mut xs, &mut ys),
             (&want.0, &want.1)
         )

@@ -1,0 +1,60 @@
+//! Lists in the order of reversed bits, of fewer and more places than a tile has.
+
+use num_modular::modular_transform::order::reverse_places;
+
+// Writes to each place its number.
+fn number(places: &mut [usize]) {
+    for i in 0..places.len() {
+        places[i] = i;
+    }
+}
+
+// Whether each place holds its number with the lowest bits in the opposite order.
+fn are_reversed(places: &[usize], bits: u32) -> bool {
+    places
+        .iter()
+        .enumerate()
+        .all(|(i, number)| *number == i.reverse_bits() >> (64 - bits))
+}
+
+#[test]
+fn below_a_tile() {
+    let mut one = [7];
+    reverse_places(&mut one, 0);
+    assert!(one[0] == 7);
+    let mut places = [0; 2];
+    number(&mut places);
+    reverse_places(&mut places, 1);
+    assert!(are_reversed(&places, 1));
+    let mut places = [0; 32];
+    number(&mut places);
+    reverse_places(&mut places, 5);
+    assert!(are_reversed(&places, 5));
+    assert!(places[1] == 16 && places[6] == 12 && places[31] == 31);
+}
+
+#[test]
+fn one_tile() {
+    let mut places = [0; 64];
+    number(&mut places);
+    reverse_places(&mut places, 6);
+    assert!(are_reversed(&places, 6));
+    assert!(places[1] == 32 && places[8] == 4 && places[62] == 31);
+}
+
+#[test]
+fn some_tiles() {
+    let mut places = [0; 128];
+    number(&mut places);
+    reverse_places(&mut places, 7);
+    assert!(are_reversed(&places, 7));
+    let mut places = [0; 256];
+    number(&mut places);
+    reverse_places(&mut places, 8);
+    assert!(are_reversed(&places, 8));
+    let mut places = [0; 512];
+    number(&mut places);
+    reverse_places(&mut places, 9);
+    assert!(are_reversed(&places, 9));
+    assert!(places[1] == 256 && places[8] == 32 && places[200] == 38 && places[510] == 255);
+}
