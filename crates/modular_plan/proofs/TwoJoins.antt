@@ -250,7 +250,8 @@ first_fours b last length entries last_is some power whole room =
     ∙ ap (λ v. length / last * v) (sym last_is) ∙ whole in
     let sizes = two_join_sizes last last (length / last) power.0 0 (length / last) length
     (omega (arith, last_is)) (omega (arith, last_is)) power.1
-    (omega (arith, ap (λ v. v * last) one)) (omega (arith, ap (λ v. length / last * v) one)) whole (omega (arith, count, some)) (omega (arith, last_is, some)) in
+    (omega (arith, ap (λ v. v * last) one)) (omega (arith, ap (λ v. length / last * v) one)) whole
+    (omega (arith, count, some)) (omega (arith, last_is, some)) in
     let quarter : length / last / 4 ≡ length / 4 = ap (λ v. v / 4) count in
     let two = two_join_rooms b entries sizes room in
     let same = ap (λ v. b * v) quarter in

@@ -190,8 +190,10 @@ fn join_four<T: PlainWord>(
     u: &Factor<T>,
     v: &Factor<T>,
 ) -> (T, T, T, T)
-    requires low_below { (T.number four.0 < 2 * T.number m.now.modulus) × (T.number four.1 < 2 * T.number m.now.modulus) }
-    requires high_below { (T.number four.2 < 2 * T.number m.now.modulus) × (T.number four.3 < 2 * T.number m.now.modulus) }
+    requires low_below { (T.number four.0 < 2 * T.number m.now.modulus)
+        × (T.number four.1 < 2 * T.number m.now.modulus) }
+    requires high_below { (T.number four.2 < 2 * T.number m.now.modulus)
+        × (T.number four.3 < 2 * T.number m.now.modulus) }
     requires factor { IsFactor T.base (T.number m.now.modulus) (T.number w.now.value) (T.number w.now.quotient) }
     requires low_factor { IsFactor T.base (T.number m.now.modulus) (T.number u.now.value) (T.number u.now.quotient) }
     requires high_factor { IsFactor T.base (T.number m.now.modulus) (T.number v.now.value) (T.number v.now.quotient) }
