@@ -256,7 +256,7 @@ fn split_fours<T: PlainWord, F: PlanEntry<T>>(
 }
 
 // Each entry's residue.
-pub(crate) fn reduce_each<T: PlainWord>(m: &PlannedModulus<T>, xs: &mut [T])
+fn reduce_each<T: PlainWord>(m: &PlannedModulus<T>, xs: &mut [T])
     requires { All (λ x. T.number x < 4 * T.number m.now.modulus) xs.old }
     ensures residues { (i : ℕ) → i < length xs.old
         → numbers T.number xs.new i ≡ numbers T.number xs.old i % T.number m.now.modulus }

@@ -156,7 +156,7 @@ fn split_fours<T: PlainWord, F: PlanEntry<T>>(
 
 // Each entry's residue.
 #[inline]
-pub(crate) fn reduce_each<T: PlainWord>(m: &PlannedModulus<T>, xs: &mut [T]) {
+fn reduce_each<T: PlainWord>(m: &PlannedModulus<T>, xs: &mut [T]) {
     'entries: for i in 0..xs.len() {
         xs[i] = m.residue(xs[i]);
     }
