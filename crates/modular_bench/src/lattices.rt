@@ -5,14 +5,13 @@ ghost use Rattle.std.specs.Prelude.{◌<◌, All};
 use lattice_rings::{ml_dsa, ml_kem};
 
 /// Makes the ring of ML-DSA, and then does n times what the operation says: nothing for 0, `ntt` for 1,
-/// `inverse` for 2, `multiply` for 3, `product` for 4. Condition: the lists are of residues modulo 8380417, as
-/// they are after it.
+/// `inverse` for 2, `multiply` for 3, `product` by a copy of ys for 4. Condition: the coefficients are
+/// residues, as they are after it.
 #[unsafe(no_mangle)]
-pub extern "C" fn bench_ml_dsa(operation: u8, xs: &mut [u32; 256], ys: &mut [u32; 256], n: u64)
+pub extern "C" fn bench_ml_dsa(operation: u8, xs: &mut [u32; 256], ys: &[u32; 256], n: u64)
     requires xs { All (λ x. x < 8380417) xs.old }
-    requires ys { All (λ x. x < 8380417) ys.old }
-    ensures xs { All (λ x. x < 8380417) xs.new }
-    ensures ys { All (λ x. x < 8380417) ys.new }
+    requires ys { All (λ x. x < 8380417) ys.now }
+    ensures { All (λ x. x < 8380417) xs.new }
 {
     let ring = ml_dsa::Ring::new();
     'turns: for _ in 0..n {
@@ -21,18 +20,20 @@ pub extern "C" fn bench_ml_dsa(operation: u8, xs: &mut [u32; 256], ys: &mut [u32
             1 => ring.ntt(xs),
             2 => ring.inverse(xs),
             3 => ring.multiply(xs, ys),
-            _ => ring.product(xs, ys),
+            _ => {
+                let mut others = *ys;
+                ring.product(xs, &mut others);
+            }
         }
     }
 }
 
-/// The same for the ring of ML-KEM. Condition: the lists are of residues modulo 3329.
+/// The same with the ring of ML-KEM.
 #[unsafe(no_mangle)]
-pub extern "C" fn bench_ml_kem(operation: u8, xs: &mut [u32; 256], ys: &mut [u32; 256], n: u64)
+pub extern "C" fn bench_ml_kem(operation: u8, xs: &mut [u32; 256], ys: &[u32; 256], n: u64)
     requires xs { All (λ x. x < 3329) xs.old }
-    requires ys { All (λ x. x < 3329) ys.old }
-    ensures xs { All (λ x. x < 3329) xs.new }
-    ensures ys { All (λ x. x < 3329) ys.new }
+    requires ys { All (λ x. x < 3329) ys.now }
+    ensures { All (λ x. x < 3329) xs.new }
 {
     let ring = ml_kem::Ring::new();
     'turns: for _ in 0..n {
@@ -41,7 +42,10 @@ pub extern "C" fn bench_ml_kem(operation: u8, xs: &mut [u32; 256], ys: &mut [u32
             1 => ring.ntt(xs),
             2 => ring.inverse(xs),
             3 => ring.multiply(xs, ys),
-            _ => ring.product(xs, ys),
+            _ => {
+                let mut others = *ys;
+                ring.product(xs, &mut others);
+            }
         }
     }
 }

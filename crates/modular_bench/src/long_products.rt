@@ -6,7 +6,9 @@ ghost use Rattle.long_product.specs.Numbers.{number_of};
 use long_product::{fill_plans, product_planned};
 use num_modular::plans::Factor;
 
-// Makes the plans, and then the product n times; false where the slices haven't the room.
+// Makes the plans, and then the product n times; false where the slices haven't the room. It isn't inlined,
+// since a function pays at entry for the size of its locals.
+#[inline(never)]
 fn multiplied<const FACTORS: usize>(
     xs: &[u64],
     ys: &[u64],

@@ -1,10 +1,6 @@
 use Rattle.std.proofs.Common.{◌<◌, All}
 use Rattle.modular_bench.proofs.lattices.bench_ml_kem.Given as goal
 
--- the entries are residues
+-- the coefficients are residues
 abbrev pub invariant-turns : goal.invariant-turns
-invariant-turns g l =
-    record {
-      xs : All (λ x. x < 3329) l.xs;
-      ys : All (λ x. x < 3329) l.ys;
-    }
+invariant-turns l = All (λ x. x < 3329) l.xs
