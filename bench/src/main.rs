@@ -69,16 +69,16 @@ fn measured(table: &Table) -> Rows {
             logarithms[1] += (erased / theirs).ln();
             count += 1.0;
         }
-        lines.push((it.name.clone(), vec![ours, theirs, ours / theirs, erased, erased / theirs]));
+        lines.push((it.name.clone(), vec![ours, theirs, ours / theirs, erased / theirs]));
     }
     let [ours, erased] = logarithms.map(|sum| Some((sum / count).exp()));
     Rows {
         key: table.key,
         title: table.title.to_string(),
-        heads: vec!["port ns", "crate ns", "port/crate", "Cargo crate ns", "Cargo crate/crate"],
+        heads: vec!["port ns", "crate ns", "port/crate", "Cargo crate/crate"],
         digits: 1,
         lines,
-        means: vec![None, None, ours, None, erased],
+        means: vec![None, None, ours, erased],
     }
 }
 
