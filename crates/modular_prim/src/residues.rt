@@ -51,12 +51,16 @@ fn distance<T: PlainWord>(a: T, b: T) -> T
 
 /// The residue of a + b. Condition: m is at least 1. There is no division where words have more than 16 bits and
 /// both are below m.
+///
+/// Longer words are divided one by one, side by side: that takes less than the division of the whole sum.
 pub fn addm<T: PlainWord>(a: T, b: T, m: T) -> T
     requires { 1 ≤ T.number m }
     ensures { T.number result ≡ (T.number a + T.number b) % T.number m }
 {
     if spares_division(a, m) & spares_division(b, m) {
         add_below(a, b, m)
+    } else if T::bits() > 16 {
+        add_below(a.remainder(m), b.remainder(m), m)
     } else {
         T::narrow_remainder(whole_sum(a, b), m)
     }
