@@ -150,9 +150,10 @@ pub struct TrinomialModulus<T: TrinomialWord, F: Trinomial> {
 /// value is the value itself. It keeps no number.
 ///
 /// The parameters are in range where p1 is the width of T at most, p2 is from 1 to p1 - 1, and k is
-/// odd and less than 2^p2 either way. A product is reduced by folds with no division, but where
-/// p1 = p2 + 1 and k is negative: m is less than half of 2^p1 then, and what is left by m is taken
-/// by the primitive remainder. `inv` divides by Euclid's algorithm.
+/// odd and less than 2^p2 either way. Words are reduced by folds, and so is a product of words of 64
+/// bits, but where p1 = p2 + 1 and k is negative: m is less than half of 2^p1 then, and what is left by
+/// m is taken by the primitive remainder. So is a product of words of 32 bits, which takes no division
+/// either where the modulus is known when it is compiled. `inv` divides by Euclid's algorithm.
 ///
 /// Source: Solinas, "Generalized Mersenne numbers" (1999).
 pub type TrinomialSolinas<T, F> = FoldRing<T, TrinomialModulus<T, F>>;
@@ -265,8 +266,8 @@ impl<T: TrinomialWord, F: Trinomial> FoldModulus<T> for TrinomialModulus<T, F> {
     }
 
     fn product(&self, a: T, b: T) -> T {
-        if is_low(F::p1(), F::p2(), F::k()) {
-            TrinomialSolinas::<T, F>::reduce_double(a.product(b))
+        if T::bits() < 64 || is_low(F::p1(), F::p2(), F::k()) {
+            TrinomialSolinas::<T, F>::remainder(a.product(b))
         } else {
             reduce_product(
                 a,
