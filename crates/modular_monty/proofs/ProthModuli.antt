@@ -1,8 +1,9 @@
 -- The moduli k * 2^n + 1.
-use Rattle.std.proofs.Common.{suc, ◌≡◌, ℕ, ◌+◌, ◌-◌, ◌*◌, ◌%◌, ◌^◌, ◌<◌, sym, ap, ◌∙◌, arith}
+use Rattle.std.proofs.Common.{subst, suc, ◌≡◌, ℕ, ◌+◌, ◌-◌, ◌*◌, ◌%◌, ◌^◌, ◌<◌, sym, ap, ◌∙◌, arith}
 use Rattle.std.proofs.Math.Nat.{mod-eq_of_lt, pow-suc, add-mul-mod_self_left}
 use Rattle.std.proofs.lemmas.Nat.{mul-lt, pow-add}
-use Rattle.modular_monty.specs.Proth.{IsProth, proth_modulus}
+use Rattle.modular_monty.specs.Montgomery.{IsOddRing}
+use Rattle.modular_monty.specs.Proth.{IsProth, IsProthRange, proth_modulus}
 
 -- such a modulus is odd
 pub proth_odd : {w greatest n k m : ℕ} → IsProth w greatest n k m → m % 2 ≡ 1
@@ -21,3 +22,9 @@ shifted_product w n k x hm hx =
     let fits : x * proth_modulus n k < 2 ^ w * 2 ^ w = mul-lt x (proth_modulus n k) (2 ^ w) (2 ^ w) hx hm in
     let small : x * k * 2 ^ n < 2 ^ (w + w) = omega (arith, pow-add 2 w w) in
     ap (λ v. v + x) (mod-eq_of_lt small) ∙ sym whole
+
+-- what a function without a condition computes of the modulus
+pub ring_of_proth : {w b greatest n k m i square : ℕ} → IsProthRange w greatest n k → m ≡ proth_modulus n k
+    → (m % 2 ≡ 1 → IsOddRing w b m i square) → IsOddRing w b (proth_modulus n k) i square
+ring_of_proth {w} {b} {greatest} {n} {k} {m} {i} {square} range same ring =
+    subst (λ v. IsOddRing w b v i square) same (ring (proth_odd (record { range = range; same = same })))

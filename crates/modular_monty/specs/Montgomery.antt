@@ -1,8 +1,8 @@
 -- Montgomery's representation of residues (Handbook of Applied Cryptography,
 -- section 14.3.2). The words have w bits and b numbers.
-use Rattle.std.specs.Prelude.{◌≡◌, ℕ, ◌*◌, ◌%◌, ◌^◌, ◌<◌}
+use Rattle.std.specs.Prelude.{◌≡◌, ℕ, ◌-◌, ◌*◌, ◌%◌, ◌^◌, ◌<◌}
 use Rattle.modular_word.specs.Reduction.{IsNegatedInverse}
-use Rattle.modular_monty.specs.Values.{value_from}
+use Rattle.modular_monty.specs.Values.{value_below, value_from}
 
 -- modulo an odd m, the form of the value v: v times the base
 abbrev pub montgomery_form : ℕ → ℕ → ℕ → ℕ
@@ -19,3 +19,11 @@ pub record IsOddRing (w b m i square : ℕ) : Type 0 where
   pub fits : m < b
   pub inverse : IsNegatedInverse b m i
   pub is_square : square ≡ (b * b) % m
+
+-- the negated inverse of an odd m
+abbrev pub negated_inverse_of : ℕ → ℕ → ℕ
+negated_inverse_of b m = value_below (λ i. (m * i) % b) b (b - 1)
+
+-- m is an odd modulus, and what is kept of it are these numbers
+abbrev pub IsOddModulus : ℕ → ℕ → ℕ → Type 0
+IsOddModulus w b m = IsOddRing w b m (negated_inverse_of b m) ((b * b) % m)

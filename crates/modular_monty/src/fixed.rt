@@ -1,20 +1,39 @@
 //! Reducers by Montgomery's representation of a modulus that is a parameter of the type.
 
-ghost use Rattle.std.specs.Prelude.{◌≡◌, ℕ, ◌%◌, ◌^◌};
+ghost use Rattle.std.specs.Prelude.{◌≡◌, ℕ, ◌*◌, ◌%◌, ◌^◌};
 ghost use Rattle.std.proofs.Common.{refl};
-ghost use Rattle.modular_monty.specs.Montgomery.{montgomery_form, montgomery_value, IsOddRing};
+ghost use Rattle.modular_monty.specs.Montgomery.{montgomery_form, montgomery_value, IsOddModulus, IsOddRing, negated_inverse_of};
 ghost use Rattle.modular_monty.specs.MontgomeryLaws.{montgomery_canonical};
 
-use crate::odd_ring::{OddModulus, OddRing, computed_once};
+use crate::computed::{computed_once_32, computed_once_64};
+use crate::odd_ring::{OddModulus, OddRing};
 use modular_reduced::reducer::Reducer;
 use modular_word::paths::redc;
+
+// What is computed once of P; a type, since of a constant a proof knows what its type promises.
+#[derive(Clone, Copy)]
+struct Computed32<const P: u32> {
+    negated_inverse: u32,
+    square: u32,
+    ghost ring: { P % 2 ≡ 1 → IsOddRing 32 (2 ^ 32) P negated_inverse square },
+}
 
 /// The odd number P as a modulus for words of 32 bits, which each operation knows when it is compiled.
 #[derive(Debug, Clone, Copy)]
 pub struct OddNumber32<const P: u32> {
-    negated_inverse: u32,
-    square: u32,
-    ghost ring: { IsOddRing 32 (2 ^ 32) P negated_inverse square },
+    // Private, so that a value stands for an odd P; the numbers come from the parameter.
+    made: (),
+    ghost ring: { IsOddModulus 32 (2 ^ 32) P },
+}
+
+impl<const P: u32> OddNumber32<P> {
+    const COMPUTED: Computed32<P> = {
+        let (negated_inverse, square) = computed_once_32(P);
+        Computed32 {
+            negated_inverse,
+            square,
+        }
+    };
 }
 
 /// The reducer of the odd modulus P by Montgomery's representation in words of 32 bits: the form of
@@ -39,17 +58,13 @@ impl<const P: u32> OddModulus<u32> for OddNumber32<P> {
 
     ghost modulus = { λ _. P };
 
-    ghost negated_inverse = { λ m. m.negated_inverse };
+    ghost negated_inverse = { λ _. negated_inverse_of (2 ^ 32) P };
 
-    ghost square = { λ m. m.square };
+    ghost square = { λ _. (2 ^ 32 * 2 ^ 32) % P };
 
     fn keep(m: u32) -> Self {
         prove!(m == FixedMontgomery32::<P>::fixed_modulus());
-        let (negated_inverse, square) = computed_once(m);
-        OddNumber32 {
-            negated_inverse,
-            square,
-        }
+        OddNumber32 { made: () }
     }
 
     fn modulus(&self) -> u32 {
@@ -57,11 +72,11 @@ impl<const P: u32> OddModulus<u32> for OddNumber32<P> {
     }
 
     fn square_of_base(&self) -> u32 {
-        self.square
+        Self::COMPUTED.square
     }
 
     fn reduced(&self, t: u64) -> u32 {
-        redc(P, self.negated_inverse, t)
+        redc(P, Self::COMPUTED.negated_inverse, t)
     }
 
     ghost was_taken = { λ m. (m.ring.odd, refl) };
@@ -69,12 +84,30 @@ impl<const P: u32> OddModulus<u32> for OddNumber32<P> {
     ghost is_odd_ring = { λ m. m.ring };
 }
 
+// What is computed once of P; a type, since of a constant a proof knows what its type promises.
+#[derive(Clone, Copy)]
+struct Computed64<const P: u64> {
+    negated_inverse: u64,
+    square: u64,
+    ghost ring: { P % 2 ≡ 1 → IsOddRing 64 (2 ^ 64) P negated_inverse square },
+}
+
 /// The odd number P as a modulus for words of 64 bits, which each operation knows when it is compiled.
 #[derive(Debug, Clone, Copy)]
 pub struct OddNumber64<const P: u64> {
-    negated_inverse: u64,
-    square: u64,
-    ghost ring: { IsOddRing 64 (2 ^ 64) P negated_inverse square },
+    // Private, so that a value stands for an odd P; the numbers come from the parameter.
+    made: (),
+    ghost ring: { IsOddModulus 64 (2 ^ 64) P },
+}
+
+impl<const P: u64> OddNumber64<P> {
+    const COMPUTED: Computed64<P> = {
+        let (negated_inverse, square) = computed_once_64(P);
+        Computed64 {
+            negated_inverse,
+            square,
+        }
+    };
 }
 
 /// The reducer of the odd modulus P by Montgomery's representation in words of 64 bits: the form of
@@ -99,17 +132,13 @@ impl<const P: u64> OddModulus<u64> for OddNumber64<P> {
 
     ghost modulus = { λ _. P };
 
-    ghost negated_inverse = { λ m. m.negated_inverse };
+    ghost negated_inverse = { λ _. negated_inverse_of (2 ^ 64) P };
 
-    ghost square = { λ m. m.square };
+    ghost square = { λ _. (2 ^ 64 * 2 ^ 64) % P };
 
     fn keep(m: u64) -> Self {
         prove!(m == FixedMontgomery64::<P>::fixed_modulus());
-        let (negated_inverse, square) = computed_once(m);
-        OddNumber64 {
-            negated_inverse,
-            square,
-        }
+        OddNumber64 { made: () }
     }
 
     fn modulus(&self) -> u64 {
@@ -117,11 +146,11 @@ impl<const P: u64> OddModulus<u64> for OddNumber64<P> {
     }
 
     fn square_of_base(&self) -> u64 {
-        self.square
+        Self::COMPUTED.square
     }
 
     fn reduced(&self, t: u128) -> u64 {
-        redc(P, self.negated_inverse, t)
+        redc(P, Self::COMPUTED.negated_inverse, t)
     }
 
     ghost was_taken = { λ m. (m.ring.odd, refl) };

@@ -1,26 +1,51 @@
 //! Reducers by Montgomery's representation of the moduli K * 2^N + 1.
 
-ghost use Rattle.std.specs.Prelude.{◌≡◌, ℕ, ◌+◌, ◌*◌, ◌^◌, ◌<◌};
+ghost use Rattle.std.specs.Prelude.{◌≡◌, ℕ, ◌+◌, ◌*◌, ◌%◌, ◌^◌, ◌<◌};
 ghost use Rattle.std.proofs.Common.{refl};
 ghost use Rattle.modular_word.specs.Reduction.{IsReduction};
-ghost use Rattle.modular_monty.specs.Montgomery.{montgomery_form, montgomery_value, IsOddRing};
+ghost use Rattle.modular_monty.specs.Montgomery.{montgomery_form, montgomery_value, IsOddModulus, IsOddRing, negated_inverse_of};
 ghost use Rattle.modular_monty.specs.MontgomeryLaws.{montgomery_canonical};
 ghost use Rattle.modular_monty.specs.Proth.{IsProth, IsProthRange, greatest_proth_32, greatest_proth_64, proth_modulus};
 
-use crate::odd_ring::{OddModulus, OddRing, computed_once};
+use crate::computed::{computed_once_32, computed_once_64};
+use crate::odd_ring::{OddModulus, OddRing};
 use modular_reduced::reducer::Reducer;
 use modular_word::paths::{clearing, reduce_by};
+
+// The number k * 2^n + 1, for parameters in range.
+const fn modulus_32(n: u8, k: u8) -> u32
+    ensures { IsProthRange 32 greatest_proth_32 n k → result ≡ proth_modulus n k }
+{
+    ((k as u32) << (n % 32)).wrapping_add(1)
+}
+
+// What is computed once of the modulus; a type, since of a constant a proof knows what its type promises.
+#[derive(Clone, Copy)]
+struct Computed32<const N: u8, const K: u8> {
+    negated_inverse: u32,
+    square: u32,
+    ghost ring: { IsProthRange 32 greatest_proth_32 N K
+        → IsOddRing 32 (2 ^ 32) (proth_modulus N K) negated_inverse square },
+}
 
 /// The number K * 2^N + 1 as a modulus for words of 32 bits.
 #[derive(Debug, Clone, Copy)]
 pub struct ProthNumber32<const N: u8, const K: u8> {
-    negated_inverse: u32,
-    square: u32,
+    // Private, so that a value stands for parameters in range; the numbers come from the parameters.
+    made: (),
     ghost range: { IsProthRange 32 greatest_proth_32 N K },
-    ghost ring: { IsOddRing 32 (2 ^ 32) (proth_modulus N K) negated_inverse square },
+    ghost ring: { IsOddModulus 32 (2 ^ 32) (proth_modulus N K) },
 }
 
 impl<const N: u8, const K: u8> ProthNumber32<N, K> {
+    const COMPUTED: Computed32<N, K> = {
+        let (negated_inverse, square) = computed_once_32(modulus_32(N, K));
+        Computed32 {
+            negated_inverse,
+            square,
+        }
+    };
+
     // The modulus.
     fn value() -> u32
         requires { IsProthRange 32 greatest_proth_32 N K }
@@ -28,7 +53,7 @@ impl<const N: u8, const K: u8> ProthNumber32<N, K> {
     {
         prove!(0 < N && N < 32 && K % 2 == 1 && (K as u32) < 1 << N);
         prove!(((K as u64) << N) < 2654435769);
-        ((K as u32) << N) + 1
+        modulus_32(N, K)
     }
 
     // The product with the modulus, by a product with K and a shift.
@@ -72,17 +97,13 @@ impl<const N: u8, const K: u8> OddModulus<u32> for ProthNumber32<N, K> {
 
     ghost modulus = { λ _. proth_modulus N K };
 
-    ghost negated_inverse = { λ m. m.negated_inverse };
+    ghost negated_inverse = { λ _. negated_inverse_of (2 ^ 32) (proth_modulus N K) };
 
-    ghost square = { λ m. m.square };
+    ghost square = { λ _. (2 ^ 32 * 2 ^ 32) % proth_modulus N K };
 
     fn keep(m: u32) -> Self {
         prove!(m == Self::value());
-        let (negated_inverse, square) = computed_once(m);
-        ProthNumber32 {
-            negated_inverse,
-            square,
-        }
+        ProthNumber32 { made: () }
     }
 
     fn modulus(&self) -> u32 {
@@ -90,12 +111,12 @@ impl<const N: u8, const K: u8> OddModulus<u32> for ProthNumber32<N, K> {
     }
 
     fn square_of_base(&self) -> u32 {
-        self.square
+        Self::COMPUTED.square
     }
 
     fn reduced(&self, t: u64) -> u32 {
         let m = Self::value();
-        let x = clearing(m, self.negated_inverse, t);
+        let x = clearing(m, Self::COMPUTED.negated_inverse, t);
         reduce_by(m, t, x, self.shift_mul(x))
     }
 
@@ -104,16 +125,40 @@ impl<const N: u8, const K: u8> OddModulus<u32> for ProthNumber32<N, K> {
     ghost is_odd_ring = { λ m. m.ring };
 }
 
+// The number k * 2^n + 1, for parameters in range.
+const fn modulus_64(n: u8, k: u8) -> u64
+    ensures { IsProthRange 64 greatest_proth_64 n k → result ≡ proth_modulus n k }
+{
+    ((k as u64) << (n % 64)).wrapping_add(1)
+}
+
+// What is computed once of the modulus; a type, since of a constant a proof knows what its type promises.
+#[derive(Clone, Copy)]
+struct Computed64<const N: u8, const K: u8> {
+    negated_inverse: u64,
+    square: u64,
+    ghost ring: { IsProthRange 64 greatest_proth_64 N K
+        → IsOddRing 64 (2 ^ 64) (proth_modulus N K) negated_inverse square },
+}
+
 /// The number K * 2^N + 1 as a modulus for words of 64 bits.
 #[derive(Debug, Clone, Copy)]
 pub struct ProthNumber64<const N: u8, const K: u8> {
-    negated_inverse: u64,
-    square: u64,
+    // Private, so that a value stands for parameters in range; the numbers come from the parameters.
+    made: (),
     ghost range: { IsProthRange 64 greatest_proth_64 N K },
-    ghost ring: { IsOddRing 64 (2 ^ 64) (proth_modulus N K) negated_inverse square },
+    ghost ring: { IsOddModulus 64 (2 ^ 64) (proth_modulus N K) },
 }
 
 impl<const N: u8, const K: u8> ProthNumber64<N, K> {
+    const COMPUTED: Computed64<N, K> = {
+        let (negated_inverse, square) = computed_once_64(modulus_64(N, K));
+        Computed64 {
+            negated_inverse,
+            square,
+        }
+    };
+
     // The modulus.
     fn value() -> u64
         requires { IsProthRange 64 greatest_proth_64 N K }
@@ -121,7 +166,7 @@ impl<const N: u8, const K: u8> ProthNumber64<N, K> {
     {
         prove!(0 < N && N < 64 && K % 2 == 1 && (K as u64) < 1 << N);
         prove!(((K as u128) << N) < 11400714819323199485);
-        ((K as u64) << N) + 1
+        modulus_64(N, K)
     }
 
     // The product with the modulus, by a product with K and a shift.
@@ -165,17 +210,13 @@ impl<const N: u8, const K: u8> OddModulus<u64> for ProthNumber64<N, K> {
 
     ghost modulus = { λ _. proth_modulus N K };
 
-    ghost negated_inverse = { λ m. m.negated_inverse };
+    ghost negated_inverse = { λ _. negated_inverse_of (2 ^ 64) (proth_modulus N K) };
 
-    ghost square = { λ m. m.square };
+    ghost square = { λ _. (2 ^ 64 * 2 ^ 64) % proth_modulus N K };
 
     fn keep(m: u64) -> Self {
         prove!(m == Self::value());
-        let (negated_inverse, square) = computed_once(m);
-        ProthNumber64 {
-            negated_inverse,
-            square,
-        }
+        ProthNumber64 { made: () }
     }
 
     fn modulus(&self) -> u64 {
@@ -183,12 +224,12 @@ impl<const N: u8, const K: u8> OddModulus<u64> for ProthNumber64<N, K> {
     }
 
     fn square_of_base(&self) -> u64 {
-        self.square
+        Self::COMPUTED.square
     }
 
     fn reduced(&self, t: u128) -> u64 {
         let m = Self::value();
-        let x = clearing(m, self.negated_inverse, t);
+        let x = clearing(m, Self::COMPUTED.negated_inverse, t);
         reduce_by(m, t, x, self.shift_mul(x))
     }
 
