@@ -1,15 +1,33 @@
 //! Reducers by Montgomery's representation of a modulus that is a parameter of the type.
 
-use crate::modular_monty::odd_ring::{OddModulus, OddRing, computed_once};
+use crate::modular_monty::computed::{computed_once_32, computed_once_64};
+use crate::modular_monty::odd_ring::{OddModulus, OddRing};
 use crate::modular_reduced::reducer::Reducer;
 use crate::modular_word::paths::redc;
+
+// What is computed once of P; a type, since of a constant a proof knows what its type promises.
+#[derive(Clone, Copy)]
+struct Computed32<const P: u32> {
+    negated_inverse: u32,
+    square: u32,
+}
 
 /// The odd number P as a modulus for words of 32 bits, which each operation knows when it is compiled.
 #[derive(Debug, Clone, Copy)]
 #[must_use]
 pub struct OddNumber32<const P: u32> {
-    negated_inverse: u32,
-    square: u32,
+    // Private, so that a value stands for an odd P; the numbers come from the parameter.
+    made: (),
+}
+
+impl<const P: u32> OddNumber32<P> {
+    const COMPUTED: Computed32<P> = {
+        let (negated_inverse, square) = computed_once_32(P);
+        Computed32 {
+            negated_inverse,
+            square,
+        }
+    };
 }
 
 /// The reducer of the odd modulus P by Montgomery's representation in words of 32 bits: the form of
@@ -35,11 +53,7 @@ impl<const P: u32> OddModulus<u32> for OddNumber32<P> {
     #[inline]
     fn keep(m: u32) -> Self {
         assert!(m == FixedMontgomery32::<P>::fixed_modulus());
-        let (negated_inverse, square) = computed_once(m);
-        OddNumber32 {
-            negated_inverse,
-            square,
-        }
+        OddNumber32 { made: () }
     }
 
     #[inline]
@@ -49,21 +63,38 @@ impl<const P: u32> OddModulus<u32> for OddNumber32<P> {
 
     #[inline]
     fn square_of_base(&self) -> u32 {
-        self.square
+        Self::COMPUTED.square
     }
 
     #[inline]
     fn reduced(&self, t: u64) -> u32 {
-        redc(P, self.negated_inverse, t)
+        redc(P, Self::COMPUTED.negated_inverse, t)
     }
+}
+
+// What is computed once of P; a type, since of a constant a proof knows what its type promises.
+#[derive(Clone, Copy)]
+struct Computed64<const P: u64> {
+    negated_inverse: u64,
+    square: u64,
 }
 
 /// The odd number P as a modulus for words of 64 bits, which each operation knows when it is compiled.
 #[derive(Debug, Clone, Copy)]
 #[must_use]
 pub struct OddNumber64<const P: u64> {
-    negated_inverse: u64,
-    square: u64,
+    // Private, so that a value stands for an odd P; the numbers come from the parameter.
+    made: (),
+}
+
+impl<const P: u64> OddNumber64<P> {
+    const COMPUTED: Computed64<P> = {
+        let (negated_inverse, square) = computed_once_64(P);
+        Computed64 {
+            negated_inverse,
+            square,
+        }
+    };
 }
 
 /// The reducer of the odd modulus P by Montgomery's representation in words of 64 bits: the form of
@@ -89,11 +120,7 @@ impl<const P: u64> OddModulus<u64> for OddNumber64<P> {
     #[inline]
     fn keep(m: u64) -> Self {
         assert!(m == FixedMontgomery64::<P>::fixed_modulus());
-        let (negated_inverse, square) = computed_once(m);
-        OddNumber64 {
-            negated_inverse,
-            square,
-        }
+        OddNumber64 { made: () }
     }
 
     #[inline]
@@ -103,11 +130,11 @@ impl<const P: u64> OddModulus<u64> for OddNumber64<P> {
 
     #[inline]
     fn square_of_base(&self) -> u64 {
-        self.square
+        Self::COMPUTED.square
     }
 
     #[inline]
     fn reduced(&self, t: u128) -> u64 {
-        redc(P, self.negated_inverse, t)
+        redc(P, Self::COMPUTED.negated_inverse, t)
     }
 }

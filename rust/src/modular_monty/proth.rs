@@ -1,23 +1,46 @@
 //! Reducers by Montgomery's representation of the moduli K * 2^N + 1.
 
-use crate::modular_monty::odd_ring::{OddModulus, OddRing, computed_once};
+use crate::modular_monty::computed::{computed_once_32, computed_once_64};
+use crate::modular_monty::odd_ring::{OddModulus, OddRing};
 use crate::modular_reduced::reducer::Reducer;
 use crate::modular_word::paths::{clearing, reduce_by};
+
+// The number k * 2^n + 1, for parameters in range.
+#[inline]
+const fn modulus_32(n: u8, k: u8) -> u32 {
+    ((k as u32) << (n % 32)).wrapping_add(1)
+}
+
+// What is computed once of the modulus; a type, since of a constant a proof knows what its type promises.
+#[derive(Clone, Copy)]
+struct Computed32<const N: u8, const K: u8> {
+    negated_inverse: u32,
+    square: u32,
+}
 
 /// The number K * 2^N + 1 as a modulus for words of 32 bits.
 #[derive(Debug, Clone, Copy)]
 #[must_use]
 pub struct ProthNumber32<const N: u8, const K: u8> {
-    negated_inverse: u32,
-    square: u32,
+    // Private, so that a value stands for parameters in range; the numbers come from the parameters.
+    made: (),
 }
 
 impl<const N: u8, const K: u8> ProthNumber32<N, K> {
+    const COMPUTED: Computed32<N, K> = {
+        let (negated_inverse, square) = computed_once_32(modulus_32(N, K));
+        Computed32 {
+            negated_inverse,
+            square,
+        }
+    };
+
     // The modulus.
+    #[inline]
     fn value() -> u32 {
         assert!(0 < N && N < 32 && K % 2 == 1 && (K as u32) < 1 << N);
         assert!(((K as u64) << N) < 2654435769);
-        ((K as u32) << N) + 1
+        modulus_32(N, K)
     }
 
     // The product with the modulus, by a product with K and a shift.
@@ -55,11 +78,7 @@ impl<const N: u8, const K: u8> OddModulus<u32> for ProthNumber32<N, K> {
     #[inline]
     fn keep(m: u32) -> Self {
         assert!(m == Self::value());
-        let (negated_inverse, square) = computed_once(m);
-        ProthNumber32 {
-            negated_inverse,
-            square,
-        }
+        ProthNumber32 { made: () }
     }
 
     #[inline]
@@ -69,31 +88,53 @@ impl<const N: u8, const K: u8> OddModulus<u32> for ProthNumber32<N, K> {
 
     #[inline]
     fn square_of_base(&self) -> u32 {
-        self.square
+        Self::COMPUTED.square
     }
 
     #[inline]
     fn reduced(&self, t: u64) -> u32 {
         let m = Self::value();
-        let x = clearing(m, self.negated_inverse, t);
+        let x = clearing(m, Self::COMPUTED.negated_inverse, t);
         reduce_by(m, t, x, self.shift_mul(x))
     }
+}
+
+// The number k * 2^n + 1, for parameters in range.
+#[inline]
+const fn modulus_64(n: u8, k: u8) -> u64 {
+    ((k as u64) << (n % 64)).wrapping_add(1)
+}
+
+// What is computed once of the modulus; a type, since of a constant a proof knows what its type promises.
+#[derive(Clone, Copy)]
+struct Computed64<const N: u8, const K: u8> {
+    negated_inverse: u64,
+    square: u64,
 }
 
 /// The number K * 2^N + 1 as a modulus for words of 64 bits.
 #[derive(Debug, Clone, Copy)]
 #[must_use]
 pub struct ProthNumber64<const N: u8, const K: u8> {
-    negated_inverse: u64,
-    square: u64,
+    // Private, so that a value stands for parameters in range; the numbers come from the parameters.
+    made: (),
 }
 
 impl<const N: u8, const K: u8> ProthNumber64<N, K> {
+    const COMPUTED: Computed64<N, K> = {
+        let (negated_inverse, square) = computed_once_64(modulus_64(N, K));
+        Computed64 {
+            negated_inverse,
+            square,
+        }
+    };
+
     // The modulus.
+    #[inline]
     fn value() -> u64 {
         assert!(0 < N && N < 64 && K % 2 == 1 && (K as u64) < 1 << N);
         assert!(((K as u128) << N) < 11400714819323199485);
-        ((K as u64) << N) + 1
+        modulus_64(N, K)
     }
 
     // The product with the modulus, by a product with K and a shift.
@@ -131,11 +172,7 @@ impl<const N: u8, const K: u8> OddModulus<u64> for ProthNumber64<N, K> {
     #[inline]
     fn keep(m: u64) -> Self {
         assert!(m == Self::value());
-        let (negated_inverse, square) = computed_once(m);
-        ProthNumber64 {
-            negated_inverse,
-            square,
-        }
+        ProthNumber64 { made: () }
     }
 
     #[inline]
@@ -145,13 +182,13 @@ impl<const N: u8, const K: u8> OddModulus<u64> for ProthNumber64<N, K> {
 
     #[inline]
     fn square_of_base(&self) -> u64 {
-        self.square
+        Self::COMPUTED.square
     }
 
     #[inline]
     fn reduced(&self, t: u128) -> u64 {
         let m = Self::value();
-        let x = clearing(m, self.negated_inverse, t);
+        let x = clearing(m, Self::COMPUTED.negated_inverse, t);
         reduce_by(m, t, x, self.shift_mul(x))
     }
 }
