@@ -6,7 +6,7 @@ ghost use Rattle.modular_word.specs.Reduction.{IsNegatedInverse};
 ghost use Rattle.modular_monty.specs.Montgomery.{IsOddRing};
 
 // `neginv` in words of 32 bits, where m is odd.
-const fn negated_inverse_32(m: u32) -> u32
+pub(crate) const fn negated_inverse_32(m: u32) -> u32
     ensures { m % 2 ≡ 1 → IsNegatedInverse (2 ^ 32) m result }
 {
     let mut inverse = m;
@@ -30,7 +30,7 @@ pub(crate) const fn computed_once_32(m: u32) -> (u32, u32)
 }
 
 // `neginv` in words of 64 bits, where m is odd.
-const fn negated_inverse_64(m: u64) -> u64
+pub(crate) const fn negated_inverse_64(m: u64) -> u64
     ensures { m % 2 ≡ 1 → IsNegatedInverse (2 ^ 64) m result }
 {
     let mut inverse = m;

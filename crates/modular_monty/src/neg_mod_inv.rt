@@ -1,4 +1,5 @@
-//! The negated inverse of an odd word modulo the base, a module a width.
+//! The negated inverse of an odd word modulo the base, a module a width. A `const fn` can't call a
+//! trait's functions, so each width writes its own.
 
 pub use modular_word::paths::neginv;
 

@@ -48,7 +48,7 @@ impl<T: PathWord> PreparedInverse for PreModInv<T> {
 
 impl<T: PathWord> PreModInv<T> {
     /// The two numbers, as they are given.
-    pub fn new(d_inv: T, q_lim: T) -> Self
+    pub const fn new(d_inv: T, q_lim: T) -> Self
         ensures inverse { ⟦<PreModInv<T> as PreparedInverse>⟧.inverse result ≡ T.number d_inv }
         ensures limit { ⟦<PreModInv<T> as PreparedInverse>⟧.limit result ≡ T.number q_lim }
     {

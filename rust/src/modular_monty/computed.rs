@@ -3,7 +3,7 @@
 
 // `neginv` in words of 32 bits, where m is odd.
 #[inline]
-const fn negated_inverse_32(m: u32) -> u32 {
+pub(crate) const fn negated_inverse_32(m: u32) -> u32 {
     let mut inverse = m;
     let mut bits = 3u32;
     'lift: while bits < 32 {
@@ -25,7 +25,7 @@ pub(crate) const fn computed_once_32(m: u32) -> (u32, u32) {
 
 // `neginv` in words of 64 bits, where m is odd.
 #[inline]
-const fn negated_inverse_64(m: u64) -> u64 {
+pub(crate) const fn negated_inverse_64(m: u64) -> u64 {
     let mut inverse = m;
     let mut bits = 3u32;
     'lift: while bits < 64 {

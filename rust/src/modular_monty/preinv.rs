@@ -31,7 +31,7 @@ pub struct PreModInv<T: PathWord> {
 impl<T: PathWord> PreModInv<T> {
     /// The two numbers, as they are given.
     #[inline]
-    pub fn new(d_inv: T, q_lim: T) -> Self {
+    pub const fn new(d_inv: T, q_lim: T) -> Self {
         PreModInv { d_inv, q_lim }
     }
 }

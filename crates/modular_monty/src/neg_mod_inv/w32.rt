@@ -2,12 +2,13 @@
 
 ghost use Rattle.std.specs.Prelude.{◌≡◌, ◌-◌, ◌*◌, ◌%◌, ◌^◌};
 
+use crate::computed::negated_inverse_32;
 use modular_word::word::w32::Word;
 
 /// The word x with m * x = -1 modulo 2^32. Condition: m is odd.
-pub fn neginv(m: Word) -> Word
+pub const fn neginv(m: Word) -> Word
     requires { m % 2 ≡ 1 }
     ensures { (m * result) % 2 ^ 32 ≡ 2 ^ 32 - 1 }
 {
-    super::neginv(m)
+    negated_inverse_32(m)
 }
