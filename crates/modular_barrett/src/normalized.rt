@@ -46,7 +46,7 @@ impl<T: PathWord> StoredDivisor for Normalized2by1Divisor<T> {
 
 impl<T: PathWord> Normalized2by1Divisor<T> {
     /// The divisor.
-    pub fn divisor(&self) -> T
+    pub const fn divisor(&self) -> T
         ensures { T.number result ≡ ⟦<Normalized2by1Divisor<T> as StoredDivisor>⟧.divisor self.now }
     {
         self.divisor

@@ -54,7 +54,7 @@ impl<T: PlainWord> PreMulInv2by1<T> {
     }
 
     /// The divider by the scaled modulus.
-    pub fn divider(&self) -> &Normalized2by1Divisor<T>
+    pub const fn divider(&self) -> &Normalized2by1Divisor<T>
         ensures { let m = ⟦<PreMulInv2by1<T> as Reducer<T>>⟧.modulus self.now in
             ⟦<Normalized2by1Divisor<T> as StoredDivisor>⟧.divisor result.now ≡ m * scale T.width m }
     {
@@ -62,14 +62,14 @@ impl<T: PlainWord> PreMulInv2by1<T> {
     }
 
     /// How many leading zeros the modulus has.
-    pub fn shift(&self) -> u32
+    pub const fn shift(&self) -> u32
         ensures { result ≡ count_leading_zeros T.width (⟦<PreMulInv2by1<T> as Reducer<T>>⟧.modulus self.now) }
     {
         self.shift
     }
 
     /// The scaled modulus, which has its top bit set.
-    pub fn divisor(&self) -> T
+    pub const fn divisor(&self) -> T
         ensures scaled { let m = ⟦<PreMulInv2by1<T> as Reducer<T>>⟧.modulus self.now in
             T.number result ≡ m * scale T.width m }
         ensures top { T.base ≤ 2 * T.number result }

@@ -34,7 +34,7 @@ impl<T: PathWord> Copy for Normalized2by1Divisor<T> {}
 impl<T: PathWord> Normalized2by1Divisor<T> {
     /// The divisor.
     #[inline]
-    pub fn divisor(&self) -> T {
+    pub const fn divisor(&self) -> T {
         self.divisor
     }
 

@@ -44,19 +44,19 @@ impl<T: PlainWord> PreMulInv2by1<T> {
 
     /// The divider by the scaled modulus.
     #[inline]
-    pub fn divider(&self) -> &Normalized2by1Divisor<T> {
+    pub const fn divider(&self) -> &Normalized2by1Divisor<T> {
         &self.divider
     }
 
     /// How many leading zeros the modulus has.
     #[inline]
-    pub fn shift(&self) -> u32 {
+    pub const fn shift(&self) -> u32 {
         self.shift
     }
 
     /// The scaled modulus, which has its top bit set.
     #[inline]
-    pub fn divisor(&self) -> T {
+    pub const fn divisor(&self) -> T {
         self.divider.divisor()
     }
 }
