@@ -1,24 +1,24 @@
 -- Division of a double word: the guess is right or off by one on either side, and the corrections meet it.
 use Rattle.std.proofs.Common.{◌≡◌, ℕ, ◌+◌, ◌*◌, ◌%◌, ◌<◌, arith, sym, ap, ◌∙◌}
-use Rattle.std.proofs.Math.Nat.{lt_of_mul-lt-mul_right, mod-eq_of_lt}
+use Rattle.std.proofs.Math.Nat.{lt_of_mul-lt-mul_right}
 use Rattle.modular_word.specs.Congruence.{Congruent}
-use Rattle.modular_word.proofs.Congruence.{of_equal, itself, turned, chained, residue_of, added, multiplied, cancelled}
+use Rattle.modular_word.proofs.Congruence.{of_equal, itself, turned, chained, residue_of, added, multiplied}
 use Rattle.modular_word.proofs.ReciprocalSteps.{Setting, Guess, guess_of, step_down, step_none, step_up}
 use Rattle.modular_word.proofs.paths.div_2by1.Goals as goal
 use Rattle.modular_word.proofs.paths.div_2by1.Goals.{then-is_below, else-is_below, then-not-is_below, else-not-is_below}
 
--- what is left by a quotient that is one less
-more_is : (B d a0 q1 q r more : ℕ) → more < B → q ≡ (q1 + 1) % B → (r + (q * d) % B) % B ≡ a0
-    → (more + (q1 * d) % B) % B ≡ a0 → more ≡ (r + d) % B
-more_is B d a0 q1 q r more fits eq er em =
-    let same : Congruent B (more + (q1 * d) % B) (r + (q * d) % B) = record { same = em ∙ sym er } in
+-- what is left by a quotient that is one more
+less_is : (B d a0 q1 q r more : ℕ) → q ≡ (q1 + 1) % B → more ≡ (r + d) % B → (more + (q1 * d) % B) % B ≡ a0
+    → (r + (q * d) % B) % B ≡ a0
+less_is B d a0 q1 q r more eq er em =
     let next : Congruent B (q * d) ((q1 + 1) * d) =
     multiplied (chained (of_equal eq) (residue_of (q1 + 1))) (itself d) in
-    let whole : Congruent B (more + q1 * d) (r + (q1 + 1) * d) =
-    chained (added (itself more) (turned (residue_of (q1 * d))))
-    (chained same (added (itself r) (chained (residue_of (q * d)) next))) in
+    let sum : Congruent B (r + d) more = turned (chained (of_equal er) (residue_of (r + d))) in
     let e : r + (q1 + 1) * d ≡ r + d + q1 * d = omega arith in
-    sym (mod-eq_of_lt fits) ∙ (cancelled (q1 * d) (chained whole (of_equal e))).same
+    let whole : Congruent B (r + (q * d) % B) (more + (q1 * d) % B) =
+    chained (added (itself r) (chained (residue_of (q * d)) next))
+    (chained (of_equal e) (added sum (turned (residue_of (q1 * d))))) in
+    whole.same ∙ em
 
 pub returns : goal.returns
 returns g c =
@@ -31,7 +31,8 @@ returns g c =
     let q0 = n c.split-q0.result.0 in
     let q1 = n c.split-q0.result.1 in
     let q = n c.wrapping_add-q.result in
-    let r = n c.wrapping_sub-r.result in
+    let r = n c.wrapping_sub-less.result in
+    let more = n c.wrapping_sub-more.result in
     let ea : W c.args.a ≡ a0 + B * a1 = c.split-low.ensures.value in
     let high : a1 < d = lt_of_mul-lt-mul_right B (let h : a1 * B < d * B = omega (arith, c.requires.high) in h) in
     let s : Setting B d (n c.args.reciprocal) a0 a1 q0 q1 = record {
@@ -51,23 +52,20 @@ returns g c =
           );
     } in
     let eq : q ≡ (q1 + 1) % B = c.wrapping_add-q.ensures.value ∙ ap (λ x. (q1 + x) % B) c.one.ensures in
-    let er : (r + (q * d) % B) % B ≡ a0 =
-    ap (λ x. (r + x) % B) (sym c.wrapping_mul.ensures.value) ∙ c.wrapping_sub-r.ensures.value in
+    let em : (more + (q1 * d) % B) % B ≡ a0 =
+    ap (λ x. (more + x) % B) (sym c.wrapping_mul.ensures.value) ∙ c.wrapping_sub-more.ensures.value in
+    let sum : more ≡ (r + d) % B = sym c.wrapping_sub-less.ensures.value in
+    let er : (r + (q * d) % B) % B ≡ a0 = less_is B d a0 q1 q r more eq sum em in
     let guess : Guess B d (a0 + B * a1) q0 q1 r =
-    guess_of B d _ a0 a1 q0 q1 q r s c.wrapping_sub-r.ensures.fits eq er in
-    let em : (n c.wrapping_sub-more.result + (q1 * d) % B) % B ≡ a0 =
-    ap (λ x. (n c.wrapping_sub-more.result + x) % B) (sym c.wrapping_mul-2.ensures.value)
-    ∙ c.wrapping_sub-more.ensures.value in
-    let sum : n c.wrapping_sub-more.result ≡ (r + d) % B =
-    more_is B d a0 q1 q r (n c.wrapping_sub-more.result) c.wrapping_sub-more.ensures.fits eq er em in
+    guess_of B d _ a0 a1 q0 q1 q r s c.wrapping_sub-less.ensures.fits eq er in
     -- the dividend after the first correction
     let corrected : W c.args.a ≡ n c.if-is_below.q * d + n c.if-is_below.r =
     elim c.if-is_below.branch [
       | then-is_below w ↦
-          let r' = n c.wrapping_sub-more.result in
+          let r' = more in
           let down : a0 + B * a1 ≡ q1 * d + r' =
           step_down B d (a0 + B * a1) q0 q1 q r q1 r' c.is_below-2.ensures.other_fits
-          c.split-q0.ensures.high_fits c.wrapping_sub-r.ensures.fits c.split-q0.ensures.high_fits guess eq
+          c.split-q0.ensures.high_fits c.wrapping_sub-less.ensures.fits c.split-q0.ensures.high_fits guess eq
           (sym eq) sum (grind arith) in
           rw (w.q-is, w.r-is) (ea ∙ down)
       | else-is_below w ↦
@@ -79,12 +77,12 @@ returns g c =
     elim c.if-not-is_below.branch [
       | then-not-is_below w ↦
           let up = step_up B d (W c.args.a) (n c.if-is_below.q) (n c.if-is_below.r)
-          (n w.wrapping_add-q-then-not-is_below.result) (n w.wrapping_sub-r-then-not-is_below.result)
+          (n w.wrapping_add-q-then-not-is_below.result) (n w.wrapping_sub-r.result)
           c.is_below-2.ensures.other_fits c.requires.high c.is_below-2.ensures.fits
-          w.wrapping_sub-r-then-not-is_below.ensures.fits (grind arith) corrected
+          w.wrapping_sub-r.ensures.fits (grind arith) corrected
           (w.wrapping_add-q-then-not-is_below.ensures.value
           ∙ ap (λ x. (n c.if-is_below.q + x) % B) w.one-then-not-is_below.ensures)
-          w.wrapping_sub-r-then-not-is_below.ensures.value in
+          w.wrapping_sub-r.ensures.value in
           rw (w.q-is, w.r-is)
           (record {
             whole = up.0;
