@@ -3,7 +3,7 @@
 ghost use Rattle.std.specs.Prelude.{◌≡◌, ℕ, ◌+◌, ◌*◌, ◌%◌, ◌<◌, ◌≤◌, pos, ◌-ℤ◌, neg_ℤ, IsTrue};
 ghost use Rattle.modular_word.specs.Residues.{residue};
 
-use crate::below::{add_below, dbl_below, neg_below};
+use crate::below::{add_below, dbl_below, neg_below, sub_below};
 use crate::plain_word::PlainWord;
 use modular_word::path_word::PathWord;
 use modular_word::ring_word::RingWord;
@@ -23,11 +23,17 @@ pub fn reduced<T: PlainWord>(a: T, m: T) -> T
     ensures value { T.number result ≡ T.number a % T.number m }
     ensures below { T.number result < T.number m }
 {
-    if spares_division(a, m) {
-        a
-    } else {
-        a.remainder(m)
-    }
+    reduced_unless(spares_division(a, m), a, m)
+}
+
+// The residue of a word that may be known to be its own.
+fn reduced_unless<T: PlainWord>(is_residue: bool, a: T, m: T) -> T
+    requires some { 1 ≤ T.number m }
+    requires known { IsTrue is_residue → T.number a < T.number m }
+    ensures value { T.number result ≡ T.number a % T.number m }
+    ensures below { T.number result < T.number m }
+{
+    if is_residue { a } else { a.remainder(m) }
 }
 
 // The whole sum.
@@ -69,12 +75,23 @@ pub fn addm<T: PlainWord>(a: T, b: T, m: T) -> T
 /// The residue of a - b. Condition: m is at least 1. There is no division where words have more than 16 bits and
 /// both are below m.
 ///
-/// Which of the two is the greater is often no better than a guess, so one remainder serves both cases.
+/// Which of the two is the greater is often no better than a guess, so one remainder serves both cases. Two tests of
+/// the operands are sooner done than one of their distance, which spares more divisions; those of more than 32 bits
+/// take the longest.
 pub fn subm<T: PlainWord>(a: T, b: T, m: T) -> T
     requires { 1 ≤ T.number m }
     ensures { T.number result ≡ residue (T.number m) (pos (T.number a) -ℤ pos (T.number b)) }
 {
-    let rest = reduced(distance(a, b), m);
+    if T::bits() <= 16 {
+        return sub_below(a.remainder(m), b.remainder(m), m);
+    }
+    let apart = distance(a, b);
+    let is_residue = if T::bits() > 32 {
+        apart.is_below(m)
+    } else {
+        a.is_below(m) & b.is_below(m)
+    };
+    let rest = reduced_unless(is_residue, apart, m);
     if a.is_below(b) {
         neg_below(rest, m)
     } else {
