@@ -1,8 +1,8 @@
 -- The reciprocal of a divisor with its top bit set.
-use Rattle.std.proofs.Common.{◌≡◌, ℕ, ◌+◌, ◌-◌, ◌*◌, ◌/◌, ◌%◌, ◌<◌, ◌≤◌, ap, arith, ⊎_elim}
-use Rattle.std.proofs.Math.Nat.{mod-lt, div-add-mod, mul-le-mul_left}
+use Rattle.std.proofs.Common.{◌≡◌, ℕ, ◌+◌, ◌-◌, ◌*◌, ◌/◌, ◌%◌, ◌<◌, ◌≤◌, ap, sym, ◌∙◌, arith, ⊎_elim}
+use Rattle.std.proofs.Math.Nat.{mod-lt, mod-eq_of_lt, div-add-mod, mul-le-mul_left, add-mod_right, add-mul-div_left}
 use Rattle.std.proofs.lemmas.Bool.{cases_lt}
-use Rattle.modular_word.proofs.Congruence.{same_rest}
+use Rattle.modular_word.proofs.Congruence.{same_rest, mod_cancel}
 use Rattle.modular_word.specs.Reciprocals.{IsReciprocal}
 
 -- the low word of the quotient is the quotient less the base
@@ -36,3 +36,22 @@ reciprocal_of B d v a hd hn ea ev =
     let l : a % d < d = mod-lt a (omega arith) in
     let e : d * (v + B) ≡ d * (a / d) = ap (λ n. d * n) (reciprocal_is B d v a hd hn ea ev) in
     record { normalized = hn; below = omega arith; close = omega arith }
+
+-- the greatest double word, by its two words
+pub greatest_is : (B x : ℕ) → x + 1 ≡ B → x + B * x + 1 ≡ B * B
+greatest_is B x top =
+    let square : B * (x + 1) ≡ B * B = ap (λ n. B * n) top in
+    omega arith
+
+-- less the divisor times the base it has the same low word of the quotient
+pub reciprocal_of_less : (B d v x h : ℕ) → d < B → B ≤ 2 * d → x + 1 ≡ B → h < B → (h + d) % B ≡ x
+    → v ≡ ((x + B * h) / d) % B → IsReciprocal B d v
+reciprocal_of_less B d v x h hd hn top hh eh ev =
+    let whole : (x - d + d) % B ≡ x = ap (λ n. n % B) (let s : x - d + d ≡ x = omega arith in s) ∙ mod-eq_of_lt (omega arith) in
+    let less : h ≡ x - d = mod_cancel B h (x - d) d hh (omega arith) (eh ∙ sym whole) in
+    let scaled : B * (h + d) ≡ B * x = ap (λ n. B * n) (let s : h + d ≡ x = omega arith in s) in
+    let greatest : x + B * h + d * B + 1 ≡ B * B = omega (arith, greatest_is B x top) in
+    let same : v ≡ ((x + B * h + d * B) / d) % B =
+    ev ∙ sym (add-mod_right ((x + B * h) / d) B)
+    ∙ ap (λ n. n % B) (sym (add-mul-div_left (x + B * h) B (let s : 0 < d = omega arith in s))) in
+    reciprocal_of B d v (x + B * h + d * B) hd hn greatest same

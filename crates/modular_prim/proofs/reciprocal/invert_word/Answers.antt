@@ -1,15 +1,24 @@
-use Rattle.std.proofs.Common.{◌≡◌, ◌+◌, ◌*◌, ◌^◌, arith, sym, ap, ◌∙◌}
-use Rattle.modular_prim.proofs.ReciprocalOf.{reciprocal_of}
+use Rattle.std.proofs.Common.{◌≡◌, ◌+◌, ◌*◌, ◌/◌, ◌%◌, ◌^◌, sym, ap, ◌∙◌}
+use Rattle.modular_prim.proofs.ReciprocalOf.{greatest_is, reciprocal_of, reciprocal_of_less}
 use Rattle.modular_prim.proofs.reciprocal.invert_word.Goals as goal
+use Rattle.modular_prim.proofs.reciprocal.invert_word.Goals.{then-bits-lt64, else-bits-lt64}
 
 pub returns : goal.returns
 returns g c =
     let n = g.T.RingWord.number in
     let B = g.T.PathWord.base in
     let x = n c.ones-greatest.result in
+    let d = n c.args.d in
+    let v = n c.low_quotient.result in
     let top : x + 1 ≡ B = c.ones-greatest.ensures ∙ ap (λ k. 2 ^ k) c.bits.ensures ∙ sym g.met.T.PathWord.base_is in
-    let square : (x + 1) * (x + 1) ≡ B * B = ap (λ v. v * v) top in
-    let shifted : B * x ≡ (x + 1) * x = ap (λ v. v * x) (sym top) in
-    let e : g.T.PathWord.double_number c.merge.result + 1 ≡ B * B = omega (arith, c.merge.ensures.value) in
-    reciprocal_of B (n c.args.d) (n c.low_quotient.result) (g.T.PathWord.double_number c.merge.result)
-    c.low_quotient.ensures.fits c.requires e c.low_quotient.ensures.value
+    let divided : (h : _) → n c.if-bits-lt64.high ≡ h → v ≡ ((x + B * h) / d) % B =
+    λ h e.
+    c.low_quotient.ensures.value ∙ ap (λ a. (a / d) % B) (c.merge.ensures.value ∙ ap (λ y. x + B * y) e) in
+    elim c.if-bits-lt64.branch [
+      | then-bits-lt64 w ↦
+          reciprocal_of B d v (x + B * x) c.low_quotient.ensures.fits c.requires (greatest_is B x top)
+          (divided x (ap n w.high-is))
+      | else-bits-lt64 w ↦
+          reciprocal_of_less B d v x (n w.wrapping_sub-high.result) c.low_quotient.ensures.fits c.requires top
+          w.wrapping_sub-high.ensures.fits w.wrapping_sub-high.ensures.value (divided _ (ap n w.high-is))
+    ]
