@@ -1,6 +1,7 @@
 -- How far folds in a row take a number that is no more than a product of two numbers below 2^p.
 use Rattle.std.proofs.Common.{◌≡◌, ℕ, zero, suc, ◌+◌, ◌*◌, ◌/◌, ◌%◌, ◌^◌, ◌<◌, ◌≤◌, ap, arith, lit<}
 use Rattle.std.proofs.Math.Nat.{mul-le-mul_right, div-lt_iff_lt-mul, lt-div-mul-add, mod-lt, pow-le-pow_right}
+use Rattle.std.proofs.Math.Nat.{pow-suc}
 use Rattle.std.proofs.lemmas.Nat.{shr_split, pow_pos, pow-add, mul-le}
 use Rattle.modular_fold_paths.specs.Folds.{fold_of}
 
@@ -55,3 +56,7 @@ small_square p c less =
 -- a number that has no part above the bit p is below 2^p
 pub low_only : (p v : ℕ) → v / 2 ^ p ≡ 0 → v < 2 ^ p
 low_only p v none = omega (arith, lt-div-mul-add {a = v} (pow_pos p), ap (λ h. h * 2 ^ p) none)
+
+-- twice 2^p is among the numbers up to 2^w where p is below w
+pub doubled_fits : (w p : ℕ) → p < w → 2 * 2 ^ p ≤ 2 ^ w
+doubled_fits w p inside = omega (arith, pow-suc 2 p, pow-le-pow_right {n = 2} (lit< tt) inside)

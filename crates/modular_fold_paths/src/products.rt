@@ -24,6 +24,30 @@ fn fold_parts<T: PathWord>(low: T, high: T, p: u32, c: T) -> (T, T)
     T::split(T::double_plus(scaled, T::merge(low, T::zero())))
 }
 
+// The residue of a word below 2m.
+fn once_less<T: PathWord>(v: T, m: T) -> T
+    requires { T.number v < 2 * T.number m }
+    ensures { T.number result ≡ T.number v % T.number m }
+{
+    if v.is_below(m) { v } else { v.minus(m) }
+}
+
+// The residue of a + b, where m is at most 2^p. Condition: b is at most m, and the sum below 2m.
+//
+// Where p leaves a bit of the word free the sum fits it, and one subtraction less is computed.
+fn sum_of_parts<T: PathWord>(a: T, b: T, p: u32, m: T) -> T
+    requires bound { T.number m ≤ 2 ^ p }
+    requires most { T.number b ≤ T.number m }
+    requires twice { T.number a + T.number b < 2 * T.number m }
+    ensures { T.number result ≡ (T.number a + T.number b) % T.number m }
+{
+    if p < T::bits() {
+        once_less(a.plus(b), m)
+    } else {
+        sum_once(a, b, m)
+    }
+}
+
 // a·b modulo m, where m is 2^p - c. Condition: a and b are below m, and c has at most half the bits
 // of p.
 //
@@ -38,10 +62,10 @@ fn product_by_folds<T: PathWord>(a: T, b: T, p: u32, c: T, m: T) -> T
 {
     let (low, high) = fold_parts(T::zero(), a, p, b);
     if c == T::one() {
-        return sum_once(high, low.shift_right(T::bits() - p), m);
+        return sum_of_parts(high, low.shift_right(T::bits() - p), p, m);
     }
     let (rest, over) = fold_parts(low, high, p, c);
-    sum_once(rest.shift_right(T::bits() - p), over.times(c), m)
+    sum_of_parts(rest.shift_right(T::bits() - p), over.times(c), p, m)
 }
 
 /// a·b modulo m, where m is 2^p - c and more than half of 2^p. Condition: a and b are below m.

@@ -18,14 +18,14 @@ by_one g c one =
     sum_by_one _ _ _ _ c.requires.folding one c.requires.left c.requires.right c.zero.ensures
     c.fold_parts-low.ensures.low c.fold_parts-low.ensures.high c.bits.ensures c.shift_right.ensures.value
 
-pub sum_once-requires : goal.sum_once-requires
-sum_once-requires g c =
-    let last = by_one g (goal.at.sum_once-requires g c).After-shift_right (search rules) in
-    record { most = last.most; twice = last.twice }
+pub sum_of_parts-requires : goal.sum_of_parts-requires
+sum_of_parts-requires g c =
+    let last = by_one g (goal.at.sum_of_parts-requires g c).After-shift_right (search rules) in
+    record { bound = omega (arith, c.requires.folding.whole); most = last.most; twice = last.twice }
 
 pub returns-then-eq : goal.returns-then-eq
 returns-then-eq g c =
-    rw c.sum_once.ensures (by_one g (goal.at.returns-then-eq g c).After-shift_right (search rules)).same
+    rw c.sum_of_parts.ensures (by_one g (goal.at.returns-then-eq g c).After-shift_right (search rules)).same
 
 pub fold_parts-rest-requires : goal.fold_parts-rest-requires
 fold_parts-rest-requires g c =
@@ -64,12 +64,12 @@ times-requires g c =
       g.met.T.PathWord.base_is,
     )
 
-pub sum_once-requires-2 : goal.sum_once-requires-2
-sum_once-requires-2 g c =
-    let last = by_small g (goal.at.sum_once-requires-2 g c).After-shift_right-2 in
-    rw c.times.ensures (record { most = last.most; twice = last.twice })
+pub sum_of_parts-requires-2 : goal.sum_of_parts-requires-2
+sum_of_parts-requires-2 g c =
+    let last = by_small g (goal.at.sum_of_parts-requires-2 g c).After-shift_right-2 in
+    rw c.times.ensures (record { bound = omega (arith, c.requires.folding.whole); most = last.most; twice = last.twice })
 
 pub returns : goal.returns
 returns g c =
     let last = by_small g (goal.at.returns g c).After-shift_right-2 in
-    rw (c.sum_once-2.ensures, c.times.ensures) last.same
+    rw (c.sum_of_parts-2.ensures, c.times.ensures) last.same
