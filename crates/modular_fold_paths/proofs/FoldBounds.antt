@@ -1,5 +1,5 @@
 -- How far folds in a row take a number that is no more than a product of two numbers below 2^p.
-use Rattle.std.proofs.Common.{◌≡◌, ℕ, zero, suc, ◌+◌, ◌*◌, ◌/◌, ◌%◌, ◌^◌, ◌<◌, ◌≤◌, ap, arith, lit<}
+use Rattle.std.proofs.Common.{◌≡◌, ℕ, zero, suc, ◌+◌, ◌-◌, ◌*◌, ◌/◌, ◌%◌, ◌^◌, ◌<◌, ◌≤◌, ◌∙◌, ap, arith, lit<}
 use Rattle.std.proofs.Math.Nat.{mul-le-mul_right, div-lt_iff_lt-mul, lt-div-mul-add, mod-lt, pow-le-pow_right}
 use Rattle.std.proofs.Math.Nat.{pow-suc}
 use Rattle.std.proofs.lemmas.Nat.{shr_split, pow_pos, pow-add, mul-le}
@@ -60,3 +60,21 @@ low_only p v none = omega (arith, lt-div-mul-add {a = v} (pow_pos p), ap (λ h. 
 -- twice 2^p is among the numbers up to 2^w where p is below w
 pub doubled_fits : (w p : ℕ) → p < w → 2 * 2 ^ p ≤ 2 ^ w
 doubled_fits w p inside = omega (arith, pow-suc 2 p, pow-le-pow_right {n = 2} (lit< tt) inside)
+
+-- a word's part above the bit p by a factor that leaves less than half of 2^p: a fold is below 2m
+pub fold_of_word : (w p c m v : ℕ) → m + c ≡ 2 ^ p → p < w → w - p < p → c < 2 ^ (p - 1 - (w - p)) → v < 2 ^ w
+    → fold_of p c v < 2 * m
+fold_of_word w p c m v whole inside near small fits =
+    let a = w - p in
+    let e = p - 1 - a in
+    let word : 2 ^ w ≡ 2 ^ a * 2 ^ p =
+    ap (λ n. 2 ^ n) (let s : w ≡ a + p = omega arith in s) ∙ pow-add 2 a p in
+    let high : v / 2 ^ p < 2 ^ a = (div-lt_iff_lt-mul {x = v} {y = 2 ^ a} (pow_pos p)).1 (omega (arith, word)) in
+    let most : v / 2 ^ p * c ≤ 2 ^ a * 2 ^ e = mul-le (v / 2 ^ p) c (2 ^ a) (2 ^ e) (omega arith) (omega arith) in
+    let two : 2 ^ 1 ≤ 2 ^ a = pow-le-pow_right {n = 2} (lit< tt) (let s : 1 ≤ a = omega arith in s) in
+    let double : 2 * 2 ^ e ≤ 2 ^ a * 2 ^ e = mul-le-mul_right (2 ^ e) two in
+    let half : 2 ^ (p - 1) ≡ 2 ^ a * 2 ^ e =
+    ap (λ n. 2 ^ n) (let s : p - 1 ≡ a + e = omega arith in s) ∙ pow-add 2 a e in
+    let power : 2 ^ p ≡ 2 * 2 ^ (p - 1) =
+    ap (λ n. 2 ^ n) (let s : p ≡ suc (p - 1) = omega arith in s) ∙ pow-suc 2 (p - 1) ∙ omega arith in
+    omega (arith, whole, most, double, half, power, mod-lt v (pow_pos p))

@@ -1,5 +1,5 @@
-//! Products of words below m, where m is near a power of two: by folds of their parts, with no test of
-//! a number.
+//! Words, and products of words below m, modulo m, where m is near a power of two: by folds of their
+//! parts, with no test of a number.
 
 ghost use Rattle.std.specs.Prelude.{◌≡◌, ℕ, ◌+◌, ◌-◌, ◌*◌, ◌/◌, ◌%◌, ◌^◌, ◌<◌, ◌≤◌};
 ghost use Rattle.modular_fold_paths.specs.Folds.{IsFolding};
@@ -84,4 +84,29 @@ pub fn reduce_product<T: FoldedWord>(a: T, b: T, p: u32, c: T, m: T) -> T
     } else {
         reduce_by_folds(a.product(b), p, c, m).0
     }
+}
+
+/// v modulo m, where m is 2^p - c and more than half of 2^p.
+///
+/// A word of p bits is below 2m, and so is what one fold leaves where the bits of c and the word's bits
+/// above p are fewer than p together. There no double word is folded and no number is tested: c and p
+/// alone choose.
+///
+/// Source: Handbook of Applied Cryptography, algorithm 14.47.
+pub fn reduce_word<T: FoldedWord>(v: T, p: u32, c: T, m: T) -> T
+    requires { IsFolding T.width p (T.number c) (T.number m) }
+    ensures { T.number result ≡ T.number v % T.number m }
+{
+    // a word that was read is known to fit
+    let _ = v.is_zero_word();
+    let above = T::bits() - p;
+    if above == 0 {
+        return once_less(v, m);
+    }
+    if above < p && c.shift_right(p - 1 - above).is_zero_word() {
+        let high = v.shift_right(p);
+        let folded = high.times(c).plus(v.low_bits(p));
+        return once_less(folded, m);
+    }
+    reduce_by_folds(T::merge(v, T::zero()), p, c, m).0
 }

@@ -9,7 +9,7 @@ ghost use Rattle.std.proofs.Common.{lit≤, refl};
 
 use crate::rings::{FoldModulus, FoldRing};
 use modular_fold_paths::folds::reduce_by_folds;
-use modular_fold_paths::products::reduce_product;
+use modular_fold_paths::products::{reduce_product, reduce_word};
 use modular_reduced::reducer::Reducer;
 
 /// The modulus 2^P - K of at most 32 bits.
@@ -43,7 +43,7 @@ impl<const P: u8, const K: u32> FoldRing<u32, Mersenne32<P, K>> {
         requires { IsMersenneRange 32 P K }
         ensures { result ≡ v % mersenne P K }
     {
-        Self::reduce_counted(v as u64).0
+        reduce_word(v, P as u32, K, Self::fixed_modulus())
     }
 
     /// The residue of a double word. Condition: the parameters are in range.
@@ -124,7 +124,7 @@ impl<const P: u8, const K: u64> FoldRing<u64, Mersenne64<P, K>> {
         requires { IsMersenneRange 64 P K }
         ensures { result ≡ v % mersenne P K }
     {
-        Self::reduce_counted(v as u128).0
+        reduce_word(v, P as u32, K, Self::fixed_modulus())
     }
 
     /// The residue of a double word. Condition: the parameters are in range.

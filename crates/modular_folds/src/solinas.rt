@@ -10,7 +10,7 @@ ghost use Rattle.modular_folds.specs.SolinasLaws.{trinomial_canonical};
 
 use crate::rings::{FoldModulus, FoldRing};
 use modular_fold_paths::folds::{FoldedWord, reduce_by_folds};
-use modular_fold_paths::products::reduce_product;
+use modular_fold_paths::products::{reduce_product, reduce_word};
 use modular_prim::plain_word::PlainWord;
 use modular_word::path_word::PathWord;
 use modular_word::ring_word::RingWord;
@@ -207,7 +207,11 @@ impl<T: TrinomialWord, F: Trinomial> FoldRing<T, TrinomialModulus<T, F>> {
         requires { IsTrinomialRange T.width F.p1 F.p2 F.k }
         ensures { T.number result ≡ T.number v % trinomial F.p1 F.p2 F.k }
     {
-        Self::reduce_counted(T::merge(v, T::zero())).0
+        if is_low(F::p1(), F::p2(), F::k()) {
+            Self::remainder(T::merge(v, T::zero()))
+        } else {
+            reduce_word(v, F::p1() as u32, Self::factor(), Self::fixed_modulus())
+        }
     }
 
     /// The residue of a double word. Condition: the parameters are in range.
