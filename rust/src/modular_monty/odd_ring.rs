@@ -91,13 +91,15 @@ impl<T: PlainWord, M: OddModulus<T>> Reducer<T> for OddRing<T, M> {
         OddRing::over(M::keep(*m))
     }
 
-    // A product and a reduction in place of the division of a double word.
+    // n times the base, divided, where machines divide double words fast; above, a product and a reduction
+    // take less than that division.
     #[inline]
     fn transform(&self, n: T) -> T {
-        if n.is_zero_word() {
-            return n;
+        if T::bits() <= 16 {
+            T::narrow_remainder(T::merge(T::zero(), n), self.kept.modulus())
+        } else {
+            self.kept.reduced(n.product(self.kept.square_of_base()))
         }
-        self.kept.reduced(n.product(self.kept.square_of_base()))
     }
 
     #[inline]
