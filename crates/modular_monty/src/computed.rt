@@ -1,21 +1,23 @@
 //! What is computed once of an odd modulus, by functions that the compiler calls where it knows the
-//! modulus. They take each number, since a constant has to have a value for each parameter.
+//! modulus. They take each modulus, since a constant has to have a value for each parameter.
 
-ghost use Rattle.std.specs.Prelude.{◌≡◌, ℕ, ◌%◌, ◌^◌};
+ghost use Rattle.std.specs.Prelude.{◌≡◌, ℕ, ◌%◌, ◌^◌, ◌≤◌};
 ghost use Rattle.modular_word.specs.Reduction.{IsNegatedInverse};
 ghost use Rattle.modular_monty.specs.Montgomery.{IsOddRing};
 
-// `neginv` in words of 32 bits, where m is odd.
-pub(crate) const fn negated_inverse_32(m: u32) -> u32
-    ensures { m % 2 ≡ 1 → IsNegatedInverse (2 ^ 32) m result }
+// `neginv` in words of the width, in a word of 64 bits whose higher bits say nothing, where m is odd.
+const fn negated_inverse(m: u64, width: u32) -> u64
+    requires from { 8 ≤ width }
+    requires to { width ≤ 64 }
+    ensures { m % 2 ≡ 1 → IsNegatedInverse (2 ^ width) m result }
 {
     let mut inverse = m;
     let mut bits = 3u32;
-    'lift: while bits < 32 {
-        inverse = inverse.wrapping_mul(2u32.wrapping_sub(m.wrapping_mul(inverse)));
+    'lift: while bits < width {
+        inverse = inverse.wrapping_mul(2u64.wrapping_sub(m.wrapping_mul(inverse)));
         bits += bits;
     }
-    0u32.wrapping_sub(inverse)
+    0u64.wrapping_sub(inverse)
 }
 
 // `computed_once` in words of 32 bits, where m is odd.
@@ -26,20 +28,7 @@ pub(crate) const fn computed_once_32(m: u32) -> (u32, u32)
         return (0, 0);
     }
     let square = (0u64.wrapping_sub(m as u64) % m as u64) as u32;
-    (negated_inverse_32(m), square)
-}
-
-// `neginv` in words of 64 bits, where m is odd.
-pub(crate) const fn negated_inverse_64(m: u64) -> u64
-    ensures { m % 2 ≡ 1 → IsNegatedInverse (2 ^ 64) m result }
-{
-    let mut inverse = m;
-    let mut bits = 3u32;
-    'lift: while bits < 64 {
-        inverse = inverse.wrapping_mul(2u64.wrapping_sub(m.wrapping_mul(inverse)));
-        bits += bits;
-    }
-    0u64.wrapping_sub(inverse)
+    ((negated_inverse(m as u64, 32) & 0xffff_ffff) as u32, square)
 }
 
 // `computed_once` in words of 64 bits, where m is odd.
@@ -50,5 +39,5 @@ pub(crate) const fn computed_once_64(m: u64) -> (u64, u64)
         return (0, 0);
     }
     let square = (0u128.wrapping_sub(m as u128) % m as u128) as u64;
-    (negated_inverse_64(m), square)
+    (negated_inverse(m, 64), square)
 }

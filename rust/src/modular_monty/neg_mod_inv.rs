@@ -1,5 +1,4 @@
-//! The negated inverse of an odd word modulo the base, a module a width. A `const fn` can't call a
-//! trait's functions, so each width writes its own.
+//! The negated inverse of an odd word modulo the base, a module a width.
 
 pub use crate::modular_word::paths::neginv;
 

@@ -5,15 +5,9 @@ ghost use Rattle.std.specs.Prelude.{◌≡◌, ◌-◌, ◌*◌, ◌%◌, ◌^�
 use modular_word::word::w16::Word;
 
 /// The word x with m * x = -1 modulo 2^16. Condition: m is odd.
-pub const fn neginv(m: Word) -> Word
+pub fn neginv(m: Word) -> Word
     requires { m % 2 ≡ 1 }
     ensures { (m * result) % 2 ^ 16 ≡ 2 ^ 16 - 1 }
 {
-    let mut inverse = m;
-    let mut bits = 3u32;
-    'lift: while bits < 16 {
-        inverse = inverse.wrapping_mul(2u16.wrapping_sub(m.wrapping_mul(inverse)));
-        bits += bits;
-    }
-    0u16.wrapping_sub(inverse)
+    super::neginv(m)
 }

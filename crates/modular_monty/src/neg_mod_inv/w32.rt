@@ -2,13 +2,12 @@
 
 ghost use Rattle.std.specs.Prelude.{◌≡◌, ◌-◌, ◌*◌, ◌%◌, ◌^◌};
 
-use crate::computed::negated_inverse_32;
 use modular_word::word::w32::Word;
 
 /// The word x with m * x = -1 modulo 2^32. Condition: m is odd.
-pub const fn neginv(m: Word) -> Word
+pub fn neginv(m: Word) -> Word
     requires { m % 2 ≡ 1 }
     ensures { (m * result) % 2 ^ 32 ≡ 2 ^ 32 - 1 }
 {
-    negated_inverse_32(m)
+    super::neginv(m)
 }

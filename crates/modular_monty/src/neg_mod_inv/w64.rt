@@ -2,13 +2,12 @@
 
 ghost use Rattle.std.specs.Prelude.{◌≡◌, ◌-◌, ◌*◌, ◌%◌, ◌^◌};
 
-use crate::computed::negated_inverse_64;
 use modular_word::word::w64::Word;
 
 /// The word x with m * x = -1 modulo 2^64. Condition: m is odd.
-pub const fn neginv(m: Word) -> Word
+pub fn neginv(m: Word) -> Word
     requires { m % 2 ≡ 1 }
     ensures { (m * result) % 2 ^ 64 ≡ 2 ^ 64 - 1 }
 {
-    negated_inverse_64(m)
+    super::neginv(m)
 }

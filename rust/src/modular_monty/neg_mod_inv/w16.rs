@@ -4,12 +4,6 @@ use crate::modular_word::word::w16::Word;
 
 /// The word x with m * x = -1 modulo 2^16. Condition: m is odd.
 #[inline]
-pub const fn neginv(m: Word) -> Word {
-    let mut inverse = m;
-    let mut bits = 3u32;
-    'lift: while bits < 16 {
-        inverse = inverse.wrapping_mul(2u16.wrapping_sub(m.wrapping_mul(inverse)));
-        bits += bits;
-    }
-    0u16.wrapping_sub(inverse)
+pub fn neginv(m: Word) -> Word {
+    super::neginv(m)
 }

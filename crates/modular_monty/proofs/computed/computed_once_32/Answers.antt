@@ -1,12 +1,20 @@
-use Rattle.std.proofs.Common.{◌^◌, arith, refl}
+use Rattle.std.proofs.Common.{◌*◌, ◌%◌, ◌^◌, ap, ◌∙◌, arith, refl}
+use Rattle.std.proofs.lemmas.Nat.{and_mask, mul-mod_second}
 use Rattle.modular_monty.proofs.KnownModuli.{wrapped_square}
 use Rattle.modular_monty.proofs.computed.computed_once_32.Goals as goal
 
 pub returns : goal.returns
-returns c = λ odd. record {
-  base = refl;
-  odd = odd;
-  fits = c.ranges.m.fits;
-  inverse = c.negated_inverse_32.ensures odd;
-  is_square = wrapped_square (2 ^ 64) c.args.m (omega (arith, odd)) (omega (arith, c.ranges.m.fits));
-}
+returns c = λ odd.
+    let m = c.args.m in
+    let known = c.negated_inverse.result in
+    record {
+      base = refl;
+      odd = odd;
+      fits = c.ranges.m.fits;
+      inverse = record {
+        product =
+            ap (λ n. (m * n) % 2 ^ 32) (and_mask known 32) ∙ mul-mod_second m known (2 ^ 32)
+            ∙ (c.negated_inverse.ensures odd).product;
+      };
+      is_square = wrapped_square (2 ^ 64) m (omega (arith, odd)) (omega (arith, c.ranges.m.fits));
+    }

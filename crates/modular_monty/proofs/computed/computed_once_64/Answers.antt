@@ -7,6 +7,6 @@ returns c = λ odd. record {
   base = refl;
   odd = odd;
   fits = c.ranges.m.fits;
-  inverse = c.negated_inverse_64.ensures odd;
+  inverse = c.negated_inverse.ensures odd;
   is_square = wrapped_square (2 ^ 128) c.args.m (omega (arith, odd)) (omega (arith, c.ranges.m.fits));
 }

@@ -1,6 +1,6 @@
 use Rattle.std.proofs.Common.{◌≡◌, ◌%◌, ◌-◌, ◌≤◌}
 use Rattle.modular_word.proofs.Lifting.{InverseTo}
-use Rattle.modular_monty.proofs.computed.negated_inverse_64.Given as goal
+use Rattle.modular_monty.proofs.computed.negated_inverse.Given as goal
 
 abbrev pub invariant-lift : goal.invariant-lift
 invariant-lift l = record {
@@ -9,4 +9,4 @@ invariant-lift l = record {
 }
 
 abbrev pub decreases-lift : goal.decreases-lift
-decreases-lift l = 64 - l.bits
+decreases-lift l = l.width - l.bits
