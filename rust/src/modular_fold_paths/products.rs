@@ -1,5 +1,5 @@
-//! Products of words below m, where m is near a power of two: by folds of their parts, with no test of
-//! a number.
+//! Words, and products of words below m, modulo m, where m is near a power of two: by folds of their
+//! parts, with no test of a number.
 
 use crate::modular_fold_paths::folds::{FoldedWord, reduce_by_folds, sum_once};
 use crate::modular_word::path_word::PathWord;
@@ -13,6 +13,24 @@ fn fold_parts<T: PathWord>(low: T, high: T, p: u32, c: T) -> (T, T) {
     T::split(T::double_plus(scaled, T::merge(low, T::zero())))
 }
 
+// The residue of a word below 2m.
+#[inline]
+fn once_less<T: PathWord>(v: T, m: T) -> T {
+    if v.is_below(m) { v } else { v.minus(m) }
+}
+
+// The residue of a + b, where m is at most 2^p. Condition: b is at most m, and the sum below 2m.
+//
+// Where p leaves a bit of the word free the sum fits it, and one subtraction less is computed.
+#[inline]
+fn sum_of_parts<T: PathWord>(a: T, b: T, p: u32, m: T) -> T {
+    if p < T::bits() {
+        once_less(a.plus(b), m)
+    } else {
+        sum_once(a, b, m)
+    }
+}
+
 // a·b modulo m, where m is 2^p - c. Condition: a and b are below m, and c has at most half the bits
 // of p.
 //
@@ -21,10 +39,10 @@ fn fold_parts<T: PathWord>(low: T, high: T, p: u32, c: T) -> (T, T) {
 fn product_by_folds<T: PathWord>(a: T, b: T, p: u32, c: T, m: T) -> T {
     let (low, high) = fold_parts(T::zero(), a, p, b);
     if c == T::one() {
-        return sum_once(high, low.shift_right(T::bits() - p), m);
+        return sum_of_parts(high, low.shift_right(T::bits() - p), p, m);
     }
     let (rest, over) = fold_parts(low, high, p, c);
-    sum_once(rest.shift_right(T::bits() - p), over.times(c), m)
+    sum_of_parts(rest.shift_right(T::bits() - p), over.times(c), p, m)
 }
 
 /// a·b modulo m, where m is 2^p - c and more than half of 2^p. Condition: a and b are below m.
@@ -39,4 +57,26 @@ pub fn reduce_product<T: FoldedWord>(a: T, b: T, p: u32, c: T, m: T) -> T {
     } else {
         reduce_by_folds(a.product(b), p, c, m).0
     }
+}
+
+/// v modulo m, where m is 2^p - c and more than half of 2^p.
+///
+/// A word of p bits is below 2m, and so is what one fold leaves where the bits of c and the word's bits
+/// above p are fewer than p together. There no double word is folded and no number is tested: c and p
+/// alone choose.
+///
+/// Source: Handbook of Applied Cryptography, algorithm 14.47.
+pub fn reduce_word<T: FoldedWord>(v: T, p: u32, c: T, m: T) -> T {
+    // a word that was read is known to fit
+    let _ = v.is_zero_word();
+    let above = T::bits() - p;
+    if above == 0 {
+        return once_less(v, m);
+    }
+    if above < p && c.shift_right(p - 1 - above).is_zero_word() {
+        let high = v.shift_right(p);
+        let folded = high.times(c).plus(v.low_bits(p));
+        return once_less(folded, m);
+    }
+    reduce_by_folds(T::merge(v, T::zero()), p, c, m).0
 }

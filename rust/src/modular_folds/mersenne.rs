@@ -2,7 +2,7 @@
 
 use crate::modular_folds::rings::{FoldModulus, FoldRing};
 use crate::modular_fold_paths::folds::reduce_by_folds;
-use crate::modular_fold_paths::products::reduce_product;
+use crate::modular_fold_paths::products::{reduce_product, reduce_word};
 use crate::modular_reduced::reducer::Reducer;
 
 /// The modulus 2^P - K of at most 32 bits.
@@ -36,7 +36,7 @@ impl<const P: u8, const K: u32> FoldRing<u32, Mersenne32<P, K>> {
     /// The residue of a word. Condition: the parameters are in range.
     #[inline]
     pub fn reduce_single(v: u32) -> u32 {
-        Self::reduce_counted(v as u64).0
+        reduce_word(v, P as u32, K, Self::fixed_modulus())
     }
 
     /// The residue of a double word. Condition: the parameters are in range.
@@ -107,7 +107,7 @@ impl<const P: u8, const K: u64> FoldRing<u64, Mersenne64<P, K>> {
     /// The residue of a word. Condition: the parameters are in range.
     #[inline]
     pub fn reduce_single(v: u64) -> u64 {
-        Self::reduce_counted(v as u128).0
+        reduce_word(v, P as u32, K, Self::fixed_modulus())
     }
 
     /// The residue of a double word. Condition: the parameters are in range.

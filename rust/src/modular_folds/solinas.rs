@@ -2,7 +2,7 @@
 
 use crate::modular_folds::rings::{FoldModulus, FoldRing};
 use crate::modular_fold_paths::folds::{FoldedWord, reduce_by_folds};
-use crate::modular_fold_paths::products::reduce_product;
+use crate::modular_fold_paths::products::{reduce_product, reduce_word};
 use crate::modular_prim::plain_word::PlainWord;
 use crate::modular_word::path_word::PathWord;
 use crate::modular_word::ring_word::RingWord;
@@ -116,9 +116,10 @@ pub struct TrinomialModulus<T: TrinomialWord, F: Trinomial> {
 /// value is the value itself. It keeps no number.
 ///
 /// The parameters are in range where p1 is the width of T at most, p2 is from 1 to p1 - 1, and k is
-/// odd and less than 2^p2 either way. A product is reduced by folds with no division, but where
-/// p1 = p2 + 1 and k is negative: m is less than half of 2^p1 then, and what is left by m is taken
-/// by the primitive remainder. `inv` divides by Euclid's algorithm.
+/// odd and less than 2^p2 either way. Words are reduced by folds, and so is a product of words of 64
+/// bits, but where p1 = p2 + 1 and k is negative: m is less than half of 2^p1 then, and what is left by
+/// m is taken by the primitive remainder. So is a product of words of 32 bits, which takes no division
+/// either where the modulus is known when it is compiled. `inv` divides by Euclid's algorithm.
 ///
 /// Source: Solinas, "Generalized Mersenne numbers" (1999).
 pub type TrinomialSolinas<T, F> = FoldRing<T, TrinomialModulus<T, F>>;
@@ -163,9 +164,12 @@ impl<T: TrinomialWord, F: Trinomial> FoldRing<T, TrinomialModulus<T, F>> {
     }
 
     /// The residue of a word. Condition: the parameters are in range.
-    #[inline]
     pub fn reduce_single(v: T) -> T {
-        Self::reduce_counted(T::merge(v, T::zero())).0
+        if is_low(F::p1(), F::p2(), F::k()) {
+            Self::remainder(T::merge(v, T::zero()))
+        } else {
+            reduce_word(v, F::p1() as u32, Self::factor(), Self::fixed_modulus())
+        }
     }
 
     /// The residue of a double word. Condition: the parameters are in range.
@@ -213,8 +217,8 @@ impl<T: TrinomialWord, F: Trinomial> FoldModulus<T> for TrinomialModulus<T, F> {
     }
 
     fn product(&self, a: T, b: T) -> T {
-        if is_low(F::p1(), F::p2(), F::k()) {
-            TrinomialSolinas::<T, F>::reduce_double(a.product(b))
+        if T::bits() < 64 || is_low(F::p1(), F::p2(), F::k()) {
+            TrinomialSolinas::<T, F>::remainder(a.product(b))
         } else {
             reduce_product(
                 a,

@@ -12,5 +12,12 @@ use crate::modular_word::ring_word::RingWord;
 #[inline]
 pub fn invert_word<T: PlainWord>(d: T) -> T {
     let greatest = ones::<T>(T::bits());
-    T::low_quotient(T::merge(greatest, greatest), d)
+    // The divisor taken from the high word takes the base from the quotient, whose low word is the same; the quotient
+    // then fits a word, and a double word of 128 bits is divided by one instruction in place of two.
+    let high = if T::bits() < 64 {
+        greatest
+    } else {
+        greatest.wrapping_sub(d)
+    };
+    T::low_quotient(T::merge(greatest, high), d)
 }

@@ -27,11 +27,16 @@ pub fn div_2by1<T: PathWord>(d: T, reciprocal: T, a: T::Double) -> (T, T) {
     let (low, high) = T::split(a);
     let (q0, q1) = T::split(T::double_plus(reciprocal.product(high), a));
     let mut q = q1.wrapping_add(T::one());
-    let mut r = low.wrapping_sub(q.wrapping_mul(d));
-    // The sum of r and d. By a product of its own it doesn't wait for r, and compilers choose without a branch,
-    // which would often be guessed wrongly.
+    // What is left by q1, and by one more. Long words have a product for each, so that neither waits for the other.
+    // Compilers choose of the two without a branch, which would often be guessed wrongly.
     let more = low.wrapping_sub(q1.wrapping_mul(d));
-    if q0.is_below(r) {
+    let less = if T::bits() > 32 {
+        low.wrapping_sub(q.wrapping_mul(d))
+    } else {
+        more.wrapping_sub(d)
+    };
+    let mut r = less;
+    if q0.is_below(less) {
         q = q1;
         r = more;
     }
@@ -104,34 +109,28 @@ pub fn neginv<T: PathWord>(m: T) -> T {
     T::zero().wrapping_sub(inverse)
 }
 
-/// The word x whose multiple x·m clears the low word of t: the first step of Montgomery's
-/// reduction. Condition: m times `negated_inverse` is -1 modulo the base.
+/// The word x whose multiple x·m has the low word of t, so that t less that multiple is cleared of it:
+/// the first step of Montgomery's reduction. Condition: m times `negated_inverse` is -1 modulo the base.
 #[inline]
 pub fn clearing<T: PathWord>(m: T, negated_inverse: T, t: T::Double) -> T {
     let (low, _) = T::split(t);
-    low.wrapping_mul(negated_inverse)
+    low.wrapping_mul(T::zero().wrapping_sub(negated_inverse))
 }
 
-/// Montgomery's reduction of t, given the word x of `clearing` and the product x·m: the second
-/// step, with the carry of the sum kept. A modulus of a special form may have x·m at a lower cost.
-/// Conditions: t is below m times the base, and x·m clears the low word of t.
+/// Montgomery's reduction of t, given the word x of `clearing` and the product x·m: the second step. A
+/// modulus of a special form may have x·m at a lower cost. Conditions: t is below m times the base, and x·m
+/// has the low word of t.
 ///
-/// The low words of t and x·m add up to 0 or to the base, so the sum's high word is that of t and
-/// that of x·m, raised by 1 where the low word of t isn't 0. Less m it wraps exactly where it is
-/// below m, which tells a carry and a high word from m on alike.
+/// The difference of t and x·m is that of their high words times the base, so no carry of low words is
+/// waited for; both are below m, and where the difference is below 0, m is added.
+#[inline]
 pub fn reduce_by<T: PathWord>(m: T, t: T::Double, x: T, multiple: T::Double) -> T {
-    let (low, high) = T::split(t);
+    let (_, high) = T::split(t);
     let (_, multiple_high) = T::split(multiple);
-    let raised = if low.is_zero_word() {
-        multiple_high
+    if high.is_below(multiple_high) {
+        m.minus(multiple_high.minus(high))
     } else {
-        multiple_high.wrapping_add(T::one())
-    };
-    let less = high.wrapping_sub(m).wrapping_add(raised);
-    if less.is_below(raised) {
-        less
-    } else {
-        high.wrapping_add(raised)
+        high.minus(multiple_high)
     }
 }
 
