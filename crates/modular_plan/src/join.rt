@@ -245,8 +245,14 @@ fn join_columns<T: PlainWord>(
         IsFourJoin modulus x y z (n a.old i) (n b.old i) (n c.old i) (n d.old i)
         (n a.new i) (n b.new i) (n c.new i) (n d.new i) }
 {
+    let twice = m.twice();
     'columns_of_four: for i in 0..a.len() {
-        let (e, f, g, h) = join_four(m, (a[i], b[i], c[i], d[i]), w, u, v);
+        let x = a[i];
+        // Always so. A loop whose end can't be counted is compiled without vectors, which are slower here.
+        if !x.is_below(twice) {
+            return;
+        }
+        let (e, f, g, h) = join_four(m, (x, b[i], c[i], d[i]), w, u, v);
         a[i] = e;
         b[i] = f;
         c[i] = g;
@@ -376,8 +382,13 @@ fn join_fours<T: PlainWord, F: PlanEntry<T>>(
         StageOfFours (λ p. IsFourJoin modulus (w (first + p)) (w (2 * (first + p))) (w (2 * (first + p) + 1))) 1 blocks
         (numbers T.number xs.old) (numbers T.number xs.new) }
 {
+    let greatest = m.greatest();
     'fours: for p in 0..blocks {
         let (w, u, v) = minus_inverses(m, table, first + p, *minus);
+        // As in `join_columns`.
+        if greatest.is_below(xs[p * 4]) {
+            return;
+        }
         join_neighbours(m, xs, p * 4, &w, &u, &v);
     }
 }

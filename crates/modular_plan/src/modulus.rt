@@ -180,6 +180,14 @@ impl<T: PlainWord> PlannedModulus<T> {
         self.modulus.plus(self.modulus)
     }
 
+    // The word 4m - 1.
+    pub(crate) fn greatest(&self) -> T
+        ensures { T.number result + 1 ≡ 4 * T.number self.now.modulus }
+    {
+        let twice = self.twice();
+        twice.plus(twice.minus(T::one()))
+    }
+
     /// Whether a word is below 4m.
     pub fn has_room(&self, x: T) -> bool
         ensures { IsTrue result ↔ (T.number x < 4 * T.number self.now.modulus) }

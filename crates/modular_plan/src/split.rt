@@ -125,8 +125,14 @@ fn split_columns<T: PlainWord>(
         (numbers T.number first.new i) (numbers T.number second.new i)
         (numbers T.number third.new i) (numbers T.number fourth.new i) }
 {
+    let greatest = m.greatest();
     'columns: for i in 0..first.len() {
-        let (e, g) = split_values(m, first[i], third[i], w);
+        let x = first[i];
+        // Never so. A loop whose end can't be counted is compiled without vectors, which are slower here.
+        if greatest.is_below(x) {
+            return;
+        }
+        let (e, g) = split_values(m, x, third[i], w);
         let (f, h) = split_values(m, second[i], fourth[i], w);
         let (a, b) = split_values(m, e, f, u);
         let (c, d) = split_values(m, g, h, v);
@@ -246,11 +252,16 @@ fn split_fours<T: PlainWord, F: PlanEntry<T>>(
         (w (2 * (first + p) + 1))) 1 blocks
         (numbers T.number xs.old) (numbers T.number xs.new) }
 {
+    let greatest = m.greatest();
     'fours: for p in 0..blocks {
         let place = first + p;
         let w = table[place].factor();
         let u = table[2 * place].factor();
         let v = table[2 * place + 1].factor();
+        // As in `split_columns`.
+        if greatest.is_below(xs[p * 4]) {
+            return;
+        }
         split_neighbours(m, xs, p * 4, &w, &u, &v);
     }
 }
