@@ -144,7 +144,12 @@ fn join_block<T: PlainWord>(
         BlockDone (IsPairJoin (T.number m.now.modulus) w) first half half
         (numbers T.number xs.old) (numbers T.number xs.new) }
 {
+    let greatest = m.greatest();
     'columns: for i in 0..half {
+        // As in `join_columns`.
+        if greatest.is_below(xs[first + i]) {
+            return;
+        }
         join_pair(m, xs, first + i, first + (half + i), v);
     }
 }
@@ -245,11 +250,11 @@ fn join_columns<T: PlainWord>(
         IsFourJoin modulus x y z (n a.old i) (n b.old i) (n c.old i) (n d.old i)
         (n a.new i) (n b.new i) (n c.new i) (n d.new i) }
 {
-    let twice = m.twice();
+    let greatest = m.greatest();
     'columns_of_four: for i in 0..a.len() {
         let x = a[i];
-        // Always so. A loop whose end can't be counted is compiled without vectors, which are slower here.
-        if !x.is_below(twice) {
+        // Never so. A loop whose end can't be counted is compiled without vectors, which are slower here.
+        if greatest.is_below(x) {
             return;
         }
         let (e, f, g, h) = join_four(m, (x, b[i], c[i], d[i]), w, u, v);

@@ -63,7 +63,12 @@ fn split_block<T: PlainWord>(
     ensures done { BlockDone (IsPairSplit (T.number m.now.modulus) (T.number w.now.value)) first half half
         (numbers T.number xs.old) (numbers T.number xs.new) }
 {
+    let greatest = m.greatest();
     'columns: for i in 0..half {
+        // As in `split_columns`.
+        if greatest.is_below(xs[first + i]) {
+            return;
+        }
         split_pair(m, xs, first + i, first + (half + i), w);
     }
 }

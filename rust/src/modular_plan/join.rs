@@ -87,7 +87,12 @@ fn join_block<T: PlainWord>(
     half: usize,
     v: &Factor<T>,
 ) {
+    let greatest = m.greatest();
     'columns: for i in 0..half {
+        // As in `join_columns`.
+        if greatest.is_below(xs[first + i]) {
+            return;
+        }
         join_pair(m, xs, first + i, first + (half + i), v);
     }
 }
@@ -136,8 +141,14 @@ fn join_columns<T: PlainWord>(
     u: &Factor<T>,
     v: &Factor<T>,
 ) {
+    let greatest = m.greatest();
     'columns_of_four: for i in 0..a.len() {
-        let (e, f, g, h) = join_four(m, (a[i], b[i], c[i], d[i]), w, u, v);
+        let x = a[i];
+        // Never so. A loop whose end can't be counted is compiled without vectors, which are slower here.
+        if greatest.is_below(x) {
+            return;
+        }
+        let (e, f, g, h) = join_four(m, (x, b[i], c[i], d[i]), w, u, v);
         a[i] = e;
         b[i] = f;
         c[i] = g;
@@ -203,7 +214,6 @@ fn join_neighbours<T: PlainWord>(
 
 // The first two stages of all blocks of four entries, which come below 2m: block p by entry first + p of
 // the table, and its halves by the entries at twice that place.
-#[inline]
 fn join_fours<T: PlainWord, F: PlanEntry<T>>(
     m: &PlannedModulus<T>,
     xs: &mut [T],
@@ -212,8 +222,13 @@ fn join_fours<T: PlainWord, F: PlanEntry<T>>(
     first: usize,
     minus: &Factor<T>,
 ) {
+    let greatest = m.greatest();
     'fours: for p in 0..blocks {
         let (w, u, v) = minus_inverses(m, table, first + p, *minus);
+        // As in `join_columns`.
+        if greatest.is_below(xs[p * 4]) {
+            return;
+        }
         join_neighbours(m, xs, p * 4, &w, &u, &v);
     }
 }

@@ -37,7 +37,12 @@ fn split_block<T: PlainWord>(
     half: usize,
     w: &Factor<T>,
 ) {
+    let greatest = m.greatest();
     'columns: for i in 0..half {
+        // As in `split_columns`.
+        if greatest.is_below(xs[first + i]) {
+            return;
+        }
         split_pair(m, xs, first + i, first + (half + i), w);
     }
 }
