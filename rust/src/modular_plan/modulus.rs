@@ -138,6 +138,13 @@ impl<T: PlainWord> PlannedModulus<T> {
         self.modulus.plus(self.modulus)
     }
 
+    // The word 4m - 1.
+    #[inline]
+    pub(crate) fn greatest(&self) -> T {
+        let twice = self.twice();
+        twice.plus(twice.minus(T::one()))
+    }
+
     /// Whether a word is below 4m.
     #[inline]
     pub fn has_room(&self, x: T) -> bool {

@@ -74,8 +74,14 @@ fn split_columns<T: PlainWord>(
     u: &Factor<T>,
     v: &Factor<T>,
 ) {
+    let greatest = m.greatest();
     'columns: for i in 0..first.len() {
-        let (e, g) = split_values(m, first[i], third[i], w);
+        let x = first[i];
+        // Never so. A loop whose end can't be counted is compiled without vectors, which are slower here.
+        if greatest.is_below(x) {
+            return;
+        }
+        let (e, g) = split_values(m, x, third[i], w);
         let (f, h) = split_values(m, second[i], fourth[i], w);
         let (a, b) = split_values(m, e, f, u);
         let (c, d) = split_values(m, g, h, v);
@@ -150,11 +156,16 @@ fn split_fours<T: PlainWord, F: PlanEntry<T>>(
     table: &[F],
     first: usize,
 ) {
+    let greatest = m.greatest();
     'fours: for p in 0..blocks {
         let place = first + p;
         let w = table[place].factor();
         let u = table[2 * place].factor();
         let v = table[2 * place + 1].factor();
+        // As in `split_columns`.
+        if greatest.is_below(xs[p * 4]) {
+            return;
+        }
         split_neighbours(m, xs, p * 4, &w, &u, &v);
     }
 }
