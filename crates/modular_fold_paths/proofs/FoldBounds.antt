@@ -61,10 +61,10 @@ low_only p v none = omega (arith, lt-div-mul-add {a = v} (pow_pos p), ap (λ h. 
 pub doubled_fits : (w p : ℕ) → p < w → 2 * 2 ^ p ≤ 2 ^ w
 doubled_fits w p inside = omega (arith, pow-suc 2 p, pow-le-pow_right {n = 2} (lit< tt) inside)
 
--- a word's part above the bit p by a factor that leaves less than half of 2^p: a fold is below 2m
-pub fold_of_word : (w p c m v : ℕ) → m + c ≡ 2 ^ p → p < w → w - p < p → c < 2 ^ (p - 1 - (w - p)) → v < 2 ^ w
-    → fold_of p c v < 2 * m
-fold_of_word w p c m v whole inside near small fits =
+-- a word's part above the bit p times c is less than half of 2^p, where the bits of both are fewer than p
+pub fold_of_word : (w p c v : ℕ) → p < w → w - p < p → c < 2 ^ (p - 1 - (w - p)) → v < 2 ^ w
+    → fold_of p c v + 2 * c < 2 * 2 ^ p
+fold_of_word w p c v inside near small fits =
     let a = w - p in
     let e = p - 1 - a in
     let word : 2 ^ w ≡ 2 ^ a * 2 ^ p =
@@ -77,4 +77,4 @@ fold_of_word w p c m v whole inside near small fits =
     ap (λ n. 2 ^ n) (let s : p - 1 ≡ a + e = omega arith in s) ∙ pow-add 2 a e in
     let power : 2 ^ p ≡ 2 * 2 ^ (p - 1) =
     ap (λ n. 2 ^ n) (let s : p ≡ suc (p - 1) = omega arith in s) ∙ pow-suc 2 (p - 1) ∙ omega arith in
-    omega (arith, whole, most, double, half, power, mod-lt v (pow_pos p))
+    omega (arith, most, double, half, power, mod-lt v (pow_pos p))

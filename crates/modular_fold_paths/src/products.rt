@@ -1,8 +1,8 @@
 //! Words, and products of words below m, modulo m, where m is near a power of two: by folds of their
 //! parts, with no test of a number.
 
-ghost use Rattle.std.specs.Prelude.{◌≡◌, ℕ, ◌+◌, ◌-◌, ◌*◌, ◌/◌, ◌%◌, ◌^◌, ◌<◌, ◌≤◌};
-ghost use Rattle.modular_fold_paths.specs.Folds.{IsFolding};
+ghost use Rattle.std.specs.Prelude.{◌≡◌, ℕ, ◌+◌, ◌-◌, ◌*◌, ◌/◌, ◌%◌, ◌^◌, ◌<◌, ◌≤◌, IsTrue};
+ghost use Rattle.modular_fold_paths.specs.Folds.{fold_of, IsFolding};
 
 use crate::folds::{FoldedWord, reduce_by_folds, sum_once};
 use modular_word::path_word::PathWord;
@@ -86,27 +86,53 @@ pub fn reduce_product<T: FoldedWord>(a: T, b: T, p: u32, c: T, m: T) -> T
     }
 }
 
+// Whether one fold at the bit p leaves less than 2m of every word, where m is 2^p - c: of a word of p
+// bits there is nothing to fold, and else the bits of c and those above p are fewer than p together.
+fn is_once<T: PathWord>(p: u32, c: T) -> bool
+    requires fits { p ≤ T.width }
+    requires half { 2 * T.number c < 2 ^ p }
+    ensures { IsTrue result → (v : ℕ) → v < 2 ^ T.width → fold_of p (T.number c) v + 2 * T.number c < 2 * 2 ^ p }
+{
+    let above = T::bits() - p;
+    if above == 0 {
+        true
+    } else if above < p {
+        c.shift_right(p - 1 - above).is_zero_word()
+    } else {
+        false
+    }
+}
+
+// One fold of a word at the bit p. Condition: c is below 2^p.
+fn fold_word<T: PathWord>(v: T, p: u32, c: T) -> T
+    requires bit { p ≤ T.width }
+    requires less { T.number c < 2 ^ p }
+    ensures value { T.number result ≡ fold_of p (T.number c) (T.number v) }
+    ensures fits { T.number v < 2 ^ T.width }
+{
+    // a word that was read is known to fit
+    let _ = v.is_zero_word();
+    if p < T::bits() {
+        let high = v.shift_right(p);
+        high.times(c).plus(v.low_bits(p))
+    } else {
+        v
+    }
+}
+
 /// v modulo m, where m is 2^p - c and more than half of 2^p.
 ///
-/// A word of p bits is below 2m, and so is what one fold leaves where the bits of c and the word's bits
-/// above p are fewer than p together. There no double word is folded and no number is tested: c and p
-/// alone choose.
+/// Where one fold is known to leave less than 2m no double word is folded and no number is tested: c and
+/// p alone choose.
 ///
 /// Source: Handbook of Applied Cryptography, algorithm 14.47.
 pub fn reduce_word<T: FoldedWord>(v: T, p: u32, c: T, m: T) -> T
     requires { IsFolding T.width p (T.number c) (T.number m) }
     ensures { T.number result ≡ T.number v % T.number m }
 {
-    // a word that was read is known to fit
-    let _ = v.is_zero_word();
-    let above = T::bits() - p;
-    if above == 0 {
-        return once_less(v, m);
+    if is_once(p, c) {
+        once_less(fold_word(v, p, c), m)
+    } else {
+        reduce_by_folds(T::merge(v, T::zero()), p, c, m).0
     }
-    if above < p && c.shift_right(p - 1 - above).is_zero_word() {
-        let high = v.shift_right(p);
-        let folded = high.times(c).plus(v.low_bits(p));
-        return once_less(folded, m);
-    }
-    reduce_by_folds(T::merge(v, T::zero()), p, c, m).0
 }
