@@ -59,24 +59,44 @@ pub fn reduce_product<T: FoldedWord>(a: T, b: T, p: u32, c: T, m: T) -> T {
     }
 }
 
-/// v modulo m, where m is 2^p - c and more than half of 2^p.
-///
-/// A word of p bits is below 2m, and so is what one fold leaves where the bits of c and the word's bits
-/// above p are fewer than p together. There no double word is folded and no number is tested: c and p
-/// alone choose.
-///
-/// Source: Handbook of Applied Cryptography, algorithm 14.47.
-pub fn reduce_word<T: FoldedWord>(v: T, p: u32, c: T, m: T) -> T {
-    // a word that was read is known to fit
-    let _ = v.is_zero_word();
+// Whether one fold at the bit p leaves less than 2m of every word, where m is 2^p - c: of a word of p
+// bits there is nothing to fold, and else the bits of c and those above p are fewer than p together.
+#[inline]
+fn is_once<T: PathWord>(p: u32, c: T) -> bool {
     let above = T::bits() - p;
     if above == 0 {
-        return once_less(v, m);
+        true
+    } else if above < p {
+        c.shift_right(p - 1 - above).is_zero_word()
+    } else {
+        false
     }
-    if above < p && c.shift_right(p - 1 - above).is_zero_word() {
+}
+
+// One fold of a word at the bit p. Condition: c is below 2^p.
+#[inline]
+fn fold_word<T: PathWord>(v: T, p: u32, c: T) -> T {
+    // a word that was read is known to fit
+    let _ = v.is_zero_word();
+    if p < T::bits() {
         let high = v.shift_right(p);
-        let folded = high.times(c).plus(v.low_bits(p));
-        return once_less(folded, m);
+        high.times(c).plus(v.low_bits(p))
+    } else {
+        v
     }
-    reduce_by_folds(T::merge(v, T::zero()), p, c, m).0
+}
+
+/// v modulo m, where m is 2^p - c and more than half of 2^p.
+///
+/// Where one fold is known to leave less than 2m no double word is folded and no number is tested: c and
+/// p alone choose.
+///
+/// Source: Handbook of Applied Cryptography, algorithm 14.47.
+#[inline]
+pub fn reduce_word<T: FoldedWord>(v: T, p: u32, c: T, m: T) -> T {
+    if is_once(p, c) {
+        once_less(fold_word(v, p, c), m)
+    } else {
+        reduce_by_folds(T::merge(v, T::zero()), p, c, m).0
+    }
 }
