@@ -13,9 +13,9 @@ use modular_word::ring_word::RingWord;
 /// The residue of the product of `exp` factors `base`; that of 1 for the exponent 0. Condition: m
 /// is at least 1.
 ///
-/// The exponents 0, 1 and 2 cost one division at most. Above them no step divides a double word, but of
-/// words of 8 bits: modulo an odd m each product is reduced by Montgomery's way, modulo an even one by
-/// the reciprocal of m.
+/// The exponents 0, 1 and 2 cost one division at most. Above them no step divides a double word:
+/// modulo an odd m each product is reduced by Montgomery's way, modulo an even one by the reciprocal
+/// of m.
 pub fn powm<T: PlainWord>(base: T, exp: T, m: T) -> T
     requires { 1 ≤ T.number m }
     ensures { T.number result ≡ T.number base ^ T.number exp % T.number m }
@@ -37,7 +37,7 @@ fn power_below<T: PlainWord>(base: T, exp: T, m: T) -> T
     requires { T.number base < T.number m }
     ensures { T.number result ≡ T.number base ^ T.number exp % T.number m }
 {
-    if m.is_odd() && T::bits() > 8 {
+    if m.is_odd() {
         power_by_reduction(base, exp, m)
     } else {
         power_by_reciprocal(base, exp, m)
@@ -98,20 +98,14 @@ fn power_by_reciprocal<T: PlainWord>(base: T, exp: T, m: T) -> T
     product.shift_right(shift)
 }
 
-// The scaled residue of the product of two scaled residues. Products of words of 8 bits are divided as fast as
-// they are reduced.
+// The scaled residue of the product of two scaled residues.
 fn scaled_product<T: PlainWord>(divisor: T, reciprocal: T, shift: u32, a: T, b: T) -> T
     requires reciprocal { IsReciprocal T.base (T.number divisor) (T.number reciprocal) }
     requires shift { shift < T.width }
     requires below { T.number b < T.number divisor }
     ensures { T.number result ≡ (T.number a / 2 ^ shift * T.number b) % T.number divisor }
 {
-    let product = a.shift_right(shift).product(b);
-    if T::bits() > 8 {
-        div_2by1(divisor, reciprocal, product).1
-    } else {
-        T::narrow_remainder(product, divisor)
-    }
+    div_2by1(divisor, reciprocal, a.shift_right(shift).product(b)).1
 }
 
 // The residue of the power, and 0 for m = 0.

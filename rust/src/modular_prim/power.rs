@@ -10,9 +10,9 @@ use crate::modular_word::ring_word::RingWord;
 /// The residue of the product of `exp` factors `base`; that of 1 for the exponent 0. Condition: m
 /// is at least 1.
 ///
-/// The exponents 0, 1 and 2 cost one division at most. Above them no step divides a double word, but of
-/// words of 8 bits: modulo an odd m each product is reduced by Montgomery's way, modulo an even one by
-/// the reciprocal of m.
+/// The exponents 0, 1 and 2 cost one division at most. Above them no step divides a double word:
+/// modulo an odd m each product is reduced by Montgomery's way, modulo an even one by the reciprocal
+/// of m.
 pub fn powm<T: PlainWord>(base: T, exp: T, m: T) -> T {
     let one = T::one();
     if two::<T>().is_below(exp) {
@@ -29,7 +29,7 @@ pub fn powm<T: PlainWord>(base: T, exp: T, m: T) -> T {
 // The residue of the power of a base below m, by the way that m admits.
 #[inline]
 fn power_below<T: PlainWord>(base: T, exp: T, m: T) -> T {
-    if m.is_odd() && T::bits() > 8 {
+    if m.is_odd() {
         power_by_reduction(base, exp, m)
     } else {
         power_by_reciprocal(base, exp, m)
@@ -83,16 +83,10 @@ fn power_by_reciprocal<T: PlainWord>(base: T, exp: T, m: T) -> T {
     product.shift_right(shift)
 }
 
-// The scaled residue of the product of two scaled residues. Products of words of 8 bits are divided as fast as
-// they are reduced.
+// The scaled residue of the product of two scaled residues.
 #[inline]
 fn scaled_product<T: PlainWord>(divisor: T, reciprocal: T, shift: u32, a: T, b: T) -> T {
-    let product = a.shift_right(shift).product(b);
-    if T::bits() > 8 {
-        div_2by1(divisor, reciprocal, product).1
-    } else {
-        T::narrow_remainder(product, divisor)
-    }
+    div_2by1(divisor, reciprocal, a.shift_right(shift).product(b)).1
 }
 
 // The residue of the power, and 0 for m = 0.
