@@ -144,10 +144,9 @@ fn join_block<T: PlainWord>(
         BlockDone (IsPairJoin (T.number m.now.modulus) w) first half half
         (numbers T.number xs.old) (numbers T.number xs.new) }
 {
-    let greatest = m.greatest();
     'columns: for i in 0..half {
-        // As in `join_columns`.
-        if greatest.is_below(xs[first + i]) {
+        // never so
+        if m.is_outside(xs[first + i]) {
             return;
         }
         join_pair(m, xs, first + i, first + (half + i), v);
@@ -250,11 +249,10 @@ fn join_columns<T: PlainWord>(
         IsFourJoin modulus x y z (n a.old i) (n b.old i) (n c.old i) (n d.old i)
         (n a.new i) (n b.new i) (n c.new i) (n d.new i) }
 {
-    let greatest = m.greatest();
     'columns_of_four: for i in 0..a.len() {
         let x = a[i];
-        // Never so. A loop whose end can't be counted is compiled without vectors, which are slower here.
-        if greatest.is_below(x) {
+        // never so
+        if m.is_outside(x) {
             return;
         }
         let (e, f, g, h) = join_four(m, (x, b[i], c[i], d[i]), w, u, v);
@@ -387,11 +385,10 @@ fn join_fours<T: PlainWord, F: PlanEntry<T>>(
         StageOfFours (λ p. IsFourJoin modulus (w (first + p)) (w (2 * (first + p))) (w (2 * (first + p) + 1))) 1 blocks
         (numbers T.number xs.old) (numbers T.number xs.new) }
 {
-    let greatest = m.greatest();
     'fours: for p in 0..blocks {
         let (w, u, v) = minus_inverses(m, table, first + p, *minus);
-        // As in `join_columns`.
-        if greatest.is_below(xs[p * 4]) {
+        // never so
+        if m.is_outside(xs[p * 4]) {
             return;
         }
         join_neighbours(m, xs, p * 4, &w, &u, &v);

@@ -180,12 +180,13 @@ impl<T: PlainWord> PlannedModulus<T> {
         self.modulus.plus(self.modulus)
     }
 
-    // The word 4m - 1.
-    pub(crate) fn greatest(&self) -> T
-        ensures { T.number result + 1 ≡ 4 * T.number self.now.modulus }
+    // Whether a word of more than 32 bits is 4m or more. A loop over entries that ends there, where it never does,
+    // can't be counted, so that it is compiled without vectors: those of such words are slower.
+    pub(crate) fn is_outside(&self, x: T) -> bool
+        ensures { IsTrue result → 4 * T.number self.now.modulus ≤ T.number x }
     {
         let twice = self.twice();
-        twice.plus(twice.minus(T::one()))
+        T::bits() > 32 && twice.plus(twice.minus(T::one())).is_below(x)
     }
 
     /// Whether a word is below 4m.

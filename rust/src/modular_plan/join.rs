@@ -87,10 +87,9 @@ fn join_block<T: PlainWord>(
     half: usize,
     v: &Factor<T>,
 ) {
-    let greatest = m.greatest();
     'columns: for i in 0..half {
-        // As in `join_columns`.
-        if greatest.is_below(xs[first + i]) {
+        // never so
+        if m.is_outside(xs[first + i]) {
             return;
         }
         join_pair(m, xs, first + i, first + (half + i), v);
@@ -141,11 +140,10 @@ fn join_columns<T: PlainWord>(
     u: &Factor<T>,
     v: &Factor<T>,
 ) {
-    let greatest = m.greatest();
     'columns_of_four: for i in 0..a.len() {
         let x = a[i];
-        // Never so. A loop whose end can't be counted is compiled without vectors, which are slower here.
-        if greatest.is_below(x) {
+        // never so
+        if m.is_outside(x) {
             return;
         }
         let (e, f, g, h) = join_four(m, (x, b[i], c[i], d[i]), w, u, v);
@@ -222,11 +220,10 @@ fn join_fours<T: PlainWord, F: PlanEntry<T>>(
     first: usize,
     minus: &Factor<T>,
 ) {
-    let greatest = m.greatest();
     'fours: for p in 0..blocks {
         let (w, u, v) = minus_inverses(m, table, first + p, *minus);
-        // As in `join_columns`.
-        if greatest.is_below(xs[p * 4]) {
+        // never so
+        if m.is_outside(xs[p * 4]) {
             return;
         }
         join_neighbours(m, xs, p * 4, &w, &u, &v);

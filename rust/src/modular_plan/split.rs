@@ -37,10 +37,9 @@ fn split_block<T: PlainWord>(
     half: usize,
     w: &Factor<T>,
 ) {
-    let greatest = m.greatest();
     'columns: for i in 0..half {
-        // As in `split_columns`.
-        if greatest.is_below(xs[first + i]) {
+        // never so
+        if m.is_outside(xs[first + i]) {
             return;
         }
         split_pair(m, xs, first + i, first + (half + i), w);
@@ -74,11 +73,10 @@ fn split_columns<T: PlainWord>(
     u: &Factor<T>,
     v: &Factor<T>,
 ) {
-    let greatest = m.greatest();
     'columns: for i in 0..first.len() {
         let x = first[i];
-        // Never so. A loop whose end can't be counted is compiled without vectors, which are slower here.
-        if greatest.is_below(x) {
+        // never so
+        if m.is_outside(x) {
             return;
         }
         let (e, g) = split_values(m, x, third[i], w);
@@ -156,14 +154,13 @@ fn split_fours<T: PlainWord, F: PlanEntry<T>>(
     table: &[F],
     first: usize,
 ) {
-    let greatest = m.greatest();
     'fours: for p in 0..blocks {
         let place = first + p;
         let w = table[place].factor();
         let u = table[2 * place].factor();
         let v = table[2 * place + 1].factor();
-        // As in `split_columns`.
-        if greatest.is_below(xs[p * 4]) {
+        // never so
+        if m.is_outside(xs[p * 4]) {
             return;
         }
         split_neighbours(m, xs, p * 4, &w, &u, &v);
