@@ -13,10 +13,14 @@ fn fold_parts<T: PathWord>(low: T, high: T, p: u32, c: T) -> (T, T) {
     T::split(T::double_plus(scaled, T::merge(low, T::zero())))
 }
 
-// The residue of a word below 2m.
+// The residue of a word below 2m: the less of the word and of what wraps around when m is taken from it, which
+// compilers choose without a branch.
 #[inline]
 fn once_less<T: PathWord>(v: T, m: T) -> T {
-    if v.is_below(m) { v } else { v.minus(m) }
+    // a word that was read is known to fit
+    let _ = m.is_zero_word();
+    let less = v.wrapping_sub(m);
+    if less.is_below(v) { less } else { v }
 }
 
 // The residue of a + b, where m is at most 2^p. Condition: b is at most m, and the sum below 2m.
