@@ -1,9 +1,8 @@
 -- How far folds in a row take a number that is no more than a product of two numbers below 2^p.
-use Rattle.std.proofs.Common.{◌≡◌, ℕ, zero, suc, ◌+◌, ◌-◌, ◌*◌, ◌/◌, ◌%◌, ◌^◌, ◌<◌, ◌≤◌, ◌∙◌, ap, arith, lit<, ⊎_elim}
+use Rattle.std.proofs.Common.{◌≡◌, ℕ, zero, suc, ◌+◌, ◌-◌, ◌*◌, ◌/◌, ◌%◌, ◌^◌, ◌<◌, ◌≤◌, ◌∙◌, ap, arith, lit<}
 use Rattle.std.proofs.Math.Nat.{mul-le-mul_right, div-lt_iff_lt-mul, lt-div-mul-add, mod-lt, pow-le-pow_right}
-use Rattle.std.proofs.Math.Nat.{pow-suc, mod-eq_of_lt, add-mod_right}
+use Rattle.std.proofs.Math.Nat.{pow-suc}
 use Rattle.std.proofs.lemmas.Nat.{shr_split, pow_pos, pow-add, mul-le}
-use Rattle.std.proofs.lemmas.Bool.{cases_lt}
 use Rattle.modular_fold_paths.specs.Folds.{fold_of}
 
 -- a number that is less than 2 * b by c has a quotient of 1 at most
@@ -79,21 +78,3 @@ fold_of_word w p c v inside near small fits =
     let power : 2 ^ p ≡ 2 * 2 ^ (p - 1) =
     ap (λ n. 2 ^ n) (let s : p ≡ suc (p - 1) = omega arith in s) ∙ pow-suc 2 (p - 1) ∙ omega arith in
     omega (arith, most, double, half, power, mod-lt v (pow_pos p))
-
--- m taken from a word below 2m, around the base b: it is less than the word where the word was m or more
-pub record IsTaken (m v less : ℕ) : Type 0 where
-  pub taken : less < v → v ≡ less + m
-  pub left : v ≤ less → v < m
-
-pub taken_once : (b m v less : ℕ) → m < b → v < b → less < b → v < 2 * m → (less + m) % b ≡ v → IsTaken m v less
-taken_once b m v less hm hv hl twice e =
-    ⊎_elim
-    (λ (h : less + m < b).
-    let same : (less + m) % b ≡ less + m = mod-eq_of_lt h in
-    record { taken = λ k. omega arith; left = λ k. omega arith })
-    (λ (h : b ≤ less + m).
-    let y = less + m - b in
-    let whole : less + m ≡ y + b = omega arith in
-    let around : (less + m) % b ≡ y = ap (λ n. n % b) whole ∙ add-mod_right y b ∙ mod-eq_of_lt (omega arith) in
-    record { taken = λ k. absurd (omega arith); left = λ k. omega arith })
-    (cases_lt (less + m) b)

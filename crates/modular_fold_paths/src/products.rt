@@ -5,6 +5,7 @@ ghost use Rattle.std.specs.Prelude.{◌≡◌, ℕ, ◌+◌, ◌-◌, ◌*◌, �
 ghost use Rattle.modular_fold_paths.specs.Folds.{fold_of, IsFolding};
 
 use crate::folds::{FoldedWord, reduce_by_folds, sum_once};
+use modular_prim::below::reduced_once;
 use modular_word::path_word::PathWord;
 use modular_word::ring_word::RingWord;
 
@@ -24,18 +25,6 @@ fn fold_parts<T: PathWord>(low: T, high: T, p: u32, c: T) -> (T, T)
     T::split(T::double_plus(scaled, T::merge(low, T::zero())))
 }
 
-// The residue of a word below 2m: the less of the word and of what wraps around when m is taken from it, which
-// compilers choose without a branch.
-fn once_less<T: PathWord>(v: T, m: T) -> T
-    requires { T.number v < 2 * T.number m }
-    ensures { T.number result ≡ T.number v % T.number m }
-{
-    // a word that was read is known to fit
-    let _ = m.is_zero_word();
-    let less = v.wrapping_sub(m);
-    if less.is_below(v) { less } else { v }
-}
-
 // The residue of a + b, where m is at most 2^p. Condition: b is at most m, and the sum below 2m.
 //
 // Where p leaves a bit of the word free the sum fits it, and one subtraction less is computed.
@@ -46,7 +35,7 @@ fn sum_of_parts<T: PathWord>(a: T, b: T, p: u32, m: T) -> T
     ensures { T.number result ≡ (T.number a + T.number b) % T.number m }
 {
     if p < T::bits() {
-        once_less(a.plus(b), m)
+        reduced_once(a.plus(b), m)
     } else {
         sum_once(a, b, m)
     }
@@ -135,7 +124,7 @@ pub fn reduce_word<T: FoldedWord>(v: T, p: u32, c: T, m: T) -> T
     ensures { T.number result ≡ T.number v % T.number m }
 {
     if is_once(p, c) {
-        once_less(fold_word(v, p, c), m)
+        reduced_once(fold_word(v, p, c), m)
     } else {
         reduce_by_folds(T::merge(v, T::zero()), p, c, m).0
     }

@@ -24,6 +24,6 @@ pub record IsOddRing (w b m i square : ℕ) : Type 0 where
 abbrev pub negated_inverse_of : ℕ → ℕ → ℕ
 negated_inverse_of b m = value_below (λ i. (m * i) % b) b (b - 1)
 
--- m is an odd modulus, and what is kept of it are these numbers
+-- m is an odd modulus, with its negated inverse and the square of the base
 abbrev pub IsOddModulus : ℕ → ℕ → ℕ → Type 0
 IsOddModulus w b m = IsOddRing w b m (negated_inverse_of b m) ((b * b) % m)

@@ -1,6 +1,6 @@
 -- The steps of a power modulo m by binary digits, with scaled residues.
 use Rattle.std.proofs.Common.{◌≡◌, ◌≢◌, ℕ, ◌+◌, ◌*◌, ◌/◌, ◌%◌, ◌^◌, ◌<◌, sym, ap, ◌∙◌, refl, arith}
-use Rattle.std.proofs.Math.Nat.{mod-lt, mod-mod, mod-eq_of_lt, pow-zero, mul-one, one-mul}
+use Rattle.std.proofs.Math.Nat.{mod-lt, mod-mod, mod-eq_of_lt, mod-one, pow-zero, mul-one, one-mul}
 use Rattle.std.proofs.lemmas.Nat.{pow-add, mul-mod_first, pow-mod, shl-shr, mul-lt}
 use Rattle.modular_word.specs.Reduction.{IsReduction, IsNegatedInverse}
 use Rattle.modular_word.proofs.Congruence.{same_product}
@@ -142,6 +142,16 @@ pub record ReducedSoFar (b m target power product rest : ℕ) : Type 0 where
 pub record IsReducer (b m i : ℕ) : Type 0 where
   pub some : 0 < b
   pub inverse : IsNegatedInverse b m i
+
+-- a division is a reduction in base 1, in which every number is 0
+pub divides : (m : ℕ) → IsReducer 1 m 0
+divides m = record { some = omega arith; inverse = record { product = mod-one (m * 0) } }
+
+pub division_reduces : (m : ℕ) {t u : ℕ} → 0 < m → u ≡ t % m → IsReduction 1 m t u
+division_reduces m {t} {u} some e = record {
+  below = omega (arith, e, mod-lt t some);
+  congruent = ap (λ v. v % m) (mul-one u ∙ e) ∙ mod-mod t m;
+}
 
 pub reduced_start : (b m x n start power product rest : ℕ) {t z : ℕ} → x < m → t ≡ z + b * x → z ≡ 0 → power ≡ t % m
     → product ≡ start % m → (start * (x * x % m) ^ (n / 2)) % m ≡ x ^ n % m → rest ≡ n / 2

@@ -1,7 +1,7 @@
 -- Residues of sums and of negatives.
 use Rattle.std.proofs.Common.{◌≡◌, ℕ, ◌+◌, ◌-◌, ◌*◌, ◌/◌, ◌%◌, ◌<◌, ◌≤◌, pos}
-use Rattle.std.proofs.Common.{negsuc, neg_ℤ, ◌-ℤ◌, sym, ap, ◌∙◌, arith, ⊎_elim}
-use Rattle.std.proofs.Math.Nat.{add-mod-mod, mod-lt, mod-mod, mod_self, mod-eq_of_lt, div-add-mod, add-mul-mod_self_left}
+use Rattle.std.proofs.Common.{negsuc, neg_ℤ, ◌-ℤ◌, sym, ap, ◌∙◌, arith, ⊎_elim, inl, inr}
+use Rattle.std.proofs.Math.Nat.{add-mod-mod, add-mod_right, mod-lt, mod-mod, mod_self, mod-eq_of_lt, div-add-mod, add-mul-mod_self_left}
 use Rattle.std.proofs.lemmas.Bool.{cases_lt}
 use Rattle.std.proofs.lemmas.Int.{ints}
 use Rattle.modular_word.specs.Residues.{residue}
@@ -85,3 +85,28 @@ pub sum_past : (m a b gap r : ℕ) → gap + b ≡ m → a + b < 2 * m → r + g
 sum_past m a b gap r e twice er =
     let whole : a + b ≡ r + m * 1 = omega arith in
     sym (ap (λ v. v % m) whole ∙ add-mul-mod_self_left r m 1 ∙ mod-eq_of_lt (let l : r < m = omega arith in l))
+
+-- a number below twice a bound, less the bound
+pub once : (m x r : ℕ) → m ≤ x → x < 2 * m → r + m ≡ x → r ≡ x % m
+once m x r low high e =
+    let small : r < m = omega arith in
+    sym (ap (λ v. v % m) (sym e) ∙ add-mod_right r m ∙ mod-eq_of_lt small)
+
+-- what wraps around when a bound is taken from a word
+pub record IsWrapped (m x r : ℕ) : Type 0 where
+  pub taken : r < x → r + m ≡ x
+  pub left : x ≤ r → x < m
+
+pub wrapped : (b m x r : ℕ) → m < b → r < b → x < 2 * m → (r + m) % b ≡ x
+    → IsWrapped m x r
+wrapped b m x r m_fits r_fits below e = elim (cases_lt (r + m) b) [
+  | inl less ↦
+      let is : r + m ≡ x = sym (mod-eq_of_lt less) ∙ e in
+      record { taken = λ l. is; left = λ l. omega (arith, is) }
+  | inr more ↦
+      let rest : (r + m - b) + b ≡ r + m = omega arith in
+      let small : r + m - b < b = omega arith in
+      let is : r + m - b ≡ x =
+      sym (mod-eq_of_lt small) ∙ sym (add-mod_right (r + m - b) b) ∙ ap (λ v. v % b) rest ∙ e in
+      record { taken = λ l. absurd (omega (arith, is, rest, l)); left = λ l. omega (arith, is, rest) }
+]

@@ -5,6 +5,19 @@ ghost use Rattle.modular_word.specs.Residues.{residue};
 
 use modular_word::path_word::PathWord;
 
+/// The residue of a word below 2m: the less of the word and of what wraps around when m is taken from it, which
+/// compilers choose without a branch. Condition: the word is below 2m.
+pub fn reduced_once<T: PathWord>(x: T, m: T) -> T
+    requires { T.number x < 2 * T.number m }
+    ensures value { T.number result ≡ T.number x % T.number m }
+    ensures below { T.number result < T.number m }
+{
+    // a word that was read is known to fit
+    let _ = m.is_below(x);
+    let less = x.wrapping_sub(m);
+    if less.is_below(x) { less } else { x }
+}
+
 /// The residue of a + b. Condition: both are below m.
 pub fn add_below<T: PathWord>(a: T, b: T, m: T) -> T
     requires left { T.number a < T.number m }

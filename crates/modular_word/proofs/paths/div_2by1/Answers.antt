@@ -1,11 +1,11 @@
 -- Division of a double word: the guess is right or off by one on either side, and the corrections meet it.
 use Rattle.std.proofs.Common.{◌≡◌, ℕ, ◌+◌, ◌*◌, ◌%◌, ◌<◌, arith, sym, ap, ◌∙◌}
-use Rattle.std.proofs.Math.Nat.{lt_of_mul-lt-mul_right, mod-eq_of_lt}
+use Rattle.std.proofs.Math.Nat.{lt_of_mul-lt-mul_right}
 use Rattle.modular_word.specs.Congruence.{Congruent}
-use Rattle.modular_word.proofs.Congruence.{of_equal, itself, turned, chained, residue_of, added, multiplied, cancelled}
+use Rattle.modular_word.proofs.Congruence.{of_equal, itself, turned, chained, residue_of, added, multiplied}
 use Rattle.modular_word.proofs.ReciprocalSteps.{Setting, Guess, guess_of, step_down, step_none, step_up}
 use Rattle.modular_word.proofs.paths.div_2by1.Goals as goal
-use Rattle.modular_word.proofs.paths.div_2by1.Goals.{then-bits-gt32, else-bits-gt32, then-is_below, else-is_below, then-not-is_below, else-not-is_below}
+use Rattle.modular_word.proofs.paths.div_2by1.Goals.{then-is_below, else-is_below, then-not-is_below, else-not-is_below}
 
 -- what is left by a quotient that is one more
 less_is : (B d a0 q1 q r more : ℕ) → q ≡ (q1 + 1) % B → more ≡ (r + d) % B → (more + (q1 * d) % B) % B ≡ a0
@@ -20,25 +20,6 @@ less_is B d a0 q1 q r more eq er em =
     (chained (of_equal e) (added sum (turned (residue_of (q1 * d))))) in
     whole.same ∙ em
 
--- what is left by a quotient that is one less
-more_is : (B d a0 q1 q r more : ℕ) → more < B → q ≡ (q1 + 1) % B → (r + (q * d) % B) % B ≡ a0
-    → (more + (q1 * d) % B) % B ≡ a0 → more ≡ (r + d) % B
-more_is B d a0 q1 q r more fits eq er em =
-    let same : Congruent B (more + (q1 * d) % B) (r + (q * d) % B) = record { same = em ∙ sym er } in
-    let next : Congruent B (q * d) ((q1 + 1) * d) =
-    multiplied (chained (of_equal eq) (residue_of (q1 + 1))) (itself d) in
-    let whole : Congruent B (more + q1 * d) (r + (q1 + 1) * d) =
-    chained (added (itself more) (turned (residue_of (q1 * d))))
-    (chained same (added (itself r) (chained (residue_of (q * d)) next))) in
-    let e : r + (q1 + 1) * d ≡ r + d + q1 * d = omega arith in
-    sym (mod-eq_of_lt fits) ∙ (cancelled (q1 * d) (chained whole (of_equal e))).same
-
--- what the two quotients leave
-record Rests (B d a0 q r more : ℕ) : Type 0 where
-  fits : r < B
-  left : (r + (q * d) % B) % B ≡ a0
-  apart : more ≡ (r + d) % B
-
 pub returns : goal.returns
 returns g c =
     let n = g.T.RingWord.number in
@@ -50,7 +31,7 @@ returns g c =
     let q0 = n c.split-q0.result.0 in
     let q1 = n c.split-q0.result.1 in
     let q = n c.wrapping_add-q.result in
-    let r = n c.if-bits-gt32.less in
+    let r = n c.wrapping_sub-less.result in
     let more = n c.wrapping_sub-more.result in
     let ea : W c.args.a ≡ a0 + B * a1 = c.split-low.ensures.value in
     let high : a1 < d = lt_of_mul-lt-mul_right B (let h : a1 * B < d * B = omega (arith, c.requires.high) in h) in
@@ -73,30 +54,10 @@ returns g c =
     let eq : q ≡ (q1 + 1) % B = c.wrapping_add-q.ensures.value ∙ ap (λ x. (q1 + x) % B) c.one.ensures in
     let em : (more + (q1 * d) % B) % B ≡ a0 =
     ap (λ x. (more + x) % B) (sym c.wrapping_mul.ensures.value) ∙ c.wrapping_sub-more.ensures.value in
-    let rests : Rests B d a0 q r more =
-    elim c.if-bits-gt32.branch [
-      | then-bits-gt32 w ↦
-          let r' = n w.wrapping_sub-less.result in
-          let left : (r' + (q * d) % B) % B ≡ a0 =
-          ap (λ x. (r' + x) % B) (sym w.wrapping_mul-then-bits-gt32.ensures.value) ∙ w.wrapping_sub-less.ensures.value in
-          rw w.less-is
-          (record {
-            fits = w.wrapping_sub-less.ensures.fits;
-            left = left;
-            apart = more_is B d a0 q1 q r' more c.wrapping_sub-more.ensures.fits eq left em;
-          })
-      | else-bits-gt32 w ↦
-          let apart : more ≡ (n w.wrapping_sub-less-else-bits-gt32.result + d) % B =
-          sym w.wrapping_sub-less-else-bits-gt32.ensures.value in
-          rw w.less-is
-          (record {
-            fits = w.wrapping_sub-less-else-bits-gt32.ensures.fits;
-            left = less_is B d a0 q1 q _ more eq apart em;
-            apart = apart;
-          })
-    ] in
+    let sum : more ≡ (r + d) % B = sym c.wrapping_sub-less.ensures.value in
+    let er : (r + (q * d) % B) % B ≡ a0 = less_is B d a0 q1 q r more eq sum em in
     let guess : Guess B d (a0 + B * a1) q0 q1 r =
-    guess_of B d _ a0 a1 q0 q1 q r s rests.fits eq rests.left in
+    guess_of B d _ a0 a1 q0 q1 q r s c.wrapping_sub-less.ensures.fits eq er in
     -- the dividend after the first correction
     let corrected : W c.args.a ≡ n c.if-is_below.q * d + n c.if-is_below.r =
     elim c.if-is_below.branch [
@@ -104,8 +65,8 @@ returns g c =
           let r' = more in
           let down : a0 + B * a1 ≡ q1 * d + r' =
           step_down B d (a0 + B * a1) q0 q1 q r q1 r' c.is_below-2.ensures.other_fits
-          c.split-q0.ensures.high_fits rests.fits c.split-q0.ensures.high_fits guess eq
-          (sym eq) rests.apart (grind arith) in
+          c.split-q0.ensures.high_fits c.wrapping_sub-less.ensures.fits c.split-q0.ensures.high_fits guess eq
+          (sym eq) sum (grind arith) in
           rw (w.q-is, w.r-is) (ea ∙ down)
       | else-is_below w ↦
           let none : a0 + B * a1 ≡ q * d + r =

@@ -1,0 +1,31 @@
+use Rattle.std.proofs.Common.{◌≤◌, arith, sym}
+use Rattle.std.proofs.Math.Nat.{mod-eq_of_lt}
+use Rattle.modular_prim.proofs.ResidueSteps.{once, wrapped, IsWrapped}
+use Rattle.modular_prim.proofs.below.reduced_once.Goals as goal
+use Rattle.modular_prim.proofs.below.reduced_once.Goals.{After-wrapping_sub-less}
+
+-- what the word is when m is taken from it
+taken : (g : _) (c : After-wrapping_sub-less g)
+    → IsWrapped (g.T.RingWord.number c.args.m) (g.T.RingWord.number c.args.x)
+    (g.T.RingWord.number c.wrapping_sub-less.result)
+taken g c =
+    let n = g.T.RingWord.number in
+    wrapped g.T.PathWord.base (n c.args.m) (n c.args.x) (n c.wrapping_sub-less.result)
+    c.is_below.ensures.fits c.wrapping_sub-less.ensures.fits c.requires c.wrapping_sub-less.ensures.value
+
+pub returns-then-is_below : goal.returns-then-is_below
+returns-then-is_below g c =
+    let n = g.T.RingWord.number in
+    let is = (taken g (goal.at.returns-then-is_below g c).After-wrapping_sub-less).taken
+    (c.is_below-2.ensures.below.0 c.if-is_below.true) in
+    record {
+      value = once (n c.args.m) (n c.args.x) (n c.wrapping_sub-less.result) (omega (arith, is)) c.requires is;
+      below = omega (arith, is);
+    }
+
+pub returns-else-is_below : goal.returns-else-is_below
+returns-else-is_below g c =
+    let n = g.T.RingWord.number in
+    let less = (taken g (goal.at.returns-else-is_below g c).After-wrapping_sub-less).left
+    (let more : n c.args.x ≤ n c.wrapping_sub-less.result = grind arith in more) in
+    record { value = sym (mod-eq_of_lt less); below = less }
