@@ -96,14 +96,21 @@ def trait(text, at):
     return told(text, at) + first.split("\n") + members(whole, lambda it: True)
 
 
+def hidden(crate):
+    """The traits of a crate's private modules."""
+    folder = names.TOP / crate / "src"
+    modules = re.findall(r"^mod (\w+);", (folder / "lib.rt").read_text(), re.M)
+    return {it for name in modules for it in re.findall(r"^pub trait (\w+)", (folder / f"{name}.rt").read_text(), re.M)}
+
+
 def impls(crate, is_of):
     """What the impls of a type say: its own functions, and the ghost members of operators on values and of reducers."""
-    found = []
+    found, private = [], hidden(crate)
     for text in sources(crate):
         for it in re.finditer(r"^impl\b[^{;]*\{", text, re.M):
             first = " ".join(it[0][:-1].split())
             of, _, kind = re.sub(r"^impl(<(?:[^<>]|<(?:[^<>]|<[^<>]*>)*>)*>)? ", "", first).rpartition(" for ")
-            if not is_of(kind) or "<&" in of:
+            if not is_of(kind) or "<&" in of or of.split("<")[0] in private:
                 continue
             whole = block(text, it.start())
             says = members(whole, (lambda it: SAYS.match(it[0].strip())) if of else (lambda it: it[1]))

@@ -95,23 +95,43 @@ constant_of_plan {m} g (suc u) b (suc k) count j entries w is room plan below =
     subst (λ n. Congruent m (constant g (suc u) (b * n + j) ^ n) (constant g (suc u) b)) (sym is)
     (power_of_constant g u b k j (omega (arith, r, room, half, two)) (omega (arith, is, below)) plan.suits)
 
--- the list of products of remainders is that of the remainders of the product
-pub remainders_of_product : {m : ℕ} (g z b count last entries : ℕ) (w x y u v p : ℕ → ℕ) → IsPowerOfTwo count
+-- remainders are their own residues
+pub residues_again : {m : ℕ} (g z b count last : ℕ) (x u : ℕ → ℕ) → AreRemainders m g z b count last x u
+    → AreRemainders m g z b count last x (λ i. u i % m)
+residues_again {m} g z b count last x u are = record {
+  each = λ j i lj li.
+      let c = constant g z (b * count + j) in
+      ap (λ v. v % m) (are.each j i lj li) ∙ (residue_of (sum_below count (λ k. x (k * last + i) * c ^ k))).same;
+}
+
+-- the list of products of numbers congruent to remainders with remainders is that of the remainders of the product
+pub remainders_of_loose_product : {m : ℕ} (g z b count last entries : ℕ) (w x y u v p : ℕ → ℕ) → IsPowerOfTwo count
     → (b + 1) * (count / 2) ≤ entries → IsPlan m g z entries w
-    → AreRemainders m g z b count last x u → AreRemainders m g z b count last y v → AreProducts m g z b count last u v p
+    → AreRemainders m g z b count last x (λ i. u i % m) → AreRemainders m g z b count last y v
+    → AreProducts m g z b count last u v p
     → AreRemainders m g z b count last (product_modulo m (count * last) (constant g z b) x y) (λ i. p i % m)
-remainders_of_product {m} g z b count last entries w x y u v p power room plan first second products = record {
+remainders_of_loose_product {m} g z b count last entries w x y u v p power room plan first second products = record {
   each = λ j i lj li.
       let c = constant g z (b * count + j) in
       let value = products.each j i lj li in
       let column = column_of_product count last c (constant g z b) i x y
       (λ k. u (j * last + k)) (λ k. v (j * last + k)) li
       (constant_of_plan g z b power.0 count j entries w power.1 room plan lj)
-      (λ a la. chained (of_equal (first.each j a lj la)) (residue_of (sum_below count (λ k. x (k * last + a) * c ^ k))))
+      (λ a la. chained (turned (residue_of (u (j * last + a))))
+      (chained (of_equal (first.each j a lj la)) (residue_of (sum_below count (λ k. x (k * last + a) * c ^ k)))))
       (λ a la.
       chained (of_equal (second.each j a lj la)) (residue_of (sum_below count (λ l. y (l * last + a) * c ^ l)))) in
       ap (λ n. n % m) value ∙ column.same;
 }
+
+-- .. of remainders with remainders
+pub remainders_of_product : {m : ℕ} (g z b count last entries : ℕ) (w x y u v p : ℕ → ℕ) → IsPowerOfTwo count
+    → (b + 1) * (count / 2) ≤ entries → IsPlan m g z entries w
+    → AreRemainders m g z b count last x u → AreRemainders m g z b count last y v → AreProducts m g z b count last u v p
+    → AreRemainders m g z b count last (product_modulo m (count * last) (constant g z b) x y) (λ i. p i % m)
+remainders_of_product {m} g z b count last entries w x y u v p power room plan first second products =
+    remainders_of_loose_product g z b count last entries w x y u v p power room plan
+    (residues_again g z b count last x u first) second products
 
 -- twice as many factors as half of the blocks
 pub half_room : (b count n : ℕ) → (b + 1) * count ≤ 2 * n → (b + 1) * (count / 2) ≤ n
@@ -130,7 +150,8 @@ scaled_back {m} count part v one =
 -- the entries that are joined are the product
 pub joined_product : {m : ℕ} (g z b last entries count size part : ℕ) (w x y u v p out : ℕ → ℕ) → IsPowerOfTwo count
     → count * last ≡ size → (b + 1) * count ≤ 2 * entries
-    → IsPlan m g z entries w → Congruent m (count * part) 1 → AreRemainders m g z b count last x u
+    → IsPlan m g z entries w → Congruent m (count * part) 1
+    → AreRemainders m g z b count last x (λ i. u i % m)
     → AreRemainders m g z b count last y v → AreProducts m g z b count last u v p
     → ((r : ℕ → ℕ) → AreRemainders m g z b count last r (λ i. p i % m) → (i : ℕ) → i < size
     → out i ≡ (count * r i * part) % m)
@@ -138,7 +159,7 @@ pub joined_product : {m : ℕ} (g z b last entries count size part : ℕ) (w x y
 joined_product {m} g z b last entries count size part w x y u v p out power whole room plan one first
     second products joined e below =
     let c = constant g z b in
-    let are = remainders_of_product g z b count last entries w x y u v p power
+    let are = remainders_of_loose_product g z b count last entries w x y u v p power
     (half_room b count entries room) plan first second products in
     joined (product_modulo m (count * last) c x y) are e below
     ∙ scaled_back count part

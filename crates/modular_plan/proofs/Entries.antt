@@ -41,6 +41,19 @@ pub bounded_at : {T : Type 0} (number : T → ℕ) (bound : ℕ) (words : List T
 bounded_at number bound [] i all below = absurd (omega arith)
 bounded_at number bound (x ∷ xs) i all below = bounded number bound (x ∷ xs) i x all below
 
+-- .. and a greater one
+pub all_wider : {T : Type 0} (number : T → ℕ) {a b : ℕ} (words : List T) → a ≤ b → All (λ x. number x < a) words
+    → All (λ x. number x < b) words
+all_wider number words wide all i d l = let h = all i d l in omega (arith, h, wide)
+
+-- a word that was read where nothing was written yet
+pub given_below : {T : Type 0} (number : T → ℕ) (bound : ℕ) (old words : List T) (i j : ℕ) (x : T)
+    → All (λ x. number x < bound) old → j ≡ i → i < length old → i < length words → x ≡ get_or words i x
+    → numbers number words j ≡ numbers number old j → number x < bound
+given_below number bound old words i j x all e old_within within is kept =
+    let same = subst (λ k. numbers number words k ≡ numbers number old k) e kept in
+    subst (λ v. v < bound) (sym (number_read number words i x within is ∙ same)) (bounded number bound old i x all old_within)
+
 -- a loop that writes entry after entry
 pub entry_written : {T : Type 0} (number : T → ℕ) (words : List T) (i : ℕ) (x : T) (P : ℕ → ℕ → Type 0) → i < length words
     → ((k : ℕ) → k < i → P k (numbers number words k)) → P i (number x)
@@ -74,3 +87,12 @@ pub all_residues : {T : Type 0} (number : T → ℕ) (m n : ℕ) (words : List T
     → All (λ x. number x < m) words
 all_residues number m n words old some len is =
     all_below number m n words len (λ k l. subst (λ v. v < m) (sym (is k l)) (mod-lt (old k) some))
+
+-- a loop never comes to an entry that is not below the bound of all
+pub never_beyond : {T : Type 0} {A : Type 0} (number : T → ℕ) (bound : ℕ) (words start : List T) (i : ℕ) (x : T)
+    → All (λ x. number x < bound) start → i < length words → i < length start → x ≡ get_or words i x
+    → numbers number words i ≡ numbers number start i → bound ≤ number x → A
+never_beyond number bound words start i x all within start_within is kept far =
+    let same = number_read number words i x within is in
+    let below = bounded number bound start i x all start_within in
+    absurd (omega (arith, same, below, kept, far))

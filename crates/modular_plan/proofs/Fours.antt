@@ -2,7 +2,7 @@
 use Rattle.std.proofs.Common.{◌≡◌, ℕ, ◌+◌, ◌*◌, ◌<◌, ◌≤◌, List, All, length, inl, inr, refl}
 use Rattle.std.proofs.Common.{sym, ◌∙◌, arith, subst, get_or, get_or-set_same, get_or-set_other}
 use Rattle.std.proofs.Math.ListN.{set, length-set}
-use Rattle.std.proofs.Math.Nat.{mul-le-mul_right}
+use Rattle.std.proofs.Math.Nat.{mul-le-mul_right, zero-add, zero-mul}
 use Rattle.std.proofs.lemmas.Bool.{cases_eq, cases_lt}
 use Rattle.modular_plan.specs.Plans.{numbers}
 use Rattle.modular_plan.specs.Steps.{IsPairSplit, IsFourSplit, FourDone, FourAt, BlockOfFours, StageOfFours}
@@ -183,3 +183,40 @@ stage_of_fours_more R q p x y z done step = record {
 pub stage_of_fours_all : {R : ℕ → ℕ → ℕ → ℕ → ℕ → ℕ → ℕ → ℕ → ℕ → Type 0} {q p blocks : ℕ} {x y : ℕ → ℕ}
     → StageOfFours R q p x y → p ≡ blocks → StageOfFours R q blocks x y
 stage_of_fours_all {R} {q} {p} {blocks} {x} {y} done e = subst (λ n. StageOfFours R q n x y) e done
+
+-- a length by another name
+pub stage_named : {R : ℕ → ℕ → ℕ → ℕ → ℕ → ℕ → ℕ → ℕ → ℕ → Type 0} {q n blocks : ℕ} {x y : ℕ → ℕ} → q ≡ n
+    → StageOfFours R n blocks x y → StageOfFours R q blocks x y
+stage_named {R} {q} {n} {blocks} {x} {y} e done = subst (λ v. StageOfFours R v blocks x y) (sym e) done
+
+-- a block at the start
+pub at_start : {R : ℕ → ℕ → ℕ → ℕ → ℕ → ℕ → ℕ → ℕ → Type 0} {i j k l : ℕ} {x y : ℕ → ℕ} → FourDone R i j k l x y
+    → FourDone R (0 + i) (0 + j) (0 + k) (0 + l) x y
+at_start {R} {i} {j} {k} {l} {x} {y} done =
+    subst (λ v. FourDone R v (0 + j) (0 + k) (0 + l) x y) (sym (zero-add i))
+    (subst (λ v. FourDone R i v (0 + k) (0 + l) x y) (sym (zero-add j))
+    (subst (λ v. FourDone R i j v (0 + l) x y) (sym (zero-add k))
+    (subst (λ v. FourDone R i j k v x y) (sym (zero-add l)) done)))
+
+-- .. is a stage by a plan w that begins with 1
+pub first_stage : (m q v first blocks : ℕ) (w x y : ℕ → ℕ) → first ≡ 0 → blocks ≡ 1 → w 0 ≡ 1 → v ≡ w 1
+    → BlockOfFours (IsFourSplit m 1 1 v) 0 q q x y
+    → StageOfFours (λ p. IsFourSplit m (w (first + p)) (w (2 * (first + p))) (w (2 * (first + p) + 1))) q blocks x y
+first_stage m q v first blocks w x y no_first one_block begins second block =
+    let size : ℕ = q + q + (q + q) in
+    let four : (i : ℕ) → i < q → FourAt (IsFourSplit m (w 0) (w 0) (w 1)) 0 q i x y =
+    λ i l. subst (λ n. FourAt (IsFourSplit m n (w 0) (w 1)) 0 q i x y) (sym begins)
+    (subst (λ n. FourAt (IsFourSplit m 1 n (w 1)) 0 q i x y) (sym begins)
+    (subst (λ n. FourAt (IsFourSplit m 1 1 n) 0 q i x y) second (block.fours i l))) in
+    subst (λ f. StageOfFours (λ p. IsFourSplit m (w (f + p)) (w (2 * (f + p))) (w (2 * (f + p) + 1))) q blocks x y)
+    (sym no_first)
+    (subst (λ n. StageOfFours (λ p. IsFourSplit m (w (0 + p)) (w (2 * (0 + p))) (w (2 * (0 + p) + 1))) q n x y)
+    (sym one_block)
+    (record {
+      fours = λ p i l k.
+          let zero : p ≡ 0 = omega arith in
+          subst (λ n. FourAt (IsFourSplit m (w (0 + n)) (w (2 * (0 + n))) (w (2 * (0 + n) + 1))) (n * size) q i x y)
+          (sym zero)
+          (subst (λ n. FourAt (IsFourSplit m (w 0) (w 0) (w 1)) n q i x y) (sym (zero-mul size)) (four i k));
+      kept = λ k l. block.after k (omega arith);
+    }))

@@ -1,9 +1,12 @@
+pub mod Bounds
 pub mod Columns
 pub mod Constants
 pub mod Convolutions
+pub mod Doublings
 pub mod Entries
 pub mod Fours
 pub mod Joins
+pub mod LastJoins
 pub mod Levels
 pub mod Mirrors
 pub mod NaturalOrder

@@ -1,9 +1,8 @@
 -- The arithmetic of products by a precomputed quotient, in words of which there are b.
-use Rattle.std.proofs.Common.{◌≡◌, ℕ, ◌+◌, ◌-◌, ◌*◌, ◌/◌, ◌%◌, ◌^◌, ◌<◌, ◌≤◌, inl, inr, sym, ap, ◌∙◌, arith, refl}
-use Rattle.std.proofs.lemmas.Bool.{cases_lt}
+use Rattle.std.proofs.Common.{◌≡◌, ℕ, ◌+◌, ◌-◌, ◌*◌, ◌/◌, ◌%◌, ◌^◌, ◌<◌, ◌≤◌, sym, ap, ◌∙◌, arith}
 use Rattle.std.proofs.Math.Nat.{mod-lt, div-add-mod, mod-eq_of_lt, mul-le-mul_left}
 use Rattle.std.proofs.Math.Nat.{mul-le-mul_right, lt_of_mul-lt-mul_right, le_of_mul-le-mul_right}
-use Rattle.std.proofs.Math.Nat.{add-mul-mod_self_right, add-mod_right, add-mod}
+use Rattle.std.proofs.Math.Nat.{add-mul-mod_self_right, add-mod}
 use Rattle.std.proofs.lemmas.Nat.{div-mul-add, pow-add}
 use Rattle.modular_word.specs.Congruence.{Congruent}
 use Rattle.modular_word.specs.Division.{IsDivision}
@@ -76,38 +75,11 @@ left_over b m product whole p t r some room near_it is_p is_t fits e =
       };
     }
 
--- a number below twice a bound, less the bound
-pub once : (m x r : ℕ) → m ≤ x → x < 2 * m → r + m ≡ x → r ≡ x % m
-once m x r low high e =
-    let small : r < m = omega arith in
-    sym (ap (λ v. v % m) (sym e) ∙ add-mod_right r m ∙ mod-eq_of_lt small)
-
--- what wraps around when a bound is taken from a word
-pub record IsWrapped (m x r : ℕ) : Type 0 where
-  pub taken : r < x → r + m ≡ x
-  pub left : x ≤ r → x < m
-
-pub wrapped : (b m x r : ℕ) → m < b → r < b → x < 2 * m → (r + m) % b ≡ x
-    → IsWrapped m x r
-wrapped b m x r m_fits r_fits below e = elim (cases_lt (r + m) b) [
-  | inl less ↦
-      let is : r + m ≡ x = sym (mod-eq_of_lt less) ∙ e in
-      record { taken = λ l. is; left = λ l. omega (arith, is) }
-  | inr more ↦
-      let rest : (r + m - b) + b ≡ r + m = omega arith in
-      let small : r + m - b < b = omega arith in
-      let is : r + m - b ≡ x =
-      sym (mod-eq_of_lt small) ∙ sym (add-mod_right (r + m - b) b) ∙ ap (λ v. v % b) rest ∙ e in
-      record { taken = λ l. absurd (omega (arith, is, rest, l)); left = λ l. omega (arith, is, rest) }
-]
-
--- a fourth of 2 ^ w
-pub fourth : (w b f : ℕ) → b ≡ 2 ^ w → 2 ≤ w → f ≡ 2 ^ (w - 2) → 4 * f ≡ b
-fourth w b f is_b wide is_f =
-    let s : w ≡ 2 + (w - 2) = omega arith in
-    let four : 2 ^ 2 ≡ 4 = refl in
-    let p = is_b ∙ ap (λ v. 2 ^ v) s ∙ pow-add 2 2 (w - 2) in
-    omega (arith, p, is_f, four)
+-- a part of 2 ^ w
+pub part : (k w b f : ℕ) → b ≡ 2 ^ w → k ≤ w → f ≡ 2 ^ (w - k) → 2 ^ k * f ≡ b
+part k w b f is_b wide is_f =
+    let s : w ≡ k + (w - k) = omega arith in
+    ap (λ v. 2 ^ k * v) is_f ∙ sym (is_b ∙ ap (λ v. 2 ^ v) s ∙ pow-add 2 k (w - k))
 
 -- a divisor with a reciprocal is a word
 pub divisor_fits : {b d v : ℕ} → IsReciprocal b d v → d < b
@@ -121,6 +93,13 @@ scaled_below b d x y less fits =
     let first : x * y ≤ x * b = mul-le-mul_left x (let k : y ≤ b = omega arith in k) in
     let second : (x + 1) * b ≤ d * b = mul-le-mul_right b (let k : x + 1 ≤ d = omega arith in k) in
     omega (arith, first, second)
+
+-- any word times a number below d
+pub any_times_below : (b d x y : ℕ) → x < b → y < d → x * y < d * b
+any_times_below b d x y fits less =
+    let turn : x * y ≡ y * x = omega arith in
+    let below = scaled_below b d y x less fits in
+    omega (arith, turn, below)
 
 -- the rest of scaled numbers is the rest, scaled
 pub scaled_rest : (m x y s q r : ℕ) → 0 < s → IsDivision (x * s * y) (m * s) q r → r / s ≡ (x * y) % m

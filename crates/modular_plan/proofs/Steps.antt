@@ -6,49 +6,76 @@ use Rattle.std.proofs.Math.Nat.{add-mul-mod_self_right, mul-le-mul_right}
 use Rattle.std.proofs.lemmas.Bool.{cases_eq}
 use Rattle.modular_word.specs.Congruence.{Congruent}
 use Rattle.modular_word.proofs.Congruence.{of_equal, itself, turned, chained, added}
-use Rattle.modular_word.proofs.Congruence.{multiplied, cancelled, mod_of_multiple_left, residue_of}
+use Rattle.modular_word.proofs.Congruence.{multiplied, cancelled, mod_of_multiple_left}
 use Rattle.modular_plan.specs.Plans.{numbers}
 use Rattle.modular_plan.specs.Steps.{IsPairSplit, IsPairJoin, IsMinusInverse, PairDone, BlockDone, StageDone}
 use Rattle.modular_plan.proofs.Entries.{written, not_written}
 
 -- the sum and the difference of a pair
-pub pair_of : {m : ℕ} (w a b x t rest sum difference : ℕ) → x ≡ a % (2 * m) → Congruent m t (b * w) → rest + t ≡ 2 * m
-    → sum ≡ x + t → difference ≡ x + rest
+pub pair_of : {m : ℕ} (w a b t rest sum difference : ℕ) → Congruent m t (b * w) → rest + t ≡ 2 * m
+    → sum ≡ a + t → difference ≡ a + rest
     → IsPairSplit m w a b sum difference
-pair_of {m} w a b x t rest sum difference is_x is_t is_rest is_sum is_difference =
-    let first : Congruent m x a = record { same = ap (λ v. v % m) is_x ∙ mod_of_multiple_left m 2 a } in
-    let whole : difference + t ≡ x + 2 * m = omega arith in
-    let gone : Congruent m (x + 2 * m) x = record { same = add-mul-mod_self_right x 2 m } in
+pair_of {m} w a b t rest sum difference is_t is_rest is_sum is_difference =
+    let whole : difference + t ≡ a + 2 * m = omega arith in
     record {
-      summed = chained (of_equal is_sum) (added first is_t);
-      subtracted = chained (added (itself difference) (turned is_t)) (chained (of_equal whole) (chained gone first));
+      summed = chained (of_equal is_sum) (added (itself a) is_t);
+      subtracted = chained (added (itself difference) (turned is_t))
+          (chained (of_equal whole) (record { same = add-mul-mod_self_right a 2 m }));
     }
 
--- the residues of both do as well
-pub pair_of_residues : {m : ℕ} (w a b sum difference sum' difference' : ℕ) → sum' ≡ sum % m
-    → difference' ≡ difference % m → IsPairSplit m w a b sum difference
-    → IsPairSplit m w a b sum' difference'
-pair_of_residues {m} w a b sum difference sum' difference' is_sum is_difference pair = record {
-  summed = chained (of_equal is_sum) (chained (residue_of sum) pair.summed);
-  subtracted = chained (added (chained (of_equal is_difference) (residue_of difference)) (itself (b * w)))
-      pair.subtracted;
+-- .. by 1, where a bound of b is a multiple of m
+pub pair_by_one : {m : ℕ} (k a b bound sum difference : ℕ) → bound ≡ k * m → sum ≡ a + b → difference + b ≡ a + bound
+    → IsPairSplit m 1 a b sum difference
+pair_by_one {m} k a b bound sum difference is_bound is_sum is_difference = record {
+  summed = of_equal (omega arith);
+  subtracted = chained (of_equal (let e : difference + b * 1 ≡ a + k * m = omega arith in e))
+      (record { same = add-mul-mod_self_right a k m });
 }
 
--- the sum of a pair, and its difference times v, minus the inverse of w
-pub joined_pair_of : {m : ℕ} (w v a b rest product sum : ℕ) → rest + a ≡ 2 * m → sum ≡ (a + b) % (2 * m)
+-- a word reduced by a multiple of m
+pub reduced_by : {m : ℕ} (k x bound r : ℕ) → r ≡ x % bound → bound ≡ k * m → Congruent m r x
+reduced_by {m} k x bound r is is_bound =
+    record { same = ap (λ v. v % m) (is ∙ ap (λ v. x % v) is_bound) ∙ mod_of_multiple_left m k x }
+
+-- a pair that was reduced before
+pub pair_along : {m : ℕ} (w a b x y sum difference : ℕ) → Congruent m x a → Congruent m y b
+    → IsPairSplit m w x y sum difference → IsPairSplit m w a b sum difference
+pair_along {m} w a b x y sum difference first second pair = record {
+  summed = chained pair.summed (added first (multiplied second (itself w)));
+  subtracted = chained (added (itself difference) (multiplied (turned second) (itself w))) (chained pair.subtracted first);
+}
+
+-- .. and one that is reduced afterwards
+pub pair_up_to : {m : ℕ} (w a b sum difference sum' difference' : ℕ) → Congruent m sum' sum
+    → Congruent m difference' difference → IsPairSplit m w a b sum difference
+    → IsPairSplit m w a b sum' difference'
+pair_up_to {m} w a b sum difference sum' difference' first second pair = record {
+  summed = chained first pair.summed;
+  subtracted = chained (added second (itself (b * w))) pair.subtracted;
+}
+
+-- the sum of a pair, and its difference times v, minus the inverse of w: by a multiple of m
+pub joined_pair_of : {m : ℕ} (w v a b rest bound product sum : ℕ) → Congruent m bound 0 → rest + a ≡ bound → sum ≡ a + b
     → Congruent m product ((b + rest) * v) → IsMinusInverse m w v → IsPairJoin m w a b sum product
-joined_pair_of {m} w v a b rest product sum is_rest is_sum is_product inverse =
+joined_pair_of {m} w v a b rest bound product sum none is_rest is_sum is_product inverse =
     let spread : (b + rest) * v * w + b + rest ≡ (b + rest) * (w * v + 1) = omega arith in
-    let none : (b + rest) * 0 ≡ 0 = omega arith in
+    let nothing : (b + rest) * 0 ≡ 0 = omega arith in
     let all : Congruent m (product * w + b + rest) 0 =
     chained (added (added (multiplied is_product (itself w)) (itself b)) (itself rest))
-    (chained (of_equal spread) (chained (multiplied (itself (b + rest)) inverse.product) (of_equal none))) in
-    let whole : a + rest ≡ 0 + 2 * m = omega arith in
-    let gone : Congruent m (0 + 2 * m) 0 = record { same = add-mul-mod_self_right 0 2 m } in
+    (chained (of_equal spread) (chained (multiplied (itself (b + rest)) inverse.product) (of_equal nothing))) in
+    let whole : a + rest ≡ bound = omega (arith, is_rest) in
     record {
-      summed = record { same = ap (λ v. v % m) is_sum ∙ mod_of_multiple_left m 2 (a + b) };
-      subtracted = cancelled rest (chained all (turned (chained (of_equal whole) gone)));
+      summed = of_equal is_sum;
+      subtracted = cancelled rest (chained all (turned (chained (of_equal whole) none)));
     }
+
+-- a pair whose sum is reduced
+pub joined_pair_reduced : {m : ℕ} (w a b sum product sum' : ℕ) → Congruent m sum' sum → IsPairJoin m w a b sum product
+    → IsPairJoin m w a b sum' product
+joined_pair_reduced w a b sum product sum' is pair = record {
+  summed = chained is pair.summed;
+  subtracted = pair.subtracted;
+}
 
 -- a pair that was reduced before
 pub joined_pair_along : {m : ℕ} (w a b x y sum product : ℕ) → Congruent m x a → Congruent m y b
@@ -80,9 +107,9 @@ pair_written number R words low high sum difference order within pair =
           not_written number (set words high difference) low k sum nl ∙ not_written number words high k difference nh;
     }
 
-pair_along : (R : ℕ → ℕ → ℕ → ℕ → Type 0) {a b s d a' b' s' d' : ℕ} → a ≡ a' → b ≡ b' → s ≡ s'
+moved : (R : ℕ → ℕ → ℕ → ℕ → Type 0) {a b s d a' b' s' d' : ℕ} → a ≡ a' → b ≡ b' → s ≡ s'
     → d ≡ d' → R a b s d → R a' b' s' d'
-pair_along R {a} {b} {s} {d} {a'} {b'} {s'} {d'} ea eb es ed h =
+moved R {a} {b} {s} {d} {a'} {b'} {s'} {d'} ea eb es ed h =
     subst (λ v. R v b' s' d') ea
     (subst (λ v. R a v s' d') eb (subst (λ v. R a b v d') es (subst (λ v. R a b s v) ed h)))
 
@@ -99,9 +126,9 @@ block_more R first half i x y after within before step = record {
         let low_kept = before.kept (first + i) (λ n s. omega arith) (λ n s. omega arith) in
         let high_kept = before.kept (first + (half + i)) (λ n s. omega arith) (λ n s. omega arith) in
         subst (λ n. R (x (first + n)) (x (first + (half + n))) (after (first + n)) (after (first + (half + n)))) (sym e)
-        (pair_along R low_kept high_kept refl refl step.pair)
+        (moved R low_kept high_kept refl refl step.pair)
     | inr ne ↦
-        pair_along R refl refl (sym (step.kept (first + k) (omega arith) (omega arith)))
+        moved R refl refl (sym (step.kept (first + k) (omega arith) (omega arith)))
         (sym (step.kept (first + (half + k)) (omega arith) (omega arith)))
         (before.pairs k (omega arith))
   ];
@@ -123,10 +150,10 @@ stage_more R half p x y after before step = record {
         let high_kept = before.kept (p * (half + half) + (half + i)) (omega arith) in
         subst (λ n. R n (x (n * (half + half) + i)) (x (n * (half + half) + (half + i))) (after (n * (half + half) + i))
         (after (n * (half + half) + (half + i)))) (sym e)
-        (pair_along (R p) low_kept high_kept refl refl (step.pairs i k))
+        (moved (R p) low_kept high_kept refl refl (step.pairs i k))
     | inr ne ↦
         let room = mul-le-mul_right (half + half) (let r : q + 1 ≤ p = omega arith in r) in
-        pair_along (R q) refl refl
+        moved (R q) refl refl
         (sym (step.kept (q * (half + half) + i) (λ n s. omega (arith, room)) (λ n s. omega (arith, room))))
         (sym (step.kept (q * (half + half) + (half + i)) (λ n s. omega (arith, room)) (λ n s. omega (arith, room))))
         (before.pairs q i (omega arith) k)
@@ -143,3 +170,33 @@ block_all {R} {first} {half} {i} {x} {y} done e = subst (λ n. BlockDone R first
 pub stage_all : {R : ℕ → ℕ → ℕ → ℕ → ℕ → Type 0} {half p blocks : ℕ} {x y : ℕ → ℕ} → StageDone R half p x y
     → p ≡ blocks → StageDone R half blocks x y
 stage_all {R} {half} {p} {blocks} {x} {y} done e = subst (λ n. StageDone R half n x y) e done
+
+-- the sum and the difference of a pair that is joined by 1, by a multiple of m
+pub joined_by_one : {m : ℕ} (a b bound sum difference : ℕ) → Congruent m bound 0 → sum ≡ a + b
+    → difference + b ≡ a + bound → IsPairJoin m 1 a b sum difference
+joined_by_one {m} a b bound sum difference none is_sum is_difference =
+    let whole : difference * 1 + b ≡ a + bound = omega (arith, is_difference) in
+    let rest : a + 0 ≡ a = omega arith in
+    record {
+      summed = of_equal is_sum;
+      subtracted = chained (of_equal whole) (chained (added (itself a) none) (of_equal rest));
+    }
+
+-- a pair whose two results are reduced
+pub joined_pair_up_to : {m : ℕ} (w a b sum quotient sum' quotient' : ℕ) → Congruent m sum' sum
+    → Congruent m quotient' quotient → IsPairJoin m w a b sum quotient → IsPairJoin m w a b sum' quotient'
+joined_pair_up_to {m} w a b sum quotient sum' quotient' first second pair = record {
+  summed = chained first pair.summed;
+  subtracted = chained (added (multiplied second (itself w)) (itself b)) pair.subtracted;
+}
+
+-- a pair times a number
+pub joined_pair_scaled : {m : ℕ} (w a b sum quotient s : ℕ) → IsPairJoin m w a b sum quotient
+    → IsPairJoin m w (a * s) (b * s) (sum * s) (quotient * s)
+joined_pair_scaled {m} w a b sum quotient s pair =
+    let both : (a + b) * s ≡ a * s + b * s = omega arith in
+    let parts : quotient * s * w + b * s ≡ (quotient * w + b) * s = omega arith in
+    record {
+      summed = chained (multiplied pair.summed (itself s)) (of_equal both);
+      subtracted = chained (of_equal parts) (multiplied pair.subtracted (itself s));
+    }

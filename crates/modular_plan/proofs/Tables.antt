@@ -1,34 +1,13 @@
--- The table of a plan: the powers of the root, put in bit-reversed order.
-use Rattle.std.proofs.Common.{◌≡◌, ℕ, suc, zero, ◌+◌, ◌-◌, ◌*◌, ◌/◌, ◌%◌, ◌^◌, ◌<◌, List, [], ◌∷◌, All, get_or}
-use Rattle.std.proofs.Common.{length, inl, inr, refl, sym, ◌∙◌, ap, arith, subst, get_or-set_same, get_or-set_other}
-use Rattle.std.proofs.Math.ListN.{set}
-use Rattle.std.proofs.Math.Nat.{two-pow-succ, pow-zero}
-use Rattle.std.proofs.lemmas.Bool.{cases_eq}
-use Rattle.std.proofs.lemmas.Nat.{mul-mod_first, pow-add, pow_pos}
+-- The table of a plan: its length, and lists put in another order.
+use Rattle.std.proofs.Common.{◌≡◌, ℕ, suc, zero, ◌-◌, ◌*◌, ◌/◌, ◌^◌, ◌<◌, List, [], ◌∷◌, All, get_or}
+use Rattle.std.proofs.Common.{length, refl, sym, ◌∙◌, ap, arith, subst}
+use Rattle.std.proofs.Math.Nat.{two-pow-succ}
+use Rattle.std.proofs.lemmas.Nat.{pow_pos}
 use Rattle.std.specs.Int.{IsPowerOfTwo}
-use Rattle.modular_word.proofs.Powers.{pow-one}
 use Rattle.modular_transform.specs.Orders.{bits_reversed, IsReordered}
-use Rattle.modular_transform.specs.Transforms.{Suits}
 use Rattle.modular_transform.proofs.BitReversal.{bits_reversed_below}
-use Rattle.modular_plan.specs.Plans.{numbers, IsPlan}
+use Rattle.modular_plan.specs.Plans.{numbers}
 use Rattle.modular_plan.proofs.Entries.{number_at}
-
-pub power_first : (m one power g : ℕ) → one ≡ 1 → power ≡ one % m → power ≡ g ^ 0 % m
-power_first m one power g is_one is = is ∙ ap (λ v. v % m) (is_one ∙ sym (pow-zero g))
-
-pub power_next : (m g k power next : ℕ) → power ≡ g ^ k % m → next ≡ (power * g) % m → next ≡ g ^ (k + 1) % m
-power_next m g k power next is e =
-    e ∙ ap (λ v. (v * g) % m) is ∙ mul-mod_first (g ^ k) g m
-    ∙ ap (λ v. v % m) (ap (λ v. g ^ k * v) (sym (pow-one g)) ∙ sym (pow-add g k 1))
-
--- one more entry of which something holds
-pub factors_more : {T : Type 0} (P : T → Type 0) (words : List T) (i : ℕ) (x : T) → i < length words
-    → ((k : ℕ) (d : T) → k < i → P (get_or words k d)) → P x
-    → (k : ℕ) (d : T) → k < i + 1 → P (get_or (set words i x) k d)
-factors_more P words i x within before is k d l = elim (cases_eq k i) [
-  | inl e ↦ subst (λ n. P (get_or (set words i x) n d)) (sym e) (subst P (sym (get_or-set_same words i x d within)) is)
-  | inr ne ↦ subst P (sym (get_or-set_other words i k x d ne)) (before k d (omega arith))
-]
 
 -- a list in another order has what all had
 pub all_reordered : {T : Type 0} (P : T → Type 0) (bits n : ℕ) (old new : List T) → n ≡ 2 ^ bits
@@ -73,20 +52,3 @@ exponent z n bits e whole =
     let same : 2 ^ z ≡ 2 ^ suc bits = omega (arith, e, whole, two) in
     let z_is : z ≡ suc bits = pow2_injective z (suc bits) same in
     (omega arith, omega (arith, e))
-
--- the powers in bit-reversed order
-pub planned : {T : Type 0} (number : T → ℕ) (m g n bits z : ℕ) (old new : List T) → Suits m g (2 * n) → 2 ^ z ≡ 2 * n
-    → n ≡ 2 ^ bits → length old ≡ n → length new ≡ n
-    → IsReordered (bits_reversed bits) old new → ((k : ℕ) → k < n → numbers number old k ≡ g ^ k % m)
-    → IsPlan m g z n (numbers number new)
-planned number m g n bits z old new suits e whole len len_new reordered powers =
-    let ex = exponent z n bits e whole in
-    record {
-      suits = subst (Suits m g) (sym e) suits;
-      half = ex.1;
-      entry = λ k l.
-          let b = bits_reversed_below bits k in
-          let at = number_reordered number old new k (bits_reversed bits k) (omega arith) (omega arith)
-          (λ d. reordered.each k d (omega arith)) in
-          at ∙ powers (bits_reversed bits k) (omega arith) ∙ ap (λ v. g ^ bits_reversed v k % m) ex.0;
-    }

@@ -6,7 +6,7 @@ use Rattle.std.proofs.lemmas.Bool.{cases_eq, cases_lt}
 use Rattle.std.specs.Int.{IsPowerOfTwo}
 use Rattle.modular_word.specs.Congruence.{Congruent}
 use Rattle.modular_word.specs.Sums.{sum_below}
-use Rattle.modular_word.proofs.Congruence.{of_equal, chained, residue_of, mod_of_multiple_left}
+use Rattle.modular_word.proofs.Congruence.{of_equal, chained, residue_of}
 use Rattle.modular_transform.specs.Orders.{bits_reversed}
 use Rattle.modular_transform.specs.Transforms.{Suits}
 use Rattle.modular_plan.specs.Plans.{constant, IsPlan, AreRemainders}
@@ -177,12 +177,6 @@ two_join_rooms {size} {last} {blocks} {done} {count} {length} b entries sizes ro
     let same : b * (blocks / 2) ≡ 2 * (b * (blocks / 4)) = ap (λ v. b * v) half ∙ omega arith in
     omega (arith, enough, same, half)
 
--- an entry that was reduced by 2m
-pub reduced_entry : {m : ℕ} (a x y bound : ℕ) → a ≡ x % bound → bound ≡ 2 * m → x ≡ y → Congruent m a y
-reduced_entry {m} a x y bound is bound_is same = record {
-  same = ap (λ v. v % m) (is ∙ ap (λ v. x % v) bound_is) ∙ mod_of_multiple_left m 2 x ∙ ap (λ v. v % m) same;
-}
-
 -- four entries that were reduced before
 pub joined_four_along : {m a b c d a' b' c' d' e f g h : ℕ} (w u v : ℕ) → Congruent m a a' → Congruent m b b'
     → Congruent m c c' → Congruent m d d'
@@ -288,13 +282,12 @@ remainders_of_fours {m} g z b last length entries w x y after last_is are room p
     (subst (λ s. IsLevel m g z b (count / 4) s (λ k. 4 * x k) after) four joined) in
     record { each = λ j i lj li. (level.each j i lj li).same }
 
--- remainders of which each was reduced by 2m
-pub remainders_reduced : {m : ℕ} (g z b count last length bound : ℕ) (x y after : ℕ → ℕ) → bound ≡ 2 * m
-    → count * last ≡ length → ((i : ℕ) → i < length → after i ≡ y i % bound)
+-- remainders of which each was reduced
+pub remainders_reduced : {m : ℕ} (g z b count last length : ℕ) (x y after : ℕ → ℕ) → count * last ≡ length
+    → ((i : ℕ) → i < length → Congruent m (after i) (y i))
     → AreRemainders m g z b count last x (λ i. y i % m) → AreRemainders m g z b count last x (λ i. after i % m)
-remainders_reduced {m} g z b count last length bound x y after bound_is whole reduced are = record {
+remainders_reduced {m} g z b count last length x y after whole reduced are = record {
   each = λ j i lj li.
       let room = mul-le-mul_right last (let k : j + 1 ≤ count = omega arith in k) in
-      let place : ℕ = j * last + i in
-      (reduced_entry _ _ _ _ (reduced place (omega (arith, room, whole, li))) bound_is refl).same ∙ are.each j i lj li;
+      (reduced (j * last + i) (omega (arith, room, whole, li))).same ∙ are.each j i lj li;
 }

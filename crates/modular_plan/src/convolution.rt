@@ -10,9 +10,10 @@ ghost use Rattle.modular_plan.specs.Products.{product_modulo, AreProducts};
 
 use crate::entry::PlanEntry;
 use crate::join::join_scaled;
-use crate::modulus::{Factor, PlannedModulus, reduced_once};
+use crate::modulus::{Factor, PlannedModulus};
 use crate::products::{multiply, reduce_products};
-use crate::split::{split, splits};
+use crate::split::{split, split_loosely, splits};
+use modular_prim::below::reduced_once;
 use modular_prim::euclid::invm;
 use modular_prim::plain_word::PlainWord;
 use modular_word::path_word::PathWord;
@@ -31,9 +32,39 @@ fn residue_of_count<T: PlainWord>(m: &PlannedModulus<T>, count: usize) -> T
     residue
 }
 
+// Splits the first of two lists that `join_products` multiplies. For single entries and an odd modulus it takes any
+// words, so that no residues are needed.
+fn split_first<T: PlainWord, F: PlanEntry<T>>(
+    m: &PlannedModulus<T>,
+    xs: &mut [T],
+    table: &[F],
+    b: usize,
+    last: usize,
+)
+    requires entries { All (λ x. T.number x < 4 * T.number m.now.modulus) xs.old }
+    requires factors { All (λ f. IsFactor T.base (T.number m.now.modulus) (F.value f) (F.quotient f))
+        table.now }
+    requires some { 1 ≤ last }
+    requires count { IsPowerOfTwo (length xs.old / last) }
+    requires whole { length xs.old / last * last ≡ length xs.old }
+    requires within { (b + 1) * (length xs.old / last / 2) ≤ length table.now }
+    ensures below { ((last ≡ 1) × (T.number m.now.modulus % 2 ≡ 1) → ⊥) →
+        All (λ x. T.number x < T.number m.now.modulus) xs.new }
+    ensures remainders { let modulus = T.number m.now.modulus in (g z : ℕ) →
+        IsPlan modulus g z (length table.now) (numbers F.value table.now) →
+        AreRemainders modulus g z b (length xs.old / last) last (numbers T.number xs.old)
+        (λ i. numbers T.number xs.new i % modulus) }
+{
+    if last == 1 && m.modulus.is_odd() {
+        split_loosely(m, xs, table, b, last);
+    } else {
+        split(m, xs, table, b, last);
+    }
+}
+
 // Multiplies the blocks as `multiply` does, and joins the products as `join_scaled` does. Single entries
 // are multiplied by Montgomery's reduction where m is odd: then the number of words, by which it
-// divides, is made up for by the factor.
+// divides, is made up for by the factor, and the entries of the first list may be any words.
 fn join_products<T: PlainWord, F: PlanEntry<T>>(
     m: &PlannedModulus<T>,
     xs: &mut [T],
@@ -43,7 +74,9 @@ fn join_products<T: PlainWord, F: PlanEntry<T>>(
     last: usize,
     w: &Factor<T>,
 )
-    requires below { All (λ x. T.number x < T.number m.now.modulus) xs.old }
+    requires below { ((last ≡ 1) × (T.number m.now.modulus % 2 ≡ 1) → ⊥) →
+        All (λ x. T.number x < T.number m.now.modulus) xs.old }
+    requires other_below { All (λ y. T.number y < T.number m.now.modulus) ys.now }
     requires equal { length ys.now ≡ length xs.old }
     requires factors { All (λ f. IsFactor T.base (T.number m.now.modulus) (F.value f) (F.quotient f))
         table.now }
@@ -135,7 +168,7 @@ pub fn convolve_block<T: PlainWord, F: PlanEntry<T>>(
     match invm(count, m.modulus) {
         Some(part) => {
             let part = m.factor(part);
-            split(m, xs, table, b, last);
+            split_first(m, xs, table, b, last);
             split(m, ys, table, b, last);
             join_products(m, xs, ys, table, b, last, &part);
             true

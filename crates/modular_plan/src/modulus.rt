@@ -5,6 +5,7 @@ ghost use Rattle.modular_word.specs.Congruence.{Congruent};
 ghost use Rattle.modular_word.specs.Reciprocals.{IsReciprocal};
 ghost use Rattle.modular_plan.specs.Factors.{IsFactor};
 
+use modular_prim::below::reduced_once;
 use modular_prim::plain_word::PlainWord;
 use modular_prim::reciprocal::invert_word;
 use modular_word::path_word::PathWord;
@@ -35,6 +36,15 @@ impl<T: PathWord> Clone for Factor<T> {
 
 impl<T: PathWord> Copy for Factor<T> {}
 
+impl<T: PathWord> Factor<T> {
+    // Whether it is 1.
+    pub(crate) fn is_one(&self) -> bool
+        ensures { IsTrue result ↔ (T.number self.now.value ≡ 1) }
+    {
+        self.value == T::one()
+    }
+}
+
 /// A modulus m with what is computed once of it. It is from 1 to a fourth of the number of words, so
 /// that words below 4m are at hand for sums that aren't reduced.
 #[derive(Debug, PartialEq, Eq)]
@@ -60,19 +70,6 @@ impl<T: PathWord> Clone for PlannedModulus<T> {
 }
 
 impl<T: PathWord> Copy for PlannedModulus<T> {}
-
-/// The word, less a bound where it isn't below it: the less of the word and of what wraps around when
-/// the bound is taken from it. Condition: it is below twice the bound.
-pub fn reduced_once<T: PathWord>(x: T, bound: T) -> T
-    requires { T.number x < 2 * T.number bound }
-    ensures value { T.number result ≡ T.number x % T.number bound }
-    ensures below { T.number result < T.number bound }
-{
-    // a word that was read is known to fit
-    let _ = bound.is_below(x);
-    let less = x.wrapping_sub(bound);
-    if less.is_below(x) { less } else { x }
-}
 
 impl<T: PlainWord> PlannedModulus<T> {
     /// Whether plans admit the modulus m: it is at least 1, and 4m is at most the number of words.

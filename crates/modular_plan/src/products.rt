@@ -22,16 +22,21 @@ fn multiply_each<T: PlainWord>(m: &PlannedModulus<T>, xs: &mut [T], ys: &[T])
     ensures below { All (λ x. T.number x < T.number m.now.modulus) xs.new }
 {
     'entries: for i in 0..xs.len() {
-        xs[i] = m.multiply(xs[i], ys[i]);
+        let x = xs[i];
+        // never so
+        if m.is_outside(x) {
+            return;
+        }
+        xs[i] = m.multiply(x, ys[i]);
     }
 }
 
-// A number below 2m that is the product of two words over the number of words, modulo m: Montgomery's
-// reduction, by the inverse of m. The multiple of m that it gives has the low word of the product, so
+// A number below 2m that is the product of any word x and a word y below m over the number of words, modulo m:
+// Montgomery's reduction, by the inverse of m. The multiple of m that it gives has the low word of the product, so
 // that the high words are all that is left of the difference. (By the negated inverse there is a carry.)
 fn reduced_product<T: PlainWord>(m: &PlannedModulus<T>, inverse: T, x: T, y: T) -> T
     requires inverse { IsInverse T.base (T.number m.now.modulus) (T.number inverse) }
-    requires below { T.number x < T.number m.now.modulus }
+    requires below { T.number y < T.number m.now.modulus }
     ensures below { T.number result < 2 * T.number m.now.modulus }
     ensures congruent { Congruent (T.number m.now.modulus) (T.number result * T.base) (T.number x * T.number y) }
 {
@@ -40,7 +45,7 @@ fn reduced_product<T: PlainWord>(m: &PlannedModulus<T>, inverse: T, x: T, y: T) 
     high.plus(m.modulus.minus(multiple))
 }
 
-// Each entry times the one at its place, over the number of words, modulo m.
+// Each entry, which may be any word, times the one at its place, over the number of words, modulo m.
 pub(crate) fn reduce_products<T: PlainWord>(
     m: &PlannedModulus<T>,
     inverse: T,
@@ -48,14 +53,19 @@ pub(crate) fn reduce_products<T: PlainWord>(
     ys: &[T],
 )
     requires inverse { IsInverse T.base (T.number m.now.modulus) (T.number inverse) }
-    requires below { All (λ x. T.number x < T.number m.now.modulus) xs.old }
+    requires below { All (λ y. T.number y < T.number m.now.modulus) ys.now }
     requires equal { length ys.now ≡ length xs.old }
     ensures below { All (λ x. T.number x < 2 * T.number m.now.modulus) xs.new }
     ensures products { (i : ℕ) → i < length xs.old → Congruent (T.number m.now.modulus)
         (numbers T.number xs.new i * T.base) (numbers T.number xs.old i * numbers T.number ys.now i) }
 {
     'entries: for i in 0..xs.len() {
-        xs[i] = reduced_product(m, inverse, xs[i], ys[i]);
+        let y = ys[i];
+        // never so
+        if m.is_outside(y) {
+            return;
+        }
+        xs[i] = reduced_product(m, inverse, xs[i], y);
     }
 }
 

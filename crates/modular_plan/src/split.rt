@@ -8,64 +8,51 @@ ghost use Rattle.modular_plan.specs.Steps.{IsPairSplit, IsFourSplit, PairDone, B
 ghost use Rattle.modular_plan.specs.Steps.{StageDone, FourDone, BlockOfFours, StageOfFours, IsLevel};
 
 use crate::entry::PlanEntry;
-use crate::modulus::{Factor, PlannedModulus, reduced_once};
+use crate::modulus::{Factor, PlannedModulus};
+use crate::roomy::RoomyModulus;
+use crate::split_steps::SplitSteps;
 use modular_prim::plain_word::PlainWord;
 use modular_word::path_word::PathWord;
 
-// x + y·w and x - y·w, below 4m.
-fn split_values<T: PlainWord>(m: &PlannedModulus<T>, x: T, y: T, w: &Factor<T>) -> (T, T)
-    requires below { T.number x < 4 * T.number m.now.modulus }
-    requires factor { IsFactor T.base (T.number m.now.modulus) (T.number w.now.value) (T.number w.now.quotient) }
-    ensures below { T.number result.0 < 4 * T.number m.now.modulus }
-    ensures difference_below { T.number result.1 < 4 * T.number m.now.modulus }
-    ensures pair { IsPairSplit (T.number m.now.modulus) (T.number w.now.value) (T.number x) (T.number y)
-        (T.number result.0) (T.number result.1) }
-{
-    let twice = m.twice();
-    let x = reduced_once(x, twice);
-    let product = m.times(y, w);
-    (x.plus(product), x.plus(twice.minus(product)))
-}
-
 // The pair at two places.
-fn split_pair<T: PlainWord>(
-    m: &PlannedModulus<T>,
+fn split_pair<T: PlainWord, M: SplitSteps<T>>(
+    m: &M,
     xs: &mut [T],
     low: usize,
     high: usize,
     w: &Factor<T>,
 )
-    requires entries { All (λ x. T.number x < 4 * T.number m.now.modulus) xs.old }
-    requires factor { IsFactor T.base (T.number m.now.modulus) (T.number w.now.value) (T.number w.now.quotient) }
+    requires entries { All (λ x. T.number x < M.bound m.now) xs.old }
+    requires factor { IsFactor T.base (M.modulus m.now) (T.number w.now.value) (T.number w.now.quotient) }
     requires order { low < high }
     requires within { high < length xs.old }
-    ensures entries { All (λ x. T.number x < 4 * T.number m.now.modulus) xs.new }
-    ensures done { PairDone (IsPairSplit (T.number m.now.modulus) (T.number w.now.value)) low high
+    ensures entries { All (λ x. T.number x < M.bound m.now) xs.new }
+    ensures done { PairDone (IsPairSplit (M.modulus m.now) (T.number w.now.value)) low high
         (numbers T.number xs.old) (numbers T.number xs.new) }
 {
-    let (sum, difference) = split_values(m, xs[low], xs[high], w);
+    let (sum, difference) = m.pair(xs[low], xs[high], w);
     xs[high] = difference;
     xs[low] = sum;
 }
 
 // The pairs of the block from place `first` on.
-fn split_block<T: PlainWord>(
-    m: &PlannedModulus<T>,
+fn split_block<T: PlainWord, M: SplitSteps<T>>(
+    m: &M,
     xs: &mut [T],
     first: usize,
     half: usize,
     w: &Factor<T>,
 )
-    requires entries { All (λ x. T.number x < 4 * T.number m.now.modulus) xs.old }
-    requires factor { IsFactor T.base (T.number m.now.modulus) (T.number w.now.value) (T.number w.now.quotient) }
+    requires entries { All (λ x. T.number x < M.bound m.now) xs.old }
+    requires factor { IsFactor T.base (M.modulus m.now) (T.number w.now.value) (T.number w.now.quotient) }
     requires within { first + (half + half) ≤ length xs.old }
-    ensures entries { All (λ x. T.number x < 4 * T.number m.now.modulus) xs.new }
-    ensures done { BlockDone (IsPairSplit (T.number m.now.modulus) (T.number w.now.value)) first half half
+    ensures entries { All (λ x. T.number x < M.bound m.now) xs.new }
+    ensures done { BlockDone (IsPairSplit (M.modulus m.now) (T.number w.now.value)) first half half
         (numbers T.number xs.old) (numbers T.number xs.new) }
 {
     'columns: for i in 0..half {
         // never so
-        if m.is_outside(xs[first + i]) {
+        if m.is_beyond(xs[first + i]) {
             return;
         }
         split_pair(m, xs, first + i, first + (half + i), w);
@@ -73,23 +60,23 @@ fn split_block<T: PlainWord>(
 }
 
 // All blocks of a stage, block p by entry first + p of the table.
-fn split_stage<T: PlainWord, F: PlanEntry<T>>(
-    m: &PlannedModulus<T>,
+fn split_stage<T: PlainWord, M: SplitSteps<T>, F: PlanEntry<T>>(
+    m: &M,
     xs: &mut [T],
     half: usize,
     blocks: usize,
     table: &[F],
     first: usize,
 )
-    requires entries { All (λ x. T.number x < 4 * T.number m.now.modulus) xs.old }
-    requires factors { All (λ f. IsFactor T.base (T.number m.now.modulus) (F.value f) (F.quotient f))
+    requires entries { All (λ x. T.number x < M.bound m.now) xs.old }
+    requires factors { All (λ f. IsFactor T.base (M.modulus m.now) (F.value f) (F.quotient f))
         table.now }
     requires whole { blocks * (half + half) ≡ length xs.old }
     requires within { first + blocks ≤ length table.now }
     requires some { 0 < half }
-    ensures entries { All (λ x. T.number x < 4 * T.number m.now.modulus) xs.new }
+    ensures entries { All (λ x. T.number x < M.bound m.now) xs.new }
     ensures done { StageDone
-        (λ p. IsPairSplit (T.number m.now.modulus) (numbers F.value table.now (first + p))) half blocks
+        (λ p. IsPairSplit (M.modulus m.now) (numbers F.value table.now (first + p))) half blocks
         (numbers T.number xs.old) (numbers T.number xs.new) }
 {
     'each_block: for p in 0..blocks {
@@ -99,8 +86,9 @@ fn split_stage<T: PlainWord, F: PlanEntry<T>>(
 }
 
 // Two stages of the four quarters of a block: by the block's factor w, and by those of its halves.
-fn split_columns<T: PlainWord>(
-    m: &PlannedModulus<T>,
+#[inline(always)]
+fn split_columns<T: PlainWord, M: SplitSteps<T>>(
+    m: &M,
     first: &mut [T],
     second: &mut [T],
     third: &mut [T],
@@ -109,20 +97,20 @@ fn split_columns<T: PlainWord>(
     u: &Factor<T>,
     v: &Factor<T>,
 )
-    requires first { All (λ x. T.number x < 4 * T.number m.now.modulus) first.old }
-    requires second { All (λ x. T.number x < 4 * T.number m.now.modulus) second.old }
-    requires third { All (λ x. T.number x < 4 * T.number m.now.modulus) third.old }
-    requires fourth { All (λ x. T.number x < 4 * T.number m.now.modulus) fourth.old }
-    requires factor { IsFactor T.base (T.number m.now.modulus) (T.number w.now.value) (T.number w.now.quotient) }
-    requires low_factor { IsFactor T.base (T.number m.now.modulus) (T.number u.now.value) (T.number u.now.quotient) }
-    requires high_factor { IsFactor T.base (T.number m.now.modulus) (T.number v.now.value) (T.number v.now.quotient) }
+    requires first { All (λ x. T.number x < M.bound m.now) first.old }
+    requires second { All (λ x. T.number x < M.bound m.now) second.old }
+    requires third { All (λ x. T.number x < M.bound m.now) third.old }
+    requires fourth { All (λ x. T.number x < M.bound m.now) fourth.old }
+    requires factor { IsFactor T.base (M.modulus m.now) (T.number w.now.value) (T.number w.now.quotient) }
+    requires low_factor { IsFactor T.base (M.modulus m.now) (T.number u.now.value) (T.number u.now.quotient) }
+    requires high_factor { IsFactor T.base (M.modulus m.now) (T.number v.now.value) (T.number v.now.quotient) }
     requires quarters { (length second.old ≡ length first.old) × (length third.old ≡ length first.old)
         × (length fourth.old ≡ length first.old) }
-    ensures first { All (λ x. T.number x < 4 * T.number m.now.modulus) first.new }
-    ensures second { All (λ x. T.number x < 4 * T.number m.now.modulus) second.new }
-    ensures third { All (λ x. T.number x < 4 * T.number m.now.modulus) third.new }
-    ensures fourth { All (λ x. T.number x < 4 * T.number m.now.modulus) fourth.new }
-    ensures done { (i : ℕ) → i < length first.old → IsFourSplit (T.number m.now.modulus)
+    ensures first { All (λ x. T.number x < M.bound m.now) first.new }
+    ensures second { All (λ x. T.number x < M.bound m.now) second.new }
+    ensures third { All (λ x. T.number x < M.bound m.now) third.new }
+    ensures fourth { All (λ x. T.number x < M.bound m.now) fourth.new }
+    ensures done { (i : ℕ) → i < length first.old → IsFourSplit (M.modulus m.now)
         (T.number w.now.value) (T.number u.now.value) (T.number v.now.value)
         (numbers T.number first.old i) (numbers T.number second.old i)
         (numbers T.number third.old i) (numbers T.number fourth.old i)
@@ -132,13 +120,10 @@ fn split_columns<T: PlainWord>(
     'columns: for i in 0..first.len() {
         let x = first[i];
         // never so
-        if m.is_outside(x) {
+        if m.is_beyond(x) {
             return;
         }
-        let (e, g) = split_values(m, x, third[i], w);
-        let (f, h) = split_values(m, second[i], fourth[i], w);
-        let (a, b) = split_values(m, e, f, u);
-        let (c, d) = split_values(m, g, h, v);
+        let (a, b, c, d) = m.four(x, second[i], third[i], fourth[i], w, u, v);
         first[i] = a;
         second[i] = b;
         third[i] = c;
@@ -147,8 +132,9 @@ fn split_columns<T: PlainWord>(
 }
 
 // Two stages of the block of four times q entries from place `first` on.
-fn split_quarters<T: PlainWord>(
-    m: &PlannedModulus<T>,
+#[inline(always)]
+fn split_quarters<T: PlainWord, M: SplitSteps<T>>(
+    m: &M,
     xs: &mut [T],
     first: usize,
     q: usize,
@@ -156,13 +142,13 @@ fn split_quarters<T: PlainWord>(
     u: &Factor<T>,
     v: &Factor<T>,
 )
-    requires entries { All (λ x. T.number x < 4 * T.number m.now.modulus) xs.old }
-    requires factor { IsFactor T.base (T.number m.now.modulus) (T.number w.now.value) (T.number w.now.quotient) }
-    requires low_factor { IsFactor T.base (T.number m.now.modulus) (T.number u.now.value) (T.number u.now.quotient) }
-    requires high_factor { IsFactor T.base (T.number m.now.modulus) (T.number v.now.value) (T.number v.now.quotient) }
+    requires entries { All (λ x. T.number x < M.bound m.now) xs.old }
+    requires factor { IsFactor T.base (M.modulus m.now) (T.number w.now.value) (T.number w.now.quotient) }
+    requires low_factor { IsFactor T.base (M.modulus m.now) (T.number u.now.value) (T.number u.now.quotient) }
+    requires high_factor { IsFactor T.base (M.modulus m.now) (T.number v.now.value) (T.number v.now.quotient) }
     requires within { first + (q + q + (q + q)) ≤ length xs.old }
-    ensures entries { All (λ x. T.number x < 4 * T.number m.now.modulus) xs.new }
-    ensures done { BlockOfFours (IsFourSplit (T.number m.now.modulus) (T.number w.now.value)
+    ensures entries { All (λ x. T.number x < M.bound m.now) xs.new }
+    ensures done { BlockOfFours (IsFourSplit (M.modulus m.now) (T.number w.now.value)
         (T.number u.now.value) (T.number v.now.value))
         first q q (numbers T.number xs.old) (numbers T.number xs.new) }
 {
@@ -176,23 +162,24 @@ fn split_quarters<T: PlainWord>(
 
 // Two stages of all blocks, block p by entry first + p of the table, and its halves by the entries at
 // twice that place.
-fn split_two_stages<T: PlainWord, F: PlanEntry<T>>(
-    m: &PlannedModulus<T>,
+#[inline(always)]
+fn split_two_stages<T: PlainWord, M: SplitSteps<T>, F: PlanEntry<T>>(
+    m: &M,
     xs: &mut [T],
     q: usize,
     blocks: usize,
     table: &[F],
     first: usize,
 )
-    requires entries { All (λ x. T.number x < 4 * T.number m.now.modulus) xs.old }
-    requires factors { All (λ f. IsFactor T.base (T.number m.now.modulus) (F.value f) (F.quotient f))
+    requires entries { All (λ x. T.number x < M.bound m.now) xs.old }
+    requires factors { All (λ f. IsFactor T.base (M.modulus m.now) (F.value f) (F.quotient f))
         table.now }
     requires whole { blocks * (q + q + (q + q)) ≡ length xs.old }
     requires within { 2 * (first + blocks) ≤ length table.now }
     requires some { 0 < q }
-    ensures entries { All (λ x. T.number x < 4 * T.number m.now.modulus) xs.new }
+    ensures entries { All (λ x. T.number x < M.bound m.now) xs.new }
     ensures done { let w = numbers F.value table.now in
-        StageOfFours (λ p. IsFourSplit (T.number m.now.modulus) (w (first + p)) (w (2 * (first + p)))
+        StageOfFours (λ p. IsFourSplit (M.modulus m.now) (w (first + p)) (w (2 * (first + p)))
         (w (2 * (first + p) + 1))) q blocks
         (numbers T.number xs.old) (numbers T.number xs.new) }
 {
@@ -205,31 +192,118 @@ fn split_two_stages<T: PlainWord, F: PlanEntry<T>>(
     }
 }
 
+// `split_two_stages` once for each length that is a power of four up to 1024: a compiler that knows it addresses the
+// quarters by one pointer.
+fn split_known<T: PlainWord, M: SplitSteps<T>, F: PlanEntry<T>>(
+    m: &M,
+    xs: &mut [T],
+    q: usize,
+    blocks: usize,
+    table: &[F],
+    first: usize,
+)
+    requires entries { All (λ x. T.number x < M.bound m.now) xs.old }
+    requires factors { All (λ f. IsFactor T.base (M.modulus m.now) (F.value f) (F.quotient f))
+        table.now }
+    requires whole { blocks * (q + q + (q + q)) ≡ length xs.old }
+    requires within { 2 * (first + blocks) ≤ length table.now }
+    requires some { 0 < q }
+    ensures entries { All (λ x. T.number x < M.bound m.now) xs.new }
+    ensures done { let w = numbers F.value table.now in
+        StageOfFours (λ p. IsFourSplit (M.modulus m.now) (w (first + p)) (w (2 * (first + p)))
+        (w (2 * (first + p) + 1))) q blocks
+        (numbers T.number xs.old) (numbers T.number xs.new) }
+{
+    match q {
+        1 => split_two_stages(m, xs, 1, blocks, table, first),
+        4 => split_two_stages(m, xs, 4, blocks, table, first),
+        16 => split_two_stages(m, xs, 16, blocks, table, first),
+        64 => split_two_stages(m, xs, 64, blocks, table, first),
+        256 => split_two_stages(m, xs, 256, blocks, table, first),
+        1024 => split_two_stages(m, xs, 1024, blocks, table, first),
+        _ => split_two_stages(m, xs, q, blocks, table, first),
+    }
+}
+
+// Two stages of the whole list by a plan that begins with 1: by 1 and by 1, and by v, its second factor.
+fn split_by_one<T: PlainWord, M: SplitSteps<T>>(m: &M, xs: &mut [T], q: usize, v: &Factor<T>)
+    requires entries { All (λ x. T.number x < 4 * M.modulus m.now) xs.old }
+    requires factor { IsFactor T.base (M.modulus m.now) (T.number v.now.value) (T.number v.now.quotient) }
+    requires whole { q + q + (q + q) ≡ length xs.old }
+    ensures entries { All (λ x. T.number x < M.bound m.now) xs.new }
+    ensures done { BlockOfFours (IsFourSplit (M.modulus m.now) 1 1 (T.number v.now.value))
+        0 q q (numbers T.number xs.old) (numbers T.number xs.new) }
+{
+    'columns: for i in 0..q {
+        // never so
+        if m.is_beyond(xs[i]) {
+            return;
+        }
+        let x = xs[i];
+        let (y, z, t) = (xs[q + i], xs[q + q + i], xs[q + q + (q + i)]);
+        let (a, b, c, d) = m.four_by_one(x, y, z, t, v);
+        xs[q + q + (q + i)] = d;
+        xs[q + q + i] = c;
+        xs[q + i] = b;
+        xs[i] = a;
+    }
+}
+
+// A pass of two stages, block p by entry first + p of the table. The first pass of a transform takes one product in
+// place of four, since a plan begins with 1.
+fn split_pass<T: PlainWord, M: SplitSteps<T>, F: PlanEntry<T>>(
+    m: &M,
+    xs: &mut [T],
+    q: usize,
+    blocks: usize,
+    table: &[F],
+    first: usize,
+)
+    requires entries { All (λ x. T.number x < M.bound m.now) xs.old }
+    requires first_entries { blocks ≡ 1 → All (λ x. T.number x < 4 * M.modulus m.now) xs.old }
+    requires factors { All (λ f. IsFactor T.base (M.modulus m.now) (F.value f) (F.quotient f))
+        table.now }
+    requires whole { blocks * (q + q + (q + q)) ≡ length xs.old }
+    requires within { 2 * (first + blocks) ≤ length table.now }
+    requires some { 0 < q }
+    ensures entries { All (λ x. T.number x < M.bound m.now) xs.new }
+    ensures done { let w = numbers F.value table.now in
+        StageOfFours (λ p. IsFourSplit (M.modulus m.now) (w (first + p)) (w (2 * (first + p)))
+        (w (2 * (first + p) + 1))) q blocks
+        (numbers T.number xs.old) (numbers T.number xs.new) }
+{
+    if blocks == 1 && first == 0 && table[0].factor().is_one() {
+        let v = table[1].factor();
+        split_by_one(m, xs, q, &v);
+    } else {
+        split_known(m, xs, q, blocks, table, first);
+    }
+}
+
 // Two stages of the four entries from place `first` on, which become residues.
-fn split_neighbours<T: PlainWord>(
-    m: &PlannedModulus<T>,
+fn split_neighbours<T: PlainWord, M: SplitSteps<T>>(
+    m: &M,
     xs: &mut [T],
     first: usize,
     w: &Factor<T>,
     u: &Factor<T>,
     v: &Factor<T>,
 )
-    requires entries { All (λ x. T.number x < 4 * T.number m.now.modulus) xs.old }
-    requires factor { IsFactor T.base (T.number m.now.modulus) (T.number w.now.value) (T.number w.now.quotient) }
-    requires low_factor { IsFactor T.base (T.number m.now.modulus) (T.number u.now.value) (T.number u.now.quotient) }
-    requires high_factor { IsFactor T.base (T.number m.now.modulus) (T.number v.now.value) (T.number v.now.quotient) }
+    requires entries { All (λ x. T.number x < M.bound m.now) xs.old }
+    requires factor { IsFactor T.base (M.modulus m.now) (T.number w.now.value) (T.number w.now.quotient) }
+    requires low_factor { IsFactor T.base (M.modulus m.now) (T.number u.now.value) (T.number u.now.quotient) }
+    requires high_factor { IsFactor T.base (M.modulus m.now) (T.number v.now.value) (T.number v.now.quotient) }
     requires within { first + 3 < length xs.old }
-    ensures entries { All (λ x. T.number x < 4 * T.number m.now.modulus) xs.new }
+    ensures entries { All (λ x. T.number x < M.bound m.now) xs.new }
     ensures below { (k : ℕ) → first ≤ k → k < first + 4
-        → numbers T.number xs.new k < T.number m.now.modulus }
-    ensures done { FourDone (IsFourSplit (T.number m.now.modulus) (T.number w.now.value)
+        → numbers T.number xs.new k < M.modulus m.now }
+    ensures done { FourDone (IsFourSplit (M.modulus m.now) (T.number w.now.value)
         (T.number u.now.value) (T.number v.now.value))
         first (first + 1) (first + 2) (first + 3) (numbers T.number xs.old) (numbers T.number xs.new) }
 {
-    let (e, g) = split_values(m, xs[first], xs[first + 2], w);
-    let (f, h) = split_values(m, xs[first + 1], xs[first + 3], w);
-    let (a, b) = split_values(m, e, f, u);
-    let (c, d) = split_values(m, g, h, v);
+    let (x, y) = (xs[first], xs[first + 1]);
+    let (z, t) = (xs[first + 2], xs[first + 3]);
+    let (a, b, c, d) = m.four(x, y, z, t, w, u, v);
     xs[first + 3] = m.residue(d);
     xs[first + 2] = m.residue(c);
     xs[first + 1] = m.residue(b);
@@ -237,21 +311,21 @@ fn split_neighbours<T: PlainWord>(
 }
 
 // The last two stages: those of `split_two_stages` on each four neighbours, and their residues.
-fn split_fours<T: PlainWord, F: PlanEntry<T>>(
-    m: &PlannedModulus<T>,
+fn split_fours<T: PlainWord, M: SplitSteps<T>, F: PlanEntry<T>>(
+    m: &M,
     xs: &mut [T],
     blocks: usize,
     table: &[F],
     first: usize,
 )
-    requires entries { All (λ x. T.number x < 4 * T.number m.now.modulus) xs.old }
-    requires factors { All (λ f. IsFactor T.base (T.number m.now.modulus) (F.value f) (F.quotient f))
+    requires entries { All (λ x. T.number x < M.bound m.now) xs.old }
+    requires factors { All (λ f. IsFactor T.base (M.modulus m.now) (F.value f) (F.quotient f))
         table.now }
     requires whole { blocks * 4 ≡ length xs.old }
     requires within { 2 * (first + blocks) ≤ length table.now }
-    ensures below { All (λ x. T.number x < T.number m.now.modulus) xs.new }
+    ensures below { All (λ x. T.number x < M.modulus m.now) xs.new }
     ensures done { let w = numbers F.value table.now in
-        StageOfFours (λ p. IsFourSplit (T.number m.now.modulus) (w (first + p)) (w (2 * (first + p)))
+        StageOfFours (λ p. IsFourSplit (M.modulus m.now) (w (first + p)) (w (2 * (first + p)))
         (w (2 * (first + p) + 1))) 1 blocks
         (numbers T.number xs.old) (numbers T.number xs.new) }
 {
@@ -261,7 +335,7 @@ fn split_fours<T: PlainWord, F: PlanEntry<T>>(
         let u = table[2 * place].factor();
         let v = table[2 * place + 1].factor();
         // never so
-        if m.is_outside(xs[p * 4]) {
+        if m.is_beyond(xs[p * 4]) {
             return;
         }
         split_neighbours(m, xs, p * 4, &w, &u, &v);
@@ -269,11 +343,11 @@ fn split_fours<T: PlainWord, F: PlanEntry<T>>(
 }
 
 // Each entry's residue.
-fn reduce_each<T: PlainWord>(m: &PlannedModulus<T>, xs: &mut [T])
-    requires { All (λ x. T.number x < 4 * T.number m.now.modulus) xs.old }
+fn reduce_each<T: PlainWord, M: SplitSteps<T>>(m: &M, xs: &mut [T])
+    requires { All (λ x. T.number x < M.bound m.now) xs.old }
     ensures residues { (i : ℕ) → i < length xs.old
-        → numbers T.number xs.new i ≡ numbers T.number xs.old i % T.number m.now.modulus }
-    ensures below { All (λ x. T.number x < T.number m.now.modulus) xs.new }
+        → numbers T.number xs.new i ≡ numbers T.number xs.old i % M.modulus m.now }
+    ensures below { All (λ x. T.number x < M.modulus m.now) xs.new }
 {
     'entries: for i in 0..xs.len() {
         xs[i] = m.residue(xs[i]);
@@ -304,7 +378,75 @@ pub fn splits(length: usize, factors: usize, b: usize, last: usize) -> bool
 
 // All stages from block b down to blocks of `last`, by the conditions of `split`. Where their number is
 // odd a single one comes first, so that the other passes do two.
-fn split_stages<T: PlainWord, F: PlanEntry<T>>(
+fn split_stages<T: PlainWord, M: SplitSteps<T>, F: PlanEntry<T>>(
+    m: &M,
+    xs: &mut [T],
+    table: &[F],
+    b: usize,
+    last: usize,
+)
+    requires entries { All (λ x. T.number x < 4 * M.modulus m.now) xs.old }
+    requires factors { All (λ f. IsFactor T.base (M.modulus m.now) (F.value f) (F.quotient f))
+        table.now }
+    requires some { 1 ≤ last }
+    requires count { IsPowerOfTwo (length xs.old / last) }
+    requires whole { length xs.old / last * last ≡ length xs.old }
+    requires within { (b + 1) * (length xs.old / last / 2) ≤ length table.now }
+    ensures entries { All (λ x. T.number x < M.bound m.now) xs.new }
+    ensures level { let modulus = M.modulus m.now in (g z : ℕ) →
+        IsPlan modulus g z (length table.now) (numbers F.value table.now) →
+        IsLevel modulus g z b (length xs.old / last) last (numbers T.number xs.old) (numbers T.number xs.new) }
+{
+    let mut left = (xs.len() / last).trailing_zeros();
+    let mut size = xs.len();
+    let mut blocks = 1;
+    'stages: while 0 < left {
+        if left % 2 == 0 {
+            size /= 4;
+            split_pass(m, xs, size, blocks, table, b * blocks);
+            blocks *= 4;
+            left -= 2;
+        } else {
+            size /= 2;
+            split_stage(m, xs, size, blocks, table, b * blocks);
+            blocks *= 2;
+            left -= 1;
+        }
+    }
+}
+
+// `split` by the steps that a modulus admits.
+fn split_by<T: PlainWord, M: SplitSteps<T>, F: PlanEntry<T>>(
+    m: &M,
+    xs: &mut [T],
+    table: &[F],
+    b: usize,
+    last: usize,
+)
+    requires entries { All (λ x. T.number x < 4 * M.modulus m.now) xs.old }
+    requires factors { All (λ f. IsFactor T.base (M.modulus m.now) (F.value f) (F.quotient f))
+        table.now }
+    requires some { 1 ≤ last }
+    requires count { IsPowerOfTwo (length xs.old / last) }
+    requires whole { length xs.old / last * last ≡ length xs.old }
+    requires within { (b + 1) * (length xs.old / last / 2) ≤ length table.now }
+    ensures below { All (λ x. T.number x < M.modulus m.now) xs.new }
+    ensures remainders { let modulus = M.modulus m.now in (g z : ℕ) →
+        IsPlan modulus g z (length table.now) (numbers F.value table.now) →
+        AreRemainders modulus g z b (length xs.old / last) last (numbers T.number xs.old) (numbers T.number xs.new) }
+{
+    if last == 1 && 4 <= xs.len() {
+        let fours = xs.len() / 4;
+        split_stages(m, xs, table, b, 4);
+        split_fours(m, xs, fours, table, b * fours);
+    } else {
+        split_stages(m, xs, table, b, last);
+        reduce_each(m, xs);
+    }
+}
+
+// `split` with entries that are only congruent to the remainders, and may be any words: no residues are taken.
+pub(crate) fn split_loosely<T: PlainWord, F: PlanEntry<T>>(
     m: &PlannedModulus<T>,
     xs: &mut [T],
     table: &[F],
@@ -318,26 +460,14 @@ fn split_stages<T: PlainWord, F: PlanEntry<T>>(
     requires count { IsPowerOfTwo (length xs.old / last) }
     requires whole { length xs.old / last * last ≡ length xs.old }
     requires within { (b + 1) * (length xs.old / last / 2) ≤ length table.now }
-    ensures entries { All (λ x. T.number x < 4 * T.number m.now.modulus) xs.new }
-    ensures level { let modulus = T.number m.now.modulus in (g z : ℕ) →
+    ensures remainders { let modulus = T.number m.now.modulus in (g z : ℕ) →
         IsPlan modulus g z (length table.now) (numbers F.value table.now) →
-        IsLevel modulus g z b (length xs.old / last) last (numbers T.number xs.old) (numbers T.number xs.new) }
+        AreRemainders modulus g z b (length xs.old / last) last (numbers T.number xs.old)
+        (λ i. numbers T.number xs.new i % modulus) }
 {
-    let mut left = (xs.len() / last).trailing_zeros();
-    let mut size = xs.len();
-    let mut blocks = 1;
-    'stages: while 0 < left {
-        if left % 2 == 0 {
-            size /= 4;
-            split_two_stages(m, xs, size, blocks, table, b * blocks);
-            blocks *= 4;
-            left -= 2;
-        } else {
-            size /= 2;
-            split_stage(m, xs, size, blocks, table, b * blocks);
-            blocks *= 2;
-            left -= 1;
-        }
+    match RoomyModulus::new(m) {
+        Some(roomy) => split_stages(&roomy, xs, table, b, last),
+        None => split_stages(m, xs, table, b, last),
     }
 }
 
@@ -372,12 +502,8 @@ pub fn split<T: PlainWord, F: PlanEntry<T>>(
         IsPlan modulus g z (length table.now) (numbers F.value table.now) →
         AreRemainders modulus g z b (length xs.old / last) last (numbers T.number xs.old) (numbers T.number xs.new) }
 {
-    if last == 1 && 4 <= xs.len() {
-        let fours = xs.len() / 4;
-        split_stages(m, xs, table, b, 4);
-        split_fours(m, xs, fours, table, b * fours);
-    } else {
-        split_stages(m, xs, table, b, last);
-        reduce_each(m, xs);
+    match RoomyModulus::new(m) {
+        Some(roomy) => split_by(&roomy, xs, table, b, last),
+        None => split_by(m, xs, table, b, last),
     }
 }

@@ -2,6 +2,7 @@
 //! parts, with no test of a number.
 
 use crate::modular_fold_paths::folds::{FoldedWord, reduce_by_folds, sum_once};
+use crate::modular_prim::below::reduced_once;
 use crate::modular_word::path_word::PathWord;
 use crate::modular_word::ring_word::RingWord;
 
@@ -13,23 +14,13 @@ fn fold_parts<T: PathWord>(low: T, high: T, p: u32, c: T) -> (T, T) {
     T::split(T::double_plus(scaled, T::merge(low, T::zero())))
 }
 
-// The residue of a word below 2m: the less of the word and of what wraps around when m is taken from it, which
-// compilers choose without a branch.
-#[inline]
-fn once_less<T: PathWord>(v: T, m: T) -> T {
-    // a word that was read is known to fit
-    let _ = m.is_zero_word();
-    let less = v.wrapping_sub(m);
-    if less.is_below(v) { less } else { v }
-}
-
 // The residue of a + b, where m is at most 2^p. Condition: b is at most m, and the sum below 2m.
 //
 // Where p leaves a bit of the word free the sum fits it, and one subtraction less is computed.
 #[inline]
 fn sum_of_parts<T: PathWord>(a: T, b: T, p: u32, m: T) -> T {
     if p < T::bits() {
-        once_less(a.plus(b), m)
+        reduced_once(a.plus(b), m)
     } else {
         sum_once(a, b, m)
     }
@@ -99,7 +90,7 @@ fn fold_word<T: PathWord>(v: T, p: u32, c: T) -> T {
 #[inline]
 pub fn reduce_word<T: FoldedWord>(v: T, p: u32, c: T, m: T) -> T {
     if is_once(p, c) {
-        once_less(fold_word(v, p, c), m)
+        reduced_once(fold_word(v, p, c), m)
     } else {
         reduce_by_folds(T::merge(v, T::zero()), p, c, m).0
     }

@@ -2,9 +2,10 @@
 
 use crate::modular_plan::entry::PlanEntry;
 use crate::modular_plan::join::join_scaled;
-use crate::modular_plan::modulus::{Factor, PlannedModulus, reduced_once};
+use crate::modular_plan::modulus::{Factor, PlannedModulus};
 use crate::modular_plan::products::{multiply, reduce_products};
-use crate::modular_plan::split::{split, splits};
+use crate::modular_plan::split::{split, split_loosely, splits};
+use crate::modular_prim::below::reduced_once;
 use crate::modular_prim::euclid::invm;
 use crate::modular_prim::plain_word::PlainWord;
 use crate::modular_word::path_word::PathWord;
@@ -21,9 +22,26 @@ fn residue_of_count<T: PlainWord>(m: &PlannedModulus<T>, count: usize) -> T {
     residue
 }
 
+// Splits the first of two lists that `join_products` multiplies. For single entries and an odd modulus it takes any
+// words, so that no residues are needed.
+#[inline]
+fn split_first<T: PlainWord, F: PlanEntry<T>>(
+    m: &PlannedModulus<T>,
+    xs: &mut [T],
+    table: &[F],
+    b: usize,
+    last: usize,
+) {
+    if last == 1 && m.modulus.is_odd() {
+        split_loosely(m, xs, table, b, last);
+    } else {
+        split(m, xs, table, b, last);
+    }
+}
+
 // Multiplies the blocks as `multiply` does, and joins the products as `join_scaled` does. Single entries
 // are multiplied by Montgomery's reduction where m is odd: then the number of words, by which it
-// divides, is made up for by the factor.
+// divides, is made up for by the factor, and the entries of the first list may be any words.
 fn join_products<T: PlainWord, F: PlanEntry<T>>(
     m: &PlannedModulus<T>,
     xs: &mut [T],
@@ -82,7 +100,7 @@ pub fn convolve_block<T: PlainWord, F: PlanEntry<T>>(
     match invm(count, m.modulus) {
         Some(part) => {
             let part = m.factor(part);
-            split(m, xs, table, b, last);
+            split_first(m, xs, table, b, last);
             split(m, ys, table, b, last);
             join_products(m, xs, ys, table, b, last, &part);
             true

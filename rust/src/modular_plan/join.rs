@@ -1,7 +1,9 @@
 //! From remainders modulo X^last - c back to the polynomial, in place, by stages.
 
 use crate::modular_plan::entry::PlanEntry;
-use crate::modular_plan::modulus::{Factor, PlannedModulus, reduced_once};
+use crate::modular_plan::join_steps::JoinSteps;
+use crate::modular_plan::modulus::{Factor, PlannedModulus};
+use crate::modular_plan::roomy::RoomyModulus;
 use crate::modular_prim::plain_word::PlainWord;
 use crate::modular_word::path_word::PathWord;
 use crate::modular_word::ring_word::RingWord;
@@ -16,8 +18,8 @@ fn mirrored(place: usize) -> usize {
 // Minus the inverse of an entry: the one at the place mirrored in its power of two, and -1 for the
 // first. Where the table is no plan the mirrored place may lie behind it.
 #[inline]
-fn minus_inverse<T: PlainWord, F: PlanEntry<T>>(
-    m: &PlannedModulus<T>,
+fn minus_inverse<T: PlainWord, F: PlanEntry<T>, M: JoinSteps<T>>(
+    m: &M,
     table: &[F],
     place: usize,
     minus: Factor<T>,
@@ -35,8 +37,8 @@ fn minus_inverse<T: PlainWord, F: PlanEntry<T>>(
 
 // Minus the inverses of a block's entry, and of those of its halves: from one mirrored place, since
 // those of the halves lie at twice that place, in the opposite order.
-fn minus_inverses<T: PlainWord, F: PlanEntry<T>>(
-    m: &PlannedModulus<T>,
+fn minus_inverses<T: PlainWord, F: PlanEntry<T>, M: JoinSteps<T>>(
+    m: &M,
     table: &[F],
     place: usize,
     minus: Factor<T>,
@@ -56,32 +58,24 @@ fn minus_inverses<T: PlainWord, F: PlanEntry<T>>(
     }
 }
 
-// x + y and (y - x)·v, below 2m.
-#[inline]
-fn join_values<T: PlainWord>(m: &PlannedModulus<T>, x: T, y: T, v: &Factor<T>) -> (T, T) {
-    let twice = m.twice();
-    let sum = reduced_once(x.plus(y), twice);
-    (sum, m.times(y.plus(twice.minus(x)), v))
-}
-
 // The pair at two places.
 #[inline]
-fn join_pair<T: PlainWord>(
-    m: &PlannedModulus<T>,
+fn join_pair<T: PlainWord, M: JoinSteps<T>>(
+    m: &M,
     xs: &mut [T],
     low: usize,
     high: usize,
     v: &Factor<T>,
 ) {
-    let (sum, product) = join_values(m, xs[low], xs[high], v);
+    let (sum, product) = m.pair(xs[low], xs[high], v);
     xs[high] = product;
     xs[low] = sum;
 }
 
 // The pairs of the block from place `first` on.
 #[inline]
-fn join_block<T: PlainWord>(
-    m: &PlannedModulus<T>,
+fn join_block<T: PlainWord, M: JoinSteps<T>>(
+    m: &M,
     xs: &mut [T],
     first: usize,
     half: usize,
@@ -89,7 +83,7 @@ fn join_block<T: PlainWord>(
 ) {
     'columns: for i in 0..half {
         // never so
-        if m.is_outside(xs[first + i]) {
+        if m.is_beyond(xs[first + i]) {
             return;
         }
         join_pair(m, xs, first + i, first + (half + i), v);
@@ -98,8 +92,8 @@ fn join_block<T: PlainWord>(
 
 // All blocks of a stage, block p by entry first + p of the table.
 #[inline]
-fn join_stage<T: PlainWord, F: PlanEntry<T>>(
-    m: &PlannedModulus<T>,
+fn join_stage<T: PlainWord, F: PlanEntry<T>, M: JoinSteps<T>>(
+    m: &M,
     xs: &mut [T],
     half: usize,
     blocks: usize,
@@ -113,25 +107,10 @@ fn join_stage<T: PlainWord, F: PlanEntry<T>>(
     }
 }
 
-// Four numbers, a quarter of a block apart: by minus the inverses of the factors of the block's halves,
-// and of its own.
-fn join_four<T: PlainWord>(
-    m: &PlannedModulus<T>,
-    four: (T, T, T, T),
-    w: &Factor<T>,
-    u: &Factor<T>,
-    v: &Factor<T>,
-) -> (T, T, T, T) {
-    let (e, f) = join_values(m, four.0, four.1, u);
-    let (g, h) = join_values(m, four.2, four.3, v);
-    let (a, c) = join_values(m, e, g, w);
-    let (b, d) = join_values(m, f, h, w);
-    (a, b, c, d)
-}
-
 // The columns of a block whose quarters are lists of their own.
-fn join_columns<T: PlainWord>(
-    m: &PlannedModulus<T>,
+#[inline(always)]
+fn join_columns<T: PlainWord, M: JoinSteps<T>>(
+    m: &M,
     a: &mut [T],
     b: &mut [T],
     c: &mut [T],
@@ -143,10 +122,10 @@ fn join_columns<T: PlainWord>(
     'columns_of_four: for i in 0..a.len() {
         let x = a[i];
         // never so
-        if m.is_outside(x) {
+        if m.is_beyond(x) {
             return;
         }
-        let (e, f, g, h) = join_four(m, (x, b[i], c[i], d[i]), w, u, v);
+        let (e, f, g, h) = m.four(x, b[i], c[i], d[i], w, u, v);
         a[i] = e;
         b[i] = f;
         c[i] = g;
@@ -155,8 +134,9 @@ fn join_columns<T: PlainWord>(
 }
 
 // Two stages of the block of four times q entries from place `first` on.
-fn join_quarters<T: PlainWord>(
-    m: &PlannedModulus<T>,
+#[inline(always)]
+fn join_quarters<T: PlainWord, M: JoinSteps<T>>(
+    m: &M,
     xs: &mut [T],
     first: usize,
     q: usize,
@@ -174,8 +154,9 @@ fn join_quarters<T: PlainWord>(
 
 // Two stages of all blocks, block p by entry first + p of the table, and its halves by the entries at
 // twice that place.
-fn join_two_stages<T: PlainWord, F: PlanEntry<T>>(
-    m: &PlannedModulus<T>,
+#[inline(always)]
+fn join_two_stages<T: PlainWord, F: PlanEntry<T>, M: JoinSteps<T>>(
+    m: &M,
     xs: &mut [T],
     q: usize,
     blocks: usize,
@@ -189,31 +170,50 @@ fn join_two_stages<T: PlainWord, F: PlanEntry<T>>(
     }
 }
 
-// The four entries from place `first` on, where all before them are below 2m.
-fn join_neighbours<T: PlainWord>(
-    m: &PlannedModulus<T>,
+// `join_two_stages` once for each length that is a power of four up to 1024, as `split_known`.
+fn join_known<T: PlainWord, F: PlanEntry<T>, M: JoinSteps<T>>(
+    m: &M,
+    xs: &mut [T],
+    q: usize,
+    blocks: usize,
+    table: &[F],
+    first: usize,
+    minus: &Factor<T>,
+) {
+    match q {
+        4 => join_two_stages(m, xs, 4, blocks, table, first, minus),
+        16 => join_two_stages(m, xs, 16, blocks, table, first, minus),
+        64 => join_two_stages(m, xs, 64, blocks, table, first, minus),
+        256 => join_two_stages(m, xs, 256, blocks, table, first, minus),
+        1024 => join_two_stages(m, xs, 1024, blocks, table, first, minus),
+        _ => join_two_stages(m, xs, q, blocks, table, first, minus),
+    }
+}
+
+// The four entries from place `first` on, where all before them are below the bound.
+fn join_neighbours<T: PlainWord, M: JoinSteps<T>>(
+    m: &M,
     xs: &mut [T],
     first: usize,
     w: &Factor<T>,
     u: &Factor<T>,
     v: &Factor<T>,
 ) {
-    let twice = m.twice();
-    let a = reduced_once(xs[first], twice);
-    let b = reduced_once(xs[first + 1], twice);
-    let c = reduced_once(xs[first + 2], twice);
-    let d = reduced_once(xs[first + 3], twice);
-    let (a, b, c, d) = join_four(m, (a, b, c, d), w, u, v);
+    let a = m.taken(xs[first]);
+    let b = m.taken(xs[first + 1]);
+    let c = m.taken(xs[first + 2]);
+    let d = m.taken(xs[first + 3]);
+    let (a, b, c, d) = m.four(a, b, c, d, w, u, v);
     xs[first + 3] = d;
     xs[first + 2] = c;
     xs[first + 1] = b;
     xs[first] = a;
 }
 
-// The first two stages of all blocks of four entries, which come below 2m: block p by entry first + p of
+// The first two stages of all blocks of four entries, which come below the bound: block p by entry first + p of
 // the table, and its halves by the entries at twice that place.
-fn join_fours<T: PlainWord, F: PlanEntry<T>>(
-    m: &PlannedModulus<T>,
+fn join_fours<T: PlainWord, F: PlanEntry<T>, M: JoinSteps<T>>(
+    m: &M,
     xs: &mut [T],
     blocks: usize,
     table: &[F],
@@ -223,25 +223,33 @@ fn join_fours<T: PlainWord, F: PlanEntry<T>>(
     'fours: for p in 0..blocks {
         let (w, u, v) = minus_inverses(m, table, first + p, *minus);
         // never so
-        if m.is_outside(xs[p * 4]) {
+        if m.is_beyond(xs[p * 4]) {
             return;
         }
         join_neighbours(m, xs, p * 4, &w, &u, &v);
     }
 }
 
-// Each entry reduced once by a bound.
+// Each entry brought below the bound.
 #[inline]
-fn reduce_each_once<T: PlainWord>(xs: &mut [T], bound: T) {
+fn take_each<T: PlainWord, M: JoinSteps<T>>(m: &M, xs: &mut [T]) {
     'entries: for i in 0..xs.len() {
-        xs[i] = reduced_once(xs[i], bound);
+        xs[i] = m.taken(xs[i]);
+    }
+}
+
+// Each entry's residue.
+#[inline]
+fn reduce_each<T: PlainWord, M: JoinSteps<T>>(m: &M, xs: &mut [T]) {
+    'entries: for i in 0..xs.len() {
+        xs[i] = m.residue(xs[i]);
     }
 }
 
 // The stages from blocks of `last` entries on: the number of blocks times the list whose remainders the
-// entries are, below 2m.
-fn join_blocks<T: PlainWord, F: PlanEntry<T>>(
-    m: &PlannedModulus<T>,
+// entries are, below the bound.
+fn join_blocks<T: PlainWord, F: PlanEntry<T>, M: JoinSteps<T>>(
+    m: &M,
     xs: &mut [T],
     table: &[F],
     b: usize,
@@ -253,7 +261,7 @@ fn join_blocks<T: PlainWord, F: PlanEntry<T>>(
     'stages: while size < xs.len() {
         if 2 < blocks {
             blocks /= 4;
-            join_two_stages(m, xs, size, blocks, table, b * blocks, minus);
+            join_known(m, xs, size, blocks, table, b * blocks, minus);
             size *= 4;
         } else {
             blocks /= 2;
@@ -263,32 +271,143 @@ fn join_blocks<T: PlainWord, F: PlanEntry<T>>(
     }
 }
 
-// All stages: the number of blocks times the list whose remainders the entries are, below 2m. The first
-// pass brings the entries there.
-fn join_stages<T: PlainWord, F: PlanEntry<T>>(
-    m: &PlannedModulus<T>,
+// The first pass, which brings the entries below the bound: the length of the blocks that it leaves.
+#[inline]
+fn join_first<T: PlainWord, F: PlanEntry<T>, M: JoinSteps<T>>(
+    m: &M,
+    xs: &mut [T],
+    table: &[F],
+    b: usize,
+    last: usize,
+    minus: &Factor<T>,
+) -> usize {
+    let fours = xs.len() / 4;
+    if last == 1 && fours > 0 {
+        join_fours(m, xs, fours, table, b * fours, minus);
+        4
+    } else {
+        take_each(m, xs);
+        last
+    }
+}
+
+// All stages: the number of blocks times the list whose remainders the entries are, below the bound.
+#[inline]
+fn join_stages<T: PlainWord, F: PlanEntry<T>, M: JoinSteps<T>>(
+    m: &M,
     xs: &mut [T],
     table: &[F],
     b: usize,
     last: usize,
 ) {
-    let minus = m.factor(m.modulus.minus(T::one()));
-    let fours = xs.len() / 4;
-    if last == 1 && fours > 0 {
-        join_fours(m, xs, fours, table, b * fours, &minus);
-        join_blocks(m, xs, table, b, 4, &minus);
-    } else {
-        reduce_each_once(xs, m.twice());
-        join_blocks(m, xs, table, b, last, &minus);
+    let minus = m.minus_one();
+    let size = join_first(m, xs, table, b, last, &minus);
+    join_blocks(m, xs, table, b, size, &minus);
+}
+
+// All stages and the residues: see `join`.
+#[inline]
+fn join_reduced<T: PlainWord, F: PlanEntry<T>, M: JoinSteps<T>>(
+    m: &M,
+    xs: &mut [T],
+    table: &[F],
+    b: usize,
+    last: usize,
+) {
+    join_stages(m, xs, table, b, last);
+    reduce_each(m, xs);
+}
+
+// The passes of two stages while more than four blocks are left: the length of the blocks that they leave.
+#[inline]
+fn join_passes<T: PlainWord, F: PlanEntry<T>, M: JoinSteps<T>>(
+    m: &M,
+    xs: &mut [T],
+    table: &[F],
+    b: usize,
+    last: usize,
+    minus: &Factor<T>,
+) -> usize {
+    let mut size = last;
+    let mut blocks = xs.len() / last;
+    'passes: while 4 < blocks {
+        blocks /= 4;
+        join_known(m, xs, size, blocks, table, b * blocks, minus);
+        size *= 4;
+    }
+    size
+}
+
+// Two stages of the whole list by a plan that begins with 1, each entry times the factor s: by -1 and by -1, and by v,
+// minus the inverse of its second factor.
+fn join_by_one<T: PlainWord, M: JoinSteps<T>>(
+    m: &M,
+    xs: &mut [T],
+    q: usize,
+    v: &Factor<T>,
+    s: &Factor<T>,
+) {
+    'columns: for i in 0..q {
+        let x = xs[i];
+        // never so
+        if m.is_beyond(x) {
+            return;
+        }
+        let (y, z, t) = (xs[q + i], xs[q + q + i], xs[q + q + (q + i)]);
+        let (a, b, c, d) = m.four_by_one(x, y, z, t, v, s);
+        xs[q + q + (q + i)] = d;
+        xs[q + q + i] = c;
+        xs[q + i] = b;
+        xs[i] = a;
     }
 }
 
 // Each entry's product with a factor.
 #[inline]
-fn scale_each<T: PlainWord>(m: &PlannedModulus<T>, xs: &mut [T], w: &Factor<T>) {
+fn scale_each<T: PlainWord, M: JoinSteps<T>>(m: &M, xs: &mut [T], w: &Factor<T>) {
     'entries: for i in 0..xs.len() {
-        xs[i] = m.product(xs[i], w);
+        let x = xs[i];
+        // never so
+        if m.is_beyond(x) {
+            return;
+        }
+        xs[i] = m.product(x, w);
     }
+}
+
+// The last stages and the product of each entry with a factor. Where the plan begins with 1 the last pass does both,
+// by five products in place of eight.
+fn join_last<T: PlainWord, F: PlanEntry<T>, M: JoinSteps<T>>(
+    m: &M,
+    xs: &mut [T],
+    table: &[F],
+    b: usize,
+    last: usize,
+    minus: &Factor<T>,
+    w: &Factor<T>,
+) {
+    if b == 0 && xs.len() / last == 4 && table[0].factor().is_one() {
+        let (_, _, v) = minus_inverses(m, table, 0, *minus);
+        join_by_one(m, xs, last, &v, w);
+    } else {
+        join_blocks(m, xs, table, b, last, minus);
+        scale_each(m, xs, w);
+    }
+}
+
+// `join_scaled` by the steps that a modulus admits.
+fn join_scaled_by<T: PlainWord, F: PlanEntry<T>, M: JoinSteps<T>>(
+    m: &M,
+    xs: &mut [T],
+    table: &[F],
+    b: usize,
+    last: usize,
+    w: &Factor<T>,
+) {
+    let minus = m.minus_one();
+    let size = join_first(m, xs, table, b, last, &minus);
+    let size = join_passes(m, xs, table, b, size, &minus);
+    join_last(m, xs, table, b, size, &minus, w);
 }
 
 /// Joins the blocks of `last` entries into block b of the tree of remainders, the way back from
@@ -308,8 +427,10 @@ pub fn join<T: PlainWord, F: PlanEntry<T>>(
     b: usize,
     last: usize,
 ) {
-    join_stages(m, xs, table, b, last);
-    reduce_each_once(xs, m.modulus);
+    match RoomyModulus::new(m) {
+        Some(roomy) => join_reduced(&roomy, xs, table, b, last),
+        None => join_reduced(m, xs, table, b, last),
+    }
 }
 
 /// Joins the blocks as `join` does, each coefficient times a factor: by the inverse modulo m of the
@@ -324,6 +445,8 @@ pub fn join_scaled<T: PlainWord, F: PlanEntry<T>>(
     last: usize,
     w: &Factor<T>,
 ) {
-    join_stages(m, xs, table, b, last);
-    scale_each(m, xs, w);
+    match RoomyModulus::new(m) {
+        Some(roomy) => join_scaled_by(&roomy, xs, table, b, last, w),
+        None => join_scaled_by(m, xs, table, b, last, w),
+    }
 }

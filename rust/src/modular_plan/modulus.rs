@@ -1,5 +1,6 @@
 //! Products by factors with a precomputed quotient, modulo numbers of at most a fourth of the words.
 
+use crate::modular_prim::below::reduced_once;
 use crate::modular_prim::plain_word::PlainWord;
 use crate::modular_prim::reciprocal::invert_word;
 use crate::modular_word::path_word::PathWord;
@@ -27,6 +28,14 @@ impl<T: PathWord> Clone for Factor<T> {
 
 impl<T: PathWord> Copy for Factor<T> {}
 
+impl<T: PathWord> Factor<T> {
+    // Whether it is 1.
+    #[inline]
+    pub(crate) fn is_one(&self) -> bool {
+        self.value == T::one()
+    }
+}
+
 /// A modulus m with what is computed once of it. It is from 1 to a fourth of the number of words, so
 /// that words below 4m are at hand for sums that aren't reduced.
 #[derive(Debug, PartialEq, Eq)]
@@ -46,16 +55,6 @@ impl<T: PathWord> Clone for PlannedModulus<T> {
 }
 
 impl<T: PathWord> Copy for PlannedModulus<T> {}
-
-/// The word, less a bound where it isn't below it: the less of the word and of what wraps around when
-/// the bound is taken from it. Condition: it is below twice the bound.
-#[inline]
-pub fn reduced_once<T: PathWord>(x: T, bound: T) -> T {
-    // a word that was read is known to fit
-    let _ = bound.is_below(x);
-    let less = x.wrapping_sub(bound);
-    if less.is_below(x) { less } else { x }
-}
 
 impl<T: PlainWord> PlannedModulus<T> {
     /// Whether plans admit the modulus m: it is at least 1, and 4m is at most the number of words.

@@ -3,28 +3,35 @@
 use crate::modular_plan::entry::PlanEntry;
 use crate::modular_plan::modulus::PlannedModulus;
 use crate::modular_prim::plain_word::PlainWord;
-use crate::modular_transform::order::reverse_places;
 use crate::modular_word::path_word::PathWord;
 use crate::modular_word::ring_word::RingWord;
-
-// The powers 1, g, g^2, .. as factors.
-fn powers<T: PlainWord, F: PlanEntry<T>>(m: &PlannedModulus<T>, g: T, table: &mut [F]) {
-    let root = m.factor(g);
-    let mut power = m.residue(T::one());
-    'places: for place in 0..table.len() {
-        table[place] = F::entry(m.factor(power));
-        power = m.product(power, &root);
-    }
-}
 
 /// Fills the table with the plan by g for transforms of n entries, n being twice its length: entry k
 /// becomes the factor of g to the power of the reversed bits of k.
 ///
 /// Conditions: g is below m and suits n. The first entries of a plan are a plan for fewer entries, by
 /// the power of g that suits them.
-#[inline]
 pub fn plan<T: PlainWord, F: PlanEntry<T>>(m: &PlannedModulus<T>, g: T, table: &mut [F]) {
-    powers(m, g, table);
+    table[0] = F::entry(m.factor(m.residue(T::one())));
     let bits = table.len().trailing_zeros();
-    reverse_places(table, bits);
+    // The places of one bit: the highest takes g, and each lower one the square of the last.
+    let mut power = g;
+    let mut place = table.len();
+    'squares: for _bit in 0..bits {
+        let factor = m.factor(power);
+        place /= 2;
+        table[place] = F::entry(factor);
+        power = m.product(power, &factor);
+    }
+    // The reversed bits of count + other are the sum of those of both, so that the power is a product. It
+    // waits for none that was made just before.
+    let mut count = 1;
+    'doublings: for _bit in 0..bits {
+        let factor = table[count].factor();
+        'others: for other in 1..count {
+            let power = m.product(table[other].factor().value, &factor);
+            table[count + other] = F::entry(m.factor(power));
+        }
+        count *= 2;
+    }
 }

@@ -9,12 +9,17 @@ use crate::modular_word::path_word::PathWord;
 #[inline]
 fn multiply_each<T: PlainWord>(m: &PlannedModulus<T>, xs: &mut [T], ys: &[T]) {
     'entries: for i in 0..xs.len() {
-        xs[i] = m.multiply(xs[i], ys[i]);
+        let x = xs[i];
+        // never so
+        if m.is_outside(x) {
+            return;
+        }
+        xs[i] = m.multiply(x, ys[i]);
     }
 }
 
-// A number below 2m that is the product of two words over the number of words, modulo m: Montgomery's
-// reduction, by the inverse of m. The multiple of m that it gives has the low word of the product, so
+// A number below 2m that is the product of any word x and a word y below m over the number of words, modulo m:
+// Montgomery's reduction, by the inverse of m. The multiple of m that it gives has the low word of the product, so
 // that the high words are all that is left of the difference. (By the negated inverse there is a carry.)
 #[inline]
 fn reduced_product<T: PlainWord>(m: &PlannedModulus<T>, inverse: T, x: T, y: T) -> T {
@@ -23,7 +28,7 @@ fn reduced_product<T: PlainWord>(m: &PlannedModulus<T>, inverse: T, x: T, y: T) 
     high.plus(m.modulus.minus(multiple))
 }
 
-// Each entry times the one at its place, over the number of words, modulo m.
+// Each entry, which may be any word, times the one at its place, over the number of words, modulo m.
 #[inline]
 pub(crate) fn reduce_products<T: PlainWord>(
     m: &PlannedModulus<T>,
@@ -32,7 +37,12 @@ pub(crate) fn reduce_products<T: PlainWord>(
     ys: &[T],
 ) {
     'entries: for i in 0..xs.len() {
-        xs[i] = reduced_product(m, inverse, xs[i], ys[i]);
+        let y = ys[i];
+        // never so
+        if m.is_outside(y) {
+            return;
+        }
+        xs[i] = reduced_product(m, inverse, xs[i], y);
     }
 }
 

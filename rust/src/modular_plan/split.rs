@@ -1,37 +1,30 @@
 //! From a polynomial to its remainders modulo X^last - c, in place, by stages.
 
 use crate::modular_plan::entry::PlanEntry;
-use crate::modular_plan::modulus::{Factor, PlannedModulus, reduced_once};
+use crate::modular_plan::modulus::{Factor, PlannedModulus};
+use crate::modular_plan::roomy::RoomyModulus;
+use crate::modular_plan::split_steps::SplitSteps;
 use crate::modular_prim::plain_word::PlainWord;
 use crate::modular_word::path_word::PathWord;
 
-// x + y·w and x - y·w, below 4m.
-#[inline]
-fn split_values<T: PlainWord>(m: &PlannedModulus<T>, x: T, y: T, w: &Factor<T>) -> (T, T) {
-    let twice = m.twice();
-    let x = reduced_once(x, twice);
-    let product = m.times(y, w);
-    (x.plus(product), x.plus(twice.minus(product)))
-}
-
 // The pair at two places.
 #[inline]
-fn split_pair<T: PlainWord>(
-    m: &PlannedModulus<T>,
+fn split_pair<T: PlainWord, M: SplitSteps<T>>(
+    m: &M,
     xs: &mut [T],
     low: usize,
     high: usize,
     w: &Factor<T>,
 ) {
-    let (sum, difference) = split_values(m, xs[low], xs[high], w);
+    let (sum, difference) = m.pair(xs[low], xs[high], w);
     xs[high] = difference;
     xs[low] = sum;
 }
 
 // The pairs of the block from place `first` on.
 #[inline]
-fn split_block<T: PlainWord>(
-    m: &PlannedModulus<T>,
+fn split_block<T: PlainWord, M: SplitSteps<T>>(
+    m: &M,
     xs: &mut [T],
     first: usize,
     half: usize,
@@ -39,7 +32,7 @@ fn split_block<T: PlainWord>(
 ) {
     'columns: for i in 0..half {
         // never so
-        if m.is_outside(xs[first + i]) {
+        if m.is_beyond(xs[first + i]) {
             return;
         }
         split_pair(m, xs, first + i, first + (half + i), w);
@@ -48,8 +41,8 @@ fn split_block<T: PlainWord>(
 
 // All blocks of a stage, block p by entry first + p of the table.
 #[inline]
-fn split_stage<T: PlainWord, F: PlanEntry<T>>(
-    m: &PlannedModulus<T>,
+fn split_stage<T: PlainWord, M: SplitSteps<T>, F: PlanEntry<T>>(
+    m: &M,
     xs: &mut [T],
     half: usize,
     blocks: usize,
@@ -63,8 +56,9 @@ fn split_stage<T: PlainWord, F: PlanEntry<T>>(
 }
 
 // Two stages of the four quarters of a block: by the block's factor w, and by those of its halves.
-fn split_columns<T: PlainWord>(
-    m: &PlannedModulus<T>,
+#[inline(always)]
+fn split_columns<T: PlainWord, M: SplitSteps<T>>(
+    m: &M,
     first: &mut [T],
     second: &mut [T],
     third: &mut [T],
@@ -76,13 +70,10 @@ fn split_columns<T: PlainWord>(
     'columns: for i in 0..first.len() {
         let x = first[i];
         // never so
-        if m.is_outside(x) {
+        if m.is_beyond(x) {
             return;
         }
-        let (e, g) = split_values(m, x, third[i], w);
-        let (f, h) = split_values(m, second[i], fourth[i], w);
-        let (a, b) = split_values(m, e, f, u);
-        let (c, d) = split_values(m, g, h, v);
+        let (a, b, c, d) = m.four(x, second[i], third[i], fourth[i], w, u, v);
         first[i] = a;
         second[i] = b;
         third[i] = c;
@@ -91,8 +82,9 @@ fn split_columns<T: PlainWord>(
 }
 
 // Two stages of the block of four times q entries from place `first` on.
-fn split_quarters<T: PlainWord>(
-    m: &PlannedModulus<T>,
+#[inline(always)]
+fn split_quarters<T: PlainWord, M: SplitSteps<T>>(
+    m: &M,
     xs: &mut [T],
     first: usize,
     q: usize,
@@ -110,8 +102,9 @@ fn split_quarters<T: PlainWord>(
 
 // Two stages of all blocks, block p by entry first + p of the table, and its halves by the entries at
 // twice that place.
-fn split_two_stages<T: PlainWord, F: PlanEntry<T>>(
-    m: &PlannedModulus<T>,
+#[inline(always)]
+fn split_two_stages<T: PlainWord, M: SplitSteps<T>, F: PlanEntry<T>>(
+    m: &M,
     xs: &mut [T],
     q: usize,
     blocks: usize,
@@ -127,19 +120,74 @@ fn split_two_stages<T: PlainWord, F: PlanEntry<T>>(
     }
 }
 
+// `split_two_stages` once for each length that is a power of four up to 1024: a compiler that knows it addresses the
+// quarters by one pointer.
+fn split_known<T: PlainWord, M: SplitSteps<T>, F: PlanEntry<T>>(
+    m: &M,
+    xs: &mut [T],
+    q: usize,
+    blocks: usize,
+    table: &[F],
+    first: usize,
+) {
+    match q {
+        1 => split_two_stages(m, xs, 1, blocks, table, first),
+        4 => split_two_stages(m, xs, 4, blocks, table, first),
+        16 => split_two_stages(m, xs, 16, blocks, table, first),
+        64 => split_two_stages(m, xs, 64, blocks, table, first),
+        256 => split_two_stages(m, xs, 256, blocks, table, first),
+        1024 => split_two_stages(m, xs, 1024, blocks, table, first),
+        _ => split_two_stages(m, xs, q, blocks, table, first),
+    }
+}
+
+// Two stages of the whole list by a plan that begins with 1: by 1 and by 1, and by v, its second factor.
+fn split_by_one<T: PlainWord, M: SplitSteps<T>>(m: &M, xs: &mut [T], q: usize, v: &Factor<T>) {
+    'columns: for i in 0..q {
+        // never so
+        if m.is_beyond(xs[i]) {
+            return;
+        }
+        let x = xs[i];
+        let (y, z, t) = (xs[q + i], xs[q + q + i], xs[q + q + (q + i)]);
+        let (a, b, c, d) = m.four_by_one(x, y, z, t, v);
+        xs[q + q + (q + i)] = d;
+        xs[q + q + i] = c;
+        xs[q + i] = b;
+        xs[i] = a;
+    }
+}
+
+// A pass of two stages, block p by entry first + p of the table. The first pass of a transform takes one product in
+// place of four, since a plan begins with 1.
+fn split_pass<T: PlainWord, M: SplitSteps<T>, F: PlanEntry<T>>(
+    m: &M,
+    xs: &mut [T],
+    q: usize,
+    blocks: usize,
+    table: &[F],
+    first: usize,
+) {
+    if blocks == 1 && first == 0 && table[0].factor().is_one() {
+        let v = table[1].factor();
+        split_by_one(m, xs, q, &v);
+    } else {
+        split_known(m, xs, q, blocks, table, first);
+    }
+}
+
 // Two stages of the four entries from place `first` on, which become residues.
-fn split_neighbours<T: PlainWord>(
-    m: &PlannedModulus<T>,
+fn split_neighbours<T: PlainWord, M: SplitSteps<T>>(
+    m: &M,
     xs: &mut [T],
     first: usize,
     w: &Factor<T>,
     u: &Factor<T>,
     v: &Factor<T>,
 ) {
-    let (e, g) = split_values(m, xs[first], xs[first + 2], w);
-    let (f, h) = split_values(m, xs[first + 1], xs[first + 3], w);
-    let (a, b) = split_values(m, e, f, u);
-    let (c, d) = split_values(m, g, h, v);
+    let (x, y) = (xs[first], xs[first + 1]);
+    let (z, t) = (xs[first + 2], xs[first + 3]);
+    let (a, b, c, d) = m.four(x, y, z, t, w, u, v);
     xs[first + 3] = m.residue(d);
     xs[first + 2] = m.residue(c);
     xs[first + 1] = m.residue(b);
@@ -147,8 +195,8 @@ fn split_neighbours<T: PlainWord>(
 }
 
 // The last two stages: those of `split_two_stages` on each four neighbours, and their residues.
-fn split_fours<T: PlainWord, F: PlanEntry<T>>(
-    m: &PlannedModulus<T>,
+fn split_fours<T: PlainWord, M: SplitSteps<T>, F: PlanEntry<T>>(
+    m: &M,
     xs: &mut [T],
     blocks: usize,
     table: &[F],
@@ -160,7 +208,7 @@ fn split_fours<T: PlainWord, F: PlanEntry<T>>(
         let u = table[2 * place].factor();
         let v = table[2 * place + 1].factor();
         // never so
-        if m.is_outside(xs[p * 4]) {
+        if m.is_beyond(xs[p * 4]) {
             return;
         }
         split_neighbours(m, xs, p * 4, &w, &u, &v);
@@ -169,7 +217,7 @@ fn split_fours<T: PlainWord, F: PlanEntry<T>>(
 
 // Each entry's residue.
 #[inline]
-fn reduce_each<T: PlainWord>(m: &PlannedModulus<T>, xs: &mut [T]) {
+fn reduce_each<T: PlainWord, M: SplitSteps<T>>(m: &M, xs: &mut [T]) {
     'entries: for i in 0..xs.len() {
         xs[i] = m.residue(xs[i]);
     }
@@ -197,8 +245,8 @@ pub fn splits(length: usize, factors: usize, b: usize, last: usize) -> bool {
 
 // All stages from block b down to blocks of `last`, by the conditions of `split`. Where their number is
 // odd a single one comes first, so that the other passes do two.
-fn split_stages<T: PlainWord, F: PlanEntry<T>>(
-    m: &PlannedModulus<T>,
+fn split_stages<T: PlainWord, M: SplitSteps<T>, F: PlanEntry<T>>(
+    m: &M,
     xs: &mut [T],
     table: &[F],
     b: usize,
@@ -210,7 +258,7 @@ fn split_stages<T: PlainWord, F: PlanEntry<T>>(
     'stages: while 0 < left {
         if left % 2 == 0 {
             size /= 4;
-            split_two_stages(m, xs, size, blocks, table, b * blocks);
+            split_pass(m, xs, size, blocks, table, b * blocks);
             blocks *= 4;
             left -= 2;
         } else {
@@ -219,6 +267,39 @@ fn split_stages<T: PlainWord, F: PlanEntry<T>>(
             blocks *= 2;
             left -= 1;
         }
+    }
+}
+
+// `split` by the steps that a modulus admits.
+fn split_by<T: PlainWord, M: SplitSteps<T>, F: PlanEntry<T>>(
+    m: &M,
+    xs: &mut [T],
+    table: &[F],
+    b: usize,
+    last: usize,
+) {
+    if last == 1 && 4 <= xs.len() {
+        let fours = xs.len() / 4;
+        split_stages(m, xs, table, b, 4);
+        split_fours(m, xs, fours, table, b * fours);
+    } else {
+        split_stages(m, xs, table, b, last);
+        reduce_each(m, xs);
+    }
+}
+
+// `split` with entries that are only congruent to the remainders, and may be any words: no residues are taken.
+#[inline]
+pub(crate) fn split_loosely<T: PlainWord, F: PlanEntry<T>>(
+    m: &PlannedModulus<T>,
+    xs: &mut [T],
+    table: &[F],
+    b: usize,
+    last: usize,
+) {
+    match RoomyModulus::new(m) {
+        Some(roomy) => split_stages(&roomy, xs, table, b, last),
+        None => split_stages(m, xs, table, b, last),
     }
 }
 
@@ -234,6 +315,7 @@ fn split_stages<T: PlainWord, F: PlanEntry<T>>(
 /// Source: the sums and differences are those of Cooley and Tukey, with one factor a block, as
 /// Bernstein ("Multidigit multiplication for mathematicians", section 2) has them. A pass over the list
 /// does two stages; a single one comes first where their number is odd.
+#[inline]
 pub fn split<T: PlainWord, F: PlanEntry<T>>(
     m: &PlannedModulus<T>,
     xs: &mut [T],
@@ -241,12 +323,8 @@ pub fn split<T: PlainWord, F: PlanEntry<T>>(
     b: usize,
     last: usize,
 ) {
-    if last == 1 && 4 <= xs.len() {
-        let fours = xs.len() / 4;
-        split_stages(m, xs, table, b, 4);
-        split_fours(m, xs, fours, table, b * fours);
-    } else {
-        split_stages(m, xs, table, b, last);
-        reduce_each(m, xs);
+    match RoomyModulus::new(m) {
+        Some(roomy) => split_by(&roomy, xs, table, b, last),
+        None => split_by(m, xs, table, b, last),
     }
 }

@@ -2,6 +2,16 @@
 
 use crate::modular_word::path_word::PathWord;
 
+/// The residue of a word below 2m: the less of the word and of what wraps around when m is taken from it, which
+/// compilers choose without a branch. Condition: the word is below 2m.
+#[inline]
+pub fn reduced_once<T: PathWord>(x: T, m: T) -> T {
+    // a word that was read is known to fit
+    let _ = m.is_below(x);
+    let less = x.wrapping_sub(m);
+    if less.is_below(x) { less } else { x }
+}
+
 /// The residue of a + b. Condition: both are below m.
 #[inline]
 pub fn add_below<T: PathWord>(a: T, b: T, m: T) -> T {

@@ -2,7 +2,7 @@
 
 use crate::modular_prim::plain_word::PlainWord;
 use crate::modular_prim::reciprocal::invert_word;
-use crate::modular_prim::residues::{reduced, sqm};
+use crate::modular_prim::residues::{mulm, reduced, sqm};
 use crate::modular_word::path_word::PathWord;
 use crate::modular_word::paths::{div_2by1, neginv, redc, two};
 use crate::modular_word::ring_word::RingWord;
@@ -10,9 +10,8 @@ use crate::modular_word::ring_word::RingWord;
 /// The residue of the product of `exp` factors `base`; that of 1 for the exponent 0. Condition: m
 /// is at least 1.
 ///
-/// The exponents 0, 1 and 2 cost one division at most. Above them no step divides a double word:
-/// modulo an odd m each product is reduced by Montgomery's way, modulo an even one by the reciprocal
-/// of m.
+/// The exponents 0, 1 and 2 cost one division at most. Above them no step divides a double word of more than 16
+/// bits: modulo an odd m each product is reduced by Montgomery's way, modulo an even one by the reciprocal of m.
 pub fn powm<T: PlainWord>(base: T, exp: T, m: T) -> T {
     let one = T::one();
     if two::<T>().is_below(exp) {
@@ -29,11 +28,33 @@ pub fn powm<T: PlainWord>(base: T, exp: T, m: T) -> T {
 // The residue of the power of a base below m, by the way that m admits.
 #[inline]
 fn power_below<T: PlainWord>(base: T, exp: T, m: T) -> T {
-    if m.is_odd() {
+    if T::bits() <= 8 {
+        power_by_division(base, exp, m)
+    } else if m.is_odd() {
         power_by_reduction(base, exp, m)
     } else {
         power_by_reciprocal(base, exp, m)
     }
+}
+
+// The residue of the power of a base below m, by binary digits. A double word of 16 bits is divided as fast as
+// another way reduces it.
+fn power_by_division<T: PlainWord>(base: T, exp: T, m: T) -> T {
+    let mut power = base;
+    let mut product = if exp.is_odd() {
+        base
+    } else {
+        reduced(T::one(), m)
+    };
+    let mut rest = exp.half();
+    'digits: while !rest.is_zero_word() {
+        power = sqm(power, m);
+        if rest.is_odd() {
+            product = mulm(power, product, m);
+        }
+        rest = rest.half();
+    }
+    product
 }
 
 // The residue of the power of a base below an odd m, by binary digits. The power is a residue times

@@ -59,8 +59,8 @@ pub fn addm<T: PlainWord>(a: T, b: T, m: T) -> T {
 /// both are below m.
 ///
 /// Which of the two is the greater is often no better than a guess, so one remainder serves both cases. Two tests of
-/// the operands are sooner done than one of their distance, which spares more divisions; those of more than 32 bits
-/// take the longest.
+/// the operands are sooner done than one of their distance, which spares more divisions; divisions of more than 32
+/// bits take the longest.
 pub fn subm<T: PlainWord>(a: T, b: T, m: T) -> T {
     if T::bits() <= 16 {
         return sub_below(a.remainder(m), b.remainder(m), m);

@@ -26,15 +26,11 @@ pub fn two<T: PathWord>() -> T {
 pub fn div_2by1<T: PathWord>(d: T, reciprocal: T, a: T::Double) -> (T, T) {
     let (low, high) = T::split(a);
     let (q0, q1) = T::split(T::double_plus(reciprocal.product(high), a));
-    let mut q = q1.wrapping_add(T::one());
-    // What is left by q1, and by one more. Long words have a product for each, so that neither waits for the other.
-    // Compilers choose of the two without a branch, which would often be guessed wrongly.
+    // What is left by q1, and by one more: both are known soon, and compilers choose without a branch, which would
+    // often be guessed wrongly.
     let more = low.wrapping_sub(q1.wrapping_mul(d));
-    let less = if T::bits() > 32 {
-        low.wrapping_sub(q.wrapping_mul(d))
-    } else {
-        more.wrapping_sub(d)
-    };
+    let less = more.wrapping_sub(d);
+    let mut q = q1.wrapping_add(T::one());
     let mut r = less;
     if q0.is_below(less) {
         q = q1;

@@ -26,9 +26,9 @@ fn roots_of_known_primes(rt: HostRuntime) {
     assert!(rt; found(18446744069414584321_u64, 1 << 32) == Some(1753635133440165772));
     assert!(rt; found(8380417_u32, 512) == Some(6757063));
     assert!(rt; found(3329_u16, 256) == Some(3061));
-    assert!(rt; found(4611685941117976577_u64, 1 << 32) == Some(69433692538710738));
-    assert!(rt; found(4611685692009873409_u64, 1 << 32) == Some(3385523647569167919));
-    assert!(rt; found(4611685606110527489_usize, 1 << 32) == Some(3318345213167893729));
+    assert!(rt; found(1152921092289986561_u64, 1 << 32) == Some(766934721172217520));
+    assert!(rt; found(1152920989210771457_u64, 1 << 32) == Some(249746581664304925));
+    assert!(rt; found(1152920933376196609_usize, 1 << 32) == Some(258783327117340409));
     assert!(rt; found(17_u8, 16) == Some(3));
     assert!(rt; found(251_u8, 2) == Some(250));
 }

@@ -8,12 +8,12 @@ use Rattle.modular_plan.specs.Products.{AreProducts}
 use Rattle.modular_plan.proofs.Convolutions.{half_room, joined_product}
 use Rattle.modular_plan.proofs.convolution.convolve_block.Goals as goal
 
-pub split-requires-clause-within : goal.split-requires-clause-within
-split-requires-clause-within g c =
+pub split_first-requires-clause-within : goal.split_first-requires-clause-within
+split_first-requires-clause-within g c =
     half_room c.args.b (length c.args.xs.now / c.args.last) (length c.args.table.now) c.requires.within
 
-pub split-requires-in-Some-clause-within : goal.split-requires-in-Some-clause-within
-split-requires-in-Some-clause-within g c =
+pub split-requires-clause-within : goal.split-requires-clause-within
+split-requires-clause-within g c =
     let same : length c.args.xs.now ≡ length c.args.ys.now = omega arith in
     subst (λ n. (c.args.b + 1) * (n / c.args.last / 2) ≤ length c.args.table.now) same
     (half_room c.args.b (length c.args.xs.now / c.args.last) (length c.args.table.now) c.requires.within)
@@ -40,16 +40,16 @@ returns-in-Some-clause-product g c =
     (of_equal c.factor-part.ensures.value)) (record { same = c.in-Some.ensures.one }) in
     λ h root z e plan below.
     let joined = c.join_products.ensures.joined root z plan in
-    let same = size_is (length c.split.new.xs) (omega arith) in
+    let same = size_is (length c.split_first.new.xs) (omega arith) in
     joined_product root z b last (length c.args.table.now) count (length xs) (n c.factor-part.result.value) _
     (numbers n xs) (numbers n c.args.ys.now)
-    (numbers n c.split.new.xs) (numbers n c.split-in-Some.new.xs) joined.0
+    (numbers n c.split_first.new.xs) (numbers n c.split.new.xs) joined.0
     (numbers n c.join_products.new.xs)
     c.requires.count c.requires.whole c.requires.within plan part
-    (c.split.ensures.remainders root z plan)
-    (subst (λ k. AreRemainders m root z b k last (numbers n c.args.ys.now) (numbers n c.split-in-Some.new.xs))
-    (size_is (length c.args.ys.now) (omega arith)) (c.split-in-Some.ensures.remainders root z plan))
-    (subst (λ k. AreProducts m root z b k last (numbers n c.split.new.xs) (numbers n c.split-in-Some.new.xs)
+    (c.split_first.ensures.remainders root z plan)
+    (subst (λ k. AreRemainders m root z b k last (numbers n c.args.ys.now) (numbers n c.split.new.xs))
+    (size_is (length c.args.ys.now) (omega arith)) (c.split.ensures.remainders root z plan))
+    (subst (λ k. AreProducts m root z b k last (numbers n c.split_first.new.xs) (numbers n c.split.new.xs)
     joined.0) same joined.1)
     (λ r are i l.
     subst (λ k. numbers n c.join_products.new.xs i ≡ (k * r i * n c.factor-part.result.value) % m) same

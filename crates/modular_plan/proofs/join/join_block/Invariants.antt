@@ -1,4 +1,4 @@
-use Rattle.std.proofs.Common.{ℕ, ◌*◌, ◌<◌, All}
+use Rattle.std.proofs.Common.{ℕ, ◌<◌, All}
 use Rattle.modular_plan.specs.Plans.{numbers}
 use Rattle.modular_plan.specs.Steps.{IsPairJoin, IsMinusInverse, BlockDone}
 use Rattle.modular_plan.proofs.join.join_block.Given as goal
@@ -7,9 +7,9 @@ use Rattle.modular_plan.proofs.join.join_block.Given as goal
 abbrev pub invariant-columns : goal.invariant-columns
 invariant-columns g l =
     let number = g.T.RingWord.number in
-    let m = number l.m.modulus in
+    let m = g.M.JoinSteps.modulus l.m in
     record {
-      entries : All (λ x. number x < 2 * m) l.xs;
+      entries : All (λ x. number x < g.M.JoinSteps.bound l.m) l.xs;
       done : (w : ℕ) → IsMinusInverse m w (number l.v.value)
           → BlockDone (IsPairJoin m w) l.first l.half l.i (numbers number l.fn.xs) (numbers number l.xs);
     }

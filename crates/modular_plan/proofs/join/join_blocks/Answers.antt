@@ -29,8 +29,8 @@ overflow_mul-b g c =
     let enough = two_join_rooms c.args.b (length c.args.table.now) sizes c.requires.within in
     omega (arith, enough)
 
-pub join_two_stages-requires-clause-whole : goal.join_two_stages-requires-clause-whole
-join_two_stages-requires-clause-whole g c =
+pub join_known-requires-clause-whole : goal.join_known-requires-clause-whole
+join_known-requires-clause-whole g c =
     let before = c.stages.invariant in
     let less = c.stages-test.true in
     let count = length c.args.xs.now / c.args.last in
@@ -41,8 +41,8 @@ join_two_stages-requires-clause-whole g c =
     let same = c.stages.auto.xs in
     omega (arith, fill, same)
 
-pub join_two_stages-requires-clause-within : goal.join_two_stages-requires-clause-within
-join_two_stages-requires-clause-within g c =
+pub join_known-requires-clause-within : goal.join_known-requires-clause-within
+join_known-requires-clause-within g c =
     let before = c.stages.invariant in
     let less = c.stages-test.true in
     let count = length c.args.xs.now / c.args.last in
@@ -78,11 +78,11 @@ stages-preserved-then-blocks-gt2 g c =
       sized = sizes.sized;
       counted = sizes.counted;
       some = omega (arith, some);
-      entries = c.join_two_stages.ensures.entries;
+      entries = c.join_known.ensures.entries;
       level = λ r z x plan are.
           level_joined_two r z c.args.b c.stages.blocks c.stages.size c.args.last before.done count
           (length c.args.xs.now) (length c.args.table.now) _ x _ _ sizes c.requires.within plan
-          (before.level r z x plan are) (c.join_two_stages.ensures.done r z plan);
+          (before.level r z x plan are) (c.join_known.ensures.done r z plan);
     }
 
 pub overflow_mul-b-else-blocks-gt2 : goal.overflow_mul-b-else-blocks-gt2
@@ -133,7 +133,7 @@ stages-preserved g c =
     let sizes = join_sizes c.stages.size c.args.last c.stages.blocks before.rest before.done count
     (length c.args.xs.now) c.requires.some before.halved before.sized before.counted c.requires.whole (omega arith) in
     let some = before.some in
-    let m = g.T.RingWord.number c.args.m.now.modulus in
+    let m = g.M.JoinSteps.modulus c.args.m.now in
     let twice : c.stages.size + c.stages.size ≡ c.stages.size * 2 = omega arith in
     record {
       rest = sizes.rest;

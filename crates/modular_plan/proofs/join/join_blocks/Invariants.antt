@@ -8,7 +8,7 @@ abbrev pub invariant-stages : goal.invariant-stages
 invariant-stages g l =
     let number = g.T.RingWord.number in
     let value = g.F.PlanEntry.value in
-    let m = number l.m.modulus in
+    let m = g.M.JoinSteps.modulus l.m in
     record {
       rest : ℕ;
       done : ℕ;
@@ -16,7 +16,7 @@ invariant-stages g l =
       sized : l.size ≡ 2 ^ done * l.last;
       counted : l.blocks * 2 ^ done ≡ length l.fn.xs / l.last;
       some : 0 < l.size;
-      entries : All (λ x. number x < 2 * m) l.xs;
+      entries : All (λ x. number x < g.M.JoinSteps.bound l.m) l.xs;
       level : (g z : ℕ) (x : ℕ → ℕ) → IsPlan m g z (length l.table) (numbers value l.table)
           → AreRemainders m g z l.b (length l.fn.xs / l.last) l.last x (λ i. numbers number l.fn.xs i % m)
           → IsLevel m g z l.b l.blocks l.size (λ k. 2 ^ done * x k) (numbers number l.xs);

@@ -1,7 +1,7 @@
-use Rattle.std.proofs.Common.{◌*◌, ◌<◌, length, arith, refl, ◌∙◌}
+use Rattle.std.proofs.Common.{◌<◌, length, arith, refl, ◌∙◌}
 use Rattle.modular_plan.specs.Plans.{numbers}
 use Rattle.modular_plan.specs.Steps.{IsFourJoin}
-use Rattle.modular_plan.proofs.Entries.{number_read, entry_kept}
+use Rattle.modular_plan.proofs.Entries.{number_read, entry_kept, never_beyond}
 use Rattle.modular_plan.proofs.Fours.{all_set, four_along}
 use Rattle.modular_plan.proofs.Quarters.{columns_more}
 use Rattle.modular_plan.proofs.join.join_columns.Goals as goal
@@ -9,16 +9,16 @@ use Rattle.modular_plan.proofs.join.join_columns.Goals as goal
 pub columns_of_four-preserved : goal.columns_of_four-preserved
 columns_of_four-preserved g c =
     let n = g.T.RingWord.number in
-    let m = n c.args.m.now.modulus in
+    let m = g.M.JoinSteps.modulus c.args.m.now in
     let i = c.columns_of_four.i in
     let a = c.columns_of_four.a in
     let b = c.columns_of_four.b in
     let p = c.columns_of_four.c in
     let q = c.columns_of_four.d in
     let before = c.columns_of_four.invariant in
-    let four = c.join_four-e.result in
-    let are = c.join_four-e.ensures in
-    let P = λ (x : g.row.T.Denot). n x < 2 * m in
+    let four = c.four-e.result in
+    let are = c.four-e.ensures in
+    let P = λ (x : g.row.T.Denot). n x < g.M.JoinSteps.bound c.args.m.now in
     let la : i < length a = omega arith in
     let lb : i < length b = omega arith in
     let lp : i < length p = omega arith in
@@ -46,3 +46,15 @@ columns_of_four-preserved g c =
           (four_along (IsFourJoin m x y z) read_a read_b read_p read_q refl refl refl refl
           (are.four x y z is_x is_y is_z)) k l;
     }
+
+pub returns-then-is_beyond-clause-done : goal.returns-then-is_beyond-clause-done
+returns-then-is_beyond-clause-done g c =
+    let fits = g.met.M.JoinSteps.bound_fits c.args.m.now in
+    let far = c.if-is_beyond.ensures in
+    never_beyond g.T.RingWord.number (g.M.JoinSteps.bound c.args.m.now) c.columns_of_four.a c.columns_of_four.a
+    c.columns_of_four.i c.index-a-i.result c.columns_of_four.invariant.first (omega arith) (omega arith)
+    c.index-a-i.is refl (omega (arith, far, fits))
+
+pub returns-clause-done : goal.returns-clause-done
+returns-clause-done g c =
+    λ x y z k is_x is_y is_z l. c.columns_of_four.invariant.done x y z k is_x is_y is_z (omega (arith, l))

@@ -1,4 +1,4 @@
-use Rattle.std.proofs.Common.{◌≡◌, ℕ, ◌*◌, ◌<◌, ◌≤◌, All}
+use Rattle.std.proofs.Common.{◌≡◌, ℕ, ◌<◌, ◌≤◌, All}
 use Rattle.modular_plan.specs.Plans.{numbers}
 use Rattle.modular_plan.specs.Steps.{IsFourJoin, IsMinusInverse}
 use Rattle.modular_plan.proofs.join.join_columns.Given as goal
@@ -7,13 +7,13 @@ use Rattle.modular_plan.proofs.join.join_columns.Given as goal
 abbrev pub invariant-columns_of_four : goal.invariant-columns_of_four
 invariant-columns_of_four g l =
     let number = g.T.RingWord.number in
-    let m = number l.m.modulus in
+    let m = g.M.JoinSteps.modulus l.m in
     let n = numbers number in
     record {
-      first : All (λ x. number x < 2 * m) l.a;
-      second : All (λ x. number x < 2 * m) l.b;
-      third : All (λ x. number x < 2 * m) l.c;
-      fourth : All (λ x. number x < 2 * m) l.d;
+      first : All (λ x. number x < g.M.JoinSteps.bound l.m) l.a;
+      second : All (λ x. number x < g.M.JoinSteps.bound l.m) l.b;
+      third : All (λ x. number x < g.M.JoinSteps.bound l.m) l.c;
+      fourth : All (λ x. number x < g.M.JoinSteps.bound l.m) l.d;
       kept : (k : ℕ) → l.i ≤ k
           → (n l.a k ≡ n l.fn.a k) × (n l.b k ≡ n l.fn.b k) × (n l.c k ≡ n l.fn.c k) × (n l.d k ≡ n l.fn.d k);
       done : (x y z k : ℕ) → IsMinusInverse m x (number l.w.value) → IsMinusInverse m y (number l.u.value)

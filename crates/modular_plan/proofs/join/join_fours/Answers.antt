@@ -24,7 +24,7 @@ fours-preserved g c = record {
 pub returns : goal.returns
 returns g c =
     let n = g.T.RingWord.number in
-    let bound = 2 * n c.args.m.now.modulus in
+    let bound = g.M.JoinSteps.bound c.args.m.now in
     record {
       entries = λ i d below. subst (λ v. v < bound) (sym (number_at n c.fours.xs i d below))
           (c.fours.invariant.before i (omega arith));

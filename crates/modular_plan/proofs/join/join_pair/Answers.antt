@@ -8,7 +8,7 @@ use Rattle.modular_plan.proofs.join.join_pair.Goals as goal
 pub returns-clause-done : goal.returns-clause-done
 returns-clause-done g c =
     let n = g.T.RingWord.number in
-    let m = n c.args.m.now.modulus in
+    let m = g.M.JoinSteps.modulus c.args.m.now in
     let xs = c.args.xs.now in
     let low = c.args.low in
     let high = c.args.high in
@@ -17,9 +17,9 @@ returns-clause-done g c =
     let a_is = number_read n xs low c.index-xs-low.result
     (let l : low < length xs = omega arith in l) c.index-xs-low.is in
     let b_is = number_read n xs high c.index-xs-high.result within c.index-xs-high.is in
-    let values = c.join_values-sum.result in
+    let values = c.pair-sum.result in
     λ w inverse.
     pair_written n (IsPairJoin m w) xs low high values.0 values.1 order within
     (subst (λ a. IsPairJoin m w a (numbers n xs high) (n values.0) (n values.1)) a_is
     (subst (λ b. IsPairJoin m w (n c.index-xs-low.result) b (n values.0) (n values.1)) b_is
-    (c.join_values-sum.ensures.pair w inverse)))
+    (c.pair-sum.ensures.pair w inverse)))

@@ -1,4 +1,4 @@
-use Rattle.std.proofs.Common.{◌≡◌, ℕ, ◌*◌, ◌<◌, All, length, arith, subst, sym}
+use Rattle.std.proofs.Common.{◌<◌, All, arith, subst, sym}
 use Rattle.modular_plan.specs.Plans.{numbers}
 use Rattle.modular_plan.specs.Steps.{IsFourJoin, BlockOfFours}
 use Rattle.modular_plan.proofs.Quarters.{joined, joined_of, all_joined, all_before, all_fourth, all_after}
@@ -8,7 +8,7 @@ use Rattle.modular_plan.proofs.join.join_quarters.Goals as goal
 pub join_columns-requires-clause-fourth : goal.join_columns-requires-clause-fourth
 join_columns-requires-clause-fourth g c =
     let n = g.T.RingWord.number in
-    let P = λ (x : g.row.T.Denot). n x < 2 * n c.args.m.now.modulus in
+    let P = λ (x : g.row.T.Denot). n x < g.M.JoinSteps.bound c.args.m.now in
     let front = c.split_at_mut-block.result.0.now in
     let first = c.split_at_mut-a.result.0.now in
     let second = c.split_at_mut-b.result.0.now in
@@ -22,7 +22,7 @@ join_columns-requires-clause-fourth g c =
 pub returns-clause-entries : goal.returns-clause-entries
 returns-clause-entries g c =
     let n = g.T.RingWord.number in
-    let P = λ (x : g.row.T.Denot). n x < 2 * n c.args.m.now.modulus in
+    let P = λ (x : g.row.T.Denot). n x < g.M.JoinSteps.bound c.args.m.now in
     let front = c.split_at_mut-block.result.0.now in
     let first = c.split_at_mut-a.result.0.now in
     let second = c.split_at_mut-b.result.0.now in
@@ -40,7 +40,7 @@ returns-clause-entries g c =
 pub returns-clause-done : goal.returns-clause-done
 returns-clause-done g c =
     let n = g.T.RingWord.number in
-    let m = n c.args.m.now.modulus in
+    let m = g.M.JoinSteps.modulus c.args.m.now in
     let front = c.split_at_mut-block.result.0.now in
     let first = c.split_at_mut-a.result.0.now in
     let second = c.split_at_mut-b.result.0.now in

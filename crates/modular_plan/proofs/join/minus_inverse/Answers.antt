@@ -8,7 +8,7 @@ use Rattle.modular_plan.proofs.join.minus_inverse.Goals as goal
 pub returns-then-place-eq0-clause-inverse : goal.returns-then-place-eq0-clause-inverse
 returns-then-place-eq0-clause-inverse g c =
     let n = g.T.RingWord.number in
-    let m = n c.args.m.now.modulus in
+    let m = g.M.JoinSteps.modulus c.args.m.now in
     let w = numbers g.F.PlanEntry.value c.args.table.now in
     let first : 0 ≡ c.args.place = omega arith in
     λ root z plan. subst (λ p. IsMinusInverse m (w p) (n c.args.minus.value)) first
@@ -18,7 +18,7 @@ returns-then-place-eq0-clause-inverse g c =
 pub returns-then-other-table-clause-inverse : goal.returns-then-other-table-clause-inverse
 returns-then-other-table-clause-inverse g c =
     let n = g.T.RingWord.number in
-    let m = n c.args.m.now.modulus in
+    let m = g.M.JoinSteps.modulus c.args.m.now in
     let w = numbers g.F.PlanEntry.value c.args.table.now in
     let is = c.factor.ensures.value ∙ number_read g.F.PlanEntry.value c.args.table.now c.mirrored-other.result
     c.index-table-other.result c.if-other-table.true c.index-table-other.is in

@@ -9,7 +9,7 @@ use Rattle.modular_plan.proofs.join.minus_inverses.Goals as goal
 pub returns-then-place-eq0-clause-inverses : goal.returns-then-place-eq0-clause-inverses
 returns-then-place-eq0-clause-inverses g c =
     let n = g.T.RingWord.number in
-    let m = n c.args.m.now.modulus in
+    let m = g.M.JoinSteps.modulus c.args.m.now in
     let table = c.args.table.now in
     let w = numbers g.F.PlanEntry.value table in
     let minus = n c.args.minus.value in
@@ -33,7 +33,7 @@ returns-then-place-eq0-clause-inverses g c =
 pub returns-then-other-table-clause-inverses : goal.returns-then-other-table-clause-inverses
 returns-then-other-table-clause-inverses g c =
     let n = g.T.RingWord.number in
-    let m = n c.args.m.now.modulus in
+    let m = g.M.JoinSteps.modulus c.args.m.now in
     let table = c.args.table.now in
     let w = numbers g.F.PlanEntry.value table in
     let place = c.args.place in

@@ -8,6 +8,6 @@ invariant-entries g l =
     let number = g.T.RingWord.number in
     record {
       done : (k : ℕ) → k < l.i
-          → numbers number l.xs k ≡ (numbers number l.fn.xs k * number l.w.value) % number l.m.modulus;
+          → numbers number l.xs k ≡ (numbers number l.fn.xs k * number l.w.value) % g.M.JoinSteps.modulus l.m;
       kept : (k : ℕ) → l.i ≤ k → numbers number l.xs k ≡ numbers number l.fn.xs k;
     }

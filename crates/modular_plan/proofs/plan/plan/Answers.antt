@@ -1,37 +1,225 @@
-use Rattle.std.proofs.Common.{◌≡◌, ◌*◌, length, refl, arith, subst}
+use Rattle.std.proofs.Common.{rules, ◌≡◌, ℕ, ◌+◌, ◌-◌, ◌/◌, ◌%◌, ◌^◌, ◌<◌, length, refl, sym, ◌∙◌, ap, arith, subst}
+use Rattle.std.proofs.Math.ListN.{set, length-set}
+use Rattle.std.proofs.Math.Nat.{mod-lt}
+use Rattle.std.proofs.lemmas.Nat.{pow_pos}
 use Rattle.std.specs.Int.{trailing_zeros, w64, IsPowerOfTwo}
 use Rattle.modular_transform.proofs.PowersOfTwo.{power_by_zeros}
-use Rattle.modular_plan.specs.Factors.{IsFactor}
-use Rattle.modular_plan.proofs.Tables.{half_power, all_reordered, planned}
+use Rattle.modular_transform.specs.Orders.{bits_reversed}
+use Rattle.modular_plan.specs.Plans.{numbers}
+use Rattle.modular_plan.proofs.Entries.{number_at}
+use Rattle.modular_plan.proofs.Tables.{half_power}
+use Rattle.modular_plan.proofs.Doublings.{IsMade, made_now, made_before, same_factor, one_more, one_lower}
+use Rattle.modular_plan.proofs.Doublings.{first_power, half_place, two_within, twice_place, root_itself, square_next}
+use Rattle.modular_plan.proofs.Doublings.{product_of_two, planned}
 use Rattle.modular_plan.proofs.plan.plan.Goals as goal
 
-pub reverse_places-requires-clause-whole : goal.reverse_places-requires-clause-whole
-reverse_places-requires-clause-whole g c = power_by_zeros (length c.powers.new.table)
-    (half_power (subst (λ n. IsPowerOfTwo (2 * n)) (omega arith) c.requires.suits.power_of_two)) (omega arith)
+pub squares-init : goal.squares-init
+squares-init g c =
+    let n = g.T.RingWord.number in
+    let m = n c.args.m.now.modulus in
+    let table = c.args.table.now in
+    let x = c.entry.result in
+    let len = length-set table 0 x in
+    let power = half_power c.requires.suits.power_of_two in
+    let some = pow_pos power.0 in
+    let is = power.1 in
+    let within : 0 < length table = omega (arith, some, is) in
+    let whole = power_by_zeros (length (set table 0 x)) (subst IsPowerOfTwo (sym len) power) (omega (arith, len)) in
+    let bits = trailing_zeros w64 (length (set table 0 x)) in
+    let same : bits ≡ bits - 0 = omega arith in
+    record {
+      whole = whole;
+      place = whole ∙ ap (λ v. 2 ^ v) same;
+      power = root_itself m (n c.args.g) c.requires.below;
+      first = made_now g.F.PlanEntry.value g.F.PlanEntry.quotient g.T.PathWord.base m (n c.args.g) bits table 0 x within
+          (same_factor c.factor.ensures.factor c.entry.ensures.value c.entry.ensures.quotient)
+          (first_power m (n c.one.result) _ _ (n c.args.g) bits c.one.ensures c.residue.ensures
+          (c.entry.ensures.value ∙ c.factor.ensures.value));
+      single = λ t l h. absurd (omega arith);
+    }
+
+pub factor-factor-requires : goal.factor-factor-requires
+factor-factor-requires g c =
+    let some = c.args.m.now.some in
+    let below = mod-lt (g.T.RingWord.number c.args.g ^ (2 ^ c.squares._bit))
+    (let p : 0 < g.T.RingWord.number c.args.m.now.modulus = omega arith in p) in
+    omega (arith, c.squares.invariant.power, below)
+
+pub offset_bounds-table-place : goal.offset_bounds-table-place
+offset_bounds-table-place g c =
+    let whole = c.squares.invariant.whole in
+    let half = half_place _ c.squares._bit c.squares.place c.squares-test.true c.squares.invariant.place in
+    let inside = half.within in
+    let within : c.squares.place / 2 < length c.squares.table = omega (arith, whole, inside) in
+    search rules
+
+pub bounds-table-place : goal.bounds-table-place
+bounds-table-place g c =
+    let whole = c.squares.invariant.whole in
+    let within = (half_place _ c.squares._bit c.squares.place c.squares-test.true c.squares.invariant.place).within in
+    omega (arith, whole, within)
+
+pub squares-preserved : goal.squares-preserved
+squares-preserved g c =
+    let n = g.T.RingWord.number in
+    let m = n c.args.m.now.modulus in
+    let root = n c.args.g in
+    let before = c.squares.invariant in
+    let bits = trailing_zeros w64 (length (set c.args.table.now 0 c.entry.result)) in
+    let i = c.squares._bit in
+    let t : ℕ = bits - (i + 1) in
+    let table = c.squares.table in
+    let p : ℕ = c.squares.place / 2 in
+    let x = c.entry-in-squares.result in
+    let made = IsMade g.F.PlanEntry.value g.F.PlanEntry.quotient g.T.PathWord.base m root bits (set table p x) in
+    let half = half_place bits i c.squares.place c.squares-test.true before.place in
+    let inside = half.within in
+    let whole = before.whole in
+    let within : p < length table = omega (arith, whole, inside) in
+    let now : made p = made_now g.F.PlanEntry.value g.F.PlanEntry.quotient g.T.PathWord.base m root bits table p x within
+    (same_factor c.factor-factor.ensures.factor c.entry-in-squares.ensures.value c.entry-in-squares.ensures.quotient)
+    (c.entry-in-squares.ensures.value ∙ c.factor-factor.ensures.value ∙ before.power
+    ∙ ap (λ v. root ^ v % m) (sym half.reversed)) in
+    let kept = λ (k : ℕ). made_before g.F.PlanEntry.value g.F.PlanEntry.quotient g.T.PathWord.base m root bits table p x k now in
+    record {
+      whole = length-set table p x ∙ whole;
+      place = half.next;
+      power = square_next m root i _ _ _ before.power c.factor-factor.ensures.value c.product-power.ensures;
+      first = kept 0 before.first;
+      single = λ k l h. one_lower (λ k. k < bits → made (2 ^ k)) t
+          (λ k l h. kept (2 ^ k) (before.single k (omega arith) h))
+          (λ h. subst made half.next now) k l h;
+    }
+
+pub doublings-init : goal.doublings-init
+doublings-init g c =
+    let n = g.T.RingWord.number in
+    let before = c.squares.invariant in
+    let made = IsMade g.F.PlanEntry.value g.F.PlanEntry.quotient g.T.PathWord.base (n c.args.m.now.modulus) (n c.args.g)
+    (trailing_zeros w64 (length (set c.args.table.now 0 c.entry.result))) c.squares.table in
+    record {
+      whole = before.whole;
+      count = refl;
+      single = λ t h. before.single t (omega arith) h;
+      first = one_more made 0 (λ k l. absurd (omega arith)) before.first;
+    }
+
+pub offset_bounds-table-count : goal.offset_bounds-table-count
+offset_bounds-table-count g c =
+    let before = c.doublings.invariant in
+    let is = before.count in
+    let some = pow_pos c.doublings._bit in
+    let room = two_within _ c.doublings._bit c.doublings.count _ c.doublings-test.true is before.whole in
+    let within : c.doublings.count < length c.doublings.table = omega (arith, is, some, room) in
+    search rules
+
+pub bounds-table-count : goal.bounds-table-count
+bounds-table-count g c =
+    let before = c.doublings.invariant in
+    let is = before.count in
+    let some = pow_pos c.doublings._bit in
+    let room = two_within _ c.doublings._bit c.doublings.count _ c.doublings-test.true is before.whole in
+    omega (arith, is, some, room)
+
+pub others-init : goal.others-init
+others-init g c =
+    let n = g.T.RingWord.number in
+    let before = c.doublings.invariant in
+    let made = IsMade g.F.PlanEntry.value g.F.PlanEntry.quotient g.T.PathWord.base (n c.args.m.now.modulus) (n c.args.g)
+    (trailing_zeros w64 (length (set c.args.table.now 0 c.entry.result))) c.doublings.table in
+    record {
+      room = two_within _ c.doublings._bit c.doublings.count _ c.doublings-test.true before.count before.whole;
+      single = before.single;
+      first = one_more made c.doublings.count before.first
+          (subst made (sym before.count) (before.single c.doublings._bit c.doublings-test.true));
+    }
+
+pub product-power-requires-in-others : goal.product-power-requires-in-others
+product-power-requires-in-others g c =
+    let n = g.T.RingWord.number in
+    let m = n c.args.m.now.modulus in
+    let before = c.doublings.invariant in
+    let bits = trailing_zeros w64 (length (set c.args.table.now 0 c.entry.result)) in
+    let made = IsMade g.F.PlanEntry.value g.F.PlanEntry.quotient g.T.PathWord.base m (n c.args.g) bits
+    c.doublings.table in
+    let is : made c.doublings.count = subst made (sym before.count) (before.single c.doublings._bit c.doublings-test.true) in
+    same_factor (is.factor c.index-table-count.result)
+    c.factor-factor-in-doublings.ensures.value c.factor-factor-in-doublings.ensures.quotient
+
+pub others-preserved : goal.others-preserved
+others-preserved g c =
+    let n = g.T.RingWord.number in
+    let m = n c.args.m.now.modulus in
+    let root = n c.args.g in
+    let outer = c.doublings.invariant in
+    let before = c.others.invariant in
+    let bits = trailing_zeros w64 (length (set c.args.table.now 0 c.entry.result)) in
+    let t = c.doublings._bit in
+    let count = c.doublings.count in
+    let is = outer.count in
+    let other = c.others.other in
+    let table = c.others.table in
+    let x = c.entry-in-others.result in
+    let room = before.room in
+    let within : count + other < length table = omega (arith, room) in
+    let count_within : count < length c.doublings.table = omega (arith, room) in
+    let other_within : other < length table = omega (arith, room) in
+    let made = IsMade g.F.PlanEntry.value g.F.PlanEntry.quotient g.T.PathWord.base m root bits (set table (count + other) x) in
+    let first = c.factor-in-others.ensures.value
+    ∙ number_at g.F.PlanEntry.value table other c.index-table-other.result other_within
+    ∙ (before.first other (omega arith)).power in
+    let second = c.factor-factor-in-doublings.ensures.value
+    ∙ number_at g.F.PlanEntry.value c.doublings.table count c.index-table-count.result count_within
+    ∙ ap (λ v. numbers g.F.PlanEntry.value c.doublings.table v) is
+    ∙ (outer.single t c.doublings-test.true).power in
+    let power = product_of_two m root bits t other _ _ _ c.doublings-test.true (omega (arith, is)) first second
+    c.product-power-in-others.ensures in
+    let place : 2 ^ t + other ≡ count + other = omega (arith, is) in
+    let now : made (count + other) = made_now g.F.PlanEntry.value g.F.PlanEntry.quotient g.T.PathWord.base m root bits table
+    (count + other) x within
+    (same_factor c.factor-in-others-2.ensures.factor c.entry-in-others.ensures.value c.entry-in-others.ensures.quotient)
+    (c.entry-in-others.ensures.value ∙ c.factor-in-others-2.ensures.value ∙ power
+    ∙ ap (λ v. root ^ bits_reversed bits v % m) place) in
+    let kept = λ (k : ℕ). made_before g.F.PlanEntry.value g.F.PlanEntry.quotient g.T.PathWord.base m root bits table
+    (count + other) x k now in
+    let len = length-set table (count + other) x in
+    record {
+      room = omega (arith, room, len);
+      single = λ k h. kept (2 ^ k) (before.single k h);
+      first = λ k l. one_more made (count + other) (λ k l. kept k (before.first k l)) now k (omega arith);
+    }
+
+pub doublings-preserved : goal.doublings-preserved
+doublings-preserved g c =
+    let before = c.doublings.invariant in
+    let whole = before.whole in
+    record {
+      whole = omega (arith, whole);
+      count = twice_place c.doublings._bit c.doublings.count before.count;
+      single = c.others.invariant.single;
+      first = λ k l. c.others.invariant.first k (omega arith);
+    }
 
 pub returns-clause-factors : goal.returns-clause-factors
 returns-clause-factors g c =
-    let n = g.T.RingWord.number in
-    let m = n c.args.m.now.modulus in
-    let old = c.powers.new.table in
-    let new = c.reverse_places.new.entries in
-    let whole = power_by_zeros (length old)
-    (half_power (subst (λ n. IsPowerOfTwo (2 * n)) (omega arith) c.requires.suits.power_of_two)) (omega arith) in
-    all_reordered (λ f. IsFactor g.T.PathWord.base m (g.F.PlanEntry.value f) (g.F.PlanEntry.quotient f))
-    (trailing_zeros w64 (length old))
-    (length old) old new whole refl (omega arith)
-    c.reverse_places.ensures c.powers.ensures.factors
+    let last = c.doublings.invariant in
+    let whole = last.whole in
+    let count = last.count in
+    let bits = trailing_zeros w64 (length (set c.args.table.now 0 c.entry.result)) in
+    let all : c.doublings._bit ≡ bits = omega arith in
+    let e = ap (λ v. 2 ^ v) all in
+    λ k d l. (last.first k (omega (arith, whole, count, e))).factor d
 
 pub returns-clause-plan : goal.returns-clause-plan
 returns-clause-plan g c =
     let n = g.T.RingWord.number in
-    let m = n c.args.m.now.modulus in
-    let old = c.powers.new.table in
-    let new = c.reverse_places.new.entries in
-    let len : length old ≡ length c.args.table.now = omega arith in
-    let whole = power_by_zeros (length old)
-    (half_power (subst (λ n. IsPowerOfTwo (2 * n)) (omega arith) c.requires.suits.power_of_two)) (omega arith) in
-    λ z e.
-    planned g.F.PlanEntry.value m (n c.args.g) (length c.args.table.now)
-    (trailing_zeros w64 (length old)) z old new c.requires.suits e (omega (arith, whole, len)) len (omega arith)
-    c.reverse_places.ensures c.powers.ensures.powers
+    let last = c.doublings.invariant in
+    let whole = last.whole in
+    let count = last.count in
+    let bits = trailing_zeros w64 (length (set c.args.table.now 0 c.entry.result)) in
+    let all : c.doublings._bit ≡ bits = omega arith in
+    let e = ap (λ v. 2 ^ v) all in
+    let len = length-set c.args.table.now 0 c.entry.result in
+    λ z is. planned g.F.PlanEntry.value g.F.PlanEntry.quotient g.T.PathWord.base (n c.args.m.now.modulus) (n c.args.g)
+    (length c.args.table.now) bits z c.doublings.table c.requires.suits is (omega (arith, whole, len))
+    (λ k l. last.first k (omega (arith, whole, count, e, len)))

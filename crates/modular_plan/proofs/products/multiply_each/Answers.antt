@@ -1,6 +1,6 @@
 use Rattle.std.proofs.Common.{◌*◌, ◌%◌, ◌<◌, length, ◌∙◌, ap, arith, sym, subst}
 use Rattle.modular_plan.specs.Plans.{numbers}
-use Rattle.modular_plan.proofs.Entries.{number_read, bounded, entry_done, entry_kept, all_residues}
+use Rattle.modular_plan.proofs.Entries.{number_read, bounded, entry_done, entry_kept, all_residues, never_beyond}
 use Rattle.modular_plan.proofs.products.multiply_each.Goals as goal
 
 pub multiply-requires : goal.multiply-requires
@@ -45,3 +45,19 @@ returns-clause-below g c =
     all_residues n m (length c.args.xs.now) c.entries.xs (λ k. numbers n c.args.xs.now k * numbers n c.args.ys.now k)
     (let s = c.args.m.now.some in omega arith) (omega arith)
     (λ k l. c.entries.invariant.done k (omega arith))
+
+pub returns-then-is_outside-clause-products : goal.returns-then-is_outside-clause-products
+returns-then-is_outside-clause-products g c =
+    let n = g.T.RingWord.number in
+    let far = c.if-is_outside.ensures in
+    never_beyond n (n c.args.m.now.modulus) c.entries.xs c.args.xs.now c.entries.i c.index-xs-i.result
+    c.requires.below (omega arith) (omega arith) c.index-xs-i.is (c.entries.invariant.kept c.entries.i (omega arith))
+    (omega (arith, far))
+
+pub returns-then-is_outside-clause-below : goal.returns-then-is_outside-clause-below
+returns-then-is_outside-clause-below g c =
+    let n = g.T.RingWord.number in
+    let far = c.if-is_outside.ensures in
+    never_beyond n (n c.args.m.now.modulus) c.entries.xs c.args.xs.now c.entries.i c.index-xs-i.result
+    c.requires.below (omega arith) (omega arith) c.index-xs-i.is (c.entries.invariant.kept c.entries.i (omega arith))
+    (omega (arith, far))

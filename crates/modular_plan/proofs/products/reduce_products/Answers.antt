@@ -1,7 +1,7 @@
-use Rattle.std.proofs.Common.{◌*◌, ◌<◌, length, ◌∙◌, ap, arith, sym, subst}
+use Rattle.std.proofs.Common.{◌*◌, ◌<◌, length, ◌∙◌, ap, arith, refl, sym, subst}
 use Rattle.modular_word.specs.Congruence.{Congruent}
 use Rattle.modular_plan.specs.Plans.{numbers}
-use Rattle.modular_plan.proofs.Entries.{number_at, number_read, bounded, entry_written, entry_kept}
+use Rattle.modular_plan.proofs.Entries.{number_at, number_read, bounded, entry_written, entry_kept, never_beyond}
 use Rattle.modular_plan.proofs.products.reduce_products.Goals as goal
 
 pub reduced_product-requires-clause-below : goal.reduced_product-requires-clause-below
@@ -9,11 +9,10 @@ reduced_product-requires-clause-below g c =
     let n = g.T.RingWord.number in
     let m = n c.args.m.now.modulus in
     let i = c.entries.i in
-    let x = c.index-xs-i.result in
-    let within : i < length c.entries.xs = omega arith in
-    let old_within : i < length c.args.xs.now = omega arith in
-    let same = number_read n c.entries.xs i x within c.index-xs-i.is ∙ c.entries.invariant.kept i (omega arith) in
-    subst (λ v. v < m) (sym same) (bounded n m c.args.xs.now i x c.requires.below old_within)
+    let y = c.index-ys-i.result in
+    let within : i < length c.args.ys.now = omega arith in
+    subst (λ v. v < m) (sym (number_read n c.args.ys.now i y within c.index-ys-i.is))
+    (bounded n m c.args.ys.now i y c.requires.below within)
 
 pub entries-preserved : goal.entries-preserved
 entries-preserved g c =
@@ -49,3 +48,17 @@ returns-clause-below g c =
     let m = n c.args.m.now.modulus in
     λ i d below.
     subst (λ v. v < 2 * m) (sym (number_at n c.entries.xs i d below)) (c.entries.invariant.below i (omega arith))
+
+pub returns-then-is_outside-clause-products : goal.returns-then-is_outside-clause-products
+returns-then-is_outside-clause-products g c =
+    let n = g.T.RingWord.number in
+    let far = c.if-is_outside.ensures in
+    never_beyond n (n c.args.m.now.modulus) c.args.ys.now c.args.ys.now c.entries.i c.index-ys-i.result
+    c.requires.below (omega arith) (omega arith) c.index-ys-i.is refl (omega (arith, far))
+
+pub returns-then-is_outside-clause-below : goal.returns-then-is_outside-clause-below
+returns-then-is_outside-clause-below g c =
+    let n = g.T.RingWord.number in
+    let far = c.if-is_outside.ensures in
+    never_beyond n (n c.args.m.now.modulus) c.args.ys.now c.args.ys.now c.entries.i c.index-ys-i.result
+    c.requires.below (omega arith) (omega arith) c.index-ys-i.is refl (omega (arith, far))

@@ -1,5 +1,5 @@
 use Rattle.std.proofs.Common.{◌*◌, sym, ◌∙◌, arith}
-use Rattle.modular_plan.proofs.Quotients.{scaled_below}
+use Rattle.modular_plan.proofs.Quotients.{any_times_below}
 use Rattle.modular_plan.proofs.Reductions.{IsReducing, reducing, high_words, reduced}
 use Rattle.modular_plan.proofs.products.reduced_product.Goals as goal
 use Rattle.modular_plan.proofs.products.reduced_product.Goals.{After-split-multiple}
@@ -14,7 +14,7 @@ both g c =
     let n = g.T.RingWord.number in
     reducing _ _ _ _ (n c.split-multiple.result.0) _ c.requires.inverse
     (sym c.product.ensures.value ∙ c.split-low.ensures.value)
-    (scaled_below _ _ _ _ c.requires.below c.product.ensures.other_fits)
+    (any_times_below _ _ _ _ c.product.ensures.fits c.requires.below)
     c.split-low.ensures.low_fits c.wrapping_mul.ensures.value c.wrapping_mul.ensures.fits
     (sym c.product-2.ensures.value ∙ c.split-multiple.ensures.value) c.split-multiple.ensures.low_fits
 

@@ -1,4 +1,4 @@
-use Rattle.std.proofs.Common.{◌*◌, ◌%◌, ◌<◌, length, ◌∙◌, ap, arith, subst, sym}
+use Rattle.std.proofs.Common.{◌%◌, ◌<◌, length, ◌∙◌, ap, arith, subst, sym}
 use Rattle.modular_plan.specs.Plans.{numbers}
 use Rattle.modular_plan.proofs.Entries.{number_read, bounded, entry_done, entry_kept, all_residues}
 use Rattle.modular_plan.proofs.split.reduce_each.Goals as goal
@@ -6,18 +6,18 @@ use Rattle.modular_plan.proofs.split.reduce_each.Goals as goal
 pub residue-requires : goal.residue-requires
 residue-requires g c =
     let n = g.T.RingWord.number in
-    let m = n c.args.m.now.modulus in
+    let bound = g.M.SplitSteps.bound c.args.m.now in
     let i = c.entries.i in
     let x = c.index-xs-i.result in
     let within : i < length c.entries.xs = omega arith in
     let old_within : i < length c.args.xs.now = omega arith in
     let same = number_read n c.entries.xs i x within c.index-xs-i.is ∙ c.entries.invariant.kept i (omega arith) in
-    subst (λ v. v < 4 * m) (sym same) (bounded n (4 * m) c.args.xs.now i x c.requires old_within)
+    subst (λ v. v < bound) (sym same) (bounded n bound c.args.xs.now i x c.requires old_within)
 
 pub entries-preserved : goal.entries-preserved
 entries-preserved g c =
     let n = g.T.RingWord.number in
-    let m = n c.args.m.now.modulus in
+    let m = g.M.SplitSteps.modulus c.args.m.now in
     let i = c.entries.i in
     let xs = c.entries.xs in
     let x = c.index-xs-i.result in
@@ -33,7 +33,7 @@ entries-preserved g c =
 pub returns-clause-below : goal.returns-clause-below
 returns-clause-below g c =
     let n = g.T.RingWord.number in
-    let m = n c.args.m.now.modulus in
+    let m = g.M.SplitSteps.modulus c.args.m.now in
     all_residues n m (length c.args.xs.now) c.entries.xs (numbers n c.args.xs.now)
-    (let s = c.args.m.now.some in omega arith) (omega arith)
+    (let s = g.met.M.SplitSteps.some c.args.m.now in omega (arith, s)) (omega arith)
     (λ k l. c.entries.invariant.done k (omega arith))

@@ -7,6 +7,6 @@ abbrev pub invariant-entries : goal.invariant-entries
 invariant-entries g l =
     let number = g.T.RingWord.number in
     record {
-      done : (k : ℕ) → k < l.i → numbers number l.xs k ≡ numbers number l.fn.xs k % number l.m.modulus;
+      done : (k : ℕ) → k < l.i → numbers number l.xs k ≡ numbers number l.fn.xs k % g.M.SplitSteps.modulus l.m;
       kept : (k : ℕ) → l.i ≤ k → numbers number l.xs k ≡ numbers number l.fn.xs k;
     }

@@ -1,4 +1,4 @@
-use Rattle.std.proofs.Common.{◌*◌, ◌<◌, All}
+use Rattle.std.proofs.Common.{◌<◌, All}
 use Rattle.modular_plan.specs.Plans.{numbers}
 use Rattle.modular_plan.specs.Steps.{IsPairSplit, BlockDone}
 use Rattle.modular_plan.proofs.split.split_block.Given as goal
@@ -8,7 +8,7 @@ abbrev pub invariant-columns : goal.invariant-columns
 invariant-columns g l =
     let number = g.T.RingWord.number in
     record {
-      entries : All (λ x. number x < 4 * number l.m.modulus) l.xs;
-      done : BlockDone (IsPairSplit (number l.m.modulus) (number l.w.value)) l.first l.half l.i
+      entries : All (λ x. number x < g.M.SplitSteps.bound l.m) l.xs;
+      done : BlockDone (IsPairSplit (g.M.SplitSteps.modulus l.m) (number l.w.value)) l.first l.half l.i
           (numbers number l.fn.xs) (numbers number l.xs);
     }

@@ -1,4 +1,4 @@
-use Rattle.std.proofs.Common.{◌≡◌, ℕ, ◌*◌, ◌<◌, ◌≤◌, All}
+use Rattle.std.proofs.Common.{◌≡◌, ℕ, ◌<◌, ◌≤◌, All}
 use Rattle.modular_plan.specs.Plans.{numbers}
 use Rattle.modular_plan.specs.Steps.{IsFourSplit}
 use Rattle.modular_plan.proofs.split.split_columns.Given as goal
@@ -7,13 +7,13 @@ use Rattle.modular_plan.proofs.split.split_columns.Given as goal
 abbrev pub invariant-columns : goal.invariant-columns
 invariant-columns g l =
     let number = g.T.RingWord.number in
-    let m = number l.m.modulus in
+    let m = g.M.SplitSteps.modulus l.m in
     let at = numbers number in
     record {
-      first : All (λ x. number x < 4 * m) l.first;
-      second : All (λ x. number x < 4 * m) l.second;
-      third : All (λ x. number x < 4 * m) l.third;
-      fourth : All (λ x. number x < 4 * m) l.fourth;
+      first : All (λ x. number x < g.M.SplitSteps.bound l.m) l.first;
+      second : All (λ x. number x < g.M.SplitSteps.bound l.m) l.second;
+      third : All (λ x. number x < g.M.SplitSteps.bound l.m) l.third;
+      fourth : All (λ x. number x < g.M.SplitSteps.bound l.m) l.fourth;
       done : (k : ℕ) → k < l.i → IsFourSplit m (number l.w.value) (number l.u.value) (number l.v.value)
           (at l.fn.first k) (at l.fn.second k) (at l.fn.third k) (at l.fn.fourth k)
           (at l.first k) (at l.second k) (at l.third k) (at l.fourth k);

@@ -1,4 +1,4 @@
-use Rattle.std.proofs.Common.{◌≡◌, ℕ, ◌+◌, ◌*◌, length, ◌∙◌, arith, subst}
+use Rattle.std.proofs.Common.{ℕ, ◌+◌, ◌*◌, length, ◌∙◌, arith, subst}
 use Rattle.modular_plan.specs.Plans.{numbers}
 use Rattle.modular_plan.specs.Steps.{IsFourSplit, FourDone}
 use Rattle.modular_plan.proofs.Entries.{number_read, all_below}
@@ -8,7 +8,7 @@ use Rattle.modular_plan.proofs.split.split_fours.Goals as goal
 pub fours-preserved : goal.fours-preserved
 fours-preserved g c =
     let n = g.T.RingWord.number in
-    let m = n c.args.m.now.modulus in
+    let m = g.M.SplitSteps.modulus c.args.m.now in
     let p = c.fours.p in
     let table = c.args.table.now in
     let value = numbers g.F.PlanEntry.value table in
@@ -39,7 +39,7 @@ fours-preserved g c =
 pub returns : goal.returns
 returns g c =
     let n = g.T.RingWord.number in
-    let m = n c.args.m.now.modulus in
+    let m = g.M.SplitSteps.modulus c.args.m.now in
     record {
       below = all_below n m (length c.args.xs.now) c.fours.xs (omega arith)
           (λ k l. c.fours.invariant.below k (omega arith));

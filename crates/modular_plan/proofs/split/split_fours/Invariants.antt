@@ -7,10 +7,10 @@ use Rattle.modular_plan.proofs.split.split_fours.Given as goal
 abbrev pub invariant-fours : goal.invariant-fours
 invariant-fours g l =
     let number = g.T.RingWord.number in
-    let m = number l.m.modulus in
+    let m = g.M.SplitSteps.modulus l.m in
     let w = numbers g.F.PlanEntry.value l.table in
     record {
-      entries : All (λ x. number x < 4 * m) l.xs;
+      entries : All (λ x. number x < g.M.SplitSteps.bound l.m) l.xs;
       below : (k : ℕ) → k < l.p * 4 → numbers number l.xs k < m;
       done : StageOfFours (λ p. IsFourSplit m (w (l.first + p)) (w (2 * (l.first + p))) (w (2 * (l.first + p) + 1))) 1
           l.p (numbers number l.fn.xs) (numbers number l.xs);

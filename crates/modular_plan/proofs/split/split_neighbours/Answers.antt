@@ -1,9 +1,9 @@
-use Rattle.std.proofs.Common.{◌≡◌, ℕ, ◌+◌, ◌*◌, ◌%◌, ◌<◌, length, arith, subst, sym}
+use Rattle.std.proofs.Common.{◌≡◌, ℕ, ◌+◌, ◌%◌, ◌<◌, length, arith, subst, sym}
 use Rattle.std.proofs.Math.Nat.{mod-lt}
-use Rattle.modular_plan.specs.Plans.{numbers}
-use Rattle.modular_plan.specs.Steps.{IsFourSplit, FourDone}
+use Rattle.modular_plan.specs.Steps.{IsPairSplit, IsFourSplit}
 use Rattle.modular_plan.proofs.Entries.{number_read}
-use Rattle.modular_plan.proofs.Steps.{pair_of_residues}
+use Rattle.modular_word.proofs.Congruence.{of_equal, chained, residue_of}
+use Rattle.modular_plan.proofs.Steps.{pair_up_to}
 use Rattle.modular_plan.proofs.Fours.{all_set, four_of_pairs, four_written, four_below}
 use Rattle.modular_plan.proofs.split.split_neighbours.Goals as goal
 
@@ -15,28 +15,32 @@ record AreResidues (m w u v a b c d a' b' c' d' : ℕ) : Type 0 where
   third : c' < m
   last : d' < m
 
+-- the residues of a pair do as well
+pair_of_residues : {m : ℕ} (w : ℕ) {a b sum difference sum' difference' : ℕ} → sum' ≡ sum % m
+    → difference' ≡ difference % m → IsPairSplit m w a b sum difference → IsPairSplit m w a b sum' difference'
+pair_of_residues {m} w {a} {b} {sum} {difference} {sum'} {difference'} first second pair =
+    pair_up_to w a b sum difference sum' difference' (chained (of_equal first) (residue_of sum))
+    (chained (of_equal second) (residue_of difference)) pair
+
 residue_below : {m x : ℕ} (y : ℕ) → 0 < m → x ≡ y % m → x < m
 residue_below {m} {x} y some is = subst (λ v. v < m) (sym is) (mod-lt y some)
 
 pub returns : goal.returns
 returns g c =
     let n = g.T.RingWord.number in
-    let m = n c.args.m.now.modulus in
+    let m = g.M.SplitSteps.modulus c.args.m.now in
     let w = n c.args.w.now.value in
     let u = n c.args.u.now.value in
     let v = n c.args.v.now.value in
     let xs = c.args.xs.now in
     let i = c.args.first in
     let within = c.requires.within in
-    let some : 0 < m = (let s = c.args.m.now.some in omega arith) in
+    let some : 0 < m = (let s = g.met.M.SplitSteps.some c.args.m.now in omega (arith, s)) in
     let x0 = c.index-xs-first in
-    let x2 = c.index-xs-first-2 in
-    let x1 = c.index-xs-first-3 in
+    let x1 = c.index-xs-first-2 in
+    let x2 = c.index-xs-first-3 in
     let x3 = c.index-xs-first-4 in
-    let outer = c.split_values-e in
-    let inner = c.split_values-f in
-    let low = c.split_values-a in
-    let high = c.split_values-c in
+    let split = c.four-a.ensures.four in
     let a = c.residue-4 in
     let b = c.residue-3 in
     let d = c.residue-2 in
@@ -46,9 +50,8 @@ returns g c =
     (number_read n xs (i + 1) x1.result (let l : i + 1 < length xs = omega arith in l) x1.is)
     (number_read n xs (i + 2) x2.result (let l : i + 2 < length xs = omega arith in l) x2.is)
     (number_read n xs (i + 3) x3.result within x3.is)
-    outer.ensures.pair inner.ensures.pair
-    (pair_of_residues u _ _ _ _ _ _ a.ensures b.ensures low.ensures.pair)
-    (pair_of_residues v _ _ _ _ _ _ d.ensures e.ensures high.ensures.pair) in
+    split.first split.second (pair_of_residues u a.ensures b.ensures split.low)
+    (pair_of_residues v d.ensures e.ensures split.high) in
     let done = four_written n (AreResidues m w u v) xs i (i + 1) (i + 2) (i + 3) a.result b.result d.result e.result
     (omega arith) (omega arith) (omega arith) within
     (record {
@@ -58,8 +61,9 @@ returns g c =
       third = residue_below _ some d.ensures;
       last = residue_below _ some e.ensures;
     }) in
-    let bound = λ (x : g.row.T.Denot). n x < 4 * m in
-    let room = λ (k : ℕ) (l : k < m). (let o : k < 4 * m = omega arith in o) in
+    let bound = λ (x : g.row.T.Denot). n x < g.M.SplitSteps.bound c.args.m.now in
+    let wide = g.met.M.SplitSteps.room c.args.m.now in
+    let room = λ (k : ℕ) (l : k < m). (let o : k < g.M.SplitSteps.bound c.args.m.now = omega (arith, wide) in o) in
     record {
       entries = all_set bound _ i a.result
           (all_set bound _ (i + 1) b.result

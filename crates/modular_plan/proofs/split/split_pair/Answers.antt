@@ -8,7 +8,7 @@ use Rattle.modular_plan.proofs.split.split_pair.Goals as goal
 pub returns-clause-done : goal.returns-clause-done
 returns-clause-done g c =
     let n = g.T.RingWord.number in
-    let m = n c.args.m.now.modulus in
+    let m = g.M.SplitSteps.modulus c.args.m.now in
     let w = n c.args.w.now.value in
     let xs = c.args.xs.now in
     let low = c.args.low in
@@ -16,8 +16,8 @@ returns-clause-done g c =
     let a_is = number_read n xs low c.index-xs-low.result
     (let l : low < length xs = omega arith in l) c.index-xs-low.is in
     let b_is = number_read n xs high c.index-xs-high.result c.requires.within c.index-xs-high.is in
-    let values = c.split_values-sum.result in
+    let values = c.pair-sum.result in
     pair_written n (IsPairSplit m w) xs low high values.0 values.1 c.requires.order c.requires.within
     (subst (λ a. IsPairSplit m w a (numbers n xs high) (n values.0) (n values.1)) a_is
     (subst (λ b. IsPairSplit m w (n c.index-xs-low.result) b (n values.0) (n values.1)) b_is
-    c.split_values-sum.ensures.pair))
+    c.pair-sum.ensures.pair))

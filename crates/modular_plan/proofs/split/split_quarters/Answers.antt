@@ -1,4 +1,4 @@
-use Rattle.std.proofs.Common.{◌≡◌, ◌*◌, ◌<◌, All, length, arith, subst, sym}
+use Rattle.std.proofs.Common.{◌<◌, All, arith, subst, sym}
 use Rattle.modular_plan.specs.Plans.{numbers}
 use Rattle.modular_plan.specs.Steps.{IsFourSplit, BlockOfFours}
 use Rattle.modular_plan.proofs.Quarters.{joined, joined_of, all_joined, all_before, all_fourth, all_after}
@@ -8,7 +8,7 @@ use Rattle.modular_plan.proofs.split.split_quarters.Goals as goal
 pub split_columns-requires-clause-fourth : goal.split_columns-requires-clause-fourth
 split_columns-requires-clause-fourth g c =
     let n = g.T.RingWord.number in
-    let P = λ (x : g.row.T.Denot). n x < 4 * n c.args.m.now.modulus in
+    let P = λ (x : g.row.T.Denot). n x < g.M.SplitSteps.bound c.args.m.now in
     let front = c.split_at_mut-before.result.0.now in
     let first = c.split_at_mut-a.result.0.now in
     let second = c.split_at_mut-b.result.0.now in
@@ -22,8 +22,8 @@ split_columns-requires-clause-fourth g c =
 pub returns : goal.returns
 returns g c =
     let n = g.T.RingWord.number in
-    let m = n c.args.m.now.modulus in
-    let P = λ (x : g.row.T.Denot). n x < 4 * m in
+    let m = g.M.SplitSteps.modulus c.args.m.now in
+    let P = λ (x : g.row.T.Denot). n x < g.M.SplitSteps.bound c.args.m.now in
     let front = c.split_at_mut-before.result.0.now in
     let after = c.split_at_mut-d.result.1.now in
     let first = c.split_at_mut-a.result.0.now in

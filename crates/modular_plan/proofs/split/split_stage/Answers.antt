@@ -8,7 +8,7 @@ use Rattle.modular_plan.proofs.split.split_stage.Goals as goal
 pub each_block-preserved : goal.each_block-preserved
 each_block-preserved g c =
     let n = g.T.RingWord.number in
-    let m = n c.args.m.now.modulus in
+    let m = g.M.SplitSteps.modulus c.args.m.now in
     let p = c.each_block.p in
     let half = c.args.half in
     let within : c.args.first + p < length c.args.table.now = omega arith in

@@ -1,4 +1,4 @@
-use Rattle.std.proofs.Common.{◌+◌, ◌*◌, ◌<◌, All}
+use Rattle.std.proofs.Common.{◌+◌, ◌<◌, All}
 use Rattle.modular_plan.specs.Plans.{numbers}
 use Rattle.modular_plan.specs.Steps.{IsPairSplit, StageDone}
 use Rattle.modular_plan.proofs.split.split_stage.Given as goal
@@ -8,7 +8,7 @@ abbrev pub invariant-each_block : goal.invariant-each_block
 invariant-each_block g l =
     let number = g.T.RingWord.number in
     record {
-      entries : All (λ x. number x < 4 * number l.m.modulus) l.xs;
-      done : StageDone (λ p. IsPairSplit (number l.m.modulus) (numbers g.F.PlanEntry.value l.table (l.first + p)))
+      entries : All (λ x. number x < g.M.SplitSteps.bound l.m) l.xs;
+      done : StageDone (λ p. IsPairSplit (g.M.SplitSteps.modulus l.m) (numbers g.F.PlanEntry.value l.table (l.first + p)))
           l.half l.p (numbers number l.fn.xs) (numbers number l.xs);
     }

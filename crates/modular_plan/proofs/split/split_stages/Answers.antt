@@ -1,5 +1,6 @@
-use Rattle.std.proofs.Common.{◌≡◌, ◌+◌, ◌-◌, ◌*◌, ◌/◌, ◌^◌, length, sym, ◌∙◌, ap, arith}
+use Rattle.std.proofs.Common.{◌≡◌, ◌-◌, ◌*◌, ◌/◌, ◌^◌, length, sym, ◌∙◌, ap, arith}
 use Rattle.modular_transform.proofs.PowersOfTwo.{power_by_zeros}
+use Rattle.modular_plan.proofs.Entries.{all_wider}
 use Rattle.modular_plan.proofs.Levels.{sizes_of, table_room, twice_fits, level_first, level_next, level_end, larger}
 use Rattle.modular_plan.proofs.TwoLevels.{two_sizes, two_rooms, four_fit, level_after_two}
 use Rattle.modular_plan.proofs.split.split_stages.Goals as goal
@@ -12,7 +13,8 @@ stages-init g c =
     record {
       sized = sym c.requires.whole ∙ scaled;
       counted = omega (arith, e);
-      entries = c.requires.entries;
+      entries = all_wider g.T.RingWord.number c.args.xs.now (g.met.M.SplitSteps.room c.args.m.now) c.requires.entries;
+      first = λ one. c.requires.entries;
       level = λ r z plan. level_first r z c.args.b (length c.args.xs.now) _;
     }
 
@@ -24,8 +26,8 @@ overflow_mul-b g c =
     let enough = two_rooms c.args.b (length c.args.table.now) sizes c.requires.within in
     omega (arith, enough)
 
-pub split_two_stages-requires-clause-whole : goal.split_two_stages-requires-clause-whole
-split_two_stages-requires-clause-whole g c =
+pub split_pass-requires-clause-whole : goal.split_pass-requires-clause-whole
+split_pass-requires-clause-whole g c =
     let before = c.stages.invariant in
     let sizes = two_sizes c.stages.size c.args.last c.stages.blocks c.stages.left (length c.args.xs.now)
     c.requires.some c.requires.count c.requires.whole (omega arith) before.sized before.counted in
@@ -33,15 +35,15 @@ split_two_stages-requires-clause-whole g c =
     let same = c.stages.auto.xs in
     omega (arith, whole, same)
 
-pub split_two_stages-requires-clause-within : goal.split_two_stages-requires-clause-within
-split_two_stages-requires-clause-within g c =
+pub split_pass-requires-clause-within : goal.split_pass-requires-clause-within
+split_pass-requires-clause-within g c =
     let before = c.stages.invariant in
     let sizes = two_sizes c.stages.size c.args.last c.stages.blocks c.stages.left (length c.args.xs.now)
     c.requires.some c.requires.count c.requires.whole (omega arith) before.sized before.counted in
     two_rooms c.args.b (length c.args.table.now) sizes c.requires.within
 
-pub split_two_stages-requires-clause-some : goal.split_two_stages-requires-clause-some
-split_two_stages-requires-clause-some g c =
+pub split_pass-requires-clause-some : goal.split_pass-requires-clause-some
+split_pass-requires-clause-some g c =
     let before = c.stages.invariant in
     let sizes = two_sizes c.stages.size c.args.last c.stages.blocks c.stages.left (length c.args.xs.now)
     c.requires.some c.requires.count c.requires.whole (omega arith) before.sized before.counted in
@@ -66,12 +68,13 @@ stages-preserved-then-left-eq0 g c =
     record {
       sized = sizes.quarter ∙ ap (λ v. v * c.args.last) power;
       counted = ap (λ v. c.stages.blocks * 4 * v) (sym power) ∙ sizes.counted;
-      entries = c.split_two_stages.ensures.entries;
+      entries = c.split_pass.ensures.entries;
+      first = λ one. absurd (omega arith);
       level =
           λ r z plan.
           level_after_two r z c.args.b c.stages.blocks c.stages.size c.args.last c.stages.left
           (length c.args.xs.now / c.args.last) (length c.args.xs.now) (length c.args.table.now) _ _ _ _ sizes
-          c.requires.within plan (before.level r z plan) c.split_two_stages.ensures.done;
+          c.requires.within plan (before.level r z plan) c.split_pass.ensures.done;
     }
 
 pub overflow_mul-b-else-left-eq0 : goal.overflow_mul-b-else-left-eq0
@@ -131,6 +134,7 @@ stages-preserved g c =
       sized = sizes.half ∙ ap (λ v. v * c.args.last) power;
       counted = ap (λ v. c.stages.blocks * 2 * v) (sym power) ∙ sizes.counted;
       entries = c.split_stage.ensures.entries;
+      first = λ one. absurd (omega arith);
       level =
           λ r z plan.
           level_next r z c.args.b c.stages.blocks c.stages.size c.args.last c.stages.left

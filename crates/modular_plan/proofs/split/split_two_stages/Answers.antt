@@ -8,7 +8,7 @@ use Rattle.modular_plan.proofs.split.split_two_stages.Goals as goal
 pub four_quarters-preserved : goal.four_quarters-preserved
 four_quarters-preserved g c =
     let n = g.T.RingWord.number in
-    let m = n c.args.m.now.modulus in
+    let m = g.M.SplitSteps.modulus c.args.m.now in
     let q = c.args.q in
     let p = c.four_quarters.p in
     let table = c.args.table.now in

@@ -7,10 +7,10 @@ use Rattle.modular_plan.proofs.split.split_two_stages.Given as goal
 abbrev pub invariant-four_quarters : goal.invariant-four_quarters
 invariant-four_quarters g l =
     let number = g.T.RingWord.number in
-    let m = number l.m.modulus in
+    let m = g.M.SplitSteps.modulus l.m in
     let w = numbers g.F.PlanEntry.value l.table in
     record {
-      entries : All (λ x. number x < 4 * m) l.xs;
+      entries : All (λ x. number x < g.M.SplitSteps.bound l.m) l.xs;
       done : StageOfFours (λ p. IsFourSplit m (w (l.first + p)) (w (2 * (l.first + p))) (w (2 * (l.first + p) + 1))) l.q
           l.p (numbers number l.fn.xs) (numbers number l.xs);
     }

@@ -1,7 +1,7 @@
 use Rattle.std.proofs.Common.{◌≡◌, ◌-◌, ◌*◌, ◌^◌, ◌≤◌, ap, ◌∙◌, arith, refl}
 use Rattle.std.proofs.lemmas.Bool.{false≢true}
 use Rattle.std.proofs.lemmas.Nat.{pow_pos}
-use Rattle.modular_plan.proofs.Quotients.{fourth}
+use Rattle.modular_plan.proofs.Quotients.{part}
 use Rattle.modular_plan.proofs.modulus.PlannedModulus.admits.Goals as goal
 
 pub overflow_sub-bits : goal.overflow_sub-bits
@@ -13,7 +13,7 @@ shift_left-greatest-requires g c =
     let n = g.T.RingWord.number in
     let wide = g.met.T.RingWord.width_from in
     let e : c.bits.result - 2 ≡ w - 2 = ap (λ v. v - 2) c.bits.ensures in
-    let f = fourth w g.T.PathWord.base (2 ^ (w - 2)) g.met.T.PathWord.base_is (omega (arith, wide)) refl in
+    let f = part 2 w g.T.PathWord.base (2 ^ (w - 2)) g.met.T.PathWord.base_is (omega (arith, wide)) refl in
     let one : n c.one.result * 2 ^ (c.bits.result - 2) ≡ 1 * 2 ^ (w - 2) =
     ap (λ v. v * 2 ^ (c.bits.result - 2)) c.one.ensures ∙ ap (λ v. 1 * 2 ^ v) e in
     let some = pow_pos (w - 2) in
@@ -32,7 +32,7 @@ returns-else-is_zero_word g c =
     let one : n c.one.result * 2 ^ (c.bits.result - 2) ≡ 1 * 2 ^ (w - 2) =
     ap (λ v. v * 2 ^ (c.bits.result - 2)) c.one.ensures ∙ ap (λ v. 1 * 2 ^ v) e in
     let greatest : n c.shift_left-greatest.result ≡ 2 ^ (w - 2) = omega (arith, one, c.shift_left-greatest.ensures) in
-    let f = fourth w g.T.PathWord.base (n c.shift_left-greatest.result) g.met.T.PathWord.base_is
+    let f = part 2 w g.T.PathWord.base (n c.shift_left-greatest.result) g.met.T.PathWord.base_is
     (omega (arith, g.met.T.RingWord.width_from)) greatest in
     let other : n c.args.m ≡ 0 → ⊥ = λ z. let t = c.is_zero_word.ensures.zero.1 z in cc (t, c.if-is_zero_word.false) in
     let some : 1 ≤ n c.args.m = omega arith in

@@ -1,0 +1,166 @@
+-- A plan made by doublings: the entries at the places of one bit, and the others from two each.
+use Rattle.std.proofs.Common.{◌≡◌, ℕ, suc, ◌+◌, ◌-◌, ◌*◌, ◌/◌, ◌%◌, ◌^◌, ◌<◌, ◌≤◌, List, get_or, length}
+use Rattle.std.proofs.Common.{inl, inr, refl, sym, ◌∙◌, ap, arith, subst, get_or-set_same, get_or-set_other}
+use Rattle.std.proofs.Math.ListN.{set}
+use Rattle.std.proofs.Math.Nat.{two-pow-succ, pow-zero, mod-eq_of_lt, pow-le-pow_right}
+use Rattle.std.proofs.Math.Pow.{pow-lt}
+use Rattle.std.proofs.lemmas.Bool.{cases_eq}
+use Rattle.std.proofs.lemmas.Nat.{mul-mod, pow-add, pow_pos}
+use Rattle.modular_word.proofs.Powers.{pow-one}
+use Rattle.modular_transform.specs.Orders.{bits_reversed}
+use Rattle.modular_transform.specs.Transforms.{Suits}
+use Rattle.modular_transform.proofs.BitReversal.{bits_reversed-suc, bits_reversed_of_zero, bits_reversed_of_parts}
+use Rattle.modular_plan.specs.Factors.{IsFactor}
+use Rattle.modular_plan.specs.Plans.{numbers, IsPlan}
+use Rattle.modular_plan.proofs.Entries.{written, not_written}
+use Rattle.modular_plan.proofs.Tables.{exponent}
+
+-- the reversed bits of a place below 2^t and one of bit t
+record AreApart (s t x : ℕ) : Type 0 where
+  low : bits_reversed s (2 ^ t) ≡ 2 ^ (s - 1 - t)
+  both : bits_reversed s (2 ^ t + x) ≡ bits_reversed s x + bits_reversed s (2 ^ t)
+
+apart : (s t x u : ℕ) → s ≡ t + suc u → x < 2 ^ t → AreApart s t x
+apart s t x u is below =
+    let p = pow_pos t in
+    let of = λ (y a : ℕ) (l : a < 2 ^ t) (n : ℕ) (e : n ≡ a + 2 ^ t * y).
+    ap (λ v. bits_reversed s v) e ∙ ap (λ v. bits_reversed v (a + 2 ^ t * y)) is
+    ∙ bits_reversed_of_parts t (suc u) a y l in
+    let one : 1 / 2 ≡ 0 = refl in
+    let bit : 1 % 2 ≡ 1 = refl in
+    let none = bits_reversed_of_zero (suc u) in
+    let high = bits_reversed-suc u 1 in
+    let rest = ap (bits_reversed u) one ∙ bits_reversed_of_zero u in
+    let top = ap (λ v. v * 2 ^ u) bit in
+    let zeros = ap (λ v. v * 2 ^ suc u) (bits_reversed_of_zero t) in
+    let single = of 1 0 (omega (arith, p)) (2 ^ t) (omega arith) in
+    let alone = of 0 x below x (omega arith) in
+    let whole = of 1 x below (2 ^ t + x) (omega arith) in
+    let left : s - 1 - t ≡ u = omega (arith, is) in
+    let turned = ap (λ v. 2 ^ v) left in
+    record {
+      low = omega (arith, single, zeros, high, rest, top, turned);
+      both = omega (arith, single, alone, whole, zeros, none);
+    }
+
+pub reversed_of_one_bit : (s t : ℕ) → t < s → bits_reversed s (2 ^ t) ≡ 2 ^ (s - 1 - t)
+reversed_of_one_bit s t below = let p = pow_pos t in
+    (apart s t 0 (s - 1 - t) (omega (arith, below)) (omega (arith, p))).low
+
+pub reversed_of_sum : (s t x : ℕ) → t < s → x < 2 ^ t
+    → bits_reversed s (2 ^ t + x) ≡ bits_reversed s x + bits_reversed s (2 ^ t)
+reversed_of_sum s t x below within = (apart s t x (s - 1 - t) (omega (arith, below)) within).both
+
+-- the entry at place k is that of the plan
+pub record IsMade {F : Type 0} (value quotient : F → ℕ) (base m g bits : ℕ) (table : List F) (k : ℕ) : Type 0 where
+  pub factor : (d : F) → IsFactor base m (value (get_or table k d)) (quotient (get_or table k d))
+  pub power : numbers value table k ≡ g ^ bits_reversed bits k % m
+
+-- after a write: the place itself ..
+pub made_now : {F : Type 0} (value quotient : F → ℕ) (base m g bits : ℕ) (table : List F) (i : ℕ) (x : F)
+    → i < length table → IsFactor base m (value x) (quotient x) → value x ≡ g ^ bits_reversed bits i % m
+    → IsMade value quotient base m g bits (set table i x) i
+made_now value quotient base m g bits table i x within factor power = record {
+  factor = λ d. subst (λ y. IsFactor base m (value y) (quotient y)) (sym (get_or-set_same table i x d within)) factor;
+  power = written value table i x within ∙ power;
+}
+
+-- .. and one that was made before
+pub made_before : {F : Type 0} (value quotient : F → ℕ) (base m g bits : ℕ) (table : List F) (i : ℕ) (x : F) (k : ℕ)
+    → IsMade value quotient base m g bits (set table i x) i → IsMade value quotient base m g bits table k
+    → IsMade value quotient base m g bits (set table i x) k
+made_before value quotient base m g bits table i x k now before = elim (cases_eq k i) [
+  | inl e ↦ subst (IsMade value quotient base m g bits (set table i x)) (sym e) now
+  | inr ne ↦ record {
+    factor = λ d. subst (λ y. IsFactor base m (value y) (quotient y)) (sym (get_or-set_other table i k x d ne))
+        (before.factor d);
+    power = not_written value table i k x ne ∙ before.power;
+  }
+]
+
+-- a factor is one by its numbers
+pub same_factor : {base m v q w r : ℕ} → IsFactor base m v q → w ≡ v → r ≡ q → IsFactor base m w r
+same_factor {base} {m} {v} {q} {w} {r} is e f =
+    subst (λ y. IsFactor base m y r) (sym e) (subst (IsFactor base m v) (sym f) is)
+
+pub one_more : (P : ℕ → Type 0) (i : ℕ) → ((k : ℕ) → k < i → P k) → P i → (k : ℕ) → k < i + 1 → P k
+one_more P i before now k l = elim (cases_eq k i) [
+  | inl e ↦ subst P (sym e) now
+  | inr ne ↦ before k (omega arith)
+]
+
+pub one_lower : (P : ℕ → Type 0) (i : ℕ) → ((k : ℕ) → i + 1 ≤ k → P k) → P i → (k : ℕ) → i ≤ k → P k
+one_lower P i before now k l = elim (cases_eq k i) [
+  | inl e ↦ subst P (sym e) now
+  | inr ne ↦ before k (omega arith)
+]
+
+-- the first place
+pub first_power : (m one power value g bits : ℕ) → one ≡ 1 → power ≡ one % m → value ≡ power
+    → value ≡ g ^ bits_reversed bits 0 % m
+first_power m one power value g bits is_one is e =
+    e ∙ is ∙ ap (λ v. v % m) (is_one ∙ sym (pow-zero g) ∙ ap (λ v. g ^ v) (sym (bits_reversed_of_zero bits)))
+
+-- half of the place p of one bit
+pub record IsHalved (s i p : ℕ) : Type 0 where
+  pub next : p / 2 ≡ 2 ^ (s - (i + 1))
+  pub within : p / 2 < 2 ^ s
+  pub reversed : bits_reversed s (p / 2) ≡ 2 ^ i
+
+pub half_place : (s i p : ℕ) → i < s → p ≡ 2 ^ (s - i) → IsHalved s i p
+half_place s i p below is =
+    let t : ℕ = s - (i + 1) in
+    let up : s - i ≡ suc t = omega (arith, below) in
+    let e = ap (λ v. 2 ^ v) up in
+    let two = two-pow-succ t in
+    let next : p / 2 ≡ 2 ^ t = omega (arith, is, e, two) in
+    let less = pow-lt {i = t} {j = s} (omega (arith, below)) in
+    let left : s - 1 - t ≡ i = omega (arith, below) in
+    record {
+      next = next;
+      within = omega (arith, next, less);
+      reversed = ap (bits_reversed s) next ∙ reversed_of_one_bit s t (omega (arith, below)) ∙ ap (λ v. 2 ^ v) left;
+    }
+
+-- a place of one bit, and as many beyond it
+pub two_within : (s t p n : ℕ) → t < s → p ≡ 2 ^ t → n ≡ 2 ^ s → 2 * p ≤ n
+two_within s t p n below is whole =
+    let two = two-pow-succ t in
+    let most = pow-le-pow_right {n = 2} (omega arith) {i = suc t} {j = s} (omega (arith, below)) in
+    omega (arith, is, whole, two, most)
+
+pub twice_place : (t p : ℕ) → p ≡ 2 ^ t → p * 2 ≡ 2 ^ (t + 1)
+twice_place t p is = let two = two-pow-succ t in let up : t + 1 ≡ suc t = omega arith in
+    let e = ap (λ v. 2 ^ v) up in omega (arith, is, two, e)
+
+pub root_itself : (m g : ℕ) → g < m → g ≡ g ^ (2 ^ 0) % m
+root_itself m g below = sym (ap (λ v. v % m) (pow-one g) ∙ mod-eq_of_lt below)
+
+pub square_next : (m g i power value next : ℕ) → power ≡ g ^ (2 ^ i) % m → value ≡ power → next ≡ (power * value) % m
+    → next ≡ g ^ (2 ^ (i + 1)) % m
+square_next m g i power value next is same e =
+    let two = two-pow-succ i in
+    let up : i + 1 ≡ suc i = omega arith in
+    let twice : 2 ^ (i + 1) ≡ 2 ^ i + 2 ^ i = ap (λ v. 2 ^ v) up ∙ omega (arith, two) in
+    e ∙ ap (λ v. (power * v) % m) same ∙ ap (λ v. (v * v) % m) is ∙ sym (mul-mod (g ^ (2 ^ i)) (g ^ (2 ^ i)) m)
+    ∙ ap (λ v. v % m) (sym (pow-add g (2 ^ i) (2 ^ i)) ∙ ap (λ v. g ^ v) (sym twice))
+
+pub product_of_two : (m g s t x v w result : ℕ) → t < s → x < 2 ^ t → v ≡ g ^ bits_reversed s x % m
+    → w ≡ g ^ bits_reversed s (2 ^ t) % m → result ≡ (v * w) % m → result ≡ g ^ bits_reversed s (2 ^ t + x) % m
+product_of_two m g s t x v w result below within is_v is_w e =
+    let a = bits_reversed s x in
+    let b = bits_reversed s (2 ^ t) in
+    e ∙ ap (λ y. (y * w) % m) is_v ∙ ap (λ y. (g ^ a % m * y) % m) is_w ∙ sym (mul-mod (g ^ a) (g ^ b) m)
+    ∙ ap (λ y. y % m) (sym (pow-add g a b) ∙ ap (λ y. g ^ y) (sym (reversed_of_sum s t x below within)))
+
+-- all entries are made
+pub planned : {F : Type 0} (value quotient : F → ℕ) (base m g n bits z : ℕ) (table : List F) → Suits m g (2 * n)
+    → 2 ^ z ≡ 2 * n → n ≡ 2 ^ bits → ((k : ℕ) → k < n → IsMade value quotient base m g bits table k)
+    → IsPlan m g z n (numbers value table)
+planned value quotient base m g n bits z table suits e whole made =
+    let ex = exponent z n bits e whole in
+    record {
+      suits = subst (Suits m g) (sym e) suits;
+      half = ex.1;
+      entry = λ k l. (made k l).power ∙ ap (λ v. g ^ bits_reversed v k % m) ex.0;
+    }

@@ -1,0 +1,49 @@
+use Rattle.std.proofs.Common.{◌≡◌, ◌/◌, length, arith}
+use Rattle.modular_plan.proofs.Entries.{bounded_at}
+use Rattle.modular_plan.proofs.Levels.{remainders_of}
+use Rattle.modular_plan.proofs.TwoLevels.{whole_fours, remainders_of_fours}
+use Rattle.modular_plan.proofs.split.split_by.Goals as goal
+
+pub split_stages-requires-clause-count : goal.split_stages-requires-clause-count
+split_stages-requires-clause-count g c =
+    let fours = whole_fours (length c.args.xs.now) c.args.last c.args.b (length c.args.table.now) c.if-last-eq1.true
+    c.if-xs-ge4.true c.requires.count c.requires.within in
+    fours.power
+
+pub split_stages-requires-clause-whole : goal.split_stages-requires-clause-whole
+split_stages-requires-clause-whole g c =
+    let fours = whole_fours (length c.args.xs.now) c.args.last c.args.b (length c.args.table.now) c.if-last-eq1.true
+    c.if-xs-ge4.true c.requires.count c.requires.within in
+    fours.whole
+
+pub split_fours-requires-clause-whole : goal.split_fours-requires-clause-whole
+split_fours-requires-clause-whole g c =
+    let fours = whole_fours (length c.args.xs.now) c.args.last c.args.b (length c.args.table.now) c.if-last-eq1.true
+    c.if-xs-ge4.true c.requires.count c.requires.within in
+    let whole = fours.whole in
+    omega (arith, whole)
+
+pub split_fours-requires-clause-within : goal.split_fours-requires-clause-within
+split_fours-requires-clause-within g c =
+    let fours = whole_fours (length c.args.xs.now) c.args.last c.args.b (length c.args.table.now) c.if-last-eq1.true
+    c.if-xs-ge4.true c.requires.count c.requires.within in
+    fours.places
+
+pub returns-then-xs-ge4-clause-remainders : goal.returns-then-xs-ge4-clause-remainders
+returns-then-xs-ge4-clause-remainders g c =
+    let n = g.T.RingWord.number in
+    let m = g.M.SplitSteps.modulus c.args.m.now in
+    let length_is : length c.split_fours.new.xs ≡ length c.args.xs.now = omega arith in
+    let fours = whole_fours (length c.args.xs.now) c.args.last c.args.b (length c.args.table.now) c.if-last-eq1.true
+    c.if-xs-ge4.true c.requires.count c.requires.within in
+    λ r z plan.
+    remainders_of_fours r z c.args.b (length c.args.xs.now) c.args.last (length c.args.table.now) _ _ _ _
+    c.if-last-eq1.true fours plan (c.split_stages.ensures.level r z plan) c.split_fours.ensures.done
+    (λ i l. bounded_at n m c.split_fours.new.xs i c.split_fours.ensures.below (omega arith))
+
+pub returns-else-last-eq1-clause-remainders : goal.returns-else-last-eq1-clause-remainders
+returns-else-last-eq1-clause-remainders g c =
+    λ r z plan.
+    remainders_of r z c.args.b (length c.args.xs.now / c.args.last) c.args.last (length c.args.xs.now) _ _ _
+    c.requires.whole (c.split_stages-else-last-eq1.ensures.level r z plan)
+    (λ i l. c.reduce_each.ensures.residues i (omega arith))

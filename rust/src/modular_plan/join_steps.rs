@@ -1,0 +1,189 @@
+//! The steps of a join on numbers, by how far they may grow between passes over a list.
+
+use crate::modular_plan::modulus::{Factor, PlannedModulus};
+use crate::modular_plan::roomy::RoomyModulus;
+use crate::modular_prim::below::reduced_once;
+use crate::modular_prim::plain_word::PlainWord;
+use crate::modular_word::path_word::PathWord;
+use crate::modular_word::ring_word::RingWord;
+
+/// A modulus with the steps of a join: pairs and fours of numbers below a bound become such numbers again, so that
+/// lists are joined pass after pass.
+pub trait JoinSteps<T: PlainWord>: Sized {
+    /// The factor -1.
+    fn minus_one(&self) -> Factor<T>;
+
+    /// Whether a word of more than 32 bits is 4m or more: the end of a loop that never ends there, which is
+    /// compiled without vectors.
+    fn is_beyond(&self, x: T) -> bool;
+
+    /// A word below 4m, brought below the bound.
+    fn taken(&self, x: T) -> T;
+
+    /// x + y and (y - x)·v.
+    fn pair(&self, x: T, y: T, v: &Factor<T>) -> (T, T);
+
+    /// Four numbers, a quarter of a block apart: by minus the inverses of the factors of the block's halves,
+    /// and of its own.
+    fn four(
+        &self,
+        x: T,
+        y: T,
+        z: T,
+        t: T,
+        w: &Factor<T>,
+        u: &Factor<T>,
+        v: &Factor<T>,
+    ) -> (T, T, T, T);
+
+    /// The same where w and u are -1, each number times a factor.
+    fn four_by_one(&self, x: T, y: T, z: T, t: T, v: &Factor<T>, s: &Factor<T>) -> (T, T, T, T);
+
+    /// The residue of any word's product with a factor.
+    fn product(&self, x: T, w: &Factor<T>) -> T;
+
+    /// The residue of a word below the bound.
+    fn residue(&self, x: T) -> T;
+}
+
+// x + y, and (y - x)·v below 2m. Condition: both are below a multiple of m, of which a word holds nearly two.
+#[inline]
+fn gather<T: PlainWord>(m: &PlannedModulus<T>, x: T, y: T, bound: T, v: &Factor<T>) -> (T, T) {
+    (x.plus(y), m.times(y.plus(bound.minus(x)), v))
+}
+
+// (x + y)·s and (x - y)·s. Condition: y is below a multiple of m, for which x leaves room.
+#[inline]
+fn scaled_pair<T: PlainWord>(m: &PlannedModulus<T>, x: T, y: T, bound: T, s: &Factor<T>) -> (T, T) {
+    let sum = m.product(x.plus(y), s);
+    let difference = m.product(x.plus(bound.minus(y)), s);
+    (sum, difference)
+}
+
+// Entries stay below 2m.
+impl<T: PlainWord> JoinSteps<T> for PlannedModulus<T> {
+    #[inline]
+    fn minus_one(&self) -> Factor<T> {
+        self.factor(self.modulus.minus(T::one()))
+    }
+
+    #[inline]
+    fn is_beyond(&self, x: T) -> bool {
+        self.is_outside(x)
+    }
+
+    #[inline]
+    fn taken(&self, x: T) -> T {
+        reduced_once(x, self.twice())
+    }
+
+    #[inline]
+    fn pair(&self, x: T, y: T, v: &Factor<T>) -> (T, T) {
+        let twice = self.twice();
+        let (sum, product) = gather(self, x, y, twice, v);
+        (reduced_once(sum, twice), product)
+    }
+
+    fn four(
+        &self,
+        x: T,
+        y: T,
+        z: T,
+        t: T,
+        w: &Factor<T>,
+        u: &Factor<T>,
+        v: &Factor<T>,
+    ) -> (T, T, T, T) {
+        let (e, f) = self.pair(x, y, u);
+        let (g, h) = self.pair(z, t, v);
+        let (a, c) = self.pair(e, g, w);
+        let (b, d) = self.pair(f, h, w);
+        (a, b, c, d)
+    }
+
+    fn four_by_one(&self, x: T, y: T, z: T, t: T, v: &Factor<T>, s: &Factor<T>) -> (T, T, T, T) {
+        let twice = self.twice();
+        let e = reduced_once(x.plus(y), twice);
+        let f = reduced_once(x.plus(twice.minus(y)), twice);
+        let (g, h) = self.pair(z, t, v);
+        let (a, c) = scaled_pair(self, e, g, twice, s);
+        let (b, d) = scaled_pair(self, f, h, twice, s);
+        (a, b, c, d)
+    }
+
+    #[inline]
+    fn product(&self, x: T, w: &Factor<T>) -> T {
+        PlannedModulus::product(self, x, w)
+    }
+
+    #[inline]
+    fn residue(&self, x: T) -> T {
+        reduced_once(x, self.modulus)
+    }
+}
+
+// Entries stay below 4m. Within a four no number is reduced but the one that is a sum twice.
+impl<T: PlainWord> JoinSteps<T> for RoomyModulus<T> {
+    #[inline]
+    fn minus_one(&self) -> Factor<T> {
+        self.planned.minus_one()
+    }
+
+    #[inline]
+    fn is_beyond(&self, x: T) -> bool {
+        self.planned.is_outside(x)
+    }
+
+    #[inline]
+    fn taken(&self, x: T) -> T {
+        x
+    }
+
+    #[inline]
+    fn pair(&self, x: T, y: T, v: &Factor<T>) -> (T, T) {
+        let fourfold = self.fourfold();
+        let (sum, product) = gather(&self.planned, x, y, fourfold, v);
+        (reduced_once(sum, fourfold), product)
+    }
+
+    fn four(
+        &self,
+        x: T,
+        y: T,
+        z: T,
+        t: T,
+        w: &Factor<T>,
+        u: &Factor<T>,
+        v: &Factor<T>,
+    ) -> (T, T, T, T) {
+        let m = &self.planned;
+        let fourfold = self.fourfold();
+        let eightfold = self.eightfold();
+        let (e, f) = gather(m, x, y, fourfold, u);
+        let (g, h) = gather(m, z, t, fourfold, v);
+        let (a, c) = gather(m, e, g, eightfold, w);
+        let (b, d) = gather(m, f, h, m.twice(), w);
+        (reduced_once(reduced_once(a, eightfold), fourfold), b, c, d)
+    }
+
+    fn four_by_one(&self, x: T, y: T, z: T, t: T, v: &Factor<T>, s: &Factor<T>) -> (T, T, T, T) {
+        let m = &self.planned;
+        let fourfold = self.fourfold();
+        let e = x.plus(y);
+        let f = x.plus(fourfold.minus(y));
+        let (g, h) = gather(m, z, t, fourfold, v);
+        let (a, c) = scaled_pair(m, e, g, self.eightfold(), s);
+        let (b, d) = scaled_pair(m, f, h, m.twice(), s);
+        (a, b, c, d)
+    }
+
+    #[inline]
+    fn product(&self, x: T, w: &Factor<T>) -> T {
+        self.planned.product(x, w)
+    }
+
+    #[inline]
+    fn residue(&self, x: T) -> T {
+        self.planned.residue(x)
+    }
+}

@@ -1,0 +1,147 @@
+//! The steps of a pass of `split`, by the room that words leave above the modulus.
+
+use crate::modular_plan::modulus::{Factor, PlannedModulus};
+use crate::modular_plan::roomy::RoomyModulus;
+use crate::modular_prim::below::reduced_once;
+use crate::modular_prim::plain_word::PlainWord;
+use crate::modular_word::path_word::PathWord;
+use crate::modular_word::ring_word::RingWord;
+
+/// A modulus m by which pairs and fours of entries are split. Between two passes the entries stay below a bound,
+/// a multiple of m.
+pub trait SplitSteps<T: PlainWord>: Copy {
+    /// Whether a word is at the bound or above it. A loop over entries that ends at one, where it never does, can't be
+    /// counted, so that it is compiled without vectors: those of words of more than 32 bits are slower.
+    fn is_beyond(&self, x: T) -> bool;
+
+    /// x + y·w and x - y·w.
+    fn pair(&self, x: T, y: T, w: &Factor<T>) -> (T, T);
+
+    /// Two stages of four numbers, a quarter of a block apart: by the block's factor w, and by those of its halves.
+    fn four(
+        &self,
+        x: T,
+        y: T,
+        z: T,
+        t: T,
+        w: &Factor<T>,
+        u: &Factor<T>,
+        v: &Factor<T>,
+    ) -> (T, T, T, T);
+
+    /// The same of numbers below 4m where w and u are 1.
+    fn four_by_one(&self, x: T, y: T, z: T, t: T, v: &Factor<T>) -> (T, T, T, T);
+
+    /// The residue of an entry.
+    fn residue(&self, x: T) -> T;
+}
+
+// x + y·w and x - y·w of a number x that has room for 2m more.
+#[inline]
+fn spread<T: PlainWord>(m: &PlannedModulus<T>, x: T, y: T, w: &Factor<T>) -> (T, T) {
+    let product = m.times(y, w);
+    (x.plus(product), x.plus(m.twice().minus(product)))
+}
+
+// x + y, and x + (b - y) for a bound b of y.
+#[inline]
+fn sum_and_difference<T: PlainWord>(x: T, y: T, bound: T) -> (T, T) {
+    (x.plus(y), x.plus(bound.minus(y)))
+}
+
+// x + y and x - y of numbers below 4m.
+#[inline]
+fn pair_by_one<T: PlainWord>(m: &PlannedModulus<T>, x: T, y: T) -> (T, T) {
+    let twice = m.twice();
+    sum_and_difference(reduced_once(x, twice), reduced_once(y, twice), twice)
+}
+
+// Entries stay below 4m.
+impl<T: PlainWord> SplitSteps<T> for PlannedModulus<T> {
+    #[inline]
+    fn is_beyond(&self, x: T) -> bool {
+        self.is_outside(x)
+    }
+
+    #[inline]
+    fn pair(&self, x: T, y: T, w: &Factor<T>) -> (T, T) {
+        spread(self, reduced_once(x, self.twice()), y, w)
+    }
+
+    fn four(
+        &self,
+        x: T,
+        y: T,
+        z: T,
+        t: T,
+        w: &Factor<T>,
+        u: &Factor<T>,
+        v: &Factor<T>,
+    ) -> (T, T, T, T) {
+        let (e, g) = self.pair(x, z, w);
+        let (f, h) = self.pair(y, t, w);
+        let (a, b) = self.pair(e, f, u);
+        let (c, d) = self.pair(g, h, v);
+        (a, b, c, d)
+    }
+
+    fn four_by_one(&self, x: T, y: T, z: T, t: T, v: &Factor<T>) -> (T, T, T, T) {
+        let (e, g) = pair_by_one(self, x, z);
+        let (f, h) = pair_by_one(self, y, t);
+        let (a, b) = pair_by_one(self, e, f);
+        let (c, d) = self.pair(g, h, v);
+        (a, b, c, d)
+    }
+
+    #[inline]
+    fn residue(&self, x: T) -> T {
+        PlannedModulus::residue(self, x)
+    }
+}
+
+// Entries stay below 12m: of four numbers one is reduced, from 12m to 8m, and none of the products' operands.
+impl<T: PlainWord> SplitSteps<T> for RoomyModulus<T> {
+    #[inline]
+    fn is_beyond(&self, x: T) -> bool {
+        let least_below = self.eightfold().plus(self.fourfold().minus(T::one()));
+        T::bits() > 32 && least_below.is_below(x)
+    }
+
+    #[inline]
+    fn pair(&self, x: T, y: T, w: &Factor<T>) -> (T, T) {
+        spread(&self.planned, reduced_once(x, self.eightfold()), y, w)
+    }
+
+    fn four(
+        &self,
+        x: T,
+        y: T,
+        z: T,
+        t: T,
+        w: &Factor<T>,
+        u: &Factor<T>,
+        v: &Factor<T>,
+    ) -> (T, T, T, T) {
+        let m = &self.planned;
+        let (e, g) = spread(m, reduced_once(x, self.eightfold()), z, w);
+        let (f, h) = spread(m, y, t, w);
+        let (a, b) = spread(m, e, f, u);
+        let (c, d) = spread(m, g, h, v);
+        (a, b, c, d)
+    }
+
+    fn four_by_one(&self, x: T, y: T, z: T, t: T, v: &Factor<T>) -> (T, T, T, T) {
+        let fourfold = self.fourfold();
+        let eightfold = self.eightfold();
+        let (e, g) = sum_and_difference(x, z, fourfold);
+        let (f, h) = sum_and_difference(y, t, fourfold);
+        let (a, b) = sum_and_difference(e, f, eightfold);
+        let (c, d) = spread(&self.planned, g, h, v);
+        (reduced_once(a, eightfold), reduced_once(b, eightfold), c, d)
+    }
+
+    #[inline]
+    fn residue(&self, x: T) -> T {
+        RoomyModulus::residue(self, x)
+    }
+}
