@@ -30,7 +30,7 @@ SUBJECTS = [
     ("Reducers of a fixed modulus", "modular_monty::fixed modular_monty::proth modular_folds::mersenne modular_folds::solinas"),
     ("Lists of commands", "num_modular::ring"),
     ("Transforms", "modular_transform::transform modular_transform::convolution modular_plan::roots modular_laws::lists"),
-    ("Transforms by a plan", "modular_plan"),
+    ("Transforms by a plan", "modular_plan modular_plan_products"),
     ("Dividers", "modular_barrett::one_by_one modular_barrett::normalized modular_monty::preinv modular_monty::neg_mod_inv modular_word::paths"),
     ("Words, and what generic code names", "modular_word::ring_word modular_word::path_word modular_prim::plain_word modular_prim::numbered "
      "modular_symbols::operands modular_word::word modular_fold_paths::fold_word modular_fold_paths::folds modular_folds::rings modular_monty::odd_ring"),

@@ -39,6 +39,8 @@ pub mod modular_transform;
 #[doc(hidden)]
 pub mod modular_plan;
 #[doc(hidden)]
+pub mod modular_plan_products;
+#[doc(hidden)]
 pub mod modular_laws;
 
 pub mod barrett;

@@ -5,12 +5,12 @@ ghost use Rattle.std.specs.Int.{IsPowerOfTwo};
 ghost use Rattle.modular_transform.specs.Transforms.{Suits};
 ghost use Rattle.modular_plan.specs.Factors.{IsFactor};
 
-use modular_plan::convolution::convolve_planned;
-use modular_plan::join::join_scaled;
 use modular_plan::modulus::{Factor, PlannedModulus};
 use modular_plan::plan::plan;
 use modular_plan::split::split;
-use modular_plan::transform::ntt_planned;
+use modular_plan_products::convolution::convolve_planned;
+use modular_plan_products::join::join_scaled;
+use modular_plan_products::transform::ntt_planned;
 use modular_prim::plain_word::PlainWord;
 use modular_word::path_word::PathWord;
 use modular_word::ring_word::RingWord;

@@ -7,7 +7,7 @@ use Rattle.std.proofs.lemmas.Nat.{div-mul-add, pow-add}
 use Rattle.modular_word.specs.Congruence.{Congruent}
 use Rattle.modular_word.specs.Division.{IsDivision}
 use Rattle.modular_word.specs.Reciprocals.{IsReciprocal}
-use Rattle.modular_word.proofs.Congruence.{mod_cancel}
+use Rattle.modular_word.proofs.Congruence.{of_equal, itself, chained, added, residue_of, mod_cancel}
 use Rattle.modular_plan.specs.Factors.{IsFactor}
 
 -- the quotient of scaled numbers is the quotient
@@ -114,3 +114,17 @@ scaled_rest m x y s q r some h =
     let less : k < m = lt_of_mul-lt-mul_right s (let l : k * s < m * s = omega (arith, is, h.below) in l) in
     let part : r / s ≡ k = (let e : r ≡ k * s + 0 = omega (arith, is) in ap (λ v. v / s) e) ∙ div-mul-add k s 0 some in
     part ∙ sym (ap (λ v. v % m) (sym rest) ∙ add-mul-mod_self_right k q m ∙ mod-eq_of_lt less)
+
+-- what the quotient of a factor leaves
+pub left_by_quotient : (b m w q p r : ℕ) → 0 < m → m ≤ b → IsFactor b m w q → p ≡ (q * m) % b → (r + p) % b ≡ 0 → r < b
+    → r ≡ (w * b) % m
+left_by_quotient b m w q p r some room is is_p none fits =
+    let small : (w * b) % m < m = mod-lt (w * b) some in
+    let d : m * (w * b / m) + (w * b) % m ≡ w * b = div-add-mod (w * b) m in
+    let product : m * q ≡ m * (w * b / m) = ap (λ v. m * v) is.quotient in
+    let whole : (w * b) % m + q * m ≡ 0 + w * b = omega (arith, d, product) in
+    let all : Congruent b ((w * b) % m + p) 0 =
+    chained (added (itself ((w * b) % m)) (chained (of_equal is_p) (residue_of (q * m))))
+    (chained (of_equal whole) (record { same = add-mul-mod_self_right 0 w b })) in
+    let zero_is : 0 % b ≡ 0 = mod-eq_of_lt (let k : 0 < b = omega (arith, some, room) in k) in
+    mod_cancel b r ((w * b) % m) p fits (omega (arith, small, room)) (none ∙ sym zero_is ∙ sym all.same)

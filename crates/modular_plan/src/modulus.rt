@@ -37,8 +37,8 @@ impl<T: PathWord> Clone for Factor<T> {
 impl<T: PathWord> Copy for Factor<T> {}
 
 impl<T: PathWord> Factor<T> {
-    // Whether it is 1.
-    pub(crate) fn is_one(&self) -> bool
+    /// Whether it is 1.
+    pub fn is_one(&self) -> bool
         ensures { IsTrue result ↔ (T.number self.now.value ≡ 1) }
     {
         self.value == T::one()
@@ -112,8 +112,9 @@ impl<T: PlainWord> PlannedModulus<T> {
         Factor { value: w, quotient }
     }
 
-    // The residue of a factor times the number of words: what its quotient leaves.
-    pub(crate) fn times_base(&self, w: &Factor<T>) -> T
+    /// The residue of a factor times the number of words: what its quotient leaves. Condition: the factor is one
+    /// modulo m.
+    pub fn times_base(&self, w: &Factor<T>) -> T
         requires { IsFactor T.base (T.number self.now.modulus) (T.number w.now.value) (T.number w.now.quotient) }
         ensures { T.number result ≡ (T.number w.now.value * T.base) % T.number self.now.modulus }
     {
@@ -155,9 +156,9 @@ impl<T: PlainWord> PlannedModulus<T> {
         rest.shift_right(self.shift)
     }
 
-    // The residue of x·v + u·y. Condition: x + u is below 2m. It divides once by the reciprocal, and
-    // modulo 2m, since the sum may have a high word from m on.
-    pub(crate) fn product_sum(&self, x: T, v: T, u: T, y: T) -> T
+    /// The residue of x·v + u·y. Condition: x + u is below 2m. It divides once by the reciprocal, and
+    /// modulo 2m, since the sum may have a high word from m on.
+    pub fn product_sum(&self, x: T, v: T, u: T, y: T) -> T
         requires { T.number x + T.number u < 2 * T.number self.now.modulus }
         ensures value { T.number result ≡ (T.number x * T.number v + T.number u * T.number y)
             % T.number self.now.modulus }
@@ -177,9 +178,9 @@ impl<T: PlainWord> PlannedModulus<T> {
         self.modulus.plus(self.modulus)
     }
 
-    // Whether a word of more than 32 bits is 4m or more. A loop over entries that ends there, where it never does,
-    // can't be counted, so that it is compiled without vectors: those of such words are slower.
-    pub(crate) fn is_outside(&self, x: T) -> bool
+    /// Whether a word of more than 32 bits is 4m or more. A loop over entries that ends there, where it never does,
+    /// can't be counted, so that it is compiled without vectors: those of such words are slower.
+    pub fn is_outside(&self, x: T) -> bool
         ensures { IsTrue result → 4 * T.number self.now.modulus ≤ T.number x }
     {
         let twice = self.twice();

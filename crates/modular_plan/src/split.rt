@@ -445,8 +445,9 @@ fn split_by<T: PlainWord, M: SplitSteps<T>, F: PlanEntry<T>>(
     }
 }
 
-// `split` with entries that are only congruent to the remainders, and may be any words: no residues are taken.
-pub(crate) fn split_loosely<T: PlainWord, F: PlanEntry<T>>(
+/// `split` with entries that are only congruent to the remainders, and may be any words: no residues are taken.
+/// Conditions: those of `split`.
+pub fn split_loosely<T: PlainWord, F: PlanEntry<T>>(
     m: &PlannedModulus<T>,
     xs: &mut [T],
     table: &[F],

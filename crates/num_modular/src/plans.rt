@@ -2,13 +2,13 @@
 //! the base. An entry of the table is a `Factor`, or a struct of the caller's own that stands for one (`PlanEntry`).
 //! `ring` has the transforms that need no table, over any reducer, and `find_root`.
 
-pub use modular_plan::convolution::{
-    convolve_block, convolve_negacyclic, convolve_planned, convolves,
-};
 pub use modular_plan::entry::PlanEntry;
-pub use modular_plan::join::{join, join_scaled};
 pub use modular_plan::modulus::{Factor, PlannedModulus};
 pub use modular_plan::plan::plan;
-pub use modular_plan::products::multiply;
 pub use modular_plan::split::{split, splits};
-pub use modular_plan::transform::ntt_planned;
+pub use modular_plan_products::convolution::{
+    convolve_block, convolve_negacyclic, convolve_planned, convolves,
+};
+pub use modular_plan_products::join::{join, join_scaled};
+pub use modular_plan_products::products::multiply;
+pub use modular_plan_products::transform::ntt_planned;

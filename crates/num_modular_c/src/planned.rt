@@ -2,7 +2,7 @@
 
 ghost use Rattle.std.specs.Prelude.{◌≡◌, ℕ, ◌+◌, ◌-◌, ◌*◌, ◌/◌, ◌%◌, ◌^◌, ◌<◌, ◌↔◌, IsTrue, length};
 ghost use Rattle.modular_plan.specs.Plans.{constant, AreRemainders};
-ghost use Rattle.modular_plan.specs.Products.{product_modulo};
+ghost use Rattle.modular_plan_products.specs.Products.{product_modulo};
 ghost use Rattle.num_modular.specs.Inverses.{HasInverse};
 ghost use Rattle.num_modular.specs.Transforms.{transform, cyclic_product};
 ghost use Rattle.num_modular_c.specs.Codes.{Did, Refused, BothRefused};
@@ -11,11 +11,11 @@ ghost use Rattle.num_modular_c.specs.Plans.{IsSplit, IsPair, IsPlannedProduct};
 
 use crate::codes::{NM_BAD_ARGUMENT, NM_BAD_CONTEXT, NM_NO_INVERSE, NM_OK};
 use crate::plans::{NmFactor, are_factors};
-use modular_plan::convolution::{convolve_negacyclic, convolve_planned, convolves};
-use modular_plan::join::join;
 use modular_plan::modulus::PlannedModulus;
 use modular_plan::split::{split, splits};
-use modular_plan::transform::ntt_planned;
+use modular_plan_products::convolution::{convolve_negacyclic, convolve_planned, convolves};
+use modular_plan_products::join::join;
+use modular_plan_products::transform::ntt_planned;
 
 // Whether each word is below 4m.
 fn have_room(m: &PlannedModulus<u64>, words: &[u64]) -> bool

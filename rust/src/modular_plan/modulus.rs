@@ -29,9 +29,9 @@ impl<T: PathWord> Clone for Factor<T> {
 impl<T: PathWord> Copy for Factor<T> {}
 
 impl<T: PathWord> Factor<T> {
-    // Whether it is 1.
+    /// Whether it is 1.
     #[inline]
-    pub(crate) fn is_one(&self) -> bool {
+    pub fn is_one(&self) -> bool {
         self.value == T::one()
     }
 }
@@ -88,9 +88,10 @@ impl<T: PlainWord> PlannedModulus<T> {
         Factor { value: w, quotient }
     }
 
-    // The residue of a factor times the number of words: what its quotient leaves.
+    /// The residue of a factor times the number of words: what its quotient leaves. Condition: the factor is one
+    /// modulo m.
     #[inline]
-    pub(crate) fn times_base(&self, w: &Factor<T>) -> T {
+    pub fn times_base(&self, w: &Factor<T>) -> T {
         T::zero().wrapping_sub(w.quotient.wrapping_mul(self.modulus))
     }
 
@@ -121,9 +122,9 @@ impl<T: PlainWord> PlannedModulus<T> {
         rest.shift_right(self.shift)
     }
 
-    // The residue of x·v + u·y. Condition: x + u is below 2m. It divides once by the reciprocal, and
-    // modulo 2m, since the sum may have a high word from m on.
-    pub(crate) fn product_sum(&self, x: T, v: T, u: T, y: T) -> T {
+    /// The residue of x·v + u·y. Condition: x + u is below 2m. It divides once by the reciprocal, and
+    /// modulo 2m, since the sum may have a high word from m on.
+    pub fn product_sum(&self, x: T, v: T, u: T, y: T) -> T {
         let divisor = self.modulus.shift_left(self.shift);
         let by = self.shift - 1;
         let sum = T::double_plus(x.shift_left(by).product(v), u.shift_left(by).product(y));
@@ -137,10 +138,10 @@ impl<T: PlainWord> PlannedModulus<T> {
         self.modulus.plus(self.modulus)
     }
 
-    // Whether a word of more than 32 bits is 4m or more. A loop over entries that ends there, where it never does,
-    // can't be counted, so that it is compiled without vectors: those of such words are slower.
+    /// Whether a word of more than 32 bits is 4m or more. A loop over entries that ends there, where it never does,
+    /// can't be counted, so that it is compiled without vectors: those of such words are slower.
     #[inline]
-    pub(crate) fn is_outside(&self, x: T) -> bool {
+    pub fn is_outside(&self, x: T) -> bool {
         let twice = self.twice();
         T::bits() > 32 && twice.plus(twice.minus(T::one())).is_below(x)
     }

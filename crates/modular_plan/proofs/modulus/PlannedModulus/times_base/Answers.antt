@@ -1,5 +1,5 @@
 use Rattle.std.proofs.Common.{arith, ◌∙◌}
-use Rattle.modular_plan.proofs.Reductions.{left_by_quotient}
+use Rattle.modular_plan.proofs.Quotients.{left_by_quotient}
 use Rattle.modular_plan.proofs.modulus.PlannedModulus.times_base.Goals as goal
 
 pub returns : goal.returns

@@ -1,0 +1,12 @@
+pub mod Bounds
+pub mod Columns
+pub mod Constants
+pub mod Convolutions
+pub mod JoinedPairs
+pub mod Joins
+pub mod LastJoins
+pub mod Mirrors
+pub mod NaturalOrder
+pub mod Reductions
+pub mod SmallProducts
+pub mod TwoJoins

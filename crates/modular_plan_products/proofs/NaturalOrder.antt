@@ -1,0 +1,102 @@
+-- Lists in another order; the remainders modulo X - c, put in natural order, are the transform.
+use Rattle.std.proofs.Common.{◌≡◌, ℕ, suc, zero, ◌+◌, ◌-◌, ◌*◌, ◌/◌, ◌%◌, ◌^◌, ◌<◌}
+use Rattle.std.proofs.Common.{◌≤◌, List, [], ◌∷◌, All, get_or, length, inl, inr, refl, sym, ◌∙◌, ap, arith, subst}
+use Rattle.std.proofs.Math.Nat.{two-pow-succ, pow-le-pow_right, mul-div_cancel_left}
+use Rattle.std.proofs.lemmas.Bool.{cases_lt}
+use Rattle.std.proofs.lemmas.Nat.{pow-add, pow_pos}
+use Rattle.modular_word.proofs.Powers.{pow-mul}
+use Rattle.modular_word.proofs.Sums.{sum_below-same}
+use Rattle.modular_transform.specs.Orders.{bits_reversed, IsReordered}
+use Rattle.modular_transform.specs.Transforms.{transform}
+use Rattle.modular_transform.proofs.BitReversal.{bits_reversed-suc, bits_reversed_of_zero}
+use Rattle.modular_transform.proofs.BitReversal.{bits_reversed_below, bits_reversed_twice}
+use Rattle.modular_plan.specs.Plans.{numbers, constant, AreRemainders}
+use Rattle.modular_plan.proofs.Entries.{number_at}
+
+-- a list in another order has what all had
+pub all_reordered : {T : Type 0} (P : T → Type 0) (bits n : ℕ) (old new : List T) → n ≡ 2 ^ bits
+    → length old ≡ n → length new ≡ n
+    → IsReordered (bits_reversed bits) old new → All P old → All P new
+all_reordered P bits n old new whole len len_new reordered all i d l =
+    let b = bits_reversed_below bits i in
+    subst P (sym (reordered.each i d (omega arith))) (all (bits_reversed bits i) d (omega arith))
+
+-- the number at a place of the new list is that at a place of the old one
+pub number_reordered : {T : Type 0} (number : T → ℕ) (old new : List T) (k j : ℕ) → k < length new → j < length old
+    → ((d : T) → get_or new k d ≡ get_or old j d)
+    → numbers number new k ≡ numbers number old j
+number_reordered number old [] k j l lo e = absurd (omega arith)
+number_reordered number old (x ∷ xs) k j l lo e =
+    sym (number_at number (x ∷ xs) k x l) ∙ ap number (e x) ∙ number_at number old j x lo
+
+-- a number below 2^t with its bits reversed among w = t + d
+reversed_among_more : (d t w p : ℕ) → w ≡ t + d → p < 2 ^ t → bits_reversed w p ≡ bits_reversed t p * 2 ^ d
+reversed_among_more d zero w p e below =
+    let one : 2 ^ 0 ≡ 1 = refl in
+    let none : p ≡ 0 = omega (arith, below, one) in
+    let left : bits_reversed w p ≡ 0 = ap (λ n. bits_reversed w n) none ∙ bits_reversed_of_zero w in
+    let right : bits_reversed 0 p ≡ 0 = ap (λ n. bits_reversed 0 n) none ∙ bits_reversed_of_zero 0 in
+    let nothing : 0 * 2 ^ d ≡ 0 = omega arith in
+    left ∙ sym nothing ∙ ap (λ n. n * 2 ^ d) (sym right)
+reversed_among_more d (suc t) w p e below =
+    let two = two-pow-succ t in
+    let half : p / 2 < 2 ^ t = omega (arith, below, two) in
+    let is_next : w ≡ suc (t + d) = omega (arith, e) in
+    let rest = reversed_among_more d t (t + d) (p / 2) refl half in
+    let r = bits_reversed t (p / 2) in
+    let b = p % 2 in
+    let product : r * 2 ^ d + b * (2 ^ t * 2 ^ d) ≡ (r + b * 2 ^ t) * 2 ^ d = omega arith in
+    ap (λ n. bits_reversed n p) is_next ∙ bits_reversed-suc (t + d) p ∙ ap (λ n. n + b * 2 ^ (t + d)) rest
+    ∙ ap (λ n. r * 2 ^ d + b * n) (pow-add 2 t d) ∙ product
+    ∙ ap (λ n. n * 2 ^ d) (sym (bits_reversed-suc t p))
+
+-- a plan for 2^z entries is long enough for 2^bits
+no_more_bits : (bits z n count : ℕ) → n ≡ 2 ^ bits → count ≡ 2 ^ z / 2 → n / 2 ≤ count → bits ≤ z
+no_more_bits bits z n count whole half within = elim (cases_lt z bits) [
+  | inl more ↦
+      let two = two-pow-succ z in
+      let some = pow_pos z in
+      let least : 2 ^ suc z ≤ 2 ^ bits = pow-le-pow_right (omega arith) (omega (arith, more)) in
+      absurd (omega (arith, whole, half, within, two, some, least))
+  | inr enough ↦ enough
+]
+
+-- the powers of the constant of a block are those of the root for n entries
+constant_power : (g d z n bits j k : ℕ) → z ≡ bits + d → j < 2 ^ bits
+    → constant g z (0 * n + bits_reversed bits j) ^ k ≡ (g ^ (2 ^ d)) ^ (k * j)
+constant_power g d z n bits j k is_more below =
+    let p = bits_reversed bits j in
+    let first : 0 * n + p ≡ p = omega arith in
+    let among = reversed_among_more d bits z p is_more (bits_reversed_below bits j) in
+    let turn : bits_reversed z (0 * n + p) ≡ j * 2 ^ d
+    = ap (λ v. bits_reversed z v) first ∙ among ∙ ap (λ v. v * 2 ^ d) (bits_reversed_twice bits j below) in
+    let same : j * 2 ^ d * k ≡ 2 ^ d * (k * j) = omega arith in
+    ap (λ v. (g ^ v) ^ k) turn ∙ sym (pow-mul g (j * 2 ^ d) k) ∙ ap (λ v. g ^ v) same ∙ pow-mul g (2 ^ d) (k * j)
+
+-- the list of remainders modulo X - c, with its places' bits reversed, is the transform
+pub in_natural_order : {T : Type 0} (number : T → ℕ) (m g z n count bits : ℕ) (x : ℕ → ℕ) (split new : List T)
+    → n ≡ 2 ^ bits → count ≡ 2 ^ z / 2
+    → n / 2 ≤ count → length split ≡ n → length new ≡ n → IsReordered (bits_reversed bits) split new
+    → AreRemainders m g z 0 n 1 x (numbers number split)
+    → (j : ℕ) → j < n → numbers number new j ≡ transform m (g ^ (2 ^ z / n)) n x j
+in_natural_order number m g z n count bits x split new whole half within len len_new reordered remainders j below =
+    let p = bits_reversed bits j in
+    let d = z - bits in
+    let more = no_more_bits bits z n count whole half within in
+    let is_more : z ≡ bits + d = omega (arith, more) in
+    let inside : j < 2 ^ bits = omega (arith, whole, below) in
+    let reversed = bits_reversed_below bits j in
+    let p_below : p < n = omega (arith, whole, reversed) in
+    let at = number_reordered number split new j p (omega (arith, len_new, below)) (omega (arith, len, p_below))
+    (λ e. reordered.each j e (omega (arith, len, below))) in
+    let place : p ≡ p * 1 + 0 = omega arith in
+    let root : 2 ^ z / n ≡ 2 ^ d = ap (λ v. 2 ^ v / n) is_more ∙ ap (λ v. v / n) (pow-add 2 bits d)
+    ∙ ap (λ v. 2 ^ bits * 2 ^ d / v) whole
+    ∙ mul-div_cancel_left (2 ^ d) (pow_pos bits) in
+    let terms = sum_below-same n (λ k. x (k * 1 + 0) * constant g z (0 * n + p) ^ k)
+    (λ k. x k * (g ^ (2 ^ d)) ^ (k * j))
+    (λ k l. let e : k * 1 + 0 ≡ k = omega arith in
+    ap (λ v. x v * constant g z (0 * n + p) ^ k) e
+    ∙ ap (λ v. x k * v) (constant_power g d z n bits j k is_more inside)) in
+    at ∙ ap (λ v. numbers number split v) place ∙ remainders.each p 0 p_below (omega arith) ∙ ap (λ v. v % m) terms
+    ∙ ap (λ v. transform m (g ^ v) n x j) (sym root)

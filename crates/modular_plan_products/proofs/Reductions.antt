@@ -1,0 +1,109 @@
+-- Products over the number b of words, by Montgomery's reduction, and how they are joined.
+use Rattle.std.proofs.Common.{◌≡◌, ℕ, ◌+◌, ◌-◌, ◌*◌, ◌%◌, ◌^◌, ◌<◌, ◌≤◌, sym, ap, ◌∙◌, arith}
+use Rattle.std.proofs.Math.Nat.{mod-eq_of_lt, mul-le-mul_right, lt_of_mul-lt-mul_left}
+use Rattle.std.proofs.Math.Nat.{le_of_mul-le-mul_left, add-mul-mod_self_left, add-mul-mod_self_right}
+use Rattle.modular_word.specs.Congruence.{Congruent}
+use Rattle.modular_word.specs.Inverses.{IsInverse}
+use Rattle.modular_word.specs.Reduction.{IsNegatedInverse}
+use Rattle.modular_word.specs.Sums.{sum_below}
+use Rattle.modular_word.proofs.Congruence.{of_equal, itself, turned, chained, added, multiplied, cancelled}
+use Rattle.modular_word.proofs.Congruence.{residue_of, equal_below}
+use Rattle.modular_word.proofs.Sums.{sum_below-same, sum_below-mul}
+use Rattle.modular_plan.specs.Plans.{constant, AreRemainders}
+
+-- the inverse of m, from the negated one
+pub inverse_of_negated : (b m i r : ℕ) → 0 < b → IsNegatedInverse b m i → (r + i) % b ≡ 0 → r < b → IsInverse b m r
+inverse_of_negated b m i r some negated none fits =
+    let last : b - 1 < b = omega arith in
+    let product : Congruent b (m * i) (b - 1) = record { same = negated.product ∙ sym (mod-eq_of_lt last) } in
+    let spread : m * r + m * i ≡ m * (r + i) = omega arith in
+    let gone : Congruent b (r + i) 0 = record { same = none ∙ sym (mod-eq_of_lt some) } in
+    let nothing : m * 0 ≡ 0 = omega arith in
+    let whole : 0 + b * 1 ≡ 1 + (b - 1) = omega arith in
+    let all : Congruent b (m * r + (b - 1)) (1 + (b - 1)) =
+    chained (added (itself (m * r)) (turned product))
+    (chained (of_equal spread) (chained (multiplied (itself m) gone)
+    (chained (of_equal nothing) (chained (turned (record { same = add-mul-mod_self_left 0 b 1 })) (of_equal whole))))) in
+    record { below = fits; one = (cancelled (b - 1) all).same }
+
+-- a product t and the multiple of m with its low word, and the words of both
+pub record IsReducing (b m t q low high multiple : ℕ) : Type 0 where
+  pub parts : t ≡ low + b * high
+  pub multiple_parts : q * m ≡ low + b * multiple
+  pub below : t < m * b
+  pub fits : q < b
+
+-- the multiple by the inverse of m
+pub reducing : {b m i : ℕ} (t q low high p0 multiple : ℕ) → IsInverse b m i → t ≡ low + b * high → t < m * b → low < b
+    → q ≡ (low * i) % b → q < b → q * m ≡ p0 + b * multiple → p0 < b
+    → IsReducing b m t q low high multiple
+reducing {b} {m} {i} t q low high p0 multiple inverse parts below low_fits is fits multiple_parts p0_fits =
+    let turn : low * i * m ≡ low * (m * i) = omega arith in
+    let one : low * 1 ≡ low = omega arith in
+    let same : Congruent b p0 low =
+    chained (turned (record { same = add-mul-mod_self_left p0 b multiple }))
+    (chained (of_equal (sym multiple_parts))
+    (chained (multiplied (chained (of_equal is) (residue_of (low * i))) (itself m))
+    (chained (of_equal turn) (chained (multiplied (itself low) (record { same = inverse.one })) (of_equal one))))) in
+    let e : p0 ≡ low = equal_below p0_fits low_fits same in
+    record { parts = parts; multiple_parts = omega (arith, multiple_parts, e); below = below; fits = fits }
+
+-- the high words
+pub record AreHigh (m high multiple : ℕ) : Type 0 where
+  pub below : high < m
+  pub multiple_at_most : multiple ≤ m
+
+pub high_words : {b m t q low high multiple : ℕ} → IsReducing b m t q low high multiple → AreHigh m high multiple
+high_words {b} {m} {t} {q} {low} {high} {multiple} h =
+    let most : q * m ≤ b * m = let f = h.fits in mul-le-mul_right m (omega arith) in
+    let some : 0 < b = omega (arith, h.fits) in
+    record {
+      below = lt_of_mul-lt-mul_left b (let k : b * high < b * m = omega (arith, h.parts, h.below) in k);
+      multiple_at_most = le_of_mul-le-mul_left
+          (let k : b * multiple ≤ b * m = omega (arith, h.multiple_parts, most) in k) some;
+    }
+
+-- the difference of the high words, made positive
+pub reduced : {b m t q low high multiple : ℕ} (rest r : ℕ) → IsReducing b m t q low high multiple → rest + multiple ≡ m
+    → r ≡ high + rest → Congruent m (r * b) t
+reduced {b} {m} {t} {q} {low} {high} {multiple} rest r h is_rest is =
+    let first : r * b ≡ (high + rest) * b = ap (λ v. v * b) is in
+    let second : (rest + multiple) * b ≡ m * b = ap (λ v. v * b) is_rest in
+    let whole : r * b + q * m ≡ t + b * m = omega (arith, first, second, h.parts, h.multiple_parts) in
+    record {
+      same = sym (add-mul-mod_self_right (r * b) q m) ∙ ap (λ v. v % m) whole ∙ add-mul-mod_self_right t b m;
+    }
+
+-- the remainders of a polynomial, times t, are those of t times the polynomial
+pub remainders_times : {m : ℕ} (g z b count last t : ℕ) (x y u : ℕ → ℕ) → AreRemainders m g z b count last x y
+    → ((j i : ℕ) → j < count → i < last → Congruent m (u (j * last + i)) (t * y (j * last + i)))
+    → AreRemainders m g z b count last (λ k. t * x k) (λ k. u k % m)
+remainders_times {m} g z b count last t x y u are is = record {
+  each = λ j i lj li.
+      let c = constant g z (b * count + j) in
+      let sum = sum_below count (λ k. x (k * last + i) * c ^ k) in
+      let spread : t * sum ≡ sum_below count (λ k. t * x (k * last + i) * c ^ k) =
+      sym (sum_below-mul count t (λ k. x (k * last + i) * c ^ k))
+      ∙ sum_below-same count (λ k. t * (x (k * last + i) * c ^ k)) (λ k. t * x (k * last + i) * c ^ k)
+      (λ k l. omega arith) in
+      (chained (is j i lj li)
+      (chained (multiplied (itself t) (chained (of_equal (are.each j i lj li)) (residue_of sum))) (of_equal spread))).same;
+}
+
+-- a product over b is t times the product, t being the inverse of b
+pub over_base : {m : ℕ} (b t r product : ℕ) → Congruent m (b * t) 1 → Congruent m (r * b) product
+    → Congruent m r (t * product)
+over_base {m} b t r product unit is =
+    let one : r ≡ r * 1 = omega arith in
+    let turn : r * (b * t) ≡ t * (r * b) = omega arith in
+    chained (of_equal one)
+    (chained (multiplied (itself r) (turned unit)) (chained (of_equal turn) (multiplied (itself t) is)))
+
+-- the factor times b makes up for it
+pub made_up_for : {m : ℕ} (b t count value w scaled : ℕ) → Congruent m (b * t) 1 → Congruent m scaled (w * b)
+    → (count * (t * value) * scaled) % m ≡ (count * value * w) % m
+made_up_for {m} b t count value w scaled unit is =
+    let turn : count * (t * value) * (w * b) ≡ count * value * w * (b * t) = omega arith in
+    let one : count * value * w * 1 ≡ count * value * w = omega arith in
+    (chained (multiplied (itself (count * (t * value))) is)
+    (chained (of_equal turn) (chained (multiplied (itself (count * value * w)) unit) (of_equal one)))).same

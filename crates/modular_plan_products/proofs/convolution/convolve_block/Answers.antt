@@ -1,0 +1,65 @@
+use Rattle.std.proofs.Common.{◌≡◌, ℕ, ◌+◌, ◌*◌, ◌/◌, ◌%◌, ◌≤◌, length, refl, sym, ap, arith, subst}
+use Rattle.std.proofs.lemmas.Bool.{false≢true}
+use Rattle.modular_word.specs.Congruence.{Congruent}
+use Rattle.modular_word.proofs.Congruence.{of_equal, chained, turned, multiplied, residue_of}
+use Rattle.modular_transform.proofs.ConvolveLemmas.{inverse_along}
+use Rattle.modular_plan.specs.Plans.{numbers, AreRemainders}
+use Rattle.modular_plan_products.specs.Products.{AreProducts}
+use Rattle.modular_plan_products.proofs.Convolutions.{half_room, joined_product}
+use Rattle.modular_plan_products.proofs.convolution.convolve_block.Goals as goal
+
+pub split_first-requires-clause-within : goal.split_first-requires-clause-within
+split_first-requires-clause-within g c =
+    half_room c.args.b (length c.args.xs.now / c.args.last) (length c.args.table.now) c.requires.within
+
+pub split-requires-clause-within : goal.split-requires-clause-within
+split-requires-clause-within g c =
+    let same : length c.args.xs.now ≡ length c.args.ys.now = omega arith in
+    subst (λ n. (c.args.b + 1) * (n / c.args.last / 2) ≤ length c.args.table.now) same
+    (half_room c.args.b (length c.args.xs.now / c.args.last) (length c.args.table.now) c.requires.within)
+
+pub returns-in-Some-clause-inverse : goal.returns-in-Some-clause-inverse
+returns-in-Some-clause-inverse g c =
+    let m = g.T.RingWord.number c.args.m.now.modulus in
+    let count = length c.args.xs.now / c.args.last in
+    let same : Congruent m (g.T.RingWord.number c.residue_of_count-count.result) count =
+    chained (of_equal c.residue_of_count-count.ensures) (residue_of count) in
+    (λ h. (g.T.RingWord.number c.in-Some.part, inverse_along same c.in-Some.ensures), λ h. refl)
+
+pub returns-in-Some-clause-product : goal.returns-in-Some-clause-product
+returns-in-Some-clause-product g c =
+    let n = g.T.RingWord.number in
+    let m = n c.args.m.now.modulus in
+    let xs = c.args.xs.now in
+    let last = c.args.last in
+    let b = c.args.b in
+    let count = length xs / last in
+    let size_is = λ (k : ℕ) (e : k ≡ length xs). ap (λ v. v / last) e in
+    let part : Congruent m (count * n c.factor-part.result.value) 1 =
+    chained (multiplied (turned (chained (of_equal c.residue_of_count-count.ensures) (residue_of count)))
+    (of_equal c.factor-part.ensures.value)) (record { same = c.in-Some.ensures.one }) in
+    λ h root z e plan below.
+    let joined = c.join_products.ensures.joined root z plan in
+    let same = size_is (length c.split_first.new.xs) (omega arith) in
+    joined_product root z b last (length c.args.table.now) count (length xs) (n c.factor-part.result.value) _
+    (numbers n xs) (numbers n c.args.ys.now)
+    (numbers n c.split_first.new.xs) (numbers n c.split.new.xs) joined.0
+    (numbers n c.join_products.new.xs)
+    c.requires.count c.requires.whole c.requires.within plan part
+    (c.split_first.ensures.remainders root z plan)
+    (subst (λ k. AreRemainders m root z b k last (numbers n c.args.ys.now) (numbers n c.split.new.xs))
+    (size_is (length c.args.ys.now) (omega arith)) (c.split.ensures.remainders root z plan))
+    (subst (λ k. AreProducts m root z b k last (numbers n c.split_first.new.xs) (numbers n c.split.new.xs)
+    joined.0) same joined.1)
+    (λ r are i l.
+    subst (λ k. numbers n c.join_products.new.xs i ≡ (k * r i * n c.factor-part.result.value) % m) same
+    (joined.2 r (subst (λ k. AreRemainders m root z b k last r (λ i. joined.0 i % m)) (sym same) are) i (omega arith)))
+    e below
+
+pub returns-in-None-clause-inverse : goal.returns-in-None-clause-inverse
+returns-in-None-clause-inverse g c =
+    let m = g.T.RingWord.number c.args.m.now.modulus in
+    let count = length c.args.xs.now / c.args.last in
+    let same : Congruent m (g.T.RingWord.number c.residue_of_count-count.result) count =
+    chained (of_equal c.residue_of_count-count.ensures) (residue_of count) in
+    (λ h. absurd (false≢true h), λ h. absurd (c.in-None.ensures h.0 (inverse_along (turned same) h.1)))

@@ -1,0 +1,21 @@
+use Rattle.std.proofs.Common.{arith}
+use Rattle.modular_plan.proofs.Fours.{stage_of_fours_none, stage_of_fours_more, stage_of_fours_all}
+use Rattle.modular_plan_products.proofs.join.join_two_stages.Goals as goal
+
+pub four_quarters-init : goal.four_quarters-init
+four_quarters-init g c = record {
+  entries = c.requires.entries;
+  done = λ root z plan. stage_of_fours_none _ c.args.q _;
+}
+
+pub four_quarters-preserved : goal.four_quarters-preserved
+four_quarters-preserved g c = record {
+  entries = c.join_quarters.ensures.entries;
+  done = λ root z plan.
+      let are = c.minus_inverses-w.ensures.inverses root z plan in
+      stage_of_fours_more _ c.args.q c.four_quarters.p _ _ _ (c.four_quarters.invariant.done root z plan)
+      (c.join_quarters.ensures.done _ _ _ are.0 are.1 are.2);
+}
+
+pub returns-clause-done : goal.returns-clause-done
+returns-clause-done g c = λ root z plan. stage_of_fours_all (c.four_quarters.invariant.done root z plan) (omega arith)

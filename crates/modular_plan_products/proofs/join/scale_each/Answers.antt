@@ -1,0 +1,48 @@
+use Rattle.std.proofs.Common.{◌*◌, ◌%◌, ◌<◌, length, ◌∙◌, ap, arith}
+use Rattle.modular_plan.specs.Plans.{numbers}
+use Rattle.modular_plan.proofs.Entries.{number_read, entry_done, entry_kept, all_residues, never_beyond}
+use Rattle.modular_plan_products.proofs.join.scale_each.Goals as goal
+
+pub entries-preserved : goal.entries-preserved
+entries-preserved g c =
+    let n = g.T.RingWord.number in
+    let m = g.M.JoinSteps.modulus c.args.m.now in
+    let w = n c.args.w.now.value in
+    let i = c.entries.i in
+    let xs = c.entries.xs in
+    let x = c.index-xs-i.result in
+    let within : i < length xs = omega arith in
+    let same = number_read n xs i x within c.index-xs-i.is ∙ c.entries.invariant.kept i (omega arith) in
+    let old = numbers n c.args.xs.now in
+    record {
+      done = entry_done n xs i c.product.result (λ k. (old k * w) % m) within c.entries.invariant.done
+          (c.product.ensures ∙ ap (λ v. (v * w) % m) same);
+      kept = entry_kept n xs i c.product.result old c.entries.invariant.kept;
+    }
+
+pub returns-clause-products : goal.returns-clause-products
+returns-clause-products g c = λ k l. c.entries.invariant.done k (omega arith)
+
+pub returns-clause-below : goal.returns-clause-below
+returns-clause-below g c =
+    let n = g.T.RingWord.number in
+    let m = g.M.JoinSteps.modulus c.args.m.now in
+    all_residues n m (length c.args.xs.now) c.entries.xs (λ k. numbers n c.args.xs.now k * n c.args.w.now.value)
+    (g.met.M.JoinSteps.some c.args.m.now) (omega arith)
+    (λ k l. c.entries.invariant.done k (omega arith))
+
+pub returns-then-is_beyond-clause-products : goal.returns-then-is_beyond-clause-products
+returns-then-is_beyond-clause-products g c =
+    let n = g.T.RingWord.number in
+    let far = c.if-is_beyond.ensures in
+    never_beyond n (4 * g.M.JoinSteps.modulus c.args.m.now) c.entries.xs c.args.xs.now c.entries.i c.index-xs-i.result
+    c.requires.entries (omega arith) (omega arith) c.index-xs-i.is (c.entries.invariant.kept c.entries.i (omega arith))
+    (omega (arith, far))
+
+pub returns-then-is_beyond-clause-below : goal.returns-then-is_beyond-clause-below
+returns-then-is_beyond-clause-below g c =
+    let n = g.T.RingWord.number in
+    let far = c.if-is_beyond.ensures in
+    never_beyond n (4 * g.M.JoinSteps.modulus c.args.m.now) c.entries.xs c.args.xs.now c.entries.i c.index-xs-i.result
+    c.requires.entries (omega arith) (omega arith) c.index-xs-i.is (c.entries.invariant.kept c.entries.i (omega arith))
+    (omega (arith, far))

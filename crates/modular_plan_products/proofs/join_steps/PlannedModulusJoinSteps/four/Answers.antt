@@ -1,0 +1,17 @@
+use Rattle.modular_plan_products.proofs.join_steps.PlannedModulusJoinSteps.four.Goals as goal
+
+pub returns-clause-four : goal.returns-clause-four
+returns-clause-four g c =
+    let n = g.T.RingWord.number in
+    let low = c.pair-e in
+    let high = c.pair-g in
+    λ w u v is_w is_u is_v. record {
+      e = n low.result.0;
+      f = n low.result.1;
+      g = n high.result.0;
+      h = n high.result.1;
+      low = low.ensures.pair u is_u;
+      high = high.ensures.pair v is_v;
+      first = c.pair-a.ensures.pair w is_w;
+      second = c.pair-b.ensures.pair w is_w;
+    }

@@ -1,0 +1,64 @@
+use Rattle.std.proofs.Common.{◌*◌, ◌<◌, length, ◌∙◌, ap, arith, refl, sym, subst}
+use Rattle.modular_word.specs.Congruence.{Congruent}
+use Rattle.modular_plan.specs.Plans.{numbers}
+use Rattle.modular_plan.proofs.Entries.{number_at, number_read, bounded, entry_written, entry_kept, never_beyond}
+use Rattle.modular_plan_products.proofs.products.reduce_products.Goals as goal
+
+pub reduced_product-requires-clause-below : goal.reduced_product-requires-clause-below
+reduced_product-requires-clause-below g c =
+    let n = g.T.RingWord.number in
+    let m = n c.args.m.now.modulus in
+    let i = c.entries.i in
+    let y = c.index-ys-i.result in
+    let within : i < length c.args.ys.now = omega arith in
+    subst (λ v. v < m) (sym (number_read n c.args.ys.now i y within c.index-ys-i.is))
+    (bounded n m c.args.ys.now i y c.requires.below within)
+
+pub entries-preserved : goal.entries-preserved
+entries-preserved g c =
+    let n = g.T.RingWord.number in
+    let b = g.T.PathWord.base in
+    let m = n c.args.m.now.modulus in
+    let i = c.entries.i in
+    let xs = c.entries.xs in
+    let x = c.index-xs-i.result in
+    let y = c.index-ys-i.result in
+    let within : i < length xs = omega arith in
+    let other_within : i < length c.args.ys.now = omega arith in
+    let old = numbers n c.args.xs.now in
+    let others = numbers n c.args.ys.now in
+    let first = number_read n xs i x within c.index-xs-i.is ∙ c.entries.invariant.kept i (omega arith) in
+    let second = number_read n c.args.ys.now i y other_within c.index-ys-i.is in
+    record {
+      below = entry_written n xs i c.reduced_product.result (λ k v. v < 2 * m) within c.entries.invariant.below
+          c.reduced_product.ensures.below;
+      done = entry_written n xs i c.reduced_product.result (λ k v. Congruent m (v * b) (old k * others k)) within
+          c.entries.invariant.done
+          (subst (λ v. Congruent m (n c.reduced_product.result * b) v)
+          (ap (λ v. v * n y) first ∙ ap (λ v. old i * v) second) c.reduced_product.ensures.congruent);
+      kept = entry_kept n xs i c.reduced_product.result old c.entries.invariant.kept;
+    }
+
+pub returns-clause-products : goal.returns-clause-products
+returns-clause-products g c = λ k l. c.entries.invariant.done k (omega arith)
+
+pub returns-clause-below : goal.returns-clause-below
+returns-clause-below g c =
+    let n = g.T.RingWord.number in
+    let m = n c.args.m.now.modulus in
+    λ i d below.
+    subst (λ v. v < 2 * m) (sym (number_at n c.entries.xs i d below)) (c.entries.invariant.below i (omega arith))
+
+pub returns-then-is_outside-clause-products : goal.returns-then-is_outside-clause-products
+returns-then-is_outside-clause-products g c =
+    let n = g.T.RingWord.number in
+    let far = c.if-is_outside.ensures in
+    never_beyond n (n c.args.m.now.modulus) c.args.ys.now c.args.ys.now c.entries.i c.index-ys-i.result
+    c.requires.below (omega arith) (omega arith) c.index-ys-i.is refl (omega (arith, far))
+
+pub returns-then-is_outside-clause-below : goal.returns-then-is_outside-clause-below
+returns-then-is_outside-clause-below g c =
+    let n = g.T.RingWord.number in
+    let far = c.if-is_outside.ensures in
+    never_beyond n (n c.args.m.now.modulus) c.args.ys.now c.args.ys.now c.entries.i c.index-ys-i.result
+    c.requires.below (omega arith) (omega arith) c.index-ys-i.is refl (omega (arith, far))

@@ -1,0 +1,24 @@
+-- The steps of a join in place: pairs and fours of entries (Cooley and Tukey, "An algorithm for the machine calculation
+-- of complex Fourier series", 1965). The names are the library's own words.
+use Rattle.std.specs.Prelude.{ℕ, ◌+◌, ◌*◌}
+use Rattle.modular_word.specs.Congruence.{Congruent}
+
+-- a and b become a + b and the quotient of a - b by w
+pub record IsPairJoin (m w a b sum quotient : ℕ) : Type 0 where
+  pub summed : Congruent m sum (a + b)
+  pub subtracted : Congruent m (quotient * w + b) a
+
+-- a, b, c and d, a quarter of a block apart, are joined by u and by v, and what comes of them by w
+pub record IsFourJoin (m w u v a b c d a' b' c' d' : ℕ) : Type 0 where
+  pub e : ℕ
+  pub f : ℕ
+  pub g : ℕ
+  pub h : ℕ
+  pub low : IsPairJoin m u a b e f
+  pub high : IsPairJoin m v c d g h
+  pub first : IsPairJoin m w e g a' c'
+  pub second : IsPairJoin m w f h b' d'
+
+-- v is minus the inverse of w
+pub record IsMinusInverse (m w v : ℕ) : Type 0 where
+  pub product : Congruent m (w * v + 1) 0

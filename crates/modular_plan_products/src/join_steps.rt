@@ -1,0 +1,268 @@
+//! The steps of a join on numbers, by how far they may grow between passes over a list.
+
+ghost use Rattle.std.specs.Prelude.{◌≡◌, ℕ, ◌+◌, ◌*◌, ◌%◌, ◌<◌, ◌≤◌, IsTrue};
+ghost use Rattle.modular_word.specs.Congruence.{Congruent};
+ghost use Rattle.modular_plan.specs.Factors.{IsFactor};
+ghost use Rattle.modular_plan_products.specs.Joins.{IsPairJoin, IsFourJoin, IsMinusInverse};
+ghost use Rattle.std.proofs.Common.{le_refl, mul-le-mul_right, lit≤};
+
+use modular_plan::modulus::{Factor, PlannedModulus};
+use modular_plan::roomy::RoomyModulus;
+use modular_prim::below::reduced_once;
+use modular_prim::plain_word::PlainWord;
+use modular_word::path_word::PathWord;
+use modular_word::ring_word::RingWord;
+
+/// A modulus with the steps of a join: pairs and fours of numbers below a bound become such numbers again, so that
+/// lists are joined pass after pass.
+pub trait JoinSteps<T: PlainWord> {
+    ghost modulus: { Self → ℕ };
+
+    // What the entries of a list are below, between passes.
+    ghost bound: { Self → ℕ };
+
+    /// The factor -1.
+    fn minus_one(&self) -> Factor<T>
+        ensures factor { IsFactor T.base (modulus self.now) (T.number result.value) (T.number result.quotient) }
+        ensures value { T.number result.value + 1 ≡ modulus self.now };
+
+    /// Whether a word of more than 32 bits is 4m or more: the end of a loop that never ends there, which is
+    /// compiled without vectors.
+    fn is_beyond(&self, x: T) -> bool
+        ensures { IsTrue result → 4 * modulus self.now ≤ T.number x };
+
+    /// A word below 4m, brought below the bound.
+    fn taken(&self, x: T) -> T
+        requires { T.number x < 4 * modulus self.now }
+        ensures below { T.number result < bound self.now }
+        ensures congruent { Congruent (modulus self.now) (T.number result) (T.number x) };
+
+    /// x + y and (y - x)·v.
+    fn pair(&self, x: T, y: T, v: &Factor<T>) -> (T, T)
+        requires below { T.number x < bound self.now }
+        requires other_below { T.number y < bound self.now }
+        requires factor { IsFactor T.base (modulus self.now) (T.number v.now.value) (T.number v.now.quotient) }
+        ensures below { T.number result.0 < bound self.now }
+        ensures product_below { T.number result.1 < bound self.now }
+        ensures pair { (w : ℕ) → IsMinusInverse (modulus self.now) w (T.number v.now.value) →
+            IsPairJoin (modulus self.now) w (T.number x) (T.number y) (T.number result.0) (T.number result.1) };
+
+    /// Four numbers, a quarter of a block apart: by minus the inverses of the factors of the block's halves,
+    /// and of its own.
+    fn four(
+        &self,
+        x: T,
+        y: T,
+        z: T,
+        t: T,
+        w: &Factor<T>,
+        u: &Factor<T>,
+        v: &Factor<T>,
+    ) -> (T, T, T, T)
+        requires low_below { (T.number x < bound self.now) × (T.number y < bound self.now) }
+        requires high_below { (T.number z < bound self.now) × (T.number t < bound self.now) }
+        requires factor { IsFactor T.base (modulus self.now) (T.number w.now.value) (T.number w.now.quotient) }
+        requires low_factor { IsFactor T.base (modulus self.now) (T.number u.now.value) (T.number u.now.quotient) }
+        requires high_factor { IsFactor T.base (modulus self.now) (T.number v.now.value) (T.number v.now.quotient) }
+        ensures first_below { T.number result.0 < bound self.now }
+        ensures second_below { T.number result.1 < bound self.now }
+        ensures third_below { T.number result.2 < bound self.now }
+        ensures fourth_below { T.number result.3 < bound self.now }
+        ensures four { (a b c : ℕ) → IsMinusInverse (modulus self.now) a (T.number w.now.value)
+            → IsMinusInverse (modulus self.now) b (T.number u.now.value)
+            → IsMinusInverse (modulus self.now) c (T.number v.now.value) → IsFourJoin (modulus self.now) a b c
+            (T.number x) (T.number y) (T.number z) (T.number t)
+            (T.number result.0) (T.number result.1) (T.number result.2) (T.number result.3) };
+
+    /// The same where w and u are -1, each number times a factor.
+    fn four_by_one(&self, x: T, y: T, z: T, t: T, v: &Factor<T>, s: &Factor<T>) -> (T, T, T, T)
+        requires low_below { (T.number x < bound self.now) × (T.number y < bound self.now) }
+        requires high_below { (T.number z < bound self.now) × (T.number t < bound self.now) }
+        requires factor { IsFactor T.base (modulus self.now) (T.number v.now.value) (T.number v.now.quotient) }
+        requires scale { IsFactor T.base (modulus self.now) (T.number s.now.value) (T.number s.now.quotient) }
+        ensures first_below { T.number result.0 < modulus self.now }
+        ensures second_below { T.number result.1 < modulus self.now }
+        ensures third_below { T.number result.2 < modulus self.now }
+        ensures fourth_below { T.number result.3 < modulus self.now }
+        ensures four { (c : ℕ) → IsMinusInverse (modulus self.now) c (T.number v.now.value)
+            → IsFourJoin (modulus self.now) 1 1 c (T.number x * T.number s.now.value) (T.number y * T.number s.now.value)
+            (T.number z * T.number s.now.value) (T.number t * T.number s.now.value)
+            (T.number result.0) (T.number result.1) (T.number result.2) (T.number result.3) };
+
+    /// The residue of any word's product with a factor.
+    fn product(&self, x: T, w: &Factor<T>) -> T
+        requires { IsFactor T.base (modulus self.now) (T.number w.now.value) (T.number w.now.quotient) }
+        ensures { T.number result ≡ (T.number x * T.number w.now.value) % modulus self.now };
+
+    /// The residue of a word below the bound.
+    fn residue(&self, x: T) -> T
+        requires { T.number x < bound self.now }
+        ensures { T.number result ≡ T.number x % modulus self.now };
+
+    ghost some: { (m : Self) → 1 ≤ modulus m };
+
+    ghost bound_fits: { (m : Self) → bound m ≤ 4 * modulus m };
+}
+
+// x + y, and (y - x)·v below 2m. Condition: both are below a multiple of m, of which a word holds nearly two.
+fn gather<T: PlainWord>(m: &PlannedModulus<T>, x: T, y: T, bound: T, v: &Factor<T>) -> (T, T)
+    requires multiple { Congruent (T.number m.now.modulus) (T.number bound) 0 }
+    requires room { 2 * T.number bound ≤ T.base }
+    requires below { T.number x < T.number bound }
+    requires other_below { T.number y < T.number bound }
+    requires factor { IsFactor T.base (T.number m.now.modulus) (T.number v.now.value) (T.number v.now.quotient) }
+    ensures sum { T.number result.0 ≡ T.number x + T.number y }
+    ensures product_below { T.number result.1 < 2 * T.number m.now.modulus }
+    ensures pair { (w : ℕ) → IsMinusInverse (T.number m.now.modulus) w (T.number v.now.value) →
+        IsPairJoin (T.number m.now.modulus) w (T.number x) (T.number y) (T.number result.0) (T.number result.1) }
+{
+    (x.plus(y), m.times(y.plus(bound.minus(x)), v))
+}
+
+// (x + y)·s and (x - y)·s. Condition: y is below a multiple of m, for which x leaves room.
+fn scaled_pair<T: PlainWord>(m: &PlannedModulus<T>, x: T, y: T, bound: T, s: &Factor<T>) -> (T, T)
+    requires multiple { Congruent (T.number m.now.modulus) (T.number bound) 0 }
+    requires room { T.number x + T.number bound < T.base }
+    requires below { T.number y < T.number bound }
+    requires factor { IsFactor T.base (T.number m.now.modulus) (T.number s.now.value) (T.number s.now.quotient) }
+    ensures below { T.number result.0 < T.number m.now.modulus }
+    ensures difference_below { T.number result.1 < T.number m.now.modulus }
+    ensures pair { IsPairJoin (T.number m.now.modulus) 1 (T.number x * T.number s.now.value)
+        (T.number y * T.number s.now.value) (T.number result.0) (T.number result.1) }
+{
+    let sum = m.product(x.plus(y), s);
+    let difference = m.product(x.plus(bound.minus(y)), s);
+    (sum, difference)
+}
+
+// Entries stay below 2m.
+impl<T: PlainWord> JoinSteps<T> for PlannedModulus<T> {
+    ghost modulus = { λ m. T.number m.modulus };
+
+    ghost bound = { λ m. 2 * T.number m.modulus };
+
+    fn minus_one(&self) -> Factor<T> {
+        self.factor(self.modulus.minus(T::one()))
+    }
+
+    fn is_beyond(&self, x: T) -> bool {
+        self.is_outside(x)
+    }
+
+    fn taken(&self, x: T) -> T {
+        reduced_once(x, self.twice())
+    }
+
+    fn pair(&self, x: T, y: T, v: &Factor<T>) -> (T, T) {
+        let twice = self.twice();
+        let (sum, product) = gather(self, x, y, twice, v);
+        (reduced_once(sum, twice), product)
+    }
+
+    fn four(
+        &self,
+        x: T,
+        y: T,
+        z: T,
+        t: T,
+        w: &Factor<T>,
+        u: &Factor<T>,
+        v: &Factor<T>,
+    ) -> (T, T, T, T) {
+        let (e, f) = self.pair(x, y, u);
+        let (g, h) = self.pair(z, t, v);
+        let (a, c) = self.pair(e, g, w);
+        let (b, d) = self.pair(f, h, w);
+        (a, b, c, d)
+    }
+
+    fn four_by_one(&self, x: T, y: T, z: T, t: T, v: &Factor<T>, s: &Factor<T>) -> (T, T, T, T) {
+        let twice = self.twice();
+        let e = reduced_once(x.plus(y), twice);
+        let f = reduced_once(x.plus(twice.minus(y)), twice);
+        let (g, h) = self.pair(z, t, v);
+        let (a, c) = scaled_pair(self, e, g, twice, s);
+        let (b, d) = scaled_pair(self, f, h, twice, s);
+        (a, b, c, d)
+    }
+
+    fn product(&self, x: T, w: &Factor<T>) -> T {
+        PlannedModulus::product(self, x, w)
+    }
+
+    fn residue(&self, x: T) -> T {
+        reduced_once(x, self.modulus)
+    }
+
+    ghost some = { λ m. m.some };
+
+    ghost bound_fits = { λ m. mul-le-mul_right (T.number m.modulus) (lit≤ tt) };
+}
+
+// Entries stay below 4m. Within a four no number is reduced but the one that is a sum twice.
+impl<T: PlainWord> JoinSteps<T> for RoomyModulus<T> {
+    ghost modulus = { λ m. T.number m.planned.modulus };
+
+    ghost bound = { λ m. 4 * T.number m.planned.modulus };
+
+    fn minus_one(&self) -> Factor<T> {
+        self.planned.minus_one()
+    }
+
+    fn is_beyond(&self, x: T) -> bool {
+        self.planned.is_outside(x)
+    }
+
+    fn taken(&self, x: T) -> T {
+        x
+    }
+
+    fn pair(&self, x: T, y: T, v: &Factor<T>) -> (T, T) {
+        let fourfold = self.fourfold();
+        let (sum, product) = gather(&self.planned, x, y, fourfold, v);
+        (reduced_once(sum, fourfold), product)
+    }
+
+    fn four(
+        &self,
+        x: T,
+        y: T,
+        z: T,
+        t: T,
+        w: &Factor<T>,
+        u: &Factor<T>,
+        v: &Factor<T>,
+    ) -> (T, T, T, T) {
+        let m = &self.planned;
+        let fourfold = self.fourfold();
+        let eightfold = self.eightfold();
+        let (e, f) = gather(m, x, y, fourfold, u);
+        let (g, h) = gather(m, z, t, fourfold, v);
+        let (a, c) = gather(m, e, g, eightfold, w);
+        let (b, d) = gather(m, f, h, m.twice(), w);
+        (reduced_once(reduced_once(a, eightfold), fourfold), b, c, d)
+    }
+
+    fn four_by_one(&self, x: T, y: T, z: T, t: T, v: &Factor<T>, s: &Factor<T>) -> (T, T, T, T) {
+        let m = &self.planned;
+        let fourfold = self.fourfold();
+        let e = x.plus(y);
+        let f = x.plus(fourfold.minus(y));
+        let (g, h) = gather(m, z, t, fourfold, v);
+        let (a, c) = scaled_pair(m, e, g, self.eightfold(), s);
+        let (b, d) = scaled_pair(m, f, h, m.twice(), s);
+        (a, b, c, d)
+    }
+
+    fn product(&self, x: T, w: &Factor<T>) -> T {
+        self.planned.product(x, w)
+    }
+
+    fn residue(&self, x: T) -> T {
+        self.planned.residue(x)
+    }
+
+    ghost some = { λ m. m.planned.some };
+
+    ghost bound_fits = { λ m. le_refl (4 * T.number m.planned.modulus) };
+}

@@ -1,0 +1,8 @@
+//! Joins and products by a plan: from remainders back to a list, products of polynomials, and the natural order.
+#![tactic(auto)]
+
+pub mod convolution;
+pub mod join;
+mod join_steps;
+pub mod products;
+pub mod transform;

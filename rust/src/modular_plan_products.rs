@@ -1,0 +1,7 @@
+//! Joins and products by a plan: from remainders back to a list, products of polynomials, and the natural order.
+
+pub mod convolution;
+pub mod join;
+mod join_steps;
+pub mod products;
+pub mod transform;

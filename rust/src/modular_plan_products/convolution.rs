@@ -1,0 +1,139 @@
+//! Products of polynomials modulo X^n - c, by a plan.
+
+use crate::modular_plan_products::join::join_scaled;
+use crate::modular_plan_products::products::{multiply, reduce_products};
+use crate::modular_plan::entry::PlanEntry;
+use crate::modular_plan::modulus::{Factor, PlannedModulus};
+use crate::modular_plan::split::{split, split_loosely, splits};
+use crate::modular_prim::below::reduced_once;
+use crate::modular_prim::euclid::invm;
+use crate::modular_prim::plain_word::PlainWord;
+use crate::modular_word::path_word::PathWord;
+use crate::modular_word::paths::neginv;
+use crate::modular_word::ring_word::RingWord;
+
+// The residue of a power of two, by doublings of 1: it may be too large for the word.
+#[inline]
+fn residue_of_count<T: PlainWord>(m: &PlannedModulus<T>, count: usize) -> T {
+    let mut residue = m.residue(T::one());
+    'doublings: for _done in 0..count.trailing_zeros() {
+        residue = reduced_once(residue.plus(residue), m.modulus);
+    }
+    residue
+}
+
+// Splits the first of two lists that `join_products` multiplies. For single entries and an odd modulus it takes any
+// words, so that no residues are needed.
+#[inline]
+fn split_first<T: PlainWord, F: PlanEntry<T>>(
+    m: &PlannedModulus<T>,
+    xs: &mut [T],
+    table: &[F],
+    b: usize,
+    last: usize,
+) {
+    if last == 1 && m.modulus.is_odd() {
+        split_loosely(m, xs, table, b, last);
+    } else {
+        split(m, xs, table, b, last);
+    }
+}
+
+// Multiplies the blocks as `multiply` does, and joins the products as `join_scaled` does. Single entries
+// are multiplied by Montgomery's reduction where m is odd: then the number of words, by which it
+// divides, is made up for by the factor, and the entries of the first list may be any words.
+fn join_products<T: PlainWord, F: PlanEntry<T>>(
+    m: &PlannedModulus<T>,
+    xs: &mut [T],
+    ys: &[T],
+    table: &[F],
+    b: usize,
+    last: usize,
+    w: &Factor<T>,
+) {
+    if last == 1 && m.modulus.is_odd() {
+        let inverse = T::zero().wrapping_sub(neginv(m.modulus));
+        reduce_products(m, inverse, xs, ys);
+        let scaled = m.factor(m.times_base(w));
+        join_scaled(m, xs, table, b, last, &scaled);
+    } else {
+        multiply(m, xs, ys, table, b, last);
+        join_scaled(m, xs, table, b, last, w);
+    }
+}
+
+/// Whether `convolve_block` takes lists of so many entries as block b, down to blocks of `last`, by a
+/// plan of so many factors.
+#[inline]
+pub fn convolves(length: usize, factors: usize, b: usize, last: usize) -> bool {
+    if last > 2 {
+        return false;
+    }
+    if !splits(length, factors, b, last) {
+        return false;
+    }
+    if length == last {
+        return b / 2 < factors;
+    }
+    true
+}
+
+/// Puts the product of two polynomials modulo X^n - c in xs and the remainders of the second in ys, as
+/// `split` has them, c being the power of g by the reversed bits of b and n the length of the lists;
+/// false, with both lists unchanged, exactly where the number n/last of blocks has no inverse modulo m.
+///
+/// So b = 0 gives the cyclic product, and b = 1 that modulo X^n + 1. Conditions: those of `split`, for
+/// both lists; they have one length; `last` is 1 or 2; the table's entries are factors modulo m, and
+/// there are (b + 1)·n/last/2 of them or more (`convolves` tells). It takes no memory.
+///
+/// Source: Bernstein, "Multidigit multiplication for mathematicians", section 2: both lists are split,
+/// the remainders multiplied, and the products joined.
+pub fn convolve_block<T: PlainWord, F: PlanEntry<T>>(
+    m: &PlannedModulus<T>,
+    xs: &mut [T],
+    ys: &mut [T],
+    table: &[F],
+    b: usize,
+    last: usize,
+) -> bool {
+    let count = residue_of_count(m, xs.len() / last);
+    match invm(count, m.modulus) {
+        Some(part) => {
+            let part = m.factor(part);
+            split_first(m, xs, table, b, last);
+            split(m, ys, table, b, last);
+            join_products(m, xs, ys, table, b, last, &part);
+            true
+        }
+        None => false,
+    }
+}
+
+/// Puts the cyclic product of xs and ys in xs, as `convolve_block` for b = 0: entry e becomes the sum
+/// of x_i·y_j modulo m over i + j = e or e + n; false, with both lists unchanged, exactly where the
+/// number n/last of blocks has no inverse modulo m. Conditions: those of `convolve_block`.
+#[inline]
+pub fn convolve_planned<T: PlainWord, F: PlanEntry<T>>(
+    m: &PlannedModulus<T>,
+    xs: &mut [T],
+    ys: &mut [T],
+    table: &[F],
+    last: usize,
+) -> bool {
+    convolve_block(m, xs, ys, table, 0, last)
+}
+
+/// Puts the product of xs and ys modulo X^n + 1 in xs, as `convolve_block` for b = 1: entry e becomes
+/// the sum of x_i·y_j modulo m over i + j = e, less that over i + j = e + n; false, with both lists
+/// unchanged, exactly where the number n/last of blocks has no inverse modulo m. Conditions: those of
+/// `convolve_block`.
+#[inline]
+pub fn convolve_negacyclic<T: PlainWord, F: PlanEntry<T>>(
+    m: &PlannedModulus<T>,
+    xs: &mut [T],
+    ys: &mut [T],
+    table: &[F],
+    last: usize,
+) -> bool {
+    convolve_block(m, xs, ys, table, 1, last)
+}
