@@ -6,3 +6,4 @@ pub mod order;
 pub mod plain;
 mod stage;
 pub mod transform;
+mod two_stages;

@@ -40,11 +40,7 @@ pub fn sub_below<T: PathWord>(a: T, b: T, m: T) -> T
     ensures value { T.number result ≡ residue (T.number m) (pos (T.number a) -ℤ pos (T.number b)) }
     ensures below { T.number result < T.number m }
 {
-    if a.is_below(b) {
-        m.minus(b.minus(a))
-    } else {
-        a.minus(b)
-    }
+    a.minus_modulo(b, m)
 }
 
 /// The residue of 2a. Condition: a is below m.

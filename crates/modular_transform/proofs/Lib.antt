@@ -1,6 +1,8 @@
 pub mod BitReversal
 pub mod ConvolveLemmas
 pub mod CyclicProducts
+pub mod FourLemmas
+pub mod FourValues
 pub mod Geometry
 pub mod Halves
 pub mod InverseTransform
@@ -14,4 +16,5 @@ pub mod StageLemmas
 pub mod StripPowers
 pub mod Tiles
 pub mod TransformLemmas
+pub mod TwoStages
 pub mod ValueLemmas

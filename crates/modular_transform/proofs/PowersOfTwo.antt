@@ -1,11 +1,11 @@
 -- A power of two has one bit set, and its trailing zeros are its exponent.
 use Rattle.std.proofs.Common.{◌↔◌, ◌≡◌, ◌≢◌, ℕ, suc, zero, ◌%◌, ◌/◌, ◌^◌, ◌<◌, ◌≤◌}
 use Rattle.std.proofs.Common.{IsTrue, count_ones, inl, inr, sym, ◌∙◌, ap, refl, arith}
-use Rattle.std.proofs.lemmas.Bool.{cases_eq}
+use Rattle.std.proofs.lemmas.Bool.{cases_eq, cases_lt}
 use Rattle.std.proofs.lemmas.Bool.Decides.{nat_tests}
 use Rattle.std.proofs.lemmas.Nat.{pow_pos, zero_from_ones, ones_le_self}
 use Rattle.std.proofs.lemmas.Nat.Bits.{bit_at-pow_other, bit_at-trailing_zeros}
-use Rattle.std.proofs.Math.Nat.{two-pow-succ}
+use Rattle.std.proofs.Math.Nat.{two-pow-succ, pow-le-pow_right}
 use Rattle.std.specs.Int.{trailing_zeros, w64, is_power_of_two, IsPowerOfTwo}
 use Rattle.std.specs.Int.Count.{ones_step}
 
@@ -74,3 +74,15 @@ exponent_above_zero (suc z) n whole other = omega arith
 
 pub beyond_one : (n : ℕ) → IsPowerOfTwo n → n ≢ 1 → 1 < n
 beyond_one n p other = let q = pow_pos p.0 in let e = p.1 in omega arith
+
+-- a number is below the power of two with it as exponent
+pub below_power : (z : ℕ) → z < 2 ^ z
+below_power zero = let one : 2 ^ 0 ≡ 1 = refl in omega (arith, one)
+below_power (suc z) = let two = two-pow-succ z in let before = below_power z in omega (arith, two, before)
+
+-- the exponent of a power of two that is a word
+pub exponent_below : (z n : ℕ) → n ≡ 2 ^ z → n < 2 ^ 64 → z < 64
+exponent_below z n is below = elim (cases_lt z 64) [
+  | inl l ↦ l
+  | inr l ↦ let p = pow-le-pow_right {n = 2} (omega arith) {i = 64} {j = z} l in absurd (omega (arith, p, is))
+]

@@ -9,10 +9,10 @@ use Rattle.modular_reduced.proofs.FormLemmas.{form_as}
 use Rattle.modular_transform.specs.Transforms.{transform, Suits}
 use Rattle.modular_word.specs.Congruence.{Congruent}
 use Rattle.modular_transform.specs.Orders.{bits_reversed, IsReordered}
-use Rattle.modular_transform.specs.Stages.{IsStage}
+use Rattle.modular_transform.specs.Stages.{IsStage, IsTwoStages}
 use Rattle.modular_reduced.specs.Values.{HoldValues}
 use Rattle.modular_transform.proofs.ValueLemmas.{values, value_at}
-use Rattle.modular_word.proofs.Congruence.{of_equal, chained, added, multiplied, residue_of}
+use Rattle.modular_word.proofs.Congruence.{of_equal, turned, chained, added, multiplied, powered, residue_of}
 use Rattle.modular_word.proofs.Powers.{pow-mul}
 use Rattle.modular_transform.proofs.MinusOne.{IsMinusOne, same_minus_one}
 use Rattle.modular_transform.proofs.BitReversal.{bits_reversed_below, bits_reversed_twice}
@@ -85,17 +85,86 @@ blocks_more {m} g z t n half blocks v x y w sizes is_blocks some suits root befo
     subst (λ k. BlocksTransform m g n (t + 1) k x w) (sym sizes.next)
     (subst (λ k. BlocksTransform m g n k half x w) s after)
 
--- the products of the stages so far
-pub products_more : (z t n half blocks products more : ℕ) → StageSizes z t n half blocks
-    → products + 2 ^ (z - t) ≡ t * (n / 2) + n + t → more ≡ half * (blocks + 1)
-    → products + more + 1 + 2 ^ (z - (t + 1)) ≡ (t + 1) * (n / 2) + n + (t + 1)
-products_more z t n half blocks products more sizes before is =
+-- the products of the stages so far, of which there are c besides
+pub products_more : (z t n half blocks products more c : ℕ) → StageSizes z t n half blocks
+    → products + 2 ^ (z - t) ≡ t * (n / 2) + n + c → more ≡ half * (blocks + 1)
+    → products + more + 2 ^ (z - (t + 1)) ≡ (t + 1) * (n / 2) + n + c
+products_more z t n half blocks products more c sizes before is =
     let w = sizes.whole in
     let a = sizes.now in
     let b = sizes.next in
     let e : n / 2 ≡ blocks * half = omega (arith, w) in
     let te = ap (λ v. t * v) e in
     omega (arith, a, b, before, is, e, te, w)
+
+-- the sizes of two stages
+pub record TwoSizes (z t n half blocks : ℕ) : Type 0 where
+  pub first : StageSizes z t n half blocks
+  pub second : StageSizes z (t + 1) n (half / 2) (blocks * 2)
+  pub halved : half ≡ half / 2 + half / 2
+  pub some : 0 < half / 2
+  pub quarter : 2 ^ (z - (t + 2)) ≡ half / 2
+
+pub two_sizes : (z t n half blocks : ℕ) → t < z → (z - t) % 2 ≡ 0 → n ≡ 2 ^ z → half ≡ 2 ^ (z - t) / 2 → blocks ≡ 2 ^ t
+    → TwoSizes z t n half blocks
+two_sizes z t n half blocks l even whole is_half is_blocks =
+    let one = stage_sizes z t n half blocks l whole is_half is_blocks in
+    let next = one.next in
+    let more = one.more in
+    let is : half / 2 ≡ 2 ^ (z - (t + 1)) / 2 = ap (λ v. v / 2) (sym next) in
+    let two = stage_sizes z (t + 1) n (half / 2) (blocks * 2) (omega arith) whole is (sym more) in
+    let now = two.now in
+    let e : t + 1 + 1 ≡ t + 2 = omega arith in
+    let quarter = sym (ap (λ k. 2 ^ (z - k)) e) ∙ two.next in
+    let p = pow_pos (z - (t + 2)) in
+    record {
+      first = one;
+      second = two;
+      halved = omega (arith, next, now);
+      some = omega (arith, p, quarter);
+      quarter = quarter;
+    }
+
+-- the root of a pass to the quarter of its block
+pub quarter_turn : {m : ℕ} (g z t n half blocks v w : ℕ) → TwoSizes z t n half blocks → t + 2 ≤ z
+    → Congruent m v (g ^ (2 ^ t)) → Congruent m w (g ^ (2 ^ (z - 2))) → Congruent m w (v ^ (half / 2))
+quarter_turn g z t n half blocks v w sizes l root quarter =
+    let e : t + (z - (t + 2)) ≡ z - 2 = omega arith in
+    let p : 2 ^ t * (half / 2) ≡ 2 ^ (z - 2) =
+    ap (λ k. 2 ^ t * k) (sym sizes.quarter) ∙ sym (pow-add 2 t (z - (t + 2))) ∙ ap (λ k. 2 ^ k) e in
+    let q = ap (λ k. g ^ k) (sym p) ∙ pow-mul g (2 ^ t) (half / 2) in
+    chained quarter (chained (of_equal q) (turned (powered (half / 2) root)))
+
+-- two stages of the loop
+pub two_more : {m : ℕ} (g z t n half blocks v w : ℕ) (x y u : ℕ → ℕ) → TwoSizes z t n half blocks → blocks ≡ 2 ^ t
+    → Suits m g n → Congruent m v (g ^ (2 ^ t)) → Congruent m w (g ^ (2 ^ (t + 1)))
+    → BlocksTransform m g n t (2 ^ (z - t)) x y → IsTwoStages m v w (half / 2) blocks y u
+    → BlocksTransform m g n (t + 2) (2 ^ (z - (t + 2))) x u
+two_more {m} g z t n half blocks v w x y u sizes is_blocks suits root square before stages =
+    let some = sizes.some in
+    let first = subst (λ h. IsStage m v h blocks y stages.between) (sym sizes.halved) stages.first in
+    let twice : blocks + blocks ≡ blocks * 2 = omega arith in
+    let second = subst (λ b. IsStage m w (half / 2) b stages.between u) twice stages.second in
+    let one = blocks_more g z t n half blocks v x y stages.between sizes.first is_blocks (omega (arith, some)) suits root
+    before first in
+    let two = blocks_more g z (t + 1) n (half / 2) (blocks * 2) w x stages.between u sizes.second
+    (sym sizes.first.more) some suits square one second in
+    let e : t + 1 + 1 ≡ t + 2 = omega arith in
+    subst (λ k. BlocksTransform m g n k (2 ^ (z - k)) x u) e two
+
+pub two_products_more : (z t n half blocks products more c : ℕ) → TwoSizes z t n half blocks
+    → products + 2 ^ (z - t) ≡ t * (n / 2) + n + c → more ≡ half / 2 * (4 * blocks + 3)
+    → products + more + 2 ^ (z - (t + 2)) ≡ (t + 2) * (n / 2) + n + c
+two_products_more z t n half blocks products more c sizes before is =
+    let h = half / 2 in
+    let halved = sizes.halved in
+    let one = products_more z t n half blocks products _ c sizes.first before refl in
+    let two = products_more z (t + 1) n h (blocks * 2) _ _ c sizes.second one refl in
+    let e : t + 1 + 1 ≡ t + 2 = omega arith in
+    let at = subst (λ k. products + half * (blocks + 1) + h * (blocks * 2 + 1) + 2 ^ (z - k) ≡ k * (n / 2) + n + c) e two in
+    let sum : half * (blocks + 1) + h * (blocks * 2 + 1) ≡ h * (4 * blocks + 3) =
+    ap (λ v. v * (blocks + 1) + h * (blocks * 2 + 1)) halved ∙ omega arith in
+    omega (arith, at, sum, is)
 
 -- what is left: forms in reversed order, put in plain order
 pub plain_order : {T : Type 0} (number : T → ℕ) (form value : ℕ → ℕ → ℕ) (m g n z : ℕ) (x : ℕ → ℕ) (forms new : List T)
@@ -125,7 +194,7 @@ blocks_all {m} g z t n x y a b blocks =
     let o : z - t ≡ 0 = omega arith in
     subst (λ k. BlocksTransform m g n k 1 x y) e (subst (λ k. BlocksTransform m g n t (2 ^ k) x y) o blocks)
 
-pub products_all : (z t n products : ℕ) → z ≤ t → t ≤ z → n ≡ 2 ^ z → products + 2 ^ (z - t) ≡ t * (n / 2) + n + t
+pub products_all : (z t n products : ℕ) → z ≤ t → t ≤ z → n ≡ 2 ^ z → products + 2 ^ (z - t) ≡ t * (n / 2) + n + z
     → products ≡ n * z / 2 + n - 1 + z
 products_all zero t n products a b whole count =
     let e : t ≡ 0 = omega arith in

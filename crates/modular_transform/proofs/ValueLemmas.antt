@@ -29,6 +29,13 @@ pub value_read : {T : Type 0} (number : T → ℕ) (value : ℕ → ℕ → ℕ)
     → i < length forms → x ≡ get_or forms i x → value m (number x) ≡ values number value m forms i
 value_read number value m forms i x below is = ap (λ f. value m (number f)) is ∙ value_at number value m forms i x below
 
+-- the value of a checked form is below m
+pub values_below : {T : Type 0} (number : T → ℕ) (form value : ℕ → ℕ → ℕ) (m : ℕ) (forms : List T) (i : ℕ)
+    → All (λ f. IsForm form value m (number f)) forms → i < length forms → values number value m forms i < m
+values_below number form value m [] i all l = absurd (omega arith)
+values_below number form value m (x ∷ xs) i all l =
+    subst (λ v. v < m) (value_at number value m (x ∷ xs) i x l) (all i x l).below
+
 -- after a write: the place itself ..
 pub values-set_same : {T : Type 0} (number : T → ℕ) (value : ℕ → ℕ → ℕ) (m : ℕ) (forms : List T) (i : ℕ) (x : T)
     → i < length forms → values number value m (set forms i x) i ≡ value m (number x)
@@ -67,7 +74,7 @@ residue_restored m v w lv lw = elim (cases_lt v w) [
 ]
 
 -- the sum of two values, and their difference times a power
-pair_of : {m : ℕ} (a b power sum difference : ℕ) → a < m → b < m → sum ≡ (a + b) % m
+pub pair_of : {m : ℕ} (a b power sum difference : ℕ) → a < m → b < m → sum ≡ (a + b) % m
     → difference ≡ (residue m (pos a -ℤ pos b) * power) % m → IsPair m power a b sum difference
 pair_of {m} a b power sum difference la lb is_sum is_difference =
     let d = residue m (pos a -ℤ pos b) in

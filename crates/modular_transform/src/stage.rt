@@ -9,12 +9,12 @@ ghost use Rattle.modular_transform.specs.Stages.{PairDone, IsStage};
 use modular_reduced::reducer::Reducer;
 use modular_word::ring_word::RingWord;
 
-// How many columns are taken together: their powers stand on the stack, and in each block their
-// pairs are neighbours in memory.
-const STRIP: usize = 128;
+/// How many columns are taken together: their powers stand on the stack, and in each block their
+/// pairs are neighbours in memory.
+pub const STRIP: usize = 128;
 
-// A difference times a power. It takes one product.
-fn weighted_difference<T: RingWord, R: Reducer<T>>(r: &R, a: &T, b: &T, power: &T) -> T
+/// A difference times a power. It takes one product.
+pub fn weighted_difference<T: RingWord, R: Reducer<T>>(r: &R, a: &T, b: &T, power: &T) -> T
     requires left { IsForm R.form R.value (R.modulus r.now) (T.number a.now) }
     requires right { IsForm R.form R.value (R.modulus r.now) (T.number b.now) }
     requires power { IsForm R.form R.value (R.modulus r.now) (T.number power.now) }
@@ -44,8 +44,8 @@ fn pair<T: RingWord, R: Reducer<T>>(r: &R, forms: &mut [T], first: usize, second
     forms[first] = r.add(&a, &b);
 }
 
-// Multiplies the running power by the root, and answers what it was before. It takes one product.
-fn advance<T: RingWord, R: Reducer<T>>(r: &R, running: &mut T, root: &T) -> T
+/// Multiplies the running power by the root, and answers what it was before. It takes one product.
+pub fn advance<T: RingWord, R: Reducer<T>>(r: &R, running: &mut T, root: &T) -> T
     requires running { IsForm R.form R.value (R.modulus r.now) (T.number running.old) }
     requires root { IsForm R.form R.value (R.modulus r.now) (T.number root.now) }
     ensures last { result ≡ running.old }

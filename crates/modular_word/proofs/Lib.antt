@@ -1,4 +1,5 @@
 pub mod Bases
+pub mod Borrows
 pub mod Congruence
 pub mod Divisors
 pub mod ExactSteps

@@ -73,9 +73,8 @@ reduces_apart B m t x t1 p1 r s e = record {
 }
 
 -- it is less
-pub reduces_around : (B m t x t1 p1 apart r : ℕ) → HighWords B m t x t1 p1 → t1 < p1 → apart + t1 ≡ p1 → r + apart ≡ m
-    → IsReduction B m t r
-reduces_around B m t x t1 p1 apart r s h ea e = record {
+pub reduces_around : (B m t x t1 p1 r : ℕ) → HighWords B m t x t1 p1 → t1 < p1 → r + p1 ≡ t1 + m → IsReduction B m t r
+reduces_around B m t x t1 p1 r s h e = record {
   below = omega arith;
   congruent = residue_apart B m t x t1 p1 1 r s (let l : r + p1 ≡ t1 + 1 * m = omega arith in l);
 }

@@ -20,6 +20,14 @@ impl PathWord for u8 {
         self - rhs
     }
 
+    fn minus_modulo(self, rhs: u8, m: u8) -> u8 {
+        if self < rhs {
+            m - (rhs - self)
+        } else {
+            self - rhs
+        }
+    }
+
     fn times(self, rhs: u8) -> u8 {
         self * rhs
     }
@@ -97,6 +105,14 @@ impl PathWord for u16 {
 
     fn minus(self, rhs: u16) -> u16 {
         self - rhs
+    }
+
+    fn minus_modulo(self, rhs: u16, m: u16) -> u16 {
+        if self < rhs {
+            m - (rhs - self)
+        } else {
+            self - rhs
+        }
     }
 
     fn times(self, rhs: u16) -> u16 {
@@ -178,6 +194,14 @@ impl PathWord for u32 {
         self - rhs
     }
 
+    fn minus_modulo(self, rhs: u32, m: u32) -> u32 {
+        if self < rhs {
+            m - (rhs - self)
+        } else {
+            self - rhs
+        }
+    }
+
     fn times(self, rhs: u32) -> u32 {
         self * rhs
     }
@@ -255,6 +279,12 @@ impl PathWord for u64 {
 
     fn minus(self, rhs: u64) -> u64 {
         self - rhs
+    }
+
+    fn minus_modulo(self, rhs: u64, m: u64) -> u64 {
+        let difference = (self as u128).wrapping_sub(rhs as u128);
+        let (low, borrowed) = <u64 as PathWord>::split(difference);
+        low.wrapping_add(borrowed & m)
     }
 
     fn times(self, rhs: u64) -> u64 {
@@ -337,6 +367,12 @@ impl PathWord for usize {
 
     fn minus(self, rhs: usize) -> usize {
         self - rhs
+    }
+
+    fn minus_modulo(self, rhs: usize, m: usize) -> usize {
+        let difference = (self as u128).wrapping_sub(rhs as u128);
+        let (low, borrowed) = <usize as PathWord>::split(difference);
+        low.wrapping_add(borrowed & m)
     }
 
     fn times(self, rhs: usize) -> usize {

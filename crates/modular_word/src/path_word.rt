@@ -29,6 +29,17 @@ pub trait PathWord: RingWord {
         ensures value { Self.number result + Self.number rhs ≡ Self.number self }
         ensures fits { Self.number self < base };
 
+    /// The difference modulo m. Conditions: both are below m.
+    ///
+    /// Long words are chosen without a jump, since which of two is greater can't be foretold.
+    fn minus_modulo(self, rhs: Self, m: Self) -> Self
+        requires left { Self.number self < Self.number m }
+        requires right { Self.number rhs < Self.number m }
+        ensures wrapped { Self.number self < Self.number rhs →
+            Self.number result + Self.number rhs ≡ Self.number self + Self.number m }
+        ensures plain { Self.number rhs ≤ Self.number self →
+            Self.number result + Self.number rhs ≡ Self.number self };
+
     /// The product. Condition: it fits a word.
     fn times(self, rhs: Self) -> Self
         requires { Self.number self * Self.number rhs < base }

@@ -158,11 +158,7 @@ pub fn reduce_by<T: PathWord>(m: T, t: T::Double, x: T, multiple: T::Double) -> 
 {
     let (_, high) = T::split(t);
     let (_, multiple_high) = T::split(multiple);
-    if high.is_below(multiple_high) {
-        m.minus(multiple_high.minus(high))
-    } else {
-        high.minus(multiple_high)
-    }
+    high.minus_modulo(multiple_high, m)
 }
 
 /// Montgomery's reduction of a double word t modulo an odd m. Conditions: m times `negated_inverse`

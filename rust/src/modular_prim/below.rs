@@ -26,11 +26,7 @@ pub fn add_below<T: PathWord>(a: T, b: T, m: T) -> T {
 /// The residue of a - b. Condition: both are below m.
 #[inline]
 pub fn sub_below<T: PathWord>(a: T, b: T, m: T) -> T {
-    if a.is_below(b) {
-        m.minus(b.minus(a))
-    } else {
-        a.minus(b)
-    }
+    a.minus_modulo(b, m)
 }
 
 /// The residue of 2a. Condition: a is below m.

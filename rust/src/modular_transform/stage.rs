@@ -3,13 +3,13 @@
 use crate::modular_reduced::reducer::Reducer;
 use crate::modular_word::ring_word::RingWord;
 
-// How many columns are taken together: their powers stand on the stack, and in each block their
-// pairs are neighbours in memory.
-const STRIP: usize = 128;
+/// How many columns are taken together: their powers stand on the stack, and in each block their
+/// pairs are neighbours in memory.
+pub const STRIP: usize = 128;
 
-// A difference times a power. It takes one product.
+/// A difference times a power. It takes one product.
 #[inline]
-fn weighted_difference<T: RingWord, R: Reducer<T>>(r: &R, a: &T, b: &T, power: &T) -> T {
+pub fn weighted_difference<T: RingWord, R: Reducer<T>>(r: &R, a: &T, b: &T, power: &T) -> T {
     let difference = r.sub(a, b);
     r.mul(&difference, power)
 }
@@ -23,9 +23,9 @@ fn pair<T: RingWord, R: Reducer<T>>(r: &R, forms: &mut [T], first: usize, second
     forms[first] = r.add(&a, &b);
 }
 
-// Multiplies the running power by the root, and answers what it was before. It takes one product.
+/// Multiplies the running power by the root, and answers what it was before. It takes one product.
 #[inline]
-fn advance<T: RingWord, R: Reducer<T>>(r: &R, running: &mut T, root: &T) -> T {
+pub fn advance<T: RingWord, R: Reducer<T>>(r: &R, running: &mut T, root: &T) -> T {
     let last = *running;
     *running = r.mul(&last, root);
     last

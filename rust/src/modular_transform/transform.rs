@@ -2,6 +2,7 @@
 
 use crate::modular_transform::order::reverse_places;
 use crate::modular_transform::stage::stage;
+use crate::modular_transform::two_stages::two_stages;
 use crate::modular_reduced::reducer::Reducer;
 use crate::modular_word::ring_word::RingWord;
 
@@ -28,16 +29,30 @@ pub fn root_fits<T: RingWord, R: Reducer<T>>(r: &R, g: &T, n: usize) -> bool {
 /// n/2 pairs, one for the running power in each column, and a square for the root of the next.
 pub fn ntt_counted<T: RingWord, R: Reducer<T>>(r: &R, xs: &mut [T], g: &T) -> u128 {
     let stages = xs.len().trailing_zeros();
-    let mut half = xs.len() / 2;
-    let mut blocks = 1;
+    let mut roots = [*g; 64];
     let mut root = *g;
     let mut products = 0;
-    'stages: for _done in 0..stages {
-        products += stage(r, xs, half, blocks, &root) as u128;
+    'roots: for i in 0..stages as usize {
+        roots[i] = root;
         root = r.sqr(root);
         products += 1;
+    }
+    let mut half = xs.len() / 2;
+    let mut blocks = 1;
+    let mut done = 0;
+    if stages % 2 == 1 {
+        products += stage(r, xs, half, 1, g) as u128;
         half /= 2;
-        blocks *= 2;
+        blocks = 2;
+        done = 1;
+    }
+    'passes: while done < stages as usize {
+        let (root, square) = (roots[done], roots[done + 1]);
+        let turned = roots[stages as usize - 2];
+        products += two_stages(r, xs, half / 2, blocks, &root, &square, &turned);
+        half /= 4;
+        blocks *= 4;
+        done += 2;
     }
     reverse_places(xs, stages);
     products

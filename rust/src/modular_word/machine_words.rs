@@ -16,6 +16,15 @@ impl PathWord for u8 {
     }
 
     #[inline]
+    fn minus_modulo(self, rhs: u8, m: u8) -> u8 {
+        if self < rhs {
+            m - (rhs - self)
+        } else {
+            self - rhs
+        }
+    }
+
+    #[inline]
     fn times(self, rhs: u8) -> u8 {
         self * rhs
     }
@@ -102,6 +111,15 @@ impl PathWord for u16 {
     #[inline]
     fn minus(self, rhs: u16) -> u16 {
         self - rhs
+    }
+
+    #[inline]
+    fn minus_modulo(self, rhs: u16, m: u16) -> u16 {
+        if self < rhs {
+            m - (rhs - self)
+        } else {
+            self - rhs
+        }
     }
 
     #[inline]
@@ -194,6 +212,15 @@ impl PathWord for u32 {
     }
 
     #[inline]
+    fn minus_modulo(self, rhs: u32, m: u32) -> u32 {
+        if self < rhs {
+            m - (rhs - self)
+        } else {
+            self - rhs
+        }
+    }
+
+    #[inline]
     fn times(self, rhs: u32) -> u32 {
         self * rhs
     }
@@ -280,6 +307,13 @@ impl PathWord for u64 {
     #[inline]
     fn minus(self, rhs: u64) -> u64 {
         self - rhs
+    }
+
+    #[inline]
+    fn minus_modulo(self, rhs: u64, m: u64) -> u64 {
+        let difference = (self as u128).wrapping_sub(rhs as u128);
+        let (low, borrowed) = <u64 as PathWord>::split(difference);
+        low.wrapping_add(borrowed & m)
     }
 
     #[inline]
@@ -372,6 +406,13 @@ impl PathWord for usize {
     #[inline]
     fn minus(self, rhs: usize) -> usize {
         self - rhs
+    }
+
+    #[inline]
+    fn minus_modulo(self, rhs: usize, m: usize) -> usize {
+        let difference = (self as u128).wrapping_sub(rhs as u128);
+        let (low, borrowed) = <usize as PathWord>::split(difference);
+        low.wrapping_add(borrowed & m)
     }
 
     #[inline]

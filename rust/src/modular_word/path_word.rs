@@ -17,6 +17,12 @@ pub trait PathWord: Sized + RingWord {
     #[must_use]
     fn minus(self, rhs: Self) -> Self;
 
+    /// The difference modulo m. Conditions: both are below m.
+    ///
+    /// Long words are chosen without a jump, since which of two is greater can't be foretold.
+    #[must_use]
+    fn minus_modulo(self, rhs: Self, m: Self) -> Self;
+
     /// The product. Condition: it fits a word.
     #[must_use]
     fn times(self, rhs: Self) -> Self;

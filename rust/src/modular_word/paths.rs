@@ -123,11 +123,7 @@ pub fn clearing<T: PathWord>(m: T, negated_inverse: T, t: T::Double) -> T {
 pub fn reduce_by<T: PathWord>(m: T, t: T::Double, x: T, multiple: T::Double) -> T {
     let (_, high) = T::split(t);
     let (_, multiple_high) = T::split(multiple);
-    if high.is_below(multiple_high) {
-        m.minus(multiple_high.minus(high))
-    } else {
-        high.minus(multiple_high)
-    }
+    high.minus_modulo(multiple_high, m)
 }
 
 /// Montgomery's reduction of a double word t modulo an odd m. Conditions: m times `negated_inverse`

@@ -1,4 +1,3 @@
-use Rattle.std.proofs.Common.{arith}
 use Rattle.modular_transform.proofs.ValueLemmas.{pair_written}
 use Rattle.modular_transform.proofs.stage.pair.Goals as goal
 

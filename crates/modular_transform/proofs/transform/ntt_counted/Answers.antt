@@ -1,85 +1,190 @@
-use Rattle.std.proofs.Common.{◌≡◌, ◌+◌, ◌-◌, ◌*◌, ◌/◌, ◌^◌, ◌<◌, length, sym, ◌∙◌, ap, arith, refl, subst}
-use Rattle.std.specs.Int.{trailing_zeros, w64}
-use Rattle.std.proofs.lemmas.Nat.{pow_pos}
+use Rattle.std.proofs.Common.{rules, ◌≡◌, ℕ, ◌+◌, ◌-◌, ◌*◌, ◌/◌, ◌%◌, ◌^◌, ◌<◌, ◌≤◌, length, sym, ◌∙◌, ap, arith, refl}
+use Rattle.std.proofs.Common.{inl, inr, subst, List, All, ◌≢◌}
+use Rattle.std.proofs.lemmas.Bool.{cases_eq}
+use Rattle.std.proofs.lemmas.List.Elements.{All-set}
+use Rattle.std.proofs.lemmas.Nat.{pow_pos, mul-le}
+use Rattle.std.proofs.Math.ListN.{set}
 use Rattle.std.proofs.Math.Nat.{pow-le-pow_right}
-use Rattle.modular_reduced.proofs.FormLemmas.{form_of_value}
-use Rattle.modular_transform.proofs.ValueLemmas.{values, held_value, held_forms}
-use Rattle.modular_transform.proofs.PowersOfTwo.{trailing_zeros_of_power}
-use Rattle.modular_transform.proofs.StageLemmas.{BlocksTransform}
-use Rattle.modular_word.proofs.Congruence.{of_equal}
+use Rattle.std.specs.Int.{trailing_zeros, w64}
+use Rattle.modular_word.specs.Congruence.{Congruent}
+use Rattle.modular_word.proofs.Congruence.{of_equal, chained}
 use Rattle.modular_word.proofs.Powers.{pow-one}
-use Rattle.modular_transform.proofs.PowersOfTwo.{trailing_zeros_of_power}
-use Rattle.modular_transform.proofs.StageLemmas.{stages_start}
-use Rattle.modular_transform.proofs.TransformLemmas.{stage_sizes, suited_length, root_more, blocks_more}
-use Rattle.modular_transform.proofs.TransformLemmas.{products_more, blocks_all, products_all, plain_order}
+use Rattle.modular_reduced.specs.Forms.{IsForm}
+use Rattle.modular_reduced.proofs.FormLemmas.{form_of_value}
+use Rattle.modular_transform.proofs.PowersOfTwo.{trailing_zeros_of_power, below_power, exponent_below}
+use Rattle.modular_transform.proofs.StageLemmas.{BlocksTransform, stages_start}
+use Rattle.modular_transform.proofs.StripPowers.{one_form}
+use Rattle.modular_transform.proofs.TransformLemmas.{stage_sizes, two_sizes, suited_length, root_more, quarter_turn}
+use Rattle.modular_transform.proofs.TransformLemmas.{blocks_more, two_more, products_more, two_products_more}
+use Rattle.modular_transform.proofs.TransformLemmas.{blocks_all, products_all, plain_order}
+use Rattle.modular_transform.proofs.ValueLemmas.{values, value_at, values-set_same, values-set_other, held_value}
+use Rattle.modular_transform.proofs.ValueLemmas.{held_forms}
 use Rattle.modular_transform.proofs.transform.ntt_counted.Goals as goal
+use Rattle.modular_transform.proofs.transform.ntt_counted.Goals.{then-stages-eq1, else-stages-eq1}
 
-pub stages-init : goal.stages-init
-stages-init g c =
-    let m = g.R.Reducer.modulus c.args.r.now in
-    let root = g.R.Reducer.value m (g.T.RingWord.number c.args.g.now) in
-    let n = length c.args.xs.now in
-    let x = values g.T.RingWord.number g.R.Reducer.value m c.args.xs.now in
-    let below : n < 2 ^ 64 = omega arith in
-    let whole = suited_length c.requires.suits below in
-    let z = trailing_zeros w64 n in
-    let all : z - 0 ≡ z = omega arith in
-    let size : n ≡ 2 ^ (z - 0) = whole ∙ ap (λ k. 2 ^ k) (sym all) in
-    record {
-      checked = c.requires.checked;
-      root_form = c.requires.root;
-      root = of_equal (sym (pow-one root));
-      whole = whole;
-      half = ap (λ v. v / 2) size;
-      blocks = refl;
-      transforms = subst (λ s. BlocksTransform m root n 0 s x x) size (stages_start root n x);
-      count = omega (arith, size);
-    }
-
-pub stage-requires-clause-whole : goal.stage-requires-clause-whole
-stage-requires-clause-whole g c =
-    let before = c.stages.invariant in
-    let sizes = stage_sizes _ _ _ _ _ c.stages-test.true before.whole before.half before.blocks in
-    sizes.whole ∙ sym c.stages.auto.xs
-
-pub overflow_mul-blocks : goal.overflow_mul-blocks
-overflow_mul-blocks g c =
-    let before = c.stages.invariant in
-    let n = length c.args.xs.now in
-    let t = c.stages._done in
-    let sizes = stage_sizes _ _ _ _ _ c.stages-test.true before.whole before.half before.blocks in
-    let more = sizes.more in
-    let whole = before.whole in
-    let l = pow-le-pow_right {n = 2} (omega arith) {i = t + 1} {j = trailing_zeros w64 n} (omega arith) in
-    omega (arith, more, whole, l)
-
-pub stages-preserved : goal.stages-preserved
-stages-preserved g c =
+pub roots-init : goal.roots-init
+roots-init g c =
     let m = g.R.Reducer.modulus c.args.r.now in
     let number = g.T.RingWord.number in
     let value = g.R.Reducer.value in
-    let root = value m (number c.args.g.now) in
+    record {
+      checked = one_form number g.R.Reducer.form value m 64 c.args.g.now c.requires.root;
+      form = c.requires.root;
+      root = of_equal (sym (pow-one (value m (number c.args.g.now))));
+      written = λ t l. absurd (omega arith);
+      count = refl;
+    }
+
+pub roots-preserved : goal.roots-preserved
+roots-preserved g c =
+    let m = g.R.Reducer.modulus c.args.r.now in
+    let number = g.T.RingWord.number in
+    let value = g.R.Reducer.value in
+    let canonical = g.met.R.Reducer.canonical c.args.r.now in
+    let w = value m (number c.args.g.now) in
+    let s = c.roots.i in
+    let roots = c.roots.roots in
+    let root = c.roots.root in
+    let before = c.roots.invariant in
+    let P = λ (f : _). IsForm g.R.Reducer.form value m (number f) in
+    let below : length c.args.xs.now < 2 ^ 64 = omega arith in
+    let few = exponent_below _ _ (suited_length c.requires.suits below) below in
+    record {
+      checked = All-set P roots s root before.form before.checked;
+      form = form_of_value canonical c.sqr-root.ensures.form;
+      root = root_more w s _ _ before.root (canonical.one_value _ _ c.sqr-root.ensures.form);
+      written = λ t l. elim (cases_eq t s) [
+        | inl e ↦ chained (of_equal (ap (values number value m (set roots s root)) e
+            ∙ values-set_same number value m roots s root (omega (arith, few))))
+            (subst (λ k. Congruent m (value m (number root)) (w ^ (2 ^ k))) (sym e) before.root)
+        | inr n ↦ chained (of_equal (values-set_other number value m roots s t root n))
+            (before.written t (omega arith))
+      ];
+      count = let n = before.count in omega (arith, n);
+    }
+
+pub passes-init : goal.passes-init
+passes-init g c =
+    let m = g.R.Reducer.modulus c.args.r.now in
+    let number = g.T.RingWord.number in
+    let value = g.R.Reducer.value in
     let n = length c.args.xs.now in
     let z = trailing_zeros w64 n in
-    let t = c.stages._done in
-    let canonical = g.met.R.Reducer.canonical c.args.r.now in
-    let before = c.stages.invariant in
-    let sizes =
-    stage_sizes z t n c.stages.half c.stages.blocks c.stages-test.true before.whole before.half before.blocks in
-    let next = sizes.next in
-    let some : 0 < c.stages.half = let p = pow_pos (z - (t + 1)) in omega (arith, next, p) in
+    let below : n < 2 ^ 64 = omega arith in
+    let whole = suited_length c.requires.suits below in
+    let root = value m (number c.args.g.now) in
+    let of = values number value m in
+    let x = of c.args.xs.now in
+    let d = c.if-stages-eq1.done in
+    let all : c.roots.i ≡ z = omega arith in
+    let squares = c.roots.invariant.count in
+    let zero : z - 0 ≡ z = omega arith in
+    let size : n ≡ 2 ^ (z - 0) = whole ∙ ap (λ k. 2 ^ k) (sym zero) in
+    let start = subst (λ s. BlocksTransform m root n 0 s x x) size (stages_start root n x) in
+    let All_forms = λ (forms : List _). All (λ f. IsForm g.R.Reducer.form value m (number f)) forms in
+    let moved = λ (t : ℕ) (y : List _) (is_t : d ≡ t) (is_y : c.if-stages-eq1.xs ≡ y)
+    (done : BlocksTransform m root n t (2 ^ (z - t)) x (of y)).
+    subst (λ k. BlocksTransform m root n k (2 ^ (z - k)) x (of c.if-stages-eq1.xs)) (sym is_t)
+    (subst (λ l. BlocksTransform m root n t (2 ^ (z - t)) x (of l)) (sym is_y) done) in
+    elim c.if-stages-eq1.branch [
+      | then-stages-eq1 w ↦
+          let odd : z % 2 ≡ 1 = w.if-stages-eq1.true in
+          let sizes = stage_sizes z 0 n (n / 2) 1 (omega (arith, odd)) whole (ap (λ v. v / 2) size) refl in
+          let next = sizes.next in
+          let more = sizes.more in
+          let some = pow_pos (z - (0 + 1)) in
+          let done : d ≡ 0 + 1 = w.done-is in
+          let left = ap (λ k. 2 ^ (z - k)) done in
+          let rows = ap (λ k. k * (n / 2)) done in
+          let powers = ap (λ k. 2 ^ k) done in
+          let half = w.half-is in
+          let blocks = w.blocks-is in
+          let products = w.products-is in
+          let count = products_more z 0 n (n / 2) 1 c.roots.products w.stage.result z sizes
+          (omega (arith, squares, all, size)) w.stage.ensures.count in
+          record {
+            checked = subst All_forms (sym w.xs-is) w.stage.ensures.checked;
+            upto = omega (arith, odd, done);
+            even = omega (arith, odd, done);
+            half = omega (arith, half, left, next);
+            blocks = omega (arith, blocks, powers, more);
+            transforms = moved (0 + 1) w.stage.new.forms done w.xs-is
+                (blocks_more root z 0 n (n / 2) 1 root x x (of w.stage.new.forms) sizes refl (omega (arith, next, some))
+                c.requires.suits (of_equal (sym (pow-one root))) start w.stage.ensures.stage);
+            count = omega (arith, products, count, left, rows, done);
+          }
+      | else-stages-eq1 w ↦
+          let odd : z % 2 ≢ 1 = w.if-stages-eq1.false in
+          let done : d ≡ 0 = w.done-is in
+          let left = ap (λ k. 2 ^ (z - k)) done in
+          let rows = ap (λ k. k * (n / 2)) done in
+          let powers = ap (λ k. 2 ^ k) done in
+          let one : 2 ^ 0 ≡ 1 = refl in
+          let half = w.half-is in
+          let blocks = w.blocks-is in
+          let products = w.products-is in
+          record {
+            checked = subst All_forms (sym w.xs-is) c.requires.checked;
+            upto = omega (arith, done);
+            even = omega (arith, odd, done);
+            half = omega (arith, half, left, size);
+            blocks = omega (arith, blocks, powers, one);
+            transforms = moved 0 c.args.xs.now done w.xs-is start;
+            count = omega (arith, products, squares, all, left, rows, size);
+          }
+    ]
+
+pub stage-requires-clause-whole : goal.stage-requires-clause-whole
+stage-requires-clause-whole g c =
+    let n = length c.args.xs.now in
+    let z = trailing_zeros w64 n in
+    let below : n < 2 ^ 64 = omega arith in
+    let whole = suited_length c.requires.suits below in
+    let odd : z % 2 ≡ 1 = c.if-stages-eq1.true in
+    let zero : z - 0 ≡ z = omega arith in
+    let size : n ≡ 2 ^ (z - 0) = whole ∙ ap (λ k. 2 ^ k) (sym zero) in
+    (stage_sizes z 0 n (n / 2) 1 (omega (arith, odd)) whole (ap (λ v. v / 2) size) refl).whole
+
+pub passes-preserved : goal.passes-preserved
+passes-preserved g c =
+    let m = g.R.Reducer.modulus c.args.r.now in
+    let number = g.T.RingWord.number in
+    let value = g.R.Reducer.value in
+    let n = length c.args.xs.now in
+    let z = trailing_zeros w64 n in
+    let below : n < 2 ^ 64 = omega arith in
+    let whole = suited_length c.requires.suits below in
+    let root = value m (number c.args.g.now) in
+    let t = c.passes.done in
+    let before = c.passes.invariant in
+    let even : (z - t) % 2 ≡ 0 = before.even in
+    let upto : t ≤ z = before.upto in
+    let more : t < z = c.passes-test.true in
+    let two : t + 2 ≤ z = omega (arith, even, upto, more) in
+    let sizes = two_sizes z t n c.passes.half c.passes.blocks more even whole before.half before.blocks in
+    let all : c.roots.i ≡ z = omega arith in
+    let few = exponent_below z n whole below in
+    let at = λ (k : ℕ) (f : _) (l : k < z).
+    chained (of_equal (value_at number value m c.roots.roots k f (omega (arith, l, few))))
+    (c.roots.invariant.written k (omega (arith, l, all))) in
+    let of = values number value m in
+    let quarter = sizes.quarter in
+    let blocks = sizes.second.more in
+    let e : t + 1 + 1 ≡ t + 2 = omega arith in
+    let powers = ap (λ k. 2 ^ k) e in
     record {
-      checked = c.stage.ensures.checked;
-      root_form = form_of_value canonical c.sqr-root.ensures.form;
-      root = root_more root t _ _ before.root (canonical.one_value _ _ c.sqr-root.ensures.form);
-      whole = before.whole;
-      half = ap (λ v. v / 2) (sym next);
-      blocks = sym sizes.more;
-      transforms = blocks_more root z t n c.stages.half c.stages.blocks (value m (number c.stages.root)) (values number
-          value m c.args.xs.now) (values number value m c.stages.xs) (values number value m c.stage.new.forms)
-          sizes before.blocks some c.requires.suits before.root before.transforms c.stage.ensures.stage;
-      count = products_more z t n c.stages.half c.stages.blocks c.stages.products c.stage.result sizes
-          before.count c.stage.ensures.count;
+      checked = c.two_stages-products.ensures.checked;
+      upto = omega (arith, two);
+      even = omega (arith, even, two);
+      half = omega (arith, quarter);
+      blocks = omega (arith, blocks, powers);
+      transforms = two_more root z t n c.passes.half c.passes.blocks _ _ (of c.args.xs.now) (of c.passes.xs)
+          (of c.two_stages-products.new.forms) sizes before.blocks c.requires.suits
+          (at t c.index-roots-done.result more)
+          (at (t + 1) c.index-roots-done-in-passes.result (omega (arith, two)))
+          before.transforms c.two_stages-products.ensures.stages;
+      count = two_products_more z t n c.passes.half c.passes.blocks c.passes.products c.two_stages-products.result z
+          sizes before.count c.two_stages-products.ensures.count;
     }
 
 pub returns-clause-entries : goal.returns-clause-entries
@@ -91,18 +196,19 @@ returns-clause-entries g c =
     let n = length c.args.xs.now in
     let z = trailing_zeros w64 n in
     let x = values number value m c.args.xs.now in
-    let before = c.stages.invariant in
-    let same = c.stages.auto.xs in
+    let before = c.passes.invariant in
+    let same = c.passes.auto.xs in
     let kept = c.reverse_places.auto.entries in
-    plain_order number g.R.Reducer.form value m root n z x c.stages.xs c.reverse_places.new.entries before.whole
-    (omega arith) (omega (arith, same, kept)) before.checked
-    (blocks_all root z c.stages._done n x (values number value m c.stages.xs) (omega arith)
-    (omega arith) before.transforms) c.reverse_places.ensures
+    let below : n < 2 ^ 64 = omega arith in
+    plain_order number g.R.Reducer.form value m root n z x c.passes.xs c.reverse_places.new.entries
+    (suited_length c.requires.suits below) (omega (arith, same)) (omega (arith, same, kept)) before.checked
+    (blocks_all root z c.passes.done n x (values number value m c.passes.xs) c.passes-test.false
+    before.upto before.transforms) c.reverse_places.ensures
 
 pub returns-clause-values : goal.returns-clause-values
 returns-clause-values g c j l =
     let kept = c.reverse_places.auto.entries in
-    let same = c.stages.auto.xs in
+    let same = c.passes.auto.xs in
     held_value g.T.RingWord.number g.R.Reducer.form g.R.Reducer.value _ _ c.reverse_places.new.entries _ j
     (g.met.R.Reducer.canonical c.args.r.now) (returns-clause-entries g c) (omega (arith, kept, same))
 
@@ -115,6 +221,178 @@ returns-clause-count g c z is =
     let n = length c.args.xs.now in
     let below : n < 2 ^ 64 = omega arith in
     let e = trailing_zeros_of_power z n is below in
-    let before = c.stages.invariant in
-    products_all (trailing_zeros w64 n) c.stages._done n c.stages.products (omega arith)
-    (omega arith) before.whole before.count ∙ ap (λ k. n * k / 2 + n - 1 + k) e
+    let before = c.passes.invariant in
+    products_all (trailing_zeros w64 n) c.passes.done n c.passes.products c.passes-test.false
+    before.upto (suited_length c.requires.suits below) before.count ∙ ap (λ k. n * k / 2 + n - 1 + k) e
+
+pub two_stages-products-requires-clause-turn : goal.two_stages-products-requires-clause-turn
+two_stages-products-requires-clause-turn g c =
+    let m = g.R.Reducer.modulus c.args.r.now in
+    let number = g.T.RingWord.number in
+    let value = g.R.Reducer.value in
+    let n = length c.args.xs.now in
+    let z = trailing_zeros w64 n in
+    let below : n < 2 ^ 64 = omega arith in
+    let whole = suited_length c.requires.suits below in
+    let root = value m (number c.args.g.now) in
+    let t = c.passes.done in
+    let before = c.passes.invariant in
+    let even : (z - t) % 2 ≡ 0 = before.even in
+    let upto : t ≤ z = before.upto in
+    let more : t < z = c.passes-test.true in
+    let two : t + 2 ≤ z = omega (arith, even, upto, more) in
+    let sizes = two_sizes z t n c.passes.half c.passes.blocks more even whole before.half before.blocks in
+    let all : c.roots.i ≡ z = omega arith in
+    let few = exponent_below z n whole below in
+    let at = λ (k : ℕ) (f : _) (l : k < z).
+    chained (of_equal (value_at number value m c.roots.roots k f (omega (arith, l, few))))
+    (c.roots.invariant.written k (omega (arith, l, all))) in
+    quarter_turn root z t n c.passes.half c.passes.blocks _ _ sizes two (at t c.index-roots-done.result more)
+    (at (z - 2) c.index-roots-stages.result (omega (arith, two)))
+
+pub two_stages-products-requires-clause-whole : goal.two_stages-products-requires-clause-whole
+two_stages-products-requires-clause-whole g c =
+    let m = g.R.Reducer.modulus c.args.r.now in
+    let number = g.T.RingWord.number in
+    let value = g.R.Reducer.value in
+    let n = length c.args.xs.now in
+    let z = trailing_zeros w64 n in
+    let below : n < 2 ^ 64 = omega arith in
+    let whole = suited_length c.requires.suits below in
+    let root = value m (number c.args.g.now) in
+    let t = c.passes.done in
+    let before = c.passes.invariant in
+    let even : (z - t) % 2 ≡ 0 = before.even in
+    let upto : t ≤ z = before.upto in
+    let more : t < z = c.passes-test.true in
+    let two : t + 2 ≤ z = omega (arith, even, upto, more) in
+    let sizes = two_sizes z t n c.passes.half c.passes.blocks more even whole before.half before.blocks in
+    let same : length c.passes.xs ≡ n = c.passes.auto.xs ∙ c.if-stages-eq1.auto.xs in
+    let h = c.passes.half / 2 in
+    let fours : c.passes.blocks * (4 * h) ≡ c.passes.blocks * (h + h + (h + h)) = omega arith in
+    fours ∙ ap (λ v. c.passes.blocks * (v + v)) (sym sizes.halved) ∙ sizes.first.whole ∙ sym same
+
+pub overflow_mul-blocks : goal.overflow_mul-blocks
+overflow_mul-blocks g c =
+    let m = g.R.Reducer.modulus c.args.r.now in
+    let number = g.T.RingWord.number in
+    let value = g.R.Reducer.value in
+    let n = length c.args.xs.now in
+    let z = trailing_zeros w64 n in
+    let below : n < 2 ^ 64 = omega arith in
+    let whole = suited_length c.requires.suits below in
+    let root = value m (number c.args.g.now) in
+    let t = c.passes.done in
+    let before = c.passes.invariant in
+    let even : (z - t) % 2 ≡ 0 = before.even in
+    let upto : t ≤ z = before.upto in
+    let more : t < z = c.passes-test.true in
+    let two : t + 2 ≤ z = omega (arith, even, upto, more) in
+    let sizes = two_sizes z t n c.passes.half c.passes.blocks more even whole before.half before.blocks in
+    let blocks = sizes.second.more in
+    let l = pow-le-pow_right {n = 2} (omega arith) {i = t + 1 + 1} {j = z} (omega (arith, two)) in
+    omega (arith, blocks, whole, l)
+
+pub overflow_add-products-in-passes : goal.overflow_add-products-in-passes
+overflow_add-products-in-passes g c =
+    let m = g.R.Reducer.modulus c.args.r.now in
+    let number = g.T.RingWord.number in
+    let value = g.R.Reducer.value in
+    let n = length c.args.xs.now in
+    let z = trailing_zeros w64 n in
+    let below : n < 2 ^ 64 = omega arith in
+    let whole = suited_length c.requires.suits below in
+    let root = value m (number c.args.g.now) in
+    let t = c.passes.done in
+    let before = c.passes.invariant in
+    let even : (z - t) % 2 ≡ 0 = before.even in
+    let upto : t ≤ z = before.upto in
+    let more : t < z = c.passes-test.true in
+    let two : t + 2 ≤ z = omega (arith, even, upto, more) in
+    let sizes = two_sizes z t n c.passes.half c.passes.blocks more even whole before.half before.blocks in
+    let few = exponent_below z n whole below in
+    let rows = mul-le (t + 2) (n / 2) 64 (2 ^ 64) (omega (arith, two, few)) (omega arith) in
+    let count = two_products_more z t n c.passes.half c.passes.blocks c.passes.products c.two_stages-products.result z
+    sizes before.count c.two_stages-products.ensures.count in
+    omega (arith, count, rows, few)
+
+pub reverse_places-requires-clause-whole : goal.reverse_places-requires-clause-whole
+reverse_places-requires-clause-whole g c =
+    let below : length c.args.xs.now < 2 ^ 64 = omega arith in
+    c.passes.auto.xs ∙ c.if-stages-eq1.auto.xs ∙ suited_length c.requires.suits below
+
+pub offset_bounds-roots-i : goal.offset_bounds-roots-i
+offset_bounds-roots-i g c =
+    let n = length c.args.xs.now in
+    let z = trailing_zeros w64 n in
+    let below : n < 2 ^ 64 = omega arith in
+    let whole = suited_length c.requires.suits below in
+    let many = below_power z in
+    let within : c.roots.i < length c.args.xs.now = omega (arith, many, whole) in
+    search rules
+
+pub offset_bounds-roots-done : goal.offset_bounds-roots-done
+offset_bounds-roots-done g c =
+    let m = g.R.Reducer.modulus c.args.r.now in
+    let number = g.T.RingWord.number in
+    let value = g.R.Reducer.value in
+    let n = length c.args.xs.now in
+    let z = trailing_zeros w64 n in
+    let below : n < 2 ^ 64 = omega arith in
+    let whole = suited_length c.requires.suits below in
+    let root = value m (number c.args.g.now) in
+    let t = c.passes.done in
+    let before = c.passes.invariant in
+    let even : (z - t) % 2 ≡ 0 = before.even in
+    let upto : t ≤ z = before.upto in
+    let more : t < z = c.passes-test.true in
+    let two : t + 2 ≤ z = omega (arith, even, upto, more) in
+    let sizes = two_sizes z t n c.passes.half c.passes.blocks more even whole before.half before.blocks in
+    let many = below_power z in
+    let same = c.passes.auto.xs in
+    let within : c.passes.done < length c.passes.xs = omega (arith, two, many, whole, same) in
+    search rules
+
+pub offset_bounds-roots-done-in-passes : goal.offset_bounds-roots-done-in-passes
+offset_bounds-roots-done-in-passes g c =
+    let m = g.R.Reducer.modulus c.args.r.now in
+    let number = g.T.RingWord.number in
+    let value = g.R.Reducer.value in
+    let n = length c.args.xs.now in
+    let z = trailing_zeros w64 n in
+    let below : n < 2 ^ 64 = omega arith in
+    let whole = suited_length c.requires.suits below in
+    let root = value m (number c.args.g.now) in
+    let t = c.passes.done in
+    let before = c.passes.invariant in
+    let even : (z - t) % 2 ≡ 0 = before.even in
+    let upto : t ≤ z = before.upto in
+    let more : t < z = c.passes-test.true in
+    let two : t + 2 ≤ z = omega (arith, even, upto, more) in
+    let sizes = two_sizes z t n c.passes.half c.passes.blocks more even whole before.half before.blocks in
+    let many = below_power z in
+    let same = c.passes.auto.xs in
+    let within : c.passes.done + 1 < length c.passes.xs = omega (arith, two, many, whole, same) in
+    search rules
+
+pub offset_bounds-roots-stages : goal.offset_bounds-roots-stages
+offset_bounds-roots-stages g c =
+    let m = g.R.Reducer.modulus c.args.r.now in
+    let number = g.T.RingWord.number in
+    let value = g.R.Reducer.value in
+    let n = length c.args.xs.now in
+    let z = trailing_zeros w64 n in
+    let below : n < 2 ^ 64 = omega arith in
+    let whole = suited_length c.requires.suits below in
+    let root = value m (number c.args.g.now) in
+    let t = c.passes.done in
+    let before = c.passes.invariant in
+    let even : (z - t) % 2 ≡ 0 = before.even in
+    let upto : t ≤ z = before.upto in
+    let more : t < z = c.passes-test.true in
+    let two : t + 2 ≤ z = omega (arith, even, upto, more) in
+    let sizes = two_sizes z t n c.passes.half c.passes.blocks more even whole before.half before.blocks in
+    let many = below_power z in
+    let same = c.passes.auto.xs in
+    let within : trailing_zeros w64 (length c.args.xs.now) - 2 < length c.passes.xs = omega (arith, two, many, whole, same) in
+    search rules

@@ -1,5 +1,5 @@
 -- The multiple with the low word of the number.
-use Rattle.std.proofs.Common.{◌+◌, ◌*◌, ◌%◌, ap, ◌∙◌, sym, arith}
+use Rattle.std.proofs.Common.{◌%◌, ap, ◌∙◌, sym, arith}
 use Rattle.modular_word.proofs.ReductionSteps.{low_is_same}
 use Rattle.modular_word.proofs.paths.clearing.Goals as goal
 

@@ -1,0 +1,369 @@
+use Rattle.std.proofs.Common.{rules, ◌≡◌, ℕ, ◌+◌, ◌-◌, ◌*◌, ◌%◌, ◌^◌, ◌<◌, ◌≤◌, length, sym, ◌∙◌, ap, arith, subst}
+use Rattle.modular_word.specs.Congruence.{Congruent}
+use Rattle.modular_reduced.specs.Forms.{Represents}
+use Rattle.modular_reduced.proofs.FormLemmas.{form_of_value}
+use Rattle.modular_transform.proofs.FourLemmas.{FoursDone, none_done, one_done, columns_joined, blocks_joined, done_by}
+use Rattle.modular_transform.proofs.FourLemmas.{block_fits, fours_fit, four_fits}
+use Rattle.modular_transform.proofs.PairLemmas.{none_between}
+use Rattle.modular_transform.proofs.StripPowers.{one_form, first_power, power_first, power_next, strip_power, strip_next}
+use Rattle.modular_transform.proofs.TwoStages.{two_stages_done}
+use Rattle.modular_transform.proofs.ValueLemmas.{values, value_at, values_below, forms_written, entry_done}
+use Rattle.modular_transform.proofs.two_stages.two_stages.Goals as goal
+
+pub strips-init : goal.strips-init
+strips-init g c =
+    let m = g.R.Reducer.modulus c.args.r.now in
+    let number = g.T.RingWord.number in
+    let value = g.R.Reducer.value in
+    let canonical = g.met.R.Reducer.canonical c.args.r.now in
+    let w = value m (number c.args.root.now) in
+    let v = value m (number c.args.square.now) in
+    let h = c.args.step in
+    let form = form_of_value canonical c.transform-one.ensures.form in
+    let all = one_form number g.R.Reducer.form value m 128 c.transform-one.result form in
+    record {
+      checked = c.requires.checked;
+      firsts = all;
+      seconds = all;
+      boths = all;
+      power_form = form;
+      turned_form = c.requires.turned;
+      square_form = form;
+      power = first_power w canonical c.one.ensures c.transform-one.ensures.form;
+      turned = subst (λ e. Congruent m (value m (number c.args.turned.now)) (w ^ e)) (omega arith) c.requires.turn;
+      square = first_power v canonical c.one.ensures c.transform-one.ensures.form;
+      within = omega arith;
+      done = none_done m (λ i. w ^ i) (λ i. w ^ (h + i)) (λ i. v ^ i) h 0 c.args.blocks 0 0
+          (values number value m c.args.forms.now) (λ p i a b s t. none_between 0 i s t);
+      count = omega arith;
+    }
+
+pub each_block-init : goal.each_block-init
+each_block-init g c =
+    let m = g.R.Reducer.modulus c.args.r.now in
+    let of = values g.T.RingWord.number g.R.Reducer.value m in
+    let column = c.strips.column in
+    let all : c.fill.i ≡ c.min-width.result = omega arith in
+    let count = c.fill.invariant.count in
+    record {
+      checked = c.strips.invariant.checked;
+      done = none_done m (λ i. of c.fill.firsts (i - column)) (λ i. of c.fill.seconds (i - column))
+          (λ i. of c.fill.boths (i - column)) c.args.step 0 0 column (column + c.min-width.result)
+          (of c.strips.forms) (λ p i u v s t. none_between 0 p u v);
+      count = omega (arith, count, all);
+    }
+
+pub columns-init : goal.columns-init
+columns-init g c =
+    let m = g.R.Reducer.modulus c.args.r.now in
+    let of = values g.T.RingWord.number g.R.Reducer.value m in
+    let p = c.each_block.block in
+    let column = c.strips.column in
+    record {
+      checked = c.each_block.invariant.checked;
+      done = none_done m (λ i. of c.fill.firsts (i - column)) (λ i. of c.fill.seconds (i - column))
+          (λ i. of c.fill.boths (i - column)) c.args.step p (p + 1) column (column + 0) (of c.each_block.forms)
+          (λ q i u v s t. none_between column i s t);
+      count = let n = c.each_block.invariant.count in omega (arith, n);
+    }
+
+pub returns-clause-checked : goal.returns-clause-checked
+returns-clause-checked g c = c.strips.invariant.checked
+
+pub returns-clause-count : goal.returns-clause-count
+returns-clause-count g c =
+    let count = c.strips.invariant.count in
+    let within = c.strips.invariant.within in
+    let all : c.strips.column ≡ c.args.step = omega arith in
+    count ∙ ap (λ n. n * (4 * c.args.blocks + 3)) all
+
+pub overflow_mul-place : goal.overflow_mul-place
+overflow_mul-place g c =
+    let fit = block_fits c.each_block.block c.args.blocks c.args.step _ (omega arith) c.requires.whole in
+    omega (arith, fit)
+
+pub overflow_add-place : goal.overflow_add-place
+overflow_add-place g c =
+    let fit = block_fits c.each_block.block c.args.blocks c.args.step _ (omega arith) c.requires.whole in
+    let within = c.strips.invariant.within in
+    omega (arith, fit, within)
+
+pub overflow_add-place-in-columns : goal.overflow_add-place-in-columns
+overflow_add-place-in-columns g c =
+    let least = c.min-width.ensures in
+    let fit = block_fits c.each_block.block c.args.blocks c.args.step _ (omega arith) c.requires.whole in
+    omega (arith, fit, least)
+
+pub four-requires-clause-within : goal.four-requires-clause-within
+four-requires-clause-within g c =
+    let least = c.min-width.ensures in
+    let fit = block_fits c.each_block.block c.args.blocks c.args.step _ (omega arith) c.requires.whole in
+    let same = c.columns.auto.forms in
+    omega (arith, fit, least, same)
+
+pub each_block-preserved : goal.each_block-preserved
+each_block-preserved g c =
+    let m = g.R.Reducer.modulus c.args.r.now in
+    let number = g.T.RingWord.number in
+    let value = g.R.Reducer.value in
+    let h = c.args.step in
+    let p = c.each_block.block in
+    let column = c.strips.column in
+    let width = c.min-width.result in
+    let least = c.min-width.ensures in
+    let of = values number value m in
+    let ps = λ (j : ℕ). of c.fill.firsts (j - column) in
+    let qs = λ (j : ℕ). of c.fill.seconds (j - column) in
+    let ss = λ (j : ℕ). of c.fill.boths (j - column) in
+    let x = of c.strips.forms in
+    let y = of c.each_block.forms in
+    let z = of c.columns.forms in
+    let all : c.columns.k ≡ width = omega arith in
+    let here = subst (λ k. FoursDone m ps qs ss h p (p + 1) column (column + k) y z) all c.columns.invariant.done in
+    let count = c.columns.invariant.count in
+    record {
+      checked = c.columns.invariant.checked;
+      done = blocks_joined {m = m} {h = h} {a = 0} {b = p} {c = column} {d = column + width} {e = p + 1}
+          {p = ps} {q = qs} {s = ss} x y z (omega arith) (omega arith) (omega (arith, least))
+          c.each_block.invariant.done here;
+      count = omega (arith, count, all);
+    }
+
+pub strips-preserved : goal.strips-preserved
+strips-preserved g c =
+    let m = g.R.Reducer.modulus c.args.r.now in
+    let number = g.T.RingWord.number in
+    let value = g.R.Reducer.value in
+    let canonical = g.met.R.Reducer.canonical c.args.r.now in
+    let w = value m (number c.args.root.now) in
+    let v = value m (number c.args.square.now) in
+    let h = c.args.step in
+    let column = c.strips.column in
+    let width = c.min-width.result in
+    let least = c.min-width.ensures in
+    let of = values number value m in
+    let x = of c.args.forms.now in
+    let y = of c.strips.forms in
+    let z = of c.each_block.forms in
+    let before = c.strips.invariant in
+    let filled = c.fill.invariant in
+    let all : c.fill.i ≡ width = omega arith in
+    let upto = λ (P : ℕ → Type 0) (is : P c.fill.i). subst P all is in
+    let of_first = upto (λ n. (k : ℕ) → k < n → of c.fill.firsts k ≡ (value m (number c.strips.power) * w ^ k) % m)
+    filled.of_first in
+    let of_second = upto (λ n. (k : ℕ) → k < n → of c.fill.seconds k
+    ≡ (value m (number c.strips.turned_power) * w ^ k) % m) filled.of_second in
+    let of_both = upto (λ n. (k : ℕ) → k < n → of c.fill.boths k
+    ≡ (value m (number c.strips.square_power) * v ^ k) % m) filled.of_both in
+    let power = upto (λ n. Represents g.R.Reducer.form m (number c.fill.power)
+    ((value m (number c.strips.power) * w ^ n) % m)) filled.power in
+    let turned_power = upto (λ n. Represents g.R.Reducer.form m (number c.fill.turned_power)
+    ((value m (number c.strips.turned_power) * w ^ n) % m)) filled.turned in
+    let square_power = upto (λ n. Represents g.R.Reducer.form m (number c.fill.square_power)
+    ((value m (number c.strips.square_power) * v ^ n) % m)) filled.square in
+    let ps = λ (j : ℕ). of c.fill.firsts (j - column) in
+    let qs = λ (j : ℕ). of c.fill.seconds (j - column) in
+    let ss = λ (j : ℕ). of c.fill.boths (j - column) in
+    let blocks : c.each_block.block ≡ c.args.blocks = omega arith in
+    let strip = subst (λ b. FoursDone m ps qs ss h 0 b column (column + width) y z) blocks
+    c.each_block.invariant.done in
+    let turned = λ (i : ℕ) (l : column ≤ i) (b : i < column + width).
+    let e : (h + i) - (h + column) ≡ i - column = omega arith in
+    subst (λ j. Congruent m (of c.fill.seconds j) (w ^ (h + i))) e
+    (strip_power w (h + column) width (of c.fill.seconds) of_second before.turned (h + i)
+    (omega arith) (omega arith)) in
+    let by_root = done_by {p = ps} {q = qs} {s = ss} y z
+    (strip_power w column width (of c.fill.firsts) of_first before.power) turned
+    (strip_power v column width (of c.fill.boths) of_both before.square) strip in
+    let count = c.each_block.invariant.count in
+    let rows = ap (λ b. b * (4 * width)) blocks in
+    record {
+      checked = c.each_block.invariant.checked;
+      firsts = filled.firsts;
+      seconds = filled.seconds;
+      boths = filled.boths;
+      power_form = form_of_value canonical power;
+      turned_form = form_of_value canonical turned_power;
+      square_form = form_of_value canonical square_power;
+      power = strip_next w column width canonical power before.power;
+      turned = subst (λ e. Congruent m (value m (number c.fill.turned_power)) (w ^ e)) (omega arith)
+          (strip_next w (h + column) width canonical turned_power before.turned);
+      square = strip_next v column width canonical square_power before.square;
+      within = omega (arith, least);
+      done = columns_joined {m = m} {h = h} {a = 0} {b = c.args.blocks} {c = 0} {d = column} {e = column + width}
+          {p = λ i. w ^ i} {q = λ i. w ^ (h + i)} {s = λ i. v ^ i} x y z (omega arith) (omega arith)
+          (omega (arith, least)) before.done by_root;
+      count = omega (arith, count, rows);
+    }
+
+pub returns-clause-stages : goal.returns-clause-stages
+returns-clause-stages g c =
+    let m = g.R.Reducer.modulus c.args.r.now in
+    let number = g.T.RingWord.number in
+    let value = g.R.Reducer.value in
+    let w = value m (number c.args.root.now) in
+    let v = value m (number c.args.square.now) in
+    let h = c.args.step in
+    let x = values number value m c.args.forms.now in
+    let y = values number value m c.strips.forms in
+    let within = c.strips.invariant.within in
+    let e : c.strips.column ≡ h = omega arith in
+    two_stages_done m w v h c.args.blocks _ x y c.requires.whole
+    (λ k l. values_below number g.R.Reducer.form value m c.args.forms.now k c.requires.checked l)
+    (subst (λ d. FoursDone m (λ i. w ^ i) (λ i. w ^ (h + i)) (λ i. v ^ i) h 0 c.args.blocks 0 d x y) e
+    c.strips.invariant.done)
+
+pub fill-init : goal.fill-init
+fill-init g c =
+    let before = c.strips.invariant in
+    record {
+      firsts = before.firsts;
+      seconds = before.seconds;
+      boths = before.boths;
+      power = power_first _ before.power_form;
+      turned = power_first _ before.turned_form;
+      square = power_first _ before.square_form;
+      of_first = λ k l. absurd (omega arith);
+      of_second = λ k l. absurd (omega arith);
+      of_both = λ k l. absurd (omega arith);
+      count = let n = before.count in omega (arith, n);
+    }
+
+pub fill-preserved : goal.fill-preserved
+fill-preserved g c =
+    let m = g.R.Reducer.modulus c.args.r.now in
+    let form = g.R.Reducer.form in
+    let number = g.T.RingWord.number in
+    let value = g.R.Reducer.value in
+    let canonical = g.met.R.Reducer.canonical c.args.r.now in
+    let w = value m (number c.args.root.now) in
+    let v = value m (number c.args.square.now) in
+    let i = c.fill.i in
+    let before = c.fill.invariant in
+    let first = value m (number c.strips.power) in
+    let second = value m (number c.strips.turned_power) in
+    let both = value m (number c.strips.square_power) in
+    let at = λ (s u : ℕ). (s * u ^ i) % m in
+    let of_first = subst (λ f. Represents form m (number f) (at first w)) (sym c.advance.ensures.last) before.power in
+    let of_second = subst (λ f. Represents form m (number f) (at second w)) (sym c.advance-in-fill.ensures.last)
+    before.turned in
+    let of_both = subst (λ f. Represents form m (number f) (at both v)) (sym c.advance-in-fill-2.ensures.last)
+    before.square in
+    record {
+      firsts = forms_written number form value _ m c.fill.firsts i (at first w) c.advance.result canonical of_first
+          before.firsts;
+      seconds = forms_written number form value _ m c.fill.seconds i (at second w) c.advance-in-fill.result canonical
+          of_second before.seconds;
+      boths = forms_written number form value _ m c.fill.boths i (at both v) c.advance-in-fill-2.result canonical
+          of_both before.boths;
+      power = power_next first w i canonical before.power c.advance.ensures.next;
+      turned = power_next second w i canonical before.turned c.advance-in-fill.ensures.next;
+      square = power_next both v i canonical before.square c.advance-in-fill-2.ensures.next;
+      of_first = entry_done number value m c.fill.firsts i c.advance.result (λ k. (first * w ^ k) % m) (omega arith)
+          before.of_first (canonical.one_value _ _ of_first);
+      of_second = entry_done number value m c.fill.seconds i c.advance-in-fill.result (λ k. (second * w ^ k) % m)
+          (omega arith) before.of_second (canonical.one_value _ _ of_second);
+      of_both = entry_done number value m c.fill.boths i c.advance-in-fill-2.result (λ k. (both * v ^ k) % m)
+          (omega arith) before.of_both (canonical.one_value _ _ of_both);
+      count = let n = before.count in omega (arith, n);
+    }
+
+pub columns-preserved : goal.columns-preserved
+columns-preserved g c =
+    let m = g.R.Reducer.modulus c.args.r.now in
+    let number = g.T.RingWord.number in
+    let value = g.R.Reducer.value in
+    let h = c.args.step in
+    let p = c.each_block.block in
+    let k = c.columns.k in
+    let column = c.strips.column in
+    let i = column + k in
+    let of = values number value m in
+    let least = c.min-width.ensures in
+    let place : k ≡ i - column = omega arith in
+    let ps = λ (j : ℕ). of c.fill.firsts (j - column) in
+    let qs = λ (j : ℕ). of c.fill.seconds (j - column) in
+    let ss = λ (j : ℕ). of c.fill.boths (j - column) in
+    let x = of c.each_block.forms in
+    let y = of c.columns.forms in
+    let z = of c.four.new.forms in
+    let of_first = value_at number value m c.fill.firsts k c.index-firsts-k.result (omega (arith, least))
+    ∙ ap (of c.fill.firsts) place in
+    let of_second = value_at number value m c.fill.seconds k c.index-seconds-k.result (omega (arith, least))
+    ∙ ap (of c.fill.seconds) place in
+    let of_both = value_at number value m c.fill.boths k c.index-boths-k.result (omega (arith, least))
+    ∙ ap (of c.fill.boths) place in
+    let next : i + 1 ≡ column + (k + 1) = omega arith in
+    let one = one_done ps qs ss h p i y z (omega (arith, least)) (omega arith)
+    of_first of_second of_both c.four.ensures.done in
+    let joined = columns_joined {m = m} {h = h} {a = p} {b = p + 1} {c = column} {d = i} {e = i + 1}
+    {p = ps} {q = qs} {s = ss} x y z (omega arith) (omega arith) (omega (arith, least)) c.columns.invariant.done one in
+    record {
+      checked = c.four.ensures.checked;
+      done = subst (λ e. FoursDone m ps qs ss h p (p + 1) column e x z) next joined;
+      count = let n = c.columns.invariant.count in omega (arith, n);
+    }
+
+pub offset_bounds-firsts-i : goal.offset_bounds-firsts-i
+offset_bounds-firsts-i g c =
+    let least = c.min-width.ensures in
+    let fit = block_fits 0 c.args.blocks c.args.step _ c.requires.some c.requires.whole in
+    let same = c.strips.auto.forms in
+    let within : c.fill.i < length c.strips.forms = omega (arith, least, fit, same) in
+    search rules
+
+pub offset_bounds-firsts-k : goal.offset_bounds-firsts-k
+offset_bounds-firsts-k g c =
+    let least = c.min-width.ensures in
+    let fit = block_fits 0 c.args.blocks c.args.step _ c.requires.some c.requires.whole in
+    let same = c.columns.auto.forms in
+    let within : c.columns.k < length c.columns.forms = omega (arith, least, fit, same) in
+    search rules
+
+pub offset_bounds-seconds-i : goal.offset_bounds-seconds-i
+offset_bounds-seconds-i g c =
+    let least = c.min-width.ensures in
+    let fit = block_fits 0 c.args.blocks c.args.step _ c.requires.some c.requires.whole in
+    let same = c.strips.auto.forms in
+    let within : c.fill.i < length c.strips.forms = omega (arith, least, fit, same) in
+    search rules
+
+pub offset_bounds-seconds-k : goal.offset_bounds-seconds-k
+offset_bounds-seconds-k g c =
+    let least = c.min-width.ensures in
+    let fit = block_fits 0 c.args.blocks c.args.step _ c.requires.some c.requires.whole in
+    let same = c.columns.auto.forms in
+    let within : c.columns.k < length c.columns.forms = omega (arith, least, fit, same) in
+    search rules
+
+pub offset_bounds-boths-i : goal.offset_bounds-boths-i
+offset_bounds-boths-i g c =
+    let least = c.min-width.ensures in
+    let fit = block_fits 0 c.args.blocks c.args.step _ c.requires.some c.requires.whole in
+    let same = c.strips.auto.forms in
+    let within : c.fill.i < length c.strips.forms = omega (arith, least, fit, same) in
+    search rules
+
+pub offset_bounds-boths-k : goal.offset_bounds-boths-k
+offset_bounds-boths-k g c =
+    let least = c.min-width.ensures in
+    let fit = block_fits 0 c.args.blocks c.args.step _ c.requires.some c.requires.whole in
+    let same = c.columns.auto.forms in
+    let within : c.columns.k < length c.columns.forms = omega (arith, least, fit, same) in
+    search rules
+
+pub overflow_add-products-in-columns : goal.overflow_add-products-in-columns
+overflow_add-products-in-columns g c =
+    let least = c.min-width.ensures in
+    let count = c.columns.invariant.count in
+    let fit = four_fits c.strips.column c.min-width.result c.args.step c.each_block.block c.args.blocks _ (omega arith)
+    (omega (arith, least)) c.requires.whole in
+    omega (arith, count, fit)
+
+pub overflow_add-products : goal.overflow_add-products
+overflow_add-products g c =
+    let least = c.min-width.ensures in
+    let count = c.fill.invariant.count in
+    let fit = fours_fit c.strips.column c.min-width.result c.args.step c.args.blocks _
+    (omega (arith, least)) c.requires.whole c.requires.some in
+    omega (arith, count, fit)

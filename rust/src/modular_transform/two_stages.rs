@@ -1,0 +1,71 @@
+//! Two stages of a transform in one pass: each four values go through both while they are at hand.
+
+use crate::modular_transform::stage::{STRIP, advance, weighted_difference};
+use crate::modular_reduced::reducer::Reducer;
+use crate::modular_word::ring_word::RingWord;
+
+// The four values at a place and 1, 2 and 3 steps behind it: the pairs two steps apart by a power each,
+// and then the pairs one step apart by a third. It takes four products.
+fn four<T: RingWord, R: Reducer<T>>(
+    r: &R,
+    forms: &mut [T],
+    place: usize,
+    step: usize,
+    first: &T,
+    second: &T,
+    both: &T,
+) {
+    let a = forms[place];
+    let b = forms[place + step];
+    let c = forms[place + 2 * step];
+    let d = forms[place + 3 * step];
+    let left = r.add(&a, &c);
+    let right = r.add(&b, &d);
+    let left_turned = weighted_difference(r, &a, &c, first);
+    let right_turned = weighted_difference(r, &b, &d, second);
+    forms[place] = r.add(&left, &right);
+    forms[place + step] = weighted_difference(r, &left, &right, both);
+    forms[place + 2 * step] = r.add(&left_turned, &right_turned);
+    forms[place + 3 * step] = weighted_difference(r, &left_turned, &right_turned, both);
+}
+
+/// Two stages, the first with a root and 2·step columns, the second with its square and `step` columns.
+/// `turned` is the power `step` of the root. Answers how many products that took.
+pub fn two_stages<T: RingWord, R: Reducer<T>>(
+    r: &R,
+    forms: &mut [T],
+    step: usize,
+    blocks: usize,
+    root: &T,
+    square: &T,
+    turned: &T,
+) -> u128 {
+    let one = r.transform(T::one());
+    let mut power = one;
+    let mut turned_power = *turned;
+    let mut square_power = one;
+    let mut firsts = [one; STRIP];
+    let mut seconds = [one; STRIP];
+    let mut boths = [one; STRIP];
+    let mut column = 0;
+    let mut products = 0;
+    'strips: while column < step {
+        let width = STRIP.min(step - column);
+        'fill: for i in 0..width {
+            firsts[i] = advance(r, &mut power, root);
+            seconds[i] = advance(r, &mut turned_power, root);
+            boths[i] = advance(r, &mut square_power, square);
+            products += 3;
+        }
+        'each_block: for block in 0..blocks {
+            let place = block * (4 * step) + column;
+            'columns: for k in 0..width {
+                let (first, second, both) = (firsts[k], seconds[k], boths[k]);
+                four(r, forms, place + k, step, &first, &second, &both);
+                products += 4;
+            }
+        }
+        column += width;
+    }
+    products
+}
