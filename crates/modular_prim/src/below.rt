@@ -40,7 +40,11 @@ pub fn sub_below<T: PathWord>(a: T, b: T, m: T) -> T
     ensures value { T.number result ≡ residue (T.number m) (pos (T.number a) -ℤ pos (T.number b)) }
     ensures below { T.number result < T.number m }
 {
-    a.minus_modulo(b, m)
+    if a.is_below(b) {
+        m.minus(b.minus(a))
+    } else {
+        a.minus(b)
+    }
 }
 
 /// The residue of 2a. Condition: a is below m.

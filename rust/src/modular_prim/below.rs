@@ -26,7 +26,11 @@ pub fn add_below<T: PathWord>(a: T, b: T, m: T) -> T {
 /// The residue of a - b. Condition: both are below m.
 #[inline]
 pub fn sub_below<T: PathWord>(a: T, b: T, m: T) -> T {
-    a.minus_modulo(b, m)
+    if a.is_below(b) {
+        m.minus(b.minus(a))
+    } else {
+        a.minus(b)
+    }
 }
 
 /// The residue of 2a. Condition: a is below m.
