@@ -12,6 +12,8 @@ use modular_word::ring_word::RingWord;
 /// the divisor's top bit is set.
 ///
 /// Source: Möller and Granlund, "Improved division by invariant integers", section 3.
+// Inlined, compilers see that the quotient fits a word, forget that its high word is 0, and multiply by that too.
+#[inline(never)]
 pub fn invert_word<T: PlainWord>(d: T) -> T
     requires { T.base ≤ 2 * T.number d }
     ensures { IsReciprocal T.base (T.number d) (T.number result) }

@@ -9,7 +9,8 @@ use crate::modular_word::ring_word::RingWord;
 /// the divisor's top bit is set.
 ///
 /// Source: Möller and Granlund, "Improved division by invariant integers", section 3.
-#[inline]
+// Inlined, compilers see that the quotient fits a word, forget that its high word is 0, and multiply by that too.
+#[inline(never)]
 pub fn invert_word<T: PlainWord>(d: T) -> T {
     let greatest = ones::<T>(T::bits());
     // The divisor taken from the high word takes the base from the quotient, whose low word is the same; the quotient
