@@ -107,6 +107,24 @@ module _ {w b m s k i square : ℕ} (r : IsSplitRing w b m s k i square) where
       (odd.same_residue x k (high_value isg ez)))
       (low_word (op f g) et ∙ same (2 ^ s) f v g x (parts isf).low (parts isg).low) eh
 
+  -- the difference of the high parts is the high part of the difference
+  high_difference : {f g y z : ℕ} → Checked w m f → Checked w m g → y ≡ f / 2 ^ s → z ≡ g / 2 ^ s
+      → residue k (pos (montgomery_value w k y) -ℤ pos (montgomery_value w k z))
+      ≡ residue m (pos (split_value w m f) -ℤ pos (split_value w m g)) % k
+  high_difference {f} {g} {y} {z} isf isg ey ez =
+      let v = split_value w m f in
+      let x = split_value w m g in
+      let vy = montgomery_value w k y in
+      let vz = montgomery_value w k z in
+      let some = positive r.odd in
+      let d = residue m (pos v -ℤ pos x) in
+      let c = residue k (pos vy -ℤ pos vz) in
+      let back = by_parts (d + x) v (difference_and m v x (modulus_positive r)) in
+      let sum : (c + x) % k ≡ (d + x) % k =
+      same_sum k c c x vz refl (sym (odd.same_residue x k (high_value isg ez)))
+      ∙ difference_and k vy vz some ∙ odd.same_residue v k (high_value isf ey) ∙ sym back.0 in
+      sym (mod-eq_of_lt (odd.difference_below k vy vz some)) ∙ same_without k c d x some sum
+
   -- the difference of two forms
   pub difference_made : (t : ℕ) {f g y z u h : ℕ} → Checked w m f → Checked w m g → y ≡ f / 2 ^ s → z ≡ g / 2 ^ s
       → odd.Stands w k u (residue k (pos (montgomery_value w k y) -ℤ pos (montgomery_value w k z)))
@@ -115,21 +133,30 @@ module _ {w b m s k i square : ℕ} (r : IsSplitRing w b m s k i square) where
   difference_made t {f} {g} {y} {z} {u} {h} isf isg ey ez eu et eh =
       let v = split_value w m f in
       let x = split_value w m g in
-      let vy = montgomery_value w k y in
-      let vz = montgomery_value w k z in
-      let some = positive r.odd in
       let d = residue m (pos v -ℤ pos x) in
-      let c = residue k (pos vy -ℤ pos vz) in
       let less = odd.difference_below m v x (modulus_positive r) in
       let back = by_parts (d + x) v (difference_and m v x (modulus_positive r)) in
-      let high_sum : (c + x) % k ≡ (d + x) % k =
-      same_sum k c c x vz refl (sym (odd.same_residue x k (high_value isg ez)))
-      ∙ difference_and k vy vz some ∙ odd.same_residue v k (high_value isf ey) ∙ sym back.0 in
-      let high : c ≡ d % k =
-      sym (mod-eq_of_lt (odd.difference_below k vy vz some)) ∙ same_without k c d x some high_sum in
       let low_sum : (t + x) % 2 ^ s ≡ (d + x) % 2 ^ s =
       same_sum (2 ^ s) t t x g refl (sym (parts isg).low) ∙ et ∙ (parts isf).low ∙ sym back.1 in
-      subst (Made w m h) (mod-eq_of_lt less) (made d t eu high (same_without (2 ^ s) t d x (pow_pos s) low_sum) eh)
+      subst (Made w m h) (mod-eq_of_lt less)
+      (made d t eu (high_difference isf isg ey ez) (same_without (2 ^ s) t d x (pow_pos s) low_sum) eh)
+
+  -- the difference of two forms times a third
+  pub difference_product_made : (t : ℕ) {f g e y z a u h : ℕ} → Checked w m f → Checked w m g → Checked w m e
+      → y ≡ f / 2 ^ s → z ≡ g / 2 ^ s → a ≡ e / 2 ^ s
+      → odd.Stands w k u ((residue k (pos (montgomery_value w k y) -ℤ pos (montgomery_value w k z))
+      * montgomery_value w k a) % k)
+      → t % 2 ^ s
+      ≡ (residue m (pos (split_value w m f) -ℤ pos (split_value w m g)) * split_value w m e) % 2 ^ s
+      → h ≡ u * 2 ^ s + t % 2 ^ s
+      → Made w m h ((residue m (pos (split_value w m f) -ℤ pos (split_value w m g)) * split_value w m e) % m)
+  difference_product_made t {f} {g} {e} {y} {z} {a} isf isg ise ey ez ea eu et eh =
+      let d = residue m (pos (split_value w m f) -ℤ pos (split_value w m g)) in
+      let c = residue k (pos (montgomery_value w k y) -ℤ pos (montgomery_value w k z)) in
+      made (d * split_value w m e) t eu
+      (same_product k c d (montgomery_value w k a) (split_value w m e)
+      (odd.same_residue d k (high_difference isf isg ey ez)) (odd.same_residue (split_value w m e) k (high_value ise ea)))
+      et eh
 
   -- a number below the odd part, and fewer than 2^s times the odd part, are below the modulus
   pub turns_below : (x : ℕ) {u steps : ℕ} → u < k → steps ≡ x % 2 ^ s → u + k * steps < m

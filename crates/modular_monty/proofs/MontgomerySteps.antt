@@ -124,6 +124,16 @@ module _ {w b m i square : ℕ} (r : IsOddRing w b m i square) where
       subst (Made w m h) (mod-eq_of_lt (difference_below m v x some))
       (made d (sym (mod-eq_of_lt hh) ∙ same_without m h (d * b) (x * b) some sum))
 
+  -- and the reduction of its product with a form is the form of the product
+  pub difference_product_made : {f g d x t h : ℕ} → Checked w m f → Checked w m g → d ≡ residue m (pos f -ℤ pos g)
+      → Checked w m x → t ≡ d * x → IsReduction b m t h
+      → Made w m h ((residue m (pos (montgomery_value w m f) -ℤ pos (montgomery_value w m g))
+      * montgomery_value w m x) % m)
+  difference_product_made {f} {g} {d} {x} {t} {h} isf isg ed isx et is =
+      let difference = difference_made isf isg ed in
+      subst (λ v. Made w m h ((v * montgomery_value w m x) % m)) difference.value
+      (product_made difference.checked isx et is)
+
   -- the square of the base is below the modulus
   pub square_below : square < m
   square_below = omega (arith, r.is_square, mod-lt (b * b) (positive r))

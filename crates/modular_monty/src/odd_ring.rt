@@ -7,7 +7,7 @@ ghost use Rattle.modular_monty.specs.Montgomery.{montgomery_form, montgomery_val
 ghost use Rattle.modular_monty.specs.MontgomeryLaws.{montgomery_canonical};
 
 use crate::neg_mod_inv::neginv;
-use modular_prim::below::{add_below, dbl_below, neg_below, sub_below};
+use modular_prim::below::{add_below, branchless_sub_below, dbl_below, neg_below, sub_below};
 use modular_prim::euclid::invm;
 use modular_prim::plain_word::PlainWord;
 use modular_reduced::reducer::Reducer;
@@ -178,6 +178,11 @@ impl<T: PlainWord, M: OddModulus<T>> Reducer<T> for OddRing<T, M> {
 
     fn mul(&self, a: &T, b: &T) -> T {
         self.kept.reduced(a.product(*b))
+    }
+
+    fn mul_difference(&self, a: &T, b: &T, factor: &T) -> T {
+        let difference = branchless_sub_below(*a, *b, self.kept.modulus());
+        self.kept.reduced(difference.product(*factor))
     }
 
     // Through the value: its inverse by Euclid's algorithm, and the form of that.

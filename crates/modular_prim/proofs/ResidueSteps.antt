@@ -6,7 +6,7 @@ use Rattle.std.proofs.lemmas.Bool.{cases_lt}
 use Rattle.std.proofs.lemmas.Int.{ints}
 use Rattle.modular_word.specs.Residues.{residue}
 use Rattle.modular_word.proofs.Congruence.{mod_cancel}
-use Rattle.modular_word.proofs.ResidueLemmas.{residue_is, difference_and}
+use Rattle.modular_word.proofs.ResidueLemmas.{residue_is, residue_neg, difference_and}
 
 -- the residue of a negative, by the remainder of the number
 pub neg_value : (m n : ℕ) → 0 < m → residue m (neg_ℤ (pos n)) ≡ (m - n % m) % m
@@ -67,6 +67,18 @@ pub sub_of_less : (m a b d : ℕ) → d + a ≡ b → residue m (neg_ℤ (pos d)
 sub_of_less m a b d e =
     let f : neg_ℤ (pos d) ≡ pos a -ℤ pos b = omega (arith, ints) in
     ap (residue m) f
+
+-- where a is below b, m less the difference is left
+pub difference_below : (m a b d r : ℕ) → b < m → a < b → d + a ≡ b → r + d ≡ m → r ≡ residue m (pos a -ℤ pos b)
+difference_below m a b d r h k e f =
+    let u : r ≡ m - d = omega arith in
+    u ∙ sym (residue_neg m d (omega arith) (omega arith)) ∙ sub_of_less m a b d e
+
+-- elsewhere the difference itself
+pub difference_above : (m a b r : ℕ) → a < m → r + b ≡ a → r ≡ residue m (pos a -ℤ pos b)
+difference_above m a b r h e =
+    let f : pos r ≡ pos a -ℤ pos b = omega (arith, ints) in
+    sym (mod-eq_of_lt (let k : r < m = omega arith in k)) ∙ ap (residue m) f
 
 -- the difference of two remainders has the residue of the difference
 pub sub_of_rests : (m a b : ℕ) → 0 < m → residue m (pos (a % m) -ℤ pos (b % m)) ≡ residue m (pos a -ℤ pos b)

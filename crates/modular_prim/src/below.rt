@@ -47,6 +47,17 @@ pub fn sub_below<T: PathWord>(a: T, b: T, m: T) -> T
     }
 }
 
+/// The residue of a - b, as `sub_below` has it, of long words without a branch: a step that needs it waits longer, but
+/// no guess goes wrong where either number may be the greater. Condition: both are below m.
+pub fn branchless_sub_below<T: PathWord>(a: T, b: T, m: T) -> T
+    requires left { T.number a < T.number m }
+    requires right { T.number b < T.number m }
+    ensures value { T.number result ≡ residue (T.number m) (pos (T.number a) -ℤ pos (T.number b)) }
+    ensures below { T.number result < T.number m }
+{
+    a.minus_modulo(b, m)
+}
+
 /// The residue of 2a. Condition: a is below m.
 pub fn dbl_below<T: PathWord>(a: T, m: T) -> T
     requires { T.number a < T.number m }

@@ -144,6 +144,28 @@ pub trait Reducer<T: RingWord> {
         *a = self.mul(a, b);
     }
 
+    /// The form of (a - b) times a factor modulo m: the answer of `mul` on that of `sub`.
+    ///
+    /// A reducer may have it faster than by the two calls where it can't be foretold which of a and b is the
+    /// greater, as in the butterflies of a transform.
+    fn mul_difference(&self, a: &T, b: &T, factor: &T) -> T
+        requires left { IsForm form value (modulus self.now) (T.number a.now) }
+        requires right { IsForm form value (modulus self.now) (T.number b.now) }
+        requires factor { IsForm form value (modulus self.now) (T.number factor.now) }
+        ensures form { let m = modulus self.now in
+            Represents form m (T.number result)
+            ((residue m (pos (value m (T.number a.now)) -ℤ pos (value m (T.number b.now)))
+            * value m (T.number factor.now)) % m) }
+        ensures checked { IsForm form value (modulus self.now) (T.number result) }
+        ensures value { let m = modulus self.now in
+            value m (T.number result)
+            ≡ (residue m (pos (value m (T.number a.now)) -ℤ pos (value m (T.number b.now)))
+            * value m (T.number factor.now)) % m }
+    {
+        let difference = self.sub(a, b);
+        self.mul(&difference, factor)
+    }
+
     /// The form of the inverse modulo m; `None` exactly where there is none.
     fn inv(&self, f: T) -> Option<T>
         requires { IsForm form value (modulus self.now) (T.number f) }

@@ -1,7 +1,6 @@
 //! One stage of a transform in place: the sums and differences of pairs, by strips of columns.
 
-ghost use Rattle.std.specs.Prelude.{◌≡◌, ◌+◌, ◌*◌, ◌%◌, ◌<◌, All, length, pos, ◌-ℤ◌, slice_index};
-ghost use Rattle.modular_word.specs.Residues.{residue};
+ghost use Rattle.std.specs.Prelude.{◌≡◌, ◌+◌, ◌*◌, ◌%◌, ◌<◌, All, length, slice_index};
 ghost use Rattle.modular_reduced.specs.Forms.{Represents, IsForm};
 ghost use Rattle.modular_reduced.specs.Values.{values_of};
 ghost use Rattle.modular_transform.specs.Stages.{PairDone, IsStage};
@@ -12,20 +11,6 @@ use modular_word::ring_word::RingWord;
 /// How many columns are taken together: their powers stand on the stack, and in each block their
 /// pairs are neighbours in memory.
 pub const STRIP: usize = 128;
-
-/// A difference times a power. It takes one product.
-pub fn weighted_difference<T: RingWord, R: Reducer<T>>(r: &R, a: &T, b: &T, power: &T) -> T
-    requires left { IsForm R.form R.value (R.modulus r.now) (T.number a.now) }
-    requires right { IsForm R.form R.value (R.modulus r.now) (T.number b.now) }
-    requires power { IsForm R.form R.value (R.modulus r.now) (T.number power.now) }
-    ensures { let m = R.modulus r.now in
-        Represents R.form m (T.number result)
-        ((residue m (pos (R.value m (T.number a.now)) -ℤ pos (R.value m (T.number b.now)))
-        * R.value m (T.number power.now)) % m) }
-{
-    let difference = r.sub(a, b);
-    r.mul(&difference, power)
-}
 
 // The pair at two places: its sum, and its difference times a power. It takes one product.
 fn pair<T: RingWord, R: Reducer<T>>(r: &R, forms: &mut [T], first: usize, second: usize, power: &T)
@@ -40,7 +25,7 @@ fn pair<T: RingWord, R: Reducer<T>>(r: &R, forms: &mut [T], first: usize, second
 {
     let a = forms[first];
     let b = forms[second];
-    forms[second] = weighted_difference(r, &a, &b, power);
+    forms[second] = r.mul_difference(&a, &b, power);
     forms[first] = r.add(&a, &b);
 }
 

@@ -6,7 +6,7 @@ ghost use Rattle.modular_reduced.specs.Forms.{IsForm};
 ghost use Rattle.modular_reduced.specs.Values.{values_of};
 ghost use Rattle.modular_transform.specs.Stages.{FourDone, IsTwoStages};
 
-use crate::stage::{STRIP, advance, weighted_difference};
+use crate::stage::{STRIP, advance};
 use modular_reduced::reducer::Reducer;
 use modular_word::ring_word::RingWord;
 
@@ -38,12 +38,12 @@ fn four<T: RingWord, R: Reducer<T>>(
     let d = forms[place + 3 * step];
     let left = r.add(&a, &c);
     let right = r.add(&b, &d);
-    let left_turned = weighted_difference(r, &a, &c, first);
-    let right_turned = weighted_difference(r, &b, &d, second);
+    let left_turned = r.mul_difference(&a, &c, first);
+    let right_turned = r.mul_difference(&b, &d, second);
     forms[place] = r.add(&left, &right);
-    forms[place + step] = weighted_difference(r, &left, &right, both);
+    forms[place + step] = r.mul_difference(&left, &right, both);
     forms[place + 2 * step] = r.add(&left_turned, &right_turned);
-    forms[place + 3 * step] = weighted_difference(r, &left_turned, &right_turned, both);
+    forms[place + 3 * step] = r.mul_difference(&left_turned, &right_turned, both);
 }
 
 /// Two stages, the first with a root and 2·step columns, the second with its square and `step` columns.

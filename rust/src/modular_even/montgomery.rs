@@ -158,6 +158,15 @@ impl<T: PlainWord> Reducer<T> for Montgomery<T> {
         self.join(high, a.wrapping_mul(*b))
     }
 
+    #[inline]
+    fn mul_difference(&self, a: &T, b: &T, factor: &T) -> T {
+        if self.twos == 0 {
+            return self.odd.mul_difference(a, b, factor);
+        }
+        let difference = self.sub(a, b);
+        self.mul(&difference, factor)
+    }
+
     // Through the value: its inverse by Euclid's algorithm, and the form of that.
     #[inline]
     fn inv(&self, f: T) -> Option<T> {

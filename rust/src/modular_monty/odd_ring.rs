@@ -2,7 +2,7 @@
 //! of a reducer once, over whatever knows an odd modulus and reduces by it.
 
 use crate::modular_monty::neg_mod_inv::neginv;
-use crate::modular_prim::below::{add_below, dbl_below, neg_below, sub_below};
+use crate::modular_prim::below::{add_below, branchless_sub_below, dbl_below, neg_below, sub_below};
 use crate::modular_prim::euclid::invm;
 use crate::modular_prim::plain_word::PlainWord;
 use crate::modular_reduced::reducer::Reducer;
@@ -145,6 +145,12 @@ impl<T: PlainWord, M: OddModulus<T>> Reducer<T> for OddRing<T, M> {
     #[inline]
     fn mul(&self, a: &T, b: &T) -> T {
         self.kept.reduced(a.product(*b))
+    }
+
+    #[inline]
+    fn mul_difference(&self, a: &T, b: &T, factor: &T) -> T {
+        let difference = branchless_sub_below(*a, *b, self.kept.modulus());
+        self.kept.reduced(difference.product(*factor))
     }
 
     // Through the value: its inverse by Euclid's algorithm, and the form of that.

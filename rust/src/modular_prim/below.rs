@@ -33,6 +33,13 @@ pub fn sub_below<T: PathWord>(a: T, b: T, m: T) -> T {
     }
 }
 
+/// The residue of a - b, as `sub_below` has it, of long words without a branch: a step that needs it waits longer, but
+/// no guess goes wrong where either number may be the greater. Condition: both are below m.
+#[inline]
+pub fn branchless_sub_below<T: PathWord>(a: T, b: T, m: T) -> T {
+    a.minus_modulo(b, m)
+}
+
 /// The residue of 2a. Condition: a is below m.
 #[inline]
 pub fn dbl_below<T: PathWord>(a: T, m: T) -> T {

@@ -60,6 +60,16 @@ pub trait Reducer<T: RingWord>: Sized {
         *a = self.mul(a, b);
     }
 
+    /// The form of (a - b) times a factor modulo m: the answer of `mul` on that of `sub`.
+    ///
+    /// A reducer may have it faster than by the two calls where it can't be foretold which of a and b is the
+    /// greater, as in the butterflies of a transform.
+    #[inline]
+    fn mul_difference(&self, a: &T, b: &T, factor: &T) -> T {
+        let difference = self.sub(a, b);
+        self.mul(&difference, factor)
+    }
+
     /// The form of the inverse modulo m; `None` exactly where there is none.
     fn inv(&self, f: T) -> Option<T>;
 

@@ -7,19 +7,12 @@ use crate::modular_word::ring_word::RingWord;
 /// pairs are neighbours in memory.
 pub const STRIP: usize = 128;
 
-/// A difference times a power. It takes one product.
-#[inline]
-pub fn weighted_difference<T: RingWord, R: Reducer<T>>(r: &R, a: &T, b: &T, power: &T) -> T {
-    let difference = r.sub(a, b);
-    r.mul(&difference, power)
-}
-
 // The pair at two places: its sum, and its difference times a power. It takes one product.
 #[inline]
 fn pair<T: RingWord, R: Reducer<T>>(r: &R, forms: &mut [T], first: usize, second: usize, power: &T) {
     let a = forms[first];
     let b = forms[second];
-    forms[second] = weighted_difference(r, &a, &b, power);
+    forms[second] = r.mul_difference(&a, &b, power);
     forms[first] = r.add(&a, &b);
 }
 

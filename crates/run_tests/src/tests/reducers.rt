@@ -117,6 +117,13 @@ fn differences<R: Reducer<u8>>(reducer: &R, a: u8, b: u8) -> [u8; 2] {
     ]
 }
 
+// That of (a - b) * a.
+fn product_of_difference<T: RingWord, R: Reducer<T>>(reducer: &R, a: T, b: T) -> T {
+    let f = reducer.transform(a);
+    let g = reducer.transform(b);
+    reducer.residue(reducer.mul_difference(&f, &g, &f))
+}
+
 // That of a * b.
 fn products<R: Reducer<u8>>(reducer: &R, a: u8, b: u8) -> [u8; 2] {
     let f = reducer.transform(a);
@@ -186,4 +193,13 @@ fn each_call_of_a_reducer(rt: HostRuntime) {
                 (21, 21, 21)
             )
     );
+}
+
+#[test]
+fn a_difference_times_a_factor(rt: HostRuntime) {
+    assert!(rt; product_of_difference(&PreMulInv2by1::<u8>::new(21), 5, 7) == 11);
+    assert!(rt; product_of_difference(&Montgomery::<u8>::new(21), 5, 7) == 11);
+    assert!(rt; product_of_difference(&Montgomery::<u8>::new(20), 5, 7) == 10);
+    assert!(rt; product_of_difference(&Montgomery::<u64>::new(u64::MAX), 5, 7) == u64::MAX - 10);
+    assert!(rt; product_of_difference(&Montgomery::<u64>::new(u64::MAX), 7, 5) == 14);
 }

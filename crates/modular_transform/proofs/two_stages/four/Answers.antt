@@ -4,17 +4,17 @@ use Rattle.modular_transform.proofs.two_stages.four.Goals as goal
 pub returns-clause-checked : goal.returns-clause-checked
 returns-clause-checked g c = four_checked g.T.RingWord.number g.R.Reducer.form g.R.Reducer.value _ _ c.args.forms.now
     c.args.place c.args.step _ _ _ _ (g.met.R.Reducer.canonical c.args.r.now) c.requires.checked
-    c.add.ensures.form c.weighted_difference.ensures c.add-2.ensures.form c.weighted_difference-2.ensures
+    c.add.ensures.form c.mul_difference.ensures.form c.add-2.ensures.form c.mul_difference-2.ensures.form
 
 pub returns-clause-done : goal.returns-clause-done
 returns-clause-done g c =
     four_written g.T.RingWord.number g.R.Reducer.form g.R.Reducer.value _ _ c.args.place c.args.step _ _ _
     c.args.forms.now c.index-forms-place.result c.index-forms-place-2.result c.index-forms-place-3.result
-    c.index-forms-place-4.result c.add-left.result c.add-right.result c.weighted_difference-left_turned.result
-    c.weighted_difference-right_turned.result c.add.result c.weighted_difference.result c.add-2.result
-    c.weighted_difference-2.result
+    c.index-forms-place-4.result c.add-left.result c.add-right.result c.mul_difference-left_turned.result
+    c.mul_difference-right_turned.result c.add.result c.mul_difference.result c.add-2.result
+    c.mul_difference-2.result
     (g.met.R.Reducer.canonical c.args.r.now) c.requires.checked c.requires.some c.requires.within
     c.index-forms-place.is c.index-forms-place-2.is c.index-forms-place-3.is c.index-forms-place-4.is
-    c.add-left.ensures.form c.add-right.ensures.form c.weighted_difference-left_turned.ensures
-    c.weighted_difference-right_turned.ensures c.add.ensures.form c.weighted_difference.ensures c.add-2.ensures.form
-    c.weighted_difference-2.ensures
+    c.add-left.ensures.form c.add-right.ensures.form c.mul_difference-left_turned.ensures.form
+    c.mul_difference-right_turned.ensures.form c.add.ensures.form c.mul_difference.ensures.form c.add-2.ensures.form
+    c.mul_difference-2.ensures.form

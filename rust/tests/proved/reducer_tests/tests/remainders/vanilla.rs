@@ -23,8 +23,8 @@ fn added<T: RingWord, R: Reducer<T>>(r: &R, a: T, b: T) -> [T; 3] {
     ]
 }
 
-// Those of a difference, of one in place, and of a negative.
-fn subtracted<T: RingWord, R: Reducer<T>>(r: &R, a: T, b: T) -> [T; 3] {
+// Those of a difference, of one in place, of a negative, and of a difference times a factor.
+fn subtracted<T: RingWord, R: Reducer<T>>(r: &R, a: T, b: T) -> [T; 4] {
     let f = r.transform(a);
     let g = r.transform(b);
     let mut difference = f;
@@ -33,6 +33,7 @@ fn subtracted<T: RingWord, R: Reducer<T>>(r: &R, a: T, b: T) -> [T; 3] {
         r.residue(r.sub(&f, &g)),
         r.residue(difference),
         r.residue(r.neg(f)),
+        r.residue(r.mul_difference(&f, &g, &f)),
     ]
 }
 
@@ -67,7 +68,7 @@ fn exercise<T: RingWord, R: Reducer<T> + Copy>(
     a: T,
     b: T,
     exp: T,
-) -> (T, [T; 3], [T; 3], [T; 4], [Option<T>; 2], [bool; 4]) {
+) -> (T, [T; 3], [T; 4], [T; 4], [Option<T>; 2], [bool; 4]) {
     let r = R::new(&m);
     (
         r.modulus(),
@@ -84,9 +85,10 @@ macro_rules! at_greatest_modulus {
         let m = <$word>::MAX;
         let got = exercise::<$word, Vanilla<$word>>(m, m - 1, m - 2, 3);
         let added = [m - 3, m - 3, m - 2];
+        let subtracted = [1, 1, 1, m - 1];
         let inverses = [Some(m - 1), Some(m / 2)];
         let tests = [true, false, false, true];
-        assert!(got == (m, added, [1; 3], [2, 2, 1, m - 1], inverses, tests));
+        assert!(got == (m, added, subtracted, [2, 2, 1, m - 1], inverses, tests));
     };
 }
 
@@ -109,7 +111,7 @@ fn without_an_inverse() {
         got == (
             21,
             [12, 12, 10],
-            [19, 19, 16],
+            [19, 19, 16, 11],
             [14, 14, 4, 1],
             inverses,
             tests
@@ -121,7 +123,7 @@ fn without_an_inverse() {
 fn of_modulus_one() {
     let got = exercise::<u8, Vanilla<u8>>(1, 255, 0, 0);
     let tests = [true, false, true, true];
-    assert!(got == (1, [0; 3], [0; 3], [0; 4], [Some(0); 2], tests));
+    assert!(got == (1, [0; 3], [0; 4], [0; 4], [Some(0); 2], tests));
 }
 
 // An exponent, the power of 5 modulo 21 and the number of products.
