@@ -51,6 +51,3 @@ pub fn residue_by_run<R: Reducer<u64>>(r: &R, n: u64) -> u64 {
     let _ = run(r, &mut regs, &[RingCommand::Load { dst: 2, n }]);
     r.residue(regs[2])
 }
-
-#[cfg(test)]
-mod tests;

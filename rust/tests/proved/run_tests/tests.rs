@@ -1,5 +1,6 @@
 //! Runs of commands, and what the program prints and answers.
 
+mod callers;
 mod commands;
 mod edges;
 mod fixed;

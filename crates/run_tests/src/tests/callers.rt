@@ -1,7 +1,8 @@
-//! The callers over plain reducers.
+//! The callers of `run` over plain reducers.
 
-use super::*;
-use modular_reduced::vanilla::Vanilla;
+use num_modular::ring::{RingCommand, RunEnd};
+use num_modular::{Reducer, Vanilla};
+use run_callers::{checked_run, residue_by_run, run_both, run_to_the_end};
 use std::test::Fail;
 
 #[test]
