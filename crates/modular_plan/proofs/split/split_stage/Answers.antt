@@ -2,8 +2,14 @@ use Rattle.std.proofs.Common.{◌+◌, ◌*◌, ◌<◌, length, ◌∙◌, arit
 use Rattle.modular_plan.specs.Plans.{numbers}
 use Rattle.modular_plan.specs.Steps.{IsPairSplit, BlockDone}
 use Rattle.modular_plan.proofs.Entries.{number_read}
-use Rattle.modular_plan.proofs.Steps.{stage_more, stage_all}
+use Rattle.modular_plan.proofs.Steps.{stage_none, stage_more, stage_all}
 use Rattle.modular_plan.proofs.split.split_stage.Goals as goal
+
+pub each_block-init : goal.each_block-init
+each_block-init g c = record {
+  entries = c.requires.entries;
+  done = stage_none _ c.args.half _;
+}
 
 pub each_block-preserved : goal.each_block-preserved
 each_block-preserved g c =

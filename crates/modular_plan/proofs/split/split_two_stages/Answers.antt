@@ -2,8 +2,11 @@ use Rattle.std.proofs.Common.{ℕ, ◌+◌, ◌*◌, ◌∙◌, arith, subst}
 use Rattle.modular_plan.specs.Plans.{numbers}
 use Rattle.modular_plan.specs.Steps.{IsFourSplit, BlockOfFours}
 use Rattle.modular_plan.proofs.Entries.{number_read}
-use Rattle.modular_plan.proofs.Fours.{stage_of_fours_more, stage_of_fours_all}
+use Rattle.modular_plan.proofs.Fours.{stage_of_fours_none, stage_of_fours_more, stage_of_fours_all}
 use Rattle.modular_plan.proofs.split.split_two_stages.Goals as goal
+
+pub four_quarters-init : goal.four_quarters-init
+four_quarters-init g c = record { entries = c.requires.entries; done = stage_of_fours_none _ c.args.q _ }
 
 pub four_quarters-preserved : goal.four_quarters-preserved
 four_quarters-preserved g c =
