@@ -1,4 +1,5 @@
-use Rattle.std.proofs.Common.{◌+◌, ◌*◌, ◌<◌, length, ◌∙◌, arith, subst}
+use Rattle.std.proofs.Common.{◌+◌, ◌*◌, ◌<◌, ◌≤◌, length, ◌∙◌, arith, subst}
+use Rattle.std.proofs.Math.Nat.{mul-le-mul_right}
 use Rattle.modular_plan.specs.Plans.{numbers}
 use Rattle.modular_plan.specs.Steps.{IsPairSplit, BlockDone}
 use Rattle.modular_plan.proofs.Entries.{number_read}
@@ -10,6 +11,12 @@ each_block-init g c = record {
   entries = c.requires.entries;
   done = stage_none _ c.args.half _;
 }
+
+pub split_block-requires-clause-within : goal.split_block-requires-clause-within
+split_block-requires-clause-within g c =
+    let half = c.args.half in
+    let room = mul-le-mul_right (half + half) (let l : c.each_block.p + 1 ≤ c.args.blocks = omega arith in l) in
+    omega (arith, room)
 
 pub each_block-preserved : goal.each_block-preserved
 each_block-preserved g c =

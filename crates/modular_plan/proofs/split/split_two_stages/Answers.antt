@@ -1,4 +1,5 @@
-use Rattle.std.proofs.Common.{ℕ, ◌+◌, ◌*◌, ◌∙◌, arith, subst}
+use Rattle.std.proofs.Common.{ℕ, ◌+◌, ◌*◌, ◌≤◌, ◌∙◌, arith, subst}
+use Rattle.std.proofs.Math.Nat.{mul-le-mul_right}
 use Rattle.modular_plan.specs.Plans.{numbers}
 use Rattle.modular_plan.specs.Steps.{IsFourSplit, BlockOfFours}
 use Rattle.modular_plan.proofs.Entries.{number_read}
@@ -7,6 +8,12 @@ use Rattle.modular_plan.proofs.split.split_two_stages.Goals as goal
 
 pub four_quarters-init : goal.four_quarters-init
 four_quarters-init g c = record { entries = c.requires.entries; done = stage_of_fours_none _ c.args.q _ }
+
+pub split_quarters-requires-clause-within : goal.split_quarters-requires-clause-within
+split_quarters-requires-clause-within g c =
+    let q = c.args.q in
+    let room = mul-le-mul_right (q + q + (q + q)) (let l : c.four_quarters.p + 1 ≤ c.args.blocks = omega arith in l) in
+    omega (arith, room)
 
 pub four_quarters-preserved : goal.four_quarters-preserved
 four_quarters-preserved g c =
