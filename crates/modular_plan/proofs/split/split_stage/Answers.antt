@@ -12,6 +12,18 @@ each_block-init g c = record {
   done = stage_none _ c.args.half _;
 }
 
+pub overflow_add-half : goal.overflow_add-half
+overflow_add-half g c =
+    let half = c.args.half in
+    let room = mul-le-mul_right (half + half) (let l : c.each_block.p + 1 ≤ c.args.blocks = omega arith in l) in
+    omega (arith, room)
+
+pub overflow_mul-p : goal.overflow_mul-p
+overflow_mul-p g c =
+    let half = c.args.half in
+    let room = mul-le-mul_right (half + half) (let l : c.each_block.p + 1 ≤ c.args.blocks = omega arith in l) in
+    omega (arith, room)
+
 pub split_block-requires-clause-within : goal.split_block-requires-clause-within
 split_block-requires-clause-within g c =
     let half = c.args.half in
