@@ -6,19 +6,6 @@ use Rattle.modular_plan.proofs.Fours.{all_set, four_along}
 use Rattle.modular_plan.proofs.Quarters.{columns_more}
 use Rattle.modular_plan.proofs.split.split_columns.Goals as goal
 
-pub columns-init : goal.columns-init
-columns-init g c = record {
-  first = c.requires.first;
-  second = c.requires.second;
-  third = c.requires.third;
-  fourth = c.requires.fourth;
-  done = λ k l. absurd (omega arith);
-  first_kept = λ k l. refl;
-  second_kept = λ k l. refl;
-  third_kept = λ k l. refl;
-  fourth_kept = λ k l. refl;
-}
-
 pub columns-preserved : goal.columns-preserved
 columns-preserved g c =
     let n = g.T.RingWord.number in
