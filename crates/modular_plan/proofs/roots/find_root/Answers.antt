@@ -13,6 +13,13 @@ returns-then-not-is_power_of_two g c =
 pub exponent-exponent-requires : goal.exponent-exponent-requires
 exponent-exponent-requires g c = (power_of_two_tested c.args.n).0 cc
 
+pub bases-init : goal.bases-init
+bases-init g c = record {
+  form = c.transform-one.ensures.checked;
+  base = c.transform-one.ensures.value ∙ ap (λ v. v % g.R.Reducer.modulus c.args.r.now) c.one.ensures;
+  tried = λ y low high suits. absurd (omega (arith, low, high));
+}
+
 -- the root by x, the number that is tried
 tried : (m x e one base power v k : ℕ) → 2 ≤ x → base ≡ (x - 1) % m → one ≡ 1 % m → v ≡ (base + one) % m → k ≡ e
     → power ≡ v ^ k % m → power ≡ x ^ e % m
@@ -59,3 +66,6 @@ bases-preserved g c =
         | inr other ↦ c.bases.invariant.tried y low (omega (arith, high, other)) suits
       ];
     }
+
+pub returns : goal.returns
+returns g c = λ x from below suits. c.bases.invariant.tried x from (omega (arith, below)) suits

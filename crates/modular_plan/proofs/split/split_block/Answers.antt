@@ -1,4 +1,5 @@
-use Rattle.std.proofs.Common.{arith}
+use Rattle.std.proofs.Common.{◌+◌, arith, refl}
+use Rattle.modular_plan.proofs.Entries.{never_beyond}
 use Rattle.modular_plan.proofs.Steps.{block_none, block_more, block_all}
 use Rattle.modular_plan.proofs.split.split_block.Goals as goal
 
@@ -20,3 +21,9 @@ returns g c = record {
   entries = c.columns.invariant.entries;
   done = block_all c.columns.invariant.done (omega arith);
 }
+
+pub returns-then-is_beyond-clause-done : goal.returns-then-is_beyond-clause-done
+returns-then-is_beyond-clause-done g c =
+    never_beyond g.T.RingWord.number (g.M.SplitSteps.bound c.args.m.now) c.columns.xs c.columns.xs
+    (c.args.first + c.columns.i) c.index-xs-first.result c.columns.invariant.entries (omega arith) (omega arith)
+    c.index-xs-first.is refl (c.if-is_beyond.ensures refl)

@@ -1,7 +1,7 @@
 use Rattle.std.proofs.Common.{◌<◌, length, ◌∙◌, arith, refl}
 use Rattle.modular_plan.specs.Plans.{numbers}
 use Rattle.modular_plan.specs.Steps.{IsFourSplit}
-use Rattle.modular_plan.proofs.Entries.{number_read, entry_kept}
+use Rattle.modular_plan.proofs.Entries.{number_read, entry_kept, never_beyond}
 use Rattle.modular_plan.proofs.Fours.{all_set, four_along}
 use Rattle.modular_plan.proofs.Quarters.{columns_more}
 use Rattle.modular_plan.proofs.split.split_columns.Goals as goal
@@ -44,3 +44,12 @@ columns-preserved g c =
       third_kept = entry_kept n c.columns.third i step.result.2 (numbers n c.args.third.now) before.third_kept;
       fourth_kept = entry_kept n c.columns.fourth i step.result.3 (numbers n c.args.fourth.now) before.fourth_kept;
     }
+
+pub returns-then-is_beyond-clause-done : goal.returns-then-is_beyond-clause-done
+returns-then-is_beyond-clause-done g c =
+    never_beyond g.T.RingWord.number (g.M.SplitSteps.bound c.args.m.now) c.columns.first c.columns.first c.columns.i
+    c.index-first-i.result c.columns.invariant.first (omega arith) (omega arith) c.index-first-i.is refl
+    (c.if-is_beyond.ensures refl)
+
+pub returns-clause-done : goal.returns-clause-done
+returns-clause-done g c = λ i l. c.columns.invariant.done i (omega (arith, l))

@@ -1,9 +1,34 @@
-use Rattle.std.proofs.Common.{◌+◌, ◌*◌, ◌<◌, length, ◌∙◌, arith, subst}
+use Rattle.std.proofs.Common.{◌+◌, ◌*◌, ◌<◌, ◌≤◌, length, ◌∙◌, arith, subst}
+use Rattle.std.proofs.Math.Nat.{mul-le-mul_right}
 use Rattle.modular_plan.specs.Plans.{numbers}
 use Rattle.modular_plan.specs.Steps.{IsPairSplit, BlockDone}
 use Rattle.modular_plan.proofs.Entries.{number_read}
-use Rattle.modular_plan.proofs.Steps.{stage_more, stage_all}
+use Rattle.modular_plan.proofs.Steps.{stage_none, stage_more, stage_all}
 use Rattle.modular_plan.proofs.split.split_stage.Goals as goal
+
+pub each_block-init : goal.each_block-init
+each_block-init g c = record {
+  entries = c.requires.entries;
+  done = stage_none _ c.args.half _;
+}
+
+pub overflow_add-half : goal.overflow_add-half
+overflow_add-half g c =
+    let half = c.args.half in
+    let room = mul-le-mul_right (half + half) (let l : c.each_block.p + 1 ≤ c.args.blocks = omega arith in l) in
+    omega (arith, room)
+
+pub overflow_mul-p : goal.overflow_mul-p
+overflow_mul-p g c =
+    let half = c.args.half in
+    let room = mul-le-mul_right (half + half) (let l : c.each_block.p + 1 ≤ c.args.blocks = omega arith in l) in
+    omega (arith, room)
+
+pub split_block-requires-clause-within : goal.split_block-requires-clause-within
+split_block-requires-clause-within g c =
+    let half = c.args.half in
+    let room = mul-le-mul_right (half + half) (let l : c.each_block.p + 1 ≤ c.args.blocks = omega arith in l) in
+    omega (arith, room)
 
 pub each_block-preserved : goal.each_block-preserved
 each_block-preserved g c =

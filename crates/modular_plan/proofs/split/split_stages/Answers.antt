@@ -82,7 +82,7 @@ overflow_mul-b-else-left-eq0 g c =
     let before = c.stages.invariant in
     let sizes = sizes_of c.stages.size c.args.last c.stages.blocks c.stages.left (length c.args.xs.now) c.requires.some
     c.requires.count c.requires.whole (larger c.stages.size c.args.last c.stages.left c.requires.some
-    c.stages-test.true before.sized) before.sized before.counted in
+    (omega arith) before.sized) before.sized before.counted in
     let enough = table_room c.args.b (length c.args.table.now) sizes c.requires.within in
     omega (arith, enough)
 
@@ -91,7 +91,7 @@ split_stage-requires-clause-whole g c =
     let before = c.stages.invariant in
     let sizes = sizes_of c.stages.size c.args.last c.stages.blocks c.stages.left (length c.args.xs.now) c.requires.some
     c.requires.count c.requires.whole (larger c.stages.size c.args.last c.stages.left c.requires.some
-    c.stages-test.true before.sized) before.sized before.counted in
+    (omega arith) before.sized) before.sized before.counted in
     let whole = sizes.whole in
     let same = c.stages.auto.xs in
     omega (arith, whole, same)
@@ -101,7 +101,7 @@ split_stage-requires-clause-within g c =
     let before = c.stages.invariant in
     let sizes = sizes_of c.stages.size c.args.last c.stages.blocks c.stages.left (length c.args.xs.now) c.requires.some
     c.requires.count c.requires.whole (larger c.stages.size c.args.last c.stages.left c.requires.some
-    c.stages-test.true before.sized) before.sized before.counted in
+    (omega arith) before.sized) before.sized before.counted in
     table_room c.args.b (length c.args.table.now) sizes c.requires.within
 
 pub split_stage-requires-clause-some : goal.split_stage-requires-clause-some
@@ -109,7 +109,7 @@ split_stage-requires-clause-some g c =
     let before = c.stages.invariant in
     let sizes = sizes_of c.stages.size c.args.last c.stages.blocks c.stages.left (length c.args.xs.now) c.requires.some
     c.requires.count c.requires.whole (larger c.stages.size c.args.last c.stages.left c.requires.some
-    c.stages-test.true before.sized) before.sized before.counted in
+    (omega arith) before.sized) before.sized before.counted in
     sizes.some
 
 pub overflow_mul-blocks-else-left-eq0 : goal.overflow_mul-blocks-else-left-eq0
@@ -117,7 +117,7 @@ overflow_mul-blocks-else-left-eq0 g c =
     let before = c.stages.invariant in
     let sizes = sizes_of c.stages.size c.args.last c.stages.blocks c.stages.left (length c.args.xs.now) c.requires.some
     c.requires.count c.requires.whole (larger c.stages.size c.args.last c.stages.left c.requires.some
-    c.stages-test.true before.sized) before.sized before.counted in
+    (omega arith) before.sized) before.sized before.counted in
     let fit = twice_fits sizes in
     omega (arith, fit)
 
@@ -126,7 +126,7 @@ stages-preserved g c =
     let before = c.stages.invariant in
     let sizes = sizes_of c.stages.size c.args.last c.stages.blocks c.stages.left (length c.args.xs.now) c.requires.some
     c.requires.count c.requires.whole (larger c.stages.size c.args.last c.stages.left c.requires.some
-    c.stages-test.true before.sized) before.sized before.counted in
+    (omega arith) before.sized) before.sized before.counted in
     let more = sizes.more in
     let left : sizes.left ≡ c.stages.left - 1 = omega (arith, more) in
     let power = ap (λ k. 2 ^ k) left in

@@ -1,9 +1,43 @@
-use Rattle.std.proofs.Common.{ℕ, ◌+◌, ◌*◌, ◌∙◌, arith, subst}
+use Rattle.std.proofs.Common.{ℕ, ◌+◌, ◌*◌, ◌≤◌, ◌∙◌, arith, subst}
+use Rattle.std.proofs.Math.Nat.{mul-le-mul_right}
 use Rattle.modular_plan.specs.Plans.{numbers}
 use Rattle.modular_plan.specs.Steps.{IsFourSplit, BlockOfFours}
 use Rattle.modular_plan.proofs.Entries.{number_read}
-use Rattle.modular_plan.proofs.Fours.{stage_of_fours_more, stage_of_fours_all}
+use Rattle.modular_plan.proofs.Fours.{stage_of_fours_none, stage_of_fours_more, stage_of_fours_all}
 use Rattle.modular_plan.proofs.split.split_two_stages.Goals as goal
+
+pub four_quarters-init : goal.four_quarters-init
+four_quarters-init g c = record { entries = c.requires.entries; done = stage_of_fours_none _ c.args.q _ }
+
+pub overflow_add-q : goal.overflow_add-q
+overflow_add-q g c =
+    let q = c.args.q in
+    let room = mul-le-mul_right (q + q + (q + q)) (let l : c.four_quarters.p + 1 ≤ c.args.blocks = omega arith in l) in
+    omega (arith, room)
+
+pub overflow_add-q-in-four_quarters : goal.overflow_add-q-in-four_quarters
+overflow_add-q-in-four_quarters g c =
+    let q = c.args.q in
+    let room = mul-le-mul_right (q + q + (q + q)) (let l : c.four_quarters.p + 1 ≤ c.args.blocks = omega arith in l) in
+    omega (arith, room)
+
+pub overflow_add-q-in-four_quarters-2 : goal.overflow_add-q-in-four_quarters-2
+overflow_add-q-in-four_quarters-2 g c =
+    let q = c.args.q in
+    let room = mul-le-mul_right (q + q + (q + q)) (let l : c.four_quarters.p + 1 ≤ c.args.blocks = omega arith in l) in
+    omega (arith, room)
+
+pub overflow_mul-p : goal.overflow_mul-p
+overflow_mul-p g c =
+    let q = c.args.q in
+    let room = mul-le-mul_right (q + q + (q + q)) (let l : c.four_quarters.p + 1 ≤ c.args.blocks = omega arith in l) in
+    omega (arith, room)
+
+pub split_quarters-requires-clause-within : goal.split_quarters-requires-clause-within
+split_quarters-requires-clause-within g c =
+    let q = c.args.q in
+    let room = mul-le-mul_right (q + q + (q + q)) (let l : c.four_quarters.p + 1 ≤ c.args.blocks = omega arith in l) in
+    omega (arith, room)
 
 pub four_quarters-preserved : goal.four_quarters-preserved
 four_quarters-preserved g c =

@@ -1,6 +1,12 @@
-use Rattle.std.proofs.Common.{◌∙◌}
+use Rattle.std.proofs.Common.{◌∙◌, arith}
 use Rattle.modular_plan.proofs.Steps.{pair_of}
 use Rattle.modular_plan.proofs.split_steps.spread.Goals as goal
+
+pub returns-clause-below : goal.returns-clause-below
+returns-clause-below g c = omega (arith, c.times-product.ensures.below, c.plus.ensures)
+
+pub returns-clause-most : goal.returns-clause-most
+returns-clause-most g c = omega (arith, c.plus-2.ensures, c.minus.ensures.value, c.twice.ensures)
 
 pub returns-clause-pair : goal.returns-clause-pair
 returns-clause-pair g c =
