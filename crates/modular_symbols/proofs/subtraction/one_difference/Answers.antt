@@ -1,5 +1,5 @@
 -- The two cases, by which number is the greater.
-use Rattle.std.proofs.Common.{◌≡◌, ◌+◌, ◌/◌, pos, ap, ◌∙◌}
+use Rattle.std.proofs.Common.{◌≡◌, ◌+◌, ◌/◌, pos, ap, ◌∙◌, arith}
 use Rattle.modular_symbols.specs.Jacobi.{jacobi}
 use Rattle.modular_symbols.specs.Kronecker.{signed}
 use Rattle.modular_symbols.proofs.SubtractionSteps.{Wraps, halved_above, halved_below}
@@ -65,3 +65,16 @@ returns-clause-symbol g c =
     (jacobi (pos (n c.shift_right.result)) (n c.if-less.difference.1))
     (c.args.swaps / 2 + c.args.twos) (c.turn_by_swap.result / 2 + c.turn_by_twos.result) _ (turn g c)
     (xor-parities c.args.swaps c.turn_by_swap.result c.args.twos c.turn_by_twos.result)
+
+pub returns-clause-less : goal.returns-clause-less
+returns-clause-less g c =
+    let n = g.T.RingWord.number in
+    let half = (halves g c).within in
+    elim c.if-less.branch [
+      | then-less w ↦
+          let sum = ap (λ v. n v.0 + n c.args.a) w.difference-is ∙ w.minus.ensures.value in
+          omega (arith, half, sum, ap (λ v. n v.1) w.difference-is, c.requires.a_odd)
+      | else-less w ↦
+          let sum = ap (λ v. n v.0 + n c.args.n) w.difference-is ∙ w.minus-else-less.ensures.value in
+          omega (arith, half, sum, ap (λ v. n v.1) w.difference-is, c.requires.n_odd)
+    ]
