@@ -1,5 +1,6 @@
 -- The difference of two remainders, and a distance whose sign is the answer's.
 use Rattle.std.proofs.Common.{◌≡◌, ◌-ℤ◌, pos, ◌%◌, ◌<◌, ◌≤◌, ◌∙◌, ap, arith}
+use Rattle.std.proofs.lemmas.Bool.{iff_false}
 use Rattle.std.proofs.lemmas.Int.{ints}
 use Rattle.modular_word.specs.Residues.{residue}
 use Rattle.modular_prim.proofs.ResidueSteps.{neg_of_rest, sub_of_less, sub_of_rests}
@@ -29,6 +30,7 @@ returns-else-is_below g c =
     let n = g.T.RingWord.number in
     let m = n c.args.m in
     let d = n c.distance-apart.result in
-    let more : n c.args.b ≤ n c.args.a = grind arith in
+    let not_less = iff_false c.is_below-2.ensures.below c.if-is_below.false in
+    let more : n c.args.b ≤ n c.args.a = omega (arith, not_less) in
     let f : pos d ≡ pos (n c.args.a) -ℤ pos (n c.args.b) = omega (arith, ints, c.distance-apart.ensures.above more) in
     c.reduced_unless-rest.ensures.value ∙ ap (residue m) f
