@@ -63,3 +63,12 @@ returns-in-None-clause-inverse g c =
     let same : Congruent m (g.T.RingWord.number c.residue_of_count-count.result) count =
     chained (of_equal c.residue_of_count-count.ensures) (residue_of count) in
     (λ h. absurd (false≢true h), λ h. absurd (c.in-None.ensures h.0 (inverse_along (turned same) h.1)))
+
+pub returns-in-None-clause-below : goal.returns-in-None-clause-below
+returns-in-None-clause-below g c = λ h. absurd (false≢true h)
+
+pub returns-in-None-clause-product : goal.returns-in-None-clause-product
+returns-in-None-clause-product g c = λ h. absurd (false≢true h)
+
+pub returns-in-None-clause-remainders : goal.returns-in-None-clause-remainders
+returns-in-None-clause-remainders g c = λ h. absurd (false≢true h)

@@ -12,3 +12,6 @@ returns-clause-product g c =
     c.convolve_block.ensures.product h root z e' plan below
     ∙ negacyclic (length c.args.xs.now) e' root z (length c.args.table.now) _ _ _ (let s = c.args.m.now.some in
     omega arith) (let k : 0 < length c.args.table.now = omega (arith, within, e, p) in k) plan
+
+pub returns-clause-remainders : goal.returns-clause-remainders
+returns-clause-remainders g c = c.convolve_block.ensures.remainders

@@ -1,3 +1,4 @@
+use Rattle.std.proofs.Common.{arith}
 use Rattle.modular_word.proofs.Congruence.{chained}
 use Rattle.modular_plan_products.proofs.Bounds.{multiple_is_none, reduced_by_multiple}
 use Rattle.modular_plan_products.proofs.JoinedPairs.{joined_pair_reduced}
@@ -14,6 +15,12 @@ gather-a-requires-clause-multiple g c = multiple_is_none 8 _ c.eightfold-eightfo
 
 pub gather-b-requires-clause-multiple : goal.gather-b-requires-clause-multiple
 gather-b-requires-clause-multiple g c = multiple_is_none 2 _ c.twice.ensures
+
+pub returns-clause-first_below : goal.returns-clause-first_below
+returns-clause-first_below g c =
+    let below = c.reduced_once-2.ensures.below in
+    let fourfold = c.fourfold-fourfold.ensures in
+    omega (arith, below, fourfold)
 
 pub returns-clause-four : goal.returns-clause-four
 returns-clause-four g c =
