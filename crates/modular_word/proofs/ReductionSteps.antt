@@ -1,83 +1,50 @@
 -- The arithmetic of a reduction that divides by the base.
-use Rattle.std.proofs.Common.{◌≡◌, ℕ, ◌+◌, ◌-◌, ◌*◌, ◌/◌, ◌%◌, ◌<◌, ◌≤◌, sym, ap, ◌∙◌, arith, ⊎_elim}
-use Rattle.std.proofs.Math.Nat.{mod-eq_of_lt, div-add-mod, mul-le-mul_left, mul-le-mul_right, add-mul-mod_self_left}
-use Rattle.std.proofs.Math.Nat.{lt_of_mul-lt-mul_left}
+use Rattle.std.proofs.Common.{◌≡◌, ℕ, ◌+◌, ◌-◌, ◌*◌, ◌/◌, ◌%◌, ◌<◌, ◌≤◌, ◌⊎◌, sym, ap, ◌∙◌, arith, ⊎_elim}
+use Rattle.std.proofs.Math.Nat.{add-mod, mod-eq_of_lt, mod-lt, div-add-mod, mul-le-mul_left, mul-le-mul_right, add-mul-mod_self_left}
 use Rattle.std.proofs.lemmas.Nat.{mul-mod_first, mul-mod_second}
 use Rattle.std.proofs.lemmas.Bool.{cases_lt}
-use Rattle.modular_word.proofs.Congruence.{same_without, same_without_unit, next_is_multiple}
+use Rattle.modular_word.proofs.Congruence.{same_without_unit, next_is_multiple}
 use Rattle.modular_word.specs.Reduction.{IsReduction, IsNegatedInverse}
 
--- the multiple of m by a word with the low word t0 of a number: by t0 times the inverse, which is j
-pub low_is_same : (B m i j t0 t1 x : ℕ) → 0 < B → (m * i) % B ≡ B - 1 → (j + i) % B ≡ 0 → x ≡ (t0 * j) % B
-    → (x * m) % B ≡ (t0 + B * t1) % B
-low_is_same B m i j t0 t1 x hB e ej ex =
+-- a number t with the low word t0, and the multiple of m by t0 times the negated inverse i, add up to a multiple of B
+pub sum_is_cleared : (B m i t0 t1 x : ℕ) → 0 < B → (m * i) % B ≡ B - 1 → x ≡ (t0 * i) % B
+    → (t0 + B * t1 + x * m) % B ≡ 0
+sum_is_cleared B m i t0 t1 x hB e ex =
     let next : (m * i + 1) % B ≡ 0 = next_is_multiple B (m * i) hB e ∙ mod-eq_of_lt hB in
-    let both : (m * (j + i)) % B ≡ 0 =
-    sym (mul-mod_second m (j + i) B) ∙ ap (λ v. (m * v) % B) ej
-    ∙ ap (λ v. v % B) (let h : m * 0 ≡ 0 = omega arith in h) ∙ mod-eq_of_lt hB in
-    let same : (m * j + m * i) % B ≡ (1 + m * i) % B =
-    ap (λ v. v % B) (let h : m * j + m * i ≡ m * (j + i) = omega arith in h) ∙ both ∙ sym next
-    ∙ ap (λ v. v % B) (let h : m * i + 1 ≡ 1 + m * i = omega arith in h) in
-    let unit : (m * j) % B ≡ 1 % B = same_without B (m * j) 1 (m * i) hB same in
-    ap (λ v. (v * m) % B) ex ∙ mul-mod_first (t0 * j) m B
-    ∙ ap (λ v. v % B) (let h : t0 * j * m ≡ t0 * (m * j) = omega arith in h)
-    ∙ sym (mul-mod_second t0 (m * j) B) ∙ ap (λ v. (t0 * v) % B) unit ∙ mul-mod_second t0 1 B
-    ∙ ap (λ v. v % B) (let h : t0 * 1 ≡ t0 = omega arith in h) ∙ sym (add-mul-mod_self_left t0 B t1)
+    let multiple : (x * m) % B ≡ (t0 * i * m) % B = ap (λ v. (v * m) % B) ex ∙ mul-mod_first (t0 * i) m B in
+    ap (λ v. v % B) (let h : t0 + B * t1 + x * m ≡ t0 + x * m + B * t1 = omega arith in h)
+    ∙ add-mul-mod_self_left (t0 + x * m) B t1
+    ∙ add-mod t0 (x * m) B ∙ ap (λ v. (t0 % B + v) % B) multiple ∙ sym (add-mod t0 (t0 * i * m) B)
+    ∙ ap (λ v. v % B) (let h : t0 + t0 * i * m ≡ t0 * (m * i + 1) = omega arith in h)
+    ∙ sym (mul-mod_second t0 (m * i + 1) B) ∙ ap (λ v. (t0 * v) % B) next
+    ∙ ap (λ v. v % B) (let h : t0 * 0 ≡ 0 = omega arith in h) ∙ mod-eq_of_lt hB
 
--- what a reduction starts from: a multiple p of m, by a word x, with the low word of t, and the words of both
-pub record Difference (B m t x p t0 t1 p0 p1 : ℕ) : Type 0 where
-  pub low : p % B ≡ t % B
-  pub below : t < B * m
-  pub multiplier_fits : x < B
-  pub multiple : p ≡ x * m
-  pub parts : t ≡ t0 + B * t1
-  pub low_fits : t0 < B
-  pub multiple_parts : p ≡ p0 + B * p1
-  pub multiple_low_fits : p0 < B
-
--- t less the multiple is the difference of the high words times the base
-pub record HighWords (B m t x t1 p1 : ℕ) : Type 0 where
-  pub whole : t + B * p1 ≡ x * m + B * t1
-  pub high_below : t1 < m
-  pub multiple_below : p1 < m
-
-pub high_words : (B m t x p t0 t1 p0 p1 : ℕ) → Difference B m t x p t0 t1 p0 p1 → HighWords B m t x t1 p1
-high_words B m t x p t0 t1 p0 p1 d =
-    let same : p0 ≡ t0 =
-    sym (mod-eq_of_lt d.multiple_low_fits) ∙ sym (add-mul-mod_self_left p0 B p1) ∙ ap (λ v. v % B) (sym d.multiple_parts)
-    ∙ d.low ∙ ap (λ v. v % B) d.parts ∙ add-mul-mod_self_left t0 B t1 ∙ mod-eq_of_lt d.low_fits in
-    let under : x * m < B * m =
+-- a multiple of m by a word is below m times the base
+pub multiple_below : (B m x t : ℕ) → t < B * m → x < B → x * m < B * m
+multiple_below B m x t below fits =
     ⊎_elim (λ (h : 0 < m). let a : (x + 1) * m ≤ B * m =
-    mul-le-mul_right m (let l : x + 1 ≤ B = omega (arith, d.multiplier_fits) in l) in omega arith)
-    (λ (h : m ≤ 0). let a : B * m ≤ B * 0 = mul-le-mul_left B h in absurd (omega (arith, d.below)))
-    (cases_lt 0 m) in
+    mul-le-mul_right m (let l : x + 1 ≤ B = omega (arith, fits) in l) in omega arith)
+    (λ (h : m ≤ 0). let a : B * m ≤ B * 0 = mul-le-mul_left B h in absurd (omega (arith, below)))
+    (cases_lt 0 m)
+
+-- a sum of two numbers below m times the base, by the base, less m where it is at least m, is the remainder
+pub high_sum_is : (m q r : ℕ) → q < m + m → ((q < m) × (r ≡ q)) ⊎ (r + m ≡ q) → r ≡ q % m
+high_sum_is m q r below is = ⊎_elim (λ (h : (q < m) × (r ≡ q)). h.1 ∙ sym (mod-eq_of_lt h.0)) (λ (h : r + m ≡ q).
+    let e : q ≡ r + m * 1 = omega arith in
+    sym (ap (λ v. v % m) e ∙ add-mul-mod_self_left r m 1 ∙ mod-eq_of_lt (let l : r < m = omega arith in l))) is
+
+-- t and a multiple of m, by the base, modulo m: the reduction of t
+pub reduces : (B m t x r : ℕ) → t < B * m → (t + x * m) % B ≡ 0 → r ≡ ((t + x * m) / B) % m → IsReduction B m t r
+reduces B m t x r below cleared is =
+    let some : 0 < m = ⊎_elim (λ (h : 0 < m). h)
+    (λ (h : m ≤ 0). let a : B * m ≤ B * 0 = mul-le-mul_left B h in absurd (omega (arith, below))) (cases_lt 0 m) in
+    let whole : B * ((t + x * m) / B) + (t + x * m) % B ≡ t + x * m = div-add-mod (t + x * m) B in
+    let parts : (t + x * m) / B * B ≡ t + m * x = omega (arith, cleared) in
     record {
-      whole = omega (arith, d.parts, d.multiple, d.multiple_parts);
-      high_below = lt_of_mul-lt-mul_left B (let h : B * t1 < B * m = omega (arith, d.below, d.parts) in h);
-      multiple_below =
-          lt_of_mul-lt-mul_left B (let h : B * p1 < B * m = omega (arith, d.multiple, d.multiple_parts) in h);
+      below = let l : (t + x * m) / B % m < m = mod-lt ((t + x * m) / B) some in omega (arith, is, l);
+      congruent = ap (λ v. (v * B) % m) is ∙ mul-mod_first ((t + x * m) / B) B m ∙ ap (λ v. v % m) parts
+          ∙ add-mul-mod_self_left t m x;
     }
-
--- the difference of the high words, and k times the modulus, times the base is t modulo m
-residue_apart : (B m t x t1 p1 k r : ℕ) → HighWords B m t x t1 p1 → r + p1 ≡ t1 + k * m → (r * B) % m ≡ t % m
-residue_apart B m t x t1 p1 k r s e =
-    let f : B * (r + p1) ≡ B * (t1 + k * m) = ap (λ v. B * v) e in
-    let g : r * B + m * x ≡ t + m * (k * B) = omega (arith, s.whole) in
-    sym (add-mul-mod_self_left (r * B) m x) ∙ ap (λ v. v % m) g ∙ add-mul-mod_self_left t m (k * B)
-
--- the high word of t is no less than that of the multiple
-pub reduces_apart : (B m t x t1 p1 r : ℕ) → HighWords B m t x t1 p1 → r + p1 ≡ t1 → IsReduction B m t r
-reduces_apart B m t x t1 p1 r s e = record {
-  below = omega (arith, s.high_below);
-  congruent = residue_apart B m t x t1 p1 0 r s (let h : r + p1 ≡ t1 + 0 * m = omega arith in h);
-}
-
--- it is less
-pub reduces_around : (B m t x t1 p1 r : ℕ) → HighWords B m t x t1 p1 → t1 < p1 → r + p1 ≡ t1 + m → IsReduction B m t r
-reduces_around B m t x t1 p1 r s h e = record {
-  below = omega arith;
-  congruent = residue_apart B m t x t1 p1 1 r s (let l : r + p1 ≡ t1 + 1 * m = omega arith in l);
-}
 
 -- by the negated inverse the base has an inverse modulo m
 pub base_inverse : (B m i : ℕ) → 0 < B → IsNegatedInverse B m i → (B * ((m * i + 1) / B)) % m ≡ 1 % m

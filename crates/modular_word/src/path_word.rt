@@ -119,6 +119,16 @@ pub trait PathWord: RingWord {
         ensures low_fits { Self.number low < base }
         ensures high_fits { Self.number high < base };
 
+    /// The high word of the sum of two double words, modulo m. Conditions: the low word of the sum is 0, and each of the
+    /// two is below m times the base.
+    ///
+    /// The sum can pass the double word; its carry is kept.
+    fn high_sum_modulo(first: Self::Double, second: Self::Double, m: Self) -> Self
+        requires cleared { (double_number first + double_number second) % base ≡ 0 }
+        requires first { double_number first < base * Self.number m }
+        requires second { double_number second < base * Self.number m }
+        ensures { Self.number result ≡ ((double_number first + double_number second) / base) % Self.number m };
+
     /// The sum of two double words. Condition: it fits a double word.
     fn double_plus(first: Self::Double, second: Self::Double) -> Self::Double
         requires { double_number first + double_number second < base * base }
