@@ -7,7 +7,7 @@ ghost use Rattle.modular_barrett.specs.ScaledForms.{scaled_canonical};
 
 use crate::normalized::{Normalized2by1Divisor, StoredDivisor};
 use modular_prim::below::{add_below, dbl_below, neg_below, sub_below};
-use modular_prim::euclid::invm;
+use modular_prim::inverse::fast_inverse;
 use modular_prim::plain_word::PlainWord;
 use modular_reduced::reducer::Reducer;
 use modular_word::path_word::PathWord;
@@ -145,7 +145,7 @@ impl<T: PlainWord> Reducer<T> for PreMulInv2by1<T> {
     }
 
     fn inv(&self, f: T) -> Option<T> {
-        let inverse = invm(self.residue(f), self.modulus())?;
+        let inverse = fast_inverse(self.residue(f), self.modulus())?;
         Some(inverse.shift_left(self.shift))
     }
 

@@ -7,7 +7,7 @@ ghost use Rattle.modular_even.specs.Split.{split_form, split_value, two_part, od
 ghost use Rattle.modular_even.specs.SplitLaws.{modulus_positive, split_canonical};
 
 use modular_monty::odd_ring::{OddModulus, OddRing, StoredModulus};
-use modular_prim::euclid::invm;
+use modular_prim::inverse::fast_inverse;
 use modular_prim::plain_word::PlainWord;
 use modular_reduced::reducer::Reducer;
 use modular_word::path_word::PathWord;
@@ -196,9 +196,9 @@ impl<T: PlainWord> Reducer<T> for Montgomery<T> {
         self.mul(&difference, factor)
     }
 
-    // Through the value: its inverse by Euclid's algorithm, and the form of that.
+    // Through the value: its inverse, and the form of that.
     fn inv(&self, f: T) -> Option<T> {
-        match invm(self.residue(f), self.modulus()) {
+        match fast_inverse(self.residue(f), self.modulus()) {
             Some(x) => Some(self.transform(x)),
             None => None,
         }

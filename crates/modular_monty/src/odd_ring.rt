@@ -8,7 +8,7 @@ ghost use Rattle.modular_monty.specs.MontgomeryLaws.{montgomery_canonical};
 
 use crate::neg_mod_inv::neginv;
 use modular_prim::below::{add_below, branchless_sub_below, dbl_below, neg_below, sub_below};
-use modular_prim::euclid::invm;
+use modular_prim::inverse::fast_inverse;
 use modular_prim::plain_word::PlainWord;
 use modular_reduced::reducer::Reducer;
 use modular_word::path_word::PathWord;
@@ -185,9 +185,9 @@ impl<T: PlainWord, M: OddModulus<T>> Reducer<T> for OddRing<T, M> {
         self.kept.reduced(difference.product(*factor))
     }
 
-    // Through the value: its inverse by Euclid's algorithm, and the form of that.
+    // Through the value: its inverse, and the form of that.
     fn inv(&self, f: T) -> Option<T> {
-        match invm(self.residue(f), self.kept.modulus()) {
+        match fast_inverse(self.residue(f), self.kept.modulus()) {
             Some(x) => Some(self.transform(x)),
             None => None,
         }

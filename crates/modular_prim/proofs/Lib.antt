@@ -1,4 +1,5 @@
 pub mod DifferenceSteps
+pub mod DigitSteps
 pub mod DivisionCounts
 pub mod EuclidSteps
 pub mod FewSteps

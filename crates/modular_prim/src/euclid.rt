@@ -1,11 +1,11 @@
-//! The inverse modulo m, and by Euclid's algorithm with the number of its divisions.
+//! The inverse modulo m by Euclid's algorithm, with the number of its divisions.
 
 ghost use Rattle.std.specs.Prelude.{◌≡◌, ℕ, ◌+◌, ◌*◌, ◌%◌, ◌^◌, ◌<◌, ◌≤◌};
 ghost use Rattle.modular_prim.specs.Divisions.{divisions, inverse_divisions};
 ghost use Rattle.modular_word.specs.Inverses.{IsInversion};
 
 use crate::below::neg_below;
-use crate::inverse::inverse_by_subtraction;
+use crate::digits::division;
 use crate::plain_word::PlainWord;
 use modular_word::path_word::PathWord;
 use modular_word::ring_word::RingWord;
@@ -13,17 +13,12 @@ use modular_word::ring_word::RingWord;
 /// The inverse of a modulo m; `None` exactly where there is none. Condition: m is at least 1; a may
 /// be above it.
 ///
-/// For an odd m it is found by subtraction, as `inverse_by_subtraction` does, for an even one by Euclid's
-/// divisions, as `invm_counted` does.
+/// Source: as `invm_counted`, which it calls.
 pub fn invm<T: PlainWord>(a: T, m: T) -> Option<T>
     requires { 1 ≤ T.number m }
     ensures { IsInversion T.number (T.number m) (T.number a) result }
 {
-    if m.is_odd() {
-        inverse_by_subtraction(a, m)
-    } else {
-        invm_counted(a, m).0
-    }
+    invm_counted(a, m).0
 }
 
 /// The inverse of a modulo m, `None` exactly where there is none, and the number of divisions.
@@ -49,8 +44,7 @@ pub fn invm_counted<T: PlainWord>(a: T, m: T) -> (Option<T>, u32)
     let mut t = T::one();
     let mut odd = false;
     'euclid: while !r.is_zero_word() {
-        let quotient = last_r.quotient(r);
-        let rest = last_r.minus(quotient.times(r));
+        let (quotient, rest) = division(last_r, r);
         let next = last_t.plus(quotient.times(t));
         last_r = r;
         r = rest;

@@ -1,10 +1,11 @@
-//! The inverse modulo an odd m by subtraction: the fast loop, which counts no steps.
+//! The inverse modulo an odd m by subtraction, which takes no division and counts no steps.
 
-ghost use Rattle.std.specs.Prelude.{◌≡◌, ◌≢◌, ℕ, ◌+◌, ◌*◌, ◌%◌, ◌^◌, ◌<◌};
+ghost use Rattle.std.specs.Prelude.{◌≡◌, ◌≢◌, ℕ, ◌+◌, ◌*◌, ◌%◌, ◌^◌, ◌<◌, ◌≤◌};
 ghost use Rattle.modular_word.specs.Congruence.{Congruent};
 ghost use Rattle.modular_word.specs.Inverses.{IsInversion};
 ghost use Rattle.modular_prim.specs.Differences.{IsPair, PairFits};
 
+use crate::euclid::invm;
 use crate::plain_word::PlainWord;
 use crate::residues::reduced;
 use modular_word::path_word::PathWord;
@@ -143,4 +144,18 @@ pub fn inverse_by_subtraction<T: PlainWord>(a: T, m: T) -> Option<T>
     ensures { IsInversion T.number (T.number m) (T.number a) result }
 {
     inverse_below(reduced(a, m), m)
+}
+
+/// The inverse of a modulo m; `None` exactly where there is none. Condition: m is at least 1; a may be above it.
+///
+/// For an odd m by subtraction, as `inverse_by_subtraction` finds it, for an even one by Euclid's algorithm, as `invm` does.
+pub fn fast_inverse<T: PlainWord>(a: T, m: T) -> Option<T>
+    requires { 1 ≤ T.number m }
+    ensures { IsInversion T.number (T.number m) (T.number a) result }
+{
+    if m.is_odd() {
+        inverse_by_subtraction(a, m)
+    } else {
+        invm(a, m)
+    }
 }

@@ -5,7 +5,7 @@ ghost use Rattle.modular_reduced.specs.Plain.{plain_form, plain_value, plain_can
 
 use crate::reducer::Reducer;
 use modular_prim::below::{add_below, dbl_below, neg_below, sub_below};
-use modular_prim::euclid::invm;
+use modular_prim::inverse::fast_inverse;
 use modular_prim::plain_word::PlainWord;
 use std::alloc::AllocError;
 
@@ -95,7 +95,7 @@ impl<T: PlainWord> Reducer<T> for Vanilla<T> {
     }
 
     fn inv(&self, f: T) -> Option<T> {
-        invm(f, self.modulus)
+        fast_inverse(f, self.modulus)
     }
 
     fn sqr(&self, f: T) -> T {

@@ -1,7 +1,4 @@
 use Rattle.modular_prim.proofs.euclid.invm.Goals as goal
 
-pub returns-then-is_odd : goal.returns-then-is_odd
-returns-then-is_odd g c = c.inverse_by_subtraction.ensures
-
-pub returns-else-is_odd : goal.returns-else-is_odd
-returns-else-is_odd g c = c.invm_counted.ensures.inverse
+pub returns : goal.returns
+returns g c = c.invm_counted.ensures.inverse

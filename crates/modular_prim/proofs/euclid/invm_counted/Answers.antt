@@ -1,5 +1,6 @@
-use Rattle.std.proofs.Common.{◌≡◌, ◌+◌, ◌<◌, ◌≤◌, ◌%◌, ◌*◌, sym, arith}
+use Rattle.std.proofs.Common.{◌≡◌, ◌+◌, ◌<◌, ◌≤◌, ◌%◌, ◌/◌, ◌*◌, sym, arith}
 use Rattle.std.proofs.Math.Nat.{mod-eq_of_lt}
+use Rattle.modular_prim.proofs.DigitSteps.{quotient_is}
 use Rattle.modular_prim.proofs.DivisionCounts.{counts_below, counts_above, counts_next, counts_end, counts_few}
 use Rattle.modular_prim.proofs.EuclidSteps.{euclid_start, euclid_fits, rest_is, euclid_step}
 use Rattle.modular_prim.proofs.EuclidSteps.{euclid_found, euclid_found_negative, euclid_none}
@@ -39,25 +40,7 @@ times-requires g c =
     let positive : 0 < n c.euclid.r = grind arith in
     let fits =
     euclid_fits (n c.args.a) (n c.args.m) (n c.euclid.last_r) (n c.euclid.r) (n c.euclid.last_t) (n c.euclid.t)
-    (n c.quotient-quotient.result) c.euclid.odd c.euclid.invariant.steps positive c.quotient-quotient.ensures in
-    omega (arith, fits.0, fits.2, c.is_below.ensures.other_fits)
-
-pub minus-rest-requires : goal.minus-rest-requires
-minus-rest-requires g c =
-    let n = g.T.RingWord.number in
-    let positive : 0 < n c.euclid.r = grind arith in
-    let fits =
-    euclid_fits (n c.args.a) (n c.args.m) (n c.euclid.last_r) (n c.euclid.r) (n c.euclid.last_t) (n c.euclid.t)
-    (n c.quotient-quotient.result) c.euclid.odd c.euclid.invariant.steps positive c.quotient-quotient.ensures in
-    omega (arith, fits.0, c.times.ensures)
-
-pub times-requires-in-euclid : goal.times-requires-in-euclid
-times-requires-in-euclid g c =
-    let n = g.T.RingWord.number in
-    let positive : 0 < n c.euclid.r = grind arith in
-    let fits =
-    euclid_fits (n c.args.a) (n c.args.m) (n c.euclid.last_r) (n c.euclid.r) (n c.euclid.last_t) (n c.euclid.t)
-    (n c.quotient-quotient.result) c.euclid.odd c.euclid.invariant.steps positive c.quotient-quotient.ensures in
+    (n c.division-quotient.result.0) c.euclid.odd c.euclid.invariant.steps positive (quotient_is c.division-quotient.ensures.division) in
     omega (arith, fits.1, c.is_below.ensures.other_fits)
 
 pub plus-next-requires : goal.plus-next-requires
@@ -66,8 +49,8 @@ plus-next-requires g c =
     let positive : 0 < n c.euclid.r = grind arith in
     let fits =
     euclid_fits (n c.args.a) (n c.args.m) (n c.euclid.last_r) (n c.euclid.r) (n c.euclid.last_t) (n c.euclid.t)
-    (n c.quotient-quotient.result) c.euclid.odd c.euclid.invariant.steps positive c.quotient-quotient.ensures in
-    omega (arith, fits.1, c.is_below.ensures.other_fits, c.times-in-euclid.ensures)
+    (n c.division-quotient.result.0) c.euclid.odd c.euclid.invariant.steps positive (quotient_is c.division-quotient.ensures.division) in
+    omega (arith, fits.1, c.is_below.ensures.other_fits, c.times.ensures)
 
 pub overflow_add-count : goal.overflow_add-count
 overflow_add-count g c =
@@ -82,21 +65,22 @@ pub euclid-preserved : goal.euclid-preserved
 euclid-preserved g c =
     let n = g.T.RingWord.number in
     let positive : 0 < n c.euclid.r = grind arith in
-    let rest : n c.minus-rest.result + n c.quotient-quotient.result * n c.euclid.r ≡ n c.euclid.last_r =
-    omega (arith, c.minus-rest.ensures.value, c.times.ensures) in
+    let q = n c.division-quotient.result.0 in
+    let left = n c.division-quotient.result.1 in
+    let is : q ≡ n c.euclid.last_r / n c.euclid.r = quotient_is c.division-quotient.ensures.division in
+    let rest : left + q * n c.euclid.r ≡ n c.euclid.last_r =
+    let whole = c.division-quotient.ensures.division.whole in omega arith in
     record {
       steps =
           euclid_step (n c.args.a) (n c.args.m) (n c.euclid.last_r) (n c.euclid.r) (n c.euclid.last_t) (n c.euclid.t)
-          (n c.plus-next.result) (n c.quotient-quotient.result) (n c.minus-rest.result) c.euclid.odd
-          c.euclid.invariant.steps positive c.quotient-quotient.ensures rest
-          (let e : n c.plus-next.result ≡ n c.euclid.last_t + n c.quotient-quotient.result * n c.euclid.t =
-          omega (arith, c.plus-next.ensures, c.times-in-euclid.ensures) in e);
+          (n c.plus-next.result) q left c.euclid.odd
+          c.euclid.invariant.steps positive is rest
+          (let e : n c.plus-next.result ≡ n c.euclid.last_t + q * n c.euclid.t =
+          omega (arith, c.plus-next.ensures, c.times.ensures) in e);
       counts =
           counts_next (n c.args.a) (n c.args.m) (n c.euclid.last_r) (n c.euclid.r)
-          (n c.minus-rest.result) c.euclid.count
-          c.euclid.invariant.counts positive
-          (rest_is (n c.euclid.last_r) (n c.euclid.r) (n c.quotient-quotient.result)
-          (n c.minus-rest.result) c.quotient-quotient.ensures rest);
+          left c.euclid.count c.euclid.invariant.counts positive
+          (rest_is (n c.euclid.last_r) (n c.euclid.r) q left is rest);
     }
 
 pub returns-then-is_below : goal.returns-then-is_below

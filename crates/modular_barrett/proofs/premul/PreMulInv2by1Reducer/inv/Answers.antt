@@ -4,8 +4,8 @@ use Rattle.modular_barrett.specs.ScaledForms.{scaled_canonical}
 use Rattle.modular_barrett.proofs.ScaledLemmas.{below_fits, inverse_stands, no_inverse_stands}
 use Rattle.modular_barrett.proofs.premul.PreMulInv2by1Reducer.inv.Goals as goal
 
-pub invm-requires : goal.invm-requires
-invm-requires g c = omega (arith, c.modulus.ensures, c.args.self.now.scaling.positive)
+pub fast_inverse-requires : goal.fast_inverse-requires
+fast_inverse-requires g c = omega (arith, c.modulus.ensures, c.args.self.now.scaling.positive)
 
 pub shift_left-requires-clause-fits : goal.shift_left-requires-clause-fits
 shift_left-requires-clause-fits g c =
