@@ -1,4 +1,4 @@
-//! The Jacobi symbol by subtraction: the fast loop, which counts no steps.
+//! The Jacobi symbol by subtraction, which takes no division and counts no steps.
 
 ghost use Rattle.std.specs.Prelude.{◌≡◌, ◌≢◌, ◌+◌, ◌/◌, ◌%◌, ◌<◌, ◌==◌, pos};
 ghost use Rattle.modular_symbols.specs.Jacobi.{jacobi};

@@ -8,8 +8,6 @@ ghost use Rattle.modular_symbols.specs.Primes.{IsOddPrime};
 
 use crate::magnitudes;
 use crate::operands::{IntegerValued, SymbolWord};
-use crate::subtraction::jacobi_by_subtraction;
-use modular_word::ring_word::RingWord;
 
 /// The symbols of a number over n. A symbol is -1, 0 or 1.
 pub trait ModularSymbols<Modulus: IntegerValued>: IntegerValued {
@@ -35,9 +33,6 @@ pub trait ModularSymbols<Modulus: IntegerValued>: IntegerValued {
             → result ≡ Some (jacobi (Self.integer_value self.now) (nat_abs (Modulus.integer_value n))) };
 
     /// The value inside `checked_jacobi`. Condition: that is `Some`, so n is odd and above 0.
-    ///
-    /// Words take another loop than there, and the faster one: it subtracts where that one divides. Take it
-    /// where n is known to be odd.
     fn jacobi(&self, n: Modulus) -> i8
         requires { IsSome (checked_jacobi_of (Self.integer_value self.now) (Modulus.integer_value n)) }
         ensures { Some result ≡ checked_jacobi_of (Self.integer_value self.now) (Modulus.integer_value n) }
@@ -50,8 +45,7 @@ pub trait ModularSymbols<Modulus: IntegerValued>: IntegerValued {
 
     /// The Jacobi symbol; `None` exactly for an even n and for n below 1.
     ///
-    /// Words take the loop whose halvings and swaps are counted, with a division a swap. `jacobi` needs an odd n,
-    /// and is faster.
+    /// By halvings and swaps. Source: Cohen, "A Course in Computational Algebraic Number Theory", algorithm 1.4.10.
     fn checked_jacobi(&self, n: Modulus) -> Option<i8>
         ensures { result ≡ checked_jacobi_of (Self.integer_value self.now) (Modulus.integer_value n) };
 
@@ -70,15 +64,6 @@ impl<T: SymbolWord> ModularSymbols<&T> for T {
         let (a_minus, a) = self.sign_and_magnitude();
         let (n_minus, n) = n.sign_and_magnitude();
         magnitudes::checked_legendre(a_minus, a, n_minus, n)
-    }
-
-    fn jacobi(&self, n: &T) -> i8 {
-        let (a_minus, a) = self.sign_and_magnitude();
-        let (n_minus, n) = n.sign_and_magnitude();
-        if n_minus | !n.is_odd() {
-            unreachable!();
-        }
-        jacobi_by_subtraction(a_minus, a, n)
     }
 
     fn checked_jacobi(&self, n: &T) -> Option<i8> {
