@@ -13,11 +13,12 @@ use modular_reduced::reducer::Reducer;
 pub use modular_transform::convolution::convolve;
 pub use modular_transform::transform::{ntt, ntt_counted, root_fits};
 use modular_word::ring_word::RingWord;
+use std::alloc::AllocError;
 
 /// A command on registers, which are named by their numbers in a slice of forms.
 ///
 /// Operands are read before `dst` is written, so `dst` may be an operand.
-#[derive(Clone, Copy, Debug, PartialEq, Eq)]
+#[derive(Debug, PartialEq, Eq)]
 pub enum RingCommand<T> {
     /// Writes n modulo m.
     Load {
@@ -101,6 +102,18 @@ pub enum RingCommand<T> {
         exp: T,
     },
 }
+
+impl<T: Copy> Clone for RingCommand<T> {
+    ghost is_clone = { λ x y. y ≡ x };
+
+    ghost is_infallible = { λ _. Unit {0} };
+
+    fn clone(&self) -> Result<Self, AllocError> {
+        Ok(*self)
+    }
+}
+
+impl<T: Copy> Copy for RingCommand<T> {}
 
 /// How a run ended.
 #[derive(Clone, Copy, Debug, PartialEq, Eq)]
