@@ -1,3 +1,4 @@
+pub mod Columns
 pub mod Doublings
 pub mod Entries
 pub mod Fours

@@ -29,13 +29,13 @@ columns_more number R a b c d i x y z t a0 b0 c0 d0 la lb lc ld before step k l 
       (sym (not_written number c i k z ne)) (sym (not_written number d i k t ne)) (before k (omega arith))
 ]
 
-in_front : {T : Type 0} (number : T → ℕ) (xs ys : List T) (i : ℕ) → i < length xs
+pub in_front : {T : Type 0} (number : T → ℕ) (xs ys : List T) (i : ℕ) → i < length xs
     → numbers number (xs ++ ys) i ≡ numbers number xs i
 in_front number xs ys i l =
     ap (λ vs. get_or vs i 0) (map-append number xs ys)
     ∙ get_or-append (map number xs) (map number ys) 0 i (subst (λ n. i < n) (sym (length-map xs number)) l)
 
-behind : {T : Type 0} (number : T → ℕ) (xs ys : List T) (n i : ℕ) → length xs ≡ n
+pub behind : {T : Type 0} (number : T → ℕ) (xs ys : List T) (n i : ℕ) → length xs ≡ n
     → numbers number (xs ++ ys) (n + i) ≡ numbers number ys i
 behind number xs ys n i e =
     ap (λ vs. get_or vs (n + i) 0) (map-append number xs ys)
@@ -43,12 +43,12 @@ behind number xs ys n i e =
     ∙ get_or-append-add (map number xs) (map number ys) i 0
 
 -- what holds of all words holds of those in front, and of those behind
-all_in_front : {T : Type 0} (P : T → Type 0) (xs ys : List T) → All P (xs ++ ys) → All P xs
+pub all_in_front : {T : Type 0} (P : T → Type 0) (xs ys : List T) → All P (xs ++ ys) → All P xs
 all_in_front P xs ys all k d l =
     let len = length-append xs ys in
     subst P (get_or-append xs ys d k l) (all k d (omega (arith, len, l)))
 
-all_behind : {T : Type 0} (P : T → Type 0) (xs ys : List T) → All P (xs ++ ys) → All P ys
+pub all_behind : {T : Type 0} (P : T → Type 0) (xs ys : List T) → All P (xs ++ ys) → All P ys
 all_behind P xs ys all k d l =
     let len = length-append xs ys in
     subst P (get_or-append-add xs ys k d) (all (length xs + k) d (omega (arith, len, l)))

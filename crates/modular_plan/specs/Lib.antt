@@ -1,4 +1,5 @@
 pub mod Factors
 pub mod Plans
 pub mod Roots
+pub mod Splits
 pub mod Steps

@@ -4,12 +4,15 @@ ghost use Rattle.std.specs.Prelude.{◌≡◌, ℕ, ◌+◌, ◌*◌, ◌/◌, �
 ghost use Rattle.std.specs.Int.{IsPowerOfTwo};
 ghost use Rattle.modular_plan.specs.Factors.{IsFactor};
 ghost use Rattle.modular_plan.specs.Plans.{numbers, IsPlan, AreRemainders};
-ghost use Rattle.modular_plan.specs.Steps.{IsPairSplit, IsFourSplit, PairDone, BlockDone};
-ghost use Rattle.modular_plan.specs.Steps.{StageDone, FourDone, BlockOfFours, StageOfFours, IsLevel};
+ghost use Rattle.modular_plan.specs.Splits.{IsPassDone, IsPassReady, IsSplittable};
+ghost use Rattle.modular_plan.specs.Steps.{IsPairSplit, PairDone, BlockDone};
+ghost use Rattle.modular_plan.specs.Steps.{StageDone, IsLevel};
 
 use crate::entry::PlanEntry;
 use crate::modulus::{Factor, PlannedModulus};
+use crate::places::factors_at;
 use crate::roomy::RoomyModulus;
+use crate::split_blocks::{split_by_one, split_neighbours, split_quarters};
 use crate::split_steps::SplitSteps;
 use modular_prim::plain_word::PlainWord;
 use modular_word::path_word::PathWord;
@@ -85,81 +88,6 @@ fn split_stage<T: PlainWord, M: SplitSteps<T>, F: PlanEntry<T>>(
     }
 }
 
-// Two stages of the four quarters of a block: by the block's factor w, and by those of its halves.
-#[inline(always)]
-fn split_columns<T: PlainWord, M: SplitSteps<T>>(
-    m: &M,
-    first: &mut [T],
-    second: &mut [T],
-    third: &mut [T],
-    fourth: &mut [T],
-    w: &Factor<T>,
-    u: &Factor<T>,
-    v: &Factor<T>,
-)
-    requires first { All (λ x. T.number x < M.bound m.now) first.old }
-    requires second { All (λ x. T.number x < M.bound m.now) second.old }
-    requires third { All (λ x. T.number x < M.bound m.now) third.old }
-    requires fourth { All (λ x. T.number x < M.bound m.now) fourth.old }
-    requires factor { IsFactor T.base (M.modulus m.now) (T.number w.now.value) (T.number w.now.quotient) }
-    requires low_factor { IsFactor T.base (M.modulus m.now) (T.number u.now.value) (T.number u.now.quotient) }
-    requires high_factor { IsFactor T.base (M.modulus m.now) (T.number v.now.value) (T.number v.now.quotient) }
-    requires quarters { (length second.old ≡ length first.old) × (length third.old ≡ length first.old)
-        × (length fourth.old ≡ length first.old) }
-    ensures first { All (λ x. T.number x < M.bound m.now) first.new }
-    ensures second { All (λ x. T.number x < M.bound m.now) second.new }
-    ensures third { All (λ x. T.number x < M.bound m.now) third.new }
-    ensures fourth { All (λ x. T.number x < M.bound m.now) fourth.new }
-    ensures done { (i : ℕ) → i < length first.old → IsFourSplit (M.modulus m.now)
-        (T.number w.now.value) (T.number u.now.value) (T.number v.now.value)
-        (numbers T.number first.old i) (numbers T.number second.old i)
-        (numbers T.number third.old i) (numbers T.number fourth.old i)
-        (numbers T.number first.new i) (numbers T.number second.new i)
-        (numbers T.number third.new i) (numbers T.number fourth.new i) }
-{
-    'columns: for i in 0..first.len() {
-        let x = first[i];
-        // never so
-        if m.is_beyond(x) {
-            return;
-        }
-        let (a, b, c, d) = m.four(x, second[i], third[i], fourth[i], w, u, v);
-        first[i] = a;
-        second[i] = b;
-        third[i] = c;
-        fourth[i] = d;
-    }
-}
-
-// Two stages of the block of four times q entries from place `first` on.
-#[inline(always)]
-fn split_quarters<T: PlainWord, M: SplitSteps<T>>(
-    m: &M,
-    xs: &mut [T],
-    first: usize,
-    q: usize,
-    w: &Factor<T>,
-    u: &Factor<T>,
-    v: &Factor<T>,
-)
-    requires entries { All (λ x. T.number x < M.bound m.now) xs.old }
-    requires factor { IsFactor T.base (M.modulus m.now) (T.number w.now.value) (T.number w.now.quotient) }
-    requires low_factor { IsFactor T.base (M.modulus m.now) (T.number u.now.value) (T.number u.now.quotient) }
-    requires high_factor { IsFactor T.base (M.modulus m.now) (T.number v.now.value) (T.number v.now.quotient) }
-    requires within { first + (q + q + (q + q)) ≤ length xs.old }
-    ensures entries { All (λ x. T.number x < M.bound m.now) xs.new }
-    ensures done { BlockOfFours (IsFourSplit (M.modulus m.now) (T.number w.now.value)
-        (T.number u.now.value) (T.number v.now.value))
-        first q q (numbers T.number xs.old) (numbers T.number xs.new) }
-{
-    let (_before, block) = xs.split_at_mut(first);
-    let (a, rest) = block.split_at_mut(q);
-    let (b, rest) = rest.split_at_mut(q);
-    let (c, rest) = rest.split_at_mut(q);
-    let (d, _after) = rest.split_at_mut(q);
-    split_columns(m, a, b, c, d, w, u, v);
-}
-
 // Two stages of all blocks, block p by entry first + p of the table, and its halves by the entries at
 // twice that place.
 #[inline(always)]
@@ -171,24 +99,15 @@ fn split_two_stages<T: PlainWord, M: SplitSteps<T>, F: PlanEntry<T>>(
     table: &[F],
     first: usize,
 )
-    requires entries { All (λ x. T.number x < M.bound m.now) xs.old }
-    requires factors { All (λ f. IsFactor T.base (M.modulus m.now) (F.value f) (F.quotient f))
-        table.now }
-    requires whole { blocks * (q + q + (q + q)) ≡ length xs.old }
-    requires within { 2 * (first + blocks) ≤ length table.now }
-    requires some { 0 < q }
-    ensures entries { All (λ x. T.number x < M.bound m.now) xs.new }
-    ensures done { let w = numbers F.value table.now in
-        StageOfFours (λ p. IsFourSplit (M.modulus m.now) (w (first + p)) (w (2 * (first + p)))
-        (w (2 * (first + p) + 1))) q blocks
-        (numbers T.number xs.old) (numbers T.number xs.new) }
+    requires { IsPassReady T.number F.value F.quotient T.base (M.modulus m.now) (M.bound m.now)
+        q blocks first xs.old table.now }
+    ensures { IsPassDone T.number F.value (M.modulus m.now) (M.bound m.now) q blocks first table.now
+        xs.old xs.new }
 {
     'four_quarters: for p in 0..blocks {
-        let place = first + p;
-        let w = table[place].factor();
-        let u = table[2 * place].factor();
-        let v = table[2 * place + 1].factor();
-        split_quarters(m, xs, p * (q + q + (q + q)), q, &w, &u, &v);
+        let (w, u, v) = factors_at(table, first + p);
+        let half = q + q;
+        split_quarters(m, xs, p * (half + half), q, &w, &u, &v);
     }
 }
 
@@ -202,17 +121,10 @@ fn split_known<T: PlainWord, M: SplitSteps<T>, F: PlanEntry<T>>(
     table: &[F],
     first: usize,
 )
-    requires entries { All (λ x. T.number x < M.bound m.now) xs.old }
-    requires factors { All (λ f. IsFactor T.base (M.modulus m.now) (F.value f) (F.quotient f))
-        table.now }
-    requires whole { blocks * (q + q + (q + q)) ≡ length xs.old }
-    requires within { 2 * (first + blocks) ≤ length table.now }
-    requires some { 0 < q }
-    ensures entries { All (λ x. T.number x < M.bound m.now) xs.new }
-    ensures done { let w = numbers F.value table.now in
-        StageOfFours (λ p. IsFourSplit (M.modulus m.now) (w (first + p)) (w (2 * (first + p)))
-        (w (2 * (first + p) + 1))) q blocks
-        (numbers T.number xs.old) (numbers T.number xs.new) }
+    requires { IsPassReady T.number F.value F.quotient T.base (M.modulus m.now) (M.bound m.now)
+        q blocks first xs.old table.now }
+    ensures { IsPassDone T.number F.value (M.modulus m.now) (M.bound m.now) q blocks first table.now
+        xs.old xs.new }
 {
     match q {
         1 => split_two_stages(m, xs, 1, blocks, table, first),
@@ -222,30 +134,6 @@ fn split_known<T: PlainWord, M: SplitSteps<T>, F: PlanEntry<T>>(
         256 => split_two_stages(m, xs, 256, blocks, table, first),
         1024 => split_two_stages(m, xs, 1024, blocks, table, first),
         _ => split_two_stages(m, xs, q, blocks, table, first),
-    }
-}
-
-// Two stages of the whole list by a plan that begins with 1: by 1 and by 1, and by v, its second factor.
-fn split_by_one<T: PlainWord, M: SplitSteps<T>>(m: &M, xs: &mut [T], q: usize, v: &Factor<T>)
-    requires entries { All (λ x. T.number x < 4 * M.modulus m.now) xs.old }
-    requires factor { IsFactor T.base (M.modulus m.now) (T.number v.now.value) (T.number v.now.quotient) }
-    requires whole { q + q + (q + q) ≡ length xs.old }
-    ensures entries { All (λ x. T.number x < M.bound m.now) xs.new }
-    ensures done { BlockOfFours (IsFourSplit (M.modulus m.now) 1 1 (T.number v.now.value))
-        0 q q (numbers T.number xs.old) (numbers T.number xs.new) }
-{
-    'columns: for i in 0..q {
-        // never so
-        if m.is_beyond(xs[i]) {
-            return;
-        }
-        let x = xs[i];
-        let (y, z, t) = (xs[q + i], xs[q + q + i], xs[q + q + (q + i)]);
-        let (a, b, c, d) = m.four_by_one(x, y, z, t, v);
-        xs[q + q + (q + i)] = d;
-        xs[q + q + i] = c;
-        xs[q + i] = b;
-        xs[i] = a;
     }
 }
 
@@ -259,18 +147,11 @@ fn split_pass<T: PlainWord, M: SplitSteps<T>, F: PlanEntry<T>>(
     table: &[F],
     first: usize,
 )
-    requires entries { All (λ x. T.number x < M.bound m.now) xs.old }
+    requires ready { IsPassReady T.number F.value F.quotient T.base (M.modulus m.now) (M.bound m.now)
+        q blocks first xs.old table.now }
     requires first_entries { blocks ≡ 1 → All (λ x. T.number x < 4 * M.modulus m.now) xs.old }
-    requires factors { All (λ f. IsFactor T.base (M.modulus m.now) (F.value f) (F.quotient f))
-        table.now }
-    requires whole { blocks * (q + q + (q + q)) ≡ length xs.old }
-    requires within { 2 * (first + blocks) ≤ length table.now }
-    requires some { 0 < q }
-    ensures entries { All (λ x. T.number x < M.bound m.now) xs.new }
-    ensures done { let w = numbers F.value table.now in
-        StageOfFours (λ p. IsFourSplit (M.modulus m.now) (w (first + p)) (w (2 * (first + p)))
-        (w (2 * (first + p) + 1))) q blocks
-        (numbers T.number xs.old) (numbers T.number xs.new) }
+    ensures { IsPassDone T.number F.value (M.modulus m.now) (M.bound m.now) q blocks first table.now
+        xs.old xs.new }
 {
     if blocks == 1 && first == 0 && table[0].factor().is_one() {
         let v = table[1].factor();
@@ -278,36 +159,6 @@ fn split_pass<T: PlainWord, M: SplitSteps<T>, F: PlanEntry<T>>(
     } else {
         split_known(m, xs, q, blocks, table, first);
     }
-}
-
-// Two stages of the four entries from place `first` on, which become residues.
-fn split_neighbours<T: PlainWord, M: SplitSteps<T>>(
-    m: &M,
-    xs: &mut [T],
-    first: usize,
-    w: &Factor<T>,
-    u: &Factor<T>,
-    v: &Factor<T>,
-)
-    requires entries { All (λ x. T.number x < M.bound m.now) xs.old }
-    requires factor { IsFactor T.base (M.modulus m.now) (T.number w.now.value) (T.number w.now.quotient) }
-    requires low_factor { IsFactor T.base (M.modulus m.now) (T.number u.now.value) (T.number u.now.quotient) }
-    requires high_factor { IsFactor T.base (M.modulus m.now) (T.number v.now.value) (T.number v.now.quotient) }
-    requires within { first + 3 < length xs.old }
-    ensures entries { All (λ x. T.number x < M.bound m.now) xs.new }
-    ensures below { (k : ℕ) → first ≤ k → k < first + 4
-        → numbers T.number xs.new k < M.modulus m.now }
-    ensures done { FourDone (IsFourSplit (M.modulus m.now) (T.number w.now.value)
-        (T.number u.now.value) (T.number v.now.value))
-        first (first + 1) (first + 2) (first + 3) (numbers T.number xs.old) (numbers T.number xs.new) }
-{
-    let (x, y) = (xs[first], xs[first + 1]);
-    let (z, t) = (xs[first + 2], xs[first + 3]);
-    let (a, b, c, d) = m.four(x, y, z, t, w, u, v);
-    xs[first + 3] = m.residue(d);
-    xs[first + 2] = m.residue(c);
-    xs[first + 1] = m.residue(b);
-    xs[first] = m.residue(a);
 }
 
 // The last two stages: those of `split_two_stages` on each four neighbours, and their residues.
@@ -318,27 +169,19 @@ fn split_fours<T: PlainWord, M: SplitSteps<T>, F: PlanEntry<T>>(
     table: &[F],
     first: usize,
 )
-    requires entries { All (λ x. T.number x < M.bound m.now) xs.old }
-    requires factors { All (λ f. IsFactor T.base (M.modulus m.now) (F.value f) (F.quotient f))
-        table.now }
-    requires whole { blocks * 4 ≡ length xs.old }
-    requires within { 2 * (first + blocks) ≤ length table.now }
-    ensures below { All (λ x. T.number x < M.modulus m.now) xs.new }
-    ensures done { let w = numbers F.value table.now in
-        StageOfFours (λ p. IsFourSplit (M.modulus m.now) (w (first + p)) (w (2 * (first + p)))
-        (w (2 * (first + p) + 1))) 1 blocks
-        (numbers T.number xs.old) (numbers T.number xs.new) }
+    requires { IsPassReady T.number F.value F.quotient T.base (M.modulus m.now) (M.bound m.now)
+        1 blocks first xs.old table.now }
+    ensures { IsPassDone T.number F.value (M.modulus m.now) (M.modulus m.now) 1 blocks first table.now
+        xs.old xs.new }
 {
     'fours: for p in 0..blocks {
-        let place = first + p;
-        let w = table[place].factor();
-        let u = table[2 * place].factor();
-        let v = table[2 * place + 1].factor();
+        let (w, u, v) = factors_at(table, first + p);
+        let place = p * 4;
         // never so
-        if m.is_beyond(xs[p * 4]) {
+        if m.is_beyond(xs[place]) {
             return;
         }
-        split_neighbours(m, xs, p * 4, &w, &u, &v);
+        split_neighbours(m, xs, place, &w, &u, &v);
     }
 }
 
@@ -385,13 +228,7 @@ fn split_stages<T: PlainWord, M: SplitSteps<T>, F: PlanEntry<T>>(
     b: usize,
     last: usize,
 )
-    requires entries { All (λ x. T.number x < 4 * M.modulus m.now) xs.old }
-    requires factors { All (λ f. IsFactor T.base (M.modulus m.now) (F.value f) (F.quotient f))
-        table.now }
-    requires some { 1 ≤ last }
-    requires count { IsPowerOfTwo (length xs.old / last) }
-    requires whole { length xs.old / last * last ≡ length xs.old }
-    requires within { (b + 1) * (length xs.old / last / 2) ≤ length table.now }
+    requires { IsSplittable T.number F.value F.quotient T.base (M.modulus m.now) b last xs.old table.now }
     ensures entries { All (λ x. T.number x < M.bound m.now) xs.new }
     ensures level { let modulus = M.modulus m.now in (g z : ℕ) →
         IsPlan modulus g z (length table.now) (numbers F.value table.now) →
@@ -423,13 +260,7 @@ fn split_by<T: PlainWord, M: SplitSteps<T>, F: PlanEntry<T>>(
     b: usize,
     last: usize,
 )
-    requires entries { All (λ x. T.number x < 4 * M.modulus m.now) xs.old }
-    requires factors { All (λ f. IsFactor T.base (M.modulus m.now) (F.value f) (F.quotient f))
-        table.now }
-    requires some { 1 ≤ last }
-    requires count { IsPowerOfTwo (length xs.old / last) }
-    requires whole { length xs.old / last * last ≡ length xs.old }
-    requires within { (b + 1) * (length xs.old / last / 2) ≤ length table.now }
+    requires { IsSplittable T.number F.value F.quotient T.base (M.modulus m.now) b last xs.old table.now }
     ensures below { All (λ x. T.number x < M.modulus m.now) xs.new }
     ensures remainders { let modulus = M.modulus m.now in (g z : ℕ) →
         IsPlan modulus g z (length table.now) (numbers F.value table.now) →

@@ -3,6 +3,7 @@
 ghost use Rattle.std.specs.Prelude.{◌≡◌, ℕ, ◌+◌, ◌*◌, ◌%◌, ◌<◌, ◌≤◌, IsTrue};
 ghost use Rattle.std.proofs.Common.{le_refl, mul-le-mul_right, lit≤};
 ghost use Rattle.modular_plan.specs.Factors.{IsFactor};
+ghost use Rattle.modular_plan.specs.Splits.{AreFourBelow, AreFactors};
 ghost use Rattle.modular_plan.specs.Steps.{IsPairSplit, IsFourSplit};
 
 use crate::modulus::{Factor, PlannedModulus};
@@ -44,30 +45,21 @@ pub trait SplitSteps<T: PlainWord>: Copy {
         u: &Factor<T>,
         v: &Factor<T>,
     ) -> (T, T, T, T)
-        requires below { T.number x < bound self.now }
-        requires second_below { T.number y < bound self.now }
-        requires factor { IsFactor T.base (modulus self.now) (T.number w.now.value) (T.number w.now.quotient) }
-        requires low_factor { IsFactor T.base (modulus self.now) (T.number u.now.value) (T.number u.now.quotient) }
-        requires high_factor { IsFactor T.base (modulus self.now) (T.number v.now.value) (T.number v.now.quotient) }
-        ensures first_below { T.number result.0 < bound self.now }
-        ensures second_below { T.number result.1 < bound self.now }
-        ensures third_below { T.number result.2 < bound self.now }
-        ensures fourth_below { T.number result.3 < bound self.now }
+        requires below { (T.number x < bound self.now) × (T.number y < bound self.now) }
+        requires factors { AreFactors T.base (modulus self.now) (T.number w.now.value) (T.number w.now.quotient)
+            (T.number u.now.value) (T.number u.now.quotient) (T.number v.now.value) (T.number v.now.quotient) }
+        ensures below { AreFourBelow (bound self.now) (T.number result.0) (T.number result.1)
+            (T.number result.2) (T.number result.3) }
         ensures four { IsFourSplit (modulus self.now) (T.number w.now.value) (T.number u.now.value)
             (T.number v.now.value) (T.number x) (T.number y) (T.number z) (T.number t)
             (T.number result.0) (T.number result.1) (T.number result.2) (T.number result.3) };
 
     /// The same of numbers below 4m where w and u are 1.
     fn four_by_one(&self, x: T, y: T, z: T, t: T, v: &Factor<T>) -> (T, T, T, T)
-        requires below { T.number x < 4 * modulus self.now }
-        requires second_below { T.number y < 4 * modulus self.now }
-        requires third_below { T.number z < 4 * modulus self.now }
-        requires fourth_below { T.number t < 4 * modulus self.now }
+        requires below { AreFourBelow (4 * modulus self.now) (T.number x) (T.number y) (T.number z) (T.number t) }
         requires factor { IsFactor T.base (modulus self.now) (T.number v.now.value) (T.number v.now.quotient) }
-        ensures first_below { T.number result.0 < bound self.now }
-        ensures second_below { T.number result.1 < bound self.now }
-        ensures third_below { T.number result.2 < bound self.now }
-        ensures fourth_below { T.number result.3 < bound self.now }
+        ensures below { AreFourBelow (bound self.now) (T.number result.0) (T.number result.1)
+            (T.number result.2) (T.number result.3) }
         ensures four { IsFourSplit (modulus self.now) 1 1 (T.number v.now.value)
             (T.number x) (T.number y) (T.number z) (T.number t)
             (T.number result.0) (T.number result.1) (T.number result.2) (T.number result.3) };

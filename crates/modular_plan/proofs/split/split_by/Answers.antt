@@ -4,30 +4,31 @@ use Rattle.modular_plan.proofs.Levels.{remainders_of}
 use Rattle.modular_plan.proofs.TwoLevels.{whole_fours, remainders_of_fours}
 use Rattle.modular_plan.proofs.split.split_by.Goals as goal
 
-pub split_stages-requires-clause-count : goal.split_stages-requires-clause-count
-split_stages-requires-clause-count g c =
+pub split_stages-requires : goal.split_stages-requires
+split_stages-requires g c =
     let fours = whole_fours (length c.args.xs.now) c.args.last c.args.b (length c.args.table.now) c.if-last-eq1.true
     c.if-xs-ge4.true c.requires.count c.requires.within in
-    fours.power
+    record {
+      entries = c.requires.entries;
+      factors = c.requires.factors;
+      some = omega arith;
+      count = fours.power;
+      whole = fours.whole;
+      within = fours.room;
+    }
 
-pub split_stages-requires-clause-whole : goal.split_stages-requires-clause-whole
-split_stages-requires-clause-whole g c =
-    let fours = whole_fours (length c.args.xs.now) c.args.last c.args.b (length c.args.table.now) c.if-last-eq1.true
-    c.if-xs-ge4.true c.requires.count c.requires.within in
-    fours.whole
-
-pub split_fours-requires-clause-whole : goal.split_fours-requires-clause-whole
-split_fours-requires-clause-whole g c =
+pub split_fours-requires : goal.split_fours-requires
+split_fours-requires g c =
     let fours = whole_fours (length c.args.xs.now) c.args.last c.args.b (length c.args.table.now) c.if-last-eq1.true
     c.if-xs-ge4.true c.requires.count c.requires.within in
     let whole = fours.whole in
-    omega (arith, whole)
-
-pub split_fours-requires-clause-within : goal.split_fours-requires-clause-within
-split_fours-requires-clause-within g c =
-    let fours = whole_fours (length c.args.xs.now) c.args.last c.args.b (length c.args.table.now) c.if-last-eq1.true
-    c.if-xs-ge4.true c.requires.count c.requires.within in
-    fours.places
+    record {
+      entries = c.split_stages.ensures.entries;
+      factors = c.requires.factors;
+      whole = omega (arith, whole);
+      within = fours.places;
+      some = omega arith;
+    }
 
 pub returns-then-xs-ge4-clause-remainders : goal.returns-then-xs-ge4-clause-remainders
 returns-then-xs-ge4-clause-remainders g c =
@@ -39,7 +40,7 @@ returns-then-xs-ge4-clause-remainders g c =
     λ r z plan.
     remainders_of_fours r z c.args.b (length c.args.xs.now) c.args.last (length c.args.table.now) _ _ _ _
     c.if-last-eq1.true fours plan (c.split_stages.ensures.level r z plan) c.split_fours.ensures.done
-    (λ i l. bounded_at n m c.split_fours.new.xs i c.split_fours.ensures.below (omega arith))
+    (λ i l. bounded_at n m c.split_fours.new.xs i c.split_fours.ensures.entries (omega arith))
 
 pub returns-else-last-eq1-clause-remainders : goal.returns-else-last-eq1-clause-remainders
 returns-else-last-eq1-clause-remainders g c =

@@ -1,8 +1,37 @@
 use Rattle.std.proofs.Common.{◌≡◌, ◌/◌, length, refl, sym, ap, subst}
 use Rattle.modular_plan.specs.Plans.{numbers, IsPlan}
+use Rattle.modular_plan.specs.Splits.{IsSplittable}
 use Rattle.modular_plan.specs.Steps.{IsLevel}
 use Rattle.modular_plan.proofs.Levels.{remainders_of}
 use Rattle.modular_plan.proofs.split.split_loosely.Goals as goal
+
+pub split_stages-requires : goal.split_stages-requires
+split_stages-requires g c =
+    let n = g.T.RingWord.number in
+    let same : n c.in-Some.roomy.planned.modulus ≡ n c.args.m.now.modulus = ap (λ p. n p.modulus) c.in-Some.ensures in
+    let given = c.requires in
+    subst (λ k. IsSplittable n g.F.PlanEntry.value g.F.PlanEntry.quotient g.T.PathWord.base k c.args.b c.args.last
+    c.args.xs.now c.args.table.now) (sym same)
+    (record {
+      entries = given.entries;
+      factors = given.factors;
+      some = given.some;
+      count = given.count;
+      whole = given.whole;
+      within = given.within;
+    })
+
+pub split_stages-requires-in-None : goal.split_stages-requires-in-None
+split_stages-requires-in-None g c =
+    let given = c.requires in
+    record {
+      entries = given.entries;
+      factors = given.factors;
+      some = given.some;
+      count = given.count;
+      whole = given.whole;
+      within = given.within;
+    }
 
 pub returns-in-Some : goal.returns-in-Some
 returns-in-Some g c =

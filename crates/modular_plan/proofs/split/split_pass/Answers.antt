@@ -4,13 +4,16 @@ use Rattle.modular_plan.proofs.Entries.{number_read}
 use Rattle.modular_plan.proofs.Fours.{first_stage}
 use Rattle.modular_plan.proofs.split.split_pass.Goals as goal
 
-pub returns-then-is_one-clause-done : goal.returns-then-is_one-clause-done
-returns-then-is_one-clause-done g c =
+pub returns-then-is_one : goal.returns-then-is_one
+returns-then-is_one g c =
     let value = g.F.PlanEntry.value in
     let table = c.args.table.now in
     let zero = number_read value table 0 c.index-table-0.result (omega arith) c.index-table-0.is in
     let one = number_read value table 1 c.index-table-1.result (omega arith) c.index-table-1.is in
     let begins = sym zero ∙ sym c.factor.ensures.value ∙ c.is_one.ensures.0 c.if-is_one.true in
-    first_stage (g.M.SplitSteps.modulus c.args.m.now) c.args.q (g.T.RingWord.number c.factor-v.result.value)
-    c.args.first c.args.blocks (numbers value table) _ _ c.if-first-eq0.true c.if-blocks-eq1.true begins
-    (c.factor-v.ensures.value ∙ one) c.split_by_one.ensures.done
+    record {
+      entries = c.split_by_one.ensures.entries;
+      done = first_stage (g.M.SplitSteps.modulus c.args.m.now) c.args.q (g.T.RingWord.number c.factor-v.result.value)
+          c.args.first c.args.blocks (numbers value table) _ _ c.if-first-eq0.true c.if-blocks-eq1.true begins
+          (c.factor-v.ensures.value ∙ one) c.split_by_one.ensures.done;
+    }

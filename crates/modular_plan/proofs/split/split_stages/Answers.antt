@@ -26,28 +26,20 @@ overflow_mul-b g c =
     let enough = two_rooms c.args.b (length c.args.table.now) sizes c.requires.within in
     omega (arith, enough)
 
-pub split_pass-requires-clause-whole : goal.split_pass-requires-clause-whole
-split_pass-requires-clause-whole g c =
+pub split_pass-requires-clause-ready : goal.split_pass-requires-clause-ready
+split_pass-requires-clause-ready g c =
     let before = c.stages.invariant in
     let sizes = two_sizes c.stages.size c.args.last c.stages.blocks c.stages.left (length c.args.xs.now)
     c.requires.some c.requires.count c.requires.whole (omega arith) before.sized before.counted in
     let whole = sizes.whole in
     let same = c.stages.auto.xs in
-    omega (arith, whole, same)
-
-pub split_pass-requires-clause-within : goal.split_pass-requires-clause-within
-split_pass-requires-clause-within g c =
-    let before = c.stages.invariant in
-    let sizes = two_sizes c.stages.size c.args.last c.stages.blocks c.stages.left (length c.args.xs.now)
-    c.requires.some c.requires.count c.requires.whole (omega arith) before.sized before.counted in
-    two_rooms c.args.b (length c.args.table.now) sizes c.requires.within
-
-pub split_pass-requires-clause-some : goal.split_pass-requires-clause-some
-split_pass-requires-clause-some g c =
-    let before = c.stages.invariant in
-    let sizes = two_sizes c.stages.size c.args.last c.stages.blocks c.stages.left (length c.args.xs.now)
-    c.requires.some c.requires.count c.requires.whole (omega arith) before.sized before.counted in
-    sizes.some
+    record {
+      entries = before.entries;
+      factors = c.requires.factors;
+      whole = omega (arith, whole, same);
+      within = two_rooms c.args.b (length c.args.table.now) sizes c.requires.within;
+      some = sizes.some;
+    }
 
 pub overflow_mul-blocks : goal.overflow_mul-blocks
 overflow_mul-blocks g c =

@@ -4,21 +4,13 @@ use Rattle.modular_plan.proofs.Steps.{pair_along, reduced_by}
 use Rattle.modular_plan.proofs.Fours.{four_of_pairs}
 use Rattle.modular_plan.proofs.split_steps.RoomyModulusSplitSteps.four.Goals as goal
 
-pub returns-clause-first_below : goal.returns-clause-first_below
-returns-clause-first_below g c =
-    omega (arith, c.spread-a.ensures.below, c.spread-e.ensures.below, c.reduced_once.ensures.below, c.eightfold.ensures)
-
-pub returns-clause-second_below : goal.returns-clause-second_below
-returns-clause-second_below g c =
-    omega (arith, c.spread-a.ensures.most, c.spread-e.ensures.below, c.reduced_once.ensures.below, c.eightfold.ensures)
-
-pub returns-clause-third_below : goal.returns-clause-third_below
-returns-clause-third_below g c =
-    omega (arith, c.spread-c.ensures.below, c.spread-e.ensures.most, c.reduced_once.ensures.below, c.eightfold.ensures)
-
-pub returns-clause-fourth_below : goal.returns-clause-fourth_below
-returns-clause-fourth_below g c =
-    omega (arith, c.spread-c.ensures.most, c.spread-e.ensures.most, c.reduced_once.ensures.below, c.eightfold.ensures)
+pub returns-clause-below : goal.returns-clause-below
+returns-clause-below g c = record {
+  first = omega (arith, c.spread-a.ensures.below, c.spread-e.ensures.below, c.reduced_once.ensures.below, c.eightfold.ensures);
+  second = omega (arith, c.spread-a.ensures.most, c.spread-e.ensures.below, c.reduced_once.ensures.below, c.eightfold.ensures);
+  third = omega (arith, c.spread-c.ensures.below, c.spread-e.ensures.most, c.reduced_once.ensures.below, c.eightfold.ensures);
+  fourth = omega (arith, c.spread-c.ensures.most, c.spread-e.ensures.most, c.reduced_once.ensures.below, c.eightfold.ensures);
+}
 
 pub returns-clause-four : goal.returns-clause-four
 returns-clause-four g c =

@@ -1,7 +1,7 @@
 use Rattle.std.proofs.Common.{◌<◌, All}
 use Rattle.modular_plan.specs.Plans.{numbers}
 use Rattle.modular_plan.specs.Steps.{IsFourSplit, BlockOfFours}
-use Rattle.modular_plan.proofs.split.split_by_one.Given as goal
+use Rattle.modular_plan.proofs.split_blocks.split_by_one.Given as goal
 
 -- the first i columns are done
 abbrev pub invariant-columns : goal.invariant-columns

@@ -1,0 +1,89 @@
+-- What the passes of a split ask of the entries and of the table, and what they leave.
+use Rattle.std.specs.Prelude.{◌≡◌, ◌≢◌, ℕ, ◌+◌, ◌*◌, ◌/◌, ◌<◌, ◌≤◌, List, All, length}
+use Rattle.std.specs.Int.{IsPowerOfTwo}
+use Rattle.modular_plan.specs.Factors.{IsFactor}
+use Rattle.modular_plan.specs.Plans.{numbers}
+use Rattle.modular_plan.specs.Steps.{IsFourSplit, StageOfFours}
+
+-- four numbers are below a bound
+pub record AreFourBelow (bound a b c d : ℕ) : Type 0 where
+  pub first : a < bound
+  pub second : b < bound
+  pub third : c < bound
+  pub fourth : d < bound
+
+-- four places are in order, and within n
+pub record AreInOrder (i j k l n : ℕ) : Type 0 where
+  pub first : i < j
+  pub second : j < k
+  pub third : k < l
+  pub last : l < n
+
+-- w is the factor of a block modulo m, and u and v are those of its halves; p, q and r are their quotients
+pub record AreFactors (base m w p u q v r : ℕ) : Type 0 where
+  pub whole : IsFactor base m w p
+  pub low : IsFactor base m u q
+  pub high : IsFactor base m v r
+
+-- a, b, c and d are the entries x at four places
+pub record AreAt (i j k l : ℕ) (x : ℕ → ℕ) (a b c d : ℕ) : Type 0 where
+  pub first : a ≡ x i
+  pub second : b ≡ x j
+  pub third : c ≡ x k
+  pub fourth : d ≡ x l
+
+-- four quarters of one length, all of whose entries are below a bound
+pub record AreQuarters {X : Type 0} (number : X → ℕ) (bound : ℕ) (a b c d : List X) : Type 0 where
+  pub first : All (λ x. number x < bound) a
+  pub second : All (λ x. number x < bound) b
+  pub third : All (λ x. number x < bound) c
+  pub fourth : All (λ x. number x < bound) d
+  pub second_length : length b ≡ length a
+  pub third_length : length c ≡ length a
+  pub fourth_length : length d ≡ length a
+
+-- column i of four quarters is done, and the others are kept
+pub record ColumnDone (R : ℕ → ℕ → ℕ → ℕ → ℕ → ℕ → ℕ → ℕ → Type 0) (i : ℕ) (a b c d a' b' c' d' : ℕ → ℕ) : Type 0 where
+  pub column : R (a i) (b i) (c i) (d i) (a' i) (b' i) (c' i) (d' i)
+  pub kept : (k : ℕ) → k ≢ i → (a' k ≡ a k) × (b' k ≡ b k) × (c' k ≡ c k) × (d' k ≡ d k)
+
+-- the first columns are done, and the others are kept
+pub record ColumnsDone (R : ℕ → ℕ → ℕ → ℕ → ℕ → ℕ → ℕ → ℕ → Type 0) (done : ℕ) (a b c d a' b' c' d' : ℕ → ℕ) : Type 0 where
+  pub columns : (k : ℕ) → k < done → R (a k) (b k) (c k) (d k) (a' k) (b' k) (c' k) (d' k)
+  pub kept : (k : ℕ) → done ≤ k → (a' k ≡ a k) × (b' k ≡ b k) × (c' k ≡ c k) × (d' k ≡ d k)
+
+-- two halves of q + q entries each, all below a bound
+pub record AreHalves {X : Type 0} (number : X → ℕ) (bound q : ℕ) (xs ys : List X) : Type 0 where
+  pub low : All (λ x. number x < bound) xs
+  pub high : All (λ x. number x < bound) ys
+  pub low_length : length xs ≡ q + q
+  pub high_length : length ys ≡ q + q
+
+-- all columns of a block are done, whose halves are x and y
+pub record HalvesDone (R : ℕ → ℕ → ℕ → ℕ → ℕ → ℕ → ℕ → ℕ → Type 0) (q : ℕ) (x y x' y' : ℕ → ℕ) : Type 0 where
+  pub columns : (i : ℕ) → i < q → R (x i) (x (q + i)) (y i) (y (q + i)) (x' i) (x' (q + i)) (y' i) (y' (q + i))
+
+-- a pass of two stages over blocks of four times q entries: the entries are below the bound, and the table, whose
+-- entries are factors modulo m, has one for each block from place first on, and at twice that place for its halves
+pub record IsPassReady {X F : Type 0} (number : X → ℕ) (value quotient : F → ℕ) (base m bound q blocks first : ℕ) (xs : List X) (table : List F) : Type 0 where
+  pub entries : All (λ x. number x < bound) xs
+  pub factors : All (λ f. IsFactor base m (value f) (quotient f)) table
+  pub whole : blocks * (q + q + (q + q)) ≡ length xs
+  pub within : 2 * (first + blocks) ≤ length table
+  pub some : 0 < q
+
+-- .. and what it leaves, below a bound too
+pub record IsPassDone {X F : Type 0} (number : X → ℕ) (value : F → ℕ) (m bound q blocks first : ℕ) (table : List F) (old new : List X) : Type 0 where
+  pub entries : All (λ x. number x < bound) new
+  pub done : StageOfFours (λ p. IsFourSplit m (numbers value table (first + p)) (numbers value table (2 * (first + p)))
+      (numbers value table (2 * (first + p) + 1))) q blocks (numbers number old) (numbers number new)
+
+-- a split of block b into blocks of `last` entries: the entries are below 4m, their number is a power of two times
+-- `last`, and the table has as many factors modulo m as the last stage takes
+pub record IsSplittable {X F : Type 0} (number : X → ℕ) (value quotient : F → ℕ) (base m b last : ℕ) (xs : List X) (table : List F) : Type 0 where
+  pub entries : All (λ x. number x < 4 * m) xs
+  pub factors : All (λ f. IsFactor base m (value f) (quotient f)) table
+  pub some : 1 ≤ last
+  pub count : IsPowerOfTwo (length xs / last)
+  pub whole : length xs / last * last ≡ length xs
+  pub within : (b + 1) * (length xs / last / 2) ≤ length table
