@@ -3,6 +3,7 @@
 use Rattle.std.specs.Prelude.{◌≡◌, ◌≢◌, ℕ, ◌+◌, ◌*◌, ◌%◌, ◌^◌, ◌<◌, ◌≤◌, pos, ◌-ℤ◌}
 use Rattle.modular_word.specs.Congruence.{Congruent}
 use Rattle.modular_word.specs.Residues.{residue}
+use Rattle.modular_reduced.specs.Forms.{IsForm}
 
 -- the values a and b become their sum, and their difference times a power
 pub record IsPair (m power a b sum difference : ℕ) : Type 0 where
@@ -56,3 +57,9 @@ pub record IsFour (m p q s step k : ℕ) (x z : ℕ → ℕ) : Type 0 where
 pub record FourDone (m p q s step k : ℕ) (x z : ℕ → ℕ) : Type 0 where
   pub four : IsFour m p q s step k x z
   pub kept : (i : ℕ) → i ≢ k → i ≢ k + step → i ≢ k + 2 * step → i ≢ k + 3 * step → z i ≡ x i
+
+-- the powers p, q and s by which a four goes through two stages are checked forms
+pub record ArePowers (form value : ℕ → ℕ → ℕ) (m p q s : ℕ) : Type 0 where
+  pub first : IsForm form value m p
+  pub second : IsForm form value m q
+  pub both : IsForm form value m s

@@ -1,7 +1,7 @@
 //! One stage of a transform in place: the sums and differences of pairs, by strips of columns.
 
-ghost use Rattle.std.specs.Prelude.{◌≡◌, ◌+◌, ◌*◌, ◌%◌, ◌<◌, All, length, slice_index};
-ghost use Rattle.modular_reduced.specs.Forms.{Represents, IsForm};
+ghost use Rattle.std.specs.Prelude.{◌≡◌, ◌+◌, ◌*◌, ◌<◌, All, length, slice_index};
+ghost use Rattle.modular_reduced.specs.Forms.{IsForm};
 ghost use Rattle.modular_reduced.specs.Values.{values_of};
 ghost use Rattle.modular_transform.specs.Stages.{PairDone, IsStage};
 
@@ -16,8 +16,7 @@ pub const STRIP: usize = 128;
 fn pair<T: RingWord, R: Reducer<T>>(r: &R, forms: &mut [T], first: usize, second: usize, power: &T)
     requires checked { All (λ f. IsForm R.form R.value (R.modulus r.now) (T.number f)) forms.old }
     requires power { IsForm R.form R.value (R.modulus r.now) (T.number power.now) }
-    requires order { first < second }
-    requires within { second < length forms.old }
+    requires within { (first < second) × (second < length forms.old) }
     ensures checked { All (λ f. IsForm R.form R.value (R.modulus r.now) (T.number f)) forms.new }
     ensures done { let m = R.modulus r.now in
         PairDone m (R.value m (T.number power.now)) first second
@@ -27,20 +26,6 @@ fn pair<T: RingWord, R: Reducer<T>>(r: &R, forms: &mut [T], first: usize, second
     let b = forms[second];
     forms[second] = r.mul_difference(&a, &b, power);
     forms[first] = r.add(&a, &b);
-}
-
-/// Multiplies the running power by the root, and answers what it was before. It takes one product.
-pub fn advance<T: RingWord, R: Reducer<T>>(r: &R, running: &mut T, root: &T) -> T
-    requires running { IsForm R.form R.value (R.modulus r.now) (T.number running.old) }
-    requires root { IsForm R.form R.value (R.modulus r.now) (T.number root.now) }
-    ensures last { result ≡ running.old }
-    ensures next { let m = R.modulus r.now in
-        Represents R.form m (T.number running.new)
-        ((R.value m (T.number running.old) * R.value m (T.number root.now)) % m) }
-{
-    let last = *running;
-    *running = r.mul(&last, root);
-    last
 }
 
 /// A stage with a root: in each block of `half` and `half` entries the pair of column i becomes its
@@ -71,7 +56,8 @@ pub fn stage<T: RingWord, R: Reducer<T>>(
     'strips: while column < half {
         let width = STRIP.min(half - column);
         'fill: for i in 0..width {
-            powers[i] = advance(r, &mut running, root);
+            powers[i] = running;
+            running = r.mul(&running, root);
             products += 1;
         }
         'each_block: for block in 0..blocks {

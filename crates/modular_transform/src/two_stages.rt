@@ -4,9 +4,9 @@ ghost use Rattle.std.specs.Prelude.{◌≡◌, ◌+◌, ◌*◌, ◌^◌, ◌<�
 ghost use Rattle.modular_word.specs.Congruence.{Congruent};
 ghost use Rattle.modular_reduced.specs.Forms.{IsForm};
 ghost use Rattle.modular_reduced.specs.Values.{values_of};
-ghost use Rattle.modular_transform.specs.Stages.{FourDone, IsTwoStages};
+ghost use Rattle.modular_transform.specs.Stages.{ArePowers, FourDone, IsTwoStages};
 
-use crate::stage::{STRIP, advance};
+use crate::stage::STRIP;
 use modular_reduced::reducer::Reducer;
 use modular_word::ring_word::RingWord;
 
@@ -22,11 +22,9 @@ fn four<T: RingWord, R: Reducer<T>>(
     both: &T,
 )
     requires checked { All (λ f. IsForm R.form R.value (R.modulus r.now) (T.number f)) forms.old }
-    requires first { IsForm R.form R.value (R.modulus r.now) (T.number first.now) }
-    requires second { IsForm R.form R.value (R.modulus r.now) (T.number second.now) }
-    requires both { IsForm R.form R.value (R.modulus r.now) (T.number both.now) }
-    requires some { 0 < step }
-    requires within { place + 3 * step < length forms.old }
+    requires powers { ArePowers R.form R.value (R.modulus r.now) (T.number first.now) (T.number second.now)
+        (T.number both.now) }
+    requires within { (0 < step) × (place + 3 * step < length forms.old) }
     ensures checked { All (λ f. IsForm R.form R.value (R.modulus r.now) (T.number f)) forms.new }
     ensures done { let m = R.modulus r.now in
         FourDone m (R.value m (T.number first.now)) (R.value m (T.number second.now)) (R.value m (T.number both.now)) step place
@@ -83,9 +81,12 @@ pub fn two_stages<T: RingWord, R: Reducer<T>>(
     'strips: while column < step {
         let width = STRIP.min(step - column);
         'fill: for i in 0..width {
-            firsts[i] = advance(r, &mut power, root);
-            seconds[i] = advance(r, &mut turned_power, root);
-            boths[i] = advance(r, &mut square_power, square);
+            firsts[i] = power;
+            seconds[i] = turned_power;
+            boths[i] = square_power;
+            power = r.mul(&power, root);
+            turned_power = r.mul(&turned_power, root);
+            square_power = r.mul(&square_power, square);
             products += 3;
         }
         'each_block: for block in 0..blocks {

@@ -1,4 +1,4 @@
-use Rattle.std.proofs.Common.{rules, ◌≡◌, ℕ, ◌+◌, ◌-◌, ◌*◌, ◌%◌, ◌^◌, ◌<◌, length, sym, ◌∙◌, ap, arith, subst}
+use Rattle.std.proofs.Common.{rules, ◌≡◌, ℕ, ◌+◌, ◌-◌, ◌*◌, ◌%◌, ◌^◌, ◌<◌, length, ◌∙◌, ap, arith, subst}
 use Rattle.modular_reduced.specs.Forms.{Represents}
 use Rattle.modular_reduced.proofs.FormLemmas.{form_of_value}
 use Rattle.modular_transform.specs.Stages.{PairsDone}
@@ -61,7 +61,7 @@ pair-requires-clause-within g c =
     let least = c.min-width.ensures in
     let fit = block_fits c.each_block.block c.args.blocks c.args.half _ (omega arith) c.requires.whole in
     let same = c.columns.auto.forms in
-    omega (arith, fit, least, same)
+    (omega (arith, least), omega (arith, fit, least, same))
 
 pub overflow_add-products-in-columns : goal.overflow_add-products-in-columns
 overflow_add-products-in-columns g c =
@@ -115,11 +115,12 @@ each_block-init g c =
       count = omega (arith, count, all);
     }
 
-pub advance-requires-clause-running : goal.advance-requires-clause-running
-advance-requires-clause-running g c = form_of_value (g.met.R.Reducer.canonical c.args.r.now) c.fill.invariant.running
+pub mul-running-requires-clause-left : goal.mul-running-requires-clause-left
+mul-running-requires-clause-left g c =
+    form_of_value (g.met.R.Reducer.canonical c.args.r.now) c.fill.invariant.running
 
-pub advance-requires-clause-root : goal.advance-requires-clause-root
-advance-requires-clause-root g c = c.requires.root
+pub mul-running-requires-clause-right : goal.mul-running-requires-clause-right
+mul-running-requires-clause-right g c = c.requires.root
 
 pub pair-requires-clause-checked : goal.pair-requires-clause-checked
 pair-requires-clause-checked g c = c.columns.invariant.checked
@@ -128,9 +129,6 @@ pub pair-requires-clause-power : goal.pair-requires-clause-power
 pair-requires-clause-power g c =
     let least = c.min-width.ensures in
     c.fill.invariant.powers c.columns.k c.index-powers-k.result (omega (arith, least))
-
-pub pair-requires-clause-order : goal.pair-requires-clause-order
-pair-requires-clause-order g c = let least = c.min-width.ensures in omega (arith, least)
 
 pub returns-clause-checked : goal.returns-clause-checked
 returns-clause-checked g c = c.strips.invariant.checked
@@ -152,13 +150,12 @@ fill-preserved g c =
     let w = value m (number c.args.root.now) in
     let i = c.fill.i in
     let before = c.fill.invariant in
-    let here = subst (λ f. Represents g.R.Reducer.form m (number f) ((s * w ^ i) % m))
-    (sym c.advance.ensures.last) before.running in
+    let here = before.running in
     record {
       powers = forms_written number g.R.Reducer.form value _ m c.fill.powers i
-          ((s * w ^ i) % m) c.advance.result canonical here before.powers;
-      running = power_next s w i canonical before.running c.advance.ensures.next;
-      written = entry_done number value m c.fill.powers i c.advance.result (λ k. (s * w ^ k) % m)
+          ((s * w ^ i) % m) c.fill.running canonical here before.powers;
+      running = power_next s w i canonical before.running c.mul-running.ensures.form;
+      written = entry_done number value m c.fill.powers i c.fill.running (λ k. (s * w ^ k) % m)
           (omega arith) before.written (canonical.one_value _ _ here);
       count = let n = before.count in omega (arith, n);
     }

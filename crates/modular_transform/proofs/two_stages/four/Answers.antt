@@ -13,8 +13,20 @@ returns-clause-done g c =
     c.index-forms-place-4.result c.add-left.result c.add-right.result c.mul_difference-left_turned.result
     c.mul_difference-right_turned.result c.add.result c.mul_difference.result c.add-2.result
     c.mul_difference-2.result
-    (g.met.R.Reducer.canonical c.args.r.now) c.requires.checked c.requires.some c.requires.within
+    (g.met.R.Reducer.canonical c.args.r.now) c.requires.checked c.requires.within.0 c.requires.within.1
     c.index-forms-place.is c.index-forms-place-2.is c.index-forms-place-3.is c.index-forms-place-4.is
     c.add-left.ensures.form c.add-right.ensures.form c.mul_difference-left_turned.ensures.form
     c.mul_difference-right_turned.ensures.form c.add.ensures.form c.mul_difference.ensures.form c.add-2.ensures.form
     c.mul_difference-2.ensures.form
+
+pub mul_difference-left_turned-requires-clause-factor : goal.mul_difference-left_turned-requires-clause-factor
+mul_difference-left_turned-requires-clause-factor g c = c.requires.powers.first
+
+pub mul_difference-right_turned-requires-clause-factor : goal.mul_difference-right_turned-requires-clause-factor
+mul_difference-right_turned-requires-clause-factor g c = c.requires.powers.second
+
+pub mul_difference-requires-clause-factor : goal.mul_difference-requires-clause-factor
+mul_difference-requires-clause-factor g c = c.requires.powers.both
+
+pub mul_difference-requires-2-clause-factor : goal.mul_difference-requires-2-clause-factor
+mul_difference-requires-2-clause-factor g c = c.requires.powers.both

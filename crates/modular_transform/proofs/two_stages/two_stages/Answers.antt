@@ -1,4 +1,4 @@
-use Rattle.std.proofs.Common.{rules, ◌≡◌, ℕ, ◌+◌, ◌-◌, ◌*◌, ◌%◌, ◌^◌, ◌<◌, ◌≤◌, length, sym, ◌∙◌, ap, arith, subst}
+use Rattle.std.proofs.Common.{rules, ◌≡◌, ℕ, ◌+◌, ◌-◌, ◌*◌, ◌%◌, ◌^◌, ◌<◌, ◌≤◌, length, ◌∙◌, ap, arith, subst}
 use Rattle.modular_word.specs.Congruence.{Congruent}
 use Rattle.modular_reduced.specs.Forms.{Represents}
 use Rattle.modular_reduced.proofs.FormLemmas.{form_of_value}
@@ -99,7 +99,40 @@ four-requires-clause-within g c =
     let least = c.min-width.ensures in
     let fit = block_fits c.each_block.block c.args.blocks c.args.step _ (omega arith) c.requires.whole in
     let same = c.columns.auto.forms in
-    omega (arith, fit, least, same)
+    (omega (arith, least), omega (arith, fit, least, same))
+
+pub four-requires-clause-powers : goal.four-requires-clause-powers
+four-requires-clause-powers g c =
+    let least = c.min-width.ensures in
+    let filled = c.fill.invariant in
+    record {
+      first = filled.firsts c.columns.k c.index-firsts-k.result (omega (arith, least));
+      second = filled.seconds c.columns.k c.index-seconds-k.result (omega (arith, least));
+      both = filled.boths c.columns.k c.index-boths-k.result (omega (arith, least));
+    }
+
+pub four-requires-clause-checked : goal.four-requires-clause-checked
+four-requires-clause-checked g c = c.columns.invariant.checked
+
+pub mul-power-requires-clause-left : goal.mul-power-requires-clause-left
+mul-power-requires-clause-left g c = form_of_value (g.met.R.Reducer.canonical c.args.r.now) c.fill.invariant.power
+
+pub mul-power-requires-clause-right : goal.mul-power-requires-clause-right
+mul-power-requires-clause-right g c = c.requires.root
+
+pub mul-turned_power-requires-clause-left : goal.mul-turned_power-requires-clause-left
+mul-turned_power-requires-clause-left g c =
+    form_of_value (g.met.R.Reducer.canonical c.args.r.now) c.fill.invariant.turned
+
+pub mul-turned_power-requires-clause-right : goal.mul-turned_power-requires-clause-right
+mul-turned_power-requires-clause-right g c = c.requires.root
+
+pub mul-square_power-requires-clause-left : goal.mul-square_power-requires-clause-left
+mul-square_power-requires-clause-left g c =
+    form_of_value (g.met.R.Reducer.canonical c.args.r.now) c.fill.invariant.square
+
+pub mul-square_power-requires-clause-right : goal.mul-square_power-requires-clause-right
+mul-square_power-requires-clause-right g c = c.requires.square
 
 pub each_block-preserved : goal.each_block-preserved
 each_block-preserved g c =
@@ -244,27 +277,22 @@ fill-preserved g c =
     let second = value m (number c.strips.turned_power) in
     let both = value m (number c.strips.square_power) in
     let at = λ (s u : ℕ). (s * u ^ i) % m in
-    let of_first = subst (λ f. Represents form m (number f) (at first w)) (sym c.advance.ensures.last) before.power in
-    let of_second = subst (λ f. Represents form m (number f) (at second w)) (sym c.advance-in-fill.ensures.last)
-    before.turned in
-    let of_both = subst (λ f. Represents form m (number f) (at both v)) (sym c.advance-in-fill-2.ensures.last)
-    before.square in
     record {
-      firsts = forms_written number form value _ m c.fill.firsts i (at first w) c.advance.result canonical of_first
+      firsts = forms_written number form value _ m c.fill.firsts i (at first w) c.fill.power canonical before.power
           before.firsts;
-      seconds = forms_written number form value _ m c.fill.seconds i (at second w) c.advance-in-fill.result canonical
-          of_second before.seconds;
-      boths = forms_written number form value _ m c.fill.boths i (at both v) c.advance-in-fill-2.result canonical
-          of_both before.boths;
-      power = power_next first w i canonical before.power c.advance.ensures.next;
-      turned = power_next second w i canonical before.turned c.advance-in-fill.ensures.next;
-      square = power_next both v i canonical before.square c.advance-in-fill-2.ensures.next;
-      of_first = entry_done number value m c.fill.firsts i c.advance.result (λ k. (first * w ^ k) % m) (omega arith)
-          before.of_first (canonical.one_value _ _ of_first);
-      of_second = entry_done number value m c.fill.seconds i c.advance-in-fill.result (λ k. (second * w ^ k) % m)
-          (omega arith) before.of_second (canonical.one_value _ _ of_second);
-      of_both = entry_done number value m c.fill.boths i c.advance-in-fill-2.result (λ k. (both * v ^ k) % m)
-          (omega arith) before.of_both (canonical.one_value _ _ of_both);
+      seconds = forms_written number form value _ m c.fill.seconds i (at second w) c.fill.turned_power canonical
+          before.turned before.seconds;
+      boths = forms_written number form value _ m c.fill.boths i (at both v) c.fill.square_power canonical
+          before.square before.boths;
+      power = power_next first w i canonical before.power c.mul-power.ensures.form;
+      turned = power_next second w i canonical before.turned c.mul-turned_power.ensures.form;
+      square = power_next both v i canonical before.square c.mul-square_power.ensures.form;
+      of_first = entry_done number value m c.fill.firsts i c.fill.power (λ k. (first * w ^ k) % m) (omega arith)
+          before.of_first (canonical.one_value _ _ before.power);
+      of_second = entry_done number value m c.fill.seconds i c.fill.turned_power (λ k. (second * w ^ k) % m)
+          (omega arith) before.of_second (canonical.one_value _ _ before.turned);
+      of_both = entry_done number value m c.fill.boths i c.fill.square_power (λ k. (both * v ^ k) % m)
+          (omega arith) before.of_both (canonical.one_value _ _ before.square);
       count = let n = before.count in omega (arith, n);
     }
 
