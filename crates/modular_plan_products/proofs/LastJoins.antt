@@ -13,9 +13,10 @@ use Rattle.modular_word.proofs.Congruence.{of_equal, chained, itself, multiplied
 use Rattle.modular_word.proofs.Sums.{sum_below-same, sum_below-mul}
 use Rattle.modular_plan.specs.Plans.{numbers, constant, IsPlan, AreRemainders}
 use Rattle.modular_plan.specs.Steps.{FourAt, BlockOfFours, StageOfFours, IsLevel}
+use Rattle.modular_plan_products.specs.Conditions.{AreFourBelow}
 use Rattle.modular_plan_products.specs.Joins.{IsFourJoin}
 use Rattle.modular_plan_products.proofs.Joins.{level_lowest, level_top}
-use Rattle.modular_plan_products.proofs.TwoJoins.{AreFourBelow, two_join_sizes, level_joined_two}
+use Rattle.modular_plan_products.proofs.TwoJoins.{two_join_sizes, level_joined_two}
 
 -- behind a list
 pub numbers_past : {T : Type 0} (number : T → ℕ) (words : List T) (k : ℕ) → length words ≤ k → numbers number words k ≡ 0

@@ -13,6 +13,7 @@ use Rattle.modular_plan.specs.Plans.{constant, IsPlan, AreRemainders}
 use Rattle.modular_plan.specs.Steps.{FourAt, FourDone, BlockOfFours, StageOfFours, IsLevel}
 use Rattle.modular_plan.proofs.Fours.{fours_none, fours_more}
 use Rattle.modular_plan.proofs.Levels.{table_room}
+use Rattle.modular_plan_products.specs.Conditions.{AreFourBelow}
 use Rattle.modular_plan_products.specs.Joins.{IsFourJoin}
 use Rattle.modular_plan_products.proofs.Joins.{joined_pair, level_entry, level_lowest, JoinSizes, join_sizes}
 use Rattle.modular_plan_products.proofs.JoinedPairs.{joined_pair_along}
@@ -193,14 +194,7 @@ joined_four_along w u v first second third fourth four = record {
   second = four.second;
 }
 
--- four entries below a bound
-pub record AreFourBelow (bound a b c d : ℕ) : Type 0 where
-  pub first : a < bound
-  pub second : b < bound
-  pub third : c < bound
-  pub fourth : d < bound
-
--- .. and all before them
+-- four entries below a bound, and all before them
 pub four_below : (bound i : ℕ) (x y : ℕ → ℕ)
     → FourDone (λ a b c d. AreFourBelow bound) i (i + 1) (i + 2) (i + 3) x y
     → ((k : ℕ) → k < i → x k < bound) → (k : ℕ) → k < i + 4 → y k < bound

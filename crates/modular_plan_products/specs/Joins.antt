@@ -22,3 +22,9 @@ pub record IsFourJoin (m w u v a b c d a' b' c' d' : ℕ) : Type 0 where
 -- v is minus the inverse of w
 pub record IsMinusInverse (m w v : ℕ) : Type 0 where
   pub product : Congruent m (w * v + 1) 0
+
+-- w, u and v are minus the inverses of a, b and c
+pub record AreMinusInverses (m a b c w u v : ℕ) : Type 0 where
+  pub own : IsMinusInverse m a w
+  pub low : IsMinusInverse m b u
+  pub high : IsMinusInverse m c v

@@ -1,2 +1,3 @@
+pub mod Conditions
 pub mod Joins
 pub mod Products

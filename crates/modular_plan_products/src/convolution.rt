@@ -6,6 +6,7 @@ ghost use Rattle.modular_word.specs.Inverses.{HasInverse};
 ghost use Rattle.modular_transform.specs.Transforms.{cyclic_product};
 ghost use Rattle.modular_plan.specs.Factors.{IsFactor};
 ghost use Rattle.modular_plan.specs.Plans.{numbers, constant, IsPlan, AreRemainders};
+ghost use Rattle.modular_plan_products.specs.Conditions.{AreBlocks, AreSmallBlocks};
 ghost use Rattle.modular_plan_products.specs.Products.{product_modulo, AreProducts};
 
 use crate::join::join_scaled;
@@ -44,10 +45,7 @@ fn split_first<T: PlainWord, F: PlanEntry<T>>(
     requires entries { All (λ x. T.number x < 4 * T.number m.now.modulus) xs.old }
     requires factors { All (λ f. IsFactor T.base (T.number m.now.modulus) (F.value f) (F.quotient f))
         table.now }
-    requires some { 1 ≤ last }
-    requires count { IsPowerOfTwo (length xs.old / last) }
-    requires whole { length xs.old / last * last ≡ length xs.old }
-    requires within { (b + 1) * (length xs.old / last / 2) ≤ length table.now }
+    requires blocks { AreBlocks (length xs.old) (length table.now) b last }
     ensures below { ((last ≡ 1) × (T.number m.now.modulus % 2 ≡ 1) → ⊥) →
         All (λ x. T.number x < T.number m.now.modulus) xs.new }
     ensures remainders { let modulus = T.number m.now.modulus in (g z : ℕ) →
@@ -80,11 +78,7 @@ fn join_products<T: PlainWord, F: PlanEntry<T>>(
     requires equal { length ys.now ≡ length xs.old }
     requires factors { All (λ f. IsFactor T.base (T.number m.now.modulus) (F.value f) (F.quotient f))
         table.now }
-    requires some { 1 ≤ last }
-    requires few { last ≤ 2 }
-    requires count { IsPowerOfTwo (length xs.old / last) }
-    requires whole { length xs.old / last * last ≡ length xs.old }
-    requires within { (b + 1) * (length xs.old / last) ≤ 2 * length table.now }
+    requires blocks { AreSmallBlocks (length xs.old) (length table.now) b last }
     requires factor { IsFactor T.base (T.number m.now.modulus) (T.number w.now.value) (T.number w.now.quotient) }
     ensures below { All (λ x. T.number x < T.number m.now.modulus) xs.new }
     ensures joined { let modulus = T.number m.now.modulus in (g z : ℕ) →

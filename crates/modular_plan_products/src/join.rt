@@ -7,7 +7,9 @@ ghost use Rattle.modular_plan.specs.Factors.{IsFactor};
 ghost use Rattle.modular_plan.specs.Plans.{numbers, IsPlan, AreRemainders};
 ghost use Rattle.modular_plan.specs.Steps.{PairDone};
 ghost use Rattle.modular_plan.specs.Steps.{BlockDone, StageDone, FourDone, FourAt, BlockOfFours, StageOfFours};
-ghost use Rattle.modular_plan_products.specs.Joins.{IsPairJoin, IsFourJoin, IsMinusInverse};
+ghost use Rattle.modular_plan_products.specs.Joins.{IsPairJoin, IsFourJoin, IsMinusInverse, AreMinusInverses};
+ghost use Rattle.modular_plan_products.specs.Conditions.{AreThreeFactors, IsTableOfFactors};
+ghost use Rattle.modular_plan_products.specs.Conditions.{AreFourListsBelow, AreAsLong, AreBlocks, IsJoinable, IsStageOfFours};
 
 use crate::join_steps::JoinSteps;
 use modular_plan::entry::PlanEntry;
@@ -34,10 +36,8 @@ fn minus_inverse<T: PlainWord, F: PlanEntry<T>, M: JoinSteps<T>>(
     place: usize,
     minus: Factor<T>,
 ) -> Factor<T>
-    requires factors { All (λ f. IsFactor T.base (M.modulus m.now) (F.value f) (F.quotient f))
-        table.now }
-    requires minus_factor { IsFactor T.base (M.modulus m.now) (T.number minus.value) (T.number minus.quotient) }
-    requires minus { T.number minus.value + 1 ≡ M.modulus m.now }
+    requires factors { IsTableOfFactors T.base (M.modulus m.now) F.value F.quotient table.now
+        (T.number minus.value) (T.number minus.quotient) }
     requires within { place < length table.now }
     ensures factor { IsFactor T.base (M.modulus m.now) (T.number result.value) (T.number result.quotient) }
     ensures inverse { let modulus = M.modulus m.now in
@@ -63,22 +63,15 @@ fn minus_inverses<T: PlainWord, F: PlanEntry<T>, M: JoinSteps<T>>(
     place: usize,
     minus: Factor<T>,
 ) -> (Factor<T>, Factor<T>, Factor<T>)
-    requires factors { All (λ f. IsFactor T.base (M.modulus m.now) (F.value f) (F.quotient f))
-        table.now }
-    requires minus_factor { IsFactor T.base (M.modulus m.now) (T.number minus.value) (T.number minus.quotient) }
-    requires minus { T.number minus.value + 1 ≡ M.modulus m.now }
+    requires factors { IsTableOfFactors T.base (M.modulus m.now) F.value F.quotient table.now
+        (T.number minus.value) (T.number minus.quotient) }
     requires within { 2 * place + 1 < length table.now }
-    ensures factor { IsFactor T.base (M.modulus m.now)
-        (T.number result.0.value) (T.number result.0.quotient) }
-    ensures low_factor { IsFactor T.base (M.modulus m.now)
-        (T.number result.1.value) (T.number result.1.quotient) }
-    ensures high_factor { IsFactor T.base (M.modulus m.now)
-        (T.number result.2.value) (T.number result.2.quotient) }
+    ensures factors { AreThreeFactors T.base (M.modulus m.now) (T.number result.0.value) (T.number result.0.quotient)
+        (T.number result.1.value) (T.number result.1.quotient) (T.number result.2.value) (T.number result.2.quotient) }
     ensures inverses { let modulus = M.modulus m.now in
         let w = numbers F.value table.now in (g z : ℕ) →
-        IsPlan modulus g z (length table.now) w → IsMinusInverse modulus (w place) (T.number result.0.value)
-        × IsMinusInverse modulus (w (2 * place)) (T.number result.1.value)
-        × IsMinusInverse modulus (w (2 * place + 1)) (T.number result.2.value) }
+        IsPlan modulus g z (length table.now) w → AreMinusInverses modulus (w place) (w (2 * place)) (w (2 * place + 1))
+        (T.number result.0.value) (T.number result.1.value) (T.number result.2.value) }
 {
     if place == 0 {
         return (minus, minus, table[1].factor());
@@ -152,11 +145,8 @@ fn join_stage<T: PlainWord, F: PlanEntry<T>, M: JoinSteps<T>>(
     minus: &Factor<T>,
 )
     requires entries { All (λ x. T.number x < M.bound m.now) xs.old }
-    requires factors { All (λ f. IsFactor T.base (M.modulus m.now) (F.value f) (F.quotient f))
-        table.now }
-    requires minus_factor { IsFactor T.base (M.modulus m.now)
+    requires factors { IsTableOfFactors T.base (M.modulus m.now) F.value F.quotient table.now
         (T.number minus.now.value) (T.number minus.now.quotient) }
-    requires minus { T.number minus.now.value + 1 ≡ M.modulus m.now }
     requires whole { blocks * (half + half) ≡ length xs.old }
     requires within { first + blocks ≤ length table.now }
     requires some { 0 < half }
@@ -185,23 +175,14 @@ fn join_columns<T: PlainWord, M: JoinSteps<T>>(
     u: &Factor<T>,
     v: &Factor<T>,
 )
-    requires first { All (λ x. T.number x < M.bound m.now) a.old }
-    requires second { All (λ x. T.number x < M.bound m.now) b.old }
-    requires third { All (λ x. T.number x < M.bound m.now) c.old }
-    requires fourth { All (λ x. T.number x < M.bound m.now) d.old }
-    requires factor { IsFactor T.base (M.modulus m.now) (T.number w.now.value) (T.number w.now.quotient) }
-    requires low_factor { IsFactor T.base (M.modulus m.now) (T.number u.now.value) (T.number u.now.quotient) }
-    requires high_factor { IsFactor T.base (M.modulus m.now) (T.number v.now.value) (T.number v.now.quotient) }
-    requires second_length { length b.old ≡ length a.old }
-    requires third_length { length c.old ≡ length a.old }
-    requires fourth_length { length d.old ≡ length a.old }
-    ensures first { All (λ x. T.number x < M.bound m.now) a.new }
-    ensures second { All (λ x. T.number x < M.bound m.now) b.new }
-    ensures third { All (λ x. T.number x < M.bound m.now) c.new }
-    ensures fourth { All (λ x. T.number x < M.bound m.now) d.new }
+    requires entries { AreFourListsBelow T.number (M.bound m.now) a.old b.old c.old d.old }
+    requires factors { AreThreeFactors T.base (M.modulus m.now) (T.number w.now.value) (T.number w.now.quotient)
+        (T.number u.now.value) (T.number u.now.quotient) (T.number v.now.value) (T.number v.now.quotient) }
+    requires lengths { AreAsLong (length a.old) (length b.old) (length c.old) (length d.old) }
+    ensures entries { AreFourListsBelow T.number (M.bound m.now) a.new b.new c.new d.new }
     ensures done { let modulus = M.modulus m.now in let n = numbers T.number in (x y z i : ℕ) →
-        IsMinusInverse modulus x (T.number w.now.value) → IsMinusInverse modulus y (T.number u.now.value)
-        → IsMinusInverse modulus z (T.number v.now.value) → i < length a.old →
+        AreMinusInverses modulus x y z (T.number w.now.value) (T.number u.now.value) (T.number v.now.value)
+        → i < length a.old →
         IsFourJoin modulus x y z (n a.old i) (n b.old i) (n c.old i) (n d.old i)
         (n a.new i) (n b.new i) (n c.new i) (n d.new i) }
 {
@@ -231,14 +212,12 @@ fn join_quarters<T: PlainWord, M: JoinSteps<T>>(
     v: &Factor<T>,
 )
     requires entries { All (λ x. T.number x < M.bound m.now) xs.old }
-    requires factor { IsFactor T.base (M.modulus m.now) (T.number w.now.value) (T.number w.now.quotient) }
-    requires low_factor { IsFactor T.base (M.modulus m.now) (T.number u.now.value) (T.number u.now.quotient) }
-    requires high_factor { IsFactor T.base (M.modulus m.now) (T.number v.now.value) (T.number v.now.quotient) }
+    requires factors { AreThreeFactors T.base (M.modulus m.now) (T.number w.now.value) (T.number w.now.quotient)
+        (T.number u.now.value) (T.number u.now.quotient) (T.number v.now.value) (T.number v.now.quotient) }
     requires within { first + (q + q + (q + q)) ≤ length xs.old }
     ensures entries { All (λ x. T.number x < M.bound m.now) xs.new }
     ensures done { let modulus = M.modulus m.now in (a b c : ℕ) →
-        IsMinusInverse modulus a (T.number w.now.value) → IsMinusInverse modulus b (T.number u.now.value)
-        → IsMinusInverse modulus c (T.number v.now.value) →
+        AreMinusInverses modulus a b c (T.number w.now.value) (T.number u.now.value) (T.number v.now.value) →
         BlockOfFours (IsFourJoin modulus a b c) first q q (numbers T.number xs.old) (numbers T.number xs.new) }
 {
     let (_, block) = xs.split_at_mut(first);
@@ -262,14 +241,9 @@ fn join_two_stages<T: PlainWord, F: PlanEntry<T>, M: JoinSteps<T>>(
     minus: &Factor<T>,
 )
     requires entries { All (λ x. T.number x < M.bound m.now) xs.old }
-    requires factors { All (λ f. IsFactor T.base (M.modulus m.now) (F.value f) (F.quotient f))
-        table.now }
-    requires minus_factor { IsFactor T.base (M.modulus m.now)
+    requires factors { IsTableOfFactors T.base (M.modulus m.now) F.value F.quotient table.now
         (T.number minus.now.value) (T.number minus.now.quotient) }
-    requires minus { T.number minus.now.value + 1 ≡ M.modulus m.now }
-    requires whole { blocks * (q + q + (q + q)) ≡ length xs.old }
-    requires within { 2 * (first + blocks) ≤ length table.now }
-    requires some { 0 < q }
+    requires stage { IsStageOfFours (length xs.old) (length table.now) q blocks first }
     ensures entries { All (λ x. T.number x < M.bound m.now) xs.new }
     ensures done { let modulus = M.modulus m.now in
         let w = numbers F.value table.now in (g z : ℕ) →
@@ -294,14 +268,9 @@ fn join_known<T: PlainWord, F: PlanEntry<T>, M: JoinSteps<T>>(
     minus: &Factor<T>,
 )
     requires entries { All (λ x. T.number x < M.bound m.now) xs.old }
-    requires factors { All (λ f. IsFactor T.base (M.modulus m.now) (F.value f) (F.quotient f))
-        table.now }
-    requires minus_factor { IsFactor T.base (M.modulus m.now)
+    requires factors { IsTableOfFactors T.base (M.modulus m.now) F.value F.quotient table.now
         (T.number minus.now.value) (T.number minus.now.quotient) }
-    requires minus { T.number minus.now.value + 1 ≡ M.modulus m.now }
-    requires whole { blocks * (q + q + (q + q)) ≡ length xs.old }
-    requires within { 2 * (first + blocks) ≤ length table.now }
-    requires some { 0 < q }
+    requires stage { IsStageOfFours (length xs.old) (length table.now) q blocks first }
     ensures entries { All (λ x. T.number x < M.bound m.now) xs.new }
     ensures done { let modulus = M.modulus m.now in
         let w = numbers F.value table.now in (g z : ℕ) →
@@ -330,15 +299,13 @@ fn join_neighbours<T: PlainWord, M: JoinSteps<T>>(
 )
     requires entries { All (λ x. T.number x < 4 * M.modulus m.now) xs.old }
     requires before { (k : ℕ) → k < first → numbers T.number xs.old k < M.bound m.now }
-    requires factor { IsFactor T.base (M.modulus m.now) (T.number w.now.value) (T.number w.now.quotient) }
-    requires low_factor { IsFactor T.base (M.modulus m.now) (T.number u.now.value) (T.number u.now.quotient) }
-    requires high_factor { IsFactor T.base (M.modulus m.now) (T.number v.now.value) (T.number v.now.quotient) }
+    requires factors { AreThreeFactors T.base (M.modulus m.now) (T.number w.now.value) (T.number w.now.quotient)
+        (T.number u.now.value) (T.number u.now.quotient) (T.number v.now.value) (T.number v.now.quotient) }
     requires within { first + 3 < length xs.old }
     ensures entries { All (λ x. T.number x < 4 * M.modulus m.now) xs.new }
     ensures before { (k : ℕ) → k < first + 4 → numbers T.number xs.new k < M.bound m.now }
     ensures done { let modulus = M.modulus m.now in (a b c : ℕ) →
-        IsMinusInverse modulus a (T.number w.now.value) → IsMinusInverse modulus b (T.number u.now.value)
-        → IsMinusInverse modulus c (T.number v.now.value) →
+        AreMinusInverses modulus a b c (T.number w.now.value) (T.number u.now.value) (T.number v.now.value) →
         FourDone (IsFourJoin modulus a b c) first (first + 1) (first + 2) (first + 3)
         (numbers T.number xs.old) (numbers T.number xs.new) }
 {
@@ -364,11 +331,8 @@ fn join_fours<T: PlainWord, F: PlanEntry<T>, M: JoinSteps<T>>(
     minus: &Factor<T>,
 )
     requires entries { All (λ x. T.number x < 4 * M.modulus m.now) xs.old }
-    requires factors { All (λ f. IsFactor T.base (M.modulus m.now) (F.value f) (F.quotient f))
-        table.now }
-    requires minus_factor { IsFactor T.base (M.modulus m.now)
+    requires factors { IsTableOfFactors T.base (M.modulus m.now) F.value F.quotient table.now
         (T.number minus.now.value) (T.number minus.now.quotient) }
-    requires minus { T.number minus.now.value + 1 ≡ M.modulus m.now }
     requires whole { blocks * 4 ≡ length xs.old }
     requires within { 2 * (first + blocks) ≤ length table.now }
     ensures entries { All (λ x. T.number x < M.bound m.now) xs.new }
@@ -423,15 +387,9 @@ fn join_blocks<T: PlainWord, F: PlanEntry<T>, M: JoinSteps<T>>(
     minus: &Factor<T>,
 )
     requires entries { All (λ x. T.number x < M.bound m.now) xs.old }
-    requires factors { All (λ f. IsFactor T.base (M.modulus m.now) (F.value f) (F.quotient f))
-        table.now }
-    requires minus_factor { IsFactor T.base (M.modulus m.now)
+    requires factors { IsTableOfFactors T.base (M.modulus m.now) F.value F.quotient table.now
         (T.number minus.now.value) (T.number minus.now.quotient) }
-    requires minus { T.number minus.now.value + 1 ≡ M.modulus m.now }
-    requires some { 1 ≤ last }
-    requires count { IsPowerOfTwo (length xs.old / last) }
-    requires whole { length xs.old / last * last ≡ length xs.old }
-    requires within { (b + 1) * (length xs.old / last / 2) ≤ length table.now }
+    requires blocks { AreBlocks (length xs.old) (length table.now) b last }
     ensures entries { All (λ x. T.number x < M.bound m.now) xs.new }
     ensures joined { let modulus = M.modulus m.now in (g z : ℕ) (x : ℕ → ℕ) →
         IsPlan modulus g z (length table.now) (numbers F.value table.now) →
@@ -463,20 +421,11 @@ fn join_first<T: PlainWord, F: PlanEntry<T>, M: JoinSteps<T>>(
     minus: &Factor<T>,
 ) -> usize
     requires entries { All (λ x. T.number x < 4 * M.modulus m.now) xs.old }
-    requires factors { All (λ f. IsFactor T.base (M.modulus m.now) (F.value f) (F.quotient f))
-        table.now }
-    requires minus_factor { IsFactor T.base (M.modulus m.now)
+    requires factors { IsTableOfFactors T.base (M.modulus m.now) F.value F.quotient table.now
         (T.number minus.now.value) (T.number minus.now.quotient) }
-    requires minus { T.number minus.now.value + 1 ≡ M.modulus m.now }
-    requires some { 1 ≤ last }
-    requires count { IsPowerOfTwo (length xs.old / last) }
-    requires whole { length xs.old / last * last ≡ length xs.old }
-    requires within { (b + 1) * (length xs.old / last / 2) ≤ length table.now }
+    requires blocks { AreBlocks (length xs.old) (length table.now) b last }
     ensures entries { All (λ x. T.number x < M.bound m.now) xs.new }
-    ensures some { 1 ≤ result }
-    ensures count { IsPowerOfTwo (length xs.old / result) }
-    ensures whole { length xs.old / result * result ≡ length xs.old }
-    ensures within { (b + 1) * (length xs.old / result / 2) ≤ length table.now }
+    ensures blocks { AreBlocks (length xs.old) (length table.now) b result }
     ensures joined { let modulus = M.modulus m.now in (s : ℕ) × (s * (length xs.old / result) ≡ length xs.old / last)
         × ((g z : ℕ) (x : ℕ → ℕ) → IsPlan modulus g z (length table.now) (numbers F.value table.now)
         → AreRemainders modulus g z b (length xs.old / last) last x (λ i. numbers T.number xs.old i % modulus)
@@ -501,13 +450,7 @@ fn join_stages<T: PlainWord, F: PlanEntry<T>, M: JoinSteps<T>>(
     b: usize,
     last: usize,
 )
-    requires entries { All (λ x. T.number x < 4 * M.modulus m.now) xs.old }
-    requires factors { All (λ f. IsFactor T.base (M.modulus m.now) (F.value f) (F.quotient f))
-        table.now }
-    requires some { 1 ≤ last }
-    requires count { IsPowerOfTwo (length xs.old / last) }
-    requires whole { length xs.old / last * last ≡ length xs.old }
-    requires within { (b + 1) * (length xs.old / last / 2) ≤ length table.now }
+    requires joinable { IsJoinable T.number T.base (M.modulus m.now) F.value F.quotient b last xs.old table.now }
     ensures entries { All (λ x. T.number x < M.bound m.now) xs.new }
     ensures joined { let modulus = M.modulus m.now in (g z : ℕ) (x : ℕ → ℕ) →
         IsPlan modulus g z (length table.now) (numbers F.value table.now) →
@@ -527,12 +470,7 @@ fn join_reduced<T: PlainWord, F: PlanEntry<T>, M: JoinSteps<T>>(
     b: usize,
     last: usize,
 )
-    requires entries { All (λ x. T.number x < 4 * M.modulus m.now) xs.old }
-    requires factors { All (λ f. IsFactor T.base (M.modulus m.now) (F.value f) (F.quotient f)) table.now }
-    requires some { 1 ≤ last }
-    requires count { IsPowerOfTwo (length xs.old / last) }
-    requires whole { length xs.old / last * last ≡ length xs.old }
-    requires within { (b + 1) * (length xs.old / last / 2) ≤ length table.now }
+    requires joinable { IsJoinable T.number T.base (M.modulus m.now) F.value F.quotient b last xs.old table.now }
     ensures below { All (λ x. T.number x < M.modulus m.now) xs.new }
     ensures joined { let modulus = M.modulus m.now in (g z : ℕ) (x : ℕ → ℕ) →
         IsPlan modulus g z (length table.now) (numbers F.value table.now) →
@@ -553,20 +491,11 @@ fn join_passes<T: PlainWord, F: PlanEntry<T>, M: JoinSteps<T>>(
     minus: &Factor<T>,
 ) -> usize
     requires entries { All (λ x. T.number x < M.bound m.now) xs.old }
-    requires factors { All (λ f. IsFactor T.base (M.modulus m.now) (F.value f) (F.quotient f))
-        table.now }
-    requires minus_factor { IsFactor T.base (M.modulus m.now)
+    requires factors { IsTableOfFactors T.base (M.modulus m.now) F.value F.quotient table.now
         (T.number minus.now.value) (T.number minus.now.quotient) }
-    requires minus { T.number minus.now.value + 1 ≡ M.modulus m.now }
-    requires some { 1 ≤ last }
-    requires count { IsPowerOfTwo (length xs.old / last) }
-    requires whole { length xs.old / last * last ≡ length xs.old }
-    requires within { (b + 1) * (length xs.old / last / 2) ≤ length table.now }
+    requires blocks { AreBlocks (length xs.old) (length table.now) b last }
     ensures entries { All (λ x. T.number x < M.bound m.now) xs.new }
-    ensures some { 1 ≤ result }
-    ensures count { IsPowerOfTwo (length xs.old / result) }
-    ensures whole { length xs.old / result * result ≡ length xs.old }
-    ensures within { (b + 1) * (length xs.old / result / 2) ≤ length table.now }
+    ensures blocks { AreBlocks (length xs.old) (length table.now) b result }
     ensures joined { let modulus = M.modulus m.now in (s : ℕ) × (s * (length xs.old / result) ≡ length xs.old / last)
         × ((g z : ℕ) (x : ℕ → ℕ) → IsPlan modulus g z (length table.now) (numbers F.value table.now)
         → AreRemainders modulus g z b (length xs.old / last) last x (λ i. numbers T.number xs.old i % modulus)
@@ -646,15 +575,9 @@ fn join_last<T: PlainWord, F: PlanEntry<T>, M: JoinSteps<T>>(
     w: &Factor<T>,
 )
     requires entries { All (λ x. T.number x < M.bound m.now) xs.old }
-    requires factors { All (λ f. IsFactor T.base (M.modulus m.now) (F.value f) (F.quotient f))
-        table.now }
-    requires minus_factor { IsFactor T.base (M.modulus m.now)
+    requires factors { IsTableOfFactors T.base (M.modulus m.now) F.value F.quotient table.now
         (T.number minus.now.value) (T.number minus.now.quotient) }
-    requires minus { T.number minus.now.value + 1 ≡ M.modulus m.now }
-    requires some { 1 ≤ last }
-    requires count { IsPowerOfTwo (length xs.old / last) }
-    requires whole { length xs.old / last * last ≡ length xs.old }
-    requires within { (b + 1) * (length xs.old / last / 2) ≤ length table.now }
+    requires blocks { AreBlocks (length xs.old) (length table.now) b last }
     requires factor { IsFactor T.base (M.modulus m.now) (T.number w.now.value) (T.number w.now.quotient) }
     ensures below { All (λ x. T.number x < M.modulus m.now) xs.new }
     ensures joined { let modulus = M.modulus m.now in (g z : ℕ) (x : ℕ → ℕ) →
@@ -681,12 +604,7 @@ fn join_scaled_by<T: PlainWord, F: PlanEntry<T>, M: JoinSteps<T>>(
     last: usize,
     w: &Factor<T>,
 )
-    requires entries { All (λ x. T.number x < 4 * M.modulus m.now) xs.old }
-    requires factors { All (λ f. IsFactor T.base (M.modulus m.now) (F.value f) (F.quotient f)) table.now }
-    requires some { 1 ≤ last }
-    requires count { IsPowerOfTwo (length xs.old / last) }
-    requires whole { length xs.old / last * last ≡ length xs.old }
-    requires within { (b + 1) * (length xs.old / last / 2) ≤ length table.now }
+    requires joinable { IsJoinable T.number T.base (M.modulus m.now) F.value F.quotient b last xs.old table.now }
     requires factor { IsFactor T.base (M.modulus m.now) (T.number w.now.value) (T.number w.now.quotient) }
     ensures below { All (λ x. T.number x < M.modulus m.now) xs.new }
     ensures joined { let modulus = M.modulus m.now in (g z : ℕ) (x : ℕ → ℕ) →

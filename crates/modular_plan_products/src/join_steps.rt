@@ -3,7 +3,8 @@
 ghost use Rattle.std.specs.Prelude.{◌≡◌, ℕ, ◌+◌, ◌*◌, ◌%◌, ◌<◌, ◌≤◌, IsTrue};
 ghost use Rattle.modular_word.specs.Congruence.{Congruent};
 ghost use Rattle.modular_plan.specs.Factors.{IsFactor};
-ghost use Rattle.modular_plan_products.specs.Joins.{IsPairJoin, IsFourJoin, IsMinusInverse};
+ghost use Rattle.modular_plan_products.specs.Joins.{IsPairJoin, IsFourJoin, IsMinusInverse, AreMinusInverses};
+ghost use Rattle.modular_plan_products.specs.Conditions.{AreFourBelow, AreThreeFactors};
 ghost use Rattle.std.proofs.Common.{le_refl, mul-le-mul_right, lit≤};
 
 use modular_plan::modulus::{Factor, PlannedModulus};
@@ -59,31 +60,23 @@ pub trait JoinSteps<T: PlainWord> {
         u: &Factor<T>,
         v: &Factor<T>,
     ) -> (T, T, T, T)
-        requires low_below { (T.number x < bound self.now) × (T.number y < bound self.now) }
-        requires high_below { (T.number z < bound self.now) × (T.number t < bound self.now) }
-        requires factor { IsFactor T.base (modulus self.now) (T.number w.now.value) (T.number w.now.quotient) }
-        requires low_factor { IsFactor T.base (modulus self.now) (T.number u.now.value) (T.number u.now.quotient) }
-        requires high_factor { IsFactor T.base (modulus self.now) (T.number v.now.value) (T.number v.now.quotient) }
-        ensures first_below { T.number result.0 < bound self.now }
-        ensures second_below { T.number result.1 < bound self.now }
-        ensures third_below { T.number result.2 < bound self.now }
-        ensures fourth_below { T.number result.3 < bound self.now }
-        ensures four { (a b c : ℕ) → IsMinusInverse (modulus self.now) a (T.number w.now.value)
-            → IsMinusInverse (modulus self.now) b (T.number u.now.value)
-            → IsMinusInverse (modulus self.now) c (T.number v.now.value) → IsFourJoin (modulus self.now) a b c
+        requires below { AreFourBelow (bound self.now) (T.number x) (T.number y) (T.number z) (T.number t) }
+        requires factors { AreThreeFactors T.base (modulus self.now) (T.number w.now.value) (T.number w.now.quotient)
+            (T.number u.now.value) (T.number u.now.quotient) (T.number v.now.value) (T.number v.now.quotient) }
+        ensures below { AreFourBelow (bound self.now)
+            (T.number result.0) (T.number result.1) (T.number result.2) (T.number result.3) }
+        ensures four { (a b c : ℕ) → AreMinusInverses (modulus self.now) a b c
+            (T.number w.now.value) (T.number u.now.value) (T.number v.now.value) → IsFourJoin (modulus self.now) a b c
             (T.number x) (T.number y) (T.number z) (T.number t)
             (T.number result.0) (T.number result.1) (T.number result.2) (T.number result.3) };
 
     /// The same where w and u are -1, each number times a factor.
     fn four_by_one(&self, x: T, y: T, z: T, t: T, v: &Factor<T>, s: &Factor<T>) -> (T, T, T, T)
-        requires low_below { (T.number x < bound self.now) × (T.number y < bound self.now) }
-        requires high_below { (T.number z < bound self.now) × (T.number t < bound self.now) }
+        requires below { AreFourBelow (bound self.now) (T.number x) (T.number y) (T.number z) (T.number t) }
         requires factor { IsFactor T.base (modulus self.now) (T.number v.now.value) (T.number v.now.quotient) }
         requires scale { IsFactor T.base (modulus self.now) (T.number s.now.value) (T.number s.now.quotient) }
-        ensures first_below { T.number result.0 < modulus self.now }
-        ensures second_below { T.number result.1 < modulus self.now }
-        ensures third_below { T.number result.2 < modulus self.now }
-        ensures fourth_below { T.number result.3 < modulus self.now }
+        ensures below { AreFourBelow (modulus self.now)
+            (T.number result.0) (T.number result.1) (T.number result.2) (T.number result.3) }
         ensures four { (c : ℕ) → IsMinusInverse (modulus self.now) c (T.number v.now.value)
             → IsFourJoin (modulus self.now) 1 1 c (T.number x * T.number s.now.value) (T.number y * T.number s.now.value)
             (T.number z * T.number s.now.value) (T.number t * T.number s.now.value)

@@ -118,9 +118,10 @@ fn multiply_pair<T: PlainWord>(
         × (t ≡ (u * y (place + 1) + v * y place) % T.number m.now.modulus)) place
         (place + 1) x (numbers T.number xs.new) }
 {
+    let next = place + 1;
     let (x, y) = (xs[place], ys[place]);
-    let (u, v) = (xs[place + 1], ys[place + 1]);
-    xs[place + 1] = m.product_sum(x, v, u, y);
+    let (u, v) = (xs[next], ys[next]);
+    xs[next] = m.product_sum(x, v, u, y);
     xs[place] = m.product_sum(x, y, turned, v);
 }
 

@@ -4,13 +4,30 @@ use Rattle.modular_word.specs.Congruence.{Congruent}
 use Rattle.modular_word.proofs.Congruence.{of_equal, chained, turned, multiplied, residue_of}
 use Rattle.modular_transform.proofs.ConvolveLemmas.{inverse_along}
 use Rattle.modular_plan.specs.Plans.{numbers, AreRemainders}
+use Rattle.modular_plan_products.specs.Conditions.{AreSmallBlocks}
 use Rattle.modular_plan_products.specs.Products.{AreProducts}
 use Rattle.modular_plan_products.proofs.Convolutions.{half_room, joined_product}
 use Rattle.modular_plan_products.proofs.convolution.convolve_block.Goals as goal
 
-pub split_first-requires-clause-within : goal.split_first-requires-clause-within
-split_first-requires-clause-within g c =
-    half_room c.args.b (length c.args.xs.now / c.args.last) (length c.args.table.now) c.requires.within
+pub split_first-requires-clause-blocks : goal.split_first-requires-clause-blocks
+split_first-requires-clause-blocks g c = record {
+  some = c.requires.some;
+  count = c.requires.count;
+  whole = c.requires.whole;
+  within = half_room c.args.b (length c.args.xs.now / c.args.last) (length c.args.table.now) c.requires.within;
+}
+
+pub join_products-requires-clause-blocks : goal.join_products-requires-clause-blocks
+join_products-requires-clause-blocks g c =
+    let same : length c.args.xs.now ≡ length c.split_first.new.xs = omega arith in
+    subst (λ n. AreSmallBlocks n (length c.args.table.now) c.args.b c.args.last) same
+    (record {
+      some = c.requires.some;
+      few = c.requires.few;
+      count = c.requires.count;
+      whole = c.requires.whole;
+      within = c.requires.within;
+    })
 
 pub split-requires-clause-within : goal.split-requires-clause-within
 split-requires-clause-within g c =

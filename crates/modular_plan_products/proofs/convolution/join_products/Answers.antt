@@ -20,13 +20,13 @@ pub join_scaled-requires-clause-within : goal.join_scaled-requires-clause-within
 join_scaled-requires-clause-within g c =
     let same : length c.args.xs.now ≡ length c.reduce_products.new.xs = omega arith in
     subst (λ n. (c.args.b + 1) * (n / c.args.last / 2) ≤ length c.args.table.now) same
-    (half_room c.args.b (length c.args.xs.now / c.args.last) (length c.args.table.now) c.requires.within)
+    (half_room c.args.b (length c.args.xs.now / c.args.last) (length c.args.table.now) c.requires.blocks.within)
 
 pub join_scaled-requires-else-last-eq1-clause-within : goal.join_scaled-requires-else-last-eq1-clause-within
 join_scaled-requires-else-last-eq1-clause-within g c =
     let same : length c.args.xs.now ≡ length c.multiply.new.xs = omega arith in
     subst (λ n. (c.args.b + 1) * (n / c.args.last / 2) ≤ length c.args.table.now) same
-    (half_room c.args.b (length c.args.xs.now / c.args.last) (length c.args.table.now) c.requires.within)
+    (half_room c.args.b (length c.args.xs.now / c.args.last) (length c.args.table.now) c.requires.blocks.within)
 
 pub returns-then-is_odd-clause-joined : goal.returns-then-is_odd-clause-joined
 returns-then-is_odd-clause-joined g c =
@@ -47,7 +47,7 @@ returns-then-is_odd-clause-joined g c =
     let unit : Congruent m (base * t) 1 = record {
       same = base_inverse base m i (omega (arith, c.args.m.now.some, c.args.m.now.room)) c.neginv.ensures;
     } in
-    let whole = c.requires.whole in
+    let whole = c.requires.blocks.whole in
     let single : count * last ≡ count * 1 = ap (λ v. count * v) one in
     let same : length c.reduce_products.new.xs / last ≡ count = ap (λ v. v / last) (omega arith) in
     let scaled : Congruent m (n c.factor-scaled.result.value) (n c.args.w.now.value * base) =

@@ -8,12 +8,12 @@ use Rattle.modular_plan_products.proofs.join.join_blocks.Goals as goal
 
 pub stages-init : goal.stages-init
 stages-init g c = record {
-  rest = c.requires.count.0;
+  rest = c.requires.blocks.count.0;
   done = 0;
-  halved = c.requires.count.1;
+  halved = c.requires.blocks.count.1;
   sized = (let one : 2 ^ 0 ≡ 1 = refl in omega (arith, ap (λ v. v * c.args.last) one));
   counted = (let one : 2 ^ 0 ≡ 1 = refl in omega (arith, ap (λ v. length c.args.xs.now / c.args.last * v) one));
-  some = c.requires.some;
+  some = c.requires.blocks.some;
   entries = c.requires.entries;
   level = λ r z x plan are. level_lowest r z c.args.b (length c.args.xs.now / c.args.last) c.args.last x _ are;
 }
@@ -24,32 +24,26 @@ overflow_mul-b g c =
     let less = c.stages-test.true in
     let count = length c.args.xs.now / c.args.last in
     let sizes = two_join_sizes c.stages.size c.args.last c.stages.blocks before.rest before.done count
-    (length c.args.xs.now) c.requires.some before.some before.halved before.sized before.counted c.requires.whole
+    (length c.args.xs.now) c.requires.blocks.some before.some before.halved before.sized before.counted c.requires.blocks.whole
     c.if-blocks-gt2.true (omega arith) in
-    let enough = two_join_rooms c.args.b (length c.args.table.now) sizes c.requires.within in
+    let enough = two_join_rooms c.args.b (length c.args.table.now) sizes c.requires.blocks.within in
     omega (arith, enough)
 
-pub join_known-requires-clause-whole : goal.join_known-requires-clause-whole
-join_known-requires-clause-whole g c =
+pub join_known-requires-clause-stage : goal.join_known-requires-clause-stage
+join_known-requires-clause-stage g c =
     let before = c.stages.invariant in
     let less = c.stages-test.true in
     let count = length c.args.xs.now / c.args.last in
     let sizes = two_join_sizes c.stages.size c.args.last c.stages.blocks before.rest before.done count
-    (length c.args.xs.now) c.requires.some before.some before.halved before.sized before.counted c.requires.whole
+    (length c.args.xs.now) c.requires.blocks.some before.some before.halved before.sized before.counted c.requires.blocks.whole
     c.if-blocks-gt2.true (omega arith) in
     let fill = sizes.whole in
     let same = c.stages.auto.xs in
-    omega (arith, fill, same)
-
-pub join_known-requires-clause-within : goal.join_known-requires-clause-within
-join_known-requires-clause-within g c =
-    let before = c.stages.invariant in
-    let less = c.stages-test.true in
-    let count = length c.args.xs.now / c.args.last in
-    let sizes = two_join_sizes c.stages.size c.args.last c.stages.blocks before.rest before.done count
-    (length c.args.xs.now) c.requires.some before.some before.halved before.sized before.counted c.requires.whole
-    c.if-blocks-gt2.true (omega arith) in
-    two_join_rooms c.args.b (length c.args.table.now) sizes c.requires.within
+    record {
+      whole = omega (arith, fill, same);
+      within = two_join_rooms c.args.b (length c.args.table.now) sizes c.requires.blocks.within;
+      some = before.some;
+    }
 
 pub overflow_mul-size : goal.overflow_mul-size
 overflow_mul-size g c =
@@ -57,7 +51,7 @@ overflow_mul-size g c =
     let less = c.stages-test.true in
     let count = length c.args.xs.now / c.args.last in
     let sizes = two_join_sizes c.stages.size c.args.last c.stages.blocks before.rest before.done count
-    (length c.args.xs.now) c.requires.some before.some before.halved before.sized before.counted c.requires.whole
+    (length c.args.xs.now) c.requires.blocks.some before.some before.halved before.sized before.counted c.requires.blocks.whole
     c.if-blocks-gt2.true (omega arith) in
     let fit = sizes.fits in
     omega (arith, fit)
@@ -68,7 +62,7 @@ stages-preserved-then-blocks-gt2 g c =
     let less = c.stages-test.true in
     let count = length c.args.xs.now / c.args.last in
     let sizes = two_join_sizes c.stages.size c.args.last c.stages.blocks before.rest before.done count
-    (length c.args.xs.now) c.requires.some before.some before.halved before.sized before.counted c.requires.whole
+    (length c.args.xs.now) c.requires.blocks.some before.some before.halved before.sized before.counted c.requires.blocks.whole
     c.if-blocks-gt2.true (omega arith) in
     let some = before.some in
     record {
@@ -81,7 +75,7 @@ stages-preserved-then-blocks-gt2 g c =
       entries = c.join_known.ensures.entries;
       level = λ r z x plan are.
           level_joined_two r z c.args.b c.stages.blocks c.stages.size c.args.last before.done count
-          (length c.args.xs.now) (length c.args.table.now) _ x _ _ sizes c.requires.within plan
+          (length c.args.xs.now) (length c.args.table.now) _ x _ _ sizes c.requires.blocks.within plan
           (before.level r z x plan are) (c.join_known.ensures.done r z plan);
     }
 
@@ -91,8 +85,8 @@ overflow_mul-b-else-blocks-gt2 g c =
     let less = c.stages-test.true in
     let count = length c.args.xs.now / c.args.last in
     let sizes = join_sizes c.stages.size c.args.last c.stages.blocks before.rest before.done count
-    (length c.args.xs.now) c.requires.some before.halved before.sized before.counted c.requires.whole (omega arith) in
-    let enough = table_room c.args.b (length c.args.table.now) sizes.stage c.requires.within in
+    (length c.args.xs.now) c.requires.blocks.some before.halved before.sized before.counted c.requires.blocks.whole (omega arith) in
+    let enough = table_room c.args.b (length c.args.table.now) sizes.stage c.requires.blocks.within in
     omega (arith, enough)
 
 pub join_stage-requires-clause-whole : goal.join_stage-requires-clause-whole
@@ -101,7 +95,7 @@ join_stage-requires-clause-whole g c =
     let less = c.stages-test.true in
     let count = length c.args.xs.now / c.args.last in
     let sizes = join_sizes c.stages.size c.args.last c.stages.blocks before.rest before.done count
-    (length c.args.xs.now) c.requires.some before.halved before.sized before.counted c.requires.whole (omega arith) in
+    (length c.args.xs.now) c.requires.blocks.some before.halved before.sized before.counted c.requires.blocks.whole (omega arith) in
     let fill = sizes.whole in
     let same = c.stages.auto.xs in
     omega (arith, fill, same)
@@ -112,8 +106,8 @@ join_stage-requires-clause-within g c =
     let less = c.stages-test.true in
     let count = length c.args.xs.now / c.args.last in
     let sizes = join_sizes c.stages.size c.args.last c.stages.blocks before.rest before.done count
-    (length c.args.xs.now) c.requires.some before.halved before.sized before.counted c.requires.whole (omega arith) in
-    table_room c.args.b (length c.args.table.now) sizes.stage c.requires.within
+    (length c.args.xs.now) c.requires.blocks.some before.halved before.sized before.counted c.requires.blocks.whole (omega arith) in
+    table_room c.args.b (length c.args.table.now) sizes.stage c.requires.blocks.within
 
 pub overflow_mul-size-else-blocks-gt2 : goal.overflow_mul-size-else-blocks-gt2
 overflow_mul-size-else-blocks-gt2 g c =
@@ -121,7 +115,7 @@ overflow_mul-size-else-blocks-gt2 g c =
     let less = c.stages-test.true in
     let count = length c.args.xs.now / c.args.last in
     let sizes = join_sizes c.stages.size c.args.last c.stages.blocks before.rest before.done count
-    (length c.args.xs.now) c.requires.some before.halved before.sized before.counted c.requires.whole (omega arith) in
+    (length c.args.xs.now) c.requires.blocks.some before.halved before.sized before.counted c.requires.blocks.whole (omega arith) in
     let fit = sizes.fits in
     omega (arith, fit)
 
@@ -131,7 +125,7 @@ stages-preserved g c =
     let less = c.stages-test.true in
     let count = length c.args.xs.now / c.args.last in
     let sizes = join_sizes c.stages.size c.args.last c.stages.blocks before.rest before.done count
-    (length c.args.xs.now) c.requires.some before.halved before.sized before.counted c.requires.whole (omega arith) in
+    (length c.args.xs.now) c.requires.blocks.some before.halved before.sized before.counted c.requires.blocks.whole (omega arith) in
     let some = before.some in
     let m = g.M.JoinSteps.modulus c.args.m.now in
     let twice : c.stages.size + c.stages.size ≡ c.stages.size * 2 = omega arith in
@@ -147,7 +141,7 @@ stages-preserved g c =
           subst (λ n. IsLevel m r z c.args.b (c.stages.blocks / 2) n (λ k. 2 ^ suc before.done * x k)
           (numbers g.T.RingWord.number c.join_stage.new.xs)) twice
           (level_joined r z c.args.b (c.stages.blocks / 2) c.stages.size c.args.last before.done count
-          (length c.args.xs.now) (length c.args.table.now) _ x _ _ sizes.stage c.requires.within plan
+          (length c.args.xs.now) (length c.args.table.now) _ x _ _ sizes.stage c.requires.blocks.within plan
           (subst (λ n. IsLevel m r z c.args.b n c.stages.size (λ k. 2 ^ before.done * x k)
           (numbers g.T.RingWord.number c.stages.xs)) sizes.twice (before.level r z x plan are))
           (c.join_stage.ensures.done r z plan));
@@ -157,9 +151,9 @@ pub returns-clause-joined : goal.returns-clause-joined
 returns-clause-joined g c =
     let before = c.stages.invariant in
     let full = c.stages-test.false in
-    let whole = c.requires.whole in
+    let whole = c.requires.blocks.whole in
     λ r z x plan are i l.
     level_top r z c.args.b c.stages.size c.args.last c.stages.blocks before.rest before.done
     (length c.args.xs.now / c.args.last) (length c.args.xs.now) x _
-    c.requires.some (omega (arith, l)) (omega arith) before.halved before.sized before.counted whole
+    c.requires.blocks.some (omega (arith, l)) (omega arith) before.halved before.sized before.counted whole
     (before.level r z x plan are) i l

@@ -4,7 +4,7 @@ use Rattle.modular_plan.specs.Plans.{numbers}
 use Rattle.modular_plan.proofs.Entries.{number_read, given_below, never_beyond, all_below}
 use Rattle.modular_plan.proofs.Fours.{four_along, four_written, fours_none, fours_more, fours_all, at_start}
 use Rattle.modular_plan_products.specs.Joins.{IsFourJoin}
-use Rattle.modular_plan_products.proofs.TwoJoins.{AreFourBelow}
+use Rattle.modular_plan_products.specs.Conditions.{AreFourBelow}
 use Rattle.modular_plan_products.proofs.LastJoins.{fours_below}
 use Rattle.modular_plan_products.proofs.join.join_by_one.Goals as goal
 
@@ -36,30 +36,23 @@ returns-then-is_beyond-clause-done g c =
     (omega arith) (omega arith) c.index-xs-i.is
     (subst (λ k. numbers n c.columns.xs k ≡ numbers n c.args.xs.now k) (zero-add i) kept.0) (omega (arith, far, fits))
 
-pub four_by_one-a-requires-clause-low_below : goal.four_by_one-a-requires-clause-low_below
-four_by_one-a-requires-clause-low_below g c =
+pub four_by_one-a-requires-clause-below : goal.four_by_one-a-requires-clause-below
+four_by_one-a-requires-clause-below g c =
     let n = g.T.RingWord.number in
     let q = c.args.q in
     let i = c.columns.i in
-    let kept = c.columns.invariant.below.others i (omega arith) (omega arith) in (
-      given_below n _ c.args.xs.now c.columns.xs i (0 + i) c.index-xs-i.result c.requires.entries (zero-add i)
-          (omega arith) (omega arith) c.index-xs-i.is kept.0,
-      given_below n _ c.args.xs.now c.columns.xs (q + i) (0 + (q + i)) c.index-xs-q.result c.requires.entries
-          (zero-add (q + i)) (omega arith) (omega arith) c.index-xs-q.is kept.1,
-    )
-
-pub four_by_one-a-requires-clause-high_below : goal.four_by_one-a-requires-clause-high_below
-four_by_one-a-requires-clause-high_below g c =
-    let n = g.T.RingWord.number in
-    let q = c.args.q in
-    let i = c.columns.i in
-    let kept = c.columns.invariant.below.others i (omega arith) (omega arith) in (
-      given_below n _ c.args.xs.now c.columns.xs (q + q + i) (0 + (q + q + i)) c.index-xs-q-in-columns.result
-          c.requires.entries (zero-add (q + q + i)) (omega arith) (omega arith) c.index-xs-q-in-columns.is kept.2,
-      given_below n _ c.args.xs.now c.columns.xs (q + q + (q + i)) (0 + (q + q + (q + i)))
+    let kept = c.columns.invariant.below.others i (omega arith) (omega arith) in
+    record {
+      first = given_below n _ c.args.xs.now c.columns.xs i (0 + i) c.index-xs-i.result c.requires.entries (zero-add i)
+          (omega arith) (omega arith) c.index-xs-i.is kept.0;
+      second = given_below n _ c.args.xs.now c.columns.xs (q + i) (0 + (q + i)) c.index-xs-q.result c.requires.entries
+          (zero-add (q + i)) (omega arith) (omega arith) c.index-xs-q.is kept.1;
+      third = given_below n _ c.args.xs.now c.columns.xs (q + q + i) (0 + (q + q + i)) c.index-xs-q-in-columns.result
+          c.requires.entries (zero-add (q + q + i)) (omega arith) (omega arith) c.index-xs-q-in-columns.is kept.2;
+      fourth = given_below n _ c.args.xs.now c.columns.xs (q + q + (q + i)) (0 + (q + q + (q + i)))
           c.index-xs-q-in-columns-2.result c.requires.entries (zero-add (q + q + (q + i))) (omega arith) (omega arith)
-          c.index-xs-q-in-columns-2.is kept.3,
-    )
+          c.index-xs-q-in-columns-2.is kept.3;
+    }
 
 pub columns-preserved : goal.columns-preserved
 columns-preserved g c =
@@ -83,12 +76,7 @@ columns-preserved g c =
       below = fours_more (λ a b c d. AreFourBelow m) 0 q i _ _ _ (omega arith) c.columns.invariant.below
           (at_start (four_written n (λ a b c d. AreFourBelow m) xs i (q + i) (q + q + i) (q + q + (q + i))
           step.result.0 step.result.1 step.result.2 step.result.3 (omega arith) (omega arith) (omega arith) ld
-          (record {
-            first = step.ensures.first_below;
-            second = step.ensures.second_below;
-            third = step.ensures.third_below;
-            fourth = step.ensures.fourth_below;
-          })));
+          step.ensures.below));
       done = λ w inverse.
           fours_more (R w) 0 q i _ _ _ (omega arith) (c.columns.invariant.done w inverse)
           (at_start (four_written n (R w) xs i (q + i) (q + q + i) (q + q + (q + i)) step.result.0 step.result.1

@@ -2,7 +2,7 @@ use Rattle.std.proofs.Common.{ℕ, ◌*◌}
 use Rattle.modular_plan.specs.Plans.{numbers}
 use Rattle.modular_plan.specs.Steps.{BlockOfFours}
 use Rattle.modular_plan_products.specs.Joins.{IsFourJoin, IsMinusInverse}
-use Rattle.modular_plan_products.proofs.TwoJoins.{AreFourBelow}
+use Rattle.modular_plan_products.specs.Conditions.{AreFourBelow}
 use Rattle.modular_plan_products.proofs.join.join_by_one.Given as goal
 
 -- the first i columns are done

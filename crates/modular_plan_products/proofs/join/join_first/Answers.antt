@@ -9,7 +9,7 @@ join_fours-requires-clause-whole g c =
     let one = c.if-last-eq1.true in
     let some = c.if-fours-gt0.true in
     let all = first_fours c.args.b c.args.last (length c.args.xs.now) (length c.args.table.now) (omega (arith, one))
-    (omega (arith, some)) c.requires.count c.requires.whole c.requires.within in
+    (omega (arith, some)) c.requires.blocks.count c.requires.blocks.whole c.requires.blocks.within in
     all.whole
 
 pub join_fours-requires-clause-within : goal.join_fours-requires-clause-within
@@ -17,39 +17,26 @@ join_fours-requires-clause-within g c =
     let one = c.if-last-eq1.true in
     let some = c.if-fours-gt0.true in
     let all = first_fours c.args.b c.args.last (length c.args.xs.now) (length c.args.table.now) (omega (arith, one))
-    (omega (arith, some)) c.requires.count c.requires.whole c.requires.within in
+    (omega (arith, some)) c.requires.blocks.count c.requires.blocks.whole c.requires.blocks.within in
     all.room
 
-pub returns-then-fours-gt0-clause-count : goal.returns-then-fours-gt0-clause-count
-returns-then-fours-gt0-clause-count g c =
+pub returns-then-fours-gt0-clause-blocks : goal.returns-then-fours-gt0-clause-blocks
+returns-then-fours-gt0-clause-blocks g c =
     let one = c.if-last-eq1.true in
     let some = c.if-fours-gt0.true in
     let all = first_fours c.args.b c.args.last (length c.args.xs.now) (length c.args.table.now) (omega (arith, one))
-    (omega (arith, some)) c.requires.count c.requires.whole c.requires.within in
-    all.power
+    (omega (arith, some)) c.requires.blocks.count c.requires.blocks.whole c.requires.blocks.within in
+    record { some = omega arith; count = all.power; whole = all.whole; within = all.rest }
 
-pub returns-then-fours-gt0-clause-whole : goal.returns-then-fours-gt0-clause-whole
-returns-then-fours-gt0-clause-whole g c =
-    let one = c.if-last-eq1.true in
-    let some = c.if-fours-gt0.true in
-    let all = first_fours c.args.b c.args.last (length c.args.xs.now) (length c.args.table.now) (omega (arith, one))
-    (omega (arith, some)) c.requires.count c.requires.whole c.requires.within in
-    all.whole
-
-pub returns-then-fours-gt0-clause-within : goal.returns-then-fours-gt0-clause-within
-returns-then-fours-gt0-clause-within g c =
-    let one = c.if-last-eq1.true in
-    let some = c.if-fours-gt0.true in
-    let all = first_fours c.args.b c.args.last (length c.args.xs.now) (length c.args.table.now) (omega (arith, one))
-    (omega (arith, some)) c.requires.count c.requires.whole c.requires.within in
-    all.rest
+pub returns-else-last-eq1-clause-blocks : goal.returns-else-last-eq1-clause-blocks
+returns-else-last-eq1-clause-blocks g c = c.requires.blocks
 
 pub returns-then-fours-gt0-clause-joined : goal.returns-then-fours-gt0-clause-joined
 returns-then-fours-gt0-clause-joined g c =
     let one = c.if-last-eq1.true in
     let some = c.if-fours-gt0.true in
     let all = first_fours c.args.b c.args.last (length c.args.xs.now) (length c.args.table.now) (omega (arith, one))
-    (omega (arith, some)) c.requires.count c.requires.whole c.requires.within in
+    (omega (arith, some)) c.requires.blocks.count c.requires.blocks.whole c.requires.blocks.within in
     let n = g.T.RingWord.number in
     let before = c.args.xs.now in
     let four : 4 * (length before / 4) ≡ length before / 4 * 4 = omega arith in (
@@ -58,7 +45,7 @@ returns-then-fours-gt0-clause-joined g c =
       λ r z x plan are.
           remainders_of_fours r z c.args.b c.args.last (length before) (length c.args.table.now)
           (numbers g.F.PlanEntry.value c.args.table.now) x (numbers n before) (numbers n c.join_fours.new.xs)
-          (omega (arith, one)) all c.requires.within plan are (c.join_fours.ensures.done r z plan),
+          (omega (arith, one)) all c.requires.blocks.within plan are (c.join_fours.ensures.done r z plan),
     )
 
 pub returns-else-last-eq1-clause-joined : goal.returns-else-last-eq1-clause-joined
@@ -73,5 +60,5 @@ returns-else-last-eq1-clause-joined g c =
       once,
       λ r z x plan are.
           remainders_once r z b count last x _ (remainders_reduced r z b count last (length before) x (numbers n before)
-          (numbers n c.take_each.new.xs) c.requires.whole c.take_each.ensures.congruent are),
+          (numbers n c.take_each.new.xs) c.requires.blocks.whole c.take_each.ensures.congruent are),
     )

@@ -16,9 +16,8 @@ fours-preserved g c = record {
   entries = c.join_neighbours.ensures.entries;
   before = λ k l. c.join_neighbours.ensures.before k (omega arith);
   done = λ root z plan.
-      let are = c.minus_inverses-w.ensures.inverses root z plan in
       stage_of_fours_more _ 1 c.fours.p _ _ _ (c.fours.invariant.done root z plan)
-      (block_of_four _ (c.fours.p * 4) _ _ (c.join_neighbours.ensures.done _ _ _ are.0 are.1 are.2));
+      (block_of_four _ (c.fours.p * 4) _ _ (c.join_neighbours.ensures.done _ _ _ (c.minus_inverses-w.ensures.inverses root z plan)));
 }
 
 pub returns : goal.returns

@@ -19,15 +19,15 @@ returns-then-is_one-clause-joined g c =
     let count = length before / last in
     let no_b = c.if-b-eq0.true in
     let four : count ≡ 4 = c.if-xs-last-eq4.true in
-    let two = two_entries c.args.b count (length table) no_b four c.requires.within in
+    let two = two_entries c.args.b count (length table) no_b four c.requires.blocks.within in
     let zero = number_read value table 0 c.index-table-0.result (omega (arith, two)) c.index-table-0.is in
     let begins = sym zero ∙ sym c.factor.ensures.value ∙ c.is_one.ensures.0 c.if-is_one.true in
     let kept = c.join_by_one.auto.xs in
     let same : length after ≡ length before = omega (arith, kept) in
     λ r z x plan are i l.
-    let inverse = (c.minus_inverses-v.ensures.inverses r z plan).2 in
+    let inverse = (c.minus_inverses-v.ensures.inverses r z plan).high in
     let joined = last_joined r z c.args.b last count (length before) (length table) s (numbers value table) x
-    (numbers n before) (numbers n after) c.requires.some no_b four c.requires.count c.requires.whole c.requires.within
+    (numbers n before) (numbers n after) c.requires.blocks.some no_b four c.requires.blocks.count c.requires.blocks.whole c.requires.blocks.within
     plan begins are (λ k h. c.join_by_one.ensures.done _ k inverse h)
     (λ k h. numbers_past n after k (omega (arith, same, h))
     ∙ sym (ap (λ v. v * s) (numbers_past n before k h) ∙ zero-mul s)) i l in

@@ -2,8 +2,9 @@ use Rattle.std.proofs.Common.{◌+◌, ◌*◌, ◌<◌, length, arith}
 use Rattle.modular_word.proofs.Congruence.{of_equal, chained}
 use Rattle.modular_plan.proofs.Entries.{number_read}
 use Rattle.modular_plan.proofs.Fours.{four_written, all_set}
+use Rattle.modular_plan_products.specs.Conditions.{AreFourBelow}
 use Rattle.modular_plan_products.specs.Joins.{IsFourJoin}
-use Rattle.modular_plan_products.proofs.TwoJoins.{joined_four_along, AreFourBelow, four_below}
+use Rattle.modular_plan_products.proofs.TwoJoins.{joined_four_along, four_below}
 use Rattle.modular_plan_products.proofs.join.join_neighbours.Goals as goal
 
 pub returns-clause-before : goal.returns-clause-before
@@ -16,12 +17,7 @@ returns-clause-before g c =
     four_below bound i _ _
     (four_written n (λ a b c d. AreFourBelow bound) c.args.xs.now i (i + 1) (i + 2) (i + 3) four.0 four.1 four.2 four.3
     (omega arith) (omega arith) (omega arith) c.requires.within
-    (record {
-      first = are.first_below;
-      second = are.second_below;
-      third = are.third_below;
-      fourth = are.fourth_below;
-    })) c.requires.before
+    are.below) c.requires.before
 
 pub returns-clause-done : goal.returns-clause-done
 returns-clause-done g c =
@@ -39,10 +35,10 @@ returns-clause-done g c =
     let e = chained c.taken-d.ensures.congruent (of_equal (number_read n xs (i + 3) c.index-xs-first-4.result within
     c.index-xs-first-4.is)) in
     let four = c.four-a.result in
-    λ w u v is_w is_u is_v.
+    λ w u v inverses.
     four_written n (IsFourJoin m w u v) xs i (i + 1) (i + 2) (i + 3) four.0 four.1 four.2 four.3
     (omega arith) (omega arith) (omega arith) within
-    (joined_four_along w u v a b d e (c.four-a.ensures.four w u v is_w is_u is_v))
+    (joined_four_along w u v a b d e (c.four-a.ensures.four w u v inverses))
 
 pub returns-clause-entries : goal.returns-clause-entries
 returns-clause-entries g c =
@@ -51,6 +47,6 @@ returns-clause-entries g c =
     let four = c.four-a.result in
     let are = c.four-a.ensures in
     all_set P _ c.args.first four.0 (all_set P _ (c.args.first + 1) four.1 (all_set P _ (c.args.first + 2) four.2
-    (all_set P c.args.xs.now (c.args.first + 3) four.3 c.requires.entries (omega (arith, are.fourth_below, fits)))
-    (omega (arith, are.third_below, fits))) (omega (arith, are.second_below, fits)))
-    (omega (arith, are.first_below, fits))
+    (all_set P c.args.xs.now (c.args.first + 3) four.3 c.requires.entries (omega (arith, are.below.fourth, fits)))
+    (omega (arith, are.below.third, fits))) (omega (arith, are.below.second, fits)))
+    (omega (arith, are.below.first, fits))

@@ -7,12 +7,12 @@ use Rattle.modular_plan_products.proofs.join.join_passes.Goals as goal
 
 pub passes-init : goal.passes-init
 passes-init g c = record {
-  rest = c.requires.count.0;
+  rest = c.requires.blocks.count.0;
   done = 0;
-  halved = c.requires.count.1;
+  halved = c.requires.blocks.count.1;
   sized = (let one : 2 ^ 0 ≡ 1 = refl in omega (arith, ap (λ v. v * c.args.last) one));
   counted = (let one : 2 ^ 0 ≡ 1 = refl in omega (arith, ap (λ v. length c.args.xs.now / c.args.last * v) one));
-  some = c.requires.some;
+  some = c.requires.blocks.some;
   entries = c.requires.entries;
   level = λ r z x plan are. level_lowest r z c.args.b (length c.args.xs.now / c.args.last) c.args.last x _ are;
 }
@@ -25,57 +25,42 @@ overflow_mul-b g c =
     let some = before.some in
     let left = sizes_left c.args.b c.passes.size c.args.last c.passes.blocks before.rest before.done count
     (length c.args.xs.now) (length c.args.table.now) before.some before.halved before.sized before.counted
-    c.requires.whole c.requires.within in
+    c.requires.blocks.whole c.requires.blocks.within in
     let is = blocks_left c.passes.size c.args.last c.passes.blocks before.done count (length c.args.xs.now) before.some
-    before.sized before.counted c.requires.whole in
+    before.sized before.counted c.requires.blocks.whole in
     let fill : c.passes.blocks * c.passes.size ≡ length c.args.xs.now =
     ap (λ v. v * c.passes.size) (sym is) ∙ left.whole in
     let least = mul-le-mul_right c.passes.size (let k : 5 ≤ c.passes.blocks = omega (arith, more) in k) in
     let sizes = two_join_sizes c.passes.size c.args.last c.passes.blocks before.rest before.done count
-    (length c.args.xs.now) c.requires.some before.some before.halved before.sized before.counted c.requires.whole
+    (length c.args.xs.now) c.requires.blocks.some before.some before.halved before.sized before.counted c.requires.blocks.whole
     (omega (arith, more)) (omega (arith, fill, least, some)) in
-    let enough = two_join_rooms c.args.b (length c.args.table.now) sizes c.requires.within in
+    let enough = two_join_rooms c.args.b (length c.args.table.now) sizes c.requires.blocks.within in
     omega (arith, enough)
 
-pub join_known-requires-clause-whole : goal.join_known-requires-clause-whole
-join_known-requires-clause-whole g c =
+pub join_known-requires-clause-stage : goal.join_known-requires-clause-stage
+join_known-requires-clause-stage g c =
     let before = c.passes.invariant in
     let more = c.passes-test.true in
     let count = length c.args.xs.now / c.args.last in
     let some = before.some in
     let left = sizes_left c.args.b c.passes.size c.args.last c.passes.blocks before.rest before.done count
     (length c.args.xs.now) (length c.args.table.now) before.some before.halved before.sized before.counted
-    c.requires.whole c.requires.within in
+    c.requires.blocks.whole c.requires.blocks.within in
     let is = blocks_left c.passes.size c.args.last c.passes.blocks before.done count (length c.args.xs.now) before.some
-    before.sized before.counted c.requires.whole in
+    before.sized before.counted c.requires.blocks.whole in
     let fill : c.passes.blocks * c.passes.size ≡ length c.args.xs.now =
     ap (λ v. v * c.passes.size) (sym is) ∙ left.whole in
     let least = mul-le-mul_right c.passes.size (let k : 5 ≤ c.passes.blocks = omega (arith, more) in k) in
     let sizes = two_join_sizes c.passes.size c.args.last c.passes.blocks before.rest before.done count
-    (length c.args.xs.now) c.requires.some before.some before.halved before.sized before.counted c.requires.whole
+    (length c.args.xs.now) c.requires.blocks.some before.some before.halved before.sized before.counted c.requires.blocks.whole
     (omega (arith, more)) (omega (arith, fill, least, some)) in
     let fill = sizes.whole in
     let same = c.passes.auto.xs in
-    omega (arith, fill, same)
-
-pub join_known-requires-clause-within : goal.join_known-requires-clause-within
-join_known-requires-clause-within g c =
-    let before = c.passes.invariant in
-    let more = c.passes-test.true in
-    let count = length c.args.xs.now / c.args.last in
-    let some = before.some in
-    let left = sizes_left c.args.b c.passes.size c.args.last c.passes.blocks before.rest before.done count
-    (length c.args.xs.now) (length c.args.table.now) before.some before.halved before.sized before.counted
-    c.requires.whole c.requires.within in
-    let is = blocks_left c.passes.size c.args.last c.passes.blocks before.done count (length c.args.xs.now) before.some
-    before.sized before.counted c.requires.whole in
-    let fill : c.passes.blocks * c.passes.size ≡ length c.args.xs.now =
-    ap (λ v. v * c.passes.size) (sym is) ∙ left.whole in
-    let least = mul-le-mul_right c.passes.size (let k : 5 ≤ c.passes.blocks = omega (arith, more) in k) in
-    let sizes = two_join_sizes c.passes.size c.args.last c.passes.blocks before.rest before.done count
-    (length c.args.xs.now) c.requires.some before.some before.halved before.sized before.counted c.requires.whole
-    (omega (arith, more)) (omega (arith, fill, least, some)) in
-    two_join_rooms c.args.b (length c.args.table.now) sizes c.requires.within
+    record {
+      whole = omega (arith, fill, same);
+      within = two_join_rooms c.args.b (length c.args.table.now) sizes c.requires.blocks.within;
+      some = before.some;
+    }
 
 pub overflow_mul-size : goal.overflow_mul-size
 overflow_mul-size g c =
@@ -85,14 +70,14 @@ overflow_mul-size g c =
     let some = before.some in
     let left = sizes_left c.args.b c.passes.size c.args.last c.passes.blocks before.rest before.done count
     (length c.args.xs.now) (length c.args.table.now) before.some before.halved before.sized before.counted
-    c.requires.whole c.requires.within in
+    c.requires.blocks.whole c.requires.blocks.within in
     let is = blocks_left c.passes.size c.args.last c.passes.blocks before.done count (length c.args.xs.now) before.some
-    before.sized before.counted c.requires.whole in
+    before.sized before.counted c.requires.blocks.whole in
     let fill : c.passes.blocks * c.passes.size ≡ length c.args.xs.now =
     ap (λ v. v * c.passes.size) (sym is) ∙ left.whole in
     let least = mul-le-mul_right c.passes.size (let k : 5 ≤ c.passes.blocks = omega (arith, more) in k) in
     let sizes = two_join_sizes c.passes.size c.args.last c.passes.blocks before.rest before.done count
-    (length c.args.xs.now) c.requires.some before.some before.halved before.sized before.counted c.requires.whole
+    (length c.args.xs.now) c.requires.blocks.some before.some before.halved before.sized before.counted c.requires.blocks.whole
     (omega (arith, more)) (omega (arith, fill, least, some)) in
     let fit = sizes.fits in
     omega (arith, fit)
@@ -105,14 +90,14 @@ passes-preserved g c =
     let some = before.some in
     let left = sizes_left c.args.b c.passes.size c.args.last c.passes.blocks before.rest before.done count
     (length c.args.xs.now) (length c.args.table.now) before.some before.halved before.sized before.counted
-    c.requires.whole c.requires.within in
+    c.requires.blocks.whole c.requires.blocks.within in
     let is = blocks_left c.passes.size c.args.last c.passes.blocks before.done count (length c.args.xs.now) before.some
-    before.sized before.counted c.requires.whole in
+    before.sized before.counted c.requires.blocks.whole in
     let fill : c.passes.blocks * c.passes.size ≡ length c.args.xs.now =
     ap (λ v. v * c.passes.size) (sym is) ∙ left.whole in
     let least = mul-le-mul_right c.passes.size (let k : 5 ≤ c.passes.blocks = omega (arith, more) in k) in
     let sizes = two_join_sizes c.passes.size c.args.last c.passes.blocks before.rest before.done count
-    (length c.args.xs.now) c.requires.some before.some before.halved before.sized before.counted c.requires.whole
+    (length c.args.xs.now) c.requires.blocks.some before.some before.halved before.sized before.counted c.requires.blocks.whole
     (omega (arith, more)) (omega (arith, fill, least, some)) in
     record {
       rest = sizes.rest;
@@ -124,36 +109,19 @@ passes-preserved g c =
       entries = c.join_known.ensures.entries;
       level = λ r z x plan are.
           level_joined_two r z c.args.b c.passes.blocks c.passes.size c.args.last before.done count
-          (length c.args.xs.now) (length c.args.table.now) _ x _ _ sizes c.requires.within plan
+          (length c.args.xs.now) (length c.args.table.now) _ x _ _ sizes c.requires.blocks.within plan
           (before.level r z x plan are) (c.join_known.ensures.done r z plan);
     }
 
-pub returns-clause-count : goal.returns-clause-count
-returns-clause-count g c =
+pub returns-clause-blocks : goal.returns-clause-blocks
+returns-clause-blocks g c =
     let before = c.passes.invariant in
     let count = length c.args.xs.now / c.args.last in
     let left = sizes_left c.args.b c.passes.size c.args.last c.passes.blocks before.rest before.done count
     (length c.args.xs.now) (length c.args.table.now) before.some before.halved before.sized before.counted
-    c.requires.whole c.requires.within in
-    left.power
-
-pub returns-clause-whole : goal.returns-clause-whole
-returns-clause-whole g c =
-    let before = c.passes.invariant in
-    let count = length c.args.xs.now / c.args.last in
-    let left = sizes_left c.args.b c.passes.size c.args.last c.passes.blocks before.rest before.done count
-    (length c.args.xs.now) (length c.args.table.now) before.some before.halved before.sized before.counted
-    c.requires.whole c.requires.within in
-    left.whole
-
-pub returns-clause-within : goal.returns-clause-within
-returns-clause-within g c =
-    let before = c.passes.invariant in
-    let count = length c.args.xs.now / c.args.last in
-    let left = sizes_left c.args.b c.passes.size c.args.last c.passes.blocks before.rest before.done count
-    (length c.args.xs.now) (length c.args.table.now) before.some before.halved before.sized before.counted
-    c.requires.whole c.requires.within in
-    left.room
+    c.requires.blocks.whole c.requires.blocks.within in
+    let some = before.some in
+    record { some = omega (arith, some); count = left.power; whole = left.whole; within = left.room }
 
 pub returns-clause-joined : goal.returns-clause-joined
 returns-clause-joined g c =
@@ -161,9 +129,9 @@ returns-clause-joined g c =
     let count = length c.args.xs.now / c.args.last in
     let left = sizes_left c.args.b c.passes.size c.args.last c.passes.blocks before.rest before.done count
     (length c.args.xs.now) (length c.args.table.now) before.some before.halved before.sized before.counted
-    c.requires.whole c.requires.within in
+    c.requires.blocks.whole c.requires.blocks.within in
     let is = blocks_left c.passes.size c.args.last c.passes.blocks before.done count (length c.args.xs.now) before.some
-    before.sized before.counted c.requires.whole in (
+    before.sized before.counted c.requires.blocks.whole in (
       2 ^ before.done,
       left.scale,
       λ r z x plan are.

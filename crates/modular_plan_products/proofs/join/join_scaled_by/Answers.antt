@@ -1,5 +1,6 @@
 use Rattle.std.proofs.Common.{◌≡◌, ◌*◌, ◌/◌, ◌%◌, length, sym, ◌∙◌, ap, arith, subst}
 use Rattle.modular_plan.specs.Plans.{numbers, AreRemainders}
+use Rattle.modular_plan_products.specs.Conditions.{AreBlocks}
 use Rattle.modular_plan_products.proofs.LastJoins.{rescaled}
 use Rattle.modular_plan_products.proofs.join.join_scaled_by.Goals as goal
 
@@ -30,3 +31,36 @@ returns-clause-joined g c =
     ∙ ap (λ v. v / size * (first.0 * x i)) same ∙ rescaled (length before / size) first.0 _ (x i) first.1 in
     c.join_last.ensures.joined r z (λ k. second.0 * (first.0 * x k)) plan upper i (omega (arith, l, same, again))
     ∙ ap (λ v. (v * n c.args.w.now.value) % m) times
+
+pub join_first-size-requires-clause-factors : goal.join_first-size-requires-clause-factors
+join_first-size-requires-clause-factors g c = record {
+  each = c.requires.joinable.factors;
+  minus_factor = c.minus_one-minus.ensures.factor;
+  is_minus = c.minus_one-minus.ensures.value;
+}
+
+pub join_passes-size-requires-clause-factors : goal.join_passes-size-requires-clause-factors
+join_passes-size-requires-clause-factors g c = record {
+  each = c.requires.joinable.factors;
+  minus_factor = c.minus_one-minus.ensures.factor;
+  is_minus = c.minus_one-minus.ensures.value;
+}
+
+pub join_last-requires-clause-factors : goal.join_last-requires-clause-factors
+join_last-requires-clause-factors g c = record {
+  each = c.requires.joinable.factors;
+  minus_factor = c.minus_one-minus.ensures.factor;
+  is_minus = c.minus_one-minus.ensures.value;
+}
+
+pub join_passes-size-requires-clause-blocks : goal.join_passes-size-requires-clause-blocks
+join_passes-size-requires-clause-blocks g c =
+    let same : length c.args.xs.now ≡ length c.join_first-size.new.xs = omega arith in
+    subst (λ n. AreBlocks n (length c.args.table.now) c.args.b c.join_first-size.result) same
+    c.join_first-size.ensures.blocks
+
+pub join_last-requires-clause-blocks : goal.join_last-requires-clause-blocks
+join_last-requires-clause-blocks g c =
+    let same : length c.join_first-size.new.xs ≡ length c.join_passes-size.new.xs = omega arith in
+    subst (λ n. AreBlocks n (length c.args.table.now) c.args.b c.join_passes-size.result) same
+    c.join_passes-size.ensures.blocks

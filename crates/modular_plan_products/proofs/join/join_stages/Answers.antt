@@ -1,6 +1,7 @@
 use Rattle.std.proofs.Common.{◌≡◌, ◌*◌, ◌/◌, ◌%◌, length, sym, ◌∙◌, ap, arith, subst}
 use Rattle.modular_word.proofs.Congruence.{of_equal, chained}
 use Rattle.modular_plan.specs.Plans.{numbers, AreRemainders}
+use Rattle.modular_plan_products.specs.Conditions.{AreBlocks}
 use Rattle.modular_plan_products.proofs.LastJoins.{rescaled}
 use Rattle.modular_plan_products.proofs.join.join_stages.Goals as goal
 
@@ -21,3 +22,23 @@ returns-clause-joined g c =
     chained (c.join_blocks.ensures.joined r z (λ k. first.0 * x k) plan
     (subst (λ v. AreRemainders m r z b (v / size) size (λ k. first.0 * x k) (λ k. numbers n after k % m)) (sym same)
     (first.2 r z x plan are)) i (omega (arith, l, same))) (of_equal times)
+
+pub join_first-size-requires-clause-factors : goal.join_first-size-requires-clause-factors
+join_first-size-requires-clause-factors g c = record {
+  each = c.requires.joinable.factors;
+  minus_factor = c.minus_one-minus.ensures.factor;
+  is_minus = c.minus_one-minus.ensures.value;
+}
+
+pub join_blocks-requires-clause-factors : goal.join_blocks-requires-clause-factors
+join_blocks-requires-clause-factors g c = record {
+  each = c.requires.joinable.factors;
+  minus_factor = c.minus_one-minus.ensures.factor;
+  is_minus = c.minus_one-minus.ensures.value;
+}
+
+pub join_blocks-requires-clause-blocks : goal.join_blocks-requires-clause-blocks
+join_blocks-requires-clause-blocks g c =
+    let same : length c.args.xs.now ≡ length c.join_first-size.new.xs = omega arith in
+    subst (λ n. AreBlocks n (length c.args.table.now) c.args.b c.join_first-size.result) same
+    c.join_first-size.ensures.blocks

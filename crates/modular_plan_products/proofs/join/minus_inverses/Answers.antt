@@ -4,6 +4,7 @@ use Rattle.modular_plan.specs.Plans.{numbers}
 use Rattle.modular_plan.proofs.Entries.{number_read}
 use Rattle.modular_plan_products.specs.Joins.{IsMinusInverse}
 use Rattle.modular_plan_products.proofs.Mirrors.{mirror_of_plan, first_of_plan}
+use Rattle.modular_plan_products.proofs.KnownEntries.{factor_read}
 use Rattle.modular_plan_products.proofs.join.minus_inverses.Goals as goal
 
 pub returns-then-place-eq0-clause-inverses : goal.returns-then-place-eq0-clause-inverses
@@ -21,14 +22,15 @@ returns-then-place-eq0-clause-inverses g c =
     ∙ number_read g.F.PlanEntry.value table 1 c.index-table-1.result within c.index-table-1.is in
     let one : 2 ^ 0 ≡ 1 = refl in
     λ root z plan.
-    let of_first = first_of_plan root z (length table) minus w plan (omega arith) c.requires.minus in (
-      subst (λ p. IsMinusInverse m (w p) minus) first of_first,
-      subst (λ p. IsMinusInverse m (w p) minus) low of_first,
-      subst (λ p. IsMinusInverse m (w p) (n c.factor.result.value)) high
+    let of_first = first_of_plan root z (length table) minus w plan (omega arith) c.requires.factors.is_minus in
+    record {
+      own = subst (λ p. IsMinusInverse m (w p) minus) first of_first;
+      low = subst (λ p. IsMinusInverse m (w p) minus) low of_first;
+      high = subst (λ p. IsMinusInverse m (w p) (n c.factor.result.value)) high
           (subst (λ v. IsMinusInverse m (w 1) v) (sym is)
           (mirror_of_plan root z (length table) 0 1 1 w plan within (omega (arith, one)) (omega (arith, one))
-          (omega (arith, one))).inverse),
-    )
+          (omega (arith, one))).inverse);
+    }
 
 pub returns-then-other-table-clause-inverses : goal.returns-then-other-table-clause-inverses
 returns-then-other-table-clause-inverses g c =
@@ -51,16 +53,16 @@ returns-then-other-table-clause-inverses g c =
     c.index-table-other-then-other-table.result (omega (arith, inside)) c.index-table-other-then-other-table.is in
     let high = c.factor-then-other-table-3.ensures.value ∙ number_read g.F.PlanEntry.value table (2 * other)
     c.index-table-other-then-other-table-2.result (omega (arith, inside)) c.index-table-other-then-other-table-2.is in
-    λ root z plan. (
-      subst (λ v. IsMinusInverse m (w place) v) (sym own)
-          (mirror_of_plan root z (length table) at.0 place other w plan (omega (arith, within)) least most sum).inverse,
-      subst (λ v. IsMinusInverse m (w (2 * place)) v) (sym low)
+    λ root z plan. record {
+      own = subst (λ v. IsMinusInverse m (w place) v) (sym own)
+          (mirror_of_plan root z (length table) at.0 place other w plan (omega (arith, within)) least most sum).inverse;
+      low = subst (λ v. IsMinusInverse m (w (2 * place)) v) (sym low)
           (mirror_of_plan root z (length table) (suc at.0) (2 * place) (2 * other + 1) w plan (omega (arith, within))
-          (omega (arith, two, least)) (omega (arith, two, most)) (omega (arith, two, sum))).inverse,
-      subst (λ v. IsMinusInverse m (w (2 * place + 1)) v) (sym high)
+          (omega (arith, two, least)) (omega (arith, two, most)) (omega (arith, two, sum))).inverse;
+      high = subst (λ v. IsMinusInverse m (w (2 * place + 1)) v) (sym high)
           (mirror_of_plan root z (length table) (suc at.0) (2 * place + 1) (2 * other) w plan within
-          (omega (arith, two, least)) (omega (arith, two, most)) (omega (arith, two, sum))).inverse,
-    )
+          (omega (arith, two, least)) (omega (arith, two, most)) (omega (arith, two, sum))).inverse;
+    }
 
 pub returns-else-other-table-clause-inverses : goal.returns-else-other-table-clause-inverses
 returns-else-other-table-clause-inverses g c =
@@ -80,3 +82,35 @@ returns-else-other-table-clause-inverses g c =
     let inside = (mirror_of_plan root z (length table) (suc at.0) (2 * place) (2 * other + 1) w plan
     (omega (arith, within)) (omega (arith, two, least)) (omega (arith, two, most)) (omega (arith, two, sum))).within in
     absurd (omega (arith, inside, outside))
+
+pub returns-then-place-eq0-clause-factors : goal.returns-then-place-eq0-clause-factors
+returns-then-place-eq0-clause-factors g c =
+    let minus = c.requires.factors.minus_factor in
+    record {
+      own = minus;
+      low = minus;
+      high = factor_read g.F.PlanEntry.value g.F.PlanEntry.quotient _ 1 _ c.requires.factors.each
+          (omega arith) c.index-table-1.is c.factor.ensures.value c.factor.ensures.quotient;
+    }
+
+pub returns-then-other-table-clause-factors : goal.returns-then-other-table-clause-factors
+returns-then-other-table-clause-factors g c =
+    let other = c.mirrored-other.result in
+    let inside = c.if-other-table.true in
+    let each = c.requires.factors.each in
+    let own = c.factor-then-other-table.ensures in
+    let low = c.factor-then-other-table-2.ensures in
+    let high = c.factor-then-other-table-3.ensures in
+    record {
+      own = factor_read g.F.PlanEntry.value g.F.PlanEntry.quotient _ other _ each
+          (omega (arith, inside)) c.index-table-other.is own.value own.quotient;
+      low = factor_read g.F.PlanEntry.value g.F.PlanEntry.quotient _ (2 * other + 1) _ each
+          (omega (arith, inside)) c.index-table-other-then-other-table.is low.value low.quotient;
+      high = factor_read g.F.PlanEntry.value g.F.PlanEntry.quotient _ (2 * other) _ each
+          (omega (arith, inside)) c.index-table-other-then-other-table-2.is high.value high.quotient;
+    }
+
+pub returns-else-other-table-clause-factors : goal.returns-else-other-table-clause-factors
+returns-else-other-table-clause-factors g c =
+    let minus = c.requires.factors.minus_factor in
+    record { own = minus; low = minus; high = minus }

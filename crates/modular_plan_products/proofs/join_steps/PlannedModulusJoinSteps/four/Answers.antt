@@ -5,13 +5,13 @@ returns-clause-four g c =
     let n = g.T.RingWord.number in
     let low = c.pair-e in
     let high = c.pair-g in
-    λ w u v is_w is_u is_v. record {
+    λ w u v inverses. record {
       e = n low.result.0;
       f = n low.result.1;
       g = n high.result.0;
       h = n high.result.1;
-      low = low.ensures.pair u is_u;
-      high = high.ensures.pair v is_v;
-      first = c.pair-a.ensures.pair w is_w;
-      second = c.pair-b.ensures.pair w is_w;
+      low = low.ensures.pair u inverses.low;
+      high = high.ensures.pair v inverses.high;
+      first = c.pair-a.ensures.pair w inverses.own;
+      second = c.pair-b.ensures.pair w inverses.own;
     }

@@ -16,11 +16,16 @@ gather-a-requires-clause-multiple g c = multiple_is_none 8 _ c.eightfold-eightfo
 pub gather-b-requires-clause-multiple : goal.gather-b-requires-clause-multiple
 gather-b-requires-clause-multiple g c = multiple_is_none 2 _ c.twice.ensures
 
-pub returns-clause-first_below : goal.returns-clause-first_below
-returns-clause-first_below g c =
+pub returns-clause-below : goal.returns-clause-below
+returns-clause-below g c =
     let below = c.reduced_once-2.ensures.below in
     let fourfold = c.fourfold-fourfold.ensures in
-    omega (arith, below, fourfold)
+    record {
+      first = omega (arith, below, fourfold);
+      second = omega arith;
+      third = omega arith;
+      fourth = omega arith;
+    }
 
 pub returns-clause-four : goal.returns-clause-four
 returns-clause-four g c =
@@ -33,13 +38,13 @@ returns-clause-four g c =
     c.reduced_once.ensures.value in
     let again = reduced_by_multiple _ _ fourfold (multiple_is_none 4 fourfold c.fourfold-fourfold.ensures)
     c.reduced_once-2.ensures.value in
-    λ w u v is_w is_u is_v. record {
+    λ w u v inverses. record {
       e = n low.result.0;
       f = n low.result.1;
       g = n high.result.0;
       h = n high.result.1;
-      low = low.ensures.pair u is_u;
-      high = high.ensures.pair v is_v;
-      first = joined_pair_reduced w _ _ _ _ _ (chained again once) (c.gather-a.ensures.pair w is_w);
-      second = c.gather-b.ensures.pair w is_w;
+      low = low.ensures.pair u inverses.low;
+      high = high.ensures.pair v inverses.high;
+      first = joined_pair_reduced w _ _ _ _ _ (chained again once) (c.gather-a.ensures.pair w inverses.own);
+      second = c.gather-b.ensures.pair w inverses.own;
     }
