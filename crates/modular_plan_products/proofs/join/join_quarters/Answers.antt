@@ -76,3 +76,36 @@ returns-clause-done g c =
     new.a new.b new.c new.d c.split_at_mut-block.ensures.front_len la lb lc ld
     (omega (arith, la, same.a)) (omega (arith, lb, same.b)) (omega (arith, lc, same.c)) (omega (arith, ld, same.d))
     (λ i l. c.join_columns.ensures.done x y z i inverses (omega (arith, l, la))))
+
+pub split_at_mut-block-requires : goal.split_at_mut-block-requires
+split_at_mut-block-requires g c = let within = c.requires.within in omega (arith, within)
+
+pub split_at_mut-a-requires : goal.split_at_mut-a-requires
+split_at_mut-a-requires g c =
+    let within = c.requires.within in
+    let front = c.split_at_mut-block.ensures.back_len in
+    omega (arith, within, front)
+
+pub split_at_mut-b-requires : goal.split_at_mut-b-requires
+split_at_mut-b-requires g c =
+    let within = c.requires.within in
+    let front = c.split_at_mut-block.ensures.back_len in
+    let first = c.split_at_mut-a.ensures.back_len in
+    omega (arith, within, front, first)
+
+pub split_at_mut-c-requires : goal.split_at_mut-c-requires
+split_at_mut-c-requires g c =
+    let within = c.requires.within in
+    let front = c.split_at_mut-block.ensures.back_len in
+    let first = c.split_at_mut-a.ensures.back_len in
+    let second = c.split_at_mut-b.ensures.back_len in
+    omega (arith, within, front, first, second)
+
+pub split_at_mut-d-requires : goal.split_at_mut-d-requires
+split_at_mut-d-requires g c =
+    let within = c.requires.within in
+    let front = c.split_at_mut-block.ensures.back_len in
+    let first = c.split_at_mut-a.ensures.back_len in
+    let second = c.split_at_mut-b.ensures.back_len in
+    let third = c.split_at_mut-c.ensures.back_len in
+    omega (arith, within, front, first, second, third)
