@@ -319,8 +319,8 @@ fn tries_memory(rt: &HostRuntime, words: &[&str], wanted: (u8, &str, &str)) -> i
     Ok(is_full || status == 3 && out.holds("") && err.holds("out of memory\n"))
 }
 
-// `checks/refused-memory` has the growths of the allocator refused one after the other, and reads what
-// these two tests print.
+// `rt try --test --fail-alloc N` refuses the Nth growth of the allocator; what these two tests print
+// says whether the run met it. `checks/refused-memory` does the same to the built program.
 #[test]
 fn refused_memory(rt: HostRuntime) -> io::Result<()> {
     let (words, _) = words_of(MISSING_INVERSE);
