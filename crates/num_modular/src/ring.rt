@@ -193,6 +193,7 @@ fn destination<T: RingWord>(command: &RingCommand<T>) -> usize
 }
 
 // The form of the quotient of two forms; `None` exactly where the second has no inverse.
+#[inline(never)]
 fn quotient<T: RingWord, R: Reducer<T>>(r: &R, a: &T, b: T) -> Option<T>
     requires dividend { IsForm R.form R.value (R.modulus r.now) (T.number a.now) }
     requires divisor { IsForm R.form R.value (R.modulus r.now) (T.number b) }
@@ -205,6 +206,9 @@ fn quotient<T: RingWord, R: Reducer<T>>(r: &R, a: &T, b: T) -> Option<T>
 }
 
 // The form that a command writes; `None` exactly where it finds no inverse.
+//
+// Inlined into the loop of `run`, where a call for each command would take as long as the command.
+#[inline(always)]
 fn computed_form<T: RingWord, R: Reducer<T>>(
     r: &R,
     regs: &[T],
