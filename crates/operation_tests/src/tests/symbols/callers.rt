@@ -9,7 +9,7 @@ use operation_callers::symbols::{
 };
 
 #[test]
-fn generic_sums_and_products(rt: HostRuntime) {
+fn callers_of_operations(rt: HostRuntime) {
     let found = (
         product_and_sum(12u8, &13, &5),
         product_and_sum(12u64, 13, &5),
@@ -19,10 +19,6 @@ fn generic_sums_and_products(rt: HostRuntime) {
         square_of_double(3usize, &7),
     );
     assert!(rt; found == (4, 4, 4, 4, 1, 1));
-}
-
-#[test]
-fn generic_inverses_powers_and_signs(rt: HostRuntime) {
     let found = (
         inverse(&5u16, &11),
         inverse(7u64, &21),
@@ -32,10 +28,6 @@ fn generic_inverses_powers_and_signs(rt: HostRuntime) {
         signed(-12i64, &5u64),
     );
     assert!(rt; found == (Some(9), None, 4, 4, 3, 3));
-}
-
-#[test]
-fn generic_quotients(rt: HostRuntime) {
     let (mut bytes, mut words) = (98u8, 15u64);
     let found = (
         quotient(252u8, 7, &()),
@@ -48,7 +40,7 @@ fn generic_quotients(rt: HostRuntime) {
 }
 
 #[test]
-fn callers_of_generic_code(rt: HostRuntime) {
+fn callers_of_symbols(rt: HostRuntime) {
     let found = (
         product_symbol(7u16, 1, &15),
         product_symbol(2u32, 1, &8),
