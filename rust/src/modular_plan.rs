@@ -2,8 +2,10 @@
 
 pub mod entry;
 pub mod modulus;
+mod places;
 pub mod plan;
 pub mod roomy;
 pub mod roots;
 pub mod split;
+mod split_blocks;
 mod split_steps;

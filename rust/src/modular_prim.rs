@@ -3,6 +3,7 @@
 pub mod abs;
 pub mod below;
 pub mod counted;
+pub mod digits;
 pub mod euclid;
 pub mod exact;
 pub mod inverse;

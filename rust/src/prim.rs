@@ -1,5 +1,6 @@
 //! Modular operations and symbols of plain integers.
 
+pub mod by_subtraction;
 pub mod counted;
 
 pub use crate::modular_prim::exact::{DivExact, DivExactAssign};

@@ -10,7 +10,7 @@ use crate::modular_word::ring_word::RingWord;
 /// A command on registers, which are named by their numbers in a slice of forms.
 ///
 /// Operands are read before `dst` is written, so `dst` may be an operand.
-#[derive(Clone, Copy, Debug, PartialEq, Eq)]
+#[derive(Debug, PartialEq, Eq)]
 pub enum RingCommand<T> {
     /// Writes n modulo m.
     Load {
@@ -95,6 +95,15 @@ pub enum RingCommand<T> {
     },
 }
 
+impl<T: Copy> Clone for RingCommand<T> {
+    #[inline]
+    fn clone(&self) -> Self {
+        *self
+    }
+}
+
+impl<T: Copy> Copy for RingCommand<T> {}
+
 /// How a run ended.
 #[derive(Clone, Copy, Debug, PartialEq, Eq)]
 pub enum RunEnd {
@@ -164,13 +173,16 @@ fn destination<T: RingWord>(command: &RingCommand<T>) -> usize {
 }
 
 // The form of the quotient of two forms; `None` exactly where the second has no inverse.
-#[inline]
+#[inline(never)]
 fn quotient<T: RingWord, R: Reducer<T>>(r: &R, a: &T, b: T) -> Option<T> {
     let inverse = r.inv(b)?;
     Some(r.mul(a, &inverse))
 }
 
 // The form that a command writes; `None` exactly where it finds no inverse.
+//
+// Inlined into the loop of `run`, where a call for each command would take as long as the command.
+#[inline(always)]
 fn computed_form<T: RingWord, R: Reducer<T>>(
     r: &R,
     regs: &[T],

@@ -2,7 +2,7 @@
 
 use crate::modular_barrett::normalized::{Normalized2by1Divisor, StoredDivisor};
 use crate::modular_prim::below::{add_below, dbl_below, neg_below, sub_below};
-use crate::modular_prim::euclid::invm;
+use crate::modular_prim::inverse::fast_inverse;
 use crate::modular_prim::plain_word::PlainWord;
 use crate::modular_reduced::reducer::Reducer;
 use crate::modular_word::path_word::PathWord;
@@ -128,7 +128,7 @@ impl<T: PlainWord> Reducer<T> for PreMulInv2by1<T> {
 
     #[inline]
     fn inv(&self, f: T) -> Option<T> {
-        let inverse = invm(self.residue(f), self.modulus())?;
+        let inverse = fast_inverse(self.residue(f), self.modulus())?;
         Some(inverse.shift_left(self.shift))
     }
 

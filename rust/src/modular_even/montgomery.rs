@@ -1,7 +1,7 @@
 //! The reducer by Montgomery's representation, for every modulus.
 
 use crate::modular_monty::odd_ring::{OddModulus, OddRing, StoredModulus};
-use crate::modular_prim::euclid::invm;
+use crate::modular_prim::inverse::fast_inverse;
 use crate::modular_prim::plain_word::PlainWord;
 use crate::modular_reduced::reducer::Reducer;
 use crate::modular_word::path_word::PathWord;
@@ -167,10 +167,10 @@ impl<T: PlainWord> Reducer<T> for Montgomery<T> {
         self.mul(&difference, factor)
     }
 
-    // Through the value: its inverse by Euclid's algorithm, and the form of that.
+    // Through the value: its inverse, and the form of that.
     #[inline]
     fn inv(&self, f: T) -> Option<T> {
-        match invm(self.residue(f), self.modulus()) {
+        match fast_inverse(self.residue(f), self.modulus()) {
             Some(x) => Some(self.transform(x)),
             None => None,
         }

@@ -3,7 +3,7 @@
 
 use crate::modular_monty::neg_mod_inv::neginv;
 use crate::modular_prim::below::{add_below, branchless_sub_below, dbl_below, neg_below, sub_below};
-use crate::modular_prim::euclid::invm;
+use crate::modular_prim::inverse::fast_inverse;
 use crate::modular_prim::plain_word::PlainWord;
 use crate::modular_reduced::reducer::Reducer;
 use crate::modular_word::path_word::PathWord;
@@ -153,10 +153,10 @@ impl<T: PlainWord, M: OddModulus<T>> Reducer<T> for OddRing<T, M> {
         self.kept.reduced(difference.product(*factor))
     }
 
-    // Through the value: its inverse by Euclid's algorithm, and the form of that.
+    // Through the value: its inverse, and the form of that.
     #[inline]
     fn inv(&self, f: T) -> Option<T> {
-        match invm(self.residue(f), self.kept.modulus()) {
+        match fast_inverse(self.residue(f), self.kept.modulus()) {
             Some(x) => Some(self.transform(x)),
             None => None,
         }

@@ -2,7 +2,9 @@
 
 use crate::modular_plan::entry::PlanEntry;
 use crate::modular_plan::modulus::{Factor, PlannedModulus};
+use crate::modular_plan::places::factors_at;
 use crate::modular_plan::roomy::RoomyModulus;
+use crate::modular_plan::split_blocks::{split_by_one, split_neighbours, split_quarters};
 use crate::modular_plan::split_steps::SplitSteps;
 use crate::modular_prim::plain_word::PlainWord;
 use crate::modular_word::path_word::PathWord;
@@ -55,51 +57,6 @@ fn split_stage<T: PlainWord, M: SplitSteps<T>, F: PlanEntry<T>>(
     }
 }
 
-// Two stages of the four quarters of a block: by the block's factor w, and by those of its halves.
-#[inline(always)]
-fn split_columns<T: PlainWord, M: SplitSteps<T>>(
-    m: &M,
-    first: &mut [T],
-    second: &mut [T],
-    third: &mut [T],
-    fourth: &mut [T],
-    w: &Factor<T>,
-    u: &Factor<T>,
-    v: &Factor<T>,
-) {
-    'columns: for i in 0..first.len() {
-        let x = first[i];
-        // never so
-        if m.is_beyond(x) {
-            return;
-        }
-        let (a, b, c, d) = m.four(x, second[i], third[i], fourth[i], w, u, v);
-        first[i] = a;
-        second[i] = b;
-        third[i] = c;
-        fourth[i] = d;
-    }
-}
-
-// Two stages of the block of four times q entries from place `first` on.
-#[inline(always)]
-fn split_quarters<T: PlainWord, M: SplitSteps<T>>(
-    m: &M,
-    xs: &mut [T],
-    first: usize,
-    q: usize,
-    w: &Factor<T>,
-    u: &Factor<T>,
-    v: &Factor<T>,
-) {
-    let (_before, block) = xs.split_at_mut(first);
-    let (a, rest) = block.split_at_mut(q);
-    let (b, rest) = rest.split_at_mut(q);
-    let (c, rest) = rest.split_at_mut(q);
-    let (d, _after) = rest.split_at_mut(q);
-    split_columns(m, a, b, c, d, w, u, v);
-}
-
 // Two stages of all blocks, block p by entry first + p of the table, and its halves by the entries at
 // twice that place.
 #[inline(always)]
@@ -112,11 +69,9 @@ fn split_two_stages<T: PlainWord, M: SplitSteps<T>, F: PlanEntry<T>>(
     first: usize,
 ) {
     'four_quarters: for p in 0..blocks {
-        let place = first + p;
-        let w = table[place].factor();
-        let u = table[2 * place].factor();
-        let v = table[2 * place + 1].factor();
-        split_quarters(m, xs, p * (q + q + (q + q)), q, &w, &u, &v);
+        let (w, u, v) = factors_at(table, first + p);
+        let half = q + q;
+        split_quarters(m, xs, p * (half + half), q, &w, &u, &v);
     }
 }
 
@@ -141,23 +96,6 @@ fn split_known<T: PlainWord, M: SplitSteps<T>, F: PlanEntry<T>>(
     }
 }
 
-// Two stages of the whole list by a plan that begins with 1: by 1 and by 1, and by v, its second factor.
-fn split_by_one<T: PlainWord, M: SplitSteps<T>>(m: &M, xs: &mut [T], q: usize, v: &Factor<T>) {
-    'columns: for i in 0..q {
-        // never so
-        if m.is_beyond(xs[i]) {
-            return;
-        }
-        let x = xs[i];
-        let (y, z, t) = (xs[q + i], xs[q + q + i], xs[q + q + (q + i)]);
-        let (a, b, c, d) = m.four_by_one(x, y, z, t, v);
-        xs[q + q + (q + i)] = d;
-        xs[q + q + i] = c;
-        xs[q + i] = b;
-        xs[i] = a;
-    }
-}
-
 // A pass of two stages, block p by entry first + p of the table. The first pass of a transform takes one product in
 // place of four, since a plan begins with 1.
 fn split_pass<T: PlainWord, M: SplitSteps<T>, F: PlanEntry<T>>(
@@ -176,24 +114,6 @@ fn split_pass<T: PlainWord, M: SplitSteps<T>, F: PlanEntry<T>>(
     }
 }
 
-// Two stages of the four entries from place `first` on, which become residues.
-fn split_neighbours<T: PlainWord, M: SplitSteps<T>>(
-    m: &M,
-    xs: &mut [T],
-    first: usize,
-    w: &Factor<T>,
-    u: &Factor<T>,
-    v: &Factor<T>,
-) {
-    let (x, y) = (xs[first], xs[first + 1]);
-    let (z, t) = (xs[first + 2], xs[first + 3]);
-    let (a, b, c, d) = m.four(x, y, z, t, w, u, v);
-    xs[first + 3] = m.residue(d);
-    xs[first + 2] = m.residue(c);
-    xs[first + 1] = m.residue(b);
-    xs[first] = m.residue(a);
-}
-
 // The last two stages: those of `split_two_stages` on each four neighbours, and their residues.
 fn split_fours<T: PlainWord, M: SplitSteps<T>, F: PlanEntry<T>>(
     m: &M,
@@ -203,15 +123,13 @@ fn split_fours<T: PlainWord, M: SplitSteps<T>, F: PlanEntry<T>>(
     first: usize,
 ) {
     'fours: for p in 0..blocks {
-        let place = first + p;
-        let w = table[place].factor();
-        let u = table[2 * place].factor();
-        let v = table[2 * place + 1].factor();
+        let (w, u, v) = factors_at(table, first + p);
+        let place = p * 4;
         // never so
-        if m.is_beyond(xs[p * 4]) {
+        if m.is_beyond(xs[place]) {
             return;
         }
-        split_neighbours(m, xs, p * 4, &w, &u, &v);
+        split_neighbours(m, xs, place, &w, &u, &v);
     }
 }
 

@@ -75,9 +75,10 @@ fn multiply_pair<T: PlainWord>(
     place: usize,
     turned: T,
 ) {
+    let next = place + 1;
     let (x, y) = (xs[place], ys[place]);
-    let (u, v) = (xs[place + 1], ys[place + 1]);
-    xs[place + 1] = m.product_sum(x, v, u, y);
+    let (u, v) = (xs[next], ys[next]);
+    xs[next] = m.product_sum(x, v, u, y);
     xs[place] = m.product_sum(x, y, turned, v);
 }
 

@@ -1,7 +1,7 @@
-//! The inverse modulo m, and by Euclid's algorithm with the number of its divisions.
+//! The inverse modulo m by Euclid's algorithm, with the number of its divisions.
 
 use crate::modular_prim::below::neg_below;
-use crate::modular_prim::inverse::inverse_by_subtraction;
+use crate::modular_prim::digits::division;
 use crate::modular_prim::plain_word::PlainWord;
 use crate::modular_word::path_word::PathWord;
 use crate::modular_word::ring_word::RingWord;
@@ -9,15 +9,10 @@ use crate::modular_word::ring_word::RingWord;
 /// The inverse of a modulo m; `None` exactly where there is none. Condition: m is at least 1; a may
 /// be above it.
 ///
-/// For an odd m it is found by subtraction, as `inverse_by_subtraction` does, for an even one by Euclid's
-/// divisions, as `invm_counted` does.
+/// Source: as `invm_counted`, which it calls.
 #[inline]
 pub fn invm<T: PlainWord>(a: T, m: T) -> Option<T> {
-    if m.is_odd() {
-        inverse_by_subtraction(a, m)
-    } else {
-        invm_counted(a, m).0
-    }
+    invm_counted(a, m).0
 }
 
 /// The inverse of a modulo m, `None` exactly where there is none, and the number of divisions.
@@ -38,8 +33,7 @@ pub fn invm_counted<T: PlainWord>(a: T, m: T) -> (Option<T>, u32) {
     let mut t = T::one();
     let mut odd = false;
     'euclid: while !r.is_zero_word() {
-        let quotient = last_r.quotient(r);
-        let rest = last_r.minus(quotient.times(r));
+        let (quotient, rest) = division(last_r, r);
         let next = last_t.plus(quotient.times(t));
         last_r = r;
         r = rest;

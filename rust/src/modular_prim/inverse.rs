@@ -1,5 +1,6 @@
-//! The inverse modulo an odd m by subtraction: the fast loop, which counts no steps.
+//! The inverse modulo an odd m by subtraction, which takes no division and counts no steps.
 
+use crate::modular_prim::euclid::invm;
 use crate::modular_prim::plain_word::PlainWord;
 use crate::modular_prim::residues::reduced;
 use crate::modular_word::path_word::PathWord;
@@ -105,4 +106,16 @@ fn inverse_below<T: PlainWord>(x: T, m: T) -> Option<T> {
 #[inline]
 pub fn inverse_by_subtraction<T: PlainWord>(a: T, m: T) -> Option<T> {
     inverse_below(reduced(a, m), m)
+}
+
+/// The inverse of a modulo m; `None` exactly where there is none. Condition: m is at least 1; a may be above it.
+///
+/// For an odd m by subtraction, as `inverse_by_subtraction` finds it, for an even one by Euclid's algorithm, as `invm` does.
+#[inline]
+pub fn fast_inverse<T: PlainWord>(a: T, m: T) -> Option<T> {
+    if m.is_odd() {
+        inverse_by_subtraction(a, m)
+    } else {
+        invm(a, m)
+    }
 }

@@ -2,7 +2,7 @@
 
 use crate::modular_reduced::reducer::Reducer;
 use crate::modular_prim::below::{add_below, dbl_below, neg_below, sub_below};
-use crate::modular_prim::euclid::invm;
+use crate::modular_prim::inverse::fast_inverse;
 use crate::modular_prim::plain_word::PlainWord;
 
 /// The plain reducer of a modulus from 1 up: the form of a value is the value itself.
@@ -87,7 +87,7 @@ impl<T: PlainWord> Reducer<T> for Vanilla<T> {
 
     #[inline]
     fn inv(&self, f: T) -> Option<T> {
-        invm(f, self.modulus)
+        fast_inverse(f, self.modulus)
     }
 
     #[inline]

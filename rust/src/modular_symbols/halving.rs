@@ -1,8 +1,8 @@
-//! The Jacobi symbol by halving and swapping, with the number of these steps. `subtraction` has the faster
-//! loop, which counts none.
+//! The Jacobi symbol by halving and swapping, with the number of these steps.
 
 use crate::modular_symbols::turns::{is_turned_by_swap, is_turned_by_twos};
 use crate::modular_prim::abs::signed_residue;
+use crate::modular_prim::digits::division;
 use crate::modular_prim::plain_word::PlainWord;
 use crate::modular_word::path_word::PathWord;
 use crate::modular_word::ring_word::RingWord;
@@ -23,7 +23,8 @@ fn halve_and_swap<T: PlainWord>(a: T, n: T) -> (i8, u32) {
         let twos = above.trailing_zeros();
         let odd = above.shift_right(twos);
         turned ^= is_turned(odd, twos, below);
-        above = below.remainder(odd);
+        let (_, rest) = division(below, odd);
+        above = rest;
         below = odd;
         count += twos + 1;
     }
@@ -43,8 +44,8 @@ pub fn jacobi_by_halving<T: PlainWord>(a_minus: bool, a: T, n: T) -> i8 {
 /// The Jacobi symbol over n of a number, given by its sign and its magnitude, and the number of halvings
 /// and swaps from its residue over n. Condition: n is odd.
 ///
-/// A turn of the loop takes all twos out of the upper number, swaps the two and reduces, with one
-/// division.
+/// A turn of the loop takes all twos out of the upper number, swaps the two and reduces, by the division of Euclid's
+/// algorithm.
 ///
 /// Source: Cohen, "A Course in Computational Algebraic Number Theory", algorithm 1.4.10, without
 /// its first steps.

@@ -1,4 +1,4 @@
-//! The Jacobi symbol by subtraction: the fast loop, which counts no steps.
+//! The Jacobi symbol by subtraction, which takes no division and counts no steps.
 
 use crate::modular_symbols::low_part::LowPart;
 use crate::modular_symbols::turns::{turn_by_swap, turn_by_twos};

@@ -2,8 +2,6 @@
 
 use crate::modular_symbols::magnitudes;
 use crate::modular_symbols::operands::{IntegerValued, SymbolWord};
-use crate::modular_symbols::subtraction::jacobi_by_subtraction;
-use crate::modular_word::ring_word::RingWord;
 
 /// The symbols of a number over n. A symbol is -1, 0 or 1.
 pub trait ModularSymbols<Modulus: IntegerValued = Self>: Sized + IntegerValued {
@@ -24,9 +22,6 @@ pub trait ModularSymbols<Modulus: IntegerValued = Self>: Sized + IntegerValued {
     fn checked_legendre(&self, n: Modulus) -> Option<i8>;
 
     /// The value inside `checked_jacobi`. Condition: that is `Some`, so n is odd and above 0.
-    ///
-    /// Words take another loop than there, and the faster one: it subtracts where that one divides. Take it
-    /// where n is known to be odd.
     #[inline]
     fn jacobi(&self, n: Modulus) -> i8 {
         match self.checked_jacobi(n) {
@@ -37,8 +32,7 @@ pub trait ModularSymbols<Modulus: IntegerValued = Self>: Sized + IntegerValued {
 
     /// The Jacobi symbol; `None` exactly for an even n and for n below 1.
     ///
-    /// Words take the loop whose halvings and swaps are counted, with a division a swap. `jacobi` needs an odd n,
-    /// and is faster.
+    /// By halvings and swaps. Source: Cohen, "A Course in Computational Algebraic Number Theory", algorithm 1.4.10.
     fn checked_jacobi(&self, n: Modulus) -> Option<i8>;
 
     /// The Kronecker symbol, of any number over any number, the least ones included: the product of the
@@ -56,16 +50,6 @@ impl<T: SymbolWord> ModularSymbols<&T> for T {
         let (a_minus, a) = self.sign_and_magnitude();
         let (n_minus, n) = n.sign_and_magnitude();
         magnitudes::checked_legendre(a_minus, a, n_minus, n)
-    }
-
-    #[inline]
-    fn jacobi(&self, n: &T) -> i8 {
-        let (a_minus, a) = self.sign_and_magnitude();
-        let (n_minus, n) = n.sign_and_magnitude();
-        if n_minus | !n.is_odd() {
-            unreachable!();
-        }
-        jacobi_by_subtraction(a_minus, a, n)
     }
 
     #[inline]

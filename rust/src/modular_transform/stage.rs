@@ -16,14 +16,6 @@ fn pair<T: RingWord, R: Reducer<T>>(r: &R, forms: &mut [T], first: usize, second
     forms[first] = r.add(&a, &b);
 }
 
-/// Multiplies the running power by the root, and answers what it was before. It takes one product.
-#[inline]
-pub fn advance<T: RingWord, R: Reducer<T>>(r: &R, running: &mut T, root: &T) -> T {
-    let last = *running;
-    *running = r.mul(&last, root);
-    last
-}
-
 /// A stage with a root: in each block of `half` and `half` entries the pair of column i becomes its
 /// sum, and its difference times the power i of the root. Answers how many products that took.
 ///
@@ -42,7 +34,8 @@ pub fn stage<T: RingWord, R: Reducer<T>>(
     'strips: while column < half {
         let width = STRIP.min(half - column);
         'fill: for i in 0..width {
-            powers[i] = advance(r, &mut running, root);
+            powers[i] = running;
+            running = r.mul(&running, root);
             products += 1;
         }
         'each_block: for block in 0..blocks {

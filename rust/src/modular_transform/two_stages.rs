@@ -1,6 +1,6 @@
 //! Two stages of a transform in one pass: each four values go through both while they are at hand.
 
-use crate::modular_transform::stage::{STRIP, advance};
+use crate::modular_transform::stage::STRIP;
 use crate::modular_reduced::reducer::Reducer;
 use crate::modular_word::ring_word::RingWord;
 
@@ -52,9 +52,12 @@ pub fn two_stages<T: RingWord, R: Reducer<T>>(
     'strips: while column < step {
         let width = STRIP.min(step - column);
         'fill: for i in 0..width {
-            firsts[i] = advance(r, &mut power, root);
-            seconds[i] = advance(r, &mut turned_power, root);
-            boths[i] = advance(r, &mut square_power, square);
+            firsts[i] = power;
+            seconds[i] = turned_power;
+            boths[i] = square_power;
+            power = r.mul(&power, root);
+            turned_power = r.mul(&turned_power, root);
+            square_power = r.mul(&square_power, square);
             products += 3;
         }
         'each_block: for block in 0..blocks {

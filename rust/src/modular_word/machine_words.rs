@@ -2,6 +2,16 @@
 
 use crate::modular_word::path_word::PathWord;
 
+// `high_sum_modulo` in words of 64 bits: by words, since sums of double words take longer.
+fn high_sum_modulo_64(first: u128, second: u128, m: u64) -> u64 {
+    let (_, first_high) = <u64 as PathWord>::split(first);
+    let (low, high) = <u64 as PathWord>::split(second);
+    // The low words add up to 0, or to the base.
+    let carried = if low == 0 { high } else { high + 1 };
+    let (rest, is_above) = first_high.wrapping_sub(m).overflowing_add(carried);
+    if is_above { rest } else { rest.wrapping_add(m) }
+}
+
 impl PathWord for u8 {
     type Double = u16;
 
@@ -92,6 +102,13 @@ impl PathWord for u8 {
     #[inline]
     fn merge(low: u8, high: u8) -> u16 {
         low as u16 + ((high as u16) << 8)
+    }
+
+    #[inline]
+    fn high_sum_modulo(first: u16, second: u16, m: u8) -> u8 {
+        let (rest, is_above) = second.overflowing_add(first.wrapping_sub((m as u16) << 8));
+        let high = (rest >> 8) as u8;
+        if is_above { high } else { high.wrapping_add(m) }
     }
 
     #[inline]
@@ -193,6 +210,13 @@ impl PathWord for u16 {
     }
 
     #[inline]
+    fn high_sum_modulo(first: u32, second: u32, m: u16) -> u16 {
+        let (rest, is_above) = second.overflowing_add(first.wrapping_sub((m as u32) << 16));
+        let high = (rest >> 16) as u16;
+        if is_above { high } else { high.wrapping_add(m) }
+    }
+
+    #[inline]
     fn double_plus(first: u32, second: u32) -> u32 {
         first + second
     }
@@ -288,6 +312,13 @@ impl PathWord for u32 {
     #[inline]
     fn merge(low: u32, high: u32) -> u64 {
         low as u64 + ((high as u64) << 32)
+    }
+
+    #[inline]
+    fn high_sum_modulo(first: u64, second: u64, m: u32) -> u32 {
+        let (rest, is_above) = second.overflowing_add(first.wrapping_sub((m as u64) << 32));
+        let high = (rest >> 32) as u32;
+        if is_above { high } else { high.wrapping_add(m) }
     }
 
     #[inline]
@@ -390,6 +421,11 @@ impl PathWord for u64 {
     }
 
     #[inline]
+    fn high_sum_modulo(first: u128, second: u128, m: u64) -> u64 {
+        high_sum_modulo_64(first, second, m)
+    }
+
+    #[inline]
     fn double_plus(first: u128, second: u128) -> u128 {
         first + second
     }
@@ -486,6 +522,11 @@ impl PathWord for usize {
     #[inline]
     fn merge(low: usize, high: usize) -> u128 {
         low as u128 + ((high as u128) << 64)
+    }
+
+    #[inline]
+    fn high_sum_modulo(first: u128, second: u128, m: usize) -> usize {
+        high_sum_modulo_64(first, second, m as u64) as usize
     }
 
     #[inline]

@@ -72,6 +72,13 @@ pub trait PathWord: Sized + RingWord {
     /// The double word of a low and a high word.
     fn merge(low: Self, high: Self) -> Self::Double;
 
+    /// The high word of the sum of two double words, modulo m. Conditions: the low word of the sum is 0, and each of the
+    /// two is below m times the base.
+    ///
+    /// The sum can pass the double word; its carry is kept.
+    #[must_use]
+    fn high_sum_modulo(first: Self::Double, second: Self::Double, m: Self) -> Self;
+
     /// The sum of two double words. Condition: it fits a double word.
     fn double_plus(first: Self::Double, second: Self::Double) -> Self::Double;
 }

@@ -105,25 +105,20 @@ pub fn neginv<T: PathWord>(m: T) -> T {
     T::zero().wrapping_sub(inverse)
 }
 
-/// The word x whose multiple x·m has the low word of t, so that t less that multiple is cleared of it:
-/// the first step of Montgomery's reduction. Condition: m times `negated_inverse` is -1 modulo the base.
+/// The word x whose multiple x·m, added to t, leaves 0 in the low word: the first step of Montgomery's reduction.
+/// Condition: m times `negated_inverse` is -1 modulo the base.
 #[inline]
 pub fn clearing<T: PathWord>(m: T, negated_inverse: T, t: T::Double) -> T {
     let (low, _) = T::split(t);
-    low.wrapping_mul(T::zero().wrapping_sub(negated_inverse))
+    low.wrapping_mul(negated_inverse)
 }
 
-/// Montgomery's reduction of t, given the word x of `clearing` and the product x·m: the second step. A
-/// modulus of a special form may have x·m at a lower cost. Conditions: t is below m times the base, and x·m
-/// has the low word of t.
-///
-/// The difference of t and x·m is that of their high words times the base, so no carry of low words is
-/// waited for; both are below m, and where the difference is below 0, m is added.
+/// Montgomery's reduction of t, given the word x of `clearing` and the product x·m: the second step, the sum of t and
+/// x·m divided by the base, less m where it is at least m. A modulus of a special form may have x·m at a lower cost.
+/// Conditions: t is below m times the base, and the sum of t and x·m has 0 in the low word.
 #[inline]
 pub fn reduce_by<T: PathWord>(m: T, t: T::Double, x: T, multiple: T::Double) -> T {
-    let (_, high) = T::split(t);
-    let (_, multiple_high) = T::split(multiple);
-    high.minus_modulo(multiple_high, m)
+    T::high_sum_modulo(t, multiple, m)
 }
 
 /// Montgomery's reduction of a double word t modulo an odd m. Conditions: m times `negated_inverse`

@@ -4,5 +4,5 @@
 mod counted;
 mod definitions;
 mod inverses;
-mod operands;
+mod reciprocals;
 mod rows;

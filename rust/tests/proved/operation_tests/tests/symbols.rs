@@ -2,9 +2,7 @@
 
 mod callers;
 mod counted;
-mod large;
-mod least;
+mod loops;
 mod primes;
 mod references;
-mod subtraction;
 mod tables;

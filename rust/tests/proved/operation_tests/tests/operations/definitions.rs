@@ -17,10 +17,32 @@ fn agree_of_two(a: u8, b: u8, m: u8) -> bool {
         && product as u64 == residue_of(x * y, n)
 }
 
+// The residues of a negative, a double and a square.
+fn of_one(a: u8, m: u8) -> [u8; 3] {
+    [a.negm(&m), a.dblm(&m), a.sqm(&m)]
+}
+
+// Whether they, the inverse and the residue of a number with sign, a - 128, are those that the definitions give.
+fn agree_of_one(a: u8, m: u8) -> bool {
+    let [negative, double, square] = of_one(a, m);
+    let inverse = match a.invm(&m) {
+        Some(inverse) => Some(inverse as u64),
+        None => None,
+    };
+    let (x, n) = (a as i64, m as u64);
+    let z = (x - 128) as i8;
+    negative as u64 == residue_of(-x, n)
+        && double as u64 == residue_of(2 * x, n)
+        && square as u64 == residue_of(x * x, n)
+        && inverse == inverse_by_search(a as u64, n)
+        && z.absm(&m) as u64 == residue_of(z as i64, n)
+}
+
 #[test]
-fn operations_of_two_operands() {
+fn operations() {
     for m in 1..=255u8 {
         for a in 0..=255u8 {
+            assert!(agree_of_one(a, m), "{a} modulo {m}");
             for b in [
                 0,
                 1,
@@ -36,45 +58,6 @@ fn operations_of_two_operands() {
             ] {
                 assert!(agree_of_two(a, b, m), "{a} and {b} modulo {m}");
             }
-        }
-    }
-}
-
-// The residues of a negative, a double and a square.
-fn of_one(a: u8, m: u8) -> [u8; 3] {
-    [a.negm(&m), a.dblm(&m), a.sqm(&m)]
-}
-
-fn agree_of_one(a: u8, m: u8) -> bool {
-    let [negative, double, square] = of_one(a, m);
-    let (x, n) = (a as i64, m as u64);
-    negative as u64 == residue_of(-x, n)
-        && double as u64 == residue_of(2 * x, n)
-        && square as u64 == residue_of(x * x, n)
-}
-
-fn agree_on_inverses(a: u8, m: u8) -> bool {
-    let inverse = match a.invm(&m) {
-        Some(inverse) => Some(inverse as u64),
-        None => None,
-    };
-    inverse == inverse_by_search(a as u64, m as u64)
-}
-
-fn agree_on_signed(z: i8, m: u8) -> bool {
-    z.absm(&m) as u64 == residue_of(z as i64, m as u64)
-}
-
-#[test]
-fn operations_of_one_operand() {
-    for m in 1..=255u8 {
-        for a in 0..=255u8 {
-            assert!(agree_of_one(a, m), "{a} modulo {m}");
-            assert!(agree_on_inverses(a, m), "the inverse of {a} modulo {m}");
-            assert!(
-                agree_on_signed((a as i64 - 128) as i8, m),
-                "{a} less 128, modulo {m}"
-            );
         }
     }
 }

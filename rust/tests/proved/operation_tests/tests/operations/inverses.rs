@@ -1,8 +1,10 @@
-//! `inverse_by_subtraction` beside `invm_counted`, which divides, and at full width.
+//! The rows of inverses, and `inverse_by_subtraction` beside `invm_counted`, which divides.
 
-use num_modular::modular_prim::counted::w8;
+use num_modular::modular_prim::counted::{w8, w16, w32, w64};
 use num_modular::modular_prim::inverse::inverse_by_subtraction;
 use num_modular::modular_prim::operations::ModularUnaryOps;
+use num_modular::modular_prim::plain_word::PlainWord;
+use crate::runtime::Abort;
 
 // Each number of a byte, modulo each odd number of a byte.
 #[test]
@@ -18,8 +20,44 @@ fn the_two_loops() {
     }
 }
 
-// Rows are a number, the modulus and the inverse.
-const WIDE: [(u64, u64, Option<u64>); 13] = [
+// Rows are a number, the modulus and the inverse: here those that hold at each width.
+const INVERSES: &[(u8, u8, Option<u8>)] = &[
+    (5, 11, Some(9)),
+    (8, 11, Some(7)),
+    (10, 11, Some(10)),
+    (0, 21, None),
+    (7, 21, None),
+    (0, 1, Some(0)),
+    (3, 1, Some(0)),
+    (6, 9, None),
+    (12, 5, Some(3)),
+];
+
+// At 16 bits and wider.
+const WIDE_INVERSES: &[(u16, u16, Option<u16>)] = &[
+    (3, 5000, Some(1667)),
+    (1667, 5000, Some(3)),
+    (999, 5000, Some(3999)),
+    (5999, 5000, Some(3999)),
+];
+
+const INVERSES_OF_16_BITS: &[(u16, u16, Option<u16>)] = &[
+    (65535, 65521, Some(60841)),
+    (32768, 65521, Some(56785)),
+    (65520, 65521, Some(65520)),
+    (255, 65535, None),
+    (2, 65535, Some(32768)),
+];
+
+const INVERSES_OF_32_BITS: &[(u32, u32, Option<u32>)] = &[
+    (4294967295, 4294967291, Some(1073741823)),
+    (2147483648, 4294967291, Some(2576980375)),
+    (4294967290, 4294967291, Some(4294967290)),
+    (65537, 4294967295, None),
+    (2, 4294967295, Some(2147483648)),
+];
+
+const INVERSES_OF_64_BITS: &[(u64, u64, Option<u64>)] = &[
     (
         81985529216486895,
         18446744073709551557,
@@ -57,33 +95,89 @@ const WIDE: [(u64, u64, Option<u64>); 13] = [
     (18446744073709551615, 4294967297, None),
     (9223372036854775808, 3, Some(2)),
     (18446744073709551615, 1, Some(0)),
+    (999, 9223372036854775807, Some(3619181019466538655)),
+    (
+        9223372036854775804,
+        9223372036854775807,
+        Some(3074457345618258602),
+    ),
 ];
 
-const NARROW: [(u32, u32, Option<u32>); 5] = [
-    (4294967295, 4294967291, Some(1073741823)),
-    (2147483648, 4294967291, Some(2576980375)),
-    (4294967290, 4294967291, Some(4294967290)),
-    (65537, 4294967295, None),
-    (2, 4294967295, Some(2147483648)),
+const INVERSES_OF_SIZES: &[(usize, usize, Option<usize>)] = &[
+    (999, 9223372036854775807, Some(3619181019466538655)),
+    (
+        9223372036854775804,
+        9223372036854775807,
+        Some(3074457345618258602),
+    ),
 ];
 
-const SHORT: [(u16, u16, Option<u16>); 5] = [
-    (65535, 65521, Some(60841)),
-    (32768, 65521, Some(56785)),
-    (65520, 65521, Some(65520)),
-    (255, 65535, None),
-    (2, 65535, Some(32768)),
-];
+// Whether the number by value and by reference has this inverse.
+fn is_inverse<T: PlainWord>(a: T, m: T, want: Option<T>) -> bool {
+    a.invm(&m) == want && (&a).invm(&m) == want
+}
+
+fn assert_inverses<S: Copy, T: PlainWord + From<S>>(rt: &impl Abort, rows: &[(S, S, Option<S>)]) {
+    for &(a, m, want) in rows {
+        let m = T::from(m);
+        assert!(!m.is_zero_word());
+        let want = match want {
+            Some(inverse) => Some(T::from(inverse)),
+            None => None,
+        };
+        assert!(is_inverse(T::from(a), m, want));
+    }
+}
 
 #[test]
-fn inverses_of_full_width() {
-    for (a, m, want) in WIDE {
-        assert!(m > 0 && a.invm(&m) == want, "{a} modulo {m}");
+fn inverses_at_each_width() {
+    let rt = crate::runtime::HostRuntime;
+    assert_inverses::<u8, u8>(&rt, INVERSES);
+    assert_inverses::<u8, u16>(&rt, INVERSES);
+    assert_inverses::<u8, u32>(&rt, INVERSES);
+    assert_inverses::<u8, u64>(&rt, INVERSES);
+    assert_inverses::<u8, usize>(&rt, INVERSES);
+    assert_inverses::<u16, u16>(&rt, WIDE_INVERSES);
+    assert_inverses::<u16, u32>(&rt, WIDE_INVERSES);
+    assert_inverses::<u16, u64>(&rt, WIDE_INVERSES);
+    assert_inverses::<u16, usize>(&rt, WIDE_INVERSES);
+    assert_inverses::<u16, u16>(&rt, INVERSES_OF_16_BITS);
+    assert_inverses::<u32, u32>(&rt, INVERSES_OF_32_BITS);
+    assert_inverses::<u64, u64>(&rt, INVERSES_OF_64_BITS);
+    assert_inverses::<usize, usize>(&rt, INVERSES_OF_SIZES);
+}
+
+// The moduli of these rows are odd.
+#[test]
+fn the_two_loops_of_wide_words() {
+    for &(a, m, want) in INVERSES_OF_16_BITS {
+        assert!(
+            m % 2 == 1 && inverse_by_subtraction(a, m) == want,
+            "{a} modulo {m}"
+        );
+        assert!(
+            m > 0 && w16::invm_counted(a, m).0 == want,
+            "{a} modulo {m}"
+        );
     }
-    for (a, m, want) in NARROW {
-        assert!(m > 0 && a.invm(&m) == want, "{a} modulo {m}");
+    for &(a, m, want) in INVERSES_OF_32_BITS {
+        assert!(
+            m % 2 == 1 && inverse_by_subtraction(a, m) == want,
+            "{a} modulo {m}"
+        );
+        assert!(
+            m > 0 && w32::invm_counted(a, m).0 == want,
+            "{a} modulo {m}"
+        );
     }
-    for (a, m, want) in SHORT {
-        assert!(m > 0 && a.invm(&m) == want, "{a} modulo {m}");
+    for &(a, m, want) in INVERSES_OF_64_BITS {
+        assert!(
+            m % 2 == 1 && inverse_by_subtraction(a, m) == want,
+            "{a} modulo {m}"
+        );
+        assert!(
+            m > 0 && w64::invm_counted(a, m).0 == want,
+            "{a} modulo {m}"
+        );
     }
 }

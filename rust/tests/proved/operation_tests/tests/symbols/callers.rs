@@ -9,7 +9,7 @@ use crate::operation_callers::symbols::{
 };
 
 #[test]
-fn generic_sums_and_products() {
+fn callers_of_operations() {
     let found = (
         product_and_sum(12u8, &13, &5),
         product_and_sum(12u64, 13, &5),
@@ -19,10 +19,6 @@ fn generic_sums_and_products() {
         square_of_double(3usize, &7),
     );
     assert!(found == (4, 4, 4, 4, 1, 1));
-}
-
-#[test]
-fn generic_inverses_powers_and_signs() {
     let found = (
         inverse(&5u16, &11),
         inverse(7u64, &21),
@@ -32,10 +28,6 @@ fn generic_inverses_powers_and_signs() {
         signed(-12i64, &5u64),
     );
     assert!(found == (Some(9), None, 4, 4, 3, 3));
-}
-
-#[test]
-fn generic_quotients() {
     let (mut bytes, mut words) = (98u8, 15u64);
     let found = (
         quotient(252u8, 7, &()),
@@ -48,7 +40,7 @@ fn generic_quotients() {
 }
 
 #[test]
-fn callers_of_generic_code() {
+fn callers_of_symbols() {
     let found = (
         product_symbol(7u16, 1, &15),
         product_symbol(2u32, 1, &8),

@@ -1,7 +1,6 @@
 //! Jacobi symbols with the numbers of their halvings and swaps.
 
 use num_modular::modular_symbols::counted::{w8, w16, w32, w64, wsize};
-use num_modular::modular_symbols::symbols::ModularSymbols;
 
 // A number, the one that its symbol is over, and the symbol with its count.
 const ROWS: &[(u8, u8, Option<(i8, u32)>)] = &[
@@ -25,21 +24,13 @@ fn answers(a: u8, n: u8) -> [Option<(i8, u32)>; 5] {
     ]
 }
 
-#[test]
-fn symbols_at_each_width() {
-    for &(a, n, want) in ROWS {
-        assert!(answers(a, n) == [want; 5], "{a} over {n}");
-        if let Some((symbol, _)) = w8::checked_jacobi_counted(a, n) {
-            assert!(a.jacobi(&n) == symbol, "{a} over {n}");
-        }
-    }
-}
-
 // 2^63 over 2^64 - 1 takes 63 halvings and a swap: 2 has the symbol 1 there.
 #[test]
-fn halvings_of_64_bits() {
+fn symbols_and_counts() {
+    for &(a, n, want) in ROWS {
+        assert!(answers(a, n) == [want; 5], "{a} over {n}");
+    }
     assert!(
         w64::checked_jacobi_counted(9223372036854775808, 18446744073709551615) == Some((1, 64))
     );
-    assert!(9223372036854775808u64.jacobi(&18446744073709551615) == 1);
 }

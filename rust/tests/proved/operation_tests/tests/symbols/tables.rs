@@ -4,269 +4,385 @@ use num_modular::modular_symbols::operands::SymbolWord;
 use num_modular::modular_symbols::symbols::ModularSymbols;
 use crate::runtime::Abort;
 
-// Rows are a number, the one that its symbol is over, and the symbol.
-macro_rules! legendre_table {
+#[derive(Clone, Copy)]
+pub enum Symbol {
+    Legendre,
+    Jacobi,
+    Kronecker,
+}
+
+// The Legendre symbol of a over n by both calls: the one that is checked, and the one that is known to have an answer.
+fn legendre_symbols<T: SymbolWord>(a: T, n: T) -> [Option<i8>; 2] {
+    match a.checked_legendre(&n) {
+        Some(symbol) => [Some(symbol), Some(a.legendre(&n))],
+        None => [None; 2],
+    }
+}
+
+// The Jacobi symbol by both calls.
+fn jacobi_symbols<T: SymbolWord>(a: T, n: T) -> [Option<i8>; 2] {
+    match a.checked_jacobi(&n) {
+        Some(symbol) => [Some(symbol), Some(a.jacobi(&n))],
+        None => [None; 2],
+    }
+}
+
+fn symbols<T: SymbolWord>(symbol: Symbol, a: T, n: T) -> [Option<i8>; 2] {
+    match symbol {
+        Symbol::Legendre => legendre_symbols(a, n),
+        Symbol::Jacobi => jacobi_symbols(a, n),
+        Symbol::Kronecker => [Some(a.kronecker(&n)); 2],
+    }
+}
+
+// Rows are a symbol's kind, a number, the one that its symbol is over, and the symbol.
+fn assert_symbols<S: Copy, T: SymbolWord + From<S>>(
+    rt: &impl Abort,
+    rows: &[(Symbol, S, S, Option<i8>)],
+) {
+    for &(symbol, a, n, want) in rows {
+        assert!(symbols(symbol, T::from(a), T::from(n)) == [want; 2]);
+    }
+}
+
+// The rows of numbers from 0 up that fit each width.
+macro_rules! table {
     () => {
         [
-            (0, 11, Some(0)),
-            (1, 11, Some(1)),
-            (2, 11, Some(-1)),
-            (4, 11, Some(1)),
-            (7, 11, Some(-1)),
-            (10, 11, Some(-1)),
-            (0, 17, Some(0)),
-            (1, 17, Some(1)),
-            (2, 17, Some(1)),
-            (4, 17, Some(1)),
-            (9, 17, Some(1)),
-            (10, 17, Some(-1)),
-            (0, 101, Some(0)),
-            (1, 101, Some(1)),
-            (2, 101, Some(-1)),
-            (4, 101, Some(1)),
-            (9, 101, Some(1)),
-            (10, 101, Some(-1)),
-            (3, 0, None),
-            (3, 1, Some(0)),
-            (4, 2, Some(1)),
-            (2, 9, None),
+            (Symbol::Legendre, 0, 11, Some(0)),
+            (Symbol::Legendre, 1, 11, Some(1)),
+            (Symbol::Legendre, 2, 11, Some(-1)),
+            (Symbol::Legendre, 4, 11, Some(1)),
+            (Symbol::Legendre, 7, 11, Some(-1)),
+            (Symbol::Legendre, 10, 11, Some(-1)),
+            (Symbol::Legendre, 0, 17, Some(0)),
+            (Symbol::Legendre, 1, 17, Some(1)),
+            (Symbol::Legendre, 2, 17, Some(1)),
+            (Symbol::Legendre, 4, 17, Some(1)),
+            (Symbol::Legendre, 9, 17, Some(1)),
+            (Symbol::Legendre, 10, 17, Some(-1)),
+            (Symbol::Legendre, 0, 101, Some(0)),
+            (Symbol::Legendre, 1, 101, Some(1)),
+            (Symbol::Legendre, 2, 101, Some(-1)),
+            (Symbol::Legendre, 4, 101, Some(1)),
+            (Symbol::Legendre, 9, 101, Some(1)),
+            (Symbol::Legendre, 10, 101, Some(-1)),
+            (Symbol::Legendre, 3, 0, None),
+            (Symbol::Legendre, 3, 1, Some(0)),
+            (Symbol::Legendre, 4, 2, Some(1)),
+            (Symbol::Legendre, 2, 9, None),
+            (Symbol::Jacobi, 1, 1, Some(1)),
+            (Symbol::Jacobi, 15, 1, Some(1)),
+            (Symbol::Jacobi, 2, 3, Some(-1)),
+            (Symbol::Jacobi, 29, 9, Some(1)),
+            (Symbol::Jacobi, 4, 11, Some(1)),
+            (Symbol::Jacobi, 17, 11, Some(-1)),
+            (Symbol::Jacobi, 19, 29, Some(-1)),
+            (Symbol::Jacobi, 10, 33, Some(-1)),
+            (Symbol::Jacobi, 11, 33, Some(0)),
+            (Symbol::Jacobi, 12, 33, Some(0)),
+            (Symbol::Jacobi, 14, 33, Some(-1)),
+            (Symbol::Jacobi, 15, 33, Some(0)),
+            (Symbol::Jacobi, 15, 37, Some(-1)),
+            (Symbol::Jacobi, 29, 59, Some(1)),
+            (Symbol::Jacobi, 30, 59, Some(-1)),
+            (Symbol::Jacobi, 7, 15, Some(-1)),
+            (Symbol::Jacobi, 2, 15, Some(1)),
+            (Symbol::Jacobi, 0, 1, Some(1)),
+            (Symbol::Jacobi, 0, 9, Some(0)),
+            (Symbol::Jacobi, 3, 8, None),
+            (Symbol::Jacobi, 3, 0, None),
+            (Symbol::Kronecker, 0, 15, Some(0)),
+            (Symbol::Kronecker, 1, 15, Some(1)),
+            (Symbol::Kronecker, 2, 15, Some(1)),
+            (Symbol::Kronecker, 4, 15, Some(1)),
+            (Symbol::Kronecker, 7, 15, Some(-1)),
+            (Symbol::Kronecker, 10, 15, Some(0)),
+            (Symbol::Kronecker, 0, 14, Some(0)),
+            (Symbol::Kronecker, 1, 14, Some(1)),
+            (Symbol::Kronecker, 2, 14, Some(0)),
+            (Symbol::Kronecker, 4, 14, Some(0)),
+            (Symbol::Kronecker, 9, 14, Some(1)),
+            (Symbol::Kronecker, 10, 14, Some(0)),
+            (Symbol::Kronecker, 0, 11, Some(0)),
+            (Symbol::Kronecker, 1, 11, Some(1)),
+            (Symbol::Kronecker, 2, 11, Some(-1)),
+            (Symbol::Kronecker, 4, 11, Some(1)),
+            (Symbol::Kronecker, 9, 11, Some(1)),
+            (Symbol::Kronecker, 10, 11, Some(-1)),
+            (Symbol::Kronecker, 1, 0, Some(1)),
+            (Symbol::Kronecker, 0, 0, Some(0)),
+            (Symbol::Kronecker, 2, 0, Some(0)),
         ]
     };
 }
 
-const LEGENDRE: [(u8, u8, Option<i8>); 22] = legendre_table!();
+const UNSIGNED: [(Symbol, u8, u8, Option<i8>); 64] = table!();
 
-const LEGENDRE_SIGNED: [(i8, i8, Option<i8>); 22] = legendre_table!();
+const SIGNED: [(Symbol, i8, i8, Option<i8>); 64] = table!();
 
-const LEGENDRE_NEGATIVE: [(i8, i8, Option<i8>); 17] = [
-    (-10, 11, Some(1)),
-    (-7, 11, Some(1)),
-    (-4, 11, Some(-1)),
-    (-2, 11, Some(1)),
-    (-1, 11, Some(-1)),
-    (-10, 17, Some(-1)),
-    (-9, 17, Some(1)),
-    (-4, 17, Some(1)),
-    (-2, 17, Some(1)),
-    (-1, 17, Some(1)),
-    (-10, 101, Some(-1)),
-    (-9, 101, Some(1)),
-    (-4, 101, Some(1)),
-    (-2, 101, Some(-1)),
-    (-1, 101, Some(1)),
-    (-128, 127, Some(-1)),
-    (3, -128, None),
+const NEGATIVE: [(Symbol, i8, i8, Option<i8>); 65] = [
+    (Symbol::Legendre, -10, 11, Some(1)),
+    (Symbol::Legendre, -7, 11, Some(1)),
+    (Symbol::Legendre, -4, 11, Some(-1)),
+    (Symbol::Legendre, -2, 11, Some(1)),
+    (Symbol::Legendre, -1, 11, Some(-1)),
+    (Symbol::Legendre, -10, 17, Some(-1)),
+    (Symbol::Legendre, -9, 17, Some(1)),
+    (Symbol::Legendre, -4, 17, Some(1)),
+    (Symbol::Legendre, -2, 17, Some(1)),
+    (Symbol::Legendre, -1, 17, Some(1)),
+    (Symbol::Legendre, -10, 101, Some(-1)),
+    (Symbol::Legendre, -9, 101, Some(1)),
+    (Symbol::Legendre, -4, 101, Some(1)),
+    (Symbol::Legendre, -2, 101, Some(-1)),
+    (Symbol::Legendre, -1, 101, Some(1)),
+    (Symbol::Legendre, -128, 127, Some(-1)),
+    (Symbol::Legendre, 3, -128, None),
+    (Symbol::Jacobi, -10, 11, Some(1)),
+    (Symbol::Jacobi, -9, 11, Some(-1)),
+    (Symbol::Jacobi, -4, 11, Some(-1)),
+    (Symbol::Jacobi, -2, 11, Some(1)),
+    (Symbol::Jacobi, -1, 11, Some(-1)),
+    (Symbol::Jacobi, -10, 13, Some(1)),
+    (Symbol::Jacobi, -9, 13, Some(1)),
+    (Symbol::Jacobi, -4, 13, Some(1)),
+    (Symbol::Jacobi, -2, 13, Some(-1)),
+    (Symbol::Jacobi, -1, 13, Some(1)),
+    (Symbol::Jacobi, -10, 15, Some(0)),
+    (Symbol::Jacobi, -7, 15, Some(1)),
+    (Symbol::Jacobi, -4, 15, Some(-1)),
+    (Symbol::Jacobi, -2, 15, Some(-1)),
+    (Symbol::Jacobi, -1, 15, Some(-1)),
+    (Symbol::Jacobi, 2, -3, None),
+    (Symbol::Kronecker, -10, 15, Some(0)),
+    (Symbol::Kronecker, -7, 15, Some(1)),
+    (Symbol::Kronecker, -4, 15, Some(-1)),
+    (Symbol::Kronecker, -2, 15, Some(-1)),
+    (Symbol::Kronecker, -1, 15, Some(-1)),
+    (Symbol::Kronecker, -10, 14, Some(0)),
+    (Symbol::Kronecker, -9, 14, Some(-1)),
+    (Symbol::Kronecker, -4, 14, Some(0)),
+    (Symbol::Kronecker, -2, 14, Some(0)),
+    (Symbol::Kronecker, -1, 14, Some(-1)),
+    (Symbol::Kronecker, -10, 11, Some(1)),
+    (Symbol::Kronecker, -9, 11, Some(-1)),
+    (Symbol::Kronecker, -4, 11, Some(-1)),
+    (Symbol::Kronecker, -2, 11, Some(1)),
+    (Symbol::Kronecker, -1, 11, Some(-1)),
+    (Symbol::Kronecker, -1, 0, Some(1)),
+    (Symbol::Kronecker, -10, -11, Some(-1)),
+    (Symbol::Kronecker, -9, -11, Some(1)),
+    (Symbol::Kronecker, -4, -11, Some(1)),
+    (Symbol::Kronecker, -2, -11, Some(-1)),
+    (Symbol::Kronecker, -1, -11, Some(1)),
+    (Symbol::Kronecker, 0, -11, Some(0)),
+    (Symbol::Kronecker, 1, -11, Some(1)),
+    (Symbol::Kronecker, 2, -11, Some(-1)),
+    (Symbol::Kronecker, 3, -128, Some(-1)),
+    (Symbol::Kronecker, -3, -128, Some(1)),
+    (Symbol::Kronecker, -10, -11, Some(-1)),
+    (Symbol::Kronecker, -128, -128, Some(0)),
+    (Symbol::Kronecker, -128, 127, Some(-1)),
+    (Symbol::Kronecker, -1, -1, Some(-1)),
+    (Symbol::Kronecker, 0, -1, Some(1)),
+    (Symbol::Kronecker, 0, 1, Some(1)),
 ];
 
-fn assert_legendre<S: Copy, T: SymbolWord + From<S>>(rt: &impl Abort, rows: &[(S, S, Option<i8>)]) {
-    for (a, n, want) in rows {
-        let (a, n) = (T::from(*a), T::from(*n));
-        let found = a.checked_legendre(&n);
-        assert!(found == *want);
-        if let Some(symbol) = found {
-            assert!(a.legendre(&n) == symbol);
-        }
-    }
+fn assert_unsigned<T: SymbolWord + From<u8>>(rt: &impl Abort) {
+    assert_symbols::<u8, T>(rt, &UNSIGNED);
+}
+
+fn assert_signed<T: SymbolWord + From<i8>>(rt: &impl Abort) {
+    assert_symbols::<i8, T>(rt, &SIGNED);
+    assert_symbols::<i8, T>(rt, &NEGATIVE);
 }
 
 #[test]
-fn legendre_symbols() {
+fn symbols_at_each_width() {
     let rt = crate::runtime::HostRuntime;
-    assert_legendre::<u8, u8>(&rt, &LEGENDRE);
-    assert_legendre::<u8, u16>(&rt, &LEGENDRE);
-    assert_legendre::<u8, u32>(&rt, &LEGENDRE);
-    assert_legendre::<u8, u64>(&rt, &LEGENDRE);
-    assert_legendre::<u8, usize>(&rt, &LEGENDRE);
+    assert_unsigned::<u8>(&rt);
+    assert_unsigned::<u16>(&rt);
+    assert_unsigned::<u32>(&rt);
+    assert_unsigned::<u64>(&rt);
+    assert_unsigned::<usize>(&rt);
+    assert_signed::<i8>(&rt);
+    assert_signed::<i16>(&rt);
+    assert_signed::<i32>(&rt);
+    assert_signed::<i64>(&rt);
+    assert_signed::<isize>(&rt);
 }
 
-#[test]
-fn legendre_symbols_with_sign() {
-    let rt = crate::runtime::HostRuntime;
-    for rows in [LEGENDRE_SIGNED.as_slice(), LEGENDRE_NEGATIVE.as_slice()] {
-        assert_legendre::<i8, i8>(&rt, rows);
-        assert_legendre::<i8, i16>(&rt, rows);
-        assert_legendre::<i8, i32>(&rt, rows);
-        assert_legendre::<i8, i64>(&rt, rows);
-        assert_legendre::<i8, isize>(&rt, rows);
-    }
-}
-
-macro_rules! jacobi_table {
-    () => {
+// The rows of a width's least number.
+macro_rules! table_of_least {
+    ($word:ty) => {
         [
-            (1, 1, Some(1)),
-            (15, 1, Some(1)),
-            (2, 3, Some(-1)),
-            (29, 9, Some(1)),
-            (4, 11, Some(1)),
-            (17, 11, Some(-1)),
-            (19, 29, Some(-1)),
-            (10, 33, Some(-1)),
-            (11, 33, Some(0)),
-            (12, 33, Some(0)),
-            (14, 33, Some(-1)),
-            (15, 33, Some(0)),
-            (15, 37, Some(-1)),
-            (29, 59, Some(1)),
-            (30, 59, Some(-1)),
-            (7, 15, Some(-1)),
-            (2, 15, Some(1)),
-            (0, 1, Some(1)),
-            (0, 9, Some(0)),
-            (3, 8, None),
-            (3, 0, None),
+            (Symbol::Kronecker, <$word>::MIN, <$word>::MIN, Some(0)),
+            (Symbol::Kronecker, <$word>::MIN, -1, Some(-1)),
+            (Symbol::Kronecker, <$word>::MIN, 0, Some(0)),
+            (Symbol::Kronecker, <$word>::MIN, 1, Some(1)),
+            (Symbol::Jacobi, <$word>::MIN, <$word>::MIN, None),
+            (Symbol::Jacobi, <$word>::MIN, 1, Some(1)),
+            (Symbol::Legendre, <$word>::MIN, <$word>::MIN, None),
+            (Symbol::Legendre, <$word>::MIN, 1, Some(0)),
         ]
     };
 }
 
-const JACOBI: [(u8, u8, Option<i8>); 21] = jacobi_table!();
+#[test]
+fn the_least_numbers() {
+    let rt = crate::runtime::HostRuntime;
+    assert_symbols::<i8, i8>(&rt, &table_of_least!(i8));
+    assert_symbols::<i16, i16>(&rt, &table_of_least!(i16));
+    assert_symbols::<i32, i32>(&rt, &table_of_least!(i32));
+    assert_symbols::<i64, i64>(&rt, &table_of_least!(i64));
+    assert_symbols::<isize, isize>(&rt, &table_of_least!(isize));
+}
 
-const JACOBI_SIGNED: [(i8, i8, Option<i8>); 21] = jacobi_table!();
-
-const JACOBI_NEGATIVE: [(i8, i8, Option<i8>); 16] = [
-    (-10, 11, Some(1)),
-    (-9, 11, Some(-1)),
-    (-4, 11, Some(-1)),
-    (-2, 11, Some(1)),
-    (-1, 11, Some(-1)),
-    (-10, 13, Some(1)),
-    (-9, 13, Some(1)),
-    (-4, 13, Some(1)),
-    (-2, 13, Some(-1)),
-    (-1, 13, Some(1)),
-    (-10, 15, Some(0)),
-    (-7, 15, Some(1)),
-    (-4, 15, Some(-1)),
-    (-2, 15, Some(-1)),
-    (-1, 15, Some(-1)),
-    (2, -3, None),
+// The symbols of `counted` that the table leaves out.
+const BYTES: &[(Symbol, u8, u8, Option<i8>)] = &[
+    (Symbol::Jacobi, 1, 15, Some(1)),
+    (Symbol::Jacobi, 16, 255, Some(1)),
 ];
 
-fn assert_jacobi<S: Copy, T: SymbolWord + From<S>>(rt: &impl Abort, rows: &[(S, S, Option<i8>)]) {
-    for (a, n, want) in rows {
-        let (a, n) = (T::from(*a), T::from(*n));
-        let found = a.checked_jacobi(&n);
-        assert!(found == *want);
-        if let Some(symbol) = found {
-            assert!(a.jacobi(&n) == symbol);
-        }
-    }
-}
-
-#[test]
-fn jacobi_symbols() {
-    let rt = crate::runtime::HostRuntime;
-    assert_jacobi::<u8, u8>(&rt, &JACOBI);
-    assert_jacobi::<u8, u16>(&rt, &JACOBI);
-    assert_jacobi::<u8, u32>(&rt, &JACOBI);
-    assert_jacobi::<u8, u64>(&rt, &JACOBI);
-    assert_jacobi::<u8, usize>(&rt, &JACOBI);
-}
-
-#[test]
-fn jacobi_symbols_with_sign() {
-    let rt = crate::runtime::HostRuntime;
-    for rows in [JACOBI_SIGNED.as_slice(), JACOBI_NEGATIVE.as_slice()] {
-        assert_jacobi::<i8, i8>(&rt, rows);
-        assert_jacobi::<i8, i16>(&rt, rows);
-        assert_jacobi::<i8, i32>(&rt, rows);
-        assert_jacobi::<i8, i64>(&rt, rows);
-        assert_jacobi::<i8, isize>(&rt, rows);
-    }
-}
-
-macro_rules! kronecker_table {
-    () => {
-        [
-            (0, 15, 0),
-            (1, 15, 1),
-            (2, 15, 1),
-            (4, 15, 1),
-            (7, 15, -1),
-            (10, 15, 0),
-            (0, 14, 0),
-            (1, 14, 1),
-            (2, 14, 0),
-            (4, 14, 0),
-            (9, 14, 1),
-            (10, 14, 0),
-            (0, 11, 0),
-            (1, 11, 1),
-            (2, 11, -1),
-            (4, 11, 1),
-            (9, 11, 1),
-            (10, 11, -1),
-            (1, 0, 1),
-            (0, 0, 0),
-            (2, 0, 0),
-        ]
-    };
-}
-
-const KRONECKER: [(u8, u8, i8); 21] = kronecker_table!();
-
-const KRONECKER_SIGNED: [(i8, i8, i8); 21] = kronecker_table!();
-
-const KRONECKER_NEGATIVE: [(i8, i8, i8); 32] = [
-    (-10, 15, 0),
-    (-7, 15, 1),
-    (-4, 15, -1),
-    (-2, 15, -1),
-    (-1, 15, -1),
-    (-10, 14, 0),
-    (-9, 14, -1),
-    (-4, 14, 0),
-    (-2, 14, 0),
-    (-1, 14, -1),
-    (-10, 11, 1),
-    (-9, 11, -1),
-    (-4, 11, -1),
-    (-2, 11, 1),
-    (-1, 11, -1),
-    (-1, 0, 1),
-    (-10, -11, -1),
-    (-9, -11, 1),
-    (-4, -11, 1),
-    (-2, -11, -1),
-    (-1, -11, 1),
-    (0, -11, 0),
-    (1, -11, 1),
-    (2, -11, -1),
-    (3, -128, -1),
-    (-3, -128, 1),
-    (-10, -11, -1),
-    (-128, -128, 0),
-    (-128, 127, -1),
-    (-1, -1, -1),
-    (0, -1, 1),
-    (0, 1, 1),
+// Numbers that a count of the half system can't reach. The symbols over primes are by Euler's criterion over the
+// factors of the second number.
+pub const LARGE_OF_32_BITS: &[(Symbol, u32, u32, Option<i8>)] = &[
+    (Symbol::Jacobi, 4294967295, 4294967291, Some(1)),
+    (Symbol::Jacobi, 2147483648, 4294967291, Some(-1)),
+    (Symbol::Jacobi, 2147483649, 4294967291, Some(-1)),
+    (Symbol::Jacobi, 7, 4294967291, Some(1)),
 ];
 
-fn assert_kronecker<S: Copy, T: SymbolWord + From<S>>(rt: &impl Abort, rows: &[(S, S, i8)]) {
-    for (a, n, want) in rows {
-        let (a, n) = (T::from(*a), T::from(*n));
-        assert!(a.kronecker(&n) == *want);
-    }
-}
+pub const LARGE: &[(Symbol, u64, u64, Option<i8>)] = &[
+    (
+        Symbol::Jacobi,
+        81985529216486895,
+        18446744073709551557,
+        Some(1),
+    ),
+    (
+        Symbol::Jacobi,
+        18364758544493064721,
+        18446744073709551557,
+        Some(-1),
+    ),
+    (
+        Symbol::Jacobi,
+        9223372036854775808,
+        18446744073709551557,
+        Some(-1),
+    ),
+    (
+        Symbol::Jacobi,
+        9223372036854775809,
+        18446744073709551557,
+        Some(1),
+    ),
+    (
+        Symbol::Jacobi,
+        18446744073709551555,
+        18446744073709551557,
+        Some(-1),
+    ),
+    (
+        Symbol::Jacobi,
+        81985529216486895,
+        18446744073709551615,
+        Some(0),
+    ),
+    (
+        Symbol::Jacobi,
+        18364758544493064721,
+        18446744073709551615,
+        Some(1),
+    ),
+    (
+        Symbol::Jacobi,
+        18446744073709551612,
+        18446744073709551615,
+        Some(0),
+    ),
+    (Symbol::Jacobi, 11, 18446744073709551615, Some(-1)),
+    (
+        Symbol::Jacobi,
+        9223372036854775808,
+        18446744073709551615,
+        Some(1),
+    ),
+    (
+        Symbol::Jacobi,
+        18446744073709551614,
+        18446744073709551615,
+        Some(-1),
+    ),
+    (Symbol::Jacobi, 2, 18446744073709551615, Some(1)),
+    (Symbol::Jacobi, 3, 18446744073709551557, Some(-1)),
+    (
+        Symbol::Jacobi,
+        18446744073709551556,
+        18446744073709551557,
+        Some(1),
+    ),
+    (
+        Symbol::Kronecker,
+        18446744073709551614,
+        18446744073709551615,
+        Some(-1),
+    ),
+    (Symbol::Kronecker, 2, 18446744073709551615, Some(1)),
+    (Symbol::Kronecker, 3, 18446744073709551557, Some(-1)),
+    (
+        Symbol::Kronecker,
+        18446744073709551556,
+        18446744073709551557,
+        Some(1),
+    ),
+    (Symbol::Legendre, 3, 18446744073709551557, Some(-1)),
+];
+
+const LARGE_SIZES: &[(Symbol, usize, usize, Option<i8>)] = &[
+    (
+        Symbol::Jacobi,
+        18446744073709551614,
+        18446744073709551615,
+        Some(-1),
+    ),
+    (Symbol::Jacobi, 2, 18446744073709551615, Some(1)),
+    (
+        Symbol::Kronecker,
+        18446744073709551614,
+        18446744073709551615,
+        Some(-1),
+    ),
+    (Symbol::Kronecker, 2, 18446744073709551615, Some(1)),
+];
+
+pub const LARGE_SIGNED: &[(Symbol, i64, i64, Option<i8>)] = &[
+    (
+        Symbol::Jacobi,
+        -9223372036854775808,
+        9223372036854775783,
+        Some(-1),
+    ),
+    (Symbol::Jacobi, -2, 9223372036854775783, Some(-1)),
+    (Symbol::Jacobi, -3, 9223372036854775783, Some(1)),
+    (
+        Symbol::Jacobi,
+        81985529216486895,
+        9223372036854775783,
+        Some(-1),
+    ),
+    (Symbol::Jacobi, -1, 9223372036854775807, Some(-1)),
+    (Symbol::Kronecker, -1, 9223372036854775807, Some(-1)),
+];
 
 #[test]
-fn kronecker_symbols() {
+fn large_numbers() {
     let rt = crate::runtime::HostRuntime;
-    assert_kronecker::<u8, u8>(&rt, &KRONECKER);
-    assert_kronecker::<u8, u16>(&rt, &KRONECKER);
-    assert_kronecker::<u8, u32>(&rt, &KRONECKER);
-    assert_kronecker::<u8, u64>(&rt, &KRONECKER);
-    assert_kronecker::<u8, usize>(&rt, &KRONECKER);
-}
-
-#[test]
-fn kronecker_symbols_with_sign() {
-    let rt = crate::runtime::HostRuntime;
-    for rows in [KRONECKER_SIGNED.as_slice(), KRONECKER_NEGATIVE.as_slice()] {
-        assert_kronecker::<i8, i8>(&rt, rows);
-        assert_kronecker::<i8, i16>(&rt, rows);
-        assert_kronecker::<i8, i32>(&rt, rows);
-        assert_kronecker::<i8, i64>(&rt, rows);
-        assert_kronecker::<i8, isize>(&rt, rows);
-    }
+    assert_symbols::<u8, u8>(&rt, BYTES);
+    assert_symbols::<u32, u32>(&rt, LARGE_OF_32_BITS);
+    assert_symbols::<u64, u64>(&rt, LARGE);
+    assert_symbols::<usize, usize>(&rt, LARGE_SIZES);
+    assert_symbols::<i64, i64>(&rt, LARGE_SIGNED);
 }

@@ -2,94 +2,69 @@
 
 use num_modular::modular_word::plain::{greatest_common_divisor, inverse_by_search, power_of, residue_of};
 
-// Two numbers and the residue of their sum modulo 5.
-const SUMS: &[(u8, u8, u64)] = &[
-    (0, 0, 0),
-    (1, 2, 3),
-    (2, 2, 4),
-    (3, 2, 0),
-    (6, 1, 2),
-    (11, 7, 3),
-    (7, 11, 3),
+// A number, the modulus and the residue.
+const RESIDUES: &[(i64, u64, u64)] = &[
+    (0 + 0, 5, 0),
+    (1 + 2, 5, 3),
+    (2 + 2, 5, 4),
+    (3 + 2, 5, 0),
+    (6 + 1, 5, 2),
+    (11 + 7, 5, 3),
+    (7 + 11, 5, 3),
+    (0 - 0, 7, 0),
+    (11 - 9, 7, 2),
+    (5 - 2, 7, 3),
+    (2 - 5, 7, 4),
+    (6 - 7, 7, 6),
+    (1 - 7, 7, 1),
+    (7 - 1, 7, 6),
+    (0 - 6, 7, 1),
+    (15 - 1, 7, 0),
+    (1 - 15, 7, 0),
+    (0 * 0, 7, 0),
+    (11 * 9, 7, 1),
+    (5 * 2, 7, 3),
+    (6 * 7, 7, 0),
+    (0 * 6, 7, 0),
+    (15 * 1, 7, 1),
+    (0, 5, 0),
+    (-2, 5, 3),
+    (-1, 5, 4),
+    (-5, 5, 0),
+    (-12, 5, 3),
+    (i64::MIN, 1, 0),
+    (i64::MIN, u64::MAX, 9223372036854775807),
 ];
 
 #[test]
-fn residues_of_sums() {
-    for &(a, b, want) in SUMS {
-        assert!(residue_of(a as i64 + b as i64, 5) == want, "{a} + {b}");
+fn residues() {
+    for &(z, m, want) in RESIDUES {
+        assert!(m > 0);
+        assert!(residue_of(z, m) == want, "{z} modulo {m}");
     }
 }
 
-// Two numbers and the residue of their difference modulo 7.
-const DIFFERENCES: &[(u8, u8, u64)] = &[
-    (0, 0, 0),
-    (11, 9, 2),
-    (5, 2, 3),
-    (2, 5, 4),
-    (6, 7, 6),
-    (1, 7, 1),
-    (7, 1, 6),
-    (0, 6, 1),
-    (15, 1, 0),
-    (1, 15, 0),
-];
-
-#[test]
-fn residues_of_differences() {
-    for &(a, b, want) in DIFFERENCES {
-        assert!(residue_of(a as i64 - b as i64, 7) == want, "{a} - {b}");
-    }
-}
-
-// Two numbers and the residue of their product modulo 7.
-const PRODUCTS: &[(u8, u8, u64)] = &[
-    (0, 0, 0),
-    (11, 9, 1),
-    (5, 2, 3),
-    (6, 7, 0),
-    (0, 6, 0),
-    (15, 1, 1),
-];
-
-#[test]
-fn residues_of_products() {
-    for &(a, b, want) in PRODUCTS {
-        assert!(residue_of(a as i64 * b as i64, 7) == want, "{a} * {b}");
-    }
-}
-
-// A number and its residue modulo 5.
-const SIGNED: &[(i64, u64)] = &[(0, 0), (-2, 3), (-1, 4), (-5, 0), (-12, 3)];
-
-#[test]
-fn residues_of_negative_numbers() {
-    for &(z, want) in SIGNED {
-        assert!(residue_of(z, 5) == want, "{z}");
-    }
-    let found = (residue_of(i64::MIN, 1), residue_of(i64::MIN, u64::MAX));
-    assert!(found == (0, 9223372036854775807));
-}
-
-// A base, an exponent and the residue of the power modulo 7.
-const POWERS: &[(u64, u64, u64)] = &[
-    (0, 0, 1),
-    (11, 9, 1),
-    (5, 2, 4),
-    (2, 5, 4),
-    (6, 7, 6),
-    (7, 1, 0),
-    (0, 6, 0),
-    (15, 1, 1),
-    (255, 255, 6),
+// A base, an exponent, the modulus and the residue of the power.
+const POWERS: &[(u64, u64, u64, u64)] = &[
+    (0, 0, 7, 1),
+    (11, 9, 7, 1),
+    (5, 2, 7, 4),
+    (2, 5, 7, 4),
+    (6, 7, 7, 6),
+    (7, 1, 7, 0),
+    (0, 6, 7, 0),
+    (15, 1, 7, 1),
+    (255, 255, 7, 6),
+    (255, 255, 10, 5),
+    (3, 0, 1, 0),
 ];
 
 #[test]
 fn powers() {
-    for &(base, exp, want) in POWERS {
-        assert!(power_of(base, exp, 7) == want, "{base} ^ {exp}");
+    for &(base, exp, m, want) in POWERS {
+        assert!(m > 0);
+        assert!(power_of(base, exp, m) == want, "{base} ^ {exp} modulo {m}");
     }
-    let found = (power_of(255, 255, 10), power_of(3, 0, 1));
-    assert!(found == (5, 0));
 }
 
 // A number, the modulus and the inverse.

@@ -3,23 +3,26 @@
 use num_modular::modular_word::paths::{div_1by1, div_2by1, exact_1, exact_2, redc};
 
 #[test]
-fn division_by_a_reciprocal() {
+fn divisions_and_reductions() {
     let found = (
         div_2by1(130u8, 248, 33023),
         div_2by1(255u8, 1, 65279),
         div_2by1(u64::MAX, 1, 0),
     );
     assert!(found == ((254, 3), (255, 254), (0, 0)));
-}
-
-#[test]
-fn division_by_a_multiplier() {
     let found = (
         div_1by1(2u8, 1, 0, 255),
         div_1by1(255u8, 2, 7, 255),
         div_1by1(3u8, 86, 1, 255),
     );
     assert!(found == ((127, 1), (1, 0), (85, 0)));
+    // At 65279 the sum passes the double word; at 255 the high word is the modulus; at 1 neither.
+    let found = (
+        redc(255u8, 1, 65279),
+        redc(255u8, 1, 255),
+        redc(255u8, 1, 1),
+    );
+    assert!(found == (254, 0, 1));
 }
 
 #[test]
@@ -30,15 +33,4 @@ fn exact_division() {
     for (n, want) in [(65534, Some(9362)), (65535, None), (1, None)] {
         assert!(exact_2(7u8, 183, 36, n) == want, "{n}");
     }
-}
-
-// At 65279 the sum passes the double word; at 255 the high word is the modulus; at 1 neither.
-#[test]
-fn reduction() {
-    let found = (
-        redc(255u8, 1, 65279),
-        redc(255u8, 1, 255),
-        redc(255u8, 1, 1),
-    );
-    assert!(found == (254, 0, 1));
 }

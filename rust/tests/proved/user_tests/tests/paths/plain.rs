@@ -1,5 +1,6 @@
 //! The plain modular operations and exact division.
 
+use num_modular::prim::by_subtraction::{inverse, jacobi};
 use num_modular::prim::counted::{w8, w16, w32, w64, wsize};
 use num_modular::prim::{powm_u32, powm_u64};
 use num_modular::{
@@ -82,4 +83,17 @@ fn counted_symbols() {
             None
         ]
     );
+}
+
+#[test]
+fn loops_by_subtraction() {
+    assert!([inverse(5u8, 21), inverse(7, 21)] == [Some(17), None]);
+    assert!(inverse(16u64, 11) == Some(9));
+    let found = [
+        jacobi(false, 7u8, 15),
+        jacobi(true, 1u8, 7),
+        jacobi(false, 2u16, 15),
+        jacobi(false, 0u64, 9),
+    ];
+    assert!(found == [-1, -1, 1, 0]);
 }

@@ -1,0 +1,10 @@
+//! The reciprocal of a word.
+
+use num_modular::modular_prim::reciprocal::invert_word;
+
+#[test]
+fn reciprocals() {
+    let found = [invert_word(128u8), invert_word(130u8), invert_word(255u8)];
+    assert!(found == [255, 248, 1]);
+    assert!(invert_word(1u64 << 63) == u64::MAX);
+}
