@@ -19,7 +19,7 @@ fn rows(rt: HostRuntime) {
 }
 
 #[test]
-fn wider_words(rt: HostRuntime) {
+fn wider_words_and_copies(rt: HostRuntime) {
     let found = (
         PreMulInv1by1::<u16>::new(641).div_rem(65535, 641),
         PreMulInv1by1::<u32>::new(641).div_rem(u32::MAX, 641),
@@ -27,10 +27,6 @@ fn wider_words(rt: HostRuntime) {
         PreMulInv1by1::<usize>::new(2).div_rem(usize::MAX, 2),
     );
     assert!(rt; found == ((102, 153), (6700416, 639), (1, 0), (usize::MAX / 2, 1)));
-}
-
-#[test]
-fn equality_and_copies(rt: HostRuntime) {
     let divider = PreMulInv1by1::<u8>::new(7);
     let copy = divider;
     let found = (
