@@ -15,17 +15,22 @@ fn ring(n: u8) -> VanillaInt<u8> {
     VanillaInt::<u8>::new(n, &21)
 }
 
-// The residues of the sums of two integers, in each form of the operands.
+// The residues of the sums of two integers, in each form of the operands, and those after each of two in place.
 fn sums_of_two<T: RingWord, R: Reducer<T> + Copy>(
     a: ReducedInt<T, R>,
     b: ReducedInt<T, R>,
-) -> [T; 4] {
-    [
+) -> ([T; 4], [T; 2]) {
+    let mut z = a;
+    z += b;
+    let once = z.residue();
+    z += &b;
+    let found = [
         (a + b).residue(),
         (a + &b).residue(),
         (&a + b).residue(),
         (&a + &b).residue(),
-    ]
+    ];
+    (found, [once, z.residue()])
 }
 
 // Those of the sums of an integer and a word.
@@ -38,18 +43,7 @@ fn sums_with_a_word<T: RingWord, R: Reducer<T> + Copy>(a: ReducedInt<T, R>, n: T
     ]
 }
 
-// Those after each of two sums in place.
-fn sums_in_place<T: RingWord, R: Reducer<T> + Copy>(
-    a: ReducedInt<T, R>,
-    b: ReducedInt<T, R>,
-) -> [T; 2] {
-    let mut z = a;
-    z += b;
-    let once = z.residue();
-    z += &b;
-    [once, z.residue()]
-}
-
+// The residue after a sum with each of two words, in place.
 fn sums_with_words_in_place<T: RingWord, R: Reducer<T> + Copy>(
     a: ReducedInt<T, R>,
     m: T,
@@ -64,30 +58,31 @@ fn sums_with_words_in_place<T: RingWord, R: Reducer<T> + Copy>(
 
 #[test]
 fn sums() {
-    let found = [
+    let found = (
         sums_of_two(ring(20), ring(5)),
         sums_with_a_word(ring(20), 5),
-    ];
-    assert!(found == [[4; 4]; 2]);
-    let found = [
-        sums_in_place(ring(20), ring(5)),
         sums_with_words_in_place(ring(9), 255, 5),
-    ];
-    assert!(found == [[4, 9], [12, 17]]);
+    );
+    assert!(found == (([4; 4], [4, 9]), [4; 4], [12, 17]));
     assert!(sum_modulo_21() == 4);
 }
 
-// The residues of the differences of two integers, in each form of the operands.
+// The residues of the differences of two integers, in each form of the operands, and those after each of two in place.
 fn differences_of_two<T: RingWord, R: Reducer<T> + Copy>(
     a: ReducedInt<T, R>,
     b: ReducedInt<T, R>,
-) -> [T; 4] {
-    [
+) -> ([T; 4], [T; 2]) {
+    let mut z = a;
+    z -= b;
+    let once = z.residue();
+    z -= &b;
+    let found = [
         (a - b).residue(),
         (a - &b).residue(),
         (&a - b).residue(),
         (&a - &b).residue(),
-    ]
+    ];
+    (found, [once, z.residue()])
 }
 
 // Those of the differences of an integer and a word.
@@ -100,18 +95,7 @@ fn differences_with_a_word<T: RingWord, R: Reducer<T> + Copy>(a: ReducedInt<T, R
     ]
 }
 
-// Those after each of two differences in place.
-fn differences_in_place<T: RingWord, R: Reducer<T> + Copy>(
-    a: ReducedInt<T, R>,
-    b: ReducedInt<T, R>,
-) -> [T; 2] {
-    let mut z = a;
-    z -= b;
-    let once = z.residue();
-    z -= &b;
-    [once, z.residue()]
-}
-
+// The residue after a difference with each of two words, in place.
 fn differences_with_words_in_place<T: RingWord, R: Reducer<T> + Copy>(
     a: ReducedInt<T, R>,
     m: T,
@@ -126,31 +110,32 @@ fn differences_with_words_in_place<T: RingWord, R: Reducer<T> + Copy>(
 
 #[test]
 fn differences() {
-    let found = [
+    let found = (
         differences_of_two(ring(3), ring(5)),
         differences_with_a_word(ring(3), 5),
-    ];
-    assert!(found == [[19; 4]; 2]);
-    let found = [
-        differences_in_place(ring(3), ring(5)),
         differences_with_words_in_place(ring(14), 255, 5),
-    ];
-    assert!(found == [[19, 14], [11, 6]]);
+    );
+    assert!(found == (([19; 4], [19, 14]), [19; 4], [11, 6]));
     assert!(differences_with_a_word(ring(5), 255) == [2; 4]);
     assert!(difference_modulo_21() == 2);
 }
 
-// The residues of the products of two integers, in each form of the operands.
+// The residues of the products of two integers, in each form of the operands, and those after each of two in place.
 fn products_of_two<T: RingWord, R: Reducer<T> + Copy>(
     a: ReducedInt<T, R>,
     b: ReducedInt<T, R>,
-) -> [T; 4] {
-    [
+) -> ([T; 4], [T; 2]) {
+    let mut z = a;
+    z *= b;
+    let once = z.residue();
+    z *= &b;
+    let found = [
         (a * b).residue(),
         (a * &b).residue(),
         (&a * b).residue(),
         (&a * &b).residue(),
-    ]
+    ];
+    (found, [once, z.residue()])
 }
 
 // Those of the products of an integer and a word.
@@ -163,18 +148,7 @@ fn products_with_a_word<T: RingWord, R: Reducer<T> + Copy>(a: ReducedInt<T, R>, 
     ]
 }
 
-// Those after each of two products in place.
-fn products_in_place<T: RingWord, R: Reducer<T> + Copy>(
-    a: ReducedInt<T, R>,
-    b: ReducedInt<T, R>,
-) -> [T; 2] {
-    let mut z = a;
-    z *= b;
-    let once = z.residue();
-    z *= &b;
-    [once, z.residue()]
-}
-
+// The residue after a product with each of two words, in place.
 fn products_with_words_in_place<T: RingWord, R: Reducer<T> + Copy>(
     a: ReducedInt<T, R>,
     m: T,
@@ -189,16 +163,12 @@ fn products_with_words_in_place<T: RingWord, R: Reducer<T> + Copy>(
 
 #[test]
 fn products() {
-    let found = [
+    let found = (
         products_of_two(ring(10), ring(5)),
         products_with_a_word(ring(10), 5),
-    ];
-    assert!(found == [[8; 4]; 2]);
-    let found = [
-        products_in_place(ring(10), ring(5)),
         products_with_words_in_place(ring(19), 255, 5),
-    ];
-    assert!(found == [[8, 19], [15, 12]]);
+    );
+    assert!(found == (([8; 4], [8, 19]), [8; 4], [15, 12]));
     let twelve = VanillaInt::<u8>::new(12, &5);
     assert!(products_with_a_word(twelve, 13) == [1; 4]);
 }

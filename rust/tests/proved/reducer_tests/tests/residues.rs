@@ -52,3 +52,21 @@ pub fn residues<T: RingWord, R: Reducer<T>>(ring: &R, x: T, y: T) -> [T; 6] {
         ring.residue(ring.sqr(a)),
     ]
 }
+
+// The same by plain remainders.
+fn remainders(m: u8, x: u8, y: u8) -> [u8; 6] {
+    let (n, a, b) = (m as u16, x as u16, y as u16);
+    [
+        ((a + b) % n) as u8,
+        ((a + (n - b % n)) % n) as u8,
+        (a * b % n) as u8,
+        (2 * a % n) as u8,
+        ((n - a % n) % n) as u8,
+        (a * a % n) as u8,
+    ]
+}
+
+/// Whether the residues of two bytes are the plain remainders.
+pub fn agree<R: Reducer<u8>>(ring: &R, m: u8, x: u8, y: u8) -> bool {
+    residues(ring, x, y) == remainders(m, x, y)
+}

@@ -1,52 +1,37 @@
 //! Rows that were worked by hand, and every divisor and number of 8 bits against `/` and `%`.
 
+use super::is_divided;
 use num_modular::modular_barrett::one_by_one::PreMulInv1by1;
-use num_modular::modular_prim::exact::{DivExact, DivExactAssign};
+use num_modular::modular_prim::exact::DivExactAssign;
 use num_modular::modular_prim::numbered::Numbered;
-use crate::runtime::Abort;
 
 #[test]
 fn rows() {
-    let divider = PreMulInv1by1::<u8>::new(3);
-    let found = (255u8.div_exact(3, &divider), 254u8.div_exact(3, &divider));
-    assert!(found == (Some(85), None));
-    let mut number = 254u8;
-    let found = (number.div_exact_assign(3, &divider), number);
-    assert!(found == (false, 254));
-    number = 255;
-    let found = (number.div_exact_assign(3, &divider), number);
-    assert!(found == (true, 85));
+    let three = PreMulInv1by1::<u8>::new(3);
+    let bytes = [
+        is_divided(255u8, 3, &three, Some(85)),
+        is_divided(254u8, 3, &three, None),
+    ];
+    let narrow = [
+        is_divided(65535u16, 257, &PreMulInv1by1::<u16>::new(257), Some(255)),
+        is_divided(65535u16, 255, &PreMulInv1by1::<u16>::new(255), Some(257)),
+        is_divided(10u32, 5, &PreMulInv1by1::<u32>::new(5), Some(2)),
+        is_divided(u32::MAX, 641, &PreMulInv1by1::<u32>::new(641), None),
+    ];
+    assert!((bytes, narrow) == ([true; 2], [true; 4]));
 }
 
 #[test]
-fn wider_words() {
-    let found = (
-        65535u16.div_exact(257, &PreMulInv1by1::<u16>::new(257)),
-        10u32.div_exact(5, &PreMulInv1by1::<u32>::new(5)),
-        10u64.div_exact(4, &PreMulInv1by1::<u64>::new(4)),
-        10usize.div_exact(5, &PreMulInv1by1::<usize>::new(5)),
-    );
-    assert!(found == (Some(255), Some(2), None, Some(2)));
-}
-
-#[test]
-fn narrow_words_in_place() {
-    let mut number = 65535u16;
-    let stored = number.div_exact_assign(255, &PreMulInv1by1::<u16>::new(255));
-    assert!((stored, number) == (true, 257));
-    let mut number = u32::MAX;
-    let stored = number.div_exact_assign(641, &PreMulInv1by1::<u32>::new(641));
-    assert!((stored, number) == (false, u32::MAX));
-}
-
-#[test]
-fn wide_words_in_place() {
-    let mut number = u64::MAX;
-    let stored = number.div_exact_assign(641, &PreMulInv1by1::<u64>::new(641));
-    assert!((stored, number) == (true, 28778071877862015));
-    let mut number = usize::MAX;
-    let stored = number.div_exact_assign(641, &PreMulInv1by1::<usize>::new(641));
-    assert!((stored, number) == (true, 28778071877862015));
+fn rows_of_wide_words() {
+    let by_641 = PreMulInv1by1::<u64>::new(641);
+    let sizes_by_641 = PreMulInv1by1::<usize>::new(641);
+    let found = [
+        is_divided(10u64, 4, &PreMulInv1by1::<u64>::new(4), None),
+        is_divided(u64::MAX, 641, &by_641, Some(28778071877862015)),
+        is_divided(10usize, 5, &PreMulInv1by1::<usize>::new(5), Some(2)),
+        is_divided(usize::MAX, 641, &sizes_by_641, Some(28778071877862015)),
+    ];
+    assert!(found == [true; 4]);
 }
 
 #[test]
@@ -55,36 +40,31 @@ fn every_byte() {
         let divider = PreMulInv1by1::<u8>::new(d);
         for n in 0..=255u8 {
             let want = if n % d == 0 { Some(n / d) } else { None };
-            assert!(n.div_exact(d, &divider) == want, "{n} by {d}");
-            let mut number = n;
-            assert!(
-                number.div_exact_assign(d, &divider) == want.is_some(),
-                "{n} by {d}"
-            );
-            assert!(number == want.unwrap_or(n), "{n} by {d}");
+            assert!(is_divided(n, d, &divider, want), "{n} by {d}");
         }
     }
 }
 
-// 252 and 253 by 7, and 252 divided in place twice.
-fn assert_exact<T: DivExactAssign<T, ()> + Numbered + Copy + PartialEq + From<u8>>(
-    rt: &impl Abort,
+// 252, 253 and 36 by 7, with nothing stored.
+fn are_exact<T: DivExactAssign<T, ()> + Numbered + Copy + PartialEq + From<u8>>(
     seven: T,
     pre: &(),
-) {
-    let mut number = T::from(252);
-    assert!(number.div_exact(seven, pre) == Some(T::from(36)));
-    assert!(T::from(253).div_exact(seven, pre) == None);
-    assert!(number.div_exact_assign(seven, pre) && number == T::from(36));
-    assert!(!number.div_exact_assign(seven, pre) && number == T::from(36));
+) -> [bool; 3] {
+    [
+        is_divided(T::from(252), seven, pre, Some(T::from(36))),
+        is_divided(T::from(253), seven, pre, None),
+        is_divided(T::from(36), seven, pre, None),
+    ]
 }
 
 #[test]
 fn exact_quotients() {
-    let rt = crate::runtime::HostRuntime;
-    assert_exact(&rt, 7u8, &());
-    assert_exact(&rt, 7u16, &());
-    assert_exact(&rt, 7u32, &());
-    assert_exact(&rt, 7u64, &());
-    assert_exact(&rt, 7u128, &());
+    let found = [
+        are_exact(7u8, &()),
+        are_exact(7u16, &()),
+        are_exact(7u32, &()),
+        are_exact(7u64, &()),
+        are_exact(7u128, &()),
+    ];
+    assert!(found == [[true; 3]; 5]);
 }

@@ -30,18 +30,14 @@ fn rows() {
 }
 
 #[test]
-fn wider_words() {
+fn wider_words_and_copies() {
+    let rt = crate::runtime::HostRuntime;
     let found = (
         Normalized2by1Divisor::<u16>::new(65535).div_rem_2by1(4294901759),
         Normalized2by1Divisor::<u32>::new(1 << 31).div_rem_2by1(1 << 62),
         Normalized2by1Divisor::<usize>::new(usize::MAX).div_rem_1by1(usize::MAX),
     );
     assert!(found == ((65535, 65534), (1 << 31, 0), (1, 0)));
-}
-
-#[test]
-fn equality_and_copies() {
-    let rt = crate::runtime::HostRuntime;
     let divider = Normalized2by1Divisor::<u8>::new(130);
     let copy = divider;
     let found = (

@@ -20,7 +20,8 @@ fn rows() {
 }
 
 #[test]
-fn wider_words() {
+fn wider_words_and_copies() {
+    let rt = crate::runtime::HostRuntime;
     let found = (
         PreMulInv1by1::<u16>::new(641).div_rem(65535, 641),
         PreMulInv1by1::<u32>::new(641).div_rem(u32::MAX, 641),
@@ -28,11 +29,6 @@ fn wider_words() {
         PreMulInv1by1::<usize>::new(2).div_rem(usize::MAX, 2),
     );
     assert!(found == ((102, 153), (6700416, 639), (1, 0), (usize::MAX / 2, 1)));
-}
-
-#[test]
-fn equality_and_copies() {
-    let rt = crate::runtime::HostRuntime;
     let divider = PreMulInv1by1::<u8>::new(7);
     let copy = divider;
     let found = (

@@ -1,9 +1,7 @@
 //! Exact divisions by prepared inverses.
 
-use super::shows;
+use super::{is_divided, shows};
 use num_modular::modular_monty::preinv::PreModInv;
-use num_modular::modular_prim::exact::{DivExact, DivExactAssign};
-use num_modular::modular_prim::plain_word::PlainWord;
 
 #[test]
 fn stored_numbers() {
@@ -18,65 +16,61 @@ fn stored_numbers() {
 #[test]
 fn rows() {
     let seven = PreModInv::<u8>::from(7);
-    let words = [252u8.div_exact(7, &seven), 253u8.div_exact(7, &seven)];
-    assert!(words == [Some(36), None]);
-    let doubles = [
-        65534u16.div_exact(7, &seven),
-        65535u16.div_exact(7, &seven),
-        1u16.div_exact(7, &seven),
+    let words = [
+        is_divided(252u8, 7, &seven, Some(36)),
+        is_divided(253u8, 7, &seven, None),
     ];
-    assert!(doubles == [Some(9362), None, None]);
-}
-
-// Whether a number was divided in its place, and the number then.
-fn divided<T: PlainWord, N: DivExactAssign<T, PreModInv<T>> + Copy>(
-    number: N,
-    d: T,
-    pre: &PreModInv<T>,
-) -> (bool, N) {
-    let mut number = number;
-    (number.div_exact_assign(d, pre), number)
+    let doubles = [
+        is_divided(65534u16, 7, &seven, Some(9362)),
+        is_divided(65535u16, 7, &seven, None),
+        is_divided(1u16, 7, &seven, None),
+    ];
+    assert!((words, doubles) == ([true; 2], [true; 3]));
 }
 
 #[test]
-fn rows_in_place() {
-    let seven = PreModInv::<u8>::from(7);
-    let words = [divided(253u8, 7, &seven), divided(252u8, 7, &seven)];
-    assert!(words == [(false, 253), (true, 36)]);
-    let doubles = [divided(65535u16, 7, &seven), divided(65534u16, 7, &seven)];
-    assert!(doubles == [(false, 65535), (true, 9362)]);
+fn rows_of_wider_words() {
+    let by_three = PreModInv::<u16>::from(3);
+    let words = [
+        is_divided(65535u16, 3, &by_three, Some(21845)),
+        is_divided(4294967295u32, 3, &by_three, Some(1431655765)),
+    ];
+    let by_three = PreModInv::<u32>::from(3);
+    let doubles = [
+        is_divided(4294967295u32, 3, &by_three, Some(1431655765)),
+        is_divided(
+            18446744073709551615u64,
+            3,
+            &by_three,
+            Some(6148914691236517205),
+        ),
+    ];
+    assert!((words, doubles) == ([true; 2], [true; 2]));
 }
 
 #[test]
-fn other_widths() {
-    let three = PreModInv::<u16>::from(3);
-    let found = (
-        65535u16.div_exact(3, &three),
-        4294967295u32.div_exact(3, &three),
-    );
-    assert!(found == (Some(21845), Some(1431655765)));
-    let three = PreModInv::<u32>::from(3);
-    let found = (
-        4294967295u32.div_exact(3, &three),
-        18446744073709551615u64.div_exact(3, &three),
-    );
-    assert!(found == (Some(1431655765), Some(6148914691236517205)));
-}
-
-#[test]
-fn the_widest_words() {
-    let three = PreModInv::<u64>::from(3);
-    let found = (
-        18446744073709551615u64.div_exact(3, &three),
-        36893488147419103230u128.div_exact(3, &three),
-    );
-    assert!(found == (Some(6148914691236517205), Some(12297829382473034410)));
-    let three = PreModInv::<usize>::from(3);
-    let found = (
-        18446744073709551614usize.div_exact(3, &three),
-        36893488147419103231u128.div_exact(3, &three),
-    );
-    assert!(found == (None, None));
+fn rows_of_the_widest_words() {
+    let by_three = PreModInv::<u64>::from(3);
+    let words = [
+        is_divided(
+            18446744073709551615u64,
+            3,
+            &by_three,
+            Some(6148914691236517205),
+        ),
+        is_divided(
+            36893488147419103230u128,
+            3,
+            &by_three,
+            Some(12297829382473034410),
+        ),
+    ];
+    let by_three = PreModInv::<usize>::from(3);
+    let sizes = [
+        is_divided(18446744073709551614usize, 3, &by_three, None),
+        is_divided(36893488147419103231u128, 3, &by_three, None),
+    ];
+    assert!((words, sizes) == ([true; 2], [true; 2]));
 }
 
 #[test]
@@ -84,11 +78,9 @@ fn each_odd_divisor_and_each_byte() {
     for half in 0..128 {
         let d: u8 = 2 * half + 1;
         let pre = PreModInv::<u8>::from(d);
-        let mut right = true;
         for n in 0..=255u8 {
-            let expected = if n % d == 0 { Some(n / d) } else { None };
-            right = right && n.div_exact(d, &pre) == expected;
+            let want = if n % d == 0 { Some(n / d) } else { None };
+            assert!(is_divided(n, d, &pre, want), "{n} by {d}");
         }
-        assert!(right);
     }
 }

@@ -15,7 +15,7 @@ pub fn checks<T: RingWord, R: Reducer<T>>(ring: &R, last: T, m: T, multiple: T) 
 }
 
 #[test]
-fn greatest_words() {
+fn greatest_words_and_counts() {
     let found = (
         FixedMersenne32::<2, 1>::reduce_double(u64::MAX),
         FixedMersenne32::<32, 5>::reduce_double(u64::MAX),
@@ -26,10 +26,6 @@ fn greatest_words() {
         FixedMersenne::<64, 59>::reduce_single(u128::MAX),
     );
     assert!(found == (0, 24, 24, 0, 58, 3480, 3480));
-}
-
-#[test]
-fn counts() {
     let found = (
         FixedMersenne32::<16, 5>::reduce_counted(4294967295),
         FixedMersenne32::<13, 1>::reduce_counted(67108863),

@@ -6,7 +6,7 @@ use num_modular::modular_folds::solinas::{FixedTrinomialSolinas32, FixedTrinomia
 use num_modular::modular_reduced::reducer::Reducer;
 
 #[test]
-fn greatest_words() {
+fn greatest_words_and_counts() {
     let found = (
         FixedTrinomialSolinas32::<4, 2, 1>::reduce_double(u64::MAX),
         FixedTrinomialSolinas32::<4, 2, 1>::reduce_double(255),
@@ -19,10 +19,6 @@ fn greatest_words() {
         FixedTrinomialSolinas64::<64, 63, 1>::reduce_double(u128::MAX),
     );
     assert!(found == (2, 8, 3, 5, 2, 4294967294, 18446744065119617024, 3, 3));
-}
-
-#[test]
-fn counts() {
     let found = (
         FixedTrinomialSolinas32::<4, 2, 1>::reduce_counted(255),
         FixedTrinomialSolinas32::<5, 4, -3>::reduce_counted(31),

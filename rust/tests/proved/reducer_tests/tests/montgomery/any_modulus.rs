@@ -1,54 +1,29 @@
 //! Rows of the reducer, and comparisons with plain remainders.
 
-use crate::reducer_tests::tests::residues::{inverse, product, residues};
+use crate::reducer_tests::tests::residues::{agree, inverse, product};
 use num_modular::modular_even::montgomery::Montgomery;
 use num_modular::modular_prim::plain_word::PlainWord;
 use num_modular::modular_reduced::reducer::Reducer;
 use crate::runtime::Abort;
 
-// The residues of a sum, a difference, a product, a double, a negative and a square, by plain remainders.
-fn remainders(m: u8, x: u8, y: u8) -> [u8; 6] {
-    let (n, a, b) = (m as u16, x as u16, y as u16);
-    [
-        ((a + b) % n) as u8,
-        ((a + (n - b % n)) % n) as u8,
-        (a * b % n) as u8,
-        (2 * a % n) as u8,
-        ((n - a % n) % n) as u8,
-        (a * a % n) as u8,
-    ]
-}
-
-// The forms of v, of its square, its double, its inverse and a power.
-fn registers<R: Reducer<u8>>(ring: &R, v: u8, exp: u8) -> [u8; 5] {
+// The forms of v, of its square, its double, its inverse and a power, and their residues.
+fn registers<R: Reducer<u8>>(ring: &R, v: u8, exp: u8) -> ([u8; 5], [u8; 5]) {
     let load = ring.transform(v);
+    let square = ring.mul(&load, &load);
+    let double = ring.add(&load, &load);
     let inverse = match ring.inv(load) {
         Some(x) => x,
         None => load,
     };
-    [
-        load,
-        ring.mul(&load, &load),
-        ring.add(&load, &load),
-        inverse,
-        ring.pow(load, &exp),
-    ]
-}
-
-// Their residues.
-fn values<R: Reducer<u8>>(ring: &R, v: u8, exp: u8) -> [u8; 5] {
-    let load = ring.transform(v);
-    let inverse = match ring.inv(load) {
-        Some(x) => x,
-        None => load,
-    };
-    [
+    let power = ring.pow(load, &exp);
+    let residues = [
         ring.residue(load),
-        ring.residue(ring.mul(&load, &load)),
-        ring.residue(ring.add(&load, &load)),
+        ring.residue(square),
+        ring.residue(double),
         ring.residue(inverse),
-        ring.residue(ring.pow(load, &exp)),
-    ]
+        ring.residue(power),
+    ];
+    ([load, square, double, inverse, power], residues)
 }
 
 // The modulus, a number, an exponent, the forms of five registers and their residues.
@@ -74,7 +49,7 @@ fn five_registers() {
     for &(m, v, exp, forms, residues) in REGISTERS {
         assert!(m > 0);
         let ring = Montgomery::<u8>::new(m);
-        assert!(registers(&ring, v, exp) == forms && values(&ring, v, exp) == residues);
+        assert!(registers(&ring, v, exp) == (forms, residues));
     }
 }
 
@@ -186,11 +161,6 @@ fn even_moduli_of_bytes() {
         assert!(m > 0);
         assert!(product_forms(&Montgomery::<u8>::new(m), x, y) == want);
     }
-}
-
-// Whether the residues of two numbers are the remainders.
-fn agree(ring: &Montgomery<u8>, m: u8, x: u8, y: u8) -> bool {
-    residues(ring, x, y) == remainders(m, x, y)
 }
 
 #[test]

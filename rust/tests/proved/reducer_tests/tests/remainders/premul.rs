@@ -1,75 +1,31 @@
 //! Rows that were worked by hand, and bytes against `%`.
 
-use crate::reducer_tests::tests::residues::{inverse_residue, remainder};
+use crate::reducer_tests::tests::residues::{agree, inverse_residue, product, remainder};
 use num_modular::modular_barrett::premul::PreMulInv2by1;
 use num_modular::modular_reduced::reducer::Reducer;
 use num_modular::modular_word::ring_word::RingWord;
-
-// What generic code gets for the sum, the difference and the product of n and k.
-fn of_two<T: RingWord, R: Reducer<T>>(r: &R, n: T, k: T) -> (T, T, T) {
-    let a = r.transform(n);
-    let b = r.transform(k);
-    (
-        r.residue(r.add(&a, &b)),
-        r.residue(r.sub(&a, &b)),
-        r.residue(r.mul(&a, &b)),
-    )
-}
-
-// What it gets for twice n, the negative and the square.
-fn of_one<T: RingWord, R: Reducer<T>>(r: &R, n: T) -> (T, T, T) {
-    let a = r.transform(n);
-    (
-        r.residue(r.dbl(a)),
-        r.residue(r.neg(a)),
-        r.residue(r.sqr(a)),
-    )
-}
 
 fn power<T: RingWord, R: Reducer<T>>(r: &R, n: T, exp: T) -> T {
     r.residue(r.pow(r.transform(n), &exp))
 }
 
 #[test]
-fn parts_of_a_ring() {
+fn rows() {
+    let rt = crate::runtime::HostRuntime;
     let ring = PreMulInv2by1::<u8>::new(21);
     let found = (
         (ring.divisor(), ring.modulus(), ring.shift()),
         ring.divider().divisor(),
     );
     assert!(found == ((168, 21, 3), 168));
-}
-
-#[test]
-fn rows() {
-    let ring = PreMulInv2by1::<u8>::new(21);
     let checks = [ring.check(&40), ring.check(&41), ring.check(&168)];
     assert!(checks == [true, false, false]);
-    let forms = [ring.transform(5), ring.transform(7), ring.transform(17)];
     let found = (
-        forms,
+        [ring.transform(5), ring.transform(7), ring.transform(17)],
         [inverse_residue(&ring, 5), inverse_residue(&ring, 7)],
         ring.is_zero(&ring.transform(42)),
     );
     assert!(found == ([40, 56, 136], [Some(17), None], true));
-}
-
-#[test]
-fn widest_words() {
-    let ring = PreMulInv2by1::<u64>::new(u64::MAX);
-    assert!(of_two(&ring, u64::MAX - 1, u64::MAX - 1).2 == 1);
-    let ring = PreMulInv2by1::<usize>::new(1000);
-    assert!(power(&ring, 2, 10) == 24);
-    let ring = PreMulInv2by1::<u32>::new(5000);
-    assert!(inverse_residue(&ring, 3) == Some(1667));
-    let ring = PreMulInv2by1::<u16>::new(7);
-    assert!(power(&ring, 255, 255) == 6);
-}
-
-#[test]
-fn equality_and_copies() {
-    let rt = crate::runtime::HostRuntime;
-    let ring = PreMulInv2by1::<u8>::new(21);
     let copy = ring;
     assert!(copy == ring);
     // the same divisor, of another modulus
@@ -78,6 +34,18 @@ fn equality_and_copies() {
         format!(in rt.alloc(); "{ring:?}").is_ok(),
     );
     assert!(found == (false, true));
+}
+
+#[test]
+fn widest_words() {
+    let ring = PreMulInv2by1::<u64>::new(u64::MAX);
+    assert!(product(&ring, u64::MAX - 1, u64::MAX - 1) == 1);
+    let ring = PreMulInv2by1::<usize>::new(1000);
+    assert!(power(&ring, 2, 10) == 24);
+    let ring = PreMulInv2by1::<u32>::new(5000);
+    assert!(inverse_residue(&ring, 3) == Some(1667));
+    let ring = PreMulInv2by1::<u16>::new(7);
+    assert!(power(&ring, 255, 255) == 6);
 }
 
 // Each modulus has as many checked forms as values.
@@ -99,27 +67,11 @@ fn forms_of_every_modulus() {
 #[test]
 fn operations_on_bytes() {
     for m in [1u8, 2, 3, 21, 127, 128, 129, 255] {
-        if m > 0 {
-            let ring = PreMulInv2by1::<u8>::new(m);
-            let modulus = m as u32;
-            for a in 0..=255u8 {
-                for b in 0..=255u8 {
-                    let (n, k) = (a as u32, b as u32);
-                    let less = (256 * modulus - k) % modulus;
-                    let want = (
-                        ((n + k) % modulus) as u8,
-                        ((n + less) % modulus) as u8,
-                        (n * k % modulus) as u8,
-                    );
-                    assert!(of_two(&ring, a, b) == want, "{a} and {b} modulo {m}");
-                }
-                let n = a as u32;
-                let want = (
-                    (2 * n % modulus) as u8,
-                    ((256 * modulus - n) % modulus) as u8,
-                    (n * n % modulus) as u8,
-                );
-                assert!(of_one(&ring, a) == want, "{a} modulo {m}");
+        assert!(m > 0);
+        let ring = PreMulInv2by1::<u8>::new(m);
+        for a in 0..=255u8 {
+            for b in 0..=255u8 {
+                assert!(agree(&ring, m, a, b), "{a} and {b} modulo {m}");
             }
         }
     }

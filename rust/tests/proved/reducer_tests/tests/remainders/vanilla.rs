@@ -62,68 +62,88 @@ fn tests<T: RingWord, R: Reducer<T>>(r: &R, a: T, m: T) -> [bool; 4] {
     ]
 }
 
-// The modulus, the residues that each call leaves of a and b, the inverse of each, and the tests.
-fn exercise<T: RingWord, R: Reducer<T> + Copy>(
-    m: T,
-    a: T,
-    b: T,
-    exp: T,
-) -> (T, [T; 3], [T; 4], [T; 4], [Option<T>; 2], [bool; 4]) {
-    let r = R::new(&m);
+// The residues that each call leaves of a and b, the inverse of each, and the tests.
+type Answers<T> = ([T; 3], [T; 4], [T; 4], [Option<T>; 2], [bool; 4]);
+
+fn exercise<T: RingWord, R: Reducer<T>>(r: &R, m: T, a: T, b: T, exp: T) -> Answers<T> {
     (
-        r.modulus(),
-        added(&r, a, b),
-        subtracted(&r, a, b),
-        multiplied(&r, a, b, exp),
-        [inverse_residue(&r, a), inverse_residue(&r, b)],
-        tests(&r, a, m),
+        added(r, a, b),
+        subtracted(r, a, b),
+        multiplied(r, a, b, exp),
+        [inverse_residue(r, a), inverse_residue(r, b)],
+        tests(r, a, m),
     )
 }
 
-macro_rules! at_greatest_modulus {
-    ($rt:expr, $word:ty) => {
-        let m = <$word>::MAX;
-        let got = exercise::<$word, Vanilla<$word>>(m, m - 1, m - 2, 3);
-        let added = [m - 3, m - 3, m - 2];
-        let subtracted = [1, 1, 1, m - 1];
-        let inverses = [Some(m - 1), Some(m / 2)];
-        let tests = [true, false, false, true];
-        assert!(got == (m, added, subtracted, [2, 2, 1, m - 1], inverses, tests));
+// Rows are a modulus, two numbers, an exponent, and what the calls answer.
+macro_rules! assert_rows {
+    ($rt:expr, $word:ty, $rows:expr) => {
+        for (m, a, b, exp, want) in $rows {
+            assert!(m > 0);
+            let ring = Vanilla::<$word>::new(&m);
+            assert!(ring.modulus() == m);
+            assert!(exercise(&ring, m, a, b, exp) == want);
+        }
     };
 }
 
-#[test]
-fn at_each_width() {
-    let rt = crate::runtime::HostRuntime;
-    at_greatest_modulus!(rt, u8);
-    at_greatest_modulus!(rt, u16);
-    at_greatest_modulus!(rt, u32);
-    at_greatest_modulus!(rt, u64);
-    at_greatest_modulus!(rt, usize);
+macro_rules! at_greatest_modulus {
+    ($word:ty) => {
+        (
+            <$word>::MAX,
+            <$word>::MAX - 1,
+            <$word>::MAX - 2,
+            3,
+            (
+                [<$word>::MAX - 3, <$word>::MAX - 3, <$word>::MAX - 2],
+                [1, 1, 1, <$word>::MAX - 1],
+                [2, 2, 1, <$word>::MAX - 1],
+                [Some(<$word>::MAX - 1), Some(<$word>::MAX / 2)],
+                [true, false, false, true],
+            ),
+        )
+    };
 }
 
-#[test]
-fn without_an_inverse() {
-    let got = exercise::<u8, Vanilla<u8>>(21, 26, 7, 0);
-    let inverses = [Some(17), None];
-    let tests = [true, false, false, true];
-    assert!(
-        got == (
-            21,
+const ROWS_OF_8_BITS: [(u8, u8, u8, u8, Answers<u8>); 3] = [
+    at_greatest_modulus!(u8),
+    // 7 has no inverse
+    (
+        21,
+        26,
+        7,
+        0,
+        (
             [12, 12, 10],
             [19, 19, 16, 11],
             [14, 14, 4, 1],
-            inverses,
-            tests
-        )
-    );
-}
+            [Some(17), None],
+            [true, false, false, true],
+        ),
+    ),
+    (
+        1,
+        255,
+        0,
+        0,
+        (
+            [0; 3],
+            [0; 4],
+            [0; 4],
+            [Some(0); 2],
+            [true, false, true, true],
+        ),
+    ),
+];
 
 #[test]
-fn of_modulus_one() {
-    let got = exercise::<u8, Vanilla<u8>>(1, 255, 0, 0);
-    let tests = [true, false, true, true];
-    assert!(got == (1, [0; 3], [0; 4], [0; 4], [Some(0); 2], tests));
+fn rows_at_each_width() {
+    let rt = crate::runtime::HostRuntime;
+    assert_rows!(rt, u8, ROWS_OF_8_BITS);
+    assert_rows!(rt, u16, [at_greatest_modulus!(u16)]);
+    assert_rows!(rt, u32, [at_greatest_modulus!(u32)]);
+    assert_rows!(rt, u64, [at_greatest_modulus!(u64)]);
+    assert_rows!(rt, usize, [at_greatest_modulus!(usize)]);
 }
 
 // An exponent, the power of 5 modulo 21 and the number of products.
