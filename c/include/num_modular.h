@@ -223,7 +223,7 @@ uint32_t nm_ntt_planned(uint64_t m, uint64_t *xs, size_t n, const nm_factor_t *t
  * x_(k * last + i) * c^k, the coefficient of the remainder modulo X^last - c, where c is the power of the plan's
  * root by the reversed bits of b * count + j. So b = 0 and last = 1 give the transform with its places in
  * bit-reversed order, and b = 1 starts from a polynomial modulo X^n + 1. NM_BAD_ARGUMENT: a word isn't below 4 * m,
- * n isn't last times a power of two, or the table has fewer than (b + 1) * count / 2 entries. */
+ * n isn't last times a power of two, or the table has fewer than (b + 1) * (count / 2) entries. */
 uint32_t nm_split(uint64_t m, uint64_t *xs, size_t n, const nm_factor_t *table, size_t length, size_t b, size_t last);
 
 /* The way back from nm_split: each word times count. The codes are those of nm_split. */

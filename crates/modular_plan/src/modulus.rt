@@ -45,7 +45,7 @@ impl<T: PathWord> Factor<T> {
     }
 }
 
-/// A modulus m with what is computed once of it. It is from 1 to a fourth of the number of words, so
+/// A modulus m with what is computed once of it. It is at least 1 and at most a quarter of the base, so
 /// that words below 4m are at hand for sums that aren't reduced.
 #[derive(Debug, PartialEq, Eq)]
 pub struct PlannedModulus<T: PathWord> {
@@ -112,7 +112,7 @@ impl<T: PlainWord> PlannedModulus<T> {
         Factor { value: w, quotient }
     }
 
-    /// The residue of a factor times the number of words: what its quotient leaves. Condition: the factor is one
+    /// The residue of a factor times the base: what its quotient leaves. Condition: the factor is a residue
     /// modulo m.
     pub fn times_base(&self, w: &Factor<T>) -> T
         requires { IsFactor T.base (T.number self.now.modulus) (T.number w.now.value) (T.number w.now.quotient) }

@@ -310,7 +310,7 @@ pub fn split_loosely<T: PlainWord, F: PlanEntry<T>>(
 /// So b = 0 and last = 1 give the transform by g, in bit-reversed order; b = 1 starts from a
 /// polynomial modulo X^n + 1. The table is the plan by g; any plan that is long enough serves.
 /// Conditions: the entries are below 4m; their number is `last` times a power of two; the table's
-/// entries are factors modulo m, and there are (b + 1)·count/2 of them or more (`splits` tells).
+/// entries are factors modulo m, and there are at least (b + 1)·(count/2) of them (`splits` tells).
 ///
 /// Source: the sums and differences are those of Cooley and Tukey, with one factor a block, as
 /// Bernstein ("Multidigit multiplication for mathematicians", section 2) has them. A pass over the list

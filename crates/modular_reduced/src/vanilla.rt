@@ -12,8 +12,8 @@ use std::alloc::AllocError;
 /// The plain reducer of a modulus from 1 up: the form of a value is the value itself.
 ///
 /// Sums, differences, doubles and negatives take no division. A product is the classical one, the
-/// remainder of a double word by a word (Handbook of Applied Cryptography, section 14.3.1), and an
-/// inverse goes by Euclid's algorithm.
+/// remainder of a double word by a word (Handbook of Applied Cryptography, section 14.3.1). An inverse
+/// is found by subtraction for an odd modulus and by Euclid's algorithm for an even one.
 #[derive(Debug)]
 pub struct Vanilla<T: PlainWord> {
     modulus: T,

@@ -85,7 +85,7 @@ pub extern "C" fn nm_ntt_planned(m: u64, xs: &mut [u64], table: &[NmFactor]) -> 
 /// reversed bits of b·count + j, and count the number of blocks.
 ///
 /// `NM_BAD_ARGUMENT`: m is 0 or above 2^62, a word isn't below 4m, n is no power of two times `last`, or
-/// the table has fewer than (b + 1)·count/2 entries. `NM_BAD_CONTEXT`: as `nm_ntt_planned`.
+/// the table has fewer than (b + 1)·(count/2) entries. `NM_BAD_CONTEXT`: as `nm_ntt_planned`.
 #[unsafe(no_mangle)]
 pub extern "C" fn nm_split(m: u64, xs: &mut [u64], table: &[NmFactor], b: usize, last: usize) -> u32
     ensures did { let count = length xs.old / last in
