@@ -62,7 +62,7 @@ pub fn measured() -> Vec<Growth> {
     vec![
         powers(),
         against_bits("inverses", [port::invm, original::invm], port::divisions),
-        against_bits("symbols", [port::jacobi_short, original::jacobi_short], port::halvings),
+        against_bits("symbols", [port::checked_jacobi_short, original::checked_jacobi_short], port::halvings),
         transforms::growth(),
         products,
         searches,

@@ -48,6 +48,9 @@ const MERSENNE: u64 = (1 << 61) - 1;
 const SOLINAS: u64 = u64::MAX - (1 << 32) + 2;
 const PROTH: u64 = (29 << 57) + 1;
 
+/// 2^32 - 2^20 + 1.
+const SOLINAS_32: u64 = (1 << 32) - (1 << 20) + 1;
+
 /// A function of the Rust crate and of the Cargo crate, over a reducer of either or none.
 macro_rules! both {
     ($($part:ident)::+ $(, $ring:ident $(<$word:ident>)?)?) => {
@@ -83,6 +86,12 @@ fn any_modulus() -> Vec<Line> {
         line("mulm (plain line)", port::mulm, [original::plain_mulm as Bench, erased::mulm], Any),
         line("powm", port::powm, both!(powm), Any),
         line("invm", port::invm, both!(invm), Any),
+        line(
+            "by_subtraction::inverse, beside invm",
+            port::inverse_by_subtraction,
+            [original::invm as Bench, erased::inverse_by_subtraction],
+            Odd,
+        ),
         line("Vanilla::mul", port::vanilla_mul, both!(u64s::mul, Vanilla<u64>), Any),
         line("Vanilla::pow", port::vanilla_pow, both!(pow, Vanilla<u64>), Any),
         line("Vanilla::inv", port::vanilla_inv, both!(inv, Vanilla<u64>), Any),
@@ -120,10 +129,17 @@ fn fixed_modulus() -> Vec<Line> {
 fn symbols() -> Vec<Line> {
     use Moduli::{Any, Odd};
     vec![
-        line("checked_jacobi", port::jacobi, both!(jacobi), Any),
+        line("jacobi", port::jacobi, both!(jacobi), Odd),
+        line(
+            "by_subtraction::jacobi, beside jacobi",
+            port::jacobi_by_subtraction,
+            [original::jacobi as Bench, erased::jacobi_by_subtraction],
+            Odd,
+        ),
+        line("checked_jacobi", port::checked_jacobi, both!(checked_jacobi), Any),
         line("kronecker", port::kronecker, both!(kronecker), Any),
         line("checked_legendre", port::legendre, both!(legendre), Odd),
-        narrow("checked_jacobi, 32 bits in words of 64", 32, port::jacobi_short, both!(jacobi_short), Any),
+        narrow("checked_jacobi, 32 bits in words of 64", 32, port::checked_jacobi_short, both!(checked_jacobi_short), Any),
         narrow("invm, 32 bits in words of 64", 32, port::invm, both!(invm), Any),
     ]
 }
@@ -137,6 +153,10 @@ fn narrow_words() -> Vec<Line> {
         narrow("u32: mulm", 32, port::plain_u32::<0>, both!(mulm_u32), Any),
         narrow("u32: powm", 32, port::plain_u32::<1>, both!(powm_u32), Any),
         narrow("u32: Montgomery::mul", 32, port::montgomery_mul_u32, both!(u32s::mul, Montgomery<u32>), Odd),
+        Line {
+            bits: 32,
+            ..line("u32: FixedTrinomialSolinas32::mul", port::fixed_solinas_mul_u32, both!(u32s::mul, FixedSolinas32), Moduli::One(SOLINAS_32))
+        },
     ]
 }
 

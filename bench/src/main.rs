@@ -136,7 +136,7 @@ fn beside_crate() -> Option<Report> {
 fn beside_peers() -> Option<Report> {
     peers::agree().then(|| Report {
         machine: format!("{}, and FLINT {}", machine(), peers::version()),
-        tables: peers::measured(),
+        tables: vec![peers::measured()],
         growth: Vec::new(),
     })
 }

@@ -6,7 +6,6 @@ use crate::measure::{FIRST, Random, SECOND, best_by, compare};
 use crate::port::{self, Bench};
 use crate::report::Rows;
 use std::ffi::{CStr, c_char};
-use std::ops::Range;
 
 /// The turns of a line in each round over all lines. Other programs slow the processor for seconds at a time, so
 /// the best of a line is looked for in many rounds.
@@ -24,7 +23,7 @@ unsafe extern "C" {
 }
 
 /// The port's answers for a list, by the operation's number: 0 the power, 1 the inverse, 2 Jacobi's symbol by
-/// subtractions, 3 by the counted loop.
+/// subtractions, 3 by `jacobi`, 4 the inverse by subtractions.
 fn list<const OPERATION: u8>(x: u64, y: u64, m: u64, n: u64) -> u64 {
     bench_list(OPERATION, x, y, m, n)
 }
@@ -41,7 +40,6 @@ macro_rules! exported {
 }
 
 exported! {
-    bench_jacobi as port_jacobi,
     peer_mulm as mulm,
     peer_mulm_eight as mulm_eight,
     peer_powm as powm,
@@ -84,7 +82,7 @@ const fn line(name: &'static str, port: Bench, flint: Bench, cut: Cut) -> Line {
 }
 
 /// Each call beside FLINT's.
-static LINES: [Line; 8] = [
+static LINES: [Line; 12] = [
     line("PreMulInv2by1::mul, n_mulmod2_preinv, chain", port::premul_mul, mulm, Cut::Both),
     Line {
         name: "PreMulInv2by1::mul, n_mulmod2_preinv, eight chains side by side",
@@ -97,14 +95,12 @@ static LINES: [Line; 8] = [
     line("powm, n_powmod2_preinv, list", list::<0>, powm_list, Cut::Neither),
     line("invm, n_invmod, chain", port::invm, invm, Cut::Both),
     line("invm, n_invmod, list", list::<1>, invm_list, Cut::Neither),
-    line("jacobi, n_jacobi_unsigned, chain", port_jacobi, jacobi, Cut::First),
-    line("jacobi, n_jacobi_unsigned, list", list::<2>, jacobi_list, Cut::Neither),
-];
-
-/// The two loops of the Jacobi symbol.
-static LOOPS: [Line; 2] = [
-    line("chain", port_jacobi, port::jacobi, Cut::First),
-    line("list", list::<2>, list::<3>, Cut::Neither),
+    line("by_subtraction::inverse, n_invmod, chain", port::inverse_by_subtraction, invm, Cut::Both),
+    line("by_subtraction::inverse, n_invmod, list", list::<4>, invm_list, Cut::Neither),
+    line("jacobi, n_jacobi_unsigned, chain", port::jacobi, jacobi, Cut::First),
+    line("jacobi, n_jacobi_unsigned, list", list::<3>, jacobi_list, Cut::Neither),
+    line("by_subtraction::jacobi, n_jacobi_unsigned, chain", port::jacobi_by_subtraction, jacobi, Cut::First),
+    line("by_subtraction::jacobi, n_jacobi_unsigned, list", list::<2>, jacobi_list, Cut::Neither),
 ];
 
 const MODULI: [(u32, u64); 2] = [(64, PRIME), (32, PRIME_32)];
@@ -126,14 +122,14 @@ impl Line {
     }
 }
 
-/// Whether FLINT and the port answer alike, and both loops of the symbol.
+/// Whether FLINT and the port answer alike.
 pub fn agree() -> bool {
-    MODULI.iter().all(|(bits, m)| LINES.iter().chain(&LOOPS).all(|line| line.agrees(*bits, *m)))
+    MODULI.iter().all(|(bits, m)| LINES.iter().all(|line| line.agrees(*bits, *m)))
 }
 
 /// The times of each line, at 64 bits and then at 32: the best of all rounds.
-fn times(lines: &[&Line]) -> Vec<[f64; 2]> {
-    let all: Vec<_> = MODULI.iter().flat_map(|modulus| lines.iter().map(move |line| (*modulus, *line))).collect();
+fn times() -> Vec<[f64; 2]> {
+    let all: Vec<_> = MODULI.iter().flat_map(|modulus| LINES.iter().map(move |line| (*modulus, line))).collect();
     let mut best = vec![[f64::INFINITY; 2]; all.len()];
     for _ in 0..ROUNDS {
         for (least, ((bits, m), it)) in best.iter_mut().zip(&all) {
@@ -146,34 +142,15 @@ fn times(lines: &[&Line]) -> Vec<[f64; 2]> {
     best
 }
 
-/// The tables of both.
-pub fn measured() -> Vec<Rows> {
-    let lines: Vec<&Line> = LINES.iter().chain(&LOOPS).collect();
-    let times = times(&lines);
-    let rows = |range: Range<usize>| {
-        let places = MODULI.iter().enumerate().flat_map(|(k, (bits, _))| range.clone().map(move |i| (k, *bits, i)));
-        places
-            .map(|(k, bits, i)| {
-                let [ours, theirs] = times[k * lines.len() + i];
-                (format!("{}, {bits} bits", lines[i].name), vec![ours, theirs, ours / theirs])
-            })
-            .collect()
-    };
-    let table = |key, title: &str, heads: [&'static str; 3], lines| Rows {
-        key,
-        title: title.to_string(),
-        heads: heads.to_vec(),
+/// The table of all lines.
+pub fn measured() -> Rows {
+    let names = MODULI.iter().flat_map(|(bits, _)| LINES.iter().map(move |line| format!("{}, {bits} bits", line.name)));
+    Rows {
+        key: "peers",
+        title: "Beside FLINT's calls".to_string(),
+        heads: vec!["port ns", "FLINT ns", "port/FLINT"],
         digits: 1,
-        lines,
+        lines: names.zip(times()).map(|(name, [ours, theirs])| (name, vec![ours, theirs, ours / theirs])).collect(),
         means: Vec::new(),
-    };
-    vec![
-        table("peers", "Beside FLINT's calls", ["port ns", "FLINT ns", "port/FLINT"], rows(0..LINES.len())),
-        table(
-            "loops",
-            "The two loops of the Jacobi symbol",
-            ["jacobi ns", "checked_jacobi ns", "quotient"],
-            rows(LINES.len()..lines.len()),
-        ),
-    ]
+    }
 }

@@ -20,6 +20,9 @@ exported! {
     bench_mulm as mulm,
     bench_powm as powm,
     bench_invm as invm,
+    bench_inverse_by_subtraction as inverse_by_subtraction,
+    bench_jacobi as jacobi,
+    bench_jacobi_by_subtraction as jacobi_by_subtraction,
     bench_mulm_eight as mulm_eight,
     bench_vanilla_mul as vanilla_mul,
     bench_vanilla_pow as vanilla_pow,
@@ -49,6 +52,7 @@ unsafe extern "C" {
     safe fn bench_plain_u64(operation: u8, x: u64, y: u64, m: u64, n: u64) -> u64;
     safe fn bench_montgomery_mul_u8(x: u8, y: u8, m: u8, n: u64) -> u8;
     safe fn bench_montgomery_mul_u32(x: u32, y: u32, m: u32, n: u64) -> u32;
+    safe fn bench_fixed_solinas_mul_u32(x: u32, y: u32, m: u32, n: u64) -> u32;
     safe fn bench_symbols(operation: u8, x: u64, y: u64, m: u64, n: u64) -> u64;
     safe fn bench_divisions(x: u64, m: u64) -> u32;
     safe fn bench_halvings(x: u64, m: u64) -> u32;
@@ -76,13 +80,17 @@ pub fn montgomery_mul_u32(x: u64, y: u64, m: u64, n: u64) -> u64 {
     bench_montgomery_mul_u32(x as u32, y as u32, m as u32, n) as u64
 }
 
-pub fn jacobi(x: u64, y: u64, m: u64, n: u64) -> u64 {
+pub fn fixed_solinas_mul_u32(x: u64, y: u64, m: u64, n: u64) -> u64 {
+    bench_fixed_solinas_mul_u32(x as u32, y as u32, m as u32, n) as u64
+}
+
+pub fn checked_jacobi(x: u64, y: u64, m: u64, n: u64) -> u64 {
     bench_symbols(0, x, y, m, n)
 }
 
 /// The same with a y of 64 bits, by which a short x stays without a pattern.
-pub fn jacobi_short(x: u64, _: u64, m: u64, n: u64) -> u64 {
-    jacobi(x, SECOND, m, n)
+pub fn checked_jacobi_short(x: u64, _: u64, m: u64, n: u64) -> u64 {
+    checked_jacobi(x, SECOND, m, n)
 }
 
 pub fn kronecker(x: u64, y: u64, m: u64, n: u64) -> u64 {

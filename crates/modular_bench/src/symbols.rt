@@ -7,6 +7,7 @@ ghost use Rattle.std.specs.Int.Count.{count_leading_zeros};
 ghost use Rattle.std.specs.Prelude.{◌≡◌, ◌≤◌, ◌<◌, ◌+◌, ◌*◌, ◌/◌, ◌%◌, ◌^◌, pos};
 
 use num_modular::ModularSymbols;
+use num_modular::prim::by_subtraction;
 
 // The symbol of v over m, by the operation's number.
 pub(crate) fn symbol(operation: u8, v: u64, m: u64) -> Option<i8>
@@ -29,12 +30,20 @@ pub(crate) fn number(found: Option<i8>) -> u64
     }
 }
 
-// The number of Jacobi's symbol of v over m, by the loop of subtractions.
-pub(crate) fn subtracted(v: u64, m: u64) -> u64
+// The number of Jacobi's symbol of v over m, by halvings and swaps.
+pub(crate) fn halved(v: u64, m: u64) -> u64
     requires { m % 2 ≡ 1 }
     ensures { result ≡ symbol_number (checked_jacobi_of (pos v) (pos m)) }
 {
     number(Some(v.jacobi(&m)))
+}
+
+// The same by the loop of subtractions.
+pub(crate) fn subtracted(v: u64, m: u64) -> u64
+    requires { m % 2 ≡ 1 }
+    ensures { result ≡ symbol_number (checked_jacobi_of (pos v) (pos m)) }
+{
+    number(Some(by_subtraction::jacobi(false, v, m)))
 }
 
 fn steps<const OPERATION: u8>(x: u64, y: u64, m: u64, n: u64) -> u64
@@ -66,17 +75,45 @@ pub extern "C" fn bench_symbols(operation: u8, x: u64, y: u64, m: u64, n: u64) -
     }
 }
 
-/// A step: that of Jacobi's symbol, by the loop of subtractions. Condition: m is odd.
-#[unsafe(no_mangle)]
-pub extern "C" fn bench_jacobi(x: u64, y: u64, m: u64, n: u64) -> u64
+// The steps of Jacobi's symbol, by one of two loops.
+fn odd_steps<const BY_SUBTRACTION: bool>(x: u64, y: u64, m: u64, n: u64) -> u64
     requires { m % 2 ≡ 1 }
     ensures { result ≡ iterate (symbol_step 0 y m) n x }
 {
     let mut x = x;
     let shift = m.leading_zeros();
     'steps: for _ in 0..n {
-        let term = subtracted(x, m);
+        let term = odd_symbol(BY_SUBTRACTION, x, m);
         x = y.wrapping_mul(x).wrapping_add(term) >> shift;
     }
     x
+}
+
+fn odd_symbol(by_subtraction: bool, v: u64, m: u64) -> u64
+    requires { m % 2 ≡ 1 }
+    ensures { result ≡ symbol_number (checked_jacobi_of (pos v) (pos m)) }
+{
+    if by_subtraction {
+        subtracted(v, m)
+    } else {
+        halved(v, m)
+    }
+}
+
+/// A step: that of Jacobi's symbol, by `jacobi`. Condition: m is odd.
+#[unsafe(no_mangle)]
+pub extern "C" fn bench_jacobi(x: u64, y: u64, m: u64, n: u64) -> u64
+    requires { m % 2 ≡ 1 }
+    ensures { result ≡ iterate (symbol_step 0 y m) n x }
+{
+    odd_steps::<false>(x, y, m, n)
+}
+
+/// The same by the loop of subtractions. Condition: m is odd.
+#[unsafe(no_mangle)]
+pub extern "C" fn bench_jacobi_by_subtraction(x: u64, y: u64, m: u64, n: u64) -> u64
+    requires { m % 2 ≡ 1 }
+    ensures { result ≡ iterate (symbol_step 0 y m) n x }
+{
+    odd_steps::<true>(x, y, m, n)
 }

@@ -7,6 +7,6 @@ use Rattle.modular_bench.proofs.symbols.subtracted.Goals as goal
 
 pub returns : goal.returns
 returns c =
-    let fits : SFits w8 c.jacobi.result = search rules in
-    c.number.ensures ∙ ap (λ s. symbol_number (Some s)) (to_z-of_z w8 c.jacobi.result fits)
-    ∙ ap symbol_number c.jacobi.ensures
+    let fits : SFits w8 c.jacobi_by_subtraction.result = search rules in
+    c.number.ensures ∙ ap (λ s. symbol_number (Some s)) (to_z-of_z w8 c.jacobi_by_subtraction.result fits)
+    ∙ ap symbol_number c.jacobi_by_subtraction.ensures
