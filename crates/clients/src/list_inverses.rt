@@ -11,8 +11,8 @@ use num_modular::{Reducer, RingWord};
 /// unchanged, exactly where one has no inverse modulo m. Conditions: the forms are checked, and the
 /// scratch list is as long.
 ///
-/// One inverse is computed, that of the product, and three products a form (Montgomery, "Speeding the
-/// Pollard and elliptic curve methods of factorization", section 10.3.1).
+/// The inverses come from that of the product of all forms (Montgomery, "Speeding the Pollard and elliptic
+/// curve methods of factorization", section 10.3.1).
 #[tactic(auto, using(num_modular::specs::Remainders::remainders, num_modular::specs::Callers::products_so_far))]
 pub fn invert_each<T: RingWord, R: Reducer<T>>(r: &R, forms: &mut [T], products: &mut [T]) -> bool
     requires checked { All (λ f. IsForm R.form R.value (R.modulus r.now) (T.number f)) forms.old }

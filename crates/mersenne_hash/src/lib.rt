@@ -1,4 +1,4 @@
-//! A search by polynomial hashes modulo 2^61 - 1: the hash of a window that moves costs two products.
+//! A search by polynomial hashes modulo 2^61 - 1: the hash of a moved window comes from that of the last one.
 #![tactic(auto)]
 
 ghost use Rattle.std.specs.Prelude.{◌≡◌, ℕ, ◌+◌, ◌*◌, ◌%◌, ◌^◌, ◌≤◌, ◌↔◌, List, []};
@@ -68,8 +68,9 @@ fn is_hit(wanted: Hash, window: Hash, text: &[u8], pattern: &[u8], at: usize) ->
 
 /// The first position where the pattern stands in the text; `None` exactly where it stands nowhere.
 ///
-/// The answer is right for every base: each hit of the hash is compared. A window moves by two
-/// products, and bytes are compared at hits alone.
+/// The result is right for every base: where a window has the pattern's hash, their bytes are compared.
+/// For a base that is drawn at random after text and pattern are fixed, other windows seldom have it.
+/// For a fixed base all may: no contract bounds the time.
 ///
 /// Source: Karp and Rabin, "Efficient randomized pattern-matching algorithms".
 pub fn find(base: Hash, text: &[u8], pattern: &[u8]) -> Option<usize>
