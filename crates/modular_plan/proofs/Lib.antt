@@ -5,6 +5,7 @@ pub mod Fours
 pub mod Levels
 pub mod Quarters
 pub mod Quotients
+pub mod Shorter
 pub mod SmallBases
 pub mod Steps
 pub mod SumsOfProducts

@@ -1,6 +1,6 @@
 //! The plan: a table of the powers of a root, as factors, which the caller keeps.
 
-ghost use Rattle.std.specs.Prelude.{◌≡◌, ℕ, ◌*◌, ◌%◌, ◌^◌, ◌<◌, All, length};
+ghost use Rattle.std.specs.Prelude.{◌≡◌, ℕ, ◌+◌, ◌*◌, ◌/◌, ◌%◌, ◌^◌, ◌<◌, All, length};
 ghost use Rattle.modular_transform.specs.Transforms.{Suits};
 ghost use Rattle.modular_plan.specs.Factors.{IsFactor};
 ghost use Rattle.modular_plan.specs.Plans.{numbers, IsPlan};
@@ -14,8 +14,8 @@ use modular_word::ring_word::RingWord;
 /// Fills the table with the plan by g for transforms of n entries, n being twice its length: entry k
 /// becomes the factor of g to the power of the reversed bits of k.
 ///
-/// Conditions: g is below m and suits n. The first entries of a plan are a plan for fewer entries, by
-/// the power of g that suits them.
+/// The first entries are a plan for fewer entries, by the power of g that suits them. Conditions: g is
+/// below m and suits n.
 pub fn plan<T: PlainWord, F: PlanEntry<T>>(m: &PlannedModulus<T>, g: T, table: &mut [F])
     requires below { T.number g < T.number m.now.modulus }
     requires suits { Suits (T.number m.now.modulus) (T.number g) (2 * length table.old) }
@@ -23,6 +23,8 @@ pub fn plan<T: PlainWord, F: PlanEntry<T>>(m: &PlannedModulus<T>, g: T, table: &
         table.new }
     ensures plan { (z : ℕ) → 2 ^ z ≡ 2 * length table.old →
         IsPlan (T.number m.now.modulus) (T.number g) z (length table.old) (numbers F.value table.new) }
+    ensures first { let modulus = T.number m.now.modulus in (y d : ℕ) → 2 ^ (y + d) ≡ 2 * length table.old →
+        IsPlan modulus (T.number g ^ (2 ^ d) % modulus) y (2 ^ y / 2) (numbers F.value table.new) }
 {
     table[0] = F::entry(m.factor(m.residue(T::one())));
     let bits = table.len().trailing_zeros();

@@ -11,6 +11,7 @@ use Rattle.modular_plan.proofs.Tables.{half_power}
 use Rattle.modular_plan.proofs.Doublings.{IsMade, made_now, made_before, same_factor, one_more, one_lower}
 use Rattle.modular_plan.proofs.Doublings.{first_power, half_place, two_within, twice_place, root_itself, square_next}
 use Rattle.modular_plan.proofs.Doublings.{product_of_two, planned}
+use Rattle.modular_plan.proofs.Shorter.{first_entries}
 use Rattle.modular_plan.proofs.plan.plan.Goals as goal
 
 pub squares-init : goal.squares-init
@@ -223,3 +224,18 @@ returns-clause-plan g c =
     λ z is. planned g.F.PlanEntry.value g.F.PlanEntry.quotient g.T.PathWord.base (n c.args.m.now.modulus) (n c.args.g)
     (length c.args.table.now) bits z c.doublings.table c.requires.suits is (omega (arith, whole, len))
     (λ k l. last.first k (omega (arith, whole, count, e, len)))
+
+pub returns-clause-first : goal.returns-clause-first
+returns-clause-first g c =
+    let n = g.T.RingWord.number in
+    let last = c.doublings.invariant in
+    let whole = last.whole in
+    let count = last.count in
+    let bits = trailing_zeros w64 (length (set c.args.table.now 0 c.entry.result)) in
+    let all : c.doublings._bit ≡ bits = omega arith in
+    let e = ap (λ v. 2 ^ v) all in
+    let len = length-set c.args.table.now 0 c.entry.result in
+    λ y d is. first_entries y d
+    (planned g.F.PlanEntry.value g.F.PlanEntry.quotient g.T.PathWord.base (n c.args.m.now.modulus) (n c.args.g)
+    (length c.args.table.now) bits (y + d) c.doublings.table c.requires.suits is (omega (arith, whole, len))
+    (λ k l. last.first k (omega (arith, whole, count, e, len))))
