@@ -43,7 +43,7 @@ impl<const P: u8, const K: u32> FoldRing<u32, Mersenne32<P, K>> {
         requires { IsMersenneRange 32 P K }
         ensures { result ≡ v % mersenne P K }
     {
-        reduce_word(v, P as u32, K, Self::fixed_modulus())
+        Self::reduce_counted(v as u64).0
     }
 
     /// The residue of a double word. Condition: the parameters are in range.
@@ -81,7 +81,7 @@ impl<const P: u8, const K: u32> FoldModulus<u32> for Mersenne32<P, K> {
     }
 
     fn reduced(&self, n: u32) -> u32 {
-        FixedMersenne32::<P, K>::reduce_single(n)
+        reduce_word(n, P as u32, K, self.modulus())
     }
 
     fn product(&self, a: u32, b: u32) -> u32 {
@@ -124,7 +124,7 @@ impl<const P: u8, const K: u64> FoldRing<u64, Mersenne64<P, K>> {
         requires { IsMersenneRange 64 P K }
         ensures { result ≡ v % mersenne P K }
     {
-        reduce_word(v, P as u32, K, Self::fixed_modulus())
+        Self::reduce_counted(v as u128).0
     }
 
     /// The residue of a double word. Condition: the parameters are in range.
@@ -162,7 +162,7 @@ impl<const P: u8, const K: u64> FoldModulus<u64> for Mersenne64<P, K> {
     }
 
     fn reduced(&self, n: u64) -> u64 {
-        FixedMersenne64::<P, K>::reduce_single(n)
+        reduce_word(n, P as u32, K, self.modulus())
     }
 
     fn product(&self, a: u64, b: u64) -> u64 {

@@ -207,11 +207,7 @@ impl<T: TrinomialWord, F: Trinomial> FoldRing<T, TrinomialModulus<T, F>> {
         requires { IsTrinomialRange T.width F.p1 F.p2 F.k }
         ensures { T.number result ≡ T.number v % trinomial F.p1 F.p2 F.k }
     {
-        if is_low(F::p1(), F::p2(), F::k()) {
-            Self::remainder(T::merge(v, T::zero()))
-        } else {
-            reduce_word(v, F::p1() as u32, Self::factor(), Self::fixed_modulus())
-        }
+        Self::reduce_counted(T::merge(v, T::zero())).0
     }
 
     /// The residue of a double word. Condition: the parameters are in range.
@@ -266,7 +262,16 @@ impl<T: TrinomialWord, F: Trinomial> FoldModulus<T> for TrinomialModulus<T, F> {
     }
 
     fn reduced(&self, n: T) -> T {
-        TrinomialSolinas::<T, F>::reduce_single(n)
+        if is_low(F::p1(), F::p2(), F::k()) {
+            TrinomialSolinas::<T, F>::reduce_single(n)
+        } else {
+            reduce_word(
+                n,
+                F::p1() as u32,
+                TrinomialSolinas::<T, F>::factor(),
+                self.modulus(),
+            )
+        }
     }
 
     fn product(&self, a: T, b: T) -> T {
