@@ -1,6 +1,6 @@
 //! The reducers of the moduli 2^P - K.
 
-ghost use Rattle.std.specs.Prelude.{◌≡◌, ℕ, ◌%◌, ◌<◌};
+ghost use Rattle.std.specs.Prelude.{◌≡◌, ℕ, ◌*◌, ◌%◌, ◌<◌};
 ghost use Rattle.modular_reduced.specs.Plain.{plain_form, plain_value};
 ghost use Rattle.modular_fold_paths.specs.Folds.{folds, IsFewFolds};
 ghost use Rattle.modular_folds.specs.Mersenne.{IsMersenneRange, IsMersenne, mersenne};
@@ -175,10 +175,11 @@ impl<const P: u8, const K: u64> FoldModulus<u64> for Mersenne64<P, K> {
 }
 
 /// The reducer of the modulus 2^P - K of at most 64 bits over words of 128 bits: the form of a value
-/// is the value itself, so the product of two forms is one word.
+/// is the value itself.
 ///
 /// The parameters are in range where P is 64 at most and K is odd and less than half of 2^P. Forms are
-/// below 2^64, so all but the reduction of words is computed by `FixedMersenne64`.
+/// below 2^64, so a product of two of them fits a word and is reduced as a word; sums, differences and
+/// inverses are computed by `FixedMersenne64`.
 #[derive(Debug, Clone, Copy)]
 pub struct FixedMersenne<const P: u8, const K: u64> {
     ring: FixedMersenne64<P, K>,
@@ -211,6 +212,16 @@ impl<const P: u8, const K: u64> FixedMersenne<P, K> {
     {
         let (rest, count) = FixedMersenne64::<P, K>::reduce_counted(v);
         (rest as u128, count)
+    }
+
+    // The residue of a product of two forms, which fits a word.
+    fn product(a: u128, b: u128) -> u128
+        requires range { IsMersenneRange 64 P K }
+        requires left { a < mersenne P K }
+        requires right { b < mersenne P K }
+        ensures { result ≡ (a * b) % mersenne P K }
+    {
+        Self::reduce_single(a * b)
     }
 
     // A form as a word of 64 bits.
@@ -280,7 +291,7 @@ impl<const P: u8, const K: u64> Reducer<u128> for FixedMersenne<P, K> {
     }
 
     fn mul(&self, a: &u128, b: &u128) -> u128 {
-        self.ring.mul(&Self::narrow(*a), &Self::narrow(*b)) as u128
+        Self::product(*a, *b)
     }
 
     fn inv(&self, f: u128) -> Option<u128> {
@@ -291,6 +302,6 @@ impl<const P: u8, const K: u64> Reducer<u128> for FixedMersenne<P, K> {
     }
 
     fn sqr(&self, f: u128) -> u128 {
-        self.ring.sqr(Self::narrow(f)) as u128
+        Self::product(f, f)
     }
 }
