@@ -1,13 +1,14 @@
 //! Laws in the shape that calls and loops leave, as contracts of calls that do nothing. A caller calls
 //! the function and cites its clauses.
 
-ghost use Rattle.std.specs.Prelude.{◌≡◌, ◌≢◌, ℕ, ◌+◌, ◌-◌, ◌*◌, ◌/◌, ◌%◌, ◌^◌, ◌<◌};
+ghost use Rattle.std.specs.Prelude.{◌≡◌, ◌≢◌, ℕ, suc, ◌+◌, ◌-◌, ◌*◌, ◌/◌, ◌%◌, ◌^◌, ◌<◌};
 ghost use Rattle.std.specs.Prelude.{◌≤◌, ◌↔◌, pos, ◌-ℤ◌, List, length, slice_index};
 ghost use Rattle.modular_word.specs.Inverses.{IsInverse, HasInverse};
 ghost use Rattle.modular_word.specs.Residues.{residue};
-ghost use Rattle.modular_word.specs.Sums.{sum_below};
+ghost use Rattle.modular_word.specs.Sums.{sum_below, polynomial};
 ghost use Rattle.modular_symbols.specs.Primes.{IsPrime};
 ghost use Rattle.modular_transform.specs.Transforms.{cyclic_product};
+ghost use Rattle.modular_laws.specs.Polynomials.{ascending_polynomial, polynomial_at, HaveUnitDifferences};
 ghost use Rattle.modular_laws.specs.Products.{product_below};
 
 /// A quotient, by `inv` and `mul`, times its divisor is the dividend; a difference and what was taken
@@ -93,4 +94,35 @@ pub fn coefficient_laws()
         ((i : ℕ) → slice_index xs i ≤ s) → ((j : ℕ) → slice_index ys j ≤ t) → s < m → t < m → n * (s * t) < m →
         length xs + length ys ≤ n + 1 → e < n →
         cyclic_product m n x y e ≡ sum_below (e + 1) (λ i. slice_index xs i * slice_index ys (e - i)) }
+{}
+
+/// A polynomial by its coefficients, the constant first: Horner's rule. Modulo m, which may be composite,
+/// one with at most n coefficients that is 0 at n numbers whose differences all have inverses has
+/// coefficients of 0 alone. So two of them with equal values there have equal coefficients, as lists, as
+/// functions, and with the highest coefficient first. Modulo a prime the differences of numbers that are
+/// distinct have inverses.
+///
+/// Source: Knuth, The Art of Computer Programming, volume 2, section 4.6.4 (Newton's form).
+pub fn polynomial_laws()
+    ensures none { (c : ℕ → ℕ) (x : ℕ) → ascending_polynomial 0 c x ≡ 0 }
+    ensures first { (n : ℕ) (c : ℕ → ℕ) (x : ℕ) →
+        ascending_polynomial (suc n) c x ≡ c 0 + x * ascending_polynomial n (λ i. c (suc i)) x }
+    ensures zero { (m : ℕ) (cs points : List ℕ) →
+        HaveUnitDifferences m (length points) (λ i. slice_index points i) → length cs ≤ length points →
+        ((i : ℕ) → i < length points → polynomial_at cs (slice_index points i) % m ≡ 0) →
+        (i : ℕ) → i < length cs → slice_index cs i % m ≡ 0 }
+    ensures lists { (m : ℕ) (cs ds points : List ℕ) →
+        HaveUnitDifferences m (length points) (λ i. slice_index points i) →
+        length cs ≤ length points → length ds ≤ length points →
+        ((i : ℕ) → i < length points →
+        polynomial_at cs (slice_index points i) % m ≡ polynomial_at ds (slice_index points i) % m) →
+        (i : ℕ) → i < length points → slice_index cs i % m ≡ slice_index ds i % m }
+    ensures values { (m n : ℕ) (c d x : ℕ → ℕ) → HaveUnitDifferences m n x →
+        ((i : ℕ) → i < n → ascending_polynomial n c (x i) % m ≡ ascending_polynomial n d (x i) % m) →
+        (i : ℕ) → i < n → c i % m ≡ d i % m }
+    ensures descending { (m n : ℕ) (c d x : ℕ → ℕ) → HaveUnitDifferences m n x →
+        ((i : ℕ) → i < n → polynomial n c (x i) % m ≡ polynomial n d (x i) % m) →
+        (i : ℕ) → i < n → c i % m ≡ d i % m }
+    ensures prime { (p n : ℕ) (x : ℕ → ℕ) → IsPrime p →
+        ((i j : ℕ) → i < n → j < n → i ≢ j → x i % p ≢ x j % p) → HaveUnitDifferences p n x }
 {}

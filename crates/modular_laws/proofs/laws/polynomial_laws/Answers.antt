@@ -1,0 +1,14 @@
+use Rattle.modular_laws.specs.PolynomialLaws.{ascending-none, ascending-first}
+use Rattle.modular_laws.proofs.Interpolation.{zero_list, same_lists, same_coefficients, same_descending, distinct_units}
+use Rattle.modular_laws.proofs.laws.polynomial_laws.Goals as goal
+
+pub returns : goal.returns
+returns c = record {
+  none = ascending-none;
+  first = ascending-first;
+  zero = zero_list;
+  lists = same_lists;
+  values = λ m n c d x apart same i l. (same_coefficients m n c d x apart (λ i l. record { same = same i l }) i l).same;
+  descending = same_descending;
+  prime = distinct_units;
+}
