@@ -46,6 +46,7 @@ impl<T: PlainWord> PreMulInv2by1<T> {
         requires { 1 ≤ T.number m }
         ensures { ⟦<PreMulInv2by1<T> as Reducer<T>>⟧.modulus result ≡ T.number m }
     {
+        prove!(!m.is_zero_word());
         let shift = m.leading_zeros();
         PreMulInv2by1 {
             divider: Normalized2by1Divisor::new(m.shift_left(shift)),

@@ -52,6 +52,7 @@ impl<T: PlainWord> Montgomery<T> {
         requires { 1 ≤ T.number m }
         ensures { ⟦<Montgomery<T> as Reducer<T>>⟧.modulus result ≡ T.number m }
     {
+        prove!(!m.is_zero_word());
         let twos = m.trailing_zeros();
         Montgomery {
             odd: OddRing::new(&m.shift_right(twos)),

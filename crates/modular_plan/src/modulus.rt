@@ -90,6 +90,7 @@ impl<T: PlainWord> PlannedModulus<T> {
         requires room { 4 * T.number m ≤ T.base }
         ensures { T.number result.modulus ≡ T.number m }
     {
+        prove!(Self::admits(m));
         let shift = m.leading_zeros();
         let reciprocal = invert_word(m.shift_left(shift));
         PlannedModulus {
@@ -106,6 +107,7 @@ impl<T: PlainWord> PlannedModulus<T> {
         ensures factor { IsFactor T.base (T.number self.now.modulus)
             (T.number result.value) (T.number result.quotient) }
     {
+        prove!(w.is_below(self.modulus));
         let divisor = self.modulus.shift_left(self.shift);
         let scaled = w.shift_left(self.shift);
         let (quotient, _) = div_2by1(divisor, self.reciprocal, T::merge(T::zero(), scaled));
