@@ -8,8 +8,8 @@ use modular_prim::exact::{DivExact, DivExactAssign, assign_exact};
 use modular_word::path_word::PathWord;
 use modular_word::ring_word::RingWord;
 
-/// The quotient by d; `None` exactly where d doesn't divide n. Condition: the multiplier and the
-/// shift fit d.
+/// The quotient by d; `None` exactly where d doesn't divide n. Condition: the divider is that of
+/// the divisor d.
 pub fn exact_quotient<T: PathWord>(n: T, d: T, divider: &PreMulInv1by1<T>) -> Option<T>
     requires { ⟦<PreMulInv1by1<T> as FitsDivisor>⟧.fits divider.now (T.number d) }
     ensures { IsExactQuotient T.number (T.number n) (T.number d) result }

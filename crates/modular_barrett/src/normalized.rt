@@ -65,7 +65,7 @@ impl<T: PathWord> Normalized2by1Divisor<T> {
         }
     }
 
-    /// Quotient and remainder of a double word. Condition: its high word is below the divisor.
+    /// Quotient and remainder of a double word. Condition: the dividend's high word is below the divisor.
     pub fn div_rem_2by1(&self, a: T::Double) -> (T, T)
         requires { T.double_number a < ⟦<Normalized2by1Divisor<T> as StoredDivisor>⟧.divisor self.now * T.base }
         ensures { let d = ⟦<Normalized2by1Divisor<T> as StoredDivisor>⟧.divisor self.now in

@@ -40,7 +40,7 @@ impl<T: PathWord> FitsDivisor for PreMulInv1by1<T> {
 }
 
 impl<T: PathWord> PreMulInv1by1<T> {
-    /// Quotient and remainder of a word. Condition: the multiplier and the shift fit the divisor.
+    /// Quotient and remainder of a word. Condition: the divider is that of the divisor d.
     ///
     /// Source: Granlund and Montgomery, "Division by invariant integers using multiplication", figure
     /// 4.1.

@@ -41,7 +41,7 @@ impl<T: PlainWord> Clone for PreMulInv2by1<T> {
 impl<T: PlainWord> Copy for PreMulInv2by1<T> {}
 
 impl<T: PlainWord> PreMulInv2by1<T> {
-    /// The reducer of a modulus. Condition: it is at least 1.
+    /// The reducer of a modulus. Condition: the modulus is at least 1.
     pub fn new(m: T) -> Self
         requires { 1 ≤ T.number m }
         ensures { ⟦<PreMulInv2by1<T> as Reducer<T>>⟧.modulus result ≡ T.number m }

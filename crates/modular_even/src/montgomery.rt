@@ -47,7 +47,7 @@ impl<T: PlainWord> Clone for Montgomery<T> {
 impl<T: PlainWord> Copy for Montgomery<T> {}
 
 impl<T: PlainWord> Montgomery<T> {
-    /// The reducer of m. Condition: m is at least 1.
+    /// The reducer of a modulus m. Condition: the modulus is at least 1.
     pub fn new(m: T) -> Self
         requires { 1 ≤ T.number m }
         ensures { ⟦<Montgomery<T> as Reducer<T>>⟧.modulus result ≡ T.number m }

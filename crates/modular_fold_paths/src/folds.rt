@@ -83,7 +83,7 @@ fn fold_on<V: FoldWord>(v: V, p: u32, mask: V, c: V, m: V) -> (V, u32)
 
 /// A number below 2^p that leaves what v leaves modulo m: v after as many folds as it takes, and their
 /// number. Where c is small and v is no more than a product of two numbers below 2^p, these are in a
-/// straight line.
+/// straight line. Condition: m is 2^p - c and more than half of 2^p, and p is at most the width of the words.
 pub fn fold_all<V: FoldWord>(v: V, p: u32, c: V, m: V) -> (V, u32)
     requires { IsFolding V.width p (V.number c) (V.number m) }
     ensures below { V.number result.0 < 2 ^ p }
@@ -145,8 +145,8 @@ pub(crate) fn sum_once<T: PathWord>(a: T, b: T, m: T) -> T
     }
 }
 
-/// v modulo m, where m is 2^p - c and more than half of 2^p: as many folds as it takes, and one
-/// subtraction of words at most; and the number of the folds.
+/// v modulo m: as many folds as it takes, and one subtraction of words at most; and the number of the folds.
+/// Condition: m is 2^p - c and more than half of 2^p, and p is at most the width of the words.
 ///
 /// A fold takes the part of v above the bit p times c in place of times 2^p, which leaves the same
 /// modulo m. p may be the width of a word.

@@ -61,7 +61,8 @@ fn product_by_folds<T: PathWord>(a: T, b: T, p: u32, c: T, m: T) -> T
     sum_of_parts(rest.shift_right(T::bits() - p), over.times(c), p, m)
 }
 
-/// a·b modulo m, where m is 2^p - c and more than half of 2^p. Condition: a and b are below m.
+/// a·b modulo m. Conditions: m is 2^p - c and more than half of 2^p, and p is at most the width of the words; a and b
+/// are below m.
 ///
 /// Where c is small the product is folded by its parts, and no number is tested: c and p alone choose.
 ///
@@ -113,7 +114,7 @@ fn fold_word<T: PathWord>(v: T, p: u32, c: T) -> T
     }
 }
 
-/// v modulo m, where m is 2^p - c and more than half of 2^p.
+/// v modulo m. Condition: m is 2^p - c and more than half of 2^p, and p is at most the width of the words.
 ///
 /// Where one fold is known to leave less than 2m no double word is folded and no number is tested: c and
 /// p alone choose.

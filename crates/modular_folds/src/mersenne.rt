@@ -71,6 +71,7 @@ impl<const P: u8, const K: u32> FoldModulus<u32> for Mersenne32<P, K> {
 
     ghost modulus = { λ m. mersenne P K };
 
+    // Condition: the modulus is that of the parameters.
     fn keep(m: u32) -> Self {
         prove!(m == FixedMersenne32::<P, K>::fixed_modulus());
         Mersenne32 { made: () }
@@ -152,6 +153,7 @@ impl<const P: u8, const K: u64> FoldModulus<u64> for Mersenne64<P, K> {
 
     ghost modulus = { λ m. mersenne P K };
 
+    // Condition: the modulus is that of the parameters.
     fn keep(m: u64) -> Self {
         prove!(m == FixedMersenne64::<P, K>::fixed_modulus());
         Mersenne64 { made: () }
@@ -247,6 +249,7 @@ impl<const P: u8, const K: u64> Reducer<u128> for FixedMersenne<P, K> {
 
     ghost canonical = { λ r. mersenne_canonical 128 (lit≤ tt) r.ring.kept.range };
 
+    // Condition: the modulus is that of the parameters.
     fn new(m: &u128) -> Self {
         prove!(*m == Self::fixed_modulus());
         FixedMersenne {

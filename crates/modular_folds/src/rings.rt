@@ -21,7 +21,7 @@ pub trait FoldModulus<T: FoldedWord>: Copy {
 
     ghost modulus: { Self → ℕ };
 
-    /// The modulus of the parameters. Condition: it is m, and the parameters are in range.
+    /// The modulus of the parameters. Condition: the modulus is that of the parameters, and these are in range.
     fn keep(m: T) -> Self
         requires { taken (T.number m) }
         ensures { modulus result ≡ T.number m };

@@ -249,6 +249,7 @@ impl<T: TrinomialWord, F: Trinomial> FoldModulus<T> for TrinomialModulus<T, F> {
 
     ghost modulus = { λ m. trinomial F.p1 F.p2 F.k };
 
+    // Condition: the modulus is that of the parameters.
     fn keep(m: T) -> Self {
         prove!(m == TrinomialSolinas::<T, F>::fixed_modulus());
         TrinomialModulus {

@@ -43,7 +43,7 @@ impl<const P: u32> OddNumber32<P> {
 pub type FixedMontgomery32<const P: u32> = OddRing<u32, OddNumber32<P>>;
 
 impl<const P: u32> OddRing<u32, OddNumber32<P>> {
-    /// The modulus P. Condition: P is odd.
+    /// The modulus P. Condition: the parameter P is odd.
     pub fn fixed_modulus() -> u32
         requires { P % 2 ≡ 1 }
         ensures { result ≡ P }
@@ -62,6 +62,7 @@ impl<const P: u32> OddModulus<u32> for OddNumber32<P> {
 
     ghost square = { λ _. (2 ^ 32 * 2 ^ 32) % P };
 
+    // Condition: the modulus is that of the parameters.
     fn keep(m: u32) -> Self {
         prove!(m == FixedMontgomery32::<P>::fixed_modulus());
         OddNumber32 { made: () }
@@ -117,7 +118,7 @@ impl<const P: u64> OddNumber64<P> {
 pub type FixedMontgomery64<const P: u64> = OddRing<u64, OddNumber64<P>>;
 
 impl<const P: u64> OddRing<u64, OddNumber64<P>> {
-    /// The modulus P. Condition: P is odd.
+    /// The modulus P. Condition: the parameter P is odd.
     pub fn fixed_modulus() -> u64
         requires { P % 2 ≡ 1 }
         ensures { result ≡ P }
@@ -136,6 +137,7 @@ impl<const P: u64> OddModulus<u64> for OddNumber64<P> {
 
     ghost square = { λ _. (2 ^ 64 * 2 ^ 64) % P };
 
+    // Condition: the modulus is that of the parameters.
     fn keep(m: u64) -> Self {
         prove!(m == FixedMontgomery64::<P>::fixed_modulus());
         OddNumber64 { made: () }

@@ -30,7 +30,7 @@ pub trait OddModulus<T: PlainWord>: Copy {
 
     ghost square: { Self → ℕ };
 
-    /// What is kept of m. Condition: m is taken.
+    /// What is kept of m. Condition: the type takes the modulus.
     fn keep(m: T) -> Self
         requires { taken (T.number m) }
         ensures { modulus result ≡ T.number m };

@@ -57,7 +57,7 @@ impl<T: PathWord> PreModInv<T> {
 }
 
 impl<T: PlainWord> PreModInv<T> {
-    /// What fits the divisor d. Condition: d is odd.
+    /// What fits the divisor d. Condition: the divisor is odd.
     pub fn from(d: T) -> Self
         requires { T.number d % 2 ≡ 1 }
         ensures { ⟦<PreModInv<T> as PreparedInverse>⟧.fits result (T.number d) }
@@ -69,7 +69,8 @@ impl<T: PlainWord> PreModInv<T> {
     }
 }
 
-// The quotient of a word; `None` exactly where d doesn't divide it.
+// The quotient of a word; `None` exactly where d doesn't divide it. Condition: the stored inverse is that
+// of the divisor.
 fn word_quotient<T: PathWord>(n: T, d: T, pre: &PreModInv<T>) -> Option<T>
     requires { ⟦<PreModInv<T> as PreparedInverse>⟧.fits pre.now (T.number d) }
     ensures { IsExactQuotient T.number (T.number n) (T.number d) result }
@@ -78,7 +79,8 @@ fn word_quotient<T: PathWord>(n: T, d: T, pre: &PreModInv<T>) -> Option<T>
     exact_1(d, pre.d_inv, pre.q_lim, n)
 }
 
-// The quotient of a double word; `None` exactly where d doesn't divide it.
+// The quotient of a double word; `None` exactly where d doesn't divide it. Condition: the stored inverse is that
+// of the divisor.
 fn double_quotient<T: PathWord>(n: T::Double, d: T, pre: &PreModInv<T>) -> Option<T::Double>
     requires { ⟦<PreModInv<T> as PreparedInverse>⟧.fits pre.now (T.number d) }
     ensures { IsExactQuotient T.double_number (T.double_number n) (T.number d) result }

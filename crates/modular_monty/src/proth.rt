@@ -46,7 +46,7 @@ impl<const N: u8, const K: u8> ProthNumber32<N, K> {
         }
     };
 
-    // The modulus.
+    // The modulus. Condition: the parameters are in range.
     fn value() -> u32
         requires { IsProthRange 32 greatest_proth_32 N K }
         ensures { result ≡ proth_modulus N K }
@@ -101,6 +101,7 @@ impl<const N: u8, const K: u8> OddModulus<u32> for ProthNumber32<N, K> {
 
     ghost square = { λ _. (2 ^ 32 * 2 ^ 32) % proth_modulus N K };
 
+    // Condition: the modulus is that of the parameters.
     fn keep(m: u32) -> Self {
         prove!(m == Self::value());
         ProthNumber32 { made: () }
@@ -159,7 +160,7 @@ impl<const N: u8, const K: u8> ProthNumber64<N, K> {
         }
     };
 
-    // The modulus.
+    // The modulus. Condition: the parameters are in range.
     fn value() -> u64
         requires { IsProthRange 64 greatest_proth_64 N K }
         ensures { result ≡ proth_modulus N K }
@@ -214,6 +215,7 @@ impl<const N: u8, const K: u8> OddModulus<u64> for ProthNumber64<N, K> {
 
     ghost square = { λ _. (2 ^ 64 * 2 ^ 64) % proth_modulus N K };
 
+    // Condition: the modulus is that of the parameters.
     fn keep(m: u64) -> Self {
         prove!(m == Self::value());
         ProthNumber64 { made: () }

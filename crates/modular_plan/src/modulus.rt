@@ -84,7 +84,8 @@ impl<T: PlainWord> PlannedModulus<T> {
         }
     }
 
-    /// The modulus with its reciprocal. Condition: plans admit it (`admits` tells).
+    /// The modulus with its reciprocal. Condition: the modulus is at least 1 and at most a fourth of the
+    /// number of words (`admits` tells).
     pub fn new(m: T) -> Self
         requires some { 1 ≤ T.number m }
         requires room { 4 * T.number m ≤ T.base }
@@ -147,7 +148,8 @@ impl<T: PlainWord> PlannedModulus<T> {
         reduced_once(self.times(x, w), self.modulus)
     }
 
-    /// The residue of the product of a word below m with any word. It divides by the reciprocal.
+    /// The residue of the product of a word x with any word. Condition: x is below m. It divides by the
+    /// reciprocal.
     pub fn multiply(&self, x: T, y: T) -> T
         requires { T.number x < T.number self.now.modulus }
         ensures { T.number result ≡ (T.number x * T.number y) % T.number self.now.modulus }

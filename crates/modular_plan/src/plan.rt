@@ -14,8 +14,8 @@ use modular_word::ring_word::RingWord;
 /// Fills the table with the plan by g for transforms of n entries, n being twice its length: entry k
 /// becomes the factor of g to the power of the reversed bits of k.
 ///
-/// The first entries are a plan for fewer entries, by the power of g that suits them. Conditions: g is
-/// below m and suits n.
+/// Conditions: g is below m; g suits n entries, n being a power of two. The first entries of a plan are
+/// a plan for fewer entries, by the power of g that suits them.
 pub fn plan<T: PlainWord, F: PlanEntry<T>>(m: &PlannedModulus<T>, g: T, table: &mut [F])
     requires below { T.number g < T.number m.now.modulus }
     requires suits { Suits (T.number m.now.modulus) (T.number g) (2 * length table.old) }

@@ -309,8 +309,8 @@ pub fn split_loosely<T: PlainWord, F: PlanEntry<T>>(
 ///
 /// So b = 0 and last = 1 give the transform by g, in bit-reversed order; b = 1 starts from a
 /// polynomial modulo X^n + 1. The table is the plan by g; any plan that is long enough serves.
-/// Conditions: the entries are below 4m; their number is `last` times a power of two; the table's
-/// entries are factors modulo m, and there are at least (b + 1)·(count/2) of them (`splits` tells).
+/// Conditions: the entries are below 4m; the number of entries is `last` times a power of two, and the table has
+/// at least (b + 1)·(count/2) entries (`splits` tells); the table's entries are factors modulo m.
 ///
 /// Source: the sums and differences are those of Cooley and Tukey, with one factor a block, as
 /// Bernstein ("Multidigit multiplication for mathematicians", section 2) has them. A pass over the list

@@ -14,7 +14,7 @@ use modular_word::path_word::PathWord;
 use modular_word::ring_word::RingWord;
 
 /// A modulus m by which pairs and fours of entries are split. Between two passes the entries stay below a bound,
-/// a multiple of m.
+/// a multiple of m. Condition of each call: entries x, y, z and t are below the bound, and factors are factors modulo m.
 pub trait SplitSteps<T: PlainWord>: Copy {
     ghost modulus: { Self → ℕ };
 

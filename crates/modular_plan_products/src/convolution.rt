@@ -122,9 +122,10 @@ pub fn convolves(length: usize, factors: usize, b: usize, last: usize) -> bool
 /// `split` has them, c being the power of g by the reversed bits of b and n the length of the lists;
 /// false, with both lists unchanged, exactly where the number n/last of blocks has no inverse modulo m.
 ///
-/// So b = 0 gives the cyclic product, and b = 1 that modulo X^n + 1. Conditions: those of `split`, for
-/// both lists; they have one length; `last` is 1 or 2; the table's entries are factors modulo m, and
-/// there are (b + 1)·n/last/2 of them or more (`convolves` tells). It takes no memory.
+/// So b = 0 gives the cyclic product, and b = 1 that modulo X^n + 1. Conditions: the lists
+/// have one length; `last` is 1 or 2, the length is `last` times a power of two, and the table has
+/// (b + 1)·n/last/2 entries or more (`convolves` tells); the entries are below 4m; the table's entries
+/// are factors modulo m. It takes no memory.
 ///
 /// Source: Bernstein, "Multidigit multiplication for mathematicians", section 2: both lists are split,
 /// the remainders multiplied, and the products joined.

@@ -623,8 +623,9 @@ fn join_scaled_by<T: PlainWord, F: PlanEntry<T>, M: JoinSteps<T>>(
 /// `split`: where the entries are the remainders of a polynomial modulo X^last - c, as `split` has
 /// them, entry i becomes its coefficient x_i times the number of blocks, modulo m.
 ///
-/// The table is the plan by g that they were split by, or a longer one. Conditions: those of `split`
-/// (`splits` tells); the entries are below 4m.
+/// The table is the plan by g that they were split by, or a longer one. Conditions: the entries are below 4m; the
+/// number of entries is `last` times a power of two, and the table has (b + 1)·count/2 entries or more (`splits`
+/// tells); the table's entries are factors modulo m.
 ///
 /// Source: each step undoes one of `split` but for the factor 2 (Gentleman and Sande, "Fast Fourier
 /// transforms: for fun and profit", section 2). A pass over the list does two stages where two are left.
@@ -655,8 +656,9 @@ pub fn join<T: PlainWord, F: PlanEntry<T>>(
 }
 
 /// Joins the blocks as `join` does, each coefficient times a factor: by the inverse modulo m of the
-/// number of blocks they are the coefficients themselves. Conditions: those of `join`; w is a factor
-/// modulo m.
+/// number of blocks they are the coefficients themselves. Conditions: the entries
+/// are below 4m; the number of entries is `last` times a power of two, and the table has (b + 1)·count/2 entries or
+/// more (`splits` tells); the table's entries are factors modulo m; w is a factor modulo m.
 pub fn join_scaled<T: PlainWord, F: PlanEntry<T>>(
     m: &PlannedModulus<T>,
     xs: &mut [T],

@@ -15,7 +15,8 @@ use modular_word::path_word::PathWord;
 use modular_word::ring_word::RingWord;
 
 /// A modulus with the steps of a join: pairs and fours of numbers below a bound become such numbers again, so that
-/// lists are joined pass after pass.
+/// lists are joined pass after pass. Condition of each call: numbers x, y, z and t are below the bound, and factors are
+/// factors modulo m.
 pub trait JoinSteps<T: PlainWord> {
     ghost modulus: { Self → ℕ };
 
@@ -32,7 +33,7 @@ pub trait JoinSteps<T: PlainWord> {
     fn is_beyond(&self, x: T) -> bool
         ensures { IsTrue result → 4 * modulus self.now ≤ T.number x };
 
-    /// A word below 4m, brought below the bound.
+    /// A word brought below the bound. Condition: it is below 4m.
     fn taken(&self, x: T) -> T
         requires { T.number x < 4 * modulus self.now }
         ensures below { T.number result < bound self.now }
@@ -82,7 +83,7 @@ pub trait JoinSteps<T: PlainWord> {
             (T.number z * T.number s.now.value) (T.number t * T.number s.now.value)
             (T.number result.0) (T.number result.1) (T.number result.2) (T.number result.3) };
 
-    /// The residue of any word's product with a factor.
+    /// The residue of any word's product with a factor. Condition: this is one modulo m.
     fn product(&self, x: T, w: &Factor<T>) -> T
         requires { IsFactor T.base (modulus self.now) (T.number w.now.value) (T.number w.now.quotient) }
         ensures { T.number result ≡ (T.number x * T.number w.now.value) % modulus self.now };

@@ -54,7 +54,7 @@ impl ModularAbs<u128> for i128 {
     }
 }
 
-// The residue of a signed number of 128 bits, whose words have no double words.
+// The residue of a signed number of 128 bits, whose words have no double words. Condition: the modulus is at least 1.
 fn signed_residue_128(negative: bool, magnitude: u128, m: u128) -> u128
     requires { 1 ≤ m }
     ensures { result ≡ residue m (if negative then neg_ℤ (pos magnitude) else pos magnitude) }

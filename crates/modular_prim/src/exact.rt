@@ -57,7 +57,7 @@ pub fn assign_exact<N: DivExact<Rhs, Precompute, Output = N> + Copy, Rhs: Number
     }
 }
 
-/// The quotient by d; `None` exactly where d doesn't divide n. Condition: d is at least 1.
+/// The quotient by d; `None` exactly where d doesn't divide n. Condition: the divisor is at least 1.
 pub fn exact_quotient<T: PlainWord>(n: T, d: T) -> Option<T>
     requires { 1 ≤ T.number d }
     ensures { IsExactQuotient T.number (T.number n) (T.number d) result }

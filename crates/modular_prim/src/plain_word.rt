@@ -9,24 +9,24 @@ use modular_word::word::{w8, w16, w32, w64, wsize};
 
 /// A machine word with quotients and remainders.
 pub trait PlainWord: PathWord + Numbered {
-    /// The quotient of two words. Condition: d is at least 1.
+    /// The quotient of two words. Condition: the divisor is at least 1.
     fn quotient(self, d: Self) -> Self
         requires { 1 ≤ Self.number d }
         ensures { Self.number result ≡ Self.number self / Self.number d };
 
-    /// The remainder of two words. Condition: d is at least 1.
+    /// The remainder of two words. Condition: the modulus is at least 1.
     fn remainder(self, d: Self) -> Self
         requires { 1 ≤ Self.number d }
         ensures value { Self.number result ≡ Self.number self % Self.number d }
         ensures fits { Self.number self < Self.base };
 
-    /// The low word of the quotient of a double word by a word. Condition: d is at least 1.
+    /// The low word of the quotient of a double word by a word. Condition: the divisor is at least 1.
     fn low_quotient(double: Self::Double, d: Self) -> Self
         requires { 1 ≤ Self.number d }
         ensures value { Self.number result ≡ (Self.double_number double / Self.number d) % Self.base }
         ensures fits { Self.number d < Self.base };
 
-    /// The remainder of a double word by a word. Condition: d is at least 1.
+    /// The remainder of a double word by a word. Condition: the modulus is at least 1.
     fn narrow_remainder(double: Self::Double, d: Self) -> Self
         requires { 1 ≤ Self.number d }
         ensures value { Self.number result ≡ Self.double_number double % Self.number d }

@@ -9,7 +9,7 @@ ghost use Rattle.modular_reduced.specs.Forms.{Represents, IsForm};
 use crate::reducer::Reducer;
 use modular_word::ring_word::RingWord;
 
-/// Addition is commutative: a + b and b + a.
+/// Addition is commutative: a + b and b + a. Condition: a and b are checked forms.
 pub fn sums_commute<T: RingWord, R: Reducer<T>>(reducer: &R, a: T, b: T) -> (T, T)
     requires a { IsForm R.form R.value (R.modulus reducer.now) (T.number a) }
     requires b { IsForm R.form R.value (R.modulus reducer.now) (T.number b) }
@@ -22,7 +22,7 @@ pub fn sums_commute<T: RingWord, R: Reducer<T>>(reducer: &R, a: T, b: T) -> (T, 
     (reducer.add(&a, &b), reducer.add(&b, &a))
 }
 
-/// Addition is associative: (a + b) + c and a + (b + c).
+/// Addition is associative: (a + b) + c and a + (b + c). Condition: a, b and c are checked forms.
 pub fn sums_associate<T: RingWord, R: Reducer<T>>(reducer: &R, a: T, b: T, c: T) -> (T, T)
     requires a { IsForm R.form R.value (R.modulus reducer.now) (T.number a) }
     requires b { IsForm R.form R.value (R.modulus reducer.now) (T.number b) }
@@ -38,7 +38,7 @@ pub fn sums_associate<T: RingWord, R: Reducer<T>>(reducer: &R, a: T, b: T, c: T)
     (left, right)
 }
 
-/// Multiplication is commutative: a b and b a.
+/// Multiplication is commutative: a b and b a. Condition: a and b are checked forms.
 pub fn products_commute<T: RingWord, R: Reducer<T>>(reducer: &R, a: T, b: T) -> (T, T)
     requires a { IsForm R.form R.value (R.modulus reducer.now) (T.number a) }
     requires b { IsForm R.form R.value (R.modulus reducer.now) (T.number b) }
@@ -51,7 +51,7 @@ pub fn products_commute<T: RingWord, R: Reducer<T>>(reducer: &R, a: T, b: T) -> 
     (reducer.mul(&a, &b), reducer.mul(&b, &a))
 }
 
-/// Multiplication is associative: (a b) c and a (b c).
+/// Multiplication is associative: (a b) c and a (b c). Condition: a, b and c are checked forms.
 pub fn products_associate<T: RingWord, R: Reducer<T>>(reducer: &R, a: T, b: T, c: T) -> (T, T)
     requires a { IsForm R.form R.value (R.modulus reducer.now) (T.number a) }
     requires b { IsForm R.form R.value (R.modulus reducer.now) (T.number b) }
@@ -67,7 +67,7 @@ pub fn products_associate<T: RingWord, R: Reducer<T>>(reducer: &R, a: T, b: T, c
     (left, right)
 }
 
-/// Multiplication distributes over addition: a (b + c) and a b + a c.
+/// Multiplication distributes over addition: a (b + c) and a b + a c. Condition: a, b and c are checked forms.
 pub fn products_distribute<T: RingWord, R: Reducer<T>>(reducer: &R, a: T, b: T, c: T) -> (T, T)
     requires a { IsForm R.form R.value (R.modulus reducer.now) (T.number a) }
     requires b { IsForm R.form R.value (R.modulus reducer.now) (T.number b) }
@@ -84,7 +84,7 @@ pub fn products_distribute<T: RingWord, R: Reducer<T>>(reducer: &R, a: T, b: T, 
     (left, right)
 }
 
-/// The negative is the additive inverse: -a, and a + (-a), which is the form of 0.
+/// The negative is the additive inverse: -a, and a + (-a), which is the form of 0. Condition: a is a checked form.
 pub fn negative_cancels<T: RingWord, R: Reducer<T>>(reducer: &R, a: T) -> (T, T)
     requires { IsForm R.form R.value (R.modulus reducer.now) (T.number a) }
     ensures negative { let m = R.modulus reducer.now in
@@ -102,7 +102,7 @@ pub fn residue_by_form<T: RingWord, R: Reducer<T>>(reducer: &R, n: T) -> T
     reducer.residue(reducer.transform(n))
 }
 
-/// Whether the values of two checked forms are equal: exactly where the forms are one word.
+/// Whether the values of two forms are equal: exactly where the forms are one word. Condition: both are checked.
 pub fn same_value<T: RingWord, R: Reducer<T>>(reducer: &R, a: T, b: T) -> bool
     requires a { IsForm R.form R.value (R.modulus reducer.now) (T.number a) }
     requires b { IsForm R.form R.value (R.modulus reducer.now) (T.number b) }

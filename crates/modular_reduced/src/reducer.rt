@@ -11,7 +11,7 @@ use modular_word::ring_word::RingWord;
 /// A way to compute modulo m by forms: words that stand for the values from 0 to m - 1.
 ///
 /// A form is checked where `check` is true of it; each value has exactly one checked form, and each
-/// checked form one value. Every call but `check` and `transform` takes checked forms alone.
+/// checked form one value. Condition of every call but `check` and `transform`: the forms are checked.
 pub trait Reducer<T: RingWord> {
     // The moduli that `new` takes.
     ghost admits: { ℕ → Type 0 };
@@ -25,7 +25,7 @@ pub trait Reducer<T: RingWord> {
     // The modulus of a reducer.
     ghost modulus: { Self → ℕ };
 
-    /// The reducer of a modulus. Condition: it is admitted.
+    /// The reducer of a modulus. Condition: the reducer admits the modulus.
     fn new(m: &T) -> Self
         requires { admits (T.number m.now) }
         ensures { modulus result ≡ T.number m.now };

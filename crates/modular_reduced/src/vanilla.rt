@@ -46,6 +46,7 @@ impl<T: PlainWord> Reducer<T> for Vanilla<T> {
 
     ghost canonical = { λ r. plain_canonical T.width (T.number r.modulus) r.positive r.fits };
 
+    // Condition: the modulus is at least 1.
     fn new(m: &T) -> Self {
         let modulus = *m;
         // a word that was read is known to fit

@@ -11,7 +11,7 @@ use crate::operands::{IntegerValued, SymbolWord};
 
 /// The symbols of a number over n. A symbol is -1, 0 or 1.
 pub trait ModularSymbols<Modulus: IntegerValued>: IntegerValued {
-    /// The value inside `checked_legendre`. Condition: that is `Some`.
+    /// The value inside `checked_legendre`. Condition: `checked_legendre` is `Some`, as it is for each odd prime n.
     fn legendre(&self, n: Modulus) -> i8
         requires { IsSome (checked_legendre_of (Self.integer_value self.now) (Modulus.integer_value n)) }
         ensures { Some result ≡ checked_legendre_of (Self.integer_value self.now) (Modulus.integer_value n) }
@@ -32,7 +32,7 @@ pub trait ModularSymbols<Modulus: IntegerValued>: IntegerValued {
         ensures prime { IsOddPrime (Modulus.integer_value n)
             → result ≡ Some (jacobi (Self.integer_value self.now) (nat_abs (Modulus.integer_value n))) };
 
-    /// The value inside `checked_jacobi`. Condition: that is `Some`, so n is odd and above 0.
+    /// The value inside `checked_jacobi`. Condition: n is odd and above 0.
     fn jacobi(&self, n: Modulus) -> i8
         requires { IsSome (checked_jacobi_of (Self.integer_value self.now) (Modulus.integer_value n)) }
         ensures { Some result ≡ checked_jacobi_of (Self.integer_value self.now) (Modulus.integer_value n) }

@@ -8,7 +8,8 @@ const SIDE: usize = 8;
 
 const SIDE_BITS: u32 = 3;
 
-/// Puts each entry at the place with the bits in the opposite order.
+/// Puts each entry at the place with the bits in the opposite order. Conditions: there are 2^bits entries; `bits` is
+/// at most 64.
 pub fn reverse_places<T: Copy>(entries: &mut [T], bits: u32)
     requires few { bits ≤ 64 }
     requires whole { length entries.old ≡ 2 ^ bits }

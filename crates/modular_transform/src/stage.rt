@@ -31,6 +31,9 @@ fn pair<T: RingWord, R: Reducer<T>>(r: &R, forms: &mut [T], first: usize, second
 /// A stage with a root: in each block of `half` and `half` entries the pair of column i becomes its
 /// sum, and its difference times the power i of the root. Answers how many products that took.
 ///
+/// Conditions: the entries and the root are checked forms; there are as many entries as `blocks` blocks have, of which
+/// there is one or more.
+///
 /// The columns are taken in strips, so that what is read next lies beside what was read last.
 pub fn stage<T: RingWord, R: Reducer<T>>(
     r: &R,

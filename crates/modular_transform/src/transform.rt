@@ -12,7 +12,8 @@ use modular_reduced::reducer::Reducer;
 use modular_word::ring_word::RingWord;
 
 /// Whether g suits transforms of n entries: n is a power of two, and for n above 1 the value of g to
-/// the power n/2 is -1 modulo m. The power comes by squares, so n may be too large for the word.
+/// the power n/2 is -1 modulo m. Condition: g is a checked form. The power comes by squares, so n may be
+/// too large for the word.
 pub fn root_fits<T: RingWord, R: Reducer<T>>(r: &R, g: &T, n: usize) -> bool
     requires { IsForm R.form R.value (R.modulus r.now) (T.number g.now) }
     ensures { let m = R.modulus r.now in IsTrue result ↔ Suits m (R.value m (T.number g.now)) n }
@@ -32,6 +33,8 @@ pub fn root_fits<T: RingWord, R: Reducer<T>>(r: &R, g: &T, n: usize) -> bool
 }
 
 /// `ntt`, and how many products of the reducer it took: for n = 2^z that is n·z/2 + n - 1 + z.
+/// Conditions: the length is a power of two; g and the entries are checked forms; g suits the length
+/// (`root_fits` tells).
 ///
 /// The z stages have half blocks of n/2, n/4, .., 1 entries. A stage takes a product for each of its
 /// n/2 pairs, one for the running power in each column, and a square for the root of the next.
@@ -82,8 +85,8 @@ pub fn ntt_counted<T: RingWord, R: Reducer<T>>(r: &R, xs: &mut [T], g: &T) -> u1
 /// Puts the transform by g of the entries in their place: entry j becomes the form of the sum of
 /// x_i·g^(i·j) modulo m, x_i being the value of entry i.
 ///
-/// Conditions: g and the entries are checked forms, and g suits the length (`root_fits` tells). The
-/// modulus need not be prime. It takes no memory. The method is that of Cooley and Tukey in the order
+/// Conditions: the length is a power of two; g and the entries are checked forms; g suits the length
+/// (`root_fits` tells). The modulus need not be prime. It takes no memory. The method is that of Cooley and Tukey in the order
 /// of Gentleman and Sande ("Fast Fourier transforms: for fun and profit"), over residues (Pollard,
 /// "The fast Fourier transform in a finite field").
 pub fn ntt<T: RingWord, R: Reducer<T>>(r: &R, xs: &mut [T], g: &T)

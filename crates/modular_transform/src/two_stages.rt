@@ -46,6 +46,8 @@ fn four<T: RingWord, R: Reducer<T>>(
 
 /// Two stages, the first with a root and 2·step columns, the second with its square and `step` columns.
 /// `turned` is the power `step` of the root. Answers how many products that took.
+///
+/// Conditions: all forms are checked; `turned` is that power; there are 4·step·blocks entries, in one block or more.
 pub fn two_stages<T: RingWord, R: Reducer<T>>(
     r: &R,
     forms: &mut [T],

@@ -236,7 +236,7 @@ fn computed_form<T: RingWord, R: Reducer<T>>(
 
 /// Carries out the commands in order, up to the first whose inverse doesn't exist.
 ///
-/// Conditions: each register holds a checked form (`all_checked` tells), and each register number is
+/// Conditions: each register holds a checked form (`all_checked` tells); each register number is
 /// below the number of registers (`commands_fit` tells). The run stops exactly at the first `Inv`
 /// or `Div` whose operand (for `Div`: b) has no inverse modulo m; that command and all later ones
 /// write nothing, and earlier ones stand. Each register then holds the one checked form of its value

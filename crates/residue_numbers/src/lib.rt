@@ -69,7 +69,7 @@ fn next_digit(m: u64, residue: u64, number: u128, range: u128) -> u64
     ((known.convert(residue) - known) / weight).residue()
 }
 
-/// The residues of a number. Conditions: each modulus is above 0, and there is room for one residue
+/// The residues of a number. Conditions: each modulus is above 0; there is room for one residue
 /// a modulus.
 pub fn encode(moduli: &[u64], number: u128, residues: &mut [u64])
     requires positive { (i : ℕ) → i < length moduli.now → 0 < slice_index moduli.now i }
@@ -96,7 +96,7 @@ pub fn are_reduced(moduli: &[u64], residues: &[u64]) -> bool
 }
 
 /// The number below the product of the moduli that has these residues: there is no other. Conditions:
-/// the moduli are a system (`is_system` tells), and each has a residue below it (`are_reduced` tells).
+/// the moduli are a system (`is_system` tells); each has a residue below it (`are_reduced` tells).
 ///
 /// Source: Garner, "The residue number system"; Knuth, The Art of Computer Programming, volume 2,
 /// section 4.3.2, (24) and (25).

@@ -90,8 +90,8 @@ pub fn product_with<T: RingWord, R: Reducer<T> + Copy>(
     product(x, &in_ring(x, n))
 }
 
-/// The quotient: the integer whose product with y is x. Condition: the moduli are equal, and y has
-/// an inverse.
+/// The quotient: the integer whose product with y is x. Conditions: the moduli are equal; the divisor has
+/// an inverse modulo m.
 pub fn quotient<T: RingWord, R: Reducer<T> + Copy>(
     x: &ReducedInt<T, R>,
     y: &ReducedInt<T, R>,

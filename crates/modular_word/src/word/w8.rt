@@ -69,7 +69,7 @@ pub fn wsqr(a: Word) -> DoubleWord
     a.product(a)
 }
 
-/// The remainder of a double word by a word. Condition: d is at least 1.
+/// The remainder of a double word by a word. Condition: the modulus is at least 1.
 pub fn nrem(n: DoubleWord, d: Word) -> Word
     requires { 1 ≤ d }
     ensures { result ≡ n % d }
