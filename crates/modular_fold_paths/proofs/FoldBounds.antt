@@ -1,8 +1,8 @@
 -- How far folds in a row take a number that is no more than a product of two numbers below 2^p.
-use Rattle.std.proofs.Common.{◌≡◌, ℕ, zero, suc, ◌+◌, ◌-◌, ◌*◌, ◌/◌, ◌%◌, ◌^◌, ◌<◌, ◌≤◌, ◌∙◌, ap, arith, lit<}
-use Rattle.std.proofs.Math.Nat.{mul-le-mul_right, div-lt_iff_lt-mul, lt-div-mul-add, mod-lt, pow-le-pow_right}
-use Rattle.std.proofs.Math.Nat.{pow-suc}
-use Rattle.std.proofs.lemmas.Nat.{shr_split, pow_pos, pow-add, mul-le}
+use Rattle.std.proofs.Common.{◌≡◌, ℕ, zero, suc, ◌+◌, ◌-◌, ◌*◌, ◌/◌, ◌%◌, ◌^◌, ◌<◌, ◌≤◌, ◌∙◌, ap, sym, arith, lit<}
+use Rattle.std.proofs.Math.Nat.{mul-le-mul_left, mul-le-mul_right, div-lt_iff_lt-mul, lt-div-mul-add, mod-lt, pow-le-pow_right}
+use Rattle.std.proofs.Math.Nat.{pow-suc, mod-eq_of_lt, mod-eq-sub-mod}
+use Rattle.std.proofs.lemmas.Nat.{shr_split, pow_pos, pow-add, mul-le, le-div}
 use Rattle.modular_fold_paths.specs.Folds.{fold_of}
 
 -- a number that is less than 2 * b by c has a quotient of 1 at most
@@ -52,6 +52,56 @@ small_square p c less =
     let halves : p / 2 + p / 2 ≤ p = omega arith in
     let most = pow-le-pow_right {n = 2} (lit< tt) halves in
     omega (arith, square, whole, most)
+
+-- ---- folds in a straight line
+-- a number that is at most the last bound leaves the next one at most after a fold
+pub fold_bound : (p c v mask most : ℕ) → mask + 1 ≡ 2 ^ p → v / 2 ^ p * c + mask ≤ most → fold_of p c v ≤ most
+fold_bound p c v mask most ones bound = omega (arith, mod-lt v (pow_pos p))
+
+pub next_bound : (p c v mask most : ℕ) → v ≤ most → v / 2 ^ p * c + mask ≤ most / 2 ^ p * c + mask
+next_bound p c v mask most bound =
+    let part : v / 2 ^ p * 2 ^ p ≤ most = omega (arith, shr_split v p) in
+    let high = le-div (v / 2 ^ p) most (2 ^ p) (pow_pos p) part in
+    omega (arith, mul-le-mul_right c high)
+
+-- by at most a fourth of b, the bound falls while it is at least twice b - c
+falls : (b c m q r s : ℕ) → q * b + r ≡ s → r < b → m + c ≡ b → 4 * c ≤ b → 2 * m ≤ s → q * c + b ≤ s
+falls b c m zero r s is low whole small high = absurd (omega arith)
+falls b c m (suc zero) r s is low whole small high = omega arith
+falls b c m (suc (suc k)) r s is low whole small high = omega (arith, mul-le-mul_left k (let e : c ≤ b = omega arith in e))
+
+pub bound_falls : (p c m mask most : ℕ) → mask + 1 ≡ 2 ^ p → m + c ≡ 2 ^ p → 4 * c ≤ 2 ^ p → 2 * m ≤ most
+    → most / 2 ^ p * c + mask < most
+bound_falls p c m mask most ones whole small high =
+    let less =
+    falls (2 ^ p) c m (most / 2 ^ p) (most % 2 ^ p) most (shr_split most p) (mod-lt most (pow_pos p)) whole small high in
+    omega (arith, less)
+
+-- a factor of two bits less than p is at most a fourth of 2^p
+pub fourth : (p c : ℕ) → 2 ≤ p → c < 2 ^ (p - 2) → 4 * c ≤ 2 ^ p
+fourth p c two less =
+    let whole : 2 ^ p ≡ 2 ^ (p - 2) * 2 ^ 2 =
+    ap (λ n. 2 ^ n) (let s : p ≡ p - 2 + 2 = omega arith in s) ∙ pow-add 2 (p - 2) 2 in
+    omega (arith, whole, less)
+
+-- the first bound is below 2^(2p)
+pub first_bound : (p c mask w : ℕ) → mask + 1 ≡ 2 ^ p → c < 2 ^ p → 2 * p ≤ w → mask * c + mask < 2 ^ w
+first_bound p c mask w ones less room =
+    let square : 2 ^ (p + p) ≡ 2 ^ p * 2 ^ p = pow-add 2 p p in
+    let wide = pow-le-pow_right {n = 2} (lit< tt) (let e : p + p ≤ w = omega arith in e) in
+    let most : mask * suc c ≤ mask * 2 ^ p = mul-le-mul_left mask less in
+    let whole = ap (λ n. n * 2 ^ p) ones in
+    omega (arith, square, wide, most, whole, pow_pos p)
+
+-- the residue of a number below 2m
+pub once_below : (m s : ℕ) → s < m → s ≡ s % m
+once_below m s less = sym (mod-eq_of_lt less)
+
+pub once_above : (m s rest : ℕ) → m ≤ s → s < 2 * m → rest + m ≡ s → (rest ≡ s % m) × (rest < m)
+once_above m s rest most less is =
+    let below : rest < m = omega arith in
+    let taken : s - m ≡ rest = omega arith in
+    (sym (mod-eq-sub-mod most ∙ ap (λ v. v % m) taken ∙ mod-eq_of_lt below), below)
 
 -- a number that has no part above the bit p is below 2^p
 pub low_only : (p v : ℕ) → v / 2 ^ p ≡ 0 → v < 2 ^ p

@@ -64,3 +64,9 @@ power_fits is = pow-le-pow_right {n = 2} (lit< tt) is.fits
 pub some_bits : {w p c m : ℕ} → IsFolding w p c m → 0 < p
 some_bits {w} {p = zero} {c} {m} is = absurd (omega (arith, is.some, is.whole, is.half))
 some_bits {w} {p = suc p} {c} {m} is = omega arith
+
+-- nor 1
+pub two_bits : {w p c m : ℕ} → IsFolding w p c m → 2 ≤ p
+two_bits {w} {p = zero} {c} {m} is = absurd (omega (arith, is.some, is.whole, is.half))
+two_bits {w} {p = suc zero} {c} {m} is = absurd (omega (arith, is.some, is.whole, is.half))
+two_bits {w} {p = suc (suc p)} {c} {m} is = omega arith

@@ -106,6 +106,34 @@ pub fn fold_all<V: FoldWord>(v: V, p: u32, c: V, m: V) -> (V, u32)
     fold_on(v, p, mask, c, m)
 }
 
+// v modulo m, v being at most a product of two numbers below 2^p: folds in a straight line and one
+// subtraction. No fold tests the number: how many it takes is known from c and p.
+fn residue_in_line<V: FoldWord>(v: V, p: u32, c: V, m: V) -> V
+    requires folding { IsFolding V.width p (V.number c) (V.number m) }
+    requires room { 2 * p ≤ V.width }
+    requires small { 4 * V.number c ≤ 2 ^ p }
+    requires product { V.number v / 2 ^ p < 2 ^ p }
+    ensures value { V.number result ≡ V.number v % V.number m }
+    ensures below { V.number result < V.number m }
+{
+    let mask = m.plus(c.minus(V::one()));
+    let twice = m.plus(m);
+    let mut rest = v;
+    // the next fold leaves this at most
+    let mut most = mask.times(c).plus(mask);
+    'folds: while !most.is_below(twice) {
+        let (next, _) = fold(rest, p, mask, c);
+        rest = next;
+        most = most.shift_right(p).times(c).plus(mask);
+    }
+    let (last, _) = fold(rest, p, mask, c);
+    if last.is_below(m) {
+        last
+    } else {
+        last.minus(m)
+    }
+}
+
 /// A word whose double words are folded: u32 and u64.
 pub trait FoldedWord: PlainWord {
     /// A word below 2^p that leaves what a double word leaves modulo m, and the number of folds that make
@@ -115,6 +143,14 @@ pub trait FoldedWord: PlainWord {
         ensures below { Self.number result.0 < 2 ^ p }
         ensures same { Self.number result.0 % Self.number m ≡ Self.double_number v % Self.number m }
         ensures count { result.1 ≡ folds p (Self.number c) (Self.double_number v) };
+
+    /// The residue of a product of two words below 2^p, by folds at the bit p by c in a straight line.
+    /// Condition: they reduce modulo m, and c is at most a fourth of 2^p.
+    fn reduce_in_line(v: Self::Double, p: u32, c: Self, m: Self) -> Self
+        requires folding { IsFolding Self.width p (Self.number c) (Self.number m) }
+        requires small { 4 * Self.number c ≤ 2 ^ p }
+        requires product { Self.double_number v / 2 ^ p < 2 ^ p }
+        ensures { Self.number result ≡ Self.double_number v % Self.number m };
 }
 
 impl FoldedWord for u32 {
@@ -122,12 +158,20 @@ impl FoldedWord for u32 {
         let (rest, count) = fold_all(v, p, c as u64, m as u64);
         (rest as u32, count)
     }
+
+    fn reduce_in_line(v: u64, p: u32, c: u32, m: u32) -> u32 {
+        residue_in_line(v, p, c as u64, m as u64) as u32
+    }
 }
 
 impl FoldedWord for u64 {
     fn fold_double(v: u128, p: u32, c: u64, m: u64) -> (u64, u32) {
         let (rest, count) = fold_all(v, p, c as u128, m as u128);
         (rest as u64, count)
+    }
+
+    fn reduce_in_line(v: u128, p: u32, c: u64, m: u64) -> u64 {
+        residue_in_line(v, p, c as u128, m as u128) as u64
     }
 }
 

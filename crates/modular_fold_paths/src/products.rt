@@ -64,7 +64,8 @@ fn product_by_folds<T: PathWord>(a: T, b: T, p: u32, c: T, m: T) -> T
 /// a·b modulo m. Conditions: m is 2^p - c and more than half of 2^p, and p is at most the width of the words; a and b
 /// are below m.
 ///
-/// Where c is small the product is folded by its parts, and no number is tested: c and p alone choose.
+/// Where c has at most half the bits of p the product is folded by its parts, and where it is less than a
+/// fourth of 2^p in a straight line. There no number is tested: c and p alone choose.
 ///
 /// Source: Handbook of Applied Cryptography, algorithm 14.47.
 pub fn reduce_product<T: FoldedWord>(a: T, b: T, p: u32, c: T, m: T) -> T
@@ -75,6 +76,8 @@ pub fn reduce_product<T: FoldedWord>(a: T, b: T, p: u32, c: T, m: T) -> T
 {
     if c.shift_right(p / 2).is_zero_word() {
         product_by_folds(a, b, p, c, m)
+    } else if c.shift_right(p - 2).is_zero_word() {
+        T::reduce_in_line(a.product(b), p, c, m)
     } else {
         reduce_by_folds(a.product(b), p, c, m).0
     }

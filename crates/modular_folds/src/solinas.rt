@@ -150,10 +150,9 @@ pub struct TrinomialModulus<T: TrinomialWord, F: Trinomial> {
 /// value is the value itself. It keeps no number.
 ///
 /// The parameters are in range where p1 is the width of T at most, p2 is from 1 to p1 - 1, and k is
-/// odd and less than 2^p2 either way. Words are reduced by folds, and so is a product of words of 64
-/// bits, but where p1 = p2 + 1 and k is negative: m is less than half of 2^p1 then, and what is left by
-/// m is taken by the primitive remainder. So is a product of words of 32 bits, which takes no division
-/// either where the modulus is known when it is compiled. `inv` divides by Euclid's algorithm.
+/// odd and less than 2^p2 either way. Words and products are reduced by folds, except where
+/// p1 = p2 + 1 and k is negative: m is then less than half of 2^p1, and the primitive remainder is
+/// computed. `inv` divides by Euclid's algorithm.
 ///
 /// Source: Solinas, "Generalized Mersenne numbers" (1999).
 pub type TrinomialSolinas<T, F> = FoldRing<T, TrinomialModulus<T, F>>;
@@ -276,7 +275,7 @@ impl<T: TrinomialWord, F: Trinomial> FoldModulus<T> for TrinomialModulus<T, F> {
     }
 
     fn product(&self, a: T, b: T) -> T {
-        if T::bits() < 64 || is_low(F::p1(), F::p2(), F::k()) {
+        if is_low(F::p1(), F::p2(), F::k()) {
             TrinomialSolinas::<T, F>::remainder(a.product(b))
         } else {
             reduce_product(
