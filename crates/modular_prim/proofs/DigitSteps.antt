@@ -1,7 +1,8 @@
 -- Quotients by digits of base 4.
 use Rattle.std.proofs.Common.{◌≡◌, ℕ, ◌+◌, ◌-◌, ◌*◌, ◌/◌, ◌%◌, ◌^◌, ◌<◌, ◌≤◌, ap, sym, ◌∙◌, arith}
-use Rattle.std.proofs.lemmas.Nat.{pow-add, pow_pos}
+use Rattle.std.proofs.lemmas.Nat.{pow-add}
 use Rattle.std.proofs.Math.Nat.{add-mul-mod_self_left, div-add-mod, mod-eq_of_lt, mod-lt, div-eq_of_lt-le}
+use Rattle.std.proofs.Math.Pow.{pow-lt}
 use Rattle.modular_word.specs.Division.{IsDivision}
 
 -- the quotient of a division
@@ -37,14 +38,28 @@ two_are {a} {d} {fourfold} {high} {left} {low} {rest} {q} four first second eq =
   below = second.below;
 }
 
--- a sixteenth of the base, sixteen times
-pub sixteen_times : {w b k : ℕ} → 8 ≤ w → b ≡ 2 ^ w → k ≡ w - 4 → 16 * 2 ^ k ≡ b
-sixteen_times {w} {b} {k} from is at =
-    let e : w ≡ k + 4 = omega arith in
-    sym (is ∙ ap (λ v. 2 ^ v) e ∙ pow-add 2 k 4 ∙ (let f : 2 ^ k * 2 ^ 4 ≡ 16 * 2 ^ k = omega arith in f))
+-- four digits leave the remainder
+pub four_leave : {a d scaled high left low rest : ℕ} → scaled ≡ d * 16 → IsDivision a scaled high left
+    → IsDivision left d low rest → rest ≡ a % d
+four_leave {a} {d} {scaled} {high} {left} {low} {rest} is first second =
+    let e : high * scaled ≡ high * (d * 16) = ap (λ v. high * v) is in
+    let f : (high * 16 + low) * d ≡ high * (d * 16) + low * d = omega arith in
+    remainder_is {q = high * 16 + low} (record {
+      whole = omega (arith, e, f, first.whole, second.whole);
+      below = second.below;
+    })
+
+-- a part of the base, as often
+pub part_times : {w b by k : ℕ} → by ≤ w → b ≡ 2 ^ w → k ≡ w - by → 2 ^ by * 2 ^ k ≡ b
+part_times {w} {b} {by} {k} within is at =
+    let e : w ≡ by + k = omega arith in
+    sym (is ∙ ap (λ v. 2 ^ v) e ∙ pow-add 2 by k)
 
 pub one_of : {one : ℕ} (k : ℕ) → one ≡ 1 → one * k ≡ k
 one_of {one} k e = ap (λ v. v * k) e ∙ (let f : 1 * k ≡ k = omega arith in f)
 
-pub sixteenth_some : (k : ℕ) → 0 < 2 ^ k
-sixteenth_some k = pow_pos k
+-- a part of the base is a word
+pub part_below : {w b by k : ℕ} → 1 ≤ by → by ≤ w → b ≡ 2 ^ w → k ≡ w - by → 2 ^ k < b
+part_below {w} {b} {by} {k} some within is at =
+    let less : 2 ^ k < 2 ^ w = pow-lt (omega arith) in
+    omega (arith, less, is)

@@ -1,7 +1,7 @@
 //! The division of Euclid's algorithm, whose quotients are nearly always small: by digits of base 4, without a
 //! division of the machine.
 
-ghost use Rattle.std.specs.Prelude.{◌≡◌, ◌+◌, ◌*◌, ◌<◌, ◌≤◌, IsTrue};
+ghost use Rattle.std.specs.Prelude.{◌≡◌, ◌+◌, ◌*◌, ◌%◌, ◌^◌, ◌<◌, ◌≤◌, IsTrue};
 ghost use Rattle.modular_word.specs.Division.{IsDivision};
 
 use crate::plain_word::PlainWord;
@@ -51,11 +51,23 @@ fn two_digits<T: PathWord>(a: T, d: T) -> (T, T)
     (high.shift_left(2).plus(low), rest)
 }
 
-// A sixteenth of the base.
-fn sixteenth<T: PathWord>() -> T
-    ensures { 16 * T.number result ≡ T.base }
+// The remainder by four digits. Conditions: a is below 256d, and 256d is at most the base.
+fn rest_by_four_digits<T: PathWord>(a: T, d: T) -> T
+    requires below { T.number a < 256 * T.number d }
+    requires fits { 256 * T.number d ≤ T.base }
+    ensures { T.number result ≡ T.number a % T.number d }
 {
-    T::one().shift_left(T::bits() - 4)
+    let (_, left) = two_digits(a, d.shift_left(4));
+    two_digits(left, d).1
+}
+
+// The base divided by a power of two. Condition: the exponent is from 1 to 8.
+fn part_of_base<T: PathWord>(by: u32) -> T
+    requires some { 1 ≤ by }
+    requires few { by ≤ 8 }
+    ensures { 2 ^ by * T.number result ≡ T.base }
+{
+    T::one().shift_left(T::bits() - by)
 }
 
 // Whether two digits are enough and d has room for them, in words of more than 16 bits; in shorter ones the machine
@@ -65,7 +77,7 @@ fn has_two_digits<T: PathWord>(a: T, d: T) -> bool
     ensures room { IsTrue result → 16 * T.number d ≤ T.base }
 {
     if T::bits() > 16 {
-        if d.is_below(sixteenth::<T>()) {
+        if d.is_below(part_of_base::<T>(4)) {
             return a.shift_right(4).is_below(d);
         }
     }
@@ -85,5 +97,59 @@ pub fn division<T: PlainWord>(a: T, d: T) -> (T, T)
         two_digits(a, d)
     } else {
         (a.quotient(d), a.remainder(d))
+    }
+}
+
+// Whether the quotient is below 16, in words of more than 16 bits.
+fn has_short_quotient<T: PathWord>(a: T, d: T) -> bool
+    ensures below { IsTrue result → T.number a < 16 * T.number d }
+    ensures fits { IsTrue result → T.number a < T.base }
+{
+    if T::bits() > 16 {
+        return a.shift_right(4).is_below(d);
+    }
+    false
+}
+
+// The remainder where the quotient is below 16: by two digits where d has room for them. Condition: a is below 16d.
+fn rest_of_short_quotient<T: PlainWord>(a: T, d: T) -> T
+    requires { T.number a < 16 * T.number d }
+    ensures { T.number result ≡ T.number a % T.number d }
+{
+    if d.is_below(part_of_base::<T>(4)) {
+        two_digits(a, d).1
+    } else {
+        a.remainder(d)
+    }
+}
+
+// Whether four digits are enough and d has room for them, in words of more than 32 bits; in shorter ones the machine
+// divides as fast.
+fn has_four_digits<T: PathWord>(a: T, d: T) -> bool
+    ensures below { IsTrue result → T.number a < 256 * T.number d }
+    ensures room { IsTrue result → 256 * T.number d ≤ T.base }
+    ensures fits { IsTrue result → T.number a < T.base }
+{
+    if T::bits() > 32 {
+        if a.shift_right(8).is_below(d) {
+            return d.is_below(part_of_base::<T>(8));
+        }
+    }
+    false
+}
+
+/// The remainder of a by d: where the quotient is below 16 by two digits of base 4, in words of more than 16 bits; where it
+/// is below 256 by four, in words of more than 32 bits; else by a division of the machine. Condition: d is at least 1.
+pub fn rest<T: PlainWord>(a: T, d: T) -> T
+    requires { 1 ≤ T.number d }
+    ensures rest { T.number result ≡ T.number a % T.number d }
+    ensures fits { T.number a < T.base }
+{
+    if has_short_quotient(a, d) {
+        rest_of_short_quotient(a, d)
+    } else if has_four_digits(a, d) {
+        rest_by_four_digits(a, d)
+    } else {
+        a.remainder(d)
     }
 }

@@ -8,7 +8,7 @@ ghost use Rattle.modular_word.specs.Residues.{residue};
 
 use crate::turns::{is_turned_by_swap, is_turned_by_twos};
 use modular_prim::abs::signed_residue;
-use modular_prim::digits::division;
+use modular_prim::digits;
 use modular_prim::plain_word::PlainWord;
 use modular_word::path_word::PathWord;
 use modular_word::ring_word::RingWord;
@@ -39,8 +39,7 @@ fn halve_and_swap<T: PlainWord>(a: T, n: T) -> (i8, u32)
         let twos = above.trailing_zeros();
         let odd = above.shift_right(twos);
         turned ^= is_turned(odd, twos, below);
-        let (_, rest) = division(below, odd);
-        above = rest;
+        above = digits::rest(below, odd);
         below = odd;
         count += twos + 1;
     }

@@ -6,7 +6,6 @@ use Rattle.modular_symbols.proofs.HalvingSteps.{smaller, kept_swapped}
 use Rattle.modular_symbols.proofs.TurnedSymbols.{kept_start, kept_one, kept_none}
 use Rattle.modular_symbols.proofs.TwoPart.{halved}
 use Rattle.modular_symbols.proofs.StepCounts.{counts_start, counts_turn, counts_end, counts_few}
-use Rattle.modular_prim.proofs.DigitSteps.{remainder_is}
 use Rattle.modular_symbols.proofs.halving.halve_and_swap.Goals as goal
 
 pub swaps-init : goal.swaps-init
@@ -24,8 +23,8 @@ is_turned-turned-requires-clause-a_odd g c =
     (halved g.T.RingWord.width (n c.swaps.above) c.trailing_zeros-twos.result (n c.shift_right-odd.result) some
     c.is_zero_word.ensures.fits c.trailing_zeros-twos.ensures.value c.shift_right-odd.ensures.value).odd
 
-pub division-rest-requires : goal.division-rest-requires
-division-rest-requires g c =
+pub rest-above-requires : goal.rest-above-requires
+rest-above-requires g c =
     let n = g.T.RingWord.number in
     let some : n c.swaps.above ≢ 0 = search rules in
     let h = halved g.T.RingWord.width (n c.swaps.above) c.trailing_zeros-twos.result (n c.shift_right-odd.result) some
@@ -41,7 +40,7 @@ swaps-smaller g c =
     c.is_zero_word.ensures.fits c.trailing_zeros-twos.ensures.value c.shift_right-odd.ensures.value in
     let less = smaller (n c.swaps.above) c.trailing_zeros-twos.result
     (n c.shift_right-odd.result) (n c.swaps.below) h in
-    omega (arith, (remainder_is c.division-rest.ensures.division))
+    omega (arith, c.rest-above.ensures.rest)
 
 pub swaps-preserved : goal.swaps-preserved
 swaps-preserved g c =
@@ -53,13 +52,13 @@ swaps-preserved g c =
       symbol =
           kept_swapped (jacobi (pos (n c.args.a)) (n c.args.n)) (n c.swaps.above)
           (n c.swaps.below) c.trailing_zeros-twos.result
-          (n c.shift_right-odd.result) (n c.division-rest.result.1) c.swaps.turned c.is_turned-turned.result
-          c.swaps.invariant.symbol h c.is_turned-turned.ensures (remainder_is c.division-rest.ensures.division);
+          (n c.shift_right-odd.result) (n c.rest-above.result) c.swaps.turned c.is_turned-turned.result
+          c.swaps.invariant.symbol h c.is_turned-turned.ensures c.rest-above.ensures.rest;
       counts =
           counts_turn g.T.RingWord.width g.T.PathWord.base (n c.args.a) (n c.args.n) (n c.swaps.above) (n c.swaps.below)
-          c.trailing_zeros-twos.result (n c.shift_right-odd.result) (n c.division-rest.result.1) c.swaps.count
-          c.swaps.invariant.counts h (remainder_is c.division-rest.ensures.division) g.met.T.PathWord.base_is
-          c.division-rest.ensures.fits;
+          c.trailing_zeros-twos.result (n c.shift_right-odd.result) (n c.rest-above.result) c.swaps.count
+          c.swaps.invariant.counts h c.rest-above.ensures.rest g.met.T.PathWord.base_is
+          c.rest-above.ensures.fits;
     }
 
 pub overflow_add-count-in-swaps : goal.overflow_add-count-in-swaps
@@ -70,11 +69,11 @@ overflow_add-count-in-swaps g c =
     c.is_zero_word.ensures.fits c.trailing_zeros-twos.ensures.value c.shift_right-odd.ensures.value in
     let after =
     counts_turn g.T.RingWord.width g.T.PathWord.base (n c.args.a) (n c.args.n) (n c.swaps.above) (n c.swaps.below)
-    c.trailing_zeros-twos.result (n c.shift_right-odd.result) (n c.division-rest.result.1) c.swaps.count
-    c.swaps.invariant.counts h (remainder_is c.division-rest.ensures.division) g.met.T.PathWord.base_is
-    c.division-rest.ensures.fits in
+    c.trailing_zeros-twos.result (n c.shift_right-odd.result) (n c.rest-above.result) c.swaps.count
+    c.swaps.invariant.counts h c.rest-above.ensures.rest g.met.T.PathWord.base_is
+    c.rest-above.ensures.fits in
     let few =
-    counts_few g.T.RingWord.width (n c.args.a) (n c.args.n) (n c.division-rest.result.1) (n c.shift_right-odd.result)
+    counts_few g.T.RingWord.width (n c.args.a) (n c.args.n) (n c.rest-above.result) (n c.shift_right-odd.result)
     (c.swaps.count + (c.trailing_zeros-twos.result + 1)) after c.requires.below in
     omega (arith, g.met.T.RingWord.width_to)
 

@@ -1,0 +1,17 @@
+use Rattle.std.proofs.Common.{◌-◌, ◌*◌, ◌^◌, ◌∙◌, ap, arith}
+use Rattle.modular_prim.proofs.DigitSteps.{part_times, part_below, one_of}
+use Rattle.modular_prim.proofs.digits.part_of_base.Goals as goal
+
+pub shift_left-requires-clause-fits : goal.shift_left-requires-clause-fits
+shift_left-requires-clause-fits g c =
+    let k = c.bits.result - c.args.by in
+    let less = part_below {by = c.args.by} {k = k} c.requires.some (omega (arith, g.met.T.RingWord.width_from))
+    g.met.T.PathWord.base_is (omega (arith, c.bits.ensures)) in
+    omega (arith, less, (one_of (2 ^ k) c.one.ensures))
+
+pub returns : goal.returns
+returns g c =
+    let whole = part_times {by = c.args.by} {k = c.bits.result - c.args.by} (omega (arith, g.met.T.RingWord.width_from))
+    g.met.T.PathWord.base_is (omega (arith, c.bits.ensures)) in
+    let one = one_of (2 ^ (c.bits.result - c.args.by)) c.one.ensures in
+    ap (λ v. 2 ^ c.args.by * v) (c.shift_left.ensures ∙ one) ∙ whole
