@@ -63,11 +63,13 @@ digits-preserved g c =
           }
     ]
 
-pub returns : goal.returns
-returns g c =
+pub returns-clause-power : goal.returns-clause-power
+returns-clause-power g c =
+    let ended : g.T.RingWord.number c.digits.rest ≡ 0 = search rules in
+    power_end c.digits.invariant.so_far ended
+
+pub returns-clause-count : goal.returns-clause-count
+returns-clause-count g c =
     let ended : g.T.RingWord.number c.digits.rest ≡ 0 = search rules in
     let none = steps_of_zero (g.T.RingWord.number c.digits.rest) ended in
-    record {
-      power = power_end c.digits.invariant.so_far ended;
-      count = omega (arith, c.digits.invariant.counted);
-    }
+    omega (arith, c.digits.invariant.counted)

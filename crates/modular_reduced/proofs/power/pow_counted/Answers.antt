@@ -1,44 +1,83 @@
-use Rattle.std.proofs.Common.{rules, arith, ◌≡◌, ◌≢◌, ◌/◌, ◌%◌, ◌∙◌, sym, IsTrue}
+use Rattle.std.proofs.Common.{rules, arith, ◌≡◌, ◌≢◌, ◌/◌, ◌%◌, ◌∙◌, sym, ap, IsTrue}
 use Rattle.modular_reduced.proofs.FormLemmas.{form_of_value}
 use Rattle.modular_reduced.proofs.PowerForms.{power_of_one, power_of_two}
 use Rattle.modular_reduced.proofs.PowerCounts.{steps, products_of_one, products_of_two, products_else, products_at_most}
-use Rattle.modular_reduced.specs.Powers.{products}
+use Rattle.modular_reduced.specs.Powers.{products, digits, digits_within}
 use Rattle.modular_reduced.proofs.power.pow_counted.Goals as goal
 use Rattle.modular_reduced.proofs.power.pow_counted.Goals.{then-eq-2+else-not-is_odd, else-eq-2}
 
-pub returns-then-eq : goal.returns-then-eq
-returns-then-eq g c =
+pub returns-then-eq-clause-power : goal.returns-then-eq-clause-power
+returns-then-eq-clause-power g c =
+    let same : IsTrue (g.T.PartialEq.eq c.args.exp.now c.one.result) = search rules in
+    power_of_one c.requires ((g.met.T.RingWord.equal c.args.exp.now c.one.result).0 same ∙ c.one.ensures)
+
+pub returns-then-eq-clause-checked : goal.returns-then-eq-clause-checked
+returns-then-eq-clause-checked g c = c.requires
+
+pub returns-then-eq-clause-value : goal.returns-then-eq-clause-value
+returns-then-eq-clause-value g c =
+    let same : IsTrue (g.T.PartialEq.eq c.args.exp.now c.one.result) = search rules in
+    (g.met.R.Reducer.canonical c.args.reducer.now).one_value _ _
+    (power_of_one c.requires ((g.met.T.RingWord.equal c.args.exp.now c.one.result).0 same ∙ c.one.ensures))
+
+pub returns-then-eq-clause-count : goal.returns-then-eq-clause-count
+returns-then-eq-clause-count g c =
+    let exp = g.T.RingWord.number c.args.exp.now in
+    let same : IsTrue (g.T.PartialEq.eq c.args.exp.now c.one.result) = search rules in
+    sym (products_of_one exp ((g.met.T.RingWord.equal c.args.exp.now c.one.result).0 same ∙ c.one.ensures))
+
+pub returns-then-eq-clause-at_most : goal.returns-then-eq-clause-at_most
+unfolding digits digits_within
+returns-then-eq-clause-at_most g c =
     let exp = g.T.RingWord.number c.args.exp.now in
     let same : IsTrue (g.T.PartialEq.eq c.args.exp.now c.one.result) = search rules in
     let one : exp ≡ 1 = (g.met.T.RingWord.equal c.args.exp.now c.one.result).0 same ∙ c.one.ensures in
-    let power = power_of_one c.requires one in
-    record {
-      power = power;
-      checked = c.requires;
-      value = (g.met.R.Reducer.canonical c.args.reducer.now).one_value _ _ power;
-      count = sym (products_of_one exp one);
-      at_most = omega arith;
-    }
+    let digit : digits exp ≡ 1 = ap digits one in
+    omega (arith, digit)
 
-pub returns-then-not-is_odd : goal.returns-then-not-is_odd
-returns-then-not-is_odd g c =
+pub returns-then-not-is_odd-clause-power : goal.returns-then-not-is_odd-clause-power
+returns-then-not-is_odd-clause-power g c =
     let exp = g.T.RingWord.number c.args.exp.now in
     let same : IsTrue (g.T.PartialEq.eq c.half.result c.one-2.result) = search rules in
     let half : exp / 2 ≡ 1 =
     sym c.half.ensures.value ∙ (g.met.T.RingWord.equal c.half.result c.one-2.result).0 same ∙ c.one-2.ensures in
     let even : exp % 2 ≢ 1 = search rules in
-    let two : exp ≡ 2 = omega arith in
-    let count = products_of_two exp two in
-    let most = products_at_most exp in
-    let power = power_of_two (g.R.Reducer.value (g.R.Reducer.modulus c.args.reducer.now)
-    (g.T.RingWord.number c.args.base)) exp two c.sqr.ensures.form in
-    record {
-      power = power;
-      checked = c.sqr.ensures.checked;
-      value = (g.met.R.Reducer.canonical c.args.reducer.now).one_value _ _ power;
-      count = sym count;
-      at_most = omega arith;
-    }
+    power_of_two (g.R.Reducer.value (g.R.Reducer.modulus c.args.reducer.now) (g.T.RingWord.number c.args.base)) exp
+    (let two : exp ≡ 2 = omega arith in two) c.sqr.ensures.form
+
+pub returns-then-not-is_odd-clause-checked : goal.returns-then-not-is_odd-clause-checked
+returns-then-not-is_odd-clause-checked g c = c.sqr.ensures.checked
+
+pub returns-then-not-is_odd-clause-value : goal.returns-then-not-is_odd-clause-value
+returns-then-not-is_odd-clause-value g c =
+    let exp = g.T.RingWord.number c.args.exp.now in
+    let same : IsTrue (g.T.PartialEq.eq c.half.result c.one-2.result) = search rules in
+    let half : exp / 2 ≡ 1 =
+    sym c.half.ensures.value ∙ (g.met.T.RingWord.equal c.half.result c.one-2.result).0 same ∙ c.one-2.ensures in
+    let even : exp % 2 ≢ 1 = search rules in
+    (g.met.R.Reducer.canonical c.args.reducer.now).one_value _ _
+    (power_of_two (g.R.Reducer.value (g.R.Reducer.modulus c.args.reducer.now) (g.T.RingWord.number c.args.base)) exp
+    (let two : exp ≡ 2 = omega arith in two) c.sqr.ensures.form)
+
+pub returns-then-not-is_odd-clause-count : goal.returns-then-not-is_odd-clause-count
+returns-then-not-is_odd-clause-count g c =
+    let exp = g.T.RingWord.number c.args.exp.now in
+    let same : IsTrue (g.T.PartialEq.eq c.half.result c.one-2.result) = search rules in
+    let half : exp / 2 ≡ 1 =
+    sym c.half.ensures.value ∙ (g.met.T.RingWord.equal c.half.result c.one-2.result).0 same ∙ c.one-2.ensures in
+    let even : exp % 2 ≢ 1 = search rules in
+    sym (products_of_two exp (let two : exp ≡ 2 = omega arith in two))
+
+pub returns-then-not-is_odd-clause-at_most : goal.returns-then-not-is_odd-clause-at_most
+unfolding digits digits_within
+returns-then-not-is_odd-clause-at_most g c =
+    let exp = g.T.RingWord.number c.args.exp.now in
+    let same : IsTrue (g.T.PartialEq.eq c.half.result c.one-2.result) = search rules in
+    let half : exp / 2 ≡ 1 =
+    sym c.half.ensures.value ∙ (g.met.T.RingWord.equal c.half.result c.one-2.result).0 same ∙ c.one-2.ensures in
+    let even : exp % 2 ≢ 1 = search rules in
+    let digit : digits exp ≡ 2 = ap digits (let two : exp ≡ 2 = omega arith in two) in
+    omega (arith, digit)
 
 pub returns : goal.returns
 returns g c =
