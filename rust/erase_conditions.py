@@ -1,0 +1,268 @@
+"""What a call asks for, for rust/erase: the words of a test that fails, and the sections of the docs.
+
+A function with a `requires` states its condition once, in a sentence `Condition: ..` of its comments; a method of a trait may
+leave that to the trait. From this sentence come the message of each test and the section `# Panics`, or `# Preconditions`
+where nothing is tested. Parts of a sentence are parted by `; `: where a body has as many tests, each has its own part.
+"""
+import re
+import textwrap
+from dataclasses import dataclass
+
+from erase_tokens import COUNT, Unknown, beginning, beyond, body_of, header, lexed
+
+SENTENCE = re.compile(r"\s?\bConditions?(?: of [^:.]*)?:\s+(.+?)\.(?=\s|$)\s?", re.S)
+WIDTH = 100  # of a section of docs
+MADE = {"Self", "Factor", "PlannedModulus", "RoomyModulus", "Code", "ResidueSystem"}
+# Who makes a value by another function, which tests the condition.
+MADE_BY = {"new": ("R::new(", "Montgomery::new(", "Self::new(", "M::keep(")}
+
+# Tests that are put in at the beginning of a body, since they look at more than `prove!` may, or since only rustc needs them:
+# by file and function, the condition's parts in turn. What they call is proved to tell whether the condition holds.
+EVERY, DEBUG = "assert", "debug_assert"
+FACTORS = (DEBUG, "table.iter().all(|it| crate::additions::is_factor(m, &it.factor()))")
+IN_ROOM = (DEBUG, "xs.iter().all(|x| m.has_room(*x))")
+SPLITS = (DEBUG, "crate::modular_plan::split::splits(xs.len(), table.len(), b, last)")
+LENGTH = (EVERY, "xs.len().is_power_of_two()")
+DIVISOR = ((EVERY, "d != 0"),)
+LOOKS = {
+    ("modular_transform/transform", "ntt_counted"): (
+        LENGTH,
+        (DEBUG, "r.check(g) && xs.iter().all(|x| r.check(x))"),
+        (DEBUG, "root_fits(r, g, xs.len())"),
+    ),
+    ("modular_transform/convolution", "convolve"): (
+        (EVERY, "ys.len() == xs.len()"),
+        LENGTH,
+        (DEBUG, "r.check(g) && xs.iter().all(|x| r.check(x)) && ys.iter().all(|y| r.check(y))"),
+        (DEBUG, "crate::modular_transform::transform::root_fits(r, g, xs.len())"),
+    ),
+    ("ring", "run"): ((DEBUG, "all_checked(r, regs)"), (DEBUG, "commands_fit(commands, regs.len())")),
+    ("modular_plan/plan", "plan"): (
+        (DEBUG, "g.is_below(m.modulus)"),
+        (DEBUG, "crate::additions::root_fits_plan(m, g, table.len())"),
+    ),
+    ("modular_plan/split", "split"): (IN_ROOM, SPLITS, FACTORS),
+    ("modular_plan_products/join", "join"): (IN_ROOM, SPLITS, FACTORS),
+    ("modular_plan_products/join", "join_scaled"): (IN_ROOM, SPLITS, FACTORS, (DEBUG, "crate::additions::is_factor(m, w)")),
+    ("modular_plan_products/convolution", "convolve_block"): (
+        (DEBUG, "ys.len() == xs.len()"),
+        (DEBUG, "convolves(xs.len(), table.len(), b, last)"),
+        (DEBUG, "xs.iter().chain(ys.iter()).all(|x| m.has_room(*x))"),
+        FACTORS,
+    ),
+    ("modular_reduced/reduced_int/operations", "quotient"): ((DEBUG, "y.reducer.modulus() == x.reducer.modulus()"),),
+    ("modular_barrett/normalized", "invert_word"): ((DEBUG, "d.leading_zeros() == 0"),),
+    ("modular_barrett/one_by_one", "div_rem"): ((DEBUG, "crate::additions::is_multiplier(self.multiplier, self.shift, d)"),),
+    ("modular_prim/exact", "exact_quotient"): ((EVERY, "!d.is_zero_word()"),),
+    ("modular_prim/abs", "signed_residue_128"): ((EVERY, "m != 0"),),
+    **{("modular_prim/plain_word", name): DIVISOR for name in ("quotient", "remainder", "low_quotient")},
+    **{(f"modular_word/word/{word}", "nrem"): DIVISOR for word in ("w8", "w16", "w32", "w64", "wsize")},
+    ("residue_numbers/lib", "encode"): ((EVERY, "moduli.iter().all(|m| *m > 0)"), (EVERY, "residues.len() == moduli.len()")),
+    ("residue_numbers/lib", "decode"): ((DEBUG, "is_system(moduli)"), (DEBUG, "are_reduced(moduli, residues)")),
+}
+# Whose condition is tested by what they call: the kinds of the parts, and the names of a file's functions or of a trait's.
+TESTED_BELOW = (
+    ((EVERY,), r"(Modular(Core|Unary|Ref)Ops|ModularPow|ModularAbs|PlainWord)\.\w+"),
+    ((EVERY,), r"modular_prim/(residues|euclid|power|counted/\w+)\.\w+|modular_prim/abs\.signed_residue"),
+    ((EVERY,), r"[\w/]+\.(new|keep)|modular_(folds|monty)/\w+\.(fixed_modulus|reduce_single|reduce_double|reduce_counted)"),
+    ((EVERY, DEBUG, DEBUG), r"modular_transform/transform\.ntt"),
+    ((DEBUG,), r"modular_barrett/exact\.exact_quotient|modular_plan_products/(transform|convolution)\.\w+"),
+)
+VERBS = {"is": "be", "are": "be", "has": "have", "have": "have", "suits": "suit", "fits": "fit", "admits": "admit", "takes": "take", "holds": "hold"}
+
+
+@dataclass
+class Function:
+    """A function: where its `fn` and its body stand, and of which trait it is, as declared or implemented."""
+
+    at: int
+    body: int
+    trait: str
+    declared: bool
+
+
+def functions(tokens):
+    """The functions of a file, the last first."""
+    blocks = []
+    for at, it in enumerate(tokens):
+        if it.text == "trait" and tokens[at + 1].kind == "name":
+            body = at
+            while tokens[body].text != "{":
+                body += 1
+            blocks.append((body, beyond(tokens, body), tokens[at + 1].text, True))
+        if it.text == "impl" and it.kind == "name" and (found := header(tokens, at)):
+            blocks.append((found[1], beyond(tokens, found[1]), found[0], False))
+    for at in range(len(tokens) - 2, -1, -1):
+        if tokens[at].text == "fn" and tokens[at + 1].kind == "name":
+            trait, declared = next(((it[2], it[3]) for it in reversed(blocks) if it[0] < at < it[1]), ("", False))
+            yield Function(at, body_of(tokens, at), trait, declared)
+
+
+def first_of(tokens, at):
+    """The index of the first token of the item whose keyword is at `at`, with its attributes."""
+    first = beginning(tokens, at)
+    while tokens[first - 1].text == "]":
+        while tokens[first].text != "#":
+            first -= 1
+    return first
+
+
+def attached(lead):
+    """How many characters stand before the comments right above an item."""
+    lines = lead.split("\n")
+    count = 0
+    while count + 1 < len(lines) and re.match(r"\s*//(?!!)", lines[-2 - count]):
+        count += 1
+    return len("\n".join(lines[: len(lines) - 1 - count])) + (count < len(lines) - 1)
+
+
+def condition(lead):
+    """The condition that the comments right above an item state; None for none."""
+    text = "\n".join(re.sub(r"^\s*//[/!]? ?", "", line) for line in lead[attached(lead) :].split("\n"))
+    found = SENTENCE.search(text)
+    return " ".join(found[1].split()) if found else None
+
+
+def conditions_of_traits(files):
+    """By trait, and by trait and method: the condition that the docs state. `files`: the tokens of all files."""
+    found = {}
+    for tokens in files:
+        for at, it in enumerate(tokens):
+            if it.text == "trait" and tokens[at + 1].kind == "name" and (words := condition(tokens[first_of(tokens, at)].lead)):
+                found[tokens[at + 1].text] = words
+        for it in functions(tokens):
+            words = condition(tokens[first_of(tokens, it.at)].lead)
+            if it.declared and tokens[it.body].asked and (words or it.trait in found):
+                found[it.trait, tokens[it.at + 1].text] = words or found[it.trait]
+    return found
+
+
+def must(words):
+    """A condition as what must be so."""
+    words = re.sub(r" \([^()]* tells\)", "", words)
+    if re.search(r"\bmust\b", words):
+        return words
+    parts = []
+    for part in re.split(r"(, and |; )", words):
+        parts.append(re.sub(rf"\b({'|'.join(VERBS)})\b", lambda verb: f"must {VERBS[verb[1]]}", part, count=1))
+    if not any(" must " in f" {it} " for it in parts):
+        raise Unknown(f"the condition {words!r} has no verb that is known")
+    return "".join(parts)
+
+
+def tests_of(tokens, it):
+    """The indexes of the names of the macros that test something in a body."""
+    if tokens[it.body].text == ";":
+        return []
+    span = range(it.body, beyond(tokens, it.body))
+    return [at for at in span if tokens[at].text in ("assert", "debug_assert", "unreachable") and tokens[at + 1].text == "!"]
+
+
+def say(tokens, it, words):
+    """Gives each test of a body its words."""
+    found = tests_of(tokens, it)
+    parts = re.split(r"; ", must(words)) if found else []
+    for count, at in reversed(list(enumerate(found))):
+        own = parts[count] if len(parts) == len(found) else parts[-1] if tokens[at].text == "unreachable" else "; ".join(parts)
+        closed = beyond(tokens, at + 2) - 1
+        if tokens[at].text == "unreachable":
+            tokens[at].text = "panic"
+            tokens[closed:closed] = lexed(f'"{own}"')
+        else:
+            tokens[closed:closed] = lexed(f', "{own}"')
+        COUNT["message put in"] += 1
+
+
+def put_looks(tokens, it, file):
+    """Puts the tests of the table at the beginning of a body."""
+    if tokens[it.body].text == ";":
+        return
+    for macro, test in reversed(LOOKS.get((file, tokens[it.at + 1].text), ())):
+        lead = tokens[it.body + 1].lead
+        tokens[it.body + 1 : it.body + 1] = lexed(f"{lead}{macro}!({test});")
+        COUNT[f"{macro}! of a condition put in"] += 1
+
+
+def how_tested(tokens, it, file, words):
+    """The parts of a condition that every build tests, those that a debug build tests, and those that none does."""
+    kinds = ["assert" if tokens[at].text == "unreachable" else tokens[at].text for at in tests_of(tokens, it)]
+    parts = words.split("; ")
+    if not kinds:
+        names = [f"{place}.{tokens[it.at + 1].text}" for place in (it.trait, file)]
+        kinds = next((kinds for kinds, pattern in TESTED_BELOW if any(re.fullmatch(pattern, name) for name in names)), [])
+    if len(kinds) != len(parts):
+        parts, kinds = [words.replace("; ", ", and ")], kinds[:1] or [""]
+    return [[part for part, other in zip(parts, kinds) if other == kind] for kind in (EVERY, DEBUG, "")]
+
+
+def sections(every, debug, none):
+    """The lines of the docs that say what a call does outside its condition."""
+    if every or debug:
+        said = f"Panics unless {', and '.join(every)}." if every else ""
+        also = " also" if every else ""
+        if debug:
+            said += f" A debug build{also} panics unless {', and '.join(debug)}."
+            said += " A release build doesn't test that, and outside it panics, or returns no meaningful result."
+        yield from ("", "# Panics", "", *textwrap.wrap(said.strip(), WIDTH))
+    if none:
+        said = f"{'; '.join(none)}. This isn't tested: outside it the call panics, or returns no meaningful result."
+        yield from ("", "# Preconditions", "", *textwrap.wrap(said[0].upper() + said[1:], WIDTH))
+
+
+def say_in_docs(tokens, first, parts):
+    """Makes sections of the sentence that states the condition in the docs of an item."""
+    lead = tokens[first].lead
+    begin = attached(lead)
+    lines = lead[begin:].split("\n")
+    docs = [line for line in lines if line.lstrip().startswith("///")]
+    if not docs:
+        return
+    indent, others = lines[-1], "".join(f"{line}\n" for line in lines[:-1] if line not in docs)
+    text = "\n".join(re.sub(r"^\s*/// ?", "", line) for line in docs)
+    text = SENTENCE.sub(lambda found: "\n" if "\n" in found[0] else " ", text, count=1)
+    text = re.sub(r"\n{3,}", "\n\n", "\n".join(line.rstrip() for line in text.split("\n"))).strip("\n")
+    whole = "".join(f"{indent}{('/// ' + line).rstrip()}\n" for line in (*text.split("\n"), *sections(*parts)))
+    tokens[first].lead = lead[:begin] + whole + others + indent
+    COUNT["sections of docs put in"] += 1
+
+
+def makes(tokens, at):
+    """Whether the function at `at` makes a value whose type has a condition."""
+    opened = beyond(tokens, at + 2) if tokens[at + 2].text == "<" else at + 2
+    closed = beyond(tokens, opened)
+    return tokens[closed].text == "->" and tokens[closed + 1].text in MADE
+
+
+def is_public(tokens, it):
+    """Whether users may call a function: one that is `pub`, or that a trait declares."""
+    begin = beginning(tokens, it.at)
+    return it.declared or tokens[begin].text == "pub" and tokens[begin + 1].text != "("
+
+
+def tests_itself(tokens, it):
+    """Whether a function tests something, or hands on to one that makes its value."""
+    body = "".join(x.text for x in tokens[it.body : beyond(tokens, it.body)])
+    return tests_of(tokens, it) or any(call in body for call in MADE_BY.get(tokens[it.at + 1].text, ()))
+
+
+def state_conditions(tokens, file, traits):
+    """Messages, tests and docs of the conditions of a file; what is lacking is returned."""
+    lacking = []
+    for it in [] if file.endswith("/tests") else functions(tokens):
+        first, name = first_of(tokens, it.at), tokens[it.at + 1].text
+        words = condition(tokens[first].lead) or traits.get((it.trait, name))
+        asked = tokens[it.body].asked
+        put_looks(tokens, it, file)
+        if words is None:
+            if tests_of(tokens, it):
+                lacking.append(f"{file}.rt: {name} tests a condition that no sentence states")
+            elif asked and is_public(tokens, it):
+                lacking.append(f"{file}.rt: {name} has a `requires`, and its docs no sentence `Condition: ..`")
+            continue
+        parts = how_tested(tokens, it, file, words)
+        say(tokens, it, words)
+        if asked:
+            say_in_docs(tokens, first, parts)
+        if asked and is_public(tokens, it) and not it.declared and makes(tokens, it.at) and not tests_itself(tokens, it):
+            lacking.append(f"{file}.rt: {name} makes a value, and doesn't test its condition with `prove!`")
+    return lacking

@@ -1,0 +1,203 @@
+"""Reads the code of a proved source without its ghost text, as tokens, and finds its parts: for rust/erase."""
+import re
+from collections import Counter
+from dataclasses import dataclass
+
+ATTRIBUTES = {"derive", "cfg", "allow", "inline", "test"}
+TOKEN = re.compile(
+    r"""(?P<space>\s+)|(?P<comment>//[^\n]*)
+    |(?P<text>b?r(?P<marks>\#*)".*?"(?P=marks)|[bc]?"(?:\\.|[^"\\])*"|b?'(?:\\(?:u\{[^}]*\}|x..|.)|[^'\\])')
+    |(?P<label>'[A-Za-z_]\w*)|(?P<name>[A-Za-z_]\w*)|(?P<number>\d\w*(?:\.\d\w*)?)|(?P<sign>::|->|=>|.)""",
+    re.X | re.S,
+)
+CLAUSE = re.compile(r"(?:requires|ensures)(?:\s+[a-z_]\w*)?\s*(?=\{)")
+MEMBER = re.compile(r"ghost\s+[a-z_]\w*\s*[:=]\s*(?=\{)")
+COUNT = Counter()
+
+
+class Unknown(Exception):
+    """Something that no rule says how to erase."""
+
+
+@dataclass
+class Token:
+    """A token of code, with the space and the comments before it.
+
+    `ghost`: ghost text stood there too; `asked`: what stood there required something."""
+
+    lead: str
+    kind: str
+    text: str
+    ghost: bool = False
+    asked: bool = False
+
+
+# ------------------------------------------------------------------------------------------------ reading
+def closing(text, at):
+    """The end of what the bracket at `at` opens, in ghost text, where `--` begins a comment."""
+    depth = 0
+    while at < len(text):
+        if text.startswith("-- ", at) and text[at - 1].isspace():
+            at = text.index("\n", at)
+        depth += (text[at] in "({[") - (text[at] in ")}]")
+        at += 1
+        if depth == 0:
+            return at
+    raise Unknown("a bracket that isn't closed")
+
+
+def ghost_end(text, at):
+    """The kind and the end of the ghost text that begins at `at`; None where it is code."""
+    if found := CLAUSE.match(text, at):
+        return "clause", closing(text, found.end())
+    if re.compile(r"(?:requires|ensures)\b").match(text, at):
+        raise Unknown("a clause without braces")
+    if re.compile(r"ghost\s+use\b").match(text, at):
+        return "import", text.index(";", at) + 1
+    if found := MEMBER.match(text, at):
+        end = closing(text, found.end())
+        if text[end] not in ";,":
+            raise Unknown("a ghost member without an end")
+        return "member", end + 1
+    if re.compile(r"ghost\b").match(text, at):
+        raise Unknown("ghost text of an unknown kind")
+    if re.compile(r"#!?\[tactic\b").match(text, at):
+        return "tactic", closing(text, text.index("[", at))
+    if text[at] == "#" and not re.compile(rf"#!?\[(?:{'|'.join(sorted(ATTRIBUTES))})\b").match(text, at):
+        raise Unknown("an attribute of an unknown kind")
+    return None
+
+
+def without_attached(lead):
+    """What comes before an item, without the comments that stand right above it; the module's own docs stay."""
+    lines = lead.split("\n")
+    while len(lines) > 1 and re.match(r"\s*//(?!!)", lines[-2]):
+        del lines[-2]
+    return "\n".join(lines)
+
+
+def joined(first, second):
+    """The space before what follows something that was taken away, from the space before both."""
+    if first.strip():
+        return first.rstrip() + (second if second.startswith("\n") else "\n" + second)
+    head = second[: len(second) - len(second.lstrip())]
+    if "\n" not in head:
+        return first
+    lines = max(first.count("\n"), head.count("\n"))
+    return "\n" * lines + head[head.rindex("\n") + 1 :] + second.lstrip()
+
+
+def read(text):
+    """The tokens of the code, without ghost text. The last token is empty."""
+    tokens, at, lead, above, ghost, clause, asked = [], 0, "", None, False, False, False
+    while at < len(text):
+        found = TOKEN.match(text, at)
+        kind, word = found.lastgroup, found.group()
+        if kind in ("space", "comment"):
+            lead, at = lead + word, found.end()
+            continue
+        try:
+            gone = ghost_end(text, at) if kind == "name" or word == "#" else None
+            if gone is None and kind != "text" and not word.isascii():
+                raise Unknown(f"ghost text that nothing announces, {word}")
+        except (Unknown, ValueError) as fault:
+            raise Unknown(f"{text.count(chr(10), 0, at) + 1}: {fault}") from fault
+        if above is not None:
+            lead = joined(above, lead)
+            above = None
+        if gone:
+            COUNT[f"{gone[0]} taken away"] += 1
+            at, ghost, clause = gone[1], True, clause or gone[0] == "clause"
+            if gone[0] == "clause":
+                lead, asked = "", asked or word == "requires"
+            else:
+                for words in (["pub"], ["pub", "(", "crate", ")"]):
+                    if gone[0] != "tactic" and [it.text for it in tokens[-len(words) :]] == words:
+                        lead = tokens[-len(words)].lead
+                        del tokens[-len(words) :]
+                above, lead = without_attached(lead) if gone[0] != "tactic" else lead, ""
+            continue
+        if clause:
+            lead, clause = " " if word == "{" else "", False
+        tokens.append(Token(lead, kind, word, ghost, asked))
+        at, lead, ghost, asked = found.end(), "", False, False
+    tokens.append(Token(joined(above, lead) if above is not None else lead, "end", ""))
+    return tokens
+
+
+def lexed(text):
+    """The tokens of a text that is put in."""
+    return read(text)[:-1]
+
+
+# ------------------------------------------------------------------------------------------------ finding
+def stands(tokens, at, words):
+    """Whether the tokens from `at` on are these words."""
+    return [it.text for it in tokens[at : at + len(words)]] == words
+
+
+def beyond(tokens, at):
+    """The index behind what the bracket at `at` opens, angle brackets too."""
+    pairs = {"<": ">", "(": ")", "{": "}", "[": "]"}
+    first, depth = tokens[at].text, 0
+    while True:
+        depth += (tokens[at].text == first) - (tokens[at].text == pairs[first])
+        at += 1
+        if depth == 0:
+            return at
+
+
+def parameters(tokens):
+    """The parameters between angle brackets, as lists of tokens."""
+    parts, depth = [[]], 0
+    for it in tokens[1:-1]:
+        depth += (it.text in "<([") - (it.text in ">)]") if it.kind == "sign" and it.text != "->" else 0
+        if it.text == "," and depth == 0:
+            parts.append([])
+        else:
+            parts[-1].append(it)
+    return [it for it in parts if it]
+
+
+def cut(tokens, begin, end, item):
+    """Takes tokens away; with an item the comments right above it go too."""
+    lead = tokens[begin].lead
+    if item:
+        tokens[end].lead = joined(without_attached(lead), tokens[end].lead)
+    elif tokens[begin - 1].text == "(":
+        tokens[end].lead = tokens[end].lead if "\n" in tokens[end].lead else lead
+    else:
+        tokens[end].lead = lead if "\n" in lead else tokens[end].lead or lead
+    del tokens[begin:end]
+
+
+def header(tokens, at):
+    """The trait's name and the index of the body of the impl at `at`; None where it is of no trait."""
+    at = beyond(tokens, at + 1) if tokens[at + 1].text == "<" else at + 1
+    name = None
+    while tokens[at].text not in ("for", "{", "!"):
+        if tokens[at].text == "<":
+            at = beyond(tokens, at)
+            continue
+        name = tokens[at].text if tokens[at].kind == "name" else name
+        at += 1
+    if tokens[at].text != "for":
+        return None
+    while tokens[at].text != "{":
+        at += 1
+    return name, at
+
+
+def body_of(tokens, at):
+    """The index of the body of the function at `at`, or of the semicolon in its place."""
+    body = beyond(tokens, at + 2) if tokens[at + 2].text == "<" else at + 2
+    while tokens[body].text not in ("{", ";"):
+        body = beyond(tokens, body) if tokens[body].text in ("(", "[") else body + 1
+    return body
+
+
+def beginning(tokens, at):
+    """The index of the first token of the item whose keyword is at `at`, without its attributes."""
+    while tokens[at - 1].text in ("pub", "(", "crate", ")", "const"):
+        at -= 1
+    return at
