@@ -26,6 +26,7 @@ pub fn iban_code(count: usize) -> Code<'static>
     ensures count { length result.weights.now ≡ count }
     ensures weights { (i : ℕ) → i < count → slice_index result.weights.now i ≡ 10 ^ (count - 1 - i) % 97 }
 {
+    prove!(count <= 68);
     let powers: &'static [u64] = &POWERS;
     Code {
         modulus: 97,
