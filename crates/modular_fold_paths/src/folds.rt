@@ -108,6 +108,7 @@ pub fn fold_all<V: FoldWord>(v: V, p: u32, c: V, m: V) -> (V, u32)
 
 // v modulo m, v being at most a product of two numbers below 2^p: folds in a straight line and one
 // subtraction. No fold tests the number: how many it takes is known from c and p.
+#[inline(always)]
 fn residue_in_line<V: FoldWord>(v: V, p: u32, c: V, m: V) -> V
     requires folding { IsFolding V.width p (V.number c) (V.number m) }
     requires room { 2 * p ≤ V.width }
@@ -159,6 +160,7 @@ impl FoldedWord for u32 {
         (rest as u32, count)
     }
 
+    #[inline(always)]
     fn reduce_in_line(v: u64, p: u32, c: u32, m: u32) -> u32 {
         residue_in_line(v, p, c as u64, m as u64) as u32
     }
@@ -170,6 +172,7 @@ impl FoldedWord for u64 {
         (rest as u64, count)
     }
 
+    #[inline(always)]
     fn reduce_in_line(v: u128, p: u32, c: u64, m: u64) -> u64 {
         residue_in_line(v, p, c as u128, m as u128) as u64
     }

@@ -68,6 +68,8 @@ fn product_by_folds<T: PathWord>(a: T, b: T, p: u32, c: T, m: T) -> T
 /// fourth of 2^p in a straight line. There no number is tested: c and p alone choose.
 ///
 /// Source: Handbook of Applied Cryptography, algorithm 14.47.
+// Inlined, so that c and p are constants: else each fold waits for a test.
+#[inline(always)]
 pub fn reduce_product<T: FoldedWord>(a: T, b: T, p: u32, c: T, m: T) -> T
     requires folding { IsFolding T.width p (T.number c) (T.number m) }
     requires left { T.number a < T.number m }
