@@ -111,7 +111,7 @@ cancels_at m e i d j k q one whole =
     omega (arith, times, along)
 
 -- a factor with an inverse cancels from a product that is 0 modulo m
-unit_cancels : (m e i d : ℕ) → (e * i) % m ≡ 1 % m → (e * d) % m ≡ 0 → d % m ≡ 0
+pub unit_cancels : (m e i d : ℕ) → (e * i) % m ≡ 1 % m → (e * d) % m ≡ 0 → d % m ≡ 0
 unit_cancels m e i d one zero_product =
     let whole = div-add-mod (e * d) m in
     gathered m d 0 _ _

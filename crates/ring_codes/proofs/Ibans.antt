@@ -2,12 +2,18 @@
 use Rattle.std.proofs.Common.{◌≡◌, ◌↔◌, ℕ, zero, suc, ◌+◌, ◌-◌, ◌*◌, ◌%◌, ◌^◌, ◌<◌, Bool, true, ◌&&◌}
 use Rattle.std.proofs.Common.{nat_eq, List, [], ◌∷◌, length, get_or, drop, sym, ap, ◌∙◌, refl, arith}
 use Rattle.std.proofs.Math.Nat.{add-mod}
-use Rattle.std.proofs.lemmas.Bool.{and_parts, eqb-true}
+use Rattle.std.proofs.lemmas.Bool.{and_parts, eqb-true, leb-true}
 use Rattle.std.proofs.lemmas.List.{get_or-drop}
 use Rattle.std.proofs.lemmas.Nat.{mul-mod_first}
 use Rattle.num_modular.specs.Sums.{sum_below, polynomial}
-use Rattle.ring_codes.specs.Codes.{weighted_sum, IsCodeword}
-use Rattle.ring_codes.specs.Ibans.{iban_digits, iban_number}
+use Rattle.std.proofs.Common.{◌≤◌, ◌⊎◌, ⊎_elim, ◌++◌, ◌/◌, take, subst, false, nat_le, if◌then◌else◌}
+use Rattle.std.specs.List.{All, flat_map}
+use Rattle.std.proofs.lemmas.List.{ext_get_or, get_or-take, length-take-le}
+use Rattle.std.proofs.lemmas.List.Elements.{All-nil, All-cons, All-append, All-drop, All-take, All-from_recursion, recursion_from_All}
+use Rattle.ring_codes.specs.Codes.{weighted_sum, CheckCode, IsCodeword}
+use Rattle.ring_codes.specs.Ibans.{IsDigit, IsLetter, digits_of, iban_digits, iban_number}
+use Rattle.ring_codes.specs.Standards.{from_right, mod_97_10}
+use Rattle.ring_codes.proofs.Finds.{each_below, passes, length-from_right, get_or-from_right}
 
 -- sums whose terms leave the same modulo m
 sums_alike : (m n : ℕ) (f g : ℕ → ℕ) → ((i : ℕ) → i < n → f i % m ≡ g i % m) → sum_below n f % m ≡ sum_below n g % m
@@ -57,16 +63,90 @@ powers_behind m place xs count i h whole within =
     let same : length xs - 1 - (place + i) ≡ count - 1 - i = omega (arith, whole) in
     get_or-drop place xs i 0 ∙ powers_at m xs h (place + i) (omega (arith, whole)) ∙ ap (λ e. 10 ^ e % m) same
 
--- the digits of a text are a word of the code of the powers of ten, exactly where the number that they write leaves 1
-pub is_word : (text weights word : List ℕ) (m r n : ℕ) → m ≡ 97 → r ≡ 1 → word ≡ iban_digits text → length word ≡ n
-    → ((i : ℕ) → i < n → get_or weights i 0 ≡ 10 ^ (n - 1 - i) % 97)
-    → IsCodeword m r weights word ↔ (iban_number text % 97 ≡ 1)
-is_word text weights word m r n modulus residue digits count powers =
+-- the digits of characters are digits
+digits_by : (b : Bool) (c : ℕ) → nat_le c 57 ≡ b → c ≤ 90
+    → All (λ d. d ≤ 9) (if b then (c - 48) ∷ [] else ((c - 55) / 10) ∷ ((c - 55) % 10) ∷ [])
+digits_by true c e h =
+    let digit : c ≤ 57 = leb-true c 57 e in
+    All-cons (λ d. d ≤ 9) (c - 48) [] (omega arith) (All-nil (λ d. d ≤ 9))
+digits_by false c e h =
+    All-cons (λ d. d ≤ 9) ((c - 55) / 10) (((c - 55) % 10) ∷ []) (omega arith)
+    (All-cons (λ d. d ≤ 9) ((c - 55) % 10) [] (omega arith) (All-nil (λ d. d ≤ 9)))
+
+digits_small : (c : ℕ) → IsDigit c ⊎ IsLetter c → All (λ d. d ≤ 9) (digits_of c)
+digits_small c h =
+    let bound : c ≤ 90 = ⊎_elim (λ (d : IsDigit c). let b = d.1 in omega arith) (λ (l : IsLetter c). l.1) h in
+    digits_by (nat_le c 57) c refl bound
+
+pub all_digits : (text : List ℕ) → All (λ c. IsDigit c ⊎ IsLetter c) text → All (λ d. d ≤ 9) (flat_map digits_of text)
+all_digits [] h = All-nil (λ d. d ≤ 9)
+all_digits (c ∷ cs) h =
+    let parts = recursion_from_All (λ c. IsDigit c ⊎ IsLetter c) (c ∷ cs) h in
+    All-append (λ d. d ≤ 9) (digits_of c) (flat_map digits_of cs) (digits_small c parts.0)
+    (all_digits cs (All-from_recursion (λ c. IsDigit c ⊎ IsLetter c) cs parts.1))
+
+-- the digits of a text are a word of the code of its number of digits, exactly where the number that they write leaves 1
+pub is_word : (code : CheckCode) (text word : List ℕ) (n : ℕ) → code ≡ mod_97_10 n → word ≡ iban_digits text
+    → length word ≡ n → All (λ c. IsDigit c ⊎ IsLetter c) text
+    → IsCodeword code word ↔ (iban_number text % 97 ≡ 1)
+is_word code text word n is digits count characters =
+    let weights : List ℕ = from_right n (λ j. 10 ^ j % 97) in
     let number : weighted_sum weights word % 97 ≡ iban_number text % 97 =
     number_of_sum 97 weights word
-    (λ i h. powers i (omega (arith, h, count)) ∙ ap (λ k. 10 ^ (k - 1 - i) % 97) (sym count))
+    (λ i h. get_or-from_right n (λ j. 10 ^ j % 97) i (omega (arith, h, count)) ∙ ap (λ k. 10 ^ (k - 1 - i) % 97) (sym count))
     ∙ ap (λ ds. polynomial (length ds) (λ i. get_or ds i 0) 10 % 97) digits in
-    let sum : weighted_sum weights word % m ≡ weighted_sum weights word % 97 =
-    ap (λ k. weighted_sum weights word % k) modulus in
-    let one : r % m ≡ 1 = ap (λ k. r % k) modulus ∙ ap (λ k. k % 97) residue in
-    ((λ p. sym number ∙ sym sum ∙ p.leaves ∙ one), λ h. record { leaves = sum ∙ number ∙ h ∙ sym one })
+    let small : All (λ d. d ≤ 9) word =
+    subst (All (λ d. d ≤ 9)) (sym digits)
+    (all_digits (drop 4 text ++ take 4 text)
+    (All-append (λ c. IsDigit c ⊎ IsLetter c) (drop 4 text) (take 4 text)
+    (All-drop (λ c. IsDigit c ⊎ IsLetter c) 4 text characters)
+    (All-take (λ c. IsDigit c ⊎ IsLetter c) 4 text characters))) in
+    subst (λ k. IsCodeword k word ↔ (iban_number text % 97 ≡ 1)) (sym is) (
+      λ w. sym number ∙ w.leaves,
+      λ h. record {
+        places = count ∙ sym (length-from_right n (λ j. 10 ^ j % 97));
+        symbols = λ i l. record {
+          least = subst (λ k. k ≤ get_or word i 0) (sym (get_or-from_right n (λ j. 0) i (omega (arith, l, count)))) (omega arith);
+          greatest = subst (λ k. get_or word i 0 ≤ k) (sym (get_or-from_right n (λ j. 9) i (omega (arith, l, count))))
+              (small i 0 l);
+        };
+        leaves = number ∙ h;
+      },
+    )
+
+-- a list by its places
+listed : (n : ℕ) (xs : List ℕ) (f : ℕ → ℕ) → length xs ≡ n → ((i : ℕ) → i < n → get_or xs i 0 ≡ f (n - 1 - i))
+    → xs ≡ from_right n f
+listed n xs f count at =
+    ext_get_or 0 xs (from_right n f) (count ∙ sym (length-from_right n f))
+    (λ i h.
+    let inside : i < n = omega (arith, count, h) in
+    at i inside ∙ sym (get_or-from_right n f i inside))
+
+abbrev pub code_with : List ℕ → List ℕ → List ℕ → CheckCode
+code_with ws ls gs = record { modulus = 97; residue = 1; weights = ws; least = ls; greatest = gs }
+
+-- whether one number is at each of 68 places
+abbrev pub is_constant : ℕ → List ℕ → Bool
+is_constant v xs = each_below 68 (λ i. nat_eq (get_or xs i 0) v)
+
+-- the first of them
+constant : (v n : ℕ) (xs : List ℕ) → n ≤ 68 → length xs ≡ 68 → is_constant v xs ≡ true
+    → take n xs ≡ from_right n (λ j. v)
+constant v n xs most count h =
+    listed n (take n xs) (λ j. v) (length-take-le n xs (omega (arith, count)))
+    (λ i l.
+    let inside : i < 68 = omega (arith, l) in
+    get_or-take n xs i 0 l
+    ∙ eqb-true (get_or xs i 0) v (passes 68 (λ i. nat_eq (get_or xs i 0) v) h i inside))
+
+-- the code of the powers of ten, and of the digits
+pub is_code : (n : ℕ) (ws ls gs : List ℕ) → n ≤ 68 → length ws ≡ n
+    → ((i : ℕ) → i < n → get_or ws i 0 ≡ 10 ^ (n - 1 - i) % 97)
+    → length ls ≡ 68 → is_constant 0 ls ≡ true → length gs ≡ 68 → is_constant 9 gs ≡ true
+    → code_with ws (take n ls) (take n gs) ≡ mod_97_10 n
+is_code n ws ls gs most count weights l_count l g_count g =
+    ap (λ xs. code_with xs (take n ls) (take n gs)) (listed n ws (λ j. 10 ^ j % 97) count weights)
+    ∙ ap (λ xs. code_with (from_right n (λ j. 10 ^ j % 97)) xs (take n gs)) (constant 0 n ls most l_count l)
+    ∙ ap (λ xs. code_with (from_right n (λ j. 10 ^ j % 97)) (from_right n (λ j. 0)) xs)
+    (constant 9 n gs most g_count g)

@@ -1,2 +1,4 @@
 mod CheckSums
+mod Codewords
+mod Finds
 mod Ibans

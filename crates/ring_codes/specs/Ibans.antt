@@ -1,5 +1,5 @@
 -- IBANs as their standard reads them (ISO 13616-1:2020, by ISO/IEC 7064:2003, MOD 97-10).
-use Rattle.std.specs.Prelude.{◌≡◌, ℕ, ◌-◌, ◌/◌, ◌%◌, ◌≤◌, ◌⊎◌, if◌then◌else◌, nat_le}
+use Rattle.std.specs.Prelude.{◌≡◌, ℕ, ◌+◌, ◌-◌, ◌*◌, ◌/◌, ◌%◌, ◌≤◌, ◌⊎◌, if◌then◌else◌, nat_le}
 use Rattle.std.specs.Prelude.{List, All, [], ◌∷◌, ◌++◌, length, slice_index, take, drop}
 use Rattle.std.specs.List.{flat_map}
 use Rattle.num_modular.specs.Sums.{polynomial}
@@ -33,7 +33,13 @@ iban_digits text = flat_map digits_of (drop 4 text ++ take 4 text)
 abbrev pub iban_number : List ℕ → ℕ
 iban_number text = polynomial (length (iban_digits text)) (slice_index (iban_digits text)) 10
 
--- the text is an IBAN: it has the form, and its number leaves 1 modulo 97
+-- the number that the two check digits write
+abbrev pub check_number : List ℕ → ℕ
+check_number text = 10 * (slice_index text 2 - 48) + (slice_index text 3 - 48)
+
+-- the text is an IBAN: it has the form, its check digits are of those that the standard generates, 98 less a remainder
+-- modulo 97, and its number leaves 1 modulo 97
 pub record IsIban (text : List ℕ) : Type 0 where
   pub form : IsIbanForm text
+  pub generated : (2 ≤ check_number text) × (check_number text ≤ 98)
   pub leaves : iban_number text % 97 ≡ 1

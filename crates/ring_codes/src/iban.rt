@@ -6,9 +6,15 @@
 ghost use Rattle.std.specs.Prelude.{◌≡◌, ℕ, suc, ◌+◌, ◌-◌, ◌*◌, ◌%◌, ◌^◌, ◌<◌, ◌≤◌, ◌↔◌};
 ghost use Rattle.std.specs.Prelude.{◌⊎◌, ◌++◌, IsTrue, All, length, slice_index, take};
 ghost use Rattle.std.specs.List.{flat_map};
-ghost use Rattle.ring_codes.specs.Ibans.{IsDigit, IsLetter, IsIbanForm, digits_of, iban_digits, IsIban};
+ghost use Rattle.ring_codes.specs.Codes.{code_of};
+ghost use Rattle.ring_codes.specs.Ibans.{IsDigit, IsLetter, IsIbanForm, digits_of, iban_digits, check_number, IsIban};
+ghost use Rattle.ring_codes.specs.Standards.{mod_97_10};
 
 use crate::Code;
+
+const LEAST: [u64; 68] = [0; 68];
+
+const GREATEST: [u64; 68] = [9; 68];
 
 // The powers of ten from 10^67 down, modulo 97: a text of 34 characters has 68 digits at most.
 const POWERS: [u64; 68] = [
@@ -17,21 +23,26 @@ const POWERS: [u64; 68] = [
     17, 89, 38, 62, 45, 53, 15, 50, 5, 49, 34, 81, 76, 27, 90, 9, 30, 3, 10, 1,
 ];
 
-/// The code of the IBANs of so many digits: modulo 97, the weights are the powers of ten, and a word
-/// leaves 1 (ISO/IEC 7064, MOD 97-10). Condition: there are 68 digits at most.
+/// The code of the IBANs of so many digits: modulo 97, the weights are the powers of ten, and a word of
+/// digits leaves 1 (ISO/IEC 7064, MOD 97-10). Condition: there are 68 digits at most.
 pub fn iban_code(count: usize) -> Code<'static>
     requires { count ≤ 68 }
     ensures modulus { result.modulus ≡ 97 }
     ensures residue { result.residue ≡ 1 }
     ensures count { length result.weights.now ≡ count }
     ensures weights { (i : ℕ) → i < count → slice_index result.weights.now i ≡ 10 ^ (count - 1 - i) % 97 }
+    ensures code { code_of result ≡ mod_97_10 count }
 {
     prove!(count <= 68);
     let powers: &'static [u64] = &POWERS;
+    let least: &'static [u64] = &LEAST;
+    let greatest: &'static [u64] = &GREATEST;
     Code {
         modulus: 97,
-        weights: &powers[powers.len() - count..],
         residue: 1,
+        weights: &powers[powers.len() - count..],
+        least: &least[..count],
+        greatest: &greatest[..count],
     }
 }
 
@@ -116,17 +127,30 @@ pub fn iban_digits(text: &[u8], digits: &mut [u64]) -> usize
     write_text(&text[..4], digits, end)
 }
 
-/// Whether the text is an IBAN: exactly where it has the form of one, and the number that its digits
-/// write in decimal leaves 1 modulo 97. How long the IBANs of its country are isn't looked at.
+// The number that the check digits write.
+fn check_number(text: &[u8]) -> u8
+    requires { IsIbanForm text.now }
+    ensures { result ≡ check_number text.now }
+{
+    10 * (text[2] - b'0') + (text[3] - b'0')
+}
+
+/// Whether the text is an IBAN: exactly where it has the form of one, its check digits are 02 to 98, and
+/// the number that its digits write in decimal leaves 1 modulo 97. How long the IBANs of its country are
+/// isn't looked at.
 ///
-/// Where it has the form, it is one exactly where its digits are a word of `iban_code`, whose call
-/// `finds_change` tells that a change of one digit is found: always, where the weight of its place
-/// has an inverse modulo 97. The change of a letter for another is one of the two digits that it is
-/// read as, or of both; `finds_change` speaks of one.
+/// Where it has the form and such check digits, it is one exactly where its digits are a word of
+/// `iban_code`, of which `standard_finds` says that every change of one digit and every exchange of two
+/// neighbouring digits that differ is found. The change of a letter for another is one of the two
+/// digits that it is read as, or of both; the clauses speak of one.
 pub fn accepts_iban(text: &[u8]) -> bool
     ensures { IsTrue result ↔ IsIban text.now }
 {
     if !has_iban_form(text) {
+        return false;
+    }
+    let check = check_number(text);
+    if check < 2 || check > 98 {
         return false;
     }
     let mut digits = [0; 68];

@@ -1,0 +1,157 @@
+-- Words of codes with one symbol changed, or with two neighbours exchanged.
+use Rattle.std.proofs.Common.{Bool, true, false, not, IsTrue, ◌↔◌, ◌≡◌, ◌≢◌, ℕ, suc, ◌+◌, ◌-◌, ◌*◌, ◌%◌, ◌<◌, pos, ◌-ℤ◌}
+use Rattle.std.proofs.Common.{List, length, get_or, set, sym, ap, ◌∙◌, refl, subst, arith, ⊎_elim}
+use Rattle.std.proofs.Common.{length-set, get_or-set_same, get_or-set_other}
+use Rattle.std.proofs.Math.Nat.{mod-add-mod, mod-mod, add-mul-mod_self_left, mod-eq_of_lt}
+use Rattle.std.proofs.lemmas.Bool.{cases_eq, false≢true}
+use Rattle.std.proofs.lemmas.Nat.{mul-mod_first}
+use Rattle.num_modular.specs.Residues.{residue}
+use Rattle.ring_codes.specs.Codes.{CheckCode, Fits, IsCodeword, exchanged}
+use Rattle.ring_codes.proofs.CheckSums.{changed_symbol, changed_sum, exchanged_symbols, exchanged_sum, still_leaves}
+
+-- a symbol written into a word: each fits, where the others do
+pub set_fits : (code : CheckCode) (word : List ℕ) (p s : ℕ) → Fits code p s
+    → ((i : ℕ) → i < length word → i ≢ p → Fits code i (get_or word i 0))
+    → (i : ℕ) → i < length (set word p s) → Fits code i (get_or (set word p s) i 0)
+set_fits code word p s here others i h =
+    let within : i < length word = omega (arith, length-set word p s) in
+    ⊎_elim
+    (λ (e : i ≡ p).
+    subst (λ n. Fits code n (get_or (set word p s) n 0)) (sym e)
+    (subst (Fits code p) (sym (get_or-set_same word p s 0 (subst (λ n. n < length word) e within))) here))
+    (λ (ne : i ≢ p). subst (Fits code i) (sym (get_or-set_other word p i s 0 ne)) (others i within ne))
+    (cases_eq i p)
+
+-- a word with another symbol that is of the code: the symbol fits, and so do the others
+pub fits_there : (code : CheckCode) (word : List ℕ) (p s : ℕ) → p < length word → IsCodeword code (set word p s)
+    → Fits code p s
+fits_there code word p s within w =
+    let inside : p < length (set word p s) = omega (arith, length-set word p s) in
+    subst (Fits code p) (get_or-set_same word p s 0 within) (w.symbols p inside)
+
+pub fits_elsewhere : (code : CheckCode) (word : List ℕ) (p s : ℕ) → IsCodeword code (set word p s) → (i : ℕ)
+    → i < length word → i ≢ p → Fits code i (get_or word i 0)
+fits_elsewhere code word p s w i h ne =
+    let inside : i < length (set word p s) = omega (arith, length-set word p s) in
+    subst (Fits code i) (get_or-set_other word p i s 0 ne) (w.symbols i inside)
+
+-- the word with one symbol changed, d being a difference of the symbols
+pub changed_word : (code : CheckCode) (word : List ℕ) (p s d : ℕ) → IsCodeword code word → p < length word
+    → (d + get_or word p 0) % code.modulus ≡ s % code.modulus
+    → IsCodeword code (set word p s) ↔ (Fits code p s × ((get_or code.weights p 0 * d) % code.modulus ≡ 0))
+changed_word code word p s d is within difference =
+    let moved = changed_symbol code.weights word p s within in
+    let still = still_leaves code.modulus code.residue _ _ _ is.leaves
+    (changed_sum code.modulus _ _ _ _ _ d moved difference) in (
+      λ w. (fits_there code word p s within w, still.0 w.leaves),
+      λ h. record {
+        places = length-set word p s ∙ is.places;
+        symbols = set_fits code word p s h.0 (λ i l _. is.symbols i l);
+        leaves = still.1 h.1;
+      },
+    )
+
+-- and with two neighbours exchanged, e being a difference of their weights
+pub exchanged_word : (code : CheckCode) (word : List ℕ) (p e d : ℕ) → IsCodeword code word → suc p < length word
+    → (e + get_or code.weights (suc p) 0) % code.modulus ≡ get_or code.weights p 0 % code.modulus
+    → (d + get_or word p 0) % code.modulus ≡ get_or word (suc p) 0 % code.modulus
+    → IsCodeword code (exchanged word p)
+    ↔ (Fits code p (get_or word (suc p) 0) × Fits code (suc p) (get_or word p 0) × ((e * d) % code.modulus ≡ 0))
+exchanged_word code word p e d is within weights symbols =
+    let x = get_or word p 0 in
+    let y = get_or word (suc p) 0 in
+    let half = set word p y in
+    let moved = exchanged_symbols code.weights word p within in
+    let still = still_leaves code.modulus code.residue _ _ _ is.leaves
+    (exchanged_sum code.modulus _ _ _ _ _ _ e d moved weights symbols) in
+    let count : length (set half (suc p) x) ≡ length word = length-set half (suc p) x ∙ length-set word p y in
+    let before : p < length word = omega arith in
+    let behind : suc p < length half = omega (arith, length-set word p y) in
+    let apart : p ≢ suc p = omega arith in (
+      λ w. (
+        subst (Fits code p) (get_or-set_other half (suc p) p x 0 apart ∙ get_or-set_same word p y 0 before)
+            (w.symbols p (omega (arith, count))),
+        subst (Fits code (suc p)) (get_or-set_same half (suc p) x 0 behind)
+            (w.symbols (suc p) (omega (arith, count))),
+        still.0 w.leaves,
+      ),
+      λ h. record {
+        places = count ∙ is.places;
+        symbols = set_fits code half (suc p) x h.1 (λ i l _. set_fits code word p y h.0 (λ j k _. is.symbols j k) i l);
+        leaves = still.1 h.2;
+      },
+    )
+
+-- a difference that is 0 modulo m, of residues
+pub same_residues : (m d x y : ℕ) → x < m → y < m → (d + x) % m ≡ y % m → d % m ≡ 0 → y ≡ x
+same_residues m d x y x_below y_below difference none =
+    let alone : 0 + x ≡ x = omega arith in
+    sym (mod-eq_of_lt y_below) ∙ sym difference ∙ sym (mod-add-mod d m x)
+    ∙ ap (λ n. (n + x) % m) none ∙ ap (λ n. n % m) alone ∙ mod-eq_of_lt x_below
+
+-- a difference of residues
+pub a_difference : (m x y : ℕ) → x < m → (y + (m - x) + x) % m ≡ y % m
+a_difference m x y h =
+    let sum : y + (m - x) + x ≡ y + m * 1 = omega arith in
+    ap (λ n. n % m) sum ∙ add-mul-mod_self_left y m 1
+
+-- the same by a product v that is computed of residues, and by that of the definition
+pub change_told : (code : CheckCode) (word : List ℕ) (p s v : ℕ) → IsCodeword code word → p < length word
+    → ((a b : ℕ) → (residue code.modulus (pos a -ℤ pos b) + b) % code.modulus ≡ a % code.modulus)
+    → v ≡ (get_or code.weights p 0 % code.modulus
+    * residue code.modulus (pos (s % code.modulus) -ℤ pos (get_or word p 0))) % code.modulus
+    → (IsCodeword code (set word p s) ↔ (Fits code p s × (v ≡ 0)))
+    × (IsCodeword code (set word p s) ↔ (Fits code p s
+    × ((get_or code.weights p 0 * residue code.modulus (pos s -ℤ pos (get_or word p 0))) % code.modulus ≡ 0)))
+change_told code word p s v is within difference product =
+    let m = code.modulus in
+    let w = get_or code.weights p 0 in
+    let d = residue m (pos (s % m) -ℤ pos (get_or word p 0)) in
+    let word_is = changed_word code word p s d is within (difference (s % m) (get_or word p 0) ∙ mod-mod s m) in
+    let same : v ≡ (w * d) % m = product ∙ mul-mod_first w d m in (
+      (λ changed. ((word_is.0 changed).0, same ∙ (word_is.0 changed).1), λ h. word_is.1 (h.0, sym same ∙ h.1)),
+      changed_word code word p s _ is within (difference s (get_or word p 0)),
+    )
+
+pub exchange_told : (code : CheckCode) (word : List ℕ) (p v : ℕ) → IsCodeword code word → suc p < length word
+    → ((a b : ℕ) → (residue code.modulus (pos a -ℤ pos b) + b) % code.modulus ≡ a % code.modulus)
+    → v ≡ (residue code.modulus (pos (get_or code.weights p 0 % code.modulus) -ℤ pos (get_or code.weights (suc p) 0))
+    * residue code.modulus (pos (get_or word (suc p) 0 % code.modulus) -ℤ pos (get_or word p 0))) % code.modulus
+    → (IsCodeword code (exchanged word p)
+    ↔ ((Fits code p (get_or word (suc p) 0) × Fits code (suc p) (get_or word p 0)) × (v ≡ 0)))
+    × (IsCodeword code (exchanged word p)
+    ↔ ((Fits code p (get_or word (suc p) 0) × Fits code (suc p) (get_or word p 0))
+    × ((residue code.modulus (pos (get_or code.weights p 0) -ℤ pos (get_or code.weights (suc p) 0))
+    * residue code.modulus (pos (get_or word (suc p) 0) -ℤ pos (get_or word p 0))) % code.modulus ≡ 0)))
+exchange_told code word p v is within difference same =
+    let m = code.modulus in
+    let a = get_or code.weights p 0 in
+    let b = get_or code.weights (suc p) 0 in
+    let x = get_or word p 0 in
+    let y = get_or word (suc p) 0 in
+    let tested = exchanged_word code word p _ _ is within (difference (a % m) b ∙ mod-mod a m)
+    (difference (y % m) x ∙ mod-mod y m) in
+    let defined = exchanged_word code word p _ _ is within (difference a b) (difference y x) in (
+      (λ w. (((tested.0 w).0, (tested.0 w).1), same ∙ (tested.0 w).2), λ h. tested.1 (h.0.0, h.0.1, sym same ∙ h.1)),
+      (λ w. (((defined.0 w).0, (defined.0 w).1), (defined.0 w).2), λ h. defined.1 (h.0.0, h.0.1, h.1)),
+    )
+
+-- what is answered of a changed word W, F being that its symbols fit, V and P that the sum doesn't show the change:
+-- where it does
+pub shown : (F W V P : Type 0) → (W ↔ (F × V)) → (W ↔ (F × P)) → ¬ V → (IsTrue true ↔ ¬ W) × (IsTrue true ↔ (F → ¬ P))
+shown F W V P by_test by_product apart = (
+  (λ h w. apart (by_test.0 w).1, λ h. refl),
+  (λ h fits none. apart (by_test.0 (by_product.1 (fits, none))).1, λ h. refl),
+)
+
+-- and where it doesn't, by the test b of the symbols
+pub unshown : (b : Bool) (F W V P : Type 0) → (IsTrue b ↔ F) → (W ↔ (F × V)) → (W ↔ (F × P)) → V
+    → (IsTrue (not b) ↔ ¬ W) × (IsTrue (not b) ↔ (F → ¬ P))
+unshown true F W V P t by_test by_product v =
+    let fits = t.0 refl in
+    let word = by_test.1 (fits, v) in
+    let none = (by_product.0 word).1 in ((λ h. cc, λ h. absurd (h word)), (λ h. cc, λ h. absurd (h fits none)))
+unshown false F W V P t by_test by_product v =
+    let unfit = λ (fits : F).
+    let wrong : false ≡ true = t.1 fits in
+    false≢true wrong in ((λ h w. absurd (unfit (by_test.0 w).0), λ h. refl), (λ h fits. absurd (unfit fits), λ h. refl))

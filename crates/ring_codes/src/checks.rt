@@ -1,0 +1,190 @@
+//! What a code accepts and finds, and how it restores an erased symbol.
+
+ghost use Rattle.std.specs.Prelude.{◌≡◌, ◌≢◌, ℕ, suc, ◌+◌, ◌*◌, ◌%◌, ◌<◌, ◌≤◌, ◌↔◌};
+ghost use Rattle.std.specs.Prelude.{IsTrue, length, slice_index, slice_set, pos, ◌-ℤ◌};
+ghost use Rattle.num_modular.specs.Integers.{IsReduced};
+ghost use Rattle.num_modular.specs.Inverses.{HasInverse};
+ghost use Rattle.num_modular.specs.Residues.{residue};
+ghost use Rattle.ring_codes.specs.Codes.{weighted_sum, code_of, Fits, IsCodeword, exchanged, IsRestored};
+
+use crate::Code;
+use num_modular::laws::{inverse_laws, residue_laws};
+use num_modular::{ModularInteger, VanillaInt};
+
+impl<'a> Code<'a> {
+    /// The weighted sum of the symbols, modulo the modulus. Condition: each place has a weight.
+    pub fn check_sum(&self, word: &[u64]) -> VanillaInt<u64>
+        requires { length word.now ≤ length self.now.weights.now }
+        ensures { IsReduced self.now.modulus (weighted_sum self.now.weights.now word.now % self.now.modulus) result }
+    {
+        let weights = self.weights;
+        let mut sum = VanillaInt::<u64>::new(0, &self.modulus);
+        'places: for (place, symbol) in word.iter().enumerate() {
+            let weight = sum.convert(weights[place]);
+            sum += weight * *symbol;
+        }
+        sum
+    }
+
+    /// Whether the symbol is one of those of the place. Condition: the code has the place.
+    pub fn fits(&self, place: usize, symbol: u64) -> bool
+        requires { place < length self.now.weights.now }
+        ensures { IsTrue result ↔ Fits (code_of self.now) place symbol }
+    {
+        let least = self.least;
+        let greatest = self.greatest;
+        least[place] <= symbol && symbol <= greatest[place]
+    }
+
+    // Whether the symbols at a place and behind it fit there exchanged.
+    fn fit_exchanged(&self, word: &[u64], place: usize) -> bool
+        requires within { suc place < length word.now }
+        requires weighted { length word.now ≡ length self.now.weights.now }
+        ensures { IsTrue result ↔ Fits (code_of self.now) place (slice_index word.now (suc place))
+            × Fits (code_of self.now) (suc place) (slice_index word.now place) }
+    {
+        self.fits(place, word[place + 1]) && self.fits(place + 1, word[place])
+    }
+
+    // Whether the word has a symbol for each place, and each but that at `erased` fits there.
+    fn fits_but(&self, word: &[u64], erased: usize) -> bool
+        ensures { IsTrue result ↔ (length word.now ≡ length self.now.weights.now)
+            × ((i : ℕ) → i < length word.now → i ≢ erased → Fits (code_of self.now) i (slice_index word.now i)) }
+    {
+        if word.len() != self.weights.len() {
+            return false;
+        }
+        'places: for (place, symbol) in word.iter().enumerate() {
+            if place != erased && !self.fits(place, *symbol) {
+                return false;
+            }
+        }
+        true
+    }
+
+    /// Whether the word is accepted: exactly where it is one of the code.
+    pub fn accepts(&self, word: &[u64]) -> bool
+        ensures { IsTrue result ↔ IsCodeword (code_of self.now) word.now }
+    {
+        if !self.fits_but(word, word.len()) {
+            return false;
+        }
+        let sum = self.check_sum(word);
+        sum == sum.convert(self.residue)
+    }
+
+    /// Whether the code finds the change of one symbol of a word: the word with `symbol` at `place`
+    /// is refused.
+    ///
+    /// It is, exactly where the symbol isn't one of the place's, or the weight times the difference of
+    /// the symbols isn't 0 modulo m; so always where the weight has an inverse, and the symbols differ
+    /// modulo m. Conditions: the word is accepted, and it has the place.
+    ///
+    /// Source: Gallian, "The mathematics of identification numbers", theorem 1.
+    pub fn finds_change(&self, word: &[u64], place: usize, symbol: u64) -> bool
+        requires accepted { IsCodeword (code_of self.now) word.now }
+        requires within { place < length word.now }
+        ensures refused { IsTrue result ↔ ¬ IsCodeword (code_of self.now) (slice_set word.now place symbol) }
+        ensures product { let m = self.now.modulus in
+            let difference = residue m (pos symbol -ℤ pos (slice_index word.now place)) in
+            IsTrue result ↔ (Fits (code_of self.now) place symbol →
+            (slice_index self.now.weights.now place * difference) % m ≢ 0) }
+        ensures unit { let m = self.now.modulus in
+            HasInverse m (slice_index self.now.weights.now place) →
+            symbol % m ≢ slice_index word.now place % m → IsTrue result }
+    {
+        residue_laws();
+        let weights = self.weights;
+        let weight = VanillaInt::<u64>::new(weights[place], &self.modulus);
+        let difference = weight.convert(symbol) - word[place];
+        if !(weight * difference).is_zero() {
+            return true;
+        }
+        !self.fits(place, symbol)
+    }
+
+    /// Whether the code finds the exchange of two neighbours: the word with the symbols at `place`
+    /// and behind it exchanged is refused.
+    ///
+    /// It is, exactly where one of them isn't one of its new place's symbols, or the difference of the
+    /// weights times that of the symbols isn't 0 modulo m; so always where the difference of the weights
+    /// has an inverse, and the symbols differ modulo m. Conditions: the word is accepted, and it has both
+    /// places.
+    ///
+    /// Source: Gallian, "The mathematics of identification numbers", theorem 2.
+    pub fn finds_exchange(&self, word: &[u64], place: usize) -> bool
+        requires accepted { IsCodeword (code_of self.now) word.now }
+        requires within { suc place < length word.now }
+        ensures refused { IsTrue result ↔ ¬ IsCodeword (code_of self.now) (exchanged word.now place) }
+        ensures product { let m = self.now.modulus in
+            let weights = self.now.weights.now in
+            let weight = residue m (pos (slice_index weights place) -ℤ pos (slice_index weights (suc place))) in
+            let difference = residue m (pos (slice_index word.now (suc place)) -ℤ pos (slice_index word.now place)) in
+            IsTrue result ↔ (Fits (code_of self.now) place (slice_index word.now (suc place))
+            × Fits (code_of self.now) (suc place) (slice_index word.now place) → (weight * difference) % m ≢ 0) }
+        ensures unit { let m = self.now.modulus in
+            let weights = self.now.weights.now in
+            HasInverse m (residue m (pos (slice_index weights place) -ℤ pos (slice_index weights (suc place)))) →
+            slice_index word.now (suc place) % m ≢ slice_index word.now place % m → IsTrue result }
+    {
+        residue_laws();
+        let weights = self.weights;
+        let weight = VanillaInt::<u64>::new(weights[place], &self.modulus) - weights[place + 1];
+        let difference = weight.convert(word[place + 1]) - word[place];
+        if !(weight * difference).is_zero() {
+            return true;
+        }
+        !self.fit_exchanged(word, place)
+    }
+
+    /// Whether an erased symbol of this weight can be restored: the weight has an inverse modulo m.
+    pub fn can_restore(&self, weight: u64) -> bool
+        ensures { IsTrue result ↔ HasInverse self.now.modulus weight }
+    {
+        inverse_laws();
+        VanillaInt::<u64>::new(weight, &self.modulus)
+            .inv()
+            .is_some()
+    }
+
+    // The one number below m that, at the place, makes the weighted sum leave the residue.
+    fn solve(&self, word: &[u64], place: usize) -> u64
+        requires weighted { length word.now ≤ length self.now.weights.now }
+        requires within { place < length word.now }
+        requires unit { HasInverse self.now.modulus (slice_index self.now.weights.now place) }
+        ensures below { result < self.now.modulus }
+        ensures leaves { weighted_sum self.now.weights.now (slice_set word.now place result) % self.now.modulus
+            ≡ self.now.residue % self.now.modulus }
+        ensures only { (t : ℕ) → t < self.now.modulus →
+            weighted_sum self.now.weights.now (slice_set word.now place t) % self.now.modulus
+            ≡ self.now.residue % self.now.modulus →
+            t ≡ result }
+    {
+        inverse_laws();
+        residue_laws();
+        let weights = self.weights;
+        let sum = self.check_sum(word) - self.residue;
+        let weight = sum.convert(weights[place]);
+        (sum.convert(word[place]) - sum / weight).residue()
+    }
+
+    /// The symbol below m that makes the word one of the code, in place of an erased one: there is no
+    /// other. `None` exactly where no symbol below m does. What stands at `place` doesn't matter.
+    /// Conditions: the word has the place, and the code a weight with an inverse modulo m there
+    /// (`can_restore` tells).
+    pub fn restore(&self, word: &[u64], place: usize) -> Option<u64>
+        requires within { place < length word.now }
+        requires unit { HasInverse self.now.modulus (slice_index self.now.weights.now place) }
+        ensures { IsRestored (code_of self.now) word.now place result }
+    {
+        if !self.fits_but(word, place) {
+            return None;
+        }
+        let symbol = self.solve(word, place);
+        if self.fits(place, symbol) {
+            Some(symbol)
+        } else {
+            None
+        }
+    }
+}
