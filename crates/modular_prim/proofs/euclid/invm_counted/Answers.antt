@@ -83,57 +83,70 @@ euclid-preserved g c =
           (rest_is (n c.euclid.last_r) (n c.euclid.r) q left is rest);
     }
 
-pub returns-then-is_below : goal.returns-then-is_below
-returns-then-is_below g c =
+pub returns-then-is_below-clause-inverse : goal.returns-then-is_below-clause-inverse
+returns-then-is_below-clause-inverse g c =
     let n = g.T.RingWord.number in
     let ended : n c.euclid.r ≡ 0 = grind arith in
     let above : 1 < n c.euclid.last_r = grind arith in
-    let few : c.euclid.count ≤ 2 * g.T.RingWord.width =
-    counts_few g.T.RingWord.width g.T.PathWord.base (n c.args.a) (n c.args.m) (n c.euclid.last_r) (n c.euclid.r)
-    c.euclid.count c.euclid.invariant.counts g.met.T.RingWord.width_from g.met.T.PathWord.base_is c.requires
-    c.is_below.ensures.fits c.is_below.ensures.other_fits in
-    record {
-      inverse =
-          λ x i. euclid_none (n c.args.a) (n c.args.m) (n c.euclid.last_r) (n c.euclid.r) (n c.euclid.last_t)
-          (n c.euclid.t) x c.euclid.odd c.euclid.invariant.steps ended above i;
-      count = counts_end (n c.args.a) (n c.args.m) (n c.euclid.last_r)
-          (n c.euclid.r) c.euclid.count c.euclid.invariant.counts ended;
-      at_most = few;
-    }
+    λ x i. euclid_none (n c.args.a) (n c.args.m) (n c.euclid.last_r) (n c.euclid.r) (n c.euclid.last_t)
+    (n c.euclid.t) x c.euclid.odd c.euclid.invariant.steps ended above i
 
-pub returns-then-odd : goal.returns-then-odd
-returns-then-odd g c =
+pub returns-then-is_below-clause-count : goal.returns-then-is_below-clause-count
+returns-then-is_below-clause-count g c =
     let n = g.T.RingWord.number in
     let ended : n c.euclid.r ≡ 0 = grind arith in
-    let small : n c.euclid.last_r ≤ 1 = grind arith in
+    counts_end (n c.args.a) (n c.args.m) (n c.euclid.last_r) (n c.euclid.r) c.euclid.count c.euclid.invariant.counts ended
+
+pub returns-then-is_below-clause-at_most : goal.returns-then-is_below-clause-at_most
+returns-then-is_below-clause-at_most g c =
+    let n = g.T.RingWord.number in
     let few : c.euclid.count ≤ 2 * g.T.RingWord.width =
     counts_few g.T.RingWord.width g.T.PathWord.base (n c.args.a) (n c.args.m) (n c.euclid.last_r) (n c.euclid.r)
     c.euclid.count c.euclid.invariant.counts g.met.T.RingWord.width_from g.met.T.PathWord.base_is c.requires
     c.is_below.ensures.fits c.is_below.ensures.other_fits in
-    record {
-      inverse =
-          euclid_found (n c.args.a) (n c.args.m) (n c.euclid.last_r) (n c.euclid.r) (n c.euclid.last_t) (n c.euclid.t)
-          c.euclid.odd c.euclid.invariant.steps c.if-odd.true small;
-      count = counts_end (n c.args.a) (n c.args.m) (n c.euclid.last_r)
-          (n c.euclid.r) c.euclid.count c.euclid.invariant.counts ended;
-      at_most = few;
-    }
+    omega (arith, few)
 
-pub returns-else-odd : goal.returns-else-odd
-returns-else-odd g c =
+pub returns-then-odd-clause-inverse : goal.returns-then-odd-clause-inverse
+returns-then-odd-clause-inverse g c =
+    let n = g.T.RingWord.number in
+    let small : n c.euclid.last_r ≤ 1 = grind arith in
+    euclid_found (n c.args.a) (n c.args.m) (n c.euclid.last_r) (n c.euclid.r) (n c.euclid.last_t) (n c.euclid.t)
+    c.euclid.odd c.euclid.invariant.steps c.if-odd.true small
+
+pub returns-then-odd-clause-count : goal.returns-then-odd-clause-count
+returns-then-odd-clause-count g c =
     let n = g.T.RingWord.number in
     let ended : n c.euclid.r ≡ 0 = grind arith in
-    let small : n c.euclid.last_r ≤ 1 = grind arith in
+    counts_end (n c.args.a) (n c.args.m) (n c.euclid.last_r) (n c.euclid.r) c.euclid.count c.euclid.invariant.counts ended
+
+pub returns-then-odd-clause-at_most : goal.returns-then-odd-clause-at_most
+returns-then-odd-clause-at_most g c =
+    let n = g.T.RingWord.number in
     let few : c.euclid.count ≤ 2 * g.T.RingWord.width =
     counts_few g.T.RingWord.width g.T.PathWord.base (n c.args.a) (n c.args.m) (n c.euclid.last_r) (n c.euclid.r)
     c.euclid.count c.euclid.invariant.counts g.met.T.RingWord.width_from g.met.T.PathWord.base_is c.requires
     c.is_below.ensures.fits c.is_below.ensures.other_fits in
-    record {
-      inverse =
-          euclid_found_negative (n c.args.a) (n c.args.m) (n c.euclid.last_r) (n c.euclid.r)
-          (n c.euclid.last_t) (n c.euclid.t)
-          (n c.neg_below.result) c.euclid.odd c.euclid.invariant.steps c.if-odd.false small c.neg_below.ensures.value;
-      count = counts_end (n c.args.a) (n c.args.m) (n c.euclid.last_r)
-          (n c.euclid.r) c.euclid.count c.euclid.invariant.counts ended;
-      at_most = few;
-    }
+    omega (arith, few)
+
+pub returns-else-odd-clause-inverse : goal.returns-else-odd-clause-inverse
+returns-else-odd-clause-inverse g c =
+    let n = g.T.RingWord.number in
+    let small : n c.euclid.last_r ≤ 1 = grind arith in
+    euclid_found_negative (n c.args.a) (n c.args.m) (n c.euclid.last_r) (n c.euclid.r)
+    (n c.euclid.last_t) (n c.euclid.t)
+    (n c.neg_below.result) c.euclid.odd c.euclid.invariant.steps c.if-odd.false small c.neg_below.ensures.value
+
+pub returns-else-odd-clause-count : goal.returns-else-odd-clause-count
+returns-else-odd-clause-count g c =
+    let n = g.T.RingWord.number in
+    let ended : n c.euclid.r ≡ 0 = grind arith in
+    counts_end (n c.args.a) (n c.args.m) (n c.euclid.last_r) (n c.euclid.r) c.euclid.count c.euclid.invariant.counts ended
+
+pub returns-else-odd-clause-at_most : goal.returns-else-odd-clause-at_most
+returns-else-odd-clause-at_most g c =
+    let n = g.T.RingWord.number in
+    let few : c.euclid.count ≤ 2 * g.T.RingWord.width =
+    counts_few g.T.RingWord.width g.T.PathWord.base (n c.args.a) (n c.args.m) (n c.euclid.last_r) (n c.euclid.r)
+    c.euclid.count c.euclid.invariant.counts g.met.T.RingWord.width_from g.met.T.PathWord.base_is c.requires
+    c.is_below.ensures.fits c.is_below.ensures.other_fits in
+    omega (arith, few)

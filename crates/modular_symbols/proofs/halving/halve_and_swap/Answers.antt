@@ -77,38 +77,41 @@ overflow_add-count-in-swaps g c =
     (c.swaps.count + (c.trailing_zeros-twos.result + 1)) after c.requires.below in
     omega (arith, g.met.T.RingWord.width_to)
 
-pub returns-then-turned : goal.returns-then-turned
-returns-then-turned g c =
+pub returns-then-turned-clause-symbol : goal.returns-then-turned-clause-symbol
+returns-then-turned-clause-symbol g c =
     let n = g.T.RingWord.number in
-    record {
-      symbol =
-          ap (λ t. signed t (pos 1)) (sym c.if-turned.true)
-          ∙ kept_one _ (n c.swaps.above) (n c.swaps.below) c.swaps.turned c.swaps.invariant.symbol (search rules)
-          ((g.met.T.RingWord.equal c.swaps.below c.one.result).0 (search rules) ∙ c.one.ensures);
-      count = counts_end _ _ _ _ _ _ c.swaps.invariant.counts (search rules);
-      at_most = counts_few _ _ _ _ _ _ c.swaps.invariant.counts c.requires.below;
-    }
+    ap (λ t. signed t (pos 1)) (sym c.if-turned.true)
+    ∙ kept_one _ (n c.swaps.above) (n c.swaps.below) c.swaps.turned c.swaps.invariant.symbol (search rules)
+    ((g.met.T.RingWord.equal c.swaps.below c.one.result).0 (search rules) ∙ c.one.ensures)
 
-pub returns-else-turned : goal.returns-else-turned
-returns-else-turned g c =
-    let n = g.T.RingWord.number in
-    record {
-      symbol =
-          ap (λ t. signed t (pos 1)) (sym c.if-turned.false)
-          ∙ kept_one _ (n c.swaps.above) (n c.swaps.below) c.swaps.turned c.swaps.invariant.symbol (search rules)
-          ((g.met.T.RingWord.equal c.swaps.below c.one.result).0 (search rules) ∙ c.one.ensures);
-      count = counts_end _ _ _ _ _ _ c.swaps.invariant.counts (search rules);
-      at_most = counts_few _ _ _ _ _ _ c.swaps.invariant.counts c.requires.below;
-    }
+pub returns-then-turned-clause-count : goal.returns-then-turned-clause-count
+returns-then-turned-clause-count g c = counts_end _ _ _ _ _ _ c.swaps.invariant.counts (search rules)
 
-pub returns-else-eq : goal.returns-else-eq
-returns-else-eq g c =
+pub returns-then-turned-clause-at_most : goal.returns-then-turned-clause-at_most
+returns-then-turned-clause-at_most g c = omega (arith, (counts_few _ _ _ _ _ _ c.swaps.invariant.counts c.requires.below))
+
+pub returns-else-turned-clause-symbol : goal.returns-else-turned-clause-symbol
+returns-else-turned-clause-symbol g c =
     let n = g.T.RingWord.number in
-    record {
-      symbol =
-          kept_none _ (n c.swaps.above) (n c.swaps.below) c.swaps.turned c.swaps.invariant.symbol (search rules)
-          (λ e. let one = (g.met.T.RingWord.equal c.swaps.below c.one.result).1 (e ∙ sym c.one.ensures) in
-          search rules);
-      count = counts_end _ _ _ _ _ _ c.swaps.invariant.counts (search rules);
-      at_most = counts_few _ _ _ _ _ _ c.swaps.invariant.counts c.requires.below;
-    }
+    ap (λ t. signed t (pos 1)) (sym c.if-turned.false)
+    ∙ kept_one _ (n c.swaps.above) (n c.swaps.below) c.swaps.turned c.swaps.invariant.symbol (search rules)
+    ((g.met.T.RingWord.equal c.swaps.below c.one.result).0 (search rules) ∙ c.one.ensures)
+
+pub returns-else-turned-clause-count : goal.returns-else-turned-clause-count
+returns-else-turned-clause-count g c = counts_end _ _ _ _ _ _ c.swaps.invariant.counts (search rules)
+
+pub returns-else-turned-clause-at_most : goal.returns-else-turned-clause-at_most
+returns-else-turned-clause-at_most g c = omega (arith, (counts_few _ _ _ _ _ _ c.swaps.invariant.counts c.requires.below))
+
+pub returns-else-eq-clause-symbol : goal.returns-else-eq-clause-symbol
+returns-else-eq-clause-symbol g c =
+    let n = g.T.RingWord.number in
+    kept_none _ (n c.swaps.above) (n c.swaps.below) c.swaps.turned c.swaps.invariant.symbol (search rules)
+    (λ e. let one = (g.met.T.RingWord.equal c.swaps.below c.one.result).1 (e ∙ sym c.one.ensures) in
+    search rules)
+
+pub returns-else-eq-clause-count : goal.returns-else-eq-clause-count
+returns-else-eq-clause-count g c = counts_end _ _ _ _ _ _ c.swaps.invariant.counts (search rules)
+
+pub returns-else-eq-clause-at_most : goal.returns-else-eq-clause-at_most
+returns-else-eq-clause-at_most g c = omega (arith, (counts_few _ _ _ _ _ _ c.swaps.invariant.counts c.requires.below))
