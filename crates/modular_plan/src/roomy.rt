@@ -1,6 +1,6 @@
 //! Moduli that leave words more room than every plan asks for.
 
-ghost use Rattle.std.specs.Prelude.{◌≡◌, ℕ, ◌*◌, ◌%◌, ◌≤◌, ⊤, MatchOption};
+ghost use Rattle.std.specs.Prelude.{◌≡◌, ℕ, ◌*◌, ◌%◌, ◌<◌, ◌≤◌, ⊤, MatchOption};
 ghost use Rattle.modular_plan.specs.Factors.{IsFactor};
 
 use crate::modulus::{Factor, PlannedModulus};
@@ -35,9 +35,9 @@ impl<T: PathWord> Clone for RoomyModulus<T> {
 impl<T: PathWord> Copy for RoomyModulus<T> {}
 
 impl<T: PlainWord> RoomyModulus<T> {
-    /// The modulus of a plan; `None` where it is above a sixteenth of the number of words.
+    /// The modulus of a plan; `None` exactly where it is above a sixteenth of the number of words.
     pub fn new(planned: &PlannedModulus<T>) -> Option<Self>
-        ensures { MatchOption result ⊤ (λ roomy. roomy.planned ≡ planned.now) }
+        ensures { MatchOption result (T.base < 16 * T.number planned.now.modulus) (λ roomy. roomy.planned ≡ planned.now) }
     {
         let greatest = T::one().shift_left(T::bits() - 4);
         if greatest.is_below(planned.modulus) {
