@@ -1,1 +1,2 @@
+mod Collisions
 mod Windows

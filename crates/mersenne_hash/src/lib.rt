@@ -1,21 +1,23 @@
 //! A search by polynomial hashes modulo 2^61 - 1: the hash of a moved window comes from that of the last one.
 #![tactic(auto)]
 
-ghost use Rattle.std.specs.Prelude.{◌≡◌, ℕ, ◌+◌, ◌*◌, ◌%◌, ◌^◌, ◌≤◌, ◌↔◌, List, []};
-ghost use Rattle.std.specs.Prelude.{◌∷◌, ◌++◌, IsTrue, length, slice_range, pos, ◌-ℤ◌};
+ghost use Rattle.std.specs.Prelude.{◌≡◌, ℕ, ◌+◌, ◌*◌, ◌%◌, ◌^◌, ◌<◌, ◌≤◌, ◌↔◌, List, []};
+ghost use Rattle.std.specs.Prelude.{◌∷◌, ◌++◌, IsTrue, length, slice_index, slice_range, pos, ◌-ℤ◌};
 ghost use Rattle.num_modular.specs.Integers.{residue_of};
 ghost use Rattle.num_modular.specs.Mersenne.{mersenne};
 ghost use Rattle.num_modular.specs.Residues.{residue};
-ghost use Rattle.mersenne_hash.specs.Hashes.{polynomial_value, StandsAt, IsSearch};
+ghost use Rattle.num_modular.specs.Primes.{IsPrime};
+ghost use Rattle.mersenne_hash.specs.Hashes.{polynomial_value, hash_of, AreApart, FewCollisions};
+ghost use Rattle.mersenne_hash.specs.Hashes.{StandsAt, IsSearch};
 
-use num_modular::laws::residue_laws;
+use num_modular::laws::{polynomial_laws, residue_laws};
 use num_modular::{FixedMersenne64, FixedMersenneInt64, ModularInteger};
 
-/// A hash: an integer modulo 2^61 - 1, which is prime.
+/// A hash: an integer modulo 2^61 - 1.
 pub type Hash = FixedMersenneInt64<61, 1>;
 
-/// A base of hashes: n modulo 2^61 - 1. Texts of n bytes that differ have one hash for fewer than n
-/// bases, so a base that is drawn at random keeps them apart.
+/// A base of hashes: n modulo 2^61 - 1. Two texts of n bytes that differ have the same hash at fewer than
+/// n bases (`collision_laws`), so a base that is drawn at random keeps them apart.
 pub fn base(n: u64) -> Hash
     ensures { residue_of result ≡ n % mersenne 61 1 }
 {
@@ -34,6 +36,39 @@ pub fn hash(base: Hash, text: &[u8]) -> Hash
         value = value * base + *byte as u64;
     }
     value
+}
+
+/// Two different texts of n symbols below 2^61 - 1 have the same hash at fewer than n of the bases 0 to
+/// 2^61 - 2: any n bases that are apart tell them apart. The premise is that 2^61 - 1 is prime, which
+/// isn't proved here.
+///
+/// Source: Carter and Wegman, "Universal classes of hash functions"; the law of polynomials that it
+/// rests on is `num_modular::laws::polynomial_laws`.
+pub fn collision_laws()
+    ensures { IsPrime (mersenne 61 1) → FewCollisions }
+{
+    polynomial_laws();
+}
+
+/// Whether two texts have the same hash at each of the bases. Where the texts are of one length n, and
+/// there are n bases or more that are apart, that is whether they are equal; the premise is that
+/// 2^61 - 1 is prime, which isn't proved here.
+pub fn same_hashes(bases: &[u64], first: &[u8], second: &[u8]) -> bool
+    ensures each { IsTrue result ↔ ((i : ℕ) → i < length bases.now →
+        hash_of first.now (slice_index bases.now i % mersenne 61 1)
+        ≡ hash_of second.now (slice_index bases.now i % mersenne 61 1)) }
+    ensures same { IsPrime (mersenne 61 1) → length first.now ≡ length second.now →
+        length first.now ≤ length bases.now → AreApart (length bases.now) (slice_index bases.now) →
+        (IsTrue result ↔ (first.now ≡ second.now)) }
+{
+    collision_laws();
+    'bases: for n in bases {
+        let base = base(*n);
+        if hash(base, first) != hash(base, second) {
+            return false;
+        }
+    }
+    true
 }
 
 /// The hash of a window that moves by one byte: `first` leaves it at its start, and `next` comes in
@@ -69,8 +104,9 @@ fn is_hit(wanted: Hash, window: Hash, text: &[u8], pattern: &[u8], at: usize) ->
 /// The first position where the pattern stands in the text; `None` exactly where it stands nowhere.
 ///
 /// The result is right for every base: where a window has the pattern's hash, their bytes are compared.
-/// For a base that is drawn at random after text and pattern are fixed, other windows seldom have it.
-/// For a fixed base all may: no contract bounds the time.
+/// For a base that is drawn at random after text and pattern are fixed, other windows seldom have it
+/// (`collision_laws`). For the base 0, where the hash is the last byte alone, and for a base for which
+/// someone chose the text, all may: no contract bounds the time.
 ///
 /// Source: Karp and Rabin, "Efficient randomized pattern-matching algorithms".
 pub fn find(base: Hash, text: &[u8], pattern: &[u8]) -> Option<usize>
