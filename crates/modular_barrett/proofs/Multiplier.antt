@@ -1,5 +1,5 @@
 -- The multiplier and the shift of a divisor.
-use Rattle.std.proofs.Common.{◌≡◌, ℕ, suc, ◌+◌, ◌-◌, ◌*◌, ◌/◌, ◌%◌, ◌^◌, ◌<◌, ◌≤◌, sym, ap, ◌∙◌, subst, arith, ⊎_elim}
+use Rattle.std.proofs.Common.{◌≡◌, ℕ, suc, ◌+◌, ◌-◌, ◌*◌, ◌/◌, ◌%◌, ◌^◌, ◌<◌, ◌≤◌, sym, ap, ◌∙◌, subst, arith, refl, ⊎_elim}
 use Rattle.std.proofs.Math.Nat.{mod-lt, div-add-mod, mod-eq_of_lt, mul-le-mul_left, pow-succ'}
 use Rattle.std.proofs.Math.Pow.{pow_mono}
 use Rattle.std.proofs.lemmas.Bool.{cases_lt}
@@ -123,3 +123,11 @@ multiplier_is w b d less n gap q m p e em =
       more = omega arith;
       close = omega arith;
     }
+
+-- what is stored for d in words of w bits, where the power of two is computed as g
+pub prepared_by : (w d g : ℕ) → 1 < d → d < 2 ^ w → g ≡ 2 ^ (w - count_leading_zeros w (d - 1))
+    → IsPrepared w (2 ^ w) d (d - 1) (w - count_leading_zeros w (d - 1)) (g - d)
+prepared_by w d g some fits e =
+    let known : HasDigits w (d - 1) (w - count_leading_zeros w (d - 1)) =
+    digits_below_leading w (2 ^ w) w (count_leading_zeros w (d - 1)) (d - 1) refl refl (omega arith) (omega arith) refl in
+    record { digits = known; next = omega arith; fits = fits; whole = omega (arith, known.below) }

@@ -1,6 +1,7 @@
 //! Division by divisors that stay the same, without a division, and the reducer that rests on it.
 #![tactic(auto)]
 
+mod computed;
 pub mod exact;
 pub mod normalized;
 pub mod one_by_one;
