@@ -14,7 +14,7 @@ SENTENCE = re.compile(r"\s?\bConditions?(?: of [^:.]*)?:\s+(.+?)\.(?=\s|$)\s?", 
 WIDTH = 100  # of a section of docs
 MADE = {"Self", "Factor", "PlannedModulus", "RoomyModulus", "Code", "ResidueSystem"}
 # Who makes a value by another function, which tests the condition.
-MADE_BY = {"new": ("R::new(", "Montgomery::new(", "Self::new(", "M::keep(")}
+MADE_BY = {"new": ("R::new(", "Montgomery::of(", "Self::of(", "M::keep(")}
 
 # Tests that are put in at the beginning of a body, since they look at more than `prove!` may, or since only rustc needs them:
 # by file and function, the condition's parts in turn. What they call is proved to tell whether the condition holds.
@@ -64,7 +64,7 @@ LOOKS = {
 TESTED_BELOW = (
     ((EVERY,), r"(Modular(Core|Unary|Ref)Ops|ModularPow|ModularAbs|PlainWord)\.\w+"),
     ((EVERY,), r"modular_prim/(residues|euclid|power|counted/\w+)\.\w+|modular_prim/abs\.signed_residue"),
-    ((EVERY,), r"[\w/]+\.(new|keep)|modular_(folds|monty)/\w+\.(fixed_modulus|reduce_single|reduce_double|reduce_counted)"),
+    ((EVERY,), r"[\w/]+\.(new|of|keep)|modular_(folds|monty)/\w+\.(fixed_modulus|reduce_single|reduce_double|reduce_counted)"),
     ((EVERY, DEBUG, DEBUG), r"modular_transform/transform\.ntt"),
     ((DEBUG,), r"modular_barrett/exact\.exact_quotient|modular_plan_products/(transform|convolution)\.\w+"),
 )

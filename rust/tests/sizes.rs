@@ -1,9 +1,10 @@
-//! The reducers of moduli that are parameters hold nothing when the program runs, and constants can be made of what a
-//! `const fn` answers.
+//! The reducers of moduli that are parameters hold nothing when the program runs; constants can be made of what a `const fn`
+//! answers; and types of the library may stand in a struct without bounds, and behind a `dyn`.
 
 use num_modular::{
     FixedMersenne, FixedMersenne32, FixedMersenne64, FixedMontgomery32, FixedMontgomery64, FixedProth32, FixedProth64,
-    FixedTrinomialSolinas32, FixedTrinomialSolinas64, PreModInv,
+    FixedTrinomialSolinas32, FixedTrinomialSolinas64, ModularInteger, ModularSymbols, Montgomery, Normalized2by1Divisor, PreModInv,
+    PreMulInv1by1, PreMulInv2by1, ReducedInt, Reducer, Vanilla, VanillaInt,
 };
 use std::mem::size_of;
 
@@ -28,4 +29,35 @@ fn constants_of_const_functions() {
     const BY_SEVEN: PreModInv<u8> = PreModInv::new(183, 36);
     let made: PreModInv<u8> = 7u8.into();
     assert_eq!(format!("{BY_SEVEN:?}"), format!("{made:?}"));
+}
+
+#[test]
+fn constants_of_constructors() {
+    const RING: Montgomery<u64> = Montgomery::<u64>::new(97);
+    const SIXTY: PreMulInv1by1<u32> = PreMulInv1by1::<u32>::new(60);
+    const DIVISOR: Normalized2by1Divisor<u8> = Normalized2by1Divisor::<u8>::new(130);
+    const SCALED: PreMulInv2by1<usize> = PreMulInv2by1::<usize>::new(97);
+    assert_eq!(RING.residue(RING.mul(&RING.transform(50), &RING.transform(50))), 75);
+    assert_eq!(SIXTY.div_rem(3725, 60), (62, 5));
+    assert_eq!(DIVISOR.div_rem_2by1(33024), (254, 4));
+    assert_eq!(SCALED.residue(SCALED.transform(1000)), 30);
+}
+
+#[test]
+fn structs_without_bounds() {
+    struct Rings<T> {
+        ring: Montgomery<T>,
+        by: PreMulInv2by1<T>,
+        plain: Vanilla<T>,
+    }
+    struct Integer<T, R>(ReducedInt<T, R>);
+    let rings = Rings { ring: Montgomery::<u8>::new(97), by: PreMulInv2by1::of(97), plain: Vanilla::new(&97) };
+    assert_eq!([rings.ring.modulus(), rings.by.modulus(), rings.plain.modulus()], [97; 3]);
+    assert_eq!(Integer(VanillaInt::<u8>::new(3, &7)).0.residue(), 3);
+}
+
+#[test]
+fn symbols_of_any_number() {
+    let numbers: [&dyn for<'a> ModularSymbols<&'a u64>; 2] = [&2u64, &7u64];
+    assert_eq!(numbers.map(|x| x.jacobi(&15)), [1, -1]);
 }
