@@ -1,12 +1,19 @@
 /* Arithmetic modulo m on words of 64 bits: the library num_modular, proved, for C.
  *
- * Each function tests what its call needs and answers a code. It writes what is asked for with NM_OK
- * and nothing with any other code; nm_montgomery_run alone also writes with NM_NO_INVERSE. No function takes memory,
- * keeps a state or calls back, so all may be called from any thread at any time.
+ * Each function tests what its call needs and returns a code. With NM_OK it has written what was asked for. With any
+ * other code everything that the caller passed holds what it held before; nm_montgomery_run alone also writes with
+ * NM_NO_INVERSE. What is proved is that the old and the new contents are equal, which a body that writes and restores
+ * would meet too. That a call which refuses doesn't write at all is tested, with outputs in a read-only page.
  *
- * What a caller owes is what the types say, and isn't tested: a pointer that isn't for a list points to
- * one value of its type, a list's to as many words as the number behind it says (NULL may stand for an
- * empty list), and what a call writes lies apart from all else that it is given.
+ * The caller owes what the types say, and the library can't test it:
+ *
+ * - A pointer to a single value points to one. A list is a pointer and the number of its elements, and has at least
+ *   so many. For every list, NULL with the number 0 is an empty list.
+ * - What a call writes, which is each argument without const, overlaps no other argument. Arguments that are const may
+ *   overlap each other in any way, or be the same.
+ * - No function allocates, keeps a state or calls back, so calls may run in several threads at the same time, and
+ *   may share what all of them only read. While one call writes a value or a list, the caller keeps every other call
+ *   and thread away from it: the library has no locks.
  */
 #ifndef NUM_MODULAR_H
 #define NUM_MODULAR_H
@@ -176,8 +183,8 @@ typedef struct {
 /* Carries out the commands in order on the residues of the count words in registers, and puts the residues that
  * they leave in place; carried_out becomes how many commands were carried out. NM_NO_INVERSE: command number
  * carried_out, the first having the number 0, finds no inverse, and the residues are those that the commands
- * before it leave. NM_BAD_ARGUMENT: an operation has no name, or a register number isn't below count; nothing is
- * written. NM_BAD_CONTEXT: as above. */
+ * before it leave. NM_BAD_ARGUMENT: an operation has no name, or a register number isn't below count.
+ * NM_BAD_CONTEXT: as above. */
 uint32_t nm_montgomery_run(const nm_montgomery_t *context, uint64_t *registers, size_t count,
                            const nm_command_t *commands, size_t length, size_t *carried_out);
 
@@ -194,8 +201,8 @@ uint32_t nm_solinas_convolve(uint64_t *xs, size_t n, uint64_t *ys, size_t k, uin
  *
  * A plan is a table of factors that the caller keeps, which makes them some times as fast. Words may be up to
  * 4 * m - 1 going in, and are below m coming out. Each call tests its list and its table: that entries are factors
- * modulo m with their quotients, by a product an entry. A table that passes but is no plan, as after an exchange of
- * two entries, does no harm but that the words that come out say nothing; nm_plan_fits tells it from a plan.
+ * modulo m with their quotients. A table that passes but is no plan, as after an exchange of two entries, does no harm
+ * but that the words that come out say nothing; nm_plan_fits tells it from a plan.
  *
  * NM_BAD_ARGUMENT: m is 0 or above 2^62, or what is said with the call. NM_BAD_CONTEXT: an entry of the table is no
  * factor modulo m with its quotient. */
@@ -207,7 +214,7 @@ typedef struct {
 } nm_factor_t;
 
 /* Fills the table with the plan by the root for transforms of n words, n being twice its length. NM_NO_ROOT: the
- * root doesn't suit n. The first entries, up to a power of two, are a plan for fewer words. */
+ * root doesn't suit n. */
 uint32_t nm_plan(uint64_t m, uint64_t root, nm_factor_t *table, size_t length);
 
 /* NM_OK where the table is what nm_plan leaves for this m and this root, and NM_BAD_CONTEXT where it isn't.
@@ -249,8 +256,10 @@ uint32_t nm_convolve_negacyclic(uint64_t m, uint64_t *xs, size_t n, uint64_t *ys
  * highest first, modulo 2^61 - 1. Always NM_OK. */
 uint32_t nm_hash(uint64_t x, const uint8_t *bytes, size_t n, uint64_t *hash);
 
-/* The first position where the pattern of k bytes stands in the text of n bytes, by hashes at the base x; it is
- * right for every x. NM_NOT_FOUND: it stands nowhere. */
+/* The first position where the pattern of k bytes stands in the text of n bytes, by hashes at the base x.
+ * NM_NOT_FOUND: it stands nowhere. The result is right for every x, and the time depends on x: where x is drawn at
+ * random from 0 to 2^61 - 2 after text and pattern are fixed, and k is at most 2^30, the expected time is proportional
+ * to n + k. For any other x, such as 0 or 1, it may be proportional to n * k. */
 uint32_t nm_find(uint64_t x, const uint8_t *text, size_t n, const uint8_t *pattern, size_t k, size_t *position);
 
 /* The number low + 2^64 * high. */

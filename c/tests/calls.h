@@ -55,5 +55,7 @@ void run_rows(void);
 void transform_rows(void);
 void plan_rows(void);
 void user_rows(void);
+void sharing_rows(void);
+void read_only_rows(void);
 
 #endif

@@ -21,6 +21,8 @@ int main(void) {
     transform_rows();
     plan_rows();
     user_rows();
+    sharing_rows();
+    read_only_rows();
     printf("%d passed, %d failed\n", passed, failed);
     return failed != 0;
 }

@@ -177,6 +177,30 @@ static void product_rows(void) {
 #undef RESTART
 }
 
+/* NULL as a list of no words, and as a table of no entries, which lists of one block need */
+static void empty_rows(void) {
+    nm_factor_t table[8];
+    uint64_t one[1] = {67}, four[4] = {67, 66, 3, 4}, two[2] = {67, 66};
+    CODE(NM_OK, nm_plan(17, 3, table, 8));
+    CODE(NM_BAD_ARGUMENT, nm_split(17, NULL, 0, table, 8, 0, 1));
+    CODE(NM_BAD_ARGUMENT, nm_split(17, NULL, 0, NULL, 0, 0, 1));
+    LIST(NM_OK, one, nm_split(17, one, 1, NULL, 0, 0, 1), 16);
+    LIST(NM_OK, four, nm_split(17, four, 4, NULL, 0, 1, 4), 16, 15, 3, 4);
+    LIST(NM_BAD_ARGUMENT, two, nm_split(17, two, 2, NULL, 0, 0, 1), 67, 66);
+    one[0] = 67, four[0] = 67;
+    CODE(NM_BAD_ARGUMENT, nm_join(17, NULL, 0, table, 8, 0, 1));
+    CODE(NM_BAD_ARGUMENT, nm_join(17, NULL, 0, NULL, 0, 0, 1));
+    LIST(NM_OK, one, nm_join(17, one, 1, NULL, 0, 0, 1), 16);
+    LIST(NM_OK, four, nm_join(17, four, 4, NULL, 0, 1, 4), 16, 15, 3, 4);
+    LIST(NM_BAD_ARGUMENT, two, nm_join(17, two, 2, NULL, 0, 0, 1), 67, 66);
+    LIST(NM_BAD_ARGUMENT, two, nm_convolve_planned(17, NULL, 0, two, 2, table, 8, 1), 67, 66);
+    LIST(NM_BAD_ARGUMENT, two, nm_convolve_planned(17, two, 2, four, 2, NULL, 0, 1), 67, 66);
+    CODE(NM_BAD_ARGUMENT, nm_convolve_negacyclic(17, NULL, 0, NULL, 0, table, 8, 1));
+    CODE(NM_BAD_ARGUMENT, nm_convolve_negacyclic(17, NULL, 0, NULL, 0, NULL, 0, 2));
+    LIST(NM_BAD_ARGUMENT, two, nm_convolve_negacyclic(17, two, 2, NULL, 0, table, 8, 1), 67, 66);
+    LIST(NM_BAD_ARGUMENT, two, nm_convolve_negacyclic(17, two, 2, four, 2, NULL, 0, 1), 67, 66);
+}
+
 /* 2^16 words modulo a prime of 62 bits: as nm_montgomery_ntt has it */
 static void long_rows(void) {
     size_t n = 65536, wrong = 0;
@@ -205,5 +229,6 @@ void plan_rows(void) {
     transform_planned_rows();
     split_rows();
     product_rows();
+    empty_rows();
     long_rows();
 }

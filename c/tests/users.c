@@ -1,4 +1,6 @@
 /* Hashes and searches, numbers by their residues, and products of long numbers. */
+#include <time.h>
+
 #include "calls.h"
 
 #define BYTES(text) (const uint8_t *)(text), sizeof(text) - 1
@@ -30,6 +32,23 @@ static void hash_rows(void) {
     POSITION(NM_NOT_FOUND, 0, nm_find(1, BYTES("abc"), BYTES("cba"), &out));
     POSITION(NM_NOT_FOUND, 0, nm_find(1, BYTES("abc"), BYTES("abcd"), &out));
     POSITION(NM_NOT_FOUND, 0, nm_find(1, NULL, 0, BYTES("a"), &out));
+    POSITION(NM_OK, 0, nm_find(1, NULL, 0, NULL, 0, &out));
+}
+
+/* The time of a search by the base x for 2000 a, b and 2000 a in 100,000 a. */
+static clock_t search_time(uint64_t x) {
+    static uint8_t text[100000], pattern[4001];
+    clock_t start = clock();
+    memset(text, 'a', sizeof text);
+    memset(pattern, 'a', sizeof pattern);
+    pattern[2000] = 'b';
+    POSITION(NM_NOT_FOUND, 0, nm_find(x, text, sizeof text, pattern, sizeof pattern, &out));
+    return clock() - start;
+}
+
+/* a drawn base is fast where each window has the pattern's hash at the base 0 */
+static void time_rows(void) {
+    row("a drawn base takes less time", search_time(UINT64_C(1183974665320196433)) * 4 < search_time(0), 0);
 }
 
 static void decode_rows(void) {
@@ -43,6 +62,7 @@ static void decode_rows(void) {
     NUMBER(NM_OK, 0, 0, nm_decode(NULL, 0, NULL, 0, &out));
     NUMBER(NM_BAD_ARGUMENT, 0, 0, nm_decode(small, 3, residues, 2, &out));
     NUMBER(NM_BAD_ARGUMENT, 0, 0, nm_decode(small, 3, NULL, 0, &out));
+    NUMBER(NM_BAD_ARGUMENT, 0, 0, nm_decode(NULL, 0, residues, 3, &out));
     NUMBER(NM_BAD_ARGUMENT, 0, 0, nm_decode(small, 3, above, 3, &out));
     NUMBER(NM_BAD_ARGUMENT, 0, 0, nm_decode(zero, 3, none, 3, &out));
     NUMBER(NM_BAD_ARGUMENT, 0, 0, nm_decode(common, 3, none, 3, &out));
@@ -67,8 +87,28 @@ static void product_rows(void) {
     row("the digits of the product", memcmp(digits, want, sizeof want) == 0, 0);
 }
 
+/* NULL as a number of no digits, which is 0, and as a list without room */
+static void empty_rows(void) {
+    static const uint16_t xs[2] = {7, 9};
+    uint16_t digits[2] = {7, 7};
+    uint64_t left[2] = {7, 7}, right[2] = {7, 7};
+    POSITION(NM_OK, 1, nm_product_scratch(0, &out));
+    CODE(NM_OK, nm_product(NULL, 0, NULL, 0, NULL, 0, left, 1, right, 1));
+    CODE(NM_BAD_ARGUMENT, nm_product(NULL, 0, NULL, 0, NULL, 0, NULL, 0, right, 2));
+    CODE(NM_BAD_ARGUMENT, nm_product(NULL, 0, NULL, 0, NULL, 0, left, 2, NULL, 0));
+    CODE(NM_BAD_ARGUMENT, nm_product(xs, 2, NULL, 0, NULL, 0, left, 2, right, 2));
+    row("no digit is written", digits[0] == 7 && digits[1] == 7, 0);
+    CODE(NM_OK, nm_product(xs, 2, NULL, 0, digits, 2, left, 2, right, 2));
+    row("a number times no digits", digits[0] == 0 && digits[1] == 0, 0);
+    digits[0] = digits[1] = 7;
+    CODE(NM_OK, nm_product(NULL, 0, xs, 2, digits, 2, left, 2, right, 2));
+    row("no digits times a number", digits[0] == 0 && digits[1] == 0, 0);
+}
+
 void user_rows(void) {
     hash_rows();
+    time_rows();
     decode_rows();
     product_rows();
+    empty_rows();
 }

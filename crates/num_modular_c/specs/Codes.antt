@@ -6,7 +6,7 @@ use Rattle.num_modular_c.specs.declared.codes.TheConstants.{NM_OK, NM_BAD_ARGUME
 abbrev pub Did : ℕ → Type 0 → Type 0
 Did code wanted = (code ≡ NM_OK) × wanted
 
--- the call refused with a reason, and wrote nothing
+-- the call refused with a reason, and what it could have written holds what it held before
 abbrev pub Refused : {A : Type 0} → ℕ → ℕ → A → A → Type 0
 Refused reason code before after = (code ≡ reason) × (after ≡ before)
 

@@ -1,5 +1,5 @@
 //! The library for C: functions over words of 64 bits, each of which tests what its call needs and
-//! answers a code. `c/num_modular.h` declares them.
+//! returns a code. `c/include/num_modular.h` declares them.
 #![tactic(auto)]
 
 mod codes;

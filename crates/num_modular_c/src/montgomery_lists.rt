@@ -104,8 +104,8 @@ pub extern "C" fn nm_montgomery_convolve(
 /// Carries out the commands in order on the residues of the words, and puts the residues that they leave
 /// in place; `carried_out` is how many were carried out. `NM_NO_INVERSE`: command number `carried_out` finds no
 /// inverse, and the residues are those that the commands before it leave. `NM_BAD_ARGUMENT`: an
-/// operation has no name, or a register number isn't below the number of registers; nothing is written.
-/// `NM_BAD_CONTEXT`: as `nm_montgomery_root_fits`.
+/// operation has no name, or a register number isn't below the number of registers. `NM_BAD_CONTEXT`:
+/// as `nm_montgomery_root_fits`.
 #[unsafe(no_mangle)]
 pub extern "C" fn nm_montgomery_run(
     context: &NmMontgomery,

@@ -33,7 +33,7 @@ pub extern "C" fn nm_hash(x: u64, bytes: &[u8], hash: &mut u64) -> u32
 }
 
 /// The first position where the pattern stands in the text, by hashes at the base x; it is right for
-/// every x. `NM_NOT_FOUND`: it stands nowhere.
+/// every x. `NM_NOT_FOUND`: it stands nowhere. The header says for which x it is fast.
 #[unsafe(no_mangle)]
 pub extern "C" fn nm_find(x: u64, text: &[u8], pattern: &[u8], position: &mut usize) -> u32
     ensures did { (i : ℕ) → StandsAt text.now pattern.now i → Did result (IsFirst text.now pattern.now position.new) }

@@ -1,0 +1,150 @@
+/* Calls that refuse, with every output in a page that can't be written: they don't write at all, where the proof says
+ * only that the outputs hold afterwards what they held before. */
+#define _DEFAULT_SOURCE
+#include <setjmp.h>
+#include <signal.h>
+#include <sys/mman.h>
+#include <unistd.h>
+
+#include "calls.h"
+
+#define GREATEST (UINT64_C(1) << 62)
+
+static sigjmp_buf before_the_call;
+/* the words 1, 2, 3 and so on, in the page */
+static uint64_t *words;
+
+static void on_write(int number) {
+    (void)number;
+    siglongjmp(before_the_call, 1);
+}
+
+/* A call all of whose outputs are in the page. */
+#define REFUSES(want_code, call)                                                                                       \
+    do {                                                                                                               \
+        volatile uint32_t code = UINT32_MAX;                                                                           \
+        if (sigsetjmp(before_the_call, 1) == 0) code = (call);                                                         \
+        row("read-only: " #call, code == (want_code), code);                                                           \
+    } while (0)
+
+/* Whether a call that writes is caught. */
+#define CAUGHT UINT32_MAX
+
+static void plain_refusals(void) {
+    int32_t *symbol = (int32_t *)words;
+    REFUSES(CAUGHT, nm_addm(1, 2, 5, words));
+    REFUSES(NM_BAD_ARGUMENT, nm_addm(1, 2, 0, words));
+    REFUSES(NM_BAD_ARGUMENT, nm_subm(1, 2, 0, words));
+    REFUSES(NM_BAD_ARGUMENT, nm_mulm(1, 2, 0, words));
+    REFUSES(NM_BAD_ARGUMENT, nm_powm(5, 3, 0, words));
+    REFUSES(NM_BAD_ARGUMENT, nm_invm(5, 0, words));
+    REFUSES(NM_NO_INVERSE, nm_invm(7, 21, words));
+    REFUSES(NM_BAD_ARGUMENT, nm_jacobi(3, 8, symbol));
+    REFUSES(NM_BAD_ARGUMENT, nm_jacobi_signed(2, -3, symbol));
+    REFUSES(NM_BAD_ARGUMENT, nm_legendre(2, 9, symbol));
+    REFUSES(NM_BAD_ARGUMENT, nm_legendre_signed(3, -128, symbol));
+}
+
+static void divider_refusals(void) {
+    const nm_divider_t changed = {10, 7};
+    nm_divider_t divider;
+    nm_division_t *division = (nm_division_t *)words;
+    CODE(NM_OK, nm_divider(10, &divider));
+    REFUSES(NM_BAD_ARGUMENT, nm_divider(0, (nm_divider_t *)words));
+    REFUSES(NM_BAD_CONTEXT, nm_div_rem(&changed, 57, division));
+    REFUSES(NM_BAD_CONTEXT, nm_div_rem_2by1(&changed, 57, 0, division));
+    REFUSES(NM_BAD_ARGUMENT, nm_div_rem_2by1(&divider, 57, 10, division));
+}
+
+static void form_refusals(const nm_montgomery_t *ring, const nm_montgomery_t *changed) {
+    REFUSES(NM_BAD_ARGUMENT, nm_montgomery(0, (nm_montgomery_t *)words));
+    REFUSES(NM_BAD_CONTEXT, nm_montgomery_transform(changed, 5, words));
+    REFUSES(NM_BAD_CONTEXT, nm_montgomery_residue(changed, 5, words));
+    REFUSES(NM_BAD_CONTEXT, nm_montgomery_add(changed, 5, 5, words));
+    REFUSES(NM_BAD_CONTEXT, nm_montgomery_sub(changed, 5, 5, words));
+    REFUSES(NM_BAD_CONTEXT, nm_montgomery_mul(changed, 5, 5, words));
+    REFUSES(NM_BAD_CONTEXT, nm_montgomery_pow(changed, 5, 5, words));
+    REFUSES(NM_BAD_CONTEXT, nm_montgomery_inv(changed, 5, words));
+    REFUSES(NM_BAD_ARGUMENT, nm_montgomery_residue(ring, 20, words));
+    REFUSES(NM_BAD_ARGUMENT, nm_montgomery_add(ring, 20, 5, words));
+    REFUSES(NM_BAD_ARGUMENT, nm_montgomery_sub(ring, 5, 20, words));
+    REFUSES(NM_BAD_ARGUMENT, nm_montgomery_mul(ring, 20, 20, words));
+    REFUSES(NM_BAD_ARGUMENT, nm_montgomery_pow(ring, 20, 5, words));
+    REFUSES(NM_BAD_ARGUMENT, nm_montgomery_inv(ring, 20, words));
+    REFUSES(NM_NO_INVERSE, nm_montgomery_inv(ring, 0, words));
+}
+
+static void list_refusals(const nm_montgomery_t *ring, const nm_montgomery_t *changed) {
+    const nm_command_t commands[2] = {{NM_LOAD, 0, 0, 0, 5}, {NM_LOAD, 2, 0, 0, 5}};
+    uint64_t *others = words + 8;
+    size_t *done = (size_t *)others;
+    REFUSES(NM_NO_ROOT, nm_montgomery_find_root(ring, 3, words));
+    REFUSES(NM_BAD_CONTEXT, nm_montgomery_find_root(changed, 2, words));
+    REFUSES(NM_NO_ROOT, nm_montgomery_ntt(ring, words, 2, 3));
+    REFUSES(NM_BAD_CONTEXT, nm_montgomery_ntt(changed, words, 2, 19));
+    REFUSES(NM_BAD_ARGUMENT, nm_montgomery_convolve(ring, words, 2, others, 1, 19));
+    REFUSES(NM_NO_ROOT, nm_montgomery_convolve(ring, words, 2, others, 2, 3));
+    REFUSES(NM_NO_INVERSE, nm_montgomery_convolve(ring, words, 2, others, 2, 19));
+    REFUSES(NM_BAD_CONTEXT, nm_montgomery_convolve(changed, words, 2, others, 2, 19));
+    REFUSES(NM_BAD_ARGUMENT, nm_montgomery_run(ring, words, 2, commands, 2, done));
+    REFUSES(NM_BAD_CONTEXT, nm_montgomery_run(changed, words, 2, commands, 1, done));
+    REFUSES(NM_NO_ROOT, nm_solinas_find_root(3, words));
+    REFUSES(NM_NO_ROOT, nm_solinas_ntt(words, 8, 7));
+    REFUSES(NM_BAD_ARGUMENT, nm_solinas_convolve(words, 8, others, 4, NM_SOLINAS - 1));
+    REFUSES(NM_NO_ROOT, nm_solinas_convolve(words, 8, others, 8, 7));
+}
+
+/* the words are above 4 modulo 1, and below 4 modulo 20, where 2 has no inverse */
+static void plan_refusals(void) {
+    uint64_t *others = words + 8;
+    nm_factor_t table[2];
+    CODE(NM_OK, nm_plan(20, 19, table, 1));
+    table[1] = table[0];
+    REFUSES(NM_BAD_ARGUMENT, nm_plan(GREATEST + 1, 1, (nm_factor_t *)words, 2));
+    REFUSES(NM_NO_ROOT, nm_plan(17, 3, (nm_factor_t *)words, 2));
+    REFUSES(NM_BAD_ARGUMENT, nm_ntt_planned(1, words, 4, table, 2));
+    REFUSES(NM_BAD_CONTEXT, nm_ntt_planned(17, words, 4, table, 2));
+    REFUSES(NM_BAD_ARGUMENT, nm_split(20, words, 8, table, 2, 0, 1));
+    REFUSES(NM_BAD_CONTEXT, nm_split(17, words, 4, table, 2, 0, 1));
+    REFUSES(NM_BAD_ARGUMENT, nm_join(20, words, 8, table, 2, 0, 1));
+    REFUSES(NM_BAD_CONTEXT, nm_join(17, words, 4, table, 2, 0, 1));
+    REFUSES(NM_BAD_ARGUMENT, nm_convolve_planned(20, words, 2, others, 1, table, 2, 1));
+    REFUSES(NM_BAD_CONTEXT, nm_convolve_planned(17, words, 2, others, 2, table, 2, 1));
+    REFUSES(NM_NO_INVERSE, nm_convolve_planned(20, words, 2, others, 2, table, 2, 1));
+    REFUSES(NM_BAD_ARGUMENT, nm_convolve_negacyclic(20, words, 2, others, 1, table, 2, 1));
+    REFUSES(NM_BAD_CONTEXT, nm_convolve_negacyclic(17, words, 2, others, 2, table, 2, 1));
+    REFUSES(NM_NO_INVERSE, nm_convolve_negacyclic(20, words, 2, others, 2, table, 2, 1));
+}
+
+static void user_refusals(void) {
+    static const uint8_t text[3] = {1, 2, 3}, pattern[1] = {4};
+    static const uint64_t moduli[2] = {3, 9}, residues[2] = {0, 0};
+    static const uint16_t digit[1] = {9};
+    REFUSES(NM_NOT_FOUND, nm_find(1, text, 3, pattern, 1, (size_t *)words));
+    REFUSES(NM_BAD_ARGUMENT, nm_decode(moduli, 2, residues, 2, (nm_double_t *)words));
+    REFUSES(NM_BAD_ARGUMENT, nm_product_scratch((size_t)UINT64_C(4294967297), (size_t *)words));
+    REFUSES(NM_BAD_ARGUMENT, nm_product(digit, 1, digit, 1, (uint16_t *)words, 2, words + 8, 2, words + 16, 1));
+}
+
+void read_only_rows(void) {
+    nm_montgomery_t ring, changed;
+    struct sigaction handler = {.sa_handler = on_write}, old;
+    size_t size = (size_t)sysconf(_SC_PAGESIZE);
+    words = mmap(NULL, size, PROT_READ | PROT_WRITE, MAP_PRIVATE | MAP_ANONYMOUS, -1, 0);
+    if (words == MAP_FAILED) {
+        row("a page", 0, 0);
+        return;
+    }
+    for (size_t i = 0; i < size / sizeof *words; i++) words[i] = i + 1;
+    CODE(NM_OK, nm_montgomery(20, &ring));
+    changed = ring, changed.square ^= 1;
+    row("a page to read", mprotect(words, size, PROT_READ) == 0 && sigaction(SIGSEGV, &handler, &old) == 0, 0);
+    plain_refusals();
+    divider_refusals();
+    form_refusals(&ring, &changed);
+    list_refusals(&ring, &changed);
+    plan_refusals();
+    user_refusals();
+    sigaction(SIGSEGV, &old, NULL);
+    munmap(words, size);
+}
