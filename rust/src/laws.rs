@@ -15,8 +15,8 @@ pub use crate::modular_word::laws::{
 
 // In the shape that calls and loops leave.
 pub use crate::modular_laws::laws::{
-    coefficient_laws, inverse_product_laws, prime_power_laws, product_below_laws, sum_below_laws,
-    undoing_laws,
+    coefficient_laws, inverse_product_laws, polynomial_laws, prime_power_laws, product_below_laws,
+    sum_below_laws, undoing_laws,
 };
 
 // How many steps a call takes.

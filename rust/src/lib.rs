@@ -43,6 +43,8 @@ pub mod modular_plan_products;
 #[doc(hidden)]
 pub mod modular_laws;
 
+pub mod applications;
+
 pub mod barrett;
 pub mod laws;
 pub mod mersenne;

@@ -204,13 +204,20 @@ fn computed_form<T: RingWord, R: Reducer<T>>(
 
 /// Carries out the commands in order, up to the first whose inverse doesn't exist.
 ///
-/// Conditions: each register holds a checked form (`all_checked` tells), and each register number is
-/// below the number of registers (`commands_fit` tells). The run stops exactly at the first `Inv`
+/// The run stops exactly at the first `Inv`
 /// or `Div` whose operand (for `Div`: b) has no inverse modulo m; that command and all later ones
 /// write nothing, and earlier ones stand. Each register then holds the one checked form of its value
 /// after the commands that were carried out, computed on whole numbers modulo m. It takes no memory.
+///
+/// # Panics
+///
+/// A debug build panics unless each register holds a checked form (`all_checked` tells), and each
+/// register number is below the number of registers (`commands_fit` tells). A release build doesn't
+/// test that, and outside it panics, or returns no meaningful result.
 #[inline]
 pub fn run<T: RingWord, R: Reducer<T>>(r: &R, regs: &mut [T], commands: &[RingCommand<T>]) -> RunEnd {
+    debug_assert!(all_checked(r, regs), "each register must hold a checked form");
+    debug_assert!(commands_fit(commands, regs.len()), "each register number must be below the number of registers");
     'commands: for (at, command) in commands.iter().enumerate() {
         match computed_form(r, regs, command) {
             Some(form) => regs[destination(command)] = form,

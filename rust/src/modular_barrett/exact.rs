@@ -5,8 +5,12 @@ use crate::modular_prim::exact::{DivExact, DivExactAssign, assign_exact};
 use crate::modular_word::path_word::PathWord;
 use crate::modular_word::ring_word::RingWord;
 
-/// The quotient by d; `None` exactly where d doesn't divide n. Condition: the multiplier and the
-/// shift fit d.
+/// The quotient by d; `None` exactly where d doesn't divide n.
+///
+/// # Panics
+///
+/// A debug build panics unless the divider is that of the divisor d. A release build doesn't test that,
+/// and outside it panics, or returns no meaningful result.
 #[inline]
 pub fn exact_quotient<T: PathWord>(n: T, d: T, divider: &PreMulInv1by1<T>) -> Option<T> {
     let (q, r) = divider.div_rem(n, d);

@@ -17,9 +17,9 @@ impl<Any> StoredDivisor for Any {}
 /// Source: Möller and Granlund, "Improved division by invariant integers".
 #[derive(Debug, PartialEq, Eq)]
 #[must_use]
-pub struct Normalized2by1Divisor<T: PathWord> {
-    divisor: T,
-    reciprocal: T,
+pub struct Normalized2by1Divisor<T> {
+    pub(crate) divisor: T,
+    pub(crate) reciprocal: T,
 }
 
 impl<T: PathWord> Clone for Normalized2by1Divisor<T> {
@@ -49,33 +49,40 @@ impl<T: PathWord> Normalized2by1Divisor<T> {
         }
     }
 
-    /// Quotient and remainder of a double word. Condition: its high word is below the divisor.
+    /// Quotient and remainder of a double word.
     ///
     /// # Panics
     ///
-    /// Outside the condition, in a debug build.
+    /// A debug build panics unless the dividend's high word is below the divisor. A release build doesn't
+    /// test that, and outside it panics, or returns no meaningful result.
     #[inline]
     pub fn div_rem_2by1(&self, a: T::Double) -> (T, T) {
-        debug_assert!(T::split(a).1.is_below(self.divisor));
+        debug_assert!(T::split(a).1.is_below(self.divisor), "the dividend's high word must be below the divisor");
         div_2by1(self.divisor, self.reciprocal, a)
     }
 }
 
 impl<T: PlainWord> Normalized2by1Divisor<T> {
-    /// The reciprocal of a divisor. Condition: the divisor's top bit is set.
-    #[inline]
-    pub fn invert_word(d: T) -> T {
-        reciprocal::invert_word(d)
-    }
-
-    /// A divisor with its reciprocal. Condition: the divisor's top bit is set.
+    /// The reciprocal of a divisor.
     ///
     /// # Panics
     ///
-    /// Outside the condition.
+    /// A debug build panics unless the divisor's top bit is set. A release build doesn't test that, and
+    /// outside it panics, or returns no meaningful result.
     #[inline]
-    pub fn new(d: T) -> Self {
-        assert!(T::zero().wrapping_sub(T::one()).half().is_below(d));
+    pub fn invert_word(d: T) -> T {
+        debug_assert!(d.leading_zeros() == 0, "the divisor's top bit must be set");
+        reciprocal::invert_word(d)
+    }
+
+    /// A divisor with its reciprocal.
+    ///
+    /// # Panics
+    ///
+    /// Panics unless the divisor's top bit is set.
+    #[inline]
+    pub fn of(d: T) -> Self {
+        assert!(T::zero().wrapping_sub(T::one()).half().is_below(d), "the divisor's top bit must be set");
         Normalized2by1Divisor {
             divisor: d,
             reciprocal: Self::invert_word(d),

@@ -16,9 +16,9 @@ impl<Any> FitsDivisor for Any {}
 /// 4.
 #[derive(Debug, Clone, Copy, PartialEq, Eq)]
 #[must_use]
-pub struct PreMulInv1by1<T: PathWord> {
-    multiplier: T,
-    shift: u32,
+pub struct PreMulInv1by1<T> {
+    pub(crate) multiplier: T,
+    pub(crate) shift: u32,
 }
 
 // How many binary digits a word has.
@@ -28,12 +28,18 @@ fn binary_digits<T: PathWord>(x: T) -> u32 {
 }
 
 impl<T: PathWord> PreMulInv1by1<T> {
-    /// Quotient and remainder of a word. Condition: the multiplier and the shift fit the divisor.
+    /// Quotient and remainder of a word.
     ///
     /// Source: Granlund and Montgomery, "Division by invariant integers using multiplication", figure
     /// 4.1.
+    ///
+    /// # Panics
+    ///
+    /// A debug build panics unless the divider is that of the divisor d. A release build doesn't test that,
+    /// and outside it panics, or returns no meaningful result.
     #[inline]
     pub fn div_rem(&self, a: T, d: T) -> (T, T) {
+        debug_assert!(crate::additions::is_multiplier(self.multiplier, self.shift, d), "the divider must be that of the divisor d");
         div_1by1(d, self.multiplier, self.shift, a)
     }
 }
@@ -41,16 +47,15 @@ impl<T: PathWord> PreMulInv1by1<T> {
 impl<T: PlainWord> PreMulInv1by1<T> {
     /// The multiplier and the shift of a divisor: with n the least number such that the divisor d is
     /// at most 2^n, and B the number of words, B·(2^n - d)/d rounded down, and 1 more; and n - 1.
-    /// Condition: the divisor is above 1.
     ///
     /// Source: Granlund and Montgomery, "Division by invariant integers using multiplication", section
     /// 4.
     ///
     /// # Panics
     ///
-    /// Outside the condition.
-    pub fn new(d: T) -> Self {
-        assert!(!d.half().is_zero_word());
+    /// Panics unless the divisor is above 1.
+    pub fn of(d: T) -> Self {
+        assert!(!d.half().is_zero_word(), "the divisor must be above 1");
         let less = d.minus(T::one());
         let n = binary_digits(less);
         let gap = ones::<T>(n).minus(less);

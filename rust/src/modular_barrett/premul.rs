@@ -17,9 +17,9 @@ use crate::modular_word::ring_word::RingWord;
 /// Source: Möller and Granlund, "Improved division by invariant integers".
 #[derive(Debug, PartialEq, Eq)]
 #[must_use]
-pub struct PreMulInv2by1<T: PlainWord> {
-    divider: Normalized2by1Divisor<T>,
-    shift: u32,
+pub struct PreMulInv2by1<T> {
+    pub(crate) divider: Normalized2by1Divisor<T>,
+    pub(crate) shift: u32,
 }
 
 impl<T: PlainWord> Clone for PreMulInv2by1<T> {
@@ -32,12 +32,17 @@ impl<T: PlainWord> Clone for PreMulInv2by1<T> {
 impl<T: PlainWord> Copy for PreMulInv2by1<T> {}
 
 impl<T: PlainWord> PreMulInv2by1<T> {
-    /// The reducer of a modulus. Condition: it is at least 1.
+    /// The reducer of a modulus.
+    ///
+    /// # Panics
+    ///
+    /// Panics unless the modulus is at least 1.
     #[inline]
-    pub fn new(m: T) -> Self {
+    pub fn of(m: T) -> Self {
+        assert!(!m.is_zero_word(), "the modulus must be at least 1");
         let shift = m.leading_zeros();
         PreMulInv2by1 {
-            divider: Normalized2by1Divisor::new(m.shift_left(shift)),
+            divider: Normalized2by1Divisor::of(m.shift_left(shift)),
             shift,
         }
     }
@@ -64,7 +69,7 @@ impl<T: PlainWord> PreMulInv2by1<T> {
 impl<T: PlainWord> Reducer<T> for PreMulInv2by1<T> {
     #[inline]
     fn new(m: &T) -> Self {
-        Self::new(*m)
+        Self::of(*m)
     }
 
     #[inline]

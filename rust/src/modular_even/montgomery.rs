@@ -19,11 +19,11 @@ use crate::modular_word::ring_word::RingWord;
 /// even modulus".
 #[derive(Debug)]
 #[must_use]
-pub struct Montgomery<T: PlainWord> {
+pub struct Montgomery<T> {
     // The ring modulo k.
-    odd: OddRing<T, StoredModulus<T>>,
+    pub(crate) odd: OddRing<T, StoredModulus<T>>,
     // The exponent s.
-    twos: u32,
+    pub(crate) twos: u32,
 }
 
 impl<T: PlainWord> Clone for Montgomery<T> {
@@ -36,9 +36,14 @@ impl<T: PlainWord> Clone for Montgomery<T> {
 impl<T: PlainWord> Copy for Montgomery<T> {}
 
 impl<T: PlainWord> Montgomery<T> {
-    /// The reducer of m. Condition: m is at least 1.
+    /// The reducer of a modulus m.
+    ///
+    /// # Panics
+    ///
+    /// Panics unless the modulus is at least 1.
     #[inline]
-    pub fn new(m: T) -> Self {
+    pub fn of(m: T) -> Self {
+        assert!(!m.is_zero_word(), "the modulus must be at least 1");
         let twos = m.trailing_zeros();
         Montgomery {
             odd: OddRing::new(&m.shift_right(twos)),
@@ -84,7 +89,7 @@ impl<T: PlainWord> Montgomery<T> {
 impl<T: PlainWord> Reducer<T> for Montgomery<T> {
     #[inline]
     fn new(m: &T) -> Self {
-        Montgomery::new(*m)
+        Montgomery::of(*m)
     }
 
     #[inline]

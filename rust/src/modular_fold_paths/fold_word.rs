@@ -5,19 +5,36 @@ use crate::modular_word::ring_word::RingWord;
 
 /// A dividend that folds: a word of 64 or 128 bits.
 pub trait FoldWord: Sized + RingWord {
-    /// The sum. Condition: it fits the word.
+    /// The sum.
+    ///
+    /// # Preconditions
+    ///
+    /// It fits the word. This isn't tested: outside it the call panics, or returns no meaningful result.
     #[must_use]
     fn plus(self, rhs: Self) -> Self;
 
-    /// The difference. Condition: it is not below 0.
+    /// The difference.
+    ///
+    /// # Preconditions
+    ///
+    /// It is not below 0. This isn't tested: outside it the call panics, or returns no meaningful result.
     #[must_use]
     fn minus(self, rhs: Self) -> Self;
 
-    /// The product. Condition: it fits the word.
+    /// The product.
+    ///
+    /// # Preconditions
+    ///
+    /// It fits the word. This isn't tested: outside it the call panics, or returns no meaningful result.
     #[must_use]
     fn times(self, rhs: Self) -> Self;
 
-    /// The word divided by a power of two, rounded down. Condition: `by` is below the width.
+    /// The word divided by a power of two, rounded down.
+    ///
+    /// # Preconditions
+    ///
+    /// `by` is below the width. This isn't tested: outside it the call panics, or returns no meaningful
+    /// result.
     #[must_use]
     fn shift_right(self, by: u32) -> Self;
 

@@ -40,15 +40,24 @@ fn product_by_folds<T: PathWord>(a: T, b: T, p: u32, c: T, m: T) -> T {
     sum_of_parts(rest.shift_right(T::bits() - p), over.times(c), p, m)
 }
 
-/// a·b modulo m, where m is 2^p - c and more than half of 2^p. Condition: a and b are below m.
+/// a·b modulo m.
 ///
-/// Where c is small the product is folded by its parts, and no number is tested: c and p alone choose.
+/// Where c has at most half the bits of p the product is folded by its parts, and where it is less than a
+/// fourth of 2^p in a straight line. There no number is tested: c and p alone choose.
 ///
 /// Source: Handbook of Applied Cryptography, algorithm 14.47.
-#[inline]
+///
+/// # Preconditions
+///
+/// M is 2^p - c and more than half of 2^p, and p is at most the width of the words, and a and b are
+/// below m. This isn't tested: outside it the call panics, or returns no meaningful result.
+// Inlined, so that c and p are constants: else each fold waits for a test.
+#[inline(always)]
 pub fn reduce_product<T: FoldedWord>(a: T, b: T, p: u32, c: T, m: T) -> T {
     if c.shift_right(p / 2).is_zero_word() {
         product_by_folds(a, b, p, c, m)
+    } else if c.shift_right(p - 2).is_zero_word() {
+        T::reduce_in_line(a.product(b), p, c, m)
     } else {
         reduce_by_folds(a.product(b), p, c, m).0
     }
@@ -81,12 +90,17 @@ fn fold_word<T: PathWord>(v: T, p: u32, c: T) -> T {
     }
 }
 
-/// v modulo m, where m is 2^p - c and more than half of 2^p.
+/// v modulo m.
 ///
 /// Where one fold is known to leave less than 2m no double word is folded and no number is tested: c and
 /// p alone choose.
 ///
 /// Source: Handbook of Applied Cryptography, algorithm 14.47.
+///
+/// # Preconditions
+///
+/// M is 2^p - c and more than half of 2^p, and p is at most the width of the words. This isn't tested:
+/// outside it the call panics, or returns no meaningful result.
 #[inline]
 pub fn reduce_word<T: FoldedWord>(v: T, p: u32, c: T, m: T) -> T {
     if is_once(p, c) {

@@ -22,31 +22,42 @@ pub struct Mersenne32<const P: u8, const K: u32> {
 pub type FixedMersenne32<const P: u8, const K: u32> = FoldRing<u32, Mersenne32<P, K>>;
 
 impl<const P: u8, const K: u32> FoldRing<u32, Mersenne32<P, K>> {
-    /// The modulus. Condition: the parameters are in range.
+    /// The modulus.
     ///
     /// # Panics
     ///
-    /// Outside the condition.
+    /// Panics unless the parameters are in range.
     #[inline]
     pub fn fixed_modulus() -> u32 {
-        assert!(P <= 32 && K % 2 == 1 && 2 * (K as u64) < 1 << P);
+        assert!(P <= 32 && K % 2 == 1 && 2 * (K as u64) < 1 << P, "the parameters must be in range");
         ((1u64 << P) - K as u64) as u32
     }
 
-    /// The residue of a word. Condition: the parameters are in range.
+    /// The residue of a word.
+    ///
+    /// # Panics
+    ///
+    /// Panics unless the parameters are in range.
     #[inline]
     pub fn reduce_single(v: u32) -> u32 {
-        reduce_word(v, P as u32, K, Self::fixed_modulus())
+        Self::reduce_counted(v as u64).0
     }
 
-    /// The residue of a double word. Condition: the parameters are in range.
+    /// The residue of a double word.
+    ///
+    /// # Panics
+    ///
+    /// Panics unless the parameters are in range.
     #[inline]
     pub fn reduce_double(v: u64) -> u32 {
         Self::reduce_counted(v).0
     }
 
-    /// The residue of a double word, and the number of folds that take it below 2^P. Condition: the
-    /// parameters are in range.
+    /// The residue of a double word, and the number of folds that take it below 2^P.
+    ///
+    /// # Panics
+    ///
+    /// Panics unless the parameters are in range.
     #[inline]
     pub fn reduce_counted(v: u64) -> (u32, u32) {
         reduce_by_folds::<u32>(v, P as u32, K, Self::fixed_modulus())
@@ -54,9 +65,10 @@ impl<const P: u8, const K: u32> FoldRing<u32, Mersenne32<P, K>> {
 }
 
 impl<const P: u8, const K: u32> FoldModulus<u32> for Mersenne32<P, K> {
+    // Condition: the modulus is that of the parameters.
     #[inline]
     fn keep(m: u32) -> Self {
-        assert!(m == FixedMersenne32::<P, K>::fixed_modulus());
+        assert!(m == FixedMersenne32::<P, K>::fixed_modulus(), "the modulus must be that of the parameters");
         Mersenne32 { made: () }
     }
 
@@ -67,7 +79,7 @@ impl<const P: u8, const K: u32> FoldModulus<u32> for Mersenne32<P, K> {
 
     #[inline]
     fn reduced(&self, n: u32) -> u32 {
-        FixedMersenne32::<P, K>::reduce_single(n)
+        reduce_word(n, P as u32, K, self.modulus())
     }
 
     #[inline]
@@ -93,31 +105,42 @@ pub struct Mersenne64<const P: u8, const K: u64> {
 pub type FixedMersenne64<const P: u8, const K: u64> = FoldRing<u64, Mersenne64<P, K>>;
 
 impl<const P: u8, const K: u64> FoldRing<u64, Mersenne64<P, K>> {
-    /// The modulus. Condition: the parameters are in range.
+    /// The modulus.
     ///
     /// # Panics
     ///
-    /// Outside the condition.
+    /// Panics unless the parameters are in range.
     #[inline]
     pub fn fixed_modulus() -> u64 {
-        assert!(P <= 64 && K % 2 == 1 && 2 * (K as u128) < 1 << P);
+        assert!(P <= 64 && K % 2 == 1 && 2 * (K as u128) < 1 << P, "the parameters must be in range");
         ((1u128 << P) - K as u128) as u64
     }
 
-    /// The residue of a word. Condition: the parameters are in range.
+    /// The residue of a word.
+    ///
+    /// # Panics
+    ///
+    /// Panics unless the parameters are in range.
     #[inline]
     pub fn reduce_single(v: u64) -> u64 {
-        reduce_word(v, P as u32, K, Self::fixed_modulus())
+        Self::reduce_counted(v as u128).0
     }
 
-    /// The residue of a double word. Condition: the parameters are in range.
+    /// The residue of a double word.
+    ///
+    /// # Panics
+    ///
+    /// Panics unless the parameters are in range.
     #[inline]
     pub fn reduce_double(v: u128) -> u64 {
         Self::reduce_counted(v).0
     }
 
-    /// The residue of a double word, and the number of folds that take it below 2^P. Condition: the
-    /// parameters are in range.
+    /// The residue of a double word, and the number of folds that take it below 2^P.
+    ///
+    /// # Panics
+    ///
+    /// Panics unless the parameters are in range.
     #[inline]
     pub fn reduce_counted(v: u128) -> (u64, u32) {
         reduce_by_folds::<u64>(v, P as u32, K, Self::fixed_modulus())
@@ -125,9 +148,10 @@ impl<const P: u8, const K: u64> FoldRing<u64, Mersenne64<P, K>> {
 }
 
 impl<const P: u8, const K: u64> FoldModulus<u64> for Mersenne64<P, K> {
+    // Condition: the modulus is that of the parameters.
     #[inline]
     fn keep(m: u64) -> Self {
-        assert!(m == FixedMersenne64::<P, K>::fixed_modulus());
+        assert!(m == FixedMersenne64::<P, K>::fixed_modulus(), "the modulus must be that of the parameters");
         Mersenne64 { made: () }
     }
 
@@ -138,7 +162,7 @@ impl<const P: u8, const K: u64> FoldModulus<u64> for Mersenne64<P, K> {
 
     #[inline]
     fn reduced(&self, n: u64) -> u64 {
-        FixedMersenne64::<P, K>::reduce_single(n)
+        reduce_word(n, P as u32, K, self.modulus())
     }
 
     #[inline]
@@ -148,10 +172,11 @@ impl<const P: u8, const K: u64> FoldModulus<u64> for Mersenne64<P, K> {
 }
 
 /// The reducer of the modulus 2^P - K of at most 64 bits over words of 128 bits: the form of a value
-/// is the value itself, so the product of two forms is one word.
+/// is the value itself.
 ///
 /// The parameters are in range where P is 64 at most and K is odd and less than half of 2^P. Forms are
-/// below 2^64, so all but the reduction of words is computed by `FixedMersenne64`.
+/// below 2^64, so a product of two of them fits a word and is reduced as a word; sums, differences and
+/// inverses are computed by `FixedMersenne64`.
 #[derive(Debug, Clone, Copy)]
 #[must_use]
 pub struct FixedMersenne<const P: u8, const K: u64> {
@@ -159,24 +184,41 @@ pub struct FixedMersenne<const P: u8, const K: u64> {
 }
 
 impl<const P: u8, const K: u64> FixedMersenne<P, K> {
-    /// The modulus. Condition: the parameters are in range.
+    /// The modulus.
+    ///
+    /// # Panics
+    ///
+    /// Panics unless the parameters are in range.
     #[inline]
     pub fn fixed_modulus() -> u128 {
         FixedMersenne64::<P, K>::fixed_modulus() as u128
     }
 
-    /// The residue of a word. Condition: the parameters are in range.
+    /// The residue of a word.
+    ///
+    /// # Panics
+    ///
+    /// Panics unless the parameters are in range.
     #[inline]
     pub fn reduce_single(v: u128) -> u128 {
         Self::reduce_counted(v).0
     }
 
-    /// The residue of a word, and the number of folds that take it below 2^P. Condition: the parameters
-    /// are in range.
+    /// The residue of a word, and the number of folds that take it below 2^P.
+    ///
+    /// # Panics
+    ///
+    /// Panics unless the parameters are in range.
     #[inline]
     pub fn reduce_counted(v: u128) -> (u128, u32) {
         let (rest, count) = FixedMersenne64::<P, K>::reduce_counted(v);
         (rest as u128, count)
+    }
+
+    // The residue of a product of two forms, which fits a word.
+    #[inline]
+    fn product(a: u128, b: u128) -> u128 {
+        Self::reduce_single(a * b)
     }
 
     // A form as a word of 64 bits.
@@ -187,9 +229,10 @@ impl<const P: u8, const K: u64> FixedMersenne<P, K> {
 }
 
 impl<const P: u8, const K: u64> Reducer<u128> for FixedMersenne<P, K> {
+    // Condition: the modulus is that of the parameters.
     #[inline]
     fn new(m: &u128) -> Self {
-        assert!(*m == Self::fixed_modulus());
+        assert!(*m == Self::fixed_modulus(), "the modulus must be that of the parameters");
         FixedMersenne {
             ring: FixedMersenne64::<P, K>::new(&FixedMersenne64::<P, K>::fixed_modulus()),
         }
@@ -242,7 +285,7 @@ impl<const P: u8, const K: u64> Reducer<u128> for FixedMersenne<P, K> {
 
     #[inline]
     fn mul(&self, a: &u128, b: &u128) -> u128 {
-        self.ring.mul(&Self::narrow(*a), &Self::narrow(*b)) as u128
+        Self::product(*a, *b)
     }
 
     #[inline]
@@ -255,6 +298,6 @@ impl<const P: u8, const K: u64> Reducer<u128> for FixedMersenne<P, K> {
 
     #[inline]
     fn sqr(&self, f: u128) -> u128 {
-        self.ring.sqr(Self::narrow(f)) as u128
+        Self::product(f, f)
     }
 }

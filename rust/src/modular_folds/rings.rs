@@ -12,7 +12,11 @@ use core::marker::PhantomData;
 /// A modulus near a power of two, which is given by parameters of the type: its number, and how words
 /// and products are reduced by it. A value of the type is known to have parameters in range.
 pub trait FoldModulus<T: FoldedWord>: Copy {
-    /// The modulus of the parameters. Condition: it is m, and the parameters are in range.
+    /// The modulus of the parameters.
+    ///
+    /// # Panics
+    ///
+    /// Panics unless the modulus is that of the parameters, and these are in range.
     #[must_use]
     fn keep(m: T) -> Self;
 
@@ -22,7 +26,12 @@ pub trait FoldModulus<T: FoldedWord>: Copy {
     /// The residue of a word.
     fn reduced(&self, n: T) -> T;
 
-    /// The residue of a product. Condition: both factors are below the modulus.
+    /// The residue of a product.
+    ///
+    /// # Preconditions
+    ///
+    /// Both factors are below the modulus. This isn't tested: outside it the call panics, or returns no
+    /// meaningful result.
     fn product(&self, a: T, b: T) -> T;
 }
 
@@ -30,7 +39,7 @@ pub trait FoldModulus<T: FoldedWord>: Copy {
 /// It keeps no number, and `new` takes the modulus of the parameters alone.
 #[derive(Debug, Clone, Copy)]
 #[must_use]
-pub struct FoldRing<T: FoldedWord, M: FoldModulus<T>> {
+pub struct FoldRing<T, M> {
     word: PhantomData<T>,
     kept: M,
 }

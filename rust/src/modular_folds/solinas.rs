@@ -85,7 +85,11 @@ fn is_low(p1: u8, p2: u8, k: i64) -> bool {
 
 /// A word whose trinomial reducers exist: u32 and u64.
 pub trait TrinomialWord: Sized + FoldedWord {
-    /// The word of a number. Condition: it fits.
+    /// The word of a number.
+    ///
+    /// # Preconditions
+    ///
+    /// It fits. This isn't tested: outside it the call panics, or returns no meaningful result.
     #[must_use]
     fn word_of(n: u64) -> Self;
 }
@@ -107,7 +111,7 @@ impl TrinomialWord for u64 {
 /// The modulus 2^p1 - 2^p2 + k of the trinomial F, over words T.
 #[derive(Debug)]
 #[must_use]
-pub struct TrinomialModulus<T: TrinomialWord, F: Trinomial> {
+pub struct TrinomialModulus<T, F> {
     word: PhantomData<T>,
     parameters: PhantomData<F>,
 }
@@ -116,10 +120,9 @@ pub struct TrinomialModulus<T: TrinomialWord, F: Trinomial> {
 /// value is the value itself. It keeps no number.
 ///
 /// The parameters are in range where p1 is the width of T at most, p2 is from 1 to p1 - 1, and k is
-/// odd and less than 2^p2 either way. Words are reduced by folds, and so is a product of words of 64
-/// bits, but where p1 = p2 + 1 and k is negative: m is less than half of 2^p1 then, and what is left by
-/// m is taken by the primitive remainder. So is a product of words of 32 bits, which takes no division
-/// either where the modulus is known when it is compiled. `inv` divides by Euclid's algorithm.
+/// odd and less than 2^p2 either way. Words and products are reduced by folds, except where
+/// p1 = p2 + 1 and k is negative: m is then less than half of 2^p1, and the primitive remainder is
+/// computed. `inv` divides by Euclid's algorithm.
 ///
 /// Source: Solinas, "Generalized Mersenne numbers" (1999).
 pub type TrinomialSolinas<T, F> = FoldRing<T, TrinomialModulus<T, F>>;
@@ -152,27 +155,32 @@ impl<T: TrinomialWord, F: Trinomial> FoldRing<T, TrinomialModulus<T, F>> {
         T::word_of(factor_of(F::p1(), F::p2(), F::k()))
     }
 
-    /// The modulus. Condition: the parameters are in range.
+    /// The modulus.
     ///
     /// # Panics
     ///
-    /// Outside the condition.
+    /// Panics unless the parameters are in range.
     pub fn fixed_modulus() -> T {
-        assert!(F::p1() as u32 <= T::bits() && 0 < F::p2() && F::p2() < F::p1());
-        assert!(F::k().unsigned_abs() % 2 == 1 && F::k().unsigned_abs() < 1 << F::p2());
+        assert!(F::p1() as u32 <= T::bits() && 0 < F::p2() && F::p2() < F::p1(), "the parameters must be in range");
+        assert!(F::k().unsigned_abs() % 2 == 1 && F::k().unsigned_abs() < 1 << F::p2(), "the parameters must be in range");
         T::word_of(modulus_of(F::p1(), F::p2(), F::k()))
     }
 
-    /// The residue of a word. Condition: the parameters are in range.
+    /// The residue of a word.
+    ///
+    /// # Panics
+    ///
+    /// Panics unless the parameters are in range.
+    #[inline]
     pub fn reduce_single(v: T) -> T {
-        if is_low(F::p1(), F::p2(), F::k()) {
-            Self::remainder(T::merge(v, T::zero()))
-        } else {
-            reduce_word(v, F::p1() as u32, Self::factor(), Self::fixed_modulus())
-        }
+        Self::reduce_counted(T::merge(v, T::zero())).0
     }
 
-    /// The residue of a double word. Condition: the parameters are in range.
+    /// The residue of a double word.
+    ///
+    /// # Panics
+    ///
+    /// Panics unless the parameters are in range.
     #[inline]
     pub fn reduce_double(v: T::Double) -> T {
         Self::reduce_counted(v).0
@@ -185,7 +193,11 @@ impl<T: TrinomialWord, F: Trinomial> FoldRing<T, TrinomialModulus<T, F>> {
     }
 
     /// The residue of a double word, and the number of folds that take it below 2^p1: 0 where the primitive
-    /// remainder is taken. Condition: the parameters are in range.
+    /// remainder is taken.
+    ///
+    /// # Panics
+    ///
+    /// Panics unless the parameters are in range.
     #[inline]
     pub fn reduce_counted(v: T::Double) -> (T, u32) {
         if is_low(F::p1(), F::p2(), F::k()) {
@@ -197,9 +209,10 @@ impl<T: TrinomialWord, F: Trinomial> FoldRing<T, TrinomialModulus<T, F>> {
 }
 
 impl<T: TrinomialWord, F: Trinomial> FoldModulus<T> for TrinomialModulus<T, F> {
+    // Condition: the modulus is that of the parameters.
     #[inline]
     fn keep(m: T) -> Self {
-        assert!(m == TrinomialSolinas::<T, F>::fixed_modulus());
+        assert!(m == TrinomialSolinas::<T, F>::fixed_modulus(), "the modulus must be that of the parameters");
         TrinomialModulus {
             word: PhantomData,
             parameters: PhantomData,
@@ -211,13 +224,21 @@ impl<T: TrinomialWord, F: Trinomial> FoldModulus<T> for TrinomialModulus<T, F> {
         TrinomialSolinas::<T, F>::fixed_modulus()
     }
 
-    #[inline]
     fn reduced(&self, n: T) -> T {
-        TrinomialSolinas::<T, F>::reduce_single(n)
+        if is_low(F::p1(), F::p2(), F::k()) {
+            TrinomialSolinas::<T, F>::reduce_single(n)
+        } else {
+            reduce_word(
+                n,
+                F::p1() as u32,
+                TrinomialSolinas::<T, F>::factor(),
+                self.modulus(),
+            )
+        }
     }
 
     fn product(&self, a: T, b: T) -> T {
-        if T::bits() < 64 || is_low(F::p1(), F::p2(), F::k()) {
+        if is_low(F::p1(), F::p2(), F::k()) {
             TrinomialSolinas::<T, F>::remainder(a.product(b))
         } else {
             reduce_product(

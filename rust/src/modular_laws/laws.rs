@@ -50,3 +50,13 @@ pub fn prime_power_laws() {}
 /// Source: Knuth, The Art of Computer Programming, volume 2, section 4.3.3, part C.
 #[inline]
 pub fn coefficient_laws() {}
+
+/// A polynomial by its coefficients, the constant first: Horner's rule. Modulo m, which may be composite,
+/// one with at most n coefficients that is 0 at n numbers whose differences all have inverses has
+/// coefficients of 0 alone. So two of them with equal values there have equal coefficients, as lists, as
+/// functions, and with the highest coefficient first. Modulo a prime the differences of numbers that are
+/// distinct have inverses.
+///
+/// Source: Knuth, The Art of Computer Programming, volume 2, section 4.6.4 (Newton's form).
+#[inline]
+pub fn polynomial_laws() {}

@@ -15,8 +15,12 @@ pub fn load_forms<T: RingWord, R: Reducer<T>>(r: &R, words: &[T], forms: &mut [T
     }
 }
 
-/// Puts the values of the forms in place, from the first on: numbers below the modulus. Conditions: the
-/// forms are checked, and at least as many as the places.
+/// Puts the values of the forms in place, from the first on: numbers below the modulus.
+///
+/// # Preconditions
+///
+/// The forms are checked, and at least as many as the places. This isn't tested: outside it the call
+/// panics, or returns no meaningful result.
 #[inline]
 pub fn unload_forms<T: RingWord, R: Reducer<T>>(r: &R, forms: &[T], words: &mut [T]) {
     'entries: for i in 0..words.len() {

@@ -32,3 +32,23 @@ pub(crate) const fn computed_once_64(m: u64) -> (u64, u64) {
     let square = (0u128.wrapping_sub(m as u128) % m as u128) as u64;
     (negated_inverse(m, 64), square)
 }
+
+// `computed_once` in words of 16 bits, where m is odd.
+#[inline]
+pub(crate) const fn computed_once_16(m: u16) -> (u16, u16) {
+    if m == 0 {
+        return (0, 0);
+    }
+    let square = (0u32.wrapping_sub(m as u32) % m as u32) as u16;
+    ((negated_inverse(m as u64, 16) & 0xffff) as u16, square)
+}
+
+// `computed_once` in words of 8 bits, where m is odd.
+#[inline]
+pub(crate) const fn computed_once_8(m: u8) -> (u8, u8) {
+    if m == 0 {
+        return (0, 0);
+    }
+    let square = (0u16.wrapping_sub(m as u16) % m as u16) as u8;
+    ((negated_inverse(m as u64, 8) & 0xff) as u8, square)
+}

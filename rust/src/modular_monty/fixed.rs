@@ -37,22 +37,23 @@ impl<const P: u32> OddNumber32<P> {
 pub type FixedMontgomery32<const P: u32> = OddRing<u32, OddNumber32<P>>;
 
 impl<const P: u32> OddRing<u32, OddNumber32<P>> {
-    /// The modulus P. Condition: P is odd.
+    /// The modulus P.
     ///
     /// # Panics
     ///
-    /// Outside the condition.
+    /// Panics unless the parameter P is odd.
     #[inline]
     pub fn fixed_modulus() -> u32 {
-        assert!(P % 2 == 1);
+        assert!(P % 2 == 1, "the parameter P must be odd");
         P
     }
 }
 
 impl<const P: u32> OddModulus<u32> for OddNumber32<P> {
+    // Condition: the modulus is that of the parameters.
     #[inline]
     fn keep(m: u32) -> Self {
-        assert!(m == FixedMontgomery32::<P>::fixed_modulus());
+        assert!(m == FixedMontgomery32::<P>::fixed_modulus(), "the modulus must be that of the parameters");
         OddNumber32 { made: () }
     }
 
@@ -104,22 +105,23 @@ impl<const P: u64> OddNumber64<P> {
 pub type FixedMontgomery64<const P: u64> = OddRing<u64, OddNumber64<P>>;
 
 impl<const P: u64> OddRing<u64, OddNumber64<P>> {
-    /// The modulus P. Condition: P is odd.
+    /// The modulus P.
     ///
     /// # Panics
     ///
-    /// Outside the condition.
+    /// Panics unless the parameter P is odd.
     #[inline]
     pub fn fixed_modulus() -> u64 {
-        assert!(P % 2 == 1);
+        assert!(P % 2 == 1, "the parameter P must be odd");
         P
     }
 }
 
 impl<const P: u64> OddModulus<u64> for OddNumber64<P> {
+    // Condition: the modulus is that of the parameters.
     #[inline]
     fn keep(m: u64) -> Self {
-        assert!(m == FixedMontgomery64::<P>::fixed_modulus());
+        assert!(m == FixedMontgomery64::<P>::fixed_modulus(), "the modulus must be that of the parameters");
         OddNumber64 { made: () }
     }
 

@@ -15,7 +15,11 @@ use core::marker::PhantomData;
 /// square of the base modulo it. A type that knows its modulus need not store it, and one of a
 /// special form may have a multiple of it at a lower cost.
 pub trait OddModulus<T: PlainWord>: Copy {
-    /// What is kept of m. Condition: m is taken.
+    /// What is kept of m.
+    ///
+    /// # Panics
+    ///
+    /// Panics unless the type takes the modulus.
     #[must_use]
     fn keep(m: T) -> Self;
 
@@ -25,7 +29,12 @@ pub trait OddModulus<T: PlainWord>: Copy {
     /// The square of the base modulo it.
     fn square_of_base(&self) -> T;
 
-    /// Montgomery's reduction of t. Condition: t is below the modulus times the base.
+    /// Montgomery's reduction of t.
+    ///
+    /// # Preconditions
+    ///
+    /// T is below the modulus times the base. This isn't tested: outside it the call panics, or returns no
+    /// meaningful result.
     fn reduced(&self, t: T::Double) -> T;
 }
 
@@ -69,15 +78,15 @@ fn is_square_of_base<T: PathWord>(m: T, negated_inverse: T, square: T) -> bool {
 /// Source: Handbook of Applied Cryptography, section 14.3.2.
 #[derive(Debug, Clone, Copy)]
 #[must_use]
-pub struct OddRing<T: PlainWord, M: OddModulus<T>> {
-    pub kept: M,
-    word: PhantomData<T>,
+pub struct OddRing<T, M> {
+    pub(crate) kept: M,
+    pub(crate) word: PhantomData<T>,
 }
 
 impl<T: PlainWord, M: OddModulus<T>> OddRing<T, M> {
     /// The reducer by what is kept of its modulus.
     #[inline]
-    pub fn over(kept: M) -> Self {
+    pub(crate) fn over(kept: M) -> Self {
         OddRing {
             kept,
             word: PhantomData,
@@ -171,13 +180,13 @@ impl<T: PlainWord, M: OddModulus<T>> Reducer<T> for OddRing<T, M> {
 /// An odd modulus that is known when the program runs, with what is computed once of it.
 #[derive(Debug)]
 #[must_use]
-pub struct StoredModulus<T: PlainWord> {
+pub struct StoredModulus<T> {
     /// The modulus m.
-    pub modulus: T,
+    pub(crate) modulus: T,
     /// The number n below the base with m * n congruent to -1 modulo the base.
-    pub negated_inverse: T,
+    pub(crate) negated_inverse: T,
     /// The square of the base modulo m.
-    pub square: T,
+    pub(crate) square: T,
 }
 
 impl<T: PlainWord> Clone for StoredModulus<T> {

@@ -23,7 +23,7 @@ impl<Any> PreparedInverse for Any {}
 /// section 9.
 #[derive(Debug, Clone, Copy)]
 #[must_use]
-pub struct PreModInv<T: PathWord> {
+pub struct PreModInv<T> {
     d_inv: T,
     q_lim: T,
 }
@@ -37,30 +37,32 @@ impl<T: PathWord> PreModInv<T> {
 }
 
 impl<T: PlainWord> PreModInv<T> {
-    /// What fits the divisor d. Condition: d is odd.
+    /// What fits the divisor d.
     ///
     /// # Panics
     ///
-    /// Outside the condition.
+    /// Panics unless the divisor is odd.
     #[inline]
     pub fn from(d: T) -> Self {
-        assert!(d.is_odd());
+        assert!(d.is_odd(), "the divisor must be odd");
         let d_inv = T::zero().wrapping_sub(neginv(d));
         let q_lim = ones::<T>(T::bits()).quotient(d);
         PreModInv::new(d_inv, q_lim)
     }
 }
 
-// The quotient of a word; `None` exactly where d doesn't divide it.
+// The quotient of a word; `None` exactly where d doesn't divide it. Condition: the stored inverse is that
+// of the divisor.
 #[inline]
 fn word_quotient<T: PathWord>(n: T, d: T, pre: &PreModInv<T>) -> Option<T> {
-    debug_assert!(d.wrapping_mul(pre.d_inv) == T::one());
+    debug_assert!(d.wrapping_mul(pre.d_inv) == T::one(), "the stored inverse must be that of the divisor");
     exact_1(d, pre.d_inv, pre.q_lim, n)
 }
 
-// The quotient of a double word; `None` exactly where d doesn't divide it.
+// The quotient of a double word; `None` exactly where d doesn't divide it. Condition: the stored inverse is that
+// of the divisor.
 #[inline]
 fn double_quotient<T: PathWord>(n: T::Double, d: T, pre: &PreModInv<T>) -> Option<T::Double> {
-    debug_assert!(d.wrapping_mul(pre.d_inv) == T::one());
+    debug_assert!(d.wrapping_mul(pre.d_inv) == T::one(), "the stored inverse must be that of the divisor");
     exact_2(d, pre.d_inv, pre.q_lim, n)
 }

@@ -35,11 +35,11 @@ impl<const N: u8, const K: u8> ProthNumber32<N, K> {
         }
     };
 
-    // The modulus.
+    // The modulus. Condition: the parameters are in range.
     #[inline]
     fn value() -> u32 {
-        assert!(0 < N && N < 32 && K % 2 == 1 && (K as u32) < 1 << N);
-        assert!(((K as u64) << N) < 2654435769);
+        assert!(0 < N && N < 32 && K % 2 == 1 && (K as u32) < 1 << N, "the parameters must be in range");
+        assert!(((K as u64) << N) < 2654435769, "the parameters must be in range");
         modulus_32(N, K)
     }
 
@@ -60,14 +60,22 @@ impl<const N: u8, const K: u8> ProthNumber32<N, K> {
 pub type FixedProth32<const N: u8, const K: u8> = OddRing<u32, ProthNumber32<N, K>>;
 
 impl<const N: u8, const K: u8> OddRing<u32, ProthNumber32<N, K>> {
-    /// The modulus K * 2^N + 1. Condition: the parameters are in range.
+    /// The modulus K * 2^N + 1.
+    ///
+    /// # Panics
+    ///
+    /// Panics unless the parameters are in range.
     #[inline]
     pub fn fixed_modulus() -> u32 {
         ProthNumber32::<N, K>::value()
     }
 
     /// Montgomery's reduction of t: the u below the modulus with u * 2^32 congruent to t.
-    /// Condition: t is below the modulus times 2^32.
+    ///
+    /// # Preconditions
+    ///
+    /// T is below the modulus times 2^32. This isn't tested: outside it the call panics, or returns no
+    /// meaningful result.
     #[inline]
     pub fn reduce(&self, t: u64) -> u32 {
         self.kept.reduced(t)
@@ -75,9 +83,10 @@ impl<const N: u8, const K: u8> OddRing<u32, ProthNumber32<N, K>> {
 }
 
 impl<const N: u8, const K: u8> OddModulus<u32> for ProthNumber32<N, K> {
+    // Condition: the modulus is that of the parameters.
     #[inline]
     fn keep(m: u32) -> Self {
-        assert!(m == Self::value());
+        assert!(m == Self::value(), "the modulus must be that of the parameters");
         ProthNumber32 { made: () }
     }
 
@@ -129,11 +138,11 @@ impl<const N: u8, const K: u8> ProthNumber64<N, K> {
         }
     };
 
-    // The modulus.
+    // The modulus. Condition: the parameters are in range.
     #[inline]
     fn value() -> u64 {
-        assert!(0 < N && N < 64 && K % 2 == 1 && (K as u64) < 1 << N);
-        assert!(((K as u128) << N) < 11400714819323199485);
+        assert!(0 < N && N < 64 && K % 2 == 1 && (K as u64) < 1 << N, "the parameters must be in range");
+        assert!(((K as u128) << N) < 11400714819323199485, "the parameters must be in range");
         modulus_64(N, K)
     }
 
@@ -154,14 +163,22 @@ impl<const N: u8, const K: u8> ProthNumber64<N, K> {
 pub type FixedProth64<const N: u8, const K: u8> = OddRing<u64, ProthNumber64<N, K>>;
 
 impl<const N: u8, const K: u8> OddRing<u64, ProthNumber64<N, K>> {
-    /// The modulus K * 2^N + 1. Condition: the parameters are in range.
+    /// The modulus K * 2^N + 1.
+    ///
+    /// # Panics
+    ///
+    /// Panics unless the parameters are in range.
     #[inline]
     pub fn fixed_modulus() -> u64 {
         ProthNumber64::<N, K>::value()
     }
 
     /// Montgomery's reduction of t: the u below the modulus with u * 2^64 congruent to t.
-    /// Condition: t is below the modulus times 2^64.
+    ///
+    /// # Preconditions
+    ///
+    /// T is below the modulus times 2^64. This isn't tested: outside it the call panics, or returns no
+    /// meaningful result.
     #[inline]
     pub fn reduce(&self, t: u128) -> u64 {
         self.kept.reduced(t)
@@ -169,9 +186,10 @@ impl<const N: u8, const K: u8> OddRing<u64, ProthNumber64<N, K>> {
 }
 
 impl<const N: u8, const K: u8> OddModulus<u64> for ProthNumber64<N, K> {
+    // Condition: the modulus is that of the parameters.
     #[inline]
     fn keep(m: u64) -> Self {
-        assert!(m == Self::value());
+        assert!(m == Self::value(), "the modulus must be that of the parameters");
         ProthNumber64 { made: () }
     }
 

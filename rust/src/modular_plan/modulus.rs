@@ -12,11 +12,11 @@ use crate::modular_word::ring_word::RingWord;
 /// Source: Harvey, "Faster arithmetic for number-theoretic transforms", section 3, after Shoup.
 #[derive(Debug, PartialEq, Eq)]
 #[must_use]
-pub struct Factor<T: PathWord> {
+pub struct Factor<T> {
     /// The factor.
-    pub value: T,
+    pub(crate) value: T,
     /// Its quotient.
-    pub quotient: T,
+    pub(crate) quotient: T,
 }
 
 impl<T: PathWord> Clone for Factor<T> {
@@ -36,13 +36,13 @@ impl<T: PathWord> Factor<T> {
     }
 }
 
-/// A modulus m with what is computed once of it. It is from 1 to a fourth of the number of words, so
+/// A modulus m with what is computed once of it. It is at least 1 and at most a quarter of the base, so
 /// that words below 4m are at hand for sums that aren't reduced.
 #[derive(Debug, PartialEq, Eq)]
 #[must_use]
-pub struct PlannedModulus<T: PathWord> {
+pub struct PlannedModulus<T> {
     /// The modulus.
-    pub modulus: T,
+    pub(crate) modulus: T,
     shift: u32,
     reciprocal: T,
 }
@@ -68,9 +68,15 @@ impl<T: PlainWord> PlannedModulus<T> {
         }
     }
 
-    /// The modulus with its reciprocal. Condition: plans admit it (`admits` tells).
+    /// The modulus with its reciprocal.
+    ///
+    /// # Panics
+    ///
+    /// Panics unless the modulus is at least 1 and at most a fourth of the number of words (`admits`
+    /// tells).
     #[inline]
     pub fn new(m: T) -> Self {
+        assert!(Self::admits(m), "the modulus must be at least 1 and at most a fourth of the number of words");
         let shift = m.leading_zeros();
         let reciprocal = invert_word(m.shift_left(shift));
         PlannedModulus {
@@ -80,26 +86,39 @@ impl<T: PlainWord> PlannedModulus<T> {
         }
     }
 
-    /// The factor w with its quotient. Condition: w is below m. It divides by the reciprocal.
+    /// The factor w with its quotient. It divides by the reciprocal.
+    ///
+    /// # Panics
+    ///
+    /// Panics unless w is below m.
     pub fn factor(&self, w: T) -> Factor<T> {
+        assert!(w.is_below(self.modulus), "w must be below m");
         let divisor = self.modulus.shift_left(self.shift);
         let scaled = w.shift_left(self.shift);
         let (quotient, _) = div_2by1(divisor, self.reciprocal, T::merge(T::zero(), scaled));
         Factor { value: w, quotient }
     }
 
-    /// The residue of a factor times the number of words: what its quotient leaves. Condition: the factor is one
-    /// modulo m.
+    /// The residue of a factor times the base: what its quotient leaves.
+    ///
+    /// # Preconditions
+    ///
+    /// The factor is a residue modulo m. This isn't tested: outside it the call panics, or returns no
+    /// meaningful result.
     #[inline]
     pub fn times_base(&self, w: &Factor<T>) -> T {
         T::zero().wrapping_sub(w.quotient.wrapping_mul(self.modulus))
     }
 
-    /// A number below 2m that is congruent to the product of any word x with a factor. Condition: the
-    /// factor is one modulo m.
+    /// A number below 2m that is congruent to the product of any word x with a factor.
     ///
     /// It takes the high word of one product and the low words of two. Source: Harvey, "Faster
     /// arithmetic for number-theoretic transforms", section 3.
+    ///
+    /// # Preconditions
+    ///
+    /// The factor is one modulo m. This isn't tested: outside it the call panics, or returns no meaningful
+    /// result.
     #[inline]
     pub fn times(&self, x: T, w: &Factor<T>) -> T {
         let (_, whole) = T::split(x.product(w.quotient));
@@ -107,13 +126,23 @@ impl<T: PlainWord> PlannedModulus<T> {
         product.wrapping_sub(whole.wrapping_mul(self.modulus))
     }
 
-    /// The residue of the product of any word x with a factor. Condition: the factor is one modulo m.
+    /// The residue of the product of any word x with a factor.
+    ///
+    /// # Preconditions
+    ///
+    /// The factor is one modulo m. This isn't tested: outside it the call panics, or returns no meaningful
+    /// result.
     #[inline]
     pub fn product(&self, x: T, w: &Factor<T>) -> T {
         reduced_once(self.times(x, w), self.modulus)
     }
 
-    /// The residue of the product of a word below m with any word. It divides by the reciprocal.
+    /// The residue of the product of a word x with any word. It divides by the
+    /// reciprocal.
+    ///
+    /// # Preconditions
+    ///
+    /// X is below m. This isn't tested: outside it the call panics, or returns no meaningful result.
     #[inline]
     pub fn multiply(&self, x: T, y: T) -> T {
         let divisor = self.modulus.shift_left(self.shift);
@@ -122,8 +151,12 @@ impl<T: PlainWord> PlannedModulus<T> {
         rest.shift_right(self.shift)
     }
 
-    /// The residue of x·v + u·y. Condition: x + u is below 2m. It divides once by the reciprocal, and
+    /// The residue of x·v + u·y. It divides once by the reciprocal, and
     /// modulo 2m, since the sum may have a high word from m on.
+    ///
+    /// # Preconditions
+    ///
+    /// X + u is below 2m. This isn't tested: outside it the call panics, or returns no meaningful result.
     pub fn product_sum(&self, x: T, v: T, u: T, y: T) -> T {
         let divisor = self.modulus.shift_left(self.shift);
         let by = self.shift - 1;
@@ -152,7 +185,12 @@ impl<T: PlainWord> PlannedModulus<T> {
         x.half().is_below(self.twice())
     }
 
-    /// The residue of a word. Condition: it is below 4m (`has_room` tells).
+    /// The residue of a word.
+    ///
+    /// # Preconditions
+    ///
+    /// It is below 4m (`has_room` tells). This isn't tested: outside it the call panics, or returns no
+    /// meaningful result.
     #[inline]
     pub fn residue(&self, x: T) -> T {
         reduced_once(reduced_once(x, self.twice()), self.modulus)

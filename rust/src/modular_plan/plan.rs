@@ -9,9 +9,16 @@ use crate::modular_word::ring_word::RingWord;
 /// Fills the table with the plan by g for transforms of n entries, n being twice its length: entry k
 /// becomes the factor of g to the power of the reversed bits of k.
 ///
-/// Conditions: g is below m and suits n. The first entries of a plan are a plan for fewer entries, by
-/// the power of g that suits them.
+/// The first entries of a plan are
+/// a plan for fewer entries, by the power of g that suits them.
+///
+/// # Panics
+///
+/// A debug build panics unless g is below m, and g suits n entries, n being a power of two. A release
+/// build doesn't test that, and outside it panics, or returns no meaningful result.
 pub fn plan<T: PlainWord, F: PlanEntry<T>>(m: &PlannedModulus<T>, g: T, table: &mut [F]) {
+    debug_assert!(g.is_below(m.modulus), "g must be below m");
+    debug_assert!(crate::additions::root_fits_plan(m, g, table.len()), "g must suit n entries, n being a power of two");
     table[0] = F::entry(m.factor(m.residue(T::one())));
     let bits = table.len().trailing_zeros();
     // The places of one bit: the highest takes g, and each lower one the square of the last.

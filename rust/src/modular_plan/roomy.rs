@@ -9,11 +9,11 @@ use crate::modular_word::ring_word::RingWord;
 /// hand: sums are reduced less often.
 #[derive(Debug)]
 #[must_use]
-pub struct RoomyModulus<T: PathWord> {
+pub struct RoomyModulus<T> {
     /// The modulus.
-    pub planned: PlannedModulus<T>,
+    pub(crate) planned: PlannedModulus<T>,
     /// The factor 1, by which any word is reduced.
-    pub unit: Factor<T>,
+    pub(crate) unit: Factor<T>,
 }
 
 impl<T: PathWord> Clone for RoomyModulus<T> {
@@ -26,7 +26,7 @@ impl<T: PathWord> Clone for RoomyModulus<T> {
 impl<T: PathWord> Copy for RoomyModulus<T> {}
 
 impl<T: PlainWord> RoomyModulus<T> {
-    /// The modulus of a plan; `None` where it is above a sixteenth of the number of words.
+    /// The modulus of a plan; `None` exactly where it is above a sixteenth of the number of words.
     pub fn new(planned: &PlannedModulus<T>) -> Option<Self> {
         let greatest = T::one().shift_left(T::bits() - 4);
         if greatest.is_below(planned.modulus) {

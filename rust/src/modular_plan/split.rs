@@ -207,7 +207,10 @@ fn split_by<T: PlainWord, M: SplitSteps<T>, F: PlanEntry<T>>(
 }
 
 /// `split` with entries that are only congruent to the remainders, and may be any words: no residues are taken.
-/// Conditions: those of `split`.
+///
+/// # Preconditions
+///
+/// Those of `split`. This isn't tested: outside it the call panics, or returns no meaningful result.
 #[inline]
 pub fn split_loosely<T: PlainWord, F: PlanEntry<T>>(
     m: &PlannedModulus<T>,
@@ -228,12 +231,17 @@ pub fn split_loosely<T: PlainWord, F: PlanEntry<T>>(
 ///
 /// So b = 0 and last = 1 give the transform by g, in bit-reversed order; b = 1 starts from a
 /// polynomial modulo X^n + 1. The table is the plan by g; any plan that is long enough serves.
-/// Conditions: the entries are below 4m; their number is `last` times a power of two; the table's
-/// entries are factors modulo m, and there are (b + 1)·count/2 of them or more (`splits` tells).
 ///
 /// Source: the sums and differences are those of Cooley and Tukey, with one factor a block, as
 /// Bernstein ("Multidigit multiplication for mathematicians", section 2) has them. A pass over the list
 /// does two stages; a single one comes first where their number is odd.
+///
+/// # Panics
+///
+/// A debug build panics unless the entries are below 4m, and the number of entries is `last` times a
+/// power of two, and the table has at least (b + 1)·(count/2) entries (`splits` tells), and the table's
+/// entries are factors modulo m. A release build doesn't test that, and outside it panics, or returns
+/// no meaningful result.
 #[inline]
 pub fn split<T: PlainWord, F: PlanEntry<T>>(
     m: &PlannedModulus<T>,
@@ -242,6 +250,9 @@ pub fn split<T: PlainWord, F: PlanEntry<T>>(
     b: usize,
     last: usize,
 ) {
+    debug_assert!(xs.iter().all(|x| m.has_room(*x)), "the entries must be below 4m");
+    debug_assert!(crate::modular_plan::split::splits(xs.len(), table.len(), b, last), "the number of entries must be `last` times a power of two, and the table must have at least (b + 1)·(count/2) entries");
+    debug_assert!(table.iter().all(|it| crate::additions::is_factor(m, &it.factor())), "the table's entries must be factors modulo m");
     match RoomyModulus::new(m) {
         Some(roomy) => split_by(&roomy, xs, table, b, last),
         None => split_by(m, xs, table, b, last),

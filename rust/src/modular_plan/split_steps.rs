@@ -8,16 +8,26 @@ use crate::modular_word::path_word::PathWord;
 use crate::modular_word::ring_word::RingWord;
 
 /// A modulus m by which pairs and fours of entries are split. Between two passes the entries stay below a bound,
-/// a multiple of m.
+/// a multiple of m. Condition of each call: entries x, y, z and t are below the bound, and factors are factors modulo m.
 pub trait SplitSteps<T: PlainWord>: Copy {
     /// Whether a word is at the bound or above it. A loop over entries that ends at one, where it never does, can't be
     /// counted, so that it is compiled without vectors: those of words of more than 32 bits are slower.
     fn is_beyond(&self, x: T) -> bool;
 
     /// x + y·w and x - y·w.
+    ///
+    /// # Preconditions
+    ///
+    /// Entries x, y, z and t are below the bound, and factors are factors modulo m. This isn't tested:
+    /// outside it the call panics, or returns no meaningful result.
     fn pair(&self, x: T, y: T, w: &Factor<T>) -> (T, T);
 
     /// Two stages of four numbers, a quarter of a block apart: by the block's factor w, and by those of its halves.
+    ///
+    /// # Preconditions
+    ///
+    /// Entries x, y, z and t are below the bound, and factors are factors modulo m. This isn't tested:
+    /// outside it the call panics, or returns no meaningful result.
     fn four(
         &self,
         x: T,
@@ -30,9 +40,19 @@ pub trait SplitSteps<T: PlainWord>: Copy {
     ) -> (T, T, T, T);
 
     /// The same of numbers below 4m where w and u are 1.
+    ///
+    /// # Preconditions
+    ///
+    /// Entries x, y, z and t are below the bound, and factors are factors modulo m. This isn't tested:
+    /// outside it the call panics, or returns no meaningful result.
     fn four_by_one(&self, x: T, y: T, z: T, t: T, v: &Factor<T>) -> (T, T, T, T);
 
     /// The residue of an entry.
+    ///
+    /// # Preconditions
+    ///
+    /// Entries x, y, z and t are below the bound, and factors are factors modulo m. This isn't tested:
+    /// outside it the call panics, or returns no meaningful result.
     fn residue(&self, x: T) -> T;
 }
 

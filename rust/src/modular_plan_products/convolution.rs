@@ -82,12 +82,18 @@ pub fn convolves(length: usize, factors: usize, b: usize, last: usize) -> bool {
 /// `split` has them, c being the power of g by the reversed bits of b and n the length of the lists;
 /// false, with both lists unchanged, exactly where the number n/last of blocks has no inverse modulo m.
 ///
-/// So b = 0 gives the cyclic product, and b = 1 that modulo X^n + 1. Conditions: those of `split`, for
-/// both lists; they have one length; `last` is 1 or 2; the table's entries are factors modulo m, and
-/// there are (b + 1)·n/last/2 of them or more (`convolves` tells). It takes no memory.
+/// So b = 0 gives the cyclic product, and b = 1 that modulo X^n + 1.
+/// It takes no memory.
 ///
 /// Source: Bernstein, "Multidigit multiplication for mathematicians", section 2: both lists are split,
 /// the remainders multiplied, and the products joined.
+///
+/// # Panics
+///
+/// A debug build panics unless the lists have one length, and `last` is 1 or 2, the length is `last`
+/// times a power of two, and the table has (b + 1)·n/last/2 entries or more (`convolves` tells), and
+/// the entries are below 4m, and the table's entries are factors modulo m. A release build doesn't test
+/// that, and outside it panics, or returns no meaningful result.
 pub fn convolve_block<T: PlainWord, F: PlanEntry<T>>(
     m: &PlannedModulus<T>,
     xs: &mut [T],
@@ -96,6 +102,10 @@ pub fn convolve_block<T: PlainWord, F: PlanEntry<T>>(
     b: usize,
     last: usize,
 ) -> bool {
+    debug_assert!(ys.len() == xs.len(), "the lists must have one length");
+    debug_assert!(convolves(xs.len(), table.len(), b, last), "`last` must be 1 or 2, the length is `last` times a power of two, and the table must have (b + 1)·n/last/2 entries or more");
+    debug_assert!(xs.iter().chain(ys.iter()).all(|x| m.has_room(*x)), "the entries must be below 4m");
+    debug_assert!(table.iter().all(|it| crate::additions::is_factor(m, &it.factor())), "the table's entries must be factors modulo m");
     let count = residue_of_count(m, xs.len() / last);
     match invm(count, m.modulus) {
         Some(part) => {
@@ -111,7 +121,12 @@ pub fn convolve_block<T: PlainWord, F: PlanEntry<T>>(
 
 /// Puts the cyclic product of xs and ys in xs, as `convolve_block` for b = 0: entry e becomes the sum
 /// of x_i·y_j modulo m over i + j = e or e + n; false, with both lists unchanged, exactly where the
-/// number n/last of blocks has no inverse modulo m. Conditions: those of `convolve_block`.
+/// number n/last of blocks has no inverse modulo m.
+///
+/// # Panics
+///
+/// A debug build panics unless those of `convolve_block`. A release build doesn't test that, and
+/// outside it panics, or returns no meaningful result.
 #[inline]
 pub fn convolve_planned<T: PlainWord, F: PlanEntry<T>>(
     m: &PlannedModulus<T>,
@@ -125,8 +140,12 @@ pub fn convolve_planned<T: PlainWord, F: PlanEntry<T>>(
 
 /// Puts the product of xs and ys modulo X^n + 1 in xs, as `convolve_block` for b = 1: entry e becomes
 /// the sum of x_i·y_j modulo m over i + j = e, less that over i + j = e + n; false, with both lists
-/// unchanged, exactly where the number n/last of blocks has no inverse modulo m. Conditions: those of
-/// `convolve_block`.
+/// unchanged, exactly where the number n/last of blocks has no inverse modulo m.
+///
+/// # Panics
+///
+/// A debug build panics unless those of `convolve_block`. A release build doesn't test that, and
+/// outside it panics, or returns no meaningful result.
 #[inline]
 pub fn convolve_negacyclic<T: PlainWord, F: PlanEntry<T>>(
     m: &PlannedModulus<T>,

@@ -414,11 +414,17 @@ fn join_scaled_by<T: PlainWord, F: PlanEntry<T>, M: JoinSteps<T>>(
 /// `split`: where the entries are the remainders of a polynomial modulo X^last - c, as `split` has
 /// them, entry i becomes its coefficient x_i times the number of blocks, modulo m.
 ///
-/// The table is the plan by g that they were split by, or a longer one. Conditions: those of `split`
-/// (`splits` tells); the entries are below 4m.
+/// The table is the plan by g that they were split by, or a longer one.
 ///
 /// Source: each step undoes one of `split` but for the factor 2 (Gentleman and Sande, "Fast Fourier
 /// transforms: for fun and profit", section 2). A pass over the list does two stages where two are left.
+///
+/// # Panics
+///
+/// A debug build panics unless the entries are below 4m, and the number of entries is `last` times a
+/// power of two, and the table has (b + 1)·count/2 entries or more (`splits` tells), and the table's
+/// entries are factors modulo m. A release build doesn't test that, and outside it panics, or returns
+/// no meaningful result.
 #[inline]
 pub fn join<T: PlainWord, F: PlanEntry<T>>(
     m: &PlannedModulus<T>,
@@ -427,6 +433,9 @@ pub fn join<T: PlainWord, F: PlanEntry<T>>(
     b: usize,
     last: usize,
 ) {
+    debug_assert!(xs.iter().all(|x| m.has_room(*x)), "the entries must be below 4m");
+    debug_assert!(crate::modular_plan::split::splits(xs.len(), table.len(), b, last), "the number of entries must be `last` times a power of two, and the table must have (b + 1)·count/2 entries or more");
+    debug_assert!(table.iter().all(|it| crate::additions::is_factor(m, &it.factor())), "the table's entries must be factors modulo m");
     match RoomyModulus::new(m) {
         Some(roomy) => join_reduced(&roomy, xs, table, b, last),
         None => join_reduced(m, xs, table, b, last),
@@ -434,8 +443,14 @@ pub fn join<T: PlainWord, F: PlanEntry<T>>(
 }
 
 /// Joins the blocks as `join` does, each coefficient times a factor: by the inverse modulo m of the
-/// number of blocks they are the coefficients themselves. Conditions: those of `join`; w is a factor
-/// modulo m.
+/// number of blocks they are the coefficients themselves.
+///
+/// # Panics
+///
+/// A debug build panics unless the entries are below 4m, and the number of entries is `last` times a
+/// power of two, and the table has (b + 1)·count/2 entries or more (`splits` tells), and the table's
+/// entries are factors modulo m, and w is a factor modulo m. A release build doesn't test that, and
+/// outside it panics, or returns no meaningful result.
 #[inline]
 pub fn join_scaled<T: PlainWord, F: PlanEntry<T>>(
     m: &PlannedModulus<T>,
@@ -445,6 +460,10 @@ pub fn join_scaled<T: PlainWord, F: PlanEntry<T>>(
     last: usize,
     w: &Factor<T>,
 ) {
+    debug_assert!(xs.iter().all(|x| m.has_room(*x)), "the entries must be below 4m");
+    debug_assert!(crate::modular_plan::split::splits(xs.len(), table.len(), b, last), "the number of entries must be `last` times a power of two, and the table must have (b + 1)·count/2 entries or more");
+    debug_assert!(table.iter().all(|it| crate::additions::is_factor(m, &it.factor())), "the table's entries must be factors modulo m");
+    debug_assert!(crate::additions::is_factor(m, w), "w must be a factor modulo m");
     match RoomyModulus::new(m) {
         Some(roomy) => join_scaled_by(&roomy, xs, table, b, last, w),
         None => join_scaled_by(m, xs, table, b, last, w),

@@ -8,7 +8,8 @@ use crate::modular_word::path_word::PathWord;
 use crate::modular_word::ring_word::RingWord;
 
 /// A modulus with the steps of a join: pairs and fours of numbers below a bound become such numbers again, so that
-/// lists are joined pass after pass.
+/// lists are joined pass after pass. Condition of each call: numbers x, y, z and t are below the bound, and factors are
+/// factors modulo m.
 pub trait JoinSteps<T: PlainWord>: Sized {
     /// The factor -1.
     fn minus_one(&self) -> Factor<T>;
@@ -17,14 +18,28 @@ pub trait JoinSteps<T: PlainWord>: Sized {
     /// compiled without vectors.
     fn is_beyond(&self, x: T) -> bool;
 
-    /// A word below 4m, brought below the bound.
+    /// A word brought below the bound.
+    ///
+    /// # Preconditions
+    ///
+    /// It is below 4m. This isn't tested: outside it the call panics, or returns no meaningful result.
     fn taken(&self, x: T) -> T;
 
     /// x + y and (y - x)·v.
+    ///
+    /// # Preconditions
+    ///
+    /// Numbers x, y, z and t are below the bound, and factors are factors modulo m. This isn't tested:
+    /// outside it the call panics, or returns no meaningful result.
     fn pair(&self, x: T, y: T, v: &Factor<T>) -> (T, T);
 
     /// Four numbers, a quarter of a block apart: by minus the inverses of the factors of the block's halves,
     /// and of its own.
+    ///
+    /// # Preconditions
+    ///
+    /// Numbers x, y, z and t are below the bound, and factors are factors modulo m. This isn't tested:
+    /// outside it the call panics, or returns no meaningful result.
     fn four(
         &self,
         x: T,
@@ -37,12 +52,27 @@ pub trait JoinSteps<T: PlainWord>: Sized {
     ) -> (T, T, T, T);
 
     /// The same where w and u are -1, each number times a factor.
+    ///
+    /// # Preconditions
+    ///
+    /// Numbers x, y, z and t are below the bound, and factors are factors modulo m. This isn't tested:
+    /// outside it the call panics, or returns no meaningful result.
     fn four_by_one(&self, x: T, y: T, z: T, t: T, v: &Factor<T>, s: &Factor<T>) -> (T, T, T, T);
 
     /// The residue of any word's product with a factor.
+    ///
+    /// # Preconditions
+    ///
+    /// This is one modulo m. This isn't tested: outside it the call panics, or returns no meaningful
+    /// result.
     fn product(&self, x: T, w: &Factor<T>) -> T;
 
     /// The residue of a word below the bound.
+    ///
+    /// # Preconditions
+    ///
+    /// Numbers x, y, z and t are below the bound, and factors are factors modulo m. This isn't tested:
+    /// outside it the call panics, or returns no meaningful result.
     fn residue(&self, x: T) -> T;
 }
 

@@ -101,9 +101,14 @@ fn multiply_pairs<T: PlainWord, F: PlanEntry<T>>(
 /// as polynomials modulo X^last - c, the constants c being those of `split`. So the products of two
 /// lists of remainders are the remainders of a product.
 ///
-/// Conditions: `last` is 1 or 2; the lists have one length, a multiple of `last`; the entries of xs are
-/// below m; the table's entries are factors modulo m, and there are (b + 1)·count/2 of them or more, count
-/// being the number of blocks. For `last` = 1 each entry is multiplied by the one at its place.
+/// For `last` = 1 each entry is multiplied by the one at its place.
+///
+/// # Preconditions
+///
+/// `last` is 1 or 2, and the lists have one length, a multiple of `last`, and the entries of xs are
+/// below m, and the table's entries are factors modulo m, and there are (b + 1)·count/2 of them or
+/// more, count being the number of blocks. This isn't tested: outside it the call panics, or returns no
+/// meaningful result.
 #[inline]
 pub fn multiply<T: PlainWord, F: PlanEntry<T>>(
     m: &PlannedModulus<T>,

@@ -10,10 +10,15 @@ use crate::modular_transform::order::reverse_places;
 /// x_i·h^(i·j) modulo m, h being the root that the plan is for, or that power of it that suits n
 /// entries where the plan is for more.
 ///
-/// Conditions: the entries are below 4m; n is a power of two, and at most twice as many as the table's
-/// factors; these are factors modulo m. Values are below m.
+/// Values are below m.
 ///
 /// Source: `split`, and the places with their bits in the opposite order.
+///
+/// # Panics
+///
+/// A debug build panics unless the entries are below 4m, and n is a power of two, and at most twice as
+/// many as the table's factors, and these are factors modulo m. A release build doesn't test that, and
+/// outside it panics, or returns no meaningful result.
 #[inline]
 pub fn ntt_planned<T: PlainWord, F: PlanEntry<T>>(m: &PlannedModulus<T>, xs: &mut [T], table: &[F]) {
     split(m, xs, table, 0, 1);

@@ -5,7 +5,11 @@ use crate::modular_prim::operations::ModularAbs;
 use crate::modular_prim::plain_word::PlainWord;
 use crate::modular_prim::residues::reduced;
 
-/// The residue of a signed number, given by its sign and its magnitude. Condition: m is at least 1.
+/// The residue of a signed number, given by its sign and its magnitude.
+///
+/// # Panics
+///
+/// Panics unless m is at least 1.
 #[inline]
 pub fn signed_residue<T: PlainWord>(negative: bool, magnitude: T, m: T) -> T {
     let rest = reduced(magnitude, m);
@@ -54,9 +58,10 @@ impl ModularAbs<u128> for i128 {
     }
 }
 
-// The residue of a signed number of 128 bits, whose words have no double words.
+// The residue of a signed number of 128 bits, whose words have no double words. Condition: the modulus is at least 1.
 #[inline]
 fn signed_residue_128(negative: bool, magnitude: u128, m: u128) -> u128 {
+    assert!(m != 0, "the modulus must be at least 1");
     let rest = magnitude % m;
     if !negative {
         rest

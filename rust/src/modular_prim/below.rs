@@ -3,7 +3,12 @@
 use crate::modular_word::path_word::PathWord;
 
 /// The residue of a word below 2m: the less of the word and of what wraps around when m is taken from it, which
-/// compilers choose without a branch. Condition: the word is below 2m.
+/// compilers choose without a branch.
+///
+/// # Preconditions
+///
+/// The word is below 2m. This isn't tested: outside it the call panics, or returns no meaningful
+/// result.
 #[inline]
 pub fn reduced_once<T: PathWord>(x: T, m: T) -> T {
     // a word that was read is known to fit
@@ -12,7 +17,11 @@ pub fn reduced_once<T: PathWord>(x: T, m: T) -> T {
     if less.is_below(x) { less } else { x }
 }
 
-/// The residue of a + b. Condition: both are below m.
+/// The residue of a + b.
+///
+/// # Preconditions
+///
+/// Both are below m. This isn't tested: outside it the call panics, or returns no meaningful result.
 #[inline]
 pub fn add_below<T: PathWord>(a: T, b: T, m: T) -> T {
     let gap = m.minus(b);
@@ -23,7 +32,11 @@ pub fn add_below<T: PathWord>(a: T, b: T, m: T) -> T {
     }
 }
 
-/// The residue of a - b. Condition: both are below m.
+/// The residue of a - b.
+///
+/// # Preconditions
+///
+/// Both are below m. This isn't tested: outside it the call panics, or returns no meaningful result.
 #[inline]
 pub fn sub_below<T: PathWord>(a: T, b: T, m: T) -> T {
     if a.is_below(b) {
@@ -34,19 +47,31 @@ pub fn sub_below<T: PathWord>(a: T, b: T, m: T) -> T {
 }
 
 /// The residue of a - b, as `sub_below` has it, of long words without a branch: a step that needs it waits longer, but
-/// no guess goes wrong where either number may be the greater. Condition: both are below m.
+/// no guess goes wrong where either number may be the greater.
+///
+/// # Preconditions
+///
+/// Both are below m. This isn't tested: outside it the call panics, or returns no meaningful result.
 #[inline]
 pub fn branchless_sub_below<T: PathWord>(a: T, b: T, m: T) -> T {
     a.minus_modulo(b, m)
 }
 
-/// The residue of 2a. Condition: a is below m.
+/// The residue of 2a.
+///
+/// # Preconditions
+///
+/// A is below m. This isn't tested: outside it the call panics, or returns no meaningful result.
 #[inline]
 pub fn dbl_below<T: PathWord>(a: T, m: T) -> T {
     add_below(a, a, m)
 }
 
-/// The residue of -a. Condition: a is below m.
+/// The residue of -a.
+///
+/// # Preconditions
+///
+/// A is below m. This isn't tested: outside it the call panics, or returns no meaningful result.
 #[inline]
 pub fn neg_below<T: PathWord>(a: T, m: T) -> T {
     if a.is_zero_word() { a } else { m.minus(a) }

@@ -38,10 +38,17 @@ fn two_digits<T: PathWord>(a: T, d: T) -> (T, T) {
     (high.shift_left(2).plus(low), rest)
 }
 
-// A sixteenth of the base.
+// The remainder by four digits. Conditions: a is below 256d, and 256d is at most the base.
 #[inline]
-fn sixteenth<T: PathWord>() -> T {
-    T::one().shift_left(T::bits() - 4)
+fn rest_by_four_digits<T: PathWord>(a: T, d: T) -> T {
+    let (_, left) = two_digits(a, d.shift_left(4));
+    two_digits(left, d).1
+}
+
+// The base divided by a power of two. Condition: the exponent is from 1 to 8.
+#[inline]
+fn part_of_base<T: PathWord>(by: u32) -> T {
+    T::one().shift_left(T::bits() - by)
 }
 
 // Whether two digits are enough and d has room for them, in words of more than 16 bits; in shorter ones the machine
@@ -49,7 +56,7 @@ fn sixteenth<T: PathWord>() -> T {
 #[inline]
 fn has_two_digits<T: PathWord>(a: T, d: T) -> bool {
     if T::bits() > 16 {
-        if d.is_below(sixteenth::<T>()) {
+        if d.is_below(part_of_base::<T>(4)) {
             return a.shift_right(4).is_below(d);
         }
     }
@@ -57,14 +64,66 @@ fn has_two_digits<T: PathWord>(a: T, d: T) -> bool {
 }
 
 /// Quotient and remainder of a by d: by two digits of base 4 where the quotient is below 16, in words of more than 16 bits,
-/// else by a division of the machine. Condition: d is at least 1.
+/// else by a division of the machine.
 ///
 /// In Euclid's algorithm 9 quotients of 10 are below 16 (Knuth, "The Art of Computer Programming", section 4.5.3).
+///
+/// # Preconditions
+///
+/// D is at least 1. This isn't tested: outside it the call panics, or returns no meaningful result.
 #[inline]
 pub fn division<T: PlainWord>(a: T, d: T) -> (T, T) {
     if has_two_digits(a, d) {
         two_digits(a, d)
     } else {
         (a.quotient(d), a.remainder(d))
+    }
+}
+
+// Whether the quotient is below 16, in words of more than 16 bits.
+#[inline]
+fn has_short_quotient<T: PathWord>(a: T, d: T) -> bool {
+    if T::bits() > 16 {
+        return a.shift_right(4).is_below(d);
+    }
+    false
+}
+
+// The remainder where the quotient is below 16: by two digits where d has room for them. Condition: a is below 16d.
+#[inline]
+fn rest_of_short_quotient<T: PlainWord>(a: T, d: T) -> T {
+    if d.is_below(part_of_base::<T>(4)) {
+        two_digits(a, d).1
+    } else {
+        a.remainder(d)
+    }
+}
+
+// Whether four digits are enough and d has room for them, in words of more than 32 bits; in shorter ones the machine
+// divides as fast.
+#[inline]
+fn has_four_digits<T: PathWord>(a: T, d: T) -> bool {
+    if T::bits() > 32 {
+        if a.shift_right(8).is_below(d) {
+            return d.is_below(part_of_base::<T>(8));
+        }
+    }
+    false
+}
+
+/// The remainder of a by d: where the quotient is below 16 by two digits of base 4, in words of more than 16 bits; where it
+/// is below 256 by four, in words of more than 32 bits; else by a division of the machine.
+///
+/// # Preconditions
+///
+/// D is at least 1. This isn't tested: outside it the call panics, or returns no meaningful result.
+#[inline]
+pub fn rest<T: PlainWord>(a: T, d: T) -> T {
+    if has_short_quotient(a, d) {
+        rest_of_short_quotient(a, d)
+    } else if has_four_digits(a, d) {
+        rest_by_four_digits(a, d)
+    } else {
+        a.remainder(d)
     }
 }

@@ -6,21 +6,27 @@ use crate::modular_prim::plain_word::PlainWord;
 use crate::modular_word::path_word::PathWord;
 use crate::modular_word::ring_word::RingWord;
 
-/// The inverse of a modulo m; `None` exactly where there is none. Condition: m is at least 1; a may
-/// be above it.
+/// The inverse of a modulo m; `None` exactly where there is none.
 ///
 /// Source: as `invm_counted`, which it calls.
+///
+/// # Panics
+///
+/// Panics unless m is at least 1, and a may be above it.
 #[inline]
 pub fn invm<T: PlainWord>(a: T, m: T) -> Option<T> {
     invm_counted(a, m).0
 }
 
 /// The inverse of a modulo m, `None` exactly where there is none, and the number of divisions.
-/// Condition: m is at least 1; a may be above it.
 ///
 /// Source: Knuth, "The Art of Computer Programming", section 4.5.2, algorithm X, for the one
 /// coefficient. The coefficients' signs alternate, so each is kept as its magnitude, which is at
 /// most m. A number below m isn't reduced first, so this division is neither made nor counted.
+///
+/// # Panics
+///
+/// Panics unless m is at least 1, and a may be above it.
 pub fn invm_counted<T: PlainWord>(a: T, m: T) -> (Option<T>, u32) {
     let mut last_r = m;
     let mut r = a;

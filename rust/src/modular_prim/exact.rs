@@ -12,20 +12,33 @@ pub trait DivExact<Rhs: Numbered, Precompute>: Numbered + Sized {
     /// The type of the quotients.
     type Output: Numbered;
 
-    /// The quotient by d; `None` exactly where d doesn't divide the number. Condition: what is
-    /// stored fits d.
+    /// The quotient by d; `None` exactly where d doesn't divide the number.
+    ///
+    /// # Preconditions
+    ///
+    /// What is stored fits d. This isn't tested: outside it the call panics, or returns no meaningful
+    /// result.
     fn div_exact(self, d: Rhs, pre: &Precompute) -> Option<Self::Output>;
 }
 
 /// Exact division in place, with what a divisor has stored; `()` stores nothing.
 pub trait DivExactAssign<Rhs: Numbered, Precompute>: Sized + DivExact<Rhs, Precompute, Output = Self> {
     /// Puts the quotient by d in place and answers true; where d doesn't divide the number, answers
-    /// false and leaves it unchanged. Condition: what is stored fits d.
+    /// false and leaves it unchanged.
+    ///
+    /// # Preconditions
+    ///
+    /// What is stored fits d. This isn't tested: outside it the call panics, or returns no meaningful
+    /// result.
     fn div_exact_assign(&mut self, d: Rhs, pre: &Precompute) -> bool;
 }
 
-/// Exact division in place by exact division: the body of `div_exact_assign` for words. Condition:
-/// what is stored fits d.
+/// Exact division in place by exact division: the body of `div_exact_assign` for words.
+///
+/// # Preconditions
+///
+/// What is stored fits d. This isn't tested: outside it the call panics, or returns no meaningful
+/// result.
 #[inline]
 pub fn assign_exact<N: DivExact<Rhs, Precompute, Output = N> + Copy, Rhs: Numbered, Precompute>(
     number: &mut N,
@@ -41,9 +54,14 @@ pub fn assign_exact<N: DivExact<Rhs, Precompute, Output = N> + Copy, Rhs: Number
     }
 }
 
-/// The quotient by d; `None` exactly where d doesn't divide n. Condition: d is at least 1.
+/// The quotient by d; `None` exactly where d doesn't divide n.
+///
+/// # Panics
+///
+/// Panics unless the divisor is at least 1.
 #[inline]
 pub fn exact_quotient<T: PlainWord>(n: T, d: T) -> Option<T> {
+    assert!(!d.is_zero_word(), "the divisor must be at least 1");
     if n.remainder(d).is_zero_word() {
         Some(n.quotient(d))
     } else {

@@ -11,7 +11,7 @@ use crate::modular_word::ring_word::RingWord;
 // `twos`, the one is its factor times x modulo m, the other that with a minus; `minus` says that it is the
 // other way round.
 #[derive(Clone, Copy)]
-struct Pair<T: PlainWord> {
+struct Pair<T> {
     above: T,
     below: T,
     above_factor: T,
@@ -94,8 +94,7 @@ fn inverse_below<T: PlainWord>(x: T, m: T) -> Option<T> {
     Some(without_twos(factor, pair.twos, m))
 }
 
-/// The inverse of a modulo m; `None` exactly where there is none. Condition: m is odd; a may be above
-/// it.
+/// The inverse of a modulo m; `None` exactly where there is none.
 ///
 /// A turn of the loop has two numbers. Their difference loses its twos and stands in place of the
 /// greater one, until they are equal; the inverse is a factor that was kept beside them, without the twos,
@@ -103,14 +102,24 @@ fn inverse_below<T: PlainWord>(x: T, m: T) -> Option<T> {
 /// a number that isn't below m.
 ///
 /// Source: Kaliski, "The Montgomery inverse and its applications", IEEE Transactions on Computers 44, 1995.
+///
+/// # Preconditions
+///
+/// M is odd, and a may be above it. This isn't tested: outside it the call panics, or returns no
+/// meaningful result.
 #[inline]
 pub fn inverse_by_subtraction<T: PlainWord>(a: T, m: T) -> Option<T> {
     inverse_below(reduced(a, m), m)
 }
 
-/// The inverse of a modulo m; `None` exactly where there is none. Condition: m is at least 1; a may be above it.
+/// The inverse of a modulo m; `None` exactly where there is none.
 ///
 /// For an odd m by subtraction, as `inverse_by_subtraction` finds it, for an even one by Euclid's algorithm, as `invm` does.
+///
+/// # Preconditions
+///
+/// M is at least 1, and a may be above it. This isn't tested: outside it the call panics, or returns no
+/// meaningful result.
 #[inline]
 pub fn fast_inverse<T: PlainWord>(a: T, m: T) -> Option<T> {
     if m.is_odd() {

@@ -10,6 +10,6 @@ impl<Any> Numbered for Any {}
 /// An operand that contracts see as an integer: a word with or without sign, or a reference to one.
 ///
 /// It has no calls.
-pub trait IntegerValued: Sized {}
+pub trait IntegerValued {}
 
-impl<Any> IntegerValued for Any {}
+impl<Any: ?Sized> IntegerValued for Any {}

@@ -6,19 +6,35 @@ use crate::modular_word::word::{w8, w16, w32, w64, wsize};
 
 /// A machine word with quotients and remainders.
 pub trait PlainWord: Sized + PathWord + Numbered {
-    /// The quotient of two words. Condition: d is at least 1.
+    /// The quotient of two words.
+    ///
+    /// # Panics
+    ///
+    /// Panics unless the divisor is at least 1.
     #[must_use]
     fn quotient(self, d: Self) -> Self;
 
-    /// The remainder of two words. Condition: d is at least 1.
+    /// The remainder of two words.
+    ///
+    /// # Panics
+    ///
+    /// Panics unless the modulus is at least 1.
     #[must_use]
     fn remainder(self, d: Self) -> Self;
 
-    /// The low word of the quotient of a double word by a word. Condition: d is at least 1.
+    /// The low word of the quotient of a double word by a word.
+    ///
+    /// # Panics
+    ///
+    /// Panics unless the divisor is at least 1.
     #[must_use]
     fn low_quotient(double: Self::Double, d: Self) -> Self;
 
-    /// The remainder of a double word by a word. Condition: d is at least 1.
+    /// The remainder of a double word by a word.
+    ///
+    /// # Panics
+    ///
+    /// Panics unless the modulus is at least 1.
     #[must_use]
     fn narrow_remainder(double: Self::Double, d: Self) -> Self;
 }
@@ -26,16 +42,19 @@ pub trait PlainWord: Sized + PathWord + Numbered {
 impl PlainWord for u8 {
     #[inline]
     fn quotient(self, d: u8) -> u8 {
+        assert!(d != 0, "the divisor must be at least 1");
         self / d
     }
 
     #[inline]
     fn remainder(self, d: u8) -> u8 {
+        assert!(d != 0, "the modulus must be at least 1");
         self % d
     }
 
     #[inline]
     fn low_quotient(double: u16, d: u8) -> u8 {
+        assert!(d != 0, "the divisor must be at least 1");
         ((double / d as u16) & 0xff) as u8
     }
 
@@ -48,16 +67,19 @@ impl PlainWord for u8 {
 impl PlainWord for u16 {
     #[inline]
     fn quotient(self, d: u16) -> u16 {
+        assert!(d != 0, "the divisor must be at least 1");
         self / d
     }
 
     #[inline]
     fn remainder(self, d: u16) -> u16 {
+        assert!(d != 0, "the modulus must be at least 1");
         self % d
     }
 
     #[inline]
     fn low_quotient(double: u32, d: u16) -> u16 {
+        assert!(d != 0, "the divisor must be at least 1");
         ((double / d as u32) & 0xffff) as u16
     }
 
@@ -70,16 +92,19 @@ impl PlainWord for u16 {
 impl PlainWord for u32 {
     #[inline]
     fn quotient(self, d: u32) -> u32 {
+        assert!(d != 0, "the divisor must be at least 1");
         self / d
     }
 
     #[inline]
     fn remainder(self, d: u32) -> u32 {
+        assert!(d != 0, "the modulus must be at least 1");
         self % d
     }
 
     #[inline]
     fn low_quotient(double: u64, d: u32) -> u32 {
+        assert!(d != 0, "the divisor must be at least 1");
         ((double / d as u64) & 0xffff_ffff) as u32
     }
 
@@ -92,16 +117,19 @@ impl PlainWord for u32 {
 impl PlainWord for u64 {
     #[inline]
     fn quotient(self, d: u64) -> u64 {
+        assert!(d != 0, "the divisor must be at least 1");
         self / d
     }
 
     #[inline]
     fn remainder(self, d: u64) -> u64 {
+        assert!(d != 0, "the modulus must be at least 1");
         self % d
     }
 
     #[inline]
     fn low_quotient(double: u128, d: u64) -> u64 {
+        assert!(d != 0, "the divisor must be at least 1");
         ((double / d as u128) & 0xffff_ffff_ffff_ffff) as u64
     }
 
@@ -114,16 +142,19 @@ impl PlainWord for u64 {
 impl PlainWord for usize {
     #[inline]
     fn quotient(self, d: usize) -> usize {
+        assert!(d != 0, "the divisor must be at least 1");
         self / d
     }
 
     #[inline]
     fn remainder(self, d: usize) -> usize {
+        assert!(d != 0, "the modulus must be at least 1");
         self % d
     }
 
     #[inline]
     fn low_quotient(double: u128, d: usize) -> usize {
+        assert!(d != 0, "the divisor must be at least 1");
         ((double / d as u128) & 0xffff_ffff_ffff_ffff) as usize
     }
 

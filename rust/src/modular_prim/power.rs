@@ -7,11 +7,14 @@ use crate::modular_word::path_word::PathWord;
 use crate::modular_word::paths::{div_2by1, neginv, redc, two};
 use crate::modular_word::ring_word::RingWord;
 
-/// The residue of the product of `exp` factors `base`; that of 1 for the exponent 0. Condition: m
-/// is at least 1.
+/// The residue of the product of `exp` factors `base`; that of 1 for the exponent 0.
 ///
 /// The exponents 0, 1 and 2 cost one division at most. Above them no step divides a double word of more than 16
 /// bits: modulo an odd m each product is reduced by Montgomery's way, modulo an even one by the reciprocal of m.
+///
+/// # Panics
+///
+/// Panics unless m is at least 1.
 pub fn powm<T: PlainWord>(base: T, exp: T, m: T) -> T {
     let one = T::one();
     if two::<T>().is_below(exp) {

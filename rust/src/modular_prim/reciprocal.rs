@@ -5,10 +5,14 @@ use crate::modular_word::path_word::PathWord;
 use crate::modular_word::paths::ones;
 use crate::modular_word::ring_word::RingWord;
 
-/// The reciprocal of a divisor: the greatest double word divided by it, less the base. Condition:
-/// the divisor's top bit is set.
+/// The reciprocal of a divisor: the greatest double word divided by it, less the base.
 ///
 /// Source: Möller and Granlund, "Improved division by invariant integers", section 3.
+///
+/// # Preconditions
+///
+/// The divisor's top bit is set. This isn't tested: outside it the call panics, or returns no
+/// meaningful result.
 // Inlined, compilers see that the quotient fits a word, forget that its high word is 0, and multiply by that too.
 #[inline(never)]
 pub fn invert_word<T: PlainWord>(d: T) -> T {

@@ -12,8 +12,12 @@ fn spares_division<T: PlainWord>(a: T, m: T) -> bool {
     T::bits() > 16 && a.is_below(m)
 }
 
-/// The residue of a word. Condition: m is at least 1. A word of more than 16 bits that is below m is its own,
+/// The residue of a word. A word of more than 16 bits that is below m is its own,
 /// with no division.
+///
+/// # Panics
+///
+/// Panics unless m is at least 1.
 #[inline]
 pub fn reduced<T: PlainWord>(a: T, m: T) -> T {
     reduced_unless(spares_division(a, m), a, m)
@@ -41,10 +45,14 @@ fn distance<T: PlainWord>(a: T, b: T) -> T {
     }
 }
 
-/// The residue of a + b. Condition: m is at least 1. There is no division where words have more than 16 bits and
+/// The residue of a + b. There is no division where words have more than 16 bits and
 /// both are below m.
 ///
 /// Longer words are divided one by one, side by side: that takes less than the division of the whole sum.
+///
+/// # Panics
+///
+/// Panics unless m is at least 1.
 pub fn addm<T: PlainWord>(a: T, b: T, m: T) -> T {
     if spares_division(a, m) & spares_division(b, m) {
         add_below(a, b, m)
@@ -55,12 +63,16 @@ pub fn addm<T: PlainWord>(a: T, b: T, m: T) -> T {
     }
 }
 
-/// The residue of a - b. Condition: m is at least 1. There is no division where words have more than 16 bits and
+/// The residue of a - b. There is no division where words have more than 16 bits and
 /// both are below m.
 ///
 /// Which of the two is the greater is often no better than a guess, so one remainder serves both cases. Two tests of
 /// the operands are sooner done than one of their distance, which spares more divisions; divisions of more than 32
 /// bits take the longest.
+///
+/// # Panics
+///
+/// Panics unless m is at least 1.
 pub fn subm<T: PlainWord>(a: T, b: T, m: T) -> T {
     if T::bits() <= 16 {
         return sub_below(a.remainder(m), b.remainder(m), m);
@@ -79,25 +91,41 @@ pub fn subm<T: PlainWord>(a: T, b: T, m: T) -> T {
     }
 }
 
-/// The residue of a·b. Condition: m is at least 1.
+/// The residue of a·b.
+///
+/// # Panics
+///
+/// Panics unless m is at least 1.
 #[inline]
 pub fn mulm<T: PlainWord>(a: T, b: T, m: T) -> T {
     T::narrow_remainder(a.product(b), m)
 }
 
-/// The residue of -a. Condition: m is at least 1.
+/// The residue of -a.
+///
+/// # Panics
+///
+/// Panics unless m is at least 1.
 #[inline]
 pub fn negm<T: PlainWord>(a: T, m: T) -> T {
     neg_below(reduced(a, m), m)
 }
 
-/// The residue of 2a. Condition: m is at least 1.
+/// The residue of 2a.
+///
+/// # Panics
+///
+/// Panics unless m is at least 1.
 #[inline]
 pub fn dblm<T: PlainWord>(a: T, m: T) -> T {
     dbl_below(reduced(a, m), m)
 }
 
-/// The residue of a·a. Condition: m is at least 1.
+/// The residue of a·a.
+///
+/// # Panics
+///
+/// Panics unless m is at least 1.
 #[inline]
 pub fn sqm<T: PlainWord>(a: T, m: T) -> T {
     mulm(a, a, m)

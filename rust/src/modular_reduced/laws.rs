@@ -6,12 +6,22 @@ use crate::modular_reduced::reducer::Reducer;
 use crate::modular_word::ring_word::RingWord;
 
 /// Addition is commutative: a + b and b + a.
+///
+/// # Preconditions
+///
+/// A and b are checked forms. This isn't tested: outside it the call panics, or returns no meaningful
+/// result.
 #[inline]
 pub fn sums_commute<T: RingWord, R: Reducer<T>>(reducer: &R, a: T, b: T) -> (T, T) {
     (reducer.add(&a, &b), reducer.add(&b, &a))
 }
 
 /// Addition is associative: (a + b) + c and a + (b + c).
+///
+/// # Preconditions
+///
+/// A, b and c are checked forms. This isn't tested: outside it the call panics, or returns no
+/// meaningful result.
 #[inline]
 pub fn sums_associate<T: RingWord, R: Reducer<T>>(reducer: &R, a: T, b: T, c: T) -> (T, T) {
     let left = reducer.add(&reducer.add(&a, &b), &c);
@@ -20,12 +30,22 @@ pub fn sums_associate<T: RingWord, R: Reducer<T>>(reducer: &R, a: T, b: T, c: T)
 }
 
 /// Multiplication is commutative: a b and b a.
+///
+/// # Preconditions
+///
+/// A and b are checked forms. This isn't tested: outside it the call panics, or returns no meaningful
+/// result.
 #[inline]
 pub fn products_commute<T: RingWord, R: Reducer<T>>(reducer: &R, a: T, b: T) -> (T, T) {
     (reducer.mul(&a, &b), reducer.mul(&b, &a))
 }
 
 /// Multiplication is associative: (a b) c and a (b c).
+///
+/// # Preconditions
+///
+/// A, b and c are checked forms. This isn't tested: outside it the call panics, or returns no
+/// meaningful result.
 #[inline]
 pub fn products_associate<T: RingWord, R: Reducer<T>>(reducer: &R, a: T, b: T, c: T) -> (T, T) {
     let left = reducer.mul(&reducer.mul(&a, &b), &c);
@@ -34,6 +54,11 @@ pub fn products_associate<T: RingWord, R: Reducer<T>>(reducer: &R, a: T, b: T, c
 }
 
 /// Multiplication distributes over addition: a (b + c) and a b + a c.
+///
+/// # Preconditions
+///
+/// A, b and c are checked forms. This isn't tested: outside it the call panics, or returns no
+/// meaningful result.
 #[inline]
 pub fn products_distribute<T: RingWord, R: Reducer<T>>(reducer: &R, a: T, b: T, c: T) -> (T, T) {
     let left = reducer.mul(&a, &reducer.add(&b, &c));
@@ -42,6 +67,10 @@ pub fn products_distribute<T: RingWord, R: Reducer<T>>(reducer: &R, a: T, b: T, 
 }
 
 /// The negative is the additive inverse: -a, and a + (-a), which is the form of 0.
+///
+/// # Preconditions
+///
+/// A is a checked form. This isn't tested: outside it the call panics, or returns no meaningful result.
 #[inline]
 pub fn negative_cancels<T: RingWord, R: Reducer<T>>(reducer: &R, a: T) -> (T, T) {
     let negative = reducer.neg(a);
@@ -54,7 +83,11 @@ pub fn residue_by_form<T: RingWord, R: Reducer<T>>(reducer: &R, n: T) -> T {
     reducer.residue(reducer.transform(n))
 }
 
-/// Whether the values of two checked forms are equal: exactly where the forms are one word.
+/// Whether the values of two forms are equal: exactly where the forms are one word.
+///
+/// # Preconditions
+///
+/// Both are checked. This isn't tested: outside it the call panics, or returns no meaningful result.
 #[inline]
 pub fn same_value<T: RingWord, R: Reducer<T>>(reducer: &R, a: T, b: T) -> bool {
     reducer.residue(a) == reducer.residue(b)

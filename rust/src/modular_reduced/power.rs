@@ -27,7 +27,11 @@ fn binary_power<T: RingWord, R: Reducer<T>>(reducer: &R, base: T, exp: T) -> (T,
 /// exponent goes by binary steps from the form of 1, a square for each binary digit and a product
 /// for each one digit (Knuth, The Art of Computer Programming, volume 2, section 4.6.3, algorithm
 /// A, with a square at the last digit too); for the exponent 0 that is the form of 1 mod m itself.
-/// Condition: the base is a checked form.
+///
+/// # Preconditions
+///
+/// The base is a checked form. This isn't tested: outside it the call panics, or returns no meaningful
+/// result.
 pub fn pow_counted<T: RingWord, R: Reducer<T>>(reducer: &R, base: T, exp: &T) -> (T, u32) {
     if *exp == T::one() {
         return (base, 0);

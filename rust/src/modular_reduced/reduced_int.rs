@@ -27,9 +27,8 @@ mod sub;
 /// | `x == y` | whether the moduli and the residues are equal | none |
 ///
 /// Each operand may be a reference too.
-#[derive(Debug)]
 #[must_use]
-pub struct ReducedInt<T: RingWord, R: Reducer<T>> {
+pub struct ReducedInt<T, R> {
     form: T,
     reducer: R,
 }

@@ -6,9 +6,13 @@ use crate::modular_word::ring_word::RingWord;
 /// A way to compute modulo m by forms: words that stand for the values from 0 to m - 1.
 ///
 /// A form is checked where `check` is true of it; each value has exactly one checked form, and each
-/// checked form one value. Every call but `check` and `transform` takes checked forms alone.
+/// checked form one value. Condition of every call but `check` and `transform`: the forms are checked.
 pub trait Reducer<T: RingWord>: Sized {
-    /// The reducer of a modulus. Condition: it is admitted.
+    /// The reducer of a modulus.
+    ///
+    /// # Panics
+    ///
+    /// Panics unless the reducer admits the modulus.
     #[must_use]
     fn new(m: &T) -> Self;
 
@@ -22,39 +26,89 @@ pub trait Reducer<T: RingWord>: Sized {
     fn modulus(&self) -> T;
 
     /// The value of a form: a number below the modulus.
+    ///
+    /// # Preconditions
+    ///
+    /// The forms are checked. This isn't tested: outside it the call panics, or returns no meaningful
+    /// result.
     fn residue(&self, f: T) -> T;
 
     /// Whether the value of a form is 0.
+    ///
+    /// # Preconditions
+    ///
+    /// The forms are checked. This isn't tested: outside it the call panics, or returns no meaningful
+    /// result.
     fn is_zero(&self, f: &T) -> bool;
 
     /// The form of the sum modulo m.
+    ///
+    /// # Preconditions
+    ///
+    /// The forms are checked. This isn't tested: outside it the call panics, or returns no meaningful
+    /// result.
     fn add(&self, a: &T, b: &T) -> T;
 
     /// `add`, in the first operand.
+    ///
+    /// # Preconditions
+    ///
+    /// The forms are checked. This isn't tested: outside it the call panics, or returns no meaningful
+    /// result.
     #[inline]
     fn add_in_place(&self, a: &mut T, b: &T) {
         *a = self.add(a, b);
     }
 
     /// The form of the double modulo m.
+    ///
+    /// # Preconditions
+    ///
+    /// The forms are checked. This isn't tested: outside it the call panics, or returns no meaningful
+    /// result.
     fn dbl(&self, f: T) -> T;
 
     /// The form of the difference modulo m.
+    ///
+    /// # Preconditions
+    ///
+    /// The forms are checked. This isn't tested: outside it the call panics, or returns no meaningful
+    /// result.
     fn sub(&self, a: &T, b: &T) -> T;
 
     /// `sub`, in the first operand.
+    ///
+    /// # Preconditions
+    ///
+    /// The forms are checked. This isn't tested: outside it the call panics, or returns no meaningful
+    /// result.
     #[inline]
     fn sub_in_place(&self, a: &mut T, b: &T) {
         *a = self.sub(a, b);
     }
 
     /// The form of the negative modulo m.
+    ///
+    /// # Preconditions
+    ///
+    /// The forms are checked. This isn't tested: outside it the call panics, or returns no meaningful
+    /// result.
     fn neg(&self, f: T) -> T;
 
     /// The form of the product modulo m.
+    ///
+    /// # Preconditions
+    ///
+    /// The forms are checked. This isn't tested: outside it the call panics, or returns no meaningful
+    /// result.
     fn mul(&self, a: &T, b: &T) -> T;
 
     /// `mul`, in the first operand.
+    ///
+    /// # Preconditions
+    ///
+    /// The forms are checked. This isn't tested: outside it the call panics, or returns no meaningful
+    /// result.
     #[inline]
     fn mul_in_place(&self, a: &mut T, b: &T) {
         *a = self.mul(a, b);
@@ -64,6 +118,11 @@ pub trait Reducer<T: RingWord>: Sized {
     ///
     /// A reducer may have it faster than by the two calls where it can't be foretold which of a and b is the
     /// greater, as in the butterflies of a transform.
+    ///
+    /// # Preconditions
+    ///
+    /// The forms are checked. This isn't tested: outside it the call panics, or returns no meaningful
+    /// result.
     #[inline]
     fn mul_difference(&self, a: &T, b: &T, factor: &T) -> T {
         let difference = self.sub(a, b);
@@ -71,12 +130,27 @@ pub trait Reducer<T: RingWord>: Sized {
     }
 
     /// The form of the inverse modulo m; `None` exactly where there is none.
+    ///
+    /// # Preconditions
+    ///
+    /// The forms are checked. This isn't tested: outside it the call panics, or returns no meaningful
+    /// result.
     fn inv(&self, f: T) -> Option<T>;
 
     /// The form of the square modulo m.
+    ///
+    /// # Preconditions
+    ///
+    /// The forms are checked. This isn't tested: outside it the call panics, or returns no meaningful
+    /// result.
     fn sqr(&self, f: T) -> T;
 
     /// The form of the product of `exp` factors, modulo m; that of 1 for the exponent 0.
+    ///
+    /// # Preconditions
+    ///
+    /// The forms are checked. This isn't tested: outside it the call panics, or returns no meaningful
+    /// result.
     #[inline]
     fn pow(&self, f: T, exp: &T) -> T {
         pow_counted(self, f, exp).0

@@ -8,11 +8,11 @@ use crate::modular_prim::plain_word::PlainWord;
 /// The plain reducer of a modulus from 1 up: the form of a value is the value itself.
 ///
 /// Sums, differences, doubles and negatives take no division. A product is the classical one, the
-/// remainder of a double word by a word (Handbook of Applied Cryptography, section 14.3.1), and an
-/// inverse goes by Euclid's algorithm.
+/// remainder of a double word by a word (Handbook of Applied Cryptography, section 14.3.1). An inverse
+/// is found by subtraction for an odd modulus and by Euclid's algorithm for an even one.
 #[derive(Debug)]
 #[must_use]
-pub struct Vanilla<T: PlainWord> {
+pub struct Vanilla<T> {
     modulus: T,
 }
 
@@ -26,12 +26,13 @@ impl<T: PlainWord> Clone for Vanilla<T> {
 impl<T: PlainWord> Copy for Vanilla<T> {}
 
 impl<T: PlainWord> Reducer<T> for Vanilla<T> {
+    // Condition: the modulus is at least 1.
     #[inline]
     fn new(m: &T) -> Self {
         let modulus = *m;
         // a word that was read is known to fit
         let _ = modulus.is_odd();
-        assert!(!modulus.is_zero_word());
+        assert!(!modulus.is_zero_word(), "the modulus must be at least 1");
         Vanilla { modulus }
     }
 

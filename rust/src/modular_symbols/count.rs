@@ -9,9 +9,13 @@ use crate::modular_word::path_word::PathWord;
 use crate::modular_word::ring_word::RingWord;
 
 /// The Jacobi symbol over n of a number, given by its sign and its magnitude, by a count of the half
-/// system of n, of (n - 1)/2 residues: -1, 0 or 1. Condition: n is odd.
+/// system of n, of (n - 1)/2 residues: -1, 0 or 1.
 ///
 /// Source: Schering, "Zur Theorie der quadratischen Reste" (Gauss's lemma over any odd number).
+///
+/// # Preconditions
+///
+/// N is odd. This isn't tested: outside it the call panics, or returns no meaningful result.
 pub fn jacobi_by_count<T: PlainWord>(a_minus: bool, a: T, n: T) -> i8 {
     if invm(a, n).is_none() {
         return 0;

@@ -2,7 +2,7 @@
 
 use crate::modular_symbols::turns::{is_turned_by_swap, is_turned_by_twos};
 use crate::modular_prim::abs::signed_residue;
-use crate::modular_prim::digits::division;
+use crate::modular_prim::digits;
 use crate::modular_prim::plain_word::PlainWord;
 use crate::modular_word::path_word::PathWord;
 use crate::modular_word::ring_word::RingWord;
@@ -23,8 +23,7 @@ fn halve_and_swap<T: PlainWord>(a: T, n: T) -> (i8, u32) {
         let twos = above.trailing_zeros();
         let odd = above.shift_right(twos);
         turned ^= is_turned(odd, twos, below);
-        let (_, rest) = division(below, odd);
-        above = rest;
+        above = digits::rest(below, odd);
         below = odd;
         count += twos + 1;
     }
@@ -35,20 +34,28 @@ fn halve_and_swap<T: PlainWord>(a: T, n: T) -> (i8, u32) {
     }
 }
 
-/// The Jacobi symbol over n of a number, given by its sign and its magnitude. Condition: n is odd.
+/// The Jacobi symbol over n of a number, given by its sign and its magnitude.
+///
+/// # Preconditions
+///
+/// N is odd. This isn't tested: outside it the call panics, or returns no meaningful result.
 #[inline]
 pub fn jacobi_by_halving<T: PlainWord>(a_minus: bool, a: T, n: T) -> i8 {
     jacobi_counted(a_minus, a, n).0
 }
 
 /// The Jacobi symbol over n of a number, given by its sign and its magnitude, and the number of halvings
-/// and swaps from its residue over n. Condition: n is odd.
+/// and swaps from its residue over n.
 ///
 /// A turn of the loop takes all twos out of the upper number, swaps the two and reduces, by the division of Euclid's
 /// algorithm.
 ///
 /// Source: Cohen, "A Course in Computational Algebraic Number Theory", algorithm 1.4.10, without
 /// its first steps.
+///
+/// # Preconditions
+///
+/// N is odd. This isn't tested: outside it the call panics, or returns no meaningful result.
 #[inline]
 pub fn jacobi_counted<T: PlainWord>(a_minus: bool, a: T, n: T) -> (i8, u32) {
     halve_and_swap(signed_residue(a_minus, a, n), n)

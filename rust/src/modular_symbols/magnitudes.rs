@@ -8,14 +8,22 @@ use crate::modular_prim::power::powm;
 use crate::modular_word::path_word::PathWord;
 use crate::modular_word::ring_word::RingWord;
 
-/// The Jacobi symbol of a number over n. Condition: n is odd.
+/// The Jacobi symbol of a number over n.
+///
+/// # Preconditions
+///
+/// N is odd. This isn't tested: outside it the call panics, or returns no meaningful result.
 #[inline]
 pub fn jacobi_symbol<T: PlainWord>(a_minus: bool, a: T, n: T) -> i8 {
     jacobi_by_halving(a_minus, a, n)
 }
 
-/// The Jacobi symbol; `None` exactly for an even n and for n below 1. Condition: a negative n has a
-/// magnitude of at least 1.
+/// The Jacobi symbol; `None` exactly for an even n and for n below 1.
+///
+/// # Preconditions
+///
+/// A negative n has a magnitude of at least 1. This isn't tested: outside it the call panics, or
+/// returns no meaningful result.
 #[inline]
 pub fn checked_jacobi<T: PlainWord>(a_minus: bool, a: T, n_minus: bool, n: T) -> Option<i8> {
     if n_minus {
@@ -29,7 +37,12 @@ pub fn checked_jacobi<T: PlainWord>(a_minus: bool, a: T, n_minus: bool, n: T) ->
 
 /// The class of the power a^((n - 1)/2) modulo n, its exponent rounded down: 0, 1 or -1 where the
 /// power leaves 0, 1 or n - 1, tried in this order; `None` for another power and for n below 1.
-/// Over an odd prime it is the Jacobi symbol. Condition: a negative n has a magnitude of at least 1.
+/// Over an odd prime it is the Jacobi symbol.
+///
+/// # Preconditions
+///
+/// A negative n has a magnitude of at least 1. This isn't tested: outside it the call panics, or
+/// returns no meaningful result.
 #[inline]
 pub fn checked_legendre<T: PlainWord>(a_minus: bool, a: T, n_minus: bool, n: T) -> Option<i8> {
     class_of_power(a_minus, a, n_minus, n)
@@ -75,7 +88,12 @@ fn symbol_above<T: PlainWord>(a_minus: bool, a: T, n: T) -> i8 {
     }
 }
 
-/// The Kronecker symbol. Condition: a negative number has a magnitude of at least 1.
+/// The Kronecker symbol.
+///
+/// # Preconditions
+///
+/// A negative number has a magnitude of at least 1. This isn't tested: outside it the call panics, or
+/// returns no meaningful result.
 #[inline]
 pub fn kronecker_symbol<T: PlainWord>(a_minus: bool, a: T, n_minus: bool, n: T) -> i8 {
     if n.is_zero_word() {

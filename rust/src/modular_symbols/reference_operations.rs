@@ -9,33 +9,65 @@ use crate::modular_prim::{euclid, power, residues};
 /// `ModularOps`. Condition of each operation: m is at least 1. The symbols have none.
 pub trait ModularRefOps: UnsignedOperand + Copy {
     /// The residue of the sum.
+    ///
+    /// # Panics
+    ///
+    /// Panics unless m is at least 1.
     #[must_use]
     fn addm_ref(&self, rhs: &Self, m: &Self) -> Self;
 
     /// The residue of the difference.
+    ///
+    /// # Panics
+    ///
+    /// Panics unless m is at least 1.
     #[must_use]
     fn subm_ref(&self, rhs: &Self, m: &Self) -> Self;
 
     /// The residue of the product.
+    ///
+    /// # Panics
+    ///
+    /// Panics unless m is at least 1.
     #[must_use]
     fn mulm_ref(&self, rhs: &Self, m: &Self) -> Self;
 
     /// The residue of the negative.
+    ///
+    /// # Panics
+    ///
+    /// Panics unless m is at least 1.
     #[must_use]
     fn negm_ref(&self, m: &Self) -> Self;
 
     /// The inverse modulo m; `None` exactly where there is none. It is 0 for m = 1.
+    ///
+    /// # Panics
+    ///
+    /// Panics unless m is at least 1.
     fn invm_ref(&self, m: &Self) -> Option<Self>;
 
     /// The residue of the double.
+    ///
+    /// # Panics
+    ///
+    /// Panics unless m is at least 1.
     #[must_use]
     fn dblm_ref(&self, m: &Self) -> Self;
 
     /// The residue of the square.
+    ///
+    /// # Panics
+    ///
+    /// Panics unless m is at least 1.
     #[must_use]
     fn sqm_ref(&self, m: &Self) -> Self;
 
     /// The residue of the product of `exp` factors; that of 1 for the exponent 0.
+    ///
+    /// # Panics
+    ///
+    /// Panics unless m is at least 1.
     #[must_use]
     fn powm_ref(&self, exp: &Self, m: &Self) -> Self;
 

@@ -60,13 +60,17 @@ fn subtract_and_halve<T: LowPart>(a: T, n: T) -> i8 {
     }
 }
 
-/// The Jacobi symbol over n of a number, given by its sign and its magnitude. Condition: n is odd.
+/// The Jacobi symbol over n of a number, given by its sign and its magnitude.
 ///
 /// A turn of the loop has two odd numbers. Their difference loses its twos and stands in place of the
 /// greater one, until they are equal. There is one division at most, at the beginning: for a magnitude that
 /// isn't below n.
 ///
 /// Source: Shallit and Sorenson, "A binary algorithm for the Jacobi symbol", ACM SIGSAM Bulletin 27, 1993.
+///
+/// # Preconditions
+///
+/// N is odd. This isn't tested: outside it the call panics, or returns no meaningful result.
 #[inline]
 pub fn jacobi_by_subtraction<T: LowPart>(a_minus: bool, a: T, n: T) -> i8 {
     subtract_and_halve(signed_residue(a_minus, a, n), n)

@@ -4,13 +4,17 @@ use crate::modular_symbols::magnitudes;
 use crate::modular_symbols::operands::{IntegerValued, SymbolWord};
 
 /// The symbols of a number over n. A symbol is -1, 0 or 1.
-pub trait ModularSymbols<Modulus: IntegerValued = Self>: Sized + IntegerValued {
-    /// The value inside `checked_legendre`. Condition: that is `Some`.
+pub trait ModularSymbols<Modulus: IntegerValued = Self>: IntegerValued {
+    /// The value inside `checked_legendre`.
+    ///
+    /// # Panics
+    ///
+    /// Panics unless `checked_legendre` is `Some`, as it is for each odd prime n.
     #[inline]
     fn legendre(&self, n: Modulus) -> i8 {
         match self.checked_legendre(n) {
             Some(symbol) => symbol,
-            None => unreachable!(),
+            None => panic!("`checked_legendre` must be `Some`, as it is for each odd prime n"),
         }
     }
 
@@ -21,12 +25,16 @@ pub trait ModularSymbols<Modulus: IntegerValued = Self>: Sized + IntegerValued {
     /// tested.
     fn checked_legendre(&self, n: Modulus) -> Option<i8>;
 
-    /// The value inside `checked_jacobi`. Condition: that is `Some`, so n is odd and above 0.
+    /// The value inside `checked_jacobi`.
+    ///
+    /// # Panics
+    ///
+    /// Panics unless n is odd and above 0.
     #[inline]
     fn jacobi(&self, n: Modulus) -> i8 {
         match self.checked_jacobi(n) {
             Some(symbol) => symbol,
-            None => unreachable!(),
+            None => panic!("n must be odd and above 0"),
         }
     }
 

@@ -12,8 +12,11 @@ fn leaves_3<T: PlainWord>(n: T) -> bool {
     n.half().is_odd()
 }
 
-/// Whether 2 has the symbol -1 over an odd number: the number leaves 3 or 5 modulo 8. Condition: it is
-/// odd.
+/// Whether 2 has the symbol -1 over an odd number: the number leaves 3 or 5 modulo 8.
+///
+/// # Preconditions
+///
+/// It is odd. This isn't tested: outside it the call panics, or returns no meaningful result.
 #[inline]
 pub fn is_minus_over_two<T: PlainWord>(n: T) -> bool {
     n.half().plus(T::one()).half().is_odd()

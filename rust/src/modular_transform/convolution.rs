@@ -13,7 +13,12 @@ fn multiply_each<T: RingWord, R: Reducer<T>>(r: &R, xs: &mut [T], ys: &[T]) {
     }
 }
 
-/// Multiplies each entry by a factor. Conditions: the entries and the factor are checked forms.
+/// Multiplies each entry by a factor.
+///
+/// # Preconditions
+///
+/// The entries and the factor are checked forms. This isn't tested: outside it the call panics, or
+/// returns no meaningful result.
 #[inline]
 pub fn scale<T: RingWord, R: Reducer<T>>(r: &R, xs: &mut [T], factor: &T) {
     'entries: for i in 0..xs.len() {
@@ -45,13 +50,22 @@ fn multiply<T: RingWord, R: Reducer<T>>(r: &R, xs: &mut [T], ys: &mut [T], g: &T
 /// Puts the cyclic product of xs and ys in xs and the transform of ys in ys, both by g; false, with
 /// both lists unchanged, exactly where their length n has no inverse modulo m.
 ///
-/// Entry e of xs becomes the form of the sum of x_i·y_j modulo m over i + j = e or e + n. Conditions:
-/// the lists have one length, g and all entries are checked forms, and g suits the length
-/// (`root_fits` tells). It takes no memory. The method is that of Knuth (The Art of Computer
+/// Entry e of xs becomes the form of the sum of x_i·y_j modulo m over i + j = e or e + n.
+/// It takes no memory. The method is that of Knuth (The Art of Computer
 /// Programming, volume 2, section 4.3.3, part C): a transform of each list, a product at each place,
 /// a transform back. The length comes by doublings of 1, so it may be too large for the word.
+///
+/// # Panics
+///
+/// Panics unless the lists have one length, and this is a power of two. A debug build also panics
+/// unless g and all entries are checked forms, and g suits the length (`root_fits` tells). A release
+/// build doesn't test that, and outside it panics, or returns no meaningful result.
 #[inline]
 pub fn convolve<T: RingWord, R: Reducer<T>>(r: &R, xs: &mut [T], ys: &mut [T], g: &T) -> bool {
+    assert!(ys.len() == xs.len(), "the lists must have one length");
+    assert!(xs.len().is_power_of_two(), "this must be a power of two");
+    debug_assert!(r.check(g) && xs.iter().all(|x| r.check(x)) && ys.iter().all(|y| r.check(y)), "g and all entries must be checked forms");
+    debug_assert!(crate::modular_transform::transform::root_fits(r, g, xs.len()), "g must suit the length");
     let length = length_form(r, xs.len());
     match r.inv(length) {
         Some(part) => {

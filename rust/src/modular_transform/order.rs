@@ -6,6 +6,11 @@ const SIDE: usize = 8;
 const SIDE_BITS: u32 = 3;
 
 /// Puts each entry at the place with the bits in the opposite order.
+///
+/// # Preconditions
+///
+/// There are 2^bits entries, and `bits` is at most 64. This isn't tested: outside it the call panics,
+/// or returns no meaningful result.
 #[inline]
 pub fn reverse_places<T: Copy>(entries: &mut [T], bits: u32) {
     if bits < 2 * SIDE_BITS {

@@ -4,7 +4,11 @@
 use crate::modular_word::plain::power_of;
 
 /// Whether g suits transforms of n entries modulo m: n is a power of two, and for n above 1 the power
-/// n/2 of g is -1 modulo m. Condition: m is at least 1.
+/// n/2 of g is -1 modulo m.
+///
+/// # Preconditions
+///
+/// M is at least 1. This isn't tested: outside it the call panics, or returns no meaningful result.
 #[inline]
 pub fn suits(m: u64, g: u64, n: usize) -> bool {
     if !n.is_power_of_two() {
@@ -16,7 +20,11 @@ pub fn suits(m: u64, g: u64, n: usize) -> bool {
     (power_of(g, n as u64 / 2, m) as u128 + 1) % m as u128 == 0
 }
 
-/// Entry j of the transform by g of the entries modulo m, term by term. Condition: m is at least 1.
+/// Entry j of the transform by g of the entries modulo m, term by term.
+///
+/// # Preconditions
+///
+/// M is at least 1. This isn't tested: outside it the call panics, or returns no meaningful result.
 pub fn transform_entry(m: u64, g: u64, xs: &[u64], j: usize) -> u64 {
     let step = power_of(g, j as u64, m);
     let mut power = 1 % m;
@@ -49,8 +57,12 @@ fn row_sum(m: u64, x: u64, i: usize, ys: &[u64], e: usize) -> u64 {
     sum
 }
 
-/// Entry e of the cyclic product of two lists modulo m, term by term. Conditions: m is at least 1,
-/// the lists have one length, and e is below it.
+/// Entry e of the cyclic product of two lists modulo m, term by term.
+///
+/// # Preconditions
+///
+/// M is at least 1, the lists have one length, and e is below it. This isn't tested: outside it the
+/// call panics, or returns no meaningful result.
 pub fn product_entry(m: u64, xs: &[u64], ys: &[u64], e: usize) -> u64 {
     let mut sum = 0;
     'rows: for i in 0..xs.len() {

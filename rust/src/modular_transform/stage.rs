@@ -20,6 +20,12 @@ fn pair<T: RingWord, R: Reducer<T>>(r: &R, forms: &mut [T], first: usize, second
 /// sum, and its difference times the power i of the root. Answers how many products that took.
 ///
 /// The columns are taken in strips, so that what is read next lies beside what was read last.
+///
+/// # Preconditions
+///
+/// The entries and the root are checked forms, and there are as many entries as `blocks` blocks have,
+/// of which there is one or more. This isn't tested: outside it the call panics, or returns no
+/// meaningful result.
 pub fn stage<T: RingWord, R: Reducer<T>>(
     r: &R,
     forms: &mut [T],

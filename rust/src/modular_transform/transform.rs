@@ -7,7 +7,12 @@ use crate::modular_reduced::reducer::Reducer;
 use crate::modular_word::ring_word::RingWord;
 
 /// Whether g suits transforms of n entries: n is a power of two, and for n above 1 the value of g to
-/// the power n/2 is -1 modulo m. The power comes by squares, so n may be too large for the word.
+/// the power n/2 is -1 modulo m. The power comes by squares, so n may be
+/// too large for the word.
+///
+/// # Preconditions
+///
+/// G is a checked form. This isn't tested: outside it the call panics, or returns no meaningful result.
 pub fn root_fits<T: RingWord, R: Reducer<T>>(r: &R, g: &T, n: usize) -> bool {
     if !n.is_power_of_two() {
         return false;
@@ -27,7 +32,16 @@ pub fn root_fits<T: RingWord, R: Reducer<T>>(r: &R, g: &T, n: usize) -> bool {
 ///
 /// The z stages have half blocks of n/2, n/4, .., 1 entries. A stage takes a product for each of its
 /// n/2 pairs, one for the running power in each column, and a square for the root of the next.
+///
+/// # Panics
+///
+/// Panics unless the length is a power of two. A debug build also panics unless g and the entries are
+/// checked forms, and g suits the length (`root_fits` tells). A release build doesn't test that, and
+/// outside it panics, or returns no meaningful result.
 pub fn ntt_counted<T: RingWord, R: Reducer<T>>(r: &R, xs: &mut [T], g: &T) -> u128 {
+    assert!(xs.len().is_power_of_two(), "the length must be a power of two");
+    debug_assert!(r.check(g) && xs.iter().all(|x| r.check(x)), "g and the entries must be checked forms");
+    debug_assert!(root_fits(r, g, xs.len()), "g must suit the length");
     let stages = xs.len().trailing_zeros();
     let mut roots = [*g; 64];
     let mut root = *g;
@@ -61,10 +75,15 @@ pub fn ntt_counted<T: RingWord, R: Reducer<T>>(r: &R, xs: &mut [T], g: &T) -> u1
 /// Puts the transform by g of the entries in their place: entry j becomes the form of the sum of
 /// x_i·g^(i·j) modulo m, x_i being the value of entry i.
 ///
-/// Conditions: g and the entries are checked forms, and g suits the length (`root_fits` tells). The
-/// modulus need not be prime. It takes no memory. The method is that of Cooley and Tukey in the order
+/// The modulus need not be prime. It takes no memory. The method is that of Cooley and Tukey in the order
 /// of Gentleman and Sande ("Fast Fourier transforms: for fun and profit"), over residues (Pollard,
 /// "The fast Fourier transform in a finite field").
+///
+/// # Panics
+///
+/// Panics unless the length is a power of two. A debug build also panics unless g and the entries are
+/// checked forms, and g suits the length (`root_fits` tells). A release build doesn't test that, and
+/// outside it panics, or returns no meaningful result.
 #[inline]
 pub fn ntt<T: RingWord, R: Reducer<T>>(r: &R, xs: &mut [T], g: &T) {
     let _products = ntt_counted(r, xs, g);

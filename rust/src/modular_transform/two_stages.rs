@@ -31,6 +31,11 @@ fn four<T: RingWord, R: Reducer<T>>(
 
 /// Two stages, the first with a root and 2·step columns, the second with its square and `step` columns.
 /// `turned` is the power `step` of the root. Answers how many products that took.
+///
+/// # Preconditions
+///
+/// All forms are checked, and `turned` is that power, and there are 4·step·blocks entries, in one block
+/// or more. This isn't tested: outside it the call panics, or returns no meaningful result.
 pub fn two_stages<T: RingWord, R: Reducer<T>>(
     r: &R,
     forms: &mut [T],

@@ -9,21 +9,37 @@ pub trait PathWord: Sized + RingWord {
     /// The type that holds the product of two words.
     type Double: Copy;
 
-    /// The sum. Condition: it fits a word.
+    /// The sum.
+    ///
+    /// # Preconditions
+    ///
+    /// It fits a word. This isn't tested: outside it the call panics, or returns no meaningful result.
     #[must_use]
     fn plus(self, rhs: Self) -> Self;
 
-    /// The difference. Condition: it is not below 0.
+    /// The difference.
+    ///
+    /// # Preconditions
+    ///
+    /// It is not below 0. This isn't tested: outside it the call panics, or returns no meaningful result.
     #[must_use]
     fn minus(self, rhs: Self) -> Self;
 
-    /// The difference modulo m. Conditions: both are below m.
+    /// The difference modulo m.
     ///
     /// Long words are chosen without a jump, since which of two is greater can't be foretold.
+    ///
+    /// # Preconditions
+    ///
+    /// Both are below m. This isn't tested: outside it the call panics, or returns no meaningful result.
     #[must_use]
     fn minus_modulo(self, rhs: Self, m: Self) -> Self;
 
-    /// The product. Condition: it fits a word.
+    /// The product.
+    ///
+    /// # Preconditions
+    ///
+    /// It fits a word. This isn't tested: outside it the call panics, or returns no meaningful result.
     #[must_use]
     fn times(self, rhs: Self) -> Self;
 
@@ -39,15 +55,30 @@ pub trait PathWord: Sized + RingWord {
     #[must_use]
     fn wrapping_mul(self, rhs: Self) -> Self;
 
-    /// The word divided by a power of two, rounded down. Condition: `by` is below the width.
+    /// The word divided by a power of two, rounded down.
+    ///
+    /// # Preconditions
+    ///
+    /// `by` is below the width. This isn't tested: outside it the call panics, or returns no meaningful
+    /// result.
     #[must_use]
     fn shift_right(self, by: u32) -> Self;
 
-    /// The word times a power of two. Condition: `by` is below the width, and the product fits.
+    /// The word times a power of two.
+    ///
+    /// # Preconditions
+    ///
+    /// `by` is below the width, and the product fits. This isn't tested: outside it the call panics, or
+    /// returns no meaningful result.
     #[must_use]
     fn shift_left(self, by: u32) -> Self;
 
-    /// The word modulo a power of two. Condition: `count` is below the width.
+    /// The word modulo a power of two.
+    ///
+    /// # Preconditions
+    ///
+    /// `count` is below the width. This isn't tested: outside it the call panics, or returns no meaningful
+    /// result.
     #[must_use]
     fn low_bits(self, count: u32) -> Self;
 
@@ -63,7 +94,12 @@ pub trait PathWord: Sized + RingWord {
     /// The whole product of two words.
     fn product(self, rhs: Self) -> Self::Double;
 
-    /// The word times a power of two, as a double word. Condition: `by` is below the width.
+    /// The word times a power of two, as a double word.
+    ///
+    /// # Preconditions
+    ///
+    /// `by` is below the width. This isn't tested: outside it the call panics, or returns no meaningful
+    /// result.
     fn shift_left_wide(self, by: u32) -> Self::Double;
 
     /// The low and the high word of a double word.
@@ -72,13 +108,22 @@ pub trait PathWord: Sized + RingWord {
     /// The double word of a low and a high word.
     fn merge(low: Self, high: Self) -> Self::Double;
 
-    /// The high word of the sum of two double words, modulo m. Conditions: the low word of the sum is 0, and each of the
-    /// two is below m times the base.
+    /// The high word of the sum of two double words, modulo m.
     ///
     /// The sum can pass the double word; its carry is kept.
+    ///
+    /// # Preconditions
+    ///
+    /// The low word of the sum is 0, and each of the two is below m times the base. This isn't tested:
+    /// outside it the call panics, or returns no meaningful result.
     #[must_use]
     fn high_sum_modulo(first: Self::Double, second: Self::Double, m: Self) -> Self;
 
-    /// The sum of two double words. Condition: it fits a double word.
+    /// The sum of two double words.
+    ///
+    /// # Preconditions
+    ///
+    /// It fits a double word. This isn't tested: outside it the call panics, or returns no meaningful
+    /// result.
     fn double_plus(first: Self::Double, second: Self::Double) -> Self::Double;
 }

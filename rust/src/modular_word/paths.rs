@@ -3,7 +3,12 @@
 
 use crate::modular_word::path_word::PathWord;
 
-/// The word whose low n bits are ones: 2^n - 1. Condition: n is at most the width.
+/// The word whose low n bits are ones: 2^n - 1.
+///
+/// # Preconditions
+///
+/// N is at most the width. This isn't tested: outside it the call panics, or returns no meaningful
+/// result.
 #[inline]
 pub fn ones<T: PathWord>(n: u32) -> T {
     if n == 0 {
@@ -20,9 +25,14 @@ pub fn two<T: PathWord>() -> T {
 }
 
 /// Quotient and remainder of a double word by a divisor d with its top bit set, by the reciprocal
-/// of d. Conditions: `reciprocal` is that of d, and the high word of the dividend is below d.
+/// of d.
 ///
 /// Source: Möller and Granlund, "Improved division by invariant integers", algorithm 4.
+///
+/// # Preconditions
+///
+/// `reciprocal` is that of d, and the high word of the dividend is below d. This isn't tested: outside
+/// it the call panics, or returns no meaningful result.
 pub fn div_2by1<T: PathWord>(d: T, reciprocal: T, a: T::Double) -> (T, T) {
     let (low, high) = T::split(a);
     let (q0, q1) = T::split(T::double_plus(reciprocal.product(high), a));
@@ -50,11 +60,15 @@ fn quotient_1by1<T: PathWord>(d: T, multiplier: T, shift: u32, a: T) -> T {
     t.plus(a.minus(t).shift_right(1)).shift_right(shift)
 }
 
-/// Quotient and remainder of a word by a divisor, by the divisor's multiplier and shift. Condition:
-/// the two are those of d.
+/// Quotient and remainder of a word by a divisor, by the divisor's multiplier and shift.
 ///
 /// Source: Granlund and Montgomery, "Division by invariant integers using multiplication",
 /// figure 4.1.
+///
+/// # Preconditions
+///
+/// The two are those of d. This isn't tested: outside it the call panics, or returns no meaningful
+/// result.
 #[inline]
 pub fn div_1by1<T: PathWord>(d: T, multiplier: T, shift: u32, a: T) -> (T, T) {
     let q = quotient_1by1(d, multiplier, shift, a);
@@ -63,11 +77,15 @@ pub fn div_1by1<T: PathWord>(d: T, multiplier: T, shift: u32, a: T) -> (T, T) {
 }
 
 /// The quotient of a word by an odd divisor d, by the inverse of d; `None` exactly where d doesn't
-/// divide it. Condition: `inverse` is that of d modulo the base, and `limit` the greatest quotient
-/// of a word by d.
+/// divide it.
 ///
 /// Source: Granlund and Montgomery, "Division by invariant integers using multiplication",
 /// section 9.
+///
+/// # Preconditions
+///
+/// `inverse` is that of d modulo the base, and `limit` the greatest quotient of a word by d. This isn't
+/// tested: outside it the call panics, or returns no meaningful result.
 #[inline]
 pub fn exact_1<T: PathWord>(d: T, inverse: T, limit: T, n: T) -> Option<T> {
     let q = n.wrapping_mul(inverse);
@@ -75,9 +93,13 @@ pub fn exact_1<T: PathWord>(d: T, inverse: T, limit: T, n: T) -> Option<T> {
 }
 
 /// The quotient of a double word by an odd divisor d, by the inverse of d; `None` exactly where d
-/// doesn't divide it. Condition: as `exact_1`.
+/// doesn't divide it.
 ///
 /// Source: as `exact_1`, a word at a time from the lowest.
+///
+/// # Preconditions
+///
+/// As `exact_1`. This isn't tested: outside it the call panics, or returns no meaningful result.
 pub fn exact_2<T: PathWord>(d: T, inverse: T, limit: T, n: T::Double) -> Option<T::Double> {
     let (n0, n1) = T::split(n);
     let q0 = n0.wrapping_mul(inverse);
@@ -89,11 +111,15 @@ pub fn exact_2<T: PathWord>(d: T, inverse: T, limit: T, n: T::Double) -> Option<
     Some(T::merge(q0, q1))
 }
 
-/// The word x whose product with m is -1 modulo the base. Condition: m is odd.
+/// The word x whose product with m is -1 modulo the base.
 ///
 /// m is its own inverse modulo 8, and each step doubles the number of bits to which the inverse
 /// holds. Source: Dumas, "On Newton-Raphson iteration for multiplicative inverses modulo prime
 /// powers".
+///
+/// # Preconditions
+///
+/// M is odd. This isn't tested: outside it the call panics, or returns no meaningful result.
 pub fn neginv<T: PathWord>(m: T) -> T {
     let two = two::<T>();
     let mut inverse = m;
@@ -106,7 +132,11 @@ pub fn neginv<T: PathWord>(m: T) -> T {
 }
 
 /// The word x whose multiple x·m, added to t, leaves 0 in the low word: the first step of Montgomery's reduction.
-/// Condition: m times `negated_inverse` is -1 modulo the base.
+///
+/// # Preconditions
+///
+/// M times `negated_inverse` is -1 modulo the base. This isn't tested: outside it the call panics, or
+/// returns no meaningful result.
 #[inline]
 pub fn clearing<T: PathWord>(m: T, negated_inverse: T, t: T::Double) -> T {
     let (low, _) = T::split(t);
@@ -115,16 +145,24 @@ pub fn clearing<T: PathWord>(m: T, negated_inverse: T, t: T::Double) -> T {
 
 /// Montgomery's reduction of t, given the word x of `clearing` and the product x·m: the second step, the sum of t and
 /// x·m divided by the base, less m where it is at least m. A modulus of a special form may have x·m at a lower cost.
-/// Conditions: t is below m times the base, and the sum of t and x·m has 0 in the low word.
+///
+/// # Preconditions
+///
+/// T is below m times the base, and the sum of t and x·m has 0 in the low word. This isn't tested:
+/// outside it the call panics, or returns no meaningful result.
 #[inline]
 pub fn reduce_by<T: PathWord>(m: T, t: T::Double, x: T, multiple: T::Double) -> T {
     T::high_sum_modulo(t, multiple, m)
 }
 
-/// Montgomery's reduction of a double word t modulo an odd m. Conditions: m times `negated_inverse`
-/// is -1 modulo the base, and t is below m times the base.
+/// Montgomery's reduction of a double word t modulo an odd m.
 ///
 /// Source: Handbook of Applied Cryptography, algorithm 14.32, for one word.
+///
+/// # Preconditions
+///
+/// M times `negated_inverse` is -1 modulo the base, and t is below m times the base. This isn't tested:
+/// outside it the call panics, or returns no meaningful result.
 #[inline]
 pub fn redc<T: PathWord>(m: T, negated_inverse: T, t: T::Double) -> T {
     let x = clearing(m, negated_inverse, t);

@@ -11,16 +11,24 @@ fn computed_residue(z: i64, m: u64) -> u64 {
     }
 }
 
-/// The residue of a signed number modulo m. Condition: m is at least 1.
+/// The residue of a signed number modulo m.
 ///
 /// The definition and its computing form agree: the answer is `residue m z`, it is a residue of z
 /// modulo m, and no other number is.
+///
+/// # Preconditions
+///
+/// M is at least 1. This isn't tested: outside it the call panics, or returns no meaningful result.
 #[inline]
 pub fn residue_of(z: i64, m: u64) -> u64 {
     computed_residue(z, m)
 }
 
-/// The residue modulo m of the product of `exp` factors `base`. Condition: m is at least 1.
+/// The residue modulo m of the product of `exp` factors `base`.
+///
+/// # Preconditions
+///
+/// M is at least 1. This isn't tested: outside it the call panics, or returns no meaningful result.
 #[inline]
 pub fn power_of(base: u64, exp: u64, m: u64) -> u64 {
     let mut power = 1 % m;
@@ -31,7 +39,10 @@ pub fn power_of(base: u64, exp: u64, m: u64) -> u64 {
 }
 
 /// The inverse of a modulo m, by trying each number below m; `None` exactly where there is none.
-/// Condition: m is at least 1.
+///
+/// # Preconditions
+///
+/// M is at least 1. This isn't tested: outside it the call panics, or returns no meaningful result.
 #[inline]
 pub fn inverse_by_search(a: u64, m: u64) -> Option<u64> {
     for x in 0..m {
@@ -42,8 +53,12 @@ pub fn inverse_by_search(a: u64, m: u64) -> Option<u64> {
     None
 }
 
-/// The greatest common divisor of a and n, by trying each number up to n. Condition: n is at
-/// least 1. It is 1 exactly where a has an inverse modulo n.
+/// The greatest common divisor of a and n, by trying each number up to n.
+/// It is 1 exactly where a has an inverse modulo n.
+///
+/// # Preconditions
+///
+/// N is at least 1. This isn't tested: outside it the call panics, or returns no meaningful result.
 #[inline]
 pub fn greatest_common_divisor(a: u64, n: u64) -> u64 {
     let mut greatest = 0;

@@ -7,12 +7,6 @@
 mod runtime;
 pub mod num_modular_uses;
 pub mod clients;
-pub mod ring_codes;
-pub mod big_product;
-pub mod long_product;
-pub mod mersenne_hash;
-pub mod residue_numbers;
-pub mod lattice_rings;
 pub mod operation_callers;
 pub mod integer_callers;
 pub mod divider_callers;

@@ -2,7 +2,11 @@
 
 use crate::modular_word::word::w32::Word;
 
-/// The word x with m * x = -1 modulo 2^32. Condition: m is odd.
+/// The word x with m * x = -1 modulo 2^32.
+///
+/// # Preconditions
+///
+/// M is odd. This isn't tested: outside it the call panics, or returns no meaningful result.
 #[inline]
 pub fn neginv(m: Word) -> Word {
     super::neginv(m)

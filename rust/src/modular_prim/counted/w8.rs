@@ -3,7 +3,10 @@
 use crate::modular_prim::euclid;
 
 /// The inverse of a modulo m, `None` exactly where there is none, and the number of divisions.
-/// Condition: m is at least 1.
+///
+/// # Panics
+///
+/// Panics unless m is at least 1.
 #[inline]
 pub fn invm_counted(a: u8, m: u8) -> (Option<u8>, u32) {
     euclid::invm_counted(a, m)

@@ -5,7 +5,11 @@ use crate::modular_reduced::reducer::Reducer;
 use crate::modular_word::ring_word::RingWord;
 
 impl<T: RingWord, R: Reducer<T> + Copy> ReducedInt<T, R> {
-    /// The integer n mod m. Condition: the reducer admits m.
+    /// The integer n mod m.
+    ///
+    /// # Panics
+    ///
+    /// Panics unless the reducer admits m.
     #[inline]
     pub fn new(n: T, m: &T) -> Self {
         let reducer = R::new(m);

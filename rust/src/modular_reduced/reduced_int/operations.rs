@@ -13,17 +13,18 @@ pub fn in_ring<T: RingWord, R: Reducer<T> + Copy>(x: &ReducedInt<T, R>, n: T) ->
     }
 }
 
-/// The sum. Condition: the moduli are equal.
+/// The sum.
 ///
 /// # Panics
 ///
-/// Outside the condition, in a debug build.
+/// A debug build panics unless the moduli are equal. A release build doesn't test that, and outside it
+/// panics, or returns no meaningful result.
 #[inline]
 pub fn sum<T: RingWord, R: Reducer<T> + Copy>(
     x: &ReducedInt<T, R>,
     y: &ReducedInt<T, R>,
 ) -> ReducedInt<T, R> {
-    debug_assert!(x.reducer.modulus() == y.reducer.modulus());
+    debug_assert!(x.reducer.modulus() == y.reducer.modulus(), "the moduli must be equal");
     ReducedInt {
         form: x.reducer.add(&x.form, &y.form),
         reducer: x.reducer,
@@ -36,17 +37,18 @@ pub fn sum_with<T: RingWord, R: Reducer<T> + Copy>(x: &ReducedInt<T, R>, n: T) -
     sum(x, &in_ring(x, n))
 }
 
-/// The difference. Condition: the moduli are equal.
+/// The difference.
 ///
 /// # Panics
 ///
-/// Outside the condition, in a debug build.
+/// A debug build panics unless the moduli are equal. A release build doesn't test that, and outside it
+/// panics, or returns no meaningful result.
 #[inline]
 pub fn difference<T: RingWord, R: Reducer<T> + Copy>(
     x: &ReducedInt<T, R>,
     y: &ReducedInt<T, R>,
 ) -> ReducedInt<T, R> {
-    debug_assert!(x.reducer.modulus() == y.reducer.modulus());
+    debug_assert!(x.reducer.modulus() == y.reducer.modulus(), "the moduli must be equal");
     ReducedInt {
         form: x.reducer.sub(&x.form, &y.form),
         reducer: x.reducer,
@@ -62,17 +64,18 @@ pub fn difference_with<T: RingWord, R: Reducer<T> + Copy>(
     difference(x, &in_ring(x, n))
 }
 
-/// The product. Condition: the moduli are equal.
+/// The product.
 ///
 /// # Panics
 ///
-/// Outside the condition, in a debug build.
+/// A debug build panics unless the moduli are equal. A release build doesn't test that, and outside it
+/// panics, or returns no meaningful result.
 #[inline]
 pub fn product<T: RingWord, R: Reducer<T> + Copy>(
     x: &ReducedInt<T, R>,
     y: &ReducedInt<T, R>,
 ) -> ReducedInt<T, R> {
-    debug_assert!(x.reducer.modulus() == y.reducer.modulus());
+    debug_assert!(x.reducer.modulus() == y.reducer.modulus(), "the moduli must be equal");
     ReducedInt {
         form: x.reducer.mul(&x.form, &y.form),
         reducer: x.reducer,
@@ -88,15 +91,20 @@ pub fn product_with<T: RingWord, R: Reducer<T> + Copy>(
     product(x, &in_ring(x, n))
 }
 
-/// The quotient: the integer whose product with y is x. Condition: the moduli are equal, and y has
-/// an inverse.
+/// The quotient: the integer whose product with y is x.
+///
+/// # Panics
+///
+/// Panics unless the divisor has an inverse modulo m. A debug build also panics unless the moduli are
+/// equal. A release build doesn't test that, and outside it panics, or returns no meaningful result.
 #[inline]
 pub fn quotient<T: RingWord, R: Reducer<T> + Copy>(
     x: &ReducedInt<T, R>,
     y: &ReducedInt<T, R>,
 ) -> ReducedInt<T, R> {
+    debug_assert!(y.reducer.modulus() == x.reducer.modulus(), "the moduli must be equal");
     let inverse = match y.inv() { Some(it) => it, None => {
-        unreachable!()
+        panic!("the divisor must have an inverse modulo m")
     } };
     product(x, &inverse)
 }

@@ -9,7 +9,11 @@ pub type Word = u32;
 /// A double word, which holds the product of two words.
 pub type DoubleWord = u64;
 
-/// The word whose low n bits are ones: 2^n - 1. Condition: n is at most 32.
+/// The word whose low n bits are ones: 2^n - 1.
+///
+/// # Preconditions
+///
+/// N is at most 32. This isn't tested: outside it the call panics, or returns no meaningful result.
 #[inline]
 pub fn ones(n: u32) -> Word {
     paths::ones(n)
@@ -57,8 +61,13 @@ pub fn wsqr(a: Word) -> DoubleWord {
     a.product(a)
 }
 
-/// The remainder of a double word by a word. Condition: d is at least 1.
+/// The remainder of a double word by a word.
+///
+/// # Panics
+///
+/// Panics unless the modulus is at least 1.
 #[inline]
 pub fn nrem(n: DoubleWord, d: Word) -> Word {
+    assert!(d != 0, "the modulus must be at least 1");
     (n % extend(d)) as Word
 }

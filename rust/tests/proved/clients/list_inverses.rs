@@ -6,8 +6,8 @@ use num_modular::{Reducer, RingWord};
 /// unchanged, exactly where one has no inverse modulo m. Conditions: the forms are checked, and the
 /// scratch list is as long.
 ///
-/// One inverse is computed, that of the product, and three products a form (Montgomery, "Speeding the
-/// Pollard and elliptic curve methods of factorization", section 10.3.1).
+/// The inverses come from that of the product of all forms (Montgomery, "Speeding the Pollard and elliptic
+/// curve methods of factorization", section 10.3.1).
 pub fn invert_each<T: RingWord, R: Reducer<T>>(r: &R, forms: &mut [T], products: &mut [T]) -> bool {
     let mut product = r.transform(T::one());
     'forward: for i in 0..forms.len() {

@@ -14,6 +14,6 @@ pub fn product_and_sum<M: UnsignedOperand + Copy, T: ModularOps<T, M, T>>(
 
 /// x² modulo m in Montgomery's representation, for every width. Condition: m is at least 1.
 pub fn square<T: PlainWord>(x: T, m: T) -> T {
-    let r = Montgomery::<T>::new(m);
+    let r = Montgomery::<T>::of(m);
     r.residue(r.sqr(r.transform(x)))
 }

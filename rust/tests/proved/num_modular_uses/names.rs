@@ -4,7 +4,7 @@ pub use num_modular::barrett::{FitsDivisor, StoredDivisor};
 pub use num_modular::laws::{
     base_laws, canonical_laws, coefficient_laws, congruence_laws, digit_laws, division_laws,
     divisor_laws, euclids_lemma, fold_laws, form_laws, inverse_laws, inverse_product_laws,
-    jacobi_laws, linear_congruence_laws, negative_cancels, power_laws, prime_laws,
+    jacobi_laws, linear_congruence_laws, negative_cancels, polynomial_laws, power_laws, prime_laws,
     prime_power_laws, product_below_laws, product_laws, products_associate, products_commute,
     products_distribute, range_laws, remainder_laws, residue_by_form, residue_laws, same_value,
     step_laws, stop_laws, sum_below_laws, sum_laws, sums_associate, sums_commute, transform_laws,

@@ -12,8 +12,8 @@ fn is_product<T: PlainWord>(m: T, w: T, quotient: T, x: T, residue: T) -> bool {
     }
     let m = PlannedModulus::new(m);
     let factor = Factor::entry(m.factor(w)).factor();
-    factor.value == w
-        && factor.quotient == quotient
+    factor.value() == w
+        && factor.quotient() == quotient
         && m.product(x, &factor) == residue
         && m.multiply(w, x) == residue
 }

@@ -37,7 +37,7 @@ fn is_scaled<T: PlainWord>(
     let m = match planned(m, g, table) { Some(it) => it, None => {
         return false;
     } };
-    if !splits(xs.len(), table.len(), 1, 1) || !all_in_room(&m, xs) || !w.is_below(m.modulus) {
+    if !splits(xs.len(), table.len(), 1, 1) || !all_in_room(&m, xs) || !w.is_below(m.modulus()) {
         return false;
     }
     join_scaled(&m, xs, table, 1, 1, &m.factor(w));
@@ -46,10 +46,7 @@ fn is_scaled<T: PlainWord>(
 
 #[test]
 fn lengths() {
-    let mut table = [Factor::<u64> {
-        value: 0,
-        quotient: 0,
-    }; 8];
+    let mut table = [Factor::<u64>::ZERO; 8];
     let mut xs = [34, 26, 41, 28, 36, 63, 40, 16, 42, 47, 4, 37, 15, 14, 5, 61];
     let want = [16, 15, 14, 13, 12, 11, 10, 9, 8, 7, 6, 5, 4, 3, 2, 1];
     assert!(is_joined(17, 3, &mut table, 0, 1, &mut xs, &want));
@@ -93,10 +90,7 @@ fn lengths() {
 
 #[test]
 fn blocks_of_two() {
-    let mut table = [Factor::<u16> {
-        value: 0,
-        quotient: 0,
-    }; 8];
+    let mut table = [Factor::<u16>::ZERO; 8];
     let mut xs = [18, 66, 57, 50, 60, 51, 13, 42];
     assert!(
         is_joined(
@@ -120,20 +114,14 @@ fn blocks_of_two() {
             &[6, 11, 13, 1]
         )
     );
-    let mut table = [Factor::<u32> {
-        value: 0,
-        quotient: 0,
-    }; 2];
+    let mut table = [Factor::<u32>::ZERO; 2];
     let mut xs = [1859, 260, 1472, 6402];
     assert!(is_joined(3329, 1729, &mut table, 1, 2, &mut xs, &[2, 4, 6, 8]));
 }
 
 #[test]
 fn composite_and_even_moduli() {
-    let mut table = [Factor::<u64> {
-        value: 0,
-        quotient: 0,
-    }; 2];
+    let mut table = [Factor::<u64>::ZERO; 2];
     assert!(
         is_joined(
             85,
@@ -147,17 +135,11 @@ fn composite_and_even_moduli() {
     );
     assert!(is_joined(85, 13, &mut table, 1, 1, &mut [256, 159], &[75, 14]));
     assert!(is_joined(1, 0, &mut table, 0, 1, &mut [2, 3, 3, 0], &[0, 0, 0, 0]));
-    let mut table = [Factor::<u64> {
-        value: 0,
-        quotient: 0,
-    }; 1];
+    let mut table = [Factor::<u64>::ZERO; 1];
     assert!(is_joined(20, 19, &mut table, 0, 1, &mut [76, 78], &[14, 18]));
     let mut xs = [5, 47, 29, 37, 37, 17];
     assert!(is_joined(20, 19, &mut table, 0, 3, &mut xs, &[2, 4, 6, 8, 10, 12]));
-    let mut table = [Factor::<u16> {
-        value: 0,
-        quotient: 0,
-    }; 1];
+    let mut table = [Factor::<u16>::ZERO; 1];
     assert!(
         is_joined(
             16384,
@@ -173,10 +155,7 @@ fn composite_and_even_moduli() {
 
 #[test]
 fn known_primes() {
-    let mut table = [Factor::<u32> {
-        value: 0,
-        quotient: 0,
-    }; 2];
+    let mut table = [Factor::<u32>::ZERO; 2];
     let mut xs = [1016, 5674, 12049, 1231];
     assert!(is_joined(3329, 1729, &mut table, 0, 1, &mut xs, &[3325, 0, 68, 671]));
     let mut xs = [32223187, 9678896];
@@ -217,10 +196,7 @@ const GREATEST_ODD: u64 = 4611686018427387903;
 
 #[test]
 fn greatest_words() {
-    let mut table = [Factor::<u64> {
-        value: 0,
-        quotient: 0,
-    }; 8];
+    let mut table = [Factor::<u64>::ZERO; 8];
     let mut xs = [
         3113715719171352145,
         4486075704425402414,
@@ -235,10 +211,7 @@ fn greatest_words() {
     assert!(is_joined(LONG, ROOT, &mut table, 1, 1, &mut xs, &want));
     let want = [LONG - 16, 0, 0, 0, 0, 0, 0, 0, 0, 0, 0, 0, 0, 0, 0, 0];
     assert!(is_joined(LONG, ROOT, &mut table, 0, 1, &mut [4 * LONG - 1; 16], &want));
-    let mut table = [Factor::<u64> {
-        value: 0,
-        quotient: 0,
-    }; 1];
+    let mut table = [Factor::<u64>::ZERO; 1];
     let mut xs = [13835058055405620329, 13835058055158706751];
     let want = [GREATEST_PRIME - 2, 246913578];
     assert!(
@@ -269,10 +242,7 @@ fn greatest_words() {
 
 #[test]
 fn scaled() {
-    let mut table = [Factor::<u64> {
-        value: 0,
-        quotient: 0,
-    }; 8];
+    let mut table = [Factor::<u64>::ZERO; 8];
     let mut xs = [39, 0, 47, 59, 9, 11, 22, 42];
     assert!(is_scaled(17, 3, &mut table, 15, &mut xs, &[1, 2, 3, 4, 5, 6, 7, 8]));
     let mut xs = [39, 0, 47, 59, 9, 11, 22, 42];

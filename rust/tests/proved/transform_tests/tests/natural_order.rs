@@ -24,32 +24,20 @@ fn is_transform<T: PlainWord>(
 
 #[test]
 fn whole_plans() {
-    let mut table = [Factor::<u16> {
-        value: 0,
-        quotient: 0,
-    }; 2];
+    let mut table = [Factor::<u16>::ZERO; 2];
     assert!(is_transform(17, 4, &mut table, &mut [1, 2, 3, 4], &[10, 7, 15, 6]));
     assert!(is_transform(85, 13, &mut table, &mut [1, 2, 3, 4], &[10, 57, 83, 24]));
-    let mut table = [Factor::<u64> {
-        value: 0,
-        quotient: 0,
-    }; 8];
+    let mut table = [Factor::<u64>::ZERO; 8];
     let mut xs = [1, 2, 3, 4, 5, 6, 7, 8, 9, 10, 11, 12, 13, 14, 15, 16];
     let want = [0, 8, 2, 15, 7, 4, 6, 5, 9, 13, 12, 14, 11, 3, 16, 10];
     assert!(is_transform(17, 3, &mut table, &mut xs, &want));
-    let mut table = [Factor::<u32> {
-        value: 0,
-        quotient: 0,
-    }; 1];
+    let mut table = [Factor::<u32>::ZERO; 1];
     assert!(is_transform(20, 19, &mut table, &mut [79, 78], &[17, 1]));
 }
 
 #[test]
 fn longer_plans() {
-    let mut table = [Factor::<u32> {
-        value: 0,
-        quotient: 0,
-    }; 8];
+    let mut table = [Factor::<u32>::ZERO; 8];
     assert!(
         is_transform(
             17,

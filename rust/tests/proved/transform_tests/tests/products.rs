@@ -88,10 +88,7 @@ fn are_products<T: PlainWord>(
 
 #[test]
 fn blocks_of_two() {
-    let mut table = [Factor::<u64> {
-        value: 0,
-        quotient: 0,
-    }; 8];
+    let mut table = [Factor::<u64>::ZERO; 8];
     let mut xs = [1, 2, 3, 4];
     assert!(
         are_products(
@@ -123,10 +120,7 @@ fn blocks_of_two() {
 
 #[test]
 fn cyclic() {
-    let mut table = [Factor::<u64> {
-        value: 0,
-        quotient: 0,
-    }; 8];
+    let mut table = [Factor::<u64>::ZERO; 8];
     let (mut xs, mut ys) = ([35, 2, 3, 38], [0, 1, 17, 17]);
     let want = ([4, 1, 2, 3], [1, 16, 13, 4]);
     assert!(
@@ -211,10 +205,7 @@ fn cyclic() {
 
 #[test]
 fn negacyclic() {
-    let mut table = [Factor::<u32> {
-        value: 0,
-        quotient: 0,
-    }; 8];
+    let mut table = [Factor::<u32>::ZERO; 8];
     let (mut xs, mut ys) = ([1, 53, 3, 55], [0, 35, 51, 51]);
     let want = ([13, 1, 2, 3], [9, 8, 15, 2]);
     assert!(
@@ -291,10 +282,7 @@ fn negacyclic() {
 
 #[test]
 fn other_blocks() {
-    let mut table = [Factor::<u16> {
-        value: 0,
-        quotient: 0,
-    }; 8];
+    let mut table = [Factor::<u16>::ZERO; 8];
     let (mut xs, mut ys) = ([20, 14, 15, 43], [2, 24, 1, 59]);
     let want = ([11, 9, 13, 8], [11, 11, 10, 3]);
     assert!(
@@ -354,10 +342,7 @@ fn other_blocks() {
 
 #[test]
 fn composite_and_even_moduli() {
-    let mut table = [Factor::<u64> {
-        value: 0,
-        quotient: 0,
-    }; 2];
+    let mut table = [Factor::<u64>::ZERO; 2];
     let (mut xs, mut ys) = ([256, 257, 173, 89], [1, 256, 170, 0]);
     let want = ([5, 3, 5, 7], [2, 0, 14, 73]);
     assert!(
@@ -391,10 +376,7 @@ fn composite_and_even_moduli() {
             (&want.0, &want.1)
         )
     );
-    let mut table = [Factor::<u64> {
-        value: 0,
-        quotient: 0,
-    }; 1];
+    let mut table = [Factor::<u64>::ZERO; 1];
     let (mut xs, mut ys) = ([7, 49], [23, 5]);
     let want = ([6, 2], [3, 5]);
     assert!(
@@ -440,10 +422,7 @@ fn composite_and_even_moduli() {
 
 #[test]
 fn known_primes() {
-    let mut table = [Factor::<u16> {
-        value: 0,
-        quotient: 0,
-    }; 2];
+    let mut table = [Factor::<u16>::ZERO; 2];
     let (mut xs, mut ys) = ([6659, 9989, 6661, 4], [6658, 9988, 9987, 9987]);
     let want = ([3325, 1, 2, 3], [0, 1, 0, 1]);
     assert!(
@@ -466,10 +445,7 @@ fn known_primes() {
             (&want.0, &want.1)
         )
     );
-    let mut table = [Factor::<u32> {
-        value: 0,
-        quotient: 0,
-    }; 2];
+    let mut table = [Factor::<u32>::ZERO; 2];
     let (mut xs, mut ys) = ([16760833, 25264707], [33521666, 16034738]);
     let want = ([3967546, 479184], [4248238, 4132175]);
     assert!(
@@ -499,10 +475,7 @@ fn known_primes() {
 
 #[test]
 fn greatest_words() {
-    let mut table = [Factor::<u64> {
-        value: 0,
-        quotient: 0,
-    }; 8];
+    let mut table = [Factor::<u64>::ZERO; 8];
     let (mut xs, mut ys) = (
         [
             1,
@@ -556,10 +529,7 @@ fn greatest_words() {
             (&want.0, &want.1)
         )
     );
-    let mut table = [Factor::<u64> {
-        value: 0,
-        quotient: 0,
-    }; 1];
+    let mut table = [Factor::<u64>::ZERO; 1];
     let (mut xs, mut ys) = (
         [9223372036854775693, 13835058055405620330],
         [18446744073709551386, 13835058055282163540],

@@ -15,7 +15,7 @@ pub fn all_in_room<T: PlainWord>(m: &PlannedModulus<T>, xs: &[T]) -> bool {
 
 // Whether each entry is below m.
 pub fn all_below<T: PlainWord>(m: &PlannedModulus<T>, xs: &[T]) -> bool {
-    xs.iter().all(|x| x.is_below(m.modulus))
+    xs.iter().all(|x| x.is_below(m.modulus()))
 }
 
 // Whether two lists are the same.
@@ -65,17 +65,11 @@ fn is_split<T: PlainWord>(
 
 #[test]
 fn the_whole_transform() {
-    let mut table = [Factor::<u64> {
-        value: 0,
-        quotient: 0,
-    }; 8];
+    let mut table = [Factor::<u64>::ZERO; 8];
     let mut xs = [1, 2, 3, 4, 5, 6, 7, 8, 9, 10, 11, 12, 13, 14, 15, 16];
     let want = [0, 9, 7, 11, 2, 12, 6, 16, 8, 13, 4, 3, 15, 14, 5, 10];
     assert!(is_split(17, 3, &mut table, 0, 1, &mut xs, &want));
-    let mut table = [Factor::<u16> {
-        value: 0,
-        quotient: 0,
-    }; 4];
+    let mut table = [Factor::<u16>::ZERO; 4];
     assert!(
         is_split(
             17,
@@ -106,10 +100,7 @@ fn lists_that_split() {
 
 #[test]
 fn other_blocks() {
-    let mut table = [Factor::<u32> {
-        value: 0,
-        quotient: 0,
-    }; 8];
+    let mut table = [Factor::<u32>::ZERO; 8];
     assert!(
         is_split(
             17,
@@ -137,10 +128,7 @@ fn other_blocks() {
 
 #[test]
 fn composite_and_even_moduli() {
-    let mut table = [Factor::<u64> {
-        value: 0,
-        quotient: 0,
-    }; 2];
+    let mut table = [Factor::<u64>::ZERO; 2];
     assert!(
         is_split(
             85,
@@ -154,10 +142,7 @@ fn composite_and_even_moduli() {
     );
     assert!(is_split(85, 13, &mut table, 1, 1, &mut [339, 338], &[58, 25]));
     assert!(is_split(1, 0, &mut table, 0, 1, &mut [3, 2, 1, 0], &[0, 0, 0, 0]));
-    let mut table = [Factor::<u64> {
-        value: 0,
-        quotient: 0,
-    }; 1];
+    let mut table = [Factor::<u64>::ZERO; 1];
     assert!(is_split(20, 19, &mut table, 0, 1, &mut [79, 78], &[17, 1]));
     assert!(
         is_split(
@@ -170,19 +155,13 @@ fn composite_and_even_moduli() {
             &[5, 7, 9, 17, 17, 17]
         )
     );
-    let mut table = [Factor::<u16> {
-        value: 0,
-        quotient: 0,
-    }; 1];
+    let mut table = [Factor::<u16>::ZERO; 1];
     assert!(is_split(16384, 16383, &mut table, 0, 1, &mut [65535, 1], &[0, 16382]));
 }
 
 #[test]
 fn known_primes() {
-    let mut table = [Factor::<u32> {
-        value: 0,
-        quotient: 0,
-    }; 2];
+    let mut table = [Factor::<u32>::ZERO; 2];
     assert!(
         is_split(
             3329,
@@ -223,10 +202,7 @@ const GREATEST: u64 = 4611686018427387817;
 
 #[test]
 fn greatest_words() {
-    let mut table = [Factor::<u64> {
-        value: 0,
-        quotient: 0,
-    }; 4];
+    let mut table = [Factor::<u64>::ZERO; 4];
     let root = 967200838763692757;
     let mut xs = [4 * GREATEST - 1, 1, 2, 3, 4 * GREATEST - 2, 5, 6, 7];
     let want = [

@@ -1,6 +1,6 @@
 //! Products known from elsewhere, and slices without room.
 
-use crate::big_product::{product, transform_length};
+use num_modular::applications::big_product::{product, transform_length};
 
 // Two factors and their product, computed with another program: 20! and 40!/20!, 50! and 100!/50!,
 // and 2^48 - 1 twice.

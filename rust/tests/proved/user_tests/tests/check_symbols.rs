@@ -1,19 +1,36 @@
 //! Real numbers with check symbols: every change of one symbol, exchanges of neighbours, and erased
 //! symbols.
 
-use crate::ring_codes::{Code, EAN_13, ISBN_10, accepts_iban, has_iban_form, iban_code, iban_digits};
+use num_modular::applications::ring_codes::{
+    Code, EAN_8, EAN_13, ISBN_10, ISBN_13, ISSN, UPC_A, accepts_iban, has_iban_form, iban_code, iban_digits,
+    standard_codes,
+};
 
-// 0-306-40615-2 and 0-8044-2957-X (ISO 2108).
-const BOOKS: [[u64; 10]; 2] = [
-    [0, 3, 0, 6, 4, 0, 6, 1, 5, 2],
-    [0, 8, 0, 4, 4, 2, 9, 5, 7, 10],
-];
+// The symbols of a text: X is 10, and a hyphen is left out. There are 13 at most.
+#[derive(Clone, Copy)]
+struct Symbols {
+    list: [u64; 13],
+    count: usize,
+}
 
-// 978-0-306-40615-7, and the article number 4 006381 333931.
-const ARTICLES: [[u64; 13]; 2] = [
-    [9, 7, 8, 0, 3, 0, 6, 4, 0, 6, 1, 5, 7],
-    [4, 0, 0, 6, 3, 8, 1, 3, 3, 3, 9, 3, 1],
-];
+fn read(text: &[u8]) -> Symbols {
+    let mut list = [0; 13];
+    let mut count = 0;
+    for c in text {
+        if *c != b'-' && count < 13 {
+            list[count] = if *c == b'X' { 10 } else { (*c as u64).abs_diff(48) };
+            count += 1;
+        }
+    }
+    let count = count.min(13);
+    Symbols { list, count }
+}
+
+fn accepts(code: Code<'_>, text: &[u8]) -> bool {
+    let symbols = read(text);
+    let list = symbols.list;
+    code.accepts(&list[..symbols.count])
+}
 
 // GB82 WEST 1234 5698 7654 32 as ISO 13616 reads it: W, E, S and T are 32, 14, 28 and 29, then the
 // digits, G and B, which are 16 and 11, and 82.
@@ -21,45 +38,43 @@ const ACCOUNT: [u64; 28] = [
     3, 2, 1, 4, 2, 8, 2, 9, 1, 2, 3, 4, 5, 6, 9, 8, 7, 6, 5, 4, 3, 2, 1, 6, 1, 1, 8, 2,
 ];
 
-// Whether the word is accepted, and no word with one other symbol below `symbols`.
-fn refuses_changes(code: Code<'_>, word: &mut [u64], symbols: u64) -> bool {
-    if word.len() > code.weights.len() || !code.accepts(word) {
+// Whether the word is accepted, no word with one other symbol of 0 to 10 is, and the same is told of it;
+// and whether each symbol is restored.
+fn keeps(code: Code<'_>, word: &mut [u64]) -> bool {
+    if word.len() != code.weights.len() {
         return false;
     }
     for place in 0..word.len() {
         let symbol = word[place];
-        for other in 0..symbols {
+        for other in 0..11 {
+            if !code.accepts(word) || code.finds_change(word, place, other) != (other != symbol) {
+                return false;
+            }
             word[place] = other;
             if code.accepts(word) != (other == symbol) {
                 return false;
             }
+            if !code.can_restore(code.weights[place]) || code.restore(word, place) != Some(symbol) {
+                return false;
+            }
+            word[place] = symbol;
         }
-        word[place] = symbol;
     }
     true
 }
 
-// Whether the same is told of the accepted word, and each symbol is restored.
-fn tells_changes(code: Code<'_>, word: &[u64], symbols: u64) -> bool {
-    if word.len() > code.weights.len() || !code.accepts(word) {
-        return false;
-    }
-    for (place, symbol) in word.iter().enumerate() {
-        if !code.can_restore(code.weights[place]) || code.restore(word, place) != *symbol {
-            return false;
-        }
-        for other in 0..symbols {
-            if code.finds_change(word, place, other) != (other != *symbol) {
-                return false;
-            }
-        }
-    }
-    true
+fn keeps_text(code: Code<'_>, text: &[u8]) -> bool {
+    let symbols = read(text);
+    let mut list = symbols.list;
+    keeps(code, &mut list[..symbols.count])
 }
 
 // Whether the word is accepted, and the exchange of the symbols at `place` and behind it is found.
-fn finds_one_exchange(code: Code<'_>, word: &[u64], place: usize) -> Option<bool> {
-    if word.len() > code.weights.len() || word.len() < 2 || place > word.len() - 2 {
+fn finds_one_exchange(code: Code<'_>, text: &[u8], place: usize) -> Option<bool> {
+    let symbols = read(text);
+    let list = symbols.list;
+    let word = &list[..symbols.count];
+    if word.len() < 2 || place > word.len() - 2 {
         return None;
     }
     if code.accepts(word) {
@@ -70,31 +85,44 @@ fn finds_one_exchange(code: Code<'_>, word: &[u64], place: usize) -> Option<bool
 }
 
 #[test]
-fn every_change_of_one_symbol_is_refused() {
-    for word in BOOKS {
-        let mut word = word;
-        assert!(refuses_changes(ISBN_10, &mut word, 11));
-        assert!(tells_changes(ISBN_10, &word, 11));
-    }
-    for word in ARTICLES {
-        let mut word = word;
-        assert!(refuses_changes(EAN_13, &mut word, 10));
-        assert!(tells_changes(EAN_13, &word, 10));
-    }
+fn numbers_of_each_standard() {
+    assert!(keeps_text(ISBN_10, b"0306406152"));
+    assert!(keeps_text(ISBN_10, b"080442957X"));
+    assert!(keeps_text(ISBN_13, b"9780306406157"));
+    assert!(keeps_text(EAN_13, b"4006381333931"));
+    assert!(keeps_text(EAN_8, b"73513537"));
+    assert!(keeps_text(UPC_A, b"036000291452"));
+    assert!(keeps_text(ISSN, b"0378-5955"));
+    assert!(keeps_text(ISSN, b"2434-561X"));
     let mut word = ACCOUNT;
-    assert!(refuses_changes(iban_code(28), &mut word, 10));
-    assert!(tells_changes(iban_code(28), &word, 10));
+    assert!(keeps(iban_code(28), &mut word));
+}
+
+#[test]
+fn words_of_another_form() {
+    for code in standard_codes() {
+        assert!(!code.accepts(&[]) && !code.accepts(&[0]));
+    }
+    // each of these leaves 0 modulo 11: 11 for 0, 14 for 3, and an X before the last place
+    assert!(!ISBN_10.accepts(&[11, 3, 0, 6, 4, 0, 6, 1, 5, 2]));
+    assert!(!ISBN_10.accepts(&[0, 14, 0, 6, 4, 0, 6, 1, 5, 2]));
+    assert!(!accepts(ISBN_10, b"X000000050") && !accepts(ISBN_10, b"X00000000X"));
+    assert!(!accepts(ISSN, b"000X-0005"));
+    // a book's number is an article's, and not each article's is a book's
+    assert!(accepts(EAN_13, b"9780306406157") && !accepts(ISBN_13, b"4006381333931"));
 }
 
 #[test]
 fn exchanges_of_neighbours() {
     // 0 and 3 of a book; 3 and 8 of an article, which differ by 5, and 8 and 1
-    assert_eq!(finds_one_exchange(ISBN_10, &BOOKS[0], 0), Some(true));
-    assert_eq!(finds_one_exchange(EAN_13, &ARTICLES[1], 4), Some(false));
-    assert_eq!(finds_one_exchange(EAN_13, &ARTICLES[1], 5), Some(true));
-    assert_eq!(finds_one_exchange(iban_code(28), &ACCOUNT, 26), Some(true));
-    assert!(EAN_13.accepts(&[4, 0, 0, 6, 8, 3, 1, 3, 3, 3, 9, 3, 1]));
-    assert!(!EAN_13.can_restore(5));
+    assert_eq!(finds_one_exchange(ISBN_10, b"0306406152", 0), Some(true));
+    assert_eq!(finds_one_exchange(EAN_13, b"4006381333931", 4), Some(false));
+    assert_eq!(finds_one_exchange(EAN_13, b"4006381333931", 5), Some(true));
+    assert_eq!(finds_one_exchange(ISBN_13, b"9780306406157", 2), Some(true));
+    assert!(accepts(EAN_13, b"4006831333931") && !EAN_13.can_restore(5));
+    if iban_code(28).accepts(&ACCOUNT) {
+        assert!(iban_code(28).finds_exchange(&ACCOUNT, 26));
+    }
 }
 
 // Whether the text is an IBAN, and none of the same with one digit or letter changed for another.
@@ -135,6 +163,18 @@ fn published_ibans() {
     assert!(!accepts_iban(b"DE88370400440532013000"));
     assert!(!accepts_iban(b"FR1420041010050500013N02606"));
     assert!(!accepts_iban(b"NL91ABNB0417164300"));
+}
+
+#[test]
+fn check_digits_of_an_iban() {
+    // the least and the greatest check digits, and one more that is generated
+    assert!(accepts_iban(b"GB02WEST12345600000017"));
+    assert!(accepts_iban(b"GB97WEST12345600000053"));
+    assert!(accepts_iban(b"GB98WEST12345600000035"));
+    // the same accounts with check digits that leave 1 modulo 97 and aren't generated
+    assert!(!accepts_iban(b"GB99WEST12345600000017"));
+    assert!(!accepts_iban(b"GB00WEST12345600000053"));
+    assert!(!accepts_iban(b"GB01WEST12345600000035"));
 }
 
 #[test]

@@ -1,6 +1,6 @@
 //! Hashes and searches, with values from outside.
 
-use crate::mersenne_hash::{Hash, base, find, hash, moved};
+use num_modular::applications::mersenne_hash::{Hash, base, find, hash, moved, same_hashes};
 use num_modular::ModularInteger;
 
 // A text, a pattern, and the first position where it stands.
@@ -55,4 +55,17 @@ fn hashes() {
     assert_eq!(window.residue(), 2019167997446549444);
     let moved = moved(base, base.pow(&11), window, b'a', b'a');
     assert_eq!(moved.residue(), 2038550280337484571);
+}
+
+#[test]
+fn hashes_that_collide() {
+    // X^2 + 2 and 3X have the same values at 1 and 2, the roots of X^2 - 3X + 2, and at no third base
+    let first = [1, 0, 2];
+    let second = [0, 3, 0];
+    assert!(same_hashes(&[1, 2], &first, &second));
+    assert!(!same_hashes(&[0, 1, 2], &first, &second));
+    assert!(!same_hashes(&[1, 2, 2305843009213693950], &first, &second));
+    // 2^61 is the base 1 once more
+    assert!(same_hashes(&[1, 2, 2305843009213693952], &first, &second));
+    assert!(same_hashes(&[0, 1, 2], &first, &first));
 }

@@ -1,7 +1,7 @@
 //! Transforms, inverses and products of the lattice rings, computed with another program, written from
 //! the standards' algorithms, and the tables of their appendices.
 
-use crate::lattice_rings::{ml_dsa, ml_kem};
+use num_modular::applications::lattice_rings::{ml_dsa, ml_kem};
 
 // A list of residues of q.
 fn listed(seed: u32, q: u32) -> [u32; 256] {

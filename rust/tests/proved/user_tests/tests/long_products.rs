@@ -1,12 +1,9 @@
 //! Products of digits of 64 bits, by rows and by transforms, and slices without room.
 
-use crate::long_product::{fill_plans, product, product_planned, room};
+use num_modular::applications::long_product::{fill_plans, product, product_planned, room};
 use num_modular::plans::Factor;
 
-const NONE: Factor<u64> = Factor {
-    value: 0,
-    quotient: 0,
-};
+const NONE: Factor<u64> = Factor::<u64>::ZERO;
 
 // The steps of a linear congruential generator, which another program can take too.
 fn fill_digits(seed: u64, digits: &mut [u64]) {

@@ -1,7 +1,7 @@
 //! Numbers by their residues, with values from outside.
 
 use num_modular::ring::{RingCommand, commands_fit};
-use crate::residue_numbers::{ResidueSystem, are_reduced, decode, encode, is_system};
+use num_modular::applications::residue_numbers::{ResidueSystem, are_reduced, decode, encode, is_system};
 
 // Whether the moduli are a system in which the number has these residues, and is decoded from them.
 fn there_and_back(moduli: &[u64], number: u128, residues: &[u64]) -> bool {
@@ -47,7 +47,7 @@ fn numbers() {
 // Whether the moduli are admitted, as is said, by a system that keeps them.
 fn admitted(moduli: &[u64], answer: bool) -> bool {
     match ResidueSystem::new(moduli) {
-        Some(system) => answer && system.moduli == moduli,
+        Some(system) => answer && system.moduli() == moduli,
         None => !answer,
     }
 }
@@ -66,7 +66,7 @@ fn small_systems() {
 // The residues of a number, with zeros behind them.
 fn encoded(system: ResidueSystem<'_>, number: u128) -> [u64; 8] {
     let mut residues = [0u64; 8];
-    let count = system.moduli.len();
+    let count = system.moduli().len();
     system.encode(number, &mut residues[..count]);
     residues
 }
@@ -76,7 +76,7 @@ fn computes(moduli: &[u64], x: u128, y: u128, results: [u128; 3]) -> bool {
     let system = match ResidueSystem::new(moduli) { Some(it) => it, None => {
         return false;
     } };
-    let count = system.moduli.len();
+    let count = system.moduli().len();
     let (left, right) = (encoded(system, x), encoded(system, y));
     let (mut sums, mut differences, mut products) = ([0u64; 8], [0u64; 8], [0u64; 8]);
     system.add(&left[..count], &right[..count], &mut sums[..count]);
@@ -137,7 +137,7 @@ fn runs(
     let system = match ResidueSystem::new(moduli) { Some(it) => it, None => {
         return false;
     } };
-    let (places, count) = (numbers.len(), system.moduli.len());
+    let (places, count) = (numbers.len(), system.moduli().len());
     let (mut registers, mut found) = ([0u64; 3], [0u64; 8]);
     if places < 2 || places > 3 || !commands_fit(commands, places) {
         return false;

@@ -42,7 +42,7 @@ fn wider_words_and_copies() {
     let copy = divider;
     let found = (
         copy == divider,
-        divider == Normalized2by1Divisor::new(131),
+        divider == Normalized2by1Divisor::of(131),
         format!(in rt.alloc(); "{divider:?}").is_ok(),
     );
     assert!(found == (true, false, true));

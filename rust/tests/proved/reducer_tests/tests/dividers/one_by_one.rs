@@ -33,7 +33,7 @@ fn wider_words_and_copies() {
     let copy = divider;
     let found = (
         copy == divider,
-        divider == PreMulInv1by1::new(5),
+        divider == PreMulInv1by1::of(5),
         format!(in rt.alloc(); "{divider:?}").is_ok(),
     );
     assert!(found == (true, false, true));

@@ -69,6 +69,29 @@ fn edge_parameters() {
 }
 
 #[test]
+fn factors_of_more_than_half_the_bits() {
+    let found = (
+        edges(
+            &FixedTrinomialSolinas32::<32, 20, 1>::new(&4293918721),
+            4293918720,
+            u32::MAX,
+        ),
+        edges(
+            &FixedTrinomialSolinas64::<64, 40, 1>::new(&18446742974197923841),
+            18446742974197923840,
+            u64::MAX,
+        ),
+    );
+    assert!(
+        found
+            == (
+                [0, 1, 4293918720, 0, 1048574, 1],
+                [0, 1, 18446742974197923840, 0, 1099511627774, 1]
+            )
+    );
+}
+
+#[test]
 fn each_operation() {
     let small = FixedTrinomialSolinas32::<4, 2, 1>::new(&13);
     assert!(residues(&small, 3, 5) == [8, 11, 2, 6, 10, 9]);

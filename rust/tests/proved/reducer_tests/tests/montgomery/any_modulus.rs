@@ -103,7 +103,7 @@ fn sums_of_zero() {
 fn assert_products<T: PlainWord>(rt: &impl Abort, rows: &[(T, T, T, T)]) {
     for &(m, x, y, want) in rows {
         assert!(!m.is_zero_word());
-        assert!(product(&Montgomery::<T>::new(m), x, y) == want);
+        assert!(product(&Montgomery::<T>::of(m), x, y) == want);
     }
 }
 

@@ -15,7 +15,7 @@ fn is_restored<T: PlainWord>(m: T, negated_inverse: T, square: T) -> bool {
 
 // Whether these are the numbers of m, and the reducer of m is restored by them.
 fn are_computed<T: PlainWord>(m: T, negated_inverse: T, square: T) -> bool {
-    let computed = Montgomery::<T>::new(m).computed_once();
+    let computed = Montgomery::<T>::of(m).computed_once();
     computed.0 == negated_inverse && computed.1 == square && is_restored(m, negated_inverse, square)
 }
 

@@ -30,7 +30,7 @@ fn rows() {
     assert!(copy == ring);
     // the same divisor, of another modulus
     let found = (
-        ring == PreMulInv2by1::new(42),
+        ring == PreMulInv2by1::of(42),
         format!(in rt.alloc(); "{ring:?}").is_ok(),
     );
     assert!(found == (false, true));

@@ -6,11 +6,12 @@
 mod commands;
 mod system;
 
-use num_modular::laws::{divisor_laws, inverse_laws, residue_laws};
-use num_modular::{ModularInteger, VanillaInt};
+use crate::laws::{divisor_laws, inverse_laws, residue_laws};
+use crate::{ModularInteger, VanillaInt};
 pub use system::ResidueSystem;
 
 // Whether n has an inverse modulo m.
+#[inline]
 fn has_inverse(n: u128, m: u64) -> bool {
     inverse_laws();
     VanillaInt::<u64>::new((n % m as u128) as u64, &m)
@@ -19,6 +20,7 @@ fn has_inverse(n: u128, m: u64) -> bool {
 }
 
 // The product with one more modulus; `None` exactly where it is no word.
+#[inline]
 fn next_range(range: u128, m: u64) -> Option<u128> {
     range.checked_mul(m as u128)
 }
@@ -51,15 +53,27 @@ fn next_digit(m: u64, residue: u64, number: u128, range: u128) -> u64 {
     ((known.convert(residue) - known) / weight).residue()
 }
 
-/// The residues of a number. Conditions: each modulus is above 0, and there is room for one residue
-/// a modulus.
+/// The residues of a number.
+///
+/// # Panics
+///
+/// Panics unless each modulus is above 0, and there is room for one residue a modulus.
+#[inline]
 pub fn encode(moduli: &[u64], number: u128, residues: &mut [u64]) {
+    assert!(moduli.iter().all(|m| *m > 0), "each modulus must be above 0");
+    assert!(residues.len() == moduli.len(), "there must be room for one residue a modulus");
     'moduli: for (place, modulus) in moduli.iter().enumerate() {
         residues[place] = (number % *modulus as u128) as u64;
     }
 }
 
-/// Whether each residue is below its modulus. Condition: each modulus has a residue.
+/// Whether each residue is below its modulus.
+///
+/// # Preconditions
+///
+/// Each modulus has a residue. This isn't tested: outside it the call panics, or returns no meaningful
+/// result.
+#[inline]
 pub fn are_reduced(moduli: &[u64], residues: &[u64]) -> bool {
     'moduli: for (place, modulus) in moduli.iter().enumerate() {
         if residues[place] >= *modulus {
@@ -69,12 +83,19 @@ pub fn are_reduced(moduli: &[u64], residues: &[u64]) -> bool {
     true
 }
 
-/// The number below the product of the moduli that has these residues: there is no other. Conditions:
-/// the moduli are a system (`is_system` tells), and each has a residue below it (`are_reduced` tells).
+/// The number below the product of the moduli that has these residues: there is no other.
 ///
 /// Source: Garner, "The residue number system"; Knuth, The Art of Computer Programming, volume 2,
 /// section 4.3.2, (24) and (25).
+///
+/// # Panics
+///
+/// A debug build panics unless the moduli are a system (`is_system` tells), and each has a residue
+/// below it (`are_reduced` tells). A release build doesn't test that, and outside it panics, or returns
+/// no meaningful result.
 pub fn decode(moduli: &[u64], residues: &[u64]) -> u128 {
+    debug_assert!(is_system(moduli), "the moduli must be a system");
+    debug_assert!(are_reduced(moduli, residues), "each must have a residue below it");
     divisor_laws();
     inverse_laws();
     let mut number: u128 = 0;

@@ -1,11 +1,12 @@
 //! Lists of ring commands, run modulo each modulus of a system.
 
-use crate::residue_numbers::ResidueSystem;
-use num_modular::laws::{inverse_laws, remainder_laws, residue_laws, stop_laws};
-use num_modular::ring::{RingCommand, RunEnd, run};
-use num_modular::{Reducer, Vanilla};
+use crate::applications::residue_numbers::ResidueSystem;
+use crate::laws::{inverse_laws, remainder_laws, residue_laws, stop_laws};
+use crate::ring::{RingCommand, RunEnd, run};
+use crate::{Reducer, Vanilla};
 
 // Writes the residues of the numbers modulo m.
+#[inline]
 fn load(m: u64, numbers: &[u64], registers: &mut [u64]) {
     'places: for (place, number) in numbers.iter().enumerate() {
         registers[place] = *number % m;
@@ -14,6 +15,7 @@ fn load(m: u64, numbers: &[u64], registers: &mut [u64]) {
 
 // The residue that the commands leave in a register modulo m, where the registers start with the
 // residues of the numbers; `None` exactly where a command finds no inverse.
+#[inline]
 fn residue_by_run(
     m: u64,
     commands: &[RingCommand<u64>],
@@ -36,9 +38,11 @@ impl<'a> ResidueSystem<'a> {
     /// exactly where each inverse that they need exists modulo the product; where it is false, some
     /// of the residues may be unwritten. What the registers hold before doesn't matter.
     ///
-    /// Conditions: each register number is below the count of the numbers (`commands_fit` tells),
-    /// that of the wanted register too; there is room for as many registers as numbers, and for one
-    /// residue a modulus.
+    /// # Preconditions
+    ///
+    /// Each register number is below the count of the numbers (`commands_fit` tells), that of the wanted
+    /// register too, and there is room for as many registers as numbers, and for one residue a modulus.
+    /// This isn't tested: outside it the call panics, or returns no meaningful result.
     pub fn run(
         &self,
         commands: &[RingCommand<u64>],

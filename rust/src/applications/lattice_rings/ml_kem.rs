@@ -1,7 +1,7 @@
 //! The ring of FIPS 203 (ML-KEM): polynomials modulo X^256 + 1 over the residues of q = 3329.
 
-use num_modular::laws::transform_laws;
-use num_modular::plans::{Factor, PlannedModulus, join_scaled, plan, split};
+use crate::laws::transform_laws;
+use crate::plans::{Factor, PlannedModulus, join_scaled, plan, split};
 
 /// The modulus q.
 pub const MODULUS: u32 = 3329;
@@ -18,6 +18,7 @@ const PART: u32 = 3303;
 /// It is the plan by zeta itself, which suits 256 entries: below its block 1, modulo X^256 + 1, the
 /// constants are the odd powers zeta^(2·BitRev7(i) + 1), in the standard's order. There is no root of
 /// one of order 512 modulo q, so the transform stops at remainders of two coefficients.
+#[must_use]
 pub struct Ring {
     modulus: PlannedModulus<u32>,
     part: Factor<u32>,
@@ -25,6 +26,7 @@ pub struct Ring {
 }
 
 /// Whether each coefficient is a residue, below q.
+#[inline]
 pub fn are_residues(w: &[u32; 256]) -> bool {
     w.iter().all(|x| *x < MODULUS)
 }
@@ -41,6 +43,7 @@ fn multiply_remainders(x: (u32, u32), y: (u32, u32), c: u32) -> (u32, u32) {
 
 impl Ring {
     /// The ring, its table made.
+    #[inline]
     pub fn new() -> Self {
         let modulus = PlannedModulus::new(MODULUS);
         let part = modulus.factor(PART);
@@ -54,27 +57,42 @@ impl Ring {
     }
 
     /// NTT(w) in place: the places 2i and 2i + 1 become the remainder of w modulo
-    /// X^2 - zeta^(2·BitRev7(i) + 1), the constant first. Condition: the coefficients are residues
-    /// (`are_residues` tells), as those of the remainders are.
+    /// X^2 - zeta^(2·BitRev7(i) + 1), the constant first.
     ///
     /// Source: FIPS 203, section 4.3, algorithm 9.
+    ///
+    /// # Preconditions
+    ///
+    /// The coefficients are residues (`are_residues` tells), as those of the remainders are. This isn't
+    /// tested: outside it the call panics, or returns no meaningful result.
+    #[inline]
     pub fn ntt(&self, w: &mut [u32; 256]) {
         split(&self.modulus, w, &self.table, 1, 2);
     }
 
-    /// The inverse of `ntt` in place: the one polynomial whose NTT the list is. Condition: the entries are
-    /// residues, as the coefficients are.
+    /// The inverse of `ntt` in place: the one polynomial whose NTT the list is.
     ///
     /// Source: FIPS 203, section 4.3, algorithm 10.
+    ///
+    /// # Preconditions
+    ///
+    /// The entries are residues, as the coefficients are. This isn't tested: outside it the call panics, or
+    /// returns no meaningful result.
+    #[inline]
     pub fn inverse(&self, w: &mut [u32; 256]) {
         transform_laws();
         join_scaled(&self.modulus, w, &self.table, 1, 2, &self.part);
     }
 
-    /// The product of xs and ys modulo X^256 + 1 and q in xs, and NTT(ys) in ys. Condition: the
-    /// coefficients are residues, as those of the product are.
+    /// The product of xs and ys modulo X^256 + 1 and q in xs, and NTT(ys) in ys.
     ///
     /// Source: FIPS 203, section 4.3, algorithms 11 and 12: the products of the remainders are joined.
+    ///
+    /// # Preconditions
+    ///
+    /// The coefficients are residues, as those of the product are. This isn't tested: outside it the call
+    /// panics, or returns no meaningful result.
+    #[inline]
     pub fn product(&self, xs: &mut [u32; 256], ys: &mut [u32; 256]) {
         self.ntt(xs);
         self.ntt(ys);
@@ -83,10 +101,14 @@ impl Ring {
     }
 
     /// The product of two transforms in xs, remainder by remainder: that of two polynomials' transforms
-    /// is the transform of their product. Condition: the entries are residues, as those of the product
-    /// are.
+    /// is the transform of their product.
     ///
     /// Source: FIPS 203, section 4.3, algorithms 11 and 12.
+    ///
+    /// # Preconditions
+    ///
+    /// The entries are residues, as those of the product are. This isn't tested: outside it the call
+    /// panics, or returns no meaningful result.
     pub fn multiply(&self, xs: &mut [u32; 256], ys: &[u32; 256]) {
         'remainders: for i in 0..128 {
             let (x, y) = ((xs[2 * i], xs[2 * i + 1]), (ys[2 * i], ys[2 * i + 1]));
@@ -98,6 +120,7 @@ impl Ring {
 
     // What X^2 leaves in remainder i, zeta^(2·BitRev7(i) + 1), at most q: an entry of the table, or minus
     // one.
+    #[inline]
     fn square(&self, i: usize) -> u32 {
         let power = self.table[64 + i / 2].value;
         if i % 2 == 0 { power } else { MODULUS - power }

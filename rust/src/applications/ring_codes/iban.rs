@@ -3,7 +3,11 @@
 //! The symbols of their code are digits: what is said of the change of one symbol is said of one digit,
 //! and the change of a letter is that of its two digits.
 
-use crate::ring_codes::Code;
+use crate::applications::ring_codes::Code;
+
+const LEAST: [u64; 68] = [0; 68];
+
+const GREATEST: [u64; 68] = [9; 68];
 
 // The powers of ten from 10^67 down, modulo 97: a text of 34 characters has 68 digits at most.
 const POWERS: [u64; 68] = [
@@ -12,28 +16,40 @@ const POWERS: [u64; 68] = [
     17, 89, 38, 62, 45, 53, 15, 50, 5, 49, 34, 81, 76, 27, 90, 9, 30, 3, 10, 1,
 ];
 
-/// The code of the IBANs of so many digits: modulo 97, the weights are the powers of ten, and a word
-/// leaves 1 (ISO/IEC 7064, MOD 97-10). Condition: there are 68 digits at most.
+/// The code of the IBANs of so many digits: modulo 97, the weights are the powers of ten, and a word of
+/// digits leaves 1 (ISO/IEC 7064, MOD 97-10).
+///
+/// # Panics
+///
+/// Panics unless there are 68 digits at most.
 pub fn iban_code(count: usize) -> Code<'static> {
+    assert!(count <= 68, "there must be 68 digits at most");
     let powers: &'static [u64] = &POWERS;
+    let least: &'static [u64] = &LEAST;
+    let greatest: &'static [u64] = &GREATEST;
     Code {
         modulus: 97,
-        weights: &powers[powers.len() - count..],
         residue: 1,
+        weights: &powers[powers.len() - count..],
+        least: &least[..count],
+        greatest: &greatest[..count],
     }
 }
 
 // Whether a character is one of 0 to 9.
+#[inline]
 fn is_digit(c: u8) -> bool {
     c >= b'0' && c <= b'9'
 }
 
 // Whether a character is one of A to Z.
+#[inline]
 fn is_letter(c: u8) -> bool {
     c >= b'A' && c <= b'Z'
 }
 
 // Whether each character is one of 0 to 9 or of A to Z.
+#[inline]
 fn all_characters(text: &[u8]) -> bool {
     text.iter().all(|c| is_digit(*c) || is_letter(*c))
 }
@@ -62,6 +78,7 @@ fn write_character(c: u8, digits: &mut [u64], end: usize) -> usize {
 }
 
 // The same for each character of a text.
+#[inline]
 fn write_text(text: &[u8], digits: &mut [u64], start: usize) -> usize {
     let mut end = start;
     'characters: for c in text {
@@ -72,22 +89,38 @@ fn write_text(text: &[u8], digits: &mut [u64], start: usize) -> usize {
 
 /// Writes the digits that an IBAN is read as, and says how many there are: its first four characters
 /// go to the end, and a letter is two digits, those of its number from A, which is 10, to Z, which is
-/// 35. Conditions: the text has the form of an IBAN (`has_iban_form` tells), and there is room for
-/// 68 digits.
+/// 35.
+///
+/// # Preconditions
+///
+/// The text has the form of an IBAN (`has_iban_form` tells), and there is room for 68 digits. This
+/// isn't tested: outside it the call panics, or returns no meaningful result.
+#[inline]
 pub fn iban_digits(text: &[u8], digits: &mut [u64]) -> usize {
     let end = write_text(&text[4..], digits, 0);
     write_text(&text[..4], digits, end)
 }
 
-/// Whether the text is an IBAN: exactly where it has the form of one, and the number that its digits
-/// write in decimal leaves 1 modulo 97. How long the IBANs of its country are isn't looked at.
+// The number that the check digits write.
+#[inline]
+fn check_number(text: &[u8]) -> u8 {
+    10 * (text[2] - b'0') + (text[3] - b'0')
+}
+
+/// Whether the text is an IBAN: exactly where it has the form of one, its check digits are 02 to 98, and
+/// the number that its digits write in decimal leaves 1 modulo 97. How long the IBANs of its country are
+/// isn't looked at.
 ///
-/// Where it has the form, it is one exactly where its digits are a word of `iban_code`, whose call
-/// `finds_change` tells that a change of one digit is found: always, where the weight of its place
-/// has an inverse modulo 97. The change of a letter for another is one of the two digits that it is
-/// read as, or of both; `finds_change` speaks of one.
+/// Where it has the form and such check digits, it is one exactly where its digits are a word of
+/// `iban_code`, of which `standard_finds` says that every change of one digit and every exchange of two
+/// neighbouring digits that differ is found. The change of a letter for another is one of the two
+/// digits that it is read as, or of both; the clauses speak of one.
 pub fn accepts_iban(text: &[u8]) -> bool {
     if !has_iban_form(text) {
+        return false;
+    }
+    let check = check_number(text);
+    if check < 2 || check > 98 {
         return false;
     }
     let mut digits = [0; 68];

@@ -1,8 +1,8 @@
 //! Residue number systems of eight moduli at most.
 
-use crate::residue_numbers::{decode, encode, is_system};
-use num_modular::ModularCoreOps;
-use num_modular::laws::residue_laws;
+use crate::applications::residue_numbers::{decode, encode, is_system};
+use crate::ModularCoreOps;
+use crate::laws::residue_laws;
 
 /// A residue number system: up to eight moduli above 0, of which no two have a common divisor but 1,
 /// and whose product, the range, is below 2^128.
@@ -10,9 +10,10 @@ use num_modular::laws::residue_laws;
 /// Source: Garner, "The residue number system"; Knuth, The Art of Computer Programming, volume 2,
 /// section 4.3.2.
 #[derive(Clone, Copy)]
+#[must_use]
 pub struct ResidueSystem<'a> {
     /// The moduli.
-    pub moduli: &'a [u64],
+    pub(crate) moduli: &'a [u64],
 }
 
 // What is done at each modulus with the two residues there.
@@ -24,6 +25,7 @@ enum Operation {
 }
 
 // The result modulo m. There is no division for a sum or a difference of residues below m.
+#[inline]
 fn result_at(operation: Operation, m: u64, left: u64, right: u64) -> u64 {
     match operation {
         Operation::Sum => left.addm(right, &m),
@@ -35,6 +37,7 @@ fn result_at(operation: Operation, m: u64, left: u64, right: u64) -> u64 {
 impl<'a> ResidueSystem<'a> {
     /// The system of these moduli; `None` exactly where a modulus is 0, two have a common divisor
     /// above 1, the product is 2^128 or more, or there are more than eight.
+    #[inline]
     pub fn new(moduli: &'a [u64]) -> Option<Self> {
         if moduli.len() > 8 || !is_system(moduli) {
             return None;
@@ -42,20 +45,32 @@ impl<'a> ResidueSystem<'a> {
         Some(ResidueSystem { moduli })
     }
 
-    /// The residues of a number. Condition: there is room for one a modulus.
+    /// The residues of a number.
+    ///
+    /// # Preconditions
+    ///
+    /// There is room for one a modulus. This isn't tested: outside it the call panics, or returns no
+    /// meaningful result.
+    #[inline]
     pub fn encode(&self, number: u128, residues: &mut [u64]) {
         encode(self.moduli, number, residues);
     }
 
     /// The number below the product of the moduli that has these residues: there is no other. So
     /// `decode` takes the residues of a number below the product back to it (clause `only`), and
-    /// `encode` takes the number back to its residues (clause `number`). Condition: each modulus has
-    /// a residue below it (`are_reduced` tells).
+    /// `encode` takes the number back to its residues (clause `number`).
+    ///
+    /// # Preconditions
+    ///
+    /// Each modulus has a residue below it (`are_reduced` tells). This isn't tested: outside it the call
+    /// panics, or returns no meaningful result.
+    #[inline]
     pub fn decode(&self, residues: &[u64]) -> u128 {
         decode(self.moduli, residues)
     }
 
     // The results at each modulus.
+    #[inline]
     fn combine(&self, operation: Operation, left: &[u64], right: &[u64], results: &mut [u64]) {
         let moduli = self.moduli;
         'moduli: for (place, modulus) in moduli.iter().enumerate() {
@@ -64,23 +79,38 @@ impl<'a> ResidueSystem<'a> {
     }
 
     /// The sums of residues, each modulo its modulus: from those of x and of y the residues of x + y
-    /// modulo the product of the moduli. Conditions: each modulus has a left residue, a right one and
-    /// room for their sum.
+    /// modulo the product of the moduli.
+    ///
+    /// # Preconditions
+    ///
+    /// Each modulus has a left residue, a right one and room for their sum. This isn't tested: outside it
+    /// the call panics, or returns no meaningful result.
+    #[inline]
     pub fn add(&self, left: &[u64], right: &[u64], sums: &mut [u64]) {
         self.combine(Operation::Sum, left, right, sums);
     }
 
     /// The differences of residues, each modulo its modulus: from those of x and of y the residues of
-    /// x - y modulo the product of the moduli. Conditions: each modulus has a left residue, a right
-    /// one and room for their difference.
+    /// x - y modulo the product of the moduli.
+    ///
+    /// # Preconditions
+    ///
+    /// Each modulus has a left residue, a right one and room for their difference. This isn't tested:
+    /// outside it the call panics, or returns no meaningful result.
+    #[inline]
     pub fn sub(&self, left: &[u64], right: &[u64], differences: &mut [u64]) {
         residue_laws();
         self.combine(Operation::Difference, left, right, differences);
     }
 
     /// The products of residues, each modulo its modulus: from those of x and of y the residues of
-    /// x·y modulo the product of the moduli. Conditions: each modulus has a left residue, a right one
-    /// and room for their product.
+    /// x·y modulo the product of the moduli.
+    ///
+    /// # Preconditions
+    ///
+    /// Each modulus has a left residue, a right one and room for their product. This isn't tested: outside
+    /// it the call panics, or returns no meaningful result.
+    #[inline]
     pub fn mul(&self, left: &[u64], right: &[u64], products: &mut [u64]) {
         self.combine(Operation::Product, left, right, products);
     }

@@ -1,7 +1,7 @@
 //! The ring of FIPS 204 (ML-DSA): polynomials modulo X^256 + 1 over the residues of q = 8380417.
 
-use num_modular::laws::transform_laws;
-use num_modular::plans::{Factor, PlannedModulus, join_scaled, multiply, plan, split};
+use crate::laws::transform_laws;
+use crate::plans::{Factor, PlannedModulus, join_scaled, multiply, plan, split};
 
 /// The modulus q.
 pub const MODULUS: u32 = 8380417;
@@ -17,6 +17,7 @@ const PART: u32 = 8347681;
 ///
 /// It is the plan by zeta itself, which suits 512 entries: below its block 1, modulo X^256 + 1, the
 /// constants are the odd powers zeta^(2·BitRev8(i) + 1), in the standard's order.
+#[must_use]
 pub struct Ring {
     modulus: PlannedModulus<u32>,
     part: Factor<u32>,
@@ -24,12 +25,14 @@ pub struct Ring {
 }
 
 /// Whether each coefficient is a residue, below q.
+#[inline]
 pub fn are_residues(w: &[u32; 256]) -> bool {
     w.iter().all(|x| *x < MODULUS)
 }
 
 impl Ring {
     /// The ring, its table made.
+    #[inline]
     pub fn new() -> Self {
         let modulus = PlannedModulus::new(MODULUS);
         let part = modulus.factor(PART);
@@ -42,28 +45,43 @@ impl Ring {
         }
     }
 
-    /// NTT(w) in place: place i becomes the value w(zeta^(2·BitRev8(i) + 1)). Condition: the
-    /// coefficients are residues (`are_residues` tells), as the values are.
+    /// NTT(w) in place: place i becomes the value w(zeta^(2·BitRev8(i) + 1)).
     ///
     /// Source: FIPS 204, section 7.5, algorithm 41.
+    ///
+    /// # Preconditions
+    ///
+    /// The coefficients are residues (`are_residues` tells), as the values are. This isn't tested: outside
+    /// it the call panics, or returns no meaningful result.
+    #[inline]
     pub fn ntt(&self, w: &mut [u32; 256]) {
         split(&self.modulus, w, &self.table, 1, 1);
     }
 
-    /// The inverse of `ntt` in place: the one polynomial whose NTT the list is. Condition: the values are
-    /// residues, as the coefficients are.
+    /// The inverse of `ntt` in place: the one polynomial whose NTT the list is.
     ///
     /// Source: FIPS 204, section 7.5, algorithm 42.
+    ///
+    /// # Preconditions
+    ///
+    /// The values are residues, as the coefficients are. This isn't tested: outside it the call panics, or
+    /// returns no meaningful result.
+    #[inline]
     pub fn inverse(&self, w: &mut [u32; 256]) {
         transform_laws();
         join_scaled(&self.modulus, w, &self.table, 1, 1, &self.part);
     }
 
-    /// The product of xs and ys modulo X^256 + 1 and q in xs, and NTT(ys) in ys. Condition: the
-    /// coefficients are residues, as those of the product are.
+    /// The product of xs and ys modulo X^256 + 1 and q in xs, and NTT(ys) in ys.
     ///
     /// Source: FIPS 204, section 2.5: the product of NTT(xs) and NTT(ys), place by place, is transformed
     /// back.
+    ///
+    /// # Preconditions
+    ///
+    /// The coefficients are residues, as those of the product are. This isn't tested: outside it the call
+    /// panics, or returns no meaningful result.
+    #[inline]
     pub fn product(&self, xs: &mut [u32; 256], ys: &mut [u32; 256]) {
         self.ntt(xs);
         self.ntt(ys);
@@ -72,9 +90,15 @@ impl Ring {
     }
 
     /// The product of two transforms in xs, place by place: that of two polynomials' transforms is the
-    /// transform of their product. Condition: the entries are residues, as those of the product are.
+    /// transform of their product.
     ///
     /// Source: FIPS 204, section 7.6, algorithm 45.
+    ///
+    /// # Preconditions
+    ///
+    /// The entries are residues, as those of the product are. This isn't tested: outside it the call
+    /// panics, or returns no meaningful result.
+    #[inline]
     pub fn multiply(&self, xs: &mut [u32; 256], ys: &[u32; 256]) {
         multiply(&self.modulus, xs, ys, &self.table, 1, 1);
     }

@@ -1,0 +1,152 @@
+//! What a code accepts and finds, and how it restores an erased symbol.
+
+use crate::applications::ring_codes::Code;
+use crate::laws::{inverse_laws, residue_laws};
+use crate::{ModularInteger, VanillaInt};
+
+impl<'a> Code<'a> {
+    /// The weighted sum of the symbols, modulo the modulus.
+    ///
+    /// # Preconditions
+    ///
+    /// Each place has a weight. This isn't tested: outside it the call panics, or returns no meaningful
+    /// result.
+    pub fn check_sum(&self, word: &[u64]) -> VanillaInt<u64> {
+        let weights = self.weights;
+        let mut sum = VanillaInt::<u64>::new(0, &self.modulus);
+        'places: for (place, symbol) in word.iter().enumerate() {
+            let weight = sum.convert(weights[place]);
+            sum += weight * *symbol;
+        }
+        sum
+    }
+
+    /// Whether the symbol is one of those of the place.
+    ///
+    /// # Preconditions
+    ///
+    /// The code has the place. This isn't tested: outside it the call panics, or returns no meaningful
+    /// result.
+    #[inline]
+    pub fn fits(&self, place: usize, symbol: u64) -> bool {
+        let least = self.least;
+        let greatest = self.greatest;
+        least[place] <= symbol && symbol <= greatest[place]
+    }
+
+    // Whether the symbols at a place and behind it fit there exchanged.
+    #[inline]
+    fn fit_exchanged(&self, word: &[u64], place: usize) -> bool {
+        self.fits(place, word[place + 1]) && self.fits(place + 1, word[place])
+    }
+
+    // Whether the word has a symbol for each place, and each but that at `erased` fits there.
+    fn fits_but(&self, word: &[u64], erased: usize) -> bool {
+        if word.len() != self.weights.len() {
+            return false;
+        }
+        'places: for (place, symbol) in word.iter().enumerate() {
+            if place != erased && !self.fits(place, *symbol) {
+                return false;
+            }
+        }
+        true
+    }
+
+    /// Whether the word is accepted: exactly where it is one of the code.
+    #[inline]
+    pub fn accepts(&self, word: &[u64]) -> bool {
+        if !self.fits_but(word, word.len()) {
+            return false;
+        }
+        let sum = self.check_sum(word);
+        sum == sum.convert(self.residue)
+    }
+
+    /// Whether the code finds the change of one symbol of a word: the word with `symbol` at `place`
+    /// is refused.
+    ///
+    /// It is, exactly where the symbol isn't one of the place's, or the weight times the difference of
+    /// the symbols isn't 0 modulo m; so always where the weight has an inverse, and the symbols differ
+    /// modulo m.
+    ///
+    /// Source: Gallian, "The mathematics of identification numbers", theorem 1.
+    ///
+    /// # Preconditions
+    ///
+    /// The word is accepted, and it has the place. This isn't tested: outside it the call panics, or
+    /// returns no meaningful result.
+    pub fn finds_change(&self, word: &[u64], place: usize, symbol: u64) -> bool {
+        residue_laws();
+        let weights = self.weights;
+        let weight = VanillaInt::<u64>::new(weights[place], &self.modulus);
+        let difference = weight.convert(symbol) - word[place];
+        if !(weight * difference).is_zero() {
+            return true;
+        }
+        !self.fits(place, symbol)
+    }
+
+    /// Whether the code finds the exchange of two neighbours: the word with the symbols at `place`
+    /// and behind it exchanged is refused.
+    ///
+    /// It is, exactly where one of them isn't one of its new place's symbols, or the difference of the
+    /// weights times that of the symbols isn't 0 modulo m; so always where the difference of the weights
+    /// has an inverse, and the symbols differ modulo m.
+    ///
+    /// Source: Gallian, "The mathematics of identification numbers", theorem 2.
+    ///
+    /// # Preconditions
+    ///
+    /// The word is accepted, and it has both places. This isn't tested: outside it the call panics, or
+    /// returns no meaningful result.
+    pub fn finds_exchange(&self, word: &[u64], place: usize) -> bool {
+        residue_laws();
+        let weights = self.weights;
+        let weight = VanillaInt::<u64>::new(weights[place], &self.modulus) - weights[place + 1];
+        let difference = weight.convert(word[place + 1]) - word[place];
+        if !(weight * difference).is_zero() {
+            return true;
+        }
+        !self.fit_exchanged(word, place)
+    }
+
+    /// Whether an erased symbol of this weight can be restored: the weight has an inverse modulo m.
+    #[inline]
+    pub fn can_restore(&self, weight: u64) -> bool {
+        inverse_laws();
+        VanillaInt::<u64>::new(weight, &self.modulus)
+            .inv()
+            .is_some()
+    }
+
+    // The one number below m that, at the place, makes the weighted sum leave the residue.
+    fn solve(&self, word: &[u64], place: usize) -> u64 {
+        inverse_laws();
+        residue_laws();
+        let weights = self.weights;
+        let sum = self.check_sum(word) - self.residue;
+        let weight = sum.convert(weights[place]);
+        (sum.convert(word[place]) - sum / weight).residue()
+    }
+
+    /// The symbol below m that makes the word one of the code, in place of an erased one: there is no
+    /// other. `None` exactly where no symbol below m does. What stands at `place` doesn't matter.
+    ///
+    /// # Preconditions
+    ///
+    /// The word has the place, and the code a weight with an inverse modulo m there (`can_restore` tells).
+    /// This isn't tested: outside it the call panics, or returns no meaningful result.
+    #[inline]
+    pub fn restore(&self, word: &[u64], place: usize) -> Option<u64> {
+        if !self.fits_but(word, place) {
+            return None;
+        }
+        let symbol = self.solve(word, place);
+        if self.fits(place, symbol) {
+            Some(symbol)
+        } else {
+            None
+        }
+    }
+}

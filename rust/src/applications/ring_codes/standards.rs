@@ -1,0 +1,70 @@
+//! The codes of standards.
+
+use crate::applications::ring_codes::Code;
+
+/// ISBN-10; the symbol X, which may stand at the last place alone, is 10 (ISO 2108, first to third
+/// edition).
+pub const ISBN_10: Code<'static> = Code {
+    modulus: 11,
+    residue: 0,
+    weights: &[10, 9, 8, 7, 6, 5, 4, 3, 2, 1],
+    least: &[0; 10],
+    greatest: &[9, 9, 9, 9, 9, 9, 9, 9, 9, 10],
+};
+
+/// ISBN-13: an EAN-13 that begins with 978 or 979 (ISO 2108:2017).
+pub const ISBN_13: Code<'static> = Code {
+    modulus: 10,
+    residue: 0,
+    weights: &[1, 3, 1, 3, 1, 3, 1, 3, 1, 3, 1, 3, 1],
+    least: &[9, 7, 8, 0, 0, 0, 0, 0, 0, 0, 0, 0, 0],
+    greatest: &[9, 7, 9, 9, 9, 9, 9, 9, 9, 9, 9, 9, 9],
+};
+
+/// EAN-13, which is GTIN-13 (GS1 General Specifications, section 7.9.1).
+pub const EAN_13: Code<'static> = Code {
+    modulus: 10,
+    residue: 0,
+    weights: &[1, 3, 1, 3, 1, 3, 1, 3, 1, 3, 1, 3, 1],
+    least: &[0; 13],
+    greatest: &[9; 13],
+};
+
+/// EAN-8, which is GTIN-8 (GS1 General Specifications, section 7.9.1).
+pub const EAN_8: Code<'static> = Code {
+    modulus: 10,
+    residue: 0,
+    weights: &[3, 1, 3, 1, 3, 1, 3, 1],
+    least: &[0; 8],
+    greatest: &[9; 8],
+};
+
+/// UPC-A, which is GTIN-12 (GS1 General Specifications, section 7.9.1).
+pub const UPC_A: Code<'static> = Code {
+    modulus: 10,
+    residue: 0,
+    weights: &[3, 1, 3, 1, 3, 1, 3, 1, 3, 1, 3, 1],
+    least: &[0; 12],
+    greatest: &[9; 12],
+};
+
+/// ISSN, without its hyphen; the symbol X, which may stand at the last place alone, is 10 (ISO 3297).
+pub const ISSN: Code<'static> = Code {
+    modulus: 11,
+    residue: 0,
+    weights: &[8, 7, 6, 5, 4, 3, 2, 1],
+    least: &[0; 8],
+    greatest: &[9, 9, 9, 9, 9, 9, 9, 10],
+};
+
+/// The codes of ISBN-10, ISBN-13, EAN-13, EAN-8, UPC-A and ISSN, in this order: each is that of its
+/// standard.
+#[inline]
+pub fn standard_codes() -> [Code<'static>; 6] {
+    [ISBN_10, ISBN_13, EAN_13, EAN_8, UPC_A, ISSN]
+}
+
+/// What these codes find: every change of one symbol; ISBN-10, ISSN and the digits of an IBAN every exchange
+/// of two neighbours that differ; ISBN-13, EAN and UPC every one but those of symbols that differ by 5.
+#[inline]
+pub fn standard_finds() {}
