@@ -1,9 +1,9 @@
 //! Callers of plans, proved from their contracts alone.
 
-ghost use Rattle.std.specs.Prelude.{◌≡◌, ℕ, ◌+◌, ◌*◌, ◌/◌, ◌%◌, ◌<◌, ◌≤◌, All, length};
+ghost use Rattle.std.specs.Prelude.{◌≡◌, ℕ, ◌+◌, ◌*◌, ◌/◌, ◌%◌, ◌^◌, ◌<◌, ◌≤◌, All, length};
 ghost use Rattle.std.specs.Int.{IsPowerOfTwo};
 ghost use Rattle.modular_word.specs.Inverses.{IsInverse};
-ghost use Rattle.modular_transform.specs.Transforms.{Suits};
+ghost use Rattle.modular_transform.specs.Transforms.{Suits, transform};
 ghost use Rattle.modular_plan.specs.Factors.{IsFactor};
 ghost use Rattle.modular_plan.specs.Plans.{numbers};
 
@@ -11,6 +11,7 @@ use modular_plan::modulus::{Factor, PlannedModulus};
 use modular_plan::plan::plan;
 use modular_plan::split::split;
 use modular_plan_products::join::join_scaled;
+use modular_plan_products::transform::ntt_planned;
 use modular_prim::plain_word::PlainWord;
 use modular_word::path_word::PathWord;
 
@@ -40,4 +41,24 @@ pub fn split_and_joined<T: PlainWord>(
     plan(m, g, table);
     split(m, xs, table, b, last);
     join_scaled(m, xs, table, b, last, part);
+}
+
+/// The transform of n entries by the first half of the plan by g for 2n: it is the plan by g·g for n.
+pub fn by_first_half<T: PlainWord>(
+    m: &PlannedModulus<T>,
+    g: T,
+    table: &mut [Factor<T>],
+    xs: &mut [T],
+)
+    requires below { T.number g < T.number m.now.modulus }
+    requires suits { Suits (T.number m.now.modulus) (T.number g) (2 * length table.old) }
+    requires entries { All (λ x. T.number x < 4 * T.number m.now.modulus) xs.old }
+    requires half { length xs.old ≡ length table.old }
+    ensures { let modulus = T.number m.now.modulus in (j : ℕ) → j < length xs.old
+        → numbers T.number xs.new j
+        ≡ transform modulus (T.number g ^ 2 % modulus) (length xs.old) (numbers T.number xs.old) j }
+{
+    plan(m, g, table);
+    let half = table.len() / 2;
+    ntt_planned(m, xs, &table[..half]);
 }
