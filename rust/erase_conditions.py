@@ -12,7 +12,8 @@ from erase_tokens import COUNT, Unknown, beginning, beyond, body_of, header, lex
 
 SENTENCE = re.compile(r"\s?\bConditions?(?: of [^:.]*)?:\s+(.+?)\.(?=\s|$)\s?", re.S)
 WIDTH = 100  # of a section of docs
-MADE = {"Self", "Factor", "PlannedModulus", "RoomyModulus", "Code", "ResidueSystem"}
+MADE = {"Self", "Factor", "PlannedModulus", "RoomyModulus", "Code", "ResidueSystem", "Vanilla", "Montgomery", "OddRing", "FoldRing"}
+MADE |= {"StoredModulus", "PreMulInv1by1", "PreMulInv2by1", "Normalized2by1Divisor", "PreModInv", "FixedMersenne"}
 # Who makes a value by another function, which tests the condition.
 MADE_BY = {"new": ("R::new(", "Montgomery::of(", "Self::of(", "M::keep(")}
 
@@ -60,6 +61,7 @@ LOOKS = {
     ("residue_numbers/lib", "encode"): ((EVERY, "moduli.iter().all(|m| *m > 0)"), (EVERY, "residues.len() == moduli.len()")),
     ("residue_numbers/lib", "decode"): ((DEBUG, "is_system(moduli)"), (DEBUG, "are_reduced(moduli, residues)")),
 }
+FOUND = set()
 # Whose condition is tested by what they call: the kinds of the parts, and the names of a file's functions or of a trait's.
 TESTED_BELOW = (
     ((EVERY,), r"(Modular(Core|Unary|Ref)Ops|ModularPow|ModularAbs|PlainWord)\.\w+"),
@@ -177,10 +179,16 @@ def put_looks(tokens, it, file):
     """Puts the tests of the table at the beginning of a body."""
     if tokens[it.body].text == ";":
         return
+    FOUND.add((file, tokens[it.at + 1].text))
     for macro, test in reversed(LOOKS.get((file, tokens[it.at + 1].text), ())):
         lead = tokens[it.body + 1].lead
         tokens[it.body + 1 : it.body + 1] = lexed(f"{lead}{macro}!({test});")
         COUNT[f"{macro}! of a condition put in"] += 1
+
+
+def lost_looks():
+    """The functions of the table that no file has."""
+    return [f"{file}.rt: {name}, which should be tested, isn't there" for file, name in LOOKS if (file, name) not in FOUND]
 
 
 def how_tested(tokens, it, file, words):
@@ -240,9 +248,10 @@ def is_public(tokens, it):
 
 
 def tests_itself(tokens, it):
-    """Whether a function tests something, or hands on to one that makes its value."""
+    """Whether a function tests something in every build, or hands on to one that makes its value."""
     body = "".join(x.text for x in tokens[it.body : beyond(tokens, it.body)])
-    return tests_of(tokens, it) or any(call in body for call in MADE_BY.get(tokens[it.at + 1].text, ()))
+    kinds = {tokens[at].text for at in tests_of(tokens, it)}
+    return EVERY in kinds or any(call in body for call in MADE_BY.get(tokens[it.at + 1].text, ()))
 
 
 def state_conditions(tokens, file, traits):
