@@ -164,7 +164,7 @@ fn transforms() {
     assert_eq!(transform(22, [1, 2, 3, 4]), [10, 51, 95, 42]);
     assert_eq!(product(22, [1, 2, 0, 0], [3, 4, 0, 0]), Some([3, 10, 8, 0]));
     panic_with!("the length must be a power of two"; transform(22, [1, 1, 1]), transform(22, []));
-    panic_with!("this must be a power of two"; product(22, [1, 1, 1], [1, 1, 1]));
+    panic_with!("the length must be a power of two"; product(22, [1, 1, 1], [1, 1, 1]));
     panic_with!("the lists must have one length"; product(22, [1, 2, 3, 4], [1, 2]), product(22, [1, 2], [1, 2, 3, 4]));
     panic_in_debug_with!("g must suit the length"; transform(5, [1, 2, 3, 4]));
     panic_in_debug_with!("g must suit the length"; product(5, [1, 2, 0, 0], [3, 4, 0, 0]));

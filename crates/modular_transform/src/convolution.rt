@@ -91,7 +91,7 @@ fn multiply<T: RingWord, R: Reducer<T>>(r: &R, xs: &mut [T], ys: &mut [T], g: &T
 /// both lists unchanged, exactly where their length n has no inverse modulo m.
 ///
 /// Entry e of xs becomes the form of the sum of x_i·y_j modulo m over i + j = e or e + n. Conditions:
-/// the lists have one length; this is a power of two; g and all entries are checked forms; g suits the
+/// the lists have one length; the length is a power of two; g and all entries are checked forms; g suits the
 /// length (`root_fits` tells). It takes no memory. The method is that of Knuth (The Art of Computer
 /// Programming, volume 2, section 4.3.3, part C): a transform of each list, a product at each place,
 /// a transform back. The length comes by doublings of 1, so it may be too large for the word.
