@@ -1,2 +1,3 @@
 mod Collisions
+mod Primality
 mod Windows

@@ -10,7 +10,7 @@ ghost use Rattle.num_modular.specs.Primes.{IsPrime};
 ghost use Rattle.mersenne_hash.specs.Hashes.{polynomial_value, hash_of, AreApart, FewCollisions};
 ghost use Rattle.mersenne_hash.specs.Hashes.{StandsAt, IsSearch};
 
-use num_modular::laws::{polynomial_laws, residue_laws};
+use num_modular::laws::{polynomial_laws, prime_laws, residue_laws};
 use num_modular::{FixedMersenne64, FixedMersenneInt64, ModularInteger};
 
 /// A hash: an integer modulo 2^61 - 1.
@@ -38,28 +38,28 @@ pub fn hash(base: Hash, text: &[u8]) -> Hash
     value
 }
 
-/// Two different texts of n symbols below 2^61 - 1 have the same hash at fewer than n of the bases 0 to
-/// 2^61 - 2: any n bases that are apart tell them apart. The premise is that 2^61 - 1 is prime, which
-/// isn't proved here.
+/// 2^61 - 1 is prime. So two different texts of n symbols below 2^61 - 1 have the same hash at fewer than n
+/// of the bases 0 to 2^61 - 2: any n bases that are apart tell them apart.
 ///
-/// Source: Carter and Wegman, "Universal classes of hash functions"; the law of polynomials that it
+/// Sources: Pocklington, "The determination of the prime or composite nature of large numbers by Fermat's
+/// theorem"; Carter and Wegman, "Universal classes of hash functions". The law of polynomials that this
 /// rests on is `num_modular::laws::polynomial_laws`.
 pub fn collision_laws()
-    ensures { IsPrime (mersenne 61 1) → FewCollisions }
+    ensures prime { IsPrime (mersenne 61 1) }
+    ensures few { FewCollisions }
 {
+    prime_laws();
     polynomial_laws();
 }
 
 /// Whether two texts have the same hash at each of the bases. Where the texts are of one length n, and
-/// there are n bases or more that are apart, that is whether they are equal; the premise is that
-/// 2^61 - 1 is prime, which isn't proved here.
+/// there are n bases or more that are apart, that is whether they are equal.
 pub fn same_hashes(bases: &[u64], first: &[u8], second: &[u8]) -> bool
     ensures each { IsTrue result ↔ ((i : ℕ) → i < length bases.now →
         hash_of first.now (slice_index bases.now i % mersenne 61 1)
         ≡ hash_of second.now (slice_index bases.now i % mersenne 61 1)) }
-    ensures same { IsPrime (mersenne 61 1) → length first.now ≡ length second.now →
-        length first.now ≤ length bases.now → AreApart (length bases.now) (slice_index bases.now) →
-        (IsTrue result ↔ (first.now ≡ second.now)) }
+    ensures same { length first.now ≡ length second.now → length first.now ≤ length bases.now →
+        AreApart (length bases.now) (slice_index bases.now) → (IsTrue result ↔ (first.now ≡ second.now)) }
 {
     collision_laws();
     'bases: for n in bases {

@@ -4,13 +4,17 @@ use Rattle.std.proofs.lemmas.List.{ext_get_or}
 use Rattle.num_modular.specs.Mersenne.{mersenne}
 use Rattle.num_modular.specs.Sums.{polynomial}
 use Rattle.mersenne_hash.proofs.Collisions.{value_is}
+use Rattle.mersenne_hash.proofs.Primality.{modulus_prime}
 use Rattle.mersenne_hash.proofs.collision_laws.Goals as goal
 
-pub returns : goal.returns
-returns c prime s t x lengths bases s_below t_below hashes =
+pub returns-clause-prime : goal.returns-clause-prime
+returns-clause-prime c = modulus_prime c.prime_laws.ensures.fermat c.prime_laws.ensures.inverse
+
+pub returns-clause-few : goal.returns-clause-few
+returns-clause-few c s t x lengths bases s_below t_below hashes =
     let p : ℕ = mersenne 61 1 in
     let n = length s in
-    let units = c.polynomial_laws.ensures.prime p n x prime bases.apart in
+    let units = c.polynomial_laws.ensures.prime p n x (returns-clause-prime c) bases.apart in
     let congruent = c.polynomial_laws.ensures.descending p n (λ i. get_or s i 0) (λ i. get_or t i 0) x units
     (λ i l.
     ap (λ k. k % p) (sym (value_is s (x i))) ∙ hashes i l ∙ ap (λ k. k % p) (value_is t (x i))

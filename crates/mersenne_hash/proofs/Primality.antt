@@ -1,0 +1,274 @@
+-- A certificate that a number is prime (Pocklington, "The determination of the prime or composite nature of large
+-- numbers by Fermat's theorem", 1914; Crandall and Pomerance, Prime Numbers, section 4.1).
+use Rattle.std.proofs.Common.{◌≡◌, ◌≢◌, ℕ, zero, suc, ◌+◌, ◌-◌, ◌*◌, ◌/◌, ◌%◌, ◌^◌, ◌<◌, ◌≤◌, ◌⊎◌, inl, inr, ⊎_elim}
+use Rattle.std.proofs.Common.{arith, ap, sym, ◌∙◌, refl, subst, lit<}
+use Rattle.std.proofs.Math.Nat.{pow-zero, pow-suc, mod_self, mod-mod_of_dvd, dvd-mul_left, dvd-mul_right, zero-mod, add-mul-mod_self_left}
+use Rattle.std.proofs.Math.Nat.{div-add-mod, mod-eq_of_lt, mul-le-mul_left}
+use Rattle.std.proofs.lemmas.Nat.{mul-mod_first, mul-mod_second, pow-add}
+use Rattle.std.proofs.lemmas.Nat.Gcd.{dvd_of_mod-eq-zero, mod-eq-zero_of_dvd, dvd_trans}
+use Rattle.std.proofs.Common.{Bool, true, ◌&&◌, ◌||◌, nat_lt, lit≤}
+use Rattle.std.proofs.lemmas.Bool.{cases_eq, cases_lt, and_parts, or_cases, ltb-true}
+use Rattle.num_modular.specs.Inverses.{HasInverse}
+use Rattle.num_modular.specs.Primes.{IsPrime}
+
+-- a divisor of a divisor
+divides_on : (r d n : ℕ) → d % r ≡ 0 → n % d ≡ 0 → n % r ≡ 0
+divides_on r d n e f = mod-eq-zero_of_dvd r (dvd_trans r (dvd_of_mod-eq-zero r e) (dvd_of_mod-eq-zero d f))
+
+-- a divisor strictly between 1 and k
+record Divisor (n k : ℕ) : Type 0 where
+  number : ℕ
+  above : 1 < number
+  below : number < k
+  divides : n % number ≡ 0
+
+abbrev NoDivisor : ℕ → ℕ → Type 0
+NoDivisor n k = (d : ℕ) → 1 < d → d < k → n % d ≡ 0 → ⊥
+
+one_more : (n k : ℕ) → NoDivisor n k → (n % k ≢ 0) ⊎ (k ≤ 1) → NoDivisor n (suc k)
+one_more n k none last d h l e =
+    ⊎_elim (λ (b : d < k). none d h b e)
+    (λ (b : k ≤ d).
+    let here : d ≡ k = omega arith in
+    ⊎_elim (λ (ne : n % k ≢ 0). ne (subst (λ j. n % j ≡ 0) here e))
+    (λ (small : k ≤ 1). absurd (omega arith)) last)
+    (cases_lt d k)
+
+found : (n k : ℕ) → Divisor n k ⊎ NoDivisor n k
+found n zero = inr (λ d h l e. absurd (omega (arith, l)))
+found n (suc k) =
+    ⊎_elim
+    (λ (w : Divisor n k).
+    let below : w.number < suc k = omega arith in
+    inl record { number = w.number; above = w.above; below = below; divides = w.divides })
+    (λ (none : NoDivisor n k).
+    ⊎_elim
+    (λ (large : 1 < k).
+    ⊎_elim
+    (λ (e : n % k ≡ 0).
+    let below : k < suc k = omega arith in
+    inl record { number = k; above = large; below = below; divides = e })
+    (λ (ne : n % k ≢ 0). inr (one_more n k none (inl ne)))
+    (cases_eq (n % k) 0))
+    (λ (small : k ≤ 1). inr (one_more n k none (inr small)))
+    (cases_lt 1 k))
+    (found n k)
+
+-- a prime divisor, at most n
+record PrimeDivisor (n : ℕ) : Type 0 where
+  number : ℕ
+  prime : IsPrime number
+  divides : n % number ≡ 0
+  most : number ≤ n
+
+prime_divisor : (fuel n : ℕ) → n ≤ fuel → 1 < n → PrimeDivisor n
+prime_divisor zero n h l = absurd (omega (arith, h, l))
+prime_divisor (suc fuel) n h l =
+    ⊎_elim
+    (λ (w : Divisor n n).
+    let smaller : w.number ≤ fuel = omega (arith, w.below, h) in
+    let r = prime_divisor fuel w.number smaller w.above in
+    let most : r.number ≤ n = omega (arith, r.most, w.below) in
+    record { number = r.number; prime = r.prime; divides = divides_on r.number w.number n r.divides w.divides; most = most })
+    (λ (none : NoDivisor n n).
+    let most : n ≤ n = omega arith in
+    record { number = n; prime = record { above_one = l; undivided = none }; divides = mod_self n; most = most })
+    (found n n)
+
+product_divided : (d q : ℕ) → (d * q) % q ≡ 0
+product_divided d q = mod-eq-zero_of_dvd q (dvd-mul_left q d)
+
+greater_one : (n d q : ℕ) → d < n → d * q ≡ n → 1 < n → 1 < q
+greater_one n d zero l whole h = absurd (omega (arith, l, whole, h))
+greater_one n d (suc zero) l whole h = absurd (omega (arith, l, whole, h))
+greater_one n d (suc (suc q)) l whole h = omega arith
+
+-- a number without a prime divisor below k, whose square is above it
+pub no_small : (n k : ℕ) → 1 < n → n < k * k
+    → ((r : ℕ) → IsPrime r → r < k → n % r ≡ 0 → ⊥) → IsPrime n
+no_small n k h square none =
+    let small = λ (f : ℕ) (above : 1 < f) (e : n % f ≡ 0) (l : f * f ≤ n).
+    let r = prime_divisor f f (let same : f ≤ f = omega arith in same) above in
+    ⊎_elim (λ (b : r.number < k). none r.number r.prime b (divides_on r.number f n r.divides e))
+    (λ (b : k ≤ r.number).
+    let far : k ≤ f = omega (arith, r.most, b) in
+    let one = mul-le-mul_left k far in
+    let two = mul-le-mul_left f far in
+    absurd (omega (arith, one, two, l, square)))
+    (cases_lt r.number k) in
+    record {
+      above_one = h;
+      undivided = λ d above below e.
+          let q = n / d in
+          let whole : d * q ≡ n = omega (arith, div-add-mod n d, e) in
+          ⊎_elim
+          (λ (b : d < suc q).
+          let le : d ≤ q = omega arith in
+          let l = mul-le-mul_left d le in
+          small d above e (omega (arith, l, whole)))
+          (λ (b : suc q ≤ d).
+          let le : q ≤ d = omega arith in
+          let l = mul-le-mul_left q le in
+          let turn : q * d ≡ d * q = omega arith in
+          let divided : n % q ≡ 0 = ap (λ k. k % q) (sym whole) ∙ product_divided d q in
+          let above_one : 1 < q = greater_one n d q below whole h in
+          small q above_one divided (omega (arith, l, turn, whole)))
+          (cases_lt d (suc q));
+    }
+
+-- powers of what leaves 1
+ones : (d x k : ℕ) → x % d ≡ 1 % d → x ^ k % d ≡ 1 % d
+ones d x zero h = ap (λ n. n % d) (pow-zero x)
+ones d x (suc k) h =
+    let alone : 1 * x ≡ x = omega arith in
+    ap (λ n. n % d) (pow-suc x k) ∙ sym (mul-mod_first (x ^ k) x d) ∙ ap (λ n. (n * x) % d) (ones d x k h)
+    ∙ mul-mod_first 1 x d ∙ ap (λ n. n % d) alone ∙ h
+
+power_of_power : (b i k : ℕ) → b ^ (i * k) ≡ (b ^ i) ^ k
+power_of_power b i zero =
+    let none : i * 0 ≡ 0 = omega arith in
+    ap (λ n. b ^ n) none ∙ pow-zero b ∙ sym (pow-zero (b ^ i))
+power_of_power b i (suc k) =
+    let more : i * suc k ≡ i * k + i = omega arith in
+    ap (λ n. b ^ n) more ∙ pow-add b (i * k) i ∙ ap (λ n. n * b ^ i) (power_of_power b i k) ∙ sym (pow-suc (b ^ i) k)
+
+-- what the certificate has for a prime q: a number b whose power of q is 1 modulo n, and the inverse of b - 1
+pub record Witness (n q b c : ℕ) : Type 0 where
+  pub power : b ^ q % n ≡ 1 % n
+  pub apart : ((b - 1) * c) % n ≡ 1 % n
+  pub positive : 1 ≤ b
+
+abbrev pub Fermat : Type 0
+Fermat = (a p : ℕ) → IsPrime p → (a % p ≡ 0 → ⊥) → a ^ (p - 1) % p ≡ 1
+
+abbrev pub Inverts : Type 0
+Inverts = (a p : ℕ) → IsPrime p → (a % p ≡ 0 → ⊥) → HasInverse p a
+
+less_one : (b r : ℕ) → 1 ≤ b → b % r ≡ 1 % r → (b - 1) % r ≡ 0
+less_one b r positive one =
+    let d = b - 1 in
+    let sum : d + 1 ≡ b = omega arith in
+    let a = div-add-mod b r in
+    let z = div-add-mod 1 r in
+    let spread : d + r * (1 / r) ≡ 0 + r * (b / r) = omega (arith, a, z, one, sum) in
+    sym (add-mul-mod_self_left d r (1 / r)) ∙ ap (λ k. k % r) spread ∙ add-mul-mod_self_left 0 r (b / r) ∙ zero-mod r
+
+not_zero : (b q r : ℕ) → 1 < q → 1 < r → b ^ q % r ≡ 1 % r → b % r ≡ 0 → ⊥
+not_zero b zero r q_above r_above power none = absurd (omega (arith, q_above))
+not_zero b (suc q) r q_above r_above power none =
+    let product : b ^ suc q % r ≡ 0 % r =
+    ap (λ k. k % r) (pow-suc b q) ∙ sym (mul-mod_second (b ^ q) b r) ∙ ap (λ k. (b ^ q * k) % r) none
+    ∙ ap (λ k. k % r) (let z : b ^ q * 0 ≡ 0 = omega arith in z) in
+    let small : 1 % r ≡ 1 = mod-eq_of_lt r_above in
+    let wrong : 1 ≡ 0 = sym small ∙ sym power ∙ product ∙ zero-mod r in
+    absurd (omega (arith, wrong))
+
+-- modulo a divisor r, above 1, such a b isn't 1
+not_one : (n q b c r : ℕ) → Witness n q b c → 1 < r → n % r ≡ 0 → b % r ≡ 1 % r → ⊥
+not_one n q b c r w above e one =
+    let on : ((b - 1) * c) % r ≡ 1 % r =
+    sym (mod-mod_of_dvd r ((b - 1) * c) (dvd_of_mod-eq-zero r e)) ∙ ap (λ k. k % r) w.apart
+    ∙ mod-mod_of_dvd r 1 (dvd_of_mod-eq-zero r e) in
+    let same : (b - 1) % r ≡ 0 = less_one b r w.positive one in
+    let zero_product : ((b - 1) * c) % r ≡ 0 % r =
+    sym (mul-mod_first (b - 1) c r) ∙ ap (λ k. (k * c) % r) same ∙ ap (λ k. k % r) (let z : 0 * c ≡ 0 = omega arith in z) in
+    let small : 1 % r ≡ 1 = mod-eq_of_lt above in
+    let none : 0 % r ≡ 0 = mod-eq_of_lt (let l : 0 < r = omega arith in l) in
+    let wrong : 1 ≡ 0 = sym small ∙ sym on ∙ zero_product ∙ none in
+    absurd (omega (arith, wrong))
+
+-- so q divides r - 1 for each prime divisor r
+pub one_less : (n q b c r : ℕ) → Fermat → Inverts → Witness n q b c → IsPrime q → IsPrime r → n % r ≡ 0
+    → (r - 1) % q ≡ 0
+one_less n q b c r fermat inverts w q_prime r_prime e =
+    ⊎_elim (λ (h : (r - 1) % q ≡ 0). h)
+    (λ (ne : (r - 1) % q ≢ 0).
+    let inverse = inverts (r - 1) q q_prime ne in
+    let t = (r - 1) * inverse.0 in
+    let k = t / q in
+    let last : t % q ≡ 1 = inverse.1.one ∙ mod-eq_of_lt q_prime.above_one in
+    let whole : t ≡ q * k + 1 = omega (arith, div-add-mod t q, last) in
+    let power : b ^ q % r ≡ 1 % r =
+    sym (mod-mod_of_dvd r (b ^ q) (dvd_of_mod-eq-zero r e)) ∙ ap (λ j. j % r) w.power
+    ∙ mod-mod_of_dvd r 1 (dvd_of_mod-eq-zero r e) in
+    let unit : b % r ≢ 0 = not_zero b q r q_prime.above_one r_prime.above_one power in
+    let by_fermat : b ^ t % r ≡ 1 % r =
+    ap (λ j. j % r) (power_of_power b (r - 1) inverse.0)
+    ∙ ones r (b ^ (r - 1)) inverse.0 (fermat b r r_prime unit ∙ sym (mod-eq_of_lt r_prime.above_one)) in
+    let once : b ^ 1 ≡ b = pow-suc b 0 ∙ ap (λ j. j * b) (pow-zero b) ∙ (let a : 1 * b ≡ b = omega arith in a) in
+    let by_power : b ^ t % r ≡ b % r =
+    ap (λ j. b ^ j % r) whole ∙ ap (λ j. j % r) (pow-add b (q * k) 1 ∙ ap (λ j. b ^ (q * k) * j) once)
+    ∙ ap (λ j. (j * b) % r) (power_of_power b q k) ∙ sym (mul-mod_first ((b ^ q) ^ k) b r)
+    ∙ ap (λ j. (j * b) % r) (ones r (b ^ q) k power) ∙ mul-mod_first 1 b r
+    ∙ ap (λ j. j % r) (let a : 1 * b ≡ b = omega arith in a) in
+    absurd (not_one n q b c r w r_prime.above_one e (sym by_power ∙ by_fermat)))
+    (cases_eq ((r - 1) % q) 0)
+
+-- a product with a factor that has an inverse
+cancelled : (q a y k : ℕ) → (a * y) % q ≡ 1 % q → (a * k) % q ≡ 0 → k % q ≡ 0
+cancelled q a y k one none =
+    let alone : 1 * k ≡ k = omega arith in
+    let turned : a * y * k ≡ a * k * y = omega arith in
+    let nothing : 0 * y ≡ 0 = omega arith in
+    sym (ap (λ j. j % q) alone) ∙ sym (mul-mod_first 1 k q) ∙ ap (λ j. (j * k) % q) (sym one) ∙ mul-mod_first (a * y) k q
+    ∙ ap (λ j. j % q) turned ∙ sym (mul-mod_first (a * k) y q) ∙ ap (λ j. (j * y) % q) none ∙ ap (λ j. j % q) nothing
+    ∙ zero-mod q
+
+-- divisors of which one has an inverse modulo the other
+joined : (n a q y : ℕ) → (a * y) % q ≡ 1 % q → n % a ≡ 0 → n % q ≡ 0 → n % (a * q) ≡ 0
+joined n a q y one e f =
+    let k = n / a in
+    let whole : a * k ≡ n = omega (arith, div-add-mod n a, e) in
+    let rest : k % q ≡ 0 = cancelled q a y k one (ap (λ j. j % q) whole ∙ f) in
+    let j = k / q in
+    let part : q * j ≡ k = omega (arith, div-add-mod k q, rest) in
+    let times = ap (λ i. a * i) part in
+    let all : n ≡ a * q * j = omega (arith, times, whole) in
+    ap (λ i. i % (a * q)) all ∙ mod-eq-zero_of_dvd (a * q) (dvd-mul_right (a * q) j)
+
+-- a small prime, by trial
+abbrev each_below : ℕ → (ℕ → Bool) → Bool
+each_below zero test = true
+each_below (suc n) test = each_below n test && test n
+
+passes : (n : ℕ) (test : ℕ → Bool) → each_below n test ≡ true → (i : ℕ) → i < n → test i ≡ true
+passes zero test h i l = absurd (omega (arith, l))
+passes (suc n) test h i l =
+    let parts = and_parts (each_below n test) (test n) h in
+    ⊎_elim (λ (b : i < n). passes n test parts.0 i b)
+    (λ (b : n ≤ i).
+    let here : i ≡ n = omega arith in
+    ap test here ∙ parts.1)
+    (cases_lt i n)
+
+abbrev leaves : ℕ → ℕ → Bool
+leaves q d = nat_lt d 2 || nat_lt 0 (q % d)
+
+tried : (q k : ℕ) → 1 < q → q < k * k → each_below k (leaves q) ≡ true → IsPrime q
+tried q k above square h =
+    no_small q k above square
+    (λ r prime below e.
+    let one = prime.above_one in
+    ⊎_elim
+    (λ t. let small = ltb-true r 2 t in absurd (omega (arith, small, one)))
+    (λ t. let some = ltb-true 0 (q % r) t in absurd (omega (arith, some, e)))
+    (or_cases (nat_lt r 2) (nat_lt 0 (q % r)) (passes k (leaves q) h r below)))
+
+-- 31, 151, 331 and 1321 divide 2^61 - 2, and their product is above the root of 2^61 - 1
+pub modulus_prime : Fermat → Inverts → IsPrime 2305843009213693951
+modulus_prime fermat inverts =
+    no_small 2305843009213693951 2046771932 (lit< tt) (lit< tt)
+    (λ r prime below e.
+    let one = prime.above_one in
+    let first = one_less 2305843009213693951 1321 234060095121088422 828993518632009434 r fermat inverts
+    record { power = refl; apart = refl; positive = lit≤ tt } (tried 1321 37 (lit< tt) (lit< tt) refl) prime e in
+    let second = one_less 2305843009213693951 331 1491285494954315879 1881382712785867029 r fermat inverts
+    record { power = refl; apart = refl; positive = lit≤ tt } (tried 331 19 (lit< tt) (lit< tt) refl) prime e in
+    let third = one_less 2305843009213693951 151 2211238755008147949 1896004468068488480 r fermat inverts
+    record { power = refl; apart = refl; positive = lit≤ tt } (tried 151 13 (lit< tt) (lit< tt) refl) prime e in
+    let fourth = one_less 2305843009213693951 31 484083891529811867 42235654463646013 r fermat inverts
+    record { power = refl; apart = refl; positive = lit≤ tt } (tried 31 6 (lit< tt) (lit< tt) refl) prime e in
+    let all : (r - 1) % 2046771931 ≡ 0 =
+    joined (r - 1) 66024901 31 2 refl
+    (joined (r - 1) 437251 151 104 refl (joined (r - 1) 1321 331 110 refl first second) third) fourth in
+    absurd (omega (arith, all, below, one)))
