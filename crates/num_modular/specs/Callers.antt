@@ -1,5 +1,6 @@
--- What the proofs of a caller's loops name, in one place: the words of forms, entries and inverses with their laws, and
--- those of the standard library. The names are those of the files where they stand, the library's own words.
+-- What the proofs of a caller's loops name, in one place: the words of forms, entries and inverses with their laws, that
+-- of polynomials by their values, and those of the standard library. The names are those of the files where they stand,
+-- the library's own words.
 pub use Rattle.std.proofs.Common.{◌≡◌, ◌≢◌, ◌<◌, ◌≤◌, ◌↔◌, ◌+◌, ◌-◌, ◌*◌, ◌/◌, ◌%◌, ℕ, zero, suc, List, length, All}
 pub use Rattle.std.proofs.Common.{refl, sym, ◌∙◌, ap, subst, inl, inr, arith, mod-eq_of_lt}
 pub use Rattle.modular_word.specs.Inverses.{IsInverse, HasInverse}
@@ -11,6 +12,7 @@ pub use Rattle.modular_laws.specs.EntryLaws.{hold_more, held_read, held_forms, h
 pub use Rattle.modular_laws.specs.Products.{product_below}
 pub use Rattle.modular_laws.specs.ProductLaws.{product_none, product_step, inverse_left, inverse_right}
 pub use Rattle.modular_laws.specs.ProductLaws.{inverse_before, inverse_last, inverse_both}
+pub use Rattle.modular_laws.proofs.Interpolation.{same_coefficients}
 pub use Rattle.modular_laws.specs.ProductLaws.{has_both, has_each, has_product, no_inverse}
 pub use Rattle.num_modular.specs.Remainders.{remainders, inner_remainders}
 use Rattle.modular_laws.specs.ProductLaws as products

@@ -8,6 +8,7 @@
 ghost use Rattle.std.specs.Prelude.{◌≡◌, ◌≤◌, length};
 
 mod checks;
+pub mod erasure;
 mod iban;
 mod standards;
 

@@ -1,0 +1,137 @@
+-- Words that agree at as many places as their messages have symbols are of one message.
+use Rattle.std.proofs.Common.{◌≡◌, ◌≢◌, ℕ, zero, suc, ◌+◌, ◌-◌, ◌*◌, ◌%◌, ◌<◌, ◌≤◌, cond, eqb, ap, sym, ◌∙◌, arith, refl, subst}
+use Rattle.std.proofs.Common.{inl, inr}
+use Rattle.std.proofs.lemmas.Bool.{cases_eq, cases_lt}
+use Rattle.std.proofs.lemmas.Bool.Decides.{eqb_tells}
+use Rattle.num_modular.specs.Callers.{same_coefficients}
+use Rattle.num_modular.specs.Congruence.{Congruent}
+use Rattle.num_modular.specs.NumberLaws.{itself, sum_below-zero, sum_below-suc}
+use Rattle.num_modular.specs.Polynomials.{ascending_polynomial, HaveUnitDifferences}
+use Rattle.num_modular.specs.PolynomialLaws.{ascending-congruent}
+use Rattle.ring_codes.specs.Erasure.{IsEncoding, IsErasureCodeword, distance}
+
+-- k of the first n places, in their order, at which two words agree
+record Selection (n k : ℕ) (a b : ℕ → ℕ) : Type 0 where
+  place : ℕ → ℕ
+  within : (i : ℕ) → i < k → place i < n
+  same : (i : ℕ) → i < k → a (place i) ≡ b (place i)
+  rising : (i j : ℕ) → i < j → j < k → place i < place j
+
+-- a place more at the end
+extended : ℕ → ℕ → (ℕ → ℕ) → ℕ → ℕ
+extended k n s i = cond (eqb i k) n (s i)
+
+at_end : (k n : ℕ) (s : ℕ → ℕ) (i : ℕ) → i ≡ k → extended k n s i ≡ n
+unfolding extended
+at_end k n s i e = elim (eqb_tells i k) [ inl p ↦ rw p.0 refl | inr p ↦ absurd (p.1 e) ]
+
+before_end : (k n : ℕ) (s : ℕ → ℕ) (i : ℕ) → i ≢ k → extended k n s i ≡ s i
+unfolding extended
+before_end k n s i other = elim (eqb_tells i k) [ inl p ↦ absurd (other p.1) | inr p ↦ rw p.0 refl ]
+
+with_last : (n k : ℕ) (a b : ℕ → ℕ) → Selection n k a b → a n ≡ b n → Selection (suc n) (suc k) a b
+with_last n k a b s last = record {
+  place = extended k n s.place;
+  within = λ i l. elim (cases_eq i k) [
+    | inl e ↦ let p = at_end k n s.place i e in omega (arith, p)
+    | inr o ↦ let p = before_end k n s.place i o in let q = s.within i (omega arith) in omega (arith, p, q)
+  ];
+  same = λ i l. elim (cases_eq i k) [
+    | inl e ↦ let p = at_end k n s.place i e in ap a p ∙ last ∙ ap b (sym p)
+    | inr o ↦ let p = before_end k n s.place i o in ap a p ∙ s.same i (omega arith) ∙ ap b (sym p)
+  ];
+  rising = λ i j l b. let o : i ≢ k = omega arith in
+      let p = before_end k n s.place i o in elim (cases_eq j k) [
+        | inl e ↦
+            let q = at_end k n s.place j e in let r = s.within i (omega arith) in omega (arith, p, q, r)
+        | inr d ↦
+            let q = before_end k n s.place j d in let r = s.rising i j l (omega arith) in omega (arith, p, q, r)
+      ];
+}
+
+widened : (n k : ℕ) (a b : ℕ → ℕ) → Selection n k a b → Selection (suc n) k a b
+widened n k a b s = record {
+  place = s.place;
+  within = λ i l. let q = s.within i l in omega (arith, q);
+  same = s.same;
+  rising = s.rising;
+}
+
+none_selected : (n : ℕ) (a b : ℕ → ℕ) → Selection n 0 a b
+none_selected n a b = record {
+  place = λ i. i;
+  within = λ i l. absurd (omega arith);
+  same = λ i l. absurd (omega arith);
+  rising = λ i j l k. absurd (omega arith);
+}
+
+-- 0 where two symbols are equal, 1 where they aren't
+counted_same : (x y : ℕ) → x ≡ y → cond (eqb x y) 0 1 ≡ 0
+counted_same x y e = elim (eqb_tells x y) [ inl p ↦ rw p.0 refl | inr p ↦ absurd (p.1 e) ]
+
+counted_other : (x y : ℕ) → x ≢ y → cond (eqb x y) 0 1 ≡ 1
+counted_other x y o = elim (eqb_tells x y) [ inl p ↦ absurd (o p.1) | inr p ↦ rw p.0 refl ]
+
+no_distance : (n : ℕ) (a b : ℕ → ℕ) → ((i : ℕ) → i < n → a i ≡ b i) → distance n a b ≡ 0
+no_distance zero a b same = sum_below-zero (λ i. cond (eqb (a i) (b i)) 0 1)
+no_distance (suc n) a b same =
+    let s = sum_below-suc n (λ i. cond (eqb (a i) (b i)) 0 1) in
+    let z = counted_same (a n) (b n) (same n (omega arith)) in
+    let i = no_distance n a b (λ i l. same i (omega arith)) in
+    omega (arith, s, z, i)
+
+-- words that differ at few places agree at many
+selected : (n k : ℕ) (a b : ℕ → ℕ) → distance n a b + k ≤ n → Selection n k a b
+selected n zero a b few = none_selected n a b
+selected zero (suc k) a b few = absurd (omega arith)
+selected (suc n) (suc k) a b few =
+    let s = sum_below-suc n (λ i. cond (eqb (a i) (b i)) 0 1) in
+    elim (cases_eq (a n) (b n)) [
+      | inl e ↦
+          let z = counted_same (a n) (b n) e in
+          with_last n k a b (selected n k a b (omega (arith, few, s, z))) e
+      | inr o ↦
+          let z = counted_other (a n) (b n) o in
+          widened n (suc k) a b (selected n (suc k) a b (omega (arith, few, s, z)))
+    ]
+
+-- two messages of k symbols whose words agree at k places
+same_messages : (m k n : ℕ) (points a b u v : ℕ → ℕ) → HaveUnitDifferences m n points → IsEncoding m k n points a u
+    → IsEncoding m k n points b v → distance n u v + k ≤ n → (i : ℕ) → i < k → Congruent m (a i) (b i)
+same_messages m k n points a b u v fit is_u is_v few =
+    let s = selected n k u v few in
+    same_coefficients m k a b (λ i. points (s.place i))
+    (record {
+      unit = λ i j l d other. fit.unit (s.place i) (s.place j) (s.within i l) (s.within j d)
+          (elim (cases_lt i j) [
+            | inl b ↦ let r = s.rising i j b d in λ e. omega (arith, r, e)
+            | inr b ↦ let r = s.rising j i (omega arith) l in λ e. omega (arith, r, e)
+          ]);
+    })
+    (λ i l. let p = s.within i l in record {
+      same = sym (is_u.symbol (s.place i) p) ∙ s.same i l ∙ is_v.symbol (s.place i) p;
+    })
+
+-- the words of two messages that differ ..
+pub messages_apart : (m k n : ℕ) (points a b u v : ℕ → ℕ) → k ≤ n → HaveUnitDifferences m n points
+    → IsEncoding m k n points a u → IsEncoding m k n points b v
+    → (i : ℕ) → i < k → a i % m ≢ b i % m → n - k + 1 ≤ distance n u v
+messages_apart m k n points a b u v few fit is_u is_v i l other = elim (cases_lt n (distance n u v + k)) [
+  | inl far ↦ omega (arith, far, few)
+  | inr near ↦ absurd (other (same_messages m k n points a b u v fit is_u is_v near i l).same)
+]
+
+-- .. and two words that differ
+pub words_apart : (m k n : ℕ) (points u v : ℕ → ℕ) → k ≤ n → HaveUnitDifferences m n points
+    → IsErasureCodeword m k n points u → IsErasureCodeword m k n points v → 0 < distance n u v
+    → n - k + 1 ≤ distance n u v
+words_apart m k n points u v few fit is_u is_v differ = elim (cases_lt n (distance n u v + k)) [
+  | inl far ↦ omega (arith, far, few)
+  | inr near ↦
+      let same = same_messages m k n points is_u.0 is_v.0 u v fit is_u.1 is_v.1 near in
+      let none = no_distance n u v
+      (λ i l. is_u.1.symbol i l
+      ∙ (ascending-congruent k is_u.0 is_v.0 (points i) (points i) same (itself (points i))).same
+      ∙ sym (is_v.1.symbol i l)) in
+      absurd (omega (arith, none, differ))
+]

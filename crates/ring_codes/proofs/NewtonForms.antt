@@ -1,0 +1,375 @@
+-- Newton's form: one coefficient more, its values at its points, and its coefficients as a polynomial.
+use Rattle.std.proofs.Common.{◌≡◌, ◌≢◌, ℕ, zero, suc, ◌+◌, ◌-◌, ◌*◌, ◌%◌, ◌^◌, ◌<◌, ◌≤◌, pos, ◌-ℤ◌}
+use Rattle.std.proofs.Common.{ap, sym, ◌∙◌, arith, refl, inl, inr, mod-eq_of_lt, mod-lt}
+use Rattle.std.proofs.Common.{◌↔◌, Bool, true, false, IsTrue, Option, None, Some, is_some}
+use Rattle.std.proofs.Math.Nat.{zero-mod, add-mul-mod_self_left}
+use Rattle.std.proofs.lemmas.Bool.{cases_eq, cases_lt}
+use Rattle.std.proofs.lemmas.Int.{ints}
+use Rattle.std.proofs.lemmas.Nat.{mul-mod_first, mul-mod_second}
+use Rattle.num_modular.specs.Congruence.{Congruent}
+use Rattle.num_modular.specs.Inverses.{IsInverse, HasInverse, IsInversion}
+use Rattle.num_modular.specs.NumberLaws.{of_equal, itself, residue_of, turned, chained, added, multiplied, cancelled}
+use Rattle.num_modular.specs.NumberLaws.{difference_and, sum_below-zero, sum_below-suc}
+use Rattle.num_modular.specs.Polynomials.{ascending_polynomial, HaveUnitDifferences}
+use Rattle.num_modular.specs.PolynomialLaws.{ascending-none, ascending-first, ascending-same}
+use Rattle.num_modular.specs.ProductLaws.{has_each, has_product}
+use Rattle.num_modular.specs.Products.{product_below}
+use Rattle.num_modular.specs.Residues.{residue}
+use Rattle.ring_codes.specs.Newton.{difference, newton_form}
+
+-- a - b modulo m
+abbrev minus : ℕ → ℕ → ℕ → ℕ
+minus m a b = residue m (pos a -ℤ pos b)
+
+pub form-none : (m : ℕ) (c x : ℕ → ℕ) (a : ℕ) → newton_form m 0 c x a ≡ 0
+unfolding newton_form
+form-none m c x a = refl
+
+pub form-first : (m n : ℕ) (c x : ℕ → ℕ) (a : ℕ) → newton_form m (suc n) c x a
+    ≡ c 0 + residue m (pos a -ℤ pos (x 0)) * newton_form m n (λ i. c (suc i)) (λ i. x (suc i)) a
+unfolding newton_form
+form-first m n c x a = refl
+
+-- equal coefficients and points
+pub form-same : (m n : ℕ) (c d x y : ℕ → ℕ) (a : ℕ) → ((i : ℕ) → i < n → c i ≡ d i)
+    → ((i : ℕ) → i < n → x i ≡ y i) → newton_form m n c x a ≡ newton_form m n d y a
+form-same m zero c d x y a same points = form-none m c x a ∙ sym (form-none m d y a)
+form-same m (suc n) c d x y a same points =
+    let i = form-same m n (λ i. c (suc i)) (λ i. d (suc i)) (λ i. x (suc i)) (λ i. y (suc i)) a
+    (λ i l. same (suc i) (omega arith)) (λ i l. points (suc i) (omega arith)) in
+    let f = same 0 (omega arith) in
+    let p = points 0 (omega arith) in
+    form-first m n c x a
+    ∙ ap (λ v. v + minus m a (x 0) * newton_form m n (λ i. c (suc i)) (λ i. x (suc i)) a) f
+    ∙ ap (λ v. d 0 + minus m a v * newton_form m n (λ i. c (suc i)) (λ i. x (suc i)) a) p
+    ∙ ap (λ v. d 0 + minus m a (y 0) * v) i ∙ sym (form-first m n d y a)
+
+-- a product over a range, the first factor taken out
+product-first : (n : ℕ) (f : ℕ → ℕ) → product_below (suc n) f ≡ f 0 * product_below n (λ i. f (suc i))
+unfolding product_below
+product-first zero f = omega arith
+product-first (suc n) f =
+    let i = ap (λ v. v * f (suc n)) (product-first n f) in
+    omega (arith, i)
+
+-- a factor of 0
+product-none : (n l : ℕ) (f : ℕ → ℕ) → l < n → f l ≡ 0 → product_below n f ≡ 0
+unfolding product_below
+product-none zero l f below none = absurd (omega arith)
+product-none (suc n) l f below none = elim (cases_eq l n) [
+  | inl e ↦
+      let z : f n ≡ 0 = ap f (sym e) ∙ none in
+      let g = ap (λ v. product_below n f * v) z in
+      omega (arith, g)
+  | inr other ↦
+      let g = ap (λ v. v * f n) (product-none n l f (omega arith) none) in
+      omega (arith, g)
+]
+
+-- one coefficient more
+form-more : (m n : ℕ) (c x : ℕ → ℕ) (a : ℕ) → newton_form m (suc n) c x a
+    ≡ newton_form m n c x a + product_below n (λ j. residue m (pos a -ℤ pos (x j))) * c n
+unfolding newton_form product_below
+form-more m zero c x a = omega arith
+form-more m (suc n) c x a =
+    let f : ℕ → ℕ = λ j. residue m (pos a -ℤ pos (x j)) in
+    let i = ap (λ v. f 0 * v) (form-more m n (λ i. c (suc i)) (λ i. x (suc i)) a) in
+    let p = ap (λ v. v * c (suc n)) (product-first n f) in
+    omega (arith, i, p)
+
+no_difference : (m a : ℕ) → residue m (pos a -ℤ pos a) ≡ 0
+no_difference m a = let e : pos a -ℤ pos a ≡ pos 0 = omega (arith, ints) in ap (residue m) e ∙ zero-mod m
+
+-- at a point before it, one coefficient more changes nothing
+kept_before : (m n l : ℕ) (c x : ℕ → ℕ) → l < n → newton_form m (suc n) c x (x l) ≡ newton_form m n c x (x l)
+kept_before m n l c x below =
+    let p = product-none n l (λ j. residue m (pos (x l) -ℤ pos (x j))) below (no_difference m (x l)) in
+    let z = ap (λ v. v * c n) p in
+    omega (arith, form-more m n c x (x l), z)
+
+-- what is left, divided by the product of the differences
+divided : (m known f rest y d w c : ℕ) → known ≡ f % m → rest ≡ residue m (pos y -ℤ pos known) → IsInverse m d w
+    → c ≡ (rest * w) % m → (f + d * c) % m ≡ y % m
+divided m known f rest y d w c is_known is_rest inverse is =
+    let below = inverse.below in
+    let positive : 0 < m = omega (arith, below) in
+    let one : Congruent m (d * w) 1 = record { same = inverse.one } in
+    let split : d * (rest * w) ≡ rest * (d * w) = omega arith in
+    let times_one : rest * 1 ≡ rest = omega arith in
+    let product : Congruent m (d * c) rest =
+    chained (multiplied (itself d) (chained (of_equal is) (residue_of (rest * w))))
+    (chained (of_equal split) (chained (multiplied (itself rest) one) (of_equal times_one))) in
+    let form : Congruent m f known = chained (turned (residue_of f)) (of_equal (sym is_known)) in
+    let swap : known + rest ≡ rest + known = omega arith in
+    let sum : (rest + known) % m ≡ y % m =
+    ap (λ v. (v + known) % m) is_rest ∙ difference_and m y known positive in
+    (chained (added form product) (chained (of_equal swap) (record { same = sum }))).same
+
+one_divided_at : (m i : ℕ) (c d x y : ℕ → ℕ) (known rest w : ℕ)
+    → ((l : ℕ) → l < i → newton_form m i c x (x l) % m ≡ y l) → ((l : ℕ) → l < i → d l ≡ c l)
+    → known ≡ newton_form m i c x (x i) % m → rest ≡ residue m (pos (y i) -ℤ pos known)
+    → IsInverse m (product_below i (difference m x i)) w → d i ≡ (rest * w) % m → y i < m
+    → (l : ℕ) → l < suc i → newton_form m (suc i) d x (x l) % m ≡ y l
+one_divided_at m i c d x y known rest w before kept is_known is_rest inverse is below l within =
+    let same : (a : ℕ) → newton_form m i d x a ≡ newton_form m i c x a =
+    λ a. form-same m i d c x x a kept (λ j k. refl) in
+    elim (cases_eq l i) [
+      | inl e ↦
+          let here : newton_form m (suc i) d x (x i) % m ≡ y i =
+          ap (λ v. v % m) (form-more m i d x (x i) ∙ ap (λ v. v + product_below i (difference m x i) * d i) (same (x i)))
+          ∙ divided m known (newton_form m i c x (x i)) rest (y i) (product_below i (difference m x i)) w (d i) is_known
+          is_rest inverse is
+          ∙ mod-eq_of_lt below in
+          ap (λ k. newton_form m (suc i) d x (x k) % m) e ∙ here ∙ ap y (sym e)
+      | inr other ↦
+          ap (λ v. v % m) (kept_before m i l d x (omega arith) ∙ same (x l)) ∙ before l (omega arith)
+    ]
+
+-- one more coefficient by Newton's divided differences
+pub one_divided : (m i : ℕ) (c d x y : ℕ → ℕ) (known rest w : ℕ)
+    → ((l : ℕ) → l < i → newton_form m i c x (x l) % m ≡ y l) → ((l : ℕ) → l < i → d l ≡ c l)
+    → known ≡ newton_form m i c x (x i) % m → rest ≡ residue m (pos (y i) -ℤ pos known)
+    → IsInverse m (product_below i (difference m x i)) w → d i ≡ (rest * w) % m → y i < m
+    → (l : ℕ) → l < i + 1 → newton_form m (i + 1) d x (x l) % m ≡ y l
+one_divided m i c d x y known rest w before kept is_known is_rest inverse is below l within =
+    let next : i + 1 ≡ suc i = omega arith in
+    ap (λ j. newton_form m j d x (x l) % m) next
+    ∙ one_divided_at m i c d x y known rest w before kept is_known is_rest inverse is below l (omega arith)
+
+-- coefficients e with e l + a·s (l + 1) = s l are those of s less a times what is left of s
+taken : (m n a X : ℕ) (e s : ℕ → ℕ) → ((l : ℕ) → l < n → Congruent m (e l + a * s (suc l)) (s l))
+    → Congruent m (ascending_polynomial n e X + a * ascending_polynomial n (λ l. s (suc l)) X) (ascending_polynomial n s X)
+taken m zero a X e s each =
+    let p = sum_below-zero (λ i. e i * X ^ i) in
+    let q = ap (λ v. a * v) (sum_below-zero (λ i. s (suc i) * X ^ i)) in
+    let r = sum_below-zero (λ i. s i * X ^ i) in
+    of_equal (omega (arith, p, q, r))
+taken m (suc n) a X e s each =
+    let i = taken m n a X e s (λ l k. each l (omega arith)) in
+    let p = sum_below-suc n (λ i. e i * X ^ i) in
+    let q = ap (λ v. a * v) (sum_below-suc n (λ i. s (suc i) * X ^ i)) in
+    let r = sum_below-suc n (λ i. s i * X ^ i) in
+    let split : ascending_polynomial (suc n) e X + a * ascending_polynomial (suc n) (λ l. s (suc l)) X
+    ≡ (ascending_polynomial n e X + a * ascending_polynomial n (λ l. s (suc l)) X) + (e n + a * s (suc n)) * X ^ n =
+    omega (arith, p, q) in
+    chained (of_equal split) (chained (added i (multiplied (each n (omega arith)) (itself (X ^ n)))) (of_equal (sym r)))
+
+pub one_expanded : (m n a X : ℕ) (e s : ℕ → ℕ) → 0 < m
+    → ((l : ℕ) → l < n → Congruent m (e l + a * s (suc l)) (s l)) → e n ≡ s n
+    → Congruent m (ascending_polynomial (suc n) e X)
+    (s 0 + residue m (pos X -ℤ pos a) * ascending_polynomial n (λ l. s (suc l)) X)
+one_expanded m n a X e s positive each last =
+    let q : ℕ = ascending_polynomial n (λ l. s (suc l)) X in
+    let u : ℕ = residue m (pos X -ℤ pos a) in
+    let top = ap (λ v. v * X ^ n) last in
+    let p = sum_below-suc n (λ i. e i * X ^ i) in
+    let r = sum_below-suc n (λ i. s i * X ^ i) in
+    let split : ascending_polynomial (suc n) e X + a * q ≡ (ascending_polynomial n e X + a * q) + s n * X ^ n =
+    omega (arith, p, top) in
+    let whole : Congruent m (ascending_polynomial (suc n) e X + a * q) (s 0 + X * q) =
+    chained (of_equal split) (chained (added (taken m n a X e s each) (itself (s n * X ^ n)))
+    (of_equal (sym r ∙ ascending-first n s X))) in
+    let is : Congruent m (u + a) X = record { same = difference_and m X a positive } in
+    let apart : s 0 + (u + a) * q ≡ (s 0 + u * q) + a * q = omega arith in
+    cancelled (a * q) (chained whole (chained (added (itself (s 0)) (multiplied (turned is) (itself q))) (of_equal apart)))
+
+-- a number and its residue have the same inverses
+to_residue : (m a x : ℕ) → IsInverse m a x → IsInverse m (a % m) x
+to_residue m a x h = record { below = h.below; one = mul-mod_first a x m ∙ h.one }
+
+of_residue : (m a x : ℕ) → IsInverse m (a % m) x → IsInverse m a x
+of_residue m a x h = record { below = h.below; one = sym (mul-mod_first a x m) ∙ h.one }
+
+-- b - a has an inverse where a - b has
+turned_difference : (m a b : ℕ) → HasInverse m (residue m (pos a -ℤ pos b)) → HasInverse m (residue m (pos b -ℤ pos a))
+turned_difference m a b h =
+    let below = h.1.below in
+    let positive : 0 < m = omega (arith, below) in
+    let u : ℕ = residue m (pos a -ℤ pos b) in
+    let v : ℕ = residue m (pos b -ℤ pos a) in
+    let x : ℕ = h.0 in
+    let y : ℕ = m - x in
+    let one : Congruent m (u * x) 1 = record { same = h.1.one } in
+    let at_u : Congruent m (u + b) a = record { same = difference_and m a b positive } in
+    let at_v : Congruent m (v + a) b = record { same = difference_and m b a positive } in
+    let sum_is : (u + v) + (a + b) ≡ (u + b) + (v + a) = omega arith in
+    let none_is : a + b ≡ 0 + (a + b) = omega arith in
+    let none : Congruent m (u + v) 0 =
+    cancelled (a + b) (chained (of_equal sum_is) (chained (added at_u at_v) (of_equal none_is))) in
+    let whole : v * y + v * x ≡ v * m + 0 =
+    (let e : v * y + v * x ≡ v * (y + x) = omega arith in
+    let f : y + x ≡ m = omega arith in
+    let g : v * m ≡ v * m + 0 = omega arith in e ∙ ap (λ k. v * k) f ∙ g) in
+    let turn : v * m + 0 ≡ 0 + m * v = omega arith in
+    let multiple : Congruent m (v * m + 0) 0 =
+    record { same = ap (λ k. k % m) turn ∙ add-mul-mod_self_left 0 m v } in
+    let zero_times : 0 * x ≡ 0 = omega arith in
+    let apart : (u + v) * x ≡ u * x + v * x = omega arith in
+    let other : Congruent m 0 (1 + v * x) =
+    chained (of_equal (sym zero_times)) (chained (multiplied (turned none) (itself x))
+    (chained (of_equal apart) (added one (itself (v * x))))) in
+    let product : Congruent m (v * y) 1 =
+    cancelled (v * x) (chained (of_equal whole) (chained multiple other)) in (
+      y % m,
+      record {
+        below = mod-lt y positive;
+        one = mul-mod_second v y m ∙ product.same;
+      },
+    )
+
+-- the points fit exactly where the products of the differences have inverses
+pub fit_from_products : (m n : ℕ) (x : ℕ → ℕ)
+    → ((i : ℕ) → i < n → HasInverse m (product_below i (difference m x i) % m)) → HaveUnitDifferences m n x
+fit_from_products m n x each =
+    let lower : (i j : ℕ) → i < n → j < i → HasInverse m (difference m x i j) =
+    λ i j l k. let h = each i l in has_each m i (difference m x i) (h.0, of_residue m _ h.0 h.1) j k in
+    record {
+      unit = λ i j l k other. elim (cases_lt j i) [
+        | inl b ↦ lower i j l b
+        | inr b ↦ turned_difference m (x j) (x i) (lower j i k (omega arith))
+      ];
+    }
+
+pub products_from_fit : (m n : ℕ) (x : ℕ → ℕ) → 0 < m → HaveUnitDifferences m n x
+    → (i : ℕ) → i < n → HasInverse m (product_below i (difference m x i) % m)
+products_from_fit m n x positive fit i l =
+    let h = has_product m i (difference m x i) positive
+    (λ j k. fit.unit i j l (omega arith) (omega arith)) in
+    (h.0, to_residue m _ h.0 h.1)
+
+-- one step of Horner's rule, the coefficients taken from the last
+pub value_more : (m n k : ℕ) (c : ℕ → ℕ) (a value product sum : ℕ) → k < n
+    → value ≡ ascending_polynomial k (λ i. c (n - k + i)) a % m → product ≡ (value * a) % m
+    → sum ≡ (c (n - 1 - k) + product) % m
+    → sum ≡ ascending_polynomial (k + 1) (λ i. c (n - (k + 1) + i)) a % m
+value_more m n k c a value product sum l is_value is_product is =
+    let v : ℕ = ascending_polynomial k (λ i. c (n - k + i)) a in
+    let e = ascending-first k (λ i. c (n - (k + 1) + i)) a in
+    let f : c (n - (k + 1) + 0) ≡ c (n - 1 - k) = ap c (omega arith) in
+    let g = ap (λ w. a * w) (ascending-same k (λ i. c (n - (k + 1) + suc i)) (λ i. c (n - k + i)) a
+    (λ i b. ap c (let t : n - (k + 1) + suc i ≡ n - k + i = omega arith in t))) in
+    let whole : c (n - 1 - k) + v * a ≡ ascending_polynomial (suc k) (λ i. c (n - (k + 1) + i)) a = omega (arith, e, f, g) in
+    let product_is : Congruent m product (v * a) =
+    chained (of_equal is_product) (chained (residue_of (value * a))
+    (multiplied (chained (of_equal is_value) (residue_of v)) (itself a))) in
+    is ∙ (added (itself (c (n - 1 - k))) product_is).same ∙ ap (λ w. w % m) whole
+    ∙ ap (λ j. ascending_polynomial j (λ i. c (n - (k + 1) + i)) a % m) (let t : suc k ≡ k + 1 = omega arith in t)
+
+pub value_none : (m a value : ℕ) (c : ℕ → ℕ) → value ≡ 0 % m → value ≡ ascending_polynomial 0 c a % m
+value_none m a value c is = is ∙ ap (λ v. v % m) (sym (ascending-none c a))
+
+pub value_all : (n a : ℕ) (c : ℕ → ℕ) → ascending_polynomial n (λ i. c (n - n + i)) a ≡ ascending_polynomial n c a
+value_all n a c = ascending-same n (λ i. c (n - n + i)) c a (λ i l. ap c (let e : n - n + i ≡ i = omega arith in e))
+
+-- .. of Newton's form
+pub form_before : (m n k : ℕ) (c x : ℕ → ℕ) (a value difference product sum : ℕ) → k < n
+    → value ≡ newton_form m k (λ i. c (n - k + i)) (λ i. x (n - k + i)) a % m
+    → difference ≡ residue m (pos a -ℤ pos (x (n - 1 - k))) → product ≡ (difference * value) % m
+    → sum ≡ (c (n - 1 - k) + product) % m
+    → sum ≡ newton_form m (k + 1) (λ i. c (n - (k + 1) + i)) (λ i. x (n - (k + 1) + i)) a % m
+form_before m n k c x a value d product sum l is_value is_difference is_product is =
+    let v : ℕ = newton_form m k (λ i. c (n - k + i)) (λ i. x (n - k + i)) a in
+    let at_zero : n - (k + 1) + 0 ≡ n - 1 - k = omega arith in
+    let shift : (i : ℕ) → n - (k + 1) + suc i ≡ n - k + i = λ i. omega arith in
+    let e = form-first m k (λ i. c (n - (k + 1) + i)) (λ i. x (n - (k + 1) + i)) a in
+    let f = form-same m k (λ i. c (n - (k + 1) + suc i)) (λ i. c (n - k + i)) (λ i. x (n - (k + 1) + suc i))
+    (λ i. x (n - k + i)) a (λ i b. ap c (shift i)) (λ i b. ap x (shift i)) in
+    let whole : newton_form m (suc k) (λ i. c (n - (k + 1) + i)) (λ i. x (n - (k + 1) + i)) a ≡ c (n - 1 - k) + d * v =
+    e ∙ ap (λ w. c w + minus m a (x w) * newton_form m k (λ i. c (n - (k + 1) + suc i)) (λ i. x (n - (k + 1) + suc i)) a)
+    at_zero ∙ ap (λ w. c (n - 1 - k) + minus m a (x (n - 1 - k)) * w) f
+    ∙ ap (λ w. c (n - 1 - k) + w * v) (sym is_difference) in
+    let product_is : Congruent m product (d * v) =
+    chained (of_equal is_product) (chained (residue_of (d * value))
+    (multiplied (itself d) (chained (of_equal is_value) (residue_of v)))) in
+    is ∙ (added (itself (c (n - 1 - k))) product_is).same ∙ ap (λ w. w % m) (sym whole)
+    ∙ ap (λ j. newton_form m j (λ i. c (n - (k + 1) + i)) (λ i. x (n - (k + 1) + i)) a % m)
+    (let t : suc k ≡ k + 1 = omega arith in t)
+
+pub form_nothing : (m a value : ℕ) (c x : ℕ → ℕ) → value ≡ 0 % m → value ≡ newton_form m 0 c x a % m
+form_nothing m a value c x is = is ∙ ap (λ v. v % m) (sym (form-none m c x a))
+
+pub form_all : (m n a : ℕ) (c x : ℕ → ℕ)
+    → newton_form m n (λ i. c (n - n + i)) (λ i. x (n - n + i)) a ≡ newton_form m n c x a
+form_all m n a c x =
+    let shift : (i : ℕ) → n - n + i ≡ i = λ i. omega arith in
+    form-same m n (λ i. c (n - n + i)) c (λ i. x (n - n + i)) x a (λ i l. ap c (shift i)) (λ i l. ap x (shift i))
+
+-- one point more of the coefficients: e are the coefficients behind it before, f after
+pub expanded_more : (m n k : ℕ) (c e f x : ℕ → ℕ) → 0 < m → k < n
+    → ((a : ℕ) → Congruent m (ascending_polynomial k (λ i. e (n - k + i)) a)
+    (newton_form m k (λ i. c (n - k + i)) (λ i. x (n - k + i)) a))
+    → ((i : ℕ) → i < n - k → e i ≡ c i)
+    → ((i : ℕ) → n - 1 - k ≤ i → i + 1 < n → Congruent m (f i + x (n - 1 - k) * e (i + 1)) (e i))
+    → ((i : ℕ) → n ≤ i + 1 → f i ≡ e i)
+    → (a : ℕ) → Congruent m (ascending_polynomial (k + 1) (λ i. f (n - (k + 1) + i)) a)
+    (newton_form m (k + 1) (λ i. c (n - (k + 1) + i)) (λ i. x (n - (k + 1) + i)) a)
+expanded_more m n k c e f x positive l before kept done last a =
+    let from : ℕ = n - (k + 1) in
+    let at_zero : from + 0 ≡ n - 1 - k = omega arith in
+    let here : n - 1 - k ≡ from + 0 = omega arith in
+    let shift : (i : ℕ) → from + suc i ≡ n - k + i = λ i. omega arith in
+    let each : (i : ℕ) → i < k → Congruent m (f (from + i) + x (n - 1 - k) * e (from + suc i)) (e (from + i)) =
+    λ i b. let t : from + i + 1 ≡ from + suc i = omega arith in
+    chained (of_equal (ap (λ w. f (from + i) + x (n - 1 - k) * e w) (sym t)))
+    (done (from + i) (omega arith) (omega arith)) in
+    let q : ℕ = ascending_polynomial k (λ i. e (from + suc i)) a in
+    let rest : Congruent m q (newton_form m k (λ i. c (from + suc i)) (λ i. x (from + suc i)) a) =
+    chained (of_equal (ascending-same k (λ i. e (from + suc i)) (λ i. e (n - k + i)) a (λ i b. ap e (shift i))))
+    (chained (before a)
+    (of_equal (sym (form-same m k (λ i. c (from + suc i)) (λ i. c (n - k + i)) (λ i. x (from + suc i))
+    (λ i. x (n - k + i)) a (λ i b. ap c (shift i)) (λ i b. ap x (shift i)))))) in
+    let one = one_expanded m k (x (n - 1 - k)) a (λ i. f (from + i)) (λ i. e (from + i)) positive each
+    (last (from + k) (omega arith)) in
+    let first : Congruent m (e (from + 0)) (c (from + 0)) = of_equal (kept (from + 0) (omega arith)) in
+    let next : suc k ≡ k + 1 = omega arith in
+    chained (of_equal (ap (λ j. ascending_polynomial j (λ i. f (from + i)) a) (sym next)))
+    (chained one
+    (chained (added first (multiplied (of_equal (ap (λ w. minus m a (x w)) here)) rest))
+    (of_equal (sym (form-first m k (λ i. c (from + i)) (λ i. x (from + i)) a)
+    ∙ ap (λ j. newton_form m j (λ i. c (from + i)) (λ i. x (from + i)) a) next))))
+
+pub expanded_all : (m n k : ℕ) (c e x : ℕ → ℕ) → k ≡ n
+    → ((a : ℕ) → Congruent m (ascending_polynomial k (λ i. e (n - k + i)) a)
+    (newton_form m k (λ i. c (n - k + i)) (λ i. x (n - k + i)) a))
+    → (a : ℕ) → Congruent m (ascending_polynomial n e a) (newton_form m n c x a)
+expanded_all m n k c e x is same a =
+    chained (of_equal (sym (ap (λ k. ascending_polynomial k (λ i. e (n - k + i)) a) is ∙ value_all n a e)))
+    (chained (same a)
+    (of_equal (ap (λ k. newton_form m k (λ i. c (n - k + i)) (λ i. x (n - k + i)) a) is ∙ form_all m n a c x)))
+
+-- the difference of a value and a multiple of the next one
+pub subtracted : (m a product new o next : ℕ) → 0 < m → product ≡ (a * next) % m
+    → new ≡ residue m (pos o -ℤ pos product) → Congruent m (new + a * next) o
+subtracted m a product new o next positive is_product is =
+    let product_is : Congruent m (a * next) product = chained (turned (residue_of (a * next))) (of_equal (sym is_product)) in
+    chained (added (of_equal is) product_is) (record { same = difference_and m o product positive })
+
+-- an inversion tells whether there is an inverse
+pub inversion_tells : {T : Type 0} (value : T → ℕ) (m a : ℕ) (found : Option T) (b : Bool)
+    → IsInversion value m a found → b ≡ is_some found → IsTrue b ↔ HasInverse m a
+inversion_tells value m a None b h e = ((λ t. let wrong : false ≡ true = sym e ∙ t in cc), λ (x, inverse). absurd (h x inverse))
+inversion_tells value m a (Some y) b h e = ((λ t. (value y, h)), λ inverse. e)
+
+-- a product and its residue
+pub has_of_residue : (m a v : ℕ) → v ≡ a % m → HasInverse m v → HasInverse m a
+has_of_residue m a v e h =
+    let k = h.1 in
+    (h.0, of_residue m a h.0 (record { below = k.below; one = ap (λ w. (w * h.0) % m) (sym e) ∙ k.one }))
+
+pub has_to_residue : (m a v : ℕ) → v ≡ a % m → HasInverse m a → HasInverse m v
+has_to_residue m a v e h =
+    let k = to_residue m a h.0 h.1 in
+    (h.0, record { below = k.below; one = ap (λ w. (w * h.0) % m) e ∙ k.one })
+
+pub inverse_of_product : (m a v x : ℕ) → v ≡ a % m → IsInverse m v x → IsInverse m a x
+inverse_of_product m a v x e h =
+    of_residue m a x (record { below = h.below; one = ap (λ w. (w * x) % m) (sym e) ∙ h.one })
+
+-- the coefficients from Newton's form have its values
+pub interpolated : (m n a b old y i : ℕ) (e f x : ℕ → ℕ) → a ≡ n → b ≡ n
+    → ((q : ℕ) → Congruent m (ascending_polynomial a e q) (newton_form m a f x q))
+    → newton_form m b f x (x i) % m ≡ old → old ≡ y → y ≡ ascending_polynomial n e (x i) % m
+interpolated m n a b old y i e f x is_a is_b same value is =
+    let s = same (x i) in
+    sym (ap (λ k. ascending_polynomial k e (x i) % m) (sym is_a) ∙ s.same
+    ∙ ap (λ k. newton_form m k f x (x i) % m) (is_a ∙ sym is_b) ∙ value ∙ is)

@@ -1,0 +1,36 @@
+-- Symbols of words, as entries of lists of forms.
+use Rattle.std.proofs.Common.{◌≡◌, ℕ, ◌<◌, ◌≤◌, List, [], ◌∷◌, length, take, All, sym, ◌∙◌, ap, subst, arith}
+use Rattle.std.proofs.Common.{◌↔◌, Bool, true, false, not, IsTrue, refl}
+use Rattle.std.proofs.lemmas.Bool.{false≢true}
+use Rattle.std.proofs.lemmas.List.{get_or-take, length-take-le}
+use Rattle.num_modular.specs.Callers.{IsForm, entry, entry_at}
+
+-- the value of a checked form is below the modulus
+pub entry_below : {T : Type 0} (number : T → ℕ) (form value : ℕ → ℕ → ℕ) (m : ℕ) (forms : List T) (i : ℕ)
+    → All (λ f. IsForm form value m (number f)) forms → i < length forms → entry number value m forms i < m
+entry_below number form value m [] i all l = absurd (omega arith)
+entry_below number form value m (x ∷ xs) i all l =
+    subst (λ v. v < m) (entry_at number value m (x ∷ xs) i x l) (all i x l).below
+
+-- the first k entries
+pub entry_front : {T : Type 0} (number : T → ℕ) (value : ℕ → ℕ → ℕ) (m : ℕ) (forms : List T) (k i : ℕ)
+    → i < k → k ≤ length forms → entry number value m (take k forms) i ≡ entry number value m forms i
+entry_front number value m [] k i l room = absurd (omega arith)
+entry_front number value m (x ∷ xs) k i l room =
+    let count = length-take-le k (x ∷ xs) room in
+    sym (entry_at number value m (take k (x ∷ xs)) i x (omega (arith, count, l)))
+    ∙ ap (λ f. value m (number f)) (get_or-take k (x ∷ xs) i x l)
+    ∙ entry_at number value m (x ∷ xs) i x (omega (arith, l, room))
+
+-- equal values have equal forms
+pub same_forms : (form value : ℕ → ℕ → ℕ) (m f g : ℕ) → IsForm form value m f → IsForm form value m g
+    → value m f ≡ value m g → f ≡ g
+same_forms form value m f g is_f is_g e = is_f.same ∙ ap (form m) e ∙ sym is_g.same
+
+-- what `!=` tells
+pub told_same : (b e : Bool) (P : Type 0) → b ≡ not e → b ≡ false → (IsTrue e ↔ P) → P
+told_same b true P is f tells = tells.0 refl
+told_same b false P is f tells = absurd (false≢true (sym f ∙ is))
+
+pub told_other : (b e : Bool) (P : Type 0) → b ≡ not e → b ≡ true → (IsTrue e ↔ P) → P → ⊥
+told_other b e P is t tells p = false≢true (sym (is ∙ ap not (tells.1 p)) ∙ t)

@@ -1,0 +1,22 @@
+use Rattle.num_modular.specs.Callers.{ℕ, ◌+◌, ◌-◌, ◌%◌, length, ◌∙◌, ap, arith, entry, entry_read}
+use Rattle.ring_codes.proofs.NewtonForms.{value_none, value_more}
+use Rattle.ring_codes.proofs.erasure.evaluate.Goals as goal
+
+pub coefficients-init : goal.coefficients-init
+coefficients-init g c =
+    let m = g.R.Reducer.modulus c.args.r.now in record {
+      checked = c.transform-value.ensures.checked;
+      same = value_none m _ _ _ (c.transform-value.ensures.value ∙ ap (λ v. v % m) c.zero.ensures);
+    }
+
+pub coefficients-preserved : goal.coefficients-preserved
+coefficients-preserved g c =
+    let ring = g.R.Reducer in let m = ring.modulus c.args.r.now in let number = g.T.RingWord.number in
+    let cs = c.args.coefficients.now in let n = length cs in let k = c.coefficients.k in let i : ℕ = n - 1 - k in
+    let read = entry_read number ring.value m cs i _ (omega arith) c.index-coefficients-i.is in
+    record {
+      checked = c.add-value.ensures.checked;
+      same = value_more m n k (entry number ring.value m cs) _ _ _ _ (omega arith) c.coefficients.invariant.same
+          c.mul-product.ensures.value
+          (c.add-value.ensures.value ∙ ap (λ v. (v + ring.value m (number c.mul-product.result)) % m) read);
+    }

@@ -1,0 +1,36 @@
+use Rattle.num_modular.specs.Callers.{◌≡◌, ℕ, ◌+◌, ◌-◌, ◌*◌, length, ◌∙◌, ap, sym, refl, arith, entry, entry_read}
+use Rattle.num_modular.specs.NumberLaws.{of_equal, chained}
+use Rattle.num_modular.specs.PolynomialLaws.{ascending-none}
+use Rattle.ring_codes.proofs.NewtonForms.{form-none, expanded_more, expanded_all}
+use Rattle.ring_codes.proofs.erasure.newton.expand.Goals as goal
+
+pub points-init : goal.points-init
+points-init g c =
+    (c.requires.form, λ a. of_equal (ascending-none _ a ∙ sym (form-none _ _ _ a)), λ i l. refl)
+
+pub points-preserved : goal.points-preserved
+points-preserved g c =
+    let ring = g.R.Reducer in let m = ring.modulus c.args.r.now in let number = g.T.RingWord.number in
+    let positive = (g.met.R.Reducer.canonical c.args.r.now).positive in
+    let points = c.args.points.now in let n = length c.args.form.now in let k = c.points.k in
+    let so_far = c.points.invariant in
+    let e = entry number ring.value m c.points.form in
+    let f = entry number ring.value m c.subtract_multiples.new.values in
+    let x = entry number ring.value m points in
+    let there : length c.points.form - 1 - k ≡ n - 1 - k = omega arith in
+    let point = entry_read number ring.value m points (length c.points.form - 1 - k) _ (omega arith) c.index-points-from.is
+    ∙ ap x there in
+    let done = c.subtract_multiples.ensures in (
+      done.checked,
+      expanded_more m n k (entry number ring.value m c.args.form.now) e f x positive (omega arith) so_far.1 so_far.2
+          (λ i l b. chained (of_equal (ap (λ v. f i + v * e (i + 1)) (sym point))) (done.done i (omega arith) (omega arith)))
+          (λ i l. done.last i (omega arith)),
+      λ i l. done.before i (omega arith) ∙ so_far.2 i (omega arith),
+    )
+
+pub returns-clause-same : goal.returns-clause-same
+returns-clause-same g c =
+    let ring = g.R.Reducer in let m = ring.modulus c.args.r.now in let number = g.T.RingWord.number in
+    let points = c.args.points.now in
+    expanded_all m (length c.args.form.now) c.points.k (entry number ring.value m c.args.form.now)
+    (entry number ring.value m c.points.form) (entry number ring.value m points) (omega arith) c.points.invariant.1

@@ -1,0 +1,175 @@
+//! Erasure codes: Reed and Solomon's, over any modulus. From any k of the n symbols of a word the
+//! message of k symbols is restored.
+//!
+//! A message is the list of the coefficients of a polynomial, the constant first, and symbol i of its
+//! word is the polynomial's value at point i, modulo m. The points must fit (`points_fit`): each
+//! difference of two has an inverse modulo m. So there are at most as many points as the least prime
+//! divisor of m says.
+//!
+//! Points, messages and words are lists of checked forms of a reducer: `load_forms` and `unload_forms`
+//! of `num_modular::ring` convert from words and back. Nothing takes memory: the caller passes the
+//! scratch lists. Nothing runs in constant time, and no secrecy is proved.
+//!
+//! Source: Reed and Solomon, "Polynomial codes over certain finite fields".
+
+ghost use Rattle.std.specs.Prelude.{◌≡◌, ℕ, ◌%◌, ◌<◌, ◌≤◌, ◌↔◌, IsTrue, IsOk, IfErr, All, length};
+ghost use Rattle.std.specs.Prelude.{slice_index};
+ghost use Rattle.num_modular.specs.Entries.{entry};
+ghost use Rattle.num_modular.specs.Forms.{IsForm};
+ghost use Rattle.num_modular.specs.Polynomials.{ascending_polynomial, HaveUnitDifferences};
+ghost use Rattle.ring_codes.specs.Erasure.{IsEncoding, IsErasureCodeword, ArePlaces, IsFault};
+
+mod newton;
+
+use clients::list_inverses::invert_each;
+use newton::{differences_before, divide_differences, expand, fill_weights};
+use num_modular::{Reducer, RingWord};
+
+/// Why a message can't be restored.
+#[derive(Clone, Copy, Debug, PartialEq, Eq)]
+pub enum RestoreError {
+    /// There are fewer symbols than the message has.
+    TooFewSymbols,
+    /// There is no point at one of the places.
+    PlaceOutOfRange,
+    /// One of the places occurs twice.
+    PlaceTwice,
+    /// The difference of two of the points has no inverse modulo m.
+    PointsDontFit,
+}
+
+/// Whether the points fit: the difference of any two has an inverse modulo m. Condition: they are
+/// checked forms.
+///
+/// It takes n²/2 products and one inversion.
+pub fn points_fit<T: RingWord, R: Reducer<T>>(r: &R, points: &[T]) -> bool
+    requires { All (λ f. IsForm R.form R.value (R.modulus r.now) (T.number f)) points.now }
+    ensures { let m = R.modulus r.now in
+        IsTrue result ↔ HaveUnitDifferences m (length points.now) (entry T.number R.value m points.now) }
+{
+    let mut product = r.transform(T::one());
+    'points: for i in 0..points.len() {
+        let differences = differences_before(r, points, i);
+        product = r.mul(&product, &differences);
+    }
+    r.inv(product).is_some()
+}
+
+/// The form of the value at a point of the polynomial with these coefficients, the constant first, by
+/// Horner's rule. Condition: all are checked forms.
+pub fn evaluate<T: RingWord, R: Reducer<T>>(r: &R, coefficients: &[T], point: &T) -> T
+    requires coefficients { All (λ f. IsForm R.form R.value (R.modulus r.now) (T.number f)) coefficients.now }
+    requires point { IsForm R.form R.value (R.modulus r.now) (T.number point.now) }
+    ensures checked { IsForm R.form R.value (R.modulus r.now) (T.number result) }
+    ensures value { let m = R.modulus r.now in R.value m (T.number result)
+        ≡ ascending_polynomial (length coefficients.now) (entry T.number R.value m coefficients.now)
+        (R.value m (T.number point.now)) % m }
+{
+    let mut value = r.transform(T::zero());
+    'coefficients: for k in 0..coefficients.len() {
+        let i = coefficients.len() - 1 - k;
+        let product = r.mul(&value, point);
+        value = r.add(&coefficients[i], &product);
+    }
+    value
+}
+
+/// Puts the word of a message: symbol i is the value at point i. Conditions: the points and the message
+/// are checked forms, and the word has a place for each point.
+///
+/// It takes n·k products. Source: Reed and Solomon, "Polynomial codes over certain finite fields".
+pub fn encode<T: RingWord, R: Reducer<T>>(r: &R, points: &[T], message: &[T], word: &mut [T])
+    requires points { All (λ f. IsForm R.form R.value (R.modulus r.now) (T.number f)) points.now }
+    requires message { All (λ f. IsForm R.form R.value (R.modulus r.now) (T.number f)) message.now }
+    requires room { length word.old ≡ length points.now }
+    ensures checked { All (λ f. IsForm R.form R.value (R.modulus r.now) (T.number f)) word.new }
+    ensures encoding { let m = R.modulus r.now in
+        IsEncoding m (length message.now) (length points.now) (entry T.number R.value m points.now)
+        (entry T.number R.value m message.now) (entry T.number R.value m word.new) }
+{
+    'points: for i in 0..points.len() {
+        word[i] = evaluate(r, message, &points[i]);
+    }
+}
+
+/// Puts the k coefficients of the polynomial with k coefficients that has the first k values at the first
+/// k points, the constant first; returns false exactly where these points don't fit. Modulo m there is no
+/// other such polynomial.
+///
+/// Conditions: points and values are checked forms, at least k each, and there are k weights. What is in
+/// `weights` and `coefficients` doesn't matter. It goes by Newton's divided differences, in about 3k²/2
+/// products and one inversion.
+///
+/// Source: Knuth, The Art of Computer Programming, volume 2, section 4.6.4.
+pub fn interpolate<T: RingWord, R: Reducer<T>>(
+    r: &R,
+    points: &[T],
+    values: &[T],
+    weights: &mut [T],
+    coefficients: &mut [T],
+) -> bool
+    requires points { All (λ f. IsForm R.form R.value (R.modulus r.now) (T.number f)) points.now }
+    requires values { All (λ f. IsForm R.form R.value (R.modulus r.now) (T.number f)) values.now }
+    requires points_within { length coefficients.old ≤ length points.now }
+    requires values_within { length coefficients.old ≤ length values.now }
+    requires weights { length weights.old ≡ length coefficients.old }
+    ensures fit { let m = R.modulus r.now in
+        IsTrue result ↔ HaveUnitDifferences m (length coefficients.old) (entry T.number R.value m points.now) }
+    ensures checked { IsTrue result →
+        All (λ f. IsForm R.form R.value (R.modulus r.now) (T.number f)) coefficients.new }
+    ensures values { let m = R.modulus r.now in IsTrue result →
+        IsEncoding m (length coefficients.old) (length coefficients.old) (entry T.number R.value m points.now)
+        (entry T.number R.value m coefficients.new) (entry T.number R.value m values.now) }
+    ensures only { let m = R.modulus r.now in IsTrue result → (other : ℕ → ℕ) →
+        IsEncoding m (length coefficients.old) (length coefficients.old) (entry T.number R.value m points.now)
+        other (entry T.number R.value m values.now) →
+        (i : ℕ) → i < length coefficients.old → entry T.number R.value m coefficients.new i ≡ other i % m }
+{
+    fill_weights(r, points, weights);
+    if !invert_each(r, weights, coefficients) {
+        return false;
+    }
+    coefficients.copy_from_slice(&values[..coefficients.len()]);
+    divide_differences(r, points, weights, coefficients);
+    expand(r, points, coefficients);
+    true
+}
+
+/// Whether a word is that of some message of k symbols, k being the length of `message`: true exactly
+/// there, with the message in `message`.
+///
+/// Conditions: the points fit (`points_fit` tells), points and word are checked forms, the word has a
+/// symbol for each point, and there are k weights, k being at most the number of points. What is in
+/// `weights` and `message` doesn't matter.
+pub fn is_codeword<T: RingWord, R: Reducer<T>>(
+    r: &R,
+    points: &[T],
+    word: &[T],
+    weights: &mut [T],
+    message: &mut [T],
+) -> bool
+    requires points { All (λ f. IsForm R.form R.value (R.modulus r.now) (T.number f)) points.now }
+    requires word { All (λ f. IsForm R.form R.value (R.modulus r.now) (T.number f)) word.now }
+    requires fit { let m = R.modulus r.now in
+        HaveUnitDifferences m (length points.now) (entry T.number R.value m points.now) }
+    requires symbols { length word.now ≡ length points.now }
+    requires few { length message.old ≤ length points.now }
+    requires weights { length weights.old ≡ length message.old }
+    ensures codeword { let m = R.modulus r.now in
+        IsTrue result ↔ IsErasureCodeword m (length message.old) (length points.now)
+        (entry T.number R.value m points.now) (entry T.number R.value m word.now) }
+    ensures message { let m = R.modulus r.now in IsTrue result →
+        IsEncoding m (length message.old) (length points.now) (entry T.number R.value m points.now)
+        (entry T.number R.value m message.new) (entry T.number R.value m word.now) }
+{
+    if !interpolate(r, points, word, weights, message) {
+        return false;
+    }
+    'places: for i in message.len()..points.len() {
+        let symbol = evaluate(r, message, &points[i]);
+        if symbol != word[i] {
+            return false;
+        }
+    }
+    true
+}

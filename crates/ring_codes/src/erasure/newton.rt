@@ -1,0 +1,143 @@
+//! Newton's form of the polynomial through given points, and its coefficients.
+
+ghost use Rattle.std.specs.Prelude.{◌≡◌, ℕ, ◌+◌, ◌*◌, ◌%◌, ◌<◌, ◌≤◌, All, length};
+ghost use Rattle.num_modular.specs.Congruence.{Congruent};
+ghost use Rattle.num_modular.specs.Entries.{entry};
+ghost use Rattle.num_modular.specs.Forms.{IsForm};
+ghost use Rattle.num_modular.specs.Inverses.{IsInverse};
+ghost use Rattle.num_modular.specs.Polynomials.{ascending_polynomial};
+ghost use Rattle.num_modular.specs.Products.{product_below};
+ghost use Rattle.ring_codes.specs.Newton.{difference, newton_form};
+
+use num_modular::{Reducer, RingWord};
+
+/// The form of the product of the differences of a point from each before it.
+pub fn differences_before<T: RingWord, R: Reducer<T>>(r: &R, points: &[T], place: usize) -> T
+    requires checked { All (λ f. IsForm R.form R.value (R.modulus r.now) (T.number f)) points.now }
+    requires within { place < length points.now }
+    ensures checked { IsForm R.form R.value (R.modulus r.now) (T.number result) }
+    ensures value { let m = R.modulus r.now in R.value m (T.number result)
+        ≡ product_below place (difference m (entry T.number R.value m points.now) place) % m }
+{
+    let mut product = r.transform(T::one());
+    'differences: for j in 0..place {
+        let difference = r.sub(&points[place], &points[j]);
+        product = r.mul(&product, &difference);
+    }
+    product
+}
+
+/// Puts the product of the differences of each point from those before it, for as many points as there
+/// are weights.
+pub fn fill_weights<T: RingWord, R: Reducer<T>>(r: &R, points: &[T], weights: &mut [T])
+    requires checked { All (λ f. IsForm R.form R.value (R.modulus r.now) (T.number f)) points.now }
+    requires within { length weights.old ≤ length points.now }
+    ensures checked { All (λ f. IsForm R.form R.value (R.modulus r.now) (T.number f)) weights.new }
+    ensures values { let m = R.modulus r.now in (i : ℕ) → i < length weights.old →
+        entry T.number R.value m weights.new i
+        ≡ product_below i (difference m (entry T.number R.value m points.now) i) % m }
+{
+    'points: for i in 0..weights.len() {
+        weights[i] = differences_before(r, points, i);
+    }
+}
+
+/// The value at a point of Newton's form with the first `count` coefficients.
+pub fn newton_value<T: RingWord, R: Reducer<T>>(
+    r: &R,
+    points: &[T],
+    form: &[T],
+    count: usize,
+    point: &T,
+) -> T
+    requires points { All (λ f. IsForm R.form R.value (R.modulus r.now) (T.number f)) points.now }
+    requires form { All (λ f. IsForm R.form R.value (R.modulus r.now) (T.number f)) form.now }
+    requires point { IsForm R.form R.value (R.modulus r.now) (T.number point.now) }
+    requires points_within { count ≤ length points.now }
+    requires form_within { count ≤ length form.now }
+    ensures checked { IsForm R.form R.value (R.modulus r.now) (T.number result) }
+    ensures value { let m = R.modulus r.now in R.value m (T.number result)
+        ≡ newton_form m count (entry T.number R.value m form.now) (entry T.number R.value m points.now)
+        (R.value m (T.number point.now)) % m }
+{
+    let mut value = r.transform(T::zero());
+    'coefficients: for k in 0..count {
+        let i = count - 1 - k;
+        let difference = r.sub(point, &points[i]);
+        let product = r.mul(&difference, &value);
+        value = r.add(&form[i], &product);
+    }
+    value
+}
+
+/// Puts the coefficients of Newton's form in place of the values at the points, by Newton's divided
+/// differences: the difference of the value and of the form so far is divided once.
+pub fn divide_differences<T: RingWord, R: Reducer<T>>(
+    r: &R,
+    points: &[T],
+    inverses: &[T],
+    values: &mut [T],
+)
+    requires points { All (λ f. IsForm R.form R.value (R.modulus r.now) (T.number f)) points.now }
+    requires inverses { All (λ f. IsForm R.form R.value (R.modulus r.now) (T.number f)) inverses.now }
+    requires values { All (λ f. IsForm R.form R.value (R.modulus r.now) (T.number f)) values.old }
+    requires points_within { length values.old ≤ length points.now }
+    requires inverses_within { length values.old ≤ length inverses.now }
+    requires inverse { let m = R.modulus r.now in (i : ℕ) → i < length values.old →
+        IsInverse m (product_below i (difference m (entry T.number R.value m points.now) i))
+        (entry T.number R.value m inverses.now i) }
+    ensures checked { All (λ f. IsForm R.form R.value (R.modulus r.now) (T.number f)) values.new }
+    ensures values { let m = R.modulus r.now in let x = entry T.number R.value m points.now in
+        (i : ℕ) → i < length values.old →
+        newton_form m (length values.old) (entry T.number R.value m values.new) x (x i) % m
+        ≡ entry T.number R.value m values.old i }
+{
+    'points: for i in 0..values.len() {
+        let known = newton_value(r, points, values, i, &points[i]);
+        let rest = r.sub(&values[i], &known);
+        values[i] = r.mul(&rest, &inverses[i]);
+    }
+}
+
+/// From a place on, takes the point times the next value from each but the last.
+pub fn subtract_multiples<T: RingWord, R: Reducer<T>>(
+    r: &R,
+    point: &T,
+    values: &mut [T],
+    from: usize,
+)
+    requires point { IsForm R.form R.value (R.modulus r.now) (T.number point.now) }
+    requires values { All (λ f. IsForm R.form R.value (R.modulus r.now) (T.number f)) values.old }
+    requires within { from < length values.old }
+    ensures checked { All (λ f. IsForm R.form R.value (R.modulus r.now) (T.number f)) values.new }
+    ensures done { let m = R.modulus r.now in (i : ℕ) → from ≤ i → i + 1 < length values.old →
+        Congruent m (entry T.number R.value m values.new i
+        + R.value m (T.number point.now) * entry T.number R.value m values.old (i + 1))
+        (entry T.number R.value m values.old i) }
+    ensures before { let m = R.modulus r.now in (i : ℕ) → i < from →
+        entry T.number R.value m values.new i ≡ entry T.number R.value m values.old i }
+    ensures last { let m = R.modulus r.now in (i : ℕ) → length values.old ≤ i + 1 →
+        entry T.number R.value m values.new i ≡ entry T.number R.value m values.old i }
+{
+    'places: for i in from + 1..values.len() {
+        let product = r.mul(point, &values[i]);
+        values[i - 1] = r.sub(&values[i - 1], &product);
+    }
+}
+
+/// Puts the coefficients, the constant first, in place of those of Newton's form.
+pub fn expand<T: RingWord, R: Reducer<T>>(r: &R, points: &[T], form: &mut [T])
+    requires points { All (λ f. IsForm R.form R.value (R.modulus r.now) (T.number f)) points.now }
+    requires form { All (λ f. IsForm R.form R.value (R.modulus r.now) (T.number f)) form.old }
+    requires within { length form.old ≤ length points.now }
+    ensures checked { All (λ f. IsForm R.form R.value (R.modulus r.now) (T.number f)) form.new }
+    ensures same { let m = R.modulus r.now in (a : ℕ) →
+        Congruent m (ascending_polynomial (length form.old) (entry T.number R.value m form.new) a)
+        (newton_form m (length form.old) (entry T.number R.value m form.old)
+        (entry T.number R.value m points.now) a) }
+{
+    'points: for k in 0..form.len() {
+        let from = form.len() - 1 - k;
+        subtract_multiples(r, &points[from], form, from);
+    }
+}
