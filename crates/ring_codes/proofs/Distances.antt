@@ -1,12 +1,12 @@
 -- Words that agree at as many places as their messages have symbols are of one message.
-use Rattle.std.proofs.Common.{◌≡◌, ◌≢◌, ℕ, zero, suc, ◌+◌, ◌-◌, ◌*◌, ◌%◌, ◌<◌, ◌≤◌, cond, eqb, ap, sym, ◌∙◌, arith, refl, subst}
+use Rattle.std.proofs.Common.{◌≡◌, ◌≢◌, ℕ, zero, suc, ◌+◌, ◌-◌, ◌%◌, ◌<◌, ◌≤◌, cond, eqb, ap, sym, ◌∙◌, arith, refl}
 use Rattle.std.proofs.Common.{inl, inr}
 use Rattle.std.proofs.lemmas.Bool.{cases_eq, cases_lt}
 use Rattle.std.proofs.lemmas.Bool.Decides.{eqb_tells}
 use Rattle.num_modular.specs.Callers.{same_coefficients}
 use Rattle.num_modular.specs.Congruence.{Congruent}
 use Rattle.num_modular.specs.NumberLaws.{itself, sum_below-zero, sum_below-suc}
-use Rattle.num_modular.specs.Polynomials.{ascending_polynomial, HaveUnitDifferences}
+use Rattle.num_modular.specs.Polynomials.{HaveUnitDifferences}
 use Rattle.num_modular.specs.PolynomialLaws.{ascending-congruent}
 use Rattle.ring_codes.specs.Erasure.{IsEncoding, IsErasureCodeword, distance}
 
@@ -66,16 +66,19 @@ none_selected n a b = record {
 }
 
 -- 0 where two symbols are equal, 1 where they aren't
-counted_same : (x y : ℕ) → x ≡ y → cond (eqb x y) 0 1 ≡ 0
+abbrev counted : ℕ → ℕ → ℕ
+counted x y = cond (eqb x y) 0 1
+
+counted_same : (x y : ℕ) → x ≡ y → counted x y ≡ 0
 counted_same x y e = elim (eqb_tells x y) [ inl p ↦ rw p.0 refl | inr p ↦ absurd (p.1 e) ]
 
-counted_other : (x y : ℕ) → x ≢ y → cond (eqb x y) 0 1 ≡ 1
+counted_other : (x y : ℕ) → x ≢ y → counted x y ≡ 1
 counted_other x y o = elim (eqb_tells x y) [ inl p ↦ absurd (o p.1) | inr p ↦ rw p.0 refl ]
 
 no_distance : (n : ℕ) (a b : ℕ → ℕ) → ((i : ℕ) → i < n → a i ≡ b i) → distance n a b ≡ 0
-no_distance zero a b same = sum_below-zero (λ i. cond (eqb (a i) (b i)) 0 1)
+no_distance zero a b same = sum_below-zero (λ i. counted (a i) (b i))
 no_distance (suc n) a b same =
-    let s = sum_below-suc n (λ i. cond (eqb (a i) (b i)) 0 1) in
+    let s = sum_below-suc n (λ i. counted (a i) (b i)) in
     let z = counted_same (a n) (b n) (same n (omega arith)) in
     let i = no_distance n a b (λ i l. same i (omega arith)) in
     omega (arith, s, z, i)
@@ -85,7 +88,7 @@ selected : (n k : ℕ) (a b : ℕ → ℕ) → distance n a b + k ≤ n → Sele
 selected n zero a b few = none_selected n a b
 selected zero (suc k) a b few = absurd (omega arith)
 selected (suc n) (suc k) a b few =
-    let s = sum_below-suc n (λ i. cond (eqb (a i) (b i)) 0 1) in
+    let s = sum_below-suc n (λ i. counted (a i) (b i)) in
     elim (cases_eq (a n) (b n)) [
       | inl e ↦
           let z = counted_same (a n) (b n) e in

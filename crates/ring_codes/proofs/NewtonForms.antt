@@ -1,5 +1,5 @@
 -- Newton's form: one coefficient more, its values at its points, and its coefficients as a polynomial.
-use Rattle.std.proofs.Common.{◌≡◌, ◌≢◌, ℕ, zero, suc, ◌+◌, ◌-◌, ◌*◌, ◌%◌, ◌^◌, ◌<◌, ◌≤◌, pos, ◌-ℤ◌}
+use Rattle.std.proofs.Common.{◌≡◌, ℕ, zero, suc, ◌+◌, ◌-◌, ◌*◌, ◌%◌, ◌^◌, ◌<◌, ◌≤◌, pos, ◌-ℤ◌}
 use Rattle.std.proofs.Common.{ap, sym, ◌∙◌, arith, refl, inl, inr, mod-eq_of_lt, mod-lt}
 use Rattle.std.proofs.Common.{◌↔◌, Bool, true, false, IsTrue, Option, None, Some, is_some}
 use Rattle.std.proofs.Math.Nat.{zero-mod, add-mul-mod_self_left}

@@ -1,9 +1,15 @@
 -- Symbols of words, as entries of lists of forms.
-use Rattle.std.proofs.Common.{◌≡◌, ℕ, ◌<◌, ◌≤◌, List, [], ◌∷◌, length, take, All, sym, ◌∙◌, ap, subst, arith}
+use Rattle.std.proofs.Common.{◌≡◌, ℕ, ◌<◌, ◌≤◌, List, [], ◌∷◌, length, take, get_or, All, pos, ◌-ℤ◌, sym, ◌∙◌, ap, subst, arith}
 use Rattle.std.proofs.Common.{◌↔◌, Bool, true, false, not, IsTrue, refl}
 use Rattle.std.proofs.lemmas.Bool.{false≢true}
 use Rattle.std.proofs.lemmas.List.{get_or-take, length-take-le}
-use Rattle.num_modular.specs.Callers.{IsForm, entry, entry_at}
+use Rattle.num_modular.specs.Callers.{IsForm, HasInverse, entry, entry_at}
+use Rattle.num_modular.specs.Polynomials.{HaveUnitDifferences}
+use Rattle.num_modular.specs.Residues.{residue}
+use Rattle.ring_codes.specs.Erasure.{ArePlaces, IsFault}
+use Rattle.ring_codes.specs.declared.erasure.RestoreError.{RestoreError}
+use Rattle.ring_codes.specs.declared.erasure.RestoreError.TheVariants.{TooFewSymbols, PlaceOutOfRange, PlaceTwice}
+use Rattle.ring_codes.specs.declared.erasure.RestoreError.TheVariants.{PointsDontFit}
 
 -- the value of a checked form is below the modulus
 pub entry_below : {T : Type 0} (number : T → ℕ) (form value : ℕ → ℕ → ℕ) (m : ℕ) (forms : List T) (i : ℕ)
@@ -34,3 +40,29 @@ told_same b false P is f tells = absurd (false≢true (sym f ∙ is))
 
 pub told_other : (b e : Bool) (P : Type 0) → b ≡ not e → b ≡ true → (IsTrue e ↔ P) → P → ⊥
 told_other b e P is t tells p = false≢true (sym (is ∙ ap not (tells.1 p)) ∙ t)
+
+-- entries that were read at other places
+pub entry_chosen : {T : Type 0} (number : T → ℕ) (value : ℕ → ℕ → ℕ) (m : ℕ) (forms chosen : List T) (i p : ℕ)
+    → ((d : T) → get_or chosen i d ≡ get_or forms p d) → i < length chosen → p < length forms
+    → entry number value m chosen i ≡ entry number value m forms p
+entry_chosen number value m forms [] i p same l within = absurd (omega arith)
+entry_chosen number value m forms (x ∷ xs) i p same l within =
+    sym (entry_at number value m (x ∷ xs) i x l) ∙ ap (λ f. value m (number f)) (same x)
+    ∙ entry_at number value m forms p x within
+
+-- points that are equal fit alike
+pub fit_same : (m n : ℕ) (x y : ℕ → ℕ) → ((i : ℕ) → i < n → x i ≡ y i) → HaveUnitDifferences m n x
+    → HaveUnitDifferences m n y
+fit_same m n x y same fit = record {
+  unit = λ i j l k other. subst (HasInverse m)
+      (ap (λ v. residue m (pos v -ℤ pos (x j))) (same i l) ∙ ap (λ v. residue m (pos (y i) -ℤ pos v)) (same j k))
+      (fit.unit i j l k other);
+}
+
+-- where the places and their points are right, no error comes
+pub no_fault : (m k n : ℕ) (x : ℕ → ℕ) (places : List ℕ) (e : RestoreError) → ArePlaces k n places
+    → HaveUnitDifferences m k (λ i. x (get_or places i 0)) → IsFault m k n x places e → ⊥
+no_fault m k n x places TooFewSymbols right fit h = let l = right.enough in omega (arith, l, h)
+no_fault m k n x places PlaceOutOfRange right fit h = let l = right.within h.0 h.1 in let o = h.2 in omega (arith, l, o)
+no_fault m k n x places PlaceTwice right fit h = right.distinct h.0 h.1 h.2 h.3 h.4
+no_fault m k n x places PointsDontFit right fit h = h fit

@@ -12,12 +12,12 @@
 //!
 //! Source: Reed and Solomon, "Polynomial codes over certain finite fields".
 
-ghost use Rattle.std.specs.Prelude.{◌≡◌, ℕ, ◌%◌, ◌<◌, ◌≤◌, ◌↔◌, IsTrue, IsOk, IfErr, All, length};
-ghost use Rattle.std.specs.Prelude.{slice_index};
+ghost use Rattle.std.specs.Prelude.{◌≡◌, ◌≢◌, ℕ, ◌+◌, ◌-◌, ◌%◌, ◌<◌, ◌≤◌, ◌↔◌, IsTrue, IsOk, IfErr, All};
+ghost use Rattle.std.specs.Prelude.{length, slice_index, slice_index_or};
 ghost use Rattle.num_modular.specs.Entries.{entry};
 ghost use Rattle.num_modular.specs.Forms.{IsForm};
 ghost use Rattle.num_modular.specs.Polynomials.{ascending_polynomial, HaveUnitDifferences};
-ghost use Rattle.ring_codes.specs.Erasure.{IsEncoding, IsErasureCodeword, ArePlaces, IsFault};
+ghost use Rattle.ring_codes.specs.Erasure.{IsEncoding, IsErasureCodeword, ArePlaces, IsFault, distance};
 
 mod newton;
 
@@ -173,3 +173,145 @@ pub fn is_codeword<T: RingWord, R: Reducer<T>>(
     }
     true
 }
+
+/// Puts the systematic word of a message: its first k symbols are the message's. Returns false, with the
+/// word unchanged, exactly where the first k points don't fit. The coefficients of its polynomial are put
+/// beside it.
+///
+/// Conditions: points and message are checked forms, the word has a place for each point, and there are k
+/// weights and k coefficients, k being the length of the message and at most the number of points.
+pub fn encode_systematic<T: RingWord, R: Reducer<T>>(
+    r: &R,
+    points: &[T],
+    message: &[T],
+    weights: &mut [T],
+    coefficients: &mut [T],
+    word: &mut [T],
+) -> bool
+    requires points { All (λ f. IsForm R.form R.value (R.modulus r.now) (T.number f)) points.now }
+    requires message { All (λ f. IsForm R.form R.value (R.modulus r.now) (T.number f)) message.now }
+    requires few { length message.now ≤ length points.now }
+    requires room { length word.old ≡ length points.now }
+    requires weights { length weights.old ≡ length message.now }
+    requires coefficients { length coefficients.old ≡ length message.now }
+    ensures fit { let m = R.modulus r.now in
+        IsTrue result ↔ HaveUnitDifferences m (length message.now) (entry T.number R.value m points.now) }
+    ensures checked { IsTrue result →
+        All (λ f. IsForm R.form R.value (R.modulus r.now) (T.number f)) word.new }
+    ensures encoding { let m = R.modulus r.now in IsTrue result →
+        IsEncoding m (length message.now) (length points.now) (entry T.number R.value m points.now)
+        (entry T.number R.value m coefficients.new) (entry T.number R.value m word.new) }
+    ensures systematic { let m = R.modulus r.now in IsTrue result → (i : ℕ) → i < length message.now →
+        entry T.number R.value m word.new i ≡ entry T.number R.value m message.now i }
+    ensures unchanged { (IsTrue result → ⊥) → word.new ≡ word.old }
+{
+    if !interpolate(r, points, message, weights, coefficients) {
+        return false;
+    }
+    encode(r, points, coefficients, word);
+    true
+}
+
+// Whether the place at an index occurs before it.
+fn occurs_before(places: &[usize], at: usize) -> bool
+    requires { at < length places.now }
+    ensures { IsTrue result ↔ ((j : ℕ) × (j < at) × (slice_index places.now j ≡ slice_index places.now at)) }
+{
+    'indices: for j in 0..at {
+        if places[j] == places[at] {
+            return true;
+        }
+    }
+    false
+}
+
+// Puts the points at the first places, as many as there is room for.
+fn choose<T: RingWord>(points: &[T], places: &[usize], chosen: &mut [T]) -> Result<(), RestoreError>
+    ensures places { IsOk result → ArePlaces (length chosen.old) (length points.now) places.now }
+    ensures chosen { IsOk result → (i : ℕ) (d : T) → i < length chosen.old →
+        slice_index_or chosen.new i d ≡ slice_index_or points.now (slice_index places.now i) d }
+    ensures fault { (m : ℕ) (x : ℕ → ℕ) →
+        IfErr result (λ e. IsFault m (length chosen.old) (length points.now) x places.now e) }
+{
+    if places.len() < chosen.len() {
+        return Err(RestoreError::TooFewSymbols);
+    }
+    'places: for i in 0..chosen.len() {
+        let place = places[i];
+        if place >= points.len() {
+            return Err(RestoreError::PlaceOutOfRange);
+        }
+        if occurs_before(places, i) {
+            return Err(RestoreError::PlaceTwice);
+        }
+        chosen[i] = points[place];
+    }
+    Ok(())
+}
+
+/// Restores a message of k symbols, k being the length of `message`, from the first k places and the
+/// symbols there: whichever places these are. `encode` then gives every other symbol.
+///
+/// An error says what is wrong, and each comes where that is so alone: too few symbols, a place without
+/// a point, a place twice, points that don't fit. Conditions: points and symbols are checked forms, each
+/// place has its symbol, and there are k weights and room for k points. What is in these and in `message`
+/// doesn't matter.
+pub fn restore<T: RingWord, R: Reducer<T>>(
+    r: &R,
+    points: &[T],
+    places: &[usize],
+    symbols: &[T],
+    chosen: &mut [T],
+    weights: &mut [T],
+    message: &mut [T],
+) -> Result<(), RestoreError>
+    requires points { All (λ f. IsForm R.form R.value (R.modulus r.now) (T.number f)) points.now }
+    requires symbols { All (λ f. IsForm R.form R.value (R.modulus r.now) (T.number f)) symbols.now }
+    requires pairs { length symbols.now ≡ length places.now }
+    requires chosen { length chosen.old ≡ length message.old }
+    requires weights { length weights.old ≡ length message.old }
+    ensures accepted { let m = R.modulus r.now in IsOk result ↔
+        (ArePlaces (length message.old) (length points.now) places.now × HaveUnitDifferences m (length message.old)
+        (λ i. entry T.number R.value m points.now (slice_index places.now i))) }
+    ensures fault { let m = R.modulus r.now in IfErr result (λ e. IsFault m (length message.old) (length points.now)
+        (entry T.number R.value m points.now) places.now e) }
+    ensures checked { IsOk result →
+        All (λ f. IsForm R.form R.value (R.modulus r.now) (T.number f)) message.new }
+    ensures symbols { let m = R.modulus r.now in IsOk result →
+        IsEncoding m (length message.old) (length message.old)
+        (λ i. entry T.number R.value m points.now (slice_index places.now i))
+        (entry T.number R.value m message.new) (entry T.number R.value m symbols.now) }
+    ensures original { let m = R.modulus r.now in IsOk result → (original word : ℕ → ℕ) →
+        IsEncoding m (length message.old) (length points.now) (entry T.number R.value m points.now) original word →
+        ((i : ℕ) → i < length message.old →
+        entry T.number R.value m symbols.now i ≡ word (slice_index places.now i)) →
+        (i : ℕ) → i < length message.old → entry T.number R.value m message.new i ≡ original i % m }
+{
+    match choose(points, places, chosen) {
+        Err(error) => Err(error),
+        Ok(()) => {
+            if interpolate(r, chosen, symbols, weights, message) {
+                Ok(())
+            } else {
+                Err(RestoreError::PointsDontFit)
+            }
+        }
+    }
+}
+
+/// The words of two messages of k symbols that differ modulo m differ in at least n - k + 1 of n symbols,
+/// and so do two words that differ. So a change of at most n - k symbols of a word is never a word.
+///
+/// Source: Reed and Solomon, "Polynomial codes over certain finite fields"; Singleton, "Maximum distance
+/// q-nary codes".
+pub fn distance_laws()
+    ensures messages { (m k n : ℕ) (points a b u v : ℕ → ℕ) → k ≤ n → HaveUnitDifferences m n points →
+        IsEncoding m k n points a u → IsEncoding m k n points b v →
+        (i : ℕ) → i < k → a i % m ≢ b i % m → n - k + 1 ≤ distance n u v }
+    ensures words { (m k n : ℕ) (points u v : ℕ → ℕ) → k ≤ n → HaveUnitDifferences m n points →
+        IsErasureCodeword m k n points u → IsErasureCodeword m k n points v → 0 < distance n u v →
+        n - k + 1 ≤ distance n u v }
+    ensures change { (m k n : ℕ) (points word changed : ℕ → ℕ) → k ≤ n → HaveUnitDifferences m n points →
+        IsErasureCodeword m k n points word → 0 < distance n word changed → distance n word changed ≤ n - k →
+        IsErasureCodeword m k n points changed → ⊥ }
+{}

@@ -1,4 +1,4 @@
-use Rattle.num_modular.specs.Callers.{length, arith, held_entry}
+use Rattle.num_modular.specs.Callers.{arith, held_entry}
 use Rattle.ring_codes.proofs.erasure.encode.Goals as goal
 
 pub returns-clause-encoding : goal.returns-clause-encoding

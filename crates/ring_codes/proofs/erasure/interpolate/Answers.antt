@@ -1,5 +1,5 @@
 use Rattle.std.proofs.lemmas.Bool.{false≢true}
-use Rattle.num_modular.specs.Callers.{◌%◌, length, HasInverse, entry, same_coefficients, ◌∙◌, ap, sym, refl, subst, arith}
+use Rattle.num_modular.specs.Callers.{length, HasInverse, entry, same_coefficients, ◌∙◌, ap, sym, refl, subst, arith}
 use Rattle.num_modular.specs.Callers.{mod-eq_of_lt}
 use Rattle.ring_codes.proofs.NewtonForms.{fit_from_products, products_from_fit, inverse_of_product, interpolated}
 use Rattle.ring_codes.proofs.Symbols.{entry_below, entry_front}
@@ -9,12 +9,11 @@ pub returns-then-not-invert_each-clause-fit : goal.returns-then-not-invert_each-
 returns-then-not-invert_each-clause-fit g c =
     let ring = g.R.Reducer in let m = ring.modulus c.args.r.now in let number = g.T.RingWord.number in
     let positive = (g.met.R.Reducer.canonical c.args.r.now).positive in
-    let n = length c.args.coefficients.now in let x = entry number ring.value m c.args.points.now in
-    (
+    let n = length c.args.coefficients.now in let x = entry number ring.value m c.args.points.now in (
       λ t. absurd (false≢true t),
       λ fit. c.if-not-invert_each.ensures.each.1
-      (λ i l. subst (HasInverse m) (sym (c.fill_weights.ensures.values i (omega arith)))
-      (products_from_fit m n x positive fit i (omega arith))),
+          (λ i l. subst (HasInverse m) (sym (c.fill_weights.ensures.values i (omega arith)))
+          (products_from_fit m n x positive fit i (omega arith))),
     )
 
 pub divide_differences-requires-clause-inverse : goal.divide_differences-requires-clause-inverse
@@ -26,11 +25,10 @@ divide_differences-requires-clause-inverse g c i l =
 pub returns-clause-fit : goal.returns-clause-fit
 returns-clause-fit g c =
     let ring = g.R.Reducer in let m = ring.modulus c.args.r.now in let number = g.T.RingWord.number in
-    let n = length c.args.coefficients.now in let x = entry number ring.value m c.args.points.now in
-    (
+    let n = length c.args.coefficients.now in let x = entry number ring.value m c.args.points.now in (
       λ t. fit_from_products m n x
-      (λ i l. subst (HasInverse m) (c.fill_weights.ensures.values i (omega arith))
-      (c.if-not-invert_each.ensures.each.0 refl i (omega arith))),
+          (λ i l. subst (HasInverse m) (c.fill_weights.ensures.values i (omega arith))
+          (c.if-not-invert_each.ensures.each.0 refl i (omega arith))),
       λ fit. refl,
     )
 

@@ -18,20 +18,19 @@ returns-then-ne-clause-codeword g c =
     let count : length c.interpolate.new.coefficients ≡ k = omega arith in
     let point = entry_read number ring.value m points i _ (omega arith) c.index-points-i.is in
     let symbol = entry_read number ring.value m word i _ (omega arith) c.index-word-i.is in
-    let is = form_read number ring.form ring.value m word i _ c.requires.word (omega arith) c.index-word-i.is in
-    (
+    let is = form_read number ring.form ring.value m word i _ c.requires.word (omega arith) c.index-word-i.is in (
       λ t. absurd (false≢true t),
       λ (other, encoding).
-      let only = c.if-not-interpolate.ensures.only refl other
-      (record { symbol = λ i l. encoding.symbol i (omega (arith, l, c.requires.few)) }) in
-      let same = ascending-congruent k mine other (x i) (x i)
-      (λ i l. record { same = ap (λ v. v % m) (only i l) ∙ mod-mod (other i) m }) (itself (x i)) in
-      absurd (told_other _ _ _ c.ne.ensures c.if-ne.true
-      (g.met.T.RingWord.equal c.evaluate-symbol.result c.index-word-i.result)
-      (same_forms ring.form ring.value m _ _ c.evaluate-symbol.ensures.checked is
-      (c.evaluate-symbol.ensures.value ∙ ap (λ a. ascending_polynomial (length c.interpolate.new.coefficients) mine a % m) point
-      ∙ ap (λ k. ascending_polynomial k mine (x i) % m) count ∙ same.same
-      ∙ sym (encoding.symbol i (omega arith)) ∙ sym symbol))),
+          let only = c.if-not-interpolate.ensures.only refl other
+          (record { symbol = λ i l. encoding.symbol i (omega (arith, l, c.requires.few)) }) in
+          let same = ascending-congruent k mine other (x i) (x i)
+          (λ i l. record { same = ap (λ v. v % m) (only i l) ∙ mod-mod (other i) m }) (itself (x i)) in
+          absurd (told_other _ _ _ c.ne.ensures c.if-ne.true
+          (g.met.T.RingWord.equal c.evaluate-symbol.result c.index-word-i.result)
+          (same_forms ring.form ring.value m _ _ c.evaluate-symbol.ensures.checked is
+          (c.evaluate-symbol.ensures.value ∙ ap (λ a. ascending_polynomial (length c.interpolate.new.coefficients) mine a % m) point
+          ∙ ap (λ k. ascending_polynomial k mine (x i) % m) count ∙ same.same
+          ∙ sym (encoding.symbol i (omega arith)) ∙ sym symbol))),
     )
 
 pub places-preserved : goal.places-preserved
@@ -52,11 +51,13 @@ returns-clause-codeword g c =
     let ring = g.R.Reducer in let m = ring.modulus c.args.r.now in let number = g.T.RingWord.number in
     let x = entry number ring.value m c.args.points.now in
     let mine = entry number ring.value m c.interpolate.new.coefficients in
-    let count : length c.interpolate.new.coefficients ≡ length c.args.message.now = omega arith in
-    (
-      λ t. (mine, record {
-        symbol = λ i l. c.places.invariant i (omega arith)
-            ∙ ap (λ k. ascending_polynomial k mine (x i) % m) count;
-      }),
+    let count : length c.interpolate.new.coefficients ≡ length c.args.message.now = omega arith in (
+      λ t. (
+        mine,
+        record {
+          symbol = λ i l. c.places.invariant i (omega arith)
+              ∙ ap (λ k. ascending_polynomial k mine (x i) % m) count;
+        },
+      ),
       λ h. refl,
     )

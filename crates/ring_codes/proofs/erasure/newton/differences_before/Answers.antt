@@ -1,5 +1,5 @@
 use Rattle.std.proofs.Common.{pos, ◌-ℤ◌}
-use Rattle.num_modular.specs.Callers.{◌%◌, length, ◌∙◌, ap, arith, entry, entry_read, product_none, product_step}
+use Rattle.num_modular.specs.Callers.{◌%◌, ◌∙◌, ap, arith, entry, entry_read, product_none, product_step}
 use Rattle.num_modular.specs.Residues.{residue}
 use Rattle.ring_codes.specs.Newton.{difference}
 use Rattle.ring_codes.proofs.erasure.newton.differences_before.Goals as goal

@@ -1,5 +1,5 @@
 use Rattle.std.proofs.Common.{pos, ◌-ℤ◌, set}
-use Rattle.num_modular.specs.Callers.{◌≢◌, ◌*◌, ◌%◌, length, ◌∙◌, ap, arith, entry, entry_at, entry_read, entry_written, entry_kept}
+use Rattle.num_modular.specs.Callers.{◌≢◌, ◌*◌, ◌%◌, ◌∙◌, ap, arith, entry, entry_at, entry_read, entry_written, entry_kept}
 use Rattle.num_modular.specs.Callers.{form_read, forms_written}
 use Rattle.num_modular.specs.Residues.{residue}
 use Rattle.ring_codes.specs.Newton.{newton_form}

@@ -1,4 +1,4 @@
-use Rattle.num_modular.specs.Callers.{length, arith, held_entry}
+use Rattle.num_modular.specs.Callers.{arith, held_entry}
 use Rattle.ring_codes.proofs.erasure.newton.fill_weights.Goals as goal
 
 pub returns-clause-values : goal.returns-clause-values

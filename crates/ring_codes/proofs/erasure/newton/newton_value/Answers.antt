@@ -1,5 +1,5 @@
 use Rattle.std.proofs.Common.{pos, ◌-ℤ◌}
-use Rattle.num_modular.specs.Callers.{ℕ, ◌+◌, ◌-◌, ◌%◌, length, ◌∙◌, ap, arith, entry, entry_read}
+use Rattle.num_modular.specs.Callers.{ℕ, ◌+◌, ◌-◌, ◌%◌, ◌∙◌, ap, arith, entry, entry_read}
 use Rattle.num_modular.specs.Residues.{residue}
 use Rattle.ring_codes.proofs.NewtonForms.{form_nothing, form_before}
 use Rattle.ring_codes.proofs.erasure.newton.newton_value.Goals as goal

@@ -1,6 +1,6 @@
 use Rattle.std.proofs.Common.{pos, ◌-ℤ◌, set}
 use Rattle.std.proofs.lemmas.Bool.{cases_eq}
-use Rattle.num_modular.specs.Callers.{◌≡◌, ◌≢◌, ℕ, ◌+◌, ◌-◌, ◌*◌, ◌%◌, length, ◌∙◌, ap, sym, inl, inr, arith, subst}
+use Rattle.num_modular.specs.Callers.{◌≡◌, ◌≢◌, ℕ, ◌+◌, ◌-◌, ◌*◌, ◌%◌, ◌∙◌, ap, sym, inl, inr, arith, subst}
 use Rattle.num_modular.specs.Callers.{entry, entry_at, entry_written, entry_kept, forms_written}
 use Rattle.num_modular.specs.Congruence.{Congruent}
 use Rattle.num_modular.specs.NumberLaws.{of_equal, chained}

@@ -1,0 +1,42 @@
+use Rattle.std.proofs.lemmas.Bool.{false≢true}
+use Rattle.num_modular.specs.Callers.{◌≡◌, ◌%◌, length, entry, ◌∙◌, ap, sym, refl, subst, arith}
+use Rattle.num_modular.specs.Polynomials.{ascending_polynomial, HaveUnitDifferences}
+use Rattle.ring_codes.proofs.erasure.encode_systematic.Goals as goal
+
+pub returns-then-not-interpolate-clause-fit : goal.returns-then-not-interpolate-clause-fit
+returns-then-not-interpolate-clause-fit g c =
+    let ring = g.R.Reducer in let m = ring.modulus c.args.r.now in
+    let x = entry g.T.RingWord.number ring.value m c.args.points.now in (
+      λ t. absurd (false≢true t),
+      λ fit. c.if-not-interpolate.ensures.fit.1 (subst (λ k. HaveUnitDifferences m k x) (sym c.requires.coefficients) fit),
+    )
+
+pub returns-clause-fit : goal.returns-clause-fit
+returns-clause-fit g c =
+    let ring = g.R.Reducer in let m = ring.modulus c.args.r.now in
+    let x = entry g.T.RingWord.number ring.value m c.args.points.now in (
+      λ t. subst (λ k. HaveUnitDifferences m k x) c.requires.coefficients (c.if-not-interpolate.ensures.fit.0 refl),
+      λ fit. refl,
+    )
+
+pub returns-clause-encoding : goal.returns-clause-encoding
+returns-clause-encoding g c t =
+    let ring = g.R.Reducer in let m = ring.modulus c.args.r.now in let number = g.T.RingWord.number in
+    let x = entry number ring.value m c.args.points.now in
+    let form = c.interpolate.new.coefficients in
+    let count : length form ≡ length c.args.message.now = omega (arith, c.requires.coefficients) in
+    record {
+      symbol = λ i l. c.encode.ensures.encoding.symbol i l
+          ∙ ap (λ k. ascending_polynomial k (entry number ring.value m form) (x i) % m) count;
+    }
+
+pub returns-clause-systematic : goal.returns-clause-systematic
+returns-clause-systematic g c t i l =
+    let ring = g.R.Reducer in let m = ring.modulus c.args.r.now in let number = g.T.RingWord.number in
+    let x = entry number ring.value m c.args.points.now in
+    let form = c.interpolate.new.coefficients in
+    let count : length form ≡ length c.args.coefficients.now = omega arith in
+    let values = c.if-not-interpolate.ensures.values refl in
+    c.encode.ensures.encoding.symbol i (omega (arith, l, c.requires.few))
+    ∙ ap (λ k. ascending_polynomial k (entry number ring.value m form) (x i) % m) count
+    ∙ sym (values.symbol i (omega (arith, l, c.requires.coefficients)))
