@@ -1,5 +1,5 @@
 -- Sums that differ in one term, and what a changed sum is modulo m.
-use Rattle.std.proofs.Common.{Bool, true, false, not, IsTrue, ◌↔◌, ◌≡◌, ◌≢◌, ℕ, zero, suc, ◌+◌, ◌*◌, ◌/◌, ◌%◌, ◌<◌}
+use Rattle.std.proofs.Common.{Bool, true, false, IsTrue, ◌↔◌, ◌≡◌, ◌≢◌, ℕ, zero, suc, ◌+◌, ◌*◌, ◌/◌, ◌%◌, ◌<◌}
 use Rattle.std.proofs.Common.{◌≤◌, List, length, get_or, set, sym, ap, ◌∙◌, refl, arith, add-one, Option, Some}
 use Rattle.std.proofs.Common.{None, is_some, MatchOption, ⊎_elim, length-set, get_or-set_same, get_or-set_other}
 use Rattle.std.proofs.Math.Nat.{add-mod, add-mod-mod, mod-add-mod, div-add-mod}
@@ -124,13 +124,6 @@ unit_finds m e d x s (i, inverse) difference apart zero_product =
     apart (sym difference ∙ sym (mod-add-mod d m x)
     ∙ ap (λ n. (n + x) % m) (unit_cancels m e i d inverse.one zero_product)
     ∙ ap (λ n. n % m) (let e : 0 + x ≡ x = omega arith in e))
-
--- what a negated test for 0 tells
-pub refused_where : (b : Bool) (v : ℕ) (P : Type 0) → (IsTrue b ↔ (v ≡ 0)) → (P → v ≡ 0)
-    → (v ≡ 0 → P) → IsTrue (not b) ↔ ¬ P
-refused_where true v P t f g = ((λ h. cc), λ h. absurd (h (g (t.0 refl))))
-refused_where false v P t f g =
-    ((λ h p. let wrong : false ≡ true = t.1 (f p) in cc), λ h. refl)
 
 restored_at : (m S S' w x s q t r a b c d j k : ℕ) → S' + w * x ≡ S + w * s
     → q * w + m * a ≡ t + m * b → t + r + m * c ≡ S + m * d

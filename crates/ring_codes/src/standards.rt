@@ -16,7 +16,8 @@ pub const ISBN_10: Code<'static> = Code {
     greatest: &[9, 9, 9, 9, 9, 9, 9, 9, 9, 10],
 };
 
-/// ISBN-13: an EAN-13 that begins with 978 or 979 (ISO 2108:2017).
+/// ISBN-13: an EAN-13 that begins with 978 or 979 (ISO 2108:2017). Those that begin with 9790 are numbers of
+/// printed music (ISO 10957), which this code accepts as well.
 pub const ISBN_13: Code<'static> = Code {
     modulus: 10,
     residue: 0,
