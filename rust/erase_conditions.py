@@ -12,7 +12,7 @@ from erase_tokens import COUNT, Unknown, beginning, beyond, body_of, header, lex
 
 SENTENCE = re.compile(r"\s?\bConditions?(?: of [^:.]*)?:\s+(.+?)\.(?=\s|$)\s?", re.S)
 WIDTH = 100  # of a section of docs
-MADE = {"Self", "Factor", "PlannedModulus", "RoomyModulus", "Code", "ResidueSystem", "Vanilla", "Montgomery", "OddRing", "FoldRing"}
+MADE = {"Self", "PlannedModulus", "RoomyModulus", "Code", "ResidueSystem", "Vanilla", "Montgomery", "OddRing", "FoldRing"}
 MADE |= {"StoredModulus", "PreMulInv1by1", "PreMulInv2by1", "Normalized2by1Divisor", "PreModInv", "FixedMersenne"}
 # Who makes a value by another function, which tests the condition.
 MADE_BY = {"new": ("R::new(", "Montgomery::of(", "Self::of(", "M::keep(")}

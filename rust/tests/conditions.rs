@@ -59,7 +59,6 @@ fn constructors() {
     panic_with!(MODULUS; <PreMulInv2by1<u8> as Reducer<u8>>::new(&0), <Montgomery<u64> as Reducer<u64>>::new(&0));
     let planned = "the modulus must be at least 1 and at most a fourth of the number of words";
     panic_with!(planned; PlannedModulus::<u64>::new(0), PlannedModulus::<u64>::new(u64::MAX), PlannedModulus::<u8>::new(65));
-    panic_with!("w must be below m"; PlannedModulus::<u64>::new(97).factor(97));
     panic_with!("the divisor must be odd"; PreModInv::<u8>::from(0), PreModInv::<u8>::from(6));
     panic_with!("the divisor must be odd"; <u8 as Into<PreModInv<u8>>>::into(6));
     panic_with!("the divisor's top bit must be set"; Normalized2by1Divisor::<u8>::new(0), Normalized2by1Divisor::<u8>::new(127));
@@ -197,7 +196,8 @@ fn plans() {
     };
     let zeros = [Factor::<u64>::ZERO; 2];
     panic_in_debug_with!("g must suit n entries, n being a power of two"; values(5, zeros));
-    assert!(message(|| values(200, zeros)).is_ok());
+    panic_in_debug_with!("g must be below m"; values(200, zeros));
+    panic_in_debug_with!("w must be below m"; modulus.factor(97));
     assert_eq!(planned_transform([1, 2, 3, 4]), [10, 51, 95, 42]);
     panic_in_debug_with!("the entries must be below 4m"; planned_transform([1, 2, 3, 4000]));
     assert!(message(|| planned_transform([1, 2, 3])).is_ok());
