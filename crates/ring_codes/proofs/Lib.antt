@@ -1,3 +1,4 @@
+mod Characters
 mod CheckSums
 mod Codewords
 pub mod Distances

@@ -1,5 +1,5 @@
 -- IBANs as their standard reads them (ISO 13616-1:2020, by ISO/IEC 7064:2003, MOD 97-10).
-use Rattle.std.specs.Prelude.{◌≡◌, ℕ, ◌+◌, ◌-◌, ◌*◌, ◌/◌, ◌%◌, ◌≤◌, ◌⊎◌, if◌then◌else◌, nat_le}
+use Rattle.std.specs.Prelude.{◌≡◌, ◌≢◌, ℕ, ◌<◌, slice_set, ◌+◌, ◌-◌, ◌*◌, ◌/◌, ◌%◌, ◌≤◌, ◌⊎◌, if◌then◌else◌, nat_le}
 use Rattle.std.specs.Prelude.{List, All, [], ◌∷◌, ◌++◌, length, slice_index, take, drop}
 use Rattle.std.specs.List.{flat_map}
 use Rattle.num_modular.specs.Sums.{polynomial}
@@ -43,3 +43,12 @@ pub record IsIban (text : List ℕ) : Type 0 where
   pub form : IsIbanForm text
   pub generated : (2 ≤ check_number text) × (check_number text ≤ 98)
   pub leaves : iban_number text % 97 ≡ 1
+
+-- both characters are digits, or both are letters
+abbrev pub AreOfOneKind : ℕ → ℕ → Type 0
+AreOfOneKind c d = (IsDigit c × IsDigit d) ⊎ (IsLetter c × IsLetter d)
+
+-- every change of one character of an IBAN for another of its kind is found
+abbrev pub FindsEachCharacter : Type 0
+FindsEachCharacter = (text : List ℕ) (i c : ℕ) → IsIban text → i < length text
+    → AreOfOneKind (slice_index text i) c → c ≢ slice_index text i → ¬ IsIban (slice_set text i c)

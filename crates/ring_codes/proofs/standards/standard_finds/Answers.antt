@@ -1,3 +1,4 @@
+use Rattle.ring_codes.proofs.Characters.{characters}
 use Rattle.ring_codes.proofs.Finds.{of_isbn_10, of_isbn_13, of_ean_13, of_ean_8, of_upc_a, of_issn, of_iban}
 use Rattle.ring_codes.proofs.standards.standard_finds.Goals as goal
 
@@ -15,3 +16,6 @@ returns-clause-fives c = (of_isbn_13.1, of_ean_13.1, of_ean_8.1, of_upc_a.1)
 
 pub returns-clause-iban : goal.returns-clause-iban
 returns-clause-iban c n most = of_iban n most
+
+pub returns-clause-characters : goal.returns-clause-characters
+returns-clause-characters c = characters
