@@ -14,9 +14,9 @@ returns-then-not-is_zero-clause-refused c =
     let xs = c.args.word.now in
     let at = c.args.place in
     let step : at + 1 ≡ suc at = add-one at in
-    let product : residue_of c.mul.result ≡ (residue m (pos (get_or ws at 0 % m) -ℤ pos (get_or ws (suc at) 0))
+    let product : residue_of c.mul-product.result ≡ (residue m (pos (get_or ws at 0 % m) -ℤ pos (get_or ws (suc at) 0))
     * residue m (pos (get_or xs (suc at) 0 % m) -ℤ pos (get_or xs at 0))) % m = cc in
-    let told = exchange_told (code_of c.args.self.now) xs at (residue_of c.mul.result) c.requires.accepted c.requires.within
+    let told = exchange_told (code_of c.args.self.now) xs at (residue_of c.mul-product.result) c.requires.accepted c.requires.within
     (λ a b. c.residue_laws.ensures.difference m a b c.args.self.now.positive) product in
     (shown _ _ _ _ told.0 told.1 (λ e. false≢true (sym c.if-not-is_zero.true ∙ c.is_zero.ensures.1 e))).0
 
@@ -27,9 +27,9 @@ returns-then-not-is_zero-clause-product c =
     let xs = c.args.word.now in
     let at = c.args.place in
     let step : at + 1 ≡ suc at = add-one at in
-    let product : residue_of c.mul.result ≡ (residue m (pos (get_or ws at 0 % m) -ℤ pos (get_or ws (suc at) 0))
+    let product : residue_of c.mul-product.result ≡ (residue m (pos (get_or ws at 0 % m) -ℤ pos (get_or ws (suc at) 0))
     * residue m (pos (get_or xs (suc at) 0 % m) -ℤ pos (get_or xs at 0))) % m = cc in
-    let told = exchange_told (code_of c.args.self.now) xs at (residue_of c.mul.result) c.requires.accepted c.requires.within
+    let told = exchange_told (code_of c.args.self.now) xs at (residue_of c.mul-product.result) c.requires.accepted c.requires.within
     (λ a b. c.residue_laws.ensures.difference m a b c.args.self.now.positive) product in
     (shown _ _ _ _ told.0 told.1 (λ e. false≢true (sym c.if-not-is_zero.true ∙ c.is_zero.ensures.1 e))).1
 
@@ -40,9 +40,9 @@ returns-clause-refused c =
     let xs = c.args.word.now in
     let at = c.args.place in
     let step : at + 1 ≡ suc at = add-one at in
-    let product : residue_of c.mul.result ≡ (residue m (pos (get_or ws at 0 % m) -ℤ pos (get_or ws (suc at) 0))
+    let product : residue_of c.mul-product.result ≡ (residue m (pos (get_or ws at 0 % m) -ℤ pos (get_or ws (suc at) 0))
     * residue m (pos (get_or xs (suc at) 0 % m) -ℤ pos (get_or xs at 0))) % m = cc in
-    let told = exchange_told (code_of c.args.self.now) xs at (residue_of c.mul.result) c.requires.accepted c.requires.within
+    let told = exchange_told (code_of c.args.self.now) xs at (residue_of c.mul-product.result) c.requires.accepted c.requires.within
     (λ a b. c.residue_laws.ensures.difference m a b c.args.self.now.positive) product in
     (unshown c.fit_exchanged.result _ _ _ _ c.fit_exchanged.ensures told.0 told.1
     (c.is_zero.ensures.0 c.if-not-is_zero.false)).0
@@ -54,9 +54,9 @@ returns-clause-product c =
     let xs = c.args.word.now in
     let at = c.args.place in
     let step : at + 1 ≡ suc at = add-one at in
-    let product : residue_of c.mul.result ≡ (residue m (pos (get_or ws at 0 % m) -ℤ pos (get_or ws (suc at) 0))
+    let product : residue_of c.mul-product.result ≡ (residue m (pos (get_or ws at 0 % m) -ℤ pos (get_or ws (suc at) 0))
     * residue m (pos (get_or xs (suc at) 0 % m) -ℤ pos (get_or xs at 0))) % m = cc in
-    let told = exchange_told (code_of c.args.self.now) xs at (residue_of c.mul.result) c.requires.accepted c.requires.within
+    let told = exchange_told (code_of c.args.self.now) xs at (residue_of c.mul-product.result) c.requires.accepted c.requires.within
     (λ a b. c.residue_laws.ensures.difference m a b c.args.self.now.positive) product in
     (unshown c.fit_exchanged.result _ _ _ _ c.fit_exchanged.ensures told.0 told.1
     (c.is_zero.ensures.0 c.if-not-is_zero.false)).1
