@@ -263,7 +263,8 @@ def state_conditions(tokens, file, traits):
         asked = tokens[it.body].asked
         put_looks(tokens, it, file)
         if words is None:
-            if tests_of(tokens, it):
+            # what a function without a `requires` proves of itself needs no words
+            if asked and tests_of(tokens, it):
                 lacking.append(f"{file}.rt: {name} tests a condition that no sentence states")
             elif asked and is_public(tokens, it):
                 lacking.append(f"{file}.rt: {name} has a `requires`, and its docs no sentence `Condition: ..`")
