@@ -1,6 +1,8 @@
-//! What stands on the library, each proved in its field's own words: hashes, numbers by their residues, check symbols,
-//! products of long numbers, and the rings of FIPS 204 and 203. Nothing is said of constant time.
+//! What stands on the library, each proved in its field's own words: short examples (`clients`), hashes, numbers by
+//! their residues, check symbols and erasure codes, products of long numbers, and the rings of FIPS 204 and 203. Nothing
+//! is said of constant time.
 
+pub mod clients;
 pub mod mersenne_hash;
 pub mod residue_numbers;
 pub mod ring_codes;

@@ -1,6 +1,6 @@
 //! A search by polynomial hashes modulo 2^61 - 1: the hash of a moved window comes from that of the last one.
 
-use crate::laws::{polynomial_laws, residue_laws};
+use crate::laws::{polynomial_laws, prime_laws, residue_laws};
 use crate::{FixedMersenne64, FixedMersenneInt64, ModularInteger};
 
 /// A hash: an integer modulo 2^61 - 1.
@@ -26,20 +26,20 @@ pub fn hash(base: Hash, text: &[u8]) -> Hash {
     value
 }
 
-/// Two different texts of n symbols below 2^61 - 1 have the same hash at fewer than n of the bases 0 to
-/// 2^61 - 2: any n bases that are apart tell them apart. The premise is that 2^61 - 1 is prime, which
-/// isn't proved here.
+/// 2^61 - 1 is prime. So two different texts of n symbols below 2^61 - 1 have the same hash at fewer than n
+/// of the bases 0 to 2^61 - 2: any n bases that are apart tell them apart.
 ///
-/// Source: Carter and Wegman, "Universal classes of hash functions"; the law of polynomials that it
+/// Sources: Pocklington, "The determination of the prime or composite nature of large numbers by Fermat's
+/// theorem"; Carter and Wegman, "Universal classes of hash functions". The law of polynomials that this
 /// rests on is `num_modular::laws::polynomial_laws`.
 #[inline]
 pub fn collision_laws() {
+    prime_laws();
     polynomial_laws();
 }
 
 /// Whether two texts have the same hash at each of the bases. Where the texts are of one length n, and
-/// there are n bases or more that are apart, that is whether they are equal; the premise is that
-/// 2^61 - 1 is prime, which isn't proved here.
+/// there are n bases or more that are apart, that is whether they are equal.
 #[inline]
 pub fn same_hashes(bases: &[u64], first: &[u8], second: &[u8]) -> bool {
     collision_laws();

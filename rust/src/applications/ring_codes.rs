@@ -2,9 +2,11 @@
 //!
 //! A code (`Code`) is a modulus m, a residue, and for each place a weight and the symbols that may stand
 //! there. Its words are those of one such symbol a place whose weighted sum leaves the residue modulo m.
-//! `standards` has the codes of ISBN, EAN, UPC and ISSN; `accepts_iban` tests an IBAN.
+//! `standards` has the codes of ISBN, EAN, UPC and ISSN; `accepts_iban` tests an IBAN. `erasure` has codes
+//! whose messages come back from any k symbols.
 
 mod checks;
+pub mod erasure;
 mod iban;
 mod standards;
 

@@ -90,9 +90,10 @@ impl<T: PlainWord> PlannedModulus<T> {
     ///
     /// # Panics
     ///
-    /// Panics unless w is below m.
+    /// A debug build panics unless w is below m. A release build doesn't test that, and outside it panics,
+    /// or returns no meaningful result.
     pub fn factor(&self, w: T) -> Factor<T> {
-        assert!(w.is_below(self.modulus), "w must be below m");
+        debug_assert!(w.is_below(self.modulus), "w must be below m");
         let divisor = self.modulus.shift_left(self.shift);
         let scaled = w.shift_left(self.shift);
         let (quotient, _) = div_2by1(divisor, self.reciprocal, T::merge(T::zero(), scaled));

@@ -57,13 +57,13 @@ fn multiply<T: RingWord, R: Reducer<T>>(r: &R, xs: &mut [T], ys: &mut [T], g: &T
 ///
 /// # Panics
 ///
-/// Panics unless the lists have one length, and this is a power of two. A debug build also panics
+/// Panics unless the lists have one length, and the length is a power of two. A debug build also panics
 /// unless g and all entries are checked forms, and g suits the length (`root_fits` tells). A release
 /// build doesn't test that, and outside it panics, or returns no meaningful result.
 #[inline]
 pub fn convolve<T: RingWord, R: Reducer<T>>(r: &R, xs: &mut [T], ys: &mut [T], g: &T) -> bool {
     assert!(ys.len() == xs.len(), "the lists must have one length");
-    assert!(xs.len().is_power_of_two(), "this must be a power of two");
+    assert!(xs.len().is_power_of_two(), "the length must be a power of two");
     debug_assert!(r.check(g) && xs.iter().all(|x| r.check(x)) && ys.iter().all(|y| r.check(y)), "g and all entries must be checked forms");
     debug_assert!(crate::modular_transform::transform::root_fits(r, g, xs.len()), "g must suit the length");
     let length = length_form(r, xs.len());

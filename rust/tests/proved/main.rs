@@ -6,7 +6,6 @@
 #[path = "../../runtime.rs"]
 mod runtime;
 pub mod num_modular_uses;
-pub mod clients;
 pub mod operation_callers;
 pub mod integer_callers;
 pub mod divider_callers;

@@ -81,7 +81,8 @@ impl<'a> Code<'a> {
         let weights = self.weights;
         let weight = VanillaInt::<u64>::new(weights[place], &self.modulus);
         let difference = weight.convert(symbol) - word[place];
-        if !(weight * difference).is_zero() {
+        let product = weight * difference;
+        if !product.is_zero() {
             return true;
         }
         !self.fits(place, symbol)
@@ -105,7 +106,8 @@ impl<'a> Code<'a> {
         let weights = self.weights;
         let weight = VanillaInt::<u64>::new(weights[place], &self.modulus) - weights[place + 1];
         let difference = weight.convert(word[place + 1]) - word[place];
-        if !(weight * difference).is_zero() {
+        let product = weight * difference;
+        if !product.is_zero() {
             return true;
         }
         !self.fit_exchanged(word, place)

@@ -111,10 +111,10 @@ fn check_number(text: &[u8]) -> u8 {
 /// the number that its digits write in decimal leaves 1 modulo 97. How long the IBANs of its country are
 /// isn't looked at.
 ///
-/// Where it has the form and such check digits, it is one exactly where its digits are a word of
-/// `iban_code`, of which `standard_finds` says that every change of one digit and every exchange of two
-/// neighbouring digits that differ is found. The change of a letter for another is one of the two
-/// digits that it is read as, or of both; the clauses speak of one.
+/// `standard_finds` says that every change of one character for another of its kind, digit or letter, is
+/// found. Where the text has the form and such check digits, it is an IBAN exactly where its digits are
+/// a word of `iban_code`; so every change of one of these digits and every exchange of two neighbouring
+/// digits that differ is found too.
 pub fn accepts_iban(text: &[u8]) -> bool {
     if !has_iban_form(text) {
         return false;

@@ -12,7 +12,8 @@ pub const ISBN_10: Code<'static> = Code {
     greatest: &[9, 9, 9, 9, 9, 9, 9, 9, 9, 10],
 };
 
-/// ISBN-13: an EAN-13 that begins with 978 or 979 (ISO 2108:2017).
+/// ISBN-13: an EAN-13 that begins with 978 or 979 (ISO 2108:2017). Those that begin with 9790 are numbers of
+/// printed music (ISO 10957), which this code accepts as well.
 pub const ISBN_13: Code<'static> = Code {
     modulus: 10,
     residue: 0,
@@ -65,6 +66,8 @@ pub fn standard_codes() -> [Code<'static>; 6] {
 }
 
 /// What these codes find: every change of one symbol; ISBN-10, ISSN and the digits of an IBAN every exchange
-/// of two neighbours that differ; ISBN-13, EAN and UPC every one but those of symbols that differ by 5.
+/// of two neighbours that differ; ISBN-13, EAN and UPC every one but those of symbols that differ by 5. Of
+/// an IBAN as it is written, every change of one character for another of its kind, digit or letter. An
+/// exchange of a digit and a letter may be missed: 1B and B1 leave the same.
 #[inline]
 pub fn standard_finds() {}

@@ -4,6 +4,7 @@ use num_modular::modular_plan::modulus::{Factor, PlannedModulus};
 use num_modular::modular_plan::plan::plan;
 use num_modular::modular_plan::split::split;
 use num_modular::modular_plan_products::join::join_scaled;
+use num_modular::modular_plan_products::transform::ntt_planned;
 use num_modular::modular_prim::plain_word::PlainWord;
 use num_modular::modular_word::path_word::PathWord;
 
@@ -21,4 +22,16 @@ pub fn split_and_joined<T: PlainWord>(
     plan(m, g, table);
     split(m, xs, table, b, last);
     join_scaled(m, xs, table, b, last, part);
+}
+
+/// The transform of n entries by the first half of the plan by g for 2n: it is the plan by g·g for n.
+pub fn by_first_half<T: PlainWord>(
+    m: &PlannedModulus<T>,
+    g: T,
+    table: &mut [Factor<T>],
+    xs: &mut [T],
+) {
+    plan(m, g, table);
+    let half = table.len() / 2;
+    ntt_planned(m, xs, &table[..half]);
 }

@@ -3,6 +3,7 @@
 mod big_products;
 mod check_symbols;
 mod each_client;
+mod erasure;
 mod examples;
 mod hashes;
 mod lattices;

@@ -1,17 +1,17 @@
 //! Rows of each client; the values were computed with Python.
 
-use crate::clients::commands::{product_by_commands, residue_over_copies};
-use crate::clients::cubic::cubic;
-use crate::clients::each_reducer::{
+use num_modular::applications::clients::commands::{product_by_commands, residue_over_copies};
+use num_modular::applications::clients::cubic::cubic;
+use num_modular::applications::clients::each_reducer::{
     by_montgomery, by_plain_remainders, by_reciprocals, modulo_13, modulo_15, modulo_17, modulo_29,
     modulo_31, modulo_97, modulo_127, modulo_241, modulo_247,
 };
-use crate::clients::hashes::hash;
-use crate::clients::inner_products::inner_product_of_four;
-use crate::clients::operations::{product_and_sum, square};
-use crate::clients::quotients::{by_inverse, by_operator, ten_by_five};
-use crate::clients::remainders::from_remainders;
-use crate::clients::squares::is_quadratic_residue;
+use num_modular::applications::clients::hashes::hash;
+use num_modular::applications::clients::inner_products::inner_product_of_four;
+use num_modular::applications::clients::operations::{product_and_sum, square};
+use num_modular::applications::clients::quotients::{by_inverse, by_operator, ten_by_five};
+use num_modular::applications::clients::remainders::from_remainders;
+use num_modular::applications::clients::squares::is_quadratic_residue;
 use num_modular::prim::is_prime_by_search;
 use num_modular::{Montgomery, Reducer};
 

@@ -1,11 +1,11 @@
 //! Rows of the clients with powers and loops; the values were computed with Python.
 
-use crate::clients::fermat_tests::is_shown_composite;
-use crate::clients::generators::jump;
-use crate::clients::keys::{keys, known_word};
-use crate::clients::list_inverses::invert_each;
-use crate::clients::polynomials::product_of;
-use crate::clients::square_roots::square_root;
+use num_modular::applications::clients::fermat_tests::is_shown_composite;
+use num_modular::applications::clients::generators::jump;
+use num_modular::applications::clients::keys::{keys, known_word};
+use num_modular::applications::clients::list_inverses::invert_each;
+use num_modular::applications::clients::polynomials::product_of;
+use num_modular::applications::clients::square_roots::square_root;
 use num_modular::prim::is_prime_by_search;
 use num_modular::ring::{load_forms, root_fits, unload_forms};
 use num_modular::{Montgomery, Reducer};

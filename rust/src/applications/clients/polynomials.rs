@@ -1,15 +1,19 @@
 //! Products of polynomials with whole numbers as coefficients.
 
-use num_modular::Reducer;
-use num_modular::laws::coefficient_laws;
-use num_modular::ring::{convolve, load_forms, unload_forms};
+use crate::Reducer;
+use crate::laws::coefficient_laws;
+use crate::ring::{convolve, load_forms, unload_forms};
 
 /// Puts the coefficients of the product of the polynomials xs and ys in `product`, the lowest first, and
 /// anything in the scratch lists; false, with `product` unchanged, exactly where the length n of the scratch
 /// lists has no inverse modulo m.
 ///
-/// Conditions: no coefficient is above `bound`, and m is above n·bound^2; n is at least the number of
-/// coefficients of the product; and g is the checked form of a root that suits n.
+/// # Preconditions
+///
+/// No coefficient is above `bound`, and m is above n·bound^2, and n is at least the number of
+/// coefficients of the product, and and g is the checked form of a root that suits n. This isn't
+/// tested: outside it the call panics, or returns no meaningful result.
+#[inline]
 pub fn product_of<R: Reducer<u64>>(
     r: &R,
     g: u64,

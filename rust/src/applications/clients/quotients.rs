@@ -1,8 +1,13 @@
 //! Quotients modulo m: the divisor has to have an inverse.
 
-use num_modular::{ModularInteger, MontgomeryInt, VanillaInt};
+use crate::{ModularInteger, MontgomeryInt, VanillaInt};
 
-/// a times the inverse of b modulo m; `None` exactly where b has none. Condition: m is at least 1.
+/// a times the inverse of b modulo m; `None` exactly where b has none.
+///
+/// # Preconditions
+///
+/// M is at least 1. This isn't tested: outside it the call panics, or returns no meaningful result.
+#[inline]
 pub fn by_inverse(a: u64, b: u64, m: u64) -> Option<u64> {
     let b = MontgomeryInt::<u64>::new(b, &m);
     let a = b.convert(a);
@@ -11,7 +16,12 @@ pub fn by_inverse(a: u64, b: u64, m: u64) -> Option<u64> {
 }
 
 /// The number below m whose product with b leaves what a leaves modulo m; `None` exactly where b has no
-/// inverse. Condition: m is at least 1.
+/// inverse.
+///
+/// # Preconditions
+///
+/// M is at least 1. This isn't tested: outside it the call panics, or returns no meaningful result.
+#[inline]
 pub fn by_operator(a: u64, b: u64, m: u64) -> Option<u64> {
     let b = MontgomeryInt::<u64>::new(b, &m);
     let a = b.convert(a);
@@ -23,6 +33,7 @@ pub fn by_operator(a: u64, b: u64, m: u64) -> Option<u64> {
 }
 
 /// 10 / 5 modulo 21.
+#[inline]
 pub fn ten_by_five() -> u8 {
     let ten = VanillaInt::<u8>::new(10, &21);
     let five = VanillaInt::<u8>::new(5, &21);

@@ -1,19 +1,22 @@
 //! Computations over any reducer: stated once, for every word and every modulus.
 
-use num_modular::{Reducer, RingWord};
+use crate::{Reducer, RingWord};
 
 /// x modulo m, by way of its form.
+#[inline]
 pub fn round_trip<T: RingWord, R: Reducer<T>>(r: &R, x: T) -> T {
     r.residue(r.transform(x))
 }
 
 /// x·y + 1 modulo m.
+#[inline]
 pub fn product_and_one<T: RingWord, R: Reducer<T>>(r: &R, x: T, y: T) -> T {
     let product = r.mul(&r.transform(x), &r.transform(y));
     r.residue(r.add(&product, &r.transform(T::one())))
 }
 
 // The form of a product of two words.
+#[inline]
 fn product<T: RingWord, R: Reducer<T>>(r: &R, x: T, y: T) -> T {
     r.mul(&r.transform(x), &r.transform(y))
 }
@@ -30,6 +33,7 @@ pub fn inner_product_of_four<T: RingWord, R: Reducer<T>>(
 }
 
 /// The first word of x, one more than its product with the first of y, and the inner product, modulo m.
+#[inline]
 pub fn three_results<T: RingWord, R: Reducer<T>>(
     r: &R,
     x: (T, T, T, T),

@@ -1,16 +1,25 @@
 //! A key that two parties agree on by powers (Diffie and Hellman, "New directions in cryptography").
 
-use num_modular::ModularPow;
-use num_modular::laws::power_laws;
+use crate::ModularPow;
+use crate::laws::power_laws;
 
 /// The word that a party makes known: the power of the base g by the party's secret, modulo m.
-/// Condition: m is at least 1.
+///
+/// # Preconditions
+///
+/// M is at least 1. This isn't tested: outside it the call panics, or returns no meaningful result.
+#[inline]
 pub fn known_word(g: u64, secret: u64, m: u64) -> u64 {
     g.powm(secret, &m)
 }
 
 /// The key of each of two parties, from its own secret and the word that the other makes known: they are
-/// equal. Condition: m is at least 1.
+/// equal.
+///
+/// # Preconditions
+///
+/// M is at least 1. This isn't tested: outside it the call panics, or returns no meaningful result.
+#[inline]
 pub fn keys(g: u64, first: u64, second: u64, m: u64) -> (u64, u64) {
     power_laws();
     let from_second = known_word(g, second, m).powm(first, &m);

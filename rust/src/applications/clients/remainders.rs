@@ -1,10 +1,15 @@
 //! A number from two remainders, by the Chinese remainder theorem.
 
-use num_modular::laws::linear_congruence_laws;
-use num_modular::{ModularCoreOps, ModularUnaryOps};
+use crate::laws::linear_congruence_laws;
+use crate::{ModularCoreOps, ModularUnaryOps};
 
 /// The number below m·n that leaves what a leaves modulo m and what b leaves modulo n; `None` exactly
-/// where m has no inverse modulo n. Condition: m and n are at least 1.
+/// where m has no inverse modulo n.
+///
+/// # Preconditions
+///
+/// M and n are at least 1. This isn't tested: outside it the call panics, or returns no meaningful
+/// result.
 pub fn from_remainders(a: u32, m: u32, b: u32, n: u32) -> Option<u64> {
     linear_congruence_laws();
     let a = a % m;

@@ -1,7 +1,7 @@
 //! A polynomial hash of bytes.
 
-use num_modular::laws::range_laws;
-use num_modular::{FixedMersenneInt64, ModularInteger};
+use crate::laws::range_laws;
+use crate::{FixedMersenneInt64, ModularInteger};
 
 /// The polynomial with the bytes as coefficients, the highest first, at x modulo 2^61 - 1, by Horner's
 /// rule.

@@ -1,7 +1,7 @@
 //! A cubic as a list of commands.
 
-use num_modular::Reducer;
-use num_modular::ring::{RingCommand, RunEnd, run};
+use crate::Reducer;
+use crate::ring::{RingCommand, RunEnd, run};
 
 /// x^3 + a·x + b modulo m.
 pub fn cubic<R: Reducer<u64>>(r: &R, x: u64, a: u64, b: u64) -> u64 {

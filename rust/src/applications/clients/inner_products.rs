@@ -1,9 +1,14 @@
 //! The inner product of two lists, over any reducer.
 
-use num_modular::laws::range_laws;
-use num_modular::{Montgomery, Reducer};
+use crate::laws::range_laws;
+use crate::{Montgomery, Reducer};
 
-/// The sum of the products of the entries, modulo m. Condition: the lists have one length.
+/// The sum of the products of the entries, modulo m.
+///
+/// # Preconditions
+///
+/// The lists have one length. This isn't tested: outside it the call panics, or returns no meaningful
+/// result.
 pub fn inner_product<R: Reducer<u64>>(r: &R, xs: &[u64], ys: &[u64]) -> u64 {
     range_laws();
     let mut sum = r.transform(0);
@@ -14,7 +19,12 @@ pub fn inner_product<R: Reducer<u64>>(r: &R, xs: &[u64], ys: &[u64]) -> u64 {
     r.residue(sum)
 }
 
-/// The inner product of four words with four words modulo m. Condition: m is at least 1.
+/// The inner product of four words with four words modulo m.
+///
+/// # Preconditions
+///
+/// M is at least 1. This isn't tested: outside it the call panics, or returns no meaningful result.
+#[inline]
 pub fn inner_product_of_four(x: [u64; 4], y: [u64; 4], m: u64) -> u64 {
     inner_product(&Montgomery::<u64>::new(m), &x, &y)
 }

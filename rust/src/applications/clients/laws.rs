@@ -1,14 +1,15 @@
 //! Laws of `num_modular::laws` on whole numbers, symbols and counts, called from a crate that lists the root
 //! alone; of those on numbers, and of two on symbols, a clause is cited.
 
-use num_modular::PlainWord;
-use num_modular::laws::{
+use crate::PlainWord;
+use crate::laws::{
     base_laws, congruence_laws, digit_laws, division_laws, divisor_laws, euclids_lemma, fold_laws,
     form_laws, inverse_laws, jacobi_laws, power_laws, prime_laws, remainder_laws, residue_laws,
     step_laws, stop_laws, sum_laws,
 };
 
 /// Laws of whole numbers.
+#[inline]
 pub fn laws_of_numbers<T: PlainWord>() {
     base_laws::<T>();
     residue_laws();
@@ -22,6 +23,7 @@ pub fn laws_of_numbers<T: PlainWord>() {
 }
 
 /// Laws of symbols and primes; those of steps, forms and runs are called.
+#[inline]
 pub fn laws_of_symbols<T: PlainWord>() {
     jacobi_laws();
     prime_laws();

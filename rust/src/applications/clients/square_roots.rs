@@ -1,10 +1,16 @@
 //! Square roots modulo primes that leave 3 modulo 4.
 
-use num_modular::laws::prime_power_laws;
-use num_modular::{ModularPow, ModularUnaryOps};
+use crate::laws::prime_power_laws;
+use crate::{ModularPow, ModularUnaryOps};
 
 /// The power of a with the exponent (p + 1)/4 modulo p, where it is a square root of a; `None` exactly
-/// where a has no square root modulo p. Condition: p is a prime that leaves 3 modulo 4.
+/// where a has no square root modulo p.
+///
+/// # Preconditions
+///
+/// P is a prime that leaves 3 modulo 4. This isn't tested: outside it the call panics, or returns no
+/// meaningful result.
+#[inline]
 pub fn square_root(a: u64, p: u64) -> Option<u64> {
     prime_power_laws();
     let root = a.powm(p / 4 + 1, &p);

@@ -1,13 +1,17 @@
 //! The inverses of a whole list by one inversion.
 
-use num_modular::{Reducer, RingWord};
+use crate::{Reducer, RingWord};
 
 /// Puts the inverse of each form in its place, and anything into the scratch list; false, with the forms
-/// unchanged, exactly where one has no inverse modulo m. Conditions: the forms are checked, and the
-/// scratch list is as long.
+/// unchanged, exactly where one has no inverse modulo m.
 ///
 /// The inverses come from that of the product of all forms (Montgomery, "Speeding the Pollard and elliptic
 /// curve methods of factorization", section 10.3.1).
+///
+/// # Preconditions
+///
+/// The forms are checked, and the scratch list is as long. This isn't tested: outside it the call
+/// panics, or returns no meaningful result.
 pub fn invert_each<T: RingWord, R: Reducer<T>>(r: &R, forms: &mut [T], products: &mut [T]) -> bool {
     let mut product = r.transform(T::one());
     'forward: for i in 0..forms.len() {

@@ -1,0 +1,110 @@
+//! Newton's form of the polynomial through given points, and its coefficients.
+
+use crate::{Reducer, RingWord};
+
+/// The form of the product of the differences of a point from each before it.
+///
+/// # Preconditions
+///
+/// The points are checked forms, and there is a point at the place. This isn't tested: outside it the
+/// call panics, or returns no meaningful result.
+#[inline]
+pub fn differences_before<T: RingWord, R: Reducer<T>>(r: &R, points: &[T], place: usize) -> T {
+    let mut product = r.transform(T::one());
+    'differences: for j in 0..place {
+        let difference = r.sub(&points[place], &points[j]);
+        product = r.mul(&product, &difference);
+    }
+    product
+}
+
+/// Puts the product of the differences of each point from those before it, for as many points as there
+/// are weights.
+///
+/// # Preconditions
+///
+/// The points are checked forms, and there are as many points as weights or more. This isn't tested:
+/// outside it the call panics, or returns no meaningful result.
+#[inline]
+pub fn fill_weights<T: RingWord, R: Reducer<T>>(r: &R, points: &[T], weights: &mut [T]) {
+    'points: for i in 0..weights.len() {
+        weights[i] = differences_before(r, points, i);
+    }
+}
+
+/// The value at a point of Newton's form with the first `count` coefficients.
+///
+/// # Preconditions
+///
+/// All are checked forms, and there are at least `count` points and coefficients. This isn't tested:
+/// outside it the call panics, or returns no meaningful result.
+pub fn newton_value<T: RingWord, R: Reducer<T>>(
+    r: &R,
+    points: &[T],
+    form: &[T],
+    count: usize,
+    point: &T,
+) -> T {
+    let mut value = r.transform(T::zero());
+    'coefficients: for k in 0..count {
+        let i = count - 1 - k;
+        let difference = r.sub(point, &points[i]);
+        let product = r.mul(&difference, &value);
+        value = r.add(&form[i], &product);
+    }
+    value
+}
+
+/// Puts the coefficients of Newton's form in place of the values at the points, by Newton's divided
+/// differences: the difference of the value and of the form so far is divided once.
+///
+/// # Preconditions
+///
+/// All are checked forms, and there are as many points and inverses as values or more, and each inverse
+/// is that of the product of the point's differences from those before it. This isn't tested: outside
+/// it the call panics, or returns no meaningful result.
+pub fn divide_differences<T: RingWord, R: Reducer<T>>(
+    r: &R,
+    points: &[T],
+    inverses: &[T],
+    values: &mut [T],
+) {
+    'points: for i in 0..values.len() {
+        let known = newton_value(r, points, values, i, &points[i]);
+        let rest = r.sub(&values[i], &known);
+        values[i] = r.mul(&rest, &inverses[i]);
+    }
+}
+
+/// From a place on, takes the point times the next value from each but the last.
+///
+/// # Preconditions
+///
+/// All are checked forms, and there is a value at the place. This isn't tested: outside it the call
+/// panics, or returns no meaningful result.
+#[inline]
+pub fn subtract_multiples<T: RingWord, R: Reducer<T>>(
+    r: &R,
+    point: &T,
+    values: &mut [T],
+    from: usize,
+) {
+    'places: for i in from + 1..values.len() {
+        let product = r.mul(point, &values[i]);
+        values[i - 1] = r.sub(&values[i - 1], &product);
+    }
+}
+
+/// Puts the coefficients, the constant first, in place of those of Newton's form.
+///
+/// # Preconditions
+///
+/// All are checked forms, and there are as many points as coefficients or more. This isn't tested:
+/// outside it the call panics, or returns no meaningful result.
+#[inline]
+pub fn expand<T: RingWord, R: Reducer<T>>(r: &R, points: &[T], form: &mut [T]) {
+    'points: for k in 0..form.len() {
+        let from = form.len() - 1 - k;
+        subtract_multiples(r, &points[from], form, from);
+    }
+}

@@ -1,0 +1,247 @@
+//! Erasure codes: words of messages, messages from every choice of places, and bad input.
+
+use num_modular::ring::{load_forms, unload_forms};
+use num_modular::{FixedMersenne64, Montgomery, Reducer};
+use num_modular::applications::ring_codes::erasure::{
+    RestoreError, encode, encode_systematic, is_codeword, points_fit, restore,
+};
+
+const MERSENNE_PRIME: u64 = 2305843009213693951;
+
+// Whether the points fit.
+fn fit<R: Reducer<u64>, const N: usize>(r: &R, points: &[u64; N]) -> bool {
+    let mut forms = [0; N];
+    load_forms(r, points, &mut forms);
+    points_fit(r, &forms)
+}
+
+// The word of a message.
+fn word_of<R: Reducer<u64>, const N: usize, const K: usize>(
+    r: &R,
+    points: &[u64; N],
+    message: &[u64; K],
+) -> [u64; N] {
+    let mut point_forms = [0; N];
+    let mut message_forms = [0; K];
+    let mut forms = [0; N];
+    let mut word = [0; N];
+    load_forms(r, points, &mut point_forms);
+    load_forms(r, message, &mut message_forms);
+    encode(r, &point_forms, &message_forms, &mut forms);
+    unload_forms(r, &forms, &mut word);
+    word
+}
+
+// The systematic word of a message; `None` where the points don't fit.
+fn systematic_word_of<R: Reducer<u64>, const N: usize, const K: usize>(
+    r: &R,
+    points: &[u64; N],
+    message: &[u64; K],
+) -> Option<[u64; N]> {
+    let mut point_forms = [0; N];
+    let mut message_forms = [0; K];
+    let mut weights = [0; K];
+    let mut coefficients = [0; K];
+    let mut forms = [0; N];
+    let mut word = [0; N];
+    load_forms(r, points, &mut point_forms);
+    load_forms(r, message, &mut message_forms);
+    if !encode_systematic(
+        r,
+        &point_forms,
+        &message_forms,
+        &mut weights,
+        &mut coefficients,
+        &mut forms,
+    ) {
+        return None;
+    }
+    unload_forms(r, &forms, &mut word);
+    Some(word)
+}
+
+// The message of K symbols from the symbols at these places.
+fn restored<R: Reducer<u64>, const N: usize, const P: usize, const K: usize>(
+    r: &R,
+    points: &[u64; N],
+    places: &[usize; P],
+    symbols: &[u64; P],
+) -> Result<[u64; K], RestoreError> {
+    let mut point_forms = [0; N];
+    let mut forms = [0; P];
+    let mut chosen = [0; K];
+    let mut weights = [0; K];
+    let mut message_forms = [0; K];
+    let mut message = [0; K];
+    load_forms(r, points, &mut point_forms);
+    load_forms(r, symbols, &mut forms);
+    match restore(
+        r,
+        &point_forms,
+        places,
+        &forms,
+        &mut chosen,
+        &mut weights,
+        &mut message_forms,
+    ) {
+        Err(error) => Err(error),
+        Ok(()) => {
+            unload_forms(r, &message_forms, &mut message);
+            Ok(message)
+        }
+    }
+}
+
+// Whether a word is that of a message of K symbols; `None` where the points don't fit.
+fn is_word<R: Reducer<u64>, const N: usize, const K: usize>(
+    r: &R,
+    points: &[u64; N],
+    word: &[u64; N],
+) -> Option<bool> {
+    let mut point_forms = [0; N];
+    let mut forms = [0; N];
+    let mut weights = [0; K];
+    let mut message = [0; K];
+    load_forms(r, points, &mut point_forms);
+    load_forms(r, word, &mut forms);
+    if points_fit(r, &point_forms) {
+        Some(is_codeword(r, &point_forms, &forms, &mut weights, &mut message))
+    } else {
+        None
+    }
+}
+
+// Whether every three symbols of the word give the message.
+fn restores_from_each_three<R: Reducer<u64>, const N: usize>(
+    r: &R,
+    points: &[u64; N],
+    word: &[u64; N],
+    message: [u64; 3],
+) -> bool {
+    for a in 0..N {
+        for b in a + 1..N {
+            for c in b + 1..N {
+                if restored(r, points, &[a, b, c], &[word[a], word[b], word[c]]) != Ok(message) {
+                    return false;
+                }
+            }
+        }
+    }
+    true
+}
+
+// Whether the word is that of the message, every three symbols give it back, and a change of the first
+// symbol is told.
+fn has_word<R: Reducer<u64>, const N: usize>(
+    r: &R,
+    points: &[u64; N],
+    message: [u64; 3],
+    word: [u64; N],
+) -> bool {
+    let mut changed = word;
+    changed[0] ^= 1;
+    word_of(r, points, &message) == word
+        && restores_from_each_three(r, points, &word, message)
+        && is_word::<R, N, 3>(r, points, &word) == Some(true)
+        && is_word::<R, N, 3>(r, points, &changed) == Some(false)
+}
+
+#[test]
+fn words_of_three_symbols() {
+    let points = [0, 1, 2, 3, 4, 5, 6];
+    let prime = Montgomery::<u64>::new(929);
+    assert!(has_word(&prime, &points, [1, 2, 3], [1, 6, 17, 34, 57, 86, 121]));
+    let composite = Montgomery::<u64>::new(1001);
+    assert!(
+        has_word(
+            &composite,
+            &points,
+            [500, 700, 999],
+            [500, 197, 891, 580, 265, 947, 624]
+        )
+    );
+}
+
+#[test]
+fn words_modulo_a_mersenne_prime() {
+    let r = FixedMersenne64::<61, 1>::new(&MERSENNE_PRIME);
+    let points = [1, 2, 3, 2305843009213693950, 1152921504606846976];
+    let message = [2305843009213693950, 1234567890123456789, 987654321];
+    let word = [
+        1234567891111111109,
+        163292774983836910,
+        1397860670045565304,
+        1071275120077891482,
+        40823193005218486,
+    ];
+    assert!(has_word(&r, &points, message, word));
+    assert!(restored(&r, &points, &[2, 3, 4], &[word[2], word[3], word[4]]) == Ok(message));
+}
+
+#[test]
+fn systematic_words() {
+    let points = [0, 1, 2, 3, 4, 5, 6];
+    let prime = Montgomery::<u64>::new(929);
+    let word = [3, 2, 1, 0, 928, 927, 926];
+    assert!(systematic_word_of(&prime, &points, &[3, 2, 1]) == Some(word));
+    assert!(is_word::<_, 7, 3>(&prime, &points, &word) == Some(true));
+    let composite = Montgomery::<u64>::new(1001);
+    let word = [500, 700, 999, 396, 893, 488, 182];
+    assert!(systematic_word_of(&composite, &points, &[500, 700, 999]) == Some(word));
+    assert!(is_word::<_, 7, 3>(&composite, &points, &word) == Some(true));
+}
+
+#[test]
+fn points_that_fit() {
+    assert!(fit(&Montgomery::<u64>::new(929), &[0, 1, 2, 3, 4, 5, 6]));
+    assert!(fit(&Montgomery::<u64>::new(1001), &[0, 1, 2, 3, 4, 5, 6]));
+    assert!(!fit(&Montgomery::<u64>::new(1001), &[0, 1, 2, 3, 4, 5, 6, 7]));
+    assert!(fit(&Montgomery::<u64>::new(1001), &[]));
+    assert!(!fit(&Montgomery::<u64>::new(929), &[5, 934]));
+}
+
+// The numbers from 1 to N.
+fn counted<const N: usize>() -> [u64; N] {
+    let mut numbers = [0; N];
+    for i in 0..N {
+        numbers[i] = i as u64 + 1;
+    }
+    numbers
+}
+
+#[test]
+fn many_symbols() {
+    let r = Montgomery::<u64>::new(257);
+    let points = counted::<255>();
+    let message = counted::<223>();
+    let word = word_of(&r, &points, &message);
+    assert!(word[..5] == [47, 112, 216, 190, 80]);
+    assert!(word[250..] == [255, 172, 114, 188, 123]);
+    let mut sum: u64 = 0;
+    for symbol in &word {
+        sum = sum.wrapping_add(*symbol);
+    }
+    assert!(sum == 32269);
+    let mut places = [0; 223];
+    let mut symbols = [0; 223];
+    for i in 0..223 {
+        places[i] = i + 32;
+        symbols[i] = word[i + 32];
+    }
+    assert!(restored(&r, &points, &places, &symbols) == Ok(message));
+}
+
+#[test]
+fn bad_input() {
+    let points = [0, 1, 2, 3, 4, 5, 6, 7];
+    let r = Montgomery::<u64>::new(1001);
+    let few: Result<[u64; 3], RestoreError> = restored(&r, &points, &[0, 1], &[1, 2]);
+    assert!(few == Err(RestoreError::TooFewSymbols));
+    let twice: Result<[u64; 3], RestoreError> = restored(&r, &points, &[4, 1, 4], &[1, 2, 1]);
+    assert!(twice == Err(RestoreError::PlaceTwice));
+    let outside: Result<[u64; 3], RestoreError> = restored(&r, &points, &[0, 8, 1], &[1, 2, 3]);
+    assert!(outside == Err(RestoreError::PlaceOutOfRange));
+    let unfit: Result<[u64; 3], RestoreError> = restored(&r, &points, &[0, 3, 7], &[1, 2, 3]);
+    assert!(unfit == Err(RestoreError::PointsDontFit));
+    assert!(systematic_word_of(&r, &[0, 7, 1], &[1, 2]) == None);
+}
