@@ -3,8 +3,7 @@
 //!
 //! A message is the list of the coefficients of a polynomial, the constant first, and symbol i of its
 //! word is the polynomial's value at point i, modulo m. The points must fit (`points_fit`): each
-//! difference of two has an inverse modulo m. So there are at most as many points as the least prime
-//! divisor of m says.
+//! difference of two has an inverse modulo m. So their number is at most the least prime that divides m.
 //!
 //! Points, messages and words are lists of checked forms of a reducer: `load_forms` and `unload_forms`
 //! of `num_modular::ring` convert from words and back. Nothing takes memory: the caller passes the
@@ -12,7 +11,7 @@
 //!
 //! Source: Reed and Solomon, "Polynomial codes over certain finite fields".
 
-ghost use Rattle.std.specs.Prelude.{◌≡◌, ◌≢◌, ℕ, ◌+◌, ◌-◌, ◌%◌, ◌<◌, ◌≤◌, ◌↔◌, IsTrue, IsOk, IfErr, All};
+ghost use Rattle.std.specs.Prelude.{◌≡◌, ◌≢◌, ℕ, ◌+◌, ◌-◌, ◌%◌, ◌<◌, ◌≤◌, ◌↔◌, IsTrue, IsOk, IfErr, IfOk, All};
 ghost use Rattle.std.specs.Prelude.{length, slice_index, slice_index_or};
 ghost use Rattle.num_modular.specs.Entries.{entry};
 ghost use Rattle.num_modular.specs.Forms.{IsForm};
@@ -315,3 +314,62 @@ pub fn distance_laws()
         IsErasureCodeword m k n points word → 0 < distance n word changed → distance n word changed ≤ n - k →
         IsErasureCodeword m k n points changed → ⊥ }
 {}
+
+/// Puts the shares of a secret, by Shamir's scheme: the values at the points of the polynomial with the
+/// secret as its constant. The caller draws the other coefficients at random. No point may be 0, where the
+/// share is the secret. Conditions: those of `encode`.
+///
+/// It doesn't run in constant time, and it isn't proved that fewer shares tell nothing of the secret.
+///
+/// Source: Shamir, "How to share a secret".
+pub fn share<T: RingWord, R: Reducer<T>>(r: &R, points: &[T], coefficients: &[T], shares: &mut [T])
+    requires points { All (λ f. IsForm R.form R.value (R.modulus r.now) (T.number f)) points.now }
+    requires coefficients { All (λ f. IsForm R.form R.value (R.modulus r.now) (T.number f)) coefficients.now }
+    requires room { length shares.old ≡ length points.now }
+    ensures checked { All (λ f. IsForm R.form R.value (R.modulus r.now) (T.number f)) shares.new }
+    ensures encoding { let m = R.modulus r.now in
+        IsEncoding m (length coefficients.now) (length points.now) (entry T.number R.value m points.now)
+        (entry T.number R.value m coefficients.now) (entry T.number R.value m shares.new) }
+{
+    encode(r, points, coefficients, shares);
+}
+
+/// Returns the secret from k of its shares, whichever these are: the constant of the polynomial with k
+/// coefficients, which are put in `coefficients`. Errors and conditions: those of `restore`, and k is at
+/// least 1.
+///
+/// Source: Shamir, "How to share a secret".
+pub fn recover<T: RingWord, R: Reducer<T>>(
+    r: &R,
+    points: &[T],
+    places: &[usize],
+    shares: &[T],
+    chosen: &mut [T],
+    weights: &mut [T],
+    coefficients: &mut [T],
+) -> Result<T, RestoreError>
+    requires points { All (λ f. IsForm R.form R.value (R.modulus r.now) (T.number f)) points.now }
+    requires shares { All (λ f. IsForm R.form R.value (R.modulus r.now) (T.number f)) shares.now }
+    requires pairs { length shares.now ≡ length places.now }
+    requires chosen { length chosen.old ≡ length coefficients.old }
+    requires weights { length weights.old ≡ length coefficients.old }
+    requires some { 0 < length coefficients.old }
+    ensures accepted { let m = R.modulus r.now in IsOk result ↔
+        (ArePlaces (length coefficients.old) (length points.now) places.now
+        × HaveUnitDifferences m (length coefficients.old)
+        (λ i. entry T.number R.value m points.now (slice_index places.now i))) }
+    ensures fault { let m = R.modulus r.now in IfErr result (λ e. IsFault m (length coefficients.old)
+        (length points.now) (entry T.number R.value m points.now) places.now e) }
+    ensures checked { IfOk result (λ secret. IsForm R.form R.value (R.modulus r.now) (T.number secret)) }
+    ensures secret { let m = R.modulus r.now in IfOk result (λ secret. (original word : ℕ → ℕ) →
+        IsEncoding m (length coefficients.old) (length points.now) (entry T.number R.value m points.now)
+        original word →
+        ((i : ℕ) → i < length coefficients.old →
+        entry T.number R.value m shares.now i ≡ word (slice_index places.now i)) →
+        R.value m (T.number secret) ≡ original 0 % m) }
+{
+    match restore(r, points, places, shares, chosen, weights, coefficients) {
+        Ok(()) => Ok(coefficients[0]),
+        Err(error) => Err(error),
+    }
+}

@@ -1,0 +1,24 @@
+use Rattle.num_modular.specs.Callers.{entry_read, form_read, ◌∙◌, refl, arith}
+use Rattle.ring_codes.proofs.erasure.recover.Goals as goal
+
+pub returns-in-Ok-clause-accepted : goal.returns-in-Ok-clause-accepted
+returns-in-Ok-clause-accepted g c = c.in-Ok.ensures.accepted
+
+pub returns-in-Err-clause-accepted : goal.returns-in-Err-clause-accepted
+returns-in-Err-clause-accepted g c = c.in-Err.ensures.accepted
+
+pub returns-in-Err-clause-fault : goal.returns-in-Err-clause-fault
+returns-in-Err-clause-fault g c = c.in-Err.ensures.fault
+
+pub returns-in-Ok-clause-checked : goal.returns-in-Ok-clause-checked
+returns-in-Ok-clause-checked g c =
+    let ring = g.R.Reducer in let m = ring.modulus c.args.r.now in
+    form_read g.T.RingWord.number ring.form ring.value m c.restore.new.message 0 c.index-coefficients-0.result
+    (c.in-Ok.ensures.checked refl) (omega (arith, c.requires.some)) c.index-coefficients-0.is
+
+pub returns-in-Ok-clause-secret : goal.returns-in-Ok-clause-secret
+returns-in-Ok-clause-secret g c original word is read =
+    let ring = g.R.Reducer in let m = ring.modulus c.args.r.now in
+    entry_read g.T.RingWord.number ring.value m c.restore.new.message 0 c.index-coefficients-0.result
+    (omega (arith, c.requires.some)) c.index-coefficients-0.is
+    ∙ c.in-Ok.ensures.original refl original word is read 0 (omega (arith, c.requires.some))
