@@ -335,8 +335,8 @@ pub fn share<T: RingWord, R: Reducer<T>>(r: &R, points: &[T], coefficients: &[T]
 }
 
 /// Returns the secret from k of its shares, whichever these are: the constant of the polynomial with k
-/// coefficients, which are put in `coefficients`. Errors and conditions: those of `restore`, and k is at
-/// least 1.
+/// coefficients, which are put in `coefficients`. The errors are those of `restore`. Conditions: those of
+/// `restore`; k is at least 1.
 ///
 /// Source: Shamir, "How to share a secret".
 pub fn recover<T: RingWord, R: Reducer<T>>(
