@@ -3,8 +3,7 @@
 //!
 //! A message is the list of the coefficients of a polynomial, the constant first, and symbol i of its
 //! word is the polynomial's value at point i, modulo m. The points must fit (`points_fit`): each
-//! difference of two has an inverse modulo m. So there are at most as many points as the least prime
-//! divisor of m says.
+//! difference of two has an inverse modulo m. So their number is at most the least prime that divides m.
 //!
 //! Points, messages and words are lists of checked forms of a reducer: `load_forms` and `unload_forms`
 //! of `num_modular::ring` convert from words and back. Nothing takes memory: the caller passes the
@@ -236,3 +235,44 @@ pub fn restore<T: RingWord, R: Reducer<T>>(
 /// q-nary codes".
 #[inline]
 pub fn distance_laws() {}
+
+/// Puts the shares of a secret, by Shamir's scheme: the values at the points of the polynomial with the
+/// secret as its constant. The caller draws the other coefficients at random. No point may be 0, where the
+/// share is the secret.
+///
+/// It doesn't run in constant time, and it isn't proved that fewer shares tell nothing of the secret.
+///
+/// Source: Shamir, "How to share a secret".
+///
+/// # Preconditions
+///
+/// Those of `encode`. This isn't tested: outside it the call panics, or returns no meaningful result.
+#[inline]
+pub fn share<T: RingWord, R: Reducer<T>>(r: &R, points: &[T], coefficients: &[T], shares: &mut [T]) {
+    encode(r, points, coefficients, shares);
+}
+
+/// Returns the secret from k of its shares, whichever these are: the constant of the polynomial with k
+/// coefficients, which are put in `coefficients`. The errors are those of `restore`.
+///
+/// Source: Shamir, "How to share a secret".
+///
+/// # Preconditions
+///
+/// Those of `restore`, and k is at least 1. This isn't tested: outside it the call panics, or returns
+/// no meaningful result.
+#[inline]
+pub fn recover<T: RingWord, R: Reducer<T>>(
+    r: &R,
+    points: &[T],
+    places: &[usize],
+    shares: &[T],
+    chosen: &mut [T],
+    weights: &mut [T],
+    coefficients: &mut [T],
+) -> Result<T, RestoreError> {
+    match restore(r, points, places, shares, chosen, weights, coefficients) {
+        Ok(()) => Ok(coefficients[0]),
+        Err(error) => Err(error),
+    }
+}

@@ -3,7 +3,7 @@
 use num_modular::ring::{load_forms, unload_forms};
 use num_modular::{FixedMersenne64, Montgomery, Reducer};
 use num_modular::applications::ring_codes::erasure::{
-    RestoreError, encode, encode_systematic, is_codeword, points_fit, restore,
+    RestoreError, encode, encode_systematic, is_codeword, points_fit, recover, restore, share,
 };
 
 const MERSENNE_PRIME: u64 = 2305843009213693951;
@@ -244,4 +244,49 @@ fn bad_input() {
     let unfit: Result<[u64; 3], RestoreError> = restored(&r, &points, &[0, 3, 7], &[1, 2, 3]);
     assert!(unfit == Err(RestoreError::PointsDontFit));
     assert!(systematic_word_of(&r, &[0, 7, 1], &[1, 2]) == None);
+}
+
+// The shares of a secret at five points, and the secret from the shares at three places of them.
+fn shared_and_recovered<R: Reducer<u64>>(
+    r: &R,
+    coefficients: &[u64; 3],
+    places: &[usize; 3],
+) -> Option<u64> {
+    let mut points = [0; 5];
+    let mut forms = [0; 3];
+    let mut shares = [0; 5];
+    let mut kept = [0; 3];
+    let mut chosen = [0; 3];
+    let mut weights = [0; 3];
+    let mut restored = [0; 3];
+    load_forms(r, &[1, 2, 3, 4, 5], &mut points);
+    load_forms(r, coefficients, &mut forms);
+    share(r, &points, &forms, &mut shares);
+    for i in 0..3 {
+        if places[i] < 5 {
+            kept[i] = r.residue(shares[places[i]]);
+        }
+    }
+    let words = kept;
+    load_forms(r, &words, &mut kept);
+    match recover(
+        r,
+        &points,
+        places,
+        &kept,
+        &mut chosen,
+        &mut weights,
+        &mut restored,
+    ) {
+        Ok(secret) => Some(r.residue(secret)),
+        Err(_) => None,
+    }
+}
+
+#[test]
+fn secrets() {
+    let r = Montgomery::<u64>::new(929);
+    assert!(shared_and_recovered(&r, &[123, 456, 789], &[0, 2, 4]) == Some(123));
+    assert!(shared_and_recovered(&r, &[123, 456, 789], &[4, 1, 3]) == Some(123));
+    assert!(shared_and_recovered(&r, &[123, 456, 789], &[4, 1, 4]) == None);
 }
