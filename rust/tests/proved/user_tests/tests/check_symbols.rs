@@ -2,8 +2,8 @@
 //! symbols.
 
 use num_modular::applications::ring_codes::{
-    Code, EAN_8, EAN_13, ISBN_10, ISBN_13, ISSN, UPC_A, accepts_iban, has_iban_form, iban_code, iban_digits,
-    standard_codes,
+    Code, EAN_8, EAN_13, ISBN_10, ISBN_13, ISSN, UPC_A, accepts_iban, has_iban_form, iban_code,
+    iban_digits, standard_codes,
 };
 
 // The symbols of a text: X is 10, and a hyphen is left out. There are 13 at most.
@@ -18,7 +18,11 @@ fn read(text: &[u8]) -> Symbols {
     let mut count = 0;
     for c in text {
         if *c != b'-' && count < 13 {
-            list[count] = if *c == b'X' { 10 } else { (*c as u64).abs_diff(48) };
+            list[count] = if *c == b'X' {
+                10
+            } else {
+                (*c as u64).abs_diff(48)
+            };
             count += 1;
         }
     }
@@ -116,9 +120,15 @@ fn words_of_another_form() {
 fn exchanges_of_neighbours() {
     // 0 and 3 of a book; 3 and 8 of an article, which differ by 5, and 8 and 1
     assert_eq!(finds_one_exchange(ISBN_10, b"0306406152", 0), Some(true));
-    assert_eq!(finds_one_exchange(EAN_13, b"4006381333931", 4), Some(false));
+    assert_eq!(
+        finds_one_exchange(EAN_13, b"4006381333931", 4),
+        Some(false)
+    );
     assert_eq!(finds_one_exchange(EAN_13, b"4006381333931", 5), Some(true));
-    assert_eq!(finds_one_exchange(ISBN_13, b"9780306406157", 2), Some(true));
+    assert_eq!(
+        finds_one_exchange(ISBN_13, b"9780306406157", 2),
+        Some(true)
+    );
     assert!(accepts(EAN_13, b"4006831333931") && !EAN_13.can_restore(5));
     if iban_code(28).accepts(&ACCOUNT) {
         assert!(iban_code(28).finds_exchange(&ACCOUNT, 26));
