@@ -55,6 +55,7 @@ LOOKS = {
     ("modular_barrett/normalized", "invert_word"): ((DEBUG, "d.leading_zeros() == 0"),),
     ("modular_barrett/one_by_one", "div_rem"): ((DEBUG, "crate::additions::is_multiplier(self.multiplier, self.shift, d)"),),
     ("modular_prim/exact", "exact_quotient"): ((EVERY, "!d.is_zero_word()"),),
+    ("modular_prim/exact", "exact_quotient_128"): ((EVERY, "d != 0"),),
     ("modular_prim/abs", "signed_residue_128"): ((EVERY, "m != 0"),),
     **{("modular_prim/plain_word", name): DIVISOR for name in ("quotient", "remainder", "low_quotient")},
     **{(f"modular_word/word/{word}", "nrem"): DIVISOR for word in ("w8", "w16", "w32", "w64", "wsize")},

@@ -96,7 +96,7 @@ fn operations_modulo_0() {
     panic_with!(MODULUS; 3u8.invm(&0), 0u8.invm(&0), 3u64.invm(&0), 0u64.invm(&0));
     panic_with!(MODULUS; (-3i8).absm(&0u8), 3i64.absm(&0u64), (-3i128).absm(&0u128));
     panic_with!(MODULUS; 3u8.addm_ref(&4, &0), 3u64.powm_ref(&0, &0), 3u64.invm_ref(&0));
-    panic_with!(DIVISOR; 35u8.div_exact(0, &()), 35u64.div_exact(0, &()));
+    panic_with!(DIVISOR; 35u8.div_exact(0, &()), 35u64.div_exact(0, &()), 35u128.div_exact(0, &()));
     panic_with!("each modulus must be above 0"; residue_numbers::encode(&[0, 3], 5, &mut [0, 0]));
 }
 

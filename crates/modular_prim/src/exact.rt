@@ -69,6 +69,19 @@ pub fn exact_quotient<T: PlainWord>(n: T, d: T) -> Option<T>
     }
 }
 
+/// The quotient of two words by d; `None` exactly where d doesn't divide n. Condition: the divisor is at least 1.
+fn exact_quotient_128(n: u128, d: u128) -> Option<u128>
+    requires { 1 ≤ d }
+    ensures { IsExactQuotient (λ x. x) n d result }
+{
+    let quotient = n / d;
+    if quotient * d == n {
+        Some(quotient)
+    } else {
+        None
+    }
+}
+
 impl DivExact<u8, ()> for u8 {
     type Output = u8;
 
@@ -115,12 +128,7 @@ impl DivExact<u128, ()> for u128 {
     ghost fits = { λ d _. 1 ≤ d };
 
     fn div_exact(self, d: u128, _pre: &()) -> Option<u128> {
-        let quotient = self / d;
-        if quotient * d == self {
-            Some(quotient)
-        } else {
-            None
-        }
+        exact_quotient_128(self, d)
     }
 }
 
