@@ -5,20 +5,20 @@ ghost use Rattle.modular_word.specs.Residues.{residue};
 
 use modular_word::path_word::PathWord;
 
-/// The residue of a word below 2m: the less of the word and of what wraps around when m is taken from it, which
-/// compilers choose without a branch. Condition: the word is below 2m.
+/// The residue of a word below 2m: the smaller of x and x - m modulo the base, which compilers select without a
+/// branch. Condition: the word is below 2m.
 pub fn reduced_once<T: PathWord>(x: T, m: T) -> T
     requires { T.number x < 2 * T.number m }
     ensures value { T.number result ≡ T.number x % T.number m }
     ensures below { T.number result < T.number m }
 {
-    // a word that was read is known to fit
+    // Reading the word gives the proof that it fits its width.
     let _ = m.is_below(x);
     let less = x.wrapping_sub(m);
     if less.is_below(x) { less } else { x }
 }
 
-/// The residue of a + b. Condition: both are below m.
+/// The residue of a + b, below m. Condition: both are below m.
 pub fn add_below<T: PathWord>(a: T, b: T, m: T) -> T
     requires left { T.number a < T.number m }
     requires right { T.number b < T.number m }
@@ -33,7 +33,7 @@ pub fn add_below<T: PathWord>(a: T, b: T, m: T) -> T
     }
 }
 
-/// The residue of a - b. Condition: both are below m.
+/// The residue of a - b, below m. Condition: both are below m.
 pub fn sub_below<T: PathWord>(a: T, b: T, m: T) -> T
     requires left { T.number a < T.number m }
     requires right { T.number b < T.number m }
@@ -47,8 +47,8 @@ pub fn sub_below<T: PathWord>(a: T, b: T, m: T) -> T
     }
 }
 
-/// The residue of a - b, as `sub_below` has it, of long words without a branch: a step that needs it waits longer, but
-/// no guess goes wrong where either number may be the greater. Condition: both are below m.
+/// The residue of a - b, as `sub_below` returns it, but branchless for words of 64 bits: the latency is higher, but
+/// no branch mispredicts where either number may be the greater. Condition: both are below m.
 pub fn branchless_sub_below<T: PathWord>(a: T, b: T, m: T) -> T
     requires left { T.number a < T.number m }
     requires right { T.number b < T.number m }
@@ -58,7 +58,7 @@ pub fn branchless_sub_below<T: PathWord>(a: T, b: T, m: T) -> T
     a.minus_modulo(b, m)
 }
 
-/// The residue of 2a. Condition: a is below m.
+/// The residue of 2a, below m. Condition: a is below m.
 pub fn dbl_below<T: PathWord>(a: T, m: T) -> T
     requires { T.number a < T.number m }
     ensures value { T.number result ≡ (2 * T.number a) % T.number m }
@@ -67,7 +67,7 @@ pub fn dbl_below<T: PathWord>(a: T, m: T) -> T
     add_below(a, a, m)
 }
 
-/// The residue of -a. Condition: a is below m.
+/// The residue of -a, below m. Condition: a is below m.
 pub fn neg_below<T: PathWord>(a: T, m: T) -> T
     requires { T.number a < T.number m }
     ensures value { T.number result ≡ residue (T.number m) (neg_ℤ (pos (T.number a))) }

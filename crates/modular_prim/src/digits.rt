@@ -1,5 +1,5 @@
-//! The division of Euclid's algorithm, whose quotients are nearly always small: by digits of base 4, without a
-//! division of the machine.
+//! The division step of Euclid's algorithm. Its quotients are nearly always small, so it computes them in digits of
+//! base 4, without a division instruction.
 
 ghost use Rattle.std.specs.Prelude.{◌≡◌, ◌+◌, ◌*◌, ◌%◌, ◌^◌, ◌<◌, ◌≤◌, IsTrue};
 ghost use Rattle.modular_word.specs.Division.{IsDivision};
@@ -9,10 +9,10 @@ use modular_word::path_word::PathWord;
 use modular_word::paths::two;
 use modular_word::ring_word::RingWord;
 
-// The digit k and what it leaves of a, where a reaches the multiple; else what was found before.
+// The digit k and the rest of a, if a is at least the multiple k·d; else the pair `before`, for a smaller digit.
 //
-// A function of its own, and a sum of plain values, so that compilers make a select of it: whether a multiple is
-// reached can't be foreseen.
+// A function of its own that chooses between plain values, so that compilers turn it into a select: a branch would
+// mispredict often.
 fn reached<T: PathWord>(a: T, multiple: T, k: T, before: (T, T)) -> (T, T)
     ensures above { T.number multiple ≤ T.number a →
         (T.number result.0 ≡ T.number k) × (T.number result.1 + T.number multiple ≡ T.number a) }
@@ -25,7 +25,8 @@ fn reached<T: PathWord>(a: T, multiple: T, k: T, before: (T, T)) -> (T, T)
     }
 }
 
-// A digit of base 4, the quotient of a by d, and what is left. Conditions: a is below 4d, and 4d is at most the base.
+// The quotient of a by d, a digit of base 4, and the remainder. Conditions: a is below 4d, and 4d is at most the
+// base.
 fn digit<T: PathWord>(a: T, d: T) -> (T, T)
     requires below { T.number a < 4 * T.number d }
     requires fits { 4 * T.number d ≤ T.base }
@@ -40,7 +41,7 @@ fn digit<T: PathWord>(a: T, d: T) -> (T, T)
     reached(a, thrice, two.plus(one), from_two)
 }
 
-// Quotient and remainder by two digits. Conditions: a is below 16d, and 16d is at most the base.
+// Quotient and remainder of a by d, in two digits. Conditions: a is below 16d, and 16d is at most the base.
 fn two_digits<T: PathWord>(a: T, d: T) -> (T, T)
     requires below { T.number a < 16 * T.number d }
     requires fits { 16 * T.number d ≤ T.base }
@@ -51,7 +52,7 @@ fn two_digits<T: PathWord>(a: T, d: T) -> (T, T)
     (high.shift_left(2).plus(low), rest)
 }
 
-// The remainder by four digits. Conditions: a is below 256d, and 256d is at most the base.
+// The remainder of a by d, in four digits. Conditions: a is below 256d, and 256d is at most the base.
 fn rest_by_four_digits<T: PathWord>(a: T, d: T) -> T
     requires below { T.number a < 256 * T.number d }
     requires fits { 256 * T.number d ≤ T.base }
@@ -61,7 +62,7 @@ fn rest_by_four_digits<T: PathWord>(a: T, d: T) -> T
     two_digits(left, d).1
 }
 
-// The base divided by a power of two. Condition: the exponent is from 1 to 8.
+// The base divided by 2^by. Condition: the exponent is from 1 to 8.
 fn part_of_base<T: PathWord>(by: u32) -> T
     requires some { 1 ≤ by }
     requires few { by ≤ 8 }
@@ -70,8 +71,8 @@ fn part_of_base<T: PathWord>(by: u32) -> T
     T::one().shift_left(T::bits() - by)
 }
 
-// Whether two digits are enough and d has room for them, in words of more than 16 bits; in shorter ones the machine
-// divides as fast.
+// Whether the quotient has at most two digits and 16d fits the base. Always false for words of at most 16 bits,
+// where the division instruction is as fast.
 fn has_two_digits<T: PathWord>(a: T, d: T) -> bool
     ensures below { IsTrue result → T.number a < 16 * T.number d }
     ensures room { IsTrue result → 16 * T.number d ≤ T.base }
@@ -84,8 +85,8 @@ fn has_two_digits<T: PathWord>(a: T, d: T) -> bool
     false
 }
 
-/// Quotient and remainder of a by d: by two digits of base 4 where the quotient is below 16, in words of more than 16 bits,
-/// else by a division of the machine. Condition: d is at least 1.
+/// Quotient and remainder of a by d. Where the quotient is below 16 and words have more than 16 bits, they are
+/// computed in two digits of base 4, else by a division instruction. Condition: d is at least 1.
 ///
 /// In Euclid's algorithm 9 quotients of 10 are below 16 (Knuth, "The Art of Computer Programming", section 4.5.3).
 pub fn division<T: PlainWord>(a: T, d: T) -> (T, T)
@@ -100,7 +101,7 @@ pub fn division<T: PlainWord>(a: T, d: T) -> (T, T)
     }
 }
 
-// Whether the quotient is below 16, in words of more than 16 bits.
+// Whether the quotient is below 16. Always false for words of at most 16 bits.
 fn has_short_quotient<T: PathWord>(a: T, d: T) -> bool
     ensures below { IsTrue result → T.number a < 16 * T.number d }
     ensures fits { IsTrue result → T.number a < T.base }
@@ -111,7 +112,7 @@ fn has_short_quotient<T: PathWord>(a: T, d: T) -> bool
     false
 }
 
-// The remainder where the quotient is below 16: by two digits where d has room for them. Condition: a is below 16d.
+// The remainder where the quotient is below 16: in two digits where 16d fits the base. Condition: a is below 16d.
 fn rest_of_short_quotient<T: PlainWord>(a: T, d: T) -> T
     requires { T.number a < 16 * T.number d }
     ensures { T.number result ≡ T.number a % T.number d }
@@ -123,8 +124,8 @@ fn rest_of_short_quotient<T: PlainWord>(a: T, d: T) -> T
     }
 }
 
-// Whether four digits are enough and d has room for them, in words of more than 32 bits; in shorter ones the machine
-// divides as fast.
+// Whether the quotient has at most four digits and 256d fits the base. Always false for words of at most 32 bits,
+// where the division instruction is as fast.
 fn has_four_digits<T: PathWord>(a: T, d: T) -> bool
     ensures below { IsTrue result → T.number a < 256 * T.number d }
     ensures room { IsTrue result → 256 * T.number d ≤ T.base }
@@ -138,8 +139,9 @@ fn has_four_digits<T: PathWord>(a: T, d: T) -> bool
     false
 }
 
-/// The remainder of a by d: where the quotient is below 16 by two digits of base 4, in words of more than 16 bits; where it
-/// is below 256 by four, in words of more than 32 bits; else by a division of the machine. Condition: d is at least 1.
+/// The remainder of a by d: in two digits of base 4 where the quotient is below 16 and words have more than 16
+/// bits, in four where it is below 256 and words have more than 32, else by a division instruction. Condition: d is
+/// at least 1.
 pub fn rest<T: PlainWord>(a: T, d: T) -> T
     requires { 1 ≤ T.number d }
     ensures rest { T.number result ≡ T.number a % T.number d }

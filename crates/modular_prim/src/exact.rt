@@ -7,15 +7,15 @@ use crate::numbered::Numbered;
 use crate::plain_word::PlainWord;
 use modular_word::ring_word::RingWord;
 
-/// Exact division, with what a divisor has stored: a multiplier, a prepared inverse, or `()`.
+/// Exact division by a divisor, given what was precomputed of it: a multiplier, a prepared inverse, or `()`.
 ///
-/// `()` stores nothing: the quotient is that of the primitive division, for words of 8 to 128 bits but
-/// usize, as in the Rust crate, and the condition is that the divisor is at least 1.
+/// With `()` nothing is precomputed, and the quotient is that of the machine's division, for words of 8 to 128 bits
+/// but not usize, as in the Rust crate; the divisor must be at least 1.
 pub trait DivExact<Rhs: Numbered, Precompute>: Numbered + Sized {
     /// The type of the quotients.
     type Output: Numbered;
 
-    // What is stored fits the divisor.
+    // What is stored is that of the divisor.
     ghost fits: { Rhs → Precompute → Type 0 };
 
     /// The quotient by d; `None` exactly where d doesn't divide the number. Condition: what is
@@ -25,10 +25,10 @@ pub trait DivExact<Rhs: Numbered, Precompute>: Numbered + Sized {
         ensures { IsExactQuotient Self.Output.whole_number (Self.whole_number self) (Rhs.whole_number d) result };
 }
 
-/// Exact division in place, with what a divisor has stored; `()` stores nothing.
+/// Exact division in place by a divisor, given what was precomputed of it; `()` for nothing.
 pub trait DivExactAssign<Rhs: Numbered, Precompute>: DivExact<Rhs, Precompute, Output = Self> {
-    /// Puts the quotient by d in place and answers true; where d doesn't divide the number, answers
-    /// false and leaves it unchanged. Condition: what is stored fits d.
+    /// Replaces the number by its quotient by d and returns true. Where d doesn't divide the number, it leaves it
+    /// unchanged and returns false. Condition: what is stored fits d.
     fn div_exact_assign(&mut self, d: Rhs, pre: &Precompute) -> bool
         requires { Self.fits d pre.now }
         ensures exact { IsTrue result → Self.whole_number self.new * Rhs.whole_number d ≡ Self.whole_number self.old }
@@ -36,8 +36,7 @@ pub trait DivExactAssign<Rhs: Numbered, Precompute>: DivExact<Rhs, Precompute, O
         ensures none { IsFalse result → (k : ℕ) → k * Rhs.whole_number d ≢ Self.whole_number self.old };
 }
 
-/// Exact division in place by exact division: the body of `div_exact_assign` for words. Condition:
-/// what is stored fits d.
+/// The body of `div_exact_assign` for words, by `div_exact`. Condition: what is stored fits d.
 pub fn assign_exact<N: DivExact<Rhs, Precompute, Output = N> + Copy, Rhs: Numbered, Precompute>(
     number: &mut N,
     d: Rhs,

@@ -1,10 +1,10 @@
-//! The number of an operand: of a word with or without sign, and of a reference to one.
+//! The number of an operand: a signed or unsigned word, or a reference to one.
 
 ghost use Rattle.std.specs.Prelude.{ℕ, ℤ, pos};
 
-/// An operand that contracts see as a whole number: a word, or a reference to a word.
+/// An operand that contracts see as a whole number: an unsigned word, or a reference to one.
 ///
-/// It has no calls. By it one statement of an operation serves operands by value and by reference.
+/// It has no methods. With it one contract of an operation covers operands by value and by reference.
 pub trait Numbered {
     // The whole number of an operand.
     ghost whole_number: { Self → ℕ };
@@ -38,9 +38,9 @@ impl<T: Numbered> Numbered for &T {
     ghost whole_number = { λ x. T.whole_number x.now };
 }
 
-/// An operand that contracts see as an integer: a word with or without sign, or a reference to one.
+/// An operand that contracts see as an integer: a signed or unsigned word, or a reference to one.
 ///
-/// It has no calls.
+/// It has no methods.
 pub trait IntegerValued {
     // The integer of an operand.
     ghost integer_value: { Self → ℤ };

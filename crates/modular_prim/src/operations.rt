@@ -6,10 +6,10 @@ ghost use Rattle.modular_word.specs.Residues.{residue};
 
 use crate::numbered::{IntegerValued, Numbered};
 
-/// Sums, differences and products modulo m, of operands that may be above m. Condition of each: m
-/// is at least 1.
+/// Sums, differences and products modulo m, of operands that may be above m. Each returns a residue below m.
+/// Condition of each: m is at least 1.
 pub trait ModularCoreOps<Rhs: Numbered, Modulus: Numbered>: Numbered {
-    /// The type of the answers.
+    /// The type of the results.
     type Output: Numbered;
 
     /// The residue of the sum.
@@ -31,9 +31,10 @@ pub trait ModularCoreOps<Rhs: Numbered, Modulus: Numbered>: Numbered {
             ≡ (Self.whole_number self * Rhs.whole_number rhs) % Modulus.whole_number m };
 }
 
-/// Operations modulo m of one operand, which may be above m. Condition of each: m is at least 1.
+/// Operations modulo m of one operand, which may be above m. Each returns a residue below m. Condition of each: m
+/// is at least 1.
 pub trait ModularUnaryOps<Modulus: Numbered>: Numbered {
-    /// The type of the answers.
+    /// The type of the results.
     type Output: Numbered;
 
     /// The residue of the negative.
@@ -42,7 +43,7 @@ pub trait ModularUnaryOps<Modulus: Numbered>: Numbered {
         ensures { Self.Output.whole_number result
             ≡ residue (Modulus.whole_number m) (neg_ℤ (pos (Self.whole_number self))) };
 
-    /// The inverse modulo m; `None` exactly where there is none. It is 0 for m = 1.
+    /// The inverse modulo m, 0 for m = 1; `None` exactly where there is none.
     fn invm(self, m: Modulus) -> Option<Self::Output>
         requires { 1 ≤ Modulus.whole_number m }
         ensures { IsInversion Self.Output.whole_number (Modulus.whole_number m) (Self.whole_number self) result };
@@ -59,22 +60,21 @@ pub trait ModularUnaryOps<Modulus: Numbered>: Numbered {
             ≡ (Self.whole_number self * Self.whole_number self) % Modulus.whole_number m };
 }
 
-/// Powers modulo m, of a base that may be above m. Condition: m is at least 1.
+/// Powers modulo m, of a base that may be above m; each is below m. Condition: m is at least 1.
 pub trait ModularPow<Exp: Numbered, Modulus: Numbered>: Numbered {
-    /// The type of the answers.
+    /// The type of the results.
     type Output: Numbered;
 
-    /// The residue of the product of `exp` factors; that of 1 for the exponent 0.
+    /// The residue of the base to the power `exp`; for the exponent 0, the residue of 1.
     fn powm(self, exp: Exp, m: Modulus) -> Self::Output
         requires { 1 ≤ Modulus.whole_number m }
         ensures { Self.Output.whole_number result
             ≡ Self.whole_number self ^ Exp.whole_number exp % Modulus.whole_number m };
 }
 
-/// Residues of signed numbers, as words without sign. Condition: m is at least 1.
+/// Residues of signed numbers, as unsigned words. Condition: m is at least 1.
 pub trait ModularAbs<Modulus: Numbered>: IntegerValued {
-    /// The residue of the signed number: the one number from 0 to m - 1 from which it differs by a
-    /// multiple of m.
+    /// The residue of a signed number: the only number from 0 to m - 1 from which it differs by a multiple of m.
     fn absm(self, m: &Modulus) -> Modulus
         requires { 1 ≤ Modulus.whole_number m.now }
         ensures { Modulus.whole_number result ≡ residue (Modulus.whole_number m.now) (Self.integer_value self) };

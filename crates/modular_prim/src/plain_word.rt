@@ -1,4 +1,4 @@
-//! Words with division: what plain modular operations need beside the paths.
+//! Words with division, which the paths don't use.
 
 ghost use Rattle.std.specs.Prelude.{◌≡◌, ℕ, ◌/◌, ◌%◌, ◌<◌, ◌≤◌};
 ghost use Rattle.std.proofs.Common.{refl};
@@ -9,7 +9,7 @@ use modular_word::word::{w8, w16, w32, w64, wsize};
 
 /// A machine word with quotients and remainders.
 pub trait PlainWord: PathWord + Numbered {
-    /// The quotient of two words. Condition: the divisor is at least 1.
+    /// The quotient of two words, rounded down. Condition: the divisor is at least 1.
     fn quotient(self, d: Self) -> Self
         requires { 1 ≤ Self.number d }
         ensures { Self.number result ≡ Self.number self / Self.number d };
@@ -20,7 +20,7 @@ pub trait PlainWord: PathWord + Numbered {
         ensures value { Self.number result ≡ Self.number self % Self.number d }
         ensures fits { Self.number self < Self.base };
 
-    /// The low word of the quotient of a double word by a word. Condition: the divisor is at least 1.
+    /// The low word of the quotient of a double word by a word, rounded down. Condition: the divisor is at least 1.
     fn low_quotient(double: Self::Double, d: Self) -> Self
         requires { 1 ≤ Self.number d }
         ensures value { Self.number result ≡ (Self.double_number double / Self.number d) % Self.base }

@@ -1,4 +1,4 @@
-//! Residues of sums, differences and products of words, which may be above the modulus.
+//! Residues of sums, differences and products of words that may be above the modulus.
 
 ghost use Rattle.std.specs.Prelude.{◌≡◌, ℕ, ◌+◌, ◌*◌, ◌%◌, ◌<◌, ◌≤◌, pos, ◌-ℤ◌, neg_ℤ, IsTrue};
 ghost use Rattle.modular_word.specs.Residues.{residue};
@@ -8,16 +8,16 @@ use crate::plain_word::PlainWord;
 use modular_word::path_word::PathWord;
 use modular_word::ring_word::RingWord;
 
-// Whether a word is below m, where that spares a division that takes longer than a wrong guess of the answer:
-// words of at most 16 bits are divided as fast as that.
+// Whether a word is below m. Always false for words of at most 16 bits, where a mispredicted branch takes longer
+// than the division that it avoids.
 fn spares_division<T: PlainWord>(a: T, m: T) -> bool
     ensures { IsTrue result → T.number a < T.number m }
 {
     T::bits() > 16 && a.is_below(m)
 }
 
-/// The residue of a word. Condition: m is at least 1. A word of more than 16 bits that is below m is its own,
-/// with no division.
+/// The residue of a word, below m. Condition: m is at least 1. A word of more than 16 bits that is below m is
+/// returned without a division.
 pub fn reduced<T: PlainWord>(a: T, m: T) -> T
     requires { 1 ≤ T.number m }
     ensures value { T.number result ≡ T.number a % T.number m }
@@ -26,7 +26,7 @@ pub fn reduced<T: PlainWord>(a: T, m: T) -> T
     reduced_unless(spares_division(a, m), a, m)
 }
 
-// The residue of a word that may be known to be its own.
+// The residue of a word, without a division where the caller knows that the word is below m.
 fn reduced_unless<T: PlainWord>(is_residue: bool, a: T, m: T) -> T
     requires some { 1 ≤ T.number m }
     requires known { IsTrue is_residue → T.number a < T.number m }
@@ -36,14 +36,14 @@ fn reduced_unless<T: PlainWord>(is_residue: bool, a: T, m: T) -> T
     if is_residue { a } else { a.remainder(m) }
 }
 
-// The whole sum.
+// The sum of two words, as a double word.
 fn whole_sum<T: PlainWord>(a: T, b: T) -> T::Double
     ensures { T.double_number result ≡ T.number a + T.number b }
 {
     T::double_plus(T::merge(a, T::zero()), T::merge(b, T::zero()))
 }
 
-// How far a and b are from each other.
+// The difference of the greater and the smaller of a and b.
 fn distance<T: PlainWord>(a: T, b: T) -> T
     ensures above { T.number b ≤ T.number a → T.number result + T.number b ≡ T.number a }
     ensures below { T.number a < T.number b → T.number result + T.number a ≡ T.number b }
@@ -55,10 +55,11 @@ fn distance<T: PlainWord>(a: T, b: T) -> T
     }
 }
 
-/// The residue of a + b. Condition: m is at least 1. There is no division where words have more than 16 bits and
-/// both are below m.
+/// The residue of a + b, below m. Condition: m is at least 1. There is no division where words have more than 16
+/// bits and both are below m.
 ///
-/// Longer words are divided one by one, side by side: that takes less than the division of the whole sum.
+/// Words of more than 16 bits are divided one by one: two independent divisions overlap, and take less time than
+/// the division of the double word a + b.
 pub fn addm<T: PlainWord>(a: T, b: T, m: T) -> T
     requires { 1 ≤ T.number m }
     ensures { T.number result ≡ (T.number a + T.number b) % T.number m }
@@ -72,12 +73,12 @@ pub fn addm<T: PlainWord>(a: T, b: T, m: T) -> T
     }
 }
 
-/// The residue of a - b. Condition: m is at least 1. There is no division where words have more than 16 bits and
-/// both are below m.
+/// The residue of a - b, below m. Condition: m is at least 1. There is no division where words have more than 16
+/// bits and both are below m.
 ///
-/// Which of the two is the greater is often no better than a guess, so one remainder serves both cases. Two tests of
-/// the operands are sooner done than one of their distance, which spares more divisions; divisions of more than 32
-/// bits take the longest.
+/// One remainder serves both cases of a comparison of a and b, which often mispredicts. Comparing both operands
+/// with m is faster than comparing their distance, but avoids fewer divisions; words of more than 32 bits compare
+/// the distance, since their divisions take longest.
 pub fn subm<T: PlainWord>(a: T, b: T, m: T) -> T
     requires { 1 ≤ T.number m }
     ensures { T.number result ≡ residue (T.number m) (pos (T.number a) -ℤ pos (T.number b)) }
@@ -99,7 +100,7 @@ pub fn subm<T: PlainWord>(a: T, b: T, m: T) -> T
     }
 }
 
-/// The residue of a·b. Condition: m is at least 1.
+/// The residue of a·b, below m. Condition: m is at least 1.
 pub fn mulm<T: PlainWord>(a: T, b: T, m: T) -> T
     requires { 1 ≤ T.number m }
     ensures { T.number result ≡ (T.number a * T.number b) % T.number m }
@@ -107,7 +108,7 @@ pub fn mulm<T: PlainWord>(a: T, b: T, m: T) -> T
     T::narrow_remainder(a.product(b), m)
 }
 
-/// The residue of -a. Condition: m is at least 1.
+/// The residue of -a, below m. Condition: m is at least 1.
 pub fn negm<T: PlainWord>(a: T, m: T) -> T
     requires { 1 ≤ T.number m }
     ensures { T.number result ≡ residue (T.number m) (neg_ℤ (pos (T.number a))) }
@@ -115,7 +116,7 @@ pub fn negm<T: PlainWord>(a: T, m: T) -> T
     neg_below(reduced(a, m), m)
 }
 
-/// The residue of 2a. Condition: m is at least 1.
+/// The residue of 2a, below m. Condition: m is at least 1.
 pub fn dblm<T: PlainWord>(a: T, m: T) -> T
     requires { 1 ≤ T.number m }
     ensures { T.number result ≡ (2 * T.number a) % T.number m }
@@ -123,7 +124,7 @@ pub fn dblm<T: PlainWord>(a: T, m: T) -> T
     dbl_below(reduced(a, m), m)
 }
 
-/// The residue of a·a. Condition: m is at least 1.
+/// The residue of a·a, below m. Condition: m is at least 1.
 pub fn sqm<T: PlainWord>(a: T, m: T) -> T
     requires { 1 ≤ T.number m }
     ensures { T.number result ≡ (T.number a * T.number a) % T.number m }
