@@ -1,6 +1,6 @@
-//! Laws of whole numbers that the proofs of every crate rest on, as contracts of calls that do
-//! nothing: residues, congruence, powers, divisors, inverses, sums over a range. A caller calls the
-//! function and cites its clauses.
+//! Laws of whole numbers that the proofs of every crate use: residues, congruence, powers, divisors, inverses, sums
+//! over a range. Each is a contract of a function with an empty body; to use a law, call the function and cite its
+//! clauses.
 
 ghost use Rattle.std.specs.Prelude.{◌≡◌, ℕ, suc, ◌+◌, ◌-◌, ◌*◌, ◌%◌, ◌^◌, ◌<◌, ◌≤◌, ◌↔◌, Some, Bool, not, ℤ, pos, ◌-ℤ◌};
 ghost use Rattle.modular_word.specs.Congruence.{Congruent};
@@ -11,8 +11,8 @@ ghost use Rattle.modular_word.specs.Sums.{sum_below, sum_to, count_to, polynomia
 
 use crate::path_word::PathWord;
 
-/// A number is below the base exactly where it is below 2 to the width, the base is at least 256,
-/// its square is the number of double words, and the high word of a double word is below it.
+/// A number is below the base exactly where it is below 2^w, for words of w bits. The base is at least 256. Its
+/// square is the number of double words, and the high word of a double word is below it.
 pub fn base_laws<T: PathWord>()
     ensures at_least { 256 ≤ T.base }
     ensures same { (n : ℕ) → n < T.base ↔ (n < 2 ^ T.width) }
@@ -20,8 +20,8 @@ pub fn base_laws<T: PathWord>()
     ensures high { (low high : ℕ) → low + T.base * high < T.base * T.base → high < T.base }
 {}
 
-/// A whole number has one residue modulo m, which `residue` computes; the residue of a - b and b
-/// have the sum a modulo m.
+/// A whole number has exactly one residue modulo m, which `residue` computes. The residue of a - b, plus b, is
+/// congruent to a modulo m.
 ///
 /// Source: Gauss, Disquisitiones Arithmeticae, articles 1 to 4.
 pub fn residue_laws()
@@ -30,9 +30,8 @@ pub fn residue_laws()
     ensures difference { (m a b : ℕ) → 0 < m → (residue m (pos a -ℤ pos b) + b) % m ≡ a % m }
 {}
 
-/// Nested remainders go away: in a sum, a product or a power modulo m a number may be replaced by its
-/// remainder. The set of rules `modular_word::proofs::Remainders::remainders` says the same for
-/// `using(..)` in a tactic.
+/// Nested remainders: in a sum, a product or a power modulo m, a number may be replaced by its remainder. A tactic
+/// takes the same laws by `using(modular_word::proofs::Remainders::remainders)`.
 ///
 /// Source: Gauss, Disquisitiones Arithmeticae, articles 6 to 8.
 pub fn remainder_laws()
@@ -44,8 +43,8 @@ pub fn remainder_laws()
     ensures powers { (m a k : ℕ) → (a % m) ^ k % m ≡ a ^ k % m }
 {}
 
-/// Congruence modulo m is an equivalence, under which a number and its residue are equal. It is kept
-/// by sums, products and powers; a term cancels, and so does a factor with an inverse.
+/// Congruence modulo m is an equivalence; a number is congruent to its residue. Sums, products and powers preserve
+/// it. A term cancels, and so does a factor that has an inverse.
 ///
 /// Source: Gauss, Disquisitiones Arithmeticae, articles 2, 6 to 8 and 22.
 pub fn congruence_laws()
@@ -67,8 +66,8 @@ pub fn power_laws()
     ensures product { (a b c : ℕ) → a ^ (b * c) ≡ (a ^ b) ^ c }
 {}
 
-/// Two numbers have one greatest common divisor, `gcd`; they are coprime exactly where it is 1, and
-/// being coprime to n depends on the residue modulo n alone.
+/// Two numbers have exactly one greatest common divisor, `gcd`. They are coprime exactly where it is 1, and whether
+/// a number is coprime to n depends only on its residue modulo n.
 ///
 /// Source: Euclid, Elements, book VII, propositions 1 and 2.
 pub fn divisor_laws()
@@ -77,9 +76,8 @@ pub fn divisor_laws()
     ensures residue { (a n : ℕ) → Coprime (a % n) n ↔ Coprime a n }
 {}
 
-/// An inverse exists exactly where the greatest common divisor is 1, which is where the numbers are
-/// coprime; there is at most one, and `inverse_of` names it, or nothing where there is none. It
-/// depends on the residue alone.
+/// An inverse exists exactly where the greatest common divisor is 1, that is, where the numbers are coprime. There
+/// is at most one, and `inverse_of` is it, or `None` where there is none. It depends only on the residue.
 ///
 /// Source: Gauss, Disquisitiones Arithmeticae, articles 29 and 31.
 pub fn inverse_laws()
@@ -92,16 +90,16 @@ pub fn inverse_laws()
     ensures has_residue { (m a : ℕ) → HasInverse m (a % m) ↔ HasInverse m a }
 {}
 
-/// Euclid's lemma: a number coprime to n is cancelled from a multiple of n.
+/// Euclid's lemma: where n divides a·b and is coprime to a, it divides b.
 ///
 /// Source: Euclid, Elements, book VII, proposition 30 (there for a prime n).
 pub fn euclids_lemma()
     ensures { (a n x : ℕ) → 0 < n → Coprime a n → (a * x) % n ≡ 0 → x % n ≡ 0 }
 {}
 
-/// Two sums exchange, a sum over a range is the same with its terms permuted or reversed, terms of
-/// equal parities have sums of equal parities, each number of a range passes a test or fails it, and
-/// a sum from 1 to h is one from 0 to h - 1.
+/// A double sum may be taken in either order. A sum over a range keeps its value where its terms are permuted or
+/// reversed. Terms of equal parities have sums of equal parities. How many numbers of a range pass a test, and how
+/// many fail it, add up to the length of the range. A sum from 1 to h is a sum from 0 to h - 1.
 ///
 /// Source: Graham, Knuth and Patashnik, Concrete Mathematics, chapter 2.
 pub fn sum_laws()
@@ -115,9 +113,9 @@ pub fn sum_laws()
     ensures from_zero { (f : ℕ → ℕ) (h : ℕ) → sum_to f h ≡ sum_below h (λ x. f (suc x)) }
 {}
 
-/// A sum over no number is 0, and one over one number more has one term more. So a polynomial with one
-/// coefficient more, the highest first, is the polynomial so far times x, and the coefficient: Horner's
-/// rule.
+/// An empty sum is 0, and extending a range by one adds one term. So a polynomial by its coefficients, the highest
+/// first, satisfies Horner's rule: with one more coefficient it is x times the former polynomial, plus that
+/// coefficient.
 ///
 /// Source: Knuth, The Art of Computer Programming, volume 2, section 4.6.4.
 pub fn range_laws()
@@ -126,9 +124,9 @@ pub fn range_laws()
     ensures horner { (n : ℕ) (c : ℕ → ℕ) (x : ℕ) → polynomial (n + 1) c x ≡ polynomial n c x * x + c n }
 {}
 
-/// The linear congruence a·y = b modulo m, where a has the inverse x, is solved by b·x. So where x is the
-/// inverse of m modulo n, a number below m·n that leaves what a leaves modulo m and what b leaves modulo n
-/// is named: the Chinese remainder theorem for two moduli.
+/// The linear congruence a·y = b modulo m is solved by b·x where x is an inverse of a. So where x is the inverse of
+/// m modulo n, there is a formula for the number below m·n that is congruent to a modulo m and to b modulo n: the
+/// Chinese remainder theorem for two moduli.
 ///
 /// Source: Gauss, Disquisitiones Arithmeticae, articles 29, 31 and 36; Knuth, The Art of Computer
 /// Programming, volume 2, section 4.3.2.

@@ -5,7 +5,7 @@ ghost use Rattle.std.proofs.Common.{refl};
 
 use crate::path_word::PathWord;
 
-// `high_sum_modulo` in words of 64 bits: by words, since sums of double words take longer.
+// `high_sum_modulo` of words of 64 bits. It adds single words, since a sum of double words takes longer.
 fn high_sum_modulo_64(first: u128, second: u128, m: u64) -> u64
     requires cleared { (first + second) % 2 ^ 64 ≡ 0 }
     requires first { first < 2 ^ 64 * m }

@@ -1,6 +1,5 @@
-//! What the paths need of a word: exact and wrapping sums, differences, products, shifts and
-//! comparisons of words and double words. There is no division and no remainder among the calls, so
-//! code over this trait alone divides by none.
+//! What the paths use of a word: exact and wrapping sums, differences, products, shifts and comparisons of words
+//! and double words. There is no division and no remainder, so code over this trait alone makes none.
 
 ghost use Rattle.std.specs.Prelude.{◌≡◌, ℕ, ◌+◌, ◌-◌, ◌*◌, ◌/◌, ◌%◌, ◌^◌, ◌<◌, ◌≤◌, ◌↔◌, IsTrue};
 ghost use Rattle.std.specs.Int.Count.{count_leading_zeros, count_trailing_zeros};
@@ -15,7 +14,7 @@ pub trait PathWord: RingWord {
     // The number of a double word.
     ghost double_number: { Self.Double → ℕ };
 
-    // How many words there are: 2 to the width.
+    // The base of the words: 2^w for w bits.
     ghost base: { ℕ };
 
     /// The sum. Condition: it fits a word.
@@ -29,9 +28,9 @@ pub trait PathWord: RingWord {
         ensures value { Self.number result + Self.number rhs ≡ Self.number self }
         ensures fits { Self.number self < base };
 
-    /// The difference modulo m. Conditions: both are below m.
+    /// The difference modulo m, below m. Conditions: both are below m.
     ///
-    /// Long words are chosen without a jump, since which of two is greater can't be foretold.
+    /// Words of 64 bits take no branch, which would mispredict half the time where either may be the greater.
     fn minus_modulo(self, rhs: Self, m: Self) -> Self
         requires left { Self.number self < Self.number m }
         requires right { Self.number rhs < Self.number m }
@@ -50,7 +49,7 @@ pub trait PathWord: RingWord {
         ensures value { Self.number result ≡ (Self.number self + Self.number rhs) % base }
         ensures fits { Self.number result < base };
 
-    /// The difference modulo the base: the word that gives `self` when `rhs` is added to it.
+    /// The difference modulo the base: the word whose sum with `rhs`, modulo the base, is `self`.
     fn wrapping_sub(self, rhs: Self) -> Self
         ensures value { (Self.number result + Self.number rhs) % base ≡ Self.number self }
         ensures fits { Self.number result < base };
@@ -79,12 +78,12 @@ pub trait PathWord: RingWord {
         ensures value { Self.number result ≡ Self.number self % 2 ^ count }
         ensures fits { Self.number self < base };
 
-    /// How many of the highest bits are 0; the width for 0.
+    /// The number of leading zeros; the width for 0.
     fn leading_zeros(self) -> u32
         ensures value { result ≡ count_leading_zeros Self.width (Self.number self) }
         ensures fits { Self.number self < base };
 
-    /// How many of the lowest bits are 0; the width for 0.
+    /// The number of trailing zeros; the width for 0.
     fn trailing_zeros(self) -> u32
         ensures value { result ≡ count_trailing_zeros Self.width (Self.number self) }
         ensures fits { Self.number self < base };
@@ -95,7 +94,7 @@ pub trait PathWord: RingWord {
         ensures fits { Self.number self < base }
         ensures other_fits { Self.number other < base };
 
-    /// The whole product of two words.
+    /// The product of two words, as a double word.
     fn product(self, rhs: Self) -> Self::Double
         ensures value { double_number result ≡ Self.number self * Self.number rhs }
         ensures fits { Self.number self < base }
@@ -107,22 +106,22 @@ pub trait PathWord: RingWord {
         ensures value { double_number result ≡ Self.number self * 2 ^ by }
         ensures fits { Self.number self < base };
 
-    /// The low and the high word of a double word.
+    /// The low and the high word of a double word, in this order.
     fn split(double: Self::Double) -> (Self, Self)
         ensures value { double_number double ≡ Self.number result.0 + base * Self.number result.1 }
         ensures low_fits { Self.number result.0 < base }
         ensures high_fits { Self.number result.1 < base };
 
-    /// The double word of a low and a high word.
+    /// The double word with a given low and high word.
     fn merge(low: Self, high: Self) -> Self::Double
         ensures value { double_number result ≡ Self.number low + base * Self.number high }
         ensures low_fits { Self.number low < base }
         ensures high_fits { Self.number high < base };
 
-    /// The high word of the sum of two double words, modulo m. Conditions: the low word of the sum is 0, and each of the
-    /// two is below m times the base.
+    /// The high word of the sum of two double words, modulo m, below m. Conditions: the low word of the sum is 0,
+    /// and each of the two is below m times the base.
     ///
-    /// The sum can pass the double word; its carry is kept.
+    /// The sum may overflow a double word; its carry is counted.
     fn high_sum_modulo(first: Self::Double, second: Self::Double, m: Self) -> Self
         requires cleared { (double_number first + double_number second) % base ≡ 0 }
         requires first { double_number first < base * Self.number m }

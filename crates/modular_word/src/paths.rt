@@ -1,5 +1,5 @@
-//! The paths: division by a reciprocal, exact division and Montgomery's reduction, written and
-//! proved once for every width. What a divisor stores comes as arguments.
+//! The paths: division by a reciprocal, exact division and Montgomery's reduction, written and proved once for
+//! every width. What was precomputed of a divisor is passed as arguments.
 
 ghost use Rattle.std.specs.Prelude.{◌≡◌, ℕ, ◌+◌, ◌-◌, ◌*◌, ◌%◌, ◌^◌, ◌<◌, ◌≤◌};
 ghost use Rattle.modular_word.specs.Division.{IsDivision, IsExactQuotient};
@@ -21,15 +21,15 @@ pub fn ones<T: PathWord>(n: u32) -> T
     }
 }
 
-/// The word of 2.
+/// The word 2.
 pub fn two<T: PathWord>() -> T
     ensures { T.number result ≡ 2 }
 {
     T::one().plus(T::one())
 }
 
-/// Quotient and remainder of a double word by a divisor d with its top bit set, by the reciprocal
-/// of d. Conditions: `reciprocal` is that of d, and the high word of the dividend is below d.
+/// Quotient and remainder of a double word by a divisor d whose top bit is set, by the reciprocal of d. Conditions:
+/// `reciprocal` is that of d, and the high word of the dividend is below d.
 ///
 /// Source: Möller and Granlund, "Improved division by invariant integers", algorithm 4.
 pub fn div_2by1<T: PathWord>(d: T, reciprocal: T, a: T::Double) -> (T, T)
@@ -39,8 +39,8 @@ pub fn div_2by1<T: PathWord>(d: T, reciprocal: T, a: T::Double) -> (T, T)
 {
     let (low, high) = T::split(a);
     let (q0, q1) = T::split(T::double_plus(reciprocal.product(high), a));
-    // What is left by q1, and by one more: both are known soon, and compilers choose without a branch, which would
-    // often be guessed wrongly.
+    // The remainders for both candidate quotients are computed before the comparison, so that compilers select one
+    // without a branch, which would mispredict often.
     let more = low.wrapping_sub(q1.wrapping_mul(d));
     let less = more.wrapping_sub(d);
     let mut q = q1.wrapping_add(T::one());
@@ -81,9 +81,8 @@ pub fn div_1by1<T: PathWord>(d: T, multiplier: T, shift: u32, a: T) -> (T, T)
     (q, r)
 }
 
-/// The quotient of a word by an odd divisor d, by the inverse of d; `None` exactly where d doesn't
-/// divide it. Condition: `inverse` is that of d modulo the base, and `limit` the greatest quotient
-/// of a word by d.
+/// The quotient of a word by an odd divisor d, by the inverse of d; `None` exactly where d doesn't divide it.
+/// Condition: `inverse` is that of d modulo the base, and `limit` the greatest quotient of a word by d.
 ///
 /// Source: Granlund and Montgomery, "Division by invariant integers using multiplication",
 /// section 9.
@@ -95,10 +94,10 @@ pub fn exact_1<T: PathWord>(d: T, inverse: T, limit: T, n: T) -> Option<T>
     if limit.is_below(q) { None } else { Some(q) }
 }
 
-/// The quotient of a double word by an odd divisor d, by the inverse of d; `None` exactly where d
-/// doesn't divide it. Condition: as `exact_1`.
+/// The quotient of a double word by an odd divisor d, by the inverse of d; `None` exactly where d doesn't divide
+/// it. Condition: as `exact_1`.
 ///
-/// Source: as `exact_1`, a word at a time from the lowest.
+/// Source: that of `exact_1`, applied to one word at a time from the lowest.
 pub fn exact_2<T: PathWord>(d: T, inverse: T, limit: T, n: T::Double) -> Option<T::Double>
     requires { IsExactDivisor T.base (T.number d) (T.number inverse) (T.number limit) }
     ensures { IsExactQuotient T.double_number (T.double_number n) (T.number d) result }
@@ -115,9 +114,9 @@ pub fn exact_2<T: PathWord>(d: T, inverse: T, limit: T, n: T::Double) -> Option<
 
 /// The word x whose product with m is -1 modulo the base. Condition: m is odd.
 ///
-/// m is its own inverse modulo 8, and each step doubles the number of bits to which the inverse
-/// holds. Source: Dumas, "On Newton-Raphson iteration for multiplicative inverses modulo prime
-/// powers".
+/// m is its own inverse modulo 8, and each step doubles the number of correct bits.
+///
+/// Source: Dumas, "On Newton-Raphson iteration for multiplicative inverses modulo prime powers".
 pub fn neginv<T: PathWord>(m: T) -> T
     requires { T.number m % 2 ≡ 1 }
     ensures { IsNegatedInverse T.base (T.number m) (T.number result) }
@@ -132,8 +131,8 @@ pub fn neginv<T: PathWord>(m: T) -> T
     T::zero().wrapping_sub(inverse)
 }
 
-/// The word x whose multiple x·m, added to t, leaves 0 in the low word: the first step of Montgomery's reduction.
-/// Condition: m times `negated_inverse` is -1 modulo the base.
+/// The word x for which the low word of t + x·m is 0: the first step of Montgomery's reduction. Condition: m times
+/// `negated_inverse` is -1 modulo the base.
 pub fn clearing<T: PathWord>(m: T, negated_inverse: T, t: T::Double) -> T
     requires { IsNegatedInverse T.base (T.number m) (T.number negated_inverse) }
     ensures low { (T.double_number t + T.number result * T.number m) % T.base ≡ 0 }
@@ -143,9 +142,9 @@ pub fn clearing<T: PathWord>(m: T, negated_inverse: T, t: T::Double) -> T
     low.wrapping_mul(negated_inverse)
 }
 
-/// Montgomery's reduction of t, given the word x of `clearing` and the product x·m: the second step, the sum of t and
-/// x·m divided by the base, less m where it is at least m. A modulus of a special form may have x·m at a lower cost.
-/// Conditions: t is below m times the base, and the sum of t and x·m has 0 in the low word.
+/// The second step of Montgomery's reduction of t, given the word x of `clearing` and the product x·m: (t + x·m)
+/// divided by the base, less m where that is at least m. The caller passes x·m because a modulus of a special form
+/// may compute it faster. Conditions: t is below m times the base, and the sum of t and x·m has 0 in the low word.
 pub fn reduce_by<T: PathWord>(m: T, t: T::Double, x: T, multiple: T::Double) -> T
     requires below { T.double_number t < T.base * T.number m }
     requires multiple { T.double_number multiple ≡ T.number x * T.number m }
@@ -156,8 +155,8 @@ pub fn reduce_by<T: PathWord>(m: T, t: T::Double, x: T, multiple: T::Double) -> 
     T::high_sum_modulo(t, multiple, m)
 }
 
-/// Montgomery's reduction of a double word t modulo an odd m. Conditions: m times `negated_inverse`
-/// is -1 modulo the base, and t is below m times the base.
+/// Montgomery's reduction of a double word t modulo an odd m, below m. Conditions: m times `negated_inverse` is -1
+/// modulo the base, and t is below m times the base.
 ///
 /// Source: Handbook of Applied Cryptography, algorithm 14.32, for one word.
 pub fn redc<T: PathWord>(m: T, negated_inverse: T, t: T::Double) -> T

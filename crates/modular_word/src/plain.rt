@@ -1,12 +1,12 @@
-//! The definitions of `specs/` as programs: plain and slow, each with the definition for its contract.
-//! They are what the tests compare the fast calls with, and nothing of the library stands on them.
+//! The definitions of `specs/` as programs: simple and slow, each with its definition as its contract. The tests
+//! compare the fast calls with them; the library doesn't use them.
 
 ghost use Rattle.std.specs.Prelude.{◌≡◌, ℕ, ◌-◌, ◌*◌, ◌%◌, ◌^◌, ◌<◌, ◌≤◌, ◌↔◌};
 ghost use Rattle.modular_word.specs.Divisors.{IsGreatestCommonDivisor, gcd};
 ghost use Rattle.modular_word.specs.Inverses.{IsInversion, HasInverse, inverse_of};
 ghost use Rattle.modular_word.specs.Residues.{IsResidue, residue};
 
-// The residue of a signed number modulo m, by its computing form.
+// The residue of a signed number modulo m, by the equation that computes it.
 fn computed_residue(z: i64, m: u64) -> u64
     requires { 1 ≤ m }
     ensures { result ≡ residue m z }
@@ -20,8 +20,7 @@ fn computed_residue(z: i64, m: u64) -> u64
 
 /// The residue of a signed number modulo m. Condition: m is at least 1.
 ///
-/// The definition and its computing form agree: the answer is `residue m z`, it is a residue of z
-/// modulo m, and no other number is.
+/// The definition and the equation agree: the result is `residue m z`, and the only residue of z modulo m.
 pub fn residue_of(z: i64, m: u64) -> u64
     requires { 1 ≤ m }
     ensures computed { result ≡ residue m z }
@@ -31,7 +30,7 @@ pub fn residue_of(z: i64, m: u64) -> u64
     computed_residue(z, m)
 }
 
-/// The residue modulo m of the product of `exp` factors `base`. Condition: m is at least 1.
+/// The residue modulo m of the power of `base` to `exp`. Condition: m is at least 1.
 pub fn power_of(base: u64, exp: u64, m: u64) -> u64
     requires { 1 ≤ m }
     ensures { result ≡ base ^ exp % m }

@@ -5,25 +5,24 @@ ghost use Rattle.std.specs.Prelude.{◌≡◌, ℕ, ◌+◌, ◌*◌, ◌/◌, �
 
 /// A machine word, from 8 to 128 bits wide.
 ///
-/// Contracts speak of its number, and of its width in bits: words of one number are one word, and
-/// `==` compares the numbers. That a number is below 2 to the width is known of each word that a
-/// call has read (the clauses `fits`).
+/// Contracts use its number and its width in bits. Words of equal number are equal, and `==` compares the numbers.
+/// The clauses `fits` of the calls say that a word they read is below 2 to the width.
 pub trait RingWord: Copy + Eq {
     // The number of a word.
     ghost number: { Self → ℕ };
 
-    // How many bits a word has.
+    // The number of bits of a word.
     ghost width: { ℕ };
 
-    /// The word of 0.
+    /// The word 0.
     fn zero() -> Self
         ensures { number result ≡ 0 };
 
-    /// The word of 1.
+    /// The word 1.
     fn one() -> Self
         ensures { number result ≡ 1 };
 
-    /// How many bits a word has.
+    /// The number of bits of a word.
     fn bits() -> u32
         ensures { result ≡ width };
 
@@ -47,7 +46,7 @@ pub trait RingWord: Copy + Eq {
 
     ghost width_to: { width ≤ 128 };
 
-    // Words of one number are one word, and compare equal.
+    // Words of equal number are equal, also by `==`.
     ghost injective: { (x y : Self) → number x ≡ number y → x ≡ y };
 
     ghost equal: { (x y : Self) → IsTrue (Self.eq x y) ↔ (number x ≡ number y) };
