@@ -1,4 +1,4 @@
-//! Integers of a ring modulo m, as code that is generic over them sees them.
+//! The trait of integers modulo m, for generic code.
 
 ghost use Rattle.modular_reduced.specs.Integers.{IsInteger};
 ghost use Rattle.modular_word.specs.Residues.{residue};
@@ -9,14 +9,14 @@ use std::ops::{Add, Mul, Neg, Sub};
 
 /// An integer modulo m, with its modulus.
 ///
-/// Integers of equal modulus may be added, subtracted and multiplied, and each may be negated; the
-/// laws below say what the operators answer, and what `==` tells.
+/// Integers of equal modulus may be added, subtracted and multiplied, and each may be negated. The laws below say
+/// what the operators and `==` return.
 pub trait ModularInteger: PartialEq
     + Add<Self, Output = Self>
     + Sub<Self, Output = Self>
     + Mul<Self, Output = Self>
     + Neg<Output = Self> {
-    /// The words that moduli and residues are.
+    /// The type of moduli and residues.
     type Base: RingWord;
 
     // The modulus.
@@ -25,11 +25,11 @@ pub trait ModularInteger: PartialEq
     // The residue: a number below the modulus.
     ghost residue_number: { Self → ℕ };
 
-    /// The modulus.
+    /// The modulus m.
     fn modulus(&self) -> Self::Base
         ensures { Self.Base.number result ≡ modulus_number self.now };
 
-    /// The residue.
+    /// The residue, below m.
     fn residue(&self) -> Self::Base
         ensures { Self.Base.number result ≡ residue_number self.now };
 
@@ -37,7 +37,7 @@ pub trait ModularInteger: PartialEq
     fn is_zero(&self) -> bool
         ensures { IsTrue result ↔ (residue_number self.now ≡ 0) };
 
-    /// The integer n mod m, in the ring of `self`.
+    /// The integer n mod m, with the modulus of `self`.
     fn convert(&self, n: Self::Base) -> Self
         ensures { let m = modulus_number self.now in
             IsInteger modulus_number residue_number m (Self.Base.number n % m) result };
@@ -55,11 +55,11 @@ pub trait ModularInteger: PartialEq
     // The residue is below the modulus.
     ghost below: { (a : Self) → residue_number a < modulus_number a };
 
-    // `==` tells whether moduli and residues are equal.
+    // `==` returns whether the moduli and the residues are equal.
     ghost equal: { (a b : Self) → IsTrue (Self.eq a b) ↔
         ((modulus_number a ≡ modulus_number b) × (residue_number a ≡ residue_number b)) };
 
-    // Integers of equal modulus may be added, and the answer is the residue of the sum.
+    // Integers of equal modulus may be added, and the result is the residue of the sum.
     ghost may_add: { (a b : Self) → modulus_number a ≡ modulus_number b → Self.can_add a b };
 
     ghost adds: { (a b c : Self) → modulus_number a ≡ modulus_number b → Self.add_gives a b c →
@@ -80,7 +80,7 @@ pub trait ModularInteger: PartialEq
         let m = modulus_number a in IsInteger modulus_number residue_number m
         ((residue_number a * residue_number b) % m) c };
 
-    // Each may be negated, and the answer is the residue of the negative.
+    // Each may be negated, and the result is the residue of the negative.
     ghost may_negate: { (a : Self) → Self.can_neg a };
 
     ghost negates: { (a c : Self) → Self.neg_gives a c →

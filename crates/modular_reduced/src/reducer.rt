@@ -8,12 +8,12 @@ ghost use Rattle.modular_reduced.specs.Forms.{Represents, IsForm, IsCanonical, I
 use crate::power::pow_counted;
 use modular_word::ring_word::RingWord;
 
-/// A way to compute modulo m by forms: words that stand for the values from 0 to m - 1.
+/// Arithmetic modulo m on forms: words that represent the values from 0 to m - 1.
 ///
-/// A form is checked where `check` is true of it; each value has exactly one checked form, and each
-/// checked form one value. Condition of every call but `check` and `transform`: the forms are checked.
+/// A form is checked where `check` returns true. Each value has exactly one checked form, and each checked form
+/// exactly one value. Condition of every call but `check` and `transform`: the forms are checked.
 pub trait Reducer<T: RingWord> {
-    // The moduli that `new` takes.
+    // The moduli that `new` accepts.
     ghost admits: { ℕ → Type 0 };
 
     // `form m v`: modulo m, the form of the value v.
@@ -65,7 +65,7 @@ pub trait Reducer<T: RingWord> {
         ensures value { let m = modulus self.now in
             value m (T.number result) ≡ (value m (T.number a.now) + value m (T.number b.now)) % m };
 
-    /// `add`, in the first operand.
+    /// `add`, in place of the first operand.
     fn add_in_place(&self, a: &mut T, b: &T)
         requires left { IsForm form value (modulus self.now) (T.number a.old) }
         requires right { IsForm form value (modulus self.now) (T.number b.now) }
@@ -98,7 +98,7 @@ pub trait Reducer<T: RingWord> {
         ensures value { let m = modulus self.now in
             value m (T.number result) ≡ residue m (pos (value m (T.number a.now)) -ℤ pos (value m (T.number b.now))) };
 
-    /// `sub`, in the first operand.
+    /// `sub`, in place of the first operand.
     fn sub_in_place(&self, a: &mut T, b: &T)
         requires left { IsForm form value (modulus self.now) (T.number a.old) }
         requires right { IsForm form value (modulus self.now) (T.number b.now) }
@@ -131,7 +131,7 @@ pub trait Reducer<T: RingWord> {
         ensures value { let m = modulus self.now in
             value m (T.number result) ≡ (value m (T.number a.now) * value m (T.number b.now)) % m };
 
-    /// `mul`, in the first operand.
+    /// `mul`, in place of the first operand.
     fn mul_in_place(&self, a: &mut T, b: &T)
         requires left { IsForm form value (modulus self.now) (T.number a.old) }
         requires right { IsForm form value (modulus self.now) (T.number b.now) }
@@ -144,10 +144,10 @@ pub trait Reducer<T: RingWord> {
         *a = self.mul(a, b);
     }
 
-    /// The form of (a - b) times a factor modulo m: the answer of `mul` on that of `sub`.
+    /// The form of (a - b) times a factor modulo m: what `mul` returns for the result of `sub`.
     ///
-    /// A reducer may have it faster than by the two calls where it can't be foretold which of a and b is the
-    /// greater, as in the butterflies of a transform.
+    /// A reducer may override it with a faster body for callers in which the comparison of a and b mispredicts, as
+    /// in the butterflies of a transform.
     fn mul_difference(&self, a: &T, b: &T, factor: &T) -> T
         requires left { IsForm form value (modulus self.now) (T.number a.now) }
         requires right { IsForm form value (modulus self.now) (T.number b.now) }
@@ -183,7 +183,7 @@ pub trait Reducer<T: RingWord> {
         ensures value { let m = modulus self.now in
             value m (T.number result) ≡ (value m (T.number f) * value m (T.number f)) % m };
 
-    /// The form of the product of `exp` factors, modulo m; that of 1 for the exponent 0.
+    /// The form of the power to the exponent `exp` modulo m; that of 1 for the exponent 0.
     final fn pow(&self, f: T, exp: &T) -> T
         requires { IsForm form value (modulus self.now) (T.number f) }
         ensures form { let m = modulus self.now in
@@ -195,9 +195,9 @@ pub trait Reducer<T: RingWord> {
         pow_counted(self, f, exp).0
     }
 
-    // A reducer has a modulus that its type admits.
+    // The modulus of a reducer is one that `new` accepts.
     ghost admitted: { (r : Self) → admits (modulus r) };
 
-    // Each value has one form, a word, and each form one value.
+    // Each value has exactly one form, which is a word, and each form exactly one value.
     ghost canonical: { (r : Self) → IsCanonical form value T.width (modulus r) };
 }

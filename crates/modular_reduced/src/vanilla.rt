@@ -1,4 +1,4 @@
-//! The plain reducer: each value is its own form.
+//! The plain reducer: the form of a value is the value.
 
 ghost use Rattle.std.specs.Prelude.{◌≡◌, ℕ, ◌^◌, ◌<◌, ◌≤◌};
 ghost use Rattle.modular_reduced.specs.Plain.{plain_form, plain_value, plain_canonical};
@@ -9,11 +9,12 @@ use modular_prim::inverse::fast_inverse;
 use modular_prim::plain_word::PlainWord;
 use std::alloc::AllocError;
 
-/// The plain reducer of a modulus from 1 up: the form of a value is the value itself.
+/// The plain reducer of a modulus that is at least 1: the form of a value is the value.
 ///
-/// Sums, differences, doubles and negatives take no division. A product is the classical one, the
-/// remainder of a double word by a word (Handbook of Applied Cryptography, section 14.3.1). An inverse
-/// is found by subtraction for an odd modulus and by Euclid's algorithm for an even one.
+/// Sums, differences, doubles and negatives take no division. A product is the remainder of a double word by a
+/// word. An inverse is computed by subtraction for an odd modulus, by Euclid's algorithm for an even one.
+///
+/// Source: Handbook of Applied Cryptography, section 14.3.1.
 #[derive(Debug)]
 pub struct Vanilla<T: PlainWord> {
     modulus: T,
@@ -49,7 +50,7 @@ impl<T: PlainWord> Reducer<T> for Vanilla<T> {
     // Condition: the modulus is at least 1.
     fn new(m: &T) -> Self {
         let modulus = *m;
-        // a word that was read is known to fit
+        // Reading the word gives the proof that it fits its width.
         let _ = modulus.is_odd();
         prove!(!modulus.is_zero_word());
         Vanilla { modulus }

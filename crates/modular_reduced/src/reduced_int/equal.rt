@@ -1,4 +1,4 @@
-//! Equality of integers: one modulus and one form.
+//! Equality of integers: equal moduli and equal forms.
 
 ghost use Rattle.modular_reduced.specs.Integers.{form_of, modulus_of};
 ghost use Rattle.std.proofs.Common.{rules};
@@ -10,7 +10,7 @@ use crate::reducer::Reducer;
 use modular_word::ring_word::RingWord;
 
 impl<T: RingWord, R: Reducer<T> + Copy> PartialEq for ReducedInt<T, R> {
-    // Modulus and form are equal.
+    // Both the moduli and the forms are equal.
     ghost eq = { λ x y. nat_eq (modulus_of x) (modulus_of y) && nat_eq (form_of x) (form_of y) };
 
     ghost laws = { Prim.search (comparing, rules) };

@@ -1,4 +1,4 @@
-//! What `ReducedInt` has of its own: how it is made, its form, inverses and powers.
+//! The methods of `ReducedInt`: its constructor, its form, inverses and powers.
 
 ghost use Rattle.modular_reduced.specs.Integers.{form_of, modulus_of, residue_of, IsReduced};
 ghost use Rattle.modular_word.specs.Inverses.{IsInverse};
@@ -19,7 +19,7 @@ impl<T: RingWord, R: Reducer<T> + Copy> ReducedInt<T, R> {
         ReducedInt { form, reducer }
     }
 
-    /// The form that stands for the residue.
+    /// The form of the residue.
     pub fn repr(&self) -> &T
         ensures word { T.number result.now ≡ form_of self.now }
         ensures form { T.number result.now ≡ R.form (modulus_of self.now) (residue_of self.now) }
@@ -40,8 +40,7 @@ impl<T: RingWord, R: Reducer<T> + Copy> ReducedInt<T, R> {
         })
     }
 
-    /// The product of `exp` factors; 1 mod m for the exponent 0. It goes by binary steps, as
-    /// `pow_counted`.
+    /// The power to the exponent `exp`; 1 mod m for the exponent 0. `pow_counted` says how many products it takes.
     pub fn pow(self, exp: &T) -> Self
         ensures { let m = modulus_of self in IsReduced m (residue_of self ^ T.number exp.now % m) result }
     {

@@ -1,4 +1,4 @@
-//! What the operators of integers compute: all kinds of operands of an operator call one of these.
+//! The operations of integers, to which the operators of all kinds of operands delegate.
 
 ghost use Rattle.modular_reduced.specs.Integers.{CanDivide, IsDifference, IsNegative, IsProduct};
 ghost use Rattle.modular_reduced.specs.Integers.{IsQuotient, IsReduced, IsSum, modulus_of, residue_of};
@@ -8,7 +8,7 @@ use super::ReducedInt;
 use crate::reducer::Reducer;
 use modular_word::ring_word::RingWord;
 
-/// The integer n in the ring of x.
+/// The integer n mod m, with the modulus of x.
 pub fn in_ring<T: RingWord, R: Reducer<T> + Copy>(x: &ReducedInt<T, R>, n: T) -> ReducedInt<T, R>
     ensures { let m = modulus_of x.now in IsReduced m (T.number n % m) result }
 {
@@ -33,7 +33,7 @@ pub fn sum<T: RingWord, R: Reducer<T> + Copy>(
     }
 }
 
-/// The sum with a word.
+/// The sum of an integer and a word.
 pub fn sum_with<T: RingWord, R: Reducer<T> + Copy>(x: &ReducedInt<T, R>, n: T) -> ReducedInt<T, R>
     ensures { IsSum x.now (T.number n) result }
 {
@@ -55,7 +55,7 @@ pub fn difference<T: RingWord, R: Reducer<T> + Copy>(
     }
 }
 
-/// The difference with a word.
+/// The difference of an integer and a word.
 pub fn difference_with<T: RingWord, R: Reducer<T> + Copy>(
     x: &ReducedInt<T, R>,
     n: T,
@@ -80,7 +80,7 @@ pub fn product<T: RingWord, R: Reducer<T> + Copy>(
     }
 }
 
-/// The product with a word.
+/// The product of an integer and a word.
 pub fn product_with<T: RingWord, R: Reducer<T> + Copy>(
     x: &ReducedInt<T, R>,
     n: T,
@@ -90,8 +90,8 @@ pub fn product_with<T: RingWord, R: Reducer<T> + Copy>(
     product(x, &in_ring(x, n))
 }
 
-/// The quotient: the integer whose product with y is x. Conditions: the moduli are equal; the divisor has
-/// an inverse modulo m.
+/// The quotient: the integer whose product with y is x. Conditions: the moduli are equal; the divisor has an
+/// inverse modulo m.
 pub fn quotient<T: RingWord, R: Reducer<T> + Copy>(
     x: &ReducedInt<T, R>,
     y: &ReducedInt<T, R>,
