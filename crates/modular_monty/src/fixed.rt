@@ -1,4 +1,4 @@
-//! Reducers by Montgomery's representation of a modulus that is a parameter of the type.
+//! Reducers by Montgomery's representation whose modulus is a parameter of the type.
 
 ghost use Rattle.std.specs.Prelude.{◌≡◌, ℕ, ◌*◌, ◌%◌, ◌^◌};
 ghost use Rattle.std.proofs.Common.{refl};
@@ -10,7 +10,7 @@ use crate::odd_ring::{OddModulus, OddRing};
 use modular_reduced::reducer::Reducer;
 use modular_word::paths::redc;
 
-// What is computed once of P; a type, since of a constant a proof knows what its type promises.
+// What is precomputed of P. It is a type because proofs use what the type of a constant guarantees, not its value.
 #[derive(Clone, Copy)]
 struct Computed32<const P: u32> {
     negated_inverse: u32,
@@ -18,10 +18,10 @@ struct Computed32<const P: u32> {
     ghost ring: { P % 2 ≡ 1 → IsOddRing 32 (2 ^ 32) P negated_inverse square },
 }
 
-/// The odd number P as a modulus for words of 32 bits, which each operation knows when it is compiled.
+/// The odd number P as a modulus for words of 32 bits, known at compile time.
 #[derive(Debug, Clone, Copy)]
 pub struct OddNumber32<const P: u32> {
-    // Private, so that a value stands for an odd P; the numbers come from the parameter.
+    // Private, so that a value exists only for an odd P; the numbers come from the parameter.
     made: (),
     ghost ring: { IsOddModulus 32 (2 ^ 32) P },
 }
@@ -36,8 +36,8 @@ impl<const P: u32> OddNumber32<P> {
     };
 }
 
-/// The reducer of the odd modulus P by Montgomery's representation in words of 32 bits: the form of
-/// v is v * 2^32 modulo P. `new` takes P alone.
+/// The reducer of the odd modulus P by Montgomery's representation in words of 32 bits: the form of v is v * 2^32
+/// modulo P. `new` accepts only P.
 ///
 /// Source: Handbook of Applied Cryptography, section 14.3.2.
 pub type FixedMontgomery32<const P: u32> = OddRing<u32, OddNumber32<P>>;
@@ -85,7 +85,7 @@ impl<const P: u32> OddModulus<u32> for OddNumber32<P> {
     ghost is_odd_ring = { λ m. m.ring };
 }
 
-// What is computed once of P; a type, since of a constant a proof knows what its type promises.
+// What is precomputed of P. It is a type because proofs use what the type of a constant guarantees, not its value.
 #[derive(Clone, Copy)]
 struct Computed64<const P: u64> {
     negated_inverse: u64,
@@ -93,10 +93,10 @@ struct Computed64<const P: u64> {
     ghost ring: { P % 2 ≡ 1 → IsOddRing 64 (2 ^ 64) P negated_inverse square },
 }
 
-/// The odd number P as a modulus for words of 64 bits, which each operation knows when it is compiled.
+/// The odd number P as a modulus for words of 64 bits, known at compile time.
 #[derive(Debug, Clone, Copy)]
 pub struct OddNumber64<const P: u64> {
-    // Private, so that a value stands for an odd P; the numbers come from the parameter.
+    // Private, so that a value exists only for an odd P; the numbers come from the parameter.
     made: (),
     ghost ring: { IsOddModulus 64 (2 ^ 64) P },
 }
@@ -111,8 +111,8 @@ impl<const P: u64> OddNumber64<P> {
     };
 }
 
-/// The reducer of the odd modulus P by Montgomery's representation in words of 64 bits: the form of
-/// v is v * 2^64 modulo P. `new` takes P alone.
+/// The reducer of the odd modulus P by Montgomery's representation in words of 64 bits: the form of v is v * 2^64
+/// modulo P. `new` accepts only P.
 ///
 /// Source: Handbook of Applied Cryptography, section 14.3.2.
 pub type FixedMontgomery64<const P: u64> = OddRing<u64, OddNumber64<P>>;

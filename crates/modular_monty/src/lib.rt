@@ -1,4 +1,4 @@
-//! Montgomery's reduction and what rests on the inverse of an odd number modulo the base.
+//! Montgomery's reduction, and exact division by an odd number: both use its inverse modulo the base.
 #![tactic(auto)]
 
 mod computed;

@@ -1,5 +1,5 @@
-//! Odd moduli by Montgomery's representation, which every reducer of this crate rests on: the calls
-//! of a reducer once, over whatever knows an odd modulus and reduces by it.
+//! Odd moduli by Montgomery's representation: the reducer that every reducer of this crate is an alias of or
+//! contains, over any type that holds an odd modulus and reduces by it.
 
 ghost use Rattle.std.specs.Prelude.{◌≡◌, ℕ, ◌*◌, ◌%◌, ◌<◌, ◌↔◌, ⊤, IsTrue, MatchOption};
 ghost use Rattle.modular_word.specs.Reduction.{IsNegatedInverse, IsReduction};
@@ -17,11 +17,11 @@ use modular_word::ring_word::RingWord;
 use std::alloc::AllocError;
 use std::marker::PhantomData;
 
-/// An odd modulus, with what is computed once of it: its negated inverse modulo the base, and the
-/// square of the base modulo it. A type that knows its modulus need not store it, and one of a
-/// special form may have a multiple of it at a lower cost.
+/// An odd modulus, with what is precomputed of it: its negated inverse modulo the base, and the square of the base
+/// modulo m. A type that knows its modulus needn't store it, and a modulus of a special form may be multiplied
+/// faster.
 pub trait OddModulus<T: PlainWord>: Copy {
-    // The moduli that are taken.
+    // The moduli that are accepted.
     ghost taken: { ℕ → Type 0 };
 
     ghost modulus: { Self → ℕ };
@@ -30,7 +30,7 @@ pub trait OddModulus<T: PlainWord>: Copy {
 
     ghost square: { Self → ℕ };
 
-    /// What is kept of m. Condition: the type takes the modulus.
+    /// What is stored of m. Condition: the type takes the modulus.
     fn keep(m: T) -> Self
         requires { taken (T.number m) }
         ensures { modulus result ≡ T.number m };
@@ -39,11 +39,11 @@ pub trait OddModulus<T: PlainWord>: Copy {
     fn modulus(&self) -> T
         ensures { T.number result ≡ modulus self.now };
 
-    /// The square of the base modulo it.
+    /// The square of the base, modulo m.
     fn square_of_base(&self) -> T
         ensures { T.number result ≡ square self.now };
 
-    /// Montgomery's reduction of t. Condition: t is below the modulus times the base.
+    /// Montgomery's reduction of t, below m. Condition: t is below the modulus times the base.
     fn reduced(&self, t: T::Double) -> T
         requires { T.double_number t < T.base * modulus self.now }
         ensures { IsReduction T.base (modulus self.now) (T.double_number t) (T.number result) };
@@ -53,8 +53,8 @@ pub trait OddModulus<T: PlainWord>: Copy {
     ghost is_odd_ring: { (m : Self) → IsOddRing T.width T.base (modulus m) (negated_inverse m) (square m) };
 }
 
-// The two numbers that are computed once of an odd modulus. The square of the base less m fits a double word,
-// and leaves what the square leaves.
+// What is precomputed of an odd modulus m. The square of the base doesn't fit a double word, but the square less m
+// does, and it is congruent to the square.
 pub(crate) fn computed_once<T: PlainWord>(m: T) -> (T, T)
     requires { T.number m % 2 ≡ 1 }
     ensures { IsOddRing T.width T.base (T.number m) (T.number result.0) (T.number result.1) }
@@ -79,7 +79,7 @@ fn is_negated_inverse<T: PathWord>(m: T, n: T) -> bool
     m.wrapping_mul(n).wrapping_add(T::one()).is_zero_word()
 }
 
-// Whether a word is the square of the base modulo m: two reductions make 1 of that alone.
+// Whether a word is the square of the base modulo m: it is exactly where reducing it twice gives 1.
 fn is_square_of_base<T: PathWord>(m: T, negated_inverse: T, square: T) -> bool
     requires odd { T.number m % 2 ≡ 1 }
     requires inverse { IsNegatedInverse T.base (T.number m) (T.number negated_inverse) }
@@ -93,8 +93,8 @@ fn is_square_of_base<T: PathWord>(m: T, negated_inverse: T, square: T) -> bool
     is_one(unit) || is_one(m)
 }
 
-/// The reducer by Montgomery's representation modulo what it holds: the form of v is v times the
-/// base, modulo m, the base being 2 to the width of the words T. `new` takes the moduli that M takes.
+/// The reducer by Montgomery's representation of the modulus of M: the form of v is v times the base modulo m, the
+/// base being 2 to the width of the words T. `new` accepts the moduli that M does.
 ///
 /// A product of forms takes one product of words and one reduction, which divides by the base alone.
 ///
@@ -106,7 +106,7 @@ pub struct OddRing<T: PlainWord, M: OddModulus<T>> {
 }
 
 impl<T: PlainWord, M: OddModulus<T>> OddRing<T, M> {
-    /// The reducer by what is kept of its modulus.
+    /// The reducer of the modulus that is stored.
     pub fn over(kept: M) -> Self
         ensures { result.kept ≡ kept }
     {
@@ -134,8 +134,8 @@ impl<T: PlainWord, M: OddModulus<T>> Reducer<T> for OddRing<T, M> {
         OddRing::over(M::keep(*m))
     }
 
-    // n times the base, divided, where machines divide double words fast; above, a product and a reduction
-    // take less than that division.
+    // Up to 16 bits, dividing n times the base is fast; for longer words a product and a reduction take less time
+    // than the division of a double word.
     fn transform(&self, n: T) -> T {
         if T::bits() <= 16 {
             T::narrow_remainder(T::merge(T::zero(), n), self.kept.modulus())
@@ -185,7 +185,7 @@ impl<T: PlainWord, M: OddModulus<T>> Reducer<T> for OddRing<T, M> {
         self.kept.reduced(difference.product(*factor))
     }
 
-    // Through the value: its inverse, and the form of that.
+    // The form of the inverse of the value.
     fn inv(&self, f: T) -> Option<T> {
         match fast_inverse(self.residue(f), self.kept.modulus()) {
             Some(x) => Some(self.transform(x)),
@@ -198,7 +198,7 @@ impl<T: PlainWord, M: OddModulus<T>> Reducer<T> for OddRing<T, M> {
     }
 }
 
-/// An odd modulus that is known when the program runs, with what is computed once of it.
+/// An odd modulus that is known at run time, with what is precomputed of it.
 #[derive(Debug)]
 pub struct StoredModulus<T: PlainWord> {
     /// The modulus m.
@@ -223,8 +223,8 @@ impl<T: PlainWord> Clone for StoredModulus<T> {
 impl<T: PlainWord> Copy for StoredModulus<T> {}
 
 impl<T: PlainWord> StoredModulus<T> {
-    /// What is stored of m, by the two numbers that were computed of it before; `None` exactly where m is
-    /// even or one of them isn't that number. No division is made.
+    /// What is stored of m, given the two numbers that were precomputed of it earlier; `None` exactly where m is
+    /// even or one of the numbers is wrong. It makes no division.
     pub fn restored(m: T, negated_inverse: T, square: T) -> Option<StoredModulus<T>>
         ensures { MatchOption result
             (IsOddRing T.width T.base (T.number m) (T.number negated_inverse) (T.number square) → ⊥)

@@ -1,4 +1,4 @@
-//! Exact division by an odd divisor whose inverse modulo the base is prepared.
+//! Exact division by an odd divisor whose inverse modulo the base is precomputed.
 
 ghost use Rattle.std.specs.Prelude.{◌≡◌, ℕ, ◌%◌};
 ghost use Rattle.modular_word.specs.Division.{IsExactQuotient};
@@ -12,12 +12,12 @@ use modular_word::paths::{exact_1, exact_2, ones};
 mod doubles;
 mod words;
 
-/// What contracts see of a prepared inverse.
+/// What contracts use of a precomputed inverse.
 pub trait PreparedInverse {
-    // The stored inverse of a divisor.
+    // The inverse that is stored of a divisor.
     ghost inverse: { Self → ℕ };
 
-    // The stored limit of the quotients by a divisor.
+    // The greatest quotient of a word by a divisor, as it is stored.
     ghost limit: { Self → ℕ };
 
     // The two are the inverse of a divisor modulo the base and the greatest quotient of a word by it.
@@ -26,12 +26,10 @@ pub trait PreparedInverse {
 
 /// The inverse of an odd divisor modulo the base, and the greatest quotient of a word by it.
 ///
-/// The two numbers fit a divisor d where d * d_inv is 1 modulo the base and q_lim is the greatest
-/// word divided by d, rounded down. The type itself promises nothing of them: a division by d asks
-/// that they fit d.
+/// The two numbers fit a divisor d where d * d_inv is 1 modulo the base and q_lim is the greatest word divided by
+/// d, rounded down. The type doesn't guarantee that they do; a division by d requires it.
 ///
-/// Source: Granlund and Montgomery, "Division by invariant integers using multiplication",
-/// section 9.
+/// Source: Granlund and Montgomery, "Division by invariant integers using multiplication", section 9.
 #[derive(Debug, Clone, Copy)]
 pub struct PreModInv<T: PathWord> {
     d_inv: T,
@@ -47,7 +45,7 @@ impl<T: PathWord> PreparedInverse for PreModInv<T> {
 }
 
 impl<T: PathWord> PreModInv<T> {
-    /// The two numbers, as they are given.
+    /// Stores the two numbers as they are given.
     pub const fn new(d_inv: T, q_lim: T) -> Self
         ensures inverse { ⟦<PreModInv<T> as PreparedInverse>⟧.inverse result ≡ T.number d_inv }
         ensures limit { ⟦<PreModInv<T> as PreparedInverse>⟧.limit result ≡ T.number q_lim }
@@ -57,7 +55,7 @@ impl<T: PathWord> PreModInv<T> {
 }
 
 impl<T: PlainWord> PreModInv<T> {
-    /// What fits the divisor d. Condition: the divisor is odd.
+    /// The two numbers that fit the divisor d. Condition: the divisor is odd.
     pub fn from(d: T) -> Self
         requires { T.number d % 2 ≡ 1 }
         ensures { ⟦<PreModInv<T> as PreparedInverse>⟧.fits result (T.number d) }
@@ -69,8 +67,8 @@ impl<T: PlainWord> PreModInv<T> {
     }
 }
 
-// The quotient of a word; `None` exactly where d doesn't divide it. Condition: the stored inverse is that
-// of the divisor.
+// The quotient of a word by d; `None` exactly where d doesn't divide it. Condition: the stored inverse is that of
+// the divisor.
 fn word_quotient<T: PathWord>(n: T, d: T, pre: &PreModInv<T>) -> Option<T>
     requires { ⟦<PreModInv<T> as PreparedInverse>⟧.fits pre.now (T.number d) }
     ensures { IsExactQuotient T.number (T.number n) (T.number d) result }
@@ -79,8 +77,8 @@ fn word_quotient<T: PathWord>(n: T, d: T, pre: &PreModInv<T>) -> Option<T>
     exact_1(d, pre.d_inv, pre.q_lim, n)
 }
 
-// The quotient of a double word; `None` exactly where d doesn't divide it. Condition: the stored inverse is that
-// of the divisor.
+// The quotient of a double word by d; `None` exactly where d doesn't divide it. Condition: the stored inverse is
+// that of the divisor.
 fn double_quotient<T: PathWord>(n: T::Double, d: T, pre: &PreModInv<T>) -> Option<T::Double>
     requires { ⟦<PreModInv<T> as PreparedInverse>⟧.fits pre.now (T.number d) }
     ensures { IsExactQuotient T.double_number (T.double_number n) (T.number d) result }

@@ -1,4 +1,4 @@
-//! Reducers by Montgomery's representation of the moduli K * 2^N + 1.
+//! Reducers by Montgomery's representation whose modulus is K * 2^N + 1.
 
 ghost use Rattle.std.specs.Prelude.{◌≡◌, ℕ, ◌+◌, ◌*◌, ◌%◌, ◌^◌, ◌<◌};
 ghost use Rattle.std.proofs.Common.{refl};
@@ -19,7 +19,8 @@ const fn modulus_32(n: u8, k: u8) -> u32
     ((k as u32) << (n % 32)).wrapping_add(1)
 }
 
-// What is computed once of the modulus; a type, since of a constant a proof knows what its type promises.
+// What is precomputed of the modulus. It is a type because proofs use what the type of a constant guarantees, not
+// its value.
 #[derive(Clone, Copy)]
 struct Computed32<const N: u8, const K: u8> {
     negated_inverse: u32,
@@ -31,7 +32,7 @@ struct Computed32<const N: u8, const K: u8> {
 /// The number K * 2^N + 1 as a modulus for words of 32 bits.
 #[derive(Debug, Clone, Copy)]
 pub struct ProthNumber32<const N: u8, const K: u8> {
-    // Private, so that a value stands for parameters in range; the numbers come from the parameters.
+    // Private, so that a value exists only for parameters in range; the numbers come from the parameters.
     made: (),
     ghost range: { IsProthRange 32 greatest_proth_32 N K },
     ghost ring: { IsOddModulus 32 (2 ^ 32) (proth_modulus N K) },
@@ -56,7 +57,7 @@ impl<const N: u8, const K: u8> ProthNumber32<N, K> {
         modulus_32(N, K)
     }
 
-    // The product with the modulus, by a product with K and a shift.
+    // The product of x and the modulus, by a product with K and a shift.
     fn shift_mul(&self, x: u32) -> u64
         ensures { result ≡ x * proth_modulus N K }
     {
@@ -133,7 +134,8 @@ const fn modulus_64(n: u8, k: u8) -> u64
     ((k as u64) << (n % 64)).wrapping_add(1)
 }
 
-// What is computed once of the modulus; a type, since of a constant a proof knows what its type promises.
+// What is precomputed of the modulus. It is a type because proofs use what the type of a constant guarantees, not
+// its value.
 #[derive(Clone, Copy)]
 struct Computed64<const N: u8, const K: u8> {
     negated_inverse: u64,
@@ -145,7 +147,7 @@ struct Computed64<const N: u8, const K: u8> {
 /// The number K * 2^N + 1 as a modulus for words of 64 bits.
 #[derive(Debug, Clone, Copy)]
 pub struct ProthNumber64<const N: u8, const K: u8> {
-    // Private, so that a value stands for parameters in range; the numbers come from the parameters.
+    // Private, so that a value exists only for parameters in range; the numbers come from the parameters.
     made: (),
     ghost range: { IsProthRange 64 greatest_proth_64 N K },
     ghost ring: { IsOddModulus 64 (2 ^ 64) (proth_modulus N K) },
@@ -170,7 +172,7 @@ impl<const N: u8, const K: u8> ProthNumber64<N, K> {
         modulus_64(N, K)
     }
 
-    // The product with the modulus, by a product with K and a shift.
+    // The product of x and the modulus, by a product with K and a shift.
     fn shift_mul(&self, x: u64) -> u128
         ensures { result ≡ x * proth_modulus N K }
     {
