@@ -1,4 +1,4 @@
-//! Montgomery's representation modulo every number: modulo an even one a form has two parts.
+//! Montgomery's representation for every modulus: modulo an even one a form has two parts.
 #![tactic(auto)]
 
 pub mod montgomery;

@@ -14,16 +14,15 @@ use modular_word::path_word::PathWord;
 use modular_word::ring_word::RingWord;
 use std::alloc::AllocError;
 
-/// The reducer of a modulus m from 1 up by Montgomery's representation. With m = 2^s·k, k being odd,
-/// the form of v has two parts: above the lowest s bits v times the base, modulo k, the base being 2
-/// to the width of the words, and in these bits v modulo 2^s. So for odd m it is v times the base,
-/// modulo m.
+/// The reducer of a modulus m that is at least 1, by Montgomery's representation. With m = 2^s·k for odd k, and the
+/// base 2 to the width of the words, the form of v has two parts. Its lowest s bits are v modulo 2^s, and the bits
+/// above them are v times the base, modulo k. So for odd m the form is v times the base, modulo m.
 ///
-/// A product of forms takes one product of words and one reduction, which divides by the base alone,
-/// and for even m one wrapping product besides.
+/// A product of forms takes one product of words and one reduction, which divides by the base alone, and for even m
+/// one more wrapping product.
 ///
-/// Source: Handbook of Applied Cryptography, section 14.3.2; for even m Koç, "Montgomery reduction with
-/// even modulus".
+/// Source: Handbook of Applied Cryptography, section 14.3.2; for even m Koç, "Montgomery reduction with even
+/// modulus".
 #[derive(Debug)]
 pub struct Montgomery<T: PlainWord> {
     // The ring modulo k.
@@ -60,8 +59,8 @@ impl<T: PlainWord> Montgomery<T> {
         }
     }
 
-    /// What is computed once of m: the negated inverse of its odd part modulo the base, and the square
-    /// of the base modulo that part.
+    /// What is precomputed of m: the negated inverse of its odd part modulo the base, and the square of the base
+    /// modulo that part.
     pub fn computed_once(&self) -> (T, T)
         ensures { let m = ⟦<Montgomery<T> as Reducer<T>>⟧.modulus self.now in
             IsComputedOnce T.width T.base m (T.number result.0) (T.number result.1) }
@@ -69,8 +68,8 @@ impl<T: PlainWord> Montgomery<T> {
         (self.odd.kept.negated_inverse, self.odd.kept.square)
     }
 
-    /// The reducer of m by what `computed_once` gave of it; `None` exactly where these aren't the two
-    /// numbers of m. No division is made.
+    /// The reducer of m, given the two numbers that `computed_once` returned for m; `None` exactly where m is 0 or
+    /// a number is wrong. It makes no division.
     pub fn restored(m: T, negated_inverse: T, square: T) -> Option<Self>
         ensures { let fits = IsComputedOnce T.width T.base (T.number m) (T.number negated_inverse) (T.number square) in
             MatchOption result (fits → ⊥) (λ r. (⟦<Montgomery<T> as Reducer<T>>⟧.modulus r ≡ T.number m) × fits) }
@@ -86,7 +85,7 @@ impl<T: PlainWord> Montgomery<T> {
         })
     }
 
-    // The part of a form above the lowest bits.
+    // The part of a form above the lowest s bits.
     fn high(&self, f: T) -> T
         requires { IsForm (split_form T.width) (split_value T.width)
             (T.number self.now.odd.kept.modulus * 2 ^ self.now.twos) (T.number f) }
@@ -97,7 +96,7 @@ impl<T: PlainWord> Montgomery<T> {
         f.shift_right(self.twos)
     }
 
-    // The form of a given part above the lowest bits, and of the lowest bits of a word.
+    // The form with `high` above the lowest s bits, and the lowest s bits of `low` in them.
     fn join(&self, high: T, low: T) -> T
         requires { T.number high < T.number self.now.odd.kept.modulus }
         ensures { T.number result ≡ T.number high * 2 ^ self.now.twos + T.number low % 2 ^ self.now.twos }
@@ -106,7 +105,7 @@ impl<T: PlainWord> Montgomery<T> {
     }
 }
 
-// An early test of s keeps odd moduli as fast as they are without the second part.
+// Each method tests s first, so that odd moduli are as fast as without the second part.
 impl<T: PlainWord> Reducer<T> for Montgomery<T> {
     ghost admits = { λ m. 1 ≤ m };
 
@@ -140,7 +139,7 @@ impl<T: PlainWord> Reducer<T> for Montgomery<T> {
         self.odd.modulus().shift_left(self.twos)
     }
 
-    // The value modulo the odd part, and as many times that part more as the lowest bits ask for.
+    // The value modulo the odd part k, plus the multiple of k that makes the lowest s bits right.
     fn residue(&self, f: T) -> T {
         if self.twos == 0 {
             return self.odd.residue(f);
@@ -197,7 +196,7 @@ impl<T: PlainWord> Reducer<T> for Montgomery<T> {
         self.mul(&difference, factor)
     }
 
-    // Through the value: its inverse, and the form of that.
+    // The form of the inverse of the value.
     fn inv(&self, f: T) -> Option<T> {
         match fast_inverse(self.residue(f), self.modulus()) {
             Some(x) => Some(self.transform(x)),
@@ -210,8 +209,8 @@ impl<T: PlainWord> Reducer<T> for Montgomery<T> {
     }
 }
 
-/// The two parts of a modulus are an odd number and a power of two, and for an odd modulus the form of
-/// a value is the value times the base.
+/// The two parts of a modulus are an odd number and a power of two. For an odd modulus the form of a value is the
+/// value times the base, modulo m.
 pub fn form_laws<T: RingWord>()
     ensures whole { (m : ℕ) → 1 ≤ m → m < 2 ^ T.width → odd_part T.width m * two_part T.width m ≡ m }
     ensures odd { (m : ℕ) → 1 ≤ m → m < 2 ^ T.width → odd_part T.width m % 2 ≡ 1 }
