@@ -1,4 +1,4 @@
-//! Reciprocals by functions that the compiler calls where it knows the divisor.
+//! Reciprocals as const functions, for divisors that are known at compile time.
 
 ghost use Rattle.std.specs.Prelude.{◌*◌, ◌^◌, ◌<◌, ◌≤◌};
 ghost use Rattle.modular_word.specs.Reciprocals.{IsMultiplier, IsReciprocal};
@@ -27,7 +27,8 @@ pub(crate) const fn reciprocal_32(d: u32) -> u32
     ((0xffff_ffff_ffff_ffff / d as u64) & 0xffff_ffff) as u32
 }
 
-// `invert_word` in words of 64 bits, with its dividend less the divisor times the base: one instruction divides that.
+// `invert_word` in words of 64 bits. Its dividend is less the divisor times the base, so that one instruction
+// divides it.
 pub(crate) const fn reciprocal_64(d: u64) -> u64
     requires { 2 ^ 64 ≤ 2 * d }
     ensures { IsReciprocal (2 ^ 64) d result }
@@ -37,7 +38,7 @@ pub(crate) const fn reciprocal_64(d: u64) -> u64
     ((less / d as u128) & 0xffff_ffff_ffff_ffff) as u64
 }
 
-// What `PreMulInv1by1::new` stores of a divisor of 8 bits.
+// What `PreMulInv1by1::new` stores for a divisor of 8 bits.
 pub(crate) const fn multiplier_8(d: u8) -> (u8, u32)
     requires { 1 < d }
     ensures { IsMultiplier 8 (2 ^ 8) d result.0 result.1 }
@@ -48,7 +49,7 @@ pub(crate) const fn multiplier_8(d: u8) -> (u8, u32)
     (quotient + 1, n - 1)
 }
 
-// What `PreMulInv1by1::new` stores of a divisor of 16 bits.
+// What `PreMulInv1by1::new` stores for a divisor of 16 bits.
 pub(crate) const fn multiplier_16(d: u16) -> (u16, u32)
     requires { 1 < d }
     ensures { IsMultiplier 16 (2 ^ 16) d result.0 result.1 }
@@ -59,7 +60,7 @@ pub(crate) const fn multiplier_16(d: u16) -> (u16, u32)
     (quotient + 1, n - 1)
 }
 
-// What `PreMulInv1by1::new` stores of a divisor of 32 bits.
+// What `PreMulInv1by1::new` stores for a divisor of 32 bits.
 pub(crate) const fn multiplier_32(d: u32) -> (u32, u32)
     requires { 1 < d }
     ensures { IsMultiplier 32 (2 ^ 32) d result.0 result.1 }
@@ -70,7 +71,7 @@ pub(crate) const fn multiplier_32(d: u32) -> (u32, u32)
     (quotient + 1, n - 1)
 }
 
-// What `PreMulInv1by1::new` stores of a divisor of 64 bits.
+// What `PreMulInv1by1::new` stores for a divisor of 64 bits.
 pub(crate) const fn multiplier_64(d: u64) -> (u64, u32)
     requires { 1 < d }
     ensures { IsMultiplier 64 (2 ^ 64) d result.0 result.1 }

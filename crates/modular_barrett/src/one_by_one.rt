@@ -10,23 +10,22 @@ use modular_word::path_word::PathWord;
 use modular_word::paths::{div_1by1, ones};
 use modular_word::ring_word::RingWord;
 
-/// Which divisors a divider fits, for contracts.
+/// The divisors that a divider fits, for contracts.
 pub trait FitsDivisor {
-    // What is stored divides by a divisor.
+    // What is stored divides by this divisor.
     ghost fits: { Self → ℕ → Type 0 };
 }
 
-/// The multiplier and the shift of a divisor, which isn't kept: each call is given it again.
+/// The multiplier and the shift of a divisor. The divisor itself isn't stored; the caller passes it to each call.
 ///
-/// Source: Granlund and Montgomery, "Division by invariant integers using multiplication", section
-/// 4.
+/// Source: Granlund and Montgomery, "Division by invariant integers using multiplication", section 4.
 #[derive(Debug, Clone, Copy, PartialEq, Eq)]
 pub struct PreMulInv1by1<T: PathWord> {
     multiplier: T,
     shift: u32,
 }
 
-// How many binary digits a word has.
+// The number of binary digits of a word.
 fn binary_digits<T: PathWord>(x: T) -> u32
     requires { 0 < T.number x }
     ensures value { result ≡ digits (T.number x) }
@@ -53,12 +52,11 @@ impl<T: PathWord> PreMulInv1by1<T> {
 }
 
 impl<T: PlainWord> PreMulInv1by1<T> {
-    /// The multiplier and the shift of a divisor: with n the least number such that the divisor d is
-    /// at most 2^n, and B the number of words, B·(2^n - d)/d rounded down, and 1 more; and n - 1.
-    /// Condition: the divisor is above 1.
+    /// The multiplier and the shift of a divisor d. With n the least number such that d is at most 2^n, and B the
+    /// base, the multiplier is B·(2^n - d)/d, rounded down, plus 1, and the shift is n - 1. Condition: the divisor
+    /// is above 1.
     ///
-    /// Source: Granlund and Montgomery, "Division by invariant integers using multiplication", section
-    /// 4.
+    /// Source: Granlund and Montgomery, "Division by invariant integers using multiplication", section 4.
     pub fn new(d: T) -> Self
         requires { 1 < T.number d }
         ensures { ⟦<PreMulInv1by1<T> as FitsDivisor>⟧.fits result (T.number d) }

@@ -1,4 +1,4 @@
-//! The reducer whose forms are the values scaled to the top of a word.
+//! The reducer whose forms are the values shifted to the top of the word.
 
 ghost use Rattle.std.specs.Prelude.{◌≡◌, ℕ, ◌+◌, ◌-◌, ◌*◌, ◌/◌, ◌%◌, ◌^◌, ◌<◌, ◌≤◌, ⊤};
 ghost use Rattle.std.specs.Int.Count.{count_leading_zeros};
@@ -14,11 +14,11 @@ use modular_word::path_word::PathWord;
 use modular_word::ring_word::RingWord;
 use std::alloc::AllocError;
 
-/// The reducer of a modulus from 1 up by a division of two words by one: with s the leading zeros of
-/// the modulus m, the form of a value v is v·2^s, and the divisor m·2^s, which has its top bit set.
+/// The reducer of a modulus m that is at least 1, by division of a double word. With s the leading zeros of m, the
+/// form of a value v is v·2^s, and the divisor is m·2^s, whose top bit is set.
 ///
-/// Sums, differences, doubles and negatives are taken modulo m·2^s without a division; a product is
-/// one product of words and one division by the reciprocal of m·2^s.
+/// Sums, differences, doubles and negatives are taken modulo m·2^s without a division. A product takes one product
+/// of words and one division by the reciprocal of m·2^s.
 ///
 /// Source: Möller and Granlund, "Improved division by invariant integers".
 #[derive(Debug, PartialEq, Eq)]
@@ -54,7 +54,7 @@ impl<T: PlainWord> PreMulInv2by1<T> {
         }
     }
 
-    /// The divider by the scaled modulus.
+    /// The divider by the shifted modulus.
     pub const fn divider(&self) -> &Normalized2by1Divisor<T>
         ensures { let m = ⟦<PreMulInv2by1<T> as Reducer<T>>⟧.modulus self.now in
             ⟦<Normalized2by1Divisor<T> as StoredDivisor>⟧.divisor result.now ≡ m * scale T.width m }
@@ -62,14 +62,14 @@ impl<T: PlainWord> PreMulInv2by1<T> {
         &self.divider
     }
 
-    /// How many leading zeros the modulus has.
+    /// The number of leading zeros of the modulus.
     pub const fn shift(&self) -> u32
         ensures { result ≡ count_leading_zeros T.width (⟦<PreMulInv2by1<T> as Reducer<T>>⟧.modulus self.now) }
     {
         self.shift
     }
 
-    /// The scaled modulus, which has its top bit set.
+    /// The shifted modulus, whose top bit is set.
     pub const fn divisor(&self) -> T
         ensures scaled { let m = ⟦<PreMulInv2by1<T> as Reducer<T>>⟧.modulus self.now in
             T.number result ≡ m * scale T.width m }
