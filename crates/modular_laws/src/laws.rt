@@ -1,5 +1,5 @@
-//! Laws in the shape that calls and loops leave, as contracts of calls that do nothing. A caller calls
-//! the function and cites its clauses.
+//! Laws in the shape in which contracts of calls and loop invariants leave their terms. Each is a contract of a
+//! function with an empty body; to use a law, call the function and cite its clauses.
 
 ghost use Rattle.std.specs.Prelude.{◌≡◌, ◌≢◌, ℕ, suc, ◌+◌, ◌-◌, ◌*◌, ◌/◌, ◌%◌, ◌^◌, ◌<◌};
 ghost use Rattle.std.specs.Prelude.{◌≤◌, ◌↔◌, pos, ◌-ℤ◌, List, length, slice_index};
@@ -11,8 +11,8 @@ ghost use Rattle.modular_transform.specs.Transforms.{cyclic_product};
 ghost use Rattle.modular_laws.specs.Polynomials.{ascending_polynomial, polynomial_at, HaveUnitDifferences};
 ghost use Rattle.modular_laws.specs.Products.{product_below};
 
-/// A quotient, by `inv` and `mul`, times its divisor is the dividend; a difference and what was taken
-/// away is what it was taken from.
+/// A quotient, computed by `inv` and `mul`, times its divisor is congruent to the dividend. A difference plus its
+/// subtrahend is congruent to the minuend.
 ///
 /// Source: Gauss, Disquisitiones Arithmeticae, articles 1 to 8 and 31.
 pub fn undoing_laws()
@@ -21,8 +21,8 @@ pub fn undoing_laws()
     ensures difference_below { (m a b : ℕ) → a < m → (residue m (pos a -ℤ pos b) + b) % m ≡ a }
 {}
 
-/// Sums over a range are equal where their terms are; where one term alone isn't 0, the sum is that term;
-/// terms of 0 at the end go; and n terms of at most b make at most n·b.
+/// Sums over a range are equal where their terms are. Where only one term isn't 0, the sum is that term. Trailing
+/// terms of 0 may be dropped. A sum of n terms that are at most b is at most n·b.
 ///
 /// Source: Graham, Knuth and Patashnik, Concrete Mathematics, chapter 2.
 pub fn sum_below_laws()
@@ -33,8 +33,7 @@ pub fn sum_below_laws()
     ensures bound { (n b : ℕ) (f : ℕ → ℕ) → ((i : ℕ) → i < n → f i ≤ b) → sum_below n f ≤ n * b }
 {}
 
-/// A product over no number is 1, one over one number more has one factor more, and products are equal
-/// where their factors are.
+/// An empty product is 1, and extending a range by one adds one factor. Products are equal where their factors are.
 ///
 /// Source: Graham, Knuth and Patashnik, Concrete Mathematics, section 2.1.
 pub fn product_below_laws()
@@ -43,10 +42,10 @@ pub fn product_below_laws()
     ensures same { (n : ℕ) (f g : ℕ → ℕ) → ((i : ℕ) → i < n → f i ≡ g i) → product_below n f ≡ product_below n g }
 {}
 
-/// A product has an inverse exactly where both factors have, and one over a range exactly where each
-/// factor has. An inverse of a·b times b is one of a, times a it is one of b, and the product of the
-/// inverses is one of the product. Over a range, an inverse of the product times the last factor is one of
-/// the product before it, and times that product's residue it is one of the last factor.
+/// A product has an inverse exactly where both factors have, and a product over a range exactly where each factor
+/// has. An inverse of a·b times b is an inverse of a, and times a it is one of b; the product of the factors'
+/// inverses is an inverse of the product. Over a range, an inverse of the product, times the last factor, is an
+/// inverse of the product of the others; times the residue of that product, it is an inverse of the last factor.
 ///
 /// Source: Gauss, Disquisitiones Arithmeticae, articles 29 and 31; for a range, Montgomery, "Speeding the
 /// Pollard and elliptic curve methods of factorization", section 10.3.1.
@@ -63,10 +62,9 @@ pub fn inverse_product_laws()
         HasInverse m (product_below n f) ↔ ((i : ℕ) → i < n → HasInverse m (f i)) }
 {}
 
-/// Over a prime p, a^p leaves what a leaves (Fermat's theorem, without a condition). Over an odd one,
-/// a^((p - 1)/2) leaves 1 exactly where a is congruent to the square of a number that p doesn't divide
-/// (Euler's criterion). Over one that leaves 3 modulo 4, a^((p + 1)/4) is a square root of each a that is
-/// congruent to a square.
+/// Modulo a prime p, a^p is congruent to a (Fermat's theorem). Modulo an odd prime, a^((p - 1)/2) is congruent to 1
+/// exactly where a is congruent to the square of a number that p doesn't divide (Euler's criterion). Where p is 3
+/// modulo 4, a^((p + 1)/4) is a square root of each a that is congruent to a square.
 ///
 /// Source: Hardy and Wright, "An Introduction to the Theory of Numbers", theorems 70 and 83; for the root
 /// Cohen, "A Course in Computational Algebraic Number Theory", section 1.5.1.
@@ -78,10 +76,10 @@ pub fn prime_power_laws()
         (a ^ ((p + 1) / 4) * a ^ ((p + 1) / 4)) % p ≡ a % p }
 {}
 
-/// The cyclic product multiplies polynomials, coefficient by coefficient: where the terms at places that
-/// add up to n or more are 0, and the modulus is above every sum, entry e is the sum of x_i·y_(e-i) over
-/// the i from 0 to e. So it is where the values are the residues of two lists, as `load_forms` leaves them,
-/// which together have one coefficient more than n at most.
+/// The cyclic product multiplies polynomials without wrapping around, coefficient by coefficient. Where x_i·y_j is
+/// 0 for all i + j that are at least n, and the modulus is above every sum, entry e is the sum of x_i·y_(e-i) for i
+/// from 0 to e. The same holds where the values are the residues of two lists, as after `load_forms`, whose lengths
+/// add up to at most n + 1.
 ///
 /// Source: Knuth, The Art of Computer Programming, volume 2, section 4.3.3, part C.
 pub fn coefficient_laws()
@@ -96,11 +94,11 @@ pub fn coefficient_laws()
         cyclic_product m n x y e ≡ sum_below (e + 1) (λ i. slice_index xs i * slice_index ys (e - i)) }
 {}
 
-/// A polynomial by its coefficients, the constant first: Horner's rule. Modulo m, which may be composite,
-/// one with at most n coefficients that is 0 at n numbers whose differences all have inverses has
-/// coefficients of 0 alone. So two of them with equal values there have equal coefficients, as lists, as
-/// functions, and with the highest coefficient first. Modulo a prime the differences of numbers that are
-/// distinct have inverses.
+/// Horner's rule for a polynomial by its coefficients, the constant first. Modulo m, which may be composite, a
+/// polynomial with at most n coefficients that is 0 at n points whose differences all have inverses has only
+/// coefficients of 0. So two of them with equal values at the points have equal coefficients, as lists, as
+/// functions, and with the highest coefficient first. Modulo a prime, differences of distinct residues have
+/// inverses.
 ///
 /// Source: Knuth, The Art of Computer Programming, volume 2, section 4.6.4 (Newton's form).
 pub fn polynomial_laws()

@@ -1,4 +1,4 @@
-//! What the loops of callers need: laws in the shape that calls leave, and lists of forms.
+//! What loops of callers need: laws in the shape of their contracts, and lists of forms.
 #![tactic(auto)]
 
 pub mod laws;

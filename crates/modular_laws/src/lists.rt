@@ -1,4 +1,4 @@
-//! Lists of words as lists of forms, and back.
+//! Conversion of lists of words to lists of forms, and back.
 
 ghost use Rattle.std.specs.Prelude.{◌≡◌, ℕ, ◌%◌, ◌<◌, ◌≤◌, All, length, map, slice_index};
 ghost use Rattle.modular_reduced.specs.Forms.{IsForm};
@@ -7,10 +7,10 @@ ghost use Rattle.modular_reduced.specs.Values.{values_of};
 use modular_reduced::reducer::Reducer;
 use modular_word::ring_word::RingWord;
 
-/// Puts the forms of the words in place, and the form of 0 at each place behind the last word; a word
-/// behind the last place is left out.
+/// Stores the forms of the words, and the form of 0 at each place after the last word. Words that exceed the length
+/// of `forms` are ignored.
 ///
-/// It is what `convolve` and `ntt` take: the values are the residues of the words.
+/// The result is what `convolve` and `ntt` take: the values are the residues of the words.
 pub fn load_forms<T: RingWord, R: Reducer<T>>(r: &R, words: &[T], forms: &mut [T])
     ensures checked { All (λ f. IsForm R.form R.value (R.modulus r.now) (T.number f)) forms.new }
     ensures values { let m = R.modulus r.now in (i : ℕ) → i < length forms.old →
@@ -22,8 +22,8 @@ pub fn load_forms<T: RingWord, R: Reducer<T>>(r: &R, words: &[T], forms: &mut [T
     }
 }
 
-/// Puts the values of the forms in place, from the first on: numbers below the modulus. Conditions: the
-/// forms are checked, and at least as many as the places.
+/// Stores the values of the first forms, each below the modulus. Conditions: the forms are checked, and at least as
+/// many as the places.
 pub fn unload_forms<T: RingWord, R: Reducer<T>>(r: &R, forms: &[T], words: &mut [T])
     requires checked { All (λ f. IsForm R.form R.value (R.modulus r.now) (T.number f)) forms.now }
     requires within { length words.old ≤ length forms.now }
