@@ -1,4 +1,4 @@
-//! The reducers of moduli near a power of two, which reduce by folds.
+//! The reducers of moduli near a power of two, by folds.
 #![tactic(auto)]
 
 pub mod mersenne;

@@ -15,15 +15,15 @@ use modular_reduced::reducer::Reducer;
 /// The modulus 2^P - K of at most 32 bits.
 #[derive(Debug, Clone, Copy)]
 pub struct Mersenne32<const P: u8, const K: u32> {
-    // Private, so that a value stands for parameters in range; the modulus comes from the parameters.
+    // Private, so that a value exists only for parameters in range; the modulus comes from the parameters.
     made: (),
     ghost range: { IsMersenneRange 32 P K },
 }
 
 /// The reducer of the modulus 2^P - K of at most 32 bits: the form of a value is the value itself.
 ///
-/// The parameters are in range where P is 32 at most and K is odd and less than half of 2^P. No call
-/// but `inv` divides: words and products are reduced by folds.
+/// The parameters are in range where P is at most 32 and K is odd and less than half of 2^P. Only `inv` divides;
+/// words and products are reduced by folds.
 ///
 /// Source: Handbook of Applied Cryptography, algorithm 14.47.
 pub type FixedMersenne32<const P: u8, const K: u32> = FoldRing<u32, Mersenne32<P, K>>;
@@ -54,8 +54,8 @@ impl<const P: u8, const K: u32> FoldRing<u32, Mersenne32<P, K>> {
         Self::reduce_counted(v).0
     }
 
-    /// The residue of a double word, and the number of folds that take it below 2^P. Condition: the
-    /// parameters are in range.
+    /// The residue of a double word, and the number of folds that make it less than 2^P. Condition: the parameters
+    /// are in range.
     pub fn reduce_counted(v: u64) -> (u32, u32)
         requires { IsMersenneRange 32 P K }
         ensures value { result.0 ≡ v % mersenne P K }
@@ -97,15 +97,15 @@ impl<const P: u8, const K: u32> FoldModulus<u32> for Mersenne32<P, K> {
 /// The modulus 2^P - K of at most 64 bits.
 #[derive(Debug, Clone, Copy)]
 pub struct Mersenne64<const P: u8, const K: u64> {
-    // Private, so that a value stands for parameters in range; the modulus comes from the parameters.
+    // Private, so that a value exists only for parameters in range; the modulus comes from the parameters.
     made: (),
     ghost range: { IsMersenneRange 64 P K },
 }
 
 /// The reducer of the modulus 2^P - K of at most 64 bits: the form of a value is the value itself.
 ///
-/// The parameters are in range where P is 64 at most and K is odd and less than half of 2^P. No call
-/// but `inv` divides: words and products are reduced by folds.
+/// The parameters are in range where P is at most 64 and K is odd and less than half of 2^P. Only `inv` divides;
+/// words and products are reduced by folds.
 ///
 /// Source: Handbook of Applied Cryptography, algorithm 14.47.
 pub type FixedMersenne64<const P: u8, const K: u64> = FoldRing<u64, Mersenne64<P, K>>;
@@ -136,8 +136,8 @@ impl<const P: u8, const K: u64> FoldRing<u64, Mersenne64<P, K>> {
         Self::reduce_counted(v).0
     }
 
-    /// The residue of a double word, and the number of folds that take it below 2^P. Condition: the
-    /// parameters are in range.
+    /// The residue of a double word, and the number of folds that make it less than 2^P. Condition: the parameters
+    /// are in range.
     pub fn reduce_counted(v: u128) -> (u64, u32)
         requires { IsMersenneRange 64 P K }
         ensures value { result.0 ≡ v % mersenne P K }
@@ -176,12 +176,11 @@ impl<const P: u8, const K: u64> FoldModulus<u64> for Mersenne64<P, K> {
     ghost canonical = { λ m. mersenne_canonical 64 (lit≤ tt) m.range };
 }
 
-/// The reducer of the modulus 2^P - K of at most 64 bits over words of 128 bits: the form of a value
-/// is the value itself.
+/// The reducer of the modulus 2^P - K of at most 64 bits over words of 128 bits: the form of a value is the value
+/// itself.
 ///
-/// The parameters are in range where P is 64 at most and K is odd and less than half of 2^P. Forms are
-/// below 2^64, so a product of two of them fits a word and is reduced as a word; sums, differences and
-/// inverses are computed by `FixedMersenne64`.
+/// The parameters are in range where P is at most 64 and K is odd and less than half of 2^P. Forms are below 2^64,
+/// so a product of two of them fits a word. `FixedMersenne64` computes sums, differences and inverses.
 #[derive(Debug, Clone, Copy)]
 pub struct FixedMersenne<const P: u8, const K: u64> {
     ring: FixedMersenne64<P, K>,
@@ -204,8 +203,8 @@ impl<const P: u8, const K: u64> FixedMersenne<P, K> {
         Self::reduce_counted(v).0
     }
 
-    /// The residue of a word, and the number of folds that take it below 2^P. Condition: the parameters
-    /// are in range.
+    /// The residue of a word, and the number of folds that make it less than 2^P. Condition: the parameters are in
+    /// range.
     pub fn reduce_counted(v: u128) -> (u128, u32)
         requires { IsMersenneRange 64 P K }
         ensures value { result.0 ≡ v % mersenne P K }

@@ -1,4 +1,4 @@
-//! The reducer of a modulus near a power of two, written once: each value is its own form.
+//! The reducer of a modulus near a power of two, written once: the form of a value is the value itself.
 
 ghost use Rattle.std.specs.Prelude.{◌≡◌, ℕ, ◌*◌, ◌%◌, ◌<◌};
 ghost use Rattle.modular_reduced.specs.Forms.{IsCanonical};
@@ -13,10 +13,10 @@ use modular_word::path_word::PathWord;
 use modular_word::ring_word::RingWord;
 use std::marker::PhantomData;
 
-/// A modulus near a power of two, which is given by parameters of the type: its number, and how words
-/// and products are reduced by it. A value of the type is known to have parameters in range.
+/// A modulus near a power of two that the parameters of the type give: its value, and how words and products are
+/// reduced by it. A value of the type exists only for parameters in range.
 pub trait FoldModulus<T: FoldedWord>: Copy {
-    // The moduli that are taken.
+    // The moduli that are accepted.
     ghost taken: { ℕ → Type 0 };
 
     ghost modulus: { Self → ℕ };
@@ -30,11 +30,11 @@ pub trait FoldModulus<T: FoldedWord>: Copy {
     fn modulus(&self) -> T
         ensures { T.number result ≡ modulus self.now };
 
-    /// The residue of a word.
+    /// The residue of a word, below the modulus.
     fn reduced(&self, n: T) -> T
         ensures { T.number result ≡ T.number n % modulus self.now };
 
-    /// The residue of a product. Condition: both factors are below the modulus.
+    /// The residue of a product, below the modulus. Condition: both factors are below the modulus.
     fn product(&self, a: T, b: T) -> T
         requires left { T.number a < modulus self.now }
         requires right { T.number b < modulus self.now }
@@ -45,8 +45,8 @@ pub trait FoldModulus<T: FoldedWord>: Copy {
     ghost canonical: { (m : Self) → IsCanonical plain_form plain_value T.width (modulus m) };
 }
 
-/// The reducer of a modulus near a power of two, over words T: the form of a value is the value itself.
-/// It keeps no number, and `new` takes the modulus of the parameters alone.
+/// The reducer of a modulus near a power of two, over words T: the form of a value is the value itself. It stores
+/// nothing, and `new` accepts only the modulus of the parameters.
 #[derive(Debug, Clone, Copy)]
 pub struct FoldRing<T: FoldedWord, M: FoldModulus<T>> {
     word: PhantomData<T>,

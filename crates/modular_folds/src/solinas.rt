@@ -17,8 +17,8 @@ use modular_word::ring_word::RingWord;
 use std::alloc::AllocError;
 use std::marker::PhantomData;
 
-/// The trinomial 2^p1 - 2^p2 + k, as a type: so a type with an invariant can speak of a signed
-/// constant, and the code has the three numbers as constants.
+/// The trinomial 2^p1 - 2^p2 + k as a type, because an invariant of a type can't mention a signed constant
+/// parameter. The three numbers are constants in the code.
 pub trait Trinomial {
     ghost p1: { ℕ };
 
@@ -87,7 +87,7 @@ impl<const P1: u8, const P2: u8, const K: i64> Trinomial for Trinomial64<P1, P2,
     }
 }
 
-// What a fold at the bit p1 multiplies by: 2^p2 - k.
+// The factor of a fold at the bit p1: 2^p2 - k.
 fn factor_of(p1: u8, p2: u8, k: i64) -> u64
     requires { IsTrinomialRange 64 p1 p2 k }
     ensures { result + trinomial p1 p2 k ≡ 2 ^ p1 }
@@ -102,8 +102,8 @@ fn modulus_of(p1: u8, p2: u8, k: i64) -> u64
     ((1u128 << p1) - factor_of(p1, p2, k) as u128) as u64
 }
 
-// Whether the modulus is less than half of 2^p1: folds could take very many turns then, and leave
-// many times the modulus.
+// Whether the modulus is less than half of 2^p1. Such a modulus could need very many folds, and many subtractions
+// after them.
 fn is_low(p1: u8, p2: u8, k: i64) -> bool
     requires { IsTrinomialRange 64 p1 p2 k }
     ensures { IsTrue result ↔ IsLowTrinomial p1 p2 k }
@@ -111,14 +111,14 @@ fn is_low(p1: u8, p2: u8, k: i64) -> bool
     p1 == p2 + 1 && k < 0
 }
 
-/// A word whose trinomial reducers exist: u32 and u64.
+/// A word that has trinomial reducers: u32 or u64.
 pub trait TrinomialWord: FoldedWord {
-    /// The word of a number. Condition: it fits.
+    /// The word of a given number. Condition: it fits.
     fn word_of(n: u64) -> Self
         requires { n < Self.base }
         ensures { Self.number result ≡ n };
 
-    // A word has 64 bits at most.
+    // A word has at most 64 bits.
     ghost narrow: { Self.width ≤ 64 };
 }
 
@@ -146,13 +146,12 @@ pub struct TrinomialModulus<T: TrinomialWord, F: Trinomial> {
     ghost range: { IsTrinomialRange T.width F.p1 F.p2 F.k },
 }
 
-/// The reducer of the modulus m = 2^p1 - 2^p2 + k of the trinomial F, over words T: the form of a
-/// value is the value itself. It keeps no number.
+/// The reducer of the modulus m = 2^p1 - 2^p2 + k of the trinomial F, over words T: the form of a value is the
+/// value itself. It stores nothing.
 ///
-/// The parameters are in range where p1 is the width of T at most, p2 is from 1 to p1 - 1, and k is
-/// odd and less than 2^p2 either way. Words and products are reduced by folds, except where
-/// p1 = p2 + 1 and k is negative: m is then less than half of 2^p1, and the primitive remainder is
-/// computed. `inv` divides by Euclid's algorithm.
+/// The parameters are in range where p1 is at most the width of T, p2 is from 1 to p1 - 1, and k is odd with a
+/// magnitude below 2^p2. Words and products are reduced by folds, except where p1 = p2 + 1 and k is negative: m is
+/// then less than half of 2^p1, and the remainder is a division's. `inv` divides by Euclid's algorithm.
 ///
 /// Source: Solinas, "Generalized Mersenne numbers" (1999).
 pub type TrinomialSolinas<T, F> = FoldRing<T, TrinomialModulus<T, F>>;
@@ -182,7 +181,7 @@ impl<T: TrinomialWord, F: Trinomial> Clone for TrinomialModulus<T, F> {
 impl<T: TrinomialWord, F: Trinomial> Copy for TrinomialModulus<T, F> {}
 
 impl<T: TrinomialWord, F: Trinomial> FoldRing<T, TrinomialModulus<T, F>> {
-    // What a fold at the bit p1 multiplies by.
+    // The factor of a fold at the bit p1.
     fn factor() -> T
         requires { IsTrinomialRange T.width F.p1 F.p2 F.k }
         ensures { T.number result + trinomial F.p1 F.p2 F.k ≡ 2 ^ F.p1 }
@@ -217,7 +216,7 @@ impl<T: TrinomialWord, F: Trinomial> FoldRing<T, TrinomialModulus<T, F>> {
         Self::reduce_counted(v).0
     }
 
-    // The residue of a double word, by the primitive remainder.
+    // The residue of a double word, by a division.
     fn remainder(v: T::Double) -> T
         requires { IsTrinomialRange T.width F.p1 F.p2 F.k }
         ensures { T.number result ≡ T.double_number v % trinomial F.p1 F.p2 F.k }
@@ -225,8 +224,8 @@ impl<T: TrinomialWord, F: Trinomial> FoldRing<T, TrinomialModulus<T, F>> {
         T::narrow_remainder(v, Self::fixed_modulus())
     }
 
-    /// The residue of a double word, and the number of folds that take it below 2^p1: 0 where the primitive
-    /// remainder is taken. Condition: the parameters are in range.
+    /// The residue of a double word, and the number of folds that make it less than 2^p1; 0 where the remainder is
+    /// a division's. Condition: the parameters are in range.
     pub fn reduce_counted(v: T::Double) -> (T, u32)
         requires { IsTrinomialRange T.width F.p1 F.p2 F.k }
         ensures value { T.number result.0 ≡ T.double_number v % trinomial F.p1 F.p2 F.k }
