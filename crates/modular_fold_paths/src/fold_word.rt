@@ -1,11 +1,11 @@
-//! What a fold needs of a dividend. There is no division and no remainder among the calls, so code
-//! over this trait alone divides by none.
+//! The operations of a dividend that folds use. There is no division and no remainder, so code over this trait
+//! alone makes none.
 
 ghost use Rattle.std.specs.Prelude.{◌≡◌, ℕ, ◌+◌, ◌-◌, ◌*◌, ◌/◌, ◌%◌, ◌^◌, ◌<◌, ◌≤◌, ◌↔◌, IsTrue, bit_and};
 
 use modular_word::ring_word::RingWord;
 
-/// A dividend that folds: a word of 64 or 128 bits.
+/// A dividend that can be folded: a word of 64 or 128 bits.
 pub trait FoldWord: RingWord {
     /// The sum. Condition: it fits the word.
     fn plus(self, rhs: Self) -> Self
@@ -28,7 +28,7 @@ pub trait FoldWord: RingWord {
         ensures value { Self.number result ≡ Self.number self / 2 ^ by }
         ensures fits { Self.number self < 2 ^ Self.width };
 
-    /// The bits that the word and a mask share.
+    /// The bitwise and of the word and a mask.
     fn masked(self, mask: Self) -> Self
         ensures { Self.number result ≡ bit_and (Self.number self) (Self.number mask) };
 

@@ -1,4 +1,4 @@
-//! Reduction by folds, once for every modulus near a power of two and for both widths of dividends.
+//! Reduction by folds, for every modulus near a power of two and both widths of dividends.
 
 ghost use Rattle.std.specs.Prelude.{◌≡◌, ℕ, ◌+◌, ◌*◌, ◌/◌, ◌%◌, ◌^◌, ◌<◌, ◌≤◌};
 ghost use Rattle.modular_fold_paths.specs.Folds.{fold_of, folds, IsFewFolds, IsFolding};
@@ -8,8 +8,8 @@ use modular_prim::plain_word::PlainWord;
 use modular_word::path_word::PathWord;
 use modular_word::ring_word::RingWord;
 
-// One fold at the bit p: the part above it times c, plus the part below it. The mask has the bits
-// below p. A number that has no part above it stays as it is, which counts for no fold.
+// One fold at the bit p: the part above it times c, plus the part below it; and 1, or 0 where the part above is 0.
+// The mask has the bits below p set.
 fn fold<V: FoldWord>(v: V, p: u32, mask: V, c: V) -> (V, u32)
     requires inside { p < V.width }
     requires mask { V.number mask + 1 ≡ 2 ^ p }
@@ -27,8 +27,8 @@ fn fold<V: FoldWord>(v: V, p: u32, mask: V, c: V) -> (V, u32)
     }
 }
 
-// Two folds in a row, which are enough for a product of two numbers below 2^p where c is 1: a number
-// below 2^p of the same remainder modulo m, and how many folds had anything to fold.
+// Two folds, which suffice for a product of two numbers below 2^p where c is 1: a number below 2^p that is
+// congruent to v modulo m, and the number of folds that changed something.
 fn fold_two<V: FoldWord>(v: V, p: u32, mask: V, c: V, m: V) -> (V, u32)
     requires folding { IsFolding V.width p (V.number c) (V.number m) }
     requires inside { p < V.width }
@@ -44,8 +44,8 @@ fn fold_two<V: FoldWord>(v: V, p: u32, mask: V, c: V, m: V) -> (V, u32)
     (second, one + two)
 }
 
-// Three folds in a row, which are enough for a product of two numbers below 2^p where c·(c + 1) is at
-// most 2^p: a number below 2^p of the same remainder modulo m, and how many folds had anything to fold.
+// Three folds, which suffice for a product of two numbers below 2^p where c·(c + 1) is at most 2^p: a number below
+// 2^p that is congruent to v modulo m, and the number of folds that changed something.
 fn fold_three<V: FoldWord>(v: V, p: u32, mask: V, c: V, m: V) -> (V, u32)
     requires folding { IsFolding V.width p (V.number c) (V.number m) }
     requires inside { p < V.width }
@@ -62,7 +62,7 @@ fn fold_three<V: FoldWord>(v: V, p: u32, mask: V, c: V, m: V) -> (V, u32)
     (third, one + two + three)
 }
 
-// As many folds as it takes, one after a comparison each.
+// Folds until the number is below 2^p, with a comparison before each.
 fn fold_on<V: FoldWord>(v: V, p: u32, mask: V, c: V, m: V) -> (V, u32)
     requires folding { IsFolding V.width p (V.number c) (V.number m) }
     requires fits { V.number v < 2 ^ V.width }
@@ -81,9 +81,9 @@ fn fold_on<V: FoldWord>(v: V, p: u32, mask: V, c: V, m: V) -> (V, u32)
     (rest, count)
 }
 
-/// A number below 2^p that leaves what v leaves modulo m: v after as many folds as it takes, and their
-/// number. Where c is small and v is no more than a product of two numbers below 2^p, these are in a
-/// straight line. Condition: m is 2^p - c and more than half of 2^p, and p is at most the width of the words.
+/// A number below 2^p that is congruent to v modulo m, and the number of folds that led to it. Where c is small and
+/// v is at most a product of two numbers below 2^p, the folds are unrolled, without comparisons. Condition: m is
+/// 2^p - c and more than half of 2^p, and p is at most the width of the words.
 pub fn fold_all<V: FoldWord>(v: V, p: u32, c: V, m: V) -> (V, u32)
     requires { IsFolding V.width p (V.number c) (V.number m) }
     ensures below { V.number result.0 < 2 ^ p }
@@ -106,8 +106,8 @@ pub fn fold_all<V: FoldWord>(v: V, p: u32, c: V, m: V) -> (V, u32)
     fold_on(v, p, mask, c, m)
 }
 
-// v modulo m, v being at most a product of two numbers below 2^p: folds in a straight line and one
-// subtraction. No fold tests the number: how many it takes is known from c and p.
+// v modulo m, for v at most a product of two numbers below 2^p: folds without comparisons of v, since c and p alone
+// give their number, and one subtraction.
 #[inline(always)]
 fn residue_in_line<V: FoldWord>(v: V, p: u32, c: V, m: V) -> V
     requires folding { IsFolding V.width p (V.number c) (V.number m) }
@@ -120,7 +120,7 @@ fn residue_in_line<V: FoldWord>(v: V, p: u32, c: V, m: V) -> V
     let mask = m.plus(c.minus(V::one()));
     let twice = m.plus(m);
     let mut rest = v;
-    // the next fold leaves this at most
+    // The greatest value that the next fold can return.
     let mut most = mask.times(c).plus(mask);
     'folds: while !most.is_below(twice) {
         let (next, _) = fold(rest, p, mask, c);
@@ -135,18 +135,18 @@ fn residue_in_line<V: FoldWord>(v: V, p: u32, c: V, m: V) -> V
     }
 }
 
-/// A word whose double words are folded: u32 and u64.
+/// A word whose double words can be folded: u32 or u64.
 pub trait FoldedWord: PlainWord {
-    /// A word below 2^p that leaves what a double word leaves modulo m, and the number of folds that make
-    /// it, at the bit p by c. Condition: they reduce modulo m.
+    /// A word below 2^p that is congruent to a double word modulo m, and the number of folds at the bit p by c that
+    /// led to it. Condition: they reduce modulo m.
     fn fold_double(v: Self::Double, p: u32, c: Self, m: Self) -> (Self, u32)
         requires { IsFolding Self.width p (Self.number c) (Self.number m) }
         ensures below { Self.number result.0 < 2 ^ p }
         ensures same { Self.number result.0 % Self.number m ≡ Self.double_number v % Self.number m }
         ensures count { result.1 ≡ folds p (Self.number c) (Self.double_number v) };
 
-    /// The residue of a product of two words below 2^p, by folds at the bit p by c in a straight line.
-    /// Condition: they reduce modulo m, and c is at most a fourth of 2^p.
+    /// The residue of a product of two words below 2^p, by folds at the bit p by c without comparisons of the
+    /// product. Condition: they reduce modulo m, and c is at most a fourth of 2^p.
     fn reduce_in_line(v: Self::Double, p: u32, c: Self, m: Self) -> Self
         requires folding { IsFolding Self.width p (Self.number c) (Self.number m) }
         requires small { 4 * Self.number c ≤ 2 ^ p }
@@ -178,7 +178,7 @@ impl FoldedWord for u64 {
     }
 }
 
-// The residue of a + b. Condition: b is at most m, and the sum below 2m.
+// The residue of a + b, below m. Condition: b is at most m, and the sum below 2m.
 pub(crate) fn sum_once<T: PathWord>(a: T, b: T, m: T) -> T
     requires most { T.number b ≤ T.number m }
     requires twice { T.number a + T.number b < 2 * T.number m }
@@ -192,11 +192,10 @@ pub(crate) fn sum_once<T: PathWord>(a: T, b: T, m: T) -> T
     }
 }
 
-/// v modulo m: as many folds as it takes, and one subtraction of words at most; and the number of the folds.
-/// Condition: m is 2^p - c and more than half of 2^p, and p is at most the width of the words.
+/// v modulo m, and the number of folds: folds until v is below 2^p, and at most one subtraction. Condition: m is
+/// 2^p - c and more than half of 2^p, and p is at most the width of the words.
 ///
-/// A fold takes the part of v above the bit p times c in place of times 2^p, which leaves the same
-/// modulo m. p may be the width of a word.
+/// A fold replaces v = high·2^p + low by high·c + low, which is congruent modulo m. p may be the width of a word.
 ///
 /// Source: Handbook of Applied Cryptography, algorithm 14.47.
 pub fn reduce_by_folds<T: FoldedWord>(v: T::Double, p: u32, c: T, m: T) -> (T, u32)
@@ -209,8 +208,8 @@ pub fn reduce_by_folds<T: FoldedWord>(v: T::Double, p: u32, c: T, m: T) -> (T, u
     (sum_once(rest, T::zero(), m), count)
 }
 
-/// No folds below 2^p, and one more than from hi·c + lo where c is below 2^p and v isn't, hi and lo being
-/// the parts of v at the bit p; and few where c is less than half of 2^p.
+/// A number below 2^p takes no folds. Where c is below 2^p and v = hi·2^p + lo isn't, v takes one fold more than
+/// hi·c + lo. Where c is less than half of 2^p, the number of folds is bounded by `IsFewFolds`.
 pub fn fold_laws()
     ensures none { (p c v : ℕ) → v < 2 ^ p → folds p c v ≡ 0 }
     ensures next { (p c hi lo : ℕ) → c < 2 ^ p → lo < 2 ^ p → 0 < hi

@@ -1,5 +1,5 @@
-//! Words, and products of words below m, modulo m, where m is near a power of two: by folds of their
-//! parts, with no test of a number.
+//! Words and products of words below m, modulo an m near a power of two: by folds of their parts, without
+//! comparisons of the numbers.
 
 ghost use Rattle.std.specs.Prelude.{◌≡◌, ℕ, ◌+◌, ◌-◌, ◌*◌, ◌/◌, ◌%◌, ◌^◌, ◌<◌, ◌≤◌, IsTrue};
 ghost use Rattle.modular_fold_paths.specs.Folds.{fold_of, IsFolding};
@@ -9,8 +9,8 @@ use modular_prim::below::reduced_once;
 use modular_word::path_word::PathWord;
 use modular_word::ring_word::RingWord;
 
-// The parts at the bit p of high·c + low, where the lower part, given and answered, stands at the top of
-// its word, so that the two parts are the words of a double word. Condition: c is below 2^p.
+// The parts of high·c + low below and above the bit p. The lower part, as an argument and as a result, is shifted
+// to the top of its word, so that the two parts are the words of a double word. Condition: c is below 2^p.
 fn fold_parts<T: PathWord>(low: T, high: T, p: u32, c: T) -> (T, T)
     requires some { 0 < p }
     requires fits { p ≤ T.width }
@@ -27,7 +27,7 @@ fn fold_parts<T: PathWord>(low: T, high: T, p: u32, c: T) -> (T, T)
 
 // The residue of a + b, where m is at most 2^p. Condition: b is at most m, and the sum below 2m.
 //
-// Where p leaves a bit of the word free the sum fits it, and one subtraction less is computed.
+// Where p is less than the width, the sum fits a word, which saves a subtraction.
 fn sum_of_parts<T: PathWord>(a: T, b: T, p: u32, m: T) -> T
     requires bound { T.number m ≤ 2 ^ p }
     requires most { T.number b ≤ T.number m }
@@ -41,11 +41,10 @@ fn sum_of_parts<T: PathWord>(a: T, b: T, p: u32, m: T) -> T
     }
 }
 
-// a·b modulo m, where m is 2^p - c. Condition: a and b are below m, and c has at most half the bits
-// of p.
+// a·b modulo m, where m is 2^p - c. Condition: a and b are below m, and c has at most half the bits of p.
 //
-// By 1, one fold of the product leaves two words whose sum is below 2m. By another c, the part above
-// the bit p is c at most after one fold, so that the second one is made of words.
+// For c = 1 one fold leaves two words whose sum is below 2m. For a greater c, the part above the bit p is at most c
+// after one fold, so that the second fold needs no double words.
 fn product_by_folds<T: PathWord>(a: T, b: T, p: u32, c: T, m: T) -> T
     requires folding { IsFolding T.width p (T.number c) (T.number m) }
     requires small { T.number c < 2 ^ (p / 2) }
@@ -61,14 +60,13 @@ fn product_by_folds<T: PathWord>(a: T, b: T, p: u32, c: T, m: T) -> T
     sum_of_parts(rest.shift_right(T::bits() - p), over.times(c), p, m)
 }
 
-/// a·b modulo m. Conditions: m is 2^p - c and more than half of 2^p, and p is at most the width of the words; a and b
-/// are below m.
+/// a·b modulo m. Conditions: m is 2^p - c and more than half of 2^p, and p is at most the width of the words; a and
+/// b are below m.
 ///
-/// Where c has at most half the bits of p the product is folded by its parts, and where it is less than a
-/// fourth of 2^p in a straight line. There no number is tested: c and p alone choose.
+/// Where c has at most half the bits of p, the parts of the product are folded. Where c is less than a fourth of
+/// 2^p, the product is folded without comparisons. The choice depends on c and p alone.
 ///
 /// Source: Handbook of Applied Cryptography, algorithm 14.47.
-// Inlined, so that c and p are constants: else each fold waits for a test.
 #[inline(always)]
 pub fn reduce_product<T: FoldedWord>(a: T, b: T, p: u32, c: T, m: T) -> T
     requires folding { IsFolding T.width p (T.number c) (T.number m) }
@@ -85,8 +83,8 @@ pub fn reduce_product<T: FoldedWord>(a: T, b: T, p: u32, c: T, m: T) -> T
     }
 }
 
-// Whether one fold at the bit p leaves less than 2m of every word, where m is 2^p - c: of a word of p
-// bits there is nothing to fold, and else the bits of c and those above p are fewer than p together.
+// Whether one fold at the bit p makes every word less than 2m, where m is 2^p - c. A word of p bits has nothing to
+// fold; a longer one must have fewer bits above p, together with those of c, than p.
 fn is_once<T: PathWord>(p: u32, c: T) -> bool
     requires fits { p ≤ T.width }
     requires half { 2 * T.number c < 2 ^ p }
@@ -109,7 +107,7 @@ fn fold_word<T: PathWord>(v: T, p: u32, c: T) -> T
     ensures value { T.number result ≡ fold_of p (T.number c) (T.number v) }
     ensures fits { T.number v < 2 ^ T.width }
 {
-    // a word that was read is known to fit
+    // Reading the word gives the proof that it fits its width.
     let _ = v.is_zero_word();
     if p < T::bits() {
         let high = v.shift_right(p);
@@ -121,8 +119,8 @@ fn fold_word<T: PathWord>(v: T, p: u32, c: T) -> T
 
 /// v modulo m. Condition: m is 2^p - c and more than half of 2^p, and p is at most the width of the words.
 ///
-/// Where one fold is known to leave less than 2m no double word is folded and no number is tested: c and
-/// p alone choose.
+/// Where one fold makes every word less than 2m, no double word is folded and v isn't compared. The choice depends
+/// on c and p alone.
 ///
 /// Source: Handbook of Applied Cryptography, algorithm 14.47.
 pub fn reduce_word<T: FoldedWord>(v: T, p: u32, c: T, m: T) -> T

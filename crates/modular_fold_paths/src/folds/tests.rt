@@ -1,4 +1,4 @@
-//! Rows of the reduction.
+//! Known values of the reduction.
 
 use super::{fold_all, fold_three, fold_two, reduce_by_folds};
 
