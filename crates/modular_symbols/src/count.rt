@@ -1,5 +1,5 @@
-//! The definition of the Jacobi symbol as a program: right and slow. It is what the tests compare the
-//! fast calls with, and nothing of the library stands on it.
+//! The definition of the Jacobi symbol as a program, simple and slow. The tests compare the fast calls with it; the
+//! library doesn't use it.
 
 ghost use Rattle.std.specs.Prelude.{◌≡◌, ◌%◌, pos};
 ghost use Rattle.modular_symbols.specs.Jacobi.{jacobi};
@@ -12,8 +12,8 @@ use modular_prim::residues::mulm;
 use modular_word::path_word::PathWord;
 use modular_word::ring_word::RingWord;
 
-/// The Jacobi symbol over n of a number, given by its sign and its magnitude, by a count of the half
-/// system of n, of (n - 1)/2 residues: -1, 0 or 1. Condition: n is odd.
+/// The Jacobi symbol over n of a number, given by its sign and its magnitude: -1, 0 or 1, by a count of residues of
+/// the half system 1, .., (n - 1)/2. Condition: n is odd.
 ///
 /// Source: Schering, "Zur Theorie der quadratischen Reste" (Gauss's lemma over any odd number).
 #[tactic(auto, using(crate::proofs::CountSteps::counted_none))]

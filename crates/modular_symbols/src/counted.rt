@@ -1,4 +1,4 @@
-//! The Jacobi symbol with the number of its steps, a module a width.
+//! The Jacobi symbol with the number of steps, in one module for each width.
 
 ghost use Rattle.std.specs.Prelude.{◌≡◌, ◌%◌, ◌*◌, ◌≤◌, pos, IfSome, option_map};
 ghost use Rattle.modular_symbols.specs.Jacobi.{checked_jacobi_of};
@@ -14,8 +14,8 @@ pub mod w64;
 pub mod w8;
 pub mod wsize;
 
-/// The Jacobi symbol, `None` exactly for an even n, and the number of halvings and swaps from the
-/// residue of a over n.
+/// The Jacobi symbol of a over n and the number of halvings and swaps, counted from the residue of a; `None`
+/// exactly for an even n.
 pub fn checked_jacobi_counted<T: PlainWord>(a: T, n: T) -> Option<(i8, u32)>
     ensures symbol { option_map (λ found. found.0) result ≡ checked_jacobi_of (pos (T.number a)) (pos (T.number n)) }
     ensures count { IfSome result (λ found. found.1 ≡ jacobi_steps (T.number a % T.number n) (T.number n)) }

@@ -9,15 +9,15 @@ pub use modular_prim::numbered::IntegerValued;
 use modular_prim::numbered::Numbered;
 use modular_prim::plain_word::PlainWord;
 
-/// An operand without sign: its integer is its whole number, which `==` compares.
+/// An unsigned operand: its integer is its whole number, which `==` compares.
 ///
-/// It has no calls. By it code that is generic over the modular operations and the symbols speaks of
-/// one number.
+/// It has no methods. Code that is generic over the modular operations and the symbols uses it to treat both
+/// numbers of an operand as one.
 pub trait UnsignedOperand: Numbered + IntegerValued + Eq {
     // The integer is the whole number.
     ghost integer_is_number: { (x : Self) → Self.integer_value x ≡ pos (Self.whole_number x) };
 
-    // `==` tells whether the numbers are equal.
+    // `==` returns whether the numbers are equal.
     ghost compares: { (x y : Self) → IsTrue (Self.eq x y) ↔ (Self.whole_number x ≡ Self.whole_number y) };
 }
 
@@ -27,9 +27,9 @@ impl<T: UnsignedOperand> UnsignedOperand for &T {
     ghost compares = { λ x y. T.compares x.now y.now };
 }
 
-/// A machine word with or without sign.
+/// A signed or unsigned machine word.
 pub trait SymbolWord: IntegerValued + Copy {
-    /// The word without sign that holds the magnitude, the least number's too.
+    /// The unsigned word that holds every magnitude, also that of the least number.
     type Magnitude: LowPart;
 
     /// Whether the number is negative, and its magnitude.

@@ -1,4 +1,4 @@
-//! The trait that collects the modular operations and the symbols.
+//! The trait that combines the modular operations and the symbols.
 
 ghost use Rattle.std.specs.Prelude.{◌≡◌};
 ghost use Rattle.std.proofs.Common.{sym, ◌∙◌};
@@ -9,14 +9,14 @@ use modular_prim::numbered::Numbered;
 use modular_prim::operations::{ModularCoreOps, ModularPow, ModularUnaryOps};
 use modular_prim::plain_word::PlainWord;
 
-/// All modular operations and the symbols of a word, with operands by value and the modulus by
-/// reference. Code that is generic over it knows each answer by the contracts of these traits.
+/// All modular operations and the symbols of a word, with operands by value and the modulus by reference. The
+/// contracts of these traits give each result to generic code.
 pub trait ModularOps<Rhs: Numbered, Modulus: UnsignedOperand, Output: Numbered>: UnsignedOperand
     + ModularCoreOps<Rhs, Modulus, Output = Output>
     + ModularUnaryOps<Modulus, Output = Output>
     + ModularPow<Rhs, Modulus, Output = Output>
     + ModularSymbols<Modulus> {
-    // Operands of one number are equal, and so are answers.
+    // Operands of equal number are equal, and so are results.
     ghost one_operand: { (x y : Self) → Self.whole_number x ≡ Self.whole_number y → x ≡ y };
 
     ghost one_answer: { (x y : Output) → Output.whole_number x ≡ Output.whole_number y → x ≡ y };

@@ -13,7 +13,7 @@ use crate::symbols::ModularSymbols;
 use modular_prim::plain_word::PlainWord;
 use modular_prim::{euclid, power, residues};
 
-/// All modular operations and the symbols of a word, with every operand by reference: the answers of
+/// All modular operations and the symbols of a word, with every operand by reference; the results are those of
 /// `ModularOps`. Condition of each operation: m is at least 1. The symbols have none.
 pub trait ModularRefOps: UnsignedOperand + Copy {
     /// The residue of the sum.
@@ -40,7 +40,7 @@ pub trait ModularRefOps: UnsignedOperand + Copy {
         ensures { Self.whole_number result
             ≡ residue (Self.whole_number m.now) (neg_ℤ (pos (Self.whole_number self.now))) };
 
-    /// The inverse modulo m; `None` exactly where there is none. It is 0 for m = 1.
+    /// The inverse modulo m, 0 for m = 1; `None` exactly where there is none.
     fn invm_ref(&self, m: &Self) -> Option<Self>
         requires { 1 ≤ Self.whole_number m.now }
         ensures { IsInversion Self.whole_number (Self.whole_number m.now) (Self.whole_number self.now) result };
@@ -56,14 +56,13 @@ pub trait ModularRefOps: UnsignedOperand + Copy {
         ensures { Self.whole_number result
             ≡ (Self.whole_number self.now * Self.whole_number self.now) % Self.whole_number m.now };
 
-    /// The residue of the product of `exp` factors; that of 1 for the exponent 0.
+    /// The residue of the power to the exponent `exp`; that of 1 for the exponent 0.
     fn powm_ref(&self, exp: &Self, m: &Self) -> Self
         requires { 1 ≤ Self.whole_number m.now }
         ensures { Self.whole_number result
             ≡ Self.whole_number self.now ^ Self.whole_number exp.now % Self.whole_number m.now };
 
-    /// The class of the power, as `checked_legendre` has it: 0, 1 or -1. `None` where the power is none
-    /// of these, and for n = 0.
+    /// 0, 1 or -1, as `checked_legendre` returns it; `None` where the power is none of these, and for n = 0.
     fn checked_legendre_ref(&self, n: &Self) -> Option<i8>
         ensures { result ≡ checked_legendre_of (pos (Self.whole_number self.now)) (pos (Self.whole_number n.now)) };
 
@@ -75,7 +74,7 @@ pub trait ModularRefOps: UnsignedOperand + Copy {
     fn kronecker_ref(&self, n: &Self) -> i8
         ensures { result ≡ kronecker (pos (Self.whole_number self.now)) (pos (Self.whole_number n.now)) };
 
-    // Words of one number are one word.
+    // Words of equal number are equal.
     ghost one_word: { (x y : Self) → Self.whole_number x ≡ Self.whole_number y → x ≡ y };
 }
 

@@ -1,4 +1,4 @@
-//! The Jacobi symbol by subtraction, which takes no division and counts no steps.
+//! The Jacobi symbol by subtraction, without a division in its loop and without a count of steps.
 
 ghost use Rattle.std.specs.Prelude.{◌≡◌, ◌≢◌, ◌+◌, ◌/◌, ◌%◌, ◌<◌, ◌==◌, pos};
 ghost use Rattle.modular_symbols.specs.Jacobi.{jacobi};
@@ -11,7 +11,8 @@ use modular_prim::plain_word::PlainWord;
 use modular_word::path_word::PathWord;
 use modular_word::ring_word::RingWord;
 
-// The odd part of a number, or n in place of 0, and in the lowest bit whether the symbol over n is turned.
+// The odd part of a, or of n where a is 0; the lowest bit of the second result is 1 where this negates the symbol
+// over n.
 fn odd_part<T: LowPart>(a: T, n: T) -> (T, u32)
     requires { T.number n % 2 ≡ 1 }
     ensures odd { T.number result.0 % 2 ≡ 1 }
@@ -23,12 +24,11 @@ fn odd_part<T: LowPart>(a: T, n: T) -> (T, u32)
     (some.shift_right(twos), turn_by_twos(twos, n))
 }
 
-// The odd part of the difference of two odd numbers and the smaller of them; and with the turns so far, by swaps and by
-// twos, what turns the symbol of these two: a swap in the second
-// bit of the one word, and twos in the lowest of the other.
+// The odd part of the difference of two odd numbers, and the smaller of them. The other results say which changes
+// of sign are pending: the second bit of one has those by swaps, the lowest bit of the other those by factors 2.
 //
-// The zeros are those of the wrapped difference, which has as many, so that they are counted beside the
-// comparison. The choices are taken without a branch: which number is the greater can't be foreseen.
+// The trailing zeros of the wrapped difference are those of the difference, so that counting them doesn't wait for
+// the comparison. The choices are selects: a branch would mispredict half the time.
 fn one_difference<T: LowPart>(a: T, n: T, swaps: u32, twos: u32) -> (T, T, u32, u32)
     requires a_odd { T.number a % 2 ≡ 1 }
     requires n_odd { T.number n % 2 ≡ 1 }
@@ -53,8 +53,8 @@ fn one_difference<T: LowPart>(a: T, n: T, swaps: u32, twos: u32) -> (T, T, u32, 
 
 // The Jacobi symbol of a over n. Condition: n is odd.
 //
-// The turns by swaps and by twos are added up without carries, each in a word of its own, so that none is moved to the
-// other's bit; one bit of each counts. They are looked at once, at the end.
+// The changes of sign by swaps and by factors 2 are combined by exclusive or, in a word each, so that no step has
+// to shift one to the other's bit; only that bit of each counts. They are read once, at the end.
 fn subtract_and_halve<T: LowPart>(a: T, n: T) -> i8
     requires { T.number n % 2 ≡ 1 }
     ensures { result ≡ jacobi (pos (T.number a)) (T.number n) }
@@ -82,9 +82,8 @@ fn subtract_and_halve<T: LowPart>(a: T, n: T) -> i8
 
 /// The Jacobi symbol over n of a number, given by its sign and its magnitude. Condition: n is odd.
 ///
-/// A turn of the loop has two odd numbers. Their difference loses its twos and stands in place of the
-/// greater one, until they are equal. There is one division at most, at the beginning: for a magnitude that
-/// isn't below n.
+/// Each turn of the loop replaces the greater of two odd numbers by the odd part of their difference, until they
+/// are equal. The only division is the reduction of a magnitude that isn't below n.
 ///
 /// Source: Shallit and Sorenson, "A binary algorithm for the Jacobi symbol", ACM SIGSAM Bulletin 27, 1993.
 pub fn jacobi_by_subtraction<T: LowPart>(a_minus: bool, a: T, n: T) -> i8

@@ -1,5 +1,4 @@
-//! What turns a Jacobi symbol: a power of 2 taken out of the upper number, and two odd numbers that
-//! change places.
+//! What negates a Jacobi symbol: removing a power of 2 from the upper number, and swapping two odd numbers.
 
 ghost use Rattle.std.specs.Prelude.{◌≡◌, ℕ, ◌*◌, ◌/◌, ◌%◌, ◌^◌, ◌==◌, ◌||◌, pos, if◌then◌else◌};
 ghost use Rattle.modular_symbols.specs.Jacobi.{jacobi};
@@ -10,7 +9,7 @@ use modular_prim::plain_word::PlainWord;
 use modular_word::path_word::PathWord;
 use modular_word::ring_word::RingWord;
 
-// Whether an odd number leaves 3 modulo 4.
+// Whether an odd number is 3 modulo 4.
 fn leaves_3<T: PlainWord>(n: T) -> bool
     requires { T.number n % 2 ≡ 1 }
     ensures { result ≡ T.number n % 4 == 3 }
@@ -18,8 +17,7 @@ fn leaves_3<T: PlainWord>(n: T) -> bool
     n.half().is_odd()
 }
 
-/// Whether 2 has the symbol -1 over an odd number: the number leaves 3 or 5 modulo 8. Condition: it is
-/// odd.
+/// Whether the symbol of 2 over an odd number is -1: the number is 3 or 5 modulo 8. Condition: it is odd.
 pub fn is_minus_over_two<T: PlainWord>(n: T) -> bool
     requires { T.number n % 2 ≡ 1 }
     ensures { result ≡ (T.number n % 8 == 3) || (T.number n % 8 == 5) }
@@ -27,7 +25,7 @@ pub fn is_minus_over_two<T: PlainWord>(n: T) -> bool
     n.half().plus(T::one()).half().is_odd()
 }
 
-// Whether the symbol over an odd n is turned where 2 to the power `twos` is taken out of the upper number.
+// Whether removing 2^twos from the upper number negates the symbol over an odd n.
 pub(crate) fn is_turned_by_twos<T: PlainWord>(twos: u32, n: T) -> bool
     requires { T.number n % 2 ≡ 1 }
     ensures { (a : ℕ) → jacobi (pos (a * 2 ^ twos)) (T.number n) ≡ signed result (jacobi (pos a) (T.number n)) }
@@ -35,7 +33,7 @@ pub(crate) fn is_turned_by_twos<T: PlainWord>(twos: u32, n: T) -> bool
     (twos % 2 == 1) & is_minus_over_two(n)
 }
 
-// Whether the symbol is turned where two odd numbers change places.
+// Whether swapping two odd numbers negates the symbol.
 pub(crate) fn is_turned_by_swap<T: PlainWord>(a: T, n: T) -> bool
     requires a_odd { T.number a % 2 ≡ 1 }
     requires n_odd { T.number n % 2 ≡ 1 }
@@ -44,8 +42,8 @@ pub(crate) fn is_turned_by_swap<T: PlainWord>(a: T, n: T) -> bool
     leaves_3(a) & leaves_3(n)
 }
 
-// The turn by 2 to the power `twos`, taken out of the upper number over an odd n,
-// in the lowest bit of a word; its other bits mean nothing.
+// In the lowest bit, whether removing 2^twos from the upper number negates the symbol over an odd n. The other bits
+// are unspecified.
 pub(crate) fn turn_by_twos<T: LowPart>(twos: u32, n: T) -> u32
     requires { T.number n % 2 ≡ 1 }
     ensures { (a : ℕ)
@@ -54,8 +52,8 @@ pub(crate) fn turn_by_twos<T: LowPart>(twos: u32, n: T) -> u32
     twos & (n.low_part().wrapping_add(2) >> 2)
 }
 
-// The turn of two odd numbers that change places where `swap` says so, in the second bit of a word; its other bits mean
-// nothing.
+// In the second bit, whether swapping two odd numbers, which the caller does where `swap` is true, negates the
+// symbol. The other bits are unspecified.
 pub(crate) fn turn_by_swap<T: LowPart>(swap: bool, a: T, n: T) -> u32
     requires a_odd { T.number a % 2 ≡ 1 }
     requires n_odd { T.number n % 2 ≡ 1 }

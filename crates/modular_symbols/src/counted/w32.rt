@@ -4,8 +4,8 @@ ghost use Rattle.std.specs.Prelude.{◌≡◌, ◌%◌, ◌≤◌, pos, IfSome, 
 ghost use Rattle.modular_symbols.specs.Jacobi.{checked_jacobi_of};
 ghost use Rattle.modular_symbols.specs.Steps.{jacobi_steps};
 
-/// The Jacobi symbol of a over n, `None` exactly for an even n, and the number of halvings and swaps
-/// from the residue of a over n.
+/// The Jacobi symbol of a over n and the number of halvings and swaps, counted from the residue of a; `None`
+/// exactly for an even n.
 pub fn checked_jacobi_counted(a: u32, n: u32) -> Option<(i8, u32)>
     ensures symbol { option_map (λ found. found.0) result ≡ checked_jacobi_of (pos a) (pos n) }
     ensures count { IfSome result (λ found. found.1 ≡ jacobi_steps (a % n) n) }
