@@ -13,7 +13,7 @@ use crate::transform::ntt;
 use modular_reduced::reducer::Reducer;
 use modular_word::ring_word::RingWord;
 
-// Multiplies each entry by the one at its place.
+// Multiplies each entry of xs by the entry of ys with the same index.
 fn multiply_each<T: RingWord, R: Reducer<T>>(r: &R, xs: &mut [T], ys: &[T])
     requires checked_xs { All (λ f. IsForm R.form R.value (R.modulus r.now) (T.number f)) xs.old }
     requires checked_ys { All (λ f. IsForm R.form R.value (R.modulus r.now) (T.number f)) ys.now }
@@ -46,7 +46,7 @@ pub fn scale<T: RingWord, R: Reducer<T>>(r: &R, xs: &mut [T], factor: &T)
     }
 }
 
-// The form of a power of two, by doublings of 1: it may be too large for the word.
+// The form of n, a power of two, by doubling 1, because n may not fit a word.
 fn length_form<T: RingWord, R: Reducer<T>>(r: &R, n: usize) -> T
     requires { IsPowerOfTwo n }
     ensures form { IsForm R.form R.value (R.modulus r.now) (T.number result) }
@@ -59,7 +59,7 @@ fn length_form<T: RingWord, R: Reducer<T>>(r: &R, n: usize) -> T
     length
 }
 
-// Puts the cyclic product in xs and the transform of ys in ys, by g and an inverse of the length.
+// Replaces xs by the cyclic product and ys by its transform, given a root g and an inverse of the length.
 fn multiply<T: RingWord, R: Reducer<T>>(r: &R, xs: &mut [T], ys: &mut [T], g: &T, part: &T)
     requires checked_xs { All (λ f. IsForm R.form R.value (R.modulus r.now) (T.number f)) xs.old }
     requires checked_ys { All (λ f. IsForm R.form R.value (R.modulus r.now) (T.number f)) ys.old }
@@ -87,14 +87,15 @@ fn multiply<T: RingWord, R: Reducer<T>>(r: &R, xs: &mut [T], ys: &mut [T], g: &T
     scale(r, xs, part);
 }
 
-/// Puts the cyclic product of xs and ys in xs and the transform of ys in ys, both by g; false, with
-/// both lists unchanged, exactly where their length n has no inverse modulo m.
+/// Replaces xs by the cyclic product of xs and ys, and ys by its transform by g. Returns false, with both lists
+/// unchanged, exactly where their length n has no inverse modulo m.
 ///
-/// Entry e of xs becomes the form of the sum of x_i·y_j modulo m over i + j = e or e + n. Conditions:
-/// the lists have one length; the length is a power of two; g and all entries are checked forms; g suits the
-/// length (`root_fits` tells). It takes no memory. The method is that of Knuth (The Art of Computer
-/// Programming, volume 2, section 4.3.3, part C): a transform of each list, a product at each place,
-/// a transform back. The length comes by doublings of 1, so it may be too large for the word.
+/// Entry e of xs becomes the form of the sum of x_i·y_j modulo m over i + j = e or e + n. Conditions: the lists
+/// have one length; the length is a power of two; g and all entries are checked forms; g suits the length
+/// (`root_fits` tells). No memory is allocated. n may be too large for a word.
+///
+/// Source: Knuth, The Art of Computer Programming, volume 2, section 4.3.3, part C: transform both lists, multiply
+/// entry by entry, transform back.
 pub fn convolve<T: RingWord, R: Reducer<T>>(r: &R, xs: &mut [T], ys: &mut [T], g: &T) -> bool
     requires checked_xs { All (λ f. IsForm R.form R.value (R.modulus r.now) (T.number f)) xs.old }
     requires checked_ys { All (λ f. IsForm R.form R.value (R.modulus r.now) (T.number f)) ys.old }

@@ -1,5 +1,5 @@
-//! The definitions of `specs/` as programs: plain and slow, each with the definition for its contract.
-//! They are what the tests compare the fast calls with, and nothing of the library stands on them.
+//! The definitions of `specs/` as programs: simple and slow, each with its definition as its contract. The tests
+//! compare the fast calls with them; the library doesn't use them.
 
 ghost use Rattle.std.specs.Prelude.{◌≡◌, ◌+◌, ◌*◌, ◌^◌, ◌%◌, ◌≤◌, ◌<◌, ◌↔◌, ◌==◌};
 ghost use Rattle.std.specs.Prelude.{◌||◌, if◌then◌else◌, IsTrue, length, slice_index};
@@ -23,7 +23,7 @@ pub fn suits(m: u64, g: u64, n: usize) -> bool
     (power_of(g, n as u64 / 2, m) as u128 + 1) % m as u128 == 0
 }
 
-/// Entry j of the transform by g of the entries modulo m, term by term. Condition: m is at least 1.
+/// Entry j of the transform by g of the entries modulo m, computed from the definition. Condition: m is at least 1.
 pub fn transform_entry(m: u64, g: u64, xs: &[u64], j: usize) -> u64
     requires { 1 ≤ m }
     ensures { result ≡ transform m g (length xs.now) (slice_index xs.now) j }
@@ -38,7 +38,7 @@ pub fn transform_entry(m: u64, g: u64, xs: &[u64], j: usize) -> u64
     sum
 }
 
-// A product of two entries, where their places i and j add up to e or to e + n, and else 0.
+// The product of the entries i and j where i + j is e or e + n; else 0.
 fn term(product: u128, i: usize, j: usize, e: usize, n: usize) -> u128
     requires places { i < n }
     requires others { j < n }
@@ -53,7 +53,7 @@ fn term(product: u128, i: usize, j: usize, e: usize, n: usize) -> u128
     }
 }
 
-// The terms of entry e of the cyclic product with the factor x at place i.
+// The sum of the terms of entry e of the cyclic product that have the factor x with index i.
 fn row_sum(m: u64, x: u64, i: usize, ys: &[u64], e: usize) -> u64
     requires modulus { 1 ≤ m }
     requires place { i < length ys.now }
@@ -70,7 +70,7 @@ fn row_sum(m: u64, x: u64, i: usize, ys: &[u64], e: usize) -> u64
     sum
 }
 
-/// Entry e of the cyclic product of two lists modulo m, term by term. Conditions: m is at least 1,
+/// Entry e of the cyclic product of two lists modulo m, computed from the definition. Conditions: m is at least 1,
 /// the lists have one length, and e is below it.
 pub fn product_entry(m: u64, xs: &[u64], ys: &[u64], e: usize) -> u64
     requires modulus { 1 ≤ m }

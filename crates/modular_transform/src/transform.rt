@@ -11,9 +11,8 @@ use crate::two_stages::two_stages;
 use modular_reduced::reducer::Reducer;
 use modular_word::ring_word::RingWord;
 
-/// Whether g suits transforms of n entries: n is a power of two, and for n above 1 the value of g to
-/// the power n/2 is -1 modulo m. Condition: g is a checked form. The power comes by squares, so n may be
-/// too large for the word.
+/// Whether g suits transforms of n entries: n is a power of two, and for n above 1 the value of g to the power n/2
+/// is -1 modulo m. Condition: g is a checked form. n may be too large for a word.
 pub fn root_fits<T: RingWord, R: Reducer<T>>(r: &R, g: &T, n: usize) -> bool
     requires { IsForm R.form R.value (R.modulus r.now) (T.number g.now) }
     ensures { let m = R.modulus r.now in IsTrue result ↔ Suits m (R.value m (T.number g.now)) n }
@@ -32,12 +31,12 @@ pub fn root_fits<T: RingWord, R: Reducer<T>>(r: &R, g: &T, n: usize) -> bool
     r.is_zero(&r.add(&power, &one))
 }
 
-/// `ntt`, and how many products of the reducer it took: for n = 2^z that is n·z/2 + n - 1 + z.
-/// Conditions: the length is a power of two; g and the entries are checked forms; g suits the length
-/// (`root_fits` tells).
+/// Transforms as `ntt` does, and returns the number of products of the reducer: n·z/2 + n - 1 + z for n = 2^z.
+/// Conditions: the length is a power of two; g and the entries are checked forms; g suits the length (`root_fits`
+/// tells).
 ///
-/// The z stages have half blocks of n/2, n/4, .., 1 entries. A stage takes a product for each of its
-/// n/2 pairs, one for the running power in each column, and a square for the root of the next.
+/// The z stages have half blocks of n/2, n/4, .., 1 entries. A stage takes a product for each of its n/2 pairs, a
+/// product for the power of each column, and a square for the root of the next stage.
 pub fn ntt_counted<T: RingWord, R: Reducer<T>>(r: &R, xs: &mut [T], g: &T) -> u128
     requires checked { All (λ f. IsForm R.form R.value (R.modulus r.now) (T.number f)) xs.old }
     requires root { IsForm R.form R.value (R.modulus r.now) (T.number g.now) }
@@ -82,13 +81,14 @@ pub fn ntt_counted<T: RingWord, R: Reducer<T>>(r: &R, xs: &mut [T], g: &T) -> u1
     products
 }
 
-/// Puts the transform by g of the entries in their place: entry j becomes the form of the sum of
-/// x_i·g^(i·j) modulo m, x_i being the value of entry i.
+/// Replaces the entries by their transform by g: entry j becomes the form of the sum of x_i·g^(i·j) modulo m, x_i
+/// being the value of entry i.
 ///
-/// Conditions: the length is a power of two; g and the entries are checked forms; g suits the length
-/// (`root_fits` tells). The modulus need not be prime. It takes no memory. The method is that of Cooley and Tukey in the order
-/// of Gentleman and Sande ("Fast Fourier transforms: for fun and profit"), over residues (Pollard,
-/// "The fast Fourier transform in a finite field").
+/// Conditions: the length is a power of two; g and the entries are checked forms; g suits the length (`root_fits`
+/// tells). The modulus needn't be prime. No memory is allocated.
+///
+/// Source: the decimation in frequency of Gentleman and Sande, "Fast Fourier transforms: for fun and profit", over
+/// residues: Pollard, "The fast Fourier transform in a finite field".
 pub fn ntt<T: RingWord, R: Reducer<T>>(r: &R, xs: &mut [T], g: &T)
     requires checked { All (λ f. IsForm R.form R.value (R.modulus r.now) (T.number f)) xs.old }
     requires root { IsForm R.form R.value (R.modulus r.now) (T.number g.now) }
