@@ -57,7 +57,7 @@ fn constructors() {
     panic_with!(MODULUS; Vanilla::<u8>::new(&0), int(3, 0), MontgomeryInt::<u32>::new(3, &0));
     panic_with!(MODULUS; PreMulInv2by1::<u8>::new(0), Montgomery::<u8>::new(0), Montgomery::<u64>::new(0));
     panic_with!(MODULUS; <PreMulInv2by1<u8> as Reducer<u8>>::new(&0), <Montgomery<u64> as Reducer<u64>>::new(&0));
-    let planned = "the modulus must be at least 1 and at most a fourth of the number of words";
+    let planned = "the modulus must be at least 1 and at most 2^w/4, for words of w bits";
     panic_with!(planned; PlannedModulus::<u64>::new(0), PlannedModulus::<u64>::new(u64::MAX), PlannedModulus::<u8>::new(65));
     panic_with!("the divisor must be odd"; PreModInv::<u8>::from(0), PreModInv::<u8>::from(6));
     panic_with!("the divisor must be odd"; <u8 as Into<PreModInv<u8>>>::into(6));

@@ -1,4 +1,4 @@
-//! The entries of a plan: factors, or structs of a caller's own that stand for them.
+//! The entries of a plan: factors, or structs of the caller that represent them.
 
 ghost use Rattle.std.specs.Prelude.{◌≡◌, ℕ};
 
@@ -6,10 +6,10 @@ use crate::modulus::Factor;
 use modular_word::path_word::PathWord;
 use modular_word::ring_word::RingWord;
 
-/// An entry of a plan: `Factor` itself, or another struct of two words, such as one that crosses to
-/// another language.
+/// An entry of a plan: `Factor` itself, or another struct of two words, such as one with the layout of another
+/// language.
 pub trait PlanEntry<T: PathWord>: Copy {
-    // The factor that an entry stands for.
+    // The factor of the entry.
     ghost value: { Self → ℕ };
 
     // Its quotient.
@@ -20,7 +20,7 @@ pub trait PlanEntry<T: PathWord>: Copy {
         ensures value { T.number result.value ≡ value self.now }
         ensures quotient { T.number result.quotient ≡ quotient self.now };
 
-    /// The entry that stands for a factor.
+    /// The entry of a factor.
     fn entry(factor: Factor<T>) -> Self
         ensures value { value result ≡ T.number factor.value }
         ensures quotient { quotient result ≡ T.number factor.quotient };

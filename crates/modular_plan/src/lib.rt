@@ -1,4 +1,4 @@
-//! Transforms by a plan: a table of factors with their quotients, which the caller keeps.
+//! Transforms by a plan: a table of factors with their quotients, which the caller owns.
 #![tactic(auto)]
 
 pub mod entry;

@@ -1,4 +1,4 @@
-//! Products by factors with a precomputed quotient, modulo numbers of at most a fourth of the words.
+//! Products by factors with a precomputed quotient, modulo an m that is at most a quarter of the base.
 
 ghost use Rattle.std.specs.Prelude.{◌≡◌, ℕ, ◌+◌, ◌*◌, ◌/◌, ◌%◌, ◌^◌, ◌<◌, ◌≤◌, ◌↔◌, IsTrue, ⊤};
 ghost use Rattle.modular_word.specs.Congruence.{Congruent};
@@ -13,7 +13,7 @@ use modular_word::paths::div_2by1;
 use modular_word::ring_word::RingWord;
 use std::alloc::AllocError;
 
-/// A factor w below a modulus m, and the quotient by m of w times the number of words.
+/// A factor w below a modulus m, and its quotient w·B/m, rounded down, with B the base.
 ///
 /// Source: Harvey, "Faster arithmetic for number-theoretic transforms", section 3, after Shoup.
 #[derive(Debug, PartialEq, Eq)]
@@ -37,7 +37,7 @@ impl<T: PathWord> Clone for Factor<T> {
 impl<T: PathWord> Copy for Factor<T> {}
 
 impl<T: PathWord> Factor<T> {
-    /// Whether it is 1.
+    /// Whether the factor is 1.
     pub fn is_one(&self) -> bool
         ensures { IsTrue result ↔ (T.number self.now.value ≡ 1) }
     {
@@ -45,8 +45,8 @@ impl<T: PathWord> Factor<T> {
     }
 }
 
-/// A modulus m with what is computed once of it. It is at least 1 and at most a quarter of the base, so
-/// that words below 4m are at hand for sums that aren't reduced.
+/// A modulus m with its reciprocal. It is at least 1 and at most a quarter of the base, so that words below 4m hold
+/// sums that aren't reduced.
 #[derive(Debug, PartialEq, Eq)]
 pub struct PlannedModulus<T: PathWord> {
     /// The modulus.
@@ -72,7 +72,7 @@ impl<T: PathWord> Clone for PlannedModulus<T> {
 impl<T: PathWord> Copy for PlannedModulus<T> {}
 
 impl<T: PlainWord> PlannedModulus<T> {
-    /// Whether plans admit the modulus m: it is at least 1, and 4m is at most the number of words.
+    /// Whether m can be the modulus of a plan: it is at least 1, and 4m is at most the base.
     pub fn admits(m: T) -> bool
         ensures { IsTrue result ↔ ((1 ≤ T.number m) × (4 * T.number m ≤ T.base)) }
     {
@@ -84,8 +84,8 @@ impl<T: PlainWord> PlannedModulus<T> {
         }
     }
 
-    /// The modulus with its reciprocal. Condition: the modulus is at least 1 and at most a fourth of the
-    /// number of words (`admits` tells).
+    /// The modulus with its reciprocal. Condition: the modulus is at least 1 and at most 2^w/4, for words of w bits
+    /// (`admits` tells).
     pub fn new(m: T) -> Self
         requires some { 1 ≤ T.number m }
         requires room { 4 * T.number m ≤ T.base }
@@ -101,7 +101,7 @@ impl<T: PlainWord> PlannedModulus<T> {
         }
     }
 
-    /// The factor w with its quotient. Condition: w is below m. It divides by the reciprocal.
+    /// The factor w with its quotient, which is computed by the reciprocal. Condition: w is below m.
     pub fn factor(&self, w: T) -> Factor<T>
         requires { T.number w < T.number self.now.modulus }
         ensures value { T.number result.value ≡ T.number w }
@@ -115,8 +115,8 @@ impl<T: PlainWord> PlannedModulus<T> {
         Factor { value: w, quotient }
     }
 
-    /// The residue of a factor times the base: what its quotient leaves. Condition: the factor is a residue
-    /// modulo m.
+    /// The residue of a factor times the base, below m, computed from its quotient. Condition: the factor is a
+    /// residue modulo m.
     pub fn times_base(&self, w: &Factor<T>) -> T
         requires { IsFactor T.base (T.number self.now.modulus) (T.number w.now.value) (T.number w.now.quotient) }
         ensures { T.number result ≡ (T.number w.now.value * T.base) % T.number self.now.modulus }
@@ -124,11 +124,12 @@ impl<T: PlainWord> PlannedModulus<T> {
         T::zero().wrapping_sub(w.quotient.wrapping_mul(self.modulus))
     }
 
-    /// A number below 2m that is congruent to the product of any word x with a factor. Condition: the
-    /// factor is one modulo m.
+    /// A number below 2m that is congruent to the product of any word x with a factor. Condition: the factor is a
+    /// residue modulo m.
     ///
-    /// It takes the high word of one product and the low words of two. Source: Harvey, "Faster
-    /// arithmetic for number-theoretic transforms", section 3.
+    /// It takes the high word of one product and the low words of two.
+    ///
+    /// Source: Harvey, "Faster arithmetic for number-theoretic transforms", section 3.
     pub fn times(&self, x: T, w: &Factor<T>) -> T
         requires { IsFactor T.base (T.number self.now.modulus) (T.number w.now.value) (T.number w.now.quotient) }
         ensures below { T.number result < 2 * T.number self.now.modulus }
@@ -140,7 +141,8 @@ impl<T: PlainWord> PlannedModulus<T> {
         product.wrapping_sub(whole.wrapping_mul(self.modulus))
     }
 
-    /// The residue of the product of any word x with a factor. Condition: the factor is one modulo m.
+    /// The residue of the product of any word x with a factor, below m. Condition: the factor is a residue modulo
+    /// m.
     pub fn product(&self, x: T, w: &Factor<T>) -> T
         requires { IsFactor T.base (T.number self.now.modulus) (T.number w.now.value) (T.number w.now.quotient) }
         ensures { T.number result ≡ (T.number x * T.number w.now.value) % T.number self.now.modulus }
@@ -148,8 +150,8 @@ impl<T: PlainWord> PlannedModulus<T> {
         reduced_once(self.times(x, w), self.modulus)
     }
 
-    /// The residue of the product of a word x with any word. Condition: x is below m. It divides by the
-    /// reciprocal.
+    /// The residue of the product of a word x with any word y, below m, computed by the reciprocal. Condition: x is
+    /// below m.
     pub fn multiply(&self, x: T, y: T) -> T
         requires { T.number x < T.number self.now.modulus }
         ensures { T.number result ≡ (T.number x * T.number y) % T.number self.now.modulus }
@@ -160,8 +162,10 @@ impl<T: PlainWord> PlannedModulus<T> {
         rest.shift_right(self.shift)
     }
 
-    /// The residue of x·v + u·y. Condition: x + u is below 2m. It divides once by the reciprocal, and
-    /// modulo 2m, since the sum may have a high word from m on.
+    /// The residue of x·v + u·y, below m. Condition: x + u is below 2m.
+    ///
+    /// It divides once, by the reciprocal, modulo 2m: the high word of the sum may be at least m, but it is below
+    /// 2m.
     pub fn product_sum(&self, x: T, v: T, u: T, y: T) -> T
         requires { T.number x + T.number u < 2 * T.number self.now.modulus }
         ensures value { T.number result ≡ (T.number x * T.number v + T.number u * T.number y)
@@ -182,8 +186,9 @@ impl<T: PlainWord> PlannedModulus<T> {
         self.modulus.plus(self.modulus)
     }
 
-    /// Whether a word of more than 32 bits is 4m or more. A loop over entries that ends there, where it never does,
-    /// can't be counted, so that it is compiled without vectors: those of such words are slower.
+    /// Whether a word of more than 32 bits is at least 4m. Where it never is, a loop that returns if it is has a
+    /// trip count that compilers can't compute, so that they don't vectorize it: vectors of such words would be
+    /// slower.
     pub fn is_outside(&self, x: T) -> bool
         ensures { IsTrue result → 4 * T.number self.now.modulus ≤ T.number x }
     {
@@ -198,7 +203,7 @@ impl<T: PlainWord> PlannedModulus<T> {
         x.half().is_below(self.twice())
     }
 
-    /// The residue of a word. Condition: it is below 4m (`has_room` tells).
+    /// The residue of a word, below m. Condition: it is below 4m (`has_room` tells).
     pub fn residue(&self, x: T) -> T
         requires { T.number x < 4 * T.number self.now.modulus }
         ensures { T.number result ≡ T.number x % T.number self.now.modulus }

@@ -1,4 +1,4 @@
-//! The plan: a table of the powers of a root, as factors, which the caller keeps.
+//! The plan: a table of the powers of a root, as factors, which the caller owns.
 
 ghost use Rattle.std.specs.Prelude.{◌≡◌, ℕ, ◌+◌, ◌*◌, ◌/◌, ◌%◌, ◌^◌, ◌<◌, All, length};
 ghost use Rattle.modular_transform.specs.Transforms.{Suits};
@@ -11,11 +11,11 @@ use modular_prim::plain_word::PlainWord;
 use modular_word::path_word::PathWord;
 use modular_word::ring_word::RingWord;
 
-/// Fills the table with the plan by g for transforms of n entries, n being twice its length: entry k
-/// becomes the factor of g to the power of the reversed bits of k.
+/// Fills the table with the plan by g for transforms of n entries, n being twice its length: entry k becomes the
+/// factor of g to the power of the reversed bits of k.
 ///
-/// Conditions: g is below m; g suits n entries, n being a power of two. The first entries of a plan are
-/// a plan for fewer entries, by the power of g that suits them.
+/// Conditions: g is below m; g suits n entries, n being a power of two. The first entries of a plan are a plan for
+/// fewer entries, by the power of g that suits them.
 pub fn plan<T: PlainWord, F: PlanEntry<T>>(m: &PlannedModulus<T>, g: T, table: &mut [F])
     requires below { T.number g < T.number m.now.modulus }
     requires suits { Suits (T.number m.now.modulus) (T.number g) (2 * length table.old) }
@@ -28,7 +28,7 @@ pub fn plan<T: PlainWord, F: PlanEntry<T>>(m: &PlannedModulus<T>, g: T, table: &
 {
     table[0] = F::entry(m.factor(m.residue(T::one())));
     let bits = table.len().trailing_zeros();
-    // The places of one bit: the highest takes g, and each lower one the square of the last.
+    // The indexes with a single bit set: the highest gets g, and each lower one the square of the last.
     let mut power = g;
     let mut place = table.len();
     'squares: for _bit in 0..bits {
@@ -37,8 +37,8 @@ pub fn plan<T: PlainWord, F: PlanEntry<T>>(m: &PlannedModulus<T>, g: T, table: &
         table[place] = F::entry(factor);
         power = m.product(power, &factor);
     }
-    // The reversed bits of count + other are the sum of those of both, so that the power is a product. It
-    // waits for none that was made just before.
+    // The reversed bits of count + other are the sum of those of both, so that the power is a product. No product
+    // waits for the one just before it.
     let mut count = 1;
     'doublings: for _bit in 0..bits {
         let factor = table[count].factor();

@@ -1,4 +1,4 @@
-//! Moduli that leave words more room than every plan asks for.
+//! Moduli that leave words more room than a plan requires.
 
 ghost use Rattle.std.specs.Prelude.{◌≡◌, ℕ, ◌*◌, ◌%◌, ◌<◌, ◌≤◌, ⊤, MatchOption};
 ghost use Rattle.modular_plan.specs.Factors.{IsFactor};
@@ -9,13 +9,13 @@ use modular_word::path_word::PathWord;
 use modular_word::ring_word::RingWord;
 use std::alloc::AllocError;
 
-/// The modulus m of a plan where it is at most a sixteenth of the number of words, so that words below 16m are at
-/// hand: sums are reduced less often.
+/// The modulus m of a plan that is at most a sixteenth of the base, so that words below 16m hold sums that aren't
+/// reduced.
 #[derive(Debug)]
 pub struct RoomyModulus<T: PathWord> {
     /// The modulus.
     pub planned: PlannedModulus<T>,
-    /// The factor 1, by which any word is reduced.
+    /// The factor 1: the product with it reduces any word.
     pub unit: Factor<T>,
     pub ghost room: { 16 * T.number planned.modulus ≤ T.base },
     pub ghost is_factor: { IsFactor T.base (T.number planned.modulus) (T.number unit.value) (T.number unit.quotient) },
@@ -35,7 +35,7 @@ impl<T: PathWord> Clone for RoomyModulus<T> {
 impl<T: PathWord> Copy for RoomyModulus<T> {}
 
 impl<T: PlainWord> RoomyModulus<T> {
-    /// The modulus of a plan; `None` exactly where it is above a sixteenth of the number of words.
+    /// The modulus of a plan; `None` exactly where it is above a sixteenth of the base.
     pub fn new(planned: &PlannedModulus<T>) -> Option<Self>
         ensures { MatchOption result (T.base < 16 * T.number planned.now.modulus) (λ roomy. roomy.planned ≡ planned.now) }
     {
@@ -51,7 +51,7 @@ impl<T: PlainWord> RoomyModulus<T> {
         }
     }
 
-    /// The residue of any word, by its product with 1.
+    /// The residue of any word, below m, by its product with 1.
     pub fn residue(&self, x: T) -> T
         ensures { T.number result ≡ T.number x % T.number self.now.planned.modulus }
     {

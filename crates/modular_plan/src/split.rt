@@ -17,7 +17,7 @@ use crate::split_steps::SplitSteps;
 use modular_prim::plain_word::PlainWord;
 use modular_word::path_word::PathWord;
 
-// The pair at two places.
+// Splits the pair of entries at two indexes.
 fn split_pair<T: PlainWord, M: SplitSteps<T>>(
     m: &M,
     xs: &mut [T],
@@ -38,7 +38,7 @@ fn split_pair<T: PlainWord, M: SplitSteps<T>>(
     xs[low] = sum;
 }
 
-// The pairs of the block from place `first` on.
+// Splits the pairs of the block whose first index is `first`.
 fn split_block<T: PlainWord, M: SplitSteps<T>>(
     m: &M,
     xs: &mut [T],
@@ -54,7 +54,7 @@ fn split_block<T: PlainWord, M: SplitSteps<T>>(
         (numbers T.number xs.old) (numbers T.number xs.new) }
 {
     'columns: for i in 0..half {
-        // never so
+        // Unreachable; keeps LLVM from vectorizing this loop (see `is_beyond`).
         if m.is_beyond(xs[first + i]) {
             return;
         }
@@ -62,7 +62,7 @@ fn split_block<T: PlainWord, M: SplitSteps<T>>(
     }
 }
 
-// All blocks of a stage, block p by entry first + p of the table.
+// Splits all blocks of a stage, block p by entry first + p of the table.
 fn split_stage<T: PlainWord, M: SplitSteps<T>, F: PlanEntry<T>>(
     m: &M,
     xs: &mut [T],
@@ -88,8 +88,8 @@ fn split_stage<T: PlainWord, M: SplitSteps<T>, F: PlanEntry<T>>(
     }
 }
 
-// Two stages of all blocks, block p by entry first + p of the table, and its halves by the entries at
-// twice that place.
+// Two stages of all blocks: block p by entry first + p of the table, and its halves by the entries 2·(first + p)
+// and 2·(first + p) + 1.
 #[inline(always)]
 fn split_two_stages<T: PlainWord, M: SplitSteps<T>, F: PlanEntry<T>>(
     m: &M,
@@ -111,7 +111,7 @@ fn split_two_stages<T: PlainWord, M: SplitSteps<T>, F: PlanEntry<T>>(
     }
 }
 
-// `split_two_stages` once for each length that is a power of four up to 1024: a compiler that knows it addresses the
+// `split_two_stages` for each power of four up to 1024 as a constant length: compilers then address the four
 // quarters by one pointer.
 fn split_known<T: PlainWord, M: SplitSteps<T>, F: PlanEntry<T>>(
     m: &M,
@@ -138,7 +138,7 @@ fn split_known<T: PlainWord, M: SplitSteps<T>, F: PlanEntry<T>>(
 }
 
 // A pass of two stages, block p by entry first + p of the table. The first pass of a transform takes one product in
-// place of four, since a plan begins with 1.
+// place of four, since a plan begins with the factor 1.
 fn split_pass<T: PlainWord, M: SplitSteps<T>, F: PlanEntry<T>>(
     m: &M,
     xs: &mut [T],
@@ -161,7 +161,7 @@ fn split_pass<T: PlainWord, M: SplitSteps<T>, F: PlanEntry<T>>(
     }
 }
 
-// The last two stages: those of `split_two_stages` on each four neighbours, and their residues.
+// The last two stages, which also reduce: those of `split_two_stages` on each four neighbours, and their residues.
 fn split_fours<T: PlainWord, M: SplitSteps<T>, F: PlanEntry<T>>(
     m: &M,
     xs: &mut [T],
@@ -177,7 +177,7 @@ fn split_fours<T: PlainWord, M: SplitSteps<T>, F: PlanEntry<T>>(
     'fours: for p in 0..blocks {
         let (w, u, v) = factors_at(table, first + p);
         let place = p * 4;
-        // never so
+        // Unreachable; keeps LLVM from vectorizing this loop (see `is_beyond`).
         if m.is_beyond(xs[place]) {
             return;
         }
@@ -185,7 +185,7 @@ fn split_fours<T: PlainWord, M: SplitSteps<T>, F: PlanEntry<T>>(
     }
 }
 
-// Each entry's residue.
+// Replaces each entry by its residue.
 fn reduce_each<T: PlainWord, M: SplitSteps<T>>(m: &M, xs: &mut [T])
     requires { All (λ x. T.number x < M.bound m.now) xs.old }
     ensures residues { (i : ℕ) → i < length xs.old
@@ -197,8 +197,8 @@ fn reduce_each<T: PlainWord, M: SplitSteps<T>>(m: &M, xs: &mut [T])
     }
 }
 
-/// Whether `split` takes a list of so many entries from block b down to blocks of `last`, by a plan of
-/// so many factors.
+/// Whether `split` accepts a list of `length` entries, from block b down to blocks of `last`, and a plan of
+/// `factors` factors.
 pub fn splits(length: usize, factors: usize, b: usize, last: usize) -> bool
     ensures { IsTrue result ↔ ((1 ≤ last) × IsPowerOfTwo (length / last) × (length / last * last ≡ length)
         × ((b + 1) * (length / last / 2) ≤ factors)) }
@@ -219,8 +219,8 @@ pub fn splits(length: usize, factors: usize, b: usize, last: usize) -> bool
     b < factors / (count / 2)
 }
 
-// All stages from block b down to blocks of `last`, by the conditions of `split`. Where their number is
-// odd a single one comes first, so that the other passes do two.
+// All stages from block b down to blocks of `last`, under the conditions of `split`. Where their number is odd, a
+// single stage comes first, so that each other pass does two.
 fn split_stages<T: PlainWord, M: SplitSteps<T>, F: PlanEntry<T>>(
     m: &M,
     xs: &mut [T],
@@ -252,7 +252,7 @@ fn split_stages<T: PlainWord, M: SplitSteps<T>, F: PlanEntry<T>>(
     }
 }
 
-// `split` by the steps that a modulus admits.
+// `split`, by the steps for a modulus of type M.
 fn split_by<T: PlainWord, M: SplitSteps<T>, F: PlanEntry<T>>(
     m: &M,
     xs: &mut [T],
@@ -276,8 +276,8 @@ fn split_by<T: PlainWord, M: SplitSteps<T>, F: PlanEntry<T>>(
     }
 }
 
-/// `split` with entries that are only congruent to the remainders, and may be any words: no residues are taken.
-/// Conditions: those of `split`.
+/// `split` without the residues: the entries are any words that are congruent to the remainders. Conditions: those
+/// of `split`.
 pub fn split_loosely<T: PlainWord, F: PlanEntry<T>>(
     m: &PlannedModulus<T>,
     xs: &mut [T],
@@ -303,18 +303,19 @@ pub fn split_loosely<T: PlainWord, F: PlanEntry<T>>(
     }
 }
 
-/// Splits block b of the tree of remainders into blocks of `last` entries: entry i of block j becomes
-/// the sum over k of x_(k·last + i)·c^k modulo m, the coefficient of the remainder modulo X^last - c,
-/// where c is the power of g by the reversed bits of b·count + j, count being the number of blocks.
+/// Splits block b of the tree of remainders into blocks of `last` entries: entry i of block j becomes the sum over
+/// k of x_(k·last + i)·c^k modulo m, the coefficient of the remainder modulo X^last - c, where c is the power of g
+/// by the reversed bits of b·count + j, count being the number of blocks.
 ///
-/// So b = 0 and last = 1 give the transform by g, in bit-reversed order; b = 1 starts from a
-/// polynomial modulo X^n + 1. The table is the plan by g; any plan that is long enough serves.
-/// Conditions: the entries are below 4m; the number of entries is `last` times a power of two, and the table has
-/// at least (b + 1)·(count/2) entries (`splits` tells); the table's entries are factors modulo m.
+/// So b = 0 and last = 1 give the transform by g, in bit-reversed order; b = 1 starts from a polynomial modulo X^n
+/// + 1. The table is the plan by g, of any length that suffices. Conditions: the entries are below 4m; the number
+/// of entries is `last` times a power of two, and the table has at least (b + 1)·(count/2) entries (`splits`
+/// tells); the table's entries are factors modulo m.
 ///
-/// Source: the sums and differences are those of Cooley and Tukey, with one factor a block, as
-/// Bernstein ("Multidigit multiplication for mathematicians", section 2) has them. A pass over the list
-/// does two stages; a single one comes first where their number is odd.
+/// Each pass over the list does two stages; a single one comes first where their number is odd.
+///
+/// Source: the sums and differences of Cooley and Tukey with one factor for each block, as in Bernstein,
+/// "Multidigit multiplication for mathematicians", section 2.
 pub fn split<T: PlainWord, F: PlanEntry<T>>(
     m: &PlannedModulus<T>,
     xs: &mut [T],

@@ -1,4 +1,4 @@
-//! The steps of a pass of `split`, by the room that words leave above the modulus.
+//! The steps of a pass of `split`, by how much greater than the modulus words may be.
 
 ghost use Rattle.std.specs.Prelude.{◌≡◌, ℕ, ◌+◌, ◌*◌, ◌%◌, ◌<◌, ◌≤◌, IsTrue};
 ghost use Rattle.std.proofs.Common.{le_refl, mul-le-mul_right, lit≤};
@@ -13,19 +13,21 @@ use modular_prim::plain_word::PlainWord;
 use modular_word::path_word::PathWord;
 use modular_word::ring_word::RingWord;
 
-/// A modulus m by which pairs and fours of entries are split. Between two passes the entries stay below a bound,
-/// a multiple of m. Condition of each call: entries x, y, z and t are below the bound, and factors are factors modulo m.
+/// A modulus m by which pairs and fours of entries are split. Between two passes the entries stay below a bound, a
+/// multiple of m. Condition of each call: entries x, y, z and t are below the bound, and factors are factors modulo
+/// m.
 pub trait SplitSteps<T: PlainWord>: Copy {
     ghost modulus: { Self → ℕ };
 
     ghost bound: { Self → ℕ };
 
-    /// Whether a word is at the bound or above it. A loop over entries that ends at one, where it never does, can't be
-    /// counted, so that it is compiled without vectors: those of words of more than 32 bits are slower.
+    /// Whether a word of more than 32 bits is at least the bound. Where it never is, a loop that returns if it is
+    /// has a trip count that compilers can't compute, so that they don't vectorize it: vectors of such words would
+    /// be slower.
     fn is_beyond(&self, x: T) -> bool
         ensures { IsTrue result → bound self.now ≤ T.number x };
 
-    /// x + y·w and x - y·w.
+    /// Numbers below the bound, congruent to x + y·w and x - y·w.
     fn pair(&self, x: T, y: T, w: &Factor<T>) -> (T, T)
         requires below { T.number x < bound self.now }
         requires factor { IsFactor T.base (modulus self.now) (T.number w.now.value) (T.number w.now.quotient) }
@@ -34,7 +36,8 @@ pub trait SplitSteps<T: PlainWord>: Copy {
         ensures pair { IsPairSplit (modulus self.now) (T.number w.now.value) (T.number x) (T.number y)
             (T.number result.0) (T.number result.1) };
 
-    /// Two stages of four numbers, a quarter of a block apart: by the block's factor w, and by those of its halves.
+    /// Two stages of four numbers a quarter of a block apart, with the factor w of the block, and u and v of its
+    /// halves.
     fn four(
         &self,
         x: T,
@@ -54,7 +57,7 @@ pub trait SplitSteps<T: PlainWord>: Copy {
             (T.number v.now.value) (T.number x) (T.number y) (T.number z) (T.number t)
             (T.number result.0) (T.number result.1) (T.number result.2) (T.number result.3) };
 
-    /// The same of numbers below 4m where w and u are 1.
+    /// The same for numbers below 4m, where w and u are 1.
     fn four_by_one(&self, x: T, y: T, z: T, t: T, v: &Factor<T>) -> (T, T, T, T)
         requires below { AreFourBelow (4 * modulus self.now) (T.number x) (T.number y) (T.number z) (T.number t) }
         requires factor { IsFactor T.base (modulus self.now) (T.number v.now.value) (T.number v.now.quotient) }
@@ -64,7 +67,7 @@ pub trait SplitSteps<T: PlainWord>: Copy {
             (T.number x) (T.number y) (T.number z) (T.number t)
             (T.number result.0) (T.number result.1) (T.number result.2) (T.number result.3) };
 
-    /// The residue of an entry.
+    /// The residue of an entry, below m.
     fn residue(&self, x: T) -> T
         requires { T.number x < bound self.now }
         ensures { T.number result ≡ T.number x % modulus self.now };
@@ -74,7 +77,7 @@ pub trait SplitSteps<T: PlainWord>: Copy {
     ghost room: { (m : Self) → 4 * modulus m ≤ bound m };
 }
 
-// x + y·w and x - y·w of a number x that has room for 2m more.
+// Numbers congruent to x + y·w and x - y·w, where x + 2m fits a word.
 fn spread<T: PlainWord>(m: &PlannedModulus<T>, x: T, y: T, w: &Factor<T>) -> (T, T)
     requires room { T.number x + 2 * T.number m.now.modulus < T.base }
     requires factor { IsFactor T.base (T.number m.now.modulus) (T.number w.now.value) (T.number w.now.quotient) }
@@ -87,7 +90,7 @@ fn spread<T: PlainWord>(m: &PlannedModulus<T>, x: T, y: T, w: &Factor<T>) -> (T,
     (x.plus(product), x.plus(m.twice().minus(product)))
 }
 
-// x + y, and x + (b - y) for a bound b of y.
+// x + y and x + (b - y), for a bound b that is at least y.
 fn sum_and_difference<T: PlainWord>(x: T, y: T, bound: T) -> (T, T)
     requires most { T.number y ≤ T.number bound }
     requires room { T.number x + T.number bound < T.base }
@@ -97,7 +100,7 @@ fn sum_and_difference<T: PlainWord>(x: T, y: T, bound: T) -> (T, T)
     (x.plus(y), x.plus(bound.minus(y)))
 }
 
-// x + y and x - y of numbers below 4m.
+// Numbers congruent to x + y and x - y, all below 4m.
 fn pair_by_one<T: PlainWord>(m: &PlannedModulus<T>, x: T, y: T) -> (T, T)
     requires below { T.number x < 4 * T.number m.now.modulus }
     requires other_below { T.number y < 4 * T.number m.now.modulus }
@@ -158,7 +161,8 @@ impl<T: PlainWord> SplitSteps<T> for PlannedModulus<T> {
     ghost room = { λ m. le_refl (4 * T.number m.modulus) };
 }
 
-// Entries stay below 12m: of four numbers one is reduced, from 12m to 8m, and none of the products' operands.
+// Entries stay below 12m. Of four numbers only one is reduced, from below 12m to below 8m, and no operand of a
+// product.
 impl<T: PlainWord> SplitSteps<T> for RoomyModulus<T> {
     ghost modulus = { λ m. T.number m.planned.modulus };
 
