@@ -21,7 +21,7 @@ use modular_word::path_word::PathWord;
 use modular_word::paths::neginv;
 use modular_word::ring_word::RingWord;
 
-// The residue of a power of two, by doublings of 1: it may be too large for the word.
+// The residue of a power of two, by doubling 1, because the power may not fit a word.
 fn residue_of_count<T: PlainWord>(m: &PlannedModulus<T>, count: usize) -> T
     requires { IsPowerOfTwo count }
     ensures { T.number result ≡ count % T.number m.now.modulus }
@@ -33,8 +33,8 @@ fn residue_of_count<T: PlainWord>(m: &PlannedModulus<T>, count: usize) -> T
     residue
 }
 
-// Splits the first of two lists that `join_products` multiplies. For single entries and an odd modulus it takes any
-// words, so that no residues are needed.
+// Splits the first of the two lists for `join_products`. For single entries and an odd modulus that takes any
+// words, so that no residues are computed.
 fn split_first<T: PlainWord, F: PlanEntry<T>>(
     m: &PlannedModulus<T>,
     xs: &mut [T],
@@ -60,9 +60,9 @@ fn split_first<T: PlainWord, F: PlanEntry<T>>(
     }
 }
 
-// Multiplies the blocks as `multiply` does, and joins the products as `join_scaled` does. Single entries
-// are multiplied by Montgomery's reduction where m is odd: then the number of words, by which it
-// divides, is made up for by the factor, and the entries of the first list may be any words.
+// Multiplies the blocks as `multiply` does, and joins the products as `join_scaled` does. For odd m, single entries
+// are multiplied by Montgomery's reduction, which accepts any words in the first list. It divides by the base, so
+// that the factor is multiplied by the base.
 fn join_products<T: PlainWord, F: PlanEntry<T>>(
     m: &PlannedModulus<T>,
     xs: &mut [T],
@@ -100,8 +100,8 @@ fn join_products<T: PlainWord, F: PlanEntry<T>>(
     }
 }
 
-/// Whether `convolve_block` takes lists of so many entries as block b, down to blocks of `last`, by a
-/// plan of so many factors.
+/// Whether `convolve_block` accepts lists of `length` entries as block b, down to blocks of `last`, and a plan of
+/// `factors` factors.
 pub fn convolves(length: usize, factors: usize, b: usize, last: usize) -> bool
     ensures { IsTrue result ↔ ((1 ≤ last) × (last ≤ 2) × IsPowerOfTwo (length / last) × (length / last * last ≡ length)
         × ((b + 1) * (length / last) ≤ 2 * factors)) }
@@ -118,17 +118,16 @@ pub fn convolves(length: usize, factors: usize, b: usize, last: usize) -> bool
     true
 }
 
-/// Puts the product of two polynomials modulo X^n - c in xs and the remainders of the second in ys, as
-/// `split` has them, c being the power of g by the reversed bits of b and n the length of the lists;
-/// false, with both lists unchanged, exactly where the number n/last of blocks has no inverse modulo m.
+/// Replaces xs by the product of two polynomials modulo X^n - c, and ys by the remainders of the second as `split`
+/// computes them, c being the power of g by the reversed bits of b and n the length of the lists. Returns false,
+/// with both lists unchanged, exactly where the number n/last of blocks has no inverse modulo m.
 ///
-/// So b = 0 gives the cyclic product, and b = 1 that modulo X^n + 1. Conditions: the lists
-/// have one length; `last` is 1 or 2, the length is `last` times a power of two, and the table has
-/// (b + 1)·n/last/2 entries or more (`convolves` tells); the entries are below 4m; the table's entries
-/// are factors modulo m. It takes no memory.
+/// So b = 0 gives the cyclic product, and b = 1 that modulo X^n + 1. Conditions: the lists have one length; `last`
+/// is 1 or 2, the length is `last` times a power of two, and the table has (b + 1)·n/last/2 entries or more
+/// (`convolves` tells); the entries are below 4m; the table's entries are factors modulo m. No memory is allocated.
 ///
-/// Source: Bernstein, "Multidigit multiplication for mathematicians", section 2: both lists are split,
-/// the remainders multiplied, and the products joined.
+/// Source: Bernstein, "Multidigit multiplication for mathematicians", section 2: split both lists, multiply the
+/// remainders, join the products.
 pub fn convolve_block<T: PlainWord, F: PlanEntry<T>>(
     m: &PlannedModulus<T>,
     xs: &mut [T],
@@ -172,9 +171,9 @@ pub fn convolve_block<T: PlainWord, F: PlanEntry<T>>(
     }
 }
 
-/// Puts the cyclic product of xs and ys in xs, as `convolve_block` for b = 0: entry e becomes the sum
-/// of x_i·y_j modulo m over i + j = e or e + n; false, with both lists unchanged, exactly where the
-/// number n/last of blocks has no inverse modulo m. Conditions: those of `convolve_block`.
+/// Replaces xs by the cyclic product of xs and ys, as `convolve_block` for b = 0: entry e becomes the sum of
+/// x_i·y_j modulo m over i + j = e or e + n. Returns false, with both lists unchanged, exactly where the number
+/// n/last of blocks has no inverse modulo m. Conditions: those of `convolve_block`.
 pub fn convolve_planned<T: PlainWord, F: PlanEntry<T>>(
     m: &PlannedModulus<T>,
     xs: &mut [T],
@@ -207,10 +206,9 @@ pub fn convolve_planned<T: PlainWord, F: PlanEntry<T>>(
     convolve_block(m, xs, ys, table, 0, last)
 }
 
-/// Puts the product of xs and ys modulo X^n + 1 in xs, as `convolve_block` for b = 1: entry e becomes
-/// the sum of x_i·y_j modulo m over i + j = e, less that over i + j = e + n; false, with both lists
-/// unchanged, exactly where the number n/last of blocks has no inverse modulo m. Conditions: those of
-/// `convolve_block`.
+/// Replaces xs by the product of xs and ys modulo X^n + 1, as `convolve_block` for b = 1: entry e becomes the sum
+/// of x_i·y_j modulo m over i + j = e, less that over i + j = e + n. Returns false, with both lists unchanged,
+/// exactly where the number n/last of blocks has no inverse modulo m. Conditions: those of `convolve_block`.
 pub fn convolve_negacyclic<T: PlainWord, F: PlanEntry<T>>(
     m: &PlannedModulus<T>,
     xs: &mut [T],

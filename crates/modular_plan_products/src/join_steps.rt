@@ -1,4 +1,4 @@
-//! The steps of a join on numbers, by how far they may grow between passes over a list.
+//! The steps of a pass of `join`, by how much greater than the modulus words may be.
 
 ghost use Rattle.std.specs.Prelude.{◌≡◌, ℕ, ◌+◌, ◌*◌, ◌%◌, ◌<◌, ◌≤◌, IsTrue};
 ghost use Rattle.modular_word.specs.Congruence.{Congruent};
@@ -14,13 +14,13 @@ use modular_prim::plain_word::PlainWord;
 use modular_word::path_word::PathWord;
 use modular_word::ring_word::RingWord;
 
-/// A modulus with the steps of a join: pairs and fours of numbers below a bound become such numbers again, so that
-/// lists are joined pass after pass. Condition of each call: numbers x, y, z and t are below the bound, and factors are
-/// factors modulo m.
+/// A modulus m by which pairs and fours of entries are joined. Between two passes the entries stay below a bound, a
+/// multiple of m. Condition of each call: numbers x, y, z and t are below the bound, and factors are factors modulo
+/// m.
 pub trait JoinSteps<T: PlainWord> {
     ghost modulus: { Self → ℕ };
 
-    // What the entries of a list are below, between passes.
+    // The bound of the entries of a list, between passes.
     ghost bound: { Self → ℕ };
 
     /// The factor -1.
@@ -28,18 +28,19 @@ pub trait JoinSteps<T: PlainWord> {
         ensures factor { IsFactor T.base (modulus self.now) (T.number result.value) (T.number result.quotient) }
         ensures value { T.number result.value + 1 ≡ modulus self.now };
 
-    /// Whether a word of more than 32 bits is 4m or more: the end of a loop that never ends there, which is
-    /// compiled without vectors.
+    /// Whether a word of more than 32 bits is at least 4m. Where it never is, a loop that returns if it is has a
+    /// trip count that compilers can't compute, so that they don't vectorize it: vectors of such words would be
+    /// slower.
     fn is_beyond(&self, x: T) -> bool
         ensures { IsTrue result → 4 * modulus self.now ≤ T.number x };
 
-    /// A word brought below the bound. Condition: it is below 4m.
+    /// A number below the bound that is congruent to a word. Condition: it is below 4m.
     fn taken(&self, x: T) -> T
         requires { T.number x < 4 * modulus self.now }
         ensures below { T.number result < bound self.now }
         ensures congruent { Congruent (modulus self.now) (T.number result) (T.number x) };
 
-    /// x + y and (y - x)·v.
+    /// Numbers below the bound, congruent to x + y and (y - x)·v.
     fn pair(&self, x: T, y: T, v: &Factor<T>) -> (T, T)
         requires below { T.number x < bound self.now }
         requires other_below { T.number y < bound self.now }
@@ -49,8 +50,8 @@ pub trait JoinSteps<T: PlainWord> {
         ensures pair { (w : ℕ) → IsMinusInverse (modulus self.now) w (T.number v.now.value) →
             IsPairJoin (modulus self.now) w (T.number x) (T.number y) (T.number result.0) (T.number result.1) };
 
-    /// Four numbers, a quarter of a block apart: by minus the inverses of the factors of the block's halves,
-    /// and of its own.
+    /// Two stages of four numbers a quarter of a block apart. The factors are minus the inverses of those of the
+    /// block's halves, and of the block's own.
     fn four(
         &self,
         x: T,
@@ -71,7 +72,7 @@ pub trait JoinSteps<T: PlainWord> {
             (T.number x) (T.number y) (T.number z) (T.number t)
             (T.number result.0) (T.number result.1) (T.number result.2) (T.number result.3) };
 
-    /// The same where w and u are -1, each number times a factor.
+    /// The same where the first two factors are -1, each result times the factor s, below m.
     fn four_by_one(&self, x: T, y: T, z: T, t: T, v: &Factor<T>, s: &Factor<T>) -> (T, T, T, T)
         requires below { AreFourBelow (bound self.now) (T.number x) (T.number y) (T.number z) (T.number t) }
         requires factor { IsFactor T.base (modulus self.now) (T.number v.now.value) (T.number v.now.quotient) }
@@ -83,12 +84,12 @@ pub trait JoinSteps<T: PlainWord> {
             (T.number z * T.number s.now.value) (T.number t * T.number s.now.value)
             (T.number result.0) (T.number result.1) (T.number result.2) (T.number result.3) };
 
-    /// The residue of any word's product with a factor. Condition: this is one modulo m.
+    /// The residue of any word's product with a factor, below m. Condition: the factor is a residue modulo m.
     fn product(&self, x: T, w: &Factor<T>) -> T
         requires { IsFactor T.base (modulus self.now) (T.number w.now.value) (T.number w.now.quotient) }
         ensures { T.number result ≡ (T.number x * T.number w.now.value) % modulus self.now };
 
-    /// The residue of a word below the bound.
+    /// The residue of a word below the bound, below m.
     fn residue(&self, x: T) -> T
         requires { T.number x < bound self.now }
         ensures { T.number result ≡ T.number x % modulus self.now };
@@ -98,7 +99,8 @@ pub trait JoinSteps<T: PlainWord> {
     ghost bound_fits: { (m : Self) → bound m ≤ 4 * modulus m };
 }
 
-// x + y, and (y - x)·v below 2m. Condition: both are below a multiple of m, of which a word holds nearly two.
+// x + y, and a number below 2m that is congruent to (y - x)·v. Condition: x and y are below `bound`, a multiple of
+// m that is at most half of the base.
 fn gather<T: PlainWord>(m: &PlannedModulus<T>, x: T, y: T, bound: T, v: &Factor<T>) -> (T, T)
     requires multiple { Congruent (T.number m.now.modulus) (T.number bound) 0 }
     requires room { 2 * T.number bound ≤ T.base }
@@ -113,7 +115,8 @@ fn gather<T: PlainWord>(m: &PlannedModulus<T>, x: T, y: T, bound: T, v: &Factor<
     (x.plus(y), m.times(y.plus(bound.minus(x)), v))
 }
 
-// (x + y)·s and (x - y)·s. Condition: y is below a multiple of m, for which x leaves room.
+// The residues of (x + y)·s and (x - y)·s. Condition: y is below `bound`, a multiple of m for which x + bound fits
+// a word.
 fn scaled_pair<T: PlainWord>(m: &PlannedModulus<T>, x: T, y: T, bound: T, s: &Factor<T>) -> (T, T)
     requires multiple { Congruent (T.number m.now.modulus) (T.number bound) 0 }
     requires room { T.number x + T.number bound < T.base }
@@ -193,7 +196,7 @@ impl<T: PlainWord> JoinSteps<T> for PlannedModulus<T> {
     ghost bound_fits = { λ m. mul-le-mul_right (T.number m.modulus) (lit≤ tt) };
 }
 
-// Entries stay below 4m. Within a four no number is reduced but the one that is a sum twice.
+// Entries stay below 4m. Within a four only the number that is a sum twice is reduced.
 impl<T: PlainWord> JoinSteps<T> for RoomyModulus<T> {
     ghost modulus = { λ m. T.number m.planned.modulus };
 

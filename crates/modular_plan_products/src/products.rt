@@ -13,7 +13,7 @@ use modular_plan::modulus::PlannedModulus;
 use modular_prim::plain_word::PlainWord;
 use modular_word::path_word::PathWord;
 
-// Each entry times the one at its place.
+// Multiplies each entry of xs by the entry of ys with the same index.
 fn multiply_each<T: PlainWord>(m: &PlannedModulus<T>, xs: &mut [T], ys: &[T])
     requires below { All (λ x. T.number x < T.number m.now.modulus) xs.old }
     requires equal { length ys.now ≡ length xs.old }
@@ -23,7 +23,7 @@ fn multiply_each<T: PlainWord>(m: &PlannedModulus<T>, xs: &mut [T], ys: &[T])
 {
     'entries: for i in 0..xs.len() {
         let x = xs[i];
-        // never so
+        // Unreachable; keeps LLVM from vectorizing this loop (see `is_outside`).
         if m.is_outside(x) {
             return;
         }
@@ -31,9 +31,9 @@ fn multiply_each<T: PlainWord>(m: &PlannedModulus<T>, xs: &mut [T], ys: &[T])
     }
 }
 
-// A number below 2m that is the product of any word x and a word y below m over the number of words, modulo m:
-// Montgomery's reduction, by the inverse of m. The multiple of m that it gives has the low word of the product, so
-// that the high words are all that is left of the difference. (By the negated inverse there is a carry.)
+// A number below 2m that is congruent to x·y divided by the base, for any word x and a word y below m. It is
+// Montgomery's reduction by the inverse of m: the multiple of m that it subtracts has the same low word as the
+// product, so that only the high words are subtracted. With the negated inverse there would be a carry.
 fn reduced_product<T: PlainWord>(m: &PlannedModulus<T>, inverse: T, x: T, y: T) -> T
     requires inverse { IsInverse T.base (T.number m.now.modulus) (T.number inverse) }
     requires below { T.number y < T.number m.now.modulus }
@@ -45,7 +45,8 @@ fn reduced_product<T: PlainWord>(m: &PlannedModulus<T>, inverse: T, x: T, y: T) 
     high.plus(m.modulus.minus(multiple))
 }
 
-// Each entry, which may be any word, times the one at its place, over the number of words, modulo m.
+// Replaces each entry of xs, which may be any word, by a number below 2m that is congruent to its product with the
+// entry of ys, divided by the base.
 pub(crate) fn reduce_products<T: PlainWord>(
     m: &PlannedModulus<T>,
     inverse: T,
@@ -61,7 +62,7 @@ pub(crate) fn reduce_products<T: PlainWord>(
 {
     'entries: for i in 0..xs.len() {
         let y = ys[i];
-        // never so
+        // Unreachable; keeps LLVM from vectorizing this loop (see `is_outside`).
         if m.is_outside(y) {
             return;
         }
@@ -69,8 +70,8 @@ pub(crate) fn reduce_products<T: PlainWord>(
     }
 }
 
-// A word times the constant of block b·count + j of the tree, below or at m: times an entry of the plan,
-// or minus that.
+// A number that is at most m and congruent to x times the constant of block b·count + j of the tree, which is an
+// entry of the plan or minus one.
 fn times_constant<T: PlainWord, F: PlanEntry<T>>(
     m: &PlannedModulus<T>,
     table: &[F],
@@ -99,8 +100,7 @@ fn times_constant<T: PlainWord, F: PlanEntry<T>>(
     }
 }
 
-// The polynomial x_0 + x_1·X, from a place on, times the one of the other list, modulo X^2 - c, by
-// x_1·c.
+// Multiplies the polynomial x_0 + x_1·X at an index by that of the other list, modulo X^2 - c, given x_1·c.
 fn multiply_pair<T: PlainWord>(
     m: &PlannedModulus<T>,
     xs: &mut [T],
@@ -125,7 +125,7 @@ fn multiply_pair<T: PlainWord>(
     xs[place] = m.product_sum(x, y, turned, v);
 }
 
-// The products of blocks of two entries.
+// Multiplies the blocks of two entries.
 fn multiply_pairs<T: PlainWord, F: PlanEntry<T>>(
     m: &PlannedModulus<T>,
     xs: &mut [T],
@@ -151,13 +151,13 @@ fn multiply_pairs<T: PlainWord, F: PlanEntry<T>>(
     }
 }
 
-/// Multiplies the blocks of `last` entries of the two lists, below block b of the tree of remainders,
-/// as polynomials modulo X^last - c, the constants c being those of `split`. So the products of two
-/// lists of remainders are the remainders of a product.
+/// Multiplies the blocks of `last` entries of the two lists, below block b of the tree of remainders, as
+/// polynomials modulo X^last - c, with the constants c of `split`. So the products of two lists of remainders are
+/// the remainders of a product. For `last` = 1 entries of equal index are multiplied.
 ///
-/// Conditions: `last` is 1 or 2; the lists have one length, a multiple of `last`; the entries of xs are
-/// below m; the table's entries are factors modulo m, and there are (b + 1)·count/2 of them or more, count
-/// being the number of blocks. For `last` = 1 each entry is multiplied by the one at its place.
+/// Conditions: `last` is 1 or 2; the lists have one length, a multiple of `last`; the entries of xs are below m;
+/// the table's entries are factors modulo m, and there are (b + 1)·count/2 of them or more, count being the number
+/// of blocks.
 pub fn multiply<T: PlainWord, F: PlanEntry<T>>(
     m: &PlannedModulus<T>,
     xs: &mut [T],

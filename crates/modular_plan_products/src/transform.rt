@@ -12,14 +12,14 @@ use modular_plan::split::split;
 use modular_prim::plain_word::PlainWord;
 use modular_transform::order::reverse_places;
 
-/// The transform of n entries in place, in natural order: entry j becomes the sum over i of
-/// x_i·h^(i·j) modulo m, h being the root that the plan is for, or that power of it that suits n
-/// entries where the plan is for more.
+/// The transform of n entries in place, in natural order: entry j becomes the sum over i of x_i·h^(i·j) modulo m,
+/// below m. h is the root of the plan, or, where the plan is for more entries, the power of it that suits n
+/// entries.
 ///
-/// Conditions: the entries are below 4m; n is a power of two, and at most twice as many as the table's
-/// factors; these are factors modulo m. Values are below m.
+/// Conditions: the entries are below 4m; n is a power of two, and at most twice as many as the table's factors;
+/// these are factors modulo m.
 ///
-/// Source: `split`, and the places with their bits in the opposite order.
+/// Source: `split`, and a reversal of the bits of the indexes.
 pub fn ntt_planned<T: PlainWord, F: PlanEntry<T>>(m: &PlannedModulus<T>, xs: &mut [T], table: &[F])
     requires entries { All (λ x. T.number x < 4 * T.number m.now.modulus) xs.old }
     requires factors { All (λ f. IsFactor T.base (T.number m.now.modulus) (F.value f) (F.quotient f))
