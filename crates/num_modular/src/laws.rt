@@ -1,8 +1,8 @@
-//! The laws that a proof may cite, as contracts of calls that do nothing, all in one place: a caller
-//! calls the function in its body, and its clauses are then known.
+//! All laws that a proof may cite, as contracts of functions that do nothing: to use a law, call the function in
+//! the body and cite its clauses.
 //!
-//! The laws of rings (`sums_commute` and its like) answer both sides of a law, and they are known of
-//! these answers.
+//! The functions of the ring laws (`sums_commute` and the like) return both sides of a law; their contracts say
+//! that the sides are equal.
 
 ghost use Rattle.std.specs.Prelude.{◌≡◌, ℕ, ◌<◌, List, All, None, map};
 ghost use Rattle.modular_word.specs.Inverses.{HasInverse};
@@ -18,7 +18,7 @@ pub use modular_word::laws::{
     power_laws, range_laws, remainder_laws, residue_laws, sum_laws,
 };
 
-// In the shape that calls and loops leave.
+// In the shape in which contracts of calls and loop invariants leave their terms.
 pub use modular_laws::laws::{
     coefficient_laws, inverse_product_laws, polynomial_laws, prime_power_laws, product_below_laws,
     sum_below_laws, undoing_laws,
@@ -43,9 +43,9 @@ pub use modular_transform::laws::{product_laws, transform_laws};
 // Symbols and primes.
 pub use modular_symbols::laws::{jacobi_laws, prime_laws};
 
-/// Where a run stops, by the inverses that its commands need: a list that needs none has no stop, a
-/// missing inverse is the stop where none is missing before it, and where there is no stop, which is
-/// where a run is done, each inverse was there.
+/// Where a run stops, by the inverses that its commands need. A list of commands that needs none has no stop. A
+/// missing inverse is the stop where none is missing before it. Where there is no stop, that is, where the run is
+/// done, each inverse exists.
 pub fn stop_laws<T: RingWord>()
     ensures none { (m : ℕ) (start : List ℕ) (commands : List (RingCommand T)) (at : ℕ) →
         All (λ command. inverted_by command ≡ None) commands →

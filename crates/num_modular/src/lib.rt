@@ -1,9 +1,9 @@
 //! Modular rings over machine words, by the names of the crate `num-modular`.
 //!
-//! The root exports the traits, types and aliases, and the bounds that generic code over them names;
-//! the modules are those of the source, with `ring` (lists of commands run over any reducer, and
-//! transforms), `plans` (transforms by a table), `rings` (the generic types behind the aliases), `laws`
-//! and `modrun` (the body of the program) beside them.
+//! The root exports the traits, types and aliases, and the bounds of generic code over them. The modules are those
+//! of the Rust crate, and five more: `ring` (lists of commands run over any reducer, and transforms), `plans`
+//! (transforms by a table), `rings` (the generic types behind the aliases), `laws`, and `modrun` (the body of the
+//! program).
 #![tactic(auto)]
 
 pub mod barrett;
@@ -44,7 +44,7 @@ pub use modular_symbols::reference_operations::ModularRefOps;
 pub use modular_symbols::symbols::ModularSymbols;
 pub use modular_word::ring_word::RingWord;
 
-/// An integer modulo a number from 1 up, over `Montgomery`.
+/// An integer modulo a number that is at least 1, over `Montgomery`.
 pub type MontgomeryInt<T> = ReducedInt<T, Montgomery<T>>;
 
 /// An integer modulo the odd parameter P, over `FixedMontgomery32`.
@@ -53,35 +53,35 @@ pub type FixedMontgomeryInt32<const P: u32> = ReducedInt<u32, FixedMontgomery32<
 /// An integer modulo the odd parameter P, over `FixedMontgomery64`.
 pub type FixedMontgomeryInt64<const P: u64> = ReducedInt<u64, FixedMontgomery64<P>>;
 
-/// An integer modulo K * 2^N + 1, over `FixedProth32`: N is from 1 to 31, K odd and below 2^N, and
-/// the modulus 2654435769 at most.
+/// An integer modulo K * 2^N + 1, over `FixedProth32`: N is from 1 to 31, K odd and below 2^N, and the modulus at
+/// most 2654435769.
 pub type FixedProthInt32<const N: u8, const K: u8> = ReducedInt<u32, FixedProth32<N, K>>;
 
-/// An integer modulo K * 2^N + 1, over `FixedProth64`: N is from 1 to 63, K odd and below 2^N, and
-/// the modulus 11400714819323199485 at most.
+/// An integer modulo K * 2^N + 1, over `FixedProth64`: N is from 1 to 63, K odd and below 2^N, and the modulus at
+/// most 11400714819323199485.
 pub type FixedProthInt64<const N: u8, const K: u8> = ReducedInt<u64, FixedProth64<N, K>>;
 
-/// An integer modulo 2^P - K of at most 64 bits, over `FixedMersenne`: P is 64 at most, K odd and
-/// less than half of 2^P.
+/// An integer modulo 2^P - K of at most 64 bits, over `FixedMersenne`: P is at most 64, K odd and less than half of
+/// 2^P.
 pub type FixedMersenneInt<const P: u8, const K: u64> = ReducedInt<umax, FixedMersenne<P, K>>;
 
-/// An integer modulo 2^P - K of at most 32 bits, over `FixedMersenne32`: P is 32 at most, K odd and
-/// less than half of 2^P.
+/// An integer modulo 2^P - K of at most 32 bits, over `FixedMersenne32`: P is at most 32, K odd and less than half
+/// of 2^P.
 pub type FixedMersenneInt32<const P: u8, const K: u32> = ReducedInt<u32, FixedMersenne32<P, K>>;
 
-/// An integer modulo 2^P - K of at most 64 bits, over `FixedMersenne64`: P is 64 at most, K odd and
-/// less than half of 2^P.
+/// An integer modulo 2^P - K of at most 64 bits, over `FixedMersenne64`: P is at most 64, K odd and less than half
+/// of 2^P.
 pub type FixedMersenneInt64<const P: u8, const K: u64> = ReducedInt<u64, FixedMersenne64<P, K>>;
 
-/// An integer modulo 2^P1 - 2^P2 + K of at most 32 bits, over `FixedTrinomialSolinas32`: P1 is 32 at
-/// most, P2 from 1 to P1 - 1, K odd and less than 2^P2 either way.
+/// An integer modulo 2^P1 - 2^P2 + K of at most 32 bits, over `FixedTrinomialSolinas32`: P1 is at most 32, P2 from
+/// 1 to P1 - 1, K odd with a magnitude below 2^P2.
 pub type FixedSolinasInt32<const P1: u8, const P2: u8, const K: i32> = ReducedInt<
     u32,
     FixedTrinomialSolinas32<P1, P2, K>,
 >;
 
-/// An integer modulo 2^P1 - 2^P2 + K of at most 64 bits, over `FixedTrinomialSolinas64`: P1 is 64 at
-/// most, P2 from 1 to P1 - 1, K odd and less than 2^P2 either way.
+/// An integer modulo 2^P1 - 2^P2 + K of at most 64 bits, over `FixedTrinomialSolinas64`: P1 is at most 64, P2 from
+/// 1 to P1 - 1, K odd with a magnitude below 2^P2.
 pub type FixedSolinasInt64<const P1: u8, const P2: u8, const K: i64> = ReducedInt<
     u64,
     FixedTrinomialSolinas64<P1, P2, K>,

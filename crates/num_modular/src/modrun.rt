@@ -1,4 +1,4 @@
-//! The program `modrun`: ring commands that are given as words, run on eight registers.
+//! The program `modrun`: ring commands in text form, run on eight registers.
 
 ghost use Rattle.std.specs.Prelude.{◌≡◌, ℕ, ◌<◌, ◌≤◌, List, All, OnOk, IfOk, MatchOption, MatchResult, slice_index};
 ghost use Rattle.std.specs.Borrow.{Bor};
@@ -21,36 +21,35 @@ use std::io::Write;
 
 pub mod words;
 
-/// The reducers, by the words that name them.
+/// The reducers that the program's first word can name.
 #[derive(Clone, Copy, Debug, PartialEq, Eq)]
 pub enum ReducerName {
-    /// `vanilla`, for the moduli from 1 up.
+    /// `vanilla`, for moduli that are at least 1.
     Vanilla,
-    /// `premul`, for the moduli from 1 up.
+    /// `premul`, for moduli that are at least 1.
     PreMul,
-    /// `montgomery`, for the moduli from 1 up.
+    /// `montgomery`, for moduli that are at least 1.
     Montgomery,
 }
 
-// What stopped the reading of the commands.
+// Why the commands couldn't be read.
 enum Fault {
     Unreadable,
     OutOfMemory,
 }
 
-/// Runs the program `modrun REDUCER MODULUS COMMAND...` on the words after its name, and answers its
-/// exit status.
+/// Runs the program `modrun REDUCER MODULUS COMMAND...` on the words after its name, and returns its exit status.
 ///
-/// All words are read before the run, from left to right, and the first fault decides. Eight
-/// registers start with the residue 0; after the run their residues are written to `out`, with
-/// single spaces between and a line end.
+/// All words are read before the run, from left to right, and the first fault gives the status. Eight registers
+/// start with the residue 0; after the run their residues are written to `out`, separated by single spaces and
+/// ended by a line end.
 ///
 /// | Status | When | Text on `err` |
 /// |---|---|---|
 /// | 0 | every command was carried out | none |
-/// | 1 | a command found no inverse; the residues were written before | `no inverse at command I` |
+/// | 1 | the inverse of a command doesn't exist; the residues before it are written | `no inverse at command I` |
 /// | 2 | a word is missing, unreadable or out of range | `usage: modrun REDUCER MODULUS COMMAND...` |
-/// | 3 | memory was refused for a command that was read | `out of memory` |
+/// | 3 | an allocation for the commands failed | `out of memory` |
 /// | 4 | a write failed | none more |
 pub fn run_words<O: Write, E: Write>(alloc: Global, words: &[&str], out: &mut O, err: &mut E) -> u8
     ensures range { result ≤ 4 }
@@ -61,7 +60,7 @@ pub fn run_words<O: Write, E: Write>(alloc: Global, words: &[&str], out: &mut O,
     run_words_in(&alloc, words, out, err)
 }
 
-// The same with the commands kept by any allocator.
+// `run_words` with any allocator for the commands.
 fn run_words_in<A: Allocator, O: Write, E: Write>(
     alloc: &A,
     words: &[&str],
@@ -79,7 +78,7 @@ fn run_words_in<A: Allocator, O: Write, E: Write>(
     }
 }
 
-// The status, where no write fails.
+// The status, unless a write fails.
 fn run_by_name<A: Allocator, O: Write, E: Write>(
     alloc: &A,
     words: &[&str],
@@ -100,7 +99,8 @@ fn run_by_name<A: Allocator, O: Write, E: Write>(
     }
 }
 
-// The reducer, the modulus and the words of the commands.
+// The reducer, the modulus and the words of the commands; `None` where the first two words aren't a reducer and a
+// modulus.
 fn heading<'a>(words: &'a [&'a str]) -> Option<(ReducerName, u64, &'a [&'a str])>
     ensures { MatchOption result
         ((reducer : ReducerName) (m : ℕ) (rest : List (Bor (List ℕ))) → IsHeading words.now reducer m rest → ⊥)
@@ -117,7 +117,7 @@ fn heading<'a>(words: &'a [&'a str]) -> Option<(ReducerName, u64, &'a [&'a str])
     }
 }
 
-// The reducer of a name.
+// The reducer of a given name.
 fn reducer_named(name: &str) -> Option<ReducerName>
     ensures { FindsWhere (λ reducer. name.now ≡ reducer_name reducer) result }
 {
@@ -129,7 +129,7 @@ fn reducer_named(name: &str) -> Option<ReducerName>
     }
 }
 
-// The status of words that can't be read.
+// Writes how to call the program, and returns the status of words that can't be read.
 fn refuse<E: Write>(err: &mut E) -> io::Result<u8>
     ensures { IfOk result (λ status. (status ≡ 2) × Appends (E.contents err.old) (E.contents err.new) usage) }
 {
@@ -160,7 +160,7 @@ fn run_over<R: Reducer<u64>, A: Allocator, O: Write, E: Write>(
     }
 }
 
-// The commands that the words stand for.
+// The commands that the words denote.
 fn read_commands<'a, A: Allocator>(
     alloc: &'a A,
     words: &[&str],
@@ -179,7 +179,7 @@ fn read_commands<'a, A: Allocator>(
     Ok(commands)
 }
 
-// Runs commands on registers that start with the residue 0, and writes the residues.
+// Runs commands on registers that start with the residue 0, and writes their residues.
 fn run_commands<R: Reducer<u64>, O: Write, E: Write>(
     reducer: &R,
     commands: &[RingCommand<u64>],

@@ -1,4 +1,4 @@
-//! Montgomery's representation, and the negated inverse that it rests on.
+//! Montgomery's representation, and the negated inverse modulo the base, which it uses.
 
 pub use modular_even::montgomery::Montgomery;
 pub use modular_monty::fixed::{FixedMontgomery32, FixedMontgomery64};

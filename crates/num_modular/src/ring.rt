@@ -15,7 +15,7 @@ pub use modular_transform::transform::{ntt, ntt_counted, root_fits};
 use modular_word::ring_word::RingWord;
 use std::alloc::AllocError;
 
-/// A command on registers, which are named by their numbers in a slice of forms.
+/// A command on registers, each given by its index in a slice of forms.
 ///
 /// Operands are read before `dst` is written, so `dst` may be an operand.
 #[derive(Debug, PartialEq, Eq)]
@@ -24,7 +24,7 @@ pub enum RingCommand<T> {
     Load {
         /// The register that is written.
         dst: usize,
-        /// Any word, also one from m on.
+        /// Any word; it may be at least m.
         n: T,
     },
     /// Writes the sum of two registers.
@@ -40,9 +40,9 @@ pub enum RingCommand<T> {
     Sub {
         /// The register that is written.
         dst: usize,
-        /// The register of the number that is taken from.
+        /// The register of the minuend.
         a: usize,
-        /// The register of the number that is taken away.
+        /// The register of the subtrahend.
         b: usize,
     },
     /// Writes the product of two registers.
@@ -75,15 +75,15 @@ pub enum RingCommand<T> {
         /// The register of the operand.
         a: usize,
     },
-    /// Writes the inverse of a register; where there is none, the run stops.
+    /// Writes the inverse of a register; the run stops where there is none.
     Inv {
         /// The register that is written.
         dst: usize,
         /// The register of the operand.
         a: usize,
     },
-    /// Writes the quotient of two registers: the first times the inverse of the second. Where that has
-    /// none, the run stops, also where the first holds 0.
+    /// Writes the quotient of two registers: the first times the inverse of the second. The run stops where that
+    /// has no inverse, even where the first holds 0.
     Div {
         /// The register that is written.
         dst: usize,
@@ -92,7 +92,7 @@ pub enum RingCommand<T> {
         /// The register of the divisor.
         b: usize,
     },
-    /// Writes a power of a register, which for the exponent 0 is 1 modulo m.
+    /// Writes a power of a register; 1 modulo m for the exponent 0.
     Pow {
         /// The register that is written.
         dst: usize,
@@ -120,9 +120,9 @@ impl<T: Copy> Copy for RingCommand<T> {}
 pub enum RunEnd {
     /// Every command was carried out.
     Done,
-    /// A command found no inverse; neither it nor a later one wrote anything.
+    /// The inverse of a command doesn't exist; neither that command nor a later one wrote anything.
     NoInverse {
-        /// The number of that command, the first having the number 0.
+        /// The number of that command, counted from 0.
         at: usize,
     },
 }
@@ -205,7 +205,7 @@ fn quotient<T: RingWord, R: Reducer<T>>(r: &R, a: &T, b: T) -> Option<T>
     Some(r.mul(a, &inverse))
 }
 
-// The form that a command writes; `None` exactly where it finds no inverse.
+// The form that a command writes; `None` exactly where its inverse doesn't exist.
 //
 // Inlined into the loop of `run`, where a call for each command would take as long as the command.
 #[inline(always)]
@@ -236,16 +236,16 @@ fn computed_form<T: RingWord, R: Reducer<T>>(
 
 /// Carries out the commands in order, up to the first whose inverse doesn't exist.
 ///
-/// Conditions: each register holds a checked form (`all_checked` tells); each register number is
-/// below the number of registers (`commands_fit` tells). The run stops exactly at the first `Inv`
-/// or `Div` whose operand (for `Div`: b) has no inverse modulo m; that command and all later ones
-/// write nothing, and earlier ones stand. Each register then holds the one checked form of its value
-/// after the commands that were carried out, computed on whole numbers modulo m. It takes no memory.
+/// Conditions: each register holds a checked form (`all_checked` tells); each register number is below the number
+/// of registers (`commands_fit` tells). The run stops exactly at the first `Inv` or `Div` whose operand (for `Div`:
+/// b) has no inverse modulo m. That command and all later ones write nothing; what earlier ones wrote remains. Each
+/// register then holds the checked form of its value after the commands that were carried out, computed on whole
+/// numbers modulo m. No memory is allocated.
 pub fn run<T: RingWord, R: Reducer<T>>(r: &R, regs: &mut [T], commands: &[RingCommand<T>]) -> RunEnd
     requires checked { All (λ f. IsForm R.form R.value (R.modulus r.now) (T.number f)) regs.old }
     requires fit { All (IsFit (length regs.old)) commands.now }
 
-    // The run stops exactly at the stop of the value table ..
+    // The run stops exactly where `IsStop` says, by the values of the registers.
     ensures stops { let m = R.modulus r.now in
         let start = values_of T.number R.value m regs.old in
         (at : ℕ) → (result ≡ RunEnd.NoInverse at) ↔ IsStop m start (map (whole T.number) commands.now) at }
@@ -253,14 +253,14 @@ pub fn run<T: RingWord, R: Reducer<T>>(r: &R, regs: &mut [T], commands: &[RingCo
         let start = values_of T.number R.value m regs.old in
         (result ≡ RunEnd.Done) ↔ ((at : ℕ) → IsStop m start (map (whole T.number) commands.now) at → ⊥) }
 
-    // .. and each register then holds the form of its value there, which is a checked form.
+    // Each register then holds the checked form of its value at the stop.
     ensures values { let m = R.modulus r.now in
         let start = values_of T.number R.value m regs.old in
         let wholes = map (whole T.number) commands.now in
         HoldValues T.number R.form m regs.new (value_at m start wholes (carried_out result wholes)) }
     ensures checked { All (λ f. IsForm R.form R.value (R.modulus r.now) (T.number f)) regs.new }
 
-    // So its residue is that value: of each in the list of values, and of each register that is read.
+    // So its residue is that value, for the list of values and for each register that is read.
     ensures residues { let m = R.modulus r.now in
         let start = values_of T.number R.value m regs.old in
         let wholes = map (whole T.number) commands.now in

@@ -1,5 +1,5 @@
-//! The generic types behind the aliases of the root, and the types that name their moduli. Code that
-//! is generic over `OddRing` or `FoldRing` serves every modulus of the family at once.
+//! The generic types behind the aliases of the root, and the types of their moduli. Code that is generic over
+//! `OddRing` or `FoldRing` covers every modulus of the family.
 
 pub use modular_fold_paths::fold_word::FoldWord;
 pub use modular_fold_paths::folds::FoldedWord;

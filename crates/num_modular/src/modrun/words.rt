@@ -1,4 +1,4 @@
-//! How numbers and ring commands are read from text.
+//! Reads numbers and ring commands from text.
 
 ghost use Rattle.std.specs.Prelude.{◌≡◌, ℕ, ◌<◌, List, ◌∷◌, [], MatchOption};
 ghost use Rattle.num_modular.specs.Words.{IsNumberText, AreNumberTexts, IsReadAs};
@@ -6,11 +6,11 @@ ghost use Rattle.num_modular.specs.Words.{IsCommand, IsCommandWord, FindsWhere, 
 
 use crate::ring::RingCommand;
 
-/// How many registers a command may name.
+/// The number of registers.
 pub const REGISTERS: usize = 8;
 
-/// The number that one or more ASCII digits stand for, leading zeros allowed; `None` exactly where
-/// the text isn't that, or the number is above 2^64 - 1.
+/// The number that one or more ASCII digits denote, with leading zeros allowed; `None` exactly where the text isn't
+/// digits, or the number is above 2^64 - 1.
 pub fn number(text: &str) -> Option<u64>
     ensures { FindsWhere (IsNumberText text.now) result }
 {
@@ -32,7 +32,7 @@ fn register(text: &str) -> Option<usize>
     }
 }
 
-// A register's number before the first comma, and what follows that.
+// The register number before the first comma, and the text after the comma.
 fn first_register(text: &str) -> Option<(usize, &str)>
     ensures { MatchOption result
         ((r n : ℕ) (ns : List ℕ) → r < 8 → AreNumberTexts (parts text.now) (r ∷ n ∷ ns) → ⊥)
@@ -77,7 +77,7 @@ fn three_registers(text: &str) -> Option<(usize, usize, usize)>
     Some((dst, a, b))
 }
 
-// The command of a name and of what stands after the first comma.
+// The command of a name and of the text after the first comma.
 fn named_command(name: &str, numbers: &str) -> Option<RingCommand<u64>>
     ensures { FindsWhere (IsCommand name.now (parts numbers.now)) result }
 {
@@ -126,8 +126,8 @@ fn named_command(name: &str, numbers: &str) -> Option<RingCommand<u64>>
     }
 }
 
-/// The command that a word stands for: its name and its numbers, with a comma before each number;
-/// `None` exactly where the word isn't that, or names a register that isn't there.
+/// The command that a word denotes: its name and its numbers, with a comma before each number; `None` exactly where
+/// it denotes none, or a register number is out of range.
 pub fn command(word: &str) -> Option<RingCommand<u64>>
     ensures { FindsWhere (IsCommandWord word.now) result }
 {
