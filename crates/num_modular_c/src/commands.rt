@@ -20,19 +20,18 @@ pub const NM_NEG: u32 = 4;
 pub const NM_DBL: u32 = 5;
 /// Writes the square of a.
 pub const NM_SQR: u32 = 6;
-/// Writes the inverse of a; where there is none, the run stops.
+/// Writes the inverse of a; the run stops where there is none.
 pub const NM_INV: u32 = 7;
-/// Writes the product of a and the inverse of b; where b has none, the run stops.
+/// Writes the product of a and the inverse of b; the run stops where b has none.
 pub const NM_DIV: u32 = 8;
 /// Writes the power of a to the exponent n.
 pub const NM_POW: u32 = 9;
 
-/// A command on registers, which are named by their numbers. Fields that an operation doesn't name may
-/// hold anything.
+/// A command on registers, each given by its index. Fields that an operation doesn't use may have any value.
 #[repr(C)]
 #[derive(Clone, Copy)]
 pub struct NmCommand {
-    /// What is done: `NM_LOAD` to `NM_POW`.
+    /// The operation: `NM_LOAD` to `NM_POW`.
     pub operation: u32,
     /// The register that is written.
     pub dst: usize,
@@ -63,14 +62,14 @@ pub(crate) fn ring_command(c: &NmCommand) -> RingCommand<u64>
     }
 }
 
-// Whether a run on `count` registers takes the command.
+// Whether the command has an operation, and register numbers below `count`.
 fn is_taken(c: &NmCommand, count: usize) -> bool
     ensures { IsTrue result ↔ IsTaken count c.now }
 {
     c.operation < 10 && commands_fit(&[ring_command(c)], count)
 }
 
-// Whether a run on `count` registers takes the commands.
+// Whether each command has an operation, and register numbers below `count`.
 pub(crate) fn all_taken(commands: &[NmCommand], count: usize) -> bool
     ensures { IsTrue result ↔ All (IsTaken count) commands.now }
 {

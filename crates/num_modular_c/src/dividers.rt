@@ -1,4 +1,4 @@
-//! Division by a divisor that stays the same, by its reciprocal.
+//! Division by an invariant divisor, by its reciprocal.
 
 ghost use Rattle.std.specs.Prelude.{◌≡◌, ◌+◌, ◌*◌, ◌^◌, ◌<◌, ◌≤◌, ◌↔◌, IsTrue};
 ghost use Rattle.std.specs.Int.Count.{count_leading_zeros};
@@ -13,13 +13,13 @@ use modular_word::paths::div_2by1;
 use num_modular::Normalized2by1Divisor;
 use num_modular::word::w64::merge;
 
-/// A divisor with the reciprocal of it that `nm_divider` computes once.
+/// A divisor and its reciprocal, as `nm_divider` computes it.
 #[repr(C)]
 #[derive(Clone, Copy)]
 pub struct NmDivider {
     /// The divisor.
     pub divisor: u64,
-    /// The reciprocal of the divisor, moved up to the top of the word.
+    /// The reciprocal of the divisor shifted left until its top bit is set.
     pub reciprocal: u64,
 }
 
@@ -45,7 +45,7 @@ fn is_reciprocal(d: u64, v: u64) -> bool
     product < gap && gap <= product + d as u128
 }
 
-// A number moved up until its top bit is set.
+// A number shifted left until its top bit is set.
 fn to_the_top(d: u64) -> u64
     requires { 1 ≤ d }
     ensures value { result ≡ d * 2 ^ count_leading_zeros 64 d }
@@ -76,7 +76,7 @@ fn is_divider(divider: &NmDivider) -> bool
     divider.divisor != 0 && is_reciprocal(to_the_top(divider.divisor), divider.reciprocal)
 }
 
-/// The divider by d. `NM_BAD_ARGUMENT`: d is 0.
+/// Writes the divider by d. `NM_BAD_ARGUMENT`: d is 0.
 #[unsafe(no_mangle)]
 pub extern "C" fn nm_divider(d: u64, divider: &mut NmDivider) -> u32
     ensures did { 1 ≤ d → Did result ((divider.new.divisor ≡ d) × IsDivider divider.new) }
@@ -92,7 +92,7 @@ pub extern "C" fn nm_divider(d: u64, divider: &mut NmDivider) -> u32
     NM_OK
 }
 
-/// Quotient and remainder of a word. `NM_BAD_CONTEXT`: the divider isn't one that `nm_divider` made.
+/// Writes quotient and remainder of a word. `NM_BAD_CONTEXT`: the divider isn't one that `nm_divider` makes.
 #[unsafe(no_mangle)]
 pub extern "C" fn nm_div_rem(divider: &NmDivider, n: u64, division: &mut NmDivision) -> u32
     ensures did { IsDivider divider.now
@@ -106,9 +106,8 @@ pub extern "C" fn nm_div_rem(divider: &NmDivider, n: u64, division: &mut NmDivis
     NM_OK
 }
 
-/// Quotient and remainder of the double word low + 2^64·high. `NM_BAD_CONTEXT`: the divider isn't one
-/// that `nm_divider` made. `NM_BAD_ARGUMENT`: high isn't below the divisor, so that the quotient has no
-/// place in a word.
+/// Writes quotient and remainder of the double word low + 2^64·high. `NM_BAD_CONTEXT`: the divider isn't one that
+/// `nm_divider` makes. `NM_BAD_ARGUMENT`: high isn't below the divisor, so that the quotient doesn't fit a word.
 #[unsafe(no_mangle)]
 pub extern "C" fn nm_div_rem_2by1(
     divider: &NmDivider,

@@ -1,5 +1,5 @@
-//! The library for C: functions over words of 64 bits, each of which tests what its call needs and
-//! returns a code. `c/include/num_modular.h` declares them.
+//! The library for C: functions over words of 64 bits. Each tests its preconditions and returns a code.
+//! `c/include/num_modular.h` declares them.
 #![tactic(auto)]
 
 mod codes;

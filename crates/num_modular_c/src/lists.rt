@@ -1,4 +1,4 @@
-//! Lists of words as lists of forms in their place, and back.
+//! Conversion of lists of words to lists of forms in place, and back.
 
 ghost use Rattle.std.specs.Prelude.{◌≡◌, ℕ, ◌%◌, ◌<◌, All, length, slice_index};
 ghost use Rattle.num_modular.specs.Forms.{IsForm};
@@ -6,7 +6,7 @@ ghost use Rattle.num_modular.specs.Values.{values_of};
 
 use num_modular::Reducer;
 
-// Puts the form of each word in its place.
+// Replaces each word by its form.
 pub(crate) fn load<R: Reducer<u64>>(r: &R, xs: &mut [u64])
     ensures checked { All (λ f. IsForm R.form R.value (R.modulus r.now) f) xs.new }
     ensures values { let m = R.modulus r.now in (i : ℕ) → i < length xs.old →
@@ -17,7 +17,7 @@ pub(crate) fn load<R: Reducer<u64>>(r: &R, xs: &mut [u64])
     }
 }
 
-// Puts the value of each form in its place.
+// Replaces each form by its value.
 pub(crate) fn unload<R: Reducer<u64>>(r: &R, xs: &mut [u64])
     requires { All (λ f. IsForm R.form R.value (R.modulus r.now) f) xs.old }
     ensures { let m = R.modulus r.now in (i : ℕ) → i < length xs.old →

@@ -1,4 +1,4 @@
-//! Montgomery's representation modulo m, by what is computed of m once.
+//! Montgomery's representation modulo m, by a context that is precomputed of m.
 
 ghost use Rattle.std.specs.Prelude.{◌≡◌, ◌+◌, ◌*◌, ◌%◌, ◌^◌, ◌<◌, ◌≤◌, ◌↔◌, IsTrue, pos, ◌-ℤ◌, MatchOption};
 ghost use Rattle.num_modular.specs.Inverses.{HasInverse, IsInverse};
@@ -9,7 +9,7 @@ ghost use Rattle.num_modular_c.specs.Contexts.{IsMontgomery, IsMontgomeryForm, I
 use crate::codes::{NM_BAD_ARGUMENT, NM_BAD_CONTEXT, NM_NO_INVERSE, NM_OK};
 use num_modular::{Montgomery, Reducer};
 
-/// A modulus m with what `nm_montgomery` computes of it once.
+/// A modulus m and what `nm_montgomery` precomputes of it.
 #[repr(C)]
 #[derive(Clone, Copy)]
 pub struct NmMontgomery {
@@ -21,7 +21,7 @@ pub struct NmMontgomery {
     pub square: u64,
 }
 
-// The reducer of a modulus with what was computed of it; `None` where these don't fit each other.
+// The reducer of a context; `None` where its numbers aren't those of its modulus.
 pub(crate) fn reducer(context: &NmMontgomery) -> Option<Montgomery<u64>>
     ensures { MatchOption result (IsMontgomery context.now → ⊥)
         (λ r. (⟦<Montgomery<u64> as Reducer<u64>>⟧.modulus r ≡ context.now.modulus) × IsMontgomery context.now) }
@@ -37,7 +37,7 @@ fn is_form(ring: &Montgomery<u64>, word: u64) -> bool
     ring.check(&word)
 }
 
-/// The context of m. `NM_BAD_ARGUMENT`: m is 0.
+/// Writes the context of m. `NM_BAD_ARGUMENT`: m is 0.
 #[unsafe(no_mangle)]
 pub extern "C" fn nm_montgomery(m: u64, context: &mut NmMontgomery) -> u32
     ensures did { 1 ≤ m → Did result ((context.new.modulus ≡ m) × IsMontgomery context.new) }
@@ -55,7 +55,7 @@ pub extern "C" fn nm_montgomery(m: u64, context: &mut NmMontgomery) -> u32
     NM_OK
 }
 
-/// The form of n modulo m. `NM_BAD_CONTEXT`: the context isn't one that `nm_montgomery` makes.
+/// Writes the form of n modulo m. `NM_BAD_CONTEXT`: the context isn't one that `nm_montgomery` makes.
 #[unsafe(no_mangle)]
 pub extern "C" fn nm_montgomery_transform(context: &NmMontgomery, n: u64, form: &mut u64) -> u32
     ensures did { let m = context.now.modulus in
@@ -69,8 +69,8 @@ pub extern "C" fn nm_montgomery_transform(context: &NmMontgomery, n: u64, form: 
     NM_OK
 }
 
-/// The value of a form. `NM_BAD_CONTEXT`: as `nm_montgomery_transform`. `NM_BAD_ARGUMENT`: the word isn't
-/// below m, and so no form.
+/// Writes the value of a form. `NM_BAD_CONTEXT`: as for `nm_montgomery_transform`. `NM_BAD_ARGUMENT`: the word
+/// isn't below m, and so is no form.
 #[unsafe(no_mangle)]
 pub extern "C" fn nm_montgomery_residue(context: &NmMontgomery, form: u64, value: &mut u64) -> u32
     ensures did { let m = context.now.modulus in
@@ -89,7 +89,7 @@ pub extern "C" fn nm_montgomery_residue(context: &NmMontgomery, form: u64, value
     NM_OK
 }
 
-/// The form of the sum of two forms. The codes are those of `nm_montgomery_residue`.
+/// Writes the form of the sum of two forms. The codes are those of `nm_montgomery_residue`.
 #[unsafe(no_mangle)]
 pub extern "C" fn nm_montgomery_add(context: &NmMontgomery, a: u64, b: u64, sum: &mut u64) -> u32
     ensures did { let m = context.now.modulus in IsMontgomery context.now → a < m → b < m
@@ -109,7 +109,7 @@ pub extern "C" fn nm_montgomery_add(context: &NmMontgomery, a: u64, b: u64, sum:
     NM_OK
 }
 
-/// The form of the difference of two forms. The codes are those of `nm_montgomery_residue`.
+/// Writes the form of the difference of two forms. The codes are those of `nm_montgomery_residue`.
 #[unsafe(no_mangle)]
 pub extern "C" fn nm_montgomery_sub(
     context: &NmMontgomery,
@@ -134,7 +134,7 @@ pub extern "C" fn nm_montgomery_sub(
     NM_OK
 }
 
-/// The form of the product of two forms. The codes are those of `nm_montgomery_residue`.
+/// Writes the form of the product of two forms. The codes are those of `nm_montgomery_residue`.
 #[unsafe(no_mangle)]
 pub extern "C" fn nm_montgomery_mul(
     context: &NmMontgomery,
@@ -159,7 +159,7 @@ pub extern "C" fn nm_montgomery_mul(
     NM_OK
 }
 
-/// The form of the power of a form; that of 1 for the exponent 0. The codes are those of
+/// Writes the form of the power of a form; that of 1 for the exponent 0. The codes are those of
 /// `nm_montgomery_residue`.
 #[unsafe(no_mangle)]
 pub extern "C" fn nm_montgomery_pow(
@@ -184,7 +184,7 @@ pub extern "C" fn nm_montgomery_pow(
     NM_OK
 }
 
-/// The form of the inverse of a form. `NM_NO_INVERSE`: its value has none. The other codes are those of
+/// Writes the form of the inverse of a form. `NM_NO_INVERSE`: its value has none. The other codes are those of
 /// `nm_montgomery_residue`.
 #[unsafe(no_mangle)]
 pub extern "C" fn nm_montgomery_inv(context: &NmMontgomery, form: u64, inverse: &mut u64) -> u32

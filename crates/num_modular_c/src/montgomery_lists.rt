@@ -1,4 +1,4 @@
-//! Transforms and cyclic products of lists of words modulo any m, and runs of commands, by a context.
+//! Transforms and cyclic products of lists of words modulo any m, and runs of commands, given a context.
 
 ghost use Rattle.std.specs.Prelude.{◌≡◌, ◌≢◌, ℕ, ◌%◌, ◌<◌, ◌≤◌, All, length, map, slice_index};
 ghost use Rattle.modular_plan.specs.Roots.{root_by, IsFirstBase};
@@ -32,9 +32,9 @@ pub extern "C" fn nm_montgomery_root_fits(context: &NmMontgomery, root: u64, n: 
     }
 }
 
-/// A root that suits lists of n words: for the least x from 2 to 255 that gives one, x to the power
-/// (m - 1)/n, rounded down. `NM_NO_ROOT`: no x gives one, as where n is no power of two.
-/// `NM_BAD_CONTEXT`: as `nm_montgomery_root_fits`.
+/// Writes a root that suits lists of n words: x to the power (m - 1)/n, rounded down, for the least x from 2 to 255
+/// for which it does. `NM_NO_ROOT`: it does for no x, as where n is no power of two. `NM_BAD_CONTEXT`: as for
+/// `nm_montgomery_root_fits`.
 #[unsafe(no_mangle)]
 pub extern "C" fn nm_montgomery_find_root(context: &NmMontgomery, n: usize, root: &mut u64) -> u32
     ensures did { let m = context.now.modulus in
@@ -51,8 +51,8 @@ pub extern "C" fn nm_montgomery_find_root(context: &NmMontgomery, n: usize, root
     }
 }
 
-/// Puts the transform by the root in place of the words: at place j the sum of x_i·root^(i·j) modulo m.
-/// `NM_NO_ROOT`: the root doesn't suit the length. `NM_BAD_CONTEXT`: as `nm_montgomery_root_fits`.
+/// Replaces the words by their transform by the root: entry j is the sum of x_i·root^(i·j) modulo m. `NM_NO_ROOT`:
+/// the root doesn't suit the length. `NM_BAD_CONTEXT`: as for `nm_montgomery_root_fits`.
 #[unsafe(no_mangle)]
 pub extern "C" fn nm_montgomery_ntt(context: &NmMontgomery, xs: &mut [u64], root: u64) -> u32
     ensures did { let m = context.now.modulus in let n = length xs.old in
@@ -69,10 +69,9 @@ pub extern "C" fn nm_montgomery_ntt(context: &NmMontgomery, xs: &mut [u64], root
     }
 }
 
-/// Puts the cyclic product of both lists modulo m in place of the first, and the transform of the second
-/// by the root in its place. `NM_BAD_ARGUMENT`: the lengths differ. `NM_NO_ROOT`: the root doesn't suit
-/// them. `NM_NO_INVERSE`: the length has no inverse modulo m. `NM_BAD_CONTEXT`: as
-/// `nm_montgomery_root_fits`.
+/// Replaces the first list by the cyclic product of both lists modulo m, and the second by its transform by the
+/// root. `NM_BAD_ARGUMENT`: the lengths differ. `NM_NO_ROOT`: the root doesn't suit them. `NM_NO_INVERSE`: the
+/// length has no inverse modulo m. `NM_BAD_CONTEXT`: as for `nm_montgomery_root_fits`.
 #[unsafe(no_mangle)]
 pub extern "C" fn nm_montgomery_convolve(
     context: &NmMontgomery,
@@ -101,11 +100,11 @@ pub extern "C" fn nm_montgomery_convolve(
     }
 }
 
-/// Carries out the commands in order on the residues of the words, and puts the residues that they leave
-/// in place; `carried_out` is how many were carried out. `NM_NO_INVERSE`: command number `carried_out` finds no
-/// inverse, and the residues are those that the commands before it leave. `NM_BAD_ARGUMENT`: an
-/// operation has no name, or a register number isn't below the number of registers. `NM_BAD_CONTEXT`:
-/// as `nm_montgomery_root_fits`.
+/// Carries out the commands in order on the residues of the words, and replaces the words by the resulting
+/// residues; `carried_out` is the number of commands carried out. `NM_NO_INVERSE`: the inverse of command number
+/// `carried_out` doesn't exist, and the residues are those after the commands before it. `NM_BAD_ARGUMENT`: an
+/// operation has no name, or a register number isn't below the number of registers. `NM_BAD_CONTEXT`: as for
+/// `nm_montgomery_root_fits`.
 #[unsafe(no_mangle)]
 pub extern "C" fn nm_montgomery_run(
     context: &NmMontgomery,

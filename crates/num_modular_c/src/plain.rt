@@ -1,4 +1,4 @@
-//! Modular operations of words, which may be above the modulus.
+//! Modular operations of words that may be above the modulus.
 
 ghost use Rattle.std.specs.Prelude.{◌≡◌, ◌+◌, ◌*◌, ◌%◌, ◌^◌, ◌≤◌, pos, ◌-ℤ◌};
 ghost use Rattle.num_modular.specs.Inverses.{HasInverse, IsInverse};
@@ -8,7 +8,7 @@ ghost use Rattle.num_modular_c.specs.Codes.{Did, Refused};
 use crate::codes::{NM_BAD_ARGUMENT, NM_NO_INVERSE, NM_OK};
 use num_modular::{ModularCoreOps, ModularPow, ModularUnaryOps};
 
-/// The residue of a + b modulo m. `NM_BAD_ARGUMENT`: m is 0.
+/// Writes the residue of a + b modulo m. `NM_BAD_ARGUMENT`: m is 0.
 #[unsafe(no_mangle)]
 pub extern "C" fn nm_addm(a: u64, b: u64, m: u64, sum: &mut u64) -> u32
     ensures did { 1 ≤ m → Did result (sum.new ≡ (a + b) % m) }
@@ -21,7 +21,7 @@ pub extern "C" fn nm_addm(a: u64, b: u64, m: u64, sum: &mut u64) -> u32
     NM_OK
 }
 
-/// The residue of a - b modulo m. `NM_BAD_ARGUMENT`: m is 0.
+/// Writes the residue of a - b modulo m. `NM_BAD_ARGUMENT`: m is 0.
 #[unsafe(no_mangle)]
 pub extern "C" fn nm_subm(a: u64, b: u64, m: u64, difference: &mut u64) -> u32
     ensures did { 1 ≤ m → Did result (difference.new ≡ residue m (pos a -ℤ pos b)) }
@@ -34,7 +34,7 @@ pub extern "C" fn nm_subm(a: u64, b: u64, m: u64, difference: &mut u64) -> u32
     NM_OK
 }
 
-/// The residue of a·b modulo m. `NM_BAD_ARGUMENT`: m is 0.
+/// Writes the residue of a·b modulo m. `NM_BAD_ARGUMENT`: m is 0.
 #[unsafe(no_mangle)]
 pub extern "C" fn nm_mulm(a: u64, b: u64, m: u64, product: &mut u64) -> u32
     ensures did { 1 ≤ m → Did result (product.new ≡ (a * b) % m) }
@@ -47,8 +47,8 @@ pub extern "C" fn nm_mulm(a: u64, b: u64, m: u64, product: &mut u64) -> u32
     NM_OK
 }
 
-/// The residue of a to the power `exponent` modulo m, that of 1 for the exponent 0.
-/// `NM_BAD_ARGUMENT`: m is 0.
+/// Writes the residue of a to the power `exponent` modulo m; that of 1 for the exponent 0. `NM_BAD_ARGUMENT`: m is
+/// 0.
 #[unsafe(no_mangle)]
 pub extern "C" fn nm_powm(a: u64, exponent: u64, m: u64, power: &mut u64) -> u32
     ensures did { 1 ≤ m → Did result (power.new ≡ a ^ exponent % m) }
@@ -61,7 +61,7 @@ pub extern "C" fn nm_powm(a: u64, exponent: u64, m: u64, power: &mut u64) -> u32
     NM_OK
 }
 
-/// The inverse of a modulo m. `NM_NO_INVERSE`: a has none. `NM_BAD_ARGUMENT`: m is 0.
+/// Writes the inverse of a modulo m. `NM_NO_INVERSE`: a has none. `NM_BAD_ARGUMENT`: m is 0.
 #[unsafe(no_mangle)]
 pub extern "C" fn nm_invm(a: u64, m: u64, inverse: &mut u64) -> u32
     ensures did { 1 ≤ m → HasInverse m a → Did result (IsInverse m a inverse.new) }

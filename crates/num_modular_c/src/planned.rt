@@ -29,7 +29,7 @@ fn have_room(m: &PlannedModulus<u64>, words: &[u64]) -> bool
     true
 }
 
-// Whether a list splits.
+// Whether `nm_split` accepts a list.
 fn is_split(m: u64, words: &[u64], factors: usize, b: usize, last: usize) -> bool
     ensures { IsTrue result ↔ IsSplit m factors b last words.now }
 {
@@ -38,7 +38,7 @@ fn is_split(m: u64, words: &[u64], factors: usize, b: usize, last: usize) -> boo
         && have_room(&PlannedModulus::<u64>::new(m), words)
 }
 
-// What a call by a plan answers of a list before it works.
+// The code of a call by a plan, by what it tests of a list before it works.
 fn split_code(m: u64, words: &[u64], table: &[NmFactor], b: usize, last: usize) -> u32
     ensures fits { let admitted = IsSplit m (length table.now) b last words.now in
         (result ≡ NM_OK) ↔ (admitted × AreFactors m table.now) }
@@ -56,12 +56,12 @@ fn split_code(m: u64, words: &[u64], table: &[NmFactor], b: usize, last: usize) 
     }
 }
 
-/// Puts the transform by a plan in place of the n words: at place j the sum of x_i·h^(i·j) modulo m, h
-/// being the root that the plan is for, or that power of it that suits n words where the plan is for more.
+/// Replaces the n words by their transform by a plan: entry j is the sum of x_i·h^(i·j) modulo m. h is the root of
+/// the plan, or, where the plan is for more words, the power of it that suits n words.
 ///
-/// `NM_BAD_ARGUMENT`: m is 0 or above 2^62, a word isn't below 4m, n is no power of two or above twice
-/// the length of the table. `NM_BAD_CONTEXT`: an entry of the table is no factor modulo m with its
-/// quotient. Where the table is no plan, the words that are left are below m and say nothing.
+/// `NM_BAD_ARGUMENT`: m is 0 or above 2^62, a word isn't below 4m, n is no power of two or above twice the length
+/// of the table. `NM_BAD_CONTEXT`: an entry of the table isn't a factor modulo m with its quotient. Where the table
+/// is no plan, the resulting words are below m and have no meaning.
 #[unsafe(no_mangle)]
 pub extern "C" fn nm_ntt_planned(m: u64, xs: &mut [u64], table: &[NmFactor]) -> u32
     ensures did { let n = length xs.old in
@@ -84,8 +84,8 @@ pub extern "C" fn nm_ntt_planned(m: u64, xs: &mut [u64], table: &[NmFactor]) -> 
 /// becomes the sum over k of x_(k·last + i)·c^k modulo m, c being the power of the plan's root by the
 /// reversed bits of b·count + j, and count the number of blocks.
 ///
-/// `NM_BAD_ARGUMENT`: m is 0 or above 2^62, a word isn't below 4m, n is no power of two times `last`, or
-/// the table has fewer than (b + 1)·(count/2) entries. `NM_BAD_CONTEXT`: as `nm_ntt_planned`.
+/// `NM_BAD_ARGUMENT`: m is 0 or above 2^62, a word isn't below 4m, n is no power of two times `last`, or the table
+/// has fewer than (b + 1)·(count/2) entries. `NM_BAD_CONTEXT`: as for `nm_ntt_planned`.
 #[unsafe(no_mangle)]
 pub extern "C" fn nm_split(m: u64, xs: &mut [u64], table: &[NmFactor], b: usize, last: usize) -> u32
     ensures did { let count = length xs.old / last in
@@ -104,9 +104,9 @@ pub extern "C" fn nm_split(m: u64, xs: &mut [u64], table: &[NmFactor], b: usize,
     code
 }
 
-/// Joins the blocks of `last` words into block b, the way back from `nm_split`: where the words are the
-/// remainders of a list, each word of the list times the number of blocks, modulo m, comes back. The
-/// codes are those of `nm_split`.
+/// Joins the blocks of `last` words into block b, which undoes `nm_split` but for a factor: where the words are the
+/// remainders of a list, they are replaced by the words of the list times the number of blocks, modulo m. The codes
+/// are those of `nm_split`.
 #[unsafe(no_mangle)]
 pub extern "C" fn nm_join(m: u64, xs: &mut [u64], table: &[NmFactor], b: usize, last: usize) -> u32
     ensures did { let count = length xs.old / last in
@@ -126,7 +126,7 @@ pub extern "C" fn nm_join(m: u64, xs: &mut [u64], table: &[NmFactor], b: usize, 
     code
 }
 
-// Whether two lists are multiplied.
+// Whether `nm_convolve_planned` and `nm_convolve_negacyclic` accept two lists as block b.
 fn is_pair(m: u64, xs: &[u64], ys: &[u64], factors: usize, b: usize, last: usize) -> bool
     ensures { IsTrue result ↔ IsPair m factors b last xs.now ys.now }
 {
@@ -140,7 +140,7 @@ fn is_pair(m: u64, xs: &[u64], ys: &[u64], factors: usize, b: usize, last: usize
         && have_room(&modulus, ys)
 }
 
-// What a product by a plan answers before it works.
+// The code of a product by a plan, by what it tests before it works.
 fn pair_code(m: u64, xs: &[u64], ys: &[u64], table: &[NmFactor], b: usize, last: usize) -> u32
     ensures fits { let admitted = IsPair m (length table.now) b last xs.now ys.now in
         (result ≡ NM_OK) ↔ (admitted × AreFactors m table.now) }
@@ -158,11 +158,11 @@ fn pair_code(m: u64, xs: &[u64], ys: &[u64], table: &[NmFactor], b: usize, last:
     }
 }
 
-/// Puts the cyclic product of two lists of n words in place of the first, and in that of the second what
-/// `nm_split` leaves of it for b = 0: at place e the sum of x_i·y_j modulo m over i + j = e or e + n.
+/// Replaces the first of two lists of n words by their cyclic product, and the second by the result of `nm_split`
+/// for b = 0: entry e of the product is the sum of x_i·y_j modulo m over i + j = e or e + n.
 ///
-/// `NM_BAD_ARGUMENT`: m is 0 or above 2^62, a word isn't below 4m, the lengths differ, `last` isn't 1 or 2,
-/// n/last is no power of two, or the table has fewer than n/last/2 entries, or none. `NM_BAD_CONTEXT`: as
+/// `NM_BAD_ARGUMENT`: m is 0 or above 2^62, a word isn't below 4m, the lengths differ, `last` isn't 1 or 2, n/last
+/// is no power of two, or the table has fewer than n/last/2 entries, or none. `NM_BAD_CONTEXT`: as for
 /// `nm_ntt_planned`. `NM_NO_INVERSE`: n/last has no inverse modulo m.
 #[unsafe(no_mangle)]
 pub extern "C" fn nm_convolve_planned(
@@ -195,10 +195,9 @@ pub extern "C" fn nm_convolve_planned(
     }
 }
 
-/// Puts the product of two lists of n words modulo X^n + 1 in place of the first, and in that of the
-/// second what `nm_split` leaves of it for b = 1: at place e the sum of x_i·y_j modulo m over i + j = e,
-/// less that over i + j = e + n. The codes are those of `nm_convolve_planned`, but that the table has at
-/// least n/last entries.
+/// Replaces the first of two lists of n words by their product modulo X^n + 1, and the second by the result of
+/// `nm_split` for b = 1: entry e of the product is the sum of x_i·y_j modulo m over i + j = e, less that over i + j
+/// = e + n. The codes are those of `nm_convolve_planned`, except that the table must have at least n/last entries.
 #[unsafe(no_mangle)]
 pub extern "C" fn nm_convolve_negacyclic(
     m: u64,

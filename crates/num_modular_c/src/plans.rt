@@ -1,4 +1,4 @@
-//! Plans of transforms: tables of factors that the caller keeps.
+//! Plans of transforms: tables of factors that the caller owns.
 
 ghost use Rattle.std.specs.Prelude.{◌≡◌, ℕ, ◌-◌, ◌*◌, ◌%◌, ◌^◌, ◌<◌, ◌≤◌, ◌↔◌, IsTrue, length};
 ghost use Rattle.modular_plan.specs.Factors.{IsFactor};
@@ -49,7 +49,7 @@ impl PlanEntry<u64> for NmFactor {
     }
 }
 
-// Whether an entry is a factor with its quotient: no division is made.
+// Whether an entry is a factor with its quotient, tested without a division.
 fn is_factor(m: u64, entry: &NmFactor) -> bool
     ensures { IsTrue result ↔ IsFactor (2 ^ 64) m entry.now.value entry.now.quotient }
 {
@@ -58,7 +58,7 @@ fn is_factor(m: u64, entry: &NmFactor) -> bool
     entry.value < m && whole <= scaled && scaled - whole < m as u128
 }
 
-// Whether each entry is one.
+// Whether each entry is a factor with its quotient.
 pub(crate) fn are_factors(m: u64, table: &[NmFactor]) -> bool
     ensures { IsTrue result ↔ AreFactors m table.now }
 {
@@ -70,7 +70,7 @@ pub(crate) fn are_factors(m: u64, table: &[NmFactor]) -> bool
     true
 }
 
-// The place among n with its bits in the opposite order, by that of the place before it.
+// The index among n with its bits in the opposite order, from that of the index before it.
 fn next_reversed(before: usize, place: usize, n: usize, bits: u32) -> usize
     requires before { before ≡ bits_reversed bits (place - 1) }
     requires few { bits ≤ 64 }
@@ -106,7 +106,7 @@ fn are_powers(m: &PlannedModulus<u64>, g: u64, table: &[NmFactor], bits: u32) ->
     true
 }
 
-// Whether the table is the plan by g, which suits it.
+// Whether the table is the plan by g. Condition: g suits it.
 fn is_table(m: u64, g: u64, table: &[NmFactor]) -> bool
     requires admitted { IsAdmitted m }
     requires below { g < m }
@@ -138,7 +138,7 @@ pub extern "C" fn nm_plan(m: u64, root: u64, table: &mut [NmFactor]) -> u32
     code
 }
 
-/// Whether the table is what `nm_plan` leaves for this modulus and this root. `NM_BAD_CONTEXT`: it
+/// Tests whether the table is the one that `nm_plan` makes for this modulus and this root. `NM_BAD_CONTEXT`: it
 /// isn't. The other codes are those of `nm_plan`.
 #[unsafe(no_mangle)]
 pub extern "C" fn nm_plan_fits(m: u64, root: u64, table: &[NmFactor]) -> u32

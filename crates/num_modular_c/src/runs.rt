@@ -12,7 +12,7 @@ use crate::lists::{load, unload};
 use num_modular::Reducer;
 use num_modular::ring::{RingCommand, RunEnd, run};
 
-// Carries out a command; false where it finds no inverse.
+// Carries out a command; false where its inverse doesn't exist.
 fn step<R: Reducer<u64>>(r: &R, registers: &mut [u64], command: RingCommand<u64>) -> bool
     requires checked { All (λ f. IsForm R.form R.value (R.modulus r.now) f) registers.old }
     requires fit { IsFit (length registers.old) command }
@@ -35,7 +35,8 @@ fn step<R: Reducer<u64>>(r: &R, registers: &mut [u64], command: RingCommand<u64>
     }
 }
 
-// Carries out the commands in order, up to the first that finds no inverse; how many were carried out.
+// Carries out the commands in order, up to the first whose inverse doesn't exist, and returns how many were carried
+// out.
 pub(crate) fn run_each<R: Reducer<u64>>(
     r: &R,
     registers: &mut [u64],
@@ -61,7 +62,7 @@ pub(crate) fn run_each<R: Reducer<u64>>(
     commands.len()
 }
 
-// `run_each` on the residues of words, which leaves residues.
+// `run_each` on words, which it replaces by residues.
 fn run_words<R: Reducer<u64>>(r: &R, registers: &mut [u64], commands: &[NmCommand]) -> usize
     requires { All (IsTaken (length registers.old)) commands.now }
     ensures at_most { result ≤ length commands.now }
@@ -78,7 +79,7 @@ fn run_words<R: Reducer<u64>>(r: &R, registers: &mut [u64], commands: &[NmComman
     at
 }
 
-// Carries out the commands on the residues of words, where they may be carried out.
+// Carries out the commands on the residues of words, after a test that each may be carried out.
 pub(crate) fn carry_out<R: Reducer<u64>>(
     r: &R,
     registers: &mut [u64],

@@ -14,7 +14,7 @@ use num_modular::{FixedTrinomialSolinas64, Reducer};
 /// The prime 2^64 - 2^32 + 1.
 pub const NM_SOLINAS: u64 = 18446744069414584321;
 
-// Its reducer.
+// The reducer of that prime.
 fn solinas() -> FixedTrinomialSolinas64<64, 32, 1>
     ensures { ⟦<FixedTrinomialSolinas64<64, 32, 1> as Reducer<u64>>⟧.modulus result ≡ NM_SOLINAS }
 {
@@ -31,9 +31,8 @@ pub extern "C" fn nm_solinas_root_fits(root: u64, n: usize) -> u32
     root_code(&solinas(), root, n)
 }
 
-/// A root that suits lists of n words: for the least x from 2 to 255 that gives one, x to the power
-/// (m - 1)/n, rounded down, m being 2^64 - 2^32 + 1. `NM_NO_ROOT`: no x gives one, as where n is no
-/// power of two.
+/// Writes a root that suits lists of n words: x to the power (m - 1)/n, rounded down, for the least x from 2 to 255
+/// for which it does, m being 2^64 - 2^32 + 1. `NM_NO_ROOT`: it does for no x, as where n is no power of two.
 #[unsafe(no_mangle)]
 pub extern "C" fn nm_solinas_find_root(n: usize, root: &mut u64) -> u32
     ensures did { ((x : ℕ) × (2 ≤ x) × (x < 256) × Suits NM_SOLINAS (root_by NM_SOLINAS n x) n) → Did result
@@ -44,8 +43,8 @@ pub extern "C" fn nm_solinas_find_root(n: usize, root: &mut u64) -> u32
     found_root(&solinas(), n, root)
 }
 
-/// Puts the transform by the root in place of the words: at place j the sum of x_i·root^(i·j) modulo
-/// 2^64 - 2^32 + 1. `NM_NO_ROOT`: the root doesn't suit the length.
+/// Replaces the words by their transform by the root: entry j is the sum of x_i·root^(i·j) modulo 2^64 - 2^32 + 1.
+/// `NM_NO_ROOT`: the root doesn't suit the length.
 #[unsafe(no_mangle)]
 pub extern "C" fn nm_solinas_ntt(xs: &mut [u64], root: u64) -> u32
     ensures did { let g = root % NM_SOLINAS in let n = length xs.old in Suits NM_SOLINAS g n → Did result
@@ -56,9 +55,9 @@ pub extern "C" fn nm_solinas_ntt(xs: &mut [u64], root: u64) -> u32
     transformed(&solinas(), xs, root)
 }
 
-/// Puts the cyclic product of both lists modulo 2^64 - 2^32 + 1 in place of the first, and the transform
-/// of the second by the root in its place. `NM_BAD_ARGUMENT`: the lengths differ. `NM_NO_ROOT`: the root
-/// doesn't suit them. `NM_NO_INVERSE`: the length has no inverse.
+/// Replaces the first list by the cyclic product of both lists modulo 2^64 - 2^32 + 1, and the second by its
+/// transform by the root. `NM_BAD_ARGUMENT`: the lengths differ. `NM_NO_ROOT`: the root doesn't suit them.
+/// `NM_NO_INVERSE`: the length has no inverse.
 #[unsafe(no_mangle)]
 pub extern "C" fn nm_solinas_convolve(xs: &mut [u64], ys: &mut [u64], root: u64) -> u32
     ensures did { let g = root % NM_SOLINAS in let n = length xs.old in

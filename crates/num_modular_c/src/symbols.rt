@@ -9,7 +9,7 @@ ghost use Rattle.num_modular_c.specs.Codes.{Did, IsSymbol};
 use crate::codes::{NM_BAD_ARGUMENT, NM_OK};
 use num_modular::ModularSymbols;
 
-// Writes a symbol where one was found.
+// Writes a symbol where there is one, and returns the code.
 fn answer(found: Option<i8>, symbol: &mut i32) -> u32
     ensures { IsSymbol found result symbol.old symbol.new }
 {
@@ -22,7 +22,7 @@ fn answer(found: Option<i8>, symbol: &mut i32) -> u32
     }
 }
 
-/// The Jacobi symbol of a over n. `NM_BAD_ARGUMENT`: n is even.
+/// Writes the Jacobi symbol of a over n. `NM_BAD_ARGUMENT`: n is even.
 #[unsafe(no_mangle)]
 pub extern "C" fn nm_jacobi(a: u64, n: u64, symbol: &mut i32) -> u32
     ensures { IsSymbol (checked_jacobi_of (pos a) (pos n)) result symbol.old symbol.new }
@@ -33,7 +33,7 @@ pub extern "C" fn nm_jacobi(a: u64, n: u64, symbol: &mut i32) -> u32
     answer(Some(a.jacobi(&n)), symbol)
 }
 
-/// The Jacobi symbol of a over n, both with sign. `NM_BAD_ARGUMENT`: n is even or below 1.
+/// Writes the Jacobi symbol of a over n, both signed. `NM_BAD_ARGUMENT`: n is even or below 1.
 #[unsafe(no_mangle)]
 pub extern "C" fn nm_jacobi_signed(a: i64, n: i64, symbol: &mut i32) -> u32
     ensures { IsSymbol (checked_jacobi_of a n) result symbol.old symbol.new }
@@ -41,9 +41,9 @@ pub extern "C" fn nm_jacobi_signed(a: i64, n: i64, symbol: &mut i32) -> u32
     answer(a.checked_jacobi(&n), symbol)
 }
 
-/// The class of a to the power (n - 1)/2, rounded down, modulo n: 0, 1 or -1 where that leaves 0, 1 or
-/// n - 1, tried in this order. For an odd prime n it is the Legendre symbol of a over n; that n is one
-/// isn't tested. `NM_BAD_ARGUMENT`: the power leaves another number, or n is 0.
+/// Writes 0, 1 or -1, where a to the power (n - 1)/2, rounded down, is congruent to 0, 1 or n - 1 modulo n, tried
+/// in this order. For an odd prime n it is the Legendre symbol of a over n; the call doesn't test whether n is
+/// prime. `NM_BAD_ARGUMENT`: the power is none of these, or n is 0.
 #[unsafe(no_mangle)]
 pub extern "C" fn nm_legendre(a: u64, n: u64, symbol: &mut i32) -> u32
     ensures { IsSymbol (checked_legendre_of (pos a) (pos n)) result symbol.old symbol.new }
@@ -51,7 +51,7 @@ pub extern "C" fn nm_legendre(a: u64, n: u64, symbol: &mut i32) -> u32
     answer(a.checked_legendre(&n), symbol)
 }
 
-/// `nm_legendre` of numbers with sign. `NM_BAD_ARGUMENT`: as there, or n is below 1.
+/// `nm_legendre` of signed numbers. `NM_BAD_ARGUMENT`: as there, or n is below 1.
 #[unsafe(no_mangle)]
 pub extern "C" fn nm_legendre_signed(a: i64, n: i64, symbol: &mut i32) -> u32
     ensures { IsSymbol (checked_legendre_of a n) result symbol.old symbol.new }
@@ -59,7 +59,7 @@ pub extern "C" fn nm_legendre_signed(a: i64, n: i64, symbol: &mut i32) -> u32
     answer(a.checked_legendre(&n), symbol)
 }
 
-/// The Kronecker symbol of a over n, which every two numbers have. The code is `NM_OK`.
+/// Writes the Kronecker symbol of a over n, which exists for all numbers. Returns `NM_OK`.
 #[unsafe(no_mangle)]
 pub extern "C" fn nm_kronecker(a: u64, n: u64, symbol: &mut i32) -> u32
     ensures { Did result (symbol.new ≡ kronecker (pos a) (pos n)) }
@@ -67,7 +67,7 @@ pub extern "C" fn nm_kronecker(a: u64, n: u64, symbol: &mut i32) -> u32
     answer(Some(a.kronecker(&n)), symbol)
 }
 
-/// The Kronecker symbol of a over n, both with sign. The code is `NM_OK`.
+/// Writes the Kronecker symbol of a over n, both signed. Returns `NM_OK`.
 #[unsafe(no_mangle)]
 pub extern "C" fn nm_kronecker_signed(a: i64, n: i64, symbol: &mut i32) -> u32
     ensures { Did result (symbol.new ≡ kronecker a n) }

@@ -1,5 +1,4 @@
-//! Transforms and cyclic products of lists of words over any reducer, with the codes that the calls for
-//! C answer.
+//! Transforms and cyclic products of lists of words over any reducer, with the codes that the calls for C return.
 
 ghost use Rattle.std.specs.Prelude.{◌≡◌, ◌≢◌, ℕ, ◌%◌, ◌<◌, ◌≤◌, ◌↔◌, IsTrue, length, slice_index};
 ghost use Rattle.modular_plan.specs.Roots.{root_by, IsFirstBase};
@@ -14,7 +13,7 @@ use modular_plan::roots::find_root;
 use num_modular::Reducer;
 use num_modular::ring::{convolve, ntt, root_fits};
 
-// Whether the root suits lists of n words.
+// The code that says whether the root suits lists of n words.
 pub(crate) fn root_code<R: Reducer<u64>>(r: &R, root: u64, n: usize) -> u32
     ensures fits { let m = R.modulus r.now in Suits m (root % m) n → result ≡ NM_OK }
     ensures no_root { let m = R.modulus r.now in (Suits m (root % m) n → ⊥) → result ≡ NM_NO_ROOT }
@@ -27,7 +26,7 @@ pub(crate) fn root_code<R: Reducer<u64>>(r: &R, root: u64, n: usize) -> u32
     }
 }
 
-// Puts a root that suits n words in place.
+// Writes a root that suits n words.
 pub(crate) fn found_root<R: Reducer<u64>>(r: &R, n: usize, root: &mut u64) -> u32
     ensures did { let m = R.modulus r.now in
         ((x : ℕ) × (2 ≤ x) × (x < 256) × Suits m (root_by m n x) n) →
@@ -44,7 +43,7 @@ pub(crate) fn found_root<R: Reducer<u64>>(r: &R, n: usize, root: &mut u64) -> u3
     }
 }
 
-// Puts the transform by the root in place of the words.
+// Replaces the words by their transform by the root.
 pub(crate) fn transformed<R: Reducer<u64>>(r: &R, xs: &mut [u64], root: u64) -> u32
     ensures did { let m = R.modulus r.now in let n = length xs.old in Suits m (root % m) n → Did result
         ((j : ℕ) → j < n → slice_index xs.new j ≡ transform m (root % m) n (residues m xs.old) j) }
@@ -71,8 +70,7 @@ fn has_inverse<R: Reducer<u64>>(r: &R, n: usize) -> bool
     }
 }
 
-// Puts the cyclic product of both lists in place of the first, and the transform of the second in its
-// place.
+// Replaces the first list by the cyclic product of both lists, and the second by its transform.
 fn convolved<R: Reducer<u64>>(r: &R, xs: &mut [u64], ys: &mut [u64], root: u64)
     requires equal { length ys.old ≡ length xs.old }
     requires suits { let m = R.modulus r.now in Suits m (root % m) (length xs.old) }
@@ -88,7 +86,7 @@ fn convolved<R: Reducer<u64>>(r: &R, xs: &mut [u64], ys: &mut [u64], root: u64)
     unload(r, ys);
 }
 
-// `convolved`, where its conditions hold.
+// `convolved`, after a test of its conditions.
 pub(crate) fn multiplied<R: Reducer<u64>>(r: &R, xs: &mut [u64], ys: &mut [u64], root: u64) -> u32
     ensures did { let m = R.modulus r.now in let n = length xs.old in
         length ys.old ≡ n → Suits m (root % m) n → HasInverse m n → Did result

@@ -1,5 +1,5 @@
-//! What the crates that stand on the library offer: hashes and a search, numbers by their residues, and
-//! the product of long numbers.
+//! The crates that use the library, for C: hashes and a search, numbers by their residues, and the product of long
+//! numbers.
 
 ghost use Rattle.std.specs.Prelude.{◌≡◌, ℕ, ◌+◌, ◌*◌, ◌%◌, ◌^◌, ◌<◌, ◌≤◌, ◌↔◌, IsTrue, length};
 ghost use Rattle.big_product.specs.Numbers.{number_of, HasRoom, IsTransformLength};
@@ -22,8 +22,8 @@ pub struct NmDouble {
     pub high: u64,
 }
 
-/// The hash of the bytes at the base x: the value at x of the polynomial with the bytes as coefficients,
-/// the highest first, modulo 2^61 - 1. The code is `NM_OK`.
+/// Writes the hash of the bytes at the base x: the value at x of the polynomial with the bytes as coefficients, the
+/// highest first, modulo 2^61 - 1. Returns `NM_OK`.
 #[unsafe(no_mangle)]
 pub extern "C" fn nm_hash(x: u64, bytes: &[u8], hash: &mut u64) -> u32
     ensures { Did result (hash.new ≡ polynomial_value bytes.now (x % 2305843009213693951) % 2305843009213693951) }
@@ -32,8 +32,8 @@ pub extern "C" fn nm_hash(x: u64, bytes: &[u8], hash: &mut u64) -> u32
     NM_OK
 }
 
-/// The first position where the pattern stands in the text, by hashes at the base x; it is right for
-/// every x. `NM_NOT_FOUND`: it stands nowhere. The header says for which x it is fast.
+/// Writes the first position where the pattern occurs in the text, found by hashes at the base x; it is right for
+/// every x. `NM_NOT_FOUND`: it occurs nowhere. The header says for which x it is fast.
 #[unsafe(no_mangle)]
 pub extern "C" fn nm_find(x: u64, text: &[u8], pattern: &[u8], position: &mut usize) -> u32
     ensures did { (i : ℕ) → StandsAt text.now pattern.now i → Did result (IsFirst text.now pattern.now position.new) }
@@ -49,16 +49,16 @@ pub extern "C" fn nm_find(x: u64, text: &[u8], pattern: &[u8], position: &mut us
     }
 }
 
-// Whether residues stand for a number: the moduli are a system, and each has a residue below it.
+// Whether residues represent a number: the moduli are a system, and each residue is below its modulus.
 fn is_encoding(moduli: &[u64], residues: &[u64]) -> bool
     ensures { IsTrue result ↔ IsEncoding moduli.now residues.now }
 {
     moduli.len() == residues.len() && is_system(moduli) && are_reduced(moduli, residues)
 }
 
-/// The number below the product of the moduli that leaves these residues: there is no other.
-/// `NM_BAD_ARGUMENT`: the lengths differ, a modulus is 0, two have a common divisor above 1, their product
-/// isn't below 2^128, or a residue isn't below its modulus.
+/// Writes the only number below the product of the moduli that has these residues. `NM_BAD_ARGUMENT`: the lengths
+/// differ, a modulus is 0, two have a common divisor above 1, their product isn't below 2^128, or a residue isn't
+/// below its modulus.
 #[unsafe(no_mangle)]
 pub extern "C" fn nm_decode(moduli: &[u64], residues: &[u64], number: &mut NmDouble) -> u32
     ensures did { IsEncoding moduli.now residues.now
@@ -74,8 +74,8 @@ pub extern "C" fn nm_decode(moduli: &[u64], residues: &[u64], number: &mut NmDou
     NM_OK
 }
 
-/// How long the scratch slices of a product of so many places have to be: the least power of two from
-/// there on. `NM_BAD_ARGUMENT`: there are more than 2^32 places.
+/// Writes the length of the scratch slices for a product of `places` digits: the least power of two that is at
+/// least `places`. `NM_BAD_ARGUMENT`: `places` is above 2^32.
 #[unsafe(no_mangle)]
 pub extern "C" fn nm_product_scratch(places: usize, length: &mut usize) -> u32
     ensures did { places ≤ 2 ^ 32 → Did result (IsTransformLength places length.new) }
@@ -88,9 +88,9 @@ pub extern "C" fn nm_product_scratch(places: usize, length: &mut usize) -> u32
     NM_OK
 }
 
-/// The digits of the product of two numbers, by their digits of 16 bits, the lowest first; the scratch
-/// slices hold anything afterwards. `NM_BAD_ARGUMENT`: `digits` hasn't as many places as both factors
-/// together, these are more than 2^32, or a scratch slice is shorter than `nm_product_scratch` says.
+/// Writes the digits of the product of two numbers, given by their digits of 16 bits, the lowest first. The scratch
+/// slices have unspecified contents afterwards. `NM_BAD_ARGUMENT`: `digits` isn't as long as both factors together,
+/// these have more than 2^32 digits, or a scratch slice is shorter than `nm_product_scratch` writes.
 #[unsafe(no_mangle)]
 pub extern "C" fn nm_product(
     xs: &[u16],
