@@ -5,7 +5,7 @@ use num_modular::modrun::run_words;
 use std::process::ExitCode;
 use std::{env, io};
 
-// Takes the words after the program's name, and runs the program on them.
+// Runs the program on the words after its name.
 fn run(rt: &HostRuntime) -> io::Result<u8> {
     let arguments: Vec<String> = env::args(rt)?.skip(1).collect(rt.alloc())?;
     let words: Vec<&str> = arguments
@@ -17,8 +17,8 @@ fn run(rt: &HostRuntime) -> io::Result<u8> {
     Ok(run_words(rt.alloc(), words.as_slice(), &mut out, &mut err))
 }
 
-// The status where the words after the program's name weren't had: one isn't UTF-8, which is refused
-// as too few words are, or memory was refused.
+// The exit status where the words after the program's name can't be read. A word that isn't UTF-8 is a usage error,
+// as too few words are; else an allocation failed.
 fn refuse(rt: &HostRuntime, error: &io::Error) -> u8 {
     if error.kind() == io::ErrorKind::InvalidData {
         return run_words(rt.alloc(), &[], &mut rt.stdout(), &mut rt.stderr());
