@@ -63,7 +63,7 @@ fn constructors() {
     panic_with!("the divisor must be odd"; <u8 as Into<PreModInv<u8>>>::into(6));
     panic_with!("the divisor's top bit must be set"; Normalized2by1Divisor::<u8>::new(0), Normalized2by1Divisor::<u8>::new(127));
     panic_with!("the divisor must be above 1"; PreMulInv1by1::<u8>::new(0), PreMulInv1by1::<u8>::new(1));
-    panic_with!("there must be 68 digits at most"; ring_codes::iban_code(69));
+    panic_with!("there must be at most 68 digits"; ring_codes::iban_code(69));
 }
 
 #[test]
@@ -164,7 +164,7 @@ fn transforms() {
     assert_eq!(product(22, [1, 2, 0, 0], [3, 4, 0, 0]), Some([3, 10, 8, 0]));
     panic_with!("the length must be a power of two"; transform(22, [1, 1, 1]), transform(22, []));
     panic_with!("the length must be a power of two"; product(22, [1, 1, 1], [1, 1, 1]));
-    panic_with!("the lists must have one length"; product(22, [1, 2, 3, 4], [1, 2]), product(22, [1, 2], [1, 2, 3, 4]));
+    panic_with!("the lists must have the same length"; product(22, [1, 2, 3, 4], [1, 2]), product(22, [1, 2], [1, 2, 3, 4]));
     panic_in_debug_with!("g must suit the length"; transform(5, [1, 2, 3, 4]));
     panic_in_debug_with!("g must suit the length"; product(5, [1, 2, 0, 0], [3, 4, 0, 0]));
     let ring = Vanilla::<u64>::new(&97);
@@ -213,7 +213,7 @@ fn plans() {
     if cfg!(debug_assertions) {
         panic_with!(lengths; join(&planned().0, &mut [1, 2, 3, 4], &planned().1[..1], 0, 1));
     }
-    panic_in_debug_with!("the lists must have one length";
+    panic_in_debug_with!("the lists must have the same length";
         convolve_planned(&planned().0, &mut [1, 2], &mut [1, 2, 3, 4], &planned().1, 1));
     assert!(message(|| convolve_block(&planned().0, &mut [1, 2, 3, 4], &mut [1, 2, 3, 4], &planned().1, 0, 0)).is_ok());
 }

@@ -122,7 +122,7 @@ pub fn convolves(length: usize, factors: usize, b: usize, last: usize) -> bool
 /// computes them, c being the power of g by the reversed bits of b and n the length of the lists. Returns false,
 /// with both lists unchanged, exactly where the number n/last of blocks has no inverse modulo m.
 ///
-/// So b = 0 gives the cyclic product, and b = 1 that modulo X^n + 1. Conditions: the lists have one length; `last`
+/// So b = 0 gives the cyclic product, and b = 1 that modulo X^n + 1. Conditions: the lists have the same length; `last`
 /// is 1 or 2, the length is `last` times a power of two, and the table has (b + 1)·n/last/2 entries or more
 /// (`convolves` tells); the entries are below 4m; the table's entries are factors modulo m. No memory is allocated.
 ///

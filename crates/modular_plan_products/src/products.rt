@@ -155,7 +155,7 @@ fn multiply_pairs<T: PlainWord, F: PlanEntry<T>>(
 /// polynomials modulo X^last - c, with the constants c of `split`. So the products of two lists of remainders are
 /// the remainders of a product. For `last` = 1 entries of equal index are multiplied.
 ///
-/// Conditions: `last` is 1 or 2; the lists have one length, a multiple of `last`; the entries of xs are below m;
+/// Conditions: `last` is 1 or 2; the lists have the same length, a multiple of `last`; the entries of xs are below m;
 /// the table's entries are factors modulo m, and there are (b + 1)·count/2 of them or more, count being the number
 /// of blocks.
 pub fn multiply<T: PlainWord, F: PlanEntry<T>>(

@@ -91,7 +91,7 @@ fn multiply<T: RingWord, R: Reducer<T>>(r: &R, xs: &mut [T], ys: &mut [T], g: &T
 /// unchanged, exactly where their length n has no inverse modulo m.
 ///
 /// Entry e of xs becomes the form of the sum of x_i·y_j modulo m over i + j = e or e + n. Conditions: the lists
-/// have one length; the length is a power of two; g and all entries are checked forms; g suits the length
+/// have the same length; the length is a power of two; g and all entries are checked forms; g suits the length
 /// (`root_fits` tells). No memory is allocated. n may be too large for a word.
 ///
 /// Source: Knuth, The Art of Computer Programming, volume 2, section 4.3.3, part C: transform both lists, multiply

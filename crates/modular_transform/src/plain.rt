@@ -71,7 +71,7 @@ fn row_sum(m: u64, x: u64, i: usize, ys: &[u64], e: usize) -> u64
 }
 
 /// Entry e of the cyclic product of two lists modulo m, computed from the definition. Conditions: m is at least 1,
-/// the lists have one length, and e is below it.
+/// the lists have the same length, and e is below it.
 pub fn product_entry(m: u64, xs: &[u64], ys: &[u64], e: usize) -> u64
     requires modulus { 1 ≤ m }
     requires equal { length xs.now ≡ length ys.now }

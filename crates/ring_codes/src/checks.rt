@@ -1,4 +1,4 @@
-//! What a code accepts and finds, and how it restores an erased symbol.
+//! Which words a code accepts, which changes it detects, and how it restores an erased symbol.
 
 ghost use Rattle.std.specs.Prelude.{◌≡◌, ◌≢◌, ℕ, suc, ◌+◌, ◌*◌, ◌%◌, ◌<◌, ◌≤◌, ◌↔◌};
 ghost use Rattle.std.specs.Prelude.{IsTrue, length, slice_index, slice_set, pos, ◌-ℤ◌};
@@ -26,7 +26,7 @@ impl<'a> Code<'a> {
         sum
     }
 
-    /// Whether the symbol is one of those of the place. Condition: the code has the place.
+    /// Whether the symbol is allowed at the place. Condition: the code has the place.
     pub fn fits(&self, place: usize, symbol: u64) -> bool
         requires { place < length self.now.weights.now }
         ensures { IsTrue result ↔ Fits (code_of self.now) place symbol }
@@ -36,7 +36,7 @@ impl<'a> Code<'a> {
         least[place] <= symbol && symbol <= greatest[place]
     }
 
-    // Whether the symbols at a place and behind it fit there exchanged.
+    // Whether the symbols at a place and at the next are allowed after an exchange.
     fn fit_exchanged(&self, word: &[u64], place: usize) -> bool
         requires within { suc place < length word.now }
         requires weighted { length word.now ≡ length self.now.weights.now }
@@ -46,7 +46,7 @@ impl<'a> Code<'a> {
         self.fits(place, word[place + 1]) && self.fits(place + 1, word[place])
     }
 
-    // Whether the word has a symbol for each place, and each but that at `erased` fits there.
+    // Whether the word has a symbol for each place, and each of them but the one at `erased` is allowed there.
     fn fits_but(&self, word: &[u64], erased: usize) -> bool
         ensures { IsTrue result ↔ (length word.now ≡ length self.now.weights.now)
             × ((i : ℕ) → i < length word.now → i ≢ erased → Fits (code_of self.now) i (slice_index word.now i)) }
@@ -62,7 +62,7 @@ impl<'a> Code<'a> {
         true
     }
 
-    /// Whether the word is accepted: exactly where it is one of the code.
+    /// Whether the word is one of the code.
     pub fn accepts(&self, word: &[u64]) -> bool
         ensures { IsTrue result ↔ IsCodeword (code_of self.now) word.now }
     {
@@ -73,12 +73,12 @@ impl<'a> Code<'a> {
         sum == sum.convert(self.residue)
     }
 
-    /// Whether the code finds the change of one symbol of a word: the word with `symbol` at `place`
-    /// is refused.
+    /// Whether the code detects the change of one symbol of a word: the word with `symbol` at `place` isn't
+    /// accepted.
     ///
-    /// It is, exactly where the symbol isn't one of the place's, or the weight times the difference of
-    /// the symbols isn't 0 modulo m; so always where the weight has an inverse, and the symbols differ
-    /// modulo m. Conditions: the word is accepted, and it has the place.
+    /// It is detected exactly where the symbol isn't allowed at the place, or the weight times the difference of
+    /// the symbols isn't 0 modulo m; so always where the weight has an inverse and the symbols differ modulo m.
+    /// Conditions: the word is accepted, and it has the place.
     ///
     /// Source: Gallian, "The mathematics of identification numbers", theorem 1.
     pub fn finds_change(&self, word: &[u64], place: usize, symbol: u64) -> bool
@@ -104,13 +104,12 @@ impl<'a> Code<'a> {
         !self.fits(place, symbol)
     }
 
-    /// Whether the code finds the exchange of two neighbours: the word with the symbols at `place`
-    /// and behind it exchanged is refused.
+    /// Whether the code detects the exchange of two neighbours: the word with the symbols at `place` and at the
+    /// next place exchanged isn't accepted.
     ///
-    /// It is, exactly where one of them isn't one of its new place's symbols, or the difference of the
-    /// weights times that of the symbols isn't 0 modulo m; so always where the difference of the weights
-    /// has an inverse, and the symbols differ modulo m. Conditions: the word is accepted, and it has both
-    /// places.
+    /// It is detected exactly where one of them isn't allowed at its new place, or the difference of the weights
+    /// times that of the symbols isn't 0 modulo m; so always where the difference of the weights has an inverse and
+    /// the symbols differ modulo m. Conditions: the word is accepted, and it has both places.
     ///
     /// Source: Gallian, "The mathematics of identification numbers", theorem 2.
     pub fn finds_exchange(&self, word: &[u64], place: usize) -> bool
@@ -149,7 +148,7 @@ impl<'a> Code<'a> {
             .is_some()
     }
 
-    // The one number below m that, at the place, makes the weighted sum leave the residue.
+    // The only number below m for which, as the symbol at the place, the weighted sum has the residue of the code.
     fn solve(&self, word: &[u64], place: usize) -> u64
         requires weighted { length word.now ≤ length self.now.weights.now }
         requires within { place < length word.now }
@@ -170,10 +169,9 @@ impl<'a> Code<'a> {
         (sum.convert(word[place]) - sum / weight).residue()
     }
 
-    /// The symbol below m that makes the word one of the code, in place of an erased one: there is no
-    /// other. `None` exactly where no symbol below m does. What stands at `place` doesn't matter.
-    /// Conditions: the word has the place, and the code a weight with an inverse modulo m there
-    /// (`can_restore` tells).
+    /// The only symbol below m that completes the word to one of the code, in place of an erased one. `None`
+    /// exactly where no symbol below m does. The symbol at `place` is ignored. Conditions: the word has the place,
+    /// and the code a weight with an inverse modulo m there (`can_restore` tells).
     pub fn restore(&self, word: &[u64], place: usize) -> Option<u64>
         requires within { place < length word.now }
         requires unit { HasInverse self.now.modulus (slice_index self.now.weights.now place) }

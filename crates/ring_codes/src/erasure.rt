@@ -1,13 +1,13 @@
-//! Erasure codes: Reed and Solomon's, over any modulus. From any k of the n symbols of a word the
-//! message of k symbols is restored.
+//! Reed-Solomon erasure codes, over any modulus: a message of k symbols is restored from any k of the n symbols of
+//! its word.
 //!
-//! A message is the list of the coefficients of a polynomial, the constant first, and symbol i of its
-//! word is the polynomial's value at point i, modulo m. The points must fit (`points_fit`): each
-//! difference of two has an inverse modulo m. So their number is at most the least prime that divides m.
+//! A message is the list of the coefficients of a polynomial, the constant first, and symbol i of its word is the
+//! polynomial's value at point i, modulo m. The points must fit (`points_fit`): the difference of any two has an
+//! inverse modulo m. So their number is at most the least prime that divides m.
 //!
-//! Points, messages and words are lists of checked forms of a reducer: `load_forms` and `unload_forms`
-//! of `num_modular::ring` convert from words and back. Nothing takes memory: the caller passes the
-//! scratch lists. Nothing runs in constant time, and no secrecy is proved.
+//! Points, messages and words are lists of checked forms of a reducer; `load_forms` and `unload_forms` of
+//! `num_modular::ring` convert from words and back. No memory is allocated: the caller passes the scratch lists.
+//! The calls don't run in constant time, and no secrecy is proved.
 //!
 //! Source: Reed and Solomon, "Polynomial codes over certain finite fields".
 
@@ -29,9 +29,9 @@ use num_modular::{Reducer, RingWord};
 pub enum RestoreError {
     /// There are fewer symbols than the message has.
     TooFewSymbols,
-    /// There is no point at one of the places.
+    /// A place is not below the number of points.
     PlaceOutOfRange,
-    /// One of the places occurs twice.
+    /// A place occurs twice.
     PlaceTwice,
     /// The difference of two of the points has no inverse modulo m.
     PointsDontFit,
@@ -54,8 +54,8 @@ pub fn points_fit<T: RingWord, R: Reducer<T>>(r: &R, points: &[T]) -> bool
     r.inv(product).is_some()
 }
 
-/// The form of the value at a point of the polynomial with these coefficients, the constant first, by
-/// Horner's rule. Condition: all are checked forms.
+/// The form of the value of a polynomial at a point, given its coefficients, the constant first, by Horner's rule.
+/// Condition: all are checked forms.
 pub fn evaluate<T: RingWord, R: Reducer<T>>(r: &R, coefficients: &[T], point: &T) -> T
     requires coefficients { All (λ f. IsForm R.form R.value (R.modulus r.now) (T.number f)) coefficients.now }
     requires point { IsForm R.form R.value (R.modulus r.now) (T.number point.now) }
@@ -73,10 +73,12 @@ pub fn evaluate<T: RingWord, R: Reducer<T>>(r: &R, coefficients: &[T], point: &T
     value
 }
 
-/// Puts the word of a message: symbol i is the value at point i. Conditions: the points and the message
-/// are checked forms, and the word has a place for each point.
+/// Writes the word of a message: symbol i is the value at point i. Conditions: the points and the message are
+/// checked forms, and the word has a place for each point.
 ///
-/// It takes n·k products. Source: Reed and Solomon, "Polynomial codes over certain finite fields".
+/// It takes n·k products.
+///
+/// Source: Reed and Solomon, "Polynomial codes over certain finite fields".
 pub fn encode<T: RingWord, R: Reducer<T>>(r: &R, points: &[T], message: &[T], word: &mut [T])
     requires points { All (λ f. IsForm R.form R.value (R.modulus r.now) (T.number f)) points.now }
     requires message { All (λ f. IsForm R.form R.value (R.modulus r.now) (T.number f)) message.now }
@@ -91,15 +93,13 @@ pub fn encode<T: RingWord, R: Reducer<T>>(r: &R, points: &[T], message: &[T], wo
     }
 }
 
-/// Puts the k coefficients of the polynomial with k coefficients that has the first k values at the first
-/// k points, the constant first; returns false exactly where these points don't fit. Modulo m there is no
-/// other such polynomial.
+/// Writes the coefficients, the constant first, of the only polynomial modulo m with k coefficients that has the
+/// first k values at the first k points. Returns false exactly where these points don't fit.
 ///
-/// Conditions: points and values are checked forms, at least k each, and there are k weights. What is in
-/// `weights` and `coefficients` doesn't matter. It goes by Newton's divided differences, in about 3k²/2
-/// products and one inversion.
+/// Conditions: points and values are checked forms, at least k each, and there are k weights. The contents of
+/// `weights` and `coefficients` are ignored. It takes about 3k²/2 products and one inversion.
 ///
-/// Source: Knuth, The Art of Computer Programming, volume 2, section 4.6.4.
+/// Source: Knuth, The Art of Computer Programming, volume 2, section 4.6.4 (Newton's divided differences).
 pub fn interpolate<T: RingWord, R: Reducer<T>>(
     r: &R,
     points: &[T],
@@ -134,12 +134,12 @@ pub fn interpolate<T: RingWord, R: Reducer<T>>(
     true
 }
 
-/// Whether a word is that of some message of k symbols, k being the length of `message`: true exactly
-/// there, with the message in `message`.
+/// Whether a word is that of some message of k symbols, k being the length of `message`. Where it is, the message
+/// is written to `message`.
 ///
-/// Conditions: the points fit (`points_fit` tells), points and word are checked forms, the word has a
-/// symbol for each point, and there are k weights, k being at most the number of points. What is in
-/// `weights` and `message` doesn't matter.
+/// Conditions: the points fit (`points_fit` tells), points and word are checked forms, the word has a symbol for
+/// each point, and there are k weights, k being at most the number of points. The contents of `weights` and
+/// `message` are ignored.
 pub fn is_codeword<T: RingWord, R: Reducer<T>>(
     r: &R,
     points: &[T],
@@ -173,12 +173,11 @@ pub fn is_codeword<T: RingWord, R: Reducer<T>>(
     true
 }
 
-/// Puts the systematic word of a message: its first k symbols are the message's. Returns false, with the
-/// word unchanged, exactly where the first k points don't fit. The coefficients of its polynomial are put
-/// beside it.
+/// Writes the systematic word of a message, whose first k symbols are the message's, and the coefficients of its
+/// polynomial. Returns false, with the word unchanged, exactly where the first k points don't fit.
 ///
-/// Conditions: points and message are checked forms, the word has a place for each point, and there are k
-/// weights and k coefficients, k being the length of the message and at most the number of points.
+/// Conditions: points and message are checked forms, the word has a place for each point, and there are k weights
+/// and k coefficients, k being the length of the message and at most the number of points.
 pub fn encode_systematic<T: RingWord, R: Reducer<T>>(
     r: &R,
     points: &[T],
@@ -211,7 +210,7 @@ pub fn encode_systematic<T: RingWord, R: Reducer<T>>(
     true
 }
 
-// Whether the place at an index occurs before it.
+// Whether the place at an index also occurs at a lower index.
 fn occurs_before(places: &[usize], at: usize) -> bool
     requires { at < length places.now }
     ensures { IsTrue result ↔ ((j : ℕ) × (j < at) × (slice_index places.now j ≡ slice_index places.now at)) }
@@ -224,7 +223,7 @@ fn occurs_before(places: &[usize], at: usize) -> bool
     false
 }
 
-// Puts the points at the first places, as many as there is room for.
+// Copies the points at the first places, as many as `chosen` holds.
 fn choose<T: RingWord>(points: &[T], places: &[usize], chosen: &mut [T]) -> Result<(), RestoreError>
     ensures places { IsOk result → ArePlaces (length chosen.old) (length points.now) places.now }
     ensures chosen { IsOk result → (i : ℕ) (d : T) → i < length chosen.old →
@@ -248,13 +247,12 @@ fn choose<T: RingWord>(points: &[T], places: &[usize], chosen: &mut [T]) -> Resu
     Ok(())
 }
 
-/// Restores a message of k symbols, k being the length of `message`, from the first k places and the
-/// symbols there: whichever places these are. `encode` then gives every other symbol.
+/// Restores a message of k symbols, k being the length of `message`, from the first k places and the symbols there,
+/// whichever places these are. `encode` then gives every other symbol.
 ///
-/// An error says what is wrong, and each comes where that is so alone: too few symbols, a place without
-/// a point, a place twice, points that don't fit. Conditions: points and symbols are checked forms, each
-/// place has its symbol, and there are k weights and room for k points. What is in these and in `message`
-/// doesn't matter.
+/// Each error is returned exactly where its cause is present: too few symbols, a place without a point, a place
+/// that occurs twice, points that don't fit. Conditions: points and symbols are checked forms, each place has its
+/// symbol, and there are k weights and room for k points. The contents of these and of `message` are ignored.
 pub fn restore<T: RingWord, R: Reducer<T>>(
     r: &R,
     points: &[T],
@@ -298,8 +296,8 @@ pub fn restore<T: RingWord, R: Reducer<T>>(
     }
 }
 
-/// The words of two messages of k symbols that differ modulo m differ in at least n - k + 1 of n symbols,
-/// and so do two words that differ. So a change of at most n - k symbols of a word is never a word.
+/// The words of two messages of k symbols that differ modulo m differ in at least n - k + 1 of n symbols, and so do
+/// two different words. So changing at most n - k symbols of a word never gives a word.
 ///
 /// Source: Reed and Solomon, "Polynomial codes over certain finite fields"; Singleton, "Maximum distance
 /// q-nary codes".
@@ -315,11 +313,11 @@ pub fn distance_laws()
         IsErasureCodeword m k n points changed → ⊥ }
 {}
 
-/// Puts the shares of a secret, by Shamir's scheme: the values at the points of the polynomial with the
-/// secret as its constant. The caller draws the other coefficients at random. No point may be 0, where the
-/// share is the secret. Conditions: those of `encode`.
+/// Writes the shares of a secret, by Shamir's scheme: the values at the points of the polynomial whose constant is
+/// the secret. The caller draws the other coefficients at random. No point may be 0, where the share would be the
+/// secret. Conditions: those of `encode`.
 ///
-/// It doesn't run in constant time, and it isn't proved that fewer shares tell nothing of the secret.
+/// It doesn't run in constant time, and it isn't proved that fewer shares reveal nothing about the secret.
 ///
 /// Source: Shamir, "How to share a secret".
 pub fn share<T: RingWord, R: Reducer<T>>(r: &R, points: &[T], coefficients: &[T], shares: &mut [T])
@@ -334,9 +332,8 @@ pub fn share<T: RingWord, R: Reducer<T>>(r: &R, points: &[T], coefficients: &[T]
     encode(r, points, coefficients, shares);
 }
 
-/// Returns the secret from k of its shares, whichever these are: the constant of the polynomial with k
-/// coefficients, which are put in `coefficients`. The errors are those of `restore`. Conditions: those of
-/// `restore`; k is at least 1.
+/// Returns the secret from any k of its shares: the constant of the polynomial with k coefficients, which are
+/// written to `coefficients`. The errors are those of `restore`. Conditions: those of `restore`; k is at least 1.
 ///
 /// Source: Shamir, "How to share a secret".
 pub fn recover<T: RingWord, R: Reducer<T>>(

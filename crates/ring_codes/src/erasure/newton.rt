@@ -11,7 +11,7 @@ ghost use Rattle.ring_codes.specs.Newton.{difference, newton_form};
 
 use num_modular::{Reducer, RingWord};
 
-/// The form of the product of the differences of a point from each before it. Conditions: the points are
+/// The form of the product of the differences of a point and each point before it. Conditions: the points are
 /// checked forms; there is a point at the place.
 pub fn differences_before<T: RingWord, R: Reducer<T>>(r: &R, points: &[T], place: usize) -> T
     requires checked { All (λ f. IsForm R.form R.value (R.modulus r.now) (T.number f)) points.now }
@@ -28,8 +28,8 @@ pub fn differences_before<T: RingWord, R: Reducer<T>>(r: &R, points: &[T], place
     product
 }
 
-/// Puts the product of the differences of each point from those before it, for as many points as there
-/// are weights. Conditions: the points are checked forms; there are as many points as weights or more.
+/// Writes, for each point, the product of its differences from those before it, for as many points as there are
+/// weights. Conditions: the points are checked forms; there are as many points as weights or more.
 pub fn fill_weights<T: RingWord, R: Reducer<T>>(r: &R, points: &[T], weights: &mut [T])
     requires checked { All (λ f. IsForm R.form R.value (R.modulus r.now) (T.number f)) points.now }
     requires within { length weights.old ≤ length points.now }
@@ -72,10 +72,10 @@ pub fn newton_value<T: RingWord, R: Reducer<T>>(
     value
 }
 
-/// Puts the coefficients of Newton's form in place of the values at the points, by Newton's divided
-/// differences: the difference of the value and of the form so far is divided once. Conditions: all are
-/// checked forms; there are as many points and inverses as values or more; each inverse is that of the product
-/// of the point's differences from those before it.
+/// Replaces the values at the points by the coefficients of Newton's form, by divided differences: the difference
+/// of each value and of the form so far is divided once. Conditions: all are checked forms; there are as many
+/// points and inverses as values or more; each inverse is that of the product of the point's differences from those
+/// before it.
 pub fn divide_differences<T: RingWord, R: Reducer<T>>(
     r: &R,
     points: &[T],
@@ -103,8 +103,8 @@ pub fn divide_differences<T: RingWord, R: Reducer<T>>(
     }
 }
 
-/// From a place on, takes the point times the next value from each but the last. Conditions: all are checked
-/// forms; there is a value at the place.
+/// Subtracts, from each value from an index on but the last, the point times the next value. Conditions: all are
+/// checked forms; there is a value at the place.
 pub fn subtract_multiples<T: RingWord, R: Reducer<T>>(
     r: &R,
     point: &T,
@@ -130,8 +130,8 @@ pub fn subtract_multiples<T: RingWord, R: Reducer<T>>(
     }
 }
 
-/// Puts the coefficients, the constant first, in place of those of Newton's form. Conditions: all are checked
-/// forms; there are as many points as coefficients or more.
+/// Replaces the coefficients of Newton's form by those of the polynomial, the constant first. Conditions: all are
+/// checked forms; there are as many points as coefficients or more.
 pub fn expand<T: RingWord, R: Reducer<T>>(r: &R, points: &[T], form: &mut [T])
     requires points { All (λ f. IsForm R.form R.value (R.modulus r.now) (T.number f)) points.now }
     requires form { All (λ f. IsForm R.form R.value (R.modulus r.now) (T.number f)) form.old }
