@@ -1,4 +1,4 @@
-//! A search by polynomial hashes modulo 2^61 - 1: the hash of a moved window comes from that of the last one.
+//! Text search by polynomial hashes modulo 2^61 - 1: the hash of a window is computed from that of the one before.
 #![tactic(auto)]
 
 ghost use Rattle.std.specs.Prelude.{◌≡◌, ℕ, ◌+◌, ◌*◌, ◌%◌, ◌^◌, ◌<◌, ◌≤◌, ◌↔◌, List, []};
@@ -16,16 +16,16 @@ use num_modular::{FixedMersenne64, FixedMersenneInt64, ModularInteger};
 /// A hash: an integer modulo 2^61 - 1.
 pub type Hash = FixedMersenneInt64<61, 1>;
 
-/// A base of hashes: n modulo 2^61 - 1. Two texts of n bytes that differ have the same hash at fewer than
-/// n bases (`collision_laws`), so a base that is drawn at random keeps them apart.
+/// A base of hashes: n modulo 2^61 - 1. Two different texts of n bytes have the same hash at fewer than n bases
+/// (`collision_laws`), so a random base distinguishes them with high probability.
 pub fn base(n: u64) -> Hash
     ensures { residue_of result ≡ n % mersenne 61 1 }
 {
     Hash::new(n, &FixedMersenne64::<61, 1>::fixed_modulus())
 }
 
-/// The hash of a text: the value at the base of the polynomial with its bytes as coefficients, the
-/// highest first, modulo 2^61 - 1. It goes by Horner's rule.
+/// The hash of a text: the value at the base of the polynomial with its bytes as coefficients, the highest first,
+/// modulo 2^61 - 1.
 ///
 /// Source: Karp and Rabin, "Efficient randomized pattern-matching algorithms".
 pub fn hash(base: Hash, text: &[u8]) -> Hash
@@ -38,12 +38,12 @@ pub fn hash(base: Hash, text: &[u8]) -> Hash
     value
 }
 
-/// 2^61 - 1 is prime. So two different texts of n symbols below 2^61 - 1 have the same hash at fewer than n
-/// of the bases 0 to 2^61 - 2: any n bases that are apart tell them apart.
+/// 2^61 - 1 is prime. So two different texts of n symbols below 2^61 - 1 have the same hash at fewer than n of the
+/// bases 0 to 2^61 - 2, and any n different bases distinguish them.
 ///
-/// Sources: Pocklington, "The determination of the prime or composite nature of large numbers by Fermat's
-/// theorem"; Carter and Wegman, "Universal classes of hash functions". The law of polynomials that this
-/// rests on is `num_modular::laws::polynomial_laws`.
+/// Source: Pocklington, "The determination of the prime or composite nature of large numbers by Fermat's theorem";
+/// Carter and Wegman, "Universal classes of hash functions". The proof uses the law of polynomials
+/// `num_modular::laws::polynomial_laws`.
 pub fn collision_laws()
     ensures prime { IsPrime (mersenne 61 1) }
     ensures few { FewCollisions }
@@ -52,8 +52,8 @@ pub fn collision_laws()
     polynomial_laws();
 }
 
-/// Whether two texts have the same hash at each of the bases. Where the texts are of one length n, and
-/// there are n bases or more that are apart, that is whether they are equal.
+/// Whether two texts have the same hash at each of the bases. For texts of equal length n and at least n different
+/// bases that is whether the texts are equal.
 pub fn same_hashes(bases: &[u64], first: &[u8], second: &[u8]) -> bool
     ensures each { IsTrue result ↔ ((i : ℕ) → i < length bases.now →
         hash_of first.now (slice_index bases.now i % mersenne 61 1)
@@ -71,10 +71,9 @@ pub fn same_hashes(bases: &[u64], first: &[u8], second: &[u8]) -> bool
     true
 }
 
-/// The hash of a window that moves by one byte: `first` leaves it at its start, and `next` comes in
-/// at its end. It is the window's times the base, and `next`, less the power times `first`; so it is
-/// the hash of the moved window where `window` is that of the old one, and `power` the power of the base
-/// by its length.
+/// The hash of a window that moves by one byte: `first` is the byte that it drops at its start, `next` the byte
+/// that it gains at its end. The result is the hash of the moved window where `window` is that of the old one, and
+/// `power` is the power of the base to the window's length.
 ///
 /// Source: Karp and Rabin, "Efficient randomized pattern-matching algorithms".
 pub fn moved(base: Hash, power: Hash, window: Hash, first: u8, next: u8) -> Hash
@@ -90,8 +89,8 @@ pub fn moved(base: Hash, power: Hash, window: Hash, first: u8, next: u8) -> Hash
     longer - power * first as u64
 }
 
-// Whether the pattern stands in the text at a position, by the hashes of the window there and of the
-// pattern: where they differ, the bytes aren't read.
+// Whether the pattern occurs in the text at a position. The bytes are compared only where the hashes of the window
+// and of the pattern are equal.
 fn is_hit(wanted: Hash, window: Hash, text: &[u8], pattern: &[u8], at: usize) -> bool
     requires within { at + length pattern.now ≤ length text.now }
     requires alike { slice_range text.now at (at + length pattern.now) ≡ pattern.now →
@@ -101,12 +100,12 @@ fn is_hit(wanted: Hash, window: Hash, text: &[u8], pattern: &[u8], at: usize) ->
     window == wanted && &text[at..at + pattern.len()] == pattern
 }
 
-/// The first position where the pattern stands in the text; `None` exactly where it stands nowhere.
+/// The first position where the pattern occurs in the text; `None` exactly where it occurs nowhere.
 ///
-/// The result is right for every base: where a window has the pattern's hash, their bytes are compared.
-/// For a base that is drawn at random after text and pattern are fixed, other windows seldom have it
-/// (`collision_laws`). For the base 0, where the hash is the last byte alone, and for a base for which
-/// someone chose the text, all may: no contract bounds the time.
+/// The result is right for every base, because the bytes of a window are compared where its hash is the pattern's.
+/// For a base that is drawn at random after text and pattern are fixed, few other windows have that hash
+/// (`collision_laws`). For the base 0, where the hash is the last byte, or for a text that an adversary chose for
+/// the base, all of them may: no contract bounds the time.
 ///
 /// Source: Karp and Rabin, "Efficient randomized pattern-matching algorithms".
 pub fn find(base: Hash, text: &[u8], pattern: &[u8]) -> Option<usize>
