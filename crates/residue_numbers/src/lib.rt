@@ -1,7 +1,7 @@
-//! Numbers by their residues modulo several numbers, of which no two have a common divisor.
+//! Residue number systems: numbers by their residues modulo several numbers, any two of which are coprime.
 //!
-//! `ResidueSystem` holds up to eight moduli that were admitted once, and computes on encodings; the
-//! functions here take any count of moduli, with their conditions.
+//! `ResidueSystem` holds up to eight moduli, which are tested once, and computes on residues. The functions here
+//! take any number of moduli, and require what `ResidueSystem` tests.
 #![tactic(auto)]
 
 ghost use Rattle.std.specs.Prelude.{◌≡◌, ℕ, ◌+◌, ◌*◌, ◌%◌, ◌^◌, ◌<◌, ◌≤◌, ◌↔◌};
@@ -27,15 +27,15 @@ fn has_inverse(n: u128, m: u64) -> bool
         .is_some()
 }
 
-// The product with one more modulus; `None` exactly where it is no word.
+// The product with one more modulus; `None` exactly where it doesn't fit a word.
 fn next_range(range: u128, m: u64) -> Option<u128>
     ensures { MatchOption result (2 ^ 128 ≤ range * m) (λ product. (product ≡ range * m) × (product < 2 ^ 128)) }
 {
     range.checked_mul(m as u128)
 }
 
-/// Whether the moduli are those of a system: each is above 0, no two have a common divisor but 1, and
-/// their product is below 2^128.
+/// Whether the moduli are those of a system: each is above 0, any two are coprime, and their product is below
+/// 2^128.
 pub fn is_system(moduli: &[u64]) -> bool
     ensures { IsTrue result ↔ IsSystem moduli.now }
 {
@@ -54,8 +54,8 @@ pub fn is_system(moduli: &[u64]) -> bool
     true
 }
 
-// The next digit of a number in the mixed radix of the moduli: what `range` is taken times, so that
-// the number has the residue.
+// The next digit of a number in the mixed radix of the moduli: the factor of `range` for which the sum has the
+// residue.
 fn next_digit(m: u64, residue: u64, number: u128, range: u128) -> u64
     requires modulus { 1 ≤ m }
     requires unit { HasInverse m range }
@@ -95,11 +95,11 @@ pub fn are_reduced(moduli: &[u64], residues: &[u64]) -> bool
     true
 }
 
-/// The number below the product of the moduli that has these residues: there is no other. Conditions:
-/// the moduli are a system (`is_system` tells); each has a residue below it (`are_reduced` tells).
+/// The only number below the product of the moduli that has these residues. Conditions: the moduli are a system
+/// (`is_system` tells); each has a residue below it (`are_reduced` tells).
 ///
-/// Source: Garner, "The residue number system"; Knuth, The Art of Computer Programming, volume 2,
-/// section 4.3.2, (24) and (25).
+/// Source: Garner, "The residue number system"; Knuth, The Art of Computer Programming, volume 2, section 4.3.2,
+/// (24) and (25).
 pub fn decode(moduli: &[u64], residues: &[u64]) -> u128
     requires system { IsSystem moduli.now }
     requires count { length residues.now ≡ length moduli.now }

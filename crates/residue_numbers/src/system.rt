@@ -1,4 +1,4 @@
-//! Residue number systems of eight moduli at most.
+//! Residue number systems of at most eight moduli.
 
 ghost use Rattle.std.specs.Prelude.{◌≡◌, ℕ, ◌+◌, ◌*◌, ◌%◌, ◌<◌, ◌≤◌, ◌↔◌, IsSome};
 ghost use Rattle.std.specs.Prelude.{IfSome, length, slice_index, pos, ◌-ℤ◌};
@@ -9,8 +9,8 @@ use crate::{decode, encode, is_system};
 use num_modular::ModularCoreOps;
 use num_modular::laws::residue_laws;
 
-/// A residue number system: up to eight moduli above 0, of which no two have a common divisor but 1,
-/// and whose product, the range, is below 2^128.
+/// A residue number system: up to eight moduli above 0, any two of which are coprime, and whose product, the range,
+/// is below 2^128.
 ///
 /// Source: Garner, "The residue number system"; Knuth, The Art of Computer Programming, volume 2,
 /// section 4.3.2.
@@ -21,7 +21,7 @@ pub struct ResidueSystem<'a> {
     pub ghost small: { IsSmallSystem moduli.now },
 }
 
-// What is done at each modulus with the two residues there.
+// What is computed from the two residues at each modulus.
 #[derive(Clone, Copy)]
 enum Operation {
     Sum,
@@ -29,7 +29,7 @@ enum Operation {
     Product,
 }
 
-// The result modulo m. There is no division for a sum or a difference of residues below m.
+// The result modulo m. Sums and differences of residues below m take no division.
 fn result_at(operation: Operation, m: u64, left: u64, right: u64) -> u64
     requires { 1 ≤ m }
     ensures { result ≡ result_of operation m left right }
@@ -42,8 +42,8 @@ fn result_at(operation: Operation, m: u64, left: u64, right: u64) -> u64
 }
 
 impl<'a> ResidueSystem<'a> {
-    /// The system of these moduli; `None` exactly where a modulus is 0, two have a common divisor
-    /// above 1, the product is 2^128 or more, or there are more than eight.
+    /// The system of these moduli; `None` exactly where a modulus is 0, two have a common divisor above 1, the
+    /// product is at least 2^128, or there are more than eight.
     pub fn new(moduli: &'a [u64]) -> Option<Self>
         ensures exactly { IsSome result ↔ IsSmallSystem moduli.now }
         ensures moduli { IfSome result (λ system. system.moduli.now ≡ moduli.now) }
@@ -62,10 +62,10 @@ impl<'a> ResidueSystem<'a> {
         encode(self.moduli, number, residues);
     }
 
-    /// The number below the product of the moduli that has these residues: there is no other. So
-    /// `decode` takes the residues of a number below the product back to it (clause `only`), and
-    /// `encode` takes the number back to its residues (clause `number`). Condition: each modulus has
-    /// a residue below it (`are_reduced` tells).
+    /// The only number below the product of the moduli that has these residues. So `decode` and `encode` undo each
+    /// other: `decode` returns a number below the product from its residues (clause `only`), and `encode` the
+    /// residues from the number (clause `number`). Condition: each modulus has a residue below it (`are_reduced`
+    /// tells).
     pub fn decode(&self, residues: &[u64]) -> u128
         requires count { length residues.now ≡ length self.now.moduli.now }
         requires reduced { (i : ℕ) → i < length self.now.moduli.now →
@@ -78,7 +78,7 @@ impl<'a> ResidueSystem<'a> {
         decode(self.moduli, residues)
     }
 
-    // The results at each modulus.
+    // Writes the result at each modulus.
     fn combine(&self, operation: Operation, left: &[u64], right: &[u64], results: &mut [u64])
         requires left { length left.now ≡ length self.now.moduli.now }
         requires right { length right.now ≡ length self.now.moduli.now }
