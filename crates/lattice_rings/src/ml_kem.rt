@@ -13,18 +13,18 @@ use num_modular::plans::{Factor, PlannedModulus, join_scaled, plan, split};
 /// The modulus q.
 pub const MODULUS: u32 = 3329;
 
-/// The standard's zeta, a root of one of order 256.
+/// The standard's zeta, a root of unity of order 256.
 pub const ZETA: u32 = 17;
 
-// The inverse of 128.
+// The inverse of 128 modulo q.
 const PART: u32 = 3303;
 
 /// The ring with its table, of 1 KB: zeta^BitRev7(k) modulo q for k from 0 to 127, the numbers of the
 /// standard's appendix A, each with its quotient.
 ///
-/// It is the plan by zeta itself, which suits 256 entries: below its block 1, modulo X^256 + 1, the
-/// constants are the odd powers zeta^(2·BitRev7(i) + 1), in the standard's order. There is no root of
-/// one of order 512 modulo q, so the transform stops at remainders of two coefficients.
+/// The table is the plan by zeta, which suits 256 entries. In block 1, modulo X^256 + 1, the constants are the odd
+/// powers zeta^(2·BitRev7(i) + 1), in the standard's order. There is no root of unity of order 512 modulo q, so the
+/// transform stops at remainders with two coefficients.
 #[derive(Drop)]
 pub struct Ring {
     modulus: PlannedModulus<u32>,
@@ -45,8 +45,8 @@ pub fn are_residues(w: &[u32; 256]) -> bool
     w.iter().all(|x| *x < MODULUS)
 }
 
-// The product of two remainders modulo X^2 - c, the constants first. Products of three residues fit 64
-// bits, so that each sum is divided once.
+// The product of two remainders modulo X^2 - c, the constants first. Products of three residues fit 64 bits, so
+// that each sum takes one division.
 fn multiply_remainders(x: (u32, u32), y: (u32, u32), c: u32) -> (u32, u32)
     requires x { (x.0 < 3329) × (x.1 < 3329) }
     requires y { (y.0 < 3329) × (y.1 < 3329) }
@@ -62,7 +62,7 @@ fn multiply_remainders(x: (u32, u32), y: (u32, u32), c: u32) -> (u32, u32)
 }
 
 impl Ring {
-    /// The ring, its table made.
+    /// The ring with its table.
     pub fn new() -> Self {
         let modulus = PlannedModulus::new(MODULUS);
         let part = modulus.factor(PART);
@@ -75,9 +75,9 @@ impl Ring {
         }
     }
 
-    /// NTT(w) in place: the places 2i and 2i + 1 become the remainder of w modulo
-    /// X^2 - zeta^(2·BitRev7(i) + 1), the constant first. Condition: the coefficients are residues
-    /// (`are_residues` tells), as those of the remainders are.
+    /// NTT(w) in place: entries 2i and 2i + 1 become the remainder of w modulo X^2 - zeta^(2·BitRev7(i) + 1), the
+    /// constant first, with residues as coefficients. Condition: the coefficients are residues (`are_residues`
+    /// tells).
     ///
     /// Source: FIPS 203, section 4.3, algorithm 9.
     pub fn ntt(&self, w: &mut [u32; 256])
@@ -88,8 +88,8 @@ impl Ring {
         split(&self.modulus, w, &self.table, 1, 2);
     }
 
-    /// The inverse of `ntt` in place: the one polynomial whose NTT the list is. Condition: the entries are
-    /// residues, as the coefficients are.
+    /// The inverse of `ntt` in place: the only polynomial whose NTT is the list; its coefficients are residues.
+    /// Condition: the entries are residues.
     ///
     /// Source: FIPS 203, section 4.3, algorithm 10.
     pub fn inverse(&self, w: &mut [u32; 256])
@@ -103,8 +103,8 @@ impl Ring {
         join_scaled(&self.modulus, w, &self.table, 1, 2, &self.part);
     }
 
-    /// The product of xs and ys modulo X^256 + 1 and q in xs, and NTT(ys) in ys. Condition: the
-    /// coefficients are residues, as those of the product are.
+    /// Replaces xs by the product of xs and ys modulo X^256 + 1 and q, whose coefficients are residues, and ys by
+    /// NTT(ys). Condition: the coefficients are residues.
     ///
     /// Source: FIPS 203, section 4.3, algorithms 11 and 12: the products of the remainders are joined.
     pub fn product(&self, xs: &mut [u32; 256], ys: &mut [u32; 256])
@@ -120,9 +120,8 @@ impl Ring {
         self.inverse(xs);
     }
 
-    /// The product of two transforms in xs, remainder by remainder: that of two polynomials' transforms
-    /// is the transform of their product. Condition: the entries are residues, as those of the product
-    /// are.
+    /// Replaces xs by the product of two transforms, remainder by remainder, whose entries are residues: the
+    /// transform of the product of the two polynomials. Condition: the entries are residues.
     ///
     /// Source: FIPS 203, section 4.3, algorithms 11 and 12.
     pub fn multiply(&self, xs: &mut [u32; 256], ys: &[u32; 256])
@@ -141,8 +140,8 @@ impl Ring {
         }
     }
 
-    // What X^2 leaves in remainder i, zeta^(2·BitRev7(i) + 1), at most q: an entry of the table, or minus
-    // one.
+    // The constant of remainder i, which is congruent to X^2 there: zeta^(2·BitRev7(i) + 1), at most q. It is an
+    // entry of the table, or minus one.
     fn square(&self, i: usize) -> u32
         requires { i < 128 }
         ensures few { result ≤ 3329 }
