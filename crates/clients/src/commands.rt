@@ -1,4 +1,4 @@
-//! Lists of commands: the second example of the README from other registers, and with three commands.
+//! Lists of commands: the second example of the README with other registers, and with three commands.
 
 ghost use Rattle.std.specs.Prelude.{◌≡◌, ◌+◌, ◌*◌, ◌%◌, ◌^◌, ◌≤◌};
 

@@ -1,4 +1,4 @@
-//! The computations of `any_reducer` at each reducer: nothing is proved again, for they are proved over all of them.
+//! The computations of `any_reducer` for each reducer: no proof is needed, since they are proved for all reducers.
 
 ghost use Rattle.std.specs.Prelude.{◌≡◌, ◌+◌, ◌*◌, ◌%◌, ◌≤◌};
 
@@ -9,7 +9,7 @@ use num_modular::{
     PreMulInv2by1, Reducer, Vanilla,
 };
 
-/// By remainders. Condition: m is at least 1.
+/// Over the plain reducer. Condition: m is at least 1.
 pub fn by_plain_remainders(
     x: (u64, u64, u64, u64),
     y: (u64, u64, u64, u64),
@@ -43,7 +43,7 @@ pub fn by_montgomery(x: (u64, u64, u64, u64), y: (u64, u64, u64, u64), m: u64) -
     three_results(&Montgomery::<u64>::new(m), x, y)
 }
 
-/// The same modulo 13, an odd parameter.
+/// In Montgomery's representation, modulo the odd parameter 13.
 pub fn modulo_13(x: (u32, u32, u32, u32), y: (u32, u32, u32, u32)) -> (u32, u32, u32)
     ensures trip { result.0 ≡ x.0 % 13 }
     ensures one { result.1 ≡ (x.0 * y.0 + 1) % 13 }

@@ -1,12 +1,12 @@
-//! A key that two parties agree on by powers (Diffie and Hellman, "New directions in cryptography").
+//! Key agreement by powers (Diffie and Hellman, "New directions in cryptography").
 
 ghost use Rattle.std.specs.Prelude.{◌≡◌, ◌*◌, ◌%◌, ◌^◌, ◌≤◌};
 
 use num_modular::ModularPow;
 use num_modular::laws::power_laws;
 
-/// The word that a party makes known: the power of the base g by the party's secret, modulo m.
-/// Condition: m is at least 1.
+/// The word that a party publishes: the power of the base g to the party's secret, modulo m. Condition: m is at
+/// least 1.
 pub fn known_word(g: u64, secret: u64, m: u64) -> u64
     requires { 1 ≤ m }
     ensures { result ≡ g ^ secret % m }
@@ -14,8 +14,8 @@ pub fn known_word(g: u64, secret: u64, m: u64) -> u64
     g.powm(secret, &m)
 }
 
-/// The key of each of two parties, from its own secret and the word that the other makes known: they are
-/// equal. Condition: m is at least 1.
+/// The keys of two parties, each from its own secret and the word that the other publishes: they are equal.
+/// Condition: m is at least 1.
 #[tactic(auto, using(num_modular::specs::Remainders::remainders))]
 pub fn keys(g: u64, first: u64, second: u64, m: u64) -> (u64, u64)
     requires { 1 ≤ m }

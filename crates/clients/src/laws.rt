@@ -1,5 +1,5 @@
-//! Laws of `num_modular::laws` on whole numbers, symbols and counts, called from a crate that lists the root
-//! alone; of those on numbers, and of two on symbols, a clause is cited.
+//! Calls of the laws of `num_modular::laws` on whole numbers, symbols and counts, from a crate that lists only the
+//! root. A clause of each law on numbers, and of two on symbols, is cited.
 
 ghost use Rattle.num_modular.specs.Congruence.{Congruent};
 ghost use Rattle.num_modular.specs.Divisors.{Coprime};
@@ -40,7 +40,7 @@ pub fn laws_of_numbers<T: PlainWord>()
     sum_laws();
 }
 
-/// Laws of symbols and primes; those of steps, forms and runs are called.
+/// Laws of symbols and primes; those of steps, forms and runs are only called.
 pub fn laws_of_symbols<T: PlainWord>()
     ensures product { (a b : ℤ) (n : ℕ) → n % 2 ≡ 1 → jacobi (a *ℤ b) n ≡ jacobi a n *ℤ jacobi b n }
     ensures fermat { (a p : ℕ) → IsPrime p → (a % p ≡ 0 → ⊥) → a ^ (p - 1) % p ≡ 1 }

@@ -1,5 +1,5 @@
-//! Clients of `num_modular`, written from its README and docs/clients.md alone: each states its own
-//! theorem over the public clauses.
+//! Clients of `num_modular`, written from its README and docs/clients.md alone. Each proves its own theorem from
+//! the public contracts.
 #![tactic(auto)]
 
 pub mod any_reducer;

@@ -1,4 +1,4 @@
-//! The inverses of a whole list by one inversion.
+//! The inverses of all entries of a list by one inversion.
 
 ghost use Rattle.std.specs.Prelude.{◌≡◌, ℕ, ◌<◌, ◌↔◌, IsTrue, All, length};
 ghost use Rattle.num_modular.specs.Entries.{entry};
@@ -7,12 +7,12 @@ ghost use Rattle.num_modular.specs.Inverses.{HasInverse, IsInverse};
 
 use num_modular::{Reducer, RingWord};
 
-/// Puts the inverse of each form in its place, and anything into the scratch list; false, with the forms
-/// unchanged, exactly where one has no inverse modulo m. Conditions: the forms are checked, and the
-/// scratch list is as long.
+/// Replaces each form by its inverse. The scratch list has unspecified contents afterwards. Returns false, with the
+/// forms unchanged, exactly where one has no inverse modulo m. Conditions: the forms are checked, and the scratch
+/// list is as long.
 ///
-/// The inverses come from that of the product of all forms (Montgomery, "Speeding the Pollard and elliptic
-/// curve methods of factorization", section 10.3.1).
+/// Source: Montgomery, "Speeding the Pollard and elliptic curve methods of factorization", section 10.3.1: the
+/// inverses come from that of the product of all forms.
 #[tactic(auto, using(num_modular::specs::Remainders::remainders, num_modular::specs::Callers::products_so_far))]
 pub fn invert_each<T: RingWord, R: Reducer<T>>(r: &R, forms: &mut [T], products: &mut [T]) -> bool
     requires checked { All (λ f. IsForm R.form R.value (R.modulus r.now) (T.number f)) forms.old }

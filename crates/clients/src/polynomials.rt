@@ -10,9 +10,9 @@ use num_modular::Reducer;
 use num_modular::laws::coefficient_laws;
 use num_modular::ring::{convolve, load_forms, unload_forms};
 
-/// Puts the coefficients of the product of the polynomials xs and ys in `product`, the lowest first, and
-/// anything in the scratch lists; false, with `product` unchanged, exactly where the length n of the scratch
-/// lists has no inverse modulo m.
+/// Writes the coefficients of the product of the polynomials xs and ys to `product`, the lowest first. The scratch
+/// lists have unspecified contents afterwards. Returns false, with `product` unchanged, exactly where the length n
+/// of the scratch lists has no inverse modulo m.
 ///
 /// Conditions: no coefficient is above `bound`, and m is above n·bound^2; n is at least the number of
 /// coefficients of the product; and g is the checked form of a root that suits n.

@@ -1,4 +1,4 @@
-//! Quotients modulo m: the divisor has to have an inverse.
+//! Quotients modulo m, where the divisor must have an inverse.
 
 ghost use Rattle.num_modular.specs.Integers.{IsModularQuotient};
 ghost use Rattle.num_modular.specs.Inverses.{HasInverse, IsInverse};
@@ -19,8 +19,8 @@ pub fn by_inverse(a: u64, b: u64, m: u64) -> Option<u64>
     Some((a * i).residue())
 }
 
-/// The number below m whose product with b leaves what a leaves modulo m; `None` exactly where b has no
-/// inverse. Condition: m is at least 1.
+/// The number below m whose product with b is congruent to a modulo m; `None` exactly where b has no inverse.
+/// Condition: m is at least 1.
 pub fn by_operator(a: u64, b: u64, m: u64) -> Option<u64>
     requires { 1 ≤ m }
     ensures { MatchOption result (HasInverse m (b % m) → ⊥) (λ q. IsModularQuotient m (a % m) (b % m) q) }

@@ -6,8 +6,8 @@ ghost use Rattle.num_modular.specs.Inverses.{HasInverse};
 use num_modular::laws::linear_congruence_laws;
 use num_modular::{ModularCoreOps, ModularUnaryOps};
 
-/// The number below m·n that leaves what a leaves modulo m and what b leaves modulo n; `None` exactly
-/// where m has no inverse modulo n. Condition: m and n are at least 1.
+/// The number below m·n that is congruent to a modulo m and to b modulo n; `None` exactly where m has no inverse
+/// modulo n. Condition: m and n are at least 1.
 pub fn from_remainders(a: u32, m: u32, b: u32, n: u32) -> Option<u64>
     requires m { 1 ≤ m }
     requires n { 1 ≤ n }

@@ -1,4 +1,4 @@
-//! Square roots modulo primes that leave 3 modulo 4.
+//! Square roots modulo primes that are 3 modulo 4.
 
 ghost use Rattle.std.specs.Prelude.{◌≡◌, ℕ, ◌+◌, ◌*◌, ◌/◌, ◌%◌, ◌^◌, MatchOption};
 ghost use Rattle.num_modular.specs.Primes.{IsPrime};
@@ -6,8 +6,8 @@ ghost use Rattle.num_modular.specs.Primes.{IsPrime};
 use num_modular::laws::prime_power_laws;
 use num_modular::{ModularPow, ModularUnaryOps};
 
-/// The power of a with the exponent (p + 1)/4 modulo p, where it is a square root of a; `None` exactly
-/// where a has no square root modulo p. Condition: p is a prime that leaves 3 modulo 4.
+/// The power of a to the exponent (p + 1)/4 modulo p, where it is a square root of a; `None` exactly where a has no
+/// square root modulo p. Condition: p is a prime that is 3 modulo 4.
 pub fn square_root(a: u64, p: u64) -> Option<u64>
     requires three { p % 4 ≡ 3 }
     requires prime { IsPrime p }
