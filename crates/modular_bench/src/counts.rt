@@ -6,7 +6,7 @@ ghost use Rattle.std.specs.Prelude.{◌≡◌, ◌%◌, ◌≤◌};
 
 use num_modular::prim::counted::w64::{checked_jacobi_counted, invm_counted};
 
-/// The divisions that look for the inverse of x modulo m. Condition: m is at least 1.
+/// The number of divisions of Euclid's algorithm for the inverse of x modulo m. Condition: m is at least 1.
 #[unsafe(no_mangle)]
 pub extern "C" fn bench_divisions(x: u64, m: u64) -> u32
     requires { 1 ≤ m }
@@ -16,7 +16,7 @@ pub extern "C" fn bench_divisions(x: u64, m: u64) -> u32
     invm_counted(x, m).1
 }
 
-/// The halvings and swaps that find the Jacobi symbol of x over m. Condition: m is odd.
+/// The number of halvings and swaps for the Jacobi symbol of x over m. Condition: m is odd.
 #[unsafe(no_mangle)]
 pub extern "C" fn bench_halvings(x: u64, m: u64) -> u32
     requires { m % 2 ≡ 1 }

@@ -23,8 +23,8 @@ pub extern "C" fn bench_premulinv1by1_div_rem(x: u64, y: u64, m: u64, n: u64) ->
     x
 }
 
-/// A step: of the quotient and the remainder of low + 2^64·high by m, low becomes the quotient ^ y,
-/// and high the remainder. The answer is low ^ high. Condition: the top bit of m is set.
+/// A step: of the quotient and the remainder of low + 2^64·high by m, low becomes the quotient ^ y, and high the
+/// remainder. Returns low ^ high. Condition: the top bit of m is set.
 #[unsafe(no_mangle)]
 pub extern "C" fn bench_normalized_div_rem_2by1(x: u64, y: u64, m: u64, n: u64) -> u64
     requires { 2 ^ 63 ≤ m }
@@ -41,8 +41,8 @@ pub extern "C" fn bench_normalized_div_rem_2by1(x: u64, y: u64, m: u64, n: u64) 
     low ^ high
 }
 
-/// A step: x becomes its quotient by m, or where m doesn't divide it the product of x and y modulo
-/// 2^64. Condition: m is odd.
+/// A step: x becomes its quotient by m, or, where m doesn't divide it, the product of x and y modulo 2^64.
+/// Condition: m is odd.
 #[unsafe(no_mangle)]
 pub extern "C" fn bench_preinv_div_exact(x: u64, y: u64, m: u64, n: u64) -> u64
     requires { m % 2 ≡ 1 }

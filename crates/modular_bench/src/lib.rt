@@ -1,9 +1,8 @@
 //! What `bench/` measures: functions that each do n dependent steps on words.
 //!
-//! Each has the shape `bench_NAME(x, y, m, n)`, in words of 64 bits where the name has no other width,
-//! or `bench_NAME(operation, x, y, m, n)`, where a number names the operation. What m must be is its
-//! `requires`, which the driver keeps. The functions of `transforms`, `runs` and `users` take lists, and
-//! those of `counts` answer a number of steps.
+//! Each has the form `bench_NAME(x, y, m, n)`, in words of 64 bits unless the name says another width, or
+//! `bench_NAME(operation, x, y, m, n)`, where a number gives the operation. The driver observes the `requires` on
+//! m. The functions of `transforms`, `runs` and `users` take lists, and those of `counts` return a number of steps.
 #![tactic(auto)]
 
 mod chains;

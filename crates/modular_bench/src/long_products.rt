@@ -1,4 +1,4 @@
-//! Products of numbers of 64-bit digits, by three plans of at most 2^20 factors, which stand on the stack.
+//! Products of numbers of 64-bit digits, by three plans of at most 2^20 factors on the stack.
 
 ghost use Rattle.std.specs.Prelude.{◌≡◌, ◌*◌, ◌<◌, ◌≤◌, IsTrue};
 ghost use Rattle.long_product.specs.Numbers.{number_of};
@@ -6,8 +6,8 @@ ghost use Rattle.long_product.specs.Numbers.{number_of};
 use long_product::{fill_plans, product_planned};
 use num_modular::plans::Factor;
 
-// Makes the plans, and then the product n times; false where the slices haven't the room. It isn't inlined,
-// since a function pays at entry for the size of its locals.
+// Makes the plans, and then computes the product n times; false where a slice is too short. Not inlined, since a
+// function pays at entry for the size of its locals.
 #[inline(never)]
 fn multiplied<const FACTORS: usize>(
     xs: &[u64],
@@ -35,9 +35,8 @@ fn multiplied<const FACTORS: usize>(
     true
 }
 
-/// Makes the plans for 2^10 to 2^21 places, on the stack, and then puts the digits of the product of xs and
-/// ys in `digits` n times; false where there are fewer digits or more than one of these has, or where the
-/// slices haven't the room.
+/// Makes the plans on the stack, and then writes the product of xs and ys to `digits` n times. Returns false where
+/// the length of `digits` isn't one of those in the body, or a slice is too short.
 #[unsafe(no_mangle)]
 pub extern "C" fn bench_long_product(
     xs: &[u64],

@@ -1,4 +1,4 @@
-//! Transforms and products by a plan of at most 2^19 factors, which stand on the stack.
+//! Transforms and products by a plan of at most 2^19 factors on the stack.
 
 ghost use Rattle.std.specs.Prelude.{◌≡◌, ℕ, ◌+◌, ◌*◌, ◌/◌, ◌^◌, ◌<◌, ◌≤◌, All, length};
 ghost use Rattle.std.specs.Int.{IsPowerOfTwo};
@@ -15,7 +15,7 @@ use modular_prim::plain_word::PlainWord;
 use modular_word::path_word::PathWord;
 use modular_word::ring_word::RingWord;
 
-// What is done n times with the lists, by the number of an operation.
+// Runs an operation n times on the lists, by its number.
 fn carried_out<T: PlainWord>(
     m: &PlannedModulus<T>,
     operation: u8,
@@ -46,7 +46,7 @@ fn carried_out<T: PlainWord>(
     }
 }
 
-// The same with a plan by g, which is made before.
+// The same by the plan by g, which it makes first.
 fn planned<T: PlainWord>(
     operation: u8,
     words: (T, T),
@@ -70,7 +70,7 @@ fn planned<T: PlainWord>(
     carried_out(&modulus, operation, xs, ys, table, n);
 }
 
-// The same with the table on the stack.
+// The same with a table on the stack.
 fn on_the_stack<const FACTORS: usize>(
     operation: u8,
     m: u64,
@@ -97,10 +97,10 @@ fn on_the_stack<const FACTORS: usize>(
     planned::<u64>(operation, (m, g), xs, ys, &mut table, n);
 }
 
-/// Makes the plan by g for 2^10, 2^16 or 2^20 entries, on the stack, and then does n times what the
-/// operation says: nothing for 0, `split` for 1, `join_scaled` by 1 for 2, `ntt_planned` for 3,
-/// `convolve_planned` for 4. Where the lists have another length it does nothing. Conditions: m and g
-/// are those of a plan for so many entries; these are below m; the lists have one length.
+/// Makes the plan by g for 2^10, 2^16 or 2^20 entries on the stack, and then runs an operation n times: none for 0,
+/// `split` for 1, `join_scaled` by 1 for 2, `ntt_planned` for 3, `convolve_planned` for 4. Lists of another length
+/// are left unchanged. Conditions: m and g are those of a plan for so many entries; these are below m; the lists
+/// have the same length.
 #[unsafe(no_mangle)]
 pub extern "C" fn bench_planned(
     operation: u8,

@@ -30,7 +30,7 @@ pub(crate) fn number(found: Option<i8>) -> u64
     }
 }
 
-// The number of Jacobi's symbol of v over m, by halvings and swaps.
+// The number of the Jacobi symbol of v over m, by halvings and swaps.
 pub(crate) fn halved(v: u64, m: u64) -> u64
     requires { m % 2 ≡ 1 }
     ensures { result ≡ symbol_number (checked_jacobi_of (pos v) (pos m)) }
@@ -59,9 +59,9 @@ fn steps<const OPERATION: u8>(x: u64, y: u64, m: u64, n: u64) -> u64
     x
 }
 
-/// A step: x becomes its product with y, with the number of its symbol over m, in as many bits as m
-/// has. The symbol is Jacobi's for operation 0, Kronecker's for 1 and Legendre's for 2. Condition: m
-/// is at least 1.
+/// A step: x becomes its product with y, plus the number of the symbol of x over m, modulo 2^64, of which it keeps
+/// as many of the highest bits as m has. The symbol is Jacobi's for operation 0, Kronecker's for 1 and Legendre's
+/// for 2. Condition: m is at least 1.
 #[unsafe(no_mangle)]
 pub extern "C" fn bench_symbols(operation: u8, x: u64, y: u64, m: u64, n: u64) -> u64
     requires m { 1 ≤ m }
@@ -75,7 +75,7 @@ pub extern "C" fn bench_symbols(operation: u8, x: u64, y: u64, m: u64, n: u64) -
     }
 }
 
-// The steps of Jacobi's symbol, by one of two loops.
+// The steps of the Jacobi symbol, by one of two loops.
 fn odd_steps<const BY_SUBTRACTION: bool>(x: u64, y: u64, m: u64, n: u64) -> u64
     requires { m % 2 ≡ 1 }
     ensures { result ≡ iterate (symbol_step 0 y m) n x }
@@ -100,7 +100,7 @@ fn odd_symbol(by_subtraction: bool, v: u64, m: u64) -> u64
     }
 }
 
-/// A step: that of Jacobi's symbol, by `jacobi`. Condition: m is odd.
+/// A step of the Jacobi symbol, by `jacobi`. Condition: m is odd.
 #[unsafe(no_mangle)]
 pub extern "C" fn bench_jacobi(x: u64, y: u64, m: u64, n: u64) -> u64
     requires { m % 2 ≡ 1 }

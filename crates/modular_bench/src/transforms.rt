@@ -1,5 +1,5 @@
-//! Transforms and cyclic products of a list of forms modulo 2^64 - 2^32 + 1. Each answers whether it
-//! was done: the entries are checked forms, and the root of the residue g suits the length.
+//! Transforms and cyclic products of a list of forms modulo 2^64 - 2^32 + 1. Each call returns whether it ran: the
+//! entries must be checked forms, and the root whose residue is g must suit the length.
 
 use num_modular::ring::{all_checked, convolve, ntt, root_fits};
 use num_modular::{FixedTrinomialSolinas64, Montgomery, Reducer};

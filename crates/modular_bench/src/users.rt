@@ -1,11 +1,11 @@
-//! A search and a product of numbers, by the two crates that stand on this library's public clauses.
+//! A search and a product of numbers, by two crates that use the library's public contracts.
 
 ghost use Rattle.std.specs.Prelude.{◌≡◌, ℕ, ◌*◌, ◌↔◌, IsTrue, length, Option, None, Some};
 ghost use Rattle.mersenne_hash.specs.Hashes.{IsSearch};
 ghost use Rattle.big_product.specs.Numbers.{number_of, HasRoom};
 
-/// The first position of the pattern in the text, by hashes at the base n; false where there is none,
-/// and then the position is as it was.
+/// The first position of the pattern in the text, by hashes at the base n; false, with the position unchanged,
+/// where there is none.
 #[unsafe(no_mangle)]
 pub extern "C" fn bench_find(n: u64, text: &[u8], pattern: &[u8], position: &mut usize) -> bool
     ensures found { IsTrue result → IsSearch text.now pattern.now (Some position.new) }
@@ -20,7 +20,7 @@ pub extern "C" fn bench_find(n: u64, text: &[u8], pattern: &[u8], position: &mut
     }
 }
 
-/// The digits of the product of xs and ys; false where the slices haven't the room.
+/// The digits of the product of xs and ys; false where a slice is too short.
 #[unsafe(no_mangle)]
 pub extern "C" fn bench_big_product(
     xs: &[u16],
