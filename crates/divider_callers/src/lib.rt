@@ -9,7 +9,7 @@ use modular_barrett::one_by_one::{FitsDivisor, PreMulInv1by1};
 use modular_prim::exact::DivExact;
 use modular_prim::plain_word::PlainWord;
 
-/// Weeks and days.
+/// Weeks and the remaining days.
 pub fn weeks(days: u8) -> (u8, u8)
     ensures { IsDivision days 7 result.0 result.1 }
 {
@@ -17,7 +17,7 @@ pub fn weeks(days: u8) -> (u8, u8)
     week.div_rem(days, 7)
 }
 
-/// Whole weeks; `None` exactly where days are left.
+/// The number of weeks; `None` exactly where days remain.
 pub fn whole_weeks(days: u8) -> Option<u8>
     ensures { IsExactQuotient (λ q. q) days 7 result }
 {
@@ -25,7 +25,7 @@ pub fn whole_weeks(days: u8) -> Option<u8>
     days.div_exact(7, &week)
 }
 
-/// Half a number, and what is left.
+/// Half a number, rounded down, and the remainder.
 pub fn halves(n: u8) -> (u8, u8)
     ensures { IsDivision n 2 result.0 result.1 }
 {
@@ -33,7 +33,7 @@ pub fn halves(n: u8) -> (u8, u8)
     two.div_rem(n, 2)
 }
 
-/// Quotient and remainder by the least divisor of 8 bits with its top bit set.
+/// Quotient and remainder by the least divisor of 8 bits whose top bit is set.
 pub fn by_the_least_divisor(n: u8) -> (u8, u8)
     ensures { IsDivision n 128 result.0 result.1 }
 {
@@ -49,7 +49,7 @@ pub fn of_two_bytes() -> (u8, u8)
     divider.div_rem_2by1(33023)
 }
 
-/// Quotients and remainders of two words by one divisor, for which one divider serves.
+/// Quotients and remainders of two words by the same divisor, with one divider.
 pub fn both_by_one<T: PlainWord>(divider: &PreMulInv1by1<T>, a: T, b: T, d: T) -> ((T, T), (T, T))
     requires { ⟦<PreMulInv1by1<T> as FitsDivisor>⟧.fits divider.now (T.number d) }
     ensures first { IsDivision (T.number a) (T.number d) (T.number result.0.0) (T.number result.0.1) }
@@ -58,7 +58,7 @@ pub fn both_by_one<T: PlainWord>(divider: &PreMulInv1by1<T>, a: T, b: T, d: T) -
     (divider.div_rem(a, d), divider.div_rem(b, d))
 }
 
-/// The remainder of a number of three words, by two divisions of two words by one.
+/// The remainder of a number of three words, by two divisions of a double word.
 pub fn remainder_of_three<T: PlainWord>(divider: &Normalized2by1Divisor<T>, words: (T, T, T)) -> T
     requires { T.number words.2 < ⟦<Normalized2by1Divisor<T> as StoredDivisor>⟧.divisor divider.now }
     ensures { T.number result ≡ (T.number words.0 + T.base * (T.number words.1 + T.base * T.number words.2))
@@ -70,7 +70,7 @@ pub fn remainder_of_three<T: PlainWord>(divider: &Normalized2by1Divisor<T>, word
     remainder
 }
 
-/// Whether two dividers are equal, which they are exactly where they divide by one number.
+/// Whether two dividers are equal, which they are exactly where their divisors are.
 pub fn same_divisor<T: PlainWord>(
     left: &Normalized2by1Divisor<T>,
     right: &Normalized2by1Divisor<T>,

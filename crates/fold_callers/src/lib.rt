@@ -1,4 +1,4 @@
-//! Callers of the reducers by folds. Their edits must be refused when they are checked.
+//! Callers of the reducers by folds. The edits in `must-fail` break their preconditions.
 #![tactic(auto)]
 
 ghost use Rattle.std.specs.Prelude.{◌≡◌, ◌+◌, ◌-◌, ◌*◌, ◌%◌, ◌^◌};
@@ -21,7 +21,7 @@ pub fn ring_of_9() -> FixedMersenne32<4, 7>
     FixedMersenne32::<4, 7>::new(&9)
 }
 
-/// The product modulo 2^61 - 1, as a hash by that modulus takes it.
+/// The product modulo 2^61 - 1, as polynomial hashes need it.
 pub fn product_modulo(a: u64, b: u64) -> u64
     ensures { result ≡ (a * b) % (2 ^ 61 - 1) }
 {
@@ -42,7 +42,7 @@ pub fn ring_of_31() -> FixedTrinomialSolinas32<5, 2, 3>
     FixedTrinomialSolinas32::<5, 2, 3>::new(&31)
 }
 
-/// The product modulo 2^64 - 2^32 + 1, as a transform by that modulus takes it.
+/// The product modulo 2^64 - 2^32 + 1, as transforms need it.
 pub fn product_modulo_solinas(a: u64, b: u64) -> u64
     ensures { result ≡ (a * b) % (2 ^ 64 - 2 ^ 32 + 1) }
 {

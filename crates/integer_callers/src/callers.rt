@@ -9,7 +9,7 @@ use modular_reduced::reduced_int::{ReducedInt, VanillaInt};
 use modular_reduced::reducer::Reducer;
 use modular_word::ring_word::RingWord;
 
-/// Whether two integers are equal: `==` tells whether moduli and residues are.
+/// Whether two integers are equal: `==` compares the moduli and the residues.
 pub fn are_equal<T: RingWord, R: Reducer<T> + Copy>(
     a: &ReducedInt<T, R>,
     b: &ReducedInt<T, R>,
@@ -19,8 +19,8 @@ pub fn are_equal<T: RingWord, R: Reducer<T> + Copy>(
     *a == *b
 }
 
-/// The quotient; `None` exactly where a may not be divided by b. The tests of that condition are
-/// that the moduli are compared, and the divisor is inverted.
+/// The quotient; `None` exactly where a can't be divided by b. The condition is tested: the moduli are compared,
+/// and the divisor is inverted.
 pub fn quotient_if_any<T: RingWord, R: Reducer<T> + Copy>(
     a: ReducedInt<T, R>,
     b: ReducedInt<T, R>,
@@ -35,8 +35,7 @@ pub fn quotient_if_any<T: RingWord, R: Reducer<T> + Copy>(
     }
 }
 
-/// The residue of the sum of two integers whose words have 64 bits, whatever their type. Condition:
-/// their moduli are equal.
+/// The residue of the sum of two integers whose words have 64 bits, of any type. Condition: their moduli are equal.
 pub fn residue_of_sum<I: ModularInteger<Base = u64> + Copy>(a: I, b: I) -> u64
     requires { I.modulus_number a ≡ I.modulus_number b }
     ensures { result ≡ (I.residue_number a + I.residue_number b) % I.modulus_number a }
@@ -44,7 +43,7 @@ pub fn residue_of_sum<I: ModularInteger<Base = u64> + Copy>(a: I, b: I) -> u64
     (a + b).residue()
 }
 
-/// x + y modulo m, by the integers of a ring whose words have 64 bits: `ring` is any of them.
+/// x + y modulo m, by the integers of any ring whose words have 64 bits, of which `ring` is one.
 #[tactic(auto, using(modular_word::proofs::Remainders::remainders))]
 pub fn sum_in_ring<I: ModularInteger<Base = u64> + Copy>(ring: I, x: u64, y: u64) -> u64
     ensures { result ≡ (x + y) % I.modulus_number ring }

@@ -1,5 +1,5 @@
-//! Code over integers modulo m: generic code, proved from the laws of `ModularInteger` alone, and
-//! small callers, whose must-fail edits are calls that a condition forbids.
+//! Code over integers modulo m: generic code, proved from the laws of `ModularInteger` alone, and small callers;
+//! the edits in `must-fail` break their preconditions.
 #![tactic(auto)]
 
 pub mod callers;

@@ -31,7 +31,7 @@ pub fn value_of_bytes() -> u8
     horner(&[x.convert(2), x.convert(3), x.convert(5)], x).residue()
 }
 
-/// The same by another reducer, whose forms are not the residues.
+/// The same by a reducer whose forms aren't the residues.
 pub fn value_by_forms() -> u64
     ensures { result ≡ 19 }
 {

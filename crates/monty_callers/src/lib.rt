@@ -1,5 +1,5 @@
-//! Callers of what asks for an odd number, for a modulus from 1 up, for numbers that fit a divisor, or
-//! for parameters in range. Their edits must be refused when they are checked.
+//! Callers of functions that require an odd number, a modulus that is at least 1, numbers that fit a divisor, or
+//! parameters in range. The edits in `must-fail` break these preconditions.
 #![tactic(auto)]
 
 ghost use Rattle.std.specs.Prelude.{◌≡◌, ◌-◌, ◌*◌, ◌%◌, ◌^◌, ◌≤◌};
@@ -14,14 +14,14 @@ use modular_prim::exact::DivExact;
 use modular_reduced::reducer::Reducer;
 use modular_word::ring_word::RingWord;
 
-/// A seventh of a byte, by numbers that are written out; `None` exactly where 7 doesn't divide it.
+/// A seventh of a byte, by constants in the source; `None` exactly where 7 doesn't divide it.
 pub fn seventh(n: u8) -> Option<u8>
     ensures { IsExactQuotient (λ q. q) n 7 result }
 {
     n.div_exact(7, &PreModInv::<u8>::new(183, 36))
 }
 
-/// What fits the divisor 7.
+/// The two numbers that fit the divisor 7.
 pub fn prepared_seven() -> PreModInv<u8>
     ensures { ⟦<PreModInv<u8> as PreparedInverse>⟧.fits result 7 }
 {
@@ -82,8 +82,7 @@ fn product_by_forms<T: RingWord, R: Reducer<T>>(ring: &R, a: T, b: T) -> T
     ring.residue(ring.mul(&ring.transform(a), &ring.transform(b)))
 }
 
-/// The remainder of a * b by m, with no division but those of the reducer's making. Condition: m is
-/// at least 1.
+/// The remainder of a * b by m, whose only divisions are those that make the reducer. Condition: m is at least 1.
 pub fn product_modulo(a: u64, b: u64, m: u64) -> u64
     requires { 1 ≤ m }
     ensures { result ≡ (a * b) % m }

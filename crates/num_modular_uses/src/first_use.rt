@@ -1,4 +1,4 @@
-//! The README's examples, one of each kind of use.
+//! The README's examples, one for each kind of use.
 
 ghost use Rattle.std.specs.Prelude.{◌≡◌, ◌+◌, ◌*◌, ◌/◌, ◌%◌, ◌≤◌, pos};
 ghost use Rattle.num_modular.specs.Jacobi.{checked_jacobi_of};

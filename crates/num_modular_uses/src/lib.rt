@@ -1,4 +1,4 @@
-//! Uses of `num_modular` as a user writes them, by that crate's paths alone.
+//! Uses of `num_modular` as a user writes them, by the paths of that crate alone.
 #![tactic(auto)]
 
 pub mod first_use;

@@ -1,5 +1,5 @@
-//! Code that is generic over the traits of modular operations and of symbols, proved from what these
-//! traits promise alone, and callers of the symbols.
+//! Code that is generic over the traits of modular operations and of symbols, proved from the contracts of these
+//! traits alone, and callers of the symbols.
 #![tactic(auto)]
 
 pub mod operations;

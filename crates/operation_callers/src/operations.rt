@@ -1,5 +1,5 @@
-//! Code that is generic over the modular operations: it knows the answers from the traits alone.
-//! Condition of each: the modulus is at least 1, or what is stored fits the divisor.
+//! Code that is generic over the modular operations and uses the contracts of the traits alone. Condition of each:
+//! the modulus is at least 1, or what is stored fits the divisor.
 
 ghost use Rattle.std.specs.Prelude.{◌≡◌, ◌≢◌, ℕ, IsTrue, IsFalse, ◌+◌, ◌*◌, ◌%◌, ◌^◌, ◌≤◌, pos, ◌-ℤ◌};
 ghost use Rattle.modular_word.specs.Division.{IsExactQuotient};
@@ -73,8 +73,8 @@ pub fn quotient<D: Numbered, P, N: DivExact<D, P>>(n: N, d: D, pre: &P) -> Optio
     n.div_exact(d, pre)
 }
 
-/// Divides the number by d in place and answers true; where d doesn't divide it, answers false and
-/// leaves it unchanged.
+/// Divides the number by d in place and returns true; where d doesn't divide it, leaves it unchanged and returns
+/// false.
 pub fn divided<D: Numbered, P, N: DivExactAssign<D, P>>(n: &mut N, d: D, pre: &P) -> bool
     requires { N.fits d pre.now }
     ensures exact { IsTrue result → N.whole_number n.new * D.whole_number d ≡ N.whole_number n.old }

@@ -1,4 +1,4 @@
-//! Code that is generic over the collecting traits, with its callers; and uses of the symbols.
+//! Code that is generic over the traits that combine the operations, with its callers; and uses of the symbols.
 
 ghost use Rattle.std.specs.Prelude.{◌≡◌, ◌*◌, ◌%◌, ◌≤◌, pos};
 ghost use Rattle.modular_symbols.specs.Jacobi.{jacobi, checked_jacobi_of};
@@ -32,7 +32,7 @@ pub fn product_symbol_ref<T: ModularRefOps>(x: &T, y: &T, m: &T) -> Option<i8>
     x.mulm_ref(y, m).checked_jacobi_ref(m)
 }
 
-/// Both at words of 8 bits, whose answers are known to be equal.
+/// Both for words of 8 bits, with equal results.
 pub fn symbols_of_8_bits(x: u8, y: u8, m: u8) -> (Option<i8>, Option<i8>)
     requires { 1 ≤ m }
     ensures value { result.0 ≡ checked_jacobi_of (pos ((x * y) % m)) (pos m) }
@@ -41,7 +41,7 @@ pub fn symbols_of_8_bits(x: u8, y: u8, m: u8) -> (Option<i8>, Option<i8>)
     (product_symbol(x, y, &m), product_symbol_ref(&x, &y, &m))
 }
 
-/// Both at words of 64 bits.
+/// Both for words of 64 bits.
 pub fn symbols_of_64_bits(x: u64, y: u64, m: u64) -> (Option<i8>, Option<i8>)
     requires { 1 ≤ m }
     ensures value { result.0 ≡ checked_jacobi_of (pos ((x * y) % m)) (pos m) }
@@ -57,7 +57,7 @@ pub fn jacobi_of_seven() -> i8
     7u8.jacobi(&15)
 }
 
-/// The Legendre symbol of 3 over 11: 3 to the power 5 leaves 1.
+/// The Legendre symbol of 3 over 11: 3 to the power 5 is 1 modulo 11.
 pub fn legendre_of_three() -> i8
     ensures { result ≡ pos 1 }
 {

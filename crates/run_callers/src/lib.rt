@@ -11,8 +11,8 @@ use modular_word::ring_word::RingWord;
 use num_modular::laws::stop_laws;
 use num_modular::ring::{RingCommand, RunEnd, all_checked, commands_fit, run};
 
-/// Runs commands where they may be run; `None` exactly where a register holds no checked form or a
-/// register number is too large, and the registers are then unchanged.
+/// Runs commands whose preconditions hold; `None` exactly where a register holds no checked form or a register
+/// number is too large, with the registers unchanged.
 pub fn checked_run<T: RingWord, R: Reducer<T>>(
     r: &R,
     regs: &mut [T],
@@ -45,7 +45,7 @@ pub fn checked_run<T: RingWord, R: Reducer<T>>(
 
 /// Runs the same commands over two reducers of one modulus, from equal residues.
 ///
-/// Both runs stop alike, and leave equal residues, whatever the forms and the words are.
+/// Both runs stop at the same command and leave equal residues, whatever the forms and the words are.
 pub fn run_both<T: RingWord, U: RingWord, R: Reducer<T>, S: Reducer<U>>(
     left: &R,
     right: &S,
@@ -63,7 +63,7 @@ pub fn run_both<T: RingWord, U: RingWord, R: Reducer<T>, S: Reducer<U>>(
         ≡ values_of U.number S.value (S.modulus right.now) right_regs.old }
     requires one_list { map (whole T.number) left_commands.now ≡ map (whole U.number) right_commands.now }
 
-    // The left run is what `run` promises ..
+    // The left run satisfies the contract of `run`.
     ensures stops { let m = R.modulus left.now in
         let start = values_of T.number R.value m left_regs.old in
         (at : ℕ) → (result.0 ≡ RunEnd.NoInverse at) ↔ IsStop m start (map (whole T.number) left_commands.now) at }
@@ -75,7 +75,7 @@ pub fn run_both<T: RingWord, U: RingWord, R: Reducer<T>, S: Reducer<U>>(
         let wholes = map (whole T.number) left_commands.now in
         HoldValues T.number R.form m left_regs.new (value_at m start wholes (carried_out result.0 wholes)) }
 
-    // .. and the right run ends alike, with checked forms of the same residues.
+    // The right run ends at the same command, with checked forms of the same residues.
     ensures one_end { result.0 ≡ result.1 }
     ensures right_checked { All (λ f. IsForm S.form S.value (S.modulus right.now) (U.number f)) right_regs.new }
     ensures one_result { values_of T.number R.value (R.modulus left.now) left_regs.new

@@ -1,11 +1,11 @@
-//! A run over any reducer, and the calls of its integers, for the crates of tests.
+//! Runs over any reducer, and the calls of its integers, for the test crates.
 #![tactic(auto)]
 
 use num_modular::ring::{RingCommand, RunEnd, all_checked, commands_fit, run};
 use num_modular::word::RingWord;
 use num_modular::{ModularInteger, ReducedInt, Reducer};
 
-/// The end of a run over registers that begin with value 0.
+/// The end of a run over registers that start with the value 0.
 pub fn run_from_zeros<T: RingWord, R: Reducer<T>>(
     reducer: &R,
     commands: &[RingCommand<T>],
@@ -22,7 +22,7 @@ pub fn run_from_zeros<T: RingWord, R: Reducer<T>>(
     }
 }
 
-/// Puts the residues of forms in their place; a word that is no form is left.
+/// Replaces forms by their residues; a word that is no form is left unchanged.
 pub fn take_residues<T: RingWord, R: Reducer<T>>(reducer: &R, forms: &mut [T]) {
     for i in 0..forms.len() {
         if reducer.check(&forms[i]) {
@@ -31,7 +31,7 @@ pub fn take_residues<T: RingWord, R: Reducer<T>>(reducer: &R, forms: &mut [T]) {
     }
 }
 
-/// The end of a run over registers that begin with value 0, whose residues come in their place.
+/// The end of a run over registers that start with the value 0, and whose residues replace them.
 pub fn run_over<T: RingWord, R: Reducer<T>>(
     reducer: &R,
     commands: &[RingCommand<T>],
@@ -42,7 +42,7 @@ pub fn run_over<T: RingWord, R: Reducer<T>>(
     end
 }
 
-/// Whether a run over registers of value 0 ends so, and leaves these residues.
+/// Whether a run over registers of value 0 has this end and leaves these residues.
 pub fn ends_with<T: RingWord, R: Reducer<T>, const N: usize>(
     reducer: &R,
     commands: &[RingCommand<T>],
@@ -53,7 +53,7 @@ pub fn ends_with<T: RingWord, R: Reducer<T>, const N: usize>(
     run_over(reducer, commands, &mut left) == Some(end) && left == residues
 }
 
-/// Whether a run over registers of value 0 ends so, and leaves these residues and these forms.
+/// Whether a run over registers of value 0 has this end and leaves these residues and these forms.
 pub fn leaves<T: RingWord, R: Reducer<T>, const N: usize>(
     reducer: &R,
     commands: &[RingCommand<T>],
@@ -72,7 +72,7 @@ pub fn sum<T: RingWord, R: Reducer<T> + Copy>(a: ReducedInt<T, R>, n: T) -> T {
     (a + n).residue()
 }
 
-/// The residue of their product.
+/// The residue of a product of an integer and a word.
 pub fn product<T: RingWord, R: Reducer<T> + Copy>(a: ReducedInt<T, R>, n: T) -> T {
     (a * n).residue()
 }

@@ -15,8 +15,8 @@ use modular_transform::laws::transform_laws;
 use modular_transform::transform::ntt;
 use modular_word::ring_word::RingWord;
 
-/// The transform by g and then the one by its inverse, each entry times the inverse `part` of the
-/// length: every entry has the value that it had.
+/// The transform by g and then by its inverse, each entry times the inverse `part` of the length: every entry has
+/// its former value.
 pub fn there_and_back<T: RingWord, R: Reducer<T>>(r: &R, xs: &mut [T], g: &T, inverse: &T, part: &T)
     requires checked { All (λ f. IsForm R.form R.value (R.modulus r.now) (T.number f)) xs.old }
     requires root { IsForm R.form R.value (R.modulus r.now) (T.number g.now) }

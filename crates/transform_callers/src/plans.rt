@@ -15,8 +15,8 @@ use modular_plan_products::transform::ntt_planned;
 use modular_prim::plain_word::PlainWord;
 use modular_word::path_word::PathWord;
 
-/// Block b split by the plan by g, and joined with the inverse `part` of the number of blocks: every
-/// entry has the residue that it had.
+/// Block b, split by the plan by g, and joined with the inverse `part` of the number of blocks: every entry has its
+/// former residue.
 pub fn split_and_joined<T: PlainWord>(
     m: &PlannedModulus<T>,
     g: T,
@@ -43,7 +43,7 @@ pub fn split_and_joined<T: PlainWord>(
     join_scaled(m, xs, table, b, last, part);
 }
 
-/// The transform of n entries by the first half of the plan by g for 2n: it is the plan by g·g for n.
+/// The transform of n entries by the first half of the plan by g for 2n entries, which is the plan by g·g for n.
 pub fn by_first_half<T: PlainWord>(
     m: &PlannedModulus<T>,
     g: T,
