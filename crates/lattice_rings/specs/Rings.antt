@@ -10,31 +10,31 @@ use Rattle.num_modular.specs.PlanProducts.{coefficient}
 abbrev pub value_at : ℕ → ℕ → (ℕ → ℕ) → ℕ → ℕ
 value_at q n w x = sum_below n (λ k. w k * x ^ k) % q
 
--- FIPS 204: v is NTT(w), place i holding w(zeta^(2 BitRev8(i) + 1))
+-- FIPS 204: v is NTT(w), entry i being w(zeta^(2 BitRev8(i) + 1))
 pub record IsDsaTransform (w v : ℕ → ℕ) : Type 0 where
   pub each : (i : ℕ) → i < 256 → v i ≡ value_at 8380417 256 w (1753 ^ (2 * bits_reversed 8 i + 1))
 
--- FIPS 203: v is NTT(w), the places 2i and 2i + 1 holding the remainder of w modulo X^2 - zeta^(2 BitRev7(i) + 1),
--- the constant first: with X^2 for that power of zeta, the coefficients of w at even places make
--- the constant, and those at odd places the coefficient of X
+-- FIPS 203: v is NTT(w), the entries 2i and 2i + 1 being the remainder of w modulo X^2 - zeta^(2 BitRev7(i) + 1),
+-- the constant first: with X^2 replaced by that power of zeta, the coefficients of w at even indexes give the
+-- constant, and those at odd indexes the coefficient of X
 pub record IsKemTransform (w v : ℕ → ℕ) : Type 0 where
   pub constant : (i : ℕ) → i < 128
       → v (2 * i) ≡ value_at 3329 128 (λ k. w (2 * k)) (17 ^ (2 * bits_reversed 7 i + 1))
   pub linear : (i : ℕ) → i < 128
       → v (2 * i + 1) ≡ value_at 3329 128 (λ k. w (2 * k + 1)) (17 ^ (2 * bits_reversed 7 i + 1))
 
--- p is the product of x and y modulo X^256 + 1 and q: as X^256 is -1, what is past the
--- 256 coefficients is taken away from the first ones
+-- p is the product of x and y modulo X^256 + 1 and q: as X^256 is -1, the coefficients from X^256 on are subtracted
+-- from the first ones
 pub record IsRingProduct (q : ℕ) (x y p : ℕ → ℕ) : Type 0 where
   pub below : (e : ℕ) → e < 256 → p e < q
   pub each : (e : ℕ) → e < 256 → (p e + coefficient 256 x y (e + 256)) % q ≡ coefficient 256 x y e % q
 
--- FIPS 204: p is the product of the transforms u and v, place by place
+-- FIPS 204: p is the entrywise product of the transforms u and v
 pub record IsDsaProduct (u v p : ℕ → ℕ) : Type 0 where
   pub each : (i : ℕ) → i < 256 → p i ≡ (u i * v i) % 8380417
 
--- FIPS 203: p is the product of the transforms u and v, at the places
--- 2i and 2i + 1 that of the remainders modulo X^2 - zeta^(2 BitRev7(i) + 1)
+-- FIPS 203: p is the product of the transforms u and v; its entries 2i and 2i + 1 are the product of the remainders
+-- modulo X^2 - zeta^(2 BitRev7(i) + 1)
 pub record IsKemProduct (u v p : ℕ → ℕ) : Type 0 where
   pub constant : (i : ℕ) → i < 128 → p (2 * i)
       ≡ (u (2 * i) * v (2 * i) + u (2 * i + 1) * v (2 * i + 1) * 17 ^ (2 * bits_reversed 7 i + 1)) % 3329
