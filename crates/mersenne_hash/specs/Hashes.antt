@@ -13,27 +13,27 @@ polynomial_value (c ∷ cs) x = c * x ^ length cs + polynomial_value cs x
 abbrev pub hash_of : List ℕ → ℕ → ℕ
 hash_of text base = polynomial_value text base % mersenne 61 1
 
--- the n bases x 0, .., x (n - 1) are apart: no two leave the same modulo 2^61 - 1
+-- the n bases x 0, .., x (n - 1) are different modulo 2^61 - 1
 pub record AreApart (n : ℕ) (x : ℕ → ℕ) : Type 0 where
   pub apart : (i j : ℕ) → i < n → j < n → i ≢ j → x i % mersenne 61 1 ≢ x j % mersenne 61 1
 
--- two texts of n symbols below 2^61 - 1 that have the same hash at n bases that are apart are one text: so of the bases
--- 0 to 2^61 - 2 fewer than n give two different ones the same hash
+-- two texts of n symbols below 2^61 - 1 that have the same hash at n different bases are equal: so fewer than n of
+-- the bases 0 to 2^61 - 2 give two different texts the same hash
 abbrev pub FewCollisions : Type 0
 FewCollisions = (s t : List ℕ) (x : ℕ → ℕ) → length s ≡ length t → AreApart (length s) x
     → All (λ c. c < mersenne 61 1) s → All (λ c. c < mersenne 61 1) t
     → ((i : ℕ) → i < length s → hash_of s (x i) ≡ hash_of t (x i)) → s ≡ t
 
--- the pattern stands in the text at the position i
+-- the pattern occurs in the text at the position i
 pub record StandsAt (text pattern : List ℕ) (i : ℕ) : Type 0 where
   pub within : i + length pattern ≤ length text
   pub same : slice_range text i (i + length pattern) ≡ pattern
 
--- i is the first position where the pattern stands
+-- i is the first position where the pattern occurs
 pub record IsFirst (text pattern : List ℕ) (i : ℕ) : Type 0 where
   pub stands : StandsAt text pattern i
   pub first : (j : ℕ) → j < i → StandsAt text pattern j → ⊥
 
--- what a search answers: the first position, and nothing exactly where there is none
+-- the result of a search: the first position; `None` exactly where there is none
 abbrev pub IsSearch : List ℕ → List ℕ → Option ℕ → Type 0
 IsSearch text pattern found = MatchOption found ((i : ℕ) → StandsAt text pattern i → ⊥) (IsFirst text pattern)
