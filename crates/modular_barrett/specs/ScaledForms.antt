@@ -1,4 +1,4 @@
--- A law of the scaled forms, a proof that the reducer's impl declares; its name is the library's own word.
+-- A law of the scaled forms: a proof that the reducer's impl declares. Its name is the library's own.
 use Rattle.std.specs.Prelude.{ℕ, ◌*◌, ◌/◌, ◌^◌, ◌<◌}
 use Rattle.std.specs.Int.Count.{count_leading_zeros}
 use Rattle.std.proofs.Common.{ap, ◌∙◌, subst, arith, ◌≤◌}
@@ -7,7 +7,7 @@ use Rattle.std.proofs.lemmas.Nat.{shl-shr}
 use Rattle.modular_reduced.specs.Forms.{IsCanonical}
 use Rattle.modular_barrett.specs.Scaling.{scale, scaled_form, scaled_value, IsScaling}
 
--- modulo m each value has one scaled form, which is a word, and each scaled form one value
+-- modulo m each value has exactly one scaled form, which is a word, and each scaled form exactly one value
 pub scaled_canonical : {w m d s : ℕ} → IsScaling w m d s → IsCanonical (scaled_form w) (scaled_value w) w m
 scaled_canonical {w} {m} {d} {s} is = record {
   positive = is.positive;
