@@ -1,5 +1,5 @@
--- Montgomery's representation modulo any number, as forms of two parts (Koç, "Montgomery reduction with
--- even modulus"; Handbook of Applied Cryptography, section 14.3.2). The words have w bits and b numbers.
+-- Montgomery's representation modulo any number, as forms of two parts (Koç, "Montgomery reduction with even
+-- modulus"; Handbook of Applied Cryptography, section 14.3.2). The words have w bits, and b is the base 2^w.
 use Rattle.std.specs.Prelude.{◌≡◌, ℕ, ◌+◌, ◌*◌, ◌/◌, ◌%◌, ◌^◌, ◌<◌}
 use Rattle.std.specs.Int.Count.{count_trailing_zeros}
 use Rattle.modular_monty.specs.Montgomery.{montgomery_form, IsOddRing}
@@ -9,13 +9,13 @@ use Rattle.modular_monty.specs.Values.{value_from}
 abbrev pub two_part : ℕ → ℕ → ℕ
 two_part w m = 2 ^ count_trailing_zeros w m
 
--- and what is left of m, an odd number
+-- the odd part of m: m divided by that power
 abbrev pub odd_part : ℕ → ℕ → ℕ
 odd_part w m = m / two_part w m
 
--- modulo any m, the form of the value v: since the base has no inverse modulo an even number, v times the
--- base stands modulo the odd part alone, above the bits of the power of two, and in these bits v itself modulo
--- that power (Koç, "Montgomery reduction with even modulus"; Handbook of Applied Cryptography, section 14.3.2)
+-- modulo any m, the form of the value v. The base has no inverse modulo an even number; so v times the base is
+-- taken modulo the odd part, above the bits of the power of two, and these bits are v modulo that power (Koç,
+-- "Montgomery reduction with even modulus"; Handbook of Applied Cryptography, section 14.3.2)
 unfoldable pub split_form : ℕ → ℕ → ℕ → ℕ
 split_form w m v = montgomery_form w (odd_part w m) v * two_part w m + v % two_part w m
 
@@ -23,7 +23,7 @@ split_form w m v = montgomery_form w (odd_part w m) v * two_part w m + v % two_p
 abbrev pub split_value : ℕ → ℕ → ℕ → ℕ
 split_value w m f = value_from (split_form w) m f
 
--- what is kept of m = k * 2^s, k being odd: s, and what is kept of k
+-- what is stored of m = k * 2^s for odd k: s, and what is stored of k
 pub record IsSplitRing (w b m s k i square : ℕ) : Type 0 where
   pub odd : IsOddRing w b k i square
   pub twos : s ≡ count_trailing_zeros w m
@@ -31,6 +31,6 @@ pub record IsSplitRing (w b m s k i square : ℕ) : Type 0 where
   pub whole : k * 2 ^ s ≡ m
   pub fits : m < b
 
--- what is computed once of m: the negated inverse i of its odd part, and the square of the base modulo that part
+-- what is precomputed of m: the negated inverse i of its odd part, and the square of the base modulo that part
 abbrev pub IsComputedOnce : ℕ → ℕ → ℕ → ℕ → ℕ → Type 0
 IsComputedOnce w b m i square = IsOddRing w b (odd_part w m) i square

@@ -1,5 +1,5 @@
--- Laws of the forms in two parts: each value has one form, and each form one value.
--- Proofs that the impl declares; each name is the library's own word.
+-- Laws of the forms in two parts: each value has exactly one form, and each form exactly one value. Proofs that the
+-- impl declares; the names are the library's own.
 use Rattle.std.proofs.Common.{◌≡◌, ℕ, ◌+◌, ◌-◌, ◌*◌, ◌/◌, ◌%◌, ◌^◌, ◌<◌, ◌≤◌, sym, ap, ap₂, ◌∙◌, arith}
 use Rattle.std.proofs.Math.Nat.{mod-lt, mod-eq_of_lt, div-add-mod, mul-div_cancel, mul-le-mul_right}
 use Rattle.std.proofs.lemmas.Nat.{pow_pos, pow-add, div_below, mul-add-lt, same_from_place}
@@ -13,11 +13,11 @@ module _ {w b m s k i square : ℕ} (r : IsSplitRing w b m s k i square) where
   two_part_is : two_part w m ≡ 2 ^ s
   two_part_is = ap (λ n. 2 ^ n) (sym r.twos)
 
-  -- the odd part is the one that is kept
+  -- the odd part is the stored one
   pub odd_part_is : odd_part w m ≡ k
   odd_part_is = ap (λ n. m / n) two_part_is ∙ ap (λ n. n / 2 ^ s) (sym r.whole) ∙ mul-div_cancel k (pow_pos s)
 
-  -- the form of v, by the odd part and the exponent that are kept
+  -- the form of v, by the stored odd part and exponent
   pub form_is : (v : ℕ) → split_form w m v ≡ montgomery_form w k v * 2 ^ s + v % 2 ^ s
   unfolding split_form
   form_is v = ap₂ (λ n q. montgomery_form w n v * q + v % q) odd_part_is two_part_is
@@ -28,7 +28,7 @@ module _ {w b m s k i square : ℕ} (r : IsSplitRing w b m s k i square) where
       let least : 1 * 2 ^ s ≤ k * 2 ^ s = mul-le-mul_right (2 ^ s) (positive r.odd) in
       omega (arith, r.whole, pow_pos s)
 
-  -- two parts make a number below m
+  -- two parts form a number below m
   pub parts_below : {u l : ℕ} → u < k → l < 2 ^ s → u * 2 ^ s + l < m
   parts_below {u} {l} hu hl =
       let below : u * 2 ^ s + l < 2 ^ s * k = mul-add-lt u (2 ^ s) l k hu hl in
@@ -49,12 +49,12 @@ module _ {w b m s k i square : ℕ} (r : IsSplitRing w b m s k i square) where
       λ n. ap (λ o. n % o % 2 ^ s) split ∙ mod_of_multiple (2 ^ s) (2 ^ (w - s)) n in
       sym (down x) ∙ ap (λ n. n % 2 ^ s) e ∙ down y
 
-  -- the negated inverse is one modulo the power of two as well
+  -- the negated inverse is a negated inverse modulo the power of two as well
   pub negated_inverse : (k * i + 1) % 2 ^ s ≡ 0 % 2 ^ s
   negated_inverse =
       within (k * i + 1) 0 (next_is_multiple b (k * i) (omega (arith, r.fits)) r.odd.inverse.product)
 
-  -- numbers below m that are congruent modulo the odd part and modulo the power of two are one
+  -- numbers below m that are congruent modulo the odd part and modulo the power of two are equal
   pub one_below : (v x : ℕ) → v < m → x < m → v % k ≡ x % k → v % 2 ^ s ≡ x % 2 ^ s → v ≡ x
   one_below v x hv hx high low =
       let q = 2 ^ s in
@@ -70,7 +70,7 @@ module _ {w b m s k i square : ℕ} (r : IsSplitRing w b m s k i square) where
       let one : v / k ≡ x / k = sym (mod-eq_of_lt (turns v hv)) ∙ same ∙ mod-eq_of_lt (turns x hx) in
       sym (whole v) ∙ ap₂ (λ n o. n * k + o) one high ∙ whole x
 
-  -- two values of one form are one
+  -- values with the same form are equal
   form_injective : (v x : ℕ) → v < m → x < m → split_form w m x ≡ split_form w m v → x ≡ v
   form_injective v x hv hx e =
       let low : (n : ℕ) → n % 2 ^ s < 2 ^ s = λ n. mod-lt n (pow_pos s) in
@@ -86,7 +86,7 @@ module _ {w b m s k i square : ℕ} (r : IsSplitRing w b m s k i square) where
       value_below-found (split_form w m) m v f
       (λ x l e. form_injective v x h.below l (e ∙ h.same)) h.below (sym h.same)
 
-  -- each value has one form, a word, and each form one value
+  -- each value has exactly one form, a word, and each form exactly one value
   pub split_canonical : IsCanonical (split_form w) (split_value w) w m
   split_canonical = record {
     positive = modulus_positive;
