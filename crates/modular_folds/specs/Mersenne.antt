@@ -2,7 +2,7 @@
 -- (Handbook of Applied Cryptography, section 14.3.4; Crandall and Pomerance, Prime Numbers, section 9.2.3).
 use Rattle.std.specs.Prelude.{◌≡◌, ℕ, ◌-◌, ◌*◌, ◌%◌, ◌^◌, ◌<◌, ◌≤◌}
 
--- p and k are in range for moduli of w bits: p is w at most, and k is odd and less than half of 2^p
+-- p and k are in range for moduli of w bits: p is at most w, and k is odd and less than half of 2^p
 pub record IsMersenneRange (w p k : ℕ) : Type 0 where
   pub fits : p ≤ w
   pub odd : k % 2 ≡ 1

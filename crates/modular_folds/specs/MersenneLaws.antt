@@ -1,12 +1,12 @@
--- What is known of a modulus 2^p - k whose parameters are in range:
--- proofs that the impls declare. Each name is the library's own word.
+-- Laws of a modulus 2^p - k whose parameters are in range: proofs that the impls declare. The names are the
+-- library's own.
 use Rattle.std.proofs.Common.{ℕ, ◌≤◌, arith, lit<}
 use Rattle.std.proofs.Math.Nat.{pow-le-pow_right}
 use Rattle.modular_reduced.specs.Forms.{IsCanonical}
 use Rattle.modular_reduced.specs.Plain.{plain_form, plain_value, plain_canonical}
 use Rattle.modular_folds.specs.Mersenne.{IsMersenneRange, mersenne}
 
--- it is above 0 and fits a word of as many bits or more, so each value is its own form
+-- it is above 0 and fits a word of at least as many bits, so that the form of each value can be the value itself
 pub mersenne_canonical : {w p k : ℕ} → (v : ℕ) → w ≤ v → IsMersenneRange w p k
     → IsCanonical plain_form plain_value v (mersenne p k)
 mersenne_canonical v wide r =

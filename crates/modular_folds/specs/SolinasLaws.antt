@@ -1,5 +1,5 @@
--- What is known of a modulus 2^p1 - 2^p2 + k whose parameters are in range:
--- proofs that the impls declare. Each name is the library's own word.
+-- Laws of a modulus 2^p1 - 2^p2 + k whose parameters are in range: proofs that the impls declare. The names are the
+-- library's own.
 use Rattle.std.proofs.Common.{◌≡◌, ℕ, suc, ◌+◌, ◌*◌, ◌%◌, ◌^◌, ◌<◌, ◌≤◌, ℤ, pos}
 use Rattle.std.proofs.Common.{negsuc, ◌+ℤ◌, ◌-ℤ◌, ◌<ℤ◌, nat_abs, arith, lit<, ⊎_elim}
 use Rattle.std.specs.Int.Signed.{pos-nat_abs, yes_non_neg}
@@ -11,7 +11,7 @@ use Rattle.modular_reduced.specs.Plain.{plain_form, plain_value, plain_canonical
 use Rattle.modular_fold_paths.specs.Folds.{IsFolding}
 use Rattle.modular_folds.specs.Solinas.{IsTrinomialRange, trinomial, IsLowTrinomial}
 
--- a higher power of two is twice a lower one at least
+-- a higher power of two is at least twice a lower one
 power_doubles : (i j : ℕ) → i < j → 2 ^ i + 2 ^ i ≤ 2 ^ j
 power_doubles i j below =
     let more : suc i ≤ j = omega arith in
@@ -47,7 +47,7 @@ module _ {w p1 p2 : ℕ} {k : ℤ} (r : IsTrinomialRange w p1 p2 k) where
   pub trinomial_below : trinomial p1 p2 k < 2 ^ p1
   trinomial_below = omega (arith, ints, last_term.1, trinomial_is)
 
-  -- 2^p1 is among the numbers up to 2^w
+  -- 2^p1 is at most 2^w
   pub power_fits : 2 ^ p1 ≤ 2 ^ w
   power_fits = pow-le-pow_right {n = 2} (lit< tt) r.fits
 
@@ -67,7 +67,7 @@ module _ {w p1 p2 : ℕ} {k : ℤ} (r : IsTrinomialRange w p1 p2 k) where
       omega (arith, ints, power_doubles p2 p1 r.falling, up, trinomial_is))
       (cases_lt (suc p2) p1)
 
-  -- folds at the bit p1 by the rest of 2^p1 then reduce modulo it
+  -- folds at the bit p1 by 2^p1 less the modulus then reduce modulo it
   pub trinomial_folding : (p c m : ℕ) → ¬ IsLowTrinomial p1 p2 k → p ≡ p1
       → c + trinomial p1 p2 k ≡ 2 ^ p1 → m ≡ trinomial p1 p2 k
       → IsFolding w p c m
@@ -80,6 +80,6 @@ module _ {w p1 p2 : ℕ} {k : ℤ} (r : IsTrinomialRange w p1 p2 k) where
         half = omega (arith, rest, is, half);
       })
 
-  -- each value is its own form
+  -- the form of each value can be the value itself
   pub trinomial_canonical : IsCanonical plain_form plain_value w (trinomial p1 p2 k)
   trinomial_canonical = plain_canonical _ _ trinomial_positive trinomial_fits
