@@ -1,5 +1,5 @@
--- Laws of entries: what is read, what is written, and what lists that hold values give and take. A caller's lemma files
--- and answers cite them. The names are the library's own words.
+-- Laws of entries: of reads, of writes, and of lists that hold values. Callers cite them in their lemma files and
+-- answers. The names are the library's own.
 use Rattle.std.proofs.Common.{◌≡◌, ◌≢◌, ℕ, ◌+◌, ◌<◌, ◌≤◌, List, [], ◌∷◌, length, map, get_or, All}
 use Rattle.std.proofs.Common.{inl, inr, sym, ◌∙◌, ap, arith, subst, get_or-set_same, get_or-set_other}
 use Rattle.std.proofs.Math.ListN.{set, length-set}
@@ -10,32 +10,32 @@ use Rattle.modular_reduced.specs.Forms.{IsForm}
 use Rattle.modular_reduced.specs.Values.{values_of}
 use Rattle.modular_laws.specs.Entries.{entry, IsCheckedFormOf, HoldBelow, DoneBelow, DoneFrom}
 
--- the value of the form that stands at place i
+-- the value of the form at index i
 pub entry_at : {T : Type 0} (number : T → ℕ) (value : ℕ → ℕ → ℕ) (m : ℕ) (forms : List T) (i : ℕ) (d : T)
     → i < length forms → value m (number (get_or forms i d)) ≡ entry number value m forms i
 entry_at number value m forms i d below = sym (get_or-map (λ f. value m (number f)) forms i d 0 below)
 
--- the value of a form x that was read at place i
+-- the value of a form x that was read at index i
 pub entry_read : {T : Type 0} (number : T → ℕ) (value : ℕ → ℕ → ℕ) (m : ℕ) (forms : List T) (i : ℕ) (x : T)
     → i < length forms → x ≡ get_or forms i x → value m (number x) ≡ entry number value m forms i
 entry_read number value m forms i x below is =
     ap (λ f. value m (number f)) is ∙ entry_at number value m forms i x below
 
--- it is a checked form where all are
+-- a form that was read is checked where all are
 pub form_read : {T : Type 0} (number : T → ℕ) (form value : ℕ → ℕ → ℕ) (m : ℕ) (forms : List T) (i : ℕ) (x : T)
     → All (λ f. IsForm form value m (number f)) forms → i < length forms → x ≡ get_or forms i x
     → IsForm form value m (number x)
 form_read number form value m forms i x all below is =
     subst (λ f. IsForm form value m (number f)) (sym is) (all i x below)
 
--- behind the last place there is no value
+-- after the last index the value is 0
 pub entry_past : {T : Type 0} (number : T → ℕ) (value : ℕ → ℕ → ℕ) (m : ℕ) (forms : List T) (i : ℕ)
     → length forms ≤ i → entry number value m forms i ≡ 0
 entry_past {T} number value m forms i past =
     let e = length-map forms (λ (f : T). value m (number f)) in
     get_or_past (values_of number value m forms) i 0 (omega (arith, e, past))
 
--- after the form x is written at place i: the place itself ..
+-- after the form x is written at index i: the entry at i
 pub entry_written : {T : Type 0} (number : T → ℕ) (value : ℕ → ℕ → ℕ) (m : ℕ) (forms : List T) (i : ℕ) (x : T)
     → i < length forms → entry number value m (set forms i x) i ≡ value m (number x)
 entry_written number value m forms i x below =
@@ -43,7 +43,7 @@ entry_written number value m forms i x below =
     sym (entry_at number value m (set forms i x) i x l)
     ∙ ap (λ f. value m (number f)) (get_or-set_same forms i x x below)
 
--- .. and every other
+-- after the form x is written at index i: every other entry
 pub entry_kept : {T : Type 0} (number : T → ℕ) (value : ℕ → ℕ → ℕ) (m : ℕ) (forms : List T) (i k : ℕ) (x : T)
     → k ≢ i → entry number value m (set forms i x) k ≡ entry number value m forms k
 entry_kept number value m forms i k x other =
@@ -56,11 +56,11 @@ pub forms_written : {T : Type 0} (number : T → ℕ) (form value : ℕ → ℕ 
     → All (λ f. IsForm form value m (number f)) (set forms i x)
 forms_written number form value m forms i x is all = All-set (λ f. IsForm form value m (number f)) forms i x is all
 
--- before the first place is written
+-- before the first entry is written
 pub done_none : (P : ℕ → ℕ → Type 0) (old : ℕ → ℕ) → DoneBelow P 0 old old
 done_none P old = record { done = λ k l. absurd (omega arith); kept = λ k l i. old k }
 
--- one more place is written, from the first on ..
+-- one more entry is written, from the first on
 pub done_more : {T : Type 0} (number : T → ℕ) (value : ℕ → ℕ → ℕ) (m : ℕ) (forms : List T) (i : ℕ) (x : T)
     (P : ℕ → ℕ → Type 0) (old : ℕ → ℕ)
     → i < length forms → DoneBelow P i old (entry number value m forms) → P i (value m (number x))
@@ -75,7 +75,7 @@ done_more number value m forms i x P old within before here = record {
   kept = λ k l. let n : k ≢ i = omega arith in entry_kept number value m forms i k x n ∙ before.kept k (omega arith);
 }
 
--- .. and from the last on
+-- one more entry is written, from the last on
 pub done_before : {T : Type 0} (number : T → ℕ) (value : ℕ → ℕ → ℕ) (m : ℕ) (forms : List T) (i j n : ℕ) (x : T)
     (P : ℕ → ℕ → Type 0) (old : ℕ → ℕ)
     → i < length forms → j ≡ i + 1 → DoneFrom P j n old (entry number value m forms) → P i (value m (number x))
@@ -91,7 +91,7 @@ done_before number value m forms i j n x P old within next before here = record 
       entry_kept number value m forms i k x other ∙ before.kept k (omega arith);
 }
 
--- one more place holds the form of its value
+-- at one more index stands the form of its value
 pub hold_more : {T : Type 0} (number : T → ℕ) (form value : ℕ → ℕ → ℕ) (m : ℕ)
     (forms : List T) (i : ℕ) (x : T) (v : ℕ → ℕ)
     → i < length forms → HoldBelow number form value m forms v i
@@ -109,7 +109,7 @@ hold_more number form value m forms i x v within before is same = record {
   ];
 }
 
--- what is read at a place that holds a value
+-- what is read at an index that holds a value
 pub held_read : {T : Type 0} (number : T → ℕ) (form value : ℕ → ℕ → ℕ) (m : ℕ)
     (forms : List T) (k i : ℕ) (x : T) (v : ℕ → ℕ)
     → HoldBelow number form value m forms v i → k < i → x ≡ get_or forms k x
@@ -117,12 +117,12 @@ pub held_read : {T : Type 0} (number : T → ℕ) (form value : ℕ → ℕ → 
 held_read number form value m forms k i x v held l is =
     subst (λ f. IsCheckedFormOf form value m (number f) (v k)) (sym is) (held.each k x l)
 
--- where each place holds its value, all forms are checked, and the values are those
+-- where each index holds its value, all forms are checked, and the values are those
 pub held_forms : {T : Type 0} (number : T → ℕ) (form value : ℕ → ℕ → ℕ) (m : ℕ) (forms : List T) (v : ℕ → ℕ) (n : ℕ)
     → HoldBelow number form value m forms v n → length forms ≤ n → All (λ f. IsForm form value m (number f)) forms
 held_forms number form value m forms v n held all i d l = (held.each i d (omega (arith, l, all))).checked
 
--- and the entry there is its value
+-- where an index holds a value, the entry is that value
 pub held_entry : {T : Type 0} (number : T → ℕ) (form value : ℕ → ℕ → ℕ) (m : ℕ) (forms : List T) (v : ℕ → ℕ) (n i : ℕ)
     → HoldBelow number form value m forms v n → i < n → i < length forms → entry number value m forms i ≡ v i
 held_entry number form value m [] v n i held l within = absurd (omega arith)

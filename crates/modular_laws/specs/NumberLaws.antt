@@ -1,13 +1,13 @@
--- Laws of whole numbers that proofs of callers chain. The names are the library's own words.
+-- Laws of whole numbers that proofs of callers combine. The names are the library's own.
 
--- congruence: from an equation, of a number and its residue, the other way round, and one after the other
+-- congruence: of equal numbers, of a number and its residue, its symmetry and its transitivity
 pub use Rattle.modular_word.proofs.Congruence.{of_equal, itself, residue_of, turned, chained}
--- .. of sums, products and powers, and modulo a factor of the modulus; a summand on both sides goes
+-- congruence of sums, products and powers, and modulo a factor of the modulus; a summand on both sides cancels
 pub use Rattle.modular_word.proofs.Congruence.{added, multiplied, powered, mod_of_multiple, cancelled}
--- the residue of a difference, and what was taken away
+-- the residue of a difference, plus the subtrahend
 pub use Rattle.modular_word.proofs.ResidueLemmas.{difference_and}
--- sums over a range: of none, of one more, of equal and of congruent terms, and of multiples
+-- sums over a range: the empty one, with one more term, of equal and of congruent terms, and of multiples
 pub use Rattle.modular_word.proofs.Sums.{sum_below-zero, sum_below-suc}
 pub use Rattle.modular_word.proofs.Sums.{sum_below-same, sum_below-congruent, sum_below-mul}
--- powers of 1, and to a product
+-- powers of 1, and powers to a product
 pub use Rattle.modular_word.proofs.Powers.{one-pow, pow-mul}

@@ -1,5 +1,5 @@
--- Laws of polynomials by their coefficients. A caller's lemma files and answers cite them. The names are the library's
--- own words.
+-- Laws of polynomials by their coefficients. Callers cite them in their lemma files and answers. The names are the
+-- library's own.
 use Rattle.std.proofs.Common.{◌≡◌, ℕ, zero, suc, ◌+◌, ◌*◌, ◌^◌, ◌<◌, ap, arith}
 use Rattle.std.proofs.Math.Nat.{pow-zero, pow-suc}
 use Rattle.modular_word.specs.Congruence.{Congruent}

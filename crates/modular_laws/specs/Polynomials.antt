@@ -1,5 +1,5 @@
--- Polynomials by their coefficients, the constant first, and numbers at which their values tell them apart
--- (Knuth, The Art of Computer Programming, volume 2, section 4.6.4).
+-- Polynomials by their coefficients, the constant first, and points whose values determine them (Knuth, The Art of
+-- Computer Programming, volume 2, section 4.6.4).
 use Rattle.std.specs.Prelude.{◌≢◌, ℕ, ◌*◌, ◌^◌, ◌<◌, pos, ◌-ℤ◌, List, length, slice_index}
 use Rattle.modular_word.specs.Inverses.{HasInverse}
 use Rattle.modular_word.specs.Residues.{residue}
@@ -9,7 +9,7 @@ use Rattle.modular_word.specs.Sums.{sum_below}
 abbrev pub ascending_polynomial : ℕ → (ℕ → ℕ) → ℕ → ℕ
 ascending_polynomial n c x = sum_below n (λ i. c i * x ^ i)
 
--- .. with the coefficients of a list
+-- the value at x of the polynomial with the coefficients of a list, the constant first
 abbrev pub polynomial_at : List ℕ → ℕ → ℕ
 polynomial_at cs x = ascending_polynomial (length cs) (λ i. slice_index cs i) x
 
