@@ -1,5 +1,5 @@
--- Montgomery's representation of residues (Handbook of Applied Cryptography,
--- section 14.3.2). The words have w bits and b numbers.
+-- Montgomery's representation of residues (Handbook of Applied Cryptography, section 14.3.2). The words have w
+-- bits, and b is the base 2^w.
 use Rattle.std.specs.Prelude.{◌≡◌, ℕ, ◌-◌, ◌*◌, ◌%◌, ◌^◌, ◌<◌}
 use Rattle.modular_word.specs.Reduction.{IsNegatedInverse}
 use Rattle.modular_monty.specs.Values.{value_below, value_from}
@@ -12,7 +12,7 @@ montgomery_form w m v = (v * 2 ^ w) % m
 abbrev pub montgomery_value : ℕ → ℕ → ℕ → ℕ
 montgomery_value w m f = value_from (montgomery_form w) m f
 
--- what is kept of an odd modulus m: its negated inverse i, and the square of the base modulo it
+-- what is stored of an odd modulus m: its negated inverse i, and the square of the base modulo m
 pub record IsOddRing (w b m i square : ℕ) : Type 0 where
   pub base : b ≡ 2 ^ w
   pub odd : m % 2 ≡ 1

@@ -1,5 +1,5 @@
--- Laws of Montgomery's representation modulo odd numbers: each value has one form, and each form one value.
--- Proofs that the impls declare; each name is the library's own word.
+-- Laws of Montgomery's representation modulo odd numbers: each value has exactly one form, and each form exactly
+-- one value. Proofs that the impls declare; the names are the library's own.
 use Rattle.std.proofs.Common.{◌≡◌, ℕ, suc, zero, ◌+◌, ◌*◌, ◌/◌, ◌%◌, ◌^◌, ◌<◌, sym, ap, ◌∙◌, arith, cond, eqb}
 use Rattle.std.proofs.Math.Nat.{mod-lt, mod-eq_of_lt}
 use Rattle.std.proofs.lemmas.Bool.Decides.{nat_tests}
@@ -9,7 +9,7 @@ use Rattle.modular_reduced.specs.Forms.{Represents, IsCanonical}
 use Rattle.modular_monty.specs.Values.{value_below}
 use Rattle.modular_monty.specs.Montgomery.{montgomery_form, montgomery_value, IsOddRing}
 
--- one number more is looked at
+-- one number more is searched
 found_step : (form : ℕ → ℕ) (b v f rest : ℕ) → ((w : ℕ) → w < suc b → form w ≡ f → w ≡ v)
     → (v < b → rest ≡ v) → v < suc b → form v ≡ f
     → cond (eqb (form b) f) b rest ≡ v
@@ -17,7 +17,7 @@ found_step form b v f rest only ih h e =
     let o = only b (omega arith) in
     grind (arith, nat_tests)
 
--- the one number below the bound whose form is f
+-- the only number below the bound whose form is f
 pub value_below-found : (form : ℕ → ℕ) (bound v f : ℕ) → ((w : ℕ) → w < bound → form w ≡ f → w ≡ v)
     → v < bound → form v ≡ f → value_below form bound f ≡ v
 unfolding value_below
@@ -31,12 +31,12 @@ module _ {w b m i square : ℕ} (r : IsOddRing w b m i square) where
   pub positive : 0 < m
   positive = let odd = r.odd in omega arith
 
-  -- so it cancels modulo m
+  -- so the base cancels modulo m
   pub base_cancels : (x y : ℕ) → (x * b) % m ≡ (y * b) % m → x % m ≡ y % m
   base_cancels x y e =
       same_without_unit m x y b ((m * i + 1) / b) (base_inverse b m i (omega (arith, r.fits)) r.inverse) e
 
-  -- two values of one form are one
+  -- values with the same form are equal
   form_injective : (v x : ℕ) → v < m → x < m → montgomery_form w m x ≡ montgomery_form w m v → x ≡ v
   form_injective v x hv hx e =
       let by_base : (x * b) % m ≡ (v * b) % m =
@@ -49,7 +49,7 @@ module _ {w b m i square : ℕ} (r : IsOddRing w b m i square) where
       value_below-found (montgomery_form w m) m v f
       (λ x l e. form_injective v x h.below l (e ∙ h.same)) h.below (sym h.same)
 
-  -- each value has one form, a word, and each form one value
+  -- each value has exactly one form, a word, and each form exactly one value
   pub montgomery_canonical : IsCanonical (montgomery_form w) (montgomery_value w) w m
   montgomery_canonical = record {
     positive = positive;

@@ -1,8 +1,7 @@
--- The value of a form, where all that is given is the form of each value.
--- Each name is the library's own word.
+-- The value of a form, where only the form of each value is given. The names are the library's own.
 use Rattle.std.specs.Prelude.{ℕ, suc, zero, ◌==◌, if◌then◌else◌}
 
--- the number below the bound whose form is f, which is the greatest where several are
+-- the number below the bound whose form is f; the greatest, where there are several
 unfoldable pub value_below : (ℕ → ℕ) → ℕ → ℕ → ℕ
 value_below form zero f = 0
 value_below form (suc v) f = if form v == f then v else value_below form v f
