@@ -1,4 +1,7 @@
--- What the passes of a split ask of the entries and of the table, and what they leave.
+-- The preconditions and the results of the passes of a split: two stages in one pass, that is radix 4 (Van Loan,
+-- Computational Frameworks for the Fast Fourier Transform, chapter 2), with one factor for each block (Bernstein,
+-- "Multidigit multiplication for mathematicians", section 2) and entries below a multiple of m (Harvey, "Faster
+-- arithmetic for number-theoretic transforms", section 3). The names are the library's own.
 use Rattle.std.specs.Prelude.{◌≡◌, ◌≢◌, ℕ, ◌+◌, ◌*◌, ◌/◌, ◌<◌, ◌≤◌, List, All, length}
 use Rattle.std.specs.Int.{IsPowerOfTwo}
 use Rattle.modular_plan.specs.Factors.{IsFactor}
@@ -12,7 +15,7 @@ pub record AreFourBelow (bound a b c d : ℕ) : Type 0 where
   pub third : c < bound
   pub fourth : d < bound
 
--- four places are in order, and within n
+-- four indexes are in ascending order, and below n
 pub record AreInOrder (i j k l n : ℕ) : Type 0 where
   pub first : i < j
   pub second : j < k
@@ -25,14 +28,14 @@ pub record AreFactors (base m w p u q v r : ℕ) : Type 0 where
   pub low : IsFactor base m u q
   pub high : IsFactor base m v r
 
--- a, b, c and d are the entries x at four places
+-- a, b, c and d are the entries x at four indexes
 pub record AreAt (i j k l : ℕ) (x : ℕ → ℕ) (a b c d : ℕ) : Type 0 where
   pub first : a ≡ x i
   pub second : b ≡ x j
   pub third : c ≡ x k
   pub fourth : d ≡ x l
 
--- four quarters of one length, all of whose entries are below a bound
+-- four quarters of equal length, all of whose entries are below a bound
 pub record AreQuarters {X : Type 0} (number : X → ℕ) (bound : ℕ) (a b c d : List X) : Type 0 where
   pub first : All (λ x. number x < bound) a
   pub second : All (λ x. number x < bound) b
@@ -42,12 +45,12 @@ pub record AreQuarters {X : Type 0} (number : X → ℕ) (bound : ℕ) (a b c d 
   pub third_length : length c ≡ length a
   pub fourth_length : length d ≡ length a
 
--- column i of four quarters is done, and the others are kept
+-- column i of four quarters is done, and the others are unchanged
 pub record ColumnDone (R : ℕ → ℕ → ℕ → ℕ → ℕ → ℕ → ℕ → ℕ → Type 0) (i : ℕ) (a b c d a' b' c' d' : ℕ → ℕ) : Type 0 where
   pub column : R (a i) (b i) (c i) (d i) (a' i) (b' i) (c' i) (d' i)
   pub kept : (k : ℕ) → k ≢ i → (a' k ≡ a k) × (b' k ≡ b k) × (c' k ≡ c k) × (d' k ≡ d k)
 
--- the first columns are done, and the others are kept
+-- the first columns are done, and the others are unchanged
 pub record ColumnsDone (R : ℕ → ℕ → ℕ → ℕ → ℕ → ℕ → ℕ → ℕ → Type 0) (done : ℕ) (a b c d a' b' c' d' : ℕ → ℕ) : Type 0 where
   pub columns : (k : ℕ) → k < done → R (a k) (b k) (c k) (d k) (a' k) (b' k) (c' k) (d' k)
   pub kept : (k : ℕ) → done ≤ k → (a' k ≡ a k) × (b' k ≡ b k) × (c' k ≡ c k) × (d' k ≡ d k)
@@ -59,12 +62,12 @@ pub record AreHalves {X : Type 0} (number : X → ℕ) (bound q : ℕ) (xs ys : 
   pub low_length : length xs ≡ q + q
   pub high_length : length ys ≡ q + q
 
--- all columns of a block are done, whose halves are x and y
+-- all columns of a block are done; x and y are its halves
 pub record HalvesDone (R : ℕ → ℕ → ℕ → ℕ → ℕ → ℕ → ℕ → ℕ → Type 0) (q : ℕ) (x y x' y' : ℕ → ℕ) : Type 0 where
   pub columns : (i : ℕ) → i < q → R (x i) (x (q + i)) (y i) (y (q + i)) (x' i) (x' (q + i)) (y' i) (y' (q + i))
 
--- a pass of two stages over blocks of four times q entries: the entries are below the bound, and the table, whose
--- entries are factors modulo m, has one for each block from place first on, and at twice that place for its halves
+-- before a pass of two stages over blocks of four times q entries: the entries are below the bound, and the table's
+-- entries are factors modulo m, one for each block from index first on, and two for its halves at twice that index
 pub record IsPassReady {X F : Type 0} (number : X → ℕ) (value quotient : F → ℕ) (base m bound q blocks first : ℕ) (xs : List X) (table : List F) : Type 0 where
   pub entries : All (λ x. number x < bound) xs
   pub factors : All (λ f. IsFactor base m (value f) (quotient f)) table
@@ -72,14 +75,14 @@ pub record IsPassReady {X F : Type 0} (number : X → ℕ) (value quotient : F �
   pub within : 2 * (first + blocks) ≤ length table
   pub some : 0 < q
 
--- .. and what it leaves, below a bound too
+-- after that pass: the entries are below a bound, and each block is split
 pub record IsPassDone {X F : Type 0} (number : X → ℕ) (value : F → ℕ) (m bound q blocks first : ℕ) (table : List F) (old new : List X) : Type 0 where
   pub entries : All (λ x. number x < bound) new
   pub done : StageOfFours (λ p. IsFourSplit m (numbers value table (first + p)) (numbers value table (2 * (first + p)))
       (numbers value table (2 * (first + p) + 1))) q blocks (numbers number old) (numbers number new)
 
--- a split of block b into blocks of `last` entries: the entries are below 4m, their number is a power of two times
--- `last`, and the table has as many factors modulo m as the last stage takes
+-- before a split of block b into blocks of `last` entries: the entries are below 4m, their number is a power of two
+-- times `last`, and the table has as many factors modulo m as the last stage needs
 pub record IsSplittable {X F : Type 0} (number : X → ℕ) (value quotient : F → ℕ) (base m b last : ℕ) (xs : List X) (table : List F) : Type 0 where
   pub entries : All (λ x. number x < 4 * m) xs
   pub factors : All (λ f. IsFactor base m (value f) (quotient f)) table

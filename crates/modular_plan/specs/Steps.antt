@@ -1,6 +1,6 @@
--- The steps of a split in place, and what they share with those of a join: pairs of entries, the blocks that they make,
--- and stages of blocks (Cooley and Tukey, "An algorithm for the machine calculation of complex Fourier series", 1965).
--- The names are the library's own words.
+-- The steps of a split in place, and what they share with those of a join: pairs of entries, the blocks that they
+-- form, and stages of blocks (Cooley and Tukey, "An algorithm for the machine calculation of complex Fourier
+-- series", 1965). The names are the library's own.
 use Rattle.std.specs.Prelude.{◌≡◌, ◌≢◌, ℕ, ◌+◌, ◌*◌, ◌^◌, ◌<◌, ◌≤◌}
 use Rattle.modular_word.specs.Congruence.{Congruent}
 use Rattle.modular_word.specs.Sums.{sum_below}
@@ -11,7 +11,7 @@ pub record IsPairSplit (m w a b sum difference : ℕ) : Type 0 where
   pub summed : Congruent m sum (a + b * w)
   pub subtracted : Congruent m (difference + b * w) a
 
--- a, b, c and d, a quarter of a block apart, are split by w, and what comes of them by u and by v
+-- a, b, c and d, a quarter of a block apart, are split by w, and the results by u and by v
 pub record IsFourSplit (m w u v a b c d a' b' c' d' : ℕ) : Type 0 where
   pub e : ℕ
   pub f : ℕ
@@ -22,30 +22,30 @@ pub record IsFourSplit (m w u v a b c d a' b' c' d' : ℕ) : Type 0 where
   pub low : IsPairSplit m u e f a' b'
   pub high : IsPairSplit m v g h c' d'
 
--- from the entries x to the entries y, the pair at two places is
--- done and nothing else changes: R tells what becomes of a pair
+-- from the entries x to the entries y, the pair at two indexes is done and nothing else changes; R says what
+-- becomes of a pair
 pub record PairDone (R : ℕ → ℕ → ℕ → ℕ → Type 0) (low high : ℕ) (x y : ℕ → ℕ) : Type 0 where
   pub pair : R (x low) (x high) (y low) (y high)
   pub kept : (k : ℕ) → k ≢ low → k ≢ high → y k ≡ x k
 
--- the first pairs of the block of half + half entries from place first on are done, and nothing else changes
+-- the first pairs of the block of half + half entries from index first on are done, and nothing else changes
 pub record BlockDone (R : ℕ → ℕ → ℕ → ℕ → Type 0) (first half done : ℕ) (x y : ℕ → ℕ) : Type 0 where
   pub pairs : (i : ℕ) → i < done → R (x (first + i)) (x (first + (half + i))) (y (first + i)) (y (first + (half + i)))
   pub kept : (k : ℕ) → ((i : ℕ) → i < done → k ≢ first + i) → ((i : ℕ) → i < done → k ≢ first + (half + i)) → y k ≡ x k
 
--- the first blocks of half + half entries are done, block p by R p, and the other entries are kept
+-- the first blocks of half + half entries are done, block p by R p, and the other entries are unchanged
 pub record StageDone (R : ℕ → ℕ → ℕ → ℕ → ℕ → Type 0) (half blocks : ℕ) (x y : ℕ → ℕ) : Type 0 where
   pub pairs : (p i : ℕ) → p < blocks → i < half
       → R p (x (p * (half + half) + i)) (x (p * (half + half) + (half + i))) (y (p * (half + half) + i))
       (y (p * (half + half) + (half + i)))
   pub kept : (k : ℕ) → blocks * (half + half) ≤ k → y k ≡ x k
 
--- from the entries x to the entries y, the entries at four places are done and nothing else changes
+-- from the entries x to the entries y, the entries at four indexes are done and nothing else changes
 pub record FourDone (R : ℕ → ℕ → ℕ → ℕ → ℕ → ℕ → ℕ → ℕ → Type 0) (i j k l : ℕ) (x y : ℕ → ℕ) : Type 0 where
   pub four : R (x i) (x j) (x k) (x l) (y i) (y j) (y k) (y l)
   pub kept : (e : ℕ) → e ≢ i → e ≢ j → e ≢ k → e ≢ l → y e ≡ x e
 
--- column i of the block of four times q entries from place first on
+-- column i of the block of four times q entries from index first on is done, and nothing else changes
 abbrev pub FourAt : (ℕ → ℕ → ℕ → ℕ → ℕ → ℕ → ℕ → ℕ → Type 0) → ℕ → ℕ → ℕ → (ℕ → ℕ) → (ℕ → ℕ) → Type 0
 FourAt R first q i x y =
     R (x (first + i)) (x (first + (q + i))) (x (first + (q + q + i))) (x (first + (q + q + (q + i))))
@@ -61,7 +61,7 @@ pub record BlockOfFours (R : ℕ → ℕ → ℕ → ℕ → ℕ → ℕ → ℕ
   pub before : (k : ℕ) → k < first → y k ≡ x k
   pub after : (k : ℕ) → first + (q + q + (q + q)) ≤ k → y k ≡ x k
 
--- the first blocks of four times q entries are done, block p by R p, and the other entries are kept
+-- the first blocks of four times q entries are done, block p by R p, and the other entries are unchanged
 pub record StageOfFours (R : ℕ → ℕ → ℕ → ℕ → ℕ → ℕ → ℕ → ℕ → ℕ → Type 0) (q blocks : ℕ) (x y : ℕ → ℕ) : Type 0 where
   pub fours : (p i : ℕ) → p < blocks → i < q → FourAt (R p) (p * (q + q + (q + q))) q i x y
   pub kept : (k : ℕ) → blocks * (q + q + (q + q)) ≤ k → y k ≡ x k
