@@ -1,14 +1,14 @@
--- The steps of a join in place: pairs and fours of entries (Cooley and Tukey, "An algorithm for the machine calculation
--- of complex Fourier series", 1965). The names are the library's own words.
+-- The steps of a join in place: pairs and fours of entries, which undo those of a split but for a factor (Gentleman
+-- and Sande, "Fast Fourier transforms: for fun and profit", section 2). The names are the library's own.
 use Rattle.std.specs.Prelude.{ℕ, ◌+◌, ◌*◌}
 use Rattle.modular_word.specs.Congruence.{Congruent}
 
--- a and b become a + b and the quotient of a - b by w
+-- a and b become a + b, and (a - b) divided by w
 pub record IsPairJoin (m w a b sum quotient : ℕ) : Type 0 where
   pub summed : Congruent m sum (a + b)
   pub subtracted : Congruent m (quotient * w + b) a
 
--- a, b, c and d, a quarter of a block apart, are joined by u and by v, and what comes of them by w
+-- a, b, c and d, a quarter of a block apart, are joined by u and by v, and the results by w
 pub record IsFourJoin (m w u v a b c d a' b' c' d' : ℕ) : Type 0 where
   pub e : ℕ
   pub f : ℕ

@@ -1,5 +1,5 @@
--- Products of polynomials modulo X^n - c (Bernstein, "Multidigit multiplication
--- for mathematicians", section 2). The words are the library's own.
+-- Products of polynomials modulo X^n - c (Bernstein, "Multidigit multiplication for mathematicians", section 2).
+-- The names are the library's own.
 use Rattle.std.specs.Prelude.{◌≡◌, ℕ, ◌+◌, ◌*◌, ◌%◌, ◌<◌, ◌==◌, if◌then◌else◌}
 use Rattle.modular_word.specs.Sums.{sum_below}
 use Rattle.modular_plan.specs.Plans.{constant}
@@ -12,8 +12,8 @@ coefficient n x y s = sum_below n (λ i. sum_below n (λ j. if i + j == s then x
 abbrev pub product_modulo : ℕ → ℕ → ℕ → (ℕ → ℕ) → (ℕ → ℕ) → ℕ → ℕ
 product_modulo m n c x y e = (coefficient n x y e + c * coefficient n x y (e + n)) % m
 
--- the products in a list: from place j * last on, that of the polynomials
--- there modulo X^last - c, c being the constant of block b * count + j
+-- the products in a list: from index j * last on, the product modulo X^last - c of the polynomials there, c being
+-- the constant of block b * count + j
 pub record AreProducts (m g z b count last : ℕ) (x y p : ℕ → ℕ) : Type 0 where
   pub each : (j i : ℕ) → j < count → i < last
       → p (j * last + i)
