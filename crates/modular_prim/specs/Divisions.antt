@@ -1,15 +1,15 @@
--- How many divisions Euclid's algorithm takes (Knuth, The Art of Computer Programming, volume 2, section 4.5.3).
+-- The number of divisions of Euclid's algorithm (Knuth, The Art of Computer Programming, volume 2, section 4.5.3).
 use Rattle.std.specs.Prelude.{ℕ, zero, suc, ◌+◌, ◌%◌, ◌==◌, nat_le, if◌then◌else◌}
 
--- the divisions from u and v, if there are at most `bound`
+-- the number of divisions for u and v, if there are at most `bound`
 unfoldable pub divisions_within : ℕ → ℕ → ℕ → ℕ
 divisions_within zero u v = 0
 divisions_within (suc bound) u v = if v == 0 then 0 else 1 + divisions_within bound v (u % v)
 
--- the divisions that lead from u and v to a second number 0, which are at most v
+-- the number of divisions for u and v until the second number is 0, which is at most v
 unfoldable pub divisions : ℕ → ℕ → ℕ
 divisions u v = divisions_within v u v
 
--- those that find the inverse of a modulo m: one more where a is reduced first
+-- the number of divisions for the inverse of a modulo m: one more where a is reduced first
 unfoldable pub inverse_divisions : ℕ → ℕ → ℕ
 inverse_divisions a m = if nat_le m a then 1 + divisions m (a % m) else divisions m (a % m)
