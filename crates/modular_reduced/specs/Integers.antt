@@ -1,10 +1,10 @@
--- What is said of integers modulo m (Gauss, Disquisitiones Arithmeticae, articles 1 to 31).
+-- Integers modulo m (Gauss, Disquisitiones Arithmeticae, articles 1 to 31).
 use Rattle.std.specs.Prelude.{◌≡◌, ℕ, ◌+◌, ◌*◌, ◌%◌, ◌<◌, pos, ◌-ℤ◌, neg_ℤ}
 use Rattle.modular_word.specs.Inverses.{HasInverse}
 use Rattle.modular_word.specs.Residues.{residue}
 use Rattle.modular_reduced.specs.declared.reduced_int.ReducedInt.{ReducedInt}
 
--- x is the integer of residue v modulo m, as the two functions name the modulus and the residue of an integer
+-- x is the integer of residue v modulo m; the two functions give the modulus and the residue of an integer
 pub record IsInteger {I : Type 0} (its_modulus its_residue : I → ℕ) (m v : ℕ) (x : I) : Type 0 where
   pub modulus : its_modulus x ≡ m
   pub residue : its_residue x ≡ v
@@ -14,7 +14,7 @@ pub record IsModularQuotient (m v w q : ℕ) : Type 0 where
   pub below : q < m
   pub product : (q * w) % m ≡ v
 
--- the number of the form that a `ReducedInt` keeps
+-- the number of the form of a `ReducedInt`
 abbrev pub form_of : {T R : Type 0} {word : _} {eq : _} {reducer : _} → ReducedInt T R word eq reducer → ℕ
 form_of {word} x = word.number x.form
 
@@ -51,7 +51,7 @@ abbrev pub IsNegative : {T R : Type 0} {word : _} {eq : _} {reducer : _} → Red
     → ReducedInt T R word eq reducer → Type 0
 IsNegative x z = IsReduced (modulus_of x) (residue (modulus_of x) (neg_ℤ (pos (residue_of x)))) z
 
--- x may be divided by y: the moduli are equal, and y has an inverse
+-- x can be divided by y: the moduli are equal, and y has an inverse
 abbrev pub CanDivide : {T R : Type 0} {word : _} {eq : _} {reducer : _} → ReducedInt T R word eq reducer
     → ReducedInt T R word eq reducer → Type 0
 CanDivide x y = (modulus_of x ≡ modulus_of y) × HasInverse (modulus_of y) (residue_of y)

@@ -1,4 +1,4 @@
--- The forms of `Vanilla`: each value is its own form. Each name is the library's own word.
+-- The forms of `Vanilla`: the form of a value is the value itself. The names are the library's own.
 use Rattle.std.specs.Prelude.{ℕ, ◌<◌, ◌≤◌, ◌^◌}
 use Rattle.std.proofs.Common.{arith}
 use Rattle.modular_reduced.specs.Forms.{IsCanonical}
@@ -11,7 +11,7 @@ plain_form m v = v
 abbrev pub plain_value : ℕ → ℕ → ℕ
 plain_value m f = f
 
--- each value is the one word that stands for it
+-- each value is its only form
 pub plain_canonical : (width m : ℕ) → 1 ≤ m → m < 2 ^ width → IsCanonical plain_form plain_value width m
 plain_canonical width m positive fits = record {
   positive = omega arith;

@@ -1,12 +1,12 @@
--- Lists of forms, and the values that they stand for. Each name is the library's own word.
+-- Lists of forms, and their values. The names are the library's own.
 use Rattle.std.specs.Prelude.{ℕ, ◌<◌, List, map, length, slice_index_or}
 use Rattle.modular_reduced.specs.Forms.{Represents}
 
--- the values that forms stand for, by the numbers of the forms
+-- the values of forms, by the numbers of the forms
 abbrev pub values_of : {T : Type 0} → (T → ℕ) → (ℕ → ℕ → ℕ) → ℕ → List T → List ℕ
 values_of number value m forms = map (λ f. value m (number f)) forms
 
--- each place i holds the form of the value v i
+-- the form at each index i is that of the value v i
 pub record HoldValues {T : Type 0} (number : T → ℕ) (form : ℕ → ℕ → ℕ) (m : ℕ)
     (forms : List T) (v : ℕ → ℕ) : Type 0 where
   pub each : (i : ℕ) (d : T) → i < length forms → Represents form m (number (slice_index_or forms i d)) (v i)
