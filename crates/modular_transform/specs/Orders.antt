@@ -1,7 +1,7 @@
--- Lists in another order of their places.
+-- Permutations of lists.
 use Rattle.std.specs.Prelude.{◌≡◌, ℕ, suc, zero, ◌+◌, ◌-◌, ◌*◌, ◌/◌, ◌%◌, ◌^◌, ◌<◌, List, length, slice_index_or}
 
--- place i of the new list holds what place s i of the old one held
+-- the entry at index i of the new list is that at index s i of the old one
 pub record IsReordered {T : Type 0} (s : ℕ → ℕ) (old new : List T) : Type 0 where
   pub each : (i : ℕ) (d : T) → i < length old → slice_index_or new i d ≡ slice_index_or old (s i) d
 
@@ -10,6 +10,7 @@ unfoldable pub bits_reversed : ℕ → ℕ → ℕ
 bits_reversed zero p = 0
 bits_reversed (suc t) p = bits_reversed t (p / 2) + (p % 2) * 2 ^ t
 
--- of n places on a circle, the mirror image of place k: 0 stays, and 1 changes with n - 1
+-- where entry k of n moves when all entries but the first are reversed: 0 stays, and 1 changes places with n - 1
+-- (the library's own)
 abbrev pub mirrored : ℕ → ℕ → ℕ
 mirrored n k = (n - k) % n

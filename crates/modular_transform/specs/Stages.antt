@@ -1,5 +1,5 @@
--- The stages of a transform in place: blocks of h + h values, in which the values h apart make pairs
--- (Gentleman and Sande, "Fast Fourier transforms: for fun and profit", section 2). The words are the library's own.
+-- The stages of a transform in place: blocks of h + h values, in which the values h apart form pairs (Gentleman and
+-- Sande, "Fast Fourier transforms: for fun and profit", section 2). The names are the library's own.
 use Rattle.std.specs.Prelude.{◌≡◌, ◌≢◌, ℕ, ◌+◌, ◌*◌, ◌%◌, ◌^◌, ◌<◌, ◌≤◌, pos, ◌-ℤ◌}
 use Rattle.modular_word.specs.Congruence.{Congruent}
 use Rattle.modular_word.specs.Residues.{residue}
@@ -10,21 +10,21 @@ pub record IsPair (m power a b sum difference : ℕ) : Type 0 where
   pub summed : Congruent m sum (a + b)
   pub subtracted : Congruent m (difference + b * power) (a * power)
 
--- the place of the first value of the pair of column i in block p
+-- the index of the first value of the pair of column i in block p
 abbrev pub low : ℕ → ℕ → ℕ → ℕ
 low h p i = p * (h + h) + i
 
--- the place of its second value
+-- the index of its second value
 abbrev pub high : ℕ → ℕ → ℕ → ℕ
 high h p i = p * (h + h) + (h + i)
 
--- from the values x to the values y, the pair at two places is done and nothing else
+-- from the values x to the values y, the pair at two indexes is done and nothing else changes
 pub record PairDone (m power first second : ℕ) (x y : ℕ → ℕ) : Type 0 where
   pub pair : IsPair m power (x first) (x second) (y first) (y second)
   pub kept : (k : ℕ) → k ≢ first → k ≢ second → y k ≡ x k
 
--- from the values x to the values y, the pairs of the blocks from
--- a to b - 1 in the columns from c to d - 1 are done and no others
+-- from the values x to the values y, the pairs of the blocks from a to b - 1 in the columns from c to d - 1 are
+-- done and no others
 pub record PairsDone (m : ℕ) (power : ℕ → ℕ) (h a b c d : ℕ) (x y : ℕ → ℕ) : Type 0 where
   pub pairs : (p i : ℕ) → a ≤ p → p < b → c ≤ i → i < d
       → IsPair m (power i) (x (low h p i)) (x (high h p i)) (y (low h p i)) (y (high h p i))
@@ -46,19 +46,19 @@ pub record IsTwoStages (m w v h blocks : ℕ) (x z : ℕ → ℕ) : Type 0 where
 abbrev pub weighted : ℕ → ℕ → ℕ → ℕ → ℕ
 weighted m power a b = (residue m (pos a -ℤ pos b) * power) % m
 
--- from the values x to the values z, those at the place k and 1, 2 and 3 steps behind it are through two stages:
--- the pairs two steps apart by the powers p and q, and then the pairs one step apart by s
+-- from the values x to the values z, those at the index k and 1, 2 and 3 steps after it are done through two
+-- stages: the pairs two steps apart by the powers p and q, and then the pairs one step apart by s
 pub record IsFour (m p q s step k : ℕ) (x z : ℕ → ℕ) : Type 0 where
   pub sums : IsPair m s ((x k + x (k + 2 * step)) % m) ((x (k + step) + x (k + 3 * step)) % m) (z k) (z (k + step))
   pub differences : IsPair m s (weighted m p (x k) (x (k + 2 * step))) (weighted m q (x (k + step)) (x (k + 3 * step)))
       (z (k + 2 * step)) (z (k + 3 * step))
 
--- .. and nothing else is done
+-- four values are done through two stages, and nothing else changes
 pub record FourDone (m p q s step k : ℕ) (x z : ℕ → ℕ) : Type 0 where
   pub four : IsFour m p q s step k x z
   pub kept : (i : ℕ) → i ≢ k → i ≢ k + step → i ≢ k + 2 * step → i ≢ k + 3 * step → z i ≡ x i
 
--- the powers p, q and s by which a four goes through two stages are checked forms
+-- the powers p, q and s of two stages of four values are checked forms
 pub record ArePowers (form value : ℕ → ℕ → ℕ) (m p q s : ℕ) : Type 0 where
   pub first : IsForm form value m p
   pub second : IsForm form value m q

@@ -1,10 +1,10 @@
--- The transform of n values modulo m, and their cyclic product, as plain sums of whole numbers.
+-- The transform of n values modulo m, and their cyclic product, as sums of whole numbers.
 use Rattle.std.specs.Prelude.{◌≡◌, ℕ, ◌+◌, ◌*◌, ◌/◌, ◌%◌, ◌^◌, ◌<◌, ◌==◌, ◌||◌, if◌then◌else◌}
 use Rattle.std.specs.Int.{IsPowerOfTwo}
 use Rattle.modular_word.specs.Sums.{sum_below}
 
--- g suits n values: n is a power of two, and for more than one value g to the half of n is -1
--- (Cooley and Tukey, "An algorithm for the machine calculation of complex Fourier series", for complex roots)
+-- g suits n values: n is a power of two, and for n above 1 g^(n/2) is -1 modulo m; for odd m above 1 and n above 1, g is
+-- then a primitive n-th root of unity (von zur Gathen and Gerhard, Modern Computer Algebra, section 8.2)
 pub record Suits (m g n : ℕ) : Type 0 where
   pub power_of_two : IsPowerOfTwo n
   pub half_turn : 1 < n → (g ^ (n / 2) + 1) % m ≡ 0
