@@ -16,6 +16,6 @@ unfoldable pub gcd_up_to : ℕ → ℕ → ℕ → ℕ
 gcd_up_to a n zero = 0
 gcd_up_to a n (suc k) = if (a % suc k == 0) && (n % suc k == 0) then suc k else gcd_up_to a n k
 
--- the greatest common divisor of a and n, for n of at least 1
+-- the greatest common divisor of a and n, for n that is at least 1
 abbrev pub gcd : ℕ → ℕ → ℕ
 gcd a n = gcd_up_to a n n

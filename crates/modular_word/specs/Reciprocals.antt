@@ -1,8 +1,9 @@
--- What a divisor stores, so that a division by it takes no division. The words have w bits and b numbers.
+-- What is precomputed of a divisor, so that dividing by it needs no division. The words have w bits, and b is the
+-- base 2^w.
 use Rattle.std.specs.Prelude.{◌≡◌, ℕ, ◌+◌, ◌-◌, ◌*◌, ◌/◌, ◌%◌, ◌^◌, ◌<◌, ◌≤◌}
 
--- v is the reciprocal of d, which has its top bit set: (v + b) * d is b * b - k for a k from 1 to d
--- (Möller and Granlund, "Improved division by invariant integers", section 3)
+-- v is the reciprocal of d, whose top bit is set: (v + b) * d is b * b - k for a k from 1 to d (Möller and
+-- Granlund, "Improved division by invariant integers", section 3)
 pub record IsReciprocal (b d v : ℕ) : Type 0 where
   pub normalized : b ≤ 2 * d
   pub below : (v + b) * d < b * b

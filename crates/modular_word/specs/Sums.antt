@@ -16,11 +16,11 @@ unfoldable pub sum_to : (ℕ → ℕ) → ℕ → ℕ
 sum_to f zero = 0
 sum_to f (suc h) = sum_to f h + f (suc h)
 
--- how many of 1, 2, .., h pass a test
+-- the number of those of 1, 2, .., h that pass a test
 abbrev pub count_to : (ℕ → Bool) → ℕ → ℕ
 count_to p h = sum_to (λ x. if p x then 1 else 0) h
 
--- f maps 1, .., h into itself, and no two to one number
+-- f maps 1, .., h into itself, and different numbers to different ones
 pub record Permutes (f : ℕ → ℕ) (h : ℕ) : Type 0 where
   pub positive : (x : ℕ) → 0 < x → x ≤ h → 0 < f x
   pub within : (x : ℕ) → 0 < x → x ≤ h → f x ≤ h
