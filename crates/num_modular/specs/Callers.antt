@@ -1,6 +1,6 @@
--- What the proofs of a caller's loops name, in one place: the words of forms, entries and inverses with their laws, that
--- of polynomials by their values, and those of the standard library. The names are those of the files where they stand,
--- the library's own words.
+-- The names that proofs of a caller's loops use, in one place: those of forms, entries and inverses with their
+-- laws, those of polynomials by their values, and those of the standard library. The names are those of their
+-- files, and the library's own.
 pub use Rattle.std.proofs.Common.{◌≡◌, ◌≢◌, ◌<◌, ◌≤◌, ◌↔◌, ◌+◌, ◌-◌, ◌*◌, ◌/◌, ◌%◌, ℕ, zero, suc, List, length, All}
 pub use Rattle.std.proofs.Common.{refl, sym, ◌∙◌, ap, subst, inl, inr, arith, mod-eq_of_lt}
 pub use Rattle.modular_word.specs.Inverses.{IsInverse, HasInverse}
@@ -17,5 +17,5 @@ pub use Rattle.modular_laws.specs.ProductLaws.{has_both, has_each, has_product, 
 pub use Rattle.num_modular.specs.Remainders.{remainders, inner_remainders}
 use Rattle.modular_laws.specs.ProductLaws as products
 
--- what `using` names, so that a loop that fills a list with the products so far needs no answer
+-- the set for `using` with which a loop that fills a list with the products so far needs no answer
 pub ruleset products_so_far = (products.products_so_far)

@@ -1,5 +1,5 @@
--- What the program `modrun` prints and answers for the words after its name.
--- A text is the list of its bytes. Each name is the library's own word.
+-- What the program `modrun` prints, and its exit status, for the words after its name. A text is the list of its
+-- bytes. The names are the library's own.
 use Rattle.std.specs.Prelude.{◌≡◌, ℕ, zero, suc, ◌<◌, List, [], ◌∷◌, ◌++◌, replicate, codes}
 use Rattle.std.specs.Borrow.{Bor}
 use Rattle.std.specs.Fmt.{decimal}
@@ -13,25 +13,25 @@ use Rattle.num_modular.specs.declared.ring.RunEnd.TheVariants.{Done, NoInverse}
 use Rattle.num_modular.specs.Ring.{IsStop, value_at, carried_out}
 use Rattle.num_modular.specs.Words.{IsNumberText, IsCommandWord}
 
--- how a reducer is named
+-- the name of a reducer
 abbrev pub reducer_name : ReducerName → List ℕ
 reducer_name Vanilla = codes "vanilla"
 reducer_name PreMul = codes "premul"
 reducer_name Montgomery = codes "montgomery"
 
--- the words stand for the commands, one for one
+-- the words denote the commands, one for each
 abbrev pub AreCommands : List (Bor (List ℕ)) → List (RingCommand ℕ) → Type 0
 AreCommands [] [] = Unit {0}
 AreCommands (word ∷ words) (command ∷ commands) = IsCommandWord word.now command × AreCommands words commands
 AreCommands [] (command ∷ commands) = ⊥
 AreCommands (word ∷ words) [] = ⊥
 
--- what stopped the reading of commands: the words stand for none, or memory was refused
+-- why the commands aren't read: the words denote none, or an allocation failed
 abbrev pub IsFault : List (Bor (List ℕ)) → Fault → Type 0
 IsFault words Unreadable = (commands : List (RingCommand ℕ)) → AreCommands words commands → ⊥
 IsFault words OutOfMemory = Unit {0}
 
--- the words are the name of the reducer, the modulus, which is not 0, and the words of commands
+-- the words are the name of the reducer, the modulus, which isn't 0, and the words of commands
 pub record IsHeading (words : List (Bor (List ℕ))) (reducer : ReducerName) (m : ℕ)
     (rest : List (Bor (List ℕ))) : Type 0 where
   pub name : Bor (List ℕ)
@@ -41,14 +41,14 @@ pub record IsHeading (words : List (Bor (List ℕ))) (reducer : ReducerName) (m 
   pub read : IsNumberText modulus.now m
   pub positive : 0 < m
 
--- the words ask for the commands modulo m
+-- the words denote the commands modulo m
 pub record Ask (words : List (Bor (List ℕ))) (m : ℕ) (commands : List (RingCommand ℕ)) : Type 0 where
   pub reducer : ReducerName
   pub rest : List (Bor (List ℕ))
   pub heading : IsHeading words reducer m rest
   pub read : AreCommands rest commands
 
--- what eight registers start with
+-- the residues with which the eight registers start
 abbrev pub zeros : List ℕ
 zeros = replicate 8 0
 
@@ -62,11 +62,11 @@ abbrev pub numbers_to : (ℕ → ℕ) → ℕ → List ℕ
 numbers_to v zero = decimal (v 0)
 numbers_to v (suc i) = numbers_to v i ++ (32 ∷ decimal (v (suc i)))
 
--- eight of them, and a line end
+-- the numbers from v 0 to v 7, and a line end
 abbrev pub line_of : (ℕ → ℕ) → List ℕ
 line_of v = numbers_to v 7 ++ (10 ∷ [])
 
--- the line of the values that a run leaves
+-- the line with the values after a run
 abbrev pub printed : ℕ → List (RingCommand ℕ) → RunEnd → List ℕ
 printed m commands end = line_of (value_at m zeros commands (carried_out end commands))
 
@@ -75,16 +75,16 @@ abbrev pub status_of : RunEnd → ℕ
 status_of Done = 0
 status_of (NoInverse at) = 1
 
--- the text that tells it
+-- the text that says how a run ended
 abbrev pub told : RunEnd → List ℕ
 told Done = []
 told (NoInverse at) = codes "no inverse at command " ++ (decimal at ++ (10 ∷ []))
 
--- the text that tells how the program is used
+-- the text that says how to call the program
 abbrev pub usage : List ℕ
 usage = codes "usage: modrun REDUCER MODULUS COMMAND...\n"
 
--- a run of the commands modulo m, with its status and what it wrote onto the two outputs
+-- a run of the commands modulo m, with its status and what it writes to the two outputs
 pub record IsRun (m : ℕ) (commands : List (RingCommand ℕ)) (status : ℕ) (Out Err : List ℕ → Type 0) : Type 0 where
   pub end : RunEnd
   pub ended : IsEnd m commands end
@@ -92,7 +92,8 @@ pub record IsRun (m : ℕ) (commands : List (RingCommand ℕ)) (status : ℕ) (O
   pub output : Out (printed m commands end)
   pub error : Err (told end)
 
--- an answer to words that ask for commands as Asked says; `untouched` says that nothing was written to the first output
+-- what the program does for words that denote commands as Asked says; `untouched` says that nothing is written to
+-- the first output
 pub record IsAnswer (Asked : ℕ → List (RingCommand ℕ) → Type 0) (untouched : Type 0)
     (Out Err : List ℕ → Type 0) (status : ℕ) : Type 0 where
   pub ran : status < 2

@@ -1,6 +1,6 @@
--- What a list of ring commands gives on whole numbers modulo m, and where it stops:
--- the result sequence of a straight-line program, and where it isn't executable (Buergisser, Clausen,
--- Shokrollahi, Algebraic Complexity Theory, section 4.1). No form and no width stands in the table.
+-- The results of a list of ring commands on whole numbers modulo m, and where it stops: the result sequence of a
+-- straight-line program, and where it isn't executable (Bürgisser, Clausen and Shokrollahi, Algebraic Complexity
+-- Theory, section 4.1). The table has no forms and no widths.
 use Rattle.std.specs.Prelude.{ℕ, suc, zero, ◌+◌, ◌*◌, ◌%◌, ◌^◌, ◌<◌, ◌==◌, if◌then◌else◌, pos, ◌-ℤ◌, neg_ℤ, List}
 use Rattle.std.specs.Prelude.{length, option_map, slice_get, slice_index, Option, Some, None, IsSomeAnd, unwrap_or}
 use Rattle.modular_word.specs.Residues.{residue}
@@ -38,7 +38,7 @@ destination_of (Inv dst a) = dst
 destination_of (Div dst a b) = dst
 destination_of (Pow dst a exp) = dst
 
--- what a command gives for registers of the values v: a residue modulo m, or nothing where an inverse is missing
+-- the result of a command for registers of the values v: a residue modulo m; `None` where an inverse doesn't exist
 abbrev pub outcome : ℕ → (ℕ → ℕ) → RingCommand ℕ → Option ℕ
 outcome m v (Load dst n) = Some (n % m)
 outcome m v (Add dst a b) = Some ((v a + v b) % m)
@@ -56,18 +56,18 @@ abbrev pub value_after : ℕ → (ℕ → ℕ) → Option (RingCommand ℕ) → 
 value_after m v None r = v r
 value_after m v (Some command) r = if r == destination_of command then unwrap_or (outcome m v command) (v r) else v r
 
--- the value table: the value of register r after i commands, the registers starting with the values `start`
+-- the value table: the value of register r after i commands, from registers with the values `start`
 abbrev pub value_at : ℕ → List ℕ → List (RingCommand ℕ) → ℕ → ℕ → ℕ
 value_at m start commands zero r = slice_index start r
 value_at m start commands (suc i) r = value_after m (value_at m start commands i) (slice_get commands i) r
 
--- a command that needs an inverse which doesn't exist modulo m
+-- the command needs an inverse that doesn't exist modulo m
 abbrev pub LacksInverse : ℕ → (ℕ → ℕ) → RingCommand ℕ → Type 0
 LacksInverse m v (Inv dst a) = HasInverse m (v a) → ⊥
 LacksInverse m v (Div dst a b) = HasInverse m (v b) → ⊥
 LacksInverse m v _ = ⊥
 
--- command number i is such a command
+-- command number i needs an inverse that doesn't exist
 abbrev pub LacksInverseAt : ℕ → List ℕ → List (RingCommand ℕ) → ℕ → Type 0
 LacksInverseAt m start commands i = IsSomeAnd (slice_get commands i) (LacksInverse m (value_at m start commands i))
 
@@ -94,7 +94,7 @@ IsFit count (Inv dst a) = (dst < count) × (a < count)
 IsFit count (Div dst a b) = (dst < count) × (a < count) × (b < count)
 IsFit count (Pow dst a exp) = (dst < count) × (a < count)
 
--- the form found, if any, stands for the number computed, if any
+-- the form, if any, represents the number, if any
 abbrev pub IsFormOf : {T : Type 0} → (T → ℕ) → (ℕ → ℕ → ℕ) → ℕ → Option ℕ → Option T → Type 0
 IsFormOf number form m None None = Unit {0}
 IsFormOf number form m (Some w) (Some f) = Represents form m (number f) w

@@ -1,6 +1,6 @@
--- How numbers and ring commands are written as text, which is the list of its bytes.
--- Numbers stand in positional notation (Knuth, The Art of Computer Programming 2,
--- section 4.1), and a command is its name and its numbers, a comma before each number.
+-- The text form of numbers and ring commands; a text is the list of its bytes. Numbers are in positional notation
+-- (Knuth, The Art of Computer Programming, volume 2, section 4.1), and a command is its name and its numbers, with
+-- a comma before each number.
 use Rattle.std.specs.Prelude.{◌≡◌, ℕ, ◌<◌, ◌^◌, ◌==◌, List, [], ◌∷◌, Option, MatchOption, codes}
 use Rattle.std.specs.List.{slice_split}
 use Rattle.std.specs.Str.Parse.{IsNumeral, digits_value}
@@ -8,20 +8,20 @@ use Rattle.num_modular.specs.Ring.{IsFit}
 use Rattle.num_modular.specs.declared.ring.RingCommand.{RingCommand}
 use Rattle.num_modular.specs.declared.ring.RingCommand.TheVariants.{Load, Add, Sub, Mul, Neg, Dbl, Sqr, Inv, Div, Pow}
 
--- the text is one or more ASCII digits, which stand for n, and n is a word of 64 bits
+-- the text is one or more ASCII digits, which denote n, and n fits a word of 64 bits
 pub record IsNumberText (text : List ℕ) (n : ℕ) : Type 0 where
   pub numeral : IsNumeral 10 text
   pub value : n ≡ digits_value 10 text
   pub fits : n < 2 ^ 64
 
--- the texts stand for the numbers, one for one
+-- the texts denote the numbers, one for each
 abbrev pub AreNumberTexts : List (List ℕ) → List ℕ → Type 0
 AreNumberTexts [] [] = Unit {0}
 AreNumberTexts (text ∷ texts) (n ∷ ns) = IsNumberText text n × AreNumberTexts texts ns
 AreNumberTexts [] (n ∷ ns) = ⊥
 AreNumberTexts (text ∷ texts) [] = ⊥
 
--- what stands between the commas of a text
+-- the parts of a text between its commas
 abbrev pub parts : List ℕ → List (List ℕ)
 parts text = slice_split (λ b. b == 44) text
 
@@ -31,7 +31,7 @@ pub record IsReadAs (text : List ℕ) (n : ℕ) (rest : List ℕ) : Type 0 where
   pub split : parts text ≡ first ∷ parts rest
   pub number : IsNumberText first n
 
--- the word that a command begins with
+-- the name of a command
 abbrev pub name_of : RingCommand ℕ → List ℕ
 name_of (Load dst n) = codes "load"
 name_of (Add dst a b) = codes "add"
@@ -44,7 +44,7 @@ name_of (Inv dst a) = codes "inv"
 name_of (Div dst a b) = codes "div"
 name_of (Pow dst a exp) = codes "pow"
 
--- the numbers that follow it, in order
+-- the numbers after the name, in order
 abbrev pub numbers_of : RingCommand ℕ → List ℕ
 numbers_of (Load dst n) = dst ∷ n ∷ []
 numbers_of (Add dst a b) = dst ∷ a ∷ b ∷ []
@@ -63,7 +63,7 @@ pub record IsCommand (name : List ℕ) (numbers : List (List ℕ)) (command : Ri
   pub read : AreNumberTexts numbers (numbers_of command)
   pub fit : IsFit 8 command
 
--- the same of the parts of a word
+-- the same for the parts of a word
 abbrev pub IsCommandParts : List (List ℕ) → RingCommand ℕ → Type 0
 IsCommandParts [] command = ⊥
 IsCommandParts (name ∷ numbers) command = IsCommand name numbers command
@@ -72,6 +72,6 @@ IsCommandParts (name ∷ numbers) command = IsCommand name numbers command
 abbrev pub IsCommandWord : List ℕ → RingCommand ℕ → Type 0
 IsCommandWord word command = IsCommandParts (parts word) command
 
--- what is found has the property, and nothing is found only where nothing has it
+-- a result has the property, and `None` is returned only where nothing has it
 abbrev pub FindsWhere : {X : Type 0} → (X → Type 0) → Option X → Type 0
 FindsWhere {X} Has found = MatchOption found ((x : X) → Has x → ⊥) Has
