@@ -1,4 +1,4 @@
--- Commands for C as ring commands, and which lists of them a run takes; each name is the library's own word.
+-- Commands for C as ring commands, and which lists of them a run accepts. The names are the library's own.
 use Rattle.std.specs.Prelude.{◌≡◌, ℕ, ◌%◌, ◌<◌, ◌==◌, if◌then◌else◌, List, length, map, slice_index}
 use Rattle.num_modular.specs.Ring.{value_at, IsFit}
 use Rattle.num_modular.specs.declared.ring.RingCommand.{RingCommand}
@@ -7,7 +7,7 @@ use Rattle.num_modular_c.specs.declared.commands.NmCommand.{NmCommand}
 use Rattle.num_modular_c.specs.declared.commands.TheConstants.{NM_LOAD, NM_ADD, NM_SUB, NM_MUL}
 use Rattle.num_modular_c.specs.declared.commands.TheConstants.{NM_NEG, NM_DBL, NM_SQR, NM_INV, NM_DIV}
 
--- the ring command of a command; an operation without a name is read as a power
+-- the ring command of a command; an operation without a name counts as a power
 abbrev pub ring_command_of : NmCommand → RingCommand ℕ
 ring_command_of c =
     if c.operation == NM_LOAD then Load c.dst c.n
@@ -21,11 +21,11 @@ ring_command_of c =
     else if c.operation == NM_DIV then Div c.dst c.a c.b
     else Pow c.dst c.a c.n
 
--- a command with a name, whose register numbers are below count
+-- the command has an operation with a name, and register numbers below count
 abbrev pub IsTaken : ℕ → NmCommand → Type 0
 IsTaken count c = (c.operation < 10) × IsFit count (ring_command_of c)
 
--- the residues modulo m of words
+-- the residues of words modulo m
 abbrev pub residues_of : ℕ → List ℕ → List ℕ
 residues_of m words = map (λ x. x % m) words
 

@@ -1,4 +1,4 @@
--- What is made once of a divisor or a modulus, in words of 64 bits; each name is the library's own word.
+-- What is precomputed of a divisor or a modulus, in words of 64 bits. The names are the library's own.
 use Rattle.std.specs.Prelude.{◌≡◌, ℕ, ◌*◌, ◌^◌}
 use Rattle.std.specs.Int.Count.{count_leading_zeros}
 use Rattle.num_modular.specs.Forms.{IsForm}
@@ -7,12 +7,12 @@ use Rattle.num_modular.specs.Split.{IsComputedOnce, split_form, split_value}
 use Rattle.num_modular_c.specs.declared.dividers.NmDivider.{NmDivider}
 use Rattle.num_modular_c.specs.declared.montgomery.NmMontgomery.{NmMontgomery}
 
--- the reciprocal is that of the divisor, moved up until its top bit is set
+-- the reciprocal is that of the divisor, shifted left until its top bit is set
 abbrev pub IsDivider : NmDivider → Type 0
 IsDivider divider =
     IsReciprocal (2 ^ 64) (divider.divisor * 2 ^ count_leading_zeros 64 divider.divisor) divider.reciprocal
 
--- the two numbers are those that are computed once of the modulus
+-- the two numbers are those that are precomputed of the modulus
 abbrev pub IsMontgomery : NmMontgomery → Type 0
 IsMontgomery context = IsComputedOnce 64 (2 ^ 64) context.modulus context.negated_inverse context.square
 

@@ -1,11 +1,11 @@
--- Plans for C, and the lists of words that calls by them take; each name is the library's own word.
+-- Plans for C, and the lists of words that calls by a plan accept. The names are the library's own.
 use Rattle.std.specs.Prelude.{◌≡◌, ℕ, ◌+◌, ◌*◌, ◌/◌, ◌^◌, ◌<◌, ◌≤◌, List, All, length}
 use Rattle.std.specs.Int.{IsPowerOfTwo}
 use Rattle.modular_plan.specs.Factors.{IsFactor}
 use Rattle.modular_plan.specs.Plans.{numbers, IsPlan, AreRemainders}
 use Rattle.num_modular_c.specs.declared.plans.NmFactor.{NmFactor}
 
--- plans admit m: it is from 1 to 2^62
+-- m can be the modulus of a plan: it is from 1 to 2^62
 abbrev pub IsAdmitted : ℕ → Type 0
 IsAdmitted m = (1 ≤ m) × (4 * m ≤ 2 ^ 64)
 
@@ -13,7 +13,7 @@ IsAdmitted m = (1 ≤ m) × (4 * m ≤ 2 ^ 64)
 abbrev pub AreBelow : ℕ → List ℕ → Type 0
 AreBelow bound words = All (λ x. x < bound) words
 
--- the words of a list, by their places
+-- the words of a list, by their indexes
 abbrev pub words_of : List ℕ → ℕ → ℕ
 words_of words = numbers (λ x. x) words
 
@@ -30,7 +30,7 @@ pub record IsTable (m g : ℕ) (table : List NmFactor) : Type 0 where
   pub factors : AreFactors m table
   pub plan : (z : ℕ) → 2 ^ z ≡ 2 * length table → IsPlanBy m g z table
 
--- the words are below 4m, and so many factors split them, as block b, into blocks of `last`
+-- the words are below 4m, and a plan of so many factors splits them, as block b, into blocks of `last`
 pub record IsSplit (m factors b last : ℕ) (words : List ℕ) : Type 0 where
   pub admitted : IsAdmitted m
   pub room : AreBelow (4 * m) words
@@ -39,7 +39,8 @@ pub record IsSplit (m factors b last : ℕ) (words : List ℕ) : Type 0 where
   pub whole : length words / last * last ≡ length words
   pub within : (b + 1) * (length words / last / 2) ≤ factors
 
--- two lists of words below 4m of one length, of which so many factors give the product as block b by blocks of `last`
+-- two lists of equal length of words below 4m; so many factors suffice for their product as block b, by blocks of
+-- `last`
 pub record IsPair (m factors b last : ℕ) (words others : List ℕ) : Type 0 where
   pub admitted : IsAdmitted m
   pub room : AreBelow (4 * m) words
@@ -51,8 +52,8 @@ pub record IsPair (m factors b last : ℕ) (words others : List ℕ) : Type 0 wh
   pub whole : length words / last * last ≡ length words
   pub within : (b + 1) * (length words / last) ≤ 2 * factors
 
--- after a product: entry e is p e for each plan by g, the words are below m, and
--- the other list holds the remainders of block b that `split` leaves of it
+-- after a product: entry e is p e for each plan by g, the words are below m, and the other list holds the
+-- remainders of block b as `split` computes them
 pub record IsPlannedProduct (m b last : ℕ) (table : List NmFactor) (p : ℕ → ℕ → ℕ → ℕ)
     (others words new_others : List ℕ) : Type 0 where
   pub below : AreBelow m words

@@ -1,14 +1,14 @@
--- Numbers by their residues, as the calls for C take them; each name is the library's own word.
+-- Numbers by their residues, for the calls for C. The names are the library's own.
 use Rattle.std.specs.Prelude.{◌≡◌, ℕ, ◌<◌, List, length, slice_index}
 use Rattle.residue_numbers.specs.Systems.{IsSystem, AreResidues, range_of}
 
--- the moduli are a system, and each has a residue below it
+-- the moduli are a system, and each residue is below its modulus
 pub record IsEncoding (moduli residues : List ℕ) : Type 0 where
   pub count : length moduli ≡ length residues
   pub system : IsSystem moduli
   pub reduced : (i : ℕ) → i < length moduli → slice_index residues i < slice_index moduli i
 
--- x is the one number below the product of the moduli that leaves the residues
+-- x is the only number below the product of the moduli that has the residues
 pub record IsDecoded (moduli residues : List ℕ) (x : ℕ) : Type 0 where
   pub below : x < range_of moduli
   pub number : AreResidues moduli residues x

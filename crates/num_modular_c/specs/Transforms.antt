@@ -1,8 +1,8 @@
--- Lists of words as lists of residues; each name is the library's own word.
+-- Lists of words as lists of residues. The names are the library's own.
 use Rattle.std.specs.Prelude.{◌≡◌, ℕ, ◌%◌, ◌<◌, List, slice_index}
 use Rattle.num_modular.specs.Transforms.{transform, cyclic_product}
 
--- the residue modulo m of the word at each place
+-- the residue modulo m of the word at each index
 abbrev pub residues : ℕ → List ℕ → ℕ → ℕ
 residues m words i = slice_index words i % m
 
