@@ -11,17 +11,17 @@ unfoldable pub product_below : ℕ → List ℕ → ℕ
 product_below zero moduli = 1
 product_below (suc n) moduli = product_below n moduli * slice_index moduli n
 
--- the product of all: so many numbers have residues of their own
+-- the product of all moduli: the numbers below it have different residues
 abbrev pub range_of : List ℕ → ℕ
 range_of moduli = product_below (length moduli) moduli
 
--- the moduli are above 0, no two have a common divisor, and their product is a word of 128 bits
+-- the moduli are above 0, any two are coprime, and their product fits a word of 128 bits
 pub record IsSystem (moduli : List ℕ) : Type 0 where
   pub positive : (i : ℕ) → i < length moduli → 0 < slice_index moduli i
   pub coprime : (i j : ℕ) → j < i → i < length moduli → Coprime (slice_index moduli j) (slice_index moduli i)
   pub fits : range_of moduli < 2 ^ 128
 
--- the moduli are a system of eight at most
+-- the moduli are a system of at most eight
 pub record IsSmallSystem (moduli : List ℕ) : Type 0 where
   pub system : IsSystem moduli
   pub few : length moduli ≤ 8
@@ -30,7 +30,7 @@ pub record IsSmallSystem (moduli : List ℕ) : Type 0 where
 pub record AreResidues (moduli residues : List ℕ) (x : ℕ) : Type 0 where
   pub each : (i : ℕ) → i < length moduli → slice_index residues i ≡ x % slice_index moduli i
 
--- what an operation on residues a and b gives modulo m
+-- the result modulo m of an operation on residues a and b
 abbrev pub result_of : Operation → ℕ → ℕ → ℕ → ℕ
 result_of Sum m a b = (a + b) % m
 result_of Difference m a b = residue m (pos a -ℤ pos b)
