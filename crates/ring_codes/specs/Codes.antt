@@ -9,7 +9,7 @@ use Rattle.ring_codes.specs.declared.Code.{Code}
 abbrev pub weighted_sum : List ℕ → List ℕ → ℕ
 weighted_sum weights word = sum_below (length word) (λ i. slice_index weights i * slice_index word i)
 
--- a code: the modulus, what the weighted sum of a word leaves, and for each place its weight, its least and its
+-- a code: the modulus, the residue of the weighted sum of a word, and for each place its weight, its least and its
 -- greatest symbol
 pub record CheckCode : Type 0 where
   pub modulus : ℕ
@@ -18,7 +18,7 @@ pub record CheckCode : Type 0 where
   pub least : List ℕ
   pub greatest : List ℕ
 
--- the code that the program's value holds
+-- the code of the program's value
 abbrev pub code_of : Code → CheckCode
 code_of c = record {
   modulus = c.modulus;
@@ -28,13 +28,13 @@ code_of c = record {
   greatest = c.greatest.now;
 }
 
--- the symbol is one of those of the place
+-- the symbol is allowed at the place
 pub record Fits (code : CheckCode) (place symbol : ℕ) : Type 0 where
   pub least : slice_index code.least place ≤ symbol
   pub greatest : symbol ≤ slice_index code.greatest place
 
--- the word is of the code: it has a symbol for each place, each is one of those of its place, and the weighted sum
--- leaves what the residue leaves modulo m
+-- the word is of the code: it has an allowed symbol for each place, and the weighted sum is congruent to the
+-- residue modulo m
 pub record IsCodeword (code : CheckCode) (word : List ℕ) : Type 0 where
   pub places : length word ≡ length code.weights
   pub symbols : (i : ℕ) → i < length word → Fits code i (slice_index word i)
@@ -44,30 +44,30 @@ pub record IsCodeword (code : CheckCode) (word : List ℕ) : Type 0 where
 abbrev pub exchanged : List ℕ → ℕ → List ℕ
 exchanged word i = slice_set (slice_set word i (slice_index word (suc i))) (suc i) (slice_index word i)
 
--- the symbol is the only one below m with which, at the place, the word is of the code
+-- the symbol is the only one below m that, at the place, makes the word one of the code
 pub record IsOnlySymbol (code : CheckCode) (word : List ℕ) (place symbol : ℕ) : Type 0 where
   pub below : symbol < code.modulus
   pub accepted : IsCodeword code (slice_set word place symbol)
   pub only : (t : ℕ) → t < code.modulus → IsCodeword code (slice_set word place t) → t ≡ symbol
 
--- what restoring the symbol at a place answers: that symbol, and nothing exactly where there is none
+-- the result of restoring the symbol at a place: that symbol; `None` exactly where there is none
 abbrev pub IsRestored : CheckCode → List ℕ → ℕ → Option ℕ → Type 0
 IsRestored code word place found =
     MatchOption found ((t : ℕ) → t < code.modulus → ¬ IsCodeword code (slice_set word place t))
     (IsOnlySymbol code word place)
 
--- every change of one symbol of a word is found
+-- every change of one symbol of a word is detected
 abbrev pub FindsEachChange : CheckCode → Type 0
 FindsEachChange code = (word : List ℕ) (i symbol : ℕ) → IsCodeword code word → i < length word
     → symbol ≢ slice_index word i → ¬ IsCodeword code (slice_set word i symbol)
 
--- every exchange of two neighbours that differ is found
+-- every exchange of two neighbours that differ is detected
 abbrev pub FindsEachExchange : CheckCode → Type 0
 FindsEachExchange code = (word : List ℕ) (i : ℕ) → IsCodeword code word → suc i < length word
     → slice_index word i ≢ slice_index word (suc i) → ¬ IsCodeword code (exchanged word i)
 
--- the exchanges of neighbours that aren't found are those of symbols that leave the same modulo 5, so that they are
--- equal or differ by 5, where each is one of those of its new place
+-- the exchanges of neighbours that aren't detected are those of symbols that are congruent modulo 5, so that they
+-- are equal or differ by 5, where each is allowed at its new place
 abbrev pub FindsAllButFives : CheckCode → Type 0
 FindsAllButFives code = (word : List ℕ) (i : ℕ) → IsCodeword code word → suc i < length word
     → IsCodeword code (exchanged word i)

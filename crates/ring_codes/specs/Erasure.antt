@@ -1,6 +1,6 @@
--- Reed and Solomon's codes over the integers modulo m (Reed and Solomon, "Polynomial codes over certain finite fields",
--- Journal of the Society for Industrial and Applied Mathematics 8, 1960; over rings Quintin, Barbier and Chabot, "On
--- generalized Reed-Solomon codes over commutative and noncommutative rings", 2013).
+-- Reed-Solomon codes over the integers modulo m (Reed and Solomon, "Polynomial codes over certain finite fields",
+-- Journal of the Society for Industrial and Applied Mathematics 8, 1960; over rings Quintin, Barbier and Chabot,
+-- "On generalized Reed-Solomon codes over commutative and noncommutative rings", 2013).
 use Rattle.std.specs.Prelude.{◌≡◌, ◌≢◌, ℕ, ◌%◌, ◌<◌, ◌≤◌, List, length, slice_index, ◌==◌, if◌then◌else◌}
 use Rattle.num_modular.specs.Polynomials.{ascending_polynomial, HaveUnitDifferences}
 use Rattle.num_modular.specs.Sums.{sum_below}
@@ -16,18 +16,18 @@ pub record IsEncoding (m k n : ℕ) (points message word : ℕ → ℕ) : Type 0
 abbrev pub IsErasureCodeword : ℕ → ℕ → ℕ → (ℕ → ℕ) → (ℕ → ℕ) → Type 0
 IsErasureCodeword m k n points word = (message : ℕ → ℕ) × IsEncoding m k n points message word
 
--- at how many of the places 0 to n - 1 two words differ (Hamming, "Error detecting and error correcting codes", The Bell
--- System Technical Journal 29, 1950)
+-- the number of the places 0 to n - 1 at which two words differ (Hamming, "Error detecting and error correcting
+-- codes", The Bell System Technical Journal 29, 1950)
 abbrev pub distance : ℕ → (ℕ → ℕ) → (ℕ → ℕ) → ℕ
 distance n a b = sum_below n (λ i. if a i == b i then 0 else 1)
 
--- the first k places are there, below n, and no two are the same
+-- there are at least k places; the first k of them are below n and distinct
 pub record ArePlaces (k n : ℕ) (places : List ℕ) : Type 0 where
   pub enough : k ≤ length places
   pub within : (i : ℕ) → i < k → slice_index places i < n
   pub distinct : (i j : ℕ) → i < j → j < k → slice_index places i ≢ slice_index places j
 
--- what an error says of the places, and of the points x there
+-- the meaning of an error, for the places and the points x there
 abbrev pub IsFault : ℕ → ℕ → ℕ → (ℕ → ℕ) → List ℕ → RestoreError → Type 0
 IsFault m k n x places TooFewSymbols = length places < k
 IsFault m k n x places PlaceOutOfRange = (i : ℕ) × (i < k) × (n ≤ slice_index places i)

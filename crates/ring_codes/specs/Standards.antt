@@ -1,4 +1,4 @@
--- The check symbols of standards. Places are counted from the right; that of the check symbol is 0.
+-- The check symbols of the standards. Places are counted from the right; that of the check symbol is 0.
 use Rattle.std.specs.Prelude.{ℕ, zero, suc, ◌+◌, ◌%◌, ◌^◌, ◌==◌, if◌then◌else◌, List, [], ◌∷◌}
 use Rattle.ring_codes.specs.Codes.{CheckCode}
 
@@ -7,7 +7,7 @@ unfoldable pub from_right : ℕ → (ℕ → ℕ) → List ℕ
 from_right zero f = []
 from_right (suc n) f = f n ∷ from_right n f
 
--- n digits whose sum with the weights 1, 3, 1, 3, .. leaves 0 modulo 10 (GS1 General Specifications, section 7.9.1)
+-- n digits whose sum with the weights 1, 3, 1, 3, .. is 0 modulo 10 (GS1 General Specifications, section 7.9.1)
 abbrev pub gs1 : ℕ → CheckCode
 gs1 n = record {
   modulus = 10;
@@ -17,7 +17,7 @@ gs1 n = record {
   greatest = from_right n (λ j. 9);
 }
 
--- n symbols whose sum with the weights 1, 2, 3, .. leaves 0 modulo 11; the check symbol is a digit or X, which is 10,
+-- n symbols whose sum with the weights 1, 2, 3, .. is 0 modulo 11; the check symbol is a digit or X, which is 10,
 -- and the others are digits
 abbrev pub modulo_11 : ℕ → CheckCode
 modulo_11 n = record {
@@ -28,7 +28,7 @@ modulo_11 n = record {
   greatest = from_right n (λ j. if j == 0 then 10 else 9);
 }
 
--- n digits that write a number of remainder 1 modulo 97 (ISO/IEC 7064:2003, MOD 97-10)
+-- n digits that form a number that is 1 modulo 97 (ISO/IEC 7064:2003, MOD 97-10)
 abbrev pub mod_97_10 : ℕ → CheckCode
 mod_97_10 n = record {
   modulus = 97;
