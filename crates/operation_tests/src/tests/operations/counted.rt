@@ -1,4 +1,4 @@
-//! Inverses with the numbers of their divisions.
+//! Inverses with the number of their divisions.
 
 ghost use Rattle.std.specs.Prelude.{◌≤◌};
 
@@ -25,7 +25,7 @@ fn is_found<T: Copy + PartialEq + From<u8>>(
     found.0 == inverse && found.1 == want.1
 }
 
-// Whether the counted inverse of each width answers this.
+// Whether the counted inverse of each width returns this.
 fn answers(a: u8, m: u8, want: (Option<u8>, u32)) -> [bool; 5]
     requires { 1 ≤ m }
 {
@@ -46,8 +46,8 @@ fn inverses_at_each_width(rt: HostRuntime) {
     }
 }
 
-// Neighbours among Fibonacci's numbers take the most divisions: one fewer than the place of the
-// smaller. The greatest that fit 64 bits stand at the places 92 and 93.
+// Consecutive Fibonacci numbers take the most divisions: one fewer than the index of the smaller. The greatest that
+// fit 64 bits have the indexes 92 and 93.
 #[test]
 fn the_most_divisions_of_64_bits(rt: HostRuntime) {
     assert_eq!(rt;

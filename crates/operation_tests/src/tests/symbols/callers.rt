@@ -1,4 +1,4 @@
-//! Rows that were worked by hand, by the code that is generic over the traits.
+//! Known values, computed by hand, of the code that is generic over the traits.
 
 use operation_callers::operations::{
     difference, divided, inverse, power, product_and_sum, quotient, signed, square_of_double,
