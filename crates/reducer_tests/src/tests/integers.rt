@@ -1,4 +1,4 @@
-//! Every kind of operand of the operators, rows that were worked by hand, and equality.
+//! Every kind of operand of the operators, known values computed by hand, and equality.
 
 ghost use Rattle.modular_reduced.specs.Integers.{CanDivide, IsReduced, modulus_of};
 ghost use Rattle.std.specs.Prelude.{◌≡◌, ◌≤◌, ◌%◌};
@@ -20,7 +20,7 @@ fn ring(n: u8) -> VanillaInt<u8>
     VanillaInt::<u8>::new(n, &21)
 }
 
-// The residues of the sums of two integers, in each form of the operands, and those after each of two in place.
+// The residues of the sums of two integers, for each kind of operands, and those after each of two sums in place.
 fn sums_of_two<T: RingWord, R: Reducer<T> + Copy>(
     a: ReducedInt<T, R>,
     b: ReducedInt<T, R>,
@@ -40,7 +40,7 @@ fn sums_of_two<T: RingWord, R: Reducer<T> + Copy>(
     (found, [once, z.residue()])
 }
 
-// Those of the sums of an integer and a word.
+// The residues of the sums of an integer and a word.
 fn sums_with_a_word<T: RingWord, R: Reducer<T> + Copy>(a: ReducedInt<T, R>, n: T) -> [T; 4] {
     [
         (a + n).residue(),
@@ -74,7 +74,7 @@ fn sums(rt: HostRuntime) {
     assert!(rt; sum_modulo_21() == 4);
 }
 
-// The residues of the differences of two integers, in each form of the operands, and those after each of two in place.
+// The residues of the differences of two integers, for each kind of operands, and those after each of two in place.
 fn differences_of_two<T: RingWord, R: Reducer<T> + Copy>(
     a: ReducedInt<T, R>,
     b: ReducedInt<T, R>,
@@ -94,7 +94,7 @@ fn differences_of_two<T: RingWord, R: Reducer<T> + Copy>(
     (found, [once, z.residue()])
 }
 
-// Those of the differences of an integer and a word.
+// The residues of the differences of an integer and a word.
 fn differences_with_a_word<T: RingWord, R: Reducer<T> + Copy>(a: ReducedInt<T, R>, n: T) -> [T; 4] {
     [
         (a - n).residue(),
@@ -129,7 +129,7 @@ fn differences(rt: HostRuntime) {
     assert!(rt; difference_modulo_21() == 2);
 }
 
-// The residues of the products of two integers, in each form of the operands, and those after each of two in place.
+// The residues of the products of two integers, for each kind of operands, and those after each of two in place.
 fn products_of_two<T: RingWord, R: Reducer<T> + Copy>(
     a: ReducedInt<T, R>,
     b: ReducedInt<T, R>,
@@ -149,7 +149,7 @@ fn products_of_two<T: RingWord, R: Reducer<T> + Copy>(
     (found, [once, z.residue()])
 }
 
-// Those of the products of an integer and a word.
+// The residues of the products of an integer and a word.
 fn products_with_a_word<T: RingWord, R: Reducer<T> + Copy>(a: ReducedInt<T, R>, n: T) -> [T; 4] {
     [
         (a * n).residue(),
@@ -184,7 +184,7 @@ fn products(rt: HostRuntime) {
     assert!(rt; products_with_a_word(twelve, 13) == [1; 4]);
 }
 
-// The residues of the quotients of two integers, in each form of the operands.
+// The residues of the quotients of two integers, for each kind of operands.
 fn quotients_of_two<T: RingWord, R: Reducer<T> + Copy>(
     a: ReducedInt<T, R>,
     b: ReducedInt<T, R>,
@@ -267,7 +267,7 @@ fn copies_and_text(rt: HostRuntime) -> Result<(), Fail> {
     Ok(())
 }
 
-// Whether `==` is reflexive, symmetric and transitive at the integers of a list.
+// Whether `==` is reflexive, symmetric and transitive for the integers of a list.
 fn are_equivalent<I: ModularInteger>(all: &[I]) -> bool {
     for a in all {
         for b in all {

@@ -1,4 +1,4 @@
-//! What tests of several reducers ask of one.
+//! Calls of a reducer that tests of several reducers share.
 
 ghost use Rattle.std.specs.Prelude.{◌≤◌};
 

@@ -1,4 +1,4 @@
-//! Rows of the reducer, and comparisons with plain remainders.
+//! Known values of the reducer, and comparisons with plain remainders.
 
 use crate::tests::residues::{agree, inverse, product};
 use modular_even::montgomery::Montgomery;
@@ -99,7 +99,7 @@ fn sums_of_zero(rt: HostRuntime) {
     assert!(rt; sum_is_zero(&ring, 5, 6) && !sum_is_zero(&ring, 5, 7));
 }
 
-// Rows are the modulus, two factors and the residue of their product.
+// The modulus, two factors and the residue of their product.
 fn assert_products<T: PlainWord>(rt: &impl Abort, rows: &[(T, T, T, T)]) {
     for &(m, x, y, want) in rows {
         assert!(rt; !m.is_zero_word());

@@ -1,4 +1,4 @@
-//! Rows of the reducers of a parameter.
+//! Known values of the reducers whose modulus is a parameter.
 
 use crate::tests::residues::{inverse, product, remainder};
 use modular_monty::fixed::{FixedMontgomery32, FixedMontgomery64};

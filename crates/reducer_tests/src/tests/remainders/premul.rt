@@ -1,4 +1,4 @@
-//! Rows that were worked by hand, and bytes against `%`.
+//! Known values, computed by hand, and bytes compared with `%`.
 
 use crate::tests::residues::{agree, inverse_residue, product, remainder};
 use modular_barrett::premul::PreMulInv2by1;
@@ -27,7 +27,7 @@ fn rows(rt: HostRuntime) {
     assert!(rt; found == ([40, 56, 136], [Some(17), None], true));
     let copy = ring;
     assert!(rt; copy == ring);
-    // the same divisor, of another modulus
+    // the same divisor for another modulus
     let found = (
         ring == PreMulInv2by1::new(42),
         format!(in rt.alloc(); "{ring:?}").is_ok(),
