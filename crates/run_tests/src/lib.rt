@@ -1,4 +1,4 @@
-//! Rows of lists of commands over each reducer, and of the program that runs them.
+//! Known values of lists of commands over each reducer, and of the program that runs them.
 #![tactic(auto)]
 
 #[cfg(test)]

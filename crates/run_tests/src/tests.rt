@@ -1,4 +1,4 @@
-//! Runs of commands, and what the program prints and answers.
+//! Runs of commands, and what the program prints and its exit status.
 
 mod callers;
 mod commands;

@@ -1,4 +1,4 @@
-//! Reducers at the edges of their parameters, each beside the plain reducer of its modulus.
+//! Reducers at the edges of their parameters, each compared with the plain reducer of its modulus.
 
 use num_modular::ring::{RingCommand, RunEnd};
 use num_modular::word::RingWord;
@@ -22,8 +22,8 @@ fn edges<T: RingWord, R: Reducer<T>>(ring: &R, last: T, greatest: T) -> [T; 6] {
     ]
 }
 
-// From register 0 on: at last 0, the inverse of m - 1, its square, what a greatest word has above
-// m - 1, and that word to the power of itself; then the inverse of 0, which exists modulo 1 alone.
+// In this order, from register 0 on: 0, the inverse of m - 1, its square, the difference of a greatest word and
+// m - 1, and that word to the power of itself; then the inverse of 0, which exists only modulo 1.
 fn commands<T: RingWord>(last: T, greatest: T) -> [RingCommand<T>; 8] {
     [
         RingCommand::Load {
@@ -44,8 +44,8 @@ fn commands<T: RingWord>(last: T, greatest: T) -> [RingCommand<T>; 8] {
     ]
 }
 
-// What each reducer of a modulus shows: m, m - 1, the edges of its words, and the end of the run of the
-// commands with the residues that it leaves.
+// The results of each reducer of a modulus: m, m - 1, the edges of its words, and the end of the run of the
+// commands with the residues after it.
 struct Row<T> {
     modulus: T,
     last: T,
@@ -56,7 +56,7 @@ struct Row<T> {
 
 const STOPPED: RunEnd = RunEnd::NoInverse { at: 7 };
 
-// Whether a reducer shows it with the greatest word, and leaves zeros after no command.
+// Whether a reducer has these results with the greatest word, and leaves zeros after no command.
 fn shows_32<R: Reducer<u32>>(ring: &R, row: &Row<u32>) -> bool {
     let list = commands(row.last, u32::MAX);
     edges(ring, row.last, u32::MAX) == row.edges
@@ -224,7 +224,7 @@ fn plain_reducers_of_64_bits(rt: HostRuntime) {
 fn a_proth_number_of_64_bits(rt: HostRuntime) {
     let ring = FixedProth64::<63, 1>::new(&9223372036854775809);
     assert!(rt; shows_64(&ring, &MODULO_9223372036854775809));
-    // (m - 1) * 2^64 + m: the sum is (2 * m - 1) * 2^64, which passes 128 bits
+    // (m - 1) * 2^64 + m: the sum is (2 * m - 1) * 2^64, which overflows 128 bits
     assert!(rt; ring.reduce(170141183460469231740910675752738881537) == 9223372036854775808);
 }
 

@@ -27,7 +27,7 @@ fn commands<T: RingWord>(greatest: T, last: T) -> [RingCommand<T>; 6] {
 
 const END: RunEnd = RunEnd::NoInverse { at: 5 };
 
-// Whether the run with the greatest word, whose residue is n, misses the inverse of 0.
+// Whether the run with the greatest word, whose residue is n, stops at the inverse of 0.
 fn misses_32<R: Reducer<u32>>(ring: &R, last: u32, n: u32) -> bool {
     ends_with(ring, &commands(u32::MAX, last), END, [n, last, 1, 0, 0])
 }

@@ -1,4 +1,4 @@
-//! Commands at the edges of a byte's moduli, with the forms that each reducer leaves.
+//! Commands for moduli at the edges of a byte, with the forms of each reducer.
 
 use super::fixed::OF_255;
 use num_modular::ring::{RingCommand, RunEnd};

@@ -1,4 +1,4 @@
-//! What the program prints and answers, and what it does where memory or a write is refused.
+//! What the program prints and its exit status, also where an allocation or a write fails.
 
 ghost use Rattle.std.specs.Prelude.{◌≤◌};
 
@@ -13,7 +13,7 @@ const ZEROS: &str = "0 0 0 0 0 0 0 0\n";
 
 const MISSING_INVERSE: &str = "vanilla 21 load,0,5 load,1,7 inv,2,0 inv,0,1";
 
-// A writer that takes no memory, and can refuse one of its writes.
+// A writer that allocates nothing, and can fail at one of its writes.
 #[derive(Drop)]
 struct Page {
     bytes: [u8; 256],
@@ -64,7 +64,7 @@ impl Write for Page {
     }
 }
 
-// The words, which a space parts, and how many there are; there is room for eight.
+// The words, separated by spaces, and their number; there is room for eight.
 fn words_of(typed: &str) -> ([&str; 8], usize) {
     let mut words = [""; 8];
     let mut count = 0;
@@ -199,7 +199,7 @@ fn answers(rt: HostRuntime) {
     }
 }
 
-// Words that can't be read, or that ask for what isn't there.
+// Words that can't be read, or that name what doesn't exist.
 const REFUSED: &[&str] = &[
     "vanilla",
     "vanilla 0",
@@ -260,8 +260,7 @@ fn refuses_words(rt: HostRuntime) {
     assert!(rt; refuses_no_words(rt.alloc()));
 }
 
-// Whether a run answers 4 exactly where the write `refused` to one of its outputs is refused, and then
-// writes no more.
+// Whether a run returns 4 exactly where the write `refused` to one of its outputs fails, and then writes no more.
 fn tells_a_refused_write(alloc: Global, typed: &str, refused: usize) -> bool {
     let mut out = Page::refusing(refused);
     let mut err = Page::new();
@@ -273,7 +272,7 @@ fn tells_a_refused_write(alloc: Global, typed: &str, refused: usize) -> bool {
     told && (status == 4) == (refused <= err.writes)
 }
 
-// Each write in turn is refused, to either output; the last runs meet no refusal.
+// Each write in turn fails, to either output; the last runs have no failure.
 #[test]
 fn refused_writes(rt: HostRuntime) {
     let rows = [(MISSING_INVERSE, 1), ("vanilla 21", 0), ("vanilla", 2)];
@@ -291,7 +290,7 @@ fn refused_writes(rt: HostRuntime) {
     }
 }
 
-// How many of 64 growths are had, each of a list of its own.
+// How many of 64 allocations succeed, each for a list of its own.
 fn growths_had(alloc: Global) -> u32 {
     let mut had = 0;
     'growths: for _ in 0..64 {
@@ -303,8 +302,8 @@ fn growths_had(alloc: Global) -> u32 {
     had
 }
 
-// Prints the status and both texts of a run, and how many of 64 growths are had after it. Tells whether
-// the run ended as its words say, or said that memory was refused and no more.
+// Prints the status and both texts of a run, and how many of 64 allocations succeed after it. Returns whether the
+// run ended as its words say, or said that memory was refused and no more.
 fn tries_memory(rt: &HostRuntime, words: &[&str], wanted: (u8, &str, &str)) -> io::Result<bool> {
     let mut out = Page::new();
     let mut err = Page::new();
@@ -319,8 +318,8 @@ fn tries_memory(rt: &HostRuntime, words: &[&str], wanted: (u8, &str, &str)) -> i
     Ok(is_full || status == 3 && out.holds("") && err.holds("out of memory\n"))
 }
 
-// `rt try --test --fail-alloc N` refuses the Nth growth of the allocator; what these two tests print
-// says whether the run met it. `checks/refused-memory` does the same to the built program.
+// `rt try --test --fail-alloc N` makes the Nth allocation fail; what these two tests print says whether the run met
+// it. `checks/refused-memory` does the same to the built program.
 #[test]
 fn refused_memory(rt: HostRuntime) -> io::Result<()> {
     let (words, _) = words_of(MISSING_INVERSE);

@@ -6,7 +6,7 @@ use num_modular::word::RingWord;
 use num_modular::{Montgomery, PreMulInv2by1, Reducer, Vanilla};
 use run_helpers::{leaves, run_over};
 
-// Every command; a run ends where an inverse is missing.
+// Every command; a run ends where an inverse doesn't exist.
 fn commands<T: RingWord>(x: T, y: T, exp: T) -> [RingCommand<T>; 12] {
     [
         RingCommand::Load { dst: 0, n: x },
@@ -24,7 +24,7 @@ fn commands<T: RingWord>(x: T, y: T, exp: T) -> [RingCommand<T>; 12] {
     ]
 }
 
-// The end of a run over three registers of value 0, and their residues then.
+// The end of a run over three registers of value 0, and their residues after it.
 fn run_of_three<T: RingWord, R: Reducer<T>>(
     reducer: &R,
     commands: &[RingCommand<T>],
@@ -96,7 +96,7 @@ fn the_ring_of_one_value(rt: HostRuntime) {
     assert!(rt; leaves(&ring, &commands, RunEnd::Done, [0; 3], [0; 3]));
 }
 
-// The residue of a + b, in place and not.
+// The residue of a + b, as a result and in place.
 fn sums<R: Reducer<u8>>(reducer: &R, a: u8, b: u8) -> [u8; 2] {
     let f = reducer.transform(a);
     let g = reducer.transform(b);
@@ -105,7 +105,7 @@ fn sums<R: Reducer<u8>>(reducer: &R, a: u8, b: u8) -> [u8; 2] {
     [reducer.residue(sum), reducer.residue(reducer.add(&f, &g))]
 }
 
-// That of a - b.
+// The residue of a - b, as a result and in place.
 fn differences<R: Reducer<u8>>(reducer: &R, a: u8, b: u8) -> [u8; 2] {
     let f = reducer.transform(a);
     let g = reducer.transform(b);
@@ -117,14 +117,14 @@ fn differences<R: Reducer<u8>>(reducer: &R, a: u8, b: u8) -> [u8; 2] {
     ]
 }
 
-// That of (a - b) * a.
+// The residue of (a - b) * a.
 fn product_of_difference<T: RingWord, R: Reducer<T>>(reducer: &R, a: T, b: T) -> T {
     let f = reducer.transform(a);
     let g = reducer.transform(b);
     reducer.residue(reducer.mul_difference(&f, &g, &f))
 }
 
-// That of a * b.
+// The residue of a * b, as a result and in place.
 fn products<R: Reducer<u8>>(reducer: &R, a: u8, b: u8) -> [u8; 2] {
     let f = reducer.transform(a);
     let g = reducer.transform(b);
@@ -136,7 +136,7 @@ fn products<R: Reducer<u8>>(reducer: &R, a: u8, b: u8) -> [u8; 2] {
     ]
 }
 
-// Those of 2a, -a, the square and the cube.
+// The residues of 2a, -a, the square and the cube.
 fn multiples_and_powers<R: Reducer<u8>>(reducer: &R, a: u8) -> [u8; 4] {
     let f = reducer.transform(a);
     [
@@ -147,7 +147,7 @@ fn multiples_and_powers<R: Reducer<u8>>(reducer: &R, a: u8) -> [u8; 4] {
     ]
 }
 
-// The residues that the calls of a reducer leave of a and b.
+// The residues that the calls of a reducer return for a and b.
 fn residues_of_calls<R: Reducer<u8>>(reducer: &R, a: u8, b: u8) -> ([[u8; 2]; 3], [u8; 4]) {
     let of_two = [
         sums(reducer, a, b),
