@@ -1,4 +1,4 @@
-//! Rows of `modular_transform` and `modular_plan`, and comparisons with the plain sums.
+//! Known values of `modular_transform` and `modular_plan`, and comparisons with the plain sums.
 #![tactic(auto)]
 
 #[cfg(test)]

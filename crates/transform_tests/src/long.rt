@@ -1,4 +1,4 @@
-//! The row of a million entries, apart: unproved it takes minutes, so `./check --quick` leaves it out.
+//! The transform of a million entries, in a file of its own, so that `./check --quick` can leave it out.
 
 use num_modular::ring::{all_checked, ntt, root_fits};
 use num_modular::{FixedTrinomialSolinas64, Reducer};
@@ -19,7 +19,7 @@ fn transform_in_place<R: Reducer<u64>>(r: &R, xs: &mut [u64], g: &u64) -> bool {
     }
 }
 
-// How many entries the long transform has.
+// The number of entries of the long transform.
 fn a_million() -> usize {
     1 << 20
 }

@@ -1,4 +1,4 @@
-//! Transforms and cyclic products beside their plain sums, and plans with their factors.
+//! Transforms and cyclic products compared with their plain sums, and plans with their factors.
 
 mod factors;
 mod joins;

@@ -1,11 +1,11 @@
-//! Moduli that plans admit, quotients of factors, and products by them.
+//! Moduli of plans, quotients of factors, and products by them.
 
 use modular_prim::plain_word::PlainWord;
 use modular_word::path_word::PathWord;
 use num_modular::plans::{Factor, PlanEntry, PlannedModulus};
 
-// Whether a factor has this quotient, and its product with x, also without the quotient, is this
-// residue.
+// Whether a factor has this quotient, and its product with x this residue, also by `multiply`, without the
+// quotient.
 fn is_product<T: PlainWord>(m: T, w: T, quotient: T, x: T, residue: T) -> bool {
     if !PlannedModulus::admits(m) || !w.is_below(m) {
         return false;

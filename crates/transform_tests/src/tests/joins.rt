@@ -207,7 +207,7 @@ fn known_primes(rt: HostRuntime) {
     );
 }
 
-// A prime of 60 bits that leaves 1 modulo 2^20, and a root of 16 entries.
+// A prime of 60 bits that is 1 modulo 2^20, and a root of 16 entries.
 const LONG: u64 = 1152921504577486849;
 
 const ROOT: u64 = 22183971697201201;

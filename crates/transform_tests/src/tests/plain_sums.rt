@@ -1,4 +1,4 @@
-//! The known transforms and products over the plain reducer, and the plain programs beside them.
+//! Known transforms and products over the plain reducer, and comparisons with the plain programs.
 
 ghost use Rattle.std.specs.Prelude.{◌↔◌, IsTrue, All};
 ghost use Rattle.modular_reduced.specs.Forms.{IsForm};
@@ -37,7 +37,7 @@ fn convolved<T: RingWord, R: Reducer<T>>(r: &R, xs: &mut [T], ys: &mut [T], g: T
     Some(convolve(r, xs, ys, &g))
 }
 
-// Whether a transform takes so many products, and leaves this.
+// Whether a transform takes so many products and has this result.
 fn is_transform<T: RingWord, R: Reducer<T>>(
     r: &R,
     xs: &mut [T],
@@ -48,7 +48,7 @@ fn is_transform<T: RingWord, R: Reducer<T>>(
     counted(r, xs, g) == Some(products) && are_same(xs, want)
 }
 
-// Whether a cyclic product ends so, and leaves these lists.
+// Whether a cyclic product returns this and leaves these lists.
 fn is_product<T: RingWord, R: Reducer<T>>(
     r: &R,
     lists: (&mut [T], &mut [T]),
@@ -60,7 +60,7 @@ fn is_product<T: RingWord, R: Reducer<T>>(
     convolved(r, xs, ys, g) == Some(inverted) && are_same(xs, want.0) && are_same(ys, want.1)
 }
 
-// The number whose powers are asked for, the length, and whether it suits, modulo 21.
+// The number, the length, and whether the number suits it, modulo 21.
 const ROOTS: &[(u8, usize, bool)] = &[
     (8, 2, false),
     (20, 2, true),
@@ -121,7 +121,7 @@ fn products(rt: HostRuntime) {
     );
 }
 
-// Eight values of no pattern, and a root of -1 to the fourth modulo 17.
+// Eight values without a pattern, and a number whose fourth power is -1 modulo 17.
 const VALUES: [u64; 8] = [3, 14, 15, 9, 2, 6, 5, 11];
 
 const OTHERS: [u64; 8] = [2, 7, 1, 8, 16, 0, 4, 5];

@@ -10,7 +10,7 @@ use num_modular::plans::{
     multiply,
 };
 
-// The product as block b, where its conditions hold: by its own call for the blocks 0 and 1.
+// The product as block b, where its conditions hold; for the blocks 0 and 1 by their own calls.
 fn convolved<T: PlainWord>(
     m: &PlannedModulus<T>,
     table: &[Factor<T>],
@@ -55,7 +55,7 @@ fn is_product<T: PlainWord>(
         && are_same(ys, want.1)
 }
 
-// Whether the product is refused, and the lists stay.
+// Whether the product returns false and leaves the lists unchanged.
 fn is_refused<T: PlainWord>(
     root: (T, T),
     table: &mut [Factor<T>],

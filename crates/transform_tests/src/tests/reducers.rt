@@ -1,11 +1,11 @@
-//! Transforms and cyclic products over several reducers, beside their plain sums.
+//! Transforms and cyclic products over several reducers, compared with their plain sums.
 
 use modular_transform::plain::{product_entry, transform_entry};
 use num_modular::ring::{all_checked, convolve, ntt_counted, root_fits};
 use num_modular::word::RingWord;
 use num_modular::{FixedTrinomialSolinas64, Montgomery, PreMulInv2by1, Reducer, Vanilla};
 
-// Puts the forms of residues in their place.
+// Replaces residues by their forms.
 fn take_forms<T: RingWord, R: Reducer<T>>(r: &R, xs: &mut [T]) {
     for i in 0..xs.len() {
         xs[i] = r.transform(xs[i]);
@@ -22,8 +22,7 @@ fn are_forms<T: RingWord, R: Reducer<T>>(r: &R, xs: &[T], residues: &[T]) -> boo
     xs.len() == residues.len()
 }
 
-// The forms of residues transformed in their place, with the number of products; `None` where g
-// doesn't suit.
+// The transform in place of the forms of residues, with the number of products; `None` where g doesn't suit.
 fn transformed<T: RingWord, R: Reducer<T>>(r: &R, xs: &mut [T], g: T) -> Option<u128> {
     take_forms(r, xs);
     let root = r.transform(g);
@@ -34,7 +33,7 @@ fn transformed<T: RingWord, R: Reducer<T>>(r: &R, xs: &mut [T], g: T) -> Option<
     }
 }
 
-// The cyclic product of the forms of residues in their place; `None` where g doesn't suit.
+// The cyclic product in place of the forms of residues; `None` where g doesn't suit.
 fn multiplied<T: RingWord, R: Reducer<T>>(r: &R, xs: &mut [T], ys: &mut [T], g: T) -> Option<bool> {
     take_forms(r, xs);
     take_forms(r, ys);
@@ -50,7 +49,7 @@ fn multiplied<T: RingWord, R: Reducer<T>>(r: &R, xs: &mut [T], ys: &mut [T], g: 
     }
 }
 
-// The number whose transform is asked for, its length, and whether it is a root of -1.
+// The root, the length, and whether the root suits it.
 const ROOTS: &[(u8, usize, bool)] = &[
     (8, 2, false),
     (20, 2, true),
@@ -67,7 +66,7 @@ fn roots(rt: HostRuntime) {
     }
 }
 
-// Whether a transform takes so many products, and leaves the forms of these residues.
+// Whether a transform takes so many products and gives the forms of these residues.
 fn is_transform<T: RingWord, R: Reducer<T>>(
     r: &R,
     xs: &mut [T],
@@ -78,7 +77,7 @@ fn is_transform<T: RingWord, R: Reducer<T>>(
     transformed(r, xs, g) == Some(products) && are_forms(r, xs, want)
 }
 
-// Whether a cyclic product ends so, and leaves the forms of these residues in both lists.
+// Whether a cyclic product returns this and gives the forms of these residues in both lists.
 fn is_product<T: RingWord, R: Reducer<T>>(
     r: &R,
     xs: &mut [T],
@@ -108,8 +107,8 @@ fn known_products(rt: HostRuntime) {
     );
 }
 
-// Whether a reducer of 20 transforms two entries, and leaves both lists of a product that it can't
-// divide by 2.
+// Whether a reducer of 20 transforms two entries, and leaves both lists unchanged where it can't divide a product
+// by 2.
 fn is_even_ring<R: Reducer<u8>>(r: &R) -> bool {
     let (mut xs, mut ys, mut zs) = ([7, 9], [1, 0], [7, 9]);
     is_transform(r, &mut zs, 19, 3, &[16, 18])
@@ -127,7 +126,7 @@ const MODULUS: u64 = 18446744069414584321;
 
 const GENERATOR: u64 = 7;
 
-// The residues i * i * 40503 + seed for the places i.
+// The residues i * i * 40503 + seed for the indexes i.
 fn seed(xs: &mut [u64], seed: u64) {
     for i in 0..xs.len() {
         xs[i] = (i as u64)
@@ -143,14 +142,14 @@ const FIRST: u64 = 3;
 
 const SECOND: u64 = 14;
 
-// Puts the plain transform by g of a list in its place.
+// Replaces the entries by the plain transform by g of a list.
 fn take_transform(entries: &mut [u64], xs: &[u64], g: u64) {
     for e in 0..entries.len() {
         entries[e] = transform_entry(MODULUS, g, xs, e);
     }
 }
 
-// Puts the plain cyclic product of two lists of the same length in its place.
+// Replaces the entries by the plain cyclic product of two lists of the same length.
 fn take_product(entries: &mut [u64], xs: &[u64], ys: &[u64]) {
     let n = entries.len();
     if n > 256 || xs.len() != n || ys.len() != n {
@@ -186,7 +185,7 @@ fn plain_sums(n: usize, g: u64) -> Sums {
     sums
 }
 
-// Whether a reducer's transforms and its cyclic product are these sums, every entry.
+// Whether a reducer's transforms and cyclic product equal these sums in every entry.
 fn are_sums<R: Reducer<u64>>(r: &R, sums: &Sums, n: usize, g: u64) -> bool {
     let (mut xs, mut ys, mut zs) = ([0; 256], [0; 256], [0; 256]);
     seed(&mut xs, FIRST);

@@ -25,7 +25,7 @@ pub fn all_below<T: PlainWord>(m: &PlannedModulus<T>, xs: &[T]) -> bool
     xs.iter().all(|x| x.is_below(m.modulus))
 }
 
-// Whether two lists are the same.
+// Whether two lists are equal.
 pub fn are_same<T: RingWord>(xs: &[T], ys: &[T]) -> bool {
     for i in 0..xs.len() {
         if i >= ys.len() || xs[i] != ys[i] {
@@ -35,8 +35,8 @@ pub fn are_same<T: RingWord>(xs: &[T], ys: &[T]) -> bool {
     xs.len() == ys.len()
 }
 
-// The modulus with the plan by g in the table, which is for n entries, n being twice its length; `None`
-// where they don't suit.
+// The modulus, and in the table the plan by g for n entries, n being twice its length; `None` where they don't
+// suit.
 pub fn planned<T: PlainWord>(m: T, g: T, table: &mut [Factor<T>]) -> Option<PlannedModulus<T>>
     ensures { MatchOption result ⊤
         (λ m. All (λ f. IsFactor T.base (T.number m.modulus) (T.number f.value) (T.number f.quotient)) table.new) }
@@ -228,7 +228,7 @@ fn known_primes(rt: HostRuntime) {
     );
 }
 
-// The greatest prime below 2^62 that leaves 1 modulo 8.
+// The greatest prime below 2^62 that is 1 modulo 8.
 const GREATEST: u64 = 4611686018427387817;
 
 #[test]

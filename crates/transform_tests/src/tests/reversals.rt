@@ -1,17 +1,17 @@
-//! Lists in the order of reversed bits, of fewer and more places than a tile has.
+//! Lists in bit-reversed order, shorter and longer than a tile.
 
 ghost use Rattle.std.specs.Prelude.{◌<◌, ◌≤◌};
 
 use modular_transform::order::reverse_places;
 
-// Writes to each place its number.
+// Writes each index as the entry there.
 fn number(places: &mut [usize]) {
     for i in 0..places.len() {
         places[i] = i;
     }
 }
 
-// Whether each place holds its number with the lowest bits in the opposite order.
+// Whether each entry is its index with the lowest bits in the opposite order.
 fn are_reversed(places: &[usize], bits: u32) -> bool
     requires some { 0 < bits }
     requires few { bits ≤ 64 }

@@ -1,4 +1,4 @@
-//! Roots that are found.
+//! Roots that `find_root` returns.
 
 use modular_prim::plain_word::PlainWord;
 use modular_reduced::reducer::Reducer;
@@ -7,7 +7,7 @@ use modular_transform::transform::root_fits;
 use modular_word::ring_word::RingWord;
 use num_modular::ring::find_root;
 
-// The residue of the root that is found modulo m for n entries, where it suits.
+// The residue of the root modulo m for n entries, if it suits.
 fn found<T: PlainWord>(m: T, n: usize) -> Option<T> {
     if m.is_zero_word() {
         return None;
