@@ -1,4 +1,4 @@
-//! Rows of the crates that use `num_modular`, and uses of its items by their paths.
+//! Known values of the crates that use `num_modular`, and uses of its items by their paths.
 #![tactic(auto)]
 
 #[cfg(test)]

@@ -1,4 +1,4 @@
-//! Values of each user, had from outside, the README's examples run, and each public item once.
+//! Known values of each user from other sources, the README's examples, and a use of each public item.
 
 mod big_products;
 mod check_symbols;

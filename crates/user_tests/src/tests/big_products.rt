@@ -1,9 +1,9 @@
-//! Products known from elsewhere, and slices without room.
+//! Known products from other sources, and slices that are too short.
 
 use big_product::{product, transform_length};
 
-// Two factors and their product, computed with another program: 20! and 40!/20!, 50! and 100!/50!,
-// and 2^48 - 1 twice.
+// Two factors and their product, computed with another program: 20! and 40!/20!, 50! and 100!/50!, and 2^48 - 1
+// squared.
 const ROWS: &[(&[u16], &[u16], &[u16])] = &[
     (
         &[0, 33460, 26492, 8643],

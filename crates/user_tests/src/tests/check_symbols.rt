@@ -1,5 +1,4 @@
-//! Real numbers with check symbols: every change of one symbol, exchanges of neighbours, and erased
-//! symbols.
+//! Real numbers with check symbols: every change of one symbol, exchanges of neighbours, and erased symbols.
 
 ghost use Rattle.std.specs.Prelude.{◌≤◌};
 
@@ -8,7 +7,7 @@ use ring_codes::{
     iban_digits, standard_codes,
 };
 
-// The symbols of a text: X is 10, and a hyphen is left out. There are 13 at most.
+// The symbols of a text, at most 13: X is 10, and a hyphen is skipped.
 #[derive(Clone, Copy)]
 struct Symbols {
     list: [u64; 13],
@@ -39,14 +38,14 @@ fn accepts(code: Code<'_>, text: &[u8]) -> bool {
     code.accepts(&list[..symbols.count])
 }
 
-// GB82 WEST 1234 5698 7654 32 as ISO 13616 reads it: W, E, S and T are 32, 14, 28 and 29, then the
-// digits, G and B, which are 16 and 11, and 82.
+// GB82 WEST 1234 5698 7654 32 as ISO 13616 converts it: W, E, S and T are 32, 14, 28 and 29, then come the digits,
+// G and B, which are 16 and 11, and 82.
 const ACCOUNT: [u64; 28] = [
     3, 2, 1, 4, 2, 8, 2, 9, 1, 2, 3, 4, 5, 6, 9, 8, 7, 6, 5, 4, 3, 2, 1, 6, 1, 1, 8, 2,
 ];
 
-// Whether the word is accepted, no word with one other symbol of 0 to 10 is, and the same is told of it;
-// and whether each symbol is restored.
+// Whether the word is accepted, no word with another symbol of 0 to 10 is, and `finds_change` says so; and whether
+// each symbol is restored.
 fn keeps(code: Code<'_>, word: &mut [u64]) -> bool {
     if word.len() != code.weights.len() {
         return false;
@@ -76,7 +75,7 @@ fn keeps_text(code: Code<'_>, text: &[u8]) -> bool {
     keeps(code, &mut list[..symbols.count])
 }
 
-// Whether the word is accepted, and the exchange of the symbols at `place` and behind it is found.
+// Whether the word is accepted, and the exchange of the symbols at `place` and at the next place is detected.
 fn finds_one_exchange(code: Code<'_>, text: &[u8], place: usize) -> Option<bool> {
     let symbols = read(text);
     let list = symbols.list;
@@ -110,12 +109,12 @@ fn words_of_another_form(rt: HostRuntime) {
     for code in standard_codes() {
         assert!(rt; !code.accepts(&[]) && !code.accepts(&[0]));
     }
-    // each of these leaves 0 modulo 11: 11 for 0, 14 for 3, and an X before the last place
+    // the weighted sum of each is 0 modulo 11: 11 for 0, 14 for 3, and an X before the last place
     assert!(rt; !ISBN_10.accepts(&[11, 3, 0, 6, 4, 0, 6, 1, 5, 2]));
     assert!(rt; !ISBN_10.accepts(&[0, 14, 0, 6, 4, 0, 6, 1, 5, 2]));
     assert!(rt; !accepts(ISBN_10, b"X000000050") && !accepts(ISBN_10, b"X00000000X"));
     assert!(rt; !accepts(ISSN, b"000X-0005"));
-    // a book's number is an article's, and not each article's is a book's
+    // the number of a book is an article's, and not each article's is a book's
     assert!(rt; accepts(EAN_13, b"9780306406157") && !accepts(ISBN_13, b"4006381333931"));
 }
 
@@ -138,7 +137,7 @@ fn exchanges_of_neighbours(rt: HostRuntime) {
     }
 }
 
-// Whether the text is an IBAN, and none of the same with one digit or letter changed for another.
+// Whether the text is an IBAN, and none is after a change of one digit or letter to another.
 fn refuses_other_characters(text: &[u8]) -> bool {
     let mut changed = [0u8; 34];
     let count = text.len();
@@ -184,7 +183,7 @@ fn check_digits_of_an_iban(rt: HostRuntime) {
     assert!(rt; accepts_iban(b"GB02WEST12345600000017"));
     assert!(rt; accepts_iban(b"GB97WEST12345600000053"));
     assert!(rt; accepts_iban(b"GB98WEST12345600000035"));
-    // the same accounts with check digits that leave 1 modulo 97 and aren't generated
+    // the same accounts with check digits whose number is 1 modulo 97 and that aren't generated
     assert!(rt; !accepts_iban(b"GB99WEST12345600000017"));
     assert!(rt; !accepts_iban(b"GB00WEST12345600000053"));
     assert!(rt; !accepts_iban(b"GB01WEST12345600000035"));

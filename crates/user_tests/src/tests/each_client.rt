@@ -1,4 +1,4 @@
-//! Rows of each client; the values were computed with Python.
+//! Known values of each client, computed with Python.
 
 use clients::commands::{product_by_commands, residue_over_copies};
 use clients::cubic::cubic;
@@ -108,7 +108,7 @@ fn lists_of_commands(rt: HostRuntime) {
     assert!(rt; product_by_commands(10, 20, 97) == 6);
 }
 
-// The hash alone, so that what it promises isn't kept beside the rows.
+// The hash alone, so that its contract isn't kept with the known values.
 fn hash_of(text: &[u8], x: u64) -> u64 {
     hash(text, x)
 }

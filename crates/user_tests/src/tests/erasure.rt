@@ -136,8 +136,8 @@ fn restores_from_each_three<R: Reducer<u64>, const N: usize>(
     true
 }
 
-// Whether the word is that of the message, every three symbols give it back, and a change of the first
-// symbol is told.
+// Whether the word is that of the message, every three symbols restore it, and a change of the first symbol is
+// detected.
 fn has_word<R: Reducer<u64>, const N: usize>(
     r: &R,
     points: &[u64; N],
@@ -256,7 +256,7 @@ fn bad_input(rt: HostRuntime) {
     assert!(rt; systematic_word_of(&r, &[0, 7, 1], &[1, 2]) == None);
 }
 
-// The shares of a secret at five points, and the secret from the shares at three places of them.
+// The shares of a secret at five points, and the secret from three of them.
 fn shared_and_recovered<R: Reducer<u64>>(
     r: &R,
     coefficients: &[u64; 3],

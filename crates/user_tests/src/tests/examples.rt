@@ -1,4 +1,4 @@
-//! The README's examples, run. Each value was computed with Python's whole numbers.
+//! The README's examples. Each value was computed with Python's integers.
 
 use num_modular::Montgomery;
 use num_modular_uses::first_use::{

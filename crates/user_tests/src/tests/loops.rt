@@ -1,4 +1,4 @@
-//! Rows of the clients with powers and loops; the values were computed with Python.
+//! Known values of the clients with powers and loops, computed with Python.
 
 ghost use Rattle.std.specs.Prelude.{◌≤◌};
 
@@ -22,7 +22,7 @@ fn keys_of_two_parties(rt: HostRuntime) {
     assert!(rt; keys(5, 123456789, 987654321, m).1 == 13238872984339080984);
 }
 
-// A number, a base, and whether Fermat's test to it shows that the number isn't prime.
+// A number, a base, and whether Fermat's test to that base proves that the number isn't prime.
 const FERMAT_TESTS: &[(u64, u64, bool)] = &[
     (341, 2, false),
     (341, 3, true),

@@ -1,11 +1,11 @@
-//! Integers of a ring, and powers with their count.
+//! Integers of a ring, and powers with the number of products.
 
 use num_modular::reduced::pow_counted;
 use num_modular::word::RingWord;
 use num_modular::{ModularInteger, MontgomeryInt, ReducedInt, Reducer, Vanilla, VanillaInt};
 use run_helpers::{multiples, product, sum};
 
-// What the form, the residue and the modulus of an integer are, and whether it is the integer of a word.
+// The form, the residue and the modulus of an integer, and whether it is the integer of a word.
 fn parts<T: RingWord, R: Reducer<T> + Copy>(a: ReducedInt<T, R>, n: T) -> ([T; 3], bool) {
     ([*a.repr(), a.residue(), a.modulus()], a == a.convert(n))
 }
