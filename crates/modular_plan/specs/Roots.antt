@@ -1,5 +1,5 @@
--- The candidates for roots of transforms of n entries modulo m: powers of small numbers to the exponent (m - 1) /
--- n. For a prime m each root of unity of order n is such a power of a primitive root (Pollard, "The fast Fourier
+-- The candidates for roots of transforms of n entries modulo m: powers of small numbers to the exponent (m -
+-- 1) / n. For a prime m each root of unity of order n is such a power of a primitive root (Pollard, "The fast Fourier
 -- transform in a finite field", section 3). The names are the library's own.
 use Rattle.std.specs.Prelude.{ℕ, ◌-◌, ◌/◌, ◌%◌, ◌^◌, ◌<◌, ◌≤◌}
 use Rattle.modular_transform.specs.Transforms.{Suits}

@@ -320,8 +320,8 @@ fn join_neighbours<T: PlainWord, M: JoinSteps<T>>(
     xs[first] = a;
 }
 
-// The first two stages of all blocks of four entries, which makes them less than the bound: block p by entry first
-// + p of the table, and its halves by the entries 2·(first + p) and 2·(first + p) + 1.
+// The first two stages of all blocks of four entries, which makes them less than the bound: block p by entry
+// first + p of the table, and its halves by the entries 2·(first + p) and 2·(first + p) + 1.
 fn join_fours<T: PlainWord, F: PlanEntry<T>, M: JoinSteps<T>>(
     m: &M,
     xs: &mut [T],

@@ -25,7 +25,7 @@ pub trait DivExact<Rhs: Numbered, Precompute>: Numbered + Sized {
         ensures { IsExactQuotient Self.Output.whole_number (Self.whole_number self) (Rhs.whole_number d) result };
 }
 
-/// Exact division in place by a divisor, given what was precomputed of it; `()` for nothing.
+/// Exact division in place by a divisor, given what was precomputed of it, or `()`.
 pub trait DivExactAssign<Rhs: Numbered, Precompute>: DivExact<Rhs, Precompute, Output = Self> {
     /// Replaces the number by its quotient by d and returns true. Where d doesn't divide the number, it leaves it
     /// unchanged and returns false. Condition: what is stored fits d.

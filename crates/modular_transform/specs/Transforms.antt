@@ -3,8 +3,8 @@ use Rattle.std.specs.Prelude.{◌≡◌, ℕ, ◌+◌, ◌*◌, ◌/◌, ◌%◌
 use Rattle.std.specs.Int.{IsPowerOfTwo}
 use Rattle.modular_word.specs.Sums.{sum_below}
 
--- g suits n values: n is a power of two, and for n above 1 g^(n/2) is -1 modulo m; for odd m above 1 and n above 1, g is
--- then a primitive n-th root of unity (von zur Gathen and Gerhard, Modern Computer Algebra, section 8.2)
+-- g suits n values: n is a power of two, and for n above 1 g^(n/2) is -1 modulo m. For odd m above 1 and n above 1,
+-- g is then a primitive n-th root of unity (von zur Gathen and Gerhard, Modern Computer Algebra, section 8.2).
 pub record Suits (m g n : ℕ) : Type 0 where
   pub power_of_two : IsPowerOfTwo n
   pub half_turn : 1 < n → (g ^ (n / 2) + 1) % m ≡ 0

@@ -196,8 +196,8 @@ pub extern "C" fn nm_convolve_planned(
 }
 
 /// Replaces the first of two lists of n words by their product modulo X^n + 1, and the second by the result of
-/// `nm_split` for b = 1: entry e of the product is the sum of x_i·y_j modulo m over i + j = e, less that over i + j
-/// = e + n. The codes are those of `nm_convolve_planned`, except that the table must have at least n/last entries.
+/// `nm_split` for b = 1: entry e of the product is the sum of x_i·y_j modulo m over i + j = e, less that over i +
+/// j = e + n. The codes are those of `nm_convolve_planned`, except that the table must have at least n/last entries.
 #[unsafe(no_mangle)]
 pub extern "C" fn nm_convolve_negacyclic(
     m: u64,
