@@ -6,7 +6,7 @@ use Rattle.std.proofs.lemmas.List.{get_or_past}
 use Rattle.std.proofs.lemmas.Nat.{pow_pos}
 use Rattle.num_modular.specs.Transforms.{Suits}
 
--- no entry is above the bound, and behind the last they are 0
+-- no entry is above the bound, and the entries after the last are 0
 pub at_most : (xs : List ℕ) (b i : ℕ) → All (λ x. x ≤ b) xs → slice_index xs i ≤ b
 at_most xs b i all = elim (cases_lt i (length xs)) [
   | inl l ↦ all i 0 l

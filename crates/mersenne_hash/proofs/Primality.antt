@@ -116,7 +116,7 @@ no_small n k h square none =
           (cases_lt d (suc q));
     }
 
--- powers of what leaves 1
+-- powers of a number that is congruent to 1
 ones : (d x k : ℕ) → x % d ≡ 1 % d → x ^ k % d ≡ 1 % d
 ones d x zero h = ap (λ n. n % d) (pow-zero x)
 ones d x (suc k) h =

@@ -77,7 +77,7 @@ residue_moved m x c d old new window power longer out value same is power_is lon
     ∙ ap (λ k. k % m) whole_is ∙ mod-mod l m)
     (ap (λ cs. polynomial_value cs x % m) same ∙ ap (λ k. k % m) (value_first new c x))
 
--- the window at a position and the byte behind it are the byte there and the next window
+-- the window at a position and the byte after it are the byte there and the next window
 pub window_moves : (n at : ℕ) (xs : List ℕ) → at + n < length xs
     → take n (drop at xs) ++ get_or xs (at + n) 0 ∷ [] ≡ get_or xs at 0 ∷ take n (drop (at + 1) xs)
 window_moves n at xs h =
@@ -87,6 +87,6 @@ window_moves n at xs h =
     ∙ sym (take_more (drop at xs) n 0 inside) ∙ ap (λ k. take k (drop at xs)) (add-one n)
     ∙ ap (take (suc n)) (drop-cons xs at 0 within) ∙ ap (λ k. get_or xs at 0 ∷ take n (drop k xs)) (sym (add-one at))
 
--- what stands between two positions
+-- the text between two positions
 pub window_is : (n at : ℕ) (xs : List ℕ) → slice_range xs at (at + n) ≡ take n (drop at xs)
 window_is n at xs = ap (λ k. take k (drop at xs)) (let e : at + n - at ≡ n = omega arith in e)

@@ -18,7 +18,7 @@ use Rattle.modular_barrett.specs.Scaling.{scale, scaled_form, scaled_value, IsSc
 abbrev pub IsScaledForm : ℕ → ℕ → ℕ → Type 0
 IsScaledForm w m f = IsForm (scaled_form w) (scaled_value w) m f
 
--- modulo m the scaled form f stands for v
+-- modulo m the scaled form f represents v
 abbrev pub Stands : ℕ → ℕ → ℕ → ℕ → Type 0
 Stands w m f v = Represents (scaled_form w) m f v
 
@@ -29,7 +29,7 @@ divisor_is {w} {m} {d} {s} is = is.scaled ∙ ap (λ n. m * 2 ^ n) is.zeros
 some_scale : (w m : ℕ) → 0 < scale w m
 some_scale w m = pow_pos (count_leading_zeros w m)
 
--- what is the remainder of a scaled number stands for the remainder
+-- the remainder of a scaled number represents the remainder
 stands_for : (w m d x r : ℕ) → 0 < m → d ≡ m * scale w m → r ≡ (x * scale w m) % d → Stands w m r (x % m)
 stands_for w m d x r positive ed e = record {
   below = mod-lt x positive;
@@ -42,7 +42,7 @@ form_below w m d f ed form =
     let h : scaled_value w m f * scale w m < m * scale w m = mul-lt-mul_of_pos_right form.below (some_scale w m) in
     omega (arith, form.same)
 
--- what a form stands for is its value
+-- the value that a form represents is its value
 pub value_is : (w m f v : ℕ) → Stands w m f v → v ≡ scaled_value w m f
 value_is w m f v h = sym (ap (λ n. n / scale w m) h.same ∙ shl-shr v (count_leading_zeros w m))
 
@@ -172,7 +172,7 @@ scaling_of w b m d s eb some below es ed =
       scaled = ed;
     })
 
--- the inverse of what a form stands for, scaled
+-- the inverse of the value of a form, scaled
 pub inverse_stands : (w m d s modulus f v x r : ℕ) → IsScaling w m d s → modulus ≡ m → Stands w m f v
     → IsInverse modulus v x → r ≡ x * 2 ^ s
     → (y : ℕ) × IsInverse m (scaled_value w m f) y × Stands w m r y

@@ -16,7 +16,7 @@ use Rattle.modular_monty.specs.MontgomeryLaws.{positive, value_of_form}
 use Rattle.modular_even.specs.SplitLaws.{form_is, modulus_positive, form_less, within, negated_inverse, split_canonical}
 use Rattle.modular_monty.proofs.MontgomerySteps as odd
 
--- a call that makes f, which stands for the value v modulo m, keeps its promise
+-- the clauses of a call that returns f, which represents the value v modulo m
 abbrev pub Made : ℕ → ℕ → ℕ → ℕ → Type 0
 Made w m f v = Answered (split_form w) (split_value w) m f v
 
@@ -50,7 +50,7 @@ module _ {w b m s k i square : ℕ} (r : IsSplitRing w b m s k i square) where
         sym (mod_of_multiple_left q k x) ∙ ap (λ n. n % q) whole ∙ mod_of_multiple_left q k y,
       )
 
-  -- two parts that stand for x make the form of x modulo m
+  -- two parts that represent x give the form of x modulo m
   pub made : (x l : ℕ) {u v f : ℕ} → odd.Stands w k u v → v ≡ x % k → l % 2 ^ s ≡ x % 2 ^ s → f ≡ u * 2 ^ s + l % 2 ^ s
       → Made w m f (x % m)
   made x l {u} {v} {f} high ev el ef =

@@ -7,7 +7,7 @@ use Rattle.std.proofs.lemmas.Nat.{shr_split, pow_pos, le-div, and_mask}
 use Rattle.std.proofs.lemmas.Bool.{cases_lt}
 use Rattle.modular_fold_paths.specs.Folds.{fold_of, IsFolding}
 
--- the mask of the bits below p keeps what is left modulo 2^p
+-- the mask of the bits below p gives the residue modulo 2^p
 pub masked : (p mask v : ℕ) → mask + 1 ≡ 2 ^ p → bit_and v mask ≡ v % 2 ^ p
 masked p mask v ones =
     ap (λ n. bit_and v n) (let e : mask ≡ 2 ^ p - 1 = omega arith in e) ∙ and_mask v p

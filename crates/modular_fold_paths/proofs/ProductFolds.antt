@@ -38,7 +38,7 @@ product_high p m a b left right most =
     let up : m * m ≤ m * 2 ^ p = mul-le-mul_left m most in
     (div-lt_iff_lt-mul {x = a * b} {y = m} (pow_pos p)).1 (omega arith)
 
--- v leaves what a + b leaves modulo m, where b is at most m and the sum below 2m
+-- v is congruent to a + b modulo m, where b is at most m and the sum below 2m
 pub record IsLastSum (m v a b : ℕ) : Type 0 where
   pub most : b ≤ m
   pub twice : a + b < 2 * m

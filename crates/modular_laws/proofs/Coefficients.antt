@@ -57,7 +57,7 @@ coefficient m n s t e x y few few_y small room below =
     let up : (e + 1) * (s * t) ≤ n * (s * t) = mul-le-mul_right (s * t) (omega arith) in
     ap (λ v. v % m) sum ∙ mod-eq_of_lt (omega (arith, most, up, small))
 
--- entries that lists have, and none behind them
+-- the entries of lists, and 0 after them
 no_term : (xs ys : List ℕ) (n i j : ℕ) → length xs + length ys ≤ n + 1 → n ≤ i + j → get_or xs i 0 * get_or ys j 0 ≡ 0
 no_term xs ys n i j few beyond = elim (cases_lt i (length xs)) [
   | inl l ↦ let z = get_or_past ys j 0 (omega arith) in ap (λ v. get_or xs i 0 * v) z ∙ omega arith

@@ -132,7 +132,7 @@ same_coefficients m (suc n) c d x apart same i l =
     (same i (omega arith))) in
     from_rests m (suc n) (x n) c d (whole_rests m n (x n) c d at_last behind) i l
 
--- a list of coefficients, with as many zeros behind it as one likes
+-- a list of coefficients, followed by any number of zeros
 polynomial-padded : (n : ℕ) (cs : List ℕ) (x : ℕ) → length cs ≤ n
     → ascending_polynomial n (λ i. get_or cs i 0) x ≡ polynomial_at cs x
 polynomial-padded n cs x l =

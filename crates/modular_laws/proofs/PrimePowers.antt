@@ -21,7 +21,7 @@ one_out : (a k : ℕ) → 0 < k → a ^ k ≡ a ^ (k - 1) * a
 one_out a k l = let e : k ≡ (k - 1) + 1 = omega arith in
     ap (λ n. a ^ n) e ∙ pow-add a (k - 1) 1 ∙ ap (λ v. a ^ (k - 1) * v) (pow-one a)
 
--- the p-th power leaves what the number leaves
+-- the p-th power is congruent to the number
 pub fermat_for_all : (a p : ℕ) → IsPrime p → a ^ p % p ≡ a % p
 fermat_for_all a p u =
     let l = u.above_one in
@@ -53,7 +53,7 @@ root_of_half a p o u e =
     let r = root_from_symbol (pos a) p o u j in
     (r.0, r.1.0, r.1.1)
 
--- modulo a prime that leaves 3 modulo 4, a square has the power to (p + 1) / 4 as a root
+-- modulo a prime that is 3 modulo 4, a square has its power to (p + 1) / 4 as a root
 pub root_power : (a p x : ℕ) → p % 4 ≡ 3 → IsPrime p → (x * x) % p ≡ a % p
     → (a ^ ((p + 1) / 4) * a ^ ((p + 1) / 4)) % p ≡ a % p
 root_power a p x o u e =

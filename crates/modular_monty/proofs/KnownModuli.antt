@@ -6,7 +6,7 @@ use Rattle.modular_word.proofs.Lifting.{InverseTo, base_above_two, lift_start, l
 use Rattle.modular_monty.specs.Montgomery.{IsOddModulus, negated_inverse_of}
 use Rattle.modular_monty.specs.MontgomeryLaws.{value_below-found}
 
--- the double word that wraps from 0 by m leaves what the square of the base leaves
+-- the double word that wraps from 0 by m is congruent to the square of the base
 pub wrapped_square : (square m : ℕ) → 0 < m → m < square → (0 + (square - m)) % square % m ≡ square % m
 wrapped_square square m some fits =
     let less : 0 + (square - m) ≡ square - m = omega arith in
@@ -18,7 +18,7 @@ module _ (w b m : ℕ) (base : b ≡ 2 ^ w) (wide : 8 ≤ w) (odd : m % 2 ≡ 1)
   some : 0 < b
   some = omega (arith, fits)
 
-  -- a number whose sum with p leaves 2
+  -- a number whose sum with p is congruent to 2
   from_two : (p : ℕ) → p < b → (2 + (b - p) + p) % b ≡ 2
   from_two p h =
       let s : 2 + (b - p) + p ≡ 2 + b * 1 = omega arith in

@@ -15,7 +15,7 @@ use Rattle.modular_reduced.proofs.FormLemmas.{Answered, InverseAnswered, answere
 use Rattle.modular_monty.specs.Montgomery.{montgomery_form, montgomery_value, IsOddRing}
 use Rattle.modular_monty.specs.MontgomeryLaws.{positive, base_cancels, montgomery_canonical}
 
--- modulo m, f stands for the value v
+-- modulo m, f represents the value v
 abbrev pub Stands : ℕ → ℕ → ℕ → ℕ → Type 0
 Stands w m f v = Represents (montgomery_form w) m f v
 

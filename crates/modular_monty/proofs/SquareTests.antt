@@ -33,7 +33,7 @@ module _ {b m i square t r s u : ℕ} (some : 0 < b) (inverse : IsNegatedInverse
       let base : r % m ≡ b % m = sym again ∙ same_product m u 1 b b e refl ∙ ap (λ n. n % m) one in
       sym times_base ∙ same_product m r b b b base refl
 
-  -- modulo 1 there is one number alone
+  -- modulo 1 there is only one residue
   pub square_modulo_one : m ≡ 1 → square ≡ (b * b) % m
   square_modulo_one e =
       let least : 0 < m = omega (arith, e) in

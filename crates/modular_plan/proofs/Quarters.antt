@@ -42,7 +42,7 @@ behind number xs ys n i e =
     ∙ ap (λ k. get_or (map number xs ++ map number ys) (k + i) 0) (sym e ∙ sym (length-map xs number))
     ∙ get_or-append-add (map number xs) (map number ys) i 0
 
--- what holds of all words holds of those in front, and of those behind
+-- what holds for all words holds for those in front, and for those after them
 pub all_in_front : {T : Type 0} (P : T → Type 0) (xs ys : List T) → All P (xs ++ ys) → All P xs
 all_in_front P xs ys all k d l =
     let len = length-append xs ys in
@@ -53,7 +53,7 @@ all_behind P xs ys all k d l =
     let len = length-append xs ys in
     subst P (get_or-append-add xs ys k d) (all (length xs + k) d (omega (arith, len, l)))
 
--- the list that the quarters a, b, c and d make with what stands before and after them
+-- the list that the quarters a, b, c and d form with what is before and after them
 abbrev pub joined : {T : Type 0} → List T → List T → List T → List T → List T → List T → List T
 joined f a b c d t = f ++ (a ++ (b ++ (c ++ (d ++ t))))
 

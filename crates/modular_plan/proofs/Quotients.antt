@@ -23,7 +23,7 @@ scaled_quotient b m w s q r some h =
     let e : q * m + (w * b - q * m) ≡ w * b = omega (arith, rest) in
     sym (ap (λ v. v / m) (sym e) ∙ div-mul-add q m (w * b - q * m) less)
 
--- the whole multiple of m in x * w that the quotient finds leaves less than 2 * m
+-- x * w less the multiple of m that the quotient gives is below 2 * m
 pub record IsNear (m product whole : ℕ) : Type 0 where
   pub at_most : whole * m ≤ product
   pub close : product < whole * m + 2 * m

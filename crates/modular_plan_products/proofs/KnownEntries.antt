@@ -4,7 +4,7 @@ use Rattle.modular_plan.specs.Factors.{IsFactor}
 use Rattle.modular_plan.proofs.Quarters.{joined, all_fourth}
 use Rattle.modular_plan_products.specs.Conditions.{AreFourBelow, AreFourListsBelow}
 
--- the factor that an entry of a table stands for
+-- the factor of an entry of a table
 pub factor_read : {F : Type 0} {b m v q : ℕ} (value quotient : F → ℕ) (table : List F) (i : ℕ) (entry : F)
     → All (λ f. IsFactor b m (value f) (quotient f)) table → i < length table → entry ≡ get_or table i entry
     → v ≡ value entry → q ≡ quotient entry → IsFactor b m v q

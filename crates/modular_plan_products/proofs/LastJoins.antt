@@ -18,7 +18,7 @@ use Rattle.modular_plan_products.specs.Joins.{IsFourJoin}
 use Rattle.modular_plan_products.proofs.Joins.{level_lowest, level_top}
 use Rattle.modular_plan_products.proofs.TwoJoins.{two_join_sizes, level_joined_two}
 
--- behind a list
+-- after a list
 pub numbers_past : {T : Type 0} (number : T → ℕ) (words : List T) (k : ℕ) → length words ≤ k → numbers number words k ≡ 0
 numbers_past number words k le =
     get_or_past (map number words) k 0 (subst (λ v. v ≤ k) (sym (length-map words number)) le)

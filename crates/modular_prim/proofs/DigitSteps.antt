@@ -27,7 +27,7 @@ division_is {a} {d} {q} {r} some eq er = record {
   below = omega (arith, er, mod-lt a {m = d} some);
 }
 
--- two digits are one of base 16
+-- two digits form one of base 16
 pub two_are : {a d fourfold high left low rest q : ℕ} → fourfold ≡ d * 4 → IsDivision a fourfold high left
     → IsDivision left d low rest → q ≡ high * 4 + low → IsDivision a d q rest
 two_are {a} {d} {fourfold} {high} {left} {low} {rest} {q} four first second eq = record {

@@ -89,7 +89,7 @@ sub_of_rests m a b h =
     (sym (add-mod-mod (residue m rests) b m) ∙ difference_and m (a % m) (b % m) h ∙ mod-mod a m
     ∙ sym (difference_and m a b h))
 
--- by the gap that b leaves below m: the sum of a and b below m, and the one from m on
+-- by the gap m - b: the sum of a and b below m, and the one that is at least m
 pub sum_within : (m a b gap r : ℕ) → gap + b ≡ m → a < gap → r ≡ a + b → r ≡ (a + b) % m
 sum_within m a b gap r e h er = er ∙ sym (mod-eq_of_lt (let k : a + b < m = omega arith in k))
 

@@ -1,4 +1,4 @@
--- What an operator answers where its right operand was reduced first, and that a quotient is one.
+-- The result of an operator whose right operand was reduced first, and that a quotient is one.
 use Rattle.std.proofs.Common.{◌≡◌, ℕ, suc, ◌+◌, ◌*◌, ◌/◌, ◌%◌, ◌<◌, ℤ, pos}
 use Rattle.std.proofs.Common.{negsuc, ◌+ℤ◌, ◌-ℤ◌, ◌*ℤ◌, arith, ap, sym, ◌∙◌}
 use Rattle.std.proofs.Math.Nat.{mod-eq_of_lt, add-mod-mod, div-add-mod, mod-lt}

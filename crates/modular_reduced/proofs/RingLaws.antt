@@ -1,4 +1,4 @@
--- The laws of rings, of forms: both sides of a law, computed step by step, are one form.
+-- The ring laws of forms: both sides of a law, computed step by step, are the same form.
 use Rattle.std.proofs.Common.{◌≡◌, ℕ, zero, suc, ◌+◌, ◌-◌, ◌*◌, ◌%◌, ◌<◌, pos, neg_ℤ, sym, ◌∙◌, ap, refl, subst, arith}
 use Rattle.std.proofs.Math.Nat.{mod-mod, mod_self, mod-eq_of_lt, mul_assoc}
 use Rattle.modular_word.specs.Residues.{residue}

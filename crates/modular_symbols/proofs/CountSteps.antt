@@ -18,7 +18,7 @@ use Rattle.modular_symbols.proofs.ResidueProducts.{residue-multiple}
 abbrev pub above : ℤ → ℕ → ℕ → ℕ
 above z n x = cond (ltb ((n - 1) / 2) (residue n (z *ℤ pos x))) 1 0
 
--- x is in the half system, and `odd` tells the parity of the count up to x
+-- x is in the half system, and `odd` is the parity of the count up to x
 pub record CountedTo (z : ℤ) (n x : ℕ) (odd : Bool) : Type 0 where
   pub within : x ≤ (n - 1) / 2
   pub parity : sum_to (above z n) x % 2 ≡ cond odd 1 0
@@ -115,7 +115,7 @@ nat_abs-signed true zero = refl
 nat_abs-signed true (suc a) = refl
 nat_abs-signed false a = refl
 
--- what an inversion tells of the greatest common divisor
+-- the greatest common divisor, by the result of an inversion
 pub no_inverse : {A : Type 0} (number : A → ℕ) (m a : ℕ) (minus : Bool) (found : Option A) → 0 < m
     → IsInversion number m a found
     → is_some found ≡ false → gcd (nat_abs (signed minus (pos a))) m ≢ 1

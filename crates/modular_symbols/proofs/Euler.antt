@@ -23,7 +23,7 @@ use Rattle.modular_symbols.proofs.RangeProducts.{product_to, product_to-zero, pr
 use Rattle.modular_symbols.proofs.RangeProducts.{product_to-times, product_to-constant, product_to-permuted}
 use Rattle.modular_symbols.proofs.ResidueProducts.{residue_below}
 
--- ---- the powers of n - 1, which stands for -1
+-- ---- the powers of n - 1, which is congruent to -1
 pub square_of_last : (n k : ℕ) → n ≡ k + 2 → (n - 1) * (n - 1) ≡ 1 + n * k
 square_of_last n k s =
     let u : n - 1 ≡ k + 1 = omega arith in

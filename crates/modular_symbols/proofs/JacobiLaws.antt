@@ -203,7 +203,7 @@ product_parity i j =
     mul-mod i j 2 ∙ ap (λ v. (v * (j % 2)) % 2) p ∙ omega arith)
     (parities i)
 
--- the number of pairs is odd exactly where both numbers leave 3 modulo 4
+-- the number of pairs is odd exactly where both numbers are 3 modulo 4
 odd_pairs : (m n : ℕ) → m % 4 ≡ 3 → n % 4 ≡ 3 → ((n - 1) / 2 * ((m - 1) / 2)) % 2 ≡ 1
 odd_pairs m n p q =
     let i : (n - 1) / 2 % 2 ≡ 1 = omega arith in
@@ -239,7 +239,7 @@ jacobi-both m n k o c =
     (sign-sum (half_system_count (pos m) n) (half_system_count (pos n) m) ((n - 1) / 2 * ((m - 1) / 2))
     (sym (counts_reciprocal m n o k c)))
 
--- the product of the two symbols is -1 exactly where both numbers leave 3 modulo 4
+-- the product of the two symbols is -1 exactly where both numbers are 3 modulo 4
 pub jacobi-reciprocal : (m n : ℕ) → m % 2 ≡ 1 → n % 2 ≡ 1 → Coprime m n
     → jacobi (pos m) n *ℤ jacobi (pos n) m ≡ cond (eqb (m % 4) 3 && eqb (n % 4) 3) (negsuc 0) (pos 1)
 jacobi-reciprocal m n k o c =

@@ -32,7 +32,7 @@ over_two-even true zero e = refl
 over_two-even true (suc a) e = grind (arith, nat_tests)
 over_two-even false a e = grind (arith, nat_tests)
 
--- a leaves 3 or 5 modulo 8
+-- a is 3 or 5 modulo 8
 abbrev pub leaves_3_or_5 : ℕ → Bool
 leaves_3_or_5 a = (a % 8 == 3) || (a % 8 == 5)
 

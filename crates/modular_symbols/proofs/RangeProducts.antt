@@ -59,7 +59,7 @@ product_to-swap f (suc h) k =
     ap (λ v. v * product_to (λ y. f (suc h) y) k) (product_to-swap f h k)
     ∙ sym (product_to-times (λ y. product_to (λ x. f x y) h) (λ y. f (suc h) y) k)
 
--- one factor of a product stands alone
+-- one factor of a product is split off
 pub product_to-only : (f : ℕ → ℕ) (h z : ℕ) → 0 < z → z ≤ h → ((x : ℕ) → 0 < x → x ≤ h → x ≢ z → f x ≡ 1)
     → product_to f h ≡ f z
 unfolding product_to

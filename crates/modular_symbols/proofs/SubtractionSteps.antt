@@ -116,7 +116,7 @@ kept_equal w x y t k e =
 kept_equal_one : (w : ℤ) (x y : ℕ) (t : Bool) → Keeps w x y t → x ≡ y → y ≡ 1 → signed t (pos 1) ≡ w
 kept_equal_one w x y t k e f = kept_one w 0 y t (kept_equal w x y t k e) refl f
 
--- t turns, as the lowest bit of b tells
+-- t negates, as the lowest bit of b says
 pub kept_equal_turned : (w : ℤ) (x y t b : ℕ) → Keeps w x y (is_odd t) → x ≡ y → y ≡ 1
     → b % 2 ≡ t % 2 → b % 2 ≡ 1 → negsuc 0 ≡ w
 kept_equal_turned w x y t b k e f g h =

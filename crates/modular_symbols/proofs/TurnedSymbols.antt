@@ -75,7 +75,7 @@ one_more_two s t z =
     ap (λ v. signed t (signed (v && t) z)) b ∙ signed-twice t z ∙ sym (ap (λ v. signed (v && t) z) d))
     (parities s)
 
--- a factor 2 ^ s turns the symbol where s is odd and n leaves 3 or 5 modulo 8
+-- a factor 2 ^ s negates the symbol where s is odd and n is 3 or 5 modulo 8
 jacobi-twos : (a s n : ℕ) → n % 2 ≡ 1
     → jacobi (pos (a * 2 ^ s)) n ≡ signed (eqb (s % 2) 1 && leaves_3_or_5 n) (jacobi (pos a) n)
 jacobi-twos a zero n o = ap (λ v. jacobi (pos v) n) (mul-one a)
@@ -104,11 +104,11 @@ sign-turned i j false e =
     (λ (p : j % 2 ≡ 1). rw (sign-odd i (omega arith), sign-odd j p))
     (parities j)
 
--- both m and n leave 3 modulo 4
+-- both m and n are 3 modulo 4
 abbrev pub both_leave_3 : ℕ → ℕ → Bool
 both_leave_3 m n = eqb (m % 4) 3 && eqb (n % 4) 3
 
--- the symbol is turned where both leave 3 modulo 4
+-- the symbol is negated where both are 3 modulo 4
 jacobi-swapped : (m n : ℕ) → m % 2 ≡ 1 → n % 2 ≡ 1 → jacobi (pos m) n ≡ signed (both_leave_3 m n) (jacobi (pos n) m)
 jacobi-swapped m n k o =
     let p : 0 < n = omega arith in

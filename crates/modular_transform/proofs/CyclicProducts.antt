@@ -148,7 +148,7 @@ scaled n k c f =
     sum_below-same n (λ a. sum_below k (λ b. c * f a b)) (λ a. c * sum_below k (λ b. f a b))
     (λ a l. sum_below-mul k c (f a)) ∙ sum_below-mul n c (λ a. sum_below k (λ b. f a b))
 
--- entry j of a product of transforms, in the sum of its own transform
+-- entry j of a product of transforms, in the sum of the product's transform
 expanded : (g n k j : ℕ) (x y : ℕ → ℕ)
     → sum_below n (λ a. x a * g ^ (a * j)) * sum_below n (λ b. y b * g ^ (b * j)) * g ^ (j * k)
     ≡ sum_below n (λ a. sum_below n (λ b. x a * y b * (g ^ (a + b + k)) ^ j))

@@ -21,7 +21,7 @@ pair_by is h = record {
       chained (added (itself _) (multiplied (itself _) (turned is))) (chained h.subtracted (multiplied (itself _) is));
 }
 
--- no place stands from a to before a
+-- there is no index that is at least a and below a
 pub none_between : (a i : ℕ) → a ≤ i → i < a + 0 → ⊥
 none_between a i s t = omega arith
 

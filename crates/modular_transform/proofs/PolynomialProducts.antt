@@ -65,7 +65,7 @@ row_bounded (suc n) i e c f few =
           omega (arith, d, r, z)
     ]
 
--- where terms at places from n on are 0, a term of the cyclic product stands at one place
+-- where the terms of index n and above are 0, a term of the cyclic product has only one place
 one_place : (n i j e v : ℕ) → (n ≤ i + j → v ≡ 0)
     → cond (eqb (i + j) e || eqb (i + j) (e + n)) v 0 ≡ cond (eqb (i + j) e) v 0
 one_place n i j e v room = elim (eqb_tells (i + j) e) [

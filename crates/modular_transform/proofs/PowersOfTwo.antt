@@ -52,7 +52,7 @@ power_of_two_tested n = (
       grind (arith, nat_tests, e),
 )
 
--- a power of two tells its exponent by its trailing zeros
+-- the exponent of a power of two is its number of trailing zeros
 pub trailing_zeros_of_power : (z n : ℕ) → n ≡ 2 ^ z → n < 2 ^ 64 → trailing_zeros w64 n ≡ z
 trailing_zeros_of_power z n is below =
     let some : 0 < n = let p = pow_pos z in omega arith in

@@ -213,7 +213,7 @@ spot_swapped b step tile other row column to_row to_column old new newer here or
     (exchanged_numbers b step t (s t) new newer here.step_is here.number_below (exchange.within t here.number_below)
     at) so_far)
 
--- they were swapped before, or are one place
+-- they were swapped before, or are the same place
 pub spot_passed : {T : Type 0} (b step tile other row column to_row to_column : ℕ) (old new : ℕ → T)
     → Spot b step tile other row column to_row to_column
     → other * 64 + to_row * 8 + to_column ≤ tile * 64 + row * 8 + column

@@ -6,7 +6,7 @@ use Rattle.std.proofs.Math.Nat.{dvd-mul_left, dvd-mul_right, div-add-mod, add-mu
 use Rattle.std.proofs.lemmas.Nat.{mul-mod, pow-mod}
 use Rattle.modular_word.specs.Congruence.{Congruent}
 
--- two numbers below B that differ by multiples of B are one
+-- two numbers below B that differ by multiples of B are equal
 pub same_rest : (B x y s t : ℕ) → x < B → y < B → x + B * s ≡ y + B * t → x ≡ y
 same_rest B x y s t hx hy e =
     sym (mod-eq_of_lt hx) ∙ sym (add-mul-mod_self_left x B s) ∙ ap (λ n. n % B) e

@@ -91,7 +91,7 @@ Coprime-mod a n c = record { only_one = λ d g h. c.only_one d (divides_mod d a 
 pub Coprime-from_mod : (a n : ℕ) → Coprime (a % n) n → Coprime a n
 Coprime-from_mod a n c = record { only_one = λ d g h. c.only_one d (mod_divides d a n h g) h }
 
--- from a multiple of n that leaves 1 modulo a, a multiple of a that leaves 1 modulo n
+-- from a multiple of n that is 1 modulo a, a multiple of a that is 1 modulo n
 turned_unit : (a n y : ℕ) → 1 < a → 0 < n → (n * y) % a ≡ 1 → (a * ((n - 1) * (n * y / a))) % n ≡ 1 % n
 turned_unit a n y ha hn e =
     let p = n - 1 in
@@ -110,7 +110,7 @@ turned a n y ha hn e =
     (λ (l : a ≤ 1). (1, ap (λ v. v % n) (let f : a * 1 ≡ 1 = omega arith in f)))
     (cases_lt 1 a)
 
--- a multiple of a that leaves 1 modulo n, along Euclid's algorithm
+-- a multiple of a that is 1 modulo n, along Euclid's algorithm
 unit_within : (fuel a n : ℕ) → n ≤ fuel → 0 < n → Coprime a n → (x : ℕ) × ((a * x) % n ≡ 1 % n)
 unit_within zero a n l p c = absurd (omega arith)
 unit_within (suc fuel) a n l p c =

@@ -10,7 +10,7 @@ regrouped a b x = omega arith
 alone : (b : ℕ) → 1 * b ≡ b
 alone b = omega arith
 
--- the inverse times b, times a, leaves what b leaves
+-- the inverse times b, times a, is congruent to b
 pub solution : (m a b x : ℕ) → IsInverse m a x → (a * ((b * x) % m)) % m ≡ b % m
 solution m a b x h =
     mul-mod_second a (b * x) m ∙ ap (λ n. n % m) (regrouped a b x) ∙ sym (mul-mod_first (a * x) b m)

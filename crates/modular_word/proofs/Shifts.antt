@@ -19,7 +19,7 @@ ones_shifted w n top h e =
     let q : top / P ≡ k = div-eq_of_lt-le P low high in
     omega arith
 
--- the mask of the low k of w bits keeps what is left modulo 2^k
+-- the mask of the low k of w bits gives the residue modulo 2^k
 pub mask_keeps : (w n k : ℕ) → k < w → bit_and n (1 * 2 ^ k % 2 ^ w - 1) ≡ n % 2 ^ k
 mask_keeps w n k h = ap (λ v. bit_and n (v - 1)) (one_shl k w h) ∙ and_mask n k
 

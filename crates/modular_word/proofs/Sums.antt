@@ -61,7 +61,7 @@ sum_to-swap f (suc h) k =
 pub last_or_before : (z h : ℕ) → z ≤ suc h → (z ≤ h) ⊎ (z ≡ suc h)
 last_or_before z h q = grind arith
 
--- one term of a sum stands alone
+-- one term of a sum is split off
 pub sum_to-only : (f : ℕ → ℕ) (h z : ℕ) → 0 < z → z ≤ h → ((x : ℕ) → 0 < x → x ≤ h → x ≢ z → f x ≡ 0) → sum_to f h ≡ f z
 unfolding sum_to
 sum_to-only f zero z p q e = absurd (omega arith)

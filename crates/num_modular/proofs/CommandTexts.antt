@@ -1,4 +1,4 @@
--- Lemmas on the parts of a text between its commas, and on what they stand for.
+-- Lemmas on the parts of a text between its commas, and on what they denote.
 use Rattle.std.proofs.Common.{◌≡◌, ◌≢◌, ℕ, ◌<◌, List, [], ◌∷◌, ◌==◌, Option, Some, None, MatchOption, Bor}
 use Rattle.std.proofs.Common.{length, get_or, false, arith, subst, sym, ◌∙◌, ap, refl, codes, ◌+◌, ◌*◌}
 use Rattle.std.specs.List.{join_with_byte}
@@ -54,7 +54,7 @@ pub read_rest : (text : List ℕ) (r s : ℕ) (rest : List ℕ) (ns : List ℕ) 
     → AreNumberTexts (parts text) (s ∷ ns) → AreNumberTexts (parts rest) ns
 read_rest text r s rest ns h all = (rw h.split at all).1
 
--- the first two bytes of a name tell it from the others
+-- the first two bytes of a name distinguish it from the others
 abbrev beginning : List ℕ → ℕ
 beginning name = 256 * get_or name 0 0 + get_or name 1 0
 

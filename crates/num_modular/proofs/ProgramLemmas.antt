@@ -129,7 +129,7 @@ same_heading words x y m n xs ys h k =
     let rests : xs ≡ ys = cc in
     (h.read.value ∙ (ap (λ w. digits_value 10 w.now) moduli ∙ sym k.read.value), rests)
 
--- an answer to the words of commands is one to all words
+-- what is proved for the words of commands holds for all words
 pub answer_all : (words : List (Bor (List ℕ))) (reducer : ReducerName) (m modulus : ℕ) (rest : List (Bor (List ℕ)))
     (untouched : Type 0) (Printed Told : List ℕ → Type 0)
     → IsHeading words reducer m rest → modulus ≡ m
@@ -159,7 +159,7 @@ answer_all words reducer m modulus rest untouched Printed Told h e status answer
   range = answer.range;
 }
 
--- the answer to words that aren't readable
+-- what the program does for words that aren't readable
 pub refused : (words : List (Bor (List ℕ))) (untouched : Type 0) (Printed Told : List ℕ → Type 0)
     → ((reducer : ReducerName) (m : ℕ) (rest : List (Bor (List ℕ))) → IsHeading words reducer m rest → ⊥)
     → untouched → (status : ℕ) → (status ≡ 2) × Told usage → IsAnswer (Ask words) untouched Printed Told status

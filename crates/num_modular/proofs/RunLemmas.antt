@@ -26,7 +26,7 @@ pub value_of : {T : Type 0} {number : T → ℕ} {form value : ℕ → ℕ → �
 value_of {T} {number} {form} {value} {width} {m} a x canonical holds below is =
     ap (λ y. value m (number y)) is ∙ canonical.one_value _ _ (holds.each a x below)
 
--- what stands for a number that is computed from the value of what was read of register a stands for that of v a
+-- a form that represents a number computed from the value of the register a that was read represents that of v a
 pub form_of_one : {T : Type 0} {number : T → ℕ} {form value : ℕ → ℕ → ℕ} {width m f : ℕ} {registers : List T}
     {v : ℕ → ℕ} (F : ℕ → ℕ) (a : ℕ) (x : T)
     → IsCanonical form value width m → HoldValues number form m registers v
@@ -46,14 +46,14 @@ form_of_two {T} {number} {form} {value} {width} {m} {f} {registers}
     form_of_one {v = v} (λ u. F u (v b)) a x canonical holds below_a is_a
     (form_of_one {v = v} (F (value m (number x))) b y canonical holds below_b is_b stands)
 
--- what `inv` answers is the form of what `inverse_of` names
+-- what `inv` returns is the form of `inverse_of`
 pub inverse_form : {T : Type 0} (number : T → ℕ) (form : ℕ → ℕ → ℕ) (m u : ℕ) (found : Option T)
     → IsInverseForm number form m u found → IsFormOf number form m (inverse_of m u) found
 inverse_form number form m u None h = subst (λ o. IsFormOf number form m o None) (sym (inverse_of-none m u h)) tt
 inverse_form number form m u (Some f) h =
     subst (λ o. IsFormOf number form m o (Some f)) (sym (inverse_of-found m u h.0 h.1)) h.2
 
--- the product of x with what `inv` answers for y is the form of their quotient
+-- the product of x with what `inv` returns for y is the form of their quotient
 pub quotient_form : {T : Type 0} (number : T → ℕ) {form value : ℕ → ℕ → ℕ} {width m : ℕ} (x y : ℕ) (inverse product : T)
     → IsCanonical form value width m → IsInverseForm number form m y (Some inverse)
     → Represents form m (number product) ((x * value m (number inverse)) % m)
@@ -173,7 +173,7 @@ pub finds_at : {T : Type 0} (number : T → ℕ) (form : ℕ → ℕ → ℕ) (m
 finds_at number form m start commands i command f is found lacks =
     some_of_some number form m _ f found (lacking_none m (value_at m start commands i) command (rw is at lacks))
 
--- there is one stop at most
+-- there is at most one stop
 pub same_stop : {m : ℕ} {start : List ℕ} {commands : List (RingCommand ℕ)} {i j : ℕ} → IsStop m start commands i
     → IsStop m start commands j → i ≡ j
 same_stop {m} {start} {commands} {i} {j} p q =
@@ -205,7 +205,7 @@ pub never_stops : {m : ℕ} {start : List ℕ} {commands : List (RingCommand ℕ
     → IsStop m start commands at → ⊥
 never_stops {m} {start} {commands} passed at stop = passed at (some_within commands at _ _ refl stop.lacks) stop.lacks
 
--- what stands at a place of a list stands there in its image
+-- an entry of a list and of its image
 pub read_map : {C D : Type 0} (f : C → D) (xs : List C) (i : ℕ) (x : C) → slice_get xs i ≡ Some x
     → slice_get (map f xs) i ≡ Some (f x)
 read_map f xs i x e = slice_get-map f xs i ∙ ap (option_map f) e

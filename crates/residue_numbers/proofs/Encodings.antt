@@ -8,7 +8,7 @@ use Rattle.num_modular.specs.Residues.{IsResidue, residue}
 use Rattle.residue_numbers.specs.Systems.{range_of, IsSystem, AreResidues}
 use Rattle.residue_numbers.proofs.Remainders.{divides, grows, keeps, spread, gathered, product_none}
 
--- the remainder modulo the range leaves what the number leaves
+-- the remainder modulo the range is congruent to the number
 pub remainder_within : (range m k a : ℕ) → range ≡ m * k → a % range % m ≡ a % m
 remainder_within range m k a e =
     let parts = div-add-mod a range in

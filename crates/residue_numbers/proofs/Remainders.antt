@@ -91,7 +91,7 @@ each_of_unit m n j ms positive unit h =
     let (k, e) = divides n j ms h in
     factor_unit m (get_or ms j 0) k positive (subst (HasInverse m) e unit)
 
--- an inversion of n, reduced first, tells whether n has an inverse
+-- an inversion of n, reduced first, says whether n has an inverse
 pub inversion_tells : {A : Type 0} (its_modulus its_residue : A → ℕ) (m a : ℕ) (found : Option A) (b : Bool)
     → MatchOption found ((x : ℕ) → IsInverse m a x → ⊥) (λ y. (its_modulus y ≡ m) × IsInverse m a (its_residue y))
     → b ≡ is_some found → IsTrue b ↔ HasInverse m a

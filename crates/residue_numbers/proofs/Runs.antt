@@ -53,7 +53,7 @@ inverse_within {range} {m} f x a i p inverse = record {
       ∙ remainder_within range m f.times 1 f.is;
 }
 
--- what a command gives modulo the range leaves what it gives modulo m, where the inverse that it needs is there
+-- the result of a command modulo the range is congruent to that modulo m, where the inverse that it needs exists
 outcome_within : Laws → {range m : ℕ} (f : IsFactor range m) (V v : ℕ → ℕ)
     → ((r : ℕ) → V r % m ≡ v r) → (command : RingCommand ℕ)
     → ((r : ℕ) → inverted_by command ≡ Some r → HasInverse range (V r))
@@ -323,7 +323,7 @@ forms m modulus numbers registers positive e is =
       same = refl;
     }))
 
--- what a run over the plain reducer tells, in the words of the numbers
+-- what a run over the plain reducer says, in terms of the numbers
 pub run_done : (m modulus : ℕ) (numbers registers : List ℕ) (commands : List (RingCommand ℕ)) (end : RunEnd)
     → modulus ≡ m → registers ≡ starts m numbers
     → ((end ≡ Done) ↔ ((at : ℕ) → IsStop modulus (map (λ f. f) registers) commands at → ⊥))

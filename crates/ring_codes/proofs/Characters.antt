@@ -67,7 +67,7 @@ letter_is : (c : ℕ) (b : Bool) → nat_le c 57 ≡ b → IsLetter c
 letter_is c true e h = let small = leb-true c 57 e in let large = h.0 in absurd (omega (arith, small, large))
 letter_is c false e h = refl
 
--- what two characters of one kind have in common, and that their numbers tell them apart
+-- what two characters of one kind have in common, and that their numbers distinguish them
 record Alike (c d : ℕ) : Type 0 where
   count : length (digits_of c) ≡ length (digits_of d)
   first : written (digits_of c) < 97
@@ -157,7 +157,7 @@ same_character before behind c d kind same =
     t 0 (written (digits_of d)) (written (digits_of c)) (power_unit (length (flat_map digits_of behind)))
     both.second both.first (sym same) (omega (arith, at_d)) (omega (arith, at_c)))
 
--- where a character of a text stands when its first four are at its end
+-- the index of a character of a text after its first four are moved to its end
 abbrev rotated : List ℕ → List ℕ
 rotated text = drop 4 text ++ take 4 text
 

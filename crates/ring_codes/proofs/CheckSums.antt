@@ -93,7 +93,7 @@ exchanged_sum m S S' v w x y e d moved weights symbols =
     gathered m S' (S + e * d) (e * ((d + x) / m) + (e + w) / m * y + v / m * x)
     (e * (y / m) + v / m * y + (e + w) / m * x) (omega (arith, times, moved, weights_x, weights_y))
 
--- a sum still leaves r, exactly where what it is changed by leaves 0
+-- a sum is still congruent to r, exactly where the change is congruent to 0
 pub still_leaves : (m r S S' p : ℕ) → S % m ≡ r % m → S' % m ≡ (S + p) % m → (S' % m ≡ r % m) ↔ (p % m ≡ 0)
 still_leaves m r S S' p leaves changed = (
   λ h.
@@ -152,7 +152,7 @@ one_at m S S' S'' w x s t i a b j k moved other equal one =
     let along = ap (λ n. i * n) equal in
     omega (arith, times_s, times_t, left, right, along)
 
--- two symbols below m that make the sum leave the same are one
+-- two symbols below m that give congruent sums are equal
 pub one_symbol : (m S S' S'' w x s t : ℕ) → HasInverse m w → s < m → t < m → S' % m ≡ S'' % m
     → S' + w * x ≡ S + w * s → S'' + w * x ≡ S + w * t → t ≡ s
 one_symbol m S S' S'' w x s t (i, inverse) s_below t_below equal moved other =
@@ -161,7 +161,7 @@ one_symbol m S S' S'' w x s t (i, inverse) s_below t_below equal moved other =
     (one_at m S S' S'' w x s t i _ _ _ _ moved other (spread m S' S'' equal) (spread m (w * i) 1 inverse.one))
     ∙ mod-eq_of_lt s_below
 
--- an inversion tells whether there is an inverse
+-- an inversion says whether there is an inverse
 pub inversion_tells : {A : Type 0} (its_modulus its_residue : A → ℕ) (m a : ℕ) (found : Option A) (b : Bool)
     → MatchOption found ((x : ℕ) → IsInverse m a x → ⊥) (λ y. (its_modulus y ≡ m) × IsInverse m a (its_residue y))
     → b ≡ is_some found → IsTrue b ↔ HasInverse m a

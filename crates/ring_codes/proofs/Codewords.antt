@@ -136,7 +136,7 @@ exchange_told code word p v is within difference same =
       (λ w. (((defined.0 w).0, (defined.0 w).1), (defined.0 w).2), λ h. defined.1 (h.0.0, h.0.1, h.1)),
     )
 
--- what is answered of a changed word W, F being that its symbols fit, V and P that the sum doesn't show the change:
+-- the result for a changed word W, F being that its symbols fit, V and P that the sum doesn't show the change:
 -- where it does
 pub shown : (F W V P : Type 0) → (W ↔ (F × V)) → (W ↔ (F × P)) → ¬ V → (IsTrue true ↔ ¬ W) × (IsTrue true ↔ (F → ¬ P))
 shown F W V P by_test by_product apart = (

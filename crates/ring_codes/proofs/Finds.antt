@@ -47,7 +47,7 @@ finds_changes code inverse bounded units word i s is within apart changed =
     apart (same_residues m (s + (m - x)) x s x_below s_below difference
     (unit_cancels m (get_or code.weights i 0) (inverse i) (s + (m - x)) (units i inside) both.1))
 
--- a difference of the weights at i and behind it
+-- a difference of the weights at i and at the next place
 abbrev pub step_at : CheckCode → ℕ → ℕ
 step_at code i = get_or code.weights i 0 + (code.modulus - 1) * get_or code.weights (suc i) 0
 
@@ -135,7 +135,7 @@ exchange_test code power i =
 abbrev five_test : CheckCode → ℕ → Bool
 five_test code i = step_test code i && (nat_eq (step_at code i % 10) 2 || nat_eq (step_at code i % 10) 8)
 
--- what they tell
+-- the clauses of these calls
 abbrev pub Passes : CheckCode → ℕ → Type 0
 Passes code power = each_below (length code.weights) (change_test code power) ≡ true
 

@@ -25,7 +25,7 @@ sums_alike m (suc n) f g h =
     ∙ ap (λ k. (sum_below n g % m + k) % m) (h n (omega arith))
     ∙ sym (add-mod (sum_below n g) (g n) m)
 
--- with the powers of ten as weights, the sum of digits leaves what the number leaves that they write
+-- with the powers of ten as weights, the sum of digits is congruent to the number that they form
 pub number_of_sum : (m : ℕ) (weights digits : List ℕ)
     → ((i : ℕ) → i < length digits → get_or weights i 0 ≡ 10 ^ (length digits - 1 - i) % m)
     → weighted_sum weights digits % m ≡ polynomial (length digits) (λ i. get_or digits i 0) 10 % m
@@ -85,7 +85,8 @@ all_digits (c ∷ cs) h =
     All-append (λ d. d ≤ 9) (digits_of c) (flat_map digits_of cs) (digits_small c parts.0)
     (all_digits cs (All-from_recursion (λ c. IsDigit c ⊎ IsLetter c) cs parts.1))
 
--- the digits of a text are a word of the code of its number of digits, exactly where the number that they write leaves 1
+-- the digits of a text are a word of the code of its number of digits, exactly where they form a number that is
+-- 1 modulo 97
 pub is_word : (code : CheckCode) (text word : List ℕ) (n : ℕ) → code ≡ mod_97_10 n → word ≡ iban_digits text
     → length word ≡ n → All (λ c. IsDigit c ⊎ IsLetter c) text
     → IsCodeword code word ↔ (iban_number text % 97 ≡ 1)

@@ -344,7 +344,7 @@ subtracted m a product new o next positive is_product is =
     let product_is : Congruent m (a * next) product = chained (turned (residue_of (a * next))) (of_equal (sym is_product)) in
     chained (added (of_equal is) product_is) (record { same = difference_and m o product positive })
 
--- an inversion tells whether there is an inverse
+-- an inversion says whether there is an inverse
 pub inversion_tells : {T : Type 0} (value : T → ℕ) (m a : ℕ) (found : Option T) (b : Bool)
     → IsInversion value m a found → b ≡ is_some found → IsTrue b ↔ HasInverse m a
 inversion_tells value m a None b h e = ((λ t. let wrong : false ≡ true = sym e ∙ t in cc), λ (x, inverse). absurd (h x inverse))

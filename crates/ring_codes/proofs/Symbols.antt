@@ -33,7 +33,7 @@ pub same_forms : (form value : ℕ → ℕ → ℕ) (m f g : ℕ) → IsForm for
     → value m f ≡ value m g → f ≡ g
 same_forms form value m f g is_f is_g e = is_f.same ∙ ap (form m) e ∙ sym is_g.same
 
--- what `!=` tells
+-- what `!=` returns
 pub told_same : (b e : Bool) (P : Type 0) → b ≡ not e → b ≡ false → (IsTrue e ↔ P) → P
 told_same b true P is f tells = tells.0 refl
 told_same b false P is f tells = absurd (false≢true (sym f ∙ is))

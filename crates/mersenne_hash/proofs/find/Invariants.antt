@@ -4,7 +4,7 @@ use Rattle.num_modular.specs.Mersenne.{mersenne}
 use Rattle.mersenne_hash.specs.Hashes.{polynomial_value, StandsAt}
 use Rattle.mersenne_hash.proofs.find.Given as goal
 
--- the hash is that of the window, and the pattern stands nowhere before it
+-- the hash is that of the window, and the pattern occurs nowhere before it
 abbrev pub invariant-windows : goal.invariant-windows
 invariant-windows l = record {
   hashed : residue_of l.window

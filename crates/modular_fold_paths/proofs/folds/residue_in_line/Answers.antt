@@ -5,7 +5,7 @@ use Rattle.modular_fold_paths.proofs.FoldBounds.{once_below, once_above}
 use Rattle.modular_fold_paths.proofs.folds.residue_in_line.Goals as goal
 use Rattle.modular_fold_paths.proofs.folds.residue_in_line.Goals.{After-shift_right, After-fold-last}
 
--- the mask has the bits below p
+-- the mask has the bits below p set
 ones : (m less : ℕ) {c one mask power : ℕ} → one ≡ 1 → less + one ≡ c → mask ≡ m + less → m + c ≡ power → mask + 1 ≡ power
 ones m less is_one is_less is_mask whole = omega (arith, is_one, is_less, is_mask, whole)
 

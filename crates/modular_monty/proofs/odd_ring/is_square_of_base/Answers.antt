@@ -3,7 +3,7 @@ use Rattle.modular_monty.proofs.SquareTests.{square_of_unit, square_modulo_one, 
 use Rattle.modular_monty.proofs.odd_ring.is_square_of_base.Goals as goal
 use Rattle.modular_monty.proofs.odd_ring.is_square_of_base.Goals.{After-redc-unit}
 
--- the arguments that the lemmas ask for
+-- the arguments of the lemmas
 some : (g : _) (c : After-redc-unit g) → 0 < g.T.PathWord.base
 some g c = let fits = c.is_below.ensures.fits in omega arith
 

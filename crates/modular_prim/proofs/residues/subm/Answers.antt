@@ -1,4 +1,4 @@
--- The difference of two remainders, and a distance whose sign is the answer's.
+-- The difference of two remainders, and a distance with the sign of the result.
 use Rattle.std.proofs.Common.{◌≡◌, ◌-ℤ◌, pos, ◌%◌, ◌<◌, ◌≤◌, ◌∙◌, ap, arith}
 use Rattle.std.proofs.lemmas.Bool.{iff_false}
 use Rattle.std.proofs.lemmas.Int.{ints}

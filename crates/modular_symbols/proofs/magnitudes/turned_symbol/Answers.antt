@@ -1,4 +1,4 @@
--- A symbol fits, and so does its negative.
+-- A symbol fits an i8, and its negative too.
 use Rattle.std.proofs.Common.{pos, ◌-ℤ◌, sym, ap, ◌∙◌, rules}
 use Rattle.std.proofs.lemmas.Int.{to_z-of_z}
 use Rattle.std.proofs.Math.IntN.{neg_ℤ, +ℤ_idl}

@@ -1,4 +1,4 @@
--- The lowest bit tells whether each factor 2 turns the symbol.
+-- The lowest bit says whether each factor 2 negates the symbol.
 use Rattle.modular_symbols.proofs.TurnBits.{odd-twos}
 use Rattle.modular_symbols.proofs.TurnedSymbols.{jacobi-twos_by}
 use Rattle.modular_symbols.proofs.turns.turn_by_twos.Goals as goal

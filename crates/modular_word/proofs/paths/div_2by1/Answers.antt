@@ -7,7 +7,7 @@ use Rattle.modular_word.proofs.ReciprocalSteps.{Setting, Guess, guess_of, step_d
 use Rattle.modular_word.proofs.paths.div_2by1.Goals as goal
 use Rattle.modular_word.proofs.paths.div_2by1.Goals.{then-is_below, else-is_below, then-not-is_below, else-not-is_below}
 
--- what is left by a quotient that is one more
+-- the remainder for a quotient that is one more
 less_is : (B d a0 q1 q r more : ℕ) → q ≡ (q1 + 1) % B → more ≡ (r + d) % B → (more + (q1 * d) % B) % B ≡ a0
     → (r + (q * d) % B) % B ≡ a0
 less_is B d a0 q1 q r more eq er em =

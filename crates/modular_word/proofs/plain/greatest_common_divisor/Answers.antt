@@ -1,4 +1,4 @@
--- One more number tried; and what the greatest common divisor tells of inverses.
+-- One more number tried; and what the greatest common divisor says of inverses.
 use Rattle.std.proofs.Common.{◌≡◌, ◌≢◌, ◌%◌, ◌+◌, add-one, refl, sym, ap, ◌∙◌, arith, suc}
 use Rattle.modular_word.specs.Divisors.{gcd, gcd_up_to}
 use Rattle.modular_word.proofs.Divisors.{gcd_is, HasInverse-gcd, gcd_up_to-hit, gcd_up_to-miss}

@@ -13,7 +13,7 @@ half_of : (z n : ℕ) → 2 * n ≡ 2 ^ z → IsPowerOfTwo n
 half_of zero n e = let one : 2 ^ 0 ≡ 1 = refl in absurd (omega (arith, e, one))
 half_of (suc z) n e = let two = two-pow-succ z in (z, omega (arith, e, two))
 
--- the plan for 2^y entries stands in the first half of the table
+-- the plan for 2^y entries is the first half of the table
 in_half : {T : Type 0} (value : T → ℕ) (m g n y : ℕ) (table : List T) → length table ≡ n → n ≡ 2 ^ y
     → IsPlan m (g ^ (2 ^ 1) % m) y (2 ^ y / 2) (numbers value table)
     → IsPlan m (g ^ 2 % m) y (length (take (n / 2) table)) (numbers value (take (n / 2) table))
