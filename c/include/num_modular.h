@@ -1,19 +1,19 @@
 /* Arithmetic modulo m on words of 64 bits: the library num_modular, proved, for C.
  *
- * Each function tests what its call needs and returns a code. With NM_OK it has written what was asked for. With any
- * other code everything that the caller passed holds what it held before; nm_montgomery_run alone also writes with
- * NM_NO_INVERSE. What is proved is that the old and the new contents are equal, which a body that writes and restores
- * would meet too. That a call which refuses doesn't write at all is tested, with outputs in a read-only page.
+ * Each function tests its preconditions and returns a code. With NM_OK it has written its result. With any other code
+ * it leaves everything that the caller passed unchanged; only nm_montgomery_run also writes with NM_NO_INVERSE. It is
+ * proved that the old and the new contents are equal, which would also hold for a body that writes and restores. That
+ * such a call doesn't write at all is tested, with outputs in a read-only page.
  *
- * The caller owes what the types say, and the library can't test it:
+ * The caller must ensure these preconditions, which the library can't test:
  *
- * - A pointer to a single value points to one. A list is a pointer and the number of its elements, and has at least
- *   so many. For every list, NULL with the number 0 is an empty list.
+ * - A pointer to a single value is valid. A list is a pointer and a number of elements, and has at least so many. For
+ *   every list, NULL with the number 0 is an empty list.
  * - What a call writes, which is each argument without const, overlaps no other argument. Arguments that are const may
  *   overlap each other in any way, or be the same.
- * - No function allocates, keeps a state or calls back, so calls may run in several threads at the same time, and
- *   may share what all of them only read. While one call writes a value or a list, the caller keeps every other call
- *   and thread away from it: the library has no locks.
+ * - No function allocates, keeps a state or calls back, so calls may run in several threads at the same time, and may
+ *   share what all of them only read. While one call writes a value or a list, no other call or thread may access it:
+ *   the library has no locks.
  */
 #ifndef NUM_MODULAR_H
 #define NUM_MODULAR_H
@@ -26,12 +26,12 @@ extern "C" {
 #endif
 
 /* The codes. */
-#define NM_OK ((uint32_t)0)           /* what was asked for is written */
-#define NM_NO_INVERSE ((uint32_t)1)   /* an inverse that is needed doesn't exist */
-#define NM_BAD_ARGUMENT ((uint32_t)2) /* an argument isn't one that the call takes */
+#define NM_OK ((uint32_t)0)           /* the result is written */
+#define NM_NO_INVERSE ((uint32_t)1)   /* an inverse that the call needs doesn't exist */
+#define NM_BAD_ARGUMENT ((uint32_t)2) /* an argument breaks a precondition of the call */
 #define NM_BAD_CONTEXT ((uint32_t)3)  /* a divider, a context or a table isn't one that the library makes */
-#define NM_NO_ROOT ((uint32_t)4)      /* no root was found, or the one given doesn't suit the length */
-#define NM_NOT_FOUND ((uint32_t)5)    /* what was looked for stands nowhere */
+#define NM_NO_ROOT ((uint32_t)4)      /* there is no root, or the given root doesn't suit the length */
+#define NM_NOT_FOUND ((uint32_t)5)    /* the pattern doesn't occur */
 
 /* --- Operations modulo m, of words that may be above m. NM_BAD_ARGUMENT: m is 0. --- */
 
@@ -55,30 +55,30 @@ uint32_t nm_invm(uint64_t a, uint64_t m, uint64_t *inverse);
 /* The Jacobi symbol. NM_BAD_ARGUMENT: n is even. */
 uint32_t nm_jacobi(uint64_t a, uint64_t n, int32_t *symbol);
 
-/* The Jacobi symbol of numbers with sign. NM_BAD_ARGUMENT: n is even or below 1. */
+/* The Jacobi symbol of signed numbers. NM_BAD_ARGUMENT: n is even or below 1. */
 uint32_t nm_jacobi_signed(int64_t a, int64_t n, int32_t *symbol);
 
-/* The class of a to the power (n - 1)/2, rounded down, modulo n: 0, 1 or -1 where that leaves 0, 1 or n - 1,
- * tried in this order. For an odd prime n it is the Legendre symbol; that n is one isn't tested.
- * NM_BAD_ARGUMENT: the power leaves another number, or n is 0. */
+/* 0, 1 or -1, where a to the power (n - 1)/2, rounded down, is congruent to 0, 1 or n - 1 modulo n, tried in this
+ * order. For an odd prime n it is the Legendre symbol; the call doesn't test whether n is prime.
+ * NM_BAD_ARGUMENT: the power is none of these, or n is 0. */
 uint32_t nm_legendre(uint64_t a, uint64_t n, int32_t *symbol);
 
-/* nm_legendre of numbers with sign. NM_BAD_ARGUMENT: as there, or n is below 1. */
+/* nm_legendre of signed numbers. NM_BAD_ARGUMENT: as there, or n is below 1. */
 uint32_t nm_legendre_signed(int64_t a, int64_t n, int32_t *symbol);
 
-/* The Kronecker symbol, which every two numbers have: always NM_OK. */
+/* The Kronecker symbol, which exists for all numbers. Returns NM_OK. */
 uint32_t nm_kronecker(uint64_t a, uint64_t n, int32_t *symbol);
 
-/* The Kronecker symbol of numbers with sign: always NM_OK. */
+/* The Kronecker symbol of signed numbers. Returns NM_OK. */
 uint32_t nm_kronecker_signed(int64_t a, int64_t n, int32_t *symbol);
 
-/* --- Division by a divisor that stays the same. --- */
+/* --- Division by an invariant divisor. --- */
 
-/* A divisor with what nm_divider computes of it once. It may be copied and kept; where its numbers were
- * changed so that they don't fit each other, each call finds that and answers NM_BAD_CONTEXT. */
+/* A divisor and its reciprocal, as nm_divider computes it. It may be copied and stored. Each call tests it, and returns
+ * NM_BAD_CONTEXT where the reciprocal isn't that of the divisor. */
 typedef struct {
     uint64_t divisor;    /* the divisor */
-    uint64_t reciprocal; /* the reciprocal of the divisor, moved up to the top of the word */
+    uint64_t reciprocal; /* the reciprocal of the divisor shifted left until its top bit is set */
 } nm_divider_t;
 
 /* A quotient, rounded down, and a remainder. */
@@ -93,26 +93,26 @@ uint32_t nm_divider(uint64_t d, nm_divider_t *divider);
 /* Quotient and remainder of n. NM_BAD_CONTEXT: the divider isn't one that nm_divider makes. */
 uint32_t nm_div_rem(const nm_divider_t *divider, uint64_t n, nm_division_t *division);
 
-/* Quotient and remainder of low + 2^64 * high. NM_BAD_CONTEXT: as nm_div_rem. NM_BAD_ARGUMENT: high isn't
- * below the divisor, so that the quotient has no place in a word. */
+/* Quotient and remainder of low + 2^64 * high. NM_BAD_CONTEXT: as for nm_div_rem. NM_BAD_ARGUMENT: high isn't
+ * below the divisor, so that the quotient doesn't fit a word. */
 uint32_t nm_div_rem_2by1(const nm_divider_t *divider, uint64_t low, uint64_t high, nm_division_t *division);
 
-/* --- Montgomery's representation modulo any m from 1 up. --- */
+/* --- Montgomery's representation modulo any m that is at least 1. --- */
 
-/* A modulus with what nm_montgomery computes of it once. It may be copied and kept; where its numbers were
- * changed so that they aren't those of its modulus, each call finds that and answers NM_BAD_CONTEXT. */
+/* A modulus and what nm_montgomery precomputes of it. It may be copied and stored. Each call tests it, and returns
+ * NM_BAD_CONTEXT where its numbers aren't those of its modulus. */
 typedef struct {
     uint64_t modulus;         /* m */
-    uint64_t negated_inverse; /* times the odd part of m it is -1 modulo 2^64 */
+    uint64_t negated_inverse; /* its product with the odd part of m is -1 modulo 2^64 */
     uint64_t square;          /* 2^128 modulo the odd part of m */
 } nm_montgomery_t;
 
 /* The context of m. NM_BAD_ARGUMENT: m is 0. */
 uint32_t nm_montgomery(uint64_t m, nm_montgomery_t *context);
 
-/* The calls below take and give forms: words that stand for values modulo m, each of which has one form,
- * below m. NM_BAD_CONTEXT: the context isn't one that nm_montgomery makes. NM_BAD_ARGUMENT: a word that
- * has to be a form isn't one. */
+/* The calls below take and write forms: words that represent values modulo m. Each value has exactly one form, which is
+ * below m. NM_BAD_CONTEXT: the context isn't one that nm_montgomery makes. NM_BAD_ARGUMENT: a word that must be a form
+ * isn't one. */
 
 /* The form of n modulo m. */
 uint32_t nm_montgomery_transform(const nm_montgomery_t *context, uint64_t n, uint64_t *form);
@@ -143,16 +143,16 @@ uint32_t nm_montgomery_inv(const nm_montgomery_t *context, uint64_t form, uint64
 /* NM_OK where the root suits lists of n words, and NM_NO_ROOT where it doesn't. */
 uint32_t nm_montgomery_root_fits(const nm_montgomery_t *context, uint64_t root, size_t n);
 
-/* A root that suits lists of n words: for the least x from 2 to 255 that gives one, x to the power
- * (m - 1)/n, rounded down. NM_NO_ROOT: no x gives one, as where n is no power of two. */
+/* A root that suits lists of n words: x to the power (m - 1)/n, rounded down, for the least x from 2 to 255 for which
+ * it does. NM_NO_ROOT: it does for no x, as where n is no power of two. */
 uint32_t nm_montgomery_find_root(const nm_montgomery_t *context, size_t n, uint64_t *root);
 
-/* Puts the transform by the root in place of the n words: at place j the sum of x_i * root^(i * j).
+/* Replaces the n words by their transform by the root: entry j is the sum of x_i * root^(i * j) modulo m.
  * NM_NO_ROOT: the root doesn't suit n. */
 uint32_t nm_montgomery_ntt(const nm_montgomery_t *context, uint64_t *xs, size_t n, uint64_t root);
 
-/* Puts the cyclic product of both lists in place of the first: at place e the sum of x_i * y_j over all
- * i + j = e or e + n. The second list becomes its transform by the root. NM_BAD_ARGUMENT: the lengths n and k
+/* Replaces the first list by the cyclic product of both: entry e is the sum of x_i * y_j modulo m over all i + j = e or
+ * e + n. The second list is replaced by its transform by the root. NM_BAD_ARGUMENT: the lengths n and k
  * differ. NM_NO_ROOT: the root doesn't suit n. NM_NO_INVERSE: n has no inverse modulo m. */
 uint32_t nm_montgomery_convolve(const nm_montgomery_t *context, uint64_t *xs, size_t n, uint64_t *ys, size_t k,
                                 uint64_t root);
@@ -160,18 +160,18 @@ uint32_t nm_montgomery_convolve(const nm_montgomery_t *context, uint64_t *xs, si
 /* --- Lists of commands on registers, modulo m. --- */
 
 /* What a command does. Operands are read before dst is written, so dst may be an operand. */
-#define NM_LOAD ((uint32_t)0) /* writes n in dst */
+#define NM_LOAD ((uint32_t)0) /* writes n modulo m in dst */
 #define NM_ADD ((uint32_t)1)  /* the sum of a and b */
 #define NM_SUB ((uint32_t)2)  /* the difference of a and b */
 #define NM_MUL ((uint32_t)3)  /* the product of a and b */
 #define NM_NEG ((uint32_t)4)  /* the negative of a */
 #define NM_DBL ((uint32_t)5)  /* the double of a */
 #define NM_SQR ((uint32_t)6)  /* the square of a */
-#define NM_INV ((uint32_t)7)  /* the inverse of a; where there is none, the run stops */
-#define NM_DIV ((uint32_t)8)  /* the product of a and the inverse of b; where b has none, the run stops */
+#define NM_INV ((uint32_t)7)  /* the inverse of a; the run stops where there is none */
+#define NM_DIV ((uint32_t)8)  /* the product of a and the inverse of b; the run stops where b has none */
 #define NM_POW ((uint32_t)9)  /* the power of a to the exponent n */
 
-/* A command. Fields that its operation doesn't name may hold anything. */
+/* A command. Fields that its operation doesn't use may have any value. */
 typedef struct {
     uint32_t operation; /* NM_LOAD to NM_POW */
     size_t dst;         /* the register that is written */
@@ -180,17 +180,16 @@ typedef struct {
     uint64_t n;         /* the number that is loaded, or the exponent */
 } nm_command_t;
 
-/* Carries out the commands in order on the residues of the count words in registers, and puts the residues that
- * they leave in place; carried_out becomes how many commands were carried out. NM_NO_INVERSE: command number
- * carried_out, the first having the number 0, finds no inverse, and the residues are those that the commands
- * before it leave. NM_BAD_ARGUMENT: an operation has no name, or a register number isn't below count.
- * NM_BAD_CONTEXT: as above. */
+/* Carries out the commands in order on the residues of the count words in registers, and replaces the words by the
+ * resulting residues; carried_out becomes the number of commands carried out. NM_NO_INVERSE: the inverse of command
+ * number carried_out, counted from 0, doesn't exist, and the residues are those after the commands before it.
+ * NM_BAD_ARGUMENT: an operation has no name, or a register number isn't below count. NM_BAD_CONTEXT: as above. */
 uint32_t nm_montgomery_run(const nm_montgomery_t *context, uint64_t *registers, size_t count,
                            const nm_command_t *commands, size_t length, size_t *carried_out);
 
 /* --- Transforms and cyclic products modulo 2^64 - 2^32 + 1. --- */
 
-/* As the calls with a context, modulo the prime 2^64 - 2^32 + 1, which needs no context. */
+/* The calls above modulo the prime 2^64 - 2^32 + 1, without a context. */
 #define NM_SOLINAS UINT64_C(18446744069414584321)
 uint32_t nm_solinas_root_fits(uint64_t root, size_t n);
 uint32_t nm_solinas_find_root(size_t n, uint64_t *root);
@@ -199,15 +198,15 @@ uint32_t nm_solinas_convolve(uint64_t *xs, size_t n, uint64_t *ys, size_t k, uin
 
 /* --- Transforms and products by a plan, modulo m from 1 to 2^62. ---
  *
- * A plan is a table of factors that the caller keeps, which makes them some times as fast. Words may be up to
- * 4 * m - 1 going in, and are below m coming out. Each call tests its list and its table: that entries are factors
- * modulo m with their quotients. A table that passes but is no plan, as after an exchange of two entries, does no harm
- * but that the words that come out say nothing; nm_plan_fits tells it from a plan.
+ * A plan is a table of factors that the caller owns, with which transforms are faster. Words must be below 4 * m, and
+ * the results are below m. Each call tests its list and its table: the entries must be factors modulo m with their
+ * quotients. A table that passes the test but is no plan, such as a reordered one, is memory-safe but gives wrong
+ * results; nm_plan_fits tests whether a table is a plan.
  *
- * NM_BAD_ARGUMENT: m is 0 or above 2^62, or what is said with the call. NM_BAD_CONTEXT: an entry of the table is no
+ * NM_BAD_ARGUMENT: m is 0 or above 2^62, or what the call's comment says. NM_BAD_CONTEXT: an entry of the table isn't a
  * factor modulo m with its quotient. */
 
-/* A factor below m, and 2^64 times it divided by m, rounded down. */
+/* A factor w below m, and its quotient 2^64 * w / m, rounded down. */
 typedef struct {
     uint64_t value;
     uint64_t quotient;
@@ -217,47 +216,47 @@ typedef struct {
  * root doesn't suit n. */
 uint32_t nm_plan(uint64_t m, uint64_t root, nm_factor_t *table, size_t length);
 
-/* NM_OK where the table is what nm_plan leaves for this m and this root, and NM_BAD_CONTEXT where it isn't.
- * NM_NO_ROOT: as nm_plan. */
+/* NM_OK where the table is the one that nm_plan makes for this m and this root, and NM_BAD_CONTEXT where it isn't.
+ * NM_NO_ROOT: as for nm_plan. */
 uint32_t nm_plan_fits(uint64_t m, uint64_t root, const nm_factor_t *table, size_t length);
 
-/* Puts the transform in place of the n words: at place j the sum of x_i * h^(i * j), h being the root that the plan
- * is for, or that power of it that suits n where the plan is for more words. NM_BAD_ARGUMENT: a word isn't below
+/* Replaces the n words by their transform: entry j is the sum of x_i * h^(i * j) modulo m. h is the root of the plan,
+ * or, where the plan is for more words, the power of it that suits n. NM_BAD_ARGUMENT: a word isn't below
  * 4 * m, or n is no power of two, or above twice the length of the table. */
 uint32_t nm_ntt_planned(uint64_t m, uint64_t *xs, size_t n, const nm_factor_t *table, size_t length);
 
 /* Splits block b of the tree of remainders into count = n / last blocks: word i of block j becomes the sum over k of
  * x_(k * last + i) * c^k, the coefficient of the remainder modulo X^last - c, where c is the power of the plan's
- * root by the reversed bits of b * count + j. So b = 0 and last = 1 give the transform with its places in
+ * root by the reversed bits of b * count + j. So b = 0 and last = 1 give the transform in
  * bit-reversed order, and b = 1 starts from a polynomial modulo X^n + 1. NM_BAD_ARGUMENT: a word isn't below 4 * m,
  * n isn't last times a power of two, or the table has fewer than (b + 1) * (count / 2) entries. */
 uint32_t nm_split(uint64_t m, uint64_t *xs, size_t n, const nm_factor_t *table, size_t length, size_t b, size_t last);
 
-/* The way back from nm_split: each word times count. The codes are those of nm_split. */
+/* Undoes nm_split, but for a factor: each word is multiplied by count. The codes are those of nm_split. */
 uint32_t nm_join(uint64_t m, uint64_t *xs, size_t n, const nm_factor_t *table, size_t length, size_t b, size_t last);
 
-/* Puts the cyclic product of both lists in place of the first: at place e the sum of x_i * y_j over all i + j = e or
- * e + n. The second list becomes what nm_split makes of it for b = 0. The work ends at blocks of last words, which is
- * 1, or 2 where the plan is for n / 2. NM_BAD_ARGUMENT: a word isn't below 4 * m, the lengths n and k differ, last
- * isn't 1 or 2, n isn't last times a power of two, or the table has fewer than n / last / 2 entries, or none.
- * NM_NO_INVERSE: n / last has no inverse modulo m. */
+/* Replaces the first list by the cyclic product of both: entry e is the sum of x_i * y_j modulo m over all i + j =
+ * e or e + n. The second list is replaced by the result of nm_split for b = 0. Both are split down to blocks of
+ * last words, which is 1, or 2 where the plan is for n / 2 words. NM_BAD_ARGUMENT: a word isn't below 4 * m, the
+ * lengths n and k differ, last isn't 1 or 2, n isn't last times a power of two, or the table has fewer than n /
+ * last / 2 entries, or none. NM_NO_INVERSE: n / last has no inverse modulo m. */
 uint32_t nm_convolve_planned(uint64_t m, uint64_t *xs, size_t n, uint64_t *ys, size_t k, const nm_factor_t *table,
                              size_t length, size_t last);
 
-/* The same modulo X^n + 1: at place e the sum of x_i * y_j over all i + j = e, less that over all i + j = e + n. The
- * second list becomes what nm_split makes of it for b = 1. The codes are those of nm_convolve_planned, but that the
- * table has at least n / last entries. */
+/* The same modulo X^n + 1: entry e is the sum of x_i * y_j over all i + j = e, less that over all i + j = e + n. The
+ * second list is replaced by the result of nm_split for b = 1. The codes are those of nm_convolve_planned, except that
+ * the table must have at least n / last entries. */
 uint32_t nm_convolve_negacyclic(uint64_t m, uint64_t *xs, size_t n, uint64_t *ys, size_t k, const nm_factor_t *table,
                                 size_t length, size_t last);
 
-/* --- What the crates that stand on the library offer. --- */
+/* --- Applications: hashes, numbers by their residues, long products. --- */
 
 /* The hash of the n bytes at the base x: the value at x of the polynomial with the bytes as coefficients, the
- * highest first, modulo 2^61 - 1. Always NM_OK. */
+ * highest first, modulo 2^61 - 1. Returns NM_OK. */
 uint32_t nm_hash(uint64_t x, const uint8_t *bytes, size_t n, uint64_t *hash);
 
-/* The first position where the pattern of k bytes stands in the text of n bytes, by hashes at the base x.
- * NM_NOT_FOUND: it stands nowhere. The result is right for every x, and the time depends on x: where x is drawn at
+/* The first position where the pattern of k bytes occurs in the text of n bytes, by hashes at the base x.
+ * NM_NOT_FOUND: it occurs nowhere. The result is right for every x, but the time depends on x: where x is drawn at
  * random from 0 to 2^61 - 2 after text and pattern are fixed, and k is at most 2^30, the expected time is proportional
  * to n + k. For any other x, such as 0 or 1, it may be proportional to n * k. */
 uint32_t nm_find(uint64_t x, const uint8_t *text, size_t n, const uint8_t *pattern, size_t k, size_t *position);
@@ -268,18 +267,18 @@ typedef struct {
     uint64_t high;
 } nm_double_t;
 
-/* The number below the product of the n moduli that leaves the k residues: there is no other. NM_BAD_ARGUMENT: n
+/* The only number below the product of the n moduli that has the k residues. NM_BAD_ARGUMENT: n
  * and k differ, a modulus is 0, two have a common divisor above 1, their product isn't below 2^128, or a
  * residue isn't below its modulus. */
 uint32_t nm_decode(const uint64_t *moduli, size_t n, const uint64_t *residues, size_t k, nm_double_t *number);
 
-/* How long each scratch list of a product of so many places has to be: the least power of two from there on.
- * NM_BAD_ARGUMENT: there are more than 2^32 places. */
+/* The length of each scratch list for a product of `places` digits: the least power of two that is at least places.
+ * NM_BAD_ARGUMENT: places is above 2^32. */
 uint32_t nm_product_scratch(size_t places, size_t *length);
 
 /* The digits of the product of two numbers of n and k digits, which have 16 bits, the lowest first. The scratch
- * lists left and right hold anything afterwards. NM_BAD_ARGUMENT: places isn't n + k, it is above 2^32, or a
- * scratch list is shorter than nm_product_scratch says. */
+ * lists left and right have unspecified contents afterwards. NM_BAD_ARGUMENT: places isn't n + k, it is above 2^32,
+ * or a scratch list is shorter than nm_product_scratch writes. */
 uint32_t nm_product(const uint16_t *xs, size_t n, const uint16_t *ys, size_t k, uint16_t *digits, size_t places,
                     uint64_t *left, size_t left_length, uint64_t *right, size_t right_length);
 
