@@ -189,7 +189,7 @@ uint32_t nm_montgomery_run(const nm_montgomery_t *context, uint64_t *registers, 
 
 /* --- Transforms and cyclic products modulo 2^64 - 2^32 + 1. --- */
 
-/* The calls above modulo the prime 2^64 - 2^32 + 1, without a context. */
+/* nm_solinas_NAME is nm_montgomery_NAME modulo the prime 2^64 - 2^32 + 1, without a context. */
 #define NM_SOLINAS UINT64_C(18446744069414584321)
 uint32_t nm_solinas_root_fits(uint64_t root, size_t n);
 uint32_t nm_solinas_find_root(size_t n, uint64_t *root);
@@ -235,11 +235,11 @@ uint32_t nm_split(uint64_t m, uint64_t *xs, size_t n, const nm_factor_t *table, 
 /* Undoes nm_split, but for a factor: each word is multiplied by count. The codes are those of nm_split. */
 uint32_t nm_join(uint64_t m, uint64_t *xs, size_t n, const nm_factor_t *table, size_t length, size_t b, size_t last);
 
-/* Replaces the first list by the cyclic product of both: entry e is the sum of x_i * y_j modulo m over all i + j =
- * e or e + n. The second list is replaced by the result of nm_split for b = 0. Both are split down to blocks of
- * last words, which is 1, or 2 where the plan is for n / 2 words. NM_BAD_ARGUMENT: a word isn't below 4 * m, the
- * lengths n and k differ, last isn't 1 or 2, n isn't last times a power of two, or the table has fewer than n /
- * last / 2 entries, or none. NM_NO_INVERSE: n / last has no inverse modulo m. */
+/* Replaces the first list by the cyclic product of both: entry e is the sum of x_i * y_j modulo m over all
+ * i + j = e or e + n. The second list is replaced by the result of nm_split for b = 0. Both are split down to blocks
+ * of last words, which is 1, or 2 where the plan is for n / 2 words. NM_BAD_ARGUMENT: a word isn't below 4 * m, the
+ * lengths n and k differ, last isn't 1 or 2, n isn't last times a power of two, or the table has fewer than
+ * n / last / 2 entries, or none. NM_NO_INVERSE: n / last has no inverse modulo m. */
 uint32_t nm_convolve_planned(uint64_t m, uint64_t *xs, size_t n, uint64_t *ys, size_t k, const nm_factor_t *table,
                              size_t length, size_t last);
 
