@@ -22,8 +22,7 @@ const PART: u32 = 8347681;
 /// from 1 on these are the numbers of the standard's appendix B.
 ///
 /// The table is the plan by zeta, which suits 512 entries. In block 1, modulo X^256 + 1, the constants are the odd
-/// powers
-/// zeta^(2·BitRev8(i) + 1), in the standard's order.
+/// powers zeta^(2·BitRev8(i) + 1), in the standard's order.
 #[derive(Drop)]
 pub struct Ring {
     modulus: PlannedModulus<u32>,

@@ -76,8 +76,7 @@ impl Ring {
     }
 
     /// NTT(w) in place: entries 2i and 2i + 1 become the remainder of w modulo X^2 - zeta^(2·BitRev7(i) + 1), the
-    /// constant first, with residues as coefficients. Condition: the coefficients are residues (`are_residues`
-    /// tells).
+    /// constant first, with residues as coefficients. Condition: the coefficients are residues (`are_residues` tells).
     ///
     /// Source: FIPS 203, section 4.3, algorithm 9.
     pub fn ntt(&self, w: &mut [u32; 256])

@@ -17,8 +17,7 @@ pub trait StoredDivisor {
     ghost divisor: { Self → ℕ };
 }
 
-/// A divisor d whose top bit is set, and its reciprocal v: with B the base, (v + B)·d is B² - k for a k from 1 to
-/// d.
+/// A divisor d whose top bit is set, and its reciprocal v: with B the base, (v + B)·d is B² - k for a k from 1 to d.
 ///
 /// Source: Möller and Granlund, "Improved division by invariant integers".
 #[derive(Debug, PartialEq, Eq)]

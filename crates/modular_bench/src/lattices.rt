@@ -4,9 +4,8 @@ ghost use Rattle.std.specs.Prelude.{◌<◌, All};
 
 use lattice_rings::{ml_dsa, ml_kem};
 
-/// Makes the ring of ML-DSA, and then runs an operation n times: none for 0, `ntt` for 1, `inverse` for 2,
-/// `multiply` for 3, `product` with a copy of ys for 4. Condition: the coefficients are residues; they are residues
-/// afterwards.
+/// Makes the ring of ML-DSA, and then runs an operation n times: none for 0, `ntt` for 1, `inverse` for 2, `multiply`
+/// for 3, `product` with a copy of ys for 4. Condition: the coefficients are residues; they are residues afterwards.
 #[unsafe(no_mangle)]
 pub extern "C" fn bench_ml_dsa(operation: u8, xs: &mut [u32; 256], ys: &[u32; 256], n: u64)
     requires xs { All (λ x. x < 8380417) xs.old }

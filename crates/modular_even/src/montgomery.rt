@@ -21,8 +21,7 @@ use std::alloc::AllocError;
 /// A product of forms takes one product of words and one reduction, which divides by the base alone, and for even m
 /// one more wrapping product.
 ///
-/// Source: Handbook of Applied Cryptography, section 14.3.2; for even m Koç, "Montgomery reduction with even
-/// modulus".
+/// Source: Handbook of Applied Cryptography, section 14.3.2; for even m Koç, "Montgomery reduction with even modulus".
 #[derive(Debug)]
 pub struct Montgomery<T: PlainWord> {
     // The ring modulo k.

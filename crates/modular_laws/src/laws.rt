@@ -96,9 +96,8 @@ pub fn coefficient_laws()
 
 /// Horner's rule for a polynomial by its coefficients, the constant first. Modulo m, which may be composite, a
 /// polynomial with at most n coefficients that is 0 at n points whose differences all have inverses has only
-/// coefficients of 0. So two of them with equal values at the points have equal coefficients, as lists, as
-/// functions, and with the highest coefficient first. Modulo a prime, differences of distinct residues have
-/// inverses.
+/// coefficients of 0. So two of them with equal values at the points have equal coefficients, as lists, as functions,
+/// and with the highest coefficient first. Modulo a prime, differences of distinct residues have inverses.
 ///
 /// Source: Knuth, The Art of Computer Programming, volume 2, section 4.6.4 (Newton's form).
 pub fn polynomial_laws()

@@ -18,8 +18,7 @@ use std::alloc::AllocError;
 use std::marker::PhantomData;
 
 /// An odd modulus, with what is precomputed of it: its negated inverse modulo the base, and the square of the base
-/// modulo m. A type that knows its modulus needn't store it, and a modulus of a special form may be multiplied
-/// faster.
+/// modulo m. A type that knows its modulus needn't store it, and a modulus of a special form may be multiplied faster.
 pub trait OddModulus<T: PlainWord>: Copy {
     // The moduli that are accepted.
     ghost taken: { ℕ → Type 0 };

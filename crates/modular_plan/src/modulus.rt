@@ -141,8 +141,7 @@ impl<T: PlainWord> PlannedModulus<T> {
         product.wrapping_sub(whole.wrapping_mul(self.modulus))
     }
 
-    /// The residue of the product of any word x with a factor, below m. Condition: the factor is a residue modulo
-    /// m.
+    /// The residue of the product of any word x with a factor, below m. Condition: the factor is a residue modulo m.
     pub fn product(&self, x: T, w: &Factor<T>) -> T
         requires { IsFactor T.base (T.number self.now.modulus) (T.number w.now.value) (T.number w.now.quotient) }
         ensures { T.number result ≡ (T.number x * T.number w.now.value) % T.number self.now.modulus }
@@ -164,8 +163,7 @@ impl<T: PlainWord> PlannedModulus<T> {
 
     /// The residue of x·v + u·y, below m. Condition: x + u is below 2m.
     ///
-    /// It divides once, by the reciprocal, modulo 2m: the high word of the sum may be at least m, but it is below
-    /// 2m.
+    /// It divides once, by the reciprocal, modulo 2m: the high word of the sum may be at least m, but it is below 2m.
     pub fn product_sum(&self, x: T, v: T, u: T, y: T) -> T
         requires { T.number x + T.number u < 2 * T.number self.now.modulus }
         ensures value { T.number result ≡ (T.number x * T.number v + T.number u * T.number y)
@@ -186,9 +184,9 @@ impl<T: PlainWord> PlannedModulus<T> {
         self.modulus.plus(self.modulus)
     }
 
-    /// Whether a word of more than 32 bits is at least 4m. Where it never is, a loop that returns if it is has a
-    /// trip count that compilers can't compute, so that they don't vectorize it: vectors of such words would be
-    /// slower.
+    /// Whether a word of more than 32 bits is at least 4m; false for shorter words. A loop over entries below 4m
+    /// returns where this is true, which it never is: so compilers can't compute the loop's trip count, and don't
+    /// vectorize it. Vectors of words of more than 32 bits would be slower.
     pub fn is_outside(&self, x: T) -> bool
         ensures { IsTrue result → 4 * T.number self.now.modulus ≤ T.number x }
     {

@@ -1,5 +1,4 @@
-//! Two stages of one block of a split: of four quarters, of the whole list with the factor 1, and of four
-//! neighbours.
+//! Two stages of one block of a split: of four quarters, of the whole list with the factor 1, and of four neighbours.
 
 ghost use Rattle.std.specs.Prelude.{◌≡◌, ℕ, ◌+◌, ◌*◌, ◌<◌, ◌≤◌, All, length};
 ghost use Rattle.modular_plan.specs.Factors.{IsFactor};

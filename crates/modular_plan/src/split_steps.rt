@@ -14,16 +14,15 @@ use modular_word::path_word::PathWord;
 use modular_word::ring_word::RingWord;
 
 /// A modulus m by which pairs and fours of entries are split. Between two passes the entries stay below a bound, a
-/// multiple of m. Condition of each call: entries x, y, z and t are below the bound, and factors are factors modulo
-/// m.
+/// multiple of m. Condition of each call: entries x, y, z and t are below the bound, and factors are factors modulo m.
 pub trait SplitSteps<T: PlainWord>: Copy {
     ghost modulus: { Self → ℕ };
 
     ghost bound: { Self → ℕ };
 
-    /// Whether a word of more than 32 bits is at least the bound. Where it never is, a loop that returns if it is
-    /// has a trip count that compilers can't compute, so that they don't vectorize it: vectors of such words would
-    /// be slower.
+    /// Whether a word of more than 32 bits is at least the bound; false for shorter words. A loop over entries below
+    /// the bound returns where this is true, which it never is: so compilers can't compute the loop's trip count, and
+    /// don't vectorize it. Vectors of words of more than 32 bits would be slower.
     fn is_beyond(&self, x: T) -> bool
         ensures { IsTrue result → bound self.now ≤ T.number x };
 
@@ -161,8 +160,7 @@ impl<T: PlainWord> SplitSteps<T> for PlannedModulus<T> {
     ghost room = { λ m. le_refl (4 * T.number m.modulus) };
 }
 
-// Entries stay below 12m. Of four numbers only one is reduced, from below 12m to below 8m, and no operand of a
-// product.
+// Entries stay below 12m. Of four numbers only one is reduced, from below 12m to below 8m, and no operand of a product.
 impl<T: PlainWord> SplitSteps<T> for RoomyModulus<T> {
     ghost modulus = { λ m. T.number m.planned.modulus };
 

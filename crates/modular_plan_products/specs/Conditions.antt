@@ -45,8 +45,7 @@ pub record AreBlocks (length entries b last : ℕ) : Type 0 where
   pub whole : length / last * last ≡ length
   pub within : (b + 1) * (length / last / 2) ≤ entries
 
--- before a join: the words of a list are below 4m, the entries of a table are factors, and both have fitting
--- lengths
+-- before a join: the words of a list are below 4m, the entries of a table are factors, and both have fitting lengths
 pub record IsJoinable {T F : Type 0} (number : T → ℕ) (base m : ℕ) (value quotient : F → ℕ) (b last : ℕ) (words : List T)
     (table : List F) : Type 0 where
   pub entries : All (λ x. number x < 4 * m) words

@@ -15,8 +15,7 @@ use modular_word::path_word::PathWord;
 use modular_word::ring_word::RingWord;
 
 /// A modulus m by which pairs and fours of entries are joined. Between two passes the entries stay below a bound, a
-/// multiple of m. Condition of each call: numbers x, y, z and t are below the bound, and factors are factors modulo
-/// m.
+/// multiple of m. Condition of each call: numbers x, y, z and t are below the bound, and factors are factors modulo m.
 pub trait JoinSteps<T: PlainWord> {
     ghost modulus: { Self → ℕ };
 
@@ -28,9 +27,9 @@ pub trait JoinSteps<T: PlainWord> {
         ensures factor { IsFactor T.base (modulus self.now) (T.number result.value) (T.number result.quotient) }
         ensures value { T.number result.value + 1 ≡ modulus self.now };
 
-    /// Whether a word of more than 32 bits is at least 4m. Where it never is, a loop that returns if it is has a
-    /// trip count that compilers can't compute, so that they don't vectorize it: vectors of such words would be
-    /// slower.
+    /// Whether a word of more than 32 bits is at least 4m; false for shorter words. A loop over entries below 4m
+    /// returns where this is true, which it never is: so compilers can't compute the loop's trip count, and don't
+    /// vectorize it. Vectors of words of more than 32 bits would be slower.
     fn is_beyond(&self, x: T) -> bool
         ensures { IsTrue result → 4 * modulus self.now ≤ T.number x };
 

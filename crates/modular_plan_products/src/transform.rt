@@ -12,9 +12,8 @@ use modular_plan::split::split;
 use modular_prim::plain_word::PlainWord;
 use modular_transform::order::reverse_places;
 
-/// The transform of n entries in place, in natural order: entry j becomes the sum over i of x_i·h^(i·j) modulo m,
-/// below m. h is the root of the plan, or, where the plan is for more entries, the power of it that suits n
-/// entries.
+/// The transform of n entries in place, in natural order: entry j becomes the sum over i of x_i·h^(i·j) modulo m, below
+/// m. h is the root of the plan, or, where the plan is for more entries, the power of it that suits n entries.
 ///
 /// Conditions: the entries are below 4m; n is a power of two, and at most twice as many as the table's factors;
 /// these are factors modulo m.

@@ -199,8 +199,7 @@ fits_next base a b u v k d t o u' v' e h eu ev f =
       twos = omega (arith, f.twos);
     }
 
--- the start of a turn, a pair with its greater number first: its difference d, smaller number y and this one's
--- factor f
+-- the start of a turn, a pair with its greater number first: its difference d, smaller number y and this one's factor f
 pub record Ordered (base a b u v k d y f : ℕ) (s s' : Bool) : Type 0 where
   pub greater : ℕ
   pub factor : ℕ

@@ -25,8 +25,7 @@ fn reached<T: PathWord>(a: T, multiple: T, k: T, before: (T, T)) -> (T, T)
     }
 }
 
-// The quotient of a by d, a digit of base 4, and the remainder. Conditions: a is below 4d, and 4d is at most the
-// base.
+// The quotient of a by d, a digit of base 4, and the remainder. Conditions: a is below 4d, and 4d is at most the base.
 fn digit<T: PathWord>(a: T, d: T) -> (T, T)
     requires below { T.number a < 4 * T.number d }
     requires fits { 4 * T.number d ≤ T.base }
@@ -139,9 +138,8 @@ fn has_four_digits<T: PathWord>(a: T, d: T) -> bool
     false
 }
 
-/// The remainder of a by d: in two digits of base 4 where the quotient is below 16 and words have more than 16
-/// bits, in four where it is below 256 and words have more than 32, else by a division instruction. Condition: d is
-/// at least 1.
+/// The remainder of a by d: in two digits of base 4 where the quotient is below 16 and words have more than 16 bits, in
+/// four where it is below 256 and words have more than 32, else by a division instruction. Condition: d is at least 1.
 pub fn rest<T: PlainWord>(a: T, d: T) -> T
     requires { 1 ≤ T.number d }
     ensures rest { T.number result ≡ T.number a % T.number d }

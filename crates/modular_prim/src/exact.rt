@@ -27,8 +27,8 @@ pub trait DivExact<Rhs: Numbered, Precompute>: Numbered + Sized {
 
 /// Exact division in place by a divisor, given what was precomputed of it, or `()`.
 pub trait DivExactAssign<Rhs: Numbered, Precompute>: DivExact<Rhs, Precompute, Output = Self> {
-    /// Replaces the number by its quotient by d and returns true. Where d doesn't divide the number, it leaves it
-    /// unchanged and returns false. Condition: what is stored fits d.
+    /// Replaces the number by its quotient by d and returns true. Where d doesn't divide the number, returns false
+    /// and leaves it unchanged. Condition: what is stored fits d.
     fn div_exact_assign(&mut self, d: Rhs, pre: &Precompute) -> bool
         requires { Self.fits d pre.now }
         ensures exact { IsTrue result → Self.whole_number self.new * Rhs.whole_number d ≡ Self.whole_number self.old }

@@ -11,7 +11,6 @@ digits_within (suc k) e = if nat_le (2 ^ k) e then suc k else digits_within k e
 unfoldable pub digits : ℕ → ℕ
 digits e = digits_within e e
 
--- a square for each digit and a product for each digit 1; none for the exponent 1, and one square for the exponent
--- 2
+-- a square for each digit and a product for each digit 1; none for the exponent 1, and one square for the exponent 2
 unfoldable pub products : ℕ → ℕ
 products e = if e == 1 then 0 else if e == 2 then 1 else digits e + count_ones e

@@ -102,8 +102,7 @@ pub fn residue_by_form<T: RingWord, R: Reducer<T>>(reducer: &R, n: T) -> T
     reducer.residue(reducer.transform(n))
 }
 
-/// Whether the values of two forms are equal, which they are exactly where the forms are. Condition: both are
-/// checked.
+/// Whether the values of two forms are equal, which they are exactly where the forms are. Condition: both are checked.
 pub fn same_value<T: RingWord, R: Reducer<T>>(reducer: &R, a: T, b: T) -> bool
     requires a { IsForm R.form R.value (R.modulus reducer.now) (T.number a) }
     requires b { IsForm R.form R.value (R.modulus reducer.now) (T.number b) }

@@ -1,6 +1,5 @@
--- The number of steps of a Jacobi symbol by halving and swapping (Cohen, "A Course in Computational Algebraic
--- Number Theory", algorithm 1.4.10: a step removes one factor 2 there, or swaps the two numbers and reduces one by
--- the other).
+-- The number of steps of a Jacobi symbol by halving and swapping (Cohen, "A Course in Computational Algebraic Number
+-- Theory", algorithm 1.4.10: a step removes one factor 2 there, or swaps the two numbers and reduces one by the other).
 use Rattle.std.specs.Prelude.{ℕ, zero, suc, ◌+◌, ◌/◌, ◌%◌, ◌==◌, if◌then◌else◌}
 
 -- the number of steps from a over n, if there are at most `bound`

@@ -31,10 +31,9 @@ pub fn jacobi_laws()
     ensures prime { (a : ℤ) (n : ℕ) → n % 2 ≡ 1 → IsPrime n → classed_power a n ≡ Some (jacobi a n) }
 {}
 
-/// A number that a prime p doesn't divide is coprime to p, so it has an inverse, and its power to the exponent
-/// p - 1 is congruent to 1 (Fermat's theorem). Over an odd prime the Legendre and the Jacobi symbol exist and are
-/// equal. They are 1 exactly for a quadratic residue: a number congruent to the square of one that p doesn't
-/// divide.
+/// A number that a prime p doesn't divide is coprime to p, so it has an inverse, and its power to the exponent p - 1 is
+/// congruent to 1 (Fermat's theorem). Over an odd prime the Legendre and the Jacobi symbol exist and are equal. They
+/// are 1 exactly for a quadratic residue: a number congruent to the square of one that p doesn't divide.
 ///
 /// Source: Hardy and Wright, "An Introduction to the Theory of Numbers", sections 6.1 to 6.6.
 pub fn prime_laws()

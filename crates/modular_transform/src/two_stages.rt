@@ -47,8 +47,7 @@ fn four<T: RingWord, R: Reducer<T>>(
 /// Two stages, the first with a root and 2·step columns, the second with its square and `step` columns. `turned` is
 /// the power `step` of the root. Returns the number of products.
 ///
-/// Conditions: all forms are checked; `turned` is that power; there are 4·step·blocks entries, in one block or
-/// more.
+/// Conditions: all forms are checked; `turned` is that power; there are 4·step·blocks entries, in one block or more.
 pub fn two_stages<T: RingWord, R: Reducer<T>>(
     r: &R,
     forms: &mut [T],

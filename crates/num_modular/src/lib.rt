@@ -1,9 +1,8 @@
 //! Modular rings over machine words, by the names of the crate `num-modular`.
 //!
-//! The root exports the traits, types and aliases, and the bounds of generic code over them. The modules are those
-//! of the Rust crate, and five more: `ring` (lists of commands run over any reducer, and transforms), `plans`
-//! (transforms by a table), `rings` (the generic types behind the aliases), `laws`, and `modrun` (the body of the
-//! program).
+//! The root exports the traits, types and aliases, and the bounds of generic code over them. The modules are those of
+//! the Rust crate, and five more: `ring` (lists of commands run over any reducer, and transforms), `plans` (transforms
+//! by a table), `rings` (the generic types behind the aliases), `laws`, and `modrun` (the body of the program).
 #![tactic(auto)]
 
 pub mod barrett;

@@ -47,8 +47,7 @@ pub extern "C" fn nm_mulm(a: u64, b: u64, m: u64, product: &mut u64) -> u32
     NM_OK
 }
 
-/// Writes the residue of a to the power `exponent` modulo m; that of 1 for the exponent 0. `NM_BAD_ARGUMENT`: m is
-/// 0.
+/// Writes the residue of a to the power `exponent` modulo m; that of 1 for the exponent 0. `NM_BAD_ARGUMENT`: m is 0.
 #[unsafe(no_mangle)]
 pub extern "C" fn nm_powm(a: u64, exponent: u64, m: u64, power: &mut u64) -> u32
     ensures did { 1 ≤ m → Did result (power.new ≡ a ^ exponent % m) }

@@ -73,8 +73,7 @@ pub fn quotient<D: Numbered, P, N: DivExact<D, P>>(n: N, d: D, pre: &P) -> Optio
     n.div_exact(d, pre)
 }
 
-/// Divides the number by d in place and returns true; where d doesn't divide it, leaves it unchanged and returns
-/// false.
+/// Divides the number by d in place and returns true; where d doesn't divide it, leaves it unchanged and returns false.
 pub fn divided<D: Numbered, P, N: DivExactAssign<D, P>>(n: &mut N, d: D, pre: &P) -> bool
     requires { N.fits d pre.now }
     ensures exact { IsTrue result → N.whole_number n.new * D.whole_number d ≡ N.whole_number n.old }

@@ -34,8 +34,7 @@ fn next_range(range: u128, m: u64) -> Option<u128>
     range.checked_mul(m as u128)
 }
 
-/// Whether the moduli are those of a system: each is above 0, any two are coprime, and their product is below
-/// 2^128.
+/// Whether the moduli are those of a system: each is above 0, any two are coprime, and their product is below 2^128.
 pub fn is_system(moduli: &[u64]) -> bool
     ensures { IsTrue result ↔ IsSystem moduli.now }
 {
@@ -54,8 +53,7 @@ pub fn is_system(moduli: &[u64]) -> bool
     true
 }
 
-// The next digit of a number in the mixed radix of the moduli: the factor of `range` for which the sum has the
-// residue.
+// The next digit of a number in the mixed radix of the moduli: the factor of `range` for which the sum has the residue.
 fn next_digit(m: u64, residue: u64, number: u128, range: u128) -> u64
     requires modulus { 1 ≤ m }
     requires unit { HasInverse m range }

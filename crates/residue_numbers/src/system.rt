@@ -63,9 +63,8 @@ impl<'a> ResidueSystem<'a> {
     }
 
     /// The only number below the product of the moduli that has these residues. So `decode` and `encode` undo each
-    /// other: `decode` returns a number below the product from its residues (clause `only`), and `encode` the
-    /// residues from the number (clause `number`). Condition: each modulus has a residue below it (`are_reduced`
-    /// tells).
+    /// other: `decode` returns a number below the product from its residues (clause `only`), and `encode` the residues
+    /// from the number (clause `number`). Condition: each modulus has a residue below it (`are_reduced` tells).
     pub fn decode(&self, residues: &[u64]) -> u128
         requires count { length residues.now ≡ length self.now.moduli.now }
         requires reduced { (i : ℕ) → i < length self.now.moduli.now →

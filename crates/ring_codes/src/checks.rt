@@ -73,8 +73,7 @@ impl<'a> Code<'a> {
         sum == sum.convert(self.residue)
     }
 
-    /// Whether the code detects the change of one symbol of a word: the word with `symbol` at `place` isn't
-    /// accepted.
+    /// Whether the code detects the change of one symbol of a word: the word with `symbol` at `place` isn't accepted.
     ///
     /// It is detected exactly where the symbol isn't allowed at the place, or the weight times the difference of
     /// the symbols isn't 0 modulo m; so always where the weight has an inverse and the symbols differ modulo m.

@@ -140,7 +140,6 @@ fn check_number(text: &[u8]) -> u8
 /// By `standard_finds` every change of one character to another of its kind, digit or letter, is detected. A text
 /// with the form and such check digits is an IBAN exactly where its digits are a word of `iban_code`; so every
 /// change of one of these digits and every exchange of two neighbouring digits that differ is detected too.
-/// digits that differ is found too.
 pub fn accepts_iban(text: &[u8]) -> bool
     ensures { IsTrue result ↔ IsIban text.now }
 {

@@ -72,10 +72,9 @@ pub fn newton_value<T: RingWord, R: Reducer<T>>(
     value
 }
 
-/// Replaces the values at the points by the coefficients of Newton's form, by divided differences: the difference
-/// of each value and of the form so far is divided once. Conditions: all are checked forms; there are as many
-/// points and inverses as values or more; each inverse is that of the product of the point's differences from those
-/// before it.
+/// Replaces the values at the points by the coefficients of Newton's form, by divided differences: the difference of
+/// each value and of the form so far is divided once. Conditions: all are checked forms; there are as many points and
+/// inverses as values or more; each inverse is that of the product of the point's differences from those before it.
 pub fn divide_differences<T: RingWord, R: Reducer<T>>(
     r: &R,
     points: &[T],

@@ -4,8 +4,7 @@ use modular_prim::plain_word::PlainWord;
 use modular_word::path_word::PathWord;
 use num_modular::plans::{Factor, PlanEntry, PlannedModulus};
 
-// Whether a factor has this quotient, and its product with x this residue, also by `multiply`, without the
-// quotient.
+// Whether a factor has this quotient, and its product with x this residue, also by `multiply`, without the quotient.
 fn is_product<T: PlainWord>(m: T, w: T, quotient: T, x: T, residue: T) -> bool {
     if !PlannedModulus::admits(m) || !w.is_below(m) {
         return false;

@@ -107,8 +107,7 @@ fn known_products(rt: HostRuntime) {
     );
 }
 
-// Whether a reducer of 20 transforms two entries, and leaves both lists unchanged where it can't divide a product
-// by 2.
+// Whether a reducer of 20 transforms two entries, and leaves both lists unchanged where it can't divide a product by 2.
 fn is_even_ring<R: Reducer<u8>>(r: &R) -> bool {
     let (mut xs, mut ys, mut zs) = ([7, 9], [1, 0], [7, 9]);
     is_transform(r, &mut zs, 19, 3, &[16, 18])

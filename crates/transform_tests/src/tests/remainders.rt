@@ -35,8 +35,7 @@ pub fn are_same<T: RingWord>(xs: &[T], ys: &[T]) -> bool {
     xs.len() == ys.len()
 }
 
-// The modulus, and in the table the plan by g for n entries, n being twice its length; `None` where they don't
-// suit.
+// The modulus, and in the table the plan by g for n entries, n being twice its length; `None` where they don't suit.
 pub fn planned<T: PlainWord>(m: T, g: T, table: &mut [Factor<T>]) -> Option<PlannedModulus<T>>
     ensures { MatchOption result ⊤
         (λ m. All (λ f. IsFactor T.base (T.number m.modulus) (T.number f.value) (T.number f.quotient)) table.new) }

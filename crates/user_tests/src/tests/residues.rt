@@ -126,8 +126,7 @@ fn decoded_by_a_system(rt: HostRuntime) {
     assert!(rt; number == 23);
 }
 
-// Whether the commands, from these numbers, leave these residues in register 1; `None` where an inverse doesn't
-// exist.
+// Whether the commands, from these numbers, leave these residues in register 1; `None` where an inverse doesn't exist.
 fn runs(
     moduli: &[u64],
     commands: &[RingCommand<u64>],
