@@ -250,9 +250,9 @@ fn choose<T: RingWord>(points: &[T], places: &[usize], chosen: &mut [T]) -> Resu
 /// Restores a message of k symbols, k being the length of `message`, from the first k places and the symbols there,
 /// whichever places these are. `encode` then gives every other symbol.
 ///
-/// Each error is returned exactly where its cause is present: too few symbols, a place without a point, a place
-/// that occurs twice, points that don't fit. Conditions: points and symbols are checked forms, each place has its
-/// symbol, and there are k weights and room for k points. The contents of these and of `message` are ignored.
+/// An error names a cause that is present: too few symbols, a place without a point, a place that occurs twice,
+/// points that don't fit. Conditions: points and symbols are checked forms, each place has its symbol, and there
+/// are k weights and room for k points. The contents of these and of `message` are ignored.
 pub fn restore<T: RingWord, R: Reducer<T>>(
     r: &R,
     points: &[T],
