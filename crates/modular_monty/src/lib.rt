@@ -1,8 +1,10 @@
-//! Montgomery's reduction, and exact division by an odd number: both use its inverse modulo the base.
+//! Montgomery's representation for every modulus, and exact division by an odd number: both use the inverse of an
+//! odd number modulo the base.
 #![tactic(auto)]
 
 mod computed;
 pub mod fixed;
+pub mod montgomery;
 pub mod neg_mod_inv;
 pub mod odd_ring;
 pub mod preinv;

@@ -5,7 +5,7 @@
 ghost use Rattle.std.specs.Prelude.{◌≡◌, ◌-◌, ◌*◌, ◌%◌, ◌^◌, ◌≤◌};
 ghost use Rattle.modular_word.specs.Division.{IsExactQuotient};
 
-use modular_even::montgomery::Montgomery;
+use modular_monty::montgomery::Montgomery;
 use modular_monty::fixed::FixedMontgomery32;
 use modular_monty::neg_mod_inv::w8;
 use modular_monty::preinv::{PreModInv, PreparedInverse};

@@ -12,7 +12,7 @@ ghost use Rattle.num_modular.specs.Words.{FindsWhere};
 use self::words::{REGISTERS, command, number};
 use crate::ring::{RingCommand, RunEnd, run};
 use modular_barrett::premul::PreMulInv2by1;
-use modular_even::montgomery::Montgomery;
+use modular_monty::montgomery::Montgomery;
 use modular_reduced::reducer::Reducer;
 use modular_reduced::vanilla::Vanilla;
 use std::alloc::{Allocator, Global};

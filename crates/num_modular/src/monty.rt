@@ -1,5 +1,5 @@
 //! Montgomery's representation, and the negated inverse modulo the base, which it uses.
 
-pub use modular_even::montgomery::Montgomery;
 pub use modular_monty::fixed::{FixedMontgomery32, FixedMontgomery64};
+pub use modular_monty::montgomery::Montgomery;
 pub use modular_monty::neg_mod_inv;

@@ -1,7 +1,7 @@
 //! Known values of the reducer, and comparisons with plain remainders.
 
 use crate::tests::residues::{agree, inverse, product};
-use modular_even::montgomery::Montgomery;
+use modular_monty::montgomery::Montgomery;
 use modular_prim::plain_word::PlainWord;
 use modular_reduced::reducer::Reducer;
 use std::process::Abort;

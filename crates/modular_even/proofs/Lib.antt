@@ -1,2 +1,0 @@
-pub mod SplitSteps
-pub mod Twos

@@ -1,5 +1,0 @@
-use Rattle.modular_even.proofs.SplitSteps.{double_made}
-use Rattle.modular_even.proofs.montgomery.MontgomeryReducer.dbl.Goals as goal
-
-pub returns : goal.returns
-returns g c = double_made c.args.self.now.ring (g.T.RingWord.number c.args.f) c.add.ensures

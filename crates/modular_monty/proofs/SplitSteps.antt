@@ -1,0 +1,243 @@
+-- What each operation modulo m = k * 2^s makes of forms, k being odd.
+use Rattle.std.proofs.Common.{◌≡◌, ℕ, ◌+◌, ◌-◌, ◌*◌, ◌/◌, ◌%◌, ◌^◌, ◌<◌, ◌↔◌, sym}
+use Rattle.std.proofs.Common.{ap, ap₂, ◌∙◌, arith, refl, pos, ◌-ℤ◌, neg_ℤ, subst}
+use Rattle.std.proofs.Math.Nat.{mod-lt, mod-mod, mod-eq_of_lt, add-mod_right}
+use Rattle.std.proofs.Math.Nat.{add-mul-mod_self_left, div-add-mod, div-one, mod-one}
+use Rattle.std.proofs.lemmas.Nat.{pow_pos, div_below, div-mul-add, mod-mul-add, mul-add-lt}
+use Rattle.std.proofs.lemmas.Int.{ints}
+use Rattle.modular_word.specs.Residues.{residue}
+use Rattle.modular_word.proofs.Congruence.{same_sum, same_product, same_without, mod_of_multiple, mod_of_multiple_left}
+use Rattle.modular_word.proofs.ResidueLemmas.{difference_and}
+use Rattle.modular_reduced.specs.Forms.{IsForm}
+use Rattle.modular_reduced.proofs.FormLemmas.{Answered, ValueAnswered, answered, value_answered, form_of_value}
+use Rattle.modular_monty.specs.Montgomery.{montgomery_form, montgomery_value}
+use Rattle.modular_monty.specs.Split.{split_form, split_value, IsSplitRing}
+use Rattle.modular_monty.specs.MontgomeryLaws.{positive, value_of_form}
+use Rattle.modular_monty.specs.SplitLaws.{form_is, modulus_positive, form_less, within, negated_inverse, split_canonical}
+use Rattle.modular_monty.proofs.MontgomerySteps as odd
+
+-- the clauses of a call that returns f, which represents the value v modulo m
+abbrev pub Made : ℕ → ℕ → ℕ → ℕ → Type 0
+Made w m f v = Answered (split_form w) (split_value w) m f v
+
+-- f is a checked form modulo m
+abbrev pub Checked : ℕ → ℕ → ℕ → Type 0
+Checked w m f = IsForm (split_form w) (split_value w) m f
+
+-- for an odd modulus a form is its high part, and no bits are low
+pub all_high : (s f : ℕ) → s ≡ 0 → f ≡ f / 2 ^ s
+all_high s f e = sym (ap (λ n. f / 2 ^ n) e ∙ div-one f)
+
+pub none_low : (s x y : ℕ) → s ≡ 0 → x % 2 ^ s ≡ y % 2 ^ s
+none_low s x y e = ap (λ n. x % 2 ^ n) e ∙ mod-one x ∙ sym (ap (λ n. y % 2 ^ n) e ∙ mod-one y)
+
+pub joined_none : (s u l : ℕ) → s ≡ 0 → u ≡ u * 2 ^ s + l % 2 ^ s
+joined_none s u l e = sym (ap (λ n. u * 2 ^ n + l % 2 ^ n) e ∙ omega (arith, mod-one l))
+
+-- the parts of a form f of the value v
+pub record HasParts (w m s k f v : ℕ) : Type 0 where
+  pub high : odd.Stands w k (f / 2 ^ s) (v % k)
+  pub low : f % 2 ^ s ≡ v % 2 ^ s
+  pub below : f < m
+
+module _ {w b m s k i square : ℕ} (r : IsSplitRing w b m s k i square) where
+  -- what is congruent modulo m is so modulo its two parts
+  by_parts : (x y : ℕ) → x % m ≡ y % m → (x % k ≡ y % k) × (x % 2 ^ s ≡ y % 2 ^ s)
+  by_parts x y e =
+      let q = 2 ^ s in
+      let whole : x % (k * q) ≡ y % (k * q) = ap (λ n. x % n) r.whole ∙ e ∙ ap (λ n. y % n) (sym r.whole) in (
+        sym (mod_of_multiple k q x) ∙ ap (λ n. n % k) whole ∙ mod_of_multiple k q y,
+        sym (mod_of_multiple_left q k x) ∙ ap (λ n. n % q) whole ∙ mod_of_multiple_left q k y,
+      )
+
+  -- two parts that represent x give the form of x modulo m
+  pub made : (x l : ℕ) {u v f : ℕ} → odd.Stands w k u v → v ≡ x % k → l % 2 ^ s ≡ x % 2 ^ s → f ≡ u * 2 ^ s + l % 2 ^ s
+      → Made w m f (x % m)
+  made x l {u} {v} {f} high ev el ef =
+      let parts = by_parts (x % m) x (mod-mod x m) in
+      let eu : u ≡ montgomery_form w k (x % m) =
+      high.same ∙ same_product k v (x % m) (2 ^ w) (2 ^ w) (odd.same_residue x k ev ∙ sym parts.0) refl in
+      answered (split_canonical r) (record {
+        below = mod-lt x (modulus_positive r);
+        same = ef ∙ ap₂ (λ n o. n * 2 ^ s + o) eu (el ∙ sym parts.1) ∙ sym (form_is r (x % m));
+      })
+
+  pub parts : {f : ℕ} → Checked w m f → HasParts w m s k f (split_value w m f)
+  parts {f} is =
+      let v = split_value w m f in
+      let u = montgomery_form w k v in
+      let e : f ≡ u * 2 ^ s + v % 2 ^ s = is.same ∙ form_is r v in
+      let below = mod-lt v (pow_pos s) in
+      let high : f / 2 ^ s ≡ u = ap (λ n. n / 2 ^ s) e ∙ div-mul-add u (2 ^ s) (v % 2 ^ s) below in
+      record {
+        high = record {
+          below = mod-lt v (positive r.odd);
+          same = high ∙ same_product k v (v % k) (2 ^ w) (2 ^ w) (sym (mod-mod v k)) refl;
+        };
+        low = ap (λ n. n % 2 ^ s) e ∙ mod-mul-add u (2 ^ s) (v % 2 ^ s) below;
+        below = omega (arith, is.same, form_less r v);
+      }
+
+  -- the high part of a form is a form modulo the odd part
+  pub high_checked : {f y : ℕ} → Checked w m f → y ≡ f / 2 ^ s → odd.Checked w k y
+  high_checked {f} {y} is ey =
+      let high = (parts is).high in
+      let below : f / 2 ^ s < k = omega (arith, high.same, mod-lt (split_value w m f % k * 2 ^ w) (positive r.odd)) in
+      odd.below_is_form r.odd y (omega (arith, below))
+
+  -- and of its value
+  high_value : {f y : ℕ} → Checked w m f → y ≡ f / 2 ^ s → montgomery_value w k y ≡ split_value w m f % k
+  high_value is ey = ap (montgomery_value w k) ey ∙ value_of_form r.odd (parts is).high
+
+  -- the words that wrap at the base are right modulo the power of two
+  pub low_word : (x : ℕ) {t : ℕ} → t ≡ x % b → t % 2 ^ s ≡ x % 2 ^ s
+  low_word x {t} e = within r t x (odd.same_residue x b e)
+
+  -- an operation that keeps congruence, as the sum and the product, on two forms
+  pub operation_made : (op : ℕ → ℕ → ℕ) → ((n a c d e : ℕ) → a % n ≡ c % n → d % n ≡ e % n → op a d % n ≡ op c e % n)
+      → {f g y z u t h : ℕ}
+      → Checked w m f → Checked w m g → y ≡ f / 2 ^ s → z ≡ g / 2 ^ s
+      → odd.Stands w k u (op (montgomery_value w k y) (montgomery_value w k z) % k)
+      → t ≡ op f g % b → h ≡ u * 2 ^ s + t % 2 ^ s → Made w m h (op (split_value w m f) (split_value w m g) % m)
+  operation_made op same {f} {g} {y} {z} {u} {t} isf isg ey ez eu et eh =
+      let v = split_value w m f in
+      let x = split_value w m g in
+      made (op v x) t eu
+      (same k (montgomery_value w k y) v (montgomery_value w k z) x (odd.same_residue v k (high_value isf ey))
+      (odd.same_residue x k (high_value isg ez)))
+      (low_word (op f g) et ∙ same (2 ^ s) f v g x (parts isf).low (parts isg).low) eh
+
+  -- the difference of the high parts is the high part of the difference
+  high_difference : {f g y z : ℕ} → Checked w m f → Checked w m g → y ≡ f / 2 ^ s → z ≡ g / 2 ^ s
+      → residue k (pos (montgomery_value w k y) -ℤ pos (montgomery_value w k z))
+      ≡ residue m (pos (split_value w m f) -ℤ pos (split_value w m g)) % k
+  high_difference {f} {g} {y} {z} isf isg ey ez =
+      let v = split_value w m f in
+      let x = split_value w m g in
+      let vy = montgomery_value w k y in
+      let vz = montgomery_value w k z in
+      let some = positive r.odd in
+      let d = residue m (pos v -ℤ pos x) in
+      let c = residue k (pos vy -ℤ pos vz) in
+      let back = by_parts (d + x) v (difference_and m v x (modulus_positive r)) in
+      let sum : (c + x) % k ≡ (d + x) % k =
+      same_sum k c c x vz refl (sym (odd.same_residue x k (high_value isg ez)))
+      ∙ difference_and k vy vz some ∙ odd.same_residue v k (high_value isf ey) ∙ sym back.0 in
+      sym (mod-eq_of_lt (odd.difference_below k vy vz some)) ∙ same_without k c d x some sum
+
+  -- the difference of two forms
+  pub difference_made : (t : ℕ) {f g y z u h : ℕ} → Checked w m f → Checked w m g → y ≡ f / 2 ^ s → z ≡ g / 2 ^ s
+      → odd.Stands w k u (residue k (pos (montgomery_value w k y) -ℤ pos (montgomery_value w k z)))
+      → (t + g) % 2 ^ s ≡ f % 2 ^ s → h ≡ u * 2 ^ s + t % 2 ^ s
+      → Made w m h (residue m (pos (split_value w m f) -ℤ pos (split_value w m g)))
+  difference_made t {f} {g} {y} {z} {u} {h} isf isg ey ez eu et eh =
+      let v = split_value w m f in
+      let x = split_value w m g in
+      let d = residue m (pos v -ℤ pos x) in
+      let less = odd.difference_below m v x (modulus_positive r) in
+      let back = by_parts (d + x) v (difference_and m v x (modulus_positive r)) in
+      let low_sum : (t + x) % 2 ^ s ≡ (d + x) % 2 ^ s =
+      same_sum (2 ^ s) t t x g refl (sym (parts isg).low) ∙ et ∙ (parts isf).low ∙ sym back.1 in
+      subst (Made w m h) (mod-eq_of_lt less)
+      (made d t eu (high_difference isf isg ey ez) (same_without (2 ^ s) t d x (pow_pos s) low_sum) eh)
+
+  -- the difference of two forms times a third
+  pub difference_product_made : (t : ℕ) {f g e y z a u h : ℕ} → Checked w m f → Checked w m g → Checked w m e
+      → y ≡ f / 2 ^ s → z ≡ g / 2 ^ s → a ≡ e / 2 ^ s
+      → odd.Stands w k u ((residue k (pos (montgomery_value w k y) -ℤ pos (montgomery_value w k z))
+      * montgomery_value w k a) % k)
+      → t % 2 ^ s
+      ≡ (residue m (pos (split_value w m f) -ℤ pos (split_value w m g)) * split_value w m e) % 2 ^ s
+      → h ≡ u * 2 ^ s + t % 2 ^ s
+      → Made w m h ((residue m (pos (split_value w m f) -ℤ pos (split_value w m g)) * split_value w m e) % m)
+  difference_product_made t {f} {g} {e} {y} {z} {a} isf isg ise ey ez ea eu et eh =
+      let d = residue m (pos (split_value w m f) -ℤ pos (split_value w m g)) in
+      let c = residue k (pos (montgomery_value w k y) -ℤ pos (montgomery_value w k z)) in
+      made (d * split_value w m e) t eu
+      (same_product k c d (montgomery_value w k a) (split_value w m e)
+      (odd.same_residue d k (high_difference isf isg ey ez)) (odd.same_residue (split_value w m e) k (high_value ise ea)))
+      et eh
+
+  -- a number below the odd part, and fewer than 2^s times the odd part, are below the modulus
+  pub turns_below : (x : ℕ) {u steps : ℕ} → u < k → steps ≡ x % 2 ^ s → u + k * steps < m
+  turns_below x {u} {steps} h few =
+      let below : steps * k + u < k * 2 ^ s =
+      mul-add-lt steps k u (2 ^ s) (omega (arith, few, mod-lt x (pow_pos s))) h in
+      omega (arith, r.whole)
+
+  -- the value of a form, u being its value modulo the odd part
+  pub value_made : (d : ℕ) {f y u steps v : ℕ} → y ≡ f / 2 ^ s → odd.Stands w k y u
+      → (d + f) % b ≡ u → steps ≡ (d * i) % 2 ^ s
+      → v ≡ u + k * steps → ValueAnswered (split_form w) (split_value w) m f v
+  value_made d {f} {y} {u} {steps} {v} ey of ed es ev =
+      let q = 2 ^ s in
+      let high : f / q ≡ montgomery_form w k v =
+      sym ey ∙ of.same
+      ∙ same_product k u v (2 ^ w) (2 ^ w) (sym (add-mul-mod_self_left u k steps) ∙ ap (λ n. n % k) (sym ev)) refl in
+      let turns : (k * steps + d) % q ≡ 0 % q =
+      same_sum q (k * steps) (k * (d * i)) d d
+      (same_product q k k steps (d * i) refl (odd.same_residue (d * i) q es)) refl
+      ∙ ap (λ n. n % q) (let e : k * (d * i) + d ≡ d * (k * i + 1) = omega arith in e)
+      ∙ same_product q d d (k * i + 1) 0 refl (negated_inverse r)
+      ∙ ap (λ n. n % q) (let e : d * 0 ≡ 0 = omega arith in e) in
+      let low : v % q ≡ f % q =
+      ap (λ n. n % q) ev ∙ same_sum q u (d + f) (k * steps) (k * steps) (low_word (d + f) (sym ed)) refl
+      ∙ ap (λ n. n % q) (let e : d + f + k * steps ≡ f + (k * steps + d) = omega arith in e)
+      ∙ same_sum q f f (k * steps + d) 0 refl turns ∙ ap (λ n. n % q) (let e : f + 0 ≡ f = omega arith in e) in
+      let whole : f / q * q + f % q ≡ f = let e : q * (f / q) + f % q ≡ f = div-add-mod f q in omega arith in
+      value_answered (split_canonical r) (record {
+        below = omega (arith, ev, turns_below (d * i) of.below es);
+        same = sym whole ∙ ap₂ (λ n o. n * q + o) high (sym low) ∙ sym (form_is r v);
+      })
+
+  -- each number below the modulus is a form
+  pub below_is_form : (f : ℕ) → f < m → Checked w m f
+  below_is_form f h =
+      let high : f / 2 ^ s < k = div_below f (2 ^ s) k (pow_pos s) (omega (arith, r.whole)) in
+      let of = odd.below_is_form r.odd (f / 2 ^ s) high in
+      let u = montgomery_value w k (f / 2 ^ s) in
+      let d = u + (b - f) in
+      let ed : (d + f) % b ≡ u =
+      ap (λ n. n % b) (let e : d + f ≡ u + b = omega (arith, r.fits) in e) ∙ add-mod_right u b
+      ∙ mod-eq_of_lt (let l : u < b = omega (arith, of.below, r.odd.fits) in l) in
+      form_of_value (split_canonical r)
+      (value_made d refl (record { below = of.below; same = of.same }) ed refl refl).form
+
+  -- 0 is the form of 0
+  zero_value : split_value w m 0 ≡ 0
+  zero_value =
+      (made 0 0 (odd.zero_made r.odd refl).form refl refl (omega (arith, mod-eq_of_lt (pow_pos s)))).value
+      ∙ mod-eq_of_lt (modulus_positive r)
+
+  -- and of no other value
+  pub zero_iff : {f : ℕ} → Checked w m f → (f ≡ 0) ↔ (split_value w m f ≡ 0)
+  zero_iff is = (
+    λ z. ap (split_value w m) z ∙ zero_value,
+    λ e. is.same ∙ ap (split_form w m) (e ∙ sym zero_value) ∙ sym (below_is_form 0 (modulus_positive r)).same,
+  )
+
+  -- the sum of a form and itself is the form of the double
+  pub double_made : (f : ℕ) {h : ℕ} → Made w m h ((split_value w m f + split_value w m f) % m)
+      → Made w m h ((2 * split_value w m f) % m)
+  double_made f {h} =
+      let twice : split_value w m f + split_value w m f ≡ 2 * split_value w m f = omega arith in
+      subst (λ n. Made w m h (n % m)) twice
+
+  -- the difference of 0 and a form is the form of the negative
+  pub negative_made : (f : ℕ) {z h : ℕ} → z ≡ 0
+      → Made w m h (residue m (pos (split_value w m z) -ℤ pos (split_value w m f)))
+      → Made w m h (residue m (neg_ℤ (pos (split_value w m f))))
+  negative_made f {z} {h} e =
+      let v = split_value w m f in
+      let minus : pos 0 -ℤ pos v ≡ neg_ℤ (pos v) = omega (arith, ints) in
+      subst (Made w m h)
+      (ap (λ n. residue m (pos n -ℤ pos v)) (ap (split_value w m) e ∙ zero_value) ∙ ap (residue m) minus)
+
+  -- for an odd modulus, what is its value modulo the odd part is its value
+  pub odd_value_made : s ≡ 0 → {f u : ℕ} → odd.Stands w k f u → ValueAnswered (split_form w) (split_value w) m f u
+  odd_value_made e {f} {u} of =
+      let one : k * 2 ^ s ≡ k * 1 = ap (λ n. k * 2 ^ n) e in
+      let below : u < m = omega (arith, of.below, r.whole) in
+      let done = made u 0 of (sym (mod-eq_of_lt of.below)) (none_low s 0 u e) (joined_none s f 0 e) in
+      value_answered (split_canonical r)
+      (record { below = below; same = done.form.same ∙ ap (split_form w m) (mod-eq_of_lt below) })

@@ -1,0 +1,29 @@
+use Rattle.std.proofs.Common.{refl}
+use Rattle.modular_monty.proofs.SplitSteps.{difference_product_made, high_checked, all_high, none_low, joined_none}
+use Rattle.modular_monty.proofs.montgomery.MontgomeryReducer.mul_difference.Goals as goal
+
+pub mul_difference-requires : goal.mul_difference-requires
+mul_difference-requires g c =
+    let r = c.args.self.now.ring in
+    let none = c.if-self-eq0.true in
+    record {
+      left = high_checked r c.requires.left (all_high _ _ none);
+      right = high_checked r c.requires.right (all_high _ _ none);
+      factor = high_checked r c.requires.factor (all_high _ _ none);
+    }
+
+pub returns-then-self-eq0 : goal.returns-then-self-eq0
+returns-then-self-eq0 g c =
+    let none = c.if-self-eq0.true in
+    difference_product_made c.args.self.now.ring 0 c.requires.left c.requires.right c.requires.factor
+    (all_high _ _ none) (all_high _ _ none) (all_high _ _ none)
+    c.mul_difference.ensures.form (none_low _ _ _ none) (joined_none _ _ _ none)
+
+pub returns-clause-form : goal.returns-clause-form
+returns-clause-form g c = rw c.sub-difference.ensures.value at c.mul.ensures.form
+
+pub returns-clause-checked : goal.returns-clause-checked
+returns-clause-checked g c = c.mul.ensures.checked
+
+pub returns-clause-value : goal.returns-clause-value
+returns-clause-value g c = rw c.sub-difference.ensures.value at c.mul.ensures.value

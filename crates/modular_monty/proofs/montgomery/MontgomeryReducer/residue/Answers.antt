@@ -1,0 +1,27 @@
+use Rattle.std.proofs.Common.{◌+◌, ap, ◌∙◌, arith}
+use Rattle.modular_monty.proofs.SplitSteps.{value_made, odd_value_made, turns_below, low_word, high_checked, all_high}
+use Rattle.modular_monty.proofs.montgomery.MontgomeryReducer.residue.Goals as goal
+
+pub residue-requires : goal.residue-requires
+residue-requires g c = high_checked c.args.self.now.ring c.requires (all_high _ _ c.if-self-eq0.true)
+
+pub returns-then-self-eq0 : goal.returns-then-self-eq0
+returns-then-self-eq0 g c = odd_value_made c.args.self.now.ring c.if-self-eq0.true c.residue.ensures.form
+
+pub plus-requires : goal.plus-requires
+plus-requires g c =
+    let r = c.args.self.now.ring in
+    omega (
+      arith,
+      turns_below r _ c.residue-value.ensures.form.below c.low_bits-steps.ensures.value,
+      c.times.ensures,
+      r.fits,
+    )
+
+pub returns : goal.returns
+returns g c =
+    let n = g.T.RingWord.number in
+    let r = c.args.self.now.ring in
+    value_made r _ c.high.ensures.value c.residue-value.ensures.form c.wrapping_sub-behind.ensures.value
+    (c.low_bits-steps.ensures.value ∙ low_word r _ c.wrapping_mul.ensures.value)
+    (c.plus.ensures ∙ ap (λ p. n c.residue-value.result + p) c.times.ensures)

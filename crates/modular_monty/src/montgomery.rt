@@ -1,0 +1,217 @@
+//! The reducer by Montgomery's representation, for every modulus.
+
+ghost use Rattle.std.specs.Prelude.{◌≡◌, ℕ, ◌+◌, ◌*◌, ◌/◌, ◌%◌, ◌^◌, ◌<◌, ◌≤◌, ⊤, MatchOption};
+ghost use Rattle.modular_reduced.specs.Forms.{IsForm};
+ghost use Rattle.modular_monty.specs.Montgomery.{montgomery_form, montgomery_value};
+ghost use Rattle.modular_monty.specs.Split.{split_form, split_value, two_part, odd_part, IsComputedOnce, IsSplitRing};
+ghost use Rattle.modular_monty.specs.SplitLaws.{modulus_positive, split_canonical};
+
+use crate::odd_ring::{OddModulus, OddRing, StoredModulus};
+use modular_prim::inverse::fast_inverse;
+use modular_prim::plain_word::PlainWord;
+use modular_reduced::reducer::Reducer;
+use modular_word::path_word::PathWord;
+use modular_word::ring_word::RingWord;
+use std::alloc::AllocError;
+
+/// The reducer of a modulus m that is at least 1, by Montgomery's representation. With m = 2^s·k for odd k, and the
+/// base 2 to the width of the words, the form of v has two parts. Its lowest s bits are v modulo 2^s, and the bits
+/// above them are v times the base, modulo k. So for odd m the form is v times the base, modulo m.
+///
+/// A product of forms takes one product of words and one reduction, which divides by the base alone, and for even m
+/// one more wrapping product.
+///
+/// Source: Handbook of Applied Cryptography, section 14.3.2; for even m Koç, "Montgomery reduction with even modulus".
+#[derive(Debug)]
+pub struct Montgomery<T: PlainWord> {
+    // The ring modulo k.
+    odd: OddRing<T, StoredModulus<T>>,
+    // The exponent s.
+    twos: u32,
+    ghost ring: { IsSplitRing T.width T.base (T.number odd.kept.modulus * 2 ^ twos) twos (T.number odd.kept.modulus)
+        (T.number odd.kept.negated_inverse) (T.number odd.kept.square) },
+}
+
+impl<T: PlainWord> Clone for Montgomery<T> {
+    ghost is_clone = { λ x y. y ≡ x };
+
+    ghost is_infallible = { λ _. ⊤ };
+
+    fn clone(&self) -> Result<Self, AllocError> {
+        Ok(*self)
+    }
+}
+
+impl<T: PlainWord> Copy for Montgomery<T> {}
+
+impl<T: PlainWord> Montgomery<T> {
+    /// The reducer of a modulus m. Condition: the modulus is at least 1.
+    pub fn new(m: T) -> Self
+        requires { 1 ≤ T.number m }
+        ensures { ⟦<Montgomery<T> as Reducer<T>>⟧.modulus result ≡ T.number m }
+    {
+        prove!(!m.is_zero_word());
+        let twos = m.trailing_zeros();
+        Montgomery {
+            odd: OddRing::new(&m.shift_right(twos)),
+            twos,
+        }
+    }
+
+    /// What is precomputed of m: the negated inverse of its odd part modulo the base, and the square of the base
+    /// modulo that part.
+    pub fn computed_once(&self) -> (T, T)
+        ensures { let m = ⟦<Montgomery<T> as Reducer<T>>⟧.modulus self.now in
+            IsComputedOnce T.width T.base m (T.number result.0) (T.number result.1) }
+    {
+        (self.odd.kept.negated_inverse, self.odd.kept.square)
+    }
+
+    /// The reducer of m, given the two numbers that `computed_once` returned for m; `None` exactly where m is 0 or
+    /// a number is wrong. It makes no division.
+    pub fn restored(m: T, negated_inverse: T, square: T) -> Option<Self>
+        ensures { let fits = IsComputedOnce T.width T.base (T.number m) (T.number negated_inverse) (T.number square) in
+            MatchOption result (fits → ⊥) (λ r. (⟦<Montgomery<T> as Reducer<T>>⟧.modulus r ≡ T.number m) × fits) }
+    {
+        if m.is_zero_word() {
+            return None;
+        }
+        let twos = m.trailing_zeros();
+        let kept = StoredModulus::<T>::restored(m.shift_right(twos), negated_inverse, square)?;
+        Some(Montgomery {
+            odd: OddRing::over(kept),
+            twos,
+        })
+    }
+
+    // The part of a form above the lowest s bits.
+    fn high(&self, f: T) -> T
+        requires { IsForm (split_form T.width) (split_value T.width)
+            (T.number self.now.odd.kept.modulus * 2 ^ self.now.twos) (T.number f) }
+        ensures value { T.number result ≡ T.number f / 2 ^ self.now.twos }
+        ensures form { IsForm (montgomery_form T.width) (montgomery_value T.width)
+            (T.number self.now.odd.kept.modulus) (T.number result) }
+    {
+        f.shift_right(self.twos)
+    }
+
+    // The form with `high` above the lowest s bits, and the lowest s bits of `low` in them.
+    fn join(&self, high: T, low: T) -> T
+        requires { T.number high < T.number self.now.odd.kept.modulus }
+        ensures { T.number result ≡ T.number high * 2 ^ self.now.twos + T.number low % 2 ^ self.now.twos }
+    {
+        high.shift_left(self.twos).plus(low.low_bits(self.twos))
+    }
+}
+
+// Each method tests s first, so that odd moduli are as fast as without the second part.
+impl<T: PlainWord> Reducer<T> for Montgomery<T> {
+    ghost admits = { λ m. 1 ≤ m };
+
+    ghost form = { split_form T.width };
+
+    ghost value = { split_value T.width };
+
+    ghost modulus = { λ r. T.number r.odd.kept.modulus * 2 ^ r.twos };
+
+    ghost admitted = { λ r. modulus_positive r.ring };
+
+    ghost canonical = { λ r. split_canonical r.ring };
+
+    fn new(m: &T) -> Self {
+        Montgomery::new(*m)
+    }
+
+    fn transform(&self, n: T) -> T {
+        let high = self.odd.transform(n);
+        if self.twos == 0 {
+            return high;
+        }
+        self.join(high, n)
+    }
+
+    fn check(&self, f: &T) -> bool {
+        f.is_below(self.modulus())
+    }
+
+    fn modulus(&self) -> T {
+        self.odd.modulus().shift_left(self.twos)
+    }
+
+    // The value modulo the odd part k, plus the multiple of k that makes the lowest s bits right.
+    fn residue(&self, f: T) -> T {
+        if self.twos == 0 {
+            return self.odd.residue(f);
+        }
+        let value = self.odd.residue(self.high(f));
+        let behind = value.wrapping_sub(f);
+        let steps = behind
+            .wrapping_mul(self.odd.kept.negated_inverse)
+            .low_bits(self.twos);
+        value.plus(self.odd.kept.modulus.times(steps))
+    }
+
+    fn is_zero(&self, f: &T) -> bool {
+        f.is_zero_word()
+    }
+
+    fn add(&self, a: &T, b: &T) -> T {
+        if self.twos == 0 {
+            return self.odd.add(a, b);
+        }
+        let high = self.odd.add(&self.high(*a), &self.high(*b));
+        self.join(high, a.wrapping_add(*b))
+    }
+
+    fn dbl(&self, f: T) -> T {
+        self.add(&f, &f)
+    }
+
+    fn sub(&self, a: &T, b: &T) -> T {
+        if self.twos == 0 {
+            return self.odd.sub(a, b);
+        }
+        let high = self.odd.sub(&self.high(*a), &self.high(*b));
+        self.join(high, a.wrapping_sub(*b))
+    }
+
+    fn neg(&self, f: T) -> T {
+        self.sub(&T::zero(), &f)
+    }
+
+    fn mul(&self, a: &T, b: &T) -> T {
+        if self.twos == 0 {
+            return self.odd.mul(a, b);
+        }
+        let high = self.odd.mul(&self.high(*a), &self.high(*b));
+        self.join(high, a.wrapping_mul(*b))
+    }
+
+    fn mul_difference(&self, a: &T, b: &T, factor: &T) -> T {
+        if self.twos == 0 {
+            return self.odd.mul_difference(a, b, factor);
+        }
+        let difference = self.sub(a, b);
+        self.mul(&difference, factor)
+    }
+
+    // The form of the inverse of the value.
+    fn inv(&self, f: T) -> Option<T> {
+        match fast_inverse(self.residue(f), self.modulus()) {
+            Some(x) => Some(self.transform(x)),
+            None => None,
+        }
+    }
+
+    fn sqr(&self, f: T) -> T {
+        self.mul(&f, &f)
+    }
+}
+
+/// The two parts of a modulus are an odd number and a power of two. For an odd modulus the form of a value is the
+/// value times the base, modulo m.
+pub fn form_laws<T: RingWord>()
+    ensures whole { (m : ℕ) → 1 ≤ m → m < 2 ^ T.width → odd_part T.width m * two_part T.width m ≡ m }
+    ensures odd { (m : ℕ) → 1 ≤ m → m < 2 ^ T.width → odd_part T.width m % 2 ≡ 1 }
+    ensures form { (m v : ℕ) → m % 2 ≡ 1 → split_form T.width m v ≡ (v * 2 ^ T.width) % m }
+{}
