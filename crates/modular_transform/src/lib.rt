@@ -1,8 +1,9 @@
-//! Number-theoretic transforms and cyclic products, in place, over any reducer.
+//! Number-theoretic transforms and cyclic products, in place, over any reducer, and lists of forms.
 #![tactic(auto)]
 
 pub mod convolution;
 pub mod laws;
+pub mod lists;
 pub mod order;
 pub mod plain;
 mod stage;

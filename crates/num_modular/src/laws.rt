@@ -4,8 +4,15 @@
 //! The functions of the ring laws (`sums_commute` and the like) return both sides of a law; their contracts say
 //! that the sides are equal.
 
-ghost use Rattle.std.specs.Prelude.{◌≡◌, ℕ, ◌<◌, List, All, None, map};
-ghost use Rattle.modular_word.specs.Inverses.{HasInverse};
+ghost use Rattle.std.specs.Prelude.{◌≡◌, ◌≢◌, ℕ, suc, ◌+◌, ◌-◌, ◌*◌, ◌/◌, ◌%◌, ◌^◌, ◌<◌};
+ghost use Rattle.std.specs.Prelude.{◌≤◌, ◌↔◌, pos, ◌-ℤ◌, List, All, None, length, map, slice_index};
+ghost use Rattle.modular_word.specs.Inverses.{IsInverse, HasInverse};
+ghost use Rattle.modular_word.specs.Residues.{residue};
+ghost use Rattle.modular_word.specs.Sums.{sum_below, polynomial};
+ghost use Rattle.modular_symbols.specs.Primes.{IsPrime};
+ghost use Rattle.modular_transform.specs.Transforms.{cyclic_product};
+ghost use Rattle.num_modular.specs.Polynomials.{ascending_polynomial, polynomial_at, HaveUnitDifferences};
+ghost use Rattle.num_modular.specs.Products.{product_below};
 ghost use Rattle.num_modular.specs.Ring.{whole, value_at, IsStop};
 ghost use Rattle.num_modular.specs.Stops.{inverted_by, NeedsInverse};
 
@@ -16,12 +23,6 @@ use modular_word::ring_word::RingWord;
 pub use modular_word::laws::{
     base_laws, congruence_laws, divisor_laws, euclids_lemma, inverse_laws, linear_congruence_laws,
     power_laws, range_laws, remainder_laws, residue_laws, sum_laws,
-};
-
-// In the shape in which contracts of calls and loop invariants leave their terms.
-pub use modular_laws::laws::{
-    coefficient_laws, inverse_product_laws, polynomial_laws, prime_power_laws, product_below_laws,
-    sum_below_laws, undoing_laws,
 };
 
 // How many steps a call takes.
@@ -59,4 +60,120 @@ pub fn stop_laws<T: RingWord>()
         let wholes = map (whole T.number) commands in
         ((at : ℕ) → IsStop m start wholes at → ⊥) →
         (i r : ℕ) → NeedsInverse commands i r → HasInverse m (value_at m start wholes i r) }
+{}
+
+// In the shape in which contracts of calls and loop invariants leave their terms.
+
+/// A quotient, computed by `inv` and `mul`, times its divisor is congruent to the dividend. A difference plus its
+/// subtrahend is congruent to the minuend.
+///
+/// Source: Gauss, Disquisitiones Arithmeticae, articles 1 to 8 and 31.
+pub fn undoing_laws()
+    ensures quotient { (m a b x : ℕ) → IsInverse m b x → ((a * x) % m * b) % m ≡ a % m }
+    ensures quotient_below { (m a b x : ℕ) → IsInverse m b x → a < m → ((a * x) % m * b) % m ≡ a }
+    ensures difference_below { (m a b : ℕ) → a < m → (residue m (pos a -ℤ pos b) + b) % m ≡ a }
+{}
+
+/// Sums over a range are equal where their terms are. Where only one term isn't 0, the sum is that term. Trailing
+/// terms of 0 may be dropped. A sum of n terms that are at most b is at most n·b.
+///
+/// Source: Graham, Knuth and Patashnik, Concrete Mathematics, chapter 2.
+pub fn sum_below_laws()
+    ensures same { (n : ℕ) (f g : ℕ → ℕ) → ((i : ℕ) → i < n → f i ≡ g i) → sum_below n f ≡ sum_below n g }
+    ensures single { (n k : ℕ) (f : ℕ → ℕ) → k < n → ((i : ℕ) → i < n → i ≢ k → f i ≡ 0) → sum_below n f ≡ f k }
+    ensures tail { (n d : ℕ) (f : ℕ → ℕ) → ((i : ℕ) → n ≤ i → i < n + d → f i ≡ 0)
+        → sum_below (n + d) f ≡ sum_below n f }
+    ensures bound { (n b : ℕ) (f : ℕ → ℕ) → ((i : ℕ) → i < n → f i ≤ b) → sum_below n f ≤ n * b }
+{}
+
+/// An empty product is 1, and extending a range by one adds one factor. Products are equal where their factors are.
+///
+/// Source: Graham, Knuth and Patashnik, Concrete Mathematics, section 2.1.
+pub fn product_below_laws()
+    ensures none { (f : ℕ → ℕ) → product_below 0 f ≡ 1 }
+    ensures more { (f : ℕ → ℕ) (n : ℕ) → product_below (n + 1) f ≡ product_below n f * f n }
+    ensures same { (n : ℕ) (f g : ℕ → ℕ) → ((i : ℕ) → i < n → f i ≡ g i) → product_below n f ≡ product_below n g }
+{}
+
+/// A product has an inverse exactly where both factors have, and a product over a range exactly where each factor
+/// has. An inverse of a·b times b is an inverse of a, and times a it is one of b; the product of the factors'
+/// inverses is an inverse of the product. Over a range, an inverse of the product, times the last factor, is an
+/// inverse of the product of the others; times the residue of that product, it is an inverse of the last factor.
+///
+/// Source: Gauss, Disquisitiones Arithmeticae, articles 29 and 31; for a range, Montgomery, "Speeding the
+/// Pollard and elliptic curve methods of factorization", section 10.3.1.
+pub fn inverse_product_laws()
+    ensures both { (m a b : ℕ) → HasInverse m (a * b) ↔ (HasInverse m a × HasInverse m b) }
+    ensures left { (m a b x : ℕ) → IsInverse m (a * b) x → IsInverse m a ((x * b) % m) }
+    ensures right { (m a b x : ℕ) → IsInverse m (a * b) x → IsInverse m b ((x * a) % m) }
+    ensures product { (m a b x y : ℕ) → IsInverse m a x → IsInverse m b y → IsInverse m (a * b) ((x * y) % m) }
+    ensures before { (m i j b w x : ℕ) (f : ℕ → ℕ) → IsInverse m (product_below j f) x → j ≡ i + 1 →
+        w ≡ (x * b) % m → b ≡ f i → IsInverse m (product_below i f) w }
+    ensures last { (m i j b w x : ℕ) (f : ℕ → ℕ) → IsInverse m (product_below j f) x → j ≡ i + 1 →
+        w ≡ (x * b) % m → b ≡ product_below i f % m → IsInverse m (f i) w }
+    ensures each { (m n : ℕ) (f : ℕ → ℕ) → 0 < m →
+        HasInverse m (product_below n f) ↔ ((i : ℕ) → i < n → HasInverse m (f i)) }
+{}
+
+/// Modulo a prime p, a^p is congruent to a (Fermat's theorem). Modulo an odd prime, a^((p - 1)/2) is congruent to 1
+/// exactly where a is congruent to the square of a number that p doesn't divide (Euler's criterion). Where p is 3
+/// modulo 4, a^((p + 1)/4) is a square root of each a that is congruent to a square.
+///
+/// Source: Hardy and Wright, "An Introduction to the Theory of Numbers", theorems 70 and 83; for the root
+/// Cohen, "A Course in Computational Algebraic Number Theory", section 1.5.1.
+pub fn prime_power_laws()
+    ensures fermat { (a p : ℕ) → IsPrime p → a ^ p % p ≡ a % p }
+    ensures euler { (a p : ℕ) → p % 2 ≡ 1 → IsPrime p →
+        (a ^ ((p - 1) / 2) % p ≡ 1) ↔ ((x : ℕ) × (x % p ≡ 0 → ⊥) × ((x * x) % p ≡ a % p)) }
+    ensures root { (a p x : ℕ) → p % 4 ≡ 3 → IsPrime p → (x * x) % p ≡ a % p →
+        (a ^ ((p + 1) / 4) * a ^ ((p + 1) / 4)) % p ≡ a % p }
+{}
+
+/// The cyclic product multiplies polynomials without wrapping around, coefficient by coefficient. Where x_i·y_j is
+/// 0 for all i + j that are at least n, and the modulus is above every sum, entry e is the sum of x_i·y_(e-i) for i
+/// from 0 to e. The same holds where the values are the residues of two lists, as after `load_forms`, whose lengths
+/// add up to at most n + 1.
+///
+/// Source: Knuth, The Art of Computer Programming, volume 2, section 4.3.3, part C.
+pub fn coefficient_laws()
+    ensures values { (m n s t e : ℕ) (x y : ℕ → ℕ) →
+        ((i : ℕ) → i < n → x i ≤ s) → ((j : ℕ) → j < n → y j ≤ t) → n * (s * t) < m →
+        ((i j : ℕ) → i < n → j < n → n ≤ i + j → x i * y j ≡ 0) → e < n →
+        cyclic_product m n x y e ≡ sum_below (e + 1) (λ i. x i * y (e - i)) }
+    ensures lists { (m n s t e : ℕ) (xs ys : List ℕ) (x y : ℕ → ℕ) →
+        ((i : ℕ) → i < n → x i ≡ slice_index xs i % m) → ((j : ℕ) → j < n → y j ≡ slice_index ys j % m) →
+        ((i : ℕ) → slice_index xs i ≤ s) → ((j : ℕ) → slice_index ys j ≤ t) → s < m → t < m → n * (s * t) < m →
+        length xs + length ys ≤ n + 1 → e < n →
+        cyclic_product m n x y e ≡ sum_below (e + 1) (λ i. slice_index xs i * slice_index ys (e - i)) }
+{}
+
+/// Horner's rule for a polynomial by its coefficients, the constant first. Modulo m, which may be composite, a
+/// polynomial with at most n coefficients that is 0 at n points whose differences all have inverses has only
+/// coefficients of 0. So two of them with equal values at the points have equal coefficients, as lists, as
+/// functions, and with the highest coefficient first. Modulo a prime, differences of distinct residues have
+/// inverses.
+///
+/// Source: Knuth, The Art of Computer Programming, volume 2, section 4.6.4 (Newton's form).
+pub fn polynomial_laws()
+    ensures none { (c : ℕ → ℕ) (x : ℕ) → ascending_polynomial 0 c x ≡ 0 }
+    ensures first { (n : ℕ) (c : ℕ → ℕ) (x : ℕ) →
+        ascending_polynomial (suc n) c x ≡ c 0 + x * ascending_polynomial n (λ i. c (suc i)) x }
+    ensures zero { (m : ℕ) (cs points : List ℕ) →
+        HaveUnitDifferences m (length points) (λ i. slice_index points i) → length cs ≤ length points →
+        ((i : ℕ) → i < length points → polynomial_at cs (slice_index points i) % m ≡ 0) →
+        (i : ℕ) → i < length cs → slice_index cs i % m ≡ 0 }
+    ensures lists { (m : ℕ) (cs ds points : List ℕ) →
+        HaveUnitDifferences m (length points) (λ i. slice_index points i) →
+        length cs ≤ length points → length ds ≤ length points →
+        ((i : ℕ) → i < length points →
+        polynomial_at cs (slice_index points i) % m ≡ polynomial_at ds (slice_index points i) % m) →
+        (i : ℕ) → i < length points → slice_index cs i % m ≡ slice_index ds i % m }
+    ensures values { (m n : ℕ) (c d x : ℕ → ℕ) → HaveUnitDifferences m n x →
+        ((i : ℕ) → i < n → ascending_polynomial n c (x i) % m ≡ ascending_polynomial n d (x i) % m) →
+        (i : ℕ) → i < n → c i % m ≡ d i % m }
+    ensures descending { (m n : ℕ) (c d x : ℕ → ℕ) → HaveUnitDifferences m n x →
+        ((i : ℕ) → i < n → polynomial n c (x i) % m ≡ polynomial n d (x i) % m) →
+        (i : ℕ) → i < n → c i % m ≡ d i % m }
+    ensures prime { (p n : ℕ) (x : ℕ → ℕ) → IsPrime p →
+        ((i j : ℕ) → i < n → j < n → i ≢ j → x i % p ≢ x j % p) → HaveUnitDifferences p n x }
 {}

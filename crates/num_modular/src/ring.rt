@@ -7,10 +7,10 @@ ghost use Rattle.modular_reduced.specs.Forms.{IsForm};
 ghost use Rattle.num_modular.specs.Ring.{whole, destination_of, outcome, value_at, IsStop};
 ghost use Rattle.num_modular.specs.Ring.{carried_out, IsFit, values_of, HoldValues, IsFormOf};
 
-pub use modular_laws::lists::{load_forms, unload_forms};
 pub use modular_plan::roots::find_root;
 use modular_reduced::reducer::Reducer;
 pub use modular_transform::convolution::convolve;
+pub use modular_transform::lists::{load_forms, unload_forms};
 pub use modular_transform::transform::{ntt, ntt_counted, root_fits};
 use modular_word::ring_word::RingWord;
 use std::alloc::AllocError;

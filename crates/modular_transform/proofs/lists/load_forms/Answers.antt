@@ -1,6 +1,6 @@
 use Rattle.std.proofs.Common.{arith}
-use Rattle.modular_laws.specs.EntryLaws.{held_entry}
-use Rattle.modular_laws.proofs.lists.load_forms.Goals as goal
+use Rattle.modular_transform.specs.EntryLaws.{held_entry}
+use Rattle.modular_transform.proofs.lists.load_forms.Goals as goal
 
 pub returns-clause-values : goal.returns-clause-values
 returns-clause-values g c i l =

@@ -1,6 +1,6 @@
 use Rattle.std.proofs.Common.{◌%◌, map, slice_index}
-use Rattle.modular_laws.specs.Entries.{HoldBelow}
-use Rattle.modular_laws.proofs.lists.load_forms.Given as goal
+use Rattle.modular_transform.specs.Entries.{HoldBelow}
+use Rattle.modular_transform.proofs.lists.load_forms.Given as goal
 
 -- the first i forms are loaded
 abbrev pub invariant-entries : goal.invariant-entries

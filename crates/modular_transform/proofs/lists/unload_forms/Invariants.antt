@@ -1,6 +1,6 @@
 use Rattle.std.proofs.Common.{◌≡◌, map, slice_index}
-use Rattle.modular_laws.specs.Entries.{entry, DoneBelow}
-use Rattle.modular_laws.proofs.lists.unload_forms.Given as goal
+use Rattle.modular_transform.specs.Entries.{entry, DoneBelow}
+use Rattle.modular_transform.proofs.lists.unload_forms.Given as goal
 
 -- the first i values are there
 abbrev pub invariant-entries : goal.invariant-entries

@@ -1,6 +1,6 @@
-use Rattle.modular_laws.specs.PolynomialLaws.{ascending-none, ascending-first}
-use Rattle.modular_laws.proofs.Interpolation.{zero_list, same_lists, same_coefficients, same_descending, distinct_units}
-use Rattle.modular_laws.proofs.laws.polynomial_laws.Goals as goal
+use Rattle.num_modular.specs.PolynomialLaws.{ascending-none, ascending-first}
+use Rattle.num_modular.specs.InterpolationLaws.{zero_list, same_lists, same_coefficients, same_descending, distinct_units}
+use Rattle.num_modular.proofs.laws.polynomial_laws.Goals as goal
 
 pub returns : goal.returns
 returns c = record {

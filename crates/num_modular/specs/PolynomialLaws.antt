@@ -5,7 +5,7 @@ use Rattle.std.proofs.Math.Nat.{pow-zero, pow-suc}
 use Rattle.modular_word.specs.Congruence.{Congruent}
 use Rattle.modular_word.proofs.Congruence.{multiplied, powered}
 use Rattle.modular_word.proofs.Sums.{sum_below-zero, sum_below-suc, sum_below-same, sum_below-congruent}
-use Rattle.modular_laws.specs.Polynomials.{ascending_polynomial}
+use Rattle.num_modular.specs.Polynomials.{ascending_polynomial}
 
 -- without a coefficient
 pub ascending-none : (c : ℕ → ℕ) (x : ℕ) → ascending_polynomial 0 c x ≡ 0

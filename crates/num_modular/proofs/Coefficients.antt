@@ -8,7 +8,7 @@ use Rattle.std.proofs.lemmas.List.{get_or_past}
 use Rattle.modular_word.specs.Sums.{sum_below}
 use Rattle.modular_word.proofs.Sums.{sum_below-same, sum_below-of_zeros}
 use Rattle.modular_transform.specs.Transforms.{cyclic_product}
-use Rattle.modular_laws.proofs.Ranges.{single, tail, bounded}
+use Rattle.num_modular.specs.SumLaws.{single, tail, bounded}
 
 -- a term at its place ..
 placed : (n s e v : ℕ) → s ≡ e → cond (eqb s e || eqb s (e + n)) v 0 ≡ v

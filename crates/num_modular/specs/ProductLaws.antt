@@ -7,8 +7,8 @@ use Rattle.std.proofs.lemmas.Bool.{cases_eq}
 use Rattle.std.proofs.lemmas.Nat.{mul-mod_first, mul-mod_second}
 use Rattle.modular_word.specs.Inverses.{IsInverse, HasInverse}
 use Rattle.modular_word.proofs.Congruence.{same_product}
-use Rattle.modular_laws.specs.EntryLaws.{entry_at, hold_more}
-use Rattle.modular_laws.specs.Products.{product_below}
+use Rattle.modular_transform.specs.EntryLaws.{entry_at, hold_more}
+use Rattle.num_modular.specs.Products.{product_below}
 
 -- the empty product
 pub product-zero : (f : ℕ → ℕ) → product_below 0 f ≡ 1

@@ -15,9 +15,9 @@ use Rattle.modular_word.proofs.ResidueLemmas.{difference_and}
 use Rattle.modular_word.proofs.Sums.{sum_below-zero, sum_below-of_zeros}
 use Rattle.modular_symbols.specs.Primes.{IsPrime}
 use Rattle.modular_symbols.proofs.PrimeLaws.{inverse_to}
-use Rattle.modular_laws.specs.Polynomials.{ascending_polynomial, polynomial_at, HaveUnitDifferences}
-use Rattle.modular_laws.specs.PolynomialLaws.{ascending-none, ascending-first, ascending-same}
-use Rattle.modular_laws.proofs.Ranges.{tail}
+use Rattle.num_modular.specs.Polynomials.{ascending_polynomial, polynomial_at, HaveUnitDifferences}
+use Rattle.num_modular.specs.PolynomialLaws.{ascending-none, ascending-first, ascending-same}
+use Rattle.num_modular.specs.SumLaws.{tail}
 
 -- for each coefficient the value at a of what begins with it; all but the first are the quotient by X - a
 rests : ℕ → ℕ → (ℕ → ℕ) → ℕ → ℕ

@@ -1,5 +1,5 @@
-use Rattle.modular_laws.proofs.PrimePowers.{fermat_for_all, half_of_square, root_of_half, root_power}
-use Rattle.modular_laws.proofs.laws.prime_power_laws.Goals as goal
+use Rattle.num_modular.proofs.PrimePowers.{fermat_for_all, half_of_square, root_of_half, root_power}
+use Rattle.num_modular.proofs.laws.prime_power_laws.Goals as goal
 
 pub returns : goal.returns
 returns c = record {

@@ -1,5 +1,5 @@
-use Rattle.modular_laws.proofs.Calls.{quotient_times, quotient_times_below, difference_below}
-use Rattle.modular_laws.proofs.laws.undoing_laws.Goals as goal
+use Rattle.num_modular.proofs.Calls.{quotient_times, quotient_times_below, difference_below}
+use Rattle.num_modular.proofs.laws.undoing_laws.Goals as goal
 
 pub returns : goal.returns
 returns c =

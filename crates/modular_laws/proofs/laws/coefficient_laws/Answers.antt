@@ -1,5 +1,0 @@
-use Rattle.modular_laws.proofs.Coefficients.{coefficient, coefficient_of_lists}
-use Rattle.modular_laws.proofs.laws.coefficient_laws.Goals as goal
-
-pub returns : goal.returns
-returns c = record { values = coefficient; lists = coefficient_of_lists }

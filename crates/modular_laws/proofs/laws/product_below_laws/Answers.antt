@@ -1,5 +1,0 @@
-use Rattle.modular_laws.specs.ProductLaws.{product-zero, product-more, product-same}
-use Rattle.modular_laws.proofs.laws.product_below_laws.Goals as goal
-
-pub returns : goal.returns
-returns c = record { none = product-zero; more = product-more; same = product-same }
