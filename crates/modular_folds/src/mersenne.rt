@@ -67,7 +67,7 @@ impl<const P: u8, const K: u32> FoldRing<u32, Mersenne32<P, K>> {
 }
 
 impl<const P: u8, const K: u32> FoldModulus<u32> for Mersenne32<P, K> {
-    ghost taken = { IsMersenne 32 P K };
+    ghost admits = { IsMersenne 32 P K };
 
     ghost modulus = { λ m. mersenne P K };
 
@@ -89,7 +89,7 @@ impl<const P: u8, const K: u32> FoldModulus<u32> for Mersenne32<P, K> {
         reduce_product(a, b, P as u32, K, self.modulus())
     }
 
-    ghost was_taken = { λ m. record { range = m.range; same = refl } };
+    ghost admitted = { λ m. record { range = m.range; same = refl } };
 
     ghost canonical = { λ m. mersenne_canonical 32 (lit≤ tt) m.range };
 }
@@ -149,7 +149,7 @@ impl<const P: u8, const K: u64> FoldRing<u64, Mersenne64<P, K>> {
 }
 
 impl<const P: u8, const K: u64> FoldModulus<u64> for Mersenne64<P, K> {
-    ghost taken = { IsMersenne 64 P K };
+    ghost admits = { IsMersenne 64 P K };
 
     ghost modulus = { λ m. mersenne P K };
 
@@ -171,7 +171,7 @@ impl<const P: u8, const K: u64> FoldModulus<u64> for Mersenne64<P, K> {
         reduce_product(a, b, P as u32, K, self.modulus())
     }
 
-    ghost was_taken = { λ m. record { range = m.range; same = refl } };
+    ghost admitted = { λ m. record { range = m.range; same = refl } };
 
     ghost canonical = { λ m. mersenne_canonical 64 (lit≤ tt) m.range };
 }

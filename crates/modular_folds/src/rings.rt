@@ -16,14 +16,14 @@ use std::marker::PhantomData;
 /// A modulus near a power of two that the parameters of the type give: its value, and how words and products are
 /// reduced by it. A value of the type exists only for parameters in range.
 pub trait FoldModulus<T: FoldedWord>: Copy {
-    // The moduli that are accepted.
-    ghost taken: { ℕ → Type 0 };
+    // The moduli that the type admits.
+    ghost admits: { ℕ → Type 0 };
 
     ghost modulus: { Self → ℕ };
 
     /// The modulus of the parameters. Condition: the modulus is that of the parameters, and these are in range.
     fn keep(m: T) -> Self
-        requires { taken (T.number m) }
+        requires { admits (T.number m) }
         ensures { modulus result ≡ T.number m };
 
     /// The modulus.
@@ -40,7 +40,7 @@ pub trait FoldModulus<T: FoldedWord>: Copy {
         requires right { T.number b < modulus self.now }
         ensures { T.number result ≡ (T.number a * T.number b) % modulus self.now };
 
-    ghost was_taken: { (m : Self) → taken (modulus m) };
+    ghost admitted: { (m : Self) → admits (modulus m) };
 
     ghost canonical: { (m : Self) → IsCanonical plain_form plain_value T.width (modulus m) };
 }
@@ -54,7 +54,7 @@ pub struct FoldRing<T: FoldedWord, M: FoldModulus<T>> {
 }
 
 impl<T: FoldedWord, M: FoldModulus<T>> Reducer<T> for FoldRing<T, M> {
-    ghost admits = { M.taken };
+    ghost admits = { M.admits };
 
     ghost form = { plain_form };
 
@@ -62,7 +62,7 @@ impl<T: FoldedWord, M: FoldModulus<T>> Reducer<T> for FoldRing<T, M> {
 
     ghost modulus = { λ r. M.modulus r.kept };
 
-    ghost admitted = { λ r. M.was_taken r.kept };
+    ghost admitted = { λ r. M.admitted r.kept };
 
     ghost canonical = { λ r. M.canonical r.kept };
 

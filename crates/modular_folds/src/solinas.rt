@@ -243,7 +243,7 @@ impl<T: TrinomialWord, F: Trinomial> FoldRing<T, TrinomialModulus<T, F>> {
 }
 
 impl<T: TrinomialWord, F: Trinomial> FoldModulus<T> for TrinomialModulus<T, F> {
-    ghost taken = { IsTrinomial T.width F.p1 F.p2 F.k };
+    ghost admits = { IsTrinomial T.width F.p1 F.p2 F.k };
 
     ghost modulus = { λ m. trinomial F.p1 F.p2 F.k };
 
@@ -287,7 +287,7 @@ impl<T: TrinomialWord, F: Trinomial> FoldModulus<T> for TrinomialModulus<T, F> {
         }
     }
 
-    ghost was_taken = { λ m. record { range = m.range; same = refl } };
+    ghost admitted = { λ m. record { range = m.range; same = refl } };
 
     ghost canonical = { λ m. trinomial_canonical m.range };
 }

@@ -54,7 +54,7 @@ impl<const P: u32> OddRing<u32, OddNumber32<P>> {
 }
 
 impl<const P: u32> OddModulus<u32> for OddNumber32<P> {
-    ghost taken = { λ m. (P % 2 ≡ 1) × (m ≡ P) };
+    ghost admits = { λ m. (P % 2 ≡ 1) × (m ≡ P) };
 
     ghost modulus = { λ _. P };
 
@@ -80,7 +80,7 @@ impl<const P: u32> OddModulus<u32> for OddNumber32<P> {
         redc(P, Self::COMPUTED.negated_inverse, t)
     }
 
-    ghost was_taken = { λ m. (m.ring.odd, refl) };
+    ghost admitted = { λ m. (m.ring.odd, refl) };
 
     ghost is_odd_ring = { λ m. m.ring };
 }
@@ -129,7 +129,7 @@ impl<const P: u64> OddRing<u64, OddNumber64<P>> {
 }
 
 impl<const P: u64> OddModulus<u64> for OddNumber64<P> {
-    ghost taken = { λ m. (P % 2 ≡ 1) × (m ≡ P) };
+    ghost admits = { λ m. (P % 2 ≡ 1) × (m ≡ P) };
 
     ghost modulus = { λ _. P };
 
@@ -155,7 +155,7 @@ impl<const P: u64> OddModulus<u64> for OddNumber64<P> {
         redc(P, Self::COMPUTED.negated_inverse, t)
     }
 
-    ghost was_taken = { λ m. (m.ring.odd, refl) };
+    ghost admitted = { λ m. (m.ring.odd, refl) };
 
     ghost is_odd_ring = { λ m. m.ring };
 }

@@ -20,8 +20,8 @@ use std::marker::PhantomData;
 /// An odd modulus, with what is precomputed of it: its negated inverse modulo the base, and the square of the base
 /// modulo m. A type that knows its modulus needn't store it, and a modulus of a special form may be multiplied faster.
 pub trait OddModulus<T: PlainWord>: Copy {
-    // The moduli that are accepted.
-    ghost taken: { ℕ → Type 0 };
+    // The moduli that the type admits.
+    ghost admits: { ℕ → Type 0 };
 
     ghost modulus: { Self → ℕ };
 
@@ -29,9 +29,9 @@ pub trait OddModulus<T: PlainWord>: Copy {
 
     ghost square: { Self → ℕ };
 
-    /// What is stored of m. Condition: the type takes the modulus.
+    /// What is stored of m. Condition: the type admits the modulus.
     fn keep(m: T) -> Self
-        requires { taken (T.number m) }
+        requires { admits (T.number m) }
         ensures { modulus result ≡ T.number m };
 
     /// The modulus.
@@ -47,7 +47,7 @@ pub trait OddModulus<T: PlainWord>: Copy {
         requires { T.double_number t < T.base * modulus self.now }
         ensures { IsReduction T.base (modulus self.now) (T.double_number t) (T.number result) };
 
-    ghost was_taken: { (m : Self) → taken (modulus m) };
+    ghost admitted: { (m : Self) → admits (modulus m) };
 
     ghost is_odd_ring: { (m : Self) → IsOddRing T.width T.base (modulus m) (negated_inverse m) (square m) };
 }
@@ -117,7 +117,7 @@ impl<T: PlainWord, M: OddModulus<T>> OddRing<T, M> {
 }
 
 impl<T: PlainWord, M: OddModulus<T>> Reducer<T> for OddRing<T, M> {
-    ghost admits = { M.taken };
+    ghost admits = { M.admits };
 
     ghost form = { montgomery_form T.width };
 
@@ -125,7 +125,7 @@ impl<T: PlainWord, M: OddModulus<T>> Reducer<T> for OddRing<T, M> {
 
     ghost modulus = { λ r. M.modulus r.kept };
 
-    ghost admitted = { λ r. M.was_taken r.kept };
+    ghost admitted = { λ r. M.admitted r.kept };
 
     ghost canonical = { λ r. montgomery_canonical (M.is_odd_ring r.kept) };
 
@@ -245,7 +245,7 @@ impl<T: PlainWord> StoredModulus<T> {
 }
 
 impl<T: PlainWord> OddModulus<T> for StoredModulus<T> {
-    ghost taken = { λ m. m % 2 ≡ 1 };
+    ghost admits = { λ m. m % 2 ≡ 1 };
 
     ghost modulus = { λ m. T.number m.modulus };
 
@@ -274,7 +274,7 @@ impl<T: PlainWord> OddModulus<T> for StoredModulus<T> {
         redc(self.modulus, self.negated_inverse, t)
     }
 
-    ghost was_taken = { λ m. m.ring.odd };
+    ghost admitted = { λ m. m.ring.odd };
 
     ghost is_odd_ring = { λ m. m.ring };
 }

@@ -94,7 +94,7 @@ impl<const N: u8, const K: u8> OddRing<u32, ProthNumber32<N, K>> {
 }
 
 impl<const N: u8, const K: u8> OddModulus<u32> for ProthNumber32<N, K> {
-    ghost taken = { IsProth 32 greatest_proth_32 N K };
+    ghost admits = { IsProth 32 greatest_proth_32 N K };
 
     ghost modulus = { λ _. proth_modulus N K };
 
@@ -122,7 +122,7 @@ impl<const N: u8, const K: u8> OddModulus<u32> for ProthNumber32<N, K> {
         reduce_by(m, t, x, self.shift_mul(x))
     }
 
-    ghost was_taken = { λ m. record { range = m.range; same = refl } };
+    ghost admitted = { λ m. record { range = m.range; same = refl } };
 
     ghost is_odd_ring = { λ m. m.ring };
 }
@@ -209,7 +209,7 @@ impl<const N: u8, const K: u8> OddRing<u64, ProthNumber64<N, K>> {
 }
 
 impl<const N: u8, const K: u8> OddModulus<u64> for ProthNumber64<N, K> {
-    ghost taken = { IsProth 64 greatest_proth_64 N K };
+    ghost admits = { IsProth 64 greatest_proth_64 N K };
 
     ghost modulus = { λ _. proth_modulus N K };
 
@@ -237,7 +237,7 @@ impl<const N: u8, const K: u8> OddModulus<u64> for ProthNumber64<N, K> {
         reduce_by(m, t, x, self.shift_mul(x))
     }
 
-    ghost was_taken = { λ m. record { range = m.range; same = refl } };
+    ghost admitted = { λ m. record { range = m.range; same = refl } };
 
     ghost is_odd_ring = { λ m. m.ring };
 }
