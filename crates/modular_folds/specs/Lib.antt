@@ -1,3 +1,4 @@
+pub mod Folds
 pub mod Mersenne
 pub mod MersenneLaws
 pub mod Solinas

@@ -8,7 +8,7 @@ use Rattle.std.proofs.lemmas.Bool.{cases_lt}
 use Rattle.std.proofs.lemmas.Int.{ints}
 use Rattle.modular_reduced.specs.Forms.{IsCanonical}
 use Rattle.modular_reduced.specs.Plain.{plain_form, plain_value, plain_canonical}
-use Rattle.modular_fold_paths.specs.Folds.{IsFolding}
+use Rattle.modular_folds.specs.Folds.{IsFolding}
 use Rattle.modular_folds.specs.Solinas.{IsTrinomialRange, trinomial, IsLowTrinomial}
 
 -- a higher power of two is at least twice a lower one

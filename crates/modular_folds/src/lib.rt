@@ -1,6 +1,10 @@
-//! The reducers of moduli near a power of two, by folds.
+//! Moduli near a power of two: the paths by folds, which are remainders of double words and products of words,
+//! written and proved once for every such modulus, and the reducers that use them.
 #![tactic(auto)]
 
+pub mod fold_word;
+pub mod folds;
 pub mod mersenne;
+pub mod products;
 pub mod rings;
 pub mod solinas;

@@ -2,14 +2,14 @@
 
 ghost use Rattle.std.specs.Prelude.{◌≡◌, ℕ, ◌*◌, ◌%◌, ◌<◌};
 ghost use Rattle.modular_reduced.specs.Plain.{plain_form, plain_value};
-ghost use Rattle.modular_fold_paths.specs.Folds.{folds, IsFewFolds};
+ghost use Rattle.modular_folds.specs.Folds.{folds, IsFewFolds};
 ghost use Rattle.modular_folds.specs.Mersenne.{IsMersenneRange, IsMersenne, mersenne};
 ghost use Rattle.modular_folds.specs.MersenneLaws.{mersenne_canonical};
 ghost use Rattle.std.proofs.Common.{lit≤, refl};
 
+use crate::folds::reduce_by_folds;
+use crate::products::{reduce_product, reduce_word};
 use crate::rings::{FoldModulus, FoldRing};
-use modular_fold_paths::folds::reduce_by_folds;
-use modular_fold_paths::products::{reduce_product, reduce_word};
 use modular_reduced::reducer::Reducer;
 
 /// The modulus 2^P - K of at most 32 bits.

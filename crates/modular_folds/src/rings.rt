@@ -4,7 +4,7 @@ ghost use Rattle.std.specs.Prelude.{◌≡◌, ℕ, ◌*◌, ◌%◌, ◌<◌};
 ghost use Rattle.modular_reduced.specs.Forms.{IsCanonical};
 ghost use Rattle.modular_reduced.specs.Plain.{plain_form, plain_value};
 
-use modular_fold_paths::folds::FoldedWord;
+use crate::folds::FoldedWord;
 use modular_prim::below::{add_below, dbl_below, neg_below, sub_below};
 use modular_prim::euclid::invm;
 use modular_prim::plain_word::PlainWord;

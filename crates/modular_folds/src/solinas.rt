@@ -3,14 +3,14 @@
 ghost use Rattle.std.specs.Prelude.{◌≡◌, ℕ, ℤ, ◌+◌, ◌*◌, ◌/◌, ◌%◌, ◌^◌, ◌<◌, ◌≤◌, ◌↔◌, IsTrue, pos, ◌+ℤ◌, ◌-ℤ◌, ⊤};
 ghost use Rattle.std.proofs.Common.{lit≤, refl};
 ghost use Rattle.modular_reduced.specs.Plain.{plain_form, plain_value};
-ghost use Rattle.modular_fold_paths.specs.Folds.{folds, IsFewFolds};
+ghost use Rattle.modular_folds.specs.Folds.{folds, IsFewFolds};
 ghost use Rattle.modular_folds.specs.Solinas.{IsTrinomialRange, IsTrinomial};
 ghost use Rattle.modular_folds.specs.Solinas.{IsLowTrinomial, trinomial, trinomial_factor};
 ghost use Rattle.modular_folds.specs.SolinasLaws.{trinomial_canonical};
 
+use crate::folds::{FoldedWord, reduce_by_folds};
+use crate::products::{reduce_product, reduce_word};
 use crate::rings::{FoldModulus, FoldRing};
-use modular_fold_paths::folds::{FoldedWord, reduce_by_folds};
-use modular_fold_paths::products::{reduce_product, reduce_word};
 use modular_prim::plain_word::PlainWord;
 use modular_word::path_word::PathWord;
 use modular_word::ring_word::RingWord;

@@ -31,7 +31,7 @@ pub use modular_reduced::power::digit_laws;
 pub use modular_symbols::halving::step_laws;
 
 // Forms and rings.
-pub use modular_fold_paths::folds::fold_laws;
+pub use modular_folds::folds::fold_laws;
 pub use modular_monty::montgomery::form_laws;
 pub use modular_reduced::laws::{
     canonical_laws, negative_cancels, products_associate, products_commute, products_distribute,

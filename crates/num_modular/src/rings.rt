@@ -1,8 +1,8 @@
 //! The generic types behind the aliases of the root, and the types of their moduli. Code that is generic over
 //! `OddRing` or `FoldRing` covers every modulus of the family.
 
-pub use modular_fold_paths::fold_word::FoldWord;
-pub use modular_fold_paths::folds::FoldedWord;
+pub use modular_folds::fold_word::FoldWord;
+pub use modular_folds::folds::FoldedWord;
 pub use modular_folds::mersenne::{Mersenne32, Mersenne64};
 pub use modular_folds::rings::{FoldModulus, FoldRing};
 pub use modular_folds::solinas::{

@@ -1,0 +1,141 @@
+-- How many folds a number takes, and that these are few.
+use Rattle.std.proofs.Common.{◌≡◌, ℕ, zero, suc, ◌+◌, ◌-◌, ◌*◌, ◌/◌, ◌^◌, ◌<◌, ◌≤◌, sym, ◌∙◌, ap, ap₂, arith, ⊎_elim}
+use Rattle.std.proofs.Math.Nat.{div-lt_iff_lt-mul, mul-le-mul_right, pow-suc}
+use Rattle.std.proofs.lemmas.Bool.Decides.{nat_tests}
+use Rattle.std.proofs.lemmas.Bool.{cases_lt}
+use Rattle.std.proofs.lemmas.Nat.{pow_pos, pow-add, shr_split, div-mul-add, mod-mul-add}
+use Rattle.modular_folds.specs.Folds.{fold_of, folds_within, folds, IsFewFolds}
+use Rattle.modular_folds.proofs.FoldSteps.{fold_less, fold_halves}
+use Rattle.modular_folds.proofs.FoldBounds.{two_low, three_low, next_fold, last_fold, small_square}
+
+within_none : (k p c v : ℕ) → v < 2 ^ p → folds_within k p c v ≡ 0
+unfolding folds_within
+within_none zero p c v l = omega arith
+within_none (suc k) p c v l = grind (arith, nat_tests)
+
+within_next : (k p c v : ℕ) → 2 ^ p ≤ v → folds_within (suc k) p c v ≡ suc (folds_within k p c (fold_of p c v))
+unfolding folds_within
+within_next k p c v h = grind (arith, nat_tests)
+
+-- a larger bound changes nothing
+within_enough : (k l p c v : ℕ) → c < 2 ^ p → v ≤ k → v ≤ l → folds_within k p c v ≡ folds_within l p c v
+within_enough zero l p c v b h i =
+    let low : v < 2 ^ p = omega (arith, pow_pos p) in
+    within_none zero p c v low ∙ sym (within_none l p c v low)
+within_enough (suc k) zero p c v b h i =
+    let low : v < 2 ^ p = omega (arith, pow_pos p) in
+    within_none (suc k) p c v low ∙ sym (within_none zero p c v low)
+within_enough (suc k) (suc l) p c v b h i =
+    ⊎_elim
+    (λ (low : v < 2 ^ p). within_none (suc k) p c v low ∙ sym (within_none (suc l) p c v low))
+    (λ (high : 2 ^ p ≤ v).
+    let less = fold_less p c v b high in
+    within_next k p c v high ∙ ap suc (within_enough k l p c (fold_of p c v) b (omega (arith, less))
+    (omega (arith, less))) ∙ sym (within_next l p c v high))
+    (cases_lt v (2 ^ p))
+
+-- ---- the equations of the count
+pub folds-none : (p c v : ℕ) → v < 2 ^ p → folds p c v ≡ 0
+unfolding folds
+folds-none p c v l = within_none v p c v l
+
+pub folds-next : (p c v : ℕ) → c < 2 ^ p → 2 ^ p ≤ v → folds p c v ≡ 1 + folds p c (fold_of p c v)
+unfolding folds
+folds-next p c v b h =
+    let less = fold_less p c v b h in
+    let next : folds_within (suc v) p c v ≡ 1 + folds_within v p c (fold_of p c v) =
+    within_next v p c v h ∙ omega arith in
+    within_enough v (suc v) p c v b (omega arith) (omega arith) ∙ next
+    ∙ ap (λ n. 1 + n) (within_enough v (fold_of p c v) p c (fold_of p c v) b (omega (arith, less)) (omega arith))
+
+-- ---- the bounds
+-- one fold more
+after : (p c v n : ℕ) → c < 2 ^ p → folds p c (fold_of p c v) ≤ n → folds p c v ≤ suc n
+after p c v n b few =
+    ⊎_elim
+    (λ (low : v < 2 ^ p). omega (arith, folds-none p c v low))
+    (λ (high : 2 ^ p ≤ v). omega (arith, folds-next p c v b high))
+    (cases_lt v (2 ^ p))
+
+-- by 1, two folds do for a product of two numbers below 2^p
+few_by_one : (p v : ℕ) → 1 < 2 ^ p → v / 2 ^ p < 2 ^ p → folds p 1 v ≤ 2
+few_by_one p v b product =
+    let none = folds-none p 1 (fold_of p 1 (fold_of p 1 v)) (two_low p v product) in
+    after p 1 v 1 b (after p 1 (fold_of p 1 v) 0 b (omega (arith, none)))
+
+-- by a small number, three
+few_by_small : (p c v : ℕ) → c < 2 ^ p → c * c + c ≤ 2 ^ p → v / 2 ^ p < 2 ^ p → folds p c v ≤ 3
+few_by_small p c v b small product =
+    let first = fold_of p c v in
+    let second = fold_of p c first in
+    let none = folds-none p c (fold_of p c second) (three_low p c v small product) in
+    after p c v 2 b (after p c first 1 b (after p c second 0 b (omega (arith, none))))
+
+-- two below twice 2^p, and one more for each doubling
+few_from : (p c j v : ℕ) → 2 * c < 2 ^ p → v < 2 ^ p + 2 ^ j * 2 ^ p → folds p c v ≤ j + 2
+few_from p c zero v b l =
+    let high : v / 2 ^ p < 2 = (div-lt_iff_lt-mul {x = v} {y = 2} (pow_pos p)).1 (omega arith) in
+    let first = fold_of p c v in
+    let near = next_fold p c 1 v (omega arith) in
+    let low = last_fold p c first (omega (arith, near)) in
+    let none = folds-none p c (fold_of p c first) low in
+    after p c v 1 (omega arith) (after p c first 0 (omega arith) (omega (arith, none)))
+few_from p c (suc j) v b l =
+    ⊎_elim
+    (λ (low : v < 2 ^ p). omega (arith, folds-none p c v low))
+    (λ (high : 2 ^ p ≤ v).
+    let double : 2 ^ suc j * 2 ^ p ≡ 2 * (2 ^ j * 2 ^ p) = ap (λ a. a * 2 ^ p) (pow-suc 2 j) ∙ omega arith in
+    let half = fold_halves p c v (omega arith) high in
+    let rest = few_from p c j (fold_of p c v) b (omega (arith, half, double)) in
+    let more = after p c v (j + 2) (omega arith) rest in
+    omega (arith, more))
+    (cases_lt v (2 ^ p))
+
+pub few_in : (p c v w : ℕ) → 2 * c < 2 ^ p → p ≤ w → v < 2 ^ w → folds p c v ≤ w - p + 2
+few_in p c v w b fits l =
+    let whole : 2 ^ w ≡ 2 ^ (w - p) * 2 ^ p =
+    ap (λ a. 2 ^ a) (let s : w ≡ w - p + p = omega arith in s) ∙ pow-add 2 (w - p) p in
+    few_from p c (w - p) v b (omega (arith, whole))
+
+-- a number of 2p bits has a part above the bit p of p bits
+high_part : (p v : ℕ) → v < 2 ^ (2 * p) → v / 2 ^ p < 2 ^ p
+high_part p v l =
+    let square : 2 ^ (2 * p) ≡ 2 ^ p * 2 ^ p =
+    ap (λ n. 2 ^ n) (let e : 2 * p ≡ p + p = omega arith in e) ∙ pow-add 2 p p in
+    (div-lt_iff_lt-mul {x = v} {y = 2 ^ p} (pow_pos p)).1 (omega (arith, square))
+
+pub few_folds : (p c v n : ℕ) → 2 * c < 2 ^ p → n ≡ folds p c v → IsFewFolds p c v n
+few_folds p c v n b is = record {
+  at_most = λ w fits l. omega (arith, few_in p c v w b fits l);
+  two =
+      λ one l. let few = few_by_one p v (omega (arith, one)) (high_part p v l) in
+      omega (arith, few, ap (λ d. folds p d v) one);
+  three =
+      λ small l. let few = few_by_small p c v (omega arith) (omega (arith, small_square p c small)) (high_part p v l) in
+      omega (arith, few);
+}
+
+-- ---- the count of a fold
+-- a number that has no part above the bit p stays as it is
+pub count_none : (p c v rest : ℕ) → rest ≡ fold_of p c v → v / 2 ^ p ≡ 0 → 0 + folds p c rest ≡ folds p c v
+count_none p c v rest is none =
+    let split = shr_split v p in
+    let left = ap (λ h. h * c) none in
+    let right = ap (λ h. h * 2 ^ p) none in
+    let same : rest ≡ v = omega (arith, is, split, left, right) in
+    omega (arith, ap (folds p c) same)
+
+-- any other takes one fold more than what the fold leaves
+pub count_one : (p c v rest : ℕ) → c < 2 ^ p → rest ≡ fold_of p c v → 0 < v / 2 ^ p → 1 + folds p c rest ≡ folds p c v
+count_one p c v rest b is some =
+    let split = shr_split v p in
+    let most : 1 * 2 ^ p ≤ v / 2 ^ p * 2 ^ p = mul-le-mul_right (2 ^ p) (omega arith) in
+    omega (arith, ap (folds p c) is, folds-next p c v b (omega (arith, split, most)))
+
+-- the law of a fold, of a number given by its parts
+pub folds-parts : (p c hi lo : ℕ) → c < 2 ^ p → lo < 2 ^ p → 0 < hi
+    → folds p c (hi * 2 ^ p + lo) ≡ 1 + folds p c (hi * c + lo)
+folds-parts p c hi lo b low some =
+    let most : 1 * 2 ^ p ≤ hi * 2 ^ p = mul-le-mul_right (2 ^ p) (omega arith) in
+    folds-next p c (hi * 2 ^ p + lo) b (omega (arith, most))
+    ∙ ap₂ (λ h l. 1 + folds p c (h * c + l)) (div-mul-add hi (2 ^ p) lo low) (mod-mul-add hi (2 ^ p) lo low)

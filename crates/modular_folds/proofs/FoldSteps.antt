@@ -1,0 +1,72 @@
+-- What a fold makes of a number.
+use Rattle.std.proofs.Common.{◌≡◌, ℕ, zero, suc, ◌+◌, ◌-◌, ◌*◌, ◌/◌, ◌%◌, ◌^◌, ◌<◌}
+use Rattle.std.proofs.Common.{◌≤◌, arith, ap, sym, ◌∙◌, ⊎_elim, bit_and, lit<}
+use Rattle.std.proofs.Math.Nat.{add-mul-mod_self_right, mod-lt, mul-le-mul_left}
+use Rattle.std.proofs.Math.Nat.{mul-lt-mul_of_pos_left, pow-le-pow_right}
+use Rattle.std.proofs.lemmas.Nat.{shr_split, pow_pos, le-div, and_mask}
+use Rattle.std.proofs.lemmas.Bool.{cases_lt}
+use Rattle.modular_folds.specs.Folds.{fold_of, IsFolding}
+
+-- the mask of the bits below p gives the residue modulo 2^p
+pub masked : (p mask v : ℕ) → mask + 1 ≡ 2 ^ p → bit_and v mask ≡ v % 2 ^ p
+masked p mask v ones =
+    ap (λ n. bit_and v n) (let e : mask ≡ 2 ^ p - 1 = omega arith in e) ∙ and_mask v p
+
+-- a fold makes no number larger
+pub fold_at_most : (p c v : ℕ) → c < 2 ^ p → fold_of p c v ≤ v
+fold_at_most p c v below =
+    let split = shr_split v p in
+    let most : v / 2 ^ p * c ≤ v / 2 ^ p * 2 ^ p = mul-le-mul_left (v / 2 ^ p) (omega arith) in
+    omega (arith, split, most)
+
+-- and one of at least 2^p smaller
+pub fold_less : (p c v : ℕ) → c < 2 ^ p → 2 ^ p ≤ v → fold_of p c v < v
+fold_less p c v below high =
+    let split = shr_split v p in
+    let some : 0 < v / 2 ^ p = le-div 1 v (2 ^ p) (pow_pos p) (let one : 1 * 2 ^ p ≤ v = omega arith in one) in
+    let less : v / 2 ^ p * c < v / 2 ^ p * 2 ^ p = mul-lt-mul_of_pos_left below some in
+    omega (arith, split, less)
+
+-- what is above 2^p is more than halved, where c is less than half of it
+pub fold_halves : (p c v : ℕ) → 2 * c ≤ 2 ^ p → 2 ^ p ≤ v → 2 * fold_of p c v < v + 2 ^ p
+fold_halves p c v half high =
+    let split = shr_split v p in
+    let most : v / 2 ^ p * (2 * c) ≤ v / 2 ^ p * 2 ^ p = mul-le-mul_left (v / 2 ^ p) half in
+    omega (arith, split, most, mod-lt v (pow_pos p))
+
+-- a fold keeps the residue modulo 2^p - c
+pub fold_keeps : (p c m v : ℕ) → m + c ≡ 2 ^ p → fold_of p c v % m ≡ v % m
+fold_keeps p c m v is =
+    let split = shr_split v p in
+    let whole : fold_of p c v + v / 2 ^ p * m ≡ v = omega (arith, split, ap (λ n. v / 2 ^ p * n) is) in
+    sym (add-mul-mod_self_right (fold_of p c v) (v / 2 ^ p) m) ∙ ap (λ n. n % m) whole
+
+-- so do two
+pub two_folds_keep : (p c m v : ℕ) {first second : ℕ} → m + c ≡ 2 ^ p
+    → first ≡ fold_of p c v → second ≡ fold_of p c first
+    → second % m ≡ v % m
+two_folds_keep p c m v {first} {second} is one two =
+    ap (λ n. n % m) two ∙ fold_keeps p c m first is ∙ ap (λ n. n % m) one ∙ fold_keeps p c m v is
+
+-- a word of w bits that is 2^p at least has more than p bits
+pub bit_inside : (w p v : ℕ) → 2 ^ p ≤ v → v < 2 ^ w → p < w
+bit_inside w p v high fits =
+    ⊎_elim
+    (λ (l : p < w). l)
+    (λ (l : w ≤ p). let more = pow-le-pow_right {n = 2} (lit< tt) l in absurd (omega (arith, more)))
+    (cases_lt p w)
+
+-- 2^p is among the numbers up to 2^w
+pub power_fits : {w p c m : ℕ} → IsFolding w p c m → 2 ^ p ≤ 2 ^ w
+power_fits is = pow-le-pow_right {n = 2} (lit< tt) is.fits
+
+-- so p is not 0
+pub some_bits : {w p c m : ℕ} → IsFolding w p c m → 0 < p
+some_bits {w} {p = zero} {c} {m} is = absurd (omega (arith, is.some, is.whole, is.half))
+some_bits {w} {p = suc p} {c} {m} is = omega arith
+
+-- nor 1
+pub two_bits : {w p c m : ℕ} → IsFolding w p c m → 2 ≤ p
+two_bits {w} {p = zero} {c} {m} is = absurd (omega (arith, is.some, is.whole, is.half))
+two_bits {w} {p = suc zero} {c} {m} is = absurd (omega (arith, is.some, is.whole, is.half))
+two_bits {w} {p = suc (suc p)} {c} {m} is = omega arith

@@ -1,0 +1,112 @@
+use Rattle.std.proofs.Common.{◌≡◌, ℕ, ◌+◌, ◌*◌, ◌/◌, ◌%◌, ◌^◌, ◌<◌, ◌≤◌, ◌∙◌, arith}
+use Rattle.modular_folds.proofs.FoldSteps.{power_fits, some_bits, fold_keeps}
+use Rattle.modular_folds.proofs.FoldBounds.{doubled_fits, first_bound, fold_bound, next_bound, bound_falls}
+use Rattle.modular_folds.proofs.FoldBounds.{once_below, once_above}
+use Rattle.modular_folds.proofs.folds.residue_in_line.Goals as goal
+use Rattle.modular_folds.proofs.folds.residue_in_line.Goals.{After-shift_right, After-fold-last}
+
+-- the mask has the bits below p set
+ones : (m less : ℕ) {c one mask power : ℕ} → one ≡ 1 → less + one ≡ c → mask ≡ m + less → m + c ≡ power → mask + 1 ≡ power
+ones m less is_one is_less is_mask whole = omega (arith, is_one, is_less, is_mask, whole)
+
+pub plus-mask-requires : goal.plus-mask-requires
+plus-mask-requires g c = omega (arith, power_fits c.requires.folding)
+
+pub plus-twice-requires : goal.plus-twice-requires
+plus-twice-requires g c =
+    let some = some_bits c.requires.folding in
+    let free = doubled_fits g.V.RingWord.width c.args.p (omega (arith, some, c.requires.room)) in
+    omega (arith, free, c.requires.folding.whole, c.requires.folding.some)
+
+pub times-requires : goal.times-requires
+times-requires g c =
+    let n = g.V.RingWord.number in
+    let first =
+    first_bound c.args.p (n c.args.c) (n c.plus-mask.result) g.V.RingWord.width
+    (ones _ _ c.one.ensures c.minus.ensures c.plus-mask.ensures c.requires.folding.whole) (omega (arith, c.requires.folding.whole, c.requires.folding.half))
+    c.requires.room in
+    omega (arith, first)
+
+pub plus-most-requires : goal.plus-most-requires
+plus-most-requires g c =
+    let n = g.V.RingWord.number in
+    let first =
+    first_bound c.args.p (n c.args.c) (n c.plus-mask.result) g.V.RingWord.width
+    (ones _ _ c.one.ensures c.minus.ensures c.plus-mask.ensures c.requires.folding.whole) (omega (arith, c.requires.folding.whole, c.requires.folding.half))
+    c.requires.room in
+    rw c.times.ensures first
+
+-- what the next fold leaves at most is less than before
+less : (g : _) (c : After-shift_right g)
+    → g.V.RingWord.number c.folds.most / 2 ^ c.args.p * g.V.RingWord.number c.args.c + g.V.RingWord.number c.plus-mask.result
+    < g.V.RingWord.number c.folds.most
+less g c =
+    let n = g.V.RingWord.number in
+    let high : 2 * n c.args.m ≤ n c.folds.most =
+    grind (arith, c.is_below.ensures.below, c.folds-test.true, c.plus-twice.ensures) in
+    bound_falls c.args.p (n c.args.c) (n c.args.m) (n c.plus-mask.result) (n c.folds.most)
+    (ones _ _ c.one.ensures c.minus.ensures c.plus-mask.ensures c.requires.folding.whole) c.requires.folding.whole c.requires.small high
+
+pub times-requires-in-folds : goal.times-requires-in-folds
+times-requires-in-folds g c =
+    let l = less g (goal.at.times-requires-in-folds g c).After-shift_right in
+    rw c.shift_right.ensures.value (omega (arith, l, c.is_below.ensures.fits))
+
+pub plus-most-requires-in-folds : goal.plus-most-requires-in-folds
+plus-most-requires-in-folds g c =
+    let l = less g (goal.at.plus-most-requires-in-folds g c).After-shift_right in
+    rw (c.times-in-folds.ensures, c.shift_right.ensures.value) (omega (arith, l, c.is_below.ensures.fits))
+
+pub folds-smaller : goal.folds-smaller
+folds-smaller g c =
+    let l = less g (goal.at.folds-smaller g c).After-shift_right in
+    rw (c.plus-most-in-folds.ensures, c.times-in-folds.ensures, c.shift_right.ensures.value) l
+
+pub folds-preserved : goal.folds-preserved
+folds-preserved g c =
+    let n = g.V.RingWord.number in
+    let p = c.args.p in
+    let mask = ones _ _ c.one.ensures c.minus.ensures c.plus-mask.ensures c.requires.folding.whole in
+    let keeps = fold_keeps p (n c.args.c) (n c.args.m) (n c.folds.rest) c.requires.folding.whole in
+    let most = fold_bound p (n c.args.c) (n c.folds.rest) (n c.plus-mask.result) (n c.folds.most) mask
+    c.folds.invariant.bound in
+    record {
+      same = rw c.fold-next.ensures.value (keeps ∙ c.folds.invariant.same);
+      bound = rw (c.fold-next.ensures.value, c.plus-most-in-folds.ensures, c.times-in-folds.ensures, c.shift_right.ensures.value)
+          (next_bound p (n c.args.c) _ (n c.plus-mask.result) (n c.folds.most) most);
+    }
+
+-- the last fold
+last_below : (g : _) (c : After-fold-last g) → g.V.RingWord.number c.fold-last.result.0 < 2 * g.V.RingWord.number c.args.m
+last_below g c =
+    let n = g.V.RingWord.number in
+    let end : n c.folds.most < 2 * n c.args.m =
+    grind (arith, c.is_below.ensures.below, c.folds-test.false, c.plus-twice.ensures) in
+    let most = fold_bound c.args.p (n c.args.c) (n c.folds.rest) (n c.plus-mask.result) (n c.folds.most)
+    (ones _ _ c.one.ensures c.minus.ensures c.plus-mask.ensures c.requires.folding.whole) c.folds.invariant.bound in
+    rw c.fold-last.ensures.value (omega (arith, end, most))
+
+last_same : (g : _) (c : After-fold-last g)
+    → g.V.RingWord.number c.fold-last.result.0 % g.V.RingWord.number c.args.m
+    ≡ g.V.RingWord.number c.args.v % g.V.RingWord.number c.args.m
+last_same g c =
+    let n = g.V.RingWord.number in
+    rw c.fold-last.ensures.value
+    (fold_keeps c.args.p (n c.args.c) (n c.args.m) (n c.folds.rest) c.requires.folding.whole ∙ c.folds.invariant.same)
+
+pub returns-then-is_below : goal.returns-then-is_below
+returns-then-is_below g c =
+    let n = g.V.RingWord.number in
+    let less = c.is_below-2.ensures.below.0 c.if-is_below.true in
+    record {
+      value = once_below (n c.args.m) _ less ∙ last_same g (goal.at.returns-then-is_below g c).After-fold-last;
+      below = less;
+    }
+
+pub returns-else-is_below : goal.returns-else-is_below
+returns-else-is_below g c =
+    let n = g.V.RingWord.number in
+    let after = (goal.at.returns-else-is_below g c).After-fold-last in
+    let more : n c.args.m ≤ n c.fold-last.result.0 = grind (arith, c.is_below-2.ensures.below, c.if-is_below.false) in
+    let once = once_above (n c.args.m) (n c.fold-last.result.0) _ more (last_below g after) c.minus-else-is_below.ensures in
+    record { value = once.0 ∙ last_same g after; below = once.1 }

@@ -1,0 +1,75 @@
+use Rattle.std.proofs.Common.{rules, ◌≡◌, ◌+◌, ◌-◌, ◌*◌, ◌/◌, ◌%◌, ◌^◌, arith}
+use Rattle.std.proofs.Math.Nat.{mul-mod_left}
+use Rattle.modular_folds.proofs.FoldSteps.{power_fits, some_bits}
+use Rattle.modular_folds.proofs.ProductFolds.{IsLastSum, sum_by_one, sum_by_small}
+use Rattle.modular_folds.proofs.products.product_by_folds.Goals as goal
+use Rattle.modular_folds.proofs.products.product_by_folds.Goals.{After-shift_right, After-shift_right-2}
+
+pub fold_parts-low-requires-clause-some : goal.fold_parts-low-requires-clause-some
+fold_parts-low-requires-clause-some g c = some_bits c.requires.folding
+
+pub shift_right-requires : goal.shift_right-requires
+shift_right-requires g c = omega (arith, c.bits.ensures, some_bits c.requires.folding, c.requires.folding.fits)
+
+by_one : (g : _) (c : After-shift_right g) → g.T.RingWord.number c.args.c ≡ 1
+    → IsLastSum (g.T.RingWord.number c.args.m) (g.T.RingWord.number c.args.a * g.T.RingWord.number c.args.b)
+    (g.T.RingWord.number c.fold_parts-low.result.1) (g.T.RingWord.number c.shift_right.result)
+by_one g c one =
+    sum_by_one _ _ _ _ c.requires.folding one c.requires.left c.requires.right c.zero.ensures
+    c.fold_parts-low.ensures.low c.fold_parts-low.ensures.high c.bits.ensures c.shift_right.ensures.value
+
+pub sum_of_parts-requires : goal.sum_of_parts-requires
+sum_of_parts-requires g c =
+    let last = by_one g (goal.at.sum_of_parts-requires g c).After-shift_right (search rules) in
+    record { bound = omega (arith, c.requires.folding.whole); most = last.most; twice = last.twice }
+
+pub returns-then-eq : goal.returns-then-eq
+returns-then-eq g c =
+    rw c.sum_of_parts.ensures (by_one g (goal.at.returns-then-eq g c).After-shift_right (search rules)).same
+
+pub fold_parts-rest-requires : goal.fold_parts-rest-requires
+fold_parts-rest-requires g c =
+    let n = g.T.RingWord.number in
+    let s = 2 ^ (g.T.RingWord.width - c.args.p) in
+    record {
+      some = some_bits c.requires.folding;
+      fits = c.requires.folding.fits;
+      less = omega (arith, c.requires.folding.whole);
+      top = rw c.fold_parts-low.ensures.low
+          (mul-mod_left ((n c.args.a * n c.args.b + n c.zero.result / s) % 2 ^ c.args.p) s);
+    }
+
+pub shift_right-requires-2 : goal.shift_right-requires-2
+shift_right-requires-2 g c = omega (arith, c.bits-2.ensures, some_bits c.requires.folding, c.requires.folding.fits)
+
+by_small : (g : _) (c : After-shift_right-2 g)
+    → IsLastSum (g.T.RingWord.number c.args.m) (g.T.RingWord.number c.args.a * g.T.RingWord.number c.args.b)
+    (g.T.RingWord.number c.shift_right-2.result)
+    (g.T.RingWord.number c.fold_parts-rest.result.1 * g.T.RingWord.number c.args.c)
+by_small g c =
+    sum_by_small _ _ _ _ c.requires.folding c.requires.small c.requires.left c.requires.right c.zero.ensures
+    c.fold_parts-low.ensures.low c.fold_parts-low.ensures.high c.fold_parts-rest.ensures.low
+    c.fold_parts-rest.ensures.high
+    c.bits-2.ensures c.shift_right-2.ensures.value
+
+pub times-requires : goal.times-requires
+times-requires g c =
+    let last = by_small g (goal.at.times-requires g c).After-shift_right-2 in
+    omega (
+      arith,
+      last.most,
+      c.requires.folding.whole,
+      power_fits c.requires.folding,
+      c.requires.folding.some,
+      g.met.T.PathWord.base_is,
+    )
+
+pub sum_of_parts-requires-2 : goal.sum_of_parts-requires-2
+sum_of_parts-requires-2 g c =
+    let last = by_small g (goal.at.sum_of_parts-requires-2 g c).After-shift_right-2 in
+    rw c.times.ensures (record { bound = omega (arith, c.requires.folding.whole); most = last.most; twice = last.twice })
+
+pub returns : goal.returns
+returns g c =
+    let last = by_small g (goal.at.returns g c).After-shift_right-2 in
+    rw (c.sum_of_parts-2.ensures, c.times.ensures) last.same

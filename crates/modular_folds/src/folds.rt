@@ -1,0 +1,221 @@
+//! Reduction by folds, for every modulus near a power of two and both widths of dividends.
+
+ghost use Rattle.std.specs.Prelude.{◌≡◌, ℕ, ◌+◌, ◌*◌, ◌/◌, ◌%◌, ◌^◌, ◌<◌, ◌≤◌};
+ghost use Rattle.modular_folds.specs.Folds.{fold_of, folds, IsFewFolds, IsFolding};
+
+use crate::fold_word::FoldWord;
+use modular_prim::plain_word::PlainWord;
+use modular_word::path_word::PathWord;
+use modular_word::ring_word::RingWord;
+
+// One fold at the bit p: the part above it times c, plus the part below it; and 1, or 0 where the part above is 0.
+// The mask has the bits below p set.
+fn fold<V: FoldWord>(v: V, p: u32, mask: V, c: V) -> (V, u32)
+    requires inside { p < V.width }
+    requires mask { V.number mask + 1 ≡ 2 ^ p }
+    requires less { V.number c < 2 ^ p }
+    ensures value { V.number result.0 ≡ fold_of p (V.number c) (V.number v) }
+    ensures count { result.1 + folds p (V.number c) (V.number result.0) ≡ folds p (V.number c) (V.number v) }
+    ensures at_most { result.1 ≤ 1 }
+{
+    let high = v.shift_right(p);
+    let rest = high.times(c).plus(v.masked(mask));
+    if high.is_zero_word() {
+        (rest, 0)
+    } else {
+        (rest, 1)
+    }
+}
+
+// Two folds, which suffice for a product of two numbers below 2^p where c is 1: a number below 2^p that is
+// congruent to v modulo m, and the number of folds that changed something.
+fn fold_two<V: FoldWord>(v: V, p: u32, mask: V, c: V, m: V) -> (V, u32)
+    requires folding { IsFolding V.width p (V.number c) (V.number m) }
+    requires inside { p < V.width }
+    requires mask { V.number mask + 1 ≡ 2 ^ p }
+    requires one { V.number c ≡ 1 }
+    requires product { V.number v / 2 ^ p < 2 ^ p }
+    ensures below { V.number result.0 < 2 ^ p }
+    ensures same { V.number result.0 % V.number m ≡ V.number v % V.number m }
+    ensures count { result.1 ≡ folds p (V.number c) (V.number v) }
+{
+    let (first, one) = fold(v, p, mask, c);
+    let (second, two) = fold(first, p, mask, c);
+    (second, one + two)
+}
+
+// Three folds, which suffice for a product of two numbers below 2^p where c·(c + 1) is at most 2^p: a number below
+// 2^p that is congruent to v modulo m, and the number of folds that changed something.
+fn fold_three<V: FoldWord>(v: V, p: u32, mask: V, c: V, m: V) -> (V, u32)
+    requires folding { IsFolding V.width p (V.number c) (V.number m) }
+    requires inside { p < V.width }
+    requires mask { V.number mask + 1 ≡ 2 ^ p }
+    requires small { V.number c * V.number c + V.number c ≤ 2 ^ p }
+    requires product { V.number v / 2 ^ p < 2 ^ p }
+    ensures below { V.number result.0 < 2 ^ p }
+    ensures same { V.number result.0 % V.number m ≡ V.number v % V.number m }
+    ensures count { result.1 ≡ folds p (V.number c) (V.number v) }
+{
+    let (first, one) = fold(v, p, mask, c);
+    let (second, two) = fold(first, p, mask, c);
+    let (third, three) = fold(second, p, mask, c);
+    (third, one + two + three)
+}
+
+// Folds until the number is below 2^p, with a comparison before each.
+fn fold_on<V: FoldWord>(v: V, p: u32, mask: V, c: V, m: V) -> (V, u32)
+    requires folding { IsFolding V.width p (V.number c) (V.number m) }
+    requires fits { V.number v < 2 ^ V.width }
+    requires mask { V.number mask + 1 ≡ 2 ^ p }
+    ensures below { V.number result.0 < 2 ^ p }
+    ensures same { V.number result.0 % V.number m ≡ V.number v % V.number m }
+    ensures count { result.1 ≡ folds p (V.number c) (V.number v) }
+{
+    let mut rest = v;
+    let mut count = 0;
+    'folds: while mask.is_below(rest) {
+        let (next, one) = fold(rest, p, mask, c);
+        rest = next;
+        count += one;
+    }
+    (rest, count)
+}
+
+/// A number below 2^p that is congruent to v modulo m, and the number of folds that led to it. Where c is small and
+/// v is at most a product of two numbers below 2^p, the folds are unrolled, without comparisons. Condition: m is
+/// 2^p - c and more than half of 2^p, and p is at most the width of the words.
+pub fn fold_all<V: FoldWord>(v: V, p: u32, c: V, m: V) -> (V, u32)
+    requires { IsFolding V.width p (V.number c) (V.number m) }
+    ensures below { V.number result.0 < 2 ^ p }
+    ensures same { V.number result.0 % V.number m ≡ V.number v % V.number m }
+    ensures count { result.1 ≡ folds p (V.number c) (V.number v) }
+{
+    let mask = m.plus(c.minus(V::one()));
+    if !mask.is_below(v) {
+        return (v, 0);
+    }
+    if mask.is_below(v.shift_right(p)) {
+        return fold_on(v, p, mask, c, m);
+    }
+    if c == V::one() {
+        return fold_two(v, p, mask, c, m);
+    }
+    if c.shift_right(p / 2).is_zero_word() {
+        return fold_three(v, p, mask, c, m);
+    }
+    fold_on(v, p, mask, c, m)
+}
+
+// v modulo m, for v at most a product of two numbers below 2^p: folds without comparisons of v, since c and p alone
+// give their number, and one subtraction.
+#[inline(always)]
+fn residue_in_line<V: FoldWord>(v: V, p: u32, c: V, m: V) -> V
+    requires folding { IsFolding V.width p (V.number c) (V.number m) }
+    requires room { 2 * p ≤ V.width }
+    requires small { 4 * V.number c ≤ 2 ^ p }
+    requires product { V.number v / 2 ^ p < 2 ^ p }
+    ensures value { V.number result ≡ V.number v % V.number m }
+    ensures below { V.number result < V.number m }
+{
+    let mask = m.plus(c.minus(V::one()));
+    let twice = m.plus(m);
+    let mut rest = v;
+    // The greatest value that the next fold can return.
+    let mut most = mask.times(c).plus(mask);
+    'folds: while !most.is_below(twice) {
+        let (next, _) = fold(rest, p, mask, c);
+        rest = next;
+        most = most.shift_right(p).times(c).plus(mask);
+    }
+    let (last, _) = fold(rest, p, mask, c);
+    if last.is_below(m) {
+        last
+    } else {
+        last.minus(m)
+    }
+}
+
+/// A word whose double words can be folded: u32 or u64.
+pub trait FoldedWord: PlainWord {
+    /// A word below 2^p that is congruent to a double word modulo m, and the number of folds at the bit p by c that
+    /// led to it. Condition: they reduce modulo m.
+    fn fold_double(v: Self::Double, p: u32, c: Self, m: Self) -> (Self, u32)
+        requires { IsFolding Self.width p (Self.number c) (Self.number m) }
+        ensures below { Self.number result.0 < 2 ^ p }
+        ensures same { Self.number result.0 % Self.number m ≡ Self.double_number v % Self.number m }
+        ensures count { result.1 ≡ folds p (Self.number c) (Self.double_number v) };
+
+    /// The residue of a product of two words below 2^p, by folds at the bit p by c without comparisons of the
+    /// product. Condition: they reduce modulo m, and c is at most a fourth of 2^p.
+    fn reduce_in_line(v: Self::Double, p: u32, c: Self, m: Self) -> Self
+        requires folding { IsFolding Self.width p (Self.number c) (Self.number m) }
+        requires small { 4 * Self.number c ≤ 2 ^ p }
+        requires product { Self.double_number v / 2 ^ p < 2 ^ p }
+        ensures { Self.number result ≡ Self.double_number v % Self.number m };
+}
+
+impl FoldedWord for u32 {
+    fn fold_double(v: u64, p: u32, c: u32, m: u32) -> (u32, u32) {
+        let (rest, count) = fold_all(v, p, c as u64, m as u64);
+        (rest as u32, count)
+    }
+
+    #[inline(always)]
+    fn reduce_in_line(v: u64, p: u32, c: u32, m: u32) -> u32 {
+        residue_in_line(v, p, c as u64, m as u64) as u32
+    }
+}
+
+impl FoldedWord for u64 {
+    fn fold_double(v: u128, p: u32, c: u64, m: u64) -> (u64, u32) {
+        let (rest, count) = fold_all(v, p, c as u128, m as u128);
+        (rest as u64, count)
+    }
+
+    #[inline(always)]
+    fn reduce_in_line(v: u128, p: u32, c: u64, m: u64) -> u64 {
+        residue_in_line(v, p, c as u128, m as u128) as u64
+    }
+}
+
+// The residue of a + b, below m. Condition: b is at most m, and the sum below 2m.
+pub(crate) fn sum_once<T: PathWord>(a: T, b: T, m: T) -> T
+    requires most { T.number b ≤ T.number m }
+    requires twice { T.number a + T.number b < 2 * T.number m }
+    ensures { T.number result ≡ (T.number a + T.number b) % T.number m }
+{
+    let gap = m.minus(b);
+    if a.is_below(gap) {
+        a.plus(b)
+    } else {
+        a.minus(gap)
+    }
+}
+
+/// v modulo m, and the number of folds: folds until v is below 2^p, and at most one subtraction. Condition: m is
+/// 2^p - c and more than half of 2^p, and p is at most the width of the words.
+///
+/// A fold replaces v = high·2^p + low by high·c + low, which is congruent modulo m. p may be the width of a word.
+///
+/// Source: Handbook of Applied Cryptography, algorithm 14.47.
+pub fn reduce_by_folds<T: FoldedWord>(v: T::Double, p: u32, c: T, m: T) -> (T, u32)
+    requires { IsFolding T.width p (T.number c) (T.number m) }
+    ensures value { T.number result.0 ≡ T.double_number v % T.number m }
+    ensures count { result.1 ≡ folds p (T.number c) (T.double_number v) }
+    ensures few { IsFewFolds p (T.number c) (T.double_number v) result.1 }
+{
+    let (rest, count) = T::fold_double(v, p, c, m);
+    (sum_once(rest, T::zero(), m), count)
+}
+
+/// A number below 2^p takes no folds. Where c is below 2^p and v = hi·2^p + lo isn't, v takes one fold more than
+/// hi·c + lo. Where c is less than half of 2^p, the number of folds is bounded by `IsFewFolds`.
+pub fn fold_laws()
+    ensures none { (p c v : ℕ) → v < 2 ^ p → folds p c v ≡ 0 }
+    ensures next { (p c hi lo : ℕ) → c < 2 ^ p → lo < 2 ^ p → 0 < hi
+        → folds p c (hi * 2 ^ p + lo) ≡ 1 + folds p c (hi * c + lo) }
+    ensures few { (p c v : ℕ) → 2 * c < 2 ^ p → IsFewFolds p c v (folds p c v) }
+{}
+
+#[cfg(test)]
+mod tests;
