@@ -22,6 +22,14 @@ pub trait FoldWord: RingWord {
         requires { Self.number self * Self.number rhs < 2 ^ Self.width }
         ensures { Self.number result ≡ Self.number self * Self.number rhs };
 
+    /// The product with a factor, plus a word. Condition: it fits the word.
+    ///
+    /// A factor next to a power of two takes a shift and two sums, which a chain of folds waits for less long than
+    /// for a product. The sums may wrap, so that LLVM doesn't make them a product again.
+    fn multiply_add(self, factor: Self, addend: Self) -> Self
+        requires { Self.number self * Self.number factor + Self.number addend < 2 ^ Self.width }
+        ensures { Self.number result ≡ Self.number self * Self.number factor + Self.number addend };
+
     /// The word divided by a power of two, rounded down. Condition: `by` is below the width.
     fn shift_right(self, by: u32) -> Self
         requires { by < Self.width }
@@ -52,6 +60,21 @@ impl FoldWord for u64 {
         self * rhs
     }
 
+    #[inline(always)]
+    fn multiply_add(self, factor: u64, addend: u64) -> u64 {
+        let above = factor.wrapping_add(1);
+        let below = factor.wrapping_sub(1);
+        let up = above.trailing_zeros();
+        let down = below.trailing_zeros();
+        if up < 64 && 1 << up == above {
+            addend.wrapping_sub(self).wrapping_add(self << up)
+        } else if below < factor && down < 64 && 1 << down == below {
+            addend.wrapping_add(self).wrapping_add(self << down)
+        } else {
+            self * factor + addend
+        }
+    }
+
     fn shift_right(self, by: u32) -> u64 {
         self >> by
     }
@@ -76,6 +99,21 @@ impl FoldWord for u128 {
 
     fn times(self, rhs: u128) -> u128 {
         self * rhs
+    }
+
+    #[inline(always)]
+    fn multiply_add(self, factor: u128, addend: u128) -> u128 {
+        let above = factor.wrapping_add(1);
+        let below = factor.wrapping_sub(1);
+        let up = above.trailing_zeros();
+        let down = below.trailing_zeros();
+        if up < 128 && 1 << up == above {
+            addend.wrapping_sub(self).wrapping_add(self << up)
+        } else if below < factor && down < 128 && 1 << down == below {
+            addend.wrapping_add(self).wrapping_add(self << down)
+        } else {
+            self * factor + addend
+        }
     }
 
     fn shift_right(self, by: u32) -> u128 {

@@ -106,16 +106,27 @@ pub fn fold_all<V: FoldWord>(v: V, p: u32, c: V, m: V) -> (V, u32)
     fold_on(v, p, mask, c, m)
 }
 
-// v modulo m, for v at most a product of two numbers below 2^p: folds without comparisons of v, since c and p alone
-// give their number, and one subtraction.
+// One fold at the bit p, which isn't counted. The mask has the bits below p.
 #[inline(always)]
-fn residue_in_line<V: FoldWord>(v: V, p: u32, c: V, m: V) -> V
+fn fold_once<V: FoldWord>(v: V, p: u32, mask: V, c: V) -> V
+    requires inside { p < V.width }
+    requires mask { V.number mask + 1 ≡ 2 ^ p }
+    requires less { V.number c < 2 ^ p }
+    ensures { V.number result ≡ fold_of p (V.number c) (V.number v) }
+{
+    v.shift_right(p).multiply_add(c, v.masked(mask))
+}
+
+// A number below 2m of the same remainder modulo m, v being at most a product of two numbers below 2^p: folds in a
+// straight line. No fold tests the number: how many it takes is known from c and p.
+#[inline(always)]
+fn fold_in_line<V: FoldWord>(v: V, p: u32, c: V, m: V) -> V
     requires folding { IsFolding V.width p (V.number c) (V.number m) }
     requires room { 2 * p ≤ V.width }
     requires small { 4 * V.number c ≤ 2 ^ p }
     requires product { V.number v / 2 ^ p < 2 ^ p }
-    ensures value { V.number result ≡ V.number v % V.number m }
-    ensures below { V.number result < V.number m }
+    ensures twice { V.number result < 2 * V.number m }
+    ensures same { V.number result % V.number m ≡ V.number v % V.number m }
 {
     let mask = m.plus(c.minus(V::one()));
     let twice = m.plus(m);
@@ -123,15 +134,42 @@ fn residue_in_line<V: FoldWord>(v: V, p: u32, c: V, m: V) -> V
     // The greatest value that the next fold can return.
     let mut most = mask.times(c).plus(mask);
     'folds: while !most.is_below(twice) {
-        let (next, _) = fold(rest, p, mask, c);
-        rest = next;
+        rest = fold_once(rest, p, mask, c);
         most = most.shift_right(p).times(c).plus(mask);
     }
-    let (last, _) = fold(rest, p, mask, c);
-    if last.is_below(m) {
-        last
+    fold_once(rest, p, mask, c)
+}
+
+// v modulo m. Condition: v is below 2m.
+#[inline(always)]
+fn reduced_last<V: FoldWord>(v: V, m: V) -> V
+    requires { V.number v < 2 * V.number m }
+    ensures value { V.number result ≡ V.number v % V.number m }
+    ensures below { V.number result < V.number m }
+{
+    if v.is_below(m) { v } else { v.minus(m) }
+}
+
+// The same, where the borrow of v - m is a mask. LLVM computes chains of products side by side in vectors, where a
+// comparison of 64 bits takes longer than this.
+fn reduced_by_borrow(v: u64, m: u32) -> u32
+    requires { v < 2 * m }
+    ensures { result ≡ v % m }
+{
+    let (rest, borrowed) = <u32 as PathWord>::split(v.wrapping_sub(m as u64));
+    rest.wrapping_add(borrowed & m)
+}
+
+// v modulo m, where folds at the bit p by c have taken v below 2m: in the faster of the two ways.
+#[inline(always)]
+fn reduced_short(v: u64, p: u32, c: u32, m: u32) -> u32
+    requires { v < 2 * m }
+    ensures { result ≡ v % m }
+{
+    if p < 32 || c < 1 << 16 {
+        reduced_last(v, m as u64) as u32
     } else {
-        last.minus(m)
+        reduced_by_borrow(v, m)
     }
 }
 
@@ -162,7 +200,7 @@ impl FoldedWord for u32 {
 
     #[inline(always)]
     fn reduce_in_line(v: u64, p: u32, c: u32, m: u32) -> u32 {
-        residue_in_line(v, p, c as u64, m as u64) as u32
+        reduced_short(fold_in_line(v, p, c as u64, m as u64), p, c, m)
     }
 }
 
@@ -174,7 +212,8 @@ impl FoldedWord for u64 {
 
     #[inline(always)]
     fn reduce_in_line(v: u128, p: u32, c: u64, m: u64) -> u64 {
-        residue_in_line(v, p, c as u128, m as u128) as u64
+        let m = m as u128;
+        reduced_last(fold_in_line(v, p, c as u128, m), m) as u64
     }
 }
 

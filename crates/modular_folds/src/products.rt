@@ -60,11 +60,20 @@ fn product_by_folds<T: PathWord>(a: T, b: T, p: u32, c: T, m: T) -> T
     sum_of_parts(rest.shift_right(T::bits() - p), over.times(c), p, m)
 }
 
+// Whether the words of a product are folded apart, and not the product: c has at most half the bits of p, and a double
+// word is longer than a machine word, or one fold is enough.
+fn is_by_words<T: PathWord>(p: u32, c: T) -> bool
+    requires { p ≤ T.width }
+    ensures { IsTrue result → T.number c < 2 ^ (p / 2) }
+{
+    c.shift_right(p / 2).is_zero_word() && (T::bits() > 32 || c == T::one())
+}
+
 /// a·b modulo m. Conditions: m is 2^p - c and more than half of 2^p, and p is at most the width of the words; a and
 /// b are below m.
 ///
-/// Where c has at most half the bits of p, the parts of the product are folded. Where c is less than a fourth of
-/// 2^p, the product is folded without comparisons. The choice depends on c and p alone.
+/// Where c is less than a fourth of 2^p, the product is folded without comparisons, by its words where that is faster.
+/// The choice depends on c and p alone.
 ///
 /// Source: Handbook of Applied Cryptography, algorithm 14.47.
 #[inline(always)]
@@ -74,7 +83,7 @@ pub fn reduce_product<T: FoldedWord>(a: T, b: T, p: u32, c: T, m: T) -> T
     requires right { T.number b < T.number m }
     ensures { T.number result ≡ (T.number a * T.number b) % T.number m }
 {
-    if c.shift_right(p / 2).is_zero_word() {
+    if is_by_words(p, c) {
         product_by_folds(a, b, p, c, m)
     } else if c.shift_right(p - 2).is_zero_word() {
         T::reduce_in_line(a.product(b), p, c, m)

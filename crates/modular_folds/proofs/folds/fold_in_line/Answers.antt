@@ -1,11 +1,10 @@
 use Rattle.std.proofs.Common.{◌≡◌, ℕ, ◌+◌, ◌*◌, ◌/◌, ◌%◌, ◌^◌, ◌<◌, ◌≤◌, ◌∙◌, arith}
 use Rattle.modular_folds.proofs.FoldSteps.{power_fits, some_bits, fold_keeps}
 use Rattle.modular_folds.proofs.FoldBounds.{doubled_fits, first_bound, fold_bound, next_bound, bound_falls}
-use Rattle.modular_folds.proofs.FoldBounds.{once_below, once_above}
-use Rattle.modular_folds.proofs.folds.residue_in_line.Goals as goal
-use Rattle.modular_folds.proofs.folds.residue_in_line.Goals.{After-shift_right, After-fold-last}
+use Rattle.modular_folds.proofs.folds.fold_in_line.Goals as goal
+use Rattle.modular_folds.proofs.folds.fold_in_line.Goals.{After-shift_right, After-fold_once}
 
--- the mask has the bits below p set
+-- the mask has the bits below p
 ones : (m less : ℕ) {c one mask power : ℕ} → one ≡ 1 → less + one ≡ c → mask ≡ m + less → m + c ≡ power → mask + 1 ≡ power
 ones m less is_one is_less is_mask whole = omega (arith, is_one, is_less, is_mask, whole)
 
@@ -71,42 +70,28 @@ folds-preserved g c =
     let most = fold_bound p (n c.args.c) (n c.folds.rest) (n c.plus-mask.result) (n c.folds.most) mask
     c.folds.invariant.bound in
     record {
-      same = rw c.fold-next.ensures.value (keeps ∙ c.folds.invariant.same);
-      bound = rw (c.fold-next.ensures.value, c.plus-most-in-folds.ensures, c.times-in-folds.ensures, c.shift_right.ensures.value)
+      same = rw c.fold_once-rest.ensures (keeps ∙ c.folds.invariant.same);
+      bound = rw (c.fold_once-rest.ensures, c.plus-most-in-folds.ensures, c.times-in-folds.ensures, c.shift_right.ensures.value)
           (next_bound p (n c.args.c) _ (n c.plus-mask.result) (n c.folds.most) most);
     }
 
 -- the last fold
-last_below : (g : _) (c : After-fold-last g) → g.V.RingWord.number c.fold-last.result.0 < 2 * g.V.RingWord.number c.args.m
+last_below : (g : _) (c : After-fold_once g) → g.V.RingWord.number c.fold_once.result < 2 * g.V.RingWord.number c.args.m
 last_below g c =
     let n = g.V.RingWord.number in
     let end : n c.folds.most < 2 * n c.args.m =
     grind (arith, c.is_below.ensures.below, c.folds-test.false, c.plus-twice.ensures) in
     let most = fold_bound c.args.p (n c.args.c) (n c.folds.rest) (n c.plus-mask.result) (n c.folds.most)
     (ones _ _ c.one.ensures c.minus.ensures c.plus-mask.ensures c.requires.folding.whole) c.folds.invariant.bound in
-    rw c.fold-last.ensures.value (omega (arith, end, most))
+    rw c.fold_once.ensures (omega (arith, end, most))
 
-last_same : (g : _) (c : After-fold-last g)
-    → g.V.RingWord.number c.fold-last.result.0 % g.V.RingWord.number c.args.m
+last_same : (g : _) (c : After-fold_once g)
+    → g.V.RingWord.number c.fold_once.result % g.V.RingWord.number c.args.m
     ≡ g.V.RingWord.number c.args.v % g.V.RingWord.number c.args.m
 last_same g c =
     let n = g.V.RingWord.number in
-    rw c.fold-last.ensures.value
+    rw c.fold_once.ensures
     (fold_keeps c.args.p (n c.args.c) (n c.args.m) (n c.folds.rest) c.requires.folding.whole ∙ c.folds.invariant.same)
 
-pub returns-then-is_below : goal.returns-then-is_below
-returns-then-is_below g c =
-    let n = g.V.RingWord.number in
-    let less = c.is_below-2.ensures.below.0 c.if-is_below.true in
-    record {
-      value = once_below (n c.args.m) _ less ∙ last_same g (goal.at.returns-then-is_below g c).After-fold-last;
-      below = less;
-    }
-
-pub returns-else-is_below : goal.returns-else-is_below
-returns-else-is_below g c =
-    let n = g.V.RingWord.number in
-    let after = (goal.at.returns-else-is_below g c).After-fold-last in
-    let more : n c.args.m ≤ n c.fold-last.result.0 = grind (arith, c.is_below-2.ensures.below, c.if-is_below.false) in
-    let once = once_above (n c.args.m) (n c.fold-last.result.0) _ more (last_below g after) c.minus-else-is_below.ensures in
-    record { value = once.0 ∙ last_same g after; below = once.1 }
+pub returns : goal.returns
+returns g c = record { twice = last_below g c; same = last_same g c }

@@ -1,5 +1,5 @@
 use Rattle.std.proofs.Common.{◌≡◌, ◌+◌, ◌*◌, ◌/◌, ◌%◌, ◌^◌, ◌≤◌}
-use Rattle.modular_folds.proofs.folds.residue_in_line.Given as goal
+use Rattle.modular_folds.proofs.folds.fold_in_line.Given as goal
 
 abbrev pub invariant-folds : goal.invariant-folds
 invariant-folds g l =

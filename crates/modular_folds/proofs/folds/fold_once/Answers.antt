@@ -1,0 +1,29 @@
+use Rattle.std.proofs.Common.{ap, ◌*◌, ◌≡◌, arith}
+use Rattle.modular_folds.proofs.FoldSteps.{masked, fold_at_most}
+use Rattle.modular_folds.proofs.folds.fold_once.Goals as goal
+
+pub multiply_add-requires : goal.multiply_add-requires
+multiply_add-requires g c =
+    let n = g.V.RingWord.number in
+    let most = fold_at_most c.args.p (n c.args.c) (n c.args.v) c.requires.less in
+    let low = masked c.args.p (n c.args.mask) (n c.args.v) c.requires.mask in
+    omega (
+      arith,
+      most,
+      low,
+      c.shift_right.ensures.fits,
+      c.masked.ensures,
+      ap (λ h. h * n c.args.c) c.shift_right.ensures.value,
+    )
+
+pub returns : goal.returns
+returns g c =
+    let n = g.V.RingWord.number in
+    let low = masked c.args.p (n c.args.mask) (n c.args.v) c.requires.mask in
+    omega (
+      arith,
+      low,
+      c.multiply_add.ensures,
+      c.masked.ensures,
+      ap (λ h. h * n c.args.c) c.shift_right.ensures.value,
+    )
