@@ -113,11 +113,11 @@ def growths(growth):
     said.append(f"a transform of 2^{math.log2(entries[0]):.0f} entries takes {solinas[0] / 1e3:.2f} microseconds and of "
                 f"2^{math.log2(entries[-1]):.0f} {solinas[-1] / 1e6:.2f} ms, close to n log n")
     digits, port, school = columns(growth["products"])
-    products.plot(digits, port, "o-", color=PORT, label="big_product::product", markersize=3.5)
+    products.plot(digits, port, "o-", color=PORT, label="long_product::product", markersize=3.5)
     products.plot(digits, school, "^-", color=CRATE, label="the schoolbook's, in Rust", markersize=3.5)
-    products.set(title="A product, by its factors' digits", xlabel="digits of 16 bits", ylabel="ns", yscale="log")
+    products.set(title="A product, by its factors' digits", xlabel="digits of 64 bits", ylabel="ns", yscale="log")
     products.set_xscale("log", base=2)
-    said.append(f"a product of numbers of 2^{math.log2(digits[-1]):.0f} digits of 16 bits takes {port[-1] / 1e6:.2f} ms by transforms "
+    said.append(f"a product of numbers of 2^{math.log2(digits[-1]):.0f} digits of 64 bits takes {port[-1] / 1e6:.2f} ms by transforms "
                 f"and {school[-1] / 1e6:.2f} ms by the schoolbook's way")
     lengths, port, loop, windows, strings = columns(growth["searches"])
     searches.plot(lengths, port, "o-", color=PORT, label="mersenne_hash::find", markersize=3.5)

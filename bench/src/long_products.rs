@@ -1,9 +1,8 @@
-//! Products of numbers of 64-bit digits, beside GMP's and beside the product by one prime of digits of 16 bits.
+//! Products of numbers of 64-bit digits, beside GMP's.
 
 use crate::measure::Random;
 use crate::plans::{best, repeated, with_room};
 use crate::report::Rows;
-use crate::users::port_big_product;
 use std::ffi::{CStr, c_char};
 
 /// From so many digits on a factor is transformed; shorter ones are multiplied by rows.
@@ -53,16 +52,6 @@ impl Factors {
     fn gmp(&mut self) {
         unsafe { peer_gmp_multiply(self.digits.as_mut_ptr(), self.xs.as_ptr(), self.ys.as_ptr(), self.xs.len() as i64) }
     }
-
-    /// The same by `big_product`, over digits of 16 bits.
-    fn big_product(&self) -> impl FnMut() {
-        let halves = |it: &[u64]| it.iter().flat_map(|x| [*x as u16, (*x >> 16) as u16, (*x >> 32) as u16, (*x >> 48) as u16]).collect();
-        let (xs, ys): (Vec<u16>, Vec<u16>) = (halves(&self.xs), halves(&self.ys));
-        let mut digits = vec![0u16; 2 * xs.len()];
-        let n = digits.len().next_power_of_two();
-        let (mut left, mut right) = (vec![0u64; n], vec![0u64; n]);
-        move || port_big_product(&xs, &ys, &mut digits, &mut left, &mut right)
-    }
 }
 
 /// Whether the products are GMP's, by rows and by transforms.
@@ -85,35 +74,33 @@ pub fn agree() -> bool {
     with_room(all_agree)
 }
 
-/// The milliseconds of a product with the plans at hand, of the plans, of GMP's product and of `big_product`'s.
-fn measured_line(n: usize) -> [f64; 4] {
+/// The milliseconds of a product with the plans at hand, of the plans, and of GMP's product.
+fn measured_line(n: usize) -> [f64; 3] {
     let (rounds, times) = match n {
         0..=4096 => (100, 20),
         4097..=65536 => (20, 2),
         _ => (6, 1),
     };
     let (mut plans, mut ours, mut theirs) = (Factors::new(n), Factors::new(n), Factors::new(n));
-    let mut big_product = Factors::new(n).big_product();
-    let mut least = [f64::INFINITY; 4];
+    let mut least = [f64::INFINITY; 3];
     for _ in 0..rounds {
         let turn = [
             best(1, 1, &mut [Box::new(|_| plans.port(0))])[0],
             best(1, 1, &mut [Box::new(|_| ours.port(times))])[0],
             best(1, times, &mut [repeated(|| theirs.gmp())])[0],
-            best(1, 1, &mut [repeated(&mut big_product)])[0],
         ];
         for (least, time) in least.iter_mut().zip(turn) {
             *least = least.min(time);
         }
     }
     let plan = if n < LEAST_TRANSFORMED { 0.0 } else { least[0] };
-    [(least[1] - least[0]) / times as f64, plan, least[2], least[3]]
+    [(least[1] - least[0]) / times as f64, plan, least[2]]
 }
 
 fn lines() -> Vec<(String, Vec<f64>)> {
     let at = |name: String, n: usize| {
-        let [product, plan, gmp, big] = measured_line(n);
-        (name, vec![product, product + plan, gmp, big, product / gmp, (product + plan) / gmp, product / big])
+        let [product, plan, gmp] = measured_line(n);
+        (name, vec![product, product + plan, gmp, product / gmp, (product + plan) / gmp])
     };
     let mut lines = vec![at("2^8 digits, by rows".to_string(), 256)];
     lines.push(at(format!("{} digits, by rows", LEAST_TRANSFORMED - 1), LEAST_TRANSFORMED - 1));
@@ -127,10 +114,7 @@ pub fn measured() -> Rows {
     Rows {
         key: "long",
         title: "A product by `long_product` of two numbers of so many digits of 64 bits".to_string(),
-        heads: vec![
-            "with plans at hand ms", "with the plans ms", "GMP ms", "big_product ms", "at hand/GMP", "with the plans/GMP",
-            "at hand/big_product",
-        ],
+        heads: vec!["with plans at hand ms", "with the plans ms", "GMP ms", "at hand/GMP", "with the plans/GMP"],
         digits: 3,
         lines: with_room(lines),
         means: Vec::new(),

@@ -272,15 +272,16 @@ typedef struct {
  * residue isn't below its modulus. */
 uint32_t nm_decode(const uint64_t *moduli, size_t n, const uint64_t *residues, size_t k, nm_double_t *number);
 
-/* The length of each scratch list for a product of `places` digits: the least power of two that is at least places.
- * NM_BAD_ARGUMENT: places is above 2^32. */
-uint32_t nm_product_scratch(size_t places, size_t *length);
+/* The lengths of the two scratch lists of nm_product for numbers of n and k digits: 0 where one of the numbers has
+ * fewer than 400 digits, else 4 * e words and 3 * e / 2 factors, e being the least power of two that is at least
+ * n + k. NM_BAD_ARGUMENT: n + k is above 2^32. */
+uint32_t nm_product_room(size_t n, size_t k, size_t *words, size_t *factors);
 
-/* The digits of the product of two numbers of n and k digits, which have 16 bits, the lowest first. The scratch
- * lists left and right have unspecified contents afterwards. NM_BAD_ARGUMENT: places isn't n + k, it is above 2^32,
- * or a scratch list is shorter than nm_product_scratch writes. */
-uint32_t nm_product(const uint16_t *xs, size_t n, const uint16_t *ys, size_t k, uint16_t *digits, size_t places,
-                    uint64_t *left, size_t left_length, uint64_t *right, size_t right_length);
+/* The digits of the product of two numbers of n and k digits, which have 64 bits, the lowest first. The scratch lists
+ * words and factors have unspecified contents afterwards. NM_BAD_ARGUMENT: places isn't n + k; or both numbers have at
+ * least 400 digits, and places is above 2^32 or a scratch list is shorter than nm_product_room writes. */
+uint32_t nm_product(const uint64_t *xs, size_t n, const uint64_t *ys, size_t k, uint64_t *digits, size_t places,
+                    uint64_t *words, size_t words_length, nm_factor_t *factors, size_t factors_length);
 
 #ifdef __cplusplus
 }

@@ -13,6 +13,9 @@
 
 extern int passed, failed;
 
+/* Puts the digits of 64 bits of a number in place, by its n digits of 16 bits, the lowest first. */
+void pack(const uint16_t *digits, size_t n, uint64_t *words);
+
 /* Counts a row, and prints one that fails. */
 void row(const char *call, int holds, uint32_t code);
 

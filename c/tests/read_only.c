@@ -11,7 +11,7 @@
 #define GREATEST (UINT64_C(1) << 62)
 
 static sigjmp_buf before_the_call;
-/* the words 1, 2, 3 and so on, in the page */
+/* the words 1, 2, 3 and so on, in two pages */
 static uint64_t *words;
 
 static void on_write(int number) {
@@ -119,20 +119,22 @@ static void plan_refusals(void) {
 static void user_refusals(void) {
     static const uint8_t text[3] = {1, 2, 3}, pattern[1] = {4};
     static const uint64_t moduli[2] = {3, 9}, residues[2] = {0, 0};
-    static const uint16_t digit[1] = {9};
+    static const uint64_t digits[400] = {9};
+    nm_factor_t *factors = (nm_factor_t *)(words + 900);
     REFUSES(NM_NOT_FOUND, nm_find(1, text, 3, pattern, 1, (size_t *)words));
     REFUSES(NM_BAD_ARGUMENT, nm_decode(moduli, 2, residues, 2, (nm_double_t *)words));
-    REFUSES(NM_BAD_ARGUMENT, nm_product_scratch((size_t)UINT64_C(4294967297), (size_t *)words));
-    REFUSES(NM_BAD_ARGUMENT, nm_product(digit, 1, digit, 1, (uint16_t *)words, 2, words + 8, 2, words + 16, 1));
+    REFUSES(NM_BAD_ARGUMENT, nm_product_room((size_t)UINT64_C(4294967297), 0, (size_t *)words, (size_t *)words + 1));
+    REFUSES(NM_BAD_ARGUMENT, nm_product(digits, 1, digits, 1, words, 1, words + 8, 2, factors, 1));
+    REFUSES(NM_BAD_ARGUMENT, nm_product(digits, 400, digits, 400, words, 800, words + 800, 2, factors, 1));
 }
 
 void read_only_rows(void) {
     nm_montgomery_t ring, changed;
     struct sigaction handler = {.sa_handler = on_write}, old;
-    size_t size = (size_t)sysconf(_SC_PAGESIZE);
+    size_t size = 2 * (size_t)sysconf(_SC_PAGESIZE);
     words = mmap(NULL, size, PROT_READ | PROT_WRITE, MAP_PRIVATE | MAP_ANONYMOUS, -1, 0);
     if (words == MAP_FAILED) {
-        row("a page", 0, 0);
+        row("two pages", 0, 0);
         return;
     }
     for (size_t i = 0; i < size / sizeof *words; i++) words[i] = i + 1;

@@ -13,18 +13,28 @@ static void overlap_rows(void) {
     /* 0x123456789abcdef0fedcba98 squared, and times itself without its lowest digit */
     static const uint16_t square[12] = {14912, 56641, 15766, 40568, 53270, 37067, 18598, 51745, 44252, 13302, 26332, 331};
     static const uint16_t shifted[11] = {10912, 50515, 33880, 55309, 47844, 15201, 51745, 44252, 13302, 26332, 331};
-    uint64_t left[16], right[16];
-    uint16_t product[12];
+    static const uint64_t words[3] = {UINT64_C(0x9abcdef0fedcba98), UINT64_C(0x12345678), UINT64_C(0xfedcba9876543210)};
+    static const uint64_t of_words[5] = {UINT64_C(0x364cc08a35068740), UINT64_C(0xaa7300627d131c0e),
+                                         UINT64_C(0x14ee17fa2cb12115), UINT64_C(0xdeec6cd7c8898115),
+                                         UINT64_C(0xfdbac097c8dc5acc)};
+    uint64_t first[2], second[2], left[16], product[5], known[4] = {0};
+    nm_factor_t right[16];
     size_t position = 77;
     nm_double_t number = {77, 77};
     row("a pattern inside its text", nm_find(1000, text, 13, text + 2, 6, &position) == NM_OK && position == 2, 0);
     row("a text as its own pattern", nm_find(1000, text, 13, text, 13, &position) == NM_OK && position == 0, 0);
     row("residues behind their moduli", nm_decode(numbers, 2, numbers + 1, 2, &number) == NM_OK, 0);
     row("the number of these", number.low == 33 && number.high == 0, 0);
-    CODE(NM_OK, nm_product(digits, 6, digits, 6, product, 12, left, 16, right, 16));
-    row("the digits of a square", memcmp(product, square, sizeof square) == 0, 0);
-    CODE(NM_OK, nm_product(digits, 6, digits + 1, 5, product, 11, left, 16, right, 16));
-    row("the digits of a product of overlapping numbers", memcmp(product, shifted, sizeof shifted) == 0, 0);
+    pack(digits, 6, first);
+    pack(square, 12, known);
+    CODE(NM_OK, nm_product(first, 2, first, 2, product, 4, left, 16, right, 16));
+    row("the digits of a square", memcmp(product, known, sizeof known) == 0, 0);
+    pack(digits + 1, 5, second);
+    pack(shifted, 11, known);
+    CODE(NM_OK, nm_product(first, 2, second, 2, product, 4, left, 16, right, 16));
+    row("the digits of a product without the lowest digit", memcmp(product, known, sizeof known) == 0, 0);
+    CODE(NM_OK, nm_product(words, 3, words + 1, 2, product, 5, left, 16, right, 16));
+    row("the digits of a product of overlapping numbers", memcmp(product, of_words, sizeof of_words) == 0, 0);
 }
 
 /* what all threads read */

@@ -69,33 +69,80 @@ static void decode_rows(void) {
     NUMBER(NM_BAD_ARGUMENT, 0, 0, nm_decode(too_large, 3, none, 3, &out));
 }
 
+void pack(const uint16_t *digits, size_t n, uint64_t *words) {
+    for (size_t i = 0; i < n; i++) words[i / 4] = (i % 4 ? words[i / 4] : 0) | (uint64_t)digits[i] << 16 * (i % 4);
+}
+
+/* A call that writes the numbers words and factors out. */
+#define ROOM(want_code, want_words, want_factors, call)                                                                \
+    do {                                                                                                               \
+        size_t words = 77, factors = 77;                                                                               \
+        uint32_t code = (call);                                                                                        \
+        int is = code == NM_OK ? words == (want_words) && factors == (want_factors) : words == 77 && factors == 77;    \
+        row(#call, code == (want_code) && is, code);                                                                   \
+    } while (0)
+
+static void room_rows(void) {
+    const size_t half = (size_t)UINT64_C(2147483648), over = (size_t)UINT64_C(4294967297);
+    ROOM(NM_OK, 0, 0, nm_product_room(6, 4, &words, &factors));
+    ROOM(NM_OK, 8 * half, 3 * half, nm_product_room(half, half, &words, &factors));
+    ROOM(NM_BAD_ARGUMENT, 0, 0, nm_product_room(over, 0, &words, &factors));
+    ROOM(NM_BAD_ARGUMENT, 0, 0, nm_product_room(0, over, &words, &factors));
+    ROOM(NM_BAD_ARGUMENT, 0, 0, nm_product_room(half + 1, half, &words, &factors));
+    ROOM(NM_BAD_ARGUMENT, 0, 0, nm_product_room(SIZE_MAX, SIZE_MAX, &words, &factors));
+    ROOM(NM_OK, 0, 0, nm_product_room(399, 100000, &words, &factors));
+    ROOM(NM_OK, 4096, 1536, nm_product_room(400, 624, &words, &factors));
+    ROOM(NM_OK, 8192, 3072, nm_product_room(400, 625, &words, &factors));
+}
+
 /* 0x123456789abcdef0fedcba98 times 2^64 - 1 */
 static void product_rows(void) {
     static const uint16_t xs[6] = {47768, 65244, 57072, 39612, 22136, 4660}, ys[4] = {65535, 65535, 65535, 65535};
     static const uint16_t want[10] = {17768, 291, 8463, 25923, 25631, 60584, 57072, 39612, 22136, 4660};
-    uint16_t digits[10] = {7, 7, 7, 7, 7, 7, 7, 7, 7, 7}, before[10];
-    uint64_t left[16] = {7}, right[16] = {7};
+    uint64_t digits[3] = {7, 7, 7}, before[3], first[2], second[1], known[3];
+    uint64_t left[16] = {7};
+    nm_factor_t right[16] = {{7, 7}};
+    pack(xs, 6, first);
+    pack(ys, 4, second);
+    pack(want, 10, known);
     memcpy(before, digits, sizeof digits);
-    POSITION(NM_OK, 16, nm_product_scratch(10, &out));
-    POSITION(NM_OK, UINT64_C(4294967296), nm_product_scratch((size_t)UINT64_C(4294967296), &out));
-    POSITION(NM_BAD_ARGUMENT, 0, nm_product_scratch((size_t)UINT64_C(4294967297), &out));
-    CODE(NM_BAD_ARGUMENT, nm_product(xs, 6, ys, 4, digits, 9, left, 16, right, 16));
-    CODE(NM_BAD_ARGUMENT, nm_product(xs, 6, ys, 4, digits, 10, left, 15, right, 16));
-    CODE(NM_BAD_ARGUMENT, nm_product(xs, 6, ys, 4, digits, 10, left, 16, right, 8));
-    row("a refused product writes nothing", memcmp(digits, before, sizeof digits) == 0 && left[0] == 7 && right[0] == 7, 0);
-    CODE(NM_OK, nm_product(xs, 6, ys, 4, digits, 10, left, 16, right, 16));
-    row("the digits of the product", memcmp(digits, want, sizeof want) == 0, 0);
+    CODE(NM_BAD_ARGUMENT, nm_product(first, 2, second, 1, digits, 2, left, 16, right, 16));
+    row("a refused product writes nothing", memcmp(digits, before, sizeof digits) == 0 && left[0] == 7 && right[0].value == 7, 0);
+    CODE(NM_OK, nm_product(first, 2, second, 1, digits, 3, left, 16, right, 16));
+    row("the digits of the product", memcmp(digits, known, sizeof known) == 0, 0);
+    CODE(NM_OK, nm_product(first, 2, second, 1, digits, 3, left, 15, right, 16));
+    CODE(NM_OK, nm_product(first, 2, second, 1, digits, 3, left, 16, right, 8));
+    row("short factors take no room", memcmp(digits, known, sizeof known) == 0, 0);
+}
+
+/* (2^25600 - 1)^2, which is 2^51200 - 2^25601 + 1 */
+static void transformed_rows(void) {
+    static uint64_t ones[400], digits[800], left[4096];
+    static nm_factor_t right[1536];
+    int same = 1;
+    memset(ones, 0xff, sizeof ones);
+    digits[0] = left[0] = right[0].value = 7;
+    CODE(NM_BAD_ARGUMENT, nm_product(ones, 400, ones, 400, digits, 799, left, 4096, right, 1536));
+    CODE(NM_BAD_ARGUMENT, nm_product(ones, 400, ones, 400, digits, 800, left, 4095, right, 1536));
+    CODE(NM_BAD_ARGUMENT, nm_product(ones, 400, ones, 400, digits, 800, left, 4096, right, 1535));
+    CODE(NM_BAD_ARGUMENT, nm_product(ones, 400, ones, 400, digits, 800, NULL, 0, right, 1536));
+    CODE(NM_BAD_ARGUMENT, nm_product(ones, 400, ones, 400, digits, 800, left, 4096, NULL, 0));
+    row("no room, and nothing is written", digits[0] == 7 && left[0] == 7 && right[0].value == 7, 0);
+    CODE(NM_OK, nm_product(ones, 400, ones, 400, digits, 800, left, 4096, right, 1536));
+    for (int i = 0; i < 800; i++)
+        same &= digits[i] == (i == 0 ? 1 : i < 400 ? 0 : i == 400 ? UINT64_MAX - 1 : UINT64_MAX);
+    row("the digits of a product by transforms", same, 0);
 }
 
 /* NULL as a number of no digits, which is 0, and as a list without room */
 static void empty_rows(void) {
-    static const uint16_t xs[2] = {7, 9};
-    uint16_t digits[2] = {7, 7};
-    uint64_t left[2] = {7, 7}, right[2] = {7, 7};
-    POSITION(NM_OK, 1, nm_product_scratch(0, &out));
+    static const uint64_t xs[2] = {7, 9};
+    uint64_t digits[2] = {7, 7}, left[2] = {7, 7};
+    nm_factor_t right[2] = {{7, 7}, {7, 7}};
+    ROOM(NM_OK, 0, 0, nm_product_room(0, 0, &words, &factors));
     CODE(NM_OK, nm_product(NULL, 0, NULL, 0, NULL, 0, left, 1, right, 1));
-    CODE(NM_BAD_ARGUMENT, nm_product(NULL, 0, NULL, 0, NULL, 0, NULL, 0, right, 2));
-    CODE(NM_BAD_ARGUMENT, nm_product(NULL, 0, NULL, 0, NULL, 0, left, 2, NULL, 0));
+    CODE(NM_OK, nm_product(NULL, 0, NULL, 0, NULL, 0, NULL, 0, right, 2));
+    CODE(NM_OK, nm_product(NULL, 0, NULL, 0, NULL, 0, left, 2, NULL, 0));
     CODE(NM_BAD_ARGUMENT, nm_product(xs, 2, NULL, 0, NULL, 0, left, 2, right, 2));
     row("no digit is written", digits[0] == 7 && digits[1] == 7, 0);
     CODE(NM_OK, nm_product(xs, 2, NULL, 0, digits, 2, left, 2, right, 2));
@@ -109,6 +156,8 @@ void user_rows(void) {
     hash_rows();
     time_rows();
     decode_rows();
+    room_rows();
     product_rows();
+    transformed_rows();
     empty_rows();
 }

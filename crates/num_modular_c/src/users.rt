@@ -1,13 +1,16 @@
 //! The crates that use the library, for C: hashes and a search, numbers by their residues, and the product of long
 //! numbers.
 
-ghost use Rattle.std.specs.Prelude.{◌≡◌, ℕ, ◌+◌, ◌*◌, ◌%◌, ◌^◌, ◌<◌, ◌≤◌, ◌↔◌, IsTrue, length};
-ghost use Rattle.big_product.specs.Numbers.{number_of, HasRoom, IsTransformLength};
+ghost use Rattle.std.specs.Prelude.{◌≡◌, ℕ, ◌+◌, ◌*◌, ◌/◌, ◌%◌, ◌^◌, ◌<◌, ◌≤◌, ◌↔◌, IsTrue, length};
+ghost use Rattle.long_product.specs.Numbers.{number_of};
+ghost use Rattle.long_product.specs.Room.{HasRoom};
 ghost use Rattle.mersenne_hash.specs.Hashes.{polynomial_value, IsFirst, StandsAt};
-ghost use Rattle.num_modular_c.specs.Codes.{Did, Refused};
+ghost use Rattle.num_modular_c.specs.Codes.{Did, Refused, BothRefused};
 ghost use Rattle.num_modular_c.specs.Systems.{IsEncoding, IsDecoded};
 
 use crate::codes::{NM_BAD_ARGUMENT, NM_NOT_FOUND, NM_OK};
+use crate::plans::NmFactor;
+use long_product::{MOST_PLACES, product, room};
 use num_modular::ModularInteger;
 use num_modular::word::w64::split;
 use residue_numbers::{are_reduced, is_system};
@@ -74,38 +77,44 @@ pub extern "C" fn nm_decode(moduli: &[u64], residues: &[u64], number: &mut NmDou
     NM_OK
 }
 
-/// Writes the length of the scratch slices for a product of `places` digits: the least power of two that is at
-/// least `places`. `NM_BAD_ARGUMENT`: `places` is above 2^32.
+/// Writes the lengths of the two scratch slices of `nm_product` for numbers of n and k digits: 0 where one of the
+/// numbers has fewer than 400 digits, else 4·e words and 3·e/2 factors, e being the least power of two that is at
+/// least n + k. `NM_BAD_ARGUMENT`: n + k is above 2^32.
 #[unsafe(no_mangle)]
-pub extern "C" fn nm_product_scratch(places: usize, length: &mut usize) -> u32
-    ensures did { places ≤ 2 ^ 32 → Did result (IsTransformLength places length.new) }
-    ensures bad_argument { 2 ^ 32 < places → Refused NM_BAD_ARGUMENT result length.old length.new }
+pub extern "C" fn nm_product_room(n: usize, k: usize, words: &mut usize, factors: &mut usize) -> u32
+    ensures did { n + k ≤ 2 ^ 32 → Did result ((w f : ℕ) → HasRoom n k (n + k) w (f / 3)
+        ↔ ((words.new ≤ w) × (factors.new ≤ f))) }
+    ensures bad_argument { 2 ^ 32 < n + k → BothRefused NM_BAD_ARGUMENT result words.old words.new
+        factors.old factors.new }
 {
-    if places > big_product::MOST_PLACES {
+    if n > MOST_PLACES || k > MOST_PLACES - n {
         return NM_BAD_ARGUMENT;
     }
-    *length = big_product::transform_length(places);
+    let (needed, table) = room(n, k);
+    *words = needed;
+    *factors = 3 * table;
     NM_OK
 }
 
-/// Writes the digits of the product of two numbers, given by their digits of 16 bits, the lowest first. The scratch
-/// slices have unspecified contents afterwards. `NM_BAD_ARGUMENT`: `digits` isn't as long as both factors together,
-/// these have more than 2^32 digits, or a scratch slice is shorter than `nm_product_scratch` writes.
+/// Writes the digits of the product of two numbers, given by their digits of 64 bits, the lowest first. The scratch
+/// slices `words` and `factors` have unspecified contents afterwards. `NM_BAD_ARGUMENT`: `digits` isn't as long as
+/// both numbers together; or both have at least 400 digits, and `digits` has more than 2^32 places or a scratch slice
+/// is shorter than `nm_product_room` writes.
 #[unsafe(no_mangle)]
 pub extern "C" fn nm_product(
-    xs: &[u16],
-    ys: &[u16],
-    digits: &mut [u16],
-    left: &mut [u64],
-    right: &mut [u64],
+    xs: &[u64],
+    ys: &[u64],
+    digits: &mut [u64],
+    words: &mut [u64],
+    factors: &mut [NmFactor],
 ) -> u32
-    ensures did { HasRoom (length xs.now) (length ys.now) (length digits.old) (length left.old) (length right.old)
+    ensures did { HasRoom (length xs.now) (length ys.now) (length digits.old) (length words.old) (length factors.old / 3)
         → Did result (number_of digits.new ≡ number_of xs.now * number_of ys.now) }
-    ensures bad_argument { (HasRoom (length xs.now) (length ys.now) (length digits.old)
-        (length left.old) (length right.old) → ⊥)
-        → Refused NM_BAD_ARGUMENT result digits.old digits.new × (left.new ≡ left.old) × (right.new ≡ right.old) }
+    ensures bad_argument { (HasRoom (length xs.now) (length ys.now) (length digits.old) (length words.old)
+        (length factors.old / 3) → ⊥)
+        → BothRefused NM_BAD_ARGUMENT result digits.old digits.new words.old words.new × (factors.new ≡ factors.old) }
 {
-    if big_product::product(xs, ys, digits, left, right) {
+    if product(xs, ys, digits, words, factors) {
         NM_OK
     } else {
         NM_BAD_ARGUMENT
