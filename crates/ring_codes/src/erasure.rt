@@ -20,7 +20,7 @@ ghost use Rattle.ring_codes.specs.Erasure.{IsEncoding, IsErasureCodeword, ArePla
 
 mod newton;
 
-use clients::list_inverses::invert_each;
+use examples::list_inverses::invert_each;
 use newton::{differences_before, divide_differences, expand, fill_weights};
 use num_modular::{Reducer, RingWord};
 

@@ -1,17 +1,17 @@
 //! Known values of each client, computed with Python.
 
-use clients::commands::{product_by_commands, residue_over_copies};
-use clients::cubic::cubic;
-use clients::each_reducer::{
+use examples::commands::{product_by_commands, residue_over_copies};
+use examples::cubic::cubic;
+use examples::each_reducer::{
     by_montgomery, by_plain_remainders, by_reciprocals, modulo_13, modulo_15, modulo_17, modulo_29,
     modulo_31, modulo_97, modulo_127, modulo_241, modulo_247,
 };
-use clients::hashes::hash;
-use clients::inner_products::inner_product_of_four;
-use clients::operations::{product_and_sum, square};
-use clients::quotients::{by_inverse, by_operator, ten_by_five};
-use clients::remainders::from_remainders;
-use clients::squares::is_quadratic_residue;
+use examples::hashes::hash;
+use examples::inner_products::inner_product_of_four;
+use examples::operations::{product_and_sum, square};
+use examples::quotients::{by_inverse, by_operator, ten_by_five};
+use examples::remainders::from_remainders;
+use examples::squares::is_quadratic_residue;
 use num_modular::prim::is_prime_by_search;
 use num_modular::{Montgomery, Reducer};
 

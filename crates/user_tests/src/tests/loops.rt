@@ -1,13 +1,13 @@
-//! Known values of the clients with powers and loops, computed with Python.
+//! Known values of the examples with powers and loops, computed with Python.
 
 ghost use Rattle.std.specs.Prelude.{◌≤◌};
 
-use clients::fermat_tests::is_shown_composite;
-use clients::generators::jump;
-use clients::keys::{keys, known_word};
-use clients::list_inverses::invert_each;
-use clients::polynomials::product_of;
-use clients::square_roots::square_root;
+use examples::fermat_tests::is_shown_composite;
+use examples::generators::jump;
+use examples::keys::{keys, known_word};
+use examples::list_inverses::invert_each;
+use examples::polynomials::product_of;
+use examples::square_roots::square_root;
 use num_modular::prim::is_prime_by_search;
 use num_modular::ring::{load_forms, root_fits, unload_forms};
 use num_modular::{Montgomery, Reducer};

@@ -1,6 +1,8 @@
 //! The program's body, and how it reads its words.
 
+pub use num_modular::modrun::ReducerName;
 use num_modular::modrun::run_words;
+pub use num_modular::modrun::words::REGISTERS;
 use num_modular::modrun::words::{command, number};
 use num_modular::ring::RingCommand;
 
