@@ -13,7 +13,6 @@ pub mod hashes;
 pub mod inner_products;
 pub mod keys;
 pub mod laws;
-pub mod list_inverses;
 pub mod operations;
 pub mod polynomials;
 pub mod quotients;

@@ -7,6 +7,7 @@
 
 pub mod barrett;
 pub mod laws;
+mod list_inverses;
 pub mod mersenne;
 pub mod modrun;
 pub mod monty;

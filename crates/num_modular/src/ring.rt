@@ -7,6 +7,7 @@ ghost use Rattle.modular_reduced.specs.Forms.{IsForm};
 ghost use Rattle.num_modular.specs.Ring.{whole, destination_of, outcome, value_at, IsStop};
 ghost use Rattle.num_modular.specs.Ring.{carried_out, IsFit, values_of, HoldValues, IsFormOf};
 
+pub use crate::list_inverses::invert_each;
 pub use modular_plan::roots::find_root;
 use modular_reduced::reducer::Reducer;
 pub use modular_transform::convolution::convolve;

@@ -20,8 +20,8 @@ ghost use Rattle.ring_codes.specs.Erasure.{IsEncoding, IsErasureCodeword, ArePla
 
 mod newton;
 
-use examples::list_inverses::invert_each;
 use newton::{differences_before, divide_differences, expand, fill_weights};
+use num_modular::ring::invert_each;
 use num_modular::{Reducer, RingWord};
 
 /// Why a message can't be restored.

@@ -5,11 +5,10 @@ ghost use Rattle.std.specs.Prelude.{◌≤◌};
 use examples::fermat_tests::is_shown_composite;
 use examples::generators::jump;
 use examples::keys::{keys, known_word};
-use examples::list_inverses::invert_each;
 use examples::polynomials::product_of;
 use examples::square_roots::square_root;
 use num_modular::prim::is_prime_by_search;
-use num_modular::ring::{load_forms, root_fits, unload_forms};
+use num_modular::ring::{invert_each, load_forms, root_fits, unload_forms};
 use num_modular::{Montgomery, Reducer};
 
 #[test]

@@ -1,6 +1,6 @@
 use Rattle.num_modular.specs.Callers.{◌≡◌, ℕ, ◌+◌, ◌-◌, length, ◌∙◌, arith, refl, entry_at, forms_written, done_before}
 use Rattle.num_modular.specs.Callers.{no_inverse, inverse_before, inverse_last}
-use Rattle.examples.proofs.list_inverses.invert_each.Goals as goal
+use Rattle.num_modular.proofs.list_inverses.invert_each.Goals as goal
 
 pub returns-in_default-clause-each : goal.returns-in_default-clause-each
 returns-in_default-clause-each g c =

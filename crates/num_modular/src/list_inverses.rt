@@ -1,11 +1,12 @@
 //! The inverses of all entries of a list by one inversion.
 
 ghost use Rattle.std.specs.Prelude.{◌≡◌, ℕ, ◌<◌, ◌↔◌, IsTrue, All, length};
-ghost use Rattle.num_modular.specs.Entries.{entry};
-ghost use Rattle.num_modular.specs.Forms.{IsForm};
-ghost use Rattle.num_modular.specs.Inverses.{HasInverse, IsInverse};
+ghost use Rattle.modular_laws.specs.Entries.{entry};
+ghost use Rattle.modular_reduced.specs.Forms.{IsForm};
+ghost use Rattle.modular_word.specs.Inverses.{HasInverse, IsInverse};
 
-use num_modular::{Reducer, RingWord};
+use modular_reduced::reducer::Reducer;
+use modular_word::ring_word::RingWord;
 
 /// Replaces each form by its inverse. The scratch list has unspecified contents afterwards. Returns false, with the
 /// forms unchanged, exactly where one has no inverse modulo m. Conditions: the forms are checked, and the scratch
@@ -13,7 +14,7 @@ use num_modular::{Reducer, RingWord};
 ///
 /// Source: Montgomery, "Speeding the Pollard and elliptic curve methods of factorization", section 10.3.1: the
 /// inverses come from that of the product of all forms.
-#[tactic(auto, using(num_modular::specs::Remainders::remainders, num_modular::specs::Callers::products_so_far))]
+#[tactic(auto, using(crate::specs::Remainders::remainders, crate::specs::Callers::products_so_far))]
 pub fn invert_each<T: RingWord, R: Reducer<T>>(r: &R, forms: &mut [T], products: &mut [T]) -> bool
     requires checked { All (λ f. IsForm R.form R.value (R.modulus r.now) (T.number f)) forms.old }
     requires equal { length products.old ≡ length forms.old }

@@ -1,6 +1,6 @@
 use Rattle.num_modular.specs.Callers.{ℕ, ◌-◌, ◌%◌, length, All, IsForm, IsCheckedFormOf, IsInverse}
 use Rattle.num_modular.specs.Callers.{entry, product_below, HoldBelow, DoneFrom}
-use Rattle.examples.proofs.list_inverses.invert_each.Given as goal
+use Rattle.num_modular.proofs.list_inverses.invert_each.Given as goal
 
 -- the products before each place so far
 abbrev pub invariant-forward : goal.invariant-forward
