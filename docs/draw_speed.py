@@ -120,7 +120,7 @@ def growths(growth):
     said.append(f"a product of numbers of 2^{math.log2(digits[-1]):.0f} digits of 64 bits takes {port[-1] / 1e6:.2f} ms by transforms "
                 f"and {school[-1] / 1e6:.2f} ms by the schoolbook's way")
     lengths, port, loop, windows, strings = columns(growth["searches"])
-    searches.plot(lengths, port, "o-", color=PORT, label="mersenne_hash::find", markersize=3.5)
+    searches.plot(lengths, port, "o-", color=PORT, label="hashes::find", markersize=3.5)
     searches.plot(lengths, loop, "^-", color=CRATE, label="a loop in Rust", markersize=3.5)
     searches.plot(lengths, windows, "s-", color=THIRD, label="windows(n).position", markersize=3.5)
     searches.plot(lengths, strings, ":", color=INK, label="str::find")

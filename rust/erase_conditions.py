@@ -59,8 +59,8 @@ LOOKS = {
     ("modular_prim/abs", "signed_residue_128"): ((EVERY, "m != 0"),),
     **{("modular_prim/plain_word", name): DIVISOR for name in ("quotient", "remainder", "low_quotient")},
     **{(f"modular_word/word/{word}", "nrem"): DIVISOR for word in ("w8", "w16", "w32", "w64", "wsize")},
-    ("residue_numbers/lib", "encode"): ((EVERY, "moduli.iter().all(|m| *m > 0)"), (EVERY, "residues.len() == moduli.len()")),
-    ("residue_numbers/lib", "decode"): ((DEBUG, "is_system(moduli)"), (DEBUG, "are_reduced(moduli, residues)")),
+    ("residues", "encode"): ((EVERY, "moduli.iter().all(|m| *m > 0)"), (EVERY, "residues.len() == moduli.len()")),
+    ("residues", "decode"): ((DEBUG, "is_system(moduli)"), (DEBUG, "are_reduced(moduli, residues)")),
 }
 FOUND = set()
 # Whose condition is tested by what they call: the kinds of the parts, and the names of a file's functions or of a trait's.

@@ -3,8 +3,9 @@
 
 #![allow(unstable_name_collisions)]
 
-use num_modular::applications::{residue_numbers, ring_codes};
+use num_modular::applications::ring_codes;
 use num_modular::plans::{convolve_block, convolve_planned, join, ntt_planned, plan, split, Factor, PlannedModulus};
+use num_modular::residues;
 use num_modular::ring::{convolve, ntt, ntt_counted, run, RingCommand, RunEnd};
 use num_modular::{
     DivExact, FixedMersenne, FixedMersenne32, FixedMersenne64, FixedMontgomery32, FixedProth32, FixedTrinomialSolinas32,
@@ -97,7 +98,7 @@ fn operations_modulo_0() {
     panic_with!(MODULUS; (-3i8).absm(&0u8), 3i64.absm(&0u64), (-3i128).absm(&0u128));
     panic_with!(MODULUS; 3u8.addm_ref(&4, &0), 3u64.powm_ref(&0, &0), 3u64.invm_ref(&0));
     panic_with!(DIVISOR; 35u8.div_exact(0, &()), 35u64.div_exact(0, &()), 35u128.div_exact(0, &()));
-    panic_with!("each modulus must be above 0"; residue_numbers::encode(&[0, 3], 5, &mut [0, 0]));
+    panic_with!("each modulus must be above 0"; residues::encode(&[0, 3], 5, &mut [0, 0]));
 }
 
 #[test]

@@ -2,7 +2,7 @@
 use Rattle.std.proofs.Common.{◌≡◌, ℕ, zero, suc, ◌+◌, ◌-◌, ◌*◌, ◌^◌, ◌<◌, List, [], ◌∷◌, length, get_or}
 use Rattle.std.proofs.Common.{arith, ap, sym, ◌∙◌, refl}
 use Rattle.num_modular.specs.Sums.{sum_below, polynomial}
-use Rattle.mersenne_hash.specs.Hashes.{polynomial_value}
+use Rattle.num_modular.specs.Hashes.{polynomial_value}
 
 -- a sum by its first term
 sum_first : (n : ℕ) (f : ℕ → ℕ) → sum_below (suc n) f ≡ f 0 + sum_below n (λ i. f (suc i))

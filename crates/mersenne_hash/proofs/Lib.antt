@@ -1,3 +1,2 @@
 mod Collisions
 mod Primality
-mod Windows

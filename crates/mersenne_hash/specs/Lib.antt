@@ -1,1 +1,1 @@
-pub mod Hashes
+pub mod Collisions

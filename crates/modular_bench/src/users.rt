@@ -1,7 +1,9 @@
-//! A search, by the crate of hashes that stands on this library's public clauses.
+//! A search by hashes.
 
 ghost use Rattle.std.specs.Prelude.{◌≡◌, IsTrue, None, Some};
-ghost use Rattle.mersenne_hash.specs.Hashes.{IsSearch};
+ghost use Rattle.num_modular.specs.Hashes.{IsSearch};
+
+use num_modular::hashes::{base, find};
 
 /// The first position of the pattern in the text, by hashes at the base n; false, with the position unchanged,
 /// where there is none.
@@ -10,7 +12,7 @@ pub extern "C" fn bench_find(n: u64, text: &[u8], pattern: &[u8], position: &mut
     ensures found { IsTrue result → IsSearch text.now pattern.now (Some position.new) }
     ensures absent { (IsTrue result → ⊥) → IsSearch text.now pattern.now None × (position.new ≡ position.old) }
 {
-    match mersenne_hash::find(mersenne_hash::base(n), text, pattern) {
+    match find(base(n), text, pattern) {
         Some(at) => {
             *position = at;
             true

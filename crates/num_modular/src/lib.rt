@@ -1,11 +1,13 @@
 //! Modular rings over machine words, by the names of the crate `num-modular`.
 //!
 //! The root exports the traits, types and aliases, and the bounds of generic code over them. The modules are those of
-//! the Rust crate, and five more: `ring` (lists of commands run over any reducer, and transforms), `plans` (transforms
-//! by a table), `rings` (the generic types behind the aliases), `laws`, and `modrun` (the body of the program).
+//! the Rust crate, and seven more: `ring` (lists of commands run over any reducer, and transforms), `plans` (transforms
+//! by a table), `rings` (the generic types behind the aliases), `hashes` (polynomial hashes and a search), `residues`
+//! (residue number systems), `laws`, and `modrun` (the body of the program).
 #![tactic(auto)]
 
 pub mod barrett;
+pub mod hashes;
 pub mod laws;
 mod list_inverses;
 pub mod mersenne;
@@ -16,6 +18,7 @@ pub mod preinv;
 pub mod prim;
 pub mod proth;
 pub mod reduced;
+pub mod residues;
 pub mod ring;
 pub mod rings;
 pub mod solinas;

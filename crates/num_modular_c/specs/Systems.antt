@@ -1,6 +1,6 @@
 -- Numbers by their residues, for the calls for C. The names are the library's own.
 use Rattle.std.specs.Prelude.{◌≡◌, ℕ, ◌<◌, List, length, slice_index}
-use Rattle.residue_numbers.specs.Systems.{IsSystem, AreResidues, range_of}
+use Rattle.num_modular.specs.Systems.{IsSystem, AreResidues, range_of}
 
 -- the moduli are a system, and each residue is below its modulus
 pub record IsEncoding (moduli residues : List ℕ) : Type 0 where

@@ -1,10 +1,9 @@
-//! The crates that use the library, for C: hashes and a search, numbers by their residues, and the product of long
-//! numbers.
+//! Hashes and a search, numbers by their residues, and the product of long numbers.
 
 ghost use Rattle.std.specs.Prelude.{◌≡◌, ℕ, ◌+◌, ◌*◌, ◌/◌, ◌%◌, ◌^◌, ◌<◌, ◌≤◌, ◌↔◌, IsTrue, length};
 ghost use Rattle.long_product.specs.Numbers.{number_of};
 ghost use Rattle.long_product.specs.Room.{HasRoom};
-ghost use Rattle.mersenne_hash.specs.Hashes.{polynomial_value, IsFirst, StandsAt};
+ghost use Rattle.num_modular.specs.Hashes.{polynomial_value, IsFirst, StandsAt};
 ghost use Rattle.num_modular_c.specs.Codes.{Did, Refused, BothRefused};
 ghost use Rattle.num_modular_c.specs.Systems.{IsEncoding, IsDecoded};
 
@@ -12,8 +11,9 @@ use crate::codes::{NM_BAD_ARGUMENT, NM_NOT_FOUND, NM_OK};
 use crate::plans::NmFactor;
 use long_product::{MOST_PLACES, product, room};
 use num_modular::ModularInteger;
+use num_modular::hashes::{base, find, hash as hash_at};
+use num_modular::residues::{are_reduced, decode, is_system};
 use num_modular::word::w64::split;
-use residue_numbers::{are_reduced, is_system};
 
 /// A number of two words.
 #[repr(C)]
@@ -31,7 +31,7 @@ pub struct NmDouble {
 pub extern "C" fn nm_hash(x: u64, bytes: &[u8], hash: &mut u64) -> u32
     ensures { Did result (hash.new ≡ polynomial_value bytes.now (x % 2305843009213693951) % 2305843009213693951) }
 {
-    *hash = mersenne_hash::hash(mersenne_hash::base(x), bytes).residue();
+    *hash = hash_at(base(x), bytes).residue();
     NM_OK
 }
 
@@ -43,7 +43,7 @@ pub extern "C" fn nm_find(x: u64, text: &[u8], pattern: &[u8], position: &mut us
     ensures not_found { ((i : ℕ) → StandsAt text.now pattern.now i → ⊥)
         → Refused NM_NOT_FOUND result position.old position.new }
 {
-    match mersenne_hash::find(mersenne_hash::base(x), text, pattern) {
+    match find(base(x), text, pattern) {
         Some(at) => {
             *position = at;
             NM_OK
@@ -72,7 +72,7 @@ pub extern "C" fn nm_decode(moduli: &[u64], residues: &[u64], number: &mut NmDou
     if !is_encoding(moduli, residues) {
         return NM_BAD_ARGUMENT;
     }
-    let (low, high) = split(residue_numbers::decode(moduli, residues));
+    let (low, high) = split(decode(moduli, residues));
     *number = NmDouble { low, high };
     NM_OK
 }

@@ -1,12 +1,11 @@
 -- Remainders modulo a product, seen modulo a factor of it: sums, differences and products of encodings.
 use Rattle.std.proofs.Common.{◌≡◌, ℕ, ◌+◌, ◌*◌, ◌/◌, ◌%◌, ◌<◌, List, get_or, length}
-use Rattle.std.proofs.Common.{set, below_more, sym, ap, subst, ◌∙◌, arith, pos, ◌-ℤ◌, ℤ}
+use Rattle.std.proofs.Common.{sym, ap, subst, ◌∙◌, arith, pos, ◌-ℤ◌, ℤ}
 use Rattle.std.proofs.Math.Nat.{div-add-mod, mod-eq_of_lt, mod-mod, mod-add-mod, add-mod-mod}
 use Rattle.std.proofs.lemmas.Nat.{mul-mod}
-use Rattle.std.proofs.lemmas.List.{get_or-set_same, get_or-set_other}
 use Rattle.num_modular.specs.Residues.{IsResidue, residue}
-use Rattle.residue_numbers.specs.Systems.{range_of, IsSystem, AreResidues}
-use Rattle.residue_numbers.proofs.Remainders.{divides, grows, keeps, spread, gathered, product_none}
+use Rattle.num_modular.specs.Systems.{range_of, IsSystem, AreResidues}
+use Rattle.num_modular.specs.SystemLaws.{divides, grows, keeps, spread, gathered, product_none}
 
 -- the remainder modulo the range is congruent to the number
 pub remainder_within : (range m k a : ℕ) → range ≡ m * k → a % range % m ≡ a % m
@@ -87,12 +86,3 @@ difference_encoded is_residue sum moduli left right differences x y system each 
       (range_positive moduli system) (system.positive i h)
       (sym (ap (λ n. n % m) (p.each i h) ∙ mod-mod x m)) (sym (ap (λ n. n % m) (q.each i h) ∙ mod-mod y m));
 }
-
--- a write of one place more keeps what holds of the places so far
-pub set_more : (xs : List ℕ) (place v : ℕ) (P : ℕ → ℕ → Type 0) → place < length xs
-    → ((i : ℕ) → i < place → P i (get_or xs i 0)) → P place v
-    → (i : ℕ) → i < place + 1 → P i (get_or (set xs place v) i 0)
-set_more xs place v P within before here =
-    below_more (λ i. P i (get_or (set xs place v) i 0)) place
-    (λ i h. subst (P i) (sym (get_or-set_other xs place i v 0 (λ e. omega (arith, h, e)))) (before i h))
-    (subst (P place) (sym (get_or-set_same xs place v 0 within)) here)

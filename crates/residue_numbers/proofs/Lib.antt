@@ -1,3 +1,2 @@
 mod Encodings
-mod Remainders
 mod Runs

@@ -21,8 +21,8 @@ use Rattle.num_modular.specs.declared.ring.RunEnd.TheVariants.{Done}
 use Rattle.num_modular.specs.Ring.{whole, destination_of, outcome, value_after}
 use Rattle.num_modular.specs.Ring.{value_at, LacksInverse, IsStop, carried_out}
 use Rattle.num_modular.specs.Stops.{inverted_by, NeedsInverse}
-use Rattle.residue_numbers.specs.Systems.{product_below, range_of, IsSystem, AreResidues}
-use Rattle.residue_numbers.proofs.Remainders.{divides, keeps, unit_of_all}
+use Rattle.num_modular.specs.Systems.{product_below, range_of, IsSystem, AreResidues}
+use Rattle.num_modular.specs.SystemLaws.{divides, keeps, unit_of_all}
 use Rattle.residue_numbers.proofs.Encodings.{remainder_within, sum_within, product_within}
 use Rattle.residue_numbers.proofs.Encodings.{difference_within, range_positive}
 

@@ -1,34 +1,16 @@
--- Residue number systems (Garner, "The residue number system", IRE Transactions on Electronic
+-- Systems of few moduli, and what is computed on residues
+-- (Garner, "The residue number system", IRE Transactions on Electronic
 -- Computers 8, 1959; Knuth, The Art of Computer Programming, volume 2, section 4.3.2).
-use Rattle.std.specs.Prelude.{◌≡◌, ℕ, zero, suc, ◌+◌, ◌*◌, ◌%◌, ◌^◌, ◌<◌, ◌≤◌, pos, ◌-ℤ◌, List, length, slice_index}
-use Rattle.num_modular.specs.Divisors.{Coprime}
+use Rattle.std.specs.Prelude.{ℕ, ◌+◌, ◌*◌, ◌%◌, ◌≤◌, pos, ◌-ℤ◌, List, length}
 use Rattle.num_modular.specs.Residues.{residue}
+use Rattle.num_modular.specs.Systems.{IsSystem}
 use Rattle.residue_numbers.specs.declared.system.Operation.{Operation}
 use Rattle.residue_numbers.specs.declared.system.Operation.TheVariants.{Sum, Difference, Product}
-
--- the product of the first n moduli
-unfoldable pub product_below : ℕ → List ℕ → ℕ
-product_below zero moduli = 1
-product_below (suc n) moduli = product_below n moduli * slice_index moduli n
-
--- the product of all moduli: the numbers below it have different residues
-abbrev pub range_of : List ℕ → ℕ
-range_of moduli = product_below (length moduli) moduli
-
--- the moduli are above 0, any two are coprime, and their product fits a word of 128 bits
-pub record IsSystem (moduli : List ℕ) : Type 0 where
-  pub positive : (i : ℕ) → i < length moduli → 0 < slice_index moduli i
-  pub coprime : (i j : ℕ) → j < i → i < length moduli → Coprime (slice_index moduli j) (slice_index moduli i)
-  pub fits : range_of moduli < 2 ^ 128
 
 -- the moduli are a system of at most eight
 pub record IsSmallSystem (moduli : List ℕ) : Type 0 where
   pub system : IsSystem moduli
   pub few : length moduli ≤ 8
-
--- the residues are those of x
-pub record AreResidues (moduli residues : List ℕ) (x : ℕ) : Type 0 where
-  pub each : (i : ℕ) → i < length moduli → slice_index residues i ≡ x % slice_index moduli i
 
 -- the result modulo m of an operation on residues a and b
 abbrev pub result_of : Operation → ℕ → ℕ → ℕ → ℕ

@@ -2,7 +2,7 @@
 
 ghost use Rattle.std.specs.Prelude.{◌≡◌, ℕ, ◌%◌, ◌<◌, ◌≤◌, ◌↔◌, IsTrue, IsSome, IfSome, All, length, map};
 ghost use Rattle.num_modular.specs.Ring.{whole, value_at, IsStop, IsFit};
-ghost use Rattle.residue_numbers.specs.Systems.{range_of, AreResidues};
+ghost use Rattle.num_modular.specs.Systems.{range_of, AreResidues};
 
 use crate::ResidueSystem;
 use num_modular::laws::{inverse_laws, remainder_laws, residue_laws, stop_laws};

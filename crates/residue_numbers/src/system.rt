@@ -3,11 +3,12 @@
 ghost use Rattle.std.specs.Prelude.{◌≡◌, ℕ, ◌+◌, ◌*◌, ◌%◌, ◌<◌, ◌≤◌, ◌↔◌, IsSome};
 ghost use Rattle.std.specs.Prelude.{IfSome, length, slice_index, pos, ◌-ℤ◌};
 ghost use Rattle.num_modular.specs.Residues.{residue};
-ghost use Rattle.residue_numbers.specs.Systems.{range_of, IsSmallSystem, AreResidues, result_of};
+ghost use Rattle.num_modular.specs.Systems.{range_of, AreResidues};
+ghost use Rattle.residue_numbers.specs.Systems.{IsSmallSystem, result_of};
 
-use crate::{decode, encode, is_system};
 use num_modular::ModularCoreOps;
 use num_modular::laws::residue_laws;
+use num_modular::residues::{decode, encode, is_system};
 
 /// A residue number system: up to eight moduli above 0, any two of which are coprime, and whose product, the range,
 /// is below 2^128.

@@ -1,6 +1,6 @@
 use Rattle.std.proofs.Common.{◌≡◌, ℕ, ◌%◌, ◌<◌, get_or}
 use Rattle.num_modular.specs.Mersenne.{mersenne}
-use Rattle.mersenne_hash.specs.Hashes.{hash_of}
+use Rattle.mersenne_hash.specs.Collisions.{hash_of}
 use Rattle.mersenne_hash.proofs.same_hashes.Given as goal
 
 -- the hashes at the bases so far are the same

@@ -1,7 +1,8 @@
 //! Hashes and searches, with known values from other sources.
 
-use mersenne_hash::{Hash, base, find, hash, moved, same_hashes};
+use mersenne_hash::same_hashes;
 use num_modular::ModularInteger;
+use num_modular::hashes::{Hash, base, find, hash, moved};
 
 // A text, a pattern, and the first position where it occurs.
 const SEARCHES: [(&[u8], &[u8], Option<usize>); 14] = [

@@ -1,7 +1,8 @@
 //! Numbers by their residues, with known values from other sources.
 
+use num_modular::residues::{are_reduced, decode, encode, is_system};
 use num_modular::ring::{RingCommand, commands_fit};
-use residue_numbers::{ResidueSystem, are_reduced, decode, encode, is_system};
+use residue_numbers::ResidueSystem;
 
 // Whether the moduli are a system in which the number has these residues, and is decoded from them.
 fn there_and_back(moduli: &[u64], number: u128, residues: &[u64]) -> bool {

@@ -1,6 +1,6 @@
 use Rattle.std.proofs.Common.{◌≡◌, ◌<◌, arith, get_or, length}
 use Rattle.residue_numbers.specs.Systems.{result_of}
-use Rattle.residue_numbers.proofs.Encodings.{set_more}
+use Rattle.num_modular.specs.SystemLaws.{set_more}
 use Rattle.residue_numbers.proofs.system.ResidueSystem.combine.Goals as goal
 
 pub moduli-preserved : goal.moduli-preserved

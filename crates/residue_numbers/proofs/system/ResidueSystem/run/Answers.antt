@@ -1,7 +1,7 @@
 use Rattle.std.proofs.Common.{◌≡◌, ℕ, ◌<◌, List, arith, get_or, length, map, refl, below_more}
 use Rattle.std.proofs.lemmas.Bool.{false≢true}
 use Rattle.num_modular.specs.Ring.{whole, value_at, IsStop}
-use Rattle.residue_numbers.proofs.Encodings.{set_more}
+use Rattle.num_modular.specs.SystemLaws.{set_more}
 use Rattle.residue_numbers.proofs.Runs.{Laws, starts, never_whole, residues_whole, never_within}
 use Rattle.residue_numbers.proofs.system.ResidueSystem.run.Goals as goal
 
