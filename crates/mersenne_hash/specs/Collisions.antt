@@ -3,16 +3,16 @@ use Rattle.std.specs.Prelude.{◌≡◌, ◌≢◌, ℕ, ◌%◌, ◌<◌, List,
 use Rattle.num_modular.specs.Hashes.{polynomial_value}
 use Rattle.num_modular.specs.Mersenne.{mersenne}
 
--- the hash of a text at a base: that value modulo 2^61 - 1
+-- the hash of a text at a base: the value of its polynomial there, modulo 2^61 - 1
 abbrev pub hash_of : List ℕ → ℕ → ℕ
 hash_of text base = polynomial_value text base % mersenne 61 1
 
--- the n bases x 0, .., x (n - 1) are apart: no two leave the same modulo 2^61 - 1
+-- the n bases x 0, .., x (n - 1) are different modulo 2^61 - 1
 pub record AreApart (n : ℕ) (x : ℕ → ℕ) : Type 0 where
   pub apart : (i j : ℕ) → i < n → j < n → i ≢ j → x i % mersenne 61 1 ≢ x j % mersenne 61 1
 
--- two texts of n symbols below 2^61 - 1 that have the same hash at n bases that are apart are one text: so of the bases
--- 0 to 2^61 - 2 fewer than n give two different ones the same hash
+-- two texts of n symbols below 2^61 - 1 that have the same hash at n different bases are equal: so fewer than n of
+-- the bases 0 to 2^61 - 2 give two different texts the same hash
 abbrev pub FewCollisions : Type 0
 FewCollisions = (s t : List ℕ) (x : ℕ → ℕ) → length s ≡ length t → AreApart (length s) x
     → All (λ c. c < mersenne 61 1) s → All (λ c. c < mersenne 61 1) t
