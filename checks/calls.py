@@ -16,9 +16,8 @@ ENDS = {
     if re.search(rf"^{name} staticlib:", (TOP / "crates.txt").read_text(), re.M)
     or not (TOP / f"crates/{name}/src/lib.rt").exists()
 }
-# Measured functions stand on the whole library, which would have to be proved for them alone; `fold_callers` names
-# types by aliases with numbers put in, which aren't resolved here.
-LEFT_OUT = {"modular_bench", "fold_callers"}
+# Measured functions stand on the whole library, which would have to be proved for them alone.
+LEFT_OUT = {"modular_bench"}
 FUNCTION = re.compile(r"^( *)(?:pub(?:\(crate\))? )?fn (\w+)", re.M)
 HOLDER = re.compile(r"^(?:pub )?(impl|trait)\b(.*)\{$", re.M)
 CLAUSE = re.compile(r"\b(?:requires|ensures)\b[^{]*\{")

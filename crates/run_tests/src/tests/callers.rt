@@ -2,7 +2,7 @@
 
 use num_modular::ring::{RingCommand, RunEnd};
 use num_modular::{Reducer, Vanilla};
-use run_callers::{checked_run, residue_by_run, run_both, run_to_the_end};
+use run_misuse::runs::{checked_run, residue_by_run, run_both, run_to_the_end};
 use std::test::Fail;
 
 #[test]

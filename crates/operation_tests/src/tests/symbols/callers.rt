@@ -1,9 +1,9 @@
 //! Known values, computed by hand, of the code that is generic over the traits.
 
-use operation_callers::operations::{
+use misuse::operations::{
     difference, divided, inverse, power, product_and_sum, quotient, signed, square_of_double,
 };
-use operation_callers::symbols::{
+use misuse::symbols::{
     jacobi_of_seven, legendre_of_three, product_symbol, product_symbol_ref, symbols_of_8_bits,
     symbols_of_64_bits,
 };
