@@ -66,13 +66,13 @@ none_selected n a b = record {
 }
 
 -- 0 where two symbols are equal, 1 where they aren't
-abbrev counted : ℕ → ℕ → ℕ
+abbrev pub counted : ℕ → ℕ → ℕ
 counted x y = cond (eqb x y) 0 1
 
-counted_same : (x y : ℕ) → x ≡ y → counted x y ≡ 0
+pub counted_same : (x y : ℕ) → x ≡ y → counted x y ≡ 0
 counted_same x y e = elim (eqb_tells x y) [ inl p ↦ rw p.0 refl | inr p ↦ absurd (p.1 e) ]
 
-counted_other : (x y : ℕ) → x ≢ y → counted x y ≡ 1
+pub counted_other : (x y : ℕ) → x ≢ y → counted x y ≡ 1
 counted_other x y o = elim (eqb_tells x y) [ inl p ↦ absurd (o p.1) | inr p ↦ rw p.0 refl ]
 
 no_distance : (n : ℕ) (a b : ℕ → ℕ) → ((i : ℕ) → i < n → a i ≡ b i) → distance n a b ≡ 0

@@ -296,8 +296,10 @@ pub fn restore<T: RingWord, R: Reducer<T>>(
     }
 }
 
-/// The words of two messages of k symbols that differ modulo m differ in at least n - k + 1 of n symbols, and so do
-/// two different words. So changing at most n - k symbols of a word never gives a word.
+/// The words of two messages of k symbols that differ modulo m differ in at least n - k + 1 of n symbols,
+/// and so do two words that differ. So a change of at most n - k symbols of a word is never a word. The bound
+/// is met: where k is at least 1 and m at least 2, the words of two messages that differ modulo m differ in
+/// exactly n - k + 1 symbols, as those of (X - p_1)·..·(X - p_(k-1)) and of 0 do.
 ///
 /// Source: Reed and Solomon, "Polynomial codes over certain finite fields"; Singleton, "Maximum distance
 /// q-nary codes".
@@ -311,6 +313,9 @@ pub fn distance_laws()
     ensures change { (m k n : ℕ) (points word changed : ℕ → ℕ) → k ≤ n → HaveUnitDifferences m n points →
         IsErasureCodeword m k n points word → 0 < distance n word changed → distance n word changed ≤ n - k →
         IsErasureCodeword m k n points changed → ⊥ }
+    ensures met { (m k n : ℕ) (points : ℕ → ℕ) → 2 ≤ m → 1 ≤ k → k ≤ n → HaveUnitDifferences m n points →
+        (a : ℕ → ℕ) × (b : ℕ → ℕ) × (u : ℕ → ℕ) × (v : ℕ → ℕ) × IsEncoding m k n points a u ×
+        IsEncoding m k n points b v × ((i : ℕ) × (i < k) × (a i % m ≢ b i % m)) × (distance n u v ≡ n - k + 1) }
 {}
 
 /// Writes the shares of a secret, by Shamir's scheme: the values at the points of the polynomial whose constant is

@@ -1,0 +1,166 @@
+-- Two messages whose words differ at as few places as two words can: 0, and the coefficients of the product of
+-- X - x 0, .., X - x (k - 2).
+use Rattle.std.proofs.Common.{◌≡◌, ◌≢◌, ℕ, zero, suc, ◌+◌, ◌-◌, ◌*◌, ◌%◌, ◌^◌, ◌<◌, ◌≤◌, pos, ◌-ℤ◌, ap, sym, ◌∙◌, arith, refl}
+use Rattle.std.proofs.Common.{inl, inr, mod-eq_of_lt}
+use Rattle.std.proofs.Math.Nat.{zero-mod, add-mul-mod_self_left}
+use Rattle.std.proofs.lemmas.Bool.{cases_eq, cases_lt}
+use Rattle.std.proofs.lemmas.Nat.{mul-mod_first, mul-mod_second}
+use Rattle.num_modular.specs.Congruence.{Congruent}
+use Rattle.num_modular.specs.Inverses.{HasInverse}
+use Rattle.num_modular.specs.NumberLaws.{of_equal, itself, turned, chained, multiplied, cancelled}
+use Rattle.num_modular.specs.NumberLaws.{difference_and, sum_below-zero, sum_below-suc}
+use Rattle.num_modular.specs.Polynomials.{ascending_polynomial, HaveUnitDifferences}
+use Rattle.num_modular.specs.PolynomialLaws.{ascending-none, ascending-first}
+use Rattle.num_modular.specs.ProductLaws.{has_product}
+use Rattle.num_modular.specs.Products.{product_below}
+use Rattle.num_modular.specs.Residues.{residue}
+use Rattle.ring_codes.specs.Erasure.{IsEncoding, distance}
+use Rattle.ring_codes.proofs.Distances.{counted, counted_same, counted_other}
+
+-- the coefficients of the product of X + r 0, .., X + r (d - 1), the constant first
+expanded : ℕ → (ℕ → ℕ) → ℕ → ℕ
+expanded zero r zero = 1
+expanded zero r (suc i) = 0
+expanded (suc d) r zero = r d * expanded d r zero
+expanded (suc d) r (suc i) = expanded d r i + r d * expanded d r (suc i)
+
+none_behind : (d i : ℕ) (r : ℕ → ℕ) → d < i → expanded d r i ≡ 0
+unfolding expanded
+none_behind d zero r l = absurd (omega arith)
+none_behind zero (suc i) r l = refl
+none_behind (suc d) (suc i) r l =
+    let p = none_behind d i r (omega arith) in
+    let q = ap (λ v. r d * v) (none_behind d (suc i) r (omega arith)) in
+    omega (arith, p, q)
+
+-- the highest is 1
+highest : (d : ℕ) (r : ℕ → ℕ) → expanded d r d ≡ 1
+unfolding expanded
+highest zero r = refl
+highest (suc d) r =
+    let p = highest d r in
+    let q = ap (λ v. r d * v) (none_behind d (suc d) r (omega arith)) in
+    omega (arith, p, q)
+
+combined : (n : ℕ) (f g : ℕ → ℕ) (a X : ℕ)
+    → ascending_polynomial n (λ i. f i + a * g i) X ≡ ascending_polynomial n f X + a * ascending_polynomial n g X
+combined zero f g a X =
+    let p = sum_below-zero (λ i. (f i + a * g i) * X ^ i) in
+    let q = sum_below-zero (λ i. f i * X ^ i) in
+    let r = ap (λ v. a * v) (sum_below-zero (λ i. g i * X ^ i)) in
+    omega (arith, p, q, r)
+combined (suc n) f g a X =
+    let i = combined n f g a X in
+    let p = sum_below-suc n (λ i. (f i + a * g i) * X ^ i) in
+    let q = sum_below-suc n (λ i. f i * X ^ i) in
+    let r = ap (λ v. a * v) (sum_below-suc n (λ i. g i * X ^ i)) in
+    omega (arith, i, p, q, r)
+
+-- its values are the products
+value_is : (d X : ℕ) (r : ℕ → ℕ) → ascending_polynomial (suc d) (expanded d r) X ≡ product_below d (λ j. X + r j)
+unfolding expanded product_below
+value_is zero X r =
+    let f = ascending-first 0 (expanded 0 r) X in
+    let z = ap (λ v. X * v) (ascending-none (λ i. expanded 0 r (suc i)) X) in
+    omega (arith, f, z)
+value_is (suc d) X r =
+    let w : ℕ → ℕ = expanded d r in
+    let p : ℕ = ascending_polynomial (suc d) w X in
+    let first = ascending-first (suc d) (expanded (suc d) r) X in
+    let rest = ap (λ v. X * v) (combined (suc d) w (λ i. w (suc i)) (r d) X) in
+    let more = sum_below-suc (suc d) (λ i. w i * X ^ i) in
+    let none = ap (λ v. v * X ^ suc d) (none_behind d (suc d) r (omega arith)) in
+    let same : ascending_polynomial (suc (suc d)) w X ≡ p = omega (arith, more, none) in
+    let whole = ap (λ v. r d * v) (sym same ∙ ascending-first (suc d) w X) in
+    let product = ap (λ v. v * (X + r d)) (value_is d X r) in
+    omega (arith, first, rest, whole, product)
+
+-- (m - 1)·x takes the place of -x
+turned_sign : (m x : ℕ) → 0 < m → x + (m - 1) * x ≡ m * x
+turned_sign m x positive =
+    let s : suc (m - 1) ≡ m = omega arith in
+    let e : x + (m - 1) * x ≡ suc (m - 1) * x = omega arith in
+    e ∙ ap (λ k. k * x) s
+
+at_root : (m x : ℕ) → 0 < m → (x + (m - 1) * x) % m ≡ 0
+at_root m x positive =
+    let e : m * x ≡ 0 + m * x = omega arith in
+    ap (λ v. v % m) (turned_sign m x positive ∙ e) ∙ add-mul-mod_self_left 0 m x ∙ zero-mod m
+
+difference_alike : (m X x : ℕ) → 0 < m → Congruent m (residue m (pos X -ℤ pos x)) (X + (m - 1) * x)
+difference_alike m X x positive =
+    let t = turned_sign m x positive in
+    let e : X + (m - 1) * x + x ≡ X + m * x = omega (arith, t) in
+    let whole : Congruent m (X + (m - 1) * x + x) X =
+    chained (of_equal e) (record { same = add-mul-mod_self_left X m x }) in
+    cancelled x (chained (record { same = difference_and m X x positive }) (turned whole))
+
+unit_alike : (m a b : ℕ) → Congruent m a b → HasInverse m a → HasInverse m b
+unit_alike m a b e h =
+    (h.0, record { below = h.1.below; one = (multiplied (turned e) (itself h.0)).same ∙ h.1.one })
+
+unit_not_zero : (m a : ℕ) → 2 ≤ m → HasInverse m a → a % m ≢ 0
+unit_not_zero m a two h z =
+    let none : 0 * h.0 ≡ 0 = omega arith in
+    let one = sym h.1.one ∙ sym (mul-mod_first a h.0 m) ∙ ap (λ v. (v * h.0) % m) z ∙ ap (λ v. v % m) none ∙ zero-mod m in
+    let small : 1 % m ≡ 1 = mod-eq_of_lt two in
+    absurd (omega (arith, one, small))
+
+product_zero : (m n l : ℕ) (f : ℕ → ℕ) → l < n → f l % m ≡ 0 → product_below n f % m ≡ 0
+unfolding product_below
+product_zero m zero l f below none = absurd (omega arith)
+product_zero m (suc n) l f below none = elim (cases_eq l n) [
+  | inl e ↦
+      let z : product_below n f * 0 ≡ 0 = omega arith in
+      sym (mul-mod_second (product_below n f) (f n) m)
+      ∙ ap (λ v. (product_below n f * v) % m) (ap (λ k. f k % m) (sym e) ∙ none) ∙ ap (λ v. v % m) z ∙ zero-mod m
+  | inr other ↦
+      let z : 0 * f n ≡ 0 = omega arith in
+      sym (mul-mod_first (product_below n f) (f n) m)
+      ∙ ap (λ v. (v * f n) % m) (product_zero m n l f (omega arith) none) ∙ ap (λ v. v % m) z ∙ zero-mod m
+]
+
+no_value : (n X : ℕ) → ascending_polynomial n (λ i. 0) X ≡ 0
+no_value zero X = sum_below-zero (λ i. 0 * X ^ i)
+no_value (suc n) X = let s = sum_below-suc n (λ i. 0 * X ^ i) in let i = no_value n X in omega (arith, s, i)
+
+-- words that agree at the first d places alone
+agree_first : (n d : ℕ) (a b : ℕ → ℕ) → ((i : ℕ) → i < d → a i ≡ b i) → ((i : ℕ) → d ≤ i → i < n → a i ≢ b i)
+    → distance n a b ≡ n - d
+agree_first zero d a b same other =
+    let z = sum_below-zero (λ i. counted (a i) (b i)) in omega (arith, z)
+agree_first (suc n) d a b same other =
+    let s = sum_below-suc n (λ i. counted (a i) (b i)) in
+    let i = agree_first n d a b same (λ i l k. other i l (omega arith)) in
+    elim (cases_lt n d) [
+      | inl before ↦ let z = counted_same (a n) (b n) (same n before) in omega (arith, s, z, i)
+      | inr behind ↦ let z = counted_other (a n) (b n) (other n behind (omega arith)) in omega (arith, s, z, i)
+    ]
+
+pub bound_met : (m k n : ℕ) (x : ℕ → ℕ) → 2 ≤ m → 1 ≤ k → k ≤ n → HaveUnitDifferences m n x
+    → (a : ℕ → ℕ) × (b : ℕ → ℕ) × (u : ℕ → ℕ) × (v : ℕ → ℕ) × IsEncoding m k n x a u × IsEncoding m k n x b v
+    × ((i : ℕ) × (i < k) × (a i % m ≢ b i % m)) × (distance n u v ≡ n - k + 1)
+bound_met m zero n x two some few fit = absurd (omega arith)
+bound_met m (suc d) n x two some few fit =
+    let positive : 0 < m = omega arith in
+    let r : ℕ → ℕ = λ j. (m - 1) * x j in
+    let value : (i : ℕ) → ascending_polynomial (suc d) (expanded d r) (x i) % m
+    ≡ product_below d (λ j. x i + r j) % m =
+    λ i. ap (λ v. v % m) (value_is d (x i) r) in
+    let apart = agree_first n d (λ i. ascending_polynomial (suc d) (expanded d r) (x i) % m) (λ i. 0)
+    (λ i l. value i ∙ product_zero m d i (λ j. x i + r j) l (at_root m (x i) positive))
+    (λ i l k z. unit_not_zero m (product_below d (λ j. x i + r j)) two
+    (has_product m d (λ j. x i + r j) positive
+    (λ j b. unit_alike m _ _ (difference_alike m (x i) (x j) positive)
+    (fit.unit i j k (omega arith) (omega arith)))) (sym (value i) ∙ z)) in
+    let one : expanded d r d % m ≡ 1 = ap (λ v. v % m) (highest d r) ∙ mod-eq_of_lt two in
+    let none = zero-mod m in (
+      expanded d r,
+      (λ i. 0),
+      (λ i. ascending_polynomial (suc d) (expanded d r) (x i) % m),
+      (λ i. 0),
+      record { symbol = λ i l. refl },
+      record { symbol = λ i l. sym (ap (λ v. v % m) (no_value (suc d) (x i)) ∙ zero-mod m) },
+      (d, omega arith, λ same. omega (arith, one, none, same)),
+      omega (arith, apart, few),
+    )
