@@ -16,7 +16,7 @@ use Rattle.ring_codes.specs.Ibans.{IsDigit, IsLetter, AreOfOneKind, FindsEachCha
 use Rattle.ring_codes.proofs.CheckSums.{one_symbol}
 
 -- the number that digits write, by its first digit
-abbrev written : List ℕ → ℕ
+abbrev pub written : List ℕ → ℕ
 written [] = 0
 written (d ∷ ds) = d * 10 ^ length ds + written ds
 
@@ -30,7 +30,7 @@ unfolding sum_below
 sum_same zero f g h = refl
 sum_same (suc n) f g h = omega (arith, sum_same n f g (λ i l. h i (omega (arith, l))), h n (omega arith))
 
-written_is : (ds : List ℕ) → written ds ≡ polynomial (length ds) (λ i. get_or ds i 0) 10
+pub written_is : (ds : List ℕ) → written ds ≡ polynomial (length ds) (λ i. get_or ds i 0) 10
 unfolding sum_below
 written_is [] = refl
 written_is (d ∷ ds) =
@@ -45,7 +45,7 @@ written_is (d ∷ ds) =
     ap (λ k. d * 10 ^ k + written ds) top
     ∙ ap (λ v. d * 10 ^ (suc n - 1 - 0) + v) (written_is ds ∙ rest) ∙ sym (sum_first n f)
 
-written_more : (ds es : List ℕ) → written (ds ++ es) ≡ written ds * 10 ^ length es + written es
+pub written_more : (ds es : List ℕ) → written (ds ++ es) ≡ written ds * 10 ^ length es + written es
 written_more [] es = omega arith
 written_more (d ∷ ds) es =
     let power : 10 ^ length (ds ++ es) ≡ 10 ^ length ds * 10 ^ length es =
@@ -57,12 +57,12 @@ written_more (d ∷ ds) es =
 false_at : (c : ℕ) → nat_le c 57 ≡ false → c ≤ 57 → ⊥
 false_at c e h = false≢true (sym e ∙ le-leb c 57 h)
 
-digit_is : (c : ℕ) (b : Bool) → nat_le c 57 ≡ b → IsDigit c
+pub digit_is : (c : ℕ) (b : Bool) → nat_le c 57 ≡ b → IsDigit c
     → (if b then (c - 48) ∷ [] else ((c - 55) / 10) ∷ ((c - 55) % 10) ∷ []) ≡ (c - 48) ∷ []
 digit_is c true e h = refl
 digit_is c false e h = absurd (false_at c e h.1)
 
-letter_is : (c : ℕ) (b : Bool) → nat_le c 57 ≡ b → IsLetter c
+pub letter_is : (c : ℕ) (b : Bool) → nat_le c 57 ≡ b → IsLetter c
     → (if b then (c - 48) ∷ [] else ((c - 55) / 10) ∷ ((c - 55) % 10) ∷ []) ≡ ((c - 55) / 10) ∷ ((c - 55) % 10) ∷ []
 letter_is c true e h = let small = leb-true c 57 e in let large = h.0 in absurd (omega (arith, small, large))
 letter_is c false e h = refl
@@ -116,7 +116,7 @@ one_power : (k : ℕ) → 1 ^ k ≡ 1
 one_power zero = pow-zero 1
 one_power (suc k) = pow-suc 1 k ∙ ap (λ n. n * 1) (one_power k)
 
-power_unit : (k : ℕ) → HasInverse 97 (10 ^ k)
+pub power_unit : (k : ℕ) → HasInverse 97 (10 ^ k)
 power_unit k = (
   68 ^ k % 97,
   record {
@@ -158,7 +158,7 @@ same_character before behind c d kind same =
     both.second both.first (sym same) (omega (arith, at_d)) (omega (arith, at_c)))
 
 -- the index of a character of a text after its first four are moved to its end
-abbrev rotated : List ℕ → List ℕ
+abbrev pub rotated : List ℕ → List ℕ
 rotated text = drop 4 text ++ take 4 text
 
 record Place (text : List ℕ) (i : ℕ) : Type 0 where

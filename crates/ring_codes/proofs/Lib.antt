@@ -5,5 +5,6 @@ pub mod Distances
 mod Finds
 mod Ibans
 mod NearestWords
+mod Neighbours
 pub mod NewtonForms
 pub mod Symbols

@@ -1,8 +1,9 @@
 -- IBANs as their standard defines them (ISO 13616-1:2020, by ISO/IEC 7064:2003, MOD 97-10).
-use Rattle.std.specs.Prelude.{◌≡◌, ◌≢◌, ℕ, ◌<◌, slice_set, ◌+◌, ◌-◌, ◌*◌, ◌/◌, ◌%◌, ◌≤◌, ◌⊎◌, if◌then◌else◌, nat_le}
+use Rattle.std.specs.Prelude.{◌≡◌, ◌≢◌, ◌↔◌, ℕ, suc, ◌<◌, slice_set, ◌+◌, ◌-◌, ◌*◌, ◌/◌, ◌%◌, ◌≤◌, ◌⊎◌, if◌then◌else◌, nat_le}
 use Rattle.std.specs.Prelude.{List, All, [], ◌∷◌, ◌++◌, length, slice_index, take, drop}
 use Rattle.std.specs.List.{flat_map}
 use Rattle.num_modular.specs.Sums.{polynomial}
+use Rattle.ring_codes.specs.Codes.{exchanged}
 
 -- a digit 0 to 9, by its number in ASCII
 abbrev pub IsDigit : ℕ → Type 0
@@ -51,3 +52,17 @@ AreOfOneKind c d = (IsDigit c × IsDigit d) ⊎ (IsLetter c × IsLetter d)
 abbrev pub FindsEachCharacter : Type 0
 FindsEachCharacter = (text : List ℕ) (i c : ℕ) → IsIban text → i < length text
     → AreOfOneKind (slice_index text i) c → c ≢ slice_index text i → ¬ IsIban (slice_set text i c)
+
+-- 1 and B, 2 and M, or 3 and X: the letter's number is 11 times the digit, so both orders have the same residue
+-- modulo 97
+abbrev pub AreElevenfold : ℕ → ℕ → Type 0
+AreElevenfold c d = ((c ≡ 49) × (d ≡ 66)) ⊎ ((c ≡ 50) × (d ≡ 77)) ⊎ ((c ≡ 51) × (d ≡ 88))
+
+-- an exchange of two different neighbouring characters of an IBAN gives an IBAN exactly for such a digit and letter, in
+-- either order, after the check digits
+abbrev pub FindsAllButElevenfold : Type 0
+FindsAllButElevenfold = (text : List ℕ) (i : ℕ) → IsIban text → suc i < length text
+    → slice_index text i ≢ slice_index text (suc i)
+    → IsIban (exchanged text i)
+    ↔ ((4 ≤ i) × (AreElevenfold (slice_index text i) (slice_index text (suc i))
+    ⊎ AreElevenfold (slice_index text (suc i)) (slice_index text i)))

@@ -296,10 +296,10 @@ pub fn restore<T: RingWord, R: Reducer<T>>(
     }
 }
 
-/// The words of two messages of k symbols that differ modulo m differ in at least n - k + 1 of n symbols,
-/// and so do two words that differ. So a change of at most n - k symbols of a word is never a word. The bound
-/// is met: where k is at least 1 and m at least 2, the words of two messages that differ modulo m differ in
-/// exactly n - k + 1 symbols, as those of (X - p_1)·..·(X - p_(k-1)) and of 0 do.
+/// The words of two messages of k symbols that differ modulo m differ in at least n - k + 1 of n symbols, and so do
+/// two different words. So changing at most n - k symbols of a word never gives a word. The bound is met: if k is at
+/// least 1 and m at least 2, the words of some two such messages differ in exactly n - k + 1 symbols, for example those
+/// of (X - p_1)·..·(X - p_(k-1)) and of 0.
 ///
 /// Source: Reed and Solomon, "Polynomial codes over certain finite fields"; Singleton, "Maximum distance
 /// q-nary codes".

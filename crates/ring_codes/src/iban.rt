@@ -137,7 +137,7 @@ fn check_number(text: &[u8]) -> u8
 /// Whether the text is an IBAN: it has the form of one, its check digits are 02 to 98, and the number that its
 /// digits form in decimal is 1 modulo 97. The length, which depends on the country, isn't tested.
 ///
-/// By `standard_finds` every change of one character to another of its kind, digit or letter, is detected. A text
+/// `standard_finds` says which changes of one character and which exchanges of two neighbours are detected. A text
 /// with the form and such check digits is an IBAN exactly where its digits are a word of `iban_code`; so every
 /// change of one of these digits and every exchange of two neighbouring digits that differ is detected too.
 pub fn accepts_iban(text: &[u8]) -> bool

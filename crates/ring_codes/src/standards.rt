@@ -2,7 +2,7 @@
 
 ghost use Rattle.std.specs.Prelude.{◌≡◌, ℕ, ◌≤◌, [], ◌∷◌, map};
 ghost use Rattle.ring_codes.specs.Codes.{code_of, FindsEachChange, FindsEachExchange, FindsAllButFives};
-ghost use Rattle.ring_codes.specs.Ibans.{FindsEachCharacter};
+ghost use Rattle.ring_codes.specs.Ibans.{FindsEachCharacter, FindsAllButElevenfold};
 ghost use Rattle.ring_codes.specs.Standards.{ean_8, ean_13, isbn_10, isbn_13, issn, upc_a, mod_97_10};
 
 use crate::Code;
@@ -71,8 +71,9 @@ pub fn standard_codes() -> [Code<'static>; 6]
 
 /// What these codes detect. All: every change of one symbol. ISBN-10, ISSN and the digits of an IBAN: every
 /// exchange of two neighbours that differ. ISBN-13, EAN and UPC: every such exchange, except of symbols that differ
-/// by 5. An IBAN as text: every change of one character to another of its kind, digit or letter. The exchange of a
-/// digit and a letter may be missed: 1B and B1 have the same residue.
+/// by 5. An IBAN as text: every change of one character to another of its kind, digit or letter, and every exchange
+/// of two neighbours that differ, except of 1 and B, of 2 and M, and of 3 and X after the check digits; none of these
+/// is detected.
 pub fn standard_finds()
     ensures changes_modulo_11 { FindsEachChange isbn_10 × FindsEachChange issn }
     ensures changes_modulo_10 { FindsEachChange isbn_13 × FindsEachChange ean_13 × FindsEachChange ean_8
@@ -82,4 +83,5 @@ pub fn standard_finds()
         × FindsAllButFives upc_a }
     ensures iban { (n : ℕ) → n ≤ 68 → FindsEachChange (mod_97_10 n) × FindsEachExchange (mod_97_10 n) }
     ensures characters { FindsEachCharacter }
+    ensures neighbours { FindsAllButElevenfold }
 {}

@@ -177,6 +177,40 @@ fn published_ibans(rt: HostRuntime) {
     assert!(rt; !accepts_iban(b"NL91ABNB0417164300"));
 }
 
+// Whether the text is an IBAN, and so is the same with two neighbours that differ exchanged, exactly at
+// these places.
+fn misses_exchanges(text: &[u8], places: &[usize]) -> bool {
+    let mut changed = [0u8; 34];
+    let count = text.len();
+    if count > 34 || !accepts_iban(text) {
+        return false;
+    }
+    changed[..count].copy_from_slice(text);
+    for place in 1..count {
+        if text[place - 1] != text[place] {
+            changed.swap(place - 1, place);
+            if accepts_iban(&changed[..count]) != places.contains(&(place - 1)) {
+                return false;
+            }
+            changed.swap(place - 1, place);
+        }
+    }
+    true
+}
+
+#[test]
+fn exchanged_characters_of_an_iban(rt: HostRuntime) {
+    assert!(rt; misses_exchanges(b"GB82WEST12345698765432", &[]));
+    assert!(rt; misses_exchanges(b"FR1420041010050500013M02606", &[]));
+    // 1 and B, 2 and M, 3 and X, in both orders
+    assert!(rt; misses_exchanges(b"FR172004101005051B013M02606", &[16]));
+    assert!(rt; misses_exchanges(b"FR2920041010050500012M02606", &[20]));
+    assert!(rt; misses_exchanges(b"GB80WEX312345698765432", &[6]));
+    assert!(rt; misses_exchanges(b"FR681B2M3X0B1M2X3", &[4, 6, 8, 11, 13, 15]));
+    // 1 is the last check digit
+    assert!(rt; misses_exchanges(b"GB21B1011", &[4]));
+}
+
 #[test]
 fn check_digits_of_an_iban(rt: HostRuntime) {
     // the least and the greatest check digits, and one more that is generated
