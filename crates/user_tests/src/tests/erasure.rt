@@ -5,7 +5,8 @@ ghost use Rattle.std.specs.Prelude.{◌<◌, ◌≤◌};
 use num_modular::ring::{load_forms, unload_forms};
 use num_modular::{FixedMersenne64, Montgomery, Reducer};
 use ring_codes::erasure::{
-    RestoreError, encode, encode_systematic, is_codeword, points_fit, recover, restore, share,
+    RestoreError, encode, encode_systematic, is_codeword, points_fit, recover, restore,
+    restore_word, share,
 };
 
 const MERSENNE_PRIME: u64 = 2305843009213693951;
@@ -96,6 +97,40 @@ fn restored<R: Reducer<u64>, const N: usize, const P: usize, const K: usize>(
     }
 }
 
+// The whole word of a message of K symbols from the symbols at these places.
+fn whole_word<R: Reducer<u64>, const N: usize, const P: usize, const K: usize>(
+    r: &R,
+    points: &[u64; N],
+    places: &[usize; P],
+    symbols: &[u64; P],
+) -> Result<[u64; N], RestoreError>
+    requires { K ≤ N }
+{
+    let mut point_forms = [0; N];
+    let mut forms = [0; P];
+    let mut weights = [0; K];
+    let mut message = [0; K];
+    let mut word_forms = [0; N];
+    let mut word = [0; N];
+    load_forms(r, points, &mut point_forms);
+    load_forms(r, symbols, &mut forms);
+    match restore_word(
+        r,
+        &point_forms,
+        places,
+        &forms,
+        &mut weights,
+        &mut message,
+        &mut word_forms,
+    ) {
+        Err(error) => Err(error),
+        Ok(()) => {
+            unload_forms(r, &word_forms, &mut word);
+            Ok(word)
+        }
+    }
+}
+
 // Whether a word is that of a message of K symbols; `None` where the points don't fit.
 fn is_word<R: Reducer<u64>, const N: usize, const K: usize>(
     r: &R,
@@ -117,17 +152,39 @@ fn is_word<R: Reducer<u64>, const N: usize, const K: usize>(
     }
 }
 
-// Whether every three symbols of the word give the message.
+// Whether the symbols at three places give the message, and the whole word.
+fn restores<R: Reducer<u64>, const N: usize>(
+    r: &R,
+    points: &[u64; N],
+    word: &[u64; N],
+    message: [u64; 3],
+    places: [usize; 3],
+) -> bool
+    requires { 3 ≤ N }
+{
+    let mut symbols = [0; 3];
+    for i in 0..3 {
+        if places[i] < N {
+            symbols[i] = word[places[i]];
+        }
+    }
+    restored(r, points, &places, &symbols) == Ok(message)
+        && whole_word::<R, N, 3, 3>(r, points, &places, &symbols) == Ok(*word)
+}
+
+// Whether every three symbols of the word do.
 fn restores_from_each_three<R: Reducer<u64>, const N: usize>(
     r: &R,
     points: &[u64; N],
     word: &[u64; N],
     message: [u64; 3],
-) -> bool {
+) -> bool
+    requires { 3 ≤ N }
+{
     for a in 0..N {
         for b in a + 1..N {
             for c in b + 1..N {
-                if restored(r, points, &[a, b, c], &[word[a], word[b], word[c]]) != Ok(message) {
+                if !restores(r, points, word, message, [a, b, c]) {
                     return false;
                 }
             }
@@ -136,8 +193,8 @@ fn restores_from_each_three<R: Reducer<u64>, const N: usize>(
     true
 }
 
-// Whether the word is that of the message, every three symbols restore it, and a change of the first symbol is
-// detected.
+// Whether the word is that of the message, every three symbols give both back, and a change of the first
+// symbol is detected.
 fn has_word<R: Reducer<u64>, const N: usize>(
     r: &R,
     points: &[u64; N],
@@ -183,7 +240,7 @@ fn words_modulo_a_mersenne_prime(rt: HostRuntime) {
         40823193005218486,
     ];
     assert!(rt; has_word(&r, &points, message, word));
-    assert!(rt; restored(&r, &points, &[2, 3, 4], &[word[2], word[3], word[4]]) == Ok(message));
+    assert!(rt; restores(&r, &points, &word, message, [2, 3, 4]));
 }
 
 #[test]
@@ -239,20 +296,25 @@ fn many_symbols(rt: HostRuntime) {
         symbols[i] = word[i + 32];
     }
     assert!(rt; restored(&r, &points, &places, &symbols) == Ok(message));
+    assert!(rt; whole_word::<_, 255, 223, 223>(&r, &points, &places, &symbols) == Ok(word));
+}
+
+// Whether this error comes of these places and symbols, for a message of three symbols.
+fn refuses<const P: usize>(places: &[usize; P], symbols: &[u64; P], error: RestoreError) -> bool {
+    let points = [0, 1, 2, 3, 4, 5, 6, 7];
+    let r = Montgomery::<u64>::new(1001);
+    let message: Result<[u64; 3], RestoreError> = restored(&r, &points, places, symbols);
+    let word = whole_word::<_, 8, P, 3>(&r, &points, places, symbols);
+    message == Err(error) && word == Err(error)
 }
 
 #[test]
 fn bad_input(rt: HostRuntime) {
-    let points = [0, 1, 2, 3, 4, 5, 6, 7];
+    assert!(rt; refuses(&[0, 1], &[1, 2], RestoreError::TooFewSymbols));
+    assert!(rt; refuses(&[4, 1, 4], &[1, 2, 1], RestoreError::PlaceTwice));
+    assert!(rt; refuses(&[0, 8, 1], &[1, 2, 3], RestoreError::PlaceOutOfRange));
+    assert!(rt; refuses(&[0, 3, 7], &[1, 2, 3], RestoreError::PointsDontFit));
     let r = Montgomery::<u64>::new(1001);
-    let few: Result<[u64; 3], RestoreError> = restored(&r, &points, &[0, 1], &[1, 2]);
-    assert!(rt; few == Err(RestoreError::TooFewSymbols));
-    let twice: Result<[u64; 3], RestoreError> = restored(&r, &points, &[4, 1, 4], &[1, 2, 1]);
-    assert!(rt; twice == Err(RestoreError::PlaceTwice));
-    let outside: Result<[u64; 3], RestoreError> = restored(&r, &points, &[0, 8, 1], &[1, 2, 3]);
-    assert!(rt; outside == Err(RestoreError::PlaceOutOfRange));
-    let unfit: Result<[u64; 3], RestoreError> = restored(&r, &points, &[0, 3, 7], &[1, 2, 3]);
-    assert!(rt; unfit == Err(RestoreError::PointsDontFit));
     assert!(rt; systematic_word_of(&r, &[0, 7, 1], &[1, 2]) == None);
 }
 
