@@ -11,7 +11,7 @@
 //!
 //! Source: Reed and Solomon, "Polynomial codes over certain finite fields".
 
-ghost use Rattle.std.specs.Prelude.{◌≡◌, ◌≢◌, ℕ, ◌+◌, ◌-◌, ◌%◌, ◌<◌, ◌≤◌, ◌↔◌, IsTrue, IsOk, IfErr, IfOk, All};
+ghost use Rattle.std.specs.Prelude.{◌≡◌, ◌≢◌, ℕ, ◌+◌, ◌-◌, ◌%◌, ◌<◌, ◌≤◌, ◌↔◌, IsTrue, IsOk, IfErr, All};
 ghost use Rattle.std.specs.Prelude.{length, slice_index, slice_index_or, MatchOption};
 ghost use Rattle.num_modular.specs.Entries.{entry};
 ghost use Rattle.num_modular.specs.Forms.{IsForm};
@@ -19,10 +19,12 @@ ghost use Rattle.num_modular.specs.Polynomials.{ascending_polynomial, HaveUnitDi
 ghost use Rattle.ring_codes.specs.Erasure.{IsEncoding, IsErasureCodeword, ArePlaces, IsFault, distance};
 
 mod newton;
+mod secrets;
 
 use newton::{differences_before, divide_differences, expand, fill_weights};
 use num_modular::ring::invert_each;
 use num_modular::{Reducer, RingWord};
+pub use secrets::{ShareError, recover, share};
 
 /// Why a message can't be restored.
 #[derive(Clone, Copy, Debug, PartialEq, Eq)]
@@ -439,61 +441,3 @@ pub fn distance_laws()
         (a : ℕ → ℕ) × (b : ℕ → ℕ) × (u : ℕ → ℕ) × (v : ℕ → ℕ) × IsEncoding m k n points a u ×
         IsEncoding m k n points b v × ((i : ℕ) × (i < k) × (a i % m ≢ b i % m)) × (distance n u v ≡ n - k + 1) }
 {}
-
-/// Writes the shares of a secret, by Shamir's scheme: the values at the points of the polynomial whose constant is
-/// the secret. The caller draws the other coefficients at random. No point may be 0, where the share would be the
-/// secret. Conditions: those of `encode`.
-///
-/// It doesn't run in constant time, and it isn't proved that fewer shares reveal nothing about the secret.
-///
-/// Source: Shamir, "How to share a secret".
-pub fn share<T: RingWord, R: Reducer<T>>(r: &R, points: &[T], coefficients: &[T], shares: &mut [T])
-    requires points { All (λ f. IsForm R.form R.value (R.modulus r.now) (T.number f)) points.now }
-    requires coefficients { All (λ f. IsForm R.form R.value (R.modulus r.now) (T.number f)) coefficients.now }
-    requires room { length shares.old ≡ length points.now }
-    ensures checked { All (λ f. IsForm R.form R.value (R.modulus r.now) (T.number f)) shares.new }
-    ensures encoding { let m = R.modulus r.now in
-        IsEncoding m (length coefficients.now) (length points.now) (entry T.number R.value m points.now)
-        (entry T.number R.value m coefficients.now) (entry T.number R.value m shares.new) }
-{
-    encode(r, points, coefficients, shares);
-}
-
-/// Returns the secret from any k of its shares: the constant of the polynomial with k coefficients, which are
-/// written to `coefficients`. The errors are those of `restore`. Conditions: those of `restore`; k is at least 1.
-///
-/// Source: Shamir, "How to share a secret".
-pub fn recover<T: RingWord, R: Reducer<T>>(
-    r: &R,
-    points: &[T],
-    places: &[usize],
-    shares: &[T],
-    chosen: &mut [T],
-    weights: &mut [T],
-    coefficients: &mut [T],
-) -> Result<T, RestoreError>
-    requires points { All (λ f. IsForm R.form R.value (R.modulus r.now) (T.number f)) points.now }
-    requires shares { All (λ f. IsForm R.form R.value (R.modulus r.now) (T.number f)) shares.now }
-    requires pairs { length shares.now ≡ length places.now }
-    requires chosen { length chosen.old ≡ length coefficients.old }
-    requires weights { length weights.old ≡ length coefficients.old }
-    requires some { 0 < length coefficients.old }
-    ensures accepted { let m = R.modulus r.now in IsOk result ↔
-        (ArePlaces (length coefficients.old) (length points.now) places.now
-        × HaveUnitDifferences m (length coefficients.old)
-        (λ i. entry T.number R.value m points.now (slice_index places.now i))) }
-    ensures fault { let m = R.modulus r.now in IfErr result (λ e. IsFault m (length coefficients.old)
-        (length points.now) (entry T.number R.value m points.now) places.now e) }
-    ensures checked { IfOk result (λ secret. IsForm R.form R.value (R.modulus r.now) (T.number secret)) }
-    ensures secret { let m = R.modulus r.now in IfOk result (λ secret. (original word : ℕ → ℕ) →
-        IsEncoding m (length coefficients.old) (length points.now) (entry T.number R.value m points.now)
-        original word →
-        ((i : ℕ) → i < length coefficients.old →
-        entry T.number R.value m shares.now i ≡ word (slice_index places.now i)) →
-        R.value m (T.number secret) ≡ original 0 % m) }
-{
-    match restore(r, points, places, shares, chosen, weights, coefficients) {
-        Ok(()) => Ok(coefficients[0]),
-        Err(error) => Err(error),
-    }
-}

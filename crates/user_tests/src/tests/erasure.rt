@@ -5,7 +5,7 @@ ghost use Rattle.std.specs.Prelude.{◌<◌, ◌≤◌};
 use num_modular::ring::{load_forms, unload_forms};
 use num_modular::{FixedMersenne64, Montgomery, Reducer};
 use ring_codes::erasure::{
-    RestoreError, encode, encode_systematic, is_codeword, points_fit, recover, restore,
+    RestoreError, ShareError, encode, encode_systematic, is_codeword, points_fit, recover, restore,
     restore_word, share,
 };
 
@@ -318,39 +318,64 @@ fn bad_input(rt: HostRuntime) {
     assert!(rt; systematic_word_of(&r, &[0, 7, 1], &[1, 2]) == None);
 }
 
-// The shares of a secret at five points, and the secret from three of them.
-fn shared_and_recovered<R: Reducer<u64>>(
+// The shares of a secret at these points.
+fn shares_of<R: Reducer<u64>, const N: usize>(
     r: &R,
+    points: &[u64; N],
     coefficients: &[u64; 3],
-    places: &[usize; 3],
-) -> Option<u64> {
-    let mut points = [0; 5];
+) -> Result<[u64; N], ShareError> {
+    let mut point_forms = [0; N];
     let mut forms = [0; 3];
-    let mut shares = [0; 5];
+    let mut share_forms = [0; N];
+    let mut shares = [0; N];
+    load_forms(r, points, &mut point_forms);
+    load_forms(r, coefficients, &mut forms);
+    match share(r, &point_forms, &forms, &mut share_forms) {
+        Err(error) => Err(error),
+        Ok(()) => {
+            unload_forms(r, &share_forms, &mut shares);
+            Ok(shares)
+        }
+    }
+}
+
+// The secret from the shares at three places of five points.
+fn recovered<R: Reducer<u64>>(r: &R, shares: &[u64; 5], places: &[usize; 3]) -> Option<u64> {
+    let mut points = [0; 5];
     let mut kept = [0; 3];
+    let mut forms = [0; 3];
     let mut chosen = [0; 3];
     let mut weights = [0; 3];
     let mut restored = [0; 3];
     load_forms(r, &[1, 2, 3, 4, 5], &mut points);
-    load_forms(r, coefficients, &mut forms);
-    share(r, &points, &forms, &mut shares);
     for i in 0..3 {
         if places[i] < 5 {
-            kept[i] = r.residue(shares[places[i]]);
+            kept[i] = shares[places[i]];
         }
     }
-    let words = kept;
-    load_forms(r, &words, &mut kept);
+    load_forms(r, &kept, &mut forms);
     match recover(
         r,
         &points,
         places,
-        &kept,
+        &forms,
         &mut chosen,
         &mut weights,
         &mut restored,
     ) {
         Ok(secret) => Some(r.residue(secret)),
+        Err(_) => None,
+    }
+}
+
+// The secret from the shares at these places, of the points 1 to 5.
+fn shared_and_recovered<R: Reducer<u64>>(
+    r: &R,
+    coefficients: &[u64; 3],
+    places: &[usize; 3],
+) -> Option<u64> {
+    match shares_of(r, &[1, 2, 3, 4, 5], coefficients) {
+        Ok(shares) => recovered(r, &shares, places),
         Err(_) => None,
     }
 }
@@ -361,4 +386,8 @@ fn secrets(rt: HostRuntime) {
     assert!(rt; shared_and_recovered(&r, &[123, 456, 789], &[0, 2, 4]) == Some(123));
     assert!(rt; shared_and_recovered(&r, &[123, 456, 789], &[4, 1, 3]) == Some(123));
     assert!(rt; shared_and_recovered(&r, &[123, 456, 789], &[4, 1, 4]) == None);
+    assert!(rt; shares_of(&r, &[1, 2, 3], &[123, 456, 789]) == Ok([439, 475, 231]));
+    // at 0 the share is the secret
+    assert!(rt; shares_of(&r, &[1, 0, 2], &[123, 456, 789]) == Err(ShareError::PointZero));
+    assert!(rt; shares_of(&r, &[1, 2, 929], &[123, 456, 789]) == Err(ShareError::PointZero));
 }

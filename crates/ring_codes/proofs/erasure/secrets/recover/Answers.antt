@@ -1,5 +1,5 @@
 use Rattle.num_modular.specs.Callers.{entry_read, form_read, ◌∙◌, refl, arith}
-use Rattle.ring_codes.proofs.erasure.recover.Goals as goal
+use Rattle.ring_codes.proofs.erasure.secrets.recover.Goals as goal
 
 pub returns-in-Ok-clause-accepted : goal.returns-in-Ok-clause-accepted
 returns-in-Ok-clause-accepted g c = c.in-Ok.ensures.accepted
