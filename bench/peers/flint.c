@@ -1,5 +1,5 @@
 /* FLINT's word-sized calls, in the steps of the functions of crates/modular_bench that stand beside them, and its
- * products of polynomials. */
+ * products, values and interpolations of polynomials. */
 #include <flint/flint.h>
 #include <flint/nmod_poly.h>
 #include <flint/ulong_extras.h>
@@ -123,4 +123,27 @@ void peer_flint_multiply(void)
 ulong peer_flint_coefficient(slong i)
 {
     return nmod_poly_get_coeff_ui(product, i);
+}
+
+/* The word of a message of k symbols at n points. */
+void peer_flint_encode(ulong p, const ulong *message, slong k, const ulong *points, ulong *word, slong n)
+{
+    nmod_poly_t polynomial;
+    nmod_poly_init2(polynomial, p, k);
+    for (slong i = 0; i < k; i++)
+        nmod_poly_set_coeff_ui(polynomial, i, message[i]);
+    nmod_poly_evaluate_nmod_vec(word, polynomial, points, n);
+    nmod_poly_clear(polynomial);
+}
+
+/* A word whose first symbols were lost, from the k behind them. */
+void peer_flint_restore(ulong p, const ulong *points, const ulong *symbols, slong k, ulong *word, slong lost)
+{
+    nmod_poly_t polynomial;
+    nmod_poly_init2(polynomial, p, k);
+    nmod_poly_interpolate_nmod_vec(polynomial, points + lost, symbols, k);
+    nmod_poly_evaluate_nmod_vec(word, polynomial, points, lost);
+    for (slong i = 0; i < k; i++)
+        word[lost + i] = symbols[i];
+    nmod_poly_clear(polynomial);
 }

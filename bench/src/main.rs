@@ -7,6 +7,8 @@
 //! tables. With `--peers` before it, which the feature `peers` brings, it measures the port beside FLINT and
 //! NTL in place of all that; with `--plans` the transforms by a plan and what stands on them alone, beside GMP too.
 
+#[cfg(feature = "peers")]
+mod erasure;
 mod erased;
 mod growth;
 #[cfg(feature = "peers")]
@@ -134,9 +136,9 @@ fn beside_crate() -> Option<Report> {
 
 #[cfg(feature = "peers")]
 fn beside_peers() -> Option<Report> {
-    peers::agree().then(|| Report {
+    (peers::agree() && erasure::agree()).then(|| Report {
         machine: format!("{}, and FLINT {}", machine(), peers::version()),
-        tables: vec![peers::measured()],
+        tables: vec![peers::measured(), erasure::measured()],
         growth: Vec::new(),
     })
 }
