@@ -41,8 +41,6 @@ pub enum RestoreError {
 
 /// Whether the points fit: the difference of any two has an inverse modulo m. Condition: they are
 /// checked forms.
-///
-/// It takes n²/2 products and one inversion.
 pub fn points_fit<T: RingWord, R: Reducer<T>>(r: &R, points: &[T]) -> bool
     requires { All (λ f. IsForm R.form R.value (R.modulus r.now) (T.number f)) points.now }
     ensures { let m = R.modulus r.now in
@@ -99,7 +97,7 @@ pub fn encode<T: RingWord, R: Reducer<T>>(r: &R, points: &[T], message: &[T], wo
 /// first k values at the first k points. Returns false exactly where these points don't fit.
 ///
 /// Conditions: points and values are checked forms, at least k each, and there are k weights. The contents of
-/// `weights` and `coefficients` are ignored. It takes about 3k²/2 products and one inversion.
+/// `weights` and `coefficients` are ignored.
 ///
 /// Source: Knuth, The Art of Computer Programming, volume 2, section 4.6.4 (Newton's divided differences).
 pub fn interpolate<T: RingWord, R: Reducer<T>>(

@@ -9,10 +9,10 @@ ghost use Rattle.ring_codes.specs.Erasure.{IsEncoding, ArePlaces, IsFault};
 use super::{RestoreError, encode, restore};
 use num_modular::{Reducer, RingWord};
 
-/// Why a secret isn't shared.
+/// The reason why `share` refuses.
 #[derive(Clone, Copy, Debug, PartialEq, Eq)]
 pub enum ShareError {
-    /// One of the points is 0 modulo m: the share there would be the secret.
+    /// A point is 0 modulo m, where the share would be the secret.
     PointZero,
 }
 
@@ -30,12 +30,12 @@ fn are_nonzero<T: RingWord, R: Reducer<T>>(r: &R, points: &[T]) -> bool
     true
 }
 
-/// Puts the shares of a secret, by Shamir's scheme: the values at the points of the polynomial with the
-/// secret as its constant. The caller draws the other coefficients at random, each from 0 to m - 1. A point
-/// that is 0 modulo m is refused, since the share there is the secret: an error comes exactly then, with the
-/// shares unchanged. Conditions: those of `encode`.
+/// Writes the shares of a secret, by Shamir's scheme: the values at the points of the polynomial whose constant is
+/// the secret. The caller draws the other coefficients at random, each from 0 to m - 1. Returns an error, with the
+/// shares unchanged, exactly where a point is 0 modulo m: the share there would be the secret. Conditions: those of
+/// `encode`.
 ///
-/// It doesn't run in constant time, and it isn't proved that fewer shares tell nothing of the secret.
+/// It doesn't run in constant time, and it isn't proved that fewer shares reveal nothing about the secret.
 ///
 /// Source: Shamir, "How to share a secret".
 pub fn share<T: RingWord, R: Reducer<T>>(
@@ -63,9 +63,8 @@ pub fn share<T: RingWord, R: Reducer<T>>(
     Ok(())
 }
 
-/// Returns the secret from k of its shares, whichever these are: the constant of the polynomial with k
-/// coefficients, which are put in `coefficients`. The errors are those of `restore`. Conditions: those of
-/// `restore`; k is at least 1.
+/// Returns the secret from any k of its shares: the constant of the polynomial with k coefficients, which are
+/// written to `coefficients`. The errors are those of `restore`. Conditions: those of `restore`; k is at least 1.
 ///
 /// Source: Shamir, "How to share a secret".
 pub fn recover<T: RingWord, R: Reducer<T>>(
