@@ -2,7 +2,7 @@
 
 ghost use Rattle.std.specs.Prelude.{◌≡◌, ◌*◌, ◌%◌, ◌≤◌};
 
-use modular_even::montgomery::Montgomery;
+use modular_monty::montgomery::Montgomery;
 use modular_reduced::reducer::Reducer;
 use modular_word::ring_word::RingWord;
 

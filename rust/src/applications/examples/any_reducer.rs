@@ -1,0 +1,47 @@
+//! Computations over any reducer: stated once, for every word and every modulus.
+
+use crate::{Reducer, RingWord};
+
+/// x modulo m, by way of its form.
+#[inline]
+pub fn round_trip<T: RingWord, R: Reducer<T>>(r: &R, x: T) -> T {
+    r.residue(r.transform(x))
+}
+
+/// x·y + 1 modulo m.
+#[inline]
+pub fn product_and_one<T: RingWord, R: Reducer<T>>(r: &R, x: T, y: T) -> T {
+    let product = r.mul(&r.transform(x), &r.transform(y));
+    r.residue(r.add(&product, &r.transform(T::one())))
+}
+
+// The form of a product of two words.
+#[inline]
+fn product<T: RingWord, R: Reducer<T>>(r: &R, x: T, y: T) -> T {
+    r.mul(&r.transform(x), &r.transform(y))
+}
+
+/// The inner product of four words with four others, modulo m.
+pub fn inner_product_of_four<T: RingWord, R: Reducer<T>>(
+    r: &R,
+    x: (T, T, T, T),
+    y: (T, T, T, T),
+) -> T {
+    let left = r.add(&product(r, x.0, y.0), &product(r, x.1, y.1));
+    let right = r.add(&product(r, x.2, y.2), &product(r, x.3, y.3));
+    r.residue(r.add(&left, &right))
+}
+
+/// The first word of x, one more than its product with the first of y, and the inner product, modulo m.
+#[inline]
+pub fn three_results<T: RingWord, R: Reducer<T>>(
+    r: &R,
+    x: (T, T, T, T),
+    y: (T, T, T, T),
+) -> (T, T, T) {
+    (
+        round_trip(r, x.0),
+        product_and_one(r, x.0, y.0),
+        inner_product_of_four(r, x, y),
+    )
+}

@@ -1,0 +1,37 @@
+//! Lists of commands: the second example of the README with other registers, and with three commands.
+
+use crate::ring::{RingCommand, RunEnd, run};
+use crate::{PreMulInv2by1, Reducer};
+
+/// n modulo m, from registers that hold n.
+///
+/// # Panics
+///
+/// A debug build panics unless m is at least 1. A release build doesn't test that, and outside it
+/// panics, or returns no meaningful result.
+pub fn residue_over_copies(n: u64, m: u64) -> u64 {
+    let reducer = PreMulInv2by1::<u64>::new(m);
+    let mut registers = [reducer.transform(n); 2];
+    let end = run(&reducer, &mut registers, &[RingCommand::Load { dst: 1, n }]);
+    debug_assert!(end == RunEnd::Done, "m must be at least 1");
+    reducer.residue(registers[1])
+}
+
+/// x·n modulo m by three commands.
+///
+/// # Panics
+///
+/// A debug build panics unless m is at least 1. A release build doesn't test that, and outside it
+/// panics, or returns no meaningful result.
+pub fn product_by_commands(x: u64, n: u64, m: u64) -> u64 {
+    let reducer = PreMulInv2by1::<u64>::new(m);
+    let mut registers = [reducer.transform(0); 2];
+    let commands = [
+        RingCommand::Load { dst: 0, n: x },
+        RingCommand::Load { dst: 1, n },
+        RingCommand::Mul { dst: 1, a: 0, b: 1 },
+    ];
+    let end = run(&reducer, &mut registers, &commands);
+    debug_assert!(end == RunEnd::Done, "m must be at least 1");
+    reducer.residue(registers[1])
+}

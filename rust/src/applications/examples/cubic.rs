@@ -1,0 +1,27 @@
+//! A cubic as a list of commands.
+
+use crate::Reducer;
+use crate::ring::{RingCommand, RunEnd, run};
+
+/// x^3 + a·x + b modulo m.
+pub fn cubic<R: Reducer<u64>>(r: &R, x: u64, a: u64, b: u64) -> u64 {
+    let mut registers = [
+        r.transform(x),
+        r.transform(a),
+        r.transform(b),
+        r.transform(x),
+    ];
+    let commands = [
+        RingCommand::Pow {
+            dst: 3,
+            a: 0,
+            exp: 3,
+        },
+        RingCommand::Mul { dst: 1, a: 1, b: 0 },
+        RingCommand::Add { dst: 3, a: 3, b: 1 },
+        RingCommand::Add { dst: 3, a: 3, b: 2 },
+    ];
+    let end = run(r, &mut registers, &commands);
+    debug_assert!(end == RunEnd::Done);
+    r.residue(registers[3])
+}

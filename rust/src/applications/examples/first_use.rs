@@ -1,0 +1,57 @@
+//! The README's examples, one for each kind of use.
+
+use crate::ring::{RingCommand, RunEnd, run};
+use crate::{
+    FixedMersenne64, ModularInteger, ModularSymbols, MontgomeryInt, PreMulInv1by1, PreMulInv2by1,
+    Reducer, RingWord,
+};
+
+/// x·y + 1 modulo 97, in Montgomery's representation.
+#[inline]
+pub fn product_and_one(x: u64, y: u64) -> u64 {
+    let x = MontgomeryInt::<u64>::new(x, &97);
+    let y = x.convert(y);
+    (x * y + 1).residue()
+}
+
+/// n modulo m by a division of two words by one, as a list of commands.
+///
+/// # Panics
+///
+/// A debug build panics unless m is at least 1. A release build doesn't test that, and outside it
+/// panics, or returns no meaningful result.
+pub fn residue_by_commands(n: u64, m: u64) -> u64 {
+    let reducer = PreMulInv2by1::<u64>::new(m);
+    let mut registers = [reducer.transform(0); 2];
+    let end = run(&reducer, &mut registers, &[RingCommand::Load { dst: 1, n }]);
+    debug_assert!(end == RunEnd::Done, "m must be at least 1");
+    reducer.residue(registers[1])
+}
+
+/// x·y modulo the Mersenne prime 2^61 - 1, by folds.
+#[inline]
+pub fn product_by_folds(x: u64, y: u64) -> u64 {
+    let ring = FixedMersenne64::<61, 1>::new(&FixedMersenne64::<61, 1>::fixed_modulus());
+    ring.residue(ring.mul(&ring.transform(x), &ring.transform(y)))
+}
+
+/// Whole minutes and seconds, by the multiplier of 60 in place of a division.
+#[inline]
+pub fn minutes_and_seconds(seconds: u32) -> (u32, u32) {
+    let sixty = PreMulInv1by1::<u32>::new(60);
+    sixty.div_rem(seconds, 60)
+}
+
+/// The Jacobi symbol of x over n; `None` exactly for an even n and for 0.
+#[inline]
+pub fn symbol(x: u64, n: u64) -> Option<i8> {
+    x.checked_jacobi(&n)
+}
+
+/// x^2 + y^2 modulo any reducer's modulus.
+#[inline]
+pub fn sum_of_squares<T: RingWord, R: Reducer<T>>(ring: &R, x: T, y: T) -> T {
+    let x = ring.transform(x);
+    let y = ring.transform(y);
+    ring.residue(ring.add(&ring.sqr(x), &ring.sqr(y)))
+}

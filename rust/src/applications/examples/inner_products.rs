@@ -1,0 +1,30 @@
+//! The inner product of two lists, over any reducer.
+
+use crate::laws::range_laws;
+use crate::{Montgomery, Reducer};
+
+/// The sum of the products of the entries, modulo m.
+///
+/// # Preconditions
+///
+/// The lists have the same length. This isn't tested: outside it the call panics, or returns no
+/// meaningful result.
+pub fn inner_product<R: Reducer<u64>>(r: &R, xs: &[u64], ys: &[u64]) -> u64 {
+    range_laws();
+    let mut sum = r.transform(0);
+    'terms: for i in 0..xs.len() {
+        let product = r.mul(&r.transform(xs[i]), &r.transform(ys[i]));
+        sum = r.add(&sum, &product);
+    }
+    r.residue(sum)
+}
+
+/// The inner product of four words with four words modulo m.
+///
+/// # Preconditions
+///
+/// M is at least 1. This isn't tested: outside it the call panics, or returns no meaningful result.
+#[inline]
+pub fn inner_product_of_four(x: [u64; 4], y: [u64; 4], m: u64) -> u64 {
+    inner_product(&Montgomery::<u64>::new(m), &x, &y)
+}

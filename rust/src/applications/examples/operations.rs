@@ -1,0 +1,29 @@
+//! Generic code over the modular operations of words.
+
+use crate::{ModularOps, Montgomery, PlainWord, Reducer, UnsignedOperand};
+
+/// x·y + z modulo m.
+///
+/// # Preconditions
+///
+/// M is at least 1. This isn't tested: outside it the call panics, or returns no meaningful result.
+#[inline]
+pub fn product_and_sum<M: UnsignedOperand + Copy, T: ModularOps<T, M, T>>(
+    x: T,
+    y: T,
+    z: T,
+    m: M,
+) -> T {
+    x.mulm(y, m).addm(z, m)
+}
+
+/// x² modulo m in Montgomery's representation, for every width.
+///
+/// # Preconditions
+///
+/// M is at least 1. This isn't tested: outside it the call panics, or returns no meaningful result.
+#[inline]
+pub fn square<T: PlainWord>(x: T, m: T) -> T {
+    let r = Montgomery::<T>::of(m);
+    r.residue(r.sqr(r.transform(x)))
+}

@@ -1,0 +1,35 @@
+//! Products of polynomials with whole numbers as coefficients.
+
+use crate::Reducer;
+use crate::laws::coefficient_laws;
+use crate::ring::{convolve, load_forms, unload_forms};
+
+/// Writes the coefficients of the product of the polynomials xs and ys to `product`, the lowest first. The scratch
+/// lists have unspecified contents afterwards. Returns false, with `product` unchanged, exactly where the length n
+/// of the scratch lists has no inverse modulo m.
+///
+/// # Preconditions
+///
+/// No coefficient is above `bound`, and m is above n·bound^2, and n is at least the number of
+/// coefficients of the product, and and g is the checked form of a root that suits n. This isn't
+/// tested: outside it the call panics, or returns no meaningful result.
+#[inline]
+pub fn product_of<R: Reducer<u64>>(
+    r: &R,
+    g: u64,
+    xs: &[u64],
+    ys: &[u64],
+    product: &mut [u64],
+    left: &mut [u64],
+    right: &mut [u64],
+    bound: u64,
+) -> bool {
+    coefficient_laws();
+    load_forms(r, xs, left);
+    load_forms(r, ys, right);
+    if !convolve(r, left, right, &g) {
+        return false;
+    }
+    unload_forms(r, left, product);
+    true
+}

@@ -1,0 +1,40 @@
+//! Quotients modulo m, where the divisor must have an inverse.
+
+use crate::{ModularInteger, MontgomeryInt, VanillaInt};
+
+/// a times the inverse of b modulo m; `None` exactly where b has none.
+///
+/// # Preconditions
+///
+/// M is at least 1. This isn't tested: outside it the call panics, or returns no meaningful result.
+#[inline]
+pub fn by_inverse(a: u64, b: u64, m: u64) -> Option<u64> {
+    let b = MontgomeryInt::<u64>::new(b, &m);
+    let a = b.convert(a);
+    let i = b.inv()?;
+    Some((a * i).residue())
+}
+
+/// The number below m whose product with b is congruent to a modulo m; `None` exactly where b has no inverse.
+///
+/// # Preconditions
+///
+/// M is at least 1. This isn't tested: outside it the call panics, or returns no meaningful result.
+#[inline]
+pub fn by_operator(a: u64, b: u64, m: u64) -> Option<u64> {
+    let b = MontgomeryInt::<u64>::new(b, &m);
+    let a = b.convert(a);
+    if b.inv().is_some() {
+        Some((a / b).residue())
+    } else {
+        None
+    }
+}
+
+/// 10 / 5 modulo 21.
+#[inline]
+pub fn ten_by_five() -> u8 {
+    let ten = VanillaInt::<u8>::new(10, &21);
+    let five = VanillaInt::<u8>::new(5, &21);
+    (ten / five).residue()
+}

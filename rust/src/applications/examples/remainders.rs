@@ -1,0 +1,19 @@
+//! A number from two remainders, by the Chinese remainder theorem.
+
+use crate::laws::linear_congruence_laws;
+use crate::{ModularCoreOps, ModularUnaryOps};
+
+/// The number below m·n that is congruent to a modulo m and to b modulo n; `None` exactly where m has no inverse
+/// modulo n.
+///
+/// # Preconditions
+///
+/// M and n are at least 1. This isn't tested: outside it the call panics, or returns no meaningful
+/// result.
+pub fn from_remainders(a: u32, m: u32, b: u32, n: u32) -> Option<u64> {
+    linear_congruence_laws();
+    let a = a % m;
+    let inverse = m.invm(&n)?;
+    let steps = b.subm(a, &n).mulm(inverse, &n);
+    Some(u64::from(a) + u64::from(m) * u64::from(steps))
+}

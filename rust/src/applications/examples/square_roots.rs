@@ -1,0 +1,22 @@
+//! Square roots modulo primes that are 3 modulo 4.
+
+use crate::laws::prime_power_laws;
+use crate::{ModularPow, ModularUnaryOps};
+
+/// The power of a to the exponent (p + 1)/4 modulo p, where it is a square root of a; `None` exactly where a has no
+/// square root modulo p.
+///
+/// # Preconditions
+///
+/// P is a prime that is 3 modulo 4. This isn't tested: outside it the call panics, or returns no
+/// meaningful result.
+#[inline]
+pub fn square_root(a: u64, p: u64) -> Option<u64> {
+    prime_power_laws();
+    let root = a.powm(p / 4 + 1, &p);
+    if root.sqm(&p) == a % p {
+        Some(root)
+    } else {
+        None
+    }
+}

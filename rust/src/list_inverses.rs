@@ -1,0 +1,32 @@
+//! The inverses of all entries of a list by one inversion.
+
+use crate::modular_reduced::reducer::Reducer;
+use crate::modular_word::ring_word::RingWord;
+
+/// Replaces each form by its inverse. The scratch list has unspecified contents afterwards. Returns false, with the
+/// forms unchanged, exactly where one has no inverse modulo m.
+///
+/// Source: Montgomery, "Speeding the Pollard and elliptic curve methods of factorization", section 10.3.1: the
+/// inverses come from that of the product of all forms.
+///
+/// # Preconditions
+///
+/// The forms are checked, and the scratch list is as long. This isn't tested: outside it the call
+/// panics, or returns no meaningful result.
+pub fn invert_each<T: RingWord, R: Reducer<T>>(r: &R, forms: &mut [T], products: &mut [T]) -> bool {
+    let mut product = r.transform(T::one());
+    'forward: for i in 0..forms.len() {
+        products[i] = product;
+        product = r.mul(&product, &forms[i]);
+    }
+    let mut inverse = match r.inv(product) { Some(it) => it, None => {
+        return false;
+    } };
+    'backward: for k in 0..forms.len() {
+        let i = forms.len() - 1 - k;
+        let before = r.mul(&inverse, &forms[i]);
+        forms[i] = r.mul(&inverse, &products[i]);
+        inverse = before;
+    }
+    true
+}

@@ -1,0 +1,204 @@
+//! Reduction by folds, for every modulus near a power of two and both widths of dividends.
+
+use crate::modular_folds::fold_word::FoldWord;
+use crate::modular_prim::plain_word::PlainWord;
+use crate::modular_word::path_word::PathWord;
+use crate::modular_word::ring_word::RingWord;
+
+// One fold at the bit p: the part above it times c, plus the part below it; and 1, or 0 where the part above is 0.
+// The mask has the bits below p set.
+#[inline]
+fn fold<V: FoldWord>(v: V, p: u32, mask: V, c: V) -> (V, u32) {
+    let high = v.shift_right(p);
+    let rest = high.times(c).plus(v.masked(mask));
+    if high.is_zero_word() {
+        (rest, 0)
+    } else {
+        (rest, 1)
+    }
+}
+
+// Two folds, which suffice for a product of two numbers below 2^p where c is 1: a number below 2^p that is
+// congruent to v modulo m, and the number of folds that changed something.
+#[inline]
+fn fold_two<V: FoldWord>(v: V, p: u32, mask: V, c: V, m: V) -> (V, u32) {
+    let (first, one) = fold(v, p, mask, c);
+    let (second, two) = fold(first, p, mask, c);
+    (second, one + two)
+}
+
+// Three folds, which suffice for a product of two numbers below 2^p where c·(c + 1) is at most 2^p: a number below
+// 2^p that is congruent to v modulo m, and the number of folds that changed something.
+fn fold_three<V: FoldWord>(v: V, p: u32, mask: V, c: V, m: V) -> (V, u32) {
+    let (first, one) = fold(v, p, mask, c);
+    let (second, two) = fold(first, p, mask, c);
+    let (third, three) = fold(second, p, mask, c);
+    (third, one + two + three)
+}
+
+// Folds until the number is below 2^p, with a comparison before each.
+#[inline]
+fn fold_on<V: FoldWord>(v: V, p: u32, mask: V, c: V, m: V) -> (V, u32) {
+    let mut rest = v;
+    let mut count = 0;
+    'folds: while mask.is_below(rest) {
+        let (next, one) = fold(rest, p, mask, c);
+        rest = next;
+        count += one;
+    }
+    (rest, count)
+}
+
+/// A number below 2^p that is congruent to v modulo m, and the number of folds that led to it. Where c is small and
+/// v is at most a product of two numbers below 2^p, the folds are unrolled, without comparisons.
+///
+/// # Preconditions
+///
+/// M is 2^p - c and more than half of 2^p, and p is at most the width of the words. This isn't tested:
+/// outside it the call panics, or returns no meaningful result.
+pub fn fold_all<V: FoldWord>(v: V, p: u32, c: V, m: V) -> (V, u32) {
+    let mask = m.plus(c.minus(V::one()));
+    if !mask.is_below(v) {
+        return (v, 0);
+    }
+    if mask.is_below(v.shift_right(p)) {
+        return fold_on(v, p, mask, c, m);
+    }
+    if c == V::one() {
+        return fold_two(v, p, mask, c, m);
+    }
+    if c.shift_right(p / 2).is_zero_word() {
+        return fold_three(v, p, mask, c, m);
+    }
+    fold_on(v, p, mask, c, m)
+}
+
+// One fold at the bit p, which isn't counted. The mask has the bits below p.
+#[inline(always)]
+fn fold_once<V: FoldWord>(v: V, p: u32, mask: V, c: V) -> V {
+    v.shift_right(p).multiply_add(c, v.masked(mask))
+}
+
+// A number below 2m of the same remainder modulo m, v being at most a product of two numbers below 2^p: folds in a
+// straight line. No fold tests the number: how many it takes is known from c and p.
+#[inline(always)]
+fn fold_in_line<V: FoldWord>(v: V, p: u32, c: V, m: V) -> V {
+    let mask = m.plus(c.minus(V::one()));
+    let twice = m.plus(m);
+    let mut rest = v;
+    // The greatest value that the next fold can return.
+    let mut most = mask.times(c).plus(mask);
+    'folds: while !most.is_below(twice) {
+        rest = fold_once(rest, p, mask, c);
+        most = most.shift_right(p).times(c).plus(mask);
+    }
+    fold_once(rest, p, mask, c)
+}
+
+// v modulo m. Condition: v is below 2m.
+#[inline(always)]
+fn reduced_last<V: FoldWord>(v: V, m: V) -> V {
+    if v.is_below(m) { v } else { v.minus(m) }
+}
+
+// The same, where the borrow of v - m is a mask. LLVM computes chains of products side by side in vectors, where a
+// comparison of 64 bits takes longer than this.
+#[inline]
+fn reduced_by_borrow(v: u64, m: u32) -> u32 {
+    let (rest, borrowed) = <u32 as PathWord>::split(v.wrapping_sub(m as u64));
+    rest.wrapping_add(borrowed & m)
+}
+
+// v modulo m, where folds at the bit p by c have taken v below 2m: in the faster of the two ways.
+#[inline(always)]
+fn reduced_short(v: u64, p: u32, c: u32, m: u32) -> u32 {
+    if p < 32 || c < 1 << 16 {
+        reduced_last(v, m as u64) as u32
+    } else {
+        reduced_by_borrow(v, m)
+    }
+}
+
+/// A word whose double words can be folded: u32 or u64.
+pub trait FoldedWord: Sized + PlainWord {
+    /// A word below 2^p that is congruent to a double word modulo m, and the number of folds at the bit p by c that
+    /// led to it.
+    ///
+    /// # Preconditions
+    ///
+    /// They reduce modulo m. This isn't tested: outside it the call panics, or returns no meaningful
+    /// result.
+    fn fold_double(v: Self::Double, p: u32, c: Self, m: Self) -> (Self, u32);
+
+    /// The residue of a product of two words below 2^p, by folds at the bit p by c without comparisons of the
+    /// product.
+    ///
+    /// # Preconditions
+    ///
+    /// They reduce modulo m, and c is at most a fourth of 2^p. This isn't tested: outside it the call
+    /// panics, or returns no meaningful result.
+    #[must_use]
+    fn reduce_in_line(v: Self::Double, p: u32, c: Self, m: Self) -> Self;
+}
+
+impl FoldedWord for u32 {
+    #[inline]
+    fn fold_double(v: u64, p: u32, c: u32, m: u32) -> (u32, u32) {
+        let (rest, count) = fold_all(v, p, c as u64, m as u64);
+        (rest as u32, count)
+    }
+
+    #[inline(always)]
+    fn reduce_in_line(v: u64, p: u32, c: u32, m: u32) -> u32 {
+        reduced_short(fold_in_line(v, p, c as u64, m as u64), p, c, m)
+    }
+}
+
+impl FoldedWord for u64 {
+    #[inline]
+    fn fold_double(v: u128, p: u32, c: u64, m: u64) -> (u64, u32) {
+        let (rest, count) = fold_all(v, p, c as u128, m as u128);
+        (rest as u64, count)
+    }
+
+    #[inline(always)]
+    fn reduce_in_line(v: u128, p: u32, c: u64, m: u64) -> u64 {
+        let m = m as u128;
+        reduced_last(fold_in_line(v, p, c as u128, m), m) as u64
+    }
+}
+
+// The residue of a + b, below m. Condition: b is at most m, and the sum below 2m.
+#[inline]
+pub(crate) fn sum_once<T: PathWord>(a: T, b: T, m: T) -> T {
+    let gap = m.minus(b);
+    if a.is_below(gap) {
+        a.plus(b)
+    } else {
+        a.minus(gap)
+    }
+}
+
+/// v modulo m, and the number of folds: folds until v is below 2^p, and at most one subtraction.
+///
+/// A fold replaces v = high·2^p + low by high·c + low, which is congruent modulo m. p may be the width of a word.
+///
+/// Source: Handbook of Applied Cryptography, algorithm 14.47.
+///
+/// # Preconditions
+///
+/// M is 2^p - c and more than half of 2^p, and p is at most the width of the words. This isn't tested:
+/// outside it the call panics, or returns no meaningful result.
+#[inline]
+pub fn reduce_by_folds<T: FoldedWord>(v: T::Double, p: u32, c: T, m: T) -> (T, u32) {
+    let (rest, count) = T::fold_double(v, p, c, m);
+    (sum_once(rest, T::zero(), m), count)
+}
+
+/// A number below 2^p takes no folds. Where c is below 2^p and v = hi·2^p + lo isn't, v takes one fold more than
+/// hi·c + lo. Where c is less than half of 2^p, the number of folds is bounded by `IsFewFolds`.
+#[inline]
+pub fn fold_laws() {}
+
+#[cfg(test)]
+mod tests;

@@ -1,0 +1,116 @@
+//! Words and products of words below m, modulo an m near a power of two: by folds of their parts, without
+//! comparisons of the numbers.
+
+use crate::modular_folds::folds::{FoldedWord, reduce_by_folds, sum_once};
+use crate::modular_prim::below::reduced_once;
+use crate::modular_word::path_word::PathWord;
+use crate::modular_word::ring_word::RingWord;
+
+// The parts of high·c + low below and above the bit p. The lower part, as an argument and as a result, is shifted
+// to the top of its word, so that the two parts are the words of a double word. Condition: c is below 2^p.
+#[inline]
+fn fold_parts<T: PathWord>(low: T, high: T, p: u32, c: T) -> (T, T) {
+    let scaled = high.product(c.shift_left(T::bits() - p));
+    T::split(T::double_plus(scaled, T::merge(low, T::zero())))
+}
+
+// The residue of a + b, where m is at most 2^p. Condition: b is at most m, and the sum below 2m.
+//
+// Where p is less than the width, the sum fits a word, which saves a subtraction.
+#[inline]
+fn sum_of_parts<T: PathWord>(a: T, b: T, p: u32, m: T) -> T {
+    if p < T::bits() {
+        reduced_once(a.plus(b), m)
+    } else {
+        sum_once(a, b, m)
+    }
+}
+
+// a·b modulo m, where m is 2^p - c. Condition: a and b are below m, and c has at most half the bits of p.
+//
+// For c = 1 one fold leaves two words whose sum is below 2m. For a greater c, the part above the bit p is at most c
+// after one fold, so that the second fold needs no double words.
+fn product_by_folds<T: PathWord>(a: T, b: T, p: u32, c: T, m: T) -> T {
+    let (low, high) = fold_parts(T::zero(), a, p, b);
+    if c == T::one() {
+        return sum_of_parts(high, low.shift_right(T::bits() - p), p, m);
+    }
+    let (rest, over) = fold_parts(low, high, p, c);
+    sum_of_parts(rest.shift_right(T::bits() - p), over.times(c), p, m)
+}
+
+// Whether the words of a product are folded apart, and not the product: c has at most half the bits of p, and a double
+// word is longer than a machine word, or one fold is enough.
+#[inline]
+fn is_by_words<T: PathWord>(p: u32, c: T) -> bool {
+    c.shift_right(p / 2).is_zero_word() && (T::bits() > 32 || c == T::one())
+}
+
+/// a·b modulo m.
+///
+/// Where c is less than a fourth of 2^p, the product is folded without comparisons, by its words where that is faster.
+/// The choice depends on c and p alone.
+///
+/// Source: Handbook of Applied Cryptography, algorithm 14.47.
+///
+/// # Preconditions
+///
+/// M is 2^p - c and more than half of 2^p, and p is at most the width of the words, and a and b are
+/// below m. This isn't tested: outside it the call panics, or returns no meaningful result.
+#[inline(always)]
+pub fn reduce_product<T: FoldedWord>(a: T, b: T, p: u32, c: T, m: T) -> T {
+    if is_by_words(p, c) {
+        product_by_folds(a, b, p, c, m)
+    } else if c.shift_right(p - 2).is_zero_word() {
+        T::reduce_in_line(a.product(b), p, c, m)
+    } else {
+        reduce_by_folds(a.product(b), p, c, m).0
+    }
+}
+
+// Whether one fold at the bit p makes every word less than 2m, where m is 2^p - c. A word of p bits has nothing to
+// fold; a longer one must have fewer bits above p, together with those of c, than p.
+#[inline]
+fn is_once<T: PathWord>(p: u32, c: T) -> bool {
+    let above = T::bits() - p;
+    if above == 0 {
+        true
+    } else if above < p {
+        c.shift_right(p - 1 - above).is_zero_word()
+    } else {
+        false
+    }
+}
+
+// One fold of a word at the bit p. Condition: c is below 2^p.
+#[inline]
+fn fold_word<T: PathWord>(v: T, p: u32, c: T) -> T {
+    // Reading the word gives the proof that it fits its width.
+    let _ = v.is_zero_word();
+    if p < T::bits() {
+        let high = v.shift_right(p);
+        high.times(c).plus(v.low_bits(p))
+    } else {
+        v
+    }
+}
+
+/// v modulo m.
+///
+/// Where one fold makes every word less than 2m, no double word is folded and v isn't compared. The choice depends
+/// on c and p alone.
+///
+/// Source: Handbook of Applied Cryptography, algorithm 14.47.
+///
+/// # Preconditions
+///
+/// M is 2^p - c and more than half of 2^p, and p is at most the width of the words. This isn't tested:
+/// outside it the call panics, or returns no meaningful result.
+#[inline]
+pub fn reduce_word<T: FoldedWord>(v: T, p: u32, c: T, m: T) -> T {
+    if is_once(p, c) {
+        reduced_once(fold_word(v, p, c), m)
+    } else {
+        reduce_by_folds(T::merge(v, T::zero()), p, c, m).0
+    }
+}

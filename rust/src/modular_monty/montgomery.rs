@@ -1,0 +1,191 @@
+//! The reducer by Montgomery's representation, for every modulus.
+
+use crate::modular_monty::odd_ring::{OddModulus, OddRing, StoredModulus};
+use crate::modular_prim::inverse::fast_inverse;
+use crate::modular_prim::plain_word::PlainWord;
+use crate::modular_reduced::reducer::Reducer;
+use crate::modular_word::path_word::PathWord;
+use crate::modular_word::ring_word::RingWord;
+
+/// The reducer of a modulus m that is at least 1, by Montgomery's representation. With m = 2^s·k for odd k, and the
+/// base 2 to the width of the words, the form of v has two parts. Its lowest s bits are v modulo 2^s, and the bits
+/// above them are v times the base, modulo k. So for odd m the form is v times the base, modulo m.
+///
+/// A product of forms takes one product of words and one reduction, which divides by the base alone, and for even m
+/// one more wrapping product.
+///
+/// Source: Handbook of Applied Cryptography, section 14.3.2; for even m Koç, "Montgomery reduction with even modulus".
+#[derive(Debug)]
+#[must_use]
+pub struct Montgomery<T> {
+    // The ring modulo k.
+    pub(crate) odd: OddRing<T, StoredModulus<T>>,
+    // The exponent s.
+    pub(crate) twos: u32,
+}
+
+impl<T: PlainWord> Clone for Montgomery<T> {
+    #[inline]
+    fn clone(&self) -> Self {
+        *self
+    }
+}
+
+impl<T: PlainWord> Copy for Montgomery<T> {}
+
+impl<T: PlainWord> Montgomery<T> {
+    /// The reducer of a modulus m.
+    ///
+    /// # Panics
+    ///
+    /// Panics unless the modulus is at least 1.
+    #[inline]
+    pub fn of(m: T) -> Self {
+        assert!(!m.is_zero_word(), "the modulus must be at least 1");
+        let twos = m.trailing_zeros();
+        Montgomery {
+            odd: OddRing::new(&m.shift_right(twos)),
+            twos,
+        }
+    }
+
+    /// What is precomputed of m: the negated inverse of its odd part modulo the base, and the square of the base
+    /// modulo that part.
+    #[inline]
+    pub fn computed_once(&self) -> (T, T) {
+        (self.odd.kept.negated_inverse, self.odd.kept.square)
+    }
+
+    /// The reducer of m, given the two numbers that `computed_once` returned for m; `None` exactly where m is 0 or
+    /// a number is wrong. It makes no division.
+    pub fn restored(m: T, negated_inverse: T, square: T) -> Option<Self> {
+        if m.is_zero_word() {
+            return None;
+        }
+        let twos = m.trailing_zeros();
+        let kept = StoredModulus::<T>::restored(m.shift_right(twos), negated_inverse, square)?;
+        Some(Montgomery {
+            odd: OddRing::over(kept),
+            twos,
+        })
+    }
+
+    // The part of a form above the lowest s bits.
+    #[inline]
+    fn high(&self, f: T) -> T {
+        f.shift_right(self.twos)
+    }
+
+    // The form with `high` above the lowest s bits, and the lowest s bits of `low` in them.
+    #[inline]
+    fn join(&self, high: T, low: T) -> T {
+        high.shift_left(self.twos).plus(low.low_bits(self.twos))
+    }
+}
+
+// Each method tests s first, so that odd moduli are as fast as without the second part.
+impl<T: PlainWord> Reducer<T> for Montgomery<T> {
+    #[inline]
+    fn new(m: &T) -> Self {
+        Montgomery::of(*m)
+    }
+
+    #[inline]
+    fn transform(&self, n: T) -> T {
+        let high = self.odd.transform(n);
+        if self.twos == 0 {
+            return high;
+        }
+        self.join(high, n)
+    }
+
+    #[inline]
+    fn check(&self, f: &T) -> bool {
+        f.is_below(self.modulus())
+    }
+
+    #[inline]
+    fn modulus(&self) -> T {
+        self.odd.modulus().shift_left(self.twos)
+    }
+
+    // The value modulo the odd part k, plus the multiple of k that makes the lowest s bits right.
+    fn residue(&self, f: T) -> T {
+        if self.twos == 0 {
+            return self.odd.residue(f);
+        }
+        let value = self.odd.residue(self.high(f));
+        let behind = value.wrapping_sub(f);
+        let steps = behind
+            .wrapping_mul(self.odd.kept.negated_inverse)
+            .low_bits(self.twos);
+        value.plus(self.odd.kept.modulus.times(steps))
+    }
+
+    #[inline]
+    fn is_zero(&self, f: &T) -> bool {
+        f.is_zero_word()
+    }
+
+    fn add(&self, a: &T, b: &T) -> T {
+        if self.twos == 0 {
+            return self.odd.add(a, b);
+        }
+        let high = self.odd.add(&self.high(*a), &self.high(*b));
+        self.join(high, a.wrapping_add(*b))
+    }
+
+    #[inline]
+    fn dbl(&self, f: T) -> T {
+        self.add(&f, &f)
+    }
+
+    fn sub(&self, a: &T, b: &T) -> T {
+        if self.twos == 0 {
+            return self.odd.sub(a, b);
+        }
+        let high = self.odd.sub(&self.high(*a), &self.high(*b));
+        self.join(high, a.wrapping_sub(*b))
+    }
+
+    #[inline]
+    fn neg(&self, f: T) -> T {
+        self.sub(&T::zero(), &f)
+    }
+
+    fn mul(&self, a: &T, b: &T) -> T {
+        if self.twos == 0 {
+            return self.odd.mul(a, b);
+        }
+        let high = self.odd.mul(&self.high(*a), &self.high(*b));
+        self.join(high, a.wrapping_mul(*b))
+    }
+
+    #[inline]
+    fn mul_difference(&self, a: &T, b: &T, factor: &T) -> T {
+        if self.twos == 0 {
+            return self.odd.mul_difference(a, b, factor);
+        }
+        let difference = self.sub(a, b);
+        self.mul(&difference, factor)
+    }
+
+    // The form of the inverse of the value.
+    #[inline]
+    fn inv(&self, f: T) -> Option<T> {
+        match fast_inverse(self.residue(f), self.modulus()) {
+            Some(x) => Some(self.transform(x)),
+            None => None,
+        }
+    }
+
+    #[inline]
+    fn sqr(&self, f: T) -> T {
+        self.mul(&f, &f)
+    }
+}
+
+/// The two parts of a modulus are an odd number and a power of two. For an odd modulus the form of a value is the
+/// value times the base, modulo m.
+#[inline]
+pub fn form_laws<T: RingWord>() {}

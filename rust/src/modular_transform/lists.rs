@@ -1,0 +1,29 @@
+//! Conversion of lists of words to lists of forms, and back.
+
+use crate::modular_reduced::reducer::Reducer;
+use crate::modular_word::ring_word::RingWord;
+
+/// Stores the forms of the words, and the form of 0 at each place after the last word. Words that exceed the length
+/// of `forms` are ignored.
+///
+/// The result is what `convolve` and `ntt` take: the values are the residues of the words.
+#[inline]
+pub fn load_forms<T: RingWord, R: Reducer<T>>(r: &R, words: &[T], forms: &mut [T]) {
+    'entries: for i in 0..forms.len() {
+        let word = if i < words.len() { words[i] } else { T::zero() };
+        forms[i] = r.transform(word);
+    }
+}
+
+/// Stores the values of the first forms, each below the modulus.
+///
+/// # Preconditions
+///
+/// The forms are checked, and at least as many as the places. This isn't tested: outside it the call
+/// panics, or returns no meaningful result.
+#[inline]
+pub fn unload_forms<T: RingWord, R: Reducer<T>>(r: &R, forms: &[T], words: &mut [T]) {
+    'entries: for i in 0..words.len() {
+        words[i] = r.residue(forms[i]);
+    }
+}

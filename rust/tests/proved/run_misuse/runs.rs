@@ -1,0 +1,53 @@
+//! Callers of `run`, proved from its contract alone.
+
+use num_modular::modular_reduced::reducer::Reducer;
+use num_modular::modular_word::ring_word::RingWord;
+use num_modular::laws::stop_laws;
+use num_modular::ring::{RingCommand, RunEnd, all_checked, commands_fit, run};
+
+/// Runs commands whose preconditions hold; `None` exactly where a register holds no checked form or a register
+/// number is too large, with the registers unchanged.
+pub fn checked_run<T: RingWord, R: Reducer<T>>(
+    r: &R,
+    regs: &mut [T],
+    commands: &[RingCommand<T>],
+) -> Option<RunEnd> {
+    if all_checked(r, regs) && commands_fit(commands, regs.len()) {
+        Some(run(r, regs, commands))
+    } else {
+        None
+    }
+}
+
+/// Runs the same commands over two reducers of one modulus, from equal residues.
+///
+/// Both runs stop at the same command and leave equal residues, whatever the forms and the words are.
+pub fn run_both<T: RingWord, U: RingWord, R: Reducer<T>, S: Reducer<U>>(
+    left: &R,
+    right: &S,
+    left_regs: &mut [T],
+    right_regs: &mut [U],
+    left_commands: &[RingCommand<T>],
+    right_commands: &[RingCommand<U>],
+) -> (RunEnd, RunEnd) {
+    let left_end = run(left, left_regs, left_commands);
+    let right_end = run(right, right_regs, right_commands);
+    (left_end, right_end)
+}
+
+/// Runs commands of which none needs an inverse, so that all are carried out.
+pub fn run_to_the_end<T: RingWord, R: Reducer<T>>(
+    r: &R,
+    regs: &mut [T],
+    commands: &[RingCommand<T>],
+) {
+    stop_laws::<T>();
+    let _ = run(r, regs, commands);
+}
+
+/// The residue of n modulo the reducer's modulus, by one command on three registers.
+pub fn residue_by_run<R: Reducer<u64>>(r: &R, n: u64) -> u64 {
+    let mut regs = [r.transform(0); 3];
+    let _ = run(r, &mut regs, &[RingCommand::Load { dst: 2, n }]);
+    r.residue(regs[2])
+}

@@ -1,0 +1,16 @@
+//! Callers of transforms, proved from their contracts and the public laws alone.
+
+use num_modular::modular_reduced::reducer::Reducer;
+use num_modular::modular_transform::convolution::scale;
+use num_modular::modular_transform::laws::transform_laws;
+use num_modular::modular_transform::transform::ntt;
+use num_modular::modular_word::ring_word::RingWord;
+
+/// The transform by g and then by its inverse, each entry times the inverse `part` of the length: every entry has
+/// its former value.
+pub fn there_and_back<T: RingWord, R: Reducer<T>>(r: &R, xs: &mut [T], g: &T, inverse: &T, part: &T) {
+    transform_laws();
+    ntt(r, xs, g);
+    ntt(r, xs, inverse);
+    scale(r, xs, part);
+}

@@ -1,0 +1,123 @@
+//! Known products from other sources, by digits of 16 bits packed four to a word, and slices that are too short.
+
+use num_modular::applications::long_product::{product, transform_length};
+use num_modular::plans::Factor;
+
+const NONE: Factor<u64> = Factor::<u64>::ZERO;
+
+// Two factors and their product, computed with another program: 20! and 40!/20!, 50! and 100!/50!, and 2^48 - 1
+// squared.
+const ROWS: &[(&[u16], &[u16], &[u16])] = &[
+    (
+        &[0, 33460, 26492, 8643],
+        &[0, 34960, 20943, 52182, 10521, 15265, 4],
+        &[
+            0, 0, 9536, 65285, 56932, 2063, 62078, 33991, 59419, 36586, 0,
+        ],
+    ),
+    (
+        &[
+            0, 0, 32768, 53959, 29601, 20313, 6568, 62093, 7924, 45099, 53881, 38430, 61116, 73,
+        ],
+        &[
+            0, 0, 0, 56972, 42741, 20887, 8310, 34913, 53210, 36024, 55759, 32090, 19983, 38255,
+            45125, 23429, 61756, 9527, 9685, 94,
+        ],
+        &[
+            0, 0, 0, 0, 0, 0, 50714, 10037, 746, 61067, 11986, 46007, 50924, 37920, 3274, 17751,
+            14615, 57104, 12828, 37946, 46514, 60193, 39536, 26351, 5865, 41997, 19389, 10453,
+            1685, 56356, 50069, 38478, 6960, 0,
+        ],
+    ),
+    (
+        &[65535, 65535, 65535],
+        &[65535, 65535, 65535],
+        &[1, 0, 0, 65534, 65535, 65535],
+    ),
+];
+
+// The digits of 64 bits of the number with these digits of 16 bits.
+fn packed(digits: &[u16]) -> [u64; 32] {
+    let mut words = [0; 32];
+    for place in 0..digits.len().min(128) {
+        words[place / 4] |= (digits[place] as u64) << (16 * (place % 4));
+    }
+    words
+}
+
+// Compares the digits of a product with those that are known, which all have 16 bits.
+fn is_product(xs: &[u16], ys: &[u16], known: &[u16]) -> bool {
+    let (x, y) = (packed(xs), packed(ys));
+    let (x, y) = (
+        &x[..xs.len().min(64).div_ceil(4)],
+        &y[..ys.len().min(64).div_ceil(4)],
+    );
+    let places = x.len() + y.len();
+    let (mut digits, mut words, mut factors) = ([7; 32], [7; 64], [NONE; 64]);
+    product(x, y, &mut digits[..places], &mut words, &mut factors)
+        && digits[..places] == packed(known)[..places]
+}
+
+#[test]
+fn known_products() {
+    for (xs, ys, known) in ROWS {
+        assert!(is_product(xs, ys, known));
+    }
+}
+
+// The square of 2^(16n) - 1 is 2^(32n) - 2^(16n + 1) + 1.
+#[test]
+fn squares_of_all_ones() {
+    let ones = [65535; 64];
+    for n in [1, 2, 5, 31, 32, 33, 64] {
+        let mut known = [0; 128];
+        let (xs, places) = (&ones[..n], 2 * n);
+        for i in 0..places {
+            known[i] = match i {
+                0 => 1,
+                _ if i < n => 0,
+                _ if i == n => 65534,
+                _ => 65535,
+            };
+        }
+        assert!(is_product(xs, xs, &known[..places]), "{places} places");
+    }
+}
+
+// Short factors take no room but that of the digits.
+#[test]
+fn room() {
+    let (xs, ys) = ([1, 2, 3], [4, 5]);
+    for (places, left, right, fits) in [
+        (5, 8, 8, true),
+        (5, 9, 16, true),
+        (4, 8, 8, false),
+        (6, 8, 8, false),
+        (5, 7, 8, true),
+        (5, 8, 7, true),
+    ] {
+        let (mut digits, mut first, mut second) = ([7; 16], [7; 16], [NONE; 16]);
+        let done = product(
+            &xs,
+            &ys,
+            &mut digits[..places],
+            &mut first[..left],
+            &mut second[..right],
+        );
+        assert_eq!(done, fits);
+        assert_eq!(digits[0], if fits { 4 } else { 7 });
+    }
+    let mut none = [0; 1];
+    assert!(product(&[], &[], &mut [], &mut none, &mut [NONE]));
+    assert!(product::<Factor<u64>>(&[], &[], &mut [], &mut none, &mut []));
+    assert_eq!(
+        (
+            transform_length(0),
+            transform_length(5),
+            transform_length(10),
+            transform_length(64),
+            transform_length(4294967296)
+        ),
+        (1, 8, 16, 64, 4294967296)
+    );
+}
