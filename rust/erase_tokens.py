@@ -61,7 +61,7 @@ def ghost_end(text, at):
         return "member", end + 1
     if re.compile(r"ghost\b").match(text, at):
         raise Unknown("ghost text of an unknown kind")
-    if re.compile(r"#!?\[tactic\b").match(text, at):
+    if re.compile(r"#!?\[(?:tactic|rattlefmt)\b").match(text, at):
         return "tactic", closing(text, text.index("[", at))
     if text[at] == "#" and not re.compile(rf"#!?\[(?:{'|'.join(sorted(ATTRIBUTES))})\b").match(text, at):
         raise Unknown("an attribute of an unknown kind")
