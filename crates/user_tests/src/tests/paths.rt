@@ -1,7 +1,6 @@
 //! A use of each public item, by the path that a user writes.
 
 mod dividers;
-mod integers;
 mod modrun;
 mod plain;
 mod symbols;

@@ -1,36 +1,12 @@
-//! The reducers of fixed moduli, and integers over them.
+//! The reducers of fixed moduli.
 
+use super::runs::ends_with;
+use num_modular::mersenne::{FixedMersenne, FixedMersenne32, FixedMersenne64};
 use num_modular::ring::{RingCommand, RunEnd};
+use num_modular::solinas::{FixedTrinomialSolinas32, FixedTrinomialSolinas64};
 use num_modular::{
-    FixedMontgomery32, FixedMontgomery64, FixedMontgomeryInt32, FixedMontgomeryInt64, FixedProth32,
-    FixedProth64, FixedProthInt32, FixedProthInt64, Reducer, Vanilla,
+    FixedMontgomery32, FixedMontgomery64, FixedProth32, FixedProth64, Reducer, Vanilla, umax,
 };
-use run_helpers::{ends_with, modulus, product, sum};
-
-/// 255, its inverse, its powers 0 and 1, and its negative.
-pub const OF_255: [RingCommand<u32>; 5] = [
-    RingCommand::Load { dst: 0, n: 255 },
-    RingCommand::Inv { dst: 1, a: 0 },
-    RingCommand::Pow {
-        dst: 2,
-        a: 0,
-        exp: 0,
-    },
-    RingCommand::Pow {
-        dst: 3,
-        a: 0,
-        exp: 1,
-    },
-    RingCommand::Neg { dst: 4, a: 0 },
-];
-
-#[test]
-fn modulo_1(rt: HostRuntime) {
-    let ring = FixedMontgomery32::<1>::new(&1);
-    assert!(rt; ends_with(&ring, &OF_255, RunEnd::Done, [0; 5]));
-    let ring = Vanilla::<u32>::new(&1);
-    assert!(rt; ends_with(&ring, &OF_255, RunEnd::Done, [0; 5]));
-}
 
 // 3 + 5, 3 * 5, and the missing inverse of 0.
 const SMALL: [RingCommand<u32>; 5] = [
@@ -84,22 +60,6 @@ fn fixed_moduli(rt: HostRuntime) {
 }
 
 #[test]
-fn integers_of_montgomery_forms(rt: HostRuntime) {
-    let x = FixedMontgomeryInt32::<17>::new(3, &17);
-    assert!(rt; (product(x, 5), modulus(x)) == (15, 17));
-    let x = FixedMontgomeryInt64::<97>::new(10, &97);
-    assert!(rt; product(x, 20) == 6);
-}
-
-#[test]
-fn integers_modulo_proth_numbers(rt: HostRuntime) {
-    let x = FixedProthInt32::<4, 1>::new(3, &17);
-    assert!(rt; (sum(x, 5), product(x, 5)) == (8, 15));
-    let x = FixedProthInt64::<5, 3>::new(10, &97);
-    assert!(rt; product(x, 20) == 6);
-}
-
-#[test]
 fn the_modules_of_the_source(rt: HostRuntime) {
     let ring = num_modular::proth::FixedProth32::<27, 17>::new(&2281701377);
     assert!(rt; ring.reduce(9799832791439900673) == 2281701376);
@@ -109,4 +69,43 @@ fn the_modules_of_the_source(rt: HostRuntime) {
     assert!(rt; ring.modulus() == 97);
     let ring = num_modular::monty::FixedMontgomery32::<17>::new(&17);
     assert!(rt; ring.modulus() == 17);
+}
+
+#[test]
+fn residues_of_words(rt: HostRuntime) {
+    type Narrow = FixedMersenne32<32, 5>;
+    type Middle = FixedMersenne64<64, 59>;
+    type Wide = FixedMersenne<64, 59>;
+    let narrow = (
+        Narrow::fixed_modulus(),
+        Narrow::reduce_single(u32::MAX),
+        Narrow::reduce_double(u64::MAX),
+    );
+    assert!(rt; narrow == (4294967291, 4, 24));
+    let middle = (
+        Middle::fixed_modulus(),
+        Middle::reduce_single(u64::MAX),
+        Middle::reduce_double(umax::MAX),
+    );
+    assert!(rt; middle == (18446744073709551557, 58, 3480));
+    let wide = (Wide::fixed_modulus(), Wide::reduce_single(umax::MAX));
+    assert!(rt; wide == (18446744073709551557, 3480));
+}
+
+#[test]
+fn residues_of_words_modulo_solinas_numbers(rt: HostRuntime) {
+    type Narrow = FixedTrinomialSolinas32<32, 31, -1>;
+    type Middle = FixedTrinomialSolinas64<64, 32, 1>;
+    let narrow = (
+        Narrow::fixed_modulus(),
+        Narrow::reduce_single(u32::MAX),
+        Narrow::reduce_double(u64::MAX),
+    );
+    assert!(rt; narrow == (2147483647, 1, 3));
+    let middle = (
+        Middle::fixed_modulus(),
+        Middle::reduce_single(u64::MAX),
+        Middle::reduce_double(umax::MAX),
+    );
+    assert!(rt; middle == (18446744069414584321, 4294967294, 18446744065119617024));
 }

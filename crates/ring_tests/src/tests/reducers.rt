@@ -1,10 +1,10 @@
 //! The same commands over each reducer.
 
 use super::commands::STOPPING;
+use super::runs::{Row, is_right, run_over};
 use num_modular::ring::{RingCommand, RunEnd};
 use num_modular::word::RingWord;
 use num_modular::{Montgomery, PreMulInv2by1, Reducer, Vanilla};
-use run_helpers::{leaves, run_over};
 
 // Every command; a run ends where an inverse doesn't exist.
 fn commands<T: RingWord>(x: T, y: T, exp: T) -> [RingCommand<T>; 12] {
@@ -29,9 +29,7 @@ fn run_of_three<T: RingWord, R: Reducer<T>>(
     reducer: &R,
     commands: &[RingCommand<T>],
 ) -> (Option<RunEnd>, [T; 3]) {
-    let mut registers = [T::zero(); 3];
-    let end = run_over(reducer, commands, &mut registers);
-    (end, registers)
+    run_over(reducer, commands)
 }
 
 #[test]
@@ -70,30 +68,27 @@ fn they_end_alike_for_large_even_moduli(rt: HostRuntime) {
     }
 }
 
+#[rattlefmt::skip]
+const MODULO_21: Row<3> = Row { m: 21, commands: &STOPPING, end: RunEnd::NoInverse { at: 3 }, residues: [5, 7, 17],
+    scaled: [40, 56, 136], montgomery: [20, 7, 5] };
+
 #[test]
 fn a_missing_inverse_modulo_21(rt: HostRuntime) {
-    let end = RunEnd::NoInverse { at: 3 };
-    let residues = [5, 7, 17];
-    let ring = Vanilla::<u8>::new(&21);
-    assert!(rt; leaves(&ring, &STOPPING, end, residues, residues));
-    let ring = PreMulInv2by1::<u8>::new(21);
-    assert!(rt; leaves(&ring, &STOPPING, end, residues, [40, 56, 136]));
-    let ring = Montgomery::<u8>::new(21);
-    assert!(rt; leaves(&ring, &STOPPING, end, residues, [20, 7, 5]));
+    assert!(rt; is_right(&MODULO_21));
 }
+
+const COMMANDS_MODULO_1: [RingCommand<u8>; 2] = [
+    RingCommand::Load { dst: 0, n: 255 },
+    RingCommand::Inv { dst: 0, a: 0 },
+];
+
+#[rattlefmt::skip]
+const MODULO_1: Row<3> = Row { m: 1, commands: &COMMANDS_MODULO_1, end: RunEnd::Done, residues: [0; 3],
+    scaled: [0; 3], montgomery: [0; 3] };
 
 #[test]
 fn the_ring_of_one_value(rt: HostRuntime) {
-    let commands = [
-        RingCommand::Load { dst: 0, n: 255 },
-        RingCommand::Inv { dst: 0, a: 0 },
-    ];
-    let ring = Vanilla::<u8>::new(&1);
-    assert!(rt; leaves(&ring, &commands, RunEnd::Done, [0; 3], [0; 3]));
-    let ring = PreMulInv2by1::<u8>::new(1);
-    assert!(rt; leaves(&ring, &commands, RunEnd::Done, [0; 3], [0; 3]));
-    let ring = Montgomery::<u8>::new(1);
-    assert!(rt; leaves(&ring, &commands, RunEnd::Done, [0; 3], [0; 3]));
+    assert!(rt; is_right(&MODULO_1));
 }
 
 // The residue of a + b, as a result and in place.

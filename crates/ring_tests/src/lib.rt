@@ -1,0 +1,7 @@
+//! Rows of lists of commands over each reducer, of the program that runs them, and of transforms and plans.
+#![tactic(auto)]
+
+#[cfg(test)]
+mod long;
+#[cfg(test)]
+mod tests;
