@@ -19,6 +19,15 @@ pub trait FitsDivisor {
 /// The multiplier and the shift of a divisor. The divisor itself isn't stored; the caller passes it to each call.
 ///
 /// Source: Granlund and Montgomery, "Division by invariant integers using multiplication", section 4.
+///
+/// # Examples
+///
+/// ```
+/// use num_modular::PreMulInv1by1;
+///
+/// const SIXTY: PreMulInv1by1<u32> = PreMulInv1by1::<u32>::new(60);
+/// assert_eq!(SIXTY.div_rem(3725, 60), (62, 5));
+/// ```
 #[derive(Debug, Clone, Copy, PartialEq, Eq)]
 pub struct PreMulInv1by1<T: PathWord> {
     multiplier: T,

@@ -21,6 +21,16 @@ use std::alloc::AllocError;
 /// of words and one division by the reciprocal of m·2^s.
 ///
 /// Source: Möller and Granlund, "Improved division by invariant integers".
+///
+/// # Examples
+///
+/// ```
+/// use num_modular::{PreMulInv2by1, Reducer};
+///
+/// let ring = PreMulInv2by1::<u32>::new(1000);
+/// let x = ring.transform(123456);
+/// assert_eq!(ring.residue(ring.sqr(x)), 456 * 456 % 1000);
+/// ```
 #[derive(Debug, PartialEq, Eq)]
 pub struct PreMulInv2by1<T: PlainWord> {
     divider: Normalized2by1Divisor<T>,

@@ -108,6 +108,16 @@ pub struct Mersenne64<const P: u8, const K: u64> {
 /// words and products are reduced by folds.
 ///
 /// Source: Handbook of Applied Cryptography, algorithm 14.47.
+///
+/// # Examples
+///
+/// ```
+/// use num_modular::{FixedMersenne64, Reducer};
+///
+/// type Ring = FixedMersenne64<61, 1>;
+/// let ring = Ring::new(&Ring::MODULUS);
+/// assert_eq!(ring.mul(&(1 << 60), &4), 2);
+/// ```
 pub type FixedMersenne64<const P: u8, const K: u64> = FoldRing<u64, Mersenne64<P, K>>;
 
 impl<const P: u8, const K: u64> FoldRing<u64, Mersenne64<P, K>> {

@@ -30,6 +30,16 @@ pub trait PreparedInverse {
 /// d, rounded down. The type doesn't guarantee that they do; a division by d requires it.
 ///
 /// Source: Granlund and Montgomery, "Division by invariant integers using multiplication", section 9.
+///
+/// # Examples
+///
+/// ```
+/// use num_modular::{DivExact, PreModInv};
+///
+/// let seven = PreModInv::<u64>::from(7);
+/// assert_eq!(91u64.div_exact(7, &seven), Some(13));
+/// assert_eq!(92u64.div_exact(7, &seven), None);
+/// ```
 #[derive(Debug, Clone, Copy)]
 pub struct PreModInv<T: PathWord> {
     d_inv: T,

@@ -47,6 +47,19 @@ impl<T: PathWord> Factor<T> {
 
 /// A modulus m with its reciprocal. It is at least 1 and at most a quarter of the base, so that words below 4m hold
 /// sums that aren't reduced.
+///
+/// # Examples
+///
+/// ```
+/// use num_modular::plans::{ntt_planned, plan, Factor, PlannedModulus};
+///
+/// let modulus = PlannedModulus::<u64>::new(97);
+/// let mut table = [Factor::<u64>::ZERO; 2];
+/// plan(&modulus, 22, &mut table); // 22 has the order 4
+/// let mut entries = [1, 2, 3, 4];
+/// ntt_planned(&modulus, &mut entries, &table);
+/// assert_eq!(entries[0], 1 + 2 + 3 + 4);
+/// ```
 #[derive(Debug, PartialEq, Eq)]
 pub struct PlannedModulus<T: PathWord> {
     /// The modulus.

@@ -8,6 +8,16 @@ use crate::numbered::{IntegerValued, Numbered};
 
 /// Sums, differences and products modulo m, of operands that may be above m. Each returns a residue below m.
 /// Condition of each: m is at least 1.
+///
+/// # Examples
+///
+/// ```
+/// use num_modular::ModularCoreOps;
+///
+/// assert_eq!(200u8.addm(100u8, &7), 6);
+/// assert_eq!(2u64.subm(5u64, &97), 94);
+/// assert_eq!(u64::MAX.mulm(u64::MAX, &97), 11);
+/// ```
 pub trait ModularCoreOps<Rhs: Numbered, Modulus: Numbered>: Numbered {
     /// The type of the results.
     type Output: Numbered;
@@ -33,6 +43,16 @@ pub trait ModularCoreOps<Rhs: Numbered, Modulus: Numbered>: Numbered {
 
 /// Operations modulo m of one operand, which may be above m. Each returns a residue below m. Condition of each: m
 /// is at least 1.
+///
+/// # Examples
+///
+/// ```
+/// use num_modular::ModularUnaryOps;
+///
+/// assert_eq!(3u32.negm(&7), 4);
+/// assert_eq!(3u32.invm(&7), Some(5));
+/// assert_eq!(3u32.invm(&6), None);
+/// ```
 pub trait ModularUnaryOps<Modulus: Numbered>: Numbered {
     /// The type of the results.
     type Output: Numbered;
@@ -61,6 +81,14 @@ pub trait ModularUnaryOps<Modulus: Numbered>: Numbered {
 }
 
 /// Powers modulo m, of a base that may be above m; each is below m. Condition: m is at least 1.
+///
+/// # Examples
+///
+/// ```
+/// use num_modular::ModularPow;
+///
+/// assert_eq!(3u64.powm(100, &101), 1);
+/// ```
 pub trait ModularPow<Exp: Numbered, Modulus: Numbered>: Numbered {
     /// The type of the results.
     type Output: Numbered;

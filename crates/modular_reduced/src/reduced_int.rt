@@ -31,6 +31,17 @@ mod sub;
 /// | `x == y` | whether the moduli and the residues are equal | none |
 ///
 /// Each operand may also be a reference.
+///
+/// # Examples
+///
+/// ```
+/// use num_modular::{ModularInteger, MontgomeryInt};
+///
+/// let x = MontgomeryInt::<u64>::new(10, &97);
+/// let y = x.convert(20);
+/// assert_eq!((x * y + 1).residue(), 7);
+/// assert_eq!((x / y * y).residue(), 10);
+/// ```
 #[derive(Debug)]
 pub struct ReducedInt<T: RingWord, R: Reducer<T>> {
     form: T,

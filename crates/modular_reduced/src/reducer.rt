@@ -12,6 +12,17 @@ use modular_word::ring_word::RingWord;
 ///
 /// A form is checked where `check` returns true. Each value has exactly one checked form, and each checked form
 /// exactly one value. Condition of every call but `check` and `transform`: the forms are checked.
+///
+/// # Examples
+///
+/// ```
+/// use num_modular::{Montgomery, Reducer};
+///
+/// let ring = Montgomery::<u64>::new(97);
+/// let (x, y) = (ring.transform(1000), ring.transform(3));
+/// assert_eq!(ring.residue(ring.mul(&x, &y)), 3000 % 97);
+/// assert_eq!(ring.inv(y).map(|f| ring.residue(f)), Some(65));
+/// ```
 pub trait Reducer<T: RingWord> {
     // The moduli that `new` accepts.
     ghost admits: { ℕ → Type 0 };

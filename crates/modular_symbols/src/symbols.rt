@@ -10,6 +10,15 @@ use crate::magnitudes;
 use crate::operands::{IntegerValued, SymbolWord};
 
 /// The symbols of a number over n. A symbol is -1, 0 or 1.
+///
+/// # Examples
+///
+/// ```
+/// use num_modular::ModularSymbols;
+///
+/// assert_eq!(2u8.jacobi(&15), 1);
+/// assert_eq!(2u8.checked_jacobi(&14), None);
+/// ```
 pub trait ModularSymbols<Modulus: IntegerValued>: IntegerValued {
     /// The value in `checked_legendre`. Condition: `checked_legendre` is `Some`, as it is for each odd prime n.
     fn legendre(&self, n: Modulus) -> i8

@@ -96,6 +96,19 @@ fn multiply<T: RingWord, R: Reducer<T>>(r: &R, xs: &mut [T], ys: &mut [T], g: &T
 ///
 /// Source: Knuth, The Art of Computer Programming, volume 2, section 4.3.3, part C: transform both lists, multiply
 /// entry by entry, transform back.
+///
+/// # Examples
+///
+/// ```
+/// use num_modular::ring::{convolve, find_root};
+/// use num_modular::{Reducer, Vanilla};
+///
+/// let ring = Vanilla::<u64>::new(&97);
+/// let root = find_root(&ring, 4).unwrap();
+/// let (mut xs, mut ys) = ([1, 2, 0, 0], [3, 4, 0, 0]);
+/// assert!(convolve(&ring, &mut xs, &mut ys, &root));
+/// assert_eq!(xs, [3, 10, 8, 0]); // (1 + 2X)(3 + 4X)
+/// ```
 pub fn convolve<T: RingWord, R: Reducer<T>>(r: &R, xs: &mut [T], ys: &mut [T], g: &T) -> bool
     requires checked_xs { All (λ f. IsForm R.form R.value (R.modulus r.now) (T.number f)) xs.old }
     requires checked_ys { All (λ f. IsForm R.form R.value (R.modulus r.now) (T.number f)) ys.old }

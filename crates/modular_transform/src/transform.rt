@@ -89,6 +89,20 @@ pub fn ntt_counted<T: RingWord, R: Reducer<T>>(r: &R, xs: &mut [T], g: &T) -> u1
 ///
 /// Source: the decimation in frequency of Gentleman and Sande, "Fast Fourier transforms: for fun and profit", over
 /// residues: Pollard, "The fast Fourier transform in a finite field".
+///
+/// # Examples
+///
+/// ```
+/// use num_modular::ring::{find_root, ntt};
+/// use num_modular::{FixedProth64, Reducer};
+///
+/// type Ring = FixedProth64<57, 29>;
+/// let ring = Ring::new(&Ring::MODULUS);
+/// let root = find_root(&ring, 4).unwrap();
+/// let mut forms = [1, 2, 3, 4].map(|x| ring.transform(x));
+/// ntt(&ring, &mut forms, &root);
+/// assert_eq!(ring.residue(forms[0]), 10);
+/// ```
 pub fn ntt<T: RingWord, R: Reducer<T>>(r: &R, xs: &mut [T], g: &T)
     requires checked { All (λ f. IsForm R.form R.value (R.modulus r.now) (T.number f)) xs.old }
     requires root { IsForm R.form R.value (R.modulus r.now) (T.number g.now) }

@@ -242,6 +242,19 @@ fn computed_form<T: RingWord, R: Reducer<T>>(
 /// b) has no inverse modulo m. That command and all later ones write nothing; what earlier ones wrote remains. Each
 /// register then holds the checked form of its value after the commands that were carried out, computed on whole
 /// numbers modulo m. No memory is allocated.
+///
+/// # Examples
+///
+/// ```
+/// use num_modular::ring::{run, RingCommand};
+/// use num_modular::{Reducer, Vanilla};
+///
+/// let ring = Vanilla::<u64>::new(&97);
+/// let mut registers = [ring.transform(5), ring.transform(20)];
+/// let commands = [RingCommand::Mul { dst: 0, a: 0, b: 1 }, RingCommand::Inv { dst: 1, a: 1 }];
+/// run(&ring, &mut registers, &commands);
+/// assert_eq!(registers.map(|f| ring.residue(f)), [3, 34]);
+/// ```
 pub fn run<T: RingWord, R: Reducer<T>>(r: &R, regs: &mut [T], commands: &[RingCommand<T>]) -> RunEnd
     requires checked { All (λ f. IsForm R.form R.value (R.modulus r.now) (T.number f)) regs.old }
     requires fit { All (IsFit (length regs.old)) commands.now }
