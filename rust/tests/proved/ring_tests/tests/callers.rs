@@ -1,0 +1,64 @@
+//! The callers of `run` over plain reducers.
+
+use num_modular::ring::{RingCommand, RunEnd};
+use num_modular::{Reducer, Vanilla};
+use crate::run_misuse::runs::{checked_run, residue_by_run, run_both, run_to_the_end};
+use crate::runtime::Fail;
+
+#[test]
+fn a_run_is_refused_where_a_condition_fails() -> Result<(), Fail> {
+    let r = Vanilla::<u8>::new(&21);
+    let mut regs = [0, 21, 0];
+    let load = [RingCommand::Load { dst: 1, n: 5 }];
+    assert_eq!(checked_run(&r, &mut regs, &load), None);
+    assert_eq!(regs[1], 21);
+    regs[1] = 20;
+    assert_eq!(
+        checked_run(&r, &mut regs, &[RingCommand::Load { dst: 3, n: 1 }]),
+        None
+    );
+    assert_eq!(checked_run(&r, &mut regs, &load), Some(RunEnd::Done));
+    assert_eq!(regs[1], 5);
+    Ok(())
+}
+
+#[test]
+fn words_of_two_widths_run_alike() -> Result<(), Fail> {
+    let mut narrow = [0u8; 2];
+    let mut wide = [0u64; 2];
+    let ends = run_both(
+        &Vanilla::<u8>::new(&21),
+        &Vanilla::<u64>::new(&21),
+        &mut narrow,
+        &mut wide,
+        &[
+            RingCommand::Load { dst: 0, n: 7 },
+            RingCommand::Inv { dst: 1, a: 0 },
+        ],
+        &[
+            RingCommand::Load { dst: 0, n: 7 },
+            RingCommand::Inv { dst: 1, a: 0 },
+        ],
+    );
+    assert_eq!(ends.0, RunEnd::NoInverse { at: 1 });
+    assert_eq!(ends.1, RunEnd::NoInverse { at: 1 });
+    assert_eq!(narrow[0], 7);
+    assert_eq!(wide[0], 7);
+    assert_eq!(residue_by_run(&Vanilla::<u64>::new(&21), 100), 16);
+    Ok(())
+}
+
+#[test]
+fn a_list_that_needs_no_inverse_is_run_to_the_end() -> Result<(), Fail> {
+    let mut regs = [0u8; 2];
+    run_to_the_end(
+        &Vanilla::<u8>::new(&21),
+        &mut regs,
+        &[
+            RingCommand::Load { dst: 0, n: 26 },
+            RingCommand::Mul { dst: 1, a: 0, b: 0 },
+        ],
+    );
+    assert_eq!((regs[0], regs[1]), (5, 4));
+    Ok(())
+}

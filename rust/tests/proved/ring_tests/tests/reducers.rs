@@ -1,0 +1,198 @@
+//! The same commands over each reducer.
+
+use super::commands::STOPPING;
+use super::runs::{Row, is_right, run_over};
+use num_modular::ring::{RingCommand, RunEnd};
+use num_modular::word::RingWord;
+use num_modular::{Montgomery, PreMulInv2by1, Reducer, Vanilla};
+
+// Every command; a run ends where an inverse doesn't exist.
+fn commands<T: RingWord>(x: T, y: T, exp: T) -> [RingCommand<T>; 12] {
+    [
+        RingCommand::Load { dst: 0, n: x },
+        RingCommand::Load { dst: 1, n: y },
+        RingCommand::Mul { dst: 2, a: 0, b: 1 },
+        RingCommand::Sub { dst: 0, a: 1, b: 2 },
+        RingCommand::Dbl { dst: 2, a: 2 },
+        RingCommand::Add { dst: 2, a: 2, b: 0 },
+        RingCommand::Pow { dst: 1, a: 2, exp },
+        RingCommand::Sqr { dst: 0, a: 0 },
+        RingCommand::Neg { dst: 0, a: 0 },
+        RingCommand::Inv { dst: 2, a: 1 },
+        RingCommand::Mul { dst: 1, a: 1, b: 2 },
+        RingCommand::Inv { dst: 0, a: 0 },
+    ]
+}
+
+// The end of a run over three registers of value 0, and their residues after it.
+fn run_of_three<T: RingWord, R: Reducer<T>>(
+    reducer: &R,
+    commands: &[RingCommand<T>],
+) -> (Option<RunEnd>, [T; 3]) {
+    run_over(reducer, commands)
+}
+
+#[test]
+fn the_three_reducers_end_alike_with_equal_residues() {
+    let commands = commands(201, 254, 77);
+    for m in 1..=255u8 {
+        let want = run_of_three(&Vanilla::<u8>::new(&m), &commands);
+        let scaled = run_of_three(&PreMulInv2by1::<u8>::new(m), &commands);
+        let split = run_of_three(&Montgomery::<u8>::new(m), &commands);
+        assert!(
+            want.0.is_some() && scaled == want && split == want,
+            "modulo {m}"
+        );
+    }
+}
+
+// 2^63, 2^64 - 2 and 6 * 2^40.
+const LARGE_EVEN: &[u64] = &[9223372036854775808, 18446744073709551614, 6597069766656];
+
+#[test]
+fn they_end_alike_for_large_even_moduli() {
+    let commands = commands(
+        81985529216486896,
+        18364758544493064721,
+        12297829382473034411,
+    );
+    for &m in LARGE_EVEN {
+        assert!(m > 0);
+        let want = run_of_three(&Vanilla::<u64>::new(&m), &commands);
+        let scaled = run_of_three(&PreMulInv2by1::<u64>::new(m), &commands);
+        let split = run_of_three(&Montgomery::<u64>::new(m), &commands);
+        assert!(
+            want.0.is_some() && scaled == want && split == want,
+            "modulo {m}"
+        );
+    }
+}
+
+const MODULO_21: Row<3> = Row { m: 21, commands: &STOPPING, end: RunEnd::NoInverse { at: 3 }, residues: [5, 7, 17],
+    scaled: [40, 56, 136], montgomery: [20, 7, 5] };
+
+#[test]
+fn a_missing_inverse_modulo_21() {
+    assert!(is_right(&MODULO_21));
+}
+
+const COMMANDS_MODULO_1: [RingCommand<u8>; 2] = [
+    RingCommand::Load { dst: 0, n: 255 },
+    RingCommand::Inv { dst: 0, a: 0 },
+];
+
+const MODULO_1: Row<3> = Row { m: 1, commands: &COMMANDS_MODULO_1, end: RunEnd::Done, residues: [0; 3],
+    scaled: [0; 3], montgomery: [0; 3] };
+
+#[test]
+fn the_ring_of_one_value() {
+    assert!(is_right(&MODULO_1));
+}
+
+// The residue of a + b, as a result and in place.
+fn sums<R: Reducer<u8>>(reducer: &R, a: u8, b: u8) -> [u8; 2] {
+    let f = reducer.transform(a);
+    let g = reducer.transform(b);
+    let mut sum = f;
+    reducer.add_in_place(&mut sum, &g);
+    [reducer.residue(sum), reducer.residue(reducer.add(&f, &g))]
+}
+
+// The residue of a - b, as a result and in place.
+fn differences<R: Reducer<u8>>(reducer: &R, a: u8, b: u8) -> [u8; 2] {
+    let f = reducer.transform(a);
+    let g = reducer.transform(b);
+    let mut difference = f;
+    reducer.sub_in_place(&mut difference, &g);
+    [
+        reducer.residue(difference),
+        reducer.residue(reducer.sub(&f, &g)),
+    ]
+}
+
+// The residue of (a - b) * a.
+fn product_of_difference<T: RingWord, R: Reducer<T>>(reducer: &R, a: T, b: T) -> T {
+    let f = reducer.transform(a);
+    let g = reducer.transform(b);
+    reducer.residue(reducer.mul_difference(&f, &g, &f))
+}
+
+// The residue of a * b, as a result and in place.
+fn products<R: Reducer<u8>>(reducer: &R, a: u8, b: u8) -> [u8; 2] {
+    let f = reducer.transform(a);
+    let g = reducer.transform(b);
+    let mut product = f;
+    reducer.mul_in_place(&mut product, &g);
+    [
+        reducer.residue(product),
+        reducer.residue(reducer.mul(&f, &g)),
+    ]
+}
+
+// The residues of 2a, -a, the square and the cube.
+fn multiples_and_powers<R: Reducer<u8>>(reducer: &R, a: u8) -> [u8; 4] {
+    let f = reducer.transform(a);
+    [
+        reducer.residue(reducer.dbl(f)),
+        reducer.residue(reducer.neg(f)),
+        reducer.residue(reducer.sqr(f)),
+        reducer.residue(reducer.pow(f, &3)),
+    ]
+}
+
+// The residues that the calls of a reducer return for a and b.
+fn residues_of_calls<R: Reducer<u8>>(reducer: &R, a: u8, b: u8) -> ([[u8; 2]; 3], [u8; 4]) {
+    let of_two = [
+        sums(reducer, a, b),
+        differences(reducer, a, b),
+        products(reducer, a, b),
+    ];
+    (of_two, multiples_and_powers(reducer, a))
+}
+
+fn tests_of_calls<R: Reducer<u8>>(reducer: &R, a: u8) -> (bool, bool, bool) {
+    let f = reducer.transform(a);
+    (
+        reducer.check(&f),
+        reducer.is_zero(&f),
+        reducer.inv(f).is_some(),
+    )
+}
+
+#[test]
+fn each_call_of_a_reducer() {
+    let residues = ([[12, 12], [19, 19], [14, 14]], [10, 16, 4, 20]);
+    let plain = num_modular::reduced::Vanilla::<u8>::new(&21);
+    let scaled = num_modular::barrett::PreMulInv2by1::<u8>::new(21);
+    let odd = num_modular::monty::Montgomery::<u8>::new(21);
+    let found = (
+        residues_of_calls(&plain, 5, 7),
+        residues_of_calls(&scaled, 5, 7),
+        residues_of_calls(&odd, 5, 7),
+        tests_of_calls(&plain, 21),
+        tests_of_calls(&scaled, 5),
+        tests_of_calls(&odd, 7),
+        (plain.modulus(), scaled.modulus(), odd.modulus()),
+    );
+    assert!(
+        found
+            == (
+                residues,
+                residues,
+                residues,
+                (true, true, false),
+                (true, false, true),
+                (true, false, false),
+                (21, 21, 21)
+            )
+    );
+}
+
+#[test]
+fn a_difference_times_a_factor() {
+    assert!(product_of_difference(&PreMulInv2by1::<u8>::new(21), 5, 7) == 11);
+    assert!(product_of_difference(&Montgomery::<u8>::new(21), 5, 7) == 11);
+    assert!(product_of_difference(&Montgomery::<u8>::new(20), 5, 7) == 10);
+    assert!(product_of_difference(&Montgomery::<u64>::new(u64::MAX), 5, 7) == u64::MAX - 10);
+    assert!(product_of_difference(&Montgomery::<u64>::new(u64::MAX), 7, 5) == 14);
+}
