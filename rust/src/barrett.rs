@@ -1,4 +1,4 @@
-//! Division by divisors that stay the same, and the reducer that rests on it.
+//! Division by an invariant divisor, and the reducer that uses it.
 
 pub use crate::modular_barrett::normalized::{Normalized2by1Divisor, StoredDivisor};
 pub use crate::modular_barrett::one_by_one::{FitsDivisor, PreMulInv1by1};

@@ -1,4 +1,4 @@
-//! Division by divisors that stay the same, without a division, and the reducer that rests on it.
+//! Division by an invariant divisor without a division instruction, and the reducer that uses it.
 
 pub(crate) mod computed;
 pub mod exact;

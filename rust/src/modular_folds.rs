@@ -1,5 +1,9 @@
-//! The reducers of moduli near a power of two, which reduce by folds.
+//! Moduli near a power of two: the paths by folds, which are remainders of double words and products of words,
+//! written and proved once for every such modulus, and the reducers that use them.
 
+pub mod fold_word;
+pub mod folds;
 pub mod mersenne;
+pub mod products;
 pub mod rings;
 pub mod solinas;

@@ -1,7 +1,9 @@
-//! Montgomery's reduction and what rests on the inverse of an odd number modulo the base.
+//! Montgomery's representation for every modulus, and exact division by an odd number: both use the inverse of an
+//! odd number modulo the base.
 
 pub(crate) mod computed;
 pub mod fixed;
+pub mod montgomery;
 pub mod neg_mod_inv;
 pub mod odd_ring;
 pub mod preinv;

@@ -1,4 +1,4 @@
-//! Transforms by a plan: a table of factors with their quotients, which the caller keeps.
+//! Transforms by a plan: a table of factors with their quotients, which the caller owns.
 
 pub mod entry;
 pub mod modulus;

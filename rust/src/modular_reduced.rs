@@ -1,4 +1,4 @@
-//! Rings of residues: reducers, which compute modulo m by forms, and integers over any of them.
+//! Rings of residues: reducers, which compute with forms modulo m, and integers modulo m over any reducer.
 
 pub mod laws;
 pub mod modular_integer;

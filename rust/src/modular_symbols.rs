@@ -1,5 +1,5 @@
-//! The Legendre, Jacobi and Kronecker symbols of machine words, with and without sign, and the traits
-//! that collect the modular operations.
+//! The Legendre, Jacobi and Kronecker symbols of signed and unsigned machine words, and the traits that combine the
+//! modular operations.
 
 pub mod count;
 pub mod counted;

@@ -1,7 +1,8 @@
-//! Number-theoretic transforms and cyclic products, in place, over any reducer.
+//! Number-theoretic transforms and cyclic products, in place, over any reducer, and lists of forms.
 
 pub mod convolution;
 pub mod laws;
+pub mod lists;
 pub mod order;
 pub mod plain;
 mod stage;

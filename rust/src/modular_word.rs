@@ -1,5 +1,5 @@
-//! Machine words seen as whole numbers, and the paths: division by a reciprocal, exact division and
-//! Montgomery's reduction, each written and proved once for every width.
+//! Machine words as whole numbers, and the paths: division by a reciprocal, exact division and Montgomery's
+//! reduction, each written and proved once for every width.
 
 pub mod laws;
 pub mod machine_words;

@@ -1,6 +1,6 @@
-//! Transforms by a plan: factors with their quotients in a table that the caller keeps, over moduli of at most a
-//! quarter of the base. An entry of the table is a `Factor`, or a struct of the caller's own (`PlanEntry`).
-//! `ring` has the transforms that need no table, over any reducer, and `find_root`.
+//! Transforms by a plan: factors with their quotients in a table that the caller owns, for moduli that are at most
+//! a quarter of the base. An entry of the table is a `Factor`, or a struct of the caller (`PlanEntry`). `ring` has
+//! the transforms that need no table, over any reducer, and `find_root`.
 
 pub use crate::modular_plan::entry::PlanEntry;
 pub use crate::modular_plan::modulus::{Factor, PlannedModulus};

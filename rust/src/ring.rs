@@ -1,13 +1,14 @@
 //! Lists of commands on registers, run over any reducer, and transforms over any reducer.
 
-pub use crate::modular_laws::lists::{load_forms, unload_forms};
+pub use crate::list_inverses::invert_each;
 pub use crate::modular_plan::roots::find_root;
 use crate::modular_reduced::reducer::Reducer;
 pub use crate::modular_transform::convolution::convolve;
+pub use crate::modular_transform::lists::{load_forms, unload_forms};
 pub use crate::modular_transform::transform::{ntt, ntt_counted, root_fits};
 use crate::modular_word::ring_word::RingWord;
 
-/// A command on registers, which are named by their numbers in a slice of forms.
+/// A command on registers, each given by its index in a slice of forms.
 ///
 /// Operands are read before `dst` is written, so `dst` may be an operand.
 #[derive(Debug, PartialEq, Eq)]
@@ -16,7 +17,7 @@ pub enum RingCommand<T> {
     Load {
         /// The register that is written.
         dst: usize,
-        /// Any word, also one from m on.
+        /// Any word; it may be at least m.
         n: T,
     },
     /// Writes the sum of two registers.
@@ -32,9 +33,9 @@ pub enum RingCommand<T> {
     Sub {
         /// The register that is written.
         dst: usize,
-        /// The register of the number that is taken from.
+        /// The register of the minuend.
         a: usize,
-        /// The register of the number that is taken away.
+        /// The register of the subtrahend.
         b: usize,
     },
     /// Writes the product of two registers.
@@ -67,15 +68,15 @@ pub enum RingCommand<T> {
         /// The register of the operand.
         a: usize,
     },
-    /// Writes the inverse of a register; where there is none, the run stops.
+    /// Writes the inverse of a register; the run stops where there is none.
     Inv {
         /// The register that is written.
         dst: usize,
         /// The register of the operand.
         a: usize,
     },
-    /// Writes the quotient of two registers: the first times the inverse of the second. Where that has
-    /// none, the run stops, also where the first holds 0.
+    /// Writes the quotient of two registers: the first times the inverse of the second. The run stops where that
+    /// has no inverse, even where the first holds 0.
     Div {
         /// The register that is written.
         dst: usize,
@@ -84,7 +85,7 @@ pub enum RingCommand<T> {
         /// The register of the divisor.
         b: usize,
     },
-    /// Writes a power of a register, which for the exponent 0 is 1 modulo m.
+    /// Writes a power of a register; 1 modulo m for the exponent 0.
     Pow {
         /// The register that is written.
         dst: usize,
@@ -109,9 +110,9 @@ impl<T: Copy> Copy for RingCommand<T> {}
 pub enum RunEnd {
     /// Every command was carried out.
     Done,
-    /// A command found no inverse; neither it nor a later one wrote anything.
+    /// The inverse of a command doesn't exist; neither that command nor a later one wrote anything.
     NoInverse {
-        /// The number of that command, the first having the number 0.
+        /// The number of that command, counted from 0.
         at: usize,
     },
 }
@@ -179,7 +180,7 @@ fn quotient<T: RingWord, R: Reducer<T>>(r: &R, a: &T, b: T) -> Option<T> {
     Some(r.mul(a, &inverse))
 }
 
-// The form that a command writes; `None` exactly where it finds no inverse.
+// The form that a command writes; `None` exactly where its inverse doesn't exist.
 //
 // Inlined into the loop of `run`, where a call for each command would take as long as the command.
 #[inline(always)]
@@ -204,10 +205,23 @@ fn computed_form<T: RingWord, R: Reducer<T>>(
 
 /// Carries out the commands in order, up to the first whose inverse doesn't exist.
 ///
-/// The run stops exactly at the first `Inv`
-/// or `Div` whose operand (for `Div`: b) has no inverse modulo m; that command and all later ones
-/// write nothing, and earlier ones stand. Each register then holds the one checked form of its value
-/// after the commands that were carried out, computed on whole numbers modulo m. It takes no memory.
+/// The run stops exactly at the first `Inv` or `Div` whose operand (for `Div`:
+/// b) has no inverse modulo m. That command and all later ones write nothing; what earlier ones wrote remains. Each
+/// register then holds the checked form of its value after the commands that were carried out, computed on whole
+/// numbers modulo m. No memory is allocated.
+///
+/// # Examples
+///
+/// ```
+/// use num_modular::ring::{run, RingCommand};
+/// use num_modular::{Reducer, Vanilla};
+///
+/// let ring = Vanilla::<u64>::new(&97);
+/// let mut registers = [ring.transform(5), ring.transform(20)];
+/// let commands = [RingCommand::Mul { dst: 0, a: 0, b: 1 }, RingCommand::Inv { dst: 1, a: 1 }];
+/// run(&ring, &mut registers, &commands);
+/// assert_eq!(registers.map(|f| ring.residue(f)), [3, 34]);
+/// ```
 ///
 /// # Panics
 ///

@@ -1,8 +1,8 @@
-//! The generic types behind the aliases of the root, and the types that name their moduli. Code that
-//! is generic over `OddRing` or `FoldRing` serves every modulus of the family at once.
+//! The generic types behind the aliases of the root, and the types of their moduli. Code that is generic over
+//! `OddRing` or `FoldRing` covers every modulus of the family.
 
-pub use crate::modular_fold_paths::fold_word::FoldWord;
-pub use crate::modular_fold_paths::folds::FoldedWord;
+pub use crate::modular_folds::fold_word::FoldWord;
+pub use crate::modular_folds::folds::FoldedWord;
 pub use crate::modular_folds::mersenne::{Mersenne32, Mersenne64};
 pub use crate::modular_folds::rings::{FoldModulus, FoldRing};
 pub use crate::modular_folds::solinas::{

@@ -1,8 +1,7 @@
-//! The rings of the lattice standards FIPS 204 (ML-DSA) and FIPS 203 (ML-KEM), from planned transforms.
+//! The rings of the lattice standards FIPS 204 (ML-DSA) and FIPS 203 (ML-KEM), by planned transforms.
 //!
-//! Their transforms, inverses and products are what the standards' texts say, for every list of
-//! residues. Nothing is said of constant time: this is for verification and for public data, not for
-//! secrets.
+//! Their transforms, inverses and products are those of the standards, for every list of residues. They don't run
+//! in constant time: use them for verification and for public data, not for secrets.
 
 pub mod ml_dsa;
 pub mod ml_kem;

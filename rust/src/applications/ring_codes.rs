@@ -1,9 +1,9 @@
-//! Check symbols: which changes of a word its code finds, and how it restores an erased symbol.
+//! Check digits and erasure codes: which changes of a word a code detects, and how it restores erased symbols.
 //!
-//! A code (`Code`) is a modulus m, a residue, and for each place a weight and the symbols that may stand
-//! there. Its words are those of one such symbol a place whose weighted sum leaves the residue modulo m.
-//! `standards` has the codes of ISBN, EAN, UPC and ISSN; `accepts_iban` tests an IBAN. `erasure` has codes
-//! whose messages come back from any k symbols.
+//! A code (`Code`) is a modulus m, a residue, and for each place a weight and the symbols that are allowed there.
+//! Its words have an allowed symbol at each place, and their weighted sum is congruent to the residue modulo m.
+//! `standards` has the codes of ISBN, EAN, UPC and ISSN; `accepts_iban` tests an IBAN. `erasure` has codes whose
+//! messages are restored from any k symbols.
 
 mod checks;
 pub mod erasure;
@@ -13,15 +13,14 @@ mod standards;
 pub use iban::{accepts_iban, has_iban_form, iban_code, iban_digits};
 pub use standards::{EAN_8, EAN_13, ISBN_10, ISBN_13, ISSN, UPC_A, standard_codes, standard_finds};
 
-/// A code with one check equation: its words have a symbol for each weight, each one of those of its
-/// place, and their weighted sum leaves `residue` modulo the modulus. A residue from the modulus on
-/// counts as what it leaves itself.
+/// A code with one check equation: its words have an allowed symbol for each weight, and their weighted sum is
+/// congruent to `residue` modulo the modulus. A residue that is at least the modulus counts as its own residue.
 #[derive(Clone, Copy)]
 #[must_use]
 pub struct Code<'a> {
-    /// The modulus, from 1 up.
+    /// The modulus, at least 1.
     pub modulus: u64,
-    /// What the weighted sum of a word leaves.
+    /// The residue of the weighted sum of a word.
     pub residue: u64,
     /// The weight of each place.
     pub weights: &'a [u64],

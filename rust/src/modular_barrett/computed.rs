@@ -1,4 +1,4 @@
-//! Reciprocals by functions that the compiler calls where it knows the divisor.
+//! Reciprocals as const functions, for divisors that are known at compile time.
 
 // `invert_word` in words of 8 bits.
 #[inline]
@@ -18,7 +18,8 @@ pub(crate) const fn reciprocal_32(d: u32) -> u32 {
     ((0xffff_ffff_ffff_ffff / d as u64) & 0xffff_ffff) as u32
 }
 
-// `invert_word` in words of 64 bits, with its dividend less the divisor times the base: one instruction divides that.
+// `invert_word` in words of 64 bits. Its dividend is less the divisor times the base, so that one instruction
+// divides it.
 #[inline]
 pub(crate) const fn reciprocal_64(d: u64) -> u64 {
     let high = 0xffff_ffff_ffff_ffff - d;
@@ -26,7 +27,7 @@ pub(crate) const fn reciprocal_64(d: u64) -> u64 {
     ((less / d as u128) & 0xffff_ffff_ffff_ffff) as u64
 }
 
-// What `PreMulInv1by1::new` stores of a divisor of 8 bits.
+// What `PreMulInv1by1::new` stores for a divisor of 8 bits.
 #[inline]
 pub(crate) const fn multiplier_8(d: u8) -> (u8, u32) {
     let n = 8 - (d - 1).leading_zeros();
@@ -35,7 +36,7 @@ pub(crate) const fn multiplier_8(d: u8) -> (u8, u32) {
     (quotient + 1, n - 1)
 }
 
-// What `PreMulInv1by1::new` stores of a divisor of 16 bits.
+// What `PreMulInv1by1::new` stores for a divisor of 16 bits.
 #[inline]
 pub(crate) const fn multiplier_16(d: u16) -> (u16, u32) {
     let n = 16 - (d - 1).leading_zeros();
@@ -44,7 +45,7 @@ pub(crate) const fn multiplier_16(d: u16) -> (u16, u32) {
     (quotient + 1, n - 1)
 }
 
-// What `PreMulInv1by1::new` stores of a divisor of 32 bits.
+// What `PreMulInv1by1::new` stores for a divisor of 32 bits.
 #[inline]
 pub(crate) const fn multiplier_32(d: u32) -> (u32, u32) {
     let n = 32 - (d - 1).leading_zeros();
@@ -53,7 +54,7 @@ pub(crate) const fn multiplier_32(d: u32) -> (u32, u32) {
     (quotient + 1, n - 1)
 }
 
-// What `PreMulInv1by1::new` stores of a divisor of 64 bits.
+// What `PreMulInv1by1::new` stores for a divisor of 64 bits.
 #[inline]
 pub(crate) const fn multiplier_64(d: u64) -> (u64, u32) {
     let n = 64 - (d - 1).leading_zeros();

@@ -1,4 +1,4 @@
-//! Division of one word and of two by a divisor with its top bit set, by the divisor's reciprocal.
+//! Division of a word and of a double word by a divisor whose top bit is set, by the divisor's reciprocal.
 
 use crate::modular_prim::plain_word::PlainWord;
 use crate::modular_prim::reciprocal;
@@ -6,13 +6,12 @@ use crate::modular_word::path_word::PathWord;
 use crate::modular_word::paths::div_2by1;
 use crate::modular_word::ring_word::RingWord;
 
-/// What a divider divides by, for contracts.
+/// The divisor of a divider, for contracts.
 pub trait StoredDivisor: Sized {}
 
 impl<Any> StoredDivisor for Any {}
 
-/// A divisor with its top bit set, and its reciprocal: with v the reciprocal, d the divisor and B
-/// the number of words, (v + B)·d is B·B - k for a k from 1 to d.
+/// A divisor d whose top bit is set, and its reciprocal v: with B the base, (v + B)·d is B² - k for a k from 1 to d.
 ///
 /// Source: Möller and Granlund, "Improved division by invariant integers".
 #[derive(Debug, PartialEq, Eq)]
@@ -38,8 +37,7 @@ impl<T: PathWord> Normalized2by1Divisor<T> {
         self.divisor
     }
 
-    /// Quotient and remainder of a word. A divisor with its top bit set goes into a word once at
-    /// most.
+    /// Quotient and remainder of a word. The quotient is 0 or 1, because the divisor's top bit is set.
     #[inline]
     pub fn div_rem_1by1(&self, a: T) -> (T, T) {
         if a.is_below(self.divisor) {

@@ -5,15 +5,23 @@ use crate::modular_word::path_word::PathWord;
 use crate::modular_word::paths::{div_1by1, ones};
 use crate::modular_word::ring_word::RingWord;
 
-/// Which divisors a divider fits, for contracts.
+/// The divisors that a divider fits, for contracts.
 pub trait FitsDivisor: Sized {}
 
 impl<Any> FitsDivisor for Any {}
 
-/// The multiplier and the shift of a divisor, which isn't kept: each call is given it again.
+/// The multiplier and the shift of a divisor. The divisor itself isn't stored; the caller passes it to each call.
 ///
-/// Source: Granlund and Montgomery, "Division by invariant integers using multiplication", section
-/// 4.
+/// Source: Granlund and Montgomery, "Division by invariant integers using multiplication", section 4.
+///
+/// # Examples
+///
+/// ```
+/// use num_modular::PreMulInv1by1;
+///
+/// const SIXTY: PreMulInv1by1<u32> = PreMulInv1by1::<u32>::new(60);
+/// assert_eq!(SIXTY.div_rem(3725, 60), (62, 5));
+/// ```
 #[derive(Debug, Clone, Copy, PartialEq, Eq)]
 #[must_use]
 pub struct PreMulInv1by1<T> {
@@ -21,7 +29,7 @@ pub struct PreMulInv1by1<T> {
     pub(crate) shift: u32,
 }
 
-// How many binary digits a word has.
+// The number of binary digits of a word.
 #[inline]
 fn binary_digits<T: PathWord>(x: T) -> u32 {
     T::bits() - x.leading_zeros()
@@ -45,11 +53,10 @@ impl<T: PathWord> PreMulInv1by1<T> {
 }
 
 impl<T: PlainWord> PreMulInv1by1<T> {
-    /// The multiplier and the shift of a divisor: with n the least number such that the divisor d is
-    /// at most 2^n, and B the number of words, B·(2^n - d)/d rounded down, and 1 more; and n - 1.
+    /// The multiplier and the shift of a divisor d. With n the least number such that d is at most 2^n, and B the
+    /// base, the multiplier is B·(2^n - d)/d, rounded down, plus 1, and the shift is n - 1.
     ///
-    /// Source: Granlund and Montgomery, "Division by invariant integers using multiplication", section
-    /// 4.
+    /// Source: Granlund and Montgomery, "Division by invariant integers using multiplication", section 4.
     ///
     /// # Panics
     ///

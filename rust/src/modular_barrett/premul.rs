@@ -1,4 +1,4 @@
-//! The reducer whose forms are the values scaled to the top of a word.
+//! The reducer whose forms are the values shifted to the top of the word.
 
 use crate::modular_barrett::normalized::{Normalized2by1Divisor, StoredDivisor};
 use crate::modular_prim::below::{add_below, dbl_below, neg_below, sub_below};
@@ -8,13 +8,23 @@ use crate::modular_reduced::reducer::Reducer;
 use crate::modular_word::path_word::PathWord;
 use crate::modular_word::ring_word::RingWord;
 
-/// The reducer of a modulus from 1 up by a division of two words by one: with s the leading zeros of
-/// the modulus m, the form of a value v is v·2^s, and the divisor m·2^s, which has its top bit set.
+/// The reducer of a modulus m that is at least 1, by division of a double word. With s the leading zeros of m, the
+/// form of a value v is v·2^s, and the divisor is m·2^s, whose top bit is set.
 ///
-/// Sums, differences, doubles and negatives are taken modulo m·2^s without a division; a product is
-/// one product of words and one division by the reciprocal of m·2^s.
+/// Sums, differences, doubles and negatives are taken modulo m·2^s without a division. A product takes one product
+/// of words and one division by the reciprocal of m·2^s.
 ///
 /// Source: Möller and Granlund, "Improved division by invariant integers".
+///
+/// # Examples
+///
+/// ```
+/// use num_modular::{PreMulInv2by1, Reducer};
+///
+/// let ring = PreMulInv2by1::<u32>::new(1000);
+/// let x = ring.transform(123456);
+/// assert_eq!(ring.residue(ring.sqr(x)), 456 * 456 % 1000);
+/// ```
 #[derive(Debug, PartialEq, Eq)]
 #[must_use]
 pub struct PreMulInv2by1<T> {
@@ -47,19 +57,19 @@ impl<T: PlainWord> PreMulInv2by1<T> {
         }
     }
 
-    /// The divider by the scaled modulus.
+    /// The divider by the shifted modulus.
     #[inline]
     pub const fn divider(&self) -> &Normalized2by1Divisor<T> {
         &self.divider
     }
 
-    /// How many leading zeros the modulus has.
+    /// The number of leading zeros of the modulus.
     #[inline]
     pub const fn shift(&self) -> u32 {
         self.shift
     }
 
-    /// The scaled modulus, which has its top bit set.
+    /// The shifted modulus, whose top bit is set.
     #[inline]
     pub const fn divisor(&self) -> T {
         self.divider.divisor()

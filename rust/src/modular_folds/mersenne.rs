@@ -1,22 +1,22 @@
 //! The reducers of the moduli 2^P - K.
 
+use crate::modular_folds::folds::reduce_by_folds;
+use crate::modular_folds::products::{reduce_product, reduce_word};
 use crate::modular_folds::rings::{FoldModulus, FoldRing};
-use crate::modular_fold_paths::folds::reduce_by_folds;
-use crate::modular_fold_paths::products::{reduce_product, reduce_word};
 use crate::modular_reduced::reducer::Reducer;
 
 /// The modulus 2^P - K of at most 32 bits.
 #[derive(Debug, Clone, Copy)]
 #[must_use]
 pub struct Mersenne32<const P: u8, const K: u32> {
-    // Private, so that a value stands for parameters in range; the modulus comes from the parameters.
+    // Private, so that a value exists only for parameters in range; the modulus comes from the parameters.
     made: (),
 }
 
 /// The reducer of the modulus 2^P - K of at most 32 bits: the form of a value is the value itself.
 ///
-/// The parameters are in range where P is 32 at most and K is odd and less than half of 2^P. No call
-/// but `inv` divides: words and products are reduced by folds.
+/// The parameters are in range where P is at most 32 and K is odd and less than half of 2^P. Only `inv` divides;
+/// words and products are reduced by folds.
 ///
 /// Source: Handbook of Applied Cryptography, algorithm 14.47.
 pub type FixedMersenne32<const P: u8, const K: u32> = FoldRing<u32, Mersenne32<P, K>>;
@@ -53,7 +53,7 @@ impl<const P: u8, const K: u32> FoldRing<u32, Mersenne32<P, K>> {
         Self::reduce_counted(v).0
     }
 
-    /// The residue of a double word, and the number of folds that take it below 2^P.
+    /// The residue of a double word, and the number of folds that make it less than 2^P.
     ///
     /// # Panics
     ///
@@ -92,16 +92,26 @@ impl<const P: u8, const K: u32> FoldModulus<u32> for Mersenne32<P, K> {
 #[derive(Debug, Clone, Copy)]
 #[must_use]
 pub struct Mersenne64<const P: u8, const K: u64> {
-    // Private, so that a value stands for parameters in range; the modulus comes from the parameters.
+    // Private, so that a value exists only for parameters in range; the modulus comes from the parameters.
     made: (),
 }
 
 /// The reducer of the modulus 2^P - K of at most 64 bits: the form of a value is the value itself.
 ///
-/// The parameters are in range where P is 64 at most and K is odd and less than half of 2^P. No call
-/// but `inv` divides: words and products are reduced by folds.
+/// The parameters are in range where P is at most 64 and K is odd and less than half of 2^P. Only `inv` divides;
+/// words and products are reduced by folds.
 ///
 /// Source: Handbook of Applied Cryptography, algorithm 14.47.
+///
+/// # Examples
+///
+/// ```
+/// use num_modular::{FixedMersenne64, Reducer};
+///
+/// type Ring = FixedMersenne64<61, 1>;
+/// let ring = Ring::new(&Ring::MODULUS);
+/// assert_eq!(ring.mul(&(1 << 60), &4), 2);
+/// ```
 pub type FixedMersenne64<const P: u8, const K: u64> = FoldRing<u64, Mersenne64<P, K>>;
 
 impl<const P: u8, const K: u64> FoldRing<u64, Mersenne64<P, K>> {
@@ -136,7 +146,7 @@ impl<const P: u8, const K: u64> FoldRing<u64, Mersenne64<P, K>> {
         Self::reduce_counted(v).0
     }
 
-    /// The residue of a double word, and the number of folds that take it below 2^P.
+    /// The residue of a double word, and the number of folds that make it less than 2^P.
     ///
     /// # Panics
     ///
@@ -171,12 +181,11 @@ impl<const P: u8, const K: u64> FoldModulus<u64> for Mersenne64<P, K> {
     }
 }
 
-/// The reducer of the modulus 2^P - K of at most 64 bits over words of 128 bits: the form of a value
-/// is the value itself.
+/// The reducer of the modulus 2^P - K of at most 64 bits over words of 128 bits: the form of a value is the value
+/// itself.
 ///
-/// The parameters are in range where P is 64 at most and K is odd and less than half of 2^P. Forms are
-/// below 2^64, so a product of two of them fits a word and is reduced as a word; sums, differences and
-/// inverses are computed by `FixedMersenne64`.
+/// The parameters are in range where P is at most 64 and K is odd and less than half of 2^P. Forms are below 2^64,
+/// so a product of two of them fits a word. `FixedMersenne64` computes sums, differences and inverses.
 #[derive(Debug, Clone, Copy)]
 #[must_use]
 pub struct FixedMersenne<const P: u8, const K: u64> {
@@ -204,7 +213,7 @@ impl<const P: u8, const K: u64> FixedMersenne<P, K> {
         Self::reduce_counted(v).0
     }
 
-    /// The residue of a word, and the number of folds that take it below 2^P.
+    /// The residue of a word, and the number of folds that make it less than 2^P.
     ///
     /// # Panics
     ///

@@ -1,6 +1,6 @@
-//! The reducer of a modulus near a power of two, written once: each value is its own form.
+//! The reducer of a modulus near a power of two, written once: the form of a value is the value itself.
 
-use crate::modular_fold_paths::folds::FoldedWord;
+use crate::modular_folds::folds::FoldedWord;
 use crate::modular_prim::below::{add_below, dbl_below, neg_below, sub_below};
 use crate::modular_prim::euclid::invm;
 use crate::modular_prim::plain_word::PlainWord;
@@ -9,8 +9,8 @@ use crate::modular_word::path_word::PathWord;
 use crate::modular_word::ring_word::RingWord;
 use core::marker::PhantomData;
 
-/// A modulus near a power of two, which is given by parameters of the type: its number, and how words
-/// and products are reduced by it. A value of the type is known to have parameters in range.
+/// A modulus near a power of two that the parameters of the type give: its value, and how words and products are
+/// reduced by it. A value of the type exists only for parameters in range.
 pub trait FoldModulus<T: FoldedWord>: Copy {
     /// The modulus of the parameters.
     ///
@@ -23,10 +23,10 @@ pub trait FoldModulus<T: FoldedWord>: Copy {
     /// The modulus.
     fn modulus(&self) -> T;
 
-    /// The residue of a word.
+    /// The residue of a word, below the modulus.
     fn reduced(&self, n: T) -> T;
 
-    /// The residue of a product.
+    /// The residue of a product, below the modulus.
     ///
     /// # Preconditions
     ///
@@ -35,8 +35,8 @@ pub trait FoldModulus<T: FoldedWord>: Copy {
     fn product(&self, a: T, b: T) -> T;
 }
 
-/// The reducer of a modulus near a power of two, over words T: the form of a value is the value itself.
-/// It keeps no number, and `new` takes the modulus of the parameters alone.
+/// The reducer of a modulus near a power of two, over words T: the form of a value is the value itself. It stores
+/// nothing, and `new` accepts only the modulus of the parameters.
 #[derive(Debug, Clone, Copy)]
 #[must_use]
 pub struct FoldRing<T, M> {

@@ -1,15 +1,15 @@
 //! The reducers of the moduli 2^P1 - 2^P2 + K.
 
+use crate::modular_folds::folds::{FoldedWord, reduce_by_folds};
+use crate::modular_folds::products::{reduce_product, reduce_word};
 use crate::modular_folds::rings::{FoldModulus, FoldRing};
-use crate::modular_fold_paths::folds::{FoldedWord, reduce_by_folds};
-use crate::modular_fold_paths::products::{reduce_product, reduce_word};
 use crate::modular_prim::plain_word::PlainWord;
 use crate::modular_word::path_word::PathWord;
 use crate::modular_word::ring_word::RingWord;
 use core::marker::PhantomData;
 
-/// The trinomial 2^p1 - 2^p2 + k, as a type: so a type with an invariant can speak of a signed
-/// constant, and the code has the three numbers as constants.
+/// The trinomial 2^p1 - 2^p2 + k as a type, because an invariant of a type can't mention a signed constant
+/// parameter. The three numbers are constants in the code.
 pub trait Trinomial: Sized {
     /// The greater exponent.
     fn p1() -> u8;
@@ -65,7 +65,7 @@ impl<const P1: u8, const P2: u8, const K: i64> Trinomial for Trinomial64<P1, P2,
     }
 }
 
-// What a fold at the bit p1 multiplies by: 2^p2 - k.
+// The factor of a fold at the bit p1: 2^p2 - k.
 #[inline]
 fn factor_of(p1: u8, p2: u8, k: i64) -> u64 {
     ((1u64 << p2) as i128 - k as i128) as u64
@@ -76,16 +76,16 @@ fn modulus_of(p1: u8, p2: u8, k: i64) -> u64 {
     ((1u128 << p1) - factor_of(p1, p2, k) as u128) as u64
 }
 
-// Whether the modulus is less than half of 2^p1: folds could take very many turns then, and leave
-// many times the modulus.
+// Whether the modulus is less than half of 2^p1. Such a modulus could need very many folds, and many subtractions
+// after them.
 #[inline]
 fn is_low(p1: u8, p2: u8, k: i64) -> bool {
     p1 == p2 + 1 && k < 0
 }
 
-/// A word whose trinomial reducers exist: u32 and u64.
+/// A word that has trinomial reducers: u32 or u64.
 pub trait TrinomialWord: Sized + FoldedWord {
-    /// The word of a number.
+    /// The word of a given number.
     ///
     /// # Preconditions
     ///
@@ -116,13 +116,12 @@ pub struct TrinomialModulus<T, F> {
     parameters: PhantomData<F>,
 }
 
-/// The reducer of the modulus m = 2^p1 - 2^p2 + k of the trinomial F, over words T: the form of a
-/// value is the value itself. It keeps no number.
+/// The reducer of the modulus m = 2^p1 - 2^p2 + k of the trinomial F, over words T: the form of a value is the
+/// value itself. It stores nothing.
 ///
-/// The parameters are in range where p1 is the width of T at most, p2 is from 1 to p1 - 1, and k is
-/// odd and less than 2^p2 either way. Words and products are reduced by folds, except where
-/// p1 = p2 + 1 and k is negative: m is then less than half of 2^p1, and the primitive remainder is
-/// computed. `inv` divides by Euclid's algorithm.
+/// The parameters are in range where p1 is at most the width of T, p2 is from 1 to p1 - 1, and k is odd with a
+/// magnitude below 2^p2. Words and products are reduced by folds, except where p1 = p2 + 1 and k is negative: m is
+/// then less than half of 2^p1, and the remainder is a division's. `inv` divides by Euclid's algorithm.
 ///
 /// Source: Solinas, "Generalized Mersenne numbers" (1999).
 pub type TrinomialSolinas<T, F> = FoldRing<T, TrinomialModulus<T, F>>;
@@ -149,7 +148,7 @@ impl<T: TrinomialWord, F: Trinomial> Clone for TrinomialModulus<T, F> {
 impl<T: TrinomialWord, F: Trinomial> Copy for TrinomialModulus<T, F> {}
 
 impl<T: TrinomialWord, F: Trinomial> FoldRing<T, TrinomialModulus<T, F>> {
-    // What a fold at the bit p1 multiplies by.
+    // The factor of a fold at the bit p1.
     #[inline]
     fn factor() -> T {
         T::word_of(factor_of(F::p1(), F::p2(), F::k()))
@@ -186,14 +185,14 @@ impl<T: TrinomialWord, F: Trinomial> FoldRing<T, TrinomialModulus<T, F>> {
         Self::reduce_counted(v).0
     }
 
-    // The residue of a double word, by the primitive remainder.
+    // The residue of a double word, by a division.
     #[inline]
     fn remainder(v: T::Double) -> T {
         T::narrow_remainder(v, Self::fixed_modulus())
     }
 
-    /// The residue of a double word, and the number of folds that take it below 2^p1: 0 where the primitive
-    /// remainder is taken.
+    /// The residue of a double word, and the number of folds that make it less than 2^p1; 0 where the remainder is
+    /// a division's.
     ///
     /// # Panics
     ///

@@ -1,7 +1,7 @@
-//! What is computed once of an odd modulus, by functions that the compiler calls where it knows the
-//! modulus. They take each modulus, since a constant has to have a value for each parameter.
+//! What is precomputed of an odd modulus, as const functions for moduli that are known at compile time. They also
+//! accept even moduli, because a constant needs a value for each parameter.
 
-// `neginv` in words of the width, in a word of 64 bits whose higher bits say nothing, where m is odd.
+// `neginv` of words of `width` bits, for odd m, in the low bits of the result; the higher bits are unspecified.
 #[inline]
 const fn negated_inverse(m: u64, width: u32) -> u64 {
     let mut inverse = m;
@@ -13,7 +13,7 @@ const fn negated_inverse(m: u64, width: u32) -> u64 {
     0u64.wrapping_sub(inverse)
 }
 
-// `computed_once` in words of 32 bits, where m is odd.
+// `computed_once` in words of 32 bits, for odd m.
 #[inline]
 pub(crate) const fn computed_once_32(m: u32) -> (u32, u32) {
     if m == 0 {
@@ -23,7 +23,7 @@ pub(crate) const fn computed_once_32(m: u32) -> (u32, u32) {
     ((negated_inverse(m as u64, 32) & 0xffff_ffff) as u32, square)
 }
 
-// `computed_once` in words of 64 bits, where m is odd.
+// `computed_once` in words of 64 bits, for odd m.
 #[inline]
 pub(crate) const fn computed_once_64(m: u64) -> (u64, u64) {
     if m == 0 {
@@ -33,7 +33,7 @@ pub(crate) const fn computed_once_64(m: u64) -> (u64, u64) {
     (negated_inverse(m, 64), square)
 }
 
-// `computed_once` in words of 16 bits, where m is odd.
+// `computed_once` in words of 16 bits, for odd m.
 #[inline]
 pub(crate) const fn computed_once_16(m: u16) -> (u16, u16) {
     if m == 0 {
@@ -43,7 +43,7 @@ pub(crate) const fn computed_once_16(m: u16) -> (u16, u16) {
     ((negated_inverse(m as u64, 16) & 0xffff) as u16, square)
 }
 
-// `computed_once` in words of 8 bits, where m is odd.
+// `computed_once` in words of 8 bits, for odd m.
 #[inline]
 pub(crate) const fn computed_once_8(m: u8) -> (u8, u8) {
     if m == 0 {

@@ -1,22 +1,22 @@
-//! Reducers by Montgomery's representation of a modulus that is a parameter of the type.
+//! Reducers by Montgomery's representation whose modulus is a parameter of the type.
 
 use crate::modular_monty::computed::{computed_once_32, computed_once_64};
 use crate::modular_monty::odd_ring::{OddModulus, OddRing};
 use crate::modular_reduced::reducer::Reducer;
 use crate::modular_word::paths::redc;
 
-// What is computed once of P; a type, since of a constant a proof knows what its type promises.
+// What is precomputed of P. It is a type because proofs use what the type of a constant guarantees, not its value.
 #[derive(Clone, Copy)]
 struct Computed32<const P: u32> {
     negated_inverse: u32,
     square: u32,
 }
 
-/// The odd number P as a modulus for words of 32 bits, which each operation knows when it is compiled.
+/// The odd number P as a modulus for words of 32 bits, known at compile time.
 #[derive(Debug, Clone, Copy)]
 #[must_use]
 pub struct OddNumber32<const P: u32> {
-    // Private, so that a value stands for an odd P; the numbers come from the parameter.
+    // Private, so that a value exists only for an odd P; the numbers come from the parameter.
     made: (),
 }
 
@@ -30,8 +30,8 @@ impl<const P: u32> OddNumber32<P> {
     };
 }
 
-/// The reducer of the odd modulus P by Montgomery's representation in words of 32 bits: the form of
-/// v is v * 2^32 modulo P. `new` takes P alone.
+/// The reducer of the odd modulus P by Montgomery's representation in words of 32 bits: the form of v is v * 2^32
+/// modulo P. `new` accepts only P.
 ///
 /// Source: Handbook of Applied Cryptography, section 14.3.2.
 pub type FixedMontgomery32<const P: u32> = OddRing<u32, OddNumber32<P>>;
@@ -73,18 +73,18 @@ impl<const P: u32> OddModulus<u32> for OddNumber32<P> {
     }
 }
 
-// What is computed once of P; a type, since of a constant a proof knows what its type promises.
+// What is precomputed of P. It is a type because proofs use what the type of a constant guarantees, not its value.
 #[derive(Clone, Copy)]
 struct Computed64<const P: u64> {
     negated_inverse: u64,
     square: u64,
 }
 
-/// The odd number P as a modulus for words of 64 bits, which each operation knows when it is compiled.
+/// The odd number P as a modulus for words of 64 bits, known at compile time.
 #[derive(Debug, Clone, Copy)]
 #[must_use]
 pub struct OddNumber64<const P: u64> {
-    // Private, so that a value stands for an odd P; the numbers come from the parameter.
+    // Private, so that a value exists only for an odd P; the numbers come from the parameter.
     made: (),
 }
 
@@ -98,8 +98,8 @@ impl<const P: u64> OddNumber64<P> {
     };
 }
 
-/// The reducer of the odd modulus P by Montgomery's representation in words of 64 bits: the form of
-/// v is v * 2^64 modulo P. `new` takes P alone.
+/// The reducer of the odd modulus P by Montgomery's representation in words of 64 bits: the form of v is v * 2^64
+/// modulo P. `new` accepts only P.
 ///
 /// Source: Handbook of Applied Cryptography, section 14.3.2.
 pub type FixedMontgomery64<const P: u64> = OddRing<u64, OddNumber64<P>>;

@@ -15,6 +15,16 @@ use crate::modular_word::ring_word::RingWord;
 /// one more wrapping product.
 ///
 /// Source: Handbook of Applied Cryptography, section 14.3.2; for even m Koç, "Montgomery reduction with even modulus".
+///
+/// # Examples
+///
+/// ```
+/// use num_modular::{Montgomery, Reducer};
+///
+/// const RING: Montgomery<u64> = Montgomery::<u64>::new(10);
+/// let seven = RING.transform(7);
+/// assert_eq!(RING.residue(RING.pow(seven, &100)), 1);
+/// ```
 #[derive(Debug)]
 #[must_use]
 pub struct Montgomery<T> {

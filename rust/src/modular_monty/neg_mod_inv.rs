@@ -1,4 +1,4 @@
-//! The negated inverse of an odd word modulo the base, a module a width.
+//! The negated inverse of an odd word modulo the base, in one module for each width.
 
 pub use crate::modular_word::paths::neginv;
 

@@ -1,5 +1,5 @@
-//! Odd moduli by Montgomery's representation, which every reducer of this crate rests on: the calls
-//! of a reducer once, over whatever knows an odd modulus and reduces by it.
+//! Odd moduli by Montgomery's representation: the reducer that every reducer of this crate is an alias of or
+//! contains, over any type that holds an odd modulus and reduces by it.
 
 use crate::modular_monty::neg_mod_inv::neginv;
 use crate::modular_prim::below::{add_below, branchless_sub_below, dbl_below, neg_below, sub_below};
@@ -11,25 +11,24 @@ use crate::modular_word::paths::{ones, redc};
 use crate::modular_word::ring_word::RingWord;
 use core::marker::PhantomData;
 
-/// An odd modulus, with what is computed once of it: its negated inverse modulo the base, and the
-/// square of the base modulo it. A type that knows its modulus need not store it, and one of a
-/// special form may have a multiple of it at a lower cost.
+/// An odd modulus, with what is precomputed of it: its negated inverse modulo the base, and the square of the base
+/// modulo m. A type that knows its modulus needn't store it, and a modulus of a special form may be multiplied faster.
 pub trait OddModulus<T: PlainWord>: Copy {
-    /// What is kept of m.
+    /// What is stored of m.
     ///
     /// # Panics
     ///
-    /// Panics unless the type takes the modulus.
+    /// Panics unless the type admits the modulus.
     #[must_use]
     fn keep(m: T) -> Self;
 
     /// The modulus.
     fn modulus(&self) -> T;
 
-    /// The square of the base modulo it.
+    /// The square of the base, modulo m.
     fn square_of_base(&self) -> T;
 
-    /// Montgomery's reduction of t.
+    /// Montgomery's reduction of t, below m.
     ///
     /// # Preconditions
     ///
@@ -38,8 +37,8 @@ pub trait OddModulus<T: PlainWord>: Copy {
     fn reduced(&self, t: T::Double) -> T;
 }
 
-// The two numbers that are computed once of an odd modulus. The square of the base less m fits a double word,
-// and leaves what the square leaves.
+// What is precomputed of an odd modulus m. The square of the base doesn't fit a double word, but the square less m
+// does, and it is congruent to the square.
 #[inline]
 pub(crate) fn computed_once<T: PlainWord>(m: T) -> (T, T) {
     let negated_inverse = neginv(m);
@@ -60,7 +59,7 @@ fn is_negated_inverse<T: PathWord>(m: T, n: T) -> bool {
     m.wrapping_mul(n).wrapping_add(T::one()).is_zero_word()
 }
 
-// Whether a word is the square of the base modulo m: two reductions make 1 of that alone.
+// Whether a word is the square of the base modulo m: it is exactly where reducing it twice gives 1.
 fn is_square_of_base<T: PathWord>(m: T, negated_inverse: T, square: T) -> bool {
     if !square.is_below(m) {
         return false;
@@ -70,8 +69,8 @@ fn is_square_of_base<T: PathWord>(m: T, negated_inverse: T, square: T) -> bool {
     is_one(unit) || is_one(m)
 }
 
-/// The reducer by Montgomery's representation modulo what it holds: the form of v is v times the
-/// base, modulo m, the base being 2 to the width of the words T. `new` takes the moduli that M takes.
+/// The reducer by Montgomery's representation of the modulus of M: the form of v is v times the base modulo m, the
+/// base being 2 to the width of the words T. `new` accepts the moduli that M does.
 ///
 /// A product of forms takes one product of words and one reduction, which divides by the base alone.
 ///
@@ -84,7 +83,7 @@ pub struct OddRing<T, M> {
 }
 
 impl<T: PlainWord, M: OddModulus<T>> OddRing<T, M> {
-    /// The reducer by what is kept of its modulus.
+    /// The reducer of the modulus that is stored.
     #[inline]
     pub(crate) fn over(kept: M) -> Self {
         OddRing {
@@ -100,8 +99,8 @@ impl<T: PlainWord, M: OddModulus<T>> Reducer<T> for OddRing<T, M> {
         OddRing::over(M::keep(*m))
     }
 
-    // n times the base, divided, where machines divide double words fast; above, a product and a reduction
-    // take less than that division.
+    // Up to 16 bits, dividing n times the base is fast; for longer words a product and a reduction take less time
+    // than the division of a double word.
     #[inline]
     fn transform(&self, n: T) -> T {
         if T::bits() <= 16 {
@@ -162,7 +161,7 @@ impl<T: PlainWord, M: OddModulus<T>> Reducer<T> for OddRing<T, M> {
         self.kept.reduced(difference.product(*factor))
     }
 
-    // Through the value: its inverse, and the form of that.
+    // The form of the inverse of the value.
     #[inline]
     fn inv(&self, f: T) -> Option<T> {
         match fast_inverse(self.residue(f), self.kept.modulus()) {
@@ -177,7 +176,7 @@ impl<T: PlainWord, M: OddModulus<T>> Reducer<T> for OddRing<T, M> {
     }
 }
 
-/// An odd modulus that is known when the program runs, with what is computed once of it.
+/// An odd modulus that is known at run time, with what is precomputed of it.
 #[derive(Debug)]
 #[must_use]
 pub struct StoredModulus<T> {
@@ -199,8 +198,8 @@ impl<T: PlainWord> Clone for StoredModulus<T> {
 impl<T: PlainWord> Copy for StoredModulus<T> {}
 
 impl<T: PlainWord> StoredModulus<T> {
-    /// What is stored of m, by the two numbers that were computed of it before; `None` exactly where m is
-    /// even or one of them isn't that number. No division is made.
+    /// What is stored of m, given the two numbers that were precomputed of it earlier; `None` exactly where m is
+    /// even or one of the numbers is wrong. It makes no division.
     #[inline]
     pub fn restored(m: T, negated_inverse: T, square: T) -> Option<StoredModulus<T>> {
         if m.is_odd()

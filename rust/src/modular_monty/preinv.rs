@@ -1,4 +1,4 @@
-//! Exact division by an odd divisor whose inverse modulo the base is prepared.
+//! Exact division by an odd divisor whose inverse modulo the base is precomputed.
 
 use crate::modular_monty::neg_mod_inv::neginv;
 use crate::modular_prim::plain_word::PlainWord;
@@ -8,19 +8,27 @@ use crate::modular_word::paths::{exact_1, exact_2, ones};
 mod doubles;
 mod words;
 
-/// What contracts see of a prepared inverse.
+/// What contracts use of a precomputed inverse.
 pub trait PreparedInverse: Sized {}
 
 impl<Any> PreparedInverse for Any {}
 
 /// The inverse of an odd divisor modulo the base, and the greatest quotient of a word by it.
 ///
-/// The two numbers fit a divisor d where d * d_inv is 1 modulo the base and q_lim is the greatest
-/// word divided by d, rounded down. The type itself promises nothing of them: a division by d asks
-/// that they fit d.
+/// The two numbers fit a divisor d where d * d_inv is 1 modulo the base and q_lim is the greatest word divided by
+/// d, rounded down. The type doesn't guarantee that they do; a division by d requires it.
 ///
-/// Source: Granlund and Montgomery, "Division by invariant integers using multiplication",
-/// section 9.
+/// Source: Granlund and Montgomery, "Division by invariant integers using multiplication", section 9.
+///
+/// # Examples
+///
+/// ```
+/// use num_modular::{DivExact, PreModInv};
+///
+/// let seven = PreModInv::<u64>::from(7);
+/// assert_eq!(91u64.div_exact(7, &seven), Some(13));
+/// assert_eq!(92u64.div_exact(7, &seven), None);
+/// ```
 #[derive(Debug, Clone, Copy)]
 #[must_use]
 pub struct PreModInv<T> {
@@ -29,7 +37,7 @@ pub struct PreModInv<T> {
 }
 
 impl<T: PathWord> PreModInv<T> {
-    /// The two numbers, as they are given.
+    /// Stores the two numbers as they are given.
     #[inline]
     pub const fn new(d_inv: T, q_lim: T) -> Self {
         PreModInv { d_inv, q_lim }
@@ -37,7 +45,7 @@ impl<T: PathWord> PreModInv<T> {
 }
 
 impl<T: PlainWord> PreModInv<T> {
-    /// What fits the divisor d.
+    /// The two numbers that fit the divisor d.
     ///
     /// # Panics
     ///
@@ -51,16 +59,16 @@ impl<T: PlainWord> PreModInv<T> {
     }
 }
 
-// The quotient of a word; `None` exactly where d doesn't divide it. Condition: the stored inverse is that
-// of the divisor.
+// The quotient of a word by d; `None` exactly where d doesn't divide it. Condition: the stored inverse is that of
+// the divisor.
 #[inline]
 fn word_quotient<T: PathWord>(n: T, d: T, pre: &PreModInv<T>) -> Option<T> {
     debug_assert!(d.wrapping_mul(pre.d_inv) == T::one(), "the stored inverse must be that of the divisor");
     exact_1(d, pre.d_inv, pre.q_lim, n)
 }
 
-// The quotient of a double word; `None` exactly where d doesn't divide it. Condition: the stored inverse is that
-// of the divisor.
+// The quotient of a double word by d; `None` exactly where d doesn't divide it. Condition: the stored inverse is
+// that of the divisor.
 #[inline]
 fn double_quotient<T: PathWord>(n: T::Double, d: T, pre: &PreModInv<T>) -> Option<T::Double> {
     debug_assert!(d.wrapping_mul(pre.d_inv) == T::one(), "the stored inverse must be that of the divisor");

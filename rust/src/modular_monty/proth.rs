@@ -1,4 +1,4 @@
-//! Reducers by Montgomery's representation of the moduli K * 2^N + 1.
+//! Reducers by Montgomery's representation whose modulus is K * 2^N + 1.
 
 use crate::modular_monty::computed::{computed_once_32, computed_once_64};
 use crate::modular_monty::odd_ring::{OddModulus, OddRing};
@@ -11,7 +11,8 @@ const fn modulus_32(n: u8, k: u8) -> u32 {
     ((k as u32) << (n % 32)).wrapping_add(1)
 }
 
-// What is computed once of the modulus; a type, since of a constant a proof knows what its type promises.
+// What is precomputed of the modulus. It is a type because proofs use what the type of a constant guarantees, not
+// its value.
 #[derive(Clone, Copy)]
 struct Computed32<const N: u8, const K: u8> {
     negated_inverse: u32,
@@ -22,7 +23,7 @@ struct Computed32<const N: u8, const K: u8> {
 #[derive(Debug, Clone, Copy)]
 #[must_use]
 pub struct ProthNumber32<const N: u8, const K: u8> {
-    // Private, so that a value stands for parameters in range; the numbers come from the parameters.
+    // Private, so that a value exists only for parameters in range; the numbers come from the parameters.
     made: (),
 }
 
@@ -43,7 +44,7 @@ impl<const N: u8, const K: u8> ProthNumber32<N, K> {
         modulus_32(N, K)
     }
 
-    // The product with the modulus, by a product with K and a shift.
+    // The product of x and the modulus, by a product with K and a shift.
     #[inline]
     fn shift_mul(&self, x: u32) -> u64 {
         ((x as u64 * K as u64) << N) + x as u64
@@ -114,7 +115,8 @@ const fn modulus_64(n: u8, k: u8) -> u64 {
     ((k as u64) << (n % 64)).wrapping_add(1)
 }
 
-// What is computed once of the modulus; a type, since of a constant a proof knows what its type promises.
+// What is precomputed of the modulus. It is a type because proofs use what the type of a constant guarantees, not
+// its value.
 #[derive(Clone, Copy)]
 struct Computed64<const N: u8, const K: u8> {
     negated_inverse: u64,
@@ -125,7 +127,7 @@ struct Computed64<const N: u8, const K: u8> {
 #[derive(Debug, Clone, Copy)]
 #[must_use]
 pub struct ProthNumber64<const N: u8, const K: u8> {
-    // Private, so that a value stands for parameters in range; the numbers come from the parameters.
+    // Private, so that a value exists only for parameters in range; the numbers come from the parameters.
     made: (),
 }
 
@@ -146,7 +148,7 @@ impl<const N: u8, const K: u8> ProthNumber64<N, K> {
         modulus_64(N, K)
     }
 
-    // The product with the modulus, by a product with K and a shift.
+    // The product of x and the modulus, by a product with K and a shift.
     #[inline]
     fn shift_mul(&self, x: u64) -> u128 {
         ((x as u128 * K as u128) << N) + x as u128

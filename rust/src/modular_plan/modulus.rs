@@ -1,4 +1,4 @@
-//! Products by factors with a precomputed quotient, modulo numbers of at most a fourth of the words.
+//! Products by factors with a precomputed quotient, modulo an m that is at most a quarter of the base.
 
 use crate::modular_prim::below::reduced_once;
 use crate::modular_prim::plain_word::PlainWord;
@@ -7,7 +7,7 @@ use crate::modular_word::path_word::PathWord;
 use crate::modular_word::paths::div_2by1;
 use crate::modular_word::ring_word::RingWord;
 
-/// A factor w below a modulus m, and the quotient by m of w times the number of words.
+/// A factor w below a modulus m, and its quotient w·B/m, rounded down, with B the base.
 ///
 /// Source: Harvey, "Faster arithmetic for number-theoretic transforms", section 3, after Shoup.
 #[derive(Debug, PartialEq, Eq)]
@@ -29,15 +29,28 @@ impl<T: PathWord> Clone for Factor<T> {
 impl<T: PathWord> Copy for Factor<T> {}
 
 impl<T: PathWord> Factor<T> {
-    /// Whether it is 1.
+    /// Whether the factor is 1.
     #[inline]
     pub fn is_one(&self) -> bool {
         self.value == T::one()
     }
 }
 
-/// A modulus m with what is computed once of it. It is at least 1 and at most a quarter of the base, so
-/// that words below 4m are at hand for sums that aren't reduced.
+/// A modulus m with its reciprocal. It is at least 1 and at most a quarter of the base, so that words below 4m hold
+/// sums that aren't reduced.
+///
+/// # Examples
+///
+/// ```
+/// use num_modular::plans::{ntt_planned, plan, Factor, PlannedModulus};
+///
+/// let modulus = PlannedModulus::<u64>::new(97);
+/// let mut table = [Factor::<u64>::ZERO; 2];
+/// plan(&modulus, 22, &mut table); // 22 has the order 4
+/// let mut entries = [1, 2, 3, 4];
+/// ntt_planned(&modulus, &mut entries, &table);
+/// assert_eq!(entries[0], 1 + 2 + 3 + 4);
+/// ```
 #[derive(Debug, PartialEq, Eq)]
 #[must_use]
 pub struct PlannedModulus<T> {
@@ -57,7 +70,7 @@ impl<T: PathWord> Clone for PlannedModulus<T> {
 impl<T: PathWord> Copy for PlannedModulus<T> {}
 
 impl<T: PlainWord> PlannedModulus<T> {
-    /// Whether plans admit the modulus m: it is at least 1, and 4m is at most the number of words.
+    /// Whether m can be the modulus of a plan: it is at least 1, and 4m is at most the base.
     #[inline]
     pub fn admits(m: T) -> bool {
         let greatest = T::one().shift_left(T::bits() - 2);
@@ -72,11 +85,10 @@ impl<T: PlainWord> PlannedModulus<T> {
     ///
     /// # Panics
     ///
-    /// Panics unless the modulus is at least 1 and at most a fourth of the number of words (`admits`
-    /// tells).
+    /// Panics unless the modulus is at least 1 and at most 2^w/4, for words of w bits (`admits` tells).
     #[inline]
     pub fn new(m: T) -> Self {
-        assert!(Self::admits(m), "the modulus must be at least 1 and at most a fourth of the number of words");
+        assert!(Self::admits(m), "the modulus must be at least 1 and at most 2^w/4, for words of w bits");
         let shift = m.leading_zeros();
         let reciprocal = invert_word(m.shift_left(shift));
         PlannedModulus {
@@ -86,7 +98,7 @@ impl<T: PlainWord> PlannedModulus<T> {
         }
     }
 
-    /// The factor w with its quotient. It divides by the reciprocal.
+    /// The factor w with its quotient, which is computed by the reciprocal.
     ///
     /// # Panics
     ///
@@ -100,7 +112,7 @@ impl<T: PlainWord> PlannedModulus<T> {
         Factor { value: w, quotient }
     }
 
-    /// The residue of a factor times the base: what its quotient leaves.
+    /// The residue of a factor times the base, below m, computed from its quotient.
     ///
     /// # Preconditions
     ///
@@ -113,13 +125,14 @@ impl<T: PlainWord> PlannedModulus<T> {
 
     /// A number below 2m that is congruent to the product of any word x with a factor.
     ///
-    /// It takes the high word of one product and the low words of two. Source: Harvey, "Faster
-    /// arithmetic for number-theoretic transforms", section 3.
+    /// It takes the high word of one product and the low words of two.
+    ///
+    /// Source: Harvey, "Faster arithmetic for number-theoretic transforms", section 3.
     ///
     /// # Preconditions
     ///
-    /// The factor is one modulo m. This isn't tested: outside it the call panics, or returns no meaningful
-    /// result.
+    /// The factor is a residue modulo m. This isn't tested: outside it the call panics, or returns no
+    /// meaningful result.
     #[inline]
     pub fn times(&self, x: T, w: &Factor<T>) -> T {
         let (_, whole) = T::split(x.product(w.quotient));
@@ -127,19 +140,18 @@ impl<T: PlainWord> PlannedModulus<T> {
         product.wrapping_sub(whole.wrapping_mul(self.modulus))
     }
 
-    /// The residue of the product of any word x with a factor.
+    /// The residue of the product of any word x with a factor, below m.
     ///
     /// # Preconditions
     ///
-    /// The factor is one modulo m. This isn't tested: outside it the call panics, or returns no meaningful
-    /// result.
+    /// The factor is a residue modulo m. This isn't tested: outside it the call panics, or returns no
+    /// meaningful result.
     #[inline]
     pub fn product(&self, x: T, w: &Factor<T>) -> T {
         reduced_once(self.times(x, w), self.modulus)
     }
 
-    /// The residue of the product of a word x with any word. It divides by the
-    /// reciprocal.
+    /// The residue of the product of a word x with any word y, below m, computed by the reciprocal.
     ///
     /// # Preconditions
     ///
@@ -152,8 +164,9 @@ impl<T: PlainWord> PlannedModulus<T> {
         rest.shift_right(self.shift)
     }
 
-    /// The residue of x·v + u·y. It divides once by the reciprocal, and
-    /// modulo 2m, since the sum may have a high word from m on.
+    /// The residue of x·v + u·y, below m.
+    ///
+    /// It divides once, by the reciprocal, modulo 2m: the high word of the sum may be at least m, but it is below 2m.
     ///
     /// # Preconditions
     ///
@@ -172,8 +185,9 @@ impl<T: PlainWord> PlannedModulus<T> {
         self.modulus.plus(self.modulus)
     }
 
-    /// Whether a word of more than 32 bits is 4m or more. A loop over entries that ends there, where it never does,
-    /// can't be counted, so that it is compiled without vectors: those of such words are slower.
+    /// Whether a word of more than 32 bits is at least 4m; false for shorter words. A loop over entries below 4m
+    /// returns where this is true, which it never is: so compilers can't compute the loop's trip count, and don't
+    /// vectorize it. Vectors of words of more than 32 bits would be slower.
     #[inline]
     pub fn is_outside(&self, x: T) -> bool {
         let twice = self.twice();
@@ -186,7 +200,7 @@ impl<T: PlainWord> PlannedModulus<T> {
         x.half().is_below(self.twice())
     }
 
-    /// The residue of a word.
+    /// The residue of a word, below m.
     ///
     /// # Preconditions
     ///

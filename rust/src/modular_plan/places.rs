@@ -1,11 +1,11 @@
-//! What two stages at once read and write: four entries of a list, and three of a table.
+//! What two stages in one pass read and write: four entries of a list, and three of a table.
 
 use crate::modular_plan::entry::PlanEntry;
 use crate::modular_plan::modulus::Factor;
 use crate::modular_prim::plain_word::PlainWord;
 use crate::modular_word::path_word::PathWord;
 
-// The entries at four places.
+// The entries at four indexes.
 #[inline(always)]
 pub(crate) fn four_at<T: PlainWord>(
     xs: &[T],
@@ -17,7 +17,7 @@ pub(crate) fn four_at<T: PlainWord>(
     (xs[i], xs[j], xs[k], xs[l])
 }
 
-// Writes the entries at four places.
+// Writes the entries at four indexes.
 #[inline(always)]
 pub(crate) fn set_four<T: PlainWord>(
     xs: &mut [T],
@@ -33,7 +33,7 @@ pub(crate) fn set_four<T: PlainWord>(
     xs[i] = four.0;
 }
 
-// The factors of the block that has this place in the table, and of its halves.
+// The factor of the block with this index in the table, and the factors of its halves.
 #[inline(always)]
 pub(crate) fn factors_at<T: PlainWord, F: PlanEntry<T>>(
     table: &[F],

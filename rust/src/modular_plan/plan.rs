@@ -1,4 +1,4 @@
-//! The plan: a table of the powers of a root, as factors, which the caller keeps.
+//! The plan: a table of the powers of a root, as factors, which the caller owns.
 
 use crate::modular_plan::entry::PlanEntry;
 use crate::modular_plan::modulus::PlannedModulus;
@@ -6,11 +6,11 @@ use crate::modular_prim::plain_word::PlainWord;
 use crate::modular_word::path_word::PathWord;
 use crate::modular_word::ring_word::RingWord;
 
-/// Fills the table with the plan by g for transforms of n entries, n being twice its length: entry k
-/// becomes the factor of g to the power of the reversed bits of k.
+/// Fills the table with the plan by g for transforms of n entries, n being twice its length: entry k becomes the
+/// factor of g to the power of the reversed bits of k.
 ///
-/// The first entries of a plan are
-/// a plan for fewer entries, by the power of g that suits them.
+/// The first entries of a plan are a plan for
+/// fewer entries, by the power of g that suits them.
 ///
 /// # Panics
 ///
@@ -21,7 +21,7 @@ pub fn plan<T: PlainWord, F: PlanEntry<T>>(m: &PlannedModulus<T>, g: T, table: &
     debug_assert!(crate::additions::root_fits_plan(m, g, table.len()), "g must suit n entries, n being a power of two");
     table[0] = F::entry(m.factor(m.residue(T::one())));
     let bits = table.len().trailing_zeros();
-    // The places of one bit: the highest takes g, and each lower one the square of the last.
+    // The indexes with a single bit set: the highest gets g, and each lower one the square of the last.
     let mut power = g;
     let mut place = table.len();
     'squares: for _bit in 0..bits {
@@ -30,8 +30,8 @@ pub fn plan<T: PlainWord, F: PlanEntry<T>>(m: &PlannedModulus<T>, g: T, table: &
         table[place] = F::entry(factor);
         power = m.product(power, &factor);
     }
-    // The reversed bits of count + other are the sum of those of both, so that the power is a product. It
-    // waits for none that was made just before.
+    // The reversed bits of count + other are the sum of those of both, so that the power is a product. No product
+    // waits for the one just before it.
     let mut count = 1;
     'doublings: for _bit in 0..bits {
         let factor = table[count].factor();

@@ -1,18 +1,18 @@
-//! Moduli that leave words more room than every plan asks for.
+//! Moduli that leave words more room than a plan requires.
 
 use crate::modular_plan::modulus::{Factor, PlannedModulus};
 use crate::modular_prim::plain_word::PlainWord;
 use crate::modular_word::path_word::PathWord;
 use crate::modular_word::ring_word::RingWord;
 
-/// The modulus m of a plan where it is at most a sixteenth of the number of words, so that words below 16m are at
-/// hand: sums are reduced less often.
+/// The modulus m of a plan that is at most a sixteenth of the base, so that words below 16m hold sums that aren't
+/// reduced.
 #[derive(Debug)]
 #[must_use]
 pub struct RoomyModulus<T> {
     /// The modulus.
     pub(crate) planned: PlannedModulus<T>,
-    /// The factor 1, by which any word is reduced.
+    /// The factor 1: the product with it reduces any word.
     pub(crate) unit: Factor<T>,
 }
 
@@ -26,7 +26,7 @@ impl<T: PathWord> Clone for RoomyModulus<T> {
 impl<T: PathWord> Copy for RoomyModulus<T> {}
 
 impl<T: PlainWord> RoomyModulus<T> {
-    /// The modulus of a plan; `None` exactly where it is above a sixteenth of the number of words.
+    /// The modulus of a plan; `None` exactly where it is above a sixteenth of the base.
     pub fn new(planned: &PlannedModulus<T>) -> Option<Self> {
         let greatest = T::one().shift_left(T::bits() - 4);
         if greatest.is_below(planned.modulus) {
@@ -40,7 +40,7 @@ impl<T: PlainWord> RoomyModulus<T> {
         }
     }
 
-    /// The residue of any word, by its product with 1.
+    /// The residue of any word, below m, by its product with 1.
     #[inline]
     pub fn residue(&self, x: T) -> T {
         self.planned.product(x, &self.unit)

@@ -9,7 +9,7 @@ use crate::modular_plan::split_steps::SplitSteps;
 use crate::modular_prim::plain_word::PlainWord;
 use crate::modular_word::path_word::PathWord;
 
-// The pair at two places.
+// Splits the pair of entries at two indexes.
 #[inline]
 fn split_pair<T: PlainWord, M: SplitSteps<T>>(
     m: &M,
@@ -23,7 +23,7 @@ fn split_pair<T: PlainWord, M: SplitSteps<T>>(
     xs[low] = sum;
 }
 
-// The pairs of the block from place `first` on.
+// Splits the pairs of the block whose first index is `first`.
 #[inline]
 fn split_block<T: PlainWord, M: SplitSteps<T>>(
     m: &M,
@@ -33,7 +33,7 @@ fn split_block<T: PlainWord, M: SplitSteps<T>>(
     w: &Factor<T>,
 ) {
     'columns: for i in 0..half {
-        // never so
+        // Unreachable; keeps LLVM from vectorizing this loop (see `is_beyond`).
         if m.is_beyond(xs[first + i]) {
             return;
         }
@@ -41,7 +41,7 @@ fn split_block<T: PlainWord, M: SplitSteps<T>>(
     }
 }
 
-// All blocks of a stage, block p by entry first + p of the table.
+// Splits all blocks of a stage, block p by entry first + p of the table.
 #[inline]
 fn split_stage<T: PlainWord, M: SplitSteps<T>, F: PlanEntry<T>>(
     m: &M,
@@ -57,8 +57,8 @@ fn split_stage<T: PlainWord, M: SplitSteps<T>, F: PlanEntry<T>>(
     }
 }
 
-// Two stages of all blocks, block p by entry first + p of the table, and its halves by the entries at
-// twice that place.
+// Two stages of all blocks: block p by entry first + p of the table, and its halves by the entries 2·(first + p)
+// and 2·(first + p) + 1.
 #[inline(always)]
 fn split_two_stages<T: PlainWord, M: SplitSteps<T>, F: PlanEntry<T>>(
     m: &M,
@@ -75,7 +75,7 @@ fn split_two_stages<T: PlainWord, M: SplitSteps<T>, F: PlanEntry<T>>(
     }
 }
 
-// `split_two_stages` once for each length that is a power of four up to 1024: a compiler that knows it addresses the
+// `split_two_stages` for each power of four up to 1024 as a constant length: compilers then address the four
 // quarters by one pointer.
 fn split_known<T: PlainWord, M: SplitSteps<T>, F: PlanEntry<T>>(
     m: &M,
@@ -97,7 +97,7 @@ fn split_known<T: PlainWord, M: SplitSteps<T>, F: PlanEntry<T>>(
 }
 
 // A pass of two stages, block p by entry first + p of the table. The first pass of a transform takes one product in
-// place of four, since a plan begins with 1.
+// place of four, since a plan begins with the factor 1.
 fn split_pass<T: PlainWord, M: SplitSteps<T>, F: PlanEntry<T>>(
     m: &M,
     xs: &mut [T],
@@ -114,7 +114,7 @@ fn split_pass<T: PlainWord, M: SplitSteps<T>, F: PlanEntry<T>>(
     }
 }
 
-// The last two stages: those of `split_two_stages` on each four neighbours, and their residues.
+// The last two stages, which also reduce: those of `split_two_stages` on each four neighbours, and their residues.
 fn split_fours<T: PlainWord, M: SplitSteps<T>, F: PlanEntry<T>>(
     m: &M,
     xs: &mut [T],
@@ -125,7 +125,7 @@ fn split_fours<T: PlainWord, M: SplitSteps<T>, F: PlanEntry<T>>(
     'fours: for p in 0..blocks {
         let (w, u, v) = factors_at(table, first + p);
         let place = p * 4;
-        // never so
+        // Unreachable; keeps LLVM from vectorizing this loop (see `is_beyond`).
         if m.is_beyond(xs[place]) {
             return;
         }
@@ -133,7 +133,7 @@ fn split_fours<T: PlainWord, M: SplitSteps<T>, F: PlanEntry<T>>(
     }
 }
 
-// Each entry's residue.
+// Replaces each entry by its residue.
 #[inline]
 fn reduce_each<T: PlainWord, M: SplitSteps<T>>(m: &M, xs: &mut [T]) {
     'entries: for i in 0..xs.len() {
@@ -141,8 +141,8 @@ fn reduce_each<T: PlainWord, M: SplitSteps<T>>(m: &M, xs: &mut [T]) {
     }
 }
 
-/// Whether `split` takes a list of so many entries from block b down to blocks of `last`, by a plan of
-/// so many factors.
+/// Whether `split` accepts a list of `length` entries, from block b down to blocks of `last`, and a plan of
+/// `factors` factors.
 #[inline]
 pub fn splits(length: usize, factors: usize, b: usize, last: usize) -> bool {
     if last == 0 {
@@ -161,8 +161,8 @@ pub fn splits(length: usize, factors: usize, b: usize, last: usize) -> bool {
     b < factors / (count / 2)
 }
 
-// All stages from block b down to blocks of `last`, by the conditions of `split`. Where their number is
-// odd a single one comes first, so that the other passes do two.
+// All stages from block b down to blocks of `last`, under the conditions of `split`. Where their number is odd, a
+// single stage comes first, so that each other pass does two.
 fn split_stages<T: PlainWord, M: SplitSteps<T>, F: PlanEntry<T>>(
     m: &M,
     xs: &mut [T],
@@ -188,7 +188,7 @@ fn split_stages<T: PlainWord, M: SplitSteps<T>, F: PlanEntry<T>>(
     }
 }
 
-// `split` by the steps that a modulus admits.
+// `split`, by the steps for a modulus of type M.
 fn split_by<T: PlainWord, M: SplitSteps<T>, F: PlanEntry<T>>(
     m: &M,
     xs: &mut [T],
@@ -206,7 +206,7 @@ fn split_by<T: PlainWord, M: SplitSteps<T>, F: PlanEntry<T>>(
     }
 }
 
-/// `split` with entries that are only congruent to the remainders, and may be any words: no residues are taken.
+/// `split` without the residues: the entries are any words that are congruent to the remainders.
 ///
 /// # Preconditions
 ///
@@ -225,16 +225,17 @@ pub fn split_loosely<T: PlainWord, F: PlanEntry<T>>(
     }
 }
 
-/// Splits block b of the tree of remainders into blocks of `last` entries: entry i of block j becomes
-/// the sum over k of x_(k·last + i)·c^k modulo m, the coefficient of the remainder modulo X^last - c,
-/// where c is the power of g by the reversed bits of b·count + j, count being the number of blocks.
+/// Splits block b of the tree of remainders into blocks of `last` entries: entry i of block j becomes the sum over
+/// k of x_(k·last + i)·c^k modulo m, the coefficient of the remainder modulo X^last - c, where c is the power of g
+/// by the reversed bits of b·count + j, count being the number of blocks.
 ///
-/// So b = 0 and last = 1 give the transform by g, in bit-reversed order; b = 1 starts from a
-/// polynomial modulo X^n + 1. The table is the plan by g; any plan that is long enough serves.
+/// So b = 0 and last = 1 give the transform by g, in bit-reversed order; b = 1 starts from a polynomial modulo
+/// X^n + 1. The table is the plan by g, of any length that suffices.
 ///
-/// Source: the sums and differences are those of Cooley and Tukey, with one factor a block, as
-/// Bernstein ("Multidigit multiplication for mathematicians", section 2) has them. A pass over the list
-/// does two stages; a single one comes first where their number is odd.
+/// Each pass over the list does two stages; a single one comes first where their number is odd.
+///
+/// Source: the sums and differences of Cooley and Tukey with one factor for each block, as in Bernstein,
+/// "Multidigit multiplication for mathematicians", section 2.
 ///
 /// # Panics
 ///

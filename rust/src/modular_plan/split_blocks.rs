@@ -1,4 +1,4 @@
-//! Two stages of one block of a split: of four quarters, of the whole list by 1, and of four neighbours.
+//! Two stages of one block of a split: of four quarters, of the whole list with the factor 1, and of four neighbours.
 
 use crate::modular_plan::modulus::Factor;
 use crate::modular_plan::places::{four_at, set_four};
@@ -39,7 +39,7 @@ fn split_columns<T: PlainWord, M: SplitSteps<T>>(
     v: &Factor<T>,
 ) {
     'columns: for i in 0..first.len() {
-        // Unreachable; the early return keeps LLVM from vectorizing this loop, which is slower.
+        // Unreachable; keeps LLVM from vectorizing this loop (see `is_beyond`).
         if m.is_beyond(first[i]) {
             return;
         }
@@ -63,7 +63,7 @@ fn split_halves<T: PlainWord, M: SplitSteps<T>>(
     split_columns(m, a, b, c, d, w, u, v);
 }
 
-// Two stages of the block of four times q entries from place `first` on.
+// Two stages of the block of 4·q entries whose first index is `first`.
 #[inline(always)]
 pub(crate) fn split_quarters<T: PlainWord, M: SplitSteps<T>>(
     m: &M,
@@ -80,7 +80,7 @@ pub(crate) fn split_quarters<T: PlainWord, M: SplitSteps<T>>(
     split_halves(m, low, high, q, w, u, v);
 }
 
-// Two stages of column i of the whole list, below 4m as yet: by 1 and by 1, and by v.
+// Two stages of column i of the whole list, whose entries are below 4m: with the factors 1 and 1, and v.
 #[inline(always)]
 fn split_column_by_one<T: PlainWord, M: SplitSteps<T>>(
     m: &M,
@@ -98,7 +98,7 @@ fn split_column_by_one<T: PlainWord, M: SplitSteps<T>>(
     set_four(xs, i, second, third, fourth, four);
 }
 
-// Two stages of the whole list by a plan that begins with 1: by 1 and by 1, and by v, its second factor.
+// Two stages of the whole list by a plan that begins with 1: with the factors 1 and 1, and v, its second factor.
 #[inline]
 pub(crate) fn split_by_one<T: PlainWord, M: SplitSteps<T>>(
     m: &M,
@@ -107,7 +107,7 @@ pub(crate) fn split_by_one<T: PlainWord, M: SplitSteps<T>>(
     v: &Factor<T>,
 ) {
     'columns: for i in 0..q {
-        // Unreachable; the early return keeps LLVM from vectorizing this loop, which is slower.
+        // Unreachable; keeps LLVM from vectorizing this loop (see `is_beyond`).
         if m.is_beyond(xs[i]) {
             return;
         }
@@ -115,7 +115,7 @@ pub(crate) fn split_by_one<T: PlainWord, M: SplitSteps<T>>(
     }
 }
 
-// Two stages of four numbers, and the residues.
+// Two stages of four numbers, and their residues.
 #[inline(always)]
 fn split_to_residues<T: PlainWord, M: SplitSteps<T>>(
     m: &M,
@@ -134,7 +134,7 @@ fn split_to_residues<T: PlainWord, M: SplitSteps<T>>(
     (m.residue(a), second, third, fourth)
 }
 
-// Two stages of the four entries from place `first` on, which become residues.
+// Two stages of the four entries whose first index is `first`, which become residues.
 pub(crate) fn split_neighbours<T: PlainWord, M: SplitSteps<T>>(
     m: &M,
     xs: &mut [T],

@@ -1,4 +1,4 @@
-//! The steps of a pass of `split`, by the room that words leave above the modulus.
+//! The steps of a pass of `split`, by how much greater than the modulus words may be.
 
 use crate::modular_plan::modulus::{Factor, PlannedModulus};
 use crate::modular_plan::roomy::RoomyModulus;
@@ -7,14 +7,15 @@ use crate::modular_prim::plain_word::PlainWord;
 use crate::modular_word::path_word::PathWord;
 use crate::modular_word::ring_word::RingWord;
 
-/// A modulus m by which pairs and fours of entries are split. Between two passes the entries stay below a bound,
-/// a multiple of m. Condition of each call: entries x, y, z and t are below the bound, and factors are factors modulo m.
+/// A modulus m by which pairs and fours of entries are split. Between two passes the entries stay below a bound, a
+/// multiple of m. Condition of each call: entries x, y, z and t are below the bound, and factors are factors modulo m.
 pub trait SplitSteps<T: PlainWord>: Copy {
-    /// Whether a word is at the bound or above it. A loop over entries that ends at one, where it never does, can't be
-    /// counted, so that it is compiled without vectors: those of words of more than 32 bits are slower.
+    /// Whether a word of more than 32 bits is at least the bound; false for shorter words. A loop over entries below
+    /// the bound returns where this is true, which it never is: so compilers can't compute the loop's trip count, and
+    /// don't vectorize it. Vectors of words of more than 32 bits would be slower.
     fn is_beyond(&self, x: T) -> bool;
 
-    /// x + y·w and x - y·w.
+    /// Numbers below the bound, congruent to x + y·w and x - y·w.
     ///
     /// # Preconditions
     ///
@@ -22,7 +23,8 @@ pub trait SplitSteps<T: PlainWord>: Copy {
     /// outside it the call panics, or returns no meaningful result.
     fn pair(&self, x: T, y: T, w: &Factor<T>) -> (T, T);
 
-    /// Two stages of four numbers, a quarter of a block apart: by the block's factor w, and by those of its halves.
+    /// Two stages of four numbers a quarter of a block apart, with the factor w of the block, and u and v of its
+    /// halves.
     ///
     /// # Preconditions
     ///
@@ -39,7 +41,7 @@ pub trait SplitSteps<T: PlainWord>: Copy {
         v: &Factor<T>,
     ) -> (T, T, T, T);
 
-    /// The same of numbers below 4m where w and u are 1.
+    /// The same for numbers below 4m, where w and u are 1.
     ///
     /// # Preconditions
     ///
@@ -47,7 +49,7 @@ pub trait SplitSteps<T: PlainWord>: Copy {
     /// outside it the call panics, or returns no meaningful result.
     fn four_by_one(&self, x: T, y: T, z: T, t: T, v: &Factor<T>) -> (T, T, T, T);
 
-    /// The residue of an entry.
+    /// The residue of an entry, below m.
     ///
     /// # Preconditions
     ///
@@ -56,20 +58,20 @@ pub trait SplitSteps<T: PlainWord>: Copy {
     fn residue(&self, x: T) -> T;
 }
 
-// x + y·w and x - y·w of a number x that has room for 2m more.
+// Numbers congruent to x + y·w and x - y·w, where x + 2m fits a word.
 #[inline]
 fn spread<T: PlainWord>(m: &PlannedModulus<T>, x: T, y: T, w: &Factor<T>) -> (T, T) {
     let product = m.times(y, w);
     (x.plus(product), x.plus(m.twice().minus(product)))
 }
 
-// x + y, and x + (b - y) for a bound b of y.
+// x + y and x + (b - y), for a bound b that is at least y.
 #[inline]
 fn sum_and_difference<T: PlainWord>(x: T, y: T, bound: T) -> (T, T) {
     (x.plus(y), x.plus(bound.minus(y)))
 }
 
-// x + y and x - y of numbers below 4m.
+// Numbers congruent to x + y and x - y, all below 4m.
 #[inline]
 fn pair_by_one<T: PlainWord>(m: &PlannedModulus<T>, x: T, y: T) -> (T, T) {
     let twice = m.twice();
@@ -119,7 +121,7 @@ impl<T: PlainWord> SplitSteps<T> for PlannedModulus<T> {
     }
 }
 
-// Entries stay below 12m: of four numbers one is reduced, from 12m to 8m, and none of the products' operands.
+// Entries stay below 12m. Of four numbers only one is reduced, from below 12m to below 8m, and no operand of a product.
 impl<T: PlainWord> SplitSteps<T> for RoomyModulus<T> {
     #[inline]
     fn is_beyond(&self, x: T) -> bool {

@@ -12,7 +12,7 @@ use crate::modular_word::path_word::PathWord;
 use crate::modular_word::paths::neginv;
 use crate::modular_word::ring_word::RingWord;
 
-// The residue of a power of two, by doublings of 1: it may be too large for the word.
+// The residue of a power of two, by doubling 1, because the power may not fit a word.
 #[inline]
 fn residue_of_count<T: PlainWord>(m: &PlannedModulus<T>, count: usize) -> T {
     let mut residue = m.residue(T::one());
@@ -22,8 +22,8 @@ fn residue_of_count<T: PlainWord>(m: &PlannedModulus<T>, count: usize) -> T {
     residue
 }
 
-// Splits the first of two lists that `join_products` multiplies. For single entries and an odd modulus it takes any
-// words, so that no residues are needed.
+// Splits the first of the two lists for `join_products`. For single entries and an odd modulus that takes any
+// words, so that no residues are computed.
 #[inline]
 fn split_first<T: PlainWord, F: PlanEntry<T>>(
     m: &PlannedModulus<T>,
@@ -39,9 +39,9 @@ fn split_first<T: PlainWord, F: PlanEntry<T>>(
     }
 }
 
-// Multiplies the blocks as `multiply` does, and joins the products as `join_scaled` does. Single entries
-// are multiplied by Montgomery's reduction where m is odd: then the number of words, by which it
-// divides, is made up for by the factor, and the entries of the first list may be any words.
+// Multiplies the blocks as `multiply` does, and joins the products as `join_scaled` does. For odd m, single entries
+// are multiplied by Montgomery's reduction, which accepts any words in the first list. It divides by the base, so
+// that the factor is multiplied by the base.
 fn join_products<T: PlainWord, F: PlanEntry<T>>(
     m: &PlannedModulus<T>,
     xs: &mut [T],
@@ -62,8 +62,8 @@ fn join_products<T: PlainWord, F: PlanEntry<T>>(
     }
 }
 
-/// Whether `convolve_block` takes lists of so many entries as block b, down to blocks of `last`, by a
-/// plan of so many factors.
+/// Whether `convolve_block` accepts lists of `length` entries as block b, down to blocks of `last`, and a plan of
+/// `factors` factors.
 #[inline]
 pub fn convolves(length: usize, factors: usize, b: usize, last: usize) -> bool {
     if last > 2 {
@@ -78,22 +78,22 @@ pub fn convolves(length: usize, factors: usize, b: usize, last: usize) -> bool {
     true
 }
 
-/// Puts the product of two polynomials modulo X^n - c in xs and the remainders of the second in ys, as
-/// `split` has them, c being the power of g by the reversed bits of b and n the length of the lists;
-/// false, with both lists unchanged, exactly where the number n/last of blocks has no inverse modulo m.
+/// Replaces xs by the product of two polynomials modulo X^n - c, and ys by the remainders of the second as `split`
+/// computes them, c being the power of g by the reversed bits of b and n the length of the lists. Returns false,
+/// with both lists unchanged, exactly where the number n/last of blocks has no inverse modulo m.
 ///
 /// So b = 0 gives the cyclic product, and b = 1 that modulo X^n + 1.
-/// It takes no memory.
+/// No memory is allocated.
 ///
-/// Source: Bernstein, "Multidigit multiplication for mathematicians", section 2: both lists are split,
-/// the remainders multiplied, and the products joined.
+/// Source: Bernstein, "Multidigit multiplication for mathematicians", section 2: split both lists, multiply the
+/// remainders, join the products.
 ///
 /// # Panics
 ///
-/// A debug build panics unless the lists have one length, and `last` is 1 or 2, the length is `last`
-/// times a power of two, and the table has (b + 1)·n/last/2 entries or more (`convolves` tells), and
-/// the entries are below 4m, and the table's entries are factors modulo m. A release build doesn't test
-/// that, and outside it panics, or returns no meaningful result.
+/// A debug build panics unless the lists have the same length, and `last` is 1 or 2, the length is
+/// `last` times a power of two, and the table has (b + 1)·n/last/2 entries or more (`convolves` tells),
+/// and the entries are below 4m, and the table's entries are factors modulo m. A release build doesn't
+/// test that, and outside it panics, or returns no meaningful result.
 pub fn convolve_block<T: PlainWord, F: PlanEntry<T>>(
     m: &PlannedModulus<T>,
     xs: &mut [T],
@@ -102,7 +102,7 @@ pub fn convolve_block<T: PlainWord, F: PlanEntry<T>>(
     b: usize,
     last: usize,
 ) -> bool {
-    debug_assert!(ys.len() == xs.len(), "the lists must have one length");
+    debug_assert!(ys.len() == xs.len(), "the lists must have the same length");
     debug_assert!(convolves(xs.len(), table.len(), b, last), "`last` must be 1 or 2, the length is `last` times a power of two, and the table must have (b + 1)·n/last/2 entries or more");
     debug_assert!(xs.iter().chain(ys.iter()).all(|x| m.has_room(*x)), "the entries must be below 4m");
     debug_assert!(table.iter().all(|it| crate::additions::is_factor(m, &it.factor())), "the table's entries must be factors modulo m");
@@ -119,9 +119,9 @@ pub fn convolve_block<T: PlainWord, F: PlanEntry<T>>(
     }
 }
 
-/// Puts the cyclic product of xs and ys in xs, as `convolve_block` for b = 0: entry e becomes the sum
-/// of x_i·y_j modulo m over i + j = e or e + n; false, with both lists unchanged, exactly where the
-/// number n/last of blocks has no inverse modulo m.
+/// Replaces xs by the cyclic product of xs and ys, as `convolve_block` for b = 0: entry e becomes the sum of
+/// x_i·y_j modulo m over i + j = e or e + n. Returns false, with both lists unchanged, exactly where the number
+/// n/last of blocks has no inverse modulo m.
 ///
 /// # Panics
 ///
@@ -138,9 +138,9 @@ pub fn convolve_planned<T: PlainWord, F: PlanEntry<T>>(
     convolve_block(m, xs, ys, table, 0, last)
 }
 
-/// Puts the product of xs and ys modulo X^n + 1 in xs, as `convolve_block` for b = 1: entry e becomes
-/// the sum of x_i·y_j modulo m over i + j = e, less that over i + j = e + n; false, with both lists
-/// unchanged, exactly where the number n/last of blocks has no inverse modulo m.
+/// Replaces xs by the product of xs and ys modulo X^n + 1, as `convolve_block` for b = 1: entry e becomes the sum
+/// of x_i·y_j modulo m over i + j = e, less that over i + j = e + n. Returns false, with both lists unchanged,
+/// exactly where the number n/last of blocks has no inverse modulo m.
 ///
 /// # Panics
 ///

@@ -8,15 +8,15 @@ use crate::modular_prim::plain_word::PlainWord;
 use crate::modular_word::path_word::PathWord;
 use crate::modular_word::ring_word::RingWord;
 
-// The place mirrored in its power of two, 2^k.
+// The index with the bits below its highest bit 2^k inverted.
 #[inline]
 fn mirrored(place: usize) -> usize {
     let power = 1 << crate::additions::ilog2(place);
     power + (power - 1 - (place - power))
 }
 
-// Minus the inverse of an entry: the one at the place mirrored in its power of two, and -1 for the
-// first. Where the table is no plan the mirrored place may lie behind it.
+// Minus the inverse of the factor at an index: the factor at the mirrored index, or -1 for index 0. Where the table
+// is no plan the mirrored index may be out of bounds.
 #[inline]
 fn minus_inverse<T: PlainWord, F: PlanEntry<T>, M: JoinSteps<T>>(
     m: &M,
@@ -35,8 +35,8 @@ fn minus_inverse<T: PlainWord, F: PlanEntry<T>, M: JoinSteps<T>>(
     }
 }
 
-// Minus the inverses of a block's entry, and of those of its halves: from one mirrored place, since
-// those of the halves lie at twice that place, in the opposite order.
+// Minus the inverses of the factors of a block and of its halves. One mirrored index gives all three: those of the
+// halves are at twice that index, in the opposite order.
 fn minus_inverses<T: PlainWord, F: PlanEntry<T>, M: JoinSteps<T>>(
     m: &M,
     table: &[F],
@@ -58,7 +58,7 @@ fn minus_inverses<T: PlainWord, F: PlanEntry<T>, M: JoinSteps<T>>(
     }
 }
 
-// The pair at two places.
+// Joins the pair of entries at two indexes.
 #[inline]
 fn join_pair<T: PlainWord, M: JoinSteps<T>>(
     m: &M,
@@ -72,7 +72,7 @@ fn join_pair<T: PlainWord, M: JoinSteps<T>>(
     xs[low] = sum;
 }
 
-// The pairs of the block from place `first` on.
+// Joins the pairs of the block whose first index is `first`.
 #[inline]
 fn join_block<T: PlainWord, M: JoinSteps<T>>(
     m: &M,
@@ -82,7 +82,7 @@ fn join_block<T: PlainWord, M: JoinSteps<T>>(
     v: &Factor<T>,
 ) {
     'columns: for i in 0..half {
-        // never so
+        // Unreachable; keeps LLVM from vectorizing this loop (see `is_beyond`).
         if m.is_beyond(xs[first + i]) {
             return;
         }
@@ -90,7 +90,7 @@ fn join_block<T: PlainWord, M: JoinSteps<T>>(
     }
 }
 
-// All blocks of a stage, block p by entry first + p of the table.
+// Joins all blocks of a stage, block p by entry first + p of the table.
 #[inline]
 fn join_stage<T: PlainWord, F: PlanEntry<T>, M: JoinSteps<T>>(
     m: &M,
@@ -107,7 +107,7 @@ fn join_stage<T: PlainWord, F: PlanEntry<T>, M: JoinSteps<T>>(
     }
 }
 
-// The columns of a block whose quarters are lists of their own.
+// Joins the columns of a block whose quarters are separate lists.
 #[inline(always)]
 fn join_columns<T: PlainWord, M: JoinSteps<T>>(
     m: &M,
@@ -121,7 +121,7 @@ fn join_columns<T: PlainWord, M: JoinSteps<T>>(
 ) {
     'columns_of_four: for i in 0..a.len() {
         let x = a[i];
-        // never so
+        // Unreachable; keeps LLVM from vectorizing this loop (see `is_beyond`).
         if m.is_beyond(x) {
             return;
         }
@@ -133,7 +133,7 @@ fn join_columns<T: PlainWord, M: JoinSteps<T>>(
     }
 }
 
-// Two stages of the block of four times q entries from place `first` on.
+// Two stages of the block of 4·q entries whose first index is `first`.
 #[inline(always)]
 fn join_quarters<T: PlainWord, M: JoinSteps<T>>(
     m: &M,
@@ -152,8 +152,8 @@ fn join_quarters<T: PlainWord, M: JoinSteps<T>>(
     join_columns(m, a, b, c, d, w, u, v);
 }
 
-// Two stages of all blocks, block p by entry first + p of the table, and its halves by the entries at
-// twice that place.
+// Two stages of all blocks: block p by entry first + p of the table, and its halves by the entries 2·(first + p)
+// and 2·(first + p) + 1.
 #[inline(always)]
 fn join_two_stages<T: PlainWord, F: PlanEntry<T>, M: JoinSteps<T>>(
     m: &M,
@@ -170,7 +170,7 @@ fn join_two_stages<T: PlainWord, F: PlanEntry<T>, M: JoinSteps<T>>(
     }
 }
 
-// `join_two_stages` once for each length that is a power of four up to 1024, as `split_known`.
+// `join_two_stages` for each power of four up to 1024 as a constant length, for the reason given at `split_known`.
 fn join_known<T: PlainWord, F: PlanEntry<T>, M: JoinSteps<T>>(
     m: &M,
     xs: &mut [T],
@@ -190,7 +190,7 @@ fn join_known<T: PlainWord, F: PlanEntry<T>, M: JoinSteps<T>>(
     }
 }
 
-// The four entries from place `first` on, where all before them are below the bound.
+// Two stages of the four entries whose first index is `first`, where all entries before them are below the bound.
 fn join_neighbours<T: PlainWord, M: JoinSteps<T>>(
     m: &M,
     xs: &mut [T],
@@ -210,8 +210,8 @@ fn join_neighbours<T: PlainWord, M: JoinSteps<T>>(
     xs[first] = a;
 }
 
-// The first two stages of all blocks of four entries, which come below the bound: block p by entry first + p of
-// the table, and its halves by the entries at twice that place.
+// The first two stages of all blocks of four entries, which makes them less than the bound: block p by entry
+// first + p of the table, and its halves by the entries 2·(first + p) and 2·(first + p) + 1.
 fn join_fours<T: PlainWord, F: PlanEntry<T>, M: JoinSteps<T>>(
     m: &M,
     xs: &mut [T],
@@ -222,7 +222,7 @@ fn join_fours<T: PlainWord, F: PlanEntry<T>, M: JoinSteps<T>>(
 ) {
     'fours: for p in 0..blocks {
         let (w, u, v) = minus_inverses(m, table, first + p, *minus);
-        // never so
+        // Unreachable; keeps LLVM from vectorizing this loop (see `is_beyond`).
         if m.is_beyond(xs[p * 4]) {
             return;
         }
@@ -230,7 +230,7 @@ fn join_fours<T: PlainWord, F: PlanEntry<T>, M: JoinSteps<T>>(
     }
 }
 
-// Each entry brought below the bound.
+// Replaces each entry by a congruent one below the bound.
 #[inline]
 fn take_each<T: PlainWord, M: JoinSteps<T>>(m: &M, xs: &mut [T]) {
     'entries: for i in 0..xs.len() {
@@ -238,7 +238,7 @@ fn take_each<T: PlainWord, M: JoinSteps<T>>(m: &M, xs: &mut [T]) {
     }
 }
 
-// Each entry's residue.
+// Replaces each entry by its residue.
 #[inline]
 fn reduce_each<T: PlainWord, M: JoinSteps<T>>(m: &M, xs: &mut [T]) {
     'entries: for i in 0..xs.len() {
@@ -246,8 +246,8 @@ fn reduce_each<T: PlainWord, M: JoinSteps<T>>(m: &M, xs: &mut [T]) {
     }
 }
 
-// The stages from blocks of `last` entries on: the number of blocks times the list whose remainders the
-// entries are, below the bound.
+// The stages that start from blocks of `last` entries. The result is the number of blocks times the list whose
+// remainders the entries are, below the bound.
 fn join_blocks<T: PlainWord, F: PlanEntry<T>, M: JoinSteps<T>>(
     m: &M,
     xs: &mut [T],
@@ -271,7 +271,7 @@ fn join_blocks<T: PlainWord, F: PlanEntry<T>, M: JoinSteps<T>>(
     }
 }
 
-// The first pass, which brings the entries below the bound: the length of the blocks that it leaves.
+// The first pass, after which the entries are below the bound. Returns the length of the blocks then.
 #[inline]
 fn join_first<T: PlainWord, F: PlanEntry<T>, M: JoinSteps<T>>(
     m: &M,
@@ -291,7 +291,7 @@ fn join_first<T: PlainWord, F: PlanEntry<T>, M: JoinSteps<T>>(
     }
 }
 
-// All stages: the number of blocks times the list whose remainders the entries are, below the bound.
+// All stages. The result is the number of blocks times the list whose remainders the entries are, below the bound.
 #[inline]
 fn join_stages<T: PlainWord, F: PlanEntry<T>, M: JoinSteps<T>>(
     m: &M,
@@ -305,7 +305,7 @@ fn join_stages<T: PlainWord, F: PlanEntry<T>, M: JoinSteps<T>>(
     join_blocks(m, xs, table, b, size, &minus);
 }
 
-// All stages and the residues: see `join`.
+// All stages, and the residues: `join` for a modulus of type M.
 #[inline]
 fn join_reduced<T: PlainWord, F: PlanEntry<T>, M: JoinSteps<T>>(
     m: &M,
@@ -318,7 +318,7 @@ fn join_reduced<T: PlainWord, F: PlanEntry<T>, M: JoinSteps<T>>(
     reduce_each(m, xs);
 }
 
-// The passes of two stages while more than four blocks are left: the length of the blocks that they leave.
+// The passes of two stages while more than four blocks are left. Returns the length of the blocks then.
 #[inline]
 fn join_passes<T: PlainWord, F: PlanEntry<T>, M: JoinSteps<T>>(
     m: &M,
@@ -338,8 +338,8 @@ fn join_passes<T: PlainWord, F: PlanEntry<T>, M: JoinSteps<T>>(
     size
 }
 
-// Two stages of the whole list by a plan that begins with 1, each entry times the factor s: by -1 and by -1, and by v,
-// minus the inverse of its second factor.
+// Two stages of the whole list by a plan that begins with 1, which also multiply each entry by s: with the factors
+// -1 and -1, and v, minus the inverse of the plan's second factor.
 fn join_by_one<T: PlainWord, M: JoinSteps<T>>(
     m: &M,
     xs: &mut [T],
@@ -349,7 +349,7 @@ fn join_by_one<T: PlainWord, M: JoinSteps<T>>(
 ) {
     'columns: for i in 0..q {
         let x = xs[i];
-        // never so
+        // Unreachable; keeps LLVM from vectorizing this loop (see `is_beyond`).
         if m.is_beyond(x) {
             return;
         }
@@ -362,12 +362,12 @@ fn join_by_one<T: PlainWord, M: JoinSteps<T>>(
     }
 }
 
-// Each entry's product with a factor.
+// Replaces each entry by its product with a factor.
 #[inline]
 fn scale_each<T: PlainWord, M: JoinSteps<T>>(m: &M, xs: &mut [T], w: &Factor<T>) {
     'entries: for i in 0..xs.len() {
         let x = xs[i];
-        // never so
+        // Unreachable; keeps LLVM from vectorizing this loop (see `is_beyond`).
         if m.is_beyond(x) {
             return;
         }
@@ -375,8 +375,8 @@ fn scale_each<T: PlainWord, M: JoinSteps<T>>(m: &M, xs: &mut [T], w: &Factor<T>)
     }
 }
 
-// The last stages and the product of each entry with a factor. Where the plan begins with 1 the last pass does both,
-// by five products in place of eight.
+// The last stages and the product of each entry with a factor. Where the plan begins with 1 the last pass does
+// both, by five products in place of eight.
 fn join_last<T: PlainWord, F: PlanEntry<T>, M: JoinSteps<T>>(
     m: &M,
     xs: &mut [T],
@@ -395,7 +395,7 @@ fn join_last<T: PlainWord, F: PlanEntry<T>, M: JoinSteps<T>>(
     }
 }
 
-// `join_scaled` by the steps that a modulus admits.
+// `join_scaled`, by the steps for a modulus of type M.
 fn join_scaled_by<T: PlainWord, F: PlanEntry<T>, M: JoinSteps<T>>(
     m: &M,
     xs: &mut [T],
@@ -410,14 +410,16 @@ fn join_scaled_by<T: PlainWord, F: PlanEntry<T>, M: JoinSteps<T>>(
     join_last(m, xs, table, b, size, &minus, w);
 }
 
-/// Joins the blocks of `last` entries into block b of the tree of remainders, the way back from
-/// `split`: where the entries are the remainders of a polynomial modulo X^last - c, as `split` has
-/// them, entry i becomes its coefficient x_i times the number of blocks, modulo m.
+/// Joins the blocks of `last` entries into block b of the tree of remainders, which undoes `split` but for a
+/// factor: where the entries are the remainders of a polynomial modulo X^last - c, as `split` computes them, entry
+/// i becomes its coefficient x_i times the number of blocks, modulo m.
 ///
 /// The table is the plan by g that they were split by, or a longer one.
 ///
-/// Source: each step undoes one of `split` but for the factor 2 (Gentleman and Sande, "Fast Fourier
-/// transforms: for fun and profit", section 2). A pass over the list does two stages where two are left.
+/// Each pass over the list does two stages where two are left.
+///
+/// Source: each step undoes one of `split` but for the factor 2, as in Gentleman and Sande, "Fast Fourier
+/// transforms: for fun and profit", section 2.
 ///
 /// # Panics
 ///
@@ -442,8 +444,8 @@ pub fn join<T: PlainWord, F: PlanEntry<T>>(
     }
 }
 
-/// Joins the blocks as `join` does, each coefficient times a factor: by the inverse modulo m of the
-/// number of blocks they are the coefficients themselves.
+/// Joins the blocks as `join` does and multiplies each coefficient by a factor. With the inverse modulo m of the
+/// number of blocks as the factor, the results are the coefficients themselves.
 ///
 /// # Panics
 ///

@@ -1,4 +1,4 @@
-//! The steps of a join on numbers, by how far they may grow between passes over a list.
+//! The steps of a pass of `join`, by how much greater than the modulus words may be.
 
 use crate::modular_plan::modulus::{Factor, PlannedModulus};
 use crate::modular_plan::roomy::RoomyModulus;
@@ -7,25 +7,25 @@ use crate::modular_prim::plain_word::PlainWord;
 use crate::modular_word::path_word::PathWord;
 use crate::modular_word::ring_word::RingWord;
 
-/// A modulus with the steps of a join: pairs and fours of numbers below a bound become such numbers again, so that
-/// lists are joined pass after pass. Condition of each call: numbers x, y, z and t are below the bound, and factors are
-/// factors modulo m.
+/// A modulus m by which pairs and fours of entries are joined. Between two passes the entries stay below a bound, a
+/// multiple of m. Condition of each call: numbers x, y, z and t are below the bound, and factors are factors modulo m.
 pub trait JoinSteps<T: PlainWord>: Sized {
     /// The factor -1.
     fn minus_one(&self) -> Factor<T>;
 
-    /// Whether a word of more than 32 bits is 4m or more: the end of a loop that never ends there, which is
-    /// compiled without vectors.
+    /// Whether a word of more than 32 bits is at least 4m; false for shorter words. A loop over entries below 4m
+    /// returns where this is true, which it never is: so compilers can't compute the loop's trip count, and don't
+    /// vectorize it. Vectors of words of more than 32 bits would be slower.
     fn is_beyond(&self, x: T) -> bool;
 
-    /// A word brought below the bound.
+    /// A number below the bound that is congruent to a word.
     ///
     /// # Preconditions
     ///
     /// It is below 4m. This isn't tested: outside it the call panics, or returns no meaningful result.
     fn taken(&self, x: T) -> T;
 
-    /// x + y and (y - x)·v.
+    /// Numbers below the bound, congruent to x + y and (y - x)·v.
     ///
     /// # Preconditions
     ///
@@ -33,8 +33,8 @@ pub trait JoinSteps<T: PlainWord>: Sized {
     /// outside it the call panics, or returns no meaningful result.
     fn pair(&self, x: T, y: T, v: &Factor<T>) -> (T, T);
 
-    /// Four numbers, a quarter of a block apart: by minus the inverses of the factors of the block's halves,
-    /// and of its own.
+    /// Two stages of four numbers a quarter of a block apart. The factors are minus the inverses of those of the
+    /// block's halves, and of the block's own.
     ///
     /// # Preconditions
     ///
@@ -51,7 +51,7 @@ pub trait JoinSteps<T: PlainWord>: Sized {
         v: &Factor<T>,
     ) -> (T, T, T, T);
 
-    /// The same where w and u are -1, each number times a factor.
+    /// The same where the first two factors are -1, each result times the factor s, below m.
     ///
     /// # Preconditions
     ///
@@ -59,15 +59,15 @@ pub trait JoinSteps<T: PlainWord>: Sized {
     /// outside it the call panics, or returns no meaningful result.
     fn four_by_one(&self, x: T, y: T, z: T, t: T, v: &Factor<T>, s: &Factor<T>) -> (T, T, T, T);
 
-    /// The residue of any word's product with a factor.
+    /// The residue of any word's product with a factor, below m.
     ///
     /// # Preconditions
     ///
-    /// This is one modulo m. This isn't tested: outside it the call panics, or returns no meaningful
-    /// result.
+    /// The factor is a residue modulo m. This isn't tested: outside it the call panics, or returns no
+    /// meaningful result.
     fn product(&self, x: T, w: &Factor<T>) -> T;
 
-    /// The residue of a word below the bound.
+    /// The residue of a word below the bound, below m.
     ///
     /// # Preconditions
     ///
@@ -76,13 +76,15 @@ pub trait JoinSteps<T: PlainWord>: Sized {
     fn residue(&self, x: T) -> T;
 }
 
-// x + y, and (y - x)·v below 2m. Condition: both are below a multiple of m, of which a word holds nearly two.
+// x + y, and a number below 2m that is congruent to (y - x)·v. Condition: x and y are below `bound`, a multiple of
+// m that is at most half of the base.
 #[inline]
 fn gather<T: PlainWord>(m: &PlannedModulus<T>, x: T, y: T, bound: T, v: &Factor<T>) -> (T, T) {
     (x.plus(y), m.times(y.plus(bound.minus(x)), v))
 }
 
-// (x + y)·s and (x - y)·s. Condition: y is below a multiple of m, for which x leaves room.
+// The residues of (x + y)·s and (x - y)·s. Condition: y is below `bound`, a multiple of m for which x + bound fits
+// a word.
 #[inline]
 fn scaled_pair<T: PlainWord>(m: &PlannedModulus<T>, x: T, y: T, bound: T, s: &Factor<T>) -> (T, T) {
     let sum = m.product(x.plus(y), s);
@@ -152,7 +154,7 @@ impl<T: PlainWord> JoinSteps<T> for PlannedModulus<T> {
     }
 }
 
-// Entries stay below 4m. Within a four no number is reduced but the one that is a sum twice.
+// Entries stay below 4m. Within a four only the number that is a sum twice is reduced.
 impl<T: PlainWord> JoinSteps<T> for RoomyModulus<T> {
     #[inline]
     fn minus_one(&self) -> Factor<T> {

@@ -5,12 +5,12 @@ use crate::modular_plan::modulus::PlannedModulus;
 use crate::modular_prim::plain_word::PlainWord;
 use crate::modular_word::path_word::PathWord;
 
-// Each entry times the one at its place.
+// Multiplies each entry of xs by the entry of ys with the same index.
 #[inline]
 fn multiply_each<T: PlainWord>(m: &PlannedModulus<T>, xs: &mut [T], ys: &[T]) {
     'entries: for i in 0..xs.len() {
         let x = xs[i];
-        // never so
+        // Unreachable; keeps LLVM from vectorizing this loop (see `is_outside`).
         if m.is_outside(x) {
             return;
         }
@@ -18,9 +18,9 @@ fn multiply_each<T: PlainWord>(m: &PlannedModulus<T>, xs: &mut [T], ys: &[T]) {
     }
 }
 
-// A number below 2m that is the product of any word x and a word y below m over the number of words, modulo m:
-// Montgomery's reduction, by the inverse of m. The multiple of m that it gives has the low word of the product, so
-// that the high words are all that is left of the difference. (By the negated inverse there is a carry.)
+// A number below 2m that is congruent to x·y divided by the base, for any word x and a word y below m. It is
+// Montgomery's reduction by the inverse of m: the multiple of m that it subtracts has the same low word as the
+// product, so that only the high words are subtracted. With the negated inverse there would be a carry.
 #[inline]
 fn reduced_product<T: PlainWord>(m: &PlannedModulus<T>, inverse: T, x: T, y: T) -> T {
     let (low, high) = T::split(x.product(y));
@@ -28,7 +28,8 @@ fn reduced_product<T: PlainWord>(m: &PlannedModulus<T>, inverse: T, x: T, y: T) 
     high.plus(m.modulus.minus(multiple))
 }
 
-// Each entry, which may be any word, times the one at its place, over the number of words, modulo m.
+// Replaces each entry of xs, which may be any word, by a number below 2m that is congruent to its product with the
+// entry of ys, divided by the base.
 #[inline]
 pub(crate) fn reduce_products<T: PlainWord>(
     m: &PlannedModulus<T>,
@@ -38,7 +39,7 @@ pub(crate) fn reduce_products<T: PlainWord>(
 ) {
     'entries: for i in 0..xs.len() {
         let y = ys[i];
-        // never so
+        // Unreachable; keeps LLVM from vectorizing this loop (see `is_outside`).
         if m.is_outside(y) {
             return;
         }
@@ -46,8 +47,8 @@ pub(crate) fn reduce_products<T: PlainWord>(
     }
 }
 
-// A word times the constant of block b·count + j of the tree, below or at m: times an entry of the plan,
-// or minus that.
+// A number that is at most m and congruent to x times the constant of block b·count + j of the tree, which is an
+// entry of the plan or minus one.
 fn times_constant<T: PlainWord, F: PlanEntry<T>>(
     m: &PlannedModulus<T>,
     table: &[F],
@@ -66,8 +67,7 @@ fn times_constant<T: PlainWord, F: PlanEntry<T>>(
     }
 }
 
-// The polynomial x_0 + x_1·X, from a place on, times the one of the other list, modulo X^2 - c, by
-// x_1·c.
+// Multiplies the polynomial x_0 + x_1·X at an index by that of the other list, modulo X^2 - c, given x_1·c.
 fn multiply_pair<T: PlainWord>(
     m: &PlannedModulus<T>,
     xs: &mut [T],
@@ -82,7 +82,7 @@ fn multiply_pair<T: PlainWord>(
     xs[place] = m.product_sum(x, y, turned, v);
 }
 
-// The products of blocks of two entries.
+// Multiplies the blocks of two entries.
 fn multiply_pairs<T: PlainWord, F: PlanEntry<T>>(
     m: &PlannedModulus<T>,
     xs: &mut [T],
@@ -97,16 +97,14 @@ fn multiply_pairs<T: PlainWord, F: PlanEntry<T>>(
     }
 }
 
-/// Multiplies the blocks of `last` entries of the two lists, below block b of the tree of remainders,
-/// as polynomials modulo X^last - c, the constants c being those of `split`. So the products of two
-/// lists of remainders are the remainders of a product.
-///
-/// For `last` = 1 each entry is multiplied by the one at its place.
+/// Multiplies the blocks of `last` entries of the two lists, below block b of the tree of remainders, as
+/// polynomials modulo X^last - c, with the constants c of `split`. So the products of two lists of remainders are
+/// the remainders of a product. For `last` = 1 entries of equal index are multiplied.
 ///
 /// # Preconditions
 ///
-/// `last` is 1 or 2, and the lists have one length, a multiple of `last`, and the entries of xs are
-/// below m, and the table's entries are factors modulo m, and there are (b + 1)·count/2 of them or
+/// `last` is 1 or 2, and the lists have the same length, a multiple of `last`, and the entries of xs
+/// are below m, and the table's entries are factors modulo m, and there are (b + 1)·count/2 of them or
 /// more, count being the number of blocks. This isn't tested: outside it the call panics, or returns no
 /// meaningful result.
 #[inline]

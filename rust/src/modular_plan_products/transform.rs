@@ -6,13 +6,10 @@ use crate::modular_plan::split::split;
 use crate::modular_prim::plain_word::PlainWord;
 use crate::modular_transform::order::reverse_places;
 
-/// The transform of n entries in place, in natural order: entry j becomes the sum over i of
-/// x_i·h^(i·j) modulo m, h being the root that the plan is for, or that power of it that suits n
-/// entries where the plan is for more.
+/// The transform of n entries in place, in natural order: entry j becomes the sum over i of x_i·h^(i·j) modulo m, below
+/// m. h is the root of the plan, or, where the plan is for more entries, the power of it that suits n entries.
 ///
-/// Values are below m.
-///
-/// Source: `split`, and the places with their bits in the opposite order.
+/// Source: `split`, and a reversal of the bits of the indexes.
 ///
 /// # Panics
 ///

@@ -2,8 +2,8 @@
 
 use crate::modular_word::path_word::PathWord;
 
-/// The residue of a word below 2m: the less of the word and of what wraps around when m is taken from it, which
-/// compilers choose without a branch.
+/// The residue of a word below 2m: the smaller of x and x - m modulo the base, which compilers select without a
+/// branch.
 ///
 /// # Preconditions
 ///
@@ -11,13 +11,13 @@ use crate::modular_word::path_word::PathWord;
 /// result.
 #[inline]
 pub fn reduced_once<T: PathWord>(x: T, m: T) -> T {
-    // a word that was read is known to fit
+    // Reading the word gives the proof that it fits its width.
     let _ = m.is_below(x);
     let less = x.wrapping_sub(m);
     if less.is_below(x) { less } else { x }
 }
 
-/// The residue of a + b.
+/// The residue of a + b, below m.
 ///
 /// # Preconditions
 ///
@@ -32,7 +32,7 @@ pub fn add_below<T: PathWord>(a: T, b: T, m: T) -> T {
     }
 }
 
-/// The residue of a - b.
+/// The residue of a - b, below m.
 ///
 /// # Preconditions
 ///
@@ -46,8 +46,8 @@ pub fn sub_below<T: PathWord>(a: T, b: T, m: T) -> T {
     }
 }
 
-/// The residue of a - b, as `sub_below` has it, of long words without a branch: a step that needs it waits longer, but
-/// no guess goes wrong where either number may be the greater.
+/// The residue of a - b, as `sub_below` returns it, but branchless for words of 64 bits: the latency is higher, but
+/// no branch mispredicts where either number may be the greater.
 ///
 /// # Preconditions
 ///
@@ -57,7 +57,7 @@ pub fn branchless_sub_below<T: PathWord>(a: T, b: T, m: T) -> T {
     a.minus_modulo(b, m)
 }
 
-/// The residue of 2a.
+/// The residue of 2a, below m.
 ///
 /// # Preconditions
 ///
@@ -67,7 +67,7 @@ pub fn dbl_below<T: PathWord>(a: T, m: T) -> T {
     add_below(a, a, m)
 }
 
-/// The residue of -a.
+/// The residue of -a, below m.
 ///
 /// # Preconditions
 ///

@@ -1,15 +1,15 @@
-//! The division of Euclid's algorithm, whose quotients are nearly always small: by digits of base 4, without a
-//! division of the machine.
+//! The division step of Euclid's algorithm. Its quotients are nearly always small, so it computes them in digits of
+//! base 4, without a division instruction.
 
 use crate::modular_prim::plain_word::PlainWord;
 use crate::modular_word::path_word::PathWord;
 use crate::modular_word::paths::two;
 use crate::modular_word::ring_word::RingWord;
 
-// The digit k and what it leaves of a, where a reaches the multiple; else what was found before.
+// The digit k and the rest of a, if a is at least the multiple k·d; else the pair `before`, for a smaller digit.
 //
-// A function of its own, and a sum of plain values, so that compilers make a select of it: whether a multiple is
-// reached can't be foreseen.
+// A function of its own that chooses between plain values, so that compilers turn it into a select: a branch would
+// mispredict often.
 #[inline]
 fn reached<T: PathWord>(a: T, multiple: T, k: T, before: (T, T)) -> (T, T) {
     if a.is_below(multiple) {
@@ -19,7 +19,7 @@ fn reached<T: PathWord>(a: T, multiple: T, k: T, before: (T, T)) -> (T, T) {
     }
 }
 
-// A digit of base 4, the quotient of a by d, and what is left. Conditions: a is below 4d, and 4d is at most the base.
+// The quotient of a by d, a digit of base 4, and the remainder. Conditions: a is below 4d, and 4d is at most the base.
 fn digit<T: PathWord>(a: T, d: T) -> (T, T) {
     let one = T::one();
     let two = two::<T>();
@@ -30,7 +30,7 @@ fn digit<T: PathWord>(a: T, d: T) -> (T, T) {
     reached(a, thrice, two.plus(one), from_two)
 }
 
-// Quotient and remainder by two digits. Conditions: a is below 16d, and 16d is at most the base.
+// Quotient and remainder of a by d, in two digits. Conditions: a is below 16d, and 16d is at most the base.
 #[inline]
 fn two_digits<T: PathWord>(a: T, d: T) -> (T, T) {
     let (high, left) = digit(a, d.shift_left(2));
@@ -38,21 +38,21 @@ fn two_digits<T: PathWord>(a: T, d: T) -> (T, T) {
     (high.shift_left(2).plus(low), rest)
 }
 
-// The remainder by four digits. Conditions: a is below 256d, and 256d is at most the base.
+// The remainder of a by d, in four digits. Conditions: a is below 256d, and 256d is at most the base.
 #[inline]
 fn rest_by_four_digits<T: PathWord>(a: T, d: T) -> T {
     let (_, left) = two_digits(a, d.shift_left(4));
     two_digits(left, d).1
 }
 
-// The base divided by a power of two. Condition: the exponent is from 1 to 8.
+// The base divided by 2^by. Condition: the exponent is from 1 to 8.
 #[inline]
 fn part_of_base<T: PathWord>(by: u32) -> T {
     T::one().shift_left(T::bits() - by)
 }
 
-// Whether two digits are enough and d has room for them, in words of more than 16 bits; in shorter ones the machine
-// divides as fast.
+// Whether the quotient has at most two digits and 16d fits the base. Always false for words of at most 16 bits,
+// where the division instruction is as fast.
 #[inline]
 fn has_two_digits<T: PathWord>(a: T, d: T) -> bool {
     if T::bits() > 16 {
@@ -63,8 +63,8 @@ fn has_two_digits<T: PathWord>(a: T, d: T) -> bool {
     false
 }
 
-/// Quotient and remainder of a by d: by two digits of base 4 where the quotient is below 16, in words of more than 16 bits,
-/// else by a division of the machine.
+/// Quotient and remainder of a by d. Where the quotient is below 16 and words have more than 16 bits, they are
+/// computed in two digits of base 4, else by a division instruction.
 ///
 /// In Euclid's algorithm 9 quotients of 10 are below 16 (Knuth, "The Art of Computer Programming", section 4.5.3).
 ///
@@ -80,7 +80,7 @@ pub fn division<T: PlainWord>(a: T, d: T) -> (T, T) {
     }
 }
 
-// Whether the quotient is below 16, in words of more than 16 bits.
+// Whether the quotient is below 16. Always false for words of at most 16 bits.
 #[inline]
 fn has_short_quotient<T: PathWord>(a: T, d: T) -> bool {
     if T::bits() > 16 {
@@ -89,7 +89,7 @@ fn has_short_quotient<T: PathWord>(a: T, d: T) -> bool {
     false
 }
 
-// The remainder where the quotient is below 16: by two digits where d has room for them. Condition: a is below 16d.
+// The remainder where the quotient is below 16: in two digits where 16d fits the base. Condition: a is below 16d.
 #[inline]
 fn rest_of_short_quotient<T: PlainWord>(a: T, d: T) -> T {
     if d.is_below(part_of_base::<T>(4)) {
@@ -99,8 +99,8 @@ fn rest_of_short_quotient<T: PlainWord>(a: T, d: T) -> T {
     }
 }
 
-// Whether four digits are enough and d has room for them, in words of more than 32 bits; in shorter ones the machine
-// divides as fast.
+// Whether the quotient has at most four digits and 256d fits the base. Always false for words of at most 32 bits,
+// where the division instruction is as fast.
 #[inline]
 fn has_four_digits<T: PathWord>(a: T, d: T) -> bool {
     if T::bits() > 32 {
@@ -111,8 +111,8 @@ fn has_four_digits<T: PathWord>(a: T, d: T) -> bool {
     false
 }
 
-/// The remainder of a by d: where the quotient is below 16 by two digits of base 4, in words of more than 16 bits; where it
-/// is below 256 by four, in words of more than 32 bits; else by a division of the machine.
+/// The remainder of a by d: in two digits of base 4 where the quotient is below 16 and words have more than 16 bits, in
+/// four where it is below 256 and words have more than 32, else by a division instruction.
 ///
 /// # Preconditions
 ///

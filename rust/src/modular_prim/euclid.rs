@@ -6,9 +6,9 @@ use crate::modular_prim::plain_word::PlainWord;
 use crate::modular_word::path_word::PathWord;
 use crate::modular_word::ring_word::RingWord;
 
-/// The inverse of a modulo m; `None` exactly where there is none.
+/// The inverse of a modulo m, below m; `None` exactly where there is none.
 ///
-/// Source: as `invm_counted`, which it calls.
+/// Source: that of `invm_counted`.
 ///
 /// # Panics
 ///
@@ -18,11 +18,11 @@ pub fn invm<T: PlainWord>(a: T, m: T) -> Option<T> {
     invm_counted(a, m).0
 }
 
-/// The inverse of a modulo m, `None` exactly where there is none, and the number of divisions.
+/// The inverse of a modulo m, below m, `None` exactly where there is none; and the number of divisions.
 ///
-/// Source: Knuth, "The Art of Computer Programming", section 4.5.2, algorithm X, for the one
-/// coefficient. The coefficients' signs alternate, so each is kept as its magnitude, which is at
-/// most m. A number below m isn't reduced first, so this division is neither made nor counted.
+/// Source: Knuth, "The Art of Computer Programming", section 4.5.2, algorithm X, for one of the two coefficients.
+/// Their signs alternate, so only magnitudes are kept, which are at most m. A number below m isn't reduced first;
+/// that division is neither made nor counted.
 ///
 /// # Panics
 ///
@@ -57,7 +57,7 @@ pub fn invm_counted<T: PlainWord>(a: T, m: T) -> (Option<T>, u32) {
     }
 }
 
-/// From u and 0 there are no divisions, from u and v one more than from v and the remainder; and 2 to
-/// their number is at most 2·u·v, for v from 1 to u - 1.
+/// Euclid's algorithm makes no division for u and 0, and for u and v one more than for v and the remainder of u by
+/// v. 2 to the number of its divisions is at most 2·u·v, for v from 1 to u - 1.
 #[inline]
 pub fn division_laws() {}

@@ -4,10 +4,10 @@ use crate::modular_prim::numbered::Numbered;
 use crate::modular_prim::plain_word::PlainWord;
 use crate::modular_word::ring_word::RingWord;
 
-/// Exact division, with what a divisor has stored: a multiplier, a prepared inverse, or `()`.
+/// Exact division by a divisor, given what was precomputed of it: a multiplier, a prepared inverse, or `()`.
 ///
-/// `()` stores nothing: the quotient is that of the primitive division, for words of 8 to 128 bits but
-/// usize, as in the Rust crate, and the condition is that the divisor is at least 1.
+/// With `()` nothing is precomputed, and the quotient is that of the machine's division, for words of 8 to 128 bits
+/// but not usize, as in the Rust crate; the divisor must be at least 1.
 pub trait DivExact<Rhs: Numbered, Precompute>: Numbered + Sized {
     /// The type of the quotients.
     type Output: Numbered;
@@ -21,10 +21,10 @@ pub trait DivExact<Rhs: Numbered, Precompute>: Numbered + Sized {
     fn div_exact(self, d: Rhs, pre: &Precompute) -> Option<Self::Output>;
 }
 
-/// Exact division in place, with what a divisor has stored; `()` stores nothing.
+/// Exact division in place by a divisor, given what was precomputed of it, or `()`.
 pub trait DivExactAssign<Rhs: Numbered, Precompute>: Sized + DivExact<Rhs, Precompute, Output = Self> {
-    /// Puts the quotient by d in place and answers true; where d doesn't divide the number, answers
-    /// false and leaves it unchanged.
+    /// Replaces the number by its quotient by d and returns true. Where d doesn't divide the number, returns false
+    /// and leaves it unchanged.
     ///
     /// # Preconditions
     ///
@@ -33,7 +33,7 @@ pub trait DivExactAssign<Rhs: Numbered, Precompute>: Sized + DivExact<Rhs, Preco
     fn div_exact_assign(&mut self, d: Rhs, pre: &Precompute) -> bool;
 }
 
-/// Exact division in place by exact division: the body of `div_exact_assign` for words.
+/// The body of `div_exact_assign` for words, by `div_exact`.
 ///
 /// # Preconditions
 ///
@@ -64,6 +64,22 @@ pub fn exact_quotient<T: PlainWord>(n: T, d: T) -> Option<T> {
     assert!(!d.is_zero_word(), "the divisor must be at least 1");
     if n.remainder(d).is_zero_word() {
         Some(n.quotient(d))
+    } else {
+        None
+    }
+}
+
+/// The quotient of two words by d; `None` exactly where d doesn't divide n.
+///
+/// # Panics
+///
+/// Panics unless the divisor is at least 1.
+#[inline]
+fn exact_quotient_128(n: u128, d: u128) -> Option<u128> {
+    assert!(d != 0, "the divisor must be at least 1");
+    let quotient = n / d;
+    if quotient * d == n {
+        Some(quotient)
     } else {
         None
     }
@@ -110,12 +126,7 @@ impl DivExact<u128, ()> for u128 {
 
     #[inline]
     fn div_exact(self, d: u128, _pre: &()) -> Option<u128> {
-        let quotient = self / d;
-        if quotient * d == self {
-            Some(quotient)
-        } else {
-            None
-        }
+        exact_quotient_128(self, d)
     }
 }
 

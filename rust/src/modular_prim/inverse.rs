@@ -1,4 +1,4 @@
-//! The inverse modulo an odd m by subtraction, which takes no division and counts no steps.
+//! The inverse modulo an odd m by subtraction, without a division in its loop and without a count of steps.
 
 use crate::modular_prim::euclid::invm;
 use crate::modular_prim::plain_word::PlainWord;
@@ -7,9 +7,8 @@ use crate::modular_word::path_word::PathWord;
 use crate::modular_word::paths::{neginv, redc};
 use crate::modular_word::ring_word::RingWord;
 
-// Two numbers on the way to a common divisor of x and m, each with a factor: times 2 to the power
-// `twos`, the one is its factor times x modulo m, the other that with a minus; `minus` says that it is the
-// other way round.
+// Two numbers that the algorithm reduces to the greatest common divisor of x and m, each with a factor. Modulo m,
+// and multiplied by 2^twos, one is its factor times x, the other is minus its factor times x; `minus` tells which.
 #[derive(Clone, Copy)]
 struct Pair<T> {
     above: T,
@@ -20,10 +19,11 @@ struct Pair<T> {
     minus: bool,
 }
 
-// The difference of the two numbers without its twos, and the smaller of them.
+// The odd part of the difference of the two numbers, and the smaller of the two.
 //
-// The zeros are those of the wrapped difference, which has as many, so that they are counted beside the
-// comparison. The choice is of plain values, and so without a branch: which number is the greater can't be foreseen.
+// The trailing zeros of the wrapped difference are those of the difference, so that counting them doesn't wait for
+// the comparison. The choice is between plain values, so that compilers turn it into a select: a branch would
+// mispredict half the time.
 fn one_difference<T: PlainWord>(pair: Pair<T>) -> Pair<T> {
     let less = pair.above.is_below(pair.below);
     let zeros = pair.above.wrapping_sub(pair.below).trailing_zeros();
@@ -43,7 +43,7 @@ fn one_difference<T: PlainWord>(pair: Pair<T>) -> Pair<T> {
     }
 }
 
-// The pair of x and m where its numbers are equal. Conditions: x is at least 1 and below m.
+// The pair of x and m once its numbers are equal. Conditions: x is at least 1 and below m.
 fn last_pair<T: PlainWord>(x: T, m: T) -> Pair<T> {
     let twos = x.trailing_zeros();
     let mut pair = Pair {
@@ -60,7 +60,7 @@ fn last_pair<T: PlainWord>(x: T, m: T) -> Pair<T> {
     pair
 }
 
-// The residue that 2 to the power `twos` takes to w, modulo an odd m. Condition: w is below m.
+// The residue of w divided by 2^twos, modulo an odd m. Condition: w is below m.
 fn without_twos<T: PlainWord>(w: T, twos: u32, m: T) -> T {
     let negated_inverse = neginv(m);
     let mut rest = w;
@@ -76,7 +76,7 @@ fn without_twos<T: PlainWord>(w: T, twos: u32, m: T) -> T {
     }
 }
 
-// The inverse of a number below an odd m; `None` exactly where there is none.
+// The inverse of a number below an odd m, below m; `None` exactly where there is none.
 fn inverse_below<T: PlainWord>(x: T, m: T) -> Option<T> {
     let has_units = T::one().is_below(m);
     if x.is_zero_word() {
@@ -94,12 +94,11 @@ fn inverse_below<T: PlainWord>(x: T, m: T) -> Option<T> {
     Some(without_twos(factor, pair.twos, m))
 }
 
-/// The inverse of a modulo m; `None` exactly where there is none.
+/// The inverse of a modulo m, below m; `None` exactly where there is none.
 ///
-/// A turn of the loop has two numbers. Their difference loses its twos and stands in place of the
-/// greater one, until they are equal; the inverse is a factor that was kept beside them, without the twos,
-/// which are taken out by Montgomery's reduction. There is one division at most, at the beginning: for
-/// a number that isn't below m.
+/// Each turn of the loop replaces the greater of two numbers by the odd part of their difference, until they are
+/// equal. It keeps their factors up to a power of two, which Montgomery's reduction removes at the end. The only
+/// division is the reduction of an a that isn't below m.
 ///
 /// Source: Kaliski, "The Montgomery inverse and its applications", IEEE Transactions on Computers 44, 1995.
 ///
@@ -112,9 +111,9 @@ pub fn inverse_by_subtraction<T: PlainWord>(a: T, m: T) -> Option<T> {
     inverse_below(reduced(a, m), m)
 }
 
-/// The inverse of a modulo m; `None` exactly where there is none.
+/// The inverse of a modulo m, below m; `None` exactly where there is none.
 ///
-/// For an odd m by subtraction, as `inverse_by_subtraction` finds it, for an even one by Euclid's algorithm, as `invm` does.
+/// For an odd m it is computed by subtraction, as in `inverse_by_subtraction`, for an even one as in `invm`.
 ///
 /// # Preconditions
 ///

@@ -1,15 +1,15 @@
-//! The number of an operand: of a word with or without sign, and of a reference to one.
+//! The number of an operand: a signed or unsigned word, or a reference to one.
 
-/// An operand that contracts see as a whole number: a word, or a reference to a word.
+/// An operand that contracts see as a whole number: an unsigned word, or a reference to one.
 ///
-/// It has no calls. By it one statement of an operation serves operands by value and by reference.
+/// It has no methods. With it one contract of an operation covers operands by value and by reference.
 pub trait Numbered: Sized {}
 
 impl<Any> Numbered for Any {}
 
-/// An operand that contracts see as an integer: a word with or without sign, or a reference to one.
+/// An operand that contracts see as an integer: a signed or unsigned word, or a reference to one.
 ///
-/// It has no calls.
+/// It has no methods.
 pub trait IntegerValued {}
 
 impl<Any: ?Sized> IntegerValued for Any {}

@@ -1,5 +1,5 @@
-//! The kinds of operands: each operand by value or by reference, the modulus by reference. All forms of
-//! a call go to one function.
+//! Operations for each kind of operands, by value or by reference, the modulus by reference. All of them delegate
+//! to one function.
 
 use crate::modular_prim::operations::{ModularCoreOps, ModularPow, ModularUnaryOps};
 use crate::modular_prim::plain_word::PlainWord;

@@ -1,4 +1,4 @@
-//! Words with division: what plain modular operations need beside the paths.
+//! Words with division, which the paths don't use.
 
 use crate::modular_prim::numbered::Numbered;
 use crate::modular_word::path_word::PathWord;
@@ -6,7 +6,7 @@ use crate::modular_word::word::{w8, w16, w32, w64, wsize};
 
 /// A machine word with quotients and remainders.
 pub trait PlainWord: Sized + PathWord + Numbered {
-    /// The quotient of two words.
+    /// The quotient of two words, rounded down.
     ///
     /// # Panics
     ///
@@ -22,7 +22,7 @@ pub trait PlainWord: Sized + PathWord + Numbered {
     #[must_use]
     fn remainder(self, d: Self) -> Self;
 
-    /// The low word of the quotient of a double word by a word.
+    /// The low word of the quotient of a double word by a word, rounded down.
     ///
     /// # Panics
     ///

@@ -7,10 +7,10 @@ use crate::modular_word::path_word::PathWord;
 use crate::modular_word::paths::{div_2by1, neginv, redc, two};
 use crate::modular_word::ring_word::RingWord;
 
-/// The residue of the product of `exp` factors `base`; that of 1 for the exponent 0.
+/// The residue of the power of `base` to `exp`, below m; that of 1 for the exponent 0.
 ///
-/// The exponents 0, 1 and 2 cost one division at most. Above them no step divides a double word of more than 16
-/// bits: modulo an odd m each product is reduced by Montgomery's way, modulo an even one by the reciprocal of m.
+/// The exponents 0, 1 and 2 take one division at most. For greater ones, no step divides a double word of more than
+/// 16 bits: products are reduced by Montgomery's reduction for an odd m, by the reciprocal of m for an even one.
 ///
 /// # Panics
 ///
@@ -28,7 +28,7 @@ pub fn powm<T: PlainWord>(base: T, exp: T, m: T) -> T {
     }
 }
 
-// The residue of the power of a base below m, by the way that m admits.
+// The residue of the power of a base below m, by the method for the width and the parity of m.
 #[inline]
 fn power_below<T: PlainWord>(base: T, exp: T, m: T) -> T {
     if T::bits() <= 8 {
@@ -40,8 +40,8 @@ fn power_below<T: PlainWord>(base: T, exp: T, m: T) -> T {
     }
 }
 
-// The residue of the power of a base below m, by binary digits. A double word of 16 bits is divided as fast as
-// another way reduces it.
+// The residue of the power of a base below m, by binary digits and divisions: a double word of 16 bits is divided
+// as fast as by Montgomery's reduction or a reciprocal.
 fn power_by_division<T: PlainWord>(base: T, exp: T, m: T) -> T {
     let mut power = base;
     let mut product = if exp.is_odd() {
@@ -60,9 +60,8 @@ fn power_by_division<T: PlainWord>(base: T, exp: T, m: T) -> T {
     product
 }
 
-// The residue of the power of a base below an odd m, by binary digits. The power is a residue times
-// the base of the words, and the product is one as it is: a reduction of the two's product is the
-// next product.
+// The residue of the power of a base below an odd m, by binary digits. `power` is in Montgomery form and `product`
+// isn't, so that the reduction of their product is the next `product`, with no conversion.
 //
 // Source: Handbook of Applied Cryptography, section 14.3.2.
 fn power_by_reduction<T: PlainWord>(base: T, exp: T, m: T) -> T {
@@ -84,8 +83,8 @@ fn power_by_reduction<T: PlainWord>(base: T, exp: T, m: T) -> T {
     product
 }
 
-// The residue of the power of a base below m, by binary digits. All residues are scaled by the power
-// of two that takes m to the top bit, so that one reciprocal serves each step.
+// The residue of the power of a base below m, by binary digits. All residues are shifted left like m, whose top bit
+// is then set, so that one reciprocal serves each step.
 fn power_by_reciprocal<T: PlainWord>(base: T, exp: T, m: T) -> T {
     let shift = m.leading_zeros();
     let divisor = m.shift_left(shift);
@@ -107,13 +106,13 @@ fn power_by_reciprocal<T: PlainWord>(base: T, exp: T, m: T) -> T {
     product.shift_right(shift)
 }
 
-// The scaled residue of the product of two scaled residues.
+// The shifted residue of the product of two shifted residues.
 #[inline]
 fn scaled_product<T: PlainWord>(divisor: T, reciprocal: T, shift: u32, a: T, b: T) -> T {
     div_2by1(divisor, reciprocal, a.shift_right(shift).product(b)).1
 }
 
-// The residue of the power, and 0 for m = 0.
+// The residue of the power; 0 for m = 0.
 #[inline]
 fn power_or_zero<T: PlainWord>(base: T, exp: T, m: T) -> T {
     if m.is_zero_word() {
@@ -123,13 +122,13 @@ fn power_or_zero<T: PlainWord>(base: T, exp: T, m: T) -> T {
     }
 }
 
-/// `powm` of words of 32 bits, and 0 for m = 0.
+/// `powm` of words of 32 bits, below m; 0 for m = 0.
 #[inline]
 pub fn powm_u32(base: u32, exp: u32, m: u32) -> u32 {
     power_or_zero(base, exp, m)
 }
 
-/// `powm` of words of 64 bits, and 0 for m = 0.
+/// `powm` of words of 64 bits, below m; 0 for m = 0.
 #[inline]
 pub fn powm_u64(base: u64, exp: u64, m: u64) -> u64 {
     power_or_zero(base, exp, m)

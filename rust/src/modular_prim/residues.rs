@@ -1,19 +1,19 @@
-//! Residues of sums, differences and products of words, which may be above the modulus.
+//! Residues of sums, differences and products of words that may be above the modulus.
 
 use crate::modular_prim::below::{add_below, dbl_below, neg_below, sub_below};
 use crate::modular_prim::plain_word::PlainWord;
 use crate::modular_word::path_word::PathWord;
 use crate::modular_word::ring_word::RingWord;
 
-// Whether a word is below m, where that spares a division that takes longer than a wrong guess of the answer:
-// words of at most 16 bits are divided as fast as that.
+// Whether a word is below m. Always false for words of at most 16 bits, where a mispredicted branch takes longer
+// than the division that it avoids.
 #[inline]
 fn spares_division<T: PlainWord>(a: T, m: T) -> bool {
     T::bits() > 16 && a.is_below(m)
 }
 
-/// The residue of a word. A word of more than 16 bits that is below m is its own,
-/// with no division.
+/// The residue of a word, below m. A word of more than 16 bits that is below m is
+/// returned without a division.
 ///
 /// # Panics
 ///
@@ -23,19 +23,19 @@ pub fn reduced<T: PlainWord>(a: T, m: T) -> T {
     reduced_unless(spares_division(a, m), a, m)
 }
 
-// The residue of a word that may be known to be its own.
+// The residue of a word, without a division where the caller knows that the word is below m.
 #[inline]
 fn reduced_unless<T: PlainWord>(is_residue: bool, a: T, m: T) -> T {
     if is_residue { a } else { a.remainder(m) }
 }
 
-// The whole sum.
+// The sum of two words, as a double word.
 #[inline]
 fn whole_sum<T: PlainWord>(a: T, b: T) -> T::Double {
     T::double_plus(T::merge(a, T::zero()), T::merge(b, T::zero()))
 }
 
-// How far a and b are from each other.
+// The difference of the greater and the smaller of a and b.
 #[inline]
 fn distance<T: PlainWord>(a: T, b: T) -> T {
     if a.is_below(b) {
@@ -45,10 +45,11 @@ fn distance<T: PlainWord>(a: T, b: T) -> T {
     }
 }
 
-/// The residue of a + b. There is no division where words have more than 16 bits and
-/// both are below m.
+/// The residue of a + b, below m. There is no division where words have more than 16
+/// bits and both are below m.
 ///
-/// Longer words are divided one by one, side by side: that takes less than the division of the whole sum.
+/// Words of more than 16 bits are divided one by one: two independent divisions overlap, and take less time than
+/// the division of the double word a + b.
 ///
 /// # Panics
 ///
@@ -63,12 +64,12 @@ pub fn addm<T: PlainWord>(a: T, b: T, m: T) -> T {
     }
 }
 
-/// The residue of a - b. There is no division where words have more than 16 bits and
-/// both are below m.
+/// The residue of a - b, below m. There is no division where words have more than 16
+/// bits and both are below m.
 ///
-/// Which of the two is the greater is often no better than a guess, so one remainder serves both cases. Two tests of
-/// the operands are sooner done than one of their distance, which spares more divisions; divisions of more than 32
-/// bits take the longest.
+/// One remainder serves both cases of a comparison of a and b, which often mispredicts. Comparing both operands
+/// with m is faster than comparing their distance, but avoids fewer divisions; words of more than 32 bits compare
+/// the distance, since their divisions take longest.
 ///
 /// # Panics
 ///
@@ -91,7 +92,7 @@ pub fn subm<T: PlainWord>(a: T, b: T, m: T) -> T {
     }
 }
 
-/// The residue of a·b.
+/// The residue of a·b, below m.
 ///
 /// # Panics
 ///
@@ -101,7 +102,7 @@ pub fn mulm<T: PlainWord>(a: T, b: T, m: T) -> T {
     T::narrow_remainder(a.product(b), m)
 }
 
-/// The residue of -a.
+/// The residue of -a, below m.
 ///
 /// # Panics
 ///
@@ -111,7 +112,7 @@ pub fn negm<T: PlainWord>(a: T, m: T) -> T {
     neg_below(reduced(a, m), m)
 }
 
-/// The residue of 2a.
+/// The residue of 2a, below m.
 ///
 /// # Panics
 ///
@@ -121,7 +122,7 @@ pub fn dblm<T: PlainWord>(a: T, m: T) -> T {
     dbl_below(reduced(a, m), m)
 }
 
-/// The residue of a·a.
+/// The residue of a·a, below m.
 ///
 /// # Panics
 ///

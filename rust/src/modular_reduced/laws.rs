@@ -1,6 +1,5 @@
-//! The laws of rings, of the checked forms of any reducer. Each function computes both sides of a
-//! law and answers them: they are one word. And the law of forms and values, of a call that does
-//! nothing.
+//! The ring laws, for the checked forms of any reducer. Each function computes both sides of a law and returns
+//! them; its contract says that they are equal. Also the laws of forms and values, by functions with an empty body.
 
 use crate::modular_reduced::reducer::Reducer;
 use crate::modular_word::ring_word::RingWord;
@@ -66,7 +65,7 @@ pub fn products_distribute<T: RingWord, R: Reducer<T>>(reducer: &R, a: T, b: T, 
     (left, right)
 }
 
-/// The negative is the additive inverse: -a, and a + (-a), which is the form of 0.
+/// The negative is the additive inverse: returns -a, and a + (-a), which is the form of 0.
 ///
 /// # Preconditions
 ///
@@ -77,13 +76,13 @@ pub fn negative_cancels<T: RingWord, R: Reducer<T>>(reducer: &R, a: T) -> (T, T)
     (negative, reducer.add(&a, &negative))
 }
 
-/// n mod m, by way of its form.
+/// n mod m, computed from its form.
 #[inline]
 pub fn residue_by_form<T: RingWord, R: Reducer<T>>(reducer: &R, n: T) -> T {
     reducer.residue(reducer.transform(n))
 }
 
-/// Whether the values of two forms are equal: exactly where the forms are one word.
+/// Whether the values of two forms are equal, which they are exactly where the forms are.
 ///
 /// # Preconditions
 ///
@@ -93,8 +92,8 @@ pub fn same_value<T: RingWord, R: Reducer<T>>(reducer: &R, a: T, b: T) -> bool {
     reducer.residue(a) == reducer.residue(b)
 }
 
-/// Forms and values are one to one: the value of the form of v is v, which is a word and a checked
-/// form; a checked form is the form of its value, so that equal values have equal forms, which are
-/// one word; and what stands for a value is a checked form of that value.
+/// Forms and values are one to one. The form of a value v fits a word, is checked, and has the value v. A checked
+/// form is the form of its value, so that forms of equal values are equal. A word that represents v is a checked
+/// form of value v.
 #[inline]
 pub fn canonical_laws<T: RingWord, R: Reducer<T>>(reducer: &R) {}

@@ -1,9 +1,9 @@
-//! Powers of forms, by binary steps, with the number of products.
+//! Powers of forms by binary digits, with the number of products.
 
 use crate::modular_reduced::reducer::Reducer;
 use crate::modular_word::ring_word::RingWord;
 
-// The power by a square a digit and a product a one digit, and how many these were.
+// The power, by a square for each digit and a product for each digit 1, and the number of these.
 fn binary_power<T: RingWord, R: Reducer<T>>(reducer: &R, base: T, exp: T) -> (T, u32) {
     let mut rest = exp;
     let mut power = base;
@@ -23,10 +23,12 @@ fn binary_power<T: RingWord, R: Reducer<T>>(reducer: &R, base: T, exp: T) -> (T,
 
 /// The power of a form, and how many products of the reducer it took.
 ///
-/// That is none for the exponent 1, which answers the base, and one for the exponent 2. Any other
-/// exponent goes by binary steps from the form of 1, a square for each binary digit and a product
-/// for each one digit (Knuth, The Art of Computer Programming, volume 2, section 4.6.3, algorithm
-/// A, with a square at the last digit too); for the exponent 0 that is the form of 1 mod m itself.
+/// The exponent 1 takes none, since the power is the base, and the exponent 2 takes one. Any other exponent takes a
+/// square for each binary digit and a product for each digit 1, starting from the form of 1; so the power to the
+/// exponent 0 is the form of 1 mod m.
+///
+/// Source: Knuth, The Art of Computer Programming, volume 2, section 4.6.3, algorithm A, with a square at the last
+/// digit too.
 ///
 /// # Preconditions
 ///

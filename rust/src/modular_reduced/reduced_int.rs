@@ -13,27 +13,38 @@ mod neg_div;
 mod operations;
 mod sub;
 
-/// An integer modulo m: a form, and the reducer that it belongs to.
+/// An integer modulo m: a form, and its reducer.
 ///
-/// Contracts speak of its modulus (`modulus_of`), of its residue, which is a number below the
-/// modulus (`residue_of`), and of the form (`form_of`).
+/// Contracts use its modulus (`modulus_of`), its residue, a number below the modulus (`residue_of`), and its form
+/// (`form_of`).
 ///
-/// | Operators | Answer modulo m | Condition |
+/// | Operators | Return modulo m | Condition |
 /// |---|---|---|
 /// | `x + y`, `x - y`, `x * y`, and `+=`, `-=`, `*=` | the sum, difference, product | the moduli are equal |
-/// | the same with a word n on the right | n counts as n mod m | none |
-/// | `x / y` | the one q with q·y congruent to x | the moduli are equal, and y has an inverse |
+/// | the same with a word n on the right | the same with n mod m | none |
+/// | `x / y` | the only q with q·y congruent to x | the moduli are equal, and y has an inverse |
 /// | `-x` | the negative | none |
 /// | `x == y` | whether the moduli and the residues are equal | none |
 ///
-/// Each operand may be a reference too.
+/// Each operand may also be a reference.
+///
+/// # Examples
+///
+/// ```
+/// use num_modular::{ModularInteger, MontgomeryInt};
+///
+/// let x = MontgomeryInt::<u64>::new(10, &97);
+/// let y = x.convert(20);
+/// assert_eq!((x * y + 1).residue(), 7);
+/// assert_eq!((x / y * y).residue(), 10);
+/// ```
 #[must_use]
 pub struct ReducedInt<T, R> {
     form: T,
     reducer: R,
 }
 
-/// Integers by plain reduction: each residue is its own form.
+/// Integers modulo m by plain reduction: the form of a residue is the residue.
 pub type VanillaInt<T> = ReducedInt<T, Vanilla<T>>;
 
 impl<T: RingWord, R: Reducer<T> + Copy> Copy for ReducedInt<T, R> {}

@@ -3,10 +3,21 @@
 use crate::modular_reduced::power::pow_counted;
 use crate::modular_word::ring_word::RingWord;
 
-/// A way to compute modulo m by forms: words that stand for the values from 0 to m - 1.
+/// Arithmetic modulo m on forms: words that represent the values from 0 to m - 1.
 ///
-/// A form is checked where `check` is true of it; each value has exactly one checked form, and each
-/// checked form one value. Condition of every call but `check` and `transform`: the forms are checked.
+/// A form is checked where `check` returns true. Each value has exactly one checked form, and each checked form
+/// exactly one value. Condition of every call but `check` and `transform`: the forms are checked.
+///
+/// # Examples
+///
+/// ```
+/// use num_modular::{Montgomery, Reducer};
+///
+/// let ring = Montgomery::<u64>::new(97);
+/// let (x, y) = (ring.transform(1000), ring.transform(3));
+/// assert_eq!(ring.residue(ring.mul(&x, &y)), 3000 % 97);
+/// assert_eq!(ring.inv(y).map(|f| ring.residue(f)), Some(65));
+/// ```
 pub trait Reducer<T: RingWord>: Sized {
     /// The reducer of a modulus.
     ///
@@ -49,7 +60,7 @@ pub trait Reducer<T: RingWord>: Sized {
     /// result.
     fn add(&self, a: &T, b: &T) -> T;
 
-    /// `add`, in the first operand.
+    /// `add`, in place of the first operand.
     ///
     /// # Preconditions
     ///
@@ -76,7 +87,7 @@ pub trait Reducer<T: RingWord>: Sized {
     /// result.
     fn sub(&self, a: &T, b: &T) -> T;
 
-    /// `sub`, in the first operand.
+    /// `sub`, in place of the first operand.
     ///
     /// # Preconditions
     ///
@@ -103,7 +114,7 @@ pub trait Reducer<T: RingWord>: Sized {
     /// result.
     fn mul(&self, a: &T, b: &T) -> T;
 
-    /// `mul`, in the first operand.
+    /// `mul`, in place of the first operand.
     ///
     /// # Preconditions
     ///
@@ -114,10 +125,10 @@ pub trait Reducer<T: RingWord>: Sized {
         *a = self.mul(a, b);
     }
 
-    /// The form of (a - b) times a factor modulo m: the answer of `mul` on that of `sub`.
+    /// The form of (a - b) times a factor modulo m: what `mul` returns for the result of `sub`.
     ///
-    /// A reducer may have it faster than by the two calls where it can't be foretold which of a and b is the
-    /// greater, as in the butterflies of a transform.
+    /// A reducer may override it with a faster body for callers in which the comparison of a and b mispredicts, as
+    /// in the butterflies of a transform.
     ///
     /// # Preconditions
     ///
@@ -145,7 +156,7 @@ pub trait Reducer<T: RingWord>: Sized {
     /// result.
     fn sqr(&self, f: T) -> T;
 
-    /// The form of the product of `exp` factors, modulo m; that of 1 for the exponent 0.
+    /// The form of the power to the exponent `exp` modulo m; that of 1 for the exponent 0.
     ///
     /// # Preconditions
     ///

@@ -1,15 +1,16 @@
-//! The plain reducer: each value is its own form.
+//! The plain reducer: the form of a value is the value.
 
 use crate::modular_reduced::reducer::Reducer;
 use crate::modular_prim::below::{add_below, dbl_below, neg_below, sub_below};
 use crate::modular_prim::inverse::fast_inverse;
 use crate::modular_prim::plain_word::PlainWord;
 
-/// The plain reducer of a modulus from 1 up: the form of a value is the value itself.
+/// The plain reducer of a modulus that is at least 1: the form of a value is the value.
 ///
-/// Sums, differences, doubles and negatives take no division. A product is the classical one, the
-/// remainder of a double word by a word (Handbook of Applied Cryptography, section 14.3.1). An inverse
-/// is found by subtraction for an odd modulus and by Euclid's algorithm for an even one.
+/// Sums, differences, doubles and negatives take no division. A product is the remainder of a double word by a
+/// word. An inverse is computed by subtraction for an odd modulus, by Euclid's algorithm for an even one.
+///
+/// Source: Handbook of Applied Cryptography, section 14.3.1.
 #[derive(Debug)]
 #[must_use]
 pub struct Vanilla<T> {
@@ -30,7 +31,7 @@ impl<T: PlainWord> Reducer<T> for Vanilla<T> {
     #[inline]
     fn new(m: &T) -> Self {
         let modulus = *m;
-        // a word that was read is known to fit
+        // Reading the word gives the proof that it fits its width.
         let _ = modulus.is_odd();
         assert!(!modulus.is_zero_word(), "the modulus must be at least 1");
         Vanilla { modulus }

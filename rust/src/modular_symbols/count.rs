@@ -1,5 +1,5 @@
-//! The definition of the Jacobi symbol as a program: right and slow. It is what the tests compare the
-//! fast calls with, and nothing of the library stands on it.
+//! The definition of the Jacobi symbol as a program, simple and slow. The tests compare the fast calls with it; the
+//! library doesn't use it.
 
 use crate::modular_prim::abs::signed_residue;
 use crate::modular_prim::euclid::invm;
@@ -8,8 +8,8 @@ use crate::modular_prim::residues::mulm;
 use crate::modular_word::path_word::PathWord;
 use crate::modular_word::ring_word::RingWord;
 
-/// The Jacobi symbol over n of a number, given by its sign and its magnitude, by a count of the half
-/// system of n, of (n - 1)/2 residues: -1, 0 or 1.
+/// The Jacobi symbol over n of a number, given by its sign and its magnitude: -1, 0 or 1, by a count of residues of
+/// the half system 1, .., (n - 1)/2.
 ///
 /// Source: Schering, "Zur Theorie der quadratischen Reste" (Gauss's lemma over any odd number).
 ///

@@ -1,4 +1,4 @@
-//! The Jacobi symbol with the number of its steps, a module a width.
+//! The Jacobi symbol with the number of steps, in one module for each width.
 
 use crate::modular_symbols::halving::jacobi_counted;
 use crate::modular_prim::plain_word::PlainWord;
@@ -10,8 +10,8 @@ pub mod w64;
 pub mod w8;
 pub mod wsize;
 
-/// The Jacobi symbol, `None` exactly for an even n, and the number of halvings and swaps from the
-/// residue of a over n.
+/// The Jacobi symbol of a over n and the number of halvings and swaps, counted from the residue of a; `None`
+/// exactly for an even n.
 #[inline]
 pub fn checked_jacobi_counted<T: PlainWord>(a: T, n: T) -> Option<(i8, u32)> {
     if n.is_odd() {

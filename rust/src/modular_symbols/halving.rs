@@ -7,7 +7,7 @@ use crate::modular_prim::plain_word::PlainWord;
 use crate::modular_word::path_word::PathWord;
 use crate::modular_word::ring_word::RingWord;
 
-// Whether the symbol is turned where `a` times 2 to the power `twos` over n becomes n over `a`.
+// Whether replacing `a`·2^twos over n by n over `a` negates the symbol.
 #[inline]
 fn is_turned<T: PlainWord>(a: T, twos: u32, n: T) -> bool {
     is_turned_by_twos(twos, n) ^ is_turned_by_swap(a, n)
@@ -44,14 +44,13 @@ pub fn jacobi_by_halving<T: PlainWord>(a_minus: bool, a: T, n: T) -> i8 {
     jacobi_counted(a_minus, a, n).0
 }
 
-/// The Jacobi symbol over n of a number, given by its sign and its magnitude, and the number of halvings
-/// and swaps from its residue over n.
+/// The Jacobi symbol over n of a number, given by its sign and its magnitude, and the number of halvings and swaps,
+/// counted from its residue.
 ///
-/// A turn of the loop takes all twos out of the upper number, swaps the two and reduces, by the division of Euclid's
-/// algorithm.
+/// Each turn of the loop removes all factors 2 of the upper number, swaps the two numbers and reduces, by the
+/// division of Euclid's algorithm.
 ///
-/// Source: Cohen, "A Course in Computational Algebraic Number Theory", algorithm 1.4.10, without
-/// its first steps.
+/// Source: Cohen, "A Course in Computational Algebraic Number Theory", algorithm 1.4.10, without its first steps.
 ///
 /// # Preconditions
 ///
@@ -61,7 +60,7 @@ pub fn jacobi_counted<T: PlainWord>(a_minus: bool, a: T, n: T) -> (i8, u32) {
     halve_and_swap(signed_residue(a_minus, a, n), n)
 }
 
-/// From 0 there are no steps; from 2^z times an odd number there are z halvings, a swap, and those from
-/// what the swap leaves; and 2 to their number is at most 2·a·n, for a from 1 to n - 1.
+/// 0 takes no steps. 2^z times an odd number takes z halvings, a swap, and the steps of the residue after the swap.
+/// 2 to the number of steps is at most 2·a·n, for a from 1 to n - 1.
 #[inline]
 pub fn step_laws() {}

@@ -1,10 +1,10 @@
-//! The low part of a word, of which bits are taken: a word of 32 bits, whatever the width.
+//! The lowest 32 bits of a word of any width.
 
 use crate::modular_prim::plain_word::PlainWord;
 
-/// A machine word whose low part can be read.
+/// A machine word whose lowest bits can be read.
 pub trait LowPart: Sized + PlainWord {
-    /// The lowest 32 bits: the word itself, where it has no more.
+    /// The lowest 32 bits; the whole word where it has no more.
     fn low_part(self) -> u32;
 }
 

@@ -35,9 +35,8 @@ pub fn checked_jacobi<T: PlainWord>(a_minus: bool, a: T, n_minus: bool, n: T) ->
     }
 }
 
-/// The class of the power a^((n - 1)/2) modulo n, its exponent rounded down: 0, 1 or -1 where the
-/// power leaves 0, 1 or n - 1, tried in this order; `None` for another power and for n below 1.
-/// Over an odd prime it is the Jacobi symbol.
+/// 0, 1 or -1, where a^((n - 1)/2), with the exponent rounded down, is congruent to 0, 1 or n - 1 modulo n, tried
+/// in this order; `None` where it is none of these, and for n below 1. Over an odd prime it is the Jacobi symbol.
 ///
 /// # Preconditions
 ///
@@ -48,7 +47,7 @@ pub fn checked_legendre<T: PlainWord>(a_minus: bool, a: T, n_minus: bool, n: T) 
     class_of_power(a_minus, a, n_minus, n)
 }
 
-// The class of the power, by itself.
+// `checked_legendre` without the statement on primes.
 fn class_of_power<T: PlainWord>(a_minus: bool, a: T, n_minus: bool, n: T) -> Option<i8> {
     if n_minus {
         None
@@ -69,13 +68,13 @@ fn class_of_power<T: PlainWord>(a_minus: bool, a: T, n_minus: bool, n: T) -> Opt
     }
 }
 
-// A symbol, or its negative where it is turned.
+// The symbol, negated where `turned` is true.
 #[inline]
 fn turned_symbol(symbol: i8, turned: bool) -> i8 {
     if turned { -symbol } else { symbol }
 }
 
-// The Kronecker symbol over n of at least 1.
+// The Kronecker symbol over an n that is at least 1.
 fn symbol_above<T: PlainWord>(a_minus: bool, a: T, n: T) -> i8 {
     if n.is_odd() {
         jacobi_symbol(a_minus, a, n)

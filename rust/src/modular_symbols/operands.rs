@@ -5,17 +5,17 @@ pub use crate::modular_prim::numbered::IntegerValued;
 use crate::modular_prim::numbered::Numbered;
 use crate::modular_prim::plain_word::PlainWord;
 
-/// An operand without sign: its integer is its whole number, which `==` compares.
+/// An unsigned operand: its integer is its whole number, which `==` compares.
 ///
-/// It has no calls. By it code that is generic over the modular operations and the symbols speaks of
-/// one number.
+/// It has no methods. Code that is generic over the modular operations and the symbols uses it to treat both
+/// numbers of an operand as one.
 pub trait UnsignedOperand: Sized + Numbered + IntegerValued + Eq {}
 
 impl<Any: Numbered + IntegerValued + Eq> UnsignedOperand for Any {}
 
-/// A machine word with or without sign.
+/// A signed or unsigned machine word.
 pub trait SymbolWord: IntegerValued + Copy {
-    /// The word without sign that holds the magnitude, the least number's too.
+    /// The unsigned word that holds every magnitude, also that of the least number.
     type Magnitude: LowPart;
 
     /// Whether the number is negative, and its magnitude.

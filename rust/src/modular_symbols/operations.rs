@@ -1,4 +1,4 @@
-//! The trait that collects the modular operations and the symbols.
+//! The trait that combines the modular operations and the symbols.
 
 use crate::modular_symbols::operands::{SymbolWord, UnsignedOperand};
 use crate::modular_symbols::symbols::ModularSymbols;
@@ -6,8 +6,8 @@ use crate::modular_prim::numbered::Numbered;
 use crate::modular_prim::operations::{ModularCoreOps, ModularPow, ModularUnaryOps};
 use crate::modular_prim::plain_word::PlainWord;
 
-/// All modular operations and the symbols of a word, with operands by value and the modulus by
-/// reference. Code that is generic over it knows each answer by the contracts of these traits.
+/// All modular operations and the symbols of a word, with operands by value and the modulus by reference. The
+/// contracts of these traits give each result to generic code.
 pub trait ModularOps<Rhs: Numbered = Self, Modulus: UnsignedOperand = Self, Output: Numbered = Self>: Sized + UnsignedOperand
     + ModularCoreOps<Rhs, Modulus, Output = Output>
     + ModularUnaryOps<Modulus, Output = Output>

@@ -5,7 +5,7 @@ use crate::modular_symbols::symbols::ModularSymbols;
 use crate::modular_prim::plain_word::PlainWord;
 use crate::modular_prim::{euclid, power, residues};
 
-/// All modular operations and the symbols of a word, with every operand by reference: the answers of
+/// All modular operations and the symbols of a word, with every operand by reference; the results are those of
 /// `ModularOps`. Condition of each operation: m is at least 1. The symbols have none.
 pub trait ModularRefOps: UnsignedOperand + Copy {
     /// The residue of the sum.
@@ -40,7 +40,7 @@ pub trait ModularRefOps: UnsignedOperand + Copy {
     #[must_use]
     fn negm_ref(&self, m: &Self) -> Self;
 
-    /// The inverse modulo m; `None` exactly where there is none. It is 0 for m = 1.
+    /// The inverse modulo m, 0 for m = 1; `None` exactly where there is none.
     ///
     /// # Panics
     ///
@@ -63,7 +63,7 @@ pub trait ModularRefOps: UnsignedOperand + Copy {
     #[must_use]
     fn sqm_ref(&self, m: &Self) -> Self;
 
-    /// The residue of the product of `exp` factors; that of 1 for the exponent 0.
+    /// The residue of the power to the exponent `exp`; that of 1 for the exponent 0.
     ///
     /// # Panics
     ///
@@ -71,8 +71,7 @@ pub trait ModularRefOps: UnsignedOperand + Copy {
     #[must_use]
     fn powm_ref(&self, exp: &Self, m: &Self) -> Self;
 
-    /// The class of the power, as `checked_legendre` has it: 0, 1 or -1. `None` where the power is none
-    /// of these, and for n = 0.
+    /// 0, 1 or -1, as `checked_legendre` returns it; `None` where the power is none of these, and for n = 0.
     fn checked_legendre_ref(&self, n: &Self) -> Option<i8>;
 
     /// The Jacobi symbol; `None` exactly for an even n.

@@ -1,4 +1,4 @@
-//! The Jacobi symbol by subtraction, which takes no division and counts no steps.
+//! The Jacobi symbol by subtraction, without a division in its loop and without a count of steps.
 
 use crate::modular_symbols::low_part::LowPart;
 use crate::modular_symbols::turns::{turn_by_swap, turn_by_twos};
@@ -7,7 +7,8 @@ use crate::modular_prim::plain_word::PlainWord;
 use crate::modular_word::path_word::PathWord;
 use crate::modular_word::ring_word::RingWord;
 
-// The odd part of a number, or n in place of 0, and in the lowest bit whether the symbol over n is turned.
+// The odd part of a, or of n where a is 0; the lowest bit of the second result is 1 where this negates the symbol
+// over n.
 #[inline]
 fn odd_part<T: LowPart>(a: T, n: T) -> (T, u32) {
     let some = if a.is_zero_word() { n } else { a };
@@ -15,12 +16,11 @@ fn odd_part<T: LowPart>(a: T, n: T) -> (T, u32) {
     (some.shift_right(twos), turn_by_twos(twos, n))
 }
 
-// The odd part of the difference of two odd numbers and the smaller of them; and with the turns so far, by swaps and by
-// twos, what turns the symbol of these two: a swap in the second
-// bit of the one word, and twos in the lowest of the other.
+// The odd part of the difference of two odd numbers, and the smaller of them. The other results say which changes
+// of sign are pending: the second bit of one has those by swaps, the lowest bit of the other those by factors 2.
 //
-// The zeros are those of the wrapped difference, which has as many, so that they are counted beside the
-// comparison. The choices are taken without a branch: which number is the greater can't be foreseen.
+// The trailing zeros of the wrapped difference are those of the difference, so that counting them doesn't wait for
+// the comparison. The choices are selects: a branch would mispredict half the time.
 fn one_difference<T: LowPart>(a: T, n: T, swaps: u32, twos: u32) -> (T, T, u32, u32) {
     let less = a.is_below(n);
     let zeros = a.wrapping_sub(n).trailing_zeros();
@@ -36,8 +36,8 @@ fn one_difference<T: LowPart>(a: T, n: T, swaps: u32, twos: u32) -> (T, T, u32, 
 
 // The Jacobi symbol of a over n. Condition: n is odd.
 //
-// The turns by swaps and by twos are added up without carries, each in a word of its own, so that none is moved to the
-// other's bit; one bit of each counts. They are looked at once, at the end.
+// The changes of sign by swaps and by factors 2 are combined by exclusive or, in a word each, so that no step has
+// to shift one to the other's bit; only that bit of each counts. They are read once, at the end.
 fn subtract_and_halve<T: LowPart>(a: T, n: T) -> i8 {
     let (mut above, mut twos) = odd_part(a, n);
     let mut below = n;
@@ -62,9 +62,8 @@ fn subtract_and_halve<T: LowPart>(a: T, n: T) -> i8 {
 
 /// The Jacobi symbol over n of a number, given by its sign and its magnitude.
 ///
-/// A turn of the loop has two odd numbers. Their difference loses its twos and stands in place of the
-/// greater one, until they are equal. There is one division at most, at the beginning: for a magnitude that
-/// isn't below n.
+/// Each turn of the loop replaces the greater of two odd numbers by the odd part of their difference, until they
+/// are equal. The only division is the reduction of a magnitude that isn't below n.
 ///
 /// Source: Shallit and Sorenson, "A binary algorithm for the Jacobi symbol", ACM SIGSAM Bulletin 27, 1993.
 ///

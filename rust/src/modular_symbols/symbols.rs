@@ -4,8 +4,17 @@ use crate::modular_symbols::magnitudes;
 use crate::modular_symbols::operands::{IntegerValued, SymbolWord};
 
 /// The symbols of a number over n. A symbol is -1, 0 or 1.
+///
+/// # Examples
+///
+/// ```
+/// use num_modular::ModularSymbols;
+///
+/// assert_eq!(2u8.jacobi(&15), 1);
+/// assert_eq!(2u8.checked_jacobi(&14), None);
+/// ```
 pub trait ModularSymbols<Modulus: IntegerValued = Self>: IntegerValued {
-    /// The value inside `checked_legendre`.
+    /// The value in `checked_legendre`.
     ///
     /// # Panics
     ///
@@ -18,14 +27,14 @@ pub trait ModularSymbols<Modulus: IntegerValued = Self>: IntegerValued {
         }
     }
 
-    /// The class of the power a^((n - 1)/2) modulo n, its exponent rounded down: 0, 1 or -1 where the
-    /// power leaves 0, 1 or n - 1, tried in this order. `None` for any other power, and for n below 1.
+    /// 0, 1 or -1, where a^((n - 1)/2), with the exponent rounded down, is congruent to 0, 1 or n - 1 modulo n,
+    /// tried in this order. `None` where it is none of these, and for n below 1.
     ///
-    /// For an odd prime n this is the Legendre symbol, which is the Jacobi symbol. That n is prime isn't
-    /// tested.
+    /// For an odd prime n this is the Legendre symbol, which is the Jacobi symbol. The call doesn't test whether n
+    /// is prime.
     fn checked_legendre(&self, n: Modulus) -> Option<i8>;
 
-    /// The value inside `checked_jacobi`.
+    /// The value in `checked_jacobi`.
     ///
     /// # Panics
     ///
@@ -40,13 +49,13 @@ pub trait ModularSymbols<Modulus: IntegerValued = Self>: IntegerValued {
 
     /// The Jacobi symbol; `None` exactly for an even n and for n below 1.
     ///
-    /// By halvings and swaps. Source: Cohen, "A Course in Computational Algebraic Number Theory", algorithm 1.4.10.
+    /// Source: Cohen, "A Course in Computational Algebraic Number Theory", algorithm 1.4.10.
     fn checked_jacobi(&self, n: Modulus) -> Option<i8>;
 
-    /// The Kronecker symbol, of any number over any number, the least ones included: the product of the
-    /// Jacobi symbol over the odd part of the magnitude of n, of the symbol over 2 for each factor 2 of
-    /// n (0 for an even number, 1 for one that leaves 1 or 7 modulo 8, else -1), and of -1 where both
-    /// are negative. Over 0 it is 1 for 1 and -1, and else 0.
+    /// The Kronecker symbol, of any number over any number, the least ones included. It is the product of the
+    /// Jacobi symbol over the odd part of the magnitude of n, of the symbol over 2 for each factor 2 of n, and of
+    /// -1 where both numbers are negative. The symbol over 2 is 0 for an even number, 1 for one that is 1 or 7
+    /// modulo 8, else -1. Over 0 it is 1 for 1 and -1, and else 0.
     ///
     /// Source: Cohen, "A Course in Computational Algebraic Number Theory", definition 1.4.8.
     fn kronecker(&self, n: Modulus) -> i8;

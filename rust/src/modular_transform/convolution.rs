@@ -5,7 +5,7 @@ use crate::modular_transform::transform::ntt;
 use crate::modular_reduced::reducer::Reducer;
 use crate::modular_word::ring_word::RingWord;
 
-// Multiplies each entry by the one at its place.
+// Multiplies each entry of xs by the entry of ys with the same index.
 #[inline]
 fn multiply_each<T: RingWord, R: Reducer<T>>(r: &R, xs: &mut [T], ys: &[T]) {
     'entries: for i in 0..xs.len() {
@@ -26,7 +26,7 @@ pub fn scale<T: RingWord, R: Reducer<T>>(r: &R, xs: &mut [T], factor: &T) {
     }
 }
 
-// The form of a power of two, by doublings of 1: it may be too large for the word.
+// The form of n, a power of two, by doubling 1, because n may not fit a word.
 #[inline]
 fn length_form<T: RingWord, R: Reducer<T>>(r: &R, n: usize) -> T {
     let mut length = r.transform(T::one());
@@ -36,7 +36,7 @@ fn length_form<T: RingWord, R: Reducer<T>>(r: &R, n: usize) -> T {
     length
 }
 
-// Puts the cyclic product in xs and the transform of ys in ys, by g and an inverse of the length.
+// Replaces xs by the cyclic product and ys by its transform, given a root g and an inverse of the length.
 #[inline]
 fn multiply<T: RingWord, R: Reducer<T>>(r: &R, xs: &mut [T], ys: &mut [T], g: &T, part: &T) {
     ntt(r, xs, g);
@@ -47,22 +47,36 @@ fn multiply<T: RingWord, R: Reducer<T>>(r: &R, xs: &mut [T], ys: &mut [T], g: &T
     scale(r, xs, part);
 }
 
-/// Puts the cyclic product of xs and ys in xs and the transform of ys in ys, both by g; false, with
-/// both lists unchanged, exactly where their length n has no inverse modulo m.
+/// Replaces xs by the cyclic product of xs and ys, and ys by its transform by g. Returns false, with both lists
+/// unchanged, exactly where their length n has no inverse modulo m.
 ///
 /// Entry e of xs becomes the form of the sum of x_i·y_j modulo m over i + j = e or e + n.
-/// It takes no memory. The method is that of Knuth (The Art of Computer
-/// Programming, volume 2, section 4.3.3, part C): a transform of each list, a product at each place,
-/// a transform back. The length comes by doublings of 1, so it may be too large for the word.
+/// No memory is allocated. n may be too large for a word.
+///
+/// Source: Knuth, The Art of Computer Programming, volume 2, section 4.3.3, part C: transform both lists, multiply
+/// entry by entry, transform back.
+///
+/// # Examples
+///
+/// ```
+/// use num_modular::ring::{convolve, find_root};
+/// use num_modular::{Reducer, Vanilla};
+///
+/// let ring = Vanilla::<u64>::new(&97);
+/// let root = find_root(&ring, 4).unwrap();
+/// let (mut xs, mut ys) = ([1, 2, 0, 0], [3, 4, 0, 0]);
+/// assert!(convolve(&ring, &mut xs, &mut ys, &root));
+/// assert_eq!(xs, [3, 10, 8, 0]); // (1 + 2X)(3 + 4X)
+/// ```
 ///
 /// # Panics
 ///
-/// Panics unless the lists have one length, and the length is a power of two. A debug build also panics
-/// unless g and all entries are checked forms, and g suits the length (`root_fits` tells). A release
-/// build doesn't test that, and outside it panics, or returns no meaningful result.
+/// Panics unless the lists have the same length, and the length is a power of two. A debug build also
+/// panics unless g and all entries are checked forms, and g suits the length (`root_fits` tells). A
+/// release build doesn't test that, and outside it panics, or returns no meaningful result.
 #[inline]
 pub fn convolve<T: RingWord, R: Reducer<T>>(r: &R, xs: &mut [T], ys: &mut [T], g: &T) -> bool {
-    assert!(ys.len() == xs.len(), "the lists must have one length");
+    assert!(ys.len() == xs.len(), "the lists must have the same length");
     assert!(xs.len().is_power_of_two(), "the length must be a power of two");
     debug_assert!(r.check(g) && xs.iter().all(|x| r.check(x)) && ys.iter().all(|y| r.check(y)), "g and all entries must be checked forms");
     debug_assert!(crate::modular_transform::transform::root_fits(r, g, xs.len()), "g must suit the length");

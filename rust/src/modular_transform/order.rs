@@ -1,11 +1,11 @@
-//! Lists put in another order in place.
+//! Permutations of lists in place.
 
-// The side of a tile, and how many bits number the rows and the columns of one.
+// The number of rows, and of columns, of a tile, and its logarithm to base 2.
 const SIDE: usize = 8;
 
 const SIDE_BITS: u32 = 3;
 
-/// Puts each entry at the place with the bits in the opposite order.
+/// Moves each entry to the index with the bits in the opposite order.
 ///
 /// # Preconditions
 ///
@@ -20,7 +20,7 @@ pub fn reverse_places<T: Copy>(entries: &mut [T], bits: u32) {
     }
 }
 
-// From place to place.
+// Entry by entry.
 #[inline]
 fn reverse_one_by_one<T: Copy>(entries: &mut [T], bits: u32) {
     let mut other = 0;
@@ -32,9 +32,10 @@ fn reverse_one_by_one<T: Copy>(entries: &mut [T], bits: u32) {
     }
 }
 
-// The places of a tile differ in their highest bits, its rows, and in their lowest bits, its columns. They change
-// with those of the tile of the reversed number, rows with columns, so that few pieces of memory are at work at
-// a time: the tiles of Carter and Gatlin, "Towards an optimal bit-reversal permutation program", without a buffer.
+// The indexes of a tile differ in their highest bits, the rows, and in their lowest bits, the columns. A tile is
+// exchanged with the tile of the reversed number, rows with columns, so that each step touches few cache lines.
+//
+// Source: Carter and Gatlin, "Towards an optimal bit-reversal permutation program", here without a buffer.
 fn reverse_by_tiles<T: Copy>(entries: &mut [T], bits: u32) {
     let step = entries.len() / SIDE;
     let mut other = 0;
@@ -57,8 +58,8 @@ fn reverse_by_tiles<T: Copy>(entries: &mut [T], bits: u32) {
     }
 }
 
-// The lowest bits of a place in the opposite order, from those of the place before it. Where the
-// place ends in t zeros, the bits before begin with t ones and a zero, which change.
+// The reversed bits of `place`, from those of `place` - 1, in `last`. Where `place` ends in t zeros, the lowest
+// bits of `place` - 1 are a zero and t ones, and these t + 1 bits change.
 #[inline]
 fn next_reversed(last: usize, place: usize, bits: u32) -> usize {
     if place == 0 {
@@ -69,7 +70,7 @@ fn next_reversed(last: usize, place: usize, bits: u32) -> usize {
     last + step - (n - 2 * step)
 }
 
-/// Exchanges each entry but the first with the one as far from the end.
+/// Reverses the order of all entries but the first.
 #[inline]
 pub fn mirror<T: Copy>(entries: &mut [T]) {
     let n = entries.len();

@@ -1,5 +1,5 @@
-//! The definitions of `specs/` as programs: plain and slow, each with the definition for its contract.
-//! They are what the tests compare the fast calls with, and nothing of the library stands on them.
+//! The definitions of `specs/` as programs: simple and slow, each with its definition as its contract. The tests
+//! compare the fast calls with them; the library doesn't use them.
 
 use crate::modular_word::plain::power_of;
 
@@ -20,7 +20,7 @@ pub fn suits(m: u64, g: u64, n: usize) -> bool {
     (power_of(g, n as u64 / 2, m) as u128 + 1) % m as u128 == 0
 }
 
-/// Entry j of the transform by g of the entries modulo m, term by term.
+/// Entry j of the transform by g of the entries modulo m, computed from the definition.
 ///
 /// # Preconditions
 ///
@@ -36,7 +36,7 @@ pub fn transform_entry(m: u64, g: u64, xs: &[u64], j: usize) -> u64 {
     sum
 }
 
-// A product of two entries, where their places i and j add up to e or to e + n, and else 0.
+// The product of the entries i and j where i + j is e or e + n; else 0.
 #[inline]
 fn term(product: u128, i: usize, j: usize, e: usize, n: usize) -> u128 {
     if i + j == e || i + j == e + n {
@@ -46,7 +46,7 @@ fn term(product: u128, i: usize, j: usize, e: usize, n: usize) -> u128 {
     }
 }
 
-// The terms of entry e of the cyclic product with the factor x at place i.
+// The sum of the terms of entry e of the cyclic product that have the factor x with index i.
 fn row_sum(m: u64, x: u64, i: usize, ys: &[u64], e: usize) -> u64 {
     let mut sum = 0;
     'terms: for j in 0..ys.len() {
@@ -57,12 +57,12 @@ fn row_sum(m: u64, x: u64, i: usize, ys: &[u64], e: usize) -> u64 {
     sum
 }
 
-/// Entry e of the cyclic product of two lists modulo m, term by term.
+/// Entry e of the cyclic product of two lists modulo m, computed from the definition.
 ///
 /// # Preconditions
 ///
-/// M is at least 1, the lists have one length, and e is below it. This isn't tested: outside it the
-/// call panics, or returns no meaningful result.
+/// M is at least 1, the lists have the same length, and e is below it. This isn't tested: outside it
+/// the call panics, or returns no meaningful result.
 pub fn product_entry(m: u64, xs: &[u64], ys: &[u64], e: usize) -> u64 {
     let mut sum = 0;
     'rows: for i in 0..xs.len() {

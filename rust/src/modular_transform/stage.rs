@@ -1,13 +1,13 @@
-//! One stage of a transform in place: the sums and differences of pairs, by strips of columns.
+//! One stage of a transform in place: sums and differences of pairs of entries, by strips of columns.
 
 use crate::modular_reduced::reducer::Reducer;
 use crate::modular_word::ring_word::RingWord;
 
-/// How many columns are taken together: their powers stand on the stack, and in each block their
-/// pairs are neighbours in memory.
+/// The number of columns of a strip. Their powers are kept on the stack, and in each block their pairs are
+/// neighbours in memory.
 pub const STRIP: usize = 128;
 
-// The pair at two places: its sum, and its difference times a power. It takes one product.
+// Replaces two entries by their sum, and their difference times a power. It takes one product.
 #[inline]
 fn pair<T: RingWord, R: Reducer<T>>(r: &R, forms: &mut [T], first: usize, second: usize, power: &T) {
     let a = forms[first];
@@ -16,10 +16,10 @@ fn pair<T: RingWord, R: Reducer<T>>(r: &R, forms: &mut [T], first: usize, second
     forms[first] = r.add(&a, &b);
 }
 
-/// A stage with a root: in each block of `half` and `half` entries the pair of column i becomes its
-/// sum, and its difference times the power i of the root. Answers how many products that took.
+/// A stage with a root: in each block of 2·`half` entries the pair of column i becomes its sum, and its difference
+/// times the power i of the root. Returns the number of products.
 ///
-/// The columns are taken in strips, so that what is read next lies beside what was read last.
+/// The columns are processed in strips, so that consecutive accesses are close in memory.
 ///
 /// # Preconditions
 ///

@@ -6,9 +6,8 @@ use crate::modular_transform::two_stages::two_stages;
 use crate::modular_reduced::reducer::Reducer;
 use crate::modular_word::ring_word::RingWord;
 
-/// Whether g suits transforms of n entries: n is a power of two, and for n above 1 the value of g to
-/// the power n/2 is -1 modulo m. The power comes by squares, so n may be
-/// too large for the word.
+/// Whether g suits transforms of n entries: n is a power of two, and for n above 1 the value of g to the power n/2
+/// is -1 modulo m. n may be too large for a word.
 ///
 /// # Preconditions
 ///
@@ -28,10 +27,10 @@ pub fn root_fits<T: RingWord, R: Reducer<T>>(r: &R, g: &T, n: usize) -> bool {
     r.is_zero(&r.add(&power, &one))
 }
 
-/// `ntt`, and how many products of the reducer it took: for n = 2^z that is n·z/2 + n - 1 + z.
+/// Transforms as `ntt` does, and returns the number of products of the reducer: n·z/2 + n - 1 + z for n = 2^z.
 ///
-/// The z stages have half blocks of n/2, n/4, .., 1 entries. A stage takes a product for each of its
-/// n/2 pairs, one for the running power in each column, and a square for the root of the next.
+/// The z stages have half blocks of n/2, n/4, .., 1 entries. A stage takes a product for each of its n/2 pairs, a
+/// product for the power of each column, and a square for the root of the next stage.
 ///
 /// # Panics
 ///
@@ -72,12 +71,27 @@ pub fn ntt_counted<T: RingWord, R: Reducer<T>>(r: &R, xs: &mut [T], g: &T) -> u1
     products
 }
 
-/// Puts the transform by g of the entries in their place: entry j becomes the form of the sum of
-/// x_i·g^(i·j) modulo m, x_i being the value of entry i.
+/// Replaces the entries by their transform by g: entry j becomes the form of the sum of x_i·g^(i·j) modulo m, x_i
+/// being the value of entry i.
 ///
-/// The modulus need not be prime. It takes no memory. The method is that of Cooley and Tukey in the order
-/// of Gentleman and Sande ("Fast Fourier transforms: for fun and profit"), over residues (Pollard,
-/// "The fast Fourier transform in a finite field").
+/// The modulus needn't be prime. No memory is allocated.
+///
+/// Source: the decimation in frequency of Gentleman and Sande, "Fast Fourier transforms: for fun and profit", over
+/// residues: Pollard, "The fast Fourier transform in a finite field".
+///
+/// # Examples
+///
+/// ```
+/// use num_modular::ring::{find_root, ntt};
+/// use num_modular::{FixedProth64, Reducer};
+///
+/// type Ring = FixedProth64<57, 29>;
+/// let ring = Ring::new(&Ring::MODULUS);
+/// let root = find_root(&ring, 4).unwrap();
+/// let mut forms = [1, 2, 3, 4].map(|x| ring.transform(x));
+/// ntt(&ring, &mut forms, &root);
+/// assert_eq!(ring.residue(forms[0]), 10);
+/// ```
 ///
 /// # Panics
 ///

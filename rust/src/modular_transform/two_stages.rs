@@ -1,11 +1,11 @@
-//! Two stages of a transform in one pass: each four values go through both while they are at hand.
+//! Two stages of a transform in one pass, which loads and stores each entry once.
 
 use crate::modular_transform::stage::STRIP;
 use crate::modular_reduced::reducer::Reducer;
 use crate::modular_word::ring_word::RingWord;
 
-// The four values at a place and 1, 2 and 3 steps behind it: the pairs two steps apart by a power each,
-// and then the pairs one step apart by a third. It takes four products.
+// Two stages of the entries at `place` and 1, 2 and 3 steps after it: first the pairs two steps apart, with the
+// powers `first` and `second`, then the pairs one step apart, with the power `both`. It takes four products.
 fn four<T: RingWord, R: Reducer<T>>(
     r: &R,
     forms: &mut [T],
@@ -29,8 +29,8 @@ fn four<T: RingWord, R: Reducer<T>>(
     forms[place + 3 * step] = r.mul_difference(&left_turned, &right_turned, both);
 }
 
-/// Two stages, the first with a root and 2·step columns, the second with its square and `step` columns.
-/// `turned` is the power `step` of the root. Answers how many products that took.
+/// Two stages, the first with a root and 2·step columns, the second with its square and `step` columns. `turned` is
+/// the power `step` of the root. Returns the number of products.
 ///
 /// # Preconditions
 ///

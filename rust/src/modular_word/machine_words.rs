@@ -2,7 +2,7 @@
 
 use crate::modular_word::path_word::PathWord;
 
-// `high_sum_modulo` in words of 64 bits: by words, since sums of double words take longer.
+// `high_sum_modulo` of words of 64 bits. It adds single words, since a sum of double words takes longer.
 fn high_sum_modulo_64(first: u128, second: u128, m: u64) -> u64 {
     let (_, first_high) = <u64 as PathWord>::split(first);
     let (low, high) = <u64 as PathWord>::split(second);

@@ -1,6 +1,5 @@
-//! What the paths need of a word: exact and wrapping sums, differences, products, shifts and
-//! comparisons of words and double words. There is no division and no remainder among the calls, so
-//! code over this trait alone divides by none.
+//! What the paths use of a word: exact and wrapping sums, differences, products, shifts and comparisons of words
+//! and double words. There is no division and no remainder, so code over this trait alone makes none.
 
 use crate::modular_word::ring_word::RingWord;
 
@@ -25,9 +24,9 @@ pub trait PathWord: Sized + RingWord {
     #[must_use]
     fn minus(self, rhs: Self) -> Self;
 
-    /// The difference modulo m.
+    /// The difference modulo m, below m.
     ///
-    /// Long words are chosen without a jump, since which of two is greater can't be foretold.
+    /// Words of 64 bits take no branch, which would mispredict half the time where either may be the greater.
     ///
     /// # Preconditions
     ///
@@ -47,7 +46,7 @@ pub trait PathWord: Sized + RingWord {
     #[must_use]
     fn wrapping_add(self, rhs: Self) -> Self;
 
-    /// The difference modulo the base: the word that gives `self` when `rhs` is added to it.
+    /// The difference modulo the base: the word whose sum with `rhs`, modulo the base, is `self`.
     #[must_use]
     fn wrapping_sub(self, rhs: Self) -> Self;
 
@@ -82,16 +81,16 @@ pub trait PathWord: Sized + RingWord {
     #[must_use]
     fn low_bits(self, count: u32) -> Self;
 
-    /// How many of the highest bits are 0; the width for 0.
+    /// The number of leading zeros; the width for 0.
     fn leading_zeros(self) -> u32;
 
-    /// How many of the lowest bits are 0; the width for 0.
+    /// The number of trailing zeros; the width for 0.
     fn trailing_zeros(self) -> u32;
 
     /// Whether the word is below another.
     fn is_below(self, other: Self) -> bool;
 
-    /// The whole product of two words.
+    /// The product of two words, as a double word.
     fn product(self, rhs: Self) -> Self::Double;
 
     /// The word times a power of two, as a double word.
@@ -102,15 +101,15 @@ pub trait PathWord: Sized + RingWord {
     /// result.
     fn shift_left_wide(self, by: u32) -> Self::Double;
 
-    /// The low and the high word of a double word.
+    /// The low and the high word of a double word, in this order.
     fn split(double: Self::Double) -> (Self, Self);
 
-    /// The double word of a low and a high word.
+    /// The double word with a given low and high word.
     fn merge(low: Self, high: Self) -> Self::Double;
 
-    /// The high word of the sum of two double words, modulo m.
+    /// The high word of the sum of two double words, modulo m, below m.
     ///
-    /// The sum can pass the double word; its carry is kept.
+    /// The sum may overflow a double word; its carry is counted.
     ///
     /// # Preconditions
     ///

@@ -1,5 +1,5 @@
-//! The paths: division by a reciprocal, exact division and Montgomery's reduction, written and
-//! proved once for every width. What a divisor stores comes as arguments.
+//! The paths: division by a reciprocal, exact division and Montgomery's reduction, written and proved once for
+//! every width. What was precomputed of a divisor is passed as arguments.
 
 use crate::modular_word::path_word::PathWord;
 
@@ -18,14 +18,13 @@ pub fn ones<T: PathWord>(n: u32) -> T {
     }
 }
 
-/// The word of 2.
+/// The word 2.
 #[inline]
 pub fn two<T: PathWord>() -> T {
     T::one().plus(T::one())
 }
 
-/// Quotient and remainder of a double word by a divisor d with its top bit set, by the reciprocal
-/// of d.
+/// Quotient and remainder of a double word by a divisor d whose top bit is set, by the reciprocal of d.
 ///
 /// Source: Möller and Granlund, "Improved division by invariant integers", algorithm 4.
 ///
@@ -36,8 +35,8 @@ pub fn two<T: PathWord>() -> T {
 pub fn div_2by1<T: PathWord>(d: T, reciprocal: T, a: T::Double) -> (T, T) {
     let (low, high) = T::split(a);
     let (q0, q1) = T::split(T::double_plus(reciprocal.product(high), a));
-    // What is left by q1, and by one more: both are known soon, and compilers choose without a branch, which would
-    // often be guessed wrongly.
+    // The remainders for both candidate quotients are computed before the comparison, so that compilers select one
+    // without a branch, which would mispredict often.
     let more = low.wrapping_sub(q1.wrapping_mul(d));
     let less = more.wrapping_sub(d);
     let mut q = q1.wrapping_add(T::one());
@@ -76,8 +75,7 @@ pub fn div_1by1<T: PathWord>(d: T, multiplier: T, shift: u32, a: T) -> (T, T) {
     (q, r)
 }
 
-/// The quotient of a word by an odd divisor d, by the inverse of d; `None` exactly where d doesn't
-/// divide it.
+/// The quotient of a word by an odd divisor d, by the inverse of d; `None` exactly where d doesn't divide it.
 ///
 /// Source: Granlund and Montgomery, "Division by invariant integers using multiplication",
 /// section 9.
@@ -92,10 +90,10 @@ pub fn exact_1<T: PathWord>(d: T, inverse: T, limit: T, n: T) -> Option<T> {
     if limit.is_below(q) { None } else { Some(q) }
 }
 
-/// The quotient of a double word by an odd divisor d, by the inverse of d; `None` exactly where d
-/// doesn't divide it.
+/// The quotient of a double word by an odd divisor d, by the inverse of d; `None` exactly where d doesn't divide
+/// it.
 ///
-/// Source: as `exact_1`, a word at a time from the lowest.
+/// Source: that of `exact_1`, applied to one word at a time from the lowest.
 ///
 /// # Preconditions
 ///
@@ -113,9 +111,9 @@ pub fn exact_2<T: PathWord>(d: T, inverse: T, limit: T, n: T::Double) -> Option<
 
 /// The word x whose product with m is -1 modulo the base.
 ///
-/// m is its own inverse modulo 8, and each step doubles the number of bits to which the inverse
-/// holds. Source: Dumas, "On Newton-Raphson iteration for multiplicative inverses modulo prime
-/// powers".
+/// m is its own inverse modulo 8, and each step doubles the number of correct bits.
+///
+/// Source: Dumas, "On Newton-Raphson iteration for multiplicative inverses modulo prime powers".
 ///
 /// # Preconditions
 ///
@@ -131,7 +129,7 @@ pub fn neginv<T: PathWord>(m: T) -> T {
     T::zero().wrapping_sub(inverse)
 }
 
-/// The word x whose multiple x·m, added to t, leaves 0 in the low word: the first step of Montgomery's reduction.
+/// The word x for which the low word of t + x·m is 0: the first step of Montgomery's reduction.
 ///
 /// # Preconditions
 ///
@@ -143,8 +141,9 @@ pub fn clearing<T: PathWord>(m: T, negated_inverse: T, t: T::Double) -> T {
     low.wrapping_mul(negated_inverse)
 }
 
-/// Montgomery's reduction of t, given the word x of `clearing` and the product x·m: the second step, the sum of t and
-/// x·m divided by the base, less m where it is at least m. A modulus of a special form may have x·m at a lower cost.
+/// The second step of Montgomery's reduction of t, given the word x of `clearing` and the product x·m: (t + x·m)
+/// divided by the base, less m where that is at least m. The caller passes x·m because a modulus of a special form
+/// may compute it faster.
 ///
 /// # Preconditions
 ///
@@ -155,7 +154,7 @@ pub fn reduce_by<T: PathWord>(m: T, t: T::Double, x: T, multiple: T::Double) -> 
     T::high_sum_modulo(t, multiple, m)
 }
 
-/// Montgomery's reduction of a double word t modulo an odd m.
+/// Montgomery's reduction of a double word t modulo an odd m, below m.
 ///
 /// Source: Handbook of Applied Cryptography, algorithm 14.32, for one word.
 ///

@@ -1,7 +1,7 @@
-//! The definitions of `specs/` as programs: plain and slow, each with the definition for its contract.
-//! They are what the tests compare the fast calls with, and nothing of the library stands on them.
+//! The definitions of `specs/` as programs: simple and slow, each with its definition as its contract. The tests
+//! compare the fast calls with them; the library doesn't use them.
 
-// The residue of a signed number modulo m, by its computing form.
+// The residue of a signed number modulo m, by the equation that computes it.
 #[inline]
 fn computed_residue(z: i64, m: u64) -> u64 {
     if z < 0 {
@@ -13,8 +13,7 @@ fn computed_residue(z: i64, m: u64) -> u64 {
 
 /// The residue of a signed number modulo m.
 ///
-/// The definition and its computing form agree: the answer is `residue m z`, it is a residue of z
-/// modulo m, and no other number is.
+/// The definition and the equation agree: the result is `residue m z`, and the only residue of z modulo m.
 ///
 /// # Preconditions
 ///
@@ -24,7 +23,7 @@ pub fn residue_of(z: i64, m: u64) -> u64 {
     computed_residue(z, m)
 }
 
-/// The residue modulo m of the product of `exp` factors `base`.
+/// The residue modulo m of the power of `base` to `exp`.
 ///
 /// # Preconditions
 ///

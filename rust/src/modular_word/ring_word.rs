@@ -2,19 +2,18 @@
 
 /// A machine word, from 8 to 128 bits wide.
 ///
-/// Contracts speak of its number, and of its width in bits: words of one number are one word, and
-/// `==` compares the numbers. That a number is below 2 to the width is known of each word that a
-/// call has read (the clauses `fits`).
+/// Contracts use its number and its width in bits. Words of equal number are equal, and `==` compares the numbers.
+/// The clauses `fits` of the calls say that a word they read is below 2 to the width.
 pub trait RingWord: Copy + Eq {
-    /// The word of 0.
+    /// The word 0.
     #[must_use]
     fn zero() -> Self;
 
-    /// The word of 1.
+    /// The word 1.
     #[must_use]
     fn one() -> Self;
 
-    /// How many bits a word has.
+    /// The number of bits of a word.
     fn bits() -> u32;
 
     /// Whether the word is 0.

@@ -1,4 +1,4 @@
-//! Helpers on words and double words, a module a width.
+//! Helpers for words and double words, in one module for each width.
 
 pub mod w16;
 pub mod w32;

@@ -1,4 +1,4 @@
-//! Calls that answer how many steps they took besides, a module a width.
+//! Calls that also return how many steps they took, in one module for each width.
 
 /// Words of 8 bits.
 pub mod w8 {

@@ -5,17 +5,9 @@
 #[macro_use]
 #[path = "../../runtime.rs"]
 mod runtime;
-pub mod num_modular_uses;
-pub mod operation_callers;
-pub mod integer_callers;
-pub mod divider_callers;
-pub mod monty_callers;
-pub mod fold_callers;
-pub mod transform_callers;
-pub mod run_callers;
-pub mod run_helpers;
+pub mod misuse;
+pub mod run_misuse;
 pub mod operation_tests;
 pub mod reducer_tests;
-pub mod run_tests;
-pub mod transform_tests;
+pub mod ring_tests;
 pub mod user_tests;

@@ -1,4 +1,4 @@
-//! Rows of words, of modular operations on plain integers, and of symbols.
+//! Known values of words, of modular operations on plain integers, and of symbols.
 
 #[cfg(test)]
 mod tests;

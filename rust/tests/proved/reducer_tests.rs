@@ -1,4 +1,4 @@
-//! Rows of the dividers, of each reducer, and of integers over reducers.
+//! Known values of the dividers, of each reducer, and of integers over reducers.
 
 #[cfg(test)]
 mod tests;

@@ -1,4 +1,5 @@
-//! Rows of the crates that use `num_modular`, and uses of its items by their paths.
+//! Known values of the crates that use `num_modular`, and uses of its items by their paths.
 
+mod names;
 #[cfg(test)]
 mod tests;

@@ -6,17 +6,17 @@ use crate::plans::{Factor, PlannedModulus, join_scaled, multiply, plan, split};
 /// The modulus q.
 pub const MODULUS: u32 = 8380417;
 
-/// The standard's zeta, a root of one of order 512.
+/// The standard's zeta, a root of unity of order 512.
 pub const ZETA: u32 = 1753;
 
-// The inverse of 256.
+// The inverse of 256 modulo q.
 const PART: u32 = 8347681;
 
-/// The ring with its table, of 2 KB: zeta^BitRev8(k) modulo q for k from 0 to 255, each with its
-/// quotient; from k = 1 on these are the numbers of the standard's appendix B.
+/// The ring with its table, of 2 KB: zeta^BitRev8(k) modulo q for k from 0 to 255, each with its quotient. For k
+/// from 1 on these are the numbers of the standard's appendix B.
 ///
-/// It is the plan by zeta itself, which suits 512 entries: below its block 1, modulo X^256 + 1, the
-/// constants are the odd powers zeta^(2·BitRev8(i) + 1), in the standard's order.
+/// The table is the plan by zeta, which suits 512 entries. In block 1, modulo X^256 + 1, the constants are the odd
+/// powers zeta^(2·BitRev8(i) + 1), in the standard's order.
 #[must_use]
 pub struct Ring {
     modulus: PlannedModulus<u32>,
@@ -31,7 +31,7 @@ pub fn are_residues(w: &[u32; 256]) -> bool {
 }
 
 impl Ring {
-    /// The ring, its table made.
+    /// The ring with its table.
     #[inline]
     pub fn new() -> Self {
         let modulus = PlannedModulus::new(MODULUS);
@@ -45,42 +45,42 @@ impl Ring {
         }
     }
 
-    /// NTT(w) in place: place i becomes the value w(zeta^(2·BitRev8(i) + 1)).
+    /// NTT(w) in place: entry i becomes the value w(zeta^(2·BitRev8(i) + 1)), a residue.
     ///
     /// Source: FIPS 204, section 7.5, algorithm 41.
     ///
     /// # Preconditions
     ///
-    /// The coefficients are residues (`are_residues` tells), as the values are. This isn't tested: outside
-    /// it the call panics, or returns no meaningful result.
+    /// The coefficients are residues (`are_residues` tells). This isn't tested: outside it the call panics,
+    /// or returns no meaningful result.
     #[inline]
     pub fn ntt(&self, w: &mut [u32; 256]) {
         split(&self.modulus, w, &self.table, 1, 1);
     }
 
-    /// The inverse of `ntt` in place: the one polynomial whose NTT the list is.
+    /// The inverse of `ntt` in place: the only polynomial whose NTT is the list; its coefficients are residues.
     ///
     /// Source: FIPS 204, section 7.5, algorithm 42.
     ///
     /// # Preconditions
     ///
-    /// The values are residues, as the coefficients are. This isn't tested: outside it the call panics, or
-    /// returns no meaningful result.
+    /// The values are residues. This isn't tested: outside it the call panics, or returns no meaningful
+    /// result.
     #[inline]
     pub fn inverse(&self, w: &mut [u32; 256]) {
         transform_laws();
         join_scaled(&self.modulus, w, &self.table, 1, 1, &self.part);
     }
 
-    /// The product of xs and ys modulo X^256 + 1 and q in xs, and NTT(ys) in ys.
+    /// Replaces xs by the product of xs and ys modulo X^256 + 1 and q, whose coefficients are residues, and ys by
+    /// NTT(ys).
     ///
-    /// Source: FIPS 204, section 2.5: the product of NTT(xs) and NTT(ys), place by place, is transformed
-    /// back.
+    /// Source: FIPS 204, section 2.5: the entrywise product of NTT(xs) and NTT(ys) is transformed back.
     ///
     /// # Preconditions
     ///
-    /// The coefficients are residues, as those of the product are. This isn't tested: outside it the call
-    /// panics, or returns no meaningful result.
+    /// The coefficients are residues. This isn't tested: outside it the call panics, or returns no
+    /// meaningful result.
     #[inline]
     pub fn product(&self, xs: &mut [u32; 256], ys: &mut [u32; 256]) {
         self.ntt(xs);
@@ -89,15 +89,15 @@ impl Ring {
         self.inverse(xs);
     }
 
-    /// The product of two transforms in xs, place by place: that of two polynomials' transforms is the
-    /// transform of their product.
+    /// Replaces xs by the entrywise product of two transforms, whose entries are residues: the transform of the
+    /// product of the two polynomials.
     ///
     /// Source: FIPS 204, section 7.6, algorithm 45.
     ///
     /// # Preconditions
     ///
-    /// The entries are residues, as those of the product are. This isn't tested: outside it the call
-    /// panics, or returns no meaningful result.
+    /// The entries are residues. This isn't tested: outside it the call panics, or returns no meaningful
+    /// result.
     #[inline]
     pub fn multiply(&self, xs: &mut [u32; 256], ys: &[u32; 256]) {
         multiply(&self.modulus, xs, ys, &self.table, 1, 1);

@@ -6,18 +6,18 @@ use crate::plans::{Factor, PlannedModulus, join_scaled, plan, split};
 /// The modulus q.
 pub const MODULUS: u32 = 3329;
 
-/// The standard's zeta, a root of one of order 256.
+/// The standard's zeta, a root of unity of order 256.
 pub const ZETA: u32 = 17;
 
-// The inverse of 128.
+// The inverse of 128 modulo q.
 const PART: u32 = 3303;
 
 /// The ring with its table, of 1 KB: zeta^BitRev7(k) modulo q for k from 0 to 127, the numbers of the
 /// standard's appendix A, each with its quotient.
 ///
-/// It is the plan by zeta itself, which suits 256 entries: below its block 1, modulo X^256 + 1, the
-/// constants are the odd powers zeta^(2·BitRev7(i) + 1), in the standard's order. There is no root of
-/// one of order 512 modulo q, so the transform stops at remainders of two coefficients.
+/// The table is the plan by zeta, which suits 256 entries. In block 1, modulo X^256 + 1, the constants are the odd
+/// powers zeta^(2·BitRev7(i) + 1), in the standard's order. There is no root of unity of order 512 modulo q, so the
+/// transform stops at remainders with two coefficients.
 #[must_use]
 pub struct Ring {
     modulus: PlannedModulus<u32>,
@@ -31,8 +31,8 @@ pub fn are_residues(w: &[u32; 256]) -> bool {
     w.iter().all(|x| *x < MODULUS)
 }
 
-// The product of two remainders modulo X^2 - c, the constants first. Products of three residues fit 64
-// bits, so that each sum is divided once.
+// The product of two remainders modulo X^2 - c, the constants first. Products of three residues fit 64 bits, so
+// that each sum takes one division.
 fn multiply_remainders(x: (u32, u32), y: (u32, u32), c: u32) -> (u32, u32) {
     let constant = (x.0 * y.0) as u64 + (x.1 * y.1) as u64 * c as u64;
     (
@@ -42,7 +42,7 @@ fn multiply_remainders(x: (u32, u32), y: (u32, u32), c: u32) -> (u32, u32) {
 }
 
 impl Ring {
-    /// The ring, its table made.
+    /// The ring with its table.
     #[inline]
     pub fn new() -> Self {
         let modulus = PlannedModulus::new(MODULUS);
@@ -56,42 +56,43 @@ impl Ring {
         }
     }
 
-    /// NTT(w) in place: the places 2i and 2i + 1 become the remainder of w modulo
-    /// X^2 - zeta^(2·BitRev7(i) + 1), the constant first.
+    /// NTT(w) in place: entries 2i and 2i + 1 become the remainder of w modulo X^2 - zeta^(2·BitRev7(i) + 1), the
+    /// constant first, with residues as coefficients.
     ///
     /// Source: FIPS 203, section 4.3, algorithm 9.
     ///
     /// # Preconditions
     ///
-    /// The coefficients are residues (`are_residues` tells), as those of the remainders are. This isn't
-    /// tested: outside it the call panics, or returns no meaningful result.
+    /// The coefficients are residues (`are_residues` tells). This isn't tested: outside it the call panics,
+    /// or returns no meaningful result.
     #[inline]
     pub fn ntt(&self, w: &mut [u32; 256]) {
         split(&self.modulus, w, &self.table, 1, 2);
     }
 
-    /// The inverse of `ntt` in place: the one polynomial whose NTT the list is.
+    /// The inverse of `ntt` in place: the only polynomial whose NTT is the list; its coefficients are residues.
     ///
     /// Source: FIPS 203, section 4.3, algorithm 10.
     ///
     /// # Preconditions
     ///
-    /// The entries are residues, as the coefficients are. This isn't tested: outside it the call panics, or
-    /// returns no meaningful result.
+    /// The entries are residues. This isn't tested: outside it the call panics, or returns no meaningful
+    /// result.
     #[inline]
     pub fn inverse(&self, w: &mut [u32; 256]) {
         transform_laws();
         join_scaled(&self.modulus, w, &self.table, 1, 2, &self.part);
     }
 
-    /// The product of xs and ys modulo X^256 + 1 and q in xs, and NTT(ys) in ys.
+    /// Replaces xs by the product of xs and ys modulo X^256 + 1 and q, whose coefficients are residues, and ys by
+    /// NTT(ys).
     ///
     /// Source: FIPS 203, section 4.3, algorithms 11 and 12: the products of the remainders are joined.
     ///
     /// # Preconditions
     ///
-    /// The coefficients are residues, as those of the product are. This isn't tested: outside it the call
-    /// panics, or returns no meaningful result.
+    /// The coefficients are residues. This isn't tested: outside it the call panics, or returns no
+    /// meaningful result.
     #[inline]
     pub fn product(&self, xs: &mut [u32; 256], ys: &mut [u32; 256]) {
         self.ntt(xs);
@@ -100,15 +101,15 @@ impl Ring {
         self.inverse(xs);
     }
 
-    /// The product of two transforms in xs, remainder by remainder: that of two polynomials' transforms
-    /// is the transform of their product.
+    /// Replaces xs by the product of two transforms, remainder by remainder, whose entries are residues: the
+    /// transform of the product of the two polynomials.
     ///
     /// Source: FIPS 203, section 4.3, algorithms 11 and 12.
     ///
     /// # Preconditions
     ///
-    /// The entries are residues, as those of the product are. This isn't tested: outside it the call
-    /// panics, or returns no meaningful result.
+    /// The entries are residues. This isn't tested: outside it the call panics, or returns no meaningful
+    /// result.
     pub fn multiply(&self, xs: &mut [u32; 256], ys: &[u32; 256]) {
         'remainders: for i in 0..128 {
             let (x, y) = ((xs[2 * i], xs[2 * i + 1]), (ys[2 * i], ys[2 * i + 1]));
@@ -118,8 +119,8 @@ impl Ring {
         }
     }
 
-    // What X^2 leaves in remainder i, zeta^(2·BitRev7(i) + 1), at most q: an entry of the table, or minus
-    // one.
+    // The constant of remainder i, which is congruent to X^2 there: zeta^(2·BitRev7(i) + 1), at most q. It is an
+    // entry of the table, or minus one.
     #[inline]
     fn square(&self, i: usize) -> u32 {
         let power = self.table[64 + i / 2].value;

@@ -13,8 +13,8 @@ fn load(m: u64, numbers: &[u64], registers: &mut [u64]) {
     }
 }
 
-// The residue that the commands leave in a register modulo m, where the registers start with the
-// residues of the numbers; `None` exactly where a command finds no inverse.
+// The residue of a register modulo m after the commands, from registers that start with the residues of the
+// numbers; `None` exactly where the inverse of a command doesn't exist.
 #[inline]
 fn residue_by_run(
     m: u64,
@@ -32,11 +32,11 @@ fn residue_by_run(
 }
 
 impl<'a> ResidueSystem<'a> {
-    /// Runs the commands modulo each modulus, from registers that start with the numbers, and writes
-    /// the residues that one register is left with: those of its value after the commands on whole
-    /// numbers modulo the product of the moduli. The answer is whether all were carried out, which is
-    /// exactly where each inverse that they need exists modulo the product; where it is false, some
-    /// of the residues may be unwritten. What the registers hold before doesn't matter.
+    /// Runs the commands modulo each modulus, from registers that start with the numbers, and writes the residues
+    /// of one register: those of its value after the commands, computed on whole numbers modulo the product of the
+    /// moduli. Returns whether all commands were carried out, which is exactly where each inverse that they need
+    /// exists modulo the product. Where it returns false, some of the residues may be unwritten. The contents of
+    /// the registers are ignored.
     ///
     /// # Preconditions
     ///

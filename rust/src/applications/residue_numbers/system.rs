@@ -1,11 +1,11 @@
-//! Residue number systems of eight moduli at most.
+//! Residue number systems of at most eight moduli.
 
-use crate::applications::residue_numbers::{decode, encode, is_system};
 use crate::ModularCoreOps;
 use crate::laws::residue_laws;
+use crate::residues::{decode, encode, is_system};
 
-/// A residue number system: up to eight moduli above 0, of which no two have a common divisor but 1,
-/// and whose product, the range, is below 2^128.
+/// A residue number system: up to eight moduli above 0, any two of which are coprime, and whose product, the range,
+/// is below 2^128.
 ///
 /// Source: Garner, "The residue number system"; Knuth, The Art of Computer Programming, volume 2,
 /// section 4.3.2.
@@ -16,7 +16,7 @@ pub struct ResidueSystem<'a> {
     pub(crate) moduli: &'a [u64],
 }
 
-// What is done at each modulus with the two residues there.
+// What is computed from the two residues at each modulus.
 #[derive(Clone, Copy)]
 enum Operation {
     Sum,
@@ -24,7 +24,7 @@ enum Operation {
     Product,
 }
 
-// The result modulo m. There is no division for a sum or a difference of residues below m.
+// The result modulo m. Sums and differences of residues below m take no division.
 #[inline]
 fn result_at(operation: Operation, m: u64, left: u64, right: u64) -> u64 {
     match operation {
@@ -35,8 +35,8 @@ fn result_at(operation: Operation, m: u64, left: u64, right: u64) -> u64 {
 }
 
 impl<'a> ResidueSystem<'a> {
-    /// The system of these moduli; `None` exactly where a modulus is 0, two have a common divisor
-    /// above 1, the product is 2^128 or more, or there are more than eight.
+    /// The system of these moduli; `None` exactly where a modulus is 0, two have a common divisor above 1, the
+    /// product is at least 2^128, or there are more than eight.
     #[inline]
     pub fn new(moduli: &'a [u64]) -> Option<Self> {
         if moduli.len() > 8 || !is_system(moduli) {
@@ -56,9 +56,9 @@ impl<'a> ResidueSystem<'a> {
         encode(self.moduli, number, residues);
     }
 
-    /// The number below the product of the moduli that has these residues: there is no other. So
-    /// `decode` takes the residues of a number below the product back to it (clause `only`), and
-    /// `encode` takes the number back to its residues (clause `number`).
+    /// The only number below the product of the moduli that has these residues. So `decode` and `encode` undo each
+    /// other: `decode` returns a number below the product from its residues (clause `only`), and `encode` the residues
+    /// from the number (clause `number`).
     ///
     /// # Preconditions
     ///
@@ -69,7 +69,7 @@ impl<'a> ResidueSystem<'a> {
         decode(self.moduli, residues)
     }
 
-    // The results at each modulus.
+    // Writes the result at each modulus.
     #[inline]
     fn combine(&self, operation: Operation, left: &[u64], right: &[u64], results: &mut [u64]) {
         let moduli = self.moduli;

@@ -1,4 +1,4 @@
-//! What a code accepts and finds, and how it restores an erased symbol.
+//! Which words a code accepts, which changes it detects, and how it restores an erased symbol.
 
 use crate::applications::ring_codes::Code;
 use crate::laws::{inverse_laws, residue_laws};
@@ -21,7 +21,7 @@ impl<'a> Code<'a> {
         sum
     }
 
-    /// Whether the symbol is one of those of the place.
+    /// Whether the symbol is allowed at the place.
     ///
     /// # Preconditions
     ///
@@ -34,13 +34,13 @@ impl<'a> Code<'a> {
         least[place] <= symbol && symbol <= greatest[place]
     }
 
-    // Whether the symbols at a place and behind it fit there exchanged.
+    // Whether the symbols at a place and at the next are allowed after an exchange.
     #[inline]
     fn fit_exchanged(&self, word: &[u64], place: usize) -> bool {
         self.fits(place, word[place + 1]) && self.fits(place + 1, word[place])
     }
 
-    // Whether the word has a symbol for each place, and each but that at `erased` fits there.
+    // Whether the word has a symbol for each place, and each of them but the one at `erased` is allowed there.
     fn fits_but(&self, word: &[u64], erased: usize) -> bool {
         if word.len() != self.weights.len() {
             return false;
@@ -53,7 +53,7 @@ impl<'a> Code<'a> {
         true
     }
 
-    /// Whether the word is accepted: exactly where it is one of the code.
+    /// Whether the word is one of the code.
     #[inline]
     pub fn accepts(&self, word: &[u64]) -> bool {
         if !self.fits_but(word, word.len()) {
@@ -63,12 +63,10 @@ impl<'a> Code<'a> {
         sum == sum.convert(self.residue)
     }
 
-    /// Whether the code finds the change of one symbol of a word: the word with `symbol` at `place`
-    /// is refused.
+    /// Whether the code detects the change of one symbol of a word: the word with `symbol` at `place` isn't accepted.
     ///
-    /// It is, exactly where the symbol isn't one of the place's, or the weight times the difference of
-    /// the symbols isn't 0 modulo m; so always where the weight has an inverse, and the symbols differ
-    /// modulo m.
+    /// It is detected exactly where the symbol isn't allowed at the place, or the weight times the difference of
+    /// the symbols isn't 0 modulo m; so always where the weight has an inverse and the symbols differ modulo m.
     ///
     /// Source: Gallian, "The mathematics of identification numbers", theorem 1.
     ///
@@ -88,12 +86,12 @@ impl<'a> Code<'a> {
         !self.fits(place, symbol)
     }
 
-    /// Whether the code finds the exchange of two neighbours: the word with the symbols at `place`
-    /// and behind it exchanged is refused.
+    /// Whether the code detects the exchange of two neighbours: the word with the symbols at `place` and at the
+    /// next place exchanged isn't accepted.
     ///
-    /// It is, exactly where one of them isn't one of its new place's symbols, or the difference of the
-    /// weights times that of the symbols isn't 0 modulo m; so always where the difference of the weights
-    /// has an inverse, and the symbols differ modulo m.
+    /// It is detected exactly where one of them isn't allowed at its new place, or the difference of the weights
+    /// times that of the symbols isn't 0 modulo m; so always where the difference of the weights has an inverse and
+    /// the symbols differ modulo m.
     ///
     /// Source: Gallian, "The mathematics of identification numbers", theorem 2.
     ///
@@ -122,7 +120,7 @@ impl<'a> Code<'a> {
             .is_some()
     }
 
-    // The one number below m that, at the place, makes the weighted sum leave the residue.
+    // The only number below m for which, as the symbol at the place, the weighted sum has the residue of the code.
     fn solve(&self, word: &[u64], place: usize) -> u64 {
         inverse_laws();
         residue_laws();
@@ -132,8 +130,8 @@ impl<'a> Code<'a> {
         (sum.convert(word[place]) - sum / weight).residue()
     }
 
-    /// The symbol below m that makes the word one of the code, in place of an erased one: there is no
-    /// other. `None` exactly where no symbol below m does. What stands at `place` doesn't matter.
+    /// The only symbol below m that completes the word to one of the code, in place of an erased one. `None`
+    /// exactly where no symbol below m does. The symbol at `place` is ignored.
     ///
     /// # Preconditions
     ///

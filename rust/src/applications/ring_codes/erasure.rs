@@ -1,38 +1,38 @@
-//! Erasure codes: Reed and Solomon's, over any modulus. From any k of the n symbols of a word the
-//! message of k symbols is restored.
+//! Reed-Solomon erasure codes, over any modulus: a message of k symbols is restored from any k of the n symbols of
+//! its word.
 //!
-//! A message is the list of the coefficients of a polynomial, the constant first, and symbol i of its
-//! word is the polynomial's value at point i, modulo m. The points must fit (`points_fit`): each
-//! difference of two has an inverse modulo m. So their number is at most the least prime that divides m.
+//! A message is the list of the coefficients of a polynomial, the constant first, and symbol i of its word is the
+//! polynomial's value at point i, modulo m. The points must fit (`points_fit`): the difference of any two has an
+//! inverse modulo m. So their number is at most the least prime that divides m.
 //!
-//! Points, messages and words are lists of checked forms of a reducer: `load_forms` and `unload_forms`
-//! of `num_modular::ring` convert from words and back. Nothing takes memory: the caller passes the
-//! scratch lists. Nothing runs in constant time, and no secrecy is proved.
+//! Points, messages and words are lists of checked forms of a reducer; `load_forms` and `unload_forms` of
+//! `num_modular::ring` convert from words and back. No memory is allocated: the caller passes the scratch lists.
+//! The calls don't run in constant time, and no secrecy is proved.
 //!
 //! Source: Reed and Solomon, "Polynomial codes over certain finite fields".
 
 mod newton;
+mod secrets;
 
-use crate::applications::clients::list_inverses::invert_each;
 use newton::{differences_before, divide_differences, expand, fill_weights};
+use crate::ring::invert_each;
 use crate::{Reducer, RingWord};
+pub use secrets::{ShareError, recover, share};
 
 /// Why a message can't be restored.
 #[derive(Clone, Copy, Debug, PartialEq, Eq)]
 pub enum RestoreError {
     /// There are fewer symbols than the message has.
     TooFewSymbols,
-    /// There is no point at one of the places.
+    /// A place is not below the number of points.
     PlaceOutOfRange,
-    /// One of the places occurs twice.
+    /// A place occurs twice.
     PlaceTwice,
     /// The difference of two of the points has no inverse modulo m.
     PointsDontFit,
 }
 
 /// Whether the points fit: the difference of any two has an inverse modulo m.
-///
-/// It takes n²/2 products and one inversion.
 ///
 /// # Preconditions
 ///
@@ -47,8 +47,7 @@ pub fn points_fit<T: RingWord, R: Reducer<T>>(r: &R, points: &[T]) -> bool {
     r.inv(product).is_some()
 }
 
-/// The form of the value at a point of the polynomial with these coefficients, the constant first, by
-/// Horner's rule.
+/// The form of the value of a polynomial at a point, given its coefficients, the constant first, by Horner's rule.
 ///
 /// # Preconditions
 ///
@@ -64,9 +63,11 @@ pub fn evaluate<T: RingWord, R: Reducer<T>>(r: &R, coefficients: &[T], point: &T
     value
 }
 
-/// Puts the word of a message: symbol i is the value at point i.
+/// Writes the word of a message: symbol i is the value at point i.
 ///
-/// It takes n·k products. Source: Reed and Solomon, "Polynomial codes over certain finite fields".
+/// It takes n·k products.
+///
+/// Source: Reed and Solomon, "Polynomial codes over certain finite fields".
 ///
 /// # Preconditions
 ///
@@ -79,15 +80,13 @@ pub fn encode<T: RingWord, R: Reducer<T>>(r: &R, points: &[T], message: &[T], wo
     }
 }
 
-/// Puts the k coefficients of the polynomial with k coefficients that has the first k values at the first
-/// k points, the constant first; returns false exactly where these points don't fit. Modulo m there is no
-/// other such polynomial.
+/// Writes the coefficients, the constant first, of the only polynomial modulo m with k coefficients that has the
+/// first k values at the first k points. Returns false exactly where these points don't fit.
 ///
-/// What is in
-/// `weights` and `coefficients` doesn't matter. It goes by Newton's divided differences, in about 3k²/2
-/// products and one inversion.
+/// The contents of
+/// `weights` and `coefficients` are ignored.
 ///
-/// Source: Knuth, The Art of Computer Programming, volume 2, section 4.6.4.
+/// Source: Knuth, The Art of Computer Programming, volume 2, section 4.6.4 (Newton's divided differences).
 ///
 /// # Preconditions
 ///
@@ -110,11 +109,11 @@ pub fn interpolate<T: RingWord, R: Reducer<T>>(
     true
 }
 
-/// Whether a word is that of some message of k symbols, k being the length of `message`: true exactly
-/// there, with the message in `message`.
+/// Whether a word is that of some message of k symbols, k being the length of `message`. Where it is, the message
+/// is written to `message`.
 ///
-/// What is in
-/// `weights` and `message` doesn't matter.
+/// The contents of `weights` and
+/// `message` are ignored.
 ///
 /// # Preconditions
 ///
@@ -140,9 +139,8 @@ pub fn is_codeword<T: RingWord, R: Reducer<T>>(
     true
 }
 
-/// Puts the systematic word of a message: its first k symbols are the message's. Returns false, with the
-/// word unchanged, exactly where the first k points don't fit. The coefficients of its polynomial are put
-/// beside it.
+/// Writes the systematic word of a message, whose first k symbols are the message's, and the coefficients of its
+/// polynomial. Returns false, with the word unchanged, exactly where the first k points don't fit.
 ///
 /// # Preconditions
 ///
@@ -165,7 +163,7 @@ pub fn encode_systematic<T: RingWord, R: Reducer<T>>(
     true
 }
 
-// Whether the place at an index occurs before it.
+// Whether the place at an index also occurs at a lower index.
 #[inline]
 fn occurs_before(places: &[usize], at: usize) -> bool {
     'indices: for j in 0..at {
@@ -176,7 +174,7 @@ fn occurs_before(places: &[usize], at: usize) -> bool {
     false
 }
 
-// Puts the points at the first places, as many as there is room for.
+// Copies the points at the first places, as many as `chosen` holds.
 fn choose<T: RingWord>(points: &[T], places: &[usize], chosen: &mut [T]) -> Result<(), RestoreError> {
     if places.len() < chosen.len() {
         return Err(RestoreError::TooFewSymbols);
@@ -194,13 +192,12 @@ fn choose<T: RingWord>(points: &[T], places: &[usize], chosen: &mut [T]) -> Resu
     Ok(())
 }
 
-/// Restores a message of k symbols, k being the length of `message`, from the first k places and the
-/// symbols there: whichever places these are. `encode` then gives every other symbol.
+/// Restores a message of k symbols, k being the length of `message`, from the first k places and the symbols there,
+/// whichever places these are. `restore_word` also restores every lost symbol.
 ///
-/// An error says what is wrong, and each comes where that is so alone: too few symbols, a place without
-/// a point, a place twice, points that don't fit.
-/// What is in these and in `message`
-/// doesn't matter.
+/// An error names a cause that is present: too few symbols, a place without a point, a place that occurs twice,
+/// points that don't fit.
+/// The contents of these and of `message` are ignored.
 ///
 /// # Preconditions
 ///
@@ -228,51 +225,87 @@ pub fn restore<T: RingWord, R: Reducer<T>>(
     }
 }
 
-/// The words of two messages of k symbols that differ modulo m differ in at least n - k + 1 of n symbols,
-/// and so do two words that differ. So a change of at most n - k symbols of a word is never a word.
+// An index below `count` of a place in the list; `None` exactly where there is none.
+#[inline]
+fn index_of(places: &[usize], count: usize, place: usize) -> Option<usize> {
+    'indices: for j in 0..count {
+        if places[j] == place {
+            return Some(j);
+        }
+    }
+    None
+}
+
+// The symbol at a place: the kept one, or the value of the message at the point.
+#[inline]
+fn symbol_at<T: RingWord, R: Reducer<T>>(
+    r: &R,
+    points: &[T],
+    message: &[T],
+    places: &[usize],
+    symbols: &[T],
+    place: usize,
+) -> T {
+    match index_of(places, message.len(), place) {
+        Some(j) => symbols[j],
+        None => evaluate(r, message, &points[place]),
+    }
+}
+
+// Writes the word of a message, some of whose symbols were kept.
+#[inline]
+fn fill_word<T: RingWord, R: Reducer<T>>(
+    r: &R,
+    points: &[T],
+    message: &[T],
+    places: &[usize],
+    symbols: &[T],
+    word: &mut [T],
+) {
+    'points: for i in 0..points.len() {
+        word[i] = symbol_at(r, points, message, places, symbols, i);
+    }
+}
+
+/// Restores the whole word of a message of k symbols, k being the length of `message`, from the first k places and the
+/// symbols there, whichever places these are: every lost symbol, and the message.
+///
+/// The errors are those of `restore`.
+/// The previous
+/// contents of `weights`, `message` and `word` don't matter; after an error their contents are unspecified.
+///
+/// Source: Reed and Solomon, "Polynomial codes over certain finite fields".
+///
+/// # Preconditions
+///
+/// Points and symbols are checked forms, each place has its symbol, there are k weights, k being at
+/// most the number of points, and the word has a place for each point. This isn't tested: outside it
+/// the call panics, or returns no meaningful result.
+pub fn restore_word<T: RingWord, R: Reducer<T>>(
+    r: &R,
+    points: &[T],
+    places: &[usize],
+    symbols: &[T],
+    weights: &mut [T],
+    message: &mut [T],
+    word: &mut [T],
+) -> Result<(), RestoreError> {
+    let chosen = &mut word[..message.len()];
+    match restore(r, points, places, symbols, chosen, weights, message) {
+        Err(error) => Err(error),
+        Ok(()) => {
+            fill_word(r, points, message, places, symbols, word);
+            Ok(())
+        }
+    }
+}
+
+/// The words of two messages of k symbols that differ modulo m differ in at least n - k + 1 of n symbols, and so do
+/// two different words. So changing at most n - k symbols of a word never gives a word. The bound is met: if k is at
+/// least 1 and m at least 2, the words of some two such messages differ in exactly n - k + 1 symbols, for example those
+/// of (X - p_1)·..·(X - p_(k-1)) and of 0.
 ///
 /// Source: Reed and Solomon, "Polynomial codes over certain finite fields"; Singleton, "Maximum distance
 /// q-nary codes".
 #[inline]
 pub fn distance_laws() {}
-
-/// Puts the shares of a secret, by Shamir's scheme: the values at the points of the polynomial with the
-/// secret as its constant. The caller draws the other coefficients at random. No point may be 0, where the
-/// share is the secret.
-///
-/// It doesn't run in constant time, and it isn't proved that fewer shares tell nothing of the secret.
-///
-/// Source: Shamir, "How to share a secret".
-///
-/// # Preconditions
-///
-/// Those of `encode`. This isn't tested: outside it the call panics, or returns no meaningful result.
-#[inline]
-pub fn share<T: RingWord, R: Reducer<T>>(r: &R, points: &[T], coefficients: &[T], shares: &mut [T]) {
-    encode(r, points, coefficients, shares);
-}
-
-/// Returns the secret from k of its shares, whichever these are: the constant of the polynomial with k
-/// coefficients, which are put in `coefficients`. The errors are those of `restore`.
-///
-/// Source: Shamir, "How to share a secret".
-///
-/// # Preconditions
-///
-/// Those of `restore`, and k is at least 1. This isn't tested: outside it the call panics, or returns
-/// no meaningful result.
-#[inline]
-pub fn recover<T: RingWord, R: Reducer<T>>(
-    r: &R,
-    points: &[T],
-    places: &[usize],
-    shares: &[T],
-    chosen: &mut [T],
-    weights: &mut [T],
-    coefficients: &mut [T],
-) -> Result<T, RestoreError> {
-    match restore(r, points, places, shares, chosen, weights, coefficients) {
-        Ok(()) => Ok(coefficients[0]),
-        Err(error) => Err(error),
-    }
-}

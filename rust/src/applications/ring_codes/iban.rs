@@ -1,7 +1,7 @@
-//! IBANs, as their standard reads them.
+//! IBANs, as their standard defines them.
 //!
-//! The symbols of their code are digits: what is said of the change of one symbol is said of one digit,
-//! and the change of a letter is that of its two digits.
+//! The symbols of their code are digits. So the laws on the change of one symbol hold for one digit, and the change
+//! of a letter is that of its two digits.
 
 use crate::applications::ring_codes::Code;
 
@@ -9,21 +9,21 @@ const LEAST: [u64; 68] = [0; 68];
 
 const GREATEST: [u64; 68] = [9; 68];
 
-// The powers of ten from 10^67 down, modulo 97: a text of 34 characters has 68 digits at most.
+// The powers of ten from 10^67 down to 1, modulo 97: a text of 34 characters has at most 68 digits.
 const POWERS: [u64; 68] = [
     80, 8, 59, 35, 52, 44, 82, 47, 92, 48, 63, 16, 21, 70, 7, 88, 67, 94, 87, 96, 29, 32, 42, 43,
     14, 79, 37, 91, 77, 95, 58, 64, 84, 86, 28, 61, 74, 85, 57, 93, 19, 31, 71, 75, 56, 25, 51, 73,
     17, 89, 38, 62, 45, 53, 15, 50, 5, 49, 34, 81, 76, 27, 90, 9, 30, 3, 10, 1,
 ];
 
-/// The code of the IBANs of so many digits: modulo 97, the weights are the powers of ten, and a word of
-/// digits leaves 1 (ISO/IEC 7064, MOD 97-10).
+/// The code of IBANs with `count` digits: the modulus is 97, the weights are the powers of ten, and the weighted
+/// sum of a word is 1 modulo 97 (ISO/IEC 7064, MOD 97-10).
 ///
 /// # Panics
 ///
-/// Panics unless there are 68 digits at most.
+/// Panics unless there are at most 68 digits.
 pub fn iban_code(count: usize) -> Code<'static> {
-    assert!(count <= 68, "there must be 68 digits at most");
+    assert!(count <= 68, "there must be at most 68 digits");
     let powers: &'static [u64] = &POWERS;
     let least: &'static [u64] = &LEAST;
     let greatest: &'static [u64] = &GREATEST;
@@ -36,19 +36,19 @@ pub fn iban_code(count: usize) -> Code<'static> {
     }
 }
 
-// Whether a character is one of 0 to 9.
+// Whether a character is a digit 0 to 9.
 #[inline]
 fn is_digit(c: u8) -> bool {
     c >= b'0' && c <= b'9'
 }
 
-// Whether a character is one of A to Z.
+// Whether a character is a letter A to Z.
 #[inline]
 fn is_letter(c: u8) -> bool {
     c >= b'A' && c <= b'Z'
 }
 
-// Whether each character is one of 0 to 9 or of A to Z.
+// Whether each character is a digit 0 to 9 or a letter A to Z.
 #[inline]
 fn all_characters(text: &[u8]) -> bool {
     text.iter().all(|c| is_digit(*c) || is_letter(*c))
@@ -65,7 +65,7 @@ pub fn has_iban_form(text: &[u8]) -> bool {
     country && check && all_characters(text)
 }
 
-// Writes the digits of a character into the places from `end` on, and says where they end.
+// Writes the digits of a character from the index `end` on, and returns the index after them.
 fn write_character(c: u8, digits: &mut [u64], end: usize) -> usize {
     if c <= b'9' {
         digits[end] = (c - b'0') as u64;
@@ -77,7 +77,7 @@ fn write_character(c: u8, digits: &mut [u64], end: usize) -> usize {
     end + 2
 }
 
-// The same for each character of a text.
+// Writes the digits of each character of a text, and returns the index after them.
 #[inline]
 fn write_text(text: &[u8], digits: &mut [u64], start: usize) -> usize {
     let mut end = start;
@@ -87,9 +87,8 @@ fn write_text(text: &[u8], digits: &mut [u64], start: usize) -> usize {
     end
 }
 
-/// Writes the digits that an IBAN is read as, and says how many there are: its first four characters
-/// go to the end, and a letter is two digits, those of its number from A, which is 10, to Z, which is
-/// 35.
+/// Writes the digits into which the standard converts an IBAN, and returns their number: the first four characters
+/// are moved to the end, and a letter is replaced by two digits, 10 for A to 35 for Z.
 ///
 /// # Preconditions
 ///
@@ -101,20 +100,18 @@ pub fn iban_digits(text: &[u8], digits: &mut [u64]) -> usize {
     write_text(&text[..4], digits, end)
 }
 
-// The number that the check digits write.
+// The number that the check digits form.
 #[inline]
 fn check_number(text: &[u8]) -> u8 {
     10 * (text[2] - b'0') + (text[3] - b'0')
 }
 
-/// Whether the text is an IBAN: exactly where it has the form of one, its check digits are 02 to 98, and
-/// the number that its digits write in decimal leaves 1 modulo 97. How long the IBANs of its country are
-/// isn't looked at.
+/// Whether the text is an IBAN: it has the form of one, its check digits are 02 to 98, and the number that its
+/// digits form in decimal is 1 modulo 97. The length, which depends on the country, isn't tested.
 ///
-/// `standard_finds` says that every change of one character for another of its kind, digit or letter, is
-/// found. Where the text has the form and such check digits, it is an IBAN exactly where its digits are
-/// a word of `iban_code`; so every change of one of these digits and every exchange of two neighbouring
-/// digits that differ is found too.
+/// `standard_finds` says which changes of one character and which exchanges of two neighbours are detected. A text
+/// with the form and such check digits is an IBAN exactly where its digits are a word of `iban_code`; so every
+/// change of one of these digits and every exchange of two neighbouring digits that differ is detected too.
 pub fn accepts_iban(text: &[u8]) -> bool {
     if !has_iban_form(text) {
         return false;

@@ -1,9 +1,8 @@
-//! The codes of standards.
+//! The codes of the standards.
 
 use crate::applications::ring_codes::Code;
 
-/// ISBN-10; the symbol X, which may stand at the last place alone, is 10 (ISO 2108, first to third
-/// edition).
+/// ISBN-10; the symbol X, which is allowed only at the last place, is 10 (ISO 2108, first to third edition).
 pub const ISBN_10: Code<'static> = Code {
     modulus: 11,
     residue: 0,
@@ -12,8 +11,8 @@ pub const ISBN_10: Code<'static> = Code {
     greatest: &[9, 9, 9, 9, 9, 9, 9, 9, 9, 10],
 };
 
-/// ISBN-13: an EAN-13 that begins with 978 or 979 (ISO 2108:2017). Those that begin with 9790 are numbers of
-/// printed music (ISO 10957), which this code accepts as well.
+/// ISBN-13: an EAN-13 that begins with 978 or 979 (ISO 2108:2017). Those that begin with 9790 are ISMN, numbers of
+/// printed music (ISO 10957), which this code accepts too.
 pub const ISBN_13: Code<'static> = Code {
     modulus: 10,
     residue: 0,
@@ -49,7 +48,7 @@ pub const UPC_A: Code<'static> = Code {
     greatest: &[9; 12],
 };
 
-/// ISSN, without its hyphen; the symbol X, which may stand at the last place alone, is 10 (ISO 3297).
+/// ISSN without its hyphen; the symbol X, which is allowed only at the last place, is 10 (ISO 3297).
 pub const ISSN: Code<'static> = Code {
     modulus: 11,
     residue: 0,
@@ -58,16 +57,16 @@ pub const ISSN: Code<'static> = Code {
     greatest: &[9, 9, 9, 9, 9, 9, 9, 10],
 };
 
-/// The codes of ISBN-10, ISBN-13, EAN-13, EAN-8, UPC-A and ISSN, in this order: each is that of its
-/// standard.
+/// The codes of ISBN-10, ISBN-13, EAN-13, EAN-8, UPC-A and ISSN, in this order, each as its standard defines it.
 #[inline]
 pub fn standard_codes() -> [Code<'static>; 6] {
     [ISBN_10, ISBN_13, EAN_13, EAN_8, UPC_A, ISSN]
 }
 
-/// What these codes find: every change of one symbol; ISBN-10, ISSN and the digits of an IBAN every exchange
-/// of two neighbours that differ; ISBN-13, EAN and UPC every one but those of symbols that differ by 5. Of
-/// an IBAN as it is written, every change of one character for another of its kind, digit or letter. An
-/// exchange of a digit and a letter may be missed: 1B and B1 leave the same.
+/// What these codes detect. All: every change of one symbol. ISBN-10, ISSN and the digits of an IBAN: every
+/// exchange of two neighbours that differ. ISBN-13, EAN and UPC: every such exchange, except of symbols that differ
+/// by 5. An IBAN as text: every change of one character to another of its kind, digit or letter, and every exchange
+/// of two neighbours that differ, except of 1 and B, of 2 and M, and of 3 and X after the check digits; none of these
+/// is detected.
 #[inline]
 pub fn standard_finds() {}

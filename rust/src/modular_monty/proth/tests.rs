@@ -1,4 +1,4 @@
-//! The row of Proth's product with the modulus, and the sizes of the reducers of fixed moduli.
+//! Known values of Proth's product with the modulus, and the sizes of the reducers of fixed moduli.
 
 use super::{FixedProth32, FixedProth64};
 use crate::modular_monty::fixed::{FixedMontgomery32, FixedMontgomery64};

@@ -1,4 +1,4 @@
-//! Equality of integers: one modulus and one form.
+//! Equality of integers: equal moduli and equal forms.
 
 use super::ReducedInt;
 use crate::modular_reduced::reducer::Reducer;

@@ -1,4 +1,4 @@
-//! What `ReducedInt` has of its own: how it is made, its form, inverses and powers.
+//! The methods of `ReducedInt`: its constructor, its form, inverses and powers.
 
 use super::ReducedInt;
 use crate::modular_reduced::reducer::Reducer;
@@ -17,7 +17,7 @@ impl<T: RingWord, R: Reducer<T> + Copy> ReducedInt<T, R> {
         ReducedInt { form, reducer }
     }
 
-    /// The form that stands for the residue.
+    /// The form of the residue.
     #[inline]
     pub fn repr(&self) -> &T {
         &self.form
@@ -33,8 +33,7 @@ impl<T: RingWord, R: Reducer<T> + Copy> ReducedInt<T, R> {
         })
     }
 
-    /// The product of `exp` factors; 1 mod m for the exponent 0. It goes by binary steps, as
-    /// `pow_counted`.
+    /// The power to the exponent `exp`; 1 mod m for the exponent 0. `pow_counted` says how many products it takes.
     #[inline]
     pub fn pow(self, exp: &T) -> Self {
         ReducedInt {

@@ -1,10 +1,10 @@
-//! What the operators of integers compute: all kinds of operands of an operator call one of these.
+//! The operations of integers, to which the operators of all kinds of operands delegate.
 
 use super::ReducedInt;
 use crate::modular_reduced::reducer::Reducer;
 use crate::modular_word::ring_word::RingWord;
 
-/// The integer n in the ring of x.
+/// The integer n mod m, with the modulus of x.
 #[inline]
 pub fn in_ring<T: RingWord, R: Reducer<T> + Copy>(x: &ReducedInt<T, R>, n: T) -> ReducedInt<T, R> {
     ReducedInt {
@@ -31,7 +31,7 @@ pub fn sum<T: RingWord, R: Reducer<T> + Copy>(
     }
 }
 
-/// The sum with a word.
+/// The sum of an integer and a word.
 #[inline]
 pub fn sum_with<T: RingWord, R: Reducer<T> + Copy>(x: &ReducedInt<T, R>, n: T) -> ReducedInt<T, R> {
     sum(x, &in_ring(x, n))
@@ -55,7 +55,7 @@ pub fn difference<T: RingWord, R: Reducer<T> + Copy>(
     }
 }
 
-/// The difference with a word.
+/// The difference of an integer and a word.
 #[inline]
 pub fn difference_with<T: RingWord, R: Reducer<T> + Copy>(
     x: &ReducedInt<T, R>,
@@ -82,7 +82,7 @@ pub fn product<T: RingWord, R: Reducer<T> + Copy>(
     }
 }
 
-/// The product with a word.
+/// The product of an integer and a word.
 #[inline]
 pub fn product_with<T: RingWord, R: Reducer<T> + Copy>(
     x: &ReducedInt<T, R>,

@@ -1,7 +1,7 @@
 //! Words of 64 bits.
 
-/// The Jacobi symbol of a over n, `None` exactly for an even n, and the number of halvings and swaps
-/// from the residue of a over n.
+/// The Jacobi symbol of a over n and the number of halvings and swaps, counted from the residue of a; `None`
+/// exactly for an even n.
 #[inline]
 pub fn checked_jacobi_counted(a: u64, n: u64) -> Option<(i8, u32)> {
     super::checked_jacobi_counted(a, n)

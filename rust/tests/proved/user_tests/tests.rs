@@ -1,11 +1,11 @@
-//! Values of each user, had from outside, the README's examples run, and each public item once.
+//! Known values of each user from other sources, the README's examples, and a use of each public item.
 
-mod big_products;
 mod check_symbols;
 mod each_client;
 mod erasure;
 mod examples;
 mod hashes;
+mod known_products;
 mod lattices;
 mod long_products;
 mod loops;

@@ -2,7 +2,7 @@
 
 use crate::{Reducer, RingWord};
 
-/// The form of the product of the differences of a point from each before it.
+/// The form of the product of the differences of a point and each point before it.
 ///
 /// # Preconditions
 ///
@@ -18,8 +18,8 @@ pub fn differences_before<T: RingWord, R: Reducer<T>>(r: &R, points: &[T], place
     product
 }
 
-/// Puts the product of the differences of each point from those before it, for as many points as there
-/// are weights.
+/// Writes, for each point, the product of its differences from those before it, for as many points as there are
+/// weights.
 ///
 /// # Preconditions
 ///
@@ -55,8 +55,8 @@ pub fn newton_value<T: RingWord, R: Reducer<T>>(
     value
 }
 
-/// Puts the coefficients of Newton's form in place of the values at the points, by Newton's divided
-/// differences: the difference of the value and of the form so far is divided once.
+/// Replaces the values at the points by the coefficients of Newton's form, by divided differences: the difference of
+/// each value and of the form so far is divided once.
 ///
 /// # Preconditions
 ///
@@ -76,7 +76,7 @@ pub fn divide_differences<T: RingWord, R: Reducer<T>>(
     }
 }
 
-/// From a place on, takes the point times the next value from each but the last.
+/// Subtracts, from each value from an index on but the last, the point times the next value.
 ///
 /// # Preconditions
 ///
@@ -95,7 +95,7 @@ pub fn subtract_multiples<T: RingWord, R: Reducer<T>>(
     }
 }
 
-/// Puts the coefficients, the constant first, in place of those of Newton's form.
+/// Replaces the coefficients of Newton's form by those of the polynomial, the constant first.
 ///
 /// # Preconditions
 ///

@@ -1,5 +1,5 @@
-//! Rows that were worked by hand, at each width that holds them, and the plain definitions at every
-//! small operand: that the contracts mean them.
+//! Known values, computed by hand, for each width that holds them; and the plain definitions for every small
+//! operand, which shows that the contracts mean the known values.
 
 mod counted;
 mod definitions;

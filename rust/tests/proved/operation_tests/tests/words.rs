@@ -1,4 +1,4 @@
-//! Rows that were worked by hand, for what no contract says: that the contracts mean them.
+//! Known values, computed by hand, which show that the contracts mean them.
 
 mod bits;
 mod definitions;

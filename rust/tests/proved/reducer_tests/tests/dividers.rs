@@ -1,4 +1,4 @@
-//! Rows of the dividers and of exact division that were worked by hand, and bytes against `/` and `%`.
+//! Known values of the dividers and of exact division, computed by hand, and bytes compared with `/` and `%`.
 
 mod exact;
 mod neg_mod_inv;
@@ -11,12 +11,12 @@ use num_modular::modular_prim::numbered::Numbered;
 use crate::runtime::Global;
 use std::fmt::Debug;
 
-/// Whether a value shows the numbers that it stores as this text.
+/// Whether `Debug` prints the numbers that a value stores as this text.
 pub fn shows<V: Debug>(alloc: Global, value: &V, text: &str) -> bool {
     format!(in alloc; "{value:?}").map_or(false, |shown| shown.as_str() == text)
 }
 
-/// Whether n by d is this, as an answer and in the number's place; a number that d doesn't divide stays as it is.
+/// Whether n divided by d is this, as a result and in place; a number that d doesn't divide is unchanged.
 pub fn is_divided<D: Numbered + Copy, P, N: DivExactAssign<D, P> + Copy + PartialEq>(
     n: N,
     d: D,

@@ -1,4 +1,4 @@
-//! Rows of the reducers by folds and of their reductions.
+//! Known values of the reducers by folds and of their reductions.
 
 mod mersenne;
 mod solinas;

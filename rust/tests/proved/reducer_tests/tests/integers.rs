@@ -1,8 +1,11 @@
-//! Every kind of operand of the operators, rows that were worked by hand, and equality.
+//! Every kind of operand of the operators, known values computed by hand, and equality.
 
-use crate::integer_callers::callers::*;
-use crate::integer_callers::equality::is_equivalence;
-use crate::integer_callers::polynomial::{horner, value_by_forms, value_of_bytes};
+use crate::misuse::modular_integer::{is_equivalence, residue_of_sum, sum_in_ring};
+use crate::misuse::polynomial::{horner, value_by_forms, value_of_bytes};
+use crate::misuse::reduced_int::{
+    are_equal, difference_modulo_21, five_modulo_21, quotient_if_any, quotient_modulo_21,
+    sum_modulo_21,
+};
 use num_modular::modular_barrett::premul::PreMulInv2by1;
 use num_modular::modular_reduced::modular_integer::ModularInteger;
 use num_modular::modular_reduced::reduced_int::{ReducedInt, VanillaInt};
@@ -15,7 +18,7 @@ fn ring(n: u8) -> VanillaInt<u8> {
     VanillaInt::<u8>::new(n, &21)
 }
 
-// The residues of the sums of two integers, in each form of the operands, and those after each of two in place.
+// The residues of the sums of two integers, for each kind of operands, and those after each of two sums in place.
 fn sums_of_two<T: RingWord, R: Reducer<T> + Copy>(
     a: ReducedInt<T, R>,
     b: ReducedInt<T, R>,
@@ -33,7 +36,7 @@ fn sums_of_two<T: RingWord, R: Reducer<T> + Copy>(
     (found, [once, z.residue()])
 }
 
-// Those of the sums of an integer and a word.
+// The residues of the sums of an integer and a word.
 fn sums_with_a_word<T: RingWord, R: Reducer<T> + Copy>(a: ReducedInt<T, R>, n: T) -> [T; 4] {
     [
         (a + n).residue(),
@@ -67,7 +70,7 @@ fn sums() {
     assert!(sum_modulo_21() == 4);
 }
 
-// The residues of the differences of two integers, in each form of the operands, and those after each of two in place.
+// The residues of the differences of two integers, for each kind of operands, and those after each of two in place.
 fn differences_of_two<T: RingWord, R: Reducer<T> + Copy>(
     a: ReducedInt<T, R>,
     b: ReducedInt<T, R>,
@@ -85,7 +88,7 @@ fn differences_of_two<T: RingWord, R: Reducer<T> + Copy>(
     (found, [once, z.residue()])
 }
 
-// Those of the differences of an integer and a word.
+// The residues of the differences of an integer and a word.
 fn differences_with_a_word<T: RingWord, R: Reducer<T> + Copy>(a: ReducedInt<T, R>, n: T) -> [T; 4] {
     [
         (a - n).residue(),
@@ -120,7 +123,7 @@ fn differences() {
     assert!(difference_modulo_21() == 2);
 }
 
-// The residues of the products of two integers, in each form of the operands, and those after each of two in place.
+// The residues of the products of two integers, for each kind of operands, and those after each of two in place.
 fn products_of_two<T: RingWord, R: Reducer<T> + Copy>(
     a: ReducedInt<T, R>,
     b: ReducedInt<T, R>,
@@ -138,7 +141,7 @@ fn products_of_two<T: RingWord, R: Reducer<T> + Copy>(
     (found, [once, z.residue()])
 }
 
-// Those of the products of an integer and a word.
+// The residues of the products of an integer and a word.
 fn products_with_a_word<T: RingWord, R: Reducer<T> + Copy>(a: ReducedInt<T, R>, n: T) -> [T; 4] {
     [
         (a * n).residue(),
@@ -173,7 +176,7 @@ fn products() {
     assert!(products_with_a_word(twelve, 13) == [1; 4]);
 }
 
-// The residues of the quotients of two integers, in each form of the operands.
+// The residues of the quotients of two integers, for each kind of operands.
 fn quotients_of_two<T: RingWord, R: Reducer<T> + Copy>(
     a: ReducedInt<T, R>,
     b: ReducedInt<T, R>,
@@ -255,7 +258,7 @@ fn copies_and_text() -> Result<(), Fail> {
     Ok(())
 }
 
-// Whether `==` is reflexive, symmetric and transitive at the integers of a list.
+// Whether `==` is reflexive, symmetric and transitive for the integers of a list.
 fn are_equivalent<I: ModularInteger>(all: &[I]) -> bool {
     for a in all {
         for b in all {

@@ -1,4 +1,4 @@
-//! Rows of each reducer by Montgomery's reduction, and comparisons with plain remainders.
+//! Known values of each reducer by Montgomery's reduction, and comparisons with plain remainders.
 
 mod any_modulus;
 mod fixed;

@@ -1,4 +1,4 @@
-//! Each call of the reducers that take remainders, through the bound `Reducer`, and the laws of rings.
+//! Each call of the reducers that compute remainders, through the bound `Reducer`, and the ring laws.
 
 mod premul;
 mod vanilla;

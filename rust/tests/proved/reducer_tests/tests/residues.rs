@@ -1,4 +1,4 @@
-//! What tests of several reducers ask of one.
+//! Calls of a reducer that tests of several reducers share.
 
 use num_modular::modular_reduced::reducer::Reducer;
 use num_modular::modular_word::ring_word::RingWord;

@@ -1,12 +1,11 @@
-//! Real numbers with check symbols: every change of one symbol, exchanges of neighbours, and erased
-//! symbols.
+//! Real numbers with check symbols: every change of one symbol, exchanges of neighbours, and erased symbols.
 
 use num_modular::applications::ring_codes::{
     Code, EAN_8, EAN_13, ISBN_10, ISBN_13, ISSN, UPC_A, accepts_iban, has_iban_form, iban_code,
     iban_digits, standard_codes,
 };
 
-// The symbols of a text: X is 10, and a hyphen is left out. There are 13 at most.
+// The symbols of a text, at most 13: X is 10, and a hyphen is skipped.
 #[derive(Clone, Copy)]
 struct Symbols {
     list: [u64; 13],
@@ -36,14 +35,14 @@ fn accepts(code: Code<'_>, text: &[u8]) -> bool {
     code.accepts(&list[..symbols.count])
 }
 
-// GB82 WEST 1234 5698 7654 32 as ISO 13616 reads it: W, E, S and T are 32, 14, 28 and 29, then the
-// digits, G and B, which are 16 and 11, and 82.
+// GB82 WEST 1234 5698 7654 32 as ISO 13616 converts it: W, E, S and T are 32, 14, 28 and 29, then come the digits,
+// G and B, which are 16 and 11, and 82.
 const ACCOUNT: [u64; 28] = [
     3, 2, 1, 4, 2, 8, 2, 9, 1, 2, 3, 4, 5, 6, 9, 8, 7, 6, 5, 4, 3, 2, 1, 6, 1, 1, 8, 2,
 ];
 
-// Whether the word is accepted, no word with one other symbol of 0 to 10 is, and the same is told of it;
-// and whether each symbol is restored.
+// Whether the word is accepted, no word with another symbol of 0 to 10 is, and `finds_change` says so; and whether
+// each symbol is restored.
 fn keeps(code: Code<'_>, word: &mut [u64]) -> bool {
     if word.len() != code.weights.len() {
         return false;
@@ -73,7 +72,7 @@ fn keeps_text(code: Code<'_>, text: &[u8]) -> bool {
     keeps(code, &mut list[..symbols.count])
 }
 
-// Whether the word is accepted, and the exchange of the symbols at `place` and behind it is found.
+// Whether the word is accepted, and the exchange of the symbols at `place` and at the next place is detected.
 fn finds_one_exchange(code: Code<'_>, text: &[u8], place: usize) -> Option<bool> {
     let symbols = read(text);
     let list = symbols.list;
@@ -107,12 +106,12 @@ fn words_of_another_form() {
     for code in standard_codes() {
         assert!(!code.accepts(&[]) && !code.accepts(&[0]));
     }
-    // each of these leaves 0 modulo 11: 11 for 0, 14 for 3, and an X before the last place
+    // the weighted sum of each is 0 modulo 11: 11 for 0, 14 for 3, and an X before the last place
     assert!(!ISBN_10.accepts(&[11, 3, 0, 6, 4, 0, 6, 1, 5, 2]));
     assert!(!ISBN_10.accepts(&[0, 14, 0, 6, 4, 0, 6, 1, 5, 2]));
     assert!(!accepts(ISBN_10, b"X000000050") && !accepts(ISBN_10, b"X00000000X"));
     assert!(!accepts(ISSN, b"000X-0005"));
-    // a book's number is an article's, and not each article's is a book's
+    // the number of a book is an article's, and not each article's is a book's
     assert!(accepts(EAN_13, b"9780306406157") && !accepts(ISBN_13, b"4006381333931"));
 }
 
@@ -135,7 +134,7 @@ fn exchanges_of_neighbours() {
     }
 }
 
-// Whether the text is an IBAN, and none of the same with one digit or letter changed for another.
+// Whether the text is an IBAN, and none is after a change of one digit or letter to another.
 fn refuses_other_characters(text: &[u8]) -> bool {
     let mut changed = [0u8; 34];
     let count = text.len();
@@ -175,13 +174,47 @@ fn published_ibans() {
     assert!(!accepts_iban(b"NL91ABNB0417164300"));
 }
 
+// Whether the text is an IBAN, and so is the same with two neighbours that differ exchanged, exactly at
+// these places.
+fn misses_exchanges(text: &[u8], places: &[usize]) -> bool {
+    let mut changed = [0u8; 34];
+    let count = text.len();
+    if count > 34 || !accepts_iban(text) {
+        return false;
+    }
+    changed[..count].copy_from_slice(text);
+    for place in 1..count {
+        if text[place - 1] != text[place] {
+            changed.swap(place - 1, place);
+            if accepts_iban(&changed[..count]) != places.contains(&(place - 1)) {
+                return false;
+            }
+            changed.swap(place - 1, place);
+        }
+    }
+    true
+}
+
+#[test]
+fn exchanged_characters_of_an_iban() {
+    assert!(misses_exchanges(b"GB82WEST12345698765432", &[]));
+    assert!(misses_exchanges(b"FR1420041010050500013M02606", &[]));
+    // 1 and B, 2 and M, 3 and X, in both orders
+    assert!(misses_exchanges(b"FR172004101005051B013M02606", &[16]));
+    assert!(misses_exchanges(b"FR2920041010050500012M02606", &[20]));
+    assert!(misses_exchanges(b"GB80WEX312345698765432", &[6]));
+    assert!(misses_exchanges(b"FR681B2M3X0B1M2X3", &[4, 6, 8, 11, 13, 15]));
+    // 1 is the last check digit
+    assert!(misses_exchanges(b"GB21B1011", &[4]));
+}
+
 #[test]
 fn check_digits_of_an_iban() {
     // the least and the greatest check digits, and one more that is generated
     assert!(accepts_iban(b"GB02WEST12345600000017"));
     assert!(accepts_iban(b"GB97WEST12345600000053"));
     assert!(accepts_iban(b"GB98WEST12345600000035"));
-    // the same accounts with check digits that leave 1 modulo 97 and aren't generated
+    // the same accounts with check digits whose number is 1 modulo 97 and that aren't generated
     assert!(!accepts_iban(b"GB99WEST12345600000017"));
     assert!(!accepts_iban(b"GB00WEST12345600000053"));
     assert!(!accepts_iban(b"GB01WEST12345600000035"));

@@ -1,17 +1,17 @@
-//! Rows of each client; the values were computed with Python.
+//! Known values of each client, computed with Python.
 
-use num_modular::applications::clients::commands::{product_by_commands, residue_over_copies};
-use num_modular::applications::clients::cubic::cubic;
-use num_modular::applications::clients::each_reducer::{
+use num_modular::applications::examples::commands::{product_by_commands, residue_over_copies};
+use num_modular::applications::examples::cubic::cubic;
+use num_modular::applications::examples::each_reducer::{
     by_montgomery, by_plain_remainders, by_reciprocals, modulo_13, modulo_15, modulo_17, modulo_29,
     modulo_31, modulo_97, modulo_127, modulo_241, modulo_247,
 };
-use num_modular::applications::clients::hashes::hash;
-use num_modular::applications::clients::inner_products::inner_product_of_four;
-use num_modular::applications::clients::operations::{product_and_sum, square};
-use num_modular::applications::clients::quotients::{by_inverse, by_operator, ten_by_five};
-use num_modular::applications::clients::remainders::from_remainders;
-use num_modular::applications::clients::squares::is_quadratic_residue;
+use num_modular::applications::examples::hashes::hash;
+use num_modular::applications::examples::inner_products::inner_product_of_four;
+use num_modular::applications::examples::operations::{product_and_sum, square};
+use num_modular::applications::examples::quotients::{by_inverse, by_operator, ten_by_five};
+use num_modular::applications::examples::remainders::from_remainders;
+use num_modular::applications::examples::squares::is_quadratic_residue;
 use num_modular::prim::is_prime_by_search;
 use num_modular::{Montgomery, Reducer};
 
@@ -108,7 +108,7 @@ fn lists_of_commands() {
     assert!(product_by_commands(10, 20, 97) == 6);
 }
 
-// The hash alone, so that what it promises isn't kept beside the rows.
+// The hash alone, so that its contract isn't kept with the known values.
 fn hash_of(text: &[u8], x: u64) -> u64 {
     hash(text, x)
 }

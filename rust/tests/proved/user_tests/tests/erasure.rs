@@ -3,7 +3,8 @@
 use num_modular::ring::{load_forms, unload_forms};
 use num_modular::{FixedMersenne64, Montgomery, Reducer};
 use num_modular::applications::ring_codes::erasure::{
-    RestoreError, encode, encode_systematic, is_codeword, points_fit, recover, restore, share,
+    RestoreError, ShareError, encode, encode_systematic, is_codeword, points_fit, recover, restore,
+    restore_word, share,
 };
 
 const MERSENNE_PRIME: u64 = 2305843009213693951;
@@ -92,6 +93,38 @@ fn restored<R: Reducer<u64>, const N: usize, const P: usize, const K: usize>(
     }
 }
 
+// The whole word of a message of K symbols from the symbols at these places.
+fn whole_word<R: Reducer<u64>, const N: usize, const P: usize, const K: usize>(
+    r: &R,
+    points: &[u64; N],
+    places: &[usize; P],
+    symbols: &[u64; P],
+) -> Result<[u64; N], RestoreError> {
+    let mut point_forms = [0; N];
+    let mut forms = [0; P];
+    let mut weights = [0; K];
+    let mut message = [0; K];
+    let mut word_forms = [0; N];
+    let mut word = [0; N];
+    load_forms(r, points, &mut point_forms);
+    load_forms(r, symbols, &mut forms);
+    match restore_word(
+        r,
+        &point_forms,
+        places,
+        &forms,
+        &mut weights,
+        &mut message,
+        &mut word_forms,
+    ) {
+        Err(error) => Err(error),
+        Ok(()) => {
+            unload_forms(r, &word_forms, &mut word);
+            Ok(word)
+        }
+    }
+}
+
 // Whether a word is that of a message of K symbols; `None` where the points don't fit.
 fn is_word<R: Reducer<u64>, const N: usize, const K: usize>(
     r: &R,
@@ -111,7 +144,25 @@ fn is_word<R: Reducer<u64>, const N: usize, const K: usize>(
     }
 }
 
-// Whether every three symbols of the word give the message.
+// Whether the symbols at three places give the message, and the whole word.
+fn restores<R: Reducer<u64>, const N: usize>(
+    r: &R,
+    points: &[u64; N],
+    word: &[u64; N],
+    message: [u64; 3],
+    places: [usize; 3],
+) -> bool {
+    let mut symbols = [0; 3];
+    for i in 0..3 {
+        if places[i] < N {
+            symbols[i] = word[places[i]];
+        }
+    }
+    restored(r, points, &places, &symbols) == Ok(message)
+        && whole_word::<R, N, 3, 3>(r, points, &places, &symbols) == Ok(*word)
+}
+
+// Whether every three symbols of the word do.
 fn restores_from_each_three<R: Reducer<u64>, const N: usize>(
     r: &R,
     points: &[u64; N],
@@ -121,7 +172,7 @@ fn restores_from_each_three<R: Reducer<u64>, const N: usize>(
     for a in 0..N {
         for b in a + 1..N {
             for c in b + 1..N {
-                if restored(r, points, &[a, b, c], &[word[a], word[b], word[c]]) != Ok(message) {
+                if !restores(r, points, word, message, [a, b, c]) {
                     return false;
                 }
             }
@@ -130,8 +181,8 @@ fn restores_from_each_three<R: Reducer<u64>, const N: usize>(
     true
 }
 
-// Whether the word is that of the message, every three symbols give it back, and a change of the first
-// symbol is told.
+// Whether the word is that of the message, every three symbols give both back, and a change of the first
+// symbol is detected.
 fn has_word<R: Reducer<u64>, const N: usize>(
     r: &R,
     points: &[u64; N],
@@ -175,7 +226,7 @@ fn words_modulo_a_mersenne_prime() {
         40823193005218486,
     ];
     assert!(has_word(&r, &points, message, word));
-    assert!(restored(&r, &points, &[2, 3, 4], &[word[2], word[3], word[4]]) == Ok(message));
+    assert!(restores(&r, &points, &word, message, [2, 3, 4]));
 }
 
 #[test]
@@ -229,56 +280,86 @@ fn many_symbols() {
         symbols[i] = word[i + 32];
     }
     assert!(restored(&r, &points, &places, &symbols) == Ok(message));
+    assert!(whole_word::<_, 255, 223, 223>(&r, &points, &places, &symbols) == Ok(word));
+}
+
+// Whether this error comes of these places and symbols, for a message of three symbols.
+fn refuses<const P: usize>(places: &[usize; P], symbols: &[u64; P], error: RestoreError) -> bool {
+    let points = [0, 1, 2, 3, 4, 5, 6, 7];
+    let r = Montgomery::<u64>::new(1001);
+    let message: Result<[u64; 3], RestoreError> = restored(&r, &points, places, symbols);
+    let word = whole_word::<_, 8, P, 3>(&r, &points, places, symbols);
+    message == Err(error) && word == Err(error)
 }
 
 #[test]
 fn bad_input() {
-    let points = [0, 1, 2, 3, 4, 5, 6, 7];
+    assert!(refuses(&[0, 1], &[1, 2], RestoreError::TooFewSymbols));
+    assert!(refuses(&[4, 1, 4], &[1, 2, 1], RestoreError::PlaceTwice));
+    assert!(refuses(&[0, 8, 1], &[1, 2, 3], RestoreError::PlaceOutOfRange));
+    assert!(refuses(&[0, 3, 7], &[1, 2, 3], RestoreError::PointsDontFit));
     let r = Montgomery::<u64>::new(1001);
-    let few: Result<[u64; 3], RestoreError> = restored(&r, &points, &[0, 1], &[1, 2]);
-    assert!(few == Err(RestoreError::TooFewSymbols));
-    let twice: Result<[u64; 3], RestoreError> = restored(&r, &points, &[4, 1, 4], &[1, 2, 1]);
-    assert!(twice == Err(RestoreError::PlaceTwice));
-    let outside: Result<[u64; 3], RestoreError> = restored(&r, &points, &[0, 8, 1], &[1, 2, 3]);
-    assert!(outside == Err(RestoreError::PlaceOutOfRange));
-    let unfit: Result<[u64; 3], RestoreError> = restored(&r, &points, &[0, 3, 7], &[1, 2, 3]);
-    assert!(unfit == Err(RestoreError::PointsDontFit));
     assert!(systematic_word_of(&r, &[0, 7, 1], &[1, 2]) == None);
 }
 
-// The shares of a secret at five points, and the secret from the shares at three places of them.
-fn shared_and_recovered<R: Reducer<u64>>(
+// The shares of a secret at these points.
+fn shares_of<R: Reducer<u64>, const N: usize>(
     r: &R,
+    points: &[u64; N],
     coefficients: &[u64; 3],
-    places: &[usize; 3],
-) -> Option<u64> {
-    let mut points = [0; 5];
+) -> Result<[u64; N], ShareError> {
+    let mut point_forms = [0; N];
     let mut forms = [0; 3];
-    let mut shares = [0; 5];
+    let mut share_forms = [0; N];
+    let mut shares = [0; N];
+    load_forms(r, points, &mut point_forms);
+    load_forms(r, coefficients, &mut forms);
+    match share(r, &point_forms, &forms, &mut share_forms) {
+        Err(error) => Err(error),
+        Ok(()) => {
+            unload_forms(r, &share_forms, &mut shares);
+            Ok(shares)
+        }
+    }
+}
+
+// The secret from the shares at three places of five points.
+fn recovered<R: Reducer<u64>>(r: &R, shares: &[u64; 5], places: &[usize; 3]) -> Option<u64> {
+    let mut points = [0; 5];
     let mut kept = [0; 3];
+    let mut forms = [0; 3];
     let mut chosen = [0; 3];
     let mut weights = [0; 3];
     let mut restored = [0; 3];
     load_forms(r, &[1, 2, 3, 4, 5], &mut points);
-    load_forms(r, coefficients, &mut forms);
-    share(r, &points, &forms, &mut shares);
     for i in 0..3 {
         if places[i] < 5 {
-            kept[i] = r.residue(shares[places[i]]);
+            kept[i] = shares[places[i]];
         }
     }
-    let words = kept;
-    load_forms(r, &words, &mut kept);
+    load_forms(r, &kept, &mut forms);
     match recover(
         r,
         &points,
         places,
-        &kept,
+        &forms,
         &mut chosen,
         &mut weights,
         &mut restored,
     ) {
         Ok(secret) => Some(r.residue(secret)),
+        Err(_) => None,
+    }
+}
+
+// The secret from the shares at these places, of the points 1 to 5.
+fn shared_and_recovered<R: Reducer<u64>>(
+    r: &R,
+    coefficients: &[u64; 3],
+    places: &[usize; 3],
+) -> Option<u64> {
+    match shares_of(r, &[1, 2, 3, 4, 5], coefficients) {
+        Ok(shares) => recovered(r, &shares, places),
         Err(_) => None,
     }
 }
@@ -289,4 +370,8 @@ fn secrets() {
     assert!(shared_and_recovered(&r, &[123, 456, 789], &[0, 2, 4]) == Some(123));
     assert!(shared_and_recovered(&r, &[123, 456, 789], &[4, 1, 3]) == Some(123));
     assert!(shared_and_recovered(&r, &[123, 456, 789], &[4, 1, 4]) == None);
+    assert!(shares_of(&r, &[1, 2, 3], &[123, 456, 789]) == Ok([439, 475, 231]));
+    // at 0 the share is the secret
+    assert!(shares_of(&r, &[1, 0, 2], &[123, 456, 789]) == Err(ShareError::PointZero));
+    assert!(shares_of(&r, &[1, 2, 929], &[123, 456, 789]) == Err(ShareError::PointZero));
 }

@@ -1,10 +1,10 @@
-//! The README's examples, run. Each value was computed with Python's whole numbers.
+//! The README's examples. Each value was computed with Python's integers.
 
-use num_modular::Montgomery;
-use crate::num_modular_uses::first_use::{
+use num_modular::applications::examples::first_use::{
     minutes_and_seconds, product_and_one, product_by_folds, residue_by_commands, sum_of_squares,
     symbol,
 };
+use num_modular::Montgomery;
 
 const X: u64 = 18446744073709551615;
 

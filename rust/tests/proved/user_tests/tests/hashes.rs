@@ -1,9 +1,10 @@
-//! Hashes and searches, with values from outside.
+//! Hashes and searches, with known values from other sources.
 
-use num_modular::applications::mersenne_hash::{Hash, base, find, hash, moved, same_hashes};
+use num_modular::applications::mersenne_hash::same_hashes;
 use num_modular::ModularInteger;
+use num_modular::hashes::{Hash, base, find, hash, moved};
 
-// A text, a pattern, and the first position where it stands.
+// A text, a pattern, and the first position where it occurs.
 const SEARCHES: [(&[u8], &[u8], Option<usize>); 14] = [
     (b"abracadabra", b"cad", Some(4)),
     (b"abracadabra", b"bra", Some(1)),
@@ -21,8 +22,8 @@ const SEARCHES: [(&[u8], &[u8], Option<usize>); 14] = [
     (b"a", b"a", Some(0)),
 ];
 
-// Whether each search is answered so. At the base 0 a hash is the last byte, and at 1 it is the sum of
-// the bytes, so that hits are many.
+// Whether each search returns this. At the base 0 a hash is the last byte, and at 1 it is the sum of the bytes, so
+// that many windows have the pattern's hash.
 fn finds_each(base: Hash) -> bool {
     for (text, pattern, position) in SEARCHES {
         if find(base, text, pattern) != position {
@@ -65,7 +66,7 @@ fn hashes_that_collide() {
     assert!(same_hashes(&[1, 2], &first, &second));
     assert!(!same_hashes(&[0, 1, 2], &first, &second));
     assert!(!same_hashes(&[1, 2, 2305843009213693950], &first, &second));
-    // 2^61 is the base 1 once more
+    // 2^61 is congruent to the base 1
     assert!(same_hashes(&[1, 2, 2305843009213693952], &first, &second));
     assert!(same_hashes(&[0, 1, 2], &first, &first));
 }

@@ -14,8 +14,8 @@ fn listed(seed: u32, q: u32) -> [u32; 256] {
     w
 }
 
-// The entries at the places 0, 1, 2, 127, 128 and 255, and the value at 31 of the polynomial with all
-// entries, the highest first, modulo 2^32.
+// The entries with the indexes 0, 1, 2, 127, 128 and 255, and the value at 31 of the polynomial with all entries,
+// the highest first, modulo 2^32.
 fn seen(w: &[u32; 256]) -> [u32; 7] {
     let mut fold = 0u32;
     for x in w {
@@ -33,7 +33,7 @@ fn monomial(k: usize) -> [u32; 256] {
     w
 }
 
-// What is done to one list, or to two.
+// An operation on one list, or on two.
 #[derive(Clone, Copy)]
 enum Step {
     Transform,
@@ -84,8 +84,8 @@ fn kem_seen(step: Step, xs: [u32; 256], ys: [u32; 256]) -> [u32; 7] {
     }
 }
 
-// A power of X, a place of its transform, and the value there: entries 1 to 15 and 255 of the table in
-// appendix B of FIPS 204.
+// A power of X, an index of its transform, and the value there: entries 1 to 15 and 255 of the table in appendix B
+// of FIPS 204.
 const DSA_POWERS: [(usize, usize, u32); 16] = [
     (128, 0, 4808194),
     (64, 0, 3765607),
@@ -105,8 +105,8 @@ const DSA_POWERS: [(usize, usize, u32); 16] = [
     (1, 254, 7648983),
 ];
 
-// A power of X, a place of its transform, and the value there: entries 1 to 15 of the first table in
-// appendix A of FIPS 203, and some of the second.
+// A power of X, an index of its transform, and the value there: entries 1 to 15 of the first table in appendix A of
+// FIPS 203, and some of the second.
 const KEM_POWERS: [(usize, usize, u32); 21] = [
     (128, 0, 1729),
     (64, 0, 2580),

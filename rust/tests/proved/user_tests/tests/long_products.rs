@@ -1,11 +1,11 @@
-//! Products of digits of 64 bits, by rows and by transforms, and slices without room.
+//! Products of digits of 64 bits, by rows and by transforms, and slices that are too short.
 
 use num_modular::applications::long_product::{fill_plans, product, product_planned, room};
 use num_modular::plans::Factor;
 
 const NONE: Factor<u64> = Factor::<u64>::ZERO;
 
-// The steps of a linear congruential generator, which another program can take too.
+// The steps of a linear congruential generator, which another program can compute too.
 fn fill_digits(seed: u64, digits: &mut [u64]) {
     let mut digit = seed;
     for place in digits.iter_mut() {
@@ -25,7 +25,7 @@ fn checksum(digits: &[u64]) -> u64 {
     sum
 }
 
-// The checksum of a product of factors of so many digits; `None` where it is refused.
+// The checksum of a product of factors of so many digits; `None` where `product` returns false.
 fn checksum_of_product(xs: usize, ys: usize) -> Option<u64> {
     let (mut first, mut second) = ([0; 700], [0; 700]);
     fill_digits(1, &mut first);
@@ -40,7 +40,7 @@ fn checksum_of_product(xs: usize, ys: usize) -> Option<u64> {
     }
 }
 
-// How many digits the factors have, and the checksum of their product, computed with another program.
+// The numbers of digits of the factors, and the checksum of their product, computed with another program.
 const ROWS: &[(usize, usize, u64)] = &[
     (0, 0, 0),
     (0, 5, 0),
@@ -73,7 +73,7 @@ fn known_checksums() {
 fn a_known_product() {
     let mut digits = [7; 3];
     assert!(
-        product(
+        product::<Factor<u64>>(
             &[7806831264735756412, 9396908728118811419],
             &[14170967488582549417],
             &mut digits,
@@ -111,7 +111,7 @@ fn squares_of_all_ones() {
     }
 }
 
-// Plans for more entries serve as well, for one product after another.
+// Plans for more entries work as well, for one product after another.
 #[test]
 fn plans_at_hand() {
     let (mut first, mut second, mut third) = ([NONE; 1024], [NONE; 1024], [NONE; 1024]);

@@ -1,13 +1,12 @@
-//! Rows of the clients with powers and loops; the values were computed with Python.
+//! Known values of the examples with powers and loops, computed with Python.
 
-use num_modular::applications::clients::fermat_tests::is_shown_composite;
-use num_modular::applications::clients::generators::jump;
-use num_modular::applications::clients::keys::{keys, known_word};
-use num_modular::applications::clients::list_inverses::invert_each;
-use num_modular::applications::clients::polynomials::product_of;
-use num_modular::applications::clients::square_roots::square_root;
+use num_modular::applications::examples::fermat_tests::is_shown_composite;
+use num_modular::applications::examples::generators::jump;
+use num_modular::applications::examples::keys::{keys, known_word};
+use num_modular::applications::examples::polynomials::product_of;
+use num_modular::applications::examples::square_roots::square_root;
 use num_modular::prim::is_prime_by_search;
-use num_modular::ring::{load_forms, root_fits, unload_forms};
+use num_modular::ring::{invert_each, load_forms, root_fits, unload_forms};
 use num_modular::{Montgomery, Reducer};
 
 #[test]
@@ -20,7 +19,7 @@ fn keys_of_two_parties() {
     assert!(keys(5, 123456789, 987654321, m).1 == 13238872984339080984);
 }
 
-// A number, a base, and whether Fermat's test to it shows that the number isn't prime.
+// A number, a base, and whether Fermat's test to that base proves that the number isn't prime.
 const FERMAT_TESTS: &[(u64, u64, bool)] = &[
     (341, 2, false),
     (341, 3, true),

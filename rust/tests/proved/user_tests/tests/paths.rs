@@ -1,7 +1,6 @@
-//! Each public item once, by the path that a user writes.
+//! A use of each public item, by the path that a user writes.
 
 mod dividers;
-mod integers;
 mod plain;
 mod symbols;
 mod words;

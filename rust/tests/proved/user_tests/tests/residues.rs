@@ -1,7 +1,8 @@
-//! Numbers by their residues, with values from outside.
+//! Numbers by their residues, with known values from other sources.
 
+use num_modular::residues::{are_reduced, decode, encode, is_system};
 use num_modular::ring::{RingCommand, commands_fit};
-use num_modular::applications::residue_numbers::{ResidueSystem, are_reduced, decode, encode, is_system};
+use num_modular::applications::residue_numbers::ResidueSystem;
 
 // Whether the moduli are a system in which the number has these residues, and is decoded from them.
 fn there_and_back(moduli: &[u64], number: u128, residues: &[u64]) -> bool {
@@ -44,7 +45,7 @@ fn numbers() {
     );
 }
 
-// Whether the moduli are admitted, as is said, by a system that keeps them.
+// Whether `ResidueSystem::new` returns a system of these moduli if `answer` is true, and `None` else.
 fn admitted(moduli: &[u64], answer: bool) -> bool {
     match ResidueSystem::new(moduli) {
         Some(system) => answer && system.moduli() == moduli,
@@ -63,7 +64,7 @@ fn small_systems() {
     assert!(admitted(&[18446744073709551615, 2, 9223372036854775811], false));
 }
 
-// The residues of a number, with zeros behind them.
+// The residues of a number, followed by zeros.
 fn encoded(system: ResidueSystem<'_>, number: u128) -> [u64; 8] {
     let mut residues = [0u64; 8];
     let count = system.moduli().len();
@@ -71,7 +72,7 @@ fn encoded(system: ResidueSystem<'_>, number: u128) -> [u64; 8] {
     residues
 }
 
-// Whether the residues of x and y have as their sums, differences and products those of the results.
+// Whether the sums, differences and products of the residues of x and y are the residues of the results.
 fn computes(moduli: &[u64], x: u128, y: u128, results: [u128; 3]) -> bool {
     let system = match ResidueSystem::new(moduli) { Some(it) => it, None => {
         return false;
@@ -89,7 +90,7 @@ fn computes(moduli: &[u64], x: u128, y: u128, results: [u128; 3]) -> bool {
 
 #[test]
 fn results() {
-    // by Python's whole numbers
+    // computed with Python's integers
     assert!(computes(&[3, 5, 7], 23, 104, [22, 24, 82]));
     assert!(computes(&[3, 5, 7], 0, 1, [1, 104, 0]));
     assert!(computes(&[1], 5, 7, [0, 0, 0]) && computes(&[], 5, 7, [0, 0, 0]));
@@ -126,8 +127,7 @@ fn decoded_by_a_system() {
     assert!(number == 23);
 }
 
-// Whether the commands, from these numbers, leave these residues in register 1; none are wanted where
-// an inverse is missing.
+// Whether the commands, from these numbers, leave these residues in register 1; `None` where an inverse doesn't exist.
 fn runs(
     moduli: &[u64],
     commands: &[RingCommand<u64>],
@@ -157,7 +157,7 @@ fn runs(
 
 #[test]
 fn all_commands() {
-    // by Python's whole numbers modulo 1009091, which give 378740
+    // computed with Python's integers modulo 1009091, which give 378740
     let commands = [
         RingCommand::Mul { dst: 2, a: 0, b: 1 },
         RingCommand::Sub { dst: 1, a: 0, b: 2 },
@@ -185,7 +185,7 @@ fn all_commands() {
 fn inverses() {
     let inverse = [RingCommand::Inv { dst: 1, a: 0 }];
     assert!(runs(&[9, 8, 125, 7], &inverse, &[11, 0], Some(&[5, 3, 91, 2])));
-    // 14 has an inverse modulo 9 and 125, but none modulo 8 and 7
+    // 14 has an inverse modulo 9 and 125, but not modulo 8 and 7
     assert!(runs(&[9, 8, 125, 7], &inverse, &[14, 0], None));
     assert!(runs(&[9, 125], &inverse, &[14, 0], Some(&[2, 9])));
 }

@@ -1,4 +1,4 @@
-//! Inverses with the numbers of their divisions.
+//! Inverses with the number of their divisions.
 
 use num_modular::modular_prim::counted::{w8, w16, w32, w64, wsize};
 
@@ -23,7 +23,7 @@ fn is_found<T: Copy + PartialEq + From<u8>>(
     found.0 == inverse && found.1 == want.1
 }
 
-// Whether the counted inverse of each width answers this.
+// Whether the counted inverse of each width returns this.
 fn answers(a: u8, m: u8, want: (Option<u8>, u32)) -> [bool; 5] {
     [
         is_found(w8::invm_counted(a, m), want),
@@ -42,8 +42,8 @@ fn inverses_at_each_width() {
     }
 }
 
-// Neighbours among Fibonacci's numbers take the most divisions: one fewer than the place of the
-// smaller. The greatest that fit 64 bits stand at the places 92 and 93.
+// Consecutive Fibonacci numbers take the most divisions: one fewer than the index of the smaller. The greatest that
+// fit 64 bits have the indexes 92 and 93.
 #[test]
 fn the_most_divisions_of_64_bits() {
     assert_eq!(

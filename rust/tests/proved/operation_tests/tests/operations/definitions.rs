@@ -1,4 +1,4 @@
-//! The definitions as programs, at every operand and modulus of 8 bits.
+//! The definitions as programs, for every operand and modulus of 8 bits.
 
 use num_modular::modular_prim::operations::{ModularAbs, ModularCoreOps, ModularPow, ModularUnaryOps};
 use num_modular::modular_word::plain::{inverse_by_search, power_of, residue_of};
@@ -8,7 +8,7 @@ fn of_two(a: u8, b: u8, m: u8) -> [u8; 3] {
     [a.addm(b, &m), a.subm(b, &m), a.mulm(b, &m)]
 }
 
-// Whether they are those that the definitions give.
+// Whether they equal those of the definitions.
 fn agree_of_two(a: u8, b: u8, m: u8) -> bool {
     let [sum, difference, product] = of_two(a, b, m);
     let (x, y, n) = (a as i64, b as i64, m as u64);
@@ -22,7 +22,7 @@ fn of_one(a: u8, m: u8) -> [u8; 3] {
     [a.negm(&m), a.dblm(&m), a.sqm(&m)]
 }
 
-// Whether they, the inverse and the residue of a number with sign, a - 128, are those that the definitions give.
+// Whether they, the inverse, and the residue of the signed number a - 128 equal those of the definitions.
 fn agree_of_one(a: u8, m: u8) -> bool {
     let [negative, double, square] = of_one(a, m);
     let inverse = match a.invm(&m) {

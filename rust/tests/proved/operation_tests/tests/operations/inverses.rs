@@ -1,4 +1,4 @@
-//! The rows of inverses, and `inverse_by_subtraction` beside `invm_counted`, which divides.
+//! Known inverses, and `inverse_by_subtraction` compared with `invm_counted`, which divides.
 
 use num_modular::modular_prim::counted::{w8, w16, w32, w64};
 use num_modular::modular_prim::inverse::inverse_by_subtraction;
@@ -6,7 +6,7 @@ use num_modular::modular_prim::operations::ModularUnaryOps;
 use num_modular::modular_prim::plain_word::PlainWord;
 use crate::runtime::Abort;
 
-// Each number of a byte, modulo each odd number of a byte.
+// Each byte, modulo each odd byte.
 #[test]
 fn the_two_loops() {
     for half in 0..128u8 {
@@ -20,7 +20,7 @@ fn the_two_loops() {
     }
 }
 
-// Rows are a number, the modulus and the inverse: here those that hold at each width.
+// A number, the modulus and the inverse, for each width.
 const INVERSES: &[(u8, u8, Option<u8>)] = &[
     (5, 11, Some(9)),
     (8, 11, Some(7)),
@@ -33,7 +33,7 @@ const INVERSES: &[(u8, u8, Option<u8>)] = &[
     (12, 5, Some(3)),
 ];
 
-// At 16 bits and wider.
+// For 16 bits and wider.
 const WIDE_INVERSES: &[(u16, u16, Option<u16>)] = &[
     (3, 5000, Some(1667)),
     (1667, 5000, Some(3)),

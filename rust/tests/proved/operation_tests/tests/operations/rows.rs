@@ -1,4 +1,4 @@
-//! The rows of each operation.
+//! The known values of each operation.
 
 use num_modular::modular_prim::numbered::Numbered;
 use num_modular::modular_prim::operations::{ModularAbs, ModularCoreOps, ModularPow, ModularUnaryOps};
@@ -69,13 +69,13 @@ fn answers<T: PlainWord>(operation: Operation, a: T, b: T, m: T) -> (T, T, T, T)
     }
 }
 
-// Whether each kind of operands has this answer.
+// Whether the operation returns this for each kind of operands.
 fn is_answered<T: PlainWord>(operation: Operation, a: T, b: T, m: T, want: T) -> bool {
     let found = answers(operation, a, b, m);
     found.0 == want && found.1 == want && found.2 == want && found.3 == want
 }
 
-// Two operands, the modulus, and the residue of what the operation gives.
+// Two operands, the modulus, and the residue of the result.
 const ROWS: &[(Operation, u8, u8, u8, u8)] = &[
     (Operation::Sum, 0, 0, 5, 0),
     (Operation::Sum, 1, 2, 5, 3),
@@ -122,7 +122,7 @@ const ROWS: &[(Operation, u8, u8, u8, u8)] = &[
 
 const ROWS_OF_64_BITS: &[(Operation, u64, u64, u64, u64)] = &[
     (Operation::Sum, u64::MAX, u64::MAX, 18446744073709551614, 2),
-    // A power that takes a product for each factor doesn't end here.
+    // With a product for each factor this power wouldn't end.
     (
         Operation::Power,
         3,

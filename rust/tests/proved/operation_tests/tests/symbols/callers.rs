@@ -1,9 +1,9 @@
-//! Rows that were worked by hand, by the code that is generic over the traits.
+//! Known values, computed by hand, of the code that is generic over the traits.
 
-use crate::operation_callers::operations::{
+use crate::misuse::operations::{
     difference, divided, inverse, power, product_and_sum, quotient, signed, square_of_double,
 };
-use crate::operation_callers::symbols::{
+use crate::misuse::symbols::{
     jacobi_of_seven, legendre_of_three, product_symbol, product_symbol_ref, symbols_of_8_bits,
     symbols_of_64_bits,
 };

@@ -1,4 +1,4 @@
-//! Jacobi symbols with the numbers of their halvings and swaps.
+//! Jacobi symbols with the number of their halvings and swaps.
 
 use num_modular::modular_symbols::counted::{w8, w16, w32, w64, wsize};
 
@@ -13,7 +13,7 @@ const ROWS: &[(u8, u8, Option<(i8, u32)>)] = &[
     (3, 8, None),
 ];
 
-// What each width answers.
+// What each width returns.
 fn answers(a: u8, n: u8) -> [Option<(i8, u32)>; 5] {
     [
         w8::checked_jacobi_counted(a, n),

@@ -1,4 +1,4 @@
-//! The loops of the symbols, one beside the other.
+//! The loops of the symbols, compared with each other.
 
 use super::tables::{LARGE, LARGE_OF_32_BITS, LARGE_SIGNED};
 use num_modular::modular_symbols::count::jacobi_by_count;
@@ -6,8 +6,8 @@ use num_modular::modular_symbols::halving::jacobi_by_halving;
 use num_modular::modular_symbols::subtraction::jacobi_by_subtraction;
 use num_modular::modular_symbols::symbols::ModularSymbols;
 
-// `checked_jacobi`, which halves and swaps, beside `jacobi_by_subtraction` and the count of the half system; and with the
-// other sign the loop that only halves beside the count. Each number of a byte, over each odd number of a byte.
+// `checked_jacobi`, which halves and swaps, `jacobi_by_subtraction` and the count of the half system agree; and for
+// the negative number the loop that only halves agrees with the count. Each byte, over each odd byte.
 #[test]
 fn the_two_loops() {
     for half in 0..128u8 {
@@ -25,8 +25,8 @@ fn the_two_loops() {
     }
 }
 
-// The rows of the Kronecker and the Legendre symbol serve too: over an odd number above 0 the Kronecker symbol is the
-// Jacobi symbol, and over an odd prime the Legendre symbol is.
+// The known values of the Kronecker and the Legendre symbol serve too: over an odd number above 0 the Kronecker
+// symbol is the Jacobi symbol, and over an odd prime the Legendre symbol is.
 #[test]
 fn the_two_loops_of_wide_words() {
     for &(_, a, n, want) in LARGE_OF_32_BITS {
@@ -55,7 +55,7 @@ fn the_two_loops_of_wide_words() {
     }
 }
 
-// Each number of a byte with sign, over each that has symbols: the 64 odd ones above 0.
+// Each signed byte, over each that has symbols: the 64 odd ones above 0.
 #[test]
 fn the_two_loops_with_sign() {
     let mut found = 0u32;

@@ -1,4 +1,4 @@
-//! The tables of the three symbols, at every width that holds their numbers.
+//! The tables of the three symbols, for every width that holds their numbers.
 
 use num_modular::modular_symbols::operands::SymbolWord;
 use num_modular::modular_symbols::symbols::ModularSymbols;
@@ -11,7 +11,7 @@ pub enum Symbol {
     Kronecker,
 }
 
-// The Legendre symbol of a over n by both calls: the one that is checked, and the one that is known to have an answer.
+// The Legendre symbol of a over n by both calls, `checked_legendre` and `legendre`.
 fn legendre_symbols<T: SymbolWord>(a: T, n: T) -> [Option<i8>; 2] {
     match a.checked_legendre(&n) {
         Some(symbol) => [Some(symbol), Some(a.legendre(&n))],
@@ -35,7 +35,7 @@ fn symbols<T: SymbolWord>(symbol: Symbol, a: T, n: T) -> [Option<i8>; 2] {
     }
 }
 
-// Rows are a symbol's kind, a number, the one that its symbol is over, and the symbol.
+// The kind of a symbol, a number, the number that its symbol is over, and the symbol.
 fn assert_symbols<S: Copy, T: SymbolWord + From<S>>(
     rt: &impl Abort,
     rows: &[(Symbol, S, S, Option<i8>)],
@@ -45,7 +45,7 @@ fn assert_symbols<S: Copy, T: SymbolWord + From<S>>(
     }
 }
 
-// The rows of numbers from 0 up that fit each width.
+// The values of numbers that are at least 0 and fit each width.
 macro_rules! table {
     () => {
         [
@@ -213,7 +213,7 @@ fn symbols_at_each_width() {
     assert_signed::<isize>(&rt);
 }
 
-// The rows of a width's least number.
+// The values of a width's least number.
 macro_rules! table_of_least {
     ($word:ty) => {
         [
@@ -245,8 +245,8 @@ const BYTES: &[(Symbol, u8, u8, Option<i8>)] = &[
     (Symbol::Jacobi, 16, 255, Some(1)),
 ];
 
-// Numbers that a count of the half system can't reach. The symbols over primes are by Euler's criterion over the
-// factors of the second number.
+// Numbers for which a count of the half system takes too long. The symbols over primes are by Euler's criterion
+// over the factors of the second number.
 pub const LARGE_OF_32_BITS: &[(Symbol, u32, u32, Option<i8>)] = &[
     (Symbol::Jacobi, 4294967295, 4294967291, Some(1)),
     (Symbol::Jacobi, 2147483648, 4294967291, Some(-1)),

@@ -1,8 +1,8 @@
-//! What a word says of its bits.
+//! The bits of a word.
 
 use num_modular::modular_word::path_word::PathWord;
 
-// Of 12: the zeros above its bits, those below them, and the low three bits.
+// Of 12: the leading zeros, the trailing zeros, and the low three bits.
 #[test]
 fn bits_of_words() {
     let found = (

@@ -1,4 +1,4 @@
-//! The definitions as programs, at the rows that the fast calls answer.
+//! The definitions as programs, for the known values of the fast calls.
 
 use num_modular::modular_word::plain::{greatest_common_divisor, inverse_by_search, power_of, residue_of};
 

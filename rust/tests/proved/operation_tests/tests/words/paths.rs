@@ -1,4 +1,4 @@
-//! The paths, at the divisors and the moduli where a correction, a limit or a carry decides.
+//! The paths, for divisors and moduli where a correction, a limit or a carry matters.
 
 use num_modular::modular_word::paths::{div_1by1, div_2by1, exact_1, exact_2, redc};
 
@@ -16,7 +16,7 @@ fn divisions_and_reductions() {
         div_1by1(3u8, 86, 1, 255),
     );
     assert!(found == ((127, 1), (1, 0), (85, 0)));
-    // At 65279 the sum passes the double word; at 255 the high word is the modulus; at 1 neither.
+    // For 65279 the sum overflows the double word; for 255 the high word is the modulus; for 1 neither.
     let found = (
         redc(255u8, 1, 65279),
         redc(255u8, 1, 255),

@@ -1,4 +1,4 @@
-//! Rows that were worked by hand, and every divisor and number of 8 bits against `/` and `%`.
+//! Known values, computed by hand, and every divisor and number of 8 bits compared with `/` and `%`.
 
 use super::is_divided;
 use num_modular::modular_barrett::one_by_one::PreMulInv1by1;
@@ -45,7 +45,7 @@ fn every_byte() {
     }
 }
 
-// 252, 253 and 36 by 7, with nothing stored.
+// 252, 253 and 36 by 7, with nothing precomputed.
 fn are_exact<T: DivExactAssign<T, ()> + Numbered + Copy + PartialEq + From<u8>>(
     seven: T,
     pre: &(),

@@ -1,4 +1,4 @@
-//! Negated inverses at each width.
+//! Negated inverses for each width.
 
 use num_modular::modular_monty::neg_mod_inv::{w8, w16, w32, w64, wsize};
 

@@ -1,8 +1,8 @@
-//! Rows that were worked by hand, and every divisor and dividend of 8 bits against `/` and `%`.
+//! Known values, computed by hand, and every divisor and dividend of 8 bits compared with `/` and `%`.
 
 use num_modular::modular_barrett::normalized::Normalized2by1Divisor;
 
-// The reciprocal of a divisor, and what it divides a number into.
+// The reciprocal of a divisor, and the quotient and the remainder of a number.
 fn reciprocal_and_division(d: u8, a: u16) -> (u8, (u8, u8)) {
     (
         Normalized2by1Divisor::<u8>::invert_word(d),

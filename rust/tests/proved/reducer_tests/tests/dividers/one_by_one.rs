@@ -1,4 +1,4 @@
-//! Rows that were worked by hand, and every divisor and dividend of 8 bits against `/` and `%`.
+//! Known values, computed by hand, and every divisor and dividend of 8 bits compared with `/` and `%`.
 
 use super::shows;
 use num_modular::modular_barrett::one_by_one::PreMulInv1by1;

@@ -1,4 +1,4 @@
-//! Exact divisions by prepared inverses.
+//! Exact divisions by precomputed inverses.
 
 use super::{is_divided, shows};
 use num_modular::modular_monty::preinv::PreModInv;

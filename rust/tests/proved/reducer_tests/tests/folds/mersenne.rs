@@ -1,11 +1,11 @@
-//! Rows of the reducers and of their reductions.
+//! Known values of the reducers and of their reductions.
 
 use crate::reducer_tests::tests::residues::{edges, inverse, residues};
 use num_modular::modular_folds::mersenne::{FixedMersenne, FixedMersenne32, FixedMersenne64};
 use num_modular::modular_reduced::reducer::Reducer;
 use num_modular::modular_word::ring_word::RingWord;
 
-/// Whether two words are forms, and whether a number stands for 0.
+/// Whether two words are forms, and whether the value of a number's form is 0.
 pub fn checks<T: RingWord, R: Reducer<T>>(ring: &R, last: T, m: T, multiple: T) -> [bool; 3] {
     [
         ring.check(&last),

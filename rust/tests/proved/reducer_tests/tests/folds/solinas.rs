@@ -1,4 +1,4 @@
-//! Rows of the reducers and of their reductions.
+//! Known values of the reducers and of their reductions.
 
 use super::mersenne::checks;
 use crate::reducer_tests::tests::residues::{edges, inverse, residues};

@@ -1,7 +1,7 @@
-//! Rows of the reducer, and comparisons with plain remainders.
+//! Known values of the reducer, and comparisons with plain remainders.
 
 use crate::reducer_tests::tests::residues::{agree, inverse, product};
-use num_modular::modular_even::montgomery::Montgomery;
+use num_modular::modular_monty::montgomery::Montgomery;
 use num_modular::modular_prim::plain_word::PlainWord;
 use num_modular::modular_reduced::reducer::Reducer;
 use crate::runtime::Abort;
@@ -99,7 +99,7 @@ fn sums_of_zero() {
     assert!(sum_is_zero(&ring, 5, 6) && !sum_is_zero(&ring, 5, 7));
 }
 
-// Rows are the modulus, two factors and the residue of their product.
+// The modulus, two factors and the residue of their product.
 fn assert_products<T: PlainWord>(rt: &impl Abort, rows: &[(T, T, T, T)]) {
     for &(m, x, y, want) in rows {
         assert!(!m.is_zero_word());

@@ -1,4 +1,4 @@
-//! Rows of the reducers of a parameter.
+//! Known values of the reducers whose modulus is a parameter.
 
 use crate::reducer_tests::tests::residues::{inverse, product, remainder};
 use num_modular::modular_monty::fixed::{FixedMontgomery32, FixedMontgomery64};

@@ -1,4 +1,4 @@
-//! Rows of the reducers of the moduli K * 2^N + 1.
+//! Known values of the reducers of the moduli K * 2^N + 1.
 
 use crate::reducer_tests::tests::residues::{edges, product, remainder};
 use num_modular::modular_monty::proth::{FixedProth32, FixedProth64};
@@ -31,7 +31,7 @@ fn fixed_moduli() {
 fn reductions_with_a_carry() {
     let ring = FixedProth32::<27, 17>::new(&2281701377);
     assert!(remainder(&ring, 4294967295) == 2013265918);
-    // (m - 1) * 2^32 + m: the sum is (2 * m - 1) * 2^32, which passes 64 bits
+    // (m - 1) * 2^32 + m: the sum is (2 * m - 1) * 2^32, which overflows 64 bits
     assert!(ring.reduce(9799832791439900673) == 2281701376);
     let ring = FixedProth32::<28, 9>::new(&2415919105);
     let found = (ring.transform(4294967292), remainder(&ring, 4294967292));

@@ -1,11 +1,11 @@
-//! The two numbers that are computed once of a modulus, and which of them a reducer is restored by.
+//! The two numbers that are precomputed of a modulus, and which of them restore a reducer.
 
-use num_modular::modular_even::montgomery::Montgomery;
+use num_modular::modular_monty::montgomery::Montgomery;
 use num_modular::modular_prim::plain_word::PlainWord;
 use num_modular::modular_reduced::reducer::Reducer;
 use crate::runtime::Abort;
 
-// Whether a reducer of m is restored by the two numbers.
+// Whether the two numbers restore a reducer of m.
 fn is_restored<T: PlainWord>(m: T, negated_inverse: T, square: T) -> bool {
     match Montgomery::<T>::restored(m, negated_inverse, square) {
         Some(ring) => ring.modulus() == m,
@@ -13,7 +13,7 @@ fn is_restored<T: PlainWord>(m: T, negated_inverse: T, square: T) -> bool {
     }
 }
 
-// Whether these are the numbers of m, and the reducer of m is restored by them.
+// Whether these are the numbers of m, and restore the reducer of m.
 fn are_computed<T: PlainWord>(m: T, negated_inverse: T, square: T) -> bool {
     let computed = Montgomery::<T>::of(m).computed_once();
     computed.0 == negated_inverse && computed.1 == square && is_restored(m, negated_inverse, square)
@@ -31,7 +31,7 @@ const COMPUTED: &[(u8, u8, u8)] = &[
     (255, 1, 1),
 ];
 
-// Rows are a modulus and its two numbers.
+// A modulus and its two numbers.
 fn assert_computed<T: PlainWord>(rt: &impl Abort, rows: &[(T, T, T)]) {
     for &(m, negated_inverse, square) in rows {
         assert!(!m.is_zero_word());
@@ -56,7 +56,7 @@ fn computed() {
     assert_computed::<u64>(&rt, COMPUTED_OF_64_BITS);
 }
 
-// Whether two numbers have one odd part; 0 has none.
+// Whether two numbers have the same odd part; 0 has none.
 fn have_one_odd_part(m: u8, n: u8) -> bool {
     m != 0 && n != 0 && m >> m.trailing_zeros() == n >> n.trailing_zeros()
 }

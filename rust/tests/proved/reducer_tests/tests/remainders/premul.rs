@@ -1,4 +1,4 @@
-//! Rows that were worked by hand, and bytes against `%`.
+//! Known values, computed by hand, and bytes compared with `%`.
 
 use crate::reducer_tests::tests::residues::{agree, inverse_residue, product, remainder};
 use num_modular::modular_barrett::premul::PreMulInv2by1;
@@ -28,7 +28,7 @@ fn rows() {
     assert!(found == ([40, 56, 136], [Some(17), None], true));
     let copy = ring;
     assert!(copy == ring);
-    // the same divisor, of another modulus
+    // the same divisor for another modulus
     let found = (
         ring == PreMulInv2by1::of(42),
         format!(in rt.alloc(); "{ring:?}").is_ok(),

@@ -1,4 +1,4 @@
-//! Each call of `Reducer`, through its bound, on the plain reducer at each width.
+//! Each call of `Reducer`, through its bound, on the plain reducer of each width.
 
 use crate::reducer_tests::tests::residues::inverse_residue;
 use num_modular::modular_reduced::laws::{
@@ -23,7 +23,7 @@ fn added<T: RingWord, R: Reducer<T>>(r: &R, a: T, b: T) -> [T; 3] {
     ]
 }
 
-// Those of a difference, of one in place, of a negative, and of a difference times a factor.
+// The residues of a difference, of one in place, of a negative, and of a difference times a factor.
 fn subtracted<T: RingWord, R: Reducer<T>>(r: &R, a: T, b: T) -> [T; 4] {
     let f = r.transform(a);
     let g = r.transform(b);
@@ -37,7 +37,7 @@ fn subtracted<T: RingWord, R: Reducer<T>>(r: &R, a: T, b: T) -> [T; 4] {
     ]
 }
 
-// Those of a product, of one in place, of a square and of a power.
+// The residues of a product, of one in place, of a square and of a power.
 fn multiplied<T: RingWord, R: Reducer<T>>(r: &R, a: T, b: T, exp: T) -> [T; 4] {
     let f = r.transform(a);
     let g = r.transform(b);
@@ -62,7 +62,7 @@ fn tests<T: RingWord, R: Reducer<T>>(r: &R, a: T, m: T) -> [bool; 4] {
     ]
 }
 
-// The residues that each call leaves of a and b, the inverse of each, and the tests.
+// The residues that each call returns for a and b, the inverse of each, and the tests.
 type Answers<T> = ([T; 3], [T; 4], [T; 4], [Option<T>; 2], [bool; 4]);
 
 fn exercise<T: RingWord, R: Reducer<T>>(r: &R, m: T, a: T, b: T, exp: T) -> Answers<T> {
@@ -75,7 +75,7 @@ fn exercise<T: RingWord, R: Reducer<T>>(r: &R, m: T, a: T, b: T, exp: T) -> Answ
     )
 }
 
-// Rows are a modulus, two numbers, an exponent, and what the calls answer.
+// The modulus, two numbers, an exponent, and what the calls return.
 macro_rules! assert_rows {
     ($rt:expr, $word:ty, $rows:expr) => {
         for (m, a, b, exp, want) in $rows {
@@ -195,7 +195,7 @@ fn laws_of_products<T: RingWord, R: Reducer<T>>(r: &R, x: T, y: T, z: T) -> [(T,
     ]
 }
 
-// Whether the forms of two numbers have one value.
+// Whether the forms of two numbers have the same value.
 fn same<T: RingWord, R: Reducer<T>>(r: &R, x: T, y: T) -> bool {
     same_value(r, r.transform(x), r.transform(y))
 }

@@ -1,4 +1,4 @@
-//! Division by divisors that stay the same.
+//! Division by an invariant divisor.
 
 use num_modular::barrett::{Normalized2by1Divisor, PreMulInv1by1};
 use num_modular::monty::neg_mod_inv;
@@ -13,7 +13,7 @@ fn exact_quotient(n: u8, d: u8) -> Option<u8> {
     n.div_exact(d, &PreMulInv1by1::<u8>::new(d))
 }
 
-// Whether a number was divided in its place, and the number then.
+// Whether a number was divided in place, and the number after it.
 fn divided(n: u8, d: u8) -> (bool, u8) {
     let mut number = n;
     (

@@ -1,4 +1,4 @@
-//! The symbols, and the traits that collect the modular operations.
+//! The symbols, and the traits that combine the modular operations.
 
 use num_modular::{ModularOps, ModularRefOps, ModularSymbols};
 
@@ -15,7 +15,7 @@ fn symbols_of_words() {
     assert!(found == (1, None, -1, None, 1, -1));
 }
 
-// All that a word offers, known by one bound.
+// All operations of a word, through a single bound.
 fn inverse_and_symbol<'r, T: ModularOps<T, &'r T, T> + Copy>(
     x: T,
     y: T,

@@ -132,7 +132,7 @@ fn helpers_of_wsize() {
     assert!(doubles == [0x1234_5678_9abc_def0_0fed_cba9_8765_4321, 255, 65025, 65025]);
 }
 
-// What a word answers through its bound alone.
+// The calls of a word through its bound alone.
 fn assert_word<T: RingWord>(rt: &impl Abort, six: T, bits: u32) {
     assert!(T::bits() == bits);
     assert!(T::zero().is_zero_word() && !T::one().is_zero_word());

@@ -1,6 +1,0 @@
-//! The paths by folds: remainders of double words, and products of words, modulo numbers near a power
-//! of two, each written and proved once for every such modulus.
-
-pub mod fold_word;
-pub mod folds;
-pub mod products;
