@@ -3,7 +3,7 @@
 mod check_symbols;
 mod each_client;
 mod erasure;
-mod examples;
+mod first_uses;
 mod hashes;
 mod known_products;
 mod lattices;
