@@ -182,8 +182,8 @@ fn quotient<T: RingWord, R: Reducer<T>>(r: &R, a: &T, b: T) -> Option<T> {
 
 // The form that a command writes; `None` exactly where its inverse doesn't exist.
 //
-// Inlined into the loop of `run`, where a call for each command would take as long as the command.
-#[inline(always)]
+// Kept out of line, so that the loop of `run` stays small.
+#[inline(never)]
 fn computed_form<T: RingWord, R: Reducer<T>>(
     r: &R,
     regs: &[T],
@@ -200,6 +200,35 @@ fn computed_form<T: RingWord, R: Reducer<T>>(
         RingCommand::Inv { a, .. } => r.inv(regs[*a]),
         RingCommand::Div { a, b, .. } => quotient(r, &regs[*a], regs[*b]),
         RingCommand::Pow { a, exp, .. } => Some(r.pow(regs[*a], exp)),
+    }
+}
+
+// Carries out a command; false exactly where its inverse doesn't exist, and then nothing is written.
+//
+// Inlined into the loop of `run`. Sums, differences and products are computed here, since a call for each of them would
+// take as long as the command.
+#[inline(always)]
+fn carry_out<T: RingWord, R: Reducer<T>>(r: &R, regs: &mut [T], command: &RingCommand<T>) -> bool {
+    match command {
+        RingCommand::Add { dst, a, b } => {
+            regs[*dst] = r.add(&regs[*a], &regs[*b]);
+            true
+        }
+        RingCommand::Sub { dst, a, b } => {
+            regs[*dst] = r.sub(&regs[*a], &regs[*b]);
+            true
+        }
+        RingCommand::Mul { dst, a, b } => {
+            regs[*dst] = r.mul(&regs[*a], &regs[*b]);
+            true
+        }
+        _ => match computed_form(r, regs, command) {
+            Some(form) => {
+                regs[destination(command)] = form;
+                true
+            }
+            None => false,
+        },
     }
 }
 
@@ -233,9 +262,8 @@ pub fn run<T: RingWord, R: Reducer<T>>(r: &R, regs: &mut [T], commands: &[RingCo
     debug_assert!(all_checked(r, regs), "each register must hold a checked form");
     debug_assert!(commands_fit(commands, regs.len()), "each register number must be below the number of registers");
     'commands: for (at, command) in commands.iter().enumerate() {
-        match computed_form(r, regs, command) {
-            Some(form) => regs[destination(command)] = form,
-            None => return RunEnd::NoInverse { at },
+        if !carry_out(r, regs, command) {
+            return RunEnd::NoInverse { at };
         }
     }
     RunEnd::Done

@@ -16,7 +16,7 @@ use Rattle.num_modular.specs.declared.ring.RingCommand.{RingCommand}
 use Rattle.num_modular.specs.declared.ring.RingCommand.TheVariants.{Load, Add, Sub, Mul, Neg, Dbl, Sqr, Inv, Div, Pow}
 use Rattle.num_modular.specs.declared.ring.RunEnd.TheVariants.{Done, NoInverse}
 use Rattle.num_modular.specs.Ring.{HoldValues, IsFormOf, destination_of, outcome, value_after}
-use Rattle.num_modular.specs.Ring.{value_at, LacksInverse, LacksInverseAt, IsStop, IsFit, values_of}
+use Rattle.num_modular.specs.Ring.{value_at, LacksInverse, LacksInverseAt, IsStop, values_of}
 
 -- what is read of register a has the value v a
 pub value_of : {T : Type 0} {number : T → ℕ} {form value : ℕ → ℕ → ℕ} {width m : ℕ}
@@ -104,7 +104,8 @@ put_holds number form m registers v dst w f holds below stands = record {
       (rw (length-set registers dst f) at in_range) (eqb_tells r dst);
 }
 
-after_found : {T : Type 0} (number : T → ℕ) (form : ℕ → ℕ → ℕ) (m : ℕ) (registers : List T) (v : ℕ → ℕ)
+-- so after a command whose form is written
+pub after_found : {T : Type 0} (number : T → ℕ) (form : ℕ → ℕ → ℕ) (m : ℕ) (registers : List T) (v : ℕ → ℕ)
     (command : RingCommand ℕ) (f : T) (o : Option ℕ)
     → outcome m v command ≡ o → HoldValues number form m registers v → destination_of command < length registers
     → IsFormOf number form m o (Some f)
@@ -114,16 +115,14 @@ after_found number form m registers v command f (Some w) e holds below found =
     let put = put_holds number form m registers v (destination_of command) w f holds below found in
     record { each = λ r d in_range. rw e (put.each r d in_range) }
 
--- a command that is carried out leaves the values that the table gives after it
+-- the values after the command are those that the table gives after it
 pub after_command : {T : Type 0} (number : T → ℕ) (form : ℕ → ℕ → ℕ) (m : ℕ) (start : List ℕ)
-    (commands : List (RingCommand ℕ)) (i : ℕ) (registers : List T) (command : RingCommand ℕ) (f : T)
-    → slice_get commands i ≡ Some command → HoldValues number form m registers (value_at m start commands i)
-    → destination_of command < length registers
-    → IsFormOf number form m (outcome m (value_at m start commands i) command) (Some f)
-    → HoldValues number form m (set registers (destination_of command) f) (value_at m start commands (i + 1))
-after_command number form m start commands i registers command f is holds below found =
-    let put = after_found number form m registers (value_at m start commands i) command f _ refl holds below found in
-    record { each = λ r d in_range. rw (add-one i) (rw is (put.each r d in_range)) }
+    (commands : List (RingCommand ℕ)) (i : ℕ) (registers : List T) (command : RingCommand ℕ)
+    → slice_get commands i ≡ Some command
+    → HoldValues number form m registers (value_after m (value_at m start commands i) (Some command))
+    → HoldValues number form m registers (value_at m start commands (i + 1))
+after_command number form m start commands i registers command is holds =
+    record { each = λ r d in_range. rw (add-one i) (rw is (holds.each r d in_range)) }
 
 image_none : {A B : Type 0} (f : A → B) (o : Option A) → option_map f o ≡ None → o ≡ None
 image_none f None e = refl
@@ -157,21 +156,28 @@ some_of_some : {T : Type 0} (number : T → ℕ) (form : ℕ → ℕ → ℕ) (m
 some_of_some number form m None f h e = h
 some_of_some number form m (Some w) f h e = cc
 
--- where no form is found, command number i lacks its inverse
-pub lacks_at : {T : Type 0} (number : T → ℕ) (form : ℕ → ℕ → ℕ) (m : ℕ) (start : List ℕ)
-    (commands : List (RingCommand ℕ)) (i : ℕ) (command : RingCommand ℕ)
-    → slice_get commands i ≡ Some command
-    → IsFormOf number form m (outcome m (value_at m start commands i) command) None → LacksInverseAt m start commands i
-lacks_at number form m start commands i command is found =
-    rw is (outcome_none m _ command (none_of_none number form m _ found))
+-- where no form is found, the command lacks its inverse
+pub lacks_here : {T : Type 0} (number : T → ℕ) (form : ℕ → ℕ → ℕ) (m : ℕ) (v : ℕ → ℕ) (command : RingCommand ℕ)
+    → IsFormOf number form m (outcome m v command) None → LacksInverse m v command
+lacks_here number form m v command found = outcome_none m v command (none_of_none number form m _ found)
 
 -- where one is found, it doesn't
-pub finds_at : {T : Type 0} (number : T → ℕ) (form : ℕ → ℕ → ℕ) (m : ℕ) (start : List ℕ)
-    (commands : List (RingCommand ℕ)) (i : ℕ) (command : RingCommand ℕ) (f : T)
-    → slice_get commands i ≡ Some command → IsFormOf number form m (outcome m (value_at m start commands i) command)
-    (Some f) → LacksInverseAt m start commands i → ⊥
-finds_at number form m start commands i command f is found lacks =
-    some_of_some number form m _ f found (lacking_none m (value_at m start commands i) command (rw is at lacks))
+pub finds_here : {T : Type 0} (number : T → ℕ) (form : ℕ → ℕ → ℕ) (m : ℕ) (v : ℕ → ℕ) (command : RingCommand ℕ) (f : T)
+    → IsFormOf number form m (outcome m v command) (Some f) → LacksInverse m v command → ⊥
+finds_here number form m v command f found lacks =
+    some_of_some number form m _ f found (lacking_none m v command lacks)
+
+-- a command that lacks its inverse does so at its place in the list ..
+pub lacks_at : (m : ℕ) (start : List ℕ) (commands : List (RingCommand ℕ)) (i : ℕ) (command : RingCommand ℕ)
+    → slice_get commands i ≡ Some command → LacksInverse m (value_at m start commands i) command
+    → LacksInverseAt m start commands i
+lacks_at m start commands i command is lacks = rw is lacks
+
+-- .. and only then
+pub lacks_of : (m : ℕ) (start : List ℕ) (commands : List (RingCommand ℕ)) (i : ℕ) (command : RingCommand ℕ)
+    → slice_get commands i ≡ Some command → LacksInverseAt m start commands i
+    → LacksInverse m (value_at m start commands i) command
+lacks_of m start commands i command is lacks = rw is at lacks
 
 -- there is at most one stop
 pub same_stop : {m : ℕ} {start : List ℕ} {commands : List (RingCommand ℕ)} {i j : ℕ} → IsStop m start commands i
@@ -209,8 +215,3 @@ never_stops {m} {start} {commands} passed at stop = passed at (some_within comma
 pub read_map : {C D : Type 0} (f : C → D) (xs : List C) (i : ℕ) (x : C) → slice_get xs i ≡ Some x
     → slice_get (map f xs) i ≡ Some (f x)
 read_map f xs i x e = slice_get-map f xs i ∙ ap (option_map f) e
-
--- a command that was read of commands that fit fits
-pub read_fits : {T : Type 0} (count : ℕ) (commands : List (RingCommand T)) (at : ℕ) (command : RingCommand T)
-    → All (IsFit count) commands → at < length commands → command ≡ get_or commands at command → IsFit count command
-read_fits count commands at command fit below is = subst (IsFit count) (sym is) (fit at command below)

@@ -1,11 +1,11 @@
 //! Lists of commands on registers, run over any reducer, and transforms over any reducer.
 
-ghost use Rattle.std.specs.Prelude.{◌≡◌, ℕ, ◌*◌, ◌%◌, ◌<◌, ◌↔◌, IsTrue, All, length};
+ghost use Rattle.std.specs.Prelude.{◌≡◌, ℕ, ◌*◌, ◌%◌, ◌<◌, ◌↔◌, IsTrue, IsFalse, Some, All, length};
 ghost use Rattle.std.specs.Prelude.{map, option_map, slice_index, slice_index_or};
 ghost use Rattle.modular_word.specs.Inverses.{inverse_of};
 ghost use Rattle.modular_reduced.specs.Forms.{IsForm};
 ghost use Rattle.num_modular.specs.Ring.{whole, destination_of, outcome, value_at, IsStop};
-ghost use Rattle.num_modular.specs.Ring.{carried_out, IsFit, values_of, HoldValues, IsFormOf};
+ghost use Rattle.num_modular.specs.Ring.{value_after, LacksInverse, carried_out, IsFit, values_of, HoldValues, IsFormOf};
 
 pub use crate::list_inverses::invert_each;
 pub use modular_plan::roots::find_root;
@@ -208,8 +208,8 @@ fn quotient<T: RingWord, R: Reducer<T>>(r: &R, a: &T, b: T) -> Option<T>
 
 // The form that a command writes; `None` exactly where its inverse doesn't exist.
 //
-// Inlined into the loop of `run`, where a call for each command would take as long as the command.
-#[inline(always)]
+// Kept out of line, so that the loop of `run` stays small.
+#[inline(never)]
 fn computed_form<T: RingWord, R: Reducer<T>>(
     r: &R,
     regs: &[T],
@@ -232,6 +232,46 @@ fn computed_form<T: RingWord, R: Reducer<T>>(
         RingCommand::Inv { a, .. } => r.inv(regs[*a]),
         RingCommand::Div { a, b, .. } => quotient(r, &regs[*a], regs[*b]),
         RingCommand::Pow { a, exp, .. } => Some(r.pow(regs[*a], exp)),
+    }
+}
+
+// Carries out a command; false exactly where its inverse doesn't exist, and then nothing is written.
+//
+// Inlined into the loop of `run`. Sums, differences and products are computed here, since a call for each of them would
+// take as long as the command.
+#[inline(always)]
+fn carry_out<T: RingWord, R: Reducer<T>>(r: &R, regs: &mut [T], command: &RingCommand<T>) -> bool
+    requires checked { All (λ f. IsForm R.form R.value (R.modulus r.now) (T.number f)) regs.old }
+    requires fit { IsFit (length regs.old) command.now }
+    ensures count { length regs.new ≡ length regs.old }
+    ensures values { let m = R.modulus r.now in
+        IsTrue result → (v : ℕ → ℕ) → HoldValues T.number R.form m regs.old v →
+        HoldValues T.number R.form m regs.new (value_after m v (Some (whole T.number command.now))) }
+    ensures missing { let m = R.modulus r.now in
+        (v : ℕ → ℕ) → HoldValues T.number R.form m regs.old v →
+        IsFalse result ↔ LacksInverse m v (whole T.number command.now) }
+    ensures kept { IsFalse result → regs.new ≡ regs.old }
+{
+    match command {
+        RingCommand::Add { dst, a, b } => {
+            regs[*dst] = r.add(&regs[*a], &regs[*b]);
+            true
+        }
+        RingCommand::Sub { dst, a, b } => {
+            regs[*dst] = r.sub(&regs[*a], &regs[*b]);
+            true
+        }
+        RingCommand::Mul { dst, a, b } => {
+            regs[*dst] = r.mul(&regs[*a], &regs[*b]);
+            true
+        }
+        _ => match computed_form(r, regs, command) {
+            Some(form) => {
+                regs[destination(command)] = form;
+                true
+            }
+            None => false,
+        },
     }
 }
 
@@ -287,9 +327,8 @@ pub fn run<T: RingWord, R: Reducer<T>>(r: &R, regs: &mut [T], commands: &[RingCo
         ≡ value_at m start wholes (carried_out result wholes) n }
 {
     'commands: for (at, command) in commands.iter().enumerate() {
-        match computed_form(r, regs, command) {
-            Some(form) => regs[destination(command)] = form,
-            None => return RunEnd::NoInverse { at },
+        if !carry_out(r, regs, command) {
+            return RunEnd::NoInverse { at };
         }
     }
     RunEnd::Done

@@ -1,13 +1,12 @@
-use Rattle.std.proofs.Common.{rules, ◌≡◌, ◌∙◌, ℕ, ◌<◌, List, arith, length}
-use Rattle.std.proofs.Common.{map, Some, None, subst, sym, below_more, refl}
+use Rattle.std.proofs.Common.{rules, ◌≡◌, ◌∙◌, ℕ, ◌<◌, List, Bool, IsTrue, IsFalse, arith, length}
+use Rattle.std.proofs.Common.{map, Some, subst, sym, below_more, refl}
 use Rattle.std.specs.List.{slice_get}
 use Rattle.std.proofs.lemmas.Option.{slice_get_read}
 use Rattle.std.proofs.lemmas.List.{length-map}
-use Rattle.num_modular.specs.Ring.{IsStop, LacksInverseAt, IsFormOf, outcome, whole}
-use Rattle.num_modular.specs.Ring.{values_of, destination_of, value_at, HoldValues}
+use Rattle.num_modular.specs.Ring.{IsStop, LacksInverse, LacksInverseAt, whole, values_of, value_at, HoldValues}
 use Rattle.num_modular.specs.declared.ring.RingCommand.{RingCommand}
-use Rattle.num_modular.proofs.RunLemmas.{after_command, lacks_at, finds_at, stops_at, not_done, never_stops}
-use Rattle.num_modular.proofs.RunLemmas.{start_holds, all_forms, residues_are, read_map, read_fits}
+use Rattle.num_modular.proofs.RunLemmas.{after_command, lacks_at, lacks_of, stops_at, not_done, never_stops}
+use Rattle.num_modular.proofs.RunLemmas.{start_holds, all_forms, residues_are, read_map}
 use Rattle.num_modular.proofs.ring.run.Goals as goal
 
 pub commands-init : goal.commands-init
@@ -17,17 +16,12 @@ commands-init g c = record {
   passed = λ j h. absurd (omega arith);
 }
 
-pub offset_bounds-regs-destination : goal.offset_bounds-regs-destination
-offset_bounds-regs-destination g c =
-    let fit = read_fits (length c.args.regs.now) c.args.commands.now c.commands.at c.index-commands-at.result
-    c.requires.fit c.commands-test.true c.index-commands-at.is in
-    let below = c.destination.ensures.within (length c.args.regs.now) fit in
-    search rules
+true_not_false : {b : Bool} → IsTrue b → IsFalse b → ⊥
+true_not_false holds fails = cc
 
 pub commands-preserved : goal.commands-preserved
 commands-preserved g c =
     let number = g.T.RingWord.number in
-    let form = g.R.Reducer.form in
     let m = g.R.Reducer.modulus c.args.r.now in
     let start = values_of number g.R.Reducer.value m c.args.regs.now in
     let wholes = map (whole number) c.args.commands.now in
@@ -36,69 +30,82 @@ commands-preserved g c =
     let read = slice_get_read c.args.commands.now _ at command refl c.commands-test.true c.index-commands-at.is in
     let is : slice_get wholes at ≡ Some (whole number command) =
     read_map (whole number) c.args.commands.now at command read in
-    let fit = read_fits (length c.args.regs.now) c.args.commands.now at command c.requires.fit
-    c.commands-test.true c.index-commands-at.is in
-    let below = c.destination.ensures.within (length c.args.regs.now) fit in
-    let written_below : destination_of (whole number command) < length c.commands.regs =
-    omega (arith, below, c.destination.ensures.value) in
-    let found = c.in-Some.ensures (value_at m start wholes at) c.commands.invariant.held in
+    let told : IsTrue c.carry_out.result = search rules in
+    let held = c.commands.invariant.held in
     record {
-      held = rw c.destination.ensures.value (after_command number form m start wholes at c.commands.regs
-          (whole number command) c.in-Some.form is c.commands.invariant.held written_below found);
-      passed = below_more _ _ c.commands.invariant.passed
-          (finds_at number form m start wholes at (whole number command) c.in-Some.form is found);
+      held = after_command number g.R.Reducer.form m start wholes at _ (whole number command) is
+          (c.carry_out.ensures.values told (value_at m start wholes at) held);
+      passed = below_more _ _ c.commands.invariant.passed (λ lacks. absurd (true_not_false told
+          ((c.carry_out.ensures.missing (value_at m start wholes at) held).1
+          (lacks_of m start wholes at (whole number command) is lacks))));
     }
 
--- where the command that was read gives no form, and none before it lacked its inverse, is the stop
-stop_here : {T : Type 0} (number : T → ℕ) (form : ℕ → ℕ → ℕ) (m : ℕ) (start : List ℕ) (commands : List (RingCommand T))
+-- where the command that was read lacks its inverse, and none before it did, is the stop
+stop_here : {T : Type 0} (number : T → ℕ) (m : ℕ) (start : List ℕ) (commands : List (RingCommand T))
     (at : ℕ) {command : RingCommand T}
     → slice_get commands at ≡ Some command
-    → IsFormOf number form m (outcome m (value_at m start (map (whole number) commands) at) (whole number command)) None
+    → LacksInverse m (value_at m start (map (whole number) commands) at) (whole number command)
     → ((j : ℕ) → j < at → LacksInverseAt m start (map (whole number) commands) j → ⊥)
     → IsStop m start (map (whole number) commands) at
-stop_here number form m start commands at {command} read found passed = record {
-  lacks = lacks_at number form m start (map (whole number) commands) at (whole number command)
-      (read_map (whole number) commands at command read) found;
+stop_here number m start commands at {command} read lacks passed = record {
+  lacks = lacks_at m start (map (whole number) commands) at (whole number command)
+      (read_map (whole number) commands at command read) lacks;
   first = passed;
 }
 
-pub returns-in-None-clause-stops : goal.returns-in-None-clause-stops
-returns-in-None-clause-stops g c =
+pub returns-then-not-carry_out-clause-stops : goal.returns-then-not-carry_out-clause-stops
+returns-then-not-carry_out-clause-stops g c =
     let number = g.T.RingWord.number in
     let m = g.R.Reducer.modulus c.args.r.now in
     let start = values_of number g.R.Reducer.value m c.args.regs.now in
     let read = slice_get_read c.args.commands.now _ c.commands.at c.index-commands-at.result refl
     c.commands-test.true c.index-commands-at.is in
-    let found = c.in-None.ensures (value_at m start (map (whole number) c.args.commands.now) c.commands.at)
-    c.commands.invariant.held in
-    stops_at (stop_here number g.R.Reducer.form m start c.args.commands.now c.commands.at read
-    found c.commands.invariant.passed)
+    let told : IsFalse c.carry_out.result = search rules in
+    let lacks = (c.carry_out.ensures.missing (value_at m start (map (whole number) c.args.commands.now) c.commands.at)
+    c.commands.invariant.held).0 told in
+    stops_at (stop_here number m start c.args.commands.now c.commands.at read lacks c.commands.invariant.passed)
 
-pub returns-in-None-clause-done : goal.returns-in-None-clause-done
-returns-in-None-clause-done g c =
+pub returns-then-not-carry_out-clause-done : goal.returns-then-not-carry_out-clause-done
+returns-then-not-carry_out-clause-done g c =
     let number = g.T.RingWord.number in
     let m = g.R.Reducer.modulus c.args.r.now in
     let start = values_of number g.R.Reducer.value m c.args.regs.now in
     let read = slice_get_read c.args.commands.now _ c.commands.at c.index-commands-at.result refl
     c.commands-test.true c.index-commands-at.is in
-    let found = c.in-None.ensures (value_at m start (map (whole number) c.args.commands.now) c.commands.at)
-    c.commands.invariant.held in
-    not_done (stop_here number g.R.Reducer.form m start c.args.commands.now c.commands.at read
-    found c.commands.invariant.passed)
+    let told : IsFalse c.carry_out.result = search rules in
+    let lacks = (c.carry_out.ensures.missing (value_at m start (map (whole number) c.args.commands.now) c.commands.at)
+    c.commands.invariant.held).0 told in
+    not_done (stop_here number m start c.args.commands.now c.commands.at read lacks c.commands.invariant.passed)
 
-pub returns-in-None-clause-values : goal.returns-in-None-clause-values
-returns-in-None-clause-values g c = c.commands.invariant.held
+-- registers that are kept hold what they held
+kept_hold : {T : Type 0} {number : T → ℕ} {form : ℕ → ℕ → ℕ} {m : ℕ} {before after : List T} {v : ℕ → ℕ}
+    → after ≡ before → HoldValues number form m before v → HoldValues number form m after v
+kept_hold {T} {number} {form} {m} {before} {after} {v} kept held =
+    subst (λ l. HoldValues number form m l v) (sym kept) held
 
-pub returns-in-None-clause-checked : goal.returns-in-None-clause-checked
-returns-in-None-clause-checked g c = all_forms (g.met.R.Reducer.canonical c.args.r.now) c.commands.invariant.held
+pub returns-then-not-carry_out-clause-values : goal.returns-then-not-carry_out-clause-values
+returns-then-not-carry_out-clause-values g c =
+    let told : IsFalse c.carry_out.result = search rules in
+    kept_hold (c.carry_out.ensures.kept told) c.commands.invariant.held
 
-pub returns-in-None-clause-residues : goal.returns-in-None-clause-residues
-returns-in-None-clause-residues g c n h =
-    residues_are c.commands.regs (g.met.R.Reducer.canonical c.args.r.now) c.commands.invariant.held n (omega arith)
+pub returns-then-not-carry_out-clause-checked : goal.returns-then-not-carry_out-clause-checked
+returns-then-not-carry_out-clause-checked g c =
+    let told : IsFalse c.carry_out.result = search rules in
+    all_forms (g.met.R.Reducer.canonical c.args.r.now)
+    (kept_hold (c.carry_out.ensures.kept told) c.commands.invariant.held)
 
-pub returns-in-None-clause-read : goal.returns-in-None-clause-read
-returns-in-None-clause-read g c n other h =
-    (g.met.R.Reducer.canonical c.args.r.now).one_value _ _ (c.commands.invariant.held.each n other (omega arith))
+pub returns-then-not-carry_out-clause-residues : goal.returns-then-not-carry_out-clause-residues
+returns-then-not-carry_out-clause-residues g c n h =
+    let told : IsFalse c.carry_out.result = search rules in
+    let held = kept_hold (c.carry_out.ensures.kept told) c.commands.invariant.held in
+    residues_are _ (g.met.R.Reducer.canonical c.args.r.now) held n (omega (arith, c.carry_out.ensures.count))
+
+pub returns-then-not-carry_out-clause-read : goal.returns-then-not-carry_out-clause-read
+returns-then-not-carry_out-clause-read g c n other h =
+    let told : IsFalse c.carry_out.result = search rules in
+    let held = kept_hold (c.carry_out.ensures.kept told) c.commands.invariant.held in
+    (g.met.R.Reducer.canonical c.args.r.now).one_value _ _
+    (held.each n other (omega (arith, c.carry_out.ensures.count)))
 
 -- where none of the commands lacked its inverse, there is no stop
 never : {T : Type 0} (number : T → ℕ) {m at : ℕ} {start : List ℕ} (commands : List (RingCommand T))
