@@ -1,4 +1,4 @@
--- A law of the scaled forms: a proof that the reducer's impl declares. Its name is the library's own.
+-- A law of the scaled forms: a proof that the reducer's impl declares. Its name is the library's own word.
 use Rattle.std.specs.Prelude.{ℕ, ◌*◌, ◌/◌, ◌^◌, ◌<◌}
 use Rattle.std.specs.Int.Count.{count_leading_zeros}
 use Rattle.std.proofs.Common.{ap, ◌∙◌, subst, arith, ◌≤◌}

@@ -1,5 +1,5 @@
 -- Laws of a modulus 2^p - k whose parameters are in range: proofs that the impls declare. The names are the
--- library's own.
+-- library's own words.
 use Rattle.std.proofs.Common.{ℕ, ◌≤◌, arith, lit<}
 use Rattle.std.proofs.Math.Nat.{pow-le-pow_right}
 use Rattle.modular_reduced.specs.Forms.{IsCanonical}

@@ -1,5 +1,5 @@
 -- Laws of a modulus 2^p1 - 2^p2 + k whose parameters are in range: proofs that the impls declare. The names are the
--- library's own.
+-- library's own words.
 use Rattle.std.proofs.Common.{◌≡◌, ℕ, suc, ◌+◌, ◌*◌, ◌%◌, ◌^◌, ◌<◌, ◌≤◌, ℤ, pos}
 use Rattle.std.proofs.Common.{negsuc, ◌+ℤ◌, ◌-ℤ◌, ◌<ℤ◌, nat_abs, arith, lit<, ⊎_elim}
 use Rattle.std.specs.Int.Signed.{pos-nat_abs, yes_non_neg}

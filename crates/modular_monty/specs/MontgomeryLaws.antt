@@ -1,5 +1,5 @@
 -- Laws of Montgomery's representation modulo odd numbers: each value has exactly one form, and each form exactly
--- one value. Proofs that the impls declare; the names are the library's own.
+-- one value. Proofs that the impls declare; the names are the library's own words.
 use Rattle.std.proofs.Common.{◌≡◌, ℕ, suc, zero, ◌+◌, ◌*◌, ◌/◌, ◌%◌, ◌^◌, ◌<◌, sym, ap, ◌∙◌, arith, cond, eqb}
 use Rattle.std.proofs.Math.Nat.{mod-lt, mod-eq_of_lt}
 use Rattle.std.proofs.lemmas.Bool.Decides.{nat_tests}

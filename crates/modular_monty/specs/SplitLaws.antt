@@ -1,5 +1,5 @@
 -- Laws of the forms in two parts: each value has exactly one form, and each form exactly one value. Proofs that the
--- impl declares; the names are the library's own.
+-- impl declares; the names are the library's own words.
 use Rattle.std.proofs.Common.{◌≡◌, ℕ, ◌+◌, ◌-◌, ◌*◌, ◌/◌, ◌%◌, ◌^◌, ◌<◌, ◌≤◌, sym, ap, ap₂, ◌∙◌, arith}
 use Rattle.std.proofs.Math.Nat.{mod-lt, mod-eq_of_lt, div-add-mod, mul-div_cancel, mul-le-mul_right}
 use Rattle.std.proofs.lemmas.Nat.{pow_pos, pow-add, div_below, mul-add-lt, same_from_place}

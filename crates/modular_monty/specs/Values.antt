@@ -1,4 +1,4 @@
--- The value of a form, where only the form of each value is given. The names are the library's own.
+-- The value of a form, where only the form of each value is given. The names are the library's own words.
 use Rattle.std.specs.Prelude.{ℕ, suc, zero, ◌==◌, if◌then◌else◌}
 
 -- the number below the bound whose form is f; the greatest, where there are several

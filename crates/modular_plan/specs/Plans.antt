@@ -1,6 +1,6 @@
 -- Plans of transforms, and remainders of polynomials (Fiduccia, "Polynomial evaluation via the division algorithm";
 -- Bernstein, "Multidigit multiplication for mathematicians", section 2, for the tree of X^n - 1). The names are the
--- library's own.
+-- library's own words.
 use Rattle.std.specs.Prelude.{◌≡◌, ℕ, ◌+◌, ◌-◌, ◌*◌, ◌/◌, ◌%◌, ◌^◌, ◌<◌, List, map, slice_index}
 use Rattle.modular_word.specs.Sums.{sum_below}
 use Rattle.modular_transform.specs.Orders.{bits_reversed}

@@ -1,6 +1,6 @@
 -- The candidates for roots of transforms of n entries modulo m: powers of small numbers to the exponent (m -
 -- 1) / n. For a prime m each root of unity of order n is such a power of a primitive root (Pollard, "The fast Fourier
--- transform in a finite field", section 3). The names are the library's own.
+-- transform in a finite field", section 3). The names are the library's own words.
 use Rattle.std.specs.Prelude.{ℕ, ◌-◌, ◌/◌, ◌%◌, ◌^◌, ◌<◌, ◌≤◌}
 use Rattle.modular_transform.specs.Transforms.{Suits}
 

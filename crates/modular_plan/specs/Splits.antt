@@ -1,7 +1,7 @@
 -- The preconditions and the results of the passes of a split: two stages in one pass, that is radix 4 (Van Loan,
 -- Computational Frameworks for the Fast Fourier Transform, chapter 2), with one factor for each block (Bernstein,
 -- "Multidigit multiplication for mathematicians", section 2) and entries below a multiple of m (Harvey, "Faster
--- arithmetic for number-theoretic transforms", section 3). The names are the library's own.
+-- arithmetic for number-theoretic transforms", section 3). The names are the library's own words.
 use Rattle.std.specs.Prelude.{◌≡◌, ◌≢◌, ℕ, ◌+◌, ◌*◌, ◌/◌, ◌<◌, ◌≤◌, List, All, length}
 use Rattle.std.specs.Int.{IsPowerOfTwo}
 use Rattle.modular_plan.specs.Factors.{IsFactor}

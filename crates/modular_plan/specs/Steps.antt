@@ -1,6 +1,6 @@
 -- The steps of a split in place, and what they share with those of a join: pairs of entries, the blocks that they
 -- form, and stages of blocks (Cooley and Tukey, "An algorithm for the machine calculation of complex Fourier
--- series", 1965). The names are the library's own.
+-- series", 1965). The names are the library's own words.
 use Rattle.std.specs.Prelude.{◌≡◌, ◌≢◌, ℕ, ◌+◌, ◌*◌, ◌^◌, ◌<◌, ◌≤◌}
 use Rattle.modular_word.specs.Congruence.{Congruent}
 use Rattle.modular_word.specs.Sums.{sum_below}

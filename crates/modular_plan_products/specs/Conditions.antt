@@ -1,6 +1,6 @@
 -- The preconditions of the steps of a join: a table of factors, and entries below a multiple of m (Harvey, "Faster
 -- arithmetic for number-theoretic transforms", section 3), in blocks of the tree of remainders (Bernstein,
--- "Multidigit multiplication for mathematicians", section 2). The names are the library's own.
+-- "Multidigit multiplication for mathematicians", section 2). The names are the library's own words.
 use Rattle.std.specs.Prelude.{◌≡◌, ℕ, ◌+◌, ◌*◌, ◌/◌, ◌<◌, ◌≤◌, List, All, length}
 use Rattle.std.specs.Int.{IsPowerOfTwo}
 use Rattle.modular_plan.specs.Factors.{IsFactor}

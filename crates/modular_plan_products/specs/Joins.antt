@@ -1,5 +1,5 @@
 -- The steps of a join in place: pairs and fours of entries, which undo those of a split but for a factor (Gentleman
--- and Sande, "Fast Fourier transforms: for fun and profit", section 2). The names are the library's own.
+-- and Sande, "Fast Fourier transforms: for fun and profit", section 2). The names are the library's own words.
 use Rattle.std.specs.Prelude.{ℕ, ◌+◌, ◌*◌}
 use Rattle.modular_word.specs.Congruence.{Congruent}
 

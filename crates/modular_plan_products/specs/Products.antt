@@ -1,5 +1,5 @@
 -- Products of polynomials modulo X^n - c (Bernstein, "Multidigit multiplication for mathematicians", section 2).
--- The names are the library's own.
+-- The names are the library's own words.
 use Rattle.std.specs.Prelude.{◌≡◌, ℕ, ◌+◌, ◌*◌, ◌%◌, ◌<◌, ◌==◌, if◌then◌else◌}
 use Rattle.modular_word.specs.Sums.{sum_below}
 use Rattle.modular_plan.specs.Plans.{constant}

@@ -1,6 +1,6 @@
 -- The forms of a reducer. Forms and values are whole numbers, without a width. A reducer defines its forms by two
 -- functions: modulo m, `form m v` is the form of the value v, and `value m f` the value of the form f. The names
--- form, checked form and canonical are the library's own, after the Rust crate's `Reducer`.
+-- form, checked form and canonical are the library's own words, after the Rust crate's `Reducer`.
 use Rattle.std.specs.Prelude.{◌≡◌, ℕ, ◌<◌, ◌^◌, Option, MatchOption}
 use Rattle.modular_word.specs.Inverses.{IsInverse}
 

@@ -1,4 +1,4 @@
--- The forms of `Vanilla`: the form of a value is the value itself. The names are the library's own.
+-- The forms of `Vanilla`: the form of a value is the value itself. The names are the library's own words.
 use Rattle.std.specs.Prelude.{ℕ, ◌<◌, ◌≤◌, ◌^◌}
 use Rattle.std.proofs.Common.{arith}
 use Rattle.modular_reduced.specs.Forms.{IsCanonical}

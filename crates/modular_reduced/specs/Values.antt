@@ -1,4 +1,4 @@
--- Lists of forms, and their values. The names are the library's own.
+-- Lists of forms, and their values. The names are the library's own words.
 use Rattle.std.specs.Prelude.{ℕ, ◌<◌, List, map, length, slice_index_or}
 use Rattle.modular_reduced.specs.Forms.{Represents}
 

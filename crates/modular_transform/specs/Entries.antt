@@ -1,5 +1,5 @@
 -- Entries of lists of forms: the value at each index, and how far a loop that writes entry after entry has come.
--- The names are the library's own.
+-- The names are the library's own words.
 use Rattle.std.specs.Prelude.{◌≡◌, ℕ, ◌<◌, ◌≤◌, List, slice_index, slice_index_or}
 use Rattle.modular_reduced.specs.Forms.{IsForm}
 use Rattle.modular_reduced.specs.Values.{values_of}

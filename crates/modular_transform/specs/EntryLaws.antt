@@ -1,5 +1,5 @@
 -- Laws of entries: of reads, of writes, and of lists that hold values. Callers cite them in their lemma files and
--- answers. The names are the library's own.
+-- answers. The names are the library's own words.
 use Rattle.std.proofs.Common.{◌≡◌, ◌≢◌, ℕ, ◌+◌, ◌<◌, ◌≤◌, List, [], ◌∷◌, length, map, get_or, All}
 use Rattle.std.proofs.Common.{inl, inr, sym, ◌∙◌, ap, arith, subst, get_or-set_same, get_or-set_other}
 use Rattle.std.proofs.Math.ListN.{set, length-set}

@@ -1,5 +1,5 @@
 -- The stages of a transform in place: blocks of h + h values, in which the values h apart form pairs (Gentleman and
--- Sande, "Fast Fourier transforms: for fun and profit", section 2). The names are the library's own.
+-- Sande, "Fast Fourier transforms: for fun and profit", section 2). The names are the library's own words.
 use Rattle.std.specs.Prelude.{◌≡◌, ◌≢◌, ℕ, ◌+◌, ◌*◌, ◌%◌, ◌^◌, ◌<◌, ◌≤◌, pos, ◌-ℤ◌}
 use Rattle.modular_word.specs.Congruence.{Congruent}
 use Rattle.modular_word.specs.Residues.{residue}

@@ -1,6 +1,6 @@
 -- The names that proofs of a caller's loops use, in one place: those of forms, entries and inverses with their
 -- laws, those of polynomials by their values, and those of the standard library. The names are those of their
--- files, and the library's own.
+-- files, and the library's own words.
 pub use Rattle.std.proofs.Common.{◌≡◌, ◌≢◌, ◌<◌, ◌≤◌, ◌↔◌, ◌+◌, ◌-◌, ◌*◌, ◌/◌, ◌%◌, ℕ, zero, suc, List, length, All}
 pub use Rattle.std.proofs.Common.{refl, sym, ◌∙◌, ap, subst, inl, inr, arith, mod-eq_of_lt}
 pub use Rattle.modular_word.specs.Inverses.{IsInverse, HasInverse}

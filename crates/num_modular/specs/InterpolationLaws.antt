@@ -1,5 +1,5 @@
 -- Polynomials with n coefficients whose values at n numbers with unit differences are congruent have congruent
--- coefficients: by induction, from a polynomial to its quotient by X - a.
+-- coefficients: by induction, from a polynomial to its quotient by X - a. The names are the library's own words.
 use Rattle.std.proofs.Common.{◌≡◌, ◌≢◌, ℕ, zero, suc, ◌+◌, ◌-◌, ◌*◌, ◌%◌, ◌^◌, ◌<◌, ◌≤◌, pos, ◌-ℤ◌}
 use Rattle.std.proofs.Common.{ap, sym, ◌∙◌, arith, List, length, get_or}
 use Rattle.std.proofs.Math.Nat.{zero-mod}
@@ -184,6 +184,7 @@ descending (suc n) c x =
     let one = ap (λ k. polynomial k c x) (let e : suc n ≡ n + 1 = omega arith in e) in
     omega (arith, i, f, last, next, h, one)
 
+-- the same for polynomials whose highest coefficient is first
 pub same_descending : (m n : ℕ) (c d x : ℕ → ℕ) → HaveUnitDifferences m n x
     → ((i : ℕ) → i < n → polynomial n c (x i) % m ≡ polynomial n d (x i) % m)
     → (i : ℕ) → i < n → c i % m ≡ d i % m

@@ -1,4 +1,4 @@
--- Laws of whole numbers that proofs of callers combine. The names are the library's own.
+-- Laws of whole numbers that proofs of callers combine. The names are the library's own words.
 
 -- congruence: of equal numbers, of a number and its residue, its symmetry and its transitivity
 pub use Rattle.modular_word.proofs.Congruence.{of_equal, itself, residue_of, turned, chained}

@@ -1,4 +1,4 @@
--- Laws of remainders and their products, for proofs of callers. The names are the library's own.
+-- Laws of remainders and their products, for proofs of callers. The names are the library's own words.
 
 -- an entry of a plan, as `num_modular::plans` exports it
 pub use Rattle.modular_plan.specs.declared.modulus.Factor.{Factor}

@@ -1,5 +1,5 @@
 -- Laws of polynomials by their coefficients. Callers cite them in their lemma files and answers. The names are the
--- library's own.
+-- library's own words.
 use Rattle.std.proofs.Common.{◌≡◌, ℕ, zero, suc, ◌+◌, ◌*◌, ◌^◌, ◌<◌, ap, arith}
 use Rattle.std.proofs.Math.Nat.{pow-zero, pow-suc}
 use Rattle.modular_word.specs.Congruence.{Congruent}
@@ -27,12 +27,13 @@ ascending-first (suc n) c x =
     let u = ap (λ k. x * k) (sum_below-suc n (λ i. c (suc i) * x ^ i)) in
     omega (arith, s, i, e, u)
 
--- equal and congruent coefficients
+-- equal coefficients give equal values
 pub ascending-same : (n : ℕ) (c d : ℕ → ℕ) (x : ℕ) → ((i : ℕ) → i < n → c i ≡ d i)
     → ascending_polynomial n c x ≡ ascending_polynomial n d x
 ascending-same n c d x same =
     sum_below-same n (λ i. c i * x ^ i) (λ i. d i * x ^ i) (λ i l. ap (λ k. k * x ^ i) (same i l))
 
+-- congruent coefficients give congruent values at congruent numbers
 pub ascending-congruent : {m : ℕ} (n : ℕ) (c d : ℕ → ℕ) (x y : ℕ) → ((i : ℕ) → i < n → Congruent m (c i) (d i))
     → Congruent m x y → Congruent m (ascending_polynomial n c x) (ascending_polynomial n d y)
 ascending-congruent n c d x y same e =

@@ -1,5 +1,5 @@
 -- Laws of products over a range, and of the inverses of products. Callers cite them in their lemma files and
--- answers. The names are the library's own.
+-- answers. The names are the library's own words.
 use Rattle.std.proofs.Common.{◌≡◌, ◌↔◌, ℕ, zero, suc, ◌+◌, ◌*◌, ◌%◌, ◌<◌, ap}
 use Rattle.std.proofs.Common.{sym, ◌∙◌, arith, refl, inl, inr, subst, add-one}
 use Rattle.std.proofs.Math.Nat.{mod-lt}

@@ -1,5 +1,5 @@
 -- What the program `modrun` prints, and its exit status, for the words after its name. A text is the list of its
--- bytes. The names are the library's own.
+-- bytes. The names are the library's own words.
 use Rattle.std.specs.Prelude.{◌≡◌, ℕ, zero, suc, ◌<◌, List, [], ◌∷◌, ◌++◌, replicate, codes}
 use Rattle.std.specs.Borrow.{Bor}
 use Rattle.std.specs.Fmt.{decimal}

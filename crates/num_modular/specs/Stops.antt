@@ -1,4 +1,4 @@
--- Which inverses the commands of a list need. The names are the library's own.
+-- Which inverses the commands of a list need. The names are the library's own words.
 use Rattle.std.specs.Prelude.{◌≡◌, ℕ, List, slice_get, Option, Some, None, IsSomeAnd}
 use Rattle.num_modular.specs.declared.ring.RingCommand.{RingCommand}
 use Rattle.num_modular.specs.declared.ring.RingCommand.TheVariants.{Inv, Div}

@@ -1,4 +1,4 @@
--- Sums over a range: one term, terms of 0 at the end, bounds.
+-- Sums over a range: one term, terms of 0 at the end, bounds. The names are the library's own words.
 use Rattle.std.proofs.Common.{◌≡◌, ◌≢◌, ℕ, zero, suc, ◌+◌, ◌*◌, ◌<◌, ◌≤◌, ap, ◌∙◌, arith, inl, inr}
 use Rattle.std.proofs.lemmas.Bool.{cases_eq}
 use Rattle.modular_word.specs.Sums.{sum_below}

@@ -1,5 +1,5 @@
--- Products of moduli, and the step of Garner's method: lemmas that callers may cite. The names are the library's own
--- words.
+-- Products of moduli, and the step of Garner's method: lemmas that callers may cite.
+-- The names are the library's own words.
 use Rattle.std.proofs.Common.{◌≡◌, ℕ, zero, suc, ◌+◌, ◌*◌, ◌/◌, ◌%◌, ◌^◌, ◌<◌, ◌≤◌, List, get_or}
 use Rattle.std.proofs.Common.{length, sym, ap, subst, ◌∙◌, refl, arith, ⊎_elim, add-one, Bool, set, below_more}
 use Rattle.std.proofs.Common.{true, false, IsTrue, ◌↔◌, Option, Some, None, is_some, MatchOption}
@@ -12,10 +12,12 @@ use Rattle.modular_word.specs.Divisors.{Coprime, gcd}
 use Rattle.modular_word.specs.Inverses.{IsInverse, HasInverse}
 use Rattle.num_modular.specs.Systems.{product_below, IsSystem}
 
+-- the product of no moduli
 pub product_none : (ms : List ℕ) → product_below 0 ms ≡ 1
 unfolding product_below
 product_none ms = refl
 
+-- the product with one more modulus
 pub product_more : (n : ℕ) (ms : List ℕ) → product_below (n + 1) ms ≡ product_below n ms * get_or ms n 0
 unfolding product_below
 product_more n ms = ap (λ k. product_below k ms) (add-one n)
@@ -48,9 +50,11 @@ grows n (suc k) ms positive h =
     omega (arith, before, mul-le-mul_left (product_below k ms) one))
     (cases_lt k n)
 
+-- congruent numbers differ by multiples of m
 pub spread : (m a b : ℕ) → a % m ≡ b % m → a + m * (b / m) ≡ b + m * (a / m)
 spread m a b e = omega (arith, div-add-mod a m, div-add-mod b m)
 
+-- numbers that differ by multiples of m are congruent
 pub gathered : (m a b j k : ℕ) → a + m * j ≡ b + m * k → a % m ≡ b % m
 gathered m a b j k e = sym (add-mul-mod_self_left a m j) ∙ ap (λ n. n % m) e ∙ add-mul-mod_self_left b m k
 
@@ -66,7 +70,7 @@ product_unit m a b positive (x, p) (y, q) =
       },
     )
 
--- and so has each factor of a number with one
+-- a factor of a number with an inverse has one
 pub factor_unit : (m a b : ℕ) → 0 < m → HasInverse m (a * b) → HasInverse m a
 factor_unit m a b positive (x, p) =
     let turn : a * (b * x) ≡ a * b * x = omega arith in (
@@ -77,9 +81,11 @@ factor_unit m a b positive (x, p) =
       },
     )
 
+-- 1 has an inverse
 pub unit_one : (m : ℕ) → 0 < m → HasInverse m 1
 unit_one m positive = (1 % m, record { below = mod-lt 1 positive; one = mul-mod_second 1 1 m })
 
+-- the product of moduli has an inverse modulo m if each of them has one
 pub unit_of_all : (m n : ℕ) (ms : List ℕ) → 0 < m → ((j : ℕ) → j < n → HasInverse m (get_or ms j 0))
     → HasInverse m (product_below n ms)
 unfolding product_below
@@ -87,6 +93,7 @@ unit_of_all m zero ms positive each = unit_one m positive
 unit_of_all m (suc n) ms positive each =
     product_unit m _ _ positive (unit_of_all m n ms positive (λ j h. each j (omega arith))) (each n (omega arith))
 
+-- if the product of moduli has an inverse modulo m, each of them has one
 pub each_of_unit : (m n j : ℕ) (ms : List ℕ) → 0 < m → HasInverse m (product_below n ms) → j < n
     → HasInverse m (get_or ms j 0)
 each_of_unit m n j ms positive unit h =
@@ -168,6 +175,7 @@ next_fits ms n range e system h =
     let fits : product_below (length ms) ms < 2 ^ 128 = system.fits in
     omega (arith, whole, most, fits)
 
+-- modulo 1, every number is 0
 pub modulo_one : (x : ℕ) → x % 1 ≡ 0
 modulo_one x =
     let one : 0 < 1 = omega arith in

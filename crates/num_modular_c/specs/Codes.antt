@@ -1,4 +1,4 @@
--- The effects of a call that returns a code. The names are the library's own.
+-- The effects of a call that returns a code. The names are the library's own words.
 use Rattle.std.specs.Prelude.{◌≡◌, ℕ, ℤ, Option, MatchOption}
 use Rattle.num_modular_c.specs.declared.codes.TheConstants.{NM_OK, NM_BAD_ARGUMENT}
 

@@ -1,4 +1,4 @@
--- Commands for C as ring commands, and which lists of them a run accepts. The names are the library's own.
+-- Commands for C as ring commands, and which lists of them a run accepts. The names are the library's own words.
 use Rattle.std.specs.Prelude.{◌≡◌, ℕ, ◌%◌, ◌<◌, ◌==◌, if◌then◌else◌, List, length, map, slice_index}
 use Rattle.num_modular.specs.Ring.{value_at, IsFit}
 use Rattle.num_modular.specs.declared.ring.RingCommand.{RingCommand}

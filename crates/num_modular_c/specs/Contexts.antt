@@ -1,4 +1,4 @@
--- What is precomputed of a divisor or a modulus, in words of 64 bits. The names are the library's own.
+-- What is precomputed of a divisor or a modulus, in words of 64 bits. The names are the library's own words.
 use Rattle.std.specs.Prelude.{◌≡◌, ℕ, ◌*◌, ◌^◌}
 use Rattle.std.specs.Int.Count.{count_leading_zeros}
 use Rattle.num_modular.specs.Forms.{IsForm}

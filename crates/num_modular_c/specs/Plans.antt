@@ -1,4 +1,4 @@
--- Plans for C, and the lists of words that calls by a plan accept. The names are the library's own.
+-- Plans for C, and the lists of words that calls by a plan accept. The names are the library's own words.
 use Rattle.std.specs.Prelude.{◌≡◌, ℕ, ◌+◌, ◌*◌, ◌/◌, ◌^◌, ◌<◌, ◌≤◌, List, All, length}
 use Rattle.std.specs.Int.{IsPowerOfTwo}
 use Rattle.modular_plan.specs.Factors.{IsFactor}

@@ -1,4 +1,4 @@
--- Numbers by their residues, for the calls for C. The names are the library's own.
+-- Numbers by their residues, for the calls for C. The names are the library's own words.
 use Rattle.std.specs.Prelude.{◌≡◌, ℕ, ◌<◌, List, length, slice_index}
 use Rattle.num_modular.specs.Systems.{IsSystem, AreResidues, range_of}
 

@@ -1,4 +1,4 @@
--- Lists of words as lists of residues. The names are the library's own.
+-- Lists of words as lists of residues. The names are the library's own words.
 use Rattle.std.specs.Prelude.{◌≡◌, ℕ, ◌%◌, ◌<◌, List, slice_index}
 use Rattle.num_modular.specs.Transforms.{transform, cyclic_product}
 

@@ -46,13 +46,15 @@ isbn_10 = modulo_11 10
 abbrev pub issn : CheckCode
 issn = modulo_11 8
 
--- GTIN-13, GTIN-8 and GTIN-12 (GS1 General Specifications)
+-- GTIN-13 (GS1 General Specifications)
 abbrev pub ean_13 : CheckCode
 ean_13 = gs1 13
 
+-- GTIN-8 (GS1 General Specifications)
 abbrev pub ean_8 : CheckCode
 ean_8 = gs1 8
 
+-- GTIN-12 (GS1 General Specifications)
 abbrev pub upc_a : CheckCode
 upc_a = gs1 12
 
