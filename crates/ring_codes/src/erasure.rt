@@ -397,6 +397,8 @@ pub fn restore_word<T: RingWord, R: Reducer<T>>(
         (entry T.number R.value m points.now) places.now e) }
     ensures checked { IsOk result →
         All (λ f. IsForm R.form R.value (R.modulus r.now) (T.number f)) word.new }
+    ensures forms { IsOk result →
+        All (λ f. IsForm R.form R.value (R.modulus r.now) (T.number f)) message.new }
     ensures encoding { let m = R.modulus r.now in IsOk result →
         IsEncoding m (length message.old) (length points.now) (entry T.number R.value m points.now)
         (entry T.number R.value m message.new) (entry T.number R.value m word.new) }
@@ -407,6 +409,11 @@ pub fn restore_word<T: RingWord, R: Reducer<T>>(
         ((i : ℕ) → i < length message.old →
         entry T.number R.value m symbols.now i ≡ original (slice_index places.now i)) →
         (i : ℕ) → i < length points.now → entry T.number R.value m word.new i ≡ original i }
+    ensures message { let m = R.modulus r.now in IsOk result → (sent word : ℕ → ℕ) →
+        IsEncoding m (length message.old) (length points.now) (entry T.number R.value m points.now) sent word →
+        ((i : ℕ) → i < length message.old →
+        entry T.number R.value m symbols.now i ≡ word (slice_index places.now i)) →
+        (i : ℕ) → i < length message.old → entry T.number R.value m message.new i ≡ sent i % m }
 {
     let chosen = &mut word[..message.len()];
     match restore(r, points, places, symbols, chosen, weights, message) {

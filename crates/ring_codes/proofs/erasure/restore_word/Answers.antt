@@ -50,3 +50,9 @@ returns-in-Ok-clause-original g c t original is read i l =
     let same = ascending-congruent (length c.args.message.now) (entry number ring.value m c.restore.new.message) is.0 a a
     (λ j k. record { same = ap (λ v. v % m) (only j k) ∙ mod-mod (is.0 j) m }) (itself a) in
     (returns-in-Ok-clause-encoding g c refl).symbol i l ∙ same.same ∙ sym (is.1.symbol i l)
+
+pub returns-in-Ok-clause-forms : goal.returns-in-Ok-clause-forms
+returns-in-Ok-clause-forms g c t = c.in-Ok.ensures.checked refl
+
+pub returns-in-Ok-clause-message : goal.returns-in-Ok-clause-message
+returns-in-Ok-clause-message g c t = c.in-Ok.ensures.original refl
