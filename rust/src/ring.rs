@@ -182,7 +182,8 @@ fn quotient<T: RingWord, R: Reducer<T>>(r: &R, a: &T, b: T) -> Option<T> {
 
 // The form that a command writes; `None` exactly where its inverse doesn't exist.
 //
-// Kept out of line, so that the loop of `run` stays small.
+// Kept out of line, so that the loop of `run` stays small. `run` computes sums, differences and products itself; their
+// arms here make the match exhaustive.
 #[inline(never)]
 fn computed_form<T: RingWord, R: Reducer<T>>(
     r: &R,

@@ -117,8 +117,8 @@ fn fold_once<V: FoldWord>(v: V, p: u32, mask: V, c: V) -> V
     v.shift_right(p).multiply_add(c, v.masked(mask))
 }
 
-// A number below 2m of the same remainder modulo m, v being at most a product of two numbers below 2^p: folds in a
-// straight line. No fold tests the number: how many it takes is known from c and p.
+// A number below 2m that is congruent to v modulo m, by folds in straight-line code: c and p alone give their number.
+// Condition: v is at most a product of two numbers below 2^p.
 #[inline(always)]
 fn fold_in_line<V: FoldWord>(v: V, p: u32, c: V, m: V) -> V
     requires folding { IsFolding V.width p (V.number c) (V.number m) }
@@ -150,8 +150,8 @@ fn reduced_last<V: FoldWord>(v: V, m: V) -> V
     if v.is_below(m) { v } else { v.minus(m) }
 }
 
-// The same, where the borrow of v - m is a mask. LLVM computes chains of products side by side in vectors, where a
-// comparison of 64 bits takes longer than this.
+// The same, with the borrow of v - m as a mask. LLVM vectorizes products in independent chains, and a comparison of
+// 64 bits in vectors takes longer than this.
 fn reduced_by_borrow(v: u64, m: u32) -> u32
     requires { v < 2 * m }
     ensures { result ≡ v % m }
@@ -160,7 +160,7 @@ fn reduced_by_borrow(v: u64, m: u32) -> u32
     rest.wrapping_add(borrowed & m)
 }
 
-// v modulo m, where folds at the bit p by c have taken v below 2m: in the faster of the two ways.
+// v modulo m, after folds at the bit p by c: in the faster of the two ways. Condition: v is below 2m.
 #[inline(always)]
 fn reduced_short(v: u64, p: u32, c: u32, m: u32) -> u32
     requires { v < 2 * m }

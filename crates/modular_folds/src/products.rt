@@ -60,8 +60,8 @@ fn product_by_folds<T: PathWord>(a: T, b: T, p: u32, c: T, m: T) -> T
     sum_of_parts(rest.shift_right(T::bits() - p), over.times(c), p, m)
 }
 
-// Whether the words of a product are folded apart, and not the product: c has at most half the bits of p, and a double
-// word is longer than a machine word, or one fold is enough.
+// Whether the two words of a product are folded separately: if c has at most half the bits of p, and either a double
+// word is longer than a machine word or one fold is enough.
 fn is_by_words<T: PathWord>(p: u32, c: T) -> bool
     requires { p ≤ T.width }
     ensures { IsTrue result → T.number c < 2 ^ (p / 2) }

@@ -31,8 +31,8 @@ pub trait FoldWord: Sized + RingWord {
 
     /// The product with a factor, plus a word.
     ///
-    /// A factor next to a power of two takes a shift and two sums, which a chain of folds waits for less long than
-    /// for a product. The sums may wrap, so that LLVM doesn't make them a product again.
+    /// For a factor 2^k + 1 or 2^k - 1 it is a shift and two sums, whose latency is less than that of a product. The
+    /// sums may wrap; LLVM would turn sums that don't back into a product.
     ///
     /// # Preconditions
     ///
