@@ -95,6 +95,14 @@ pub fn recover<T: RingWord, R: Reducer<T>>(
         ((i : ℕ) → i < length coefficients.old →
         entry T.number R.value m shares.now i ≡ word (slice_index places.now i)) →
         R.value m (T.number secret) ≡ original 0 % m) }
+    ensures forms { IsOk result →
+        All (λ f. IsForm R.form R.value (R.modulus r.now) (T.number f)) coefficients.new }
+    ensures coefficients { let m = R.modulus r.now in IsOk result → (original word : ℕ → ℕ) →
+        IsEncoding m (length coefficients.old) (length points.now) (entry T.number R.value m points.now)
+        original word →
+        ((i : ℕ) → i < length coefficients.old →
+        entry T.number R.value m shares.now i ≡ word (slice_index places.now i)) →
+        (i : ℕ) → i < length coefficients.old → entry T.number R.value m coefficients.new i ≡ original i % m }
 {
     match restore(r, points, places, shares, chosen, weights, coefficients) {
         Ok(()) => Ok(coefficients[0]),

@@ -22,3 +22,9 @@ returns-in-Ok-clause-secret g c original word is read =
     entry_read g.T.RingWord.number ring.value m c.restore.new.message 0 c.index-coefficients-0.result
     (omega (arith, c.requires.some)) c.index-coefficients-0.is
     ∙ c.in-Ok.ensures.original refl original word is read 0 (omega (arith, c.requires.some))
+
+pub returns-in-Ok-clause-forms : goal.returns-in-Ok-clause-forms
+returns-in-Ok-clause-forms g c t = c.in-Ok.ensures.checked refl
+
+pub returns-in-Ok-clause-coefficients : goal.returns-in-Ok-clause-coefficients
+returns-in-Ok-clause-coefficients g c t = c.in-Ok.ensures.original refl
