@@ -14,7 +14,7 @@ use crate::{FixedMersenne64, FixedMersenneInt64, ModularInteger};
 pub type Hash = FixedMersenneInt64<61, 1>;
 
 /// A base of hashes: n modulo 2^61 - 1. Two different texts of n bytes have the same hash at fewer than n bases
-/// (`collision_laws`), so a random base distinguishes them with high probability.
+/// (`collision_laws` of the crate `mersenne_hash`), so a random base distinguishes them with high probability.
 pub fn base(n: u64) -> Hash
     ensures { residue_of result ≡ n % mersenne 61 1 }
 {
@@ -68,8 +68,8 @@ fn is_hit(wanted: Hash, window: Hash, text: &[u8], pattern: &[u8], at: usize) ->
 ///
 /// The result is right for every base, because the bytes of a window are compared where its hash is the pattern's.
 /// For a base that is drawn at random after text and pattern are fixed, few other windows have that hash
-/// (`collision_laws`). For the base 0, where the hash is the last byte, or for a text that an adversary chose for
-/// the base, all of them may: no contract bounds the time.
+/// (`collision_laws` of `mersenne_hash`). For the base 0, where the hash is the last byte, or for a text that an
+/// adversary chose for the base, all of them may: no contract bounds the time.
 ///
 /// Source: Karp and Rabin, "Efficient randomized pattern-matching algorithms".
 pub fn find(base: Hash, text: &[u8], pattern: &[u8]) -> Option<usize>

@@ -1,4 +1,4 @@
-//! Runs of commands, what the program prints and answers, transforms beside their plain sums, and plans.
+//! Runs of commands, the output and the exit status of the program, transforms compared with plain sums, and plans.
 
 mod callers;
 mod commands;
