@@ -27,9 +27,10 @@ fn fold<V: FoldWord>(v: V, p: u32, mask: V, c: V) -> (V, u32)
     }
 }
 
-// Two folds, which suffice for a product of two numbers below 2^p where c is 1: a number below 2^p that is
-// congruent to v modulo m, and the number of folds that changed something.
-fn fold_two<V: FoldWord>(v: V, p: u32, mask: V, c: V, m: V) -> (V, u32)
+/// A number below 2^p that is congruent to v modulo m, by two folds, and the number of those that changed something.
+/// The mask is 2^p - 1. Condition: the modulus m is 2^p - c and more than half of 2^p, p is below the width of the
+/// words, c is 1, and v is at most a product of two numbers below 2^p.
+pub fn fold_two<V: FoldWord>(v: V, p: u32, mask: V, c: V, m: V) -> (V, u32)
     requires folding { IsFolding V.width p (V.number c) (V.number m) }
     requires inside { p < V.width }
     requires mask { V.number mask + 1 ≡ 2 ^ p }
@@ -44,9 +45,10 @@ fn fold_two<V: FoldWord>(v: V, p: u32, mask: V, c: V, m: V) -> (V, u32)
     (second, one + two)
 }
 
-// Three folds, which suffice for a product of two numbers below 2^p where c·(c + 1) is at most 2^p: a number below
-// 2^p that is congruent to v modulo m, and the number of folds that changed something.
-fn fold_three<V: FoldWord>(v: V, p: u32, mask: V, c: V, m: V) -> (V, u32)
+/// A number below 2^p that is congruent to v modulo m, by three folds, and the number of those that changed
+/// something. The mask is 2^p - 1. Condition: the modulus m is 2^p - c and more than half of 2^p, p is below the width
+/// of the words, c·(c + 1) is at most 2^p, and v is at most a product of two numbers below 2^p.
+pub fn fold_three<V: FoldWord>(v: V, p: u32, mask: V, c: V, m: V) -> (V, u32)
     requires folding { IsFolding V.width p (V.number c) (V.number m) }
     requires inside { p < V.width }
     requires mask { V.number mask + 1 ≡ 2 ^ p }
@@ -255,6 +257,3 @@ pub fn fold_laws()
         → folds p c (hi * 2 ^ p + lo) ≡ 1 + folds p c (hi * c + lo) }
     ensures few { (p c v : ℕ) → 2 * c < 2 ^ p → IsFewFolds p c v (folds p c v) }
 {}
-
-#[cfg(test)]
-mod tests;

@@ -57,8 +57,8 @@ impl<const N: u8, const K: u8> ProthNumber32<N, K> {
         modulus_32(N, K)
     }
 
-    // The product of x and the modulus, by a product with K and a shift.
-    fn shift_mul(&self, x: u32) -> u64
+    /// The product of x and the modulus, by a product with K and a shift.
+    pub fn shift_mul(&self, x: u32) -> u64
         ensures { result ≡ x * proth_modulus N K }
     {
         ((x as u64 * K as u64) << N) + x as u64
@@ -172,8 +172,8 @@ impl<const N: u8, const K: u8> ProthNumber64<N, K> {
         modulus_64(N, K)
     }
 
-    // The product of x and the modulus, by a product with K and a shift.
-    fn shift_mul(&self, x: u64) -> u128
+    /// The product of x and the modulus, by a product with K and a shift.
+    pub fn shift_mul(&self, x: u64) -> u128
         ensures { result ≡ x * proth_modulus N K }
     {
         ((x as u128 * K as u128) << N) + x as u128
@@ -241,6 +241,3 @@ impl<const N: u8, const K: u8> OddModulus<u64> for ProthNumber64<N, K> {
 
     ghost is_odd_ring = { λ m. m.ring };
 }
-
-#[cfg(test)]
-mod tests;

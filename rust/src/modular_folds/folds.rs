@@ -18,18 +18,30 @@ fn fold<V: FoldWord>(v: V, p: u32, mask: V, c: V) -> (V, u32) {
     }
 }
 
-// Two folds, which suffice for a product of two numbers below 2^p where c is 1: a number below 2^p that is
-// congruent to v modulo m, and the number of folds that changed something.
+/// A number below 2^p that is congruent to v modulo m, by two folds, and the number of those that changed something.
+/// The mask is 2^p - 1.
+///
+/// # Preconditions
+///
+/// The modulus m is 2^p - c and more than half of 2^p, p is below the width of the words, c is 1, and v
+/// is at most a product of two numbers below 2^p. This isn't tested: outside it the call panics, or
+/// returns no meaningful result.
 #[inline]
-fn fold_two<V: FoldWord>(v: V, p: u32, mask: V, c: V, m: V) -> (V, u32) {
+pub fn fold_two<V: FoldWord>(v: V, p: u32, mask: V, c: V, m: V) -> (V, u32) {
     let (first, one) = fold(v, p, mask, c);
     let (second, two) = fold(first, p, mask, c);
     (second, one + two)
 }
 
-// Three folds, which suffice for a product of two numbers below 2^p where c·(c + 1) is at most 2^p: a number below
-// 2^p that is congruent to v modulo m, and the number of folds that changed something.
-fn fold_three<V: FoldWord>(v: V, p: u32, mask: V, c: V, m: V) -> (V, u32) {
+/// A number below 2^p that is congruent to v modulo m, by three folds, and the number of those that changed
+/// something. The mask is 2^p - 1.
+///
+/// # Preconditions
+///
+/// The modulus m is 2^p - c and more than half of 2^p, p is below the width of the words, c·(c + 1) is
+/// at most 2^p, and v is at most a product of two numbers below 2^p. This isn't tested: outside it the
+/// call panics, or returns no meaningful result.
+pub fn fold_three<V: FoldWord>(v: V, p: u32, mask: V, c: V, m: V) -> (V, u32) {
     let (first, one) = fold(v, p, mask, c);
     let (second, two) = fold(first, p, mask, c);
     let (third, three) = fold(second, p, mask, c);
@@ -199,6 +211,3 @@ pub fn reduce_by_folds<T: FoldedWord>(v: T::Double, p: u32, c: T, m: T) -> (T, u
 /// hi·c + lo. Where c is less than half of 2^p, the number of folds is bounded by `IsFewFolds`.
 #[inline]
 pub fn fold_laws() {}
-
-#[cfg(test)]
-mod tests;

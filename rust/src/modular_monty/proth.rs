@@ -44,9 +44,9 @@ impl<const N: u8, const K: u8> ProthNumber32<N, K> {
         modulus_32(N, K)
     }
 
-    // The product of x and the modulus, by a product with K and a shift.
+    /// The product of x and the modulus, by a product with K and a shift.
     #[inline]
-    fn shift_mul(&self, x: u32) -> u64 {
+    pub fn shift_mul(&self, x: u32) -> u64 {
         ((x as u64 * K as u64) << N) + x as u64
     }
 }
@@ -148,9 +148,9 @@ impl<const N: u8, const K: u8> ProthNumber64<N, K> {
         modulus_64(N, K)
     }
 
-    // The product of x and the modulus, by a product with K and a shift.
+    /// The product of x and the modulus, by a product with K and a shift.
     #[inline]
-    fn shift_mul(&self, x: u64) -> u128 {
+    pub fn shift_mul(&self, x: u64) -> u128 {
         ((x as u128 * K as u128) << N) + x as u128
     }
 }
@@ -212,6 +212,3 @@ impl<const N: u8, const K: u8> OddModulus<u64> for ProthNumber64<N, K> {
         reduce_by(m, t, x, self.shift_mul(x))
     }
 }
-
-#[cfg(test)]
-mod tests;

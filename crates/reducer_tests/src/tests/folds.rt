@@ -1,4 +1,5 @@
 //! Known values of the reducers by folds and of their reductions.
 
 mod mersenne;
+mod reductions;
 mod solinas;

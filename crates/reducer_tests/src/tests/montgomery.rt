@@ -4,3 +4,4 @@ mod any_modulus;
 mod fixed;
 mod proth;
 mod restored;
+mod shifted;

@@ -1,14 +1,14 @@
 //! Known values of Proth's product with the modulus, and the sizes of the reducers of fixed moduli.
 
-use super::{FixedProth32, FixedProth64};
-use crate::fixed::{FixedMontgomery32, FixedMontgomery64};
-use modular_reduced::reducer::Reducer;
+use modular_monty::fixed::{FixedMontgomery32, FixedMontgomery64};
+use modular_monty::odd_ring::OddModulus;
+use modular_monty::proth::{FixedProth32, FixedProth64, ProthNumber32};
 use std::mem::size_of;
 
 #[test]
 fn a_product_with_the_modulus(rt: HostRuntime) {
-    let ring = FixedProth32::<27, 17>::new(&2281701377);
-    assert!(rt; ring.kept.shift_mul(4294967295) == 9799832791171465215);
+    let number = ProthNumber32::<27, 17>::keep(2281701377);
+    assert!(rt; number.shift_mul(4294967295) == 9799832791171465215);
 }
 
 #[test]

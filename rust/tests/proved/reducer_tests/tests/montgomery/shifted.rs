@@ -1,14 +1,14 @@
 //! Known values of Proth's product with the modulus, and the sizes of the reducers of fixed moduli.
 
-use super::{FixedProth32, FixedProth64};
-use crate::modular_monty::fixed::{FixedMontgomery32, FixedMontgomery64};
-use crate::modular_reduced::reducer::Reducer;
-use core::mem::size_of;
+use num_modular::modular_monty::fixed::{FixedMontgomery32, FixedMontgomery64};
+use num_modular::modular_monty::odd_ring::OddModulus;
+use num_modular::modular_monty::proth::{FixedProth32, FixedProth64, ProthNumber32};
+use std::mem::size_of;
 
 #[test]
 fn a_product_with_the_modulus() {
-    let ring = FixedProth32::<27, 17>::new(&2281701377);
-    assert!(ring.kept.shift_mul(4294967295) == 9799832791171465215);
+    let number = ProthNumber32::<27, 17>::keep(2281701377);
+    assert!(number.shift_mul(4294967295) == 9799832791171465215);
 }
 
 #[test]

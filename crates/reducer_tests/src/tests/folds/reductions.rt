@@ -1,6 +1,6 @@
-//! Known values of the reduction.
+//! Known values of reductions by folds, and of folds in a straight line.
 
-use super::{fold_all, fold_three, fold_two, reduce_by_folds};
+use modular_folds::folds::{fold_all, fold_three, fold_two, reduce_by_folds};
 
 #[test]
 fn greatest_dividends(rt: HostRuntime) {
