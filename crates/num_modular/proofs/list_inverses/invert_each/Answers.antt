@@ -1,5 +1,5 @@
 use Rattle.num_modular.specs.Callers.{◌≡◌, ℕ, ◌+◌, ◌-◌, length, ◌∙◌, arith, refl, entry_at, forms_written, done_before}
-use Rattle.num_modular.specs.Callers.{no_inverse, inverse_before, inverse_last}
+use Rattle.num_modular.specs.Callers.{no_inverse, inverse_before, inverse_last, entry, hold_more, product_step}
 use Rattle.num_modular.proofs.list_inverses.invert_each.Goals as goal
 
 pub returns-in_default-clause-each : goal.returns-in_default-clause-each
@@ -24,3 +24,15 @@ backward-preserved g c =
 
 pub returns-clause-each : goal.returns-clause-each
 returns-clause-each g c = (λ t i l. (_, c.backward.invariant.3.done i (omega arith) l), λ each. refl)
+
+pub forward-preserved : goal.forward-preserved
+forward-preserved g c =
+    let ring = g.R.Reducer in let m = ring.modulus c.args.r.now in let number = g.T.RingWord.number in
+    let forms = c.args.forms.now in let i : ℕ = c.forward.i in let so_far = c.forward.invariant in
+    let f = entry number ring.value m forms in
+    let read = entry_at number ring.value m forms i _ (omega arith) in
+    let is = c.mul-product.ensures.value ∙ product_step m i _ _ f so_far.0.same read in (
+      record { checked = c.mul-product.ensures.checked; same = is },
+      hold_more number ring.form ring.value m c.forward.products i c.forward.product _ (omega arith) so_far.1
+          so_far.0.checked so_far.0.same,
+    )
