@@ -1,3 +1,5 @@
+use Rattle.std.proofs.Common.{◌<◌, ◌*◌, ◌+◌, length, arith}
+use Rattle.modular_transform.specs.EntryLaws.{form_read}
 use Rattle.modular_transform.proofs.FourValues.{four_checked, four_written}
 use Rattle.modular_transform.proofs.two_stages.four.Goals as goal
 
@@ -30,3 +32,67 @@ mul_difference-requires-clause-factor g c = c.requires.powers.both
 
 pub mul_difference-requires-2-clause-factor : goal.mul_difference-requires-2-clause-factor
 mul_difference-requires-2-clause-factor g c = c.requires.powers.both
+
+pub add-left-requires-clause-left : goal.add-left-requires-clause-left
+add-left-requires-clause-left g c =
+    form_read g.T.RingWord.number g.R.Reducer.form g.R.Reducer.value _ c.args.forms.now _ _ c.requires.checked
+    (omega (arith, c.requires.within.1)) c.index-forms-place.is
+
+pub add-left-requires-clause-right : goal.add-left-requires-clause-right
+add-left-requires-clause-right g c =
+    form_read g.T.RingWord.number g.R.Reducer.form g.R.Reducer.value _ c.args.forms.now _ _ c.requires.checked
+    (omega (arith, c.requires.within.1)) c.index-forms-place-3.is
+
+pub add-right-requires-clause-left : goal.add-right-requires-clause-left
+add-right-requires-clause-left g c =
+    form_read g.T.RingWord.number g.R.Reducer.form g.R.Reducer.value _ c.args.forms.now _ _ c.requires.checked
+    (omega (arith, c.requires.within.1)) c.index-forms-place-2.is
+
+pub add-right-requires-clause-right : goal.add-right-requires-clause-right
+add-right-requires-clause-right g c =
+    form_read g.T.RingWord.number g.R.Reducer.form g.R.Reducer.value _ c.args.forms.now _ _ c.requires.checked
+    (omega (arith, c.requires.within.1)) c.index-forms-place-4.is
+
+pub mul_difference-left_turned-requires-clause-left : goal.mul_difference-left_turned-requires-clause-left
+mul_difference-left_turned-requires-clause-left g c =
+    form_read g.T.RingWord.number g.R.Reducer.form g.R.Reducer.value _ c.args.forms.now _ _ c.requires.checked
+    (omega (arith, c.requires.within.1)) c.index-forms-place.is
+
+pub mul_difference-left_turned-requires-clause-right : goal.mul_difference-left_turned-requires-clause-right
+mul_difference-left_turned-requires-clause-right g c =
+    form_read g.T.RingWord.number g.R.Reducer.form g.R.Reducer.value _ c.args.forms.now _ _ c.requires.checked
+    (omega (arith, c.requires.within.1)) c.index-forms-place-3.is
+
+pub mul_difference-right_turned-requires-clause-left : goal.mul_difference-right_turned-requires-clause-left
+mul_difference-right_turned-requires-clause-left g c =
+    form_read g.T.RingWord.number g.R.Reducer.form g.R.Reducer.value _ c.args.forms.now _ _ c.requires.checked
+    (omega (arith, c.requires.within.1)) c.index-forms-place-2.is
+
+pub mul_difference-right_turned-requires-clause-right : goal.mul_difference-right_turned-requires-clause-right
+mul_difference-right_turned-requires-clause-right g c =
+    form_read g.T.RingWord.number g.R.Reducer.form g.R.Reducer.value _ c.args.forms.now _ _ c.requires.checked
+    (omega (arith, c.requires.within.1)) c.index-forms-place-4.is
+
+pub add-requires-clause-left : goal.add-requires-clause-left
+add-requires-clause-left g c = c.add-left.ensures.checked
+
+pub add-requires-clause-right : goal.add-requires-clause-right
+add-requires-clause-right g c = c.add-right.ensures.checked
+
+pub mul_difference-requires-clause-left : goal.mul_difference-requires-clause-left
+mul_difference-requires-clause-left g c = c.add-left.ensures.checked
+
+pub mul_difference-requires-clause-right : goal.mul_difference-requires-clause-right
+mul_difference-requires-clause-right g c = c.add-right.ensures.checked
+
+pub add-requires-2-clause-left : goal.add-requires-2-clause-left
+add-requires-2-clause-left g c = c.mul_difference-left_turned.ensures.checked
+
+pub add-requires-2-clause-right : goal.add-requires-2-clause-right
+add-requires-2-clause-right g c = c.mul_difference-right_turned.ensures.checked
+
+pub mul_difference-requires-2-clause-left : goal.mul_difference-requires-2-clause-left
+mul_difference-requires-2-clause-left g c = c.mul_difference-left_turned.ensures.checked
+
+pub mul_difference-requires-2-clause-right : goal.mul_difference-requires-2-clause-right
+mul_difference-requires-2-clause-right g c = c.mul_difference-right_turned.ensures.checked
