@@ -1,3 +1,4 @@
+use Rattle.modular_transform.specs.EntryLaws.{form_read}
 use Rattle.std.proofs.Common.{◌*◌, ◌%◌, ◌<◌, length, ◌∙◌, ap, arith}
 use Rattle.modular_transform.proofs.ValueLemmas.{values}
 use Rattle.modular_transform.proofs.ValueLemmas.{value_read, value_at, forms_written, entry_done, entry_kept}
@@ -26,3 +27,14 @@ entries-preserved g c =
       done = entry_done number value m xs i c.mul.result (λ k. (old k * y k) % m) within before.done is;
       kept = entry_kept number value m xs i c.mul.result old before.kept;
     }
+
+pub mul-requires-clause-left : goal.mul-requires-clause-left
+mul-requires-clause-left g c = c.entries.invariant.checked _ _ (omega arith)
+
+pub mul-requires-clause-right : goal.mul-requires-clause-right
+mul-requires-clause-right g c =
+    form_read g.T.RingWord.number g.R.Reducer.form g.R.Reducer.value _ c.args.ys.now _ _ c.requires.checked_ys
+    (omega arith) c.index-ys-i.is
+
+pub returns-clause-checked : goal.returns-clause-checked
+returns-clause-checked g c = c.entries.invariant.checked

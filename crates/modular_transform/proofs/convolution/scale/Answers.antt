@@ -23,3 +23,12 @@ entries-preserved g c =
       done = entry_done number value m xs i c.mul.result (λ k. (old k * factor) % m) within before.done is;
       kept = entry_kept number value m xs i c.mul.result old before.kept;
     }
+
+pub mul-requires-clause-left : goal.mul-requires-clause-left
+mul-requires-clause-left g c = c.entries.invariant.checked _ _ (omega arith)
+
+pub mul-requires-clause-right : goal.mul-requires-clause-right
+mul-requires-clause-right g c = c.requires.factor
+
+pub returns-clause-checked : goal.returns-clause-checked
+returns-clause-checked g c = c.entries.invariant.checked

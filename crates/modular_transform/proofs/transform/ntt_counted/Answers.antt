@@ -396,3 +396,9 @@ offset_bounds-roots-stages g c =
     let same = c.passes.auto.xs in
     let within : trailing_zeros w64 (length c.args.xs.now) - 2 < length c.passes.xs = omega (arith, two, many, whole, same) in
     search rules
+
+pub stage-requires-clause-checked : goal.stage-requires-clause-checked
+stage-requires-clause-checked g c = c.requires.checked
+
+pub two_stages-products-requires-clause-checked : goal.two_stages-products-requires-clause-checked
+two_stages-products-requires-clause-checked g c = c.passes.invariant.checked
