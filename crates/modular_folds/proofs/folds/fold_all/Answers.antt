@@ -22,3 +22,24 @@ returns-then-not-is_below-clause-count g c =
 
 pub returns-then-is_below : goal.returns-then-is_below
 returns-then-is_below g c = c.fold_on.ensures
+
+pub returns-then-eq : goal.returns-then-eq
+returns-then-eq g c = c.fold_two.ensures
+
+pub returns-then-is_zero_word : goal.returns-then-is_zero_word
+returns-then-is_zero_word g c = c.fold_three.ensures
+
+pub returns : goal.returns
+returns g c = c.fold_on-2.ensures
+
+pub fold_on-requires-clause-folding : goal.fold_on-requires-clause-folding
+fold_on-requires-clause-folding g c = c.requires
+
+pub fold_two-requires-clause-folding : goal.fold_two-requires-clause-folding
+fold_two-requires-clause-folding g c = c.requires
+
+pub fold_three-requires-clause-folding : goal.fold_three-requires-clause-folding
+fold_three-requires-clause-folding g c = c.requires
+
+pub fold_on-requires-2-clause-folding : goal.fold_on-requires-2-clause-folding
+fold_on-requires-2-clause-folding g c = c.requires

@@ -28,3 +28,12 @@ returns-clause-count g c =
     let n = g.V.RingWord.number in
     let low : n c.folds.rest < 2 ^ c.args.p = grind (arith, c.is_below.ensures.below, c.folds-test.false) in
     omega (arith, c.folds.invariant.count, folds-none c.args.p (n c.args.c) (n c.folds.rest) low)
+
+pub fold-next-requires-clause-mask : goal.fold-next-requires-clause-mask
+fold-next-requires-clause-mask g c = c.requires.mask
+
+pub returns-clause-below : goal.returns-clause-below
+returns-clause-below g c = grind (arith, c.is_below.ensures.below, c.folds-test.false, c.requires.mask)
+
+pub returns-clause-same : goal.returns-clause-same
+returns-clause-same g c = c.folds.invariant.same
