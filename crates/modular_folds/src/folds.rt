@@ -4,6 +4,7 @@ ghost use Rattle.std.specs.Prelude.{◌≡◌, ℕ, ◌+◌, ◌*◌, ◌/◌, �
 ghost use Rattle.modular_folds.specs.Folds.{fold_of, folds, IsFewFolds, IsFolding};
 
 use crate::fold_word::FoldWord;
+use modular_prim::below::reduced_once;
 use modular_prim::plain_word::PlainWord;
 use modular_word::path_word::PathWord;
 use modular_word::ring_word::RingWord;
@@ -192,6 +193,15 @@ pub trait FoldedWord: PlainWord {
         requires small { 4 * Self.number c ≤ 2 ^ p }
         requires product { Self.double_number v / 2 ^ p < 2 ^ p }
         ensures { Self.number result ≡ Self.double_number v % Self.number m };
+
+    /// The residue of a + b, where m is at most 2^p. Conditions: b is at most m, and the sum below 2m.
+    ///
+    /// Where p is less than the width, the sum fits a word, which saves a carry.
+    fn sum_of_parts(a: Self, b: Self, p: u32, m: Self) -> Self
+        requires bound { Self.number m ≤ 2 ^ p }
+        requires most { Self.number b ≤ Self.number m }
+        requires twice { Self.number a + Self.number b < 2 * Self.number m }
+        ensures { Self.number result ≡ (Self.number a + Self.number b) % Self.number m };
 }
 
 impl FoldedWord for u32 {
@@ -203,6 +213,14 @@ impl FoldedWord for u32 {
     #[inline(always)]
     fn reduce_in_line(v: u64, p: u32, c: u32, m: u32) -> u32 {
         reduced_short(fold_in_line(v, p, c as u64, m as u64), p, c, m)
+    }
+
+    fn sum_of_parts(a: u32, b: u32, p: u32, m: u32) -> u32 {
+        if p < 32 {
+            reduced_once(a + b, m)
+        } else {
+            sum_once(a, b, m)
+        }
     }
 }
 
@@ -216,6 +234,19 @@ impl FoldedWord for u64 {
     fn reduce_in_line(v: u128, p: u32, c: u64, m: u64) -> u64 {
         let m = m as u128;
         reduced_last(fold_in_line(v, p, c as u128, m), m) as u64
+    }
+
+    // The borrow of a difference of double words chooses. LLVM vectorizes products in independent chains, and a
+    // comparison of 64 bits in vectors takes longer than this.
+    #[inline(always)]
+    fn sum_of_parts(a: u64, b: u64, p: u32, m: u64) -> u64 {
+        let sum = if p < 64 {
+            (a + b) as u128
+        } else {
+            a as u128 + b as u128
+        };
+        let (rest, borrowed) = <u64 as PathWord>::split(sum.wrapping_sub(m as u128));
+        if borrowed == 0 { rest } else { sum as u64 }
     }
 }
 

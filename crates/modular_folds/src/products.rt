@@ -4,7 +4,7 @@
 ghost use Rattle.std.specs.Prelude.{◌≡◌, ℕ, ◌+◌, ◌-◌, ◌*◌, ◌/◌, ◌%◌, ◌^◌, ◌<◌, ◌≤◌, IsTrue};
 ghost use Rattle.modular_folds.specs.Folds.{fold_of, IsFolding};
 
-use crate::folds::{FoldedWord, reduce_by_folds, sum_once};
+use crate::folds::{FoldedWord, reduce_by_folds};
 use modular_prim::below::reduced_once;
 use modular_word::path_word::PathWord;
 use modular_word::ring_word::RingWord;
@@ -25,27 +25,11 @@ fn fold_parts<T: PathWord>(low: T, high: T, p: u32, c: T) -> (T, T)
     T::split(T::double_plus(scaled, T::merge(low, T::zero())))
 }
 
-// The residue of a + b, where m is at most 2^p. Condition: b is at most m, and the sum below 2m.
-//
-// Where p is less than the width, the sum fits a word, which saves a subtraction.
-fn sum_of_parts<T: PathWord>(a: T, b: T, p: u32, m: T) -> T
-    requires bound { T.number m ≤ 2 ^ p }
-    requires most { T.number b ≤ T.number m }
-    requires twice { T.number a + T.number b < 2 * T.number m }
-    ensures { T.number result ≡ (T.number a + T.number b) % T.number m }
-{
-    if p < T::bits() {
-        reduced_once(a.plus(b), m)
-    } else {
-        sum_once(a, b, m)
-    }
-}
-
 // a·b modulo m, where m is 2^p - c. Condition: a and b are below m, and c has at most half the bits of p.
 //
 // For c = 1 one fold leaves two words whose sum is below 2m. For a greater c, the part above the bit p is at most c
 // after one fold, so that the second fold needs no double words.
-fn product_by_folds<T: PathWord>(a: T, b: T, p: u32, c: T, m: T) -> T
+fn product_by_folds<T: FoldedWord>(a: T, b: T, p: u32, c: T, m: T) -> T
     requires folding { IsFolding T.width p (T.number c) (T.number m) }
     requires small { T.number c < 2 ^ (p / 2) }
     requires left { T.number a < T.number m }
@@ -54,10 +38,10 @@ fn product_by_folds<T: PathWord>(a: T, b: T, p: u32, c: T, m: T) -> T
 {
     let (low, high) = fold_parts(T::zero(), a, p, b);
     if c == T::one() {
-        return sum_of_parts(high, low.shift_right(T::bits() - p), p, m);
+        return T::sum_of_parts(high, low.shift_right(T::bits() - p), p, m);
     }
     let (rest, over) = fold_parts(low, high, p, c);
-    sum_of_parts(rest.shift_right(T::bits() - p), over.times(c), p, m)
+    T::sum_of_parts(rest.shift_right(T::bits() - p), over.times(c), p, m)
 }
 
 // Whether the two words of a product are folded separately: if c has at most half the bits of p, and either a double

@@ -1,6 +1,7 @@
 //! Reduction by folds, for every modulus near a power of two and both widths of dividends.
 
 use crate::modular_folds::fold_word::FoldWord;
+use crate::modular_prim::below::reduced_once;
 use crate::modular_prim::plain_word::PlainWord;
 use crate::modular_word::path_word::PathWord;
 use crate::modular_word::ring_word::RingWord;
@@ -151,6 +152,17 @@ pub trait FoldedWord: Sized + PlainWord {
     /// panics, or returns no meaningful result.
     #[must_use]
     fn reduce_in_line(v: Self::Double, p: u32, c: Self, m: Self) -> Self;
+
+    /// The residue of a + b, where m is at most 2^p.
+    ///
+    /// Where p is less than the width, the sum fits a word, which saves a carry.
+    ///
+    /// # Preconditions
+    ///
+    /// B is at most m, and the sum below 2m. This isn't tested: outside it the call panics, or returns no
+    /// meaningful result.
+    #[must_use]
+    fn sum_of_parts(a: Self, b: Self, p: u32, m: Self) -> Self;
 }
 
 impl FoldedWord for u32 {
@@ -163,6 +175,15 @@ impl FoldedWord for u32 {
     #[inline(always)]
     fn reduce_in_line(v: u64, p: u32, c: u32, m: u32) -> u32 {
         reduced_short(fold_in_line(v, p, c as u64, m as u64), p, c, m)
+    }
+
+    #[inline]
+    fn sum_of_parts(a: u32, b: u32, p: u32, m: u32) -> u32 {
+        if p < 32 {
+            reduced_once(a + b, m)
+        } else {
+            sum_once(a, b, m)
+        }
     }
 }
 
@@ -177,6 +198,19 @@ impl FoldedWord for u64 {
     fn reduce_in_line(v: u128, p: u32, c: u64, m: u64) -> u64 {
         let m = m as u128;
         reduced_last(fold_in_line(v, p, c as u128, m), m) as u64
+    }
+
+    // The borrow of a difference of double words chooses. LLVM vectorizes products in independent chains, and a
+    // comparison of 64 bits in vectors takes longer than this.
+    #[inline(always)]
+    fn sum_of_parts(a: u64, b: u64, p: u32, m: u64) -> u64 {
+        let sum = if p < 64 {
+            (a + b) as u128
+        } else {
+            a as u128 + b as u128
+        };
+        let (rest, borrowed) = <u64 as PathWord>::split(sum.wrapping_sub(m as u128));
+        if borrowed == 0 { rest } else { sum as u64 }
     }
 }
 

@@ -1,7 +1,7 @@
 //! Words and products of words below m, modulo an m near a power of two: by folds of their parts, without
 //! comparisons of the numbers.
 
-use crate::modular_folds::folds::{FoldedWord, reduce_by_folds, sum_once};
+use crate::modular_folds::folds::{FoldedWord, reduce_by_folds};
 use crate::modular_prim::below::reduced_once;
 use crate::modular_word::path_word::PathWord;
 use crate::modular_word::ring_word::RingWord;
@@ -14,29 +14,17 @@ fn fold_parts<T: PathWord>(low: T, high: T, p: u32, c: T) -> (T, T) {
     T::split(T::double_plus(scaled, T::merge(low, T::zero())))
 }
 
-// The residue of a + b, where m is at most 2^p. Condition: b is at most m, and the sum below 2m.
-//
-// Where p is less than the width, the sum fits a word, which saves a subtraction.
-#[inline]
-fn sum_of_parts<T: PathWord>(a: T, b: T, p: u32, m: T) -> T {
-    if p < T::bits() {
-        reduced_once(a.plus(b), m)
-    } else {
-        sum_once(a, b, m)
-    }
-}
-
 // a·b modulo m, where m is 2^p - c. Condition: a and b are below m, and c has at most half the bits of p.
 //
 // For c = 1 one fold leaves two words whose sum is below 2m. For a greater c, the part above the bit p is at most c
 // after one fold, so that the second fold needs no double words.
-fn product_by_folds<T: PathWord>(a: T, b: T, p: u32, c: T, m: T) -> T {
+fn product_by_folds<T: FoldedWord>(a: T, b: T, p: u32, c: T, m: T) -> T {
     let (low, high) = fold_parts(T::zero(), a, p, b);
     if c == T::one() {
-        return sum_of_parts(high, low.shift_right(T::bits() - p), p, m);
+        return T::sum_of_parts(high, low.shift_right(T::bits() - p), p, m);
     }
     let (rest, over) = fold_parts(low, high, p, c);
-    sum_of_parts(rest.shift_right(T::bits() - p), over.times(c), p, m)
+    T::sum_of_parts(rest.shift_right(T::bits() - p), over.times(c), p, m)
 }
 
 // Whether the two words of a product are folded separately: if c has at most half the bits of p, and either a double
