@@ -1,6 +1,6 @@
 -- The steps of Euclid's loop with the magnitudes of the coefficients, whose signs alternate.
 use Rattle.std.proofs.Common.{◌≡◌, ℕ, Bool, true, false, not, ◌+◌, ◌-◌, ◌*◌, ◌/◌, ◌%◌}
-use Rattle.std.proofs.Common.{◌<◌, ◌≤◌, pos, neg_ℤ, sym, ap, ◌∙◌, subst, arith, ⊎_elim}
+use Rattle.std.proofs.Common.{◌<◌, ◌≤◌, pos, neg_ℤ, sym, refl, ap, ◌∙◌, subst, arith, ⊎_elim}
 use Rattle.std.specs.Int.{IsGcd}
 use Rattle.std.proofs.Math.Nat.{mod-lt, mod-eq_of_lt, div-add-mod, mod-add-mod, add-mul-mod_self_left}
 use Rattle.std.proofs.Math.Nat.{mod-mod_of_dvd, le_of_dvd, mul-le-mul_left, mul-le-mul_right}
@@ -44,7 +44,7 @@ euclid_start a m r z o h er ez eo =
     }
 
 -- the products of a step and the next coefficient are at most m
-pub euclid_fits : (a m last_r r last_t t q : ℕ) (odd : Bool) → Euclid a m last_r r last_t t odd → 0 < r → q ≡ last_r / r
+euclid_fits : (a m last_r r last_t t q : ℕ) (odd : Bool) → Euclid a m last_r r last_t t odd → 0 < r → q ≡ last_r / r
     → (q * r ≤ last_r) × (last_t + q * t ≤ m) × (last_r ≤ m)
 euclid_fits a m last_r r last_t t q odd s hr eq =
     let f : r * (last_r / r) + last_r % r ≡ last_r = div-add-mod last_r r in
@@ -73,13 +73,13 @@ leaves_twice m a t r true l = l
 leaves_twice m a t r false l = l
 
 -- what a step leaves is the remainder
-pub rest_is : (u v q rest : ℕ) → q ≡ u / v → rest + q * v ≡ u → rest ≡ u % v
+rest_is : (u v q rest : ℕ) → q ≡ u / v → rest + q * v ≡ u → rest ≡ u % v
 rest_is u v q rest e f =
     let d : v * (u / v) + u % v ≡ u = div-add-mod u v in
     let g : v * q ≡ v * (u / v) = ap (λ n. v * n) e in
     omega arith
 
-pub euclid_step : (a m last_r r last_t t next q rest : ℕ) (odd : Bool) → Euclid a m last_r r last_t t odd
+euclid_step : (a m last_r r last_t t next q rest : ℕ) (odd : Bool) → Euclid a m last_r r last_t t odd
     → 0 < r → q ≡ last_r / r → rest + q * r ≡ last_r → next ≡ last_t + q * t
     → Euclid a m r rest t next (not odd)
 euclid_step a m last_r r last_t t next q rest odd s hr eq erest enext =
@@ -102,6 +102,18 @@ euclid_step a m last_r r last_t t next q rest odd s hr eq erest enext =
           (leaves_next m a q t r last_t last_r rest odd erest s.last s.current));
       common = λ g h. s.common g (IsGcd-from_mod last_r r g (let P : ℕ → Type 0 = λ n. IsGcd r n g in subst P left h));
     }
+
+-- the next coefficient is at most m
+pub next_fits : {a m last_r r last_t t : ℕ} {odd : Bool} → Euclid a m last_r r last_t t odd → 0 < r
+    → last_t + last_r / r * t ≤ m
+next_fits {a} {m} {last_r} {r} {last_t} {t} {odd} s hr = (euclid_fits a m last_r r last_t t (last_r / r) odd s hr refl).1
+
+-- the loop keeps its numbers over a division
+pub next_step : {a m last_r r last_t t next rest : ℕ} {odd : Bool} → Euclid a m last_r r last_t t odd → 0 < r
+    → rest ≡ last_r % r → next ≡ last_t + last_r / r * t → Euclid a m r rest t next (not odd)
+next_step {a} {m} {last_r} {r} {last_t} {t} {next} {rest} {odd} s hr left is =
+    let whole : r * (last_r / r) + last_r % r ≡ last_r = div-add-mod last_r r in
+    euclid_step a m last_r r last_t t next (last_r / r) rest odd s hr refl (omega arith) is
 
 -- at the end, where the last remainder is 1, the coefficient of a positive sign is the inverse
 pub euclid_found : (a m last_r r last_t t : ℕ) (odd : Bool) → Euclid a m last_r r last_t t odd → odd ≡ true → last_r ≤ 1

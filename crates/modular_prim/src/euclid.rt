@@ -1,6 +1,6 @@
 //! The inverse modulo m by Euclid's algorithm, with the number of its divisions.
 
-ghost use Rattle.std.specs.Prelude.{◌≡◌, ℕ, ◌+◌, ◌*◌, ◌%◌, ◌^◌, ◌<◌, ◌≤◌};
+ghost use Rattle.std.specs.Prelude.{◌≡◌, ℕ, ◌+◌, ◌*◌, ◌/◌, ◌%◌, ◌^◌, ◌<◌, ◌≤◌};
 ghost use Rattle.modular_prim.specs.Divisions.{divisions, inverse_divisions};
 ghost use Rattle.modular_word.specs.Inverses.{IsInversion};
 
@@ -9,6 +9,19 @@ use crate::digits::division;
 use crate::plain_word::PlainWord;
 use modular_word::path_word::PathWord;
 use modular_word::ring_word::RingWord;
+
+// A division of Euclid's algorithm: the remainder of last_r by r, and the coefficient that belongs to it. Conditions:
+// r is at least 1, and the coefficient fits a word.
+#[inline(always)]
+fn step<T: PlainWord>(last_r: T, r: T, last_t: T, t: T) -> (T, T)
+    requires some { 1 ≤ T.number r }
+    requires fits { T.number last_t + T.number last_r / T.number r * T.number t < T.base }
+    ensures rest { T.number result.0 ≡ T.number last_r % T.number r }
+    ensures coefficient { T.number result.1 ≡ T.number last_t + T.number last_r / T.number r * T.number t }
+{
+    let (quotient, rest) = division(last_r, r);
+    (rest, last_t.plus(quotient.times(t)))
+}
 
 /// The inverse of a modulo m, below m; `None` exactly where there is none. Condition: m is at least 1; a may be
 /// above it.
@@ -25,8 +38,9 @@ pub fn invm<T: PlainWord>(a: T, m: T) -> Option<T>
 /// m is at least 1; a may be above it.
 ///
 /// Source: Knuth, "The Art of Computer Programming", section 4.5.2, algorithm X, for one of the two coefficients.
-/// Their signs alternate, so only magnitudes are kept, which are at most m. A number below m isn't reduced first;
-/// that division is neither made nor counted.
+/// Their signs alternate, so only magnitudes are kept, which are at most m. A turn of the loop makes two divisions, so
+/// that the sign is known and no number is copied. A number below m isn't reduced first; that division is neither made
+/// nor counted.
 pub fn invm_counted<T: PlainWord>(a: T, m: T) -> (Option<T>, u32)
     requires { 1 ≤ T.number m }
     ensures inverse { IsInversion T.number (T.number m) (T.number a) result.0 }
@@ -42,21 +56,22 @@ pub fn invm_counted<T: PlainWord>(a: T, m: T) -> (Option<T>, u32)
     }
     let mut last_t = T::zero();
     let mut t = T::one();
-    let mut odd = false;
     'euclid: while !r.is_zero_word() {
-        let (quotient, rest) = division(last_r, r);
-        let next = last_t.plus(quotient.times(t));
-        last_r = r;
+        let (rest, next) = step(last_r, r, last_t, t);
+        last_r = rest;
+        last_t = next;
+        count += 1;
+        if last_r.is_zero_word() {
+            let inverse = if T::one().is_below(r) { None } else { Some(t) };
+            return (inverse, count);
+        }
+        let (rest, next) = step(r, last_r, t, last_t);
         r = rest;
-        last_t = t;
         t = next;
-        odd = !odd;
         count += 1;
     }
     if T::one().is_below(last_r) {
         (None, count)
-    } else if odd {
-        (Some(last_t), count)
     } else {
         (Some(neg_below(last_t, m)), count)
     }

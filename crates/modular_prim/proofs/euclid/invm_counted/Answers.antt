@@ -1,11 +1,10 @@
-use Rattle.std.proofs.Common.{◌≡◌, ◌+◌, ◌<◌, ◌≤◌, ◌%◌, ◌/◌, ◌*◌, sym, arith}
+use Rattle.std.proofs.Common.{◌≡◌, ◌+◌, ◌<◌, ◌≤◌, ◌%◌, ◌*◌, sym, refl, arith}
 use Rattle.std.proofs.Math.Nat.{mod-eq_of_lt}
-use Rattle.modular_prim.proofs.DigitSteps.{quotient_is}
 use Rattle.modular_prim.proofs.DivisionCounts.{counts_below, counts_above, counts_next, counts_end, counts_few}
-use Rattle.modular_prim.proofs.EuclidSteps.{euclid_start, euclid_fits, rest_is, euclid_step}
+use Rattle.modular_prim.proofs.EuclidSteps.{euclid_start, next_fits, next_step}
 use Rattle.modular_prim.proofs.EuclidSteps.{euclid_found, euclid_found_negative, euclid_none}
 use Rattle.modular_prim.proofs.euclid.invm_counted.Goals as goal
-use Rattle.modular_prim.proofs.euclid.invm_counted.Goals.{then-not-is_below, else-not-is_below}
+use Rattle.modular_prim.proofs.euclid.invm_counted.Goals.{then-not-is_below, else-not-is_below, then-is_below, else-is_below}
 
 pub euclid-init : goal.euclid-init
 euclid-init g c =
@@ -34,119 +33,116 @@ euclid-init g c =
           ];
     }
 
-pub times-requires : goal.times-requires
-times-requires g c =
+pub step-rest-requires-clause-fits : goal.step-rest-requires-clause-fits
+step-rest-requires-clause-fits g c =
     let n = g.T.RingWord.number in
     let positive : 0 < n c.euclid.r = grind arith in
-    let fits =
-    euclid_fits (n c.args.a) (n c.args.m) (n c.euclid.last_r) (n c.euclid.r) (n c.euclid.last_t) (n c.euclid.t)
-    (n c.division-quotient.result.0) c.euclid.odd c.euclid.invariant.steps positive (quotient_is c.division-quotient.ensures.division) in
-    omega (arith, fits.1, c.is_below.ensures.other_fits)
-
-pub plus-next-requires : goal.plus-next-requires
-plus-next-requires g c =
-    let n = g.T.RingWord.number in
-    let positive : 0 < n c.euclid.r = grind arith in
-    let fits =
-    euclid_fits (n c.args.a) (n c.args.m) (n c.euclid.last_r) (n c.euclid.r) (n c.euclid.last_t) (n c.euclid.t)
-    (n c.division-quotient.result.0) c.euclid.odd c.euclid.invariant.steps positive (quotient_is c.division-quotient.ensures.division) in
-    omega (arith, fits.1, c.is_below.ensures.other_fits, c.times.ensures)
+    omega (arith, next_fits c.euclid.invariant.steps positive, c.is_below.ensures.other_fits)
 
 pub overflow_add-count : goal.overflow_add-count
 overflow_add-count g c =
     let n = g.T.RingWord.number in
     let few : c.euclid.count ≤ 2 * g.T.RingWord.width =
-    counts_few g.T.RingWord.width g.T.PathWord.base (n c.args.a) (n c.args.m) (n c.euclid.last_r) (n c.euclid.r)
-    c.euclid.count c.euclid.invariant.counts g.met.T.RingWord.width_from g.met.T.PathWord.base_is c.requires
-    c.is_below.ensures.fits c.is_below.ensures.other_fits in
-    omega (arith, g.met.T.RingWord.width_to)
+    counts_few g.T.RingWord.width g.T.PathWord.base (n c.args.a) (n c.args.m) _ _ _ c.euclid.invariant.counts
+    g.met.T.RingWord.width_from g.met.T.PathWord.base_is c.requires c.is_below.ensures.fits c.is_below.ensures.other_fits in
+    omega (arith, few, g.met.T.RingWord.width_to)
+
+pub step-rest-requires-in-euclid-clause-fits : goal.step-rest-requires-in-euclid-clause-fits
+step-rest-requires-in-euclid-clause-fits g c =
+    let n = g.T.RingWord.number in
+    let positive : 0 < n c.euclid.r = grind arith in
+    let some : 0 < n c.step-rest.result.0 = grind arith in
+    let halfway = next_step c.euclid.invariant.steps positive c.step-rest.ensures.rest c.step-rest.ensures.coefficient in
+    omega (arith, next_fits halfway some, c.is_below.ensures.other_fits)
+
+pub overflow_add-count-in-euclid : goal.overflow_add-count-in-euclid
+overflow_add-count-in-euclid g c =
+    let n = g.T.RingWord.number in
+    let few : c.euclid.count ≤ 2 * g.T.RingWord.width =
+    counts_few g.T.RingWord.width g.T.PathWord.base (n c.args.a) (n c.args.m) _ _ _ c.euclid.invariant.counts
+    g.met.T.RingWord.width_from g.met.T.PathWord.base_is c.requires c.is_below.ensures.fits c.is_below.ensures.other_fits in
+    omega (arith, few, g.met.T.RingWord.width_to)
 
 pub euclid-preserved : goal.euclid-preserved
 euclid-preserved g c =
     let n = g.T.RingWord.number in
     let positive : 0 < n c.euclid.r = grind arith in
-    let q = n c.division-quotient.result.0 in
-    let left = n c.division-quotient.result.1 in
-    let is : q ≡ n c.euclid.last_r / n c.euclid.r = quotient_is c.division-quotient.ensures.division in
-    let rest : left + q * n c.euclid.r ≡ n c.euclid.last_r =
-    let whole = c.division-quotient.ensures.division.whole in omega arith in
+    let some : 0 < n c.step-rest.result.0 = grind arith in
+    let first = c.step-rest.ensures in
+    let second = c.step-rest-in-euclid.ensures in
     record {
-      steps =
-          euclid_step (n c.args.a) (n c.args.m) (n c.euclid.last_r) (n c.euclid.r) (n c.euclid.last_t) (n c.euclid.t)
-          (n c.plus-next.result) q left c.euclid.odd
-          c.euclid.invariant.steps positive is rest
-          (let e : n c.plus-next.result ≡ n c.euclid.last_t + q * n c.euclid.t =
-          omega (arith, c.plus-next.ensures, c.times.ensures) in e);
-      counts =
-          counts_next (n c.args.a) (n c.args.m) (n c.euclid.last_r) (n c.euclid.r)
-          left c.euclid.count c.euclid.invariant.counts positive
-          (rest_is (n c.euclid.last_r) (n c.euclid.r) q left is rest);
+      steps = next_step (next_step c.euclid.invariant.steps positive first.rest first.coefficient) some second.rest second.coefficient;
+      counts = counts_next _ _ _ _ _ _ (counts_next _ _ _ _ _ _ c.euclid.invariant.counts positive first.rest) some second.rest;
     }
 
-pub returns-then-is_below-clause-inverse : goal.returns-then-is_below-clause-inverse
-returns-then-is_below-clause-inverse g c =
+pub returns-then-is_zero_word-clause-inverse : goal.returns-then-is_zero_word-clause-inverse
+returns-then-is_zero_word-clause-inverse g c =
+    let n = g.T.RingWord.number in
+    let positive : 0 < n c.euclid.r = grind arith in
+    let ended : n c.step-rest.result.0 ≡ 0 = grind arith in
+    let last = next_step c.euclid.invariant.steps positive c.step-rest.ensures.rest c.step-rest.ensures.coefficient in
+    elim c.if-is_below.branch [
+      | then-is_below w ↦
+          let above : 1 < n c.euclid.r = grind arith in
+          rw w.inverse-is (λ x i. euclid_none _ _ _ _ _ _ x _ last ended above i)
+      | else-is_below w ↦
+          let small : n c.euclid.r ≤ 1 = grind arith in
+          rw w.inverse-is (euclid_found _ _ _ _ _ _ _ last refl small)
+    ]
+
+pub returns-then-is_zero_word-clause-count : goal.returns-then-is_zero_word-clause-count
+returns-then-is_zero_word-clause-count g c =
+    let n = g.T.RingWord.number in
+    let positive : 0 < n c.euclid.r = grind arith in
+    let ended : n c.step-rest.result.0 ≡ 0 = grind arith in
+    counts_end _ _ _ _ _ (counts_next _ _ _ _ _ _ c.euclid.invariant.counts positive c.step-rest.ensures.rest) ended
+
+pub returns-then-is_zero_word-clause-at_most : goal.returns-then-is_zero_word-clause-at_most
+returns-then-is_zero_word-clause-at_most g c =
+    let n = g.T.RingWord.number in
+    let positive : 0 < n c.euclid.r = grind arith in
+    let few : c.euclid.count + 1 ≤ 2 * g.T.RingWord.width =
+    counts_few g.T.RingWord.width g.T.PathWord.base (n c.args.a) (n c.args.m) _ _ _ (counts_next _ _ _ _ _ _ c.euclid.invariant.counts positive c.step-rest.ensures.rest)
+    g.met.T.RingWord.width_from g.met.T.PathWord.base_is c.requires c.is_below.ensures.fits c.is_below.ensures.other_fits in
+    omega (arith, few)
+
+pub returns-then-is_below-2-clause-inverse : goal.returns-then-is_below-2-clause-inverse
+returns-then-is_below-2-clause-inverse g c =
     let n = g.T.RingWord.number in
     let ended : n c.euclid.r ≡ 0 = grind arith in
     let above : 1 < n c.euclid.last_r = grind arith in
-    λ x i. euclid_none (n c.args.a) (n c.args.m) (n c.euclid.last_r) (n c.euclid.r) (n c.euclid.last_t)
-    (n c.euclid.t) x c.euclid.odd c.euclid.invariant.steps ended above i
+    λ x i. euclid_none _ _ _ _ _ _ x _ c.euclid.invariant.steps ended above i
 
-pub returns-then-is_below-clause-count : goal.returns-then-is_below-clause-count
-returns-then-is_below-clause-count g c =
+pub returns-then-is_below-2-clause-count : goal.returns-then-is_below-2-clause-count
+returns-then-is_below-2-clause-count g c =
     let n = g.T.RingWord.number in
     let ended : n c.euclid.r ≡ 0 = grind arith in
-    counts_end (n c.args.a) (n c.args.m) (n c.euclid.last_r) (n c.euclid.r) c.euclid.count c.euclid.invariant.counts ended
+    counts_end _ _ _ _ _ c.euclid.invariant.counts ended
 
-pub returns-then-is_below-clause-at_most : goal.returns-then-is_below-clause-at_most
-returns-then-is_below-clause-at_most g c =
+pub returns-then-is_below-2-clause-at_most : goal.returns-then-is_below-2-clause-at_most
+returns-then-is_below-2-clause-at_most g c =
     let n = g.T.RingWord.number in
     let few : c.euclid.count ≤ 2 * g.T.RingWord.width =
-    counts_few g.T.RingWord.width g.T.PathWord.base (n c.args.a) (n c.args.m) (n c.euclid.last_r) (n c.euclid.r)
-    c.euclid.count c.euclid.invariant.counts g.met.T.RingWord.width_from g.met.T.PathWord.base_is c.requires
-    c.is_below.ensures.fits c.is_below.ensures.other_fits in
+    counts_few g.T.RingWord.width g.T.PathWord.base (n c.args.a) (n c.args.m) _ _ _ c.euclid.invariant.counts
+    g.met.T.RingWord.width_from g.met.T.PathWord.base_is c.requires c.is_below.ensures.fits c.is_below.ensures.other_fits in
     omega (arith, few)
 
-pub returns-then-odd-clause-inverse : goal.returns-then-odd-clause-inverse
-returns-then-odd-clause-inverse g c =
+pub returns-else-is_below-2-clause-inverse : goal.returns-else-is_below-2-clause-inverse
+returns-else-is_below-2-clause-inverse g c =
     let n = g.T.RingWord.number in
     let small : n c.euclid.last_r ≤ 1 = grind arith in
-    euclid_found (n c.args.a) (n c.args.m) (n c.euclid.last_r) (n c.euclid.r) (n c.euclid.last_t) (n c.euclid.t)
-    c.euclid.odd c.euclid.invariant.steps c.if-odd.true small
+    euclid_found_negative _ _ _ _ _ _ _ _ c.euclid.invariant.steps refl small c.neg_below.ensures.value
 
-pub returns-then-odd-clause-count : goal.returns-then-odd-clause-count
-returns-then-odd-clause-count g c =
+pub returns-else-is_below-2-clause-count : goal.returns-else-is_below-2-clause-count
+returns-else-is_below-2-clause-count g c =
     let n = g.T.RingWord.number in
     let ended : n c.euclid.r ≡ 0 = grind arith in
-    counts_end (n c.args.a) (n c.args.m) (n c.euclid.last_r) (n c.euclid.r) c.euclid.count c.euclid.invariant.counts ended
+    counts_end _ _ _ _ _ c.euclid.invariant.counts ended
 
-pub returns-then-odd-clause-at_most : goal.returns-then-odd-clause-at_most
-returns-then-odd-clause-at_most g c =
+pub returns-else-is_below-2-clause-at_most : goal.returns-else-is_below-2-clause-at_most
+returns-else-is_below-2-clause-at_most g c =
     let n = g.T.RingWord.number in
     let few : c.euclid.count ≤ 2 * g.T.RingWord.width =
-    counts_few g.T.RingWord.width g.T.PathWord.base (n c.args.a) (n c.args.m) (n c.euclid.last_r) (n c.euclid.r)
-    c.euclid.count c.euclid.invariant.counts g.met.T.RingWord.width_from g.met.T.PathWord.base_is c.requires
-    c.is_below.ensures.fits c.is_below.ensures.other_fits in
-    omega (arith, few)
-
-pub returns-else-odd-clause-inverse : goal.returns-else-odd-clause-inverse
-returns-else-odd-clause-inverse g c =
-    let n = g.T.RingWord.number in
-    let small : n c.euclid.last_r ≤ 1 = grind arith in
-    euclid_found_negative (n c.args.a) (n c.args.m) (n c.euclid.last_r) (n c.euclid.r)
-    (n c.euclid.last_t) (n c.euclid.t)
-    (n c.neg_below.result) c.euclid.odd c.euclid.invariant.steps c.if-odd.false small c.neg_below.ensures.value
-
-pub returns-else-odd-clause-count : goal.returns-else-odd-clause-count
-returns-else-odd-clause-count g c =
-    let n = g.T.RingWord.number in
-    let ended : n c.euclid.r ≡ 0 = grind arith in
-    counts_end (n c.args.a) (n c.args.m) (n c.euclid.last_r) (n c.euclid.r) c.euclid.count c.euclid.invariant.counts ended
-
-pub returns-else-odd-clause-at_most : goal.returns-else-odd-clause-at_most
-returns-else-odd-clause-at_most g c =
-    let n = g.T.RingWord.number in
-    let few : c.euclid.count ≤ 2 * g.T.RingWord.width =
-    counts_few g.T.RingWord.width g.T.PathWord.base (n c.args.a) (n c.args.m) (n c.euclid.last_r) (n c.euclid.r)
-    c.euclid.count c.euclid.invariant.counts g.met.T.RingWord.width_from g.met.T.PathWord.base_is c.requires
-    c.is_below.ensures.fits c.is_below.ensures.other_fits in
+    counts_few g.T.RingWord.width g.T.PathWord.base (n c.args.a) (n c.args.m) _ _ _ c.euclid.invariant.counts
+    g.met.T.RingWord.width_from g.met.T.PathWord.base_is c.requires c.is_below.ensures.fits c.is_below.ensures.other_fits in
     omega (arith, few)

@@ -1,3 +1,4 @@
+use Rattle.std.proofs.Common.{false}
 use Rattle.modular_prim.proofs.DivisionCounts.{Counts}
 use Rattle.modular_prim.proofs.EuclidSteps.{Euclid}
 use Rattle.modular_prim.proofs.euclid.invm_counted.Given as goal
@@ -6,7 +7,7 @@ abbrev pub invariant-euclid : goal.invariant-euclid
 invariant-euclid g l =
     let n = g.T.RingWord.number in
     record {
-      steps : Euclid (n l.fn.a) (n l.m) (n l.last_r) (n l.r) (n l.last_t) (n l.t) l.odd;
+      steps : Euclid (n l.fn.a) (n l.m) (n l.last_r) (n l.r) (n l.last_t) (n l.t) false;
       counts : Counts (n l.fn.a) (n l.m) (n l.last_r) (n l.r) l.count;
     }
 
