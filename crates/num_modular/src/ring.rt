@@ -253,17 +253,19 @@ fn carry_out<T: RingWord, R: Reducer<T>>(r: &R, regs: &mut [T], command: &RingCo
         IsFalse result ↔ LacksInverse m v (whole T.number command.now) }
     ensures kept { IsFalse result → regs.new ≡ regs.old }
 {
-    match command {
+    // By value, so that the fields are read before the operands: else LLVM merges the ends of the arms, and each command
+    // takes one jump more.
+    match *command {
         RingCommand::Add { dst, a, b } => {
-            regs[*dst] = r.add(&regs[*a], &regs[*b]);
+            regs[dst] = r.add(&regs[a], &regs[b]);
             true
         }
         RingCommand::Sub { dst, a, b } => {
-            regs[*dst] = r.sub(&regs[*a], &regs[*b]);
+            regs[dst] = r.sub(&regs[a], &regs[b]);
             true
         }
         RingCommand::Mul { dst, a, b } => {
-            regs[*dst] = r.mul(&regs[*a], &regs[*b]);
+            regs[dst] = r.mul(&regs[a], &regs[b]);
             true
         }
         _ => match computed_form(r, regs, command) {
