@@ -1,11 +1,13 @@
 //! Transforms by a plan: a table of factors with their quotients, which the caller owns.
 
+pub mod bounded;
 pub mod entry;
+mod four_splits;
 pub mod modulus;
+pub mod passes;
 mod places;
 pub mod plan;
 pub mod roomy;
 pub mod roots;
 pub mod split;
-mod split_blocks;
 mod split_steps;

@@ -1,7 +1,9 @@
 //! Joins and products by a plan: from remainders back to a list, products of polynomials, and the natural order.
 
 pub mod convolution;
+mod four_joins;
 pub mod join;
 mod join_steps;
 pub mod products;
+mod stages;
 pub mod transform;

@@ -1,17 +1,16 @@
 -- Four entries at once: what is read and written of them, and the columns of four quarters.
 use Rattle.std.proofs.Common.{◌≡◌, ◌≢◌, ℕ, ◌+◌, ◌-◌, ◌*◌, ◌<◌, ◌≤◌, List, ◌++◌, All, get_or, length, inl, inr, refl}
 use Rattle.std.proofs.Common.{sym, ◌∙◌, ap, arith, subst}
-use Rattle.std.proofs.Math.ListN.{set, length-set}
-use Rattle.std.proofs.Math.Nat.{zero-add}
-use Rattle.std.proofs.lemmas.Bool.{cases_eq}
+use Rattle.std.proofs.Math.ListN.{set}
+use Rattle.std.proofs.lemmas.Bool.{cases_eq, cases_lt}
 use Rattle.modular_plan.specs.Factors.{IsFactor}
 use Rattle.modular_plan.specs.Plans.{numbers}
-use Rattle.modular_plan.specs.Splits.{AreAt, AreFourBelow, AreQuarters, ColumnDone, ColumnsDone, HalvesDone}
-use Rattle.modular_plan.specs.Splits.{IsPassReady, IsPassDone}
+use Rattle.modular_plan.specs.Splits.{AreAt, AreFourBelow, AreNeighbours, AreQuarters, ColumnsDone}
+use Rattle.modular_plan.specs.Splits.{DoneBelow, HalvesDone}
 use Rattle.modular_plan.specs.Steps.{IsFourSplit, FourDone, BlockOfFours, StageOfFours}
 use Rattle.modular_plan.proofs.Doublings.{same_factor}
-use Rattle.modular_plan.proofs.Entries.{written, not_written, all_below, bounded_at}
-use Rattle.modular_plan.proofs.Fours.{all_set, four_along, stage_of_fours_more}
+use Rattle.modular_plan.proofs.Entries.{written, not_written, number_read, all_below, bounded_at}
+use Rattle.modular_plan.proofs.Fours.{four_along, stage_of_fours_more}
 use Rattle.modular_plan.proofs.Quarters.{in_front, behind}
 
 -- four bounds of what was read
@@ -24,17 +23,6 @@ below_at {bound} {i} {j} {k} {l} {a} {b} {c} {d} {x} at below = record {
   fourth = subst (λ v. v < bound) (sym at.fourth) below.fourth;
 }
 
--- .. and greater ones
-pub below_wider : {low bound a b c d : ℕ} → low ≤ bound → AreFourBelow low a b c d → AreFourBelow bound a b c d
-below_wider {low} {bound} {a} {b} {c} {d} wide below = let f = below.first in let s = below.second in
-    let t = below.third in let l = below.fourth in
-    record {
-      first = omega (arith, f, wide);
-      second = omega (arith, s, wide);
-      third = omega (arith, t, wide);
-      fourth = omega (arith, l, wide);
-    }
-
 -- four writes of what comes of the numbers that were read
 pub done_by : (R : ℕ → ℕ → ℕ → ℕ → ℕ → ℕ → ℕ → ℕ → Type 0) {i j k l a b c d p q r s : ℕ} {x y : ℕ → ℕ}
     → AreAt i j k l x a b c d
@@ -46,43 +34,53 @@ done_by R {i} {j} {k} {l} {a} {b} {c} {d} {p} {q} {r} {s} {x} {y} at step four =
   kept = step.kept;
 }
 
-pub all_written : {X : Type 0} (number : X → ℕ) (bound : ℕ) (old new : List X) {i j k l p q r s : ℕ}
-    → length new ≡ length old → All (λ x. number x < bound) old → AreFourBelow bound p q r s
-    → FourDone (λ x y z t e f g h. (e ≡ p) × (f ≡ q) × (g ≡ r) × (h ≡ s)) i j k l (numbers number old) (numbers number new)
-    → All (λ x. number x < bound) new
-all_written number bound old new {i} {j} {k} {l} {p} {q} {r} {s} same all below step =
-    let y = numbers number new in
-    all_below number bound (length old) new same
-    (λ e within. elim (cases_eq e i) [
-      | inl is ↦ subst (λ n. y n < bound) (sym is) (subst (λ v. v < bound) (sym step.four.0) below.first)
-      | inr n0 ↦ elim (cases_eq e j) [
-        | inl is ↦ subst (λ n. y n < bound) (sym is) (subst (λ v. v < bound) (sym step.four.1) below.second)
-        | inr n1 ↦ elim (cases_eq e k) [
-          | inl is ↦ subst (λ n. y n < bound) (sym is) (subst (λ v. v < bound) (sym step.four.2) below.third)
-          | inr n2 ↦ elim (cases_eq e l) [
-            | inl is ↦ subst (λ n. y n < bound) (sym is) (subst (λ v. v < bound) (sym step.four.3) below.fourth)
-            | inr n3 ↦ subst (λ v. v < bound) (sym (step.kept e n0 n1 n2 n3)) (bounded_at number bound old e all within)
-          ]
-        ]
-      ]
-    ])
+-- column i of four lists, whose entries are below a bound
+pub record IsColumn {X : Type 0} (number : X → ℕ) (bound i : ℕ) (a b c d : List X) : Type 0 where
+  pub below : AreFourBelow bound (numbers number a i) (numbers number b i) (numbers number c i) (numbers number d i)
+  pub within : (i < length a) × (i < length b) × (i < length c) × (i < length d)
 
--- the next column of the whole list is below the bound of all as yet
-pub column_below : {X : Type 0} (number : X → ℕ) (bound q i : ℕ) (old : List X)
-    {R : ℕ → ℕ → ℕ → ℕ → ℕ → ℕ → ℕ → ℕ → Type 0} {y : ℕ → ℕ} → All (λ x. number x < bound) old
-    → q + q + (q + q) ≡ length old → i < q → BlockOfFours R 0 q i (numbers number old) y
-    → AreFourBelow bound (y i) (y (q + i)) (y (q + q + i)) (y (q + q + (q + i)))
-column_below number bound q i old {R} {y} all whole within done =
-    let kept = done.others i (omega arith) within in
-    let at : (k : ℕ) → k < length old → y (0 + k) ≡ numbers number old (0 + k) → y k < bound =
-    λ k l e. subst (λ v. v < bound) (sym (subst (λ v. y v ≡ numbers number old v) (zero-add k) e))
-    (bounded_at number bound old k all l) in
+-- what was read of a column
+pub column_given : {X : Type 0} {number : X → ℕ} {bound i : ℕ} {a b c d : List X} {x y z t : X}
+    → IsColumn number bound i a b c d → x ≡ get_or a i x → y ≡ get_or b i y → z ≡ get_or c i z → t ≡ get_or d i t
+    → AreFourBelow bound (number x) (number y) (number z) (number t)
+column_given {X} {number} {bound} {i} {a} {b} {c} {d} {x} {y} {z} {t} at is_x is_y is_z is_t = record {
+  first = subst (λ v. v < bound) (sym (number_read number a i x at.within.0 is_x)) at.below.first;
+  second = subst (λ v. v < bound) (sym (number_read number b i y at.within.1 is_y)) at.below.second;
+  third = subst (λ v. v < bound) (sym (number_read number c i z at.within.2 is_z)) at.below.third;
+  fourth = subst (λ v. v < bound) (sym (number_read number d i t at.within.3 is_t)) at.below.fourth;
+}
+
+-- the next column, of which nothing is done yet
+pub column_at : {X : Type 0} (number : X → ℕ) {bound limit : ℕ} (i : ℕ) {a b c d a' b' c' d' : List X}
+    {R : ℕ → ℕ → ℕ → ℕ → ℕ → ℕ → ℕ → ℕ → Type 0} → AreQuarters number bound limit a b c d
+    → ColumnsDone R i (numbers number a) (numbers number b) (numbers number c) (numbers number d) (numbers number a')
+    (numbers number b') (numbers number c') (numbers number d')
+    → length a' ≡ length a → length b' ≡ length b → length c' ≡ length c → length d' ≡ length d → i < length a
+    → IsColumn number bound i a' b' c' d'
+column_at number {bound} {limit} i {a} {b} {c} {d} {a'} {b'} {c'} {d'} {R} given done na nb nc nd within =
+    let kept = done.kept i (omega arith) in
+    let second = given.second_length in
+    let third = given.third_length in
+    let fourth = given.fourth_length in
     record {
-      first = at i (omega arith) kept.0;
-      second = at (q + i) (omega arith) kept.1;
-      third = at (q + q + i) (omega arith) kept.2;
-      fourth = at (q + q + (q + i)) (omega arith) kept.3;
+      below = record {
+        first = subst (λ v. v < bound) (sym kept.0) (bounded_at number bound a i given.first within);
+        second = subst (λ v. v < bound) (sym kept.1) (bounded_at number bound b i given.second (omega (arith, second, within)));
+        third = subst (λ v. v < bound) (sym kept.2) (bounded_at number bound c i given.third (omega (arith, third, within)));
+        fourth = subst (λ v. v < bound) (sym kept.3) (bounded_at number bound d i given.fourth (omega (arith, fourth, within)));
+      };
+      within = (
+        omega (arith, within, na),
+        omega (arith, within, nb, second),
+        omega (arith, within, nc, third),
+        omega (arith, within, nd, fourth),
+      );
     }
+
+-- column i of four quarters is done, and the others are unchanged
+pub record ColumnDone (R : ℕ → ℕ → ℕ → ℕ → ℕ → ℕ → ℕ → ℕ → Type 0) (i : ℕ) (a b c d a' b' c' d' : ℕ → ℕ) : Type 0 where
+  pub column : R (a i) (b i) (c i) (d i) (a' i) (b' i) (c' i) (d' i)
+  pub kept : (k : ℕ) → k ≢ i → (a' k ≡ a k) × (b' k ≡ b k) × (c' k ≡ c k) × (d' k ≡ d k)
 
 -- a column of four quarters is written
 pub column_done : {X : Type 0} (number : X → ℕ) (R : ℕ → ℕ → ℕ → ℕ → ℕ → ℕ → ℕ → ℕ → Type 0) (a b c d : List X) (i : ℕ)
@@ -101,21 +99,6 @@ column_done number R a b c d i x y z t la lb lc ld four = record {
     not_written number d i k t ne,
   );
 }
-
-pub quarters_set : {X : Type 0} (number : X → ℕ) (bound : ℕ) (a b c d : List X) (i : ℕ) (x y z t : X)
-    → AreQuarters number bound a b c d → AreFourBelow bound (number x) (number y) (number z) (number t)
-    → AreQuarters number bound (set a i x) (set b i y) (set c i z) (set d i t)
-quarters_set {X} number bound a b c d i x y z t old below =
-    let P = λ (e : X). number e < bound in
-    record {
-      first = all_set P a i x old.first below.first;
-      second = all_set P b i y old.second below.second;
-      third = all_set P c i z old.third below.third;
-      fourth = all_set P d i t old.fourth below.fourth;
-      second_length = length-set b i y ∙ old.second_length ∙ sym (length-set a i x);
-      third_length = length-set c i z ∙ old.third_length ∙ sym (length-set a i x);
-      fourth_length = length-set d i t ∙ old.fourth_length ∙ sym (length-set a i x);
-    }
 
 pub columns_none : (R : ℕ → ℕ → ℕ → ℕ → ℕ → ℕ → ℕ → ℕ → Type 0) (a b c d : ℕ → ℕ) → ColumnsDone R 0 a b c d a b c d
 columns_none R a b c d =
@@ -205,6 +188,56 @@ block_of_halves number R first q f l h t l' h' lf ll lh ll' lh' done =
           ∙ sym (ap (numbers number (f ++ (l ++ (h ++ t)))) e);
     }
 
+-- the entries of a block that are below a bound
+pub fours_below : {R : ℕ → ℕ → ℕ → ℕ → ℕ → ℕ → ℕ → ℕ → Type 0} {bound first q : ℕ} (k : ℕ) {x y : ℕ → ℕ}
+    → BlockOfFours (DoneBelow bound R) first q q x y → first ≤ k → k < first + (q + q + (q + q)) → y k < bound
+fours_below {R} {bound} {first} {q} k {x} {y} done least l = elim (cases_lt k (first + q)) [
+  | inl l0 ↦ subst (λ v. y v < bound) (let e : first + (k - first) ≡ k = omega arith in e)
+      (done.fours (k - first) (omega arith)).below.first
+  | inr l0 ↦ elim (cases_lt k (first + (q + q))) [
+    | inl l1 ↦ subst (λ v. y v < bound) (let e : first + (q + (k - (first + q))) ≡ k = omega arith in e)
+        (done.fours (k - (first + q)) (omega arith)).below.second
+    | inr l1 ↦ elim (cases_lt k (first + (q + q + q))) [
+      | inl l2 ↦ subst (λ v. y v < bound) (let e : first + (q + q + (k - (first + (q + q)))) ≡ k = omega arith in e)
+          (done.fours (k - (first + (q + q))) (omega arith)).below.third
+      | inr l2 ↦ subst (λ v. y v < bound)
+          (let e : first + (q + q + (q + (k - (first + (q + q + q))))) ≡ k = omega arith in e)
+          (done.fours (k - (first + (q + q + q))) (omega arith)).below.fourth
+    ]
+  ]
+]
+
+-- .. and with them all entries
+pub block_below : {X : Type 0} (number : X → ℕ) {bound first q : ℕ} (old new : List X)
+    {R : ℕ → ℕ → ℕ → ℕ → ℕ → ℕ → ℕ → ℕ → Type 0} → length new ≡ length old → All (λ x. number x < bound) old
+    → BlockOfFours (DoneBelow bound R) first q q (numbers number old) (numbers number new) → All (λ x. number x < bound) new
+block_below number {bound} {first} {q} old new {R} same all done =
+    all_below number bound (length old) new same
+    (λ k l. elim (cases_lt k first) [
+      | inl before ↦ subst (λ v. v < bound) (sym (done.before k before)) (bounded_at number bound old k all l)
+      | inr least ↦ elim (cases_lt k (first + (q + q + (q + q)))) [
+        | inl inside ↦ fours_below k done least inside
+        | inr after ↦ subst (λ v. v < bound) (sym (done.after k after)) (bounded_at number bound old k all l)
+      ]
+    ])
+
+-- the next four neighbours, which are unchanged as yet
+pub neighbours_given : {X : Type 0} (number : X → ℕ) {bound : ℕ} (p : ℕ) (old new : List X) → All (λ x. number x < bound) old
+    → ((k : ℕ) → p * 4 ≤ k → numbers number new k ≡ numbers number old k) → length new ≡ length old
+    → p * 4 + 3 < length old → AreNeighbours number bound (p * 4) new
+neighbours_given number {bound} p old new all kept same within =
+    let at : (k : ℕ) → p * 4 ≤ k → k < length old → numbers number new k < bound =
+    λ k least l. subst (λ v. v < bound) (sym (kept k least)) (bounded_at number bound old k all l) in
+    record {
+      below = record {
+        first = at (p * 4) (omega arith) (omega arith);
+        second = at (p * 4 + 1) (omega arith) (omega arith);
+        third = at (p * 4 + 2) (omega arith) (omega arith);
+        fourth = at (p * 4 + 3) (omega arith) (omega arith);
+      };
+      within = omega (arith, same, within);
+    }
+
 -- a factor that was read from a table
 pub factor_read : {F : Type 0} (value quotient : F → ℕ) {base m w r : ℕ} (table : List F) (i : ℕ) (x : F)
     → All (λ f. IsFactor base m (value f) (quotient f)) table → i < length table → x ≡ get_or table i x
@@ -225,16 +258,3 @@ stage_with m q p first w {e} {u} {v} {x} {y} {z} is_e is_u is_v before step =
     (subst (λ a. BlockOfFours (IsFourSplit m a (w k) (w (k + 1))) at q q y z) is_e
     (subst (λ a. BlockOfFours (IsFourSplit m e a (w (k + 1))) at q q y z) is_u
     (subst (λ a. BlockOfFours (IsFourSplit m e u a) at q q y z) is_v step)))
-
--- a pass by another name of its length
-pub ready_named : {X F : Type 0} {number : X → ℕ} {value quotient : F → ℕ} {base m bound q n blocks first : ℕ} {xs : List X}
-    {table : List F} → q ≡ n → IsPassReady number value quotient base m bound q blocks first xs table
-    → IsPassReady number value quotient base m bound n blocks first xs table
-ready_named {X} {F} {number} {value} {quotient} {base} {m} {bound} {q} {n} {blocks} {first} {xs} {table} e ready =
-    subst (λ k. IsPassReady number value quotient base m bound k blocks first xs table) e ready
-
-pub done_named : {X F : Type 0} {number : X → ℕ} {value : F → ℕ} {m bound q n blocks first : ℕ} {table : List F}
-    {old new : List X} → q ≡ n → IsPassDone number value m bound n blocks first table old new
-    → IsPassDone number value m bound q blocks first table old new
-done_named {X} {F} {number} {value} {m} {bound} {q} {n} {blocks} {first} {table} {old} {new} e done =
-    subst (λ k. IsPassDone number value m bound k blocks first table old new) (sym e) done

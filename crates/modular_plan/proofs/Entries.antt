@@ -46,14 +46,6 @@ pub all_wider : {T : Type 0} (number : T → ℕ) {a b : ℕ} (words : List T) �
     → All (λ x. number x < b) words
 all_wider number words wide all i d l = let h = all i d l in omega (arith, h, wide)
 
--- a word that was read where nothing was written yet
-pub given_below : {T : Type 0} (number : T → ℕ) (bound : ℕ) (old words : List T) (i j : ℕ) (x : T)
-    → All (λ x. number x < bound) old → j ≡ i → i < length old → i < length words → x ≡ get_or words i x
-    → numbers number words j ≡ numbers number old j → number x < bound
-given_below number bound old words i j x all e old_within within is kept =
-    let same = subst (λ k. numbers number words k ≡ numbers number old k) e kept in
-    subst (λ v. v < bound) (sym (number_read number words i x within is ∙ same)) (bounded number bound old i x all old_within)
-
 -- a loop that writes entry after entry
 pub entry_written : {T : Type 0} (number : T → ℕ) (words : List T) (i : ℕ) (x : T) (P : ℕ → ℕ → Type 0) → i < length words
     → ((k : ℕ) → k < i → P k (numbers number words k)) → P i (number x)

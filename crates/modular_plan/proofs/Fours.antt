@@ -1,23 +1,13 @@
 -- Two stages at once: four entries make blocks, and blocks make stages.
-use Rattle.std.proofs.Common.{◌≡◌, ℕ, ◌+◌, ◌*◌, ◌<◌, ◌≤◌, List, All, length, inl, inr, refl}
-use Rattle.std.proofs.Common.{sym, ◌∙◌, arith, subst, get_or, get_or-set_same, get_or-set_other}
+use Rattle.std.proofs.Common.{◌≡◌, ℕ, ◌+◌, ◌*◌, ◌<◌, ◌≤◌, List, length, inl, inr, refl}
+use Rattle.std.proofs.Common.{sym, ◌∙◌, arith, subst}
 use Rattle.std.proofs.Math.ListN.{set, length-set}
-use Rattle.std.proofs.Math.Nat.{mul-le-mul_right, zero-add, zero-mul}
+use Rattle.std.proofs.Math.Nat.{mul-le-mul_right, zero-mul}
 use Rattle.std.proofs.lemmas.Bool.{cases_eq, cases_lt}
 use Rattle.modular_plan.specs.Plans.{numbers}
+use Rattle.modular_plan.specs.Splits.{DoneBelow}
 use Rattle.modular_plan.specs.Steps.{IsPairSplit, IsFourSplit, FourDone, FourAt, BlockOfFours, StageOfFours}
 use Rattle.modular_plan.proofs.Entries.{written, not_written}
-
--- one more word of which something holds
-pub all_set : {T : Type 0} (P : T → Type 0) (words : List T) (i : ℕ) (x : T) → All P words → P x → All P (set words i x)
-all_set P words i x all is k d l =
-    let below : k < length words = subst (λ n. k < n) (length-set words i x) l in
-    elim (cases_eq k i) [
-      | inl e ↦
-          let at : i < length words = subst (λ n. n < length words) e below in
-          subst (λ n. P (get_or (set words i x) n d)) (sym e) (subst P (sym (get_or-set_same words i x d at)) is)
-      | inr ne ↦ subst P (sym (get_or-set_other words i k x d ne)) (all k d below)
-    ]
 
 -- a split of four entries by those of its pairs
 pub four_of_pairs : {m : ℕ} (w u v : ℕ) {a b c d a' b' c' d' e f g h p q r s : ℕ} → a' ≡ a → b' ≡ b → c' ≡ c → d' ≡ d
@@ -117,6 +107,17 @@ pub fours_all : {R : ℕ → ℕ → ℕ → ℕ → ℕ → ℕ → ℕ → ℕ
     → BlockOfFours R first q i x y → i ≡ q → BlockOfFours R first q q x y
 fours_all {R} {first} {q} {i} {x} {y} done e = subst (λ n. BlockOfFours R first q n x y) e done
 
+-- a block of what follows
+pub block_mapped : {R S : ℕ → ℕ → ℕ → ℕ → ℕ → ℕ → ℕ → ℕ → Type 0} {first q : ℕ} {x y : ℕ → ℕ}
+    → ((a b c d a' b' c' d' : ℕ) → R a b c d a' b' c' d' → S a b c d a' b' c' d') → BlockOfFours R first q q x y
+    → BlockOfFours S first q q x y
+block_mapped {R} {S} {first} {q} {x} {y} follows step = record {
+  fours = λ i l. follows _ _ _ _ _ _ _ _ (step.fours i l);
+  others = step.others;
+  before = step.before;
+  after = step.after;
+}
+
 -- a bound of four neighbours
 pub four_below : (bound first : ℕ) (x : ℕ → ℕ) → x first < bound → x (first + 1) < bound → x (first + 2) < bound
     → x (first + 3) < bound
@@ -133,24 +134,25 @@ four_below bound first x a b c d k le lt = elim (cases_eq k first) [
 ]
 
 -- four neighbours are a block of four
-pub neighbours_done : (R : ℕ → ℕ → ℕ → ℕ → ℕ → ℕ → ℕ → ℕ → Type 0) (first : ℕ) (x y : ℕ → ℕ)
-    → FourDone R first (first + 1) (first + 2) (first + 3) x y
-    → BlockOfFours R first 1 1 x y
-neighbours_done R first x y step =
+pub neighbours_done : {R : ℕ → ℕ → ℕ → ℕ → ℕ → ℕ → ℕ → ℕ → Type 0} {bound : ℕ} (first : ℕ) {x y : ℕ → ℕ}
+    → FourDone (DoneBelow bound R) first (first + 1) (first + 2) (first + 3) x y → BlockOfFours R first 1 1 x y
+neighbours_done {R} {bound} first {x} {y} step =
     let zero : first ≡ first + 0 = omega arith in
     fours_more R first 1 0 x x y (omega arith) (fours_none R first 1 x)
-    (subst (λ n. FourDone R n (first + 1) (first + 2) (first + 3) x y) zero step)
+    (subst (λ n. FourDone R n (first + 1) (first + 2) (first + 3) x y) zero
+    (record { four = step.four.done; kept = step.kept }))
 
 -- the neighbours of one more block are below a bound
-pub neighbours_below : {R : ℕ → ℕ → ℕ → ℕ → ℕ → ℕ → ℕ → ℕ → Type 0} (bound p : ℕ) (x y : ℕ → ℕ)
+pub neighbours_below : {R : ℕ → ℕ → ℕ → ℕ → ℕ → ℕ → ℕ → ℕ → Type 0} {bound : ℕ} (p : ℕ) {x y : ℕ → ℕ}
     → ((k : ℕ) → k < p * 4 → x k < bound)
-    → ((k : ℕ) → p * 4 ≤ k → k < p * 4 + 4 → y k < bound)
-    → FourDone R (p * 4) (p * 4 + 1) (p * 4 + 2) (p * 4 + 3) x y
+    → FourDone (DoneBelow bound R) (p * 4) (p * 4 + 1) (p * 4 + 2) (p * 4 + 3) x y
     → (k : ℕ) → k < (p + 1) * 4 → y k < bound
-neighbours_below {R} bound p x y before four step k l = elim (cases_lt k (p * 4)) [
+neighbours_below {R} {bound} p {x} {y} before step k l = elim (cases_lt k (p * 4)) [
   | inl less ↦
       subst (λ n. n < bound) (sym (step.kept k (omega arith) (omega arith) (omega arith) (omega arith))) (before k less)
-  | inr more ↦ four k more (omega arith)
+  | inr more ↦
+      let four = step.four.below in
+      four_below bound (p * 4) y four.first four.second four.third four.fourth k more (omega arith)
 ]
 
 pub stage_of_fours_none : (R : ℕ → ℕ → ℕ → ℕ → ℕ → ℕ → ℕ → ℕ → ℕ → Type 0) (q : ℕ) (x : ℕ → ℕ) → StageOfFours R q 0 x x
@@ -184,39 +186,22 @@ pub stage_of_fours_all : {R : ℕ → ℕ → ℕ → ℕ → ℕ → ℕ → �
     → StageOfFours R q p x y → p ≡ blocks → StageOfFours R q blocks x y
 stage_of_fours_all {R} {q} {p} {blocks} {x} {y} done e = subst (λ n. StageOfFours R q n x y) e done
 
--- a length by another name
-pub stage_named : {R : ℕ → ℕ → ℕ → ℕ → ℕ → ℕ → ℕ → ℕ → ℕ → Type 0} {q n blocks : ℕ} {x y : ℕ → ℕ} → q ≡ n
-    → StageOfFours R n blocks x y → StageOfFours R q blocks x y
-stage_named {R} {q} {n} {blocks} {x} {y} e done = subst (λ v. StageOfFours R v blocks x y) (sym e) done
-
--- a block at the start
-pub at_start : {R : ℕ → ℕ → ℕ → ℕ → ℕ → ℕ → ℕ → ℕ → Type 0} {i j k l : ℕ} {x y : ℕ → ℕ} → FourDone R i j k l x y
-    → FourDone R (0 + i) (0 + j) (0 + k) (0 + l) x y
-at_start {R} {i} {j} {k} {l} {x} {y} done =
-    subst (λ v. FourDone R v (0 + j) (0 + k) (0 + l) x y) (sym (zero-add i))
-    (subst (λ v. FourDone R i v (0 + k) (0 + l) x y) (sym (zero-add j))
-    (subst (λ v. FourDone R i j v (0 + l) x y) (sym (zero-add k))
-    (subst (λ v. FourDone R i j k v x y) (sym (zero-add l)) done)))
-
--- .. is a stage by a plan w that begins with 1
-pub first_stage : (m q v first blocks : ℕ) (w x y : ℕ → ℕ) → first ≡ 0 → blocks ≡ 1 → w 0 ≡ 1 → v ≡ w 1
-    → BlockOfFours (IsFourSplit m 1 1 v) 0 q q x y
-    → StageOfFours (λ p. IsFourSplit m (w (first + p)) (w (2 * (first + p))) (w (2 * (first + p) + 1))) q blocks x y
-first_stage m q v first blocks w x y no_first one_block begins second block =
+-- the whole list as one block is a stage by a plan w that begins with 1
+pub first_stage : (R : ℕ → ℕ → ℕ → ℕ → ℕ → ℕ → ℕ → ℕ → ℕ → ℕ → ℕ → Type 0) (q v first blocks : ℕ) (w x y : ℕ → ℕ)
+    → first ≡ 0 → blocks ≡ 1 → w 0 ≡ 1 → v ≡ w 1 → BlockOfFours (R 1 1 v) 0 q q x y
+    → StageOfFours (λ p. R (w (first + p)) (w (2 * (first + p))) (w (2 * (first + p) + 1))) q blocks x y
+first_stage R q v first blocks w x y no_first one_block begins second block =
     let size : ℕ = q + q + (q + q) in
-    let four : (i : ℕ) → i < q → FourAt (IsFourSplit m (w 0) (w 0) (w 1)) 0 q i x y =
-    λ i l. subst (λ n. FourAt (IsFourSplit m n (w 0) (w 1)) 0 q i x y) (sym begins)
-    (subst (λ n. FourAt (IsFourSplit m 1 n (w 1)) 0 q i x y) (sym begins)
-    (subst (λ n. FourAt (IsFourSplit m 1 1 n) 0 q i x y) second (block.fours i l))) in
-    subst (λ f. StageOfFours (λ p. IsFourSplit m (w (f + p)) (w (2 * (f + p))) (w (2 * (f + p) + 1))) q blocks x y)
-    (sym no_first)
-    (subst (λ n. StageOfFours (λ p. IsFourSplit m (w (0 + p)) (w (2 * (0 + p))) (w (2 * (0 + p) + 1))) q n x y)
-    (sym one_block)
+    let four : (i : ℕ) → i < q → FourAt (R (w 0) (w 0) (w 1)) 0 q i x y =
+    λ i l. subst (λ n. FourAt (R n (w 0) (w 1)) 0 q i x y) (sym begins)
+    (subst (λ n. FourAt (R 1 n (w 1)) 0 q i x y) (sym begins)
+    (subst (λ n. FourAt (R 1 1 n) 0 q i x y) second (block.fours i l))) in
+    subst (λ f. StageOfFours (λ p. R (w (f + p)) (w (2 * (f + p))) (w (2 * (f + p) + 1))) q blocks x y) (sym no_first)
+    (subst (λ n. StageOfFours (λ p. R (w (0 + p)) (w (2 * (0 + p))) (w (2 * (0 + p) + 1))) q n x y) (sym one_block)
     (record {
       fours = λ p i l k.
           let zero : p ≡ 0 = omega arith in
-          subst (λ n. FourAt (IsFourSplit m (w (0 + n)) (w (2 * (0 + n))) (w (2 * (0 + n) + 1))) (n * size) q i x y)
-          (sym zero)
-          (subst (λ n. FourAt (IsFourSplit m (w 0) (w 0) (w 1)) n q i x y) (sym (zero-mul size)) (four i k));
+          subst (λ n. FourAt (R (w (0 + n)) (w (2 * (0 + n))) (w (2 * (0 + n) + 1))) (n * size) q i x y) (sym zero)
+          (subst (λ n. FourAt (R (w 0) (w 0) (w 1)) n q i x y) (sym (zero-mul size)) (four i k));
       kept = λ k l. block.after k (omega arith);
     }))

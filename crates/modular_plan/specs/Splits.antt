@@ -2,7 +2,7 @@
 -- Computational Frameworks for the Fast Fourier Transform, chapter 2), with one factor for each block (Bernstein,
 -- "Multidigit multiplication for mathematicians", section 2) and entries below a multiple of m (Harvey, "Faster
 -- arithmetic for number-theoretic transforms", section 3). The names are the library's own words.
-use Rattle.std.specs.Prelude.{◌≡◌, ◌≢◌, ℕ, ◌+◌, ◌*◌, ◌/◌, ◌<◌, ◌≤◌, List, All, length}
+use Rattle.std.specs.Prelude.{◌≡◌, ℕ, ◌+◌, ◌*◌, ◌/◌, ◌<◌, ◌≤◌, List, All, length}
 use Rattle.std.specs.Int.{IsPowerOfTwo}
 use Rattle.modular_plan.specs.Factors.{IsFactor}
 use Rattle.modular_plan.specs.Plans.{numbers}
@@ -35,8 +35,13 @@ pub record AreAt (i j k l : ℕ) (x : ℕ → ℕ) (a b c d : ℕ) : Type 0 wher
   pub third : c ≡ x k
   pub fourth : d ≡ x l
 
--- four quarters of equal length, all of whose entries are below a bound
-pub record AreQuarters {X : Type 0} (number : X → ℕ) (bound : ℕ) (a b c d : List X) : Type 0 where
+-- R holds of four numbers before and after, and those after are below a bound
+pub record DoneBelow (bound : ℕ) (R : ℕ → ℕ → ℕ → ℕ → ℕ → ℕ → ℕ → ℕ → Type 0) (a b c d a' b' c' d' : ℕ) : Type 0 where
+  pub below : AreFourBelow bound a' b' c' d'
+  pub done : R a b c d a' b' c' d'
+
+-- four quarters of equal length, all of whose entries are below a bound that is at most the limit
+pub record AreQuarters {X : Type 0} (number : X → ℕ) (bound limit : ℕ) (a b c d : List X) : Type 0 where
   pub first : All (λ x. number x < bound) a
   pub second : All (λ x. number x < bound) b
   pub third : All (λ x. number x < bound) c
@@ -44,23 +49,32 @@ pub record AreQuarters {X : Type 0} (number : X → ℕ) (bound : ℕ) (a b c d 
   pub second_length : length b ≡ length a
   pub third_length : length c ≡ length a
   pub fourth_length : length d ≡ length a
-
--- column i of four quarters is done, and the others are unchanged
-pub record ColumnDone (R : ℕ → ℕ → ℕ → ℕ → ℕ → ℕ → ℕ → ℕ → Type 0) (i : ℕ) (a b c d a' b' c' d' : ℕ → ℕ) : Type 0 where
-  pub column : R (a i) (b i) (c i) (d i) (a' i) (b' i) (c' i) (d' i)
-  pub kept : (k : ℕ) → k ≢ i → (a' k ≡ a k) × (b' k ≡ b k) × (c' k ≡ c k) × (d' k ≡ d k)
+  pub fits : bound ≤ limit
 
 -- the first columns are done, and the others are unchanged
 pub record ColumnsDone (R : ℕ → ℕ → ℕ → ℕ → ℕ → ℕ → ℕ → ℕ → Type 0) (done : ℕ) (a b c d a' b' c' d' : ℕ → ℕ) : Type 0 where
   pub columns : (k : ℕ) → k < done → R (a k) (b k) (c k) (d k) (a' k) (b' k) (c' k) (d' k)
   pub kept : (k : ℕ) → done ≤ k → (a' k ≡ a k) × (b' k ≡ b k) × (c' k ≡ c k) × (d' k ≡ d k)
 
--- two halves of q + q entries each, all below a bound
-pub record AreHalves {X : Type 0} (number : X → ℕ) (bound q : ℕ) (xs ys : List X) : Type 0 where
+-- two halves of q + q entries each, all below a bound that is at most the limit
+pub record AreHalves {X : Type 0} (number : X → ℕ) (bound limit q : ℕ) (xs ys : List X) : Type 0 where
   pub low : All (λ x. number x < bound) xs
   pub high : All (λ x. number x < bound) ys
   pub low_length : length xs ≡ q + q
   pub high_length : length ys ≡ q + q
+  pub fits : bound ≤ limit
+
+-- a block of four times q entries from index first on; the list's entries are below a bound that is at most the limit
+pub record IsBlockReady {X : Type 0} (number : X → ℕ) (bound limit first q : ℕ) (xs : List X) : Type 0 where
+  pub entries : All (λ x. number x < bound) xs
+  pub within : first + (q + q + (q + q)) ≤ length xs
+  pub fits : bound ≤ limit
+
+-- four entries from index first on, below a bound
+pub record AreNeighbours {X : Type 0} (number : X → ℕ) (bound first : ℕ) (xs : List X) : Type 0 where
+  pub below : AreFourBelow bound (numbers number xs first) (numbers number xs (first + 1)) (numbers number xs (first + 2))
+      (numbers number xs (first + 3))
+  pub within : first + 3 < length xs
 
 -- all columns of a block are done; x and y are its halves
 pub record HalvesDone (R : ℕ → ℕ → ℕ → ℕ → ℕ → ℕ → ℕ → ℕ → Type 0) (q : ℕ) (x y x' y' : ℕ → ℕ) : Type 0 where

@@ -5,6 +5,7 @@ ghost use Rattle.modular_word.specs.Congruence.{Congruent};
 ghost use Rattle.modular_word.specs.Reciprocals.{IsReciprocal};
 ghost use Rattle.modular_plan.specs.Factors.{IsFactor};
 
+use crate::bounded::Bounded;
 use modular_prim::below::reduced_once;
 use modular_prim::plain_word::PlainWord;
 use modular_prim::reciprocal::invert_word;
@@ -197,14 +198,11 @@ impl<T: PlainWord> PlannedModulus<T> {
         self.modulus.plus(self.modulus)
     }
 
-    /// Whether a word of more than 32 bits is at least 4m; false for shorter words. A loop over entries below 4m
-    /// returns where this is true, which it never is: so compilers can't compute the loop's trip count, and don't
-    /// vectorize it. Vectors of words of more than 32 bits would be slower.
+    /// Whether a word of more than 32 bits is at least 4m; false for shorter words (see `Bounded::is_beyond`).
     pub fn is_outside(&self, x: T) -> bool
         ensures { IsTrue result → 4 * T.number self.now.modulus ≤ T.number x }
     {
-        let twice = self.twice();
-        T::bits() > 32 && twice.plus(twice.minus(T::one())).is_below(x)
+        self.is_beyond(x)
     }
 
     /// Whether a word is below 4m.

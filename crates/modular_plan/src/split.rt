@@ -9,10 +9,11 @@ ghost use Rattle.modular_plan.specs.Steps.{IsPairSplit, PairDone, BlockDone};
 ghost use Rattle.modular_plan.specs.Steps.{StageDone, IsLevel};
 
 use crate::entry::PlanEntry;
+use crate::four_splits::{SplitByOne, SplitFour, SplitToResidues};
 use crate::modulus::{Factor, PlannedModulus};
+use crate::passes::{neighbours, quarters};
 use crate::places::factors_at;
 use crate::roomy::RoomyModulus;
-use crate::split_blocks::{split_by_one, split_neighbours, split_quarters};
 use crate::split_steps::SplitSteps;
 use modular_prim::plain_word::PlainWord;
 use modular_word::path_word::PathWord;
@@ -25,11 +26,11 @@ fn split_pair<T: PlainWord, M: SplitSteps<T>>(
     high: usize,
     w: &Factor<T>,
 )
-    requires entries { All (λ x. T.number x < M.bound m.now) xs.old }
+    requires entries { All (λ x. T.number x < M.limit m.now) xs.old }
     requires factor { IsFactor T.base (M.modulus m.now) (T.number w.now.value) (T.number w.now.quotient) }
     requires order { low < high }
     requires within { high < length xs.old }
-    ensures entries { All (λ x. T.number x < M.bound m.now) xs.new }
+    ensures entries { All (λ x. T.number x < M.limit m.now) xs.new }
     ensures done { PairDone (IsPairSplit (M.modulus m.now) (T.number w.now.value)) low high
         (numbers T.number xs.old) (numbers T.number xs.new) }
 {
@@ -46,15 +47,15 @@ fn split_block<T: PlainWord, M: SplitSteps<T>>(
     half: usize,
     w: &Factor<T>,
 )
-    requires entries { All (λ x. T.number x < M.bound m.now) xs.old }
+    requires entries { All (λ x. T.number x < M.limit m.now) xs.old }
     requires factor { IsFactor T.base (M.modulus m.now) (T.number w.now.value) (T.number w.now.quotient) }
     requires within { first + (half + half) ≤ length xs.old }
-    ensures entries { All (λ x. T.number x < M.bound m.now) xs.new }
+    ensures entries { All (λ x. T.number x < M.limit m.now) xs.new }
     ensures done { BlockDone (IsPairSplit (M.modulus m.now) (T.number w.now.value)) first half half
         (numbers T.number xs.old) (numbers T.number xs.new) }
 {
     'columns: for i in 0..half {
-        // Unreachable; keeps LLVM from vectorizing this loop (see `is_beyond`).
+        // Unreachable (see `is_beyond`).
         if m.is_beyond(xs[first + i]) {
             return;
         }
@@ -71,13 +72,13 @@ fn split_stage<T: PlainWord, M: SplitSteps<T>, F: PlanEntry<T>>(
     table: &[F],
     first: usize,
 )
-    requires entries { All (λ x. T.number x < M.bound m.now) xs.old }
+    requires entries { All (λ x. T.number x < M.limit m.now) xs.old }
     requires factors { All (λ f. IsFactor T.base (M.modulus m.now) (F.value f) (F.quotient f))
         table.now }
     requires whole { blocks * (half + half) ≡ length xs.old }
     requires within { first + blocks ≤ length table.now }
     requires some { 0 < half }
-    ensures entries { All (λ x. T.number x < M.bound m.now) xs.new }
+    ensures entries { All (λ x. T.number x < M.limit m.now) xs.new }
     ensures done { StageDone
         (λ p. IsPairSplit (M.modulus m.now) (numbers F.value table.now (first + p))) half blocks
         (numbers T.number xs.old) (numbers T.number xs.new) }
@@ -99,15 +100,16 @@ fn split_two_stages<T: PlainWord, M: SplitSteps<T>, F: PlanEntry<T>>(
     table: &[F],
     first: usize,
 )
-    requires { IsPassReady T.number F.value F.quotient T.base (M.modulus m.now) (M.bound m.now)
+    requires { IsPassReady T.number F.value F.quotient T.base (M.modulus m.now) (M.limit m.now)
         q blocks first xs.old table.now }
-    ensures { IsPassDone T.number F.value (M.modulus m.now) (M.bound m.now) q blocks first table.now
+    ensures { IsPassDone T.number F.value (M.modulus m.now) (M.limit m.now) q blocks first table.now
         xs.old xs.new }
 {
     'four_quarters: for p in 0..blocks {
         let (w, u, v) = factors_at(table, first + p);
         let half = q + q;
-        split_quarters(m, xs, p * (half + half), q, &w, &u, &v);
+        let step = SplitFour { m: *m, w, u, v };
+        quarters(m, &step, xs, p * (half + half), q);
     }
 }
 
@@ -121,9 +123,9 @@ fn split_known<T: PlainWord, M: SplitSteps<T>, F: PlanEntry<T>>(
     table: &[F],
     first: usize,
 )
-    requires { IsPassReady T.number F.value F.quotient T.base (M.modulus m.now) (M.bound m.now)
+    requires { IsPassReady T.number F.value F.quotient T.base (M.modulus m.now) (M.limit m.now)
         q blocks first xs.old table.now }
-    ensures { IsPassDone T.number F.value (M.modulus m.now) (M.bound m.now) q blocks first table.now
+    ensures { IsPassDone T.number F.value (M.modulus m.now) (M.limit m.now) q blocks first table.now
         xs.old xs.new }
 {
     match q {
@@ -147,15 +149,16 @@ fn split_pass<T: PlainWord, M: SplitSteps<T>, F: PlanEntry<T>>(
     table: &[F],
     first: usize,
 )
-    requires ready { IsPassReady T.number F.value F.quotient T.base (M.modulus m.now) (M.bound m.now)
+    requires ready { IsPassReady T.number F.value F.quotient T.base (M.modulus m.now) (M.limit m.now)
         q blocks first xs.old table.now }
     requires first_entries { blocks ≡ 1 → All (λ x. T.number x < 4 * M.modulus m.now) xs.old }
-    ensures { IsPassDone T.number F.value (M.modulus m.now) (M.bound m.now) q blocks first table.now
+    ensures { IsPassDone T.number F.value (M.modulus m.now) (M.limit m.now) q blocks first table.now
         xs.old xs.new }
 {
     if blocks == 1 && first == 0 && table[0].factor().is_one() {
         let v = table[1].factor();
-        split_by_one(m, xs, q, &v);
+        let step = SplitByOne { m: *m, v };
+        quarters(m, &step, xs, 0, q);
     } else {
         split_known(m, xs, q, blocks, table, first);
     }
@@ -169,7 +172,7 @@ fn split_fours<T: PlainWord, M: SplitSteps<T>, F: PlanEntry<T>>(
     table: &[F],
     first: usize,
 )
-    requires { IsPassReady T.number F.value F.quotient T.base (M.modulus m.now) (M.bound m.now)
+    requires { IsPassReady T.number F.value F.quotient T.base (M.modulus m.now) (M.limit m.now)
         1 blocks first xs.old table.now }
     ensures { IsPassDone T.number F.value (M.modulus m.now) (M.modulus m.now) 1 blocks first table.now
         xs.old xs.new }
@@ -177,17 +180,18 @@ fn split_fours<T: PlainWord, M: SplitSteps<T>, F: PlanEntry<T>>(
     'fours: for p in 0..blocks {
         let (w, u, v) = factors_at(table, first + p);
         let place = p * 4;
-        // Unreachable; keeps LLVM from vectorizing this loop (see `is_beyond`).
+        // Unreachable (see `is_beyond`).
         if m.is_beyond(xs[place]) {
             return;
         }
-        split_neighbours(m, xs, place, &w, &u, &v);
+        let step = SplitFour { m: *m, w, u, v };
+        neighbours(&SplitToResidues { step }, xs, place);
     }
 }
 
 // Replaces each entry by its residue.
 fn reduce_each<T: PlainWord, M: SplitSteps<T>>(m: &M, xs: &mut [T])
-    requires { All (λ x. T.number x < M.bound m.now) xs.old }
+    requires { All (λ x. T.number x < M.limit m.now) xs.old }
     ensures residues { (i : ℕ) → i < length xs.old
         → numbers T.number xs.new i ≡ numbers T.number xs.old i % M.modulus m.now }
     ensures below { All (λ x. T.number x < M.modulus m.now) xs.new }
@@ -229,7 +233,7 @@ fn split_stages<T: PlainWord, M: SplitSteps<T>, F: PlanEntry<T>>(
     last: usize,
 )
     requires { IsSplittable T.number F.value F.quotient T.base (M.modulus m.now) b last xs.old table.now }
-    ensures entries { All (λ x. T.number x < M.bound m.now) xs.new }
+    ensures entries { All (λ x. T.number x < M.limit m.now) xs.new }
     ensures level { let modulus = M.modulus m.now in (g z : ℕ) →
         IsPlan modulus g z (length table.now) (numbers F.value table.now) →
         IsLevel modulus g z b (length xs.old / last) last (numbers T.number xs.old) (numbers T.number xs.new) }

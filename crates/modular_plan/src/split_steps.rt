@@ -1,11 +1,12 @@
 //! The steps of a pass of `split`, by how much greater than the modulus words may be.
 
-ghost use Rattle.std.specs.Prelude.{◌≡◌, ℕ, ◌+◌, ◌*◌, ◌%◌, ◌<◌, ◌≤◌, IsTrue};
+ghost use Rattle.std.specs.Prelude.{◌≡◌, ℕ, ◌+◌, ◌*◌, ◌%◌, ◌<◌, ◌≤◌};
 ghost use Rattle.std.proofs.Common.{le_refl, mul-le-mul_right, lit≤};
 ghost use Rattle.modular_plan.specs.Factors.{IsFactor};
 ghost use Rattle.modular_plan.specs.Splits.{AreFourBelow, AreFactors};
 ghost use Rattle.modular_plan.specs.Steps.{IsPairSplit, IsFourSplit};
 
+use crate::bounded::Bounded;
 use crate::modulus::{Factor, PlannedModulus};
 use crate::roomy::RoomyModulus;
 use modular_prim::below::reduced_once;
@@ -13,25 +14,17 @@ use modular_prim::plain_word::PlainWord;
 use modular_word::path_word::PathWord;
 use modular_word::ring_word::RingWord;
 
-/// A modulus m by which pairs and fours of entries are split. Between two passes the entries stay below a bound, a
-/// multiple of m. Condition of each call: entries x, y, z and t are below the bound, and factors are factors modulo m.
-pub trait SplitSteps<T: PlainWord>: Copy {
+/// A modulus m by which pairs and fours of entries are split. Between two passes the entries stay below the limit, a
+/// multiple of m. Condition of each call: entries x, y, z and t are below it, and factors are factors modulo m.
+pub trait SplitSteps<T: PlainWord>: Bounded<T> + Copy {
     ghost modulus: { Self → ℕ };
 
-    ghost bound: { Self → ℕ };
-
-    /// Whether a word of more than 32 bits is at least the bound; false for shorter words. A loop over entries below
-    /// the bound returns where this is true, which it never is: so compilers can't compute the loop's trip count, and
-    /// don't vectorize it. Vectors of words of more than 32 bits would be slower.
-    fn is_beyond(&self, x: T) -> bool
-        ensures { IsTrue result → bound self.now ≤ T.number x };
-
-    /// Numbers below the bound, congruent to x + y·w and x - y·w.
+    /// Numbers below the limit, congruent to x + y·w and x - y·w.
     fn pair(&self, x: T, y: T, w: &Factor<T>) -> (T, T)
-        requires below { T.number x < bound self.now }
+        requires below { T.number x < Self.limit self.now }
         requires factor { IsFactor T.base (modulus self.now) (T.number w.now.value) (T.number w.now.quotient) }
-        ensures below { T.number result.0 < bound self.now }
-        ensures difference_below { T.number result.1 < bound self.now }
+        ensures below { T.number result.0 < Self.limit self.now }
+        ensures difference_below { T.number result.1 < Self.limit self.now }
         ensures pair { IsPairSplit (modulus self.now) (T.number w.now.value) (T.number x) (T.number y)
             (T.number result.0) (T.number result.1) };
 
@@ -47,10 +40,10 @@ pub trait SplitSteps<T: PlainWord>: Copy {
         u: &Factor<T>,
         v: &Factor<T>,
     ) -> (T, T, T, T)
-        requires below { (T.number x < bound self.now) × (T.number y < bound self.now) }
+        requires below { (T.number x < Self.limit self.now) × (T.number y < Self.limit self.now) }
         requires factors { AreFactors T.base (modulus self.now) (T.number w.now.value) (T.number w.now.quotient)
             (T.number u.now.value) (T.number u.now.quotient) (T.number v.now.value) (T.number v.now.quotient) }
-        ensures below { AreFourBelow (bound self.now) (T.number result.0) (T.number result.1)
+        ensures below { AreFourBelow (Self.limit self.now) (T.number result.0) (T.number result.1)
             (T.number result.2) (T.number result.3) }
         ensures four { IsFourSplit (modulus self.now) (T.number w.now.value) (T.number u.now.value)
             (T.number v.now.value) (T.number x) (T.number y) (T.number z) (T.number t)
@@ -60,7 +53,7 @@ pub trait SplitSteps<T: PlainWord>: Copy {
     fn four_by_one(&self, x: T, y: T, z: T, t: T, v: &Factor<T>) -> (T, T, T, T)
         requires below { AreFourBelow (4 * modulus self.now) (T.number x) (T.number y) (T.number z) (T.number t) }
         requires factor { IsFactor T.base (modulus self.now) (T.number v.now.value) (T.number v.now.quotient) }
-        ensures below { AreFourBelow (bound self.now) (T.number result.0) (T.number result.1)
+        ensures below { AreFourBelow (Self.limit self.now) (T.number result.0) (T.number result.1)
             (T.number result.2) (T.number result.3) }
         ensures four { IsFourSplit (modulus self.now) 1 1 (T.number v.now.value)
             (T.number x) (T.number y) (T.number z) (T.number t)
@@ -68,12 +61,12 @@ pub trait SplitSteps<T: PlainWord>: Copy {
 
     /// The residue of an entry, below m.
     fn residue(&self, x: T) -> T
-        requires { T.number x < bound self.now }
+        requires { T.number x < Self.limit self.now }
         ensures { T.number result ≡ T.number x % modulus self.now };
 
     ghost some: { (m : Self) → 1 ≤ modulus m };
 
-    ghost room: { (m : Self) → 4 * modulus m ≤ bound m };
+    ghost room: { (m : Self) → 4 * modulus m ≤ Self.limit m };
 }
 
 // Numbers congruent to x + y·w and x - y·w, where x + 2m fits a word.
@@ -116,12 +109,6 @@ fn pair_by_one<T: PlainWord>(m: &PlannedModulus<T>, x: T, y: T) -> (T, T)
 impl<T: PlainWord> SplitSteps<T> for PlannedModulus<T> {
     ghost modulus = { λ m. T.number m.modulus };
 
-    ghost bound = { λ m. 4 * T.number m.modulus };
-
-    fn is_beyond(&self, x: T) -> bool {
-        self.is_outside(x)
-    }
-
     fn pair(&self, x: T, y: T, w: &Factor<T>) -> (T, T) {
         spread(self, reduced_once(x, self.twice()), y, w)
     }
@@ -163,13 +150,6 @@ impl<T: PlainWord> SplitSteps<T> for PlannedModulus<T> {
 // Entries stay below 12m. Of four numbers only one is reduced, from below 12m to below 8m, and no operand of a product.
 impl<T: PlainWord> SplitSteps<T> for RoomyModulus<T> {
     ghost modulus = { λ m. T.number m.planned.modulus };
-
-    ghost bound = { λ m. 12 * T.number m.planned.modulus };
-
-    fn is_beyond(&self, x: T) -> bool {
-        let least_below = self.eightfold().plus(self.fourfold().minus(T::one()));
-        T::bits() > 32 && least_below.is_below(x)
-    }
 
     fn pair(&self, x: T, y: T, w: &Factor<T>) -> (T, T) {
         spread(&self.planned, reduced_once(x, self.eightfold()), y, w)

@@ -1,10 +1,9 @@
 -- The last pass of a join by a plan that begins with 1, each entry times a number.
-use Rattle.std.proofs.Common.{◌≡◌, ℕ, ◌+◌, ◌-◌, ◌*◌, ◌/◌, ◌%◌, ◌^◌, ◌<◌, ◌≤◌, List, map, length}
-use Rattle.std.proofs.Common.{inl, inr, refl, sym, ◌∙◌, ap, arith, subst}
-use Rattle.std.proofs.Math.Nat.{zero-add, zero-mul, mul-div_cancel, mul-le-mul_left}
+use Rattle.std.proofs.Common.{◌≡◌, ℕ, ◌+◌, ◌*◌, ◌/◌, ◌%◌, ◌^◌, ◌<◌, ◌≤◌, List, map, length}
+use Rattle.std.proofs.Common.{refl, sym, ◌∙◌, ap, arith, subst}
+use Rattle.std.proofs.Math.Nat.{zero-mul, mul-div_cancel, mul-le-mul_left}
 use Rattle.std.proofs.Math.ListN.{length-map}
 use Rattle.std.proofs.lemmas.List.{get_or_past}
-use Rattle.std.proofs.lemmas.Bool.{cases_lt}
 use Rattle.std.proofs.lemmas.Nat.{pow_pos}
 use Rattle.std.specs.Int.{IsPowerOfTwo}
 use Rattle.modular_word.specs.Congruence.{Congruent}
@@ -12,8 +11,8 @@ use Rattle.modular_word.specs.Sums.{sum_below}
 use Rattle.modular_word.proofs.Congruence.{of_equal, chained, itself, multiplied}
 use Rattle.modular_word.proofs.Sums.{sum_below-same, sum_below-mul}
 use Rattle.modular_plan.specs.Plans.{numbers, constant, IsPlan, AreRemainders}
-use Rattle.modular_plan.specs.Steps.{FourAt, BlockOfFours, StageOfFours, IsLevel}
-use Rattle.modular_plan_products.specs.Conditions.{AreFourBelow}
+use Rattle.modular_plan.specs.Steps.{FourAt, IsLevel}
+use Rattle.modular_plan.proofs.Fours.{first_stage}
 use Rattle.modular_plan_products.specs.Joins.{IsFourJoin}
 use Rattle.modular_plan_products.proofs.Joins.{level_lowest, level_top}
 use Rattle.modular_plan_products.proofs.TwoJoins.{two_join_sizes, level_joined_two}
@@ -22,23 +21,6 @@ use Rattle.modular_plan_products.proofs.TwoJoins.{two_join_sizes, level_joined_t
 pub numbers_past : {T : Type 0} (number : T → ℕ) (words : List T) (k : ℕ) → length words ≤ k → numbers number words k ≡ 0
 numbers_past number words k le =
     get_or_past (map number words) k 0 (subst (λ v. v ≤ k) (sym (length-map words number)) le)
-
--- the entries of a block whose columns are all below a bound
-pub fours_below : (bound q : ℕ) (x y : ℕ → ℕ) → BlockOfFours (λ a b c d. AreFourBelow bound) 0 q q x y
-    → (k : ℕ) → k < q + q + (q + q) → y k < bound
-fours_below bound q x y done k l = elim (cases_lt k q) [
-  | inl l0 ↦ subst (λ v. y v < bound) (zero-add k) (done.fours k l0).first
-  | inr l0 ↦ elim (cases_lt k (q + q)) [
-    | inl l1 ↦ subst (λ v. y v < bound) (let e : 0 + (q + (k - q)) ≡ k = omega arith in e)
-        (done.fours (k - q) (omega arith)).second
-    | inr l1 ↦ elim (cases_lt k (q + q + q)) [
-      | inl l2 ↦ subst (λ v. y v < bound) (let e : 0 + (q + q + (k - (q + q))) ≡ k = omega arith in e)
-          (done.fours (k - (q + q)) (omega arith)).third
-      | inr l2 ↦ subst (λ v. y v < bound) (let e : 0 + (q + q + (q + (k - (q + q + q)))) ≡ k = omega arith in e)
-          (done.fours (k - (q + q + q)) (omega arith)).fourth
-    ]
-  ]
-]
 
 -- a scale that is taken out
 pub rescaled : (a s n x : ℕ) → s * a ≡ n → a * (s * x) ≡ n * x
@@ -110,29 +92,6 @@ remainders_scaled {m} g z b count last s x y are = record {
       (multiplied one (itself s)).same ∙ ap (λ v. v % m) (turn ∙ sym all);
 }
 
--- the whole list as one block is a stage
-first_join_stage : (m q n blocks : ℕ) (w x y : ℕ → ℕ) → n ≡ 0 → blocks ≡ 1 → w 0 ≡ 1
-    → ((i : ℕ) → i < q → FourAt (IsFourJoin m 1 1 (w 1)) 0 q i x y)
-    → ((k : ℕ) → q + q + (q + q) ≤ k → y k ≡ x k)
-    → StageOfFours (λ p. IsFourJoin m (w (n + p)) (w (2 * (n + p))) (w (2 * (n + p) + 1))) q blocks x y
-first_join_stage m q n blocks w x y no_first one_block begins columns past =
-    let size : ℕ = q + q + (q + q) in
-    let four : (i : ℕ) → i < q → FourAt (IsFourJoin m (w 0) (w 0) (w 1)) 0 q i x y =
-    λ i l. subst (λ v. FourAt (IsFourJoin m v (w 0) (w 1)) 0 q i x y) (sym begins)
-    (subst (λ v. FourAt (IsFourJoin m 1 v (w 1)) 0 q i x y) (sym begins) (columns i l)) in
-    subst (λ f. StageOfFours (λ p. IsFourJoin m (w (f + p)) (w (2 * (f + p))) (w (2 * (f + p) + 1))) q blocks x y)
-    (sym no_first)
-    (subst (λ v. StageOfFours (λ p. IsFourJoin m (w (0 + p)) (w (2 * (0 + p))) (w (2 * (0 + p) + 1))) q v x y)
-    (sym one_block)
-    (record {
-      fours = λ p i l k.
-          let zero : p ≡ 0 = omega arith in
-          subst (λ v. FourAt (IsFourJoin m (w (0 + v)) (w (2 * (0 + v))) (w (2 * (0 + v) + 1))) (v * size) q i x y)
-          (sym zero)
-          (subst (λ v. FourAt (IsFourJoin m (w 0) (w 0) (w 1)) v q i x y) (sym (zero-mul size)) (four i k));
-      kept = λ k l. past k (omega arith);
-    }))
-
 -- the entries of the plan
 pub two_entries : (b count entries : ℕ) → b ≡ 0 → count ≡ 4 → (b + 1) * (count / 2) ≤ entries → 2 ≤ entries
 two_entries b count entries no_b four room =
@@ -156,8 +115,13 @@ last_joined {m} g z b last count length entries s w x y after some no_b four pow
     let no_first : b * (count / 4) ≡ 0 = ap (λ v. v * (count / 4)) no_b ∙ zero-mul (count / 4) in
     let level = level_joined_two g z b count last last 0 count length entries w (λ k. x k * s) (λ k. y k * s) after sizes
     room plan (level_lowest g z b count last (λ k. x k * s) (λ k. y k * s) (remainders_scaled g z b count last s x y are))
-    (first_join_stage m last (b * (count / 4)) (count / 4) w (λ k. y k * s) after no_first (omega (arith, four)) begins
-    columns (λ k h. past k (omega (arith, fill, h)))) in
+    (first_stage (IsFourJoin m) last (w 1) (b * (count / 4)) (count / 4) w (λ k. y k * s) after no_first
+    (omega (arith, four)) begins refl (record {
+      fours = columns;
+      others = λ k h h'. absurd (omega arith);
+      before = λ k h. absurd (omega arith);
+      after = λ k h. past k (omega (arith, fill, h));
+    })) in
     let spread : count * (x i * s) ≡ count * x i * s = omega arith in
     chained (level_top g z b (last * 4) last (count / 4) sizes.rest 2 count length (λ k. x k * s) after some
     (omega (arith, fill, some)) (omega (arith, fill)) sizes.halved sizes.sized sizes.counted whole level i l)

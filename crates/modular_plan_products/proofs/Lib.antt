@@ -4,7 +4,6 @@ pub mod Constants
 pub mod Convolutions
 pub mod JoinedPairs
 pub mod Joins
-pub mod KnownEntries
 pub mod LastJoins
 pub mod Mirrors
 pub mod NaturalOrder

@@ -2,7 +2,7 @@
 use Rattle.std.proofs.Common.{◌≡◌, ℕ, suc, zero, ◌+◌, ◌-◌, ◌*◌, ◌/◌, ◌%◌, ◌^◌, ◌<◌}
 use Rattle.std.proofs.Common.{◌≤◌, inl, inr, refl, sym, ◌∙◌, ap, arith, subst}
 use Rattle.std.proofs.Math.Nat.{two-pow-succ, mul-le-mul_left, mul-le-mul_right}
-use Rattle.std.proofs.lemmas.Bool.{cases_eq, cases_lt}
+use Rattle.std.proofs.lemmas.Bool.{cases_lt}
 use Rattle.std.specs.Int.{IsPowerOfTwo}
 use Rattle.modular_word.specs.Congruence.{Congruent}
 use Rattle.modular_word.specs.Sums.{sum_below}
@@ -10,10 +10,8 @@ use Rattle.modular_word.proofs.Congruence.{of_equal, chained, residue_of}
 use Rattle.modular_transform.specs.Orders.{bits_reversed}
 use Rattle.modular_transform.specs.Transforms.{Suits}
 use Rattle.modular_plan.specs.Plans.{constant, IsPlan, AreRemainders}
-use Rattle.modular_plan.specs.Steps.{FourAt, FourDone, BlockOfFours, StageOfFours, IsLevel}
-use Rattle.modular_plan.proofs.Fours.{fours_none, fours_more}
+use Rattle.modular_plan.specs.Steps.{FourAt, StageOfFours, IsLevel}
 use Rattle.modular_plan.proofs.Levels.{table_room}
-use Rattle.modular_plan_products.specs.Conditions.{AreFourBelow}
 use Rattle.modular_plan_products.specs.Joins.{IsFourJoin}
 use Rattle.modular_plan_products.proofs.Joins.{joined_pair, level_entry, level_lowest, JoinSizes, join_sizes}
 use Rattle.modular_plan_products.proofs.JoinedPairs.{joined_pair_along}
@@ -193,33 +191,6 @@ joined_four_along w u v first second third fourth four = record {
   first = four.first;
   second = four.second;
 }
-
--- four entries below a bound, and all before them
-pub four_below : (bound i : ℕ) (x y : ℕ → ℕ)
-    → FourDone (λ a b c d. AreFourBelow bound) i (i + 1) (i + 2) (i + 3) x y
-    → ((k : ℕ) → k < i → x k < bound) → (k : ℕ) → k < i + 4 → y k < bound
-four_below bound i x y step before k l = elim (cases_eq k i) [
-  | inl e ↦ subst (λ v. y v < bound) (sym e) step.four.first
-  | inr n0 ↦ elim (cases_eq k (i + 1)) [
-    | inl e ↦ subst (λ v. y v < bound) (sym e) step.four.second
-    | inr n1 ↦ elim (cases_eq k (i + 2)) [
-      | inl e ↦ subst (λ v. y v < bound) (sym e) step.four.third
-      | inr n2 ↦ elim (cases_eq k (i + 3)) [
-        | inl e ↦ subst (λ v. y v < bound) (sym e) step.four.fourth
-        | inr n3 ↦ subst (λ v. v < bound) (sym (step.kept k n0 n1 n2 n3)) (before k (omega arith))
-      ]
-    ]
-  ]
-]
-
--- a block of four entries
-pub block_of_four : (R : ℕ → ℕ → ℕ → ℕ → ℕ → ℕ → ℕ → ℕ → Type 0) (i : ℕ) (x y : ℕ → ℕ)
-    → FourDone R i (i + 1) (i + 2) (i + 3) x y
-    → BlockOfFours R i 1 1 x y
-block_of_four R i x y step =
-    let e : i ≡ i + 0 = omega arith in
-    fours_more R i 1 0 x x y (omega arith) (fours_none R i 1 x)
-    (subst (λ v. FourDone R v (i + 1) (i + 2) (i + 3) x y) e step)
 
 -- the sizes where the first two stages make blocks of four entries
 pub record FirstFours (b last length entries : ℕ) : Type 0 where

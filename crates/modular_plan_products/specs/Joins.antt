@@ -28,3 +28,11 @@ pub record AreMinusInverses (m a b c w u v : ℕ) : Type 0 where
   pub own : IsMinusInverse m a w
   pub low : IsMinusInverse m b u
   pub high : IsMinusInverse m c v
+
+-- a, b, c and d are joined by all numbers that w, u and v are minus the inverses of
+pub record IsJoinByFactors (m w u v a b c d a' b' c' d' : ℕ) : Type 0 where
+  pub each : (x y z : ℕ) → AreMinusInverses m x y z w u v → IsFourJoin m x y z a b c d a' b' c' d'
+
+-- a, b, c and d are joined by 1, by 1 and by a number that v is minus the inverse of, and multiplied by s
+pub record IsLastJoin (m v s a b c d a' b' c' d' : ℕ) : Type 0 where
+  pub each : (w : ℕ) → IsMinusInverse m w v → IsFourJoin m 1 1 w (a * s) (b * s) (c * s) (d * s) a' b' c' d'

@@ -1,12 +1,13 @@
 //! The steps of a pass of `join`, by how much greater than the modulus words may be.
 
-ghost use Rattle.std.specs.Prelude.{◌≡◌, ℕ, ◌+◌, ◌*◌, ◌%◌, ◌<◌, ◌≤◌, IsTrue};
+ghost use Rattle.std.specs.Prelude.{◌≡◌, ℕ, ◌+◌, ◌*◌, ◌%◌, ◌<◌, ◌≤◌};
 ghost use Rattle.modular_word.specs.Congruence.{Congruent};
 ghost use Rattle.modular_plan.specs.Factors.{IsFactor};
 ghost use Rattle.modular_plan_products.specs.Joins.{IsPairJoin, IsFourJoin, IsMinusInverse, AreMinusInverses};
-ghost use Rattle.modular_plan_products.specs.Conditions.{AreFourBelow, AreThreeFactors};
+ghost use Rattle.modular_plan.specs.Splits.{AreFourBelow, AreFactors};
 ghost use Rattle.std.proofs.Common.{le_refl, mul-le-mul_right, lit≤};
 
+use modular_plan::bounded::Bounded;
 use modular_plan::modulus::{Factor, PlannedModulus};
 use modular_plan::roomy::RoomyModulus;
 use modular_prim::below::reduced_once;
@@ -16,7 +17,7 @@ use modular_word::ring_word::RingWord;
 
 /// A modulus m by which pairs and fours of entries are joined. Between two passes the entries stay below a bound, a
 /// multiple of m. Condition of each call: numbers x, y, z and t are below the bound, and factors are factors modulo m.
-pub trait JoinSteps<T: PlainWord> {
+pub trait JoinSteps<T: PlainWord>: Bounded<T> + Copy {
     ghost modulus: { Self → ℕ };
 
     // The bound of the entries of a list, between passes.
@@ -26,12 +27,6 @@ pub trait JoinSteps<T: PlainWord> {
     fn minus_one(&self) -> Factor<T>
         ensures factor { IsFactor T.base (modulus self.now) (T.number result.value) (T.number result.quotient) }
         ensures value { T.number result.value + 1 ≡ modulus self.now };
-
-    /// Whether a word of more than 32 bits is at least 4m; false for shorter words. A loop over entries below 4m
-    /// returns where this is true, which it never is: so compilers can't compute the loop's trip count, and don't
-    /// vectorize it. Vectors of words of more than 32 bits would be slower.
-    fn is_beyond(&self, x: T) -> bool
-        ensures { IsTrue result → 4 * modulus self.now ≤ T.number x };
 
     /// A number below the bound that is congruent to a word. Condition: it is below 4m.
     fn taken(&self, x: T) -> T
@@ -62,7 +57,7 @@ pub trait JoinSteps<T: PlainWord> {
         v: &Factor<T>,
     ) -> (T, T, T, T)
         requires below { AreFourBelow (bound self.now) (T.number x) (T.number y) (T.number z) (T.number t) }
-        requires factors { AreThreeFactors T.base (modulus self.now) (T.number w.now.value) (T.number w.now.quotient)
+        requires factors { AreFactors T.base (modulus self.now) (T.number w.now.value) (T.number w.now.quotient)
             (T.number u.now.value) (T.number u.now.quotient) (T.number v.now.value) (T.number v.now.quotient) }
         ensures below { AreFourBelow (bound self.now)
             (T.number result.0) (T.number result.1) (T.number result.2) (T.number result.3) }
@@ -96,6 +91,8 @@ pub trait JoinSteps<T: PlainWord> {
     ghost some: { (m : Self) → 1 ≤ modulus m };
 
     ghost bound_fits: { (m : Self) → bound m ≤ 4 * modulus m };
+
+    ghost room: { (m : Self) → 4 * modulus m ≤ Self.limit m };
 }
 
 // x + y, and a number below 2m that is congruent to (y - x)·v. Condition: x and y are below `bound`, a multiple of
@@ -139,10 +136,6 @@ impl<T: PlainWord> JoinSteps<T> for PlannedModulus<T> {
 
     fn minus_one(&self) -> Factor<T> {
         self.factor(self.modulus.minus(T::one()))
-    }
-
-    fn is_beyond(&self, x: T) -> bool {
-        self.is_outside(x)
     }
 
     fn taken(&self, x: T) -> T {
@@ -193,6 +186,8 @@ impl<T: PlainWord> JoinSteps<T> for PlannedModulus<T> {
     ghost some = { λ m. m.some };
 
     ghost bound_fits = { λ m. mul-le-mul_right (T.number m.modulus) (lit≤ tt) };
+
+    ghost room = { λ m. le_refl (4 * T.number m.modulus) };
 }
 
 // Entries stay below 4m. Within a four only the number that is a sum twice is reduced.
@@ -203,10 +198,6 @@ impl<T: PlainWord> JoinSteps<T> for RoomyModulus<T> {
 
     fn minus_one(&self) -> Factor<T> {
         self.planned.minus_one()
-    }
-
-    fn is_beyond(&self, x: T) -> bool {
-        self.planned.is_outside(x)
     }
 
     fn taken(&self, x: T) -> T {
@@ -261,4 +252,6 @@ impl<T: PlainWord> JoinSteps<T> for RoomyModulus<T> {
     ghost some = { λ m. m.planned.some };
 
     ghost bound_fits = { λ m. le_refl (4 * T.number m.planned.modulus) };
+
+    ghost room = { λ m. mul-le-mul_right (T.number m.planned.modulus) (lit≤ tt) };
 }

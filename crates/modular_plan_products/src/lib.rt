@@ -2,7 +2,9 @@
 #![tactic(auto)]
 
 pub mod convolution;
+mod four_joins;
 pub mod join;
 mod join_steps;
 pub mod products;
+mod stages;
 pub mod transform;

@@ -8,6 +8,7 @@ ghost use Rattle.modular_plan.specs.Plans.{numbers, constant, IsPlan};
 ghost use Rattle.modular_plan.specs.Steps.{PairDone};
 ghost use Rattle.modular_plan_products.specs.Products.{AreProducts};
 
+use modular_plan::bounded::Bounded;
 use modular_plan::entry::PlanEntry;
 use modular_plan::modulus::PlannedModulus;
 use modular_prim::plain_word::PlainWord;
@@ -23,8 +24,8 @@ fn multiply_each<T: PlainWord>(m: &PlannedModulus<T>, xs: &mut [T], ys: &[T])
 {
     'entries: for i in 0..xs.len() {
         let x = xs[i];
-        // Unreachable; keeps LLVM from vectorizing this loop (see `is_outside`).
-        if m.is_outside(x) {
+        // Unreachable (see `is_beyond`).
+        if m.is_beyond(x) {
             return;
         }
         xs[i] = m.multiply(x, ys[i]);
@@ -62,8 +63,8 @@ pub(crate) fn reduce_products<T: PlainWord>(
 {
     'entries: for i in 0..xs.len() {
         let y = ys[i];
-        // Unreachable; keeps LLVM from vectorizing this loop (see `is_outside`).
-        if m.is_outside(y) {
+        // Unreachable (see `is_beyond`).
+        if m.is_beyond(y) {
             return;
         }
         xs[i] = reduced_product(m, inverse, xs[i], y);

@@ -1,5 +1,6 @@
 //! Products by factors with a precomputed quotient, modulo an m that is at most a quarter of the base.
 
+use crate::modular_plan::bounded::Bounded;
 use crate::modular_prim::below::reduced_once;
 use crate::modular_prim::plain_word::PlainWord;
 use crate::modular_prim::reciprocal::invert_word;
@@ -185,13 +186,10 @@ impl<T: PlainWord> PlannedModulus<T> {
         self.modulus.plus(self.modulus)
     }
 
-    /// Whether a word of more than 32 bits is at least 4m; false for shorter words. A loop over entries below 4m
-    /// returns where this is true, which it never is: so compilers can't compute the loop's trip count, and don't
-    /// vectorize it. Vectors of words of more than 32 bits would be slower.
+    /// Whether a word of more than 32 bits is at least 4m; false for shorter words (see `Bounded::is_beyond`).
     #[inline]
     pub fn is_outside(&self, x: T) -> bool {
-        let twice = self.twice();
-        T::bits() > 32 && twice.plus(twice.minus(T::one())).is_below(x)
+        self.is_beyond(x)
     }
 
     /// Whether a word is below 4m.

@@ -1,10 +1,11 @@
 //! From a polynomial to its remainders modulo X^last - c, in place, by stages.
 
 use crate::modular_plan::entry::PlanEntry;
+use crate::modular_plan::four_splits::{SplitByOne, SplitFour, SplitToResidues};
 use crate::modular_plan::modulus::{Factor, PlannedModulus};
+use crate::modular_plan::passes::{neighbours, quarters};
 use crate::modular_plan::places::factors_at;
 use crate::modular_plan::roomy::RoomyModulus;
-use crate::modular_plan::split_blocks::{split_by_one, split_neighbours, split_quarters};
 use crate::modular_plan::split_steps::SplitSteps;
 use crate::modular_prim::plain_word::PlainWord;
 use crate::modular_word::path_word::PathWord;
@@ -33,7 +34,7 @@ fn split_block<T: PlainWord, M: SplitSteps<T>>(
     w: &Factor<T>,
 ) {
     'columns: for i in 0..half {
-        // Unreachable; keeps LLVM from vectorizing this loop (see `is_beyond`).
+        // Unreachable (see `is_beyond`).
         if m.is_beyond(xs[first + i]) {
             return;
         }
@@ -71,7 +72,8 @@ fn split_two_stages<T: PlainWord, M: SplitSteps<T>, F: PlanEntry<T>>(
     'four_quarters: for p in 0..blocks {
         let (w, u, v) = factors_at(table, first + p);
         let half = q + q;
-        split_quarters(m, xs, p * (half + half), q, &w, &u, &v);
+        let step = SplitFour { m: *m, w, u, v };
+        quarters(m, &step, xs, p * (half + half), q);
     }
 }
 
@@ -108,7 +110,8 @@ fn split_pass<T: PlainWord, M: SplitSteps<T>, F: PlanEntry<T>>(
 ) {
     if blocks == 1 && first == 0 && table[0].factor().is_one() {
         let v = table[1].factor();
-        split_by_one(m, xs, q, &v);
+        let step = SplitByOne { m: *m, v };
+        quarters(m, &step, xs, 0, q);
     } else {
         split_known(m, xs, q, blocks, table, first);
     }
@@ -125,11 +128,12 @@ fn split_fours<T: PlainWord, M: SplitSteps<T>, F: PlanEntry<T>>(
     'fours: for p in 0..blocks {
         let (w, u, v) = factors_at(table, first + p);
         let place = p * 4;
-        // Unreachable; keeps LLVM from vectorizing this loop (see `is_beyond`).
+        // Unreachable (see `is_beyond`).
         if m.is_beyond(xs[place]) {
             return;
         }
-        split_neighbours(m, xs, place, &w, &u, &v);
+        let step = SplitFour { m: *m, w, u, v };
+        neighbours(&SplitToResidues { step }, xs, place);
     }
 }
 

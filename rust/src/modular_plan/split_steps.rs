@@ -1,5 +1,6 @@
 //! The steps of a pass of `split`, by how much greater than the modulus words may be.
 
+use crate::modular_plan::bounded::Bounded;
 use crate::modular_plan::modulus::{Factor, PlannedModulus};
 use crate::modular_plan::roomy::RoomyModulus;
 use crate::modular_prim::below::reduced_once;
@@ -7,20 +8,15 @@ use crate::modular_prim::plain_word::PlainWord;
 use crate::modular_word::path_word::PathWord;
 use crate::modular_word::ring_word::RingWord;
 
-/// A modulus m by which pairs and fours of entries are split. Between two passes the entries stay below a bound, a
-/// multiple of m. Condition of each call: entries x, y, z and t are below the bound, and factors are factors modulo m.
-pub trait SplitSteps<T: PlainWord>: Copy {
-    /// Whether a word of more than 32 bits is at least the bound; false for shorter words. A loop over entries below
-    /// the bound returns where this is true, which it never is: so compilers can't compute the loop's trip count, and
-    /// don't vectorize it. Vectors of words of more than 32 bits would be slower.
-    fn is_beyond(&self, x: T) -> bool;
-
-    /// Numbers below the bound, congruent to x + y·w and x - y·w.
+/// A modulus m by which pairs and fours of entries are split. Between two passes the entries stay below the limit, a
+/// multiple of m. Condition of each call: entries x, y, z and t are below it, and factors are factors modulo m.
+pub trait SplitSteps<T: PlainWord>: Bounded<T> + Copy {
+    /// Numbers below the limit, congruent to x + y·w and x - y·w.
     ///
     /// # Preconditions
     ///
-    /// Entries x, y, z and t are below the bound, and factors are factors modulo m. This isn't tested:
-    /// outside it the call panics, or returns no meaningful result.
+    /// Entries x, y, z and t are below it, and factors are factors modulo m. This isn't tested: outside it
+    /// the call panics, or returns no meaningful result.
     fn pair(&self, x: T, y: T, w: &Factor<T>) -> (T, T);
 
     /// Two stages of four numbers a quarter of a block apart, with the factor w of the block, and u and v of its
@@ -28,8 +24,8 @@ pub trait SplitSteps<T: PlainWord>: Copy {
     ///
     /// # Preconditions
     ///
-    /// Entries x, y, z and t are below the bound, and factors are factors modulo m. This isn't tested:
-    /// outside it the call panics, or returns no meaningful result.
+    /// Entries x, y, z and t are below it, and factors are factors modulo m. This isn't tested: outside it
+    /// the call panics, or returns no meaningful result.
     fn four(
         &self,
         x: T,
@@ -45,16 +41,16 @@ pub trait SplitSteps<T: PlainWord>: Copy {
     ///
     /// # Preconditions
     ///
-    /// Entries x, y, z and t are below the bound, and factors are factors modulo m. This isn't tested:
-    /// outside it the call panics, or returns no meaningful result.
+    /// Entries x, y, z and t are below it, and factors are factors modulo m. This isn't tested: outside it
+    /// the call panics, or returns no meaningful result.
     fn four_by_one(&self, x: T, y: T, z: T, t: T, v: &Factor<T>) -> (T, T, T, T);
 
     /// The residue of an entry, below m.
     ///
     /// # Preconditions
     ///
-    /// Entries x, y, z and t are below the bound, and factors are factors modulo m. This isn't tested:
-    /// outside it the call panics, or returns no meaningful result.
+    /// Entries x, y, z and t are below it, and factors are factors modulo m. This isn't tested: outside it
+    /// the call panics, or returns no meaningful result.
     fn residue(&self, x: T) -> T;
 }
 
@@ -80,11 +76,6 @@ fn pair_by_one<T: PlainWord>(m: &PlannedModulus<T>, x: T, y: T) -> (T, T) {
 
 // Entries stay below 4m.
 impl<T: PlainWord> SplitSteps<T> for PlannedModulus<T> {
-    #[inline]
-    fn is_beyond(&self, x: T) -> bool {
-        self.is_outside(x)
-    }
-
     #[inline]
     fn pair(&self, x: T, y: T, w: &Factor<T>) -> (T, T) {
         spread(self, reduced_once(x, self.twice()), y, w)
@@ -123,12 +114,6 @@ impl<T: PlainWord> SplitSteps<T> for PlannedModulus<T> {
 
 // Entries stay below 12m. Of four numbers only one is reduced, from below 12m to below 8m, and no operand of a product.
 impl<T: PlainWord> SplitSteps<T> for RoomyModulus<T> {
-    #[inline]
-    fn is_beyond(&self, x: T) -> bool {
-        let least_below = self.eightfold().plus(self.fourfold().minus(T::one()));
-        T::bits() > 32 && least_below.is_below(x)
-    }
-
     #[inline]
     fn pair(&self, x: T, y: T, w: &Factor<T>) -> (T, T) {
         spread(&self.planned, reduced_once(x, self.eightfold()), y, w)

@@ -1,234 +1,15 @@
 //! From remainders modulo X^last - c back to the polynomial, in place, by stages.
 
+use crate::modular_plan_products::four_joins::JoinByOne;
 use crate::modular_plan_products::join_steps::JoinSteps;
+use crate::modular_plan_products::stages::{join_fours, join_known, join_stage, minus_inverses};
 use crate::modular_plan::entry::PlanEntry;
 use crate::modular_plan::modulus::{Factor, PlannedModulus};
+use crate::modular_plan::passes::quarters;
 use crate::modular_plan::roomy::RoomyModulus;
 use crate::modular_prim::plain_word::PlainWord;
 use crate::modular_word::path_word::PathWord;
 use crate::modular_word::ring_word::RingWord;
-
-// The index with the bits below its highest bit 2^k inverted.
-#[inline]
-fn mirrored(place: usize) -> usize {
-    let power = 1 << crate::additions::ilog2(place);
-    power + (power - 1 - (place - power))
-}
-
-// Minus the inverse of the factor at an index: the factor at the mirrored index, or -1 for index 0. Where the table
-// is no plan the mirrored index may be out of bounds.
-#[inline]
-fn minus_inverse<T: PlainWord, F: PlanEntry<T>, M: JoinSteps<T>>(
-    m: &M,
-    table: &[F],
-    place: usize,
-    minus: Factor<T>,
-) -> Factor<T> {
-    if place == 0 {
-        return minus;
-    }
-    let other = mirrored(place);
-    if other < table.len() {
-        table[other].factor()
-    } else {
-        minus
-    }
-}
-
-// Minus the inverses of the factors of a block and of its halves. One mirrored index gives all three: those of the
-// halves are at twice that index, in the opposite order.
-fn minus_inverses<T: PlainWord, F: PlanEntry<T>, M: JoinSteps<T>>(
-    m: &M,
-    table: &[F],
-    place: usize,
-    minus: Factor<T>,
-) -> (Factor<T>, Factor<T>, Factor<T>) {
-    if place == 0 {
-        return (minus, minus, table[1].factor());
-    }
-    let other = mirrored(place);
-    if other < table.len() / 2 {
-        (
-            table[other].factor(),
-            table[2 * other + 1].factor(),
-            table[2 * other].factor(),
-        )
-    } else {
-        (minus, minus, minus)
-    }
-}
-
-// Joins the pair of entries at two indexes.
-#[inline]
-fn join_pair<T: PlainWord, M: JoinSteps<T>>(
-    m: &M,
-    xs: &mut [T],
-    low: usize,
-    high: usize,
-    v: &Factor<T>,
-) {
-    let (sum, product) = m.pair(xs[low], xs[high], v);
-    xs[high] = product;
-    xs[low] = sum;
-}
-
-// Joins the pairs of the block whose first index is `first`.
-#[inline]
-fn join_block<T: PlainWord, M: JoinSteps<T>>(
-    m: &M,
-    xs: &mut [T],
-    first: usize,
-    half: usize,
-    v: &Factor<T>,
-) {
-    'columns: for i in 0..half {
-        // Unreachable; keeps LLVM from vectorizing this loop (see `is_beyond`).
-        if m.is_beyond(xs[first + i]) {
-            return;
-        }
-        join_pair(m, xs, first + i, first + (half + i), v);
-    }
-}
-
-// Joins all blocks of a stage, block p by entry first + p of the table.
-#[inline]
-fn join_stage<T: PlainWord, F: PlanEntry<T>, M: JoinSteps<T>>(
-    m: &M,
-    xs: &mut [T],
-    half: usize,
-    blocks: usize,
-    table: &[F],
-    first: usize,
-    minus: &Factor<T>,
-) {
-    'each_block: for p in 0..blocks {
-        let v = minus_inverse(m, table, first + p, *minus);
-        join_block(m, xs, p * (half + half), half, &v);
-    }
-}
-
-// Joins the columns of a block whose quarters are separate lists.
-#[inline(always)]
-fn join_columns<T: PlainWord, M: JoinSteps<T>>(
-    m: &M,
-    a: &mut [T],
-    b: &mut [T],
-    c: &mut [T],
-    d: &mut [T],
-    w: &Factor<T>,
-    u: &Factor<T>,
-    v: &Factor<T>,
-) {
-    'columns_of_four: for i in 0..a.len() {
-        let x = a[i];
-        // Unreachable; keeps LLVM from vectorizing this loop (see `is_beyond`).
-        if m.is_beyond(x) {
-            return;
-        }
-        let (e, f, g, h) = m.four(x, b[i], c[i], d[i], w, u, v);
-        a[i] = e;
-        b[i] = f;
-        c[i] = g;
-        d[i] = h;
-    }
-}
-
-// Two stages of the block of 4·q entries whose first index is `first`.
-#[inline(always)]
-fn join_quarters<T: PlainWord, M: JoinSteps<T>>(
-    m: &M,
-    xs: &mut [T],
-    first: usize,
-    q: usize,
-    w: &Factor<T>,
-    u: &Factor<T>,
-    v: &Factor<T>,
-) {
-    let (_, block) = xs.split_at_mut(first);
-    let (a, rest) = block.split_at_mut(q);
-    let (b, rest) = rest.split_at_mut(q);
-    let (c, rest) = rest.split_at_mut(q);
-    let (d, _) = rest.split_at_mut(q);
-    join_columns(m, a, b, c, d, w, u, v);
-}
-
-// Two stages of all blocks: block p by entry first + p of the table, and its halves by the entries 2·(first + p)
-// and 2·(first + p) + 1.
-#[inline(always)]
-fn join_two_stages<T: PlainWord, F: PlanEntry<T>, M: JoinSteps<T>>(
-    m: &M,
-    xs: &mut [T],
-    q: usize,
-    blocks: usize,
-    table: &[F],
-    first: usize,
-    minus: &Factor<T>,
-) {
-    'four_quarters: for p in 0..blocks {
-        let (w, u, v) = minus_inverses(m, table, first + p, *minus);
-        join_quarters(m, xs, p * (q + q + (q + q)), q, &w, &u, &v);
-    }
-}
-
-// `join_two_stages` for each power of four up to 1024 as a constant length, for the reason given at `split_known`.
-fn join_known<T: PlainWord, F: PlanEntry<T>, M: JoinSteps<T>>(
-    m: &M,
-    xs: &mut [T],
-    q: usize,
-    blocks: usize,
-    table: &[F],
-    first: usize,
-    minus: &Factor<T>,
-) {
-    match q {
-        4 => join_two_stages(m, xs, 4, blocks, table, first, minus),
-        16 => join_two_stages(m, xs, 16, blocks, table, first, minus),
-        64 => join_two_stages(m, xs, 64, blocks, table, first, minus),
-        256 => join_two_stages(m, xs, 256, blocks, table, first, minus),
-        1024 => join_two_stages(m, xs, 1024, blocks, table, first, minus),
-        _ => join_two_stages(m, xs, q, blocks, table, first, minus),
-    }
-}
-
-// Two stages of the four entries whose first index is `first`, where all entries before them are below the bound.
-fn join_neighbours<T: PlainWord, M: JoinSteps<T>>(
-    m: &M,
-    xs: &mut [T],
-    first: usize,
-    w: &Factor<T>,
-    u: &Factor<T>,
-    v: &Factor<T>,
-) {
-    let a = m.taken(xs[first]);
-    let b = m.taken(xs[first + 1]);
-    let c = m.taken(xs[first + 2]);
-    let d = m.taken(xs[first + 3]);
-    let (a, b, c, d) = m.four(a, b, c, d, w, u, v);
-    xs[first + 3] = d;
-    xs[first + 2] = c;
-    xs[first + 1] = b;
-    xs[first] = a;
-}
-
-// The first two stages of all blocks of four entries, which makes them less than the bound: block p by entry
-// first + p of the table, and its halves by the entries 2·(first + p) and 2·(first + p) + 1.
-fn join_fours<T: PlainWord, F: PlanEntry<T>, M: JoinSteps<T>>(
-    m: &M,
-    xs: &mut [T],
-    blocks: usize,
-    table: &[F],
-    first: usize,
-    minus: &Factor<T>,
-) {
-    'fours: for p in 0..blocks {
-        let (w, u, v) = minus_inverses(m, table, first + p, *minus);
-        // Unreachable; keeps LLVM from vectorizing this loop (see `is_beyond`).
-        if m.is_beyond(xs[p * 4]) {
-            return;
-        }
-        join_neighbours(m, xs, p * 4, &w, &u, &v);
-    }
-}
 
 // Replaces each entry by a congruent one below the bound.
 #[inline]
@@ -338,36 +119,12 @@ fn join_passes<T: PlainWord, F: PlanEntry<T>, M: JoinSteps<T>>(
     size
 }
 
-// Two stages of the whole list by a plan that begins with 1, which also multiply each entry by s: with the factors
-// -1 and -1, and v, minus the inverse of the plan's second factor.
-fn join_by_one<T: PlainWord, M: JoinSteps<T>>(
-    m: &M,
-    xs: &mut [T],
-    q: usize,
-    v: &Factor<T>,
-    s: &Factor<T>,
-) {
-    'columns: for i in 0..q {
-        let x = xs[i];
-        // Unreachable; keeps LLVM from vectorizing this loop (see `is_beyond`).
-        if m.is_beyond(x) {
-            return;
-        }
-        let (y, z, t) = (xs[q + i], xs[q + q + i], xs[q + q + (q + i)]);
-        let (a, b, c, d) = m.four_by_one(x, y, z, t, v, s);
-        xs[q + q + (q + i)] = d;
-        xs[q + q + i] = c;
-        xs[q + i] = b;
-        xs[i] = a;
-    }
-}
-
 // Replaces each entry by its product with a factor.
 #[inline]
 fn scale_each<T: PlainWord, M: JoinSteps<T>>(m: &M, xs: &mut [T], w: &Factor<T>) {
     'entries: for i in 0..xs.len() {
         let x = xs[i];
-        // Unreachable; keeps LLVM from vectorizing this loop (see `is_beyond`).
+        // Unreachable (see `is_beyond`).
         if m.is_beyond(x) {
             return;
         }
@@ -388,7 +145,8 @@ fn join_last<T: PlainWord, F: PlanEntry<T>, M: JoinSteps<T>>(
 ) {
     if b == 0 && xs.len() / last == 4 && table[0].factor().is_one() {
         let (_, _, v) = minus_inverses(m, table, 0, *minus);
-        join_by_one(m, xs, last, &v, w);
+        let step = JoinByOne { m: *m, v, s: *w };
+        quarters(m, &step, xs, 0, last);
     } else {
         join_blocks(m, xs, table, b, last, minus);
         scale_each(m, xs, w);

@@ -1,5 +1,6 @@
 //! The steps of a pass of `join`, by how much greater than the modulus words may be.
 
+use crate::modular_plan::bounded::Bounded;
 use crate::modular_plan::modulus::{Factor, PlannedModulus};
 use crate::modular_plan::roomy::RoomyModulus;
 use crate::modular_prim::below::reduced_once;
@@ -9,14 +10,9 @@ use crate::modular_word::ring_word::RingWord;
 
 /// A modulus m by which pairs and fours of entries are joined. Between two passes the entries stay below a bound, a
 /// multiple of m. Condition of each call: numbers x, y, z and t are below the bound, and factors are factors modulo m.
-pub trait JoinSteps<T: PlainWord>: Sized {
+pub trait JoinSteps<T: PlainWord>: Bounded<T> + Copy {
     /// The factor -1.
     fn minus_one(&self) -> Factor<T>;
-
-    /// Whether a word of more than 32 bits is at least 4m; false for shorter words. A loop over entries below 4m
-    /// returns where this is true, which it never is: so compilers can't compute the loop's trip count, and don't
-    /// vectorize it. Vectors of words of more than 32 bits would be slower.
-    fn is_beyond(&self, x: T) -> bool;
 
     /// A number below the bound that is congruent to a word.
     ///
@@ -100,11 +96,6 @@ impl<T: PlainWord> JoinSteps<T> for PlannedModulus<T> {
     }
 
     #[inline]
-    fn is_beyond(&self, x: T) -> bool {
-        self.is_outside(x)
-    }
-
-    #[inline]
     fn taken(&self, x: T) -> T {
         reduced_once(x, self.twice())
     }
@@ -159,11 +150,6 @@ impl<T: PlainWord> JoinSteps<T> for RoomyModulus<T> {
     #[inline]
     fn minus_one(&self) -> Factor<T> {
         self.planned.minus_one()
-    }
-
-    #[inline]
-    fn is_beyond(&self, x: T) -> bool {
-        self.planned.is_outside(x)
     }
 
     #[inline]

@@ -1,5 +1,6 @@
 //! Products of blocks: of polynomials modulo X^last - c.
 
+use crate::modular_plan::bounded::Bounded;
 use crate::modular_plan::entry::PlanEntry;
 use crate::modular_plan::modulus::PlannedModulus;
 use crate::modular_prim::plain_word::PlainWord;
@@ -10,8 +11,8 @@ use crate::modular_word::path_word::PathWord;
 fn multiply_each<T: PlainWord>(m: &PlannedModulus<T>, xs: &mut [T], ys: &[T]) {
     'entries: for i in 0..xs.len() {
         let x = xs[i];
-        // Unreachable; keeps LLVM from vectorizing this loop (see `is_outside`).
-        if m.is_outside(x) {
+        // Unreachable (see `is_beyond`).
+        if m.is_beyond(x) {
             return;
         }
         xs[i] = m.multiply(x, ys[i]);
@@ -39,8 +40,8 @@ pub(crate) fn reduce_products<T: PlainWord>(
 ) {
     'entries: for i in 0..xs.len() {
         let y = ys[i];
-        // Unreachable; keeps LLVM from vectorizing this loop (see `is_outside`).
-        if m.is_outside(y) {
+        // Unreachable (see `is_beyond`).
+        if m.is_beyond(y) {
             return;
         }
         xs[i] = reduced_product(m, inverse, xs[i], y);

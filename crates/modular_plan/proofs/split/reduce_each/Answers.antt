@@ -6,7 +6,7 @@ use Rattle.modular_plan.proofs.split.reduce_each.Goals as goal
 pub residue-requires : goal.residue-requires
 residue-requires g c =
     let n = g.T.RingWord.number in
-    let bound = g.M.SplitSteps.bound c.args.m.now in
+    let bound = g.M.Bounded.limit c.args.m.now in
     let i = c.entries.i in
     let x = c.index-xs-i.result in
     let within : i < length c.entries.xs = omega arith in

@@ -24,6 +24,6 @@ returns g c = record {
 
 pub returns-then-is_beyond-clause-done : goal.returns-then-is_beyond-clause-done
 returns-then-is_beyond-clause-done g c =
-    never_beyond g.T.RingWord.number (g.M.SplitSteps.bound c.args.m.now) c.columns.xs c.columns.xs
+    never_beyond g.T.RingWord.number (g.M.Bounded.limit c.args.m.now) c.columns.xs c.columns.xs
     (c.args.first + c.columns.i) c.index-xs-first.result c.columns.invariant.entries (omega arith) (omega arith)
     c.index-xs-first.is refl (c.if-is_beyond.ensures refl)

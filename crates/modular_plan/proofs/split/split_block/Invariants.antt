@@ -8,7 +8,7 @@ abbrev pub invariant-columns : goal.invariant-columns
 invariant-columns g l =
     let number = g.T.RingWord.number in
     record {
-      entries : All (λ x. number x < g.M.SplitSteps.bound l.m) l.xs;
+      entries : All (λ x. number x < g.M.Bounded.limit l.m) l.xs;
       done : BlockDone (IsPairSplit (g.M.SplitSteps.modulus l.m) (number l.w.value)) l.first l.half l.i
           (numbers number l.fn.xs) (numbers number l.xs);
     }

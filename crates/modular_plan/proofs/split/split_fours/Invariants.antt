@@ -1,4 +1,4 @@
-use Rattle.std.proofs.Common.{ℕ, ◌+◌, ◌*◌, ◌<◌, All}
+use Rattle.std.proofs.Common.{ℕ, ◌+◌, ◌*◌, ◌<◌}
 use Rattle.modular_plan.specs.Plans.{numbers}
 use Rattle.modular_plan.specs.Steps.{IsFourSplit, StageOfFours}
 use Rattle.modular_plan.proofs.split.split_fours.Given as goal
@@ -10,7 +10,6 @@ invariant-fours g l =
     let m = g.M.SplitSteps.modulus l.m in
     let w = numbers g.F.PlanEntry.value l.table in
     record {
-      entries : All (λ x. number x < g.M.SplitSteps.bound l.m) l.xs;
       below : (k : ℕ) → k < l.p * 4 → numbers number l.xs k < m;
       done : StageOfFours (λ p. IsFourSplit m (w (l.first + p)) (w (2 * (l.first + p))) (w (2 * (l.first + p) + 1))) 1
           l.p (numbers number l.fn.xs) (numbers number l.xs);

@@ -8,7 +8,7 @@ abbrev pub invariant-each_block : goal.invariant-each_block
 invariant-each_block g l =
     let number = g.T.RingWord.number in
     record {
-      entries : All (λ x. number x < g.M.SplitSteps.bound l.m) l.xs;
+      entries : All (λ x. number x < g.M.Bounded.limit l.m) l.xs;
       done : StageDone (λ p. IsPairSplit (g.M.SplitSteps.modulus l.m) (numbers g.F.PlanEntry.value l.table (l.first + p)))
           l.half l.p (numbers number l.fn.xs) (numbers number l.xs);
     }

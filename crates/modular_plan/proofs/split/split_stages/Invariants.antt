@@ -12,7 +12,7 @@ invariant-stages g l =
     record {
       sized : l.size ≡ 2 ^ l.left * l.last;
       counted : l.blocks * 2 ^ l.left ≡ length l.fn.xs / l.last;
-      entries : All (λ x. number x < g.M.SplitSteps.bound l.m) l.xs;
+      entries : All (λ x. number x < g.M.Bounded.limit l.m) l.xs;
       first : l.blocks ≡ 1 → All (λ x. number x < 4 * m) l.xs;
       level : (g z : ℕ) → IsPlan m g z (length l.table) (numbers value l.table)
           → IsLevel m g z l.b l.blocks l.size (numbers number l.fn.xs) (numbers number l.xs);

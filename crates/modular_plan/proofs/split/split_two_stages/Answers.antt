@@ -1,7 +1,7 @@
-use Rattle.std.proofs.Common.{◌+◌, ◌≤◌, arith}
+use Rattle.std.proofs.Common.{◌+◌, ◌≤◌, arith, le_refl}
 use Rattle.std.proofs.Math.Nat.{mul-le-mul_right}
-use Rattle.modular_plan.proofs.Columns.{stage_with}
-use Rattle.modular_plan.proofs.Fours.{stage_of_fours_none, stage_of_fours_all}
+use Rattle.modular_plan.proofs.Columns.{block_below, stage_with}
+use Rattle.modular_plan.proofs.Fours.{block_mapped, stage_of_fours_none, stage_of_fours_all}
 use Rattle.modular_plan.specs.Plans.{numbers}
 use Rattle.modular_plan.proofs.split.split_two_stages.Goals as goal
 
@@ -26,24 +26,26 @@ overflow_mul-p g c =
     let room = mul-le-mul_right (q + q + (q + q)) (let l : c.four_quarters.p + 1 ≤ c.args.blocks = omega arith in l) in
     omega (arith, room)
 
-pub split_quarters-requires-clause-factors : goal.split_quarters-requires-clause-factors
-split_quarters-requires-clause-factors g c =
-    c.factors_at-w.ensures.factors (g.M.SplitSteps.modulus c.args.m.now) c.requires.factors
+pub invariant_of-step : goal.invariant_of-step
+invariant_of-step g c = record {
+  factors = c.factors_at-w.ensures.factors (g.M.SplitSteps.modulus c.args.m.now) c.requires.factors;
+}
 
-pub split_quarters-requires-clause-within : goal.split_quarters-requires-clause-within
-split_quarters-requires-clause-within g c =
+pub quarters-requires : goal.quarters-requires
+quarters-requires g c =
     let q = c.args.q in
     let room = mul-le-mul_right (q + q + (q + q)) (let l : c.four_quarters.p + 1 ≤ c.args.blocks = omega arith in l) in
-    omega (arith, room)
+    record { entries = c.four_quarters.invariant.entries; within = omega (arith, room); fits = le_refl _ }
 
 pub four_quarters-preserved : goal.four_quarters-preserved
 four_quarters-preserved g c =
     let values = c.factors_at-w.ensures.values in
+    let same = c.quarters.auto.xs in
     record {
-      entries = c.split_quarters.ensures.entries;
+      entries = block_below g.T.RingWord.number _ _ same c.four_quarters.invariant.entries c.quarters.ensures;
       done = stage_with (g.M.SplitSteps.modulus c.args.m.now) c.args.q c.four_quarters.p c.args.first
           (numbers g.F.PlanEntry.value c.args.table.now) values.0 values.1 values.2 c.four_quarters.invariant.done
-          c.split_quarters.ensures.done;
+          (block_mapped (λ a b c d e f g h is. is.done) c.quarters.ensures);
     }
 
 pub returns : goal.returns

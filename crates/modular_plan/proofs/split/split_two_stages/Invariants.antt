@@ -10,7 +10,7 @@ invariant-four_quarters g l =
     let m = g.M.SplitSteps.modulus l.m in
     let w = numbers g.F.PlanEntry.value l.table in
     record {
-      entries : All (λ x. number x < g.M.SplitSteps.bound l.m) l.xs;
+      entries : All (λ x. number x < g.M.Bounded.limit l.m) l.xs;
       done : StageOfFours (λ p. IsFourSplit m (w (l.first + p)) (w (2 * (l.first + p))) (w (2 * (l.first + p) + 1))) l.q
           l.p (numbers number l.fn.xs) (numbers number l.xs);
     }

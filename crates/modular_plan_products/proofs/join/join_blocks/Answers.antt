@@ -29,8 +29,8 @@ overflow_mul-b g c =
     let enough = two_join_rooms c.args.b (length c.args.table.now) sizes c.requires.blocks.within in
     omega (arith, enough)
 
-pub join_known-requires-clause-stage : goal.join_known-requires-clause-stage
-join_known-requires-clause-stage g c =
+pub join_known-requires : goal.join_known-requires
+join_known-requires g c =
     let before = c.stages.invariant in
     let less = c.stages-test.true in
     let count = length c.args.xs.now / c.args.last in
@@ -40,6 +40,8 @@ join_known-requires-clause-stage g c =
     let fill = sizes.whole in
     let same = c.stages.auto.xs in
     record {
+      entries = before.entries;
+      factors = c.requires.factors;
       whole = omega (arith, fill, same);
       within = two_join_rooms c.args.b (length c.args.table.now) sizes c.requires.blocks.within;
       some = before.some;
@@ -89,8 +91,8 @@ overflow_mul-b-else-blocks-gt2 g c =
     let enough = table_room c.args.b (length c.args.table.now) sizes.stage c.requires.blocks.within in
     omega (arith, enough)
 
-pub join_stage-requires-clause-whole : goal.join_stage-requires-clause-whole
-join_stage-requires-clause-whole g c =
+pub join_stage-requires : goal.join_stage-requires
+join_stage-requires g c =
     let before = c.stages.invariant in
     let less = c.stages-test.true in
     let count = length c.args.xs.now / c.args.last in
@@ -98,16 +100,13 @@ join_stage-requires-clause-whole g c =
     (length c.args.xs.now) c.requires.blocks.some before.halved before.sized before.counted c.requires.blocks.whole (omega arith) in
     let fill = sizes.whole in
     let same = c.stages.auto.xs in
-    omega (arith, fill, same)
-
-pub join_stage-requires-clause-within : goal.join_stage-requires-clause-within
-join_stage-requires-clause-within g c =
-    let before = c.stages.invariant in
-    let less = c.stages-test.true in
-    let count = length c.args.xs.now / c.args.last in
-    let sizes = join_sizes c.stages.size c.args.last c.stages.blocks before.rest before.done count
-    (length c.args.xs.now) c.requires.blocks.some before.halved before.sized before.counted c.requires.blocks.whole (omega arith) in
-    table_room c.args.b (length c.args.table.now) sizes.stage c.requires.blocks.within
+    record {
+      entries = before.entries;
+      factors = c.requires.factors;
+      whole = omega (arith, fill, same);
+      within = table_room c.args.b (length c.args.table.now) sizes.stage c.requires.blocks.within;
+      some = before.some;
+    }
 
 pub overflow_mul-size-else-blocks-gt2 : goal.overflow_mul-size-else-blocks-gt2
 overflow_mul-size-else-blocks-gt2 g c =

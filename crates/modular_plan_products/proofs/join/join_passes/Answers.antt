@@ -37,8 +37,8 @@ overflow_mul-b g c =
     let enough = two_join_rooms c.args.b (length c.args.table.now) sizes c.requires.blocks.within in
     omega (arith, enough)
 
-pub join_known-requires-clause-stage : goal.join_known-requires-clause-stage
-join_known-requires-clause-stage g c =
+pub join_known-requires : goal.join_known-requires
+join_known-requires g c =
     let before = c.passes.invariant in
     let more = c.passes-test.true in
     let count = length c.args.xs.now / c.args.last in
@@ -57,6 +57,8 @@ join_known-requires-clause-stage g c =
     let fill = sizes.whole in
     let same = c.passes.auto.xs in
     record {
+      entries = before.entries;
+      factors = c.requires.factors;
       whole = omega (arith, fill, same);
       within = two_join_rooms c.args.b (length c.args.table.now) sizes c.requires.blocks.within;
       some = before.some;
@@ -113,28 +115,22 @@ passes-preserved g c =
           (before.level r z x plan are) (c.join_known.ensures.done r z plan);
     }
 
-pub returns-clause-blocks : goal.returns-clause-blocks
-returns-clause-blocks g c =
-    let before = c.passes.invariant in
-    let count = length c.args.xs.now / c.args.last in
-    let left = sizes_left c.args.b c.passes.size c.args.last c.passes.blocks before.rest before.done count
-    (length c.args.xs.now) (length c.args.table.now) before.some before.halved before.sized before.counted
-    c.requires.blocks.whole c.requires.blocks.within in
-    let some = before.some in
-    record { some = omega (arith, some); count = left.power; whole = left.whole; within = left.room }
-
-pub returns-clause-joined : goal.returns-clause-joined
-returns-clause-joined g c =
+pub returns : goal.returns
+returns g c =
     let before = c.passes.invariant in
     let count = length c.args.xs.now / c.args.last in
     let left = sizes_left c.args.b c.passes.size c.args.last c.passes.blocks before.rest before.done count
     (length c.args.xs.now) (length c.args.table.now) before.some before.halved before.sized before.counted
     c.requires.blocks.whole c.requires.blocks.within in
     let is = blocks_left c.passes.size c.args.last c.passes.blocks before.done count (length c.args.xs.now) before.some
-    before.sized before.counted c.requires.blocks.whole in (
-      2 ^ before.done,
-      left.scale,
-      λ r z x plan are.
+    before.sized before.counted c.requires.blocks.whole in
+    let some = before.some in
+    record {
+      scale = 2 ^ before.done;
+      entries = before.entries;
+      blocks = record { some = omega (arith, some); count = left.power; whole = left.whole; within = left.room };
+      times = left.scale;
+      joined = λ r z x plan are.
           remainders_of_level r z c.args.b (length c.args.xs.now / c.passes.size) c.passes.size c.passes.blocks _ _ is
-          (before.level r z x plan are),
-    )
+          (before.level r z x plan are);
+    }

@@ -1,4 +1,4 @@
-use Rattle.std.proofs.Common.{◌*◌, ◌%◌, ◌<◌, length, ◌∙◌, ap, arith}
+use Rattle.std.proofs.Common.{◌*◌, ◌%◌, ◌<◌, length, ◌∙◌, ap, arith, refl}
 use Rattle.modular_plan.specs.Plans.{numbers}
 use Rattle.modular_plan.proofs.Entries.{number_read, entry_done, entry_kept, all_residues, never_beyond}
 use Rattle.modular_plan_products.proofs.join.scale_each.Goals as goal
@@ -31,18 +31,10 @@ returns-clause-below g c =
     (g.met.M.JoinSteps.some c.args.m.now) (omega arith)
     (λ k l. c.entries.invariant.done k (omega arith))
 
-pub returns-then-is_beyond-clause-products : goal.returns-then-is_beyond-clause-products
-returns-then-is_beyond-clause-products g c =
-    let n = g.T.RingWord.number in
-    let far = c.if-is_beyond.ensures in
-    never_beyond n (4 * g.M.JoinSteps.modulus c.args.m.now) c.entries.xs c.args.xs.now c.entries.i c.index-xs-i.result
-    c.requires.entries (omega arith) (omega arith) c.index-xs-i.is (c.entries.invariant.kept c.entries.i (omega arith))
-    (omega (arith, far))
-
-pub returns-then-is_beyond-clause-below : goal.returns-then-is_beyond-clause-below
-returns-then-is_beyond-clause-below g c =
-    let n = g.T.RingWord.number in
-    let far = c.if-is_beyond.ensures in
-    never_beyond n (4 * g.M.JoinSteps.modulus c.args.m.now) c.entries.xs c.args.xs.now c.entries.i c.index-xs-i.result
-    c.requires.entries (omega arith) (omega arith) c.index-xs-i.is (c.entries.invariant.kept c.entries.i (omega arith))
-    (omega (arith, far))
+pub returns-then-is_beyond : goal.returns-then-is_beyond
+returns-then-is_beyond g c =
+    let room = g.met.M.JoinSteps.room c.args.m.now in
+    let far = c.if-is_beyond.ensures refl in
+    never_beyond g.T.RingWord.number (4 * g.M.JoinSteps.modulus c.args.m.now) c.entries.xs c.args.xs.now c.entries.i
+    c.index-xs-i.result c.requires.entries (omega arith) (omega arith) c.index-xs-i.is
+    (c.entries.invariant.kept c.entries.i (omega arith)) (omega (arith, far, room))

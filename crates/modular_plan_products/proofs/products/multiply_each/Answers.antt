@@ -46,18 +46,18 @@ returns-clause-below g c =
     (let s = c.args.m.now.some in omega arith) (omega arith)
     (λ k l. c.entries.invariant.done k (omega arith))
 
-pub returns-then-is_outside-clause-products : goal.returns-then-is_outside-clause-products
-returns-then-is_outside-clause-products g c =
+pub returns-then-is_beyond-clause-products : goal.returns-then-is_beyond-clause-products
+returns-then-is_beyond-clause-products g c =
     let n = g.T.RingWord.number in
-    let far = c.if-is_outside.ensures in
+    let far = c.if-is_beyond.ensures in
     never_beyond n (n c.args.m.now.modulus) c.entries.xs c.args.xs.now c.entries.i c.index-xs-i.result
     c.requires.below (omega arith) (omega arith) c.index-xs-i.is (c.entries.invariant.kept c.entries.i (omega arith))
     (omega (arith, far))
 
-pub returns-then-is_outside-clause-below : goal.returns-then-is_outside-clause-below
-returns-then-is_outside-clause-below g c =
+pub returns-then-is_beyond-clause-below : goal.returns-then-is_beyond-clause-below
+returns-then-is_beyond-clause-below g c =
     let n = g.T.RingWord.number in
-    let far = c.if-is_outside.ensures in
+    let far = c.if-is_beyond.ensures in
     never_beyond n (n c.args.m.now.modulus) c.entries.xs c.args.xs.now c.entries.i c.index-xs-i.result
     c.requires.below (omega arith) (omega arith) c.index-xs-i.is (c.entries.invariant.kept c.entries.i (omega arith))
     (omega (arith, far))

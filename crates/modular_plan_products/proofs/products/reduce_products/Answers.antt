@@ -49,16 +49,16 @@ returns-clause-below g c =
     λ i d below.
     subst (λ v. v < 2 * m) (sym (number_at n c.entries.xs i d below)) (c.entries.invariant.below i (omega arith))
 
-pub returns-then-is_outside-clause-products : goal.returns-then-is_outside-clause-products
-returns-then-is_outside-clause-products g c =
+pub returns-then-is_beyond-clause-products : goal.returns-then-is_beyond-clause-products
+returns-then-is_beyond-clause-products g c =
     let n = g.T.RingWord.number in
-    let far = c.if-is_outside.ensures in
+    let far = c.if-is_beyond.ensures in
     never_beyond n (n c.args.m.now.modulus) c.args.ys.now c.args.ys.now c.entries.i c.index-ys-i.result
     c.requires.below (omega arith) (omega arith) c.index-ys-i.is refl (omega (arith, far))
 
-pub returns-then-is_outside-clause-below : goal.returns-then-is_outside-clause-below
-returns-then-is_outside-clause-below g c =
+pub returns-then-is_beyond-clause-below : goal.returns-then-is_beyond-clause-below
+returns-then-is_beyond-clause-below g c =
     let n = g.T.RingWord.number in
-    let far = c.if-is_outside.ensures in
+    let far = c.if-is_beyond.ensures in
     never_beyond n (n c.args.m.now.modulus) c.args.ys.now c.args.ys.now c.entries.i c.index-ys-i.result
     c.requires.below (omega arith) (omega arith) c.index-ys-i.is refl (omega (arith, far))

@@ -1,0 +1,25 @@
+use Rattle.std.proofs.Common.{◌<◌, length, arith, subst}
+use Rattle.modular_plan.specs.Plans.{numbers}
+use Rattle.modular_plan.proofs.Entries.{number_read}
+use Rattle.modular_plan.proofs.Steps.{pair_written}
+use Rattle.modular_plan_products.specs.Joins.{IsPairJoin}
+use Rattle.modular_plan_products.proofs.stages.join_pair.Goals as goal
+
+pub returns-clause-done : goal.returns-clause-done
+returns-clause-done g c =
+    let n = g.T.RingWord.number in
+    let m = g.M.JoinSteps.modulus c.args.m.now in
+    let xs = c.args.xs.now in
+    let low = c.args.low in
+    let high = c.args.high in
+    let order = c.requires.order in
+    let within = c.requires.within in
+    let a_is = number_read n xs low c.index-xs-low.result
+    (let l : low < length xs = omega arith in l) c.index-xs-low.is in
+    let b_is = number_read n xs high c.index-xs-high.result within c.index-xs-high.is in
+    let values = c.pair-sum.result in
+    λ w inverse.
+    pair_written n (IsPairJoin m w) xs low high values.0 values.1 order within
+    (subst (λ a. IsPairJoin m w a (numbers n xs high) (n values.0) (n values.1)) a_is
+    (subst (λ b. IsPairJoin m w (n c.index-xs-low.result) b (n values.0) (n values.1)) b_is
+    (c.pair-sum.ensures.pair w inverse)))

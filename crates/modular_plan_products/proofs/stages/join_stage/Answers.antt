@@ -1,0 +1,42 @@
+use Rattle.std.proofs.Common.{◌+◌, ◌≤◌, arith}
+use Rattle.std.proofs.Math.Nat.{mul-le-mul_right}
+use Rattle.modular_plan.proofs.Steps.{stage_none, stage_more, stage_all}
+use Rattle.modular_plan_products.proofs.stages.join_stage.Goals as goal
+
+pub each_block-init : goal.each_block-init
+each_block-init g c = record {
+  entries = c.requires.entries;
+  done = λ root z plan. stage_none _ c.args.half _;
+}
+
+pub overflow_add-half : goal.overflow_add-half
+overflow_add-half g c =
+    let half = c.args.half in
+    let whole = c.requires.whole in
+    let room = mul-le-mul_right (half + half) (let l : c.each_block.p + 1 ≤ c.args.blocks = omega arith in l) in
+    omega (arith, room, whole)
+
+pub overflow_mul-p : goal.overflow_mul-p
+overflow_mul-p g c =
+    let half = c.args.half in
+    let whole = c.requires.whole in
+    let room = mul-le-mul_right (half + half) (let l : c.each_block.p + 1 ≤ c.args.blocks = omega arith in l) in
+    omega (arith, room, whole)
+
+pub join_block-requires-clause-within : goal.join_block-requires-clause-within
+join_block-requires-clause-within g c =
+    let half = c.args.half in
+    let whole = c.requires.whole in
+    let room = mul-le-mul_right (half + half) (let l : c.each_block.p + 1 ≤ c.args.blocks = omega arith in l) in
+    omega (arith, room, whole)
+
+pub each_block-preserved : goal.each_block-preserved
+each_block-preserved g c = record {
+  entries = c.join_block.ensures.entries;
+  done =
+      λ root z plan. stage_more _ c.args.half c.each_block.p _ _ _ (c.each_block.invariant.done root z plan)
+      (c.join_block.ensures.done _ (c.minus_inverse-v.ensures.inverse root z plan));
+}
+
+pub returns-clause-done : goal.returns-clause-done
+returns-clause-done g c = λ root z plan. stage_all (c.each_block.invariant.done root z plan) (omega arith)

@@ -1,0 +1,81 @@
+//! The steps of the passes of a join.
+
+ghost use Rattle.std.specs.Prelude.{ℕ, ◌*◌};
+ghost use Rattle.modular_plan.specs.Factors.{IsFactor};
+ghost use Rattle.modular_plan.specs.Splits.{AreFactors, DoneBelow};
+ghost use Rattle.modular_plan_products.specs.Joins.{IsJoinByFactors, IsLastJoin};
+
+use crate::join_steps::JoinSteps;
+use modular_plan::modulus::Factor;
+use modular_plan::passes::FourStep;
+use modular_prim::plain_word::PlainWord;
+use modular_word::path_word::PathWord;
+use modular_word::ring_word::RingWord;
+
+/// Joins four entries by minus the inverses of the factors of a block, w, and of its halves, u and v.
+#[derive(Drop)]
+pub struct JoinFour<T: PlainWord, M: JoinSteps<T>> {
+    pub m: M,
+    pub w: Factor<T>,
+    pub u: Factor<T>,
+    pub v: Factor<T>,
+    pub ghost factors: { AreFactors T.base (M.modulus m) (T.number w.value) (T.number w.quotient)
+        (T.number u.value) (T.number u.quotient) (T.number v.value) (T.number v.quotient) },
+}
+
+impl<T: PlainWord, M: JoinSteps<T>> FourStep<T> for JoinFour<T, M> {
+    ghost bound = { λ s. M.bound s.m };
+
+    ghost done = { λ s. DoneBelow (M.bound s.m)
+        (IsJoinByFactors (M.modulus s.m) (T.number s.w.value) (T.number s.u.value) (T.number s.v.value)) };
+
+    #[inline(always)]
+    fn four(&self, x: T, y: T, z: T, t: T) -> (T, T, T, T) {
+        self.m.four(x, y, z, t, &self.w, &self.u, &self.v)
+    }
+}
+
+/// Joins four entries below 4m.
+#[derive(Drop)]
+pub struct JoinTaken<T: PlainWord, M: JoinSteps<T>> {
+    pub step: JoinFour<T, M>,
+}
+
+impl<T: PlainWord, M: JoinSteps<T>> FourStep<T> for JoinTaken<T, M> {
+    ghost bound = { λ s. 4 * M.modulus s.step.m };
+
+    ghost done = { λ s. DoneBelow (M.bound s.step.m) (IsJoinByFactors (M.modulus s.step.m)
+        (T.number s.step.w.value) (T.number s.step.u.value) (T.number s.step.v.value)) };
+
+    #[inline(always)]
+    fn four(&self, x: T, y: T, z: T, t: T) -> (T, T, T, T) {
+        let m = &self.step.m;
+        let a = m.taken(x);
+        let b = m.taken(y);
+        let c = m.taken(z);
+        let d = m.taken(t);
+        self.step.four(a, b, c, d)
+    }
+}
+
+/// Joins four entries where the first two factors are -1, and multiplies the results by s.
+#[derive(Drop)]
+pub struct JoinByOne<T: PlainWord, M: JoinSteps<T>> {
+    pub m: M,
+    pub v: Factor<T>,
+    pub s: Factor<T>,
+    pub ghost factor: { IsFactor T.base (M.modulus m) (T.number v.value) (T.number v.quotient) },
+    pub ghost scale: { IsFactor T.base (M.modulus m) (T.number s.value) (T.number s.quotient) },
+}
+
+impl<T: PlainWord, M: JoinSteps<T>> FourStep<T> for JoinByOne<T, M> {
+    ghost bound = { λ s. M.bound s.m };
+
+    ghost done = { λ s. DoneBelow (M.modulus s.m)
+        (IsLastJoin (M.modulus s.m) (T.number s.v.value) (T.number s.s.value)) };
+
+    #[inline(always)]
+    fn four(&self, x: T, y: T, z: T, t: T) -> (T, T, T, T) {
+        self.m.four_by_one(x, y, z, t, &self.v, &self.s)
+    }
+}
