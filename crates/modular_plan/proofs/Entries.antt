@@ -35,6 +35,11 @@ pub bounded : {T : Type 0} (number : T → ℕ) (bound : ℕ) (words : List T) (
     → All (λ x. number x < bound) words → i < length words → numbers number words i < bound
 bounded number bound words i d all below = subst (λ v. v < bound) (number_at number words i d below) (all i d below)
 
+-- .. of one that was read
+pub below_read : {T : Type 0} (number : T → ℕ) (bound : ℕ) (words : List T) (i : ℕ) (x : T)
+    → All (λ x. number x < bound) words → i < length words → x ≡ get_or words i x → number x < bound
+below_read number bound words i x all below is = subst (λ w. number w < bound) (sym is) (all i x below)
+
 -- .. where none is at hand
 pub bounded_at : {T : Type 0} (number : T → ℕ) (bound : ℕ) (words : List T) (i : ℕ)
     → All (λ x. number x < bound) words → i < length words → numbers number words i < bound

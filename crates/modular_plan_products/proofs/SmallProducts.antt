@@ -34,6 +34,14 @@ product_of_two_high m c x y =
 abbrev pub IsPairProduct : ℕ → ℕ → ℕ → ℕ → ℕ → ℕ → ℕ → ℕ → Type 0
 IsPairProduct m turned y z u v s t = (s ≡ (u * y + turned * z) % m) × (t ≡ (u * z + v * y) % m)
 
+-- .. where all four numbers were read from the lists
+pub pair_of_read : (m turned : ℕ) {x y u v x' y' u' v' s t : ℕ} → x ≡ x' → y ≡ y' → u ≡ u' → v ≡ v'
+    → s ≡ (x * y + turned * v) % m → t ≡ (x * v + u * y) % m → IsPairProduct m turned y' v' x' u' s t
+pair_of_read m turned {x} {y} {u} {v} {x'} {y'} {u'} {v'} {s} {t} is_x is_y is_u is_v first second =
+    subst (λ e. IsPairProduct m turned y' v' e u' s t) is_x (subst (λ e. IsPairProduct m turned e v' x u' s t) is_y
+    (subst (λ e. IsPairProduct m turned y v' x e s t) is_u
+    (subst (λ e. IsPairProduct m turned y e x u s t) is_v (first, second))))
+
 -- minus the product by an entry is the product by the constant of the next block
 pub product_by_odd : {m : ℕ} (x w c product rest : ℕ) → w < m → ((v : ℕ) → v + w ≡ m → Congruent m v c)
     → product ≡ (x * w) % m → rest + product ≡ m → Congruent m rest (x * c)

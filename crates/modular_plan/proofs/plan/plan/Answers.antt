@@ -201,18 +201,8 @@ doublings-preserved g c =
       first = λ k l. c.others.invariant.first k (omega arith);
     }
 
-pub returns-clause-factors : goal.returns-clause-factors
-returns-clause-factors g c =
-    let last = c.doublings.invariant in
-    let whole = last.whole in
-    let count = last.count in
-    let bits = trailing_zeros w64 (length (set c.args.table.now 0 c.entry.result)) in
-    let all : c.doublings._bit ≡ bits = omega arith in
-    let e = ap (λ v. 2 ^ v) all in
-    λ k d l. (last.first k (omega (arith, whole, count, e))).factor d
-
-pub returns-clause-plan : goal.returns-clause-plan
-returns-clause-plan g c =
+pub returns : goal.returns
+returns g c =
     let n = g.T.RingWord.number in
     let last = c.doublings.invariant in
     let whole = last.whole in
@@ -221,21 +211,11 @@ returns-clause-plan g c =
     let all : c.doublings._bit ≡ bits = omega arith in
     let e = ap (λ v. 2 ^ v) all in
     let len = length-set c.args.table.now 0 c.entry.result in
-    λ z is. planned g.F.PlanEntry.value g.F.PlanEntry.quotient g.T.PathWord.base (n c.args.m.now.modulus) (n c.args.g)
-    (length c.args.table.now) bits z c.doublings.table c.requires.suits is (omega (arith, whole, len))
-    (λ k l. last.first k (omega (arith, whole, count, e, len)))
-
-pub returns-clause-first : goal.returns-clause-first
-returns-clause-first g c =
-    let n = g.T.RingWord.number in
-    let last = c.doublings.invariant in
-    let whole = last.whole in
-    let count = last.count in
-    let bits = trailing_zeros w64 (length (set c.args.table.now 0 c.entry.result)) in
-    let all : c.doublings._bit ≡ bits = omega arith in
-    let e = ap (λ v. 2 ^ v) all in
-    let len = length-set c.args.table.now 0 c.entry.result in
-    λ y d is. first_entries y d
-    (planned g.F.PlanEntry.value g.F.PlanEntry.quotient g.T.PathWord.base (n c.args.m.now.modulus) (n c.args.g)
-    (length c.args.table.now) bits (y + d) c.doublings.table c.requires.suits is (omega (arith, whole, len))
-    (λ k l. last.first k (omega (arith, whole, count, e, len))))
+    let plan_of = λ (z : ℕ). planned g.F.PlanEntry.value g.F.PlanEntry.quotient g.T.PathWord.base
+    (n c.args.m.now.modulus) (n c.args.g) (length c.args.table.now) bits z c.doublings.table c.requires.suits in
+    let each : length c.args.table.now ≡ 2 ^ bits = omega (arith, whole, len) in
+    record {
+      factors = λ k d l. (last.first k (omega (arith, whole, count, e))).factor d;
+      plan = λ z is. plan_of z is each (λ k l. last.first k (omega (arith, whole, count, e, len)));
+      first = λ y d is. first_entries y d (plan_of (y + d) is each (λ k l. last.first k (omega (arith, whole, count, e, len))));
+    }

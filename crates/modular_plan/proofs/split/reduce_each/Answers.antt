@@ -30,10 +30,13 @@ entries-preserved g c =
       kept = entry_kept n xs i c.residue.result old c.entries.invariant.kept;
     }
 
-pub returns-clause-below : goal.returns-clause-below
-returns-clause-below g c =
+pub returns : goal.returns
+returns g c =
     let n = g.T.RingWord.number in
     let m = g.M.SplitSteps.modulus c.args.m.now in
-    all_residues n m (length c.args.xs.now) c.entries.xs (numbers n c.args.xs.now)
-    (let s = g.met.M.SplitSteps.some c.args.m.now in omega (arith, s)) (omega arith)
-    (λ k l. c.entries.invariant.done k (omega arith))
+    record {
+      residues = λ k l. c.entries.invariant.done k (omega arith);
+      below = all_residues n m (length c.args.xs.now) c.entries.xs (numbers n c.args.xs.now)
+          (let s = g.met.M.SplitSteps.some c.args.m.now in omega (arith, s)) (omega arith)
+          (λ k l. c.entries.invariant.done k (omega arith));
+    }

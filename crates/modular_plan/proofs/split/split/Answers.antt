@@ -44,3 +44,7 @@ returns-in-Some g c =
           (numbers n c.args.xs.now) (numbers n y)) same
           (c.split_by.ensures.remainders r z (subst (λ k. IsPlan k r z (length c.args.table.now) w) (sym same) plan));
     }
+
+pub returns-in-None : goal.returns-in-None
+returns-in-None g c =
+    record { below = c.split_by-in-None.ensures.below; remainders = c.split_by-in-None.ensures.remainders }

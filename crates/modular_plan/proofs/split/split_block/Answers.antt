@@ -22,8 +22,16 @@ returns g c = record {
   done = block_all c.columns.invariant.done (omega arith);
 }
 
-pub returns-then-is_beyond-clause-done : goal.returns-then-is_beyond-clause-done
-returns-then-is_beyond-clause-done g c =
+pub split_pair-requires : goal.split_pair-requires
+split_pair-requires g c = record {
+  entries = c.columns.invariant.entries;
+  factor = c.requires.factor;
+  order = omega arith;
+  within = omega arith;
+}
+
+pub returns-then-is_beyond : goal.returns-then-is_beyond
+returns-then-is_beyond g c =
     never_beyond g.T.RingWord.number (g.M.Bounded.limit c.args.m.now) c.columns.xs c.columns.xs
     (c.args.first + c.columns.i) c.index-xs-first.result c.columns.invariant.entries (omega arith) (omega arith)
     c.index-xs-first.is refl (c.if-is_beyond.ensures refl)

@@ -30,21 +30,26 @@ split_fours-requires g c =
       some = omega arith;
     }
 
-pub returns-then-xs-ge4-clause-remainders : goal.returns-then-xs-ge4-clause-remainders
-returns-then-xs-ge4-clause-remainders g c =
+pub returns-then-xs-ge4 : goal.returns-then-xs-ge4
+returns-then-xs-ge4 g c =
     let n = g.T.RingWord.number in
     let m = g.M.SplitSteps.modulus c.args.m.now in
     let length_is : length c.split_fours.new.xs ≡ length c.args.xs.now = omega arith in
     let fours = whole_fours (length c.args.xs.now) c.args.last c.args.b (length c.args.table.now) c.if-last-eq1.true
     c.if-xs-ge4.true c.requires.count c.requires.within in
-    λ r z plan.
-    remainders_of_fours r z c.args.b (length c.args.xs.now) c.args.last (length c.args.table.now) _ _ _ _
-    c.if-last-eq1.true fours plan (c.split_stages.ensures.level r z plan) c.split_fours.ensures.done
-    (λ i l. bounded_at n m c.split_fours.new.xs i c.split_fours.ensures.entries (omega arith))
+    record {
+      below = c.split_fours.ensures.entries;
+      remainders = λ r z plan.
+          remainders_of_fours r z c.args.b (length c.args.xs.now) c.args.last (length c.args.table.now) _ _ _ _
+          c.if-last-eq1.true fours plan (c.split_stages.ensures.level r z plan) c.split_fours.ensures.done
+          (λ i l. bounded_at n m c.split_fours.new.xs i c.split_fours.ensures.entries (omega arith));
+    }
 
-pub returns-else-last-eq1-clause-remainders : goal.returns-else-last-eq1-clause-remainders
-returns-else-last-eq1-clause-remainders g c =
-    λ r z plan.
-    remainders_of r z c.args.b (length c.args.xs.now / c.args.last) c.args.last (length c.args.xs.now) _ _ _
-    c.requires.whole (c.split_stages-else-last-eq1.ensures.level r z plan)
-    (λ i l. c.reduce_each.ensures.residues i (omega arith))
+pub returns-else-last-eq1 : goal.returns-else-last-eq1
+returns-else-last-eq1 g c = record {
+  below = c.reduce_each.ensures.below;
+  remainders = λ r z plan.
+      remainders_of r z c.args.b (length c.args.xs.now / c.args.last) c.args.last (length c.args.xs.now) _ _ _
+      c.requires.whole (c.split_stages-else-last-eq1.ensures.level r z plan)
+      (λ i l. c.reduce_each.ensures.residues i (omega arith));
+}

@@ -2,6 +2,7 @@ use Rattle.std.proofs.Common.{◌+◌, ◌*◌, ◌<◌, ◌≤◌, length, ◌�
 use Rattle.std.proofs.Math.Nat.{mul-le-mul_right}
 use Rattle.modular_plan.specs.Plans.{numbers}
 use Rattle.modular_plan.specs.Steps.{IsPairSplit, BlockDone}
+use Rattle.modular_plan.proofs.Columns.{factor_read}
 use Rattle.modular_plan.proofs.Entries.{number_read}
 use Rattle.modular_plan.proofs.Steps.{stage_none, stage_more, stage_all}
 use Rattle.modular_plan.proofs.split.split_stage.Goals as goal
@@ -24,11 +25,17 @@ overflow_mul-p g c =
     let room = mul-le-mul_right (half + half) (let l : c.each_block.p + 1 ≤ c.args.blocks = omega arith in l) in
     omega (arith, room)
 
-pub split_block-requires-clause-within : goal.split_block-requires-clause-within
-split_block-requires-clause-within g c =
+pub split_block-requires : goal.split_block-requires
+split_block-requires g c =
     let half = c.args.half in
     let room = mul-le-mul_right (half + half) (let l : c.each_block.p + 1 ≤ c.args.blocks = omega arith in l) in
-    omega (arith, room)
+    let read = c.index-table-first in
+    record {
+      entries = c.each_block.invariant.entries;
+      factor = factor_read g.F.PlanEntry.value g.F.PlanEntry.quotient c.args.table.now (c.args.first + c.each_block.p)
+          read.result c.requires.factors (omega arith) read.is c.factor-w.ensures.value c.factor-w.ensures.quotient;
+      within = omega (arith, room);
+    }
 
 pub each_block-preserved : goal.each_block-preserved
 each_block-preserved g c =
@@ -47,5 +54,8 @@ each_block-preserved g c =
           (numbers n c.split_block.new.xs)) factor c.split_block.ensures.done);
     }
 
-pub returns-clause-done : goal.returns-clause-done
-returns-clause-done g c = stage_all c.each_block.invariant.done (omega arith)
+pub returns : goal.returns
+returns g c = record {
+  entries = c.each_block.invariant.entries;
+  done = stage_all c.each_block.invariant.done (omega arith);
+}

@@ -26,19 +26,22 @@ overflow_mul-b g c =
     let enough = two_rooms c.args.b (length c.args.table.now) sizes c.requires.within in
     omega (arith, enough)
 
-pub split_pass-requires-clause-ready : goal.split_pass-requires-clause-ready
-split_pass-requires-clause-ready g c =
+pub split_pass-requires : goal.split_pass-requires
+split_pass-requires g c =
     let before = c.stages.invariant in
     let sizes = two_sizes c.stages.size c.args.last c.stages.blocks c.stages.left (length c.args.xs.now)
     c.requires.some c.requires.count c.requires.whole (omega arith) before.sized before.counted in
     let whole = sizes.whole in
     let same = c.stages.auto.xs in
     record {
-      entries = before.entries;
-      factors = c.requires.factors;
-      whole = omega (arith, whole, same);
-      within = two_rooms c.args.b (length c.args.table.now) sizes c.requires.within;
-      some = sizes.some;
+      ready = record {
+        entries = before.entries;
+        factors = c.requires.factors;
+        whole = omega (arith, whole, same);
+        within = two_rooms c.args.b (length c.args.table.now) sizes c.requires.within;
+        some = sizes.some;
+      };
+      first_entries = before.first;
     }
 
 pub overflow_mul-blocks : goal.overflow_mul-blocks
@@ -78,31 +81,21 @@ overflow_mul-b-else-left-eq0 g c =
     let enough = table_room c.args.b (length c.args.table.now) sizes c.requires.within in
     omega (arith, enough)
 
-pub split_stage-requires-clause-whole : goal.split_stage-requires-clause-whole
-split_stage-requires-clause-whole g c =
+pub split_stage-requires : goal.split_stage-requires
+split_stage-requires g c =
     let before = c.stages.invariant in
     let sizes = sizes_of c.stages.size c.args.last c.stages.blocks c.stages.left (length c.args.xs.now) c.requires.some
     c.requires.count c.requires.whole (larger c.stages.size c.args.last c.stages.left c.requires.some
     (omega arith) before.sized) before.sized before.counted in
     let whole = sizes.whole in
     let same = c.stages.auto.xs in
-    omega (arith, whole, same)
-
-pub split_stage-requires-clause-within : goal.split_stage-requires-clause-within
-split_stage-requires-clause-within g c =
-    let before = c.stages.invariant in
-    let sizes = sizes_of c.stages.size c.args.last c.stages.blocks c.stages.left (length c.args.xs.now) c.requires.some
-    c.requires.count c.requires.whole (larger c.stages.size c.args.last c.stages.left c.requires.some
-    (omega arith) before.sized) before.sized before.counted in
-    table_room c.args.b (length c.args.table.now) sizes c.requires.within
-
-pub split_stage-requires-clause-some : goal.split_stage-requires-clause-some
-split_stage-requires-clause-some g c =
-    let before = c.stages.invariant in
-    let sizes = sizes_of c.stages.size c.args.last c.stages.blocks c.stages.left (length c.args.xs.now) c.requires.some
-    c.requires.count c.requires.whole (larger c.stages.size c.args.last c.stages.left c.requires.some
-    (omega arith) before.sized) before.sized before.counted in
-    sizes.some
+    record {
+      entries = before.entries;
+      factors = c.requires.factors;
+      whole = omega (arith, whole, same);
+      within = table_room c.args.b (length c.args.table.now) sizes c.requires.within;
+      some = sizes.some;
+    }
 
 pub overflow_mul-blocks-else-left-eq0 : goal.overflow_mul-blocks-else-left-eq0
 overflow_mul-blocks-else-left-eq0 g c =
@@ -134,9 +127,12 @@ stages-preserved g c =
           c.requires.within plan (before.level r z plan) c.split_stage.ensures.done;
     }
 
-pub returns-clause-level : goal.returns-clause-level
-returns-clause-level g c =
+pub returns : goal.returns
+returns g c =
     let before = c.stages.invariant in
-    λ r z plan.
-    level_end r z c.args.b c.stages.size c.args.last c.stages.blocks c.stages.left
-    (length c.args.xs.now / c.args.last) _ _ (omega arith) before.sized before.counted (before.level r z plan)
+    record {
+      entries = before.entries;
+      level = λ r z plan.
+          level_end r z c.args.b c.stages.size c.args.last c.stages.blocks c.stages.left
+          (length c.args.xs.now / c.args.last) _ _ (omega arith) before.sized before.counted (before.level r z plan);
+    }

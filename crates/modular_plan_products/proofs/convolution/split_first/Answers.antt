@@ -2,8 +2,34 @@ use Rattle.std.proofs.Common.{◌/◌, length}
 use Rattle.modular_plan_products.proofs.Convolutions.{residues_again}
 use Rattle.modular_plan_products.proofs.convolution.split_first.Goals as goal
 
-pub returns-else-last-eq1-clause-remainders : goal.returns-else-last-eq1-clause-remainders
-returns-else-last-eq1-clause-remainders g c =
-    λ r z plan.
-    residues_again r z c.args.b (length c.args.xs.now / c.args.last) c.args.last _ _
-    (c.split.ensures.remainders r z plan)
+pub split_loosely-requires : goal.split_loosely-requires
+split_loosely-requires g c =
+    let given = c.requires.blocks in
+    record {
+      entries = c.requires.entries;
+      factors = c.requires.factors;
+      some = given.some;
+      count = given.count;
+      whole = given.whole;
+      within = given.within;
+    }
+
+pub split-requires : goal.split-requires
+split-requires g c =
+    let given = c.requires.blocks in
+    record {
+      entries = c.requires.entries;
+      factors = c.requires.factors;
+      some = given.some;
+      count = given.count;
+      whole = given.whole;
+      within = given.within;
+    }
+
+pub returns-else-last-eq1 : goal.returns-else-last-eq1
+returns-else-last-eq1 g c = record {
+  below = λ other. c.split.ensures.below;
+  remainders = λ r z plan.
+      residues_again r z c.args.b (length c.args.xs.now / c.args.last) c.args.last _ _
+      (c.split.ensures.remainders r z plan);
+}

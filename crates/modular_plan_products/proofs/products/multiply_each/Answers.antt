@@ -1,4 +1,4 @@
-use Rattle.std.proofs.Common.{◌*◌, ◌%◌, ◌<◌, length, ◌∙◌, ap, arith, sym, subst}
+use Rattle.std.proofs.Common.{◌*◌, ◌%◌, ◌<◌, length, ◌∙◌, ap, arith, refl, sym, subst}
 use Rattle.modular_plan.specs.Plans.{numbers}
 use Rattle.modular_plan.proofs.Entries.{number_read, bounded, entry_done, entry_kept, all_residues, never_beyond}
 use Rattle.modular_plan_products.proofs.products.multiply_each.Goals as goal
@@ -35,29 +35,21 @@ entries-preserved g c =
       kept = entry_kept n xs i c.multiply.result old c.entries.invariant.kept;
     }
 
-pub returns-clause-products : goal.returns-clause-products
-returns-clause-products g c = λ k l. c.entries.invariant.done k (omega arith)
-
-pub returns-clause-below : goal.returns-clause-below
-returns-clause-below g c =
+pub returns : goal.returns
+returns g c =
     let n = g.T.RingWord.number in
     let m = n c.args.m.now.modulus in
-    all_residues n m (length c.args.xs.now) c.entries.xs (λ k. numbers n c.args.xs.now k * numbers n c.args.ys.now k)
-    (let s = c.args.m.now.some in omega arith) (omega arith)
-    (λ k l. c.entries.invariant.done k (omega arith))
+    record {
+      products = λ k l. c.entries.invariant.done k (omega arith);
+      below = all_residues n m (length c.args.xs.now) c.entries.xs
+          (λ k. numbers n c.args.xs.now k * numbers n c.args.ys.now k) (let s = c.args.m.now.some in omega arith)
+          (omega arith) (λ k l. c.entries.invariant.done k (omega arith));
+    }
 
-pub returns-then-is_beyond-clause-products : goal.returns-then-is_beyond-clause-products
-returns-then-is_beyond-clause-products g c =
+pub returns-then-is_beyond : goal.returns-then-is_beyond
+returns-then-is_beyond g c =
     let n = g.T.RingWord.number in
-    let far = c.if-is_beyond.ensures in
-    never_beyond n (n c.args.m.now.modulus) c.entries.xs c.args.xs.now c.entries.i c.index-xs-i.result
-    c.requires.below (omega arith) (omega arith) c.index-xs-i.is (c.entries.invariant.kept c.entries.i (omega arith))
-    (omega (arith, far))
-
-pub returns-then-is_beyond-clause-below : goal.returns-then-is_beyond-clause-below
-returns-then-is_beyond-clause-below g c =
-    let n = g.T.RingWord.number in
-    let far = c.if-is_beyond.ensures in
+    let far = c.if-is_beyond.ensures refl in
     never_beyond n (n c.args.m.now.modulus) c.entries.xs c.args.xs.now c.entries.i c.index-xs-i.result
     c.requires.below (omega arith) (omega arith) c.index-xs-i.is (c.entries.invariant.kept c.entries.i (omega arith))
     (omega (arith, far))

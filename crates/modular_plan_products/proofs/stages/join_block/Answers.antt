@@ -30,3 +30,11 @@ returns-then-is_beyond g c =
     never_beyond g.T.RingWord.number (g.M.JoinSteps.bound c.args.m.now) c.columns.xs c.columns.xs
     (c.args.first + c.columns.i) c.index-xs-first.result c.columns.invariant.entries (omega arith) (omega arith)
     c.index-xs-first.is refl (omega (arith, far, fits, room))
+
+pub join_pair-requires : goal.join_pair-requires
+join_pair-requires g c = record {
+  entries = c.columns.invariant.entries;
+  factor = c.requires.factor;
+  order = omega arith;
+  within = omega arith;
+}

@@ -23,12 +23,19 @@ overflow_mul-p g c =
     let room = mul-le-mul_right (half + half) (let l : c.each_block.p + 1 ≤ c.args.blocks = omega arith in l) in
     omega (arith, room, whole)
 
-pub join_block-requires-clause-within : goal.join_block-requires-clause-within
-join_block-requires-clause-within g c =
+pub minus_inverse-v-requires : goal.minus_inverse-v-requires
+minus_inverse-v-requires g c = record { factors = c.requires.factors; within = omega arith }
+
+pub join_block-requires : goal.join_block-requires
+join_block-requires g c =
     let half = c.args.half in
     let whole = c.requires.whole in
     let room = mul-le-mul_right (half + half) (let l : c.each_block.p + 1 ≤ c.args.blocks = omega arith in l) in
-    omega (arith, room, whole)
+    record {
+      entries = c.each_block.invariant.entries;
+      factor = c.minus_inverse-v.ensures.factor;
+      within = omega (arith, room, whole);
+    }
 
 pub each_block-preserved : goal.each_block-preserved
 each_block-preserved g c = record {
@@ -38,5 +45,8 @@ each_block-preserved g c = record {
       (c.join_block.ensures.done _ (c.minus_inverse-v.ensures.inverse root z plan));
 }
 
-pub returns-clause-done : goal.returns-clause-done
-returns-clause-done g c = λ root z plan. stage_all (c.each_block.invariant.done root z plan) (omega arith)
+pub returns : goal.returns
+returns g c = record {
+  entries = c.each_block.invariant.entries;
+  done = λ root z plan. stage_all (c.each_block.invariant.done root z plan) (omega arith);
+}
