@@ -146,13 +146,15 @@ stages-preserved g c =
           (c.join_stage.ensures.done r z plan));
     }
 
-pub returns-clause-joined : goal.returns-clause-joined
-returns-clause-joined g c =
-    let before = c.stages.invariant in
-    let full = c.stages-test.false in
-    let whole = c.requires.blocks.whole in
-    λ r z x plan are i l.
-    level_top r z c.args.b c.stages.size c.args.last c.stages.blocks before.rest before.done
-    (length c.args.xs.now / c.args.last) (length c.args.xs.now) x _
-    c.requires.blocks.some (omega (arith, l)) (omega arith) before.halved before.sized before.counted whole
-    (before.level r z x plan are) i l
+pub returns : goal.returns
+returns g c = record {
+  joined = (let before = c.stages.invariant in
+      let full = c.stages-test.false in
+      let whole = c.requires.blocks.whole in
+      λ r z x plan are i l.
+      level_top r z c.args.b c.stages.size c.args.last c.stages.blocks before.rest before.done
+      (length c.args.xs.now / c.args.last) (length c.args.xs.now) x _
+      c.requires.blocks.some (omega (arith, l)) (omega arith) before.halved before.sized before.counted whole
+      (before.level r z x plan are) i l);
+  entries = c.stages.invariant.entries;
+}

@@ -30,10 +30,12 @@ entries-preserved g c =
       kept = entry_kept n xs i c.residue.result old c.entries.invariant.kept;
     }
 
-pub returns-clause-below : goal.returns-clause-below
-returns-clause-below g c =
-    let n = g.T.RingWord.number in
-    let m = g.M.JoinSteps.modulus c.args.m.now in
-    all_residues n m (length c.args.xs.now) c.entries.xs (numbers n c.args.xs.now)
-    (let s = g.met.M.JoinSteps.some c.args.m.now in omega (arith, s)) (omega arith)
-    (λ k l. c.entries.invariant.done k (omega arith))
+pub returns : goal.returns
+returns g c = record {
+  below = (let n = g.T.RingWord.number in
+      let m = g.M.JoinSteps.modulus c.args.m.now in
+      all_residues n m (length c.args.xs.now) c.entries.xs (numbers n c.args.xs.now)
+      (let s = g.met.M.JoinSteps.some c.args.m.now in omega (arith, s)) (omega arith)
+      (λ k l. c.entries.invariant.done k (omega arith)));
+  residues = λ k l. c.entries.invariant.done k (omega arith);
+}

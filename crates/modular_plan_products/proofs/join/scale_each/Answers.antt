@@ -20,16 +20,15 @@ entries-preserved g c =
       kept = entry_kept n xs i c.product.result old c.entries.invariant.kept;
     }
 
-pub returns-clause-products : goal.returns-clause-products
-returns-clause-products g c = λ k l. c.entries.invariant.done k (omega arith)
-
-pub returns-clause-below : goal.returns-clause-below
-returns-clause-below g c =
-    let n = g.T.RingWord.number in
-    let m = g.M.JoinSteps.modulus c.args.m.now in
-    all_residues n m (length c.args.xs.now) c.entries.xs (λ k. numbers n c.args.xs.now k * n c.args.w.now.value)
-    (g.met.M.JoinSteps.some c.args.m.now) (omega arith)
-    (λ k l. c.entries.invariant.done k (omega arith))
+pub returns : goal.returns
+returns g c = record {
+  products = (λ k l. c.entries.invariant.done k (omega arith));
+  below = (let n = g.T.RingWord.number in
+      let m = g.M.JoinSteps.modulus c.args.m.now in
+      all_residues n m (length c.args.xs.now) c.entries.xs (λ k. numbers n c.args.xs.now k * n c.args.w.now.value)
+      (g.met.M.JoinSteps.some c.args.m.now) (omega arith)
+      (λ k l. c.entries.invariant.done k (omega arith)));
+}
 
 pub returns-then-is_beyond : goal.returns-then-is_beyond
 returns-then-is_beyond g c =

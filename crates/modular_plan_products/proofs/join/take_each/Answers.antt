@@ -35,10 +35,9 @@ entries-preserved g c =
       kept = entry_kept n xs i c.taken.result old c.entries.invariant.kept;
     }
 
-pub returns-clause-below : goal.returns-clause-below
-returns-clause-below g c =
-    all_below g.T.RingWord.number (g.M.JoinSteps.bound c.args.m.now) (length c.args.xs.now) c.entries.xs (omega arith)
-    (λ k l. c.entries.invariant.below k (omega arith))
-
-pub returns-clause-congruent : goal.returns-clause-congruent
-returns-clause-congruent g c = λ k l. c.entries.invariant.done k (omega arith)
+pub returns : goal.returns
+returns g c = record {
+  below = (all_below g.T.RingWord.number (g.M.JoinSteps.bound c.args.m.now) (length c.args.xs.now) c.entries.xs (omega arith)
+      (λ k l. c.entries.invariant.below k (omega arith)));
+  congruent = (λ k l. c.entries.invariant.done k (omega arith));
+}

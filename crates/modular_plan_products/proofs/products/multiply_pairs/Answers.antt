@@ -29,6 +29,8 @@ each_block-preserved g c =
       kept = λ k l. step.kept k (omega arith) (omega arith) ∙ before.kept k (omega arith);
     }
 
-pub returns-clause-products : goal.returns-clause-products
-returns-clause-products g c =
-    λ root z plan. record { each = λ j i lj li. c.each_block.invariant.done root z plan j i (omega arith) li }
+pub returns : goal.returns
+returns g c = record {
+  products = (λ root z plan. record { each = λ j i lj li. c.each_block.invariant.done root z plan j i (omega arith) li });
+  below = c.each_block.invariant.below;
+}

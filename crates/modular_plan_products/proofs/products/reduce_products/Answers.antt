@@ -4,15 +4,17 @@ use Rattle.modular_plan.specs.Plans.{numbers}
 use Rattle.modular_plan.proofs.Entries.{number_at, number_read, bounded, entry_written, entry_kept, never_beyond}
 use Rattle.modular_plan_products.proofs.products.reduce_products.Goals as goal
 
-pub reduced_product-requires-clause-below : goal.reduced_product-requires-clause-below
-reduced_product-requires-clause-below g c =
-    let n = g.T.RingWord.number in
-    let m = n c.args.m.now.modulus in
-    let i = c.entries.i in
-    let y = c.index-ys-i.result in
-    let within : i < length c.args.ys.now = omega arith in
-    subst (λ v. v < m) (sym (number_read n c.args.ys.now i y within c.index-ys-i.is))
-    (bounded n m c.args.ys.now i y c.requires.below within)
+pub reduced_product-requires : goal.reduced_product-requires
+reduced_product-requires g c = record {
+  below = (let n = g.T.RingWord.number in
+      let m = n c.args.m.now.modulus in
+      let i = c.entries.i in
+      let y = c.index-ys-i.result in
+      let within : i < length c.args.ys.now = omega arith in
+      subst (λ v. v < m) (sym (number_read n c.args.ys.now i y within c.index-ys-i.is))
+      (bounded n m c.args.ys.now i y c.requires.below within));
+  inverse = c.requires.inverse;
+}
 
 pub entries-preserved : goal.entries-preserved
 entries-preserved g c =
@@ -39,26 +41,18 @@ entries-preserved g c =
       kept = entry_kept n xs i c.reduced_product.result old c.entries.invariant.kept;
     }
 
-pub returns-clause-products : goal.returns-clause-products
-returns-clause-products g c = λ k l. c.entries.invariant.done k (omega arith)
+pub returns : goal.returns
+returns g c = record {
+  products = (λ k l. c.entries.invariant.done k (omega arith));
+  below = (let n = g.T.RingWord.number in
+      let m = n c.args.m.now.modulus in
+      λ i d below.
+      subst (λ v. v < 2 * m) (sym (number_at n c.entries.xs i d below)) (c.entries.invariant.below i (omega arith)));
+}
 
-pub returns-clause-below : goal.returns-clause-below
-returns-clause-below g c =
+pub returns-then-is_beyond : goal.returns-then-is_beyond
+returns-then-is_beyond g c =
     let n = g.T.RingWord.number in
-    let m = n c.args.m.now.modulus in
-    λ i d below.
-    subst (λ v. v < 2 * m) (sym (number_at n c.entries.xs i d below)) (c.entries.invariant.below i (omega arith))
-
-pub returns-then-is_beyond-clause-products : goal.returns-then-is_beyond-clause-products
-returns-then-is_beyond-clause-products g c =
-    let n = g.T.RingWord.number in
-    let far = c.if-is_beyond.ensures in
-    never_beyond n (n c.args.m.now.modulus) c.args.ys.now c.args.ys.now c.entries.i c.index-ys-i.result
-    c.requires.below (omega arith) (omega arith) c.index-ys-i.is refl (omega (arith, far))
-
-pub returns-then-is_beyond-clause-below : goal.returns-then-is_beyond-clause-below
-returns-then-is_beyond-clause-below g c =
-    let n = g.T.RingWord.number in
-    let far = c.if-is_beyond.ensures in
+    let far = c.if-is_beyond.ensures refl in
     never_beyond n (n c.args.m.now.modulus) c.args.ys.now c.args.ys.now c.entries.i c.index-ys-i.result
     c.requires.below (omega arith) (omega arith) c.index-ys-i.is refl (omega (arith, far))

@@ -51,51 +51,51 @@ minus-requires g c =
     let less = mod-lt (n c.args.x * n c.factor-w.result.value) (let k : 0 < m = omega (arith, some) in k) in
     omega (arith, less, c.product-turned.ensures)
 
-pub returns-then-rest-eq0-clause-most : goal.returns-then-rest-eq0-clause-most
-returns-then-rest-eq0-clause-most g c =
-    let n = g.T.RingWord.number in
-    let m = n c.args.m.now.modulus in
-    let some = c.args.m.now.some in
-    let less = mod-lt (n c.args.x * n c.factor-w.result.value) (let k : 0 < m = omega (arith, some) in k) in
-    omega (arith, less, c.product-turned.ensures)
+pub returns-then-rest-eq0 : goal.returns-then-rest-eq0
+returns-then-rest-eq0 g c = record {
+  most = (let n = g.T.RingWord.number in
+      let m = n c.args.m.now.modulus in
+      let some = c.args.m.now.some in
+      let less = mod-lt (n c.args.x * n c.factor-w.result.value) (let k : 0 < m = omega (arith, some) in k) in
+      omega (arith, less, c.product-turned.ensures));
+  product = (let n = g.T.RingWord.number in
+      let m = n c.args.m.now.modulus in
+      let x = n c.args.x in
+      let table = c.args.table.now in
+      let block = block_of c.args.b c.args.count c.args.j (length table) c.requires.block c.requires.within in
+      let p : ℕ = c.args.b / 2 * c.args.count + (c.args.b % 2 * c.args.count + c.args.j) / 2 in
+      let is = c.factor-w.ensures.value ∙ number_read g.F.PlanEntry.value table p c.index-table-b.result
+      block.within c.index-table-b.is in
+      let even = c.if-rest-eq0.true in
+      let e = block.is in
+      let at : 2 * p ≡ c.args.b * c.args.count + c.args.j = omega (arith, e, even) in
+      λ root z plan.
+      subst (λ v. Congruent m (n c.product-turned.result) (x * constant root z v)) at
+      (chained (of_equal c.product-turned.ensures) (chained (residue_of (x * n c.factor-w.result.value))
+      (multiplied (itself x) (subst (λ v. Congruent m v (constant root z (2 * p))) (sym is)
+      (pair_of_constants root z (length table) p _ plan block.within).even)))));
+}
 
-pub returns-then-rest-eq0-clause-product : goal.returns-then-rest-eq0-clause-product
-returns-then-rest-eq0-clause-product g c =
-    let n = g.T.RingWord.number in
-    let m = n c.args.m.now.modulus in
-    let x = n c.args.x in
-    let table = c.args.table.now in
-    let block = block_of c.args.b c.args.count c.args.j (length table) c.requires.block c.requires.within in
-    let p : ℕ = c.args.b / 2 * c.args.count + (c.args.b % 2 * c.args.count + c.args.j) / 2 in
-    let is = c.factor-w.ensures.value ∙ number_read g.F.PlanEntry.value table p c.index-table-b.result
-    block.within c.index-table-b.is in
-    let even = c.if-rest-eq0.true in
-    let e = block.is in
-    let at : 2 * p ≡ c.args.b * c.args.count + c.args.j = omega (arith, e, even) in
-    λ root z plan.
-    subst (λ v. Congruent m (n c.product-turned.result) (x * constant root z v)) at
-    (chained (of_equal c.product-turned.ensures) (chained (residue_of (x * n c.factor-w.result.value))
-    (multiplied (itself x) (subst (λ v. Congruent m v (constant root z (2 * p))) (sym is)
-    (pair_of_constants root z (length table) p _ plan block.within).even))))
-
-pub returns-else-rest-eq0-clause-product : goal.returns-else-rest-eq0-clause-product
-returns-else-rest-eq0-clause-product g c =
-    let n = g.T.RingWord.number in
-    let m = n c.args.m.now.modulus in
-    let x = n c.args.x in
-    let table = c.args.table.now in
-    let block = block_of c.args.b c.args.count c.args.j (length table) c.requires.block c.requires.within in
-    let p : ℕ = c.args.b / 2 * c.args.count + (c.args.b % 2 * c.args.count + c.args.j) / 2 in
-    let is = c.factor-w.ensures.value ∙ number_read g.F.PlanEntry.value table p c.index-table-b.result
-    block.within c.index-table-b.is in
-    let below = subst (λ f. g.F.PlanEntry.value f < m) (sym c.index-table-b.is)
-    (c.requires.factors _ c.index-table-b.result block.within).below in
-    let odd = c.if-rest-eq0.false in
-    let e = block.is in
-    let at : 2 * p + 1 ≡ c.args.b * c.args.count + c.args.j = omega (arith, e, odd) in
-    λ root z plan.
-    subst (λ v. Congruent m (n c.minus.result) (x * constant root z v)) at
-    (product_by_odd x (n c.factor-w.result.value) (constant root z (2 * p + 1)) (n c.product-turned.result) (n c.minus.result)
-    (subst (λ v. v < m) (sym c.factor-w.ensures.value) below)
-    (λ v h. (pair_of_constants root z (length table) p _ plan block.within).odd v (ap (λ k. v + k) (sym is) ∙ h))
-    c.product-turned.ensures c.minus.ensures.value)
+pub returns-else-rest-eq0 : goal.returns-else-rest-eq0
+returns-else-rest-eq0 g c = record {
+  product = (let n = g.T.RingWord.number in
+      let m = n c.args.m.now.modulus in
+      let x = n c.args.x in
+      let table = c.args.table.now in
+      let block = block_of c.args.b c.args.count c.args.j (length table) c.requires.block c.requires.within in
+      let p : ℕ = c.args.b / 2 * c.args.count + (c.args.b % 2 * c.args.count + c.args.j) / 2 in
+      let is = c.factor-w.ensures.value ∙ number_read g.F.PlanEntry.value table p c.index-table-b.result
+      block.within c.index-table-b.is in
+      let below = subst (λ f. g.F.PlanEntry.value f < m) (sym c.index-table-b.is)
+      (c.requires.factors _ c.index-table-b.result block.within).below in
+      let odd = c.if-rest-eq0.false in
+      let e = block.is in
+      let at : 2 * p + 1 ≡ c.args.b * c.args.count + c.args.j = omega (arith, e, odd) in
+      λ root z plan.
+      subst (λ v. Congruent m (n c.minus.result) (x * constant root z v)) at
+      (product_by_odd x (n c.factor-w.result.value) (constant root z (2 * p + 1)) (n c.product-turned.result) (n c.minus.result)
+      (subst (λ v. v < m) (sym c.factor-w.ensures.value) below)
+      (λ v h. (pair_of_constants root z (length table) p _ plan block.within).odd v (ap (λ k. v + k) (sym is) ∙ h))
+      c.product-turned.ensures c.minus.ensures.value));
+  most = (let is = c.minus.ensures.value in omega (arith, is));
+}
