@@ -1,12 +1,12 @@
 -- Sums that differ in one term, and what a changed sum is modulo m.
-use Rattle.std.proofs.Common.{Bool, true, false, IsTrue, ◌↔◌, ◌≡◌, ◌≢◌, ℕ, zero, suc, ◌+◌, ◌*◌, ◌/◌, ◌%◌, ◌<◌}
-use Rattle.std.proofs.Common.{◌≤◌, List, length, get_or, set, sym, ap, ◌∙◌, refl, arith, add-one, Option, Some}
-use Rattle.std.proofs.Common.{None, is_some, MatchOption, ⊎_elim, length-set, get_or-set_same, get_or-set_other}
+use Rattle.std.proofs.Common.{◌↔◌, ◌≡◌, ◌≢◌, ℕ, zero, suc, ◌+◌, ◌*◌, ◌/◌, ◌%◌, ◌<◌}
+use Rattle.std.proofs.Common.{◌≤◌, List, length, get_or, set, sym, ap, ◌∙◌, refl, arith, add-one}
+use Rattle.std.proofs.Common.{⊎_elim, length-set, get_or-set_same, get_or-set_other, ℤ, pos, negsuc}
 use Rattle.std.proofs.Math.Nat.{add-mod, add-mod-mod, mod-add-mod, div-add-mod}
-use Rattle.std.proofs.Math.Nat.{add-mul-mod_self_left, zero-mod, mod-eq_of_lt}
-use Rattle.std.proofs.lemmas.Nat.{mul-mod_first}
+use Rattle.std.proofs.Math.Nat.{add-mul-mod_self_left, zero-mod, mod-eq_of_lt, mod-lt}
 use Rattle.std.proofs.lemmas.Bool.{cases_lt}
-use Rattle.num_modular.specs.Inverses.{IsInverse, HasInverse}
+use Rattle.num_modular.specs.Inverses.{HasInverse}
+use Rattle.num_modular.specs.Residues.{residue}
 use Rattle.num_modular.specs.Sums.{sum_below}
 use Rattle.ring_codes.specs.Codes.{weighted_sum, exchanged}
 
@@ -19,9 +19,8 @@ unfolding sum_below
 sum_more n f = ap (λ k. sum_below k f) (add-one n)
 
 -- one more term, reduced modulo m
-pub residue_more : (m sum w x v p : ℕ) → v ≡ sum % m → p ≡ (w % m * x) % m → (v + p) % m ≡ (sum + w * x) % m
-residue_more m sum w x v p e f =
-    ap (λ n. (n + p) % m) e ∙ ap (λ n. (sum % m + n) % m) (f ∙ mul-mod_first w x m) ∙ sym (add-mod sum (w * x) m)
+pub residue_more : (m sum t v p : ℕ) → v ≡ sum % m → p ≡ t % m → (v + p) % m ≡ (sum + t) % m
+residue_more m sum t v p e f = ap (λ n. (n + p) % m) e ∙ ap (λ n. (sum % m + n) % m) f ∙ sym (add-mod sum t m)
 
 before_term : (f g : ℕ → ℕ) (p n : ℕ) → ((i : ℕ) → i ≢ p → f i ≡ g i) → n ≤ p → sum_below n f ≡ sum_below n g
 unfolding sum_below
@@ -161,10 +160,6 @@ one_symbol m S S' S'' w x s t (i, inverse) s_below t_below equal moved other =
     (one_at m S S' S'' w x s t i _ _ _ _ moved other (spread m S' S'' equal) (spread m (w * i) 1 inverse.one))
     ∙ mod-eq_of_lt s_below
 
--- an inversion says whether there is an inverse
-pub inversion_tells : {A : Type 0} (its_modulus its_residue : A → ℕ) (m a : ℕ) (found : Option A) (b : Bool)
-    → MatchOption found ((x : ℕ) → IsInverse m a x → ⊥) (λ y. (its_modulus y ≡ m) × IsInverse m a (its_residue y))
-    → b ≡ is_some found → IsTrue b ↔ HasInverse m a
-inversion_tells its_modulus its_residue m a None b h e =
-    ((λ t. let wrong : false ≡ true = sym e ∙ t in cc), λ (x, inverse). absurd (h x inverse))
-inversion_tells its_modulus its_residue m a (Some y) b h e = ((λ t. (its_residue y, h.1)), λ inverse. e)
+pub residue_below : (m : ℕ) (z : ℤ) → 0 < m → residue m z < m
+residue_below m (pos n) positive = mod-lt n positive
+residue_below m (negsuc n) positive = omega arith

@@ -2,9 +2,9 @@
 use Rattle.std.proofs.Common.{Bool, true, false, not, IsTrue, ◌↔◌, ◌≡◌, ◌≢◌, ℕ, suc, ◌+◌, ◌-◌, ◌*◌, ◌%◌, ◌<◌, pos, ◌-ℤ◌}
 use Rattle.std.proofs.Common.{List, length, get_or, set, sym, ap, ◌∙◌, refl, subst, arith, ⊎_elim}
 use Rattle.std.proofs.Common.{length-set, get_or-set_same, get_or-set_other}
-use Rattle.std.proofs.Math.Nat.{mod-add-mod, mod-mod, add-mul-mod_self_left, mod-eq_of_lt}
+use Rattle.std.proofs.Math.Nat.{mod-add-mod, add-mul-mod_self_left, mod-eq_of_lt}
 use Rattle.std.proofs.lemmas.Bool.{cases_eq, false≢true}
-use Rattle.std.proofs.lemmas.Nat.{mul-mod_first}
+use Rattle.num_modular.specs.NumberLaws.{difference_and}
 use Rattle.num_modular.specs.Residues.{residue}
 use Rattle.ring_codes.specs.Codes.{CheckCode, Fits, IsCodeword, exchanged}
 use Rattle.ring_codes.proofs.CheckSums.{changed_symbol, changed_sum, exchanged_symbols, exchanged_sum, still_leaves}
@@ -95,63 +95,36 @@ a_difference m x y h =
     let sum : y + (m - x) + x ≡ y + m * 1 = omega arith in
     ap (λ n. n % m) sum ∙ add-mul-mod_self_left y m 1
 
--- the same by a product v that is computed of residues, and by that of the definition
-pub change_told : (code : CheckCode) (word : List ℕ) (p s v : ℕ) → IsCodeword code word → p < length word
-    → ((a b : ℕ) → (residue code.modulus (pos a -ℤ pos b) + b) % code.modulus ≡ a % code.modulus)
-    → v ≡ (get_or code.weights p 0 % code.modulus
-    * residue code.modulus (pos (s % code.modulus) -ℤ pos (get_or word p 0))) % code.modulus
-    → (IsCodeword code (set word p s) ↔ (Fits code p s × (v ≡ 0)))
-    × (IsCodeword code (set word p s) ↔ (Fits code p s
-    × ((get_or code.weights p 0 * residue code.modulus (pos s -ℤ pos (get_or word p 0))) % code.modulus ≡ 0)))
-change_told code word p s v is within difference product =
-    let m = code.modulus in
-    let w = get_or code.weights p 0 in
-    let d = residue m (pos (s % m) -ℤ pos (get_or word p 0)) in
-    let word_is = changed_word code word p s d is within (difference (s % m) (get_or word p 0) ∙ mod-mod s m) in
-    let same : v ≡ (w * d) % m = product ∙ mul-mod_first w d m in (
-      (λ changed. ((word_is.0 changed).0, same ∙ (word_is.0 changed).1), λ h. word_is.1 (h.0, sym same ∙ h.1)),
-      changed_word code word p s _ is within (difference s (get_or word p 0)),
-    )
+-- the same by the residues of the differences
+pub change_told : (code : CheckCode) (word : List ℕ) (p s : ℕ) → 0 < code.modulus → IsCodeword code word → p < length word
+    → IsCodeword code (set word p s) ↔ (Fits code p s
+    × ((get_or code.weights p 0 * residue code.modulus (pos s -ℤ pos (get_or word p 0))) % code.modulus ≡ 0))
+change_told code word p s positive is within =
+    changed_word code word p s _ is within (difference_and code.modulus s (get_or word p 0) positive)
 
-pub exchange_told : (code : CheckCode) (word : List ℕ) (p v : ℕ) → IsCodeword code word → suc p < length word
-    → ((a b : ℕ) → (residue code.modulus (pos a -ℤ pos b) + b) % code.modulus ≡ a % code.modulus)
-    → v ≡ (residue code.modulus (pos (get_or code.weights p 0 % code.modulus) -ℤ pos (get_or code.weights (suc p) 0))
-    * residue code.modulus (pos (get_or word (suc p) 0 % code.modulus) -ℤ pos (get_or word p 0))) % code.modulus
-    → (IsCodeword code (exchanged word p)
-    ↔ ((Fits code p (get_or word (suc p) 0) × Fits code (suc p) (get_or word p 0)) × (v ≡ 0)))
-    × (IsCodeword code (exchanged word p)
+pub exchange_told : (code : CheckCode) (word : List ℕ) (p : ℕ) → 0 < code.modulus → IsCodeword code word
+    → suc p < length word
+    → IsCodeword code (exchanged word p)
     ↔ ((Fits code p (get_or word (suc p) 0) × Fits code (suc p) (get_or word p 0))
     × ((residue code.modulus (pos (get_or code.weights p 0) -ℤ pos (get_or code.weights (suc p) 0))
-    * residue code.modulus (pos (get_or word (suc p) 0) -ℤ pos (get_or word p 0))) % code.modulus ≡ 0)))
-exchange_told code word p v is within difference same =
+    * residue code.modulus (pos (get_or word (suc p) 0) -ℤ pos (get_or word p 0))) % code.modulus ≡ 0))
+exchange_told code word p positive is within =
     let m = code.modulus in
-    let a = get_or code.weights p 0 in
-    let b = get_or code.weights (suc p) 0 in
-    let x = get_or word p 0 in
-    let y = get_or word (suc p) 0 in
-    let tested = exchanged_word code word p _ _ is within (difference (a % m) b ∙ mod-mod a m)
-    (difference (y % m) x ∙ mod-mod y m) in
-    let defined = exchanged_word code word p _ _ is within (difference a b) (difference y x) in (
-      (λ w. (((tested.0 w).0, (tested.0 w).1), same ∙ (tested.0 w).2), λ h. tested.1 (h.0.0, h.0.1, sym same ∙ h.1)),
-      (λ w. (((defined.0 w).0, (defined.0 w).1), (defined.0 w).2), λ h. defined.1 (h.0.0, h.0.1, h.1)),
-    )
+    let told = exchanged_word code word p _ _ is within
+    (difference_and m (get_or code.weights p 0) (get_or code.weights (suc p) 0) positive)
+    (difference_and m (get_or word (suc p) 0) (get_or word p 0) positive) in
+    ((λ w. (((told.0 w).0, (told.0 w).1), (told.0 w).2)), λ h. told.1 (h.0.0, h.0.1, h.1))
 
--- the result for a changed word W, F being that its symbols fit, V and P that the sum doesn't show the change:
--- where it does
-pub shown : (F W V P : Type 0) → (W ↔ (F × V)) → (W ↔ (F × P)) → ¬ V → (IsTrue true ↔ ¬ W) × (IsTrue true ↔ (F → ¬ P))
-shown F W V P by_test by_product apart = (
-  (λ h w. apart (by_test.0 w).1, λ h. refl),
-  (λ h fits none. apart (by_test.0 (by_product.1 (fits, none))).1, λ h. refl),
-)
+-- the result for a changed word W, F being that its symbols fit, V that the sum doesn't show the change: where it does
+pub shown : (F W V : Type 0) → (W ↔ (F × V)) → ¬ V → (IsTrue true ↔ ¬ W) × (IsTrue true ↔ (F → ¬ V))
+shown F W V told apart = ((λ h w. apart (told.0 w).1, λ h. refl), (λ h fits. apart, λ h. refl))
 
 -- and where it doesn't, by the test b of the symbols
-pub unshown : (b : Bool) (F W V P : Type 0) → (IsTrue b ↔ F) → (W ↔ (F × V)) → (W ↔ (F × P)) → V
-    → (IsTrue (not b) ↔ ¬ W) × (IsTrue (not b) ↔ (F → ¬ P))
-unshown true F W V P t by_test by_product v =
+pub unshown : (b : Bool) (F W V : Type 0) → (IsTrue b ↔ F) → (W ↔ (F × V)) → V
+    → (IsTrue (not b) ↔ ¬ W) × (IsTrue (not b) ↔ (F → ¬ V))
+unshown true F W V t told v =
     let fits = t.0 refl in
-    let word = by_test.1 (fits, v) in
-    let none = (by_product.0 word).1 in ((λ h. cc, λ h. absurd (h word)), (λ h. cc, λ h. absurd (h fits none)))
-unshown false F W V P t by_test by_product v =
-    let unfit = λ (fits : F).
-    let wrong : false ≡ true = t.1 fits in
-    false≢true wrong in ((λ h w. absurd (unfit (by_test.0 w).0), λ h. refl), (λ h fits. absurd (unfit fits), λ h. refl))
+    ((λ h. cc, λ h. absurd (h (told.1 (fits, v)))), (λ h. cc, λ h. absurd (h fits v)))
+unshown false F W V t told v =
+    let unfit = λ (fits : F). false≢true (t.1 fits) in
+    ((λ h w. unfit (told.0 w).0, λ h. refl), (λ h fits. absurd (unfit fits), λ h. refl))

@@ -8,22 +8,30 @@ ghost use Rattle.num_modular.specs.Residues.{residue};
 ghost use Rattle.ring_codes.specs.Codes.{weighted_sum, code_of, Fits, IsCodeword, exchanged, IsRestored};
 
 use crate::Code;
-use num_modular::laws::{inverse_laws, residue_laws};
-use num_modular::{ModularInteger, VanillaInt};
+use num_modular::{ModularCoreOps, ModularInteger, ModularUnaryOps, VanillaInt};
 
 impl<'a> Code<'a> {
+    // The residue of the weighted sum of the symbols.
+    fn sum(&self, word: &[u64]) -> u64
+        requires { length word.now ≤ length self.now.weights.now }
+        ensures { result ≡ weighted_sum self.now.weights.now word.now % self.now.modulus }
+    {
+        let m = self.modulus;
+        let weights = self.weights;
+        let mut sum = 0 % m;
+        'places: for (place, symbol) in word.iter().enumerate() {
+            let product = weights[place].mulm(*symbol, &m);
+            sum = sum.addm(product, &m);
+        }
+        sum
+    }
+
     /// The weighted sum of the symbols, modulo the modulus. Condition: each place has a weight.
     pub fn check_sum(&self, word: &[u64]) -> VanillaInt<u64>
         requires { length word.now ≤ length self.now.weights.now }
         ensures { IsReduced self.now.modulus (weighted_sum self.now.weights.now word.now % self.now.modulus) result }
     {
-        let weights = self.weights;
-        let mut sum = VanillaInt::<u64>::new(0, &self.modulus);
-        'places: for (place, symbol) in word.iter().enumerate() {
-            let weight = sum.convert(weights[place]);
-            sum += weight * *symbol;
-        }
-        sum
+        VanillaInt::<u64>::new(self.sum(word), &self.modulus)
     }
 
     /// Whether the symbol is allowed at the place. Condition: the code has the place.
@@ -66,11 +74,7 @@ impl<'a> Code<'a> {
     pub fn accepts(&self, word: &[u64]) -> bool
         ensures { IsTrue result ↔ IsCodeword (code_of self.now) word.now }
     {
-        if !self.fits_but(word, word.len()) {
-            return false;
-        }
-        let sum = self.check_sum(word);
-        sum == sum.convert(self.residue)
+        self.fits_but(word, word.len()) && self.sum(word) == self.residue % self.modulus
     }
 
     /// Whether the code detects the change of one symbol of a word: the word with `symbol` at `place` isn't accepted.
@@ -92,12 +96,11 @@ impl<'a> Code<'a> {
             HasInverse m (slice_index self.now.weights.now place) →
             symbol % m ≢ slice_index word.now place % m → IsTrue result }
     {
-        residue_laws();
+        let m = self.modulus;
         let weights = self.weights;
-        let weight = VanillaInt::<u64>::new(weights[place], &self.modulus);
-        let difference = weight.convert(symbol) - word[place];
-        let product = weight * difference;
-        if !product.is_zero() {
+        let difference = symbol.subm(word[place], &m);
+        let product = weights[place].mulm(difference, &m);
+        if product != 0 {
             return true;
         }
         !self.fits(place, symbol)
@@ -126,12 +129,12 @@ impl<'a> Code<'a> {
             HasInverse m (residue m (pos (slice_index weights place) -ℤ pos (slice_index weights (suc place)))) →
             slice_index word.now (suc place) % m ≢ slice_index word.now place % m → IsTrue result }
     {
-        residue_laws();
+        let m = self.modulus;
         let weights = self.weights;
-        let weight = VanillaInt::<u64>::new(weights[place], &self.modulus) - weights[place + 1];
-        let difference = weight.convert(word[place + 1]) - word[place];
-        let product = weight * difference;
-        if !product.is_zero() {
+        let weight = weights[place].subm(weights[place + 1], &m);
+        let difference = word[place + 1].subm(word[place], &m);
+        let product = weight.mulm(difference, &m);
+        if product != 0 {
             return true;
         }
         !self.fit_exchanged(word, place)
@@ -141,10 +144,7 @@ impl<'a> Code<'a> {
     pub fn can_restore(&self, weight: u64) -> bool
         ensures { IsTrue result ↔ HasInverse self.now.modulus weight }
     {
-        inverse_laws();
-        VanillaInt::<u64>::new(weight, &self.modulus)
-            .inv()
-            .is_some()
+        weight.invm(&self.modulus).is_some()
     }
 
     // The only number below m for which, as the symbol at the place, the weighted sum has the residue of the code.
@@ -160,12 +160,12 @@ impl<'a> Code<'a> {
             ≡ self.now.residue % self.now.modulus →
             t ≡ result }
     {
-        inverse_laws();
-        residue_laws();
+        let m = self.modulus;
         let weights = self.weights;
-        let sum = self.check_sum(word) - self.residue;
-        let weight = sum.convert(weights[place]);
-        (sum.convert(word[place]) - sum / weight).residue()
+        let sum = self.sum(word).subm(self.residue, &m);
+        let weight = VanillaInt::<u64>::new(weights[place], &m);
+        let quotient = weight.convert(sum) / weight;
+        word[place].subm(quotient.residue(), &m)
     }
 
     /// The only symbol below m that completes the word to one of the code, in place of an erased one. `None`

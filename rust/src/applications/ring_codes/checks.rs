@@ -1,24 +1,30 @@
 //! Which words a code accepts, which changes it detects, and how it restores an erased symbol.
 
 use crate::applications::ring_codes::Code;
-use crate::laws::{inverse_laws, residue_laws};
-use crate::{ModularInteger, VanillaInt};
+use crate::{ModularCoreOps, ModularInteger, ModularUnaryOps, VanillaInt};
 
 impl<'a> Code<'a> {
+    // The residue of the weighted sum of the symbols.
+    fn sum(&self, word: &[u64]) -> u64 {
+        let m = self.modulus;
+        let weights = self.weights;
+        let mut sum = 0 % m;
+        'places: for (place, symbol) in word.iter().enumerate() {
+            let product = weights[place].mulm(*symbol, &m);
+            sum = sum.addm(product, &m);
+        }
+        sum
+    }
+
     /// The weighted sum of the symbols, modulo the modulus.
     ///
     /// # Preconditions
     ///
     /// Each place has a weight. This isn't tested: outside it the call panics, or returns no meaningful
     /// result.
+    #[inline]
     pub fn check_sum(&self, word: &[u64]) -> VanillaInt<u64> {
-        let weights = self.weights;
-        let mut sum = VanillaInt::<u64>::new(0, &self.modulus);
-        'places: for (place, symbol) in word.iter().enumerate() {
-            let weight = sum.convert(weights[place]);
-            sum += weight * *symbol;
-        }
-        sum
+        VanillaInt::<u64>::new(self.sum(word), &self.modulus)
     }
 
     /// Whether the symbol is allowed at the place.
@@ -56,11 +62,7 @@ impl<'a> Code<'a> {
     /// Whether the word is one of the code.
     #[inline]
     pub fn accepts(&self, word: &[u64]) -> bool {
-        if !self.fits_but(word, word.len()) {
-            return false;
-        }
-        let sum = self.check_sum(word);
-        sum == sum.convert(self.residue)
+        self.fits_but(word, word.len()) && self.sum(word) == self.residue % self.modulus
     }
 
     /// Whether the code detects the change of one symbol of a word: the word with `symbol` at `place` isn't accepted.
@@ -75,12 +77,11 @@ impl<'a> Code<'a> {
     /// The word is accepted, and it has the place. This isn't tested: outside it the call panics, or
     /// returns no meaningful result.
     pub fn finds_change(&self, word: &[u64], place: usize, symbol: u64) -> bool {
-        residue_laws();
+        let m = self.modulus;
         let weights = self.weights;
-        let weight = VanillaInt::<u64>::new(weights[place], &self.modulus);
-        let difference = weight.convert(symbol) - word[place];
-        let product = weight * difference;
-        if !product.is_zero() {
+        let difference = symbol.subm(word[place], &m);
+        let product = weights[place].mulm(difference, &m);
+        if product != 0 {
             return true;
         }
         !self.fits(place, symbol)
@@ -100,12 +101,12 @@ impl<'a> Code<'a> {
     /// The word is accepted, and it has both places. This isn't tested: outside it the call panics, or
     /// returns no meaningful result.
     pub fn finds_exchange(&self, word: &[u64], place: usize) -> bool {
-        residue_laws();
+        let m = self.modulus;
         let weights = self.weights;
-        let weight = VanillaInt::<u64>::new(weights[place], &self.modulus) - weights[place + 1];
-        let difference = weight.convert(word[place + 1]) - word[place];
-        let product = weight * difference;
-        if !product.is_zero() {
+        let weight = weights[place].subm(weights[place + 1], &m);
+        let difference = word[place + 1].subm(word[place], &m);
+        let product = weight.mulm(difference, &m);
+        if product != 0 {
             return true;
         }
         !self.fit_exchanged(word, place)
@@ -114,20 +115,17 @@ impl<'a> Code<'a> {
     /// Whether an erased symbol of this weight can be restored: the weight has an inverse modulo m.
     #[inline]
     pub fn can_restore(&self, weight: u64) -> bool {
-        inverse_laws();
-        VanillaInt::<u64>::new(weight, &self.modulus)
-            .inv()
-            .is_some()
+        weight.invm(&self.modulus).is_some()
     }
 
     // The only number below m for which, as the symbol at the place, the weighted sum has the residue of the code.
     fn solve(&self, word: &[u64], place: usize) -> u64 {
-        inverse_laws();
-        residue_laws();
+        let m = self.modulus;
         let weights = self.weights;
-        let sum = self.check_sum(word) - self.residue;
-        let weight = sum.convert(weights[place]);
-        (sum.convert(word[place]) - sum / weight).residue()
+        let sum = self.sum(word).subm(self.residue, &m);
+        let weight = VanillaInt::<u64>::new(weights[place], &m);
+        let quotient = weight.convert(sum) / weight;
+        word[place].subm(quotient.residue(), &m)
     }
 
     /// The only symbol below m that completes the word to one of the code, in place of an erased one. `None`

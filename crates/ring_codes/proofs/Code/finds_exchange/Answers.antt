@@ -1,67 +1,55 @@
-use Rattle.std.proofs.Common.{◌≡◌, suc, ◌+◌, ◌*◌, ◌%◌, pos, ◌-ℤ◌, add-one, get_or, sym, ◌∙◌}
-use Rattle.std.proofs.lemmas.Bool.{false≢true}
-use Rattle.num_modular.specs.Integers.{residue_of}
+use Rattle.std.proofs.Common.{◌≡◌, ℕ, suc, List, ◌+◌, ◌*◌, ◌%◌, pos, ◌-ℤ◌, add-one, get_or, refl, sym, ap, ◌∙◌}
+use Rattle.num_modular.specs.NumberLaws.{difference_and}
 use Rattle.num_modular.specs.Residues.{residue}
 use Rattle.ring_codes.specs.Codes.{code_of}
 use Rattle.ring_codes.proofs.CheckSums.{unit_finds}
 use Rattle.ring_codes.proofs.Codewords.{exchange_told, shown, unshown}
 use Rattle.ring_codes.proofs.Code.finds_exchange.Goals as goal
 
-pub returns-then-not-is_zero-clause-refused : goal.returns-then-not-is_zero-clause-refused
-returns-then-not-is_zero-clause-refused c =
-    let m = c.args.self.now.modulus in
-    let ws = c.args.self.now.weights.now in
-    let xs = c.args.word.now in
-    let at = c.args.place in
-    let step : at + 1 ≡ suc at = add-one at in
-    let product : residue_of c.mul-product.result ≡ (residue m (pos (get_or ws at 0 % m) -ℤ pos (get_or ws (suc at) 0))
-    * residue m (pos (get_or xs (suc at) 0 % m) -ℤ pos (get_or xs at 0))) % m = cc in
-    let told = exchange_told (code_of c.args.self.now) xs at (residue_of c.mul-product.result) c.requires.accepted c.requires.within
-    (λ a b. c.residue_laws.ensures.difference m a b c.args.self.now.positive) product in
-    (shown _ _ _ _ told.0 told.1 (λ e. false≢true (sym c.if-not-is_zero.true ∙ c.is_zero.ensures.1 e))).0
+-- the product is that of the clauses, whose next place is a successor
+is_product : (m : ℕ) (ws xs : List ℕ) (p e d v : ℕ) → e ≡ residue m (pos (get_or ws p 0) -ℤ pos (get_or ws (p + 1) 0))
+    → d ≡ residue m (pos (get_or xs (p + 1) 0) -ℤ pos (get_or xs p 0)) → v ≡ (e * d) % m
+    → v ≡ (residue m (pos (get_or ws p 0) -ℤ pos (get_or ws (suc p) 0))
+    * residue m (pos (get_or xs (suc p) 0) -ℤ pos (get_or xs p 0))) % m
+is_product m ws xs p e d v weights symbols product =
+    product ∙ ap (λ k. (k * d) % m) (weights ∙ ap (λ j. residue m (pos (get_or ws p 0) -ℤ pos (get_or ws j 0))) (add-one p))
+    ∙ ap (λ k. (residue m (pos (get_or ws p 0) -ℤ pos (get_or ws (suc p) 0)) * k) % m)
+    (symbols ∙ ap (λ j. residue m (pos (get_or xs j 0) -ℤ pos (get_or xs p 0))) (add-one p))
 
-pub returns-then-not-is_zero-clause-product : goal.returns-then-not-is_zero-clause-product
-returns-then-not-is_zero-clause-product c =
-    let m = c.args.self.now.modulus in
-    let ws = c.args.self.now.weights.now in
-    let xs = c.args.word.now in
-    let at = c.args.place in
-    let step : at + 1 ≡ suc at = add-one at in
-    let product : residue_of c.mul-product.result ≡ (residue m (pos (get_or ws at 0 % m) -ℤ pos (get_or ws (suc at) 0))
-    * residue m (pos (get_or xs (suc at) 0 % m) -ℤ pos (get_or xs at 0))) % m = cc in
-    let told = exchange_told (code_of c.args.self.now) xs at (residue_of c.mul-product.result) c.requires.accepted c.requires.within
-    (λ a b. c.residue_laws.ensures.difference m a b c.args.self.now.positive) product in
-    (shown _ _ _ _ told.0 told.1 (λ e. false≢true (sym c.if-not-is_zero.true ∙ c.is_zero.ensures.1 e))).1
+pub returns-then-product-ne0-clause-refused : goal.returns-then-product-ne0-clause-refused
+returns-then-product-ne0-clause-refused c =
+    let told = exchange_told (code_of c.args.self.now) c.args.word.now c.args.place c.args.self.now.positive
+    c.requires.accepted c.requires.within in
+    let is = is_product c.args.self.now.modulus c.args.self.now.weights.now c.args.word.now c.args.place _ _ _
+    c.subm-weight.ensures c.subm-difference.ensures c.mulm-product.ensures in
+    (shown _ _ _ told (λ none. c.if-product-ne0.true (is ∙ none))).0
+
+pub returns-then-product-ne0-clause-product : goal.returns-then-product-ne0-clause-product
+returns-then-product-ne0-clause-product c =
+    let is = is_product c.args.self.now.modulus c.args.self.now.weights.now c.args.word.now c.args.place _ _ _
+    c.subm-weight.ensures c.subm-difference.ensures c.mulm-product.ensures in
+    ((λ h fits none. c.if-product-ne0.true (is ∙ none)), λ h. refl)
+
+pub returns-then-product-ne0-clause-unit : goal.returns-then-product-ne0-clause-unit
+returns-then-product-ne0-clause-unit c inverse apart = refl
 
 pub returns-clause-refused : goal.returns-clause-refused
 returns-clause-refused c =
-    let m = c.args.self.now.modulus in
-    let ws = c.args.self.now.weights.now in
-    let xs = c.args.word.now in
-    let at = c.args.place in
-    let step : at + 1 ≡ suc at = add-one at in
-    let product : residue_of c.mul-product.result ≡ (residue m (pos (get_or ws at 0 % m) -ℤ pos (get_or ws (suc at) 0))
-    * residue m (pos (get_or xs (suc at) 0 % m) -ℤ pos (get_or xs at 0))) % m = cc in
-    let told = exchange_told (code_of c.args.self.now) xs at (residue_of c.mul-product.result) c.requires.accepted c.requires.within
-    (λ a b. c.residue_laws.ensures.difference m a b c.args.self.now.positive) product in
-    (unshown c.fit_exchanged.result _ _ _ _ c.fit_exchanged.ensures told.0 told.1
-    (c.is_zero.ensures.0 c.if-not-is_zero.false)).0
+    let told = exchange_told (code_of c.args.self.now) c.args.word.now c.args.place c.args.self.now.positive
+    c.requires.accepted c.requires.within in
+    let is = is_product c.args.self.now.modulus c.args.self.now.weights.now c.args.word.now c.args.place _ _ _
+    c.subm-weight.ensures c.subm-difference.ensures c.mulm-product.ensures in
+    (unshown c.fit_exchanged.result _ _ _ c.fit_exchanged.ensures told (sym is ∙ c.if-product-ne0.false)).0
 
 pub returns-clause-product : goal.returns-clause-product
 returns-clause-product c =
-    let m = c.args.self.now.modulus in
-    let ws = c.args.self.now.weights.now in
-    let xs = c.args.word.now in
-    let at = c.args.place in
-    let step : at + 1 ≡ suc at = add-one at in
-    let product : residue_of c.mul-product.result ≡ (residue m (pos (get_or ws at 0 % m) -ℤ pos (get_or ws (suc at) 0))
-    * residue m (pos (get_or xs (suc at) 0 % m) -ℤ pos (get_or xs at 0))) % m = cc in
-    let told = exchange_told (code_of c.args.self.now) xs at (residue_of c.mul-product.result) c.requires.accepted c.requires.within
-    (λ a b. c.residue_laws.ensures.difference m a b c.args.self.now.positive) product in
-    (unshown c.fit_exchanged.result _ _ _ _ c.fit_exchanged.ensures told.0 told.1
-    (c.is_zero.ensures.0 c.if-not-is_zero.false)).1
+    let told = exchange_told (code_of c.args.self.now) c.args.word.now c.args.place c.args.self.now.positive
+    c.requires.accepted c.requires.within in
+    let is = is_product c.args.self.now.modulus c.args.self.now.weights.now c.args.word.now c.args.place _ _ _
+    c.subm-weight.ensures c.subm-difference.ensures c.mulm-product.ensures in
+    (unshown c.fit_exchanged.result _ _ _ c.fit_exchanged.ensures told (sym is ∙ c.if-product-ne0.false)).1
 
 pub returns-clause-unit : goal.returns-clause-unit
 returns-clause-unit c inverse apart =
     (returns-clause-product c).1
-    (λ _. unit_finds _ _ _ _ _ inverse (c.residue_laws.ensures.difference _ _ _ c.args.self.now.positive) apart)
+    (λ _. unit_finds _ _ _ _ _ inverse (difference_and c.args.self.now.modulus _ _ c.args.self.now.positive) apart)

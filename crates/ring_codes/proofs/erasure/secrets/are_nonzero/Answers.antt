@@ -1,5 +1,5 @@
 use Rattle.std.proofs.lemmas.Bool.{cases_eq, false≢true}
-use Rattle.num_modular.specs.Callers.{◌≢◌, entry, entry_read, ◌∙◌, ap, sym, refl, inl, inr, arith}
+use Rattle.num_modular.specs.Callers.{entry, entry_read, ◌∙◌, ap, sym, refl, inl, inr, arith}
 use Rattle.ring_codes.proofs.erasure.secrets.are_nonzero.Goals as goal
 
 pub returns-then-is_zero : goal.returns-then-is_zero
