@@ -1,5 +1,31 @@
-use Rattle.num_modular.specs.Callers.{arith, held_entry}
+use Rattle.num_modular.specs.Callers.{◌%◌, length, arith, ◌∙◌, ap, entry, entry_read, form_read, hold_more, held_forms, held_entry}
+use Rattle.num_modular.specs.Polynomials.{ascending_polynomial}
 use Rattle.ring_codes.proofs.erasure.encode.Goals as goal
+
+pub points-init : goal.points-init
+points-init g c = record { each = λ k d l. absurd (omega arith) }
+
+pub evaluate-requires-clause-point : goal.evaluate-requires-clause-point
+evaluate-requires-clause-point g c =
+    let ring = g.R.Reducer in let m = ring.modulus c.args.r.now in
+    form_read g.T.RingWord.number ring.form ring.value m c.args.points.now c.points.i _ c.requires.points (omega arith)
+    c.index-points-i.is
+
+pub points-preserved : goal.points-preserved
+points-preserved g c =
+    let ring = g.R.Reducer in let m = ring.modulus c.args.r.now in let number = g.T.RingWord.number in
+    let points = c.args.points.now in let message = c.args.message.now in let i = c.points.i in
+    let point = entry_read number ring.value m points i _ (omega arith) c.index-points-i.is in
+    hold_more number ring.form ring.value m c.points.word i c.evaluate.result
+    (λ i. ascending_polynomial (length message) (entry number ring.value m message) (entry number ring.value m points i) % m)
+    (omega arith) c.points.invariant c.evaluate.ensures.checked
+    (c.evaluate.ensures.value
+    ∙ ap (λ a. ascending_polynomial (length message) (entry number ring.value m message) a % m) point)
+
+pub returns-clause-checked : goal.returns-clause-checked
+returns-clause-checked g c =
+    let ring = g.R.Reducer in let m = ring.modulus c.args.r.now in
+    held_forms g.T.RingWord.number ring.form ring.value m c.points.word _ _ c.points.invariant (omega arith)
 
 pub returns-clause-encoding : goal.returns-clause-encoding
 returns-clause-encoding g c =

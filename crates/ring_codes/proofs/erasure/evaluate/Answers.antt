@@ -1,5 +1,6 @@
-use Rattle.num_modular.specs.Callers.{ℕ, ◌+◌, ◌-◌, ◌%◌, length, ◌∙◌, ap, arith, entry, entry_read}
-use Rattle.ring_codes.proofs.NewtonForms.{value_none, value_more}
+use Rattle.num_modular.specs.Polynomials.{ascending_polynomial}
+use Rattle.num_modular.specs.Callers.{ℕ, ◌+◌, ◌-◌, ◌%◌, length, ◌∙◌, ap, arith, entry, entry_read, ◌≡◌, form_read}
+use Rattle.ring_codes.proofs.NewtonForms.{value_none, value_more, value_all}
 use Rattle.ring_codes.proofs.erasure.evaluate.Goals as goal
 
 pub coefficients-init : goal.coefficients-init
@@ -20,3 +21,30 @@ coefficients-preserved g c =
           c.mul-product.ensures.value
           (c.add-value.ensures.value ∙ ap (λ v. (v + ring.value m (number c.mul-product.result)) % m) read);
     }
+
+pub mul-product-requires-clause-left : goal.mul-product-requires-clause-left
+mul-product-requires-clause-left g c = c.coefficients.invariant.checked
+
+pub mul-product-requires-clause-right : goal.mul-product-requires-clause-right
+mul-product-requires-clause-right g c = c.requires.point
+
+pub add-value-requires-clause-left : goal.add-value-requires-clause-left
+add-value-requires-clause-left g c =
+    let ring = g.R.Reducer in let m = ring.modulus c.args.r.now in
+    form_read g.T.RingWord.number ring.form ring.value m c.args.coefficients.now (length c.args.coefficients.now - 1 - c.coefficients.k) _ c.requires.coefficients (omega arith)
+    c.index-coefficients-i.is
+
+pub add-value-requires-clause-right : goal.add-value-requires-clause-right
+add-value-requires-clause-right g c = c.mul-product.ensures.checked
+
+pub returns-clause-checked : goal.returns-clause-checked
+returns-clause-checked g c = c.coefficients.invariant.checked
+
+pub returns-clause-value : goal.returns-clause-value
+returns-clause-value g c =
+    let ring = g.R.Reducer in let m = ring.modulus c.args.r.now in let number = g.T.RingWord.number in
+    let cs = entry number ring.value m c.args.coefficients.now in let n = length c.args.coefficients.now in
+    let a = ring.value m (number c.args.point.now) in
+    let count : c.coefficients.k ≡ n = omega arith in
+    c.coefficients.invariant.same
+    ∙ ap (λ k. ascending_polynomial k (λ i. cs (n - k + i)) a % m) count ∙ ap (λ v. v % m) (value_all n a cs)

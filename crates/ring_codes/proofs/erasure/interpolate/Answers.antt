@@ -55,3 +55,33 @@ returns-clause-only g c t other is i l =
     (λ i l. record { same = sym (mine.symbol i l) ∙ is.symbol i l }) i l in
     let below = entry_below number ring.form ring.value m form i c.expand.ensures.checked (omega arith) in
     sym (mod-eq_of_lt below) ∙ same.same
+
+pub fill_weights-requires-clause-checked : goal.fill_weights-requires-clause-checked
+fill_weights-requires-clause-checked g c = c.requires.points
+
+pub invert_each-requires-clause-checked : goal.invert_each-requires-clause-checked
+invert_each-requires-clause-checked g c = c.fill_weights.ensures.checked
+
+pub returns-then-not-invert_each-clause-checked : goal.returns-then-not-invert_each-clause-checked
+returns-then-not-invert_each-clause-checked g c t = absurd (false≢true t)
+
+pub returns-then-not-invert_each-clause-values : goal.returns-then-not-invert_each-clause-values
+returns-then-not-invert_each-clause-values g c t = absurd (false≢true t)
+
+pub returns-then-not-invert_each-clause-only : goal.returns-then-not-invert_each-clause-only
+returns-then-not-invert_each-clause-only g c t = absurd (false≢true t)
+
+pub divide_differences-requires-clause-points : goal.divide_differences-requires-clause-points
+divide_differences-requires-clause-points g c = c.requires.points
+
+pub divide_differences-requires-clause-inverses : goal.divide_differences-requires-clause-inverses
+divide_differences-requires-clause-inverses g c = c.invert_each.ensures.checked
+
+pub expand-requires-clause-points : goal.expand-requires-clause-points
+expand-requires-clause-points g c = c.requires.points
+
+pub expand-requires-clause-form : goal.expand-requires-clause-form
+expand-requires-clause-form g c = c.divide_differences.ensures.checked
+
+pub returns-clause-checked : goal.returns-clause-checked
+returns-clause-checked g c t = c.expand.ensures.checked

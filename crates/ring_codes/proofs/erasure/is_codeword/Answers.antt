@@ -46,18 +46,57 @@ places-preserved g c =
     (sym symbol ∙ sym (ap (ring.value m) same) ∙ c.evaluate-symbol.ensures.value
     ∙ ap (λ a. ascending_polynomial (length c.interpolate.new.coefficients) mine a % m) point)
 
-pub returns-clause-codeword : goal.returns-clause-codeword
-returns-clause-codeword g c =
+pub returns-clause-message : goal.returns-clause-message
+returns-clause-message g c t =
     let ring = g.R.Reducer in let m = ring.modulus c.args.r.now in let number = g.T.RingWord.number in
     let x = entry number ring.value m c.args.points.now in
     let mine = entry number ring.value m c.interpolate.new.coefficients in
-    let count : length c.interpolate.new.coefficients ≡ length c.args.message.now = omega arith in (
-      λ t. (
-        mine,
-        record {
-          symbol = λ i l. c.places.invariant i (omega arith)
-              ∙ ap (λ k. ascending_polynomial k mine (x i) % m) count;
-        },
-      ),
-      λ h. refl,
-    )
+    let count : length c.interpolate.new.coefficients ≡ length c.args.message.now = omega arith in
+    record {
+      symbol = λ i l. c.places.invariant i (omega arith) ∙ ap (λ k. ascending_polynomial k mine (x i) % m) count;
+    }
+
+pub returns-clause-codeword : goal.returns-clause-codeword
+returns-clause-codeword g c = ((λ t. (_, returns-clause-message g c t)), λ h. refl)
+
+pub interpolate-requires-clause-points : goal.interpolate-requires-clause-points
+interpolate-requires-clause-points g c = c.requires.points
+
+pub interpolate-requires-clause-values : goal.interpolate-requires-clause-values
+interpolate-requires-clause-values g c = c.requires.word
+
+pub interpolate-requires-clause-weights : goal.interpolate-requires-clause-weights
+interpolate-requires-clause-weights g c = c.requires.weights
+
+pub returns-then-not-interpolate-clause-codeword : goal.returns-then-not-interpolate-clause-codeword
+returns-then-not-interpolate-clause-codeword g c = (
+  λ t. absurd (false≢true t),
+  λ h. c.if-not-interpolate.ensures.fit.1
+      (record {
+        unit = λ i j l k other. c.requires.fit.unit i j (omega (arith, l, c.requires.few))
+            (omega (arith, k, c.requires.few)) other;
+      }),
+)
+
+pub returns-then-not-interpolate-clause-message : goal.returns-then-not-interpolate-clause-message
+returns-then-not-interpolate-clause-message g c t = absurd (false≢true t)
+
+pub returns-then-ne-clause-message : goal.returns-then-ne-clause-message
+returns-then-ne-clause-message g c t = absurd (false≢true t)
+
+pub places-init : goal.places-init
+places-init g c k l =
+    let ring = g.R.Reducer in let m = ring.modulus c.args.r.now in let number = g.T.RingWord.number in
+    let mine = entry number ring.value m c.interpolate.new.coefficients in
+    let count : length c.args.message.now ≡ length c.interpolate.new.coefficients = omega arith in
+    (c.if-not-interpolate.ensures.values refl).symbol k (omega (arith, l))
+    ∙ ap (λ n. ascending_polynomial n mine (entry number ring.value m c.args.points.now k) % m) count
+
+pub evaluate-symbol-requires-clause-coefficients : goal.evaluate-symbol-requires-clause-coefficients
+evaluate-symbol-requires-clause-coefficients g c = c.if-not-interpolate.ensures.checked refl
+
+pub evaluate-symbol-requires-clause-point : goal.evaluate-symbol-requires-clause-point
+evaluate-symbol-requires-clause-point g c =
+    let ring = g.R.Reducer in let m = ring.modulus c.args.r.now in
+    form_read g.T.RingWord.number ring.form ring.value m c.args.points.now c.places.i _ c.requires.points (omega arith)
+    c.index-points-i.is

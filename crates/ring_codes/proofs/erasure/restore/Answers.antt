@@ -1,6 +1,6 @@
 use Rattle.std.proofs.Common.{slice_index}
 use Rattle.std.proofs.lemmas.Bool.{false≢true}
-use Rattle.num_modular.specs.Callers.{◌≡◌, ℕ, ◌%◌, ◌<◌, length, entry, ◌∙◌, ap, sym, refl, subst, arith}
+use Rattle.num_modular.specs.Callers.{◌≡◌, ℕ, ◌%◌, ◌<◌, length, entry, ◌∙◌, ap, sym, refl, subst, arith, IsForm}
 use Rattle.num_modular.specs.Polynomials.{ascending_polynomial}
 use Rattle.ring_codes.specs.Erasure.{ArePlaces, IsFault}
 use Rattle.ring_codes.proofs.Symbols.{entry_chosen, fit_same, no_fault}
@@ -90,3 +90,46 @@ returns-else-interpolate-clause-fault g c fit =
     let n = length c.args.points.now in
     let right = subst (λ k. ArePlaces k n c.args.places.now) c.requires.chosen (c.in-Ok.ensures.places refl) in
     false≢true ((returns-else-interpolate-clause-accepted g c).1 (right, fit))
+
+pub interpolate-requires-clause-points : goal.interpolate-requires-clause-points
+interpolate-requires-clause-points g c i d l =
+    let ring = g.R.Reducer in let m = ring.modulus c.args.r.now in
+    let points = c.args.points.now in let right = c.in-Ok.ensures.places refl in
+    let within : i < length c.args.chosen.now = omega (arith, l) in
+    subst (λ f. IsForm ring.form ring.value m (g.T.RingWord.number f)) (sym (c.in-Ok.ensures.chosen refl i d within))
+    (c.requires.points (slice_index c.args.places.now i) d (right.within i within))
+
+pub interpolate-requires-clause-values : goal.interpolate-requires-clause-values
+interpolate-requires-clause-values g c = c.requires.symbols
+
+pub interpolate-requires-clause-values_within : goal.interpolate-requires-clause-values_within
+interpolate-requires-clause-values_within g c =
+    let enough = (c.in-Ok.ensures.places refl).enough in
+    omega (arith, enough, c.requires.chosen, c.requires.pairs)
+
+pub interpolate-requires-clause-weights : goal.interpolate-requires-clause-weights
+interpolate-requires-clause-weights g c = c.requires.weights
+
+pub returns-in-Err-clause-checked : goal.returns-in-Err-clause-checked
+returns-in-Err-clause-checked g c t = absurd (false≢true t)
+
+pub returns-in-Err-clause-symbols : goal.returns-in-Err-clause-symbols
+returns-in-Err-clause-symbols g c t = absurd (false≢true t)
+
+pub returns-in-Err-clause-original : goal.returns-in-Err-clause-original
+returns-in-Err-clause-original g c t = absurd (false≢true t)
+
+pub returns-then-interpolate-clause-fault : goal.returns-then-interpolate-clause-fault
+returns-then-interpolate-clause-fault g c = tt
+
+pub returns-then-interpolate-clause-checked : goal.returns-then-interpolate-clause-checked
+returns-then-interpolate-clause-checked g c t = c.if-interpolate.ensures.checked refl
+
+pub returns-else-interpolate-clause-checked : goal.returns-else-interpolate-clause-checked
+returns-else-interpolate-clause-checked g c t = absurd (false≢true t)
+
+pub returns-else-interpolate-clause-symbols : goal.returns-else-interpolate-clause-symbols
+returns-else-interpolate-clause-symbols g c t = absurd (false≢true t)
+
+pub returns-else-interpolate-clause-original : goal.returns-else-interpolate-clause-original
+returns-else-interpolate-clause-original g c t = absurd (false≢true t)

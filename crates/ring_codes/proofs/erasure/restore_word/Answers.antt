@@ -1,3 +1,4 @@
+use Rattle.std.proofs.lemmas.Bool.{false≢true}
 use Rattle.std.proofs.Common.{slice_index}
 use Rattle.std.proofs.Math.Nat.{mod-mod}
 use Rattle.num_modular.specs.Callers.{◌≡◌, ◌%◌, length, entry, ◌∙◌, ap, sym, refl, subst, arith}
@@ -56,3 +57,51 @@ returns-in-Ok-clause-forms g c t = c.in-Ok.ensures.checked refl
 
 pub returns-in-Ok-clause-message : goal.returns-in-Ok-clause-message
 returns-in-Ok-clause-message g c t = c.in-Ok.ensures.original refl
+
+pub restore-requires-clause-points : goal.restore-requires-clause-points
+restore-requires-clause-points g c = c.requires.points
+
+pub restore-requires-clause-symbols : goal.restore-requires-clause-symbols
+restore-requires-clause-symbols g c = c.requires.symbols
+
+pub restore-requires-clause-pairs : goal.restore-requires-clause-pairs
+restore-requires-clause-pairs g c = c.requires.pairs
+
+pub restore-requires-clause-weights : goal.restore-requires-clause-weights
+restore-requires-clause-weights g c = c.requires.weights
+
+pub fill_word-requires-clause-points : goal.fill_word-requires-clause-points
+fill_word-requires-clause-points g c = c.requires.points
+
+pub fill_word-requires-clause-message : goal.fill_word-requires-clause-message
+fill_word-requires-clause-message g c = c.in-Ok.ensures.checked refl
+
+pub fill_word-requires-clause-symbols : goal.fill_word-requires-clause-symbols
+fill_word-requires-clause-symbols g c = c.requires.symbols
+
+pub fill_word-requires-clause-pairs : goal.fill_word-requires-clause-pairs
+fill_word-requires-clause-pairs g c = c.requires.pairs
+
+pub returns-in-Err-clause-checked : goal.returns-in-Err-clause-checked
+returns-in-Err-clause-checked g c t = absurd (false≢true t)
+
+pub returns-in-Err-clause-forms : goal.returns-in-Err-clause-forms
+returns-in-Err-clause-forms g c t = absurd (false≢true t)
+
+pub returns-in-Err-clause-encoding : goal.returns-in-Err-clause-encoding
+returns-in-Err-clause-encoding g c t = absurd (false≢true t)
+
+pub returns-in-Err-clause-symbols : goal.returns-in-Err-clause-symbols
+returns-in-Err-clause-symbols g c t = absurd (false≢true t)
+
+pub returns-in-Err-clause-original : goal.returns-in-Err-clause-original
+returns-in-Err-clause-original g c t = absurd (false≢true t)
+
+pub returns-in-Err-clause-message : goal.returns-in-Err-clause-message
+returns-in-Err-clause-message g c t = absurd (false≢true t)
+
+pub returns-in-Ok-clause-fault : goal.returns-in-Ok-clause-fault
+returns-in-Ok-clause-fault g c = tt
+
+pub returns-in-Ok-clause-checked : goal.returns-in-Ok-clause-checked
+returns-in-Ok-clause-checked g c t = c.fill_word.ensures.checked

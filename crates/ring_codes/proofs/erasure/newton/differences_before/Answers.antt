@@ -1,5 +1,5 @@
 use Rattle.std.proofs.Common.{pos, ◌-ℤ◌}
-use Rattle.num_modular.specs.Callers.{◌%◌, ◌∙◌, ap, arith, entry, entry_read, product_none, product_step}
+use Rattle.num_modular.specs.Callers.{◌%◌, ◌∙◌, ap, arith, entry, entry_read, product_none, product_step, form_read}
 use Rattle.num_modular.specs.Residues.{residue}
 use Rattle.ring_codes.specs.Newton.{difference}
 use Rattle.ring_codes.proofs.erasure.newton.differences_before.Goals as goal
@@ -26,3 +26,24 @@ differences-preserved g c =
           ∙ ap (λ v. residue m (pos v -ℤ pos (ring.value m (number c.index-points-j.result)))) here
           ∙ ap (λ v. residue m (pos (x place) -ℤ pos v)) other);
     }
+
+pub sub-difference-requires-clause-left : goal.sub-difference-requires-clause-left
+sub-difference-requires-clause-left g c =
+    let ring = g.R.Reducer in let m = ring.modulus c.args.r.now in
+    form_read g.T.RingWord.number ring.form ring.value m c.args.points.now c.args.place _ c.requires.checked (omega arith)
+    c.index-points-place.is
+
+pub sub-difference-requires-clause-right : goal.sub-difference-requires-clause-right
+sub-difference-requires-clause-right g c =
+    let ring = g.R.Reducer in let m = ring.modulus c.args.r.now in
+    form_read g.T.RingWord.number ring.form ring.value m c.args.points.now c.differences.j _ c.requires.checked (omega arith)
+    c.index-points-j.is
+
+pub mul-product-requires-clause-left : goal.mul-product-requires-clause-left
+mul-product-requires-clause-left g c = c.differences.invariant.checked
+
+pub mul-product-requires-clause-right : goal.mul-product-requires-clause-right
+mul-product-requires-clause-right g c = c.sub-difference.ensures.checked
+
+pub returns-clause-checked : goal.returns-clause-checked
+returns-clause-checked g c = c.differences.invariant.checked

@@ -1,4 +1,4 @@
-use Rattle.num_modular.specs.Callers.{◌≡◌, ◌+◌, ◌-◌, ◌*◌, length, ◌∙◌, ap, sym, refl, arith, entry, entry_read}
+use Rattle.num_modular.specs.Callers.{◌≡◌, ◌+◌, ◌-◌, ◌*◌, length, ◌∙◌, ap, sym, refl, arith, entry, entry_read, form_read}
 use Rattle.num_modular.specs.NumberLaws.{of_equal, chained}
 use Rattle.num_modular.specs.PolynomialLaws.{ascending-none}
 use Rattle.ring_codes.proofs.NewtonForms.{form-none, expanded_more, expanded_all}
@@ -34,3 +34,15 @@ returns-clause-same g c =
     let points = c.args.points.now in
     expanded_all m (length c.args.form.now) c.points.k (entry number ring.value m c.args.form.now)
     (entry number ring.value m c.points.form) (entry number ring.value m points) (omega arith) c.points.invariant.1
+
+pub subtract_multiples-requires-clause-point : goal.subtract_multiples-requires-clause-point
+subtract_multiples-requires-clause-point g c =
+    let ring = g.R.Reducer in let m = ring.modulus c.args.r.now in
+    form_read g.T.RingWord.number ring.form ring.value m c.args.points.now (length c.points.form - 1 - c.points.k) _ c.requires.points (omega arith)
+    c.index-points-from.is
+
+pub subtract_multiples-requires-clause-values : goal.subtract_multiples-requires-clause-values
+subtract_multiples-requires-clause-values g c = c.points.invariant.0
+
+pub returns-clause-checked : goal.returns-clause-checked
+returns-clause-checked g c = c.points.invariant.0

@@ -1,7 +1,8 @@
+use Rattle.ring_codes.specs.Newton.{newton_form}
 use Rattle.std.proofs.Common.{pos, ◌-ℤ◌}
-use Rattle.num_modular.specs.Callers.{ℕ, ◌+◌, ◌-◌, ◌%◌, ◌∙◌, ap, arith, entry, entry_read}
+use Rattle.num_modular.specs.Callers.{ℕ, ◌+◌, ◌-◌, ◌%◌, ◌∙◌, ap, arith, entry, entry_read, ◌≡◌, form_read}
 use Rattle.num_modular.specs.Residues.{residue}
-use Rattle.ring_codes.proofs.NewtonForms.{form_nothing, form_before}
+use Rattle.ring_codes.proofs.NewtonForms.{form_nothing, form_before, form_all}
 use Rattle.ring_codes.proofs.erasure.newton.newton_value.Goals as goal
 
 pub coefficients-init : goal.coefficients-init
@@ -27,3 +28,40 @@ coefficients-preserved g c =
           c.mul-product.ensures.value
           (c.add-value.ensures.value ∙ ap (λ v. (v + ring.value m (number c.mul-product.result)) % m) read);
     }
+
+pub sub-difference-requires-clause-left : goal.sub-difference-requires-clause-left
+sub-difference-requires-clause-left g c = c.requires.point
+
+pub sub-difference-requires-clause-right : goal.sub-difference-requires-clause-right
+sub-difference-requires-clause-right g c =
+    let ring = g.R.Reducer in let m = ring.modulus c.args.r.now in
+    form_read g.T.RingWord.number ring.form ring.value m c.args.points.now (c.args.count - 1 - c.coefficients.k) _ c.requires.points (omega arith)
+    c.index-points-i.is
+
+pub mul-product-requires-clause-left : goal.mul-product-requires-clause-left
+mul-product-requires-clause-left g c = c.sub-difference.ensures.checked
+
+pub mul-product-requires-clause-right : goal.mul-product-requires-clause-right
+mul-product-requires-clause-right g c = c.coefficients.invariant.checked
+
+pub add-value-requires-clause-left : goal.add-value-requires-clause-left
+add-value-requires-clause-left g c =
+    let ring = g.R.Reducer in let m = ring.modulus c.args.r.now in
+    form_read g.T.RingWord.number ring.form ring.value m c.args.form.now (c.args.count - 1 - c.coefficients.k) _ c.requires.form (omega arith)
+    c.index-form-i.is
+
+pub add-value-requires-clause-right : goal.add-value-requires-clause-right
+add-value-requires-clause-right g c = c.mul-product.ensures.checked
+
+pub returns-clause-checked : goal.returns-clause-checked
+returns-clause-checked g c = c.coefficients.invariant.checked
+
+pub returns-clause-value : goal.returns-clause-value
+returns-clause-value g c =
+    let ring = g.R.Reducer in let m = ring.modulus c.args.r.now in let number = g.T.RingWord.number in
+    let e = entry number ring.value m c.args.form.now in let x = entry number ring.value m c.args.points.now in
+    let n = c.args.count in let a = ring.value m (number c.args.point.now) in
+    let count : c.coefficients.k ≡ n = omega arith in
+    c.coefficients.invariant.same
+    ∙ ap (λ k. newton_form m k (λ i. e (n - k + i)) (λ i. x (n - k + i)) a % m) count
+    ∙ ap (λ v. v % m) (form_all m n a e x)

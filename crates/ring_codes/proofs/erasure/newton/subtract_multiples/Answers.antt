@@ -1,6 +1,6 @@
 use Rattle.std.proofs.Common.{pos, ◌-ℤ◌, set}
 use Rattle.std.proofs.lemmas.Bool.{cases_eq}
-use Rattle.num_modular.specs.Callers.{◌≡◌, ◌≢◌, ℕ, ◌+◌, ◌-◌, ◌*◌, ◌%◌, ◌∙◌, ap, sym, inl, inr, arith, subst}
+use Rattle.num_modular.specs.Callers.{◌≡◌, ◌≢◌, ℕ, ◌+◌, ◌-◌, ◌*◌, ◌%◌, ◌∙◌, ap, sym, inl, inr, arith, subst, refl}
 use Rattle.num_modular.specs.Callers.{entry, entry_at, entry_written, entry_kept, forms_written}
 use Rattle.num_modular.specs.Congruence.{Congruent}
 use Rattle.num_modular.specs.NumberLaws.{of_equal, chained}
@@ -36,3 +36,31 @@ places-preserved g c =
       λ k l. kept k (omega arith) ∙ so_far.2 k l,
       λ k l. kept k (omega arith) ∙ so_far.3 k (omega arith),
     )
+
+pub places-init : goal.places-init
+places-init g c = (c.requires.values, λ k l b. absurd (omega arith), λ k l. refl, λ k l. refl)
+
+pub mul-product-requires-clause-left : goal.mul-product-requires-clause-left
+mul-product-requires-clause-left g c = c.requires.point
+
+pub mul-product-requires-clause-right : goal.mul-product-requires-clause-right
+mul-product-requires-clause-right g c = c.places.invariant.0 c.places.i c.index-values-i.result (omega arith)
+
+pub sub-requires-clause-left : goal.sub-requires-clause-left
+sub-requires-clause-left g c =
+    c.places.invariant.0 (c.places.i - 1) c.index-values-i-in-places.result (omega arith)
+
+pub sub-requires-clause-right : goal.sub-requires-clause-right
+sub-requires-clause-right g c = c.mul-product.ensures.checked
+
+pub returns-clause-checked : goal.returns-clause-checked
+returns-clause-checked g c = c.places.invariant.0
+
+pub returns-clause-done : goal.returns-clause-done
+returns-clause-done g c i l b = c.places.invariant.1 i l (omega arith)
+
+pub returns-clause-before : goal.returns-clause-before
+returns-clause-before g c = c.places.invariant.2
+
+pub returns-clause-last : goal.returns-clause-last
+returns-clause-last g c i l = c.places.invariant.3 i (omega arith)

@@ -1,0 +1,67 @@
+use Rattle.std.proofs.Common.{◌≡◌, get_or, set, slice_index, below_more, get_or-set_same, get_or-set_other, ◌∙◌, ap, sym, inl, inr, arith, subst}
+use Rattle.std.proofs.lemmas.Bool.{cases_eq, false≢true}
+use Rattle.std.proofs.lemmas.List.{get_or_read}
+use Rattle.ring_codes.proofs.erasure.choose.Goals as goal
+
+pub returns-then-places-chosen-clause-places : goal.returns-then-places-chosen-clause-places
+returns-then-places-chosen-clause-places g c t = absurd (false≢true t)
+
+pub returns-then-places-chosen-clause-chosen : goal.returns-then-places-chosen-clause-chosen
+returns-then-places-chosen-clause-chosen g c t = absurd (false≢true t)
+
+pub returns-then-places-chosen-clause-fault : goal.returns-then-places-chosen-clause-fault
+returns-then-places-chosen-clause-fault g c m x = c.if-places-chosen.true
+
+pub places-init : goal.places-init
+places-init g c = (λ i l. absurd (omega arith), λ i j b l. absurd (omega arith), λ i d l. absurd (omega arith))
+
+pub returns-then-place-points-clause-places : goal.returns-then-place-points-clause-places
+returns-then-place-points-clause-places g c t = absurd (false≢true t)
+
+pub returns-then-place-points-clause-chosen : goal.returns-then-place-points-clause-chosen
+returns-then-place-points-clause-chosen g c t = absurd (false≢true t)
+
+pub returns-then-place-points-clause-fault : goal.returns-then-place-points-clause-fault
+returns-then-place-points-clause-fault g c m x = (c.places.i, omega arith, c.if-place-points.true)
+
+pub returns-then-occurs_before-clause-places : goal.returns-then-occurs_before-clause-places
+returns-then-occurs_before-clause-places g c t = absurd (false≢true t)
+
+pub returns-then-occurs_before-clause-chosen : goal.returns-then-occurs_before-clause-chosen
+returns-then-occurs_before-clause-chosen g c t = absurd (false≢true t)
+
+pub returns-then-occurs_before-clause-fault : goal.returns-then-occurs_before-clause-fault
+returns-then-occurs_before-clause-fault g c m x =
+    let twice = c.occurs_before.ensures.0 c.if-occurs_before.true in
+    (twice.0, c.places.i, twice.1, omega arith, twice.2)
+
+pub places-preserved : goal.places-preserved
+places-preserved g c =
+    let places = c.args.places.now in let points = c.args.points.now in let i = c.places.i in
+    let chosen = c.places.chosen in let so_far = c.places.invariant in let x = c.index-points-place.result in (
+      below_more _ _ so_far.0 c.if-place-points.false,
+      λ k j b l same. elim (cases_eq j i) [
+        | inl e ↦ false≢true (sym c.if-occurs_before.false
+            ∙ c.occurs_before.ensures.1 (k, omega arith, same ∙ ap (slice_index places) e))
+        | inr other ↦ so_far.1 k j b (omega arith) same
+      ],
+      λ k d l. elim (cases_eq k i) [
+        | inl e ↦ subst (λ k. get_or (set chosen i x) k d ≡ get_or points (slice_index places k) d) (sym e)
+            (get_or-set_same chosen i x d (omega arith)
+            ∙ get_or_read points (slice_index places i) x c.if-place-points.false c.index-points-place.is d)
+        | inr other ↦ get_or-set_other chosen i k x d other ∙ so_far.2 k d (omega arith)
+      ],
+    )
+
+pub returns-clause-places : goal.returns-clause-places
+returns-clause-places g c t = record {
+  enough = omega arith;
+  within = λ i l. c.places.invariant.0 i (omega arith);
+  distinct = λ i j b l. c.places.invariant.1 i j b (omega arith);
+}
+
+pub returns-clause-chosen : goal.returns-clause-chosen
+returns-clause-chosen g c t i d l = c.places.invariant.2 i d (omega arith)
+
+pub returns-clause-fault : goal.returns-clause-fault
+returns-clause-fault g c m x = tt
