@@ -19,3 +19,6 @@ points-preserved g c k l z =
       | inl e ↦ false≢true (c.if-is_zero.ensures.1 (point ∙ ap (entry number ring.value m points) (sym e) ∙ z))
       | inr other ↦ c.points.invariant k (omega (arith, l, other)) z
     ]
+
+pub returns : goal.returns
+returns g c = ((λ t k l. c.points.invariant k (omega (arith, l))), λ h. refl)
