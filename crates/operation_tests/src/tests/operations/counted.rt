@@ -2,6 +2,7 @@
 
 ghost use Rattle.std.specs.Prelude.{◌≤◌};
 
+use crate::tests::assert_at;
 use modular_prim::counted::{w8, w16, w32, w64, wsize};
 
 // A number, the modulus, the inverse and the number of divisions.
@@ -40,9 +41,13 @@ fn answers(a: u8, m: u8, want: (Option<u8>, u32)) -> [bool; 5]
 
 #[test]
 fn inverses_at_each_width(rt: HostRuntime) {
-    for &(a, m, inverse, count) in ROWS {
-        assert!(rt; m > 0);
-        assert!(rt; answers(a, m, (inverse, count)) == [true; 5]);
+    for row in ROWS {
+        let &(a, m, inverse, count) = row;
+        assert_at(
+            &rt,
+            m > 0 && answers(a, m, (inverse, count)) == [true; 5],
+            row,
+        );
     }
 }
 
@@ -50,8 +55,6 @@ fn inverses_at_each_width(rt: HostRuntime) {
 // fit 64 bits have the indexes 92 and 93.
 #[test]
 fn the_most_divisions_of_64_bits(rt: HostRuntime) {
-    assert_eq!(rt;
-        w64::invm_counted(7540113804746346429, 12200160415121876738),
-        (Some(4660046610375530309), 91)
-    );
+    let found = w64::invm_counted(7540113804746346429, 12200160415121876738);
+    assert!(rt; found == (Some(4660046610375530309), 91));
 }

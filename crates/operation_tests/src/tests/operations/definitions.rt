@@ -2,6 +2,7 @@
 
 ghost use Rattle.std.specs.Prelude.{◌≤◌};
 
+use crate::tests::assert_at;
 use modular_prim::operations::{ModularAbs, ModularCoreOps, ModularPow, ModularUnaryOps};
 use modular_word::plain::{inverse_by_search, power_of, residue_of};
 
@@ -52,7 +53,7 @@ fn agree_of_one(a: u8, m: u8) -> bool
 fn operations(rt: HostRuntime) {
     for m in 1..=255u8 {
         for a in 0..=255u8 {
-            assert!(rt; agree_of_one(a, m), "{a} modulo {m}");
+            assert_at(&rt, agree_of_one(a, m), &(a, m));
             for b in [
                 0,
                 1,
@@ -66,7 +67,7 @@ fn operations(rt: HostRuntime) {
                 m,
                 m.wrapping_add(1),
             ] {
-                assert!(rt; agree_of_two(a, b, m), "{a} and {b} modulo {m}");
+                assert_at(&rt, agree_of_two(a, b, m), &(a, b, m));
             }
         }
     }
@@ -81,10 +82,10 @@ fn agree_on_powers(a: u8, exp: u8, m: u8) -> bool
 #[test]
 fn small_powers(rt: HostRuntime) {
     for m in [1, 2, 3, 7, 8, 127, 128, 129, 254, 255u8] {
+        assert!(rt; m > 0);
         for a in 0..=255u8 {
             for exp in [0, 1, 2, 3, 4, 5, 7, 8, 20u8] {
-                assert!(rt; m > 0);
-                assert!(rt; agree_on_powers(a, exp, m), "{a} ^ {exp} modulo {m}");
+                assert_at(&rt, agree_on_powers(a, exp, m), &(a, exp, m));
             }
         }
     }

@@ -2,6 +2,7 @@
 
 ghost use Rattle.std.specs.Prelude.{◌≤◌};
 
+use crate::tests::assert_at;
 use modular_prim::counted::{w8, w16, w32, w64};
 use modular_prim::inverse::inverse_by_subtraction;
 use modular_prim::operations::ModularUnaryOps;
@@ -14,10 +15,8 @@ fn the_two_loops(rt: HostRuntime) {
     for half in 0..128u8 {
         let m = 2 * half + 1;
         for a in 0..=255u8 {
-            assert!(rt;
-                inverse_by_subtraction(a, m) == w8::invm_counted(a, m).0,
-                "{a} modulo {m}"
-            );
+            let inverse = inverse_by_subtraction(a, m);
+            assert_at(&rt, inverse == w8::invm_counted(a, m).0, &(a, m));
         }
     }
 }
@@ -150,37 +149,26 @@ fn inverses_at_each_width(rt: HostRuntime) {
     assert_inverses::<usize, usize>(&rt, INVERSES_OF_SIZES);
 }
 
-// The moduli of these rows are odd.
+// Whether the modulus is odd, and the inverse by subtraction is this.
+fn is_inverse_by_subtraction<T: PlainWord>(a: T, m: T, want: Option<T>) -> bool {
+    m.is_odd() && inverse_by_subtraction(a, m) == want
+}
+
 #[test]
 fn the_two_loops_of_wide_words(rt: HostRuntime) {
-    for &(a, m, want) in INVERSES_OF_16_BITS {
-        assert!(rt;
-            m % 2 == 1 && inverse_by_subtraction(a, m) == want,
-            "{a} modulo {m}"
-        );
-        assert!(rt;
-            m > 0 && w16::invm_counted(a, m).0 == want,
-            "{a} modulo {m}"
-        );
+    for row in INVERSES_OF_16_BITS {
+        let &(a, m, want) = row;
+        assert_at(&rt, m > 0 && w16::invm_counted(a, m).0 == want, row);
+        assert_at(&rt, is_inverse_by_subtraction(a, m, want), row);
     }
-    for &(a, m, want) in INVERSES_OF_32_BITS {
-        assert!(rt;
-            m % 2 == 1 && inverse_by_subtraction(a, m) == want,
-            "{a} modulo {m}"
-        );
-        assert!(rt;
-            m > 0 && w32::invm_counted(a, m).0 == want,
-            "{a} modulo {m}"
-        );
+    for row in INVERSES_OF_32_BITS {
+        let &(a, m, want) = row;
+        assert_at(&rt, m > 0 && w32::invm_counted(a, m).0 == want, row);
+        assert_at(&rt, is_inverse_by_subtraction(a, m, want), row);
     }
-    for &(a, m, want) in INVERSES_OF_64_BITS {
-        assert!(rt;
-            m % 2 == 1 && inverse_by_subtraction(a, m) == want,
-            "{a} modulo {m}"
-        );
-        assert!(rt;
-            m > 0 && w64::invm_counted(a, m).0 == want,
-            "{a} modulo {m}"
-        );
+    for row in INVERSES_OF_64_BITS {
+        let &(a, m, want) = row;
+        assert_at(&rt, m > 0 && w64::invm_counted(a, m).0 == want, row);
+        assert_at(&rt, is_inverse_by_subtraction(a, m, want), row);
     }
 }

@@ -1,28 +1,49 @@
 //! The loops of the symbols, compared with each other.
 
+ghost use Rattle.std.specs.Prelude.{◌≡◌, ◌%◌};
+
 use super::tables::{LARGE, LARGE_OF_32_BITS, LARGE_SIGNED};
+use crate::tests::assert_at;
 use modular_symbols::count::jacobi_by_count;
 use modular_symbols::halving::jacobi_by_halving;
+use modular_symbols::low_part::LowPart;
+use modular_symbols::operands::SymbolWord;
 use modular_symbols::subtraction::jacobi_by_subtraction;
 use modular_symbols::symbols::ModularSymbols;
 
 // `checked_jacobi`, which halves and swaps, `jacobi_by_subtraction` and the count of the half system agree; and for
 // the negative number the loop that only halves agrees with the count. Each byte, over each odd byte.
+fn agree(a: u8, n: u8) -> bool
+    requires { n % 2 ≡ 1 }
+{
+    let symbol = jacobi_by_subtraction(false, a, n);
+    a.checked_jacobi(&n) == Some(symbol)
+        && a.jacobi(&n) == symbol
+        && jacobi_by_count(false, a, n) == symbol
+        && jacobi_by_halving(true, a, n) == jacobi_by_count(true, a, n)
+}
+
 #[test]
 fn the_two_loops(rt: HostRuntime) {
     for half in 0..128u8 {
         let n = 2 * half + 1;
         for a in 0..=255u8 {
-            let symbol = jacobi_by_subtraction(false, a, n);
-            assert!(rt; a.checked_jacobi(&n) == Some(symbol), "{a} over {n}");
-            assert!(rt; a.jacobi(&n) == symbol, "{a} over {n}");
-            assert!(rt; jacobi_by_count(false, a, n) == symbol, "{a} over {n}");
-            assert!(rt;
-                jacobi_by_halving(true, a, n) == jacobi_by_count(true, a, n),
-                "-{a} over {n}"
-            );
+            assert_at(&rt, agree(a, n), &(a, n));
         }
     }
+}
+
+// Whether n is odd, and the symbol of a over n by both loops is this.
+fn is_symbol<T: LowPart + SymbolWord>(a: T, n: T, want: Option<i8>) -> bool {
+    n.is_odd() && Some(jacobi_by_subtraction(false, a, n)) == want && a.checked_jacobi(&n) == want
+}
+
+// The same of signed numbers, for an n above 0.
+fn is_symbol_with_sign(a: i64, n: i64, want: Option<i8>) -> bool {
+    n > 0
+        && n % 2 == 1
+        && Some(jacobi_by_subtraction(a < 0, a.unsigned_abs(), n as u64)) == want
+        && a.checked_jacobi(&n) == want
 }
 
 // The known values of the Kronecker and the Legendre symbol serve too: over an odd number above 0 the Kronecker
@@ -30,29 +51,24 @@ fn the_two_loops(rt: HostRuntime) {
 #[test]
 fn the_two_loops_of_wide_words(rt: HostRuntime) {
     for &(_, a, n, want) in LARGE_OF_32_BITS {
-        assert!(rt; n % 2 == 1, "{n}");
-        let symbol = Some(jacobi_by_subtraction(false, a, n));
-        assert!(rt;
-            symbol == want && a.checked_jacobi(&n) == want,
-            "{a} over {n}"
-        );
+        assert_at(&rt, is_symbol(a, n, want), &(a, n));
     }
     for &(_, a, n, want) in LARGE {
-        assert!(rt; n % 2 == 1, "{n}");
-        let symbol = Some(jacobi_by_subtraction(false, a, n));
-        assert!(rt;
-            symbol == want && a.checked_jacobi(&n) == want,
-            "{a} over {n}"
-        );
+        assert_at(&rt, is_symbol(a, n, want), &(a, n));
     }
     for &(_, a, n, want) in LARGE_SIGNED {
-        assert!(rt; n > 0 && n % 2 == 1, "{n}");
-        let symbol = Some(jacobi_by_subtraction(a < 0, a.unsigned_abs(), n as u64));
-        assert!(rt;
-            symbol == want && a.checked_jacobi(&n) == want,
-            "{a} over {n}"
-        );
+        assert_at(&rt, is_symbol_with_sign(a, n, want), &(a, n));
     }
+}
+
+// Whether both calls and the loop agree on the symbol of a over n, where it exists.
+fn agree_with_sign(a: i8, n: i8) -> Option<bool> {
+    let symbol = a.checked_jacobi(&n)?;
+    let agree = a.jacobi(&n) == symbol
+        && n > 0
+        && n % 2 == 1
+        && jacobi_by_subtraction(a < 0, a.unsigned_abs(), n as u8) == symbol;
+    Some(agree)
 }
 
 // Each signed byte, over each that has symbols: the 64 odd ones above 0.
@@ -61,13 +77,8 @@ fn the_two_loops_with_sign(rt: HostRuntime) {
     let mut found = 0u32;
     for n in -128..=127i8 {
         for a in -128..=127i8 {
-            if let Some(symbol) = a.checked_jacobi(&n) {
-                assert!(rt; a.jacobi(&n) == symbol, "{a} over {n}");
-                assert!(rt; n > 0 && n % 2 == 1, "{n}");
-                assert!(rt;
-                    jacobi_by_subtraction(a < 0, a.unsigned_abs(), n as u8) == symbol,
-                    "{a} over {n}"
-                );
+            if let Some(agree) = agree_with_sign(a, n) {
+                assert_at(&rt, agree, &(a, n));
                 found = found.wrapping_add(1);
             }
         }

@@ -23,15 +23,15 @@ fn of_one<T: ModularRefOps>(a: &T, m: &T) -> [T; 3]
     [a.negm_ref(m), a.dblm_ref(m), a.sqm_ref(m)]
 }
 
-// The symbols of b over 17 and over m, of m over 8, and the Kronecker symbol of m over 15.
-fn symbols<T: ModularRefOps + From<u8>>(b: u8, m: u8) -> ([Option<i8>; 3], i8) {
-    let (b, m) = (T::from(b), T::from(m));
+// The symbols of b over a prime and over m, of m over an even number, and the Kronecker symbol of m over an odd one.
+fn symbols<T: ModularRefOps>(b: &T, m: &T, others: &[T; 3]) -> ([Option<i8>; 3], i8) {
+    let [prime, even, odd] = others;
     let checked = [
-        b.checked_legendre_ref(&T::from(17)),
-        b.checked_jacobi_ref(&m),
-        m.checked_jacobi_ref(&T::from(8)),
+        b.checked_legendre_ref(prime),
+        b.checked_jacobi_ref(m),
+        m.checked_jacobi_ref(even),
     ];
-    (checked, m.kronecker_ref(&T::from(15)))
+    (checked, m.kronecker_ref(odd))
 }
 
 #[test]
@@ -45,5 +45,6 @@ fn operations_and_symbols_of_references(rt: HostRuntime) {
     let found = [11u64.invm_ref(&7), 7u64.invm_ref(&7)];
     assert!(rt; found == [Some(2), None]);
     let want = ([Some(1), Some(1), None], -1);
-    assert!(rt; symbols::<u8>(9, 7) == want && symbols::<u64>(9, 7) == want);
+    assert!(rt; symbols(&9u8, &7, &[17, 8, 15]) == want);
+    assert!(rt; symbols(&9u64, &7, &[17, 8, 15]) == want);
 }

@@ -1,5 +1,6 @@
 //! The definitions as programs, for the known values of the fast calls.
 
+use crate::tests::assert_at;
 use modular_word::plain::{greatest_common_divisor, inverse_by_search, power_of, residue_of};
 
 // A number, the modulus and the residue.
@@ -38,9 +39,9 @@ const RESIDUES: &[(i64, u64, u64)] = &[
 
 #[test]
 fn residues(rt: HostRuntime) {
-    for &(z, m, want) in RESIDUES {
-        assert!(rt; m > 0);
-        assert!(rt; residue_of(z, m) == want, "{z} modulo {m}");
+    for row in RESIDUES {
+        let &(z, m, want) = row;
+        assert_at(&rt, m > 0 && residue_of(z, m) == want, row);
     }
 }
 
@@ -61,9 +62,9 @@ const POWERS: &[(u64, u64, u64, u64)] = &[
 
 #[test]
 fn powers(rt: HostRuntime) {
-    for &(base, exp, m, want) in POWERS {
-        assert!(rt; m > 0);
-        assert!(rt; power_of(base, exp, m) == want, "{base} ^ {exp} modulo {m}");
+    for row in POWERS {
+        let &(base, exp, m, want) = row;
+        assert_at(&rt, m > 0 && power_of(base, exp, m) == want, row);
     }
 }
 
@@ -82,9 +83,9 @@ const INVERSES: &[(u64, u64, Option<u64>)] = &[
 
 #[test]
 fn inverses(rt: HostRuntime) {
-    for &(a, m, want) in INVERSES {
-        assert!(rt; m > 0);
-        assert!(rt; inverse_by_search(a, m) == want, "{a} modulo {m}");
+    for row in INVERSES {
+        let &(a, m, want) = row;
+        assert_at(&rt, m > 0 && inverse_by_search(a, m) == want, row);
     }
 }
 
@@ -99,7 +100,8 @@ const COMMON_DIVISORS: &[(u64, u64, u64)] = &[
 
 #[test]
 fn common_divisors(rt: HostRuntime) {
-    for &(a, n, want) in COMMON_DIVISORS {
-        assert!(rt; greatest_common_divisor(a, n) == want, "{a} and {n}");
+    for row in COMMON_DIVISORS {
+        let &(a, n, want) = row;
+        assert_at(&rt, greatest_common_divisor(a, n) == want, row);
     }
 }

@@ -1,5 +1,6 @@
 //! The paths, for divisors and moduli where a correction, a limit or a carry matters.
 
+use crate::tests::assert_at;
 use modular_word::paths::{div_1by1, div_2by1, exact_1, exact_2, redc};
 
 #[test]
@@ -28,9 +29,9 @@ fn divisions_and_reductions(rt: HostRuntime) {
 #[test]
 fn exact_division(rt: HostRuntime) {
     for (n, want) in [(252, Some(36)), (253, None), (0, Some(0)), (1, None)] {
-        assert!(rt; exact_1(7u8, 183, 36, n) == want, "{n}");
+        assert_at(&rt, exact_1(7u8, 183, 36, n) == want, &n);
     }
     for (n, want) in [(65534, Some(9362)), (65535, None), (1, None)] {
-        assert!(rt; exact_2(7u8, 183, 36, n) == want, "{n}");
+        assert_at(&rt, exact_2(7u8, 183, 36, n) == want, &n);
     }
 }

@@ -1,5 +1,6 @@
 //! The definitions as programs, for every operand and modulus of 8 bits.
 
+use crate::operation_tests::tests::assert_at;
 use num_modular::modular_prim::operations::{ModularAbs, ModularCoreOps, ModularPow, ModularUnaryOps};
 use num_modular::modular_word::plain::{inverse_by_search, power_of, residue_of};
 
@@ -40,9 +41,10 @@ fn agree_of_one(a: u8, m: u8) -> bool {
 
 #[test]
 fn operations() {
+    let rt = crate::runtime::HostRuntime;
     for m in 1..=255u8 {
         for a in 0..=255u8 {
-            assert!(agree_of_one(a, m), "{a} modulo {m}");
+            assert_at(&rt, agree_of_one(a, m), &(a, m));
             for b in [
                 0,
                 1,
@@ -56,7 +58,7 @@ fn operations() {
                 m,
                 m.wrapping_add(1),
             ] {
-                assert!(agree_of_two(a, b, m), "{a} and {b} modulo {m}");
+                assert_at(&rt, agree_of_two(a, b, m), &(a, b, m));
             }
         }
     }
@@ -68,11 +70,12 @@ fn agree_on_powers(a: u8, exp: u8, m: u8) -> bool {
 
 #[test]
 fn small_powers() {
+    let rt = crate::runtime::HostRuntime;
     for m in [1, 2, 3, 7, 8, 127, 128, 129, 254, 255u8] {
+        assert!(m > 0);
         for a in 0..=255u8 {
             for exp in [0, 1, 2, 3, 4, 5, 7, 8, 20u8] {
-                assert!(m > 0);
-                assert!(agree_on_powers(a, exp, m), "{a} ^ {exp} modulo {m}");
+                assert_at(&rt, agree_on_powers(a, exp, m), &(a, exp, m));
             }
         }
     }

@@ -1,5 +1,6 @@
 //! The definitions as programs, for the known values of the fast calls.
 
+use crate::operation_tests::tests::assert_at;
 use num_modular::modular_word::plain::{greatest_common_divisor, inverse_by_search, power_of, residue_of};
 
 // A number, the modulus and the residue.
@@ -38,9 +39,10 @@ const RESIDUES: &[(i64, u64, u64)] = &[
 
 #[test]
 fn residues() {
-    for &(z, m, want) in RESIDUES {
-        assert!(m > 0);
-        assert!(residue_of(z, m) == want, "{z} modulo {m}");
+    let rt = crate::runtime::HostRuntime;
+    for row in RESIDUES {
+        let &(z, m, want) = row;
+        assert_at(&rt, m > 0 && residue_of(z, m) == want, row);
     }
 }
 
@@ -61,9 +63,10 @@ const POWERS: &[(u64, u64, u64, u64)] = &[
 
 #[test]
 fn powers() {
-    for &(base, exp, m, want) in POWERS {
-        assert!(m > 0);
-        assert!(power_of(base, exp, m) == want, "{base} ^ {exp} modulo {m}");
+    let rt = crate::runtime::HostRuntime;
+    for row in POWERS {
+        let &(base, exp, m, want) = row;
+        assert_at(&rt, m > 0 && power_of(base, exp, m) == want, row);
     }
 }
 
@@ -82,9 +85,10 @@ const INVERSES: &[(u64, u64, Option<u64>)] = &[
 
 #[test]
 fn inverses() {
-    for &(a, m, want) in INVERSES {
-        assert!(m > 0);
-        assert!(inverse_by_search(a, m) == want, "{a} modulo {m}");
+    let rt = crate::runtime::HostRuntime;
+    for row in INVERSES {
+        let &(a, m, want) = row;
+        assert_at(&rt, m > 0 && inverse_by_search(a, m) == want, row);
     }
 }
 
@@ -99,7 +103,9 @@ const COMMON_DIVISORS: &[(u64, u64, u64)] = &[
 
 #[test]
 fn common_divisors() {
-    for &(a, n, want) in COMMON_DIVISORS {
-        assert!(greatest_common_divisor(a, n) == want, "{a} and {n}");
+    let rt = crate::runtime::HostRuntime;
+    for row in COMMON_DIVISORS {
+        let &(a, n, want) = row;
+        assert_at(&rt, greatest_common_divisor(a, n) == want, row);
     }
 }

@@ -1,5 +1,6 @@
 //! The paths, for divisors and moduli where a correction, a limit or a carry matters.
 
+use crate::operation_tests::tests::assert_at;
 use num_modular::modular_word::paths::{div_1by1, div_2by1, exact_1, exact_2, redc};
 
 #[test]
@@ -27,10 +28,11 @@ fn divisions_and_reductions() {
 
 #[test]
 fn exact_division() {
+    let rt = crate::runtime::HostRuntime;
     for (n, want) in [(252, Some(36)), (253, None), (0, Some(0)), (1, None)] {
-        assert!(exact_1(7u8, 183, 36, n) == want, "{n}");
+        assert_at(&rt, exact_1(7u8, 183, 36, n) == want, &n);
     }
     for (n, want) in [(65534, Some(9362)), (65535, None), (1, None)] {
-        assert!(exact_2(7u8, 183, 36, n) == want, "{n}");
+        assert_at(&rt, exact_2(7u8, 183, 36, n) == want, &n);
     }
 }
