@@ -16,6 +16,11 @@ pub fn shows<V: Debug>(alloc: Global, value: &V, text: &str) -> bool {
     format!(in alloc; "{value:?}").is_ok_and(|shown| shown.as_str() == text)
 }
 
+/// Whether `Debug` prints a value.
+pub fn is_printed<V: Debug>(alloc: Global, value: &V) -> bool {
+    format!(in alloc; "{value:?}").is_ok()
+}
+
 /// Whether n divided by d is this, as a result and in place; a number that d doesn't divide is unchanged.
 pub fn is_divided<D: Numbered + Copy, P, N: DivExactAssign<D, P> + Copy + PartialEq>(
     n: N,

@@ -3,6 +3,7 @@
 ghost use Rattle.modular_reduced.specs.Integers.{CanDivide, IsReduced, modulus_of};
 ghost use Rattle.std.specs.Prelude.{◌≡◌, ◌≤◌, ◌%◌};
 
+use crate::tests::dividers::is_printed;
 use misuse::modular_integer::{is_equivalence, residue_of_sum, sum_in_ring};
 use misuse::polynomial::{horner, value_by_forms, value_of_bytes};
 use misuse::reduced_int::{
@@ -13,6 +14,7 @@ use modular_barrett::premul::PreMulInv2by1;
 use modular_reduced::modular_integer::ModularInteger;
 use modular_reduced::reduced_int::{ReducedInt, VanillaInt};
 use modular_reduced::reducer::Reducer;
+use modular_reduced::vanilla::Vanilla;
 use modular_word::ring_word::RingWord;
 use std::test::Fail;
 
@@ -266,7 +268,7 @@ fn methods(rt: HostRuntime) {
 fn copies_and_text(rt: HostRuntime) -> Result<(), Fail> {
     let a = ring(255);
     assert!(rt; a.clone()? == a);
-    assert!(rt; format!(in rt.alloc(); "{a:?}").is_ok());
+    assert!(rt; is_printed(rt.alloc(), &a));
     Ok(())
 }
 
@@ -310,14 +312,22 @@ fn the_polynomial_of_no_coefficients(rt: HostRuntime) {
     assert!(rt; horner(&[], integer(7, 21)).residue() == 0);
 }
 
+// The residue of a + a, and that of x + y by the integers of its ring.
+fn double_and_sum<I: ModularInteger<Base = u64> + Copy>(a: I, x: u64, y: u64) -> [u64; 2] {
+    [residue_of_sum(a, a), sum_in_ring(a, x, y)]
+}
+
+// Both for the integer of x modulo m.
+fn sums_modulo<R: Reducer<u64> + Copy>(m: u64, x: u64, y: u64) -> [u64; 2]
+    requires { R.admits m }
+{
+    double_and_sum(ReducedInt::<u64, R>::new(x, &m), x, y)
+}
+
 #[test]
 fn sums_of_64_bits_of_any_integers(rt: HostRuntime) {
     // 2^64 - 59
     let (m, top) = (18446744073709551557, u64::MAX);
-    let plain = VanillaInt::<u64>::new(top, &m);
-    let scaled = ReducedInt::<u64, PreMulInv2by1<u64>>::new(top, &m);
-    assert!(rt; residue_of_sum(plain, plain) == 116);
-    assert!(rt; residue_of_sum(scaled, scaled) == 116);
-    assert!(rt; sum_in_ring(plain, top, top - 60) == 56);
-    assert!(rt; sum_in_ring(scaled, top, top - 60) == 56);
+    assert!(rt; sums_modulo::<Vanilla<u64>>(m, top, top - 60) == [116, 56]);
+    assert!(rt; sums_modulo::<PreMulInv2by1<u64>>(m, top, top - 60) == [116, 56]);
 }

@@ -1,6 +1,7 @@
 //! Known values, computed by hand, and every divisor and number of 8 bits compared with `/` and `%`.
 
 use super::is_divided;
+use crate::tests::assert_at;
 use modular_barrett::one_by_one::PreMulInv1by1;
 use modular_prim::exact::DivExactAssign;
 use modular_prim::numbered::Numbered;
@@ -40,7 +41,7 @@ fn every_byte(rt: HostRuntime) {
         let divider = PreMulInv1by1::<u8>::new(d);
         for n in 0..=255u8 {
             let want = if n % d == 0 { Some(n / d) } else { None };
-            assert!(rt; is_divided(n, d, &divider, want), "{n} by {d}");
+            assert_at(&rt, is_divided(n, d, &divider, want), &(n, d));
         }
     }
 }

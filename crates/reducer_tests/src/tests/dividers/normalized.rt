@@ -2,6 +2,8 @@
 
 ghost use Rattle.std.specs.Prelude.{◌≤◌, ◌<◌, ◌*◌};
 
+use super::is_printed;
+use crate::tests::assert_at;
 use modular_barrett::normalized::Normalized2by1Divisor;
 
 // The reciprocal of a divisor, and the quotient and the remainder of a number.
@@ -47,7 +49,7 @@ fn wider_words_and_copies(rt: HostRuntime) {
     let found = (
         copy == divider,
         divider == Normalized2by1Divisor::new(131),
-        format!(in rt.alloc(); "{divider:?}").is_ok(),
+        is_printed(rt.alloc(), &divider),
     );
     assert!(rt; found == (true, false, true));
 }
@@ -57,16 +59,14 @@ fn every_double_byte(rt: HostRuntime) {
     for d in 128..=255u8 {
         let divider = Normalized2by1Divisor::<u8>::new(d);
         for a in 0..=255u8 {
-            assert!(rt; divider.div_rem_1by1(a) == (a / d, a % d), "{a} by {d}");
+            assert_at(&rt, divider.div_rem_1by1(a) == (a / d, a % d), &(a, d));
         }
         for high in 0..d {
             for low in 0..=255u8 {
                 let a = low as u16 + 256 * high as u16;
                 let (q, r) = divider.div_rem_2by1(a);
-                assert!(rt;
-                    (q as u16, r as u16) == (a / d as u16, a % d as u16),
-                    "{a} by {d}"
-                );
+                let is_right = (q as u16, r as u16) == (a / d as u16, a % d as u16);
+                assert_at(&rt, is_right, &(a, d));
             }
         }
     }

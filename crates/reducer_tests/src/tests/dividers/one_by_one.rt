@@ -1,6 +1,7 @@
 //! Known values, computed by hand, and every divisor and dividend of 8 bits compared with `/` and `%`.
 
-use super::shows;
+use super::{is_printed, shows};
+use crate::tests::assert_at;
 use modular_barrett::one_by_one::PreMulInv1by1;
 
 #[test]
@@ -12,8 +13,8 @@ fn rows(rt: HostRuntime) {
     ] {
         if d > 1 {
             let divider = PreMulInv1by1::<u8>::new(d);
-            assert!(rt; divider.div_rem(255, d) == want, "{d}");
-            assert!(rt; shows(rt.alloc(), &divider, shown), "{d}");
+            assert_at(&rt, divider.div_rem(255, d) == want, &d);
+            assert_at(&rt, shows(rt.alloc(), &divider, shown), &d);
         }
     }
 }
@@ -32,7 +33,7 @@ fn wider_words_and_copies(rt: HostRuntime) {
     let found = (
         copy == divider,
         divider == PreMulInv1by1::new(5),
-        format!(in rt.alloc(); "{divider:?}").is_ok(),
+        is_printed(rt.alloc(), &divider),
     );
     assert!(rt; found == (true, false, true));
 }
@@ -42,7 +43,7 @@ fn every_byte(rt: HostRuntime) {
     for d in 2..=255u8 {
         let divider = PreMulInv1by1::<u8>::new(d);
         for a in 0..=255u8 {
-            assert!(rt; divider.div_rem(a, d) == (a / d, a % d), "{a} by {d}");
+            assert_at(&rt, divider.div_rem(a, d) == (a / d, a % d), &(a, d));
         }
     }
 }

@@ -1,6 +1,7 @@
 //! Exact divisions by precomputed inverses.
 
 use super::{is_divided, shows};
+use crate::tests::assert_at;
 use modular_monty::preinv::PreModInv;
 
 #[test]
@@ -79,7 +80,7 @@ fn each_odd_divisor_and_each_byte(rt: HostRuntime) {
         let pre = PreModInv::<u8>::from(d);
         for n in 0..=255u8 {
             let want = if n % d == 0 { Some(n / d) } else { None };
-            assert!(rt; is_divided(n, d, &pre, want), "{n} by {d}");
+            assert_at(&rt, is_divided(n, d, &pre, want), &(n, d));
         }
     }
 }

@@ -1,15 +1,18 @@
 //! Known values of the reducers and of their reductions.
 
-use crate::tests::residues::{edges, inverse, residues};
+use crate::tests::residues::{edges, inverse, residues_modulo};
 use modular_folds::mersenne::{FixedMersenne, FixedMersenne32, FixedMersenne64};
 use modular_reduced::reducer::Reducer;
 use modular_word::ring_word::RingWord;
 
-/// Whether two words are forms, and whether the value of a number's form is 0.
-pub fn checks<T: RingWord, R: Reducer<T>>(ring: &R, last: T, m: T, multiple: T) -> [bool; 3] {
+/// Whether two words are forms of the reducer of m, and whether the value of a number's form is 0.
+pub fn checks<T: RingWord, R: Reducer<T> + Copy>(m: T, last: T, other: T, multiple: T) -> [bool; 3]
+    requires { R.admits (T.number m) }
+{
+    let ring = R::new(&m);
     [
         ring.check(&last),
-        ring.check(&m),
+        ring.check(&other),
         ring.is_zero(&ring.transform(multiple)),
     ]
 }
@@ -59,44 +62,27 @@ fn moduli(rt: HostRuntime) {
 
 #[test]
 fn edge_parameters(rt: HostRuntime) {
-    let found = (
-        edges(&FixedMersenne32::<2, 1>::new(&3), 2, u32::MAX),
-        edges(
-            &FixedMersenne32::<32, 5>::new(&4294967291),
-            4294967290,
-            u32::MAX,
-        ),
-        edges(
-            &FixedMersenne64::<64, 59>::new(&18446744073709551557),
-            18446744073709551556,
-            u64::MAX,
-        ),
-        edges(
-            &FixedMersenne::<64, 59>::new(&18446744073709551557),
-            18446744073709551556,
-            u128::MAX,
-        ),
-    );
-    assert!(rt;
-        found
-            == (
-                [0, 1, 2, 0, 0, 1],
-                [0, 1, 4294967290, 0, 4, 1],
-                [0, 1, 18446744073709551556, 0, 58, 1],
-                [0, 1, 18446744073709551556, 0, 3480, 1]
-            )
-    );
+    let found = edges::<u32, FixedMersenne32<2, 1>>(3, 2, u32::MAX);
+    assert!(rt; found == [0, 1, 2, 0, 0, 1]);
+    let found = edges::<u32, FixedMersenne32<32, 5>>(4294967291, 4294967290, u32::MAX);
+    assert!(rt; found == [0, 1, 4294967290, 0, 4, 1]);
+    let (m, last) = (18446744073709551557, 18446744073709551556);
+    let found = edges::<u64, FixedMersenne64<64, 59>>(m, last, u64::MAX);
+    assert!(rt; found == [0, 1, 18446744073709551556, 0, 58, 1]);
+    let (m, last) = (18446744073709551557, 18446744073709551556);
+    let found = edges::<u128, FixedMersenne<64, 59>>(m, last, u128::MAX);
+    assert!(rt; found == [0, 1, 18446744073709551556, 0, 3480, 1]);
 }
 
 #[test]
 fn each_operation(rt: HostRuntime) {
-    let small = FixedMersenne32::<13, 1>::new(&8191);
-    assert!(rt; residues(&small, 100, 200) == [300, 8091, 3618, 200, 8091, 1809]);
-    let far = FixedMersenne32::<4, 7>::new(&9);
-    assert!(rt; residues(&far, 5, 7) == [3, 7, 8, 1, 4, 7]);
-    let middle = FixedMersenne64::<61, 1>::new(&2305843009213693951);
+    let found = residues_modulo::<u32, FixedMersenne32<13, 1>>(8191, 100, 200);
+    assert!(rt; found == [300, 8091, 3618, 200, 8091, 1809]);
+    let found = residues_modulo::<u32, FixedMersenne32<4, 7>>(9, 5, 7);
+    assert!(rt; found == [3, 7, 8, 1, 4, 7]);
+    let found = residues_modulo::<u64, FixedMersenne64<61, 1>>(2305843009213693951, 1000, 2000);
     assert!(rt;
-        residues(&middle, 1000, 2000)
+        found
             == [
                 3000,
                 2305843009213692951,
@@ -106,23 +92,21 @@ fn each_operation(rt: HostRuntime) {
                 1000000
             ]
     );
-    let wide = FixedMersenne::<31, 1>::new(&2147483647);
-    assert!(rt;
-        residues(&wide, 1000, 2000) == [3000, 2147482647, 2000000, 2000, 2147482647, 1000000]
-    );
+    let found = residues_modulo::<u128, FixedMersenne<31, 1>>(2147483647, 1000, 2000);
+    assert!(rt; found == [3000, 2147482647, 2000000, 2000, 2147482647, 1000000]);
 }
 
 #[test]
 fn checks_and_inverses(rt: HostRuntime) {
-    let small = FixedMersenne32::<4, 1>::new(&15);
-    let found = [inverse(&small, 7), inverse(&small, 5)];
-    assert!(rt; found == [Some(13), None]);
-    assert!(rt; checks(&small, 14, 15, 30) == [true, false, true]);
-    let wide = FixedMersenne::<4, 1>::new(&15);
-    let found = [inverse(&wide, 7), inverse(&wide, 5)];
-    assert!(rt; found == [Some(13), None]);
-    assert!(rt; checks(&wide, 14, 15, 30) == [true, false, true]);
-    assert!(rt; checks(&wide, 14, u128::MAX, 30) == [true, false, true]);
-    let middle = FixedMersenne64::<64, 59>::new(&18446744073709551557);
-    assert!(rt; inverse(&middle, 2) == Some(9223372036854775779));
+    type Small = FixedMersenne32<4, 1>;
+    assert!(rt; inverse::<u32, Small>(15, 7) == Some(13));
+    assert!(rt; inverse::<u32, Small>(15, 5) == None);
+    assert!(rt; checks::<u32, Small>(15, 14, 15, 30) == [true, false, true]);
+    type Wide = FixedMersenne<4, 1>;
+    assert!(rt; inverse::<u128, Wide>(15, 7) == Some(13));
+    assert!(rt; inverse::<u128, Wide>(15, 5) == None);
+    assert!(rt; checks::<u128, Wide>(15, 14, 15, 30) == [true, false, true]);
+    assert!(rt; checks::<u128, Wide>(15, 14, u128::MAX, 30) == [true, false, true]);
+    type Middle = FixedMersenne64<64, 59>;
+    assert!(rt; inverse::<u64, Middle>(18446744073709551557, 2) == Some(9223372036854775779));
 }

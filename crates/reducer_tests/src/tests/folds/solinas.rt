@@ -1,7 +1,7 @@
 //! Known values of the reducers and of their reductions.
 
 use super::mersenne::checks;
-use crate::tests::residues::{edges, inverse, residues};
+use crate::tests::residues::{edges, inverse, residues_modulo};
 use modular_folds::solinas::{FixedTrinomialSolinas32, FixedTrinomialSolinas64};
 use modular_reduced::reducer::Reducer;
 
@@ -43,77 +43,48 @@ fn moduli(rt: HostRuntime) {
 
 #[test]
 fn edge_parameters(rt: HostRuntime) {
-    let found = (
-        edges(&FixedTrinomialSolinas32::<2, 1, -1>::new(&1), 0, u32::MAX),
-        edges(&FixedTrinomialSolinas32::<5, 4, -3>::new(&13), 12, u32::MAX),
-        edges(
-            &FixedTrinomialSolinas32::<32, 31, -1>::new(&2147483647),
-            2147483646,
-            u32::MAX,
-        ),
-        edges(
-            &FixedTrinomialSolinas64::<64, 32, 1>::new(&18446744069414584321),
-            18446744069414584320,
-            u64::MAX,
-        ),
-    );
-    assert!(rt;
-        found
-            == (
-                [0, 0, 0, 0, 0, 0],
-                [0, 1, 12, 0, 8, 1],
-                [0, 1, 2147483646, 0, 1, 1],
-                [0, 1, 18446744069414584320, 0, 4294967294, 1]
-            )
-    );
+    let found = edges::<u32, FixedTrinomialSolinas32<2, 1, -1>>(1, 0, u32::MAX);
+    assert!(rt; found == [0, 0, 0, 0, 0, 0]);
+    let found = edges::<u32, FixedTrinomialSolinas32<5, 4, -3>>(13, 12, u32::MAX);
+    assert!(rt; found == [0, 1, 12, 0, 8, 1]);
+    let (m, last) = (2147483647, 2147483646);
+    let found = edges::<u32, FixedTrinomialSolinas32<32, 31, -1>>(m, last, u32::MAX);
+    assert!(rt; found == [0, 1, 2147483646, 0, 1, 1]);
+    let (m, last) = (18446744069414584321, 18446744069414584320);
+    let found = edges::<u64, FixedTrinomialSolinas64<64, 32, 1>>(m, last, u64::MAX);
+    assert!(rt; found == [0, 1, 18446744069414584320, 0, 4294967294, 1]);
 }
 
 #[test]
 fn factors_of_more_than_half_the_bits(rt: HostRuntime) {
-    let found = (
-        edges(
-            &FixedTrinomialSolinas32::<32, 20, 1>::new(&4293918721),
-            4293918720,
-            u32::MAX,
-        ),
-        edges(
-            &FixedTrinomialSolinas64::<64, 40, 1>::new(&18446742974197923841),
-            18446742974197923840,
-            u64::MAX,
-        ),
-    );
-    assert!(rt;
-        found
-            == (
-                [0, 1, 4293918720, 0, 1048574, 1],
-                [0, 1, 18446742974197923840, 0, 1099511627774, 1]
-            )
-    );
+    let (m, last) = (4293918721, 4293918720);
+    let found = edges::<u32, FixedTrinomialSolinas32<32, 20, 1>>(m, last, u32::MAX);
+    assert!(rt; found == [0, 1, 4293918720, 0, 1048574, 1]);
+    let (m, last) = (18446742974197923841, 18446742974197923840);
+    let found = edges::<u64, FixedTrinomialSolinas64<64, 40, 1>>(m, last, u64::MAX);
+    assert!(rt; found == [0, 1, 18446742974197923840, 0, 1099511627774, 1]);
 }
 
 #[test]
 fn each_operation(rt: HostRuntime) {
-    let small = FixedTrinomialSolinas32::<4, 2, 1>::new(&13);
-    assert!(rt; residues(&small, 3, 5) == [8, 11, 2, 6, 10, 9]);
-    let middle = FixedTrinomialSolinas64::<6, 2, 1>::new(&61);
-    assert!(rt; residues(&middle, 10, 20) == [30, 51, 17, 20, 51, 39]);
+    let found = residues_modulo::<u32, FixedTrinomialSolinas32<4, 2, 1>>(13, 3, 5);
+    assert!(rt; found == [8, 11, 2, 6, 10, 9]);
+    let found = residues_modulo::<u64, FixedTrinomialSolinas64<6, 2, 1>>(61, 10, 20);
+    assert!(rt; found == [30, 51, 17, 20, 51, 39]);
     let m = 18446744069414584321;
-    let wide = FixedTrinomialSolinas64::<64, 32, 1>::new(&m);
-    assert!(rt;
-        residues(&wide, m - 1, m - 2) == [18446744069414584318, 1, 2, 18446744069414584319, 1, 1]
-    );
+    let found = residues_modulo::<u64, FixedTrinomialSolinas64<64, 32, 1>>(m, m - 1, m - 2);
+    assert!(rt; found == [18446744069414584318, 1, 2, 18446744069414584319, 1, 1]);
 }
 
 #[test]
 fn checks_and_inverses(rt: HostRuntime) {
-    let small = FixedTrinomialSolinas32::<4, 2, 1>::new(&13);
-    let found = [inverse(&small, 7), inverse(&small, 0)];
-    assert!(rt; found == [Some(2), None]);
-    assert!(rt; checks(&small, 12, 13, 26) == [true, false, true]);
-    let one = FixedTrinomialSolinas32::<2, 1, -1>::new(&1);
-    assert!(rt; inverse(&one, 0) == Some(0));
+    type Small = FixedTrinomialSolinas32<4, 2, 1>;
+    assert!(rt; inverse::<u32, Small>(13, 7) == Some(2));
+    assert!(rt; inverse::<u32, Small>(13, 0) == None);
+    assert!(rt; checks::<u32, Small>(13, 12, 13, 26) == [true, false, true]);
+    assert!(rt; inverse::<u32, FixedTrinomialSolinas32<2, 1, -1>>(1, 0) == Some(0));
+    type Wide = FixedTrinomialSolinas64<64, 32, 1>;
     let (m, last) = (18446744069414584321, 18446744069414584320);
-    let wide = FixedTrinomialSolinas64::<64, 32, 1>::new(&m);
-    assert!(rt; inverse(&wide, 2) == Some(9223372034707292161));
-    assert!(rt; checks(&wide, last, m, m) == [true, false, true]);
+    assert!(rt; inverse::<u64, Wide>(m, 2) == Some(9223372034707292161));
+    assert!(rt; checks::<u64, Wide>(m, last, m, m) == [true, false, true]);
 }

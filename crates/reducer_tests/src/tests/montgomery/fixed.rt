@@ -6,24 +6,25 @@ use modular_reduced::reducer::Reducer;
 
 #[test]
 fn products(rt: HostRuntime) {
-    assert!(rt; product(&FixedMontgomery32::<17>::new(&17), 3, 5) == 15);
-    assert!(rt; product(&FixedMontgomery64::<97>::new(&97), 10, 20) == 6);
+    assert!(rt; product::<u32, FixedMontgomery32<17>>(17, 3, 5) == 15);
+    assert!(rt; product::<u64, FixedMontgomery64<97>>(97, 10, 20) == 6);
 }
 
 #[test]
 fn products_modulo_the_greatest_odd_words(rt: HostRuntime) {
-    let ring = FixedMontgomery32::<4294967295>::new(&4294967295);
-    assert!(rt; product(&ring, 4294967294, 4294967293) == 2);
-    let ring = FixedMontgomery64::<18446744073709551615>::new(&18446744073709551615);
-    assert!(rt; product(&ring, 18446744073709551614, 18446744073709551614) == 1);
+    const M: u32 = 4294967295;
+    assert!(rt; product::<u32, FixedMontgomery32<M>>(M, 4294967294, 4294967293) == 2);
+    const N: u64 = 18446744073709551615;
+    let last = 18446744073709551614;
+    assert!(rt; product::<u64, FixedMontgomery64<N>>(N, last, last) == 1);
 }
 
 #[test]
 fn modulo_1(rt: HostRuntime) {
     assert!(rt; FixedMontgomery32::<1>::fixed_modulus() == 1);
     let ring = FixedMontgomery32::<1>::new(&1);
-    let found = (ring.transform(4294967295), inverse(&ring, 4294967295));
-    assert!(rt; found == (0, Some(0)));
+    assert!(rt; ring.transform(4294967295) == 0);
+    assert!(rt; inverse::<u32, FixedMontgomery32<1>>(1, 4294967295) == Some(0));
     for n in [0, 1, 4294967295] {
         assert!(rt; remainder(&ring, n) == 0);
     }
@@ -34,5 +35,5 @@ fn what_is_no_form(rt: HostRuntime) {
     assert!(rt; FixedMontgomery64::<97>::fixed_modulus() == 97);
     let ring = FixedMontgomery64::<97>::new(&97);
     assert!(rt; ring.check(&96) && !ring.check(&97));
-    assert!(rt; inverse(&ring, 97) == None);
+    assert!(rt; inverse::<u64, FixedMontgomery64<97>>(97, 97) == None);
 }

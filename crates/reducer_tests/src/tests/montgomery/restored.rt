@@ -38,8 +38,7 @@ const COMPUTED: &[(u8, u8, u8)] = &[
 // A modulus and its two numbers.
 fn assert_computed<T: PlainWord>(rt: &impl Abort, rows: &[(T, T, T)]) {
     for &(m, negated_inverse, square) in rows {
-        assert!(rt; !m.is_zero_word());
-        assert!(rt; are_computed(m, negated_inverse, square));
+        assert!(rt; !m.is_zero_word() && are_computed(m, negated_inverse, square));
     }
 }
 

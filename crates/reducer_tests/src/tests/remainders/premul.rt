@@ -1,5 +1,7 @@
 //! Known values, computed by hand, and bytes compared with `%`.
 
+use crate::tests::assert_at;
+use crate::tests::dividers::is_printed;
 use crate::tests::residues::{agree, inverse_residue, product, remainder};
 use modular_barrett::premul::PreMulInv2by1;
 use modular_reduced::reducer::Reducer;
@@ -30,15 +32,15 @@ fn rows(rt: HostRuntime) {
     // the same divisor for another modulus
     let found = (
         ring == PreMulInv2by1::new(42),
-        format!(in rt.alloc(); "{ring:?}").is_ok(),
+        is_printed(rt.alloc(), &ring),
     );
     assert!(rt; found == (false, true));
 }
 
 #[test]
 fn widest_words(rt: HostRuntime) {
-    let ring = PreMulInv2by1::<u64>::new(u64::MAX);
-    assert!(rt; product(&ring, u64::MAX - 1, u64::MAX - 1) == 1);
+    let last = u64::MAX - 1;
+    assert!(rt; product::<u64, PreMulInv2by1<u64>>(u64::MAX, last, last) == 1);
     let ring = PreMulInv2by1::<usize>::new(1000);
     assert!(rt; power(&ring, 2, 10) == 24);
     let ring = PreMulInv2by1::<u32>::new(5000);
@@ -57,9 +59,9 @@ fn forms_of_every_modulus(rt: HostRuntime) {
             if ring.check(&f) {
                 forms = forms.wrapping_add(1);
             }
-            assert!(rt; remainder(&ring, f) == f % m, "{f} modulo {m}");
+            assert_at(&rt, remainder(&ring, f) == f % m, &(f, m));
         }
-        assert!(rt; forms == m as u16, "{m}");
+        assert_at(&rt, forms == m as u16, &m);
     }
 }
 
@@ -70,7 +72,7 @@ fn operations_on_bytes(rt: HostRuntime) {
         let ring = PreMulInv2by1::<u8>::new(m);
         for a in 0..=255u8 {
             for b in 0..=255u8 {
-                assert!(rt; agree(&ring, m, a, b), "{a} and {b} modulo {m}");
+                assert_at(&rt, agree(&ring, m, a, b), &(a, b, m));
             }
         }
     }

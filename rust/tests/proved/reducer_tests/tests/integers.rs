@@ -1,5 +1,6 @@
 //! Every kind of operand of the operators, known values computed by hand, and equality.
 
+use crate::reducer_tests::tests::dividers::is_printed;
 use crate::misuse::modular_integer::{is_equivalence, residue_of_sum, sum_in_ring};
 use crate::misuse::polynomial::{horner, value_by_forms, value_of_bytes};
 use crate::misuse::reduced_int::{
@@ -10,6 +11,7 @@ use num_modular::modular_barrett::premul::PreMulInv2by1;
 use num_modular::modular_reduced::modular_integer::ModularInteger;
 use num_modular::modular_reduced::reduced_int::{ReducedInt, VanillaInt};
 use num_modular::modular_reduced::reducer::Reducer;
+use num_modular::modular_reduced::vanilla::Vanilla;
 use num_modular::modular_word::ring_word::RingWord;
 use crate::runtime::Fail;
 
@@ -254,7 +256,7 @@ fn copies_and_text() -> Result<(), Fail> {
     let rt = crate::runtime::HostRuntime;
     let a = ring(255);
     assert!(a.clone() == a);
-    assert!(format!(in rt.alloc(); "{a:?}").is_ok());
+    assert!(is_printed(rt.alloc(), &a));
     Ok(())
 }
 
@@ -296,14 +298,20 @@ fn the_polynomial_of_no_coefficients() {
     assert!(horner(&[], integer(7, 21)).residue() == 0);
 }
 
+// The residue of a + a, and that of x + y by the integers of its ring.
+fn double_and_sum<I: ModularInteger<Base = u64> + Copy>(a: I, x: u64, y: u64) -> [u64; 2] {
+    [residue_of_sum(a, a), sum_in_ring(a, x, y)]
+}
+
+// Both for the integer of x modulo m.
+fn sums_modulo<R: Reducer<u64> + Copy>(m: u64, x: u64, y: u64) -> [u64; 2] {
+    double_and_sum(ReducedInt::<u64, R>::new(x, &m), x, y)
+}
+
 #[test]
 fn sums_of_64_bits_of_any_integers() {
     // 2^64 - 59
     let (m, top) = (18446744073709551557, u64::MAX);
-    let plain = VanillaInt::<u64>::new(top, &m);
-    let scaled = ReducedInt::<u64, PreMulInv2by1<u64>>::new(top, &m);
-    assert!(residue_of_sum(plain, plain) == 116);
-    assert!(residue_of_sum(scaled, scaled) == 116);
-    assert!(sum_in_ring(plain, top, top - 60) == 56);
-    assert!(sum_in_ring(scaled, top, top - 60) == 56);
+    assert!(sums_modulo::<Vanilla<u64>>(m, top, top - 60) == [116, 56]);
+    assert!(sums_modulo::<PreMulInv2by1<u64>>(m, top, top - 60) == [116, 56]);
 }

@@ -8,13 +8,15 @@ pub fn remainder<T: RingWord, R: Reducer<T>>(ring: &R, n: T) -> T {
     ring.residue(ring.transform(n))
 }
 
-/// The residue of a product.
-pub fn product<T: RingWord, R: Reducer<T>>(ring: &R, x: T, y: T) -> T {
+/// The residue of a product modulo m, by the reducer of m.
+pub fn product<T: RingWord, R: Reducer<T> + Copy>(m: T, x: T, y: T) -> T {
+    let ring = R::new(&m);
     ring.residue(ring.mul(&ring.transform(x), &ring.transform(y)))
 }
 
-/// The form of an inverse.
-pub fn inverse<T: RingWord, R: Reducer<T>>(ring: &R, x: T) -> Option<T> {
+/// The form of an inverse, by the reducer of m.
+pub fn inverse<T: RingWord, R: Reducer<T> + Copy>(m: T, x: T) -> Option<T> {
+    let ring = R::new(&m);
     ring.inv(ring.transform(x))
 }
 
@@ -26,8 +28,9 @@ pub fn inverse_residue<T: RingWord, R: Reducer<T>>(ring: &R, x: T) -> Option<T> 
     }
 }
 
-/// The residues of 0, 1, m - 1, m and a greatest word, m being the modulus, and of (m - 1)^2.
-pub fn edges<T: RingWord, R: Reducer<T>>(ring: &R, last: T, greatest: T) -> [T; 6] {
+/// The residues of 0, 1, m - 1, m and a greatest word, and of (m - 1)^2, by the reducer of m.
+pub fn edges<T: RingWord, R: Reducer<T> + Copy>(m: T, last: T, greatest: T) -> [T; 6] {
+    let ring = R::new(&m);
     let minus_one = ring.transform(last);
     [
         ring.residue(ring.transform(T::zero())),
@@ -53,16 +56,26 @@ pub fn residues<T: RingWord, R: Reducer<T>>(ring: &R, x: T, y: T) -> [T; 6] {
     ]
 }
 
+/// The same by the reducer of m.
+pub fn residues_modulo<T: RingWord, R: Reducer<T> + Copy>(m: T, x: T, y: T) -> [T; 6] {
+    residues(&R::new(&m), x, y)
+}
+
+// A number modulo m.
+fn byte(n: u16, m: u8) -> u8 {
+    (n % m as u16) as u8
+}
+
 // The same by plain remainders.
 fn remainders(m: u8, x: u8, y: u8) -> [u8; 6] {
     let (n, a, b) = (m as u16, x as u16, y as u16);
     [
-        ((a + b) % n) as u8,
-        ((a + (n - b % n)) % n) as u8,
-        (a * b % n) as u8,
-        (2 * a % n) as u8,
-        ((n - a % n) % n) as u8,
-        (a * a % n) as u8,
+        byte(a + b, m),
+        byte(a + (n - b % n), m),
+        byte(a * b, m),
+        byte(2 * a, m),
+        byte(n - a % n, m),
+        byte(a * a, m),
     ]
 }
 

@@ -1,6 +1,7 @@
 //! Known values, computed by hand, and every divisor and number of 8 bits compared with `/` and `%`.
 
 use super::is_divided;
+use crate::reducer_tests::tests::assert_at;
 use num_modular::modular_barrett::one_by_one::PreMulInv1by1;
 use num_modular::modular_prim::exact::DivExactAssign;
 use num_modular::modular_prim::numbered::Numbered;
@@ -36,11 +37,12 @@ fn rows_of_wide_words() {
 
 #[test]
 fn every_byte() {
+    let rt = crate::runtime::HostRuntime;
     for d in 2..=255u8 {
         let divider = PreMulInv1by1::<u8>::new(d);
         for n in 0..=255u8 {
             let want = if n % d == 0 { Some(n / d) } else { None };
-            assert!(is_divided(n, d, &divider, want), "{n} by {d}");
+            assert_at(&rt, is_divided(n, d, &divider, want), &(n, d));
         }
     }
 }

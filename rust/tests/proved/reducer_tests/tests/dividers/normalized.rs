@@ -1,5 +1,7 @@
 //! Known values, computed by hand, and every divisor and dividend of 8 bits compared with `/` and `%`.
 
+use super::is_printed;
+use crate::reducer_tests::tests::assert_at;
 use num_modular::modular_barrett::normalized::Normalized2by1Divisor;
 
 // The reciprocal of a divisor, and the quotient and the remainder of a number.
@@ -43,26 +45,25 @@ fn wider_words_and_copies() {
     let found = (
         copy == divider,
         divider == Normalized2by1Divisor::of(131),
-        format!(in rt.alloc(); "{divider:?}").is_ok(),
+        is_printed(rt.alloc(), &divider),
     );
     assert!(found == (true, false, true));
 }
 
 #[test]
 fn every_double_byte() {
+    let rt = crate::runtime::HostRuntime;
     for d in 128..=255u8 {
         let divider = Normalized2by1Divisor::<u8>::new(d);
         for a in 0..=255u8 {
-            assert!(divider.div_rem_1by1(a) == (a / d, a % d), "{a} by {d}");
+            assert_at(&rt, divider.div_rem_1by1(a) == (a / d, a % d), &(a, d));
         }
         for high in 0..d {
             for low in 0..=255u8 {
                 let a = low as u16 + 256 * high as u16;
                 let (q, r) = divider.div_rem_2by1(a);
-                assert!(
-                    (q as u16, r as u16) == (a / d as u16, a % d as u16),
-                    "{a} by {d}"
-                );
+                let is_right = (q as u16, r as u16) == (a / d as u16, a % d as u16);
+                assert_at(&rt, is_right, &(a, d));
             }
         }
     }

@@ -1,6 +1,7 @@
 //! Known values, computed by hand, and every divisor and dividend of 8 bits compared with `/` and `%`.
 
-use super::shows;
+use super::{is_printed, shows};
+use crate::reducer_tests::tests::assert_at;
 use num_modular::modular_barrett::one_by_one::PreMulInv1by1;
 
 #[test]
@@ -13,8 +14,8 @@ fn rows() {
     ] {
         if d > 1 {
             let divider = PreMulInv1by1::<u8>::new(d);
-            assert!(divider.div_rem(255, d) == want, "{d}");
-            assert!(shows(rt.alloc(), &divider, shown), "{d}");
+            assert_at(&rt, divider.div_rem(255, d) == want, &d);
+            assert_at(&rt, shows(rt.alloc(), &divider, shown), &d);
         }
     }
 }
@@ -34,17 +35,18 @@ fn wider_words_and_copies() {
     let found = (
         copy == divider,
         divider == PreMulInv1by1::of(5),
-        format!(in rt.alloc(); "{divider:?}").is_ok(),
+        is_printed(rt.alloc(), &divider),
     );
     assert!(found == (true, false, true));
 }
 
 #[test]
 fn every_byte() {
+    let rt = crate::runtime::HostRuntime;
     for d in 2..=255u8 {
         let divider = PreMulInv1by1::<u8>::new(d);
         for a in 0..=255u8 {
-            assert!(divider.div_rem(a, d) == (a / d, a % d), "{a} by {d}");
+            assert_at(&rt, divider.div_rem(a, d) == (a / d, a % d), &(a, d));
         }
     }
 }

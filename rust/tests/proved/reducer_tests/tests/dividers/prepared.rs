@@ -1,6 +1,7 @@
 //! Exact divisions by precomputed inverses.
 
 use super::{is_divided, shows};
+use crate::reducer_tests::tests::assert_at;
 use num_modular::modular_monty::preinv::PreModInv;
 
 #[test]
@@ -75,12 +76,13 @@ fn rows_of_the_widest_words() {
 
 #[test]
 fn each_odd_divisor_and_each_byte() {
+    let rt = crate::runtime::HostRuntime;
     for half in 0..128 {
         let d: u8 = 2 * half + 1;
         let pre = PreModInv::<u8>::from(d);
         for n in 0..=255u8 {
             let want = if n % d == 0 { Some(n / d) } else { None };
-            assert!(is_divided(n, d, &pre, want), "{n} by {d}");
+            assert_at(&rt, is_divided(n, d, &pre, want), &(n, d));
         }
     }
 }

@@ -1,15 +1,16 @@
 //! Known values of the reducers and of their reductions.
 
-use crate::reducer_tests::tests::residues::{edges, inverse, residues};
+use crate::reducer_tests::tests::residues::{edges, inverse, residues_modulo};
 use num_modular::modular_folds::mersenne::{FixedMersenne, FixedMersenne32, FixedMersenne64};
 use num_modular::modular_reduced::reducer::Reducer;
 use num_modular::modular_word::ring_word::RingWord;
 
-/// Whether two words are forms, and whether the value of a number's form is 0.
-pub fn checks<T: RingWord, R: Reducer<T>>(ring: &R, last: T, m: T, multiple: T) -> [bool; 3] {
+/// Whether two words are forms of the reducer of m, and whether the value of a number's form is 0.
+pub fn checks<T: RingWord, R: Reducer<T> + Copy>(m: T, last: T, other: T, multiple: T) -> [bool; 3] {
+    let ring = R::new(&m);
     [
         ring.check(&last),
-        ring.check(&m),
+        ring.check(&other),
         ring.is_zero(&ring.transform(multiple)),
     ]
 }
@@ -59,44 +60,27 @@ fn moduli() {
 
 #[test]
 fn edge_parameters() {
-    let found = (
-        edges(&FixedMersenne32::<2, 1>::new(&3), 2, u32::MAX),
-        edges(
-            &FixedMersenne32::<32, 5>::new(&4294967291),
-            4294967290,
-            u32::MAX,
-        ),
-        edges(
-            &FixedMersenne64::<64, 59>::new(&18446744073709551557),
-            18446744073709551556,
-            u64::MAX,
-        ),
-        edges(
-            &FixedMersenne::<64, 59>::new(&18446744073709551557),
-            18446744073709551556,
-            u128::MAX,
-        ),
-    );
-    assert!(
-        found
-            == (
-                [0, 1, 2, 0, 0, 1],
-                [0, 1, 4294967290, 0, 4, 1],
-                [0, 1, 18446744073709551556, 0, 58, 1],
-                [0, 1, 18446744073709551556, 0, 3480, 1]
-            )
-    );
+    let found = edges::<u32, FixedMersenne32<2, 1>>(3, 2, u32::MAX);
+    assert!(found == [0, 1, 2, 0, 0, 1]);
+    let found = edges::<u32, FixedMersenne32<32, 5>>(4294967291, 4294967290, u32::MAX);
+    assert!(found == [0, 1, 4294967290, 0, 4, 1]);
+    let (m, last) = (18446744073709551557, 18446744073709551556);
+    let found = edges::<u64, FixedMersenne64<64, 59>>(m, last, u64::MAX);
+    assert!(found == [0, 1, 18446744073709551556, 0, 58, 1]);
+    let (m, last) = (18446744073709551557, 18446744073709551556);
+    let found = edges::<u128, FixedMersenne<64, 59>>(m, last, u128::MAX);
+    assert!(found == [0, 1, 18446744073709551556, 0, 3480, 1]);
 }
 
 #[test]
 fn each_operation() {
-    let small = FixedMersenne32::<13, 1>::new(&8191);
-    assert!(residues(&small, 100, 200) == [300, 8091, 3618, 200, 8091, 1809]);
-    let far = FixedMersenne32::<4, 7>::new(&9);
-    assert!(residues(&far, 5, 7) == [3, 7, 8, 1, 4, 7]);
-    let middle = FixedMersenne64::<61, 1>::new(&2305843009213693951);
+    let found = residues_modulo::<u32, FixedMersenne32<13, 1>>(8191, 100, 200);
+    assert!(found == [300, 8091, 3618, 200, 8091, 1809]);
+    let found = residues_modulo::<u32, FixedMersenne32<4, 7>>(9, 5, 7);
+    assert!(found == [3, 7, 8, 1, 4, 7]);
+    let found = residues_modulo::<u64, FixedMersenne64<61, 1>>(2305843009213693951, 1000, 2000);
     assert!(
-        residues(&middle, 1000, 2000)
+        found
             == [
                 3000,
                 2305843009213692951,
@@ -106,23 +90,21 @@ fn each_operation() {
                 1000000
             ]
     );
-    let wide = FixedMersenne::<31, 1>::new(&2147483647);
-    assert!(
-        residues(&wide, 1000, 2000) == [3000, 2147482647, 2000000, 2000, 2147482647, 1000000]
-    );
+    let found = residues_modulo::<u128, FixedMersenne<31, 1>>(2147483647, 1000, 2000);
+    assert!(found == [3000, 2147482647, 2000000, 2000, 2147482647, 1000000]);
 }
 
 #[test]
 fn checks_and_inverses() {
-    let small = FixedMersenne32::<4, 1>::new(&15);
-    let found = [inverse(&small, 7), inverse(&small, 5)];
-    assert!(found == [Some(13), None]);
-    assert!(checks(&small, 14, 15, 30) == [true, false, true]);
-    let wide = FixedMersenne::<4, 1>::new(&15);
-    let found = [inverse(&wide, 7), inverse(&wide, 5)];
-    assert!(found == [Some(13), None]);
-    assert!(checks(&wide, 14, 15, 30) == [true, false, true]);
-    assert!(checks(&wide, 14, u128::MAX, 30) == [true, false, true]);
-    let middle = FixedMersenne64::<64, 59>::new(&18446744073709551557);
-    assert!(inverse(&middle, 2) == Some(9223372036854775779));
+    type Small = FixedMersenne32<4, 1>;
+    assert!(inverse::<u32, Small>(15, 7) == Some(13));
+    assert!(inverse::<u32, Small>(15, 5) == None);
+    assert!(checks::<u32, Small>(15, 14, 15, 30) == [true, false, true]);
+    type Wide = FixedMersenne<4, 1>;
+    assert!(inverse::<u128, Wide>(15, 7) == Some(13));
+    assert!(inverse::<u128, Wide>(15, 5) == None);
+    assert!(checks::<u128, Wide>(15, 14, 15, 30) == [true, false, true]);
+    assert!(checks::<u128, Wide>(15, 14, u128::MAX, 30) == [true, false, true]);
+    type Middle = FixedMersenne64<64, 59>;
+    assert!(inverse::<u64, Middle>(18446744073709551557, 2) == Some(9223372036854775779));
 }

@@ -7,7 +7,8 @@ use num_modular::modular_reduced::reducer::Reducer;
 use crate::runtime::Abort;
 
 // The forms of v, of its square, its double, its inverse and a power, and their residues.
-fn registers<R: Reducer<u8>>(ring: &R, v: u8, exp: u8) -> ([u8; 5], [u8; 5]) {
+fn registers<R: Reducer<u8> + Copy>(m: u8, v: u8, exp: u8) -> ([u8; 5], [u8; 5]) {
+    let ring = R::new(&m);
     let load = ring.transform(v);
     let square = ring.mul(&load, &load);
     let double = ring.add(&load, &load);
@@ -47,13 +48,12 @@ const REGISTERS: &[(u8, u8, u8, [u8; 5], [u8; 5])] = &[
 #[test]
 fn five_registers() {
     for &(m, v, exp, forms, residues) in REGISTERS {
-        assert!(m > 0);
-        let ring = Montgomery::<u8>::new(m);
-        assert!(registers(&ring, v, exp) == (forms, residues));
+        assert!(m > 0 && registers::<Montgomery<u8>>(m, v, exp) == (forms, residues));
     }
 }
 
-fn forms<R: Reducer<u8>>(ring: &R, words: [u8; 3]) -> [u8; 3] {
+fn forms<R: Reducer<u8> + Copy>(m: u8, words: [u8; 3]) -> [u8; 3] {
+    let ring = R::new(&m);
     let [x, y, z] = words;
     [ring.transform(x), ring.transform(y), ring.transform(z)]
 }
@@ -64,8 +64,7 @@ const FORMS: &[(u8, [u8; 3], [u8; 3])] = &[(21, [5, 7, 17], [20, 7, 5]), (1, [25
 #[test]
 fn forms_of_words() {
     for &(m, words, want) in FORMS {
-        assert!(m > 0);
-        assert!(forms(&Montgomery::<u8>::new(m), words) == want);
+        assert!(m > 0 && forms::<Montgomery<u8>>(m, words) == want);
     }
     let ring = Montgomery::<u8>::new(128);
     for v in 0..128 {
@@ -83,27 +82,26 @@ const INVERSES: &[(u8, u8, Option<u8>)] = &[
 #[test]
 fn inverses() {
     for &(m, x, want) in INVERSES {
-        assert!(m > 0);
-        assert!(inverse(&Montgomery::<u8>::new(m), x) == want);
+        assert!(m > 0 && inverse::<u8, Montgomery<u8>>(m, x) == want);
     }
 }
 
 // Whether a sum is 0.
-fn sum_is_zero<R: Reducer<u8>>(ring: &R, x: u8, y: u8) -> bool {
+fn sum_is_zero<R: Reducer<u8> + Copy>(m: u8, x: u8, y: u8) -> bool {
+    let ring = R::new(&m);
     ring.is_zero(&ring.add(&ring.transform(x), &ring.transform(y)))
 }
 
 #[test]
 fn sums_of_zero() {
-    let ring = Montgomery::<u8>::new(11);
-    assert!(sum_is_zero(&ring, 5, 6) && !sum_is_zero(&ring, 5, 7));
+    assert!(sum_is_zero::<Montgomery<u8>>(11, 5, 6));
+    assert!(!sum_is_zero::<Montgomery<u8>>(11, 5, 7));
 }
 
 // The modulus, two factors and the residue of their product.
 fn assert_products<T: PlainWord>(rt: &impl Abort, rows: &[(T, T, T, T)]) {
     for &(m, x, y, want) in rows {
-        assert!(!m.is_zero_word());
-        assert!(product(&Montgomery::<T>::of(m), x, y) == want);
+        assert!(!m.is_zero_word() && product::<T, Montgomery<T>>(m, x, y) == want);
     }
 }
 
@@ -143,7 +141,8 @@ fn products_at_each_width() {
 }
 
 // The forms of two numbers and of their product.
-fn product_forms<R: Reducer<u8>>(ring: &R, x: u8, y: u8) -> [u8; 3] {
+fn product_forms<R: Reducer<u8> + Copy>(m: u8, x: u8, y: u8) -> [u8; 3] {
+    let ring = R::new(&m);
     let a = ring.transform(x);
     let b = ring.transform(y);
     [a, b, ring.mul(&a, &b)]
@@ -158,8 +157,7 @@ const PRODUCT_FORMS: &[(u8, u8, u8, [u8; 3])] = &[
 #[test]
 fn even_moduli_of_bytes() {
     for &(m, x, y, want) in PRODUCT_FORMS {
-        assert!(m > 0);
-        assert!(product_forms(&Montgomery::<u8>::new(m), x, y) == want);
+        assert!(m > 0 && product_forms::<Montgomery<u8>>(m, x, y) == want);
     }
 }
 

@@ -5,15 +5,16 @@ use num_modular::modular_monty::proth::{FixedProth32, FixedProth64};
 use num_modular::modular_reduced::reducer::Reducer;
 use num_modular::modular_word::ring_word::RingWord;
 
-fn sum<T: RingWord, R: Reducer<T>>(ring: &R, x: T, y: T) -> T {
+fn sum<T: RingWord, R: Reducer<T> + Copy>(m: T, x: T, y: T) -> T {
+    let ring = R::new(&m);
     ring.residue(ring.add(&ring.transform(x), &ring.transform(y)))
 }
 
 #[test]
 fn small_moduli() {
-    let ring = FixedProth32::<4, 1>::new(&17);
-    assert!([sum(&ring, 3, 5), product(&ring, 3, 5)] == [8, 15]);
-    assert!(product(&FixedProth64::<5, 3>::new(&97), 10, 20) == 6);
+    assert!(sum::<u32, FixedProth32<4, 1>>(17, 3, 5) == 8);
+    assert!(product::<u32, FixedProth32<4, 1>>(17, 3, 5) == 15);
+    assert!(product::<u64, FixedProth64<5, 3>>(97, 10, 20) == 6);
 }
 
 #[test]
@@ -53,39 +54,20 @@ fn one_over_half_the_base() {
 
 #[test]
 fn edges_of_the_range_of_32_bits() {
-    let found = [
-        edges(&FixedProth32::<1, 1>::new(&3), 2, 4294967295),
-        edges(
-            &FixedProth32::<23, 255>::new(&2139095041),
-            2139095040,
-            4294967295,
-        ),
-        edges(
-            &FixedProth32::<31, 1>::new(&2147483649),
-            2147483648,
-            4294967295,
-        ),
-        edges(
-            &FixedProth32::<28, 9>::new(&2415919105),
-            2415919104,
-            4294967295,
-        ),
-    ];
-    assert!(
-        found
-            == [
-                [0, 1, 2, 0, 0, 1],
-                [0, 1, 2139095040, 0, 16777213, 1],
-                [0, 1, 2147483648, 0, 2147483646, 1],
-                [0, 1, 2415919104, 0, 1879048190, 1]
-            ]
-    );
+    let found = edges::<u32, FixedProth32<1, 1>>(3, 2, 4294967295);
+    assert!(found == [0, 1, 2, 0, 0, 1]);
+    let found = edges::<u32, FixedProth32<23, 255>>(2139095041, 2139095040, 4294967295);
+    assert!(found == [0, 1, 2139095040, 0, 16777213, 1]);
+    let found = edges::<u32, FixedProth32<31, 1>>(2147483649, 2147483648, 4294967295);
+    assert!(found == [0, 1, 2147483648, 0, 2147483646, 1]);
+    let found = edges::<u32, FixedProth32<28, 9>>(2415919105, 2415919104, 4294967295);
+    assert!(found == [0, 1, 2415919104, 0, 1879048190, 1]);
 }
 
 #[test]
 fn edges_of_the_range_of_64_bits() {
     let m = 9223372036854775809;
     let last = 9223372036854775808;
-    let found = edges(&FixedProth64::<63, 1>::new(&m), last, 18446744073709551615);
+    let found = edges::<u64, FixedProth64<63, 1>>(m, last, 18446744073709551615);
     assert!(found == [0, 1, last, 0, 9223372036854775806, 1]);
 }

@@ -34,8 +34,7 @@ const COMPUTED: &[(u8, u8, u8)] = &[
 // A modulus and its two numbers.
 fn assert_computed<T: PlainWord>(rt: &impl Abort, rows: &[(T, T, T)]) {
     for &(m, negated_inverse, square) in rows {
-        assert!(!m.is_zero_word());
-        assert!(are_computed(m, negated_inverse, square));
+        assert!(!m.is_zero_word() && are_computed(m, negated_inverse, square));
     }
 }
 

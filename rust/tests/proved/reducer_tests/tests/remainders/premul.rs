@@ -1,5 +1,7 @@
 //! Known values, computed by hand, and bytes compared with `%`.
 
+use crate::reducer_tests::tests::assert_at;
+use crate::reducer_tests::tests::dividers::is_printed;
 use crate::reducer_tests::tests::residues::{agree, inverse_residue, product, remainder};
 use num_modular::modular_barrett::premul::PreMulInv2by1;
 use num_modular::modular_reduced::reducer::Reducer;
@@ -31,15 +33,15 @@ fn rows() {
     // the same divisor for another modulus
     let found = (
         ring == PreMulInv2by1::of(42),
-        format!(in rt.alloc(); "{ring:?}").is_ok(),
+        is_printed(rt.alloc(), &ring),
     );
     assert!(found == (false, true));
 }
 
 #[test]
 fn widest_words() {
-    let ring = PreMulInv2by1::<u64>::new(u64::MAX);
-    assert!(product(&ring, u64::MAX - 1, u64::MAX - 1) == 1);
+    let last = u64::MAX - 1;
+    assert!(product::<u64, PreMulInv2by1<u64>>(u64::MAX, last, last) == 1);
     let ring = PreMulInv2by1::<usize>::new(1000);
     assert!(power(&ring, 2, 10) == 24);
     let ring = PreMulInv2by1::<u32>::new(5000);
@@ -51,6 +53,7 @@ fn widest_words() {
 // Each modulus has as many checked forms as values.
 #[test]
 fn forms_of_every_modulus() {
+    let rt = crate::runtime::HostRuntime;
     for m in 1..=255u8 {
         let ring = PreMulInv2by1::<u8>::new(m);
         let mut forms = 0u16;
@@ -58,20 +61,21 @@ fn forms_of_every_modulus() {
             if ring.check(&f) {
                 forms = forms.wrapping_add(1);
             }
-            assert!(remainder(&ring, f) == f % m, "{f} modulo {m}");
+            assert_at(&rt, remainder(&ring, f) == f % m, &(f, m));
         }
-        assert!(forms == m as u16, "{m}");
+        assert_at(&rt, forms == m as u16, &m);
     }
 }
 
 #[test]
 fn operations_on_bytes() {
+    let rt = crate::runtime::HostRuntime;
     for m in [1u8, 2, 3, 21, 127, 128, 129, 255] {
         assert!(m > 0);
         let ring = PreMulInv2by1::<u8>::new(m);
         for a in 0..=255u8 {
             for b in 0..=255u8 {
-                assert!(agree(&ring, m, a, b), "{a} and {b} modulo {m}");
+                assert_at(&rt, agree(&ring, m, a, b), &(a, b, m));
             }
         }
     }
