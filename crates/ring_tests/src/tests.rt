@@ -15,3 +15,16 @@ mod reversals;
 mod roots;
 mod runs;
 mod transforms;
+
+use std::fmt::Debug;
+use std::process::Abort;
+
+/// Asserts that what is compared at these values holds; else prints the values.
+pub fn assert_at<V: Debug>(rt: &impl Abort, holds: bool, values: &V) {
+    assert!(rt; holds, "{values:?}");
+}
+
+/// Asserts that no row is wrong; else prints the place of the first that is.
+pub fn assert_right(rt: &impl Abort, first_wrong: Option<usize>) {
+    assert!(rt; first_wrong.is_none(), "{first_wrong:?}");
+}

@@ -10,15 +10,13 @@ fn a_run_is_refused_where_a_condition_fails(rt: HostRuntime) -> Result<(), Fail>
     let r = Vanilla::<u8>::new(&21);
     let mut regs = [0, 21, 0];
     let load = [RingCommand::Load { dst: 1, n: 5 }];
-    assert_eq!(rt; checked_run(&r, &mut regs, &load), None);
-    assert_eq!(rt; regs[1], 21);
+    assert!(rt; checked_run(&r, &mut regs, &load) == None);
+    assert!(rt; regs[1] == 21);
     regs[1] = 20;
-    assert_eq!(rt;
-        checked_run(&r, &mut regs, &[RingCommand::Load { dst: 3, n: 1 }]),
-        None
-    );
-    assert_eq!(rt; checked_run(&r, &mut regs, &load), Some(RunEnd::Done));
-    assert_eq!(rt; regs[1], 5);
+    let above = [RingCommand::Load { dst: 3, n: 1 }];
+    assert!(rt; checked_run(&r, &mut regs, &above) == None);
+    assert!(rt; checked_run(&r, &mut regs, &load) == Some(RunEnd::Done));
+    assert!(rt; regs[1] == 5);
     Ok(())
 }
 
@@ -40,11 +38,9 @@ fn words_of_two_widths_run_alike(rt: HostRuntime) -> Result<(), Fail> {
             RingCommand::Inv { dst: 1, a: 0 },
         ],
     );
-    assert_eq!(rt; ends.0, RunEnd::NoInverse { at: 1 });
-    assert_eq!(rt; ends.1, RunEnd::NoInverse { at: 1 });
-    assert_eq!(rt; narrow[0], 7);
-    assert_eq!(rt; wide[0], 7);
-    assert_eq!(rt; residue_by_run(&Vanilla::<u64>::new(&21), 100), 16);
+    assert!(rt; ends == (RunEnd::NoInverse { at: 1 }, RunEnd::NoInverse { at: 1 }));
+    assert!(rt; (narrow[0], wide[0]) == (7, 7));
+    assert!(rt; residue_by_run(&Vanilla::<u64>::new(&21), 100) == 16);
     Ok(())
 }
 
@@ -59,6 +55,6 @@ fn a_list_that_needs_no_inverse_is_run_to_the_end(rt: HostRuntime) -> Result<(),
             RingCommand::Mul { dst: 1, a: 0, b: 0 },
         ],
     );
-    assert_eq!(rt; (regs[0], regs[1]), (5, 4));
+    assert!(rt; (regs[0], regs[1]) == (5, 4));
     Ok(())
 }

@@ -1,5 +1,6 @@
 //! Runs over the plain reducer of 21.
 
+use super::assert_at;
 use super::runs::{run_checked, take_residues};
 use num_modular::ring::RingCommand::{Add, Dbl, Div, Inv, Load, Mul, Neg, Pow, Sqr, Sub};
 use num_modular::ring::{RingCommand, RunEnd, all_checked, commands_fit};
@@ -65,8 +66,8 @@ const STOPPING_AT_DIV: [RingCommand<u8>; 4] = [
 
 #[test]
 fn the_table_of_runs(rt: HostRuntime) {
-    for row in RUNS {
-        assert!(rt; is_right(row), "{:?} {:?}", row.start, row.commands);
+    for i in 0..RUNS.len() {
+        assert_at(&rt, is_right(&RUNS[i]), &i);
     }
 }
 

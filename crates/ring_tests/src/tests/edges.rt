@@ -1,6 +1,7 @@
 //! Reducers at the edges of their parameters, each compared with the plain reducer of its modulus.
 
-use super::runs::ends_with;
+use super::assert_at;
+use super::runs::{ends_modulo, ends_with};
 use num_modular::ring::{RingCommand, RunEnd};
 use num_modular::word::RingWord;
 use num_modular::{
@@ -76,19 +77,27 @@ fn misses_64<R: Reducer<u64>>(ring: &R, last: u64, n: u64) -> bool {
     ends_with(ring, &list, STOPPED_EARLY, [n, last, 1, 0, 0])
 }
 
-// Whether a reducer has the results of the row with the greatest word, finds no inverse of 0 except modulo 1, and
-// leaves zeros after no command.
-fn shows_32<R: Reducer<u32>>(ring: &R, row: &Row<u32>) -> bool {
+// Whether the row is of m, and the reducer of m has its results with the greatest word, finds no inverse of 0 except
+// modulo 1, and leaves zeros after no command.
+fn shows_32<R: Reducer<u32> + Copy>(m: u32, row: &Row<u32>) -> bool
+    requires { R.admits m }
+{
+    let ring = &R::new(&m);
     let list = commands(row.last, u32::MAX);
-    edges(ring, row.last, u32::MAX) == row.edges
+    row.m == m
+        && edges(ring, row.last, u32::MAX) == row.edges
         && ends_with(ring, &list, row.end, row.residues)
         && (row.end != STOPPED || misses_32(ring, row.last, row.edges[4]))
         && ends_with(ring, &list[..0], RunEnd::Done, [0; 5])
 }
 
-fn shows_64<R: Reducer<u64>>(ring: &R, row: &Row<u64>) -> bool {
+fn shows_64<R: Reducer<u64> + Copy>(m: u64, row: &Row<u64>) -> bool
+    requires { R.admits m }
+{
+    let ring = &R::new(&m);
     let list = commands(row.last, u64::MAX);
-    edges(ring, row.last, u64::MAX) == row.edges
+    row.m == m
+        && edges(ring, row.last, u64::MAX) == row.edges
         && ends_with(ring, &list, row.end, row.residues)
         && (row.end != STOPPED || misses_64(ring, row.last, row.edges[4]))
         && ends_with(ring, &list[..0], RunEnd::Done, [0; 5])
@@ -136,44 +145,36 @@ fn plain_reducers_of_32_bits(rt: HostRuntime) {
         &MODULO_2147483649,
         &MODULO_2415919105,
     ] {
-        assert!(rt; row.m > 0);
-        assert!(rt; shows_32(&Vanilla::<u32>::new(&row.m), row), "{}", row.m);
+        let is_shown = row.m > 0 && shows_32::<Vanilla<u32>>(row.m, row);
+        assert_at(&rt, is_shown, &row.m);
     }
 }
 
 #[test]
 fn a_modulus_of_32_bits_by_montgomery_forms(rt: HostRuntime) {
-    assert!(rt; shows_32(&FixedMontgomery32::<1>::new(&1), &MODULO_1));
+    assert!(rt; shows_32::<FixedMontgomery32<1>>(1, &MODULO_1));
 }
 
 #[test]
 fn moduli_of_32_bits_by_folds(rt: HostRuntime) {
-    let ring = FixedTrinomialSolinas32::<2, 1, -1>::new(&1);
-    assert!(rt; shows_32(&ring, &MODULO_1));
-    let ring = FixedTrinomialSolinas32::<5, 4, -3>::new(&13);
-    assert!(rt; shows_32(&ring, &MODULO_13));
-    let ring = FixedTrinomialSolinas32::<4, 2, 1>::new(&13);
-    assert!(rt; shows_32(&ring, &MODULO_13));
-    let ring = FixedTrinomialSolinas32::<32, 31, -1>::new(&2147483647);
-    assert!(rt; shows_32(&ring, &MODULO_2147483647));
+    assert!(rt; shows_32::<FixedTrinomialSolinas32<2, 1, -1>>(1, &MODULO_1));
+    assert!(rt; shows_32::<FixedTrinomialSolinas32<5, 4, -3>>(13, &MODULO_13));
+    assert!(rt; shows_32::<FixedTrinomialSolinas32<4, 2, 1>>(13, &MODULO_13));
+    assert!(rt; shows_32::<FixedTrinomialSolinas32<32, 31, -1>>(2147483647, &MODULO_2147483647));
 }
 
 #[test]
 fn mersenne_numbers_of_32_bits(rt: HostRuntime) {
-    assert!(rt; shows_32(&FixedMersenne32::<2, 1>::new(&3), &MODULO_3));
-    let ring = FixedMersenne32::<32, 5>::new(&4294967291);
-    assert!(rt; shows_32(&ring, &MODULO_4294967291));
+    assert!(rt; shows_32::<FixedMersenne32<2, 1>>(3, &MODULO_3));
+    assert!(rt; shows_32::<FixedMersenne32<32, 5>>(4294967291, &MODULO_4294967291));
 }
 
 #[test]
 fn proth_numbers_of_32_bits(rt: HostRuntime) {
-    assert!(rt; shows_32(&FixedProth32::<1, 1>::new(&3), &MODULO_3));
-    let ring = FixedProth32::<23, 255>::new(&2139095041);
-    assert!(rt; shows_32(&ring, &MODULO_2139095041));
-    let ring = FixedProth32::<31, 1>::new(&2147483649);
-    assert!(rt; shows_32(&ring, &MODULO_2147483649));
-    let ring = FixedProth32::<28, 9>::new(&2415919105);
-    assert!(rt; shows_32(&ring, &MODULO_2415919105));
+    assert!(rt; shows_32::<FixedProth32<1, 1>>(3, &MODULO_3));
+    assert!(rt; shows_32::<FixedProth32<23, 255>>(2139095041, &MODULO_2139095041));
+    assert!(rt; shows_32::<FixedProth32<31, 1>>(2147483649, &MODULO_2147483649));
+    assert!(rt; shows_32::<FixedProth32<28, 9>>(2415919105, &MODULO_2415919105));
 }
 
 #[rattlefmt::skip]
@@ -198,25 +199,30 @@ fn plain_reducers_of_64_bits(rt: HostRuntime) {
         &MODULO_18446744069414584321,
         &MODULO_18446744073709551557,
     ] {
-        assert!(rt; row.m > 0);
-        assert!(rt; shows_64(&Vanilla::<u64>::new(&row.m), row), "{}", row.m);
+        let is_shown = row.m > 0 && shows_64::<Vanilla<u64>>(row.m, row);
+        assert_at(&rt, is_shown, &row.m);
     }
 }
 
 #[test]
 fn a_proth_number_of_64_bits(rt: HostRuntime) {
+    assert!(rt; shows_64::<FixedProth64<63, 1>>(9223372036854775809, &MODULO_9223372036854775809));
     let ring = FixedProth64::<63, 1>::new(&9223372036854775809);
-    assert!(rt; shows_64(&ring, &MODULO_9223372036854775809));
     // (m - 1) * 2^64 + m: the sum is (2 * m - 1) * 2^64, which overflows 128 bits
     assert!(rt; ring.reduce(170141183460469231740910675752738881537) == 9223372036854775808);
 }
 
 #[test]
 fn moduli_of_64_bits_by_folds(rt: HostRuntime) {
-    let ring = FixedTrinomialSolinas64::<64, 32, 1>::new(&18446744069414584321);
-    assert!(rt; shows_64(&ring, &MODULO_18446744069414584321));
-    let ring = FixedMersenne64::<64, 59>::new(&18446744073709551557);
-    assert!(rt; shows_64(&ring, &MODULO_18446744073709551557));
+    assert!(rt;
+        shows_64::<FixedTrinomialSolinas64<64, 32, 1>>(
+            18446744069414584321,
+            &MODULO_18446744069414584321
+        )
+    );
+    assert!(rt;
+        shows_64::<FixedMersenne64<64, 59>>(18446744073709551557, &MODULO_18446744073709551557)
+    );
 }
 
 // The commands with the greatest word of 64 bits, and the edges with that of 128.
@@ -235,10 +241,7 @@ fn over_words_of_128_bits(rt: HostRuntime) {
 
 #[test]
 fn the_empty_list(rt: HostRuntime) {
-    let bytes = PreMulInv2by1::<u8>::new(21);
-    assert!(rt; ends_with(&bytes, &[], RunEnd::Done, [0; 5]));
-    let bytes = Montgomery::<u8>::new(21);
-    assert!(rt; ends_with(&bytes, &[], RunEnd::Done, [0; 5]));
-    let words = FixedMontgomery64::<97>::new(&97);
-    assert!(rt; ends_with(&words, &[], RunEnd::Done, [0; 5]));
+    assert!(rt; ends_modulo::<u8, PreMulInv2by1<u8>, 5>(21, &[], RunEnd::Done, [0; 5]));
+    assert!(rt; ends_modulo::<u8, Montgomery<u8>, 5>(21, &[], RunEnd::Done, [0; 5]));
+    assert!(rt; ends_modulo::<u64, FixedMontgomery64<97>, 5>(97, &[], RunEnd::Done, [0; 5]));
 }

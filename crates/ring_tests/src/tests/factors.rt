@@ -1,5 +1,6 @@
 //! Moduli that plans admit, quotients of factors, and products by them.
 
+use super::assert_right;
 use modular_prim::plain_word::PlainWord;
 use modular_word::path_word::PathWord;
 use num_modular::plans::{Factor, PlanEntry, PlannedModulus};
@@ -71,8 +72,8 @@ const OF_A_USIZE: &[Row<usize>] = &[
 
 #[test]
 fn quotients_and_products(rt: HostRuntime) {
-    assert_eq!(rt; first_wrong(OF_16_BITS), None);
-    assert_eq!(rt; first_wrong(OF_32_BITS), None);
-    assert_eq!(rt; first_wrong(OF_64_BITS), None);
-    assert_eq!(rt; first_wrong(OF_A_USIZE), None);
+    assert_right(&rt, first_wrong(OF_16_BITS));
+    assert_right(&rt, first_wrong(OF_32_BITS));
+    assert_right(&rt, first_wrong(OF_64_BITS));
+    assert_right(&rt, first_wrong(OF_A_USIZE));
 }

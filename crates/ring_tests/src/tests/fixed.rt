@@ -1,6 +1,6 @@
 //! The reducers of fixed moduli.
 
-use super::runs::ends_with;
+use super::runs::ends_modulo;
 use num_modular::mersenne::{FixedMersenne, FixedMersenne32, FixedMersenne64};
 use num_modular::ring::{RingCommand, RunEnd};
 use num_modular::solinas::{FixedTrinomialSolinas32, FixedTrinomialSolinas64};
@@ -21,12 +21,9 @@ const SMALL: [RingCommand<u32>; 5] = [
 fn modulo_17(rt: HostRuntime) {
     let end = RunEnd::NoInverse { at: 4 };
     let residues = [3, 5, 8, 15, 0];
-    let ring = FixedMontgomery32::<17>::new(&17);
-    assert!(rt; ends_with(&ring, &SMALL, end, residues));
-    let ring = FixedProth32::<4, 1>::new(&17);
-    assert!(rt; ends_with(&ring, &SMALL, end, residues));
-    let ring = Vanilla::<u32>::new(&17);
-    assert!(rt; ends_with(&ring, &SMALL, end, residues));
+    assert!(rt; ends_modulo::<u32, FixedMontgomery32<17>, 5>(17, &SMALL, end, residues));
+    assert!(rt; ends_modulo::<u32, FixedProth32<4, 1>, 5>(17, &SMALL, end, residues));
+    assert!(rt; ends_modulo::<u32, Vanilla<u32>, 5>(17, &SMALL, end, residues));
 }
 
 // 10, 20 and their product.
@@ -39,10 +36,8 @@ const PRODUCT: [RingCommand<u64>; 3] = [
 #[test]
 fn modulo_97(rt: HostRuntime) {
     let residues = [10, 20, 6, 0, 0];
-    let ring = FixedMontgomery64::<97>::new(&97);
-    assert!(rt; ends_with(&ring, &PRODUCT, RunEnd::Done, residues));
-    let ring = FixedProth64::<5, 3>::new(&97);
-    assert!(rt; ends_with(&ring, &PRODUCT, RunEnd::Done, residues));
+    assert!(rt; ends_modulo::<u64, FixedMontgomery64<97>, 5>(97, &PRODUCT, RunEnd::Done, residues));
+    assert!(rt; ends_modulo::<u64, FixedProth64<5, 3>, 5>(97, &PRODUCT, RunEnd::Done, residues));
 }
 
 #[test]

@@ -1,5 +1,6 @@
 //! Commands at the edges of a byte's moduli, with the forms that each reducer leaves.
 
+use super::assert_at;
 use super::runs::{Row, is_right, leaves};
 use num_modular::ring::{RingCommand, RunEnd};
 use num_modular::{FixedMontgomery32, FixedTrinomialSolinas32, Reducer, Vanilla};
@@ -62,7 +63,7 @@ const ROWS: &[Row<5>] = &[
 #[test]
 fn each_reducer_leaves_its_forms(rt: HostRuntime) {
     for row in ROWS {
-        assert!(rt; is_right(row), "modulo {}", row.m);
+        assert_at(&rt, is_right(row), &row.m);
     }
 }
 
@@ -76,12 +77,16 @@ const OF_255: [RingCommand<u32>; 5] = [
     RingCommand::Neg { dst: 4, a: 0 },
 ];
 
+// Whether they leave zeros by the reducer of m.
+fn leave_zeros<R: Reducer<u32> + Copy>(m: u32) -> bool
+    requires { R.admits m }
+{
+    leaves::<u32, R, 5>(m, &OF_255, RunEnd::Done, [0; 5], [0; 5])
+}
+
 #[test]
 fn fixed_reducers_modulo_1(rt: HostRuntime) {
-    let ring = FixedMontgomery32::<1>::new(&1);
-    assert!(rt; leaves(&ring, &OF_255, RunEnd::Done, [0; 5], [0; 5]));
-    let ring = FixedTrinomialSolinas32::<2, 1, -1>::new(&1);
-    assert!(rt; leaves(&ring, &OF_255, RunEnd::Done, [0; 5], [0; 5]));
-    let ring = Vanilla::<u32>::new(&1);
-    assert!(rt; leaves(&ring, &OF_255, RunEnd::Done, [0; 5], [0; 5]));
+    assert!(rt; leave_zeros::<FixedMontgomery32<1>>(1));
+    assert!(rt; leave_zeros::<FixedTrinomialSolinas32<2, 1, -1>>(1));
+    assert!(rt; leave_zeros::<Vanilla<u32>>(1));
 }

@@ -2,6 +2,7 @@
 
 ghost use Rattle.std.specs.Prelude.{◌≤◌};
 
+use super::assert_at;
 use num_modular::modrun::run_words;
 use std::alloc::Global;
 use std::io::Write;
@@ -123,7 +124,7 @@ const ANSWERS: &[(&str, u8, &str, &str)] = &[
 #[test]
 fn answers(rt: HostRuntime) {
     'rows: for &(typed, status, printed, told) in ANSWERS {
-        assert!(rt; gives(rt.alloc(), typed, status, printed, told), "{typed}");
+        assert_at(&rt, gives(rt.alloc(), typed, status, printed, told), &typed);
     }
 }
 
@@ -152,7 +153,7 @@ fn refuses_no_words(alloc: Global) -> bool {
 #[test]
 fn refuses_words(rt: HostRuntime) {
     'rows: for typed in REFUSED {
-        assert!(rt; gives(rt.alloc(), typed, 2, "", USAGE), "{typed:?}");
+        assert_at(&rt, gives(rt.alloc(), typed, 2, "", USAGE), typed);
     }
     assert!(rt; refuses_no_words(rt.alloc()));
 }
@@ -175,15 +176,14 @@ fn refused_writes(rt: HostRuntime) {
     let rows = [(MISSING_INVERSE, 1), ("vanilla 21", 0), ("vanilla", 2)];
     'rows: for (typed, status) in rows {
         'writes: for refused in 1..40 {
-            assert!(rt;
-                tells_a_refused_write(rt.alloc(), typed, refused),
-                "{typed} {refused}"
-            );
+            let told = tells_a_refused_write(rt.alloc(), typed, refused);
+            assert_at(&rt, told, &(typed, refused));
         }
         let mut out = Page::refusing(39);
         let mut err = Page::refusing(39);
-        assert_eq!(rt; run_typed(rt.alloc(), typed, &mut out, &mut err), status);
-        assert!(rt; out.writes < 39 && err.writes < 39, "{typed}");
+        let found = run_typed(rt.alloc(), typed, &mut out, &mut err);
+        let is_whole = found == status && out.writes < 39 && err.writes < 39;
+        assert_at(&rt, is_whole, &typed);
     }
 }
 

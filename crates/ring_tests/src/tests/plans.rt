@@ -3,6 +3,7 @@
 ghost use Rattle.std.specs.Prelude.{◌*◌, ◌<◌, ◌↔◌, IsTrue, All};
 ghost use Rattle.num_modular.specs.Factors.{IsFactor};
 
+use super::{assert_at, assert_right};
 use modular_prim::plain_word::PlainWord;
 use modular_reduced::reducer::Reducer;
 use modular_reduced::vanilla::Vanilla;
@@ -176,11 +177,9 @@ const LISTS: &[(usize, usize, usize, usize, bool)] = &[
 
 #[test]
 fn lists_that_split(rt: HostRuntime) {
-    for &(length, factors, b, last, fits) in LISTS {
-        assert!(rt;
-            splits(length, factors, b, last) == fits,
-            "{length} {factors} {b} {last}"
-        );
+    for row in LISTS {
+        let &(length, factors, b, last, fits) = row;
+        assert_at(&rt, splits(length, factors, b, last) == fits, row);
     }
 }
 
@@ -231,9 +230,9 @@ const REMAINDERS: &[Row<u64>] = &[
 
 #[test]
 fn remainders(rt: HostRuntime) {
-    assert_eq!(rt; first_wrong_16(&Call::Split, REMAINDERS_OF_16_BITS), None);
-    assert_eq!(rt; first_wrong_32(&Call::Split, REMAINDERS_OF_32_BITS), None);
-    assert_eq!(rt; first_wrong_64(&Call::Split, REMAINDERS), None);
+    assert_right(&rt, first_wrong_16(&Call::Split, REMAINDERS_OF_16_BITS));
+    assert_right(&rt, first_wrong_32(&Call::Split, REMAINDERS_OF_32_BITS));
+    assert_right(&rt, first_wrong_64(&Call::Split, REMAINDERS));
 }
 
 #[rattlefmt::skip]
@@ -295,9 +294,9 @@ const JOINS: &[Row<u64>] = &[
 
 #[test]
 fn joins(rt: HostRuntime) {
-    assert_eq!(rt; first_wrong_16(&Call::Join, JOINS_OF_16_BITS), None);
-    assert_eq!(rt; first_wrong_32(&Call::Join, JOINS_OF_32_BITS), None);
-    assert_eq!(rt; first_wrong_64(&Call::Join, JOINS), None);
+    assert_right(&rt, first_wrong_16(&Call::Join, JOINS_OF_16_BITS));
+    assert_right(&rt, first_wrong_32(&Call::Join, JOINS_OF_32_BITS));
+    assert_right(&rt, first_wrong_64(&Call::Join, JOINS));
 }
 
 #[rattlefmt::skip]
@@ -312,8 +311,8 @@ const TIMES_0: &[Row<u64>] = &[
 
 #[test]
 fn scaled(rt: HostRuntime) {
-    assert_eq!(rt; first_wrong_64(&Call::Scaled(15), TIMES_15), None);
-    assert_eq!(rt; first_wrong_64(&Call::Scaled(0), TIMES_0), None);
+    assert_right(&rt, first_wrong_64(&Call::Scaled(15), TIMES_15));
+    assert_right(&rt, first_wrong_64(&Call::Scaled(0), TIMES_0));
 }
 
 #[rattlefmt::skip]
@@ -347,15 +346,9 @@ const OTHER_LENGTHS: [Row<u32>; 2] = [
 
 #[test]
 fn natural_order(rt: HostRuntime) {
-    assert_eq!(rt; first_wrong_16(&Call::InOrder, TRANSFORMS_OF_16_BITS), None);
-    assert_eq!(rt; first_wrong_32(&Call::InOrder, TRANSFORMS_OF_32_BITS), None);
-    assert_eq!(rt; first_wrong_64(&Call::InOrder, TRANSFORMS), None);
-    assert_eq!(rt;
-        first_wrong_32(&Call::InOrder, &OTHER_LENGTHS[..1]),
-        Some(0)
-    );
-    assert_eq!(rt;
-        first_wrong_32(&Call::InOrder, &OTHER_LENGTHS[1..]),
-        Some(0)
-    );
+    assert_right(&rt, first_wrong_16(&Call::InOrder, TRANSFORMS_OF_16_BITS));
+    assert_right(&rt, first_wrong_32(&Call::InOrder, TRANSFORMS_OF_32_BITS));
+    assert_right(&rt, first_wrong_64(&Call::InOrder, TRANSFORMS));
+    assert!(rt; first_wrong_32(&Call::InOrder, &OTHER_LENGTHS[..1]) == Some(0));
+    assert!(rt; first_wrong_32(&Call::InOrder, &OTHER_LENGTHS[1..]) == Some(0));
 }

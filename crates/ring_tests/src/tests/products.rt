@@ -4,6 +4,7 @@ ghost use Rattle.std.specs.Prelude.{◌*◌, ◌<◌, ◌↔◌, IsTrue, All};
 ghost use Rattle.num_modular.specs.Factors.{IsFactor};
 
 use super::plans::{all_in_room, are_same, is_planned};
+use super::{assert_at, assert_right};
 use modular_prim::plain_word::PlainWord;
 use modular_word::path_word::PathWord;
 use num_modular::plans::{
@@ -159,11 +160,9 @@ const LISTS: &[(usize, usize, usize, usize, bool)] = &[
 
 #[test]
 fn lists_that_convolve(rt: HostRuntime) {
-    for &(length, factors, b, last, fits) in LISTS {
-        assert!(rt;
-            convolves(length, factors, b, last) == fits,
-            "{length} {factors} {b} {last}"
-        );
+    for row in LISTS {
+        let &(length, factors, b, last, fits) = row;
+        assert_at(&rt, convolves(length, factors, b, last) == fits, row);
     }
 }
 
@@ -179,7 +178,7 @@ const BLOCKS_OF_TWO: &[Row<u64>] = &[
 
 #[test]
 fn blocks_of_two(rt: HostRuntime) {
-    assert_eq!(rt; first_wrong_64(&Call::Multiply, BLOCKS_OF_TWO), None);
+    assert_right(&rt, first_wrong_64(&Call::Multiply, BLOCKS_OF_TWO));
 }
 
 #[rattlefmt::skip]
@@ -265,9 +264,9 @@ const PRODUCTS: &[Row<u64>] = &[
 
 #[test]
 fn products(rt: HostRuntime) {
-    assert_eq!(rt; first_wrong_16(&Call::Convolve, PRODUCTS_OF_16_BITS), None);
-    assert_eq!(rt; first_wrong_32(&Call::Convolve, PRODUCTS_OF_32_BITS), None);
-    assert_eq!(rt; first_wrong_64(&Call::Convolve, PRODUCTS), None);
+    assert_right(&rt, first_wrong_16(&Call::Convolve, PRODUCTS_OF_16_BITS));
+    assert_right(&rt, first_wrong_32(&Call::Convolve, PRODUCTS_OF_32_BITS));
+    assert_right(&rt, first_wrong_64(&Call::Convolve, PRODUCTS));
 }
 
 // Two blocks, which 2 divides modulo no even number.
@@ -289,5 +288,5 @@ fn refused_products(rt: HostRuntime) {
         &mut first,
         &mut second,
     );
-    assert_eq!(rt; found, Some(false));
+    assert!(rt; found == Some(false));
 }

@@ -1,5 +1,6 @@
 //! The same commands over each reducer.
 
+use super::assert_at;
 use super::commands::STOPPING;
 use super::runs::{Row, is_right, run_over};
 use num_modular::ring::{RingCommand, RunEnd};
@@ -24,25 +25,25 @@ fn commands<T: RingWord>(x: T, y: T, exp: T) -> [RingCommand<T>; 12] {
     ]
 }
 
-// The end of a run over three registers of value 0, and their residues after it.
-fn run_of_three<T: RingWord, R: Reducer<T>>(
-    reducer: &R,
+// The end of a run over three registers of value 0 by the reducer of m, and their residues after it.
+fn run_of_three<T: RingWord, R: Reducer<T> + Copy>(
+    m: T,
     commands: &[RingCommand<T>],
-) -> (Option<RunEnd>, [T; 3]) {
-    run_over(reducer, commands)
+) -> (Option<RunEnd>, [T; 3])
+    requires { R.admits (T.number m) }
+{
+    run_over(&R::new(&m), commands)
 }
 
 #[test]
 fn the_three_reducers_end_alike_with_equal_residues(rt: HostRuntime) {
     let commands = commands(201, 254, 77);
     for m in 1..=255u8 {
-        let want = run_of_three(&Vanilla::<u8>::new(&m), &commands);
-        let scaled = run_of_three(&PreMulInv2by1::<u8>::new(m), &commands);
-        let split = run_of_three(&Montgomery::<u8>::new(m), &commands);
-        assert!(rt;
-            want.0.is_some() && scaled == want && split == want,
-            "modulo {m}"
-        );
+        let want = run_of_three::<u8, Vanilla<u8>>(m, &commands);
+        let scaled = run_of_three::<u8, PreMulInv2by1<u8>>(m, &commands);
+        let split = run_of_three::<u8, Montgomery<u8>>(m, &commands);
+        let is_same = want.0.is_some() && scaled == want && split == want;
+        assert_at(&rt, is_same, &m);
     }
 }
 
@@ -58,13 +59,11 @@ fn they_end_alike_for_large_even_moduli(rt: HostRuntime) {
     );
     for &m in LARGE_EVEN {
         assert!(rt; m > 0);
-        let want = run_of_three(&Vanilla::<u64>::new(&m), &commands);
-        let scaled = run_of_three(&PreMulInv2by1::<u64>::new(m), &commands);
-        let split = run_of_three(&Montgomery::<u64>::new(m), &commands);
-        assert!(rt;
-            want.0.is_some() && scaled == want && split == want,
-            "modulo {m}"
-        );
+        let want = run_of_three::<u64, Vanilla<u64>>(m, &commands);
+        let scaled = run_of_three::<u64, PreMulInv2by1<u64>>(m, &commands);
+        let split = run_of_three::<u64, Montgomery<u64>>(m, &commands);
+        let is_same = want.0.is_some() && scaled == want && split == want;
+        assert_at(&rt, is_same, &m);
     }
 }
 
@@ -112,8 +111,11 @@ fn differences<R: Reducer<u8>>(reducer: &R, a: u8, b: u8) -> [u8; 2] {
     ]
 }
 
-// The residue of (a - b) * a.
-fn product_of_difference<T: RingWord, R: Reducer<T>>(reducer: &R, a: T, b: T) -> T {
+// The residue of (a - b) * a by the reducer of m.
+fn product_of_difference<T: RingWord, R: Reducer<T> + Copy>(m: T, a: T, b: T) -> T
+    requires { R.admits (T.number m) }
+{
+    let reducer = &R::new(&m);
     let f = reducer.transform(a);
     let g = reducer.transform(b);
     reducer.residue(reducer.mul_difference(&f, &g, &f))
@@ -192,9 +194,9 @@ fn each_call_of_a_reducer(rt: HostRuntime) {
 
 #[test]
 fn a_difference_times_a_factor(rt: HostRuntime) {
-    assert!(rt; product_of_difference(&PreMulInv2by1::<u8>::new(21), 5, 7) == 11);
-    assert!(rt; product_of_difference(&Montgomery::<u8>::new(21), 5, 7) == 11);
-    assert!(rt; product_of_difference(&Montgomery::<u8>::new(20), 5, 7) == 10);
-    assert!(rt; product_of_difference(&Montgomery::<u64>::new(u64::MAX), 5, 7) == u64::MAX - 10);
-    assert!(rt; product_of_difference(&Montgomery::<u64>::new(u64::MAX), 7, 5) == 14);
+    assert!(rt; product_of_difference::<u8, PreMulInv2by1<u8>>(21, 5, 7) == 11);
+    assert!(rt; product_of_difference::<u8, Montgomery<u8>>(21, 5, 7) == 11);
+    assert!(rt; product_of_difference::<u8, Montgomery<u8>>(20, 5, 7) == 10);
+    assert!(rt; product_of_difference::<u64, Montgomery<u64>>(u64::MAX, 5, 7) == u64::MAX - 10);
+    assert!(rt; product_of_difference::<u64, Montgomery<u64>>(u64::MAX, 7, 5) == 14);
 }

@@ -60,14 +60,29 @@ pub fn ends_with<T: RingWord, R: Reducer<T>, const N: usize>(
     run_over(reducer, commands) == (Some(end), residues)
 }
 
-/// Whether a run over registers of value 0 ends so, and leaves these residues and these forms.
-pub fn leaves<T: RingWord, R: Reducer<T>, const N: usize>(
-    reducer: &R,
+/// The same by the reducer of m.
+pub fn ends_modulo<T: RingWord, R: Reducer<T> + Copy, const N: usize>(
+    m: T,
+    commands: &[RingCommand<T>],
+    end: RunEnd,
+    residues: [T; N],
+) -> bool
+    requires { R.admits (T.number m) }
+{
+    ends_with(&R::new(&m), commands, end, residues)
+}
+
+/// Whether a run over registers of value 0, by the reducer of m, ends so, and leaves these residues and these forms.
+pub fn leaves<T: RingWord, R: Reducer<T> + Copy, const N: usize>(
+    m: T,
     commands: &[RingCommand<T>],
     end: RunEnd,
     residues: [T; N],
     forms: [T; N],
-) -> bool {
+) -> bool
+    requires { R.admits (T.number m) }
+{
+    let reducer = &R::new(&m);
     let mut left = [T::zero(); N];
     run_from_zeros(reducer, commands, &mut left) == Some(end)
         && left == forms
@@ -89,25 +104,7 @@ pub struct Row<'a, const N: usize> {
 pub fn is_right<const N: usize>(row: &Row<N>) -> bool {
     let m = row.m;
     m > 0
-        && leaves(
-            &Vanilla::<u8>::new(&m),
-            row.commands,
-            row.end,
-            row.residues,
-            row.residues,
-        )
-        && leaves(
-            &PreMulInv2by1::<u8>::new(m),
-            row.commands,
-            row.end,
-            row.residues,
-            row.scaled,
-        )
-        && leaves(
-            &Montgomery::<u8>::new(m),
-            row.commands,
-            row.end,
-            row.residues,
-            row.montgomery,
-        )
+        && leaves::<u8, Vanilla<u8>, N>(m, row.commands, row.end, row.residues, row.residues)
+        && leaves::<u8, PreMulInv2by1<u8>, N>(m, row.commands, row.end, row.residues, row.scaled)
+        && leaves::<u8, Montgomery<u8>, N>(m, row.commands, row.end, row.residues, row.montgomery)
 }

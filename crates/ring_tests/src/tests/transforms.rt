@@ -1,5 +1,6 @@
 //! Transforms and cyclic products over several reducers, known ones and beside their plain sums.
 
+use super::assert_at;
 use modular_transform::plain::{product_entry, suits, transform_entry};
 use num_modular::ring::{all_checked, convolve, ntt, ntt_counted, root_fits};
 use num_modular::word::RingWord;
@@ -62,9 +63,10 @@ const ROOTS: &[(u8, usize, bool)] = &[
 #[test]
 fn roots(rt: HostRuntime) {
     let r = Vanilla::<u8>::new(&21);
-    for &(g, n, fits) in ROOTS {
+    for row in ROOTS {
+        let &(g, n, fits) = row;
         let found = [root_fits(&r, &r.transform(g), n), suits(21, g as u64, n)];
-        assert!(rt; found == [fits; 2], "{g} for {n}");
+        assert_at(&rt, found == [fits; 2], row);
     }
 }
 
@@ -93,8 +95,11 @@ fn copied(list: &[u8]) -> [u8; 4] {
     room
 }
 
-// Whether the transform over a reducer is the row's.
-fn transforms<R: Reducer<u8>>(r: &R, row: &Transform) -> bool {
+// Whether the transform by the reducer of the modulus is the row's.
+fn transforms<R: Reducer<u8> + Copy>(m: u8, row: &Transform) -> bool
+    requires { R.admits m }
+{
+    let r = &R::new(&m);
     let mut room = copied(row.list);
     let xs = &mut room[..row.list.len().min(4)];
     transformed(r, xs, row.root) == Some(row.products) && are_forms(r, xs, row.want)
@@ -103,13 +108,12 @@ fn transforms<R: Reducer<u8>>(r: &R, row: &Transform) -> bool {
 #[test]
 fn known_transforms(rt: HostRuntime) {
     for row in TRANSFORMS {
-        assert!(rt; row.m > 0);
-        let found = [
-            transforms(&Vanilla::<u8>::new(&row.m), row),
-            transforms(&PreMulInv2by1::<u8>::new(row.m), row),
-            transforms(&Montgomery::<u8>::new(row.m), row),
-        ];
-        assert!(rt; found == [true; 3], "{found:?} modulo {}", row.m);
+        let m = row.m;
+        let is_right = m > 0
+            && transforms::<Vanilla<u8>>(m, row)
+            && transforms::<PreMulInv2by1<u8>>(m, row)
+            && transforms::<Montgomery<u8>>(m, row);
+        assert_at(&rt, is_right, &m);
     }
 }
 
@@ -132,8 +136,11 @@ const PRODUCTS: &[Product] = &[
     Product { m: 20, root: 19, lists: [&[7, 9], &[1, 0]], inverted: false, want: [&[7, 9], &[1, 0]] },
 ];
 
-// Whether the cyclic product over a reducer is the row's.
-fn multiplies<R: Reducer<u8>>(r: &R, row: &Product) -> bool {
+// Whether the cyclic product by the reducer of the modulus is the row's.
+fn multiplies<R: Reducer<u8> + Copy>(m: u8, row: &Product) -> bool
+    requires { R.admits m }
+{
+    let r = &R::new(&m);
     let (mut first, mut second) = (copied(row.lists[0]), copied(row.lists[1]));
     let xs = &mut first[..row.lists[0].len().min(4)];
     let ys = &mut second[..row.lists[1].len().min(4)];
@@ -145,13 +152,12 @@ fn multiplies<R: Reducer<u8>>(r: &R, row: &Product) -> bool {
 #[test]
 fn known_products(rt: HostRuntime) {
     for row in PRODUCTS {
-        assert!(rt; row.m > 0);
-        let found = [
-            multiplies(&Vanilla::<u8>::new(&row.m), row),
-            multiplies(&PreMulInv2by1::<u8>::new(row.m), row),
-            multiplies(&Montgomery::<u8>::new(row.m), row),
-        ];
-        assert!(rt; found == [true; 3], "{found:?} modulo {}", row.m);
+        let m = row.m;
+        let is_right = m > 0
+            && multiplies::<Vanilla<u8>>(m, row)
+            && multiplies::<PreMulInv2by1<u8>>(m, row)
+            && multiplies::<Montgomery<u8>>(m, row);
+        assert_at(&rt, is_right, &m);
     }
 }
 
@@ -305,6 +311,6 @@ fn plain_sums_around_a_strip(rt: HostRuntime) {
             are_sums(&montgomery, &lists, &sums),
             are_sums(&solinas, &lists, &sums),
         ];
-        assert!(rt; found == [true; 3], "{found:?}, {n}");
+        assert_at(&rt, found == [true; 3], &(n, found));
     }
 }

@@ -10,15 +10,13 @@ fn a_run_is_refused_where_a_condition_fails() -> Result<(), Fail> {
     let r = Vanilla::<u8>::new(&21);
     let mut regs = [0, 21, 0];
     let load = [RingCommand::Load { dst: 1, n: 5 }];
-    assert_eq!(checked_run(&r, &mut regs, &load), None);
-    assert_eq!(regs[1], 21);
+    assert!(checked_run(&r, &mut regs, &load) == None);
+    assert!(regs[1] == 21);
     regs[1] = 20;
-    assert_eq!(
-        checked_run(&r, &mut regs, &[RingCommand::Load { dst: 3, n: 1 }]),
-        None
-    );
-    assert_eq!(checked_run(&r, &mut regs, &load), Some(RunEnd::Done));
-    assert_eq!(regs[1], 5);
+    let above = [RingCommand::Load { dst: 3, n: 1 }];
+    assert!(checked_run(&r, &mut regs, &above) == None);
+    assert!(checked_run(&r, &mut regs, &load) == Some(RunEnd::Done));
+    assert!(regs[1] == 5);
     Ok(())
 }
 
@@ -40,11 +38,9 @@ fn words_of_two_widths_run_alike() -> Result<(), Fail> {
             RingCommand::Inv { dst: 1, a: 0 },
         ],
     );
-    assert_eq!(ends.0, RunEnd::NoInverse { at: 1 });
-    assert_eq!(ends.1, RunEnd::NoInverse { at: 1 });
-    assert_eq!(narrow[0], 7);
-    assert_eq!(wide[0], 7);
-    assert_eq!(residue_by_run(&Vanilla::<u64>::new(&21), 100), 16);
+    assert!(ends == (RunEnd::NoInverse { at: 1 }, RunEnd::NoInverse { at: 1 }));
+    assert!((narrow[0], wide[0]) == (7, 7));
+    assert!(residue_by_run(&Vanilla::<u64>::new(&21), 100) == 16);
     Ok(())
 }
 
@@ -59,6 +55,6 @@ fn a_list_that_needs_no_inverse_is_run_to_the_end() -> Result<(), Fail> {
             RingCommand::Mul { dst: 1, a: 0, b: 0 },
         ],
     );
-    assert_eq!((regs[0], regs[1]), (5, 4));
+    assert!((regs[0], regs[1]) == (5, 4));
     Ok(())
 }

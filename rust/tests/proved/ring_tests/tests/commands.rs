@@ -1,5 +1,6 @@
 //! Runs over the plain reducer of 21.
 
+use super::assert_at;
 use super::runs::{run_checked, take_residues};
 use num_modular::ring::RingCommand::{Add, Dbl, Div, Inv, Load, Mul, Neg, Pow, Sqr, Sub};
 use num_modular::ring::{RingCommand, RunEnd, all_checked, commands_fit};
@@ -64,8 +65,9 @@ const STOPPING_AT_DIV: [RingCommand<u8>; 4] = [
 
 #[test]
 fn the_table_of_runs() {
-    for row in RUNS {
-        assert!(is_right(row), "{:?} {:?}", row.start, row.commands);
+    let rt = crate::runtime::HostRuntime;
+    for i in 0..RUNS.len() {
+        assert_at(&rt, is_right(&RUNS[i]), &i);
     }
 }
 

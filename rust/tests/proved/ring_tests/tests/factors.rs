@@ -1,5 +1,6 @@
 //! Moduli that plans admit, quotients of factors, and products by them.
 
+use super::assert_right;
 use num_modular::modular_prim::plain_word::PlainWord;
 use num_modular::modular_word::path_word::PathWord;
 use num_modular::plans::{Factor, PlanEntry, PlannedModulus};
@@ -67,8 +68,9 @@ const OF_A_USIZE: &[Row<usize>] = &[
 
 #[test]
 fn quotients_and_products() {
-    assert_eq!(first_wrong(OF_16_BITS), None);
-    assert_eq!(first_wrong(OF_32_BITS), None);
-    assert_eq!(first_wrong(OF_64_BITS), None);
-    assert_eq!(first_wrong(OF_A_USIZE), None);
+    let rt = crate::runtime::HostRuntime;
+    assert_right(&rt, first_wrong(OF_16_BITS));
+    assert_right(&rt, first_wrong(OF_32_BITS));
+    assert_right(&rt, first_wrong(OF_64_BITS));
+    assert_right(&rt, first_wrong(OF_A_USIZE));
 }

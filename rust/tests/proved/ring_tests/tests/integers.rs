@@ -1,5 +1,6 @@
 //! Integers of a ring, and powers with their count.
 
+use super::assert_at;
 use num_modular::reduced::pow_counted;
 use num_modular::word::RingWord;
 use num_modular::{
@@ -116,8 +117,9 @@ fn count_of<R: Reducer<u64>>(reducer: &R, exp: u64) -> u32 {
 
 #[test]
 fn products_of_a_power() {
+    let rt = crate::runtime::HostRuntime;
     let reducer = Vanilla::<u64>::new(&97);
     for (exp, products) in [(0, 0), (1, 0), (2, 1), (3, 4), (4, 4), (255, 16)] {
-        assert!(count_of(&reducer, exp) == products, "the exponent {exp}");
+        assert_at(&rt, count_of(&reducer, exp) == products, &exp);
     }
 }

@@ -1,5 +1,6 @@
 //! Known lists of remainders, their joins, and transforms in natural order, by plans.
 
+use super::{assert_at, assert_right};
 use num_modular::modular_prim::plain_word::PlainWord;
 use num_modular::modular_reduced::reducer::Reducer;
 use num_modular::modular_reduced::vanilla::Vanilla;
@@ -154,11 +155,10 @@ const LISTS: &[(usize, usize, usize, usize, bool)] = &[
 
 #[test]
 fn lists_that_split() {
-    for &(length, factors, b, last, fits) in LISTS {
-        assert!(
-            splits(length, factors, b, last) == fits,
-            "{length} {factors} {b} {last}"
-        );
+    let rt = crate::runtime::HostRuntime;
+    for row in LISTS {
+        let &(length, factors, b, last, fits) = row;
+        assert_at(&rt, splits(length, factors, b, last) == fits, row);
     }
 }
 
@@ -206,9 +206,10 @@ const REMAINDERS: &[Row<u64>] = &[
 
 #[test]
 fn remainders() {
-    assert_eq!(first_wrong_16(&Call::Split, REMAINDERS_OF_16_BITS), None);
-    assert_eq!(first_wrong_32(&Call::Split, REMAINDERS_OF_32_BITS), None);
-    assert_eq!(first_wrong_64(&Call::Split, REMAINDERS), None);
+    let rt = crate::runtime::HostRuntime;
+    assert_right(&rt, first_wrong_16(&Call::Split, REMAINDERS_OF_16_BITS));
+    assert_right(&rt, first_wrong_32(&Call::Split, REMAINDERS_OF_32_BITS));
+    assert_right(&rt, first_wrong_64(&Call::Split, REMAINDERS));
 }
 
 const JOINS_OF_16_BITS: &[Row<u16>] = &[
@@ -267,9 +268,10 @@ const JOINS: &[Row<u64>] = &[
 
 #[test]
 fn joins() {
-    assert_eq!(first_wrong_16(&Call::Join, JOINS_OF_16_BITS), None);
-    assert_eq!(first_wrong_32(&Call::Join, JOINS_OF_32_BITS), None);
-    assert_eq!(first_wrong_64(&Call::Join, JOINS), None);
+    let rt = crate::runtime::HostRuntime;
+    assert_right(&rt, first_wrong_16(&Call::Join, JOINS_OF_16_BITS));
+    assert_right(&rt, first_wrong_32(&Call::Join, JOINS_OF_32_BITS));
+    assert_right(&rt, first_wrong_64(&Call::Join, JOINS));
 }
 
 const TIMES_15: &[Row<u64>] = &[
@@ -282,8 +284,9 @@ const TIMES_0: &[Row<u64>] = &[
 
 #[test]
 fn scaled() {
-    assert_eq!(first_wrong_64(&Call::Scaled(15), TIMES_15), None);
-    assert_eq!(first_wrong_64(&Call::Scaled(0), TIMES_0), None);
+    let rt = crate::runtime::HostRuntime;
+    assert_right(&rt, first_wrong_64(&Call::Scaled(15), TIMES_15));
+    assert_right(&rt, first_wrong_64(&Call::Scaled(0), TIMES_0));
 }
 
 const TRANSFORMS_OF_16_BITS: &[Row<u16>] = &[
@@ -313,15 +316,10 @@ const OTHER_LENGTHS: [Row<u32>; 2] = [
 
 #[test]
 fn natural_order() {
-    assert_eq!(first_wrong_16(&Call::InOrder, TRANSFORMS_OF_16_BITS), None);
-    assert_eq!(first_wrong_32(&Call::InOrder, TRANSFORMS_OF_32_BITS), None);
-    assert_eq!(first_wrong_64(&Call::InOrder, TRANSFORMS), None);
-    assert_eq!(
-        first_wrong_32(&Call::InOrder, &OTHER_LENGTHS[..1]),
-        Some(0)
-    );
-    assert_eq!(
-        first_wrong_32(&Call::InOrder, &OTHER_LENGTHS[1..]),
-        Some(0)
-    );
+    let rt = crate::runtime::HostRuntime;
+    assert_right(&rt, first_wrong_16(&Call::InOrder, TRANSFORMS_OF_16_BITS));
+    assert_right(&rt, first_wrong_32(&Call::InOrder, TRANSFORMS_OF_32_BITS));
+    assert_right(&rt, first_wrong_64(&Call::InOrder, TRANSFORMS));
+    assert!(first_wrong_32(&Call::InOrder, &OTHER_LENGTHS[..1]) == Some(0));
+    assert!(first_wrong_32(&Call::InOrder, &OTHER_LENGTHS[1..]) == Some(0));
 }

@@ -1,6 +1,7 @@
 //! Known products of polynomials, by plans.
 
 use super::plans::{all_in_room, are_same, is_planned};
+use super::{assert_at, assert_right};
 use num_modular::modular_prim::plain_word::PlainWord;
 use num_modular::modular_word::path_word::PathWord;
 use num_modular::plans::{
@@ -143,11 +144,10 @@ const LISTS: &[(usize, usize, usize, usize, bool)] = &[
 
 #[test]
 fn lists_that_convolve() {
-    for &(length, factors, b, last, fits) in LISTS {
-        assert!(
-            convolves(length, factors, b, last) == fits,
-            "{length} {factors} {b} {last}"
-        );
+    let rt = crate::runtime::HostRuntime;
+    for row in LISTS {
+        let &(length, factors, b, last, fits) = row;
+        assert_at(&rt, convolves(length, factors, b, last) == fits, row);
     }
 }
 
@@ -162,7 +162,8 @@ const BLOCKS_OF_TWO: &[Row<u64>] = &[
 
 #[test]
 fn blocks_of_two() {
-    assert_eq!(first_wrong_64(&Call::Multiply, BLOCKS_OF_TWO), None);
+    let rt = crate::runtime::HostRuntime;
+    assert_right(&rt, first_wrong_64(&Call::Multiply, BLOCKS_OF_TWO));
 }
 
 const PRODUCTS_OF_16_BITS: &[Row<u16>] = &[
@@ -245,9 +246,10 @@ const PRODUCTS: &[Row<u64>] = &[
 
 #[test]
 fn products() {
-    assert_eq!(first_wrong_16(&Call::Convolve, PRODUCTS_OF_16_BITS), None);
-    assert_eq!(first_wrong_32(&Call::Convolve, PRODUCTS_OF_32_BITS), None);
-    assert_eq!(first_wrong_64(&Call::Convolve, PRODUCTS), None);
+    let rt = crate::runtime::HostRuntime;
+    assert_right(&rt, first_wrong_16(&Call::Convolve, PRODUCTS_OF_16_BITS));
+    assert_right(&rt, first_wrong_32(&Call::Convolve, PRODUCTS_OF_32_BITS));
+    assert_right(&rt, first_wrong_64(&Call::Convolve, PRODUCTS));
 }
 
 // Two blocks, which 2 divides modulo no even number.
@@ -265,5 +267,5 @@ fn refused_products() {
         &mut first,
         &mut second,
     );
-    assert_eq!(found, Some(false));
+    assert!(found == Some(false));
 }

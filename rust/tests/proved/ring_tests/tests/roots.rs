@@ -1,5 +1,6 @@
 //! Roots that are found.
 
+use super::assert_right;
 use num_modular::modular_prim::plain_word::PlainWord;
 use num_modular::modular_reduced::reducer::Reducer;
 use num_modular::modular_reduced::vanilla::Vanilla;
@@ -34,33 +35,36 @@ const OF_KNOWN_PRIMES: &[(u64, usize, Option<u64>)] = &[
 
 #[test]
 fn roots_of_known_primes() {
-    assert_eq!(first_wrong(OF_KNOWN_PRIMES), None);
-    assert_eq!(first_wrong(&[(8380417_u32, 512, Some(6757063))]), None);
-    assert_eq!(first_wrong(&[(3329_u16, 256, Some(3061))]), None);
-    assert_eq!(
+    let rt = crate::runtime::HostRuntime;
+    assert_right(&rt, first_wrong(OF_KNOWN_PRIMES));
+    assert_right(&rt, first_wrong(&[(8380417_u32, 512, Some(6757063))]));
+    assert_right(&rt, first_wrong(&[(3329_u16, 256, Some(3061))]));
+    assert_right(
+        &rt,
         first_wrong(&[(1152920933376196609_usize, 1 << 32, Some(258783327117340409))]),
-        None
     );
-    assert_eq!(
+    assert_right(
+        &rt,
         first_wrong(&[(17_u8, 16, Some(3)), (251_u8, 2, Some(250))]),
-        None
     );
 }
 
 #[test]
 fn roots_of_other_moduli() {
-    assert_eq!(
+    let rt = crate::runtime::HostRuntime;
+    assert_right(
+        &rt,
         first_wrong(&[(1_u8, 1, Some(0)), (15_u8, 2, Some(14))]),
-        None
     );
-    assert_eq!(first_wrong(&[(1_u64, 2, Some(0))]), None);
-    assert_eq!(first_wrong(&[(20_u32, 2, Some(19))]), None);
-    assert_eq!(first_wrong(&[(85_u16, 4, Some(13))]), None);
+    assert_right(&rt, first_wrong(&[(1_u64, 2, Some(0))]));
+    assert_right(&rt, first_wrong(&[(20_u32, 2, Some(19))]));
+    assert_right(&rt, first_wrong(&[(85_u16, 4, Some(13))]));
 }
 
 #[test]
 fn no_roots() {
-    assert_eq!(first_wrong(&[(7_u8, 4, None)]), None);
-    assert_eq!(first_wrong(&[(13_u32, 3, None)]), None);
-    assert_eq!(first_wrong(&[(17_u64, 32, None), (17_u64, 0, None)]), None);
+    let rt = crate::runtime::HostRuntime;
+    assert_right(&rt, first_wrong(&[(7_u8, 4, None)]));
+    assert_right(&rt, first_wrong(&[(13_u32, 3, None)]));
+    assert_right(&rt, first_wrong(&[(17_u64, 32, None), (17_u64, 0, None)]));
 }

@@ -1,5 +1,6 @@
 //! Transforms and cyclic products over several reducers, known ones and beside their plain sums.
 
+use super::assert_at;
 use num_modular::modular_transform::plain::{product_entry, suits, transform_entry};
 use num_modular::ring::{all_checked, convolve, ntt, ntt_counted, root_fits};
 use num_modular::word::RingWord;
@@ -61,10 +62,12 @@ const ROOTS: &[(u8, usize, bool)] = &[
 
 #[test]
 fn roots() {
+    let rt = crate::runtime::HostRuntime;
     let r = Vanilla::<u8>::new(&21);
-    for &(g, n, fits) in ROOTS {
+    for row in ROOTS {
+        let &(g, n, fits) = row;
         let found = [root_fits(&r, &r.transform(g), n), suits(21, g as u64, n)];
-        assert!(found == [fits; 2], "{g} for {n}");
+        assert_at(&rt, found == [fits; 2], row);
     }
 }
 
@@ -92,8 +95,9 @@ fn copied(list: &[u8]) -> [u8; 4] {
     room
 }
 
-// Whether the transform over a reducer is the row's.
-fn transforms<R: Reducer<u8>>(r: &R, row: &Transform) -> bool {
+// Whether the transform by the reducer of the modulus is the row's.
+fn transforms<R: Reducer<u8> + Copy>(m: u8, row: &Transform) -> bool {
+    let r = &R::new(&m);
     let mut room = copied(row.list);
     let xs = &mut room[..row.list.len().min(4)];
     transformed(r, xs, row.root) == Some(row.products) && are_forms(r, xs, row.want)
@@ -101,14 +105,14 @@ fn transforms<R: Reducer<u8>>(r: &R, row: &Transform) -> bool {
 
 #[test]
 fn known_transforms() {
+    let rt = crate::runtime::HostRuntime;
     for row in TRANSFORMS {
-        assert!(row.m > 0);
-        let found = [
-            transforms(&Vanilla::<u8>::new(&row.m), row),
-            transforms(&PreMulInv2by1::<u8>::new(row.m), row),
-            transforms(&Montgomery::<u8>::new(row.m), row),
-        ];
-        assert!(found == [true; 3], "{found:?} modulo {}", row.m);
+        let m = row.m;
+        let is_right = m > 0
+            && transforms::<Vanilla<u8>>(m, row)
+            && transforms::<PreMulInv2by1<u8>>(m, row)
+            && transforms::<Montgomery<u8>>(m, row);
+        assert_at(&rt, is_right, &m);
     }
 }
 
@@ -130,8 +134,9 @@ const PRODUCTS: &[Product] = &[
     Product { m: 20, root: 19, lists: [&[7, 9], &[1, 0]], inverted: false, want: [&[7, 9], &[1, 0]] },
 ];
 
-// Whether the cyclic product over a reducer is the row's.
-fn multiplies<R: Reducer<u8>>(r: &R, row: &Product) -> bool {
+// Whether the cyclic product by the reducer of the modulus is the row's.
+fn multiplies<R: Reducer<u8> + Copy>(m: u8, row: &Product) -> bool {
+    let r = &R::new(&m);
     let (mut first, mut second) = (copied(row.lists[0]), copied(row.lists[1]));
     let xs = &mut first[..row.lists[0].len().min(4)];
     let ys = &mut second[..row.lists[1].len().min(4)];
@@ -142,14 +147,14 @@ fn multiplies<R: Reducer<u8>>(r: &R, row: &Product) -> bool {
 
 #[test]
 fn known_products() {
+    let rt = crate::runtime::HostRuntime;
     for row in PRODUCTS {
-        assert!(row.m > 0);
-        let found = [
-            multiplies(&Vanilla::<u8>::new(&row.m), row),
-            multiplies(&PreMulInv2by1::<u8>::new(row.m), row),
-            multiplies(&Montgomery::<u8>::new(row.m), row),
-        ];
-        assert!(found == [true; 3], "{found:?} modulo {}", row.m);
+        let m = row.m;
+        let is_right = m > 0
+            && multiplies::<Vanilla<u8>>(m, row)
+            && multiplies::<PreMulInv2by1<u8>>(m, row)
+            && multiplies::<Montgomery<u8>>(m, row);
+        assert_at(&rt, is_right, &m);
     }
 }
 
@@ -276,6 +281,7 @@ const LENGTHS: &[usize] = &[1, 2, 16, 32, 64, 128, 256];
 
 #[test]
 fn plain_sums_around_a_strip() {
+    let rt = crate::runtime::HostRuntime;
     let plain = Vanilla::<u64>::new(&MODULUS);
     let montgomery = Montgomery::<u64>::new(MODULUS);
     let solinas = FixedTrinomialSolinas64::<64, 32, 1>::new(&MODULUS);
@@ -301,6 +307,6 @@ fn plain_sums_around_a_strip() {
             are_sums(&montgomery, &lists, &sums),
             are_sums(&solinas, &lists, &sums),
         ];
-        assert!(found == [true; 3], "{found:?}, {n}");
+        assert_at(&rt, found == [true; 3], &(n, found));
     }
 }
