@@ -18,7 +18,15 @@ use modular_reduced::vanilla::Vanilla;
 use modular_word::ring_word::RingWord;
 use std::test::Fail;
 
-// n modulo 21
+// n modulo m.
+fn integer<T: RingWord, R: Reducer<T> + Copy>(n: T, m: T) -> ReducedInt<T, R>
+    requires { R.admits (T.number m) }
+    ensures { modulus_of result ≡ T.number m }
+{
+    ReducedInt::<T, R>::new(n, &m)
+}
+
+// n modulo 21.
 fn ring(n: u8) -> VanillaInt<u8>
     ensures { IsReduced 21 (n % 21) result }
 {
@@ -26,12 +34,10 @@ fn ring(n: u8) -> VanillaInt<u8>
 }
 
 // The residues of the sums of two integers, for each kind of operands, and those after each of two sums in place.
-fn sums_of_two<T: RingWord, R: Reducer<T> + Copy>(
-    a: ReducedInt<T, R>,
-    b: ReducedInt<T, R>,
-) -> ([T; 4], [T; 2])
-    requires { modulus_of a ≡ modulus_of b }
+fn sums_of_two<T: RingWord, R: Reducer<T> + Copy>(m: T, x: T, y: T) -> ([T; 4], [T; 2])
+    requires { R.admits (T.number m) }
 {
+    let (a, b) = (integer::<T, R>(x, m), integer::<T, R>(y, m));
     let mut z = a;
     z += b;
     let once = z.residue();
@@ -46,7 +52,10 @@ fn sums_of_two<T: RingWord, R: Reducer<T> + Copy>(
 }
 
 // The residues of the sums of an integer and a word.
-fn sums_with_a_word<T: RingWord, R: Reducer<T> + Copy>(a: ReducedInt<T, R>, n: T) -> [T; 4] {
+fn sums_with_a_word<T: RingWord, R: Reducer<T> + Copy>(m: T, x: T, n: T) -> [T; 4]
+    requires { R.admits (T.number m) }
+{
+    let a = integer::<T, R>(x, m);
     [
         (a + n).residue(),
         (a + &n).residue(),
@@ -56,36 +65,30 @@ fn sums_with_a_word<T: RingWord, R: Reducer<T> + Copy>(a: ReducedInt<T, R>, n: T
 }
 
 // The residue after a sum with each of two words, in place.
-fn sums_with_words_in_place<T: RingWord, R: Reducer<T> + Copy>(
-    a: ReducedInt<T, R>,
-    m: T,
-    n: T,
-) -> [T; 2] {
-    let mut z = a;
-    z += m;
+fn sums_with_words_in_place<T: RingWord, R: Reducer<T> + Copy>(m: T, x: T, words: [T; 2]) -> [T; 2]
+    requires { R.admits (T.number m) }
+{
+    let [first, second] = words;
+    let mut z = integer::<T, R>(x, m);
+    z += first;
     let once = z.residue();
-    z += &n;
+    z += &second;
     [once, z.residue()]
 }
 
 #[test]
 fn sums(rt: HostRuntime) {
-    let found = (
-        sums_of_two(ring(20), ring(5)),
-        sums_with_a_word(ring(20), 5),
-        sums_with_words_in_place(ring(9), 255, 5),
-    );
-    assert!(rt; found == (([4; 4], [4, 9]), [4; 4], [12, 17]));
+    assert!(rt; sums_of_two::<u8, Vanilla<u8>>(21, 20, 5) == ([4; 4], [4, 9]));
+    assert!(rt; sums_with_a_word::<u8, Vanilla<u8>>(21, 20, 5) == [4; 4]);
+    assert!(rt; sums_with_words_in_place::<u8, Vanilla<u8>>(21, 9, [255, 5]) == [12, 17]);
     assert!(rt; sum_modulo_21() == 4);
 }
 
 // The residues of the differences of two integers, for each kind of operands, and those after each of two in place.
-fn differences_of_two<T: RingWord, R: Reducer<T> + Copy>(
-    a: ReducedInt<T, R>,
-    b: ReducedInt<T, R>,
-) -> ([T; 4], [T; 2])
-    requires { modulus_of a ≡ modulus_of b }
+fn differences_of_two<T: RingWord, R: Reducer<T> + Copy>(m: T, x: T, y: T) -> ([T; 4], [T; 2])
+    requires { R.admits (T.number m) }
 {
+    let (a, b) = (integer::<T, R>(x, m), integer::<T, R>(y, m));
     let mut z = a;
     z -= b;
     let once = z.residue();
@@ -100,7 +103,10 @@ fn differences_of_two<T: RingWord, R: Reducer<T> + Copy>(
 }
 
 // The residues of the differences of an integer and a word.
-fn differences_with_a_word<T: RingWord, R: Reducer<T> + Copy>(a: ReducedInt<T, R>, n: T) -> [T; 4] {
+fn differences_with_a_word<T: RingWord, R: Reducer<T> + Copy>(m: T, x: T, n: T) -> [T; 4]
+    requires { R.admits (T.number m) }
+{
+    let a = integer::<T, R>(x, m);
     [
         (a - n).residue(),
         (a - &n).residue(),
@@ -111,36 +117,34 @@ fn differences_with_a_word<T: RingWord, R: Reducer<T> + Copy>(a: ReducedInt<T, R
 
 // The residue after a difference with each of two words, in place.
 fn differences_with_words_in_place<T: RingWord, R: Reducer<T> + Copy>(
-    a: ReducedInt<T, R>,
     m: T,
-    n: T,
-) -> [T; 2] {
-    let mut z = a;
-    z -= m;
+    x: T,
+    words: [T; 2],
+) -> [T; 2]
+    requires { R.admits (T.number m) }
+{
+    let [first, second] = words;
+    let mut z = integer::<T, R>(x, m);
+    z -= first;
     let once = z.residue();
-    z -= &n;
+    z -= &second;
     [once, z.residue()]
 }
 
 #[test]
 fn differences(rt: HostRuntime) {
-    let found = (
-        differences_of_two(ring(3), ring(5)),
-        differences_with_a_word(ring(3), 5),
-        differences_with_words_in_place(ring(14), 255, 5),
-    );
-    assert!(rt; found == (([19; 4], [19, 14]), [19; 4], [11, 6]));
-    assert!(rt; differences_with_a_word(ring(5), 255) == [2; 4]);
+    assert!(rt; differences_of_two::<u8, Vanilla<u8>>(21, 3, 5) == ([19; 4], [19, 14]));
+    assert!(rt; differences_with_a_word::<u8, Vanilla<u8>>(21, 3, 5) == [19; 4]);
+    assert!(rt; differences_with_words_in_place::<u8, Vanilla<u8>>(21, 14, [255, 5]) == [11, 6]);
+    assert!(rt; differences_with_a_word::<u8, Vanilla<u8>>(21, 5, 255) == [2; 4]);
     assert!(rt; difference_modulo_21() == 2);
 }
 
 // The residues of the products of two integers, for each kind of operands, and those after each of two in place.
-fn products_of_two<T: RingWord, R: Reducer<T> + Copy>(
-    a: ReducedInt<T, R>,
-    b: ReducedInt<T, R>,
-) -> ([T; 4], [T; 2])
-    requires { modulus_of a ≡ modulus_of b }
+fn products_of_two<T: RingWord, R: Reducer<T> + Copy>(m: T, x: T, y: T) -> ([T; 4], [T; 2])
+    requires { R.admits (T.number m) }
 {
+    let (a, b) = (integer::<T, R>(x, m), integer::<T, R>(y, m));
     let mut z = a;
     z *= b;
     let once = z.residue();
@@ -155,7 +159,10 @@ fn products_of_two<T: RingWord, R: Reducer<T> + Copy>(
 }
 
 // The residues of the products of an integer and a word.
-fn products_with_a_word<T: RingWord, R: Reducer<T> + Copy>(a: ReducedInt<T, R>, n: T) -> [T; 4] {
+fn products_with_a_word<T: RingWord, R: Reducer<T> + Copy>(m: T, x: T, n: T) -> [T; 4]
+    requires { R.admits (T.number m) }
+{
+    let a = integer::<T, R>(x, m);
     [
         (a * n).residue(),
         (a * &n).residue(),
@@ -166,27 +173,26 @@ fn products_with_a_word<T: RingWord, R: Reducer<T> + Copy>(a: ReducedInt<T, R>, 
 
 // The residue after a product with each of two words, in place.
 fn products_with_words_in_place<T: RingWord, R: Reducer<T> + Copy>(
-    a: ReducedInt<T, R>,
     m: T,
-    n: T,
-) -> [T; 2] {
-    let mut z = a;
-    z *= m;
+    x: T,
+    words: [T; 2],
+) -> [T; 2]
+    requires { R.admits (T.number m) }
+{
+    let [first, second] = words;
+    let mut z = integer::<T, R>(x, m);
+    z *= first;
     let once = z.residue();
-    z *= &n;
+    z *= &second;
     [once, z.residue()]
 }
 
 #[test]
 fn products(rt: HostRuntime) {
-    let found = (
-        products_of_two(ring(10), ring(5)),
-        products_with_a_word(ring(10), 5),
-        products_with_words_in_place(ring(19), 255, 5),
-    );
-    assert!(rt; found == (([8; 4], [8, 19]), [8; 4], [15, 12]));
-    let twelve = VanillaInt::<u8>::new(12, &5);
-    assert!(rt; products_with_a_word(twelve, 13) == [1; 4]);
+    assert!(rt; products_of_two::<u8, Vanilla<u8>>(21, 10, 5) == ([8; 4], [8, 19]));
+    assert!(rt; products_with_a_word::<u8, Vanilla<u8>>(21, 10, 5) == [8; 4]);
+    assert!(rt; products_with_words_in_place::<u8, Vanilla<u8>>(21, 19, [255, 5]) == [15, 12]);
+    assert!(rt; products_with_a_word::<u8, Vanilla<u8>>(5, 12, 13) == [1; 4]);
 }
 
 // The residues of the quotients of two integers, for each kind of operands.
@@ -204,7 +210,10 @@ fn quotients_of_two<T: RingWord, R: Reducer<T> + Copy>(
     ]
 }
 
-fn negatives<T: RingWord, R: Reducer<T> + Copy>(a: ReducedInt<T, R>) -> [T; 2] {
+fn negatives<T: RingWord, R: Reducer<T> + Copy>(m: T, x: T) -> [T; 2]
+    requires { R.admits (T.number m) }
+{
+    let a = integer::<T, R>(x, m);
     [(-a).residue(), (-&a).residue()]
 }
 
@@ -218,7 +227,7 @@ fn residue_if_any<T: RingWord, R: Reducer<T> + Copy>(a: Option<ReducedInt<T, R>>
 
 #[test]
 fn negatives_and_quotients(rt: HostRuntime) {
-    assert!(rt; negatives(ring(10)) == [11, 11]);
+    assert!(rt; negatives::<u8, Vanilla<u8>>(21, 10) == [11, 11]);
     assert!(rt; quotients_of_two(ring(10), five_modulo_21()) == [2; 4]);
     assert!(rt; quotient_modulo_21() == 2);
 }
@@ -236,7 +245,10 @@ fn inverses_and_quotients_if_any(rt: HostRuntime) {
 }
 
 // The modulus, the residue and the form of an integer, and the residues of its double and its square.
-fn parts<T: RingWord, R: Reducer<T> + Copy>(a: ReducedInt<T, R>) -> [T; 5] {
+fn parts<T: RingWord, R: Reducer<T> + Copy>(m: T, x: T) -> [T; 5]
+    requires { R.admits (T.number m) }
+{
+    let a = integer::<T, R>(x, m);
     [
         a.modulus(),
         a.residue(),
@@ -246,22 +258,29 @@ fn parts<T: RingWord, R: Reducer<T> + Copy>(a: ReducedInt<T, R>) -> [T; 5] {
     ]
 }
 
-fn power<T: RingWord, R: Reducer<T> + Copy>(a: ReducedInt<T, R>, exp: T) -> T {
-    a.pow(&exp).residue()
+fn power<T: RingWord, R: Reducer<T> + Copy>(m: T, x: T, exp: T) -> T
+    requires { R.admits (T.number m) }
+{
+    integer::<T, R>(x, m).pow(&exp).residue()
+}
+
+// The residue of y modulo the modulus of an integer x, and whether each of the two is 0.
+fn converted<T: RingWord, R: Reducer<T> + Copy>(m: T, x: T, y: T) -> (T, bool, bool)
+    requires { R.admits (T.number m) }
+{
+    let a = integer::<T, R>(x, m);
+    let b = a.convert(y);
+    (b.residue(), a.is_zero(), b.is_zero())
 }
 
 #[test]
 fn methods(rt: HostRuntime) {
-    assert!(rt; parts(ring(255)) == [21, 3, 3, 6, 9]);
-    let powers = [
-        power(ring(255), 0),
-        power(ring(255), 5),
-        power(VanillaInt::<u8>::new(0, &1), 0),
-    ];
-    assert!(rt; powers == [1, 12, 0]);
-    let a = ring(255);
-    assert!(rt; a.convert(255).residue() == 3);
-    assert!(rt; a.convert(21).is_zero() && !a.is_zero());
+    assert!(rt; parts::<u8, Vanilla<u8>>(21, 255) == [21, 3, 3, 6, 9]);
+    assert!(rt; power::<u8, Vanilla<u8>>(21, 255, 0) == 1);
+    assert!(rt; power::<u8, Vanilla<u8>>(21, 255, 5) == 12);
+    assert!(rt; power::<u8, Vanilla<u8>>(1, 0, 0) == 0);
+    assert!(rt; converted::<u8, Vanilla<u8>>(21, 255, 255).0 == 3);
+    assert!(rt; converted::<u8, Vanilla<u8>>(21, 255, 21) == (0, false, true));
 }
 
 #[test]
@@ -286,16 +305,10 @@ fn are_equivalent<I: ModularInteger>(all: &[I]) -> bool {
     true
 }
 
-// n modulo m.
-fn integer(n: u8, m: u8) -> VanillaInt<u8>
-    requires { 1 ≤ m }
-{
-    VanillaInt::<u8>::new(n, &m)
-}
-
 #[test]
 fn equality(rt: HostRuntime) {
-    let (three, seven, other) = (integer(3, 7), integer(10, 7), integer(3, 11));
+    let (three, other) = (VanillaInt::<u8>::new(3, &7), VanillaInt::<u8>::new(3, &11));
+    let seven = VanillaInt::<u8>::new(10, &7);
     assert!(rt; are_equal(&seven, &three));
     assert!(rt; !are_equal(&three, &other));
     assert!(rt; are_equivalent(&[three, seven, other]));
@@ -309,7 +322,7 @@ fn polynomials(rt: HostRuntime) {
 
 #[test]
 fn the_polynomial_of_no_coefficients(rt: HostRuntime) {
-    assert!(rt; horner(&[], integer(7, 21)).residue() == 0);
+    assert!(rt; horner(&[], ring(7)).residue() == 0);
 }
 
 // The residue of a + a, and that of x + y by the integers of its ring.

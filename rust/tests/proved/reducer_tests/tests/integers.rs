@@ -15,16 +15,19 @@ use num_modular::modular_reduced::vanilla::Vanilla;
 use num_modular::modular_word::ring_word::RingWord;
 use crate::runtime::Fail;
 
-// n modulo 21
+// n modulo m.
+fn integer<T: RingWord, R: Reducer<T> + Copy>(n: T, m: T) -> ReducedInt<T, R> {
+    ReducedInt::<T, R>::new(n, &m)
+}
+
+// n modulo 21.
 fn ring(n: u8) -> VanillaInt<u8> {
     VanillaInt::<u8>::new(n, &21)
 }
 
 // The residues of the sums of two integers, for each kind of operands, and those after each of two sums in place.
-fn sums_of_two<T: RingWord, R: Reducer<T> + Copy>(
-    a: ReducedInt<T, R>,
-    b: ReducedInt<T, R>,
-) -> ([T; 4], [T; 2]) {
+fn sums_of_two<T: RingWord, R: Reducer<T> + Copy>(m: T, x: T, y: T) -> ([T; 4], [T; 2]) {
+    let (a, b) = (integer::<T, R>(x, m), integer::<T, R>(y, m));
     let mut z = a;
     z += b;
     let once = z.residue();
@@ -39,7 +42,8 @@ fn sums_of_two<T: RingWord, R: Reducer<T> + Copy>(
 }
 
 // The residues of the sums of an integer and a word.
-fn sums_with_a_word<T: RingWord, R: Reducer<T> + Copy>(a: ReducedInt<T, R>, n: T) -> [T; 4] {
+fn sums_with_a_word<T: RingWord, R: Reducer<T> + Copy>(m: T, x: T, n: T) -> [T; 4] {
+    let a = integer::<T, R>(x, m);
     [
         (a + n).residue(),
         (a + &n).residue(),
@@ -49,34 +53,26 @@ fn sums_with_a_word<T: RingWord, R: Reducer<T> + Copy>(a: ReducedInt<T, R>, n: T
 }
 
 // The residue after a sum with each of two words, in place.
-fn sums_with_words_in_place<T: RingWord, R: Reducer<T> + Copy>(
-    a: ReducedInt<T, R>,
-    m: T,
-    n: T,
-) -> [T; 2] {
-    let mut z = a;
-    z += m;
+fn sums_with_words_in_place<T: RingWord, R: Reducer<T> + Copy>(m: T, x: T, words: [T; 2]) -> [T; 2] {
+    let [first, second] = words;
+    let mut z = integer::<T, R>(x, m);
+    z += first;
     let once = z.residue();
-    z += &n;
+    z += &second;
     [once, z.residue()]
 }
 
 #[test]
 fn sums() {
-    let found = (
-        sums_of_two(ring(20), ring(5)),
-        sums_with_a_word(ring(20), 5),
-        sums_with_words_in_place(ring(9), 255, 5),
-    );
-    assert!(found == (([4; 4], [4, 9]), [4; 4], [12, 17]));
+    assert!(sums_of_two::<u8, Vanilla<u8>>(21, 20, 5) == ([4; 4], [4, 9]));
+    assert!(sums_with_a_word::<u8, Vanilla<u8>>(21, 20, 5) == [4; 4]);
+    assert!(sums_with_words_in_place::<u8, Vanilla<u8>>(21, 9, [255, 5]) == [12, 17]);
     assert!(sum_modulo_21() == 4);
 }
 
 // The residues of the differences of two integers, for each kind of operands, and those after each of two in place.
-fn differences_of_two<T: RingWord, R: Reducer<T> + Copy>(
-    a: ReducedInt<T, R>,
-    b: ReducedInt<T, R>,
-) -> ([T; 4], [T; 2]) {
+fn differences_of_two<T: RingWord, R: Reducer<T> + Copy>(m: T, x: T, y: T) -> ([T; 4], [T; 2]) {
+    let (a, b) = (integer::<T, R>(x, m), integer::<T, R>(y, m));
     let mut z = a;
     z -= b;
     let once = z.residue();
@@ -91,7 +87,8 @@ fn differences_of_two<T: RingWord, R: Reducer<T> + Copy>(
 }
 
 // The residues of the differences of an integer and a word.
-fn differences_with_a_word<T: RingWord, R: Reducer<T> + Copy>(a: ReducedInt<T, R>, n: T) -> [T; 4] {
+fn differences_with_a_word<T: RingWord, R: Reducer<T> + Copy>(m: T, x: T, n: T) -> [T; 4] {
+    let a = integer::<T, R>(x, m);
     [
         (a - n).residue(),
         (a - &n).residue(),
@@ -102,34 +99,30 @@ fn differences_with_a_word<T: RingWord, R: Reducer<T> + Copy>(a: ReducedInt<T, R
 
 // The residue after a difference with each of two words, in place.
 fn differences_with_words_in_place<T: RingWord, R: Reducer<T> + Copy>(
-    a: ReducedInt<T, R>,
     m: T,
-    n: T,
+    x: T,
+    words: [T; 2],
 ) -> [T; 2] {
-    let mut z = a;
-    z -= m;
+    let [first, second] = words;
+    let mut z = integer::<T, R>(x, m);
+    z -= first;
     let once = z.residue();
-    z -= &n;
+    z -= &second;
     [once, z.residue()]
 }
 
 #[test]
 fn differences() {
-    let found = (
-        differences_of_two(ring(3), ring(5)),
-        differences_with_a_word(ring(3), 5),
-        differences_with_words_in_place(ring(14), 255, 5),
-    );
-    assert!(found == (([19; 4], [19, 14]), [19; 4], [11, 6]));
-    assert!(differences_with_a_word(ring(5), 255) == [2; 4]);
+    assert!(differences_of_two::<u8, Vanilla<u8>>(21, 3, 5) == ([19; 4], [19, 14]));
+    assert!(differences_with_a_word::<u8, Vanilla<u8>>(21, 3, 5) == [19; 4]);
+    assert!(differences_with_words_in_place::<u8, Vanilla<u8>>(21, 14, [255, 5]) == [11, 6]);
+    assert!(differences_with_a_word::<u8, Vanilla<u8>>(21, 5, 255) == [2; 4]);
     assert!(difference_modulo_21() == 2);
 }
 
 // The residues of the products of two integers, for each kind of operands, and those after each of two in place.
-fn products_of_two<T: RingWord, R: Reducer<T> + Copy>(
-    a: ReducedInt<T, R>,
-    b: ReducedInt<T, R>,
-) -> ([T; 4], [T; 2]) {
+fn products_of_two<T: RingWord, R: Reducer<T> + Copy>(m: T, x: T, y: T) -> ([T; 4], [T; 2]) {
+    let (a, b) = (integer::<T, R>(x, m), integer::<T, R>(y, m));
     let mut z = a;
     z *= b;
     let once = z.residue();
@@ -144,7 +137,8 @@ fn products_of_two<T: RingWord, R: Reducer<T> + Copy>(
 }
 
 // The residues of the products of an integer and a word.
-fn products_with_a_word<T: RingWord, R: Reducer<T> + Copy>(a: ReducedInt<T, R>, n: T) -> [T; 4] {
+fn products_with_a_word<T: RingWord, R: Reducer<T> + Copy>(m: T, x: T, n: T) -> [T; 4] {
+    let a = integer::<T, R>(x, m);
     [
         (a * n).residue(),
         (a * &n).residue(),
@@ -155,27 +149,24 @@ fn products_with_a_word<T: RingWord, R: Reducer<T> + Copy>(a: ReducedInt<T, R>, 
 
 // The residue after a product with each of two words, in place.
 fn products_with_words_in_place<T: RingWord, R: Reducer<T> + Copy>(
-    a: ReducedInt<T, R>,
     m: T,
-    n: T,
+    x: T,
+    words: [T; 2],
 ) -> [T; 2] {
-    let mut z = a;
-    z *= m;
+    let [first, second] = words;
+    let mut z = integer::<T, R>(x, m);
+    z *= first;
     let once = z.residue();
-    z *= &n;
+    z *= &second;
     [once, z.residue()]
 }
 
 #[test]
 fn products() {
-    let found = (
-        products_of_two(ring(10), ring(5)),
-        products_with_a_word(ring(10), 5),
-        products_with_words_in_place(ring(19), 255, 5),
-    );
-    assert!(found == (([8; 4], [8, 19]), [8; 4], [15, 12]));
-    let twelve = VanillaInt::<u8>::new(12, &5);
-    assert!(products_with_a_word(twelve, 13) == [1; 4]);
+    assert!(products_of_two::<u8, Vanilla<u8>>(21, 10, 5) == ([8; 4], [8, 19]));
+    assert!(products_with_a_word::<u8, Vanilla<u8>>(21, 10, 5) == [8; 4]);
+    assert!(products_with_words_in_place::<u8, Vanilla<u8>>(21, 19, [255, 5]) == [15, 12]);
+    assert!(products_with_a_word::<u8, Vanilla<u8>>(5, 12, 13) == [1; 4]);
 }
 
 // The residues of the quotients of two integers, for each kind of operands.
@@ -191,7 +182,8 @@ fn quotients_of_two<T: RingWord, R: Reducer<T> + Copy>(
     ]
 }
 
-fn negatives<T: RingWord, R: Reducer<T> + Copy>(a: ReducedInt<T, R>) -> [T; 2] {
+fn negatives<T: RingWord, R: Reducer<T> + Copy>(m: T, x: T) -> [T; 2] {
+    let a = integer::<T, R>(x, m);
     [(-a).residue(), (-&a).residue()]
 }
 
@@ -205,7 +197,7 @@ fn residue_if_any<T: RingWord, R: Reducer<T> + Copy>(a: Option<ReducedInt<T, R>>
 
 #[test]
 fn negatives_and_quotients() {
-    assert!(negatives(ring(10)) == [11, 11]);
+    assert!(negatives::<u8, Vanilla<u8>>(21, 10) == [11, 11]);
     assert!(quotients_of_two(ring(10), five_modulo_21()) == [2; 4]);
     assert!(quotient_modulo_21() == 2);
 }
@@ -223,7 +215,8 @@ fn inverses_and_quotients_if_any() {
 }
 
 // The modulus, the residue and the form of an integer, and the residues of its double and its square.
-fn parts<T: RingWord, R: Reducer<T> + Copy>(a: ReducedInt<T, R>) -> [T; 5] {
+fn parts<T: RingWord, R: Reducer<T> + Copy>(m: T, x: T) -> [T; 5] {
+    let a = integer::<T, R>(x, m);
     [
         a.modulus(),
         a.residue(),
@@ -233,22 +226,25 @@ fn parts<T: RingWord, R: Reducer<T> + Copy>(a: ReducedInt<T, R>) -> [T; 5] {
     ]
 }
 
-fn power<T: RingWord, R: Reducer<T> + Copy>(a: ReducedInt<T, R>, exp: T) -> T {
-    a.pow(&exp).residue()
+fn power<T: RingWord, R: Reducer<T> + Copy>(m: T, x: T, exp: T) -> T {
+    integer::<T, R>(x, m).pow(&exp).residue()
+}
+
+// The residue of y modulo the modulus of an integer x, and whether each of the two is 0.
+fn converted<T: RingWord, R: Reducer<T> + Copy>(m: T, x: T, y: T) -> (T, bool, bool) {
+    let a = integer::<T, R>(x, m);
+    let b = a.convert(y);
+    (b.residue(), a.is_zero(), b.is_zero())
 }
 
 #[test]
 fn methods() {
-    assert!(parts(ring(255)) == [21, 3, 3, 6, 9]);
-    let powers = [
-        power(ring(255), 0),
-        power(ring(255), 5),
-        power(VanillaInt::<u8>::new(0, &1), 0),
-    ];
-    assert!(powers == [1, 12, 0]);
-    let a = ring(255);
-    assert!(a.convert(255).residue() == 3);
-    assert!(a.convert(21).is_zero() && !a.is_zero());
+    assert!(parts::<u8, Vanilla<u8>>(21, 255) == [21, 3, 3, 6, 9]);
+    assert!(power::<u8, Vanilla<u8>>(21, 255, 0) == 1);
+    assert!(power::<u8, Vanilla<u8>>(21, 255, 5) == 12);
+    assert!(power::<u8, Vanilla<u8>>(1, 0, 0) == 0);
+    assert!(converted::<u8, Vanilla<u8>>(21, 255, 255).0 == 3);
+    assert!(converted::<u8, Vanilla<u8>>(21, 255, 21) == (0, false, true));
 }
 
 #[test]
@@ -274,14 +270,10 @@ fn are_equivalent<I: ModularInteger>(all: &[I]) -> bool {
     true
 }
 
-// n modulo m.
-fn integer(n: u8, m: u8) -> VanillaInt<u8> {
-    VanillaInt::<u8>::new(n, &m)
-}
-
 #[test]
 fn equality() {
-    let (three, seven, other) = (integer(3, 7), integer(10, 7), integer(3, 11));
+    let (three, other) = (VanillaInt::<u8>::new(3, &7), VanillaInt::<u8>::new(3, &11));
+    let seven = VanillaInt::<u8>::new(10, &7);
     assert!(are_equal(&seven, &three));
     assert!(!are_equal(&three, &other));
     assert!(are_equivalent(&[three, seven, other]));
@@ -295,7 +287,7 @@ fn polynomials() {
 
 #[test]
 fn the_polynomial_of_no_coefficients() {
-    assert!(horner(&[], integer(7, 21)).residue() == 0);
+    assert!(horner(&[], ring(7)).residue() == 0);
 }
 
 // The residue of a + a, and that of x + y by the integers of its ring.
