@@ -1,6 +1,7 @@
 //! Known products from other sources, by digits of 16 bits packed four to a word, and slices that are too short.
 
-use long_product::{product, transform_length};
+use super::assert_at;
+use long_product::{MOST_PLACES, product, transform_length};
 use num_modular::plans::Factor;
 
 const NONE: Factor<u64> = Factor {
@@ -83,15 +84,30 @@ fn squares_of_all_ones(rt: HostRuntime) {
                 _ => 65535,
             };
         }
-        assert!(rt; is_product(xs, xs, &known[..places]), "{places} places");
+        assert_at(&rt, is_product(xs, xs, &known[..places]), &places);
     }
+}
+
+// Whether three digits and two have a product exactly where the slices fit; else the first digit is unchanged.
+fn is_told(places: usize, left: usize, right: usize, fits: bool) -> bool {
+    if places > 16 || left > 16 || right > 16 {
+        return false;
+    }
+    let (mut digits, mut first, mut second) = ([7; 16], [7; 16], [NONE; 16]);
+    let done = product(
+        &[1, 2, 3],
+        &[4, 5],
+        &mut digits[..places],
+        &mut first[..left],
+        &mut second[..right],
+    );
+    done == fits && digits[0] == if fits { 4 } else { 7 }
 }
 
 // Short factors take no room but that of the digits.
 #[test]
 fn room(rt: HostRuntime) {
-    let (xs, ys) = ([1, 2, 3], [4, 5]);
-    for (places, left, right, fits) in [
+    for row in [
         (5, 8, 8, true),
         (5, 9, 16, true),
         (4, 8, 8, false),
@@ -99,28 +115,26 @@ fn room(rt: HostRuntime) {
         (5, 7, 8, true),
         (5, 8, 7, true),
     ] {
-        let (mut digits, mut first, mut second) = ([7; 16], [7; 16], [NONE; 16]);
-        let done = product(
-            &xs,
-            &ys,
-            &mut digits[..places],
-            &mut first[..left],
-            &mut second[..right],
-        );
-        assert_eq!(rt; done, fits);
-        assert_eq!(rt; digits[0], if fits { 4 } else { 7 });
+        let (places, left, right, fits) = row;
+        assert_at(&rt, is_told(places, left, right, fits), &row);
     }
+}
+
+#[test]
+fn no_digits(rt: HostRuntime) {
     let mut none = [0; 1];
     assert!(rt; product(&[], &[], &mut [], &mut none, &mut [NONE]));
     assert!(rt; product::<Factor<u64>>(&[], &[], &mut [], &mut none, &mut []));
-    assert_eq!(rt;
-        (
-            transform_length(0),
-            transform_length(5),
-            transform_length(10),
-            transform_length(64),
-            transform_length(4294967296)
-        ),
-        (1, 8, 16, 64, 4294967296)
-    );
+}
+
+// A number of places, and the length of the transforms.
+const LENGTHS: &[(usize, usize)] = &[(0, 1), (5, 8), (10, 16), (64, 64), (4294967296, 4294967296)];
+
+#[test]
+fn lengths_of_transforms(rt: HostRuntime) {
+    for row in LENGTHS {
+        let &(places, length) = row;
+        let is_right = places <= MOST_PLACES && transform_length(places) == length;
+        assert_at(&rt, is_right, row);
+    }
 }

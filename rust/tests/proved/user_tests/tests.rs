@@ -11,3 +11,11 @@ mod long_products;
 mod loops;
 mod paths;
 mod residues;
+
+use std::fmt::Debug;
+use crate::runtime::Abort;
+
+/// Asserts that what is compared at these values holds; else prints the values.
+pub fn assert_at<V: Debug>(rt: &impl Abort, holds: bool, values: &V) {
+    assert!(holds, "{values:?}");
+}

@@ -1,5 +1,6 @@
 //! Products of digits of 64 bits, by rows and by transforms, and slices that are too short.
 
+use super::assert_at;
 use num_modular::applications::long_product::{fill_plans, product, product_planned, room};
 use num_modular::plans::Factor;
 
@@ -60,12 +61,10 @@ const ROWS: &[(usize, usize, u64)] = &[
 
 #[test]
 fn known_checksums() {
-    for (xs, ys, known) in ROWS {
-        assert_eq!(
-            checksum_of_product(*xs, *ys),
-            Some(*known),
-            "{xs} and {ys} digits"
-        );
+    let rt = crate::runtime::HostRuntime;
+    for row in ROWS {
+        let &(xs, ys, known) = row;
+        assert_at(&rt, checksum_of_product(xs, ys) == Some(known), row);
     }
 }
 
@@ -81,19 +80,18 @@ fn a_known_product() {
             &mut []
         )
     );
-    assert_eq!(
-        digits,
-        [
-            3971508702249932252,
-            2385304725559399997,
-            7218796311547177778
-        ]
-    );
+    let known = [
+        3971508702249932252,
+        2385304725559399997,
+        7218796311547177778,
+    ];
+    assert!(digits == known);
 }
 
 // The square of 2^(64n) - 1 is 2^(128n) - 2^(64n + 1) + 1.
 #[test]
 fn squares_of_all_ones() {
+    let rt = crate::runtime::HostRuntime;
     let ones = [18446744073709551615; 512];
     for n in [1, 2, 3, 40, 300, 399, 400, 512] {
         let (mut digits, mut words, mut factors) = ([7; 1024], [7; 4096], [NONE; 1536]);
@@ -106,7 +104,7 @@ fn squares_of_all_ones() {
                 _ if i == n => 18446744073709551614,
                 _ => 18446744073709551615,
             };
-            assert_eq!(digits[i], known, "place {i} of {places}");
+            assert_at(&rt, digits[i] == known, &(i, places));
         }
     }
 }
@@ -114,13 +112,15 @@ fn squares_of_all_ones() {
 // Plans for more entries work as well, for one product after another.
 #[test]
 fn plans_at_hand() {
+    let rt = crate::runtime::HostRuntime;
     let (mut first, mut second, mut third) = ([NONE; 1024], [NONE; 1024], [NONE; 1024]);
     assert!(fill_plans(&mut first, &mut second, &mut third));
     let (mut xs, mut ys) = ([0; 700], [0; 700]);
     fill_digits(1, &mut xs);
     fill_digits(2, &mut ys);
-    for (length, other, known) in ROWS {
-        let (xs, ys) = (&xs[..(*length).min(700)], &ys[..(*other).min(700)]);
+    for row in ROWS {
+        let &(length, other, known) = row;
+        let (xs, ys) = (&xs[..length.min(700)], &ys[..other.min(700)]);
         let (mut digits, mut words) = ([7; 1400], [7; 8192]);
         let places = xs.len() + ys.len();
         let done = product_planned(
@@ -132,13 +132,13 @@ fn plans_at_hand() {
             &second,
             &third,
         );
-        assert!(done);
-        assert_eq!(checksum(&digits[..places]), *known, "{places} places");
+        assert_at(&rt, done && checksum(&digits[..places]) == known, row);
     }
 }
 
 #[test]
 fn the_room_of_products() {
+    let rt = crate::runtime::HostRuntime;
     for (xs, ys, words, factors) in [
         (0, 0, 0, 0),
         (399, 100000, 0, 0),
@@ -147,12 +147,13 @@ fn the_room_of_products() {
         (400, 625, 8192, 1024),
         (2147483648, 2147483648, 17179869184, 2147483648),
     ] {
-        assert_eq!(room(xs, ys), (words, factors), "{xs} and {ys} digits");
+        assert_at(&rt, room(xs, ys) == (words, factors), &(xs, ys));
     }
 }
 
 #[test]
 fn room_is_told() {
+    let rt = crate::runtime::HostRuntime;
     let (mut xs, mut ys) = ([0; 400], [0; 624]);
     fill_digits(1, &mut xs);
     fill_digits(2, &mut ys);
@@ -173,11 +174,7 @@ fn room_is_told() {
             &mut room[..words],
             &mut tables[..factors],
         );
-        assert_eq!(
-            done,
-            fits,
-            "{places} places, {words} words, {factors} factors"
-        );
-        assert_eq!(digits[0] == 7, !fits);
+        let is_told = done == fits && (digits[0] == 7) == !fits;
+        assert_at(&rt, is_told, &(places, words, factors));
     }
 }
