@@ -160,6 +160,8 @@ pub fn is_codeword<T: RingWord, R: Reducer<T>>(
     ensures message { let m = R.modulus r.now in IsTrue result →
         IsEncoding m (length message.old) (length points.now) (entry T.number R.value m points.now)
         (entry T.number R.value m message.new) (entry T.number R.value m word.now) }
+    ensures checked { IsTrue result →
+        All (λ f. IsForm R.form R.value (R.modulus r.now) (T.number f)) message.new }
 {
     if !interpolate(r, points, word, weights, message) {
         return false;
@@ -201,6 +203,8 @@ pub fn encode_systematic<T: RingWord, R: Reducer<T>>(
         (entry T.number R.value m coefficients.new) (entry T.number R.value m word.new) }
     ensures systematic { let m = R.modulus r.now in IsTrue result → (i : ℕ) → i < length message.now →
         entry T.number R.value m word.new i ≡ entry T.number R.value m message.now i }
+    ensures forms { IsTrue result →
+        All (λ f. IsForm R.form R.value (R.modulus r.now) (T.number f)) coefficients.new }
     ensures unchanged { (IsTrue result → ⊥) → word.new ≡ word.old }
 {
     if !interpolate(r, points, message, weights, coefficients) {

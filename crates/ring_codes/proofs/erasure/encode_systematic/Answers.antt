@@ -73,3 +73,9 @@ returns-clause-checked g c t = c.encode.ensures.checked
 
 pub returns-clause-unchanged : goal.returns-clause-unchanged
 returns-clause-unchanged g c h = absurd (h refl)
+
+pub returns-then-not-interpolate-clause-forms : goal.returns-then-not-interpolate-clause-forms
+returns-then-not-interpolate-clause-forms g c t = absurd (false≢true t)
+
+pub returns-clause-forms : goal.returns-clause-forms
+returns-clause-forms g c t = c.if-not-interpolate.ensures.checked refl

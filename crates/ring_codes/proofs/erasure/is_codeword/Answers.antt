@@ -100,3 +100,12 @@ evaluate-symbol-requires-clause-point g c =
     let ring = g.R.Reducer in let m = ring.modulus c.args.r.now in
     form_read g.T.RingWord.number ring.form ring.value m c.args.points.now c.places.i _ c.requires.points (omega arith)
     c.index-points-i.is
+
+pub returns-then-not-interpolate-clause-checked : goal.returns-then-not-interpolate-clause-checked
+returns-then-not-interpolate-clause-checked g c t = absurd (false≢true t)
+
+pub returns-then-ne-clause-checked : goal.returns-then-ne-clause-checked
+returns-then-ne-clause-checked g c t = absurd (false≢true t)
+
+pub returns-clause-checked : goal.returns-clause-checked
+returns-clause-checked g c t = c.if-not-interpolate.ensures.checked refl
