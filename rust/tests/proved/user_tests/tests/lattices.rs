@@ -1,6 +1,7 @@
 //! Transforms, inverses and products of the lattice rings, computed with another program, written from
 //! the standards' algorithms, and the tables of their appendices.
 
+use super::assert_at;
 use num_modular::applications::lattice_rings::{ml_dsa, ml_kem};
 
 // A list of residues of q.
@@ -133,58 +134,41 @@ const KEM_POWERS: [(usize, usize, u32); 21] = [
 
 #[test]
 fn dsa_table() {
+    let rt = crate::runtime::HostRuntime;
     for (k, place, value) in DSA_POWERS {
-        let found = dsa(Step::Transform, monomial(k), monomial(0));
-        assert_eq!(found.map(|w| w[place % 256]), Some(value));
+        let is_right = match dsa(Step::Transform, monomial(k), monomial(0)) {
+            Some(w) => w[place % 256] == value,
+            None => false,
+        };
+        assert_at(&rt, is_right, &(k, place));
     }
 }
 
+// An operation, whether the entries of its lists are q - 1 or those listed, and what is seen of the result.
+const DSA_ROWS: &[(Step, bool, [u32; 7])] = &[
+    (Step::Transform, false, [1886738, 7506604, 7811974, 913702, 167585, 5008395, 1268708856]),
+    (Step::Transform, true, [3778841, 8294415, 178752, 8012511, 367904, 4601574, 1310621198]),
+    (Step::Back, false, [3477908, 3108380, 2896216, 5380351, 7397931, 6281963, 1533289978]),
+    (Step::Back, true, [8380416, 0, 0, 0, 0, 0, 1006903296]),
+    (Step::PlaceByPlace, false, [7492739, 4455239, 2220157, 7957819, 1052085, 8178988, 171115350]),
+    (Step::PlaceByPlace, true, [1, 1, 1, 1, 1, 1, 702681088]),
+    (Step::Product, false, [295442, 4740697, 3569378, 1367687, 6973809, 5285815, 453991145]),
+    (Step::Product, true, [8380163, 8380165, 8380167, 0, 2, 256, 153377023]),
+];
+
 #[test]
 fn dsa_rows() {
+    let rt = crate::runtime::HostRuntime;
     let q = ml_dsa::MODULUS;
     let (xs, ys, greatest) = (listed(1, q), listed(2, q), [q - 1; 256]);
-    assert_eq!(
-        dsa_seen(Step::Transform, xs, ys),
-        [
-            1886738, 7506604, 7811974, 913702, 167585, 5008395, 1268708856
-        ]
-    );
-    assert_eq!(
-        dsa_seen(Step::Transform, greatest, ys),
-        [
-            3778841, 8294415, 178752, 8012511, 367904, 4601574, 1310621198
-        ]
-    );
-    assert_eq!(
-        dsa_seen(Step::Back, xs, ys),
-        [
-            3477908, 3108380, 2896216, 5380351, 7397931, 6281963, 1533289978
-        ]
-    );
-    assert_eq!(
-        dsa_seen(Step::Back, greatest, ys),
-        [8380416, 0, 0, 0, 0, 0, 1006903296]
-    );
-    assert_eq!(
-        dsa_seen(Step::PlaceByPlace, xs, ys),
-        [
-            7492739, 4455239, 2220157, 7957819, 1052085, 8178988, 171115350
-        ]
-    );
-    assert_eq!(
-        dsa_seen(Step::PlaceByPlace, greatest, greatest),
-        [1, 1, 1, 1, 1, 1, 702681088]
-    );
-    assert_eq!(
-        dsa_seen(Step::Product, xs, ys),
-        [
-            295442, 4740697, 3569378, 1367687, 6973809, 5285815, 453991145
-        ]
-    );
-    assert_eq!(
-        dsa_seen(Step::Product, greatest, greatest),
-        [8380163, 8380165, 8380167, 0, 2, 256, 153377023]
-    );
+    for &(step, is_greatest, want) in DSA_ROWS {
+        let found = if is_greatest {
+            dsa_seen(step, greatest, greatest)
+        } else {
+            dsa_seen(step, xs, ys)
+        };
+        assert_at(&rt, found == want, &want);
+    }
     let mut last = greatest;
     last[255] = q;
     assert!(dsa(Step::Transform, last, ys).is_none());
@@ -192,48 +176,41 @@ fn dsa_rows() {
 
 #[test]
 fn kem_table() {
+    let rt = crate::runtime::HostRuntime;
     for (k, place, value) in KEM_POWERS {
-        let found = kem(Step::Transform, monomial(k), monomial(0));
-        assert_eq!(found.map(|w| w[place % 256]), Some(value));
+        let is_right = match kem(Step::Transform, monomial(k), monomial(0)) {
+            Some(w) => w[place % 256] == value,
+            None => false,
+        };
+        assert_at(&rt, is_right, &(k, place));
     }
 }
 
+// An operation, whether the entries of its lists are q - 1 or those listed, and what is seen of the result.
+const KEM_ROWS: &[(Step, bool, [u32; 7])] = &[
+    (Step::Transform, false, [73, 999, 2250, 643, 190, 617, 2747614200]),
+    (Step::Transform, true, [2913, 2913, 2959, 1203, 2124, 414, 860692480]),
+    (Step::Back, false, [1856, 3104, 1600, 212, 2799, 296, 3937434033]),
+    (Step::Back, true, [3328, 3328, 0, 0, 0, 0, 3756630016]),
+    (Step::PlaceByPlace, false, [20, 401, 2047, 1528, 63, 63, 3795999982]),
+    (Step::PlaceByPlace, true, [18, 2, 3313, 2, 1585, 2, 2940274240]),
+    (Step::Product, false, [3272, 142, 719, 1348, 2541, 453, 3313341057]),
+    (Step::Product, true, [3075, 3077, 3079, 0, 2, 256, 2547788799]),
+];
+
 #[test]
 fn kem_rows() {
+    let rt = crate::runtime::HostRuntime;
     let q = ml_kem::MODULUS;
     let (xs, ys, greatest) = (listed(1, q), listed(2, q), [q - 1; 256]);
-    assert_eq!(
-        kem_seen(Step::Transform, xs, ys),
-        [73, 999, 2250, 643, 190, 617, 2747614200]
-    );
-    assert_eq!(
-        kem_seen(Step::Transform, greatest, ys),
-        [2913, 2913, 2959, 1203, 2124, 414, 860692480]
-    );
-    assert_eq!(
-        kem_seen(Step::Back, xs, ys),
-        [1856, 3104, 1600, 212, 2799, 296, 3937434033]
-    );
-    assert_eq!(
-        kem_seen(Step::Back, greatest, ys),
-        [3328, 3328, 0, 0, 0, 0, 3756630016]
-    );
-    assert_eq!(
-        kem_seen(Step::PlaceByPlace, xs, ys),
-        [20, 401, 2047, 1528, 63, 63, 3795999982]
-    );
-    assert_eq!(
-        kem_seen(Step::PlaceByPlace, greatest, greatest),
-        [18, 2, 3313, 2, 1585, 2, 2940274240]
-    );
-    assert_eq!(
-        kem_seen(Step::Product, xs, ys),
-        [3272, 142, 719, 1348, 2541, 453, 3313341057]
-    );
-    assert_eq!(
-        kem_seen(Step::Product, greatest, greatest),
-        [3075, 3077, 3079, 0, 2, 256, 2547788799]
-    );
+    for &(step, is_greatest, want) in KEM_ROWS {
+        let found = if is_greatest {
+            kem_seen(step, greatest, greatest)
+        } else {
+            kem_seen(step, xs, ys)
+        };
+        assert_at(&rt, found == want, &want);
+    }
     let mut last = greatest;
     last[255] = q;
     assert!(kem(Step::Transform, last, ys).is_none());
