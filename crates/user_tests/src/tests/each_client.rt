@@ -1,5 +1,6 @@
 //! Known values of each client, computed with Python.
 
+use super::assert_at;
 use examples::commands::{product_by_commands, residue_over_copies};
 use examples::cubic::cubic;
 use examples::each_reducer::{
@@ -93,12 +94,10 @@ const CUBICS: &[(u64, u64, u64, u64, u64)] = &[(97, 5, 2, 3, 41), (6, 9, 1, 1, 1
 #[test]
 fn inner_products_and_cubics(rt: HostRuntime) {
     for &(xs, ys, m, want) in INNER_PRODUCTS {
-        assert!(rt; m > 0);
-        assert!(rt; inner_product_of_four(xs, ys, m) == want);
+        assert!(rt; m > 0 && inner_product_of_four(xs, ys, m) == want);
     }
     for &(m, x, a, b, want) in CUBICS {
-        assert!(rt; m > 0);
-        assert!(rt; cubic(&Montgomery::<u64>::new(m), x, a, b) == want);
+        assert!(rt; m > 0 && cubic(&Montgomery::<u64>::new(m), x, a, b) == want);
     }
 }
 
@@ -138,9 +137,13 @@ const PAIRS: &[(u32, u32, u32, u32, Option<u64>)] = &[
 
 #[test]
 fn pairs_of_residues(rt: HostRuntime) {
-    for &(a, m, b, n, want) in PAIRS {
-        assert!(rt; m > 0 && n > 0);
-        assert!(rt; from_remainders(a, m, b, n) == want);
+    for row in PAIRS {
+        let &(a, m, b, n, want) = row;
+        assert_at(
+            &rt,
+            m > 0 && n > 0 && from_remainders(a, m, b, n) == want,
+            row,
+        );
     }
 }
 
@@ -178,7 +181,7 @@ const RESIDUES: &[(u64, bool)] = &[
 #[test]
 fn quadratic_residues(rt: HostRuntime) {
     for &(a, want) in RESIDUES {
-        assert!(rt; residue_of_a_prime(a, 11) == Some(want), "{a}");
+        assert_at(&rt, residue_of_a_prime(a, 11) == Some(want), &a);
     }
 }
 

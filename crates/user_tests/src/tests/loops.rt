@@ -2,6 +2,7 @@
 
 ghost use Rattle.std.specs.Prelude.{◌≤◌};
 
+use super::assert_at;
 use examples::fermat_tests::is_shown_composite;
 use examples::generators::jump;
 use examples::keys::{keys, known_word};
@@ -37,9 +38,9 @@ const FERMAT_TESTS: &[(u64, u64, bool)] = &[
 
 #[test]
 fn fermat_tests(rt: HostRuntime) {
-    for &(n, a, want) in FERMAT_TESTS {
-        assert!(rt; n > 0);
-        assert!(rt; is_shown_composite(n, a) == want, "{n} {a}");
+    for row in FERMAT_TESTS {
+        let &(n, a, want) = row;
+        assert_at(&rt, n > 0 && is_shown_composite(n, a) == want, row);
     }
 }
 
@@ -67,8 +68,9 @@ const ROOTS: &[(u64, u64, Option<u64>)] = &[
 
 #[test]
 fn square_roots(rt: HostRuntime) {
-    for &(a, p, want) in ROOTS {
-        assert!(rt; root_modulo_a_prime(a, p) == Some(want), "{a} {p}");
+    for row in ROOTS {
+        let &(a, p, want) = row;
+        assert_at(&rt, root_modulo_a_prime(a, p) == Some(want), row);
     }
 }
 
@@ -92,11 +94,12 @@ const JUMPS: &[(u64, u64, u64, u64, u64, u64)] = &[
 
 #[test]
 fn jumps(rt: HostRuntime) {
-    for &(m, a, c, x, n, want) in JUMPS {
-        assert!(rt; m > 0);
-        assert!(rt;
-            jump(&Montgomery::<u64>::new(m), a, c, x, n) == want,
-            "{m} {n}"
+    for row in JUMPS {
+        let &(m, a, c, x, n, want) = row;
+        assert_at(
+            &rt,
+            m > 0 && jump(&Montgomery::<u64>::new(m), a, c, x, n) == want,
+            row,
         );
     }
 }

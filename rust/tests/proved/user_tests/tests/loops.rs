@@ -1,5 +1,6 @@
 //! Known values of the examples with powers and loops, computed with Python.
 
+use super::assert_at;
 use num_modular::applications::examples::fermat_tests::is_shown_composite;
 use num_modular::applications::examples::generators::jump;
 use num_modular::applications::examples::keys::{keys, known_word};
@@ -35,9 +36,10 @@ const FERMAT_TESTS: &[(u64, u64, bool)] = &[
 
 #[test]
 fn fermat_tests() {
-    for &(n, a, want) in FERMAT_TESTS {
-        assert!(n > 0);
-        assert!(is_shown_composite(n, a) == want, "{n} {a}");
+    let rt = crate::runtime::HostRuntime;
+    for row in FERMAT_TESTS {
+        let &(n, a, want) = row;
+        assert_at(&rt, n > 0 && is_shown_composite(n, a) == want, row);
     }
 }
 
@@ -65,8 +67,10 @@ const ROOTS: &[(u64, u64, Option<u64>)] = &[
 
 #[test]
 fn square_roots() {
-    for &(a, p, want) in ROOTS {
-        assert!(root_modulo_a_prime(a, p) == Some(want), "{a} {p}");
+    let rt = crate::runtime::HostRuntime;
+    for row in ROOTS {
+        let &(a, p, want) = row;
+        assert_at(&rt, root_modulo_a_prime(a, p) == Some(want), row);
     }
 }
 
@@ -90,11 +94,13 @@ const JUMPS: &[(u64, u64, u64, u64, u64, u64)] = &[
 
 #[test]
 fn jumps() {
-    for &(m, a, c, x, n, want) in JUMPS {
-        assert!(m > 0);
-        assert!(
-            jump(&Montgomery::<u64>::new(m), a, c, x, n) == want,
-            "{m} {n}"
+    let rt = crate::runtime::HostRuntime;
+    for row in JUMPS {
+        let &(m, a, c, x, n, want) = row;
+        assert_at(
+            &rt,
+            m > 0 && jump(&Montgomery::<u64>::new(m), a, c, x, n) == want,
+            row,
         );
     }
 }
