@@ -32,8 +32,5 @@ returns-clause-count g c =
 pub fold-next-requires-clause-mask : goal.fold-next-requires-clause-mask
 fold-next-requires-clause-mask g c = c.requires.mask
 
-pub returns-clause-below : goal.returns-clause-below
-returns-clause-below g c = grind (arith, c.is_below.ensures.below, c.folds-test.false, c.requires.mask)
-
 pub returns-clause-same : goal.returns-clause-same
 returns-clause-same g c = c.folds.invariant.same
