@@ -37,11 +37,11 @@ impl<T: PlainWord, M: JoinSteps<T>> FourStep<T> for JoinFour<T, M> {
 
 /// Joins four entries below 4m.
 #[derive(Drop)]
-pub struct JoinTaken<T: PlainWord, M: JoinSteps<T>> {
+pub struct JoinLowered<T: PlainWord, M: JoinSteps<T>> {
     pub step: JoinFour<T, M>,
 }
 
-impl<T: PlainWord, M: JoinSteps<T>> FourStep<T> for JoinTaken<T, M> {
+impl<T: PlainWord, M: JoinSteps<T>> FourStep<T> for JoinLowered<T, M> {
     ghost bound = { λ s. 4 * M.modulus s.step.m };
 
     ghost done = { λ s. DoneBelow (M.bound s.step.m) (IsJoinByFactors (M.modulus s.step.m)
@@ -50,10 +50,10 @@ impl<T: PlainWord, M: JoinSteps<T>> FourStep<T> for JoinTaken<T, M> {
     #[inline(always)]
     fn four(&self, x: T, y: T, z: T, t: T) -> (T, T, T, T) {
         let m = &self.step.m;
-        let a = m.taken(x);
-        let b = m.taken(y);
-        let c = m.taken(z);
-        let d = m.taken(t);
+        let a = m.lowered(x);
+        let b = m.lowered(y);
+        let c = m.lowered(z);
+        let d = m.lowered(t);
         self.step.four(a, b, c, d)
     }
 }

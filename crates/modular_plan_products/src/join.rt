@@ -19,14 +19,14 @@ use modular_word::path_word::PathWord;
 use modular_word::ring_word::RingWord;
 
 // Replaces each entry by a congruent one below the bound.
-fn take_each<T: PlainWord, M: JoinSteps<T>>(m: &M, xs: &mut [T])
+fn lower_each<T: PlainWord, M: JoinSteps<T>>(m: &M, xs: &mut [T])
     requires { All (λ x. T.number x < 4 * M.modulus m.now) xs.old }
     ensures below { All (λ x. T.number x < M.bound m.now) xs.new }
     ensures congruent { (i : ℕ) → i < length xs.old
         → Congruent (M.modulus m.now) (numbers T.number xs.new i) (numbers T.number xs.old i) }
 {
     'entries: for i in 0..xs.len() {
-        xs[i] = m.taken(xs[i]);
+        xs[i] = m.lowered(xs[i]);
     }
 }
 
@@ -93,7 +93,7 @@ fn join_first<T: PlainWord, F: PlanEntry<T>, M: JoinSteps<T>>(
         join_fours(m, xs, fours, table, b * fours, minus);
         4
     } else {
-        take_each(m, xs);
+        lower_each(m, xs);
         last
     }
 }

@@ -29,7 +29,7 @@ pub trait JoinSteps<T: PlainWord>: Bounded<T> + Copy {
         ensures value { T.number result.value + 1 ≡ modulus self.now };
 
     /// A number below the bound that is congruent to a word. Condition: it is below 4m.
-    fn taken(&self, x: T) -> T
+    fn lowered(&self, x: T) -> T
         requires { T.number x < 4 * modulus self.now }
         ensures below { T.number result < bound self.now }
         ensures congruent { Congruent (modulus self.now) (T.number result) (T.number x) };
@@ -138,7 +138,7 @@ impl<T: PlainWord> JoinSteps<T> for PlannedModulus<T> {
         self.factor(self.modulus.minus(T::one()))
     }
 
-    fn taken(&self, x: T) -> T {
+    fn lowered(&self, x: T) -> T {
         reduced_once(x, self.twice())
     }
 
@@ -200,7 +200,7 @@ impl<T: PlainWord> JoinSteps<T> for RoomyModulus<T> {
         self.planned.minus_one()
     }
 
-    fn taken(&self, x: T) -> T {
+    fn lowered(&self, x: T) -> T {
         x
     }
 

@@ -8,7 +8,7 @@ ghost use Rattle.modular_plan.specs.Steps.{PairDone, BlockDone, StageDone};
 ghost use Rattle.modular_plan_products.specs.Joins.{IsPairJoin, IsMinusInverse, AreMinusInverses};
 ghost use Rattle.modular_plan_products.specs.Conditions.{IsTableOfFactors, IsStageReady, IsPassReady, IsPassJoined};
 
-use crate::four_joins::{JoinFour, JoinTaken};
+use crate::four_joins::{JoinFour, JoinLowered};
 use crate::join_steps::JoinSteps;
 use modular_plan::entry::PlanEntry;
 use modular_plan::modulus::Factor;
@@ -230,6 +230,6 @@ pub(crate) fn join_fours<T: PlainWord, F: PlanEntry<T>, M: JoinSteps<T>>(
             return;
         }
         let step = JoinFour { m: *m, w, u, v };
-        neighbours(&JoinTaken { step }, xs, place);
+        neighbours(&JoinLowered { step }, xs, place);
     }
 }

@@ -22,8 +22,8 @@ ring_command_of c =
     else Pow c.dst c.a c.n
 
 -- the command has an operation with a name, and register numbers below count
-abbrev pub IsTaken : ℕ → NmCommand → Type 0
-IsTaken count c = (c.operation < 10) × IsFit count (ring_command_of c)
+abbrev pub IsAdmittedBy : ℕ → NmCommand → Type 0
+IsAdmittedBy count c = (c.operation < 10) × IsFit count (ring_command_of c)
 
 -- the residues of words modulo m
 abbrev pub residues_of : ℕ → List ℕ → List ℕ

@@ -2,7 +2,7 @@
 
 ghost use Rattle.std.specs.Prelude.{◌≡◌, ◌<◌, ◌↔◌, IsTrue, All};
 ghost use Rattle.num_modular.specs.Ring.{IsFit};
-ghost use Rattle.num_modular_c.specs.Commands.{ring_command_of, IsTaken};
+ghost use Rattle.num_modular_c.specs.Commands.{ring_command_of, IsAdmittedBy};
 
 use num_modular::ring::{RingCommand, commands_fit};
 
@@ -63,15 +63,15 @@ pub(crate) fn ring_command(c: &NmCommand) -> RingCommand<u64>
 }
 
 // Whether the command has an operation, and register numbers below `count`.
-fn is_taken(c: &NmCommand, count: usize) -> bool
-    ensures { IsTrue result ↔ IsTaken count c.now }
+fn is_admitted(c: &NmCommand, count: usize) -> bool
+    ensures { IsTrue result ↔ IsAdmittedBy count c.now }
 {
     c.operation < 10 && commands_fit(&[ring_command(c)], count)
 }
 
 // Whether each command has an operation, and register numbers below `count`.
-pub(crate) fn all_taken(commands: &[NmCommand], count: usize) -> bool
-    ensures { IsTrue result ↔ All (IsTaken count) commands.now }
+pub(crate) fn are_admitted(commands: &[NmCommand], count: usize) -> bool
+    ensures { IsTrue result ↔ All (IsAdmittedBy count) commands.now }
 {
-    commands.iter().all(|c| is_taken(c, count))
+    commands.iter().all(|c| is_admitted(c, count))
 }

@@ -6,7 +6,7 @@ ghost use Rattle.num_modular.specs.Inverses.{HasInverse};
 ghost use Rattle.num_modular.specs.Ring.{IsStop};
 ghost use Rattle.num_modular.specs.Transforms.{Suits, transform};
 ghost use Rattle.num_modular_c.specs.Codes.{Did, Refused, BothRefused};
-ghost use Rattle.num_modular_c.specs.Commands.{ring_command_of, residues_of, IsTaken, IsRunTo};
+ghost use Rattle.num_modular_c.specs.Commands.{ring_command_of, residues_of, IsAdmittedBy, IsRunTo};
 ghost use Rattle.num_modular_c.specs.Contexts.{IsMontgomery};
 ghost use Rattle.num_modular_c.specs.Transforms.{residues, IsConvolution};
 
@@ -114,15 +114,15 @@ pub extern "C" fn nm_montgomery_run(
 ) -> u32
     ensures did { let m = context.now.modulus in let start = residues_of m registers.old in
         let wholes = map ring_command_of commands.now in
-        IsMontgomery context.now → All (IsTaken (length registers.old)) commands.now
+        IsMontgomery context.now → All (IsAdmittedBy (length registers.old)) commands.now
         → ((at : ℕ) → IsStop m start wholes at → ⊥)
         → Did result (IsRunTo m start wholes (length commands.now) carried_out.new registers.new) }
     ensures no_inverse { let m = context.now.modulus in let start = residues_of m registers.old in
         let wholes = map ring_command_of commands.now in
-        (at : ℕ) → IsMontgomery context.now → All (IsTaken (length registers.old)) commands.now
+        (at : ℕ) → IsMontgomery context.now → All (IsAdmittedBy (length registers.old)) commands.now
         → IsStop m start wholes at
         → (result ≡ NM_NO_INVERSE) × IsRunTo m start wholes at carried_out.new registers.new }
-    ensures bad_argument { IsMontgomery context.now → (All (IsTaken (length registers.old)) commands.now → ⊥)
+    ensures bad_argument { IsMontgomery context.now → (All (IsAdmittedBy (length registers.old)) commands.now → ⊥)
         → BothRefused NM_BAD_ARGUMENT result registers.old registers.new carried_out.old carried_out.new }
     ensures bad_context { (IsMontgomery context.now → ⊥)
         → BothRefused NM_BAD_CONTEXT result registers.old registers.new carried_out.old carried_out.new }

@@ -4,10 +4,10 @@ ghost use Rattle.std.specs.Prelude.{◌≡◌, ℕ, ◌<◌, ◌≤◌, IsTrue, 
 ghost use Rattle.num_modular.specs.Forms.{IsForm};
 ghost use Rattle.num_modular.specs.Ring.{value_after, value_at, values_of, LacksInverse, IsStop, IsFit};
 ghost use Rattle.num_modular_c.specs.Codes.{Did, BothRefused};
-ghost use Rattle.num_modular_c.specs.Commands.{ring_command_of, residues_of, IsTaken, IsRunTo};
+ghost use Rattle.num_modular_c.specs.Commands.{ring_command_of, residues_of, IsAdmittedBy, IsRunTo};
 
 use crate::codes::{NM_BAD_ARGUMENT, NM_NO_INVERSE, NM_OK};
-use crate::commands::{NmCommand, all_taken, ring_command};
+use crate::commands::{NmCommand, are_admitted, ring_command};
 use crate::lists::{load, unload};
 use num_modular::Reducer;
 use num_modular::ring::{RingCommand, RunEnd, run};
@@ -43,7 +43,7 @@ pub(crate) fn run_each<R: Reducer<u64>>(
     commands: &[NmCommand],
 ) -> usize
     requires checked { All (λ f. IsForm R.form R.value (R.modulus r.now) f) registers.old }
-    requires taken { All (IsTaken (length registers.old)) commands.now }
+    requires admitted { All (IsAdmittedBy (length registers.old)) commands.now }
     ensures checked { All (λ f. IsForm R.form R.value (R.modulus r.now) f) registers.new }
     ensures at_most { result ≤ length commands.now }
     ensures stop { let m = R.modulus r.now in let start = values_of (λ f. f) R.value m registers.old in
@@ -64,7 +64,7 @@ pub(crate) fn run_each<R: Reducer<u64>>(
 
 // `run_each` on words, which it replaces by residues.
 fn run_words<R: Reducer<u64>>(r: &R, registers: &mut [u64], commands: &[NmCommand]) -> usize
-    requires { All (IsTaken (length registers.old)) commands.now }
+    requires { All (IsAdmittedBy (length registers.old)) commands.now }
     ensures at_most { result ≤ length commands.now }
     ensures stop { let m = R.modulus r.now in result < length commands.now
         → IsStop m (residues_of m registers.old) (map ring_command_of commands.now) result }
@@ -88,16 +88,16 @@ pub(crate) fn carry_out<R: Reducer<u64>>(
 ) -> u32
     ensures did { let m = R.modulus r.now in let start = residues_of m registers.old in
         let wholes = map ring_command_of commands.now in
-        All (IsTaken (length registers.old)) commands.now → ((at : ℕ) → IsStop m start wholes at → ⊥)
+        All (IsAdmittedBy (length registers.old)) commands.now → ((at : ℕ) → IsStop m start wholes at → ⊥)
         → Did result (IsRunTo m start wholes (length commands.now) done.new registers.new) }
     ensures no_inverse { let m = R.modulus r.now in let start = residues_of m registers.old in
         let wholes = map ring_command_of commands.now in
-        (at : ℕ) → All (IsTaken (length registers.old)) commands.now → IsStop m start wholes at
+        (at : ℕ) → All (IsAdmittedBy (length registers.old)) commands.now → IsStop m start wholes at
         → (result ≡ NM_NO_INVERSE) × IsRunTo m start wholes at done.new registers.new }
-    ensures bad_argument { (All (IsTaken (length registers.old)) commands.now → ⊥)
+    ensures bad_argument { (All (IsAdmittedBy (length registers.old)) commands.now → ⊥)
         → BothRefused NM_BAD_ARGUMENT result registers.old registers.new done.old done.new }
 {
-    if !all_taken(commands, registers.len()) {
+    if !are_admitted(commands, registers.len()) {
         return NM_BAD_ARGUMENT;
     }
     *done = run_words(r, registers, commands);

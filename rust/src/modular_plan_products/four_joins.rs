@@ -25,18 +25,18 @@ impl<T: PlainWord, M: JoinSteps<T>> FourStep<T> for JoinFour<T, M> {
 
 /// Joins four entries below 4m.
 #[must_use]
-pub struct JoinTaken<T, M> {
+pub struct JoinLowered<T, M> {
     pub(crate) step: JoinFour<T, M>,
 }
 
-impl<T: PlainWord, M: JoinSteps<T>> FourStep<T> for JoinTaken<T, M> {
+impl<T: PlainWord, M: JoinSteps<T>> FourStep<T> for JoinLowered<T, M> {
     #[inline(always)]
     fn four(&self, x: T, y: T, z: T, t: T) -> (T, T, T, T) {
         let m = &self.step.m;
-        let a = m.taken(x);
-        let b = m.taken(y);
-        let c = m.taken(z);
-        let d = m.taken(t);
+        let a = m.lowered(x);
+        let b = m.lowered(y);
+        let c = m.lowered(z);
+        let d = m.lowered(t);
         self.step.four(a, b, c, d)
     }
 }

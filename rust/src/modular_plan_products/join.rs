@@ -13,9 +13,9 @@ use crate::modular_word::ring_word::RingWord;
 
 // Replaces each entry by a congruent one below the bound.
 #[inline]
-fn take_each<T: PlainWord, M: JoinSteps<T>>(m: &M, xs: &mut [T]) {
+fn lower_each<T: PlainWord, M: JoinSteps<T>>(m: &M, xs: &mut [T]) {
     'entries: for i in 0..xs.len() {
-        xs[i] = m.taken(xs[i]);
+        xs[i] = m.lowered(xs[i]);
     }
 }
 
@@ -67,7 +67,7 @@ fn join_first<T: PlainWord, F: PlanEntry<T>, M: JoinSteps<T>>(
         join_fours(m, xs, fours, table, b * fours, minus);
         4
     } else {
-        take_each(m, xs);
+        lower_each(m, xs);
         last
     }
 }

@@ -19,7 +19,7 @@ pub trait JoinSteps<T: PlainWord>: Bounded<T> + Copy {
     /// # Preconditions
     ///
     /// It is below 4m. This isn't tested: outside it the call panics, or returns no meaningful result.
-    fn taken(&self, x: T) -> T;
+    fn lowered(&self, x: T) -> T;
 
     /// Numbers below the bound, congruent to x + y and (y - x)·v.
     ///
@@ -96,7 +96,7 @@ impl<T: PlainWord> JoinSteps<T> for PlannedModulus<T> {
     }
 
     #[inline]
-    fn taken(&self, x: T) -> T {
+    fn lowered(&self, x: T) -> T {
         reduced_once(x, self.twice())
     }
 
@@ -153,7 +153,7 @@ impl<T: PlainWord> JoinSteps<T> for RoomyModulus<T> {
     }
 
     #[inline]
-    fn taken(&self, x: T) -> T {
+    fn lowered(&self, x: T) -> T {
         x
     }
 

@@ -1,6 +1,6 @@
 //! The passes of a join over all blocks: a stage, or two.
 
-use crate::modular_plan_products::four_joins::{JoinFour, JoinTaken};
+use crate::modular_plan_products::four_joins::{JoinFour, JoinLowered};
 use crate::modular_plan_products::join_steps::JoinSteps;
 use crate::modular_plan::entry::PlanEntry;
 use crate::modular_plan::modulus::Factor;
@@ -166,6 +166,6 @@ pub(crate) fn join_fours<T: PlainWord, F: PlanEntry<T>, M: JoinSteps<T>>(
             return;
         }
         let step = JoinFour { m: *m, w, u, v };
-        neighbours(&JoinTaken { step }, xs, place);
+        neighbours(&JoinLowered { step }, xs, place);
     }
 }

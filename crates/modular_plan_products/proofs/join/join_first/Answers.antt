@@ -47,10 +47,10 @@ returns-else-last-eq1 g c =
     let count = length before / last in
     record {
       scale = 1;
-      entries = c.take_each.ensures.below;
+      entries = c.lower_each.ensures.below;
       blocks = c.requires.blocks;
       times = omega arith;
       joined = λ r z x plan are.
           remainders_once r z b count last x _ (remainders_reduced r z b count last (length before) x (numbers n before)
-          (numbers n c.take_each.new.xs) c.requires.blocks.whole c.take_each.ensures.congruent are);
+          (numbers n c.lower_each.new.xs) c.requires.blocks.whole c.lower_each.ensures.congruent are);
     }

@@ -16,7 +16,7 @@ read g c = read_command c.args.commands.now c.commands.at _ c.ring_command.ensur
 fit : (g : _) (c : After-step g) → IsFit (length c.args.registers.now) c.ring_command.result
 fit g c =
     subst (IsFit (length c.args.registers.now)) (sym c.ring_command.ensures)
-    (c.requires.taken c.commands.at _ c.commands-test.true).1
+    (c.requires.admitted c.commands.at _ c.commands-test.true).1
 
 pub returns-then-not-step-clause-stop : goal.returns-then-not-step-clause-stop
 returns-then-not-step-clause-stop g c l =

@@ -1,5 +1,5 @@
 use Rattle.modular_plan_products.proofs.Bounds.{multiple_is_none, reduced_by_multiple}
-use Rattle.modular_plan_products.proofs.join_steps.PlannedModulusJoinSteps.taken.Goals as goal
+use Rattle.modular_plan_products.proofs.join_steps.PlannedModulusJoinSteps.lowered.Goals as goal
 
 pub returns-clause-congruent : goal.returns-clause-congruent
 returns-clause-congruent g c =

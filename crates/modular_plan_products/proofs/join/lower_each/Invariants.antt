@@ -1,7 +1,7 @@
 use Rattle.std.proofs.Common.{◌≡◌, ℕ, ◌<◌, ◌≤◌}
 use Rattle.modular_word.specs.Congruence.{Congruent}
 use Rattle.modular_plan.specs.Plans.{numbers}
-use Rattle.modular_plan_products.proofs.join.take_each.Given as goal
+use Rattle.modular_plan_products.proofs.join.lower_each.Given as goal
 
 -- the first i entries are done
 abbrev pub invariant-entries : goal.invariant-entries

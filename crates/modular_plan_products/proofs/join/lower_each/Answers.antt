@@ -3,10 +3,10 @@ use Rattle.modular_word.specs.Congruence.{Congruent}
 use Rattle.modular_word.proofs.Congruence.{of_equal, chained}
 use Rattle.modular_plan.specs.Plans.{numbers}
 use Rattle.modular_plan.proofs.Entries.{number_read, bounded, entry_written, entry_kept, all_below}
-use Rattle.modular_plan_products.proofs.join.take_each.Goals as goal
+use Rattle.modular_plan_products.proofs.join.lower_each.Goals as goal
 
-pub taken-requires : goal.taken-requires
-taken-requires g c =
+pub lowered-requires : goal.lowered-requires
+lowered-requires g c =
     let n = g.T.RingWord.number in
     let bound = 4 * g.M.JoinSteps.modulus c.args.m.now in
     let i = c.entries.i in
@@ -28,11 +28,11 @@ entries-preserved g c =
     let same = number_read n xs i x within c.index-xs-i.is ∙ c.entries.invariant.kept i (omega arith) in
     let old = numbers n c.args.xs.now in
     record {
-      below = entry_written n xs i c.taken.result (λ k v. v < bound) within c.entries.invariant.below
-          c.taken.ensures.below;
-      done = entry_written n xs i c.taken.result (λ k v. Congruent m v (old k)) within c.entries.invariant.done
-          (chained c.taken.ensures.congruent (of_equal same));
-      kept = entry_kept n xs i c.taken.result old c.entries.invariant.kept;
+      below = entry_written n xs i c.lowered.result (λ k v. v < bound) within c.entries.invariant.below
+          c.lowered.ensures.below;
+      done = entry_written n xs i c.lowered.result (λ k v. Congruent m v (old k)) within c.entries.invariant.done
+          (chained c.lowered.ensures.congruent (of_equal same));
+      kept = entry_kept n xs i c.lowered.result old c.entries.invariant.kept;
     }
 
 pub returns : goal.returns
