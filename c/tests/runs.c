@@ -55,7 +55,7 @@ static void operation_rows(void) {
     RUN(21, zero, NM_NO_INVERSE, 0, 0, 0, 0, 0, 0);
 }
 
-/* a list with one command that isn't taken: nothing is written */
+/* a list with one command that isn't admitted: nothing is written */
 static void refused_row(const char *name, nm_command_t bad) {
     nm_montgomery_t ring;
     uint64_t registers[3] = {1, UNTOUCHED, 3};

@@ -3,7 +3,7 @@
 ghost use Rattle.std.specs.Prelude.{◌≡◌, ℕ, ◌+◌, ◌*◌, ◌/◌, ◌^◌, ◌<◌, ◌≤◌, All, length};
 ghost use Rattle.std.specs.Int.{IsPowerOfTwo};
 ghost use Rattle.modular_transform.specs.Transforms.{Suits};
-ghost use Rattle.modular_plan.specs.Factors.{IsFactor};
+ghost use Rattle.modular_plan.specs.Factors.{IsFactorOf};
 
 use modular_plan::modulus::{Factor, PlannedModulus};
 use modular_plan::plan::plan;
@@ -27,8 +27,7 @@ fn carried_out<T: PlainWord>(
     requires entries_xs { All (λ x. T.number x < T.number m.now.modulus) xs.old }
     requires entries_ys { All (λ x. T.number x < T.number m.now.modulus) ys.old }
     requires equal { length ys.old ≡ length xs.old }
-    requires factors { All (λ f. IsFactor T.base (T.number m.now.modulus) (T.number f.value) (T.number f.quotient))
-        table.now }
+    requires factors { All (IsFactorOf T.base T.number (T.number m.now.modulus)) table.now }
     requires count { IsPowerOfTwo (length xs.old) }
     requires within { length xs.old ≤ 2 * length table.now }
 {

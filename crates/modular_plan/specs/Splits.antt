@@ -4,8 +4,9 @@
 -- arithmetic for number-theoretic transforms", section 3). The names are the library's own words.
 use Rattle.std.specs.Prelude.{◌≡◌, ℕ, ◌+◌, ◌*◌, ◌/◌, ◌<◌, ◌≤◌, List, All, length}
 use Rattle.std.specs.Int.{IsPowerOfTwo}
-use Rattle.modular_plan.specs.Factors.{IsFactor}
+use Rattle.modular_plan.specs.Factors.{IsFactor, AllFactors}
 use Rattle.modular_plan.specs.Plans.{numbers}
+use Rattle.modular_plan.specs.declared.modulus.Factor.{Factor}
 use Rattle.modular_plan.specs.Steps.{IsFourSplit, StageOfFours}
 
 -- four numbers are below a bound
@@ -27,6 +28,11 @@ pub record AreFactors (base m w p u q v r : ℕ) : Type 0 where
   pub whole : IsFactor base m w p
   pub low : IsFactor base m u q
   pub high : IsFactor base m v r
+
+-- the same of three `Factor`s
+abbrev pub AreFactorsOf : {T D : Type 0} → ℕ → (T → ℕ) → ℕ → Factor T D → Factor T D → Factor T D → Type 0
+AreFactorsOf base number m w u v = AreFactors base m (number w.value) (number w.quotient)
+    (number u.value) (number u.quotient) (number v.value) (number v.quotient)
 
 -- a, b, c and d are the entries x at four indexes
 pub record AreAt (i j k l : ℕ) (x : ℕ → ℕ) (a b c d : ℕ) : Type 0 where
@@ -84,7 +90,7 @@ pub record HalvesDone (R : ℕ → ℕ → ℕ → ℕ → ℕ → ℕ → ℕ �
 -- entries are factors modulo m, one for each block from index first on, and two for its halves at twice that index
 pub record IsPassReady {X F : Type 0} (number : X → ℕ) (value quotient : F → ℕ) (base m bound q blocks first : ℕ) (xs : List X) (table : List F) : Type 0 where
   pub entries : All (λ x. number x < bound) xs
-  pub factors : All (λ f. IsFactor base m (value f) (quotient f)) table
+  pub factors : AllFactors base m value quotient table
   pub whole : blocks * (q + q + (q + q)) ≡ length xs
   pub within : 2 * (first + blocks) ≤ length table
   pub some : 0 < q
@@ -99,7 +105,7 @@ pub record IsPassDone {X F : Type 0} (number : X → ℕ) (value : F → ℕ) (m
 -- times `last`, and the table has as many factors modulo m as the last stage needs
 pub record IsSplittable {X F : Type 0} (number : X → ℕ) (value quotient : F → ℕ) (base m b last : ℕ) (xs : List X) (table : List F) : Type 0 where
   pub entries : All (λ x. number x < 4 * m) xs
-  pub factors : All (λ f. IsFactor base m (value f) (quotient f)) table
+  pub factors : AllFactors base m value quotient table
   pub some : 1 ≤ last
   pub count : IsPowerOfTwo (length xs / last)
   pub whole : length xs / last * last ≡ length xs

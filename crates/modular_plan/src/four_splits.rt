@@ -1,8 +1,8 @@
 //! The steps of the passes of a split.
 
 ghost use Rattle.std.specs.Prelude.{ℕ, ◌*◌};
-ghost use Rattle.modular_plan.specs.Factors.{IsFactor};
-ghost use Rattle.modular_plan.specs.Splits.{AreFactors, DoneBelow};
+ghost use Rattle.modular_plan.specs.Factors.{IsFactorOf};
+ghost use Rattle.modular_plan.specs.Splits.{AreFactorsOf, DoneBelow};
 ghost use Rattle.modular_plan.specs.Steps.{IsFourSplit};
 
 use crate::modulus::Factor;
@@ -19,8 +19,7 @@ pub struct SplitFour<T: PlainWord, M: SplitSteps<T>> {
     pub w: Factor<T>,
     pub u: Factor<T>,
     pub v: Factor<T>,
-    pub ghost factors: { AreFactors T.base (M.modulus m) (T.number w.value) (T.number w.quotient)
-        (T.number u.value) (T.number u.quotient) (T.number v.value) (T.number v.quotient) },
+    pub ghost factors: { AreFactorsOf T.base T.number (M.modulus m) w u v },
 }
 
 impl<T: PlainWord, M: SplitSteps<T>> FourStep<T> for SplitFour<T, M> {
@@ -40,7 +39,7 @@ impl<T: PlainWord, M: SplitSteps<T>> FourStep<T> for SplitFour<T, M> {
 pub struct SplitByOne<T: PlainWord, M: SplitSteps<T>> {
     pub m: M,
     pub v: Factor<T>,
-    pub ghost factor: { IsFactor T.base (M.modulus m) (T.number v.value) (T.number v.quotient) },
+    pub ghost factor: { IsFactorOf T.base T.number (M.modulus m) v },
 }
 
 impl<T: PlainWord, M: SplitSteps<T>> FourStep<T> for SplitByOne<T, M> {

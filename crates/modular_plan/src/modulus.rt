@@ -3,9 +3,8 @@
 ghost use Rattle.std.specs.Prelude.{◌≡◌, ℕ, ◌+◌, ◌*◌, ◌/◌, ◌%◌, ◌^◌, ◌<◌, ◌≤◌, ◌↔◌, IsTrue, ⊤};
 ghost use Rattle.modular_word.specs.Congruence.{Congruent};
 ghost use Rattle.modular_word.specs.Reciprocals.{IsReciprocal};
-ghost use Rattle.modular_plan.specs.Factors.{IsFactor};
+ghost use Rattle.modular_plan.specs.Factors.{IsFactorOf};
 
-use crate::bounded::Bounded;
 use modular_prim::below::reduced_once;
 use modular_prim::plain_word::PlainWord;
 use modular_prim::reciprocal::invert_word;
@@ -119,8 +118,7 @@ impl<T: PlainWord> PlannedModulus<T> {
     pub fn factor(&self, w: T) -> Factor<T>
         requires { T.number w < T.number self.now.modulus }
         ensures value { T.number result.value ≡ T.number w }
-        ensures factor { IsFactor T.base (T.number self.now.modulus)
-            (T.number result.value) (T.number result.quotient) }
+        ensures factor { IsFactorOf T.base T.number (T.number self.now.modulus) result }
     {
         prove!(w.is_below(self.modulus));
         let divisor = self.modulus.shift_left(self.shift);
@@ -132,7 +130,7 @@ impl<T: PlainWord> PlannedModulus<T> {
     /// The residue of a factor times the base, below m, computed from its quotient. Condition: the factor is a
     /// residue modulo m.
     pub fn times_base(&self, w: &Factor<T>) -> T
-        requires { IsFactor T.base (T.number self.now.modulus) (T.number w.now.value) (T.number w.now.quotient) }
+        requires { IsFactorOf T.base T.number (T.number self.now.modulus) w.now }
         ensures { T.number result ≡ (T.number w.now.value * T.base) % T.number self.now.modulus }
     {
         T::zero().wrapping_sub(w.quotient.wrapping_mul(self.modulus))
@@ -145,7 +143,7 @@ impl<T: PlainWord> PlannedModulus<T> {
     ///
     /// Source: Harvey, "Faster arithmetic for number-theoretic transforms", section 3.
     pub fn times(&self, x: T, w: &Factor<T>) -> T
-        requires { IsFactor T.base (T.number self.now.modulus) (T.number w.now.value) (T.number w.now.quotient) }
+        requires { IsFactorOf T.base T.number (T.number self.now.modulus) w.now }
         ensures below { T.number result < 2 * T.number self.now.modulus }
         ensures congruent { Congruent (T.number self.now.modulus) (T.number result)
             (T.number x * T.number w.now.value) }
@@ -157,7 +155,7 @@ impl<T: PlainWord> PlannedModulus<T> {
 
     /// The residue of the product of any word x with a factor, below m. Condition: the factor is a residue modulo m.
     pub fn product(&self, x: T, w: &Factor<T>) -> T
-        requires { IsFactor T.base (T.number self.now.modulus) (T.number w.now.value) (T.number w.now.quotient) }
+        requires { IsFactorOf T.base T.number (T.number self.now.modulus) w.now }
         ensures { T.number result ≡ (T.number x * T.number w.now.value) % T.number self.now.modulus }
     {
         reduced_once(self.times(x, w), self.modulus)
@@ -196,13 +194,6 @@ impl<T: PlainWord> PlannedModulus<T> {
         ensures { T.number result ≡ 2 * T.number self.now.modulus }
     {
         self.modulus.plus(self.modulus)
-    }
-
-    /// Whether a word of more than 32 bits is at least 4m; false for shorter words (see `Bounded::is_beyond`).
-    pub fn is_outside(&self, x: T) -> bool
-        ensures { IsTrue result → 4 * T.number self.now.modulus ≤ T.number x }
-    {
-        self.is_beyond(x)
     }
 
     /// Whether a word is below 4m.

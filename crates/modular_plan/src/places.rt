@@ -1,9 +1,9 @@
 //! What two stages in one pass read and write: four entries of a list, and three of a table.
 
 ghost use Rattle.std.specs.Prelude.{◌≡◌, ℕ, ◌+◌, ◌*◌, ◌<◌, All, length};
-ghost use Rattle.modular_plan.specs.Factors.{IsFactor};
+ghost use Rattle.modular_plan.specs.Factors.{AllFactors};
 ghost use Rattle.modular_plan.specs.Plans.{numbers};
-ghost use Rattle.modular_plan.specs.Splits.{AreAt, AreFactors, AreInOrder};
+ghost use Rattle.modular_plan.specs.Splits.{AreAt, AreFactorsOf, AreInOrder};
 ghost use Rattle.modular_plan.specs.Steps.{FourDone};
 
 use crate::entry::PlanEntry;
@@ -55,10 +55,8 @@ pub(crate) fn factors_at<T: PlainWord, F: PlanEntry<T>>(
     place: usize,
 ) -> (Factor<T>, Factor<T>, Factor<T>)
     requires { 2 * place + 1 < length table.now }
-    ensures factors { (m : ℕ) → All (λ f. IsFactor T.base m (F.value f) (F.quotient f)) table.now →
-        AreFactors T.base m (T.number result.0.value) (T.number result.0.quotient)
-        (T.number result.1.value) (T.number result.1.quotient)
-        (T.number result.2.value) (T.number result.2.quotient) }
+    ensures factors { (m : ℕ) → AllFactors T.base m F.value F.quotient table.now →
+        AreFactorsOf T.base T.number m result.0 result.1 result.2 }
     ensures values { let w = numbers F.value table.now in (T.number result.0.value ≡ w place)
         × (T.number result.1.value ≡ w (2 * place)) × (T.number result.2.value ≡ w (2 * place + 1)) }
 {

@@ -2,7 +2,7 @@
 
 ghost use Rattle.std.specs.Prelude.{◌≡◌, ℕ, ◌+◌, ◌*◌, ◌/◌, ◌%◌, ◌^◌, ◌<◌, All, length};
 ghost use Rattle.modular_transform.specs.Transforms.{Suits};
-ghost use Rattle.modular_plan.specs.Factors.{IsFactor};
+ghost use Rattle.modular_plan.specs.Factors.{AllFactors};
 ghost use Rattle.modular_plan.specs.Plans.{numbers, IsPlan};
 
 use crate::entry::PlanEntry;
@@ -19,8 +19,7 @@ use modular_word::ring_word::RingWord;
 pub fn plan<T: PlainWord, F: PlanEntry<T>>(m: &PlannedModulus<T>, g: T, table: &mut [F])
     requires below { T.number g < T.number m.now.modulus }
     requires suits { Suits (T.number m.now.modulus) (T.number g) (2 * length table.old) }
-    ensures factors { All (λ f. IsFactor T.base (T.number m.now.modulus) (F.value f) (F.quotient f))
-        table.new }
+    ensures factors { AllFactors T.base (T.number m.now.modulus) F.value F.quotient table.new }
     ensures plan { (z : ℕ) → 2 ^ z ≡ 2 * length table.old →
         IsPlan (T.number m.now.modulus) (T.number g) z (length table.old) (numbers F.value table.new) }
     ensures first { let modulus = T.number m.now.modulus in (y d : ℕ) → 2 ^ (y + d) ≡ 2 * length table.old →

@@ -1,7 +1,7 @@
 //! Moduli that leave words more room than a plan requires.
 
 ghost use Rattle.std.specs.Prelude.{◌≡◌, ℕ, ◌*◌, ◌%◌, ◌<◌, ◌≤◌, ⊤, MatchOption};
-ghost use Rattle.modular_plan.specs.Factors.{IsFactor};
+ghost use Rattle.modular_plan.specs.Factors.{IsFactorOf};
 
 use crate::modulus::{Factor, PlannedModulus};
 use modular_prim::plain_word::PlainWord;
@@ -18,7 +18,7 @@ pub struct RoomyModulus<T: PathWord> {
     /// The factor 1: the product with it reduces any word.
     pub unit: Factor<T>,
     pub ghost room: { 16 * T.number planned.modulus ≤ T.base },
-    pub ghost is_factor: { IsFactor T.base (T.number planned.modulus) (T.number unit.value) (T.number unit.quotient) },
+    pub ghost is_factor: { IsFactorOf T.base T.number (T.number planned.modulus) unit },
     pub ghost is_one: { T.number unit.value ≡ 1 % T.number planned.modulus },
 }
 

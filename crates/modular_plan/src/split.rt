@@ -2,7 +2,7 @@
 
 ghost use Rattle.std.specs.Prelude.{◌≡◌, ℕ, ◌+◌, ◌*◌, ◌/◌, ◌%◌, ◌<◌, ◌≤◌, ◌↔◌, IsTrue, All, length};
 ghost use Rattle.std.specs.Int.{IsPowerOfTwo};
-ghost use Rattle.modular_plan.specs.Factors.{IsFactor};
+ghost use Rattle.modular_plan.specs.Factors.{IsFactorOf, AllFactors};
 ghost use Rattle.modular_plan.specs.Plans.{numbers, IsPlan, AreRemainders};
 ghost use Rattle.modular_plan.specs.Splits.{IsPassDone, IsPassReady, IsSplittable};
 ghost use Rattle.modular_plan.specs.Steps.{IsPairSplit, PairDone, BlockDone};
@@ -27,7 +27,7 @@ fn split_pair<T: PlainWord, M: SplitSteps<T>>(
     w: &Factor<T>,
 )
     requires entries { All (λ x. T.number x < M.limit m.now) xs.old }
-    requires factor { IsFactor T.base (M.modulus m.now) (T.number w.now.value) (T.number w.now.quotient) }
+    requires factor { IsFactorOf T.base T.number (M.modulus m.now) w.now }
     requires order { low < high }
     requires within { high < length xs.old }
     ensures entries { All (λ x. T.number x < M.limit m.now) xs.new }
@@ -48,7 +48,7 @@ fn split_block<T: PlainWord, M: SplitSteps<T>>(
     w: &Factor<T>,
 )
     requires entries { All (λ x. T.number x < M.limit m.now) xs.old }
-    requires factor { IsFactor T.base (M.modulus m.now) (T.number w.now.value) (T.number w.now.quotient) }
+    requires factor { IsFactorOf T.base T.number (M.modulus m.now) w.now }
     requires within { first + (half + half) ≤ length xs.old }
     ensures entries { All (λ x. T.number x < M.limit m.now) xs.new }
     ensures done { BlockDone (IsPairSplit (M.modulus m.now) (T.number w.now.value)) first half half
@@ -73,8 +73,7 @@ fn split_stage<T: PlainWord, M: SplitSteps<T>, F: PlanEntry<T>>(
     first: usize,
 )
     requires entries { All (λ x. T.number x < M.limit m.now) xs.old }
-    requires factors { All (λ f. IsFactor T.base (M.modulus m.now) (F.value f) (F.quotient f))
-        table.now }
+    requires factors { AllFactors T.base (M.modulus m.now) F.value F.quotient table.now }
     requires whole { blocks * (half + half) ≡ length xs.old }
     requires within { first + blocks ≤ length table.now }
     requires some { 0 < half }
@@ -290,8 +289,7 @@ pub fn split_loosely<T: PlainWord, F: PlanEntry<T>>(
     last: usize,
 )
     requires entries { All (λ x. T.number x < 4 * T.number m.now.modulus) xs.old }
-    requires factors { All (λ f. IsFactor T.base (T.number m.now.modulus) (F.value f) (F.quotient f))
-        table.now }
+    requires factors { AllFactors T.base (T.number m.now.modulus) F.value F.quotient table.now }
     requires some { 1 ≤ last }
     requires count { IsPowerOfTwo (length xs.old / last) }
     requires whole { length xs.old / last * last ≡ length xs.old }
@@ -328,8 +326,7 @@ pub fn split<T: PlainWord, F: PlanEntry<T>>(
     last: usize,
 )
     requires entries { All (λ x. T.number x < 4 * T.number m.now.modulus) xs.old }
-    requires factors { All (λ f. IsFactor T.base (T.number m.now.modulus) (F.value f) (F.quotient f))
-        table.now }
+    requires factors { AllFactors T.base (T.number m.now.modulus) F.value F.quotient table.now }
     requires some { 1 ≤ last }
     requires count { IsPowerOfTwo (length xs.old / last) }
     requires whole { length xs.old / last * last ≡ length xs.old }

@@ -2,8 +2,8 @@
 
 ghost use Rattle.std.specs.Prelude.{◌≡◌, ℕ, ◌+◌, ◌*◌, ◌%◌, ◌<◌, ◌≤◌};
 ghost use Rattle.std.proofs.Common.{le_refl, mul-le-mul_right, lit≤};
-ghost use Rattle.modular_plan.specs.Factors.{IsFactor};
-ghost use Rattle.modular_plan.specs.Splits.{AreFourBelow, AreFactors};
+ghost use Rattle.modular_plan.specs.Factors.{IsFactorOf};
+ghost use Rattle.modular_plan.specs.Splits.{AreFourBelow, AreFactorsOf};
 ghost use Rattle.modular_plan.specs.Steps.{IsPairSplit, IsFourSplit};
 
 use crate::bounded::Bounded;
@@ -22,7 +22,7 @@ pub trait SplitSteps<T: PlainWord>: Bounded<T> + Copy {
     /// Numbers below the limit, congruent to x + y·w and x - y·w.
     fn pair(&self, x: T, y: T, w: &Factor<T>) -> (T, T)
         requires below { T.number x < Self.limit self.now }
-        requires factor { IsFactor T.base (modulus self.now) (T.number w.now.value) (T.number w.now.quotient) }
+        requires factor { IsFactorOf T.base T.number (modulus self.now) w.now }
         ensures below { T.number result.0 < Self.limit self.now }
         ensures difference_below { T.number result.1 < Self.limit self.now }
         ensures pair { IsPairSplit (modulus self.now) (T.number w.now.value) (T.number x) (T.number y)
@@ -41,8 +41,7 @@ pub trait SplitSteps<T: PlainWord>: Bounded<T> + Copy {
         v: &Factor<T>,
     ) -> (T, T, T, T)
         requires below { (T.number x < Self.limit self.now) × (T.number y < Self.limit self.now) }
-        requires factors { AreFactors T.base (modulus self.now) (T.number w.now.value) (T.number w.now.quotient)
-            (T.number u.now.value) (T.number u.now.quotient) (T.number v.now.value) (T.number v.now.quotient) }
+        requires factors { AreFactorsOf T.base T.number (modulus self.now) w.now u.now v.now }
         ensures below { AreFourBelow (Self.limit self.now) (T.number result.0) (T.number result.1)
             (T.number result.2) (T.number result.3) }
         ensures four { IsFourSplit (modulus self.now) (T.number w.now.value) (T.number u.now.value)
@@ -52,7 +51,7 @@ pub trait SplitSteps<T: PlainWord>: Bounded<T> + Copy {
     /// The same for numbers below 4m, where w and u are 1.
     fn four_by_one(&self, x: T, y: T, z: T, t: T, v: &Factor<T>) -> (T, T, T, T)
         requires below { AreFourBelow (4 * modulus self.now) (T.number x) (T.number y) (T.number z) (T.number t) }
-        requires factor { IsFactor T.base (modulus self.now) (T.number v.now.value) (T.number v.now.quotient) }
+        requires factor { IsFactorOf T.base T.number (modulus self.now) v.now }
         ensures below { AreFourBelow (Self.limit self.now) (T.number result.0) (T.number result.1)
             (T.number result.2) (T.number result.3) }
         ensures four { IsFourSplit (modulus self.now) 1 1 (T.number v.now.value)
@@ -72,7 +71,7 @@ pub trait SplitSteps<T: PlainWord>: Bounded<T> + Copy {
 // Numbers congruent to x + y·w and x - y·w, where x + 2m fits a word.
 fn spread<T: PlainWord>(m: &PlannedModulus<T>, x: T, y: T, w: &Factor<T>) -> (T, T)
     requires room { T.number x + 2 * T.number m.now.modulus < T.base }
-    requires factor { IsFactor T.base (T.number m.now.modulus) (T.number w.now.value) (T.number w.now.quotient) }
+    requires factor { IsFactorOf T.base T.number (T.number m.now.modulus) w.now }
     ensures below { T.number result.0 < T.number x + 2 * T.number m.now.modulus }
     ensures most { T.number result.1 ≤ T.number x + 2 * T.number m.now.modulus }
     ensures pair { IsPairSplit (T.number m.now.modulus) (T.number w.now.value) (T.number x) (T.number y)

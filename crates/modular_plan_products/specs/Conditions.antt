@@ -3,14 +3,14 @@
 -- "Multidigit multiplication for mathematicians", section 2). The names are the library's own words.
 use Rattle.std.specs.Prelude.{◌≡◌, ℕ, ◌+◌, ◌*◌, ◌/◌, ◌%◌, ◌<◌, ◌≤◌, List, All, length}
 use Rattle.std.specs.Int.{IsPowerOfTwo}
-use Rattle.modular_plan.specs.Factors.{IsFactor}
+use Rattle.modular_plan.specs.Factors.{IsFactor, AllFactors}
 use Rattle.modular_plan.specs.Plans.{numbers, IsPlan, AreRemainders}
 use Rattle.modular_plan.specs.Steps.{StageOfFours}
 use Rattle.modular_plan_products.specs.Joins.{IsFourJoin}
 
 -- the entries of a table are factors modulo m, and minus is the factor -1
 pub record IsTableOfFactors {F : Type 0} (b m : ℕ) (value quotient : F → ℕ) (table : List F) (minus minus_quotient : ℕ) : Type 0 where
-  pub each : All (λ f. IsFactor b m (value f) (quotient f)) table
+  pub each : AllFactors b m value quotient table
   pub minus_factor : IsFactor b m minus minus_quotient
   pub is_minus : minus + 1 ≡ m
 
@@ -26,7 +26,7 @@ pub record AreBlocks (length entries b last : ℕ) : Type 0 where
 pub record IsJoinable {T F : Type 0} (number : T → ℕ) (base m : ℕ) (value quotient : F → ℕ) (b last : ℕ) (words : List T)
     (table : List F) : Type 0 where
   pub entries : All (λ x. number x < 4 * m) words
-  pub factors : All (λ f. IsFactor base m (value f) (quotient f)) table
+  pub factors : AllFactors base m value quotient table
   pub blocks : AreBlocks (length words) (length table) b last
 
 -- a list of this length consists of blocks of one or two entries, and a table has the factors for their products

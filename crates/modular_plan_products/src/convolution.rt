@@ -4,7 +4,7 @@ ghost use Rattle.std.specs.Prelude.{◌≡◌, ℕ, ◌+◌, ◌-◌, ◌*◌, �
 ghost use Rattle.std.specs.Int.{IsPowerOfTwo};
 ghost use Rattle.modular_word.specs.Inverses.{HasInverse};
 ghost use Rattle.modular_transform.specs.Transforms.{cyclic_product};
-ghost use Rattle.modular_plan.specs.Factors.{IsFactor};
+ghost use Rattle.modular_plan.specs.Factors.{IsFactorOf, AllFactors};
 ghost use Rattle.modular_plan.specs.Plans.{numbers, constant, IsPlan, AreRemainders};
 ghost use Rattle.modular_plan_products.specs.Conditions.{AreBlocks, AreSmallBlocks};
 ghost use Rattle.modular_plan_products.specs.Products.{product_modulo, AreProducts};
@@ -43,8 +43,7 @@ fn split_first<T: PlainWord, F: PlanEntry<T>>(
     last: usize,
 )
     requires entries { All (λ x. T.number x < 4 * T.number m.now.modulus) xs.old }
-    requires factors { All (λ f. IsFactor T.base (T.number m.now.modulus) (F.value f) (F.quotient f))
-        table.now }
+    requires factors { AllFactors T.base (T.number m.now.modulus) F.value F.quotient table.now }
     requires blocks { AreBlocks (length xs.old) (length table.now) b last }
     ensures below { ((last ≡ 1) × (T.number m.now.modulus % 2 ≡ 1) → ⊥) →
         All (λ x. T.number x < T.number m.now.modulus) xs.new }
@@ -76,10 +75,9 @@ fn join_products<T: PlainWord, F: PlanEntry<T>>(
         All (λ x. T.number x < T.number m.now.modulus) xs.old }
     requires other_below { All (λ y. T.number y < T.number m.now.modulus) ys.now }
     requires equal { length ys.now ≡ length xs.old }
-    requires factors { All (λ f. IsFactor T.base (T.number m.now.modulus) (F.value f) (F.quotient f))
-        table.now }
+    requires factors { AllFactors T.base (T.number m.now.modulus) F.value F.quotient table.now }
     requires blocks { AreSmallBlocks (length xs.old) (length table.now) b last }
-    requires factor { IsFactor T.base (T.number m.now.modulus) (T.number w.now.value) (T.number w.now.quotient) }
+    requires factor { IsFactorOf T.base T.number (T.number m.now.modulus) w.now }
     ensures below { All (λ x. T.number x < T.number m.now.modulus) xs.new }
     ensures joined { let modulus = T.number m.now.modulus in (g z : ℕ) →
         IsPlan modulus g z (length table.now) (numbers F.value table.now) →
@@ -139,8 +137,7 @@ pub fn convolve_block<T: PlainWord, F: PlanEntry<T>>(
     requires entries_xs { All (λ x. T.number x < 4 * T.number m.now.modulus) xs.old }
     requires entries_ys { All (λ x. T.number x < 4 * T.number m.now.modulus) ys.old }
     requires equal { length ys.old ≡ length xs.old }
-    requires factors { All (λ f. IsFactor T.base (T.number m.now.modulus) (F.value f) (F.quotient f))
-        table.now }
+    requires factors { AllFactors T.base (T.number m.now.modulus) F.value F.quotient table.now }
     requires some { 1 ≤ last }
     requires few { last ≤ 2 }
     requires count { IsPowerOfTwo (length xs.old / last) }
@@ -184,8 +181,7 @@ pub fn convolve_planned<T: PlainWord, F: PlanEntry<T>>(
     requires entries_xs { All (λ x. T.number x < 4 * T.number m.now.modulus) xs.old }
     requires entries_ys { All (λ x. T.number x < 4 * T.number m.now.modulus) ys.old }
     requires equal { length ys.old ≡ length xs.old }
-    requires factors { All (λ f. IsFactor T.base (T.number m.now.modulus) (F.value f) (F.quotient f))
-        table.now }
+    requires factors { AllFactors T.base (T.number m.now.modulus) F.value F.quotient table.now }
     requires some { 1 ≤ last }
     requires few { last ≤ 2 }
     requires count { IsPowerOfTwo (length xs.old / last) }
@@ -219,8 +215,7 @@ pub fn convolve_negacyclic<T: PlainWord, F: PlanEntry<T>>(
     requires entries_xs { All (λ x. T.number x < 4 * T.number m.now.modulus) xs.old }
     requires entries_ys { All (λ x. T.number x < 4 * T.number m.now.modulus) ys.old }
     requires equal { length ys.old ≡ length xs.old }
-    requires factors { All (λ f. IsFactor T.base (T.number m.now.modulus) (F.value f) (F.quotient f))
-        table.now }
+    requires factors { AllFactors T.base (T.number m.now.modulus) F.value F.quotient table.now }
     requires some { 1 ≤ last }
     requires few { last ≤ 2 }
     requires count { IsPowerOfTwo (length xs.old / last) }

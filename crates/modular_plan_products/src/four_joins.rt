@@ -1,8 +1,8 @@
 //! The steps of the passes of a join.
 
 ghost use Rattle.std.specs.Prelude.{ℕ, ◌*◌};
-ghost use Rattle.modular_plan.specs.Factors.{IsFactor};
-ghost use Rattle.modular_plan.specs.Splits.{AreFactors, DoneBelow};
+ghost use Rattle.modular_plan.specs.Factors.{IsFactorOf};
+ghost use Rattle.modular_plan.specs.Splits.{AreFactorsOf, DoneBelow};
 ghost use Rattle.modular_plan_products.specs.Joins.{IsJoinByFactors, IsLastJoin};
 
 use crate::join_steps::JoinSteps;
@@ -19,8 +19,7 @@ pub struct JoinFour<T: PlainWord, M: JoinSteps<T>> {
     pub w: Factor<T>,
     pub u: Factor<T>,
     pub v: Factor<T>,
-    pub ghost factors: { AreFactors T.base (M.modulus m) (T.number w.value) (T.number w.quotient)
-        (T.number u.value) (T.number u.quotient) (T.number v.value) (T.number v.quotient) },
+    pub ghost factors: { AreFactorsOf T.base T.number (M.modulus m) w u v },
 }
 
 impl<T: PlainWord, M: JoinSteps<T>> FourStep<T> for JoinFour<T, M> {
@@ -64,8 +63,8 @@ pub struct JoinByOne<T: PlainWord, M: JoinSteps<T>> {
     pub m: M,
     pub v: Factor<T>,
     pub s: Factor<T>,
-    pub ghost factor: { IsFactor T.base (M.modulus m) (T.number v.value) (T.number v.quotient) },
-    pub ghost scale: { IsFactor T.base (M.modulus m) (T.number s.value) (T.number s.quotient) },
+    pub ghost factor: { IsFactorOf T.base T.number (M.modulus m) v },
+    pub ghost scale: { IsFactorOf T.base T.number (M.modulus m) s },
 }
 
 impl<T: PlainWord, M: JoinSteps<T>> FourStep<T> for JoinByOne<T, M> {

@@ -3,7 +3,7 @@
 ghost use Rattle.std.specs.Prelude.{◌≡◌, ℕ, ◌+◌, ◌*◌, ◌/◌, ◌%◌, ◌<◌, ◌≤◌, All, length};
 ghost use Rattle.std.specs.Int.{IsPowerOfTwo};
 ghost use Rattle.modular_word.specs.Congruence.{Congruent};
-ghost use Rattle.modular_plan.specs.Factors.{IsFactor};
+ghost use Rattle.modular_plan.specs.Factors.{IsFactorOf, AllFactors};
 ghost use Rattle.modular_plan.specs.Plans.{numbers, IsPlan, AreRemainders};
 ghost use Rattle.modular_plan_products.specs.Conditions.{IsJoinable, IsLevelReady, IsLevelJoined};
 
@@ -163,7 +163,7 @@ fn join_passes<T: PlainWord, F: PlanEntry<T>, M: JoinSteps<T>>(
 // Replaces each entry by its product with a factor.
 fn scale_each<T: PlainWord, M: JoinSteps<T>>(m: &M, xs: &mut [T], w: &Factor<T>)
     requires entries { All (λ x. T.number x < 4 * M.modulus m.now) xs.old }
-    requires factor { IsFactor T.base (M.modulus m.now) (T.number w.now.value) (T.number w.now.quotient) }
+    requires factor { IsFactorOf T.base T.number (M.modulus m.now) w.now }
     ensures products { (i : ℕ) → i < length xs.old →
         numbers T.number xs.new i ≡ (numbers T.number xs.old i * T.number w.now.value) % M.modulus m.now }
     ensures below { All (λ x. T.number x < M.modulus m.now) xs.new }
@@ -191,7 +191,7 @@ fn join_last<T: PlainWord, F: PlanEntry<T>, M: JoinSteps<T>>(
 )
     requires ready { IsLevelReady T.number F.value F.quotient T.base (M.modulus m.now) (M.bound m.now)
         b last (T.number minus.now.value) (T.number minus.now.quotient) xs.old table.now }
-    requires factor { IsFactor T.base (M.modulus m.now) (T.number w.now.value) (T.number w.now.quotient) }
+    requires factor { IsFactorOf T.base T.number (M.modulus m.now) w.now }
     ensures below { All (λ x. T.number x < M.modulus m.now) xs.new }
     ensures joined { let modulus = M.modulus m.now in (g z : ℕ) (x : ℕ → ℕ) →
         IsPlan modulus g z (length table.now) (numbers F.value table.now) →
@@ -219,7 +219,7 @@ fn join_scaled_by<T: PlainWord, F: PlanEntry<T>, M: JoinSteps<T>>(
     w: &Factor<T>,
 )
     requires joinable { IsJoinable T.number T.base (M.modulus m.now) F.value F.quotient b last xs.old table.now }
-    requires factor { IsFactor T.base (M.modulus m.now) (T.number w.now.value) (T.number w.now.quotient) }
+    requires factor { IsFactorOf T.base T.number (M.modulus m.now) w.now }
     ensures below { All (λ x. T.number x < M.modulus m.now) xs.new }
     ensures joined { let modulus = M.modulus m.now in (g z : ℕ) (x : ℕ → ℕ) →
         IsPlan modulus g z (length table.now) (numbers F.value table.now) →
@@ -253,8 +253,7 @@ pub fn join<T: PlainWord, F: PlanEntry<T>>(
     last: usize,
 )
     requires entries { All (λ x. T.number x < 4 * T.number m.now.modulus) xs.old }
-    requires factors { All (λ f. IsFactor T.base (T.number m.now.modulus) (F.value f) (F.quotient f))
-        table.now }
+    requires factors { AllFactors T.base (T.number m.now.modulus) F.value F.quotient table.now }
     requires some { 1 ≤ last }
     requires count { IsPowerOfTwo (length xs.old / last) }
     requires whole { length xs.old / last * last ≡ length xs.old }
@@ -284,13 +283,12 @@ pub fn join_scaled<T: PlainWord, F: PlanEntry<T>>(
     w: &Factor<T>,
 )
     requires entries { All (λ x. T.number x < 4 * T.number m.now.modulus) xs.old }
-    requires factors { All (λ f. IsFactor T.base (T.number m.now.modulus) (F.value f) (F.quotient f))
-        table.now }
+    requires factors { AllFactors T.base (T.number m.now.modulus) F.value F.quotient table.now }
     requires some { 1 ≤ last }
     requires count { IsPowerOfTwo (length xs.old / last) }
     requires whole { length xs.old / last * last ≡ length xs.old }
     requires within { (b + 1) * (length xs.old / last / 2) ≤ length table.now }
-    requires factor { IsFactor T.base (T.number m.now.modulus) (T.number w.now.value) (T.number w.now.quotient) }
+    requires factor { IsFactorOf T.base T.number (T.number m.now.modulus) w.now }
     ensures below { All (λ x. T.number x < T.number m.now.modulus) xs.new }
     ensures joined { let modulus = T.number m.now.modulus in (g z : ℕ) (x : ℕ → ℕ) →
         IsPlan modulus g z (length table.now) (numbers F.value table.now) →

@@ -2,9 +2,9 @@
 
 ghost use Rattle.std.specs.Prelude.{◌≡◌, ℕ, ◌+◌, ◌*◌, ◌%◌, ◌<◌, ◌≤◌};
 ghost use Rattle.modular_word.specs.Congruence.{Congruent};
-ghost use Rattle.modular_plan.specs.Factors.{IsFactor};
+ghost use Rattle.modular_plan.specs.Factors.{IsFactorOf};
 ghost use Rattle.modular_plan_products.specs.Joins.{IsPairJoin, IsFourJoin, IsMinusInverse, AreMinusInverses};
-ghost use Rattle.modular_plan.specs.Splits.{AreFourBelow, AreFactors};
+ghost use Rattle.modular_plan.specs.Splits.{AreFourBelow, AreFactorsOf};
 ghost use Rattle.std.proofs.Common.{le_refl, mul-le-mul_right, lit≤};
 
 use modular_plan::bounded::Bounded;
@@ -25,7 +25,7 @@ pub trait JoinSteps<T: PlainWord>: Bounded<T> + Copy {
 
     /// The factor -1.
     fn minus_one(&self) -> Factor<T>
-        ensures factor { IsFactor T.base (modulus self.now) (T.number result.value) (T.number result.quotient) }
+        ensures factor { IsFactorOf T.base T.number (modulus self.now) result }
         ensures value { T.number result.value + 1 ≡ modulus self.now };
 
     /// A number below the bound that is congruent to a word. Condition: it is below 4m.
@@ -38,7 +38,7 @@ pub trait JoinSteps<T: PlainWord>: Bounded<T> + Copy {
     fn pair(&self, x: T, y: T, v: &Factor<T>) -> (T, T)
         requires below { T.number x < bound self.now }
         requires other_below { T.number y < bound self.now }
-        requires factor { IsFactor T.base (modulus self.now) (T.number v.now.value) (T.number v.now.quotient) }
+        requires factor { IsFactorOf T.base T.number (modulus self.now) v.now }
         ensures below { T.number result.0 < bound self.now }
         ensures product_below { T.number result.1 < bound self.now }
         ensures pair { (w : ℕ) → IsMinusInverse (modulus self.now) w (T.number v.now.value) →
@@ -57,8 +57,7 @@ pub trait JoinSteps<T: PlainWord>: Bounded<T> + Copy {
         v: &Factor<T>,
     ) -> (T, T, T, T)
         requires below { AreFourBelow (bound self.now) (T.number x) (T.number y) (T.number z) (T.number t) }
-        requires factors { AreFactors T.base (modulus self.now) (T.number w.now.value) (T.number w.now.quotient)
-            (T.number u.now.value) (T.number u.now.quotient) (T.number v.now.value) (T.number v.now.quotient) }
+        requires factors { AreFactorsOf T.base T.number (modulus self.now) w.now u.now v.now }
         ensures below { AreFourBelow (bound self.now)
             (T.number result.0) (T.number result.1) (T.number result.2) (T.number result.3) }
         ensures four { (a b c : ℕ) → AreMinusInverses (modulus self.now) a b c
@@ -69,8 +68,8 @@ pub trait JoinSteps<T: PlainWord>: Bounded<T> + Copy {
     /// The same where the first two factors are -1, each result times the factor s, below m.
     fn four_by_one(&self, x: T, y: T, z: T, t: T, v: &Factor<T>, s: &Factor<T>) -> (T, T, T, T)
         requires below { AreFourBelow (bound self.now) (T.number x) (T.number y) (T.number z) (T.number t) }
-        requires factor { IsFactor T.base (modulus self.now) (T.number v.now.value) (T.number v.now.quotient) }
-        requires scale { IsFactor T.base (modulus self.now) (T.number s.now.value) (T.number s.now.quotient) }
+        requires factor { IsFactorOf T.base T.number (modulus self.now) v.now }
+        requires scale { IsFactorOf T.base T.number (modulus self.now) s.now }
         ensures below { AreFourBelow (modulus self.now)
             (T.number result.0) (T.number result.1) (T.number result.2) (T.number result.3) }
         ensures four { (c : ℕ) → IsMinusInverse (modulus self.now) c (T.number v.now.value)
@@ -80,7 +79,7 @@ pub trait JoinSteps<T: PlainWord>: Bounded<T> + Copy {
 
     /// The residue of any word's product with a factor, below m. Condition: the factor is a residue modulo m.
     fn product(&self, x: T, w: &Factor<T>) -> T
-        requires { IsFactor T.base (modulus self.now) (T.number w.now.value) (T.number w.now.quotient) }
+        requires { IsFactorOf T.base T.number (modulus self.now) w.now }
         ensures { T.number result ≡ (T.number x * T.number w.now.value) % modulus self.now };
 
     /// The residue of a word below the bound, below m.
@@ -102,7 +101,7 @@ fn gather<T: PlainWord>(m: &PlannedModulus<T>, x: T, y: T, bound: T, v: &Factor<
     requires room { 2 * T.number bound ≤ T.base }
     requires below { T.number x < T.number bound }
     requires other_below { T.number y < T.number bound }
-    requires factor { IsFactor T.base (T.number m.now.modulus) (T.number v.now.value) (T.number v.now.quotient) }
+    requires factor { IsFactorOf T.base T.number (T.number m.now.modulus) v.now }
     ensures sum { T.number result.0 ≡ T.number x + T.number y }
     ensures product_below { T.number result.1 < 2 * T.number m.now.modulus }
     ensures pair { (w : ℕ) → IsMinusInverse (T.number m.now.modulus) w (T.number v.now.value) →
@@ -117,7 +116,7 @@ fn scaled_pair<T: PlainWord>(m: &PlannedModulus<T>, x: T, y: T, bound: T, s: &Fa
     requires multiple { Congruent (T.number m.now.modulus) (T.number bound) 0 }
     requires room { T.number x + T.number bound < T.base }
     requires below { T.number y < T.number bound }
-    requires factor { IsFactor T.base (T.number m.now.modulus) (T.number s.now.value) (T.number s.now.quotient) }
+    requires factor { IsFactorOf T.base T.number (T.number m.now.modulus) s.now }
     ensures below { T.number result.0 < T.number m.now.modulus }
     ensures difference_below { T.number result.1 < T.number m.now.modulus }
     ensures pair { IsPairJoin (T.number m.now.modulus) 1 (T.number x * T.number s.now.value)

@@ -3,7 +3,7 @@
 ghost use Rattle.std.specs.Prelude.{◌≡◌, ℕ, ◌+◌, ◌*◌, ◌/◌, ◌%◌, ◌^◌, ◌<◌, ◌≤◌, All, length};
 ghost use Rattle.modular_word.specs.Congruence.{Congruent};
 ghost use Rattle.modular_word.specs.Inverses.{IsInverse};
-ghost use Rattle.modular_plan.specs.Factors.{IsFactor};
+ghost use Rattle.modular_plan.specs.Factors.{AllFactors};
 ghost use Rattle.modular_plan.specs.Plans.{numbers, constant, IsPlan};
 ghost use Rattle.modular_plan.specs.Steps.{PairDone};
 ghost use Rattle.modular_plan_products.specs.Products.{AreProducts};
@@ -81,8 +81,7 @@ fn times_constant<T: PlainWord, F: PlanEntry<T>>(
     j: usize,
     x: T,
 ) -> T
-    requires factors { All (λ f. IsFactor T.base (T.number m.now.modulus) (F.value f) (F.quotient f))
-        table.now }
+    requires factors { AllFactors T.base (T.number m.now.modulus) F.value F.quotient table.now }
     requires block { j < count }
     requires fits { count + count < 2 ^ 64 }
     requires within { (b + 1) * count ≤ 2 * length table.now }
@@ -135,8 +134,7 @@ fn multiply_pairs<T: PlainWord, F: PlanEntry<T>>(
     b: usize,
 )
     requires below { All (λ x. T.number x < T.number m.now.modulus) xs.old }
-    requires factors { All (λ f. IsFactor T.base (T.number m.now.modulus) (F.value f) (F.quotient f))
-        table.now }
+    requires factors { AllFactors T.base (T.number m.now.modulus) F.value F.quotient table.now }
     requires equal { length ys.now ≡ length xs.old }
     requires within { (b + 1) * (length xs.old / 2) ≤ 2 * length table.now }
     ensures below { All (λ x. T.number x < T.number m.now.modulus) xs.new }
@@ -168,8 +166,7 @@ pub fn multiply<T: PlainWord, F: PlanEntry<T>>(
     last: usize,
 )
     requires below { All (λ x. T.number x < T.number m.now.modulus) xs.old }
-    requires factors { All (λ f. IsFactor T.base (T.number m.now.modulus) (F.value f) (F.quotient f))
-        table.now }
+    requires factors { AllFactors T.base (T.number m.now.modulus) F.value F.quotient table.now }
     requires equal { length ys.now ≡ length xs.old }
     requires some { 1 ≤ last }
     requires few { last ≤ 2 }

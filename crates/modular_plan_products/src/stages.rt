@@ -1,9 +1,9 @@
 //! The passes of a join over all blocks: a stage, or two.
 
 ghost use Rattle.std.specs.Prelude.{◌≡◌, ℕ, ◌+◌, ◌*◌, ◌^◌, ◌<◌, ◌≤◌, All, length};
-ghost use Rattle.modular_plan.specs.Factors.{IsFactor};
+ghost use Rattle.modular_plan.specs.Factors.{IsFactorOf};
 ghost use Rattle.modular_plan.specs.Plans.{numbers, IsPlan};
-ghost use Rattle.modular_plan.specs.Splits.{AreFactors};
+ghost use Rattle.modular_plan.specs.Splits.{AreFactorsOf};
 ghost use Rattle.modular_plan.specs.Steps.{PairDone, BlockDone, StageDone};
 ghost use Rattle.modular_plan_products.specs.Joins.{IsPairJoin, IsMinusInverse, AreMinusInverses};
 ghost use Rattle.modular_plan_products.specs.Conditions.{IsTableOfFactors, IsStageReady, IsPassReady, IsPassJoined};
@@ -37,7 +37,7 @@ fn minus_inverse<T: PlainWord, F: PlanEntry<T>, M: JoinSteps<T>>(
     requires factors { IsTableOfFactors T.base (M.modulus m.now) F.value F.quotient table.now
         (T.number minus.value) (T.number minus.quotient) }
     requires within { place < length table.now }
-    ensures factor { IsFactor T.base (M.modulus m.now) (T.number result.value) (T.number result.quotient) }
+    ensures factor { IsFactorOf T.base T.number (M.modulus m.now) result }
     ensures inverse { let modulus = M.modulus m.now in
         let w = numbers F.value table.now in (g z : ℕ) →
         IsPlan modulus g z (length table.now) w → IsMinusInverse modulus (w place) (T.number result.value) }
@@ -64,8 +64,7 @@ pub(crate) fn minus_inverses<T: PlainWord, F: PlanEntry<T>, M: JoinSteps<T>>(
     requires factors { IsTableOfFactors T.base (M.modulus m.now) F.value F.quotient table.now
         (T.number minus.value) (T.number minus.quotient) }
     requires within { 2 * place + 1 < length table.now }
-    ensures factors { AreFactors T.base (M.modulus m.now) (T.number result.0.value) (T.number result.0.quotient)
-        (T.number result.1.value) (T.number result.1.quotient) (T.number result.2.value) (T.number result.2.quotient) }
+    ensures factors { AreFactorsOf T.base T.number (M.modulus m.now) result.0 result.1 result.2 }
     ensures inverses { let modulus = M.modulus m.now in
         let w = numbers F.value table.now in (g z : ℕ) →
         IsPlan modulus g z (length table.now) w → AreMinusInverses modulus (w place) (w (2 * place)) (w (2 * place + 1))
@@ -95,7 +94,7 @@ fn join_pair<T: PlainWord, M: JoinSteps<T>>(
     v: &Factor<T>,
 )
     requires entries { All (λ x. T.number x < M.bound m.now) xs.old }
-    requires factor { IsFactor T.base (M.modulus m.now) (T.number v.now.value) (T.number v.now.quotient) }
+    requires factor { IsFactorOf T.base T.number (M.modulus m.now) v.now }
     requires order { low < high }
     requires within { high < length xs.old }
     ensures entries { All (λ x. T.number x < M.bound m.now) xs.new }
@@ -116,7 +115,7 @@ fn join_block<T: PlainWord, M: JoinSteps<T>>(
     v: &Factor<T>,
 )
     requires entries { All (λ x. T.number x < M.bound m.now) xs.old }
-    requires factor { IsFactor T.base (M.modulus m.now) (T.number v.now.value) (T.number v.now.quotient) }
+    requires factor { IsFactorOf T.base T.number (M.modulus m.now) v.now }
     requires within { first + (half + half) ≤ length xs.old }
     ensures entries { All (λ x. T.number x < M.bound m.now) xs.new }
     ensures done { (w : ℕ) → IsMinusInverse (M.modulus m.now) w (T.number v.now.value) →

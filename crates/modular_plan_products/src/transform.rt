@@ -3,7 +3,7 @@
 ghost use Rattle.std.specs.Prelude.{◌≡◌, ℕ, ◌*◌, ◌/◌, ◌^◌, ◌<◌, ◌≤◌, All, length};
 ghost use Rattle.std.specs.Int.{IsPowerOfTwo};
 ghost use Rattle.modular_transform.specs.Transforms.{transform};
-ghost use Rattle.modular_plan.specs.Factors.{IsFactor};
+ghost use Rattle.modular_plan.specs.Factors.{AllFactors};
 ghost use Rattle.modular_plan.specs.Plans.{numbers, IsPlan};
 
 use modular_plan::entry::PlanEntry;
@@ -21,8 +21,7 @@ use modular_transform::order::reverse_places;
 /// Source: `split`, and a reversal of the bits of the indexes.
 pub fn ntt_planned<T: PlainWord, F: PlanEntry<T>>(m: &PlannedModulus<T>, xs: &mut [T], table: &[F])
     requires entries { All (λ x. T.number x < 4 * T.number m.now.modulus) xs.old }
-    requires factors { All (λ f. IsFactor T.base (T.number m.now.modulus) (F.value f) (F.quotient f))
-        table.now }
+    requires factors { AllFactors T.base (T.number m.now.modulus) F.value F.quotient table.now }
     requires count { IsPowerOfTwo (length xs.old) }
     requires within { length xs.old / 2 ≤ length table.now }
     ensures below { All (λ x. T.number x < T.number m.now.modulus) xs.new }

@@ -4,7 +4,7 @@ ghost use Rattle.std.specs.Prelude.{◌≡◌, ℕ, ◌+◌, ◌*◌, ◌/◌, �
 ghost use Rattle.std.specs.Int.{IsPowerOfTwo};
 ghost use Rattle.modular_word.specs.Inverses.{IsInverse};
 ghost use Rattle.modular_transform.specs.Transforms.{Suits, transform};
-ghost use Rattle.modular_plan.specs.Factors.{IsFactor};
+ghost use Rattle.modular_plan.specs.Factors.{IsFactorOf};
 ghost use Rattle.modular_plan.specs.Plans.{numbers};
 
 use modular_plan::modulus::{Factor, PlannedModulus};
@@ -32,7 +32,7 @@ pub fn split_and_joined<T: PlainWord>(
     requires count { IsPowerOfTwo (length xs.old / block.1) }
     requires whole { length xs.old / block.1 * block.1 ≡ length xs.old }
     requires within { (block.0 + 1) * (length xs.old / block.1 / 2) ≤ length table.old }
-    requires factor { IsFactor T.base (T.number m.now.modulus) (T.number part.now.value) (T.number part.now.quotient) }
+    requires factor { IsFactorOf T.base T.number (T.number m.now.modulus) part.now }
     requires inverse { IsInverse (T.number m.now.modulus) (length xs.old / block.1) (T.number part.now.value) }
     ensures { (i : ℕ) → i < length xs.old
         → numbers T.number xs.new i ≡ numbers T.number xs.old i % T.number m.now.modulus }

@@ -1,6 +1,5 @@
 //! Products by factors with a precomputed quotient, modulo an m that is at most a quarter of the base.
 
-use crate::modular_plan::bounded::Bounded;
 use crate::modular_prim::below::reduced_once;
 use crate::modular_prim::plain_word::PlainWord;
 use crate::modular_prim::reciprocal::invert_word;
@@ -184,12 +183,6 @@ impl<T: PlainWord> PlannedModulus<T> {
     #[inline]
     pub fn twice(&self) -> T {
         self.modulus.plus(self.modulus)
-    }
-
-    /// Whether a word of more than 32 bits is at least 4m; false for shorter words (see `Bounded::is_beyond`).
-    #[inline]
-    pub fn is_outside(&self, x: T) -> bool {
-        self.is_beyond(x)
     }
 
     /// Whether a word is below 4m.

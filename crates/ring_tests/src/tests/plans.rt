@@ -1,7 +1,7 @@
 //! Known lists of remainders, their joins, and transforms in natural order, by plans.
 
 ghost use Rattle.std.specs.Prelude.{◌*◌, ◌<◌, ◌↔◌, IsTrue, All};
-ghost use Rattle.num_modular.specs.Factors.{IsFactor};
+ghost use Rattle.num_modular.specs.Factors.{IsFactorOf};
 
 use super::{assert_at, assert_right};
 use modular_prim::plain_word::PlainWord;
@@ -50,8 +50,7 @@ pub fn are_same<T: RingWord>(xs: &[T], ys: &[T]) -> bool {
 
 /// Whether the table gets the plan by g, which is for twice as many entries as it has factors.
 pub fn is_planned<T: PlainWord>(m: &PlannedModulus<T>, g: T, table: &mut [Factor<T>]) -> bool
-    ensures { IsTrue result →
-        All (λ f. IsFactor T.base (T.number m.now.modulus) (T.number f.value) (T.number f.quotient)) table.new }
+    ensures { IsTrue result → All (IsFactorOf T.base T.number (T.number m.now.modulus)) table.new }
 {
     if !g.is_below(m.modulus) || table.len() > 64 {
         return false;
@@ -67,7 +66,7 @@ pub fn is_planned<T: PlainWord>(m: &PlannedModulus<T>, g: T, table: &mut [Factor
 // Whether a list is a power of two of entries, for which the table has the factors, and is transformed.
 #[tactic(auto, using(modular_transform::proofs::PowersOfTwo::power_of_two_tested))]
 fn is_transformed<T: PlainWord>(m: &PlannedModulus<T>, xs: &mut [T], table: &[Factor<T>]) -> bool
-    requires { All (λ f. IsFactor T.base (T.number m.now.modulus) (T.number f.value) (T.number f.quotient)) table.now }
+    requires { All (IsFactorOf T.base T.number (T.number m.now.modulus)) table.now }
 {
     if !xs.len().is_power_of_two() || xs.len() / 2 > table.len() || !all_in_room(m, xs) {
         return false;
@@ -84,7 +83,7 @@ fn is_done<T: PlainWord>(
     xs: &mut [T],
     table: &[Factor<T>],
 ) -> bool
-    requires { All (λ f. IsFactor T.base (T.number m.now.modulus) (T.number f.value) (T.number f.quotient)) table.now }
+    requires { All (IsFactorOf T.base T.number (T.number m.now.modulus)) table.now }
 {
     let (b, last) = block;
     if !splits(xs.len(), table.len(), b, last) || !all_in_room(m, xs) {

@@ -1,7 +1,7 @@
 //! Known products of polynomials, by plans.
 
 ghost use Rattle.std.specs.Prelude.{◌*◌, ◌<◌, ◌↔◌, IsTrue, All};
-ghost use Rattle.num_modular.specs.Factors.{IsFactor};
+ghost use Rattle.num_modular.specs.Factors.{IsFactorOf};
 
 use super::plans::{all_in_room, are_same, is_planned};
 use super::{assert_at, assert_right};
@@ -43,7 +43,7 @@ fn called<T: PlainWord>(
     ys: &mut [T],
     table: &[Factor<T>],
 ) -> Option<bool>
-    requires { All (λ f. IsFactor T.base (T.number m.now.modulus) (T.number f.value) (T.number f.quotient)) table.now }
+    requires { All (IsFactorOf T.base T.number (T.number m.now.modulus)) table.now }
 {
     let (b, last) = block;
     if xs.len() != ys.len() || !convolves(xs.len(), table.len(), b, last) {
