@@ -7,3 +7,4 @@ pub mod PowerSteps
 pub mod ReciprocalOf
 pub mod ResidueSteps
 pub mod Scaled
+pub mod WholeNumbers
