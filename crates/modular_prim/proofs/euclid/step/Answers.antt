@@ -1,0 +1,24 @@
+use Rattle.std.proofs.Common.{◌+◌, ◌*◌, ap, ◌∙◌, arith}
+use Rattle.modular_prim.proofs.DigitSteps.{quotient_is, remainder_is}
+use Rattle.modular_prim.proofs.euclid.step.Goals as goal
+
+pub division-quotient-requires : goal.division-quotient-requires
+division-quotient-requires g c = c.requires.some
+
+pub times-requires : goal.times-requires
+times-requires g c =
+    let times = ap (λ v. v * g.T.RingWord.number c.args.t) (quotient_is c.division-quotient.ensures.division) in
+    omega (arith, times, c.requires.fits)
+
+pub plus-requires : goal.plus-requires
+plus-requires g c =
+    let times = ap (λ v. v * g.T.RingWord.number c.args.t) (quotient_is c.division-quotient.ensures.division) in
+    omega (arith, times, c.times.ensures, c.requires.fits)
+
+pub returns-clause-rest : goal.returns-clause-rest
+returns-clause-rest g c = remainder_is c.division-quotient.ensures.division
+
+pub returns-clause-coefficient : goal.returns-clause-coefficient
+returns-clause-coefficient g c =
+    let times = ap (λ v. v * g.T.RingWord.number c.args.t) (quotient_is c.division-quotient.ensures.division) in
+    c.plus.ensures ∙ ap (λ v. g.T.RingWord.number c.args.last_t + v) (c.times.ensures ∙ times)
