@@ -282,3 +282,32 @@ returns-clause-stage g c =
     let within = c.strips.invariant.within in
     let e : c.strips.column ≡ c.args.half = omega arith in
     stage_done x y (subst (λ d. PairsDone m (λ i. w ^ i) c.args.half 0 c.args.blocks 0 d x y) e c.strips.invariant.done)
+
+pub overflow_sub-half : goal.overflow_sub-half
+overflow_sub-half g c = c.strips.invariant.within
+
+pub bounds-powers-i : goal.bounds-powers-i
+bounds-powers-i g c = omega (arith, c.min-width.ensures)
+
+pub bounds-powers-k : goal.bounds-powers-k
+bounds-powers-k g c = omega (arith, c.min-width.ensures)
+
+pub overflow_mul-first : goal.overflow_mul-first
+overflow_mul-first g c =
+    let fit = block_fits c.each_block.block c.args.blocks c.args.half _ (omega arith) c.requires.whole in
+    omega (arith, fit)
+
+pub overflow_add-first : goal.overflow_add-first
+overflow_add-first g c =
+    let fit = block_fits 0 c.args.blocks c.args.half _ c.requires.some c.requires.whole in
+    omega (arith, fit)
+
+pub overflow_add-column : goal.overflow_add-column
+overflow_add-column g c =
+    let least = c.min-width.ensures in
+    omega (arith, least)
+
+pub strips-smaller : goal.strips-smaller
+strips-smaller g c =
+    let least = c.min-width.ensures in
+    omega (arith, least)
