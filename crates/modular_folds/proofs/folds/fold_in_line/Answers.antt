@@ -1,4 +1,5 @@
-use Rattle.std.proofs.Common.{◌≡◌, ℕ, ◌+◌, ◌*◌, ◌/◌, ◌%◌, ◌^◌, ◌<◌, ◌≤◌, ◌∙◌, arith}
+use Rattle.std.proofs.Common.{◌≡◌, ℕ, ◌+◌, ◌*◌, ◌/◌, ◌%◌, ◌^◌, ◌<◌, ◌≤◌, ◌∙◌, refl, arith}
+use Rattle.std.proofs.Math.Nat.{mul-le-mul_right}
 use Rattle.modular_folds.proofs.FoldSteps.{power_fits, some_bits, fold_keeps}
 use Rattle.modular_folds.proofs.FoldBounds.{doubled_fits, first_bound, fold_bound, next_bound, bound_falls}
 use Rattle.modular_folds.proofs.folds.fold_in_line.Goals as goal
@@ -95,3 +96,39 @@ last_same g c =
 
 pub returns : goal.returns
 returns g c = record { twice = last_below g c; same = last_same g c }
+
+pub minus-requires : goal.minus-requires
+minus-requires g c = omega (arith, c.one.ensures, c.requires.folding.some)
+
+pub shift_right-requires : goal.shift_right-requires
+shift_right-requires g c = omega (arith, some_bits c.requires.folding, c.requires.room)
+
+pub folds-init : goal.folds-init
+folds-init g c =
+    let n = g.V.RingWord.number in
+    let mask = ones _ _ c.one.ensures c.minus.ensures c.plus-mask.ensures c.requires.folding.whole in
+    let high : n c.args.v / 2 ^ c.args.p ≤ n c.plus-mask.result = omega (arith, mask, c.requires.product) in
+    record {
+      same = refl;
+      bound = omega (arith, mul-le-mul_right (n c.args.c) high, c.times.ensures, c.plus-most.ensures);
+    }
+
+pub fold_once-rest-requires-clause-inside : goal.fold_once-rest-requires-clause-inside
+fold_once-rest-requires-clause-inside g c = omega (arith, some_bits c.requires.folding, c.requires.room)
+
+pub fold_once-rest-requires-clause-mask : goal.fold_once-rest-requires-clause-mask
+fold_once-rest-requires-clause-mask g c =
+    ones _ _ c.one.ensures c.minus.ensures c.plus-mask.ensures c.requires.folding.whole
+
+pub fold_once-rest-requires-clause-less : goal.fold_once-rest-requires-clause-less
+fold_once-rest-requires-clause-less g c = omega (arith, c.requires.folding.whole, c.requires.folding.half)
+
+pub fold_once-requires-clause-inside : goal.fold_once-requires-clause-inside
+fold_once-requires-clause-inside g c = omega (arith, some_bits c.requires.folding, c.requires.room)
+
+pub fold_once-requires-clause-mask : goal.fold_once-requires-clause-mask
+fold_once-requires-clause-mask g c =
+    ones _ _ c.one.ensures c.minus.ensures c.plus-mask.ensures c.requires.folding.whole
+
+pub fold_once-requires-clause-less : goal.fold_once-requires-clause-less
+fold_once-requires-clause-less g c = omega (arith, c.requires.folding.whole, c.requires.folding.half)

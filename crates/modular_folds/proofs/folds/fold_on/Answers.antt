@@ -1,6 +1,6 @@
 use Rattle.std.proofs.Common.{◌∙◌, ◌^◌, ◌<◌, arith}
 use Rattle.modular_folds.proofs.FoldCounts.{few_in, folds-none}
-use Rattle.modular_folds.proofs.FoldSteps.{bit_inside, fold_keeps}
+use Rattle.modular_folds.proofs.FoldSteps.{bit_inside, fold_keeps, fold_less}
 use Rattle.modular_folds.proofs.folds.fold_on.Goals as goal
 
 pub fold-next-requires-clause-inside : goal.fold-next-requires-clause-inside
@@ -34,3 +34,13 @@ fold-next-requires-clause-mask g c = c.requires.mask
 
 pub returns-clause-same : goal.returns-clause-same
 returns-clause-same g c = c.folds.invariant.same
+
+pub fold-next-requires-clause-less : goal.fold-next-requires-clause-less
+fold-next-requires-clause-less g c = omega (arith, c.requires.folding.whole, c.requires.folding.half)
+
+pub folds-smaller : goal.folds-smaller
+folds-smaller g c =
+    let n = g.V.RingWord.number in
+    let less = fold_less c.args.p (n c.args.c) (n c.folds.rest)
+    (omega (arith, c.requires.folding.whole, c.requires.folding.half)) (omega (arith, c.requires.mask)) in
+    rw c.fold-next.ensures.value less
