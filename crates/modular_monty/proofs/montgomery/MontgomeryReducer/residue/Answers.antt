@@ -25,3 +25,9 @@ returns g c =
     value_made r _ c.high.ensures.value c.residue-value.ensures.form c.wrapping_sub-behind.ensures.value
     (c.low_bits-steps.ensures.value ∙ low_word r _ c.wrapping_mul.ensures.value)
     (c.plus.ensures ∙ ap (λ p. n c.residue-value.result + p) c.times.ensures)
+
+pub high-requires : goal.high-requires
+high-requires g c = c.requires
+
+pub residue-value-requires : goal.residue-value-requires
+residue-value-requires g c = c.high.ensures.form
