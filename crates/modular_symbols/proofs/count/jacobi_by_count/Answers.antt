@@ -1,7 +1,7 @@
 -- The count one number on, and the symbol at its end.
 use Rattle.std.proofs.Common.{◌<◌, ◌≤◌, cond, pos, negsuc, sym, ap, ◌∙◌, arith}
 use Rattle.modular_symbols.specs.Kronecker.{signed}
-use Rattle.modular_symbols.proofs.CountSteps.{Next, counted_high, counted_low, counted_all}
+use Rattle.modular_symbols.proofs.CountSteps.{Next, counted_none, counted_high, counted_low, counted_all}
 use Rattle.modular_symbols.proofs.CountSteps.{shared_divisor, no_inverse, with_inverse}
 use Rattle.modular_symbols.proofs.count.jacobi_by_count.Goals as goal
 
@@ -15,7 +15,7 @@ returns-then-is_none g c =
 pub half_system-preserved-then-is_below : goal.half_system-preserved-then-is_below
 half_system-preserved-then-is_below g c =
     let n = g.T.RingWord.number in
-    let before : n c.half_system.x < n c.half-half.result = grind arith in
+    let before = c.is_below.ensures.below.0 c.half_system-test.true in
     let high : n c.half-half.result < n c.mulm.result = grind arith in
     let next : Next (signed c.args.a_minus (pos (n c.args.a))) (n c.args.n) (n c.half_system.x)
     (n c.one.result) (n c.plus-x.result)
@@ -33,7 +33,7 @@ half_system-preserved-then-is_below g c =
 pub half_system-preserved : goal.half_system-preserved
 half_system-preserved g c =
     let n = g.T.RingWord.number in
-    let before : n c.half_system.x < n c.half-half.result = grind arith in
+    let before = c.is_below.ensures.below.0 c.half_system-test.true in
     let low : n c.mulm.result ≤ n c.half-half.result = grind arith in
     let next : Next (signed c.args.a_minus (pos (n c.args.a))) (n c.args.n) (n c.half_system.x)
     (n c.one.result) (n c.plus-x.result)
@@ -71,3 +71,25 @@ returns-else-odd g c =
     (n c.half-half.result) c.half_system.odd
     c.half_system.invariant c.requires c.half-half.ensures.value reached coprime
     ∙ ap (λ v. cond v (negsuc 0) (pos 1)) c.if-odd.false)
+
+pub invm-requires : goal.invm-requires
+invm-requires g c = omega (arith, c.requires)
+
+pub signed_residue-residue-requires : goal.signed_residue-residue-requires
+signed_residue-residue-requires g c = omega (arith, c.requires)
+
+pub half_system-init : goal.half_system-init
+half_system-init g c = counted_none _ _ _ c.zero-x.ensures
+
+pub plus-x-requires : goal.plus-x-requires
+plus-x-requires g c =
+    let before = c.is_below.ensures.below.0 c.half_system-test.true in
+    omega (arith, before, c.one.ensures, c.is_below.ensures.other_fits)
+
+pub mulm-requires : goal.mulm-requires
+mulm-requires g c = omega (arith, c.requires)
+
+pub half_system-smaller : goal.half_system-smaller
+half_system-smaller g c =
+    let before = c.is_below.ensures.below.0 c.half_system-test.true in
+    omega (arith, before, c.plus-x.ensures, c.one.ensures)
