@@ -1,14 +1,15 @@
 use Rattle.std.proofs.Common.{◌≡◌, ◌*◌, ◌%◌, ◌<◌, ap, arith, rules}
+use Rattle.std.proofs.Math.Nat.{mul-le-mul_right}
 use Rattle.modular_monty.proofs.SquareTests.{square_of_unit, square_modulo_one, modulus_is_one}
 use Rattle.modular_monty.proofs.odd_ring.is_square_of_base.Goals as goal
 use Rattle.modular_monty.proofs.odd_ring.is_square_of_base.Goals.{After-redc-unit}
 
 -- the arguments of the lemmas
 some : (g : _) (c : After-redc-unit g) → 0 < g.T.PathWord.base
-some g c = let fits = c.is_below.ensures.fits in omega arith
+some g c = omega (arith, c.is_below.ensures.fits)
 
 below : (g : _) (c : After-redc-unit g) → g.T.RingWord.number c.args.square < g.T.RingWord.number c.args.m
-below g c = search rules
+below g c = c.is_below.ensures.below.0 c.if-not-is_below.false
 
 first : (g : _) (c : After-redc-unit g) → g.T.PathWord.double_number c.merge.result ≡ g.T.RingWord.number c.args.square
 first g c =
@@ -25,7 +26,7 @@ pub returns-then-is_one : goal.returns-then-is_one
 returns-then-is_one g c =
     let d = (goal.at.returns-then-is_one g c).After-redc-unit in
     let m = g.T.RingWord.number c.args.m in
-    let unit : g.T.RingWord.number c.redc-unit.result ≡ 1 = search rules in (
+    let unit : g.T.RingWord.number c.redc-unit.result ≡ 1 = c.is_one.ensures.0 c.if-is_one.true in (
       λ _. square_of_unit (some g d) c.requires.inverse (below g d) (first g d) c.redc-base.ensures
           (second g d) c.redc-unit.ensures
           (ap (λ v. v % m) unit),
@@ -36,10 +37,24 @@ pub returns-else-is_one : goal.returns-else-is_one
 returns-else-is_one g c =
     let d = (goal.at.returns-else-is_one g c).After-redc-unit in
     let is = c.is_one-else-is_one.ensures in
-    let no : g.T.RingWord.number c.redc-unit.result ≡ 1 → ⊥ = search rules in (
+    let no : g.T.RingWord.number c.redc-unit.result ≡ 1 → ⊥ =
+    λ e. let t = c.is_one.ensures.1 e in cc (t, c.if-is_one.false) in (
       λ one. square_modulo_one (some g d) c.requires.inverse (below g d) (first g d) c.redc-base.ensures
           (second g d) c.redc-unit.ensures
           (is.0 one),
       λ e. is.1 (modulus_is_one (some g d) c.requires.inverse (below g d) (first g d) c.redc-base.ensures
           (second g d) c.redc-unit.ensures no e),
     )
+
+pub redc-base-requires-clause-inverse : goal.redc-base-requires-clause-inverse
+redc-base-requires-clause-inverse g c = c.requires.inverse
+
+pub redc-base-requires-clause-below : goal.redc-base-requires-clause-below
+redc-base-requires-clause-below g c =
+    let high = ap (λ o. g.T.PathWord.base * o) c.zero.ensures in
+    let less = c.is_below.ensures.below.0 c.if-not-is_below.false in
+    let least : 0 < g.T.PathWord.base = omega (arith, c.is_below.ensures.fits) in
+    omega (arith, high, c.merge.ensures.value, less, mul-le-mul_right (g.T.RingWord.number c.args.m) least)
+
+pub redc-unit-requires-clause-inverse : goal.redc-unit-requires-clause-inverse
+redc-unit-requires-clause-inverse g c = c.requires.inverse
