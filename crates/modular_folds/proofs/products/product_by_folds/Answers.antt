@@ -1,4 +1,4 @@
-use Rattle.std.proofs.Common.{rules, ◌≡◌, ◌+◌, ◌-◌, ◌*◌, ◌/◌, ◌%◌, ◌^◌, arith}
+use Rattle.std.proofs.Common.{sym, ap, ◌∙◌, ◌≡◌, ◌+◌, ◌-◌, ◌*◌, ◌/◌, ◌%◌, ◌^◌, arith}
 use Rattle.std.proofs.Math.Nat.{mul-mod_left}
 use Rattle.modular_folds.proofs.FoldSteps.{power_fits, some_bits}
 use Rattle.modular_folds.proofs.ProductFolds.{IsLastSum, sum_by_one, sum_by_small}
@@ -11,6 +11,9 @@ fold_parts-low-requires-clause-some g c = some_bits c.requires.folding
 pub shift_right-requires : goal.shift_right-requires
 shift_right-requires g c = omega (arith, c.bits.ensures, some_bits c.requires.folding, c.requires.folding.fits)
 
+is_one : (g : _) (c : After-shift_right g) → g.T.RingWord.number c.args.c ≡ 1
+is_one g c = (g.met.T.RingWord.equal c.args.c c.one.result).0 (sym c.eq.ensures ∙ c.if-eq.true) ∙ c.one.ensures
+
 by_one : (g : _) (c : After-shift_right g) → g.T.RingWord.number c.args.c ≡ 1
     → IsLastSum (g.T.RingWord.number c.args.m) (g.T.RingWord.number c.args.a * g.T.RingWord.number c.args.b)
     (g.T.RingWord.number c.fold_parts-low.result.1) (g.T.RingWord.number c.shift_right.result)
@@ -20,12 +23,14 @@ by_one g c one =
 
 pub sum_of_parts-requires : goal.sum_of_parts-requires
 sum_of_parts-requires g c =
-    let last = by_one g (goal.at.sum_of_parts-requires g c).After-shift_right (search rules) in
+    let d = (goal.at.sum_of_parts-requires g c).After-shift_right in
+    let last = by_one g d (is_one g d) in
     record { bound = omega (arith, c.requires.folding.whole); most = last.most; twice = last.twice }
 
 pub returns-then-eq : goal.returns-then-eq
 returns-then-eq g c =
-    rw c.sum_of_parts.ensures (by_one g (goal.at.returns-then-eq g c).After-shift_right (search rules)).same
+    let d = (goal.at.returns-then-eq g c).After-shift_right in
+    c.sum_of_parts.ensures ∙ (by_one g d (is_one g d)).same
 
 pub fold_parts-rest-requires : goal.fold_parts-rest-requires
 fold_parts-rest-requires g c =
@@ -35,8 +40,8 @@ fold_parts-rest-requires g c =
       some = some_bits c.requires.folding;
       fits = c.requires.folding.fits;
       less = omega (arith, c.requires.folding.whole);
-      top = rw c.fold_parts-low.ensures.low
-          (mul-mod_left ((n c.args.a * n c.args.b + n c.zero.result / s) % 2 ^ c.args.p) s);
+      top = ap (λ v. v % s) c.fold_parts-low.ensures.low
+          ∙ mul-mod_left ((n c.args.a * n c.args.b + n c.zero.result / s) % 2 ^ c.args.p) s;
     }
 
 pub shift_right-requires-2 : goal.shift_right-requires-2
@@ -72,4 +77,6 @@ sum_of_parts-requires-2 g c =
 pub returns : goal.returns
 returns g c =
     let last = by_small g (goal.at.returns g c).After-shift_right-2 in
-    rw (c.sum_of_parts-2.ensures, c.times.ensures) last.same
+    c.sum_of_parts-2.ensures
+    ∙ ap (λ v. (g.T.RingWord.number c.shift_right-2.result + v) % g.T.RingWord.number c.args.m) c.times.ensures
+    ∙ last.same
