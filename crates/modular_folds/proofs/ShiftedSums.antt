@@ -1,5 +1,5 @@
 -- Sums of a word and a shifted one that wrap: by a factor of one more than a power of two, a product and a sum.
-use Rattle.std.proofs.Common.{◌≡◌, ℕ, ◌+◌, ◌-◌, ◌*◌, ◌%◌, ◌^◌, ◌<◌, ◌∙◌, ◌≤◌, ap, arith, lit<}
+use Rattle.std.proofs.Common.{◌≡◌, ℕ, ◌+◌, ◌*◌, ◌%◌, ◌^◌, ◌<◌, ◌≤◌, ap, arith, lit<}
 use Rattle.std.proofs.Math.Nat.{pow-le-pow_right}
 
 -- powers of two that are words

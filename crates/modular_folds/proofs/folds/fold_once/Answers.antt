@@ -1,4 +1,4 @@
-use Rattle.std.proofs.Common.{ap, ◌*◌, ◌≡◌, arith}
+use Rattle.std.proofs.Common.{ap, ◌*◌, arith}
 use Rattle.modular_folds.proofs.FoldSteps.{masked, fold_at_most}
 use Rattle.modular_folds.proofs.folds.fold_once.Goals as goal
 

@@ -1,4 +1,4 @@
-use Rattle.std.proofs.Common.{◌*◌, ◌<◌, ◌≤◌, arith}
+use Rattle.std.proofs.Common.{◌≤◌, arith}
 use Rattle.modular_folds.proofs.FoldBounds.{once_below, once_above}
 use Rattle.modular_folds.proofs.folds.reduced_last.Goals as goal
 

@@ -1,4 +1,4 @@
-use Rattle.std.proofs.Common.{◌≡◌, ◌+◌, ◌^◌, arith}
+use Rattle.std.proofs.Common.{arith}
 use Rattle.modular_folds.proofs.ShiftedSums.{power_128, more_128}
 use Rattle.modular_folds.proofs.fold_word.U128FoldWord.multiply_add.Goals as goal
 

@@ -1,4 +1,4 @@
-use Rattle.std.proofs.Common.{◌≡◌, ◌+◌, ◌^◌, arith}
+use Rattle.std.proofs.Common.{arith}
 use Rattle.modular_folds.proofs.ShiftedSums.{power_64, more_64}
 use Rattle.modular_folds.proofs.fold_word.U64FoldWord.multiply_add.Goals as goal
 
