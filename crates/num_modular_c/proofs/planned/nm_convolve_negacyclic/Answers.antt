@@ -1,4 +1,5 @@
-use Rattle.std.proofs.Common.{◌≡◌, ◌+◌, ◌*◌, ◌/◌, ◌≤◌, length, arith, refl}
+use Rattle.std.proofs.Common.{◌≡◌, ◌+◌, ◌*◌, ◌/◌, ◌≤◌, length, arith, refl, sym, ◌∙◌}
+use Rattle.std.proofs.lemmas.Bool.{false≢true}
 use Rattle.num_modular_c.proofs.planned.nm_convolve_negacyclic.Goals as goal
 
 pub returns-then-code-ne-NM_OK-clause-did : goal.returns-then-code-ne-NM_OK-clause-did
@@ -57,3 +58,26 @@ returns-else-convolve_negacyclic-clause-bad_context c = λ pair none. absurd (no
 
 pub returns-else-convolve_negacyclic-clause-bad_argument : goal.returns-else-convolve_negacyclic-clause-bad_argument
 returns-else-convolve_negacyclic-clause-bad_argument c = λ none. absurd (none (c.pair_code-code.ensures.fits.0 c.if-code-ne-NM_OK.false).0)
+
+pub returns-then-convolve_negacyclic-clause-did : goal.returns-then-convolve_negacyclic-clause-did
+returns-then-convolve_negacyclic-clause-did c pair factors inverse = (
+  refl,
+  record {
+    below = rw c.new.ensures at (c.convolve_negacyclic.ensures.below c.if-convolve_negacyclic.true).0;
+    product = rw c.convolve_negacyclic.auto.xs (rw c.new.ensures at (c.convolve_negacyclic.ensures.product c.if-convolve_negacyclic.true));
+    others_below = rw c.new.ensures at (c.convolve_negacyclic.ensures.below c.if-convolve_negacyclic.true).1;
+    remainders = rw pair.equal (rw c.new.ensures at (c.convolve_negacyclic.ensures.remainders c.if-convolve_negacyclic.true));
+  },
+)
+
+pub returns-then-convolve_negacyclic-clause-no_inverse : goal.returns-then-convolve_negacyclic-clause-no_inverse
+returns-then-convolve_negacyclic-clause-no_inverse c pair factors none = absurd (none (rw c.new.ensures at (c.convolve_negacyclic.ensures.inverse.0 c.if-convolve_negacyclic.true)))
+
+pub returns-else-convolve_negacyclic-clause-did : goal.returns-else-convolve_negacyclic-clause-did
+returns-else-convolve_negacyclic-clause-did c pair factors inverse =
+    absurd (false≢true (sym c.if-convolve_negacyclic.false ∙ c.convolve_negacyclic.ensures.inverse.1 (rw c.new.ensures inverse)))
+
+pub returns-else-convolve_negacyclic-clause-no_inverse : goal.returns-else-convolve_negacyclic-clause-no_inverse
+returns-else-convolve_negacyclic-clause-no_inverse c pair factors none =
+    let kept = c.convolve_negacyclic.ensures.unchanged (λ t. false≢true (sym c.if-convolve_negacyclic.false ∙ t)) in
+    ((refl, kept.0), kept.1)

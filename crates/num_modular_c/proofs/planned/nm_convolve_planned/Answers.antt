@@ -1,4 +1,5 @@
-use Rattle.std.proofs.Common.{◌≡◌, ◌+◌, ◌*◌, ◌/◌, ◌≤◌, length, arith, refl}
+use Rattle.std.proofs.Common.{◌≡◌, ◌+◌, ◌*◌, ◌/◌, ◌≤◌, length, arith, refl, sym, ◌∙◌}
+use Rattle.std.proofs.lemmas.Bool.{false≢true}
 use Rattle.num_modular_c.proofs.planned.nm_convolve_planned.Goals as goal
 
 pub returns-then-code-ne-NM_OK-clause-did : goal.returns-then-code-ne-NM_OK-clause-did
@@ -57,3 +58,26 @@ returns-else-convolve_planned-clause-bad_context c = λ pair none. absurd (none 
 
 pub returns-else-convolve_planned-clause-bad_argument : goal.returns-else-convolve_planned-clause-bad_argument
 returns-else-convolve_planned-clause-bad_argument c = λ none. absurd (none (c.pair_code-code.ensures.fits.0 c.if-code-ne-NM_OK.false).0)
+
+pub returns-then-convolve_planned-clause-did : goal.returns-then-convolve_planned-clause-did
+returns-then-convolve_planned-clause-did c pair factors inverse = (
+  refl,
+  record {
+    below = rw c.new.ensures at (c.convolve_planned.ensures.below c.if-convolve_planned.true).0;
+    product = rw c.convolve_planned.auto.xs (rw c.new.ensures at (c.convolve_planned.ensures.product c.if-convolve_planned.true));
+    others_below = rw c.new.ensures at (c.convolve_planned.ensures.below c.if-convolve_planned.true).1;
+    remainders = rw pair.equal (rw c.new.ensures at (c.convolve_planned.ensures.remainders c.if-convolve_planned.true));
+  },
+)
+
+pub returns-then-convolve_planned-clause-no_inverse : goal.returns-then-convolve_planned-clause-no_inverse
+returns-then-convolve_planned-clause-no_inverse c pair factors none = absurd (none (rw c.new.ensures at (c.convolve_planned.ensures.inverse.0 c.if-convolve_planned.true)))
+
+pub returns-else-convolve_planned-clause-did : goal.returns-else-convolve_planned-clause-did
+returns-else-convolve_planned-clause-did c pair factors inverse =
+    absurd (false≢true (sym c.if-convolve_planned.false ∙ c.convolve_planned.ensures.inverse.1 (rw c.new.ensures inverse)))
+
+pub returns-else-convolve_planned-clause-no_inverse : goal.returns-else-convolve_planned-clause-no_inverse
+returns-else-convolve_planned-clause-no_inverse c pair factors none =
+    let kept = c.convolve_planned.ensures.unchanged (λ t. false≢true (sym c.if-convolve_planned.false ∙ t)) in
+    ((refl, kept.0), kept.1)
