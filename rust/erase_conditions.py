@@ -105,6 +105,7 @@ def first_of(tokens, at):
     """The index of the first token of the item whose keyword is at `at`, with its attributes."""
     first = beginning(tokens, at)
     while tokens[first - 1].text == "]":
+        first -= 1
         while tokens[first].text != "#":
             first -= 1
     return first
