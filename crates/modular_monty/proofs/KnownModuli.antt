@@ -1,6 +1,9 @@
 -- What is computed once of an odd number that the compiler knows, by functions without a condition.
 use Rattle.std.proofs.Common.{◌≡◌, ℕ, zero, suc, ◌+◌, ◌-◌, ◌*◌, ◌%◌, ◌^◌, ◌<◌, ◌≤◌, sym, ap, ◌∙◌, arith, refl}
-use Rattle.std.proofs.Math.Nat.{mod-lt, mod-eq_of_lt, mod_self, mod-add-mod, add-mul-mod_self_left}
+use Rattle.std.proofs.Math.Nat.{mod-lt, mod-eq_of_lt, mod_self, mod-add-mod, add-mul-mod_self_left, le_trans}
+use Rattle.std.proofs.Math.Nat.{pow-le-pow_right}
+use Rattle.std.proofs.Math.Pow.{not_mod}
+use Rattle.std.proofs.lemmas.Nat.{pow-add}
 use Rattle.modular_word.proofs.Congruence.{same_without_unit}
 use Rattle.modular_word.proofs.Lifting.{InverseTo, base_above_two, lift_start, lift_step, lift_end}
 use Rattle.modular_monty.specs.Montgomery.{IsOddModulus, negated_inverse_of}
@@ -13,6 +16,23 @@ wrapped_square square m some fits =
     let whole : square ≡ square - m + m * 1 = omega arith in
     ap (λ v. v % square % m) less ∙ ap (λ v. v % m) (mod-eq_of_lt (omega arith))
     ∙ sym (add-mul-mod_self_left (square - m) m 1) ∙ ap (λ v. v % m) (sym whole)
+
+-- .. and so are its low bits, where the square is narrower than a word
+pub wrapped_narrow_square : (w v m : ℕ) → v + v ≤ w → 0 < m → m < 2 ^ v
+    → (0 + (2 ^ w - m)) % 2 ^ w % 2 ^ (2 * v) % m ≡ (2 ^ v * 2 ^ v) % m
+wrapped_narrow_square w v m narrow some fits =
+    let q = 2 ^ (2 * v) in
+    let rest = w - 2 * v in
+    let room : m < q = le_trans fits (pow-le-pow_right (omega arith) (omega arith)) in
+    let within : q ≤ 2 ^ w = pow-le-pow_right (omega arith) (omega arith) in
+    let top : 2 ^ w ≡ 2 ^ (rest + 2 * v) = ap (λ n. 2 ^ n) (omega arith) in
+    let less : 0 + (2 ^ w - m) ≡ 2 ^ (rest + 2 * v) - 1 - (m - 1) = omega arith in
+    let low : (0 + (2 ^ w - m)) % 2 ^ w % q ≡ q - 1 - (m - 1) =
+    ap (λ n. n % q) (mod-eq_of_lt (omega arith) ∙ less) ∙ not_mod rest (2 * v) (omega arith) in
+    let same : q - 1 - (m - 1) ≡ (0 + (q - m)) % q = (let l : q - 1 - (m - 1) ≡ 0 + (q - m) = omega arith in l)
+    ∙ sym (mod-eq_of_lt (omega arith)) in
+    ap (λ n. n % m) (low ∙ same) ∙ wrapped_square q m some room
+    ∙ ap (λ n. n % m) (ap (λ n. 2 ^ n) (let d : 2 * v ≡ v + v = omega arith in d) ∙ pow-add 2 v v)
 
 module _ (w b m : ℕ) (base : b ≡ 2 ^ w) (wide : 8 ≤ w) (odd : m % 2 ≡ 1) (fits : m < b) where
   some : 0 < b

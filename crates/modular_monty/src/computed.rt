@@ -1,7 +1,8 @@
 //! What is precomputed of an odd modulus, as const functions for moduli that are known at compile time. They also
-//! accept even moduli, because a constant needs a value for each parameter.
+//! accept even moduli, because a constant needs a value for each parameter. They take the words' width as an argument,
+//! since const functions can't call a trait's methods.
 
-ghost use Rattle.std.specs.Prelude.{◌≡◌, ℕ, ◌%◌, ◌^◌, ◌≤◌};
+ghost use Rattle.std.specs.Prelude.{◌≡◌, ℕ, ◌*◌, ◌%◌, ◌^◌, ◌<◌, ◌≤◌};
 ghost use Rattle.modular_word.specs.Reduction.{IsNegatedInverse};
 ghost use Rattle.modular_monty.specs.Montgomery.{IsOddRing};
 
@@ -20,46 +21,41 @@ const fn negated_inverse(m: u64, width: u32) -> u64
     0u64.wrapping_sub(inverse)
 }
 
-// `computed_once` in words of 32 bits, for odd m.
-pub(crate) const fn computed_once_32(m: u32) -> (u32, u32)
-    ensures { m % 2 ≡ 1 → IsOddRing 32 (2 ^ 32) m result.0 result.1 }
+// The low bits of a word.
+const fn low_bits(x: u64, count: u32) -> u64
+    requires { count ≤ 64 }
+    ensures { result ≡ x % 2 ^ count }
 {
-    if m == 0 {
-        return (0, 0);
-    }
-    let square = (0u64.wrapping_sub(m as u64) % m as u64) as u32;
-    ((negated_inverse(m as u64, 32) & 0xffff_ffff) as u32, square)
+    if count < 64 { x % (1 << count) } else { x }
 }
 
-// `computed_once` in words of 64 bits, for odd m.
-pub(crate) const fn computed_once_64(m: u64) -> (u64, u64)
-    ensures { m % 2 ≡ 1 → IsOddRing 64 (2 ^ 64) m result.0 result.1 }
+// The square of the base 2^width modulo m. The square may not fit a double word, but the square less m does, and it is
+// congruent to the square. Widths up to 32 bits need no division of 128 bits.
+const fn square_of_base(m: u64, width: u32) -> u64
+    requires some { 0 < m }
+    requires fits { m < 2 ^ width }
+    requires one_word { 32 < width → width ≡ 64 }
+    ensures { result ≡ (2 ^ width * 2 ^ width) % m }
 {
-    if m == 0 {
-        return (0, 0);
+    if width == 64 {
+        (0u128.wrapping_sub(m as u128) % m as u128) as u64
+    } else {
+        low_bits(0u64.wrapping_sub(m), 2 * width) % m
     }
-    let square = (0u128.wrapping_sub(m as u128) % m as u128) as u64;
-    (negated_inverse(m, 64), square)
 }
 
-// `computed_once` in words of 16 bits, for odd m.
-pub(crate) const fn computed_once_16(m: u16) -> (u16, u16)
-    ensures { m % 2 ≡ 1 → IsOddRing 16 (2 ^ 16) m result.0 result.1 }
+// `computed_once` of `odd_ring` in words of `width` bits, for odd m. Condition: the width is at most 32 bits, or 64.
+pub(crate) const fn computed_once(m: u64, width: u32) -> (u64, u64)
+    requires from { 8 ≤ width }
+    requires one_word { 32 < width → width ≡ 64 }
+    requires fits { m < 2 ^ width }
+    ensures ring { m % 2 ≡ 1 → IsOddRing width (2 ^ width) m result.0 result.1 }
+    ensures inverse_fits { result.0 < 2 ^ width }
+    ensures square_fits { result.1 < 2 ^ width }
 {
     if m == 0 {
         return (0, 0);
     }
-    let square = (0u32.wrapping_sub(m as u32) % m as u32) as u16;
-    ((negated_inverse(m as u64, 16) & 0xffff) as u16, square)
-}
-
-// `computed_once` in words of 8 bits, for odd m.
-pub(crate) const fn computed_once_8(m: u8) -> (u8, u8)
-    ensures { m % 2 ≡ 1 → IsOddRing 8 (2 ^ 8) m result.0 result.1 }
-{
-    if m == 0 {
-        return (0, 0);
-    }
-    let square = (0u16.wrapping_sub(m as u16) % m as u16) as u8;
-    ((negated_inverse(m as u64, 8) & 0xff) as u8, square)
+    let inverse = low_bits(negated_inverse(m, width), width);
+    (inverse, square_of_base(m, width))
 }

@@ -5,7 +5,7 @@ ghost use Rattle.std.proofs.Common.{refl};
 ghost use Rattle.modular_monty.specs.Montgomery.{montgomery_form, montgomery_value, IsOddModulus, IsOddRing, negated_inverse_of};
 ghost use Rattle.modular_monty.specs.MontgomeryLaws.{montgomery_canonical};
 
-use crate::computed::{computed_once_32, computed_once_64};
+use crate::computed::computed_once;
 use crate::odd_ring::{OddModulus, OddRing};
 use modular_reduced::reducer::Reducer;
 use modular_word::paths::redc;
@@ -28,10 +28,10 @@ pub struct OddNumber32<const P: u32> {
 
 impl<const P: u32> OddNumber32<P> {
     const COMPUTED: Computed32<P> = {
-        let (negated_inverse, square) = computed_once_32(P);
+        let (negated_inverse, square) = computed_once(P as u64, 32);
         Computed32 {
-            negated_inverse,
-            square,
+            negated_inverse: negated_inverse as u32,
+            square: square as u32,
         }
     };
 }
@@ -103,7 +103,7 @@ pub struct OddNumber64<const P: u64> {
 
 impl<const P: u64> OddNumber64<P> {
     const COMPUTED: Computed64<P> = {
-        let (negated_inverse, square) = computed_once_64(P);
+        let (negated_inverse, square) = computed_once(P, 64);
         Computed64 {
             negated_inverse,
             square,

@@ -7,7 +7,7 @@ ghost use Rattle.modular_monty.specs.Montgomery.{montgomery_form, montgomery_val
 ghost use Rattle.modular_monty.specs.MontgomeryLaws.{montgomery_canonical};
 ghost use Rattle.modular_monty.specs.Proth.{IsProth, IsProthRange, greatest_proth_32, greatest_proth_64, proth_modulus};
 
-use crate::computed::{computed_once_32, computed_once_64};
+use crate::computed::computed_once;
 use crate::odd_ring::{OddModulus, OddRing};
 use modular_reduced::reducer::Reducer;
 use modular_word::paths::{clearing, reduce_by};
@@ -40,10 +40,10 @@ pub struct ProthNumber32<const N: u8, const K: u8> {
 
 impl<const N: u8, const K: u8> ProthNumber32<N, K> {
     const COMPUTED: Computed32<N, K> = {
-        let (negated_inverse, square) = computed_once_32(modulus_32(N, K));
+        let (negated_inverse, square) = computed_once(modulus_32(N, K) as u64, 32);
         Computed32 {
-            negated_inverse,
-            square,
+            negated_inverse: negated_inverse as u32,
+            square: square as u32,
         }
     };
 
@@ -155,7 +155,7 @@ pub struct ProthNumber64<const N: u8, const K: u8> {
 
 impl<const N: u8, const K: u8> ProthNumber64<N, K> {
     const COMPUTED: Computed64<N, K> = {
-        let (negated_inverse, square) = computed_once_64(modulus_64(N, K));
+        let (negated_inverse, square) = computed_once(modulus_64(N, K), 64);
         Computed64 {
             negated_inverse,
             square,

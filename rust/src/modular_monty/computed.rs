@@ -1,5 +1,6 @@
 //! What is precomputed of an odd modulus, as const functions for moduli that are known at compile time. They also
-//! accept even moduli, because a constant needs a value for each parameter.
+//! accept even moduli, because a constant needs a value for each parameter. They take the words' width as an argument,
+//! since const functions can't call a trait's methods.
 
 // `neginv` of words of `width` bits, for odd m, in the low bits of the result; the higher bits are unspecified.
 #[inline]
@@ -13,42 +14,29 @@ const fn negated_inverse(m: u64, width: u32) -> u64 {
     0u64.wrapping_sub(inverse)
 }
 
-// `computed_once` in words of 32 bits, for odd m.
+// The low bits of a word.
 #[inline]
-pub(crate) const fn computed_once_32(m: u32) -> (u32, u32) {
-    if m == 0 {
-        return (0, 0);
-    }
-    let square = (0u64.wrapping_sub(m as u64) % m as u64) as u32;
-    ((negated_inverse(m as u64, 32) & 0xffff_ffff) as u32, square)
+const fn low_bits(x: u64, count: u32) -> u64 {
+    if count < 64 { x % (1 << count) } else { x }
 }
 
-// `computed_once` in words of 64 bits, for odd m.
+// The square of the base 2^width modulo m. The square may not fit a double word, but the square less m does, and it is
+// congruent to the square. Widths up to 32 bits need no division of 128 bits.
 #[inline]
-pub(crate) const fn computed_once_64(m: u64) -> (u64, u64) {
-    if m == 0 {
-        return (0, 0);
+const fn square_of_base(m: u64, width: u32) -> u64 {
+    if width == 64 {
+        (0u128.wrapping_sub(m as u128) % m as u128) as u64
+    } else {
+        low_bits(0u64.wrapping_sub(m), 2 * width) % m
     }
-    let square = (0u128.wrapping_sub(m as u128) % m as u128) as u64;
-    (negated_inverse(m, 64), square)
 }
 
-// `computed_once` in words of 16 bits, for odd m.
+// `computed_once` of `odd_ring` in words of `width` bits, for odd m. Condition: the width is at most 32 bits, or 64.
 #[inline]
-pub(crate) const fn computed_once_16(m: u16) -> (u16, u16) {
+pub(crate) const fn computed_once(m: u64, width: u32) -> (u64, u64) {
     if m == 0 {
         return (0, 0);
     }
-    let square = (0u32.wrapping_sub(m as u32) % m as u32) as u16;
-    ((negated_inverse(m as u64, 16) & 0xffff) as u16, square)
-}
-
-// `computed_once` in words of 8 bits, for odd m.
-#[inline]
-pub(crate) const fn computed_once_8(m: u8) -> (u8, u8) {
-    if m == 0 {
-        return (0, 0);
-    }
-    let square = (0u16.wrapping_sub(m as u16) % m as u16) as u8;
-    ((negated_inverse(m as u64, 8) & 0xff) as u8, square)
+    let inverse = low_bits(negated_inverse(m, width), width);
+    (inverse, square_of_base(m, width))
 }

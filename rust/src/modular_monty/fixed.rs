@@ -1,6 +1,6 @@
 //! Reducers by Montgomery's representation whose modulus is a parameter of the type.
 
-use crate::modular_monty::computed::{computed_once_32, computed_once_64};
+use crate::modular_monty::computed::computed_once;
 use crate::modular_monty::odd_ring::{OddModulus, OddRing};
 use crate::modular_reduced::reducer::Reducer;
 use crate::modular_word::paths::redc;
@@ -22,10 +22,10 @@ pub struct OddNumber32<const P: u32> {
 
 impl<const P: u32> OddNumber32<P> {
     const COMPUTED: Computed32<P> = {
-        let (negated_inverse, square) = computed_once_32(P);
+        let (negated_inverse, square) = computed_once(P as u64, 32);
         Computed32 {
-            negated_inverse,
-            square,
+            negated_inverse: negated_inverse as u32,
+            square: square as u32,
         }
     };
 }
@@ -90,7 +90,7 @@ pub struct OddNumber64<const P: u64> {
 
 impl<const P: u64> OddNumber64<P> {
     const COMPUTED: Computed64<P> = {
-        let (negated_inverse, square) = computed_once_64(P);
+        let (negated_inverse, square) = computed_once(P, 64);
         Computed64 {
             negated_inverse,
             square,

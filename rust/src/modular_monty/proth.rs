@@ -1,6 +1,6 @@
 //! Reducers by Montgomery's representation whose modulus is K * 2^N + 1.
 
-use crate::modular_monty::computed::{computed_once_32, computed_once_64};
+use crate::modular_monty::computed::computed_once;
 use crate::modular_monty::odd_ring::{OddModulus, OddRing};
 use crate::modular_reduced::reducer::Reducer;
 use crate::modular_word::paths::{clearing, reduce_by};
@@ -29,10 +29,10 @@ pub struct ProthNumber32<const N: u8, const K: u8> {
 
 impl<const N: u8, const K: u8> ProthNumber32<N, K> {
     const COMPUTED: Computed32<N, K> = {
-        let (negated_inverse, square) = computed_once_32(modulus_32(N, K));
+        let (negated_inverse, square) = computed_once(modulus_32(N, K) as u64, 32);
         Computed32 {
-            negated_inverse,
-            square,
+            negated_inverse: negated_inverse as u32,
+            square: square as u32,
         }
     };
 
@@ -133,7 +133,7 @@ pub struct ProthNumber64<const N: u8, const K: u8> {
 
 impl<const N: u8, const K: u8> ProthNumber64<N, K> {
     const COMPUTED: Computed64<N, K> = {
-        let (negated_inverse, square) = computed_once_64(modulus_64(N, K));
+        let (negated_inverse, square) = computed_once(modulus_64(N, K), 64);
         Computed64 {
             negated_inverse,
             square,

@@ -1,4 +1,3 @@
-use Rattle.std.proofs.Common.{refl}
 use Rattle.modular_monty.proofs.SplitSteps.{difference_product_made, high_checked, all_high, none_low, joined_none}
 use Rattle.modular_monty.proofs.montgomery.MontgomeryReducer.mul_difference.Goals as goal
 
