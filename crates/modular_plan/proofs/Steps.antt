@@ -135,6 +135,11 @@ pub block_all : {R : ℕ → ℕ → ℕ → ℕ → Type 0} {first half i : ℕ
     → BlockDone R first half half x y
 block_all {R} {first} {half} {i} {x} {y} done e = subst (λ n. BlockDone R first half n x y) e done
 
+-- a block of what follows
+pub pairs_mapped : {R S : ℕ → ℕ → ℕ → ℕ → Type 0} {first half done : ℕ} {x y : ℕ → ℕ}
+    → ((a b a' b' : ℕ) → R a b a' b' → S a b a' b') → BlockDone R first half done x y → BlockDone S first half done x y
+pairs_mapped {R} {S} follows block = record { pairs = λ i l. follows _ _ _ _ (block.pairs i l); kept = block.kept }
+
 -- all blocks
 pub stage_all : {R : ℕ → ℕ → ℕ → ℕ → ℕ → Type 0} {half p blocks : ℕ} {x y : ℕ → ℕ} → StageDone R half p x y
     → p ≡ blocks → StageDone R half blocks x y

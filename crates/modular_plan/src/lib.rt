@@ -3,8 +3,8 @@
 
 pub mod bounded;
 pub mod entry;
-mod four_splits;
 pub mod modulus;
+mod pass_splits;
 pub mod passes;
 mod places;
 pub mod plan;

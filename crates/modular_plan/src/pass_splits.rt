@@ -3,14 +3,33 @@
 ghost use Rattle.std.specs.Prelude.{ℕ, ◌*◌};
 ghost use Rattle.modular_plan.specs.Factors.{IsFactorOf};
 ghost use Rattle.modular_plan.specs.Splits.{AreFactorsOf, DoneBelow};
-ghost use Rattle.modular_plan.specs.Steps.{IsFourSplit};
+ghost use Rattle.modular_plan.specs.Steps.{IsPairSplit, IsFourSplit};
 
 use crate::modulus::Factor;
-use crate::passes::FourStep;
+use crate::passes::{FourStep, PairStep};
 use crate::split_steps::SplitSteps;
 use modular_prim::plain_word::PlainWord;
 use modular_word::path_word::PathWord;
 use modular_word::ring_word::RingWord;
+
+/// Splits two entries by the factor w of a block.
+#[derive(Drop)]
+pub struct SplitPair<T: PlainWord, M: SplitSteps<T>> {
+    pub m: M,
+    pub w: Factor<T>,
+    pub ghost factor: { IsFactorOf T.base T.number (M.modulus m) w },
+}
+
+impl<T: PlainWord, M: SplitSteps<T>> PairStep<T> for SplitPair<T, M> {
+    ghost bound = { λ s. M.limit s.m };
+
+    ghost done = { λ s. IsPairSplit (M.modulus s.m) (T.number s.w.value) };
+
+    #[inline(always)]
+    fn pair(&self, x: T, y: T) -> (T, T) {
+        self.m.pair(x, y, &self.w)
+    }
+}
 
 /// Splits four entries by the factor w of a block, and the results by those of its halves.
 #[derive(Drop)]

@@ -1,15 +1,72 @@
-//! Two stages of a block in one pass, on each four of its entries a quarter of the block apart.
+//! A stage of a block, on each two of its entries half a block apart; and two stages in one pass, on each four of its
+//! entries a quarter of the block apart.
 
-ghost use Rattle.std.specs.Prelude.{ℕ, ◌+◌, length};
+ghost use Rattle.std.specs.Prelude.{ℕ, ◌+◌, ◌<◌, ◌≤◌, All, length};
 ghost use Rattle.modular_plan.specs.Plans.{numbers};
 ghost use Rattle.modular_plan.specs.Splits.{AreFourBelow, AreHalves, AreNeighbours, AreQuarters, IsBlockReady};
 ghost use Rattle.modular_plan.specs.Splits.{ColumnsDone, HalvesDone};
-ghost use Rattle.modular_plan.specs.Steps.{FourDone, BlockOfFours};
+ghost use Rattle.modular_plan.specs.Steps.{PairDone, BlockDone, FourDone, BlockOfFours};
 
 use crate::bounded::Bounded;
 use crate::places::{four_at, set_four};
 use modular_prim::plain_word::PlainWord;
 use modular_word::ring_word::RingWord;
+
+/// What a stage makes of two entries half a block apart.
+pub trait PairStep<T: PlainWord> {
+    // The bound of the entries before and after.
+    ghost bound: { Self → ℕ };
+
+    // What holds of the entries before and after.
+    ghost done: { Self → ℕ → ℕ → ℕ → ℕ → Type 0 };
+
+    /// What the two entries become, below the bound. Condition: they are below it.
+    fn pair(&self, x: T, y: T) -> (T, T)
+        requires below { T.number x < bound self.now }
+        requires other_below { T.number y < bound self.now }
+        ensures below { T.number result.0 < bound self.now }
+        ensures other_below { T.number result.1 < bound self.now }
+        ensures done { done self.now (T.number x) (T.number y) (T.number result.0) (T.number result.1) };
+}
+
+// The pair of entries at two indexes.
+#[inline(always)]
+fn pair_at<T: PlainWord, S: PairStep<T>>(step: &S, xs: &mut [T], low: usize, high: usize)
+    requires entries { All (λ x. T.number x < S.bound step.now) xs.old }
+    requires order { low < high }
+    requires within { high < length xs.old }
+    ensures entries { All (λ x. T.number x < S.bound step.now) xs.new }
+    ensures done { PairDone (S.done step.now) low high (numbers T.number xs.old) (numbers T.number xs.new) }
+{
+    let (first, second) = step.pair(xs[low], xs[high]);
+    xs[high] = second;
+    xs[low] = first;
+}
+
+/// A stage of the block of half + half entries whose first index is `first`. Condition: the entries are below the bound
+/// of the step, which is at most the limit.
+#[inline(always)]
+pub fn pairs<T: PlainWord, M: Bounded<T>, S: PairStep<T>>(
+    m: &M,
+    step: &S,
+    xs: &mut [T],
+    first: usize,
+    half: usize,
+)
+    requires entries { All (λ x. T.number x < S.bound step.now) xs.old }
+    requires within { first + (half + half) ≤ length xs.old }
+    requires fits { S.bound step.now ≤ M.limit m.now }
+    ensures entries { All (λ x. T.number x < S.bound step.now) xs.new }
+    ensures done { BlockDone (S.done step.now) first half half (numbers T.number xs.old) (numbers T.number xs.new) }
+{
+    'pairs: for i in 0..half {
+        // Unreachable (see `is_beyond`).
+        if m.is_beyond(xs[first + i]) {
+            return;
+        }
+        pair_at(step, xs, first + i, first + (half + i));
+    }
+}
 
 /// What two stages make of four entries a quarter of a block apart.
 pub trait FourStep<T: PlainWord> {

@@ -5,63 +5,17 @@ ghost use Rattle.std.specs.Int.{IsPowerOfTwo};
 ghost use Rattle.modular_plan.specs.Factors.{IsFactorOf, AllFactors};
 ghost use Rattle.modular_plan.specs.Plans.{numbers, IsPlan, AreRemainders};
 ghost use Rattle.modular_plan.specs.Splits.{IsPassDone, IsPassReady, IsSplittable};
-ghost use Rattle.modular_plan.specs.Steps.{IsPairSplit, PairDone, BlockDone};
-ghost use Rattle.modular_plan.specs.Steps.{StageDone, IsLevel};
+ghost use Rattle.modular_plan.specs.Steps.{IsPairSplit, StageDone, IsLevel};
 
 use crate::entry::PlanEntry;
-use crate::four_splits::{SplitByOne, SplitFour, SplitToResidues};
-use crate::modulus::{Factor, PlannedModulus};
-use crate::passes::{neighbours, quarters};
+use crate::modulus::PlannedModulus;
+use crate::pass_splits::{SplitByOne, SplitFour, SplitPair, SplitToResidues};
+use crate::passes::{neighbours, pairs, quarters};
 use crate::places::factors_at;
 use crate::roomy::RoomyModulus;
 use crate::split_steps::SplitSteps;
 use modular_prim::plain_word::PlainWord;
 use modular_word::path_word::PathWord;
-
-// Splits the pair of entries at two indexes.
-fn split_pair<T: PlainWord, M: SplitSteps<T>>(
-    m: &M,
-    xs: &mut [T],
-    low: usize,
-    high: usize,
-    w: &Factor<T>,
-)
-    requires entries { All (λ x. T.number x < M.limit m.now) xs.old }
-    requires factor { IsFactorOf T.base T.number (M.modulus m.now) w.now }
-    requires order { low < high }
-    requires within { high < length xs.old }
-    ensures entries { All (λ x. T.number x < M.limit m.now) xs.new }
-    ensures done { PairDone (IsPairSplit (M.modulus m.now) (T.number w.now.value)) low high
-        (numbers T.number xs.old) (numbers T.number xs.new) }
-{
-    let (sum, difference) = m.pair(xs[low], xs[high], w);
-    xs[high] = difference;
-    xs[low] = sum;
-}
-
-// Splits the pairs of the block whose first index is `first`.
-fn split_block<T: PlainWord, M: SplitSteps<T>>(
-    m: &M,
-    xs: &mut [T],
-    first: usize,
-    half: usize,
-    w: &Factor<T>,
-)
-    requires entries { All (λ x. T.number x < M.limit m.now) xs.old }
-    requires factor { IsFactorOf T.base T.number (M.modulus m.now) w.now }
-    requires within { first + (half + half) ≤ length xs.old }
-    ensures entries { All (λ x. T.number x < M.limit m.now) xs.new }
-    ensures done { BlockDone (IsPairSplit (M.modulus m.now) (T.number w.now.value)) first half half
-        (numbers T.number xs.old) (numbers T.number xs.new) }
-{
-    'columns: for i in 0..half {
-        // Unreachable (see `is_beyond`).
-        if m.is_beyond(xs[first + i]) {
-            return;
-        }
-        split_pair(m, xs, first + i, first + (half + i), w);
-    }
-}
 
 // Splits all blocks of a stage, block p by entry first + p of the table.
 fn split_stage<T: PlainWord, M: SplitSteps<T>, F: PlanEntry<T>>(
@@ -84,7 +38,8 @@ fn split_stage<T: PlainWord, M: SplitSteps<T>, F: PlanEntry<T>>(
 {
     'each_block: for p in 0..blocks {
         let w = table[first + p].factor();
-        split_block(m, xs, p * (half + half), half, &w);
+        let step = SplitPair { m: *m, w };
+        pairs(m, &step, xs, p * (half + half), half);
     }
 }
 

@@ -7,8 +7,8 @@ ghost use Rattle.modular_plan.specs.Factors.{IsFactorOf, AllFactors};
 ghost use Rattle.modular_plan.specs.Plans.{numbers, IsPlan, AreRemainders};
 ghost use Rattle.modular_plan_products.specs.Conditions.{IsJoinable, IsLevelReady, IsLevelJoined};
 
-use crate::four_joins::JoinByOne;
 use crate::join_steps::JoinSteps;
+use crate::pass_joins::JoinByOne;
 use crate::stages::{join_fours, join_known, join_stage, minus_inverses};
 use modular_plan::entry::PlanEntry;
 use modular_plan::modulus::{Factor, PlannedModulus};

@@ -2,9 +2,9 @@
 #![tactic(auto)]
 
 pub mod convolution;
-mod four_joins;
 pub mod join;
 mod join_steps;
+mod pass_joins;
 pub mod products;
 mod stages;
 pub mod transform;

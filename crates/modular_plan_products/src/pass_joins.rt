@@ -3,14 +3,34 @@
 ghost use Rattle.std.specs.Prelude.{ℕ, ◌*◌};
 ghost use Rattle.modular_plan.specs.Factors.{IsFactorOf};
 ghost use Rattle.modular_plan.specs.Splits.{AreFactorsOf, DoneBelow};
-ghost use Rattle.modular_plan_products.specs.Joins.{IsJoinByFactors, IsLastJoin};
+ghost use Rattle.modular_plan_products.specs.Joins.{IsJoinByFactors, IsLastJoin, IsMinusInverse, IsPairJoin};
 
 use crate::join_steps::JoinSteps;
 use modular_plan::modulus::Factor;
-use modular_plan::passes::FourStep;
+use modular_plan::passes::{FourStep, PairStep};
 use modular_prim::plain_word::PlainWord;
 use modular_word::path_word::PathWord;
 use modular_word::ring_word::RingWord;
+
+/// Joins two entries by v, minus the inverse of the factor of a block.
+#[derive(Drop)]
+pub struct JoinPair<T: PlainWord, M: JoinSteps<T>> {
+    pub m: M,
+    pub v: Factor<T>,
+    pub ghost factor: { IsFactorOf T.base T.number (M.modulus m) v },
+}
+
+impl<T: PlainWord, M: JoinSteps<T>> PairStep<T> for JoinPair<T, M> {
+    ghost bound = { λ s. M.bound s.m };
+
+    ghost done = { λ s a b c d. (w : ℕ) → IsMinusInverse (M.modulus s.m) w (T.number s.v.value)
+        → IsPairJoin (M.modulus s.m) w a b c d };
+
+    #[inline(always)]
+    fn pair(&self, x: T, y: T) -> (T, T) {
+        self.m.pair(x, y, &self.v)
+    }
+}
 
 /// Joins four entries by minus the inverses of the factors of a block, w, and of its halves, u and v.
 #[derive(Drop)]

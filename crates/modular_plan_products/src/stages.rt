@@ -4,15 +4,15 @@ ghost use Rattle.std.specs.Prelude.{◌≡◌, ℕ, ◌+◌, ◌*◌, ◌^◌, �
 ghost use Rattle.modular_plan.specs.Factors.{IsFactorOf};
 ghost use Rattle.modular_plan.specs.Plans.{numbers, IsPlan};
 ghost use Rattle.modular_plan.specs.Splits.{AreFactorsOf};
-ghost use Rattle.modular_plan.specs.Steps.{PairDone, BlockDone, StageDone};
+ghost use Rattle.modular_plan.specs.Steps.{StageDone};
 ghost use Rattle.modular_plan_products.specs.Joins.{IsPairJoin, IsMinusInverse, AreMinusInverses};
 ghost use Rattle.modular_plan_products.specs.Conditions.{IsTableOfFactors, IsStageReady, IsPassReady, IsPassJoined};
 
-use crate::four_joins::{JoinFour, JoinLowered};
 use crate::join_steps::JoinSteps;
+use crate::pass_joins::{JoinFour, JoinLowered, JoinPair};
 use modular_plan::entry::PlanEntry;
 use modular_plan::modulus::Factor;
-use modular_plan::passes::{neighbours, quarters};
+use modular_plan::passes::{neighbours, pairs, quarters};
 use modular_prim::plain_word::PlainWord;
 use modular_word::path_word::PathWord;
 use modular_word::ring_word::RingWord;
@@ -85,52 +85,6 @@ pub(crate) fn minus_inverses<T: PlainWord, F: PlanEntry<T>, M: JoinSteps<T>>(
     }
 }
 
-// Joins the pair of entries at two indexes.
-fn join_pair<T: PlainWord, M: JoinSteps<T>>(
-    m: &M,
-    xs: &mut [T],
-    low: usize,
-    high: usize,
-    v: &Factor<T>,
-)
-    requires entries { All (λ x. T.number x < M.bound m.now) xs.old }
-    requires factor { IsFactorOf T.base T.number (M.modulus m.now) v.now }
-    requires order { low < high }
-    requires within { high < length xs.old }
-    ensures entries { All (λ x. T.number x < M.bound m.now) xs.new }
-    ensures done { (w : ℕ) → IsMinusInverse (M.modulus m.now) w (T.number v.now.value) →
-        PairDone (IsPairJoin (M.modulus m.now) w) low high (numbers T.number xs.old) (numbers T.number xs.new) }
-{
-    let (sum, product) = m.pair(xs[low], xs[high], v);
-    xs[high] = product;
-    xs[low] = sum;
-}
-
-// Joins the pairs of the block whose first index is `first`.
-fn join_block<T: PlainWord, M: JoinSteps<T>>(
-    m: &M,
-    xs: &mut [T],
-    first: usize,
-    half: usize,
-    v: &Factor<T>,
-)
-    requires entries { All (λ x. T.number x < M.bound m.now) xs.old }
-    requires factor { IsFactorOf T.base T.number (M.modulus m.now) v.now }
-    requires within { first + (half + half) ≤ length xs.old }
-    ensures entries { All (λ x. T.number x < M.bound m.now) xs.new }
-    ensures done { (w : ℕ) → IsMinusInverse (M.modulus m.now) w (T.number v.now.value) →
-        BlockDone (IsPairJoin (M.modulus m.now) w) first half half
-        (numbers T.number xs.old) (numbers T.number xs.new) }
-{
-    'columns: for i in 0..half {
-        // Unreachable (see `is_beyond`).
-        if m.is_beyond(xs[first + i]) {
-            return;
-        }
-        join_pair(m, xs, first + i, first + (half + i), v);
-    }
-}
-
 // Joins all blocks of a stage, block p by entry first + p of the table.
 pub(crate) fn join_stage<T: PlainWord, F: PlanEntry<T>, M: JoinSteps<T>>(
     m: &M,
@@ -152,7 +106,8 @@ pub(crate) fn join_stage<T: PlainWord, F: PlanEntry<T>, M: JoinSteps<T>>(
 {
     'each_block: for p in 0..blocks {
         let v = minus_inverse(m, table, first + p, *minus);
-        join_block(m, xs, p * (half + half), half, &v);
+        let step = JoinPair { m: *m, v };
+        pairs(m, &step, xs, p * (half + half), half);
     }
 }
 

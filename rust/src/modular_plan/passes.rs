@@ -1,9 +1,51 @@
-//! Two stages of a block in one pass, on each four of its entries a quarter of the block apart.
+//! A stage of a block, on each two of its entries half a block apart; and two stages in one pass, on each four of its
+//! entries a quarter of the block apart.
 
 use crate::modular_plan::bounded::Bounded;
 use crate::modular_plan::places::{four_at, set_four};
 use crate::modular_prim::plain_word::PlainWord;
 use crate::modular_word::ring_word::RingWord;
+
+/// What a stage makes of two entries half a block apart.
+pub trait PairStep<T: PlainWord>: Sized {
+    /// What the two entries become, below the bound.
+    ///
+    /// # Preconditions
+    ///
+    /// They are below it. This isn't tested: outside it the call panics, or returns no meaningful result.
+    fn pair(&self, x: T, y: T) -> (T, T);
+}
+
+// The pair of entries at two indexes.
+#[inline(always)]
+fn pair_at<T: PlainWord, S: PairStep<T>>(step: &S, xs: &mut [T], low: usize, high: usize) {
+    let (first, second) = step.pair(xs[low], xs[high]);
+    xs[high] = second;
+    xs[low] = first;
+}
+
+/// A stage of the block of half + half entries whose first index is `first`.
+///
+/// # Preconditions
+///
+/// The entries are below the bound of the step, which is at most the limit. This isn't tested: outside
+/// it the call panics, or returns no meaningful result.
+#[inline(always)]
+pub fn pairs<T: PlainWord, M: Bounded<T>, S: PairStep<T>>(
+    m: &M,
+    step: &S,
+    xs: &mut [T],
+    first: usize,
+    half: usize,
+) {
+    'pairs: for i in 0..half {
+        // Unreachable (see `is_beyond`).
+        if m.is_beyond(xs[first + i]) {
+            return;
+        }
+        pair_at(step, xs, first + i, first + (half + i));
+    }
+}
 
 /// What two stages make of four entries a quarter of a block apart.
 pub trait FourStep<T: PlainWord>: Sized {

@@ -1,46 +1,14 @@
 //! From a polynomial to its remainders modulo X^last - c, in place, by stages.
 
 use crate::modular_plan::entry::PlanEntry;
-use crate::modular_plan::four_splits::{SplitByOne, SplitFour, SplitToResidues};
-use crate::modular_plan::modulus::{Factor, PlannedModulus};
-use crate::modular_plan::passes::{neighbours, quarters};
+use crate::modular_plan::modulus::PlannedModulus;
+use crate::modular_plan::pass_splits::{SplitByOne, SplitFour, SplitPair, SplitToResidues};
+use crate::modular_plan::passes::{neighbours, pairs, quarters};
 use crate::modular_plan::places::factors_at;
 use crate::modular_plan::roomy::RoomyModulus;
 use crate::modular_plan::split_steps::SplitSteps;
 use crate::modular_prim::plain_word::PlainWord;
 use crate::modular_word::path_word::PathWord;
-
-// Splits the pair of entries at two indexes.
-#[inline]
-fn split_pair<T: PlainWord, M: SplitSteps<T>>(
-    m: &M,
-    xs: &mut [T],
-    low: usize,
-    high: usize,
-    w: &Factor<T>,
-) {
-    let (sum, difference) = m.pair(xs[low], xs[high], w);
-    xs[high] = difference;
-    xs[low] = sum;
-}
-
-// Splits the pairs of the block whose first index is `first`.
-#[inline]
-fn split_block<T: PlainWord, M: SplitSteps<T>>(
-    m: &M,
-    xs: &mut [T],
-    first: usize,
-    half: usize,
-    w: &Factor<T>,
-) {
-    'columns: for i in 0..half {
-        // Unreachable (see `is_beyond`).
-        if m.is_beyond(xs[first + i]) {
-            return;
-        }
-        split_pair(m, xs, first + i, first + (half + i), w);
-    }
-}
 
 // Splits all blocks of a stage, block p by entry first + p of the table.
 #[inline]
@@ -54,7 +22,8 @@ fn split_stage<T: PlainWord, M: SplitSteps<T>, F: PlanEntry<T>>(
 ) {
     'each_block: for p in 0..blocks {
         let w = table[first + p].factor();
-        split_block(m, xs, p * (half + half), half, &w);
+        let step = SplitPair { m: *m, w };
+        pairs(m, &step, xs, p * (half + half), half);
     }
 }
 

@@ -1,7 +1,7 @@
 //! From remainders modulo X^last - c back to the polynomial, in place, by stages.
 
-use crate::modular_plan_products::four_joins::JoinByOne;
 use crate::modular_plan_products::join_steps::JoinSteps;
+use crate::modular_plan_products::pass_joins::JoinByOne;
 use crate::modular_plan_products::stages::{join_fours, join_known, join_stage, minus_inverses};
 use crate::modular_plan::entry::PlanEntry;
 use crate::modular_plan::modulus::{Factor, PlannedModulus};

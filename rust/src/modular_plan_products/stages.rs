@@ -1,10 +1,10 @@
 //! The passes of a join over all blocks: a stage, or two.
 
-use crate::modular_plan_products::four_joins::{JoinFour, JoinLowered};
 use crate::modular_plan_products::join_steps::JoinSteps;
+use crate::modular_plan_products::pass_joins::{JoinFour, JoinLowered, JoinPair};
 use crate::modular_plan::entry::PlanEntry;
 use crate::modular_plan::modulus::Factor;
-use crate::modular_plan::passes::{neighbours, quarters};
+use crate::modular_plan::passes::{neighbours, pairs, quarters};
 use crate::modular_prim::plain_word::PlainWord;
 use crate::modular_word::path_word::PathWord;
 use crate::modular_word::ring_word::RingWord;
@@ -59,40 +59,7 @@ pub(crate) fn minus_inverses<T: PlainWord, F: PlanEntry<T>, M: JoinSteps<T>>(
     }
 }
 
-// Joins the pair of entries at two indexes.
-#[inline]
-fn join_pair<T: PlainWord, M: JoinSteps<T>>(
-    m: &M,
-    xs: &mut [T],
-    low: usize,
-    high: usize,
-    v: &Factor<T>,
-) {
-    let (sum, product) = m.pair(xs[low], xs[high], v);
-    xs[high] = product;
-    xs[low] = sum;
-}
-
-// Joins the pairs of the block whose first index is `first`.
-#[inline]
-fn join_block<T: PlainWord, M: JoinSteps<T>>(
-    m: &M,
-    xs: &mut [T],
-    first: usize,
-    half: usize,
-    v: &Factor<T>,
-) {
-    'columns: for i in 0..half {
-        // Unreachable (see `is_beyond`).
-        if m.is_beyond(xs[first + i]) {
-            return;
-        }
-        join_pair(m, xs, first + i, first + (half + i), v);
-    }
-}
-
 // Joins all blocks of a stage, block p by entry first + p of the table.
-#[inline]
 pub(crate) fn join_stage<T: PlainWord, F: PlanEntry<T>, M: JoinSteps<T>>(
     m: &M,
     xs: &mut [T],
@@ -104,7 +71,8 @@ pub(crate) fn join_stage<T: PlainWord, F: PlanEntry<T>, M: JoinSteps<T>>(
 ) {
     'each_block: for p in 0..blocks {
         let v = minus_inverse(m, table, first + p, *minus);
-        join_block(m, xs, p * (half + half), half, &v);
+        let step = JoinPair { m: *m, v };
+        pairs(m, &step, xs, p * (half + half), half);
     }
 }
 

@@ -1,5 +1,5 @@
 use Rattle.std.proofs.Common.{◌+◌, ◌*◌, ◌<◌, ◌≤◌, length, ◌∙◌, arith, subst}
-use Rattle.std.proofs.Math.Nat.{mul-le-mul_right}
+use Rattle.std.proofs.Math.Nat.{mul-le-mul_right, le_refl}
 use Rattle.modular_plan.specs.Plans.{numbers}
 use Rattle.modular_plan.specs.Steps.{IsPairSplit, BlockDone}
 use Rattle.modular_plan.proofs.Columns.{factor_read}
@@ -25,16 +25,22 @@ overflow_mul-p g c =
     let room = mul-le-mul_right (half + half) (let l : c.each_block.p + 1 ≤ c.args.blocks = omega arith in l) in
     omega (arith, room)
 
-pub split_block-requires : goal.split_block-requires
-split_block-requires g c =
-    let half = c.args.half in
-    let room = mul-le-mul_right (half + half) (let l : c.each_block.p + 1 ≤ c.args.blocks = omega arith in l) in
+pub invariant_of-step : goal.invariant_of-step
+invariant_of-step g c =
     let read = c.index-table-first in
     record {
-      entries = c.each_block.invariant.entries;
       factor = factor_read g.F.PlanEntry.value g.F.PlanEntry.quotient c.args.table.now (c.args.first + c.each_block.p)
           read.result c.requires.factors (omega arith) read.is c.factor-w.ensures.value c.factor-w.ensures.quotient;
+    }
+
+pub pairs-requires : goal.pairs-requires
+pairs-requires g c =
+    let half = c.args.half in
+    let room = mul-le-mul_right (half + half) (let l : c.each_block.p + 1 ≤ c.args.blocks = omega arith in l) in
+    record {
+      entries = c.each_block.invariant.entries;
       within = omega (arith, room);
+      fits = le_refl _;
     }
 
 pub each_block-preserved : goal.each_block-preserved
@@ -47,11 +53,11 @@ each_block-preserved g c =
     let factor = c.factor-w.ensures.value ∙ number_read g.F.PlanEntry.value c.args.table.now
     (c.args.first + p) c.index-table-first.result within c.index-table-first.is in
     record {
-      entries = c.split_block.ensures.entries;
+      entries = c.pairs.ensures.entries;
       done =
           stage_more _ half p _ _ _ c.each_block.invariant.done
           (subst (λ v. BlockDone (IsPairSplit m v) (p * (half + half)) half half (numbers n c.each_block.xs)
-          (numbers n c.split_block.new.xs)) factor c.split_block.ensures.done);
+          (numbers n c.pairs.new.xs)) factor c.pairs.ensures.done);
     }
 
 pub returns : goal.returns

@@ -1,4 +1,4 @@
-use Rattle.std.proofs.Common.{length, ◌∙◌, arith}
+use Rattle.std.proofs.Common.{◌∙◌, arith}
 use Rattle.modular_plan_products.proofs.join.join_reduced.Goals as goal
 
 pub returns : goal.returns

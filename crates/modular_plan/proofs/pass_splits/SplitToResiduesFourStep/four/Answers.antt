@@ -4,7 +4,7 @@ use Rattle.modular_plan.specs.Steps.{IsPairSplit}
 use Rattle.modular_word.proofs.Congruence.{of_equal, chained, residue_of}
 use Rattle.modular_plan.proofs.Steps.{pair_up_to}
 use Rattle.modular_plan.proofs.Fours.{four_of_pairs}
-use Rattle.modular_plan.proofs.four_splits.SplitToResiduesFourStep.four.Goals as goal
+use Rattle.modular_plan.proofs.pass_splits.SplitToResiduesFourStep.four.Goals as goal
 
 -- the residues of a pair do as well
 pair_of_residues : {m : ℕ} (w : ℕ) {a b sum difference sum' difference' : ℕ} → sum' ≡ sum % m

@@ -1,5 +1,5 @@
 use Rattle.modular_plan_products.proofs.TwoJoins.{joined_four_along}
-use Rattle.modular_plan_products.proofs.four_joins.JoinLoweredFourStep.four.Goals as goal
+use Rattle.modular_plan_products.proofs.pass_joins.JoinLoweredFourStep.four.Goals as goal
 
 pub four-requires : goal.four-requires
 four-requires g c = record {

@@ -2,10 +2,24 @@
 
 use crate::modular_plan_products::join_steps::JoinSteps;
 use crate::modular_plan::modulus::Factor;
-use crate::modular_plan::passes::FourStep;
+use crate::modular_plan::passes::{FourStep, PairStep};
 use crate::modular_prim::plain_word::PlainWord;
 use crate::modular_word::path_word::PathWord;
 use crate::modular_word::ring_word::RingWord;
+
+/// Joins two entries by v, minus the inverse of the factor of a block.
+#[must_use]
+pub struct JoinPair<T, M> {
+    pub(crate) m: M,
+    pub(crate) v: Factor<T>,
+}
+
+impl<T: PlainWord, M: JoinSteps<T>> PairStep<T> for JoinPair<T, M> {
+    #[inline(always)]
+    fn pair(&self, x: T, y: T) -> (T, T) {
+        self.m.pair(x, y, &self.v)
+    }
+}
 
 /// Joins four entries by minus the inverses of the factors of a block, w, and of its halves, u and v.
 #[must_use]

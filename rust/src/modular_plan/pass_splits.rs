@@ -1,11 +1,25 @@
 //! The steps of the passes of a split.
 
 use crate::modular_plan::modulus::Factor;
-use crate::modular_plan::passes::FourStep;
+use crate::modular_plan::passes::{FourStep, PairStep};
 use crate::modular_plan::split_steps::SplitSteps;
 use crate::modular_prim::plain_word::PlainWord;
 use crate::modular_word::path_word::PathWord;
 use crate::modular_word::ring_word::RingWord;
+
+/// Splits two entries by the factor w of a block.
+#[must_use]
+pub struct SplitPair<T, M> {
+    pub(crate) m: M,
+    pub(crate) w: Factor<T>,
+}
+
+impl<T: PlainWord, M: SplitSteps<T>> PairStep<T> for SplitPair<T, M> {
+    #[inline(always)]
+    fn pair(&self, x: T, y: T) -> (T, T) {
+        self.m.pair(x, y, &self.w)
+    }
+}
 
 /// Splits four entries by the factor w of a block, and the results by those of its halves.
 #[must_use]
