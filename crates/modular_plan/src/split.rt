@@ -2,7 +2,7 @@
 
 ghost use Rattle.std.specs.Prelude.{◌≡◌, ℕ, ◌+◌, ◌*◌, ◌/◌, ◌%◌, ◌<◌, ◌≤◌, ◌↔◌, IsTrue, All, length};
 ghost use Rattle.std.specs.Int.{IsPowerOfTwo};
-ghost use Rattle.modular_plan.specs.Factors.{IsFactorOf, AllFactors};
+ghost use Rattle.modular_plan.specs.Factors.{AllFactors};
 ghost use Rattle.modular_plan.specs.Plans.{numbers, IsPlan, AreRemainders};
 ghost use Rattle.modular_plan.specs.Splits.{IsPassDone, IsPassReady, IsSplittable};
 ghost use Rattle.modular_plan.specs.Steps.{IsPairSplit, StageDone, IsLevel};
