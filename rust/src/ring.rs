@@ -204,30 +204,84 @@ fn computed_form<T: RingWord, R: Reducer<T>>(
     }
 }
 
+// The register that was written last, and its form. A command that reads this register takes the form from here, so it
+// doesn't wait for the store.
+#[derive(Clone, Copy)]
+struct Last<T> {
+    register: usize,
+    form: T,
+}
+
+// The last register before the first command: one that doesn't exist.
+#[inline]
+fn unwritten<T: RingWord>(regs: &[T]) -> Last<T> {
+    Last {
+        register: regs.len(),
+        form: T::zero(),
+    }
+}
+
+// The form that register a holds.
+#[inline(always)]
+fn held<T: RingWord>(regs: &[T], last: &Last<T>, a: usize) -> T {
+    if a == last.register {
+        last.form
+    } else {
+        regs[a]
+    }
+}
+
+// Writes a register, which is then the last one.
+#[inline(always)]
+fn write<T: RingWord>(regs: &mut [T], last: &mut Last<T>, dst: usize, form: T) {
+    regs[dst] = form;
+    last.register = dst;
+    last.form = form;
+}
+
+// The form of the sum, the difference or the product of the registers a and b, as the command says.
+//
+// Only the first operand is looked for in `last`: the test takes time in every command.
+#[inline(always)]
+fn combined_form<T: RingWord, R: Reducer<T>>(
+    r: &R,
+    regs: &[T],
+    last: &Last<T>,
+    command: &RingCommand<T>,
+    a: usize,
+    b: usize,
+) -> T {
+    // Before the match, so that the three operations share this code.
+    let x = held(regs, last, a);
+    match command {
+        RingCommand::Add { .. } => r.add(&x, &regs[b]),
+        RingCommand::Sub { .. } => r.sub(&x, &regs[b]),
+        _ => r.mul(&x, &regs[b]),
+    }
+}
+
 // Carries out a command; false exactly where its inverse doesn't exist, and then nothing is written.
 //
 // Inlined into the loop of `run`. Sums, differences and products are computed here, since a call for each of them would
 // take as long as the command.
 #[inline(always)]
-fn carry_out<T: RingWord, R: Reducer<T>>(r: &R, regs: &mut [T], command: &RingCommand<T>) -> bool {
-    // By value, so that the fields are read before the operands: else LLVM merges the ends of the arms, and each command
-    // takes one jump more.
+fn carry_out<T: RingWord, R: Reducer<T>>(
+    r: &R,
+    regs: &mut [T],
+    last: &mut Last<T>,
+    command: &RingCommand<T>,
+) -> bool {
     match *command {
-        RingCommand::Add { dst, a, b } => {
-            regs[dst] = r.add(&regs[a], &regs[b]);
-            true
-        }
-        RingCommand::Sub { dst, a, b } => {
-            regs[dst] = r.sub(&regs[a], &regs[b]);
-            true
-        }
-        RingCommand::Mul { dst, a, b } => {
-            regs[dst] = r.mul(&regs[a], &regs[b]);
+        RingCommand::Add { dst, a, b }
+        | RingCommand::Sub { dst, a, b }
+        | RingCommand::Mul { dst, a, b } => {
+            let form = combined_form(r, regs, last, command, a, b);
+            write(regs, last, dst, form);
             true
         }
         _ => match computed_form(r, regs, command) {
             Some(form) => {
-                regs[destination(command)] = form;
+                write(regs, last, destination(command), form);
                 true
             }
             None => false,
@@ -264,8 +318,9 @@ fn carry_out<T: RingWord, R: Reducer<T>>(r: &R, regs: &mut [T], command: &RingCo
 pub fn run<T: RingWord, R: Reducer<T>>(r: &R, regs: &mut [T], commands: &[RingCommand<T>]) -> RunEnd {
     debug_assert!(all_checked(r, regs), "each register must hold a checked form");
     debug_assert!(commands_fit(commands, regs.len()), "each register number must be below the number of registers");
+    let mut last = unwritten(regs);
     'commands: for (at, command) in commands.iter().enumerate() {
-        if !carry_out(r, regs, command) {
+        if !carry_out(r, regs, &mut last, command) {
             return RunEnd::NoInverse { at };
         }
     }

@@ -16,7 +16,7 @@ use Rattle.num_modular.specs.declared.ring.RingCommand.{RingCommand}
 use Rattle.num_modular.specs.declared.ring.RingCommand.TheVariants.{Load, Add, Sub, Mul, Neg, Dbl, Sqr, Inv, Div, Pow}
 use Rattle.num_modular.specs.declared.ring.RunEnd.TheVariants.{Done, NoInverse}
 use Rattle.num_modular.specs.Ring.{HoldValues, IsFormOf, destination_of, outcome, value_after}
-use Rattle.num_modular.specs.Ring.{value_at, LacksInverse, LacksInverseAt, IsStop, values_of}
+use Rattle.num_modular.specs.Ring.{value_at, LacksInverse, LacksInverseAt, IsStop, values_of, IsFit, whole}
 
 -- what is read of register a has the value v a
 pub value_of : {T : Type 0} {number : T → ℕ} {form value : ℕ → ℕ → ℕ} {width m : ℕ}
@@ -123,6 +123,20 @@ pub after_command : {T : Type 0} (number : T → ℕ) (form : ℕ → ℕ → �
     → HoldValues number form m registers (value_at m start commands (i + 1))
 after_command number form m start commands i registers command is holds =
     record { each = λ r d in_range. rw (add-one i) (rw is (holds.each r d in_range)) }
+
+-- a command whose register numbers fit writes a register
+pub destination_below : {T : Type 0} (number : T → ℕ) (count : ℕ) (command : RingCommand T)
+    → IsFit count command → destination_of (whole number command) < count
+destination_below number count (Load dst n) fit = fit
+destination_below number count (Add dst a b) fit = fit.0
+destination_below number count (Sub dst a b) fit = fit.0
+destination_below number count (Mul dst a b) fit = fit.0
+destination_below number count (Neg dst a) fit = fit.0
+destination_below number count (Dbl dst a) fit = fit.0
+destination_below number count (Sqr dst a) fit = fit.0
+destination_below number count (Inv dst a) fit = fit.0
+destination_below number count (Div dst a b) fit = fit.0
+destination_below number count (Pow dst a exp) fit = fit.0
 
 image_none : {A B : Type 0} (f : A → B) (o : Option A) → option_map f o ≡ None → o ≡ None
 image_none f None e = refl

@@ -1,8 +1,9 @@
 -- The results of a list of ring commands on whole numbers modulo m, and where it stops: the result sequence of a
 -- straight-line program, and where it isn't executable (Bürgisser, Clausen and Shokrollahi, Algebraic Complexity
 -- Theory, section 4.1). The table has no forms and no widths.
-use Rattle.std.specs.Prelude.{ℕ, suc, zero, ◌+◌, ◌*◌, ◌%◌, ◌^◌, ◌<◌, ◌==◌, if◌then◌else◌, pos, ◌-ℤ◌, neg_ℤ, List}
-use Rattle.std.specs.Prelude.{length, option_map, slice_get, slice_index, Option, Some, None, IsSomeAnd, unwrap_or}
+use Rattle.std.specs.Prelude.{◌≡◌, ℕ, suc, zero, ◌+◌, ◌*◌, ◌%◌, ◌^◌, ◌<◌, ◌==◌, if◌then◌else◌, pos, ◌-ℤ◌, neg_ℤ}
+use Rattle.std.specs.Prelude.{List, length, slice_get, slice_index, slice_index_or}
+use Rattle.std.specs.Prelude.{Option, Some, None, option_map, IsSomeAnd, unwrap_or}
 use Rattle.modular_word.specs.Residues.{residue}
 use Rattle.modular_word.specs.Inverses.{HasInverse, inverse_of}
 use Rattle.modular_reduced.specs.Forms.{Represents}
@@ -100,3 +101,14 @@ IsFormOf number form m None None = Unit {0}
 IsFormOf number form m (Some w) (Some f) = Represents form m (number f) w
 IsFormOf number form m (Some w) None = ⊥
 IsFormOf number form m None (Some f) = ⊥
+
+-- register n, if there is one, holds the form
+abbrev pub IsHeldAt : {T : Type 0} → List T → ℕ → T → Type 0
+IsHeldAt registers n form = n < length registers → form ≡ slice_index_or registers n form
+
+-- the command writes the sum, the difference or the product of the registers a and b
+abbrev pub Combines : {T : Type 0} → ℕ → ℕ → RingCommand T → Type 0
+Combines a b (Add dst x y) = (x ≡ a) × (y ≡ b)
+Combines a b (Sub dst x y) = (x ≡ a) × (y ≡ b)
+Combines a b (Mul dst x y) = (x ≡ a) × (y ≡ b)
+Combines a b _ = ⊥

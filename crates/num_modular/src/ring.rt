@@ -1,11 +1,12 @@
 //! Lists of commands on registers, run over any reducer, and transforms over any reducer.
 
 ghost use Rattle.std.specs.Prelude.{◌≡◌, ℕ, ◌*◌, ◌%◌, ◌<◌, ◌↔◌, IsTrue, IsFalse, Some, All, length};
-ghost use Rattle.std.specs.Prelude.{map, option_map, slice_index, slice_index_or};
+ghost use Rattle.std.specs.Prelude.{map, option_map, slice_index, slice_index_or, slice_set};
 ghost use Rattle.modular_word.specs.Inverses.{inverse_of};
 ghost use Rattle.modular_reduced.specs.Forms.{IsForm};
 ghost use Rattle.num_modular.specs.Ring.{whole, destination_of, outcome, value_at, IsStop};
-ghost use Rattle.num_modular.specs.Ring.{value_after, LacksInverse, carried_out, IsFit, values_of, HoldValues, IsFormOf};
+ghost use Rattle.num_modular.specs.Ring.{value_after, LacksInverse, carried_out, IsFit, values_of, HoldValues};
+ghost use Rattle.num_modular.specs.Ring.{IsFormOf, IsHeldAt, Combines};
 
 pub use crate::list_inverses::invert_each;
 pub use modular_plan::roots::find_root;
@@ -236,14 +237,93 @@ fn computed_form<T: RingWord, R: Reducer<T>>(
     }
 }
 
+// The register that was written last, and its form. A command that reads this register takes the form from here, so it
+// doesn't wait for the store.
+#[derive(Clone, Copy)]
+struct Last<T> {
+    register: usize,
+    form: T,
+}
+
+// The last register before the first command: one that doesn't exist.
+fn unwritten<T: RingWord>(regs: &[T]) -> Last<T>
+    ensures { IsHeldAt regs.now result.register result.form }
+{
+    Last {
+        register: regs.len(),
+        form: T::zero(),
+    }
+}
+
+// The form that register a holds.
+#[inline(always)]
+fn held<T: RingWord>(regs: &[T], last: &Last<T>, a: usize) -> T
+    requires within { a < length regs.now }
+    requires holds { IsHeldAt regs.now last.now.register last.now.form }
+    ensures { result ≡ slice_index_or regs.now a result }
+{
+    if a == last.register {
+        last.form
+    } else {
+        regs[a]
+    }
+}
+
+// Writes a register, which is then the last one.
+#[inline(always)]
+fn write<T: RingWord>(regs: &mut [T], last: &mut Last<T>, dst: usize, form: T)
+    requires { dst < length regs.old }
+    ensures written { regs.new ≡ slice_set regs.old dst form }
+    ensures holds { IsHeldAt regs.new last.new.register last.new.form }
+{
+    regs[dst] = form;
+    last.register = dst;
+    last.form = form;
+}
+
+// The form of the sum, the difference or the product of the registers a and b, as the command says.
+//
+// Only the first operand is looked for in `last`: the test takes time in every command.
+#[inline(always)]
+fn combined_form<T: RingWord, R: Reducer<T>>(
+    r: &R,
+    regs: &[T],
+    last: &Last<T>,
+    command: &RingCommand<T>,
+    a: usize,
+    b: usize,
+) -> T
+    requires checked { All (λ f. IsForm R.form R.value (R.modulus r.now) (T.number f)) regs.now }
+    requires within { (a < length regs.now) × (b < length regs.now) }
+    requires holds { IsHeldAt regs.now last.now.register last.now.form }
+    requires combines { Combines a b command.now }
+    ensures { let m = R.modulus r.now in
+        (v : ℕ → ℕ) → HoldValues T.number R.form m regs.now v →
+        IsFormOf T.number R.form m (outcome m v (whole T.number command.now)) (Some result) }
+{
+    // Before the match, so that the three operations share this code.
+    let x = held(regs, last, a);
+    match command {
+        RingCommand::Add { .. } => r.add(&x, &regs[b]),
+        RingCommand::Sub { .. } => r.sub(&x, &regs[b]),
+        _ => r.mul(&x, &regs[b]),
+    }
+}
+
 // Carries out a command; false exactly where its inverse doesn't exist, and then nothing is written.
 //
 // Inlined into the loop of `run`. Sums, differences and products are computed here, since a call for each of them would
 // take as long as the command.
 #[inline(always)]
-fn carry_out<T: RingWord, R: Reducer<T>>(r: &R, regs: &mut [T], command: &RingCommand<T>) -> bool
+fn carry_out<T: RingWord, R: Reducer<T>>(
+    r: &R,
+    regs: &mut [T],
+    last: &mut Last<T>,
+    command: &RingCommand<T>,
+) -> bool
     requires checked { All (λ f. IsForm R.form R.value (R.modulus r.now) (T.number f)) regs.old }
     requires fit { IsFit (length regs.old) command.now }
+    requires holds { IsHeldAt regs.old last.old.register last.old.form }
     ensures count { length regs.new ≡ length regs.old }
     ensures values { let m = R.modulus r.now in
         IsTrue result → (v : ℕ → ℕ) → HoldValues T.number R.form m regs.old v →
@@ -252,25 +332,19 @@ fn carry_out<T: RingWord, R: Reducer<T>>(r: &R, regs: &mut [T], command: &RingCo
         (v : ℕ → ℕ) → HoldValues T.number R.form m regs.old v →
         IsFalse result ↔ LacksInverse m v (whole T.number command.now) }
     ensures kept { IsFalse result → regs.new ≡ regs.old }
+    ensures holds { IsHeldAt regs.new last.new.register last.new.form }
 {
-    // By value, so that the fields are read before the operands: else LLVM merges the ends of the arms, and each command
-    // takes one jump more.
     match *command {
-        RingCommand::Add { dst, a, b } => {
-            regs[dst] = r.add(&regs[a], &regs[b]);
-            true
-        }
-        RingCommand::Sub { dst, a, b } => {
-            regs[dst] = r.sub(&regs[a], &regs[b]);
-            true
-        }
-        RingCommand::Mul { dst, a, b } => {
-            regs[dst] = r.mul(&regs[a], &regs[b]);
+        RingCommand::Add { dst, a, b }
+        | RingCommand::Sub { dst, a, b }
+        | RingCommand::Mul { dst, a, b } => {
+            let form = combined_form(r, regs, last, command, a, b);
+            write(regs, last, dst, form);
             true
         }
         _ => match computed_form(r, regs, command) {
             Some(form) => {
-                regs[destination(command)] = form;
+                write(regs, last, destination(command), form);
                 true
             }
             None => false,
@@ -329,8 +403,9 @@ pub fn run<T: RingWord, R: Reducer<T>>(r: &R, regs: &mut [T], commands: &[RingCo
         (n : ℕ) (other : T) → n < length regs.old → R.value m (T.number (slice_index_or regs.new n other))
         ≡ value_at m start wholes (carried_out result wholes) n }
 {
+    let mut last = unwritten(regs);
     'commands: for (at, command) in commands.iter().enumerate() {
-        if !carry_out(r, regs, command) {
+        if !carry_out(r, regs, &mut last, command) {
             return RunEnd::NoInverse { at };
         }
     }

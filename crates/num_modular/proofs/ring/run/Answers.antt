@@ -14,6 +14,7 @@ commands-init g c = record {
   held = start_holds g.T.RingWord.number g.R.Reducer.form g.R.Reducer.value
       (g.R.Reducer.modulus c.args.r.now) c.args.regs.now c.requires.checked;
   passed = λ j h. absurd (omega arith);
+  last = c.unwritten-last.ensures;
 }
 
 true_not_false : {b : Bool} → IsTrue b → IsFalse b → ⊥
@@ -38,6 +39,7 @@ commands-preserved g c =
       passed = below_more _ _ c.commands.invariant.passed (λ lacks. absurd (true_not_false told
           ((c.carry_out.ensures.missing (value_at m start wholes at) held).1
           (lacks_of m start wholes at (whole number command) is lacks))));
+      last = c.carry_out.ensures.holds;
     }
 
 -- where the command that was read lacks its inverse, and none before it did, is the stop

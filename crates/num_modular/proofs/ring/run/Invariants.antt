@@ -1,8 +1,8 @@
 use Rattle.std.proofs.Common.{ℕ, ◌<◌, map}
-use Rattle.num_modular.specs.Ring.{whole, value_at, LacksInverseAt, values_of, HoldValues}
+use Rattle.num_modular.specs.Ring.{whole, value_at, LacksInverseAt, values_of, HoldValues, IsHeldAt}
 use Rattle.num_modular.proofs.ring.run.Given as goal
 
--- the registers hold the row of the table, and no inverse was missing
+-- the registers hold the row of the table, no inverse was missing, and the last form is that of its register
 abbrev pub invariant-commands : goal.invariant-commands
 invariant-commands g l =
     let m = g.R.Reducer.modulus l.r in
@@ -12,4 +12,5 @@ invariant-commands g l =
     record {
       held : HoldValues number g.R.Reducer.form m l.regs (value_at m start wholes l.at);
       passed : (j : ℕ) → j < l.at → LacksInverseAt m start wholes j → ⊥;
+      last : IsHeldAt l.regs l.last.register l.last.form;
     }
