@@ -5,3 +5,6 @@ use Rattle.modular_folds.proofs.solinas.TrinomialModulusFoldModulus.reduced.Goal
 pub reduce_word-requires : goal.reduce_word-requires
 reduce_word-requires g c =
     trinomial_folding c.args.self.now.range _ _ _ (search rules) (search rules) c.factor.ensures c.modulus.ensures
+
+pub returns-then-is_low : goal.returns-then-is_low
+returns-then-is_low g c = c.reduce_single.ensures
