@@ -5,6 +5,12 @@ use Rattle.std.proofs.Math.Nat.{pow-suc, mod-eq_of_lt, mod-eq-sub-mod}
 use Rattle.std.proofs.lemmas.Nat.{shr_split, pow_pos, pow-add, mul-le, le-div}
 use Rattle.modular_folds.specs.Folds.{fold_of}
 
+-- a fold makes no number greater
+pub fold_at_most : (p c v : ℕ) → c < 2 ^ p → fold_of p c v ≤ v
+fold_at_most p c v less =
+    let part : v / 2 ^ p * c ≤ v / 2 ^ p * 2 ^ p = mul-le-mul_left (v / 2 ^ p) (omega arith) in
+    omega (arith, part, shr_split v p)
+
 -- a number that is less than 2 * b by c has a quotient of 1 at most
 last_of : (b c q r s : ℕ) → q * b + r ≡ s → r < b → s + c < 2 * b → q * c + r < b
 last_of b c zero r s is low near = omega arith
