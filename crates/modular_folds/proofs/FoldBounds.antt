@@ -11,6 +11,14 @@ fold_at_most p c v less =
     let part : v / 2 ^ p * c ≤ v / 2 ^ p * 2 ^ p = mul-le-mul_left (v / 2 ^ p) (omega arith) in
     omega (arith, part, shr_split v p)
 
+-- so that the product and the sum of a fold fit where the number fits
+pub fold_fits : (b p c v h : ℕ) → c < 2 ^ p → v < b → h ≡ v / 2 ^ p → h * c < b
+fold_fits b p c v h less fits high = omega (arith, fold_at_most p c v less, ap (λ u. u * c) high)
+
+pub fold_sum_fits : (b p c v h s l : ℕ) → c < 2 ^ p → v < b → h ≡ v / 2 ^ p → s ≡ h * c → l ≡ v % 2 ^ p → s + l < b
+fold_sum_fits b p c v h s l less fits high product low =
+    omega (arith, fold_at_most p c v less, ap (λ u. u * c) high)
+
 -- a number that is less than 2 * b by c has a quotient of 1 at most
 last_of : (b c q r s : ℕ) → q * b + r ≡ s → r < b → s + c < 2 * b → q * c + r < b
 last_of b c zero r s is low near = omega arith
