@@ -1,3 +1,4 @@
+use Rattle.std.proofs.lemmas.Bool.{false≢true}
 use Rattle.num_modular.specs.Callers.{◌≡◌, ℕ, ◌+◌, ◌-◌, length, ◌∙◌, arith, refl, entry_at, forms_written, done_before}
 use Rattle.num_modular.specs.Callers.{no_inverse, inverse_before, inverse_last, entry, hold_more, product_step}
 use Rattle.num_modular.proofs.list_inverses.invert_each.Goals as goal
@@ -36,3 +37,51 @@ forward-preserved g c =
       hold_more number ring.form ring.value m c.forward.products i c.forward.product _ (omega arith) so_far.1
           so_far.0.checked so_far.0.same,
     )
+
+pub returns-in_default-clause-inverses : goal.returns-in_default-clause-inverses
+returns-in_default-clause-inverses g c = λ t. absurd (false≢true t)
+
+pub returns-in_default-clause-checked : goal.returns-in_default-clause-checked
+returns-in_default-clause-checked g c = c.requires.checked
+
+pub returns-in_default-clause-unchanged : goal.returns-in_default-clause-unchanged
+returns-in_default-clause-unchanged g c = λ t. refl
+
+pub mul-product-requires-clause-left : goal.mul-product-requires-clause-left
+mul-product-requires-clause-left g c = c.forward.invariant.0.checked
+
+pub mul-product-requires-clause-right : goal.mul-product-requires-clause-right
+mul-product-requires-clause-right g c = c.requires.checked _ _ c.forward-test.true
+
+pub mul-before-requires-clause-left : goal.mul-before-requires-clause-left
+mul-before-requires-clause-left g c = c.backward.invariant.0
+
+pub mul-requires-clause-left : goal.mul-requires-clause-left
+mul-requires-clause-left g c = c.backward.invariant.0
+
+pub mul-requires-clause-right : goal.mul-requires-clause-right
+mul-requires-clause-right g c = (c.forward.invariant.1.each _ _ (omega arith)).checked
+
+pub mul-before-requires-clause-right : goal.mul-before-requires-clause-right
+mul-before-requires-clause-right g c = c.backward.invariant.2 _ _ (omega arith)
+
+pub bounds-products-i-in-backward : goal.bounds-products-i-in-backward
+bounds-products-i-in-backward g c = omega arith
+
+pub bounds-forms-i-in-backward : goal.bounds-forms-i-in-backward
+bounds-forms-i-in-backward g c = omega arith
+
+pub bounds-forms-i-in-backward-2 : goal.bounds-forms-i-in-backward-2
+bounds-forms-i-in-backward-2 g c = omega arith
+
+pub bounds-products-i : goal.bounds-products-i
+bounds-products-i g c = omega arith
+
+pub returns-clause-inverses : goal.returns-clause-inverses
+returns-clause-inverses g c = λ t i l. c.backward.invariant.3.done i (omega arith) l
+
+pub returns-clause-checked : goal.returns-clause-checked
+returns-clause-checked g c = c.backward.invariant.2
+
+pub inv-requires : goal.inv-requires
+inv-requires g c = c.forward.invariant.0.checked
