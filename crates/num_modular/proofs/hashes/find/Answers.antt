@@ -23,3 +23,9 @@ windows-preserved c =
       nowhere = below_more _ _ c.windows.invariant.nowhere
           (λ stands. false≢true (sym c.if-is_hit.false ∙ c.is_hit.ensures.1 stands));
     }
+
+pub returns-then-is_hit-2 : goal.returns-then-is_hit-2
+returns-then-is_hit-2 c = record {
+  stands = c.is_hit-2.ensures.0 c.if-is_hit-2.true;
+  first = λ j l. c.windows.invariant.nowhere j (omega arith);
+}
