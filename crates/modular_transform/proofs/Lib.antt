@@ -8,6 +8,7 @@ pub mod Halves
 pub mod InverseTransform
 pub mod MinusOne
 pub mod PairLemmas
+pub mod Places
 pub mod PlainSums
 pub mod PolynomialProducts
 pub mod PowersOfTwo

@@ -30,18 +30,19 @@ fn four<T: RingWord, R: Reducer<T>>(
         FourDone m (R.value m (T.number first.now)) (R.value m (T.number second.now)) (R.value m (T.number both.now)) step place
         (slice_index (values_of T.number R.value m forms.old)) (slice_index (values_of T.number R.value m forms.new)) }
 {
+    let (second_place, third_place, fourth_place) = (place + step, place + 2 * step, place + 3 * step);
     let a = forms[place];
-    let b = forms[place + step];
-    let c = forms[place + 2 * step];
-    let d = forms[place + 3 * step];
+    let b = forms[second_place];
+    let c = forms[third_place];
+    let d = forms[fourth_place];
     let left = r.add(&a, &c);
     let right = r.add(&b, &d);
     let left_turned = r.mul_difference(&a, &c, first);
     let right_turned = r.mul_difference(&b, &d, second);
     forms[place] = r.add(&left, &right);
-    forms[place + step] = r.mul_difference(&left, &right, both);
-    forms[place + 2 * step] = r.add(&left_turned, &right_turned);
-    forms[place + 3 * step] = r.mul_difference(&left_turned, &right_turned, both);
+    forms[second_place] = r.mul_difference(&left, &right, both);
+    forms[third_place] = r.add(&left_turned, &right_turned);
+    forms[fourth_place] = r.mul_difference(&left_turned, &right_turned, both);
 }
 
 /// Two stages, the first with a root and 2·step columns, the second with its square and `step` columns. `turned` is
