@@ -1,5 +1,8 @@
--- The places of a four in a list.
-use Rattle.std.proofs.Common.{ℕ, ◌+◌, ◌*◌, ◌^◌, ◌<◌, arith}
+-- Indexes within a list, and their offsets in bytes.
+use Rattle.std.proofs.Common.{◌≡◌, ℕ, ◌+◌, ◌-◌, ◌*◌, ◌%◌, ◌^◌, ◌<◌, ◌≤◌, min, arith}
+use Rattle.std.proofs.lemmas.Nat.{mul-le}
+use Rattle.modular_transform.proofs.PowersOfTwo.{below_power}
+use borrow.Author.Rules.{scaled_Fits}
 use mir.Syntax.{w64}
 use mir.Val.{Fits}
 
@@ -15,3 +18,42 @@ four_within l = record { first = omega arith; second = omega arith; third = omeg
 -- an index within a list fits
 pub length_fits : {i n : ℕ} → i < n → n < 2 ^ 64 → Fits w64 i
 length_fits within few = record { fits = omega (arith, within, few) }
+
+-- a list of one block or more has as many entries as a half or a quarter of a block
+pub half_within : {blocks half n : ℕ} → blocks * (half + half) ≡ n → 0 < blocks → half ≤ n
+half_within {blocks} {half} whole some =
+    let one = mul-le 1 (half + half) blocks (half + half) some (omega arith) in omega (arith, one, whole)
+
+pub quarter_within : {blocks step n : ℕ} → blocks * (4 * step) ≡ n → 0 < blocks → step ≤ n
+quarter_within {blocks} {step} whole some =
+    let one = mul-le 1 (4 * step) blocks (4 * step) some (omega arith) in omega (arith, one, whole)
+
+-- an entry of a strip's powers lies no farther than one of the list
+pub strip_offset : (size column : ℕ) {i width columns n : ℕ} → i < width → width ≡ min 128 (columns - column)
+    → columns ≤ n → n * size < 2 ^ 63 → Fits w64 (i * size)
+strip_offset size column {i} {n = n} within least few room =
+    scaled_Fits i n size (omega (arith, within, least, few)) room
+
+-- the root of a stage lies no farther than an entry of the list
+pub stage_offset : (size : ℕ) {i z n : ℕ} → i < z → n ≡ 2 ^ z → n * size < 2 ^ 63 → Fits w64 (i * size)
+stage_offset size {i} {z} {n} within whole room =
+    let many = below_power z in scaled_Fits i n size (omega (arith, many, within, whole)) room
+
+pub below_limit : {i n limit : ℕ} → i < n → n ≤ limit → i < limit
+below_limit within few = omega arith
+
+-- two stages are left where one is, since their number is even
+pub two_left : {done z : ℕ} → (z - done) % 2 ≡ 0 → done < z → done + 2 ≤ z
+two_left even more = omega (arith, even, more)
+
+pub record StagesLeft (done z : ℕ) : Type 0 where
+  pub next : done + 1 < z
+  pub turn : z - 2 < z
+  pub two : 2 ≤ z
+
+pub stages_left : {done z : ℕ} → (z - done) % 2 ≡ 0 → done < z → StagesLeft done z
+stages_left even more = let two = two_left even more in record {
+  next = omega (arith, two);
+  turn = omega (arith, two);
+  two = omega (arith, two);
+}

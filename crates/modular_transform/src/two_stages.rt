@@ -30,7 +30,11 @@ fn four<T: RingWord, R: Reducer<T>>(
         FourDone m (R.value m (T.number first.now)) (R.value m (T.number second.now)) (R.value m (T.number both.now)) step place
         (slice_index (values_of T.number R.value m forms.old)) (slice_index (values_of T.number R.value m forms.new)) }
 {
-    let (second_place, third_place, fourth_place) = (place + step, place + 2 * step, place + 3 * step);
+    let (second_place, third_place, fourth_place) = (
+        place + step,
+        place + 2 * step,
+        place + 3 * step,
+    );
     let a = forms[place];
     let b = forms[second_place];
     let c = forms[third_place];

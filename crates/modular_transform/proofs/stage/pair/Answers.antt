@@ -1,4 +1,4 @@
-use Rattle.std.proofs.Common.{◌<◌, length, arith}
+use Rattle.std.proofs.Common.{arith}
 use Rattle.modular_transform.specs.EntryLaws.{form_read, forms_written}
 use Rattle.modular_transform.proofs.ValueLemmas.{pair_written}
 use Rattle.modular_transform.proofs.stage.pair.Goals as goal

@@ -1,4 +1,4 @@
-use Rattle.std.proofs.Common.{rules, ◌≡◌, ℕ, ◌+◌, ◌-◌, ◌*◌, ◌%◌, ◌^◌, ◌<◌, length, ◌∙◌, ap, arith, subst}
+use Rattle.std.proofs.Common.{◌≡◌, ℕ, ◌+◌, ◌-◌, ◌*◌, ◌%◌, ◌^◌, ◌<◌, length, ◌∙◌, ap, arith, subst}
 use Rattle.modular_reduced.specs.Forms.{Represents}
 use Rattle.modular_reduced.proofs.FormLemmas.{form_of_value}
 use Rattle.modular_transform.specs.Stages.{PairsDone}
@@ -6,16 +6,14 @@ use Rattle.modular_transform.proofs.PairLemmas.{none_between, none_done, one_don
 use Rattle.modular_transform.proofs.PairLemmas.{done_by, stage_done, block_fits, columns_fit, pairs_fit}
 use Rattle.modular_transform.proofs.StripPowers.{one_form, first_power, power_first}
 use Rattle.modular_transform.proofs.StripPowers.{power_next, strip_power, strip_next}
+use Rattle.modular_transform.proofs.Places.{strip_offset, half_within}
 use Rattle.modular_transform.proofs.ValueLemmas.{values, value_at, forms_written, entry_done}
 use Rattle.modular_transform.proofs.stage.stage.Goals as goal
 
 pub offset_bounds-powers-i : goal.offset_bounds-powers-i
 offset_bounds-powers-i g c =
-    let least = c.min-width.ensures in
-    let fit = block_fits 0 c.args.blocks c.args.half _ c.requires.some c.requires.whole in
-    let same = c.strips.auto.forms in
-    let within : c.fill.i < length c.strips.forms = omega (arith, least, fit, same) in
-    search rules
+    strip_offset _ _ c.fill-test.true c.min-width.ensures (half_within c.requires.whole c.requires.some)
+    c.well_formed.1.0.1
 
 pub overflow_add-products : goal.overflow_add-products
 overflow_add-products g c =
@@ -32,11 +30,8 @@ overflow_add-first-in-each_block g c =
 
 pub offset_bounds-powers-k : goal.offset_bounds-powers-k
 offset_bounds-powers-k g c =
-    let least = c.min-width.ensures in
-    let fit = block_fits 0 c.args.blocks c.args.half _ c.requires.some c.requires.whole in
-    let same = c.columns.auto.forms in
-    let within : c.columns.k < length c.columns.forms = omega (arith, least, fit, same) in
-    search rules
+    strip_offset _ _ c.columns-test.true c.min-width.ensures (half_within c.requires.whole c.requires.some)
+    c.well_formed.1.0.1
 
 pub overflow_add-first-in-columns : goal.overflow_add-first-in-columns
 overflow_add-first-in-columns g c =

@@ -1,4 +1,4 @@
-use Rattle.std.proofs.Common.{rules, ◌≡◌, ℕ, ◌+◌, ◌-◌, ◌*◌, ◌/◌, ◌%◌, ◌^◌, ◌<◌, ◌≤◌, length, sym, ◌∙◌, ap, arith, refl}
+use Rattle.std.proofs.Common.{◌≡◌, ℕ, ◌+◌, ◌-◌, ◌*◌, ◌/◌, ◌%◌, ◌^◌, ◌<◌, ◌≤◌, length, sym, ◌∙◌, ap, arith, refl}
 use Rattle.std.proofs.Common.{inl, inr, subst, List, All, ◌≢◌}
 use Rattle.std.proofs.lemmas.Bool.{cases_eq}
 use Rattle.std.proofs.lemmas.List.Elements.{All-set}
@@ -11,7 +11,8 @@ use Rattle.modular_word.proofs.Congruence.{of_equal, chained}
 use Rattle.modular_word.proofs.Powers.{pow-one}
 use Rattle.modular_reduced.specs.Forms.{IsForm}
 use Rattle.modular_reduced.proofs.FormLemmas.{form_of_value}
-use Rattle.modular_transform.proofs.PowersOfTwo.{trailing_zeros_of_power, below_power, exponent_below}
+use Rattle.modular_transform.proofs.Places.{stage_offset, stages_left, two_left, below_limit}
+use Rattle.modular_transform.proofs.PowersOfTwo.{trailing_zeros_of_power, exponent_below}
 use Rattle.modular_transform.proofs.StageLemmas.{BlocksTransform, stages_start}
 use Rattle.modular_transform.proofs.StripPowers.{one_form}
 use Rattle.modular_transform.proofs.TransformLemmas.{stage_sizes, two_sizes, suited_length, root_more, quarter_turn}
@@ -21,6 +22,7 @@ use Rattle.modular_transform.proofs.ValueLemmas.{values, value_at, values-set_sa
 use Rattle.modular_transform.proofs.ValueLemmas.{held_forms}
 use Rattle.modular_transform.proofs.transform.ntt_counted.Goals as goal
 use Rattle.modular_transform.proofs.transform.ntt_counted.Goals.{then-stages-eq1, else-stages-eq1}
+use lib.Count.{trailing_le}
 
 pub roots-init : goal.roots-init
 roots-init g c =
@@ -47,7 +49,7 @@ roots-preserved g c =
     let root = c.roots.root in
     let before = c.roots.invariant in
     let P = λ (f : _). IsForm g.R.Reducer.form value m (number f) in
-    let below : length c.args.xs.now < 2 ^ 64 = omega arith in
+    let below : length c.args.xs.now < 2 ^ 64 = c.well_formed.1.0.0 in
     let few = exponent_below _ _ (suited_length c.requires.suits below) below in
     record {
       checked = All-set P roots s root before.form before.checked;
@@ -70,7 +72,7 @@ passes-init g c =
     let value = g.R.Reducer.value in
     let n = length c.args.xs.now in
     let z = trailing_zeros w64 n in
-    let below : n < 2 ^ 64 = omega arith in
+    let below : n < 2 ^ 64 = c.well_formed.1.0.0 in
     let whole = suited_length c.requires.suits below in
     let root = value m (number c.args.g.now) in
     let of = values number value m in
@@ -138,7 +140,7 @@ pub stage-requires-clause-whole : goal.stage-requires-clause-whole
 stage-requires-clause-whole g c =
     let n = length c.args.xs.now in
     let z = trailing_zeros w64 n in
-    let below : n < 2 ^ 64 = omega arith in
+    let below : n < 2 ^ 64 = c.well_formed.1.0.0 in
     let whole = suited_length c.requires.suits below in
     let odd : z % 2 ≡ 1 = c.if-stages-eq1.true in
     let zero : z - 0 ≡ z = omega arith in
@@ -152,7 +154,7 @@ passes-preserved g c =
     let value = g.R.Reducer.value in
     let n = length c.args.xs.now in
     let z = trailing_zeros w64 n in
-    let below : n < 2 ^ 64 = omega arith in
+    let below : n < 2 ^ 64 = c.well_formed.1.0.0 in
     let whole = suited_length c.requires.suits below in
     let root = value m (number c.args.g.now) in
     let t = c.passes.done in
@@ -160,7 +162,7 @@ passes-preserved g c =
     let even : (z - t) % 2 ≡ 0 = before.even in
     let upto : t ≤ z = before.upto in
     let more : t < z = c.passes-test.true in
-    let two : t + 2 ≤ z = omega (arith, even, upto, more) in
+    let two = two_left even more in
     let sizes = two_sizes z t n c.passes.half c.passes.blocks more even whole before.half before.blocks in
     let all : c.roots.i ≡ z = omega arith in
     let few = exponent_below z n whole below in
@@ -199,7 +201,7 @@ returns-clause-entries g c =
     let before = c.passes.invariant in
     let same = c.passes.auto.xs in
     let kept = c.reverse_places.auto.entries in
-    let below : n < 2 ^ 64 = omega arith in
+    let below : n < 2 ^ 64 = c.well_formed.1.0.0 in
     plain_order number g.R.Reducer.form value m root n z x c.passes.xs c.reverse_places.new.entries
     (suited_length c.requires.suits below) (omega (arith, same)) (omega (arith, same, kept)) before.checked
     (blocks_all root z c.passes.done n x (values number value m c.passes.xs) c.passes-test.false
@@ -219,7 +221,7 @@ returns-clause-checked g c = held_forms g.T.RingWord.number g.R.Reducer.form g.R
 pub returns-clause-count : goal.returns-clause-count
 returns-clause-count g c z is =
     let n = length c.args.xs.now in
-    let below : n < 2 ^ 64 = omega arith in
+    let below : n < 2 ^ 64 = c.well_formed.1.0.0 in
     let e = trailing_zeros_of_power z n is below in
     let before = c.passes.invariant in
     products_all (trailing_zeros w64 n) c.passes.done n c.passes.products c.passes-test.false
@@ -232,7 +234,7 @@ two_stages-products-requires-clause-turn g c =
     let value = g.R.Reducer.value in
     let n = length c.args.xs.now in
     let z = trailing_zeros w64 n in
-    let below : n < 2 ^ 64 = omega arith in
+    let below : n < 2 ^ 64 = c.well_formed.1.0.0 in
     let whole = suited_length c.requires.suits below in
     let root = value m (number c.args.g.now) in
     let t = c.passes.done in
@@ -240,7 +242,7 @@ two_stages-products-requires-clause-turn g c =
     let even : (z - t) % 2 ≡ 0 = before.even in
     let upto : t ≤ z = before.upto in
     let more : t < z = c.passes-test.true in
-    let two : t + 2 ≤ z = omega (arith, even, upto, more) in
+    let two = two_left even more in
     let sizes = two_sizes z t n c.passes.half c.passes.blocks more even whole before.half before.blocks in
     let all : c.roots.i ≡ z = omega arith in
     let few = exponent_below z n whole below in
@@ -257,7 +259,7 @@ two_stages-products-requires-clause-whole g c =
     let value = g.R.Reducer.value in
     let n = length c.args.xs.now in
     let z = trailing_zeros w64 n in
-    let below : n < 2 ^ 64 = omega arith in
+    let below : n < 2 ^ 64 = c.well_formed.1.0.0 in
     let whole = suited_length c.requires.suits below in
     let root = value m (number c.args.g.now) in
     let t = c.passes.done in
@@ -265,7 +267,7 @@ two_stages-products-requires-clause-whole g c =
     let even : (z - t) % 2 ≡ 0 = before.even in
     let upto : t ≤ z = before.upto in
     let more : t < z = c.passes-test.true in
-    let two : t + 2 ≤ z = omega (arith, even, upto, more) in
+    let two = two_left even more in
     let sizes = two_sizes z t n c.passes.half c.passes.blocks more even whole before.half before.blocks in
     let same : length c.passes.xs ≡ n = c.passes.auto.xs ∙ c.if-stages-eq1.auto.xs in
     let h = c.passes.half / 2 in
@@ -279,7 +281,7 @@ overflow_mul-blocks g c =
     let value = g.R.Reducer.value in
     let n = length c.args.xs.now in
     let z = trailing_zeros w64 n in
-    let below : n < 2 ^ 64 = omega arith in
+    let below : n < 2 ^ 64 = c.well_formed.1.0.0 in
     let whole = suited_length c.requires.suits below in
     let root = value m (number c.args.g.now) in
     let t = c.passes.done in
@@ -287,7 +289,7 @@ overflow_mul-blocks g c =
     let even : (z - t) % 2 ≡ 0 = before.even in
     let upto : t ≤ z = before.upto in
     let more : t < z = c.passes-test.true in
-    let two : t + 2 ≤ z = omega (arith, even, upto, more) in
+    let two = two_left even more in
     let sizes = two_sizes z t n c.passes.half c.passes.blocks more even whole before.half before.blocks in
     let blocks = sizes.second.more in
     let l = pow-le-pow_right {n = 2} (omega arith) {i = t + 1 + 1} {j = z} (omega (arith, two)) in
@@ -300,7 +302,7 @@ overflow_add-products-in-passes g c =
     let value = g.R.Reducer.value in
     let n = length c.args.xs.now in
     let z = trailing_zeros w64 n in
-    let below : n < 2 ^ 64 = omega arith in
+    let below : n < 2 ^ 64 = c.well_formed.1.0.0 in
     let whole = suited_length c.requires.suits below in
     let root = value m (number c.args.g.now) in
     let t = c.passes.done in
@@ -308,7 +310,7 @@ overflow_add-products-in-passes g c =
     let even : (z - t) % 2 ≡ 0 = before.even in
     let upto : t ≤ z = before.upto in
     let more : t < z = c.passes-test.true in
-    let two : t + 2 ≤ z = omega (arith, even, upto, more) in
+    let two = two_left even more in
     let sizes = two_sizes z t n c.passes.half c.passes.blocks more even whole before.half before.blocks in
     let few = exponent_below z n whole below in
     let rows = mul-le (t + 2) (n / 2) 64 (2 ^ 64) (omega (arith, two, few)) (omega arith) in
@@ -318,87 +320,77 @@ overflow_add-products-in-passes g c =
 
 pub reverse_places-requires-clause-whole : goal.reverse_places-requires-clause-whole
 reverse_places-requires-clause-whole g c =
-    let below : length c.args.xs.now < 2 ^ 64 = omega arith in
+    let below : length c.args.xs.now < 2 ^ 64 = c.well_formed.1.0.0 in
     c.passes.auto.xs ∙ c.if-stages-eq1.auto.xs ∙ suited_length c.requires.suits below
 
 pub offset_bounds-roots-i : goal.offset_bounds-roots-i
 offset_bounds-roots-i g c =
-    let n = length c.args.xs.now in
-    let z = trailing_zeros w64 n in
-    let below : n < 2 ^ 64 = omega arith in
-    let whole = suited_length c.requires.suits below in
-    let many = below_power z in
-    let within : c.roots.i < length c.args.xs.now = omega (arith, many, whole) in
-    search rules
+    stage_offset _ c.roots-test.true (suited_length c.requires.suits c.well_formed.1.0.0) c.well_formed.1.0.1
 
 pub offset_bounds-roots-done : goal.offset_bounds-roots-done
 offset_bounds-roots-done g c =
-    let m = g.R.Reducer.modulus c.args.r.now in
-    let number = g.T.RingWord.number in
-    let value = g.R.Reducer.value in
-    let n = length c.args.xs.now in
-    let z = trailing_zeros w64 n in
-    let below : n < 2 ^ 64 = omega arith in
-    let whole = suited_length c.requires.suits below in
-    let root = value m (number c.args.g.now) in
-    let t = c.passes.done in
-    let before = c.passes.invariant in
-    let even : (z - t) % 2 ≡ 0 = before.even in
-    let upto : t ≤ z = before.upto in
-    let more : t < z = c.passes-test.true in
-    let two : t + 2 ≤ z = omega (arith, even, upto, more) in
-    let sizes = two_sizes z t n c.passes.half c.passes.blocks more even whole before.half before.blocks in
-    let many = below_power z in
-    let same = c.passes.auto.xs in
-    let within : c.passes.done < length c.passes.xs = omega (arith, two, many, whole, same) in
-    search rules
+    stage_offset _ c.passes-test.true (suited_length c.requires.suits c.well_formed.1.0.0) c.well_formed.1.0.1
 
 pub offset_bounds-roots-done-in-passes : goal.offset_bounds-roots-done-in-passes
 offset_bounds-roots-done-in-passes g c =
-    let m = g.R.Reducer.modulus c.args.r.now in
-    let number = g.T.RingWord.number in
-    let value = g.R.Reducer.value in
-    let n = length c.args.xs.now in
-    let z = trailing_zeros w64 n in
-    let below : n < 2 ^ 64 = omega arith in
-    let whole = suited_length c.requires.suits below in
-    let root = value m (number c.args.g.now) in
-    let t = c.passes.done in
-    let before = c.passes.invariant in
-    let even : (z - t) % 2 ≡ 0 = before.even in
-    let upto : t ≤ z = before.upto in
-    let more : t < z = c.passes-test.true in
-    let two : t + 2 ≤ z = omega (arith, even, upto, more) in
-    let sizes = two_sizes z t n c.passes.half c.passes.blocks more even whole before.half before.blocks in
-    let many = below_power z in
-    let same = c.passes.auto.xs in
-    let within : c.passes.done + 1 < length c.passes.xs = omega (arith, two, many, whole, same) in
-    search rules
+    stage_offset _ (stages_left c.passes.invariant.even c.passes-test.true).next
+    (suited_length c.requires.suits c.well_formed.1.0.0) c.well_formed.1.0.1
 
 pub offset_bounds-roots-stages : goal.offset_bounds-roots-stages
 offset_bounds-roots-stages g c =
-    let m = g.R.Reducer.modulus c.args.r.now in
-    let number = g.T.RingWord.number in
-    let value = g.R.Reducer.value in
-    let n = length c.args.xs.now in
-    let z = trailing_zeros w64 n in
-    let below : n < 2 ^ 64 = omega arith in
-    let whole = suited_length c.requires.suits below in
-    let root = value m (number c.args.g.now) in
-    let t = c.passes.done in
-    let before = c.passes.invariant in
-    let even : (z - t) % 2 ≡ 0 = before.even in
-    let upto : t ≤ z = before.upto in
-    let more : t < z = c.passes-test.true in
-    let two : t + 2 ≤ z = omega (arith, even, upto, more) in
-    let sizes = two_sizes z t n c.passes.half c.passes.blocks more even whole before.half before.blocks in
-    let many = below_power z in
-    let same = c.passes.auto.xs in
-    let within : trailing_zeros w64 (length c.args.xs.now) - 2 < length c.passes.xs = omega (arith, two, many, whole, same) in
-    search rules
+    stage_offset _ (stages_left c.passes.invariant.even c.passes-test.true).turn
+    (suited_length c.requires.suits c.well_formed.1.0.0) c.well_formed.1.0.1
 
 pub stage-requires-clause-checked : goal.stage-requires-clause-checked
 stage-requires-clause-checked g c = c.requires.checked
 
 pub two_stages-products-requires-clause-checked : goal.two_stages-products-requires-clause-checked
 two_stages-products-requires-clause-checked g c = c.passes.invariant.checked
+
+pub bounds-roots-i : goal.bounds-roots-i
+bounds-roots-i g c =
+    below_limit c.roots-test.true (trailing_le 64 (length c.args.xs.now))
+
+pub bounds-roots-done : goal.bounds-roots-done
+bounds-roots-done g c =
+    below_limit c.passes-test.true (trailing_le 64 (length c.args.xs.now))
+
+pub bounds-roots-done-in-passes : goal.bounds-roots-done-in-passes
+bounds-roots-done-in-passes g c =
+    below_limit (stages_left c.passes.invariant.even c.passes-test.true).next (trailing_le 64 (length c.args.xs.now))
+
+pub bounds-roots-stages : goal.bounds-roots-stages
+bounds-roots-stages g c =
+    below_limit (stages_left c.passes.invariant.even c.passes-test.true).turn (trailing_le 64 (length c.args.xs.now))
+
+pub overflow_sub-turned : goal.overflow_sub-turned
+overflow_sub-turned g c =
+    (stages_left c.passes.invariant.even c.passes-test.true).two
+
+pub sqr-root-requires : goal.sqr-root-requires
+sqr-root-requires g c =
+    c.roots.invariant.form
+
+pub stage-requires-clause-root : goal.stage-requires-clause-root
+stage-requires-clause-root g c =
+    c.requires.root
+
+pub two_stages-products-requires-clause-some : goal.two_stages-products-requires-clause-some
+two_stages-products-requires-clause-some g c = rw c.passes.invariant.blocks (pow_pos c.passes.done)
+
+pub two_stages-products-requires-clause-root : goal.two_stages-products-requires-clause-root
+two_stages-products-requires-clause-root g c =
+    let few = trailing_le 64 (length c.args.xs.now) in
+    c.roots.invariant.checked c.passes.done c.index-roots-done.result (omega (arith, few))
+
+pub two_stages-products-requires-clause-square : goal.two_stages-products-requires-clause-square
+two_stages-products-requires-clause-square g c =
+    let more = below_limit (stages_left c.passes.invariant.even c.passes-test.true).next
+    (trailing_le 64 (length c.args.xs.now)) in
+    c.roots.invariant.checked (c.passes.done + 1) c.index-roots-done-in-passes.result (omega (arith, more))
+
+pub two_stages-products-requires-clause-turned : goal.two_stages-products-requires-clause-turned
+two_stages-products-requires-clause-turned g c =
+    let more = below_limit (stages_left c.passes.invariant.even c.passes-test.true).turn
+    (trailing_le 64 (length c.args.xs.now)) in
+    c.roots.invariant.checked _ c.index-roots-stages.result (omega (arith, more))

@@ -1,4 +1,3 @@
-use Rattle.std.proofs.Common.{◌<◌, ◌*◌, ◌+◌, length, arith}
 use Rattle.modular_transform.specs.EntryLaws.{form_read}
 use Rattle.modular_transform.proofs.FourValues.{four_checked, four_written}
 use Rattle.modular_transform.proofs.Places.{four_within, length_fits}

@@ -1,10 +1,11 @@
-use Rattle.std.proofs.Common.{rules, ◌≡◌, ℕ, ◌+◌, ◌-◌, ◌*◌, ◌%◌, ◌^◌, ◌<◌, ◌≤◌, length, ◌∙◌, ap, arith, subst}
+use Rattle.std.proofs.Common.{◌≡◌, ℕ, ◌+◌, ◌-◌, ◌*◌, ◌%◌, ◌^◌, ◌<◌, ◌≤◌, ◌∙◌, ap, arith, subst}
 use Rattle.modular_word.specs.Congruence.{Congruent}
 use Rattle.modular_reduced.specs.Forms.{Represents}
 use Rattle.modular_reduced.proofs.FormLemmas.{form_of_value}
 use Rattle.modular_transform.proofs.FourLemmas.{FoursDone, none_done, one_done, columns_joined, blocks_joined, done_by}
 use Rattle.modular_transform.proofs.FourLemmas.{block_fits, fours_fit, four_fits}
 use Rattle.modular_transform.proofs.PairLemmas.{none_between}
+use Rattle.modular_transform.proofs.Places.{strip_offset, quarter_within}
 use Rattle.modular_transform.proofs.StripPowers.{one_form, first_power, power_first, power_next, strip_power, strip_next}
 use Rattle.modular_transform.proofs.TwoStages.{two_stages_done}
 use Rattle.modular_transform.proofs.ValueLemmas.{values, value_at, values_below, forms_written, entry_done}
@@ -334,51 +335,33 @@ columns-preserved g c =
 
 pub offset_bounds-firsts-i : goal.offset_bounds-firsts-i
 offset_bounds-firsts-i g c =
-    let least = c.min-width.ensures in
-    let fit = block_fits 0 c.args.blocks c.args.step _ c.requires.some c.requires.whole in
-    let same = c.strips.auto.forms in
-    let within : c.fill.i < length c.strips.forms = omega (arith, least, fit, same) in
-    search rules
+    strip_offset _ _ c.fill-test.true c.min-width.ensures (quarter_within c.requires.whole c.requires.some)
+    c.well_formed.1.0.1
 
 pub offset_bounds-firsts-k : goal.offset_bounds-firsts-k
 offset_bounds-firsts-k g c =
-    let least = c.min-width.ensures in
-    let fit = block_fits 0 c.args.blocks c.args.step _ c.requires.some c.requires.whole in
-    let same = c.columns.auto.forms in
-    let within : c.columns.k < length c.columns.forms = omega (arith, least, fit, same) in
-    search rules
+    strip_offset _ _ c.columns-test.true c.min-width.ensures (quarter_within c.requires.whole c.requires.some)
+    c.well_formed.1.0.1
 
 pub offset_bounds-seconds-i : goal.offset_bounds-seconds-i
 offset_bounds-seconds-i g c =
-    let least = c.min-width.ensures in
-    let fit = block_fits 0 c.args.blocks c.args.step _ c.requires.some c.requires.whole in
-    let same = c.strips.auto.forms in
-    let within : c.fill.i < length c.strips.forms = omega (arith, least, fit, same) in
-    search rules
+    strip_offset _ _ c.fill-test.true c.min-width.ensures (quarter_within c.requires.whole c.requires.some)
+    c.well_formed.1.0.1
 
 pub offset_bounds-seconds-k : goal.offset_bounds-seconds-k
 offset_bounds-seconds-k g c =
-    let least = c.min-width.ensures in
-    let fit = block_fits 0 c.args.blocks c.args.step _ c.requires.some c.requires.whole in
-    let same = c.columns.auto.forms in
-    let within : c.columns.k < length c.columns.forms = omega (arith, least, fit, same) in
-    search rules
+    strip_offset _ _ c.columns-test.true c.min-width.ensures (quarter_within c.requires.whole c.requires.some)
+    c.well_formed.1.0.1
 
 pub offset_bounds-boths-i : goal.offset_bounds-boths-i
 offset_bounds-boths-i g c =
-    let least = c.min-width.ensures in
-    let fit = block_fits 0 c.args.blocks c.args.step _ c.requires.some c.requires.whole in
-    let same = c.strips.auto.forms in
-    let within : c.fill.i < length c.strips.forms = omega (arith, least, fit, same) in
-    search rules
+    strip_offset _ _ c.fill-test.true c.min-width.ensures (quarter_within c.requires.whole c.requires.some)
+    c.well_formed.1.0.1
 
 pub offset_bounds-boths-k : goal.offset_bounds-boths-k
 offset_bounds-boths-k g c =
-    let least = c.min-width.ensures in
-    let fit = block_fits 0 c.args.blocks c.args.step _ c.requires.some c.requires.whole in
-    let same = c.columns.auto.forms in
-    let within : c.columns.k < length c.columns.forms = omega (arith, least, fit, same) in
-    search rules
+    strip_offset _ _ c.columns-test.true c.min-width.ensures (quarter_within c.requires.whole c.requires.some)
+    c.well_formed.1.0.1
 
 pub overflow_add-products-in-columns : goal.overflow_add-products-in-columns
 overflow_add-products-in-columns g c =
