@@ -34,6 +34,29 @@ pub strip_offset : (size column : ℕ) {i width columns n : ℕ} → i < width �
 strip_offset size column {i} {n = n} within least few room =
     scaled_Fits i n size (omega (arith, within, least, few)) room
 
+pub in_strip : (rest : ℕ) {i width : ℕ} → i < width → width ≡ min 128 rest → i < 128
+in_strip rest within least = omega (arith, within, least)
+
+-- a loop up to n has ended at n
+pub ended : {i n : ℕ} → i ≤ n → n ≤ i → i ≡ n
+ended upto past = omega arith
+
+-- the columns after a strip fit, and are fewer
+pub column_fits : {column width columns : ℕ} → width ≡ min 128 (columns - column) → column ≤ columns
+    → columns < 2 ^ 64 → Fits w64 (column + width)
+column_fits least within few = record { fits = omega (arith, least, within, few) }
+
+pub strip_falls : {column width columns : ℕ} → width ≡ min 128 (columns - column) → column < columns
+    → columns - (column + width) < columns - column
+strip_falls least within = omega (arith, least, within)
+
+-- the first place of a block fits
+pub block_fits_word : (step : ℕ) {block blocks n : ℕ} → block < blocks → blocks * (4 * step) ≡ n → n < 2 ^ 64
+    → Fits w64 (block * (4 * step))
+block_fits_word step {block} {blocks} within whole few =
+    let fit = mul-le block (4 * step) blocks (4 * step) (omega (arith, within)) (omega arith) in
+    record { fits = omega (arith, fit, whole, few) }
+
 -- the root of a stage lies no farther than an entry of the list
 pub stage_offset : (size : ℕ) {i z n : ℕ} → i < z → n ≡ 2 ^ z → n * size < 2 ^ 63 → Fits w64 (i * size)
 stage_offset size {i} {z} {n} within whole room =

@@ -5,11 +5,12 @@ use Rattle.modular_reduced.proofs.FormLemmas.{form_of_value}
 use Rattle.modular_transform.proofs.FourLemmas.{FoursDone, none_done, one_done, columns_joined, blocks_joined, done_by}
 use Rattle.modular_transform.proofs.FourLemmas.{block_fits, fours_fit, four_fits}
 use Rattle.modular_transform.proofs.PairLemmas.{none_between}
-use Rattle.modular_transform.proofs.Places.{strip_offset, quarter_within}
+use Rattle.modular_transform.proofs.Places.{strip_offset, quarter_within, in_strip, ended, strip_falls, column_fits, block_fits_word}
 use Rattle.modular_transform.proofs.StripPowers.{one_form, first_power, power_first, power_next, strip_power, strip_next}
 use Rattle.modular_transform.proofs.TwoStages.{two_stages_done}
 use Rattle.modular_transform.proofs.ValueLemmas.{values, value_at, values_below, forms_written, entry_done}
 use Rattle.modular_transform.proofs.two_stages.two_stages.Goals as goal
+use borrow.Author.Count.{falls}
 
 pub strips-init : goal.strips-init
 strips-init g c =
@@ -44,7 +45,7 @@ each_block-init g c =
     let m = g.R.Reducer.modulus c.args.r.now in
     let of = values g.T.RingWord.number g.R.Reducer.value m in
     let column = c.strips.column in
-    let all : c.fill.i ≡ c.min-width.result = omega arith in
+    let all : c.fill.i ≡ c.min-width.result = ended c.fill.auto.i-end c.fill-test.false in
     let count = c.fill.invariant.count in
     record {
       checked = c.strips.invariant.checked;
@@ -75,30 +76,30 @@ pub returns-clause-count : goal.returns-clause-count
 returns-clause-count g c =
     let count = c.strips.invariant.count in
     let within = c.strips.invariant.within in
-    let all : c.strips.column ≡ c.args.step = omega arith in
+    let all = ended c.strips.invariant.within c.strips-test.false in
     count ∙ ap (λ n. n * (4 * c.args.blocks + 3)) all
 
 pub overflow_mul-place : goal.overflow_mul-place
 overflow_mul-place g c =
-    let fit = block_fits c.each_block.block c.args.blocks c.args.step _ (omega arith) c.requires.whole in
+    let fit = block_fits c.each_block.block c.args.blocks c.args.step _ c.each_block-test.true c.requires.whole in
     omega (arith, fit)
 
 pub overflow_add-place : goal.overflow_add-place
 overflow_add-place g c =
-    let fit = block_fits c.each_block.block c.args.blocks c.args.step _ (omega arith) c.requires.whole in
+    let fit = block_fits c.each_block.block c.args.blocks c.args.step _ c.each_block-test.true c.requires.whole in
     let within = c.strips.invariant.within in
     omega (arith, fit, within)
 
 pub overflow_add-place-in-columns : goal.overflow_add-place-in-columns
 overflow_add-place-in-columns g c =
     let least = c.min-width.ensures in
-    let fit = block_fits c.each_block.block c.args.blocks c.args.step _ (omega arith) c.requires.whole in
+    let fit = block_fits c.each_block.block c.args.blocks c.args.step _ c.each_block-test.true c.requires.whole in
     omega (arith, fit, least)
 
 pub four-requires-clause-within : goal.four-requires-clause-within
 four-requires-clause-within g c =
     let least = c.min-width.ensures in
-    let fit = block_fits c.each_block.block c.args.blocks c.args.step _ (omega arith) c.requires.whole in
+    let fit = block_fits c.each_block.block c.args.blocks c.args.step _ c.each_block-test.true c.requires.whole in
     let same = c.columns.auto.forms in
     (omega (arith, least), omega (arith, fit, least, same))
 
@@ -152,7 +153,7 @@ each_block-preserved g c =
     let x = of c.strips.forms in
     let y = of c.each_block.forms in
     let z = of c.columns.forms in
-    let all : c.columns.k ≡ width = omega arith in
+    let all : c.columns.k ≡ width = ended c.columns.auto.k-end c.columns-test.false in
     let here = subst (λ k. FoursDone m ps qs ss h p (p + 1) column (column + k) y z) all c.columns.invariant.done in
     let count = c.columns.invariant.count in
     record {
@@ -181,7 +182,7 @@ strips-preserved g c =
     let z = of c.each_block.forms in
     let before = c.strips.invariant in
     let filled = c.fill.invariant in
-    let all : c.fill.i ≡ width = omega arith in
+    let all : c.fill.i ≡ width = ended c.fill.auto.i-end c.fill-test.false in
     let upto = λ (P : ℕ → Type 0) (is : P c.fill.i). subst P all is in
     let of_first = upto (λ n. (k : ℕ) → k < n → of c.fill.firsts k ≡ (value m (number c.strips.power) * w ^ k) % m)
     filled.of_first in
@@ -198,7 +199,7 @@ strips-preserved g c =
     let ps = λ (j : ℕ). of c.fill.firsts (j - column) in
     let qs = λ (j : ℕ). of c.fill.seconds (j - column) in
     let ss = λ (j : ℕ). of c.fill.boths (j - column) in
-    let blocks : c.each_block.block ≡ c.args.blocks = omega arith in
+    let blocks : c.each_block.block ≡ c.args.blocks = ended c.each_block.auto.block-end c.each_block-test.false in
     let strip = subst (λ b. FoursDone m ps qs ss h 0 b column (column + width) y z) blocks
     c.each_block.invariant.done in
     let turned = λ (i : ℕ) (l : column ≤ i) (b : i < column + width).
@@ -241,7 +242,7 @@ returns-clause-stages g c =
     let x = values number value m c.args.forms.now in
     let y = values number value m c.strips.forms in
     let within = c.strips.invariant.within in
-    let e : c.strips.column ≡ h = omega arith in
+    let e = ended within c.strips-test.false in
     two_stages_done m w v h c.args.blocks _ x y c.requires.whole
     (λ k l. values_below number g.R.Reducer.form value m c.args.forms.now k c.requires.checked l)
     (subst (λ d. FoursDone m (λ i. w ^ i) (λ i. w ^ (h + i)) (λ i. v ^ i) h 0 c.args.blocks 0 d x y) e
@@ -378,3 +379,42 @@ overflow_add-products g c =
     let fit = fours_fit c.strips.column c.min-width.result c.args.step c.args.blocks _
     (omega (arith, least)) c.requires.whole c.requires.some in
     omega (arith, count, fit)
+
+pub overflow_sub-step : goal.overflow_sub-step
+overflow_sub-step g c = c.strips.invariant.within
+
+pub bounds-firsts-i : goal.bounds-firsts-i
+bounds-firsts-i g c = in_strip _ c.fill-test.true c.min-width.ensures
+
+pub bounds-firsts-k : goal.bounds-firsts-k
+bounds-firsts-k g c = in_strip _ c.columns-test.true c.min-width.ensures
+
+pub bounds-seconds-i : goal.bounds-seconds-i
+bounds-seconds-i g c = in_strip _ c.fill-test.true c.min-width.ensures
+
+pub bounds-seconds-k : goal.bounds-seconds-k
+bounds-seconds-k g c = in_strip _ c.columns-test.true c.min-width.ensures
+
+pub bounds-boths-i : goal.bounds-boths-i
+bounds-boths-i g c = in_strip _ c.fill-test.true c.min-width.ensures
+
+pub bounds-boths-k : goal.bounds-boths-k
+bounds-boths-k g c = in_strip _ c.columns-test.true c.min-width.ensures
+
+pub fill-smaller : goal.fill-smaller
+fill-smaller g c = falls _ _ c.fill-test.true
+
+pub columns-smaller : goal.columns-smaller
+columns-smaller g c = falls _ _ c.columns-test.true
+
+pub each_block-smaller : goal.each_block-smaller
+each_block-smaller g c = falls _ _ c.each_block-test.true
+
+pub overflow_add-column : goal.overflow_add-column
+overflow_add-column g c = column_fits c.min-width.ensures c.strips.invariant.within c.ranges.step.fits
+
+pub strips-smaller : goal.strips-smaller
+strips-smaller g c = strip_falls c.min-width.ensures c.strips-test.true
+
+pub overflow_mul-place-in-each_block : goal.overflow_mul-place-in-each_block
+overflow_mul-place-in-each_block g c = block_fits_word _ c.each_block-test.true c.requires.whole c.well_formed.1.0.0
