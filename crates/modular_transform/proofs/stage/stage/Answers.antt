@@ -6,7 +6,7 @@ use Rattle.modular_transform.proofs.PairLemmas.{none_between, none_done, one_don
 use Rattle.modular_transform.proofs.PairLemmas.{done_by, stage_done, block_fits, columns_fit, pairs_fit}
 use Rattle.modular_transform.proofs.StripPowers.{one_form, first_power, power_first}
 use Rattle.modular_transform.proofs.StripPowers.{power_next, strip_power, strip_next}
-use Rattle.modular_transform.proofs.Places.{strip_offset, half_within}
+use Rattle.modular_transform.proofs.Places.{strip_offset, half_within, in_strip, ended}
 use Rattle.modular_transform.proofs.ValueLemmas.{values, value_at, forms_written, entry_done}
 use Rattle.modular_transform.proofs.stage.stage.Goals as goal
 
@@ -25,7 +25,7 @@ overflow_add-products g c =
 
 pub overflow_add-first-in-each_block : goal.overflow_add-first-in-each_block
 overflow_add-first-in-each_block g c =
-    let fit = block_fits c.each_block.block c.args.blocks c.args.half _ (omega arith) c.requires.whole in
+    let fit = block_fits c.each_block.block c.args.blocks c.args.half _ c.each_block-test.true c.requires.whole in
     omega (arith, fit)
 
 pub offset_bounds-powers-k : goal.offset_bounds-powers-k
@@ -36,25 +36,25 @@ offset_bounds-powers-k g c =
 pub overflow_add-first-in-columns : goal.overflow_add-first-in-columns
 overflow_add-first-in-columns g c =
     let least = c.min-width.ensures in
-    let fit = block_fits c.each_block.block c.args.blocks c.args.half _ (omega arith) c.requires.whole in
+    let fit = block_fits c.each_block.block c.args.blocks c.args.half _ c.each_block-test.true c.requires.whole in
     omega (arith, fit, least)
 
 pub overflow_add-first-in-columns-2 : goal.overflow_add-first-in-columns-2
 overflow_add-first-in-columns-2 g c =
     let least = c.min-width.ensures in
-    let fit = block_fits c.each_block.block c.args.blocks c.args.half _ (omega arith) c.requires.whole in
+    let fit = block_fits c.each_block.block c.args.blocks c.args.half _ c.each_block-test.true c.requires.whole in
     omega (arith, fit, least)
 
 pub overflow_add-first-in-columns-3 : goal.overflow_add-first-in-columns-3
 overflow_add-first-in-columns-3 g c =
     let least = c.min-width.ensures in
-    let fit = block_fits c.each_block.block c.args.blocks c.args.half _ (omega arith) c.requires.whole in
+    let fit = block_fits c.each_block.block c.args.blocks c.args.half _ c.each_block-test.true c.requires.whole in
     omega (arith, fit, least)
 
 pub pair-requires-clause-within : goal.pair-requires-clause-within
 pair-requires-clause-within g c =
     let least = c.min-width.ensures in
-    let fit = block_fits c.each_block.block c.args.blocks c.args.half _ (omega arith) c.requires.whole in
+    let fit = block_fits c.each_block.block c.args.blocks c.args.half _ c.each_block-test.true c.requires.whole in
     let same = c.columns.auto.forms in
     (omega (arith, least), omega (arith, fit, least, same))
 
@@ -62,7 +62,8 @@ pub overflow_add-products-in-columns : goal.overflow_add-products-in-columns
 overflow_add-products-in-columns g c =
     let least = c.min-width.ensures in
     let count = c.columns.invariant.count in
-    let fit = pairs_fit c.strips.column c.min-width.result c.args.half c.each_block.block c.args.blocks _ (omega arith)
+    let fit = pairs_fit c.strips.column c.min-width.result c.args.half c.each_block.block c.args.blocks _
+    c.each_block-test.true
     (omega (arith, least)) c.requires.whole in
     omega (arith, count, fit)
 
@@ -73,7 +74,7 @@ strips-init g c =
     let value = g.R.Reducer.value in
     let canonical = g.met.R.Reducer.canonical c.args.r.now in
     let w = value m (number c.args.root.now) in
-    let form = form_of_value canonical c.transform-running.ensures.form in
+    let form = c.transform-running.ensures.checked in
     record {
       checked = c.requires.checked;
       powers = one_form number g.R.Reducer.form value m 128 c.transform-running.result form;
@@ -101,7 +102,7 @@ each_block-init g c =
     let column = c.strips.column in
     let width = c.min-width.result in
     let power = λ (j : ℕ). values number value m c.fill.powers (j - column) in
-    let all : c.fill.i ≡ width = omega arith in
+    let all = ended c.fill.auto.i-end c.fill-test.false in
     let count = c.fill.invariant.count in
     record {
       checked = c.strips.invariant.checked;
@@ -132,7 +133,7 @@ pub returns-clause-count : goal.returns-clause-count
 returns-clause-count g c =
     let count = c.strips.invariant.count in
     let within = c.strips.invariant.within in
-    let all : c.strips.column ≡ c.args.half = omega arith in
+    let all = ended c.strips.invariant.within c.strips-test.false in
     count ∙ ap (λ n. n * (c.args.blocks + 1)) all
 
 pub fill-preserved : goal.fill-preserved
@@ -216,7 +217,7 @@ each_block-preserved g c =
     let y = values number value m c.each_block.forms in
     let z = values number value m c.columns.forms in
     let power = λ (j : ℕ). values number value m c.fill.powers (j - column) in
-    let all : c.columns.k ≡ width = omega arith in
+    let all = ended c.columns.auto.k-end c.columns-test.false in
     let here = subst (λ k. PairsDone m power h p (p + 1) column (column + k) y z) all c.columns.invariant.done in
     let count = c.columns.invariant.count in
     record {
@@ -243,8 +244,8 @@ strips-preserved g c =
     let z = values number value m c.each_block.forms in
     let before = c.strips.invariant in
     let filled = c.fill.invariant in
-    let all : c.fill.i ≡ width = omega arith in
-    let blocks : c.each_block.block ≡ c.args.blocks = omega arith in
+    let all = ended c.fill.auto.i-end c.fill-test.false in
+    let blocks = ended c.each_block.auto.block-end c.each_block-test.false in
     let written =
     subst (λ (n : ℕ). (k : ℕ) → k < n → values number value m c.fill.powers k ≡ (s * w ^ k) % m) all filled.written in
     let power = λ (j : ℕ). values number value m c.fill.powers (j - column) in
@@ -275,21 +276,21 @@ returns-clause-stage g c =
     let x = values number value m c.args.forms.now in
     let y = values number value m c.strips.forms in
     let within = c.strips.invariant.within in
-    let e : c.strips.column ≡ c.args.half = omega arith in
+    let e = ended c.strips.invariant.within c.strips-test.false in
     stage_done x y (subst (λ d. PairsDone m (λ i. w ^ i) c.args.half 0 c.args.blocks 0 d x y) e c.strips.invariant.done)
 
 pub overflow_sub-half : goal.overflow_sub-half
 overflow_sub-half g c = c.strips.invariant.within
 
 pub bounds-powers-i : goal.bounds-powers-i
-bounds-powers-i g c = omega (arith, c.min-width.ensures)
+bounds-powers-i g c = in_strip _ c.fill-test.true c.min-width.ensures
 
 pub bounds-powers-k : goal.bounds-powers-k
-bounds-powers-k g c = omega (arith, c.min-width.ensures)
+bounds-powers-k g c = in_strip _ c.columns-test.true c.min-width.ensures
 
 pub overflow_mul-first : goal.overflow_mul-first
 overflow_mul-first g c =
-    let fit = block_fits c.each_block.block c.args.blocks c.args.half _ (omega arith) c.requires.whole in
+    let fit = block_fits c.each_block.block c.args.blocks c.args.half _ c.each_block-test.true c.requires.whole in
     omega (arith, fit)
 
 pub overflow_add-first : goal.overflow_add-first

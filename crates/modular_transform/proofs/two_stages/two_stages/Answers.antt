@@ -21,7 +21,7 @@ strips-init g c =
     let w = value m (number c.args.root.now) in
     let v = value m (number c.args.square.now) in
     let h = c.args.step in
-    let form = form_of_value canonical c.transform-one.ensures.form in
+    let form = c.transform-one.ensures.checked in
     let all = one_form number g.R.Reducer.form value m 128 c.transform-one.result form in
     record {
       checked = c.requires.checked;
