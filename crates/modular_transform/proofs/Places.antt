@@ -80,3 +80,7 @@ stages_left even more = let two = two_left even more in record {
   turn = omega (arith, two);
   two = omega (arith, two);
 }
+
+-- an index of a list is none past another of the same length
+pub at_most : {i m n : ℕ} → i < m → m ≡ n → i ≤ n
+at_most within same = omega (arith, within, same)

@@ -3,6 +3,9 @@ use Rattle.std.proofs.Common.{◌*◌, ◌%◌, ◌<◌, length, ◌∙◌, ap, 
 use Rattle.modular_transform.proofs.ValueLemmas.{values}
 use Rattle.modular_transform.proofs.ValueLemmas.{value_read, value_at, forms_written, entry_done, entry_kept}
 use Rattle.modular_transform.proofs.convolution.multiply_each.Goals as goal
+use Rattle.modular_transform.proofs.Places.{at_most}
+use borrow.Author.Count.{falls}
+use borrow.Author.Rules.{scaled_Fits}
 
 pub entries-preserved : goal.entries-preserved
 entries-preserved g c =
@@ -38,3 +41,15 @@ mul-requires-clause-right g c =
 
 pub returns-clause-checked : goal.returns-clause-checked
 returns-clause-checked g c = c.entries.invariant.checked
+
+pub offset_bounds-xs-i : goal.offset_bounds-xs-i
+offset_bounds-xs-i g c = scaled_Fits _ _ _ c.entries-test.true c.well_formed.1.0.1
+
+pub offset_bounds-xs-i-in-entries : goal.offset_bounds-xs-i-in-entries
+offset_bounds-xs-i-in-entries g c = scaled_Fits _ _ _ c.entries-test.true c.well_formed.1.0.1
+
+pub offset_bounds-ys-i : goal.offset_bounds-ys-i
+offset_bounds-ys-i g c = at_most c.entries-test.true c.requires.equal
+
+pub entries-smaller : goal.entries-smaller
+entries-smaller g c = falls _ _ c.entries-test.true

@@ -2,6 +2,8 @@ use Rattle.std.proofs.Common.{◌*◌, ◌%◌, ◌<◌, length, ◌∙◌, ap, 
 use Rattle.modular_transform.proofs.ValueLemmas.{values}
 use Rattle.modular_transform.proofs.ValueLemmas.{value_at, forms_written, entry_done, entry_kept}
 use Rattle.modular_transform.proofs.convolution.scale.Goals as goal
+use borrow.Author.Count.{falls}
+use borrow.Author.Rules.{scaled_Fits}
 
 pub entries-preserved : goal.entries-preserved
 entries-preserved g c =
@@ -32,3 +34,12 @@ mul-requires-clause-right g c = c.requires.factor
 
 pub returns-clause-checked : goal.returns-clause-checked
 returns-clause-checked g c = c.entries.invariant.checked
+
+pub offset_bounds-xs-i : goal.offset_bounds-xs-i
+offset_bounds-xs-i g c = scaled_Fits _ _ _ c.entries-test.true c.well_formed.1.0.1
+
+pub offset_bounds-xs-i-in-entries : goal.offset_bounds-xs-i-in-entries
+offset_bounds-xs-i-in-entries g c = scaled_Fits _ _ _ c.entries-test.true c.well_formed.1.0.1
+
+pub entries-smaller : goal.entries-smaller
+entries-smaller g c = falls _ _ c.entries-test.true
