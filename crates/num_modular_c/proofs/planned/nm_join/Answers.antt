@@ -3,7 +3,7 @@ use Rattle.num_modular_c.proofs.planned.nm_join.Goals as goal
 
 pub returns-then-code-eq-NM_OK-clause-did : goal.returns-then-code-eq-NM_OK-clause-did
 returns-then-code-eq-NM_OK-clause-did c split factors =
-    (search rules, (rw c.new.ensures at c.join.ensures.below, rw c.new.ensures at c.join.ensures.joined))
+    (c.if-code-eq-NM_OK.true, (rw c.new.ensures at c.join.ensures.below, rw c.new.ensures at c.join.ensures.joined))
 
 pub new-requires-clause-some : goal.new-requires-clause-some
 new-requires-clause-some c = (c.split_code-code.ensures.fits.0 c.if-code-eq-NM_OK.true).0.admitted.0

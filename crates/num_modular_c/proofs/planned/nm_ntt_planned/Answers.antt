@@ -27,3 +27,20 @@ returns-else-code-eq-NM_OK-clause-bad_context c = λ split none. (c.split_code-c
 
 pub returns-else-code-eq-NM_OK-clause-bad_argument : goal.returns-else-code-eq-NM_OK-clause-bad_argument
 returns-else-code-eq-NM_OK-clause-bad_argument c = λ none. (c.split_code-code.ensures.bad_argument none, refl)
+
+pub ntt_planned-requires-clause-count : goal.ntt_planned-requires-clause-count
+ntt_planned-requires-clause-count c =
+    let split = (c.split_code-code.ensures.fits.0 c.if-code-eq-NM_OK.true).0 in
+    let same : length c.args.xs.now / 1 ≡ length c.args.xs.now = omega arith in
+    rw same at split.count
+
+pub ntt_planned-requires-clause-within : goal.ntt_planned-requires-clause-within
+ntt_planned-requires-clause-within c =
+    let split = (c.split_code-code.ensures.fits.0 c.if-code-eq-NM_OK.true).0 in
+    omega (arith, split.within)
+
+pub returns-then-code-eq-NM_OK-clause-did : goal.returns-then-code-eq-NM_OK-clause-did
+returns-then-code-eq-NM_OK-clause-did c split factors = (
+  c.if-code-eq-NM_OK.true,
+  (rw c.new.ensures at c.ntt_planned.ensures.below, rw c.new.ensures at c.ntt_planned.ensures.values),
+)

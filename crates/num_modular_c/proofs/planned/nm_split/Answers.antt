@@ -39,3 +39,9 @@ returns-else-code-eq-NM_OK-clause-bad_context c = λ split none. (c.split_code-c
 
 pub returns-else-code-eq-NM_OK-clause-bad_argument : goal.returns-else-code-eq-NM_OK-clause-bad_argument
 returns-else-code-eq-NM_OK-clause-bad_argument c = λ none. (c.split_code-code.ensures.bad_argument none, refl)
+
+pub returns-then-code-eq-NM_OK-clause-did : goal.returns-then-code-eq-NM_OK-clause-did
+returns-then-code-eq-NM_OK-clause-did c split factors = (
+  c.if-code-eq-NM_OK.true,
+  (rw c.new.ensures at c.split.ensures.below, rw c.new.ensures at c.split.ensures.remainders),
+)
