@@ -92,15 +92,15 @@ fn any_modulus() -> Vec<Line> {
             [original::invm as Bench, erased::inverse_by_subtraction],
             Odd,
         ),
-        line("Vanilla::mul", port::vanilla_mul, both!(u64s::mul, Vanilla<u64>), Any),
-        line("Vanilla::pow", port::vanilla_pow, both!(pow, Vanilla<u64>), Any),
-        line("Vanilla::inv", port::vanilla_inv, both!(inv, Vanilla<u64>), Any),
-        line("PreMulInv2by1::mul", port::premul_mul, both!(u64s::mul, PreMulInv2by1<u64>), Any),
-        line("PreMulInv2by1::pow", port::premul_pow, both!(pow, PreMulInv2by1<u64>), Any),
-        line("PreMulInv2by1::inv", port::premul_inv, both!(inv, PreMulInv2by1<u64>), Any),
-        line("Montgomery::mul", port::montgomery_mul, both!(u64s::mul, Montgomery<u64>), Odd),
-        line("Montgomery::pow", port::montgomery_pow, both!(pow, Montgomery<u64>), Odd),
-        line("Montgomery::inv", port::montgomery_inv, both!(inv, Montgomery<u64>), Odd),
+        line("Vanilla::mul", port::over_vanilla::<0>, both!(u64s::mul, Vanilla<u64>), Any),
+        line("Vanilla::pow", port::over_vanilla::<1>, both!(pow, Vanilla<u64>), Any),
+        line("Vanilla::inv", port::over_vanilla::<8>, both!(inv, Vanilla<u64>), Any),
+        line("PreMulInv2by1::mul", port::over_premul::<0>, both!(u64s::mul, PreMulInv2by1<u64>), Any),
+        line("PreMulInv2by1::pow", port::over_premul::<1>, both!(pow, PreMulInv2by1<u64>), Any),
+        line("PreMulInv2by1::inv", port::over_premul::<8>, both!(inv, PreMulInv2by1<u64>), Any),
+        line("Montgomery::mul", port::over_montgomery::<0>, both!(u64s::mul, Montgomery<u64>), Odd),
+        line("Montgomery::pow", port::over_montgomery::<1>, both!(pow, Montgomery<u64>), Odd),
+        line("Montgomery::inv", port::over_montgomery::<8>, both!(inv, Montgomery<u64>), Odd),
         line("PreMulInv1by1::div_rem", port::premulinv1by1_div_rem, both!(premulinv1by1_div_rem), Any),
         line(
             "Normalized2by1Divisor::div_rem_2by1",
@@ -115,14 +115,14 @@ fn any_modulus() -> Vec<Line> {
 fn fixed_modulus() -> Vec<Line> {
     use Moduli::One;
     vec![
-        line("FixedMontgomery64::mul", port::fixed_montgomery_mul, both!(u64s::mul, FixedMontgomery), One(PRIME)),
-        line("FixedMontgomery64::pow", port::fixed_montgomery_pow, both!(pow, FixedMontgomery), One(PRIME)),
-        line("FixedProth64::mul", port::fixed_proth_mul, both!(u64s::mul, FixedProth), One(PROTH)),
-        line("FixedProth64::pow", port::fixed_proth_pow, both!(pow, FixedProth), One(PROTH)),
-        line("FixedMersenne64::mul", port::fixed_mersenne_mul, both!(u64s::mul, FixedMersenne), One(MERSENNE)),
-        line("FixedMersenne64::pow", port::fixed_mersenne_pow, both!(pow, FixedMersenne), One(MERSENNE)),
-        line("FixedTrinomialSolinas64::mul", port::fixed_solinas_mul, both!(u64s::mul, FixedSolinas), One(SOLINAS)),
-        line("FixedTrinomialSolinas64::pow", port::fixed_solinas_pow, both!(pow, FixedSolinas), One(SOLINAS)),
+        line("FixedMontgomery64::mul", port::over_fixed_montgomery::<0>, both!(u64s::mul, FixedMontgomery), One(PRIME)),
+        line("FixedMontgomery64::pow", port::over_fixed_montgomery::<1>, both!(pow, FixedMontgomery), One(PRIME)),
+        line("FixedProth64::mul", port::over_fixed_proth::<0>, both!(u64s::mul, FixedProth), One(PROTH)),
+        line("FixedProth64::pow", port::over_fixed_proth::<1>, both!(pow, FixedProth), One(PROTH)),
+        line("FixedMersenne64::mul", port::over_fixed_mersenne::<0>, both!(u64s::mul, FixedMersenne), One(MERSENNE)),
+        line("FixedMersenne64::pow", port::over_fixed_mersenne::<1>, both!(pow, FixedMersenne), One(MERSENNE)),
+        line("FixedTrinomialSolinas64::mul", port::over_fixed_solinas::<0>, both!(u64s::mul, FixedSolinas), One(SOLINAS)),
+        line("FixedTrinomialSolinas64::pow", port::over_fixed_solinas::<1>, both!(pow, FixedSolinas), One(SOLINAS)),
     ]
 }
 

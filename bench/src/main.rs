@@ -42,8 +42,8 @@ const EVEN: u64 = u64::MAX - 1;
 
 /// The operations of even moduli: over `Montgomery`, `PreMulInv2by1` and `Vanilla`.
 static EVEN_MODULUS: [(&str, [Bench; 3]); 2] = [
-    ("mul", [port::montgomery_mul, port::premul_mul, port::vanilla_mul]),
-    ("pow", [port::montgomery_pow, port::premul_pow, port::vanilla_pow]),
+    ("mul", [port::over_montgomery::<0>, port::over_premul::<0>, port::over_vanilla::<0>]),
+    ("pow", [port::over_montgomery::<1>, port::over_premul::<1>, port::over_vanilla::<1>]),
 ];
 
 fn all_agree(tables: &[Table]) -> bool {

@@ -83,7 +83,7 @@ const fn line(name: &'static str, port: Bench, flint: Bench, cut: Cut) -> Line {
 
 /// Each call beside FLINT's.
 static LINES: [Line; 12] = [
-    line("PreMulInv2by1::mul, n_mulmod2_preinv, chain", port::premul_mul, mulm, Cut::Both),
+    line("PreMulInv2by1::mul, n_mulmod2_preinv, chain", port::over_premul::<0>, mulm, Cut::Both),
     Line {
         name: "PreMulInv2by1::mul, n_mulmod2_preinv, eight chains side by side",
         port: port::over_premul::<7>,

@@ -24,26 +24,9 @@ exported! {
     bench_jacobi as jacobi,
     bench_jacobi_by_subtraction as jacobi_by_subtraction,
     bench_mulm_eight as mulm_eight,
-    bench_vanilla_mul as vanilla_mul,
-    bench_vanilla_pow as vanilla_pow,
-    bench_vanilla_inv as vanilla_inv,
-    bench_premul_mul as premul_mul,
-    bench_premul_pow as premul_pow,
-    bench_premul_inv as premul_inv,
-    bench_montgomery_mul as montgomery_mul,
-    bench_montgomery_pow as montgomery_pow,
-    bench_montgomery_inv as montgomery_inv,
     bench_premulinv1by1_div_rem as premulinv1by1_div_rem,
     bench_normalized_div_rem_2by1 as normalized_div_rem_2by1,
     bench_preinv_div_exact as preinv_div_exact,
-    bench_fixed_montgomery_mul as fixed_montgomery_mul,
-    bench_fixed_montgomery_pow as fixed_montgomery_pow,
-    bench_fixed_proth_mul as fixed_proth_mul,
-    bench_fixed_proth_pow as fixed_proth_pow,
-    bench_fixed_mersenne_mul as fixed_mersenne_mul,
-    bench_fixed_mersenne_pow as fixed_mersenne_pow,
-    bench_fixed_solinas_mul as fixed_solinas_mul,
-    bench_fixed_solinas_pow as fixed_solinas_pow,
 }
 
 unsafe extern "C" {
@@ -117,8 +100,8 @@ macro_rules! over_reducer {
             $(safe fn $symbol(operation: u8, x: u64, y: u64, m: u64, n: u64) -> u64;)*
         }
         $(
-            /// 2 the sum, 3 the difference, 4 the negative, 5 the form, 6 the residue of the form, 7 eight
-            /// chains of products.
+            /// 0 the product, 1 the power, 2 the sum, 3 the difference, 4 the negative, 5 the form, 6 the residue
+            /// of the form, 7 eight chains of products, 8 the inverse.
             pub fn $name<const OPERATION: u8>(x: u64, y: u64, m: u64, n: u64) -> u64 {
                 $symbol(OPERATION, x, y, m, n)
             }

@@ -40,3 +40,6 @@ lists_kept number m true xs ys new_xs new_ys below same left right = below refl
 lists_kept number m false xs ys new_xs new_ys below same left right =
     let kept = same (λ t. false≢true t) in
     (rw kept.0 left, rw kept.1 right)
+
+pub table_within : {n factors written : ℕ} → n ≡ 2 * factors → written ≡ factors → n ≤ 2 * written
+table_within length same = omega (arith, length, same)

@@ -8,7 +8,6 @@
 mod chains;
 mod counts;
 mod dividers;
-mod fixed;
 mod lattices;
 mod lists;
 mod long_products;
