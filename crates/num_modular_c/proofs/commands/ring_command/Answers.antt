@@ -1,4 +1,3 @@
-use Rattle.std.proofs.Common.{rules}
 use Rattle.num_modular_c.proofs.commands.ring_command.Goals as goal
 
 pub returns-in-0 : goal.returns-in-0

@@ -1,4 +1,4 @@
-use Rattle.std.proofs.Common.{rules, ◌≡◌, ◌+◌, ◌*◌, ◌/◌, ◌≤◌, length, arith, refl}
+use Rattle.std.proofs.Common.{refl}
 use Rattle.num_modular_c.proofs.planned.nm_join.Goals as goal
 
 pub returns-then-code-eq-NM_OK-clause-did : goal.returns-then-code-eq-NM_OK-clause-did

@@ -1,4 +1,4 @@
-use Rattle.std.proofs.Common.{rules, ◌≡◌, ◌+◌, ◌*◌, ◌/◌, ◌≤◌, length, arith, refl}
+use Rattle.std.proofs.Common.{◌≡◌, ◌/◌, length, arith, refl}
 use Rattle.num_modular_c.proofs.planned.nm_ntt_planned.Goals as goal
 
 pub new-requires-clause-some : goal.new-requires-clause-some
