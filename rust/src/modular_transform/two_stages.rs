@@ -15,7 +15,11 @@ fn four<T: RingWord, R: Reducer<T>>(
     second: &T,
     both: &T,
 ) {
-    let (second_place, third_place, fourth_place) = (place + step, place + 2 * step, place + 3 * step);
+    let (second_place, third_place, fourth_place) = (
+        place + step,
+        place + 2 * step,
+        place + 3 * step,
+    );
     let a = forms[place];
     let b = forms[second_place];
     let c = forms[third_place];

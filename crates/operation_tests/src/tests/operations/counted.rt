@@ -56,5 +56,5 @@ fn inverses_at_each_width(rt: HostRuntime) {
 #[test]
 fn the_most_divisions_of_64_bits(rt: HostRuntime) {
     let found = w64::invm_counted(7540113804746346429, 12200160415121876738);
-    assert!(rt; found == (Some(4660046610375530309), 91));
+    check!(&rt, 1; found == (Some(4660046610375530309), 91));
 }

@@ -2,6 +2,7 @@
 
 ghost use Rattle.std.specs.Prelude.{◌≤◌};
 
+use crate::tests::assert_at;
 use modular_prim::numbered::Numbered;
 use modular_prim::operations::{ModularAbs, ModularCoreOps, ModularPow, ModularUnaryOps};
 use modular_prim::plain_word::PlainWord;
@@ -9,58 +10,58 @@ use modular_prim::power::{powm_u32, powm_u64};
 use std::process::Abort;
 
 // Each operation with its operands by value and by reference.
-fn sums<T: PlainWord>(a: T, b: T, m: T) -> (T, T, T, T)
-    requires { 1 ≤ T.whole_number m }
+fn sums<T: PlainWord>(a: &T, b: &T, m: &T) -> (T, T, T, T)
+    requires { 1 ≤ T.whole_number m.now }
 {
     (
-        a.addm(b, &m),
-        a.addm(&b, &m),
-        (&a).addm(b, &m),
-        (&a).addm(&b, &m),
+        (*a).addm(*b, m),
+        (*a).addm(b, m),
+        a.addm(*b, m),
+        a.addm(b, m),
     )
 }
 
-fn differences<T: PlainWord>(a: T, b: T, m: T) -> (T, T, T, T)
-    requires { 1 ≤ T.whole_number m }
+fn differences<T: PlainWord>(a: &T, b: &T, m: &T) -> (T, T, T, T)
+    requires { 1 ≤ T.whole_number m.now }
 {
     (
-        a.subm(b, &m),
-        a.subm(&b, &m),
-        (&a).subm(b, &m),
-        (&a).subm(&b, &m),
+        (*a).subm(*b, m),
+        (*a).subm(b, m),
+        a.subm(*b, m),
+        a.subm(b, m),
     )
 }
 
-fn products<T: PlainWord>(a: T, b: T, m: T) -> (T, T, T, T)
-    requires { 1 ≤ T.whole_number m }
+fn products<T: PlainWord>(a: &T, b: &T, m: &T) -> (T, T, T, T)
+    requires { 1 ≤ T.whole_number m.now }
 {
     (
-        a.mulm(b, &m),
-        a.mulm(&b, &m),
-        (&a).mulm(b, &m),
-        (&a).mulm(&b, &m),
+        (*a).mulm(*b, m),
+        (*a).mulm(b, m),
+        a.mulm(*b, m),
+        a.mulm(b, m),
     )
 }
 
-fn powers<T: PlainWord>(a: T, b: T, m: T) -> (T, T, T, T)
-    requires { 1 ≤ T.whole_number m }
+fn powers<T: PlainWord>(a: &T, b: &T, m: &T) -> (T, T, T, T)
+    requires { 1 ≤ T.whole_number m.now }
 {
     (
-        a.powm(b, &m),
-        a.powm(&b, &m),
-        (&a).powm(b, &m),
-        (&a).powm(&b, &m),
+        (*a).powm(*b, m),
+        (*a).powm(b, m),
+        a.powm(*b, m),
+        a.powm(b, m),
     )
 }
 
 // The negatives, the doubles and the squares, of the operand by value and by reference.
-fn multiples<T: PlainWord>(a: T, m: T) -> ((T, T), (T, T), (T, T))
-    requires { 1 ≤ T.whole_number m }
+fn multiples<T: PlainWord>(a: &T, m: &T) -> ((T, T), (T, T), (T, T))
+    requires { 1 ≤ T.whole_number m.now }
 {
     (
-        (a.negm(&m), (&a).negm(&m)),
-        (a.dblm(&m), (&a).dblm(&m)),
-        (a.sqm(&m), (&a).sqm(&m)),
+        ((*a).negm(m), a.negm(m)),
+        ((*a).dblm(m), a.dblm(m)),
+        ((*a).sqm(m), a.sqm(m)),
     )
 }
 
@@ -72,8 +73,8 @@ enum Operation {
     Power,
 }
 
-fn answers<T: PlainWord>(operation: Operation, a: T, b: T, m: T) -> (T, T, T, T)
-    requires { 1 ≤ T.whole_number m }
+fn answers<T: PlainWord>(operation: Operation, a: &T, b: &T, m: &T) -> (T, T, T, T)
+    requires { 1 ≤ T.whole_number m.now }
 {
     match operation {
         Operation::Sum => sums(a, b, m),
@@ -81,14 +82,6 @@ fn answers<T: PlainWord>(operation: Operation, a: T, b: T, m: T) -> (T, T, T, T)
         Operation::Product => products(a, b, m),
         Operation::Power => powers(a, b, m),
     }
-}
-
-// Whether the operation returns this for each kind of operands.
-fn is_answered<T: PlainWord>(operation: Operation, a: T, b: T, m: T, want: T) -> bool
-    requires { 1 ≤ T.whole_number m }
-{
-    let found = answers(operation, a, b, m);
-    found.0 == want && found.1 == want && found.2 == want && found.3 == want
 }
 
 // Two operands, the modulus, and the residue of the result.
@@ -159,11 +152,24 @@ const ROWS_OF_SIZES: &[(Operation, usize, usize, usize, usize)] = &[
     ),
 ];
 
+fn are_all<T: PlainWord>(found: (T, T, T, T), want: T) -> bool {
+    found.0 == want && found.1 == want && found.2 == want && found.3 == want
+}
+
+// Whether the operation returns the row's result for each kind of operands.
+fn is_right<S: Copy, T: PlainWord + From<S>>(row: &(Operation, S, S, S, S)) -> bool {
+    let &(operation, a, b, m, want) = row;
+    let m = T::from(m);
+    !m.is_zero_word()
+        && are_all(
+            answers(operation, &T::from(a), &T::from(b), &m),
+            T::from(want),
+        )
+}
+
 fn assert_rows<S: Copy, T: PlainWord + From<S>>(rt: &impl Abort, rows: &[(Operation, S, S, S, S)]) {
-    for &(operation, a, b, m, want) in rows {
-        let (a, b, m, want) = (T::from(a), T::from(b), T::from(m), T::from(want));
-        assert!(rt; !m.is_zero_word());
-        assert!(rt; is_answered(operation, a, b, m, want));
+    for i in 0..rows.len() {
+        assert_at(rt, is_right::<S, T>(&rows[i]), &i);
     }
 }
 
@@ -180,20 +186,22 @@ fn are_both<T: PlainWord>(found: (T, T), want: T) -> bool {
     found.0 == want && found.1 == want
 }
 
-// Whether these are the residues of the negative, the double and the square.
-fn are_multiples<T: PlainWord>(a: T, m: T, negative: T, double: T, square: T) -> bool
-    requires { 1 ≤ T.whole_number m }
-{
-    let (negatives, doubles, squares) = multiples(a, m);
-    are_both(negatives, negative) && are_both(doubles, double) && are_both(squares, square)
+// Whether they are so for the operand by value and by reference.
+fn are_right<T: PlainWord + From<u8>>(row: &(u8, u8, u8, u8, u8)) -> bool {
+    let &(a, m, negative, double, square) = row;
+    let m = T::from(m);
+    if m.is_zero_word() {
+        return false;
+    }
+    let (negatives, doubles, squares) = multiples(&T::from(a), &m);
+    are_both(negatives, T::from(negative))
+        && are_both(doubles, T::from(double))
+        && are_both(squares, T::from(square))
 }
 
 fn assert_multiples<T: PlainWord + From<u8>>(rt: &impl Abort) {
-    for &(a, m, negative, double, square) in MULTIPLES {
-        let (a, m) = (T::from(a), T::from(m));
-        let (negative, double, square) = (T::from(negative), T::from(double), T::from(square));
-        assert!(rt; !m.is_zero_word());
-        assert!(rt; are_multiples(a, m, negative, double, square));
+    for row in MULTIPLES {
+        assert_at(rt, are_right::<T>(row), row);
     }
 }
 
@@ -204,13 +212,14 @@ fn assert_operations<T: PlainWord + From<u8>>(rt: &impl Abort) {
 
 #[test]
 fn operations_at_each_width(rt: HostRuntime) {
-    assert_operations::<u8>(&rt);
-    assert_operations::<u16>(&rt);
-    assert_operations::<u32>(&rt);
-    assert_operations::<u64>(&rt);
-    assert_operations::<usize>(&rt);
-    assert_rows::<u64, u64>(&rt, ROWS_OF_64_BITS);
-    assert_rows::<usize, usize>(&rt, ROWS_OF_SIZES);
+    let rt = &rt;
+    assert_operations::<u8>(rt);
+    assert_operations::<u16>(rt);
+    assert_operations::<u32>(rt);
+    assert_operations::<u64>(rt);
+    assert_operations::<usize>(rt);
+    assert_rows::<u64, u64>(rt, ROWS_OF_64_BITS);
+    assert_rows::<usize, usize>(rt, ROWS_OF_SIZES);
 }
 
 #[test]
@@ -221,7 +230,7 @@ fn powers_by_name(rt: HostRuntime) {
         powm_u64(2, 10, 0),
         powm_u64(3, 9223372036854775778, 18446744073709551557),
     );
-    assert!(rt; (of_32_bits, of_64_bits) == ((0, 0, 24), (24, 0, 18446744073709551556)));
+    check!(&rt, 1; (of_32_bits, of_64_bits) == ((0, 0, 24), (24, 0, 18446744073709551556)));
 }
 
 // A number and its residue modulo 5.
@@ -242,18 +251,19 @@ fn assert_signed<M: Numbered + Copy + PartialEq + From<u8>, Z: ModularAbs<M> + F
     requires { 1 ≤ M.whole_number five }
 {
     for &(z, want) in SIGNED {
-        assert!(rt; Z::from(z).absm(&five) == M::from(want));
+        check!(rt, 1; Z::from(z).absm(&five) == M::from(want));
     }
 }
 
 #[test]
 fn signed_numbers(rt: HostRuntime) {
-    assert_signed::<u8, i8>(&rt, 5);
-    assert_signed::<u16, i16>(&rt, 5);
-    assert_signed::<u32, i32>(&rt, 5);
-    assert_signed::<u64, i64>(&rt, 5);
-    assert_signed::<u128, i128>(&rt, 5);
-    assert_signed::<usize, isize>(&rt, 5);
+    let rt = &rt;
+    assert_signed::<u8, i8>(rt, 5);
+    assert_signed::<u16, i16>(rt, 5);
+    assert_signed::<u32, i32>(rt, 5);
+    assert_signed::<u64, i64>(rt, 5);
+    assert_signed::<u128, i128>(rt, 5);
+    assert_signed::<usize, isize>(rt, 5);
     let least = (i64::MIN.absm(&18446744073709551615), i128::MIN.absm(&7));
-    assert!(rt; least == (9223372036854775807, 5));
+    check!(rt, 1; least == (9223372036854775807, 5));
 }

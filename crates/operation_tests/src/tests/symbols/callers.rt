@@ -10,6 +10,7 @@ use misuse::symbols::{
 
 #[test]
 fn callers_of_operations(rt: HostRuntime) {
+    let rt = &rt;
     let found = (
         product_and_sum(12u8, &13, &5),
         product_and_sum(12u64, 13, &5),
@@ -18,7 +19,7 @@ fn callers_of_operations(rt: HostRuntime) {
         square_of_double(3u8, &7),
         square_of_double(3usize, &7),
     );
-    assert!(rt; found == (4, 4, 4, 4, 1, 1));
+    check!(rt, 1; found == (4, 4, 4, 4, 1, 1));
     let found = (
         inverse(&5u16, &11),
         inverse(7u64, &21),
@@ -27,7 +28,7 @@ fn callers_of_operations(rt: HostRuntime) {
         signed(-12i8, &5u8),
         signed(-12i64, &5u64),
     );
-    assert!(rt; found == (Some(9), None, 4, 4, 3, 3));
+    check!(rt, 2; found == (Some(9), None, 4, 4, 3, 3));
     let (mut bytes, mut words) = (98u8, 15u64);
     let found = (
         quotient(252u8, 7, &()),
@@ -35,8 +36,8 @@ fn callers_of_operations(rt: HostRuntime) {
         divided(&mut bytes, 7, &()),
         divided(&mut words, 7, &()),
     );
-    assert!(rt; found == (Some(36), None, true, false));
-    assert!(rt; (bytes, words) == (14, 15));
+    check!(rt, 3; found == (Some(36), None, true, false));
+    check!(rt, 4; (bytes, words) == (14, 15));
 }
 
 #[test]
@@ -51,8 +52,7 @@ fn callers_of_symbols(rt: HostRuntime) {
         jacobi_of_seven(),
         legendre_of_three(),
     );
-    assert!(rt;
-        found
+    check!(&rt, 1; found
             == (
                 Some(-1),
                 None,
@@ -62,6 +62,5 @@ fn callers_of_symbols(rt: HostRuntime) {
                 (Some(1), Some(1)),
                 -1,
                 1
-            )
-    );
+            ));
 }

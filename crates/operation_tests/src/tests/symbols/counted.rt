@@ -28,11 +28,10 @@ fn answers(a: u8, n: u8) -> [Option<(i8, u32)>; 5] {
 // 2^63 over 2^64 - 1 takes 63 halvings and a swap: 2 has the symbol 1 there.
 #[test]
 fn symbols_and_counts(rt: HostRuntime) {
+    let rt = &rt;
     for row in ROWS {
         let &(a, n, want) = row;
-        assert_at(&rt, answers(a, n) == [want; 5], row);
+        assert_at(rt, answers(a, n) == [want; 5], row);
     }
-    assert!(rt;
-        w64::checked_jacobi_counted(9223372036854775808, 18446744073709551615) == Some((1, 64))
-    );
+    check!(rt, 1; w64::checked_jacobi_counted(9223372036854775808, 18446744073709551615) == Some((1, 64)));
 }

@@ -6,21 +6,23 @@ use modular_symbols::primes::{is_prime_by_search, symbol_over_prime};
 
 #[test]
 fn primes_below_thirty(rt: HostRuntime) {
+    let rt = &rt;
     for n in [2, 3, 5, 7, 11, 13, 17, 19, 23, 29] {
-        assert_at(&rt, is_prime_by_search(n), &n);
+        assert_at(rt, is_prime_by_search(n), &n);
     }
     for n in [0, 1, 4, 9, 15, 21, 25, 27] {
-        assert_at(&rt, !is_prime_by_search(n), &n);
+        assert_at(rt, !is_prime_by_search(n), &n);
     }
 }
 
 #[test]
 fn symbols_over_primes(rt: HostRuntime) {
+    let rt = &rt;
     for n in [3, 5, 7, 11, 13, 17, 19, 23, 29] {
         assert!(rt; is_prime_by_search(n) && n % 2 == 1);
         for a in 0..2 * n {
             let symbol = symbol_over_prime(a, n);
-            assert_at(&rt, symbol == jacobi_by_count(false, a, n), &(a, n));
+            assert_at(rt, symbol == jacobi_by_count(false, a, n), &(a, n));
         }
     }
 }

@@ -36,15 +36,16 @@ fn symbols<T: ModularRefOps>(b: &T, m: &T, others: &[T; 3]) -> ([Option<i8>; 3],
 
 #[test]
 fn operations_and_symbols_of_references(rt: HostRuntime) {
-    assert!(rt; of_two(&11u8, &9, &7) == [6, 2, 1, 1]);
-    assert!(rt; of_two(&11u64, &9, &7) == [6, 2, 1, 1]);
-    assert!(rt; of_one(&11u8, &7) == [3, 1, 2]);
-    assert!(rt; of_one(&11u64, &7) == [3, 1, 2]);
+    let rt = &rt;
+    check!(rt, 1; of_two(&11u8, &9, &7) == [6, 2, 1, 1]);
+    check!(rt, 2; of_two(&11u64, &9, &7) == [6, 2, 1, 1]);
+    check!(rt, 3; of_one(&11u8, &7) == [3, 1, 2]);
+    check!(rt, 4; of_one(&11u64, &7) == [3, 1, 2]);
     let found = [11u8.invm_ref(&7), 7u8.invm_ref(&7)];
-    assert!(rt; found == [Some(2), None]);
+    check!(rt, 5; found == [Some(2), None]);
     let found = [11u64.invm_ref(&7), 7u64.invm_ref(&7)];
-    assert!(rt; found == [Some(2), None]);
+    check!(rt, 6; found == [Some(2), None]);
     let want = ([Some(1), Some(1), None], -1);
-    assert!(rt; symbols(&9u8, &7, &[17, 8, 15]) == want);
-    assert!(rt; symbols(&9u64, &7, &[17, 8, 15]) == want);
+    check!(rt, 7; symbols(&9u8, &7, &[17, 8, 15]) == want);
+    check!(rt, 8; symbols(&9u64, &7, &[17, 8, 15]) == want);
 }

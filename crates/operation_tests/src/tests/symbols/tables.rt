@@ -41,7 +41,7 @@ fn assert_symbols<S: Copy, T: SymbolWord + From<S>>(
     rows: &[(Symbol, S, S, Option<i8>)],
 ) {
     for &(symbol, a, n, want) in rows {
-        assert!(rt; symbols(symbol, T::from(a), T::from(n)) == [want; 2]);
+        check!(rt, 1; symbols(symbol, T::from(a), T::from(n)) == [want; 2]);
     }
 }
 
@@ -200,16 +200,17 @@ fn assert_signed<T: SymbolWord + From<i8>>(rt: &impl Abort) {
 
 #[test]
 fn symbols_at_each_width(rt: HostRuntime) {
-    assert_unsigned::<u8>(&rt);
-    assert_unsigned::<u16>(&rt);
-    assert_unsigned::<u32>(&rt);
-    assert_unsigned::<u64>(&rt);
-    assert_unsigned::<usize>(&rt);
-    assert_signed::<i8>(&rt);
-    assert_signed::<i16>(&rt);
-    assert_signed::<i32>(&rt);
-    assert_signed::<i64>(&rt);
-    assert_signed::<isize>(&rt);
+    let rt = &rt;
+    assert_unsigned::<u8>(rt);
+    assert_unsigned::<u16>(rt);
+    assert_unsigned::<u32>(rt);
+    assert_unsigned::<u64>(rt);
+    assert_unsigned::<usize>(rt);
+    assert_signed::<i8>(rt);
+    assert_signed::<i16>(rt);
+    assert_signed::<i32>(rt);
+    assert_signed::<i64>(rt);
+    assert_signed::<isize>(rt);
 }
 
 // The values of a width's least number.
@@ -230,11 +231,12 @@ macro_rules! table_of_least {
 
 #[test]
 fn the_least_numbers(rt: HostRuntime) {
-    assert_symbols::<i8, i8>(&rt, &table_of_least!(i8));
-    assert_symbols::<i16, i16>(&rt, &table_of_least!(i16));
-    assert_symbols::<i32, i32>(&rt, &table_of_least!(i32));
-    assert_symbols::<i64, i64>(&rt, &table_of_least!(i64));
-    assert_symbols::<isize, isize>(&rt, &table_of_least!(isize));
+    let rt = &rt;
+    assert_symbols::<i8, i8>(rt, &table_of_least!(i8));
+    assert_symbols::<i16, i16>(rt, &table_of_least!(i16));
+    assert_symbols::<i32, i32>(rt, &table_of_least!(i32));
+    assert_symbols::<i64, i64>(rt, &table_of_least!(i64));
+    assert_symbols::<isize, isize>(rt, &table_of_least!(isize));
 }
 
 // The symbols of `counted` that the table leaves out.
@@ -377,9 +379,10 @@ pub const LARGE_SIGNED: &[(Symbol, i64, i64, Option<i8>)] = &[
 
 #[test]
 fn large_numbers(rt: HostRuntime) {
-    assert_symbols::<u8, u8>(&rt, BYTES);
-    assert_symbols::<u32, u32>(&rt, LARGE_OF_32_BITS);
-    assert_symbols::<u64, u64>(&rt, LARGE);
-    assert_symbols::<usize, usize>(&rt, LARGE_SIZES);
-    assert_symbols::<i64, i64>(&rt, LARGE_SIGNED);
+    let rt = &rt;
+    assert_symbols::<u8, u8>(rt, BYTES);
+    assert_symbols::<u32, u32>(rt, LARGE_OF_32_BITS);
+    assert_symbols::<u64, u64>(rt, LARGE);
+    assert_symbols::<usize, usize>(rt, LARGE_SIZES);
+    assert_symbols::<i64, i64>(rt, LARGE_SIGNED);
 }

@@ -112,39 +112,40 @@ const INVERSES_OF_SIZES: &[(usize, usize, Option<usize>)] = &[
     ),
 ];
 
-// Whether the number by value and by reference has this inverse.
-fn is_inverse<T: PlainWord>(a: T, m: T, want: Option<T>) -> bool {
-    a.invm(&m) == want && (&a).invm(&m) == want
+// Whether the number by value and by reference has the row's inverse.
+fn is_inverse<S: Copy, T: PlainWord + From<S>>(row: &(S, S, Option<S>)) -> bool {
+    let &(a, m, want) = row;
+    let (a, m) = (&T::from(a), &T::from(m));
+    let want = match want {
+        Some(inverse) => Some(T::from(inverse)),
+        None => None,
+    };
+    !m.is_zero_word() && (*a).invm(m) == want && a.invm(m) == want
 }
 
 fn assert_inverses<S: Copy, T: PlainWord + From<S>>(rt: &impl Abort, rows: &[(S, S, Option<S>)]) {
-    for &(a, m, want) in rows {
-        let m = T::from(m);
-        assert!(!m.is_zero_word());
-        let want = match want {
-            Some(inverse) => Some(T::from(inverse)),
-            None => None,
-        };
-        assert!(is_inverse(T::from(a), m, want));
+    for i in 0..rows.len() {
+        assert_at(rt, is_inverse::<S, T>(&rows[i]), &i);
     }
 }
 
 #[test]
 fn inverses_at_each_width() {
     let rt = crate::runtime::HostRuntime;
-    assert_inverses::<u8, u8>(&rt, INVERSES);
-    assert_inverses::<u8, u16>(&rt, INVERSES);
-    assert_inverses::<u8, u32>(&rt, INVERSES);
-    assert_inverses::<u8, u64>(&rt, INVERSES);
-    assert_inverses::<u8, usize>(&rt, INVERSES);
-    assert_inverses::<u16, u16>(&rt, WIDE_INVERSES);
-    assert_inverses::<u16, u32>(&rt, WIDE_INVERSES);
-    assert_inverses::<u16, u64>(&rt, WIDE_INVERSES);
-    assert_inverses::<u16, usize>(&rt, WIDE_INVERSES);
-    assert_inverses::<u16, u16>(&rt, INVERSES_OF_16_BITS);
-    assert_inverses::<u32, u32>(&rt, INVERSES_OF_32_BITS);
-    assert_inverses::<u64, u64>(&rt, INVERSES_OF_64_BITS);
-    assert_inverses::<usize, usize>(&rt, INVERSES_OF_SIZES);
+    let rt = &rt;
+    assert_inverses::<u8, u8>(rt, INVERSES);
+    assert_inverses::<u8, u16>(rt, INVERSES);
+    assert_inverses::<u8, u32>(rt, INVERSES);
+    assert_inverses::<u8, u64>(rt, INVERSES);
+    assert_inverses::<u8, usize>(rt, INVERSES);
+    assert_inverses::<u16, u16>(rt, WIDE_INVERSES);
+    assert_inverses::<u16, u32>(rt, WIDE_INVERSES);
+    assert_inverses::<u16, u64>(rt, WIDE_INVERSES);
+    assert_inverses::<u16, usize>(rt, WIDE_INVERSES);
+    assert_inverses::<u16, u16>(rt, INVERSES_OF_16_BITS);
+    assert_inverses::<u32, u32>(rt, INVERSES_OF_32_BITS);
+    assert_inverses::<u64, u64>(rt, INVERSES_OF_64_BITS);
+    assert_inverses::<usize, usize>(rt, INVERSES_OF_SIZES);
 }
 
 // Whether the modulus is odd, and the inverse by subtraction is this.
@@ -152,22 +153,33 @@ fn is_inverse_by_subtraction<T: PlainWord>(a: T, m: T, want: Option<T>) -> bool 
     m.is_odd() && inverse_by_subtraction(a, m) == want
 }
 
+// Whether both loops find the row's inverse.
+fn is_found_16(row: &(u16, u16, Option<u16>)) -> bool {
+    let &(a, m, want) = row;
+    m > 0 && w16::invm_counted(a, m).0 == want && is_inverse_by_subtraction(a, m, want)
+}
+
+fn is_found_32(row: &(u32, u32, Option<u32>)) -> bool {
+    let &(a, m, want) = row;
+    m > 0 && w32::invm_counted(a, m).0 == want && is_inverse_by_subtraction(a, m, want)
+}
+
+fn is_found_64(row: &(u64, u64, Option<u64>)) -> bool {
+    let &(a, m, want) = row;
+    m > 0 && w64::invm_counted(a, m).0 == want && is_inverse_by_subtraction(a, m, want)
+}
+
 #[test]
 fn the_two_loops_of_wide_words() {
     let rt = crate::runtime::HostRuntime;
+    let rt = &rt;
     for row in INVERSES_OF_16_BITS {
-        let &(a, m, want) = row;
-        assert_at(&rt, m > 0 && w16::invm_counted(a, m).0 == want, row);
-        assert_at(&rt, is_inverse_by_subtraction(a, m, want), row);
+        assert_at(rt, is_found_16(row), row);
     }
     for row in INVERSES_OF_32_BITS {
-        let &(a, m, want) = row;
-        assert_at(&rt, m > 0 && w32::invm_counted(a, m).0 == want, row);
-        assert_at(&rt, is_inverse_by_subtraction(a, m, want), row);
+        assert_at(rt, is_found_32(row), row);
     }
     for row in INVERSES_OF_64_BITS {
-        let &(a, m, want) = row;
-        assert_at(&rt, m > 0 && w64::invm_counted(a, m).0 == want, row);
-        assert_at(&rt, is_inverse_by_subtraction(a, m, want), row);
+        assert_at(rt, is_found_64(row), row);
     }
 }

@@ -1,5 +1,6 @@
 //! The known values of each operation.
 
+use crate::operation_tests::tests::assert_at;
 use num_modular::modular_prim::numbered::Numbered;
 use num_modular::modular_prim::operations::{ModularAbs, ModularCoreOps, ModularPow, ModularUnaryOps};
 use num_modular::modular_prim::plain_word::PlainWord;
@@ -7,48 +8,48 @@ use num_modular::modular_prim::power::{powm_u32, powm_u64};
 use crate::runtime::Abort;
 
 // Each operation with its operands by value and by reference.
-fn sums<T: PlainWord>(a: T, b: T, m: T) -> (T, T, T, T) {
+fn sums<T: PlainWord>(a: &T, b: &T, m: &T) -> (T, T, T, T) {
     (
-        a.addm(b, &m),
-        a.addm(&b, &m),
-        (&a).addm(b, &m),
-        (&a).addm(&b, &m),
+        (*a).addm(*b, m),
+        (*a).addm(b, m),
+        a.addm(*b, m),
+        a.addm(b, m),
     )
 }
 
-fn differences<T: PlainWord>(a: T, b: T, m: T) -> (T, T, T, T) {
+fn differences<T: PlainWord>(a: &T, b: &T, m: &T) -> (T, T, T, T) {
     (
-        a.subm(b, &m),
-        a.subm(&b, &m),
-        (&a).subm(b, &m),
-        (&a).subm(&b, &m),
+        (*a).subm(*b, m),
+        (*a).subm(b, m),
+        a.subm(*b, m),
+        a.subm(b, m),
     )
 }
 
-fn products<T: PlainWord>(a: T, b: T, m: T) -> (T, T, T, T) {
+fn products<T: PlainWord>(a: &T, b: &T, m: &T) -> (T, T, T, T) {
     (
-        a.mulm(b, &m),
-        a.mulm(&b, &m),
-        (&a).mulm(b, &m),
-        (&a).mulm(&b, &m),
+        (*a).mulm(*b, m),
+        (*a).mulm(b, m),
+        a.mulm(*b, m),
+        a.mulm(b, m),
     )
 }
 
-fn powers<T: PlainWord>(a: T, b: T, m: T) -> (T, T, T, T) {
+fn powers<T: PlainWord>(a: &T, b: &T, m: &T) -> (T, T, T, T) {
     (
-        a.powm(b, &m),
-        a.powm(&b, &m),
-        (&a).powm(b, &m),
-        (&a).powm(&b, &m),
+        (*a).powm(*b, m),
+        (*a).powm(b, m),
+        a.powm(*b, m),
+        a.powm(b, m),
     )
 }
 
 // The negatives, the doubles and the squares, of the operand by value and by reference.
-fn multiples<T: PlainWord>(a: T, m: T) -> ((T, T), (T, T), (T, T)) {
+fn multiples<T: PlainWord>(a: &T, m: &T) -> ((T, T), (T, T), (T, T)) {
     (
-        (a.negm(&m), (&a).negm(&m)),
-        (a.dblm(&m), (&a).dblm(&m)),
-        (a.sqm(&m), (&a).sqm(&m)),
+        ((*a).negm(m), a.negm(m)),
+        ((*a).dblm(m), a.dblm(m)),
+        ((*a).sqm(m), a.sqm(m)),
     )
 }
 
@@ -60,19 +61,13 @@ enum Operation {
     Power,
 }
 
-fn answers<T: PlainWord>(operation: Operation, a: T, b: T, m: T) -> (T, T, T, T) {
+fn answers<T: PlainWord>(operation: Operation, a: &T, b: &T, m: &T) -> (T, T, T, T) {
     match operation {
         Operation::Sum => sums(a, b, m),
         Operation::Difference => differences(a, b, m),
         Operation::Product => products(a, b, m),
         Operation::Power => powers(a, b, m),
     }
-}
-
-// Whether the operation returns this for each kind of operands.
-fn is_answered<T: PlainWord>(operation: Operation, a: T, b: T, m: T, want: T) -> bool {
-    let found = answers(operation, a, b, m);
-    found.0 == want && found.1 == want && found.2 == want && found.3 == want
 }
 
 // Two operands, the modulus, and the residue of the result.
@@ -143,11 +138,24 @@ const ROWS_OF_SIZES: &[(Operation, usize, usize, usize, usize)] = &[
     ),
 ];
 
+fn are_all<T: PlainWord>(found: (T, T, T, T), want: T) -> bool {
+    found.0 == want && found.1 == want && found.2 == want && found.3 == want
+}
+
+// Whether the operation returns the row's result for each kind of operands.
+fn is_right<S: Copy, T: PlainWord + From<S>>(row: &(Operation, S, S, S, S)) -> bool {
+    let &(operation, a, b, m, want) = row;
+    let m = T::from(m);
+    !m.is_zero_word()
+        && are_all(
+            answers(operation, &T::from(a), &T::from(b), &m),
+            T::from(want),
+        )
+}
+
 fn assert_rows<S: Copy, T: PlainWord + From<S>>(rt: &impl Abort, rows: &[(Operation, S, S, S, S)]) {
-    for &(operation, a, b, m, want) in rows {
-        let (a, b, m, want) = (T::from(a), T::from(b), T::from(m), T::from(want));
-        assert!(!m.is_zero_word());
-        assert!(is_answered(operation, a, b, m, want));
+    for i in 0..rows.len() {
+        assert_at(rt, is_right::<S, T>(&rows[i]), &i);
     }
 }
 
@@ -164,18 +172,22 @@ fn are_both<T: PlainWord>(found: (T, T), want: T) -> bool {
     found.0 == want && found.1 == want
 }
 
-// Whether these are the residues of the negative, the double and the square.
-fn are_multiples<T: PlainWord>(a: T, m: T, negative: T, double: T, square: T) -> bool {
-    let (negatives, doubles, squares) = multiples(a, m);
-    are_both(negatives, negative) && are_both(doubles, double) && are_both(squares, square)
+// Whether they are so for the operand by value and by reference.
+fn are_right<T: PlainWord + From<u8>>(row: &(u8, u8, u8, u8, u8)) -> bool {
+    let &(a, m, negative, double, square) = row;
+    let m = T::from(m);
+    if m.is_zero_word() {
+        return false;
+    }
+    let (negatives, doubles, squares) = multiples(&T::from(a), &m);
+    are_both(negatives, T::from(negative))
+        && are_both(doubles, T::from(double))
+        && are_both(squares, T::from(square))
 }
 
 fn assert_multiples<T: PlainWord + From<u8>>(rt: &impl Abort) {
-    for &(a, m, negative, double, square) in MULTIPLES {
-        let (a, m) = (T::from(a), T::from(m));
-        let (negative, double, square) = (T::from(negative), T::from(double), T::from(square));
-        assert!(!m.is_zero_word());
-        assert!(are_multiples(a, m, negative, double, square));
+    for row in MULTIPLES {
+        assert_at(rt, are_right::<T>(row), row);
     }
 }
 
@@ -187,24 +199,26 @@ fn assert_operations<T: PlainWord + From<u8>>(rt: &impl Abort) {
 #[test]
 fn operations_at_each_width() {
     let rt = crate::runtime::HostRuntime;
-    assert_operations::<u8>(&rt);
-    assert_operations::<u16>(&rt);
-    assert_operations::<u32>(&rt);
-    assert_operations::<u64>(&rt);
-    assert_operations::<usize>(&rt);
-    assert_rows::<u64, u64>(&rt, ROWS_OF_64_BITS);
-    assert_rows::<usize, usize>(&rt, ROWS_OF_SIZES);
+    let rt = &rt;
+    assert_operations::<u8>(rt);
+    assert_operations::<u16>(rt);
+    assert_operations::<u32>(rt);
+    assert_operations::<u64>(rt);
+    assert_operations::<usize>(rt);
+    assert_rows::<u64, u64>(rt, ROWS_OF_64_BITS);
+    assert_rows::<usize, usize>(rt, ROWS_OF_SIZES);
 }
 
 #[test]
 fn powers_by_name() {
+    let rt = crate::runtime::HostRuntime;
     let of_32_bits = (powm_u32(5, 3, 0), powm_u32(5, 3, 1), powm_u32(2, 10, 1000));
     let of_64_bits = (
         powm_u64(2, 10, 1000),
         powm_u64(2, 10, 0),
         powm_u64(3, 9223372036854775778, 18446744073709551557),
     );
-    assert!((of_32_bits, of_64_bits) == ((0, 0, 24), (24, 0, 18446744073709551556)));
+    check!(&rt, 1; (of_32_bits, of_64_bits) == ((0, 0, 24), (24, 0, 18446744073709551556)));
 }
 
 // A number and its residue modulo 5.
@@ -223,19 +237,20 @@ fn assert_signed<M: Numbered + Copy + PartialEq + From<u8>, Z: ModularAbs<M> + F
     five: M,
 ) {
     for &(z, want) in SIGNED {
-        assert!(Z::from(z).absm(&five) == M::from(want));
+        check!(rt, 1; Z::from(z).absm(&five) == M::from(want));
     }
 }
 
 #[test]
 fn signed_numbers() {
     let rt = crate::runtime::HostRuntime;
-    assert_signed::<u8, i8>(&rt, 5);
-    assert_signed::<u16, i16>(&rt, 5);
-    assert_signed::<u32, i32>(&rt, 5);
-    assert_signed::<u64, i64>(&rt, 5);
-    assert_signed::<u128, i128>(&rt, 5);
-    assert_signed::<usize, isize>(&rt, 5);
+    let rt = &rt;
+    assert_signed::<u8, i8>(rt, 5);
+    assert_signed::<u16, i16>(rt, 5);
+    assert_signed::<u32, i32>(rt, 5);
+    assert_signed::<u64, i64>(rt, 5);
+    assert_signed::<u128, i128>(rt, 5);
+    assert_signed::<usize, isize>(rt, 5);
     let least = (i64::MIN.absm(&18446744073709551615), i128::MIN.absm(&7));
-    assert!(least == (9223372036854775807, 5));
+    check!(rt, 1; least == (9223372036854775807, 5));
 }

@@ -10,6 +10,8 @@ use crate::misuse::symbols::{
 
 #[test]
 fn callers_of_operations() {
+    let rt = crate::runtime::HostRuntime;
+    let rt = &rt;
     let found = (
         product_and_sum(12u8, &13, &5),
         product_and_sum(12u64, 13, &5),
@@ -18,7 +20,7 @@ fn callers_of_operations() {
         square_of_double(3u8, &7),
         square_of_double(3usize, &7),
     );
-    assert!(found == (4, 4, 4, 4, 1, 1));
+    check!(rt, 1; found == (4, 4, 4, 4, 1, 1));
     let found = (
         inverse(&5u16, &11),
         inverse(7u64, &21),
@@ -27,7 +29,7 @@ fn callers_of_operations() {
         signed(-12i8, &5u8),
         signed(-12i64, &5u64),
     );
-    assert!(found == (Some(9), None, 4, 4, 3, 3));
+    check!(rt, 2; found == (Some(9), None, 4, 4, 3, 3));
     let (mut bytes, mut words) = (98u8, 15u64);
     let found = (
         quotient(252u8, 7, &()),
@@ -35,12 +37,13 @@ fn callers_of_operations() {
         divided(&mut bytes, 7, &()),
         divided(&mut words, 7, &()),
     );
-    assert!(found == (Some(36), None, true, false));
-    assert!((bytes, words) == (14, 15));
+    check!(rt, 3; found == (Some(36), None, true, false));
+    check!(rt, 4; (bytes, words) == (14, 15));
 }
 
 #[test]
 fn callers_of_symbols() {
+    let rt = crate::runtime::HostRuntime;
     let found = (
         product_symbol(7u16, 1, &15),
         product_symbol(2u32, 1, &8),
@@ -51,8 +54,7 @@ fn callers_of_symbols() {
         jacobi_of_seven(),
         legendre_of_three(),
     );
-    assert!(
-        found
+    check!(&rt, 1; found
             == (
                 Some(-1),
                 None,
@@ -62,6 +64,5 @@ fn callers_of_symbols() {
                 (Some(1), Some(1)),
                 -1,
                 1
-            )
-    );
+            ));
 }
