@@ -19,7 +19,7 @@ fn rows(rt: HostRuntime) {
         is_divided(10u32, 5, &PreMulInv1by1::<u32>::new(5), Some(2)),
         is_divided(u32::MAX, 641, &PreMulInv1by1::<u32>::new(641), None),
     ];
-    assert!(rt; (bytes, narrow) == ([true; 2], [true; 4]));
+    check!(&rt, 1; (bytes, narrow) == ([true; 2], [true; 4]));
 }
 
 #[test]
@@ -32,7 +32,7 @@ fn rows_of_wide_words(rt: HostRuntime) {
         is_divided(10usize, 5, &PreMulInv1by1::<usize>::new(5), Some(2)),
         is_divided(usize::MAX, 641, &sizes_by_641, Some(28778071877862015)),
     ];
-    assert!(rt; found == [true; 4]);
+    check!(&rt, 1; found == [true; 4]);
 }
 
 #[test]
@@ -69,5 +69,5 @@ fn exact_quotients(rt: HostRuntime) {
         are_exact(7u64, &()),
         are_exact(7u128, &()),
     ];
-    assert!(rt; found == [[true; 3]; 5]);
+    check!(&rt, 1; found == [[true; 3]; 5]);
 }

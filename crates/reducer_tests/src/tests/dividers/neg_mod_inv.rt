@@ -11,22 +11,20 @@ fn rows(rt: HostRuntime) {
         w64::neginv(3),
         wsize::neginv(3),
     );
-    assert!(rt;
-        found
+    check!(&rt, 1; found
             == (
                 (255, 73),
                 1,
                 1431655765,
                 6148914691236517205,
                 6148914691236517205
-            )
-    );
+            ));
 }
 
 #[test]
 fn each_odd_byte(rt: HostRuntime) {
     for half in 0..128 {
         let m: u8 = 2 * half + 1;
-        assert!(rt; m.wrapping_mul(w8::neginv(m)) == 255);
+        check!(&rt, 1; m.wrapping_mul(w8::neginv(m)) == 255);
     }
 }

@@ -6,11 +6,12 @@ use modular_monty::preinv::PreModInv;
 
 #[test]
 fn stored_numbers(rt: HostRuntime) {
+    let rt = &rt;
     let seven = "PreModInv { d_inv: 183, q_lim: 36 }";
-    assert!(rt; shows(rt.alloc(), &PreModInv::<u8>::from(7), seven));
-    assert!(rt; shows(rt.alloc(), &PreModInv::<u8>::new(183, 36), seven));
+    check!(rt, 1; shows(rt.alloc(), &PreModInv::<u8>::from(7), seven));
+    check!(rt, 2; shows(rt.alloc(), &PreModInv::<u8>::new(183, 36), seven));
     let one = "PreModInv { d_inv: 1, q_lim: 18446744073709551615 }";
-    assert!(rt; shows(rt.alloc(), &PreModInv::<u64>::from(1), one));
+    check!(rt, 3; shows(rt.alloc(), &PreModInv::<u64>::from(1), one));
 }
 
 #[test]
@@ -25,7 +26,7 @@ fn rows(rt: HostRuntime) {
         is_divided(65535u16, 7, &seven, None),
         is_divided(1u16, 7, &seven, None),
     ];
-    assert!(rt; (words, doubles) == ([true; 2], [true; 3]));
+    check!(&rt, 1; (words, doubles) == ([true; 2], [true; 3]));
 }
 
 #[test]
@@ -45,7 +46,7 @@ fn rows_of_wider_words(rt: HostRuntime) {
             Some(6148914691236517205),
         ),
     ];
-    assert!(rt; (words, doubles) == ([true; 2], [true; 2]));
+    check!(&rt, 1; (words, doubles) == ([true; 2], [true; 2]));
 }
 
 #[test]
@@ -70,7 +71,7 @@ fn rows_of_the_widest_words(rt: HostRuntime) {
         is_divided(18446744073709551614usize, 3, &by_three, None),
         is_divided(36893488147419103231u128, 3, &by_three, None),
     ];
-    assert!(rt; (words, sizes) == ([true; 2], [true; 2]));
+    check!(&rt, 1; (words, sizes) == ([true; 2], [true; 2]));
 }
 
 #[test]

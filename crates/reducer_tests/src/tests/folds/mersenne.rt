@@ -19,6 +19,7 @@ pub fn checks<T: RingWord, R: Reducer<T> + Copy>(m: T, last: T, other: T, multip
 
 #[test]
 fn greatest_words_and_counts(rt: HostRuntime) {
+    let rt = &rt;
     let found = (
         FixedMersenne32::<2, 1>::reduce_double(u64::MAX),
         FixedMersenne32::<32, 5>::reduce_double(u64::MAX),
@@ -28,7 +29,7 @@ fn greatest_words_and_counts(rt: HostRuntime) {
         FixedMersenne64::<64, 59>::reduce_double(u128::MAX),
         FixedMersenne::<64, 59>::reduce_single(u128::MAX),
     );
-    assert!(rt; found == (0, 24, 24, 0, 58, 3480, 3480));
+    check!(rt, 1; found == (0, 24, 24, 0, 58, 3480, 3480));
     let found = (
         FixedMersenne32::<16, 5>::reduce_counted(4294967295),
         FixedMersenne32::<13, 1>::reduce_counted(67108863),
@@ -36,7 +37,7 @@ fn greatest_words_and_counts(rt: HostRuntime) {
         FixedMersenne64::<64, 59>::reduce_counted(u128::MAX).0,
         FixedMersenne::<64, 59>::reduce_counted(u128::MAX).0,
     );
-    assert!(rt; found == ((24, 3), (0, 2), (0, 32), 3480, 3480));
+    check!(rt, 2; found == ((24, 3), (0, 2), (0, 32), 3480, 3480));
 }
 
 #[test]
@@ -48,41 +49,40 @@ fn moduli(rt: HostRuntime) {
         FixedMersenne64::<64, 59>::fixed_modulus(),
         FixedMersenne::<64, 59>::fixed_modulus(),
     );
-    assert!(rt;
-        found
+    check!(&rt, 1; found
             == (
                 3,
                 4294967291,
                 2305843009213693951,
                 18446744073709551557,
                 18446744073709551557
-            )
-    );
+            ));
 }
 
 #[test]
 fn edge_parameters(rt: HostRuntime) {
+    let rt = &rt;
     let found = edges::<u32, FixedMersenne32<2, 1>>(3, 2, u32::MAX);
-    assert!(rt; found == [0, 1, 2, 0, 0, 1]);
+    check!(rt, 1; found == [0, 1, 2, 0, 0, 1]);
     let found = edges::<u32, FixedMersenne32<32, 5>>(4294967291, 4294967290, u32::MAX);
-    assert!(rt; found == [0, 1, 4294967290, 0, 4, 1]);
+    check!(rt, 2; found == [0, 1, 4294967290, 0, 4, 1]);
     let (m, last) = (18446744073709551557, 18446744073709551556);
     let found = edges::<u64, FixedMersenne64<64, 59>>(m, last, u64::MAX);
-    assert!(rt; found == [0, 1, 18446744073709551556, 0, 58, 1]);
+    check!(rt, 3; found == [0, 1, 18446744073709551556, 0, 58, 1]);
     let (m, last) = (18446744073709551557, 18446744073709551556);
     let found = edges::<u128, FixedMersenne<64, 59>>(m, last, u128::MAX);
-    assert!(rt; found == [0, 1, 18446744073709551556, 0, 3480, 1]);
+    check!(rt, 4; found == [0, 1, 18446744073709551556, 0, 3480, 1]);
 }
 
 #[test]
 fn each_operation(rt: HostRuntime) {
+    let rt = &rt;
     let found = residues_modulo::<u32, FixedMersenne32<13, 1>>(8191, 100, 200);
-    assert!(rt; found == [300, 8091, 3618, 200, 8091, 1809]);
+    check!(rt, 1; found == [300, 8091, 3618, 200, 8091, 1809]);
     let found = residues_modulo::<u32, FixedMersenne32<4, 7>>(9, 5, 7);
-    assert!(rt; found == [3, 7, 8, 1, 4, 7]);
+    check!(rt, 2; found == [3, 7, 8, 1, 4, 7]);
     let found = residues_modulo::<u64, FixedMersenne64<61, 1>>(2305843009213693951, 1000, 2000);
-    assert!(rt;
-        found
+    check!(rt, 3; found
             == [
                 3000,
                 2305843009213692951,
@@ -90,23 +90,23 @@ fn each_operation(rt: HostRuntime) {
                 2000,
                 2305843009213692951,
                 1000000
-            ]
-    );
+            ]);
     let found = residues_modulo::<u128, FixedMersenne<31, 1>>(2147483647, 1000, 2000);
-    assert!(rt; found == [3000, 2147482647, 2000000, 2000, 2147482647, 1000000]);
+    check!(rt, 4; found == [3000, 2147482647, 2000000, 2000, 2147482647, 1000000]);
 }
 
 #[test]
 fn checks_and_inverses(rt: HostRuntime) {
+    let rt = &rt;
     type Small = FixedMersenne32<4, 1>;
-    assert!(rt; inverse::<u32, Small>(15, 7) == Some(13));
-    assert!(rt; inverse::<u32, Small>(15, 5) == None);
-    assert!(rt; checks::<u32, Small>(15, 14, 15, 30) == [true, false, true]);
+    check!(rt, 1; inverse::<u32, Small>(15, 7) == Some(13));
+    check!(rt, 2; inverse::<u32, Small>(15, 5) == None);
+    check!(rt, 3; checks::<u32, Small>(15, 14, 15, 30) == [true, false, true]);
     type Wide = FixedMersenne<4, 1>;
-    assert!(rt; inverse::<u128, Wide>(15, 7) == Some(13));
-    assert!(rt; inverse::<u128, Wide>(15, 5) == None);
-    assert!(rt; checks::<u128, Wide>(15, 14, 15, 30) == [true, false, true]);
-    assert!(rt; checks::<u128, Wide>(15, 14, u128::MAX, 30) == [true, false, true]);
+    check!(rt, 4; inverse::<u128, Wide>(15, 7) == Some(13));
+    check!(rt, 5; inverse::<u128, Wide>(15, 5) == None);
+    check!(rt, 6; checks::<u128, Wide>(15, 14, 15, 30) == [true, false, true]);
+    check!(rt, 7; checks::<u128, Wide>(15, 14, u128::MAX, 30) == [true, false, true]);
     type Middle = FixedMersenne64<64, 59>;
-    assert!(rt; inverse::<u64, Middle>(18446744073709551557, 2) == Some(9223372036854775779));
+    check!(rt, 8; inverse::<u64, Middle>(18446744073709551557, 2) == Some(9223372036854775779));
 }

@@ -11,7 +11,7 @@ fn greatest_dividends(rt: HostRuntime) {
         reduce_by_folds::<u32>(255, 4, 3, 13),
         reduce_by_folds::<u64>(u128::MAX, 64, 59, 18446744073709551557).0,
     );
-    assert!(rt; found == ((0, 32), (24, 3), 2, (8, 3), 3480));
+    check!(&rt, 1; found == ((0, 32), (24, 3), 2, (8, 3), 3480));
 }
 
 #[test]
@@ -21,7 +21,7 @@ fn bit_p_at_the_width(rt: HostRuntime) {
         reduce_by_folds::<u64>(18446744073709551615, 64, 59, m),
         fold_all(u64::MAX, 64, 59, m),
     );
-    assert!(rt; found == ((58, 0), (u64::MAX, 0)));
+    check!(&rt, 1; found == ((58, 0), (u64::MAX, 0)));
 }
 
 #[test]
@@ -30,7 +30,7 @@ fn folds_alone(rt: HostRuntime) {
         fold_all(67108863u64, 13, 1, 8191),
         fold_all(4294967295u64, 16, 5, 65531),
     );
-    assert!(rt; found == ((8191, 2), (24, 3)));
+    check!(&rt, 1; found == ((8191, 2), (24, 3)));
 }
 
 #[test]
@@ -39,5 +39,5 @@ fn folds_in_a_straight_line(rt: HostRuntime) {
         fold_two(67108863u64, 13, 8191, 1, 8191),
         fold_three(4294967295u64, 16, 65535, 5, 65531),
     );
-    assert!(rt; found == ((8191, 2), (24, 3)));
+    check!(&rt, 1; found == ((8191, 2), (24, 3)));
 }

@@ -38,7 +38,7 @@ const COMPUTED: &[(u8, u8, u8)] = &[
 // A modulus and its two numbers.
 fn assert_computed<T: PlainWord>(rt: &impl Abort, rows: &[(T, T, T)]) {
     for &(m, negated_inverse, square) in rows {
-        assert!(rt; !m.is_zero_word() && are_computed(m, negated_inverse, square));
+        check!(rt, 1; !m.is_zero_word() && are_computed(m, negated_inverse, square));
     }
 }
 
@@ -52,10 +52,11 @@ const COMPUTED_OF_64_BITS: &[(u64, u64, u64)] = &[
 
 #[test]
 fn computed(rt: HostRuntime) {
-    assert_computed::<u8>(&rt, COMPUTED);
-    assert_computed::<u16>(&rt, &[(97, 23647, 35)]);
-    assert_computed::<u32>(&rt, &[(97, 2700958815, 61), (4294967295, 1, 1)]);
-    assert_computed::<u64>(&rt, COMPUTED_OF_64_BITS);
+    let rt = &rt;
+    assert_computed::<u8>(rt, COMPUTED);
+    assert_computed::<u16>(rt, &[(97, 23647, 35)]);
+    assert_computed::<u32>(rt, &[(97, 2700958815, 61), (4294967295, 1, 1)]);
+    assert_computed::<u64>(rt, COMPUTED_OF_64_BITS);
 }
 
 // Whether two numbers have the same odd part; 0 has none.
@@ -65,24 +66,26 @@ fn have_one_odd_part(m: u8, n: u8) -> bool {
 
 #[test]
 fn changed_words(rt: HostRuntime) {
+    let rt = &rt;
     for &(m, negated_inverse, square) in COMPUTED {
         for word in 0..=255u8 {
             let one_part = have_one_odd_part(word, m);
-            assert!(rt; is_restored(word, negated_inverse, square) == one_part);
-            assert!(rt; is_restored(m, word, square) == (word == negated_inverse));
-            assert!(rt; is_restored(m, negated_inverse, word) == (word == square));
+            check!(rt, 1; is_restored(word, negated_inverse, square) == one_part);
+            check!(rt, 2; is_restored(m, word, square) == (word == negated_inverse));
+            check!(rt, 3; is_restored(m, negated_inverse, word) == (word == square));
         }
     }
 }
 
 #[test]
 fn changed_words_of_64_bits(rt: HostRuntime) {
+    let rt = &rt;
     let (m, negated_inverse, square) = (18446744073709551557u64, 14694863923124558067, 3481);
     for bit in 0..64u32 {
         let changed = 1 << bit;
-        assert!(rt; !is_restored(m ^ changed, negated_inverse, square));
-        assert!(rt; !is_restored(m, negated_inverse ^ changed, square));
-        assert!(rt; !is_restored(m, negated_inverse, square ^ changed));
+        check!(rt, 1; !is_restored(m ^ changed, negated_inverse, square));
+        check!(rt, 2; !is_restored(m, negated_inverse ^ changed, square));
+        check!(rt, 3; !is_restored(m, negated_inverse, square ^ changed));
     }
-    assert!(rt; !is_restored::<u64>(0, 18446744073709551615, 0));
+    check!(rt, 4; !is_restored::<u64>(0, 18446744073709551615, 0));
 }

@@ -141,13 +141,14 @@ const ROWS_OF_8_BITS: [Row<u8>; 3] = [
 
 #[test]
 fn rows_at_each_width(rt: HostRuntime) {
+    let rt = &rt;
     for row in ROWS_OF_8_BITS {
-        assert!(rt; is_right(row));
+        check!(rt, 1; is_right(row));
     }
-    assert!(rt; is_right(at_greatest_modulus!(u16)));
-    assert!(rt; is_right(at_greatest_modulus!(u32)));
-    assert!(rt; is_right(at_greatest_modulus!(u64)));
-    assert!(rt; is_right(at_greatest_modulus!(usize)));
+    check!(rt, 2; is_right(at_greatest_modulus!(u16)));
+    check!(rt, 3; is_right(at_greatest_modulus!(u32)));
+    check!(rt, 4; is_right(at_greatest_modulus!(u64)));
+    check!(rt, 5; is_right(at_greatest_modulus!(usize)));
 }
 
 // An exponent, the power of 5 modulo 21 and the number of products.
@@ -203,9 +204,10 @@ fn same<T: RingWord, R: Reducer<T>>(r: &R, x: T, y: T) -> bool {
 
 #[test]
 fn laws(rt: HostRuntime) {
+    let rt = &rt;
     let r = Vanilla::<u8>::new(&21);
-    assert!(rt; laws_of_sums(&r, 20, 5, 19) == [(4, 4), (2, 2), (16, 0)]);
-    assert!(rt; laws_of_products(&r, 20, 5, 19) == [(16, 16), (10, 10), (18, 18)]);
-    assert!(rt; residue_by_form(&r, 255) == 3);
-    assert!(rt; same(&r, 5, 5) && !same(&r, 5, 6));
+    check!(rt, 1; laws_of_sums(&r, 20, 5, 19) == [(4, 4), (2, 2), (16, 0)]);
+    check!(rt, 2; laws_of_products(&r, 20, 5, 19) == [(16, 16), (10, 10), (18, 18)]);
+    check!(rt, 3; residue_by_form(&r, 255) == 3);
+    check!(rt, 4; same(&r, 5, 5) && !same(&r, 5, 6));
 }

@@ -64,10 +64,12 @@ fn sums_with_words_in_place<T: RingWord, R: Reducer<T> + Copy>(m: T, x: T, words
 
 #[test]
 fn sums() {
-    assert!(sums_of_two::<u8, Vanilla<u8>>(21, 20, 5) == ([4; 4], [4, 9]));
-    assert!(sums_with_a_word::<u8, Vanilla<u8>>(21, 20, 5) == [4; 4]);
-    assert!(sums_with_words_in_place::<u8, Vanilla<u8>>(21, 9, [255, 5]) == [12, 17]);
-    assert!(sum_modulo_21() == 4);
+    let rt = crate::runtime::HostRuntime;
+    let rt = &rt;
+    check!(rt, 1; sums_of_two::<u8, Vanilla<u8>>(21, 20, 5) == ([4; 4], [4, 9]));
+    check!(rt, 2; sums_with_a_word::<u8, Vanilla<u8>>(21, 20, 5) == [4; 4]);
+    check!(rt, 3; sums_with_words_in_place::<u8, Vanilla<u8>>(21, 9, [255, 5]) == [12, 17]);
+    check!(rt, 4; sum_modulo_21() == 4);
 }
 
 // The residues of the differences of two integers, for each kind of operands, and those after each of two in place.
@@ -113,11 +115,13 @@ fn differences_with_words_in_place<T: RingWord, R: Reducer<T> + Copy>(
 
 #[test]
 fn differences() {
-    assert!(differences_of_two::<u8, Vanilla<u8>>(21, 3, 5) == ([19; 4], [19, 14]));
-    assert!(differences_with_a_word::<u8, Vanilla<u8>>(21, 3, 5) == [19; 4]);
-    assert!(differences_with_words_in_place::<u8, Vanilla<u8>>(21, 14, [255, 5]) == [11, 6]);
-    assert!(differences_with_a_word::<u8, Vanilla<u8>>(21, 5, 255) == [2; 4]);
-    assert!(difference_modulo_21() == 2);
+    let rt = crate::runtime::HostRuntime;
+    let rt = &rt;
+    check!(rt, 1; differences_of_two::<u8, Vanilla<u8>>(21, 3, 5) == ([19; 4], [19, 14]));
+    check!(rt, 2; differences_with_a_word::<u8, Vanilla<u8>>(21, 3, 5) == [19; 4]);
+    check!(rt, 3; differences_with_words_in_place::<u8, Vanilla<u8>>(21, 14, [255, 5]) == [11, 6]);
+    check!(rt, 4; differences_with_a_word::<u8, Vanilla<u8>>(21, 5, 255) == [2; 4]);
+    check!(rt, 5; difference_modulo_21() == 2);
 }
 
 // The residues of the products of two integers, for each kind of operands, and those after each of two in place.
@@ -163,10 +167,12 @@ fn products_with_words_in_place<T: RingWord, R: Reducer<T> + Copy>(
 
 #[test]
 fn products() {
-    assert!(products_of_two::<u8, Vanilla<u8>>(21, 10, 5) == ([8; 4], [8, 19]));
-    assert!(products_with_a_word::<u8, Vanilla<u8>>(21, 10, 5) == [8; 4]);
-    assert!(products_with_words_in_place::<u8, Vanilla<u8>>(21, 19, [255, 5]) == [15, 12]);
-    assert!(products_with_a_word::<u8, Vanilla<u8>>(5, 12, 13) == [1; 4]);
+    let rt = crate::runtime::HostRuntime;
+    let rt = &rt;
+    check!(rt, 1; products_of_two::<u8, Vanilla<u8>>(21, 10, 5) == ([8; 4], [8, 19]));
+    check!(rt, 2; products_with_a_word::<u8, Vanilla<u8>>(21, 10, 5) == [8; 4]);
+    check!(rt, 3; products_with_words_in_place::<u8, Vanilla<u8>>(21, 19, [255, 5]) == [15, 12]);
+    check!(rt, 4; products_with_a_word::<u8, Vanilla<u8>>(5, 12, 13) == [1; 4]);
 }
 
 // The residues of the quotients of two integers, for each kind of operands.
@@ -197,21 +203,25 @@ fn residue_if_any<T: RingWord, R: Reducer<T> + Copy>(a: Option<ReducedInt<T, R>>
 
 #[test]
 fn negatives_and_quotients() {
-    assert!(negatives::<u8, Vanilla<u8>>(21, 10) == [11, 11]);
-    assert!(quotients_of_two(ring(10), five_modulo_21()) == [2; 4]);
-    assert!(quotient_modulo_21() == 2);
+    let rt = crate::runtime::HostRuntime;
+    let rt = &rt;
+    check!(rt, 1; negatives::<u8, Vanilla<u8>>(21, 10) == [11, 11]);
+    check!(rt, 2; quotients_of_two(ring(10), five_modulo_21()) == [2; 4]);
+    check!(rt, 3; quotient_modulo_21() == 2);
 }
 
 #[test]
 fn inverses_and_quotients_if_any() {
+    let rt = crate::runtime::HostRuntime;
+    let rt = &rt;
     let quotients = [
         residue_if_any(quotient_if_any(ring(10), ring(7))),
         residue_if_any(quotient_if_any(ring(10), VanillaInt::<u8>::new(5, &22))),
         residue_if_any(quotient_if_any(ring(10), ring(5))),
     ];
-    assert!(quotients == [None, None, Some(2)]);
+    check!(rt, 1; quotients == [None, None, Some(2)]);
     let inverses = [residue_if_any(ring(7).inv()), residue_if_any(ring(5).inv())];
-    assert!(inverses == [None, Some(17)]);
+    check!(rt, 2; inverses == [None, Some(17)]);
 }
 
 // The modulus, the residue and the form of an integer, and the residues of its double and its square.
@@ -239,20 +249,23 @@ fn converted<T: RingWord, R: Reducer<T> + Copy>(m: T, x: T, y: T) -> (T, bool, b
 
 #[test]
 fn methods() {
-    assert!(parts::<u8, Vanilla<u8>>(21, 255) == [21, 3, 3, 6, 9]);
-    assert!(power::<u8, Vanilla<u8>>(21, 255, 0) == 1);
-    assert!(power::<u8, Vanilla<u8>>(21, 255, 5) == 12);
-    assert!(power::<u8, Vanilla<u8>>(1, 0, 0) == 0);
-    assert!(converted::<u8, Vanilla<u8>>(21, 255, 255).0 == 3);
-    assert!(converted::<u8, Vanilla<u8>>(21, 255, 21) == (0, false, true));
+    let rt = crate::runtime::HostRuntime;
+    let rt = &rt;
+    check!(rt, 1; parts::<u8, Vanilla<u8>>(21, 255) == [21, 3, 3, 6, 9]);
+    check!(rt, 2; power::<u8, Vanilla<u8>>(21, 255, 0) == 1);
+    check!(rt, 3; power::<u8, Vanilla<u8>>(21, 255, 5) == 12);
+    check!(rt, 4; power::<u8, Vanilla<u8>>(1, 0, 0) == 0);
+    check!(rt, 5; converted::<u8, Vanilla<u8>>(21, 255, 255).0 == 3);
+    check!(rt, 6; converted::<u8, Vanilla<u8>>(21, 255, 21) == (0, false, true));
 }
 
 #[test]
 fn copies_and_text() -> Result<(), Fail> {
     let rt = crate::runtime::HostRuntime;
+    let rt = &rt;
     let a = ring(255);
-    assert!(a.clone() == a);
-    assert!(is_printed(rt.alloc(), &a));
+    check!(rt, 1; a.clone() == a);
+    check!(rt, 2; is_printed(rt.alloc(), &a));
     Ok(())
 }
 
@@ -272,22 +285,27 @@ fn are_equivalent<I: ModularInteger>(all: &[I]) -> bool {
 
 #[test]
 fn equality() {
+    let rt = crate::runtime::HostRuntime;
+    let rt = &rt;
     let (three, other) = (VanillaInt::<u8>::new(3, &7), VanillaInt::<u8>::new(3, &11));
     let seven = VanillaInt::<u8>::new(10, &7);
-    assert!(are_equal(&seven, &three));
-    assert!(!are_equal(&three, &other));
-    assert!(are_equivalent(&[three, seven, other]));
+    check!(rt, 1; are_equal(&seven, &three));
+    check!(rt, 2; !are_equal(&three, &other));
+    check!(rt, 3; are_equivalent(&[three, seven, other]));
 }
 
 #[test]
 fn polynomials() {
-    assert!(value_of_bytes() == 19);
-    assert!(value_by_forms() == 19);
+    let rt = crate::runtime::HostRuntime;
+    let rt = &rt;
+    check!(rt, 1; value_of_bytes() == 19);
+    check!(rt, 2; value_by_forms() == 19);
 }
 
 #[test]
 fn the_polynomial_of_no_coefficients() {
-    assert!(horner(&[], ring(7)).residue() == 0);
+    let rt = crate::runtime::HostRuntime;
+    check!(&rt, 1; horner(&[], ring(7)).residue() == 0);
 }
 
 // The residue of a + a, and that of x + y by the integers of its ring.
@@ -302,8 +320,10 @@ fn sums_modulo<R: Reducer<u64> + Copy>(m: u64, x: u64, y: u64) -> [u64; 2] {
 
 #[test]
 fn sums_of_64_bits_of_any_integers() {
+    let rt = crate::runtime::HostRuntime;
+    let rt = &rt;
     // 2^64 - 59
     let (m, top) = (18446744073709551557, u64::MAX);
-    assert!(sums_modulo::<Vanilla<u64>>(m, top, top - 60) == [116, 56]);
-    assert!(sums_modulo::<PreMulInv2by1<u64>>(m, top, top - 60) == [116, 56]);
+    check!(rt, 1; sums_modulo::<Vanilla<u64>>(m, top, top - 60) == [116, 56]);
+    check!(rt, 2; sums_modulo::<PreMulInv2by1<u64>>(m, top, top - 60) == [116, 56]);
 }

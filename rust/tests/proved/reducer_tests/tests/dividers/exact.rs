@@ -8,6 +8,7 @@ use num_modular::modular_prim::numbered::Numbered;
 
 #[test]
 fn rows() {
+    let rt = crate::runtime::HostRuntime;
     let three = PreMulInv1by1::<u8>::new(3);
     let bytes = [
         is_divided(255u8, 3, &three, Some(85)),
@@ -19,11 +20,12 @@ fn rows() {
         is_divided(10u32, 5, &PreMulInv1by1::<u32>::new(5), Some(2)),
         is_divided(u32::MAX, 641, &PreMulInv1by1::<u32>::new(641), None),
     ];
-    assert!((bytes, narrow) == ([true; 2], [true; 4]));
+    check!(&rt, 1; (bytes, narrow) == ([true; 2], [true; 4]));
 }
 
 #[test]
 fn rows_of_wide_words() {
+    let rt = crate::runtime::HostRuntime;
     let by_641 = PreMulInv1by1::<u64>::new(641);
     let sizes_by_641 = PreMulInv1by1::<usize>::new(641);
     let found = [
@@ -32,7 +34,7 @@ fn rows_of_wide_words() {
         is_divided(10usize, 5, &PreMulInv1by1::<usize>::new(5), Some(2)),
         is_divided(usize::MAX, 641, &sizes_by_641, Some(28778071877862015)),
     ];
-    assert!(found == [true; 4]);
+    check!(&rt, 1; found == [true; 4]);
 }
 
 #[test]
@@ -61,6 +63,7 @@ fn are_exact<T: DivExactAssign<T, ()> + Numbered + Copy + PartialEq + From<u8>>(
 
 #[test]
 fn exact_quotients() {
+    let rt = crate::runtime::HostRuntime;
     let found = [
         are_exact(7u8, &()),
         are_exact(7u16, &()),
@@ -68,5 +71,5 @@ fn exact_quotients() {
         are_exact(7u64, &()),
         are_exact(7u128, &()),
     ];
-    assert!(found == [[true; 3]; 5]);
+    check!(&rt, 1; found == [[true; 3]; 5]);
 }

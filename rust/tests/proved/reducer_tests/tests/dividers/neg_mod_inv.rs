@@ -4,6 +4,7 @@ use num_modular::modular_monty::neg_mod_inv::{w8, w16, w32, w64, wsize};
 
 #[test]
 fn rows() {
+    let rt = crate::runtime::HostRuntime;
     let found = (
         (w8::neginv(1), w8::neginv(7)),
         w16::neginv(65535),
@@ -11,22 +12,21 @@ fn rows() {
         w64::neginv(3),
         wsize::neginv(3),
     );
-    assert!(
-        found
+    check!(&rt, 1; found
             == (
                 (255, 73),
                 1,
                 1431655765,
                 6148914691236517205,
                 6148914691236517205
-            )
-    );
+            ));
 }
 
 #[test]
 fn each_odd_byte() {
+    let rt = crate::runtime::HostRuntime;
     for half in 0..128 {
         let m: u8 = 2 * half + 1;
-        assert!(m.wrapping_mul(w8::neginv(m)) == 255);
+        check!(&rt, 1; m.wrapping_mul(w8::neginv(m)) == 255);
     }
 }

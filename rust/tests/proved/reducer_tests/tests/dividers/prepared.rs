@@ -7,15 +7,17 @@ use num_modular::modular_monty::preinv::PreModInv;
 #[test]
 fn stored_numbers() {
     let rt = crate::runtime::HostRuntime;
+    let rt = &rt;
     let seven = "PreModInv { d_inv: 183, q_lim: 36 }";
-    assert!(shows(rt.alloc(), &PreModInv::<u8>::from(7), seven));
-    assert!(shows(rt.alloc(), &PreModInv::<u8>::new(183, 36), seven));
+    check!(rt, 1; shows(rt.alloc(), &PreModInv::<u8>::from(7), seven));
+    check!(rt, 2; shows(rt.alloc(), &PreModInv::<u8>::new(183, 36), seven));
     let one = "PreModInv { d_inv: 1, q_lim: 18446744073709551615 }";
-    assert!(shows(rt.alloc(), &PreModInv::<u64>::from(1), one));
+    check!(rt, 3; shows(rt.alloc(), &PreModInv::<u64>::from(1), one));
 }
 
 #[test]
 fn rows() {
+    let rt = crate::runtime::HostRuntime;
     let seven = PreModInv::<u8>::from(7);
     let words = [
         is_divided(252u8, 7, &seven, Some(36)),
@@ -26,11 +28,12 @@ fn rows() {
         is_divided(65535u16, 7, &seven, None),
         is_divided(1u16, 7, &seven, None),
     ];
-    assert!((words, doubles) == ([true; 2], [true; 3]));
+    check!(&rt, 1; (words, doubles) == ([true; 2], [true; 3]));
 }
 
 #[test]
 fn rows_of_wider_words() {
+    let rt = crate::runtime::HostRuntime;
     let by_three = PreModInv::<u16>::from(3);
     let words = [
         is_divided(65535u16, 3, &by_three, Some(21845)),
@@ -46,11 +49,12 @@ fn rows_of_wider_words() {
             Some(6148914691236517205),
         ),
     ];
-    assert!((words, doubles) == ([true; 2], [true; 2]));
+    check!(&rt, 1; (words, doubles) == ([true; 2], [true; 2]));
 }
 
 #[test]
 fn rows_of_the_widest_words() {
+    let rt = crate::runtime::HostRuntime;
     let by_three = PreModInv::<u64>::from(3);
     let words = [
         is_divided(
@@ -71,7 +75,7 @@ fn rows_of_the_widest_words() {
         is_divided(18446744073709551614usize, 3, &by_three, None),
         is_divided(36893488147419103231u128, 3, &by_three, None),
     ];
-    assert!((words, sizes) == ([true; 2], [true; 2]));
+    check!(&rt, 1; (words, sizes) == ([true; 2], [true; 2]));
 }
 
 #[test]

@@ -17,6 +17,8 @@ pub fn checks<T: RingWord, R: Reducer<T> + Copy>(m: T, last: T, other: T, multip
 
 #[test]
 fn greatest_words_and_counts() {
+    let rt = crate::runtime::HostRuntime;
+    let rt = &rt;
     let found = (
         FixedMersenne32::<2, 1>::reduce_double(u64::MAX),
         FixedMersenne32::<32, 5>::reduce_double(u64::MAX),
@@ -26,7 +28,7 @@ fn greatest_words_and_counts() {
         FixedMersenne64::<64, 59>::reduce_double(u128::MAX),
         FixedMersenne::<64, 59>::reduce_single(u128::MAX),
     );
-    assert!(found == (0, 24, 24, 0, 58, 3480, 3480));
+    check!(rt, 1; found == (0, 24, 24, 0, 58, 3480, 3480));
     let found = (
         FixedMersenne32::<16, 5>::reduce_counted(4294967295),
         FixedMersenne32::<13, 1>::reduce_counted(67108863),
@@ -34,11 +36,12 @@ fn greatest_words_and_counts() {
         FixedMersenne64::<64, 59>::reduce_counted(u128::MAX).0,
         FixedMersenne::<64, 59>::reduce_counted(u128::MAX).0,
     );
-    assert!(found == ((24, 3), (0, 2), (0, 32), 3480, 3480));
+    check!(rt, 2; found == ((24, 3), (0, 2), (0, 32), 3480, 3480));
 }
 
 #[test]
 fn moduli() {
+    let rt = crate::runtime::HostRuntime;
     let found = (
         FixedMersenne32::<2, 1>::fixed_modulus(),
         FixedMersenne32::<32, 5>::fixed_modulus(),
@@ -46,41 +49,42 @@ fn moduli() {
         FixedMersenne64::<64, 59>::fixed_modulus(),
         FixedMersenne::<64, 59>::fixed_modulus(),
     );
-    assert!(
-        found
+    check!(&rt, 1; found
             == (
                 3,
                 4294967291,
                 2305843009213693951,
                 18446744073709551557,
                 18446744073709551557
-            )
-    );
+            ));
 }
 
 #[test]
 fn edge_parameters() {
+    let rt = crate::runtime::HostRuntime;
+    let rt = &rt;
     let found = edges::<u32, FixedMersenne32<2, 1>>(3, 2, u32::MAX);
-    assert!(found == [0, 1, 2, 0, 0, 1]);
+    check!(rt, 1; found == [0, 1, 2, 0, 0, 1]);
     let found = edges::<u32, FixedMersenne32<32, 5>>(4294967291, 4294967290, u32::MAX);
-    assert!(found == [0, 1, 4294967290, 0, 4, 1]);
+    check!(rt, 2; found == [0, 1, 4294967290, 0, 4, 1]);
     let (m, last) = (18446744073709551557, 18446744073709551556);
     let found = edges::<u64, FixedMersenne64<64, 59>>(m, last, u64::MAX);
-    assert!(found == [0, 1, 18446744073709551556, 0, 58, 1]);
+    check!(rt, 3; found == [0, 1, 18446744073709551556, 0, 58, 1]);
     let (m, last) = (18446744073709551557, 18446744073709551556);
     let found = edges::<u128, FixedMersenne<64, 59>>(m, last, u128::MAX);
-    assert!(found == [0, 1, 18446744073709551556, 0, 3480, 1]);
+    check!(rt, 4; found == [0, 1, 18446744073709551556, 0, 3480, 1]);
 }
 
 #[test]
 fn each_operation() {
+    let rt = crate::runtime::HostRuntime;
+    let rt = &rt;
     let found = residues_modulo::<u32, FixedMersenne32<13, 1>>(8191, 100, 200);
-    assert!(found == [300, 8091, 3618, 200, 8091, 1809]);
+    check!(rt, 1; found == [300, 8091, 3618, 200, 8091, 1809]);
     let found = residues_modulo::<u32, FixedMersenne32<4, 7>>(9, 5, 7);
-    assert!(found == [3, 7, 8, 1, 4, 7]);
+    check!(rt, 2; found == [3, 7, 8, 1, 4, 7]);
     let found = residues_modulo::<u64, FixedMersenne64<61, 1>>(2305843009213693951, 1000, 2000);
-    assert!(
-        found
+    check!(rt, 3; found
             == [
                 3000,
                 2305843009213692951,
@@ -88,23 +92,24 @@ fn each_operation() {
                 2000,
                 2305843009213692951,
                 1000000
-            ]
-    );
+            ]);
     let found = residues_modulo::<u128, FixedMersenne<31, 1>>(2147483647, 1000, 2000);
-    assert!(found == [3000, 2147482647, 2000000, 2000, 2147482647, 1000000]);
+    check!(rt, 4; found == [3000, 2147482647, 2000000, 2000, 2147482647, 1000000]);
 }
 
 #[test]
 fn checks_and_inverses() {
+    let rt = crate::runtime::HostRuntime;
+    let rt = &rt;
     type Small = FixedMersenne32<4, 1>;
-    assert!(inverse::<u32, Small>(15, 7) == Some(13));
-    assert!(inverse::<u32, Small>(15, 5) == None);
-    assert!(checks::<u32, Small>(15, 14, 15, 30) == [true, false, true]);
+    check!(rt, 1; inverse::<u32, Small>(15, 7) == Some(13));
+    check!(rt, 2; inverse::<u32, Small>(15, 5) == None);
+    check!(rt, 3; checks::<u32, Small>(15, 14, 15, 30) == [true, false, true]);
     type Wide = FixedMersenne<4, 1>;
-    assert!(inverse::<u128, Wide>(15, 7) == Some(13));
-    assert!(inverse::<u128, Wide>(15, 5) == None);
-    assert!(checks::<u128, Wide>(15, 14, 15, 30) == [true, false, true]);
-    assert!(checks::<u128, Wide>(15, 14, u128::MAX, 30) == [true, false, true]);
+    check!(rt, 4; inverse::<u128, Wide>(15, 7) == Some(13));
+    check!(rt, 5; inverse::<u128, Wide>(15, 5) == None);
+    check!(rt, 6; checks::<u128, Wide>(15, 14, 15, 30) == [true, false, true]);
+    check!(rt, 7; checks::<u128, Wide>(15, 14, u128::MAX, 30) == [true, false, true]);
     type Middle = FixedMersenne64<64, 59>;
-    assert!(inverse::<u64, Middle>(18446744073709551557, 2) == Some(9223372036854775779));
+    check!(rt, 8; inverse::<u64, Middle>(18446744073709551557, 2) == Some(9223372036854775779));
 }

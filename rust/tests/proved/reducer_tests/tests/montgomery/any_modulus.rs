@@ -47,8 +47,9 @@ const REGISTERS: &[(u8, u8, u8, [u8; 5], [u8; 5])] = &[
 
 #[test]
 fn five_registers() {
+    let rt = crate::runtime::HostRuntime;
     for &(m, v, exp, forms, residues) in REGISTERS {
-        assert!(m > 0 && registers::<Montgomery<u8>>(m, v, exp) == (forms, residues));
+        check!(&rt, 1; m > 0 && registers::<Montgomery<u8>>(m, v, exp) == (forms, residues));
     }
 }
 
@@ -63,12 +64,14 @@ const FORMS: &[(u8, [u8; 3], [u8; 3])] = &[(21, [5, 7, 17], [20, 7, 5]), (1, [25
 
 #[test]
 fn forms_of_words() {
+    let rt = crate::runtime::HostRuntime;
+    let rt = &rt;
     for &(m, words, want) in FORMS {
-        assert!(m > 0 && forms::<Montgomery<u8>>(m, words) == want);
+        check!(rt, 1; m > 0 && forms::<Montgomery<u8>>(m, words) == want);
     }
     let ring = Montgomery::<u8>::new(128);
     for v in 0..128 {
-        assert!(ring.transform(v) == v);
+        check!(rt, 2; ring.transform(v) == v);
     }
 }
 
@@ -81,8 +84,9 @@ const INVERSES: &[(u8, u8, Option<u8>)] = &[
 
 #[test]
 fn inverses() {
+    let rt = crate::runtime::HostRuntime;
     for &(m, x, want) in INVERSES {
-        assert!(m > 0 && inverse::<u8, Montgomery<u8>>(m, x) == want);
+        check!(&rt, 1; m > 0 && inverse::<u8, Montgomery<u8>>(m, x) == want);
     }
 }
 
@@ -94,14 +98,16 @@ fn sum_is_zero<R: Reducer<u8> + Copy>(m: u8, x: u8, y: u8) -> bool {
 
 #[test]
 fn sums_of_zero() {
-    assert!(sum_is_zero::<Montgomery<u8>>(11, 5, 6));
-    assert!(!sum_is_zero::<Montgomery<u8>>(11, 5, 7));
+    let rt = crate::runtime::HostRuntime;
+    let rt = &rt;
+    check!(rt, 1; sum_is_zero::<Montgomery<u8>>(11, 5, 6));
+    check!(rt, 2; !sum_is_zero::<Montgomery<u8>>(11, 5, 7));
 }
 
 // The modulus, two factors and the residue of their product.
 fn assert_products<T: PlainWord>(rt: &impl Abort, rows: &[(T, T, T, T)]) {
     for &(m, x, y, want) in rows {
-        assert!(!m.is_zero_word() && product::<T, Montgomery<T>>(m, x, y) == want);
+        check!(rt, 1; !m.is_zero_word() && product::<T, Montgomery<T>>(m, x, y) == want);
     }
 }
 
@@ -133,11 +139,12 @@ const PRODUCTS_OF_64_BITS: &[(u64, u64, u64, u64)] = &[
 #[test]
 fn products_at_each_width() {
     let rt = crate::runtime::HostRuntime;
-    assert_products::<u8>(&rt, &[(5, 12, 13, 1)]);
-    assert_products::<u16>(&rt, PRODUCTS_OF_16_BITS);
-    assert_products::<u32>(&rt, PRODUCTS_OF_32_BITS);
-    assert_products::<u64>(&rt, PRODUCTS_OF_64_BITS);
-    assert_products::<usize>(&rt, &[(3, 5, 7, 2), (6, 5, 7, 5)]);
+    let rt = &rt;
+    assert_products::<u8>(rt, &[(5, 12, 13, 1)]);
+    assert_products::<u16>(rt, PRODUCTS_OF_16_BITS);
+    assert_products::<u32>(rt, PRODUCTS_OF_32_BITS);
+    assert_products::<u64>(rt, PRODUCTS_OF_64_BITS);
+    assert_products::<usize>(rt, &[(3, 5, 7, 2), (6, 5, 7, 5)]);
 }
 
 // The forms of two numbers and of their product.
@@ -156,20 +163,23 @@ const PRODUCT_FORMS: &[(u8, u8, u8, [u8; 3])] = &[
 
 #[test]
 fn even_moduli_of_bytes() {
+    let rt = crate::runtime::HostRuntime;
     for &(m, x, y, want) in PRODUCT_FORMS {
-        assert!(m > 0 && product_forms::<Montgomery<u8>>(m, x, y) == want);
+        check!(&rt, 1; m > 0 && product_forms::<Montgomery<u8>>(m, x, y) == want);
     }
 }
 
 #[test]
 fn each_modulus() {
+    let rt = crate::runtime::HostRuntime;
+    let rt = &rt;
     for m in 1..=255u8 {
         let ring = Montgomery::<u8>::new(m);
-        assert!(ring.modulus() == m);
+        check!(rt, 1; ring.modulus() == m);
         for x in [0, 1, 2, 84, 127, 128, 254, 255] {
-            assert!(ring.check(&x) == (x < m));
+            check!(rt, 2; ring.check(&x) == (x < m));
             for y in [0, 1, 3, 85, 126, 129, 253, 255] {
-                assert!(agree(&ring, m, x, y));
+                check!(rt, 3; agree(&ring, m, x, y));
             }
         }
     }

@@ -12,62 +12,73 @@ fn sum<T: RingWord, R: Reducer<T> + Copy>(m: T, x: T, y: T) -> T {
 
 #[test]
 fn small_moduli() {
-    assert!(sum::<u32, FixedProth32<4, 1>>(17, 3, 5) == 8);
-    assert!(product::<u32, FixedProth32<4, 1>>(17, 3, 5) == 15);
-    assert!(product::<u64, FixedProth64<5, 3>>(97, 10, 20) == 6);
+    let rt = crate::runtime::HostRuntime;
+    let rt = &rt;
+    check!(rt, 1; sum::<u32, FixedProth32<4, 1>>(17, 3, 5) == 8);
+    check!(rt, 2; product::<u32, FixedProth32<4, 1>>(17, 3, 5) == 15);
+    check!(rt, 3; product::<u64, FixedProth64<5, 3>>(97, 10, 20) == 6);
 }
 
 #[test]
 fn fixed_moduli() {
+    let rt = crate::runtime::HostRuntime;
+    let rt = &rt;
     let found = [
         FixedProth32::<4, 1>::fixed_modulus(),
         FixedProth32::<1, 1>::fixed_modulus(),
         FixedProth32::<23, 255>::fixed_modulus(),
     ];
-    assert!(found == [17, 3, 2139095041]);
-    assert!(FixedProth64::<5, 3>::fixed_modulus() == 97);
+    check!(rt, 1; found == [17, 3, 2139095041]);
+    check!(rt, 2; FixedProth64::<5, 3>::fixed_modulus() == 97);
 }
 
 #[test]
 fn reductions_with_a_carry() {
+    let rt = crate::runtime::HostRuntime;
+    let rt = &rt;
     let ring = FixedProth32::<27, 17>::new(&2281701377);
-    assert!(remainder(&ring, 4294967295) == 2013265918);
+    check!(rt, 1; remainder(&ring, 4294967295) == 2013265918);
     // (m - 1) * 2^32 + m: the sum is (2 * m - 1) * 2^32, which overflows 64 bits
-    assert!(ring.reduce(9799832791439900673) == 2281701376);
+    check!(rt, 2; ring.reduce(9799832791439900673) == 2281701376);
     let ring = FixedProth32::<28, 9>::new(&2415919105);
     let found = (ring.transform(4294967292), remainder(&ring, 4294967292));
-    assert!(found == (2028179012, 1879048187));
+    check!(rt, 3; found == (2028179012, 1879048187));
 }
 
 #[test]
 fn one_over_half_the_base() {
+    let rt = crate::runtime::HostRuntime;
+    let rt = &rt;
     let ring = FixedProth32::<31, 1>::new(&2147483649);
     let found = (ring.transform(4294967295), remainder(&ring, 4294967295));
-    assert!(found == (6, 2147483646));
+    check!(rt, 1; found == (6, 2147483646));
     let ring = FixedProth64::<63, 1>::new(&9223372036854775809);
     let found = (
         ring.transform(18446744073709551615),
         remainder(&ring, 18446744073709551615),
     );
-    assert!(found == (6, 9223372036854775806));
+    check!(rt, 2; found == (6, 9223372036854775806));
 }
 
 #[test]
 fn edges_of_the_range_of_32_bits() {
+    let rt = crate::runtime::HostRuntime;
+    let rt = &rt;
     let found = edges::<u32, FixedProth32<1, 1>>(3, 2, 4294967295);
-    assert!(found == [0, 1, 2, 0, 0, 1]);
+    check!(rt, 1; found == [0, 1, 2, 0, 0, 1]);
     let found = edges::<u32, FixedProth32<23, 255>>(2139095041, 2139095040, 4294967295);
-    assert!(found == [0, 1, 2139095040, 0, 16777213, 1]);
+    check!(rt, 2; found == [0, 1, 2139095040, 0, 16777213, 1]);
     let found = edges::<u32, FixedProth32<31, 1>>(2147483649, 2147483648, 4294967295);
-    assert!(found == [0, 1, 2147483648, 0, 2147483646, 1]);
+    check!(rt, 3; found == [0, 1, 2147483648, 0, 2147483646, 1]);
     let found = edges::<u32, FixedProth32<28, 9>>(2415919105, 2415919104, 4294967295);
-    assert!(found == [0, 1, 2415919104, 0, 1879048190, 1]);
+    check!(rt, 4; found == [0, 1, 2415919104, 0, 1879048190, 1]);
 }
 
 #[test]
 fn edges_of_the_range_of_64_bits() {
+    let rt = crate::runtime::HostRuntime;
     let m = 9223372036854775809;
     let last = 9223372036854775808;
     let found = edges::<u64, FixedProth64<63, 1>>(m, last, 18446744073709551615);
-    assert!(found == [0, 1, last, 0, 9223372036854775806, 1]);
+    check!(&rt, 1; found == [0, 1, last, 0, 9223372036854775806, 1]);
 }

@@ -14,46 +14,50 @@ fn power<T: RingWord, R: Reducer<T>>(r: &R, n: T, exp: T) -> T {
 #[test]
 fn rows() {
     let rt = crate::runtime::HostRuntime;
+    let rt = &rt;
     let ring = PreMulInv2by1::<u8>::new(21);
     let found = (
         (ring.divisor(), ring.modulus(), ring.shift()),
         ring.divider().divisor(),
     );
-    assert!(found == ((168, 21, 3), 168));
+    check!(rt, 1; found == ((168, 21, 3), 168));
     let checks = [ring.check(&40), ring.check(&41), ring.check(&168)];
-    assert!(checks == [true, false, false]);
+    check!(rt, 2; checks == [true, false, false]);
     let found = (
         [ring.transform(5), ring.transform(7), ring.transform(17)],
         [inverse_residue(&ring, 5), inverse_residue(&ring, 7)],
         ring.is_zero(&ring.transform(42)),
     );
-    assert!(found == ([40, 56, 136], [Some(17), None], true));
+    check!(rt, 3; found == ([40, 56, 136], [Some(17), None], true));
     let copy = ring;
-    assert!(copy == ring);
+    check!(rt, 4; copy == ring);
     // the same divisor for another modulus
     let found = (
         ring == PreMulInv2by1::of(42),
         is_printed(rt.alloc(), &ring),
     );
-    assert!(found == (false, true));
+    check!(rt, 5; found == (false, true));
 }
 
 #[test]
 fn widest_words() {
+    let rt = crate::runtime::HostRuntime;
+    let rt = &rt;
     let last = u64::MAX - 1;
-    assert!(product::<u64, PreMulInv2by1<u64>>(u64::MAX, last, last) == 1);
+    check!(rt, 1; product::<u64, PreMulInv2by1<u64>>(u64::MAX, last, last) == 1);
     let ring = PreMulInv2by1::<usize>::new(1000);
-    assert!(power(&ring, 2, 10) == 24);
+    check!(rt, 2; power(&ring, 2, 10) == 24);
     let ring = PreMulInv2by1::<u32>::new(5000);
-    assert!(inverse_residue(&ring, 3) == Some(1667));
+    check!(rt, 3; inverse_residue(&ring, 3) == Some(1667));
     let ring = PreMulInv2by1::<u16>::new(7);
-    assert!(power(&ring, 255, 255) == 6);
+    check!(rt, 4; power(&ring, 255, 255) == 6);
 }
 
 // Each modulus has as many checked forms as values.
 #[test]
 fn forms_of_every_modulus() {
     let rt = crate::runtime::HostRuntime;
+    let rt = &rt;
     for m in 1..=255u8 {
         let ring = PreMulInv2by1::<u8>::new(m);
         let mut forms = 0u16;
@@ -61,9 +65,9 @@ fn forms_of_every_modulus() {
             if ring.check(&f) {
                 forms = forms.wrapping_add(1);
             }
-            assert_at(&rt, remainder(&ring, f) == f % m, &(f, m));
+            assert_at(rt, remainder(&ring, f) == f % m, &(f, m));
         }
-        assert_at(&rt, forms == m as u16, &m);
+        assert_at(rt, forms == m as u16, &m);
     }
 }
 

@@ -141,13 +141,15 @@ const ROWS_OF_8_BITS: [Row<u8>; 3] = [
 
 #[test]
 fn rows_at_each_width() {
+    let rt = crate::runtime::HostRuntime;
+    let rt = &rt;
     for row in ROWS_OF_8_BITS {
-        assert!(is_right(row));
+        check!(rt, 1; is_right(row));
     }
-    assert!(is_right(at_greatest_modulus!(u16)));
-    assert!(is_right(at_greatest_modulus!(u32)));
-    assert!(is_right(at_greatest_modulus!(u64)));
-    assert!(is_right(at_greatest_modulus!(usize)));
+    check!(rt, 2; is_right(at_greatest_modulus!(u16)));
+    check!(rt, 3; is_right(at_greatest_modulus!(u32)));
+    check!(rt, 4; is_right(at_greatest_modulus!(u64)));
+    check!(rt, 5; is_right(at_greatest_modulus!(usize)));
 }
 
 // An exponent, the power of 5 modulo 21 and the number of products.
@@ -204,9 +206,11 @@ fn same<T: RingWord, R: Reducer<T>>(r: &R, x: T, y: T) -> bool {
 
 #[test]
 fn laws() {
+    let rt = crate::runtime::HostRuntime;
+    let rt = &rt;
     let r = Vanilla::<u8>::new(&21);
-    assert!(laws_of_sums(&r, 20, 5, 19) == [(4, 4), (2, 2), (16, 0)]);
-    assert!(laws_of_products(&r, 20, 5, 19) == [(16, 16), (10, 10), (18, 18)]);
-    assert!(residue_by_form(&r, 255) == 3);
-    assert!(same(&r, 5, 5) && !same(&r, 5, 6));
+    check!(rt, 1; laws_of_sums(&r, 20, 5, 19) == [(4, 4), (2, 2), (16, 0)]);
+    check!(rt, 2; laws_of_products(&r, 20, 5, 19) == [(16, 16), (10, 10), (18, 18)]);
+    check!(rt, 3; residue_by_form(&r, 255) == 3);
+    check!(rt, 4; same(&r, 5, 5) && !same(&r, 5, 6));
 }
