@@ -1,5 +1,12 @@
 //! Runs of commands, the output and the exit status of the program, transforms compared with plain sums, and plans.
 
+// `assert!` writes the text of what it compares, which takes longer to prove than the rest of most tests.
+macro_rules! check {
+    ($rt:expr, $number:literal; $holds:expr) => {
+        crate::tests::assert_nth($rt, $number, $holds)
+    };
+}
+
 mod callers;
 mod commands;
 mod edges;
@@ -22,6 +29,11 @@ use std::process::Abort;
 /// Asserts that what is compared at these values holds; else prints the values.
 pub fn assert_at<V: Debug>(rt: &impl Abort, holds: bool, values: &V) {
     assert!(rt; holds, "{values:?}");
+}
+
+/// Asserts that the check of this number in a test holds; else prints the number.
+pub fn assert_nth(rt: &impl Abort, number: u32, holds: bool) {
+    assert!(rt; holds, "check {number}");
 }
 
 /// Asserts that no row is wrong; else prints the place of the first that is.

@@ -7,21 +7,23 @@ use std::test::Fail;
 
 #[test]
 fn a_run_is_refused_where_a_condition_fails(rt: HostRuntime) -> Result<(), Fail> {
+    let rt = &rt;
     let r = Vanilla::<u8>::new(&21);
     let mut regs = [0, 21, 0];
     let load = [RingCommand::Load { dst: 1, n: 5 }];
-    assert!(rt; checked_run(&r, &mut regs, &load) == None);
-    assert!(rt; regs[1] == 21);
+    check!(rt, 1; checked_run(&r, &mut regs, &load) == None);
+    check!(rt, 2; regs[1] == 21);
     regs[1] = 20;
     let above = [RingCommand::Load { dst: 3, n: 1 }];
-    assert!(rt; checked_run(&r, &mut regs, &above) == None);
-    assert!(rt; checked_run(&r, &mut regs, &load) == Some(RunEnd::Done));
-    assert!(rt; regs[1] == 5);
+    check!(rt, 3; checked_run(&r, &mut regs, &above) == None);
+    check!(rt, 4; checked_run(&r, &mut regs, &load) == Some(RunEnd::Done));
+    check!(rt, 5; regs[1] == 5);
     Ok(())
 }
 
 #[test]
 fn words_of_two_widths_run_alike(rt: HostRuntime) -> Result<(), Fail> {
+    let rt = &rt;
     let mut narrow = [0u8; 2];
     let mut wide = [0u64; 2];
     let ends = run_both(
@@ -38,9 +40,9 @@ fn words_of_two_widths_run_alike(rt: HostRuntime) -> Result<(), Fail> {
             RingCommand::Inv { dst: 1, a: 0 },
         ],
     );
-    assert!(rt; ends == (RunEnd::NoInverse { at: 1 }, RunEnd::NoInverse { at: 1 }));
-    assert!(rt; (narrow[0], wide[0]) == (7, 7));
-    assert!(rt; residue_by_run(&Vanilla::<u64>::new(&21), 100) == 16);
+    check!(rt, 1; ends == (RunEnd::NoInverse { at: 1 }, RunEnd::NoInverse { at: 1 }));
+    check!(rt, 2; (narrow[0], wide[0]) == (7, 7));
+    check!(rt, 3; residue_by_run(&Vanilla::<u64>::new(&21), 100) == 16);
     Ok(())
 }
 
@@ -55,6 +57,6 @@ fn a_list_that_needs_no_inverse_is_run_to_the_end(rt: HostRuntime) -> Result<(),
             RingCommand::Mul { dst: 1, a: 0, b: 0 },
         ],
     );
-    assert!(rt; (regs[0], regs[1]) == (5, 4));
+    check!(&rt, 1; (regs[0], regs[1]) == (5, 4));
     Ok(())
 }

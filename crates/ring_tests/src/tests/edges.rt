@@ -152,29 +152,32 @@ fn plain_reducers_of_32_bits(rt: HostRuntime) {
 
 #[test]
 fn a_modulus_of_32_bits_by_montgomery_forms(rt: HostRuntime) {
-    assert!(rt; shows_32::<FixedMontgomery32<1>>(1, &MODULO_1));
+    check!(&rt, 1; shows_32::<FixedMontgomery32<1>>(1, &MODULO_1));
 }
 
 #[test]
 fn moduli_of_32_bits_by_folds(rt: HostRuntime) {
-    assert!(rt; shows_32::<FixedTrinomialSolinas32<2, 1, -1>>(1, &MODULO_1));
-    assert!(rt; shows_32::<FixedTrinomialSolinas32<5, 4, -3>>(13, &MODULO_13));
-    assert!(rt; shows_32::<FixedTrinomialSolinas32<4, 2, 1>>(13, &MODULO_13));
-    assert!(rt; shows_32::<FixedTrinomialSolinas32<32, 31, -1>>(2147483647, &MODULO_2147483647));
+    let rt = &rt;
+    check!(rt, 1; shows_32::<FixedTrinomialSolinas32<2, 1, -1>>(1, &MODULO_1));
+    check!(rt, 2; shows_32::<FixedTrinomialSolinas32<5, 4, -3>>(13, &MODULO_13));
+    check!(rt, 3; shows_32::<FixedTrinomialSolinas32<4, 2, 1>>(13, &MODULO_13));
+    check!(rt, 4; shows_32::<FixedTrinomialSolinas32<32, 31, -1>>(2147483647, &MODULO_2147483647));
 }
 
 #[test]
 fn mersenne_numbers_of_32_bits(rt: HostRuntime) {
-    assert!(rt; shows_32::<FixedMersenne32<2, 1>>(3, &MODULO_3));
-    assert!(rt; shows_32::<FixedMersenne32<32, 5>>(4294967291, &MODULO_4294967291));
+    let rt = &rt;
+    check!(rt, 1; shows_32::<FixedMersenne32<2, 1>>(3, &MODULO_3));
+    check!(rt, 2; shows_32::<FixedMersenne32<32, 5>>(4294967291, &MODULO_4294967291));
 }
 
 #[test]
 fn proth_numbers_of_32_bits(rt: HostRuntime) {
-    assert!(rt; shows_32::<FixedProth32<1, 1>>(3, &MODULO_3));
-    assert!(rt; shows_32::<FixedProth32<23, 255>>(2139095041, &MODULO_2139095041));
-    assert!(rt; shows_32::<FixedProth32<31, 1>>(2147483649, &MODULO_2147483649));
-    assert!(rt; shows_32::<FixedProth32<28, 9>>(2415919105, &MODULO_2415919105));
+    let rt = &rt;
+    check!(rt, 1; shows_32::<FixedProth32<1, 1>>(3, &MODULO_3));
+    check!(rt, 2; shows_32::<FixedProth32<23, 255>>(2139095041, &MODULO_2139095041));
+    check!(rt, 3; shows_32::<FixedProth32<31, 1>>(2147483649, &MODULO_2147483649));
+    check!(rt, 4; shows_32::<FixedProth32<28, 9>>(2415919105, &MODULO_2415919105));
 }
 
 #[rattlefmt::skip]
@@ -206,42 +209,44 @@ fn plain_reducers_of_64_bits(rt: HostRuntime) {
 
 #[test]
 fn a_proth_number_of_64_bits(rt: HostRuntime) {
-    assert!(rt; shows_64::<FixedProth64<63, 1>>(9223372036854775809, &MODULO_9223372036854775809));
+    let rt = &rt;
+    check!(rt, 1; shows_64::<FixedProth64<63, 1>>(9223372036854775809, &MODULO_9223372036854775809));
     let ring = FixedProth64::<63, 1>::new(&9223372036854775809);
     // (m - 1) * 2^64 + m: the sum is (2 * m - 1) * 2^64, which overflows 128 bits
-    assert!(rt; ring.reduce(170141183460469231740910675752738881537) == 9223372036854775808);
+    check!(rt, 2; ring.reduce(170141183460469231740910675752738881537) == 9223372036854775808);
 }
 
 #[test]
 fn moduli_of_64_bits_by_folds(rt: HostRuntime) {
-    assert!(rt;
+    let rt = &rt;
+    check!(rt, 1;
         shows_64::<FixedTrinomialSolinas64<64, 32, 1>>(
             18446744069414584321,
             &MODULO_18446744069414584321
         )
     );
-    assert!(rt;
-        shows_64::<FixedMersenne64<64, 59>>(18446744073709551557, &MODULO_18446744073709551557)
-    );
+    check!(rt, 2; shows_64::<FixedMersenne64<64, 59>>(18446744073709551557, &MODULO_18446744073709551557));
 }
 
 // The commands with the greatest word of 64 bits, and the edges with that of 128.
 #[test]
 fn over_words_of_128_bits(rt: HostRuntime) {
+    let rt = &rt;
     let last = 18446744073709551556;
     let ring = FixedMersenne::<64, 59>::new(&18446744073709551557);
-    assert!(rt; edges(&ring, last, u128::MAX) == [0, 1, last, 0, 3480, 1]);
+    check!(rt, 1; edges(&ring, last, u128::MAX) == [0, 1, last, 0, 3480, 1]);
     let list = few_commands(last, u128::MAX);
-    assert!(rt; ends_with(&ring, &list, STOPPED_EARLY, [3480, last, 1, 0, 0]));
+    check!(rt, 2; ends_with(&ring, &list, STOPPED_EARLY, [3480, last, 1, 0, 0]));
     let list = commands(last, u64::MAX as u128);
     let residues = [0, last, 1, 59, 4959809447704153900];
-    assert!(rt; ends_with(&ring, &list, STOPPED, residues));
-    assert!(rt; ends_with(&ring, &list[..0], RunEnd::Done, [0; 5]));
+    check!(rt, 3; ends_with(&ring, &list, STOPPED, residues));
+    check!(rt, 4; ends_with(&ring, &list[..0], RunEnd::Done, [0; 5]));
 }
 
 #[test]
 fn the_empty_list(rt: HostRuntime) {
-    assert!(rt; ends_modulo::<u8, PreMulInv2by1<u8>, 5>(21, &[], RunEnd::Done, [0; 5]));
-    assert!(rt; ends_modulo::<u8, Montgomery<u8>, 5>(21, &[], RunEnd::Done, [0; 5]));
-    assert!(rt; ends_modulo::<u64, FixedMontgomery64<97>, 5>(97, &[], RunEnd::Done, [0; 5]));
+    let rt = &rt;
+    check!(rt, 1; ends_modulo::<u8, PreMulInv2by1<u8>, 5>(21, &[], RunEnd::Done, [0; 5]));
+    check!(rt, 2; ends_modulo::<u8, Montgomery<u8>, 5>(21, &[], RunEnd::Done, [0; 5]));
+    check!(rt, 3; ends_modulo::<u64, FixedMontgomery64<97>, 5>(97, &[], RunEnd::Done, [0; 5]));
 }

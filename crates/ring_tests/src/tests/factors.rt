@@ -7,17 +7,22 @@ use num_modular::plans::{Factor, PlanEntry, PlannedModulus};
 
 // Whether plans admit just those of these moduli that are marked.
 fn are_admitted<T: PlainWord>(rows: &[(T, bool)]) -> bool {
-    rows.iter()
-        .all(|&(m, admitted)| PlannedModulus::admits(m) == admitted)
+    for row in rows {
+        if PlannedModulus::admits(row.0) != row.1 {
+            return false;
+        }
+    }
+    true
 }
 
 #[test]
 fn admitted_moduli(rt: HostRuntime) {
-    assert!(rt; are_admitted(&[(16384_u16, true), (16385_u16, false)]));
-    assert!(rt; are_admitted(&[(8380417_u32, true)]));
+    let rt = &rt;
+    check!(rt, 1; are_admitted(&[(16384_u16, true), (16385_u16, false)]));
+    check!(rt, 2; are_admitted(&[(8380417_u32, true)]));
     let (most, more) = (1_u64 << 62, (1_u64 << 62) + 1);
-    assert!(rt; are_admitted(&[(0_u64, false), (1_u64, true), (most, true), (more, false)]));
-    assert!(rt; are_admitted(&[(usize::MAX, false)]));
+    check!(rt, 3; are_admitted(&[(0_u64, false), (1_u64, true), (most, true), (more, false)]));
+    check!(rt, 4; are_admitted(&[(usize::MAX, false)]));
 }
 
 // A modulus, a factor and a number; the factor's quotient, and the residue of the product.
@@ -42,7 +47,12 @@ fn is_right<T: PlainWord>(row: &Row<T>) -> bool {
 
 // The place of the first row that isn't so.
 fn first_wrong<T: PlainWord>(rows: &[Row<T>]) -> Option<usize> {
-    rows.iter().position(|row| !is_right(row))
+    for i in 0..rows.len() {
+        if !is_right(&rows[i]) {
+            return Some(i);
+        }
+    }
+    None
 }
 
 #[rattlefmt::skip]
@@ -72,8 +82,9 @@ const OF_A_USIZE: &[Row<usize>] = &[
 
 #[test]
 fn quotients_and_products(rt: HostRuntime) {
-    assert_right(&rt, first_wrong(OF_16_BITS));
-    assert_right(&rt, first_wrong(OF_32_BITS));
-    assert_right(&rt, first_wrong(OF_64_BITS));
-    assert_right(&rt, first_wrong(OF_A_USIZE));
+    let rt = &rt;
+    assert_right(rt, first_wrong(OF_16_BITS));
+    assert_right(rt, first_wrong(OF_32_BITS));
+    assert_right(rt, first_wrong(OF_64_BITS));
+    assert_right(rt, first_wrong(OF_A_USIZE));
 }

@@ -152,10 +152,11 @@ fn refuses_no_words(alloc: Global) -> bool {
 
 #[test]
 fn refuses_words(rt: HostRuntime) {
+    let rt = &rt;
     'rows: for typed in REFUSED {
-        assert_at(&rt, gives(rt.alloc(), typed, 2, "", USAGE), typed);
+        assert_at(rt, gives(rt.alloc(), typed, 2, "", USAGE), typed);
     }
-    assert!(rt; refuses_no_words(rt.alloc()));
+    check!(rt, 1; refuses_no_words(rt.alloc()));
 }
 
 // Whether a run returns 4 exactly where the write `refused` to one of its outputs fails, and then writes no more.
@@ -173,17 +174,18 @@ fn tells_a_refused_write(alloc: Global, typed: &str, refused: usize) -> bool {
 // Each write in turn fails, to either output; the last runs have no failure.
 #[test]
 fn refused_writes(rt: HostRuntime) {
+    let rt = &rt;
     let rows = [(MISSING_INVERSE, 1), ("vanilla 21", 0), ("vanilla", 2)];
     'rows: for (typed, status) in rows {
         'writes: for refused in 1..40 {
             let told = tells_a_refused_write(rt.alloc(), typed, refused);
-            assert_at(&rt, told, &(typed, refused));
+            assert_at(rt, told, &(typed, refused));
         }
         let mut out = Page::refusing(39);
         let mut err = Page::refusing(39);
         let found = run_typed(rt.alloc(), typed, &mut out, &mut err);
         let is_whole = found == status && out.writes < 39 && err.writes < 39;
-        assert_at(&rt, is_whole, &typed);
+        assert_at(rt, is_whole, &typed);
     }
 }
 
@@ -219,17 +221,19 @@ fn tries_memory(rt: &HostRuntime, words: &[&str], wanted: (u8, &str, &str)) -> i
 // it. `checks/refused-memory` does the same to the built program.
 #[test]
 fn refused_memory(rt: HostRuntime) -> io::Result<()> {
+    let rt = &rt;
     let (words, _) = words_of(MISSING_INVERSE);
     let wanted = (1, "5 7 17 0 0 0 0 0\n", "no inverse at command 3\n");
-    assert!(rt; tries_memory(&rt, &words[..6], wanted)?);
+    check!(rt, 1; tries_memory(rt, &words[..6], wanted)?);
     Ok(())
 }
 
 #[test]
 fn refused_memory_after_commands(rt: HostRuntime) -> io::Result<()> {
+    let rt = &rt;
     let mut words = ["sqr,0,0"; 11];
     words[0] = "vanilla";
     words[1] = "21";
-    assert!(rt; tries_memory(&rt, &words, (0, ZEROS, ""))?);
+    check!(rt, 1; tries_memory(rt, &words, (0, ZEROS, ""))?);
     Ok(())
 }

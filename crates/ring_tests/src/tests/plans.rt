@@ -229,9 +229,10 @@ const REMAINDERS: &[Row<u64>] = &[
 
 #[test]
 fn remainders(rt: HostRuntime) {
-    assert_right(&rt, first_wrong_16(&Call::Split, REMAINDERS_OF_16_BITS));
-    assert_right(&rt, first_wrong_32(&Call::Split, REMAINDERS_OF_32_BITS));
-    assert_right(&rt, first_wrong_64(&Call::Split, REMAINDERS));
+    let rt = &rt;
+    assert_right(rt, first_wrong_16(&Call::Split, REMAINDERS_OF_16_BITS));
+    assert_right(rt, first_wrong_32(&Call::Split, REMAINDERS_OF_32_BITS));
+    assert_right(rt, first_wrong_64(&Call::Split, REMAINDERS));
 }
 
 #[rattlefmt::skip]
@@ -293,9 +294,10 @@ const JOINS: &[Row<u64>] = &[
 
 #[test]
 fn joins(rt: HostRuntime) {
-    assert_right(&rt, first_wrong_16(&Call::Join, JOINS_OF_16_BITS));
-    assert_right(&rt, first_wrong_32(&Call::Join, JOINS_OF_32_BITS));
-    assert_right(&rt, first_wrong_64(&Call::Join, JOINS));
+    let rt = &rt;
+    assert_right(rt, first_wrong_16(&Call::Join, JOINS_OF_16_BITS));
+    assert_right(rt, first_wrong_32(&Call::Join, JOINS_OF_32_BITS));
+    assert_right(rt, first_wrong_64(&Call::Join, JOINS));
 }
 
 #[rattlefmt::skip]
@@ -310,8 +312,9 @@ const TIMES_0: &[Row<u64>] = &[
 
 #[test]
 fn scaled(rt: HostRuntime) {
-    assert_right(&rt, first_wrong_64(&Call::Scaled(15), TIMES_15));
-    assert_right(&rt, first_wrong_64(&Call::Scaled(0), TIMES_0));
+    let rt = &rt;
+    assert_right(rt, first_wrong_64(&Call::Scaled(15), TIMES_15));
+    assert_right(rt, first_wrong_64(&Call::Scaled(0), TIMES_0));
 }
 
 #[rattlefmt::skip]
@@ -345,9 +348,10 @@ const OTHER_LENGTHS: [Row<u32>; 2] = [
 
 #[test]
 fn natural_order(rt: HostRuntime) {
-    assert_right(&rt, first_wrong_16(&Call::InOrder, TRANSFORMS_OF_16_BITS));
-    assert_right(&rt, first_wrong_32(&Call::InOrder, TRANSFORMS_OF_32_BITS));
-    assert_right(&rt, first_wrong_64(&Call::InOrder, TRANSFORMS));
-    assert!(rt; first_wrong_32(&Call::InOrder, &OTHER_LENGTHS[..1]) == Some(0));
-    assert!(rt; first_wrong_32(&Call::InOrder, &OTHER_LENGTHS[1..]) == Some(0));
+    let rt = &rt;
+    assert_right(rt, first_wrong_16(&Call::InOrder, TRANSFORMS_OF_16_BITS));
+    assert_right(rt, first_wrong_32(&Call::InOrder, TRANSFORMS_OF_32_BITS));
+    assert_right(rt, first_wrong_64(&Call::InOrder, TRANSFORMS));
+    check!(rt, 1; first_wrong_32(&Call::InOrder, &OTHER_LENGTHS[..1]) == Some(0));
+    check!(rt, 2; first_wrong_32(&Call::InOrder, &OTHER_LENGTHS[1..]) == Some(0));
 }

@@ -46,7 +46,10 @@ fn called<T: PlainWord>(
     requires { All (IsFactorOf T.base T.number (T.number m.now.modulus)) table.now }
 {
     let (b, last) = block;
-    if xs.len() != ys.len() || !convolves(xs.len(), table.len(), b, last) {
+    if xs.len() != ys.len() {
+        return None;
+    }
+    if !convolves(xs.len(), table.len(), b, last) {
         return None;
     }
     if let Call::Multiply = call {
@@ -56,7 +59,10 @@ fn called<T: PlainWord>(
         multiply(m, xs, ys, table, b, last);
         return Some(true);
     }
-    if !all_in_room(m, xs) || !all_in_room(m, ys) {
+    if !all_in_room(m, xs) {
+        return None;
+    }
+    if !all_in_room(m, ys) {
         return None;
     }
     if b == 0 {
@@ -264,9 +270,10 @@ const PRODUCTS: &[Row<u64>] = &[
 
 #[test]
 fn products(rt: HostRuntime) {
-    assert_right(&rt, first_wrong_16(&Call::Convolve, PRODUCTS_OF_16_BITS));
-    assert_right(&rt, first_wrong_32(&Call::Convolve, PRODUCTS_OF_32_BITS));
-    assert_right(&rt, first_wrong_64(&Call::Convolve, PRODUCTS));
+    let rt = &rt;
+    assert_right(rt, first_wrong_16(&Call::Convolve, PRODUCTS_OF_16_BITS));
+    assert_right(rt, first_wrong_32(&Call::Convolve, PRODUCTS_OF_32_BITS));
+    assert_right(rt, first_wrong_64(&Call::Convolve, PRODUCTS));
 }
 
 // Two blocks, which 2 divides modulo no even number.
@@ -288,5 +295,5 @@ fn refused_products(rt: HostRuntime) {
         &mut first,
         &mut second,
     );
-    assert!(rt; found == Some(false));
+    check!(&rt, 1; found == Some(false));
 }

@@ -73,7 +73,7 @@ const MODULO_21: Row<3> = Row { m: 21, commands: &STOPPING, end: RunEnd::NoInver
 
 #[test]
 fn a_missing_inverse_modulo_21(rt: HostRuntime) {
-    assert!(rt; is_right(&MODULO_21));
+    check!(&rt, 1; is_right(&MODULO_21));
 }
 
 const COMMANDS_MODULO_1: [RingCommand<u8>; 2] = [
@@ -87,7 +87,7 @@ const MODULO_1: Row<3> = Row { m: 1, commands: &COMMANDS_MODULO_1, end: RunEnd::
 
 #[test]
 fn the_ring_of_one_value(rt: HostRuntime) {
-    assert!(rt; is_right(&MODULO_1));
+    check!(&rt, 1; is_right(&MODULO_1));
 }
 
 // The residue of a + b, as a result and in place.
@@ -178,7 +178,7 @@ fn each_call_of_a_reducer(rt: HostRuntime) {
         tests_of_calls(&odd, 7),
         (plain.modulus(), scaled.modulus(), odd.modulus()),
     );
-    assert!(rt;
+    check!(&rt, 1;
         found
             == (
                 residues,
@@ -194,9 +194,10 @@ fn each_call_of_a_reducer(rt: HostRuntime) {
 
 #[test]
 fn a_difference_times_a_factor(rt: HostRuntime) {
-    assert!(rt; product_of_difference::<u8, PreMulInv2by1<u8>>(21, 5, 7) == 11);
-    assert!(rt; product_of_difference::<u8, Montgomery<u8>>(21, 5, 7) == 11);
-    assert!(rt; product_of_difference::<u8, Montgomery<u8>>(20, 5, 7) == 10);
-    assert!(rt; product_of_difference::<u64, Montgomery<u64>>(u64::MAX, 5, 7) == u64::MAX - 10);
-    assert!(rt; product_of_difference::<u64, Montgomery<u64>>(u64::MAX, 7, 5) == 14);
+    let rt = &rt;
+    check!(rt, 1; product_of_difference::<u8, PreMulInv2by1<u8>>(21, 5, 7) == 11);
+    check!(rt, 2; product_of_difference::<u8, Montgomery<u8>>(21, 5, 7) == 11);
+    check!(rt, 3; product_of_difference::<u8, Montgomery<u8>>(20, 5, 7) == 10);
+    check!(rt, 4; product_of_difference::<u64, Montgomery<u64>>(u64::MAX, 5, 7) == u64::MAX - 10);
+    check!(rt, 5; product_of_difference::<u64, Montgomery<u64>>(u64::MAX, 7, 5) == 14);
 }

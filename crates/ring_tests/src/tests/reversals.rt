@@ -11,6 +11,29 @@ fn number(places: &mut [usize]) {
     }
 }
 
+// Whether each place has its number with the lowest bits in the opposite order.
+fn have_reversed(places: &[usize], bits: u32) -> bool
+    requires some { 0 < bits }
+    requires few { bits ≤ 64 }
+{
+    for i in 0..places.len() {
+        if places[i] != i.reverse_bits() >> (64 - bits) {
+            return false;
+        }
+    }
+    true
+}
+
+// Whether these places have these numbers.
+fn have(places: &[usize], some: &[(usize, usize)]) -> bool {
+    for &(place, number) in some {
+        if place >= places.len() || places[place] != number {
+            return false;
+        }
+    }
+    true
+}
+
 // Whether each place gets its number with the lowest bits in the opposite order, and these places get these numbers.
 fn are_reversed(places: &mut [usize], bits: u32, some: &[(usize, usize)]) -> bool
     requires some { 0 < bits }
@@ -19,34 +42,30 @@ fn are_reversed(places: &mut [usize], bits: u32, some: &[(usize, usize)]) -> boo
 {
     number(places);
     reverse_places(places, bits);
-    places
-        .iter()
-        .enumerate()
-        .all(|(i, number)| *number == i.reverse_bits() >> (64 - bits))
-        && some
-            .iter()
-            .all(|&(place, number)| places.get(place) == Some(&number))
+    have_reversed(places, bits) && have(places, some)
 }
 
 #[test]
 fn below_a_tile(rt: HostRuntime) {
+    let rt = &rt;
     let mut one = [7];
     reverse_places(&mut one, 0);
-    assert!(rt; one[0] == 7);
-    assert!(rt; are_reversed(&mut [0; 2], 1, &[]));
-    assert!(rt; are_reversed(&mut [0; 32], 5, &[(1, 16), (6, 12), (31, 31)]));
+    check!(rt, 1; one[0] == 7);
+    check!(rt, 2; are_reversed(&mut [0; 2], 1, &[]));
+    check!(rt, 3; are_reversed(&mut [0; 32], 5, &[(1, 16), (6, 12), (31, 31)]));
 }
 
 #[test]
 fn one_tile(rt: HostRuntime) {
-    assert!(rt; are_reversed(&mut [0; 64], 6, &[(1, 32), (8, 4), (62, 31)]));
+    check!(&rt, 1; are_reversed(&mut [0; 64], 6, &[(1, 32), (8, 4), (62, 31)]));
 }
 
 #[test]
 fn some_tiles(rt: HostRuntime) {
-    assert!(rt; are_reversed(&mut [0; 128], 7, &[]));
-    assert!(rt; are_reversed(&mut [0; 256], 8, &[]));
-    assert!(rt;
+    let rt = &rt;
+    check!(rt, 1; are_reversed(&mut [0; 128], 7, &[]));
+    check!(rt, 2; are_reversed(&mut [0; 256], 8, &[]));
+    check!(rt, 3;
         are_reversed(
             &mut [0; 512],
             9,

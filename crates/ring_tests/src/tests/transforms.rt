@@ -169,7 +169,7 @@ fn without_a_count(rt: HostRuntime) {
     if root_fits(&r, &g, 4) && all_checked(&r, &xs) {
         ntt(&r, &mut xs, &g);
     }
-    assert!(rt; xs == [10, 7, 15, 6]);
+    check!(&rt, 1; xs == [10, 7, 15, 6]);
 }
 
 // A modulus, a root of so many entries, and two lists that begin with as many.
@@ -258,7 +258,7 @@ fn plain_sums_modulo_17(rt: HostRuntime) {
         lists.first[i] = VALUES[i];
         lists.second[i] = OTHERS[i];
     }
-    assert!(rt; are_sums(&Vanilla::<u64>::new(&17), &lists, &plain_sums(&lists)));
+    check!(&rt, 1; are_sums(&Vanilla::<u64>::new(&17), &lists, &plain_sums(&lists)));
 }
 
 // The modulus 2^64 - 2^32 + 1, whose units have the order 2^32 * (2^32 - 1), with the generator 7.

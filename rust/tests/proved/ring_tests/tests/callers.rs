@@ -7,21 +7,25 @@ use crate::runtime::Fail;
 
 #[test]
 fn a_run_is_refused_where_a_condition_fails() -> Result<(), Fail> {
+    let rt = crate::runtime::HostRuntime;
+    let rt = &rt;
     let r = Vanilla::<u8>::new(&21);
     let mut regs = [0, 21, 0];
     let load = [RingCommand::Load { dst: 1, n: 5 }];
-    assert!(checked_run(&r, &mut regs, &load) == None);
-    assert!(regs[1] == 21);
+    check!(rt, 1; checked_run(&r, &mut regs, &load) == None);
+    check!(rt, 2; regs[1] == 21);
     regs[1] = 20;
     let above = [RingCommand::Load { dst: 3, n: 1 }];
-    assert!(checked_run(&r, &mut regs, &above) == None);
-    assert!(checked_run(&r, &mut regs, &load) == Some(RunEnd::Done));
-    assert!(regs[1] == 5);
+    check!(rt, 3; checked_run(&r, &mut regs, &above) == None);
+    check!(rt, 4; checked_run(&r, &mut regs, &load) == Some(RunEnd::Done));
+    check!(rt, 5; regs[1] == 5);
     Ok(())
 }
 
 #[test]
 fn words_of_two_widths_run_alike() -> Result<(), Fail> {
+    let rt = crate::runtime::HostRuntime;
+    let rt = &rt;
     let mut narrow = [0u8; 2];
     let mut wide = [0u64; 2];
     let ends = run_both(
@@ -38,14 +42,15 @@ fn words_of_two_widths_run_alike() -> Result<(), Fail> {
             RingCommand::Inv { dst: 1, a: 0 },
         ],
     );
-    assert!(ends == (RunEnd::NoInverse { at: 1 }, RunEnd::NoInverse { at: 1 }));
-    assert!((narrow[0], wide[0]) == (7, 7));
-    assert!(residue_by_run(&Vanilla::<u64>::new(&21), 100) == 16);
+    check!(rt, 1; ends == (RunEnd::NoInverse { at: 1 }, RunEnd::NoInverse { at: 1 }));
+    check!(rt, 2; (narrow[0], wide[0]) == (7, 7));
+    check!(rt, 3; residue_by_run(&Vanilla::<u64>::new(&21), 100) == 16);
     Ok(())
 }
 
 #[test]
 fn a_list_that_needs_no_inverse_is_run_to_the_end() -> Result<(), Fail> {
+    let rt = crate::runtime::HostRuntime;
     let mut regs = [0u8; 2];
     run_to_the_end(
         &Vanilla::<u8>::new(&21),
@@ -55,6 +60,6 @@ fn a_list_that_needs_no_inverse_is_run_to_the_end() -> Result<(), Fail> {
             RingCommand::Mul { dst: 1, a: 0, b: 0 },
         ],
     );
-    assert!((regs[0], regs[1]) == (5, 4));
+    check!(&rt, 1; (regs[0], regs[1]) == (5, 4));
     Ok(())
 }

@@ -81,10 +81,12 @@ const TOO_LARGE: &[RingCommand<u8>] = &[
 
 #[test]
 fn the_conditions_are_told() {
-    assert!(commands_fit::<u8>(&[], 0));
+    let rt = crate::runtime::HostRuntime;
+    let rt = &rt;
+    check!(rt, 1; commands_fit::<u8>(&[], 0));
     'commands: for &command in TOO_LARGE {
-        assert!(!commands_fit(&[command], 3) && commands_fit(&[command], 4));
+        check!(rt, 2; !commands_fit(&[command], 3) && commands_fit(&[command], 4));
     }
     let r = Vanilla::<u8>::new(&21);
-    assert!(all_checked(&r, &[]) && all_checked(&r, &[20]) && !all_checked(&r, &[21]));
+    check!(rt, 3; all_checked(&r, &[]) && all_checked(&r, &[20]) && !all_checked(&r, &[21]));
 }

@@ -139,29 +139,36 @@ fn plain_reducers_of_32_bits() {
 
 #[test]
 fn a_modulus_of_32_bits_by_montgomery_forms() {
-    assert!(shows_32::<FixedMontgomery32<1>>(1, &MODULO_1));
+    let rt = crate::runtime::HostRuntime;
+    check!(&rt, 1; shows_32::<FixedMontgomery32<1>>(1, &MODULO_1));
 }
 
 #[test]
 fn moduli_of_32_bits_by_folds() {
-    assert!(shows_32::<FixedTrinomialSolinas32<2, 1, -1>>(1, &MODULO_1));
-    assert!(shows_32::<FixedTrinomialSolinas32<5, 4, -3>>(13, &MODULO_13));
-    assert!(shows_32::<FixedTrinomialSolinas32<4, 2, 1>>(13, &MODULO_13));
-    assert!(shows_32::<FixedTrinomialSolinas32<32, 31, -1>>(2147483647, &MODULO_2147483647));
+    let rt = crate::runtime::HostRuntime;
+    let rt = &rt;
+    check!(rt, 1; shows_32::<FixedTrinomialSolinas32<2, 1, -1>>(1, &MODULO_1));
+    check!(rt, 2; shows_32::<FixedTrinomialSolinas32<5, 4, -3>>(13, &MODULO_13));
+    check!(rt, 3; shows_32::<FixedTrinomialSolinas32<4, 2, 1>>(13, &MODULO_13));
+    check!(rt, 4; shows_32::<FixedTrinomialSolinas32<32, 31, -1>>(2147483647, &MODULO_2147483647));
 }
 
 #[test]
 fn mersenne_numbers_of_32_bits() {
-    assert!(shows_32::<FixedMersenne32<2, 1>>(3, &MODULO_3));
-    assert!(shows_32::<FixedMersenne32<32, 5>>(4294967291, &MODULO_4294967291));
+    let rt = crate::runtime::HostRuntime;
+    let rt = &rt;
+    check!(rt, 1; shows_32::<FixedMersenne32<2, 1>>(3, &MODULO_3));
+    check!(rt, 2; shows_32::<FixedMersenne32<32, 5>>(4294967291, &MODULO_4294967291));
 }
 
 #[test]
 fn proth_numbers_of_32_bits() {
-    assert!(shows_32::<FixedProth32<1, 1>>(3, &MODULO_3));
-    assert!(shows_32::<FixedProth32<23, 255>>(2139095041, &MODULO_2139095041));
-    assert!(shows_32::<FixedProth32<31, 1>>(2147483649, &MODULO_2147483649));
-    assert!(shows_32::<FixedProth32<28, 9>>(2415919105, &MODULO_2415919105));
+    let rt = crate::runtime::HostRuntime;
+    let rt = &rt;
+    check!(rt, 1; shows_32::<FixedProth32<1, 1>>(3, &MODULO_3));
+    check!(rt, 2; shows_32::<FixedProth32<23, 255>>(2139095041, &MODULO_2139095041));
+    check!(rt, 3; shows_32::<FixedProth32<31, 1>>(2147483649, &MODULO_2147483649));
+    check!(rt, 4; shows_32::<FixedProth32<28, 9>>(2415919105, &MODULO_2415919105));
 }
 
 const MODULO_9223372036854775809: Row<u64> = Row { m: 9223372036854775809, last: 9223372036854775808,
@@ -191,42 +198,48 @@ fn plain_reducers_of_64_bits() {
 
 #[test]
 fn a_proth_number_of_64_bits() {
-    assert!(shows_64::<FixedProth64<63, 1>>(9223372036854775809, &MODULO_9223372036854775809));
+    let rt = crate::runtime::HostRuntime;
+    let rt = &rt;
+    check!(rt, 1; shows_64::<FixedProth64<63, 1>>(9223372036854775809, &MODULO_9223372036854775809));
     let ring = FixedProth64::<63, 1>::new(&9223372036854775809);
     // (m - 1) * 2^64 + m: the sum is (2 * m - 1) * 2^64, which overflows 128 bits
-    assert!(ring.reduce(170141183460469231740910675752738881537) == 9223372036854775808);
+    check!(rt, 2; ring.reduce(170141183460469231740910675752738881537) == 9223372036854775808);
 }
 
 #[test]
 fn moduli_of_64_bits_by_folds() {
-    assert!(
+    let rt = crate::runtime::HostRuntime;
+    let rt = &rt;
+    check!(rt, 1;
         shows_64::<FixedTrinomialSolinas64<64, 32, 1>>(
             18446744069414584321,
             &MODULO_18446744069414584321
         )
     );
-    assert!(
-        shows_64::<FixedMersenne64<64, 59>>(18446744073709551557, &MODULO_18446744073709551557)
-    );
+    check!(rt, 2; shows_64::<FixedMersenne64<64, 59>>(18446744073709551557, &MODULO_18446744073709551557));
 }
 
 // The commands with the greatest word of 64 bits, and the edges with that of 128.
 #[test]
 fn over_words_of_128_bits() {
+    let rt = crate::runtime::HostRuntime;
+    let rt = &rt;
     let last = 18446744073709551556;
     let ring = FixedMersenne::<64, 59>::new(&18446744073709551557);
-    assert!(edges(&ring, last, u128::MAX) == [0, 1, last, 0, 3480, 1]);
+    check!(rt, 1; edges(&ring, last, u128::MAX) == [0, 1, last, 0, 3480, 1]);
     let list = few_commands(last, u128::MAX);
-    assert!(ends_with(&ring, &list, STOPPED_EARLY, [3480, last, 1, 0, 0]));
+    check!(rt, 2; ends_with(&ring, &list, STOPPED_EARLY, [3480, last, 1, 0, 0]));
     let list = commands(last, u64::MAX as u128);
     let residues = [0, last, 1, 59, 4959809447704153900];
-    assert!(ends_with(&ring, &list, STOPPED, residues));
-    assert!(ends_with(&ring, &list[..0], RunEnd::Done, [0; 5]));
+    check!(rt, 3; ends_with(&ring, &list, STOPPED, residues));
+    check!(rt, 4; ends_with(&ring, &list[..0], RunEnd::Done, [0; 5]));
 }
 
 #[test]
 fn the_empty_list() {
-    assert!(ends_modulo::<u8, PreMulInv2by1<u8>, 5>(21, &[], RunEnd::Done, [0; 5]));
-    assert!(ends_modulo::<u8, Montgomery<u8>, 5>(21, &[], RunEnd::Done, [0; 5]));
-    assert!(ends_modulo::<u64, FixedMontgomery64<97>, 5>(97, &[], RunEnd::Done, [0; 5]));
+    let rt = crate::runtime::HostRuntime;
+    let rt = &rt;
+    check!(rt, 1; ends_modulo::<u8, PreMulInv2by1<u8>, 5>(21, &[], RunEnd::Done, [0; 5]));
+    check!(rt, 2; ends_modulo::<u8, Montgomery<u8>, 5>(21, &[], RunEnd::Done, [0; 5]));
+    check!(rt, 3; ends_modulo::<u64, FixedMontgomery64<97>, 5>(97, &[], RunEnd::Done, [0; 5]));
 }

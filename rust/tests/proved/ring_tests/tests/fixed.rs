@@ -19,11 +19,13 @@ const SMALL: [RingCommand<u32>; 5] = [
 
 #[test]
 fn modulo_17() {
+    let rt = crate::runtime::HostRuntime;
+    let rt = &rt;
     let end = RunEnd::NoInverse { at: 4 };
     let residues = [3, 5, 8, 15, 0];
-    assert!(ends_modulo::<u32, FixedMontgomery32<17>, 5>(17, &SMALL, end, residues));
-    assert!(ends_modulo::<u32, FixedProth32<4, 1>, 5>(17, &SMALL, end, residues));
-    assert!(ends_modulo::<u32, Vanilla<u32>, 5>(17, &SMALL, end, residues));
+    check!(rt, 1; ends_modulo::<u32, FixedMontgomery32<17>, 5>(17, &SMALL, end, residues));
+    check!(rt, 2; ends_modulo::<u32, FixedProth32<4, 1>, 5>(17, &SMALL, end, residues));
+    check!(rt, 3; ends_modulo::<u32, Vanilla<u32>, 5>(17, &SMALL, end, residues));
 }
 
 // 10, 20 and their product.
@@ -35,39 +37,47 @@ const PRODUCT: [RingCommand<u64>; 3] = [
 
 #[test]
 fn modulo_97() {
+    let rt = crate::runtime::HostRuntime;
+    let rt = &rt;
     let residues = [10, 20, 6, 0, 0];
-    assert!(ends_modulo::<u64, FixedMontgomery64<97>, 5>(97, &PRODUCT, RunEnd::Done, residues));
-    assert!(ends_modulo::<u64, FixedProth64<5, 3>, 5>(97, &PRODUCT, RunEnd::Done, residues));
+    check!(rt, 1; ends_modulo::<u64, FixedMontgomery64<97>, 5>(97, &PRODUCT, RunEnd::Done, residues));
+    check!(rt, 2; ends_modulo::<u64, FixedProth64<5, 3>, 5>(97, &PRODUCT, RunEnd::Done, residues));
 }
 
 #[test]
 fn fixed_moduli() {
+    let rt = crate::runtime::HostRuntime;
+    let rt = &rt;
     let found = [
         FixedMontgomery32::<17>::fixed_modulus(),
         FixedProth32::<4, 1>::fixed_modulus(),
     ];
-    assert!(found == [17, 17]);
+    check!(rt, 1; found == [17, 17]);
     let found = [
         FixedMontgomery64::<97>::fixed_modulus(),
         FixedProth64::<5, 3>::fixed_modulus(),
     ];
-    assert!(found == [97, 97]);
+    check!(rt, 2; found == [97, 97]);
 }
 
 #[test]
 fn the_modules_of_the_source() {
+    let rt = crate::runtime::HostRuntime;
+    let rt = &rt;
     let ring = num_modular::proth::FixedProth32::<27, 17>::new(&2281701377);
-    assert!(ring.reduce(9799832791439900673) == 2281701376);
+    check!(rt, 1; ring.reduce(9799832791439900673) == 2281701376);
     let ring = num_modular::proth::FixedProth64::<63, 1>::new(&9223372036854775809);
-    assert!(ring.reduce(0) == 0);
+    check!(rt, 2; ring.reduce(0) == 0);
     let ring = num_modular::monty::FixedMontgomery64::<97>::new(&97);
-    assert!(ring.modulus() == 97);
+    check!(rt, 3; ring.modulus() == 97);
     let ring = num_modular::monty::FixedMontgomery32::<17>::new(&17);
-    assert!(ring.modulus() == 17);
+    check!(rt, 4; ring.modulus() == 17);
 }
 
 #[test]
 fn residues_of_words() {
+    let rt = crate::runtime::HostRuntime;
+    let rt = &rt;
     type Narrow = FixedMersenne32<32, 5>;
     type Middle = FixedMersenne64<64, 59>;
     type Wide = FixedMersenne<64, 59>;
@@ -76,19 +86,21 @@ fn residues_of_words() {
         Narrow::reduce_single(u32::MAX),
         Narrow::reduce_double(u64::MAX),
     );
-    assert!(narrow == (4294967291, 4, 24));
+    check!(rt, 1; narrow == (4294967291, 4, 24));
     let middle = (
         Middle::fixed_modulus(),
         Middle::reduce_single(u64::MAX),
         Middle::reduce_double(umax::MAX),
     );
-    assert!(middle == (18446744073709551557, 58, 3480));
+    check!(rt, 2; middle == (18446744073709551557, 58, 3480));
     let wide = (Wide::fixed_modulus(), Wide::reduce_single(umax::MAX));
-    assert!(wide == (18446744073709551557, 3480));
+    check!(rt, 3; wide == (18446744073709551557, 3480));
 }
 
 #[test]
 fn residues_of_words_modulo_solinas_numbers() {
+    let rt = crate::runtime::HostRuntime;
+    let rt = &rt;
     type Narrow = FixedTrinomialSolinas32<32, 31, -1>;
     type Middle = FixedTrinomialSolinas64<64, 32, 1>;
     let narrow = (
@@ -96,11 +108,11 @@ fn residues_of_words_modulo_solinas_numbers() {
         Narrow::reduce_single(u32::MAX),
         Narrow::reduce_double(u64::MAX),
     );
-    assert!(narrow == (2147483647, 1, 3));
+    check!(rt, 1; narrow == (2147483647, 1, 3));
     let middle = (
         Middle::fixed_modulus(),
         Middle::reduce_single(u64::MAX),
         Middle::reduce_double(umax::MAX),
     );
-    assert!(middle == (18446744069414584321, 4294967294, 18446744065119617024));
+    check!(rt, 2; middle == (18446744069414584321, 4294967294, 18446744065119617024));
 }

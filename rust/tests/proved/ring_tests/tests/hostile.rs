@@ -79,7 +79,9 @@ fn leave_zeros<R: Reducer<u32> + Copy>(m: u32) -> bool {
 
 #[test]
 fn fixed_reducers_modulo_1() {
-    assert!(leave_zeros::<FixedMontgomery32<1>>(1));
-    assert!(leave_zeros::<FixedTrinomialSolinas32<2, 1, -1>>(1));
-    assert!(leave_zeros::<Vanilla<u32>>(1));
+    let rt = crate::runtime::HostRuntime;
+    let rt = &rt;
+    check!(rt, 1; leave_zeros::<FixedMontgomery32<1>>(1));
+    check!(rt, 2; leave_zeros::<FixedTrinomialSolinas32<2, 1, -1>>(1));
+    check!(rt, 3; leave_zeros::<Vanilla<u32>>(1));
 }

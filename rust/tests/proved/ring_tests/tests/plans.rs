@@ -207,9 +207,10 @@ const REMAINDERS: &[Row<u64>] = &[
 #[test]
 fn remainders() {
     let rt = crate::runtime::HostRuntime;
-    assert_right(&rt, first_wrong_16(&Call::Split, REMAINDERS_OF_16_BITS));
-    assert_right(&rt, first_wrong_32(&Call::Split, REMAINDERS_OF_32_BITS));
-    assert_right(&rt, first_wrong_64(&Call::Split, REMAINDERS));
+    let rt = &rt;
+    assert_right(rt, first_wrong_16(&Call::Split, REMAINDERS_OF_16_BITS));
+    assert_right(rt, first_wrong_32(&Call::Split, REMAINDERS_OF_32_BITS));
+    assert_right(rt, first_wrong_64(&Call::Split, REMAINDERS));
 }
 
 const JOINS_OF_16_BITS: &[Row<u16>] = &[
@@ -269,9 +270,10 @@ const JOINS: &[Row<u64>] = &[
 #[test]
 fn joins() {
     let rt = crate::runtime::HostRuntime;
-    assert_right(&rt, first_wrong_16(&Call::Join, JOINS_OF_16_BITS));
-    assert_right(&rt, first_wrong_32(&Call::Join, JOINS_OF_32_BITS));
-    assert_right(&rt, first_wrong_64(&Call::Join, JOINS));
+    let rt = &rt;
+    assert_right(rt, first_wrong_16(&Call::Join, JOINS_OF_16_BITS));
+    assert_right(rt, first_wrong_32(&Call::Join, JOINS_OF_32_BITS));
+    assert_right(rt, first_wrong_64(&Call::Join, JOINS));
 }
 
 const TIMES_15: &[Row<u64>] = &[
@@ -285,8 +287,9 @@ const TIMES_0: &[Row<u64>] = &[
 #[test]
 fn scaled() {
     let rt = crate::runtime::HostRuntime;
-    assert_right(&rt, first_wrong_64(&Call::Scaled(15), TIMES_15));
-    assert_right(&rt, first_wrong_64(&Call::Scaled(0), TIMES_0));
+    let rt = &rt;
+    assert_right(rt, first_wrong_64(&Call::Scaled(15), TIMES_15));
+    assert_right(rt, first_wrong_64(&Call::Scaled(0), TIMES_0));
 }
 
 const TRANSFORMS_OF_16_BITS: &[Row<u16>] = &[
@@ -317,9 +320,10 @@ const OTHER_LENGTHS: [Row<u32>; 2] = [
 #[test]
 fn natural_order() {
     let rt = crate::runtime::HostRuntime;
-    assert_right(&rt, first_wrong_16(&Call::InOrder, TRANSFORMS_OF_16_BITS));
-    assert_right(&rt, first_wrong_32(&Call::InOrder, TRANSFORMS_OF_32_BITS));
-    assert_right(&rt, first_wrong_64(&Call::InOrder, TRANSFORMS));
-    assert!(first_wrong_32(&Call::InOrder, &OTHER_LENGTHS[..1]) == Some(0));
-    assert!(first_wrong_32(&Call::InOrder, &OTHER_LENGTHS[1..]) == Some(0));
+    let rt = &rt;
+    assert_right(rt, first_wrong_16(&Call::InOrder, TRANSFORMS_OF_16_BITS));
+    assert_right(rt, first_wrong_32(&Call::InOrder, TRANSFORMS_OF_32_BITS));
+    assert_right(rt, first_wrong_64(&Call::InOrder, TRANSFORMS));
+    check!(rt, 1; first_wrong_32(&Call::InOrder, &OTHER_LENGTHS[..1]) == Some(0));
+    check!(rt, 2; first_wrong_32(&Call::InOrder, &OTHER_LENGTHS[1..]) == Some(0));
 }

@@ -39,7 +39,10 @@ fn called<T: PlainWord>(
     table: &[Factor<T>],
 ) -> Option<bool> {
     let (b, last) = block;
-    if xs.len() != ys.len() || !convolves(xs.len(), table.len(), b, last) {
+    if xs.len() != ys.len() {
+        return None;
+    }
+    if !convolves(xs.len(), table.len(), b, last) {
         return None;
     }
     if let Call::Multiply = call {
@@ -49,7 +52,10 @@ fn called<T: PlainWord>(
         multiply(m, xs, ys, table, b, last);
         return Some(true);
     }
-    if !all_in_room(m, xs) || !all_in_room(m, ys) {
+    if !all_in_room(m, xs) {
+        return None;
+    }
+    if !all_in_room(m, ys) {
         return None;
     }
     if b == 0 {
@@ -247,9 +253,10 @@ const PRODUCTS: &[Row<u64>] = &[
 #[test]
 fn products() {
     let rt = crate::runtime::HostRuntime;
-    assert_right(&rt, first_wrong_16(&Call::Convolve, PRODUCTS_OF_16_BITS));
-    assert_right(&rt, first_wrong_32(&Call::Convolve, PRODUCTS_OF_32_BITS));
-    assert_right(&rt, first_wrong_64(&Call::Convolve, PRODUCTS));
+    let rt = &rt;
+    assert_right(rt, first_wrong_16(&Call::Convolve, PRODUCTS_OF_16_BITS));
+    assert_right(rt, first_wrong_32(&Call::Convolve, PRODUCTS_OF_32_BITS));
+    assert_right(rt, first_wrong_64(&Call::Convolve, PRODUCTS));
 }
 
 // Two blocks, which 2 divides modulo no even number.
@@ -258,6 +265,7 @@ const REFUSED: Row<u64> =
 
 #[test]
 fn refused_products() {
+    let rt = crate::runtime::HostRuntime;
     let mut table = [Factor::<u64>::ZERO; 1];
     let (mut first, mut second) = ([0; 2], [0; 2]);
     let found = ended(
@@ -267,5 +275,5 @@ fn refused_products() {
         &mut first,
         &mut second,
     );
-    assert!(found == Some(false));
+    check!(&rt, 1; found == Some(false));
 }

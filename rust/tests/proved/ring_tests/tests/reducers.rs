@@ -72,7 +72,8 @@ const MODULO_21: Row<3> = Row { m: 21, commands: &STOPPING, end: RunEnd::NoInver
 
 #[test]
 fn a_missing_inverse_modulo_21() {
-    assert!(is_right(&MODULO_21));
+    let rt = crate::runtime::HostRuntime;
+    check!(&rt, 1; is_right(&MODULO_21));
 }
 
 const COMMANDS_MODULO_1: [RingCommand<u8>; 2] = [
@@ -85,7 +86,8 @@ const MODULO_1: Row<3> = Row { m: 1, commands: &COMMANDS_MODULO_1, end: RunEnd::
 
 #[test]
 fn the_ring_of_one_value() {
-    assert!(is_right(&MODULO_1));
+    let rt = crate::runtime::HostRuntime;
+    check!(&rt, 1; is_right(&MODULO_1));
 }
 
 // The residue of a + b, as a result and in place.
@@ -161,6 +163,7 @@ fn tests_of_calls<R: Reducer<u8>>(reducer: &R, a: u8) -> (bool, bool, bool) {
 
 #[test]
 fn each_call_of_a_reducer() {
+    let rt = crate::runtime::HostRuntime;
     let residues = ([[12, 12], [19, 19], [14, 14]], [10, 16, 4, 20]);
     let plain = num_modular::reduced::Vanilla::<u8>::new(&21);
     let scaled = num_modular::barrett::PreMulInv2by1::<u8>::new(21);
@@ -174,7 +177,7 @@ fn each_call_of_a_reducer() {
         tests_of_calls(&odd, 7),
         (plain.modulus(), scaled.modulus(), odd.modulus()),
     );
-    assert!(
+    check!(&rt, 1;
         found
             == (
                 residues,
@@ -190,9 +193,11 @@ fn each_call_of_a_reducer() {
 
 #[test]
 fn a_difference_times_a_factor() {
-    assert!(product_of_difference::<u8, PreMulInv2by1<u8>>(21, 5, 7) == 11);
-    assert!(product_of_difference::<u8, Montgomery<u8>>(21, 5, 7) == 11);
-    assert!(product_of_difference::<u8, Montgomery<u8>>(20, 5, 7) == 10);
-    assert!(product_of_difference::<u64, Montgomery<u64>>(u64::MAX, 5, 7) == u64::MAX - 10);
-    assert!(product_of_difference::<u64, Montgomery<u64>>(u64::MAX, 7, 5) == 14);
+    let rt = crate::runtime::HostRuntime;
+    let rt = &rt;
+    check!(rt, 1; product_of_difference::<u8, PreMulInv2by1<u8>>(21, 5, 7) == 11);
+    check!(rt, 2; product_of_difference::<u8, Montgomery<u8>>(21, 5, 7) == 11);
+    check!(rt, 3; product_of_difference::<u8, Montgomery<u8>>(20, 5, 7) == 10);
+    check!(rt, 4; product_of_difference::<u64, Montgomery<u64>>(u64::MAX, 5, 7) == u64::MAX - 10);
+    check!(rt, 5; product_of_difference::<u64, Montgomery<u64>>(u64::MAX, 7, 5) == 14);
 }

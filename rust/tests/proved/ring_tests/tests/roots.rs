@@ -24,7 +24,13 @@ fn found<T: PlainWord>(m: T, n: usize) -> Option<T> {
 
 // The place of the first row of a modulus, a number of entries and the root that isn't found so.
 fn first_wrong<T: PlainWord>(rows: &[(T, usize, Option<T>)]) -> Option<usize> {
-    rows.iter().position(|&(m, n, root)| found(m, n) != root)
+    for i in 0..rows.len() {
+        let &(m, n, root) = &rows[i];
+        if found(m, n) != root {
+            return Some(i);
+        }
+    }
+    None
 }
 
 const OF_KNOWN_PRIMES: &[(u64, usize, Option<u64>)] = &[

@@ -160,13 +160,14 @@ fn known_products() {
 
 #[test]
 fn without_a_count() {
+    let rt = crate::runtime::HostRuntime;
     let r = Vanilla::<u8>::new(&17);
     let g = r.transform(4);
     let mut xs = [1, 2, 3, 4];
     if root_fits(&r, &g, 4) && all_checked(&r, &xs) {
         ntt(&r, &mut xs, &g);
     }
-    assert!(xs == [10, 7, 15, 6]);
+    check!(&rt, 1; xs == [10, 7, 15, 6]);
 }
 
 // A modulus, a root of so many entries, and two lists that begin with as many.
@@ -242,6 +243,7 @@ const OTHERS: [u64; 8] = [2, 7, 1, 8, 16, 0, 4, 5];
 
 #[test]
 fn plain_sums_modulo_17() {
+    let rt = crate::runtime::HostRuntime;
     let mut lists = Lists {
         m: 17,
         root: 2,
@@ -253,7 +255,7 @@ fn plain_sums_modulo_17() {
         lists.first[i] = VALUES[i];
         lists.second[i] = OTHERS[i];
     }
-    assert!(are_sums(&Vanilla::<u64>::new(&17), &lists, &plain_sums(&lists)));
+    check!(&rt, 1; are_sums(&Vanilla::<u64>::new(&17), &lists, &plain_sums(&lists)));
 }
 
 // The modulus 2^64 - 2^32 + 1, whose units have the order 2^32 * (2^32 - 1), with the generator 7.
