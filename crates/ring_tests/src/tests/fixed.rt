@@ -5,7 +5,8 @@ use num_modular::mersenne::{FixedMersenne, FixedMersenne32, FixedMersenne64};
 use num_modular::ring::{RingCommand, RunEnd};
 use num_modular::solinas::{FixedTrinomialSolinas32, FixedTrinomialSolinas64};
 use num_modular::{
-    FixedMontgomery32, FixedMontgomery64, FixedProth32, FixedProth64, Reducer, Vanilla, umax,
+    FixedMontgomery32, FixedMontgomery64, FixedProth32, FixedProth64, Montgomery, PreMulInv2by1,
+    Reducer, Vanilla, umax,
 };
 
 // 3 + 5, 3 * 5, and the missing inverse of 0.
@@ -17,16 +18,6 @@ const SMALL: [RingCommand<u32>; 5] = [
     RingCommand::Inv { dst: 0, a: 4 },
 ];
 
-#[test]
-fn modulo_17(rt: HostRuntime) {
-    let rt = &rt;
-    let end = RunEnd::NoInverse { at: 4 };
-    let residues = [3, 5, 8, 15, 0];
-    check!(rt, 1; ends_modulo::<u32, FixedMontgomery32<17>, 5>(17, &SMALL, end, residues));
-    check!(rt, 2; ends_modulo::<u32, FixedProth32<4, 1>, 5>(17, &SMALL, end, residues));
-    check!(rt, 3; ends_modulo::<u32, Vanilla<u32>, 5>(17, &SMALL, end, residues));
-}
-
 // 10, 20 and their product.
 const PRODUCT: [RingCommand<u64>; 3] = [
     RingCommand::Load { dst: 0, n: 10 },
@@ -34,12 +25,21 @@ const PRODUCT: [RingCommand<u64>; 3] = [
     RingCommand::Mul { dst: 2, a: 0, b: 1 },
 ];
 
+// One function, as each that names reducers pays for what they have in common.
 #[test]
-fn modulo_97(rt: HostRuntime) {
-    let rt = &rt;
+fn small_moduli(rt: HostRuntime) {
+    let (rt, end) = (&rt, RunEnd::NoInverse { at: 4 });
+    let residues = [3, 5, 8, 15, 0];
+    check!(rt, 1; ends_modulo::<u32, FixedMontgomery32<17>, 5>(17, &SMALL, end, residues));
+    check!(rt, 2; ends_modulo::<u32, FixedProth32<4, 1>, 5>(17, &SMALL, end, residues));
+    check!(rt, 3; ends_modulo::<u32, Vanilla<u32>, 5>(17, &SMALL, end, residues));
     let residues = [10, 20, 6, 0, 0];
-    check!(rt, 1; ends_modulo::<u64, FixedMontgomery64<97>, 5>(97, &PRODUCT, RunEnd::Done, residues));
-    check!(rt, 2; ends_modulo::<u64, FixedProth64<5, 3>, 5>(97, &PRODUCT, RunEnd::Done, residues));
+    check!(rt, 4; ends_modulo::<u64, FixedMontgomery64<97>, 5>(97, &PRODUCT, RunEnd::Done, residues));
+    check!(rt, 5; ends_modulo::<u64, FixedProth64<5, 3>, 5>(97, &PRODUCT, RunEnd::Done, residues));
+    // the empty list
+    check!(rt, 6; ends_modulo::<u8, PreMulInv2by1<u8>, 5>(21, &[], RunEnd::Done, [0; 5]));
+    check!(rt, 7; ends_modulo::<u8, Montgomery<u8>, 5>(21, &[], RunEnd::Done, [0; 5]));
+    check!(rt, 8; ends_modulo::<u64, FixedMontgomery64<97>, 5>(97, &[], RunEnd::Done, [0; 5]));
 }
 
 #[test]

@@ -64,11 +64,16 @@ pub fn is_planned<T: PlainWord>(m: &PlannedModulus<T>, g: T, table: &mut [Factor
 }
 
 // Whether a list is a power of two of entries, for which the table has the factors, and is transformed.
-#[tactic(auto, using(modular_transform::proofs::PowersOfTwo::power_of_two_tested))]
 fn is_transformed<T: PlainWord>(m: &PlannedModulus<T>, xs: &mut [T], table: &[Factor<T>]) -> bool
     requires { All (IsFactorOf T.base T.number (T.number m.now.modulus)) table.now }
 {
-    if !xs.len().is_power_of_two() || xs.len() / 2 > table.len() || !all_in_room(m, xs) {
+    if !xs.len().is_power_of_two() {
+        return false;
+    }
+    if xs.len() / 2 > table.len() {
+        return false;
+    }
+    if !all_in_room(m, xs) {
         return false;
     }
     ntt_planned(m, xs, table);
@@ -86,7 +91,10 @@ fn is_done<T: PlainWord>(
     requires { All (IsFactorOf T.base T.number (T.number m.now.modulus)) table.now }
 {
     let (b, last) = block;
-    if !splits(xs.len(), table.len(), b, last) || !all_in_room(m, xs) {
+    if !splits(xs.len(), table.len(), b, last) {
+        return false;
+    }
+    if !all_in_room(m, xs) {
         return false;
     }
     match call {

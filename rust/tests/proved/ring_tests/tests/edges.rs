@@ -1,13 +1,12 @@
 //! Reducers at the edges of their parameters, each compared with the plain reducer of its modulus.
 
 use super::assert_at;
-use super::runs::{ends_modulo, ends_with};
+use super::runs::ends_with;
 use num_modular::ring::{RingCommand, RunEnd};
 use num_modular::word::RingWord;
 use num_modular::{
-    FixedMersenne, FixedMersenne32, FixedMersenne64, FixedMontgomery32, FixedMontgomery64,
-    FixedProth32, FixedProth64, FixedTrinomialSolinas32, FixedTrinomialSolinas64, Montgomery,
-    PreMulInv2by1, Reducer, Vanilla,
+    FixedMersenne, FixedMersenne32, FixedMersenne64, FixedMontgomery32, FixedProth32, FixedProth64,
+    FixedTrinomialSolinas32, FixedTrinomialSolinas64, Reducer, Vanilla,
 };
 
 // The residues of 0, 1, m - 1, m and a greatest word, m being the modulus, and that of (m - 1)^2.
@@ -137,38 +136,24 @@ fn plain_reducers_of_32_bits() {
     }
 }
 
+// One function, as each that names reducers pays for what they have in common.
 #[test]
-fn a_modulus_of_32_bits_by_montgomery_forms() {
-    let rt = crate::runtime::HostRuntime;
-    check!(&rt, 1; shows_32::<FixedMontgomery32<1>>(1, &MODULO_1));
-}
-
-#[test]
-fn moduli_of_32_bits_by_folds() {
+fn fixed_moduli_of_32_bits() {
     let rt = crate::runtime::HostRuntime;
     let rt = &rt;
-    check!(rt, 1; shows_32::<FixedTrinomialSolinas32<2, 1, -1>>(1, &MODULO_1));
-    check!(rt, 2; shows_32::<FixedTrinomialSolinas32<5, 4, -3>>(13, &MODULO_13));
-    check!(rt, 3; shows_32::<FixedTrinomialSolinas32<4, 2, 1>>(13, &MODULO_13));
-    check!(rt, 4; shows_32::<FixedTrinomialSolinas32<32, 31, -1>>(2147483647, &MODULO_2147483647));
-}
-
-#[test]
-fn mersenne_numbers_of_32_bits() {
-    let rt = crate::runtime::HostRuntime;
-    let rt = &rt;
-    check!(rt, 1; shows_32::<FixedMersenne32<2, 1>>(3, &MODULO_3));
-    check!(rt, 2; shows_32::<FixedMersenne32<32, 5>>(4294967291, &MODULO_4294967291));
-}
-
-#[test]
-fn proth_numbers_of_32_bits() {
-    let rt = crate::runtime::HostRuntime;
-    let rt = &rt;
-    check!(rt, 1; shows_32::<FixedProth32<1, 1>>(3, &MODULO_3));
-    check!(rt, 2; shows_32::<FixedProth32<23, 255>>(2139095041, &MODULO_2139095041));
-    check!(rt, 3; shows_32::<FixedProth32<31, 1>>(2147483649, &MODULO_2147483649));
-    check!(rt, 4; shows_32::<FixedProth32<28, 9>>(2415919105, &MODULO_2415919105));
+    check!(rt, 1; shows_32::<FixedMontgomery32<1>>(1, &MODULO_1));
+    // by folds
+    check!(rt, 2; shows_32::<FixedTrinomialSolinas32<2, 1, -1>>(1, &MODULO_1));
+    check!(rt, 3; shows_32::<FixedTrinomialSolinas32<5, 4, -3>>(13, &MODULO_13));
+    check!(rt, 4; shows_32::<FixedTrinomialSolinas32<4, 2, 1>>(13, &MODULO_13));
+    check!(rt, 5; shows_32::<FixedTrinomialSolinas32<32, 31, -1>>(2147483647, &MODULO_2147483647));
+    check!(rt, 6; shows_32::<FixedMersenne32<2, 1>>(3, &MODULO_3));
+    check!(rt, 7; shows_32::<FixedMersenne32<32, 5>>(4294967291, &MODULO_4294967291));
+    // Proth numbers
+    check!(rt, 8; shows_32::<FixedProth32<1, 1>>(3, &MODULO_3));
+    check!(rt, 9; shows_32::<FixedProth32<23, 255>>(2139095041, &MODULO_2139095041));
+    check!(rt, 10; shows_32::<FixedProth32<31, 1>>(2147483649, &MODULO_2147483649));
+    check!(rt, 11; shows_32::<FixedProth32<28, 9>>(2415919105, &MODULO_2415919105));
 }
 
 const MODULO_9223372036854775809: Row<u64> = Row { m: 9223372036854775809, last: 9223372036854775808,
@@ -197,26 +182,18 @@ fn plain_reducers_of_64_bits() {
 }
 
 #[test]
-fn a_proth_number_of_64_bits() {
+fn fixed_moduli_of_64_bits() {
     let rt = crate::runtime::HostRuntime;
     let rt = &rt;
-    check!(rt, 1; shows_64::<FixedProth64<63, 1>>(9223372036854775809, &MODULO_9223372036854775809));
-    let ring = FixedProth64::<63, 1>::new(&9223372036854775809);
+    let m = 9223372036854775809;
+    check!(rt, 1; shows_64::<FixedProth64<63, 1>>(m, &MODULO_9223372036854775809));
     // (m - 1) * 2^64 + m: the sum is (2 * m - 1) * 2^64, which overflows 128 bits
+    let ring = FixedProth64::<63, 1>::new(&m);
     check!(rt, 2; ring.reduce(170141183460469231740910675752738881537) == 9223372036854775808);
-}
-
-#[test]
-fn moduli_of_64_bits_by_folds() {
-    let rt = crate::runtime::HostRuntime;
-    let rt = &rt;
-    check!(rt, 1;
-        shows_64::<FixedTrinomialSolinas64<64, 32, 1>>(
-            18446744069414584321,
-            &MODULO_18446744069414584321
-        )
-    );
-    check!(rt, 2; shows_64::<FixedMersenne64<64, 59>>(18446744073709551557, &MODULO_18446744073709551557));
+    let m = 18446744069414584321;
+    check!(rt, 3; shows_64::<FixedTrinomialSolinas64<64, 32, 1>>(m, &MODULO_18446744069414584321));
+    let m = 18446744073709551557;
+    check!(rt, 4; shows_64::<FixedMersenne64<64, 59>>(m, &MODULO_18446744073709551557));
 }
 
 // The commands with the greatest word of 64 bits, and the edges with that of 128.
@@ -233,13 +210,4 @@ fn over_words_of_128_bits() {
     let residues = [0, last, 1, 59, 4959809447704153900];
     check!(rt, 3; ends_with(&ring, &list, STOPPED, residues));
     check!(rt, 4; ends_with(&ring, &list[..0], RunEnd::Done, [0; 5]));
-}
-
-#[test]
-fn the_empty_list() {
-    let rt = crate::runtime::HostRuntime;
-    let rt = &rt;
-    check!(rt, 1; ends_modulo::<u8, PreMulInv2by1<u8>, 5>(21, &[], RunEnd::Done, [0; 5]));
-    check!(rt, 2; ends_modulo::<u8, Montgomery<u8>, 5>(21, &[], RunEnd::Done, [0; 5]));
-    check!(rt, 3; ends_modulo::<u64, FixedMontgomery64<97>, 5>(97, &[], RunEnd::Done, [0; 5]));
 }
