@@ -16,6 +16,7 @@ use modular_reduced::reduced_int::{ReducedInt, VanillaInt};
 use modular_reduced::reducer::Reducer;
 use modular_reduced::vanilla::Vanilla;
 use modular_word::ring_word::RingWord;
+use std::process::Abort;
 use std::test::Fail;
 
 // n modulo m.
@@ -33,191 +34,220 @@ fn ring(n: u8) -> VanillaInt<u8>
     VanillaInt::<u8>::new(n, &21)
 }
 
-// The residues of the sums of two integers, for each kind of operands, and those after each of two sums in place.
-fn sums_of_two<T: RingWord, R: Reducer<T> + Copy>(m: T, x: T, y: T) -> ([T; 4], [T; 2])
-    requires { R.admits (T.number m) }
+// Its residue, by value, so that a result of an operator needs no place of its own.
+fn residue<T: RingWord, R: Reducer<T> + Copy>(a: ReducedInt<T, R>) -> T {
+    a.residue()
+}
+
+// The residues of the sums of two integers, for each kind of operands.
+fn sums_of_two<T: RingWord, R: Reducer<T> + Copy>(
+    a: &ReducedInt<T, R>,
+    b: &ReducedInt<T, R>,
+) -> [T; 4]
+    requires { modulus_of a.now ≡ modulus_of b.now }
 {
-    let (a, b) = (integer::<T, R>(x, m), integer::<T, R>(y, m));
+    [
+        residue(*a + *b),
+        residue(*a + b),
+        residue(a + *b),
+        residue(a + b),
+    ]
+}
+
+// The residues after each of two sums in place.
+fn sums_in_place<T: RingWord, R: Reducer<T> + Copy>(
+    a: ReducedInt<T, R>,
+    b: &ReducedInt<T, R>,
+) -> [T; 2]
+    requires { modulus_of a ≡ modulus_of b.now }
+{
     let mut z = a;
+    z += *b;
+    let once = residue(z);
     z += b;
-    let once = z.residue();
-    z += &b;
-    let found = [
-        (a + b).residue(),
-        (a + &b).residue(),
-        (&a + b).residue(),
-        (&a + &b).residue(),
-    ];
-    (found, [once, z.residue()])
+    [once, residue(z)]
 }
 
 // The residues of the sums of an integer and a word.
-fn sums_with_a_word<T: RingWord, R: Reducer<T> + Copy>(m: T, x: T, n: T) -> [T; 4]
-    requires { R.admits (T.number m) }
-{
-    let a = integer::<T, R>(x, m);
+fn sums_with_a_word<T: RingWord, R: Reducer<T> + Copy>(a: &ReducedInt<T, R>, n: &T) -> [T; 4] {
     [
-        (a + n).residue(),
-        (a + &n).residue(),
-        (&a + n).residue(),
-        (&a + &n).residue(),
+        residue(*a + *n),
+        residue(*a + n),
+        residue(a + *n),
+        residue(a + n),
     ]
 }
 
 // The residue after a sum with each of two words, in place.
-fn sums_with_words_in_place<T: RingWord, R: Reducer<T> + Copy>(m: T, x: T, words: [T; 2]) -> [T; 2]
-    requires { R.admits (T.number m) }
-{
-    let [first, second] = words;
-    let mut z = integer::<T, R>(x, m);
-    z += first;
-    let once = z.residue();
-    z += &second;
-    [once, z.residue()]
-}
-
-#[test]
-fn sums(rt: HostRuntime) {
-    let rt = &rt;
-    check!(rt, 1; sums_of_two::<u8, Vanilla<u8>>(21, 20, 5) == ([4; 4], [4, 9]));
-    check!(rt, 2; sums_with_a_word::<u8, Vanilla<u8>>(21, 20, 5) == [4; 4]);
-    check!(rt, 3; sums_with_words_in_place::<u8, Vanilla<u8>>(21, 9, [255, 5]) == [12, 17]);
-    check!(rt, 4; sum_modulo_21() == 4);
-}
-
-// The residues of the differences of two integers, for each kind of operands, and those after each of two in place.
-fn differences_of_two<T: RingWord, R: Reducer<T> + Copy>(m: T, x: T, y: T) -> ([T; 4], [T; 2])
-    requires { R.admits (T.number m) }
-{
-    let (a, b) = (integer::<T, R>(x, m), integer::<T, R>(y, m));
+fn sums_with_words_in_place<T: RingWord, R: Reducer<T> + Copy>(
+    a: ReducedInt<T, R>,
+    first: T,
+    second: &T,
+) -> [T; 2] {
     let mut z = a;
+    z += first;
+    let once = residue(z);
+    z += second;
+    [once, residue(z)]
+}
+
+fn assert_sums<R: Reducer<u8> + Copy>(rt: &impl Abort)
+    requires { R.admits 21 }
+{
+    let (a, b) = (&integer::<u8, R>(20, 21), &integer::<u8, R>(5, 21));
+    check!(rt, 1; sums_of_two(a, b) == [4; 4]);
+    check!(rt, 2; sums_in_place(*a, b) == [4, 9]);
+    check!(rt, 3; sums_with_a_word(a, &5) == [4; 4]);
+    check!(rt, 4; sums_with_words_in_place(integer::<u8, R>(9, 21), 255, &5) == [12, 17]);
+}
+
+// The residues of the differences of two integers, for each kind of operands.
+fn differences_of_two<T: RingWord, R: Reducer<T> + Copy>(
+    a: &ReducedInt<T, R>,
+    b: &ReducedInt<T, R>,
+) -> [T; 4]
+    requires { modulus_of a.now ≡ modulus_of b.now }
+{
+    [
+        residue(*a - *b),
+        residue(*a - b),
+        residue(a - *b),
+        residue(a - b),
+    ]
+}
+
+// The residues after each of two differences in place.
+fn differences_in_place<T: RingWord, R: Reducer<T> + Copy>(
+    a: ReducedInt<T, R>,
+    b: &ReducedInt<T, R>,
+) -> [T; 2]
+    requires { modulus_of a ≡ modulus_of b.now }
+{
+    let mut z = a;
+    z -= *b;
+    let once = residue(z);
     z -= b;
-    let once = z.residue();
-    z -= &b;
-    let found = [
-        (a - b).residue(),
-        (a - &b).residue(),
-        (&a - b).residue(),
-        (&a - &b).residue(),
-    ];
-    (found, [once, z.residue()])
+    [once, residue(z)]
 }
 
 // The residues of the differences of an integer and a word.
-fn differences_with_a_word<T: RingWord, R: Reducer<T> + Copy>(m: T, x: T, n: T) -> [T; 4]
-    requires { R.admits (T.number m) }
-{
-    let a = integer::<T, R>(x, m);
+fn differences_with_a_word<T: RingWord, R: Reducer<T> + Copy>(
+    a: &ReducedInt<T, R>,
+    n: &T,
+) -> [T; 4] {
     [
-        (a - n).residue(),
-        (a - &n).residue(),
-        (&a - n).residue(),
-        (&a - &n).residue(),
+        residue(*a - *n),
+        residue(*a - n),
+        residue(a - *n),
+        residue(a - n),
     ]
 }
 
 // The residue after a difference with each of two words, in place.
 fn differences_with_words_in_place<T: RingWord, R: Reducer<T> + Copy>(
-    m: T,
-    x: T,
-    words: [T; 2],
-) -> [T; 2]
-    requires { R.admits (T.number m) }
-{
-    let [first, second] = words;
-    let mut z = integer::<T, R>(x, m);
-    z -= first;
-    let once = z.residue();
-    z -= &second;
-    [once, z.residue()]
-}
-
-#[test]
-fn differences(rt: HostRuntime) {
-    let rt = &rt;
-    check!(rt, 1; differences_of_two::<u8, Vanilla<u8>>(21, 3, 5) == ([19; 4], [19, 14]));
-    check!(rt, 2; differences_with_a_word::<u8, Vanilla<u8>>(21, 3, 5) == [19; 4]);
-    check!(rt, 3; differences_with_words_in_place::<u8, Vanilla<u8>>(21, 14, [255, 5]) == [11, 6]);
-    check!(rt, 4; differences_with_a_word::<u8, Vanilla<u8>>(21, 5, 255) == [2; 4]);
-    check!(rt, 5; difference_modulo_21() == 2);
-}
-
-// The residues of the products of two integers, for each kind of operands, and those after each of two in place.
-fn products_of_two<T: RingWord, R: Reducer<T> + Copy>(m: T, x: T, y: T) -> ([T; 4], [T; 2])
-    requires { R.admits (T.number m) }
-{
-    let (a, b) = (integer::<T, R>(x, m), integer::<T, R>(y, m));
+    a: ReducedInt<T, R>,
+    first: T,
+    second: &T,
+) -> [T; 2] {
     let mut z = a;
+    z -= first;
+    let once = residue(z);
+    z -= second;
+    [once, residue(z)]
+}
+
+fn assert_differences<R: Reducer<u8> + Copy>(rt: &impl Abort)
+    requires { R.admits 21 }
+{
+    let (a, b) = (&integer::<u8, R>(3, 21), &integer::<u8, R>(5, 21));
+    check!(rt, 1; differences_of_two(a, b) == [19; 4]);
+    check!(rt, 2; differences_in_place(*a, b) == [19, 14]);
+    check!(rt, 3; differences_with_a_word(a, &5) == [19; 4]);
+    check!(rt, 4; differences_with_words_in_place(integer::<u8, R>(14, 21), 255, &5) == [11, 6]);
+    check!(rt, 5; differences_with_a_word(b, &255) == [2; 4]);
+}
+
+// The residues of the products of two integers, for each kind of operands.
+fn products_of_two<T: RingWord, R: Reducer<T> + Copy>(
+    a: &ReducedInt<T, R>,
+    b: &ReducedInt<T, R>,
+) -> [T; 4]
+    requires { modulus_of a.now ≡ modulus_of b.now }
+{
+    [
+        residue(*a * *b),
+        residue(*a * b),
+        residue(a * *b),
+        residue(a * b),
+    ]
+}
+
+// The residues after each of two products in place.
+fn products_in_place<T: RingWord, R: Reducer<T> + Copy>(
+    a: ReducedInt<T, R>,
+    b: &ReducedInt<T, R>,
+) -> [T; 2]
+    requires { modulus_of a ≡ modulus_of b.now }
+{
+    let mut z = a;
+    z *= *b;
+    let once = residue(z);
     z *= b;
-    let once = z.residue();
-    z *= &b;
-    let found = [
-        (a * b).residue(),
-        (a * &b).residue(),
-        (&a * b).residue(),
-        (&a * &b).residue(),
-    ];
-    (found, [once, z.residue()])
+    [once, residue(z)]
 }
 
 // The residues of the products of an integer and a word.
-fn products_with_a_word<T: RingWord, R: Reducer<T> + Copy>(m: T, x: T, n: T) -> [T; 4]
-    requires { R.admits (T.number m) }
-{
-    let a = integer::<T, R>(x, m);
+fn products_with_a_word<T: RingWord, R: Reducer<T> + Copy>(a: &ReducedInt<T, R>, n: &T) -> [T; 4] {
     [
-        (a * n).residue(),
-        (a * &n).residue(),
-        (&a * n).residue(),
-        (&a * &n).residue(),
+        residue(*a * *n),
+        residue(*a * n),
+        residue(a * *n),
+        residue(a * n),
     ]
 }
 
 // The residue after a product with each of two words, in place.
 fn products_with_words_in_place<T: RingWord, R: Reducer<T> + Copy>(
-    m: T,
-    x: T,
-    words: [T; 2],
-) -> [T; 2]
-    requires { R.admits (T.number m) }
-{
-    let [first, second] = words;
-    let mut z = integer::<T, R>(x, m);
+    a: ReducedInt<T, R>,
+    first: T,
+    second: &T,
+) -> [T; 2] {
+    let mut z = a;
     z *= first;
-    let once = z.residue();
-    z *= &second;
-    [once, z.residue()]
+    let once = residue(z);
+    z *= second;
+    [once, residue(z)]
 }
 
-#[test]
-fn products(rt: HostRuntime) {
-    let rt = &rt;
-    check!(rt, 1; products_of_two::<u8, Vanilla<u8>>(21, 10, 5) == ([8; 4], [8, 19]));
-    check!(rt, 2; products_with_a_word::<u8, Vanilla<u8>>(21, 10, 5) == [8; 4]);
-    check!(rt, 3; products_with_words_in_place::<u8, Vanilla<u8>>(21, 19, [255, 5]) == [15, 12]);
-    check!(rt, 4; products_with_a_word::<u8, Vanilla<u8>>(5, 12, 13) == [1; 4]);
+fn assert_products<R: Reducer<u8> + Copy>(rt: &impl Abort)
+    requires of_21 { R.admits 21 }
+    requires of_5 { R.admits 5 }
+{
+    let (a, b) = (&integer::<u8, R>(10, 21), &integer::<u8, R>(5, 21));
+    check!(rt, 1; products_of_two(a, b) == [8; 4]);
+    check!(rt, 2; products_in_place(*a, b) == [8, 19]);
+    check!(rt, 3; products_with_a_word(a, &5) == [8; 4]);
+    check!(rt, 4; products_with_words_in_place(integer::<u8, R>(19, 21), 255, &5) == [15, 12]);
+    check!(rt, 5; products_with_a_word(&integer::<u8, R>(12, 5), &13) == [1; 4]);
 }
 
 // The residues of the quotients of two integers, for each kind of operands.
 fn quotients_of_two<T: RingWord, R: Reducer<T> + Copy>(
-    a: ReducedInt<T, R>,
-    b: ReducedInt<T, R>,
+    a: &ReducedInt<T, R>,
+    b: &ReducedInt<T, R>,
 ) -> [T; 4]
-    requires { CanDivide a b }
+    requires { CanDivide a.now b.now }
 {
     [
-        (a / b).residue(),
-        (a / &b).residue(),
-        (&a / b).residue(),
-        (&a / &b).residue(),
+        residue(*a / *b),
+        residue(*a / b),
+        residue(a / *b),
+        residue(a / b),
     ]
 }
 
-fn negatives<T: RingWord, R: Reducer<T> + Copy>(m: T, x: T) -> [T; 2]
-    requires { R.admits (T.number m) }
-{
-    let a = integer::<T, R>(x, m);
-    [(-a).residue(), (-&a).residue()]
+fn negatives<T: RingWord, R: Reducer<T> + Copy>(a: &ReducedInt<T, R>) -> [T; 2] {
+    [residue(-*a), residue(-a)]
 }
 
 // The residue of an integer, if there is one.
@@ -226,14 +256,6 @@ fn residue_if_any<T: RingWord, R: Reducer<T> + Copy>(a: Option<ReducedInt<T, R>>
         Some(a) => Some(a.residue()),
         None => None,
     }
-}
-
-#[test]
-fn negatives_and_quotients(rt: HostRuntime) {
-    let rt = &rt;
-    check!(rt, 1; negatives::<u8, Vanilla<u8>>(21, 10) == [11, 11]);
-    check!(rt, 2; quotients_of_two(ring(10), five_modulo_21()) == [2; 4]);
-    check!(rt, 3; quotient_modulo_21() == 2);
 }
 
 #[test]
@@ -250,51 +272,60 @@ fn inverses_and_quotients_if_any(rt: HostRuntime) {
 }
 
 // The modulus, the residue and the form of an integer, and the residues of its double and its square.
-fn parts<T: RingWord, R: Reducer<T> + Copy>(m: T, x: T) -> [T; 5]
-    requires { R.admits (T.number m) }
-{
-    let a = integer::<T, R>(x, m);
+fn parts<T: RingWord, R: Reducer<T> + Copy>(a: &ReducedInt<T, R>) -> [T; 5] {
     [
         a.modulus(),
         a.residue(),
         *a.repr(),
-        a.double().residue(),
-        a.square().residue(),
+        residue(a.double()),
+        residue(a.square()),
     ]
 }
 
 fn power<T: RingWord, R: Reducer<T> + Copy>(m: T, x: T, exp: T) -> T
     requires { R.admits (T.number m) }
 {
-    integer::<T, R>(x, m).pow(&exp).residue()
+    residue(integer::<T, R>(x, m).pow(&exp))
 }
 
-// The residue of y modulo the modulus of an integer x, and whether each of the two is 0.
-fn converted<T: RingWord, R: Reducer<T> + Copy>(m: T, x: T, y: T) -> (T, bool, bool)
-    requires { R.admits (T.number m) }
-{
-    let a = integer::<T, R>(x, m);
+// The residue of y modulo the modulus of an integer, and whether each of the two is 0.
+fn converted<T: RingWord, R: Reducer<T> + Copy>(a: &ReducedInt<T, R>, y: T) -> (T, bool, bool) {
     let b = a.convert(y);
     (b.residue(), a.is_zero(), b.is_zero())
 }
 
+fn assert_methods<R: Reducer<u8> + Copy>(rt: &impl Abort)
+    requires of_21 { R.admits 21 }
+    requires of_1 { R.admits 1 }
+{
+    let a = &integer::<u8, R>(255, 21);
+    check!(rt, 1; parts(a) == [21, 3, 3, 6, 9]);
+    check!(rt, 2; power::<u8, R>(21, 255, 0) == 1);
+    check!(rt, 3; power::<u8, R>(21, 255, 5) == 12);
+    check!(rt, 4; power::<u8, R>(1, 0, 0) == 0);
+    check!(rt, 5; converted(a, 255).0 == 3);
+    check!(rt, 6; converted(a, 21) == (0, false, true));
+    check!(rt, 7; negatives(&integer::<u8, R>(10, 21)) == [11, 11]);
+}
+
 #[test]
-fn methods(rt: HostRuntime) {
+fn operators_and_methods(rt: HostRuntime) {
     let rt = &rt;
-    check!(rt, 1; parts::<u8, Vanilla<u8>>(21, 255) == [21, 3, 3, 6, 9]);
-    check!(rt, 2; power::<u8, Vanilla<u8>>(21, 255, 0) == 1);
-    check!(rt, 3; power::<u8, Vanilla<u8>>(21, 255, 5) == 12);
-    check!(rt, 4; power::<u8, Vanilla<u8>>(1, 0, 0) == 0);
-    check!(rt, 5; converted::<u8, Vanilla<u8>>(21, 255, 255).0 == 3);
-    check!(rt, 6; converted::<u8, Vanilla<u8>>(21, 255, 21) == (0, false, true));
+    assert_sums::<Vanilla<u8>>(rt);
+    assert_differences::<Vanilla<u8>>(rt);
+    assert_products::<Vanilla<u8>>(rt);
+    assert_methods::<Vanilla<u8>>(rt);
+    check!(rt, 1; quotients_of_two(&ring(10), &five_modulo_21()) == [2; 4]);
+    check!(rt, 2; sum_modulo_21() == 4);
+    check!(rt, 3; difference_modulo_21() == 2);
+    check!(rt, 4; quotient_modulo_21() == 2);
 }
 
 #[test]
 fn copies_and_text(rt: HostRuntime) -> Result<(), Fail> {
-    let rt = &rt;
     let a = ring(255);
-    check!(rt, 1; a.clone()? == a);
-    check!(rt, 2; is_printed(rt.alloc(), &a));
+    check!(&rt, 1; a.clone()? == a);
+    check!(&rt, 2; is_printed(rt.alloc(), &a));
     Ok(())
 }
 
@@ -313,25 +344,17 @@ fn are_equivalent<I: ModularInteger>(all: &[I]) -> bool {
 }
 
 #[test]
-fn equality(rt: HostRuntime) {
+fn equality_and_polynomials(rt: HostRuntime) {
     let rt = &rt;
     let (three, other) = (VanillaInt::<u8>::new(3, &7), VanillaInt::<u8>::new(3, &11));
     let seven = VanillaInt::<u8>::new(10, &7);
     check!(rt, 1; are_equal(&seven, &three));
     check!(rt, 2; !are_equal(&three, &other));
     check!(rt, 3; are_equivalent(&[three, seven, other]));
-}
-
-#[test]
-fn polynomials(rt: HostRuntime) {
-    let rt = &rt;
-    check!(rt, 1; value_of_bytes() == 19);
-    check!(rt, 2; value_by_forms() == 19);
-}
-
-#[test]
-fn the_polynomial_of_no_coefficients(rt: HostRuntime) {
-    check!(&rt, 1; horner(&[], ring(7)).residue() == 0);
+    check!(rt, 4; value_of_bytes() == 19);
+    check!(rt, 5; value_by_forms() == 19);
+    // the polynomial of no coefficients
+    check!(rt, 6; horner(&[], ring(7)).residue() == 0);
 }
 
 // The residue of a + a, and that of x + y by the integers of its ring.

@@ -34,8 +34,8 @@ pub fn inverse_residue<T: RingWord, R: Reducer<T>>(ring: &R, x: T) -> Option<T> 
     }
 }
 
-/// The residues of 0, 1, m - 1, m and a greatest word, and of (m - 1)^2, by the reducer of m.
-pub fn edges<T: RingWord, R: Reducer<T> + Copy>(m: T, last: T, greatest: T) -> [T; 6]
+// The residues of 0, 1, m - 1, m and a greatest word, and of (m - 1)^2, by the reducer of m.
+fn edges<T: RingWord, R: Reducer<T> + Copy>(m: T, last: T, greatest: T) -> [T; 6]
     requires { R.admits (T.number m) }
 {
     let ring = R::new(&m);
@@ -48,6 +48,13 @@ pub fn edges<T: RingWord, R: Reducer<T> + Copy>(m: T, last: T, greatest: T) -> [
         ring.residue(ring.transform(greatest)),
         ring.residue(ring.mul(&minus_one, &minus_one)),
     ]
+}
+
+/// Whether they are these.
+pub fn has_edges<T: RingWord, R: Reducer<T> + Copy>(m: T, words: (T, T), want: [T; 6]) -> bool
+    requires { R.admits (T.number m) }
+{
+    edges::<T, R>(m, words.0, words.1) == want
 }
 
 /// The residues of a sum, a difference, a product, a double, a negative and a square.
@@ -64,11 +71,11 @@ pub fn residues<T: RingWord, R: Reducer<T>>(ring: &R, x: T, y: T) -> [T; 6] {
     ]
 }
 
-/// The same by the reducer of m.
-pub fn residues_modulo<T: RingWord, R: Reducer<T> + Copy>(m: T, x: T, y: T) -> [T; 6]
+/// Whether those by the reducer of m are these.
+pub fn has_residues<T: RingWord, R: Reducer<T> + Copy>(m: T, words: (T, T), want: [T; 6]) -> bool
     requires { R.admits (T.number m) }
 {
-    residues(&R::new(&m), x, y)
+    residues(&R::new(&m), words.0, words.1) == want
 }
 
 // A number modulo m.

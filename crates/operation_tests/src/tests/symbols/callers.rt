@@ -52,7 +52,8 @@ fn callers_of_symbols(rt: HostRuntime) {
         jacobi_of_seven(),
         legendre_of_three(),
     );
-    check!(&rt, 1; found
+    check!(&rt, 1;
+        found
             == (
                 Some(-1),
                 None,
@@ -62,5 +63,6 @@ fn callers_of_symbols(rt: HostRuntime) {
                 (Some(1), Some(1)),
                 -1,
                 1
-            ));
+            )
+    );
 }

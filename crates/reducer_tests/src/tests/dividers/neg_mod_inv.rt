@@ -11,14 +11,16 @@ fn rows(rt: HostRuntime) {
         w64::neginv(3),
         wsize::neginv(3),
     );
-    check!(&rt, 1; found
+    check!(&rt, 1;
+        found
             == (
                 (255, 73),
                 1,
                 1431655765,
                 6148914691236517205,
                 6148914691236517205
-            ));
+            )
+    );
 }
 
 #[test]

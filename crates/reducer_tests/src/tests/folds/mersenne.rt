@@ -1,6 +1,6 @@
 //! Known values of the reducers and of their reductions.
 
-use crate::tests::residues::{edges, inverse, residues_modulo};
+use crate::tests::residues::{has_edges, has_residues, inverse};
 use modular_folds::mersenne::{FixedMersenne, FixedMersenne32, FixedMersenne64};
 use modular_reduced::reducer::Reducer;
 use modular_word::ring_word::RingWord;
@@ -49,64 +49,63 @@ fn moduli(rt: HostRuntime) {
         FixedMersenne64::<64, 59>::fixed_modulus(),
         FixedMersenne::<64, 59>::fixed_modulus(),
     );
-    check!(&rt, 1; found
+    check!(&rt, 1;
+        found
             == (
                 3,
                 4294967291,
                 2305843009213693951,
                 18446744073709551557,
                 18446744073709551557
-            ));
+            )
+    );
 }
 
+// One function, as each that names reducers pays for what they have in common.
 #[test]
-fn edge_parameters(rt: HostRuntime) {
+fn edges_and_operations(rt: HostRuntime) {
     let rt = &rt;
-    let found = edges::<u32, FixedMersenne32<2, 1>>(3, 2, u32::MAX);
-    check!(rt, 1; found == [0, 1, 2, 0, 0, 1]);
-    let found = edges::<u32, FixedMersenne32<32, 5>>(4294967291, 4294967290, u32::MAX);
-    check!(rt, 2; found == [0, 1, 4294967290, 0, 4, 1]);
     let (m, last) = (18446744073709551557, 18446744073709551556);
-    let found = edges::<u64, FixedMersenne64<64, 59>>(m, last, u64::MAX);
-    check!(rt, 3; found == [0, 1, 18446744073709551556, 0, 58, 1]);
+    check!(rt, 1; has_edges::<u32, FixedMersenne32<2, 1>>(3, (2, u32::MAX), [0, 1, 2, 0, 0, 1]));
+    check!(rt, 2;
+        has_edges::<u32, FixedMersenne32<32, 5>>(4294967291, (4294967290, u32::MAX), [0, 1, 4294967290, 0, 4, 1])
+    );
+    check!(rt, 3; has_edges::<u64, FixedMersenne64<64, 59>>(m, (last, u64::MAX), [0, 1, last, 0, 58, 1]));
     let (m, last) = (18446744073709551557, 18446744073709551556);
-    let found = edges::<u128, FixedMersenne<64, 59>>(m, last, u128::MAX);
-    check!(rt, 4; found == [0, 1, 18446744073709551556, 0, 3480, 1]);
-}
-
-#[test]
-fn each_operation(rt: HostRuntime) {
-    let rt = &rt;
-    let found = residues_modulo::<u32, FixedMersenne32<13, 1>>(8191, 100, 200);
-    check!(rt, 1; found == [300, 8091, 3618, 200, 8091, 1809]);
-    let found = residues_modulo::<u32, FixedMersenne32<4, 7>>(9, 5, 7);
-    check!(rt, 2; found == [3, 7, 8, 1, 4, 7]);
-    let found = residues_modulo::<u64, FixedMersenne64<61, 1>>(2305843009213693951, 1000, 2000);
-    check!(rt, 3; found
-            == [
+    check!(rt, 4; has_edges::<u128, FixedMersenne<64, 59>>(m, (last, u128::MAX), [0, 1, last, 0, 3480, 1]));
+    check!(rt, 5;
+        has_residues::<u32, FixedMersenne32<13, 1>>(8191, (100, 200), [300, 8091, 3618, 200, 8091, 1809])
+    );
+    check!(rt, 6; has_residues::<u32, FixedMersenne32<4, 7>>(9, (5, 7), [3, 7, 8, 1, 4, 7]));
+    check!(rt, 7;
+        has_residues::<u64, FixedMersenne64<61, 1>>(
+            2305843009213693951,
+            (1000, 2000),
+            [
                 3000,
                 2305843009213692951,
                 2000000,
                 2000,
                 2305843009213692951,
                 1000000
-            ]);
-    let found = residues_modulo::<u128, FixedMersenne<31, 1>>(2147483647, 1000, 2000);
-    check!(rt, 4; found == [3000, 2147482647, 2000000, 2000, 2147482647, 1000000]);
-}
-
-#[test]
-fn checks_and_inverses(rt: HostRuntime) {
-    let rt = &rt;
+            ]
+        )
+    );
+    check!(rt, 8;
+        has_residues::<u128, FixedMersenne<31, 1>>(
+            2147483647,
+            (1000, 2000),
+            [3000, 2147482647, 2000000, 2000, 2147482647, 1000000]
+        )
+    );
     type Small = FixedMersenne32<4, 1>;
-    check!(rt, 1; inverse::<u32, Small>(15, 7) == Some(13));
-    check!(rt, 2; inverse::<u32, Small>(15, 5) == None);
-    check!(rt, 3; checks::<u32, Small>(15, 14, 15, 30) == [true, false, true]);
+    check!(rt, 9; inverse::<u32, Small>(15, 7) == Some(13));
+    check!(rt, 10; inverse::<u32, Small>(15, 5) == None);
+    check!(rt, 11; checks::<u32, Small>(15, 14, 15, 30) == [true, false, true]);
     type Wide = FixedMersenne<4, 1>;
-    check!(rt, 4; inverse::<u128, Wide>(15, 7) == Some(13));
-    check!(rt, 5; inverse::<u128, Wide>(15, 5) == None);
-    check!(rt, 6; checks::<u128, Wide>(15, 14, 15, 30) == [true, false, true]);
-    check!(rt, 7; checks::<u128, Wide>(15, 14, u128::MAX, 30) == [true, false, true]);
-    type Middle = FixedMersenne64<64, 59>;
-    check!(rt, 8; inverse::<u64, Middle>(18446744073709551557, 2) == Some(9223372036854775779));
+    check!(rt, 12; inverse::<u128, Wide>(15, 7) == Some(13));
+    check!(rt, 13; inverse::<u128, Wide>(15, 5) == None);
+    check!(rt, 14; checks::<u128, Wide>(15, 14, 15, 30) == [true, false, true]);
+    check!(rt, 15; checks::<u128, Wide>(15, 14, u128::MAX, 30) == [true, false, true]);
+    check!(rt, 16; inverse::<u64, FixedMersenne64<64, 59>>(18446744073709551557, 2) == Some(9223372036854775779));
 }

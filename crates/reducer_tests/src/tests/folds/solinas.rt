@@ -1,7 +1,7 @@
 //! Known values of the reducers and of their reductions.
 
 use super::mersenne::checks;
-use crate::tests::residues::{edges, inverse, residues_modulo};
+use crate::tests::residues::{has_edges, has_residues, inverse};
 use modular_folds::solinas::{FixedTrinomialSolinas32, FixedTrinomialSolinas64};
 use modular_reduced::reducer::Reducer;
 
@@ -42,54 +42,34 @@ fn moduli(rt: HostRuntime) {
     check!(&rt, 1; found == (1, 13, 13, 2147483647, 61, 18446744069414584321));
 }
 
+// One function, as each that names reducers pays for what they have in common. The edges are of the parameters, also
+// of factors of more than half the bits.
 #[test]
-fn edge_parameters(rt: HostRuntime) {
-    let rt = &rt;
-    let found = edges::<u32, FixedTrinomialSolinas32<2, 1, -1>>(1, 0, u32::MAX);
-    check!(rt, 1; found == [0, 0, 0, 0, 0, 0]);
-    let found = edges::<u32, FixedTrinomialSolinas32<5, 4, -3>>(13, 12, u32::MAX);
-    check!(rt, 2; found == [0, 1, 12, 0, 8, 1]);
-    let (m, last) = (2147483647, 2147483646);
-    let found = edges::<u32, FixedTrinomialSolinas32<32, 31, -1>>(m, last, u32::MAX);
-    check!(rt, 3; found == [0, 1, 2147483646, 0, 1, 1]);
-    let (m, last) = (18446744069414584321, 18446744069414584320);
-    let found = edges::<u64, FixedTrinomialSolinas64<64, 32, 1>>(m, last, u64::MAX);
-    check!(rt, 4; found == [0, 1, 18446744069414584320, 0, 4294967294, 1]);
-}
-
-#[test]
-fn factors_of_more_than_half_the_bits(rt: HostRuntime) {
-    let rt = &rt;
-    let (m, last) = (4293918721, 4293918720);
-    let found = edges::<u32, FixedTrinomialSolinas32<32, 20, 1>>(m, last, u32::MAX);
-    check!(rt, 1; found == [0, 1, 4293918720, 0, 1048574, 1]);
-    let (m, last) = (18446742974197923841, 18446742974197923840);
-    let found = edges::<u64, FixedTrinomialSolinas64<64, 40, 1>>(m, last, u64::MAX);
-    check!(rt, 2; found == [0, 1, 18446742974197923840, 0, 1099511627774, 1]);
-}
-
-#[test]
-fn each_operation(rt: HostRuntime) {
-    let rt = &rt;
-    let found = residues_modulo::<u32, FixedTrinomialSolinas32<4, 2, 1>>(13, 3, 5);
-    check!(rt, 1; found == [8, 11, 2, 6, 10, 9]);
-    let found = residues_modulo::<u64, FixedTrinomialSolinas64<6, 2, 1>>(61, 10, 20);
-    check!(rt, 2; found == [30, 51, 17, 20, 51, 39]);
-    let m = 18446744069414584321;
-    let found = residues_modulo::<u64, FixedTrinomialSolinas64<64, 32, 1>>(m, m - 1, m - 2);
-    check!(rt, 3; found == [18446744069414584318, 1, 2, 18446744069414584319, 1, 1]);
-}
-
-#[test]
-fn checks_and_inverses(rt: HostRuntime) {
-    let rt = &rt;
+fn edges_and_operations(rt: HostRuntime) {
     type Small = FixedTrinomialSolinas32<4, 2, 1>;
-    check!(rt, 1; inverse::<u32, Small>(13, 7) == Some(2));
-    check!(rt, 2; inverse::<u32, Small>(13, 0) == None);
-    check!(rt, 3; checks::<u32, Small>(13, 12, 13, 26) == [true, false, true]);
-    check!(rt, 4; inverse::<u32, FixedTrinomialSolinas32<2, 1, -1>>(1, 0) == Some(0));
+    type Middle = FixedTrinomialSolinas32<32, 20, 1>;
+    type Narrow = FixedTrinomialSolinas32<32, 31, -1>;
     type Wide = FixedTrinomialSolinas64<64, 32, 1>;
+    let (rt, all, words) = (&rt, u32::MAX, u64::MAX);
+    check!(rt, 1; has_edges::<u32, FixedTrinomialSolinas32<2, 1, -1>>(1, (0, all), [0, 0, 0, 0, 0, 0]));
+    check!(rt, 2; has_edges::<u32, FixedTrinomialSolinas32<5, 4, -3>>(13, (12, all), [0, 1, 12, 0, 8, 1]));
+    check!(rt, 3; has_edges::<u32, Narrow>(2147483647, (2147483646, all), [0, 1, 2147483646, 0, 1, 1]));
+    check!(rt, 4; has_edges::<u32, Middle>(4293918721, (4293918720, all), [0, 1, 4293918720, 0, 1048574, 1]));
+    let (m, last) = (18446742974197923841, 18446742974197923840);
+    check!(rt, 5;
+        has_edges::<u64, FixedTrinomialSolinas64<64, 40, 1>>(m, (last, words), [0, 1, last, 0, 1099511627774, 1])
+    );
     let (m, last) = (18446744069414584321, 18446744069414584320);
-    check!(rt, 5; inverse::<u64, Wide>(m, 2) == Some(9223372034707292161));
-    check!(rt, 6; checks::<u64, Wide>(m, last, m, m) == [true, false, true]);
+    check!(rt, 6; has_edges::<u64, Wide>(m, (last, words), [0, 1, last, 0, 4294967294, 1]));
+    check!(rt, 7;
+        has_residues::<u64, Wide>(m, (m - 1, m - 2), [18446744069414584318, 1, 2, 18446744069414584319, 1, 1])
+    );
+    check!(rt, 8; inverse::<u64, Wide>(m, 2) == Some(9223372034707292161));
+    check!(rt, 9; checks::<u64, Wide>(m, last, m, m) == [true, false, true]);
+    check!(rt, 10; has_residues::<u64, FixedTrinomialSolinas64<6, 2, 1>>(61, (10, 20), [30, 51, 17, 20, 51, 39]));
+    check!(rt, 11; has_residues::<u32, Small>(13, (3, 5), [8, 11, 2, 6, 10, 9]));
+    check!(rt, 12; inverse::<u32, Small>(13, 7) == Some(2));
+    check!(rt, 13; inverse::<u32, Small>(13, 0) == None);
+    check!(rt, 14; checks::<u32, Small>(13, 12, 13, 26) == [true, false, true]);
+    check!(rt, 15; inverse::<u32, FixedTrinomialSolinas32<2, 1, -1>>(1, 0) == Some(0));
 }

@@ -1,5 +1,6 @@
 //! Known values of the reducer, and comparisons with plain remainders.
 
+use crate::tests::assert_at;
 use crate::tests::residues::{agree, inverse, product};
 use modular_monty::montgomery::Montgomery;
 use modular_prim::plain_word::PlainWord;
@@ -106,10 +107,15 @@ fn sums_of_zero(rt: HostRuntime) {
     check!(rt, 2; !sum_is_zero::<Montgomery<u8>>(11, 5, 7));
 }
 
-// The modulus, two factors and the residue of their product.
+// Whether the row's modulus, two factors and residue of their product are so.
+fn is_right<T: PlainWord>(row: &(T, T, T, T)) -> bool {
+    let &(m, x, y, want) = row;
+    !m.is_zero_word() && product::<T, Montgomery<T>>(m, x, y) == want
+}
+
 fn assert_products<T: PlainWord>(rt: &impl Abort, rows: &[(T, T, T, T)]) {
-    for &(m, x, y, want) in rows {
-        check!(rt, 1; !m.is_zero_word() && product::<T, Montgomery<T>>(m, x, y) == want);
+    for i in 0..rows.len() {
+        assert_at(rt, is_right(&rows[i]), &i);
     }
 }
 

@@ -1,6 +1,6 @@
 //! Known values of the reducers of the moduli K * 2^N + 1.
 
-use crate::tests::residues::{edges, product, remainder};
+use crate::tests::residues::{has_edges, product, remainder};
 use modular_monty::proth::{FixedProth32, FixedProth64};
 use modular_reduced::reducer::Reducer;
 use modular_word::ring_word::RingWord;
@@ -10,14 +10,6 @@ fn sum<T: RingWord, R: Reducer<T> + Copy>(m: T, x: T, y: T) -> T
 {
     let ring = R::new(&m);
     ring.residue(ring.add(&ring.transform(x), &ring.transform(y)))
-}
-
-#[test]
-fn small_moduli(rt: HostRuntime) {
-    let rt = &rt;
-    check!(rt, 1; sum::<u32, FixedProth32<4, 1>>(17, 3, 5) == 8);
-    check!(rt, 2; product::<u32, FixedProth32<4, 1>>(17, 3, 5) == 15);
-    check!(rt, 3; product::<u64, FixedProth64<5, 3>>(97, 10, 20) == 6);
 }
 
 #[test]
@@ -32,49 +24,34 @@ fn fixed_moduli(rt: HostRuntime) {
     check!(rt, 2; FixedProth64::<5, 3>::fixed_modulus() == 97);
 }
 
+// One function, as each that names reducers pays for what they have in common.
 #[test]
-fn reductions_with_a_carry(rt: HostRuntime) {
-    let rt = &rt;
+fn sums_products_and_edges(rt: HostRuntime) {
+    let (rt, all, words) = (&rt, 4294967295, 18446744073709551615);
+    check!(rt, 1; sum::<u32, FixedProth32<4, 1>>(17, 3, 5) == 8);
+    check!(rt, 2; product::<u32, FixedProth32<4, 1>>(17, 3, 5) == 15);
+    check!(rt, 3; product::<u64, FixedProth64<5, 3>>(97, 10, 20) == 6);
+    check!(rt, 4; has_edges::<u32, FixedProth32<1, 1>>(3, (2, all), [0, 1, 2, 0, 0, 1]));
+    let (m, last) = (2139095041, 2139095040);
+    check!(rt, 5; has_edges::<u32, FixedProth32<23, 255>>(m, (last, all), [0, 1, 2139095040, 0, 16777213, 1]));
+    let (m, last) = (2147483649, 2147483648);
+    check!(rt, 6; has_edges::<u32, FixedProth32<31, 1>>(m, (last, all), [0, 1, 2147483648, 0, 2147483646, 1]));
+    let (m, last) = (2415919105, 2415919104);
+    check!(rt, 7; has_edges::<u32, FixedProth32<28, 9>>(m, (last, all), [0, 1, 2415919104, 0, 1879048190, 1]));
+    let (m, last) = (9223372036854775809, 9223372036854775808);
+    check!(rt, 8; has_edges::<u64, FixedProth64<63, 1>>(m, (last, words), [0, 1, last, 0, 9223372036854775806, 1]));
     let ring = FixedProth32::<27, 17>::new(&2281701377);
-    check!(rt, 1; remainder(&ring, 4294967295) == 2013265918);
+    check!(rt, 9; remainder(&ring, 4294967295) == 2013265918);
     // (m - 1) * 2^32 + m: the sum is (2 * m - 1) * 2^32, which overflows 64 bits
-    check!(rt, 2; ring.reduce(9799832791439900673) == 2281701376);
+    check!(rt, 10; ring.reduce(9799832791439900673) == 2281701376);
     let ring = FixedProth32::<28, 9>::new(&2415919105);
-    let found = (ring.transform(4294967292), remainder(&ring, 4294967292));
-    check!(rt, 3; found == (2028179012, 1879048187));
-}
-
-#[test]
-fn one_over_half_the_base(rt: HostRuntime) {
-    let rt = &rt;
+    check!(rt, 11; ring.transform(4294967292) == 2028179012);
+    check!(rt, 12; remainder(&ring, 4294967292) == 1879048187);
+    // one over half the base
     let ring = FixedProth32::<31, 1>::new(&2147483649);
-    let found = (ring.transform(4294967295), remainder(&ring, 4294967295));
-    check!(rt, 1; found == (6, 2147483646));
+    check!(rt, 13; ring.transform(4294967295) == 6);
+    check!(rt, 14; remainder(&ring, 4294967295) == 2147483646);
     let ring = FixedProth64::<63, 1>::new(&9223372036854775809);
-    let found = (
-        ring.transform(18446744073709551615),
-        remainder(&ring, 18446744073709551615),
-    );
-    check!(rt, 2; found == (6, 9223372036854775806));
-}
-
-#[test]
-fn edges_of_the_range_of_32_bits(rt: HostRuntime) {
-    let rt = &rt;
-    let found = edges::<u32, FixedProth32<1, 1>>(3, 2, 4294967295);
-    check!(rt, 1; found == [0, 1, 2, 0, 0, 1]);
-    let found = edges::<u32, FixedProth32<23, 255>>(2139095041, 2139095040, 4294967295);
-    check!(rt, 2; found == [0, 1, 2139095040, 0, 16777213, 1]);
-    let found = edges::<u32, FixedProth32<31, 1>>(2147483649, 2147483648, 4294967295);
-    check!(rt, 3; found == [0, 1, 2147483648, 0, 2147483646, 1]);
-    let found = edges::<u32, FixedProth32<28, 9>>(2415919105, 2415919104, 4294967295);
-    check!(rt, 4; found == [0, 1, 2415919104, 0, 1879048190, 1]);
-}
-
-#[test]
-fn edges_of_the_range_of_64_bits(rt: HostRuntime) {
-    let m = 9223372036854775809;
-    let last = 9223372036854775808;
-    let found = edges::<u64, FixedProth64<63, 1>>(m, last, 18446744073709551615);
-    check!(&rt, 1; found == [0, 1, last, 0, 9223372036854775806, 1]);
+    check!(rt, 15; ring.transform(18446744073709551615) == 6);
+    check!(rt, 16; remainder(&ring, 18446744073709551615) == 9223372036854775806);
 }

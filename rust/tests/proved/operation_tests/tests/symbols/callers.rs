@@ -54,7 +54,8 @@ fn callers_of_symbols() {
         jacobi_of_seven(),
         legendre_of_three(),
     );
-    check!(&rt, 1; found
+    check!(&rt, 1;
+        found
             == (
                 Some(-1),
                 None,
@@ -64,5 +65,6 @@ fn callers_of_symbols() {
                 (Some(1), Some(1)),
                 -1,
                 1
-            ));
+            )
+    );
 }

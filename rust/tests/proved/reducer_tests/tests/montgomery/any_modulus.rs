@@ -1,5 +1,6 @@
 //! Known values of the reducer, and comparisons with plain remainders.
 
+use crate::reducer_tests::tests::assert_at;
 use crate::reducer_tests::tests::residues::{agree, inverse, product};
 use num_modular::modular_monty::montgomery::Montgomery;
 use num_modular::modular_prim::plain_word::PlainWord;
@@ -104,10 +105,15 @@ fn sums_of_zero() {
     check!(rt, 2; !sum_is_zero::<Montgomery<u8>>(11, 5, 7));
 }
 
-// The modulus, two factors and the residue of their product.
+// Whether the row's modulus, two factors and residue of their product are so.
+fn is_right<T: PlainWord>(row: &(T, T, T, T)) -> bool {
+    let &(m, x, y, want) = row;
+    !m.is_zero_word() && product::<T, Montgomery<T>>(m, x, y) == want
+}
+
 fn assert_products<T: PlainWord>(rt: &impl Abort, rows: &[(T, T, T, T)]) {
-    for &(m, x, y, want) in rows {
-        check!(rt, 1; !m.is_zero_word() && product::<T, Montgomery<T>>(m, x, y) == want);
+    for i in 0..rows.len() {
+        assert_at(rt, is_right(&rows[i]), &i);
     }
 }
 
