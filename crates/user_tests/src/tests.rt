@@ -1,5 +1,12 @@
 //! Known values of each user from other sources, the README's examples, and a use of each public item.
 
+// `assert!` writes the text of what it compares, which takes longer to prove than the rest of most tests.
+macro_rules! check {
+    ($rt:expr, $number:literal; $holds:expr) => {
+        crate::tests::assert_nth($rt, $number, $holds)
+    };
+}
+
 mod check_symbols;
 mod each_client;
 mod erasure;
@@ -18,4 +25,9 @@ use std::process::Abort;
 /// Asserts that what is compared at these values holds; else prints the values.
 pub fn assert_at<V: Debug>(rt: &impl Abort, holds: bool, values: &V) {
     assert!(rt; holds, "{values:?}");
+}
+
+/// Asserts that the check of this number in a test holds; else prints the number.
+pub fn assert_nth(rt: &impl Abort, number: u32, holds: bool) {
+    assert!(rt; holds, "check {number}");
 }

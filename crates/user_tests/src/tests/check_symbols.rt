@@ -92,48 +92,45 @@ fn finds_one_exchange(code: Code<'_>, text: &[u8], place: usize) -> Option<bool>
 
 #[test]
 fn numbers_of_each_standard(rt: HostRuntime) {
-    assert!(rt; keeps_text(ISBN_10, b"0306406152"));
-    assert!(rt; keeps_text(ISBN_10, b"080442957X"));
-    assert!(rt; keeps_text(ISBN_13, b"9780306406157"));
-    assert!(rt; keeps_text(EAN_13, b"4006381333931"));
-    assert!(rt; keeps_text(EAN_8, b"73513537"));
-    assert!(rt; keeps_text(UPC_A, b"036000291452"));
-    assert!(rt; keeps_text(ISSN, b"0378-5955"));
-    assert!(rt; keeps_text(ISSN, b"2434-561X"));
+    let rt = &rt;
+    check!(rt, 1; keeps_text(ISBN_10, b"0306406152"));
+    check!(rt, 2; keeps_text(ISBN_10, b"080442957X"));
+    check!(rt, 3; keeps_text(ISBN_13, b"9780306406157"));
+    check!(rt, 4; keeps_text(EAN_13, b"4006381333931"));
+    check!(rt, 5; keeps_text(EAN_8, b"73513537"));
+    check!(rt, 6; keeps_text(UPC_A, b"036000291452"));
+    check!(rt, 7; keeps_text(ISSN, b"0378-5955"));
+    check!(rt, 8; keeps_text(ISSN, b"2434-561X"));
     let mut word = ACCOUNT;
-    assert!(rt; keeps(iban_code(28), &mut word));
+    check!(rt, 9; keeps(iban_code(28), &mut word));
 }
 
 #[test]
 fn words_of_another_form(rt: HostRuntime) {
+    let rt = &rt;
     for code in standard_codes() {
-        assert!(rt; !code.accepts(&[]) && !code.accepts(&[0]));
+        check!(rt, 1; !code.accepts(&[]) && !code.accepts(&[0]));
     }
     // the weighted sum of each is 0 modulo 11: 11 for 0, 14 for 3, and an X before the last place
-    assert!(rt; !ISBN_10.accepts(&[11, 3, 0, 6, 4, 0, 6, 1, 5, 2]));
-    assert!(rt; !ISBN_10.accepts(&[0, 14, 0, 6, 4, 0, 6, 1, 5, 2]));
-    assert!(rt; !accepts(ISBN_10, b"X000000050") && !accepts(ISBN_10, b"X00000000X"));
-    assert!(rt; !accepts(ISSN, b"000X-0005"));
+    check!(rt, 2; !ISBN_10.accepts(&[11, 3, 0, 6, 4, 0, 6, 1, 5, 2]));
+    check!(rt, 3; !ISBN_10.accepts(&[0, 14, 0, 6, 4, 0, 6, 1, 5, 2]));
+    check!(rt, 4; !accepts(ISBN_10, b"X000000050") && !accepts(ISBN_10, b"X00000000X"));
+    check!(rt, 5; !accepts(ISSN, b"000X-0005"));
     // the number of a book is an article's, and not each article's is a book's
-    assert!(rt; accepts(EAN_13, b"9780306406157") && !accepts(ISBN_13, b"4006381333931"));
+    check!(rt, 6; accepts(EAN_13, b"9780306406157") && !accepts(ISBN_13, b"4006381333931"));
 }
 
 #[test]
 fn exchanges_of_neighbours(rt: HostRuntime) {
+    let rt = &rt;
     // 0 and 3 of a book; 3 and 8 of an article, which differ by 5, and 8 and 1
-    assert_eq!(rt; finds_one_exchange(ISBN_10, b"0306406152", 0), Some(true));
-    assert_eq!(rt;
-        finds_one_exchange(EAN_13, b"4006381333931", 4),
-        Some(false)
-    );
-    assert_eq!(rt; finds_one_exchange(EAN_13, b"4006381333931", 5), Some(true));
-    assert_eq!(rt;
-        finds_one_exchange(ISBN_13, b"9780306406157", 2),
-        Some(true)
-    );
-    assert!(rt; accepts(EAN_13, b"4006831333931") && !EAN_13.can_restore(5));
+    check!(rt, 1; finds_one_exchange(ISBN_10, b"0306406152", 0) == Some(true));
+    check!(rt, 2; finds_one_exchange(EAN_13, b"4006381333931", 4) == Some(false));
+    check!(rt, 3; finds_one_exchange(EAN_13, b"4006381333931", 5) == Some(true));
+    check!(rt, 4; finds_one_exchange(ISBN_13, b"9780306406157", 2) == Some(true));
+    check!(rt, 5; accepts(EAN_13, b"4006831333931") && !EAN_13.can_restore(5));
     if iban_code(28).accepts(&ACCOUNT) {
-        assert!(rt; iban_code(28).finds_exchange(&ACCOUNT, 26));
+        check!(rt, 6; iban_code(28).finds_exchange(&ACCOUNT, 26));
     }
 }
 
@@ -165,16 +162,17 @@ fn refuses_other_characters(text: &[u8]) -> bool {
 
 #[test]
 fn published_ibans(rt: HostRuntime) {
+    let rt = &rt;
     // the United Kingdom, Germany, France and the Netherlands
-    assert!(rt; refuses_other_characters(b"GB82WEST12345698765432"));
-    assert!(rt; refuses_other_characters(b"DE89370400440532013000"));
-    assert!(rt; refuses_other_characters(b"FR1420041010050500013M02606"));
-    assert!(rt; refuses_other_characters(b"NL91ABNA0417164300"));
+    check!(rt, 1; refuses_other_characters(b"GB82WEST12345698765432"));
+    check!(rt, 2; refuses_other_characters(b"DE89370400440532013000"));
+    check!(rt, 3; refuses_other_characters(b"FR1420041010050500013M02606"));
+    check!(rt, 4; refuses_other_characters(b"NL91ABNA0417164300"));
     // a digit, a digit, a letter and a letter changed
-    assert!(rt; !accepts_iban(b"GB82WEST12345698765433"));
-    assert!(rt; !accepts_iban(b"DE88370400440532013000"));
-    assert!(rt; !accepts_iban(b"FR1420041010050500013N02606"));
-    assert!(rt; !accepts_iban(b"NL91ABNB0417164300"));
+    check!(rt, 5; !accepts_iban(b"GB82WEST12345698765433"));
+    check!(rt, 6; !accepts_iban(b"DE88370400440532013000"));
+    check!(rt, 7; !accepts_iban(b"FR1420041010050500013N02606"));
+    check!(rt, 8; !accepts_iban(b"NL91ABNB0417164300"));
 }
 
 // Whether the text is an IBAN, and so is the same with two neighbours that differ exchanged, exactly at
@@ -200,47 +198,50 @@ fn misses_exchanges(text: &[u8], places: &[usize]) -> bool {
 
 #[test]
 fn exchanged_characters_of_an_iban(rt: HostRuntime) {
-    assert!(rt; misses_exchanges(b"GB82WEST12345698765432", &[]));
-    assert!(rt; misses_exchanges(b"FR1420041010050500013M02606", &[]));
+    let rt = &rt;
+    check!(rt, 1; misses_exchanges(b"GB82WEST12345698765432", &[]));
+    check!(rt, 2; misses_exchanges(b"FR1420041010050500013M02606", &[]));
     // 1 and B, 2 and M, 3 and X, in both orders
-    assert!(rt; misses_exchanges(b"FR172004101005051B013M02606", &[16]));
-    assert!(rt; misses_exchanges(b"FR2920041010050500012M02606", &[20]));
-    assert!(rt; misses_exchanges(b"GB80WEX312345698765432", &[6]));
-    assert!(rt; misses_exchanges(b"FR681B2M3X0B1M2X3", &[4, 6, 8, 11, 13, 15]));
+    check!(rt, 3; misses_exchanges(b"FR172004101005051B013M02606", &[16]));
+    check!(rt, 4; misses_exchanges(b"FR2920041010050500012M02606", &[20]));
+    check!(rt, 5; misses_exchanges(b"GB80WEX312345698765432", &[6]));
+    check!(rt, 6; misses_exchanges(b"FR681B2M3X0B1M2X3", &[4, 6, 8, 11, 13, 15]));
     // 1 is the last check digit
-    assert!(rt; misses_exchanges(b"GB21B1011", &[4]));
+    check!(rt, 7; misses_exchanges(b"GB21B1011", &[4]));
 }
 
 #[test]
 fn check_digits_of_an_iban(rt: HostRuntime) {
+    let rt = &rt;
     // the least and the greatest check digits, and one more that is generated
-    assert!(rt; accepts_iban(b"GB02WEST12345600000017"));
-    assert!(rt; accepts_iban(b"GB97WEST12345600000053"));
-    assert!(rt; accepts_iban(b"GB98WEST12345600000035"));
+    check!(rt, 1; accepts_iban(b"GB02WEST12345600000017"));
+    check!(rt, 2; accepts_iban(b"GB97WEST12345600000053"));
+    check!(rt, 3; accepts_iban(b"GB98WEST12345600000035"));
     // the same accounts with check digits whose number is 1 modulo 97 and that aren't generated
-    assert!(rt; !accepts_iban(b"GB99WEST12345600000017"));
-    assert!(rt; !accepts_iban(b"GB00WEST12345600000053"));
-    assert!(rt; !accepts_iban(b"GB01WEST12345600000035"));
+    check!(rt, 4; !accepts_iban(b"GB99WEST12345600000017"));
+    check!(rt, 5; !accepts_iban(b"GB00WEST12345600000053"));
+    check!(rt, 6; !accepts_iban(b"GB01WEST12345600000035"));
 }
 
 #[test]
 fn texts_of_another_form(rt: HostRuntime) {
-    assert!(rt;
-        !has_iban_form(b"GB82 WEST 1234 5698 7654 32") && !has_iban_form(b"gb82west12345698765432")
-    );
-    assert!(rt;
-        !has_iban_form(b"82GBWEST12345698765432") && !has_iban_form(b"GB82") && !has_iban_form(b"")
-    );
-    assert!(rt; has_iban_form(b"GB82W") && !accepts_iban(b"GB82 WEST 1234 5698 7654 32"));
+    let rt = &rt;
+    check!(rt, 1; !has_iban_form(b"GB82 WEST 1234 5698 7654 32") && !has_iban_form(b"gb82west12345698765432"));
+    check!(rt, 2; !has_iban_form(b"82GBWEST12345698765432") && !has_iban_form(b"GB82") && !has_iban_form(b""));
+    check!(rt, 3; has_iban_form(b"GB82W") && !accepts_iban(b"GB82 WEST 1234 5698 7654 32"));
+}
+
+// Whether a text has the form of an IBAN, and these digits.
+fn has_digits(text: &[u8], wanted: &[u64]) -> bool {
+    let mut digits = [0; 68];
+    if !has_iban_form(text) {
+        return false;
+    }
+    let count = iban_digits(text, &mut digits);
+    &digits[..count] == wanted
 }
 
 #[test]
 fn digits_of_an_iban(rt: HostRuntime) {
-    let text = b"GB82WEST12345698765432";
-    let mut digits = [0; 68];
-    if has_iban_form(text) {
-        let count = iban_digits(text, &mut digits);
-        assert_eq!(rt; count, 28);
-    }
-    assert!(rt; &digits[..28] == ACCOUNT.as_slice());
+    check!(&rt, 1; has_digits(b"GB82WEST12345698765432", &ACCOUNT));
 }

@@ -213,11 +213,12 @@ fn has_word<R: Reducer<u64>, const N: usize>(
 
 #[test]
 fn words_of_three_symbols(rt: HostRuntime) {
+    let rt = &rt;
     let points = [0, 1, 2, 3, 4, 5, 6];
     let prime = Montgomery::<u64>::new(929);
-    assert!(rt; has_word(&prime, &points, [1, 2, 3], [1, 6, 17, 34, 57, 86, 121]));
+    check!(rt, 1; has_word(&prime, &points, [1, 2, 3], [1, 6, 17, 34, 57, 86, 121]));
     let composite = Montgomery::<u64>::new(1001);
-    assert!(rt;
+    check!(rt, 2;
         has_word(
             &composite,
             &points,
@@ -229,6 +230,7 @@ fn words_of_three_symbols(rt: HostRuntime) {
 
 #[test]
 fn words_modulo_a_mersenne_prime(rt: HostRuntime) {
+    let rt = &rt;
     let r = FixedMersenne64::<61, 1>::new(&MERSENNE_PRIME);
     let points = [1, 2, 3, 2305843009213693950, 1152921504606846976];
     let message = [2305843009213693950, 1234567890123456789, 987654321];
@@ -239,30 +241,32 @@ fn words_modulo_a_mersenne_prime(rt: HostRuntime) {
         1071275120077891482,
         40823193005218486,
     ];
-    assert!(rt; has_word(&r, &points, message, word));
-    assert!(rt; restores(&r, &points, &word, message, [2, 3, 4]));
+    check!(rt, 1; has_word(&r, &points, message, word));
+    check!(rt, 2; restores(&r, &points, &word, message, [2, 3, 4]));
 }
 
 #[test]
 fn systematic_words(rt: HostRuntime) {
+    let rt = &rt;
     let points = [0, 1, 2, 3, 4, 5, 6];
     let prime = Montgomery::<u64>::new(929);
     let word = [3, 2, 1, 0, 928, 927, 926];
-    assert!(rt; systematic_word_of(&prime, &points, &[3, 2, 1]) == Some(word));
-    assert!(rt; is_word::<_, 7, 3>(&prime, &points, &word) == Some(true));
+    check!(rt, 1; systematic_word_of(&prime, &points, &[3, 2, 1]) == Some(word));
+    check!(rt, 2; is_word::<_, 7, 3>(&prime, &points, &word) == Some(true));
     let composite = Montgomery::<u64>::new(1001);
     let word = [500, 700, 999, 396, 893, 488, 182];
-    assert!(rt; systematic_word_of(&composite, &points, &[500, 700, 999]) == Some(word));
-    assert!(rt; is_word::<_, 7, 3>(&composite, &points, &word) == Some(true));
+    check!(rt, 3; systematic_word_of(&composite, &points, &[500, 700, 999]) == Some(word));
+    check!(rt, 4; is_word::<_, 7, 3>(&composite, &points, &word) == Some(true));
 }
 
 #[test]
 fn points_that_fit(rt: HostRuntime) {
-    assert!(rt; fit(&Montgomery::<u64>::new(929), &[0, 1, 2, 3, 4, 5, 6]));
-    assert!(rt; fit(&Montgomery::<u64>::new(1001), &[0, 1, 2, 3, 4, 5, 6]));
-    assert!(rt; !fit(&Montgomery::<u64>::new(1001), &[0, 1, 2, 3, 4, 5, 6, 7]));
-    assert!(rt; fit(&Montgomery::<u64>::new(1001), &[]));
-    assert!(rt; !fit(&Montgomery::<u64>::new(929), &[5, 934]));
+    let rt = &rt;
+    check!(rt, 1; fit(&Montgomery::<u64>::new(929), &[0, 1, 2, 3, 4, 5, 6]));
+    check!(rt, 2; fit(&Montgomery::<u64>::new(1001), &[0, 1, 2, 3, 4, 5, 6]));
+    check!(rt, 3; !fit(&Montgomery::<u64>::new(1001), &[0, 1, 2, 3, 4, 5, 6, 7]));
+    check!(rt, 4; fit(&Montgomery::<u64>::new(1001), &[]));
+    check!(rt, 5; !fit(&Montgomery::<u64>::new(929), &[5, 934]));
 }
 
 // The numbers from 1 to N.
@@ -278,25 +282,26 @@ fn counted<const N: usize>() -> [u64; N]
 
 #[test]
 fn many_symbols(rt: HostRuntime) {
+    let rt = &rt;
     let r = Montgomery::<u64>::new(257);
     let points = counted::<255>();
     let message = counted::<223>();
     let word = word_of(&r, &points, &message);
-    assert!(rt; word[..5] == [47, 112, 216, 190, 80]);
-    assert!(rt; word[250..] == [255, 172, 114, 188, 123]);
+    check!(rt, 1; word[..5] == [47, 112, 216, 190, 80]);
+    check!(rt, 2; word[250..] == [255, 172, 114, 188, 123]);
     let mut sum: u64 = 0;
     for symbol in &word {
         sum = sum.wrapping_add(*symbol);
     }
-    assert!(rt; sum == 32269);
+    check!(rt, 3; sum == 32269);
     let mut places = [0; 223];
     let mut symbols = [0; 223];
     for i in 0..223 {
         places[i] = i + 32;
         symbols[i] = word[i + 32];
     }
-    assert!(rt; restored(&r, &points, &places, &symbols) == Ok(message));
-    assert!(rt; whole_word::<_, 255, 223, 223>(&r, &points, &places, &symbols) == Ok(word));
+    check!(rt, 4; restored(&r, &points, &places, &symbols) == Ok(message));
+    check!(rt, 5; whole_word::<_, 255, 223, 223>(&r, &points, &places, &symbols) == Ok(word));
 }
 
 // Whether this error comes of these places and symbols, for a message of three symbols.
@@ -310,12 +315,13 @@ fn refuses<const P: usize>(places: &[usize; P], symbols: &[u64; P], error: Resto
 
 #[test]
 fn bad_input(rt: HostRuntime) {
-    assert!(rt; refuses(&[0, 1], &[1, 2], RestoreError::TooFewSymbols));
-    assert!(rt; refuses(&[4, 1, 4], &[1, 2, 1], RestoreError::PlaceTwice));
-    assert!(rt; refuses(&[0, 8, 1], &[1, 2, 3], RestoreError::PlaceOutOfRange));
-    assert!(rt; refuses(&[0, 3, 7], &[1, 2, 3], RestoreError::PointsDontFit));
+    let rt = &rt;
+    check!(rt, 1; refuses(&[0, 1], &[1, 2], RestoreError::TooFewSymbols));
+    check!(rt, 2; refuses(&[4, 1, 4], &[1, 2, 1], RestoreError::PlaceTwice));
+    check!(rt, 3; refuses(&[0, 8, 1], &[1, 2, 3], RestoreError::PlaceOutOfRange));
+    check!(rt, 4; refuses(&[0, 3, 7], &[1, 2, 3], RestoreError::PointsDontFit));
     let r = Montgomery::<u64>::new(1001);
-    assert!(rt; systematic_word_of(&r, &[0, 7, 1], &[1, 2]) == None);
+    check!(rt, 5; systematic_word_of(&r, &[0, 7, 1], &[1, 2]) == None);
 }
 
 // The shares of a secret at these points.
@@ -382,12 +388,13 @@ fn shared_and_recovered<R: Reducer<u64>>(
 
 #[test]
 fn secrets(rt: HostRuntime) {
+    let rt = &rt;
     let r = Montgomery::<u64>::new(929);
-    assert!(rt; shared_and_recovered(&r, &[123, 456, 789], &[0, 2, 4]) == Some(123));
-    assert!(rt; shared_and_recovered(&r, &[123, 456, 789], &[4, 1, 3]) == Some(123));
-    assert!(rt; shared_and_recovered(&r, &[123, 456, 789], &[4, 1, 4]) == None);
-    assert!(rt; shares_of(&r, &[1, 2, 3], &[123, 456, 789]) == Ok([439, 475, 231]));
+    check!(rt, 1; shared_and_recovered(&r, &[123, 456, 789], &[0, 2, 4]) == Some(123));
+    check!(rt, 2; shared_and_recovered(&r, &[123, 456, 789], &[4, 1, 3]) == Some(123));
+    check!(rt, 3; shared_and_recovered(&r, &[123, 456, 789], &[4, 1, 4]) == None);
+    check!(rt, 4; shares_of(&r, &[1, 2, 3], &[123, 456, 789]) == Ok([439, 475, 231]));
     // at 0 the share is the secret
-    assert!(rt; shares_of(&r, &[1, 0, 2], &[123, 456, 789]) == Err(ShareError::PointZero));
-    assert!(rt; shares_of(&r, &[1, 2, 929], &[123, 456, 789]) == Err(ShareError::PointZero));
+    check!(rt, 5; shares_of(&r, &[1, 0, 2], &[123, 456, 789]) == Err(ShareError::PointZero));
+    check!(rt, 6; shares_of(&r, &[1, 2, 929], &[123, 456, 789]) == Err(ShareError::PointZero));
 }

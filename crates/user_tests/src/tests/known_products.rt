@@ -65,7 +65,7 @@ fn is_product(xs: &[u16], ys: &[u16], known: &[u16]) -> bool {
 #[test]
 fn known_products(rt: HostRuntime) {
     for (xs, ys, known) in ROWS {
-        assert!(rt; is_product(xs, ys, known));
+        check!(&rt, 1; is_product(xs, ys, known));
     }
 }
 
@@ -122,9 +122,10 @@ fn room(rt: HostRuntime) {
 
 #[test]
 fn no_digits(rt: HostRuntime) {
+    let rt = &rt;
     let mut none = [0; 1];
-    assert!(rt; product(&[], &[], &mut [], &mut none, &mut [NONE]));
-    assert!(rt; product::<Factor<u64>>(&[], &[], &mut [], &mut none, &mut []));
+    check!(rt, 1; product(&[], &[], &mut [], &mut none, &mut [NONE]));
+    check!(rt, 2; product::<Factor<u64>>(&[], &[], &mut [], &mut none, &mut []));
 }
 
 // A number of places, and the length of the transforms.

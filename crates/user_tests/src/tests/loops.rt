@@ -14,12 +14,13 @@ use num_modular::{Montgomery, Reducer};
 
 #[test]
 fn keys_of_two_parties(rt: HostRuntime) {
-    assert!(rt; known_word(5, 6, 23) == 8);
-    assert!(rt; known_word(5, 15, 23) == 19);
-    assert!(rt; keys(5, 6, 15, 23) == (2, 2));
+    let rt = &rt;
+    check!(rt, 1; known_word(5, 6, 23) == 8);
+    check!(rt, 2; known_word(5, 15, 23) == 19);
+    check!(rt, 3; keys(5, 6, 15, 23) == (2, 2));
     let m = 18446744073709551557;
-    assert!(rt; known_word(5, 123456789, m) == 10053095613067059088);
-    assert!(rt; keys(5, 123456789, 987654321, m).1 == 13238872984339080984);
+    check!(rt, 4; known_word(5, 123456789, m) == 10053095613067059088);
+    check!(rt, 5; keys(5, 123456789, 987654321, m).1 == 13238872984339080984);
 }
 
 // A number, a base, and whether Fermat's test to that base proves that the number isn't prime.
@@ -119,10 +120,11 @@ fn inverses(words: [u64; 4], m: u64) -> ([u64; 4], bool)
 
 #[test]
 fn inverses_of_lists(rt: HostRuntime) {
-    assert!(rt; inverses([1, 2, 3, 96], 97) == ([1, 49, 65, 96], true));
-    assert!(rt; inverses([2, 4, 5, 20], 21) == ([11, 16, 17, 20], true));
-    assert!(rt; inverses([2, 4, 6, 20], 21) == ([2, 4, 6, 20], false));
-    assert!(rt; inverses([1, 2, 3, 4], 1) == ([0; 4], true));
+    let rt = &rt;
+    check!(rt, 1; inverses([1, 2, 3, 96], 97) == ([1, 49, 65, 96], true));
+    check!(rt, 2; inverses([2, 4, 5, 20], 21) == ([11, 16, 17, 20], true));
+    check!(rt, 3; inverses([2, 4, 6, 20], 21) == ([2, 4, 6, 20], false));
+    check!(rt, 4; inverses([1, 2, 3, 4], 1) == ([0; 4], true));
 }
 
 // The product by the powers of 372528824, modulo 998244353; `None` where a coefficient is above 1000.
@@ -141,8 +143,9 @@ fn product_of_four_and_five(xs: &[u64; 4], ys: &[u64; 5]) -> Option<[u64; 8]> {
 
 #[test]
 fn products_of_polynomials(rt: HostRuntime) {
+    let rt = &rt;
     let found = product_of_four_and_five(&[1, 2, 3, 0], &[4, 5, 6, 7, 0]);
-    assert!(rt; found == Some([4, 13, 28, 34, 32, 21, 0, 0]));
+    check!(rt, 1; found == Some([4, 13, 28, 34, 32, 21, 0, 0]));
     let found = product_of_four_and_five(&[999, 0, 1000, 1], &[1000, 1000, 1, 2, 3]);
-    assert!(rt; found == Some([999000, 999000, 1000999, 1002998, 4997, 2001, 3002, 3]));
+    check!(rt, 2; found == Some([999000, 999000, 1000999, 1002998, 4997, 2001, 3002, 3]));
 }

@@ -19,24 +19,26 @@ fn there_and_back(moduli: &[u64], number: u128, residues: &[u64]) -> bool {
 
 #[test]
 fn systems(rt: HostRuntime) {
-    assert!(rt; is_system(&[3, 5, 7]) && is_system(&[]) && is_system(&[1, 1]));
-    assert!(rt; !is_system(&[3, 5, 9]) && !is_system(&[0]) && !is_system(&[6, 35, 10]));
-    assert!(rt; !is_system(&[18446744073709551615, 18446744073709551614, 7]));
+    let rt = &rt;
+    check!(rt, 1; is_system(&[3, 5, 7]) && is_system(&[]) && is_system(&[1, 1]));
+    check!(rt, 2; !is_system(&[3, 5, 9]) && !is_system(&[0]) && !is_system(&[6, 35, 10]));
+    check!(rt, 3; !is_system(&[18446744073709551615, 18446744073709551614, 7]));
 }
 
 #[test]
 fn numbers(rt: HostRuntime) {
+    let rt = &rt;
     // Sun Zi's number
-    assert!(rt; there_and_back(&[3, 5, 7], 23, &[2, 3, 2]));
-    assert!(rt; there_and_back(&[3, 5, 7], 104, &[2, 4, 6]));
-    assert!(rt;
+    check!(rt, 1; there_and_back(&[3, 5, 7], 23, &[2, 3, 2]));
+    check!(rt, 2; there_and_back(&[3, 5, 7], 104, &[2, 4, 6]));
+    check!(rt, 3;
         there_and_back(
             &[18446744073709551615, 18446744073709551614],
             123456789012345678901234567890123456789,
             &[558601170425184219, 7251207113188671137]
         )
     );
-    assert!(rt;
+    check!(rt, 4;
         there_and_back(
             &[2, 3, 5, 7, 11, 13, 17, 19],
             9698689,
@@ -55,13 +57,14 @@ fn admitted(moduli: &[u64], answer: bool) -> bool {
 
 #[test]
 fn small_systems(rt: HostRuntime) {
-    assert!(rt; admitted(&[3, 5, 7], true) && admitted(&[], true));
-    assert!(rt; admitted(&[3, 0], false) && admitted(&[4, 9, 10], false));
-    assert!(rt; admitted(&[2, 3, 5, 7, 11, 13, 17, 19], true));
-    assert!(rt; admitted(&[2, 3, 5, 7, 11, 13, 17, 19, 23], false));
+    let rt = &rt;
+    check!(rt, 1; admitted(&[3, 5, 7], true) && admitted(&[], true));
+    check!(rt, 2; admitted(&[3, 0], false) && admitted(&[4, 9, 10], false));
+    check!(rt, 3; admitted(&[2, 3, 5, 7, 11, 13, 17, 19], true));
+    check!(rt, 4; admitted(&[2, 3, 5, 7, 11, 13, 17, 19, 23], false));
     // 2^128 - 1, and (2^64 - 1)·(2^64 + 6)
-    assert!(rt; admitted(&[18446744073709551615, 274177, 67280421310721], true));
-    assert!(rt; admitted(&[18446744073709551615, 2, 9223372036854775811], false));
+    check!(rt, 5; admitted(&[18446744073709551615, 274177, 67280421310721], true));
+    check!(rt, 6; admitted(&[18446744073709551615, 2, 9223372036854775811], false));
 }
 
 // The residues of a number, followed by zeros.
@@ -90,12 +93,13 @@ fn computes(moduli: &[u64], x: u128, y: u128, results: [u128; 3]) -> bool {
 
 #[test]
 fn results(rt: HostRuntime) {
+    let rt = &rt;
     // computed with Python's integers
-    assert!(rt; computes(&[3, 5, 7], 23, 104, [22, 24, 82]));
-    assert!(rt; computes(&[3, 5, 7], 0, 1, [1, 104, 0]));
-    assert!(rt; computes(&[1], 5, 7, [0, 0, 0]) && computes(&[], 5, 7, [0, 0, 0]));
-    assert!(rt; computes(&[8, 27, 25, 49], 100000, 200000, [35400, 164600, 209000]));
-    assert!(rt;
+    check!(rt, 1; computes(&[3, 5, 7], 23, 104, [22, 24, 82]));
+    check!(rt, 2; computes(&[3, 5, 7], 0, 1, [1, 104, 0]));
+    check!(rt, 3; computes(&[1], 5, 7, [0, 0, 0]) && computes(&[], 5, 7, [0, 0, 0]));
+    check!(rt, 4; computes(&[8, 27, 25, 49], 100000, 200000, [35400, 164600, 209000]));
+    check!(rt, 5;
         computes(
             &[2, 3, 5, 7, 11, 13, 17, 19],
             9698689,
@@ -103,7 +107,7 @@ fn results(rt: HostRuntime) {
             [1233566, 8464122, 5758753]
         )
     );
-    assert!(rt;
+    check!(rt, 6;
         computes(
             &[18446744073709551615, 18446744073709551614],
             123456789012345678901234567890123456789,
@@ -124,7 +128,7 @@ fn decoded_by_a_system(rt: HostRuntime) {
         Some(system) => system.decode(&[2, 3, 2]),
         None => 0,
     };
-    assert!(rt; number == 23);
+    check!(&rt, 1; number == 23);
 }
 
 // Whether the commands, from these numbers, leave these residues in register 1; `None` where an inverse doesn't exist.
@@ -178,16 +182,17 @@ fn all_commands(rt: HostRuntime) {
         RingCommand::Add { dst: 1, a: 1, b: 2 },
         RingCommand::Inv { dst: 1, a: 1 },
     ];
-    assert!(rt; runs(&[97, 101, 103], &commands, &[5, 7, 11], Some(&[52, 91, 9])));
+    check!(&rt, 1; runs(&[97, 101, 103], &commands, &[5, 7, 11], Some(&[52, 91, 9])));
 }
 
 #[test]
 fn inverses(rt: HostRuntime) {
+    let rt = &rt;
     let inverse = [RingCommand::Inv { dst: 1, a: 0 }];
-    assert!(rt; runs(&[9, 8, 125, 7], &inverse, &[11, 0], Some(&[5, 3, 91, 2])));
+    check!(rt, 1; runs(&[9, 8, 125, 7], &inverse, &[11, 0], Some(&[5, 3, 91, 2])));
     // 14 has an inverse modulo 9 and 125, but not modulo 8 and 7
-    assert!(rt; runs(&[9, 8, 125, 7], &inverse, &[14, 0], None));
-    assert!(rt; runs(&[9, 125], &inverse, &[14, 0], Some(&[2, 9])));
+    check!(rt, 2; runs(&[9, 8, 125, 7], &inverse, &[14, 0], None));
+    check!(rt, 3; runs(&[9, 125], &inverse, &[14, 0], Some(&[2, 9])));
 }
 
 #[test]
@@ -200,7 +205,7 @@ fn cube_less_itself(rt: HostRuntime) {
         },
         RingCommand::Sub { dst: 1, a: 1, b: 0 },
     ];
-    assert!(rt;
+    check!(&rt, 1;
         runs(
             &[18446744073709551615, 18446744073709551614],
             &commands,

@@ -13,7 +13,7 @@ fn words_of_the_program(rt: HostRuntime) {
         command("load,00,05"),
         command("load,8,1"),
     );
-    assert!(rt;
+    check!(&rt, 1;
         found
             == (
                 (Some(21), None),
@@ -30,5 +30,5 @@ fn the_body_of_the_program(rt: HostRuntime) {
     let words = ["vanilla", "97", "load,0,10", "load,1,20", "mul,2,0,1"];
     let status = run_words(rt.alloc(), &words, &mut &mut out[..], &mut &mut err[..]);
     let found = (status, out);
-    assert!(rt; found == (0, *b"10 20 6 0 0 0 0 0\n"));
+    check!(&rt, 1; found == (0, *b"10 20 6 0 0 0 0 0\n"));
 }

@@ -14,7 +14,7 @@ fn symbols_of_words(rt: HostRuntime) {
         (-1isize).kronecker(&0),
         num_modular::prim::ModularSymbols::kronecker(&i8::MIN, &127),
     );
-    assert!(rt; found == (1, None, -1, None, 1, -1));
+    check!(&rt, 1; found == (1, None, -1, None, 1, -1));
 }
 
 // All operations of a word, through a single bound.
@@ -34,7 +34,7 @@ fn operations_by_one_bound(rt: HostRuntime) {
         inverse_and_symbol(5u8, 7, &15),
         inverse_and_symbol(5u64, 4, &11),
     );
-    assert!(rt; found == ((None, Some(-1)), (Some(9), Some(1))));
+    check!(&rt, 1; found == ((None, Some(-1)), (Some(9), Some(1))));
 }
 
 #[test]
@@ -46,19 +46,19 @@ fn operations_over_references(rt: HostRuntime) {
         a.mulm_ref(&b, &m),
         a.powm_ref(&b, &m),
     ];
-    assert!(rt; of_two == [6, 2, 1, 1]);
+    check!(&rt, 1; of_two == [6, 2, 1, 1]);
 }
 
 #[test]
 fn operations_over_one_reference(rt: HostRuntime) {
     let (a, m) = (11u8, 7u8);
     let of_one = [a.negm_ref(&m), a.dblm_ref(&m), a.sqm_ref(&m)];
-    assert!(rt; (of_one, a.invm_ref(&m)) == ([3, 1, 2], Some(2)));
+    check!(&rt, 1; (of_one, a.invm_ref(&m)) == ([3, 1, 2], Some(2)));
 }
 
 #[test]
 fn symbols_over_references(rt: HostRuntime) {
     let (b, m) = (9u8, 7u8);
     let found = [b.checked_legendre_ref(&17), b.checked_jacobi_ref(&m)];
-    assert!(rt; (found, m.kronecker_ref(&15)) == ([Some(1), Some(1)], -1));
+    check!(&rt, 1; (found, m.kronecker_ref(&15)) == ([Some(1), Some(1)], -1));
 }

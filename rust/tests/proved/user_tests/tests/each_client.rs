@@ -35,17 +35,20 @@ fn modulo_words_of_64_bits(
 
 #[test]
 fn words_of_64_bits() {
+    let rt = crate::runtime::HostRuntime;
     let found = modulo_words_of_64_bits(X, Y);
-    assert!(found == [(0, 1, 3), (60, 24, 19), (23, 8, 5), (54, 32, 84)]);
+    check!(&rt, 1; found == [(0, 1, 3), (60, 24, 19), (23, 8, 5), (54, 32, 84)]);
 }
 
 #[test]
 fn words_of_64_bits_by_each_reducer() {
-    assert!(by_plain_remainders(X, Y, 97) == (60, 24, 19));
-    assert!(by_plain_remainders(X, Y, 1) == (0, 0, 0));
+    let rt = crate::runtime::HostRuntime;
+    let rt = &rt;
+    check!(rt, 1; by_plain_remainders(X, Y, 97) == (60, 24, 19));
+    check!(rt, 2; by_plain_remainders(X, Y, 1) == (0, 0, 0));
     let found = by_reciprocals(X, Y, 18446744073709551557);
-    assert!(found == (58, 1, 3738633023172175820));
-    assert!(by_montgomery(X, Y, 6) == (3, 4, 3));
+    check!(rt, 3; found == (58, 1, 3738633023172175820));
+    check!(rt, 4; by_montgomery(X, Y, 6) == (3, 4, 3));
 }
 
 // x and y modulo 13, 17, 31 and 241.
@@ -63,10 +66,12 @@ fn modulo_words_of_32_bits(
 
 #[test]
 fn words_of_other_widths() {
+    let rt = crate::runtime::HostRuntime;
+    let rt = &rt;
     let x = (4294967295, 123456789, 7, 65537);
     let y = (4294967291, 987654321, 11, 257);
     let found = modulo_words_of_32_bits(x, y);
-    assert!(found == [(8, 7, 10), (0, 1, 13), (3, 29, 27), (14, 141, 126)]);
+    check!(rt, 1; found == [(8, 7, 10), (0, 1, 13), (3, 29, 27), (14, 141, 126)]);
     let x = (
         u128::MAX,
         170141183460469231731687303715884105733,
@@ -79,7 +84,7 @@ fn words_of_other_widths() {
         11,
         36893488147419103231,
     );
-    assert!(modulo_127(x, y) == (3, 4, 123));
+    check!(rt, 2; modulo_127(x, y) == (3, 4, 123));
 }
 
 // Two lists, the modulus and the residue of their inner product.
@@ -93,18 +98,22 @@ const CUBICS: &[(u64, u64, u64, u64, u64)] = &[(97, 5, 2, 3, 41), (6, 9, 1, 1, 1
 
 #[test]
 fn inner_products_and_cubics() {
+    let rt = crate::runtime::HostRuntime;
+    let rt = &rt;
     for &(xs, ys, m, want) in INNER_PRODUCTS {
-        assert!(m > 0 && inner_product_of_four(xs, ys, m) == want);
+        check!(rt, 1; m > 0 && inner_product_of_four(xs, ys, m) == want);
     }
     for &(m, x, a, b, want) in CUBICS {
-        assert!(m > 0 && cubic(&Montgomery::<u64>::new(m), x, a, b) == want);
+        check!(rt, 2; m > 0 && cubic(&Montgomery::<u64>::new(m), x, a, b) == want);
     }
 }
 
 #[test]
 fn lists_of_commands() {
-    assert!(residue_over_copies(100, 97) == 3);
-    assert!(product_by_commands(10, 20, 97) == 6);
+    let rt = crate::runtime::HostRuntime;
+    let rt = &rt;
+    check!(rt, 1; residue_over_copies(100, 97) == 3);
+    check!(rt, 2; product_by_commands(10, 20, 97) == 6);
 }
 
 // The hash alone, so that its contract isn't kept with the known values.
@@ -114,10 +123,12 @@ fn hash_of(text: &[u8], x: u64) -> u64 {
 
 #[test]
 fn hashes() {
-    assert!(hash_of(b"", 5) == 0);
-    assert!(hash_of(b"a", 5) == 97);
-    assert!(hash_of(b"hash", 257) == 1771794084);
-    assert!(hash_of(b"num-modular", u64::MAX) == 36474047787);
+    let rt = crate::runtime::HostRuntime;
+    let rt = &rt;
+    check!(rt, 1; hash_of(b"", 5) == 0);
+    check!(rt, 2; hash_of(b"a", 5) == 97);
+    check!(rt, 3; hash_of(b"hash", 257) == 1771794084);
+    check!(rt, 4; hash_of(b"num-modular", u64::MAX) == 36474047787);
 }
 
 // A residue and its modulus, twice, and the number that has both.
@@ -150,8 +161,10 @@ fn pairs_of_residues() {
 
 #[test]
 fn squares_and_operations() {
-    assert!(product_and_sum(7u8, 250, 9, &21) == 16);
-    assert!(square(1000003u32, 97) == 27);
+    let rt = crate::runtime::HostRuntime;
+    let rt = &rt;
+    check!(rt, 1; product_and_sum(7u8, 250, 9, &21) == 16);
+    check!(rt, 2; square(1000003u32, 97) == 27);
 }
 
 fn residue_of_a_prime(a: u64, p: u64) -> Option<bool> {
@@ -189,10 +202,12 @@ fn quadratic_residues() {
 
 #[test]
 fn quotients() {
-    assert!(ten_by_five() == 2);
-    assert!(by_inverse(10, 5, 21) == Some(2) && by_operator(10, 5, 21) == Some(2));
-    assert!(by_inverse(10, 7, 21) == None && by_operator(10, 7, 21) == None);
-    assert!(by_inverse(1, 2, u64::MAX - 1) == None);
-    assert!(by_operator(1, 2, u64::MAX) == Some(1 << 63));
-    assert!(by_inverse(5, 0, 1) == Some(0));
+    let rt = crate::runtime::HostRuntime;
+    let rt = &rt;
+    check!(rt, 1; ten_by_five() == 2);
+    check!(rt, 2; by_inverse(10, 5, 21) == Some(2) && by_operator(10, 5, 21) == Some(2));
+    check!(rt, 3; by_inverse(10, 7, 21) == None && by_operator(10, 7, 21) == None);
+    check!(rt, 4; by_inverse(1, 2, u64::MAX - 1) == None);
+    check!(rt, 5; by_operator(1, 2, u64::MAX) == Some(1 << 63));
+    check!(rt, 6; by_inverse(5, 0, 1) == Some(0));
 }

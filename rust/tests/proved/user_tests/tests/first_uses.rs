@@ -12,19 +12,24 @@ const Y: u64 = 12345678901234567890;
 
 #[test]
 fn products_and_residues() {
-    assert!(product_and_one(X, Y) == 84);
-    assert!(product_by_folds(X, Y) == 1103560967735299043);
-    assert!(residue_by_commands(X, 1000000007) == 582344007);
+    let rt = crate::runtime::HostRuntime;
+    let rt = &rt;
+    check!(rt, 1; product_and_one(X, Y) == 84);
+    check!(rt, 2; product_by_folds(X, Y) == 1103560967735299043);
+    check!(rt, 3; residue_by_commands(X, 1000000007) == 582344007);
 }
 
 #[test]
 fn squares_over_a_reducer() {
-    assert!(sum_of_squares(&Montgomery::<u64>::new(97), X, 50) == 86);
+    let rt = crate::runtime::HostRuntime;
+    check!(&rt, 1; sum_of_squares(&Montgomery::<u64>::new(97), X, 50) == 86);
 }
 
 #[test]
 fn quotients_and_symbols() {
-    assert!(minutes_and_seconds(4294967295) == (71582788, 15));
-    assert!(symbol(1001, 9907) == Some(-1));
-    assert!(symbol(7, 8) == None);
+    let rt = crate::runtime::HostRuntime;
+    let rt = &rt;
+    check!(rt, 1; minutes_and_seconds(4294967295) == (71582788, 15));
+    check!(rt, 2; symbol(1001, 9907) == Some(-1));
+    check!(rt, 3; symbol(7, 8) == None);
 }

@@ -61,8 +61,9 @@ fn is_product(xs: &[u16], ys: &[u16], known: &[u16]) -> bool {
 
 #[test]
 fn known_products() {
+    let rt = crate::runtime::HostRuntime;
     for (xs, ys, known) in ROWS {
-        assert!(is_product(xs, ys, known));
+        check!(&rt, 1; is_product(xs, ys, known));
     }
 }
 
@@ -121,9 +122,11 @@ fn room() {
 
 #[test]
 fn no_digits() {
+    let rt = crate::runtime::HostRuntime;
+    let rt = &rt;
     let mut none = [0; 1];
-    assert!(product(&[], &[], &mut [], &mut none, &mut [NONE]));
-    assert!(product::<Factor<u64>>(&[], &[], &mut [], &mut none, &mut []));
+    check!(rt, 1; product(&[], &[], &mut [], &mut none, &mut [NONE]));
+    check!(rt, 2; product::<Factor<u64>>(&[], &[], &mut [], &mut none, &mut []));
 }
 
 // A number of places, and the length of the transforms.

@@ -70,8 +70,10 @@ fn known_checksums() {
 
 #[test]
 fn a_known_product() {
+    let rt = crate::runtime::HostRuntime;
+    let rt = &rt;
     let mut digits = [7; 3];
-    assert!(
+    check!(rt, 1;
         product::<Factor<u64>>(
             &[7806831264735756412, 9396908728118811419],
             &[14170967488582549417],
@@ -85,18 +87,19 @@ fn a_known_product() {
         2385304725559399997,
         7218796311547177778,
     ];
-    assert!(digits == known);
+    check!(rt, 2; digits == known);
 }
 
 // The square of 2^(64n) - 1 is 2^(128n) - 2^(64n + 1) + 1.
 #[test]
 fn squares_of_all_ones() {
     let rt = crate::runtime::HostRuntime;
+    let rt = &rt;
     let ones = [18446744073709551615; 512];
     for n in [1, 2, 3, 40, 300, 399, 400, 512] {
         let (mut digits, mut words, mut factors) = ([7; 1024], [7; 4096], [NONE; 1536]);
         let (xs, places) = (&ones[..n], 2 * n);
-        assert!(product(xs, xs, &mut digits[..places], &mut words, &mut factors));
+        check!(rt, 1; product(xs, xs, &mut digits[..places], &mut words, &mut factors));
         for i in 0..places {
             let known = match i {
                 0 => 1,
@@ -104,7 +107,7 @@ fn squares_of_all_ones() {
                 _ if i == n => 18446744073709551614,
                 _ => 18446744073709551615,
             };
-            assert_at(&rt, digits[i] == known, &(i, places));
+            assert_at(rt, digits[i] == known, &(i, places));
         }
     }
 }
@@ -113,6 +116,7 @@ fn squares_of_all_ones() {
 #[test]
 fn plans_at_hand() {
     let rt = crate::runtime::HostRuntime;
+    let rt = &rt;
     let (mut first, mut second, mut third) = ([NONE; 1024], [NONE; 1024], [NONE; 1024]);
     assert!(fill_plans(&mut first, &mut second, &mut third));
     let (mut xs, mut ys) = ([0; 700], [0; 700]);
@@ -132,7 +136,7 @@ fn plans_at_hand() {
             &second,
             &third,
         );
-        assert_at(&rt, done && checksum(&digits[..places]) == known, row);
+        assert_at(rt, done && checksum(&digits[..places]) == known, row);
     }
 }
 

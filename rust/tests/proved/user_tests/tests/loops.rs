@@ -12,12 +12,14 @@ use num_modular::{Montgomery, Reducer};
 
 #[test]
 fn keys_of_two_parties() {
-    assert!(known_word(5, 6, 23) == 8);
-    assert!(known_word(5, 15, 23) == 19);
-    assert!(keys(5, 6, 15, 23) == (2, 2));
+    let rt = crate::runtime::HostRuntime;
+    let rt = &rt;
+    check!(rt, 1; known_word(5, 6, 23) == 8);
+    check!(rt, 2; known_word(5, 15, 23) == 19);
+    check!(rt, 3; keys(5, 6, 15, 23) == (2, 2));
     let m = 18446744073709551557;
-    assert!(known_word(5, 123456789, m) == 10053095613067059088);
-    assert!(keys(5, 123456789, 987654321, m).1 == 13238872984339080984);
+    check!(rt, 4; known_word(5, 123456789, m) == 10053095613067059088);
+    check!(rt, 5; keys(5, 123456789, 987654321, m).1 == 13238872984339080984);
 }
 
 // A number, a base, and whether Fermat's test to that base proves that the number isn't prime.
@@ -118,10 +120,12 @@ fn inverses(words: [u64; 4], m: u64) -> ([u64; 4], bool) {
 
 #[test]
 fn inverses_of_lists() {
-    assert!(inverses([1, 2, 3, 96], 97) == ([1, 49, 65, 96], true));
-    assert!(inverses([2, 4, 5, 20], 21) == ([11, 16, 17, 20], true));
-    assert!(inverses([2, 4, 6, 20], 21) == ([2, 4, 6, 20], false));
-    assert!(inverses([1, 2, 3, 4], 1) == ([0; 4], true));
+    let rt = crate::runtime::HostRuntime;
+    let rt = &rt;
+    check!(rt, 1; inverses([1, 2, 3, 96], 97) == ([1, 49, 65, 96], true));
+    check!(rt, 2; inverses([2, 4, 5, 20], 21) == ([11, 16, 17, 20], true));
+    check!(rt, 3; inverses([2, 4, 6, 20], 21) == ([2, 4, 6, 20], false));
+    check!(rt, 4; inverses([1, 2, 3, 4], 1) == ([0; 4], true));
 }
 
 // The product by the powers of 372528824, modulo 998244353; `None` where a coefficient is above 1000.
@@ -140,8 +144,10 @@ fn product_of_four_and_five(xs: &[u64; 4], ys: &[u64; 5]) -> Option<[u64; 8]> {
 
 #[test]
 fn products_of_polynomials() {
+    let rt = crate::runtime::HostRuntime;
+    let rt = &rt;
     let found = product_of_four_and_five(&[1, 2, 3, 0], &[4, 5, 6, 7, 0]);
-    assert!(found == Some([4, 13, 28, 34, 32, 21, 0, 0]));
+    check!(rt, 1; found == Some([4, 13, 28, 34, 32, 21, 0, 0]));
     let found = product_of_four_and_five(&[999, 0, 1000, 1], &[1000, 1000, 1, 2, 3]);
-    assert!(found == Some([999000, 999000, 1000999, 1002998, 4997, 2001, 3002, 3]));
+    check!(rt, 2; found == Some([999000, 999000, 1000999, 1002998, 4997, 2001, 3002, 3]));
 }

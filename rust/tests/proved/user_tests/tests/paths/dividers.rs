@@ -24,13 +24,16 @@ fn divided(n: u8, d: u8) -> (bool, u8) {
 
 #[test]
 fn a_divider_by_a_multiplier() {
-    assert!(quotient_and_remainder(255, 3) == (85, 0));
-    assert!(exact_quotient(255, 3) == Some(85));
-    assert!(divided(254, 3) == (false, 254));
+    let rt = crate::runtime::HostRuntime;
+    let rt = &rt;
+    check!(rt, 1; quotient_and_remainder(255, 3) == (85, 0));
+    check!(rt, 2; exact_quotient(255, 3) == Some(85));
+    check!(rt, 3; divided(254, 3) == (false, 254));
 }
 
 #[test]
 fn a_divider_by_a_reciprocal() {
+    let rt = crate::runtime::HostRuntime;
     let divisor = Normalized2by1Divisor::<u8>::new(128);
     let found = [
         (
@@ -40,37 +43,43 @@ fn a_divider_by_a_reciprocal() {
         divisor.div_rem_1by1(255),
         divisor.div_rem_2by1(32767),
     ];
-    assert!(found == [(255, 128), (1, 127), (255, 127)]);
+    check!(&rt, 1; found == [(255, 128), (1, 127), (255, 127)]);
 }
 
 #[test]
 fn the_parts_of_a_scaled_reducer() {
+    let rt = crate::runtime::HostRuntime;
+    let rt = &rt;
     let reducer = PreMulInv2by1::<u8>::new(21);
     let found = (
         (reducer.divisor(), reducer.modulus(), reducer.shift()),
         reducer.divider().divisor(),
     );
-    assert!(found == ((168, 21, 3), 168));
-    assert!(reducer.check(&40) && !reducer.check(&41) && !reducer.check(&168));
+    check!(rt, 1; found == ((168, 21, 3), 168));
+    check!(rt, 2; reducer.check(&40) && !reducer.check(&41) && !reducer.check(&168));
 }
 
 #[test]
 fn prepared_inverses() {
+    let rt = crate::runtime::HostRuntime;
+    let rt = &rt;
     let seven = PreModInv::<u8>::from(7);
-    assert!(252u8.div_exact(7, &seven) == Some(36));
+    check!(rt, 1; 252u8.div_exact(7, &seven) == Some(36));
     let mut number = 253u8;
-    assert!(!number.div_exact_assign(7, &seven));
-    assert!(number == 253);
+    check!(rt, 2; !number.div_exact_assign(7, &seven));
+    check!(rt, 3; number == 253);
 }
 
 #[test]
 fn a_prepared_inverse_from_its_parts() {
+    let rt = crate::runtime::HostRuntime;
     let seven = PreModInv::<u8>::new(183, 36);
-    assert!(65534u16.div_exact(7, &seven) == Some(9362));
+    check!(&rt, 1; 65534u16.div_exact(7, &seven) == Some(9362));
 }
 
 #[test]
 fn negated_inverses() {
+    let rt = crate::runtime::HostRuntime;
     let found = [
         neg_mod_inv::w8::neginv(7) as u64,
         neg_mod_inv::w16::neginv(1) as u64,
@@ -79,5 +88,5 @@ fn negated_inverses() {
         neg_mod_inv::wsize::neginv(1) as u64,
     ];
     let greatest = u64::MAX;
-    assert!(found == [73, 65535, 4294967295, greatest, greatest]);
+    check!(&rt, 1; found == [73, 65535, 4294967295, greatest, greatest]);
 }

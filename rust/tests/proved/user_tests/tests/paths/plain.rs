@@ -9,17 +9,19 @@ use num_modular::{
 
 #[test]
 fn operations_on_two_words() {
+    let rt = crate::runtime::HostRuntime;
     let found = [
         11u8.addm(7, &5) as u64,
         2u16.subm(&5, &7) as u64,
         (&11u32).mulm(9, &7) as u64,
         2u64.powm(5, &7),
     ];
-    assert!(found == [3, 4, 1, 4]);
+    check!(&rt, 1; found == [3, 4, 1, 4]);
 }
 
 #[test]
 fn operations_on_one_word() {
+    let rt = crate::runtime::HostRuntime;
     let found = [
         12u64.negm(&5),
         3usize.dblm(&5) as u64,
@@ -27,29 +29,33 @@ fn operations_on_one_word() {
         i8::MIN.absm(&5) as u64,
     ];
     let found = (found, 5u8.invm(&11));
-    assert!(found == ([3, 1, 2, 2], Some(9)));
+    check!(&rt, 1; found == ([3, 1, 2, 2], Some(9)));
 }
 
 #[test]
 fn powers_by_name() {
+    let rt = crate::runtime::HostRuntime;
     let found = [num_modular::prim::powm_u32(5, 3, 0), powm_u32(5, 3, 1)];
-    assert!((found, powm_u64(2, 10, 1000)) == ([0, 0], 24));
+    check!(&rt, 1; (found, powm_u64(2, 10, 1000)) == ([0, 0], 24));
 }
 
 #[test]
 fn exact_division() {
-    assert!([252u8.div_exact(7, &()), 253u8.div_exact(7, &())] == [Some(36), None]);
+    let rt = crate::runtime::HostRuntime;
+    let rt = &rt;
+    check!(rt, 1; [252u8.div_exact(7, &()), 253u8.div_exact(7, &())] == [Some(36), None]);
     let mut number = 252u64;
     let stored = [
         number.div_exact_assign(7, &()),
         number.div_exact_assign(7, &()),
     ];
-    assert!((stored, number) == ([true, false], 36));
+    check!(rt, 2; (stored, number) == ([true, false], 36));
 }
 
 #[test]
 fn counted_inverses() {
-    assert!(
+    let rt = crate::runtime::HostRuntime;
+    check!(&rt, 1;
         (
             w8::invm_counted(5, 11),
             w16::invm_counted(16, 11),
@@ -68,7 +74,8 @@ fn counted_inverses() {
 
 #[test]
 fn counted_symbols() {
-    assert!(
+    let rt = crate::runtime::HostRuntime;
+    check!(&rt, 1;
         [
             w8::checked_jacobi_counted(7, 15),
             w16::checked_jacobi_counted(2, 15),
@@ -87,13 +94,15 @@ fn counted_symbols() {
 
 #[test]
 fn loops_by_subtraction() {
-    assert!([inverse(5u8, 21), inverse(7, 21)] == [Some(17), None]);
-    assert!(inverse(16u64, 11) == Some(9));
+    let rt = crate::runtime::HostRuntime;
+    let rt = &rt;
+    check!(rt, 1; [inverse(5u8, 21), inverse(7, 21)] == [Some(17), None]);
+    check!(rt, 2; inverse(16u64, 11) == Some(9));
     let found = [
         jacobi(false, 7u8, 15),
         jacobi(true, 1u8, 7),
         jacobi(false, 2u16, 15),
         jacobi(false, 0u64, 9),
     ];
-    assert!(found == [-1, -1, 1, 0]);
+    check!(rt, 3; found == [-1, -1, 1, 0]);
 }

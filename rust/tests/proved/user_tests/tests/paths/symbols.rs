@@ -4,6 +4,7 @@ use num_modular::{ModularOps, ModularRefOps, ModularSymbols};
 
 #[test]
 fn symbols_of_words() {
+    let rt = crate::runtime::HostRuntime;
     let found = (
         3u8.legendre(&11),
         2u16.checked_legendre(&9),
@@ -12,7 +13,7 @@ fn symbols_of_words() {
         (-1isize).kronecker(&0),
         num_modular::prim::ModularSymbols::kronecker(&i8::MIN, &127),
     );
-    assert!(found == (1, None, -1, None, 1, -1));
+    check!(&rt, 1; found == (1, None, -1, None, 1, -1));
 }
 
 // All operations of a word, through a single bound.
@@ -26,15 +27,17 @@ fn inverse_and_symbol<'r, T: ModularOps<T, &'r T, T> + Copy>(
 
 #[test]
 fn operations_by_one_bound() {
+    let rt = crate::runtime::HostRuntime;
     let found = (
         inverse_and_symbol(5u8, 7, &15),
         inverse_and_symbol(5u64, 4, &11),
     );
-    assert!(found == ((None, Some(-1)), (Some(9), Some(1))));
+    check!(&rt, 1; found == ((None, Some(-1)), (Some(9), Some(1))));
 }
 
 #[test]
 fn operations_over_references() {
+    let rt = crate::runtime::HostRuntime;
     let (a, b, m) = (11u8, 9u8, 7u8);
     let of_two = [
         a.addm_ref(&b, &m),
@@ -42,19 +45,21 @@ fn operations_over_references() {
         a.mulm_ref(&b, &m),
         a.powm_ref(&b, &m),
     ];
-    assert!(of_two == [6, 2, 1, 1]);
+    check!(&rt, 1; of_two == [6, 2, 1, 1]);
 }
 
 #[test]
 fn operations_over_one_reference() {
+    let rt = crate::runtime::HostRuntime;
     let (a, m) = (11u8, 7u8);
     let of_one = [a.negm_ref(&m), a.dblm_ref(&m), a.sqm_ref(&m)];
-    assert!((of_one, a.invm_ref(&m)) == ([3, 1, 2], Some(2)));
+    check!(&rt, 1; (of_one, a.invm_ref(&m)) == ([3, 1, 2], Some(2)));
 }
 
 #[test]
 fn symbols_over_references() {
+    let rt = crate::runtime::HostRuntime;
     let (b, m) = (9u8, 7u8);
     let found = [b.checked_legendre_ref(&17), b.checked_jacobi_ref(&m)];
-    assert!((found, m.kronecker_ref(&15)) == ([Some(1), Some(1)], -1));
+    check!(&rt, 1; (found, m.kronecker_ref(&15)) == ([Some(1), Some(1)], -1));
 }
