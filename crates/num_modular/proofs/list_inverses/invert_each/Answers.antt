@@ -1,7 +1,20 @@
-use Rattle.std.proofs.lemmas.Bool.{false≢true}
 use Rattle.num_modular.specs.Callers.{◌≡◌, ℕ, ◌+◌, ◌-◌, length, ◌∙◌, arith, refl, entry_at, forms_written, done_before}
-use Rattle.num_modular.specs.Callers.{no_inverse, inverse_before, inverse_last, entry, hold_more, product_step}
+use Rattle.num_modular.specs.Callers.{IsInverse, product_below, product_none, no_inverse, inverse_before}
+use Rattle.num_modular.specs.Callers.{inverse_last, entry, hold_more, product_step}
+use Rattle.std.proofs.Common.{◌%◌, sym, ◌<◌}
+use Rattle.std.proofs.lemmas.Bool.{false≢true}
+use Rattle.std.proofs.lemmas.Nat.{mul-mod_first}
 use Rattle.num_modular.proofs.list_inverses.invert_each.Goals as goal
+use borrow.Author.Count.{falls}
+use borrow.Author.Rules.{scaled_Fits}
+
+-- the inverse of a residue
+of_residue : (m a x : ℕ) → IsInverse m (a % m) x → IsInverse m a x
+of_residue m a x found = record { below = found.below; one = sym (mul-mod_first a x m) ∙ found.one }
+
+-- the place k before the last of a list is one of a list that is as long
+behind : (k : ℕ) {m n : ℕ} → m ≡ n → k < n → m - 1 - k < n
+behind k same within = omega (arith, same, within)
 
 pub returns-in_default-clause-each : goal.returns-in_default-clause-each
 returns-in_default-clause-each g c =
@@ -85,3 +98,51 @@ returns-clause-checked g c = c.backward.invariant.2
 
 pub inv-requires : goal.inv-requires
 inv-requires g c = c.forward.invariant.0.checked
+
+pub offset_bounds-products-i : goal.offset_bounds-products-i
+offset_bounds-products-i g c = scaled_Fits _ _ _ c.forward-test.true c.well_formed.1.0.1
+
+pub offset_bounds-forms-i : goal.offset_bounds-forms-i
+offset_bounds-forms-i g c = scaled_Fits _ _ _ c.forward-test.true c.well_formed.1.0.1
+
+pub offset_bounds-forms-i-in-backward : goal.offset_bounds-forms-i-in-backward
+offset_bounds-forms-i-in-backward g c =
+    scaled_Fits _ _ _ (behind _ c.backward.auto.forms c.backward-test.true) c.well_formed.1.0.1
+
+pub offset_bounds-products-i-in-backward : goal.offset_bounds-products-i-in-backward
+offset_bounds-products-i-in-backward g c =
+    scaled_Fits _ _ _ (behind _ c.backward.auto.forms c.backward-test.true) c.well_formed.1.0.1
+
+pub offset_bounds-forms-i-in-backward-2 : goal.offset_bounds-forms-i-in-backward-2
+offset_bounds-forms-i-in-backward-2 g c =
+    scaled_Fits _ _ _ (behind _ c.backward.auto.forms c.backward-test.true) c.well_formed.1.0.1
+
+pub returns-clause-unchanged : goal.returns-clause-unchanged
+returns-clause-unchanged g c = λ no. absurd (no refl)
+
+pub forward-init : goal.forward-init
+forward-init g c = (
+  record {
+    checked = c.transform-product.ensures.checked;
+    same = product_none _ _ _ (rw c.one.ensures at c.transform-product.ensures.value);
+  },
+  record { each = λ k d l. absurd (omega arith) },
+)
+
+pub forward-smaller : goal.forward-smaller
+forward-smaller g c = falls _ _ c.forward-test.true
+
+pub backward-smaller : goal.backward-smaller
+backward-smaller g c = falls _ _ c.backward-test.true
+
+pub backward-init : goal.backward-init
+backward-init g c =
+    let ring = g.R.Reducer in let m = ring.modulus c.args.r.now in let number = g.T.RingWord.number in
+    let n = length c.args.forms.now in let v = entry number ring.value m c.args.forms.now in
+    let ended : c.forward.i ≡ n - 0 = omega arith in let all = rw ended at c.forward.invariant.0.same in
+    let found = rw all at c.in-Some.ensures.value in (
+      c.in-Some.ensures.checked,
+      of_residue m (product_below (n - 0) v) _ found,
+      c.requires.checked,
+      record { done = λ k low up. absurd (omega arith); kept = λ k l. refl },
+    )
