@@ -5,7 +5,8 @@ use Rattle.modular_reduced.proofs.FormLemmas.{form_of_value}
 use Rattle.modular_transform.proofs.FourLemmas.{FoursDone, none_done, one_done, columns_joined, blocks_joined, done_by}
 use Rattle.modular_transform.proofs.FourLemmas.{block_fits, fours_fit, four_fits}
 use Rattle.modular_transform.proofs.PairLemmas.{none_between}
-use Rattle.modular_transform.proofs.Places.{strip_offset, quarter_within, in_strip, ended, strip_falls, column_fits, block_fits_word}
+use Rattle.modular_transform.proofs.Places.{strip_offset, quarter_within, in_strip, ended, strip_falls}
+use Rattle.modular_transform.proofs.Places.{column_fits, block_fits_word}
 use Rattle.modular_transform.proofs.StripPowers.{one_form, first_power, power_first, power_next, strip_power, strip_next}
 use Rattle.modular_transform.proofs.TwoStages.{two_stages_done}
 use Rattle.modular_transform.proofs.ValueLemmas.{values, value_at, values_below, forms_written, entry_done}
