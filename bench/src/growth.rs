@@ -3,7 +3,7 @@
 use crate::measure::{FIRST, Random, SECOND, best};
 use crate::lines::PRIME;
 use crate::original;
-use crate::port::{self, Bench};
+use crate::port::{self, Bench, POWER};
 use crate::report::Growth;
 use crate::transforms;
 use crate::users;
@@ -20,7 +20,7 @@ fn powers() -> Growth {
     let sizes = [3, 4, 6, 8, 12, 16, 20, 24, 28, 32, 40, 48, 56, 64];
     let lines = sizes.map(|digits| {
         let exponent = SECOND >> (64 - digits);
-        let functions: [Bench; 3] = [port::powm, original::powm, port::over_montgomery::<1>];
+        let functions: [Bench; 3] = [port::powm, original::powm, port::over_montgomery::<POWER>];
         let mut line = vec![digits as f64];
         line.extend(best(functions, (FIRST, exponent, PRIME)));
         line

@@ -1,6 +1,6 @@
 //! The lines of the tables beside the Rust crate.
 
-use crate::port::{self, Bench};
+use crate::port::{self, Bench, DIFFERENCE, EIGHT_CHAINS, FORM, INVERSE, NEGATIVE, POWER, PRODUCT, RESIDUE, SUM};
 use crate::{erased, original};
 
 /// What moduli a line takes.
@@ -92,15 +92,15 @@ fn any_modulus() -> Vec<Line> {
             [original::invm as Bench, erased::inverse_by_subtraction],
             Odd,
         ),
-        line("Vanilla::mul", port::over_vanilla::<0>, both!(u64s::mul, Vanilla<u64>), Any),
-        line("Vanilla::pow", port::over_vanilla::<1>, both!(pow, Vanilla<u64>), Any),
-        line("Vanilla::inv", port::over_vanilla::<8>, both!(inv, Vanilla<u64>), Any),
-        line("PreMulInv2by1::mul", port::over_premul::<0>, both!(u64s::mul, PreMulInv2by1<u64>), Any),
-        line("PreMulInv2by1::pow", port::over_premul::<1>, both!(pow, PreMulInv2by1<u64>), Any),
-        line("PreMulInv2by1::inv", port::over_premul::<8>, both!(inv, PreMulInv2by1<u64>), Any),
-        line("Montgomery::mul", port::over_montgomery::<0>, both!(u64s::mul, Montgomery<u64>), Odd),
-        line("Montgomery::pow", port::over_montgomery::<1>, both!(pow, Montgomery<u64>), Odd),
-        line("Montgomery::inv", port::over_montgomery::<8>, both!(inv, Montgomery<u64>), Odd),
+        line("Vanilla::mul", port::over_vanilla::<PRODUCT>, both!(u64s::mul, Vanilla<u64>), Any),
+        line("Vanilla::pow", port::over_vanilla::<POWER>, both!(pow, Vanilla<u64>), Any),
+        line("Vanilla::inv", port::over_vanilla::<INVERSE>, both!(inv, Vanilla<u64>), Any),
+        line("PreMulInv2by1::mul", port::over_premul::<PRODUCT>, both!(u64s::mul, PreMulInv2by1<u64>), Any),
+        line("PreMulInv2by1::pow", port::over_premul::<POWER>, both!(pow, PreMulInv2by1<u64>), Any),
+        line("PreMulInv2by1::inv", port::over_premul::<INVERSE>, both!(inv, PreMulInv2by1<u64>), Any),
+        line("Montgomery::mul", port::over_montgomery::<PRODUCT>, both!(u64s::mul, Montgomery<u64>), Odd),
+        line("Montgomery::pow", port::over_montgomery::<POWER>, both!(pow, Montgomery<u64>), Odd),
+        line("Montgomery::inv", port::over_montgomery::<INVERSE>, both!(inv, Montgomery<u64>), Odd),
         line("PreMulInv1by1::div_rem", port::premulinv1by1_div_rem, both!(premulinv1by1_div_rem), Any),
         line(
             "Normalized2by1Divisor::div_rem_2by1",
@@ -115,14 +115,14 @@ fn any_modulus() -> Vec<Line> {
 fn fixed_modulus() -> Vec<Line> {
     use Moduli::One;
     vec![
-        line("FixedMontgomery64::mul", port::over_fixed_montgomery::<0>, both!(u64s::mul, FixedMontgomery), One(PRIME)),
-        line("FixedMontgomery64::pow", port::over_fixed_montgomery::<1>, both!(pow, FixedMontgomery), One(PRIME)),
-        line("FixedProth64::mul", port::over_fixed_proth::<0>, both!(u64s::mul, FixedProth), One(PROTH)),
-        line("FixedProth64::pow", port::over_fixed_proth::<1>, both!(pow, FixedProth), One(PROTH)),
-        line("FixedMersenne64::mul", port::over_fixed_mersenne::<0>, both!(u64s::mul, FixedMersenne), One(MERSENNE)),
-        line("FixedMersenne64::pow", port::over_fixed_mersenne::<1>, both!(pow, FixedMersenne), One(MERSENNE)),
-        line("FixedTrinomialSolinas64::mul", port::over_fixed_solinas::<0>, both!(u64s::mul, FixedSolinas), One(SOLINAS)),
-        line("FixedTrinomialSolinas64::pow", port::over_fixed_solinas::<1>, both!(pow, FixedSolinas), One(SOLINAS)),
+        line("FixedMontgomery64::mul", port::over_fixed_montgomery::<PRODUCT>, both!(u64s::mul, FixedMontgomery), One(PRIME)),
+        line("FixedMontgomery64::pow", port::over_fixed_montgomery::<POWER>, both!(pow, FixedMontgomery), One(PRIME)),
+        line("FixedProth64::mul", port::over_fixed_proth::<PRODUCT>, both!(u64s::mul, FixedProth), One(PROTH)),
+        line("FixedProth64::pow", port::over_fixed_proth::<POWER>, both!(pow, FixedProth), One(PROTH)),
+        line("FixedMersenne64::mul", port::over_fixed_mersenne::<PRODUCT>, both!(u64s::mul, FixedMersenne), One(MERSENNE)),
+        line("FixedMersenne64::pow", port::over_fixed_mersenne::<POWER>, both!(pow, FixedMersenne), One(MERSENNE)),
+        line("FixedTrinomialSolinas64::mul", port::over_fixed_solinas::<PRODUCT>, both!(u64s::mul, FixedSolinas), One(SOLINAS)),
+        line("FixedTrinomialSolinas64::pow", port::over_fixed_solinas::<POWER>, both!(pow, FixedSolinas), One(SOLINAS)),
     ]
 }
 
@@ -147,11 +147,11 @@ fn symbols() -> Vec<Line> {
 fn narrow_words() -> Vec<Line> {
     use Moduli::{Any, Odd};
     vec![
-        narrow("u8: mulm", 8, port::plain_u8::<0>, both!(mulm_u8), Any),
-        narrow("u8: powm", 8, port::plain_u8::<1>, both!(powm_u8), Any),
+        narrow("u8: mulm", 8, port::plain_u8::<PRODUCT>, both!(mulm_u8), Any),
+        narrow("u8: powm", 8, port::plain_u8::<POWER>, both!(powm_u8), Any),
         narrow("u8: Montgomery::mul", 8, port::montgomery_mul_u8, both!(u8s::mul, Montgomery<u8>), Odd),
-        narrow("u32: mulm", 32, port::plain_u32::<0>, both!(mulm_u32), Any),
-        narrow("u32: powm", 32, port::plain_u32::<1>, both!(powm_u32), Any),
+        narrow("u32: mulm", 32, port::plain_u32::<PRODUCT>, both!(mulm_u32), Any),
+        narrow("u32: powm", 32, port::plain_u32::<POWER>, both!(powm_u32), Any),
         narrow("u32: Montgomery::mul", 32, port::montgomery_mul_u32, both!(u32s::mul, Montgomery<u32>), Odd),
         Line {
             bits: 32,
@@ -165,11 +165,11 @@ macro_rules! parts {
     ($lines:ident, $name:literal, $over:path, $ring:ident $(<$word:ident>)?, $moduli:expr) => {
         {
             use $over as over;
-            $lines.push(line(concat!($name, "::add"), over::<2>, both!(add, $ring $(<$word>)?), $moduli));
-            $lines.push(line(concat!($name, "::sub"), over::<3>, both!(sub, $ring $(<$word>)?), $moduli));
-            $lines.push(line(concat!($name, "::neg"), over::<4>, both!(neg, $ring $(<$word>)?), $moduli));
-            $lines.push(line(concat!($name, "::transform"), over::<5>, both!(form, $ring $(<$word>)?), $moduli));
-            $lines.push(line(concat!($name, "::transform, residue"), over::<6>, both!(residue, $ring $(<$word>)?), $moduli));
+            $lines.push(line(concat!($name, "::add"), over::<SUM>, both!(add, $ring $(<$word>)?), $moduli));
+            $lines.push(line(concat!($name, "::sub"), over::<DIFFERENCE>, both!(sub, $ring $(<$word>)?), $moduli));
+            $lines.push(line(concat!($name, "::neg"), over::<NEGATIVE>, both!(neg, $ring $(<$word>)?), $moduli));
+            $lines.push(line(concat!($name, "::transform"), over::<FORM>, both!(form, $ring $(<$word>)?), $moduli));
+            $lines.push(line(concat!($name, "::transform, residue"), over::<RESIDUE>, both!(residue, $ring $(<$word>)?), $moduli));
         }
     };
 }
@@ -177,15 +177,15 @@ macro_rules! parts {
 fn parts() -> Vec<Line> {
     use Moduli::{Any, Odd, One};
     let mut lines = vec![
-        line("addm", port::plain_u64::<2>, both!(addm), Any),
-        line("subm", port::plain_u64::<3>, both!(subm), Any),
-        line("negm", port::plain_u64::<4>, both!(negm), Any),
+        line("addm", port::plain_u64::<SUM>, both!(addm), Any),
+        line("subm", port::plain_u64::<DIFFERENCE>, both!(subm), Any),
+        line("negm", port::plain_u64::<NEGATIVE>, both!(negm), Any),
     ];
     parts!(lines, "Vanilla", port::over_vanilla, Vanilla<u64>, Any);
     parts!(lines, "PreMulInv2by1", port::over_premul, PreMulInv2by1<u64>, Any);
     for (name, port, crates) in [
-        ("PreMulInv2by1::transform, 61 bits", port::over_premul::<5> as Bench, both!(form, PreMulInv2by1<u64>)),
-        ("PreMulInv2by1::transform, residue, 61 bits", port::over_premul::<6>, both!(residue, PreMulInv2by1<u64>)),
+        ("PreMulInv2by1::transform, 61 bits", port::over_premul::<FORM> as Bench, both!(form, PreMulInv2by1<u64>)),
+        ("PreMulInv2by1::transform, residue, 61 bits", port::over_premul::<RESIDUE>, both!(residue, PreMulInv2by1<u64>)),
     ] {
         lines.push(Line { modulus: MERSENNE, ..line(name, port, crates, Any) });
     }
@@ -201,13 +201,13 @@ fn throughput() -> Vec<Line> {
     use Moduli::{Any, Odd, One};
     vec![
         eight("mulm", port::mulm_eight, both!(mulm_eight), Any),
-        eight("Vanilla::mul", port::over_vanilla::<7>, both!(eight, Vanilla<u64>), Any),
-        eight("PreMulInv2by1::mul", port::over_premul::<7>, both!(eight, PreMulInv2by1<u64>), Any),
-        eight("Montgomery::mul", port::over_montgomery::<7>, both!(eight, Montgomery<u64>), Odd),
-        eight("FixedMontgomery64::mul", port::over_fixed_montgomery::<7>, both!(eight, FixedMontgomery), One(PRIME)),
-        eight("FixedProth64::mul", port::over_fixed_proth::<7>, both!(eight, FixedProth), One(PROTH)),
-        eight("FixedMersenne64::mul", port::over_fixed_mersenne::<7>, both!(eight, FixedMersenne), One(MERSENNE)),
-        eight("FixedTrinomialSolinas64::mul", port::over_fixed_solinas::<7>, both!(eight, FixedSolinas), One(SOLINAS)),
+        eight("Vanilla::mul", port::over_vanilla::<EIGHT_CHAINS>, both!(eight, Vanilla<u64>), Any),
+        eight("PreMulInv2by1::mul", port::over_premul::<EIGHT_CHAINS>, both!(eight, PreMulInv2by1<u64>), Any),
+        eight("Montgomery::mul", port::over_montgomery::<EIGHT_CHAINS>, both!(eight, Montgomery<u64>), Odd),
+        eight("FixedMontgomery64::mul", port::over_fixed_montgomery::<EIGHT_CHAINS>, both!(eight, FixedMontgomery), One(PRIME)),
+        eight("FixedProth64::mul", port::over_fixed_proth::<EIGHT_CHAINS>, both!(eight, FixedProth), One(PROTH)),
+        eight("FixedMersenne64::mul", port::over_fixed_mersenne::<EIGHT_CHAINS>, both!(eight, FixedMersenne), One(MERSENNE)),
+        eight("FixedTrinomialSolinas64::mul", port::over_fixed_solinas::<EIGHT_CHAINS>, both!(eight, FixedSolinas), One(SOLINAS)),
     ]
 }
 

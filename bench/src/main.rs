@@ -30,7 +30,7 @@ mod users;
 
 use lines::{Moduli, Table};
 use measure::{FIRST, SECOND, agree, best, operands};
-use port::Bench;
+use port::{Bench, POWER, PRODUCT};
 use report::{Place, Report, Rows};
 use std::env;
 use std::fs;
@@ -42,8 +42,8 @@ const EVEN: u64 = u64::MAX - 1;
 
 /// The operations of even moduli: over `Montgomery`, `PreMulInv2by1` and `Vanilla`.
 static EVEN_MODULUS: [(&str, [Bench; 3]); 2] = [
-    ("mul", [port::over_montgomery::<0>, port::over_premul::<0>, port::over_vanilla::<0>]),
-    ("pow", [port::over_montgomery::<1>, port::over_premul::<1>, port::over_vanilla::<1>]),
+    ("mul", [port::over_montgomery::<PRODUCT>, port::over_premul::<PRODUCT>, port::over_vanilla::<PRODUCT>]),
+    ("pow", [port::over_montgomery::<POWER>, port::over_premul::<POWER>, port::over_vanilla::<POWER>]),
 ];
 
 fn all_agree(tables: &[Table]) -> bool {

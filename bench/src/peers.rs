@@ -3,7 +3,7 @@
 
 use crate::lines::{PRIME, PRIME_32};
 use crate::measure::{FIRST, Random, SECOND, best_by, compare};
-use crate::port::{self, Bench};
+use crate::port::{self, Bench, EIGHT_CHAINS, PRODUCT};
 use crate::report::Rows;
 use std::ffi::{CStr, c_char};
 
@@ -83,10 +83,10 @@ const fn line(name: &'static str, port: Bench, flint: Bench, cut: Cut) -> Line {
 
 /// Each call beside FLINT's.
 static LINES: [Line; 12] = [
-    line("PreMulInv2by1::mul, n_mulmod2_preinv, chain", port::over_premul::<0>, mulm, Cut::Both),
+    line("PreMulInv2by1::mul, n_mulmod2_preinv, chain", port::over_premul::<PRODUCT>, mulm, Cut::Both),
     Line {
         name: "PreMulInv2by1::mul, n_mulmod2_preinv, eight chains side by side",
-        port: port::over_premul::<7>,
+        port: port::over_premul::<EIGHT_CHAINS>,
         flint: mulm_eight,
         cut: Cut::Both,
         products: 8.0,

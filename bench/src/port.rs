@@ -41,8 +41,21 @@ unsafe extern "C" {
     safe fn bench_halvings(x: u64, m: u64) -> u32;
 }
 
-/// The plain operations by their numbers: 0 the product, 1 the power, 2 the sum, 3 the difference, 4
-/// the negative.
+/// The operations of a call over a reducer, by their numbers in crates/modular_bench. Plain words have the first five.
+pub const PRODUCT: u8 = 0;
+pub const POWER: u8 = 1;
+pub const SUM: u8 = 2;
+pub const DIFFERENCE: u8 = 3;
+pub const NEGATIVE: u8 = 4;
+/// The form of a number.
+pub const FORM: u8 = 5;
+/// The residue of the form of a number.
+pub const RESIDUE: u8 = 6;
+/// Eight chains of products.
+pub const EIGHT_CHAINS: u8 = 7;
+pub const INVERSE: u8 = 8;
+
+/// A chain of an operation on plain words.
 pub fn plain_u8<const OPERATION: u8>(x: u64, y: u64, m: u64, n: u64) -> u64 {
     bench_plain_u8(OPERATION, x as u8, y as u8, m as u8, n) as u64
 }
@@ -100,8 +113,7 @@ macro_rules! over_reducer {
             $(safe fn $symbol(operation: u8, x: u64, y: u64, m: u64, n: u64) -> u64;)*
         }
         $(
-            /// 0 the product, 1 the power, 2 the sum, 3 the difference, 4 the negative, 5 the form, 6 the residue
-            /// of the form, 7 eight chains of products, 8 the inverse.
+            /// A chain of an operation over a reducer.
             pub fn $name<const OPERATION: u8>(x: u64, y: u64, m: u64, n: u64) -> u64 {
                 $symbol(OPERATION, x, y, m, n)
             }
