@@ -165,6 +165,13 @@ module _ {w b m s k i square : ℕ} (r : IsSplitRing w b m s k i square) where
       mul-add-lt steps k u (2 ^ s) (omega (arith, few, mod-lt x (pow_pos s))) h in
       omega (arith, r.whole)
 
+  -- so both the product and the sum fit a word
+  pub steps_fit : (x : ℕ) {u steps : ℕ} → u < k → steps ≡ x % 2 ^ s → k * steps < b
+  steps_fit x h few = omega (arith, turns_below x h few, r.fits)
+
+  pub turns_fit : (x : ℕ) {u steps t : ℕ} → u < k → steps ≡ x % 2 ^ s → t ≡ k * steps → u + t < b
+  turns_fit x h few e = omega (arith, e, turns_below x h few, r.fits)
+
   -- the value of a form, u being its value modulo the odd part
   pub value_made : (d : ℕ) {f y u steps v : ℕ} → y ≡ f / 2 ^ s → odd.Stands w k y u
       → (d + f) % b ≡ u → steps ≡ (d * i) % 2 ^ s

@@ -1,5 +1,5 @@
-use Rattle.std.proofs.Common.{◌+◌, ap, ◌∙◌, arith}
-use Rattle.modular_monty.proofs.SplitSteps.{value_made, odd_value_made, turns_below, low_word, high_checked, all_high}
+use Rattle.std.proofs.Common.{◌+◌, ap, ◌∙◌}
+use Rattle.modular_monty.proofs.SplitSteps.{value_made, odd_value_made, steps_fit, turns_fit, low_word, high_checked, all_high}
 use Rattle.modular_monty.proofs.montgomery.MontgomeryReducer.residue.Goals as goal
 
 pub residue-requires : goal.residue-requires
@@ -10,13 +10,8 @@ returns-then-self-eq0 g c = odd_value_made c.args.self.now.ring c.if-self-eq0.tr
 
 pub plus-requires : goal.plus-requires
 plus-requires g c =
-    let r = c.args.self.now.ring in
-    omega (
-      arith,
-      turns_below r _ c.residue-value.ensures.form.below c.low_bits-steps.ensures.value,
-      c.times.ensures,
-      r.fits,
-    )
+    turns_fit c.args.self.now.ring _ c.residue-value.ensures.form.below c.low_bits-steps.ensures.value
+    c.times.ensures
 
 pub returns : goal.returns
 returns g c =
@@ -31,3 +26,11 @@ high-requires g c = c.requires
 
 pub residue-value-requires : goal.residue-value-requires
 residue-value-requires g c = c.high.ensures.form
+
+pub low_bits-steps-requires : goal.low_bits-steps-requires
+low_bits-steps-requires g c = c.args.self.now.ring.few
+
+pub times-requires : goal.times-requires
+times-requires g c =
+    let r = c.args.self.now.ring in
+    steps_fit r _ c.residue-value.ensures.form.below c.low_bits-steps.ensures.value
