@@ -1,10 +1,26 @@
 -- Two reductions make 1 modulo m of the square of the base alone.
 use Rattle.std.proofs.Common.{◌≡◌, ℕ, ◌+◌, ◌*◌, ◌/◌, ◌%◌, ◌<◌, sym, ap, ◌∙◌, arith, refl, ⊎_elim}
-use Rattle.std.proofs.Math.Nat.{mod-lt, mod-eq_of_lt}
+use Rattle.std.proofs.Math.Nat.{mod-lt, mod-eq_of_lt, mul-le-mul_right}
 use Rattle.std.proofs.lemmas.Bool.{cases_lt}
 use Rattle.modular_word.specs.Reduction.{IsReduction, IsNegatedInverse}
 use Rattle.modular_word.proofs.Congruence.{same_product, same_without_unit}
 use Rattle.modular_word.proofs.ReductionSteps.{base_inverse}
+
+-- a base has numbers below it
+pub some_below : {b n : ℕ} → n < b → 0 < b
+some_below h = omega (arith, h)
+
+-- a word as a double word
+pub extended : (b : ℕ) {t f z : ℕ} → t ≡ f + b * z → z ≡ 0 → t ≡ f
+extended b {z = z} e ez = let none : b * z ≡ b * 0 = ap (λ n. b * n) ez in omega (arith, e, none)
+
+-- .. is below the base times each number that is above the word
+pub extended_below : (b m : ℕ) {t f : ℕ} → 0 < b → f < m → t ≡ f → t < b * m
+extended_below b m some h e = omega (arith, h, e, mul-le-mul_right m some)
+
+-- a residue modulo an odd number is below it
+pub residue_below : (x m : ℕ) {r : ℕ} → m % 2 ≡ 1 → r ≡ x % m → r < m
+residue_below x m odd e = let some : 0 < m = omega (arith, odd) in omega (arith, e, mod-lt x some)
 
 module _ {b m i square t r s u : ℕ} (some : 0 < b) (inverse : IsNegatedInverse b m i) (below : square < m)
     (first : t ≡ square) (once : IsReduction b m t r) (second : s ≡ r) (twice : IsReduction b m s u) where

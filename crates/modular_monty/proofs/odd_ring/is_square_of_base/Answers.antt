@@ -1,26 +1,28 @@
-use Rattle.std.proofs.Common.{◌≡◌, ◌*◌, ◌%◌, ◌<◌, ap, arith, rules}
-use Rattle.std.proofs.Math.Nat.{mul-le-mul_right}
-use Rattle.modular_monty.proofs.SquareTests.{square_of_unit, square_modulo_one, modulus_is_one}
+use Rattle.std.proofs.Common.{◌≡◌, ◌<◌, ap, sym, ◌∙◌, ◌%◌}
+use Rattle.std.proofs.lemmas.Bool.{false≢true}
+use Rattle.modular_monty.proofs.SquareTests.{some_below, extended, extended_below, residue_below, square_of_unit, square_modulo_one, modulus_is_one}
 use Rattle.modular_monty.proofs.odd_ring.is_square_of_base.Goals as goal
 use Rattle.modular_monty.proofs.odd_ring.is_square_of_base.Goals.{After-redc-unit}
 
 -- the arguments of the lemmas
 some : (g : _) (c : After-redc-unit g) → 0 < g.T.PathWord.base
-some g c = omega (arith, c.is_below.ensures.fits)
+some g c = some_below c.is_below.ensures.fits
 
 below : (g : _) (c : After-redc-unit g) → g.T.RingWord.number c.args.square < g.T.RingWord.number c.args.m
 below g c = c.is_below.ensures.below.0 c.if-not-is_below.false
 
 first : (g : _) (c : After-redc-unit g) → g.T.PathWord.double_number c.merge.result ≡ g.T.RingWord.number c.args.square
-first g c =
-    let high = ap (λ o. g.T.PathWord.base * o) c.zero.ensures in
-    omega (arith, high, c.merge.ensures.value)
+first g c = extended _ c.merge.ensures.value c.zero.ensures
 
 second : (g : _) (c : After-redc-unit g)
     → g.T.PathWord.double_number c.merge-2.result ≡ g.T.RingWord.number c.redc-base.result
-second g c =
-    let high = ap (λ o. g.T.PathWord.base * o) c.zero-2.ensures in
-    omega (arith, high, c.merge-2.ensures.value)
+second g c = extended _ c.merge-2.ensures.value c.zero-2.ensures
+
+pub returns-then-not-is_below : goal.returns-then-not-is_below
+returns-then-not-is_below g c = (
+  λ told. absurd (false≢true told),
+  λ e. sym c.if-not-is_below.true ∙ c.is_below.ensures.below.1 (residue_below _ _ c.requires.odd e),
+)
 
 pub returns-then-is_one : goal.returns-then-is_one
 returns-then-is_one g c =
@@ -30,7 +32,7 @@ returns-then-is_one g c =
       λ _. square_of_unit (some g d) c.requires.inverse (below g d) (first g d) c.redc-base.ensures
           (second g d) c.redc-unit.ensures
           (ap (λ v. v % m) unit),
-      λ _. search rules,
+      λ _. c.if-is_one.true,
     )
 
 pub returns-else-is_one : goal.returns-else-is_one
@@ -38,7 +40,7 @@ returns-else-is_one g c =
     let d = (goal.at.returns-else-is_one g c).After-redc-unit in
     let is = c.is_one-else-is_one.ensures in
     let no : g.T.RingWord.number c.redc-unit.result ≡ 1 → ⊥ =
-    λ e. let t = c.is_one.ensures.1 e in cc (t, c.if-is_one.false) in (
+    λ e. false≢true (sym c.if-is_one.false ∙ c.is_one.ensures.1 e) in (
       λ one. square_modulo_one (some g d) c.requires.inverse (below g d) (first g d) c.redc-base.ensures
           (second g d) c.redc-unit.ensures
           (is.0 one),
@@ -51,10 +53,13 @@ redc-base-requires-clause-inverse g c = c.requires.inverse
 
 pub redc-base-requires-clause-below : goal.redc-base-requires-clause-below
 redc-base-requires-clause-below g c =
-    let high = ap (λ o. g.T.PathWord.base * o) c.zero.ensures in
-    let less = c.is_below.ensures.below.0 c.if-not-is_below.false in
-    let least : 0 < g.T.PathWord.base = omega (arith, c.is_below.ensures.fits) in
-    omega (arith, high, c.merge.ensures.value, less, mul-le-mul_right (g.T.RingWord.number c.args.m) least)
+    extended_below _ _ (some_below c.is_below.ensures.fits) (c.is_below.ensures.below.0 c.if-not-is_below.false)
+    (extended _ c.merge.ensures.value c.zero.ensures)
 
 pub redc-unit-requires-clause-inverse : goal.redc-unit-requires-clause-inverse
 redc-unit-requires-clause-inverse g c = c.requires.inverse
+
+pub redc-unit-requires-clause-below : goal.redc-unit-requires-clause-below
+redc-unit-requires-clause-below g c =
+    extended_below _ _ (some_below c.is_below.ensures.fits) c.redc-base.ensures.below
+    (extended _ c.merge-2.ensures.value c.zero-2.ensures)
