@@ -5,3 +5,4 @@ pub mod ProthModuli
 pub mod SplitSteps
 pub mod SquareTests
 pub mod Twos
+pub mod WordTests
