@@ -2,6 +2,7 @@ pub mod Columns
 pub mod Doublings
 pub mod Entries
 pub mod Fours
+pub mod Known
 pub mod Levels
 pub mod Quarters
 pub mod Quotients

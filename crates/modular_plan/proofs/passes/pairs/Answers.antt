@@ -1,7 +1,9 @@
-use Rattle.std.proofs.Common.{◌+◌, arith, refl}
+use Rattle.std.proofs.Common.{◌+◌, arith, refl, ◌<◌, length}
 use Rattle.modular_plan.proofs.Entries.{never_beyond}
 use Rattle.modular_plan.proofs.Steps.{block_none, block_more, block_all}
 use Rattle.modular_plan.proofs.passes.pairs.Goals as goal
+use borrow.Author.Count.{falls}
+use borrow.Author.Rules.{scaled_Fits}
 
 pub pairs-init : goal.pairs-init
 pairs-init g c = record {
@@ -36,3 +38,11 @@ returns g c = record {
   entries = c.pairs.invariant.entries;
   done = block_all c.pairs.invariant.done (omega arith);
 }
+
+pub offset_bounds-xs-first : goal.offset_bounds-xs-first
+offset_bounds-xs-first g c =
+    let within : c.args.first + c.pairs.i < length c.args.xs.now = omega arith in
+    scaled_Fits _ _ _ within c.well_formed.1.1.0.1
+
+pub pairs-smaller : goal.pairs-smaller
+pairs-smaller g c = falls _ _ c.pairs-test.true

@@ -1,4 +1,4 @@
-use Rattle.std.proofs.Common.{rules, ◌≡◌, ℕ, ◌+◌, ◌-◌, ◌/◌, ◌%◌, ◌^◌, ◌<◌, length, refl, sym, ◌∙◌, ap, arith, subst}
+use Rattle.std.proofs.Common.{◌≡◌, ℕ, ◌+◌, ◌-◌, ◌*◌, ◌/◌, ◌%◌, ◌^◌, ◌<◌, length, refl, sym, ◌∙◌, ap, arith, subst}
 use Rattle.std.proofs.Math.ListN.{set, length-set}
 use Rattle.std.proofs.Math.Nat.{mod-lt}
 use Rattle.std.proofs.lemmas.Nat.{pow_pos}
@@ -13,6 +13,8 @@ use Rattle.modular_plan.proofs.Doublings.{first_power, half_place, two_within, t
 use Rattle.modular_plan.proofs.Doublings.{product_of_two, planned}
 use Rattle.modular_plan.proofs.Shorter.{first_entries}
 use Rattle.modular_plan.proofs.plan.plan.Goals as goal
+use borrow.Author.Count.{falls}
+use borrow.Author.Rules.{scaled_Fits}
 
 pub squares-init : goal.squares-init
 squares-init g c =
@@ -51,8 +53,9 @@ offset_bounds-table-place g c =
     let whole = c.squares.invariant.whole in
     let half = half_place _ c.squares._bit c.squares.place c.squares-test.true c.squares.invariant.place in
     let inside = half.within in
-    let within : c.squares.place / 2 < length c.squares.table = omega (arith, whole, inside) in
-    search rules
+    let len = length-set c.args.table.now 0 c.entry.result in
+    let within : c.squares.place / 2 < length c.args.table.now = omega (arith, whole, inside, len) in
+    scaled_Fits _ _ _ within c.well_formed.1.1.0.1
 
 pub bounds-table-place : goal.bounds-table-place
 bounds-table-place g c =
@@ -111,8 +114,9 @@ offset_bounds-table-count g c =
     let is = before.count in
     let some = pow_pos c.doublings._bit in
     let room = two_within _ c.doublings._bit c.doublings.count _ c.doublings-test.true is before.whole in
-    let within : c.doublings.count < length c.doublings.table = omega (arith, is, some, room) in
-    search rules
+    let len = length-set c.args.table.now 0 c.entry.result in
+    let within : c.doublings.count < length c.args.table.now = omega (arith, is, some, room, len) in
+    scaled_Fits _ _ _ within c.well_formed.1.1.0.1
 
 pub bounds-table-count : goal.bounds-table-count
 bounds-table-count g c =
@@ -219,3 +223,87 @@ returns g c =
       plan = λ z is. plan_of z is each (λ k l. last.first k (omega (arith, whole, count, e, len)));
       first = λ y d is. first_entries y d (plan_of (y + d) is each (λ k l. last.first k (omega (arith, whole, count, e, len))));
     }
+
+pub residue-requires : goal.residue-requires
+residue-requires g c =
+    let some = c.args.m.now.some in
+    let one = c.one.ensures in
+    omega (arith, some, one)
+
+pub factor-requires : goal.factor-requires
+factor-requires g c =
+    let n = g.T.RingWord.number in
+    let some : 0 < n c.args.m.now.modulus = let some = c.args.m.now.some in omega (arith, some) in
+    let below = mod-lt (n c.one.result) some in
+    let is = c.residue.ensures in
+    omega (arith, is, below)
+
+pub offset_bounds-0 : goal.offset_bounds-0
+offset_bounds-0 g c =
+    let power = half_power c.requires.suits.power_of_two in
+    let some = pow_pos power.0 in
+    let is = power.1 in
+    let within : 0 < length c.args.table.now = omega (arith, some, is) in
+    scaled_Fits _ _ _ within c.well_formed.1.1.0.1
+
+pub bounds-table-0 : goal.bounds-table-0
+bounds-table-0 g c =
+    let power = half_power c.requires.suits.power_of_two in
+    let some = pow_pos power.0 in
+    let is = power.1 in
+    let within : 0 < length c.args.table.now = omega (arith, some, is) in
+    within
+
+pub product-power-requires : goal.product-power-requires
+product-power-requires g c = c.factor-factor.ensures.factor
+
+pub squares-smaller : goal.squares-smaller
+squares-smaller g c = falls _ _ c.squares-test.true
+
+pub offset_bounds-table-other : goal.offset_bounds-table-other
+offset_bounds-table-other g c =
+    let room = c.others.invariant.room in
+    let len = length-set c.args.table.now 0 c.entry.result in
+    let within : c.others.other < length c.args.table.now = omega (arith, room, len) in
+    scaled_Fits _ _ _ within c.well_formed.1.1.0.1
+
+pub bounds-table-other : goal.bounds-table-other
+bounds-table-other g c = let room = c.others.invariant.room in omega (arith, room)
+
+pub factor-requires-in-others-2 : goal.factor-requires-in-others-2
+factor-requires-in-others-2 g c =
+    let n = g.T.RingWord.number in
+    let some : 0 < n c.args.m.now.modulus = let some = c.args.m.now.some in omega (arith, some) in
+    let below = mod-lt (n c.factor-in-others.result.value * n c.factor-factor-in-doublings.result.value) some in
+    let is = c.product-power-in-others.ensures in
+    omega (arith, is, below)
+
+pub overflow_add-count : goal.overflow_add-count
+overflow_add-count g c =
+    let room = c.others.invariant.room in
+    let few = c.well_formed.1.1.0.0 in
+    let len = length-set c.args.table.now 0 c.entry.result in
+    omega (arith, room, few, len)
+
+pub offset_bounds-table-count-in-others : goal.offset_bounds-table-count-in-others
+offset_bounds-table-count-in-others g c =
+    let room = c.others.invariant.room in
+    let len = length-set c.args.table.now 0 c.entry.result in
+    let within : c.doublings.count + c.others.other < length c.args.table.now = omega (arith, room, len) in
+    scaled_Fits _ _ _ within c.well_formed.1.1.0.1
+
+pub bounds-table-count-in-others : goal.bounds-table-count-in-others
+bounds-table-count-in-others g c = let room = c.others.invariant.room in omega (arith, room)
+
+pub others-smaller : goal.others-smaller
+others-smaller g c = falls _ _ c.others-test.true
+
+pub overflow_mul-count : goal.overflow_mul-count
+overflow_mul-count g c =
+    let room = c.others.invariant.room in
+    let few = c.well_formed.1.1.0.0 in
+    let len = length-set c.args.table.now 0 c.entry.result in
+    omega (arith, room, few, len)
+
+pub doublings-smaller : goal.doublings-smaller
+doublings-smaller g c = falls _ _ c.doublings-test.true
