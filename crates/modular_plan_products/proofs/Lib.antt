@@ -4,6 +4,7 @@ pub mod Constants
 pub mod Convolutions
 pub mod JoinedPairs
 pub mod Joins
+pub mod Known
 pub mod LastJoins
 pub mod Mirrors
 pub mod NaturalOrder

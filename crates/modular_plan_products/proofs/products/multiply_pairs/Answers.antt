@@ -4,6 +4,7 @@ use Rattle.modular_plan.specs.Plans.{numbers, constant}
 use Rattle.modular_plan.proofs.Entries.{number_read}
 use Rattle.modular_plan_products.proofs.SmallProducts.{pairs_more}
 use Rattle.modular_plan_products.proofs.products.multiply_pairs.Goals as goal
+use borrow.Author.Count.{falls}
 
 pub each_block-preserved : goal.each_block-preserved
 each_block-preserved g c =
@@ -34,3 +35,6 @@ returns g c = record {
   products = (λ root z plan. record { each = λ j i lj li. c.each_block.invariant.done root z plan j i (omega arith) li });
   below = c.each_block.invariant.below;
 }
+
+pub each_block-smaller : goal.each_block-smaller
+each_block-smaller g c = falls _ _ c.each_block-test.true

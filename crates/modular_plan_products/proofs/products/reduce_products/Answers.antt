@@ -3,6 +3,8 @@ use Rattle.modular_word.specs.Congruence.{Congruent}
 use Rattle.modular_plan.specs.Plans.{numbers}
 use Rattle.modular_plan.proofs.Entries.{number_at, number_read, bounded, entry_written, entry_kept, never_beyond}
 use Rattle.modular_plan_products.proofs.products.reduce_products.Goals as goal
+use borrow.Author.Count.{falls}
+use borrow.Author.Rules.{scaled_Fits}
 
 pub reduced_product-requires : goal.reduced_product-requires
 reduced_product-requires g c = record {
@@ -56,3 +58,12 @@ returns-then-is_beyond g c =
     let far = c.if-is_beyond.ensures refl in
     never_beyond n (n c.args.m.now.modulus) c.args.ys.now c.args.ys.now c.entries.i c.index-ys-i.result
     c.requires.below (omega arith) (omega arith) c.index-ys-i.is refl (omega (arith, far))
+
+pub offset_bounds-xs-i : goal.offset_bounds-xs-i
+offset_bounds-xs-i g c = scaled_Fits _ _ _ c.entries-test.true c.well_formed.1.1.0.1
+
+pub offset_bounds-xs-i-in-entries : goal.offset_bounds-xs-i-in-entries
+offset_bounds-xs-i-in-entries g c = scaled_Fits _ _ _ c.entries-test.true c.well_formed.1.1.0.1
+
+pub entries-smaller : goal.entries-smaller
+entries-smaller g c = falls _ _ c.entries-test.true

@@ -1,9 +1,11 @@
-use Rattle.std.proofs.Common.{◌*◌, length, ◌∙◌, arith, refl}
+use Rattle.std.proofs.Common.{◌*◌, length, ◌∙◌, arith, refl, ◌<◌}
 use Rattle.modular_plan.proofs.Columns.{neighbours_given}
 use Rattle.modular_plan.proofs.Entries.{all_below, never_beyond}
 use Rattle.modular_plan.proofs.Fours.{block_mapped, neighbours_done, neighbours_below, stage_of_fours_none}
 use Rattle.modular_plan.proofs.Fours.{stage_of_fours_more, stage_of_fours_all}
 use Rattle.modular_plan_products.proofs.stages.join_fours.Goals as goal
+use borrow.Author.Count.{falls}
+use borrow.Author.Rules.{scaled_Fits}
 
 pub fours-init : goal.fours-init
 fours-init g c = record {
@@ -49,3 +51,11 @@ returns g c = record {
       (omega arith) (λ k l. c.fours.invariant.below k (omega arith));
   done = λ root z plan. stage_of_fours_all (c.fours.invariant.done root z plan) (omega arith);
 }
+
+pub offset_bounds-xs-place : goal.offset_bounds-xs-place
+offset_bounds-xs-place g c =
+    let within : c.fours.p * 4 < length c.args.xs.now = omega arith in
+    scaled_Fits _ _ _ within c.well_formed.1.0.1
+
+pub fours-smaller : goal.fours-smaller
+fours-smaller g c = falls _ _ c.fours-test.true

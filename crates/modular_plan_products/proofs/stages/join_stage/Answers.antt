@@ -2,6 +2,7 @@ use Rattle.std.proofs.Common.{◌+◌, ◌≤◌, arith}
 use Rattle.std.proofs.Math.Nat.{mul-le-mul_right}
 use Rattle.modular_plan.proofs.Steps.{pairs_mapped, stage_none, stage_more, stage_all}
 use Rattle.modular_plan_products.proofs.stages.join_stage.Goals as goal
+use borrow.Author.Count.{falls}
 
 pub each_block-init : goal.each_block-init
 each_block-init g c = record {
@@ -55,3 +56,6 @@ returns g c = record {
   entries = c.each_block.invariant.entries;
   done = λ root z plan. stage_all (c.each_block.invariant.done root z plan) (omega arith);
 }
+
+pub each_block-smaller : goal.each_block-smaller
+each_block-smaller g c = falls _ _ c.each_block-test.true

@@ -3,6 +3,7 @@ use Rattle.std.proofs.Math.Nat.{mul-le-mul_right}
 use Rattle.modular_plan.proofs.Columns.{block_below}
 use Rattle.modular_plan.proofs.Fours.{block_mapped, stage_of_fours_none, stage_of_fours_more, stage_of_fours_all}
 use Rattle.modular_plan_products.proofs.stages.join_two_stages.Goals as goal
+use borrow.Author.Count.{falls}
 
 pub four_quarters-init : goal.four_quarters-init
 four_quarters-init g c = record {
@@ -60,3 +61,6 @@ returns g c = record {
   entries = c.four_quarters.invariant.entries;
   done = λ root z plan. stage_of_fours_all (c.four_quarters.invariant.done root z plan) (omega arith);
 }
+
+pub four_quarters-smaller : goal.four_quarters-smaller
+four_quarters-smaller g c = falls _ _ c.four_quarters-test.true
