@@ -16,3 +16,6 @@ returns c =
     let is = known.0 refl in
     let more : count ≢ 1 = λ e. c.if-length-last.false (sym is.2 ∙ ap (λ v. v * c.args.last) e ∙ omega arith) in
     (λ h. (is.0, c.if-last-gt2.false, is.1, is.2, whole_room c.args.b count c.args.factors is.1 more is.3), λ h. refl)
+
+pub returns-then-last-gt2 : goal.returns-then-last-gt2
+returns-then-last-gt2 c = (λ h. absurd (false≢true h), λ h. let few = h.1 in absurd (omega (arith, few)))

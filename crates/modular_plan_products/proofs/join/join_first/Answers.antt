@@ -54,3 +54,6 @@ returns-else-last-eq1 g c =
           remainders_once r z b count last x _ (remainders_reduced r z b count last (length before) x (numbers n before)
           (numbers n c.lower_each.new.xs) c.requires.blocks.whole c.lower_each.ensures.congruent are);
     }
+
+pub lower_each-requires : goal.lower_each-requires
+lower_each-requires g c = c.requires.entries

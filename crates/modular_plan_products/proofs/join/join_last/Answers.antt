@@ -6,6 +6,7 @@ use Rattle.modular_plan.proofs.Columns.{fours_below}
 use Rattle.modular_plan.proofs.Entries.{number_read, all_below}
 use Rattle.modular_plan_products.proofs.LastJoins.{last_joined, numbers_past, two_entries}
 use Rattle.modular_plan_products.proofs.join.join_last.Goals as goal
+use Rattle.modular_plan.proofs.Entries.{all_wider}
 
 pub minus_inverses-v-requires : goal.minus_inverses-v-requires
 minus_inverses-v-requires g c =
@@ -66,4 +67,17 @@ returns-else-b-eq0 g c = record {
       c.scale_each.ensures.products i (omega (arith, kept, l))
       ∙ (multiplied (c.join_blocks.ensures.joined r z x plan are i l) (itself (n c.args.w.now.value))).same);
   below = c.scale_each.ensures.below;
+}
+
+pub nonzero_div-xs : goal.nonzero_div-xs
+nonzero_div-xs g c = c.requires.ready.blocks.some
+
+pub join_blocks-requires : goal.join_blocks-requires
+join_blocks-requires g c = c.requires.ready
+
+pub scale_each-requires : goal.scale_each-requires
+scale_each-requires g c = record {
+  entries = all_wider g.T.RingWord.number c.join_blocks.new.xs (g.met.M.JoinSteps.bound_fits c.args.m.now)
+      c.join_blocks.ensures.entries;
+  factor = c.requires.factor;
 }
