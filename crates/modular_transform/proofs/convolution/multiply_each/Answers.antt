@@ -1,5 +1,5 @@
 use Rattle.modular_transform.specs.EntryLaws.{form_read}
-use Rattle.std.proofs.Common.{◌*◌, ◌%◌, ◌<◌, length, ◌∙◌, ap, arith}
+use Rattle.std.proofs.Common.{◌*◌, ◌%◌, ◌<◌, length, ◌∙◌, ap, arith, refl, subst, sym}
 use Rattle.modular_transform.proofs.ValueLemmas.{values}
 use Rattle.modular_transform.proofs.ValueLemmas.{value_read, value_at, forms_written, entry_done, entry_kept}
 use Rattle.modular_transform.proofs.convolution.multiply_each.Goals as goal
@@ -53,3 +53,31 @@ offset_bounds-ys-i g c = at_most c.entries-test.true c.requires.equal
 
 pub entries-smaller : goal.entries-smaller
 entries-smaller g c = falls _ _ c.entries-test.true
+
+pub entries-init : goal.entries-init
+entries-init g c = record {
+  checked = c.requires.checked_xs;
+  done = λ k l. absurd (omega (arith, l));
+  kept = λ k l. refl;
+}
+
+pub bounds-xs-i : goal.bounds-xs-i
+bounds-xs-i g c = subst (λ n. c.entries.i < n) (sym c.entries.auto.xs) c.entries-test.true
+
+pub bounds-xs-i-in-entries : goal.bounds-xs-i-in-entries
+bounds-xs-i-in-entries g c = subst (λ n. c.entries.i < n) (sym c.entries.auto.xs) c.entries-test.true
+
+pub bounds-ys-i : goal.bounds-ys-i
+bounds-ys-i g c = subst (λ n. c.entries.i < n) c.requires.equal c.entries-test.true
+
+pub returns-clause-entries : goal.returns-clause-entries
+returns-clause-entries g c =
+    let m = g.R.Reducer.modulus c.args.r.now in
+    let number = g.T.RingWord.number in
+    let last = c.entries.invariant in
+    let xs = c.entries.xs in
+    record {
+      each = λ i d l. let is = last.checked i d l in
+          let same = value_at number g.R.Reducer.value m xs i d l ∙ last.done i (omega (arith, l)) in
+          record { below = subst (λ v. v < m) same is.below; same = is.same ∙ ap (g.R.Reducer.form m) same };
+    }

@@ -1,7 +1,8 @@
-use Rattle.std.proofs.Common.{arith}
+use Rattle.std.proofs.Common.{arith, ◌<◌, length}
 use Rattle.modular_transform.specs.EntryLaws.{form_read, forms_written}
 use Rattle.modular_transform.proofs.ValueLemmas.{pair_written}
 use Rattle.modular_transform.proofs.stage.pair.Goals as goal
+use borrow.Author.Rules.{scaled_Fits}
 
 pub returns-clause-done : goal.returns-clause-done
 returns-clause-done g c =
@@ -38,3 +39,24 @@ returns-clause-checked g c =
     let number = g.T.RingWord.number in let form = g.R.Reducer.form in let value = g.R.Reducer.value in
     forms_written number form value _ _ _ _ c.add.ensures.checked
     (forms_written number form value _ _ _ _ c.mul_difference.ensures.checked c.requires.checked)
+
+pub offset_bounds-forms-first : goal.offset_bounds-forms-first
+offset_bounds-forms-first g c =
+    let order = c.requires.within in
+    let within : c.args.first < length c.args.forms.now = omega (arith, order) in
+    scaled_Fits _ _ _ within c.well_formed.1.0.1
+
+pub offset_bounds-forms-second : goal.offset_bounds-forms-second
+offset_bounds-forms-second g c = scaled_Fits _ _ _ c.requires.within.1 c.well_formed.1.0.1
+
+pub offset_bounds-forms-second-2 : goal.offset_bounds-forms-second-2
+offset_bounds-forms-second-2 g c = scaled_Fits _ _ _ c.requires.within.1 c.well_formed.1.0.1
+
+pub offset_bounds-forms-first-2 : goal.offset_bounds-forms-first-2
+offset_bounds-forms-first-2 g c =
+    let order = c.requires.within in
+    let within : c.args.first < length c.args.forms.now = omega (arith, order) in
+    scaled_Fits _ _ _ within c.well_formed.1.0.1
+
+pub bounds-forms-second : goal.bounds-forms-second
+bounds-forms-second g c = c.requires.within.1
