@@ -49,3 +49,9 @@ overflow_sub-other g c = le_of_lt c.places-test.true
 
 pub swap-requires-clause-a_in_bounds : goal.swap-requires-clause-a_in_bounds
 swap-requires-clause-a_in_bounds g c = subst (λ n. c.places.place < n) (sym c.places.auto.entries) c.places-test.true
+
+pub swap-requires-clause-b_in_bounds : goal.swap-requires-clause-b_in_bounds
+swap-requires-clause-b_in_bounds g c =
+    let same = c.places.auto.entries in
+    let from = c.places.auto.place in
+    omega (arith, same, from)

@@ -23,6 +23,7 @@ use Rattle.modular_transform.proofs.ValueLemmas.{held_forms}
 use Rattle.modular_transform.proofs.transform.ntt_counted.Goals as goal
 use Rattle.modular_transform.proofs.transform.ntt_counted.Goals.{then-stages-eq1, else-stages-eq1}
 use lib.Count.{trailing_le}
+use borrow.Author.Count.{falls}
 
 pub roots-init : goal.roots-init
 roots-init g c =
@@ -394,3 +395,6 @@ two_stages-products-requires-clause-turned g c =
     let more = below_limit (stages_left c.passes.invariant.even c.passes-test.true).turn
     (trailing_le 64 (length c.args.xs.now)) in
     c.roots.invariant.checked _ c.index-roots-stages.result (omega (arith, more))
+
+pub roots-smaller : goal.roots-smaller
+roots-smaller g c = falls _ _ c.roots-test.true
