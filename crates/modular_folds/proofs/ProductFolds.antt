@@ -32,7 +32,7 @@ parts w p n k same low_is high_is = (
 )
 
 -- the upper part of a product of two numbers below m is below it
-product_high : (p m a b : ℕ) → a < m → b < m → m ≤ 2 ^ p → a * b / 2 ^ p < m
+pub product_high : (p m a b : ℕ) → a < m → b < m → m ≤ 2 ^ p → a * b / 2 ^ p < m
 product_high p m a b left right most =
     let less : a * b < m * m = mul-lt a b m m left right in
     let up : m * m ≤ m * 2 ^ p = mul-le-mul_left m most in

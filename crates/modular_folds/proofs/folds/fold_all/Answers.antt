@@ -1,24 +1,78 @@
-use Rattle.std.proofs.Common.{◌∙◌, ◌/◌, ◌^◌, ◌<◌, arith, sym}
-use Rattle.modular_folds.proofs.FoldSteps.{power_fits}
+use Rattle.std.proofs.Common.{◌≡◌, ℕ, ◌+◌, ◌∙◌, ◌/◌, ◌^◌, ◌<◌, refl, arith, sym}
+use Rattle.modular_folds.proofs.FoldSteps.{power_fits, bit_inside}
 use Rattle.modular_folds.proofs.FoldBounds.{low_only, small_square}
 use Rattle.modular_folds.proofs.FoldCounts.{folds-none}
 use Rattle.modular_folds.proofs.folds.fold_all.Goals as goal
 
+-- the mask has the bits below p
+ones : (m less : ℕ) {c one mask power : ℕ} → one ≡ 1 → less + one ≡ c → mask ≡ m + less → m + c ≡ power → mask + 1 ≡ power
+ones m less is_one is_less is_mask whole = omega (arith, is_one, is_less, is_mask, whole)
+
+-- a word above the mask has more than p bits
+inside : {w p mask v : ℕ} → mask + 1 ≡ 2 ^ p → mask < v → v < 2 ^ w → p < w
+inside {w} {p} {mask} {v} is above fits = bit_inside w p v (omega (arith, is, above)) fits
+
+pub minus-requires : goal.minus-requires
+minus-requires g c = omega (arith, c.one.ensures, c.requires.some)
+
 pub plus-mask-requires : goal.plus-mask-requires
 plus-mask-requires g c = omega (arith, power_fits c.requires)
 
-pub fold_three-requires-clause-small : goal.fold_three-requires-clause-small
-fold_three-requires-clause-small g c =
-    let n = g.V.RingWord.number in
-    let less = low_only (c.args.p / 2) (n c.args.c)
-    (sym c.shift_right-2.ensures.value ∙ c.is_zero_word.ensures.zero.0 c.if-is_zero_word.true) in
-    omega (arith, small_square c.args.p (n c.args.c) less)
-
-pub returns-then-not-is_below-clause-count : goal.returns-then-not-is_below-clause-count
-returns-then-not-is_below-clause-count g c =
+pub returns-then-not-is_below : goal.returns-then-not-is_below
+returns-then-not-is_below g c =
     let n = g.V.RingWord.number in
     let low : n c.args.v < 2 ^ c.args.p = grind (arith, c.is_below.ensures.below, c.if-not-is_below.true) in
-    sym (folds-none c.args.p (n c.args.c) (n c.args.v) low)
+    record { below = low; same = refl; count = sym (folds-none c.args.p (n c.args.c) (n c.args.v) low) }
+
+pub shift_right-requires : goal.shift_right-requires
+shift_right-requires g c =
+    inside (ones _ _ c.one.ensures c.minus.ensures c.plus-mask.ensures c.requires.whole)
+    (c.is_below.ensures.below.0 c.if-not-is_below.false) c.is_below.ensures.other_fits
+
+pub fold_on-requires : goal.fold_on-requires
+fold_on-requires g c = record {
+  folding = c.requires;
+  fits = c.shift_right.ensures.fits;
+  mask = ones _ _ c.one.ensures c.minus.ensures c.plus-mask.ensures c.requires.whole;
+}
+
+pub fold_two-requires : goal.fold_two-requires
+fold_two-requires g c =
+    let n = g.V.RingWord.number in
+    let mask = ones _ _ c.one.ensures c.minus.ensures c.plus-mask.ensures c.requires.whole in
+    record {
+      folding = c.requires;
+      inside = inside mask (c.is_below.ensures.below.0 c.if-not-is_below.false) c.is_below.ensures.other_fits;
+      mask = mask;
+      one = (g.met.V.RingWord.equal c.args.c c.one-2.result).0 (sym c.eq.ensures ∙ c.if-eq.true) ∙ c.one-2.ensures;
+      product = grind (arith, mask, c.is_below-2.ensures.below, c.if-is_below.false, c.shift_right.ensures.value);
+    }
+
+pub shift_right-requires-2 : goal.shift_right-requires-2
+shift_right-requires-2 g c =
+    let mask = ones _ _ c.one.ensures c.minus.ensures c.plus-mask.ensures c.requires.whole in
+    omega (arith, inside mask (c.is_below.ensures.below.0 c.if-not-is_below.false) c.is_below.ensures.other_fits)
+
+pub fold_three-requires : goal.fold_three-requires
+fold_three-requires g c =
+    let n = g.V.RingWord.number in
+    let mask = ones _ _ c.one.ensures c.minus.ensures c.plus-mask.ensures c.requires.whole in
+    let less = low_only (c.args.p / 2) (n c.args.c)
+    (sym c.shift_right-2.ensures.value ∙ c.is_zero_word.ensures.zero.0 c.if-is_zero_word.true) in
+    record {
+      folding = c.requires;
+      inside = inside mask (c.is_below.ensures.below.0 c.if-not-is_below.false) c.is_below.ensures.other_fits;
+      mask = mask;
+      small = omega (arith, small_square c.args.p (n c.args.c) less);
+      product = grind (arith, mask, c.is_below-2.ensures.below, c.if-is_below.false, c.shift_right.ensures.value);
+    }
+
+pub fold_on-requires-2 : goal.fold_on-requires-2
+fold_on-requires-2 g c = record {
+  folding = c.requires;
+  fits = c.shift_right.ensures.fits;
+  mask = ones _ _ c.one.ensures c.minus.ensures c.plus-mask.ensures c.requires.whole;
+}
 
 pub returns-then-is_below : goal.returns-then-is_below
 returns-then-is_below g c = c.fold_on.ensures
@@ -31,15 +85,3 @@ returns-then-is_zero_word g c = c.fold_three.ensures
 
 pub returns : goal.returns
 returns g c = c.fold_on-2.ensures
-
-pub fold_on-requires-clause-folding : goal.fold_on-requires-clause-folding
-fold_on-requires-clause-folding g c = c.requires
-
-pub fold_two-requires-clause-folding : goal.fold_two-requires-clause-folding
-fold_two-requires-clause-folding g c = c.requires
-
-pub fold_three-requires-clause-folding : goal.fold_three-requires-clause-folding
-fold_three-requires-clause-folding g c = c.requires
-
-pub fold_on-requires-2-clause-folding : goal.fold_on-requires-2-clause-folding
-fold_on-requires-2-clause-folding g c = c.requires
