@@ -1,10 +1,21 @@
-use Rattle.std.proofs.Common.{rules, arith, pos, ap, ◌∙◌}
+use Rattle.std.proofs.Common.{arith, pos, ap, ◌∙◌}
 use Rattle.modular_folds.specs.SolinasLaws.{trinomial_fits, trinomial_is}
+use Rattle.modular_folds.proofs.TrinomialSteps.{term_read, range_passed}
 use Rattle.modular_folds.proofs.solinas.FoldRing+T+TrinomialModulus+T+F.fixed_modulus.Goals as goal
+
+pub modulus_of-requires : goal.modulus_of-requires
+modulus_of-requires g c =
+    range_passed c.p1-2.ensures c.p2-2.ensures (term_read c.k-2.result c.k-2.type_inv c.k-2.ensures)
+    g.met.T.TrinomialWord.narrow c.requires
 
 pub word_of-requires : goal.word_of-requires
 word_of-requires g c =
-    grind (arith, g.met.T.PathWord.base_is, trinomial_fits c.requires, c.modulus_of.ensures)
+    let term = term_read c.k-2.result c.k-2.type_inv c.k-2.ensures in
+    let is = rw (c.p1-2.ensures, c.p2-2.ensures, term) at c.modulus_of.ensures in
+    omega (arith, g.met.T.PathWord.base_is, trinomial_fits c.requires, is)
 
-pub returns-clause-whole : goal.returns-clause-whole
-returns-clause-whole g c = ap pos (search rules) ∙ trinomial_is c.requires
+pub returns : goal.returns
+returns g c =
+    let term = term_read c.k-2.result c.k-2.type_inv c.k-2.ensures in
+    let value = c.word_of.ensures ∙ rw (c.p1-2.ensures, c.p2-2.ensures, term) at c.modulus_of.ensures in
+    record { value = value; whole = ap pos value ∙ trinomial_is c.requires }
