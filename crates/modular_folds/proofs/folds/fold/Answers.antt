@@ -2,6 +2,7 @@ use Rattle.std.proofs.Common.{ap, ◌*◌, ◌<◌, ◌/◌, ◌^◌, ◌≡◌,
 use Rattle.modular_folds.proofs.FoldCounts.{count_none, count_one}
 use Rattle.modular_folds.proofs.FoldSteps.{masked, fold_at_most}
 use Rattle.modular_folds.specs.Folds.{fold_of}
+use Rattle.modular_folds.proofs.WordTests.{not_zero}
 use Rattle.modular_folds.proofs.folds.fold.Goals as goal
 use Rattle.modular_folds.proofs.folds.fold.Goals.{After-plus-rest}
 
@@ -51,5 +52,5 @@ pub returns-else-is_zero_word : goal.returns-else-is_zero_word
 returns-else-is_zero_word g c =
     let is = folded g (goal.at.returns-else-is_zero_word g c).After-plus-rest in
     let some : 0 < g.V.RingWord.number c.args.v / 2 ^ c.args.p =
-    grind (arith, c.shift_right-high.ensures.value, c.is_zero_word.ensures.zero, c.if-is_zero_word.false) in
+    rw c.shift_right-high.ensures.value at (not_zero c.is_zero_word.ensures.zero c.if-is_zero_word.false) in
     record { value = is; count = count_one _ _ _ _ c.requires.less is some; at_most = omega arith }

@@ -2,6 +2,7 @@ use Rattle.std.proofs.Common.{◌≡◌, ℕ, ◌+◌, ◌∙◌, ◌/◌, ◌^�
 use Rattle.modular_folds.proofs.FoldSteps.{power_fits, bit_inside}
 use Rattle.modular_folds.proofs.FoldBounds.{low_only, small_square}
 use Rattle.modular_folds.proofs.FoldCounts.{folds-none}
+use Rattle.modular_folds.proofs.WordTests.{not_below}
 use Rattle.modular_folds.proofs.folds.fold_all.Goals as goal
 
 -- the mask has the bits below p
@@ -21,7 +22,8 @@ plus-mask-requires g c = omega (arith, power_fits c.requires)
 pub returns-then-not-is_below : goal.returns-then-not-is_below
 returns-then-not-is_below g c =
     let n = g.V.RingWord.number in
-    let low : n c.args.v < 2 ^ c.args.p = grind (arith, c.is_below.ensures.below, c.if-not-is_below.true) in
+    let mask = ones _ _ c.one.ensures c.minus.ensures c.plus-mask.ensures c.requires.whole in
+    let low : n c.args.v < 2 ^ c.args.p = omega (arith, mask, not_below c.is_below.ensures.below c.if-not-is_below.true) in
     record { below = low; same = refl; count = sym (folds-none c.args.p (n c.args.c) (n c.args.v) low) }
 
 pub shift_right-requires : goal.shift_right-requires
@@ -45,7 +47,7 @@ fold_two-requires g c =
       inside = inside mask (c.is_below.ensures.below.0 c.if-not-is_below.false) c.is_below.ensures.other_fits;
       mask = mask;
       one = (g.met.V.RingWord.equal c.args.c c.one-2.result).0 (sym c.eq.ensures ∙ c.if-eq.true) ∙ c.one-2.ensures;
-      product = grind (arith, mask, c.is_below-2.ensures.below, c.if-is_below.false, c.shift_right.ensures.value);
+      product = omega (arith, mask, not_below c.is_below-2.ensures.below c.if-is_below.false, c.shift_right.ensures.value);
     }
 
 pub shift_right-requires-2 : goal.shift_right-requires-2
@@ -64,7 +66,7 @@ fold_three-requires g c =
       inside = inside mask (c.is_below.ensures.below.0 c.if-not-is_below.false) c.is_below.ensures.other_fits;
       mask = mask;
       small = omega (arith, small_square c.args.p (n c.args.c) less);
-      product = grind (arith, mask, c.is_below-2.ensures.below, c.if-is_below.false, c.shift_right.ensures.value);
+      product = omega (arith, mask, not_below c.is_below-2.ensures.below c.if-is_below.false, c.shift_right.ensures.value);
     }
 
 pub fold_on-requires-2 : goal.fold_on-requires-2

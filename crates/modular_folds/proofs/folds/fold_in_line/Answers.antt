@@ -2,6 +2,7 @@ use Rattle.std.proofs.Common.{◌≡◌, ℕ, ◌+◌, ◌*◌, ◌/◌, ◌%◌
 use Rattle.std.proofs.Math.Nat.{mul-le-mul_right}
 use Rattle.modular_folds.proofs.FoldSteps.{power_fits, some_bits, fold_keeps}
 use Rattle.modular_folds.proofs.FoldBounds.{doubled_fits, first_bound, fold_bound, next_bound, bound_falls}
+use Rattle.modular_folds.proofs.WordTests.{not_below}
 use Rattle.modular_folds.proofs.folds.fold_in_line.Goals as goal
 use Rattle.modular_folds.proofs.folds.fold_in_line.Goals.{After-shift_right, After-fold_once}
 
@@ -43,7 +44,7 @@ less : (g : _) (c : After-shift_right g)
 less g c =
     let n = g.V.RingWord.number in
     let high : 2 * n c.args.m ≤ n c.folds.most =
-    grind (arith, c.is_below.ensures.below, c.folds-test.true, c.plus-twice.ensures) in
+    omega (arith, not_below c.is_below.ensures.below c.folds-test.true, c.plus-twice.ensures) in
     bound_falls c.args.p (n c.args.c) (n c.args.m) (n c.plus-mask.result) (n c.folds.most)
     (ones _ _ c.one.ensures c.minus.ensures c.plus-mask.ensures c.requires.folding.whole) c.requires.folding.whole c.requires.small high
 
@@ -81,7 +82,7 @@ last_below : (g : _) (c : After-fold_once g) → g.V.RingWord.number c.fold_once
 last_below g c =
     let n = g.V.RingWord.number in
     let end : n c.folds.most < 2 * n c.args.m =
-    grind (arith, c.is_below.ensures.below, c.folds-test.false, c.plus-twice.ensures) in
+    omega (arith, c.is_below.ensures.below.0 c.folds-test.false, c.plus-twice.ensures) in
     let most = fold_bound c.args.p (n c.args.c) (n c.folds.rest) (n c.plus-mask.result) (n c.folds.most)
     (ones _ _ c.one.ensures c.minus.ensures c.plus-mask.ensures c.requires.folding.whole) c.folds.invariant.bound in
     rw c.fold_once.ensures (omega (arith, end, most))

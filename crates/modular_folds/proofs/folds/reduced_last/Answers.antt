@@ -1,5 +1,6 @@
 use Rattle.std.proofs.Common.{◌≤◌, arith}
 use Rattle.modular_folds.proofs.FoldBounds.{once_below, once_above}
+use Rattle.modular_folds.proofs.WordTests.{not_below}
 use Rattle.modular_folds.proofs.folds.reduced_last.Goals as goal
 
 pub returns-then-is_below : goal.returns-then-is_below
@@ -11,6 +12,6 @@ returns-then-is_below g c =
 pub returns-else-is_below : goal.returns-else-is_below
 returns-else-is_below g c =
     let n = g.V.RingWord.number in
-    let more : n c.args.m ≤ n c.args.v = grind (arith, c.is_below.ensures.below, c.if-is_below.false) in
+    let more = not_below c.is_below.ensures.below c.if-is_below.false in
     let once = once_above (n c.args.m) (n c.args.v) _ more c.requires c.minus.ensures in
     record { value = once.0; below = once.1 }
