@@ -1,7 +1,6 @@
 use Rattle.std.proofs.Common.{◌∙◌, ◌^◌, ◌<◌, arith}
 use Rattle.modular_folds.proofs.FoldCounts.{few_in, folds-none}
 use Rattle.modular_folds.proofs.FoldSteps.{bit_inside, fold_keeps, fold_less}
-use Rattle.modular_folds.proofs.WordTests.{not_below}
 use Rattle.modular_folds.proofs.folds.fold_on.Goals as goal
 
 pub fold-next-requires-clause-inside : goal.fold-next-requires-clause-inside
@@ -24,11 +23,13 @@ folds-preserved g c =
       count = omega (arith, c.fold-next.ensures.count, c.folds.invariant.count);
     }
 
+pub returns-clause-below : goal.returns-clause-below
+returns-clause-below g c = grind arith
+
 pub returns-clause-count : goal.returns-clause-count
 returns-clause-count g c =
     let n = g.V.RingWord.number in
-    let low : n c.folds.rest < 2 ^ c.args.p =
-    omega (arith, c.requires.mask, not_below c.is_below.ensures.below c.folds-test.false) in
+    let low : n c.folds.rest < 2 ^ c.args.p = grind arith in
     omega (arith, c.folds.invariant.count, folds-none c.args.p (n c.args.c) (n c.folds.rest) low)
 
 pub fold-next-requires-clause-mask : goal.fold-next-requires-clause-mask
