@@ -23,20 +23,18 @@ folds-preserved g c =
       count = omega (arith, c.fold-next.ensures.count, c.folds.invariant.count);
     }
 
-pub returns-clause-below : goal.returns-clause-below
-returns-clause-below g c = grind arith
-
-pub returns-clause-count : goal.returns-clause-count
-returns-clause-count g c =
+pub returns : goal.returns
+returns g c =
     let n = g.V.RingWord.number in
     let low : n c.folds.rest < 2 ^ c.args.p = grind arith in
-    omega (arith, c.folds.invariant.count, folds-none c.args.p (n c.args.c) (n c.folds.rest) low)
+    record {
+      below = low;
+      same = c.folds.invariant.same;
+      count = omega (arith, c.folds.invariant.count, folds-none c.args.p (n c.args.c) (n c.folds.rest) low);
+    }
 
 pub fold-next-requires-clause-mask : goal.fold-next-requires-clause-mask
 fold-next-requires-clause-mask g c = c.requires.mask
-
-pub returns-clause-same : goal.returns-clause-same
-returns-clause-same g c = c.folds.invariant.same
 
 pub fold-next-requires-clause-less : goal.fold-next-requires-clause-less
 fold-next-requires-clause-less g c = omega (arith, c.requires.folding.whole, c.requires.folding.half)
