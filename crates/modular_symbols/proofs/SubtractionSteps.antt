@@ -10,7 +10,7 @@ use Rattle.modular_symbols.specs.Kronecker.{signed}
 use Rattle.modular_symbols.proofs.JacobiLaws.{jacobi-residue}
 use Rattle.modular_symbols.proofs.TurnBits.{is_odd, odd-sum}
 use Rattle.modular_symbols.proofs.TurnedSymbols.{Keeps, kept_one, kept_none, signed-other, turned_twice}
-use Rattle.modular_symbols.proofs.TwoPart.{SplitAt, split_at, split_opposite, Halved, halved_split}
+use Rattle.modular_symbols.proofs.TwoPart.{SplitAt, split_at, fewer_zeros, split_opposite, Halved, halved_split}
 
 -- numbers that leave the same remainder have the same symbol
 jacobi-congruent : (x r n : ℕ) → 0 < n → x % n ≡ r % n → jacobi (pos x) n ≡ jacobi (pos r) n
@@ -25,6 +25,15 @@ pub record Wraps (w base v a n : ℕ) : Type 0 where
   pub fits : v < base
   pub a_fits : a < base
   pub n_fits : n < base
+
+-- which isn't 0, so that it has fewer trailing zeros than bits
+pub wrapped_zeros : (w b v a n s : ℕ) → Wraps w b v a n → a ≢ n → s ≡ count_trailing_zeros w v → s < w
+wrapped_zeros w b v a n s r z e =
+    let l = r.n_fits in
+    let some : v ≢ 0 = λ h.
+    let same : v + n ≡ n = omega arith in
+    z (sym r.sum ∙ ap (λ k. k % b) same ∙ mod-eq_of_lt l) in
+    subst (λ k. k < w) (sym e) (fewer_zeros w v (omega arith) (omega (arith, r.fits, r.base_is)))
 
 -- the first number is the greater one
 pub halved_above : (w b v a n d s o : ℕ) → Wraps w b v a n → a ≢ n → d + n ≡ a

@@ -1,7 +1,8 @@
 -- The lowest bit of the words in which turns are added up.
-use Rattle.std.proofs.Common.{◌≡◌, ℕ, zero, suc, ◌+◌, ◌/◌, ◌%◌, ◌^◌, ◌<◌, Bool, eqb, ◌&&◌, ◌∙◌, ap, refl, arith}
+use Rattle.std.proofs.Common.{◌≡◌, ℕ, zero, suc, ◌+◌, ◌/◌, ◌%◌, ◌^◌, ◌<◌, Bool, true, false, eqb, ◌&&◌, ◌∙◌, sym, ap, refl, arith}
 use Rattle.std.proofs.Math.Bool.{beq, not}
 use Rattle.std.proofs.Math.Nat.{mod-lt}
+use Rattle.std.proofs.lemmas.Bool.{false≢true}
 use Rattle.std.proofs.lemmas.Bool.Decides.{nat_tests}
 use Rattle.std.proofs.lemmas.Nat.{and_mod, and_shr, xor_shr}
 use Rattle.std.specs.Int.Bits.{bit_and, bit_xor, xor_add_and}
@@ -11,6 +12,11 @@ use Rattle.modular_symbols.proofs.TurnedSymbols.{both_leave_3}
 -- whether the lowest bit is set
 abbrev pub is_odd : ℕ → Bool
 is_odd x = eqb (x % 2) 1
+
+-- what isn't false after a negation
+pub is_by_not : (b : Bool) → not b ≡ false → b ≡ true
+is_by_not true e = refl
+is_by_not false e = absurd (false≢true (sym e))
 
 -- two counts of turns
 pub odd-sum : (p q : ℕ) → is_odd (p + q) ≡ not (beq (is_odd p) (is_odd q))

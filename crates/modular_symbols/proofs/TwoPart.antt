@@ -94,6 +94,19 @@ split_at (suc w) n h k =
     split_step n (count_trailing_zeros w (n / 2)) (n % 2) refl (mod-lt n (omega arith)) h
     (λ p. split_at w (n / 2) p (omega (arith, pow-suc 2 w)))
 
+-- a number of w bits that isn't 0 has fewer trailing zeros
+pub fewer_zeros : (w v : ℕ) → 0 < v → v < 2 ^ w → count_trailing_zeros w v < w
+fewer_zeros w v p l =
+    let s : ℕ = count_trailing_zeros w v in
+    let split : SplitAt v s = split_at w v p l in
+    let most : s ≤ w = trailing_le w v in
+    let whole : v / 2 ^ s * 2 ^ s ≡ v = split.whole in
+    let odd : (v / 2 ^ s) % 2 ≡ 1 = split.odd in
+    let one : 1 * 2 ^ s ≤ v / 2 ^ s * 2 ^ s =
+    mul-le-mul_right (2 ^ s) (let b : 1 ≤ v / 2 ^ s = omega arith in b) in
+    let below : s ≢ w = λ f. let g = ap (λ k. 2 ^ k) f in omega arith in
+    omega arith
+
 -- the trailing zeros of the number that a power of two lacks d
 pub split_opposite : (w v d : ℕ) → 0 < v → 0 < d → v + d ≡ 2 ^ w → SplitAt d (count_trailing_zeros w v)
 split_opposite w v d p q e =

@@ -93,3 +93,8 @@ pub half_system-smaller : goal.half_system-smaller
 half_system-smaller g c =
     let before = c.is_below.ensures.below.0 c.half_system-test.true in
     omega (arith, before, c.plus-x.ensures, c.one.ensures)
+
+pub half_system-smaller-then-is_below : goal.half_system-smaller-then-is_below
+half_system-smaller-then-is_below g c =
+    let before = c.is_below.ensures.below.0 c.half_system-test.true in
+    omega (arith, before, c.plus-x.ensures, c.one.ensures)

@@ -1,10 +1,11 @@
 -- Each turn of the loop keeps the symbol up to its sign, and counts its steps.
-use Rattle.std.proofs.Common.{rules, arith, ◌≢◌, ◌+◌, ◌∙◌, pos, sym, ap}
+use Rattle.std.proofs.Common.{arith, ◌≢◌, ◌+◌, ◌<◌, ◌∙◌, pos, sym, ap, subst}
+use Rattle.std.proofs.lemmas.Bool.{false≢true}
 use Rattle.modular_symbols.specs.Jacobi.{jacobi}
 use Rattle.modular_symbols.specs.Kronecker.{signed}
 use Rattle.modular_symbols.proofs.HalvingSteps.{smaller, kept_swapped}
 use Rattle.modular_symbols.proofs.TurnedSymbols.{kept_start, kept_one, kept_none}
-use Rattle.modular_symbols.proofs.TwoPart.{halved}
+use Rattle.modular_symbols.proofs.TwoPart.{halved, fewer_zeros}
 use Rattle.modular_symbols.proofs.StepCounts.{counts_start, counts_turn, counts_end, counts_few}
 use Rattle.modular_symbols.proofs.halving.halve_and_swap.Goals as goal
 
@@ -19,14 +20,24 @@ swaps-init g c =
 pub is_turned-turned-requires-clause-a_odd : goal.is_turned-turned-requires-clause-a_odd
 is_turned-turned-requires-clause-a_odd g c =
     let n = g.T.RingWord.number in
-    let some : n c.swaps.above ≢ 0 = search rules in
+    let some : n c.swaps.above ≢ 0 = λ e. false≢true (sym c.swaps-test.true ∙ c.is_zero_word.ensures.zero.1 e) in
     (halved g.T.RingWord.width (n c.swaps.above) c.trailing_zeros-twos.result (n c.shift_right-odd.result) some
     c.is_zero_word.ensures.fits c.trailing_zeros-twos.ensures.value c.shift_right-odd.ensures.value).odd
+
+pub is_turned-turned-requires-clause-n_odd : goal.is_turned-turned-requires-clause-n_odd
+is_turned-turned-requires-clause-n_odd g c = c.swaps.invariant.symbol.odd
+
+pub shift_right-odd-requires : goal.shift_right-odd-requires
+shift_right-odd-requires g c =
+    let n = g.T.RingWord.number in
+    let some : n c.swaps.above ≢ 0 = λ e. false≢true (sym c.swaps-test.true ∙ c.is_zero_word.ensures.zero.1 e) in
+    subst (λ s. s < g.T.RingWord.width) (sym c.trailing_zeros-twos.ensures.value)
+    (fewer_zeros g.T.RingWord.width (n c.swaps.above) (omega (arith, some)) c.is_zero_word.ensures.fits)
 
 pub rest-above-requires : goal.rest-above-requires
 rest-above-requires g c =
     let n = g.T.RingWord.number in
-    let some : n c.swaps.above ≢ 0 = search rules in
+    let some : n c.swaps.above ≢ 0 = λ e. false≢true (sym c.swaps-test.true ∙ c.is_zero_word.ensures.zero.1 e) in
     let h = halved g.T.RingWord.width (n c.swaps.above) c.trailing_zeros-twos.result (n c.shift_right-odd.result) some
     c.is_zero_word.ensures.fits c.trailing_zeros-twos.ensures.value c.shift_right-odd.ensures.value in
     let odd = h.odd in
@@ -35,7 +46,7 @@ rest-above-requires g c =
 pub swaps-smaller : goal.swaps-smaller
 swaps-smaller g c =
     let n = g.T.RingWord.number in
-    let some : n c.swaps.above ≢ 0 = search rules in
+    let some : n c.swaps.above ≢ 0 = λ e. false≢true (sym c.swaps-test.true ∙ c.is_zero_word.ensures.zero.1 e) in
     let h = halved g.T.RingWord.width (n c.swaps.above) c.trailing_zeros-twos.result (n c.shift_right-odd.result) some
     c.is_zero_word.ensures.fits c.trailing_zeros-twos.ensures.value c.shift_right-odd.ensures.value in
     let less = smaller (n c.swaps.above) c.trailing_zeros-twos.result
@@ -45,7 +56,7 @@ swaps-smaller g c =
 pub swaps-preserved : goal.swaps-preserved
 swaps-preserved g c =
     let n = g.T.RingWord.number in
-    let some : n c.swaps.above ≢ 0 = search rules in
+    let some : n c.swaps.above ≢ 0 = λ e. false≢true (sym c.swaps-test.true ∙ c.is_zero_word.ensures.zero.1 e) in
     let h = halved g.T.RingWord.width (n c.swaps.above) c.trailing_zeros-twos.result (n c.shift_right-odd.result) some
     c.is_zero_word.ensures.fits c.trailing_zeros-twos.ensures.value c.shift_right-odd.ensures.value in
     record {
@@ -64,7 +75,7 @@ swaps-preserved g c =
 pub overflow_add-count-in-swaps : goal.overflow_add-count-in-swaps
 overflow_add-count-in-swaps g c =
     let n = g.T.RingWord.number in
-    let some : n c.swaps.above ≢ 0 = search rules in
+    let some : n c.swaps.above ≢ 0 = λ e. false≢true (sym c.swaps-test.true ∙ c.is_zero_word.ensures.zero.1 e) in
     let h = halved g.T.RingWord.width (n c.swaps.above) c.trailing_zeros-twos.result (n c.shift_right-odd.result) some
     c.is_zero_word.ensures.fits c.trailing_zeros-twos.ensures.value c.shift_right-odd.ensures.value in
     let after =
@@ -81,11 +92,13 @@ pub returns-then-turned-clause-symbol : goal.returns-then-turned-clause-symbol
 returns-then-turned-clause-symbol g c =
     let n = g.T.RingWord.number in
     ap (λ t. signed t (pos 1)) (sym c.if-turned.true)
-    ∙ kept_one _ (n c.swaps.above) (n c.swaps.below) c.swaps.turned c.swaps.invariant.symbol (search rules)
-    ((g.met.T.RingWord.equal c.swaps.below c.one.result).0 (search rules) ∙ c.one.ensures)
+    ∙ kept_one _ (n c.swaps.above) (n c.swaps.below) c.swaps.turned c.swaps.invariant.symbol
+    (c.is_zero_word.ensures.zero.0 c.swaps-test.false)
+    ((g.met.T.RingWord.equal c.swaps.below c.one.result).0 (sym c.eq.ensures ∙ c.if-eq.true) ∙ c.one.ensures)
 
 pub returns-then-turned-clause-count : goal.returns-then-turned-clause-count
-returns-then-turned-clause-count g c = counts_end _ _ _ _ _ _ c.swaps.invariant.counts (search rules)
+returns-then-turned-clause-count g c = counts_end _ _ _ _ _ _ c.swaps.invariant.counts
+    (c.is_zero_word.ensures.zero.0 c.swaps-test.false)
 
 pub returns-then-turned-clause-at_most : goal.returns-then-turned-clause-at_most
 returns-then-turned-clause-at_most g c = omega (arith, (counts_few _ _ _ _ _ _ c.swaps.invariant.counts c.requires.below))
@@ -94,11 +107,13 @@ pub returns-else-turned-clause-symbol : goal.returns-else-turned-clause-symbol
 returns-else-turned-clause-symbol g c =
     let n = g.T.RingWord.number in
     ap (λ t. signed t (pos 1)) (sym c.if-turned.false)
-    ∙ kept_one _ (n c.swaps.above) (n c.swaps.below) c.swaps.turned c.swaps.invariant.symbol (search rules)
-    ((g.met.T.RingWord.equal c.swaps.below c.one.result).0 (search rules) ∙ c.one.ensures)
+    ∙ kept_one _ (n c.swaps.above) (n c.swaps.below) c.swaps.turned c.swaps.invariant.symbol
+    (c.is_zero_word.ensures.zero.0 c.swaps-test.false)
+    ((g.met.T.RingWord.equal c.swaps.below c.one.result).0 (sym c.eq.ensures ∙ c.if-eq.true) ∙ c.one.ensures)
 
 pub returns-else-turned-clause-count : goal.returns-else-turned-clause-count
-returns-else-turned-clause-count g c = counts_end _ _ _ _ _ _ c.swaps.invariant.counts (search rules)
+returns-else-turned-clause-count g c = counts_end _ _ _ _ _ _ c.swaps.invariant.counts
+    (c.is_zero_word.ensures.zero.0 c.swaps-test.false)
 
 pub returns-else-turned-clause-at_most : goal.returns-else-turned-clause-at_most
 returns-else-turned-clause-at_most g c = omega (arith, (counts_few _ _ _ _ _ _ c.swaps.invariant.counts c.requires.below))
@@ -106,12 +121,14 @@ returns-else-turned-clause-at_most g c = omega (arith, (counts_few _ _ _ _ _ _ c
 pub returns-else-eq-clause-symbol : goal.returns-else-eq-clause-symbol
 returns-else-eq-clause-symbol g c =
     let n = g.T.RingWord.number in
-    kept_none _ (n c.swaps.above) (n c.swaps.below) c.swaps.turned c.swaps.invariant.symbol (search rules)
+    kept_none _ (n c.swaps.above) (n c.swaps.below) c.swaps.turned c.swaps.invariant.symbol
+    (c.is_zero_word.ensures.zero.0 c.swaps-test.false)
     (λ e. let one = (g.met.T.RingWord.equal c.swaps.below c.one.result).1 (e ∙ sym c.one.ensures) in
-    search rules)
+    false≢true (sym c.if-eq.false ∙ c.eq.ensures ∙ one))
 
 pub returns-else-eq-clause-count : goal.returns-else-eq-clause-count
-returns-else-eq-clause-count g c = counts_end _ _ _ _ _ _ c.swaps.invariant.counts (search rules)
+returns-else-eq-clause-count g c = counts_end _ _ _ _ _ _ c.swaps.invariant.counts
+    (c.is_zero_word.ensures.zero.0 c.swaps-test.false)
 
 pub returns-else-eq-clause-at_most : goal.returns-else-eq-clause-at_most
 returns-else-eq-clause-at_most g c = omega (arith, (counts_few _ _ _ _ _ _ c.swaps.invariant.counts c.requires.below))

@@ -1,6 +1,6 @@
 -- The symbol over an odd number, and none over an even one.
 use Rattle.std.proofs.Common.{◌≢◌, ◌%◌, pos, Some, sym, ap, ◌∙◌, arith, rules}
-use Rattle.std.proofs.lemmas.Bool.{cond-true, cond-false, eq-eqb, ne_eqb}
+use Rattle.std.proofs.lemmas.Bool.{cond-true, cond-false, eq-eqb, ne_eqb, false≢true}
 use Rattle.modular_symbols.specs.Jacobi.{checked_jacobi_of}
 use Rattle.modular_symbols.specs.Kronecker.{signed}
 use Rattle.modular_symbols.proofs.SymbolBytes.{in_byte}
@@ -18,7 +18,7 @@ returns-then-is_odd g c =
 pub returns-else-is_odd : goal.returns-else-is_odd
 returns-else-is_odd g c =
     let n = g.T.RingWord.number in
-    let even : n c.args.n % 2 ≢ 1 = λ e. let t = c.is_odd.ensures.odd.1 e in cc (t, c.if-is_odd.false) in
+    let even : n c.args.n % 2 ≢ 1 = λ e. false≢true (sym c.if-is_odd.false ∙ c.is_odd.ensures.odd.1 e) in
     sym (ap (λ b. checked_jacobi_of (signed c.args.a_minus (pos (n c.args.a))) (signed b (pos (n c.args.n))))
     c.if-n_minus.false
     ∙ cond-true _ _ _ (eq-eqb (n c.args.n % 2) 0 (omega arith)))

@@ -1,5 +1,6 @@
 -- The class of each power, in the order of the tests.
 use Rattle.std.proofs.Common.{◌≡◌, ◌≢◌, ◌-◌, pos, sym, ◌∙◌, arith}
+use Rattle.std.proofs.lemmas.Bool.{false≢true}
 use Rattle.modular_symbols.specs.Kronecker.{signed}
 use Rattle.modular_symbols.specs.Legendre.{checked_legendre_of}
 use Rattle.modular_symbols.proofs.LegendreClass.{class_by, class_is, class_zero, class_one, class_last, class_other}
@@ -13,7 +14,7 @@ class : (g : _) (c : After-powm-power g)
     ≡ class_by (g.T.RingWord.number c.minus-last.result) (g.T.RingWord.number c.powm-power.result)
 class g c =
     let n = g.T.RingWord.number in
-    let some : n c.args.n ≢ 0 = λ e. let t = c.is_zero_word.ensures.zero.1 e in cc (t, c.if-is_zero_word.false) in
+    let some : n c.args.n ≢ 0 = λ e. false≢true (sym c.if-is_zero_word.false ∙ c.is_zero_word.ensures.zero.1 e) in
     let last : n c.minus-last.result ≡ n c.args.n - 1 = omega (arith, c.minus-last.ensures.value, c.one.ensures) in
     class_is (signed c.args.a_minus (pos (n c.args.a))) c.args.n_minus (n c.args.n) (n c.minus-last.result)
     (n c.half.result) (n c.signed_residue.result) (n c.powm-power.result) c.if-n_minus.false
@@ -35,13 +36,13 @@ returns-then-eq g c =
 
 -- a power that is neither 0 nor 1
 not_zero : (g : _) (c : After-eq-else-eq g) → g.T.RingWord.number c.powm-power.result ≢ 0
-not_zero g c = λ e. let t = c.is_zero_word-else-is_zero_word.ensures.zero.1 e in cc (t, c.if-is_zero_word-2.false)
+not_zero g c = λ e. false≢true (sym c.if-is_zero_word-2.false ∙ c.is_zero_word-else-is_zero_word.ensures.zero.1 e)
 
 not_one : (g : _) (c : After-eq-else-eq g) → g.T.RingWord.number c.powm-power.result ≢ 1
 not_one g c = λ e.
     let t = (g.met.T.RingWord.equal c.powm-power.result c.one-else-is_zero_word-2.result).1
     (e ∙ sym c.one-else-is_zero_word-2.ensures) in
-    cc (t, c.eq.ensures, c.if-eq.false)
+    false≢true (sym c.if-eq.false ∙ c.eq.ensures ∙ t)
 
 pub returns-then-eq-2 : goal.returns-then-eq-2
 returns-then-eq-2 g c =
@@ -57,6 +58,6 @@ returns-else-eq-2 g c =
     let d = (goal.at.returns-else-eq-2 g c).After-eq-else-eq in
     let not_last : n c.powm-power.result ≢ n c.minus-last.result = λ e.
     let t = (g.met.T.RingWord.equal c.powm-power.result c.minus-last.result).1 e in
-    cc (t, c.eq-else-eq.ensures, c.if-eq-2.false) in
+    false≢true (sym c.if-eq-2.false ∙ c.eq-else-eq.ensures ∙ t) in
     sym (class g (goal.at.returns-else-eq-2 g c).After-powm-power
     ∙ class_other (n c.minus-last.result) _ (not_zero g d) (not_one g d) not_last)

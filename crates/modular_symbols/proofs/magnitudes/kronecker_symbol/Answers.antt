@@ -1,6 +1,6 @@
 -- The symbol over 0, and over a number of at least 1.
 use Rattle.std.proofs.Common.{◌≡◌, ◌≢◌, ◌&&◌, ℤ, pos, sym, ap, ◌∙◌, arith, rules}
-use Rattle.std.proofs.lemmas.Bool.{cond-true, cond-false, eq-eqb, ne_eqb}
+use Rattle.std.proofs.lemmas.Bool.{cond-true, cond-false, eq-eqb, ne_eqb, false≢true}
 use Rattle.modular_symbols.specs.Kronecker.{signed, kronecker_above}
 use Rattle.modular_symbols.proofs.KroneckerSteps.{kronecker-over_zero, kronecker-over}
 use Rattle.modular_symbols.proofs.SymbolBytes.{in_byte}
@@ -20,7 +20,7 @@ returns-else-eq g c =
     let n = g.T.RingWord.number in
     let other : n c.args.a ≢ 1 = λ e.
     let t = (g.met.T.RingWord.equal c.args.a c.one.result).1 (e ∙ sym c.one.ensures) in
-    cc (t, c.eq.ensures, c.if-eq.false) in
+    false≢true (sym c.if-eq.false ∙ c.eq.ensures ∙ t) in
     sym (kronecker-over_zero c.args.a_minus c.args.n_minus (n c.args.a) (n c.args.n)
     (c.is_zero_word.ensures.zero.0 c.if-is_zero_word.true)
     ∙ cond-false _ _ _ (ne_eqb (n c.args.a) 1 other))
@@ -28,7 +28,7 @@ returns-else-eq g c =
 pub returns-after-a_minus : goal.returns-after-a_minus
 returns-after-a_minus g c =
     let n = g.T.RingWord.number in
-    let some : n c.args.n ≢ 0 = λ e. let t = c.is_zero_word.ensures.zero.1 e in cc (t, c.if-is_zero_word.false) in
+    let some : n c.args.n ≢ 0 = λ e. false≢true (sym c.if-is_zero_word.false ∙ c.is_zero_word.ensures.zero.1 e) in
     let z : ℤ = signed c.args.a_minus (pos (n c.args.a)) in
     let turned : c.if-a_minus.turned_symbol ≡ c.args.a_minus && c.args.n_minus =
     elim c.if-a_minus.branch [

@@ -1,6 +1,7 @@
 -- What is left of the number without its twos; n is congruent to 0.
 use Rattle.std.proofs.Common.{◌≡◌, ◌≢◌, ◌%◌, ◌^◌, ◌<◌, arith, ap, sym, ◌∙◌}
 use Rattle.std.proofs.Math.Nat.{mod_self, zero-mod}
+use Rattle.std.proofs.lemmas.Bool.{false≢true}
 use Rattle.modular_symbols.proofs.SubtractionSteps.{jacobi-odd_part}
 use Rattle.modular_symbols.proofs.TurnBits.{is_odd}
 use Rattle.modular_symbols.proofs.TwoPart.{Halved, halved}
@@ -16,7 +17,8 @@ halves g c =
     let some : n c.if-is_zero_word.some ≢ 0 = elim c.if-is_zero_word.branch [
       | then-is_zero_word w ↦ λ e. let f = ap n w.some-is in omega (arith, c.requires)
       | else-is_zero_word w ↦
-          λ e. let t = c.is_zero_word.ensures.zero.1 (sym (ap n w.some-is) ∙ e) in cc (t, w.if-is_zero_word.false)
+          λ e.
+          false≢true (sym w.if-is_zero_word.false ∙ c.is_zero_word.ensures.zero.1 (sym (ap n w.some-is) ∙ e))
     ] in
     let fits : n c.if-is_zero_word.some < 2 ^ g.T.RingWord.width =
     omega (arith, c.trailing_zeros-twos.ensures.fits, g.met.T.PathWord.base_is) in

@@ -1,8 +1,8 @@
 -- The two cases, by which number is the greater.
-use Rattle.std.proofs.Common.{◌≡◌, ◌+◌, ◌/◌, pos, ap, ◌∙◌, arith}
+use Rattle.std.proofs.Common.{◌≡◌, ◌+◌, ◌/◌, ◌%◌, pos, ap, ◌∙◌, arith}
 use Rattle.modular_symbols.specs.Jacobi.{jacobi}
 use Rattle.modular_symbols.specs.Kronecker.{signed}
-use Rattle.modular_symbols.proofs.SubtractionSteps.{Wraps, halved_above, halved_below}
+use Rattle.modular_symbols.proofs.SubtractionSteps.{Wraps, wrapped_zeros, halved_above, halved_below}
 use Rattle.modular_symbols.proofs.SubtractionSteps.{jacobi-above, jacobi-below, turns_added}
 use Rattle.modular_symbols.proofs.TurnBits.{is_odd, xor-parities}
 use Rattle.modular_symbols.proofs.TwoPart.{Halved}
@@ -32,6 +32,44 @@ halves g c =
           halved_above _ _ _ _ _ (n c.if-less.difference.0) _ _ wraps c.requires.differ
           (ap (λ v. n v.0 + n c.args.n) w.difference-is ∙ w.minus-else-less.ensures.value)
           c.trailing_zeros-zeros.ensures.value c.shift_right.ensures.value
+    ]
+
+pub minus-requires : goal.minus-requires
+minus-requires g c = omega (arith, c.is_below-less.ensures.below.0 c.if-less.true)
+
+pub turn_by_swap-requires-clause-a_odd : goal.turn_by_swap-requires-clause-a_odd
+turn_by_swap-requires-clause-a_odd g c = c.requires.a_odd
+
+pub turn_by_swap-requires-clause-n_odd : goal.turn_by_swap-requires-clause-n_odd
+turn_by_swap-requires-clause-n_odd g c = c.requires.n_odd
+
+pub turn_by_twos-requires : goal.turn_by_twos-requires
+turn_by_twos-requires g c =
+    let n = g.T.RingWord.number in
+    elim c.if-less.branch [
+      | then-less w ↦ ap (λ v. n v.1 % 2) w.difference-is ∙ c.requires.a_odd
+      | else-less w ↦ ap (λ v. n v.1 % 2) w.difference-is ∙ c.requires.n_odd
+    ]
+
+pub shift_right-requires : goal.shift_right-requires
+shift_right-requires g c =
+    let n = g.T.RingWord.number in
+    let wraps : Wraps g.T.RingWord.width g.T.PathWord.base (n c.wrapping_sub.result) (n c.args.a) (n c.args.n) =
+    record {
+      base_is = g.met.T.PathWord.base_is;
+      sum = c.wrapping_sub.ensures.value;
+      fits = c.wrapping_sub.ensures.fits;
+      a_fits = c.is_below-less.ensures.fits;
+      n_fits = c.is_below-less.ensures.other_fits;
+    } in
+    wrapped_zeros _ _ _ _ _ _ wraps c.requires.differ c.trailing_zeros-zeros.ensures.value
+
+pub returns-clause-below_odd : goal.returns-clause-below_odd
+returns-clause-below_odd g c =
+    let n = g.T.RingWord.number in
+    elim c.if-less.branch [
+      | then-less w ↦ ap (λ v. n v.1 % 2) w.difference-is ∙ c.requires.a_odd
+      | else-less w ↦ ap (λ v. n v.1 % 2) w.difference-is ∙ c.requires.n_odd
     ]
 
 pub returns-clause-above_odd : goal.returns-clause-above_odd

@@ -1,8 +1,40 @@
 -- The turns of the loop, and the symbol of two equal numbers.
-use Rattle.std.proofs.Common.{rules, ◌+◌, ◌/◌, sym, ◌∙◌}
+use Rattle.std.proofs.Common.{◌≡◌, ◌+◌, ◌/◌, not, pos, sym, ap, ◌∙◌, arith}
+use Rattle.modular_symbols.specs.Jacobi.{jacobi}
+use Rattle.modular_symbols.specs.Kronecker.{signed}
 use Rattle.modular_symbols.proofs.SubtractionSteps.{kept_equal_turned, kept_equal_not_turned, kept_equal_none}
-use Rattle.modular_symbols.proofs.TurnBits.{is_odd, xor-parity}
+use Rattle.std.proofs.lemmas.Bool.{false≢true}
+use Rattle.modular_symbols.proofs.TurnBits.{is_odd, xor-parity, is_by_not}
 use Rattle.modular_symbols.proofs.subtraction.subtract_and_halve.Goals as goal
+
+pub differences-init : goal.differences-init
+differences-init g c =
+    let n = g.T.RingWord.number in
+    let twos = c.odd_part-above.result.1 in
+    let none : 0 + twos ≡ twos = omega arith in
+    record {
+      odd = c.odd_part-above.ensures.odd;
+      symbol = record {
+        odd = c.requires;
+        value =
+            ap (λ k. signed (is_odd k) (jacobi (pos (n c.odd_part-above.result.0)) (n c.args.n))) none
+            ∙ sym c.odd_part-above.ensures.symbol;
+      };
+    }
+
+pub differences-smaller : goal.differences-smaller
+differences-smaller g c = c.one_difference-difference.ensures.less
+
+pub one_difference-difference-requires-clause-a_odd : goal.one_difference-difference-requires-clause-a_odd
+one_difference-difference-requires-clause-a_odd g c = c.differences.invariant.odd
+
+pub one_difference-difference-requires-clause-n_odd : goal.one_difference-difference-requires-clause-n_odd
+one_difference-difference-requires-clause-n_odd g c = c.differences.invariant.symbol.odd
+
+pub one_difference-difference-requires-clause-differ : goal.one_difference-difference-requires-clause-differ
+one_difference-difference-requires-clause-differ g c = λ e.
+    let same = (g.met.T.RingWord.equal c.differences.above c.differences.below).1 e in
+    false≢true (sym (ap not same) ∙ sym c.ne.ensures ∙ c.differences-test.true)
 
 pub differences-preserved : goal.differences-preserved
 differences-preserved g c =
@@ -19,8 +51,9 @@ pub returns-then-swaps-twos-eq1 : goal.returns-then-swaps-twos-eq1
 returns-then-swaps-twos-eq1 g c =
     let n = g.T.RingWord.number in
     kept_equal_turned _ (n c.differences.above) (n c.differences.below) (c.differences.swaps / 2 + c.differences.twos) _
-    c.differences.invariant.symbol ((g.met.T.RingWord.equal c.differences.above c.differences.below).0 (search rules))
-    ((g.met.T.RingWord.equal c.differences.below c.one.result).0 (search rules) ∙ c.one.ensures)
+    c.differences.invariant.symbol ((g.met.T.RingWord.equal c.differences.above c.differences.below).0
+    (is_by_not _ (sym c.ne.ensures ∙ c.differences-test.false)))
+    ((g.met.T.RingWord.equal c.differences.below c.one.result).0 (sym c.eq.ensures ∙ c.if-eq.true) ∙ c.one.ensures)
     (xor-parity (c.differences.swaps / 2) c.differences.twos) c.if-swaps-twos-eq1.true
 
 pub returns-else-swaps-twos-eq1 : goal.returns-else-swaps-twos-eq1
@@ -28,8 +61,9 @@ returns-else-swaps-twos-eq1 g c =
     let n = g.T.RingWord.number in
     kept_equal_not_turned _ (n c.differences.above) (n c.differences.below)
     (c.differences.swaps / 2 + c.differences.twos) _
-    c.differences.invariant.symbol ((g.met.T.RingWord.equal c.differences.above c.differences.below).0 (search rules))
-    ((g.met.T.RingWord.equal c.differences.below c.one.result).0 (search rules) ∙ c.one.ensures)
+    c.differences.invariant.symbol ((g.met.T.RingWord.equal c.differences.above c.differences.below).0
+    (is_by_not _ (sym c.ne.ensures ∙ c.differences-test.false)))
+    ((g.met.T.RingWord.equal c.differences.below c.one.result).0 (sym c.eq.ensures ∙ c.if-eq.true) ∙ c.one.ensures)
     (xor-parity (c.differences.swaps / 2) c.differences.twos) c.if-swaps-twos-eq1.false
 
 pub returns-else-eq : goal.returns-else-eq
@@ -37,5 +71,8 @@ returns-else-eq g c =
     let n = g.T.RingWord.number in
     kept_equal_none _ (n c.differences.above) (n c.differences.below)
     (is_odd (c.differences.swaps / 2 + c.differences.twos))
-    c.differences.invariant.symbol ((g.met.T.RingWord.equal c.differences.above c.differences.below).0 (search rules))
-    (λ e. let one = (g.met.T.RingWord.equal c.differences.below c.one.result).1 (e ∙ sym c.one.ensures) in search rules)
+    c.differences.invariant.symbol ((g.met.T.RingWord.equal c.differences.above c.differences.below).0
+    (is_by_not _ (sym c.ne.ensures ∙ c.differences-test.false)))
+    (λ e.
+    let one = (g.met.T.RingWord.equal c.differences.below c.one.result).1 (e ∙ sym c.one.ensures) in
+    false≢true (sym c.if-eq.false ∙ c.eq.ensures ∙ one))
