@@ -27,3 +27,33 @@ returns-clause-right g c =
     c.mul-2.ensures.value
     (subst (λ k. Represents g.R.Reducer.form m (n c.add-right.result) ((k + v) % m))
     c.mul.ensures.value c.add-right.ensures.form)
+
+pub add-requires-clause-left : goal.add-requires-clause-left
+add-requires-clause-left g c = c.requires.b
+
+pub add-requires-clause-right : goal.add-requires-clause-right
+add-requires-clause-right g c = c.requires.c
+
+pub mul-left-requires-clause-left : goal.mul-left-requires-clause-left
+mul-left-requires-clause-left g c = c.requires.a
+
+pub mul-left-requires-clause-right : goal.mul-left-requires-clause-right
+mul-left-requires-clause-right g c = c.add.ensures.checked
+
+pub mul-requires-clause-left : goal.mul-requires-clause-left
+mul-requires-clause-left g c = c.requires.a
+
+pub mul-requires-clause-right : goal.mul-requires-clause-right
+mul-requires-clause-right g c = c.requires.b
+
+pub mul-requires-2-clause-left : goal.mul-requires-2-clause-left
+mul-requires-2-clause-left g c = c.requires.a
+
+pub mul-requires-2-clause-right : goal.mul-requires-2-clause-right
+mul-requires-2-clause-right g c = c.requires.c
+
+pub add-right-requires-clause-left : goal.add-right-requires-clause-left
+add-right-requires-clause-left g c = c.mul.ensures.checked
+
+pub add-right-requires-clause-right : goal.add-right-requires-clause-right
+add-right-requires-clause-right g c = c.mul-2.ensures.checked
