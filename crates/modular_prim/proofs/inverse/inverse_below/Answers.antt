@@ -1,16 +1,52 @@
-use Rattle.std.proofs.Common.{◌≡◌, ◌≢◌, ◌+◌, ◌*◌, ◌^◌, ap, sym, ◌∙◌, subst, rules}
+use Rattle.std.proofs.Common.{◌≡◌, ◌≢◌, ◌+◌, ◌*◌, ◌^◌, ◌<◌, Bool, true, false, not, ap, sym, ◌∙◌, subst, refl, arith}
+use Rattle.std.proofs.lemmas.Bool.{false≢true}
 use Rattle.modular_word.specs.Congruence.{Congruent}
 use Rattle.modular_prim.specs.Differences.{CongruentBySign}
 use Rattle.modular_prim.proofs.DifferenceSteps.{factor_minus, factor_plus, last_inverse, last_none}
 use Rattle.modular_prim.proofs.inverse.inverse_below.Goals as goal
 use Rattle.modular_prim.proofs.inverse.inverse_below.Goals.{then-pair, else-pair}
 
+-- what isn't false after a negation
+is_by_not : (b : Bool) → not b ≡ false → b ≡ true
+is_by_not true e = refl
+is_by_not false e = absurd (false≢true (sym e))
+
+pub last_pair-pair-requires-clause-some : goal.last_pair-pair-requires-clause-some
+last_pair-pair-requires-clause-some g c =
+    let some : g.T.RingWord.number c.args.x ≢ 0 = λ e.
+    false≢true (sym c.if-is_zero_word.false ∙ c.is_zero_word.ensures.zero.1 e) in
+    omega (arith, some)
+
+pub last_pair-pair-requires-clause-below : goal.last_pair-pair-requires-clause-below
+last_pair-pair-requires-clause-below g c = c.requires.below
+
+pub last_pair-pair-requires-clause-fits : goal.last_pair-pair-requires-clause-fits
+last_pair-pair-requires-clause-fits g c = c.is_below-has_units.ensures.other_fits
+
+pub minus-factor-requires : goal.minus-factor-requires
+minus-factor-requires g c = omega (arith, c.last_pair-pair.ensures.factor_below)
+
+pub without_twos-requires-clause-odd : goal.without_twos-requires-clause-odd
+without_twos-requires-clause-odd g c = c.requires.odd
+
+pub without_twos-requires-clause-below : goal.without_twos-requires-clause-below
+without_twos-requires-clause-below g c =
+    let n = g.T.RingWord.number in
+    let p = c.last_pair-pair.result in
+    elim c.if-pair.branch [
+      | then-pair w ↦
+          let whole = ap (λ v. n v + n p.above_factor) w.factor-is ∙ w.minus-factor.ensures.value in
+          omega (arith, whole, c.last_pair-pair.ensures.factor_some)
+      | else-pair w ↦ subst (λ v. n v < n c.args.m) (sym w.factor-is) c.last_pair-pair.ensures.factor_below
+    ]
+
 pub returns-then-ne : goal.returns-then-ne
 returns-then-ne g c y i =
     let n = g.T.RingWord.number in
     let p = c.last_pair-pair.result in
     let other : n p.above ≢ 1 =
-    λ e. let one = (g.met.T.RingWord.equal p.above c.one-2.result).1 (e ∙ sym c.one-2.ensures) in search rules in
+    λ e. let one = (g.met.T.RingWord.equal p.above c.one-2.result).1 (e ∙ sym c.one-2.ensures) in
+    false≢true (sym (ap not one) ∙ sym c.ne.ensures ∙ c.if-ne.true) in
     last_none _ _ _ _ _ _ _ y _ c.last_pair-pair.ensures.pair c.last_pair-pair.ensures.equal other i
 
 pub returns : goal.returns
@@ -19,7 +55,7 @@ returns g c =
     let m = n c.args.m in
     let p = c.last_pair-pair.result in
     let one : n p.above ≡ 1 =
-    (g.met.T.RingWord.equal p.above c.one-2.result).0 (search rules) ∙ c.one-2.ensures in
+    (g.met.T.RingWord.equal p.above c.one-2.result).0 (is_by_not _ (sym c.ne.ensures ∙ c.if-ne.false)) ∙ c.one-2.ensures in
     let sign : CongruentBySign m p.minus (n c.if-pair.factor) (n p.above_factor) = elim c.if-pair.branch [
       | then-pair w ↦
           factor_minus m (n p.above_factor) (n c.if-pair.factor) p.minus w.if-pair.true
