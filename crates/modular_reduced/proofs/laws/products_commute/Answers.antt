@@ -15,15 +15,3 @@ returns-clause-left g c = c.mul.ensures.form
 
 pub returns-clause-right : goal.returns-clause-right
 returns-clause-right g c = c.mul-2.ensures.form
-
-pub mul-requires-clause-left : goal.mul-requires-clause-left
-mul-requires-clause-left g c = c.requires.a
-
-pub mul-requires-clause-right : goal.mul-requires-clause-right
-mul-requires-clause-right g c = c.requires.b
-
-pub mul-requires-2-clause-left : goal.mul-requires-2-clause-left
-mul-requires-2-clause-left g c = c.requires.b
-
-pub mul-requires-2-clause-right : goal.mul-requires-2-clause-right
-mul-requires-2-clause-right g c = c.requires.a

@@ -19,9 +19,3 @@ returns-clause-word g c =
           ∙ sym c.requires.b.same)),
       (λ h. c.eq.ensures ∙ equal.1 (left ∙ ap (λ x. g.R.Reducer.value m (g.T.RingWord.number x)) h ∙ sym right)),
     )
-
-pub residue-requires : goal.residue-requires
-residue-requires g c = c.requires.a
-
-pub residue-requires-2 : goal.residue-requires-2
-residue-requires-2 g c = c.requires.b

@@ -23,27 +23,3 @@ returns-clause-right g c =
     let n = g.T.RingWord.number in
     subst (λ k. Represents g.R.Reducer.form m (n c.add-right.result) ((g.R.Reducer.value m (n c.args.a) + k) % m))
     c.add-2.ensures.value c.add-right.ensures.form
-
-pub add-requires-clause-left : goal.add-requires-clause-left
-add-requires-clause-left g c = c.requires.a
-
-pub add-requires-clause-right : goal.add-requires-clause-right
-add-requires-clause-right g c = c.requires.b
-
-pub add-left-requires-clause-left : goal.add-left-requires-clause-left
-add-left-requires-clause-left g c = c.add.ensures.checked
-
-pub add-left-requires-clause-right : goal.add-left-requires-clause-right
-add-left-requires-clause-right g c = c.requires.c
-
-pub add-requires-2-clause-left : goal.add-requires-2-clause-left
-add-requires-2-clause-left g c = c.requires.b
-
-pub add-requires-2-clause-right : goal.add-requires-2-clause-right
-add-requires-2-clause-right g c = c.requires.c
-
-pub add-right-requires-clause-left : goal.add-right-requires-clause-left
-add-right-requires-clause-left g c = c.requires.a
-
-pub add-right-requires-clause-right : goal.add-right-requires-clause-right
-add-right-requires-clause-right g c = c.add-2.ensures.checked
