@@ -1,13 +1,16 @@
-use Rattle.std.proofs.Common.{rules, ◌≡◌, ◌∙◌, ℕ, ◌<◌, List, Bool, IsTrue, IsFalse, arith, length}
-use Rattle.std.proofs.Common.{map, Some, subst, sym, below_more, refl}
+use Rattle.std.proofs.Common.{◌≡◌, ◌∙◌, ℕ, ◌<◌, List, Bool, IsTrue, IsFalse, arith, length}
+use Rattle.std.proofs.Common.{map, Some, All, get_or, subst, sym, below_more, refl}
+use Rattle.std.proofs.Math.Nat.{le_of_lt}
 use Rattle.std.specs.List.{slice_get}
 use Rattle.std.proofs.lemmas.Option.{slice_get_read}
 use Rattle.std.proofs.lemmas.List.{length-map}
-use Rattle.num_modular.specs.Ring.{IsStop, LacksInverse, LacksInverseAt, whole, values_of, value_at, HoldValues}
+use Rattle.num_modular.specs.Ring.{IsStop, IsFit, LacksInverse, LacksInverseAt}
+use Rattle.num_modular.specs.Ring.{whole, values_of, value_at, HoldValues}
 use Rattle.num_modular.specs.declared.ring.RingCommand.{RingCommand}
 use Rattle.num_modular.proofs.RunLemmas.{after_command, lacks_at, lacks_of, stops_at, not_done, never_stops}
 use Rattle.num_modular.proofs.RunLemmas.{start_holds, all_forms, residues_are, read_map}
 use Rattle.num_modular.proofs.ring.run.Goals as goal
+use borrow.Author.Count.{falls}
 
 pub commands-init : goal.commands-init
 commands-init g c = record {
@@ -16,6 +19,34 @@ commands-init g c = record {
   passed = λ j h. absurd (omega arith);
   last = c.unwritten-last.ensures;
 }
+
+pub offset_bounds-commands-at : goal.offset_bounds-commands-at
+offset_bounds-commands-at g c = le_of_lt c.commands-test.true
+
+pub bounds-commands-at : goal.bounds-commands-at
+bounds-commands-at g c = c.commands-test.true
+
+pub carry_out-requires-clause-checked : goal.carry_out-requires-clause-checked
+carry_out-requires-clause-checked g c =
+    all_forms (g.met.R.Reducer.canonical c.args.r.now) c.commands.invariant.held
+
+-- a command of a list that fits fits registers of the same number
+fit_here : {T : Type 0} {count registers : ℕ} (commands : List (RingCommand T)) (at : ℕ) (command : RingCommand T)
+    → All (IsFit count) commands → at < length commands → command ≡ get_or commands at command
+    → registers ≡ count → IsFit registers command
+fit_here commands at command fit within is same =
+    subst (λ n. IsFit n command) (sym same) (subst (IsFit _) (sym is) (fit at command within))
+
+pub carry_out-requires-clause-fit : goal.carry_out-requires-clause-fit
+carry_out-requires-clause-fit g c =
+    fit_here c.args.commands.now c.commands.at c.index-commands-at.result c.requires.fit c.commands-test.true
+    c.index-commands-at.is c.commands.auto.regs
+
+pub carry_out-requires-clause-holds : goal.carry_out-requires-clause-holds
+carry_out-requires-clause-holds g c = c.commands.invariant.last
+
+pub commands-smaller : goal.commands-smaller
+commands-smaller g c = falls _ _ c.commands-test.true
 
 true_not_false : {b : Bool} → IsTrue b → IsFalse b → ⊥
 true_not_false holds fails = cc
@@ -31,7 +62,7 @@ commands-preserved g c =
     let read = slice_get_read c.args.commands.now _ at command refl c.commands-test.true c.index-commands-at.is in
     let is : slice_get wholes at ≡ Some (whole number command) =
     read_map (whole number) c.args.commands.now at command read in
-    let told : IsTrue c.carry_out.result = search rules in
+    let told = c.if-not-carry_out.false in
     let held = c.commands.invariant.held in
     record {
       held = after_command number g.R.Reducer.form m start wholes at _ (whole number command) is
@@ -62,7 +93,7 @@ returns-then-not-carry_out-clause-stops g c =
     let start = values_of number g.R.Reducer.value m c.args.regs.now in
     let read = slice_get_read c.args.commands.now _ c.commands.at c.index-commands-at.result refl
     c.commands-test.true c.index-commands-at.is in
-    let told : IsFalse c.carry_out.result = search rules in
+    let told = c.if-not-carry_out.true in
     let lacks = (c.carry_out.ensures.missing (value_at m start (map (whole number) c.args.commands.now) c.commands.at)
     c.commands.invariant.held).0 told in
     stops_at (stop_here number m start c.args.commands.now c.commands.at read lacks c.commands.invariant.passed)
@@ -74,7 +105,7 @@ returns-then-not-carry_out-clause-done g c =
     let start = values_of number g.R.Reducer.value m c.args.regs.now in
     let read = slice_get_read c.args.commands.now _ c.commands.at c.index-commands-at.result refl
     c.commands-test.true c.index-commands-at.is in
-    let told : IsFalse c.carry_out.result = search rules in
+    let told = c.if-not-carry_out.true in
     let lacks = (c.carry_out.ensures.missing (value_at m start (map (whole number) c.args.commands.now) c.commands.at)
     c.commands.invariant.held).0 told in
     not_done (stop_here number m start c.args.commands.now c.commands.at read lacks c.commands.invariant.passed)
@@ -87,24 +118,24 @@ kept_hold {T} {number} {form} {m} {before} {after} {v} kept held =
 
 pub returns-then-not-carry_out-clause-values : goal.returns-then-not-carry_out-clause-values
 returns-then-not-carry_out-clause-values g c =
-    let told : IsFalse c.carry_out.result = search rules in
+    let told = c.if-not-carry_out.true in
     kept_hold (c.carry_out.ensures.kept told) c.commands.invariant.held
 
 pub returns-then-not-carry_out-clause-checked : goal.returns-then-not-carry_out-clause-checked
 returns-then-not-carry_out-clause-checked g c =
-    let told : IsFalse c.carry_out.result = search rules in
+    let told = c.if-not-carry_out.true in
     all_forms (g.met.R.Reducer.canonical c.args.r.now)
     (kept_hold (c.carry_out.ensures.kept told) c.commands.invariant.held)
 
 pub returns-then-not-carry_out-clause-residues : goal.returns-then-not-carry_out-clause-residues
 returns-then-not-carry_out-clause-residues g c n h =
-    let told : IsFalse c.carry_out.result = search rules in
+    let told = c.if-not-carry_out.true in
     let held = kept_hold (c.carry_out.ensures.kept told) c.commands.invariant.held in
     residues_are _ (g.met.R.Reducer.canonical c.args.r.now) held n (omega (arith, c.carry_out.ensures.count))
 
 pub returns-then-not-carry_out-clause-read : goal.returns-then-not-carry_out-clause-read
 returns-then-not-carry_out-clause-read g c n other h =
-    let told : IsFalse c.carry_out.result = search rules in
+    let told = c.if-not-carry_out.true in
     let held = kept_hold (c.carry_out.ensures.kept told) c.commands.invariant.held in
     (g.met.R.Reducer.canonical c.args.r.now).one_value _ _
     (held.each n other (omega (arith, c.carry_out.ensures.count)))
