@@ -46,6 +46,13 @@ form_of_two {T} {number} {form} {value} {width} {m} {f} {registers}
     form_of_one {v = v} (λ u. F u (v b)) a x canonical holds below_a is_a
     (form_of_one {v = v} (F (value m (number x))) b y canonical holds below_b is_b stands)
 
+-- what is read of checked registers is checked
+pub read_checked : {T : Type 0} (number : T → ℕ) (form value : ℕ → ℕ → ℕ) (m : ℕ) (registers : List T) (a : ℕ) (x : T)
+    → All (λ f. IsForm form value m (number f)) registers → a < length registers → x ≡ get_or registers a x
+    → IsForm form value m (number x)
+read_checked number form value m registers a x checked below is =
+    subst (λ f. IsForm form value m (number f)) (sym is) (checked a x below)
+
 -- what `inv` returns is the form of `inverse_of`
 pub inverse_form : {T : Type 0} (number : T → ℕ) (form : ℕ → ℕ → ℕ) (m u : ℕ) (found : Option T)
     → IsInverseForm number form m u found → IsFormOf number form m (inverse_of m u) found

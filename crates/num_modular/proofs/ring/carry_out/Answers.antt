@@ -35,3 +35,17 @@ returns-in-None-clause-missing g c v holds = (
       (whole g.T.RingWord.number c.args.command.now) (c.in-None.ensures v holds),
   λ lacks. refl,
 )
+
+pub computed_form-requires : goal.computed_form-requires
+computed_form-requires g c =
+    record { checked = c.requires.checked; fit = c.requires.fit }
+
+pub write-requires : goal.write-requires
+write-requires g c =
+    c.destination.ensures.within (length c.args.regs.now) c.requires.fit
+
+pub combined_form-form-requires-clause-checked : goal.combined_form-form-requires-clause-checked
+combined_form-form-requires-clause-checked g c = c.requires.checked
+
+pub combined_form-form-requires-clause-holds : goal.combined_form-form-requires-clause-holds
+combined_form-form-requires-clause-holds g c = c.requires.holds

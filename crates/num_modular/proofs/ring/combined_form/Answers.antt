@@ -1,9 +1,10 @@
 use Rattle.std.proofs.Common.{◌≡◌, ℕ, ◌+◌, ◌*◌, ◌%◌, ◌-ℤ◌, pos, Some, refl}
+use Rattle.std.proofs.Math.Nat.{le_of_lt}
 use Rattle.modular_word.specs.Residues.{residue}
 use Rattle.num_modular.specs.declared.ring.RingCommand.{RingCommand}
 use Rattle.num_modular.specs.declared.ring.RingCommand.TheVariants.{Add, Sub, Mul}
 use Rattle.num_modular.specs.Ring.{Combines, outcome, whole}
-use Rattle.num_modular.proofs.RunLemmas.{form_of_two}
+use Rattle.num_modular.proofs.RunLemmas.{form_of_two, read_checked}
 use Rattle.num_modular.proofs.ring.combined_form.Goals as goal
 
 pub returns-in-Add : goal.returns-in-Add
@@ -41,3 +42,41 @@ returns-in_default g c v holds =
     c.in_default.not-Add c.in_default.not-Sub) (form_of_two {v = v} (λ x y. (x * y) % m) c.args.a c.args.b
     c.held-x.result c.index-regs-b-in_default.result canonical holds c.requires.within.0 c.requires.within.1
     c.held-x.ensures c.index-regs-b-in_default.is c.mul.ensures.form)
+
+pub held-x-requires-clause-within : goal.held-x-requires-clause-within
+held-x-requires-clause-within g c = c.requires.within.0
+
+pub held-x-requires-clause-holds : goal.held-x-requires-clause-holds
+held-x-requires-clause-holds g c = c.requires.holds
+
+pub offset_bounds-regs-b : goal.offset_bounds-regs-b
+offset_bounds-regs-b g c = le_of_lt c.requires.within.1
+
+pub bounds-regs-b : goal.bounds-regs-b
+bounds-regs-b g c = c.requires.within.1
+
+pub add-requires-clause-left : goal.add-requires-clause-left
+add-requires-clause-left g c =
+    read_checked g.T.RingWord.number g.R.Reducer.form g.R.Reducer.value _ c.args.regs.now _ _ c.requires.checked
+    c.requires.within.0 c.held-x.ensures
+
+pub add-requires-clause-right : goal.add-requires-clause-right
+add-requires-clause-right g c =
+    read_checked g.T.RingWord.number g.R.Reducer.form g.R.Reducer.value _ c.args.regs.now _ _ c.requires.checked
+    c.requires.within.1 c.index-regs-b.is
+
+pub offset_bounds-regs-b-in-Sub : goal.offset_bounds-regs-b-in-Sub
+offset_bounds-regs-b-in-Sub g c = le_of_lt c.requires.within.1
+
+pub bounds-regs-b-in-Sub : goal.bounds-regs-b-in-Sub
+bounds-regs-b-in-Sub g c = c.requires.within.1
+
+pub sub-requires-clause-left : goal.sub-requires-clause-left
+sub-requires-clause-left g c =
+    read_checked g.T.RingWord.number g.R.Reducer.form g.R.Reducer.value _ c.args.regs.now _ _ c.requires.checked
+    c.requires.within.0 c.held-x.ensures
+
+pub sub-requires-clause-right : goal.sub-requires-clause-right
+sub-requires-clause-right g c =
+    read_checked g.T.RingWord.number g.R.Reducer.form g.R.Reducer.value _ c.args.regs.now _ _ c.requires.checked
+    c.requires.within.1 c.index-regs-b-in-Sub.is
