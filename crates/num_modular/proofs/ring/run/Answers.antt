@@ -1,4 +1,4 @@
-use Rattle.std.proofs.Common.{◌≡◌, ◌∙◌, ℕ, ◌<◌, List, Bool, IsTrue, IsFalse, arith, length}
+use Rattle.std.proofs.Common.{◌≡◌, ◌∙◌, ℕ, ◌<◌, ◌≤◌, List, Bool, IsTrue, IsFalse, arith, length}
 use Rattle.std.proofs.Common.{map, Some, All, get_or, subst, sym, below_more, refl}
 use Rattle.std.proofs.Math.Nat.{le_of_lt}
 use Rattle.std.specs.List.{slice_get}
@@ -7,16 +7,20 @@ use Rattle.std.proofs.lemmas.List.{length-map}
 use Rattle.num_modular.specs.Ring.{IsStop, IsFit, LacksInverse, LacksInverseAt}
 use Rattle.num_modular.specs.Ring.{whole, values_of, value_at, HoldValues}
 use Rattle.num_modular.specs.declared.ring.RingCommand.{RingCommand}
+use Rattle.num_modular.specs.declared.ring.RunEnd.TheVariants.{Done, NoInverse}
 use Rattle.num_modular.proofs.RunLemmas.{after_command, lacks_at, lacks_of, stops_at, not_done, never_stops}
 use Rattle.num_modular.proofs.RunLemmas.{start_holds, all_forms, residues_are, read_map}
 use Rattle.num_modular.proofs.ring.run.Goals as goal
 use borrow.Author.Count.{falls}
 
+none_below : (j : ℕ) → j < 0 → ⊥
+none_below j h = omega (arith, h)
+
 pub commands-init : goal.commands-init
 commands-init g c = record {
   held = start_holds g.T.RingWord.number g.R.Reducer.form g.R.Reducer.value
       (g.R.Reducer.modulus c.args.r.now) c.args.regs.now c.requires.checked;
-  passed = λ j h. absurd (omega arith);
+  passed = λ j h. absurd (none_below j h);
   last = c.unwritten-last.ensures;
 }
 
@@ -131,14 +135,15 @@ pub returns-then-not-carry_out-clause-residues : goal.returns-then-not-carry_out
 returns-then-not-carry_out-clause-residues g c n h =
     let told = c.if-not-carry_out.true in
     let held = kept_hold (c.carry_out.ensures.kept told) c.commands.invariant.held in
-    residues_are _ (g.met.R.Reducer.canonical c.args.r.now) held n (omega (arith, c.carry_out.ensures.count))
+    residues_are _ (g.met.R.Reducer.canonical c.args.r.now) held n
+    (subst (λ k. n < k) (sym (c.carry_out.ensures.count ∙ c.commands.auto.regs)) h)
 
 pub returns-then-not-carry_out-clause-read : goal.returns-then-not-carry_out-clause-read
 returns-then-not-carry_out-clause-read g c n other h =
     let told = c.if-not-carry_out.true in
     let held = kept_hold (c.carry_out.ensures.kept told) c.commands.invariant.held in
     (g.met.R.Reducer.canonical c.args.r.now).one_value _ _
-    (held.each n other (omega (arith, c.carry_out.ensures.count)))
+    (held.each n other (subst (λ k. n < k) (sym (c.carry_out.ensures.count ∙ c.commands.auto.regs)) h))
 
 -- where none of the commands lacked its inverse, there is no stop
 never : {T : Type 0} (number : T → ℕ) {m at : ℕ} {start : List ℕ} (commands : List (RingCommand T))
@@ -158,19 +163,32 @@ holds_last number form {m} {at} {registers} start commands held all =
     subst (λ n. HoldValues number form m registers (value_at m start (map (whole number) commands) n))
     (all ∙ sym (length-map commands (whole number))) held
 
+-- after the last command, all are carried out
+all_done : {at count : ℕ} → at ≤ count → count ≤ at → at ≡ count
+all_done within passed = omega (arith, within, passed)
+
+-- a run that is done didn't stop
+done_not_stopped : (at : ℕ) → Done ≡ NoInverse at → ⊥
+done_not_stopped at e = cc
+
 pub returns-clause-stops : goal.returns-clause-stops
 returns-clause-stops g c at = (
-  λ e. cc,
-  λ stop. absurd (never g.T.RingWord.number c.args.commands.now c.commands.invariant.passed (omega arith) at stop),
+  λ e. absurd (done_not_stopped at e),
+  λ stop. absurd (never g.T.RingWord.number c.args.commands.now c.commands.invariant.passed
+      (all_done c.commands.auto.at-end c.commands-test.false) at stop),
 )
 
 pub returns-clause-done : goal.returns-clause-done
-returns-clause-done g c =
-    (λ e. never g.T.RingWord.number c.args.commands.now c.commands.invariant.passed (omega arith), λ h. refl)
+returns-clause-done g c = (
+  λ e. never g.T.RingWord.number c.args.commands.now c.commands.invariant.passed
+      (all_done c.commands.auto.at-end c.commands-test.false),
+  λ h. refl,
+)
 
 pub returns-clause-values : goal.returns-clause-values
 returns-clause-values g c =
-    holds_last g.T.RingWord.number g.R.Reducer.form _ c.args.commands.now c.commands.invariant.held (omega arith)
+    holds_last g.T.RingWord.number g.R.Reducer.form _ c.args.commands.now c.commands.invariant.held
+    (all_done c.commands.auto.at-end c.commands-test.false)
 
 pub returns-clause-checked : goal.returns-clause-checked
 returns-clause-checked g c = all_forms (g.met.R.Reducer.canonical c.args.r.now) c.commands.invariant.held
@@ -178,11 +196,12 @@ returns-clause-checked g c = all_forms (g.met.R.Reducer.canonical c.args.r.now) 
 pub returns-clause-residues : goal.returns-clause-residues
 returns-clause-residues g c n h =
     let held = holds_last g.T.RingWord.number g.R.Reducer.form _ c.args.commands.now c.commands.invariant.held
-    (omega arith) in
-    residues_are c.commands.regs (g.met.R.Reducer.canonical c.args.r.now) held n (omega arith)
+    (all_done c.commands.auto.at-end c.commands-test.false) in
+    residues_are c.commands.regs (g.met.R.Reducer.canonical c.args.r.now) held n
+    (subst (λ k. n < k) (sym c.commands.auto.regs) h)
 
 pub returns-clause-read : goal.returns-clause-read
 returns-clause-read g c n other h =
     let held = holds_last g.T.RingWord.number g.R.Reducer.form _ c.args.commands.now c.commands.invariant.held
-    (omega arith) in
-    (g.met.R.Reducer.canonical c.args.r.now).one_value _ _ (held.each n other (omega arith))
+    (all_done c.commands.auto.at-end c.commands-test.false) in
+    (g.met.R.Reducer.canonical c.args.r.now).one_value _ _ (held.each n other (subst (λ k. n < k) (sym c.commands.auto.regs) h))
