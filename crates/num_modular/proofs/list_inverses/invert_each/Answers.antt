@@ -1,7 +1,7 @@
 use Rattle.num_modular.specs.Callers.{◌≡◌, ℕ, ◌+◌, ◌-◌, length, ◌∙◌, arith, refl, entry_at, forms_written, done_before}
 use Rattle.num_modular.specs.Callers.{IsInverse, product_below, product_none, no_inverse, inverse_before}
 use Rattle.num_modular.specs.Callers.{inverse_last, entry, hold_more, product_step}
-use Rattle.std.proofs.Common.{◌%◌, sym, ◌<◌}
+use Rattle.std.proofs.Common.{◌%◌, sym, ◌<◌, ◌≤◌}
 use Rattle.std.proofs.lemmas.Bool.{false≢true}
 use Rattle.std.proofs.lemmas.Nat.{mul-mod_first}
 use Rattle.num_modular.proofs.list_inverses.invert_each.Goals as goal
@@ -15,6 +15,14 @@ of_residue m a x found = record { below = found.below; one = sym (mul-mod_first 
 -- the place k before the last of a list is one of a list that is as long
 behind : (k : ℕ) {m n : ℕ} → m ≡ n → k < n → m - 1 - k < n
 behind k same within = omega (arith, same, within)
+
+-- where there is a place k, the list has a last one ..
+some_left : (k : ℕ) {m n : ℕ} → m ≡ n → k < n → 1 ≤ m
+some_left k same within = omega (arith, same, within)
+
+-- .. and k isn't after it
+last_left : (k : ℕ) {m n : ℕ} → m ≡ n → k < n → k ≤ m - 1
+last_left k same within = omega (arith, same, within)
 
 pub returns-in_default-clause-each : goal.returns-in_default-clause-each
 returns-in_default-clause-each g c =
@@ -146,3 +154,12 @@ backward-init g c =
       c.requires.checked,
       record { done = λ k low up. absurd (omega arith); kept = λ k l. refl },
     )
+
+pub bounds-forms-i : goal.bounds-forms-i
+bounds-forms-i g c = c.forward-test.true
+
+pub overflow_sub-i : goal.overflow_sub-i
+overflow_sub-i g c = some_left _ c.backward.auto.forms c.backward-test.true
+
+pub overflow_sub-i-in-backward : goal.overflow_sub-i-in-backward
+overflow_sub-i-in-backward g c = last_left _ c.backward.auto.forms c.backward-test.true
