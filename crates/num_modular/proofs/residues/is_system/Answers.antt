@@ -8,6 +8,7 @@ use Rattle.num_modular.specs.SystemLaws.{product_none, product_more, each_of_uni
 use Rattle.num_modular.proofs.residues.is_system.Goals as goal
 use Rattle.num_modular.proofs.residues.is_system.Goals.{then-modulus-eq0-via-then-modulus-eq0}
 use Rattle.num_modular.proofs.residues.is_system.Goals.{then-modulus-eq0-via-else-modulus-eq0+then-not-has_inverse}
+use borrow.Author.Count.{falls}
 
 pub moduli-init : goal.moduli-init
 moduli-init c = record {
@@ -76,3 +77,9 @@ returns c =
       }),
       λ system. refl,
     )
+
+pub bounds-moduli-place : goal.bounds-moduli-place
+bounds-moduli-place c = c.moduli-test.true
+
+pub moduli-smaller : goal.moduli-smaller
+moduli-smaller c = falls _ _ c.moduli-test.true
