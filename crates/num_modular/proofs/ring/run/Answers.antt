@@ -4,6 +4,7 @@ use Rattle.std.proofs.Math.Nat.{le_of_lt}
 use Rattle.std.specs.List.{slice_get}
 use Rattle.std.proofs.lemmas.Option.{slice_get_read}
 use Rattle.std.proofs.lemmas.List.{length-map}
+use Rattle.modular_reduced.specs.Forms.{IsCanonical}
 use Rattle.num_modular.specs.Ring.{IsStop, IsFit, LacksInverse, LacksInverseAt}
 use Rattle.num_modular.specs.Ring.{whole, values_of, value_at, HoldValues}
 use Rattle.num_modular.specs.declared.ring.RingCommand.{RingCommand}
@@ -69,9 +70,9 @@ commands-preserved g c =
     let told = c.if-not-carry_out.false in
     let held = c.commands.invariant.held in
     record {
-      held = after_command number g.R.Reducer.form m start wholes at _ (whole number command) is
+      held = after_command number g.R.Reducer.form m start wholes at c.carry_out.new.regs (whole number command) is
           (c.carry_out.ensures.values told (value_at m start wholes at) held);
-      passed = below_more _ _ c.commands.invariant.passed (λ lacks. absurd (true_not_false told
+      passed = below_more (λ j. LacksInverseAt m start wholes j → ⊥) at c.commands.invariant.passed (λ lacks. absurd (true_not_false told
           ((c.carry_out.ensures.missing (value_at m start wholes at) held).1
           (lacks_of m start wholes at (whole number command) is lacks))));
       last = c.carry_out.ensures.holds;
@@ -120,6 +121,12 @@ kept_hold : {T : Type 0} {number : T → ℕ} {form : ℕ → ℕ → ℕ} {m : 
 kept_hold {T} {number} {form} {m} {before} {after} {v} kept held =
     subst (λ l. HoldValues number form m l v) (sym kept) held
 
+-- what is read of a register has its value
+read_is : {T : Type 0} {number : T → ℕ} {form value : ℕ → ℕ → ℕ} {width m : ℕ} {v : ℕ → ℕ} (registers : List T)
+    → IsCanonical form value width m → HoldValues number form m registers v → (n : ℕ) (other : T)
+    → n < length registers → value m (number (get_or registers n other)) ≡ v n
+read_is registers canonical held n other below = canonical.one_value _ _ (held.each n other below)
+
 pub returns-then-not-carry_out-clause-values : goal.returns-then-not-carry_out-clause-values
 returns-then-not-carry_out-clause-values g c =
     let told = c.if-not-carry_out.true in
@@ -135,15 +142,15 @@ pub returns-then-not-carry_out-clause-residues : goal.returns-then-not-carry_out
 returns-then-not-carry_out-clause-residues g c n h =
     let told = c.if-not-carry_out.true in
     let held = kept_hold (c.carry_out.ensures.kept told) c.commands.invariant.held in
-    residues_are _ (g.met.R.Reducer.canonical c.args.r.now) held n
+    residues_are c.carry_out.new.regs (g.met.R.Reducer.canonical c.args.r.now) held n
     (subst (λ k. n < k) (sym (c.carry_out.ensures.count ∙ c.commands.auto.regs)) h)
 
 pub returns-then-not-carry_out-clause-read : goal.returns-then-not-carry_out-clause-read
 returns-then-not-carry_out-clause-read g c n other h =
     let told = c.if-not-carry_out.true in
     let held = kept_hold (c.carry_out.ensures.kept told) c.commands.invariant.held in
-    (g.met.R.Reducer.canonical c.args.r.now).one_value _ _
-    (held.each n other (subst (λ k. n < k) (sym (c.carry_out.ensures.count ∙ c.commands.auto.regs)) h))
+    read_is c.carry_out.new.regs (g.met.R.Reducer.canonical c.args.r.now) held n other
+    (subst (λ k. n < k) (sym (c.carry_out.ensures.count ∙ c.commands.auto.regs)) h)
 
 -- where none of the commands lacked its inverse, there is no stop
 never : {T : Type 0} (number : T → ℕ) {m at : ℕ} {start : List ℕ} (commands : List (RingCommand T))
@@ -187,7 +194,9 @@ returns-clause-done g c = (
 
 pub returns-clause-values : goal.returns-clause-values
 returns-clause-values g c =
-    holds_last g.T.RingWord.number g.R.Reducer.form _ c.args.commands.now c.commands.invariant.held
+    holds_last g.T.RingWord.number g.R.Reducer.form
+    (values_of g.T.RingWord.number g.R.Reducer.value (g.R.Reducer.modulus c.args.r.now) c.args.regs.now)
+    c.args.commands.now c.commands.invariant.held
     (all_done c.commands.auto.at-end c.commands-test.false)
 
 pub returns-clause-checked : goal.returns-clause-checked
@@ -195,13 +204,18 @@ returns-clause-checked g c = all_forms (g.met.R.Reducer.canonical c.args.r.now) 
 
 pub returns-clause-residues : goal.returns-clause-residues
 returns-clause-residues g c n h =
-    let held = holds_last g.T.RingWord.number g.R.Reducer.form _ c.args.commands.now c.commands.invariant.held
+    let held = holds_last g.T.RingWord.number g.R.Reducer.form
+    (values_of g.T.RingWord.number g.R.Reducer.value (g.R.Reducer.modulus c.args.r.now) c.args.regs.now)
+    c.args.commands.now c.commands.invariant.held
     (all_done c.commands.auto.at-end c.commands-test.false) in
     residues_are c.commands.regs (g.met.R.Reducer.canonical c.args.r.now) held n
     (subst (λ k. n < k) (sym c.commands.auto.regs) h)
 
 pub returns-clause-read : goal.returns-clause-read
 returns-clause-read g c n other h =
-    let held = holds_last g.T.RingWord.number g.R.Reducer.form _ c.args.commands.now c.commands.invariant.held
+    let held = holds_last g.T.RingWord.number g.R.Reducer.form
+    (values_of g.T.RingWord.number g.R.Reducer.value (g.R.Reducer.modulus c.args.r.now) c.args.regs.now)
+    c.args.commands.now c.commands.invariant.held
     (all_done c.commands.auto.at-end c.commands-test.false) in
-    (g.met.R.Reducer.canonical c.args.r.now).one_value _ _ (held.each n other (subst (λ k. n < k) (sym c.commands.auto.regs) h))
+    read_is c.commands.regs (g.met.R.Reducer.canonical c.args.r.now) held n other
+    (subst (λ k. n < k) (sym c.commands.auto.regs) h)
