@@ -229,18 +229,24 @@ fn residue_if_any<T: RingWord, R: Reducer<T> + Copy>(a: Option<ReducedInt<T, R>>
     }
 }
 
+// Generic in the reducer, as each call with integers of a known reducer takes long to prove.
+fn assert_quotients_if_any<R: Reducer<u8> + Copy>(rt: &impl Abort) {
+    let (ten, seven) = (integer::<u8, R>(10, 21), integer::<u8, R>(7, 21));
+    let five = integer::<u8, R>(5, 21);
+    let quotients = [
+        residue_if_any(quotient_if_any(ten, seven)),
+        residue_if_any(quotient_if_any(ten, integer::<u8, R>(5, 22))),
+        residue_if_any(quotient_if_any(ten, five)),
+    ];
+    check!(rt, 1; quotients == [None, None, Some(2)]);
+    let inverses = [residue_if_any(seven.inv()), residue_if_any(five.inv())];
+    check!(rt, 2; inverses == [None, Some(17)]);
+}
+
 #[test]
 fn inverses_and_quotients_if_any() {
     let rt = crate::runtime::HostRuntime;
-    let rt = &rt;
-    let quotients = [
-        residue_if_any(quotient_if_any(ring(10), ring(7))),
-        residue_if_any(quotient_if_any(ring(10), VanillaInt::<u8>::new(5, &22))),
-        residue_if_any(quotient_if_any(ring(10), ring(5))),
-    ];
-    check!(rt, 1; quotients == [None, None, Some(2)]);
-    let inverses = [residue_if_any(ring(7).inv()), residue_if_any(ring(5).inv())];
-    check!(rt, 2; inverses == [None, Some(17)]);
+    assert_quotients_if_any::<Vanilla<u8>>(&rt);
 }
 
 // The modulus, the residue and the form of an integer, and the residues of its double and its square.
@@ -299,10 +305,10 @@ fn copies_and_text() -> Result<(), Fail> {
 }
 
 // Whether `==` is reflexive, symmetric and transitive for the integers of a list.
-fn are_equivalent<I: ModularInteger>(all: &[I]) -> bool {
-    for a in all {
-        for b in all {
-            for c in all {
+fn are_equivalent<I: ModularInteger>(all: &[&I]) -> bool {
+    for &a in all {
+        for &b in all {
+            for &c in all {
                 if !is_equivalence(a, b, c) {
                     return false;
                 }
@@ -312,19 +318,27 @@ fn are_equivalent<I: ModularInteger>(all: &[I]) -> bool {
     true
 }
 
+// The residue of the polynomial of no coefficients.
+fn residue_of_nothing<I: ModularInteger + Copy>(x: I) -> I::Base {
+    horner(&[], x).residue()
+}
+
+fn assert_any_integers<R: Reducer<u8> + Copy>(rt: &impl Abort) {
+    let (three, other) = (integer::<u8, R>(3, 7), integer::<u8, R>(3, 11));
+    let seven = integer::<u8, R>(10, 7);
+    check!(rt, 1; are_equal(&seven, &three));
+    check!(rt, 2; !are_equal(&three, &other));
+    check!(rt, 3; are_equivalent(&[&three, &seven, &other]));
+    check!(rt, 6; residue_of_nothing(integer::<u8, R>(7, 21)) == 0);
+}
+
 #[test]
 fn equality_and_polynomials() {
     let rt = crate::runtime::HostRuntime;
     let rt = &rt;
-    let (three, other) = (VanillaInt::<u8>::new(3, &7), VanillaInt::<u8>::new(3, &11));
-    let seven = VanillaInt::<u8>::new(10, &7);
-    check!(rt, 1; are_equal(&seven, &three));
-    check!(rt, 2; !are_equal(&three, &other));
-    check!(rt, 3; are_equivalent(&[three, seven, other]));
+    assert_any_integers::<Vanilla<u8>>(rt);
     check!(rt, 4; value_of_bytes() == 19);
     check!(rt, 5; value_by_forms() == 19);
-    // the polynomial of no coefficients
-    check!(rt, 6; horner(&[], ring(7)).residue() == 0);
 }
 
 // The residue of a + a, and that of x + y by the integers of its ring.
