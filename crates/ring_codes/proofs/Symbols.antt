@@ -1,6 +1,6 @@
 -- Symbols of words, as entries of lists of forms.
 use Rattle.std.proofs.Common.{◌≡◌, ℕ, ◌<◌, ◌≤◌, List, [], ◌∷◌, length, take, get_or, All, pos, ◌-ℤ◌, sym, ◌∙◌, ap, subst, arith}
-use Rattle.std.proofs.Common.{◌↔◌, Bool, true, false, not, IsTrue, refl}
+use Rattle.std.proofs.Common.{◌+◌, ◌-◌, ◌++◌, drop, length-append, length-drop, ◌↔◌, Bool, true, false, not, IsTrue, refl}
 use Rattle.std.proofs.lemmas.Bool.{false≢true}
 use Rattle.std.proofs.lemmas.List.{get_or-take, length-take-le}
 use Rattle.num_modular.specs.Callers.{IsForm, HasInverse, entry, entry_at}
@@ -27,6 +27,30 @@ entry_front number value m (x ∷ xs) k i l room =
     sym (entry_at number value m (take k (x ∷ xs)) i x (omega (arith, count, l)))
     ∙ ap (λ f. value m (number f)) (get_or-take k (x ∷ xs) i x l)
     ∙ entry_at number value m (x ∷ xs) i x (omega (arith, l, room))
+
+-- what the test of a loop bounds: places counted from the last of n, and the neighbours of a place
+pub back_within : (n k m : ℕ) → k < n → n ≤ m → n - 1 - k < m
+back_within n k m l w = omega arith
+
+pub back_kept : (n k l m : ℕ) → k < n → l ≡ n → n ≤ m → l - 1 - k < m
+back_kept n k l m below same w = omega arith
+
+pub some_above : (k n : ℕ) → k < n → 1 ≤ n
+some_above k n l = omega arith
+
+pub before_last : (k n : ℕ) → k < n → k ≤ n - 1
+before_last k n l = omega arith
+
+pub before_within : (i n : ℕ) → i < n → i - 1 < n
+before_within i n l = omega arith
+
+pub some_from : (from i : ℕ) → from + 1 ≤ i → 1 ≤ i
+some_from from i l = omega arith
+
+-- the length of a list whose first k elements were replaced
+pub joined_length : {T : Type 0} (xs ys : List T) (k : ℕ) → length xs ≡ k → k ≤ length ys
+    → length (xs ++ drop k ys) ≡ length ys
+joined_length xs ys k same l = omega (arith, length-append xs (drop k ys), length-drop k ys, same, l)
 
 -- equal values have equal forms
 pub same_forms : (form value : ℕ → ℕ → ℕ) (m f g : ℕ) → IsForm form value m f → IsForm form value m g

@@ -1,6 +1,9 @@
 use Rattle.std.proofs.Common.{◌≡◌, get_or, set, slice_index, below_more, get_or-set_same, get_or-set_other, ◌∙◌, ap, sym, inl, inr, arith, subst}
 use Rattle.std.proofs.lemmas.Bool.{cases_eq, false≢true}
 use Rattle.std.proofs.lemmas.List.{get_or_read}
+use borrow.Author.Rules.{scaled_Fits}
+use borrow.Author.Count.{falls}
+use Rattle.std.proofs.Math.Nat.{le_of_lt, le_trans}
 use Rattle.ring_codes.proofs.erasure.choose.Goals as goal
 
 pub returns-then-places-chosen-clause-places : goal.returns-then-places-chosen-clause-places
@@ -65,3 +68,21 @@ returns-clause-chosen g c t i d l = c.places.invariant.2 i d (omega arith)
 
 pub returns-clause-fault : goal.returns-clause-fault
 returns-clause-fault g c m x = tt
+
+pub offset_bounds-places-i : goal.offset_bounds-places-i
+offset_bounds-places-i g c = scaled_Fits _ _ _ (le_trans c.places-test.true c.if-places-chosen.false) c.well_formed.1.0.1
+
+pub bounds-places-i : goal.bounds-places-i
+bounds-places-i g c = le_trans c.places-test.true c.if-places-chosen.false
+
+pub offset_bounds-points-place : goal.offset_bounds-points-place
+offset_bounds-points-place g c = le_of_lt c.if-place-points.false
+
+pub bounds-points-place : goal.bounds-points-place
+bounds-points-place g c = c.if-place-points.false
+
+pub places-smaller : goal.places-smaller
+places-smaller g c = falls _ _ c.places-test.true
+
+pub occurs_before-requires : goal.occurs_before-requires
+occurs_before-requires g c = le_trans c.places-test.true c.if-places-chosen.false

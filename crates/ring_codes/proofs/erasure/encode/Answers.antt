@@ -1,5 +1,9 @@
 use Rattle.num_modular.specs.Callers.{◌%◌, length, arith, ◌∙◌, ap, entry, entry_read, form_read, hold_more, held_forms, held_entry}
 use Rattle.num_modular.specs.Polynomials.{ascending_polynomial}
+use borrow.Author.Rules.{scaled_Fits}
+use borrow.Author.Count.{falls}
+use Rattle.num_modular.specs.Callers.{◌<◌, subst, sym}
+use Rattle.std.proofs.Math.Nat.{le_of_lt}
 use Rattle.ring_codes.proofs.erasure.encode.Goals as goal
 
 pub points-init : goal.points-init
@@ -33,3 +37,21 @@ returns-clause-encoding g c =
       symbol = λ i l. held_entry g.T.RingWord.number ring.form ring.value m c.points.word _ _ i c.points.invariant
           (omega arith) (omega arith);
     }
+
+pub offset_bounds-points-i : goal.offset_bounds-points-i
+offset_bounds-points-i g c = le_of_lt c.points-test.true
+
+pub bounds-points-i : goal.bounds-points-i
+bounds-points-i g c = c.points-test.true
+
+pub evaluate-requires-clause-coefficients : goal.evaluate-requires-clause-coefficients
+evaluate-requires-clause-coefficients g c = c.requires.message
+
+pub offset_bounds-word-i : goal.offset_bounds-word-i
+offset_bounds-word-i g c = scaled_Fits _ _ _ c.points-test.true c.well_formed.1.0.1
+
+pub bounds-word-i : goal.bounds-word-i
+bounds-word-i g c = subst (λ n. c.points.i < n) (sym (c.points.auto.word ∙ c.requires.room)) c.points-test.true
+
+pub points-smaller : goal.points-smaller
+points-smaller g c = falls _ _ c.points-test.true

@@ -1,6 +1,8 @@
 use Rattle.std.proofs.lemmas.Bool.{false≢true}
 use Rattle.num_modular.specs.Callers.{◌≡◌, ◌%◌, length, entry, ◌∙◌, ap, sym, refl, subst, arith}
 use Rattle.num_modular.specs.Polynomials.{ascending_polynomial, HaveUnitDifferences}
+use Rattle.num_modular.specs.Callers.{◌≤◌}
+use Rattle.std.proofs.Math.Nat.{le_refl}
 use Rattle.ring_codes.proofs.erasure.encode_systematic.Goals as goal
 
 pub returns-then-not-interpolate-clause-fit : goal.returns-then-not-interpolate-clause-fit
@@ -79,3 +81,12 @@ returns-then-not-interpolate-clause-forms g c t = absurd (false≢true t)
 
 pub returns-clause-forms : goal.returns-clause-forms
 returns-clause-forms g c t = c.if-not-interpolate.ensures.checked refl
+
+pub interpolate-requires-clause-points_within : goal.interpolate-requires-clause-points_within
+interpolate-requires-clause-points_within g c = subst (λ n. n ≤ length c.args.points.now) (sym c.requires.coefficients) c.requires.few
+
+pub interpolate-requires-clause-values_within : goal.interpolate-requires-clause-values_within
+interpolate-requires-clause-values_within g c = subst (λ n. length c.args.coefficients.now ≤ n) c.requires.coefficients (le_refl _)
+
+pub interpolate-requires-clause-weights : goal.interpolate-requires-clause-weights
+interpolate-requires-clause-weights g c = c.requires.weights ∙ sym c.requires.coefficients

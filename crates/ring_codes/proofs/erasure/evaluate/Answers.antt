@@ -1,6 +1,11 @@
 use Rattle.num_modular.specs.Polynomials.{ascending_polynomial}
 use Rattle.num_modular.specs.Callers.{ℕ, ◌+◌, ◌-◌, ◌%◌, length, ◌∙◌, ap, arith, entry, entry_read, ◌≡◌, form_read}
 use Rattle.ring_codes.proofs.NewtonForms.{value_none, value_more, value_all}
+use borrow.Author.Count.{falls}
+use Rattle.ring_codes.proofs.Symbols.{back_within}
+use Rattle.std.proofs.Math.Nat.{le_refl}
+use Rattle.std.proofs.Math.Nat.{le_of_lt}
+use Rattle.ring_codes.proofs.Symbols.{some_above, before_last}
 use Rattle.ring_codes.proofs.erasure.evaluate.Goals as goal
 
 pub coefficients-init : goal.coefficients-init
@@ -48,3 +53,18 @@ returns-clause-value g c =
     let count : c.coefficients.k ≡ n = omega arith in
     c.coefficients.invariant.same
     ∙ ap (λ k. ascending_polynomial k (λ i. cs (n - k + i)) a % m) count ∙ ap (λ v. v % m) (value_all n a cs)
+
+pub offset_bounds-coefficients-i : goal.offset_bounds-coefficients-i
+offset_bounds-coefficients-i g c = le_of_lt (back_within _ _ _ c.coefficients-test.true (le_refl _))
+
+pub bounds-coefficients-i : goal.bounds-coefficients-i
+bounds-coefficients-i g c = back_within _ _ _ c.coefficients-test.true (le_refl _)
+
+pub coefficients-smaller : goal.coefficients-smaller
+coefficients-smaller g c = falls _ _ c.coefficients-test.true
+
+pub overflow_sub-i : goal.overflow_sub-i
+overflow_sub-i g c = some_above _ _ c.coefficients-test.true
+
+pub overflow_sub-i-in-coefficients : goal.overflow_sub-i-in-coefficients
+overflow_sub-i-in-coefficients g c = before_last _ _ c.coefficients-test.true

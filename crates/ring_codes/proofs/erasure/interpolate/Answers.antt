@@ -1,5 +1,8 @@
 use Rattle.std.proofs.lemmas.Bool.{false≢true}
-use Rattle.num_modular.specs.Callers.{length, HasInverse, entry, same_coefficients, ◌∙◌, ap, sym, refl, subst, arith}
+use Rattle.num_modular.specs.Callers.{length, HasInverse, entry, same_coefficients, ◌∙◌, ap, sym, refl, subst, arith, ◌≤◌, All, IsForm}
+use Rattle.std.proofs.Common.{le_refl}
+use Rattle.std.proofs.lemmas.List.{length-take-le}
+use Rattle.std.proofs.lemmas.List.Elements.{All-take}
 use Rattle.num_modular.specs.Callers.{mod-eq_of_lt}
 use Rattle.ring_codes.proofs.NewtonForms.{fit_from_products, products_from_fit, inverse_of_product, interpolated}
 use Rattle.ring_codes.proofs.Symbols.{entry_below, entry_front}
@@ -85,3 +88,42 @@ expand-requires-clause-form g c = c.divide_differences.ensures.checked
 
 pub returns-clause-checked : goal.returns-clause-checked
 returns-clause-checked g c t = c.expand.ensures.checked
+
+pub fill_weights-requires-clause-within : goal.fill_weights-requires-clause-within
+fill_weights-requires-clause-within g c =
+    subst (λ n. n ≤ length c.args.points.now) (sym c.requires.weights) c.requires.points_within
+
+pub invert_each-requires-clause-equal : goal.invert_each-requires-clause-equal
+invert_each-requires-clause-equal g c = sym (c.fill_weights.auto.weights ∙ c.requires.weights)
+
+pub copy_from_slice-requires : goal.copy_from_slice-requires
+copy_from_slice-requires g c =
+    sym (length-take-le _ c.args.values.now
+    (subst (λ n. n ≤ length c.args.values.now) (sym c.invert_each.auto.products) c.requires.values_within))
+
+pub slice_bounds-copy_from_slice-end : goal.slice_bounds-copy_from_slice-end
+slice_bounds-copy_from_slice-end = copy_from_slice-requires
+
+pub divide_differences-requires-clause-values : goal.divide_differences-requires-clause-values
+divide_differences-requires-clause-values g c =
+    let ring = g.R.Reducer in let m = ring.modulus c.args.r.now in
+    subst (λ xs. All (λ f. IsForm ring.form ring.value m (g.T.RingWord.number f)) xs) (sym c.copy_from_slice.ensures.after)
+    (All-take (λ f. IsForm ring.form ring.value m (g.T.RingWord.number f)) (length c.invert_each.new.products) c.args.values.now c.requires.values)
+
+pub divide_differences-requires-clause-inverses_within :
+    goal.divide_differences-requires-clause-inverses_within
+divide_differences-requires-clause-inverses_within g c =
+    subst (λ n. length c.copy_from_slice.new.self ≤ n)
+    (c.copy_from_slice.auto.self ∙ c.invert_each.auto.products
+    ∙ sym (c.invert_each.auto.forms ∙ c.fill_weights.auto.weights ∙ c.requires.weights)) (le_refl _)
+
+pub divide_differences-requires-clause-points_within :
+    goal.divide_differences-requires-clause-points_within
+divide_differences-requires-clause-points_within g c =
+    subst (λ n. n ≤ length c.args.points.now)
+    (sym (c.copy_from_slice.auto.self ∙ c.invert_each.auto.products)) c.requires.points_within
+
+pub expand-requires-clause-within : goal.expand-requires-clause-within
+expand-requires-clause-within g c =
+    subst (λ n. n ≤ length c.args.points.now)
+    (sym (c.divide_differences.auto.values ∙ c.copy_from_slice.auto.self ∙ c.invert_each.auto.products)) c.requires.points_within

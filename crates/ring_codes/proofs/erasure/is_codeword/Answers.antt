@@ -6,6 +6,8 @@ use Rattle.num_modular.specs.NumberLaws.{itself}
 use Rattle.num_modular.specs.Polynomials.{ascending_polynomial}
 use Rattle.num_modular.specs.PolynomialLaws.{ascending-congruent}
 use Rattle.ring_codes.proofs.Symbols.{same_forms, told_same, told_other}
+use borrow.Author.Count.{falls}
+use Rattle.num_modular.specs.Callers.{◌≤◌, subst}
 use Rattle.ring_codes.proofs.erasure.is_codeword.Goals as goal
 
 pub returns-then-ne-clause-codeword : goal.returns-then-ne-clause-codeword
@@ -109,3 +111,12 @@ returns-then-ne-clause-checked g c t = absurd (false≢true t)
 
 pub returns-clause-checked : goal.returns-clause-checked
 returns-clause-checked g c t = c.if-not-interpolate.ensures.checked refl
+
+pub interpolate-requires-clause-points_within : goal.interpolate-requires-clause-points_within
+interpolate-requires-clause-points_within g c = c.requires.few
+
+pub interpolate-requires-clause-values_within : goal.interpolate-requires-clause-values_within
+interpolate-requires-clause-values_within g c = subst (λ n. length c.args.message.now ≤ n) (sym c.requires.symbols) c.requires.few
+
+pub places-smaller : goal.places-smaller
+places-smaller g c = falls _ _ c.places-test.true

@@ -4,6 +4,8 @@ use Rattle.num_modular.specs.Callers.{◌≡◌, ℕ, ◌%◌, ◌<◌, length, 
 use Rattle.num_modular.specs.Polynomials.{ascending_polynomial}
 use Rattle.ring_codes.specs.Erasure.{ArePlaces, IsFault}
 use Rattle.ring_codes.proofs.Symbols.{entry_chosen, fit_same, no_fault}
+use Rattle.num_modular.specs.Callers.{◌≤◌}
+use Rattle.std.proofs.Math.Nat.{le_refl}
 use Rattle.ring_codes.proofs.erasure.restore.Goals as goal
 
 pub returns-in-Err-clause-fault : goal.returns-in-Err-clause-fault
@@ -133,3 +135,7 @@ returns-else-interpolate-clause-symbols g c t = absurd (false≢true t)
 
 pub returns-else-interpolate-clause-original : goal.returns-else-interpolate-clause-original
 returns-else-interpolate-clause-original g c t = absurd (false≢true t)
+
+pub interpolate-requires-clause-points_within : goal.interpolate-requires-clause-points_within
+interpolate-requires-clause-points_within g c =
+    subst (λ n. length c.args.message.now ≤ n) (sym (c.choose.auto.chosen ∙ c.requires.chosen)) (le_refl _)

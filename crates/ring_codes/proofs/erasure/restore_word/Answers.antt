@@ -5,6 +5,9 @@ use Rattle.num_modular.specs.Callers.{◌≡◌, ◌%◌, length, entry, ◌∙�
 use Rattle.num_modular.specs.NumberLaws.{itself}
 use Rattle.num_modular.specs.PolynomialLaws.{ascending-congruent}
 use Rattle.ring_codes.specs.Erasure.{IsEncoding}
+use Rattle.num_modular.specs.Callers.{◌≤◌}
+use Rattle.std.proofs.lemmas.List.{length-take-le}
+use Rattle.ring_codes.proofs.Symbols.{joined_length}
 use Rattle.ring_codes.proofs.erasure.restore_word.Goals as goal
 
 pub returns-in-Err-clause-accepted : goal.returns-in-Err-clause-accepted
@@ -105,3 +108,20 @@ returns-in-Ok-clause-fault g c = tt
 
 pub returns-in-Ok-clause-checked : goal.returns-in-Ok-clause-checked
 returns-in-Ok-clause-checked g c t = c.fill_word.ensures.checked
+
+pub slice_bounds-chosen-end : goal.slice_bounds-chosen-end
+slice_bounds-chosen-end g c = subst (λ n. length c.args.message.now ≤ n) (sym c.requires.room) c.requires.few
+
+pub slice_bounds-chosen-end-2 : goal.slice_bounds-chosen-end-2
+slice_bounds-chosen-end-2 g c =
+    sym (length-take-le _ c.args.word.now (subst (λ n. length c.args.message.now ≤ n) (sym c.requires.room) c.requires.few))
+
+pub restore-requires-clause-chosen : goal.restore-requires-clause-chosen
+restore-requires-clause-chosen g c =
+    length-take-le _ c.args.word.now (subst (λ n. length c.args.message.now ≤ n) (sym c.requires.room) c.requires.few)
+
+pub fill_word-requires-clause-room : goal.fill_word-requires-clause-room
+fill_word-requires-clause-room g c =
+    let few = subst (λ n. length c.args.message.now ≤ n) (sym c.requires.room) c.requires.few in
+    joined_length c.restore.new.chosen c.args.word.now _ (c.restore.auto.chosen ∙ length-take-le _ c.args.word.now few) few
+    ∙ c.requires.room

@@ -4,6 +4,10 @@ use Rattle.num_modular.specs.Callers.{form_read, forms_written}
 use Rattle.num_modular.specs.Residues.{residue}
 use Rattle.ring_codes.specs.Newton.{newton_form}
 use Rattle.ring_codes.proofs.NewtonForms.{one_divided}
+use borrow.Author.Rules.{scaled_Fits}
+use borrow.Author.Count.{falls}
+use Rattle.num_modular.specs.Callers.{subst, sym, ◌<◌, ◌≤◌}
+use Rattle.std.proofs.Math.Nat.{le_of_lt, le_trans}
 use Rattle.ring_codes.proofs.erasure.newton.divide_differences.Goals as goal
 
 pub points-preserved : goal.points-preserved
@@ -76,3 +80,36 @@ returns-clause-values g c i l =
     let count : length c.args.values.now ≡ c.points.i = omega arith in
     ap (λ n. newton_form m n (entry number ring.value m c.points.values) x (x i) % m) count
     ∙ c.points.invariant.1 i (omega (arith, l))
+
+pub offset_bounds-points-i : goal.offset_bounds-points-i
+offset_bounds-points-i g c = le_of_lt (le_trans c.points-test.true c.requires.points_within)
+
+pub bounds-points-i : goal.bounds-points-i
+bounds-points-i g c = le_trans c.points-test.true c.requires.points_within
+
+pub newton_value-known-requires-clause-points_within : goal.newton_value-known-requires-clause-points_within
+newton_value-known-requires-clause-points_within g c = le_of_lt (le_trans c.points-test.true c.requires.points_within)
+
+pub newton_value-known-requires-clause-form_within : goal.newton_value-known-requires-clause-form_within
+newton_value-known-requires-clause-form_within g c = subst (λ n. c.points.i ≤ n) (sym c.points.auto.values) (le_of_lt c.points-test.true)
+
+pub offset_bounds-values-i : goal.offset_bounds-values-i
+offset_bounds-values-i g c = scaled_Fits _ _ _ c.points-test.true c.well_formed.1.1.1.0.1
+
+pub bounds-values-i : goal.bounds-values-i
+bounds-values-i g c = subst (λ n. c.points.i < n) (sym c.points.auto.values) c.points-test.true
+
+pub offset_bounds-inverses-i : goal.offset_bounds-inverses-i
+offset_bounds-inverses-i g c = le_of_lt (le_trans c.points-test.true c.requires.inverses_within)
+
+pub bounds-inverses-i : goal.bounds-inverses-i
+bounds-inverses-i g c = le_trans c.points-test.true c.requires.inverses_within
+
+pub offset_bounds-values-i-in-points : goal.offset_bounds-values-i-in-points
+offset_bounds-values-i-in-points g c = scaled_Fits _ _ _ c.points-test.true c.well_formed.1.1.1.0.1
+
+pub bounds-values-i-in-points : goal.bounds-values-i-in-points
+bounds-values-i-in-points g c = subst (λ n. c.points.i < n) (sym c.points.auto.values) c.points-test.true
+
+pub points-smaller : goal.points-smaller
+points-smaller g c = falls _ _ c.points-test.true

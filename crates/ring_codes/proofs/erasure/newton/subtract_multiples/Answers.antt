@@ -6,6 +6,10 @@ use Rattle.num_modular.specs.Congruence.{Congruent}
 use Rattle.num_modular.specs.NumberLaws.{of_equal, chained}
 use Rattle.num_modular.specs.Residues.{residue}
 use Rattle.ring_codes.proofs.NewtonForms.{subtracted}
+use borrow.Author.Rules.{scaled_Fits}
+use borrow.Author.Count.{falls}
+use Rattle.num_modular.specs.Callers.{◌<◌}
+use Rattle.ring_codes.proofs.Symbols.{before_within, some_from}
 use Rattle.ring_codes.proofs.erasure.newton.subtract_multiples.Goals as goal
 
 pub places-preserved : goal.places-preserved
@@ -64,3 +68,30 @@ returns-clause-before g c = c.places.invariant.2
 
 pub returns-clause-last : goal.returns-clause-last
 returns-clause-last g c i l = c.places.invariant.3 i (omega arith)
+
+pub offset_bounds-values-i : goal.offset_bounds-values-i
+offset_bounds-values-i g c = scaled_Fits _ _ _ c.places-test.true c.well_formed.1.1.0.1
+
+pub bounds-values-i : goal.bounds-values-i
+bounds-values-i g c = subst (λ n. c.places.i < n) (sym c.places.auto.values) c.places-test.true
+
+pub overflow_sub-i : goal.overflow_sub-i
+overflow_sub-i g c = some_from _ _ c.places.auto.i
+
+pub bounds-values-i-in-places : goal.bounds-values-i-in-places
+bounds-values-i-in-places g c = subst (λ n. c.places.i - 1 < n) (sym c.places.auto.values) (before_within _ _ c.places-test.true)
+
+pub offset_bounds-values-i-in-places : goal.offset_bounds-values-i-in-places
+offset_bounds-values-i-in-places g c = scaled_Fits _ _ _ (before_within _ _ c.places-test.true) c.well_formed.1.1.0.1
+
+pub overflow_sub-i-in-places : goal.overflow_sub-i-in-places
+overflow_sub-i-in-places g c = some_from _ _ c.places.auto.i
+
+pub places-smaller : goal.places-smaller
+places-smaller g c = falls _ _ c.places-test.true
+
+pub bounds-values-i-in-places-2 : goal.bounds-values-i-in-places-2
+bounds-values-i-in-places-2 g c = subst (λ n. c.places.i - 1 < n) (sym c.places.auto.values) (before_within _ _ c.places-test.true)
+
+pub offset_bounds-values-i-in-places-2 : goal.offset_bounds-values-i-in-places-2
+offset_bounds-values-i-in-places-2 g c = scaled_Fits _ _ _ (before_within _ _ c.places-test.true) c.well_formed.1.1.0.1
