@@ -6,9 +6,10 @@ use Rattle.std.proofs.lemmas.Bool.{and_parts, eqb-true, leb-true}
 use Rattle.std.proofs.lemmas.List.{get_or-drop}
 use Rattle.std.proofs.lemmas.Nat.{mul-mod_first}
 use Rattle.num_modular.specs.Sums.{sum_below, polynomial}
-use Rattle.std.proofs.Common.{◌≤◌, ◌⊎◌, ⊎_elim, ◌++◌, ◌/◌, take, subst, false, nat_le, if◌then◌else◌}
+use Rattle.std.proofs.Common.{append-nil, length-drop, ◌≤◌, ◌⊎◌, ⊎_elim, ◌++◌, ◌/◌, take, subst, false, nat_le, if◌then◌else◌}
 use Rattle.std.specs.List.{All, flat_map}
-use Rattle.std.proofs.lemmas.List.{ext_get_or, get_or-take, length-take-le}
+use Rattle.std.proofs.lemmas.List.{ext_get_or, get_or-take, length-take-le, take_all, take_more}
+use Rattle.std.proofs.lemmas.Grind.{flat_map-append}
 use Rattle.std.proofs.lemmas.List.Elements.{All-nil, All-cons, All-append, All-drop, All-take, All-from_recursion, recursion_from_All}
 use Rattle.ring_codes.specs.Codes.{weighted_sum, CheckCode, IsCodeword}
 use Rattle.ring_codes.specs.Ibans.{IsDigit, IsLetter, digits_of, iban_digits, iban_number}
@@ -151,3 +152,32 @@ is_code n ws ls gs most count weights l_count l g_count g =
     ∙ ap (λ xs. code_with (from_right n (λ j. 10 ^ j % 97)) xs (take n gs)) (constant 0 n ls most l_count l)
     ∙ ap (λ xs. code_with (from_right n (λ j. 10 ^ j % 97)) (from_right n (λ j. 0)) xs)
     (constant 9 n gs most g_count g)
+
+-- the digits of one more character
+pub more_digits : (f : ℕ → List ℕ) (text : List ℕ) (i : ℕ) → i < length text
+    → flat_map f (take (i + 1) text) ≡ flat_map f (take i text) ++ f (get_or text i 0)
+more_digits f text i l =
+    ap (flat_map f) (take_more text i 0 l) ∙ flat_map-append f (take i text) (get_or text i 0 ∷ [])
+    ∙ ap (λ xs. flat_map f (take i text) ++ xs) (append-nil (f (get_or text i 0)))
+
+-- the places that the digits take
+pub room_left : (e s i n d room : ℕ) → e ≤ s + 2 * i → i < n → s + 2 * n ≤ d → room ≡ d → e + 2 ≤ room
+room_left e s i n d room so_far l whole same = omega arith
+
+pub room_next : (e r s i : ℕ) → e ≤ s + 2 * i → r ≤ e + 2 → r ≤ s + 2 * (i + 1)
+room_next e r s i so_far next = omega arith
+
+pub room_within : (e s i n : ℕ) → e ≤ s + 2 * i → i ≤ n → e ≤ s + 2 * n
+room_within e s i n so_far l = omega arith
+
+pub rest_whole : (text : List ℕ) → take (length text - 4) (drop 4 text) ≡ drop 4 text
+rest_whole text = take_all (length text - 4) (drop 4 text) (omega (arith, length-drop 4 text))
+
+pub first_room : (text : List ℕ) → 5 ≤ length text → length text ≤ 34
+    → 0 + 2 * length (take (length text - 4) (drop 4 text)) ≤ 68
+first_room text least most = omega (arith, ap length (rest_whole text), length-drop 4 text)
+
+pub both_rooms : (text : List ℕ) (e : ℕ) → 5 ≤ length text → length text ≤ 34
+    → e ≤ 0 + 2 * length (take (length text - 4) (drop 4 text)) → e + 2 * length (take 4 text) ≤ 68
+both_rooms text e least most first =
+    omega (arith, ap length (rest_whole text), length-drop 4 text, length-take-le 4 text (omega arith))

@@ -2,6 +2,8 @@ use Rattle.std.proofs.Common.{◌≤◌, arith, take, subst}
 use Rattle.std.proofs.lemmas.List.{length-take-le}
 use Rattle.ring_codes.specs.Codes.{code_of}
 use Rattle.ring_codes.proofs.Ibans.{is_word}
+use Rattle.std.proofs.Common.{sym, refl}
+use Rattle.std.proofs.Math.Nat.{le_trans, le_refl}
 use Rattle.ring_codes.proofs.iban.accepts_iban.Goals as goal
 
 pub returns : goal.returns
@@ -23,3 +25,18 @@ returns c =
       },
       λ iban. c.accepts.ensures.1 (is.1 iban.leaves),
     )
+
+pub slice_bounds-digits-end : goal.slice_bounds-digits-end
+slice_bounds-digits-end c =
+    le_trans c.iban_digits-count.ensures.count (subst (λ n. 68 ≤ n) (sym c.iban_digits-count.auto.digits) (le_refl 68))
+
+pub slice_bounds-accepts-end : goal.slice_bounds-accepts-end
+slice_bounds-accepts-end c =
+    sym (length-take-le _ c.iban_digits-count.new.digits
+    (le_trans c.iban_digits-count.ensures.count (subst (λ n. 68 ≤ n) (sym c.iban_digits-count.auto.digits) (le_refl 68))))
+
+pub iban_code-requires : goal.iban_code-requires
+iban_code-requires c = c.iban_digits-count.ensures.count
+
+pub iban_digits-count-requires-clause-form : goal.iban_digits-count-requires-clause-form
+iban_digits-count-requires-clause-form c = c.if-not-has_iban_form.ensures.0 refl
