@@ -106,8 +106,9 @@ fn heading<'a>(words: &'a [&'a str]) -> Option<(ReducerName, u64, &'a [&'a str])
         ((reducer : ReducerName) (m : ℕ) (rest : List (Bor (List ℕ))) → IsHeading words.now reducer m rest → ⊥)
         (λ h. IsHeading words.now h.0 h.1 h.2.now) }
 {
-    let (name, rest) = words.split_first()?;
-    let (modulus, commands) = rest.split_first()?;
+    let [name, modulus, commands @ ..] = words else {
+        return None;
+    };
     let reducer = reducer_named(name)?;
     let modulus = number(modulus)?;
     if modulus > 0 {
