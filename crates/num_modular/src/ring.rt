@@ -156,8 +156,8 @@ fn command_fits<T: RingWord>(command: &RingCommand<T>, len: usize) -> bool
         RingCommand::Neg { dst, a }
         | RingCommand::Dbl { dst, a }
         | RingCommand::Sqr { dst, a }
-        | RingCommand::Inv { dst, a } => two_fit(*dst, *a, len),
-        RingCommand::Pow { dst, a, .. } => two_fit(*dst, *a, len),
+        | RingCommand::Inv { dst, a }
+        | RingCommand::Pow { dst, a, .. } => two_fit(*dst, *a, len),
     }
 }
 
@@ -210,7 +210,7 @@ fn quotient<T: RingWord, R: Reducer<T>>(r: &R, a: &T, b: T) -> Option<T>
 // The form that a command writes; `None` exactly where its inverse doesn't exist.
 //
 // Kept out of line, so that the loop of `run` stays small. `run` computes sums, differences and products itself; their
-// arms here make the match exhaustive.
+// arm here makes the match exhaustive.
 #[inline(never)]
 fn computed_form<T: RingWord, R: Reducer<T>>(
     r: &R,
@@ -225,9 +225,11 @@ fn computed_form<T: RingWord, R: Reducer<T>>(
 {
     match command {
         RingCommand::Load { n, .. } => Some(r.transform(*n)),
-        RingCommand::Add { a, b, .. } => Some(r.add(&regs[*a], &regs[*b])),
-        RingCommand::Sub { a, b, .. } => Some(r.sub(&regs[*a], &regs[*b])),
-        RingCommand::Mul { a, b, .. } => Some(r.mul(&regs[*a], &regs[*b])),
+        RingCommand::Add { a, b, .. }
+        | RingCommand::Sub { a, b, .. }
+        | RingCommand::Mul { a, b, .. } => {
+            Some(combined_form(r, regs, &unwritten(regs), command, *a, *b))
+        }
         RingCommand::Neg { a, .. } => Some(r.neg(regs[*a])),
         RingCommand::Dbl { a, .. } => Some(r.dbl(regs[*a])),
         RingCommand::Sqr { a, .. } => Some(r.sqr(regs[*a])),

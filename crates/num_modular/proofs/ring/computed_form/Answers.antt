@@ -1,47 +1,21 @@
-use Rattle.std.proofs.Common.{◌+◌, ◌*◌, ◌%◌, ◌^◌, subst, option_map, pos, ◌-ℤ◌, neg_ℤ}
+use Rattle.std.proofs.Common.{◌*◌, ◌%◌, ◌^◌, subst, option_map, pos, neg_ℤ}
 use Rattle.std.proofs.Math.Nat.{le_of_lt}
 use Rattle.modular_word.specs.Inverses.{inverse_of}
 use Rattle.modular_word.specs.Residues.{residue}
 use Rattle.num_modular.specs.Ring.{IsFormOf}
-use Rattle.num_modular.proofs.RunLemmas.{value_of, inverse_form, form_of_one, form_of_two, read_checked}
+use Rattle.num_modular.proofs.RunLemmas.{value_of, inverse_form, form_of_one, read_checked}
 use Rattle.num_modular.proofs.ring.computed_form.Goals as goal
 
 pub returns-in-Load : goal.returns-in-Load
 returns-in-Load g c v holds = rw c.in-Load.is c.transform.ensures.form
-
-pub returns-in-Add : goal.returns-in-Add
-returns-in-Add g c v holds =
-    let m = g.R.Reducer.modulus c.args.r.now in
-    let canonical = g.met.R.Reducer.canonical c.args.r.now in
-    let fit = rw c.in-Add.is at c.requires.fit in
-    rw c.in-Add.is (form_of_two {v = v} (λ x y. (x + y) % m) c.in-Add.a c.in-Add.b c.index-regs-a.result
-    c.index-regs-b.result canonical holds fit.1 fit.2 c.index-regs-a.is c.index-regs-b.is c.add.ensures.form)
-
-pub returns-in-Sub : goal.returns-in-Sub
-returns-in-Sub g c v holds =
-    let m = g.R.Reducer.modulus c.args.r.now in
-    let canonical = g.met.R.Reducer.canonical c.args.r.now in
-    let fit = rw c.in-Sub.is at c.requires.fit in
-    rw c.in-Sub.is (form_of_two {v = v} (λ x y. residue m (pos x -ℤ pos y)) c.in-Sub.a c.in-Sub.b
-    c.index-regs-a-in-Sub.result c.index-regs-b-in-Sub.result canonical holds
-    fit.1 fit.2 c.index-regs-a-in-Sub.is c.index-regs-b-in-Sub.is c.sub.ensures.form)
-
-pub returns-in-Mul : goal.returns-in-Mul
-returns-in-Mul g c v holds =
-    let m = g.R.Reducer.modulus c.args.r.now in
-    let canonical = g.met.R.Reducer.canonical c.args.r.now in
-    let fit = rw c.in-Mul.is at c.requires.fit in
-    rw c.in-Mul.is (form_of_two {v = v}
-    (λ x y. (x * y) % m) c.in-Mul.a c.in-Mul.b c.index-regs-a-in-Mul.result c.index-regs-b-in-Mul.result canonical holds
-    fit.1 fit.2 c.index-regs-a-in-Mul.is c.index-regs-b-in-Mul.is c.mul.ensures.form)
 
 pub returns-in-Neg : goal.returns-in-Neg
 returns-in-Neg g c v holds =
     let m = g.R.Reducer.modulus c.args.r.now in
     let canonical = g.met.R.Reducer.canonical c.args.r.now in
     let fit = rw c.in-Neg.is at c.requires.fit in
-    rw c.in-Neg.is (form_of_one {v = v} (λ x. residue m (neg_ℤ (pos x))) c.in-Neg.a c.index-regs-a-in-Neg.result
-    canonical holds fit.1 c.index-regs-a-in-Neg.is c.neg.ensures.form)
+    rw c.in-Neg.is (form_of_one {v = v} (λ x. residue m (neg_ℤ (pos x))) c.in-Neg.a c.index-regs-a.result
+    canonical holds fit.1 c.index-regs-a.is c.neg.ensures.form)
 
 pub returns-in-Dbl : goal.returns-in-Dbl
 returns-in-Dbl g c v holds =
@@ -84,8 +58,8 @@ returns-in-Div g c v holds =
     let fit = rw c.in-Div.is at c.requires.fit in
     let is_a = value_of {v = v} c.in-Div.a c.index-regs-a-in-Div.result canonical holds
     fit.1 c.index-regs-a-in-Div.is in
-    let is_b = value_of {v = v} c.in-Div.b c.index-regs-b-in-Div.result canonical holds
-    fit.2 c.index-regs-b-in-Div.is in
+    let is_b = value_of {v = v} c.in-Div.b c.index-regs-b.result canonical holds
+    fit.2 c.index-regs-b.is in
     let first = subst (λ u. IsFormOf number g.R.Reducer.form m (option_map
     (λ y. (g.R.Reducer.value m (number c.index-regs-a-in-Div.result) * y) % m) (inverse_of m u)) c.quotient.result) is_b
     c.quotient.ensures in
@@ -93,81 +67,15 @@ returns-in-Div g c v holds =
     (option_map (λ y. (u * y) % m) (inverse_of m (v c.in-Div.b))) c.quotient.result) is_a first)
 
 pub offset_bounds-regs-a : goal.offset_bounds-regs-a
-offset_bounds-regs-a g c = le_of_lt (rw c.in-Add.is at c.requires.fit).1
+offset_bounds-regs-a g c = le_of_lt (rw c.in-Neg.is at c.requires.fit).1
 
 pub bounds-regs-a : goal.bounds-regs-a
-bounds-regs-a g c = (rw c.in-Add.is at c.requires.fit).1
-
-pub offset_bounds-regs-b : goal.offset_bounds-regs-b
-offset_bounds-regs-b g c = le_of_lt (rw c.in-Add.is at c.requires.fit).2
-
-pub bounds-regs-b : goal.bounds-regs-b
-bounds-regs-b g c = (rw c.in-Add.is at c.requires.fit).2
-
-pub add-requires-clause-left : goal.add-requires-clause-left
-add-requires-clause-left g c =
-    read_checked g.T.RingWord.number g.R.Reducer.form g.R.Reducer.value _ c.args.regs.now _ _ c.requires.checked
-    (rw c.in-Add.is at c.requires.fit).1 c.index-regs-a.is
-
-pub add-requires-clause-right : goal.add-requires-clause-right
-add-requires-clause-right g c =
-    read_checked g.T.RingWord.number g.R.Reducer.form g.R.Reducer.value _ c.args.regs.now _ _ c.requires.checked
-    (rw c.in-Add.is at c.requires.fit).2 c.index-regs-b.is
-
-pub offset_bounds-regs-a-in-Sub : goal.offset_bounds-regs-a-in-Sub
-offset_bounds-regs-a-in-Sub g c = le_of_lt (rw c.in-Sub.is at c.requires.fit).1
-
-pub bounds-regs-a-in-Sub : goal.bounds-regs-a-in-Sub
-bounds-regs-a-in-Sub g c = (rw c.in-Sub.is at c.requires.fit).1
-
-pub offset_bounds-regs-b-in-Sub : goal.offset_bounds-regs-b-in-Sub
-offset_bounds-regs-b-in-Sub g c = le_of_lt (rw c.in-Sub.is at c.requires.fit).2
-
-pub bounds-regs-b-in-Sub : goal.bounds-regs-b-in-Sub
-bounds-regs-b-in-Sub g c = (rw c.in-Sub.is at c.requires.fit).2
-
-pub sub-requires-clause-left : goal.sub-requires-clause-left
-sub-requires-clause-left g c =
-    read_checked g.T.RingWord.number g.R.Reducer.form g.R.Reducer.value _ c.args.regs.now _ _ c.requires.checked
-    (rw c.in-Sub.is at c.requires.fit).1 c.index-regs-a-in-Sub.is
-
-pub sub-requires-clause-right : goal.sub-requires-clause-right
-sub-requires-clause-right g c =
-    read_checked g.T.RingWord.number g.R.Reducer.form g.R.Reducer.value _ c.args.regs.now _ _ c.requires.checked
-    (rw c.in-Sub.is at c.requires.fit).2 c.index-regs-b-in-Sub.is
-
-pub offset_bounds-regs-a-in-Mul : goal.offset_bounds-regs-a-in-Mul
-offset_bounds-regs-a-in-Mul g c = le_of_lt (rw c.in-Mul.is at c.requires.fit).1
-
-pub bounds-regs-a-in-Mul : goal.bounds-regs-a-in-Mul
-bounds-regs-a-in-Mul g c = (rw c.in-Mul.is at c.requires.fit).1
-
-pub offset_bounds-regs-b-in-Mul : goal.offset_bounds-regs-b-in-Mul
-offset_bounds-regs-b-in-Mul g c = le_of_lt (rw c.in-Mul.is at c.requires.fit).2
-
-pub bounds-regs-b-in-Mul : goal.bounds-regs-b-in-Mul
-bounds-regs-b-in-Mul g c = (rw c.in-Mul.is at c.requires.fit).2
-
-pub mul-requires-clause-left : goal.mul-requires-clause-left
-mul-requires-clause-left g c =
-    read_checked g.T.RingWord.number g.R.Reducer.form g.R.Reducer.value _ c.args.regs.now _ _ c.requires.checked
-    (rw c.in-Mul.is at c.requires.fit).1 c.index-regs-a-in-Mul.is
-
-pub mul-requires-clause-right : goal.mul-requires-clause-right
-mul-requires-clause-right g c =
-    read_checked g.T.RingWord.number g.R.Reducer.form g.R.Reducer.value _ c.args.regs.now _ _ c.requires.checked
-    (rw c.in-Mul.is at c.requires.fit).2 c.index-regs-b-in-Mul.is
-
-pub offset_bounds-regs-a-in-Neg : goal.offset_bounds-regs-a-in-Neg
-offset_bounds-regs-a-in-Neg g c = le_of_lt (rw c.in-Neg.is at c.requires.fit).1
-
-pub bounds-regs-a-in-Neg : goal.bounds-regs-a-in-Neg
-bounds-regs-a-in-Neg g c = (rw c.in-Neg.is at c.requires.fit).1
+bounds-regs-a g c = (rw c.in-Neg.is at c.requires.fit).1
 
 pub neg-requires : goal.neg-requires
 neg-requires g c =
     read_checked g.T.RingWord.number g.R.Reducer.form g.R.Reducer.value _ c.args.regs.now _ _ c.requires.checked
-    (rw c.in-Neg.is at c.requires.fit).1 c.index-regs-a-in-Neg.is
+    (rw c.in-Neg.is at c.requires.fit).1 c.index-regs-a.is
 
 pub offset_bounds-regs-a-in-Dbl : goal.offset_bounds-regs-a-in-Dbl
 offset_bounds-regs-a-in-Dbl g c = le_of_lt (rw c.in-Dbl.is at c.requires.fit).1
