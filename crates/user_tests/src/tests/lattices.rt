@@ -91,7 +91,7 @@ fn kem_seen(step: Step, xs: [u32; 256], ys: [u32; 256]) -> [u32; 7] {
 
 // A power of X, an index of its transform, and the value there: entries 1 to 15 and 255 of the table in appendix B
 // of FIPS 204.
-const DSA_POWERS: [(usize, usize, u32); 16] = [
+const DSA_POWERS: &[(usize, usize, u32)] = &[
     (128, 0, 4808194),
     (64, 0, 3765607),
     (64, 128, 3761513),
@@ -112,7 +112,7 @@ const DSA_POWERS: [(usize, usize, u32); 16] = [
 
 // A power of X, an index of its transform, and the value there: entries 1 to 15 of the first table in appendix A of
 // FIPS 203, and some of the second.
-const KEM_POWERS: [(usize, usize, u32); 21] = [
+const KEM_POWERS: &[(usize, usize, u32)] = &[
     (128, 0, 1729),
     (64, 0, 2580),
     (64, 128, 3289),
@@ -138,7 +138,7 @@ const KEM_POWERS: [(usize, usize, u32); 21] = [
 
 #[test]
 fn dsa_table(rt: HostRuntime) {
-    for (k, place, value) in DSA_POWERS {
+    for &(k, place, value) in DSA_POWERS {
         let is_right = match dsa(Step::Transform, monomial(k), monomial(0)) {
             Some(w) => w[place % 256] == value,
             None => false,
@@ -180,7 +180,7 @@ fn dsa_rows(rt: HostRuntime) {
 
 #[test]
 fn kem_table(rt: HostRuntime) {
-    for (k, place, value) in KEM_POWERS {
+    for &(k, place, value) in KEM_POWERS {
         let is_right = match kem(Step::Transform, monomial(k), monomial(0)) {
             Some(w) => w[place % 256] == value,
             None => false,

@@ -1,11 +1,12 @@
 //! Hashes and searches, with known values from other sources.
 
+use super::assert_at;
 use num_modular::applications::mersenne_hash::same_hashes;
 use num_modular::ModularInteger;
 use num_modular::hashes::{Hash, base, find, hash, moved};
 
 // A text, a pattern, and the first position where it occurs.
-const SEARCHES: [(&[u8], &[u8], Option<usize>); 14] = [
+const SEARCHES: &[(&[u8], &[u8], Option<usize>)] = &[
     (b"abracadabra", b"cad", Some(4)),
     (b"abracadabra", b"bra", Some(1)),
     (b"abracadabra", b"abra", Some(0)),
@@ -25,7 +26,8 @@ const SEARCHES: [(&[u8], &[u8], Option<usize>); 14] = [
 // Whether each search returns this. At the base 0 a hash is the last byte, and at 1 it is the sum of the bytes, so
 // that many windows have the pattern's hash.
 fn finds_each(base: Hash) -> bool {
-    for (text, pattern, position) in SEARCHES {
+    for row in SEARCHES {
+        let &(text, pattern, position) = row;
         if find(base, text, pattern) != position {
             return false;
         }
@@ -42,7 +44,7 @@ fn searches() {
 }
 
 // A base, a text, and the hash.
-const HASHES: [(u64, &[u8], u64); 4] = [
+const HASHES: &[(u64, &[u8], u64)] = &[
     (256, b"abracadabra", 100030700541806068),
     (2305843009213693950, b"abracadabra", 102),
     (5, b"", 0),
@@ -52,8 +54,9 @@ const HASHES: [(u64, &[u8], u64); 4] = [
 #[test]
 fn hashes() {
     let rt = crate::runtime::HostRuntime;
-    for (n, text, residue) in HASHES {
-        assert!(hash(base(n), text).residue() == residue, "{n}");
+    for row in HASHES {
+        let &(n, text, residue) = row;
+        assert_at(&rt, hash(base(n), text).residue() == residue, &n);
     }
     let base = base(1000003);
     let window = hash(base, b"abracadabra");
