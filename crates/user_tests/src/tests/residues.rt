@@ -75,20 +75,36 @@ fn encoded(system: ResidueSystem<'_>, number: u128) -> [u64; 8] {
     residues
 }
 
+fn sums_of(system: ResidueSystem<'_>, left: &[u64; 8], right: &[u64; 8]) -> [u64; 8] {
+    let mut sums = [0u64; 8];
+    let count = system.moduli.len();
+    system.add(&left[..count], &right[..count], &mut sums[..count]);
+    sums
+}
+
+fn differences_of(system: ResidueSystem<'_>, left: &[u64; 8], right: &[u64; 8]) -> [u64; 8] {
+    let mut differences = [0u64; 8];
+    let count = system.moduli.len();
+    system.sub(&left[..count], &right[..count], &mut differences[..count]);
+    differences
+}
+
+fn products_of(system: ResidueSystem<'_>, left: &[u64; 8], right: &[u64; 8]) -> [u64; 8] {
+    let mut products = [0u64; 8];
+    let count = system.moduli.len();
+    system.mul(&left[..count], &right[..count], &mut products[..count]);
+    products
+}
+
 // Whether the sums, differences and products of the residues of x and y are the residues of the results.
 fn computes(moduli: &[u64], x: u128, y: u128, results: [u128; 3]) -> bool {
     let Some(system) = ResidueSystem::new(moduli) else {
         return false;
     };
-    let count = system.moduli.len();
     let (left, right) = (encoded(system, x), encoded(system, y));
-    let (mut sums, mut differences, mut products) = ([0u64; 8], [0u64; 8], [0u64; 8]);
-    system.add(&left[..count], &right[..count], &mut sums[..count]);
-    system.sub(&left[..count], &right[..count], &mut differences[..count]);
-    system.mul(&left[..count], &right[..count], &mut products[..count]);
-    sums == encoded(system, results[0])
-        && differences == encoded(system, results[1])
-        && products == encoded(system, results[2])
+    sums_of(system, &left, &right) == encoded(system, results[0])
+        && differences_of(system, &left, &right) == encoded(system, results[1])
+        && products_of(system, &left, &right) == encoded(system, results[2])
 }
 
 #[test]
