@@ -128,12 +128,17 @@ fn inverses_of_lists() {
     check!(rt, 4; inverses([1, 2, 3, 4], 1) == ([0; 4], true));
 }
 
+// Whether no coefficient is above 1000.
+fn are_small(xs: &[u64]) -> bool {
+    xs.iter().all(|x| *x <= 1000)
+}
+
 // The product by the powers of 372528824, modulo 998244353; `None` where a coefficient is above 1000.
 fn product_of_four_and_five(xs: &[u64; 4], ys: &[u64; 5]) -> Option<[u64; 8]> {
     let r = Montgomery::<u64>::new(998244353);
     let g = r.transform(372528824);
     let mut product = [0; 8];
-    if root_fits(&r, &g, 8) && xs.iter().all(|x| *x <= 1000) && ys.iter().all(|y| *y <= 1000) {
+    if root_fits(&r, &g, 8) && are_small(xs) && are_small(ys) {
         let (mut left, mut right) = ([0; 8], [0; 8]);
         if product_of(&r, g, xs, ys, &mut product, &mut left, &mut right, 1000) {
             return Some(product);
