@@ -1,7 +1,8 @@
 //! Known products from other sources, by digits of 16 bits packed four to a word, and slices that are too short.
 
 use super::assert_at;
-use long_product::{MOST_PLACES, product, transform_length};
+use super::long_products::multiply;
+use long_product::{MOST_PLACES, transform_length};
 use num_modular::plans::Factor;
 
 const NONE: Factor<u64> = Factor {
@@ -58,7 +59,7 @@ fn is_product(xs: &[u16], ys: &[u16], known: &[u16]) -> bool {
     );
     let places = x.len() + y.len();
     let (mut digits, mut words, mut factors) = ([7; 32], [7; 64], [NONE; 64]);
-    product(x, y, &mut digits[..places], &mut words, &mut factors)
+    multiply(x, y, &mut digits[..places], &mut words, &mut factors)
         && digits[..places] == packed(known)[..places]
 }
 
@@ -69,21 +70,26 @@ fn known_products(rt: HostRuntime) {
     }
 }
 
-// The square of 2^(16n) - 1 is 2^(32n) - 2^(16n + 1) + 1.
+// The square of 2^(16n) - 1 is 2^(32n) - 2^(16n + 1) + 1. Its digits, followed by the greatest.
+fn square_of_all_ones(n: usize) -> [u16; 128] {
+    let mut known = [0; 128];
+    for i in 0..128 {
+        known[i] = match i {
+            0 => 1,
+            _ if i < n => 0,
+            _ if i == n => 65534,
+            _ => 65535,
+        };
+    }
+    known
+}
+
 #[test]
 fn squares_of_all_ones(rt: HostRuntime) {
     let ones = [65535; 64];
     for n in [1, 2, 5, 31, 32, 33, 64] {
-        let mut known = [0; 128];
         let (xs, places) = (&ones[..n], 2 * n);
-        for i in 0..places {
-            known[i] = match i {
-                0 => 1,
-                _ if i < n => 0,
-                _ if i == n => 65534,
-                _ => 65535,
-            };
-        }
+        let known = square_of_all_ones(n);
         assert_at(&rt, is_product(xs, xs, &known[..places]), &places);
     }
 }
@@ -94,7 +100,7 @@ fn is_told(places: usize, left: usize, right: usize, fits: bool) -> bool {
         return false;
     }
     let (mut digits, mut first, mut second) = ([7; 16], [7; 16], [NONE; 16]);
-    let done = product(
+    let done = multiply(
         &[1, 2, 3],
         &[4, 5],
         &mut digits[..places],
@@ -124,8 +130,8 @@ fn room(rt: HostRuntime) {
 fn no_digits(rt: HostRuntime) {
     let rt = &rt;
     let mut none = [0; 1];
-    check!(rt, 1; product(&[], &[], &mut [], &mut none, &mut [NONE]));
-    check!(rt, 2; product::<Factor<u64>>(&[], &[], &mut [], &mut none, &mut []));
+    check!(rt, 1; multiply(&[], &[], &mut [], &mut none, &mut [NONE]));
+    check!(rt, 2; multiply(&[], &[], &mut [], &mut none, &mut []));
 }
 
 // A number of places, and the length of the transforms.
