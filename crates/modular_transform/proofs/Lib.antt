@@ -14,6 +14,7 @@ pub mod PolynomialProducts
 pub mod PowersOfTwo
 pub mod Reordering
 pub mod StageLemmas
+pub mod StripCounts
 pub mod StripPowers
 pub mod Tiles
 pub mod TransformLemmas

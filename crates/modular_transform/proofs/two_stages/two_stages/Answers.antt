@@ -3,11 +3,16 @@ use Rattle.modular_word.specs.Congruence.{Congruent}
 use Rattle.modular_reduced.specs.Forms.{Represents}
 use Rattle.modular_reduced.proofs.FormLemmas.{form_of_value}
 use Rattle.modular_transform.proofs.FourLemmas.{FoursDone, none_done, one_done, columns_joined, blocks_joined, done_by}
-use Rattle.modular_transform.proofs.FourLemmas.{block_fits, fours_fit, four_fits}
 use Rattle.modular_transform.proofs.PairLemmas.{none_between}
 use Rattle.modular_transform.proofs.Places.{strip_offset, quarter_within, in_strip, ended, strip_falls}
 use Rattle.modular_transform.proofs.Places.{column_fits, block_fits_word}
 use Rattle.modular_transform.proofs.StripPowers.{one_form, first_power, power_first, power_next, strip_power, strip_next}
+use Rattle.modular_transform.proofs.StripCounts.{none_least, none_more, none_of, none_written, one_later, later, together}
+use Rattle.modular_transform.proofs.StripCounts.{taken_back, width_fits, column_within, next_within}
+use Rattle.modular_transform.proofs.StripCounts.{powers_begun, powers_more, powers_done, fours_begun, fours_more}
+use Rattle.modular_transform.proofs.StripCounts.{fours_done, strip_counted, quarters_fit, strip_place_fits}
+use Rattle.modular_transform.proofs.StripCounts.{column_place_fits, four_place_within, some_step, powers_count_fits}
+use Rattle.modular_transform.proofs.StripCounts.{fours_count_fits}
 use Rattle.modular_transform.proofs.TwoStages.{two_stages_done}
 use Rattle.modular_transform.proofs.ValueLemmas.{values, value_at, values_below, forms_written, entry_done}
 use Rattle.modular_transform.proofs.two_stages.two_stages.Goals as goal
@@ -33,12 +38,12 @@ strips-init g c =
       turned_form = c.requires.turned;
       square_form = form;
       power = first_power w canonical c.one.ensures c.transform-one.ensures.form;
-      turned = subst (λ e. Congruent m (value m (number c.args.turned.now)) (w ^ e)) (omega arith) c.requires.turn;
+      turned = subst (λ e. Congruent m (value m (number c.args.turned.now)) (w ^ e)) (none_more h) c.requires.turn;
       square = first_power v canonical c.one.ensures c.transform-one.ensures.form;
-      within = omega arith;
+      within = none_least h;
       done = none_done m (λ i. w ^ i) (λ i. w ^ (h + i)) (λ i. v ^ i) h 0 c.args.blocks 0 0
           (values number value m c.args.forms.now) (λ p i a b s t. none_between 0 i s t);
-      count = omega arith;
+      count = none_of (4 * c.args.blocks + 3);
     }
 
 pub each_block-init : goal.each_block-init
@@ -47,13 +52,12 @@ each_block-init g c =
     let of = values g.T.RingWord.number g.R.Reducer.value m in
     let column = c.strips.column in
     let all : c.fill.i ≡ c.min-width.result = ended c.fill.auto.i-end c.fill-test.false in
-    let count = c.fill.invariant.count in
     record {
       checked = c.strips.invariant.checked;
       done = none_done m (λ i. of c.fill.firsts (i - column)) (λ i. of c.fill.seconds (i - column))
           (λ i. of c.fill.boths (i - column)) c.args.step 0 0 column (column + c.min-width.result)
           (of c.strips.forms) (λ p i u v s t. none_between 0 p u v);
-      count = omega (arith, count, all);
+      count = powers_done (c.strips.column * (4 * c.args.blocks + 3)) (4 * c.min-width.result) c.fill.invariant.count all;
     }
 
 pub columns-init : goal.columns-init
@@ -67,7 +71,8 @@ columns-init g c =
       done = none_done m (λ i. of c.fill.firsts (i - column)) (λ i. of c.fill.seconds (i - column))
           (λ i. of c.fill.boths (i - column)) c.args.step p (p + 1) column (column + 0) (of c.each_block.forms)
           (λ q i u v s t. none_between column i s t);
-      count = let n = c.each_block.invariant.count in omega (arith, n);
+      count = fours_begun {start = column * (4 * c.args.blocks + 3) + 3 * c.min-width.result + p * (4 * c.min-width.result)}
+          c.each_block.invariant.count;
     }
 
 pub returns-clause-checked : goal.returns-clause-checked
@@ -81,33 +86,30 @@ returns-clause-count g c =
     count ∙ ap (λ n. n * (4 * c.args.blocks + 3)) all
 
 pub overflow_mul-place : goal.overflow_mul-place
-overflow_mul-place g c =
-    let fit = block_fits c.each_block.block c.args.blocks c.args.step _ c.each_block-test.true c.requires.whole in
-    omega (arith, fit)
+overflow_mul-place g c = quarters_fit c.args.step c.requires.whole c.requires.some c.well_formed.1.0.0
 
 pub overflow_add-place : goal.overflow_add-place
 overflow_add-place g c =
-    let fit = block_fits c.each_block.block c.args.blocks c.args.step _ c.each_block-test.true c.requires.whole in
-    let within = c.strips.invariant.within in
-    omega (arith, fit, within)
+    strip_place_fits c.each_block-test.true c.requires.whole c.strips.invariant.within c.well_formed.1.0.0
 
 pub overflow_add-place-in-columns : goal.overflow_add-place-in-columns
 overflow_add-place-in-columns g c =
-    let least = c.min-width.ensures in
-    let fit = block_fits c.each_block.block c.args.blocks c.args.step _ c.each_block-test.true c.requires.whole in
-    omega (arith, fit, least)
+    let within = column_within c.min-width.ensures c.strips.invariant.within c.columns-test.true in
+    column_place_fits c.strips.column c.columns.k c.each_block-test.true c.requires.whole within c.well_formed.1.0.0
 
 pub four-requires-clause-within : goal.four-requires-clause-within
 four-requires-clause-within g c =
-    let least = c.min-width.ensures in
-    let fit = block_fits c.each_block.block c.args.blocks c.args.step _ c.each_block-test.true c.requires.whole in
-    let same = c.columns.auto.forms in
-    (omega (arith, least), omega (arith, fit, least, same))
+    let within = column_within c.min-width.ensures c.strips.invariant.within c.columns-test.true in (
+      some_step c.strips-test.true,
+      four_place_within c.strips.column c.columns.k c.each_block-test.true c.requires.whole within
+          (c.columns.auto.forms ∙ c.each_block.auto.forms ∙ c.strips.auto.forms),
+    )
 
 pub four-requires-clause-powers : goal.four-requires-clause-powers
 four-requires-clause-powers g c =
     let least = c.min-width.ensures in
     let filled = c.fill.invariant in
+    let l = c.columns-test.true in
     record {
       first = filled.firsts c.columns.k c.index-firsts-k.result (omega (arith, least));
       second = filled.seconds c.columns.k c.index-seconds-k.result (omega (arith, least));
@@ -156,13 +158,12 @@ each_block-preserved g c =
     let z = of c.columns.forms in
     let all : c.columns.k ≡ width = ended c.columns.auto.k-end c.columns-test.false in
     let here = subst (λ k. FoursDone m ps qs ss h p (p + 1) column (column + k) y z) all c.columns.invariant.done in
-    let count = c.columns.invariant.count in
     record {
       checked = c.columns.invariant.checked;
       done = blocks_joined {m = m} {h = h} {a = 0} {b = p} {c = column} {d = column + width} {e = p + 1}
-          {p = ps} {q = qs} {s = ss} x y z (omega arith) (omega arith) (omega (arith, least))
+          {p = ps} {q = qs} {s = ss} x y z (none_least p) (one_later p) (width_fits least c.strips.invariant.within)
           c.each_block.invariant.done here;
-      count = omega (arith, count, all);
+      count = fours_done (c.strips.column * (4 * c.args.blocks + 3) + 3 * width) p c.columns.invariant.count all;
     }
 
 pub strips-preserved : goal.strips-preserved
@@ -211,25 +212,24 @@ strips-preserved g c =
     let by_root = done_by {p = ps} {q = qs} {s = ss} y z
     (strip_power w column width (of c.fill.firsts) of_first before.power) turned
     (strip_power v column width (of c.fill.boths) of_both before.square) strip in
-    let count = c.each_block.invariant.count in
-    let rows = ap (λ b. b * (4 * width)) blocks in
+    let within = width_fits least before.within in
     record {
       checked = c.each_block.invariant.checked;
       firsts = filled.firsts;
       seconds = filled.seconds;
       boths = filled.boths;
-      power_form = form_of_value canonical power;
-      turned_form = form_of_value canonical turned_power;
-      square_form = form_of_value canonical square_power;
+      power_form = form_of_value {v = (value m (number c.strips.power) * w ^ width) % m} canonical power;
+      turned_form = form_of_value {v = (value m (number c.strips.turned_power) * w ^ width) % m} canonical turned_power;
+      square_form = form_of_value {v = (value m (number c.strips.square_power) * v ^ width) % m} canonical square_power;
       power = strip_next w column width canonical power before.power;
-      turned = subst (λ e. Congruent m (value m (number c.fill.turned_power)) (w ^ e)) (omega arith)
+      turned = subst (λ e. Congruent m (value m (number c.fill.turned_power)) (w ^ e)) (together h column width)
           (strip_next w (h + column) width canonical turned_power before.turned);
       square = strip_next v column width canonical square_power before.square;
-      within = omega (arith, least);
+      within = within;
       done = columns_joined {m = m} {h = h} {a = 0} {b = c.args.blocks} {c = 0} {d = column} {e = column + width}
-          {p = λ i. w ^ i} {q = λ i. w ^ (h + i)} {s = λ i. v ^ i} x y z (omega arith) (omega arith)
-          (omega (arith, least)) before.done by_root;
-      count = omega (arith, count, rows);
+          {p = λ i. w ^ i} {q = λ i. w ^ (h + i)} {s = λ i. v ^ i} x y z (none_least column) (later column width)
+          within before.done by_root;
+      count = strip_counted column width c.each_block.invariant.count blocks;
     }
 
 pub returns-clause-stages : goal.returns-clause-stages
@@ -251,18 +251,24 @@ returns-clause-stages g c =
 
 pub fill-init : goal.fill-init
 fill-init g c =
+    let m = g.R.Reducer.modulus c.args.r.now in
+    let number = g.T.RingWord.number in
+    let value = g.R.Reducer.value in
+    let of = values number value m in
+    let w = value m (number c.args.root.now) in
+    let v = value m (number c.args.square.now) in
     let before = c.strips.invariant in
     record {
       firsts = before.firsts;
       seconds = before.seconds;
       boths = before.boths;
-      power = power_first _ before.power_form;
-      turned = power_first _ before.turned_form;
-      square = power_first _ before.square_form;
-      of_first = λ k l. absurd (omega arith);
-      of_second = λ k l. absurd (omega arith);
-      of_both = λ k l. absurd (omega arith);
-      count = let n = before.count in omega (arith, n);
+      power = power_first w before.power_form;
+      turned = power_first w before.turned_form;
+      square = power_first v before.square_form;
+      of_first = none_written (of c.strips.firsts) (λ k. (value m (number c.strips.power) * w ^ k) % m);
+      of_second = none_written (of c.strips.seconds) (λ k. (value m (number c.strips.turned_power) * w ^ k) % m);
+      of_both = none_written (of c.strips.boths) (λ k. (value m (number c.strips.square_power) * v ^ k) % m);
+      count = powers_begun {start = c.strips.column * (4 * c.args.blocks + 3)} before.count;
     }
 
 pub fill-preserved : goal.fill-preserved
@@ -291,12 +297,12 @@ fill-preserved g c =
       turned = power_next second w i canonical before.turned c.mul-turned_power.ensures.form;
       square = power_next both v i canonical before.square c.mul-square_power.ensures.form;
       of_first = entry_done number value m c.fill.firsts i c.fill.power (λ k. (first * w ^ k) % m) (omega arith)
-          before.of_first (canonical.one_value _ _ before.power);
+          before.of_first (canonical.one_value (number c.fill.power) (at first w) before.power);
       of_second = entry_done number value m c.fill.seconds i c.fill.turned_power (λ k. (second * w ^ k) % m)
-          (omega arith) before.of_second (canonical.one_value _ _ before.turned);
+          (omega arith) before.of_second (canonical.one_value (number c.fill.turned_power) (at second w) before.turned);
       of_both = entry_done number value m c.fill.boths i c.fill.square_power (λ k. (both * v ^ k) % m)
-          (omega arith) before.of_both (canonical.one_value _ _ before.square);
-      count = let n = before.count in omega (arith, n);
+          (omega arith) before.of_both (canonical.one_value (number c.fill.square_power) (at both v) before.square);
+      count = powers_more (c.strips.column * (4 * c.args.blocks + 3)) i before.count;
     }
 
 pub columns-preserved : goal.columns-preserved
@@ -311,7 +317,8 @@ columns-preserved g c =
     let i = column + k in
     let of = values number value m in
     let least = c.min-width.ensures in
-    let place : k ≡ i - column = omega arith in
+    let l = c.columns-test.true in
+    let place : k ≡ i - column = taken_back column k in
     let ps = λ (j : ℕ). of c.fill.firsts (j - column) in
     let qs = λ (j : ℕ). of c.fill.seconds (j - column) in
     let ss = λ (j : ℕ). of c.fill.boths (j - column) in
@@ -324,15 +331,17 @@ columns-preserved g c =
     ∙ ap (of c.fill.seconds) place in
     let of_both = value_at number value m c.fill.boths k c.index-boths-k.result (omega (arith, least))
     ∙ ap (of c.fill.boths) place in
-    let next : i + 1 ≡ column + (k + 1) = omega arith in
-    let one = one_done ps qs ss h p i y z (omega (arith, least)) (omega arith)
+    let next : i + 1 ≡ column + (k + 1) = together column k 1 in
+    let within = c.strips.invariant.within in
+    let one = one_done ps qs ss h p i y z (column_within least within l) (together (p * (4 * h)) column k)
     of_first of_second of_both c.four.ensures.done in
     let joined = columns_joined {m = m} {h = h} {a = p} {b = p + 1} {c = column} {d = i} {e = i + 1}
-    {p = ps} {q = qs} {s = ss} x y z (omega arith) (omega arith) (omega (arith, least)) c.columns.invariant.done one in
+    {p = ps} {q = qs} {s = ss} x y z (later column k) (one_later i) (next_within least within l)
+    c.columns.invariant.done one in
     record {
       checked = c.four.ensures.checked;
       done = subst (λ e. FoursDone m ps qs ss h p (p + 1) column e x z) next joined;
-      count = let n = c.columns.invariant.count in omega (arith, n);
+      count = fours_more (c.strips.column * (4 * c.args.blocks + 3) + 3 * c.min-width.result + c.each_block.block * (4 * c.min-width.result)) k c.columns.invariant.count;
     }
 
 pub offset_bounds-firsts-i : goal.offset_bounds-firsts-i
@@ -367,19 +376,13 @@ offset_bounds-boths-k g c =
 
 pub overflow_add-products-in-columns : goal.overflow_add-products-in-columns
 overflow_add-products-in-columns g c =
-    let least = c.min-width.ensures in
-    let count = c.columns.invariant.count in
-    let fit = four_fits c.strips.column c.min-width.result c.args.step c.each_block.block c.args.blocks _ (omega arith)
-    (omega (arith, least)) c.requires.whole in
-    omega (arith, count, fit)
+    fours_count_fits c.strips.column c.columns.invariant.count c.columns-test.true c.each_block-test.true
+    (width_fits c.min-width.ensures c.strips.invariant.within) c.requires.whole c.well_formed.1.0.0
 
 pub overflow_add-products : goal.overflow_add-products
 overflow_add-products g c =
-    let least = c.min-width.ensures in
-    let count = c.fill.invariant.count in
-    let fit = fours_fit c.strips.column c.min-width.result c.args.step c.args.blocks _
-    (omega (arith, least)) c.requires.whole c.requires.some in
-    omega (arith, count, fit)
+    powers_count_fits c.strips.column c.fill.invariant.count c.fill-test.true
+    (width_fits c.min-width.ensures c.strips.invariant.within) c.requires.whole c.requires.some c.well_formed.1.0.0
 
 pub overflow_sub-step : goal.overflow_sub-step
 overflow_sub-step g c = c.strips.invariant.within
