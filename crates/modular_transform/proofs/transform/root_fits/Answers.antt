@@ -1,20 +1,22 @@
-use Rattle.std.proofs.Common.{◌≡◌, ◌+◌, ◌-◌, ◌^◌, ◌<◌, sym, arith, subst}
+use Rattle.std.proofs.Common.{◌≡◌, ◌+◌, ◌-◌, ◌^◌, ◌<◌, sym, ◌∙◌, refl, arith, subst}
+use Rattle.std.proofs.lemmas.Bool.{false≢true}
 use Rattle.std.specs.Int.{trailing_zeros, w64}
 use Rattle.modular_word.specs.Congruence.{Congruent}
 use Rattle.modular_word.proofs.Congruence.{of_equal}
 use Rattle.modular_word.proofs.Powers.{pow-one}
-use Rattle.modular_reduced.proofs.FormLemmas.{form_of_value}
 use Rattle.modular_transform.proofs.PowersOfTwo.{power_of_two_tested, power_by_zeros, exponent_above_zero}
 use Rattle.modular_transform.proofs.TransformLemmas.{root_more, suits_one, suits_tested}
 use Rattle.modular_transform.proofs.transform.root_fits.Goals as goal
 
 pub returns-then-not-is_power_of_two : goal.returns-then-not-is_power_of_two
-returns-then-not-is_power_of_two g c =
-    let tested = power_of_two_tested c.args.n in
-    (λ h. cc, λ suits. let t = tested.1 suits.power_of_two in cc)
+returns-then-not-is_power_of_two g c = (
+  λ h. absurd (false≢true h),
+  λ suits. absurd (false≢true (sym c.if-not-is_power_of_two.true ∙ c.is_power_of_two.ensures
+      ∙ (power_of_two_tested c.args.n).1 suits.power_of_two)),
+)
 
 pub returns-then-n-eq1 : goal.returns-then-n-eq1
-returns-then-n-eq1 g c = (λ h. suits_one (let e : c.args.n ≡ 1 = omega arith in e), λ suits. cc)
+returns-then-n-eq1 g c = (λ h. suits_one (let e : c.args.n ≡ 1 = omega arith in e), λ suits. refl)
 
 pub squares-init : goal.squares-init
 squares-init g c = record { form = c.requires; power = of_equal (sym (pow-one _)) }
@@ -27,7 +29,7 @@ squares-preserved g c =
     let t = c.squares._done in
     let e : t - 1 + 1 ≡ t + 1 - 1 = omega arith in
     record {
-      form = form_of_value canonical c.sqr-power.ensures.form;
+      form = c.sqr-power.ensures.checked;
       power = subst (λ k. Congruent m (g.R.Reducer.value m (g.T.RingWord.number c.sqr-power.result)) (root ^ (2 ^ k))) e
           (root_more root (t - 1) _ _ c.squares.invariant.power (canonical.one_value _ _ c.sqr-power.ensures.form));
     }
@@ -40,7 +42,7 @@ returns g c =
     let n = c.args.n in
     let z = trailing_zeros w64 n in
     let below : n < 2 ^ 64 = omega arith in
-    let whole = power_by_zeros n ((power_of_two_tested n).0 cc) below in
+    let whole = power_by_zeros n ((power_of_two_tested n).0 (sym c.is_power_of_two.ensures ∙ c.if-not-is_power_of_two.false)) below in
     let some = exponent_above_zero z n whole (omega arith) in
     let tested = suits_tested root n z (c.squares._done - 1) _ _ _ _ whole some
     (omega (arith, some)) c.squares.invariant.power c.one.ensures (canonical.one_value _ _ c.transform-one.ensures.form)
