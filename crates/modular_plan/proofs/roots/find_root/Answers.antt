@@ -1,5 +1,5 @@
 use Rattle.std.proofs.Common.{◌≡◌, ℕ, ◌+◌, ◌-◌, ◌/◌, ◌%◌, ◌^◌, ◌≤◌, inl, inr, sym, ◌∙◌, ap, subst, arith}
-use Rattle.std.proofs.lemmas.Bool.{cases_eq}
+use Rattle.std.proofs.lemmas.Bool.{cases_eq, false≢true}
 use Rattle.modular_transform.specs.Transforms.{Suits}
 use Rattle.modular_transform.proofs.PowersOfTwo.{power_of_two_tested}
 use Rattle.modular_plan.specs.Roots.{root_by}
@@ -8,10 +8,13 @@ use Rattle.modular_plan.proofs.roots.find_root.Goals as goal
 
 pub returns-then-not-is_power_of_two : goal.returns-then-not-is_power_of_two
 returns-then-not-is_power_of_two g c =
-    λ x from below suits. let t = (power_of_two_tested c.args.n).1 suits.power_of_two in cc
+    λ x from below suits.
+    false≢true (sym c.if-not-is_power_of_two.true ∙ c.is_power_of_two.ensures
+    ∙ (power_of_two_tested c.args.n).1 suits.power_of_two)
 
 pub exponent-exponent-requires : goal.exponent-exponent-requires
-exponent-exponent-requires g c = (power_of_two_tested c.args.n).0 cc
+exponent-exponent-requires g c =
+    (power_of_two_tested c.args.n).0 (sym c.is_power_of_two.ensures ∙ c.if-not-is_power_of_two.false)
 
 pub bases-init : goal.bases-init
 bases-init g c = record {
@@ -36,7 +39,7 @@ returns-then-root_fits g c =
     let is_one = c.transform-one.ensures.value ∙ ap (λ v. v % m) c.one.ensures in
     let root = tried m x ((m - 1) / n) _ _ _ _ _ from c.bases.invariant.base is_one c.add-base.ensures.value
     c.exponent-exponent.ensures c.pow-g.ensures.value in
-    let suits = c.root_fits.ensures.0 cc in (
+    let suits = c.root_fits.ensures.0 c.if-root_fits.true in (
       c.pow-g.ensures.checked,
       (
         x,
@@ -62,7 +65,7 @@ bases-preserved g c =
       tried = λ y low high suits. elim (cases_eq y x) [
         | inl e ↦
             let by_x = subst (λ v. Suits m (root_by m n v) n) e suits in
-            let fits = c.root_fits.ensures.1 (subst (λ v. Suits m v n) (sym root) by_x) in cc
+            let fits = c.root_fits.ensures.1 (subst (λ v. Suits m v n) (sym root) by_x) in false≢true (sym c.if-root_fits.false ∙ fits)
         | inr other ↦ c.bases.invariant.tried y low (omega (arith, high, other)) suits
       ];
     }
