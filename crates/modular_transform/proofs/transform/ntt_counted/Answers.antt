@@ -1,5 +1,5 @@
 use Rattle.std.proofs.Common.{◌≡◌, ℕ, ◌+◌, ◌-◌, ◌*◌, ◌/◌, ◌%◌, ◌^◌, ◌<◌, ◌≤◌, length, sym, ◌∙◌, ap, arith, refl}
-use Rattle.std.proofs.Common.{inl, inr, subst, List, All, ◌≢◌}
+use Rattle.std.proofs.Common.{inl, inr, subst, List, All, ◌≢◌, replicate}
 use Rattle.std.proofs.lemmas.Bool.{cases_eq}
 use Rattle.std.proofs.lemmas.List.Elements.{All-set}
 use Rattle.std.proofs.lemmas.Nat.{pow_pos, mul-le}
@@ -10,8 +10,8 @@ use Rattle.modular_word.specs.Congruence.{Congruent}
 use Rattle.modular_word.proofs.Congruence.{of_equal, chained}
 use Rattle.modular_word.proofs.Powers.{pow-one}
 use Rattle.modular_reduced.specs.Forms.{IsForm}
-use Rattle.modular_reduced.proofs.FormLemmas.{form_of_value}
-use Rattle.modular_transform.proofs.Places.{stage_offset, stages_left, two_left, below_limit}
+use Rattle.modular_transform.specs.Transforms.{transform}
+use Rattle.modular_transform.proofs.Places.{ended, stage_offset, stages_left, two_left, below_limit}
 use Rattle.modular_transform.proofs.PowersOfTwo.{trailing_zeros_of_power, exponent_below}
 use Rattle.modular_transform.proofs.StageLemmas.{BlocksTransform, stages_start}
 use Rattle.modular_transform.proofs.StripPowers.{one_form}
@@ -23,7 +23,50 @@ use Rattle.modular_transform.proofs.ValueLemmas.{held_forms}
 use Rattle.modular_transform.proofs.transform.ntt_counted.Goals as goal
 use Rattle.modular_transform.proofs.transform.ntt_counted.Goals.{then-stages-eq1, else-stages-eq1}
 use lib.Count.{trailing_le}
+use mir.Syntax.{w128}
+use mir.Val.{Fits}
 use borrow.Author.Count.{falls}
+
+-- no roots are written yet
+no_roots : (m : ℕ) (x y : ℕ → ℕ) (t : ℕ) → t < 0 → Congruent m (x t) (y t)
+no_roots m x y t l = absurd (omega arith)
+
+-- one root more is written
+root_written : {T : Type 0} (number : T → ℕ) (value : ℕ → ℕ → ℕ) (m w : ℕ) (roots : List T) (s : ℕ) (root : T)
+    → s < length roots → ((t : ℕ) → t < s → Congruent m (values number value m roots t) (w ^ (2 ^ t)))
+    → Congruent m (value m (number root)) (w ^ (2 ^ s))
+    → (t : ℕ) → t < s + 1 → Congruent m (values number value m (set roots s root) t) (w ^ (2 ^ t))
+root_written number value m w roots s root within before is t l = elim (cases_eq t s) [
+  | inl e ↦ chained (of_equal (ap (values number value m (set roots s root)) e
+      ∙ values-set_same number value m roots s root within))
+      (subst (λ k. Congruent m (value m (number root)) (w ^ (2 ^ k))) (sym e) is)
+  | inr n ↦ chained (of_equal (values-set_other number value m roots s t root n)) (before t (omega arith))
+]
+
+-- what is left after two stages
+even_left : (t : ℕ) {z : ℕ} → (z - t) % 2 ≡ 0 → t + 2 ≤ z → (z - (t + 2)) % 2 ≡ 0
+even_left t even two = omega (arith, even, two)
+
+half_left : (half : ℕ) {p : ℕ} → p ≡ half / 2 → half / 4 ≡ p / 2
+half_left half is = omega (arith, is)
+
+blocks_left : (t blocks : ℕ) → 2 ^ (t + 1 + 1) ≡ blocks * 2 * 2 → blocks * 4 ≡ 2 ^ (t + 2)
+blocks_left t blocks is =
+    let e : t + 1 + 1 ≡ t + 2 = omega arith in
+    let powers = ap (λ k. 2 ^ k) e in
+    omega (arith, is, powers)
+
+blocks_fit : (t blocks : ℕ) {z n : ℕ} → 2 ^ (t + 1 + 1) ≡ blocks * 2 * 2 → n ≡ 2 ^ z → n < 2 ^ 64 → t + 2 ≤ z
+    → Fits w64 (blocks * 4)
+blocks_fit t blocks {z} is whole below two =
+    let l = pow-le-pow_right {n = 2} (omega arith) {i = t + 1 + 1} {j = z} (omega (arith, two)) in
+    record { fits = omega (arith, is, whole, below, l) }
+
+products_fit : (t rest : ℕ) {z n all c : ℕ} → all + rest ≡ (t + 2) * (n / 2) + n + c → c ≡ z → z < 64 → t + 2 ≤ z
+    → n < 2 ^ 64 → Fits w128 all
+products_fit t rest {z} {n} count is few two below =
+    let rows = mul-le (t + 2) (n / 2) 64 (2 ^ 64) (omega (arith, two, few)) (omega (arith, below)) in
+    record { fits = omega (arith, count, rows, few, is, below) }
 
 pub roots-init : goal.roots-init
 roots-init g c =
@@ -34,7 +77,7 @@ roots-init g c =
       checked = one_form number g.R.Reducer.form value m 64 c.args.g.now c.requires.root;
       form = c.requires.root;
       root = of_equal (sym (pow-one (value m (number c.args.g.now))));
-      written = λ t l. absurd (omega arith);
+      written = no_roots m (values number value m (replicate 64 c.args.g.now)) (λ t. value m (number c.args.g.now) ^ (2 ^ t));
       count = refl;
     }
 
@@ -54,16 +97,12 @@ roots-preserved g c =
     let few = exponent_below _ _ (suited_length c.requires.suits below) below in
     record {
       checked = All-set P roots s root before.form before.checked;
-      form = form_of_value canonical c.sqr-root.ensures.form;
-      root = root_more w s _ _ before.root (canonical.one_value _ _ c.sqr-root.ensures.form);
-      written = λ t l. elim (cases_eq t s) [
-        | inl e ↦ chained (of_equal (ap (values number value m (set roots s root)) e
-            ∙ values-set_same number value m roots s root (omega (arith, few))))
-            (subst (λ k. Congruent m (value m (number root)) (w ^ (2 ^ k))) (sym e) before.root)
-        | inr n ↦ chained (of_equal (values-set_other number value m roots s t root n))
-            (before.written t (omega arith))
-      ];
-      count = let n = before.count in omega (arith, n);
+      form = c.sqr-root.ensures.checked;
+      root = root_more w s (value m (number root)) (value m (number c.sqr-root.result)) before.root
+          (canonical.one_value (number c.sqr-root.result) ((value m (number root) * value m (number root)) % m)
+          c.sqr-root.ensures.form);
+      written = root_written number value m w roots s root (omega (arith, few)) before.written before.root;
+      count = ap (λ v. v + 1) before.count;
     }
 
 pub passes-init : goal.passes-init
@@ -79,7 +118,7 @@ passes-init g c =
     let of = values number value m in
     let x = of c.args.xs.now in
     let d = c.if-stages-eq1.done in
-    let all : c.roots.i ≡ z = omega arith in
+    let all : c.roots.i ≡ z = ended c.roots.auto.i-end c.roots-test.false in
     let squares = c.roots.invariant.count in
     let zero : z - 0 ≡ z = omega arith in
     let size : n ≡ 2 ^ (z - 0) = whole ∙ ap (λ k. 2 ^ k) (sym zero) in
@@ -165,26 +204,22 @@ passes-preserved g c =
     let more : t < z = c.passes-test.true in
     let two = two_left even more in
     let sizes = two_sizes z t n c.passes.half c.passes.blocks more even whole before.half before.blocks in
-    let all : c.roots.i ≡ z = omega arith in
+    let all : c.roots.i ≡ z = ended c.roots.auto.i-end c.roots-test.false in
     let few = exponent_below z n whole below in
     let at = λ (k : ℕ) (f : _) (l : k < z).
     chained (of_equal (value_at number value m c.roots.roots k f (omega (arith, l, few))))
     (c.roots.invariant.written k (omega (arith, l, all))) in
     let of = values number value m in
-    let quarter = sizes.quarter in
-    let blocks = sizes.second.more in
-    let e : t + 1 + 1 ≡ t + 2 = omega arith in
-    let powers = ap (λ k. 2 ^ k) e in
     record {
       checked = c.two_stages-products.ensures.checked;
-      upto = omega (arith, two);
-      even = omega (arith, even, two);
-      half = omega (arith, quarter);
-      blocks = omega (arith, blocks, powers);
+      upto = two;
+      even = even_left t even two;
+      half = half_left c.passes.half sizes.quarter;
+      blocks = blocks_left t c.passes.blocks sizes.second.more;
       transforms = two_more root z t n c.passes.half c.passes.blocks _ _ (of c.args.xs.now) (of c.passes.xs)
           (of c.two_stages-products.new.forms) sizes before.blocks c.requires.suits
           (at t c.index-roots-done.result more)
-          (at (t + 1) c.index-roots-done-in-passes.result (omega (arith, two)))
+          (at (t + 1) c.index-roots-done-in-passes.result (stages_left even more).next)
           before.transforms c.two_stages-products.ensures.stages;
       count = two_products_more z t n c.passes.half c.passes.blocks c.passes.products c.two_stages-products.result z
           sizes before.count c.two_stages-products.ensures.count;
@@ -212,12 +247,18 @@ pub returns-clause-values : goal.returns-clause-values
 returns-clause-values g c j l =
     let kept = c.reverse_places.auto.entries in
     let same = c.passes.auto.xs in
-    held_value g.T.RingWord.number g.R.Reducer.form g.R.Reducer.value _ _ c.reverse_places.new.entries _ j
+    held_value g.T.RingWord.number g.R.Reducer.form g.R.Reducer.value _ (g.R.Reducer.modulus c.args.r.now)
+    c.reverse_places.new.entries (transform (g.R.Reducer.modulus c.args.r.now)
+    (g.R.Reducer.value (g.R.Reducer.modulus c.args.r.now) (g.T.RingWord.number c.args.g.now)) (length c.args.xs.now)
+    (values g.T.RingWord.number g.R.Reducer.value (g.R.Reducer.modulus c.args.r.now) c.args.xs.now)) j
     (g.met.R.Reducer.canonical c.args.r.now) (returns-clause-entries g c) (omega (arith, kept, same))
 
 pub returns-clause-checked : goal.returns-clause-checked
-returns-clause-checked g c = held_forms g.T.RingWord.number g.R.Reducer.form g.R.Reducer.value _ _
-    c.reverse_places.new.entries _ (g.met.R.Reducer.canonical c.args.r.now) (returns-clause-entries g c)
+returns-clause-checked g c = held_forms g.T.RingWord.number g.R.Reducer.form g.R.Reducer.value _
+    (g.R.Reducer.modulus c.args.r.now) c.reverse_places.new.entries (transform (g.R.Reducer.modulus c.args.r.now)
+    (g.R.Reducer.value (g.R.Reducer.modulus c.args.r.now) (g.T.RingWord.number c.args.g.now)) (length c.args.xs.now)
+    (values g.T.RingWord.number g.R.Reducer.value (g.R.Reducer.modulus c.args.r.now) c.args.xs.now))
+    (g.met.R.Reducer.canonical c.args.r.now) (returns-clause-entries g c)
 
 pub returns-clause-count : goal.returns-clause-count
 returns-clause-count g c z is =
@@ -241,34 +282,27 @@ two_stages-products-requires-clause-turn g c =
     let t = c.passes.done in
     let before = c.passes.invariant in
     let even : (z - t) % 2 ≡ 0 = before.even in
-    let upto : t ≤ z = before.upto in
     let more : t < z = c.passes-test.true in
     let two = two_left even more in
     let sizes = two_sizes z t n c.passes.half c.passes.blocks more even whole before.half before.blocks in
-    let all : c.roots.i ≡ z = omega arith in
+    let all : c.roots.i ≡ z = ended c.roots.auto.i-end c.roots-test.false in
     let few = exponent_below z n whole below in
     let at = λ (k : ℕ) (f : _) (l : k < z).
     chained (of_equal (value_at number value m c.roots.roots k f (omega (arith, l, few))))
     (c.roots.invariant.written k (omega (arith, l, all))) in
     quarter_turn root z t n c.passes.half c.passes.blocks _ _ sizes two (at t c.index-roots-done.result more)
-    (at (z - 2) c.index-roots-stages.result (omega (arith, two)))
+    (at (z - 2) c.index-roots-stages.result (stages_left even more).turn)
 
 pub two_stages-products-requires-clause-whole : goal.two_stages-products-requires-clause-whole
 two_stages-products-requires-clause-whole g c =
-    let m = g.R.Reducer.modulus c.args.r.now in
-    let number = g.T.RingWord.number in
-    let value = g.R.Reducer.value in
     let n = length c.args.xs.now in
     let z = trailing_zeros w64 n in
     let below : n < 2 ^ 64 = c.well_formed.1.0.0 in
     let whole = suited_length c.requires.suits below in
-    let root = value m (number c.args.g.now) in
     let t = c.passes.done in
     let before = c.passes.invariant in
     let even : (z - t) % 2 ≡ 0 = before.even in
-    let upto : t ≤ z = before.upto in
     let more : t < z = c.passes-test.true in
-    let two = two_left even more in
     let sizes = two_sizes z t n c.passes.half c.passes.blocks more even whole before.half before.blocks in
     let same : length c.passes.xs ≡ n = c.passes.auto.xs ∙ c.if-stages-eq1.auto.xs in
     let h = c.passes.half / 2 in
@@ -277,47 +311,33 @@ two_stages-products-requires-clause-whole g c =
 
 pub overflow_mul-blocks : goal.overflow_mul-blocks
 overflow_mul-blocks g c =
-    let m = g.R.Reducer.modulus c.args.r.now in
-    let number = g.T.RingWord.number in
-    let value = g.R.Reducer.value in
     let n = length c.args.xs.now in
     let z = trailing_zeros w64 n in
     let below : n < 2 ^ 64 = c.well_formed.1.0.0 in
     let whole = suited_length c.requires.suits below in
-    let root = value m (number c.args.g.now) in
     let t = c.passes.done in
     let before = c.passes.invariant in
     let even : (z - t) % 2 ≡ 0 = before.even in
-    let upto : t ≤ z = before.upto in
     let more : t < z = c.passes-test.true in
     let two = two_left even more in
     let sizes = two_sizes z t n c.passes.half c.passes.blocks more even whole before.half before.blocks in
-    let blocks = sizes.second.more in
-    let l = pow-le-pow_right {n = 2} (omega arith) {i = t + 1 + 1} {j = z} (omega (arith, two)) in
-    omega (arith, blocks, whole, l)
+    blocks_fit t c.passes.blocks sizes.second.more whole below two
 
 pub overflow_add-products-in-passes : goal.overflow_add-products-in-passes
 overflow_add-products-in-passes g c =
-    let m = g.R.Reducer.modulus c.args.r.now in
-    let number = g.T.RingWord.number in
-    let value = g.R.Reducer.value in
     let n = length c.args.xs.now in
     let z = trailing_zeros w64 n in
     let below : n < 2 ^ 64 = c.well_formed.1.0.0 in
     let whole = suited_length c.requires.suits below in
-    let root = value m (number c.args.g.now) in
     let t = c.passes.done in
     let before = c.passes.invariant in
     let even : (z - t) % 2 ≡ 0 = before.even in
-    let upto : t ≤ z = before.upto in
     let more : t < z = c.passes-test.true in
     let two = two_left even more in
     let sizes = two_sizes z t n c.passes.half c.passes.blocks more even whole before.half before.blocks in
     let few = exponent_below z n whole below in
-    let rows = mul-le (t + 2) (n / 2) 64 (2 ^ 64) (omega (arith, two, few)) (omega arith) in
-    let count = two_products_more z t n c.passes.half c.passes.blocks c.passes.products c.two_stages-products.result z
-    sizes before.count c.two_stages-products.ensures.count in
-    omega (arith, count, rows, few)
+    products_fit t (2 ^ (z - (t + 2))) (two_products_more z t n c.passes.half c.passes.blocks c.passes.products c.two_stages-products.result z
+    sizes before.count c.two_stages-products.ensures.count) refl few two below
 
 pub reverse_places-requires-clause-whole : goal.reverse_places-requires-clause-whole
 reverse_places-requires-clause-whole g c =
