@@ -1,4 +1,4 @@
-use Rattle.std.proofs.Common.{◌≡◌, ℕ, ◌+◌, ◌-◌, ◌*◌, ◌/◌, ◌%◌, ◌^◌, ◌<◌, length, refl, sym, ◌∙◌, ap, arith, subst}
+use Rattle.std.proofs.Common.{◌≡◌, ℕ, ◌+◌, ◌-◌, ◌*◌, ◌/◌, ◌%◌, ◌^◌, ◌<◌, ◌≤◌, length, refl, sym, ◌∙◌, ap, arith, subst}
 use Rattle.std.proofs.Math.ListN.{set, length-set}
 use Rattle.std.proofs.Math.Nat.{mod-lt}
 use Rattle.std.proofs.lemmas.Nat.{pow_pos}
@@ -16,6 +16,37 @@ use Rattle.modular_plan.proofs.plan.plan.Goals as goal
 use borrow.Author.Count.{falls}
 use borrow.Author.Rules.{scaled_Fits}
 
+-- the table has an entry
+first_within : {n : ℕ} → IsPowerOfTwo (2 * n) → 0 < n
+first_within power =
+    let half = half_power power in
+    let some = pow_pos half.0 in
+    let is = half.1 in
+    omega (arith, some, is)
+
+-- a residue is below the modulus
+residue_below : (a : ℕ) {r m : ℕ} → r ≡ a % m → 1 ≤ m → r < m
+residue_below a {r} {m} is some = let below = mod-lt a (let k : 0 < m = omega (arith, some) in k) in omega (arith, is, below)
+
+-- places of the second half of the entries that are written
+within_double : {count k n : ℕ} → 2 * count ≤ n → k < count → k < n
+within_double room l = omega (arith, room, l)
+
+sum_within : {count k n : ℕ} → 2 * count ≤ n → k < count → count + k < n
+sum_within room l = omega (arith, room, l)
+
+below_sum : {k count : ℕ} → k < count → k < count + k
+below_sum l = omega (arith, l)
+
+below_same : {k a b : ℕ} → k < a → a ≡ b → k < b
+below_same l is = omega (arith, l, is)
+
+room_kept : (count : ℕ) {n m : ℕ} → 2 * count ≤ n → m ≡ n → 2 * count ≤ m
+room_kept count room len = omega (arith, room, len)
+
+one_after : (a b : ℕ) {k : ℕ} → k < a + (b + 1) → k < a + b + 1
+one_after a b l = omega (arith, l)
+
 pub squares-init : goal.squares-init
 squares-init g c =
     let n = g.T.RingWord.number in
@@ -24,9 +55,7 @@ squares-init g c =
     let x = c.entry.result in
     let len = length-set table 0 x in
     let power = half_power c.requires.suits.power_of_two in
-    let some = pow_pos power.0 in
-    let is = power.1 in
-    let within : 0 < length table = omega (arith, some, is) in
+    let within : 0 < length table = first_within c.requires.suits.power_of_two in
     let whole = power_by_zeros (length (set table 0 x)) (subst IsPowerOfTwo (sym len) power) (omega (arith, len)) in
     let bits = trailing_zeros w64 (length (set table 0 x)) in
     let same : bits ≡ bits - 0 = omega arith in
@@ -43,10 +72,7 @@ squares-init g c =
 
 pub factor-factor-requires : goal.factor-factor-requires
 factor-factor-requires g c =
-    let some = c.args.m.now.some in
-    let below = mod-lt (g.T.RingWord.number c.args.g ^ (2 ^ c.squares._bit))
-    (let p : 0 < g.T.RingWord.number c.args.m.now.modulus = omega arith in p) in
-    omega (arith, c.squares.invariant.power, below)
+    residue_below (g.T.RingWord.number c.args.g ^ (2 ^ c.squares._bit)) c.squares.invariant.power c.args.m.now.some
 
 pub offset_bounds-table-place : goal.offset_bounds-table-place
 offset_bounds-table-place g c =
@@ -166,20 +192,21 @@ others-preserved g c =
     let table = c.others.table in
     let x = c.entry-in-others.result in
     let room = before.room in
-    let within : count + other < length table = omega (arith, room) in
+    let test = c.others-test.true in
+    let within : count + other < length table = sum_within room test in
     let count_within : count < length c.doublings.table = omega (arith, room) in
-    let other_within : other < length table = omega (arith, room) in
+    let other_within : other < length table = within_double room test in
     let made = IsMade g.F.PlanEntry.value g.F.PlanEntry.quotient g.T.PathWord.base m root bits (set table (count + other) x) in
     let first = c.factor-in-others.ensures.value
     ∙ number_at g.F.PlanEntry.value table other c.index-table-other.result other_within
-    ∙ (before.first other (omega arith)).power in
+    ∙ (before.first other (below_sum test)).power in
     let second = c.factor-factor-in-doublings.ensures.value
     ∙ number_at g.F.PlanEntry.value c.doublings.table count c.index-table-count.result count_within
     ∙ ap (λ v. numbers g.F.PlanEntry.value c.doublings.table v) is
     ∙ (outer.single t c.doublings-test.true).power in
-    let power = product_of_two m root bits t other _ _ _ c.doublings-test.true (omega (arith, is)) first second
+    let power = product_of_two m root bits t other _ _ _ c.doublings-test.true (below_same test is) first second
     c.product-power-in-others.ensures in
-    let place : 2 ^ t + other ≡ count + other = omega (arith, is) in
+    let place : 2 ^ t + other ≡ count + other = ap (λ v. v + other) (sym is) in
     let now : made (count + other) = made_now g.F.PlanEntry.value g.F.PlanEntry.quotient g.T.PathWord.base m root bits table
     (count + other) x within
     (same_factor c.factor-in-others-2.ensures.factor c.entry-in-others.ensures.value c.entry-in-others.ensures.quotient)
@@ -189,9 +216,9 @@ others-preserved g c =
     (count + other) x k now in
     let len = length-set table (count + other) x in
     record {
-      room = omega (arith, room, len);
+      room = room_kept count room len;
       single = λ k h. kept (2 ^ k) (before.single k h);
-      first = λ k l. one_more made (count + other) (λ k l. kept k (before.first k l)) now k (omega arith);
+      first = λ k l. one_more made (count + other) (λ k l. kept k (before.first k l)) now k (one_after count other l);
     }
 
 pub doublings-preserved : goal.doublings-preserved
@@ -232,27 +259,14 @@ residue-requires g c =
 
 pub factor-requires : goal.factor-requires
 factor-requires g c =
-    let n = g.T.RingWord.number in
-    let some : 0 < n c.args.m.now.modulus = let some = c.args.m.now.some in omega (arith, some) in
-    let below = mod-lt (n c.one.result) some in
-    let is = c.residue.ensures in
-    omega (arith, is, below)
+    residue_below (g.T.RingWord.number c.one.result) c.residue.ensures c.args.m.now.some
 
 pub offset_bounds-0 : goal.offset_bounds-0
 offset_bounds-0 g c =
-    let power = half_power c.requires.suits.power_of_two in
-    let some = pow_pos power.0 in
-    let is = power.1 in
-    let within : 0 < length c.args.table.now = omega (arith, some, is) in
-    scaled_Fits _ _ _ within c.well_formed.1.1.0.1
+    scaled_Fits 0 (length c.args.table.now) _ (first_within c.requires.suits.power_of_two) c.well_formed.1.1.0.1
 
 pub bounds-table-0 : goal.bounds-table-0
-bounds-table-0 g c =
-    let power = half_power c.requires.suits.power_of_two in
-    let some = pow_pos power.0 in
-    let is = power.1 in
-    let within : 0 < length c.args.table.now = omega (arith, some, is) in
-    within
+bounds-table-0 g c = first_within c.requires.suits.power_of_two
 
 pub product-power-requires : goal.product-power-requires
 product-power-requires g c = c.factor-factor.ensures.factor
@@ -268,15 +282,13 @@ offset_bounds-table-other g c =
     scaled_Fits _ _ _ within c.well_formed.1.1.0.1
 
 pub bounds-table-other : goal.bounds-table-other
-bounds-table-other g c = let room = c.others.invariant.room in omega (arith, room)
+bounds-table-other g c = within_double c.others.invariant.room c.others-test.true
 
 pub factor-requires-in-others-2 : goal.factor-requires-in-others-2
 factor-requires-in-others-2 g c =
     let n = g.T.RingWord.number in
-    let some : 0 < n c.args.m.now.modulus = let some = c.args.m.now.some in omega (arith, some) in
-    let below = mod-lt (n c.factor-in-others.result.value * n c.factor-factor-in-doublings.result.value) some in
-    let is = c.product-power-in-others.ensures in
-    omega (arith, is, below)
+    residue_below (n c.factor-in-others.result.value * n c.factor-factor-in-doublings.result.value)
+    c.product-power-in-others.ensures c.args.m.now.some
 
 pub overflow_add-count : goal.overflow_add-count
 overflow_add-count g c =
@@ -293,7 +305,7 @@ offset_bounds-table-count-in-others g c =
     scaled_Fits _ _ _ within c.well_formed.1.1.0.1
 
 pub bounds-table-count-in-others : goal.bounds-table-count-in-others
-bounds-table-count-in-others g c = let room = c.others.invariant.room in omega (arith, room)
+bounds-table-count-in-others g c = sum_within c.others.invariant.room c.others-test.true
 
 pub others-smaller : goal.others-smaller
 others-smaller g c = falls _ _ c.others-test.true
