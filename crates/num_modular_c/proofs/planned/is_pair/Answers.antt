@@ -1,6 +1,8 @@
-use Rattle.std.proofs.Common.{refl}
-use Rattle.std.proofs.lemmas.Bool.{false≢true}
+use Rattle.std.proofs.Common.{◌*◌, ◌∙◌, refl, sym, subst}
+use Rattle.std.proofs.lemmas.Bool.{false≢true, eqb-true}
+use Rattle.num_modular_c.specs.Plans.{AreBelow}
 use Rattle.num_modular_c.proofs.planned.is_pair.Goals as goal
+use Rattle.num_modular_c.proofs.planned.is_pair.Goals.{then-xs-ys, else-xs-ys, then-convolves, else-convolves}
 
 pub returns-then-not-admits : goal.returns-then-not-admits
 returns-then-not-admits c =
@@ -11,3 +13,45 @@ new-modulus-requires-clause-some c = (c.if-not-admits.ensures.0 refl).0
 
 pub new-modulus-requires-clause-room : goal.new-modulus-requires-clause-room
 new-modulus-requires-clause-room c = (c.if-not-admits.ensures.0 refl).1
+
+pub returns-then-have_room : goal.returns-then-have_room
+returns-then-have_room c = elim c.if-convolves.branch [
+  | then-convolves w ↦ elim c.if-xs-ys.branch [
+    | then-xs-ys v ↦
+        let convolves = v.convolves.ensures.0 (sym v.value-is ∙ w.if-convolves.true) in
+        let room = w.have_room.ensures.0 (sym w.value-is ∙ c.if-have_room.true) in (
+          λ t. record {
+            admitted = c.if-not-admits.ensures.0 refl;
+            room = subst (λ m. AreBelow (4 * m) c.args.xs.now) c.new-modulus.ensures room;
+            other_room = subst (λ m. AreBelow (4 * m) c.args.ys.now) c.new-modulus.ensures
+                (c.have_room-then-have_room.ensures.0 t);
+            equal = sym v.if-xs-ys.true;
+            some = convolves.0;
+            few = convolves.1;
+            count = convolves.2;
+            whole = convolves.3;
+            within = convolves.4;
+          },
+          λ pair. c.have_room-then-have_room.ensures.1
+              (subst (λ m. AreBelow (4 * m) c.args.ys.now) (sym c.new-modulus.ensures) pair.other_room),
+        )
+    | else-xs-ys v ↦ absurd (v.if-xs-ys.false (eqb-true _ _ (sym v.value-is ∙ w.if-convolves.true)))
+  ]
+  | else-convolves w ↦ absurd (false≢true (sym w.if-convolves.false ∙ sym w.value-is ∙ c.if-have_room.true))
+]
+
+pub returns-else-have_room : goal.returns-else-have_room
+returns-else-have_room c = (
+  λ t. absurd (false≢true (sym c.if-have_room.false ∙ t)),
+  λ pair. elim c.if-convolves.branch [
+    | then-convolves w ↦
+        let room = subst (λ m. AreBelow (4 * m) c.args.xs.now) (sym c.new-modulus.ensures) pair.room in
+        absurd (false≢true (sym c.if-have_room.false ∙ w.value-is ∙ w.have_room.ensures.1 room))
+    | else-convolves w ↦ elim c.if-xs-ys.branch [
+      | then-xs-ys v ↦
+          let convolves = v.convolves.ensures.1 (pair.some, pair.few, pair.count, pair.whole, pair.within) in
+          absurd (false≢true (sym w.if-convolves.false ∙ v.value-is ∙ convolves))
+      | else-xs-ys v ↦ absurd (v.if-xs-ys.false (sym pair.equal))
+    ]
+  ],
+)
