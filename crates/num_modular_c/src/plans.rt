@@ -118,6 +118,18 @@ fn is_table(m: u64, g: u64, table: &[NmFactor]) -> bool
     powers && are_factors(m, table)
 }
 
+// The code that says whether there is a plan by the root for transforms of n words.
+fn plan_code(m: u64, root: u64, n: usize) -> u32
+    ensures fits { (result ≡ NM_OK) ↔ (IsAdmitted m × Suits m (root % m) n) }
+    ensures no_root { IsAdmitted m → (Suits m (root % m) n → ⊥) → result ≡ NM_NO_ROOT }
+    ensures bad_argument { (IsAdmitted m → ⊥) → result ≡ NM_BAD_ARGUMENT }
+{
+    if !PlannedModulus::<u64>::admits(m) {
+        return NM_BAD_ARGUMENT;
+    }
+    root_code(&Montgomery::<u64>::new(m), root, n)
+}
+
 /// Fills the table with the plan by the root for transforms of n words, n being twice its length.
 /// `NM_BAD_ARGUMENT`: m is 0 or above 2^62. `NM_NO_ROOT`: the root doesn't suit n.
 #[unsafe(no_mangle)]
@@ -128,10 +140,7 @@ pub extern "C" fn nm_plan(m: u64, root: u64, table: &mut [NmFactor]) -> u32
         → Refused NM_NO_ROOT result table.old table.new }
     ensures bad_argument { (IsAdmitted m → ⊥) → Refused NM_BAD_ARGUMENT result table.old table.new }
 {
-    if !PlannedModulus::<u64>::admits(m) {
-        return NM_BAD_ARGUMENT;
-    }
-    let code = root_code(&Montgomery::<u64>::new(m), root, 2 * table.len());
+    let code = plan_code(m, root, 2 * table.len());
     if code == NM_OK {
         plan(&PlannedModulus::<u64>::new(m), root % m, table);
     }
@@ -149,10 +158,7 @@ pub extern "C" fn nm_plan_fits(m: u64, root: u64, table: &[NmFactor]) -> u32
     ensures no_root { IsAdmitted m → (Suits m (root % m) (2 * length table.now) → ⊥) → result ≡ NM_NO_ROOT }
     ensures bad_argument { (IsAdmitted m → ⊥) → result ≡ NM_BAD_ARGUMENT }
 {
-    if !PlannedModulus::<u64>::admits(m) {
-        return NM_BAD_ARGUMENT;
-    }
-    let code = root_code(&Montgomery::<u64>::new(m), root, 2 * table.len());
+    let code = plan_code(m, root, 2 * table.len());
     if code != NM_OK {
         return code;
     }

@@ -2,41 +2,23 @@ use Rattle.std.proofs.Common.{refl}
 use Rattle.std.proofs.lemmas.Bool.{false≢true}
 use Rattle.num_modular_c.proofs.plans.nm_plan_fits.Goals as goal
 
-pub returns-then-not-admits-clause-fits : goal.returns-then-not-admits-clause-fits
-returns-then-not-admits-clause-fits c admitted suits is = absurd (false≢true (c.if-not-admits.ensures.1 admitted))
-
-pub returns-then-not-admits-clause-bad_context : goal.returns-then-not-admits-clause-bad_context
-returns-then-not-admits-clause-bad_context c admitted suits none =
-    absurd (false≢true (c.if-not-admits.ensures.1 admitted))
-
-pub returns-then-not-admits-clause-no_root : goal.returns-then-not-admits-clause-no_root
-returns-then-not-admits-clause-no_root c admitted none = absurd (false≢true (c.if-not-admits.ensures.1 admitted))
-
-pub returns-then-not-admits-clause-bad_argument : goal.returns-then-not-admits-clause-bad_argument
-returns-then-not-admits-clause-bad_argument c none = refl
-
-pub new-requires : goal.new-requires
-new-requires c = (c.if-not-admits.ensures.0 refl).0
-
 pub returns-then-code-ne-NM_OK-clause-fits : goal.returns-then-code-ne-NM_OK-clause-fits
-returns-then-code-ne-NM_OK-clause-fits c admitted suits is =
-    absurd (c.if-code-ne-NM_OK.true ((rw c.new.ensures at c.root_code-code.ensures.fits) suits))
+returns-then-code-ne-NM_OK-clause-fits c admitted suits is = absurd (c.if-code-ne-NM_OK.true (c.plan_code-code.ensures.fits.1 (admitted, suits)))
 
 pub returns-then-code-ne-NM_OK-clause-bad_context : goal.returns-then-code-ne-NM_OK-clause-bad_context
-returns-then-code-ne-NM_OK-clause-bad_context c admitted suits none =
-    absurd (c.if-code-ne-NM_OK.true ((rw c.new.ensures at c.root_code-code.ensures.fits) suits))
+returns-then-code-ne-NM_OK-clause-bad_context c admitted suits none = absurd (c.if-code-ne-NM_OK.true (c.plan_code-code.ensures.fits.1 (admitted, suits)))
 
 pub returns-then-code-ne-NM_OK-clause-no_root : goal.returns-then-code-ne-NM_OK-clause-no_root
-returns-then-code-ne-NM_OK-clause-no_root c admitted none = (rw c.new.ensures at c.root_code-code.ensures.no_root) none
+returns-then-code-ne-NM_OK-clause-no_root c admitted none = c.plan_code-code.ensures.no_root admitted none
 
 pub returns-then-code-ne-NM_OK-clause-bad_argument : goal.returns-then-code-ne-NM_OK-clause-bad_argument
-returns-then-code-ne-NM_OK-clause-bad_argument c none = absurd (none (c.if-not-admits.ensures.0 refl))
+returns-then-code-ne-NM_OK-clause-bad_argument c none = c.plan_code-code.ensures.bad_argument none
 
 pub is_table-requires-clause-admitted : goal.is_table-requires-clause-admitted
-is_table-requires-clause-admitted c = c.if-not-admits.ensures.0 refl
+is_table-requires-clause-admitted c = (c.plan_code-code.ensures.fits.0 c.if-code-ne-NM_OK.false).0
 
 pub is_table-requires-clause-suits : goal.is_table-requires-clause-suits
-is_table-requires-clause-suits c = rw c.new.ensures at (c.root_code-code.ensures.suits c.if-code-ne-NM_OK.false)
+is_table-requires-clause-suits c = (c.plan_code-code.ensures.fits.0 c.if-code-ne-NM_OK.false).1
 
 pub returns-then-is_table-clause-fits : goal.returns-then-is_table-clause-fits
 returns-then-is_table-clause-fits c admitted suits is = refl
@@ -45,11 +27,10 @@ pub returns-then-is_table-clause-bad_context : goal.returns-then-is_table-clause
 returns-then-is_table-clause-bad_context c admitted suits none = absurd (none (c.if-is_table.ensures.0 refl))
 
 pub returns-then-is_table-clause-no_root : goal.returns-then-is_table-clause-no_root
-returns-then-is_table-clause-no_root c admitted none =
-    absurd (none (rw c.new.ensures at (c.root_code-code.ensures.suits c.if-code-ne-NM_OK.false)))
+returns-then-is_table-clause-no_root c admitted none = absurd (none (c.plan_code-code.ensures.fits.0 c.if-code-ne-NM_OK.false).1)
 
 pub returns-then-is_table-clause-bad_argument : goal.returns-then-is_table-clause-bad_argument
-returns-then-is_table-clause-bad_argument c none = absurd (none (c.if-not-admits.ensures.0 refl))
+returns-then-is_table-clause-bad_argument c none = absurd (none (c.plan_code-code.ensures.fits.0 c.if-code-ne-NM_OK.false).0)
 
 pub returns-else-is_table-clause-fits : goal.returns-else-is_table-clause-fits
 returns-else-is_table-clause-fits c admitted suits is = absurd (false≢true (c.if-is_table.ensures.1 is))
@@ -58,8 +39,7 @@ pub returns-else-is_table-clause-bad_context : goal.returns-else-is_table-clause
 returns-else-is_table-clause-bad_context c admitted suits none = refl
 
 pub returns-else-is_table-clause-no_root : goal.returns-else-is_table-clause-no_root
-returns-else-is_table-clause-no_root c admitted none =
-    absurd (none (rw c.new.ensures at (c.root_code-code.ensures.suits c.if-code-ne-NM_OK.false)))
+returns-else-is_table-clause-no_root c admitted none = absurd (none (c.plan_code-code.ensures.fits.0 c.if-code-ne-NM_OK.false).1)
 
 pub returns-else-is_table-clause-bad_argument : goal.returns-else-is_table-clause-bad_argument
-returns-else-is_table-clause-bad_argument c none = absurd (none (c.if-not-admits.ensures.0 refl))
+returns-else-is_table-clause-bad_argument c none = absurd (none (c.plan_code-code.ensures.fits.0 c.if-code-ne-NM_OK.false).0)
