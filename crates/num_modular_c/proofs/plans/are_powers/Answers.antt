@@ -6,6 +6,7 @@ use Rattle.modular_transform.proofs.BitReversal.{bits_reversed_below, bits_rever
 use Rattle.num_modular_c.proofs.PlanTables.{power_first, power_next}
 use Rattle.num_modular_c.proofs.plans.are_powers.Goals as goal
 use Rattle.num_modular_c.proofs.plans.are_powers.Goals.{After-next_reversed-place}
+use borrow.Author.Count.{falls}
 
 pub powers-init : goal.powers-init
 powers-init c = record {
@@ -66,3 +67,6 @@ returns c = (
       ∙ c.powers.invariant.passed (bits_reversed bits k) (omega (arith, below, c.requires.whole)),
   λ all. search rules,
 )
+
+pub powers-smaller : goal.powers-smaller
+powers-smaller c = falls _ _ c.powers-test.true

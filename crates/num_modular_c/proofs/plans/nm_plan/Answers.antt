@@ -39,3 +39,6 @@ returns-else-code-eq-NM_OK-clause-no_root c admitted none = (c.plan_code-code.en
 
 pub returns-else-code-eq-NM_OK-clause-bad_argument : goal.returns-else-code-eq-NM_OK-clause-bad_argument
 returns-else-code-eq-NM_OK-clause-bad_argument c none = (c.plan_code-code.ensures.bad_argument none, refl)
+
+pub overflow_mul-table : goal.overflow_mul-table
+overflow_mul-table c = omega (arith, c.well_formed.1.1.0.1)

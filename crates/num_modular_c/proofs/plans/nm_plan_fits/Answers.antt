@@ -1,4 +1,4 @@
-use Rattle.std.proofs.Common.{refl}
+use Rattle.std.proofs.Common.{arith, refl}
 use Rattle.std.proofs.lemmas.Bool.{false≢true}
 use Rattle.num_modular_c.proofs.plans.nm_plan_fits.Goals as goal
 
@@ -43,3 +43,6 @@ returns-else-is_table-clause-no_root c admitted none = absurd (none (c.plan_code
 
 pub returns-else-is_table-clause-bad_argument : goal.returns-else-is_table-clause-bad_argument
 returns-else-is_table-clause-bad_argument c none = absurd (none (c.plan_code-code.ensures.fits.0 c.if-code-ne-NM_OK.false).0)
+
+pub overflow_mul-table : goal.overflow_mul-table
+overflow_mul-table c = omega (arith, c.well_formed.1.1.0.1)
