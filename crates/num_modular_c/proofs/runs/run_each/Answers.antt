@@ -1,4 +1,4 @@
-use Rattle.std.proofs.Common.{◌≡◌, ◌∙◌, length, map, Some, IsFalse, IsTrue, sym, subst, arith, rules, below_more}
+use Rattle.std.proofs.Common.{◌≡◌, ◌∙◌, length, map, Some, IsFalse, IsTrue, refl, sym, subst, arith, rules, below_more}
 use Rattle.std.specs.List.{slice_get}
 use Rattle.std.proofs.lemmas.List.{length-map}
 use Rattle.num_modular.proofs.RunLemmas.{never_stops}
@@ -7,6 +7,8 @@ use Rattle.num_modular_c.specs.Commands.{ring_command_of}
 use Rattle.num_modular_c.proofs.Steps.{read_command, next_row, lacks_here, here_lacks, after_same, lacks_same}
 use Rattle.num_modular_c.proofs.runs.run_each.Goals as goal
 use Rattle.num_modular_c.proofs.runs.run_each.Goals.{After-step}
+use borrow.Author.Count.{falls}
+use borrow.Author.Rules.{scaled_Fits}
 
 -- the command that is carried out, and that it fits
 read : (g : _) (c : After-step g)
@@ -54,3 +56,27 @@ pub returns-clause-done : goal.returns-clause-done
 returns-clause-done g c all =
     let count = length-map c.args.commands.now ring_command_of in
     never_stops (λ j l. c.commands.invariant.passed j (omega (arith, count)))
+
+pub commands-init : goal.commands-init
+commands-init g c = record { checked = c.requires.checked; held = λ n l. refl; passed = λ j l. absurd (omega arith) }
+
+pub offset_bounds-commands-at : goal.offset_bounds-commands-at
+offset_bounds-commands-at g c = scaled_Fits _ _ _ c.commands-test.true c.well_formed.1.1.0.1
+
+pub step-requires-clause-checked : goal.step-requires-clause-checked
+step-requires-clause-checked g c = c.commands.invariant.checked
+
+pub returns-then-not-step-clause-checked : goal.returns-then-not-step-clause-checked
+returns-then-not-step-clause-checked g c = c.step.ensures.checked
+
+pub returns-then-not-step-clause-done : goal.returns-then-not-step-clause-done
+returns-then-not-step-clause-done g c all = absurd (omega (arith, all, c.commands-test.true))
+
+pub commands-smaller : goal.commands-smaller
+commands-smaller g c = falls _ _ c.commands-test.true
+
+pub returns-clause-checked : goal.returns-clause-checked
+returns-clause-checked g c = c.commands.invariant.checked
+
+pub returns-clause-stop : goal.returns-clause-stop
+returns-clause-stop g c l = absurd (omega (arith, l))

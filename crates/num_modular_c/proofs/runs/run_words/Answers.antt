@@ -1,6 +1,6 @@
-use Rattle.std.proofs.Common.{◌≡◌, ◌∙◌, ◌%◌, ap, map, refl, subst, arith}
+use Rattle.std.proofs.Common.{◌≡◌, ◌∙◌, ◌%◌, All, ap, map, refl, sym, subst, arith}
 use Rattle.num_modular.specs.Ring.{value_at, values_of, IsStop}
-use Rattle.num_modular_c.specs.Commands.{ring_command_of}
+use Rattle.num_modular_c.specs.Commands.{ring_command_of, IsAdmittedBy}
 use Rattle.num_modular_c.proofs.InPlace.{loaded}
 use Rattle.num_modular_c.proofs.runs.run_words.Goals as goal
 use Rattle.num_modular_c.proofs.runs.run_words.Goals.{After-load}
@@ -31,3 +31,16 @@ returns-clause-values g c =
       values = λ n l. c.unload.ensures n (omega arith) ∙ c.run_each-at.ensures.values n (omega arith)
           ∙ ap (λ s. value_at m s (map ring_command_of c.args.commands.now) c.run_each-at.result n) (start g at);
     }
+
+pub run_each-at-requires-clause-checked : goal.run_each-at-requires-clause-checked
+run_each-at-requires-clause-checked g c = c.load.ensures.checked
+
+pub run_each-at-requires-clause-admitted : goal.run_each-at-requires-clause-admitted
+run_each-at-requires-clause-admitted g c =
+    subst (λ n. All (IsAdmittedBy n) c.args.commands.now) (sym c.load.auto.xs) c.requires
+
+pub unload-requires : goal.unload-requires
+unload-requires g c = c.run_each-at.ensures.checked
+
+pub returns-clause-at_most : goal.returns-clause-at_most
+returns-clause-at_most g c = c.run_each-at.ensures.at_most
