@@ -31,7 +31,8 @@ const fn square_of_base(m: u64, width: u32) -> u64 {
     }
 }
 
-// `computed_once` of `odd_ring` in words of `width` bits, for odd m. Condition: the width is at most 32 bits, or 64.
+// `computed_once` of `odd_ring` in words of `width` bits, for odd m. Conditions: the width is from 8 to 32 bits, or 64,
+// and m fits it.
 #[inline]
 pub(crate) const fn computed_once(m: u64, width: u32) -> (u64, u64) {
     if m == 0 {
