@@ -10,6 +10,14 @@ pub fn remainder<T: RingWord, R: Reducer<T>>(ring: &R, n: T) -> T {
     ring.residue(ring.transform(n))
 }
 
+// The residue of a sum modulo m, by the reducer of m.
+fn sum<T: RingWord, R: Reducer<T> + Copy>(m: T, x: T, y: T) -> T
+    requires { R.admits (T.number m) }
+{
+    let ring = R::new(&m);
+    ring.residue(ring.add(&ring.transform(x), &ring.transform(y)))
+}
+
 /// The residue of a product modulo m, by the reducer of m.
 pub fn product<T: RingWord, R: Reducer<T> + Copy>(m: T, x: T, y: T) -> T
     requires { R.admits (T.number m) }
@@ -50,13 +58,6 @@ fn edges<T: RingWord, R: Reducer<T> + Copy>(m: T, last: T, greatest: T) -> [T; 6
     ]
 }
 
-/// Whether they are these.
-pub fn has_edges<T: RingWord, R: Reducer<T> + Copy>(m: T, words: (T, T), want: [T; 6]) -> bool
-    requires { R.admits (T.number m) }
-{
-    edges::<T, R>(m, words.0, words.1) == want
-}
-
 /// The residues of a sum, a difference, a product, a double, a negative and a square.
 pub fn residues<T: RingWord, R: Reducer<T>>(ring: &R, x: T, y: T) -> [T; 6] {
     let a = ring.transform(x);
@@ -71,11 +72,52 @@ pub fn residues<T: RingWord, R: Reducer<T>>(ring: &R, x: T, y: T) -> [T; 6] {
     ]
 }
 
-/// Whether those by the reducer of m are these.
-pub fn has_residues<T: RingWord, R: Reducer<T> + Copy>(m: T, words: (T, T), want: [T; 6]) -> bool
+// Whether two words are forms of the reducer of m, and whether the value of a number's form is 0.
+fn checks<T: RingWord, R: Reducer<T> + Copy>(m: T, words: (T, T), multiple: T) -> [bool; 3]
     requires { R.admits (T.number m) }
 {
-    residues(&R::new(&m), words.0, words.1) == want
+    let ring = R::new(&m);
+    [
+        ring.check(&words.0),
+        ring.check(&words.1),
+        ring.is_zero(&ring.transform(multiple)),
+    ]
+}
+
+/// A question about a reducer, and what is right.
+pub enum Row<T> {
+    /// Two numbers, and the residue of their sum.
+    Sum((T, T), T),
+    /// Two numbers, and the residue of their product.
+    Product((T, T), T),
+    /// A number and its form.
+    Form(T, T),
+    /// A number and its residue.
+    Remainder(T, T),
+    /// m - 1, a greatest word, and the edges.
+    Edges((T, T), [T; 6]),
+    /// Two numbers, and the residues of the operations with them.
+    Residues((T, T), [T; 6]),
+    /// A number, and the form of its inverse.
+    Inverse(T, Option<T>),
+    /// Two words and a number, and what the checks of them return.
+    Checks((T, T), T, [bool; 3]),
+}
+
+/// Whether the row is right of the reducer of m.
+pub fn is_right<T: RingWord, R: Reducer<T> + Copy>(m: T, row: Row<T>) -> bool
+    requires { R.admits (T.number m) }
+{
+    match row {
+        Row::Sum(words, want) => sum::<T, R>(m, words.0, words.1) == want,
+        Row::Product(words, want) => product::<T, R>(m, words.0, words.1) == want,
+        Row::Form(n, want) => R::new(&m).transform(n) == want,
+        Row::Remainder(n, want) => remainder(&R::new(&m), n) == want,
+        Row::Edges(words, want) => edges::<T, R>(m, words.0, words.1) == want,
+        Row::Residues(words, want) => residues(&R::new(&m), words.0, words.1) == want,
+        Row::Inverse(x, want) => inverse::<T, R>(m, x) == want,
+        Row::Checks(words, multiple, want) => checks::<T, R>(m, words, multiple) == want,
+    }
 }
 
 // A number modulo m.

@@ -1,19 +1,7 @@
 //! Known values of the reducers and of their reductions.
 
-use crate::reducer_tests::tests::residues::{has_edges, has_residues, inverse};
+use crate::reducer_tests::tests::residues::{Row, is_right};
 use num_modular::modular_folds::mersenne::{FixedMersenne, FixedMersenne32, FixedMersenne64};
-use num_modular::modular_reduced::reducer::Reducer;
-use num_modular::modular_word::ring_word::RingWord;
-
-/// Whether two words are forms of the reducer of m, and whether the value of a number's form is 0.
-pub fn checks<T: RingWord, R: Reducer<T> + Copy>(m: T, last: T, other: T, multiple: T) -> [bool; 3] {
-    let ring = R::new(&m);
-    [
-        ring.check(&last),
-        ring.check(&other),
-        ring.is_zero(&ring.transform(multiple)),
-    ]
-}
 
 #[test]
 fn greatest_words_and_counts() {
@@ -61,52 +49,60 @@ fn moduli() {
     );
 }
 
-// One function, as each that names reducers pays for what they have in common.
+// Whether the row is right of the reducer of m = 2^P - K. Generic in the parameters, as each call with a known reducer
+// takes long to prove.
+fn is_right_32<const P: u8, const K: u32>(m: u32, row: Row<u32>) -> bool {
+    is_right::<u32, FixedMersenne32<P, K>>(m, row)
+}
+
+fn is_right_64<const P: u8, const K: u64>(m: u64, row: Row<u64>) -> bool {
+    is_right::<u64, FixedMersenne64<P, K>>(m, row)
+}
+
+fn is_right_128<const P: u8, const K: u64>(m: u128, row: Row<u128>) -> bool {
+    is_right::<u128, FixedMersenne<P, K>>(m, row)
+}
+
 #[test]
 fn edges_and_operations() {
     let rt = crate::runtime::HostRuntime;
     let rt = &rt;
     let (m, last) = (18446744073709551557, 18446744073709551556);
-    check!(rt, 1; has_edges::<u32, FixedMersenne32<2, 1>>(3, (2, u32::MAX), [0, 1, 2, 0, 0, 1]));
-    check!(rt, 2;
-        has_edges::<u32, FixedMersenne32<32, 5>>(4294967291, (4294967290, u32::MAX), [0, 1, 4294967290, 0, 4, 1])
-    );
-    check!(rt, 3; has_edges::<u64, FixedMersenne64<64, 59>>(m, (last, u64::MAX), [0, 1, last, 0, 58, 1]));
+    check!(rt, 1; is_right_32::<2, 1>(3, Row::Edges((2, u32::MAX), [0, 1, 2, 0, 0, 1])));
+    check!(rt, 2; is_right_32::<32, 5>(4294967291, Row::Edges((4294967290, u32::MAX), [0, 1, 4294967290, 0, 4, 1])));
+    check!(rt, 3; is_right_64::<64, 59>(m, Row::Edges((last, u64::MAX), [0, 1, last, 0, 58, 1])));
     let (m, last) = (18446744073709551557, 18446744073709551556);
-    check!(rt, 4; has_edges::<u128, FixedMersenne<64, 59>>(m, (last, u128::MAX), [0, 1, last, 0, 3480, 1]));
-    check!(rt, 5;
-        has_residues::<u32, FixedMersenne32<13, 1>>(8191, (100, 200), [300, 8091, 3618, 200, 8091, 1809])
-    );
-    check!(rt, 6; has_residues::<u32, FixedMersenne32<4, 7>>(9, (5, 7), [3, 7, 8, 1, 4, 7]));
+    check!(rt, 4; is_right_128::<64, 59>(m, Row::Edges((last, u128::MAX), [0, 1, last, 0, 3480, 1])));
+    check!(rt, 5; is_right_32::<13, 1>(8191, Row::Residues((100, 200), [300, 8091, 3618, 200, 8091, 1809])));
+    check!(rt, 6; is_right_32::<4, 7>(9, Row::Residues((5, 7), [3, 7, 8, 1, 4, 7])));
     check!(rt, 7;
-        has_residues::<u64, FixedMersenne64<61, 1>>(
+        is_right_64::<61, 1>(
             2305843009213693951,
-            (1000, 2000),
-            [
-                3000,
-                2305843009213692951,
-                2000000,
-                2000,
-                2305843009213692951,
-                1000000
-            ]
+            Row::Residues(
+                (1000, 2000),
+                [
+                    3000,
+                    2305843009213692951,
+                    2000000,
+                    2000,
+                    2305843009213692951,
+                    1000000
+                ]
+            )
         )
     );
     check!(rt, 8;
-        has_residues::<u128, FixedMersenne<31, 1>>(
+        is_right_128::<31, 1>(
             2147483647,
-            (1000, 2000),
-            [3000, 2147482647, 2000000, 2000, 2147482647, 1000000]
+            Row::Residues((1000, 2000), [3000, 2147482647, 2000000, 2000, 2147482647, 1000000])
         )
     );
-    type Small = FixedMersenne32<4, 1>;
-    check!(rt, 9; inverse::<u32, Small>(15, 7) == Some(13));
-    check!(rt, 10; inverse::<u32, Small>(15, 5) == None);
-    check!(rt, 11; checks::<u32, Small>(15, 14, 15, 30) == [true, false, true]);
-    type Wide = FixedMersenne<4, 1>;
-    check!(rt, 12; inverse::<u128, Wide>(15, 7) == Some(13));
-    check!(rt, 13; inverse::<u128, Wide>(15, 5) == None);
-    check!(rt, 14; checks::<u128, Wide>(15, 14, 15, 30) == [true, false, true]);
-    check!(rt, 15; checks::<u128, Wide>(15, 14, u128::MAX, 30) == [true, false, true]);
-    check!(rt, 16; inverse::<u64, FixedMersenne64<64, 59>>(18446744073709551557, 2) == Some(9223372036854775779));
+    check!(rt, 9; is_right_32::<4, 1>(15, Row::Inverse(7, Some(13))));
+    check!(rt, 10; is_right_32::<4, 1>(15, Row::Inverse(5, None)));
+    check!(rt, 11; is_right_32::<4, 1>(15, Row::Checks((14, 15), 30, [true, false, true])));
+    check!(rt, 12; is_right_128::<4, 1>(15, Row::Inverse(7, Some(13))));
+    check!(rt, 13; is_right_128::<4, 1>(15, Row::Inverse(5, None)));
+    check!(rt, 14; is_right_128::<4, 1>(15, Row::Checks((14, 15), 30, [true, false, true])));
+    check!(rt, 15; is_right_128::<4, 1>(15, Row::Checks((14, u128::MAX), 30, [true, false, true])));
+    check!(rt, 16; is_right_64::<64, 59>(18446744073709551557, Row::Inverse(2, Some(9223372036854775779))));
 }
