@@ -8,6 +8,7 @@ use num_modular::{
     FixedMersenne, FixedMersenne32, FixedMersenne64, FixedMontgomery32, FixedProth32, FixedProth64,
     FixedTrinomialSolinas32, FixedTrinomialSolinas64, Reducer, Vanilla,
 };
+use crate::runtime::Abort;
 
 // The residues of 0, 1, m - 1, m and a greatest word, m being the modulus, and that of (m - 1)^2.
 fn edges<T: RingWord, R: Reducer<T>>(ring: &R, last: T, greatest: T) -> [T; 6] {
@@ -136,24 +137,38 @@ fn plain_reducers_of_32_bits() {
     }
 }
 
-// One function, as each that names reducers pays for what they have in common.
+// What is shown of reducers by folds and of Proth numbers is generic in the parameters, as each call with a known reducer
+// takes long to prove.
+
+fn shows_trinomial<const P1: u8, const P2: u8, const K: i32>(m: u32, row: &Row<u32>) -> bool {
+    shows_32::<FixedTrinomialSolinas32<P1, P2, K>>(m, row)
+}
+
+fn shows_mersenne<const P: u8, const K: u32>(m: u32, row: &Row<u32>) -> bool {
+    shows_32::<FixedMersenne32<P, K>>(m, row)
+}
+
+fn shows_proth<const N: u8, const K: u8>(m: u32, row: &Row<u32>) -> bool {
+    shows_32::<FixedProth32<N, K>>(m, row)
+}
+
 #[test]
 fn fixed_moduli_of_32_bits() {
     let rt = crate::runtime::HostRuntime;
     let rt = &rt;
     check!(rt, 1; shows_32::<FixedMontgomery32<1>>(1, &MODULO_1));
     // by folds
-    check!(rt, 2; shows_32::<FixedTrinomialSolinas32<2, 1, -1>>(1, &MODULO_1));
-    check!(rt, 3; shows_32::<FixedTrinomialSolinas32<5, 4, -3>>(13, &MODULO_13));
-    check!(rt, 4; shows_32::<FixedTrinomialSolinas32<4, 2, 1>>(13, &MODULO_13));
-    check!(rt, 5; shows_32::<FixedTrinomialSolinas32<32, 31, -1>>(2147483647, &MODULO_2147483647));
-    check!(rt, 6; shows_32::<FixedMersenne32<2, 1>>(3, &MODULO_3));
-    check!(rt, 7; shows_32::<FixedMersenne32<32, 5>>(4294967291, &MODULO_4294967291));
+    check!(rt, 2; shows_trinomial::<2, 1, -1>(1, &MODULO_1));
+    check!(rt, 3; shows_trinomial::<5, 4, -3>(13, &MODULO_13));
+    check!(rt, 4; shows_trinomial::<4, 2, 1>(13, &MODULO_13));
+    check!(rt, 5; shows_trinomial::<32, 31, -1>(2147483647, &MODULO_2147483647));
+    check!(rt, 6; shows_mersenne::<2, 1>(3, &MODULO_3));
+    check!(rt, 7; shows_mersenne::<32, 5>(4294967291, &MODULO_4294967291));
     // Proth numbers
-    check!(rt, 8; shows_32::<FixedProth32<1, 1>>(3, &MODULO_3));
-    check!(rt, 9; shows_32::<FixedProth32<23, 255>>(2139095041, &MODULO_2139095041));
-    check!(rt, 10; shows_32::<FixedProth32<31, 1>>(2147483649, &MODULO_2147483649));
-    check!(rt, 11; shows_32::<FixedProth32<28, 9>>(2415919105, &MODULO_2415919105));
+    check!(rt, 8; shows_proth::<1, 1>(3, &MODULO_3));
+    check!(rt, 9; shows_proth::<23, 255>(2139095041, &MODULO_2139095041));
+    check!(rt, 10; shows_proth::<31, 1>(2147483649, &MODULO_2147483649));
+    check!(rt, 11; shows_proth::<28, 9>(2415919105, &MODULO_2415919105));
 }
 
 const MODULO_9223372036854775809: Row<u64> = Row { m: 9223372036854775809, last: 9223372036854775808,
@@ -196,18 +211,20 @@ fn fixed_moduli_of_64_bits() {
     check!(rt, 4; shows_64::<FixedMersenne64<64, 59>>(m, &MODULO_18446744073709551557));
 }
 
-// The commands with the greatest word of 64 bits, and the edges with that of 128.
+// The commands with the greatest word of 64 bits, and the edges with that of 128, last being m - 1.
+fn assert_wide<R: Reducer<u128>>(rt: &impl Abort, ring: &R, last: u128) {
+    check!(rt, 1; edges(ring, last, u128::MAX) == [0, 1, last, 0, 3480, 1]);
+    let list = few_commands(last, u128::MAX);
+    check!(rt, 2; ends_with(ring, &list, STOPPED_EARLY, [3480, last, 1, 0, 0]));
+    let list = commands(last, u64::MAX as u128);
+    let residues = [0, last, 1, 59, 4959809447704153900];
+    check!(rt, 3; ends_with(ring, &list, STOPPED, residues));
+    check!(rt, 4; ends_with(ring, &list[..0], RunEnd::Done, [0; 5]));
+}
+
 #[test]
 fn over_words_of_128_bits() {
     let rt = crate::runtime::HostRuntime;
-    let rt = &rt;
-    let last = 18446744073709551556;
     let ring = FixedMersenne::<64, 59>::new(&18446744073709551557);
-    check!(rt, 1; edges(&ring, last, u128::MAX) == [0, 1, last, 0, 3480, 1]);
-    let list = few_commands(last, u128::MAX);
-    check!(rt, 2; ends_with(&ring, &list, STOPPED_EARLY, [3480, last, 1, 0, 0]));
-    let list = commands(last, u64::MAX as u128);
-    let residues = [0, last, 1, 59, 4959809447704153900];
-    check!(rt, 3; ends_with(&ring, &list, STOPPED, residues));
-    check!(rt, 4; ends_with(&ring, &list[..0], RunEnd::Done, [0; 5]));
+    assert_wide(&rt, &ring, 18446744073709551556);
 }
