@@ -163,37 +163,20 @@ fn tests_of_calls<R: Reducer<u8>>(reducer: &R, a: u8) -> (bool, bool, bool) {
     )
 }
 
-// What they return for 5 and 7 and for a, and the modulus. A call with a known reducer takes long to prove.
-fn all_calls<R: Reducer<u8>>(
-    reducer: &R,
-    a: u8,
-) -> (([[u8; 2]; 3], [u8; 4]), (bool, bool, bool), u8) {
-    (
-        residues_of_calls(reducer, 5, 7),
-        tests_of_calls(reducer, a),
-        reducer.modulus(),
-    )
-}
-
 #[test]
 fn each_call_of_a_reducer(rt: HostRuntime) {
     let residues = ([[12, 12], [19, 19], [14, 14]], [10, 16, 4, 20]);
     let plain = num_modular::reduced::Vanilla::<u8>::new(&21);
     let scaled = num_modular::barrett::PreMulInv2by1::<u8>::new(21);
     let odd = num_modular::monty::Montgomery::<u8>::new(21);
-    let (plain, scaled, odd) = (
-        all_calls(&plain, 21),
-        all_calls(&scaled, 5),
-        all_calls(&odd, 7),
-    );
     let found = (
-        plain.0,
-        scaled.0,
-        odd.0,
-        plain.1,
-        scaled.1,
-        odd.1,
-        (plain.2, scaled.2, odd.2),
+        residues_of_calls(&plain, 5, 7),
+        residues_of_calls(&scaled, 5, 7),
+        residues_of_calls(&odd, 5, 7),
+        tests_of_calls(&plain, 21),
+        tests_of_calls(&scaled, 5),
+        tests_of_calls(&odd, 7),
+        (plain.modulus(), scaled.modulus(), odd.modulus()),
     );
     check!(&rt, 1;
         found
