@@ -40,18 +40,10 @@ fn tests<T: RingWord, R: Reducer<T> + Copy>(a: ReducedInt<T, R>, exp: T) -> (T, 
     (a.pow(&exp).residue(), a.inv().is_some(), a.is_zero())
 }
 
-// All of these. Calls with an integer of a known reducer take long to prove, so that each test makes few of them.
-fn everything<T: RingWord, R: Reducer<T> + Copy>(
-    a: ReducedInt<T, R>,
-    n: T,
-    exp: T,
-) -> (([T; 3], bool), [T; 2], (T, bool, bool)) {
-    (parts(a, n), multiples(a), tests(a, exp))
-}
-
 #[test]
 fn integers_by_plain_reduction(rt: HostRuntime) {
-    let found = everything(VanillaInt::<u8>::new(255, &21), 3, 3);
+    let a = VanillaInt::<u8>::new(255, &21);
+    let found = (parts(a, 3), multiples(a), tests(a, 3));
     check!(&rt, 1; found == (([3, 3, 21], true), [6, 9], (6, false, false)));
 }
 
@@ -60,37 +52,21 @@ fn difference<T: RingWord, R: Reducer<T> + Copy>(a: ReducedInt<T, R>, n: T) -> [
     [(a - n).residue(), (-a).residue()]
 }
 
-// The residue of x + n of the first integer; of (y * k), (y - i) and -y of the second; and of z * j of the third.
-fn of_three<T: RingWord, R: Reducer<T> + Copy>(
-    integers: (ReducedInt<T, R>, ReducedInt<T, R>, ReducedInt<T, R>),
-    words: (T, (T, T), T),
-) -> (T, (T, [T; 2], T)) {
-    let (x, y, z) = integers;
-    let (n, (k, i), j) = words;
-    (sum(x, n), (product(y, k), difference(y, i), product(z, j)))
-}
-
 #[test]
 fn integers_by_montgomery_forms(rt: HostRuntime) {
     let rt = &rt;
+    check!(rt, 1; sum(MontgomeryInt::<u8>::new(5, &11), 6) == 0);
     let x = MontgomeryInt::<u8>::new(12, &5);
     let even = MontgomeryInt::<u8>::new(7, &20);
-    let found = of_three((MontgomeryInt::<u8>::new(5, &11), x, even), (6, (13, 3), 9));
-    check!(rt, 1; found.0 == 0);
-    check!(rt, 2; found.1 == (1, [4, 3], 3));
-}
-
-// The residues of a sum and of a product with a word, and the modulus.
-fn sum_and_product<T: RingWord, R: Reducer<T> + Copy>(a: ReducedInt<T, R>, n: T) -> (T, T, T) {
-    (sum(a, n), product(a, n), modulus(a))
+    let found = (product(x, 13), difference(x, 3), product(even, 9));
+    check!(rt, 2; found == (1, [4, 3], 3));
 }
 
 #[test]
 fn integers_of_fixed_montgomery_forms(rt: HostRuntime) {
     let rt = &rt;
     let x = FixedMontgomeryInt32::<17>::new(3, &17);
-    let found = sum_and_product(x, 5);
-    check!(rt, 1; (found.1, found.2) == (15, 17));
+    check!(rt, 1; (product(x, 5), modulus(x)) == (15, 17));
     let x = FixedMontgomeryInt64::<97>::new(10, &97);
     check!(rt, 2; product(x, 20) == 6);
 }
@@ -99,8 +75,7 @@ fn integers_of_fixed_montgomery_forms(rt: HostRuntime) {
 fn integers_modulo_proth_numbers(rt: HostRuntime) {
     let rt = &rt;
     let x = FixedProthInt32::<4, 1>::new(3, &17);
-    let found = sum_and_product(x, 5);
-    check!(rt, 1; (found.0, found.1) == (8, 15));
+    check!(rt, 1; (sum(x, 5), product(x, 5)) == (8, 15));
     let x = FixedProthInt64::<5, 3>::new(10, &97);
     check!(rt, 2; product(x, 20) == 6);
 }
@@ -108,8 +83,7 @@ fn integers_modulo_proth_numbers(rt: HostRuntime) {
 #[test]
 fn integers_modulo_mersenne_numbers(rt: HostRuntime) {
     let a = FixedMersenneInt32::<13, 1>::new(100, &8191);
-    let found = sum_and_product(a, 200);
-    check!(&rt, 1; (found.0, found.2) == (300, 8191));
+    check!(&rt, 1; (sum(a, 200), modulus(a)) == (300, 8191));
 }
 
 #[test]
@@ -129,8 +103,7 @@ fn integers_modulo_wide_mersenne_numbers(rt: HostRuntime) {
 fn integers_modulo_solinas_numbers(rt: HostRuntime) {
     let rt = &rt;
     let a = FixedSolinasInt32::<4, 2, 1>::new(3, &13);
-    let found = sum_and_product(a, 5);
-    check!(rt, 1; (found.0, found.2) == (8, 13));
+    check!(rt, 1; (sum(a, 5), modulus(a)) == (8, 13));
     let a = FixedSolinasInt64::<6, 2, 1>::new(10, &61);
     check!(rt, 2; product(a, 20) == 17);
 }
