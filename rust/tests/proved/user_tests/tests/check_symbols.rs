@@ -5,23 +5,6 @@ use num_modular::applications::ring_codes::{
     iban_digits, standard_codes,
 };
 
-// The standards that tests name several times: a proof writes a constant out wherever it is named.
-fn isbn_10() -> Code<'static> {
-    ISBN_10
-}
-
-fn isbn_13() -> Code<'static> {
-    ISBN_13
-}
-
-fn ean_13() -> Code<'static> {
-    EAN_13
-}
-
-fn issn() -> Code<'static> {
-    ISSN
-}
-
 // The symbols of a text, at most 13: X is 10, and a hyphen is skipped.
 #[derive(Clone, Copy)]
 struct Symbols {
@@ -108,14 +91,14 @@ fn finds_one_exchange(code: Code<'_>, text: &[u8], place: usize) -> Option<bool>
 fn numbers_of_each_standard() {
     let rt = crate::runtime::HostRuntime;
     let rt = &rt;
-    check!(rt, 1; keeps_text(isbn_10(), b"0306406152"));
-    check!(rt, 2; keeps_text(isbn_10(), b"080442957X"));
-    check!(rt, 3; keeps_text(isbn_13(), b"9780306406157"));
-    check!(rt, 4; keeps_text(ean_13(), b"4006381333931"));
+    check!(rt, 1; keeps_text(ISBN_10, b"0306406152"));
+    check!(rt, 2; keeps_text(ISBN_10, b"080442957X"));
+    check!(rt, 3; keeps_text(ISBN_13, b"9780306406157"));
+    check!(rt, 4; keeps_text(EAN_13, b"4006381333931"));
     check!(rt, 5; keeps_text(EAN_8, b"73513537"));
     check!(rt, 6; keeps_text(UPC_A, b"036000291452"));
-    check!(rt, 7; keeps_text(issn(), b"0378-5955"));
-    check!(rt, 8; keeps_text(issn(), b"2434-561X"));
+    check!(rt, 7; keeps_text(ISSN, b"0378-5955"));
+    check!(rt, 8; keeps_text(ISSN, b"2434-561X"));
     let mut word = ACCOUNT;
     check!(rt, 9; keeps(iban_code(28), &mut word));
 }
@@ -128,12 +111,12 @@ fn words_of_another_form() {
         check!(rt, 1; !code.accepts(&[]) && !code.accepts(&[0]));
     }
     // the weighted sum of each is 0 modulo 11: 11 for 0, 14 for 3, and an X before the last place
-    check!(rt, 2; !isbn_10().accepts(&[11, 3, 0, 6, 4, 0, 6, 1, 5, 2]));
-    check!(rt, 3; !isbn_10().accepts(&[0, 14, 0, 6, 4, 0, 6, 1, 5, 2]));
-    check!(rt, 4; !accepts(isbn_10(), b"X000000050") && !accepts(isbn_10(), b"X00000000X"));
-    check!(rt, 5; !accepts(issn(), b"000X-0005"));
+    check!(rt, 2; !ISBN_10.accepts(&[11, 3, 0, 6, 4, 0, 6, 1, 5, 2]));
+    check!(rt, 3; !ISBN_10.accepts(&[0, 14, 0, 6, 4, 0, 6, 1, 5, 2]));
+    check!(rt, 4; !accepts(ISBN_10, b"X000000050") && !accepts(ISBN_10, b"X00000000X"));
+    check!(rt, 5; !accepts(ISSN, b"000X-0005"));
     // the number of a book is an article's, and not each article's is a book's
-    check!(rt, 6; accepts(ean_13(), b"9780306406157") && !accepts(isbn_13(), b"4006381333931"));
+    check!(rt, 6; accepts(EAN_13, b"9780306406157") && !accepts(ISBN_13, b"4006381333931"));
 }
 
 #[test]
@@ -141,11 +124,11 @@ fn exchanges_of_neighbours() {
     let rt = crate::runtime::HostRuntime;
     let rt = &rt;
     // 0 and 3 of a book; 3 and 8 of an article, which differ by 5, and 8 and 1
-    check!(rt, 1; finds_one_exchange(isbn_10(), b"0306406152", 0) == Some(true));
-    check!(rt, 2; finds_one_exchange(ean_13(), b"4006381333931", 4) == Some(false));
-    check!(rt, 3; finds_one_exchange(ean_13(), b"4006381333931", 5) == Some(true));
-    check!(rt, 4; finds_one_exchange(isbn_13(), b"9780306406157", 2) == Some(true));
-    check!(rt, 5; accepts(ean_13(), b"4006831333931") && !ean_13().can_restore(5));
+    check!(rt, 1; finds_one_exchange(ISBN_10, b"0306406152", 0) == Some(true));
+    check!(rt, 2; finds_one_exchange(EAN_13, b"4006381333931", 4) == Some(false));
+    check!(rt, 3; finds_one_exchange(EAN_13, b"4006381333931", 5) == Some(true));
+    check!(rt, 4; finds_one_exchange(ISBN_13, b"9780306406157", 2) == Some(true));
+    check!(rt, 5; accepts(EAN_13, b"4006831333931") && !EAN_13.can_restore(5));
     if iban_code(28).accepts(&ACCOUNT) {
         check!(rt, 6; iban_code(28).finds_exchange(&ACCOUNT, 26));
     }
