@@ -75,25 +75,28 @@ fn encoded(system: ResidueSystem<'_>, number: u128) -> [u64; 8] {
     residues
 }
 
-fn sums_of(system: ResidueSystem<'_>, left: &[u64; 8], right: &[u64; 8]) -> [u64; 8] {
-    let mut sums = [0u64; 8];
-    let count = system.moduli.len();
-    system.add(&left[..count], &right[..count], &mut sums[..count]);
-    sums
+enum Operation {
+    Add,
+    Sub,
+    Mul,
 }
 
-fn differences_of(system: ResidueSystem<'_>, left: &[u64; 8], right: &[u64; 8]) -> [u64; 8] {
-    let mut differences = [0u64; 8];
+// The results of an operation with two lists of residues, followed by zeros.
+fn results_of(
+    system: ResidueSystem<'_>,
+    operation: Operation,
+    left: &[u64; 8],
+    right: &[u64; 8],
+) -> [u64; 8] {
+    let mut results = [0u64; 8];
     let count = system.moduli.len();
-    system.sub(&left[..count], &right[..count], &mut differences[..count]);
-    differences
-}
-
-fn products_of(system: ResidueSystem<'_>, left: &[u64; 8], right: &[u64; 8]) -> [u64; 8] {
-    let mut products = [0u64; 8];
-    let count = system.moduli.len();
-    system.mul(&left[..count], &right[..count], &mut products[..count]);
-    products
+    let (left, right) = (&left[..count], &right[..count]);
+    match operation {
+        Operation::Add => system.add(left, right, &mut results[..count]),
+        Operation::Sub => system.sub(left, right, &mut results[..count]),
+        Operation::Mul => system.mul(left, right, &mut results[..count]),
+    }
+    results
 }
 
 // Whether the sums, differences and products of the residues of x and y are the residues of the results.
@@ -102,9 +105,9 @@ fn computes(moduli: &[u64], x: u128, y: u128, results: [u128; 3]) -> bool {
         return false;
     };
     let (left, right) = (encoded(system, x), encoded(system, y));
-    sums_of(system, &left, &right) == encoded(system, results[0])
-        && differences_of(system, &left, &right) == encoded(system, results[1])
-        && products_of(system, &left, &right) == encoded(system, results[2])
+    results_of(system, Operation::Add, &left, &right) == encoded(system, results[0])
+        && results_of(system, Operation::Sub, &left, &right) == encoded(system, results[1])
+        && results_of(system, Operation::Mul, &left, &right) == encoded(system, results[2])
 }
 
 #[test]
