@@ -180,10 +180,10 @@ fn quotient<T: RingWord, R: Reducer<T>>(r: &R, a: &T, b: T) -> Option<T> {
     Some(r.mul(a, &inverse))
 }
 
-// The form that a command writes; `None` exactly where its inverse doesn't exist.
+// The form that a command writes; `None` exactly where its inverse doesn't exist. Condition: the command is no sum,
+// difference or product, since `run` computes these itself.
 //
-// Kept out of line, so that the loop of `run` stays small. `run` computes sums, differences and products itself; their
-// arm here makes the match exhaustive.
+// Kept out of line, so that the loop of `run` stays small.
 #[inline(never)]
 fn computed_form<T: RingWord, R: Reducer<T>>(
     r: &R,
@@ -192,10 +192,8 @@ fn computed_form<T: RingWord, R: Reducer<T>>(
 ) -> Option<T> {
     match command {
         RingCommand::Load { n, .. } => Some(r.transform(*n)),
-        RingCommand::Add { a, b, .. }
-        | RingCommand::Sub { a, b, .. }
-        | RingCommand::Mul { a, b, .. } => {
-            Some(combined_form(r, regs, &unwritten(regs), command, *a, *b))
+        RingCommand::Add { .. } | RingCommand::Sub { .. } | RingCommand::Mul { .. } => {
+            panic!("the command must be no sum, difference or product, since `run` computes these itself")
         }
         RingCommand::Neg { a, .. } => Some(r.neg(regs[*a])),
         RingCommand::Dbl { a, .. } => Some(r.dbl(regs[*a])),
@@ -241,31 +239,11 @@ fn write<T: RingWord>(regs: &mut [T], last: &mut Last<T>, dst: usize, form: T) {
     last.form = form;
 }
 
-// The form of the sum, the difference or the product of the registers a and b, as the command says.
-//
-// Only the first operand is looked for in `last`: the test takes time in every command.
-#[inline(always)]
-fn combined_form<T: RingWord, R: Reducer<T>>(
-    r: &R,
-    regs: &[T],
-    last: &Last<T>,
-    command: &RingCommand<T>,
-    a: usize,
-    b: usize,
-) -> T {
-    // Before the match, so that the three operations share this code.
-    let x = held(regs, last, a);
-    match command {
-        RingCommand::Add { .. } => r.add(&x, &regs[b]),
-        RingCommand::Sub { .. } => r.sub(&x, &regs[b]),
-        _ => r.mul(&x, &regs[b]),
-    }
-}
-
 // Carries out a command; false exactly where its inverse doesn't exist, and then nothing is written.
 //
 // Inlined into the loop of `run`. Sums, differences and products are computed here, since a call for each of them would
-// take as long as the command.
+// take as long as the command. Each has an arm of its own up to the write, which takes fewer jumps. Only the first
+// operand is looked for in `last`: the test takes time in every command.
 #[inline(always)]
 fn carry_out<T: RingWord, R: Reducer<T>>(
     r: &R,
@@ -274,10 +252,18 @@ fn carry_out<T: RingWord, R: Reducer<T>>(
     command: &RingCommand<T>,
 ) -> bool {
     match *command {
-        RingCommand::Add { dst, a, b }
-        | RingCommand::Sub { dst, a, b }
-        | RingCommand::Mul { dst, a, b } => {
-            let form = combined_form(r, regs, last, command, a, b);
+        RingCommand::Add { dst, a, b } => {
+            let form = r.add(&held(regs, last, a), &regs[b]);
+            write(regs, last, dst, form);
+            true
+        }
+        RingCommand::Sub { dst, a, b } => {
+            let form = r.sub(&held(regs, last, a), &regs[b]);
+            write(regs, last, dst, form);
+            true
+        }
+        RingCommand::Mul { dst, a, b } => {
+            let form = r.mul(&held(regs, last, a), &regs[b]);
             write(regs, last, dst, form);
             true
         }

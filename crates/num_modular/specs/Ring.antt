@@ -106,9 +106,9 @@ IsFormOf number form m None (Some f) = ⊥
 abbrev pub IsHeldAt : {T : Type 0} → List T → ℕ → T → Type 0
 IsHeldAt registers n form = n < length registers → form ≡ slice_index_or registers n form
 
--- the command writes the sum, the difference or the product of the registers a and b
-abbrev pub Combines : {T : Type 0} → ℕ → ℕ → RingCommand T → Type 0
-Combines a b (Add dst x y) = (x ≡ a) × (y ≡ b)
-Combines a b (Sub dst x y) = (x ≡ a) × (y ≡ b)
-Combines a b (Mul dst x y) = (x ≡ a) × (y ≡ b)
-Combines a b _ = ⊥
+-- the command writes a sum, a difference or a product
+abbrev pub Combines : {T : Type 0} → RingCommand T → Type 0
+Combines (Add dst a b) = Unit {0}
+Combines (Sub dst a b) = Unit {0}
+Combines (Mul dst a b) = Unit {0}
+Combines _ = ⊥
