@@ -43,8 +43,8 @@ LOOKS = {
         (DEBUG, "crate::additions::root_fits_plan(m, g, table.len())"),
     ),
     ("modular_plan/split", "split"): (IN_ROOM, SPLITS, FACTORS),
-    ("modular_plan_products/join", "join"): (IN_ROOM, SPLITS, FACTORS),
-    ("modular_plan_products/join", "join_scaled"): (IN_ROOM, SPLITS, FACTORS, (DEBUG, "crate::additions::is_factor(m, w)")),
+    ("modular_plan_joins/join", "join"): (IN_ROOM, SPLITS, FACTORS),
+    ("modular_plan_joins/join", "join_scaled"): (IN_ROOM, SPLITS, FACTORS, (DEBUG, "crate::additions::is_factor(m, w)")),
     ("modular_plan_products/convolution", "convolve_block"): (
         (DEBUG, "ys.len() == xs.len()"),
         (DEBUG, "convolves(xs.len(), table.len(), b, last)"),

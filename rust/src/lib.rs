@@ -35,6 +35,8 @@ pub mod modular_transform;
 #[doc(hidden)]
 pub mod modular_plan;
 #[doc(hidden)]
+pub mod modular_plan_joins;
+#[doc(hidden)]
 pub mod modular_plan_products;
 
 pub mod applications;

@@ -1,13 +1,6 @@
-pub mod Bounds
 pub mod Columns
 pub mod Constants
 pub mod Convolutions
-pub mod JoinedPairs
-pub mod Joins
-pub mod Known
-pub mod LastJoins
-pub mod Mirrors
 pub mod NaturalOrder
 pub mod Reductions
 pub mod SmallProducts
-pub mod TwoJoins

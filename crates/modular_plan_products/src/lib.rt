@@ -1,10 +1,6 @@
-//! Joins and products by a plan: from remainders back to a list, products of polynomials, and the natural order.
+//! Products by a plan: of blocks and of polynomials; and the transform in natural order.
 #![tactic(auto)]
 
 pub mod convolution;
-pub mod join;
-mod join_steps;
-mod pass_joins;
 pub mod products;
-mod stages;
 pub mod transform;

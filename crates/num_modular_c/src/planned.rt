@@ -13,8 +13,8 @@ use crate::codes::{NM_BAD_ARGUMENT, NM_BAD_CONTEXT, NM_NO_INVERSE, NM_OK};
 use crate::plans::{NmFactor, are_factors};
 use modular_plan::modulus::PlannedModulus;
 use modular_plan::split::{split, splits};
+use modular_plan_joins::join::join;
 use modular_plan_products::convolution::{convolve_negacyclic, convolve_planned, convolves};
-use modular_plan_products::join::join;
 use modular_plan_products::transform::ntt_planned;
 
 // Whether each word is below 4m.
