@@ -15,7 +15,6 @@ pub mod laws;
 pub mod operations;
 pub mod polynomials;
 pub mod quotients;
-pub mod remainders;
 pub mod repeated_products;
 pub mod square_roots;
 pub mod squares;

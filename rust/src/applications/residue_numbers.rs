@@ -1,7 +1,10 @@
 //! Residue number systems of up to eight moduli, over `num_modular::residues`. `ResidueSystem` tests its moduli once,
-//! computes on encodings, and runs lists of commands on them.
+//! computes on encodings, and runs lists of commands on them. `from_remainders` returns the number with two given
+//! remainders.
 
 mod commands;
+mod remainders;
 mod system;
 
+pub use remainders::from_remainders;
 pub use system::ResidueSystem;

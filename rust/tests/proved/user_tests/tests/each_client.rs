@@ -11,10 +11,10 @@ use num_modular::applications::examples::hashes::hash;
 use num_modular::applications::examples::inner_products::inner_product_of_four;
 use num_modular::applications::examples::operations::{product_and_sum, square};
 use num_modular::applications::examples::quotients::{by_inverse, by_operator, ten_by_five};
-use num_modular::applications::examples::remainders::from_remainders;
 use num_modular::applications::examples::squares::is_quadratic_residue;
 use num_modular::prim::is_prime_by_search;
 use num_modular::{Montgomery, Reducer};
+use num_modular::applications::residue_numbers::from_remainders;
 
 const X: (u64, u64, u64, u64) = (18446744073709551615, 12345678901234567890, 7, 1000000007);
 

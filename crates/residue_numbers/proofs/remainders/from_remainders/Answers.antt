@@ -1,4 +1,4 @@
-use Rattle.examples.proofs.remainders.from_remainders.Goals as goal
+use Rattle.residue_numbers.proofs.remainders.from_remainders.Goals as goal
 
 pub returns : goal.returns
 returns c =
