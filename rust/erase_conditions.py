@@ -22,7 +22,7 @@ MADE_BY = {"new": ("R::new(", "Montgomery::of(", "Self::of(", "M::keep(")}
 EVERY, DEBUG = "assert", "debug_assert"
 FACTORS = (DEBUG, "table.iter().all(|it| crate::additions::is_factor(m, &it.factor()))")
 IN_ROOM = (DEBUG, "xs.iter().all(|x| m.has_room(*x))")
-SPLITS = (DEBUG, "crate::modular_plan::split::splits(xs.len(), table.len(), b, last)")
+SPLITS = (DEBUG, "crate::modular_plan_remainders::split::splits(xs.len(), table.len(), b, last)")
 LENGTH = (EVERY, "xs.len().is_power_of_two()")
 DIVISOR = ((EVERY, "d != 0"),)
 LOOKS = {
@@ -42,9 +42,9 @@ LOOKS = {
         (DEBUG, "g.is_below(m.modulus)"),
         (DEBUG, "crate::additions::root_fits_plan(m, g, table.len())"),
     ),
-    ("modular_plan/split", "split"): (IN_ROOM, SPLITS, FACTORS),
-    ("modular_plan_joins/join", "join"): (IN_ROOM, SPLITS, FACTORS),
-    ("modular_plan_joins/join", "join_scaled"): (IN_ROOM, SPLITS, FACTORS, (DEBUG, "crate::additions::is_factor(m, w)")),
+    ("modular_plan_remainders/split", "split"): (IN_ROOM, SPLITS, FACTORS),
+    ("modular_plan_remainders/join", "join"): (IN_ROOM, SPLITS, FACTORS),
+    ("modular_plan_remainders/join", "join_scaled"): (IN_ROOM, SPLITS, FACTORS, (DEBUG, "crate::additions::is_factor(m, w)")),
     ("modular_plan_products/convolution", "convolve_block"): (
         (DEBUG, "ys.len() == xs.len()"),
         (DEBUG, "convolves(xs.len(), table.len(), b, last)"),

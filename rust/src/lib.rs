@@ -35,7 +35,9 @@ pub mod modular_transform;
 #[doc(hidden)]
 pub mod modular_plan;
 #[doc(hidden)]
-pub mod modular_plan_joins;
+pub mod modular_plan_passes;
+#[doc(hidden)]
+pub mod modular_plan_remainders;
 #[doc(hidden)]
 pub mod modular_plan_products;
 

@@ -5,10 +5,10 @@
 pub use crate::modular_plan::entry::PlanEntry;
 pub use crate::modular_plan::modulus::{Factor, PlannedModulus};
 pub use crate::modular_plan::plan::plan;
-pub use crate::modular_plan::split::{split, splits};
-pub use crate::modular_plan_joins::join::{join, join_scaled};
 pub use crate::modular_plan_products::convolution::{
     convolve_block, convolve_negacyclic, convolve_planned, convolves,
 };
 pub use crate::modular_plan_products::products::multiply;
 pub use crate::modular_plan_products::transform::ntt_planned;
+pub use crate::modular_plan_remainders::join::{join, join_scaled};
+pub use crate::modular_plan_remainders::split::{split, splits};

@@ -1,14 +1,7 @@
-pub mod Columns
 pub mod Doublings
 pub mod Entries
-pub mod Fours
-pub mod Known
-pub mod Levels
-pub mod Quarters
 pub mod Quotients
 pub mod Shorter
 pub mod SmallBases
-pub mod Steps
 pub mod SumsOfProducts
 pub mod Tables
-pub mod TwoLevels

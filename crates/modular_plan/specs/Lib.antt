@@ -1,5 +1,3 @@
 pub mod Factors
 pub mod Plans
 pub mod Roots
-pub mod Splits
-pub mod Steps

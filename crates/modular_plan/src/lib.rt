@@ -1,14 +1,9 @@
-//! Transforms by a plan: a table of factors with their quotients, which the caller owns.
+//! Moduli, factors and tables of factors for transforms by a plan; the caller owns the tables.
 #![tactic(auto)]
 
 pub mod bounded;
 pub mod entry;
 pub mod modulus;
-mod pass_splits;
-pub mod passes;
-mod places;
 pub mod plan;
 pub mod roomy;
 pub mod roots;
-pub mod split;
-mod split_steps;

@@ -17,7 +17,7 @@ use Rattle.modular_transform.specs.Transforms.{Suits, cyclic_product}
 use Rattle.modular_transform.proofs.BitReversal.{bits_reversed_of_zero}
 use Rattle.modular_transform.proofs.MinusOne.{pow_of_square}
 use Rattle.modular_plan.specs.Plans.{constant, IsPlan, AreRemainders}
-use Rattle.modular_plan.proofs.Levels.{constants}
+use Rattle.modular_plan_passes.proofs.Levels.{constants}
 use Rattle.modular_plan_products.specs.Products.{coefficient, product_modulo, AreProducts}
 use Rattle.modular_plan_products.proofs.Columns.{column_of_product}
 

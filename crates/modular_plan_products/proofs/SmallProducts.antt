@@ -6,7 +6,7 @@ use Rattle.modular_word.specs.Congruence.{Congruent}
 use Rattle.modular_word.specs.Sums.{sum_below}
 use Rattle.modular_word.proofs.Congruence.{of_equal, itself, turned, chained, added, multiplied, cancelled, residue_of}
 use Rattle.modular_plan.specs.Plans.{constant}
-use Rattle.modular_plan.specs.Steps.{PairDone}
+use Rattle.modular_plan_passes.specs.Steps.{PairDone}
 use Rattle.modular_plan_products.specs.Products.{product_modulo, AreProducts}
 
 -- one coefficient

@@ -6,15 +6,15 @@ ghost use Rattle.modular_word.specs.Inverses.{HasInverse};
 ghost use Rattle.modular_transform.specs.Transforms.{cyclic_product};
 ghost use Rattle.modular_plan.specs.Factors.{IsFactorOf, AllFactors};
 ghost use Rattle.modular_plan.specs.Plans.{numbers, constant, IsPlan, AreRemainders};
-ghost use Rattle.modular_plan_joins.specs.Conditions.{AreBlocks};
+ghost use Rattle.modular_plan_remainders.specs.Conditions.{AreBlocks};
 ghost use Rattle.modular_plan_products.specs.Conditions.{AreSmallBlocks};
 ghost use Rattle.modular_plan_products.specs.Products.{product_modulo, AreProducts};
 
 use crate::products::{multiply, reduce_products};
 use modular_plan::entry::PlanEntry;
 use modular_plan::modulus::{Factor, PlannedModulus};
-use modular_plan::split::{split, split_loosely, splits};
-use modular_plan_joins::join::join_scaled;
+use modular_plan_remainders::join::join_scaled;
+use modular_plan_remainders::split::{split, split_loosely, splits};
 use modular_prim::below::reduced_once;
 use modular_prim::euclid::invm;
 use modular_prim::plain_word::PlainWord;

@@ -5,7 +5,7 @@ ghost use Rattle.modular_word.specs.Congruence.{Congruent};
 ghost use Rattle.modular_word.specs.Inverses.{IsInverse};
 ghost use Rattle.modular_plan.specs.Factors.{AllFactors};
 ghost use Rattle.modular_plan.specs.Plans.{numbers, constant, IsPlan};
-ghost use Rattle.modular_plan.specs.Steps.{PairDone};
+ghost use Rattle.modular_plan_passes.specs.Steps.{PairDone};
 ghost use Rattle.modular_plan_products.specs.Products.{AreProducts};
 
 use modular_plan::bounded::Bounded;

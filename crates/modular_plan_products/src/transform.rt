@@ -8,7 +8,7 @@ ghost use Rattle.modular_plan.specs.Plans.{numbers, IsPlan};
 
 use modular_plan::entry::PlanEntry;
 use modular_plan::modulus::PlannedModulus;
-use modular_plan::split::split;
+use modular_plan_remainders::split::split;
 use modular_prim::plain_word::PlainWord;
 use modular_transform::order::reverse_places;
 

@@ -3,8 +3,8 @@
 use crate::modular_plan_products::products::{multiply, reduce_products};
 use crate::modular_plan::entry::PlanEntry;
 use crate::modular_plan::modulus::{Factor, PlannedModulus};
-use crate::modular_plan::split::{split, split_loosely, splits};
-use crate::modular_plan_joins::join::join_scaled;
+use crate::modular_plan_remainders::join::join_scaled;
+use crate::modular_plan_remainders::split::{split, split_loosely, splits};
 use crate::modular_prim::below::reduced_once;
 use crate::modular_prim::euclid::invm;
 use crate::modular_prim::plain_word::PlainWord;

@@ -2,7 +2,7 @@
 
 use crate::modular_plan::entry::PlanEntry;
 use crate::modular_plan::modulus::PlannedModulus;
-use crate::modular_plan::split::split;
+use crate::modular_plan_remainders::split::split;
 use crate::modular_prim::plain_word::PlainWord;
 use crate::modular_transform::order::reverse_places;
 

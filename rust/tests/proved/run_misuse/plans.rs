@@ -2,9 +2,9 @@
 
 use num_modular::modular_plan::modulus::{Factor, PlannedModulus};
 use num_modular::modular_plan::plan::plan;
-use num_modular::modular_plan::split::split;
-use num_modular::modular_plan_joins::join::join_scaled;
 use num_modular::modular_plan_products::transform::ntt_planned;
+use num_modular::modular_plan_remainders::join::join_scaled;
+use num_modular::modular_plan_remainders::split::split;
 use num_modular::modular_prim::plain_word::PlainWord;
 use num_modular::modular_word::path_word::PathWord;
 

@@ -1,0 +1,260 @@
+-- Four entries at once: what is read and written of them, and the columns of four quarters.
+use Rattle.std.proofs.Common.{◌≡◌, ◌≢◌, ℕ, ◌+◌, ◌-◌, ◌*◌, ◌<◌, ◌≤◌, List, ◌++◌, All, get_or, length, inl, inr, refl}
+use Rattle.std.proofs.Common.{sym, ◌∙◌, ap, arith, subst}
+use Rattle.std.proofs.Math.ListN.{set}
+use Rattle.std.proofs.lemmas.Bool.{cases_eq, cases_lt}
+use Rattle.modular_plan.specs.Factors.{IsFactor}
+use Rattle.modular_plan.specs.Plans.{numbers}
+use Rattle.modular_plan_passes.specs.Splits.{AreAt, AreFourBelow, AreNeighbours, AreQuarters, ColumnsDone}
+use Rattle.modular_plan_passes.specs.Splits.{DoneBelow, HalvesDone}
+use Rattle.modular_plan_passes.specs.Steps.{IsFourSplit, FourDone, BlockOfFours, StageOfFours}
+use Rattle.modular_plan.proofs.Doublings.{same_factor}
+use Rattle.modular_plan.proofs.Entries.{written, not_written, number_read, all_below, bounded_at}
+use Rattle.modular_plan_passes.proofs.Fours.{four_along, stage_of_fours_more}
+use Rattle.modular_plan_passes.proofs.Quarters.{in_front, behind}
+
+-- four bounds of what was read
+pub below_at : {bound i j k l a b c d : ℕ} {x : ℕ → ℕ} → AreAt i j k l x a b c d
+    → AreFourBelow bound (x i) (x j) (x k) (x l) → AreFourBelow bound a b c d
+below_at {bound} {i} {j} {k} {l} {a} {b} {c} {d} {x} at below = record {
+  first = subst (λ v. v < bound) (sym at.first) below.first;
+  second = subst (λ v. v < bound) (sym at.second) below.second;
+  third = subst (λ v. v < bound) (sym at.third) below.third;
+  fourth = subst (λ v. v < bound) (sym at.fourth) below.fourth;
+}
+
+-- four writes of what comes of the numbers that were read
+pub done_by : (R : ℕ → ℕ → ℕ → ℕ → ℕ → ℕ → ℕ → ℕ → Type 0) {i j k l a b c d p q r s : ℕ} {x y : ℕ → ℕ}
+    → AreAt i j k l x a b c d
+    → FourDone (λ x y z t e f g h. (e ≡ p) × (f ≡ q) × (g ≡ r) × (h ≡ s)) i j k l x y
+    → R a b c d p q r s → FourDone R i j k l x y
+done_by R {i} {j} {k} {l} {a} {b} {c} {d} {p} {q} {r} {s} {x} {y} at step four = record {
+  four = four_along R at.first at.second at.third at.fourth (sym step.four.0) (sym step.four.1) (sym step.four.2)
+      (sym step.four.3) four;
+  kept = step.kept;
+}
+
+-- column i of four lists, whose entries are below a bound
+pub record IsColumn {X : Type 0} (number : X → ℕ) (bound i : ℕ) (a b c d : List X) : Type 0 where
+  pub below : AreFourBelow bound (numbers number a i) (numbers number b i) (numbers number c i) (numbers number d i)
+  pub within : (i < length a) × (i < length b) × (i < length c) × (i < length d)
+
+-- what was read of a column
+pub column_given : {X : Type 0} {number : X → ℕ} {bound i : ℕ} {a b c d : List X} {x y z t : X}
+    → IsColumn number bound i a b c d → x ≡ get_or a i x → y ≡ get_or b i y → z ≡ get_or c i z → t ≡ get_or d i t
+    → AreFourBelow bound (number x) (number y) (number z) (number t)
+column_given {X} {number} {bound} {i} {a} {b} {c} {d} {x} {y} {z} {t} at is_x is_y is_z is_t = record {
+  first = subst (λ v. v < bound) (sym (number_read number a i x at.within.0 is_x)) at.below.first;
+  second = subst (λ v. v < bound) (sym (number_read number b i y at.within.1 is_y)) at.below.second;
+  third = subst (λ v. v < bound) (sym (number_read number c i z at.within.2 is_z)) at.below.third;
+  fourth = subst (λ v. v < bound) (sym (number_read number d i t at.within.3 is_t)) at.below.fourth;
+}
+
+-- the next column, of which nothing is done yet
+pub column_at : {X : Type 0} (number : X → ℕ) {bound limit : ℕ} (i : ℕ) {a b c d a' b' c' d' : List X}
+    {R : ℕ → ℕ → ℕ → ℕ → ℕ → ℕ → ℕ → ℕ → Type 0} → AreQuarters number bound limit a b c d
+    → ColumnsDone R i (numbers number a) (numbers number b) (numbers number c) (numbers number d) (numbers number a')
+    (numbers number b') (numbers number c') (numbers number d')
+    → length a' ≡ length a → length b' ≡ length b → length c' ≡ length c → length d' ≡ length d → i < length a
+    → IsColumn number bound i a' b' c' d'
+column_at number {bound} {limit} i {a} {b} {c} {d} {a'} {b'} {c'} {d'} {R} given done na nb nc nd within =
+    let kept = done.kept i (omega arith) in
+    let second = given.second_length in
+    let third = given.third_length in
+    let fourth = given.fourth_length in
+    record {
+      below = record {
+        first = subst (λ v. v < bound) (sym kept.0) (bounded_at number bound a i given.first within);
+        second = subst (λ v. v < bound) (sym kept.1) (bounded_at number bound b i given.second (omega (arith, second, within)));
+        third = subst (λ v. v < bound) (sym kept.2) (bounded_at number bound c i given.third (omega (arith, third, within)));
+        fourth = subst (λ v. v < bound) (sym kept.3) (bounded_at number bound d i given.fourth (omega (arith, fourth, within)));
+      };
+      within = (
+        omega (arith, within, na),
+        omega (arith, within, nb, second),
+        omega (arith, within, nc, third),
+        omega (arith, within, nd, fourth),
+      );
+    }
+
+-- column i of four quarters is done, and the others are unchanged
+pub record ColumnDone (R : ℕ → ℕ → ℕ → ℕ → ℕ → ℕ → ℕ → ℕ → Type 0) (i : ℕ) (a b c d a' b' c' d' : ℕ → ℕ) : Type 0 where
+  pub column : R (a i) (b i) (c i) (d i) (a' i) (b' i) (c' i) (d' i)
+  pub kept : (k : ℕ) → k ≢ i → (a' k ≡ a k) × (b' k ≡ b k) × (c' k ≡ c k) × (d' k ≡ d k)
+
+-- a column of four quarters is written
+pub column_done : {X : Type 0} (number : X → ℕ) (R : ℕ → ℕ → ℕ → ℕ → ℕ → ℕ → ℕ → ℕ → Type 0) (a b c d : List X) (i : ℕ)
+    (x y z t : X) → i < length a → i < length b → i < length c → i < length d
+    → R (numbers number a i) (numbers number b i) (numbers number c i) (numbers number d i) (number x) (number y) (number z)
+    (number t)
+    → ColumnDone R i (numbers number a) (numbers number b) (numbers number c) (numbers number d) (numbers number (set a i x))
+    (numbers number (set b i y)) (numbers number (set c i z)) (numbers number (set d i t))
+column_done number R a b c d i x y z t la lb lc ld four = record {
+  column = four_along R refl refl refl refl (sym (written number a i x la)) (sym (written number b i y lb))
+      (sym (written number c i z lc)) (sym (written number d i t ld)) four;
+  kept = λ k ne. (
+    not_written number a i k x ne,
+    not_written number b i k y ne,
+    not_written number c i k z ne,
+    not_written number d i k t ne,
+  );
+}
+
+pub columns_none : (R : ℕ → ℕ → ℕ → ℕ → ℕ → ℕ → ℕ → ℕ → Type 0) (a b c d : ℕ → ℕ) → ColumnsDone R 0 a b c d a b c d
+columns_none R a b c d =
+    record { columns = λ k l. absurd (omega arith); kept = λ k l. (refl, refl, refl, refl) }
+
+-- one more column
+pub column_more : (R : ℕ → ℕ → ℕ → ℕ → ℕ → ℕ → ℕ → ℕ → Type 0) (i : ℕ) {a b c d a' b' c' d' e f g h : ℕ → ℕ}
+    → ColumnsDone R i a b c d a' b' c' d' → ColumnDone R i a' b' c' d' e f g h → ColumnsDone R (i + 1) a b c d e f g h
+column_more R i {a} {b} {c} {d} {a'} {b'} {c'} {d'} {e} {f} {g} {h} before step = record {
+  columns = λ k l. elim (cases_eq k i) [
+    | inl is ↦
+        let old = before.kept i (omega arith) in
+        subst (λ n. R (a n) (b n) (c n) (d n) (e n) (f n) (g n) (h n)) (sym is)
+        (four_along R old.0 old.1 old.2 old.3 refl refl refl refl step.column)
+    | inr ne ↦
+        let new = step.kept k ne in
+        four_along R refl refl refl refl (sym new.0) (sym new.1) (sym new.2) (sym new.3) (before.columns k (omega arith))
+  ];
+  kept = λ k l.
+      let ne : k ≢ i = omega arith in
+      let new = step.kept k ne in
+      let old = before.kept k (omega arith) in
+      (new.0 ∙ old.0, new.1 ∙ old.1, new.2 ∙ old.2, new.3 ∙ old.3);
+}
+
+-- all columns
+pub columns_all : {R : ℕ → ℕ → ℕ → ℕ → ℕ → ℕ → ℕ → ℕ → Type 0} {i n : ℕ} {a b c d a' b' c' d' : ℕ → ℕ}
+    → ColumnsDone R i a b c d a' b' c' d' → i ≡ n → ColumnsDone R n a b c d a' b' c' d'
+columns_all {R} {i} {n} {a} {b} {c} {d} {a'} {b'} {c'} {d'} done e =
+    subst (λ k. ColumnsDone R k a b c d a' b' c' d') e done
+
+-- the quarters make two halves
+pub halves_done : {X : Type 0} (number : X → ℕ) (R : ℕ → ℕ → ℕ → ℕ → ℕ → ℕ → ℕ → ℕ → Type 0) (q : ℕ)
+    (a b c d a' b' c' d' : List X) → length a ≡ q → length c ≡ q → length a' ≡ q → length c' ≡ q
+    → ColumnsDone R q (numbers number a) (numbers number b) (numbers number c) (numbers number d) (numbers number a')
+    (numbers number b') (numbers number c') (numbers number d')
+    → HalvesDone R q (numbers number (a ++ b)) (numbers number (c ++ d)) (numbers number (a' ++ b')) (numbers number (c' ++ d'))
+halves_done number R q a b c d a' b' c' d' la lc la' lc' done = record {
+  columns = λ i l.
+      four_along R (sym (in_front number a b i (omega (arith, la, l)))) (sym (behind number a b q i la))
+      (sym (in_front number c d i (omega (arith, lc, l)))) (sym (behind number c d q i lc))
+      (sym (in_front number a' b' i (omega (arith, la', l)))) (sym (behind number a' b' q i la'))
+      (sym (in_front number c' d' i (omega (arith, lc', l)))) (sym (behind number c' d' q i lc'))
+      (done.columns i l);
+}
+
+-- the numbers of two halves within a longer list
+record HalvesOf {X : Type 0} (number : X → ℕ) (first q : ℕ) (f l h t : List X) : Type 0 where
+  low : (i : ℕ) → i < q + q → numbers number (f ++ (l ++ (h ++ t))) (first + i) ≡ numbers number l i
+  high : (i : ℕ) → i < q + q → numbers number (f ++ (l ++ (h ++ t))) (first + (q + q + i)) ≡ numbers number h i
+  before : (k : ℕ) → k < first → numbers number (f ++ (l ++ (h ++ t))) k ≡ numbers number f k
+  after : (k : ℕ) → numbers number (f ++ (l ++ (h ++ t))) (first + (q + q + (q + q + k))) ≡ numbers number t k
+
+halves_of : {X : Type 0} (number : X → ℕ) (first q : ℕ) (f l h t : List X) → length f ≡ first → length l ≡ q + q
+    → length h ≡ q + q → HalvesOf number first q f l h t
+halves_of number first q f l h t lf ll lh =
+    let behind_f = λ (i : ℕ). behind number f (l ++ (h ++ t)) first i lf in
+    let behind_l = λ (i : ℕ). behind number l (h ++ t) (q + q) i ll in
+    record {
+      low = λ i k. behind_f i ∙ in_front number l (h ++ t) i (omega (arith, ll, k));
+      high = λ i k. behind_f (q + q + i) ∙ behind_l i ∙ in_front number h t i (omega (arith, lh, k));
+      before = λ k less. in_front number f (l ++ (h ++ t)) k (omega (arith, lf, less));
+      after = λ k. behind_f (q + q + (q + q + k)) ∙ behind_l (q + q + k) ∙ behind number h t (q + q) k lh;
+    }
+
+-- the halves make the block
+pub block_of_halves : {X : Type 0} (number : X → ℕ) (R : ℕ → ℕ → ℕ → ℕ → ℕ → ℕ → ℕ → ℕ → Type 0) (first q : ℕ)
+    (f l h t l' h' : List X) → length f ≡ first → length l ≡ q + q → length h ≡ q + q → length l' ≡ q + q
+    → length h' ≡ q + q
+    → HalvesDone R q (numbers number l) (numbers number h) (numbers number l') (numbers number h')
+    → BlockOfFours R first q q (numbers number (f ++ (l ++ (h ++ t)))) (numbers number (f ++ (l' ++ (h' ++ t))))
+block_of_halves number R first q f l h t l' h' lf ll lh ll' lh' done =
+    let x = halves_of number first q f l h t lf ll lh in
+    let y = halves_of number first q f l' h' t lf ll' lh' in
+    record {
+      fours = λ i k.
+          four_along R (sym (x.low i (omega (arith, k)))) (sym (x.low (q + i) (omega (arith, k))))
+          (sym (x.high i (omega (arith, k)))) (sym (x.high (q + i) (omega (arith, k))))
+          (sym (y.low i (omega (arith, k)))) (sym (y.low (q + i) (omega (arith, k))))
+          (sym (y.high i (omega (arith, k)))) (sym (y.high (q + i) (omega (arith, k)))) (done.columns i k);
+      others = λ i k less. absurd (omega arith);
+      before = λ k less. y.before k less ∙ sym (x.before k less);
+      after = λ k beyond.
+          let j : ℕ = k - (first + (q + q + (q + q))) in
+          let e : k ≡ first + (q + q + (q + q + j)) = omega arith in
+          ap (numbers number (f ++ (l' ++ (h' ++ t)))) e ∙ y.after j ∙ sym (x.after j)
+          ∙ sym (ap (numbers number (f ++ (l ++ (h ++ t)))) e);
+    }
+
+-- the entries of a block that are below a bound
+pub fours_below : {R : ℕ → ℕ → ℕ → ℕ → ℕ → ℕ → ℕ → ℕ → Type 0} {bound first q : ℕ} (k : ℕ) {x y : ℕ → ℕ}
+    → BlockOfFours (DoneBelow bound R) first q q x y → first ≤ k → k < first + (q + q + (q + q)) → y k < bound
+fours_below {R} {bound} {first} {q} k {x} {y} done least l = elim (cases_lt k (first + q)) [
+  | inl l0 ↦ subst (λ v. y v < bound) (let e : first + (k - first) ≡ k = omega arith in e)
+      (done.fours (k - first) (omega arith)).below.first
+  | inr l0 ↦ elim (cases_lt k (first + (q + q))) [
+    | inl l1 ↦ subst (λ v. y v < bound) (let e : first + (q + (k - (first + q))) ≡ k = omega arith in e)
+        (done.fours (k - (first + q)) (omega arith)).below.second
+    | inr l1 ↦ elim (cases_lt k (first + (q + q + q))) [
+      | inl l2 ↦ subst (λ v. y v < bound) (let e : first + (q + q + (k - (first + (q + q)))) ≡ k = omega arith in e)
+          (done.fours (k - (first + (q + q))) (omega arith)).below.third
+      | inr l2 ↦ subst (λ v. y v < bound)
+          (let e : first + (q + q + (q + (k - (first + (q + q + q))))) ≡ k = omega arith in e)
+          (done.fours (k - (first + (q + q + q))) (omega arith)).below.fourth
+    ]
+  ]
+]
+
+-- .. and with them all entries
+pub block_below : {X : Type 0} (number : X → ℕ) {bound first q : ℕ} (old new : List X)
+    {R : ℕ → ℕ → ℕ → ℕ → ℕ → ℕ → ℕ → ℕ → Type 0} → length new ≡ length old → All (λ x. number x < bound) old
+    → BlockOfFours (DoneBelow bound R) first q q (numbers number old) (numbers number new) → All (λ x. number x < bound) new
+block_below number {bound} {first} {q} old new {R} same all done =
+    all_below number bound (length old) new same
+    (λ k l. elim (cases_lt k first) [
+      | inl before ↦ subst (λ v. v < bound) (sym (done.before k before)) (bounded_at number bound old k all l)
+      | inr least ↦ elim (cases_lt k (first + (q + q + (q + q)))) [
+        | inl inside ↦ fours_below k done least inside
+        | inr after ↦ subst (λ v. v < bound) (sym (done.after k after)) (bounded_at number bound old k all l)
+      ]
+    ])
+
+-- the next four neighbours, which are unchanged as yet
+pub neighbours_given : {X : Type 0} (number : X → ℕ) {bound : ℕ} (p : ℕ) (old new : List X) → All (λ x. number x < bound) old
+    → ((k : ℕ) → p * 4 ≤ k → numbers number new k ≡ numbers number old k) → length new ≡ length old
+    → p * 4 + 3 < length old → AreNeighbours number bound (p * 4) new
+neighbours_given number {bound} p old new all kept same within =
+    let at : (k : ℕ) → p * 4 ≤ k → k < length old → numbers number new k < bound =
+    λ k least l. subst (λ v. v < bound) (sym (kept k least)) (bounded_at number bound old k all l) in
+    record {
+      below = record {
+        first = at (p * 4) (omega arith) (omega arith);
+        second = at (p * 4 + 1) (omega arith) (omega arith);
+        third = at (p * 4 + 2) (omega arith) (omega arith);
+        fourth = at (p * 4 + 3) (omega arith) (omega arith);
+      };
+      within = omega (arith, same, within);
+    }
+
+-- a factor that was read from a table
+pub factor_read : {F : Type 0} (value quotient : F → ℕ) {base m w r : ℕ} (table : List F) (i : ℕ) (x : F)
+    → All (λ f. IsFactor base m (value f) (quotient f)) table → i < length table → x ≡ get_or table i x
+    → w ≡ value x → r ≡ quotient x → IsFactor base m w r
+factor_read value quotient {base} {m} {w} {r} table i x all within is e f =
+    same_factor (subst (λ y. IsFactor base m (value y) (quotient y)) (sym is) (all i x within)) e f
+
+-- one more block of a stage, by the factors that were read from the table w
+pub stage_with : (m q p first : ℕ) (w : ℕ → ℕ) {e u v : ℕ} {x y z : ℕ → ℕ} → e ≡ w (first + p) → u ≡ w (2 * (first + p))
+    → v ≡ w (2 * (first + p) + 1)
+    → StageOfFours (λ p. IsFourSplit m (w (first + p)) (w (2 * (first + p))) (w (2 * (first + p) + 1))) q p x y
+    → BlockOfFours (IsFourSplit m e u v) (p * (q + q + (q + q))) q q y z
+    → StageOfFours (λ p. IsFourSplit m (w (first + p)) (w (2 * (first + p))) (w (2 * (first + p) + 1))) q (p + 1) x z
+stage_with m q p first w {e} {u} {v} {x} {y} {z} is_e is_u is_v before step =
+    let at : ℕ = p * (q + q + (q + q)) in
+    let k : ℕ = 2 * (first + p) in
+    stage_of_fours_more (λ p. IsFourSplit m (w (first + p)) (w (2 * (first + p))) (w (2 * (first + p) + 1))) q p x y z before
+    (subst (λ a. BlockOfFours (IsFourSplit m a (w k) (w (k + 1))) at q q y z) is_e
+    (subst (λ a. BlockOfFours (IsFourSplit m e a (w (k + 1))) at q q y z) is_u
+    (subst (λ a. BlockOfFours (IsFourSplit m e u a) at q q y z) is_v step)))

@@ -1,0 +1,13 @@
+pub mod Bounds
+pub mod Columns
+pub mod Fours
+pub mod JoinedPairs
+pub mod Joins
+pub mod Known
+pub mod KnownJoins
+pub mod Levels
+pub mod Mirrors
+pub mod Quarters
+pub mod Steps
+pub mod TwoJoins
+pub mod TwoLevels

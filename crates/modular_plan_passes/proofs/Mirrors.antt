@@ -1,0 +1,103 @@
+-- The entry of a plan whose product with another is -1: the one mirrored in its power of two.
+use Rattle.std.proofs.Common.{◌≡◌, ℕ, suc, zero, ◌+◌, ◌-◌, ◌*◌, ◌/◌, ◌%◌, ◌^◌, ◌<◌, ◌≤◌, refl, sym, ◌∙◌, ap, arith}
+use Rattle.std.proofs.Math.Nat.{two-pow-succ, pow-zero, mod-eq_of_lt, zero-mod, add-mul-mod_self_right}
+use Rattle.std.proofs.lemmas.Nat.{pow-add, pow_pos}
+use Rattle.modular_word.specs.Congruence.{Congruent}
+use Rattle.modular_word.proofs.Congruence.{of_equal, itself, chained, added, multiplied, residue_of}
+use Rattle.modular_transform.specs.Orders.{bits_reversed}
+use Rattle.modular_transform.proofs.BitReversal.{bits_reversed-suc, bits_reversed_of_zero}
+use Rattle.modular_plan.specs.Plans.{IsPlan}
+use Rattle.modular_plan_passes.specs.Joins.{IsMinusInverse}
+
+-- q and r, with their highest bit the same and all others different
+record AreMirrored (u q r : ℕ) : Type 0 where
+  within : r < 2 ^ u
+  total : bits_reversed u q + bits_reversed u r ≡ 2 ^ u
+
+mirrored : (u k q r : ℕ) → 2 ^ k ≤ q → q < 2 * 2 ^ k → q + r + 1 ≡ 3 * 2 ^ k → q < 2 ^ u → AreMirrored u q r
+mirrored zero k q r least most mirror below = let p = pow_pos k in
+    let one : 2 ^ 0 ≡ 1 = refl in absurd (omega (arith, p, least, below, one))
+mirrored (suc u) zero q r least most mirror below =
+    let one : 2 ^ 0 ≡ 1 = refl in
+    let q_is : q ≡ 1 = omega (arith, least, most, one) in
+    let r_is : r ≡ 1 = omega (arith, q_is, mirror, one) in
+    let two = two-pow-succ u in
+    let some = pow_pos u in
+    let e = bits_reversed-suc u 1 in
+    let half : 1 / 2 ≡ 0 = refl in
+    let bit : 1 % 2 ≡ 1 = refl in
+    let z : bits_reversed u (1 / 2) ≡ 0 = ap (bits_reversed u) half ∙ bits_reversed_of_zero u in
+    let t : 1 % 2 * 2 ^ u ≡ 2 ^ u = ap (λ v. v * 2 ^ u) bit ∙ omega arith in
+    let rq = ap (bits_reversed (suc u)) q_is in
+    let rr = ap (bits_reversed (suc u)) r_is in
+    record { within = omega (arith, r_is, two, some); total = omega (arith, rq, rr, e, z, t, two) }
+mirrored (suc u) (suc k) q r least most mirror below =
+    let two = two-pow-succ u in
+    let half = two-pow-succ k in
+    let parity : r % 2 ≡ 1 - q % 2 = omega (arith, mirror, half) in
+    let rest = mirrored u k (q / 2) (r / 2) (omega (arith, least, half)) (omega (arith, most, half))
+    (omega (arith, mirror, half, parity)) (omega (arith, below, two)) in
+    let within = rest.within in
+    let total = rest.total in
+    let eq = bits_reversed-suc u q in
+    let er = bits_reversed-suc u r in
+    let bits : q % 2 * 2 ^ u + r % 2 * 2 ^ u ≡ 2 ^ u =
+    (let s : q % 2 * 2 ^ u + r % 2 * 2 ^ u ≡ (q % 2 + r % 2) * 2 ^ u = omega arith in s)
+    ∙ ap (λ v. v * 2 ^ u) (let o : q % 2 + r % 2 ≡ 1 = omega (arith, parity) in o) ∙ omega arith in
+    record { within = omega (arith, within, two); total = omega (arith, total, eq, er, bits, two) }
+
+-- the mirrored entry of a plan lies in its table, and is minus the inverse
+pub record IsMirror (m count place : ℕ) (w : ℕ → ℕ) (r : ℕ) : Type 0 where
+  pub within : r < count
+  pub inverse : IsMinusInverse m (w place) (w r)
+
+pub mirror_of_plan : {m : ℕ} (g z count k q r : ℕ) (w : ℕ → ℕ) → IsPlan m g z count w → q < count → 2 ^ k ≤ q
+    → q < 2 * 2 ^ k → q + r + 1 ≡ 3 * 2 ^ k → IsMirror m count q w r
+mirror_of_plan {m} g zero count k q r w plan below least most mirror =
+    let half = plan.half in
+    let none : 2 ^ 0 / 2 ≡ 0 = refl in
+    absurd (omega (arith, half, none, below))
+mirror_of_plan {m} g (suc u) count k q r w plan below least most mirror =
+    let half = plan.half in
+    let two = two-pow-succ u in
+    let some = pow_pos u in
+    let count_is : count ≡ 2 ^ u = omega (arith, half, two) in
+    let are = mirrored u k q r least most mirror (omega (arith, below, count_is)) in
+    let inside = are.within in
+    let r_below : r < count = omega (arith, inside, count_is) in
+    let is_half : 2 ^ suc u / 2 ≡ 2 ^ u = omega (arith, two) in
+    let e : suc u - 1 ≡ u = omega arith in
+    let entry = λ (p : ℕ) (l : p < count). chained (of_equal (plan.entry p l))
+    (chained (residue_of (g ^ bits_reversed (suc u - 1) p)) (of_equal (ap (λ v. g ^ bits_reversed v p) e))) in
+    let product : g ^ bits_reversed u q * g ^ bits_reversed u r ≡ g ^ (2 ^ suc u / 2)
+    = sym (pow-add g (bits_reversed u q) (bits_reversed u r)) ∙ ap (λ v. g ^ v) (are.total ∙ sym is_half) in
+    let turn : Congruent m (g ^ (2 ^ suc u / 2) + 1) 0 =
+    record { same = plan.suits.half_turn (omega (arith, two, some)) ∙ sym (zero-mod m) } in
+    record {
+      within = r_below;
+      inverse = record {
+        product =
+            chained (added (chained (multiplied (entry q below) (entry r r_below)) (of_equal product)) (itself 1)) turn;
+      };
+    }
+
+-- the first entry is 1, and -1 is minus its inverse
+pub first_of_plan : {m : ℕ} (g z count v : ℕ) (w : ℕ → ℕ) → IsPlan m g z count w → 0 < count
+    → v + 1 ≡ m → IsMinusInverse m (w 0) v
+first_of_plan {m} g z count v w plan some is =
+    let r = ap (λ e. g ^ e) (bits_reversed_of_zero (z - 1)) ∙ pow-zero g in
+    let one : Congruent m (w 0) 1 = chained (of_equal (plan.entry 0 some))
+    (chained (residue_of (g ^ bits_reversed (z - 1) 0)) (of_equal r)) in
+    let whole : 1 * v + 1 ≡ 0 + 1 * m = omega (arith, is) in
+    let gone : Congruent m (0 + 1 * m) 0 = record { same = add-mul-mod_self_right 0 1 m } in
+    record { product = chained (added (multiplied one (itself v)) (itself 1)) (chained (of_equal whole) gone) }
+
+-- the place mirrored in its power of two, as words have it
+pub mirrored_place : (k q power : ℕ) → 2 ^ k ≤ q → q < 2 * 2 ^ k → q < 18446744073709551616
+    → power ≡ (1 * 2 ^ k) % 18446744073709551616
+    → q + (power + (power - 1 - (q - power))) + 1 ≡ 3 * 2 ^ k
+mirrored_place k q power least most fits is =
+    let one : 1 * 2 ^ k ≡ 2 ^ k = omega arith in
+    let power_is : power ≡ 2 ^ k =
+    is ∙ ap (λ v. v % 18446744073709551616) one ∙ mod-eq_of_lt (omega (arith, least, fits)) in
+    omega (arith, power_is, least, most)

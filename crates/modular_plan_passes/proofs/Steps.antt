@@ -1,0 +1,146 @@
+-- Pairs make blocks, and blocks make stages.
+use Rattle.std.proofs.Common.{◌≡◌, ◌≢◌, ℕ, ◌+◌, ◌*◌, ◌%◌, ◌<◌, ◌≤◌, List, length}
+use Rattle.std.proofs.Common.{inl, inr, refl, sym, ◌∙◌, ap, arith, subst}
+use Rattle.std.proofs.Math.ListN.{set, length-set}
+use Rattle.std.proofs.Math.Nat.{add-mul-mod_self_right, mul-le-mul_right}
+use Rattle.std.proofs.lemmas.Bool.{cases_eq}
+use Rattle.modular_word.specs.Congruence.{Congruent}
+use Rattle.modular_word.proofs.Congruence.{of_equal, itself, turned, chained, added}
+use Rattle.modular_word.proofs.Congruence.{multiplied, mod_of_multiple_left}
+use Rattle.modular_plan.specs.Plans.{numbers}
+use Rattle.modular_plan_passes.specs.Steps.{IsPairSplit, PairDone, BlockDone, StageDone}
+use Rattle.modular_plan.proofs.Entries.{written, not_written}
+
+-- the sum and the difference of a pair
+pub pair_of : {m : ℕ} (w a b t rest sum difference : ℕ) → Congruent m t (b * w) → rest + t ≡ 2 * m
+    → sum ≡ a + t → difference ≡ a + rest
+    → IsPairSplit m w a b sum difference
+pair_of {m} w a b t rest sum difference is_t is_rest is_sum is_difference =
+    let whole : difference + t ≡ a + 2 * m = omega arith in
+    record {
+      summed = chained (of_equal is_sum) (added (itself a) is_t);
+      subtracted = chained (added (itself difference) (turned is_t))
+          (chained (of_equal whole) (record { same = add-mul-mod_self_right a 2 m }));
+    }
+
+-- .. by 1, where a bound of b is a multiple of m
+pub pair_by_one : {m : ℕ} (k a b bound sum difference : ℕ) → bound ≡ k * m → sum ≡ a + b → difference + b ≡ a + bound
+    → IsPairSplit m 1 a b sum difference
+pair_by_one {m} k a b bound sum difference is_bound is_sum is_difference = record {
+  summed = of_equal (omega arith);
+  subtracted = chained (of_equal (let e : difference + b * 1 ≡ a + k * m = omega arith in e))
+      (record { same = add-mul-mod_self_right a k m });
+}
+
+-- a word reduced by a multiple of m
+pub reduced_by : {m : ℕ} (k x bound r : ℕ) → r ≡ x % bound → bound ≡ k * m → Congruent m r x
+reduced_by {m} k x bound r is is_bound =
+    record { same = ap (λ v. v % m) (is ∙ ap (λ v. x % v) is_bound) ∙ mod_of_multiple_left m k x }
+
+-- a pair that was reduced before
+pub pair_along : {m : ℕ} (w a b x y sum difference : ℕ) → Congruent m x a → Congruent m y b
+    → IsPairSplit m w x y sum difference → IsPairSplit m w a b sum difference
+pair_along {m} w a b x y sum difference first second pair = record {
+  summed = chained pair.summed (added first (multiplied second (itself w)));
+  subtracted = chained (added (itself difference) (multiplied (turned second) (itself w))) (chained pair.subtracted first);
+}
+
+-- .. and one that is reduced afterwards
+pub pair_up_to : {m : ℕ} (w a b sum difference sum' difference' : ℕ) → Congruent m sum' sum
+    → Congruent m difference' difference → IsPairSplit m w a b sum difference
+    → IsPairSplit m w a b sum' difference'
+pair_up_to {m} w a b sum difference sum' difference' first second pair = record {
+  summed = chained first pair.summed;
+  subtracted = chained (added second (itself (b * w))) pair.subtracted;
+}
+
+-- what a pair writes
+pub pair_written : {T : Type 0} (number : T → ℕ) (R : ℕ → ℕ → ℕ → ℕ → Type 0) (words : List T) (low high : ℕ)
+    (sum difference : T) → low < high → high < length words
+    → R (numbers number words low) (numbers number words high) (number sum) (number difference)
+    → PairDone R low high (numbers number words) (numbers number (set (set words high difference) low sum))
+pair_written number R words low high sum difference order within pair =
+    let x = numbers number words in
+    let y = numbers number (set (set words high difference) low sum) in
+    let l : low < length words = omega arith in
+    let ls : low < length (set words high difference) =
+    subst (λ n. low < n) (sym (length-set words high difference)) l in
+    let ne : high ≢ low = omega arith in
+    let at_low : y low ≡ number sum = written number (set words high difference) low sum ls in
+    let at_high : y high ≡ number difference =
+    not_written number (set words high difference) low high sum ne ∙ written number words high difference within in
+    record {
+      pair = subst (λ v. R (x low) (x high) (y low) v) (sym at_high)
+          (subst (λ v. R (x low) (x high) v (number difference)) (sym at_low) pair);
+      kept = λ k nl nh.
+          not_written number (set words high difference) low k sum nl ∙ not_written number words high k difference nh;
+    }
+
+moved : (R : ℕ → ℕ → ℕ → ℕ → Type 0) {a b s d a' b' s' d' : ℕ} → a ≡ a' → b ≡ b' → s ≡ s'
+    → d ≡ d' → R a b s d → R a' b' s' d'
+moved R {a} {b} {s} {d} {a'} {b'} {s'} {d'} ea eb es ed h =
+    subst (λ v. R v b' s' d') ea
+    (subst (λ v. R a v s' d') eb (subst (λ v. R a b v d') es (subst (λ v. R a b s v) ed h)))
+
+pub block_none : (R : ℕ → ℕ → ℕ → ℕ → Type 0) (first half : ℕ) (x : ℕ → ℕ) → BlockDone R first half 0 x x
+block_none R first half x = record { pairs = λ i l. absurd (omega arith); kept = λ k n1 n2. refl }
+
+-- one more column
+pub block_more : (R : ℕ → ℕ → ℕ → ℕ → Type 0) (first half i : ℕ) (x y after : ℕ → ℕ) → i < half
+    → BlockDone R first half i x y → PairDone R (first + i) (first + (half + i)) y after
+    → BlockDone R first half (i + 1) x after
+block_more R first half i x y after within before step = record {
+  pairs = λ k l. elim (cases_eq k i) [
+    | inl e ↦
+        let low_kept = before.kept (first + i) (λ n s. omega arith) (λ n s. omega arith) in
+        let high_kept = before.kept (first + (half + i)) (λ n s. omega arith) (λ n s. omega arith) in
+        subst (λ n. R (x (first + n)) (x (first + (half + n))) (after (first + n)) (after (first + (half + n)))) (sym e)
+        (moved R low_kept high_kept refl refl step.pair)
+    | inr ne ↦
+        moved R refl refl (sym (step.kept (first + k) (omega arith) (omega arith)))
+        (sym (step.kept (first + (half + k)) (omega arith) (omega arith)))
+        (before.pairs k (omega arith))
+  ];
+  kept = λ k n1 n2. step.kept k (n1 i (omega arith)) (n2 i (omega arith))
+      ∙ before.kept k (λ n s. n1 n (omega arith)) (λ n s. n2 n (omega arith));
+}
+
+pub stage_none : (R : ℕ → ℕ → ℕ → ℕ → ℕ → Type 0) (half : ℕ) (x : ℕ → ℕ) → StageDone R half 0 x x
+stage_none R half x = record { pairs = λ p i l k. absurd (omega arith); kept = λ k l. refl }
+
+-- one more block
+pub stage_more : (R : ℕ → ℕ → ℕ → ℕ → ℕ → Type 0) (half p : ℕ) (x y after : ℕ → ℕ) → StageDone R half p x y
+    → BlockDone (R p) (p * (half + half)) half half y after
+    → StageDone R half (p + 1) x after
+stage_more R half p x y after before step = record {
+  pairs = λ q i l k. elim (cases_eq q p) [
+    | inl e ↦
+        let low_kept = before.kept (p * (half + half) + i) (omega arith) in
+        let high_kept = before.kept (p * (half + half) + (half + i)) (omega arith) in
+        subst (λ n. R n (x (n * (half + half) + i)) (x (n * (half + half) + (half + i))) (after (n * (half + half) + i))
+        (after (n * (half + half) + (half + i)))) (sym e)
+        (moved (R p) low_kept high_kept refl refl (step.pairs i k))
+    | inr ne ↦
+        let room = mul-le-mul_right (half + half) (let r : q + 1 ≤ p = omega arith in r) in
+        moved (R q) refl refl
+        (sym (step.kept (q * (half + half) + i) (λ n s. omega (arith, room)) (λ n s. omega (arith, room))))
+        (sym (step.kept (q * (half + half) + (half + i)) (λ n s. omega (arith, room)) (λ n s. omega (arith, room))))
+        (before.pairs q i (omega arith) k)
+  ];
+  kept = λ k l. step.kept k (λ n s. omega arith) (λ n s. omega arith) ∙ before.kept k (omega arith);
+}
+
+-- all columns
+pub block_all : {R : ℕ → ℕ → ℕ → ℕ → Type 0} {first half i : ℕ} {x y : ℕ → ℕ} → BlockDone R first half i x y → i ≡ half
+    → BlockDone R first half half x y
+block_all {R} {first} {half} {i} {x} {y} done e = subst (λ n. BlockDone R first half n x y) e done
+
+-- a block of what follows
+pub pairs_mapped : {R S : ℕ → ℕ → ℕ → ℕ → Type 0} {first half done : ℕ} {x y : ℕ → ℕ}
+    → ((a b a' b' : ℕ) → R a b a' b' → S a b a' b') → BlockDone R first half done x y → BlockDone S first half done x y
+pairs_mapped {R} {S} follows block = record { pairs = λ i l. follows _ _ _ _ (block.pairs i l); kept = block.kept }
+
+-- all blocks
+pub stage_all : {R : ℕ → ℕ → ℕ → ℕ → ℕ → Type 0} {half p blocks : ℕ} {x y : ℕ → ℕ} → StageDone R half p x y
+    → p ≡ blocks → StageDone R half blocks x y
+stage_all {R} {half} {p} {blocks} {x} {y} done e = subst (λ n. StageDone R half n x y) e done

@@ -1,0 +1,61 @@
+use Rattle.std.proofs.Common.{◌*◌, length, ◌∙◌, arith, refl, ◌<◌}
+use Rattle.modular_plan_passes.proofs.Columns.{neighbours_given}
+use Rattle.modular_plan.proofs.Entries.{all_below, never_beyond}
+use Rattle.modular_plan_passes.proofs.Fours.{block_mapped, neighbours_done, neighbours_below, stage_of_fours_none}
+use Rattle.modular_plan_passes.proofs.Fours.{stage_of_fours_more, stage_of_fours_all}
+use Rattle.modular_plan_passes.proofs.join_stages.join_fours.Goals as goal
+use borrow.Author.Count.{falls}
+use borrow.Author.Rules.{scaled_Fits}
+
+pub fours-init : goal.fours-init
+fours-init g c = record {
+  kept = λ k l. refl;
+  below = λ k l. absurd (omega arith);
+  done = λ root z plan. stage_of_fours_none _ 1 _;
+}
+
+pub minus_inverses-w-requires : goal.minus_inverses-w-requires
+minus_inverses-w-requires g c = record { factors = c.requires.factors; within = omega arith }
+
+pub returns-then-is_beyond : goal.returns-then-is_beyond
+returns-then-is_beyond g c =
+    let room = g.met.M.JoinSteps.room c.args.m.now in
+    let far = c.if-is_beyond.ensures refl in
+    never_beyond g.T.RingWord.number (4 * g.M.JoinSteps.modulus c.args.m.now) c.fours.xs c.args.xs.now (c.fours.p * 4)
+    c.index-xs-place.result c.requires.entries (omega arith) (omega arith) c.index-xs-place.is
+    (c.fours.invariant.kept (c.fours.p * 4) (omega arith)) (omega (arith, far, room))
+
+pub invariant_of-step : goal.invariant_of-step
+invariant_of-step g c = record { factors = c.minus_inverses-w.ensures.factors }
+
+pub neighbours-requires : goal.neighbours-requires
+neighbours-requires g c =
+    neighbours_given g.T.RingWord.number c.fours.p c.args.xs.now c.fours.xs c.requires.entries c.fours.invariant.kept
+    (omega arith) (omega arith)
+
+pub fours-preserved : goal.fours-preserved
+fours-preserved g c =
+    let step = c.neighbours.ensures in
+    record {
+      kept = λ k l. step.kept k (omega arith) (omega arith) (omega arith) (omega arith) ∙ c.fours.invariant.kept k (omega arith);
+      below = neighbours_below c.fours.p c.fours.invariant.below step;
+      done = λ root z plan.
+          stage_of_fours_more _ 1 c.fours.p _ _ _ (c.fours.invariant.done root z plan)
+          (block_mapped (λ a b c' d e f g' h is. is.each _ _ _ (c.minus_inverses-w.ensures.inverses root z plan))
+          (neighbours_done (c.fours.p * 4) step));
+    }
+
+pub returns : goal.returns
+returns g c = record {
+  entries = all_below g.T.RingWord.number (g.M.JoinSteps.bound c.args.m.now) (length c.args.xs.now) c.fours.xs
+      (omega arith) (λ k l. c.fours.invariant.below k (omega arith));
+  done = λ root z plan. stage_of_fours_all (c.fours.invariant.done root z plan) (omega arith);
+}
+
+pub offset_bounds-xs-place : goal.offset_bounds-xs-place
+offset_bounds-xs-place g c =
+    let within : c.fours.p * 4 < length c.args.xs.now = omega arith in
+    scaled_Fits _ _ _ within c.well_formed.1.0.1
+
+pub fours-smaller : goal.fours-smaller
+fours-smaller g c = falls _ _ c.fours-test.true

@@ -1,0 +1,66 @@
+use Rattle.std.proofs.Common.{◌+◌, ◌≤◌, arith}
+use Rattle.std.proofs.Math.Nat.{mul-le-mul_right}
+use Rattle.modular_plan_passes.proofs.Columns.{block_below}
+use Rattle.modular_plan_passes.proofs.Fours.{block_mapped, stage_of_fours_none, stage_of_fours_more, stage_of_fours_all}
+use Rattle.modular_plan_passes.proofs.join_stages.join_two_stages.Goals as goal
+use borrow.Author.Count.{falls}
+
+pub four_quarters-init : goal.four_quarters-init
+four_quarters-init g c = record {
+  entries = c.requires.entries;
+  done = λ root z plan. stage_of_fours_none _ c.args.q _;
+}
+
+pub minus_inverses-w-requires : goal.minus_inverses-w-requires
+minus_inverses-w-requires g c = record { factors = c.requires.factors; within = omega arith }
+
+pub overflow_add-half : goal.overflow_add-half
+overflow_add-half g c =
+    let q = c.args.q in
+    let room = mul-le-mul_right (q + q + (q + q)) (let l : c.four_quarters.p + 1 ≤ c.args.blocks = omega arith in l) in
+    omega (arith, room)
+
+pub overflow_add-half-in-four_quarters : goal.overflow_add-half-in-four_quarters
+overflow_add-half-in-four_quarters g c =
+    let q = c.args.q in
+    let room = mul-le-mul_right (q + q + (q + q)) (let l : c.four_quarters.p + 1 ≤ c.args.blocks = omega arith in l) in
+    omega (arith, room)
+
+pub overflow_mul-p : goal.overflow_mul-p
+overflow_mul-p g c =
+    let q = c.args.q in
+    let room = mul-le-mul_right (q + q + (q + q)) (let l : c.four_quarters.p + 1 ≤ c.args.blocks = omega arith in l) in
+    omega (arith, room)
+
+pub invariant_of-step : goal.invariant_of-step
+invariant_of-step g c = record { factors = c.minus_inverses-w.ensures.factors }
+
+pub quarters-requires : goal.quarters-requires
+quarters-requires g c =
+    let q = c.args.q in
+    let bound = g.met.M.JoinSteps.bound_fits c.args.m.now in
+    let limit = g.met.M.JoinSteps.room c.args.m.now in
+    let room = mul-le-mul_right (q + q + (q + q)) (let l : c.four_quarters.p + 1 ≤ c.args.blocks = omega arith in l) in
+    record {
+      entries = c.four_quarters.invariant.entries;
+      within = omega (arith, room);
+      fits = omega (arith, bound, limit);
+    }
+
+pub four_quarters-preserved : goal.four_quarters-preserved
+four_quarters-preserved g c = record {
+  entries = block_below g.T.RingWord.number _ _ c.quarters.auto.xs c.four_quarters.invariant.entries c.quarters.ensures;
+  done = λ root z plan.
+      stage_of_fours_more _ c.args.q c.four_quarters.p _ _ _ (c.four_quarters.invariant.done root z plan)
+      (block_mapped (λ a b c' d e f g' h is. is.done.each _ _ _ (c.minus_inverses-w.ensures.inverses root z plan))
+      c.quarters.ensures);
+}
+
+pub returns : goal.returns
+returns g c = record {
+  entries = c.four_quarters.invariant.entries;
+  done = λ root z plan. stage_of_fours_all (c.four_quarters.invariant.done root z plan) (omega arith);
+}
+
+pub four_quarters-smaller : goal.four_quarters-smaller
+four_quarters-smaller g c = falls _ _ c.four_quarters-test.true

@@ -1,0 +1,47 @@
+use Rattle.std.proofs.Common.{◌≡◌, ◌+◌, ◌*◌, arith}
+use Rattle.modular_plan_passes.proofs.Bounds.{multiple_is_none, reduced_by_multiple}
+use Rattle.modular_plan_passes.proofs.JoinedPairs.{joined_by_one, joined_pair_up_to, joined_pair_scaled}
+use Rattle.modular_plan_passes.proofs.join_steps.PlannedModulusJoinSteps.four_by_one.Goals as goal
+
+pub scaled_pair-a-requires-clause-multiple : goal.scaled_pair-a-requires-clause-multiple
+scaled_pair-a-requires-clause-multiple g c = multiple_is_none 2 _ c.twice-twice.ensures
+
+pub scaled_pair-b-requires-clause-multiple : goal.scaled_pair-b-requires-clause-multiple
+scaled_pair-b-requires-clause-multiple g c = multiple_is_none 2 _ c.twice-twice.ensures
+
+pub returns-clause-four : goal.returns-clause-four
+returns-clause-four g c =
+    let n = g.T.RingWord.number in
+    let s = n c.args.s.now.value in
+    let x = n c.args.x in
+    let y = n c.args.y in
+    let bound = n c.twice-twice.result in
+    let none = multiple_is_none 2 bound c.twice-twice.ensures in
+    let sum = n c.plus.result in
+    let difference = n c.plus-2.result in
+    let high = c.pair-g in
+    let is_difference = c.plus-2.ensures in
+    let is_rest = c.minus.ensures.value in
+    let apart : difference + y ≡ x + bound = omega (arith, is_difference, is_rest) in
+    let low = joined_pair_up_to 1 x y sum difference _ _
+    (reduced_by_multiple _ _ bound none c.reduced_once-e.ensures.value)
+    (reduced_by_multiple _ _ bound none c.reduced_once-f.ensures.value)
+    (joined_by_one x y bound sum difference none c.plus.ensures apart) in
+    λ v is_v. record {
+      e = n c.reduced_once-e.result * s;
+      f = n c.reduced_once-f.result * s;
+      g = n high.result.0 * s;
+      h = n high.result.1 * s;
+      low = joined_pair_scaled 1 x y _ _ s low;
+      high = joined_pair_scaled v _ _ _ _ s (high.ensures.pair v is_v);
+      first = c.scaled_pair-a.ensures.pair;
+      second = c.scaled_pair-b.ensures.pair;
+    }
+
+pub returns-clause-below : goal.returns-clause-below
+returns-clause-below g c = record {
+  first = c.scaled_pair-a.ensures.below;
+  second = c.scaled_pair-b.ensures.below;
+  third = c.scaled_pair-a.ensures.difference_below;
+  fourth = c.scaled_pair-b.ensures.difference_below;
+}

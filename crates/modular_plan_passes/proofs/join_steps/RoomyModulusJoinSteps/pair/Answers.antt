@@ -1,0 +1,14 @@
+use Rattle.modular_plan_passes.proofs.Bounds.{multiple_is_none, reduced_by_multiple}
+use Rattle.modular_plan_passes.proofs.JoinedPairs.{joined_pair_reduced}
+use Rattle.modular_plan_passes.proofs.join_steps.RoomyModulusJoinSteps.pair.Goals as goal
+
+pub gather-sum-requires-clause-multiple : goal.gather-sum-requires-clause-multiple
+gather-sum-requires-clause-multiple g c = multiple_is_none 4 _ c.fourfold-fourfold.ensures
+
+pub returns-clause-pair : goal.returns-clause-pair
+returns-clause-pair g c =
+    let bound = g.T.RingWord.number c.fourfold-fourfold.result in
+    λ w inverse.
+    joined_pair_reduced w _ _ _ _ _
+    (reduced_by_multiple _ _ bound (multiple_is_none 4 bound c.fourfold-fourfold.ensures) c.reduced_once.ensures.value)
+    (c.gather-sum.ensures.pair w inverse)

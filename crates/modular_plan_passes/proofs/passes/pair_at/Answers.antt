@@ -1,0 +1,55 @@
+use Rattle.std.proofs.Common.{◌<◌, length, arith, subst}
+use Rattle.std.proofs.lemmas.List.Elements.{All-set}
+use Rattle.modular_plan.specs.Plans.{numbers}
+use Rattle.modular_plan.proofs.Entries.{below_read, number_read}
+use Rattle.modular_plan_passes.proofs.Steps.{pair_written}
+use Rattle.modular_plan_passes.proofs.passes.pair_at.Goals as goal
+use borrow.Author.Rules.{scaled_Fits}
+
+pub pair-first-requires : goal.pair-first-requires
+pair-first-requires g c =
+    let n = g.T.RingWord.number in
+    let bound = g.S.PairStep.bound c.args.step.now in
+    let xs = c.args.xs.now in
+    record {
+      below = below_read n bound xs c.args.low c.index-xs-low.result c.requires.entries (omega arith) c.index-xs-low.is;
+      other_below = below_read n bound xs c.args.high c.index-xs-high.result c.requires.entries c.requires.within
+          c.index-xs-high.is;
+    }
+
+pub returns : goal.returns
+returns g c =
+    let n = g.T.RingWord.number in
+    let R = g.S.PairStep.done c.args.step.now in
+    let P = λ (x : g.row.T.Denot). n x < g.S.PairStep.bound c.args.step.now in
+    let xs = c.args.xs.now in
+    let low = c.args.low in
+    let high = c.args.high in
+    let a_is = number_read n xs low c.index-xs-low.result
+    (let l : low < length xs = omega arith in l) c.index-xs-low.is in
+    let b_is = number_read n xs high c.index-xs-high.result c.requires.within c.index-xs-high.is in
+    let step = c.pair-first in
+    let values = step.result in
+    record {
+      entries = All-set P _ low values.0 step.ensures.below
+          (All-set P xs high values.1 step.ensures.other_below c.requires.entries);
+      done = pair_written n R xs low high values.0 values.1 c.requires.order c.requires.within
+          (subst (λ a. R a (numbers n xs high) (n values.0) (n values.1)) a_is
+          (subst (λ b. R (n c.index-xs-low.result) b (n values.0) (n values.1)) b_is step.ensures.done));
+    }
+
+pub offset_bounds-xs-low : goal.offset_bounds-xs-low
+offset_bounds-xs-low g c =
+    let within : c.args.low < length c.args.xs.now = omega arith in
+    scaled_Fits _ _ _ within c.well_formed.1.0.1
+
+pub offset_bounds-xs-high : goal.offset_bounds-xs-high
+offset_bounds-xs-high g c = scaled_Fits _ _ _ c.requires.within c.well_formed.1.0.1
+
+pub offset_bounds-xs-high-2 : goal.offset_bounds-xs-high-2
+offset_bounds-xs-high-2 g c = scaled_Fits _ _ _ c.requires.within c.well_formed.1.0.1
+
+pub offset_bounds-xs-low-2 : goal.offset_bounds-xs-low-2
+offset_bounds-xs-low-2 g c =
+    let within : c.args.low < length c.args.xs.now = omega arith in
+    scaled_Fits _ _ _ within c.well_formed.1.0.1

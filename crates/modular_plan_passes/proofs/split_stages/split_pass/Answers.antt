@@ -1,0 +1,39 @@
+use Rattle.std.proofs.Common.{◌≡◌, ℕ, ◌+◌, ◌*◌, length, sym, ◌∙◌, arith, subst}
+use Rattle.modular_plan.specs.Plans.{numbers}
+use Rattle.modular_plan_passes.specs.Steps.{IsFourSplit}
+use Rattle.modular_plan_passes.proofs.Columns.{block_below, factor_read}
+use Rattle.modular_plan.proofs.Entries.{number_read}
+use Rattle.modular_plan_passes.proofs.Fours.{block_mapped, first_stage}
+use Rattle.modular_plan_passes.proofs.split_stages.split_pass.Goals as goal
+
+pub invariant_of-step : goal.invariant_of-step
+invariant_of-step g c = record {
+  factor = factor_read g.F.PlanEntry.value g.F.PlanEntry.quotient c.args.table.now 1 c.index-table-1.result
+      c.requires.ready.factors (omega arith) c.index-table-1.is c.factor-v.ensures.value c.factor-v.ensures.quotient;
+}
+
+pub quarters-requires : goal.quarters-requires
+quarters-requires g c =
+    let size : ℕ = c.args.q + c.args.q + (c.args.q + c.args.q) in
+    let whole : 1 * size ≡ length c.args.xs.now =
+    subst (λ n. n * size ≡ length c.args.xs.now) c.if-blocks-eq1.true c.requires.ready.whole in
+    record {
+      entries = c.requires.first_entries c.if-blocks-eq1.true;
+      within = omega (arith, whole);
+      fits = g.met.M.SplitSteps.room c.args.m.now;
+    }
+
+pub returns-then-is_one : goal.returns-then-is_one
+returns-then-is_one g c =
+    let value = g.F.PlanEntry.value in
+    let table = c.args.table.now in
+    let zero = number_read value table 0 c.index-table-0.result (omega arith) c.index-table-0.is in
+    let one = number_read value table 1 c.index-table-1.result (omega arith) c.index-table-1.is in
+    let begins = sym zero ∙ sym c.factor.ensures.value ∙ c.is_one.ensures.0 c.if-is_one.true in
+    record {
+      entries = block_below g.T.RingWord.number _ _ c.quarters.auto.xs c.requires.ready.entries c.quarters.ensures;
+      done = first_stage (IsFourSplit (g.M.SplitSteps.modulus c.args.m.now)) c.args.q
+          (g.T.RingWord.number c.factor-v.result.value) c.args.first c.args.blocks (numbers value table) _ _
+          c.if-first-eq0.true c.if-blocks-eq1.true begins (c.factor-v.ensures.value ∙ one)
+          (block_mapped (λ a b c d e f g h is. is.done) c.quarters.ensures);
+    }

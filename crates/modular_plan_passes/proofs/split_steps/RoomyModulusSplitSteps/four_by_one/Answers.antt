@@ -1,0 +1,36 @@
+use Rattle.std.proofs.Common.{arith, refl}
+use Rattle.modular_plan_passes.proofs.Steps.{pair_by_one, pair_up_to, reduced_by}
+use Rattle.modular_plan_passes.proofs.Fours.{four_of_pairs}
+use Rattle.modular_plan_passes.proofs.split_steps.RoomyModulusSplitSteps.four_by_one.Goals as goal
+
+pub returns-clause-four : goal.returns-clause-four
+returns-clause-four g c =
+    let n = g.T.RingWord.number in
+    let outer = c.sum_and_difference-e in
+    let inner = c.sum_and_difference-f in
+    let low = c.sum_and_difference-a in
+    let four = c.fourfold-fourfold.ensures in
+    let eight = c.eightfold-eightfold.ensures in
+    four_of_pairs 1 1 (n c.args.v.now.value) refl refl refl refl
+    (pair_by_one 4 _ _ _ _ _ four outer.ensures.sum outer.ensures.difference)
+    (pair_by_one 4 _ _ _ _ _ four inner.ensures.sum inner.ensures.difference)
+    (pair_up_to 1 _ _ _ _ _ _ (reduced_by 8 (n low.result.0) _ _ c.reduced_once.ensures.value eight)
+    (reduced_by 8 (n low.result.1) _ _ c.reduced_once-2.ensures.value eight)
+    (pair_by_one 8 _ _ _ _ _ eight low.ensures.sum low.ensures.difference))
+    c.spread-c.ensures.pair
+
+pub sum_and_difference-e-requires : goal.sum_and_difference-e-requires
+sum_and_difference-e-requires g c =
+    let room = c.args.self.now.room in
+    let four = c.fourfold-fourfold.ensures in
+    let x = c.requires.below.first in
+    let z = c.requires.below.third in
+    record { most = omega (arith, four, z); room = omega (arith, room, four, x) }
+
+pub sum_and_difference-f-requires : goal.sum_and_difference-f-requires
+sum_and_difference-f-requires g c =
+    let room = c.args.self.now.room in
+    let four = c.fourfold-fourfold.ensures in
+    let y = c.requires.below.second in
+    let t = c.requires.below.fourth in
+    record { most = omega (arith, four, t); room = omega (arith, room, four, y) }

@@ -1,0 +1,4 @@
+pub mod Conditions
+pub mod Joins
+pub mod Splits
+pub mod Steps

@@ -1,0 +1,194 @@
+//! The passes of a join over all blocks: a stage, or two.
+
+ghost use Rattle.std.specs.Prelude.{◌≡◌, ℕ, ◌+◌, ◌*◌, ◌^◌, ◌<◌, ◌≤◌, All, length};
+ghost use Rattle.modular_plan.specs.Factors.{IsFactorOf};
+ghost use Rattle.modular_plan.specs.Plans.{numbers, IsPlan};
+ghost use Rattle.modular_plan_passes.specs.Splits.{AreFactorsOf};
+ghost use Rattle.modular_plan_passes.specs.Steps.{StageDone};
+ghost use Rattle.modular_plan_passes.specs.Joins.{IsPairJoin, IsMinusInverse, AreMinusInverses};
+ghost use Rattle.modular_plan_passes.specs.Conditions.{IsTableOfFactors, IsStageReady, IsPassReady, IsPassJoined};
+
+use crate::join_steps::JoinSteps;
+use crate::pass_joins::{JoinFour, JoinLowered, JoinPair};
+use crate::passes::{neighbours, pairs, quarters};
+use modular_plan::entry::PlanEntry;
+use modular_plan::modulus::Factor;
+use modular_prim::plain_word::PlainWord;
+use modular_word::path_word::PathWord;
+use modular_word::ring_word::RingWord;
+
+// The index with the bits below its highest bit 2^k inverted.
+fn mirrored(place: usize) -> usize
+    requires { 0 < place }
+    ensures { (k : ℕ) × (2 ^ k ≤ place) × (place < 2 * 2 ^ k) × (place + result + 1 ≡ 3 * 2 ^ k) }
+{
+    let power = 1 << place.ilog2();
+    power + (power - 1 - (place - power))
+}
+
+// Minus the inverse of the factor at an index: the factor at the mirrored index, or -1 for index 0. Where the table
+// is no plan the mirrored index may be out of bounds.
+fn minus_inverse<T: PlainWord, F: PlanEntry<T>, M: JoinSteps<T>>(
+    m: &M,
+    table: &[F],
+    place: usize,
+    minus: Factor<T>,
+) -> Factor<T>
+    requires factors { IsTableOfFactors T.base (M.modulus m.now) F.value F.quotient table.now
+        (T.number minus.value) (T.number minus.quotient) }
+    requires within { place < length table.now }
+    ensures factor { IsFactorOf T.base T.number (M.modulus m.now) result }
+    ensures inverse { let modulus = M.modulus m.now in
+        let w = numbers F.value table.now in (g z : ℕ) →
+        IsPlan modulus g z (length table.now) w → IsMinusInverse modulus (w place) (T.number result.value) }
+{
+    if place == 0 {
+        return minus;
+    }
+    let other = mirrored(place);
+    if other < table.len() {
+        table[other].factor()
+    } else {
+        minus
+    }
+}
+
+/// Minus the inverses of the factors of a block and of its halves. One mirrored index gives all three: those of the
+/// halves are at twice that index, in the opposite order. Condition: the table has these factors modulo m, and `minus`
+/// is the factor -1.
+pub fn minus_inverses<T: PlainWord, F: PlanEntry<T>, M: JoinSteps<T>>(
+    m: &M,
+    table: &[F],
+    place: usize,
+    minus: Factor<T>,
+) -> (Factor<T>, Factor<T>, Factor<T>)
+    requires factors { IsTableOfFactors T.base (M.modulus m.now) F.value F.quotient table.now
+        (T.number minus.value) (T.number minus.quotient) }
+    requires within { 2 * place + 1 < length table.now }
+    ensures factors { AreFactorsOf T.base T.number (M.modulus m.now) result.0 result.1 result.2 }
+    ensures inverses { let modulus = M.modulus m.now in
+        let w = numbers F.value table.now in (g z : ℕ) →
+        IsPlan modulus g z (length table.now) w → AreMinusInverses modulus (w place) (w (2 * place)) (w (2 * place + 1))
+        (T.number result.0.value) (T.number result.1.value) (T.number result.2.value) }
+{
+    if place == 0 {
+        return (minus, minus, table[1].factor());
+    }
+    let other = mirrored(place);
+    if other < table.len() / 2 {
+        (
+            table[other].factor(),
+            table[2 * other + 1].factor(),
+            table[2 * other].factor(),
+        )
+    } else {
+        (minus, minus, minus)
+    }
+}
+
+/// Joins all blocks of a stage, block p by entry first + p of the table. Condition: the entries are below the bound, the
+/// table has a factor modulo m for each block, and `minus` is the factor -1.
+pub fn join_stage<T: PlainWord, F: PlanEntry<T>, M: JoinSteps<T>>(
+    m: &M,
+    xs: &mut [T],
+    half: usize,
+    blocks: usize,
+    table: &[F],
+    first: usize,
+    minus: &Factor<T>,
+)
+    requires { IsStageReady T.number F.value F.quotient T.base (M.modulus m.now) (M.bound m.now)
+        half blocks first (T.number minus.now.value) (T.number minus.now.quotient) xs.old table.now }
+    ensures entries { All (λ x. T.number x < M.bound m.now) xs.new }
+    ensures done { let modulus = M.modulus m.now in
+        let w = numbers F.value table.now in (g z : ℕ) →
+        IsPlan modulus g z (length table.now) w →
+        StageDone (λ p. IsPairJoin modulus (w (first + p))) half blocks
+        (numbers T.number xs.old) (numbers T.number xs.new) }
+{
+    'each_block: for p in 0..blocks {
+        let v = minus_inverse(m, table, first + p, *minus);
+        let step = JoinPair { m: *m, v };
+        pairs(m, &step, xs, p * (half + half), half);
+    }
+}
+
+// Two stages of all blocks: block p by entry first + p of the table, and its halves by the entries 2·(first + p)
+// and 2·(first + p) + 1.
+#[inline(always)]
+fn join_two_stages<T: PlainWord, F: PlanEntry<T>, M: JoinSteps<T>>(
+    m: &M,
+    xs: &mut [T],
+    q: usize,
+    blocks: usize,
+    table: &[F],
+    first: usize,
+    minus: &Factor<T>,
+)
+    requires { IsPassReady T.number F.value F.quotient T.base (M.modulus m.now) (M.bound m.now)
+        q blocks first (T.number minus.now.value) (T.number minus.now.quotient) xs.old table.now }
+    ensures { IsPassJoined T.number F.value (M.modulus m.now) (M.bound m.now) q blocks first table.now
+        xs.old xs.new }
+{
+    'four_quarters: for p in 0..blocks {
+        let (w, u, v) = minus_inverses(m, table, first + p, *minus);
+        let half = q + q;
+        let step = JoinFour { m: *m, w, u, v };
+        quarters(m, &step, xs, p * (half + half), q);
+    }
+}
+
+/// Two stages of all blocks, with each power of four up to 1024 as a constant length, for the reason given at
+/// `split_known`. Condition: the entries are below the bound, the table has the factors modulo m of each block and of
+/// its halves, and `minus` is the factor -1.
+pub fn join_known<T: PlainWord, F: PlanEntry<T>, M: JoinSteps<T>>(
+    m: &M,
+    xs: &mut [T],
+    q: usize,
+    blocks: usize,
+    table: &[F],
+    first: usize,
+    minus: &Factor<T>,
+)
+    requires { IsPassReady T.number F.value F.quotient T.base (M.modulus m.now) (M.bound m.now)
+        q blocks first (T.number minus.now.value) (T.number minus.now.quotient) xs.old table.now }
+    ensures { IsPassJoined T.number F.value (M.modulus m.now) (M.bound m.now) q blocks first table.now
+        xs.old xs.new }
+{
+    match q {
+        4 => join_two_stages(m, xs, 4, blocks, table, first, minus),
+        16 => join_two_stages(m, xs, 16, blocks, table, first, minus),
+        64 => join_two_stages(m, xs, 64, blocks, table, first, minus),
+        256 => join_two_stages(m, xs, 256, blocks, table, first, minus),
+        1024 => join_two_stages(m, xs, 1024, blocks, table, first, minus),
+        _ => join_two_stages(m, xs, q, blocks, table, first, minus),
+    }
+}
+
+/// The first two stages of all blocks of four entries, which makes them less than the bound: block p by entry
+/// first + p of the table, and its halves by the entries 2·(first + p) and 2·(first + p) + 1. Condition: the entries are
+/// below 4m, the table has these factors modulo m, and `minus` is the factor -1.
+pub fn join_fours<T: PlainWord, F: PlanEntry<T>, M: JoinSteps<T>>(
+    m: &M,
+    xs: &mut [T],
+    blocks: usize,
+    table: &[F],
+    first: usize,
+    minus: &Factor<T>,
+)
+    requires { IsPassReady T.number F.value F.quotient T.base (M.modulus m.now) (4 * M.modulus m.now)
+        1 blocks first (T.number minus.now.value) (T.number minus.now.quotient) xs.old table.now }
+    ensures { IsPassJoined T.number F.value (M.modulus m.now) (M.bound m.now) 1 blocks first table.now
+        xs.old xs.new }
+{
+    'fours: for p in 0..blocks {
+        let (w, u, v) = minus_inverses(m, table, first + p, *minus);
+        let place = p * 4;
+        // Unreachable (see `is_beyond`).
+        if m.is_beyond(xs[place]) {
+            return;
+        }
+        let step = JoinFour { m: *m, w, u, v };
+        neighbours(&JoinLowered { step }, xs, place);
+    }
+}

@@ -1,0 +1,192 @@
+//! The steps of a pass of `split`, by how much greater than the modulus words may be.
+
+ghost use Rattle.std.specs.Prelude.{◌≡◌, ℕ, ◌+◌, ◌*◌, ◌%◌, ◌<◌, ◌≤◌};
+ghost use Rattle.std.proofs.Common.{le_refl, mul-le-mul_right, lit≤};
+ghost use Rattle.modular_plan.specs.Factors.{IsFactorOf};
+ghost use Rattle.modular_plan_passes.specs.Splits.{AreFourBelow, AreFactorsOf};
+ghost use Rattle.modular_plan_passes.specs.Steps.{IsPairSplit, IsFourSplit};
+
+use modular_plan::bounded::Bounded;
+use modular_plan::modulus::{Factor, PlannedModulus};
+use modular_plan::roomy::RoomyModulus;
+use modular_prim::below::reduced_once;
+use modular_prim::plain_word::PlainWord;
+use modular_word::path_word::PathWord;
+use modular_word::ring_word::RingWord;
+
+/// A modulus m by which pairs and fours of entries are split. Between two passes the entries stay below the limit, a
+/// multiple of m. Condition of each call: entries x, y, z and t are below it, and factors are factors modulo m.
+pub trait SplitSteps<T: PlainWord>: Bounded<T> + Copy {
+    ghost modulus: { Self → ℕ };
+
+    /// Numbers below the limit, congruent to x + y·w and x - y·w.
+    fn pair(&self, x: T, y: T, w: &Factor<T>) -> (T, T)
+        requires below { T.number x < Self.limit self.now }
+        requires factor { IsFactorOf T.base T.number (modulus self.now) w.now }
+        ensures below { T.number result.0 < Self.limit self.now }
+        ensures difference_below { T.number result.1 < Self.limit self.now }
+        ensures pair { IsPairSplit (modulus self.now) (T.number w.now.value) (T.number x) (T.number y)
+            (T.number result.0) (T.number result.1) };
+
+    /// Two stages of four numbers a quarter of a block apart, with the factor w of the block, and u and v of its
+    /// halves.
+    fn four(
+        &self,
+        x: T,
+        y: T,
+        z: T,
+        t: T,
+        w: &Factor<T>,
+        u: &Factor<T>,
+        v: &Factor<T>,
+    ) -> (T, T, T, T)
+        requires below { (T.number x < Self.limit self.now) × (T.number y < Self.limit self.now) }
+        requires factors { AreFactorsOf T.base T.number (modulus self.now) w.now u.now v.now }
+        ensures below { AreFourBelow (Self.limit self.now) (T.number result.0) (T.number result.1)
+            (T.number result.2) (T.number result.3) }
+        ensures four { IsFourSplit (modulus self.now) (T.number w.now.value) (T.number u.now.value)
+            (T.number v.now.value) (T.number x) (T.number y) (T.number z) (T.number t)
+            (T.number result.0) (T.number result.1) (T.number result.2) (T.number result.3) };
+
+    /// The same for numbers below 4m, where w and u are 1.
+    fn four_by_one(&self, x: T, y: T, z: T, t: T, v: &Factor<T>) -> (T, T, T, T)
+        requires below { AreFourBelow (4 * modulus self.now) (T.number x) (T.number y) (T.number z) (T.number t) }
+        requires factor { IsFactorOf T.base T.number (modulus self.now) v.now }
+        ensures below { AreFourBelow (Self.limit self.now) (T.number result.0) (T.number result.1)
+            (T.number result.2) (T.number result.3) }
+        ensures four { IsFourSplit (modulus self.now) 1 1 (T.number v.now.value)
+            (T.number x) (T.number y) (T.number z) (T.number t)
+            (T.number result.0) (T.number result.1) (T.number result.2) (T.number result.3) };
+
+    /// The residue of an entry, below m.
+    fn residue(&self, x: T) -> T
+        requires { T.number x < Self.limit self.now }
+        ensures { T.number result ≡ T.number x % modulus self.now };
+
+    ghost some: { (m : Self) → 1 ≤ modulus m };
+
+    ghost room: { (m : Self) → 4 * modulus m ≤ Self.limit m };
+}
+
+// Numbers congruent to x + y·w and x - y·w, where x + 2m fits a word.
+fn spread<T: PlainWord>(m: &PlannedModulus<T>, x: T, y: T, w: &Factor<T>) -> (T, T)
+    requires room { T.number x + 2 * T.number m.now.modulus < T.base }
+    requires factor { IsFactorOf T.base T.number (T.number m.now.modulus) w.now }
+    ensures below { T.number result.0 < T.number x + 2 * T.number m.now.modulus }
+    ensures most { T.number result.1 ≤ T.number x + 2 * T.number m.now.modulus }
+    ensures pair { IsPairSplit (T.number m.now.modulus) (T.number w.now.value) (T.number x) (T.number y)
+        (T.number result.0) (T.number result.1) }
+{
+    let product = m.times(y, w);
+    (x.plus(product), x.plus(m.twice().minus(product)))
+}
+
+// x + y and x + (b - y), for a bound b that is at least y.
+fn sum_and_difference<T: PlainWord>(x: T, y: T, bound: T) -> (T, T)
+    requires most { T.number y ≤ T.number bound }
+    requires room { T.number x + T.number bound < T.base }
+    ensures sum { T.number result.0 ≡ T.number x + T.number y }
+    ensures difference { T.number result.1 + T.number y ≡ T.number x + T.number bound }
+{
+    (x.plus(y), x.plus(bound.minus(y)))
+}
+
+// Numbers congruent to x + y and x - y, all below 4m.
+fn pair_by_one<T: PlainWord>(m: &PlannedModulus<T>, x: T, y: T) -> (T, T)
+    requires below { T.number x < 4 * T.number m.now.modulus }
+    requires other_below { T.number y < 4 * T.number m.now.modulus }
+    ensures below { T.number result.0 < 4 * T.number m.now.modulus }
+    ensures difference_below { T.number result.1 < 4 * T.number m.now.modulus }
+    ensures pair { IsPairSplit (T.number m.now.modulus) 1 (T.number x) (T.number y)
+        (T.number result.0) (T.number result.1) }
+{
+    let twice = m.twice();
+    sum_and_difference(reduced_once(x, twice), reduced_once(y, twice), twice)
+}
+
+// Entries stay below 4m.
+impl<T: PlainWord> SplitSteps<T> for PlannedModulus<T> {
+    ghost modulus = { λ m. T.number m.modulus };
+
+    fn pair(&self, x: T, y: T, w: &Factor<T>) -> (T, T) {
+        spread(self, reduced_once(x, self.twice()), y, w)
+    }
+
+    fn four(
+        &self,
+        x: T,
+        y: T,
+        z: T,
+        t: T,
+        w: &Factor<T>,
+        u: &Factor<T>,
+        v: &Factor<T>,
+    ) -> (T, T, T, T) {
+        let (e, g) = self.pair(x, z, w);
+        let (f, h) = self.pair(y, t, w);
+        let (a, b) = self.pair(e, f, u);
+        let (c, d) = self.pair(g, h, v);
+        (a, b, c, d)
+    }
+
+    fn four_by_one(&self, x: T, y: T, z: T, t: T, v: &Factor<T>) -> (T, T, T, T) {
+        let (e, g) = pair_by_one(self, x, z);
+        let (f, h) = pair_by_one(self, y, t);
+        let (a, b) = pair_by_one(self, e, f);
+        let (c, d) = self.pair(g, h, v);
+        (a, b, c, d)
+    }
+
+    fn residue(&self, x: T) -> T {
+        PlannedModulus::residue(self, x)
+    }
+
+    ghost some = { λ m. m.some };
+
+    ghost room = { λ m. le_refl (4 * T.number m.modulus) };
+}
+
+// Entries stay below 12m. Of four numbers only one is reduced, from below 12m to below 8m, and no operand of a product.
+impl<T: PlainWord> SplitSteps<T> for RoomyModulus<T> {
+    ghost modulus = { λ m. T.number m.planned.modulus };
+
+    fn pair(&self, x: T, y: T, w: &Factor<T>) -> (T, T) {
+        spread(&self.planned, reduced_once(x, self.eightfold()), y, w)
+    }
+
+    fn four(
+        &self,
+        x: T,
+        y: T,
+        z: T,
+        t: T,
+        w: &Factor<T>,
+        u: &Factor<T>,
+        v: &Factor<T>,
+    ) -> (T, T, T, T) {
+        let m = &self.planned;
+        let (e, g) = spread(m, reduced_once(x, self.eightfold()), z, w);
+        let (f, h) = spread(m, y, t, w);
+        let (a, b) = spread(m, e, f, u);
+        let (c, d) = spread(m, g, h, v);
+        (a, b, c, d)
+    }
+
+    fn four_by_one(&self, x: T, y: T, z: T, t: T, v: &Factor<T>) -> (T, T, T, T) {
+        let fourfold = self.fourfold();
+        let eightfold = self.eightfold();
+        let (e, g) = sum_and_difference(x, z, fourfold);
+        let (f, h) = sum_and_difference(y, t, fourfold);
+        let (a, b) = sum_and_difference(e, f, eightfold);
+        let (c, d) = spread(&self.planned, g, h, v);
+        (reduced_once(a, eightfold), reduced_once(b, eightfold), c, d)
+    }
+
+    fn residue(&self, x: T) -> T {
+        RoomyModulus::residue(self, x)
+    }
+
+    ghost some = { λ m. m.planned.some };
+
+    ghost room = { λ m. mul-le-mul_right (T.number m.planned.modulus) (lit≤ tt) };
+}

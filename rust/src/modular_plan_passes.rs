@@ -1,0 +1,10 @@
+//! The passes of splits and joins by a plan over a list: a stage of all blocks, or two.
+
+pub mod join_stages;
+pub mod join_steps;
+pub mod pass_joins;
+mod pass_splits;
+pub mod passes;
+mod places;
+pub mod split_stages;
+pub mod split_steps;

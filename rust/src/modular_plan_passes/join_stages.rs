@@ -1,0 +1,161 @@
+//! The passes of a join over all blocks: a stage, or two.
+
+use crate::modular_plan_passes::join_steps::JoinSteps;
+use crate::modular_plan_passes::pass_joins::{JoinFour, JoinLowered, JoinPair};
+use crate::modular_plan_passes::passes::{neighbours, pairs, quarters};
+use crate::modular_plan::entry::PlanEntry;
+use crate::modular_plan::modulus::Factor;
+use crate::modular_prim::plain_word::PlainWord;
+use crate::modular_word::path_word::PathWord;
+use crate::modular_word::ring_word::RingWord;
+
+// The index with the bits below its highest bit 2^k inverted.
+#[inline]
+fn mirrored(place: usize) -> usize {
+    let power = 1 << crate::additions::ilog2(place);
+    power + (power - 1 - (place - power))
+}
+
+// Minus the inverse of the factor at an index: the factor at the mirrored index, or -1 for index 0. Where the table
+// is no plan the mirrored index may be out of bounds.
+#[inline]
+fn minus_inverse<T: PlainWord, F: PlanEntry<T>, M: JoinSteps<T>>(
+    m: &M,
+    table: &[F],
+    place: usize,
+    minus: Factor<T>,
+) -> Factor<T> {
+    if place == 0 {
+        return minus;
+    }
+    let other = mirrored(place);
+    if other < table.len() {
+        table[other].factor()
+    } else {
+        minus
+    }
+}
+
+/// Minus the inverses of the factors of a block and of its halves. One mirrored index gives all three: those of the
+/// halves are at twice that index, in the opposite order.
+///
+/// # Preconditions
+///
+/// The table has these factors modulo m, and `minus` is the factor -1. This isn't tested: outside it
+/// the call panics, or returns no meaningful result.
+pub fn minus_inverses<T: PlainWord, F: PlanEntry<T>, M: JoinSteps<T>>(
+    m: &M,
+    table: &[F],
+    place: usize,
+    minus: Factor<T>,
+) -> (Factor<T>, Factor<T>, Factor<T>) {
+    if place == 0 {
+        return (minus, minus, table[1].factor());
+    }
+    let other = mirrored(place);
+    if other < table.len() / 2 {
+        (
+            table[other].factor(),
+            table[2 * other + 1].factor(),
+            table[2 * other].factor(),
+        )
+    } else {
+        (minus, minus, minus)
+    }
+}
+
+/// Joins all blocks of a stage, block p by entry first + p of the table.
+///
+/// # Preconditions
+///
+/// The entries are below the bound, the table has a factor modulo m for each block, and `minus` is the
+/// factor -1. This isn't tested: outside it the call panics, or returns no meaningful result.
+pub fn join_stage<T: PlainWord, F: PlanEntry<T>, M: JoinSteps<T>>(
+    m: &M,
+    xs: &mut [T],
+    half: usize,
+    blocks: usize,
+    table: &[F],
+    first: usize,
+    minus: &Factor<T>,
+) {
+    'each_block: for p in 0..blocks {
+        let v = minus_inverse(m, table, first + p, *minus);
+        let step = JoinPair { m: *m, v };
+        pairs(m, &step, xs, p * (half + half), half);
+    }
+}
+
+// Two stages of all blocks: block p by entry first + p of the table, and its halves by the entries 2·(first + p)
+// and 2·(first + p) + 1.
+#[inline(always)]
+fn join_two_stages<T: PlainWord, F: PlanEntry<T>, M: JoinSteps<T>>(
+    m: &M,
+    xs: &mut [T],
+    q: usize,
+    blocks: usize,
+    table: &[F],
+    first: usize,
+    minus: &Factor<T>,
+) {
+    'four_quarters: for p in 0..blocks {
+        let (w, u, v) = minus_inverses(m, table, first + p, *minus);
+        let half = q + q;
+        let step = JoinFour { m: *m, w, u, v };
+        quarters(m, &step, xs, p * (half + half), q);
+    }
+}
+
+/// Two stages of all blocks, with each power of four up to 1024 as a constant length, for the reason given at
+/// `split_known`.
+///
+/// # Preconditions
+///
+/// The entries are below the bound, the table has the factors modulo m of each block and of its halves,
+/// and `minus` is the factor -1. This isn't tested: outside it the call panics, or returns no
+/// meaningful result.
+pub fn join_known<T: PlainWord, F: PlanEntry<T>, M: JoinSteps<T>>(
+    m: &M,
+    xs: &mut [T],
+    q: usize,
+    blocks: usize,
+    table: &[F],
+    first: usize,
+    minus: &Factor<T>,
+) {
+    match q {
+        4 => join_two_stages(m, xs, 4, blocks, table, first, minus),
+        16 => join_two_stages(m, xs, 16, blocks, table, first, minus),
+        64 => join_two_stages(m, xs, 64, blocks, table, first, minus),
+        256 => join_two_stages(m, xs, 256, blocks, table, first, minus),
+        1024 => join_two_stages(m, xs, 1024, blocks, table, first, minus),
+        _ => join_two_stages(m, xs, q, blocks, table, first, minus),
+    }
+}
+
+/// The first two stages of all blocks of four entries, which makes them less than the bound: block p by entry
+/// first + p of the table, and its halves by the entries 2·(first + p) and 2·(first + p) + 1.
+///
+/// # Preconditions
+///
+/// The entries are below 4m, the table has these factors modulo m, and `minus` is the factor -1. This
+/// isn't tested: outside it the call panics, or returns no meaningful result.
+pub fn join_fours<T: PlainWord, F: PlanEntry<T>, M: JoinSteps<T>>(
+    m: &M,
+    xs: &mut [T],
+    blocks: usize,
+    table: &[F],
+    first: usize,
+    minus: &Factor<T>,
+) {
+    'fours: for p in 0..blocks {
+        let (w, u, v) = minus_inverses(m, table, first + p, *minus);
+        let place = p * 4;
+        // Unreachable (see `is_beyond`).
+        if m.is_beyond(xs[place]) {
+            return;
+        }
+        let step = JoinFour { m: *m, w, u, v };
+        neighbours(&JoinLowered { step }, xs, place);
+    }
+}
