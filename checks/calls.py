@@ -77,8 +77,9 @@ def module_of(file):
 class Function:
     """A function: where it stands, its text, and its path as a check prints it."""
 
-    def __init__(self, file, whole, name, start, end, head):
+    def __init__(self, file, whole, name, start, end, head, body):
         self.file, self.whole, self.name, self.start, self.end, self.head = file, whole, name, start, end, head
+        self.body = body  # where it begins, if there is one
         self.crate, self.block = file.relative_to(TOP / "crates").parts[0], block_of(head)
         self.parameters, self.trait, self.type = head_of_impl(head) if head.startswith("impl") else ("", "", "")
         self.is_of = block_of(f"impl<{self.parameters}> {self.type} {{") if self.type else self.block
@@ -101,7 +102,8 @@ def functions(crate):
             is_closed = body[0].strip() in (";", "{}")
             end = body if is_closed else re.compile(rf"^{it[1]}\}}$", re.M).search(whole, body.end())
             head = [head for start, head in heads if start < it.start()][-1:] if it[1] else []
-            found.append(Function(file, whole, it[2], it.start(), end.end(), head[0] if head else ""))
+            of = (it[2], it.start(), end.end(), head[0] if head else "", 0 if is_closed else body.end() - 1)
+            found.append(Function(file, whole, *of))
     return found
 
 
