@@ -242,8 +242,8 @@ fn write<T: RingWord>(regs: &mut [T], last: &mut Last<T>, dst: usize, form: T) {
 // Carries out a command; false exactly where its inverse doesn't exist, and then nothing is written.
 //
 // Inlined into the loop of `run`. Sums, differences and products are computed here, since a call for each of them would
-// take as long as the command. Each has an arm of its own up to the write, which takes fewer jumps. Only the first
-// operand is looked for in `last`: the test takes time in every command.
+// take as long as the command. Each has an arm of its own up to the write, since one for the three is slower. Only the
+// first operand is looked for in `last`: the test takes time in every command.
 #[inline(always)]
 fn carry_out<T: RingWord, R: Reducer<T>>(
     r: &R,
