@@ -5,6 +5,7 @@ use Rattle.std.proofs.lemmas.List.{take-map, get_or-take, length-take-le}
 use Rattle.std.proofs.lemmas.Nat.{pow_pos}
 use Rattle.std.specs.Int.{IsPowerOfTwo}
 use Rattle.modular_transform.specs.Transforms.{transform}
+use Rattle.modular_plan.specs.Factors.{IsFactor}
 use Rattle.modular_plan.specs.Plans.{numbers, IsPlan}
 use Rattle.run_misuse.proofs.plans.by_first_half.Goals as goal
 
@@ -39,6 +40,38 @@ whole_power h y n is =
     let up : 1 ≡ suc 0 = refl in
     let times : 1 * h ≡ h = omega arith in
     ap (λ e. h ^ e) (one ∙ up) ∙ pow-suc h 0 ∙ ap (λ v. v * h) (pow-zero h) ∙ times
+
+pub plan-requires-clause-below : goal.plan-requires-clause-below
+plan-requires-clause-below g c = c.requires.below
+
+pub plan-requires-clause-suits : goal.plan-requires-clause-suits
+plan-requires-clause-suits g c = c.requires.suits
+
+pub slice_bounds-ntt_planned-end : goal.slice_bounds-ntt_planned-end
+slice_bounds-ntt_planned-end g c = omega arith
+
+pub slice_bounds-ntt_planned-end-2 : goal.slice_bounds-ntt_planned-end-2
+slice_bounds-ntt_planned-end-2 g c = let half = length c.plan.new.table / 2 in sym (length-take-le half c.plan.new.table (omega arith))
+
+pub ntt_planned-requires-clause-entries : goal.ntt_planned-requires-clause-entries
+ntt_planned-requires-clause-entries g c = c.requires.entries
+
+pub ntt_planned-requires-clause-factors : goal.ntt_planned-requires-clause-factors
+ntt_planned-requires-clause-factors g c =
+    let n = g.T.RingWord.number in
+    let table = c.plan.new.table in
+    let half = length table / 2 in
+    let count = length-take-le half table (omega arith) in
+    λ k d l.
+    subst (λ f. IsFactor g.T.PathWord.base (n c.args.m.now.modulus) (n f.value) (n f.quotient))
+    (sym (get_or-take half table k d (omega (arith, l, count)))) (c.plan.ensures.factors k d (omega (arith, l, count)))
+
+pub ntt_planned-requires-clause-within : goal.ntt_planned-requires-clause-within
+ntt_planned-requires-clause-within g c =
+    let table = c.plan.new.table in
+    let count = length-take-le (length table / 2) table (omega arith) in
+    let same : length table ≡ length c.args.table.now = omega arith in
+    omega (arith, count, same, c.requires.half)
 
 pub ntt_planned-requires-clause-count : goal.ntt_planned-requires-clause-count
 ntt_planned-requires-clause-count g c =

@@ -1,4 +1,5 @@
-use Rattle.std.proofs.Common.{◌≡◌, ℕ, ◌*◌, ◌/◌, ◌%◌, length, sym, ◌∙◌, ap, arith, subst}
+use Rattle.std.proofs.Common.{◌≡◌, ℕ, ◌+◌, ◌*◌, ◌/◌, ◌%◌, ◌≤◌, length, sym, ◌∙◌, ap, arith, subst}
+use Rattle.std.specs.Int.{IsPowerOfTwo}
 use Rattle.std.proofs.Math.Nat.{mod-mod}
 use Rattle.std.proofs.lemmas.Nat.{mul-mod_first}
 use Rattle.modular_plan.specs.Plans.{numbers, IsPlan, AreRemainders}
@@ -17,6 +18,59 @@ own_residues : (m g z b count last : ℕ) (x u : ℕ → ℕ) → AreRemainders 
     → AreRemainders m g z b count last x (λ i. u i % m)
 own_residues m g z b count last x u are =
     record { each = λ j i lj li. ap (λ v. v % m) (are.each j i lj li) ∙ mod-mod _ m }
+
+-- as many words after a call as before it
+same_count : (last : ℕ) {p q : ℕ} → q ≡ p → p / last ≡ q / last
+same_count last e = ap (λ k. k / last) (sym e)
+
+pub plan-requires-clause-below : goal.plan-requires-clause-below
+plan-requires-clause-below g c = c.requires.below
+
+pub plan-requires-clause-suits : goal.plan-requires-clause-suits
+plan-requires-clause-suits g c = c.requires.suits
+
+pub split-requires-clause-entries : goal.split-requires-clause-entries
+split-requires-clause-entries g c = c.requires.entries
+
+pub split-requires-clause-factors : goal.split-requires-clause-factors
+split-requires-clause-factors g c = c.plan.ensures.factors
+
+pub split-requires-clause-some : goal.split-requires-clause-some
+split-requires-clause-some g c = c.requires.some
+
+pub split-requires-clause-count : goal.split-requires-clause-count
+split-requires-clause-count g c = c.requires.count
+
+pub split-requires-clause-whole : goal.split-requires-clause-whole
+split-requires-clause-whole g c = c.requires.whole
+
+pub split-requires-clause-within : goal.split-requires-clause-within
+split-requires-clause-within g c = omega (arith, c.requires.within)
+
+pub join_scaled-requires-clause-entries : goal.join_scaled-requires-clause-entries
+join_scaled-requires-clause-entries g c = λ k d l. omega (arith, c.split.ensures.below k d l)
+
+pub join_scaled-requires-clause-factors : goal.join_scaled-requires-clause-factors
+join_scaled-requires-clause-factors g c = c.plan.ensures.factors
+
+pub join_scaled-requires-clause-some : goal.join_scaled-requires-clause-some
+join_scaled-requires-clause-some g c = c.requires.some
+
+pub join_scaled-requires-clause-count : goal.join_scaled-requires-clause-count
+join_scaled-requires-clause-count g c = subst IsPowerOfTwo (same_count c.args.block.1 (omega arith)) c.requires.count
+
+pub join_scaled-requires-clause-whole : goal.join_scaled-requires-clause-whole
+join_scaled-requires-clause-whole g c = subst (λ k. k / c.args.block.1 * c.args.block.1 ≡ k) (omega arith) c.requires.whole
+
+pub join_scaled-requires-clause-within : goal.join_scaled-requires-clause-within
+join_scaled-requires-clause-within g c =
+    let last = c.args.block.1 in
+    let room : (c.args.block.0 + 1) * (length c.args.xs.now / last / 2) ≤ length c.plan.new.table =
+    omega (arith, c.requires.within) in
+    subst (λ k. (c.args.block.0 + 1) * (k / last / 2) ≤ length c.plan.new.table) (omega arith) room
+
+pub join_scaled-requires-clause-factor : goal.join_scaled-requires-clause-factor
+join_scaled-requires-clause-factor g c = c.requires.factor
 
 pub returns : goal.returns
 returns g c =
