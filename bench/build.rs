@@ -2,8 +2,13 @@
 //! `peers` FLINT, GMP and NTL.
 
 use std::env;
+use std::fs;
 use std::path::Path;
 use std::process::Command;
+
+/// By how many bytes the code of a list of commands is moved. A line of the processor's cache has 64, and a compiler
+/// begins each function at a multiple of 16.
+const PLACES: [usize; 4] = [0, 16, 32, 48];
 
 fn main() {
     let here = env::var("CARGO_MANIFEST_DIR").expect("cargo names the folder of the package");
@@ -12,8 +17,37 @@ fn main() {
     println!("cargo:rustc-link-lib=static=modular_bench");
     println!("cargo:rustc-env=RUSTC_VERSION={}", compiler());
     println!("cargo:rerun-if-changed={}", folder.join("libmodular_bench.a").display());
+    link_moved(&folder.join("libmodular_bench.a"));
     if env::var_os("CARGO_FEATURE_PEERS").is_some() {
         link_peers(&Path::new(&here).join("peers"));
+    }
+}
+
+fn run(command: &str, words: &[&str]) {
+    let status = Command::new(command).args(words).status();
+    assert!(status.is_ok_and(|status| status.success()), "{command} {}", words.join(" "));
+}
+
+/// Links a copy of the library for each place: its code stands that many bytes later, and the calls that run a list have
+/// the place behind their names.
+fn link_moved(library: &Path) {
+    let folder = env::var("OUT_DIR").expect("cargo names the folder of what is built");
+    println!("cargo:rustc-link-search=native={folder}");
+    for place in PLACES {
+        let name = |ending: &str| format!("{folder}/place_{place}.{ending}");
+        let [source, script, pad, object] = ["s", "ld", "pad.o", "o"].map(name);
+        let write = |file: &str, text: &str| fs::write(file, text).expect("the folder can be written to");
+        write(&source, &format!(".text\n.p2align 6\n.skip {place}\n.section .note.GNU-stack\n"));
+        write(&script, "SECTIONS { .text : { *(.text .text.*) } }\n");
+        run("cc", &["-c", "-o", &pad, &source]);
+        let path = library.to_str().expect("the path is text");
+        run("ld", &["-r", "-T", &script, "-o", &object, &pad, "--whole-archive", path]);
+        let calls = ["bench_run_inner_product", "bench_run_polynomial"].map(|it| format!("{it}={it}_{place}"));
+        let kept = ["bench_run_inner_product", "bench_run_polynomial"].map(|it| format!("--keep-global-symbol={it}"));
+        run("objcopy", &[&kept[0], &kept[1], &object]);
+        run("objcopy", &["--redefine-sym", &calls[0], "--redefine-sym", &calls[1], &object]);
+        run("ar", &["crs", &format!("{folder}/libplace_{place}.a"), &object]);
+        println!("cargo:rustc-link-lib=static=place_{place}");
     }
 }
 
