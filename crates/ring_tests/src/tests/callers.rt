@@ -3,10 +3,9 @@
 use num_modular::ring::{RingCommand, RunEnd};
 use num_modular::{Reducer, Vanilla};
 use run_misuse::runs::{checked_run, residue_by_run, run_both, run_to_the_end};
-use std::test::Fail;
 
 #[test]
-fn a_run_is_refused_where_a_condition_fails(rt: HostRuntime) -> Result<(), Fail> {
+fn a_run_is_refused_where_a_condition_fails(rt: HostRuntime) {
     let rt = &rt;
     let r = Vanilla::<u8>::new(&21);
     let mut regs = [0, 21, 0];
@@ -18,11 +17,10 @@ fn a_run_is_refused_where_a_condition_fails(rt: HostRuntime) -> Result<(), Fail>
     check!(rt, 3; checked_run(&r, &mut regs, &above) == None);
     check!(rt, 4; checked_run(&r, &mut regs, &load) == Some(RunEnd::Done));
     check!(rt, 5; regs[1] == 5);
-    Ok(())
 }
 
 #[test]
-fn words_of_two_widths_run_alike(rt: HostRuntime) -> Result<(), Fail> {
+fn words_of_two_widths_run_alike(rt: HostRuntime) {
     let rt = &rt;
     let mut narrow = [0u8; 2];
     let mut wide = [0u64; 2];
@@ -43,11 +41,10 @@ fn words_of_two_widths_run_alike(rt: HostRuntime) -> Result<(), Fail> {
     check!(rt, 1; ends == (RunEnd::NoInverse { at: 1 }, RunEnd::NoInverse { at: 1 }));
     check!(rt, 2; (narrow[0], wide[0]) == (7, 7));
     check!(rt, 3; residue_by_run(&Vanilla::<u64>::new(&21), 100) == 16);
-    Ok(())
 }
 
 #[test]
-fn a_list_that_needs_no_inverse_is_run_to_the_end(rt: HostRuntime) -> Result<(), Fail> {
+fn a_list_that_needs_no_inverse_is_run_to_the_end(rt: HostRuntime) {
     let mut regs = [0u8; 2];
     run_to_the_end(
         &Vanilla::<u8>::new(&21),
@@ -58,5 +55,4 @@ fn a_list_that_needs_no_inverse_is_run_to_the_end(rt: HostRuntime) -> Result<(),
         ],
     );
     check!(&rt, 1; (regs[0], regs[1]) == (5, 4));
-    Ok(())
 }

@@ -3,10 +3,9 @@
 use num_modular::ring::{RingCommand, RunEnd};
 use num_modular::{Reducer, Vanilla};
 use crate::run_misuse::runs::{checked_run, residue_by_run, run_both, run_to_the_end};
-use crate::runtime::Fail;
 
 #[test]
-fn a_run_is_refused_where_a_condition_fails() -> Result<(), Fail> {
+fn a_run_is_refused_where_a_condition_fails() {
     let rt = crate::runtime::HostRuntime;
     let rt = &rt;
     let r = Vanilla::<u8>::new(&21);
@@ -19,11 +18,10 @@ fn a_run_is_refused_where_a_condition_fails() -> Result<(), Fail> {
     check!(rt, 3; checked_run(&r, &mut regs, &above) == None);
     check!(rt, 4; checked_run(&r, &mut regs, &load) == Some(RunEnd::Done));
     check!(rt, 5; regs[1] == 5);
-    Ok(())
 }
 
 #[test]
-fn words_of_two_widths_run_alike() -> Result<(), Fail> {
+fn words_of_two_widths_run_alike() {
     let rt = crate::runtime::HostRuntime;
     let rt = &rt;
     let mut narrow = [0u8; 2];
@@ -45,11 +43,10 @@ fn words_of_two_widths_run_alike() -> Result<(), Fail> {
     check!(rt, 1; ends == (RunEnd::NoInverse { at: 1 }, RunEnd::NoInverse { at: 1 }));
     check!(rt, 2; (narrow[0], wide[0]) == (7, 7));
     check!(rt, 3; residue_by_run(&Vanilla::<u64>::new(&21), 100) == 16);
-    Ok(())
 }
 
 #[test]
-fn a_list_that_needs_no_inverse_is_run_to_the_end() -> Result<(), Fail> {
+fn a_list_that_needs_no_inverse_is_run_to_the_end() {
     let rt = crate::runtime::HostRuntime;
     let mut regs = [0u8; 2];
     run_to_the_end(
@@ -61,5 +58,4 @@ fn a_list_that_needs_no_inverse_is_run_to_the_end() -> Result<(), Fail> {
         ],
     );
     check!(&rt, 1; (regs[0], regs[1]) == (5, 4));
-    Ok(())
 }
