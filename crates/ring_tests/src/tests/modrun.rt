@@ -201,18 +201,22 @@ fn growths_had(alloc: Global) -> u32 {
     had
 }
 
-// Prints the status and both texts of a run, and how many of 64 allocations succeed after it. Returns whether the
-// run ended as its words say, or said that memory was refused and no more.
-fn tries_memory(rt: &HostRuntime, words: &[&str], wanted: (u8, &str, &str)) -> io::Result<bool> {
-    let mut out = Page::new();
-    let mut err = Page::new();
-    let status = run_words(rt.alloc(), words, &mut out, &mut err);
+// Prints the status and both texts of a run, and how many of 64 allocations succeed after it.
+fn print_run(rt: &HostRuntime, status: u8, out: &Page, err: &Page) -> io::Result<()> {
     let had = growths_had(rt.alloc());
     println!(rt;
         "status {status} {:?} {:?} had {had}",
         out.text(),
         err.text()
-    )?;
+    )
+}
+
+// Prints what a run gives. Returns whether it ended as its words say, or said that memory was refused and no more.
+fn tries_memory(rt: &HostRuntime, words: &[&str], wanted: (u8, &str, &str)) -> io::Result<bool> {
+    let mut out = Page::new();
+    let mut err = Page::new();
+    let status = run_words(rt.alloc(), words, &mut out, &mut err);
+    print_run(rt, status, &out, &err)?;
     let is_full = status == wanted.0 && out.holds(wanted.1) && err.holds(wanted.2);
     Ok(is_full || status == 3 && out.holds("") && err.holds("out of memory\n"))
 }
