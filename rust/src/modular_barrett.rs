@@ -1,7 +1,9 @@
-//! Division by an invariant divisor without a division instruction, and the reducer that uses it.
+//! Division by an invariant divisor without a division instruction, the reducer that uses it, and the moduli of plans.
 
 pub(crate) mod computed;
 pub mod exact;
 pub mod normalized;
 pub mod one_by_one;
+pub mod planned;
 pub mod premul;
+pub mod roomy;

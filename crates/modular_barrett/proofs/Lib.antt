@@ -1,2 +1,4 @@
 pub mod Multiplier
+pub mod Quotients
 pub mod ScaledLemmas
+pub mod SumsOfProducts

@@ -3,9 +3,9 @@
 ghost use Rattle.std.specs.Prelude.{◌≡◌, ℕ, ◌+◌, ◌*◌, ◌/◌, ◌^◌, ◌<◌, ◌≤◌, All, length};
 ghost use Rattle.std.specs.Int.{IsPowerOfTwo};
 ghost use Rattle.modular_transform.specs.Transforms.{Suits};
-ghost use Rattle.modular_plan.specs.Factors.{IsFactorOf};
+ghost use Rattle.modular_barrett.specs.Factors.{IsFactorOf};
 
-use modular_plan::modulus::{Factor, PlannedModulus};
+use modular_barrett::planned::{Factor, PlannedModulus};
 use modular_plan::plan::plan;
 use modular_plan_products::convolution::convolve_planned;
 use modular_plan_products::transform::ntt_planned;

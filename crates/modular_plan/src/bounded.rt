@@ -2,8 +2,8 @@
 
 ghost use Rattle.std.specs.Prelude.{◌≡◌, ℕ, ◌+◌, ◌*◌, ◌≤◌, IsTrue};
 
-use crate::modulus::PlannedModulus;
-use crate::roomy::RoomyModulus;
+use modular_barrett::planned::PlannedModulus;
+use modular_barrett::roomy::RoomyModulus;
 use modular_prim::plain_word::PlainWord;
 use modular_word::path_word::PathWord;
 use modular_word::ring_word::RingWord;

@@ -2,7 +2,7 @@
 
 ghost use Rattle.std.specs.Prelude.{◌≡◌, ℕ};
 
-use crate::modulus::Factor;
+use modular_barrett::planned::Factor;
 use modular_word::path_word::PathWord;
 use modular_word::ring_word::RingWord;
 

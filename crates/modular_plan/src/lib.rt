@@ -1,9 +1,7 @@
-//! Moduli, factors and tables of factors for transforms by a plan; the caller owns the tables.
+//! Tables of factors for transforms by a plan, which the caller owns, their entries and roots.
 #![tactic(auto)]
 
 pub mod bounded;
 pub mod entry;
-pub mod modulus;
 pub mod plan;
-pub mod roomy;
 pub mod roots;

@@ -2,11 +2,11 @@
 
 ghost use Rattle.std.specs.Prelude.{◌≡◌, ℕ, ◌+◌, ◌*◌, ◌/◌, ◌%◌, ◌^◌, ◌<◌, All, length};
 ghost use Rattle.modular_transform.specs.Transforms.{Suits};
-ghost use Rattle.modular_plan.specs.Factors.{AllFactors};
+ghost use Rattle.modular_barrett.specs.Factors.{AllFactors};
 ghost use Rattle.modular_plan.specs.Plans.{numbers, IsPlan};
 
 use crate::entry::PlanEntry;
-use crate::modulus::PlannedModulus;
+use modular_barrett::planned::PlannedModulus;
 use modular_prim::plain_word::PlainWord;
 use modular_word::path_word::PathWord;
 use modular_word::ring_word::RingWord;

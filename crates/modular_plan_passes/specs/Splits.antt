@@ -4,9 +4,9 @@
 -- arithmetic for number-theoretic transforms", section 3). The names are the library's own words.
 use Rattle.std.specs.Prelude.{◌≡◌, ℕ, ◌+◌, ◌*◌, ◌/◌, ◌<◌, ◌≤◌, List, All, length}
 use Rattle.std.specs.Int.{IsPowerOfTwo}
-use Rattle.modular_plan.specs.Factors.{IsFactor, AllFactors}
+use Rattle.modular_barrett.specs.Factors.{IsFactor, AllFactors}
+use Rattle.modular_barrett.specs.declared.planned.Factor.{Factor}
 use Rattle.modular_plan.specs.Plans.{numbers}
-use Rattle.modular_plan.specs.declared.modulus.Factor.{Factor}
 use Rattle.modular_plan_passes.specs.Steps.{IsFourSplit, StageOfFours}
 
 -- four numbers are below a bound

@@ -2,14 +2,14 @@
 
 ghost use Rattle.std.specs.Prelude.{◌≡◌, ℕ, ◌+◌, ◌*◌, ◌%◌, ◌<◌, ◌≤◌};
 ghost use Rattle.modular_word.specs.Congruence.{Congruent};
-ghost use Rattle.modular_plan.specs.Factors.{IsFactorOf};
+ghost use Rattle.modular_barrett.specs.Factors.{IsFactorOf};
 ghost use Rattle.modular_plan_passes.specs.Joins.{IsPairJoin, IsFourJoin, IsMinusInverse, AreMinusInverses};
 ghost use Rattle.modular_plan_passes.specs.Splits.{AreFourBelow, AreFactorsOf};
 ghost use Rattle.std.proofs.Common.{le_refl, mul-le-mul_right, lit≤};
 
+use modular_barrett::planned::{Factor, PlannedModulus};
+use modular_barrett::roomy::RoomyModulus;
 use modular_plan::bounded::Bounded;
-use modular_plan::modulus::{Factor, PlannedModulus};
-use modular_plan::roomy::RoomyModulus;
 use modular_prim::below::reduced_once;
 use modular_prim::plain_word::PlainWord;
 use modular_word::path_word::PathWord;

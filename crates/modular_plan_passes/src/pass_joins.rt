@@ -1,13 +1,13 @@
 //! The steps of the passes of a join.
 
 ghost use Rattle.std.specs.Prelude.{ℕ, ◌*◌};
-ghost use Rattle.modular_plan.specs.Factors.{IsFactorOf};
+ghost use Rattle.modular_barrett.specs.Factors.{IsFactorOf};
 ghost use Rattle.modular_plan_passes.specs.Splits.{AreFactorsOf, DoneBelow};
 ghost use Rattle.modular_plan_passes.specs.Joins.{IsJoinByFactors, IsLastJoin, IsMinusInverse, IsPairJoin};
 
 use crate::join_steps::JoinSteps;
 use crate::passes::{FourStep, PairStep};
-use modular_plan::modulus::Factor;
+use modular_barrett::planned::Factor;
 use modular_prim::plain_word::PlainWord;
 use modular_word::path_word::PathWord;
 use modular_word::ring_word::RingWord;

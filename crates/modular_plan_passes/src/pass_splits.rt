@@ -1,13 +1,13 @@
 //! The steps of the passes of a split.
 
 ghost use Rattle.std.specs.Prelude.{ℕ, ◌*◌};
-ghost use Rattle.modular_plan.specs.Factors.{IsFactorOf};
+ghost use Rattle.modular_barrett.specs.Factors.{IsFactorOf};
 ghost use Rattle.modular_plan_passes.specs.Splits.{AreFactorsOf, DoneBelow};
 ghost use Rattle.modular_plan_passes.specs.Steps.{IsPairSplit, IsFourSplit};
 
 use crate::passes::{FourStep, PairStep};
 use crate::split_steps::SplitSteps;
-use modular_plan::modulus::Factor;
+use modular_barrett::planned::Factor;
 use modular_prim::plain_word::PlainWord;
 use modular_word::path_word::PathWord;
 use modular_word::ring_word::RingWord;

@@ -1,13 +1,13 @@
 //! What two stages in one pass read and write: four entries of a list, and three of a table.
 
 ghost use Rattle.std.specs.Prelude.{◌≡◌, ℕ, ◌+◌, ◌*◌, ◌<◌, All, length};
-ghost use Rattle.modular_plan.specs.Factors.{AllFactors};
+ghost use Rattle.modular_barrett.specs.Factors.{AllFactors};
 ghost use Rattle.modular_plan.specs.Plans.{numbers};
 ghost use Rattle.modular_plan_passes.specs.Splits.{AreAt, AreFactorsOf, AreInOrder};
 ghost use Rattle.modular_plan_passes.specs.Steps.{FourDone};
 
+use modular_barrett::planned::Factor;
 use modular_plan::entry::PlanEntry;
-use modular_plan::modulus::Factor;
 use modular_prim::plain_word::PlainWord;
 use modular_word::path_word::PathWord;
 

@@ -1,7 +1,7 @@
 //! The passes of a split over all blocks: a stage, or two.
 
 ghost use Rattle.std.specs.Prelude.{◌≡◌, ◌+◌, ◌*◌, ◌<◌, ◌≤◌, All, length};
-ghost use Rattle.modular_plan.specs.Factors.{AllFactors};
+ghost use Rattle.modular_barrett.specs.Factors.{AllFactors};
 ghost use Rattle.modular_plan.specs.Plans.{numbers};
 ghost use Rattle.modular_plan_passes.specs.Splits.{IsPassDone, IsPassReady};
 ghost use Rattle.modular_plan_passes.specs.Steps.{IsPairSplit, StageDone};

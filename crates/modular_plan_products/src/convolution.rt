@@ -4,15 +4,15 @@ ghost use Rattle.std.specs.Prelude.{◌≡◌, ℕ, ◌+◌, ◌-◌, ◌*◌, �
 ghost use Rattle.std.specs.Int.{IsPowerOfTwo};
 ghost use Rattle.modular_word.specs.Inverses.{HasInverse};
 ghost use Rattle.modular_transform.specs.Transforms.{cyclic_product};
-ghost use Rattle.modular_plan.specs.Factors.{IsFactorOf, AllFactors};
+ghost use Rattle.modular_barrett.specs.Factors.{IsFactorOf, AllFactors};
 ghost use Rattle.modular_plan.specs.Plans.{numbers, constant, IsPlan, AreRemainders};
 ghost use Rattle.modular_plan_remainders.specs.Conditions.{AreBlocks};
 ghost use Rattle.modular_plan_products.specs.Conditions.{AreSmallBlocks};
 ghost use Rattle.modular_plan_products.specs.Products.{product_modulo, AreProducts};
 
 use crate::products::{multiply, reduce_products};
+use modular_barrett::planned::{Factor, PlannedModulus};
 use modular_plan::entry::PlanEntry;
-use modular_plan::modulus::{Factor, PlannedModulus};
 use modular_plan_remainders::join::join_scaled;
 use modular_plan_remainders::split::{split, split_loosely, splits};
 use modular_prim::below::reduced_once;

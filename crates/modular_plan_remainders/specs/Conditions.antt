@@ -3,7 +3,7 @@
 -- for mathematicians", section 2). The names are the library's own words.
 use Rattle.std.specs.Prelude.{◌≡◌, ℕ, ◌+◌, ◌*◌, ◌/◌, ◌%◌, ◌<◌, ◌≤◌, List, All, length}
 use Rattle.std.specs.Int.{IsPowerOfTwo}
-use Rattle.modular_plan.specs.Factors.{AllFactors}
+use Rattle.modular_barrett.specs.Factors.{AllFactors}
 use Rattle.modular_plan.specs.Plans.{numbers, IsPlan, AreRemainders}
 use Rattle.modular_plan_passes.specs.Conditions.{IsTableOfFactors}
 

@@ -3,13 +3,13 @@
 ghost use Rattle.std.specs.Prelude.{◌≡◌, ℕ, ◌+◌, ◌*◌, ◌/◌, ◌%◌, ◌<◌, ◌≤◌, All, length};
 ghost use Rattle.std.specs.Int.{IsPowerOfTwo};
 ghost use Rattle.modular_word.specs.Congruence.{Congruent};
-ghost use Rattle.modular_plan.specs.Factors.{IsFactorOf, AllFactors};
+ghost use Rattle.modular_barrett.specs.Factors.{IsFactorOf, AllFactors};
 ghost use Rattle.modular_plan.specs.Plans.{numbers, IsPlan, AreRemainders};
 ghost use Rattle.modular_plan_remainders.specs.Conditions.{IsJoinable, IsLevelReady, IsLevelJoined};
 
+use modular_barrett::planned::{Factor, PlannedModulus};
+use modular_barrett::roomy::RoomyModulus;
 use modular_plan::entry::PlanEntry;
-use modular_plan::modulus::{Factor, PlannedModulus};
-use modular_plan::roomy::RoomyModulus;
 use modular_plan_passes::join_stages::{join_fours, join_known, join_stage, minus_inverses};
 use modular_plan_passes::join_steps::JoinSteps;
 use modular_plan_passes::pass_joins::JoinByOne;

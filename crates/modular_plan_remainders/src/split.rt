@@ -2,14 +2,14 @@
 
 ghost use Rattle.std.specs.Prelude.{◌≡◌, ℕ, ◌+◌, ◌*◌, ◌/◌, ◌%◌, ◌<◌, ◌≤◌, ◌↔◌, IsTrue, All, length};
 ghost use Rattle.std.specs.Int.{IsPowerOfTwo};
-ghost use Rattle.modular_plan.specs.Factors.{AllFactors};
+ghost use Rattle.modular_barrett.specs.Factors.{AllFactors};
 ghost use Rattle.modular_plan.specs.Plans.{numbers, IsPlan, AreRemainders};
 ghost use Rattle.modular_plan_passes.specs.Splits.{IsSplittable};
 ghost use Rattle.modular_plan_passes.specs.Steps.{IsLevel};
 
+use modular_barrett::planned::PlannedModulus;
+use modular_barrett::roomy::RoomyModulus;
 use modular_plan::entry::PlanEntry;
-use modular_plan::modulus::PlannedModulus;
-use modular_plan::roomy::RoomyModulus;
 use modular_plan_passes::split_stages::{split_fours, split_pass, split_stage};
 use modular_plan_passes::split_steps::SplitSteps;
 use modular_prim::plain_word::PlainWord;

@@ -2,8 +2,8 @@
 //! a quarter of the base. An entry of the table is a `Factor`, or a struct of the caller (`PlanEntry`). `ring` has
 //! the transforms that need no table, over any reducer, and `find_root`.
 
+pub use modular_barrett::planned::{Factor, PlannedModulus};
 pub use modular_plan::entry::PlanEntry;
-pub use modular_plan::modulus::{Factor, PlannedModulus};
 pub use modular_plan::plan::plan;
 pub use modular_plan_products::convolution::{
     convolve_block, convolve_negacyclic, convolve_planned, convolves,

@@ -11,7 +11,7 @@ ghost use Rattle.num_modular_c.specs.Plans.{IsSplit, IsPair, IsPlannedProduct};
 
 use crate::codes::{NM_BAD_ARGUMENT, NM_BAD_CONTEXT, NM_NO_INVERSE, NM_OK};
 use crate::plans::{NmFactor, are_factors};
-use modular_plan::modulus::PlannedModulus;
+use modular_barrett::planned::PlannedModulus;
 use modular_plan_products::convolution::{convolve_negacyclic, convolve_planned, convolves};
 use modular_plan_products::transform::ntt_planned;
 use modular_plan_remainders::join::join;

@@ -4,10 +4,10 @@ ghost use Rattle.std.specs.Prelude.{◌≡◌, ℕ, ◌+◌, ◌*◌, ◌/◌, �
 ghost use Rattle.std.specs.Int.{IsPowerOfTwo};
 ghost use Rattle.modular_word.specs.Inverses.{IsInverse};
 ghost use Rattle.modular_transform.specs.Transforms.{Suits, transform};
-ghost use Rattle.modular_plan.specs.Factors.{IsFactorOf};
+ghost use Rattle.modular_barrett.specs.Factors.{IsFactorOf};
 ghost use Rattle.modular_plan.specs.Plans.{numbers};
 
-use modular_plan::modulus::{Factor, PlannedModulus};
+use modular_barrett::planned::{Factor, PlannedModulus};
 use modular_plan::plan::plan;
 use modular_plan_products::transform::ntt_planned;
 use modular_plan_remainders::join::join_scaled;

@@ -1,7 +1,7 @@
 //! A modulus with a limit that the entries of a list stay below, and the test by it that ends a loop.
 
-use crate::modular_plan::modulus::PlannedModulus;
-use crate::modular_plan::roomy::RoomyModulus;
+use crate::modular_barrett::planned::PlannedModulus;
+use crate::modular_barrett::roomy::RoomyModulus;
 use crate::modular_prim::plain_word::PlainWord;
 use crate::modular_word::path_word::PathWord;
 use crate::modular_word::ring_word::RingWord;

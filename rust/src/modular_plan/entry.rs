@@ -1,6 +1,6 @@
 //! The entries of a plan: factors, or structs of the caller that represent them.
 
-use crate::modular_plan::modulus::Factor;
+use crate::modular_barrett::planned::Factor;
 use crate::modular_word::path_word::PathWord;
 use crate::modular_word::ring_word::RingWord;
 

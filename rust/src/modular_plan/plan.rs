@@ -1,7 +1,7 @@
 //! The plan: a table of the powers of a root, as factors, which the caller owns.
 
 use crate::modular_plan::entry::PlanEntry;
-use crate::modular_plan::modulus::PlannedModulus;
+use crate::modular_barrett::planned::PlannedModulus;
 use crate::modular_prim::plain_word::PlainWord;
 use crate::modular_word::path_word::PathWord;
 use crate::modular_word::ring_word::RingWord;

@@ -3,8 +3,8 @@
 use crate::modular_plan_passes::join_steps::JoinSteps;
 use crate::modular_plan_passes::pass_joins::{JoinFour, JoinLowered, JoinPair};
 use crate::modular_plan_passes::passes::{neighbours, pairs, quarters};
+use crate::modular_barrett::planned::Factor;
 use crate::modular_plan::entry::PlanEntry;
-use crate::modular_plan::modulus::Factor;
 use crate::modular_prim::plain_word::PlainWord;
 use crate::modular_word::path_word::PathWord;
 use crate::modular_word::ring_word::RingWord;

@@ -1,8 +1,8 @@
 //! The steps of a pass of `split`, by how much greater than the modulus words may be.
 
+use crate::modular_barrett::planned::{Factor, PlannedModulus};
+use crate::modular_barrett::roomy::RoomyModulus;
 use crate::modular_plan::bounded::Bounded;
-use crate::modular_plan::modulus::{Factor, PlannedModulus};
-use crate::modular_plan::roomy::RoomyModulus;
 use crate::modular_prim::below::reduced_once;
 use crate::modular_prim::plain_word::PlainWord;
 use crate::modular_word::path_word::PathWord;

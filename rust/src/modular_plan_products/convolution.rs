@@ -1,8 +1,8 @@
 //! Products of polynomials modulo X^n - c, by a plan.
 
 use crate::modular_plan_products::products::{multiply, reduce_products};
+use crate::modular_barrett::planned::{Factor, PlannedModulus};
 use crate::modular_plan::entry::PlanEntry;
-use crate::modular_plan::modulus::{Factor, PlannedModulus};
 use crate::modular_plan_remainders::join::join_scaled;
 use crate::modular_plan_remainders::split::{split, split_loosely, splits};
 use crate::modular_prim::below::reduced_once;

@@ -1,8 +1,8 @@
 //! Products of blocks: of polynomials modulo X^last - c.
 
+use crate::modular_barrett::planned::PlannedModulus;
 use crate::modular_plan::bounded::Bounded;
 use crate::modular_plan::entry::PlanEntry;
-use crate::modular_plan::modulus::PlannedModulus;
 use crate::modular_prim::plain_word::PlainWord;
 use crate::modular_word::path_word::PathWord;
 

@@ -1,7 +1,7 @@
 //! The transform by a plan, in natural order.
 
+use crate::modular_barrett::planned::PlannedModulus;
 use crate::modular_plan::entry::PlanEntry;
-use crate::modular_plan::modulus::PlannedModulus;
 use crate::modular_plan_remainders::split::split;
 use crate::modular_prim::plain_word::PlainWord;
 use crate::modular_transform::order::reverse_places;

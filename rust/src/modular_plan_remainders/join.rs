@@ -1,8 +1,8 @@
 //! From remainders modulo X^last - c back to the polynomial, in place, by stages.
 
+use crate::modular_barrett::planned::{Factor, PlannedModulus};
+use crate::modular_barrett::roomy::RoomyModulus;
 use crate::modular_plan::entry::PlanEntry;
-use crate::modular_plan::modulus::{Factor, PlannedModulus};
-use crate::modular_plan::roomy::RoomyModulus;
 use crate::modular_plan_passes::join_stages::{join_fours, join_known, join_stage, minus_inverses};
 use crate::modular_plan_passes::join_steps::JoinSteps;
 use crate::modular_plan_passes::pass_joins::JoinByOne;

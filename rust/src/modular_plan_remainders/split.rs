@@ -1,8 +1,8 @@
 //! From a polynomial to its remainders modulo X^last - c, in place, by stages.
 
+use crate::modular_barrett::planned::PlannedModulus;
+use crate::modular_barrett::roomy::RoomyModulus;
 use crate::modular_plan::entry::PlanEntry;
-use crate::modular_plan::modulus::PlannedModulus;
-use crate::modular_plan::roomy::RoomyModulus;
 use crate::modular_plan_passes::split_stages::{split_fours, split_pass, split_stage};
 use crate::modular_plan_passes::split_steps::SplitSteps;
 use crate::modular_prim::plain_word::PlainWord;

@@ -1,6 +1,6 @@
 //! Callers of plans, proved from their contracts alone.
 
-use num_modular::modular_plan::modulus::{Factor, PlannedModulus};
+use num_modular::modular_barrett::planned::{Factor, PlannedModulus};
 use num_modular::modular_plan::plan::plan;
 use num_modular::modular_plan_products::transform::ntt_planned;
 use num_modular::modular_plan_remainders::join::join_scaled;

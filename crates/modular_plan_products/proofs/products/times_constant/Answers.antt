@@ -2,8 +2,8 @@ use Rattle.std.proofs.Common.{◌≡◌, ℕ, ◌+◌, ◌*◌, ◌/◌, ◌%◌
 use Rattle.std.proofs.Math.Nat.{mod-lt}
 use Rattle.modular_word.specs.Congruence.{Congruent}
 use Rattle.modular_word.proofs.Congruence.{chained, of_equal, itself, multiplied, residue_of}
+use Rattle.modular_barrett.specs.Factors.{IsFactor}
 use Rattle.modular_plan.specs.Plans.{constant}
-use Rattle.modular_plan.specs.Factors.{IsFactor}
 use Rattle.modular_plan.proofs.Entries.{number_read}
 use Rattle.modular_plan_products.proofs.Constants.{pair_of_constants, block_of}
 use Rattle.modular_plan_products.proofs.SmallProducts.{product_by_odd}

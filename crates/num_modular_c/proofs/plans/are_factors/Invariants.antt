@@ -1,5 +1,5 @@
 use Rattle.std.proofs.Common.{ℕ, ◌^◌, ◌<◌, get_or}
-use Rattle.modular_plan.specs.Factors.{IsFactor}
+use Rattle.modular_barrett.specs.Factors.{IsFactor}
 use Rattle.num_modular_c.proofs.plans.are_factors.Given as goal
 
 -- the entries before this one are factors

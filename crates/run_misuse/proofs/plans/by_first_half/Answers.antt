@@ -5,7 +5,7 @@ use Rattle.std.proofs.lemmas.List.{take-map, get_or-take, length-take-le}
 use Rattle.std.proofs.lemmas.Nat.{pow_pos}
 use Rattle.std.specs.Int.{IsPowerOfTwo}
 use Rattle.modular_transform.specs.Transforms.{transform}
-use Rattle.modular_plan.specs.Factors.{IsFactor}
+use Rattle.modular_barrett.specs.Factors.{IsFactor}
 use Rattle.modular_plan.specs.Plans.{numbers, IsPlan}
 use Rattle.run_misuse.proofs.plans.by_first_half.Goals as goal
 

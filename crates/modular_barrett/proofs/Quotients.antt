@@ -1,0 +1,130 @@
+-- The arithmetic of products by a precomputed quotient, in words of which there are b.
+use Rattle.std.proofs.Common.{◌≡◌, ℕ, ◌+◌, ◌-◌, ◌*◌, ◌/◌, ◌%◌, ◌^◌, ◌<◌, ◌≤◌, sym, ap, ◌∙◌, arith}
+use Rattle.std.proofs.Math.Nat.{mod-lt, div-add-mod, mod-eq_of_lt, mul-le-mul_left}
+use Rattle.std.proofs.Math.Nat.{mul-le-mul_right, lt_of_mul-lt-mul_right, le_of_mul-le-mul_right}
+use Rattle.std.proofs.Math.Nat.{add-mul-mod_self_right, add-mod}
+use Rattle.std.proofs.lemmas.Nat.{div-mul-add, pow-add}
+use Rattle.modular_word.specs.Congruence.{Congruent}
+use Rattle.modular_word.specs.Division.{IsDivision}
+use Rattle.modular_word.specs.Reciprocals.{IsReciprocal}
+use Rattle.modular_word.proofs.Congruence.{of_equal, itself, chained, added, residue_of, mod_cancel}
+use Rattle.modular_barrett.specs.Factors.{IsFactor}
+
+-- the quotient of scaled numbers is the quotient
+pub scaled_quotient : (b m w s q r : ℕ) → 0 < s → IsDivision (b * (w * s)) (m * s) q r → q ≡ w * b / m
+scaled_quotient b m w s q r some h =
+    let whole : b * (w * s) ≡ q * (m * s) + r = h.whole in
+    let left : (q * m) * s ≤ (w * b) * s = omega (arith, whole) in
+    let at_most : q * m ≤ w * b = le_of_mul-le-mul_right left some in
+    let rest : (w * b - q * m) + q * m ≡ w * b = omega (arith, at_most) in
+    let scaled : ((w * b - q * m) + q * m) * s ≡ (w * b) * s = ap (λ v. v * s) rest in
+    let small : (w * b - q * m) * s < m * s = omega (arith, scaled, whole, h.below) in
+    let less : w * b - q * m < m = lt_of_mul-lt-mul_right s small in
+    let e : q * m + (w * b - q * m) ≡ w * b = omega (arith, rest) in
+    sym (ap (λ v. v / m) (sym e) ∙ div-mul-add q m (w * b - q * m) less)
+
+-- x * w less the multiple of m that the quotient gives is below 2 * m
+pub record IsNear (m product whole : ℕ) : Type 0 where
+  pub at_most : whole * m ≤ product
+  pub close : product < whole * m + 2 * m
+
+pub near : (b m w q x low h : ℕ) → IsFactor b m w q → x < b → x * q ≡ low + b * h → low < b → IsNear m (x * w) h
+near b m w q x low h is fits e low_fits =
+    let below : w < m = is.below in
+    let f : m * (w * b / m) + w * b % m ≡ w * b = div-add-mod (w * b) m in
+    let l : w * b % m < m = mod-lt (w * b) (omega arith) in
+    let fq : m * q ≡ m * (w * b / m) = ap (λ v. m * v) is.quotient in
+    let g : x * (m * q + w * b % m) ≡ x * (w * b) =
+    ap (λ v. x * v) (let k : m * q + w * b % m ≡ w * b = omega (arith, f, fq) in k) in
+    let me : m * (x * q) ≡ m * (low + b * h) = ap (λ v. m * v) e in
+    let whole : (x * w) * b ≡ (h * m) * b + m * low + x * (w * b % m) = omega (arith, g, me) in
+    let first : m * (low + 1) ≤ m * b = mul-le-mul_left m (let k : low + 1 ≤ b = omega arith in k) in
+    let second : x * (w * b % m) ≤ b * (w * b % m) = mul-le-mul_right (w * b % m) (let k : x ≤ b = omega arith in k) in
+    let third : b * (w * b % m) ≤ b * m = mul-le-mul_left b (let k : w * b % m ≤ m = omega (arith, l) in k) in
+    let some : 0 < b = omega arith in
+    record {
+      at_most = le_of_mul-le-mul_right (let k : (h * m) * b ≤ (x * w) * b = omega (arith, whole) in k) some;
+      close = lt_of_mul-lt-mul_right b
+          (let k : (x * w) * b < (h * m + 2 * m) * b = omega (arith, whole, first, second, third, below) in k);
+    }
+
+-- the word that is left
+pub record IsProduct (m product r : ℕ) : Type 0 where
+  pub below : r < 2 * m
+  pub congruent : Congruent m r product
+
+pub left_over : (b m product whole p t r : ℕ) → 0 < b → 2 * m ≤ b → IsNear m product whole → p ≡ product % b
+    → t ≡ (whole * m) % b → r < b → (r + t) % b ≡ p
+    → IsProduct m product r
+left_over b m product whole p t r some room near_it is_p is_t fits e =
+    let at_most = near_it.at_most in
+    let close = near_it.close in
+    let rest : ℕ = product - whole * m in
+    let s : rest + whole * m ≡ product = omega arith in
+    let small : rest < b = omega arith in
+    let t_fits : t % b ≡ t = ap (λ v. v % b) is_t ∙ mod-eq_of_lt (mod-lt (whole * m) some) ∙ sym is_t in
+    let again : (rest + t) % b ≡ p =
+    add-mod rest t b ∙ ap (λ v. (rest % b + v) % b) (t_fits ∙ is_t) ∙ sym (add-mod rest (whole * m) b)
+    ∙ ap (λ v. v % b) s ∙ sym is_p in
+    let same : r ≡ rest = mod_cancel b r rest t fits small (e ∙ sym again) in
+    record {
+      below = omega arith;
+      congruent = record {
+        same = sym (add-mul-mod_self_right r whole m)
+            ∙ ap (λ v. v % m) (let k : r + whole * m ≡ product = omega arith in k);
+      };
+    }
+
+-- a part of 2 ^ w
+pub part : (k w b f : ℕ) → b ≡ 2 ^ w → k ≤ w → f ≡ 2 ^ (w - k) → 2 ^ k * f ≡ b
+part k w b f is_b wide is_f =
+    let s : w ≡ k + (w - k) = omega arith in
+    ap (λ v. 2 ^ k * v) is_f ∙ sym (is_b ∙ ap (λ v. 2 ^ v) s ∙ pow-add 2 k (w - k))
+
+-- a divisor with a reciprocal is a word
+pub divisor_fits : {b d v : ℕ} → IsReciprocal b d v → d < b
+divisor_fits {b} {d} {v} is =
+    let below = is.below in
+    lt_of_mul-lt-mul_right b (let k : d * b < b * b = omega arith in k)
+
+-- a product whose first number is below the divisor, in words of which there are b
+pub scaled_below : (b d x y : ℕ) → x < d → y < b → x * y < d * b
+scaled_below b d x y less fits =
+    let first : x * y ≤ x * b = mul-le-mul_left x (let k : y ≤ b = omega arith in k) in
+    let second : (x + 1) * b ≤ d * b = mul-le-mul_right b (let k : x + 1 ≤ d = omega arith in k) in
+    omega (arith, first, second)
+
+-- any word times a number below d
+pub any_times_below : (b d x y : ℕ) → x < b → y < d → x * y < d * b
+any_times_below b d x y fits less =
+    let turn : x * y ≡ y * x = omega arith in
+    let below = scaled_below b d y x less fits in
+    omega (arith, turn, below)
+
+-- the rest of scaled numbers is the rest, scaled
+pub scaled_rest : (m x y s q r : ℕ) → 0 < s → IsDivision (x * s * y) (m * s) q r → r / s ≡ (x * y) % m
+scaled_rest m x y s q r some h =
+    let whole : x * s * y ≡ q * (m * s) + r = h.whole in
+    let left : (q * m) * s ≤ (x * y) * s = omega (arith, whole) in
+    let at_most : q * m ≤ x * y = le_of_mul-le-mul_right left some in
+    let k : ℕ = x * y - q * m in
+    let rest : k + q * m ≡ x * y = omega (arith, at_most) in
+    let scaled : (k + q * m) * s ≡ (x * y) * s = ap (λ v. v * s) rest in
+    let is : k * s ≡ r = omega (arith, scaled, whole) in
+    let less : k < m = lt_of_mul-lt-mul_right s (let l : k * s < m * s = omega (arith, is, h.below) in l) in
+    let part : r / s ≡ k = (let e : r ≡ k * s + 0 = omega (arith, is) in ap (λ v. v / s) e) ∙ div-mul-add k s 0 some in
+    part ∙ sym (ap (λ v. v % m) (sym rest) ∙ add-mul-mod_self_right k q m ∙ mod-eq_of_lt less)
+
+-- what the quotient of a factor leaves
+pub left_by_quotient : (b m w q p r : ℕ) → 0 < m → m ≤ b → IsFactor b m w q → p ≡ (q * m) % b → (r + p) % b ≡ 0 → r < b
+    → r ≡ (w * b) % m
+left_by_quotient b m w q p r some room is is_p none fits =
+    let small : (w * b) % m < m = mod-lt (w * b) some in
+    let d : m * (w * b / m) + (w * b) % m ≡ w * b = div-add-mod (w * b) m in
+    let product : m * q ≡ m * (w * b / m) = ap (λ v. m * v) is.quotient in
+    let whole : (w * b) % m + q * m ≡ 0 + w * b = omega (arith, d, product) in
+    let all : Congruent b ((w * b) % m + p) 0 =
+    chained (added (itself ((w * b) % m)) (chained (of_equal is_p) (residue_of (q * m))))
+    (chained (of_equal whole) (record { same = add-mul-mod_self_right 0 w b })) in
+    let zero_is : 0 % b ≡ 0 = mod-eq_of_lt (let k : 0 < b = omega (arith, some, room) in k) in
+    mod_cancel b r ((w * b) % m) p fits (omega (arith, small, room)) (none ∙ sym zero_is ∙ sym all.same)

@@ -1,0 +1,213 @@
+//! Products by factors with a precomputed quotient, modulo an m that is at most a quarter of the base.
+
+ghost use Rattle.std.specs.Prelude.{◌≡◌, ℕ, ◌+◌, ◌*◌, ◌/◌, ◌%◌, ◌^◌, ◌<◌, ◌≤◌, ◌↔◌, IsTrue, ⊤};
+ghost use Rattle.modular_word.specs.Congruence.{Congruent};
+ghost use Rattle.modular_word.specs.Reciprocals.{IsReciprocal};
+ghost use Rattle.modular_barrett.specs.Factors.{IsFactorOf};
+
+use modular_prim::below::reduced_once;
+use modular_prim::plain_word::PlainWord;
+use modular_prim::reciprocal::invert_word;
+use modular_word::path_word::PathWord;
+use modular_word::paths::div_2by1;
+use modular_word::ring_word::RingWord;
+use std::alloc::AllocError;
+
+/// A factor w below a modulus m, and its quotient w·B/m, rounded down, with B the base.
+///
+/// Source: Harvey, "Faster arithmetic for number-theoretic transforms", section 3, after Shoup.
+#[derive(Debug, PartialEq, Eq)]
+pub struct Factor<T: PathWord> {
+    /// The factor.
+    pub value: T,
+    /// Its quotient.
+    pub quotient: T,
+}
+
+impl<T: PathWord> Clone for Factor<T> {
+    ghost is_clone = { λ x y. y ≡ x };
+
+    ghost is_infallible = { λ _. ⊤ };
+
+    fn clone(&self) -> Result<Self, AllocError> {
+        Ok(*self)
+    }
+}
+
+impl<T: PathWord> Copy for Factor<T> {}
+
+impl<T: PathWord> Factor<T> {
+    /// Whether the factor is 1.
+    pub fn is_one(&self) -> bool
+        ensures { IsTrue result ↔ (T.number self.now.value ≡ 1) }
+    {
+        self.value == T::one()
+    }
+}
+
+/// A modulus m with its reciprocal. It is at least 1 and at most a quarter of the base, so that words below 4m hold
+/// sums that aren't reduced.
+///
+/// # Examples
+///
+/// ```
+/// use num_modular::plans::{ntt_planned, plan, Factor, PlannedModulus};
+///
+/// let modulus = PlannedModulus::<u64>::new(97);
+/// let mut table = [Factor::<u64>::ZERO; 2];
+/// plan(&modulus, 22, &mut table); // 22 has the order 4
+/// let mut entries = [1, 2, 3, 4];
+/// ntt_planned(&modulus, &mut entries, &table);
+/// assert_eq!(entries[0], 1 + 2 + 3 + 4);
+/// ```
+#[derive(Debug, PartialEq, Eq)]
+pub struct PlannedModulus<T: PathWord> {
+    /// The modulus.
+    pub modulus: T,
+    shift: u32,
+    reciprocal: T,
+    pub ghost some: { 1 ≤ T.number modulus },
+    pub ghost room: { 4 * T.number modulus ≤ T.base },
+    pub ghost shift_fits: { shift < T.width },
+    pub ghost reciprocal_is: { IsReciprocal T.base (T.number modulus * 2 ^ shift) (T.number reciprocal) },
+}
+
+impl<T: PathWord> Clone for PlannedModulus<T> {
+    ghost is_clone = { λ x y. y ≡ x };
+
+    ghost is_infallible = { λ _. ⊤ };
+
+    fn clone(&self) -> Result<Self, AllocError> {
+        Ok(*self)
+    }
+}
+
+impl<T: PathWord> Copy for PlannedModulus<T> {}
+
+impl<T: PlainWord> PlannedModulus<T> {
+    /// Whether m can be the modulus of a plan: it is at least 1, and 4m is at most the base.
+    pub fn admits(m: T) -> bool
+        ensures { IsTrue result ↔ ((1 ≤ T.number m) × (4 * T.number m ≤ T.base)) }
+    {
+        let greatest = T::one().shift_left(T::bits() - 2);
+        if m.is_zero_word() {
+            false
+        } else {
+            !greatest.is_below(m)
+        }
+    }
+
+    /// The modulus with its reciprocal. Condition: the modulus is at least 1 and at most 2^w/4, for words of w bits
+    /// (`admits` tells).
+    pub fn new(m: T) -> Self
+        requires some { 1 ≤ T.number m }
+        requires room { 4 * T.number m ≤ T.base }
+        ensures { T.number result.modulus ≡ T.number m }
+    {
+        prove!(Self::admits(m));
+        let shift = m.leading_zeros();
+        let reciprocal = invert_word(m.shift_left(shift));
+        PlannedModulus {
+            modulus: m,
+            shift,
+            reciprocal,
+        }
+    }
+
+    /// The factor w with its quotient, which is computed by the reciprocal. Condition: w is below m.
+    pub fn factor(&self, w: T) -> Factor<T>
+        requires { T.number w < T.number self.now.modulus }
+        ensures value { T.number result.value ≡ T.number w }
+        ensures factor { IsFactorOf T.base T.number (T.number self.now.modulus) result }
+    {
+        prove!(w.is_below(self.modulus));
+        let divisor = self.modulus.shift_left(self.shift);
+        let scaled = w.shift_left(self.shift);
+        let (quotient, _) = div_2by1(divisor, self.reciprocal, T::merge(T::zero(), scaled));
+        Factor { value: w, quotient }
+    }
+
+    /// The residue of a factor times the base, below m, computed from its quotient. Condition: the factor is a
+    /// residue modulo m.
+    pub fn times_base(&self, w: &Factor<T>) -> T
+        requires { IsFactorOf T.base T.number (T.number self.now.modulus) w.now }
+        ensures { T.number result ≡ (T.number w.now.value * T.base) % T.number self.now.modulus }
+    {
+        T::zero().wrapping_sub(w.quotient.wrapping_mul(self.modulus))
+    }
+
+    /// A number below 2m that is congruent to the product of any word x with a factor. Condition: the factor is a
+    /// residue modulo m.
+    ///
+    /// It takes the high word of one product and the low words of two.
+    ///
+    /// Source: Harvey, "Faster arithmetic for number-theoretic transforms", section 3.
+    pub fn times(&self, x: T, w: &Factor<T>) -> T
+        requires { IsFactorOf T.base T.number (T.number self.now.modulus) w.now }
+        ensures below { T.number result < 2 * T.number self.now.modulus }
+        ensures congruent { Congruent (T.number self.now.modulus) (T.number result)
+            (T.number x * T.number w.now.value) }
+    {
+        let (_, whole) = T::split(x.product(w.quotient));
+        let product = x.wrapping_mul(w.value);
+        product.wrapping_sub(whole.wrapping_mul(self.modulus))
+    }
+
+    /// The residue of the product of any word x with a factor, below m. Condition: the factor is a residue modulo m.
+    pub fn product(&self, x: T, w: &Factor<T>) -> T
+        requires { IsFactorOf T.base T.number (T.number self.now.modulus) w.now }
+        ensures { T.number result ≡ (T.number x * T.number w.now.value) % T.number self.now.modulus }
+    {
+        reduced_once(self.times(x, w), self.modulus)
+    }
+
+    /// The residue of the product of a word x with any word y, below m, computed by the reciprocal. Condition: x is
+    /// below m.
+    pub fn multiply(&self, x: T, y: T) -> T
+        requires { T.number x < T.number self.now.modulus }
+        ensures { T.number result ≡ (T.number x * T.number y) % T.number self.now.modulus }
+    {
+        let divisor = self.modulus.shift_left(self.shift);
+        let scaled = x.shift_left(self.shift);
+        let (_, rest) = div_2by1(divisor, self.reciprocal, scaled.product(y));
+        rest.shift_right(self.shift)
+    }
+
+    /// The residue of x·v + u·y, below m. Condition: x + u is below 2m.
+    ///
+    /// It divides once, by the reciprocal, modulo 2m: the high word of the sum may be at least m, but it is below 2m.
+    pub fn product_sum(&self, x: T, v: T, u: T, y: T) -> T
+        requires { T.number x + T.number u < 2 * T.number self.now.modulus }
+        ensures value { T.number result ≡ (T.number x * T.number v + T.number u * T.number y)
+            % T.number self.now.modulus }
+        ensures below { T.number result < T.number self.now.modulus }
+    {
+        let divisor = self.modulus.shift_left(self.shift);
+        let by = self.shift - 1;
+        let sum = T::double_plus(x.shift_left(by).product(v), u.shift_left(by).product(y));
+        let (_, rest) = div_2by1(divisor, self.reciprocal, sum);
+        reduced_once(rest.shift_right(by), self.modulus)
+    }
+
+    /// The word 2m.
+    pub fn twice(&self) -> T
+        ensures { T.number result ≡ 2 * T.number self.now.modulus }
+    {
+        self.modulus.plus(self.modulus)
+    }
+
+    /// Whether a word is below 4m.
+    pub fn has_room(&self, x: T) -> bool
+        ensures { IsTrue result ↔ (T.number x < 4 * T.number self.now.modulus) }
+    {
+        x.half().is_below(self.twice())
+    }
+
+    /// The residue of a word, below m. Condition: it is below 4m (`has_room` tells).
+    pub fn residue(&self, x: T) -> T
+        requires { T.number x < 4 * T.number self.now.modulus }
+        ensures { T.number result ≡ T.number x % T.number self.now.modulus }
+    {
+        reduced_once(reduced_once(x, self.twice()), self.modulus)
+    }
+}
