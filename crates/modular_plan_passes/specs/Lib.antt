@@ -1,4 +1,4 @@
-pub mod Conditions
+pub mod JoinPasses
 pub mod Joins
 pub mod Splits
 pub mod Steps

@@ -6,7 +6,7 @@ ghost use Rattle.modular_plan.specs.Plans.{numbers, IsPlan};
 ghost use Rattle.modular_plan_passes.specs.Splits.{AreFactorsOf};
 ghost use Rattle.modular_plan_passes.specs.Steps.{StageDone};
 ghost use Rattle.modular_plan_passes.specs.Joins.{IsPairJoin, IsMinusInverse, AreMinusInverses};
-ghost use Rattle.modular_plan_passes.specs.Conditions.{IsTableOfFactors, IsStageReady, IsPassReady, IsPassJoined};
+ghost use Rattle.modular_plan_passes.specs.JoinPasses.{IsTableOfFactors, IsStageReady, IsJoinPassReady, IsPassJoined};
 
 use crate::join_steps::JoinSteps;
 use crate::pass_joins::{JoinFour, JoinLowered, JoinPair};
@@ -54,8 +54,8 @@ fn minus_inverse<T: PlainWord, F: PlanEntry<T>, M: JoinSteps<T>>(
 }
 
 /// Minus the inverses of the factors of a block and of its halves. One mirrored index gives all three: those of the
-/// halves are at twice that index, in the opposite order. Condition: the table has these factors modulo m, and `minus`
-/// is the factor -1.
+/// halves are at twice that index, in the opposite order. Conditions: the table's entries are factors modulo m; those of
+/// the block and of its halves are among them; `minus` is the factor -1.
 pub fn minus_inverses<T: PlainWord, F: PlanEntry<T>, M: JoinSteps<T>>(
     m: &M,
     table: &[F],
@@ -86,8 +86,9 @@ pub fn minus_inverses<T: PlainWord, F: PlanEntry<T>, M: JoinSteps<T>>(
     }
 }
 
-/// Joins all blocks of a stage, block p by entry first + p of the table. Condition: the entries are below the bound, the
-/// table has a factor modulo m for each block, and `minus` is the factor -1.
+/// Joins all blocks of a stage, block p by entry first + p of the table. Conditions: the blocks, of 2·half entries each,
+/// fill the list, and half is at least 1; the list's entries are below the bound; those of the table are factors modulo
+/// m, one for each block; `minus` is the factor -1.
 pub fn join_stage<T: PlainWord, F: PlanEntry<T>, M: JoinSteps<T>>(
     m: &M,
     xs: &mut [T],
@@ -125,7 +126,7 @@ fn join_two_stages<T: PlainWord, F: PlanEntry<T>, M: JoinSteps<T>>(
     first: usize,
     minus: &Factor<T>,
 )
-    requires { IsPassReady T.number F.value F.quotient T.base (M.modulus m.now) (M.bound m.now)
+    requires { IsJoinPassReady T.number F.value F.quotient T.base (M.modulus m.now) (M.bound m.now)
         q blocks first (T.number minus.now.value) (T.number minus.now.quotient) xs.old table.now }
     ensures { IsPassJoined T.number F.value (M.modulus m.now) (M.bound m.now) q blocks first table.now
         xs.old xs.new }
@@ -139,8 +140,9 @@ fn join_two_stages<T: PlainWord, F: PlanEntry<T>, M: JoinSteps<T>>(
 }
 
 /// Two stages of all blocks, with each power of four up to 1024 as a constant length, for the reason given at
-/// `split_known`. Condition: the entries are below the bound, the table has the factors modulo m of each block and of
-/// its halves, and `minus` is the factor -1.
+/// `split_known`. Conditions: the blocks, of 4·q entries each, fill the list, and q is at least 1; the list's entries are
+/// below the bound; those of the table are factors modulo m, one for each block and two for its halves; `minus` is the
+/// factor -1.
 pub fn join_known<T: PlainWord, F: PlanEntry<T>, M: JoinSteps<T>>(
     m: &M,
     xs: &mut [T],
@@ -150,7 +152,7 @@ pub fn join_known<T: PlainWord, F: PlanEntry<T>, M: JoinSteps<T>>(
     first: usize,
     minus: &Factor<T>,
 )
-    requires { IsPassReady T.number F.value F.quotient T.base (M.modulus m.now) (M.bound m.now)
+    requires { IsJoinPassReady T.number F.value F.quotient T.base (M.modulus m.now) (M.bound m.now)
         q blocks first (T.number minus.now.value) (T.number minus.now.quotient) xs.old table.now }
     ensures { IsPassJoined T.number F.value (M.modulus m.now) (M.bound m.now) q blocks first table.now
         xs.old xs.new }
@@ -166,8 +168,9 @@ pub fn join_known<T: PlainWord, F: PlanEntry<T>, M: JoinSteps<T>>(
 }
 
 /// The first two stages of all blocks of four entries, which makes them less than the bound: block p by entry
-/// first + p of the table, and its halves by the entries 2·(first + p) and 2·(first + p) + 1. Condition: the entries are
-/// below 4m, the table has these factors modulo m, and `minus` is the factor -1.
+/// first + p of the table, and its halves by the entries 2·(first + p) and 2·(first + p) + 1. Conditions: the blocks
+/// fill the list; the list's entries are below 4m; those of the table are factors modulo m, one for each block and two
+/// for its halves; `minus` is the factor -1.
 pub fn join_fours<T: PlainWord, F: PlanEntry<T>, M: JoinSteps<T>>(
     m: &M,
     xs: &mut [T],
@@ -176,7 +179,7 @@ pub fn join_fours<T: PlainWord, F: PlanEntry<T>, M: JoinSteps<T>>(
     first: usize,
     minus: &Factor<T>,
 )
-    requires { IsPassReady T.number F.value F.quotient T.base (M.modulus m.now) (4 * M.modulus m.now)
+    requires { IsJoinPassReady T.number F.value F.quotient T.base (M.modulus m.now) (4 * M.modulus m.now)
         1 blocks first (T.number minus.now.value) (T.number minus.now.quotient) xs.old table.now }
     ensures { IsPassJoined T.number F.value (M.modulus m.now) (M.bound m.now) 1 blocks first table.now
         xs.old xs.new }

@@ -14,8 +14,9 @@ use modular_plan::entry::PlanEntry;
 use modular_prim::plain_word::PlainWord;
 use modular_word::path_word::PathWord;
 
-/// Splits all blocks of a stage, block p by entry first + p of the table. Condition: the entries are below the limit,
-/// and the table has a factor modulo m for each block.
+/// Splits all blocks of a stage, block p by entry first + p of the table. Conditions: the blocks, of 2·half entries each,
+/// fill the list, and half is at least 1; the list's entries are below the limit; those of the table are factors modulo
+/// m, one for each block.
 pub fn split_stage<T: PlainWord, M: SplitSteps<T>, F: PlanEntry<T>>(
     m: &M,
     xs: &mut [T],
@@ -92,8 +93,9 @@ fn split_known<T: PlainWord, M: SplitSteps<T>, F: PlanEntry<T>>(
 }
 
 /// A pass of two stages, block p by entry first + p of the table. The first pass of a transform takes one product in
-/// place of four, since a plan begins with the factor 1. Condition: the entries are below the limit, those of a first
-/// pass below 4m, and the table has the factors modulo m of each block and of its halves.
+/// place of four, since a plan begins with the factor 1. Conditions: the blocks, of 4·q entries each, fill the list, and
+/// q is at least 1; the list's entries are below the limit, and below 4m where there is only one block; those of the
+/// table are factors modulo m, one for each block and two for its halves.
 pub fn split_pass<T: PlainWord, M: SplitSteps<T>, F: PlanEntry<T>>(
     m: &M,
     xs: &mut [T],
@@ -118,7 +120,8 @@ pub fn split_pass<T: PlainWord, M: SplitSteps<T>, F: PlanEntry<T>>(
 }
 
 /// The last two stages, which also reduce: those of `split_pass` on each four neighbours, and their residues.
-/// Condition: the entries are below the limit, and the table has the factors modulo m of each block and of its halves.
+/// Conditions: the blocks, of four entries each, fill the list; the list's entries are below the limit; those of the
+/// table are factors modulo m, one for each block and two for its halves.
 pub fn split_fours<T: PlainWord, M: SplitSteps<T>, F: PlanEntry<T>>(
     m: &M,
     xs: &mut [T],

@@ -41,8 +41,9 @@ fn minus_inverse<T: PlainWord, F: PlanEntry<T>, M: JoinSteps<T>>(
 ///
 /// # Preconditions
 ///
-/// The table has these factors modulo m, and `minus` is the factor -1. This isn't tested: outside it
-/// the call panics, or returns no meaningful result.
+/// The table's entries are factors modulo m, and those of the block and of its halves are among them,
+/// and `minus` is the factor -1. This isn't tested: outside it the call panics, or returns no
+/// meaningful result.
 pub fn minus_inverses<T: PlainWord, F: PlanEntry<T>, M: JoinSteps<T>>(
     m: &M,
     table: &[F],
@@ -68,8 +69,9 @@ pub fn minus_inverses<T: PlainWord, F: PlanEntry<T>, M: JoinSteps<T>>(
 ///
 /// # Preconditions
 ///
-/// The entries are below the bound, the table has a factor modulo m for each block, and `minus` is the
-/// factor -1. This isn't tested: outside it the call panics, or returns no meaningful result.
+/// The blocks, of 2·half entries each, fill the list, and half is at least 1, and the list's entries
+/// are below the bound, and those of the table are factors modulo m, one for each block, and `minus` is
+/// the factor -1. This isn't tested: outside it the call panics, or returns no meaningful result.
 pub fn join_stage<T: PlainWord, F: PlanEntry<T>, M: JoinSteps<T>>(
     m: &M,
     xs: &mut [T],
@@ -111,8 +113,9 @@ fn join_two_stages<T: PlainWord, F: PlanEntry<T>, M: JoinSteps<T>>(
 ///
 /// # Preconditions
 ///
-/// The entries are below the bound, the table has the factors modulo m of each block and of its halves,
-/// and `minus` is the factor -1. This isn't tested: outside it the call panics, or returns no
+/// The blocks, of 4·q entries each, fill the list, and q is at least 1, and the list's entries are
+/// below the bound, and those of the table are factors modulo m, one for each block and two for its
+/// halves, and `minus` is the factor -1. This isn't tested: outside it the call panics, or returns no
 /// meaningful result.
 pub fn join_known<T: PlainWord, F: PlanEntry<T>, M: JoinSteps<T>>(
     m: &M,
@@ -138,8 +141,9 @@ pub fn join_known<T: PlainWord, F: PlanEntry<T>, M: JoinSteps<T>>(
 ///
 /// # Preconditions
 ///
-/// The entries are below 4m, the table has these factors modulo m, and `minus` is the factor -1. This
-/// isn't tested: outside it the call panics, or returns no meaningful result.
+/// The blocks fill the list, and the list's entries are below 4m, and those of the table are factors
+/// modulo m, one for each block and two for its halves, and `minus` is the factor -1. This isn't
+/// tested: outside it the call panics, or returns no meaningful result.
 pub fn join_fours<T: PlainWord, F: PlanEntry<T>, M: JoinSteps<T>>(
     m: &M,
     xs: &mut [T],

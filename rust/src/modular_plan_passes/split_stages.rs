@@ -12,7 +12,8 @@ use crate::modular_word::path_word::PathWord;
 ///
 /// # Preconditions
 ///
-/// The entries are below the limit, and the table has a factor modulo m for each block. This isn't
+/// The blocks, of 2·half entries each, fill the list, and half is at least 1, and the list's entries
+/// are below the limit, and those of the table are factors modulo m, one for each block. This isn't
 /// tested: outside it the call panics, or returns no meaningful result.
 #[inline]
 pub fn split_stage<T: PlainWord, M: SplitSteps<T>, F: PlanEntry<T>>(
@@ -75,9 +76,10 @@ fn split_known<T: PlainWord, M: SplitSteps<T>, F: PlanEntry<T>>(
 ///
 /// # Preconditions
 ///
-/// The entries are below the limit, those of a first pass below 4m, and the table has the factors
-/// modulo m of each block and of its halves. This isn't tested: outside it the call panics, or returns
-/// no meaningful result.
+/// The blocks, of 4·q entries each, fill the list, and q is at least 1, and the list's entries are
+/// below the limit, and below 4m where there is only one block, and those of the table are factors
+/// modulo m, one for each block and two for its halves. This isn't tested: outside it the call panics,
+/// or returns no meaningful result.
 pub fn split_pass<T: PlainWord, M: SplitSteps<T>, F: PlanEntry<T>>(
     m: &M,
     xs: &mut [T],
@@ -99,8 +101,9 @@ pub fn split_pass<T: PlainWord, M: SplitSteps<T>, F: PlanEntry<T>>(
 ///
 /// # Preconditions
 ///
-/// The entries are below the limit, and the table has the factors modulo m of each block and of its
-/// halves. This isn't tested: outside it the call panics, or returns no meaningful result.
+/// The blocks, of four entries each, fill the list, and the list's entries are below the limit, and
+/// those of the table are factors modulo m, one for each block and two for its halves. This isn't
+/// tested: outside it the call panics, or returns no meaningful result.
 pub fn split_fours<T: PlainWord, M: SplitSteps<T>, F: PlanEntry<T>>(
     m: &M,
     xs: &mut [T],

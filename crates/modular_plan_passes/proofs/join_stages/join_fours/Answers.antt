@@ -15,14 +15,21 @@ fours-init g c = record {
 }
 
 pub minus_inverses-w-requires : goal.minus_inverses-w-requires
-minus_inverses-w-requires g c = record { factors = c.requires.factors; within = omega arith }
+minus_inverses-w-requires g c = record {
+  factors = record {
+    each = c.requires.pass.factors;
+    minus_factor = c.requires.minus_factor;
+    is_minus = c.requires.is_minus;
+  };
+  within = omega arith;
+}
 
 pub returns-then-is_beyond : goal.returns-then-is_beyond
 returns-then-is_beyond g c =
     let room = g.met.M.JoinSteps.room c.args.m.now in
     let far = c.if-is_beyond.ensures refl in
     never_beyond g.T.RingWord.number (4 * g.M.JoinSteps.modulus c.args.m.now) c.fours.xs c.args.xs.now (c.fours.p * 4)
-    c.index-xs-place.result c.requires.entries (omega arith) (omega arith) c.index-xs-place.is
+    c.index-xs-place.result c.requires.pass.entries (omega arith) (omega arith) c.index-xs-place.is
     (c.fours.invariant.kept (c.fours.p * 4) (omega arith)) (omega (arith, far, room))
 
 pub invariant_of-step : goal.invariant_of-step
@@ -30,7 +37,7 @@ invariant_of-step g c = record { factors = c.minus_inverses-w.ensures.factors }
 
 pub neighbours-requires : goal.neighbours-requires
 neighbours-requires g c =
-    neighbours_given g.T.RingWord.number c.fours.p c.args.xs.now c.fours.xs c.requires.entries c.fours.invariant.kept
+    neighbours_given g.T.RingWord.number c.fours.p c.args.xs.now c.fours.xs c.requires.pass.entries c.fours.invariant.kept
     (omega arith) (omega arith)
 
 pub fours-preserved : goal.fours-preserved

@@ -7,12 +7,19 @@ use borrow.Author.Count.{falls}
 
 pub four_quarters-init : goal.four_quarters-init
 four_quarters-init g c = record {
-  entries = c.requires.entries;
+  entries = c.requires.pass.entries;
   done = λ root z plan. stage_of_fours_none _ c.args.q _;
 }
 
 pub minus_inverses-w-requires : goal.minus_inverses-w-requires
-minus_inverses-w-requires g c = record { factors = c.requires.factors; within = omega arith }
+minus_inverses-w-requires g c = record {
+  factors = record {
+    each = c.requires.pass.factors;
+    minus_factor = c.requires.minus_factor;
+    is_minus = c.requires.is_minus;
+  };
+  within = omega arith;
+}
 
 pub overflow_add-half : goal.overflow_add-half
 overflow_add-half g c =

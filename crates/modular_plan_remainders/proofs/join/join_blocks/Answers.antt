@@ -40,11 +40,15 @@ join_known-requires g c =
     let fill = sizes.whole in
     let same = c.stages.auto.xs in
     record {
-      entries = before.entries;
-      factors = c.requires.factors;
-      whole = omega (arith, fill, same);
-      within = two_join_rooms c.args.b (length c.args.table.now) sizes c.requires.blocks.within;
-      some = before.some;
+      pass = record {
+        entries = before.entries;
+        factors = c.requires.factors.each;
+        whole = omega (arith, fill, same);
+        within = two_join_rooms c.args.b (length c.args.table.now) sizes c.requires.blocks.within;
+        some = before.some;
+      };
+      minus_factor = c.requires.factors.minus_factor;
+      is_minus = c.requires.factors.is_minus;
     }
 
 pub overflow_mul-size : goal.overflow_mul-size

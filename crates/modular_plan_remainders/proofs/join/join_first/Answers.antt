@@ -11,11 +11,15 @@ join_fours-requires g c =
     let all = first_fours c.args.b c.args.last (length c.args.xs.now) (length c.args.table.now) (omega (arith, one))
     (omega (arith, some)) c.requires.blocks.count c.requires.blocks.whole c.requires.blocks.within in
     record {
-      entries = c.requires.entries;
-      factors = c.requires.factors;
-      whole = all.whole;
-      within = all.room;
-      some = omega arith;
+      pass = record {
+        entries = c.requires.entries;
+        factors = c.requires.factors.each;
+        whole = all.whole;
+        within = all.room;
+        some = omega arith;
+      };
+      minus_factor = c.requires.factors.minus_factor;
+      is_minus = c.requires.factors.is_minus;
     }
 
 pub returns-then-fours-gt0 : goal.returns-then-fours-gt0

@@ -1,10 +1,11 @@
--- The preconditions of the steps of a join: a table of factors, and entries below a multiple of m (Harvey, "Faster
--- arithmetic for number-theoretic transforms", section 3), in blocks of the tree of remainders (Bernstein,
--- "Multidigit multiplication for mathematicians", section 2). The names are the library's own words.
+-- The preconditions and the results of the passes of a join: a table of factors, and entries below a multiple of m
+-- (Harvey, "Faster arithmetic for number-theoretic transforms", section 3), in blocks of the tree of remainders
+-- (Bernstein, "Multidigit multiplication for mathematicians", section 2). The names are the library's own words.
 use Rattle.std.specs.Prelude.{◌≡◌, ℕ, ◌+◌, ◌*◌, ◌<◌, ◌≤◌, List, All, length}
 use Rattle.modular_barrett.specs.Factors.{IsFactor, AllFactors}
 use Rattle.modular_plan.specs.Plans.{numbers, IsPlan}
 use Rattle.modular_plan_passes.specs.Steps.{StageOfFours}
+use Rattle.modular_plan_passes.specs.Splits.{IsPassReady}
 use Rattle.modular_plan_passes.specs.Joins.{IsFourJoin}
 
 -- the entries of a table are factors modulo m, and minus is the factor -1
@@ -23,15 +24,13 @@ pub record IsStageReady {X F : Type 0} (number : X → ℕ) (value quotient : F 
   pub within : first + blocks ≤ length table
   pub some : 0 < half
 
--- before a pass of two stages over blocks of four times q entries, the same; the table has also two factors for the
--- halves of each block, at twice its index
-pub record IsPassReady {X F : Type 0} (number : X → ℕ) (value quotient : F → ℕ)
+-- before a pass of two stages over blocks of four times q entries: the list and the table are as before such a pass of
+-- a split, and minus is the factor -1
+pub record IsJoinPassReady {X F : Type 0} (number : X → ℕ) (value quotient : F → ℕ)
     (base m bound q blocks first minus minus_quotient : ℕ) (xs : List X) (table : List F) : Type 0 where
-  pub entries : All (λ x. number x < bound) xs
-  pub factors : IsTableOfFactors base m value quotient table minus minus_quotient
-  pub whole : blocks * (q + q + (q + q)) ≡ length xs
-  pub within : 2 * (first + blocks) ≤ length table
-  pub some : 0 < q
+  pub pass : IsPassReady number value quotient base m bound q blocks first xs table
+  pub minus_factor : IsFactor base m minus minus_quotient
+  pub is_minus : minus + 1 ≡ m
 
 -- after that pass: the entries are below a bound, and each block is joined, by a table that is a plan
 pub record IsPassJoined {X F : Type 0} (number : X → ℕ) (value : F → ℕ) (m bound q blocks first : ℕ) (table : List F)
