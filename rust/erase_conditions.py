@@ -37,7 +37,7 @@ LOOKS = {
         (DEBUG, "r.check(g) && xs.iter().all(|x| r.check(x)) && ys.iter().all(|y| r.check(y))"),
         (DEBUG, "crate::modular_transform::transform::root_fits(r, g, xs.len())"),
     ),
-    ("ring", "run"): ((DEBUG, "all_checked(r, regs)"), (DEBUG, "commands_fit(commands, regs.len())")),
+    ("modular_ring/ring", "run"): ((DEBUG, "all_checked(r, regs)"), (DEBUG, "commands_fit(commands, regs.len())")),
     ("modular_plan/plan", "plan"): (
         (DEBUG, "g.is_below(m.modulus)"),
         (DEBUG, "crate::additions::root_fits_plan(m, g, table.len())"),
@@ -59,8 +59,8 @@ LOOKS = {
     ("modular_prim/abs", "signed_residue_128"): ((EVERY, "m != 0"),),
     **{("modular_prim/plain_word", name): DIVISOR for name in ("quotient", "remainder", "low_quotient")},
     **{(f"modular_word/word/{word}", "nrem"): DIVISOR for word in ("w8", "w16", "w32", "w64", "wsize")},
-    ("residues", "encode"): ((EVERY, "moduli.iter().all(|m| *m > 0)"), (EVERY, "residues.len() == moduli.len()")),
-    ("residues", "decode"): ((DEBUG, "is_system(moduli)"), (DEBUG, "are_reduced(moduli, residues)")),
+    ("modular_ring/residues", "encode"): ((EVERY, "moduli.iter().all(|m| *m > 0)"), (EVERY, "residues.len() == moduli.len()")),
+    ("modular_ring/residues", "decode"): ((DEBUG, "is_system(moduli)"), (DEBUG, "are_reduced(moduli, residues)")),
 }
 FOUND = set()
 # Whose condition is tested by what they call: the kinds of the parts, and the names of a file's functions or of a trait's.

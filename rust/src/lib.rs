@@ -33,6 +33,8 @@ pub mod modular_folds;
 #[doc(hidden)]
 pub mod modular_transform;
 #[doc(hidden)]
+pub mod modular_ring;
+#[doc(hidden)]
 pub mod modular_plan;
 #[doc(hidden)]
 pub mod modular_plan_passes;
@@ -46,7 +48,6 @@ pub mod applications;
 pub mod barrett;
 pub mod hashes;
 pub mod laws;
-mod list_inverses;
 pub mod mersenne;
 pub mod monty;
 pub mod plans;

@@ -6,14 +6,14 @@ use Rattle.std.proofs.lemmas.List.{take_more}
 use Rattle.std.specs.Fmt.{decimal}
 use Rattle.std.proofs.Math.Nat.{mod-eq_of_lt}
 use Rattle.modular_reduced.specs.Forms.{Represents, IsCanonical}
-use Rattle.num_modular.specs.declared.ring.RunEnd.{RunEnd}
-use Rattle.num_modular.specs.declared.ring.RunEnd.TheVariants.{Done, NoInverse}
+use Rattle.modular_ring.specs.declared.ring.RunEnd.{RunEnd}
+use Rattle.modular_ring.specs.declared.ring.RunEnd.TheVariants.{Done, NoInverse}
 use Rattle.std.specs.Io.KnownBytes.{Appends}
 use Rattle.std.specs.Str.Parse.{digits_value}
-use Rattle.num_modular.specs.declared.ring.RingCommand.{RingCommand}
-use Rattle.num_modular.specs.declared.ring.RingCommand.TheVariants.{Load, Add, Sub, Mul, Neg, Dbl, Sqr, Inv, Div, Pow}
+use Rattle.modular_ring.specs.declared.ring.RingCommand.{RingCommand}
+use Rattle.modular_ring.specs.declared.ring.RingCommand.TheVariants.{Load, Add, Sub, Mul, Neg, Dbl, Sqr, Inv, Div, Pow}
 use Rattle.num_modular.specs.declared.modrun.ReducerName.{ReducerName}
-use Rattle.num_modular.specs.Ring.{IsFit, IsStop, whole, value_at, carried_out}
+use Rattle.modular_ring.specs.Ring.{IsFit, IsStop, whole, value_at, carried_out}
 use Rattle.num_modular.specs.Words.{IsCommandWord, IsCommandParts, parts}
 use Rattle.num_modular.specs.Program.{AreCommands, IsHeading, Ask, IsAnswer, IsEnd}
 use Rattle.num_modular.specs.Program.{numbers_to, line_of, printed, zeros, usage}

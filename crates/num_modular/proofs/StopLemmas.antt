@@ -6,9 +6,9 @@ use Rattle.std.proofs.lemmas.Bool.{cases_lt}
 use Rattle.std.proofs.lemmas.Option.{slice_get-map, slice_get_within, get_or_from_slice_get}
 use Rattle.modular_word.specs.Inverses.{HasInverse, inverse_of}
 use Rattle.modular_word.proofs.InverseLemmas.{inverse_of-named, inverse_of-empty}
-use Rattle.num_modular.specs.declared.ring.RingCommand.{RingCommand}
-use Rattle.num_modular.specs.declared.ring.RingCommand.TheVariants.{Inv, Div}
-use Rattle.num_modular.specs.Ring.{whole, value_at, LacksInverse, LacksInverseAt, IsStop}
+use Rattle.modular_ring.specs.declared.ring.RingCommand.{RingCommand}
+use Rattle.modular_ring.specs.declared.ring.RingCommand.TheVariants.{Inv, Div}
+use Rattle.modular_ring.specs.Ring.{whole, value_at, LacksInverse, LacksInverseAt, IsStop}
 use Rattle.num_modular.specs.Stops.{inverted_by, NeedsInverse}
 
 -- a command that lacks its inverse needs one of a register that has none

@@ -9,13 +9,13 @@ pub use Rattle.modular_transform.specs.Entries.{entry, IsCheckedFormOf, HoldBelo
 pub use Rattle.modular_transform.specs.EntryLaws.{entry_at, entry_read, form_read, entry_past, entry_written, entry_kept}
 pub use Rattle.modular_transform.specs.EntryLaws.{forms_written, done_none, done_more, done_before}
 pub use Rattle.modular_transform.specs.EntryLaws.{hold_more, held_read, held_forms, held_entry}
-pub use Rattle.num_modular.specs.Products.{product_below}
-pub use Rattle.num_modular.specs.ProductLaws.{product_none, product_step, inverse_left, inverse_right}
-pub use Rattle.num_modular.specs.ProductLaws.{inverse_before, inverse_last, inverse_both}
+pub use Rattle.modular_ring.specs.Products.{product_below}
+pub use Rattle.modular_ring.specs.ProductLaws.{product_none, product_step, inverse_left, inverse_right}
+pub use Rattle.modular_ring.specs.ProductLaws.{inverse_before, inverse_last, inverse_both}
 pub use Rattle.num_modular.specs.InterpolationLaws.{same_coefficients}
-pub use Rattle.num_modular.specs.ProductLaws.{has_both, has_each, has_product, no_inverse}
+pub use Rattle.modular_ring.specs.ProductLaws.{has_both, has_each, has_product, no_inverse}
 pub use Rattle.num_modular.specs.Remainders.{remainders, inner_remainders}
-use Rattle.num_modular.specs.ProductLaws as products
+use Rattle.modular_ring.specs.ProductLaws as products
 
 -- the set for `using` with which a loop that fills a list with the products so far needs no answer
 pub ruleset products_so_far = (products.products_so_far)

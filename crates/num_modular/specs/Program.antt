@@ -3,14 +3,14 @@
 use Rattle.std.specs.Prelude.{◌≡◌, ℕ, zero, suc, ◌<◌, List, [], ◌∷◌, ◌++◌, replicate, codes}
 use Rattle.std.specs.Borrow.{Bor}
 use Rattle.std.specs.Fmt.{decimal}
-use Rattle.num_modular.specs.declared.ring.RingCommand.{RingCommand}
+use Rattle.modular_ring.specs.declared.ring.RingCommand.{RingCommand}
 use Rattle.num_modular.specs.declared.modrun.Fault.{Fault}
 use Rattle.num_modular.specs.declared.modrun.Fault.TheVariants.{Unreadable, OutOfMemory}
 use Rattle.num_modular.specs.declared.modrun.ReducerName.{ReducerName}
 use Rattle.num_modular.specs.declared.modrun.ReducerName.TheVariants.{Vanilla, PreMul, Montgomery}
-use Rattle.num_modular.specs.declared.ring.RunEnd.{RunEnd}
-use Rattle.num_modular.specs.declared.ring.RunEnd.TheVariants.{Done, NoInverse}
-use Rattle.num_modular.specs.Ring.{IsStop, value_at, carried_out}
+use Rattle.modular_ring.specs.declared.ring.RunEnd.{RunEnd}
+use Rattle.modular_ring.specs.declared.ring.RunEnd.TheVariants.{Done, NoInverse}
+use Rattle.modular_ring.specs.Ring.{IsStop, value_at, carried_out}
 use Rattle.num_modular.specs.Words.{IsNumberText, IsCommandWord}
 
 -- the name of a reducer

@@ -1,7 +1,7 @@
 -- Which inverses the commands of a list need. The names are the library's own words.
 use Rattle.std.specs.Prelude.{◌≡◌, ℕ, List, slice_get, Option, Some, None, IsSomeAnd}
-use Rattle.num_modular.specs.declared.ring.RingCommand.{RingCommand}
-use Rattle.num_modular.specs.declared.ring.RingCommand.TheVariants.{Inv, Div}
+use Rattle.modular_ring.specs.declared.ring.RingCommand.{RingCommand}
+use Rattle.modular_ring.specs.declared.ring.RingCommand.TheVariants.{Inv, Div}
 
 -- the register whose inverse a command needs, if it needs one
 abbrev pub inverted_by : {T : Type 0} → RingCommand T → Option ℕ

@@ -4,9 +4,9 @@
 use Rattle.std.specs.Prelude.{◌≡◌, ℕ, ◌<◌, ◌^◌, ◌==◌, List, [], ◌∷◌, Option, MatchOption, codes}
 use Rattle.std.specs.List.{slice_split}
 use Rattle.std.specs.Str.Parse.{IsNumeral, digits_value}
-use Rattle.num_modular.specs.Ring.{IsFit}
-use Rattle.num_modular.specs.declared.ring.RingCommand.{RingCommand}
-use Rattle.num_modular.specs.declared.ring.RingCommand.TheVariants.{Load, Add, Sub, Mul, Neg, Dbl, Sqr, Inv, Div, Pow}
+use Rattle.modular_ring.specs.Ring.{IsFit}
+use Rattle.modular_ring.specs.declared.ring.RingCommand.{RingCommand}
+use Rattle.modular_ring.specs.declared.ring.RingCommand.TheVariants.{Load, Add, Sub, Mul, Neg, Dbl, Sqr, Inv, Div, Pow}
 
 -- the text is one or more ASCII digits, which denote n, and n fits a word of 64 bits
 pub record IsNumberText (text : List ℕ) (n : ℕ) : Type 0 where

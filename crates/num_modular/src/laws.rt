@@ -12,8 +12,8 @@ ghost use Rattle.modular_word.specs.Sums.{sum_below, polynomial};
 ghost use Rattle.modular_symbols.specs.Primes.{IsPrime};
 ghost use Rattle.modular_transform.specs.Transforms.{cyclic_product};
 ghost use Rattle.num_modular.specs.Polynomials.{ascending_polynomial, polynomial_at, HaveUnitDifferences};
-ghost use Rattle.num_modular.specs.Products.{product_below};
-ghost use Rattle.num_modular.specs.Ring.{whole, value_at, IsStop};
+ghost use Rattle.modular_ring.specs.Products.{product_below};
+ghost use Rattle.modular_ring.specs.Ring.{whole, value_at, IsStop};
 ghost use Rattle.num_modular.specs.Stops.{inverted_by, NeedsInverse};
 
 use crate::ring::RingCommand;

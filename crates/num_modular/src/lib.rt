@@ -9,7 +9,6 @@
 pub mod barrett;
 pub mod hashes;
 pub mod laws;
-mod list_inverses;
 pub mod mersenne;
 pub mod modrun;
 pub mod monty;

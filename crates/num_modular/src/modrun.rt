@@ -4,7 +4,7 @@ ghost use Rattle.std.specs.Prelude.{◌≡◌, ℕ, ◌<◌, ◌≤◌, List, Al
 ghost use Rattle.std.specs.Borrow.{Bor};
 ghost use Rattle.std.specs.Io.KnownBytes.{Appends};
 ghost use Rattle.modular_reduced.specs.Forms.{IsForm};
-ghost use Rattle.num_modular.specs.Ring.{IsFit, values_of};
+ghost use Rattle.modular_ring.specs.Ring.{IsFit, values_of};
 ghost use Rattle.num_modular.specs.Program.{Ask, AreCommands, IsHeading, IsRun, IsAnswer};
 ghost use Rattle.num_modular.specs.Program.{IsFault, reducer_name, usage, line_of};
 ghost use Rattle.num_modular.specs.Words.{FindsWhere};

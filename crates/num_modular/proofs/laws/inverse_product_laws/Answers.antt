@@ -1,5 +1,5 @@
-use Rattle.num_modular.specs.ProductLaws.{inverse_left, inverse_right, inverse_both, inverse_before}
-use Rattle.num_modular.specs.ProductLaws.{inverse_last, has_both, has_each, has_product}
+use Rattle.modular_ring.specs.ProductLaws.{inverse_left, inverse_right, inverse_both, inverse_before}
+use Rattle.modular_ring.specs.ProductLaws.{inverse_last, has_both, has_each, has_product}
 use Rattle.num_modular.proofs.laws.inverse_product_laws.Goals as goal
 
 pub returns : goal.returns

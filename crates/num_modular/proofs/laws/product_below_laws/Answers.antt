@@ -1,4 +1,4 @@
-use Rattle.num_modular.specs.ProductLaws.{product-zero, product-more, product-same}
+use Rattle.modular_ring.specs.ProductLaws.{product-zero, product-more, product-same}
 use Rattle.num_modular.proofs.laws.product_below_laws.Goals as goal
 
 pub returns : goal.returns

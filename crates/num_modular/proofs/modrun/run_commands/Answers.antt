@@ -1,6 +1,6 @@
 use Rattle.std.proofs.Common.{subst, refl}
 use Rattle.std.specs.Io.KnownBytes.{Appends}
-use Rattle.num_modular.specs.declared.ring.RunEnd.TheVariants.{Done, NoInverse}
+use Rattle.modular_ring.specs.declared.ring.RunEnd.TheVariants.{Done, NoInverse}
 use Rattle.num_modular.proofs.ProgramLemmas.{wholes_same, value_zero, all_zeros}
 use Rattle.num_modular.proofs.ProgramLemmas.{end_of_run, line_of_run, appends_nothing}
 use Rattle.num_modular.proofs.modrun.run_commands.Goals as goal

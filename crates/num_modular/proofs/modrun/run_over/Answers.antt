@@ -1,5 +1,5 @@
 use Rattle.std.proofs.Common.{All, sym, subst}
-use Rattle.num_modular.specs.Ring.{IsFit}
+use Rattle.modular_ring.specs.Ring.{IsFit}
 use Rattle.num_modular.proofs.ProgramLemmas.{commands_fit}
 use Rattle.num_modular.proofs.modrun.run_over.Goals as goal
 

@@ -1,7 +1,7 @@
 use Rattle.std.proofs.Common.{arith, ◌≡◌, ℕ, suc, ◌∷◌, ◌+◌, [], add-one, sym, subst, slice_index}
 use Rattle.std.specs.Fmt.{decimal}
 use Rattle.std.specs.Io.KnownBytes.{Appends}
-use Rattle.num_modular.specs.Ring.{values_of}
+use Rattle.modular_ring.specs.Ring.{values_of}
 use Rattle.num_modular.specs.Program.{numbers_to}
 use Rattle.num_modular.proofs.ProgramLemmas.{appends_more, if_ok}
 use Rattle.num_modular.proofs.modrun.write_residues.Goals as goal

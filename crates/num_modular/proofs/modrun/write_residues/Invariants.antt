@@ -1,6 +1,6 @@
 use Rattle.std.proofs.Common.{slice_index}
 use Rattle.std.specs.Io.KnownBytes.{Appends}
-use Rattle.num_modular.specs.Ring.{values_of}
+use Rattle.modular_ring.specs.Ring.{values_of}
 use Rattle.num_modular.specs.Program.{numbers_to}
 use Rattle.num_modular.proofs.modrun.write_residues.Given as goal
 

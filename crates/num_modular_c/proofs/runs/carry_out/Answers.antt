@@ -1,6 +1,6 @@
 use Rattle.std.proofs.Common.{◌≡◌, length, arith, refl}
 use Rattle.std.proofs.lemmas.Bool.{false≢true}
-use Rattle.num_modular.proofs.RunLemmas.{same_stop}
+use Rattle.modular_ring.proofs.RunLemmas.{same_stop}
 use Rattle.num_modular_c.proofs.runs.carry_out.Goals as goal
 
 pub returns-then-not-are_admitted-clause-bad_argument : goal.returns-then-not-are_admitted-clause-bad_argument

@@ -1,7 +1,7 @@
 use Rattle.std.proofs.Common.{◌≡◌, ◌∙◌, length, map, Some, IsFalse, IsTrue, refl, sym, subst, arith, rules, below_more}
 use Rattle.std.specs.List.{slice_get}
 use Rattle.std.proofs.lemmas.List.{length-map}
-use Rattle.num_modular.proofs.RunLemmas.{never_stops}
+use Rattle.modular_ring.proofs.RunLemmas.{never_stops}
 use Rattle.num_modular.specs.Ring.{values_of, IsFit}
 use Rattle.num_modular_c.specs.Commands.{ring_command_of}
 use Rattle.num_modular_c.proofs.Steps.{read_command, next_row, lacks_here, here_lacks, after_same, lacks_same}

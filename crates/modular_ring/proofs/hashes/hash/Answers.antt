@@ -1,0 +1,20 @@
+use Rattle.std.proofs.Common.{ℕ, ◌%◌, List, take, get_or, ap, sym, ◌∙◌}
+use Rattle.std.proofs.lemmas.List.{take_more}
+use Rattle.modular_reduced.specs.Integers.{residue_of}
+use Rattle.modular_folds.specs.Mersenne.{mersenne}
+use Rattle.modular_ring.specs.Hashes.{polynomial_value}
+use Rattle.modular_ring.proofs.Windows.{value_none, residue_more}
+use Rattle.modular_ring.proofs.hashes.hash.Goals as goal
+
+pub bytes-init : goal.bytes-init
+bytes-init c = c.convert-value.ensures.residue ∙ ap (λ n. n % mersenne 61 1) (sym (value_none _))
+
+pub bytes-preserved : goal.bytes-preserved
+bytes-preserved c =
+    let m : ℕ = mersenne 61 1 in
+    let text : List ℕ = c.args.text.now in
+    let i : ℕ = c.bytes.byte-index in
+    let x = residue_of c.args.base in
+    c.add-value.ensures.residue
+    ∙ residue_more m (take i text) (get_or text i 0) x _ _ c.bytes.invariant c.mul.ensures.residue
+    ∙ ap (λ cs. polynomial_value cs x % m) (sym (take_more text i 0 c.bytes-test.true))

@@ -1,0 +1,85 @@
+use Rattle.std.proofs.Common.{◌≡◌, ℕ, ◌*◌, ◌<◌, ◌^◌, List, length, get_or, true, false}
+use Rattle.std.proofs.Common.{arith, rules, lit<, ap, sym, subst, ◌∙◌, refl, below_more}
+use Rattle.std.proofs.lemmas.Bool.{false≢true}
+use Rattle.modular_word.specs.Divisors.{Coprime}
+use Rattle.modular_word.specs.Inverses.{HasInverse}
+use Rattle.modular_ring.specs.Systems.{product_below}
+use Rattle.modular_ring.specs.SystemLaws.{product_none, product_more, each_of_unit, unit_here, next_fits}
+use Rattle.modular_ring.proofs.residues.is_system.Goals as goal
+use Rattle.modular_ring.proofs.residues.is_system.Goals.{then-modulus-eq0-via-then-modulus-eq0}
+use Rattle.modular_ring.proofs.residues.is_system.Goals.{then-modulus-eq0-via-else-modulus-eq0+then-not-has_inverse}
+use borrow.Author.Count.{falls}
+
+pub moduli-init : goal.moduli-init
+moduli-init c = record {
+  range = sym (product_none _);
+  fits = lit< tt;
+  positive = λ i h. absurd (omega arith);
+  coprime = λ i j h k. absurd (omega arith);
+}
+
+pub returns-then-modulus-eq0 : goal.returns-then-modulus-eq0
+returns-then-modulus-eq0 c = (
+  (λ t. absurd (false≢true t)),
+  λ system.
+      let positive = system.positive c.moduli.place c.moduli-test.true in
+      let unit : HasInverse (get_or c.args.moduli.now c.moduli.place 0) c.moduli.range =
+      subst (HasInverse (get_or c.args.moduli.now c.moduli.place 0)) (sym c.moduli.invariant.range)
+      (unit_here c.args.moduli.now c.moduli.place c.divisor_laws.ensures.coprime
+      c.inverse_laws.ensures.exists system c.moduli-test.true) in
+      elim c.then-modulus-eq0.branch [
+        | then-modulus-eq0-via-then-modulus-eq0 w ↦ absurd (omega arith)
+        | then-modulus-eq0-via-else-modulus-eq0+then-not-has_inverse w ↦
+            let found : w.has_inverse.result ≡ true = w.has_inverse.ensures.1 unit in
+            let missed : w.has_inverse.result ≡ false = first_of (search rules, cc) in
+            absurd (false≢true (sym missed ∙ found))
+      ],
+)
+
+pub returns-in-None : goal.returns-in-None
+returns-in-None c = (
+  (λ t. absurd (false≢true t)),
+  λ system.
+      let fits =
+      next_fits c.args.moduli.now c.moduli.place c.moduli.range c.moduli.invariant.range system c.moduli-test.true in
+      absurd (omega (arith, fits, c.in-None.ensures)),
+)
+
+pub moduli-preserved : goal.moduli-preserved
+moduli-preserved c =
+    let ms : List ℕ = c.args.moduli.now in
+    let place : ℕ = c.moduli.place in
+    let m = get_or ms place 0 in
+    let positive : 0 < m = omega arith in
+    let found : c.has_inverse.result ≡ true = first_of (search rules, cc) in
+    let unit = subst (HasInverse m) c.moduli.invariant.range (c.has_inverse.ensures.0 found) in
+    record {
+      range = c.in-Some.ensures.0 ∙ ap (λ k. k * m) c.moduli.invariant.range ∙ sym (product_more place ms);
+      fits = c.in-Some.ensures.1;
+      positive = below_more (λ i. 0 < get_or ms i 0) place c.moduli.invariant.positive positive;
+      coprime = λ i j h k.
+          below_more (λ i. (j : ℕ) → j < i → Coprime (get_or ms j 0) (get_or ms i 0)) place
+          (λ i l j h. c.moduli.invariant.coprime i j h l)
+          (λ j h. (c.divisor_laws.ensures.coprime (get_or ms j 0) m positive).1
+          ((c.inverse_laws.ensures.exists m (get_or ms j 0) positive).0 (each_of_unit m place j ms positive unit h)))
+          i k j h;
+    }
+
+pub returns : goal.returns
+returns c =
+    let ms : List ℕ = c.args.moduli.now in
+    let full : c.moduli.place ≡ length ms = omega arith in (
+      (λ t. record {
+        positive = λ i h. c.moduli.invariant.positive i (subst (λ n. i < n) (sym full) h);
+        coprime = λ i j h k. c.moduli.invariant.coprime i j h (subst (λ n. i < n) (sym full) k);
+        fits = subst (λ n. n < 2 ^ 128)
+            (c.moduli.invariant.range ∙ ap (λ n. product_below n ms) full) c.moduli.invariant.fits;
+      }),
+      λ system. refl,
+    )
+
+pub bounds-moduli-place : goal.bounds-moduli-place
+bounds-moduli-place c = c.moduli-test.true
+
+pub moduli-smaller : goal.moduli-smaller
+moduli-smaller c = falls _ _ c.moduli-test.true

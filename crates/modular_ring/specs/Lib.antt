@@ -1,0 +1,6 @@
+pub mod Hashes
+pub mod ProductLaws
+pub mod Products
+pub mod Ring
+pub mod SystemLaws
+pub mod Systems

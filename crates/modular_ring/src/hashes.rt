@@ -1,0 +1,99 @@
+//! Text search by polynomial hashes modulo 2^61 - 1: the hash of a window is computed from that of the one before.
+
+ghost use Rattle.std.specs.Prelude.{◌≡◌, ℕ, ◌+◌, ◌*◌, ◌%◌, ◌^◌, ◌≤◌, ◌↔◌, List, []};
+ghost use Rattle.std.specs.Prelude.{◌∷◌, ◌++◌, IsTrue, length, slice_range, pos, ◌-ℤ◌};
+ghost use Rattle.modular_reduced.specs.Integers.{residue_of};
+ghost use Rattle.modular_folds.specs.Mersenne.{mersenne};
+ghost use Rattle.modular_word.specs.Residues.{residue};
+ghost use Rattle.modular_ring.specs.Hashes.{polynomial_value, StandsAt, IsSearch};
+
+use modular_folds::mersenne::FixedMersenne64;
+use modular_reduced::modular_integer::ModularInteger;
+use modular_reduced::reduced_int::ReducedInt;
+use modular_word::laws::residue_laws;
+
+/// A hash: an integer modulo 2^61 - 1.
+pub type Hash = ReducedInt<u64, FixedMersenne64<61, 1>>;
+
+/// A base of hashes: n modulo 2^61 - 1. Two different texts of n bytes have the same hash at fewer than n bases
+/// (`collision_laws` of the crate `mersenne_hash`), so a random base distinguishes them with high probability.
+pub fn base(n: u64) -> Hash
+    ensures { residue_of result ≡ n % mersenne 61 1 }
+{
+    Hash::new(n, &FixedMersenne64::<61, 1>::fixed_modulus())
+}
+
+/// The hash of a text: the value at the base of the polynomial with its bytes as coefficients, the highest first,
+/// modulo 2^61 - 1.
+///
+/// Source: Karp and Rabin, "Efficient randomized pattern-matching algorithms".
+pub fn hash(base: Hash, text: &[u8]) -> Hash
+    ensures { residue_of result ≡ polynomial_value text.now (residue_of base) % mersenne 61 1 }
+{
+    let mut value = base.convert(0);
+    'bytes: for byte in text {
+        value = value * base + *byte as u64;
+    }
+    value
+}
+
+/// The hash of a window that moves by one byte: `first` is the byte that it drops at its start, `next` the byte
+/// that it gains at its end. The result is the hash of the moved window where `window` is that of the old one, and
+/// `power` is the power of the base to the window's length.
+///
+/// Source: Karp and Rabin, "Efficient randomized pattern-matching algorithms".
+pub fn moved(base: Hash, power: Hash, window: Hash, first: u8, next: u8) -> Hash
+    ensures value { let m = mersenne 61 1 in residue_of result
+        ≡ residue m (pos ((residue_of window * residue_of base + next) % m) -ℤ pos ((residue_of power * first) % m)) }
+    ensures hash { (old moved : List ℕ) → old ++ (next ∷ []) ≡ first ∷ moved →
+        residue_of window ≡ polynomial_value old (residue_of base) % mersenne 61 1 →
+        residue_of power ≡ residue_of base ^ length old % mersenne 61 1 →
+        residue_of result ≡ polynomial_value moved (residue_of base) % mersenne 61 1 }
+{
+    residue_laws();
+    let longer = window * base + next as u64;
+    longer - power * first as u64
+}
+
+// Whether the pattern occurs in the text at a position. The bytes are compared only where the hashes of the window
+// and of the pattern are equal.
+fn is_hit(wanted: Hash, window: Hash, text: &[u8], pattern: &[u8], at: usize) -> bool
+    requires within { at + length pattern.now ≤ length text.now }
+    requires alike { slice_range text.now at (at + length pattern.now) ≡ pattern.now →
+        residue_of window ≡ residue_of wanted }
+    ensures { IsTrue result ↔ StandsAt text.now pattern.now at }
+{
+    window == wanted && &text[at..at + pattern.len()] == pattern
+}
+
+/// The first position where the pattern occurs in the text; `None` exactly where it occurs nowhere.
+///
+/// The result is right for every base, because the bytes of a window are compared where its hash is the pattern's.
+/// For a base that is drawn at random after text and pattern are fixed, few other windows have that hash
+/// (`collision_laws` of `mersenne_hash`). For the base 0, where the hash is the last byte, or for a text that an
+/// adversary chose for the base, all of them may: no contract bounds the time.
+///
+/// Source: Karp and Rabin, "Efficient randomized pattern-matching algorithms".
+pub fn find(base: Hash, text: &[u8], pattern: &[u8]) -> Option<usize>
+    ensures { IsSearch text.now pattern.now result }
+{
+    let length = pattern.len();
+    if length > text.len() {
+        return None;
+    }
+    let wanted = hash(base, pattern);
+    let power = base.pow(&(length as u64));
+    let mut window = hash(base, &text[..length]);
+    let last = text.len() - length;
+    'windows: for at in 0..last {
+        if is_hit(wanted, window, text, pattern, at) {
+            return Some(at);
+        }
+        window = moved(base, power, window, text[at], text[at + length]);
+    }
+    if is_hit(wanted, window, text, pattern, last) {
+        Some(last)
+    } else {
+        None
+    }
+}

@@ -1,0 +1,43 @@
+//! The inverses of all entries of a list by one inversion.
+
+ghost use Rattle.std.specs.Prelude.{◌≡◌, ℕ, ◌<◌, ◌↔◌, IsTrue, All, length};
+ghost use Rattle.modular_transform.specs.Entries.{entry};
+ghost use Rattle.modular_reduced.specs.Forms.{IsForm};
+ghost use Rattle.modular_word.specs.Inverses.{HasInverse, IsInverse};
+
+use modular_reduced::reducer::Reducer;
+use modular_word::ring_word::RingWord;
+
+/// Replaces each form by its inverse. The scratch list has unspecified contents afterwards. Returns false, with the
+/// forms unchanged, exactly where one has no inverse modulo m. Conditions: the forms are checked, and the scratch
+/// list is as long.
+///
+/// Source: Montgomery, "Speeding the Pollard and elliptic curve methods of factorization", section 10.3.1: the
+/// inverses come from that of the product of all forms.
+#[tactic(auto, using(modular_word::proofs::Remainders::remainders, crate::specs::ProductLaws::products_so_far))]
+pub fn invert_each<T: RingWord, R: Reducer<T>>(r: &R, forms: &mut [T], products: &mut [T]) -> bool
+    requires checked { All (λ f. IsForm R.form R.value (R.modulus r.now) (T.number f)) forms.old }
+    requires equal { length products.old ≡ length forms.old }
+    ensures each { let m = R.modulus r.now in
+        IsTrue result ↔ ((i : ℕ) → i < length forms.old → HasInverse m (entry T.number R.value m forms.old i)) }
+    ensures inverses { let m = R.modulus r.now in IsTrue result → (i : ℕ) → i < length forms.old →
+        IsInverse m (entry T.number R.value m forms.old i) (entry T.number R.value m forms.new i) }
+    ensures checked { All (λ f. IsForm R.form R.value (R.modulus r.now) (T.number f)) forms.new }
+    ensures unchanged { (IsTrue result → ⊥) → forms.new ≡ forms.old }
+{
+    let mut product = r.transform(T::one());
+    'forward: for i in 0..forms.len() {
+        products[i] = product;
+        product = r.mul(&product, &forms[i]);
+    }
+    let Some(mut inverse) = r.inv(product) else {
+        return false;
+    };
+    'backward: for k in 0..forms.len() {
+        let i = forms.len() - 1 - k;
+        let before = r.mul(&inverse, &forms[i]);
+        forms[i] = r.mul(&inverse, &products[i]);
+        inverse = before;
+    }
+    true
+}

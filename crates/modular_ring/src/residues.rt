@@ -1,0 +1,112 @@
+//! Residue number systems: numbers by their residues modulo several numbers, any two of which are coprime.
+
+ghost use Rattle.std.specs.Prelude.{◌≡◌, ℕ, ◌+◌, ◌*◌, ◌%◌, ◌^◌, ◌<◌, ◌≤◌, ◌↔◌};
+ghost use Rattle.std.specs.Prelude.{IsTrue, MatchOption, length, slice_index};
+ghost use Rattle.modular_word.specs.Inverses.{HasInverse};
+ghost use Rattle.modular_ring.specs.Systems.{range_of, IsSystem, AreResidues};
+
+use modular_reduced::modular_integer::ModularInteger;
+use modular_reduced::reduced_int::VanillaInt;
+use modular_word::laws::{divisor_laws, inverse_laws, residue_laws};
+
+// Whether n has an inverse modulo m.
+fn has_inverse(n: u128, m: u64) -> bool
+    requires { 1 ≤ m }
+    ensures { IsTrue result ↔ HasInverse m n }
+{
+    inverse_laws();
+    VanillaInt::<u64>::new((n % m as u128) as u64, &m)
+        .inv()
+        .is_some()
+}
+
+// The product with one more modulus; `None` exactly where it doesn't fit a word.
+fn next_range(range: u128, m: u64) -> Option<u128>
+    ensures { MatchOption result (2 ^ 128 ≤ range * m) (λ product. (product ≡ range * m) × (product < 2 ^ 128)) }
+{
+    range.checked_mul(m as u128)
+}
+
+/// Whether the moduli are those of a system: each is above 0, any two are coprime, and their product is below 2^128.
+pub fn is_system(moduli: &[u64]) -> bool
+    ensures { IsTrue result ↔ IsSystem moduli.now }
+{
+    divisor_laws();
+    inverse_laws();
+    let mut range: u128 = 1;
+    'moduli: for (place, modulus) in moduli.iter().enumerate() {
+        if *modulus == 0 || !has_inverse(range, *modulus) {
+            return false;
+        }
+        match next_range(range, *modulus) {
+            Some(product) => range = product,
+            None => return false,
+        }
+    }
+    true
+}
+
+// The next digit of a number in the mixed radix of the moduli: the factor of `range` for which the sum has the residue.
+fn next_digit(m: u64, residue: u64, number: u128, range: u128) -> u64
+    requires modulus { 1 ≤ m }
+    requires unit { HasInverse m range }
+    ensures below { result < m }
+    ensures right { (number + range * result) % m ≡ residue % m }
+{
+    inverse_laws();
+    residue_laws();
+    let known = VanillaInt::<u64>::new((number % m as u128) as u64, &m);
+    let weight = known.convert((range % m as u128) as u64);
+    ((known.convert(residue) - known) / weight).residue()
+}
+
+/// The residues of a number. Conditions: each modulus is above 0; there is room for one residue
+/// a modulus.
+pub fn encode(moduli: &[u64], number: u128, residues: &mut [u64])
+    requires positive { (i : ℕ) → i < length moduli.now → 0 < slice_index moduli.now i }
+    requires room { length residues.old ≡ length moduli.now }
+    ensures { AreResidues moduli.now residues.new number }
+{
+    'moduli: for (place, modulus) in moduli.iter().enumerate() {
+        residues[place] = (number % *modulus as u128) as u64;
+    }
+}
+
+/// Whether each residue is below its modulus. Condition: each modulus has a residue.
+pub fn are_reduced(moduli: &[u64], residues: &[u64]) -> bool
+    requires { length residues.now ≡ length moduli.now }
+    ensures { IsTrue result
+        ↔ ((i : ℕ) → i < length moduli.now → slice_index residues.now i < slice_index moduli.now i) }
+{
+    'moduli: for (place, modulus) in moduli.iter().enumerate() {
+        if residues[place] >= *modulus {
+            return false;
+        }
+    }
+    true
+}
+
+/// The only number below the product of the moduli that has these residues. Conditions: the moduli are a system
+/// (`is_system` tells); each has a residue below it (`are_reduced` tells).
+///
+/// Source: Garner, "The residue number system"; Knuth, The Art of Computer Programming, volume 2, section 4.3.2,
+/// (24) and (25).
+pub fn decode(moduli: &[u64], residues: &[u64]) -> u128
+    requires system { IsSystem moduli.now }
+    requires count { length residues.now ≡ length moduli.now }
+    requires reduced { (i : ℕ) → i < length moduli.now → slice_index residues.now i < slice_index moduli.now i }
+    ensures below { result < range_of moduli.now }
+    ensures number { AreResidues moduli.now residues.now result }
+    ensures only { (x : ℕ) → x < range_of moduli.now → AreResidues moduli.now residues.now x → x ≡ result }
+{
+    divisor_laws();
+    inverse_laws();
+    let mut number: u128 = 0;
+    let mut range: u128 = 1;
+    'moduli: for (place, modulus) in moduli.iter().enumerate() {
+        let digit = next_digit(*modulus, residues[place], number, range);
+        number += range * digit as u128;
+        range *= *modulus as u128;
+    }
+    number
+}

@@ -1,0 +1,389 @@
+//! Lists of commands on registers, run over any reducer.
+
+ghost use Rattle.std.specs.Prelude.{◌≡◌, ℕ, ◌*◌, ◌%◌, ◌<◌, ◌↔◌, IsTrue, IsFalse, Some, All, length};
+ghost use Rattle.std.specs.Prelude.{map, option_map, slice_index, slice_index_or, slice_set};
+ghost use Rattle.modular_word.specs.Inverses.{inverse_of};
+ghost use Rattle.modular_reduced.specs.Forms.{IsForm};
+ghost use Rattle.modular_ring.specs.Ring.{whole, destination_of, outcome, value_at, IsStop};
+ghost use Rattle.modular_ring.specs.Ring.{value_after, LacksInverse, carried_out, IsFit, values_of, HoldValues};
+ghost use Rattle.modular_ring.specs.Ring.{IsFormOf, IsHeldAt, Combines};
+
+use modular_reduced::reducer::Reducer;
+use modular_word::ring_word::RingWord;
+use std::alloc::AllocError;
+
+/// A command on registers, each given by its index in a slice of forms.
+///
+/// Operands are read before `dst` is written, so `dst` may be an operand.
+#[derive(Debug, PartialEq, Eq)]
+pub enum RingCommand<T> {
+    /// Writes n modulo m.
+    Load {
+        /// The register that is written.
+        dst: usize,
+        /// Any word; it may be at least m.
+        n: T,
+    },
+    /// Writes the sum of two registers.
+    Add {
+        /// The register that is written.
+        dst: usize,
+        /// The register of the first term.
+        a: usize,
+        /// The register of the second term.
+        b: usize,
+    },
+    /// Writes the difference of two registers.
+    Sub {
+        /// The register that is written.
+        dst: usize,
+        /// The register of the minuend.
+        a: usize,
+        /// The register of the subtrahend.
+        b: usize,
+    },
+    /// Writes the product of two registers.
+    Mul {
+        /// The register that is written.
+        dst: usize,
+        /// The register of the first factor.
+        a: usize,
+        /// The register of the second factor.
+        b: usize,
+    },
+    /// Writes the negative of a register.
+    Neg {
+        /// The register that is written.
+        dst: usize,
+        /// The register of the operand.
+        a: usize,
+    },
+    /// Writes the double of a register.
+    Dbl {
+        /// The register that is written.
+        dst: usize,
+        /// The register of the operand.
+        a: usize,
+    },
+    /// Writes the square of a register.
+    Sqr {
+        /// The register that is written.
+        dst: usize,
+        /// The register of the operand.
+        a: usize,
+    },
+    /// Writes the inverse of a register; the run stops where there is none.
+    Inv {
+        /// The register that is written.
+        dst: usize,
+        /// The register of the operand.
+        a: usize,
+    },
+    /// Writes the quotient of two registers: the first times the inverse of the second. The run stops where that
+    /// has no inverse, even where the first holds 0.
+    Div {
+        /// The register that is written.
+        dst: usize,
+        /// The register of the dividend.
+        a: usize,
+        /// The register of the divisor.
+        b: usize,
+    },
+    /// Writes a power of a register; 1 modulo m for the exponent 0.
+    Pow {
+        /// The register that is written.
+        dst: usize,
+        /// The register of the base.
+        a: usize,
+        /// The exponent itself, not a register.
+        exp: T,
+    },
+}
+
+impl<T: Copy> Clone for RingCommand<T> {
+    ghost is_clone = { λ x y. y ≡ x };
+
+    ghost is_infallible = { λ _. Unit {0} };
+
+    fn clone(&self) -> Result<Self, AllocError> {
+        Ok(*self)
+    }
+}
+
+impl<T: Copy> Copy for RingCommand<T> {}
+
+/// How a run ended.
+#[derive(Clone, Copy, Debug, PartialEq, Eq)]
+pub enum RunEnd {
+    /// Every command was carried out.
+    Done,
+    /// The inverse of a command doesn't exist; neither that command nor a later one wrote anything.
+    NoInverse {
+        /// The number of that command, counted from 0.
+        at: usize,
+    },
+}
+
+// Whether two register numbers are below `len`.
+fn two_fit(dst: usize, a: usize, len: usize) -> bool
+    ensures { IsTrue result ↔ (dst < len) × (a < len) }
+{
+    dst < len && a < len
+}
+
+// Whether three register numbers are below `len`.
+fn three_fit(dst: usize, a: usize, b: usize, len: usize) -> bool
+    ensures { IsTrue result ↔ (dst < len) × (a < len) × (b < len) }
+{
+    two_fit(dst, a, len) && b < len
+}
+
+// Whether each register number of a command is below `len`.
+fn command_fits<T: RingWord>(command: &RingCommand<T>, len: usize) -> bool
+    ensures { IsTrue result ↔ IsFit len command.now }
+{
+    match command {
+        RingCommand::Load { dst, .. } => *dst < len,
+        RingCommand::Add { dst, a, b }
+        | RingCommand::Sub { dst, a, b }
+        | RingCommand::Mul { dst, a, b }
+        | RingCommand::Div { dst, a, b } => three_fit(*dst, *a, *b, len),
+        RingCommand::Neg { dst, a }
+        | RingCommand::Dbl { dst, a }
+        | RingCommand::Sqr { dst, a }
+        | RingCommand::Inv { dst, a }
+        | RingCommand::Pow { dst, a, .. } => two_fit(*dst, *a, len),
+    }
+}
+
+/// Whether each register number of the commands is below `len`.
+pub fn commands_fit<T: RingWord>(commands: &[RingCommand<T>], len: usize) -> bool
+    ensures { IsTrue result ↔ All (IsFit len) commands.now }
+{
+    commands.iter().all(|command| command_fits(command, len))
+}
+
+/// Whether each register holds a checked form of the reducer.
+pub fn all_checked<T: RingWord, R: Reducer<T>>(r: &R, regs: &[T]) -> bool
+    ensures { IsTrue result ↔ All (λ f. IsForm R.form R.value (R.modulus r.now) (T.number f)) regs.now }
+{
+    regs.iter().all(|form| r.check(form))
+}
+
+// The register that a command writes.
+fn destination<T: RingWord>(command: &RingCommand<T>) -> usize
+    ensures value { result ≡ destination_of (whole T.number command.now) }
+    ensures within { (count : ℕ) → IsFit count command.now → result < count }
+{
+    match command {
+        RingCommand::Load { dst, .. }
+        | RingCommand::Add { dst, .. }
+        | RingCommand::Sub { dst, .. }
+        | RingCommand::Mul { dst, .. }
+        | RingCommand::Neg { dst, .. }
+        | RingCommand::Dbl { dst, .. }
+        | RingCommand::Sqr { dst, .. }
+        | RingCommand::Inv { dst, .. }
+        | RingCommand::Div { dst, .. }
+        | RingCommand::Pow { dst, .. } => *dst,
+    }
+}
+
+// The form of the quotient of two forms; `None` exactly where the second has no inverse.
+#[inline(never)]
+fn quotient<T: RingWord, R: Reducer<T>>(r: &R, a: &T, b: T) -> Option<T>
+    requires dividend { IsForm R.form R.value (R.modulus r.now) (T.number a.now) }
+    requires divisor { IsForm R.form R.value (R.modulus r.now) (T.number b) }
+    ensures { let m = R.modulus r.now in
+        let x = R.value m (T.number a.now) in
+        IsFormOf T.number R.form m (option_map (λ y. (x * y) % m) (inverse_of m (R.value m (T.number b)))) result }
+{
+    let inverse = r.inv(b)?;
+    Some(r.mul(a, &inverse))
+}
+
+// The form that a command writes; `None` exactly where its inverse doesn't exist. Condition: the command is no sum,
+// difference or product, since `run` computes these itself.
+//
+// Kept out of line, so that the loop of `run` stays small.
+#[inline(never)]
+fn computed_form<T: RingWord, R: Reducer<T>>(
+    r: &R,
+    regs: &[T],
+    command: &RingCommand<T>,
+) -> Option<T>
+    requires checked { All (λ f. IsForm R.form R.value (R.modulus r.now) (T.number f)) regs.now }
+    requires fit { IsFit (length regs.now) command.now }
+    requires other { Combines command.now → ⊥ }
+    ensures { let m = R.modulus r.now in
+        (v : ℕ → ℕ) → HoldValues T.number R.form m regs.now v →
+        IsFormOf T.number R.form m (outcome m v (whole T.number command.now)) result }
+{
+    match command {
+        RingCommand::Load { n, .. } => Some(r.transform(*n)),
+        RingCommand::Add { .. } | RingCommand::Sub { .. } | RingCommand::Mul { .. } => {
+            unreachable!()
+        }
+        RingCommand::Neg { a, .. } => Some(r.neg(regs[*a])),
+        RingCommand::Dbl { a, .. } => Some(r.dbl(regs[*a])),
+        RingCommand::Sqr { a, .. } => Some(r.sqr(regs[*a])),
+        RingCommand::Inv { a, .. } => r.inv(regs[*a]),
+        RingCommand::Div { a, b, .. } => quotient(r, &regs[*a], regs[*b]),
+        RingCommand::Pow { a, exp, .. } => Some(r.pow(regs[*a], exp)),
+    }
+}
+
+// The register that was written last, and its form. A command that reads this register takes the form from here, so it
+// doesn't wait for the store.
+#[derive(Clone, Copy)]
+struct Last<T> {
+    register: usize,
+    form: T,
+}
+
+// The last register before the first command: one that doesn't exist.
+fn unwritten<T: RingWord>(regs: &[T]) -> Last<T>
+    ensures { IsHeldAt regs.now result.register result.form }
+{
+    Last {
+        register: regs.len(),
+        form: T::zero(),
+    }
+}
+
+// The form that register a holds.
+#[inline(always)]
+fn held<T: RingWord>(regs: &[T], last: &Last<T>, a: usize) -> T
+    requires within { a < length regs.now }
+    requires holds { IsHeldAt regs.now last.now.register last.now.form }
+    ensures { result ≡ slice_index_or regs.now a result }
+{
+    if a == last.register {
+        last.form
+    } else {
+        regs[a]
+    }
+}
+
+// Writes a register, which is then the last one.
+#[inline(always)]
+fn write<T: RingWord>(regs: &mut [T], last: &mut Last<T>, dst: usize, form: T)
+    requires { dst < length regs.old }
+    ensures written { regs.new ≡ slice_set regs.old dst form }
+    ensures holds { IsHeldAt regs.new last.new.register last.new.form }
+{
+    regs[dst] = form;
+    last.register = dst;
+    last.form = form;
+}
+
+// Carries out a command; false exactly where its inverse doesn't exist, and then nothing is written.
+//
+// Inlined into the loop of `run`. Sums, differences and products are computed here, since a call for each of them would
+// take as long as the command. Each has an arm of its own up to the write, since one for the three is slower. Only the
+// first operand is looked for in `last`: the test takes time in every command.
+#[inline(always)]
+fn carry_out<T: RingWord, R: Reducer<T>>(
+    r: &R,
+    regs: &mut [T],
+    last: &mut Last<T>,
+    command: &RingCommand<T>,
+) -> bool
+    requires checked { All (λ f. IsForm R.form R.value (R.modulus r.now) (T.number f)) regs.old }
+    requires fit { IsFit (length regs.old) command.now }
+    requires holds { IsHeldAt regs.old last.old.register last.old.form }
+    ensures count { length regs.new ≡ length regs.old }
+    ensures values { let m = R.modulus r.now in
+        IsTrue result → (v : ℕ → ℕ) → HoldValues T.number R.form m regs.old v →
+        HoldValues T.number R.form m regs.new (value_after m v (Some (whole T.number command.now))) }
+    ensures missing { let m = R.modulus r.now in
+        (v : ℕ → ℕ) → HoldValues T.number R.form m regs.old v →
+        IsFalse result ↔ LacksInverse m v (whole T.number command.now) }
+    ensures kept { IsFalse result → regs.new ≡ regs.old }
+    ensures holds { IsHeldAt regs.new last.new.register last.new.form }
+{
+    match *command {
+        RingCommand::Add { dst, a, b } => {
+            let form = r.add(&held(regs, last, a), &regs[b]);
+            write(regs, last, dst, form);
+            true
+        }
+        RingCommand::Sub { dst, a, b } => {
+            let form = r.sub(&held(regs, last, a), &regs[b]);
+            write(regs, last, dst, form);
+            true
+        }
+        RingCommand::Mul { dst, a, b } => {
+            let form = r.mul(&held(regs, last, a), &regs[b]);
+            write(regs, last, dst, form);
+            true
+        }
+        _ => match computed_form(r, regs, command) {
+            Some(form) => {
+                write(regs, last, destination(command), form);
+                true
+            }
+            None => false,
+        },
+    }
+}
+
+/// Carries out the commands in order, up to the first whose inverse doesn't exist.
+///
+/// Conditions: each register holds a checked form (`all_checked` tells); each register number is below the number
+/// of registers (`commands_fit` tells). The run stops exactly at the first `Inv` or `Div` whose operand (for `Div`:
+/// b) has no inverse modulo m. That command and all later ones write nothing; what earlier ones wrote remains. Each
+/// register then holds the checked form of its value after the commands that were carried out, computed on whole
+/// numbers modulo m. No memory is allocated.
+///
+/// # Examples
+///
+/// ```
+/// use num_modular::ring::{run, RingCommand};
+/// use num_modular::{Reducer, Vanilla};
+///
+/// let ring = Vanilla::<u64>::new(&97);
+/// let mut registers = [ring.transform(5), ring.transform(20)];
+/// let commands = [RingCommand::Mul { dst: 0, a: 0, b: 1 }, RingCommand::Inv { dst: 1, a: 1 }];
+/// run(&ring, &mut registers, &commands);
+/// assert_eq!(registers.map(|f| ring.residue(f)), [3, 34]);
+/// ```
+pub fn run<T: RingWord, R: Reducer<T>>(r: &R, regs: &mut [T], commands: &[RingCommand<T>]) -> RunEnd
+    requires checked { All (λ f. IsForm R.form R.value (R.modulus r.now) (T.number f)) regs.old }
+    requires fit { All (IsFit (length regs.old)) commands.now }
+
+    // The run stops exactly where `IsStop` says, by the values of the registers.
+    ensures stops { let m = R.modulus r.now in
+        let start = values_of T.number R.value m regs.old in
+        (at : ℕ) → (result ≡ RunEnd.NoInverse at) ↔ IsStop m start (map (whole T.number) commands.now) at }
+    ensures done { let m = R.modulus r.now in
+        let start = values_of T.number R.value m regs.old in
+        (result ≡ RunEnd.Done) ↔ ((at : ℕ) → IsStop m start (map (whole T.number) commands.now) at → ⊥) }
+
+    // Each register then holds the checked form of its value at the stop.
+    ensures values { let m = R.modulus r.now in
+        let start = values_of T.number R.value m regs.old in
+        let wholes = map (whole T.number) commands.now in
+        HoldValues T.number R.form m regs.new (value_at m start wholes (carried_out result wholes)) }
+    ensures checked { All (λ f. IsForm R.form R.value (R.modulus r.now) (T.number f)) regs.new }
+
+    // So its residue is that value, for the list of values and for each register that is read.
+    ensures residues { let m = R.modulus r.now in
+        let start = values_of T.number R.value m regs.old in
+        let wholes = map (whole T.number) commands.now in
+        (n : ℕ) → n < length regs.old → slice_index (values_of T.number R.value m regs.new) n
+        ≡ value_at m start wholes (carried_out result wholes) n }
+    ensures read { let m = R.modulus r.now in
+        let start = values_of T.number R.value m regs.old in
+        let wholes = map (whole T.number) commands.now in
+        (n : ℕ) (other : T) → n < length regs.old → R.value m (T.number (slice_index_or regs.new n other))
+        ≡ value_at m start wholes (carried_out result wholes) n }
+{
+    let mut last = unwritten(regs);
+    'commands: for (at, command) in commands.iter().enumerate() {
+        if !carry_out(r, regs, &mut last, command) {
+            return RunEnd::NoInverse { at };
+        }
+    }
+    RunEnd::Done
+}

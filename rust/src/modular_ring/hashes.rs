@@ -1,0 +1,78 @@
+//! Text search by polynomial hashes modulo 2^61 - 1: the hash of a window is computed from that of the one before.
+
+use crate::modular_folds::mersenne::FixedMersenne64;
+use crate::modular_reduced::modular_integer::ModularInteger;
+use crate::modular_reduced::reduced_int::ReducedInt;
+use crate::modular_word::laws::residue_laws;
+
+/// A hash: an integer modulo 2^61 - 1.
+pub type Hash = ReducedInt<u64, FixedMersenne64<61, 1>>;
+
+/// A base of hashes: n modulo 2^61 - 1. Two different texts of n bytes have the same hash at fewer than n bases
+/// (`collision_laws` of the crate `mersenne_hash`), so a random base distinguishes them with high probability.
+#[inline]
+pub fn base(n: u64) -> Hash {
+    Hash::new(n, &FixedMersenne64::<61, 1>::fixed_modulus())
+}
+
+/// The hash of a text: the value at the base of the polynomial with its bytes as coefficients, the highest first,
+/// modulo 2^61 - 1.
+///
+/// Source: Karp and Rabin, "Efficient randomized pattern-matching algorithms".
+#[inline]
+pub fn hash(base: Hash, text: &[u8]) -> Hash {
+    let mut value = base.convert(0);
+    'bytes: for byte in text {
+        value = value * base + *byte as u64;
+    }
+    value
+}
+
+/// The hash of a window that moves by one byte: `first` is the byte that it drops at its start, `next` the byte
+/// that it gains at its end. The result is the hash of the moved window where `window` is that of the old one, and
+/// `power` is the power of the base to the window's length.
+///
+/// Source: Karp and Rabin, "Efficient randomized pattern-matching algorithms".
+#[inline]
+pub fn moved(base: Hash, power: Hash, window: Hash, first: u8, next: u8) -> Hash {
+    residue_laws();
+    let longer = window * base + next as u64;
+    longer - power * first as u64
+}
+
+// Whether the pattern occurs in the text at a position. The bytes are compared only where the hashes of the window
+// and of the pattern are equal.
+#[inline]
+fn is_hit(wanted: Hash, window: Hash, text: &[u8], pattern: &[u8], at: usize) -> bool {
+    window == wanted && &text[at..at + pattern.len()] == pattern
+}
+
+/// The first position where the pattern occurs in the text; `None` exactly where it occurs nowhere.
+///
+/// The result is right for every base, because the bytes of a window are compared where its hash is the pattern's.
+/// For a base that is drawn at random after text and pattern are fixed, few other windows have that hash
+/// (`collision_laws` of `mersenne_hash`). For the base 0, where the hash is the last byte, or for a text that an
+/// adversary chose for the base, all of them may: no contract bounds the time.
+///
+/// Source: Karp and Rabin, "Efficient randomized pattern-matching algorithms".
+pub fn find(base: Hash, text: &[u8], pattern: &[u8]) -> Option<usize> {
+    let length = pattern.len();
+    if length > text.len() {
+        return None;
+    }
+    let wanted = hash(base, pattern);
+    let power = base.pow(&(length as u64));
+    let mut window = hash(base, &text[..length]);
+    let last = text.len() - length;
+    'windows: for at in 0..last {
+        if is_hit(wanted, window, text, pattern, at) {
+            return Some(at);
+        }
+        window = moved(base, power, window, text[at], text[at + length]);
+    }
+    if is_hit(wanted, window, text, pattern, last) {
+        Some(last)
+    } else {
+        None
+    }
+}

@@ -1,0 +1,101 @@
+//! Residue number systems: numbers by their residues modulo several numbers, any two of which are coprime.
+
+use crate::modular_reduced::modular_integer::ModularInteger;
+use crate::modular_reduced::reduced_int::VanillaInt;
+use crate::modular_word::laws::{divisor_laws, inverse_laws, residue_laws};
+
+// Whether n has an inverse modulo m.
+#[inline]
+fn has_inverse(n: u128, m: u64) -> bool {
+    inverse_laws();
+    VanillaInt::<u64>::new((n % m as u128) as u64, &m)
+        .inv()
+        .is_some()
+}
+
+// The product with one more modulus; `None` exactly where it doesn't fit a word.
+#[inline]
+fn next_range(range: u128, m: u64) -> Option<u128> {
+    range.checked_mul(m as u128)
+}
+
+/// Whether the moduli are those of a system: each is above 0, any two are coprime, and their product is below 2^128.
+pub fn is_system(moduli: &[u64]) -> bool {
+    divisor_laws();
+    inverse_laws();
+    let mut range: u128 = 1;
+    'moduli: for (place, modulus) in moduli.iter().enumerate() {
+        if *modulus == 0 || !has_inverse(range, *modulus) {
+            return false;
+        }
+        match next_range(range, *modulus) {
+            Some(product) => range = product,
+            None => return false,
+        }
+    }
+    true
+}
+
+// The next digit of a number in the mixed radix of the moduli: the factor of `range` for which the sum has the residue.
+fn next_digit(m: u64, residue: u64, number: u128, range: u128) -> u64 {
+    inverse_laws();
+    residue_laws();
+    let known = VanillaInt::<u64>::new((number % m as u128) as u64, &m);
+    let weight = known.convert((range % m as u128) as u64);
+    ((known.convert(residue) - known) / weight).residue()
+}
+
+/// The residues of a number.
+///
+/// # Panics
+///
+/// Panics unless each modulus is above 0, and there is room for one residue a modulus.
+#[inline]
+pub fn encode(moduli: &[u64], number: u128, residues: &mut [u64]) {
+    assert!(moduli.iter().all(|m| *m > 0), "each modulus must be above 0");
+    assert!(residues.len() == moduli.len(), "there must be room for one residue a modulus");
+    'moduli: for (place, modulus) in moduli.iter().enumerate() {
+        residues[place] = (number % *modulus as u128) as u64;
+    }
+}
+
+/// Whether each residue is below its modulus.
+///
+/// # Preconditions
+///
+/// Each modulus has a residue. This isn't tested: outside it the call panics, or returns no meaningful
+/// result.
+#[inline]
+pub fn are_reduced(moduli: &[u64], residues: &[u64]) -> bool {
+    'moduli: for (place, modulus) in moduli.iter().enumerate() {
+        if residues[place] >= *modulus {
+            return false;
+        }
+    }
+    true
+}
+
+/// The only number below the product of the moduli that has these residues.
+///
+/// Source: Garner, "The residue number system"; Knuth, The Art of Computer Programming, volume 2, section 4.3.2,
+/// (24) and (25).
+///
+/// # Panics
+///
+/// A debug build panics unless the moduli are a system (`is_system` tells), and each has a residue
+/// below it (`are_reduced` tells). A release build doesn't test that, and outside it panics, or returns
+/// no meaningful result.
+pub fn decode(moduli: &[u64], residues: &[u64]) -> u128 {
+    debug_assert!(is_system(moduli), "the moduli must be a system");
+    debug_assert!(are_reduced(moduli, residues), "each must have a residue below it");
+    divisor_laws();
+    inverse_laws();
+    let mut number: u128 = 0;
+    let mut range: u128 = 1;
+    'moduli: for (place, modulus) in moduli.iter().enumerate() {
+        let digit = next_digit(*modulus, residues[place], number, range);
+        number += range * digit as u128;
+        range *= *modulus as u128;
+    }
+    number
+}
