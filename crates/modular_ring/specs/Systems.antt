@@ -1,6 +1,6 @@
 -- Residue number systems (Garner, "The residue number system", IRE Transactions on Electronic
 -- Computers 8, 1959; Knuth, The Art of Computer Programming, volume 2, section 4.3.2).
-use Rattle.std.specs.Prelude.{◌≡◌, ℕ, zero, suc, ◌+◌, ◌*◌, ◌%◌, ◌^◌, ◌<◌, List, length, slice_index}
+use Rattle.std.specs.Prelude.{◌≡◌, ℕ, zero, suc, ◌*◌, ◌%◌, ◌^◌, ◌<◌, List, length, slice_index}
 use Rattle.modular_word.specs.Divisors.{Coprime}
 
 -- the product of the first n moduli
