@@ -51,14 +51,17 @@ def save(figure, name, title, words):
 
 
 def ratios(tables):
-    shown = [(title, tables[key]["lines"]) for key, title in TABLES if key in tables]
+    shown = []
+    for key, title in TABLES:
+        if key in tables:
+            column = tables[key]["heads"].index("port/crate")
+            shown.append((title, [(line["name"], line["numbers"][column]) for line in tables[key]["lines"]]))
     heights = [len(lines) for _, lines in shown]
     figure, parts = plt.subplots(len(shown), 1, figsize=(8.6, 0.24 * sum(heights) + 0.75 * len(shown)), sharex=True,
                                  gridspec_kw={"height_ratios": heights, "hspace": 0.28})
-    greatest = max(line["numbers"][2] for _, lines in shown for line in lines)
+    greatest = max(ratio for _, lines in shown for _, ratio in lines)
     for part, (title, lines) in zip(parts, shown):
-        names = [line["name"] for line in lines]
-        values = [line["numbers"][2] for line in lines]
+        names, values = zip(*lines)
         places = range(len(lines))
         part.barh(places, values, color=[PORT if v <= LIMIT else CRATE for v in values], height=0.7)
         for place, value in zip(places, values):
@@ -72,7 +75,7 @@ def ratios(tables):
     parts[-1].set_xlabel("time of the port / time of the Rust crate; the line is at 1, bars above 1.05 are orange")
     parts_said = []
     for title, lines in shown:
-        said = ", ".join(f"{line['name']} {line['numbers'][2]:.2f}" for line in lines)
+        said = ", ".join(f"{name} {ratio:.2f}" for name, ratio in lines)
         parts_said.append(f"{title}: {said}")
     words = "Bars of the time of each operation divided by the Rust crate's, with a line at 1. " + ". ".join(parts_said) + "."
     return save(figure, "speed-ratios.svg", "Time of each operation beside the Rust crate's", words)

@@ -210,8 +210,7 @@ fn lines(ring: &Ring) -> Vec<(String, Vec<f64>)> {
     };
     (1..=4)
         .map(|operation| {
-            let [ours, theirs] = line(operation);
-            (format!("{} {}", ring.name, OPERATIONS[operation as usize - 1]), vec![ours, theirs, ours / theirs])
+            (format!("{} {}", ring.name, OPERATIONS[operation as usize - 1]), line(operation).to_vec())
         })
         .collect()
 }
@@ -221,9 +220,10 @@ pub fn measured() -> Rows {
     Rows {
         key: "lattices",
         title: "The rings of `lattice_rings`, 256 coefficients".to_string(),
-        heads: vec!["port us", "loop us", "port/loop"],
+        heads: vec!["port us", "loop us"],
+        ratios: vec![("port/loop", 0, 1)],
         digits: 2,
         lines: with_rings(lines).concat(),
-        means: Vec::new(),
+        has_means: false,
     }
 }

@@ -100,7 +100,7 @@ fn measured_line(n: usize) -> [f64; 3] {
 fn lines() -> Vec<(String, Vec<f64>)> {
     let at = |name: String, n: usize| {
         let [product, plan, gmp] = measured_line(n);
-        (name, vec![product, product + plan, gmp, product / gmp, (product + plan) / gmp])
+        (name, vec![product, product + plan, gmp])
     };
     let mut lines = vec![at("2^8 digits, by rows".to_string(), 256)];
     lines.push(at(format!("{} digits, by rows", LEAST_TRANSFORMED - 1), LEAST_TRANSFORMED - 1));
@@ -114,9 +114,10 @@ pub fn measured() -> Rows {
     Rows {
         key: "long",
         title: "A product by `long_product` of two numbers of so many digits of 64 bits".to_string(),
-        heads: vec!["with plans at hand ms", "with the plans ms", "GMP ms", "at hand/GMP", "with the plans/GMP"],
+        heads: vec!["with plans at hand ms", "with the plans ms", "GMP ms"],
+        ratios: vec![("at hand/GMP", 0, 2), ("with the plans/GMP", 1, 2)],
         digits: 3,
         lines: with_room(lines),
-        means: Vec::new(),
+        has_means: false,
     }
 }

@@ -148,9 +148,10 @@ pub fn measured() -> Rows {
     Rows {
         key: "peers",
         title: "Beside FLINT's calls".to_string(),
-        heads: vec!["port ns", "FLINT ns", "port/FLINT"],
+        heads: vec!["port ns", "FLINT ns"],
+        ratios: vec![("port/FLINT", 0, 1)],
         digits: 1,
-        lines: names.zip(times()).map(|(name, [ours, theirs])| (name, vec![ours, theirs, ours / theirs])).collect(),
-        means: Vec::new(),
+        lines: names.zip(times()).map(|(name, times)| (name, times.to_vec())).collect(),
+        has_means: false,
     }
 }

@@ -2,7 +2,7 @@
 
 use crate::measure::Random;
 use crate::peers::seconds;
-use crate::report::Rows;
+use crate::report::{Ratio, Rows};
 use crate::transforms::{port_montgomery_convolve, port_montgomery_ntt, root as root_of_original};
 use std::ffi::{CStr, c_char};
 use std::hint::black_box;
@@ -177,9 +177,9 @@ fn measured_transforms() -> [Vec<(String, Vec<f64>)>; 2] {
             repeated(|| port_montgomery_ntt(&mut zs, g)),
         ];
         let (_, ours, theirs) = best_planned(many, times, &lists, &[SPLIT, JOIN, NATURAL], &mut others);
-        lines.push((format!("forward, 2^{bits}"), vec![ours[0], theirs[0], ours[0] / theirs[0]]));
-        lines.push((format!("back, 2^{bits}"), vec![ours[1], theirs[1], ours[1] / theirs[1]]));
-        natural.push((format!("2^{bits}"), vec![ours[2], theirs[2], ours[2] / theirs[2]]));
+        lines.push((format!("forward, 2^{bits}"), vec![ours[0], theirs[0]]));
+        lines.push((format!("back, 2^{bits}"), vec![ours[1], theirs[1]]));
+        natural.push((format!("2^{bits}"), vec![ours[2], theirs[2]]));
     }
     lines.sort_by_key(|(name, _)| name.starts_with("back"));
     [lines, natural]
@@ -203,9 +203,7 @@ fn measured_products() -> [Vec<(String, Vec<f64>)>; 2] {
         unsafe { peer_flint_set(p, lists.xs.as_ptr(), lists.ys.as_ptr(), n as i64 / 2) };
         let flint = best(many.min(8), 1, &mut [repeated(|| peer_flint_multiply())])[0];
         let name = format!("2^{} terms", bits - 1);
-        let [ours, ntl, convolve] = [ours[0], theirs[0], theirs[1]];
-        let quotients = [ours / ntl, with_plan / ntl, ours / convolve];
-        lines.push((name.clone(), [&[ours, with_plan, ntl, flint, convolve][..], &quotients].concat()));
+        lines.push((name.clone(), vec![ours[0], with_plan, theirs[0], flint, theirs[1]]));
         let lists = Lists::new(LARGE, terms(LARGE, n, 1), terms(LARGE, n, 2));
         unsafe {
             peer_flint_set(LARGE, lists.xs.as_ptr(), lists.ys.as_ptr(), n as i64 / 2);
@@ -214,7 +212,7 @@ fn measured_products() -> [Vec<(String, Vec<f64>)>; 2] {
         let (_, ours, _) = best_planned(many.min(20), times, &lists, &[PRODUCT], &mut []);
         let theirs =
             best(many.min(8), 1, &mut [repeated(|| peer_ntl_multiply_large()), repeated(|| peer_flint_multiply())]);
-        large.push((name, vec![ours[0], theirs[0], theirs[1], ours[0] / theirs[0], ours[0] / theirs[1]]));
+        large.push((name, vec![ours[0], theirs[0], theirs[1]]));
         // NTL's modulus of large numbers is its own; the other is set anew
         black_box(peer_ntl_prime());
     }
@@ -241,8 +239,7 @@ fn measured_entries() -> Vec<(String, Vec<f64>)> {
         }
         let small = (least[1] - least[0]) * 1e9 / 800.0 / n as f64;
         let (_, ours, _) = best_planned(400, 200, &lists, &[operation], &mut []);
-        let large = ours[0] * 1e6 / 1024.0;
-        lines.push((name.to_string(), vec![small, large, small / large]));
+        lines.push((name.to_string(), vec![small, ours[0] * 1e6 / 1024.0]));
     }
     lines
 }
@@ -297,47 +294,43 @@ pub fn measured() -> Vec<Rows> {
     let [transforms, natural] = with_room(measured_transforms);
     let [products, large] = with_room(measured_products);
     let entries = with_room(measured_entries);
-    let table = |key, title: &str, heads: &[&'static str], lines| Rows {
+    let table = |key, title: &str, heads: &[&'static str], ratios: &[Ratio], lines| Rows {
         key,
         title: title.to_string(),
         heads: heads.to_vec(),
+        ratios: ratios.to_vec(),
         digits: 3,
         lines,
-        means: Vec::new(),
+        has_means: false,
     };
     vec![
         table(
             "planned",
             "Transforms by a plan, in bit-reversed order",
-            &["plan ms", "NTL ms", "plan/NTL"],
+            &["plan ms", "NTL ms"],
+            &[("plan/NTL", 0, 1)],
             transforms,
         ),
-        table("natural", "In natural order, beside `ntt`", &["ntt_planned ms", "ntt ms", "quotient"], natural),
+        table("natural", "In natural order, beside `ntt`", &["ntt_planned ms", "ntt ms"], &[("quotient", 0, 1)], natural),
         table(
             "products",
             "Products of two polynomials",
-            &[
-                "plan ms",
-                "with the plan ms",
-                "NTL ms",
-                "FLINT ms",
-                "convolve ms",
-                "plan/NTL",
-                "with the plan/NTL",
-                "plan/convolve",
-            ],
+            &["plan ms", "with the plan ms", "NTL ms", "FLINT ms", "convolve ms"],
+            &[("plan/NTL", 0, 2), ("with the plan/NTL", 1, 2), ("plan/convolve", 0, 4)],
             products,
         ),
         table(
             "large",
             "The same modulo 29·2^57 + 1, of 62 bits",
-            &["plan ms", "NTL ms", "FLINT ms", "plan/NTL", "plan/FLINT"],
+            &["plan ms", "NTL ms", "FLINT ms"],
+            &[("plan/NTL", 0, 1), ("plan/FLINT", 0, 2)],
             large,
         ),
         table(
             "words",
             "An entry of 256 words of 32 bits, and of 1024 words of 64",
-            &["u32 ns", "u64 ns", "quotient"],
+            &["u32 ns", "u64 ns"],
+            &[("quotient", 0, 1)],
             entries,
         ),
     ]

@@ -4,15 +4,20 @@ use std::fs;
 use std::io;
 use std::path::Path;
 
-/// A table: the heads of its columns, and for each line its name and numbers. Times, whose heads end with the unit, have
-/// `digits` after the point, and ratios two. `means` has the mean of each column that has one, or is empty.
+/// A column of ratios: its head, and the columns that are divided.
+pub type Ratio = (&'static str, usize, usize);
+
+/// A table: the heads of its columns, for each line its name and what was measured, and the ratios, whose columns follow.
+/// What was measured has `digits` after the point, and a ratio two. With `has_means` the last line has the geometric mean
+/// of each ratio.
 pub struct Rows {
     pub key: &'static str,
     pub title: String,
     pub heads: Vec<&'static str>,
+    pub ratios: Vec<Ratio>,
     pub digits: usize,
     pub lines: Vec<(String, Vec<f64>)>,
-    pub means: Vec<Option<f64>>,
+    pub has_means: bool,
 }
 
 /// Numbers against a size, for a picture: the head of each column, and the lines.
@@ -45,32 +50,53 @@ fn list<T>(items: &[T], write: impl Fn(&T) -> String) -> String {
 }
 
 impl Rows {
-    fn markdown(&self) -> String {
-        let mut text = format!("{}:\n\n| operation | {} |\n|---|{}\n", self.title, self.heads.join(" | "), "---:|".repeat(self.heads.len()));
-        for (name, numbers) in &self.lines {
-            text += &format!("| {name} |");
-            for (head, number) in self.heads.iter().zip(numbers) {
-                let digits = if head.ends_with(" ns") || head.ends_with(" ms") { self.digits } else { 2 };
-                text += &format!(" {number:.digits$} |");
+    /// The heads of all columns.
+    fn all_heads(&self) -> Vec<&'static str> {
+        self.heads.iter().copied().chain(self.ratios.iter().map(|(head, ..)| *head)).collect()
+    }
+
+    /// The ratios of a line.
+    fn ratios_of(&self, measured: &[f64]) -> Vec<f64> {
+        self.ratios.iter().map(|(_, of, to)| measured[*of] / measured[*to]).collect()
+    }
+
+    /// The geometric mean of each ratio. A line beside a plain line of Rust, not the Rust crate, is left out.
+    fn means(&self) -> Vec<f64> {
+        let lines: Vec<_> = self.lines.iter().filter(|(name, _)| !name.ends_with("(plain line)")).collect();
+        let mut sums = vec![0.0; self.ratios.len()];
+        for (_, measured) in &lines {
+            for (sum, ratio) in sums.iter_mut().zip(self.ratios_of(measured)) {
+                *sum += ratio.ln();
             }
-            text += "\n";
         }
-        if !self.means.is_empty() {
-            let means: Vec<String> = self.means.iter().map(|mean| mean.map_or(String::new(), |mean| format!(" {mean:.2}"))).collect();
-            text += &format!("| geometric mean |{} |\n", means.join(" |"));
+        sums.into_iter().map(|sum| (sum / lines.len() as f64).exp()).collect()
+    }
+
+    fn markdown(&self) -> String {
+        let heads = self.all_heads();
+        let mut text = format!("{}:\n\n| operation | {} |\n|---|{}\n", self.title, heads.join(" | "), "---:|".repeat(heads.len()));
+        for (name, measured) in &self.lines {
+            let numbers = measured.iter().map(|number| format!(" {number:.*} |", self.digits));
+            let ratios = self.ratios_of(measured).into_iter().map(|ratio| format!(" {ratio:.2} |"));
+            text += &format!("| {name} |{}\n", numbers.chain(ratios).collect::<String>());
+        }
+        if self.has_means {
+            let means: String = self.means().into_iter().map(|mean| format!(" {mean:.2} |")).collect();
+            text += &format!("| geometric mean |{}{means}\n", " |".repeat(self.heads.len()));
         }
         text
     }
 
     fn json(&self) -> String {
-        let lines = list(&self.lines, |(name, numbers)| {
-            format!("\n      {{\"name\": {}, \"numbers\": {}}}", quoted(name), list(numbers, |n| format!("{n:.4}")))
+        let lines = list(&self.lines, |(name, measured)| {
+            let numbers = [&measured[..], &self.ratios_of(measured)].concat();
+            format!("\n      {{\"name\": {}, \"numbers\": {}}}", quoted(name), list(&numbers, |n| format!("{n:.4}")))
         });
         format!(
             "{{\n    \"key\": {}, \"title\": {}, \"heads\": {},\n    \"lines\": {lines}\n    }}",
             quoted(self.key),
             quoted(&self.title),
-            list(&self.heads, |head| quoted(head)),
+            list(&self.all_heads(), |head| quoted(head)),
         )
     }
 }

@@ -198,19 +198,18 @@ pub fn measured() -> Rows {
     for bits in [10, 16, 20] {
         let turns = if bits > 17 { 15 } else { 60 };
         for (place, (name, times)) in each(1 << bits, |runs| best(1 << bits, turns, runs)).into_iter().enumerate() {
-            let [port, columns, table] = times;
-            let line = (format!("{name}, 2^{bits}"), vec![port, columns, table, port / columns, port / table]);
-            lines.push((place, line));
+            lines.push((place, (format!("{name}, 2^{bits}"), times.to_vec())));
         }
     }
     lines.sort_by_key(|(place, _)| *place);
     Rows {
         key: "transforms",
         title: "Transforms and cyclic products of whole lists over 2^64 - 2^32 + 1".to_string(),
-        heads: vec!["port ms", "columns ms", "table ms", "port/columns", "port/table"],
+        heads: vec!["port ms", "columns ms", "table ms"],
+        ratios: vec![("port/columns", 0, 1), ("port/table", 0, 2)],
         digits: 3,
         lines: lines.into_iter().map(|(_, line)| line).collect(),
-        means: Vec::new(),
+        has_means: false,
     }
 }
 
