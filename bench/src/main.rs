@@ -1,11 +1,12 @@
-//! Measures the port beside the Rust crate, and the Cargo crate of rust/ too, turn by turn in one run: a line an
-//! operation, with the time of one step and the ratios to the Rust crate's. Then come even moduli, lists of commands, transforms of
-//! whole lists, searches, products of long numbers, and times and counted steps against sizes. Before
-//! anything is measured the answers are compared; where they differ it says so and ends with status 1.
+//! Measures the port beside the Rust crate, and the Cargo crate of rust/ too, turn by turn in one run: a line an operation,
+//! with the time of one step and the ratios to the Rust crate's. Then come even moduli, lists of commands, transforms of
+//! whole lists, searches, products of long numbers, and times and counted steps against sizes. Before anything is measured
+//! the answers are compared; where they differ it says so and ends with status 1.
 //!
-//! With a folder as argument it writes speed.json and the tables of speed.md there, else it prints the
-//! tables. With `--peers` before it, which the feature `peers` brings, it measures the port beside FLINT and
-//! NTL in place of all that; with `--plans` the transforms by a plan and what stands on them alone, beside GMP too.
+//! With a folder as argument it writes speed.json and the tables of speed.md there, else it prints the tables. With
+//! `--peers` before the folder, which the feature `peers` brings, it measures the port beside FLINT and NTL in place of all
+//! that; with `--plans` the transforms by a plan and what stands on them alone, beside GMP too. It starts itself with
+//! `--times`, for the further processes that measure the short lines.
 
 #[cfg(feature = "peers")]
 mod erasure;
@@ -133,7 +134,8 @@ fn least_of_processes(tables: &[Table]) -> Vec<Rows> {
         let this = env::current_exe().expect("the system names this program's file");
         let other = Command::new(this).arg("--times").output().expect("another process starts");
         let said = String::from_utf8_lossy(&other.stdout);
-        let times = said.lines().map(|line| line.parse().expect("it prints times"));
+        let times: Vec<f64> = said.lines().map(|line| line.parse().expect("it prints times")).collect();
+        assert_eq!(times.len(), times_in(&mut rows).count(), "it measures the same lines");
         for (least, time) in times_in(&mut rows).zip(times) {
             *least = f64::min(*least, time);
         }
