@@ -38,7 +38,7 @@ use std::fs;
 use std::path::Path;
 use std::process::{Command, ExitCode};
 
-/// How many processes measure the short lines. Some of their times stay higher throughout a process, with the same code.
+/// How many processes measure the short lines. Their times have stayed higher throughout one process, with the same code.
 const PROCESSES: usize = 5;
 
 /// 2^64 - 2, an even modulus.
