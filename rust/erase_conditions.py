@@ -22,7 +22,7 @@ MADE_BY = {"new": ("R::new(", "Montgomery::of(", "Self::of(", "M::keep(")}
 EVERY, DEBUG = "assert", "debug_assert"
 FACTORS = (DEBUG, "table.iter().all(|it| crate::additions::is_factor(m, &it.factor()))")
 IN_ROOM = (DEBUG, "xs.iter().all(|x| m.has_room(*x))")
-SPLITS = (DEBUG, "crate::modular_plan_remainders::split::splits(xs.len(), table.len(), b, last)")
+SPLITS = (DEBUG, "crate::modular_plan_transforms::split::splits(xs.len(), table.len(), b, last)")
 LENGTH = (EVERY, "xs.len().is_power_of_two()")
 DIVISOR = ((EVERY, "d != 0"),)
 LOOKS = {
@@ -42,10 +42,10 @@ LOOKS = {
         (DEBUG, "g.is_below(m.modulus)"),
         (DEBUG, "crate::additions::root_fits_plan(m, g, table.len())"),
     ),
-    ("modular_plan_remainders/split", "split"): (IN_ROOM, SPLITS, FACTORS),
-    ("modular_plan_remainders/join", "join"): (IN_ROOM, SPLITS, FACTORS),
-    ("modular_plan_remainders/join", "join_scaled"): (IN_ROOM, SPLITS, FACTORS, (DEBUG, "crate::additions::is_factor(m, w)")),
-    ("modular_plan_products/convolution", "convolve_block"): (
+    ("modular_plan_transforms/split", "split"): (IN_ROOM, SPLITS, FACTORS),
+    ("modular_plan_transforms/join", "join"): (IN_ROOM, SPLITS, FACTORS),
+    ("modular_plan_transforms/join", "join_scaled"): (IN_ROOM, SPLITS, FACTORS, (DEBUG, "crate::additions::is_factor(m, w)")),
+    ("modular_plan_transforms/convolution", "convolve_block"): (
         (DEBUG, "ys.len() == xs.len()"),
         (DEBUG, "convolves(xs.len(), table.len(), b, last)"),
         (DEBUG, "xs.iter().chain(ys.iter()).all(|x| m.has_room(*x))"),
@@ -69,7 +69,7 @@ TESTED_BELOW = (
     ((EVERY,), r"modular_prim/(residues|euclid|power|counted/\w+)\.\w+|modular_prim/abs\.signed_residue"),
     ((EVERY,), r"[\w/]+\.(new|of|keep)|modular_(folds|monty)/\w+\.(fixed_modulus|reduce_single|reduce_double|reduce_counted)"),
     ((EVERY, DEBUG, DEBUG), r"modular_transform/transform\.ntt"),
-    ((DEBUG,), r"modular_barrett/exact\.exact_quotient|modular_plan_products/(transform|convolution)\.\w+"),
+    ((DEBUG,), r"modular_barrett/exact\.exact_quotient|modular_plan_transforms/(transform|convolution)\.\w+"),
 )
 VERBS = {"is": "be", "are": "be", "has": "have", "have": "have", "suits": "suit", "fits": "fit", "admits": "admit", "takes": "take", "holds": "hold"}
 

@@ -39,9 +39,9 @@ pub mod modular_plan;
 #[doc(hidden)]
 pub mod modular_plan_passes;
 #[doc(hidden)]
-pub mod modular_plan_remainders;
+pub mod modular_plan_stages;
 #[doc(hidden)]
-pub mod modular_plan_products;
+pub mod modular_plan_transforms;
 
 pub mod applications;
 

@@ -7,10 +7,10 @@ ghost use Rattle.modular_barrett.specs.Factors.{IsFactorOf};
 
 use modular_barrett::planned::{Factor, PlannedModulus};
 use modular_plan::plan::plan;
-use modular_plan_products::convolution::convolve_planned;
-use modular_plan_products::transform::ntt_planned;
-use modular_plan_remainders::join::join_scaled;
-use modular_plan_remainders::split::split;
+use modular_plan_transforms::convolution::convolve_planned;
+use modular_plan_transforms::join::join_scaled;
+use modular_plan_transforms::split::split;
+use modular_plan_transforms::transform::ntt_planned;
 use modular_prim::plain_word::PlainWord;
 use modular_word::path_word::PathWord;
 use modular_word::ring_word::RingWord;

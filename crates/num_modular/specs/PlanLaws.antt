@@ -8,8 +8,8 @@ pub use Rattle.modular_transform.proofs.PowersOfTwo.{power_of_two_tested}
 pub use Rattle.modular_transform.proofs.BitReversal.{bits_reversed_below, bits_reversed_of_high, bits_reversed_twice}
 -- the number at an index of a list, and the constants of a block's two halves
 pub use Rattle.modular_plan.proofs.Entries.{number_at}
-pub use Rattle.modular_plan_products.proofs.Constants.{IsPairOfConstants, pair_of_constants}
+pub use Rattle.modular_plan_transforms.proofs.Constants.{IsPairOfConstants, pair_of_constants}
 -- products modulo X - c and X^2 - c, coefficient by coefficient
-pub use Rattle.modular_plan_products.proofs.SmallProducts.{product_of_one, product_of_two_low, product_of_two_high}
+pub use Rattle.modular_plan_transforms.proofs.SmallProducts.{product_of_one, product_of_two_low, product_of_two_high}
 -- the products of remainders are the remainders of the product; block 1 starts from X^n + 1
-pub use Rattle.modular_plan_products.proofs.Convolutions.{remainders_of_product, negacyclic}
+pub use Rattle.modular_plan_transforms.proofs.Convolutions.{remainders_of_product, negacyclic}

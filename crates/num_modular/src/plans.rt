@@ -5,10 +5,10 @@
 pub use modular_barrett::planned::{Factor, PlannedModulus};
 pub use modular_plan::entry::PlanEntry;
 pub use modular_plan::plan::plan;
-pub use modular_plan_products::convolution::{
+pub use modular_plan_transforms::convolution::{
     convolve_block, convolve_negacyclic, convolve_planned, convolves,
 };
-pub use modular_plan_products::products::multiply;
-pub use modular_plan_products::transform::ntt_planned;
-pub use modular_plan_remainders::join::{join, join_scaled};
-pub use modular_plan_remainders::split::{split, splits};
+pub use modular_plan_transforms::join::{join, join_scaled};
+pub use modular_plan_transforms::products::multiply;
+pub use modular_plan_transforms::split::{split, splits};
+pub use modular_plan_transforms::transform::ntt_planned;

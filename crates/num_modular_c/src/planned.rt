@@ -2,7 +2,7 @@
 
 ghost use Rattle.std.specs.Prelude.{◌≡◌, ℕ, ◌+◌, ◌-◌, ◌*◌, ◌/◌, ◌%◌, ◌^◌, ◌<◌, ◌↔◌, IsTrue, length};
 ghost use Rattle.modular_plan.specs.Plans.{constant, AreRemainders};
-ghost use Rattle.modular_plan_products.specs.Products.{product_modulo};
+ghost use Rattle.modular_plan_transforms.specs.Products.{product_modulo};
 ghost use Rattle.num_modular.specs.Inverses.{HasInverse};
 ghost use Rattle.num_modular.specs.Transforms.{transform, cyclic_product};
 ghost use Rattle.num_modular_c.specs.Codes.{Did, Refused, BothRefused};
@@ -12,10 +12,10 @@ ghost use Rattle.num_modular_c.specs.Plans.{IsSplit, IsPair, IsPlannedProduct};
 use crate::codes::{NM_BAD_ARGUMENT, NM_BAD_CONTEXT, NM_NO_INVERSE, NM_OK};
 use crate::plans::{NmFactor, are_factors};
 use modular_barrett::planned::PlannedModulus;
-use modular_plan_products::convolution::{convolve_negacyclic, convolve_planned, convolves};
-use modular_plan_products::transform::ntt_planned;
-use modular_plan_remainders::join::join;
-use modular_plan_remainders::split::{split, splits};
+use modular_plan_transforms::convolution::{convolve_negacyclic, convolve_planned, convolves};
+use modular_plan_transforms::join::join;
+use modular_plan_transforms::split::{split, splits};
+use modular_plan_transforms::transform::ntt_planned;
 
 // Whether each word is below 4m.
 fn have_room(m: &PlannedModulus<u64>, words: &[u64]) -> bool

@@ -2,9 +2,9 @@
 
 use num_modular::modular_barrett::planned::{Factor, PlannedModulus};
 use num_modular::modular_plan::plan::plan;
-use num_modular::modular_plan_products::transform::ntt_planned;
-use num_modular::modular_plan_remainders::join::join_scaled;
-use num_modular::modular_plan_remainders::split::split;
+use num_modular::modular_plan_transforms::join::join_scaled;
+use num_modular::modular_plan_transforms::split::split;
+use num_modular::modular_plan_transforms::transform::ntt_planned;
 use num_modular::modular_prim::plain_word::PlainWord;
 use num_modular::modular_word::path_word::PathWord;
 

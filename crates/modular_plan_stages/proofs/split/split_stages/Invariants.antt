@@ -1,0 +1,22 @@
+use Rattle.std.proofs.Common.{◌≡◌, ℕ, ◌*◌, ◌/◌, ◌^◌, ◌<◌, All, length}
+use Rattle.modular_plan.specs.Plans.{numbers, IsPlan}
+use Rattle.modular_plan_passes.specs.Steps.{IsLevel}
+use Rattle.modular_plan_stages.proofs.split.split_stages.Given as goal
+
+-- the levels so far are done
+abbrev pub invariant-stages : goal.invariant-stages
+invariant-stages g l =
+    let number = g.T.RingWord.number in
+    let value = g.F.PlanEntry.value in
+    let m = g.M.SplitSteps.modulus l.m in
+    record {
+      sized : l.size ≡ 2 ^ l.left * l.last;
+      counted : l.blocks * 2 ^ l.left ≡ length l.fn.xs / l.last;
+      entries : All (λ x. number x < g.M.Bounded.limit l.m) l.xs;
+      first : l.blocks ≡ 1 → All (λ x. number x < 4 * m) l.xs;
+      level : (g z : ℕ) → IsPlan m g z (length l.table) (numbers value l.table)
+          → IsLevel m g z l.b l.blocks l.size (numbers number l.fn.xs) (numbers number l.xs);
+    }
+
+abbrev pub decreases-stages : goal.decreases-stages
+decreases-stages g l = l.left

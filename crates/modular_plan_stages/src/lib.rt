@@ -1,0 +1,5 @@
+//! All stages of a plan's passes.
+#![tactic(auto)]
+
+pub mod join;
+pub mod split;

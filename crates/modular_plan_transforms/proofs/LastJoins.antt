@@ -1,0 +1,86 @@
+-- The last pass of a join by a plan that begins with 1, each entry times a number.
+use Rattle.std.proofs.Common.{◌≡◌, ℕ, ◌+◌, ◌*◌, ◌/◌, ◌%◌, ◌^◌, ◌<◌, ◌≤◌, List, map, length}
+use Rattle.std.proofs.Common.{refl, sym, ◌∙◌, ap, arith, subst}
+use Rattle.std.proofs.Math.Nat.{zero-mul}
+use Rattle.std.proofs.Math.ListN.{length-map}
+use Rattle.std.proofs.lemmas.List.{get_or_past}
+use Rattle.std.specs.Int.{IsPowerOfTwo}
+use Rattle.modular_word.specs.Congruence.{Congruent}
+use Rattle.modular_word.specs.Sums.{sum_below}
+use Rattle.modular_word.proofs.Congruence.{of_equal, chained, itself, multiplied}
+use Rattle.modular_word.proofs.Sums.{sum_below-same, sum_below-mul}
+use Rattle.modular_plan.specs.Plans.{numbers, constant, IsPlan, AreRemainders}
+use Rattle.modular_plan_passes.specs.Steps.{FourAt}
+use Rattle.modular_plan_passes.proofs.Fours.{first_stage}
+use Rattle.modular_plan_passes.specs.Joins.{IsFourJoin}
+use Rattle.modular_plan_passes.proofs.Joins.{level_lowest, level_top}
+use Rattle.modular_plan_passes.proofs.TwoJoins.{two_join_sizes, level_joined_two}
+
+-- after a list
+pub numbers_past : {T : Type 0} (number : T → ℕ) (words : List T) (k : ℕ) → length words ≤ k → numbers number words k ≡ 0
+numbers_past number words k le =
+    get_or_past (map number words) k 0 (subst (λ v. v ≤ k) (sym (length-map words number)) le)
+
+-- a scale that is taken out
+pub rescaled : (a s n x : ℕ) → s * a ≡ n → a * (s * x) ≡ n * x
+rescaled a s n x is = (let e : a * (s * x) ≡ s * a * x = omega arith in e) ∙ ap (λ v. v * x) is
+
+-- remainders of the list once
+pub remainders_once : {m : ℕ} (g z b count last : ℕ) (x y : ℕ → ℕ) → AreRemainders m g z b count last x y
+    → AreRemainders m g z b count last (λ k. 1 * x k) y
+remainders_once {m} g z b count last x y are = record {
+  each = λ j i lj li.
+      let c = constant g z (b * count + j) in
+      are.each j i lj li ∙ ap (λ v. v % m)
+      (sum_below-same count (λ k. x (k * last + i) * c ^ k) (λ k. (1 * x (k * last + i)) * c ^ k) (λ k l. omega arith));
+}
+
+-- .. and times a number
+pub remainders_scaled : {m : ℕ} (g z b count last s : ℕ) (x y : ℕ → ℕ)
+    → AreRemainders m g z b count last x (λ i. y i % m)
+    → AreRemainders m g z b count last (λ k. x k * s) (λ i. (y i * s) % m)
+remainders_scaled {m} g z b count last s x y are = record {
+  each = λ j i lj li.
+      let c = constant g z (b * count + j) in
+      let f = λ (k : ℕ). x (k * last + i) * c ^ k in
+      let one : Congruent m (y (j * last + i)) (sum_below count f) = record { same = are.each j i lj li } in
+      let all = sum_below-same count (λ k. (x (k * last + i) * s) * c ^ k) (λ k. s * f k) (λ k l. omega arith)
+      ∙ sum_below-mul count s f in
+      let turn : sum_below count f * s ≡ s * sum_below count f = omega arith in
+      (multiplied one (itself s)).same ∙ ap (λ v. v % m) (turn ∙ sym all);
+}
+
+-- the entries of the plan
+pub two_entries : (b count entries : ℕ) → b ≡ 0 → count ≡ 4 → (b + 1) * (count / 2) ≤ entries → 2 ≤ entries
+two_entries b count entries no_b four room =
+    let spread : (b + 1) * (count / 2) ≡ b * (count / 2) + count / 2 = omega arith in
+    omega (arith, four, spread, room)
+
+-- the list that the last pass makes
+pub last_joined : {m : ℕ} (g z b last count length entries s : ℕ) (w x y after : ℕ → ℕ) → 1 ≤ last → b ≡ 0 → count ≡ 4
+    → IsPowerOfTwo count → count * last ≡ length → (b + 1) * (count / 2) ≤ entries → IsPlan m g z entries w → w 0 ≡ 1
+    → AreRemainders m g z b count last x (λ i. y i % m)
+    → ((i : ℕ) → i < last → FourAt (IsFourJoin m 1 1 (w 1)) 0 last i (λ k. y k * s) after)
+    → ((k : ℕ) → length ≤ k → after k ≡ y k * s)
+    → (i : ℕ) → i < length → Congruent m (after i) (count * x i * s)
+last_joined {m} g z b last count length entries s w x y after some no_b four power whole room plan begins are columns past
+    i l =
+    let fill : 4 * last ≡ length = ap (λ v. v * last) (sym four) ∙ whole in
+    let one : 2 ^ 0 ≡ 1 = refl in
+    let sizes = two_join_sizes last last count power.0 0 count length some some power.1
+    (omega (arith, ap (λ v. v * last) one)) (omega (arith, ap (λ v. count * v) one)) whole
+    (omega (arith, four)) (omega (arith, fill, some)) in
+    let no_first : b * (count / 4) ≡ 0 = ap (λ v. v * (count / 4)) no_b ∙ zero-mul (count / 4) in
+    let level = level_joined_two g z b count last last 0 count length entries w (λ k. x k * s) (λ k. y k * s) after sizes
+    room plan (level_lowest g z b count last (λ k. x k * s) (λ k. y k * s) (remainders_scaled g z b count last s x y are))
+    (first_stage (IsFourJoin m) last (w 1) (b * (count / 4)) (count / 4) w (λ k. y k * s) after no_first
+    (omega (arith, four)) begins refl (record {
+      fours = columns;
+      others = λ k h h'. absurd (omega arith);
+      before = λ k h. absurd (omega arith);
+      after = λ k h. past k (omega (arith, fill, h));
+    })) in
+    let spread : count * (x i * s) ≡ count * x i * s = omega arith in
+    chained (level_top g z b (last * 4) last (count / 4) sizes.rest 2 count length (λ k. x k * s) after some
+    (omega (arith, fill, some)) (omega (arith, fill)) sizes.halved sizes.sized sizes.counted whole level i l)
+    (of_equal spread)

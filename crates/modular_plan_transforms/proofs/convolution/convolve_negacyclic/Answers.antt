@@ -1,0 +1,37 @@
+use Rattle.std.proofs.Common.{◌<◌, length, ◌∙◌, arith}
+use Rattle.std.proofs.lemmas.Nat.{pow_pos}
+use Rattle.modular_plan_transforms.proofs.Convolutions.{negacyclic}
+use Rattle.modular_plan_transforms.proofs.convolution.convolve_negacyclic.Goals as goal
+
+pub convolve_block-requires : goal.convolve_block-requires
+convolve_block-requires g c =
+    let given = c.requires in
+    let within = given.within in
+    record {
+      entries_xs = given.entries_xs;
+      entries_ys = given.entries_ys;
+      equal = given.equal;
+      factors = given.factors;
+      some = given.some;
+      few = given.few;
+      count = given.count;
+      whole = given.whole;
+      within = omega (arith, within);
+    }
+
+pub returns : goal.returns
+returns g c =
+    let e = c.requires.count.1 in
+    let p = pow_pos c.requires.count.0 in
+    let within = c.requires.within in
+    let are = c.convolve_block.ensures in
+    record {
+      inverse = are.inverse;
+      unchanged = are.unchanged;
+      below = are.below;
+      product = λ h root z e' plan below.
+          are.product h root z e' plan below
+          ∙ negacyclic (length c.args.xs.now) e' root z (length c.args.table.now) _ _ _ (let s = c.args.m.now.some in
+          omega arith) (let k : 0 < length c.args.table.now = omega (arith, within, e, p) in k) plan;
+      remainders = are.remainders;
+    }

@@ -1,0 +1,33 @@
+use Rattle.std.proofs.Common.{◌<◌, length, ◌∙◌, arith}
+use Rattle.modular_plan_transforms.proofs.Convolutions.{cyclic}
+use Rattle.modular_plan_transforms.proofs.convolution.convolve_planned.Goals as goal
+
+pub convolve_block-requires : goal.convolve_block-requires
+convolve_block-requires g c =
+    let given = c.requires in
+    let within = given.within in
+    record {
+      entries_xs = given.entries_xs;
+      entries_ys = given.entries_ys;
+      equal = given.equal;
+      factors = given.factors;
+      some = given.some;
+      few = given.few;
+      count = given.count;
+      whole = given.whole;
+      within = omega (arith, within);
+    }
+
+pub returns : goal.returns
+returns g c =
+    let are = c.convolve_block.ensures in
+    record {
+      inverse = are.inverse;
+      unchanged = are.unchanged;
+      below = are.below;
+      product = λ h root z e plan below.
+          are.product h root z e plan below
+          ∙ cyclic (g.T.RingWord.number c.args.m.now.modulus) (length c.args.xs.now) e root z _ _
+          (let k : 0 < length c.args.xs.now = omega (arith, below) in k);
+      remainders = are.remainders;
+    }

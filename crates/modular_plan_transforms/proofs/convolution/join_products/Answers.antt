@@ -1,0 +1,154 @@
+use Rattle.std.proofs.Common.{◌≡◌, ℕ, ◌+◌, ◌*◌, ◌/◌, ◌%◌, ◌<◌, ◌≤◌, length, refl, sym, ap, ◌∙◌, arith, subst}
+use Rattle.modular_word.specs.Congruence.{Congruent}
+use Rattle.modular_word.proofs.Congruence.{of_equal, itself, turned, chained, multiplied, residue_of}
+use Rattle.modular_word.proofs.ReductionSteps.{base_inverse}
+use Rattle.std.specs.Int.{IsPowerOfTwo}
+use Rattle.modular_plan.specs.Plans.{numbers, AreRemainders}
+use Rattle.modular_plan.proofs.Entries.{all_wider}
+use Rattle.modular_plan_transforms.proofs.Convolutions.{half_room}
+use Rattle.modular_plan_transforms.proofs.SmallProducts.{are_products_of_one}
+use Rattle.modular_plan_transforms.proofs.Reductions.{inverse_of_negated, remainders_times, over_base, made_up_for}
+use Rattle.modular_plan_transforms.proofs.convolution.join_products.Goals as goal
+use Rattle.std.proofs.lemmas.Bool.{false≢true}
+use Rattle.std.proofs.Math.Nat.{mod-lt}
+use Rattle.modular_plan_transforms.proofs.convolution.join_products.Goals.{else-last-eq1-via-then-last-eq1+else-is_odd, else-last-eq1-via-else-last-eq1}
+
+pub reduce_products-requires : goal.reduce_products-requires
+reduce_products-requires g c =
+    let n = g.T.RingWord.number in
+    let m = c.args.m.now in
+    record {
+      inverse = inverse_of_negated g.T.PathWord.base (n m.modulus) (n c.neginv.result) (n c.wrapping_sub-inverse.result)
+          (omega (arith, m.some, m.room)) c.neginv.ensures (c.wrapping_sub-inverse.ensures.value ∙ c.zero.ensures)
+          c.wrapping_sub-inverse.ensures.fits;
+      below = c.requires.other_below;
+      equal = c.requires.equal;
+    }
+
+pub join_scaled-requires : goal.join_scaled-requires
+join_scaled-requires g c =
+    let n = g.T.RingWord.number in
+    let last = c.args.last in
+    let given = c.requires.blocks in
+    let same : length c.args.xs.now ≡ length c.reduce_products.new.xs = omega arith in
+    record {
+      entries = all_wider n c.reduce_products.new.xs (omega arith) c.reduce_products.ensures.below;
+      factors = c.requires.factors;
+      some = given.some;
+      count = subst (λ k. IsPowerOfTwo (k / last)) same given.count;
+      whole = subst (λ k. k / last * last ≡ k) same given.whole;
+      within = subst (λ k. (c.args.b + 1) * (k / last / 2) ≤ length c.args.table.now) same
+          (half_room c.args.b (length c.args.xs.now / last) (length c.args.table.now) given.within);
+      factor = c.factor-scaled.ensures.factor;
+    }
+
+pub join_scaled-requires-else-last-eq1 : goal.join_scaled-requires-else-last-eq1
+join_scaled-requires-else-last-eq1 g c =
+    let n = g.T.RingWord.number in
+    let last = c.args.last in
+    let given = c.requires.blocks in
+    let same : length c.args.xs.now ≡ length c.multiply.new.xs = omega arith in
+    record {
+      entries = all_wider n c.multiply.new.xs (omega arith) c.multiply.ensures.below;
+      factors = c.requires.factors;
+      some = given.some;
+      count = subst (λ k. IsPowerOfTwo (k / last)) same given.count;
+      whole = subst (λ k. k / last * last ≡ k) same given.whole;
+      within = subst (λ k. (c.args.b + 1) * (k / last / 2) ≤ length c.args.table.now) same
+          (half_room c.args.b (length c.args.xs.now / last) (length c.args.table.now) given.within);
+      factor = c.requires.factor;
+    }
+
+pub returns-then-is_odd : goal.returns-then-is_odd
+returns-then-is_odd g c =
+    let n = g.T.RingWord.number in
+    let base = g.T.PathWord.base in
+    let m = n c.args.m.now.modulus in
+    let xs = c.args.xs.now in
+    let last = c.args.last in
+    let one : last ≡ 1 = c.if-last-eq1.true in
+    let b = c.args.b in
+    let count = length xs / last in
+    let old = numbers n xs in
+    let others = numbers n c.args.ys.now in
+    let new = numbers n c.reduce_products.new.xs in
+    let p = λ (k : ℕ). (old k * others k) % m in
+    let i = n c.neginv.result in
+    let t : ℕ = (m * i + 1) / base in
+    let unit : Congruent m (base * t) 1 = record {
+      same = base_inverse base m i (omega (arith, c.args.m.now.some, c.args.m.now.room)) c.neginv.ensures;
+    } in
+    let whole = c.requires.blocks.whole in
+    let single : count * last ≡ count * 1 = ap (λ v. count * v) one in
+    let same : length c.reduce_products.new.xs / last ≡ count = ap (λ v. v / last) (omega arith) in
+    let scaled : Congruent m (n c.factor-scaled.result.value) (n c.args.w.now.value * base) =
+    chained (of_equal (c.factor-scaled.ensures.value ∙ c.times_base.ensures)) (residue_of (n c.args.w.now.value * base)) in
+    record {
+      below = c.join_scaled.ensures.below;
+      joined = λ root z plan. (
+        p,
+        are_products_of_one root z b count last old others p one (λ k l. refl),
+        λ x are e below.
+            let entry = λ (k : ℕ) (l : k < length xs).
+            chained (over_base base t (new k) (old k * others k) unit (c.reduce_products.ensures.products k l))
+            (multiplied (itself t) (turned (chained (residue_of (p k)) (residue_of (old k * others k))))) in
+            let all = remainders_times root z b count last t x (λ k. p k % m) new are
+            (λ j k lj lk. entry (j * last + k) (let place = ap (λ v. j * v) one in omega (arith, place, single, whole, lj, lk, one))) in
+            c.join_scaled.ensures.joined root z (λ k. t * x k) plan
+            (subst (λ k. AreRemainders m root z b k last (λ k. t * x k) (λ k. new k % m)) (sym same) all) e (omega arith)
+            ∙ ap (λ k. (k * (t * x e) * n c.factor-scaled.result.value) % m) same
+            ∙ made_up_for base t count (x e) (n c.args.w.now.value) (n c.factor-scaled.result.value) unit scaled,
+      );
+    }
+
+pub returns-else-last-eq1 : goal.returns-else-last-eq1
+returns-else-last-eq1 g c =
+    let n = g.T.RingWord.number in
+    let m = n c.args.m.now.modulus in
+    let xs = c.args.xs.now in
+    let last = c.args.last in
+    let b = c.args.b in
+    let count = length xs / last in
+    let p = numbers n c.multiply.new.xs in
+    let same : length c.multiply.new.xs / last ≡ count = ap (λ v. v / last) (omega arith) in
+    record {
+      below = c.join_scaled-else-last-eq1.ensures.below;
+      joined = λ root z plan. (
+        p,
+        c.multiply.ensures.products root z plan,
+        λ x are e below.
+            c.join_scaled-else-last-eq1.ensures.joined root z x plan
+            (subst (λ k. AreRemainders m root z b k last x (λ k. p k % m)) (sym same) are) e (omega arith)
+            ∙ ap (λ k. (k * x e * n c.args.w.now.value) % m) same,
+      );
+    }
+
+pub neginv-requires : goal.neginv-requires
+neginv-requires g c = c.if-is_odd.ensures.odd.0 refl
+
+pub times_base-requires : goal.times_base-requires
+times_base-requires g c = c.requires.factor
+
+pub factor-scaled-requires : goal.factor-scaled-requires
+factor-scaled-requires g c =
+    let n = g.T.RingWord.number in
+    let some : 0 < n c.args.m.now.modulus = let some = c.args.m.now.some in omega (arith, some) in
+    subst (λ v. v < n c.args.m.now.modulus) (sym c.times_base.ensures)
+    (mod-lt (n c.args.w.now.value * g.T.PathWord.base) some)
+
+pub multiply-requires : goal.multiply-requires
+multiply-requires g c =
+    let given = c.requires.blocks in
+    record {
+      below = c.requires.below
+          (λ both. elim c.else-last-eq1.branch [
+            | else-last-eq1-via-then-last-eq1+else-is_odd w ↦ false≢true (w.if-is_odd.ensures.odd.1 both.1)
+            | else-last-eq1-via-else-last-eq1 w ↦ w.if-last-eq1.false both.0
+          ]);
+      factors = c.requires.factors;
+      equal = c.requires.equal;
+      some = given.some;
+      few = given.few;
+      whole = given.whole;
+      within = given.within;
+    }

@@ -1,0 +1,35 @@
+use Rattle.std.proofs.Common.{◌/◌, length}
+use Rattle.modular_plan_transforms.proofs.Convolutions.{residues_again}
+use Rattle.modular_plan_transforms.proofs.convolution.split_first.Goals as goal
+
+pub split_loosely-requires : goal.split_loosely-requires
+split_loosely-requires g c =
+    let given = c.requires.blocks in
+    record {
+      entries = c.requires.entries;
+      factors = c.requires.factors;
+      some = given.some;
+      count = given.count;
+      whole = given.whole;
+      within = given.within;
+    }
+
+pub split-requires : goal.split-requires
+split-requires g c =
+    let given = c.requires.blocks in
+    record {
+      entries = c.requires.entries;
+      factors = c.requires.factors;
+      some = given.some;
+      count = given.count;
+      whole = given.whole;
+      within = given.within;
+    }
+
+pub returns-else-last-eq1 : goal.returns-else-last-eq1
+returns-else-last-eq1 g c = record {
+  below = λ other. c.split.ensures.below;
+  remainders = λ r z plan.
+      residues_again r z c.args.b (length c.args.xs.now / c.args.last) c.args.last _ _
+      (c.split.ensures.remainders r z plan);
+}

@@ -1,0 +1,63 @@
+use Rattle.std.proofs.Common.{◌≡◌, ◌*◌, ◌/◌, length, sym, ◌∙◌, arith}
+use Rattle.modular_plan.specs.Plans.{numbers}
+use Rattle.modular_plan_transforms.proofs.LastJoins.{remainders_once}
+use Rattle.modular_plan_passes.proofs.TwoJoins.{first_fours, remainders_of_fours, remainders_reduced}
+use Rattle.modular_plan_transforms.proofs.join.join_first.Goals as goal
+
+pub join_fours-requires : goal.join_fours-requires
+join_fours-requires g c =
+    let one = c.if-last-eq1.true in
+    let some = c.if-fours-gt0.true in
+    let all = first_fours c.args.b c.args.last (length c.args.xs.now) (length c.args.table.now) (omega (arith, one))
+    (omega (arith, some)) c.requires.blocks.count c.requires.blocks.whole c.requires.blocks.within in
+    record {
+      pass = record {
+        entries = c.requires.entries;
+        factors = c.requires.factors.each;
+        whole = all.whole;
+        within = all.room;
+        some = omega arith;
+      };
+      minus_factor = c.requires.factors.minus_factor;
+      is_minus = c.requires.factors.is_minus;
+    }
+
+pub returns-then-fours-gt0 : goal.returns-then-fours-gt0
+returns-then-fours-gt0 g c =
+    let one = c.if-last-eq1.true in
+    let some = c.if-fours-gt0.true in
+    let all = first_fours c.args.b c.args.last (length c.args.xs.now) (length c.args.table.now) (omega (arith, one))
+    (omega (arith, some)) c.requires.blocks.count c.requires.blocks.whole c.requires.blocks.within in
+    let n = g.T.RingWord.number in
+    let before = c.args.xs.now in
+    let four : 4 * (length before / 4) ≡ length before / 4 * 4 = omega arith in
+    record {
+      scale = 4;
+      entries = c.join_fours.ensures.entries;
+      blocks = record { some = omega arith; count = all.power; whole = all.whole; within = all.rest };
+      times = four ∙ all.whole ∙ sym all.count;
+      joined = λ r z x plan are.
+          remainders_of_fours r z c.args.b c.args.last (length before) (length c.args.table.now)
+          (numbers g.F.PlanEntry.value c.args.table.now) x (numbers n before) (numbers n c.join_fours.new.xs)
+          (omega (arith, one)) all c.requires.blocks.within plan are (c.join_fours.ensures.done r z plan);
+    }
+
+pub returns-else-last-eq1 : goal.returns-else-last-eq1
+returns-else-last-eq1 g c =
+    let n = g.T.RingWord.number in
+    let b = c.args.b in
+    let last = c.args.last in
+    let before = c.args.xs.now in
+    let count = length before / last in
+    record {
+      scale = 1;
+      entries = c.lower_each.ensures.below;
+      blocks = c.requires.blocks;
+      times = omega arith;
+      joined = λ r z x plan are.
+          remainders_once r z b count last x _ (remainders_reduced r z b count last (length before) x (numbers n before)
+          (numbers n c.lower_each.new.xs) c.requires.blocks.whole c.lower_each.ensures.congruent are);
+    }
+
+pub lower_each-requires : goal.lower_each-requires
+lower_each-requires g c = c.requires.entries

@@ -1,0 +1,83 @@
+use Rattle.std.proofs.Common.{◌≡◌, ◌*◌, ◌/◌, length, sym, ◌∙◌, ap, arith}
+use Rattle.std.proofs.Math.Nat.{zero-mul, mod-eq_of_lt}
+use Rattle.modular_word.proofs.Congruence.{itself, multiplied}
+use Rattle.modular_plan.specs.Plans.{numbers}
+use Rattle.modular_plan_passes.proofs.Columns.{fours_below}
+use Rattle.modular_plan.proofs.Entries.{number_read, all_below}
+use Rattle.modular_plan_transforms.proofs.LastJoins.{last_joined, numbers_past, two_entries}
+use Rattle.modular_plan_transforms.proofs.join.join_last.Goals as goal
+use Rattle.modular_plan.proofs.Entries.{all_wider}
+
+pub minus_inverses-v-requires : goal.minus_inverses-v-requires
+minus_inverses-v-requires g c =
+    let two = two_entries c.args.b (length c.args.xs.now / c.args.last) (length c.args.table.now) c.if-b-eq0.true
+    c.if-xs-last-eq4.true c.requires.ready.blocks.within in
+    record { factors = c.requires.ready.factors; within = omega (arith, two) }
+
+pub invariant_of-step : goal.invariant_of-step
+invariant_of-step g c = record { factor = c.minus_inverses-v.ensures.factors.high; scale = c.requires.factor }
+
+pub quarters-requires : goal.quarters-requires
+quarters-requires g c =
+    let bound = g.met.M.JoinSteps.bound_fits c.args.m.now in
+    let limit = g.met.M.JoinSteps.room c.args.m.now in
+    let fill : 4 * c.args.last ≡ length c.args.xs.now =
+    ap (λ v. v * c.args.last) (sym c.if-xs-last-eq4.true) ∙ c.requires.ready.blocks.whole in
+    record { entries = c.requires.ready.entries; within = omega (arith, fill); fits = omega (arith, bound, limit) }
+
+pub returns-then-is_one : goal.returns-then-is_one
+returns-then-is_one g c = record {
+  below = (let kept = c.quarters.auto.xs in
+      let fill : 4 * c.args.last ≡ length c.args.xs.now =
+      ap (λ v. v * c.args.last) (sym c.if-xs-last-eq4.true) ∙ c.requires.ready.blocks.whole in
+      all_below g.T.RingWord.number (g.M.JoinSteps.modulus c.args.m.now) (length c.args.xs.now) c.quarters.new.xs
+      (omega (arith, kept)) (λ k l. fours_below k c.quarters.ensures (omega arith) (omega (arith, fill, l))));
+  joined = (let n = g.T.RingWord.number in
+      let value = g.F.PlanEntry.value in
+      let m = g.M.JoinSteps.modulus c.args.m.now in
+      let s = n c.args.w.now.value in
+      let table = c.args.table.now in
+      let before = c.args.xs.now in
+      let after = c.quarters.new.xs in
+      let last = c.args.last in
+      let count = length before / last in
+      let no_b = c.if-b-eq0.true in
+      let four : count ≡ 4 = c.if-xs-last-eq4.true in
+      let two = two_entries c.args.b count (length table) no_b four c.requires.ready.blocks.within in
+      let zero = number_read value table 0 c.index-table-0.result (omega (arith, two)) c.index-table-0.is in
+      let begins = sym zero ∙ sym c.factor.ensures.value ∙ c.is_one.ensures.0 c.if-is_one.true in
+      let kept = c.quarters.auto.xs in
+      let same : length after ≡ length before = omega (arith, kept) in
+      let fill : 4 * last ≡ length before = ap (λ v. v * last) (sym four) ∙ c.requires.ready.blocks.whole in
+      λ r z x plan are i l.
+      let inverse = (c.minus_inverses-v.ensures.inverses r z plan).high in
+      let joined = last_joined r z c.args.b last count (length before) (length table) s (numbers value table) x
+      (numbers n before) (numbers n after) c.requires.ready.blocks.some no_b four c.requires.ready.blocks.count c.requires.ready.blocks.whole c.requires.ready.blocks.within
+      plan begins are (λ k h. (c.quarters.ensures.fours k h).done.each _ inverse)
+      (λ k h. numbers_past n after k (omega (arith, same, h))
+      ∙ sym (ap (λ v. v * s) (numbers_past n before k h) ∙ zero-mul s)) i l in
+      sym (mod-eq_of_lt (fours_below i c.quarters.ensures (omega arith) (omega (arith, fill, l)))) ∙ joined.same);
+}
+
+pub returns-else-b-eq0 : goal.returns-else-b-eq0
+returns-else-b-eq0 g c = record {
+  joined = (let n = g.T.RingWord.number in
+      let kept = c.join_blocks.auto.xs in
+      λ r z x plan are i l.
+      c.scale_each.ensures.products i (omega (arith, kept, l))
+      ∙ (multiplied (c.join_blocks.ensures.joined r z x plan are i l) (itself (n c.args.w.now.value))).same);
+  below = c.scale_each.ensures.below;
+}
+
+pub nonzero_div-xs : goal.nonzero_div-xs
+nonzero_div-xs g c = c.requires.ready.blocks.some
+
+pub join_blocks-requires : goal.join_blocks-requires
+join_blocks-requires g c = c.requires.ready
+
+pub scale_each-requires : goal.scale_each-requires
+scale_each-requires g c = record {
+  entries = all_wider g.T.RingWord.number c.join_blocks.new.xs (g.met.M.JoinSteps.bound_fits c.args.m.now)
+      c.join_blocks.ensures.entries;
+  factor = c.requires.factor;
+}

@@ -1,0 +1,77 @@
+use Rattle.std.proofs.Common.{◌≡◌, ◌*◌, ◌/◌, ◌%◌, length, sym, ◌∙◌, ap, arith, subst}
+use Rattle.modular_plan.specs.Plans.{numbers, AreRemainders}
+use Rattle.modular_plan_stages.specs.Conditions.{AreBlocks}
+use Rattle.modular_plan_transforms.proofs.LastJoins.{rescaled}
+use Rattle.modular_plan_transforms.proofs.join.join_scaled_by.Goals as goal
+
+pub returns : goal.returns
+returns g c = record {
+  joined = (let n = g.T.RingWord.number in
+      let m = g.M.JoinSteps.modulus c.args.m.now in
+      let b = c.args.b in
+      let before = c.args.xs.now in
+      let one = c.join_first-size.new.xs in
+      let two = c.join_passes-size.new.xs in
+      let size = c.join_first-size.result in
+      let last = c.join_passes-size.result in
+      let first = c.join_first-size.ensures in
+      let second = c.join_passes-size.ensures in
+      let kept = c.join_first-size.auto.xs in
+      let kept_again = c.join_passes-size.auto.xs in
+      let same : length one ≡ length before = omega (arith, kept) in
+      let again : length two ≡ length one = omega (arith, kept_again) in
+      λ r z x plan are i l.
+      let lower = subst (λ v. AreRemainders m r z b (v / size) size (λ k. first.scale * x k) (λ k. numbers n one k % m))
+      (sym same) (first.joined r z x plan are) in
+      let upper = subst (λ v. AreRemainders m r z b (v / last) last (λ k. second.scale * (first.scale * x k))
+      (λ k. numbers n two k % m)) (sym again) (second.joined r z (λ k. first.scale * x k) plan lower) in
+      let times : length two / last * (second.scale * (first.scale * x i)) ≡ length before / c.args.last * x i =
+      ap (λ v. v / last * (second.scale * (first.scale * x i))) again
+      ∙ rescaled (length one / last) second.scale _ (first.scale * x i) second.times
+      ∙ ap (λ v. v / size * (first.scale * x i)) same ∙ rescaled (length before / size) first.scale _ (x i) first.times in
+      c.join_last.ensures.joined r z (λ k. second.scale * (first.scale * x k)) plan upper i (omega (arith, l, same, again))
+      ∙ ap (λ v. (v * n c.args.w.now.value) % m) times);
+  below = c.join_last.ensures.below;
+}
+
+pub join_first-size-requires : goal.join_first-size-requires
+join_first-size-requires g c = record {
+  entries = c.requires.joinable.entries;
+  factors = record {
+    each = c.requires.joinable.factors;
+    minus_factor = c.minus_one-minus.ensures.factor;
+    is_minus = c.minus_one-minus.ensures.value;
+  };
+  blocks = c.requires.joinable.blocks;
+}
+
+pub join_passes-size-requires : goal.join_passes-size-requires
+join_passes-size-requires g c = record {
+  entries = c.join_first-size.ensures.entries;
+  factors = record {
+    each = c.requires.joinable.factors;
+    minus_factor = c.minus_one-minus.ensures.factor;
+    is_minus = c.minus_one-minus.ensures.value;
+  };
+  blocks =
+      let same : length c.args.xs.now ≡ length c.join_first-size.new.xs = omega arith in
+      subst (λ n. AreBlocks n (length c.args.table.now) c.args.b c.join_first-size.result) same
+      c.join_first-size.ensures.blocks;
+}
+
+pub join_last-requires : goal.join_last-requires
+join_last-requires g c = record {
+  ready = (record {
+    entries = c.join_passes-size.ensures.entries;
+    factors = record {
+      each = c.requires.joinable.factors;
+      minus_factor = c.minus_one-minus.ensures.factor;
+      is_minus = c.minus_one-minus.ensures.value;
+    };
+    blocks =
+        let same : length c.join_first-size.new.xs ≡ length c.join_passes-size.new.xs = omega arith in
+        subst (λ n. AreBlocks n (length c.args.table.now) c.args.b c.join_passes-size.result) same
+        c.join_passes-size.ensures.blocks;
+  });
+  factor = c.requires.factor;
+}

@@ -1,0 +1,51 @@
+use Rattle.std.proofs.Common.{◌≡◌, ◌*◌, ◌/◌, ◌%◌, length, sym, ◌∙◌, ap, arith, subst}
+use Rattle.modular_word.proofs.Congruence.{of_equal, chained}
+use Rattle.modular_plan.specs.Plans.{numbers, AreRemainders}
+use Rattle.modular_plan_stages.specs.Conditions.{AreBlocks}
+use Rattle.modular_plan_transforms.proofs.LastJoins.{rescaled}
+use Rattle.modular_plan_transforms.proofs.join.join_stages.Goals as goal
+
+pub returns : goal.returns
+returns g c = record {
+  joined = (let n = g.T.RingWord.number in
+      let m = g.M.JoinSteps.modulus c.args.m.now in
+      let b = c.args.b in
+      let before = c.args.xs.now in
+      let after = c.join_first-size.new.xs in
+      let size = c.join_first-size.result in
+      let first = c.join_first-size.ensures in
+      let kept = c.join_first-size.auto.xs in
+      let same : length after ≡ length before = omega (arith, kept) in
+      λ r z x plan are i l.
+      let times : length after / size * (first.scale * x i) ≡ length before / c.args.last * x i =
+      ap (λ v. v / size * (first.scale * x i)) same ∙ rescaled (length before / size) first.scale _ (x i) first.times in
+      chained (c.join_blocks.ensures.joined r z (λ k. first.scale * x k) plan
+      (subst (λ v. AreRemainders m r z b (v / size) size (λ k. first.scale * x k) (λ k. numbers n after k % m)) (sym same)
+      (first.joined r z x plan are)) i (omega (arith, l, same))) (of_equal times));
+  entries = c.join_blocks.ensures.entries;
+}
+
+pub join_first-size-requires : goal.join_first-size-requires
+join_first-size-requires g c = record {
+  entries = c.requires.entries;
+  factors = record {
+    each = c.requires.factors;
+    minus_factor = c.minus_one-minus.ensures.factor;
+    is_minus = c.minus_one-minus.ensures.value;
+  };
+  blocks = c.requires.blocks;
+}
+
+pub join_blocks-requires : goal.join_blocks-requires
+join_blocks-requires g c = record {
+  entries = c.join_first-size.ensures.entries;
+  factors = record {
+    each = c.requires.factors;
+    minus_factor = c.minus_one-minus.ensures.factor;
+    is_minus = c.minus_one-minus.ensures.value;
+  };
+  blocks =
+      let same : length c.args.xs.now ≡ length c.join_first-size.new.xs = omega arith in
+      subst (λ n. AreBlocks n (length c.args.table.now) c.args.b c.join_first-size.result) same
+      c.join_first-size.ensures.blocks;
+}

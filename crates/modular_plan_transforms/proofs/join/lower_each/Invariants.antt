@@ -1,0 +1,15 @@
+use Rattle.std.proofs.Common.{◌≡◌, ℕ, ◌<◌, ◌≤◌}
+use Rattle.modular_word.specs.Congruence.{Congruent}
+use Rattle.modular_plan.specs.Plans.{numbers}
+use Rattle.modular_plan_transforms.proofs.join.lower_each.Given as goal
+
+-- the first i entries are done
+abbrev pub invariant-entries : goal.invariant-entries
+invariant-entries g l =
+    let number = g.T.RingWord.number in
+    record {
+      below : (k : ℕ) → k < l.i → numbers number l.xs k < g.M.JoinSteps.bound l.m;
+      done : (k : ℕ) → k < l.i
+          → Congruent (g.M.JoinSteps.modulus l.m) (numbers number l.xs k) (numbers number l.fn.xs k);
+      kept : (k : ℕ) → l.i ≤ k → numbers number l.xs k ≡ numbers number l.fn.xs k;
+    }

@@ -1,0 +1,46 @@
+use Rattle.std.proofs.Common.{ℕ, ◌+◌, ◌*◌, ◌/◌, ◌<◌, ◌≤◌, IsTrue, nat_lt, inl, inr, arith}
+use Rattle.std.proofs.Math.Nat.{div-mul-le_self, div-lt_iff_lt-mul, mul-le-mul_right}
+use Rattle.std.proofs.lemmas.Bool.{cases_lt}
+use Rattle.std.proofs.lemmas.Bool.Decides.{nat_tests}
+use Rattle.std.proofs.lemmas.Nat.{pow_pos}
+use Rattle.modular_transform.proofs.PowersOfTwo.{power_of_two_tested}
+use Rattle.modular_plan_transforms.proofs.split.splits.Goals as goal
+
+less_of : (b q : ℕ) → IsTrue (nat_lt b q) → b < q
+less_of b q h = grind (arith, nat_tests)
+
+test_of : (b q : ℕ) → b < q → IsTrue (nat_lt b q)
+test_of b q h = grind (arith, nat_tests)
+
+enough : (b half factors : ℕ) → b < factors / half → (b + 1) * half ≤ factors
+enough b half factors l =
+    let most = div-mul-le_self factors half in
+    let more = mul-le-mul_right half (let k : b + 1 ≤ factors / half = omega arith in k) in
+    omega (arith, most, more)
+
+less : (b half factors : ℕ) → 0 < half → (b + 1) * half ≤ factors → b < factors / half
+less b half factors some room = elim (cases_lt b (factors / half)) [
+  | inl l ↦ l
+  | inr l ↦ let few = (div-lt_iff_lt-mul {x = factors} {y = b + 1} some).0 (omega arith) in
+      absurd (omega (arith, few, room))
+]
+
+pub returns-then-not-is_power_of_two : goal.returns-then-not-is_power_of_two
+returns-then-not-is_power_of_two c =
+    let tested = power_of_two_tested (c.args.length / c.args.last) in
+    (λ h. cc, λ h. let t = tested.1 h.1 in cc)
+
+pub returns : goal.returns
+returns c =
+    let count = c.args.length / c.args.last in
+    let power = (power_of_two_tested count).0 cc in
+    let some : 0 < count / 2 = let p = pow_pos power.0 in let e = power.1 in
+    let other = c.if-count-eq1.false in omega (arith, p, e) in (
+      λ h. (
+        omega arith,
+        power,
+        c.if-count-last.false,
+        enough c.args.b (count / 2) c.args.factors (less_of c.args.b (c.args.factors / (count / 2)) h),
+      ),
+      λ h. test_of c.args.b (c.args.factors / (count / 2)) (less c.args.b (count / 2) c.args.factors some h.3),
+    )

@@ -1,0 +1,238 @@
+//! Products of polynomials modulo X^n - c, by a plan.
+
+ghost use Rattle.std.specs.Prelude.{◌≡◌, ℕ, ◌+◌, ◌-◌, ◌*◌, ◌/◌, ◌%◌, ◌<◌, ◌≤◌, ◌↔◌, IsTrue, All, length};
+ghost use Rattle.std.specs.Int.{IsPowerOfTwo};
+ghost use Rattle.modular_word.specs.Inverses.{HasInverse};
+ghost use Rattle.modular_transform.specs.Transforms.{cyclic_product};
+ghost use Rattle.modular_barrett.specs.Factors.{IsFactorOf, AllFactors};
+ghost use Rattle.modular_plan.specs.Plans.{numbers, constant, IsPlan, AreRemainders};
+ghost use Rattle.modular_plan_stages.specs.Conditions.{AreBlocks};
+ghost use Rattle.modular_plan_transforms.specs.Conditions.{AreSmallBlocks};
+ghost use Rattle.modular_plan_transforms.specs.Products.{product_modulo, AreProducts};
+
+use crate::join::join_scaled;
+use crate::products::{multiply, reduce_products};
+use crate::split::{split, split_loosely, splits};
+use modular_barrett::planned::{Factor, PlannedModulus};
+use modular_plan::entry::PlanEntry;
+use modular_prim::below::reduced_once;
+use modular_prim::euclid::invm;
+use modular_prim::plain_word::PlainWord;
+use modular_word::path_word::PathWord;
+use modular_word::paths::neginv;
+use modular_word::ring_word::RingWord;
+
+// The residue of a power of two, by doubling 1, because the power may not fit a word.
+fn residue_of_count<T: PlainWord>(m: &PlannedModulus<T>, count: usize) -> T
+    requires { IsPowerOfTwo count }
+    ensures { T.number result ≡ count % T.number m.now.modulus }
+{
+    let mut residue = m.residue(T::one());
+    'doublings: for _done in 0..count.trailing_zeros() {
+        residue = reduced_once(residue.plus(residue), m.modulus);
+    }
+    residue
+}
+
+// Splits the first of the two lists for `join_products`. For single entries and an odd modulus that takes any
+// words, so that no residues are computed.
+fn split_first<T: PlainWord, F: PlanEntry<T>>(
+    m: &PlannedModulus<T>,
+    xs: &mut [T],
+    table: &[F],
+    b: usize,
+    last: usize,
+)
+    requires entries { All (λ x. T.number x < 4 * T.number m.now.modulus) xs.old }
+    requires factors { AllFactors T.base (T.number m.now.modulus) F.value F.quotient table.now }
+    requires blocks { AreBlocks (length xs.old) (length table.now) b last }
+    ensures below { ((last ≡ 1) × (T.number m.now.modulus % 2 ≡ 1) → ⊥) →
+        All (λ x. T.number x < T.number m.now.modulus) xs.new }
+    ensures remainders { let modulus = T.number m.now.modulus in (g z : ℕ) →
+        IsPlan modulus g z (length table.now) (numbers F.value table.now) →
+        AreRemainders modulus g z b (length xs.old / last) last (numbers T.number xs.old)
+        (λ i. numbers T.number xs.new i % modulus) }
+{
+    if last == 1 && m.modulus.is_odd() {
+        split_loosely(m, xs, table, b, last);
+    } else {
+        split(m, xs, table, b, last);
+    }
+}
+
+// Multiplies the blocks as `multiply` does, and joins the products as `join_scaled` does. For odd m, single entries
+// are multiplied by Montgomery's reduction, which accepts any words in the first list. It divides by the base, so
+// that the factor is multiplied by the base.
+fn join_products<T: PlainWord, F: PlanEntry<T>>(
+    m: &PlannedModulus<T>,
+    xs: &mut [T],
+    ys: &[T],
+    table: &[F],
+    b: usize,
+    last: usize,
+    w: &Factor<T>,
+)
+    requires below { ((last ≡ 1) × (T.number m.now.modulus % 2 ≡ 1) → ⊥) →
+        All (λ x. T.number x < T.number m.now.modulus) xs.old }
+    requires other_below { All (λ y. T.number y < T.number m.now.modulus) ys.now }
+    requires equal { length ys.now ≡ length xs.old }
+    requires factors { AllFactors T.base (T.number m.now.modulus) F.value F.quotient table.now }
+    requires blocks { AreSmallBlocks (length xs.old) (length table.now) b last }
+    requires factor { IsFactorOf T.base T.number (T.number m.now.modulus) w.now }
+    ensures below { All (λ x. T.number x < T.number m.now.modulus) xs.new }
+    ensures joined { let modulus = T.number m.now.modulus in (g z : ℕ) →
+        IsPlan modulus g z (length table.now) (numbers F.value table.now) →
+        (p : ℕ → ℕ) × AreProducts modulus g z b (length xs.old / last) last (numbers T.number xs.old)
+        (numbers T.number ys.now) p
+        × ((x : ℕ → ℕ) → AreRemainders modulus g z b (length xs.old / last) last x (λ i. p i % modulus) →
+        (i : ℕ) → i < length xs.old
+        → numbers T.number xs.new i ≡ (length xs.old / last * x i * T.number w.now.value) % modulus) }
+{
+    if last == 1 && m.modulus.is_odd() {
+        let inverse = T::zero().wrapping_sub(neginv(m.modulus));
+        reduce_products(m, inverse, xs, ys);
+        let scaled = m.factor(m.times_base(w));
+        join_scaled(m, xs, table, b, last, &scaled);
+    } else {
+        multiply(m, xs, ys, table, b, last);
+        join_scaled(m, xs, table, b, last, w);
+    }
+}
+
+/// Whether `convolve_block` accepts lists of `length` entries as block b, down to blocks of `last`, and a plan of
+/// `factors` factors.
+pub fn convolves(length: usize, factors: usize, b: usize, last: usize) -> bool
+    ensures { IsTrue result ↔ ((1 ≤ last) × (last ≤ 2) × IsPowerOfTwo (length / last) × (length / last * last ≡ length)
+        × ((b + 1) * (length / last) ≤ 2 * factors)) }
+{
+    if last > 2 {
+        return false;
+    }
+    if !splits(length, factors, b, last) {
+        return false;
+    }
+    if length == last {
+        return b / 2 < factors;
+    }
+    true
+}
+
+/// Replaces xs by the product of two polynomials modulo X^n - c, and ys by the remainders of the second as `split`
+/// computes them, c being the power of g by the reversed bits of b and n the length of the lists. Returns false,
+/// with both lists unchanged, exactly where the number n/last of blocks has no inverse modulo m.
+///
+/// So b = 0 gives the cyclic product, and b = 1 that modulo X^n + 1. Conditions: the lists have the same length; `last`
+/// is 1 or 2, the length is `last` times a power of two, and the table has (b + 1)·n/last/2 entries or more
+/// (`convolves` tells); the entries are below 4m; the table's entries are factors modulo m. No memory is allocated.
+///
+/// Source: Bernstein, "Multidigit multiplication for mathematicians", section 2: split both lists, multiply the
+/// remainders, join the products.
+pub fn convolve_block<T: PlainWord, F: PlanEntry<T>>(
+    m: &PlannedModulus<T>,
+    xs: &mut [T],
+    ys: &mut [T],
+    table: &[F],
+    b: usize,
+    last: usize,
+) -> bool
+    requires entries_xs { All (λ x. T.number x < 4 * T.number m.now.modulus) xs.old }
+    requires entries_ys { All (λ x. T.number x < 4 * T.number m.now.modulus) ys.old }
+    requires equal { length ys.old ≡ length xs.old }
+    requires factors { AllFactors T.base (T.number m.now.modulus) F.value F.quotient table.now }
+    requires some { 1 ≤ last }
+    requires few { last ≤ 2 }
+    requires count { IsPowerOfTwo (length xs.old / last) }
+    requires whole { length xs.old / last * last ≡ length xs.old }
+    requires within { (b + 1) * (length xs.old / last) ≤ 2 * length table.now }
+    ensures inverse { IsTrue result ↔ HasInverse (T.number m.now.modulus) (length xs.old / last) }
+    ensures unchanged { (IsTrue result → ⊥) → (xs.new ≡ xs.old) × (ys.new ≡ ys.old) }
+    ensures below { IsTrue result → All (λ x. T.number x < T.number m.now.modulus) xs.new
+        × All (λ x. T.number x < T.number m.now.modulus) ys.new }
+    ensures product { let modulus = T.number m.now.modulus in IsTrue result → (g z e : ℕ) →
+        IsPlan modulus g z (length table.now) (numbers F.value table.now) → e < length xs.old →
+        numbers T.number xs.new e ≡ product_modulo modulus (length xs.old) (constant g z b)
+        (numbers T.number xs.old) (numbers T.number ys.old) e }
+    ensures remainders { let modulus = T.number m.now.modulus in IsTrue result → (g z : ℕ) →
+        IsPlan modulus g z (length table.now) (numbers F.value table.now) →
+        AreRemainders modulus g z b (length xs.old / last) last (numbers T.number ys.old) (numbers T.number ys.new) }
+{
+    let count = residue_of_count(m, xs.len() / last);
+    match invm(count, m.modulus) {
+        Some(part) => {
+            let part = m.factor(part);
+            split_first(m, xs, table, b, last);
+            split(m, ys, table, b, last);
+            join_products(m, xs, ys, table, b, last, &part);
+            true
+        }
+        None => false,
+    }
+}
+
+/// Replaces xs by the cyclic product of xs and ys, as `convolve_block` for b = 0: entry e becomes the sum of
+/// x_i·y_j modulo m over i + j = e or e + n. Returns false, with both lists unchanged, exactly where the number
+/// n/last of blocks has no inverse modulo m. Conditions: those of `convolve_block`.
+pub fn convolve_planned<T: PlainWord, F: PlanEntry<T>>(
+    m: &PlannedModulus<T>,
+    xs: &mut [T],
+    ys: &mut [T],
+    table: &[F],
+    last: usize,
+) -> bool
+    requires entries_xs { All (λ x. T.number x < 4 * T.number m.now.modulus) xs.old }
+    requires entries_ys { All (λ x. T.number x < 4 * T.number m.now.modulus) ys.old }
+    requires equal { length ys.old ≡ length xs.old }
+    requires factors { AllFactors T.base (T.number m.now.modulus) F.value F.quotient table.now }
+    requires some { 1 ≤ last }
+    requires few { last ≤ 2 }
+    requires count { IsPowerOfTwo (length xs.old / last) }
+    requires whole { length xs.old / last * last ≡ length xs.old }
+    requires within { length xs.old / last ≤ 2 * length table.now }
+    ensures inverse { IsTrue result ↔ HasInverse (T.number m.now.modulus) (length xs.old / last) }
+    ensures unchanged { (IsTrue result → ⊥) → (xs.new ≡ xs.old) × (ys.new ≡ ys.old) }
+    ensures below { IsTrue result → All (λ x. T.number x < T.number m.now.modulus) xs.new
+        × All (λ x. T.number x < T.number m.now.modulus) ys.new }
+    ensures product { let modulus = T.number m.now.modulus in IsTrue result → (g z e : ℕ) →
+        IsPlan modulus g z (length table.now) (numbers F.value table.now) → e < length xs.old →
+        numbers T.number xs.new e ≡ cyclic_product modulus (length xs.old)
+        (numbers T.number xs.old) (numbers T.number ys.old) e }
+    ensures remainders { let modulus = T.number m.now.modulus in IsTrue result → (g z : ℕ) →
+        IsPlan modulus g z (length table.now) (numbers F.value table.now) →
+        AreRemainders modulus g z 0 (length xs.old / last) last (numbers T.number ys.old) (numbers T.number ys.new) }
+{
+    convolve_block(m, xs, ys, table, 0, last)
+}
+
+/// Replaces xs by the product of xs and ys modulo X^n + 1, as `convolve_block` for b = 1: entry e becomes the sum
+/// of x_i·y_j modulo m over i + j = e, less that over i + j = e + n. Returns false, with both lists unchanged,
+/// exactly where the number n/last of blocks has no inverse modulo m. Conditions: those of `convolve_block`.
+pub fn convolve_negacyclic<T: PlainWord, F: PlanEntry<T>>(
+    m: &PlannedModulus<T>,
+    xs: &mut [T],
+    ys: &mut [T],
+    table: &[F],
+    last: usize,
+) -> bool
+    requires entries_xs { All (λ x. T.number x < 4 * T.number m.now.modulus) xs.old }
+    requires entries_ys { All (λ x. T.number x < 4 * T.number m.now.modulus) ys.old }
+    requires equal { length ys.old ≡ length xs.old }
+    requires factors { AllFactors T.base (T.number m.now.modulus) F.value F.quotient table.now }
+    requires some { 1 ≤ last }
+    requires few { last ≤ 2 }
+    requires count { IsPowerOfTwo (length xs.old / last) }
+    requires whole { length xs.old / last * last ≡ length xs.old }
+    requires within { length xs.old / last ≤ length table.now }
+    ensures inverse { IsTrue result ↔ HasInverse (T.number m.now.modulus) (length xs.old / last) }
+    ensures unchanged { (IsTrue result → ⊥) → (xs.new ≡ xs.old) × (ys.new ≡ ys.old) }
+    ensures below { IsTrue result → All (λ x. T.number x < T.number m.now.modulus) xs.new
+        × All (λ x. T.number x < T.number m.now.modulus) ys.new }
+    ensures product { let modulus = T.number m.now.modulus in IsTrue result → (g z e : ℕ) →
+        IsPlan modulus g z (length table.now) (numbers F.value table.now) → e < length xs.old →
+        numbers T.number xs.new e ≡ product_modulo modulus (length xs.old) (modulus - 1)
+        (numbers T.number xs.old) (numbers T.number ys.old) e }
+    ensures remainders { let modulus = T.number m.now.modulus in IsTrue result → (g z : ℕ) →
+        IsPlan modulus g z (length table.now) (numbers F.value table.now) →
+        AreRemainders modulus g z 1 (length xs.old / last) last (numbers T.number ys.old) (numbers T.number ys.new) }
+{
+    convolve_block(m, xs, ys, table, 1, last)
+}

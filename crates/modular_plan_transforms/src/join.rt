@@ -1,0 +1,249 @@
+//! From remainders modulo X^last - c back to the polynomial, in place, by stages.
+
+ghost use Rattle.std.specs.Prelude.{◌≡◌, ℕ, ◌+◌, ◌*◌, ◌/◌, ◌%◌, ◌<◌, ◌≤◌, All, length};
+ghost use Rattle.std.specs.Int.{IsPowerOfTwo};
+ghost use Rattle.modular_word.specs.Congruence.{Congruent};
+ghost use Rattle.modular_barrett.specs.Factors.{IsFactorOf, AllFactors};
+ghost use Rattle.modular_plan.specs.Plans.{numbers, IsPlan, AreRemainders};
+ghost use Rattle.modular_plan_stages.specs.Conditions.{IsLevelReady, IsLevelJoined};
+ghost use Rattle.modular_plan_transforms.specs.Conditions.{IsJoinable};
+
+use modular_barrett::planned::{Factor, PlannedModulus};
+use modular_barrett::roomy::RoomyModulus;
+use modular_plan::entry::PlanEntry;
+use modular_plan_passes::join_stages::{join_fours, minus_inverses};
+use modular_plan_passes::join_steps::JoinSteps;
+use modular_plan_passes::pass_joins::JoinByOne;
+use modular_plan_passes::passes::quarters;
+use modular_plan_stages::join::{join_blocks, join_passes};
+use modular_prim::plain_word::PlainWord;
+use modular_word::path_word::PathWord;
+use modular_word::ring_word::RingWord;
+
+// Replaces each entry by a congruent one below the bound.
+fn lower_each<T: PlainWord, M: JoinSteps<T>>(m: &M, xs: &mut [T])
+    requires { All (λ x. T.number x < 4 * M.modulus m.now) xs.old }
+    ensures below { All (λ x. T.number x < M.bound m.now) xs.new }
+    ensures congruent { (i : ℕ) → i < length xs.old
+        → Congruent (M.modulus m.now) (numbers T.number xs.new i) (numbers T.number xs.old i) }
+{
+    'entries: for i in 0..xs.len() {
+        xs[i] = m.lowered(xs[i]);
+    }
+}
+
+// Replaces each entry by its residue.
+fn reduce_each<T: PlainWord, M: JoinSteps<T>>(m: &M, xs: &mut [T])
+    requires { All (λ x. T.number x < M.bound m.now) xs.old }
+    ensures residues { (i : ℕ) → i < length xs.old
+        → numbers T.number xs.new i ≡ numbers T.number xs.old i % M.modulus m.now }
+    ensures below { All (λ x. T.number x < M.modulus m.now) xs.new }
+{
+    'entries: for i in 0..xs.len() {
+        xs[i] = m.residue(xs[i]);
+    }
+}
+
+// The first pass, after which the entries are below the bound. Returns the length of the blocks then.
+fn join_first<T: PlainWord, F: PlanEntry<T>, M: JoinSteps<T>>(
+    m: &M,
+    xs: &mut [T],
+    table: &[F],
+    b: usize,
+    last: usize,
+    minus: &Factor<T>,
+) -> usize
+    requires { IsLevelReady T.number F.value F.quotient T.base (M.modulus m.now) (4 * M.modulus m.now)
+        b last (T.number minus.now.value) (T.number minus.now.quotient) xs.old table.now }
+    ensures { IsLevelJoined T.number F.value (M.modulus m.now) (M.bound m.now) b last result table.now xs.old xs.new }
+{
+    let fours = xs.len() / 4;
+    if last == 1 && fours > 0 {
+        join_fours(m, xs, fours, table, b * fours, minus);
+        4
+    } else {
+        lower_each(m, xs);
+        last
+    }
+}
+
+// All stages. The result is the number of blocks times the list whose remainders the entries are, below the bound.
+fn join_stages<T: PlainWord, F: PlanEntry<T>, M: JoinSteps<T>>(
+    m: &M,
+    xs: &mut [T],
+    table: &[F],
+    b: usize,
+    last: usize,
+)
+    requires { IsJoinable T.number T.base (M.modulus m.now) F.value F.quotient b last xs.old table.now }
+    ensures entries { All (λ x. T.number x < M.bound m.now) xs.new }
+    ensures joined { let modulus = M.modulus m.now in (g z : ℕ) (x : ℕ → ℕ) →
+        IsPlan modulus g z (length table.now) (numbers F.value table.now) →
+        AreRemainders modulus g z b (length xs.old / last) last x (λ i. numbers T.number xs.old i % modulus) →
+        (i : ℕ) → i < length xs.old → Congruent modulus (numbers T.number xs.new i) (length xs.old / last * x i) }
+{
+    let minus = m.minus_one();
+    let size = join_first(m, xs, table, b, last, &minus);
+    join_blocks(m, xs, table, b, size, &minus);
+}
+
+// All stages, and the residues: `join` for a modulus of type M.
+fn join_reduced<T: PlainWord, F: PlanEntry<T>, M: JoinSteps<T>>(
+    m: &M,
+    xs: &mut [T],
+    table: &[F],
+    b: usize,
+    last: usize,
+)
+    requires { IsJoinable T.number T.base (M.modulus m.now) F.value F.quotient b last xs.old table.now }
+    ensures below { All (λ x. T.number x < M.modulus m.now) xs.new }
+    ensures joined { let modulus = M.modulus m.now in (g z : ℕ) (x : ℕ → ℕ) →
+        IsPlan modulus g z (length table.now) (numbers F.value table.now) →
+        AreRemainders modulus g z b (length xs.old / last) last x (λ i. numbers T.number xs.old i % modulus) →
+        (i : ℕ) → i < length xs.old → numbers T.number xs.new i ≡ (length xs.old / last * x i) % modulus }
+{
+    join_stages(m, xs, table, b, last);
+    reduce_each(m, xs);
+}
+
+// Replaces each entry by its product with a factor.
+fn scale_each<T: PlainWord, M: JoinSteps<T>>(m: &M, xs: &mut [T], w: &Factor<T>)
+    requires entries { All (λ x. T.number x < 4 * M.modulus m.now) xs.old }
+    requires factor { IsFactorOf T.base T.number (M.modulus m.now) w.now }
+    ensures products { (i : ℕ) → i < length xs.old →
+        numbers T.number xs.new i ≡ (numbers T.number xs.old i * T.number w.now.value) % M.modulus m.now }
+    ensures below { All (λ x. T.number x < M.modulus m.now) xs.new }
+{
+    'entries: for i in 0..xs.len() {
+        let x = xs[i];
+        // Unreachable (see `is_beyond`).
+        if m.is_beyond(x) {
+            return;
+        }
+        xs[i] = m.product(x, w);
+    }
+}
+
+// The last stages and the product of each entry with a factor. Where the plan begins with 1 the last pass does
+// both, by five products in place of eight.
+fn join_last<T: PlainWord, F: PlanEntry<T>, M: JoinSteps<T>>(
+    m: &M,
+    xs: &mut [T],
+    table: &[F],
+    b: usize,
+    last: usize,
+    minus: &Factor<T>,
+    w: &Factor<T>,
+)
+    requires ready { IsLevelReady T.number F.value F.quotient T.base (M.modulus m.now) (M.bound m.now)
+        b last (T.number minus.now.value) (T.number minus.now.quotient) xs.old table.now }
+    requires factor { IsFactorOf T.base T.number (M.modulus m.now) w.now }
+    ensures below { All (λ x. T.number x < M.modulus m.now) xs.new }
+    ensures joined { let modulus = M.modulus m.now in (g z : ℕ) (x : ℕ → ℕ) →
+        IsPlan modulus g z (length table.now) (numbers F.value table.now) →
+        AreRemainders modulus g z b (length xs.old / last) last x (λ i. numbers T.number xs.old i % modulus) →
+        (i : ℕ) → i < length xs.old
+        → numbers T.number xs.new i ≡ (length xs.old / last * x i * T.number w.now.value) % modulus }
+{
+    if b == 0 && xs.len() / last == 4 && table[0].factor().is_one() {
+        let (_, _, v) = minus_inverses(m, table, 0, *minus);
+        let step = JoinByOne { m: *m, v, s: *w };
+        quarters(m, &step, xs, 0, last);
+    } else {
+        join_blocks(m, xs, table, b, last, minus);
+        scale_each(m, xs, w);
+    }
+}
+
+// `join_scaled`, by the steps for a modulus of type M.
+fn join_scaled_by<T: PlainWord, F: PlanEntry<T>, M: JoinSteps<T>>(
+    m: &M,
+    xs: &mut [T],
+    table: &[F],
+    b: usize,
+    last: usize,
+    w: &Factor<T>,
+)
+    requires joinable { IsJoinable T.number T.base (M.modulus m.now) F.value F.quotient b last xs.old table.now }
+    requires factor { IsFactorOf T.base T.number (M.modulus m.now) w.now }
+    ensures below { All (λ x. T.number x < M.modulus m.now) xs.new }
+    ensures joined { let modulus = M.modulus m.now in (g z : ℕ) (x : ℕ → ℕ) →
+        IsPlan modulus g z (length table.now) (numbers F.value table.now) →
+        AreRemainders modulus g z b (length xs.old / last) last x (λ i. numbers T.number xs.old i % modulus) →
+        (i : ℕ) → i < length xs.old
+        → numbers T.number xs.new i ≡ (length xs.old / last * x i * T.number w.now.value) % modulus }
+{
+    let minus = m.minus_one();
+    let size = join_first(m, xs, table, b, last, &minus);
+    let size = join_passes(m, xs, table, b, size, &minus);
+    join_last(m, xs, table, b, size, &minus, w);
+}
+
+/// Joins the blocks of `last` entries into block b of the tree of remainders, which undoes `split` but for a
+/// factor: where the entries are the remainders of a polynomial modulo X^last - c, as `split` computes them, entry
+/// i becomes its coefficient x_i times the number of blocks, modulo m.
+///
+/// The table is the plan by g that they were split by, or a longer one. Conditions: the entries are below 4m; the
+/// number of entries is `last` times a power of two, and the table has (b + 1)·count/2 entries or more (`splits`
+/// tells); the table's entries are factors modulo m.
+///
+/// Each pass over the list does two stages where two are left.
+///
+/// Source: each step undoes one of `split` but for the factor 2, as in Gentleman and Sande, "Fast Fourier
+/// transforms: for fun and profit", section 2.
+pub fn join<T: PlainWord, F: PlanEntry<T>>(
+    m: &PlannedModulus<T>,
+    xs: &mut [T],
+    table: &[F],
+    b: usize,
+    last: usize,
+)
+    requires entries { All (λ x. T.number x < 4 * T.number m.now.modulus) xs.old }
+    requires factors { AllFactors T.base (T.number m.now.modulus) F.value F.quotient table.now }
+    requires some { 1 ≤ last }
+    requires count { IsPowerOfTwo (length xs.old / last) }
+    requires whole { length xs.old / last * last ≡ length xs.old }
+    requires within { (b + 1) * (length xs.old / last / 2) ≤ length table.now }
+    ensures below { All (λ x. T.number x < T.number m.now.modulus) xs.new }
+    ensures joined { let modulus = T.number m.now.modulus in (g z : ℕ) (x : ℕ → ℕ) →
+        IsPlan modulus g z (length table.now) (numbers F.value table.now) →
+        AreRemainders modulus g z b (length xs.old / last) last x (λ i. numbers T.number xs.old i % modulus) →
+        (i : ℕ) → i < length xs.old → numbers T.number xs.new i ≡ (length xs.old / last * x i) % modulus }
+{
+    match RoomyModulus::new(m) {
+        Some(roomy) => join_reduced(&roomy, xs, table, b, last),
+        None => join_reduced(m, xs, table, b, last),
+    }
+}
+
+/// Joins the blocks as `join` does and multiplies each coefficient by a factor. With the inverse modulo m of the
+/// number of blocks as the factor, the results are the coefficients themselves. Conditions: the entries are below
+/// 4m; the number of entries is `last` times a power of two, and the table has (b + 1)·count/2 entries or more
+/// (`splits` tells); the table's entries are factors modulo m; w is a factor modulo m.
+pub fn join_scaled<T: PlainWord, F: PlanEntry<T>>(
+    m: &PlannedModulus<T>,
+    xs: &mut [T],
+    table: &[F],
+    b: usize,
+    last: usize,
+    w: &Factor<T>,
+)
+    requires entries { All (λ x. T.number x < 4 * T.number m.now.modulus) xs.old }
+    requires factors { AllFactors T.base (T.number m.now.modulus) F.value F.quotient table.now }
+    requires some { 1 ≤ last }
+    requires count { IsPowerOfTwo (length xs.old / last) }
+    requires whole { length xs.old / last * last ≡ length xs.old }
+    requires within { (b + 1) * (length xs.old / last / 2) ≤ length table.now }
+    requires factor { IsFactorOf T.base T.number (T.number m.now.modulus) w.now }
+    ensures below { All (λ x. T.number x < T.number m.now.modulus) xs.new }
+    ensures joined { let modulus = T.number m.now.modulus in (g z : ℕ) (x : ℕ → ℕ) →
+        IsPlan modulus g z (length table.now) (numbers F.value table.now) →
+        AreRemainders modulus g z b (length xs.old / last) last x (λ i. numbers T.number xs.old i % modulus) →
+        (i : ℕ) → i < length xs.old
+        → numbers T.number xs.new i ≡ (length xs.old / last * x i * T.number w.now.value) % modulus }
+{
+    match RoomyModulus::new(m) {
+        Some(roomy) => join_scaled_by(&roomy, xs, table, b, last, w),
+        None => join_scaled_by(m, xs, table, b, last, w),
+    }
+}

@@ -1,0 +1,137 @@
+//! From a polynomial to its remainders modulo X^last - c, in place, by stages.
+
+ghost use Rattle.std.specs.Prelude.{◌≡◌, ℕ, ◌+◌, ◌*◌, ◌/◌, ◌%◌, ◌<◌, ◌≤◌, ◌↔◌, IsTrue, All, length};
+ghost use Rattle.std.specs.Int.{IsPowerOfTwo};
+ghost use Rattle.modular_barrett.specs.Factors.{AllFactors};
+ghost use Rattle.modular_plan.specs.Plans.{numbers, IsPlan, AreRemainders};
+ghost use Rattle.modular_plan_passes.specs.Splits.{IsSplittable};
+
+use modular_barrett::planned::PlannedModulus;
+use modular_barrett::roomy::RoomyModulus;
+use modular_plan::entry::PlanEntry;
+use modular_plan_passes::split_stages::split_fours;
+use modular_plan_passes::split_steps::SplitSteps;
+use modular_plan_stages::split::split_stages;
+use modular_prim::plain_word::PlainWord;
+use modular_word::path_word::PathWord;
+
+// Replaces each entry by its residue.
+fn reduce_each<T: PlainWord, M: SplitSteps<T>>(m: &M, xs: &mut [T])
+    requires { All (λ x. T.number x < M.limit m.now) xs.old }
+    ensures residues { (i : ℕ) → i < length xs.old
+        → numbers T.number xs.new i ≡ numbers T.number xs.old i % M.modulus m.now }
+    ensures below { All (λ x. T.number x < M.modulus m.now) xs.new }
+{
+    'entries: for i in 0..xs.len() {
+        xs[i] = m.residue(xs[i]);
+    }
+}
+
+/// Whether `split` accepts a list of `length` entries, from block b down to blocks of `last`, and a plan of
+/// `factors` factors.
+pub fn splits(length: usize, factors: usize, b: usize, last: usize) -> bool
+    ensures { IsTrue result ↔ ((1 ≤ last) × IsPowerOfTwo (length / last) × (length / last * last ≡ length)
+        × ((b + 1) * (length / last / 2) ≤ factors)) }
+{
+    if last == 0 {
+        return false;
+    }
+    let count = length / last;
+    if !count.is_power_of_two() {
+        return false;
+    }
+    if count * last != length {
+        return false;
+    }
+    if count == 1 {
+        return true;
+    }
+    b < factors / (count / 2)
+}
+
+// `split`, by the steps for a modulus of type M.
+fn split_by<T: PlainWord, M: SplitSteps<T>, F: PlanEntry<T>>(
+    m: &M,
+    xs: &mut [T],
+    table: &[F],
+    b: usize,
+    last: usize,
+)
+    requires { IsSplittable T.number F.value F.quotient T.base (M.modulus m.now) b last xs.old table.now }
+    ensures below { All (λ x. T.number x < M.modulus m.now) xs.new }
+    ensures remainders { let modulus = M.modulus m.now in (g z : ℕ) →
+        IsPlan modulus g z (length table.now) (numbers F.value table.now) →
+        AreRemainders modulus g z b (length xs.old / last) last (numbers T.number xs.old) (numbers T.number xs.new) }
+{
+    if last == 1 && 4 <= xs.len() {
+        let fours = xs.len() / 4;
+        split_stages(m, xs, table, b, 4);
+        split_fours(m, xs, fours, table, b * fours);
+    } else {
+        split_stages(m, xs, table, b, last);
+        reduce_each(m, xs);
+    }
+}
+
+/// `split` without the residues: the entries are any words that are congruent to the remainders. Conditions: those
+/// of `split`.
+pub fn split_loosely<T: PlainWord, F: PlanEntry<T>>(
+    m: &PlannedModulus<T>,
+    xs: &mut [T],
+    table: &[F],
+    b: usize,
+    last: usize,
+)
+    requires entries { All (λ x. T.number x < 4 * T.number m.now.modulus) xs.old }
+    requires factors { AllFactors T.base (T.number m.now.modulus) F.value F.quotient table.now }
+    requires some { 1 ≤ last }
+    requires count { IsPowerOfTwo (length xs.old / last) }
+    requires whole { length xs.old / last * last ≡ length xs.old }
+    requires within { (b + 1) * (length xs.old / last / 2) ≤ length table.now }
+    ensures remainders { let modulus = T.number m.now.modulus in (g z : ℕ) →
+        IsPlan modulus g z (length table.now) (numbers F.value table.now) →
+        AreRemainders modulus g z b (length xs.old / last) last (numbers T.number xs.old)
+        (λ i. numbers T.number xs.new i % modulus) }
+{
+    match RoomyModulus::new(m) {
+        Some(roomy) => split_stages(&roomy, xs, table, b, last),
+        None => split_stages(m, xs, table, b, last),
+    }
+}
+
+/// Splits block b of the tree of remainders into blocks of `last` entries: entry i of block j becomes the sum over
+/// k of x_(k·last + i)·c^k modulo m, the coefficient of the remainder modulo X^last - c, where c is the power of g
+/// by the reversed bits of b·count + j, count being the number of blocks.
+///
+/// So b = 0 and last = 1 give the transform by g, in bit-reversed order; b = 1 starts from a polynomial modulo
+/// X^n + 1. The table is the plan by g, of any length that suffices. Conditions: the entries are below 4m; the number
+/// of entries is `last` times a power of two, and the table has at least (b + 1)·(count/2) entries (`splits`
+/// tells); the table's entries are factors modulo m.
+///
+/// Each pass over the list does two stages; a single one comes first where their number is odd.
+///
+/// Source: the sums and differences of Cooley and Tukey with one factor for each block, as in Bernstein,
+/// "Multidigit multiplication for mathematicians", section 2.
+pub fn split<T: PlainWord, F: PlanEntry<T>>(
+    m: &PlannedModulus<T>,
+    xs: &mut [T],
+    table: &[F],
+    b: usize,
+    last: usize,
+)
+    requires entries { All (λ x. T.number x < 4 * T.number m.now.modulus) xs.old }
+    requires factors { AllFactors T.base (T.number m.now.modulus) F.value F.quotient table.now }
+    requires some { 1 ≤ last }
+    requires count { IsPowerOfTwo (length xs.old / last) }
+    requires whole { length xs.old / last * last ≡ length xs.old }
+    requires within { (b + 1) * (length xs.old / last / 2) ≤ length table.now }
+    ensures below { All (λ x. T.number x < T.number m.now.modulus) xs.new }
+    ensures remainders { let modulus = T.number m.now.modulus in (g z : ℕ) →
+        IsPlan modulus g z (length table.now) (numbers F.value table.now) →
+        AreRemainders modulus g z b (length xs.old / last) last (numbers T.number xs.old) (numbers T.number xs.new) }
+{
+    match RoomyModulus::new(m) {
+        Some(roomy) => split_by(&roomy, xs, table, b, last),
+        None => split_by(m, xs, table, b, last),
+    }
+}

@@ -1,0 +1,36 @@
+//! The transform by a plan, in natural order.
+
+ghost use Rattle.std.specs.Prelude.{◌≡◌, ℕ, ◌*◌, ◌/◌, ◌^◌, ◌<◌, ◌≤◌, All, length};
+ghost use Rattle.std.specs.Int.{IsPowerOfTwo};
+ghost use Rattle.modular_transform.specs.Transforms.{transform};
+ghost use Rattle.modular_barrett.specs.Factors.{AllFactors};
+ghost use Rattle.modular_plan.specs.Plans.{numbers, IsPlan};
+
+use crate::split::split;
+use modular_barrett::planned::PlannedModulus;
+use modular_plan::entry::PlanEntry;
+use modular_prim::plain_word::PlainWord;
+use modular_transform::order::reverse_places;
+
+/// The transform of n entries in place, in natural order: entry j becomes the sum over i of x_i·h^(i·j) modulo m, below
+/// m. h is the root of the plan, or, where the plan is for more entries, the power of it that suits n entries.
+///
+/// Conditions: the entries are below 4m; n is a power of two, and at most twice as many as the table's factors;
+/// these are factors modulo m.
+///
+/// Source: `split`, and a reversal of the bits of the indexes.
+pub fn ntt_planned<T: PlainWord, F: PlanEntry<T>>(m: &PlannedModulus<T>, xs: &mut [T], table: &[F])
+    requires entries { All (λ x. T.number x < 4 * T.number m.now.modulus) xs.old }
+    requires factors { AllFactors T.base (T.number m.now.modulus) F.value F.quotient table.now }
+    requires count { IsPowerOfTwo (length xs.old) }
+    requires within { length xs.old / 2 ≤ length table.now }
+    ensures below { All (λ x. T.number x < T.number m.now.modulus) xs.new }
+    ensures values { let modulus = T.number m.now.modulus in (g z j : ℕ) →
+        IsPlan modulus g z (length table.now) (numbers F.value table.now) → j < length xs.old →
+        numbers T.number xs.new j ≡ transform modulus (g ^ (2 ^ z / length xs.old))
+        (length xs.old) (numbers T.number xs.old) j }
+{
+    split(m, xs, table, 0, 1);
+    let bits = xs.len().trailing_zeros();
+    reverse_places(xs, bits);
+}

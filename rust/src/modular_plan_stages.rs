@@ -1,0 +1,4 @@
+//! All stages of a plan's passes.
+
+pub mod join;
+pub mod split;

@@ -1,0 +1,158 @@
+//! Products of polynomials modulo X^n - c, by a plan.
+
+use crate::modular_plan_transforms::join::join_scaled;
+use crate::modular_plan_transforms::products::{multiply, reduce_products};
+use crate::modular_plan_transforms::split::{split, split_loosely, splits};
+use crate::modular_barrett::planned::{Factor, PlannedModulus};
+use crate::modular_plan::entry::PlanEntry;
+use crate::modular_prim::below::reduced_once;
+use crate::modular_prim::euclid::invm;
+use crate::modular_prim::plain_word::PlainWord;
+use crate::modular_word::path_word::PathWord;
+use crate::modular_word::paths::neginv;
+use crate::modular_word::ring_word::RingWord;
+
+// The residue of a power of two, by doubling 1, because the power may not fit a word.
+#[inline]
+fn residue_of_count<T: PlainWord>(m: &PlannedModulus<T>, count: usize) -> T {
+    let mut residue = m.residue(T::one());
+    'doublings: for _done in 0..count.trailing_zeros() {
+        residue = reduced_once(residue.plus(residue), m.modulus);
+    }
+    residue
+}
+
+// Splits the first of the two lists for `join_products`. For single entries and an odd modulus that takes any
+// words, so that no residues are computed.
+#[inline]
+fn split_first<T: PlainWord, F: PlanEntry<T>>(
+    m: &PlannedModulus<T>,
+    xs: &mut [T],
+    table: &[F],
+    b: usize,
+    last: usize,
+) {
+    if last == 1 && m.modulus.is_odd() {
+        split_loosely(m, xs, table, b, last);
+    } else {
+        split(m, xs, table, b, last);
+    }
+}
+
+// Multiplies the blocks as `multiply` does, and joins the products as `join_scaled` does. For odd m, single entries
+// are multiplied by Montgomery's reduction, which accepts any words in the first list. It divides by the base, so
+// that the factor is multiplied by the base.
+fn join_products<T: PlainWord, F: PlanEntry<T>>(
+    m: &PlannedModulus<T>,
+    xs: &mut [T],
+    ys: &[T],
+    table: &[F],
+    b: usize,
+    last: usize,
+    w: &Factor<T>,
+) {
+    if last == 1 && m.modulus.is_odd() {
+        let inverse = T::zero().wrapping_sub(neginv(m.modulus));
+        reduce_products(m, inverse, xs, ys);
+        let scaled = m.factor(m.times_base(w));
+        join_scaled(m, xs, table, b, last, &scaled);
+    } else {
+        multiply(m, xs, ys, table, b, last);
+        join_scaled(m, xs, table, b, last, w);
+    }
+}
+
+/// Whether `convolve_block` accepts lists of `length` entries as block b, down to blocks of `last`, and a plan of
+/// `factors` factors.
+#[inline]
+pub fn convolves(length: usize, factors: usize, b: usize, last: usize) -> bool {
+    if last > 2 {
+        return false;
+    }
+    if !splits(length, factors, b, last) {
+        return false;
+    }
+    if length == last {
+        return b / 2 < factors;
+    }
+    true
+}
+
+/// Replaces xs by the product of two polynomials modulo X^n - c, and ys by the remainders of the second as `split`
+/// computes them, c being the power of g by the reversed bits of b and n the length of the lists. Returns false,
+/// with both lists unchanged, exactly where the number n/last of blocks has no inverse modulo m.
+///
+/// So b = 0 gives the cyclic product, and b = 1 that modulo X^n + 1.
+/// No memory is allocated.
+///
+/// Source: Bernstein, "Multidigit multiplication for mathematicians", section 2: split both lists, multiply the
+/// remainders, join the products.
+///
+/// # Panics
+///
+/// A debug build panics unless the lists have the same length, and `last` is 1 or 2, the length is
+/// `last` times a power of two, and the table has (b + 1)·n/last/2 entries or more (`convolves` tells),
+/// and the entries are below 4m, and the table's entries are factors modulo m. A release build doesn't
+/// test that, and outside it panics, or returns no meaningful result.
+pub fn convolve_block<T: PlainWord, F: PlanEntry<T>>(
+    m: &PlannedModulus<T>,
+    xs: &mut [T],
+    ys: &mut [T],
+    table: &[F],
+    b: usize,
+    last: usize,
+) -> bool {
+    debug_assert!(ys.len() == xs.len(), "the lists must have the same length");
+    debug_assert!(convolves(xs.len(), table.len(), b, last), "`last` must be 1 or 2, the length is `last` times a power of two, and the table must have (b + 1)·n/last/2 entries or more");
+    debug_assert!(xs.iter().chain(ys.iter()).all(|x| m.has_room(*x)), "the entries must be below 4m");
+    debug_assert!(table.iter().all(|it| crate::additions::is_factor(m, &it.factor())), "the table's entries must be factors modulo m");
+    let count = residue_of_count(m, xs.len() / last);
+    match invm(count, m.modulus) {
+        Some(part) => {
+            let part = m.factor(part);
+            split_first(m, xs, table, b, last);
+            split(m, ys, table, b, last);
+            join_products(m, xs, ys, table, b, last, &part);
+            true
+        }
+        None => false,
+    }
+}
+
+/// Replaces xs by the cyclic product of xs and ys, as `convolve_block` for b = 0: entry e becomes the sum of
+/// x_i·y_j modulo m over i + j = e or e + n. Returns false, with both lists unchanged, exactly where the number
+/// n/last of blocks has no inverse modulo m.
+///
+/// # Panics
+///
+/// A debug build panics unless those of `convolve_block`. A release build doesn't test that, and
+/// outside it panics, or returns no meaningful result.
+#[inline]
+pub fn convolve_planned<T: PlainWord, F: PlanEntry<T>>(
+    m: &PlannedModulus<T>,
+    xs: &mut [T],
+    ys: &mut [T],
+    table: &[F],
+    last: usize,
+) -> bool {
+    convolve_block(m, xs, ys, table, 0, last)
+}
+
+/// Replaces xs by the product of xs and ys modulo X^n + 1, as `convolve_block` for b = 1: entry e becomes the sum
+/// of x_i·y_j modulo m over i + j = e, less that over i + j = e + n. Returns false, with both lists unchanged,
+/// exactly where the number n/last of blocks has no inverse modulo m.
+///
+/// # Panics
+///
+/// A debug build panics unless those of `convolve_block`. A release build doesn't test that, and
+/// outside it panics, or returns no meaningful result.
+#[inline]
+pub fn convolve_negacyclic<T: PlainWord, F: PlanEntry<T>>(
+    m: &PlannedModulus<T>,
+    xs: &mut [T],
+    ys: &mut [T],
+    table: &[F],
+    last: usize,
+) -> bool {
+    convolve_block(m, xs, ys, table, 1, last)
+}

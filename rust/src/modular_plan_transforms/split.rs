@@ -1,0 +1,110 @@
+//! From a polynomial to its remainders modulo X^last - c, in place, by stages.
+
+use crate::modular_barrett::planned::PlannedModulus;
+use crate::modular_barrett::roomy::RoomyModulus;
+use crate::modular_plan::entry::PlanEntry;
+use crate::modular_plan_passes::split_stages::split_fours;
+use crate::modular_plan_passes::split_steps::SplitSteps;
+use crate::modular_plan_stages::split::split_stages;
+use crate::modular_prim::plain_word::PlainWord;
+use crate::modular_word::path_word::PathWord;
+
+// Replaces each entry by its residue.
+#[inline]
+fn reduce_each<T: PlainWord, M: SplitSteps<T>>(m: &M, xs: &mut [T]) {
+    'entries: for i in 0..xs.len() {
+        xs[i] = m.residue(xs[i]);
+    }
+}
+
+/// Whether `split` accepts a list of `length` entries, from block b down to blocks of `last`, and a plan of
+/// `factors` factors.
+#[inline]
+pub fn splits(length: usize, factors: usize, b: usize, last: usize) -> bool {
+    if last == 0 {
+        return false;
+    }
+    let count = length / last;
+    if !count.is_power_of_two() {
+        return false;
+    }
+    if count * last != length {
+        return false;
+    }
+    if count == 1 {
+        return true;
+    }
+    b < factors / (count / 2)
+}
+
+// `split`, by the steps for a modulus of type M.
+fn split_by<T: PlainWord, M: SplitSteps<T>, F: PlanEntry<T>>(
+    m: &M,
+    xs: &mut [T],
+    table: &[F],
+    b: usize,
+    last: usize,
+) {
+    if last == 1 && 4 <= xs.len() {
+        let fours = xs.len() / 4;
+        split_stages(m, xs, table, b, 4);
+        split_fours(m, xs, fours, table, b * fours);
+    } else {
+        split_stages(m, xs, table, b, last);
+        reduce_each(m, xs);
+    }
+}
+
+/// `split` without the residues: the entries are any words that are congruent to the remainders.
+///
+/// # Preconditions
+///
+/// Those of `split`. This isn't tested: outside it the call panics, or returns no meaningful result.
+#[inline]
+pub fn split_loosely<T: PlainWord, F: PlanEntry<T>>(
+    m: &PlannedModulus<T>,
+    xs: &mut [T],
+    table: &[F],
+    b: usize,
+    last: usize,
+) {
+    match RoomyModulus::new(m) {
+        Some(roomy) => split_stages(&roomy, xs, table, b, last),
+        None => split_stages(m, xs, table, b, last),
+    }
+}
+
+/// Splits block b of the tree of remainders into blocks of `last` entries: entry i of block j becomes the sum over
+/// k of x_(k·last + i)·c^k modulo m, the coefficient of the remainder modulo X^last - c, where c is the power of g
+/// by the reversed bits of b·count + j, count being the number of blocks.
+///
+/// So b = 0 and last = 1 give the transform by g, in bit-reversed order; b = 1 starts from a polynomial modulo
+/// X^n + 1. The table is the plan by g, of any length that suffices.
+///
+/// Each pass over the list does two stages; a single one comes first where their number is odd.
+///
+/// Source: the sums and differences of Cooley and Tukey with one factor for each block, as in Bernstein,
+/// "Multidigit multiplication for mathematicians", section 2.
+///
+/// # Panics
+///
+/// A debug build panics unless the entries are below 4m, and the number of entries is `last` times a
+/// power of two, and the table has at least (b + 1)·(count/2) entries (`splits` tells), and the table's
+/// entries are factors modulo m. A release build doesn't test that, and outside it panics, or returns
+/// no meaningful result.
+#[inline]
+pub fn split<T: PlainWord, F: PlanEntry<T>>(
+    m: &PlannedModulus<T>,
+    xs: &mut [T],
+    table: &[F],
+    b: usize,
+    last: usize,
+) {
+    debug_assert!(xs.iter().all(|x| m.has_room(*x)), "the entries must be below 4m");
+    debug_assert!(crate::modular_plan_transforms::split::splits(xs.len(), table.len(), b, last), "the number of entries must be `last` times a power of two, and the table must have at least (b + 1)·(count/2) entries");
+    debug_assert!(table.iter().all(|it| crate::additions::is_factor(m, &it.factor())), "the table's entries must be factors modulo m");
+    match RoomyModulus::new(m) {
+        Some(roomy) => split_by(&roomy, xs, table, b, last),
+        None => split_by(m, xs, table, b, last),
+    }
+}
