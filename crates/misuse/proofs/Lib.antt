@@ -1,2 +1,1 @@
-pub mod PolynomialLemmas
 pub mod Units

@@ -1,8 +1,8 @@
 //! Callers of `FixedMersenne`.
 
-ghost use Rattle.std.specs.Prelude.{◌≡◌, ◌-◌, ◌*◌, ◌%◌, ◌^◌};
+ghost use Rattle.std.specs.Prelude.{◌≡◌};
 
-use modular_folds::mersenne::{FixedMersenne32, FixedMersenne64};
+use modular_folds::mersenne::FixedMersenne32;
 use modular_reduced::reducer::Reducer;
 
 /// The modulus 2^4 - 7.
@@ -17,11 +17,4 @@ pub fn ring_of_9() -> FixedMersenne32<4, 7>
     ensures { ⟦<FixedMersenne32<4, 7> as Reducer<u32>>⟧.modulus result ≡ 9 }
 {
     FixedMersenne32::<4, 7>::new(&9)
-}
-
-/// The product modulo 2^61 - 1, as polynomial hashes need it.
-pub fn product_modulo(a: u64, b: u64) -> u64
-    ensures { result ≡ (a * b) % (2 ^ 61 - 1) }
-{
-    FixedMersenne64::<61, 1>::reduce_double(a as u128 * b as u128)
 }

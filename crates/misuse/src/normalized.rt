@@ -1,6 +1,6 @@
 //! Callers of `Normalized2by1Divisor`.
 
-ghost use Rattle.std.specs.Prelude.{◌≡◌, ◌+◌, ◌*◌, ◌%◌, ◌<◌, ◌↔◌, IsTrue};
+ghost use Rattle.std.specs.Prelude.{◌≡◌, ◌+◌, ◌*◌, ◌%◌, ◌<◌};
 ghost use Rattle.modular_word.specs.Division.{IsDivision};
 
 use modular_barrett::normalized::{Normalized2by1Divisor, StoredDivisor};
@@ -32,15 +32,4 @@ pub fn remainder_of_three<T: PlainWord>(divider: &Normalized2by1Divisor<T>, word
     let (_, rest) = divider.div_rem_2by1(T::merge(middle, high));
     let (_, remainder) = divider.div_rem_2by1(T::merge(low, rest));
     remainder
-}
-
-/// Whether two dividers are equal, which they are exactly where their divisors are.
-pub fn same_divisor<T: PlainWord>(
-    left: &Normalized2by1Divisor<T>,
-    right: &Normalized2by1Divisor<T>,
-) -> bool
-    ensures { IsTrue result ↔ (⟦<Normalized2by1Divisor<T> as StoredDivisor>⟧.divisor left.now
-        ≡ ⟦<Normalized2by1Divisor<T> as StoredDivisor>⟧.divisor right.now) }
-{
-    *left == *right
 }

@@ -10,13 +10,6 @@ pub fn proth_modulus_of_31_and_1() -> u32 {
     FixedProth32::<31, 1>::fixed_modulus()
 }
 
-/// The modulus 3 * 2^2 + 1.
-pub fn proth_modulus_of_2_and_3() -> u32
-    ensures { result ≡ 13 }
-{
-    FixedProth32::<2, 3>::fixed_modulus()
-}
-
 /// The reducer of 3 * 2^2 + 1.
 pub fn proth_ring_of_13() -> FixedProth32<2, 3>
     ensures { ⟦<FixedProth32<2, 3> as Reducer<u32>>⟧.modulus result ≡ 13 }

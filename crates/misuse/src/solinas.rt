@@ -1,8 +1,8 @@
 //! Callers of `FixedTrinomialSolinas`.
 
-ghost use Rattle.std.specs.Prelude.{◌≡◌, ◌+◌, ◌-◌, ◌*◌, ◌%◌, ◌^◌};
+ghost use Rattle.std.specs.Prelude.{◌≡◌};
 
-use modular_folds::solinas::{FixedTrinomialSolinas32, FixedTrinomialSolinas64};
+use modular_folds::solinas::FixedTrinomialSolinas32;
 use modular_reduced::reducer::Reducer;
 
 /// The modulus 2^5 - 2^2 + 3.
@@ -17,11 +17,4 @@ pub fn ring_of_31() -> FixedTrinomialSolinas32<5, 2, 3>
     ensures { ⟦<FixedTrinomialSolinas32<5, 2, 3> as Reducer<u32>>⟧.modulus result ≡ 31 }
 {
     FixedTrinomialSolinas32::<5, 2, 3>::new(&31)
-}
-
-/// The product modulo 2^64 - 2^32 + 1, as transforms need it.
-pub fn product_modulo_solinas(a: u64, b: u64) -> u64
-    ensures { result ≡ (a * b) % (2 ^ 64 - 2 ^ 32 + 1) }
-{
-    FixedTrinomialSolinas64::<64, 32, 1>::reduce_double(a as u128 * b as u128)
 }

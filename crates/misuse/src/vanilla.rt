@@ -5,13 +5,6 @@ ghost use Rattle.std.specs.Prelude.{◌≡◌};
 use modular_reduced::reducer::Reducer;
 use modular_reduced::vanilla::Vanilla;
 
-/// The plain reducer of 21.
-pub fn plain_ring_of_21() -> Vanilla<u8>
-    ensures { ⟦<Vanilla<u8> as Reducer<u8>>⟧.modulus result ≡ 21 }
-{
-    Vanilla::<u8>::new(&21)
-}
-
 /// The form of 20 + 5 modulo 21, by plain forms.
 pub fn form_of_a_sum() -> u8
     ensures { result ≡ 4 }

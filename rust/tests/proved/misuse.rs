@@ -4,14 +4,11 @@
 
 pub mod fixed;
 pub mod mersenne;
-pub mod modular_integer;
 pub mod montgomery;
 pub mod normalized;
 pub mod one_by_one;
 pub mod operations;
-pub mod polynomial;
 pub mod preinv;
-pub mod premul;
 pub mod proth;
 pub mod reduced_int;
 pub mod solinas;

@@ -1,5 +1,6 @@
 //! Known values of the dividers and of exact division, computed by hand, and bytes compared with `/` and `%`.
 
+mod callers;
 mod exact;
 mod neg_mod_inv;
 mod normalized;

@@ -22,11 +22,3 @@ pub fn remainder_of_three<T: PlainWord>(divider: &Normalized2by1Divisor<T>, word
     let (_, remainder) = divider.div_rem_2by1(T::merge(low, rest));
     remainder
 }
-
-/// Whether two dividers are equal, which they are exactly where their divisors are.
-pub fn same_divisor<T: PlainWord>(
-    left: &Normalized2by1Divisor<T>,
-    right: &Normalized2by1Divisor<T>,
-) -> bool {
-    *left == *right
-}

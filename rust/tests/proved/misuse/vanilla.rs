@@ -3,11 +3,6 @@
 use num_modular::modular_reduced::reducer::Reducer;
 use num_modular::modular_reduced::vanilla::Vanilla;
 
-/// The plain reducer of 21.
-pub fn plain_ring_of_21() -> Vanilla<u8> {
-    Vanilla::<u8>::new(&21)
-}
-
 /// The form of 20 + 5 modulo 21, by plain forms.
 pub fn form_of_a_sum() -> u8 {
     Vanilla::<u8>::new(&21).add(&20, &5)

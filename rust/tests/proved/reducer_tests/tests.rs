@@ -10,7 +10,10 @@ macro_rules! check {
 mod dividers;
 mod folds;
 mod integers;
+mod modular_integer;
 mod montgomery;
+mod polynomial;
+mod reduced_int;
 mod remainders;
 mod residues;
 

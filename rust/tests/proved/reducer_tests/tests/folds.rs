@@ -1,5 +1,6 @@
 //! Known values of the reducers by folds and of their reductions.
 
+mod callers;
 mod mersenne;
 mod reductions;
 mod solinas;

@@ -1,12 +1,10 @@
 //! Known values, computed by hand, of the code that is generic over the traits.
 
-use crate::misuse::operations::{
+use super::any_operands::{
     difference, divided, inverse, power, product_and_sum, quotient, signed, square_of_double,
 };
-use crate::misuse::symbols::{
-    jacobi_of_seven, legendre_of_three, product_symbol, product_symbol_ref, symbols_of_8_bits,
-    symbols_of_64_bits,
-};
+use super::combined::{product_symbol, product_symbol_ref, symbols_of_8_bits, symbols_of_64_bits};
+use crate::misuse::symbols::{jacobi_of_seven, legendre_of_three};
 
 #[test]
 fn callers_of_operations() {

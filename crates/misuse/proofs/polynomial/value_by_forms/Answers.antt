@@ -1,9 +1,0 @@
-use Rattle.std.proofs.Common.{◌∙◌}
-use Rattle.misuse.proofs.PolynomialLemmas.{value_at_7}
-use Rattle.misuse.proofs.polynomial.value_by_forms.Goals as goal
-
-pub returns : goal.returns
-returns c =
-    c.residue.ensures ∙ c.horner.ensures.residue
-    ∙ value_at_7 _ _ _ _ _ c.new-x.ensures.modulus c.convert.ensures.residue c.convert-2.ensures.residue
-    c.convert-3.ensures.residue c.new-x.ensures.residue

@@ -1,5 +1,0 @@
-use Rattle.misuse.proofs.Units.{inverse_of_5}
-use Rattle.misuse.proofs.reduced_int.five_modulo_21.Goals as goal
-
-pub returns-clause-unit : goal.returns-clause-unit
-returns-clause-unit c = (17, rw (c.new.ensures.modulus, c.new.ensures.residue) inverse_of_5)

@@ -1,5 +1,0 @@
-use Rattle.std.proofs.Common.{arith}
-use Rattle.misuse.proofs.vanilla.plain_ring_of_21.Goals as goal
-
-pub new-requires : goal.new-requires
-new-requires c = omega arith
