@@ -31,6 +31,8 @@ pub mod modular_monty;
 #[doc(hidden)]
 pub mod modular_folds;
 #[doc(hidden)]
+pub mod modular_passes;
+#[doc(hidden)]
 pub mod modular_transform;
 #[doc(hidden)]
 pub mod modular_ring;

@@ -5,6 +5,4 @@ pub mod laws;
 pub mod lists;
 pub mod order;
 pub mod plain;
-mod stage;
 pub mod transform;
-mod two_stages;

@@ -1,8 +1,8 @@
 //! The number-theoretic transform in place.
 
 use crate::modular_transform::order::reverse_places;
-use crate::modular_transform::stage::stage;
-use crate::modular_transform::two_stages::two_stages;
+use crate::modular_passes::stage::stage;
+use crate::modular_passes::two_stages::two_stages;
 use crate::modular_reduced::reducer::Reducer;
 use crate::modular_word::ring_word::RingWord;
 

@@ -1,6 +1,6 @@
 //! Two stages of a transform in one pass, which loads and stores each entry once.
 
-use crate::modular_transform::stage::STRIP;
+use crate::modular_passes::stage::STRIP;
 use crate::modular_reduced::reducer::Reducer;
 use crate::modular_word::ring_word::RingWord;
 

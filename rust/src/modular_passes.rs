@@ -1,0 +1,4 @@
+//! One pass of a transform over any reducer: a stage, or two at once.
+
+pub mod stage;
+pub mod two_stages;
