@@ -15,12 +15,15 @@ mod fixed;
 mod hostile;
 mod integers;
 mod modrun;
+mod plan_callers;
 mod plans;
 mod products;
 mod reducers;
 mod reversals;
 mod roots;
+mod run_callers;
 mod runs;
+mod transform_callers;
 mod transforms;
 
 use std::fmt::Debug;

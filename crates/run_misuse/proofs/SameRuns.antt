@@ -2,10 +2,10 @@
 use Rattle.std.proofs.Common.{◌≡◌, ℕ, ◌<◌, List, length, get_or, refl, sym, ◌∙◌, ap, subst, arith, ◌↔◌}
 use Rattle.std.proofs.lemmas.Grind.{same_number_lists}
 use Rattle.std.proofs.lemmas.List.{length-map}
-use Rattle.num_modular.specs.declared.ring.RingCommand.{RingCommand}
-use Rattle.num_modular.specs.declared.ring.RunEnd.{RunEnd}
-use Rattle.num_modular.specs.declared.ring.RunEnd.TheVariants.{Done, NoInverse}
-use Rattle.num_modular.specs.Ring.{value_at, IsStop, carried_out, values_of}
+use Rattle.modular_ring.specs.declared.ring.RingCommand.{RingCommand}
+use Rattle.modular_ring.specs.declared.ring.RunEnd.{RunEnd}
+use Rattle.modular_ring.specs.declared.ring.RunEnd.TheVariants.{Done, NoInverse}
+use Rattle.modular_ring.specs.Ring.{value_at, IsStop, carried_out, values_of}
 
 -- what a run says of its end and of the residues that it leaves
 pub record IsRun (m : ℕ) (start : List ℕ) (commands : List (RingCommand ℕ)) (end : RunEnd)

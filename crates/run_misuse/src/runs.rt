@@ -1,14 +1,12 @@
 //! Callers of `run`, proved from its contract alone.
 
-ghost use Rattle.std.specs.Prelude.{◌≡◌, ℕ, ◌%◌, ◌<◌, ◌↔◌, None, All, length, map, slice_index, IsSome, IfSome, IfNone};
+ghost use Rattle.std.specs.Prelude.{◌≡◌, ℕ, ◌%◌, ◌↔◌, All, length, map, IsSome, IfSome, IfNone};
 ghost use Rattle.modular_reduced.specs.Forms.{IsForm};
-ghost use Rattle.num_modular.specs.Ring.{whole, value_at, IsStop, carried_out, IsFit, values_of, HoldValues};
-ghost use Rattle.num_modular.specs.Stops.{inverted_by};
+ghost use Rattle.modular_ring.specs.Ring.{whole, value_at, IsStop, carried_out, IsFit, values_of, HoldValues};
 
 use modular_reduced::reducer::Reducer;
+use modular_ring::ring::{RingCommand, RunEnd, all_checked, commands_fit, run};
 use modular_word::ring_word::RingWord;
-use num_modular::laws::stop_laws;
-use num_modular::ring::{RingCommand, RunEnd, all_checked, commands_fit, run};
 
 /// Runs commands whose preconditions hold; `None` exactly where a register holds no checked form or a register
 /// number is too large, with the registers unchanged.
@@ -83,24 +81,6 @@ pub fn run_both<T: RingWord, U: RingWord, R: Reducer<T>, S: Reducer<U>>(
     let left_end = run(left, left_regs, left_commands);
     let right_end = run(right, right_regs, right_commands);
     (left_end, right_end)
-}
-
-/// Runs commands of which none needs an inverse, so that all are carried out.
-pub fn run_to_the_end<T: RingWord, R: Reducer<T>>(
-    r: &R,
-    regs: &mut [T],
-    commands: &[RingCommand<T>],
-)
-    requires checked { All (λ f. IsForm R.form R.value (R.modulus r.now) (T.number f)) regs.old }
-    requires fit { All (IsFit (length regs.old)) commands.now }
-    requires total { All (λ command. inverted_by command ≡ None) commands.now }
-    ensures { let m = R.modulus r.now in
-        let start = values_of T.number R.value m regs.old in
-        let wholes = map (whole T.number) commands.now in
-        HoldValues T.number R.form m regs.new (value_at m start wholes (length wholes)) }
-{
-    stop_laws::<T>();
-    let _ = run(r, regs, commands);
 }
 
 /// The residue of n modulo the reducer's modulus, by one command on three registers.

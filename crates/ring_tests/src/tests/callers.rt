@@ -1,8 +1,9 @@
 //! The callers of `run` over plain reducers.
 
+use super::run_callers::run_to_the_end;
 use num_modular::ring::{RingCommand, RunEnd};
 use num_modular::{Reducer, Vanilla};
-use run_misuse::runs::{checked_run, residue_by_run, run_both, run_to_the_end};
+use run_misuse::runs::{checked_run, residue_by_run, run_both};
 
 #[test]
 fn a_run_is_refused_where_a_condition_fails(rt: HostRuntime) {

@@ -14,12 +14,15 @@ mod factors;
 mod fixed;
 mod hostile;
 mod integers;
+mod plan_callers;
 mod plans;
 mod products;
 mod reducers;
 mod reversals;
 mod roots;
+mod run_callers;
 mod runs;
+mod transform_callers;
 mod transforms;
 
 use std::fmt::Debug;

@@ -1,9 +1,8 @@
 //! Callers of `run`, proved from its contract alone.
 
 use num_modular::modular_reduced::reducer::Reducer;
+use num_modular::modular_ring::ring::{RingCommand, RunEnd, all_checked, commands_fit, run};
 use num_modular::modular_word::ring_word::RingWord;
-use num_modular::laws::stop_laws;
-use num_modular::ring::{RingCommand, RunEnd, all_checked, commands_fit, run};
 
 /// Runs commands whose preconditions hold; `None` exactly where a register holds no checked form or a register
 /// number is too large, with the registers unchanged.
@@ -33,16 +32,6 @@ pub fn run_both<T: RingWord, U: RingWord, R: Reducer<T>, S: Reducer<U>>(
     let left_end = run(left, left_regs, left_commands);
     let right_end = run(right, right_regs, right_commands);
     (left_end, right_end)
-}
-
-/// Runs commands of which none needs an inverse, so that all are carried out.
-pub fn run_to_the_end<T: RingWord, R: Reducer<T>>(
-    r: &R,
-    regs: &mut [T],
-    commands: &[RingCommand<T>],
-) {
-    stop_laws::<T>();
-    let _ = run(r, regs, commands);
 }
 
 /// The residue of n modulo the reducer's modulus, by one command on three registers.

@@ -1,4 +1,4 @@
-//! Callers of transforms, proved from their contracts and the public laws alone.
+//! Callers of transforms, proved from their contracts and the public laws alone; no test runs them.
 
 ghost use Rattle.std.specs.Prelude.{All, length, slice_index};
 ghost use Rattle.modular_word.specs.Inverses.{IsInverse};

@@ -1,4 +1,4 @@
-//! Callers of plans, proved from their contracts alone.
+//! Callers of plans, proved from their contracts alone; no test runs them.
 
 use num_modular::modular_barrett::planned::{Factor, PlannedModulus};
 use num_modular::modular_plan::plan::plan;

@@ -1,4 +1,4 @@
-//! Callers of plans, proved from their contracts alone.
+//! Callers of plans, proved from their contracts alone; no test runs them.
 
 ghost use Rattle.std.specs.Prelude.{◌≡◌, ℕ, ◌+◌, ◌*◌, ◌/◌, ◌%◌, ◌^◌, ◌<◌, ◌≤◌, All, length};
 ghost use Rattle.std.specs.Int.{IsPowerOfTwo};

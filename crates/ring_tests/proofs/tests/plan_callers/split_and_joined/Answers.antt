@@ -3,7 +3,7 @@ use Rattle.std.specs.Int.{IsPowerOfTwo}
 use Rattle.std.proofs.Math.Nat.{mod-mod}
 use Rattle.std.proofs.lemmas.Nat.{mul-mod_first}
 use Rattle.modular_plan.specs.Plans.{numbers, IsPlan, AreRemainders}
-use Rattle.run_misuse.proofs.plans.split_and_joined.Goals as goal
+use Rattle.ring_tests.proofs.tests.plan_callers.split_and_joined.Goals as goal
 
 -- an inverse takes its number away
 inverse_gone : (m count part x : ℕ) → (count * part) % m ≡ 1 % m → (count * x * part) % m ≡ x % m

@@ -1,4 +1,4 @@
-//! Callers of transforms, proved from their contracts and the public laws alone.
+//! Callers of transforms, proved from their contracts and the public laws alone; no test runs them.
 
 use num_modular::modular_reduced::reducer::Reducer;
 use num_modular::modular_transform::convolution::scale;

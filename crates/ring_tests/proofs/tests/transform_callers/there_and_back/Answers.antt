@@ -5,7 +5,7 @@ use Rattle.modular_reduced.specs.Forms.{Represents}
 use Rattle.modular_reduced.specs.Values.{values_of}
 use Rattle.modular_word.specs.Congruence.{Congruent}
 use Rattle.modular_transform.specs.Transforms.{Suits, transform}
-use Rattle.run_misuse.proofs.transforms.there_and_back.Goals as goal
+use Rattle.ring_tests.proofs.tests.transform_callers.there_and_back.Goals as goal
 
 pub ntt-requires-2-clause-suits : goal.ntt-requires-2-clause-suits
 ntt-requires-2-clause-suits g c =

@@ -1,4 +1,4 @@
-use Rattle.run_misuse.proofs.runs.run_to_the_end.Goals as goal
+use Rattle.ring_tests.proofs.tests.run_callers.run_to_the_end.Goals as goal
 
 pub returns : goal.returns
 returns g c =

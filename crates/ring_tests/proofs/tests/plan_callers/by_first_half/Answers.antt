@@ -7,7 +7,7 @@ use Rattle.std.specs.Int.{IsPowerOfTwo}
 use Rattle.modular_transform.specs.Transforms.{transform}
 use Rattle.modular_barrett.specs.Factors.{IsFactor}
 use Rattle.modular_plan.specs.Plans.{numbers, IsPlan}
-use Rattle.run_misuse.proofs.plans.by_first_half.Goals as goal
+use Rattle.ring_tests.proofs.tests.plan_callers.by_first_half.Goals as goal
 
 -- half of a power of two that is even
 half_of : (z n : ℕ) → 2 * n ≡ 2 ^ z → IsPowerOfTwo n

@@ -1,0 +1,16 @@
+//! Callers of `run`, proved from its contract and a public law alone.
+
+use num_modular::modular_reduced::reducer::Reducer;
+use num_modular::modular_word::ring_word::RingWord;
+use num_modular::laws::stop_laws;
+use num_modular::ring::{RingCommand, run};
+
+/// Runs commands of which none needs an inverse, so that all are carried out.
+pub fn run_to_the_end<T: RingWord, R: Reducer<T>>(
+    r: &R,
+    regs: &mut [T],
+    commands: &[RingCommand<T>],
+) {
+    stop_laws::<T>();
+    let _ = run(r, regs, commands);
+}
