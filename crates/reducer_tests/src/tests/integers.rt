@@ -4,9 +4,10 @@ ghost use Rattle.modular_reduced.specs.Integers.{CanDivide, IsReduced, modulus_o
 ghost use Rattle.std.specs.Prelude.{◌≡◌, ◌≤◌, ◌%◌};
 
 use crate::tests::dividers::is_printed;
-use crate::tests::modular_integer::{is_equivalence, residue_of_sum, sum_in_ring};
+use crate::tests::modular_integer::{residue_of_sum, sum_in_ring};
 use crate::tests::polynomial::{horner, value_by_forms, value_of_bytes};
 use crate::tests::reduced_int::{are_equal, difference_modulo_21, five_modulo_21, quotient_if_any};
+use misuse::modular_integer::is_equivalence;
 use misuse::reduced_int::{quotient_modulo_21, sum_modulo_21};
 use modular_barrett::premul::PreMulInv2by1;
 use modular_reduced::modular_integer::ModularInteger;

@@ -1,6 +1,6 @@
 //! Code over any integers modulo m, proved from the laws of `ModularInteger` alone.
 
-ghost use Rattle.std.specs.Prelude.{◌≡◌, ◌+◌, ◌%◌, ◌↔◌, IsTrue};
+ghost use Rattle.std.specs.Prelude.{◌≡◌, ◌+◌, ◌%◌};
 
 use modular_reduced::modular_integer::ModularInteger;
 
@@ -18,14 +18,4 @@ pub fn sum_in_ring<I: ModularInteger<Base = u64> + Copy>(ring: I, x: u64, y: u64
     ensures { result ≡ (x + y) % I.modulus_number ring }
 {
     residue_of_sum(ring.convert(x), ring.convert(y))
-}
-
-/// Whether `==` is reflexive at a, symmetric at a and b, and transitive at a, b and c: it always is.
-pub fn is_equivalence<I: ModularInteger>(a: &I, b: &I, c: &I) -> bool
-    ensures { IsTrue result }
-{
-    let reflexive = *a == *a;
-    let symmetric = (*a == *b) == (*b == *a);
-    let transitive = !(*a == *b && *b == *c) || *a == *c;
-    reflexive && symmetric && transitive
 }

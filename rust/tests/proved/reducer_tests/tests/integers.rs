@@ -1,9 +1,10 @@
 //! Every kind of operand of the operators, known values computed by hand, and equality.
 
 use crate::reducer_tests::tests::dividers::is_printed;
-use crate::reducer_tests::tests::modular_integer::{is_equivalence, residue_of_sum, sum_in_ring};
+use crate::reducer_tests::tests::modular_integer::{residue_of_sum, sum_in_ring};
 use crate::reducer_tests::tests::polynomial::{horner, value_by_forms, value_of_bytes};
 use crate::reducer_tests::tests::reduced_int::{are_equal, difference_modulo_21, five_modulo_21, quotient_if_any};
+use crate::misuse::modular_integer::is_equivalence;
 use crate::misuse::reduced_int::{quotient_modulo_21, sum_modulo_21};
 use num_modular::modular_barrett::premul::PreMulInv2by1;
 use num_modular::modular_reduced::modular_integer::ModularInteger;

@@ -11,11 +11,3 @@ pub fn residue_of_sum<I: ModularInteger<Base = u64> + Copy>(a: I, b: I) -> u64 {
 pub fn sum_in_ring<I: ModularInteger<Base = u64> + Copy>(ring: I, x: u64, y: u64) -> u64 {
     residue_of_sum(ring.convert(x), ring.convert(y))
 }
-
-/// Whether `==` is reflexive at a, symmetric at a and b, and transitive at a, b and c: it always is.
-pub fn is_equivalence<I: ModularInteger>(a: &I, b: &I, c: &I) -> bool {
-    let reflexive = *a == *a;
-    let symmetric = (*a == *b) == (*b == *a);
-    let transitive = !(*a == *b && *b == *c) || *a == *c;
-    reflexive && symmetric && transitive
-}

@@ -1,0 +1,11 @@
+//! Code over any integers modulo m, proved from the laws of `ModularInteger` alone.
+
+use num_modular::modular_reduced::modular_integer::ModularInteger;
+
+/// Whether `==` is reflexive at a, symmetric at a and b, and transitive at a, b and c: it always is.
+pub fn is_equivalence<I: ModularInteger>(a: &I, b: &I, c: &I) -> bool {
+    let reflexive = *a == *a;
+    let symmetric = (*a == *b) == (*b == *a);
+    let transitive = !(*a == *b && *b == *c) || *a == *c;
+    reflexive && symmetric && transitive
+}
