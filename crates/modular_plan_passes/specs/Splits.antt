@@ -3,7 +3,6 @@
 -- "Multidigit multiplication for mathematicians", section 2) and entries below a multiple of m (Harvey, "Faster
 -- arithmetic for number-theoretic transforms", section 3). The names are the library's own words.
 use Rattle.std.specs.Prelude.{◌≡◌, ℕ, ◌+◌, ◌*◌, ◌/◌, ◌<◌, ◌≤◌, List, All, length}
-use Rattle.std.specs.Int.{IsPowerOfTwo}
 use Rattle.modular_barrett.specs.Factors.{IsFactor, AllFactors}
 use Rattle.modular_barrett.specs.declared.planned.Factor.{Factor}
 use Rattle.modular_plan.specs.Plans.{numbers}
@@ -100,13 +99,3 @@ pub record IsPassDone {X F : Type 0} (number : X → ℕ) (value : F → ℕ) (m
   pub entries : All (λ x. number x < bound) new
   pub done : StageOfFours (λ p. IsFourSplit m (numbers value table (first + p)) (numbers value table (2 * (first + p)))
       (numbers value table (2 * (first + p) + 1))) q blocks (numbers number old) (numbers number new)
-
--- before a split of block b into blocks of `last` entries: the entries are below 4m, their number is a power of two
--- times `last`, and the table has as many factors modulo m as the last stage needs
-pub record IsSplittable {X F : Type 0} (number : X → ℕ) (value quotient : F → ℕ) (base m b last : ℕ) (xs : List X) (table : List F) : Type 0 where
-  pub entries : All (λ x. number x < 4 * m) xs
-  pub factors : AllFactors base m value quotient table
-  pub some : 1 ≤ last
-  pub count : IsPowerOfTwo (length xs / last)
-  pub whole : length xs / last * last ≡ length xs
-  pub within : (b + 1) * (length xs / last / 2) ≤ length table

@@ -1,8 +1,9 @@
--- What the stages of a join rest on and give: a table of factors, and entries below a multiple of m (Harvey, "Faster
+-- What the stages of a split and of a join rest on and give: a table of factors, and entries below a multiple of m (Harvey, "Faster
 -- arithmetic for number-theoretic transforms", section 3), in blocks of the tree of remainders (Bernstein, "Multidigit
 -- multiplication for mathematicians", section 2). The names are the library's own words.
 use Rattle.std.specs.Prelude.{◌≡◌, ℕ, ◌+◌, ◌*◌, ◌/◌, ◌%◌, ◌<◌, ◌≤◌, List, All, length}
 use Rattle.std.specs.Int.{IsPowerOfTwo}
+use Rattle.modular_barrett.specs.Factors.{AllFactors}
 use Rattle.modular_plan.specs.Plans.{numbers, IsPlan, AreRemainders}
 use Rattle.modular_plan_passes.specs.JoinPasses.{IsTableOfFactors}
 
@@ -13,6 +14,14 @@ pub record AreBlocks (length entries b last : ℕ) : Type 0 where
   pub count : IsPowerOfTwo (length / last)
   pub whole : length / last * last ≡ length
   pub within : (b + 1) * (length / last / 2) ≤ entries
+
+-- before a split of block b into blocks of `last` words, and before a join of these blocks: the words are below 4m, the
+-- table's entries are factors modulo m with their quotients, and both have fitting lengths
+pub record FitsPlan {X F : Type 0} (number : X → ℕ) (value quotient : F → ℕ) (base m b last : ℕ) (words : List X)
+    (table : List F) : Type 0 where
+  pub entries : All (λ x. number x < 4 * m) words
+  pub factors : AllFactors base m value quotient table
+  pub blocks : AreBlocks (length words) (length table) b last
 
 -- before the stages from blocks of `last` entries on: the entries are below a bound
 pub record IsLevelReady {X F : Type 0} (number : X → ℕ) (value quotient : F → ℕ)

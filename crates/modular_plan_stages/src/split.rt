@@ -2,8 +2,8 @@
 
 ghost use Rattle.std.specs.Prelude.{◌≡◌, ℕ, ◌+◌, ◌*◌, ◌/◌, ◌<◌, ◌≤◌, All, length};
 ghost use Rattle.modular_plan.specs.Plans.{numbers, IsPlan};
-ghost use Rattle.modular_plan_passes.specs.Splits.{IsSplittable};
 ghost use Rattle.modular_plan_passes.specs.Steps.{IsLevel};
+ghost use Rattle.modular_plan_stages.specs.Conditions.{FitsPlan};
 
 use modular_plan::entry::PlanEntry;
 use modular_plan_passes::split_stages::{split_pass, split_stage};
@@ -22,7 +22,7 @@ pub fn split_stages<T: PlainWord, M: SplitSteps<T>, F: PlanEntry<T>>(
     b: usize,
     last: usize,
 )
-    requires { IsSplittable T.number F.value F.quotient T.base (M.modulus m.now) b last xs.old table.now }
+    requires { FitsPlan T.number F.value F.quotient T.base (M.modulus m.now) b last xs.old table.now }
     ensures entries { All (λ x. T.number x < M.limit m.now) xs.new }
     ensures level { let modulus = M.modulus m.now in (g z : ℕ) →
         IsPlan modulus g z (length table.now) (numbers F.value table.now) →

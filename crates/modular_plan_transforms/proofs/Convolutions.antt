@@ -18,6 +18,8 @@ use Rattle.modular_transform.proofs.BitReversal.{bits_reversed_of_zero}
 use Rattle.modular_transform.proofs.MinusOne.{pow_of_square}
 use Rattle.modular_plan.specs.Plans.{constant, IsPlan, AreRemainders}
 use Rattle.modular_plan_passes.proofs.Levels.{constants}
+use Rattle.modular_plan_stages.specs.Conditions.{AreBlocks}
+use Rattle.modular_plan_transforms.specs.Conditions.{AreSmallBlocks}
 use Rattle.modular_plan_transforms.specs.Products.{coefficient, product_modulo, AreProducts}
 use Rattle.modular_plan_transforms.proofs.Columns.{column_of_product}
 
@@ -134,11 +136,20 @@ remainders_of_product {m} g z b count last entries w x y u v p power room plan f
     (residues_again g z b count last x u first) second products
 
 -- twice as many factors as half of the blocks
-pub half_room : (b count n : ℕ) → (b + 1) * count ≤ 2 * n → (b + 1) * (count / 2) ≤ n
+half_room : (b count n : ℕ) → (b + 1) * count ≤ 2 * n → (b + 1) * (count / 2) ≤ n
 half_room b count n room =
     let most = mul-le-mul_left (b + 1) (let e : 2 * (count / 2) ≤ count = omega arith in e) in
     let turn : (b + 1) * (2 * (count / 2)) ≡ 2 * ((b + 1) * (count / 2)) = omega arith in
     omega (arith, most, turn, room)
+
+-- blocks with the factors for their products have those for a split
+pub blocks_of : {n entries b last : ℕ} → AreSmallBlocks n entries b last → AreBlocks n entries b last
+blocks_of {n} {entries} {b} {last} blocks = record {
+  some = blocks.some;
+  count = blocks.count;
+  whole = blocks.whole;
+  within = half_room b (n / last) entries blocks.within;
+}
 
 -- an inverse of the number of blocks takes it away
 scaled_back : {m : ℕ} (count part v : ℕ) → Congruent m (count * part) 1 → (count * (v % m) * part) % m ≡ v % m

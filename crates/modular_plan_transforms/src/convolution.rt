@@ -102,8 +102,7 @@ fn join_products<T: PlainWord, F: PlanEntry<T>>(
 /// Whether `convolve_block` accepts lists of `length` entries as block b, down to blocks of `last`, and a plan of
 /// `factors` factors.
 pub fn convolves(length: usize, factors: usize, b: usize, last: usize) -> bool
-    ensures { IsTrue result ↔ ((1 ≤ last) × (last ≤ 2) × IsPowerOfTwo (length / last) × (length / last * last ≡ length)
-        × ((b + 1) * (length / last) ≤ 2 * factors)) }
+    ensures { IsTrue result ↔ AreSmallBlocks length factors b last }
 {
     if last > 2 {
         return false;
@@ -139,11 +138,7 @@ pub fn convolve_block<T: PlainWord, F: PlanEntry<T>>(
     requires entries_ys { All (λ x. T.number x < 4 * T.number m.now.modulus) ys.old }
     requires equal { length ys.old ≡ length xs.old }
     requires factors { AllFactors T.base (T.number m.now.modulus) F.value F.quotient table.now }
-    requires some { 1 ≤ last }
-    requires few { last ≤ 2 }
-    requires count { IsPowerOfTwo (length xs.old / last) }
-    requires whole { length xs.old / last * last ≡ length xs.old }
-    requires within { (b + 1) * (length xs.old / last) ≤ 2 * length table.now }
+    requires blocks { AreSmallBlocks (length xs.old) (length table.now) b last }
     ensures inverse { IsTrue result ↔ HasInverse (T.number m.now.modulus) (length xs.old / last) }
     ensures unchanged { (IsTrue result → ⊥) → (xs.new ≡ xs.old) × (ys.new ≡ ys.old) }
     ensures below { IsTrue result → All (λ x. T.number x < T.number m.now.modulus) xs.new
@@ -183,11 +178,7 @@ pub fn convolve_planned<T: PlainWord, F: PlanEntry<T>>(
     requires entries_ys { All (λ x. T.number x < 4 * T.number m.now.modulus) ys.old }
     requires equal { length ys.old ≡ length xs.old }
     requires factors { AllFactors T.base (T.number m.now.modulus) F.value F.quotient table.now }
-    requires some { 1 ≤ last }
-    requires few { last ≤ 2 }
-    requires count { IsPowerOfTwo (length xs.old / last) }
-    requires whole { length xs.old / last * last ≡ length xs.old }
-    requires within { length xs.old / last ≤ 2 * length table.now }
+    requires blocks { AreSmallBlocks (length xs.old) (length table.now) 0 last }
     ensures inverse { IsTrue result ↔ HasInverse (T.number m.now.modulus) (length xs.old / last) }
     ensures unchanged { (IsTrue result → ⊥) → (xs.new ≡ xs.old) × (ys.new ≡ ys.old) }
     ensures below { IsTrue result → All (λ x. T.number x < T.number m.now.modulus) xs.new
@@ -217,11 +208,7 @@ pub fn convolve_negacyclic<T: PlainWord, F: PlanEntry<T>>(
     requires entries_ys { All (λ x. T.number x < 4 * T.number m.now.modulus) ys.old }
     requires equal { length ys.old ≡ length xs.old }
     requires factors { AllFactors T.base (T.number m.now.modulus) F.value F.quotient table.now }
-    requires some { 1 ≤ last }
-    requires few { last ≤ 2 }
-    requires count { IsPowerOfTwo (length xs.old / last) }
-    requires whole { length xs.old / last * last ≡ length xs.old }
-    requires within { length xs.old / last ≤ length table.now }
+    requires blocks { AreSmallBlocks (length xs.old) (length table.now) 1 last }
     ensures inverse { IsTrue result ↔ HasInverse (T.number m.now.modulus) (length xs.old / last) }
     ensures unchanged { (IsTrue result → ⊥) → (xs.new ≡ xs.old) × (ys.new ≡ ys.old) }
     ensures below { IsTrue result → All (λ x. T.number x < T.number m.now.modulus) xs.new

@@ -5,8 +5,7 @@ ghost use Rattle.std.specs.Int.{IsPowerOfTwo};
 ghost use Rattle.modular_word.specs.Congruence.{Congruent};
 ghost use Rattle.modular_barrett.specs.Factors.{IsFactorOf, AllFactors};
 ghost use Rattle.modular_plan.specs.Plans.{numbers, IsPlan, AreRemainders};
-ghost use Rattle.modular_plan_stages.specs.Conditions.{IsLevelReady, IsLevelJoined};
-ghost use Rattle.modular_plan_transforms.specs.Conditions.{IsJoinable};
+ghost use Rattle.modular_plan_stages.specs.Conditions.{AreBlocks, FitsPlan, IsLevelReady, IsLevelJoined};
 
 use modular_barrett::planned::{Factor, PlannedModulus};
 use modular_barrett::roomy::RoomyModulus;
@@ -75,7 +74,7 @@ fn join_stages<T: PlainWord, F: PlanEntry<T>, M: JoinSteps<T>>(
     b: usize,
     last: usize,
 )
-    requires { IsJoinable T.number T.base (M.modulus m.now) F.value F.quotient b last xs.old table.now }
+    requires { FitsPlan T.number F.value F.quotient T.base (M.modulus m.now) b last xs.old table.now }
     ensures entries { All (λ x. T.number x < M.bound m.now) xs.new }
     ensures joined { let modulus = M.modulus m.now in (g z : ℕ) (x : ℕ → ℕ) →
         IsPlan modulus g z (length table.now) (numbers F.value table.now) →
@@ -95,7 +94,7 @@ fn join_reduced<T: PlainWord, F: PlanEntry<T>, M: JoinSteps<T>>(
     b: usize,
     last: usize,
 )
-    requires { IsJoinable T.number T.base (M.modulus m.now) F.value F.quotient b last xs.old table.now }
+    requires { FitsPlan T.number F.value F.quotient T.base (M.modulus m.now) b last xs.old table.now }
     ensures below { All (λ x. T.number x < M.modulus m.now) xs.new }
     ensures joined { let modulus = M.modulus m.now in (g z : ℕ) (x : ℕ → ℕ) →
         IsPlan modulus g z (length table.now) (numbers F.value table.now) →
@@ -164,7 +163,7 @@ fn join_scaled_by<T: PlainWord, F: PlanEntry<T>, M: JoinSteps<T>>(
     last: usize,
     w: &Factor<T>,
 )
-    requires joinable { IsJoinable T.number T.base (M.modulus m.now) F.value F.quotient b last xs.old table.now }
+    requires fits { FitsPlan T.number F.value F.quotient T.base (M.modulus m.now) b last xs.old table.now }
     requires factor { IsFactorOf T.base T.number (M.modulus m.now) w.now }
     ensures below { All (λ x. T.number x < M.modulus m.now) xs.new }
     ensures joined { let modulus = M.modulus m.now in (g z : ℕ) (x : ℕ → ℕ) →
@@ -200,10 +199,7 @@ pub fn join<T: PlainWord, F: PlanEntry<T>>(
 )
     requires entries { All (λ x. T.number x < 4 * T.number m.now.modulus) xs.old }
     requires factors { AllFactors T.base (T.number m.now.modulus) F.value F.quotient table.now }
-    requires some { 1 ≤ last }
-    requires count { IsPowerOfTwo (length xs.old / last) }
-    requires whole { length xs.old / last * last ≡ length xs.old }
-    requires within { (b + 1) * (length xs.old / last / 2) ≤ length table.now }
+    requires blocks { AreBlocks (length xs.old) (length table.now) b last }
     ensures below { All (λ x. T.number x < T.number m.now.modulus) xs.new }
     ensures joined { let modulus = T.number m.now.modulus in (g z : ℕ) (x : ℕ → ℕ) →
         IsPlan modulus g z (length table.now) (numbers F.value table.now) →
@@ -230,10 +226,7 @@ pub fn join_scaled<T: PlainWord, F: PlanEntry<T>>(
 )
     requires entries { All (λ x. T.number x < 4 * T.number m.now.modulus) xs.old }
     requires factors { AllFactors T.base (T.number m.now.modulus) F.value F.quotient table.now }
-    requires some { 1 ≤ last }
-    requires count { IsPowerOfTwo (length xs.old / last) }
-    requires whole { length xs.old / last * last ≡ length xs.old }
-    requires within { (b + 1) * (length xs.old / last / 2) ≤ length table.now }
+    requires blocks { AreBlocks (length xs.old) (length table.now) b last }
     requires factor { IsFactorOf T.base T.number (T.number m.now.modulus) w.now }
     ensures below { All (λ x. T.number x < T.number m.now.modulus) xs.new }
     ensures joined { let modulus = T.number m.now.modulus in (g z : ℕ) (x : ℕ → ℕ) →

@@ -4,7 +4,7 @@ ghost use Rattle.std.specs.Prelude.{◌≡◌, ℕ, ◌+◌, ◌*◌, ◌/◌, �
 ghost use Rattle.std.specs.Int.{IsPowerOfTwo};
 ghost use Rattle.modular_barrett.specs.Factors.{AllFactors};
 ghost use Rattle.modular_plan.specs.Plans.{numbers, IsPlan, AreRemainders};
-ghost use Rattle.modular_plan_passes.specs.Splits.{IsSplittable};
+ghost use Rattle.modular_plan_stages.specs.Conditions.{AreBlocks, FitsPlan};
 
 use modular_barrett::planned::PlannedModulus;
 use modular_barrett::roomy::RoomyModulus;
@@ -30,8 +30,7 @@ fn reduce_each<T: PlainWord, M: SplitSteps<T>>(m: &M, xs: &mut [T])
 /// Whether `split` accepts a list of `length` entries, from block b down to blocks of `last`, and a plan of
 /// `factors` factors.
 pub fn splits(length: usize, factors: usize, b: usize, last: usize) -> bool
-    ensures { IsTrue result ↔ ((1 ≤ last) × IsPowerOfTwo (length / last) × (length / last * last ≡ length)
-        × ((b + 1) * (length / last / 2) ≤ factors)) }
+    ensures { IsTrue result ↔ AreBlocks length factors b last }
 {
     if last == 0 {
         return false;
@@ -57,7 +56,7 @@ fn split_by<T: PlainWord, M: SplitSteps<T>, F: PlanEntry<T>>(
     b: usize,
     last: usize,
 )
-    requires { IsSplittable T.number F.value F.quotient T.base (M.modulus m.now) b last xs.old table.now }
+    requires { FitsPlan T.number F.value F.quotient T.base (M.modulus m.now) b last xs.old table.now }
     ensures below { All (λ x. T.number x < M.modulus m.now) xs.new }
     ensures remainders { let modulus = M.modulus m.now in (g z : ℕ) →
         IsPlan modulus g z (length table.now) (numbers F.value table.now) →
@@ -84,10 +83,7 @@ pub fn split_loosely<T: PlainWord, F: PlanEntry<T>>(
 )
     requires entries { All (λ x. T.number x < 4 * T.number m.now.modulus) xs.old }
     requires factors { AllFactors T.base (T.number m.now.modulus) F.value F.quotient table.now }
-    requires some { 1 ≤ last }
-    requires count { IsPowerOfTwo (length xs.old / last) }
-    requires whole { length xs.old / last * last ≡ length xs.old }
-    requires within { (b + 1) * (length xs.old / last / 2) ≤ length table.now }
+    requires blocks { AreBlocks (length xs.old) (length table.now) b last }
     ensures remainders { let modulus = T.number m.now.modulus in (g z : ℕ) →
         IsPlan modulus g z (length table.now) (numbers F.value table.now) →
         AreRemainders modulus g z b (length xs.old / last) last (numbers T.number xs.old)
@@ -121,10 +117,7 @@ pub fn split<T: PlainWord, F: PlanEntry<T>>(
 )
     requires entries { All (λ x. T.number x < 4 * T.number m.now.modulus) xs.old }
     requires factors { AllFactors T.base (T.number m.now.modulus) F.value F.quotient table.now }
-    requires some { 1 ≤ last }
-    requires count { IsPowerOfTwo (length xs.old / last) }
-    requires whole { length xs.old / last * last ≡ length xs.old }
-    requires within { (b + 1) * (length xs.old / last / 2) ≤ length table.now }
+    requires blocks { AreBlocks (length xs.old) (length table.now) b last }
     ensures below { All (λ x. T.number x < T.number m.now.modulus) xs.new }
     ensures remainders { let modulus = T.number m.now.modulus in (g z : ℕ) →
         IsPlan modulus g z (length table.now) (numbers F.value table.now) →

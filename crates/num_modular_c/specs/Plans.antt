@@ -1,8 +1,9 @@
 -- Plans for C, and the lists of words that calls by a plan accept. The names are the library's own words.
-use Rattle.std.specs.Prelude.{◌≡◌, ℕ, ◌+◌, ◌*◌, ◌/◌, ◌^◌, ◌<◌, ◌≤◌, List, All, length}
-use Rattle.std.specs.Int.{IsPowerOfTwo}
+use Rattle.std.specs.Prelude.{◌≡◌, ℕ, ◌*◌, ◌/◌, ◌^◌, ◌<◌, ◌≤◌, List, All, length}
 use Rattle.modular_barrett.specs.Factors.{IsFactor}
 use Rattle.modular_plan.specs.Plans.{numbers, IsPlan, AreRemainders}
+use Rattle.num_modular.specs.PlanConditions.{AreBlocks}
+use Rattle.num_modular.specs.ProductConditions.{AreSmallBlocks}
 use Rattle.num_modular_c.specs.declared.plans.NmFactor.{NmFactor}
 
 -- m can be the modulus of a plan: it is from 1 to 2^62
@@ -34,10 +35,7 @@ pub record IsTable (m g : ℕ) (table : List NmFactor) : Type 0 where
 pub record IsSplit (m factors b last : ℕ) (words : List ℕ) : Type 0 where
   pub admitted : IsAdmitted m
   pub room : AreBelow (4 * m) words
-  pub some : 1 ≤ last
-  pub count : IsPowerOfTwo (length words / last)
-  pub whole : length words / last * last ≡ length words
-  pub within : (b + 1) * (length words / last / 2) ≤ factors
+  pub blocks : AreBlocks (length words) factors b last
 
 -- two lists of equal length of words below 4m; so many factors suffice for their product as block b, by blocks of
 -- `last`
@@ -46,11 +44,7 @@ pub record IsPair (m factors b last : ℕ) (words others : List ℕ) : Type 0 wh
   pub room : AreBelow (4 * m) words
   pub other_room : AreBelow (4 * m) others
   pub equal : length others ≡ length words
-  pub some : 1 ≤ last
-  pub few : last ≤ 2
-  pub count : IsPowerOfTwo (length words / last)
-  pub whole : length words / last * last ≡ length words
-  pub within : (b + 1) * (length words / last) ≤ 2 * factors
+  pub blocks : AreSmallBlocks (length words) factors b last
 
 -- after a product: entry e is p e for each plan by g, the words are below m, and the other list holds the
 -- remainders of block b as `split` computes them

@@ -16,6 +16,7 @@ mod hostile;
 mod integers;
 mod modrun;
 mod plan_callers;
+mod plan_rows;
 mod plans;
 mod products;
 mod reducers;

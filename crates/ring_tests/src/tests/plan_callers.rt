@@ -1,11 +1,11 @@
 //! Callers of plans, proved from their contracts alone; no test runs them.
 
 ghost use Rattle.std.specs.Prelude.{◌≡◌, ℕ, ◌+◌, ◌*◌, ◌/◌, ◌%◌, ◌^◌, ◌<◌, ◌≤◌, All, length};
-ghost use Rattle.std.specs.Int.{IsPowerOfTwo};
 ghost use Rattle.modular_word.specs.Inverses.{IsInverse};
 ghost use Rattle.modular_transform.specs.Transforms.{Suits, transform};
 ghost use Rattle.modular_barrett.specs.Factors.{IsFactorOf};
 ghost use Rattle.modular_plan.specs.Plans.{numbers};
+ghost use Rattle.num_modular.specs.PlanConditions.{AreBlocks};
 
 use modular_barrett::planned::{Factor, PlannedModulus};
 use modular_plan::plan::plan;
@@ -28,10 +28,7 @@ pub fn split_and_joined<T: PlainWord>(
     requires below { T.number g < T.number m.now.modulus }
     requires suits { Suits (T.number m.now.modulus) (T.number g) (2 * length table.old) }
     requires entries { All (λ x. T.number x < 4 * T.number m.now.modulus) xs.old }
-    requires some { 1 ≤ block.1 }
-    requires count { IsPowerOfTwo (length xs.old / block.1) }
-    requires whole { length xs.old / block.1 * block.1 ≡ length xs.old }
-    requires within { (block.0 + 1) * (length xs.old / block.1 / 2) ≤ length table.old }
+    requires blocks { AreBlocks (length xs.old) (length table.old) block.0 block.1 }
     requires factor { IsFactorOf T.base T.number (T.number m.now.modulus) part.now }
     requires inverse { IsInverse (T.number m.now.modulus) (length xs.old / block.1) (T.number part.now.value) }
     ensures { (i : ℕ) → i < length xs.old

@@ -1,172 +1,8 @@
 //! Known lists of remainders, their joins, and transforms in natural order, by plans.
 
-ghost use Rattle.std.specs.Prelude.{◌*◌, ◌<◌, ◌↔◌, IsTrue, All};
-ghost use Rattle.num_modular.specs.Factors.{IsFactorOf};
-
-use super::{assert_at, assert_right};
-use modular_prim::plain_word::PlainWord;
-use modular_reduced::reducer::Reducer;
-use modular_reduced::vanilla::Vanilla;
-use modular_transform::transform::root_fits;
-use modular_word::path_word::PathWord;
-use modular_word::ring_word::RingWord;
-use num_modular::plans::{
-    Factor, PlannedModulus, join, join_scaled, ntt_planned, plan, split, splits,
-};
-
-// What is called on a list: `split`, `join`, `join_scaled` with a number, or `ntt_planned`.
-enum Call<T> {
-    Split,
-    Join,
-    Scaled(T),
-    InOrder,
-}
-
-// A row: the modulus, a root and how many factors the plan by the root has; the block and how many entries
-// the last blocks have; a list, and what a call makes of it.
-struct Row<'a, T> {
-    plan: (T, T, usize),
-    block: (usize, usize),
-    list: &'a [T],
-    want: &'a [T],
-}
-
-/// Whether each entry is below 4m.
-pub fn all_in_room<T: PlainWord>(m: &PlannedModulus<T>, xs: &[T]) -> bool
-    ensures { IsTrue result ↔ All (λ x. T.number x < 4 * T.number m.now.modulus) xs.now }
-{
-    xs.iter().all(|x| m.has_room(*x))
-}
-
-/// Whether two lists are the same.
-pub fn are_same<T: RingWord>(xs: &[T], ys: &[T]) -> bool {
-    for i in 0..xs.len() {
-        if i >= ys.len() || xs[i] != ys[i] {
-            return false;
-        }
-    }
-    xs.len() == ys.len()
-}
-
-/// Whether the table gets the plan by g, which is for twice as many entries as it has factors.
-pub fn is_planned<T: PlainWord>(m: &PlannedModulus<T>, g: T, table: &mut [Factor<T>]) -> bool
-    ensures { IsTrue result → All (IsFactorOf T.base T.number (T.number m.now.modulus)) table.new }
-{
-    if !g.is_below(m.modulus) || table.len() > 64 {
-        return false;
-    }
-    let r = Vanilla::new(&m.modulus);
-    if !root_fits(&r, &g, 2 * table.len()) {
-        return false;
-    }
-    plan(m, g, table);
-    true
-}
-
-// Whether a list is a power of two of entries, for which the table has the factors, and is transformed.
-fn is_transformed<T: PlainWord>(m: &PlannedModulus<T>, xs: &mut [T], table: &[Factor<T>]) -> bool
-    requires { All (IsFactorOf T.base T.number (T.number m.now.modulus)) table.now }
-{
-    if !xs.len().is_power_of_two() {
-        return false;
-    }
-    if xs.len() / 2 > table.len() {
-        return false;
-    }
-    if !all_in_room(m, xs) {
-        return false;
-    }
-    ntt_planned(m, xs, table);
-    true
-}
-
-// Whether the call's conditions hold, and it is carried out.
-fn is_done<T: PlainWord>(
-    m: &PlannedModulus<T>,
-    call: &Call<T>,
-    block: (usize, usize),
-    xs: &mut [T],
-    table: &[Factor<T>],
-) -> bool
-    requires { All (IsFactorOf T.base T.number (T.number m.now.modulus)) table.now }
-{
-    let (b, last) = block;
-    if !splits(xs.len(), table.len(), b, last) {
-        return false;
-    }
-    if !all_in_room(m, xs) {
-        return false;
-    }
-    match call {
-        Call::Split => split(m, xs, table, b, last),
-        Call::Join => join(m, xs, table, b, last),
-        Call::Scaled(w) => {
-            if !w.is_below(m.modulus) {
-                return false;
-            }
-            join_scaled(m, xs, table, b, last, &m.factor(*w));
-        }
-        Call::InOrder => return is_transformed(m, xs, table),
-    }
-    true
-}
-
-// Whether the call makes of the list what the row has, with room for a table and for a list.
-fn is_right<T: PlainWord>(
-    call: &Call<T>,
-    row: &Row<T>,
-    table: &mut [Factor<T>],
-    room: &mut [T],
-) -> bool {
-    let (modulus, g, factors) = row.plan;
-    let n = row.list.len();
-    if !PlannedModulus::admits(modulus) || n > room.len() || factors > table.len() {
-        return false;
-    }
-    let m = PlannedModulus::new(modulus);
-    let (table, xs) = (&mut table[..factors], &mut room[..n]);
-    xs.copy_from_slice(row.list);
-    is_planned(&m, g, table) && is_done(&m, call, row.block, xs, table) && are_same(xs, row.want)
-}
-
-// The place of the first row that isn't what the call gives.
-fn first_wrong<T: PlainWord>(
-    call: &Call<T>,
-    rows: &[Row<T>],
-    table: &mut [Factor<T>],
-    room: &mut [T],
-) -> Option<usize> {
-    for i in 0..rows.len() {
-        if !is_right(call, &rows[i], table, room) {
-            return Some(i);
-        }
-    }
-    None
-}
-
-fn first_wrong_16(call: &Call<u16>, rows: &[Row<u16>]) -> Option<usize> {
-    let mut table = [Factor::<u16> {
-        value: 0,
-        quotient: 0,
-    }; 8];
-    first_wrong(call, rows, &mut table, &mut [0; 16])
-}
-
-fn first_wrong_32(call: &Call<u32>, rows: &[Row<u32>]) -> Option<usize> {
-    let mut table = [Factor::<u32> {
-        value: 0,
-        quotient: 0,
-    }; 8];
-    first_wrong(call, rows, &mut table, &mut [0; 16])
-}
-
-fn first_wrong_64(call: &Call<u64>, rows: &[Row<u64>]) -> Option<usize> {
-    let mut table = [Factor::<u64> {
-        value: 0,
-        quotient: 0,
-    }; 8];
-    first_wrong(call, rows, &mut table, &mut [0; 16])
-}
+use super::assert_at;
+use super::plan_rows::Row;
+use num_modular::plans::splits;
 
 // How many entries, how many factors, the block, how many entries the last blocks have, and whether that splits.
 const LISTS: &[(usize, usize, usize, usize, bool)] = &[
@@ -191,24 +27,26 @@ fn lists_that_split(rt: HostRuntime) {
 }
 
 #[rattlefmt::skip]
-const REMAINDERS_OF_16_BITS: &[Row<u16>] = &[
+pub const REMAINDERS_OF_16_BITS: &[Row<u16>] = &[
     // the whole transform
-    Row { plan: (17, 2, 4), block: (0, 1), list: &[1; 8], want: &[8, 0, 0, 0, 0, 0, 0, 0] },
-    Row { plan: (17, 2, 4), block: (0, 1), list: &[67], want: &[16] },
+    Row { plan: (17, 2, 4), block: (0, 1), lists: (&[1; 8], &[]), want: (&[8, 0, 0, 0, 0, 0, 0, 0], &[]) },
+    Row { plan: (17, 2, 4), block: (0, 1), lists: (&[67], &[]), want: (&[16], &[]) },
     // an even modulus
-    Row { plan: (16384, 16383, 1), block: (0, 1), list: &[65535, 1], want: &[0, 16382] },
+    Row { plan: (16384, 16383, 1), block: (0, 1), lists: (&[65535, 1], &[]), want: (&[0, 16382], &[]) },
 ];
 
 #[rattlefmt::skip]
-const REMAINDERS_OF_32_BITS: &[Row<u32>] = &[
+pub const REMAINDERS_OF_32_BITS: &[Row<u32>] = &[
     // other blocks
-    Row { plan: (17, 3, 8), block: (1, 1), list: &[1, 2, 3, 4, 5, 6, 7, 8], want: &[5, 0, 13, 8, 9, 11, 5, 8] },
-    Row { plan: (17, 3, 8), block: (1, 2), list: &[67, 67, 67, 67, 0, 1, 2, 3], want: &[3, 14, 12, 10, 2, 15, 13, 8] },
-    Row { plan: (17, 3, 8), block: (3, 1), list: &[5, 6, 7, 8], want: &[10, 6, 6, 15] },
+    Row { plan: (17, 3, 8), block: (1, 1), lists: (&[1, 2, 3, 4, 5, 6, 7, 8], &[]),
+        want: (&[5, 0, 13, 8, 9, 11, 5, 8], &[]) },
+    Row { plan: (17, 3, 8), block: (1, 2), lists: (&[67, 67, 67, 67, 0, 1, 2, 3], &[]),
+        want: (&[3, 14, 12, 10, 2, 15, 13, 8], &[]) },
+    Row { plan: (17, 3, 8), block: (3, 1), lists: (&[5, 6, 7, 8], &[]), want: (&[10, 6, 6, 15], &[]) },
     // known primes
-    Row { plan: (3329, 1729, 2), block: (0, 1), list: &[1, 2, 3, 4], want: &[10, 3327, 3198, 127] },
-    Row { plan: (3329, 1729, 2), block: (1, 2), list: &[13315; 4], want: &[1599, 1599, 1728, 1728] },
-    Row { plan: (8380417, 4808194, 2), block: (1, 1), list: &[33521667, 1], want: &[4808193, 3572222] },
+    Row { plan: (3329, 1729, 2), block: (0, 1), lists: (&[1, 2, 3, 4], &[]), want: (&[10, 3327, 3198, 127], &[]) },
+    Row { plan: (3329, 1729, 2), block: (1, 2), lists: (&[13315; 4], &[]), want: (&[1599, 1599, 1728, 1728], &[]) },
+    Row { plan: (8380417, 4808194, 2), block: (1, 1), lists: (&[33521667, 1], &[]), want: (&[4808193, 3572222], &[]) },
 ];
 
 // The greatest prime below 2^62 that leaves 1 modulo 8, and a root of 8 entries.
@@ -217,49 +55,45 @@ const GREATEST: u64 = 4611686018427387817;
 const ROOT_OF_8: u64 = 967200838763692757;
 
 #[rattlefmt::skip]
-const REMAINDERS: &[Row<u64>] = &[
+pub const REMAINDERS: &[Row<u64>] = &[
     // the whole transform
-    Row { plan: (17, 3, 8), block: (0, 1), list: &[1, 2, 3, 4, 5, 6, 7, 8, 9, 10, 11, 12, 13, 14, 15, 16],
-        want: &[0, 9, 7, 11, 2, 12, 6, 16, 8, 13, 4, 3, 15, 14, 5, 10] },
+    Row { plan: (17, 3, 8), block: (0, 1), lists: (&[1, 2, 3, 4, 5, 6, 7, 8, 9, 10, 11, 12, 13, 14, 15, 16], &[]),
+        want: (&[0, 9, 7, 11, 2, 12, 6, 16, 8, 13, 4, 3, 15, 14, 5, 10], &[]) },
     // composite and even moduli
-    Row { plan: (85, 13, 2), block: (0, 1), list: &[1, 2, 3, 4], want: &[10, 83, 57, 24] },
-    Row { plan: (85, 13, 2), block: (1, 1), list: &[339, 338], want: &[58, 25] },
-    Row { plan: (1, 0, 2), block: (0, 1), list: &[3, 2, 1, 0], want: &[0, 0, 0, 0] },
-    Row { plan: (20, 19, 1), block: (0, 1), list: &[79, 78], want: &[17, 1] },
-    Row { plan: (20, 19, 1), block: (0, 3), list: &[1, 2, 3, 4, 5, 6], want: &[5, 7, 9, 17, 17, 17] },
+    Row { plan: (85, 13, 2), block: (0, 1), lists: (&[1, 2, 3, 4], &[]), want: (&[10, 83, 57, 24], &[]) },
+    Row { plan: (85, 13, 2), block: (1, 1), lists: (&[339, 338], &[]), want: (&[58, 25], &[]) },
+    Row { plan: (1, 0, 2), block: (0, 1), lists: (&[3, 2, 1, 0], &[]), want: (&[0, 0, 0, 0], &[]) },
+    Row { plan: (20, 19, 1), block: (0, 1), lists: (&[79, 78], &[]), want: (&[17, 1], &[]) },
+    Row { plan: (20, 19, 1), block: (0, 3), lists: (&[1, 2, 3, 4, 5, 6], &[]), want: (&[5, 7, 9, 17, 17, 17], &[]) },
     // the greatest words
-    Row { plan: (GREATEST, ROOT_OF_8, 4), block: (0, 1), list: &[4 * GREATEST - 1, 1, 2, 3, 4 * GREATEST - 2, 5, 6, 7],
-        want: &[21, 4611686018427387806, 483454483384807165, 4128231535042580630,
-            2391004328710929254, 3187590656486072917, 1424095361941314902, 2220681689716458565] },
-    Row { plan: (GREATEST, ROOT_OF_8, 4), block: (0, 1), list: &[4 * GREATEST - 1; 8],
-        want: &[4611686018427387809, 0, 0, 0, 0, 0, 0, 0] },
+    Row { plan: (GREATEST, ROOT_OF_8, 4), block: (0, 1),
+        lists: (&[4 * GREATEST - 1, 1, 2, 3, 4 * GREATEST - 2, 5, 6, 7], &[]),
+        want: (&[21, 4611686018427387806, 483454483384807165, 4128231535042580630,
+            2391004328710929254, 3187590656486072917, 1424095361941314902, 2220681689716458565], &[]) },
+    Row { plan: (GREATEST, ROOT_OF_8, 4), block: (0, 1), lists: (&[4 * GREATEST - 1; 8], &[]),
+        want: (&[4611686018427387809, 0, 0, 0, 0, 0, 0, 0], &[]) },
 ];
 
-#[test]
-fn remainders(rt: HostRuntime) {
-    let rt = &rt;
-    assert_right(rt, first_wrong_16(&Call::Split, REMAINDERS_OF_16_BITS));
-    assert_right(rt, first_wrong_32(&Call::Split, REMAINDERS_OF_32_BITS));
-    assert_right(rt, first_wrong_64(&Call::Split, REMAINDERS));
-}
-
 #[rattlefmt::skip]
-const JOINS_OF_16_BITS: &[Row<u16>] = &[
+pub const JOINS_OF_16_BITS: &[Row<u16>] = &[
     // blocks of two
-    Row { plan: (17, 3, 8), block: (1, 2), list: &[18, 66, 57, 50, 60, 51, 13, 42], want: &[12, 5, 9, 2, 8, 7, 3, 10] },
-    Row { plan: (17, 3, 8), block: (2, 2), list: &[53, 10, 4, 35], want: &[6, 11, 13, 1] },
+    Row { plan: (17, 3, 8), block: (1, 2), lists: (&[18, 66, 57, 50, 60, 51, 13, 42], &[]),
+        want: (&[12, 5, 9, 2, 8, 7, 3, 10], &[]) },
+    Row { plan: (17, 3, 8), block: (2, 2), lists: (&[53, 10, 4, 35], &[]), want: (&[6, 11, 13, 1], &[]) },
     // an even modulus
-    Row { plan: (16384, 16383, 1), block: (0, 1), list: &[32772, 16378], want: &[16382, 10] },
+    Row { plan: (16384, 16383, 1), block: (0, 1), lists: (&[32772, 16378], &[]), want: (&[16382, 10], &[]) },
 ];
 
 #[rattlefmt::skip]
-const JOINS_OF_32_BITS: &[Row<u32>] = &[
+pub const JOINS_OF_32_BITS: &[Row<u32>] = &[
     // blocks of two
-    Row { plan: (3329, 1729, 2), block: (1, 2), list: &[1859, 260, 1472, 6402], want: &[2, 4, 6, 8] },
+    Row { plan: (3329, 1729, 2), block: (1, 2), lists: (&[1859, 260, 1472, 6402], &[]), want: (&[2, 4, 6, 8], &[]) },
     // known primes
-    Row { plan: (3329, 1729, 2), block: (0, 1), list: &[1016, 5674, 12049, 1231], want: &[3325, 0, 68, 671] },
-    Row { plan: (8380417, 4808194, 2), block: (1, 1), list: &[32223187, 9678896], want: &[8380415, 246912] },
-    Row { plan: (8380417, 4808194, 2), block: (0, 1), list: &[33521667; 4], want: &[8380413, 0, 0, 0] },
+    Row { plan: (3329, 1729, 2), block: (0, 1), lists: (&[1016, 5674, 12049, 1231], &[]),
+        want: (&[3325, 0, 68, 671], &[]) },
+    Row { plan: (8380417, 4808194, 2), block: (1, 1), lists: (&[32223187, 9678896], &[]),
+        want: (&[8380415, 246912], &[]) },
+    Row { plan: (8380417, 4808194, 2), block: (0, 1), lists: (&[33521667; 4], &[]), want: (&[8380413, 0, 0, 0], &[]) },
 ];
 
 // A prime of 60 bits that leaves 1 modulo 2^20, and a root of 16 entries.
@@ -273,93 +107,73 @@ const GREATEST_PRIME: u64 = 4611686018427387847;
 const GREATEST_ODD: u64 = 4611686018427387903;
 
 #[rattlefmt::skip]
-const JOINS: &[Row<u64>] = &[
+pub const JOINS: &[Row<u64>] = &[
     // lengths
-    Row { plan: (17, 3, 8), block: (0, 1), list: &[34, 26, 41, 28, 36, 63, 40, 16, 42, 47, 4, 37, 15, 14, 5, 61],
-        want: &[16, 15, 14, 13, 12, 11, 10, 9, 8, 7, 6, 5, 4, 3, 2, 1] },
-    Row { plan: (17, 3, 8), block: (1, 1), list: &[39, 0, 47, 59, 9, 11, 22, 42], want: &[8, 16, 7, 15, 6, 14, 5, 13] },
-    Row { plan: (17, 3, 8), block: (0, 1), list: &[10, 32, 40, 24], want: &[4, 8, 12, 16] },
-    Row { plan: (17, 3, 8), block: (3, 1), list: &[10, 57, 40, 15], want: &[3, 7, 11, 15] },
-    Row { plan: (17, 3, 8), block: (5, 1), list: &[35, 26], want: &[10, 12] },
-    Row { plan: (17, 3, 8), block: (0, 1), list: &[67], want: &[16] },
+    Row { plan: (17, 3, 8), block: (0, 1), lists: (&[34, 26, 41, 28, 36, 63, 40, 16, 42, 47, 4, 37, 15, 14, 5, 61], &[]),
+        want: (&[16, 15, 14, 13, 12, 11, 10, 9, 8, 7, 6, 5, 4, 3, 2, 1], &[]) },
+    Row { plan: (17, 3, 8), block: (1, 1), lists: (&[39, 0, 47, 59, 9, 11, 22, 42], &[]),
+        want: (&[8, 16, 7, 15, 6, 14, 5, 13], &[]) },
+    Row { plan: (17, 3, 8), block: (0, 1), lists: (&[10, 32, 40, 24], &[]), want: (&[4, 8, 12, 16], &[]) },
+    Row { plan: (17, 3, 8), block: (3, 1), lists: (&[10, 57, 40, 15], &[]), want: (&[3, 7, 11, 15], &[]) },
+    Row { plan: (17, 3, 8), block: (5, 1), lists: (&[35, 26], &[]), want: (&[10, 12], &[]) },
+    Row { plan: (17, 3, 8), block: (0, 1), lists: (&[67], &[]), want: (&[16], &[]) },
     // composite and even moduli
-    Row { plan: (85, 13, 2), block: (0, 1), list: &[265, 83, 57, 279], want: &[4, 8, 12, 16] },
-    Row { plan: (85, 13, 2), block: (1, 1), list: &[256, 159], want: &[75, 14] },
-    Row { plan: (1, 0, 2), block: (0, 1), list: &[2, 3, 3, 0], want: &[0, 0, 0, 0] },
-    Row { plan: (20, 19, 1), block: (0, 1), list: &[76, 78], want: &[14, 18] },
-    Row { plan: (20, 19, 1), block: (0, 3), list: &[5, 47, 29, 37, 37, 17], want: &[2, 4, 6, 8, 10, 12] },
+    Row { plan: (85, 13, 2), block: (0, 1), lists: (&[265, 83, 57, 279], &[]), want: (&[4, 8, 12, 16], &[]) },
+    Row { plan: (85, 13, 2), block: (1, 1), lists: (&[256, 159], &[]), want: (&[75, 14], &[]) },
+    Row { plan: (1, 0, 2), block: (0, 1), lists: (&[2, 3, 3, 0], &[]), want: (&[0, 0, 0, 0], &[]) },
+    Row { plan: (20, 19, 1), block: (0, 1), lists: (&[76, 78], &[]), want: (&[14, 18], &[]) },
+    Row { plan: (20, 19, 1), block: (0, 3), lists: (&[5, 47, 29, 37, 37, 17], &[]),
+        want: (&[2, 4, 6, 8, 10, 12], &[]) },
     // the greatest words
-    Row { plan: (LONG, ROOT, 8), block: (1, 1), list: &[3113715719171352145, 4486075704425402414, 4280052375847272960,
-            558455076247744408, 3523324952369542334, 3029229909670686326, 1214753261350237193, 2852823092467499208],
-        want: &[8, 16, 24, 32, 40, 48, 56, LONG - 8] },
-    Row { plan: (LONG, ROOT, 8), block: (0, 1), list: &[4 * LONG - 1; 16],
-        want: &[LONG - 16, 0, 0, 0, 0, 0, 0, 0, 0, 0, 0, 0, 0, 0, 0, 0] },
+    Row { plan: (LONG, ROOT, 8), block: (1, 1), lists: (&[3113715719171352145, 4486075704425402414, 4280052375847272960,
+            558455076247744408, 3523324952369542334, 3029229909670686326, 1214753261350237193, 2852823092467499208], &[]),
+        want: (&[8, 16, 24, 32, 40, 48, 56, LONG - 8], &[]) },
+    Row { plan: (LONG, ROOT, 8), block: (0, 1), lists: (&[4 * LONG - 1; 16], &[]),
+        want: (&[LONG - 16, 0, 0, 0, 0, 0, 0, 0, 0, 0, 0, 0, 0, 0, 0, 0], &[]) },
     Row { plan: (GREATEST_PRIME, GREATEST_PRIME - 1, 1), block: (0, 1),
-        list: &[13835058055405620329, 13835058055158706751], want: &[GREATEST_PRIME - 2, 246913578] },
+        lists: (&[13835058055405620329, 13835058055158706751], &[]), want: (&[GREATEST_PRIME - 2, 246913578], &[]) },
     Row { plan: (GREATEST_ODD, GREATEST_ODD - 1, 1), block: (0, 1),
-        list: &[13835058055405620497, 4611686018303931113], want: &[GREATEST_ODD - 2, 246913578] },
+        lists: (&[13835058055405620497, 4611686018303931113], &[]), want: (&[GREATEST_ODD - 2, 246913578], &[]) },
 ];
 
-#[test]
-fn joins(rt: HostRuntime) {
-    let rt = &rt;
-    assert_right(rt, first_wrong_16(&Call::Join, JOINS_OF_16_BITS));
-    assert_right(rt, first_wrong_32(&Call::Join, JOINS_OF_32_BITS));
-    assert_right(rt, first_wrong_64(&Call::Join, JOINS));
-}
-
+// The factor is 15, and then 0.
 #[rattlefmt::skip]
-const TIMES_15: &[Row<u64>] = &[
-    Row { plan: (17, 3, 8), block: (1, 1), list: &[39, 0, 47, 59, 9, 11, 22, 42], want: &[1, 2, 3, 4, 5, 6, 7, 8] },
+pub const TIMES_15: &[Row<u64>] = &[
+    Row { plan: (17, 3, 8), block: (1, 1), lists: (&[39, 0, 47, 59, 9, 11, 22, 42], &[]),
+        want: (&[1, 2, 3, 4, 5, 6, 7, 8], &[]) },
 ];
 
 #[rattlefmt::skip]
-const TIMES_0: &[Row<u64>] = &[
-    Row { plan: (17, 3, 8), block: (1, 1), list: &[39, 0, 47, 59, 9, 11, 22, 42], want: &[0; 8] },
-];
-
-#[test]
-fn scaled(rt: HostRuntime) {
-    let rt = &rt;
-    assert_right(rt, first_wrong_64(&Call::Scaled(15), TIMES_15));
-    assert_right(rt, first_wrong_64(&Call::Scaled(0), TIMES_0));
-}
-
-#[rattlefmt::skip]
-const TRANSFORMS_OF_16_BITS: &[Row<u16>] = &[
-    Row { plan: (17, 4, 2), block: (0, 1), list: &[1, 2, 3, 4], want: &[10, 7, 15, 6] },
-    Row { plan: (85, 13, 2), block: (0, 1), list: &[1, 2, 3, 4], want: &[10, 57, 83, 24] },
+pub const TIMES_0: &[Row<u64>] = &[
+    Row { plan: (17, 3, 8), block: (1, 1), lists: (&[39, 0, 47, 59, 9, 11, 22, 42], &[]), want: (&[0; 8], &[]) },
 ];
 
 #[rattlefmt::skip]
-const TRANSFORMS_OF_32_BITS: &[Row<u32>] = &[
+pub const TRANSFORMS_OF_16_BITS: &[Row<u16>] = &[
+    Row { plan: (17, 4, 2), block: (0, 1), lists: (&[1, 2, 3, 4], &[]), want: (&[10, 7, 15, 6], &[]) },
+    Row { plan: (85, 13, 2), block: (0, 1), lists: (&[1, 2, 3, 4], &[]), want: (&[10, 57, 83, 24], &[]) },
+];
+
+#[rattlefmt::skip]
+pub const TRANSFORMS_OF_32_BITS: &[Row<u32>] = &[
     // whole plans
-    Row { plan: (20, 19, 1), block: (0, 1), list: &[79, 78], want: &[17, 1] },
+    Row { plan: (20, 19, 1), block: (0, 1), lists: (&[79, 78], &[]), want: (&[17, 1], &[]) },
     // longer plans
-    Row { plan: (17, 3, 8), block: (0, 1), list: &[1, 2, 3, 4, 5, 6, 7, 8], want: &[2, 1, 12, 3, 13, 6, 14, 8] },
-    Row { plan: (17, 3, 8), block: (0, 1), list: &[67, 1], want: &[0, 15] },
-    Row { plan: (17, 3, 8), block: (0, 1), list: &[67], want: &[16] },
+    Row { plan: (17, 3, 8), block: (0, 1), lists: (&[1, 2, 3, 4, 5, 6, 7, 8], &[]),
+        want: (&[2, 1, 12, 3, 13, 6, 14, 8], &[]) },
+    Row { plan: (17, 3, 8), block: (0, 1), lists: (&[67, 1], &[]), want: (&[0, 15], &[]) },
+    Row { plan: (17, 3, 8), block: (0, 1), lists: (&[67], &[]), want: (&[16], &[]) },
 ];
 
 #[rattlefmt::skip]
-const TRANSFORMS: &[Row<u64>] = &[
-    Row { plan: (17, 3, 8), block: (0, 1), list: &[1, 2, 3, 4, 5, 6, 7, 8, 9, 10, 11, 12, 13, 14, 15, 16],
-        want: &[0, 8, 2, 15, 7, 4, 6, 5, 9, 13, 12, 14, 11, 3, 16, 10] },
+pub const TRANSFORMS: &[Row<u64>] = &[
+    Row { plan: (17, 3, 8), block: (0, 1), lists: (&[1, 2, 3, 4, 5, 6, 7, 8, 9, 10, 11, 12, 13, 14, 15, 16], &[]),
+        want: (&[0, 8, 2, 15, 7, 4, 6, 5, 9, 13, 12, 14, 11, 3, 16, 10], &[]) },
 ];
 
 // Lists whose lengths aren't powers of two.
 #[rattlefmt::skip]
-const OTHER_LENGTHS: [Row<u32>; 2] = [
-    Row { plan: (17, 3, 8), block: (0, 1), list: &[], want: &[] },
-    Row { plan: (17, 3, 8), block: (0, 1), list: &[1, 2, 3], want: &[] },
+pub const OTHER_LENGTHS: &[Row<u32>] = &[
+    Row { plan: (17, 3, 8), block: (0, 1), lists: (&[], &[]), want: (&[], &[]) },
+    Row { plan: (17, 3, 8), block: (0, 1), lists: (&[1, 2, 3], &[]), want: (&[1, 2, 3], &[]) },
 ];
-
-#[test]
-fn natural_order(rt: HostRuntime) {
-    let rt = &rt;
-    assert_right(rt, first_wrong_16(&Call::InOrder, TRANSFORMS_OF_16_BITS));
-    assert_right(rt, first_wrong_32(&Call::InOrder, TRANSFORMS_OF_32_BITS));
-    assert_right(rt, first_wrong_64(&Call::InOrder, TRANSFORMS));
-    check!(rt, 1; first_wrong_32(&Call::InOrder, &OTHER_LENGTHS[..1]) == Some(0));
-    check!(rt, 2; first_wrong_32(&Call::InOrder, &OTHER_LENGTHS[1..]) == Some(0));
-}

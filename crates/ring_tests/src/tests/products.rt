@@ -1,155 +1,8 @@
 //! Known products of polynomials, by plans.
 
-ghost use Rattle.std.specs.Prelude.{◌*◌, ◌<◌, ◌↔◌, IsTrue, All};
-ghost use Rattle.num_modular.specs.Factors.{IsFactorOf};
-
-use super::plans::{all_in_room, are_same, is_planned};
-use super::{assert_at, assert_right};
-use modular_prim::plain_word::PlainWord;
-use modular_word::path_word::PathWord;
-use num_modular::plans::{
-    Factor, PlannedModulus, convolve_block, convolve_negacyclic, convolve_planned, convolves,
-    multiply,
-};
-
-// What is multiplied: the blocks of two lists, or the lists.
-enum Call {
-    Multiply,
-    Convolve,
-}
-
-// A row: the modulus, a root and how many factors the plan by the root has; the block and how many entries
-// the last blocks have; two lists, and what a call makes of them.
-struct Row<'a, T> {
-    plan: (T, T, usize),
-    block: (usize, usize),
-    lists: (&'a [T], &'a [T]),
-    want: (&'a [T], &'a [T]),
-}
-
-// Whether each entry is below m.
-fn all_below<T: PlainWord>(m: &PlannedModulus<T>, xs: &[T]) -> bool
-    ensures { IsTrue result ↔ All (λ x. T.number x < T.number m.now.modulus) xs.now }
-{
-    xs.iter().all(|x| x.is_below(m.modulus))
-}
-
-// The call for block b, where its conditions hold: products as the blocks 0 and 1 have their own.
-fn called<T: PlainWord>(
-    m: &PlannedModulus<T>,
-    call: &Call,
-    block: (usize, usize),
-    xs: &mut [T],
-    ys: &mut [T],
-    table: &[Factor<T>],
-) -> Option<bool>
-    requires { All (IsFactorOf T.base T.number (T.number m.now.modulus)) table.now }
-{
-    let (b, last) = block;
-    if xs.len() != ys.len() {
-        return None;
-    }
-    if !convolves(xs.len(), table.len(), b, last) {
-        return None;
-    }
-    if let Call::Multiply = call {
-        if !all_below(m, xs) {
-            return None;
-        }
-        multiply(m, xs, ys, table, b, last);
-        return Some(true);
-    }
-    if !all_in_room(m, xs) {
-        return None;
-    }
-    if !all_in_room(m, ys) {
-        return None;
-    }
-    if b == 0 {
-        Some(convolve_planned(m, xs, ys, table, last))
-    } else if b == 1 {
-        Some(convolve_negacyclic(m, xs, ys, table, last))
-    } else {
-        Some(convolve_block(m, xs, ys, table, b, last))
-    }
-}
-
-// What the call returns, where the lists are then as the row has them, with room for a table and two lists.
-fn ended<T: PlainWord>(
-    call: &Call,
-    row: &Row<T>,
-    table: &mut [Factor<T>],
-    first: &mut [T],
-    second: &mut [T],
-) -> Option<bool> {
-    let (modulus, g, factors) = row.plan;
-    let ((left, right), want) = (row.lists, row.want);
-    let (n, others) = (left.len(), right.len());
-    if !PlannedModulus::admits(modulus)
-        || n > first.len()
-        || others > second.len()
-        || factors > table.len()
-    {
-        return None;
-    }
-    let m = PlannedModulus::new(modulus);
-    let (xs, ys, table) = (
-        &mut first[..n],
-        &mut second[..others],
-        &mut table[..factors],
-    );
-    xs.copy_from_slice(left);
-    ys.copy_from_slice(right);
-    if !is_planned(&m, g, table) {
-        return None;
-    }
-    let done = called(&m, call, row.block, xs, ys, table);
-    if are_same(xs, want.0) && are_same(ys, want.1) {
-        done
-    } else {
-        None
-    }
-}
-
-// The place of the first row that the call doesn't give.
-fn first_wrong<T: PlainWord>(
-    call: &Call,
-    rows: &[Row<T>],
-    table: &mut [Factor<T>],
-    rooms: (&mut [T], &mut [T]),
-) -> Option<usize> {
-    let (first, second) = rooms;
-    for i in 0..rows.len() {
-        if ended(call, &rows[i], table, first, second) != Some(true) {
-            return Some(i);
-        }
-    }
-    None
-}
-
-fn first_wrong_16(call: &Call, rows: &[Row<u16>]) -> Option<usize> {
-    let mut table = [Factor::<u16> {
-        value: 0,
-        quotient: 0,
-    }; 8];
-    first_wrong(call, rows, &mut table, (&mut [0; 16], &mut [0; 16]))
-}
-
-fn first_wrong_32(call: &Call, rows: &[Row<u32>]) -> Option<usize> {
-    let mut table = [Factor::<u32> {
-        value: 0,
-        quotient: 0,
-    }; 8];
-    first_wrong(call, rows, &mut table, (&mut [0; 16], &mut [0; 16]))
-}
-
-fn first_wrong_64(call: &Call, rows: &[Row<u64>]) -> Option<usize> {
-    let mut table = [Factor::<u64> {
-        value: 0,
-        quotient: 0,
-    }; 8];
-    first_wrong(call, rows, &mut table, (&mut [0; 16], &mut [0; 16]))
-}
+use super::assert_at;
+use super::plan_rows::Row;
+use num_modular::plans::convolves;
 
 // How many entries, how many factors, the block, how many entries the last blocks have, and whether there is a product.
 const LISTS: &[(usize, usize, usize, usize, bool)] = &[
@@ -173,7 +26,7 @@ fn lists_that_convolve(rt: HostRuntime) {
 }
 
 #[rattlefmt::skip]
-const BLOCKS_OF_TWO: &[Row<u64>] = &[
+pub const BLOCKS_OF_TWO: &[Row<u64>] = &[
     Row { plan: (17, 3, 8), block: (1, 2), lists: (&[1, 2, 3, 4], &[5, 6, 7, 8]),
         want: (&[8, 16, 13, 1], &[5, 6, 7, 8]) },
     Row { plan: (17, 3, 8), block: (1, 2), lists: (&[16, 16, 16, 16], &[16, 16, 16, 16]),
@@ -182,13 +35,8 @@ const BLOCKS_OF_TWO: &[Row<u64>] = &[
         want: (&[14, 2, 5, 2], &[18446744073709551614; 4]) },
 ];
 
-#[test]
-fn blocks_of_two(rt: HostRuntime) {
-    assert_right(&rt, first_wrong_64(&Call::Multiply, BLOCKS_OF_TWO));
-}
-
 #[rattlefmt::skip]
-const PRODUCTS_OF_16_BITS: &[Row<u16>] = &[
+pub const PRODUCTS_OF_16_BITS: &[Row<u16>] = &[
     // other blocks
     Row { plan: (17, 3, 8), block: (2, 2), lists: (&[20, 14, 15, 43], &[2, 24, 1, 59]),
         want: (&[11, 9, 13, 8], &[11, 11, 10, 3]) },
@@ -205,7 +53,7 @@ const PRODUCTS_OF_16_BITS: &[Row<u16>] = &[
 ];
 
 #[rattlefmt::skip]
-const PRODUCTS_OF_32_BITS: &[Row<u32>] = &[
+pub const PRODUCTS_OF_32_BITS: &[Row<u32>] = &[
     // negacyclic
     Row { plan: (17, 3, 8), block: (1, 1), lists: (&[1, 53, 3, 55], &[0, 35, 51, 51]),
         want: (&[13, 1, 2, 3], &[9, 8, 15, 2]) },
@@ -225,7 +73,7 @@ const PRODUCTS_OF_32_BITS: &[Row<u32>] = &[
 ];
 
 #[rattlefmt::skip]
-const PRODUCTS: &[Row<u64>] = &[
+pub const PRODUCTS: &[Row<u64>] = &[
     // cyclic
     Row { plan: (17, 3, 8), block: (0, 1), lists: (&[35, 2, 3, 38], &[0, 1, 17, 17]),
         want: (&[4, 1, 2, 3], &[1, 16, 13, 4]) },
@@ -268,32 +116,8 @@ const PRODUCTS: &[Row<u64>] = &[
         lists: (&[18446744073709551611; 2], &[18446744073709551611; 2]), want: (&[2, 2], &[4611686018427387901, 0]) },
 ];
 
-#[test]
-fn products(rt: HostRuntime) {
-    let rt = &rt;
-    assert_right(rt, first_wrong_16(&Call::Convolve, PRODUCTS_OF_16_BITS));
-    assert_right(rt, first_wrong_32(&Call::Convolve, PRODUCTS_OF_32_BITS));
-    assert_right(rt, first_wrong_64(&Call::Convolve, PRODUCTS));
-}
-
 // Two blocks, which 2 divides modulo no even number.
 #[rattlefmt::skip]
-const REFUSED: Row<u64> =
-    Row { plan: (20, 19, 1), block: (0, 1), lists: (&[47, 9], &[1, 20]), want: (&[47, 9], &[1, 20]) };
-
-#[test]
-fn refused_products(rt: HostRuntime) {
-    let mut table = [Factor::<u64> {
-        value: 0,
-        quotient: 0,
-    }; 1];
-    let (mut first, mut second) = ([0; 2], [0; 2]);
-    let found = ended(
-        &Call::Convolve,
-        &REFUSED,
-        &mut table,
-        &mut first,
-        &mut second,
-    );
-    check!(&rt, 1; found == Some(false));
-}
+pub const REFUSED: &[Row<u64>] = &[
+    Row { plan: (20, 19, 1), block: (0, 1), lists: (&[47, 9], &[1, 20]), want: (&[47, 9], &[1, 20]) },
+];

@@ -15,6 +15,7 @@ mod fixed;
 mod hostile;
 mod integers;
 mod plan_callers;
+mod plan_rows;
 mod plans;
 mod products;
 mod reducers;

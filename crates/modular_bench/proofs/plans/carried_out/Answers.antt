@@ -1,6 +1,5 @@
 use Rattle.std.proofs.Common.{◌<◌, All, sym, ◌∙◌}
-use Rattle.modular_bench.proofs.PlanLists.{roomy, whole_alone, count_alone, count_same, split_within, half_within}
-use Rattle.modular_bench.proofs.PlanLists.{product_within, lists_kept}
+use Rattle.modular_bench.proofs.PlanLists.{roomy, count_same, half_within, blocks_alone, small_blocks_alone, lists_kept}
 use Rattle.modular_bench.proofs.plans.carried_out.Goals as goal
 use Rattle.modular_bench.proofs.plans.carried_out.Goals.{in-0, in-1, in-2, in-3, in_default}
 
@@ -13,14 +12,8 @@ split-requires-clause-entries g c = roomy g.T.RingWord.number _ c.turns.invarian
 pub split-requires-clause-factors : goal.split-requires-clause-factors
 split-requires-clause-factors g c = c.requires.factors
 
-pub split-requires-clause-count : goal.split-requires-clause-count
-split-requires-clause-count g c = count_alone c.turns.auto.xs c.requires.count
-
-pub split-requires-clause-whole : goal.split-requires-clause-whole
-split-requires-clause-whole g c = whole_alone _
-
-pub split-requires-clause-within : goal.split-requires-clause-within
-split-requires-clause-within g c = split_within c.turns.auto.xs c.requires.within
+pub split-requires-clause-blocks : goal.split-requires-clause-blocks
+split-requires-clause-blocks g c = blocks_alone c.turns.auto.xs c.requires.count c.requires.within
 
 pub join_scaled-requires-clause-entries : goal.join_scaled-requires-clause-entries
 join_scaled-requires-clause-entries g c = roomy g.T.RingWord.number _ c.turns.invariant.entries_xs
@@ -28,14 +21,8 @@ join_scaled-requires-clause-entries g c = roomy g.T.RingWord.number _ c.turns.in
 pub join_scaled-requires-clause-factors : goal.join_scaled-requires-clause-factors
 join_scaled-requires-clause-factors g c = c.requires.factors
 
-pub join_scaled-requires-clause-count : goal.join_scaled-requires-clause-count
-join_scaled-requires-clause-count g c = count_alone c.turns.auto.xs c.requires.count
-
-pub join_scaled-requires-clause-whole : goal.join_scaled-requires-clause-whole
-join_scaled-requires-clause-whole g c = whole_alone _
-
-pub join_scaled-requires-clause-within : goal.join_scaled-requires-clause-within
-join_scaled-requires-clause-within g c = split_within c.turns.auto.xs c.requires.within
+pub join_scaled-requires-clause-blocks : goal.join_scaled-requires-clause-blocks
+join_scaled-requires-clause-blocks g c = blocks_alone c.turns.auto.xs c.requires.count c.requires.within
 
 pub join_scaled-requires-clause-factor : goal.join_scaled-requires-clause-factor
 join_scaled-requires-clause-factor g c = c.factor-one.ensures.factor
@@ -64,14 +51,8 @@ convolve_planned-requires-clause-equal g c = c.turns.auto.ys ∙ c.requires.equa
 pub convolve_planned-requires-clause-factors : goal.convolve_planned-requires-clause-factors
 convolve_planned-requires-clause-factors g c = c.requires.factors
 
-pub convolve_planned-requires-clause-count : goal.convolve_planned-requires-clause-count
-convolve_planned-requires-clause-count g c = count_alone c.turns.auto.xs c.requires.count
-
-pub convolve_planned-requires-clause-whole : goal.convolve_planned-requires-clause-whole
-convolve_planned-requires-clause-whole g c = whole_alone _
-
-pub convolve_planned-requires-clause-within : goal.convolve_planned-requires-clause-within
-convolve_planned-requires-clause-within g c = product_within _ c.turns.auto.xs c.requires.within
+pub convolve_planned-requires-clause-blocks : goal.convolve_planned-requires-clause-blocks
+convolve_planned-requires-clause-blocks g c = small_blocks_alone c.turns.auto.xs c.requires.count c.requires.within
 
 pub turns-preserved : goal.turns-preserved
 turns-preserved g c =

@@ -8,10 +8,10 @@ use Rattle.modular_plan_stages.proofs.split.split_stages.Goals as goal
 pub stages-init : goal.stages-init
 stages-init g c =
     let count = length c.args.xs.now / c.args.last in
-    let e = power_by_zeros count c.requires.count (omega arith) in
+    let e = power_by_zeros count c.requires.blocks.count (omega arith) in
     let scaled = ap (λ v. v * c.args.last) e in
     record {
-      sized = sym c.requires.whole ∙ scaled;
+      sized = sym c.requires.blocks.whole ∙ scaled;
       counted = omega (arith, e);
       entries = all_wider g.T.RingWord.number c.args.xs.now (g.met.M.SplitSteps.room c.args.m.now) c.requires.entries;
       first = λ one. c.requires.entries;
@@ -22,15 +22,15 @@ pub overflow_mul-b : goal.overflow_mul-b
 overflow_mul-b g c =
     let before = c.stages.invariant in
     let sizes = two_sizes c.stages.size c.args.last c.stages.blocks c.stages.left (length c.args.xs.now)
-    c.requires.some c.requires.count c.requires.whole (omega arith) before.sized before.counted in
-    let enough = two_rooms c.args.b (length c.args.table.now) sizes c.requires.within in
+    c.requires.blocks.some c.requires.blocks.count c.requires.blocks.whole (omega arith) before.sized before.counted in
+    let enough = two_rooms c.args.b (length c.args.table.now) sizes c.requires.blocks.within in
     omega (arith, enough)
 
 pub split_pass-requires : goal.split_pass-requires
 split_pass-requires g c =
     let before = c.stages.invariant in
     let sizes = two_sizes c.stages.size c.args.last c.stages.blocks c.stages.left (length c.args.xs.now)
-    c.requires.some c.requires.count c.requires.whole (omega arith) before.sized before.counted in
+    c.requires.blocks.some c.requires.blocks.count c.requires.blocks.whole (omega arith) before.sized before.counted in
     let whole = sizes.whole in
     let same = c.stages.auto.xs in
     record {
@@ -38,7 +38,7 @@ split_pass-requires g c =
         entries = before.entries;
         factors = c.requires.factors;
         whole = omega (arith, whole, same);
-        within = two_rooms c.args.b (length c.args.table.now) sizes c.requires.within;
+        within = two_rooms c.args.b (length c.args.table.now) sizes c.requires.blocks.within;
         some = sizes.some;
       };
       first_entries = before.first;
@@ -48,7 +48,7 @@ pub overflow_mul-blocks : goal.overflow_mul-blocks
 overflow_mul-blocks g c =
     let before = c.stages.invariant in
     let sizes = two_sizes c.stages.size c.args.last c.stages.blocks c.stages.left (length c.args.xs.now)
-    c.requires.some c.requires.count c.requires.whole (omega arith) before.sized before.counted in
+    c.requires.blocks.some c.requires.blocks.count c.requires.blocks.whole (omega arith) before.sized before.counted in
     let fit = four_fit sizes in
     omega (arith, fit)
 
@@ -56,7 +56,7 @@ pub stages-preserved-then-left-eq0 : goal.stages-preserved-then-left-eq0
 stages-preserved-then-left-eq0 g c =
     let before = c.stages.invariant in
     let sizes = two_sizes c.stages.size c.args.last c.stages.blocks c.stages.left (length c.args.xs.now)
-    c.requires.some c.requires.count c.requires.whole (omega arith) before.sized before.counted in
+    c.requires.blocks.some c.requires.blocks.count c.requires.blocks.whole (omega arith) before.sized before.counted in
     let more = sizes.more in
     let left : sizes.left ≡ c.stages.left - 2 = omega (arith, more) in
     let power = ap (λ k. 2 ^ k) left in
@@ -69,23 +69,23 @@ stages-preserved-then-left-eq0 g c =
           λ r z plan.
           level_after_two r z c.args.b c.stages.blocks c.stages.size c.args.last c.stages.left
           (length c.args.xs.now / c.args.last) (length c.args.xs.now) (length c.args.table.now) _ _ _ _ sizes
-          c.requires.within plan (before.level r z plan) c.split_pass.ensures.done;
+          c.requires.blocks.within plan (before.level r z plan) c.split_pass.ensures.done;
     }
 
 pub overflow_mul-b-else-left-eq0 : goal.overflow_mul-b-else-left-eq0
 overflow_mul-b-else-left-eq0 g c =
     let before = c.stages.invariant in
-    let sizes = sizes_of c.stages.size c.args.last c.stages.blocks c.stages.left (length c.args.xs.now) c.requires.some
-    c.requires.count c.requires.whole (larger c.stages.size c.args.last c.stages.left c.requires.some
+    let sizes = sizes_of c.stages.size c.args.last c.stages.blocks c.stages.left (length c.args.xs.now) c.requires.blocks.some
+    c.requires.blocks.count c.requires.blocks.whole (larger c.stages.size c.args.last c.stages.left c.requires.blocks.some
     (omega arith) before.sized) before.sized before.counted in
-    let enough = table_room c.args.b (length c.args.table.now) sizes c.requires.within in
+    let enough = table_room c.args.b (length c.args.table.now) sizes c.requires.blocks.within in
     omega (arith, enough)
 
 pub split_stage-requires : goal.split_stage-requires
 split_stage-requires g c =
     let before = c.stages.invariant in
-    let sizes = sizes_of c.stages.size c.args.last c.stages.blocks c.stages.left (length c.args.xs.now) c.requires.some
-    c.requires.count c.requires.whole (larger c.stages.size c.args.last c.stages.left c.requires.some
+    let sizes = sizes_of c.stages.size c.args.last c.stages.blocks c.stages.left (length c.args.xs.now) c.requires.blocks.some
+    c.requires.blocks.count c.requires.blocks.whole (larger c.stages.size c.args.last c.stages.left c.requires.blocks.some
     (omega arith) before.sized) before.sized before.counted in
     let whole = sizes.whole in
     let same = c.stages.auto.xs in
@@ -93,15 +93,15 @@ split_stage-requires g c =
       entries = before.entries;
       factors = c.requires.factors;
       whole = omega (arith, whole, same);
-      within = table_room c.args.b (length c.args.table.now) sizes c.requires.within;
+      within = table_room c.args.b (length c.args.table.now) sizes c.requires.blocks.within;
       some = sizes.some;
     }
 
 pub overflow_mul-blocks-else-left-eq0 : goal.overflow_mul-blocks-else-left-eq0
 overflow_mul-blocks-else-left-eq0 g c =
     let before = c.stages.invariant in
-    let sizes = sizes_of c.stages.size c.args.last c.stages.blocks c.stages.left (length c.args.xs.now) c.requires.some
-    c.requires.count c.requires.whole (larger c.stages.size c.args.last c.stages.left c.requires.some
+    let sizes = sizes_of c.stages.size c.args.last c.stages.blocks c.stages.left (length c.args.xs.now) c.requires.blocks.some
+    c.requires.blocks.count c.requires.blocks.whole (larger c.stages.size c.args.last c.stages.left c.requires.blocks.some
     (omega arith) before.sized) before.sized before.counted in
     let fit = twice_fits sizes in
     omega (arith, fit)
@@ -109,8 +109,8 @@ overflow_mul-blocks-else-left-eq0 g c =
 pub stages-preserved : goal.stages-preserved
 stages-preserved g c =
     let before = c.stages.invariant in
-    let sizes = sizes_of c.stages.size c.args.last c.stages.blocks c.stages.left (length c.args.xs.now) c.requires.some
-    c.requires.count c.requires.whole (larger c.stages.size c.args.last c.stages.left c.requires.some
+    let sizes = sizes_of c.stages.size c.args.last c.stages.blocks c.stages.left (length c.args.xs.now) c.requires.blocks.some
+    c.requires.blocks.count c.requires.blocks.whole (larger c.stages.size c.args.last c.stages.left c.requires.blocks.some
     (omega arith) before.sized) before.sized before.counted in
     let more = sizes.more in
     let left : sizes.left ≡ c.stages.left - 1 = omega (arith, more) in
@@ -124,7 +124,7 @@ stages-preserved g c =
           λ r z plan.
           level_next r z c.args.b c.stages.blocks c.stages.size c.args.last c.stages.left
           (length c.args.xs.now / c.args.last) (length c.args.xs.now) (length c.args.table.now) _ _ _ _ sizes
-          c.requires.within plan (before.level r z plan) c.split_stage.ensures.done;
+          c.requires.blocks.within plan (before.level r z plan) c.split_stage.ensures.done;
     }
 
 pub returns : goal.returns

@@ -1,39 +1,30 @@
 use Rattle.std.proofs.Common.{◌≡◌, ℕ, ◌+◌, ◌*◌, ◌/◌, ◌%◌, ◌≤◌, length, refl, sym, ap, arith, subst}
-use Rattle.std.specs.Int.{IsPowerOfTwo}
 use Rattle.std.proofs.lemmas.Bool.{false≢true}
 use Rattle.modular_word.specs.Congruence.{Congruent}
 use Rattle.modular_word.proofs.Congruence.{of_equal, chained, turned, multiplied, residue_of}
 use Rattle.modular_transform.proofs.ConvolveLemmas.{inverse_along}
 use Rattle.modular_plan.specs.Plans.{numbers, AreRemainders}
+use Rattle.modular_plan_stages.specs.Conditions.{AreBlocks}
 use Rattle.modular_plan_transforms.specs.Conditions.{AreSmallBlocks}
 use Rattle.modular_plan_transforms.specs.Products.{AreProducts}
-use Rattle.modular_plan_transforms.proofs.Convolutions.{half_room, joined_product}
+use Rattle.modular_plan_transforms.proofs.Convolutions.{blocks_of, joined_product}
 use Rattle.modular_plan_transforms.proofs.convolution.convolve_block.Goals as goal
 
 pub split_first-requires : goal.split_first-requires
 split_first-requires g c = record {
   entries = c.requires.entries_xs;
   factors = c.requires.factors;
-  blocks = record {
-    some = c.requires.some;
-    count = c.requires.count;
-    whole = c.requires.whole;
-    within = half_room c.args.b (length c.args.xs.now / c.args.last) (length c.args.table.now) c.requires.within;
-  };
+  blocks = blocks_of c.requires.blocks;
 }
 
 pub split-requires : goal.split-requires
 split-requires g c =
     let same : length c.args.xs.now ≡ length c.args.ys.now = omega arith in
-    let last = c.args.last in
     record {
       entries = c.requires.entries_ys;
       factors = c.requires.factors;
-      some = c.requires.some;
-      count = subst (λ n. IsPowerOfTwo (n / last)) same c.requires.count;
-      whole = subst (λ n. n / last * last ≡ n) same c.requires.whole;
-      within = subst (λ n. (c.args.b + 1) * (n / last / 2) ≤ length c.args.table.now) same
-          (half_room c.args.b (length c.args.xs.now / last) (length c.args.table.now) c.requires.within);
+      blocks = subst (λ n. AreBlocks n (length c.args.table.now) c.args.b c.args.last) same
+          (blocks_of c.requires.blocks);
     }
 
 pub join_products-requires : goal.join_products-requires
@@ -44,14 +35,7 @@ join_products-requires g c =
       other_below = c.split.ensures.below;
       equal = omega arith;
       factors = c.requires.factors;
-      blocks = subst (λ n. AreSmallBlocks n (length c.args.table.now) c.args.b c.args.last) same
-          (record {
-            some = c.requires.some;
-            few = c.requires.few;
-            count = c.requires.count;
-            whole = c.requires.whole;
-            within = c.requires.within;
-          });
+      blocks = subst (λ n. AreSmallBlocks n (length c.args.table.now) c.args.b c.args.last) same c.requires.blocks;
       factor = c.factor-part.ensures.factor;
     }
 
@@ -81,7 +65,7 @@ returns-in-Some g c =
           (numbers n xs) (numbers n c.args.ys.now)
           (numbers n c.split_first.new.xs) (numbers n c.split.new.xs) joined.0
           (numbers n c.join_products.new.xs)
-          c.requires.count c.requires.whole c.requires.within plan part
+          c.requires.blocks.count c.requires.blocks.whole c.requires.blocks.within plan part
           (c.split_first.ensures.remainders root z plan)
           (subst (λ k. AreRemainders m root z b k last (numbers n c.args.ys.now) (numbers n c.split.new.xs))
           (size_is (length c.args.ys.now) (omega arith)) (c.split.ensures.remainders root z plan))

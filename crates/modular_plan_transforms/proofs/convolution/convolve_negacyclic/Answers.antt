@@ -6,24 +6,19 @@ use Rattle.modular_plan_transforms.proofs.convolution.convolve_negacyclic.Goals 
 pub convolve_block-requires : goal.convolve_block-requires
 convolve_block-requires g c =
     let given = c.requires in
-    let within = given.within in
     record {
       entries_xs = given.entries_xs;
       entries_ys = given.entries_ys;
       equal = given.equal;
       factors = given.factors;
-      some = given.some;
-      few = given.few;
-      count = given.count;
-      whole = given.whole;
-      within = omega (arith, within);
+      blocks = given.blocks;
     }
 
 pub returns : goal.returns
 returns g c =
-    let e = c.requires.count.1 in
-    let p = pow_pos c.requires.count.0 in
-    let within = c.requires.within in
+    let e = c.requires.blocks.count.1 in
+    let p = pow_pos c.requires.blocks.count.0 in
+    let within = c.requires.blocks.within in
     let are = c.convolve_block.ensures in
     record {
       inverse = are.inverse;

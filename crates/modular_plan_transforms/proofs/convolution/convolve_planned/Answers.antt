@@ -5,17 +5,12 @@ use Rattle.modular_plan_transforms.proofs.convolution.convolve_planned.Goals as 
 pub convolve_block-requires : goal.convolve_block-requires
 convolve_block-requires g c =
     let given = c.requires in
-    let within = given.within in
     record {
       entries_xs = given.entries_xs;
       entries_ys = given.entries_ys;
       equal = given.equal;
       factors = given.factors;
-      some = given.some;
-      few = given.few;
-      count = given.count;
-      whole = given.whole;
-      within = omega (arith, within);
+      blocks = given.blocks;
     }
 
 pub returns : goal.returns

@@ -2,10 +2,10 @@ use Rattle.std.proofs.Common.{◌≡◌, ℕ, ◌+◌, ◌*◌, ◌/◌, ◌%◌
 use Rattle.modular_word.specs.Congruence.{Congruent}
 use Rattle.modular_word.proofs.Congruence.{of_equal, itself, turned, chained, multiplied, residue_of}
 use Rattle.modular_word.proofs.ReductionSteps.{base_inverse}
-use Rattle.std.specs.Int.{IsPowerOfTwo}
 use Rattle.modular_plan.specs.Plans.{numbers, AreRemainders}
 use Rattle.modular_plan.proofs.Entries.{all_wider}
-use Rattle.modular_plan_transforms.proofs.Convolutions.{half_room}
+use Rattle.modular_plan_stages.specs.Conditions.{AreBlocks}
+use Rattle.modular_plan_transforms.proofs.Convolutions.{blocks_of}
 use Rattle.modular_plan_transforms.proofs.SmallProducts.{are_products_of_one}
 use Rattle.modular_plan_transforms.proofs.Reductions.{inverse_of_negated, remainders_times, over_base, made_up_for}
 use Rattle.modular_plan_transforms.proofs.convolution.join_products.Goals as goal
@@ -28,34 +28,22 @@ reduce_products-requires g c =
 pub join_scaled-requires : goal.join_scaled-requires
 join_scaled-requires g c =
     let n = g.T.RingWord.number in
-    let last = c.args.last in
-    let given = c.requires.blocks in
     let same : length c.args.xs.now ≡ length c.reduce_products.new.xs = omega arith in
     record {
       entries = all_wider n c.reduce_products.new.xs (omega arith) c.reduce_products.ensures.below;
       factors = c.requires.factors;
-      some = given.some;
-      count = subst (λ k. IsPowerOfTwo (k / last)) same given.count;
-      whole = subst (λ k. k / last * last ≡ k) same given.whole;
-      within = subst (λ k. (c.args.b + 1) * (k / last / 2) ≤ length c.args.table.now) same
-          (half_room c.args.b (length c.args.xs.now / last) (length c.args.table.now) given.within);
+      blocks = subst (λ k. AreBlocks k (length c.args.table.now) c.args.b c.args.last) same (blocks_of c.requires.blocks);
       factor = c.factor-scaled.ensures.factor;
     }
 
 pub join_scaled-requires-else-last-eq1 : goal.join_scaled-requires-else-last-eq1
 join_scaled-requires-else-last-eq1 g c =
     let n = g.T.RingWord.number in
-    let last = c.args.last in
-    let given = c.requires.blocks in
     let same : length c.args.xs.now ≡ length c.multiply.new.xs = omega arith in
     record {
       entries = all_wider n c.multiply.new.xs (omega arith) c.multiply.ensures.below;
       factors = c.requires.factors;
-      some = given.some;
-      count = subst (λ k. IsPowerOfTwo (k / last)) same given.count;
-      whole = subst (λ k. k / last * last ≡ k) same given.whole;
-      within = subst (λ k. (c.args.b + 1) * (k / last / 2) ≤ length c.args.table.now) same
-          (half_room c.args.b (length c.args.xs.now / last) (length c.args.table.now) given.within);
+      blocks = subst (λ k. AreBlocks k (length c.args.table.now) c.args.b c.args.last) same (blocks_of c.requires.blocks);
       factor = c.requires.factor;
     }
 

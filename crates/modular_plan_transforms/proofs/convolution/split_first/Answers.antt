@@ -4,27 +4,11 @@ use Rattle.modular_plan_transforms.proofs.convolution.split_first.Goals as goal
 
 pub split_loosely-requires : goal.split_loosely-requires
 split_loosely-requires g c =
-    let given = c.requires.blocks in
-    record {
-      entries = c.requires.entries;
-      factors = c.requires.factors;
-      some = given.some;
-      count = given.count;
-      whole = given.whole;
-      within = given.within;
-    }
+    record { entries = c.requires.entries; factors = c.requires.factors; blocks = c.requires.blocks }
 
 pub split-requires : goal.split-requires
 split-requires g c =
-    let given = c.requires.blocks in
-    record {
-      entries = c.requires.entries;
-      factors = c.requires.factors;
-      some = given.some;
-      count = given.count;
-      whole = given.whole;
-      within = given.within;
-    }
+    record { entries = c.requires.entries; factors = c.requires.factors; blocks = c.requires.blocks }
 
 pub returns-else-last-eq1 : goal.returns-else-last-eq1
 returns-else-last-eq1 g c = record {

@@ -1,28 +1,18 @@
 use Rattle.std.proofs.Common.{◌≡◌, ap, subst, sym}
-use Rattle.modular_plan_transforms.specs.Conditions.{IsJoinable}
+use Rattle.modular_plan_stages.specs.Conditions.{FitsPlan}
 use Rattle.modular_plan_transforms.proofs.join.join_scaled.Goals as goal
 
-pub join_scaled_by-requires-clause-joinable : goal.join_scaled_by-requires-clause-joinable
-join_scaled_by-requires-clause-joinable g c =
+pub join_scaled_by-requires-clause-fits : goal.join_scaled_by-requires-clause-fits
+join_scaled_by-requires-clause-fits g c =
     let n = g.T.RingWord.number in
     let same : n c.in-Some.roomy.planned.modulus ≡ n c.args.m.now.modulus = ap (λ p. n p.modulus) c.in-Some.ensures in
-    let given = c.requires in
-    subst (λ k. IsJoinable n g.T.PathWord.base k g.F.PlanEntry.value g.F.PlanEntry.quotient c.args.b c.args.last
+    subst (λ k. FitsPlan n g.F.PlanEntry.value g.F.PlanEntry.quotient g.T.PathWord.base k c.args.b c.args.last
     c.args.xs.now c.args.table.now) (sym same)
-    (record {
-      entries = given.entries;
-      factors = given.factors;
-      blocks = record { some = given.some; count = given.count; whole = given.whole; within = given.within };
-    })
+    (record { entries = c.requires.entries; factors = c.requires.factors; blocks = c.requires.blocks })
 
-pub join_scaled_by-requires-in-None-clause-joinable : goal.join_scaled_by-requires-in-None-clause-joinable
-join_scaled_by-requires-in-None-clause-joinable g c =
-    let given = c.requires in
-    record {
-      entries = given.entries;
-      factors = given.factors;
-      blocks = record { some = given.some; count = given.count; whole = given.whole; within = given.within };
-    }
+pub join_scaled_by-requires-in-None-clause-fits : goal.join_scaled_by-requires-in-None-clause-fits
+join_scaled_by-requires-in-None-clause-fits g c =
+    record { entries = c.requires.entries; factors = c.requires.factors; blocks = c.requires.blocks }
 
 pub returns-in-Some : goal.returns-in-Some
 returns-in-Some g c =

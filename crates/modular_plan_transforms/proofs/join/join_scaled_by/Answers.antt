@@ -36,20 +36,20 @@ returns g c = record {
 
 pub join_first-size-requires : goal.join_first-size-requires
 join_first-size-requires g c = record {
-  entries = c.requires.joinable.entries;
+  entries = c.requires.fits.entries;
   factors = record {
-    each = c.requires.joinable.factors;
+    each = c.requires.fits.factors;
     minus_factor = c.minus_one-minus.ensures.factor;
     is_minus = c.minus_one-minus.ensures.value;
   };
-  blocks = c.requires.joinable.blocks;
+  blocks = c.requires.fits.blocks;
 }
 
 pub join_passes-size-requires : goal.join_passes-size-requires
 join_passes-size-requires g c = record {
   entries = c.join_first-size.ensures.entries;
   factors = record {
-    each = c.requires.joinable.factors;
+    each = c.requires.fits.factors;
     minus_factor = c.minus_one-minus.ensures.factor;
     is_minus = c.minus_one-minus.ensures.value;
   };
@@ -64,7 +64,7 @@ join_last-requires g c = record {
   ready = (record {
     entries = c.join_passes-size.ensures.entries;
     factors = record {
-      each = c.requires.joinable.factors;
+      each = c.requires.fits.factors;
       minus_factor = c.minus_one-minus.ensures.factor;
       is_minus = c.minus_one-minus.ensures.value;
     };

@@ -1,35 +1,19 @@
 use Rattle.std.proofs.Common.{◌≡◌, ◌/◌, ◌<◌, All, length, ap, subst, sym}
 use Rattle.modular_plan.specs.Plans.{numbers, IsPlan, AreRemainders}
-use Rattle.modular_plan_passes.specs.Splits.{IsSplittable}
+use Rattle.modular_plan_stages.specs.Conditions.{FitsPlan}
 use Rattle.modular_plan_transforms.proofs.split.split.Goals as goal
 
 pub split_by-requires : goal.split_by-requires
 split_by-requires g c =
     let n = g.T.RingWord.number in
     let same : n c.in-Some.roomy.planned.modulus ≡ n c.args.m.now.modulus = ap (λ p. n p.modulus) c.in-Some.ensures in
-    let given = c.requires in
-    subst (λ k. IsSplittable n g.F.PlanEntry.value g.F.PlanEntry.quotient g.T.PathWord.base k c.args.b c.args.last
+    subst (λ k. FitsPlan n g.F.PlanEntry.value g.F.PlanEntry.quotient g.T.PathWord.base k c.args.b c.args.last
     c.args.xs.now c.args.table.now) (sym same)
-    (record {
-      entries = given.entries;
-      factors = given.factors;
-      some = given.some;
-      count = given.count;
-      whole = given.whole;
-      within = given.within;
-    })
+    (record { entries = c.requires.entries; factors = c.requires.factors; blocks = c.requires.blocks })
 
 pub split_by-requires-in-None : goal.split_by-requires-in-None
 split_by-requires-in-None g c =
-    let given = c.requires in
-    record {
-      entries = given.entries;
-      factors = given.factors;
-      some = given.some;
-      count = given.count;
-      whole = given.whole;
-      within = given.within;
-    }
+    record { entries = c.requires.entries; factors = c.requires.factors; blocks = c.requires.blocks }
 
 pub returns-in-Some : goal.returns-in-Some
 returns-in-Some g c =

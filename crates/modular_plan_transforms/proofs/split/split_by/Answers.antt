@@ -7,20 +7,17 @@ use Rattle.modular_plan_transforms.proofs.split.split_by.Goals as goal
 pub split_stages-requires : goal.split_stages-requires
 split_stages-requires g c =
     let fours = whole_fours (length c.args.xs.now) c.args.last c.args.b (length c.args.table.now) c.if-last-eq1.true
-    c.if-xs-ge4.true c.requires.count c.requires.within in
+    c.if-xs-ge4.true c.requires.blocks.count c.requires.blocks.within in
     record {
       entries = c.requires.entries;
       factors = c.requires.factors;
-      some = omega arith;
-      count = fours.power;
-      whole = fours.whole;
-      within = fours.room;
+      blocks = record { some = omega arith; count = fours.power; whole = fours.whole; within = fours.room };
     }
 
 pub split_fours-requires : goal.split_fours-requires
 split_fours-requires g c =
     let fours = whole_fours (length c.args.xs.now) c.args.last c.args.b (length c.args.table.now) c.if-last-eq1.true
-    c.if-xs-ge4.true c.requires.count c.requires.within in
+    c.if-xs-ge4.true c.requires.blocks.count c.requires.blocks.within in
     let whole = fours.whole in
     record {
       entries = c.split_stages.ensures.entries;
@@ -36,7 +33,7 @@ returns-then-xs-ge4 g c =
     let m = g.M.SplitSteps.modulus c.args.m.now in
     let length_is : length c.split_fours.new.xs ≡ length c.args.xs.now = omega arith in
     let fours = whole_fours (length c.args.xs.now) c.args.last c.args.b (length c.args.table.now) c.if-last-eq1.true
-    c.if-xs-ge4.true c.requires.count c.requires.within in
+    c.if-xs-ge4.true c.requires.blocks.count c.requires.blocks.within in
     record {
       below = c.split_fours.ensures.entries;
       remainders = λ r z plan.
@@ -50,6 +47,6 @@ returns-else-last-eq1 g c = record {
   below = c.reduce_each.ensures.below;
   remainders = λ r z plan.
       remainders_of r z c.args.b (length c.args.xs.now / c.args.last) c.args.last (length c.args.xs.now) _ _ _
-      c.requires.whole (c.split_stages-else-last-eq1.ensures.level r z plan)
+      c.requires.blocks.whole (c.split_stages-else-last-eq1.ensures.level r z plan)
       (λ i l. c.reduce_each.ensures.residues i (omega arith));
 }

@@ -1,37 +1,21 @@
 use Rattle.std.proofs.Common.{◌≡◌, ◌/◌, length, refl, sym, ap, subst}
 use Rattle.modular_plan.specs.Plans.{numbers, IsPlan}
-use Rattle.modular_plan_passes.specs.Splits.{IsSplittable}
 use Rattle.modular_plan_passes.specs.Steps.{IsLevel}
 use Rattle.modular_plan_passes.proofs.Levels.{remainders_of}
+use Rattle.modular_plan_stages.specs.Conditions.{FitsPlan}
 use Rattle.modular_plan_transforms.proofs.split.split_loosely.Goals as goal
 
 pub split_stages-requires : goal.split_stages-requires
 split_stages-requires g c =
     let n = g.T.RingWord.number in
     let same : n c.in-Some.roomy.planned.modulus ≡ n c.args.m.now.modulus = ap (λ p. n p.modulus) c.in-Some.ensures in
-    let given = c.requires in
-    subst (λ k. IsSplittable n g.F.PlanEntry.value g.F.PlanEntry.quotient g.T.PathWord.base k c.args.b c.args.last
+    subst (λ k. FitsPlan n g.F.PlanEntry.value g.F.PlanEntry.quotient g.T.PathWord.base k c.args.b c.args.last
     c.args.xs.now c.args.table.now) (sym same)
-    (record {
-      entries = given.entries;
-      factors = given.factors;
-      some = given.some;
-      count = given.count;
-      whole = given.whole;
-      within = given.within;
-    })
+    (record { entries = c.requires.entries; factors = c.requires.factors; blocks = c.requires.blocks })
 
 pub split_stages-requires-in-None : goal.split_stages-requires-in-None
 split_stages-requires-in-None g c =
-    let given = c.requires in
-    record {
-      entries = given.entries;
-      factors = given.factors;
-      some = given.some;
-      count = given.count;
-      whole = given.whole;
-      within = given.within;
-    }
+    record { entries = c.requires.entries; factors = c.requires.factors; blocks = c.requires.blocks }
 
 pub returns-in-Some : goal.returns-in-Some
 returns-in-Some g c =
@@ -43,7 +27,7 @@ returns-in-Some g c =
     let count = length c.args.xs.now / c.args.last in
     record {
       remainders = λ r z plan.
-          remainders_of r z c.args.b count c.args.last (length c.args.xs.now) _ _ _ c.requires.whole
+          remainders_of r z c.args.b count c.args.last (length c.args.xs.now) _ _ _ c.requires.blocks.whole
           (subst (λ k. IsLevel k r z c.args.b count c.args.last (numbers n c.args.xs.now) (numbers n c.split_stages.new.xs))
           same (c.split_stages.ensures.level r z (subst (λ k. IsPlan k r z factors w) (sym same) plan)))
           (λ i l. refl);
@@ -53,5 +37,5 @@ pub returns-in-None : goal.returns-in-None
 returns-in-None g c = record {
   remainders = λ r z plan.
       remainders_of r z c.args.b (length c.args.xs.now / c.args.last) c.args.last (length c.args.xs.now) _ _ _
-      c.requires.whole (c.split_stages-in-None.ensures.level r z plan) (λ i l. refl);
+      c.requires.blocks.whole (c.split_stages-in-None.ensures.level r z plan) (λ i l. refl);
 }

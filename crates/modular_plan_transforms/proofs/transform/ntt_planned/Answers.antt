@@ -18,10 +18,12 @@ split-requires g c =
     record {
       entries = given.entries;
       factors = given.factors;
-      some = omega arith;
-      count = subst IsPowerOfTwo one given.count;
-      whole = omega arith;
-      within = subst (λ n. (0 + 1) * (n / 2) ≤ length c.args.table.now) one (omega (arith, within));
+      blocks = record {
+        some = omega arith;
+        count = subst IsPowerOfTwo one given.count;
+        whole = omega arith;
+        within = subst (λ n. (0 + 1) * (n / 2) ≤ length c.args.table.now) one (omega (arith, within));
+      };
     }
 
 pub returns : goal.returns

@@ -26,11 +26,7 @@ returns-then-have_room c = elim c.if-convolves.branch [
             other_room = subst (λ m. AreBelow (4 * m) c.args.ys.now) c.new-modulus.ensures
                 (c.have_room-then-have_room.ensures.0 t);
             equal = sym v.if-xs-ys.true;
-            some = convolves.0;
-            few = convolves.1;
-            count = convolves.2;
-            whole = convolves.3;
-            within = convolves.4;
+            blocks = convolves;
           },
           λ pair. c.have_room-then-have_room.ensures.1
               (subst (λ m. AreBelow (4 * m) c.args.ys.now) (sym c.new-modulus.ensures) pair.other_room),
@@ -49,7 +45,7 @@ returns-else-have_room c = (
         absurd (false≢true (sym c.if-have_room.false ∙ w.value-is ∙ w.have_room.ensures.1 room))
     | else-convolves w ↦ elim c.if-xs-ys.branch [
       | then-xs-ys v ↦
-          let convolves = v.convolves.ensures.1 (pair.some, pair.few, pair.count, pair.whole, pair.within) in
+          let convolves = v.convolves.ensures.1 pair.blocks in
           absurd (false≢true (sym w.if-convolves.false ∙ v.value-is ∙ convolves))
       | else-xs-ys v ↦ absurd (v.if-xs-ys.false (sym pair.equal))
     ]

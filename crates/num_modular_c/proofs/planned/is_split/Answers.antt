@@ -11,10 +11,7 @@ returns-then-splits c = elim c.if-admits.branch [
         λ t. record {
           admitted = w.if-admits.ensures.0 refl;
           room = subst (λ m. AreBelow (4 * m) c.args.words.now) c.new.ensures (c.have_room.ensures.0 t);
-          some = splits.0;
-          count = splits.1;
-          whole = splits.2;
-          within = splits.3;
+          blocks = splits;
         },
         λ is. c.have_room.ensures.1 (subst (λ m. AreBelow (4 * m) c.args.words.now) (sym c.new.ensures) is.room),
       )
@@ -26,7 +23,7 @@ returns-else-splits c = elim c.if-admits.branch [
   | then-admits w ↦ (
     λ t. absurd (false≢true (sym c.if-splits.false ∙ t)),
     λ is. absurd (false≢true (sym c.if-splits.false ∙ w.value-is
-        ∙ w.splits.ensures.1 (is.some, is.count, is.whole, is.within))),
+        ∙ w.splits.ensures.1 is.blocks)),
   )
   | else-admits w ↦ (
     λ t. absurd (false≢true (sym c.if-splits.false ∙ t)),

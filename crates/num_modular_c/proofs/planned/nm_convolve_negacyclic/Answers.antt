@@ -1,4 +1,4 @@
-use Rattle.std.proofs.Common.{arith, refl, sym, ◌∙◌}
+use Rattle.std.proofs.Common.{refl, sym, ◌∙◌}
 use Rattle.std.proofs.lemmas.Bool.{false≢true}
 use Rattle.num_modular_c.proofs.planned.nm_convolve_negacyclic.Goals as goal
 
@@ -32,20 +32,8 @@ convolve_negacyclic-requires-clause-equal c = (c.pair_code-code.ensures.fits.0 c
 pub convolve_negacyclic-requires-clause-factors : goal.convolve_negacyclic-requires-clause-factors
 convolve_negacyclic-requires-clause-factors c = rw c.new.ensures (c.pair_code-code.ensures.fits.0 c.if-code-ne-NM_OK.false).1
 
-pub convolve_negacyclic-requires-clause-some : goal.convolve_negacyclic-requires-clause-some
-convolve_negacyclic-requires-clause-some c = (c.pair_code-code.ensures.fits.0 c.if-code-ne-NM_OK.false).0.some
-
-pub convolve_negacyclic-requires-clause-few : goal.convolve_negacyclic-requires-clause-few
-convolve_negacyclic-requires-clause-few c = (c.pair_code-code.ensures.fits.0 c.if-code-ne-NM_OK.false).0.few
-
-pub convolve_negacyclic-requires-clause-count : goal.convolve_negacyclic-requires-clause-count
-convolve_negacyclic-requires-clause-count c = (c.pair_code-code.ensures.fits.0 c.if-code-ne-NM_OK.false).0.count
-
-pub convolve_negacyclic-requires-clause-whole : goal.convolve_negacyclic-requires-clause-whole
-convolve_negacyclic-requires-clause-whole c = (c.pair_code-code.ensures.fits.0 c.if-code-ne-NM_OK.false).0.whole
-
-pub convolve_negacyclic-requires-clause-within : goal.convolve_negacyclic-requires-clause-within
-convolve_negacyclic-requires-clause-within c = let within = (c.pair_code-code.ensures.fits.0 c.if-code-ne-NM_OK.false).0.within in omega (arith, within)
+pub convolve_negacyclic-requires-clause-blocks : goal.convolve_negacyclic-requires-clause-blocks
+convolve_negacyclic-requires-clause-blocks c = (c.pair_code-code.ensures.fits.0 c.if-code-ne-NM_OK.false).0.blocks
 
 pub returns-then-convolve_negacyclic-clause-bad_context : goal.returns-then-convolve_negacyclic-clause-bad_context
 returns-then-convolve_negacyclic-clause-bad_context c = λ pair none. absurd (none (c.pair_code-code.ensures.fits.0 c.if-code-ne-NM_OK.false).1)

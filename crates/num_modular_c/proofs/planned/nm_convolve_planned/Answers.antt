@@ -1,4 +1,4 @@
-use Rattle.std.proofs.Common.{arith, refl, sym, ◌∙◌}
+use Rattle.std.proofs.Common.{refl, sym, ◌∙◌}
 use Rattle.std.proofs.lemmas.Bool.{false≢true}
 use Rattle.num_modular_c.proofs.planned.nm_convolve_planned.Goals as goal
 
@@ -32,20 +32,8 @@ convolve_planned-requires-clause-equal c = (c.pair_code-code.ensures.fits.0 c.if
 pub convolve_planned-requires-clause-factors : goal.convolve_planned-requires-clause-factors
 convolve_planned-requires-clause-factors c = rw c.new.ensures (c.pair_code-code.ensures.fits.0 c.if-code-ne-NM_OK.false).1
 
-pub convolve_planned-requires-clause-some : goal.convolve_planned-requires-clause-some
-convolve_planned-requires-clause-some c = (c.pair_code-code.ensures.fits.0 c.if-code-ne-NM_OK.false).0.some
-
-pub convolve_planned-requires-clause-few : goal.convolve_planned-requires-clause-few
-convolve_planned-requires-clause-few c = (c.pair_code-code.ensures.fits.0 c.if-code-ne-NM_OK.false).0.few
-
-pub convolve_planned-requires-clause-count : goal.convolve_planned-requires-clause-count
-convolve_planned-requires-clause-count c = (c.pair_code-code.ensures.fits.0 c.if-code-ne-NM_OK.false).0.count
-
-pub convolve_planned-requires-clause-whole : goal.convolve_planned-requires-clause-whole
-convolve_planned-requires-clause-whole c = (c.pair_code-code.ensures.fits.0 c.if-code-ne-NM_OK.false).0.whole
-
-pub convolve_planned-requires-clause-within : goal.convolve_planned-requires-clause-within
-convolve_planned-requires-clause-within c = let within = (c.pair_code-code.ensures.fits.0 c.if-code-ne-NM_OK.false).0.within in omega (arith, within)
+pub convolve_planned-requires-clause-blocks : goal.convolve_planned-requires-clause-blocks
+convolve_planned-requires-clause-blocks c = (c.pair_code-code.ensures.fits.0 c.if-code-ne-NM_OK.false).0.blocks
 
 pub returns-then-convolve_planned-clause-bad_context : goal.returns-then-convolve_planned-clause-bad_context
 returns-then-convolve_planned-clause-bad_context c = λ pair none. absurd (none (c.pair_code-code.ensures.fits.0 c.if-code-ne-NM_OK.false).1)

@@ -1,6 +1,15 @@
 use Rattle.std.proofs.Common.{refl}
 use Rattle.num_modular_c.proofs.planned.nm_join.Goals as goal
 
+pub join-requires-clause-entries : goal.join-requires-clause-entries
+join-requires-clause-entries c = rw c.new.ensures (c.split_code-code.ensures.fits.0 c.if-code-eq-NM_OK.true).0.room
+
+pub join-requires-clause-factors : goal.join-requires-clause-factors
+join-requires-clause-factors c = rw c.new.ensures (c.split_code-code.ensures.fits.0 c.if-code-eq-NM_OK.true).1
+
+pub join-requires-clause-blocks : goal.join-requires-clause-blocks
+join-requires-clause-blocks c = (c.split_code-code.ensures.fits.0 c.if-code-eq-NM_OK.true).0.blocks
+
 pub returns-then-code-eq-NM_OK-clause-did : goal.returns-then-code-eq-NM_OK-clause-did
 returns-then-code-eq-NM_OK-clause-did c split factors =
     (c.if-code-eq-NM_OK.true, (rw c.new.ensures at c.join.ensures.below, rw c.new.ensures at c.join.ensures.joined))
@@ -10,24 +19,6 @@ new-requires-clause-some c = (c.split_code-code.ensures.fits.0 c.if-code-eq-NM_O
 
 pub new-requires-clause-room : goal.new-requires-clause-room
 new-requires-clause-room c = (c.split_code-code.ensures.fits.0 c.if-code-eq-NM_OK.true).0.admitted.1
-
-pub join-requires-clause-entries : goal.join-requires-clause-entries
-join-requires-clause-entries c = rw c.new.ensures (c.split_code-code.ensures.fits.0 c.if-code-eq-NM_OK.true).0.room
-
-pub join-requires-clause-factors : goal.join-requires-clause-factors
-join-requires-clause-factors c = rw c.new.ensures (c.split_code-code.ensures.fits.0 c.if-code-eq-NM_OK.true).1
-
-pub join-requires-clause-some : goal.join-requires-clause-some
-join-requires-clause-some c = (c.split_code-code.ensures.fits.0 c.if-code-eq-NM_OK.true).0.some
-
-pub join-requires-clause-count : goal.join-requires-clause-count
-join-requires-clause-count c = (c.split_code-code.ensures.fits.0 c.if-code-eq-NM_OK.true).0.count
-
-pub join-requires-clause-whole : goal.join-requires-clause-whole
-join-requires-clause-whole c = (c.split_code-code.ensures.fits.0 c.if-code-eq-NM_OK.true).0.whole
-
-pub join-requires-clause-within : goal.join-requires-clause-within
-join-requires-clause-within c = (c.split_code-code.ensures.fits.0 c.if-code-eq-NM_OK.true).0.within
 
 pub returns-then-code-eq-NM_OK-clause-bad_context : goal.returns-then-code-eq-NM_OK-clause-bad_context
 returns-then-code-eq-NM_OK-clause-bad_context c = λ split none. absurd (none (c.split_code-code.ensures.fits.0 c.if-code-eq-NM_OK.true).1)

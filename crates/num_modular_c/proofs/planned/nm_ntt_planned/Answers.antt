@@ -32,12 +32,12 @@ pub ntt_planned-requires-clause-count : goal.ntt_planned-requires-clause-count
 ntt_planned-requires-clause-count c =
     let split = (c.split_code-code.ensures.fits.0 c.if-code-eq-NM_OK.true).0 in
     let same : length c.args.xs.now / 1 ≡ length c.args.xs.now = omega arith in
-    rw same at split.count
+    rw same at split.blocks.count
 
 pub ntt_planned-requires-clause-within : goal.ntt_planned-requires-clause-within
 ntt_planned-requires-clause-within c =
     let split = (c.split_code-code.ensures.fits.0 c.if-code-eq-NM_OK.true).0 in
-    omega (arith, split.within)
+    omega (arith, split.blocks.within)
 
 pub returns-then-code-eq-NM_OK-clause-did : goal.returns-then-code-eq-NM_OK-clause-did
 returns-then-code-eq-NM_OK-clause-did c split factors = (

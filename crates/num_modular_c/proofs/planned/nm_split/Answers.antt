@@ -13,17 +13,8 @@ split-requires-clause-entries c = rw c.new.ensures (c.split_code-code.ensures.fi
 pub split-requires-clause-factors : goal.split-requires-clause-factors
 split-requires-clause-factors c = rw c.new.ensures (c.split_code-code.ensures.fits.0 c.if-code-eq-NM_OK.true).1
 
-pub split-requires-clause-some : goal.split-requires-clause-some
-split-requires-clause-some c = (c.split_code-code.ensures.fits.0 c.if-code-eq-NM_OK.true).0.some
-
-pub split-requires-clause-count : goal.split-requires-clause-count
-split-requires-clause-count c = (c.split_code-code.ensures.fits.0 c.if-code-eq-NM_OK.true).0.count
-
-pub split-requires-clause-whole : goal.split-requires-clause-whole
-split-requires-clause-whole c = (c.split_code-code.ensures.fits.0 c.if-code-eq-NM_OK.true).0.whole
-
-pub split-requires-clause-within : goal.split-requires-clause-within
-split-requires-clause-within c = (c.split_code-code.ensures.fits.0 c.if-code-eq-NM_OK.true).0.within
+pub split-requires-clause-blocks : goal.split-requires-clause-blocks
+split-requires-clause-blocks c = (c.split_code-code.ensures.fits.0 c.if-code-eq-NM_OK.true).0.blocks
 
 pub returns-then-code-eq-NM_OK-clause-bad_context : goal.returns-then-code-eq-NM_OK-clause-bad_context
 returns-then-code-eq-NM_OK-clause-bad_context c = λ split none. absurd (none (c.split_code-code.ensures.fits.0 c.if-code-eq-NM_OK.true).1)

@@ -6,8 +6,9 @@ use Rattle.lattice_rings.proofs.Dsa.{ring_plan, back_suits, back_inverse, of_num
 use Rattle.lattice_rings.proofs.Dsa.{transform_of, values_of_transform, transform_same, before, before_values}
 use Rattle.lattice_rings.proofs.ml_dsa.Ring.inverse.Goals as goal
 
-pub join_scaled-requires-clause-count : goal.join_scaled-requires-clause-count
-join_scaled-requires-clause-count c = (8, omega arith)
+pub join_scaled-requires-clause-blocks : goal.join_scaled-requires-clause-blocks
+join_scaled-requires-clause-blocks c =
+    record { some = omega arith; count = (8, omega arith); whole = omega arith; within = omega arith }
 
 -- the list is that of each polynomial whose transform was given
 entries : (c : goal.After-join_scaled) (x : ℕ → ℕ) → AreValues 8380417 1753 8 1 x (slice_index c.args.w.now)

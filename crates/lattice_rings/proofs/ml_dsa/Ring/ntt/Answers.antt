@@ -3,8 +3,9 @@ use Rattle.lattice_rings.proofs.Blocks.{told}
 use Rattle.lattice_rings.proofs.Dsa.{ring_plan, transform_of}
 use Rattle.lattice_rings.proofs.ml_dsa.Ring.ntt.Goals as goal
 
-pub split-requires-clause-count : goal.split-requires-clause-count
-split-requires-clause-count c = (8, omega arith)
+pub split-requires-clause-blocks : goal.split-requires-clause-blocks
+split-requires-clause-blocks c =
+    record { some = omega arith; count = (8, omega arith); whole = omega arith; within = omega arith }
 
 pub returns-clause-values : goal.returns-clause-values
 returns-clause-values c =

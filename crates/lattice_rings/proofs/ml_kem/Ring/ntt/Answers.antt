@@ -3,8 +3,9 @@ use Rattle.lattice_rings.proofs.Blocks.{told}
 use Rattle.lattice_rings.proofs.Kem.{ring_plan, transform_of}
 use Rattle.lattice_rings.proofs.ml_kem.Ring.ntt.Goals as goal
 
-pub split-requires-clause-count : goal.split-requires-clause-count
-split-requires-clause-count c = (7, omega arith)
+pub split-requires-clause-blocks : goal.split-requires-clause-blocks
+split-requires-clause-blocks c =
+    record { some = omega arith; count = (7, omega arith); whole = omega arith; within = omega arith }
 
 pub returns-clause-remainders : goal.returns-clause-remainders
 returns-clause-remainders c =

@@ -1,8 +1,8 @@
 use Rattle.std.proofs.Common.{◌≡◌, ℕ, ◌+◌, ◌*◌, ◌/◌, ◌%◌, ◌≤◌, length, sym, ◌∙◌, ap, arith, subst}
-use Rattle.std.specs.Int.{IsPowerOfTwo}
 use Rattle.std.proofs.Math.Nat.{mod-mod}
 use Rattle.std.proofs.lemmas.Nat.{mul-mod_first}
 use Rattle.modular_plan.specs.Plans.{numbers, IsPlan, AreRemainders}
+use Rattle.num_modular.specs.PlanConditions.{AreBlocks}
 use Rattle.ring_tests.proofs.tests.plan_callers.split_and_joined.Goals as goal
 
 -- an inverse takes its number away
@@ -19,10 +19,6 @@ own_residues : (m g z b count last : ℕ) (x u : ℕ → ℕ) → AreRemainders 
 own_residues m g z b count last x u are =
     record { each = λ j i lj li. ap (λ v. v % m) (are.each j i lj li) ∙ mod-mod _ m }
 
--- as many words after a call as before it
-same_count : (last : ℕ) {p q : ℕ} → q ≡ p → p / last ≡ q / last
-same_count last e = ap (λ k. k / last) (sym e)
-
 pub plan-requires-clause-below : goal.plan-requires-clause-below
 plan-requires-clause-below g c = c.requires.below
 
@@ -35,17 +31,9 @@ split-requires-clause-entries g c = c.requires.entries
 pub split-requires-clause-factors : goal.split-requires-clause-factors
 split-requires-clause-factors g c = c.plan.ensures.factors
 
-pub split-requires-clause-some : goal.split-requires-clause-some
-split-requires-clause-some g c = c.requires.some
-
-pub split-requires-clause-count : goal.split-requires-clause-count
-split-requires-clause-count g c = c.requires.count
-
-pub split-requires-clause-whole : goal.split-requires-clause-whole
-split-requires-clause-whole g c = c.requires.whole
-
-pub split-requires-clause-within : goal.split-requires-clause-within
-split-requires-clause-within g c = omega (arith, c.requires.within)
+pub split-requires-clause-blocks : goal.split-requires-clause-blocks
+split-requires-clause-blocks g c =
+    subst (λ k. AreBlocks (length c.args.xs.now) k c.args.block.0 c.args.block.1) (omega arith) c.requires.blocks
 
 pub join_scaled-requires-clause-entries : goal.join_scaled-requires-clause-entries
 join_scaled-requires-clause-entries g c = λ k d l. omega (arith, c.split.ensures.below k d l)
@@ -53,21 +41,12 @@ join_scaled-requires-clause-entries g c = λ k d l. omega (arith, c.split.ensure
 pub join_scaled-requires-clause-factors : goal.join_scaled-requires-clause-factors
 join_scaled-requires-clause-factors g c = c.plan.ensures.factors
 
-pub join_scaled-requires-clause-some : goal.join_scaled-requires-clause-some
-join_scaled-requires-clause-some g c = c.requires.some
-
-pub join_scaled-requires-clause-count : goal.join_scaled-requires-clause-count
-join_scaled-requires-clause-count g c = subst IsPowerOfTwo (same_count c.args.block.1 (omega arith)) c.requires.count
-
-pub join_scaled-requires-clause-whole : goal.join_scaled-requires-clause-whole
-join_scaled-requires-clause-whole g c = subst (λ k. k / c.args.block.1 * c.args.block.1 ≡ k) (omega arith) c.requires.whole
-
-pub join_scaled-requires-clause-within : goal.join_scaled-requires-clause-within
-join_scaled-requires-clause-within g c =
+pub join_scaled-requires-clause-blocks : goal.join_scaled-requires-clause-blocks
+join_scaled-requires-clause-blocks g c =
+    let b = c.args.block.0 in
     let last = c.args.block.1 in
-    let room : (c.args.block.0 + 1) * (length c.args.xs.now / last / 2) ≤ length c.plan.new.table =
-    omega (arith, c.requires.within) in
-    subst (λ k. (c.args.block.0 + 1) * (k / last / 2) ≤ length c.plan.new.table) (omega arith) room
+    subst (λ k. AreBlocks k (length c.plan.new.table) b last) (omega arith)
+    (subst (λ k. AreBlocks (length c.args.xs.now) k b last) (omega arith) c.requires.blocks)
 
 pub join_scaled-requires-clause-factor : goal.join_scaled-requires-clause-factor
 join_scaled-requires-clause-factor g c = c.requires.factor

@@ -1,0 +1,325 @@
+//! What the tests of plans share: rows of calls on one list or on two, and what checks them.
+
+ghost use Rattle.std.specs.Prelude.{◌*◌, ◌<◌, IsTrue, All};
+ghost use Rattle.num_modular.specs.Factors.{IsFactorOf, AllFactors};
+
+use super::{assert_right, plans, products};
+use modular_prim::plain_word::PlainWord;
+use modular_reduced::reducer::Reducer;
+use modular_reduced::vanilla::Vanilla;
+use modular_transform::transform::root_fits;
+use modular_word::path_word::PathWord;
+use modular_word::ring_word::RingWord;
+use num_modular::plans::{
+    Factor, PlanEntry, PlannedModulus, convolve_block, convolve_negacyclic, convolve_planned,
+    convolves, join, join_scaled, multiply, ntt_planned, plan, split, splits,
+};
+
+/// What is called: on one list `split`, `join`, `join_scaled` with a number, or `ntt_planned`; on two lists
+/// `multiply`, or `convolve_block`, whose blocks 0 and 1 have functions of their own.
+pub enum Call<T> {
+    Split,
+    Join,
+    Scaled(T),
+    InOrder,
+    Multiply,
+    Convolve,
+}
+
+/// A row: the modulus, a root and how many factors the plan by the root has; the block and how many entries
+/// the last blocks have; one list, with none beside it, or two; and what a call makes of them.
+pub struct Row<'a, T> {
+    pub plan: (T, T, usize),
+    pub block: (usize, usize),
+    pub lists: (&'a [T], &'a [T]),
+    pub want: (&'a [T], &'a [T]),
+}
+
+/// Rows of one call with one answer: what the call returns, true where it returns nothing, and `None` where its
+/// conditions don't hold.
+pub struct Table<'a, T> {
+    pub call: Call<T>,
+    pub answer: Option<bool>,
+    pub rows: &'a [Row<'a, T>],
+}
+
+// Whether each entry is below 4m. A loop, since a closure takes longer to prove.
+fn all_in_room<T: PlainWord>(m: &PlannedModulus<T>, xs: &[T]) -> bool
+    ensures { IsTrue result → All (λ x. T.number x < 4 * T.number m.now.modulus) xs.now }
+{
+    'entries: for i in 0..xs.len() {
+        if !m.has_room(xs[i]) {
+            return false;
+        }
+    }
+    true
+}
+
+// Whether each entry is below m.
+fn all_below<T: PlainWord>(m: &PlannedModulus<T>, xs: &[T]) -> bool
+    ensures { IsTrue result → All (λ x. T.number x < T.number m.now.modulus) xs.now }
+{
+    'entries: for i in 0..xs.len() {
+        if !xs[i].is_below(m.modulus) {
+            return false;
+        }
+    }
+    true
+}
+
+// Whether the table gets the plan by g, which is for twice as many entries as it has factors.
+fn is_planned<T: PlainWord>(m: &PlannedModulus<T>, g: T, table: &mut [Factor<T>]) -> bool
+    ensures { IsTrue result → All (IsFactorOf T.base T.number (T.number m.now.modulus)) table.new }
+{
+    if !g.is_below(m.modulus) || table.len() > 64 {
+        return false;
+    }
+    let r = Vanilla::new(&m.modulus);
+    if !root_fits(&r, &g, 2 * table.len()) {
+        return false;
+    }
+    plan(m, g, table);
+    true
+}
+
+// Whether the conditions of a call on one list hold, and it is carried out.
+fn is_done<T: PlainWord, F: PlanEntry<T>>(
+    m: &PlannedModulus<T>,
+    call: &Call<T>,
+    xs: &mut [T],
+    table: &[F],
+    b: usize,
+    last: usize,
+) -> bool
+    requires { AllFactors T.base (T.number m.now.modulus) F.value F.quotient table.now }
+{
+    if !splits(xs.len(), table.len(), b, last) {
+        return false;
+    }
+    if !all_in_room(m, xs) {
+        return false;
+    }
+    match call {
+        Call::Split => split(m, xs, table, b, last),
+        Call::Join => join(m, xs, table, b, last),
+        Call::Scaled(w) => {
+            if !w.is_below(m.modulus) {
+                return false;
+            }
+            join_scaled(m, xs, table, b, last, &m.factor(*w));
+        }
+        _ => {
+            if b != 0 {
+                return false;
+            }
+            if last != 1 {
+                return false;
+            }
+            ntt_planned(m, xs, table);
+        }
+    }
+    true
+}
+
+// Whether the conditions of `multiply` hold, and it is carried out. It accepts any words in the second list.
+fn is_multiplied<T: PlainWord, F: PlanEntry<T>>(
+    m: &PlannedModulus<T>,
+    xs: &mut [T],
+    ys: &[T],
+    table: &[F],
+    b: usize,
+    last: usize,
+) -> bool
+    requires { AllFactors T.base (T.number m.now.modulus) F.value F.quotient table.now }
+{
+    if xs.len() != ys.len() {
+        return false;
+    }
+    if !convolves(xs.len(), table.len(), b, last) {
+        return false;
+    }
+    if !all_below(m, xs) {
+        return false;
+    }
+    multiply(m, xs, ys, table, b, last);
+    true
+}
+
+// What the product as block b returns; `None` where its conditions don't hold.
+fn convolved<T: PlainWord, F: PlanEntry<T>>(
+    m: &PlannedModulus<T>,
+    xs: &mut [T],
+    ys: &mut [T],
+    table: &[F],
+    b: usize,
+    last: usize,
+) -> Option<bool>
+    requires { AllFactors T.base (T.number m.now.modulus) F.value F.quotient table.now }
+{
+    if xs.len() != ys.len() {
+        return None;
+    }
+    if !convolves(xs.len(), table.len(), b, last) {
+        return None;
+    }
+    if !all_in_room(m, xs) {
+        return None;
+    }
+    if !all_in_room(m, ys) {
+        return None;
+    }
+    if b == 0 {
+        Some(convolve_planned(m, xs, ys, table, last))
+    } else if b == 1 {
+        Some(convolve_negacyclic(m, xs, ys, table, last))
+    } else {
+        Some(convolve_block(m, xs, ys, table, b, last))
+    }
+}
+
+// What the call returns, and true where it returns nothing; `None` where its conditions don't hold.
+fn called<T: PlainWord, F: PlanEntry<T>>(
+    m: &PlannedModulus<T>,
+    call: &Call<T>,
+    block: (usize, usize),
+    xs: &mut [T],
+    ys: &mut [T],
+    table: &[F],
+) -> Option<bool>
+    requires { AllFactors T.base (T.number m.now.modulus) F.value F.quotient table.now }
+{
+    let (b, last) = block;
+    let is_done = match call {
+        Call::Convolve => return convolved(m, xs, ys, table, b, last),
+        Call::Multiply => is_multiplied(m, xs, ys, table, b, last),
+        _ => is_done(m, call, xs, table, b, last),
+    };
+    if is_done { Some(true) } else { None }
+}
+
+// The first places of a room, with the list there as far as there is room.
+fn placed<'a, T: RingWord>(room: &'a mut [T], list: &[T]) -> &'a mut [T] {
+    let n = list.len().min(room.len());
+    room[..n].copy_from_slice(&list[..n]);
+    &mut room[..n]
+}
+
+// Whether two lists are the same.
+fn are_same<T: RingWord>(xs: &[T], ys: &[T]) -> bool {
+    for i in 0..xs.len() {
+        if i >= ys.len() || xs[i] != ys[i] {
+            return false;
+        }
+    }
+    xs.len() == ys.len()
+}
+
+// Whether the call gives this answer and leaves the row's lists, with room for a table and two lists.
+fn is_right<T: PlainWord>(
+    call: &Call<T>,
+    answer: Option<bool>,
+    row: &Row<T>,
+    table: &mut [Factor<T>],
+    first: &mut [T],
+    second: &mut [T],
+) -> bool {
+    let (modulus, g, factors) = row.plan;
+    if !PlannedModulus::admits(modulus) || factors > table.len() {
+        return false;
+    }
+    let m = PlannedModulus::new(modulus);
+    let table = &mut table[..factors];
+    let xs = placed(first, row.lists.0);
+    let ys = placed(second, row.lists.1);
+    is_planned(&m, g, table)
+        && called(&m, call, row.block, xs, ys, table) == answer
+        && are_same(xs, row.want.0)
+        && are_same(ys, row.want.1)
+}
+
+// The first row that is wrong, as 100 times the place of its table and its place there, with room for the longest plan
+// and two lists.
+fn first_wrong<T: PlainWord>(
+    tables: &[Table<T>],
+    room: &mut [Factor<T>],
+    first: &mut [T],
+    second: &mut [T],
+) -> Option<usize> {
+    for i in 0..tables.len() {
+        let table = &tables[i];
+        for j in 0..table.rows.len() {
+            if !is_right(
+                &table.call,
+                table.answer,
+                &table.rows[j],
+                room,
+                first,
+                second,
+            ) {
+                return Some(i.wrapping_mul(100).wrapping_add(j));
+            }
+        }
+    }
+    None
+}
+
+// The calls return nothing, or true.
+const DONE: Option<bool> = Some(true);
+
+#[rattlefmt::skip]
+const OF_16_BITS: &[Table<u16>] = &[
+    Table { call: Call::Split, answer: DONE, rows: plans::REMAINDERS_OF_16_BITS },
+    Table { call: Call::Join, answer: DONE, rows: plans::JOINS_OF_16_BITS },
+    Table { call: Call::InOrder, answer: DONE, rows: plans::TRANSFORMS_OF_16_BITS },
+    Table { call: Call::Convolve, answer: DONE, rows: products::PRODUCTS_OF_16_BITS },
+];
+
+#[rattlefmt::skip]
+const OF_32_BITS: &[Table<u32>] = &[
+    Table { call: Call::Split, answer: DONE, rows: plans::REMAINDERS_OF_32_BITS },
+    Table { call: Call::Join, answer: DONE, rows: plans::JOINS_OF_32_BITS },
+    Table { call: Call::InOrder, answer: DONE, rows: plans::TRANSFORMS_OF_32_BITS },
+    Table { call: Call::InOrder, answer: None, rows: plans::OTHER_LENGTHS },
+    Table { call: Call::Convolve, answer: DONE, rows: products::PRODUCTS_OF_32_BITS },
+];
+
+#[rattlefmt::skip]
+const OF_64_BITS: &[Table<u64>] = &[
+    Table { call: Call::Split, answer: DONE, rows: plans::REMAINDERS },
+    Table { call: Call::Join, answer: DONE, rows: plans::JOINS },
+    Table { call: Call::Scaled(15), answer: DONE, rows: plans::TIMES_15 },
+    Table { call: Call::Scaled(0), answer: DONE, rows: plans::TIMES_0 },
+    Table { call: Call::InOrder, answer: DONE, rows: plans::TRANSFORMS },
+    Table { call: Call::Multiply, answer: DONE, rows: products::BLOCKS_OF_TWO },
+    Table { call: Call::Convolve, answer: DONE, rows: products::PRODUCTS },
+    Table { call: Call::Convolve, answer: Some(false), rows: products::REFUSED },
+];
+
+#[test]
+fn calls_by_plans(rt: HostRuntime) {
+    let rt = &rt;
+    let mut room = [Factor::<u16> {
+        value: 0,
+        quotient: 0,
+    }; 8];
+    assert_right(
+        rt,
+        first_wrong(OF_16_BITS, &mut room, &mut [0; 16], &mut [0; 16]),
+    );
+    let mut room = [Factor::<u32> {
+        value: 0,
+        quotient: 0,
+    }; 8];
+    assert_right(
+        rt,
+        first_wrong(OF_32_BITS, &mut room, &mut [0; 16], &mut [0; 16]),
+    );
+    let mut room = [Factor::<u64> {
+        value: 0,
+        quotient: 0,
+    }; 8];
+    assert_right(
+        rt,
+        first_wrong(OF_64_BITS, &mut room, &mut [0; 16], &mut [0; 16]),
+    );
+}
