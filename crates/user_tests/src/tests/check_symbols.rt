@@ -262,14 +262,12 @@ fn holds_of_iban(text: &[u8], fact: IbanFact) -> bool {
 }
 
 // A text, and what holds of it.
+#[rattlefmt::skip]
 const IBANS: &[(&[u8], IbanFact)] = &[
     // the United Kingdom, Germany, France and the Netherlands
     (b"GB82WEST12345698765432", IbanFact::RefusesOtherCharacters),
     (b"DE89370400440532013000", IbanFact::RefusesOtherCharacters),
-    (
-        b"FR1420041010050500013M02606",
-        IbanFact::RefusesOtherCharacters,
-    ),
+    (b"FR1420041010050500013M02606", IbanFact::RefusesOtherCharacters),
     (b"NL91ABNA0417164300", IbanFact::RefusesOtherCharacters),
     // a digit, a digit, a letter and a letter changed
     (b"GB82WEST12345698765433", IbanFact::IsRefused),
@@ -277,24 +275,12 @@ const IBANS: &[(&[u8], IbanFact)] = &[
     (b"FR1420041010050500013N02606", IbanFact::IsRefused),
     (b"NL91ABNB0417164300", IbanFact::IsRefused),
     (b"GB82WEST12345698765432", IbanFact::MissesExchanges(&[])),
-    (
-        b"FR1420041010050500013M02606",
-        IbanFact::MissesExchanges(&[]),
-    ),
+    (b"FR1420041010050500013M02606", IbanFact::MissesExchanges(&[])),
     // 1 and B, 2 and M, 3 and X, in both orders
-    (
-        b"FR172004101005051B013M02606",
-        IbanFact::MissesExchanges(&[16]),
-    ),
-    (
-        b"FR2920041010050500012M02606",
-        IbanFact::MissesExchanges(&[20]),
-    ),
+    (b"FR172004101005051B013M02606", IbanFact::MissesExchanges(&[16])),
+    (b"FR2920041010050500012M02606", IbanFact::MissesExchanges(&[20])),
     (b"GB80WEX312345698765432", IbanFact::MissesExchanges(&[6])),
-    (
-        b"FR681B2M3X0B1M2X3",
-        IbanFact::MissesExchanges(&[4, 6, 8, 11, 13, 15]),
-    ),
+    (b"FR681B2M3X0B1M2X3", IbanFact::MissesExchanges(&[4, 6, 8, 11, 13, 15])),
     // 1 is the last check digit
     (b"GB21B1011", IbanFact::MissesExchanges(&[4])),
     // the least and the greatest check digits, and one more that is generated
