@@ -17,6 +17,7 @@ mod lattices;
 mod long_products;
 mod loops;
 mod paths;
+mod reducers;
 mod residues;
 
 use std::fmt::Debug;
