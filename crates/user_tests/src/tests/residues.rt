@@ -60,6 +60,7 @@ fn numbers(rt: HostRuntime) {
 }
 
 // Moduli, whether they are a system, and whether `ResidueSystem::new` returns one.
+#[rattlefmt::skip]
 const SYSTEMS: &[(&[u64], bool, bool)] = &[
     (&[3, 5, 7], true, true),
     (&[], true, true),
@@ -73,16 +74,8 @@ const SYSTEMS: &[(&[u64], bool, bool)] = &[
     (&[4, 9, 10], false, false),
     // 2^128 - 1, and (2^64 - 1)·(2^64 + 6)
     (&[18446744073709551615, 274177, 67280421310721], true, true),
-    (
-        &[18446744073709551615, 2, 9223372036854775811],
-        false,
-        false,
-    ),
-    (
-        &[18446744073709551615, 18446744073709551614, 7],
-        false,
-        false,
-    ),
+    (&[18446744073709551615, 2, 9223372036854775811], false, false),
+    (&[18446744073709551615, 18446744073709551614, 7], false, false),
 ];
 
 // Whether `ResidueSystem::new` returns a system of these moduli.
@@ -102,12 +95,39 @@ fn systems(rt: HostRuntime) {
 }
 
 // The residues of a number.
-fn encoded<const N: usize>(system: ResidueSystem<'_>, number: u128) -> [u64; N]
-    requires { length system.moduli.now ≡ N }
+fn encoded<const N: usize>(system: &ResidueSystem<'_>, number: u128) -> [u64; N]
+    requires { length system.now.moduli.now ≡ N }
 {
     let mut residues = [0u64; N];
     system.encode(number, &mut residues);
     residues
+}
+
+enum Operation {
+    Add,
+    Sub,
+    Mul,
+}
+
+// Whether the operation on the residues of x and y gives those of this number.
+fn has_result<const N: usize>(
+    system: &ResidueSystem<'_>,
+    operation: Operation,
+    x: u128,
+    y: u128,
+    number: u128,
+) -> bool
+    requires { length system.now.moduli.now ≡ N }
+{
+    let left: &[u64] = &encoded::<N>(system, x);
+    let right: &[u64] = &encoded::<N>(system, y);
+    let mut found = [0u64; N];
+    match operation {
+        Operation::Add => system.add(left, right, &mut found),
+        Operation::Sub => system.sub(left, right, &mut found),
+        Operation::Mul => system.mul(left, right, &mut found),
+    }
+    found == encoded(system, number)
 }
 
 // Whether the sums, differences and products of the residues of x and y are the residues of the results.
@@ -115,20 +135,11 @@ fn computes<const N: usize>(moduli: &[u64; N], x: u128, y: u128, results: &[u128
     let Some(system) = ResidueSystem::new(moduli) else {
         return false;
     };
-    if system.moduli.len() != N {
-        return false;
-    }
-    let left = encoded::<N>(system, x);
-    let right = encoded::<N>(system, y);
-    let mut sums = [0u64; N];
-    system.add(&left, &right, &mut sums);
-    let mut differences = [0u64; N];
-    system.sub(&left, &right, &mut differences);
-    let mut products = [0u64; N];
-    system.mul(&left, &right, &mut products);
-    sums == encoded(system, results[0])
-        && differences == encoded(system, results[1])
-        && products == encoded(system, results[2])
+    let system = &system;
+    system.moduli.len() == N
+        && has_result::<N>(system, Operation::Add, x, y, results[0])
+        && has_result::<N>(system, Operation::Sub, x, y, results[1])
+        && has_result::<N>(system, Operation::Mul, x, y, results[2])
 }
 
 #[test]
