@@ -10,10 +10,11 @@ use residue_numbers::ResidueSystem;
 // Whether the moduli are a system in which the number has these residues, and is decoded from them.
 fn there_and_back(moduli: &[u64], number: u128, residues: &[u64]) -> bool {
     let mut room = [0u64; 8];
-    if moduli.len() > 8 || residues.len() != moduli.len() || !is_system(moduli) {
+    let count = moduli.len();
+    if count > 8 || residues.len() != count || !is_system(moduli) {
         return false;
     }
-    let found = &mut room[..moduli.len()];
+    let found = &mut room[..count];
     encode(moduli, number, found);
     *found == *residues && are_reduced(moduli, residues) && decode(moduli, residues) == number
 }
