@@ -11,15 +11,9 @@ mod operations;
 mod symbols;
 mod words;
 
-use std::fmt::Debug;
 use crate::runtime::Abort;
 
-/// Asserts that what is compared at these values holds; else prints the values.
-pub fn assert_at<V: Debug>(rt: &impl Abort, holds: bool, values: &V) {
-    assert!(holds, "{values:?}");
-}
-
-/// Asserts that the check of this number in a test holds; else prints the number.
-pub fn assert_nth(rt: &impl Abort, number: u32, holds: bool) {
+/// Asserts that the check or the row of this number holds; else prints the number.
+pub fn assert_nth(rt: &impl Abort, number: usize, holds: bool) {
     assert!(holds, "check {number}");
 }

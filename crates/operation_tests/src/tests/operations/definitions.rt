@@ -2,39 +2,72 @@
 
 ghost use Rattle.std.specs.Prelude.{◌≤◌};
 
-use crate::tests::assert_at;
+use crate::tests::assert_nth;
+use modular_prim::counted::w8;
+use modular_prim::inverse::inverse_by_subtraction;
 use modular_prim::operations::{ModularAbs, ModularCoreOps, ModularPow, ModularUnaryOps};
 use modular_word::plain::{inverse_by_search, power_of, residue_of};
-use std::process::Abort;
 
-// The residues of a sum, a difference and a product.
-fn of_two(a: u8, b: u8, m: u8) -> [u8; 3]
+// The residues of three numbers by the definition.
+fn residues(numbers: [i64; 3], m: u8) -> [u64; 3]
     requires { 1 ≤ m }
 {
-    [a.addm(b, &m), a.subm(b, &m), a.mulm(b, &m)]
+    let [x, y, z] = numbers;
+    [
+        residue_of(x, m as u64),
+        residue_of(y, m as u64),
+        residue_of(z, m as u64),
+    ]
 }
 
-// Whether a byte is the residue of a number by the definition.
-fn is_residue(found: u8, z: i64, m: u8) -> bool
-    requires { 1 ≤ m }
-{
-    found as u64 == residue_of(z, m as u64)
-}
-
-// Whether they equal those of the definitions.
+// Whether a sum, a difference and a product have the residues of the definitions.
 fn agree_of_two(a: u8, b: u8, m: u8) -> bool
     requires { 1 ≤ m }
 {
-    let [sum, difference, product] = of_two(a, b, m);
     let (x, y) = (a as i64, b as i64);
-    is_residue(sum, x + y, m) && is_residue(difference, x - y, m) && is_residue(product, x * y, m)
+    let found = [
+        a.addm(b, &m) as u64,
+        a.subm(b, &m) as u64,
+        a.mulm(b, &m) as u64,
+    ];
+    found == residues([x + y, x - y, x * y], m)
 }
 
-// The residues of a negative, a double and a square.
-fn of_one(a: u8, m: u8) -> [u8; 3]
+fn agree_on_powers(a: u8, exp: u8, m: u8) -> bool
     requires { 1 ≤ m }
 {
-    [a.negm(&m), a.dblm(&m), a.sqm(&m)]
+    a.powm(exp, &m) as u64 == power_of(a as u64, exp as u64, m as u64)
+}
+
+// Whether these operations agree for each of these operands, and the powers for the small ones.
+fn all_agree_of_two(a: u8, m: u8) -> bool
+    requires { 1 ≤ m }
+{
+    let next = m.wrapping_add(1);
+    for b in [
+        0,
+        1,
+        2,
+        3,
+        4,
+        5,
+        7,
+        8,
+        20,
+        127,
+        128,
+        129,
+        254,
+        255,
+        m - 1,
+        m,
+        next,
+    ] {
+        if !agree_of_two(a, b, m) || b <= 20 && !agree_on_powers(a, b, m) {
+            return false;
+        }
+    }
+    true
 }
 
 // Whether the inverse equals that of the definition.
@@ -48,70 +81,48 @@ fn agree_on_the_inverse(a: u8, m: u8) -> bool
     inverse == inverse_by_search(a as u64, m as u64)
 }
 
-// Whether they, the inverse, and the residue of the signed number a - 128 equal those of the definitions.
+// Whether the loop that divides and, for odd moduli, the one that subtracts return the same inverse as `invm`.
+fn loops_agree(a: u8, m: u8) -> bool
+    requires { 1 ≤ m }
+{
+    let inverse = w8::invm_counted(a, m).0;
+    a.invm(&m) == inverse && (m % 2 == 0 || inverse_by_subtraction(a, m) == inverse)
+}
+
+// Whether a negative, a double and a square have the residues of the definitions.
 fn agree_of_one(a: u8, m: u8) -> bool
     requires { 1 ≤ m }
 {
-    let [negative, double, square] = of_one(a, m);
     let x = a as i64;
-    let z = (x - 128) as i8;
-    is_residue(negative, -x, m)
-        && is_residue(double, 2 * x, m)
-        && is_residue(square, x * x, m)
-        && agree_on_the_inverse(a, m)
-        && is_residue(z.absm(&m), z as i64, m)
+    let found = [a.negm(&m) as u64, a.dblm(&m) as u64, a.sqm(&m) as u64];
+    found == residues([-x, 2 * x, x * x], m)
 }
 
-fn assert_of_two(rt: &impl Abort, a: u8, m: u8)
+// Whether the signed number a - 128 has the residue of the definition.
+fn agrees_with_sign(a: u8, m: u8) -> bool
     requires { 1 ≤ m }
 {
-    for b in [
-        0,
-        1,
-        2,
-        127,
-        128,
-        129,
-        254,
-        255,
-        m - 1,
-        m,
-        m.wrapping_add(1),
-    ] {
-        assert_at(rt, agree_of_two(a, b, m), &(a, b, m));
-    }
+    let z = (a as i64 - 128) as i8;
+    z.absm(&m) as u64 == residue_of(z as i64, m as u64)
 }
 
+// Whether all operations with this operand agree with the definitions.
+fn all_agree(a: u8, m: u8) -> bool
+    requires { 1 ≤ m }
+{
+    agree_of_one(a, m)
+        && agrees_with_sign(a, m)
+        && agree_on_the_inverse(a, m)
+        && loops_agree(a, m)
+        && all_agree_of_two(a, m)
+}
+
+// A check that fails has the number of its modulus.
 #[test]
 fn operations(rt: HostRuntime) {
     for m in 1..=255u8 {
         for a in 0..=255u8 {
-            assert_at(&rt, agree_of_one(a, m), &(a, m));
-            assert_of_two(&rt, a, m);
-        }
-    }
-}
-
-fn agree_on_powers(a: u8, exp: u8, m: u8) -> bool
-    requires { 1 ≤ m }
-{
-    a.powm(exp, &m) as u64 == power_of(a as u64, exp as u64, m as u64)
-}
-
-fn assert_powers(rt: &impl Abort, a: u8, m: u8)
-    requires { 1 ≤ m }
-{
-    for exp in [0, 1, 2, 3, 4, 5, 7, 8, 20u8] {
-        assert_at(rt, agree_on_powers(a, exp, m), &(a, exp, m));
-    }
-}
-
-#[test]
-fn small_powers(rt: HostRuntime) {
-    for m in [1, 2, 3, 7, 8, 127, 128, 129, 254, 255u8] {
-        assert!(rt; m > 0);
-        for a in 0..=255u8 {
-            assert_powers(&rt, a, m);
+            assert_nth(&rt, m as usize, all_agree(a, m));
         }
     }
 }

@@ -2,88 +2,61 @@
 
 ghost use Rattle.std.specs.Prelude.{◌≡◌, ◌%◌};
 
-use super::tables::{LARGE, LARGE_OF_32_BITS, LARGE_SIGNED};
-use crate::tests::assert_at;
+use crate::tests::assert_nth;
 use modular_symbols::count::jacobi_by_count;
 use modular_symbols::halving::jacobi_by_halving;
-use modular_symbols::low_part::LowPart;
 use modular_symbols::operands::SymbolWord;
 use modular_symbols::subtraction::jacobi_by_subtraction;
 use modular_symbols::symbols::ModularSymbols;
+use modular_word::ring_word::RingWord;
 
-// `checked_jacobi`, which halves and swaps, `jacobi_by_subtraction` and the count of the half system agree; and for
-// the negative number the loop that only halves agrees with the count. Each byte, over each odd byte.
-fn agree(a: u8, n: u8) -> bool
+// The Jacobi symbol of a over n by subtraction; `None` for an n that is even or below 1.
+fn by_subtraction<T: SymbolWord>(a: T, n: T) -> Option<i8> {
+    let (minus, magnitude) = a.sign_and_magnitude();
+    let (below, over) = n.sign_and_magnitude();
+    if over.is_odd() && !below {
+        Some(jacobi_by_subtraction(minus, magnitude, over))
+    } else {
+        None
+    }
+}
+
+/// The Jacobi symbol by both calls, which halve and swap, and by subtraction.
+pub fn jacobi_symbols<T: SymbolWord>(a: T, n: T) -> [Option<i8>; 3] {
+    let subtracted = by_subtraction(a, n);
+    match a.checked_jacobi(&n) {
+        Some(symbol) => [Some(symbol), Some(a.jacobi(&n)), subtracted],
+        None => [None, None, subtracted],
+    }
+}
+
+// Whether these three are the same.
+fn agree<T: SymbolWord>(a: T, n: T) -> bool {
+    jacobi_symbols(a, n) == [a.checked_jacobi(&n); 3]
+}
+
+// Whether the count of the half system agrees with the calls for a, and with the loop that only halves for -a.
+fn counts_agree(a: u8, n: u8) -> bool
     requires { n % 2 ≡ 1 }
 {
-    let symbol = jacobi_by_subtraction(false, a, n);
-    a.checked_jacobi(&n) == Some(symbol)
-        && a.jacobi(&n) == symbol
-        && jacobi_by_count(false, a, n) == symbol
+    jacobi_by_count(false, a, n) == a.jacobi(&n)
         && jacobi_by_halving(true, a, n) == jacobi_by_count(true, a, n)
 }
 
+// Whether all agree for a over n, and for a - 128 over n - 128.
+fn all_agree(a: u8, n: u8) -> bool {
+    agree(a, n)
+        && agree((a as i16 - 128) as i8, (n as i16 - 128) as i8)
+        && (n % 2 == 0 || counts_agree(a, n))
+}
+
+// Each byte and each signed byte, over each; symbols exist over the odd ones above 0. A check that fails has the
+// number of the byte that its symbol is over.
 #[test]
-fn the_two_loops(rt: HostRuntime) {
-    for half in 0..128u8 {
-        let n = 2 * half + 1;
+fn the_loops(rt: HostRuntime) {
+    for n in 0..=255u8 {
         for a in 0..=255u8 {
-            assert_at(&rt, agree(a, n), &(a, n));
+            assert_nth(&rt, n as usize, all_agree(a, n));
         }
     }
-}
-
-// Whether n is odd, and the symbol of a over n by both loops is this.
-fn is_symbol<T: LowPart + SymbolWord>(a: T, n: T, want: Option<i8>) -> bool {
-    n.is_odd() && Some(jacobi_by_subtraction(false, a, n)) == want && a.checked_jacobi(&n) == want
-}
-
-// The same of signed numbers, for an n above 0.
-fn is_symbol_with_sign(a: i64, n: i64, want: Option<i8>) -> bool {
-    n > 0
-        && n % 2 == 1
-        && Some(jacobi_by_subtraction(a < 0, a.unsigned_abs(), n as u64)) == want
-        && a.checked_jacobi(&n) == want
-}
-
-// The known values of the Kronecker and the Legendre symbol serve too: over an odd number above 0 the Kronecker
-// symbol is the Jacobi symbol, and over an odd prime the Legendre symbol is.
-#[test]
-fn the_two_loops_of_wide_words(rt: HostRuntime) {
-    let rt = &rt;
-    for &(_, a, n, want) in LARGE_OF_32_BITS {
-        assert_at(rt, is_symbol(a, n, want), &(a, n));
-    }
-    for &(_, a, n, want) in LARGE {
-        assert_at(rt, is_symbol(a, n, want), &(a, n));
-    }
-    for &(_, a, n, want) in LARGE_SIGNED {
-        assert_at(rt, is_symbol_with_sign(a, n, want), &(a, n));
-    }
-}
-
-// Whether both calls and the loop agree on the symbol of a over n, where it exists.
-fn agree_with_sign(a: i8, n: i8) -> Option<bool> {
-    let symbol = a.checked_jacobi(&n)?;
-    let agree = a.jacobi(&n) == symbol
-        && n > 0
-        && n % 2 == 1
-        && jacobi_by_subtraction(a < 0, a.unsigned_abs(), n as u8) == symbol;
-    Some(agree)
-}
-
-// Each signed byte, over each that has symbols: the 64 odd ones above 0.
-#[test]
-fn the_two_loops_with_sign(rt: HostRuntime) {
-    let rt = &rt;
-    let mut found = 0u32;
-    for n in -128..=127i8 {
-        for a in -128..=127i8 {
-            if let Some(agree) = agree_with_sign(a, n) {
-                assert_at(rt, agree, &(a, n));
-                found = found.wrapping_add(1);
-            }
-        }
-    }
-    check!(rt, 1; found == 64 * 256);
 }

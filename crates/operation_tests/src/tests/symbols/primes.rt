@@ -1,6 +1,6 @@
 //! Prime numbers, and the symbols over them.
 
-use crate::tests::assert_at;
+use crate::tests::assert_nth;
 use modular_symbols::count::jacobi_by_count;
 use modular_symbols::primes::{is_prime_by_search, symbol_over_prime};
 
@@ -8,21 +8,21 @@ use modular_symbols::primes::{is_prime_by_search, symbol_over_prime};
 fn primes_below_thirty(rt: HostRuntime) {
     let rt = &rt;
     for n in [2, 3, 5, 7, 11, 13, 17, 19, 23, 29] {
-        assert_at(rt, is_prime_by_search(n), &n);
+        assert_nth(rt, n as usize, is_prime_by_search(n));
     }
     for n in [0, 1, 4, 9, 15, 21, 25, 27] {
-        assert_at(rt, !is_prime_by_search(n), &n);
+        assert_nth(rt, n as usize, !is_prime_by_search(n));
     }
 }
 
 #[test]
 fn symbols_over_primes(rt: HostRuntime) {
-    let rt = &rt;
-    for n in [3, 5, 7, 11, 13, 17, 19, 23, 29] {
-        assert!(rt; is_prime_by_search(n) && n % 2 == 1);
-        for a in 0..2 * n {
-            let symbol = symbol_over_prime(a, n);
-            assert_at(rt, symbol == jacobi_by_count(false, a, n), &(a, n));
+    for n in 3..30 {
+        if is_prime_by_search(n) && n % 2 == 1 {
+            for a in 0..2 * n {
+                let symbol = symbol_over_prime(a, n);
+                assert_nth(&rt, n as usize, symbol == jacobi_by_count(false, a, n));
+            }
         }
     }
 }

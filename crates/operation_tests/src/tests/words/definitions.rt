@@ -1,6 +1,5 @@
 //! The definitions as programs, for the known values of the fast calls.
 
-use crate::tests::assert_at;
 use modular_word::plain::{greatest_common_divisor, inverse_by_search, power_of, residue_of};
 
 // A number, the modulus and the residue.
@@ -39,9 +38,8 @@ const RESIDUES: &[(i64, u64, u64)] = &[
 
 #[test]
 fn residues(rt: HostRuntime) {
-    for row in RESIDUES {
-        let &(z, m, want) = row;
-        assert_at(&rt, m > 0 && residue_of(z, m) == want, row);
+    for &(z, m, want) in RESIDUES {
+        check!(&rt, 1; m > 0 && residue_of(z, m) == want);
     }
 }
 
@@ -62,9 +60,8 @@ const POWERS: &[(u64, u64, u64, u64)] = &[
 
 #[test]
 fn powers(rt: HostRuntime) {
-    for row in POWERS {
-        let &(base, exp, m, want) = row;
-        assert_at(&rt, m > 0 && power_of(base, exp, m) == want, row);
+    for &(base, exp, m, want) in POWERS {
+        check!(&rt, 1; m > 0 && power_of(base, exp, m) == want);
     }
 }
 
@@ -83,9 +80,8 @@ const INVERSES: &[(u64, u64, Option<u64>)] = &[
 
 #[test]
 fn inverses(rt: HostRuntime) {
-    for row in INVERSES {
-        let &(a, m, want) = row;
-        assert_at(&rt, m > 0 && inverse_by_search(a, m) == want, row);
+    for &(a, m, want) in INVERSES {
+        check!(&rt, 1; m > 0 && inverse_by_search(a, m) == want);
     }
 }
 
@@ -100,8 +96,7 @@ const COMMON_DIVISORS: &[(u64, u64, u64)] = &[
 
 #[test]
 fn common_divisors(rt: HostRuntime) {
-    for row in COMMON_DIVISORS {
-        let &(a, n, want) = row;
-        assert_at(&rt, greatest_common_divisor(a, n) == want, row);
+    for &(a, n, want) in COMMON_DIVISORS {
+        check!(&rt, 1; greatest_common_divisor(a, n) == want);
     }
 }

@@ -1,6 +1,5 @@
 //! The paths, for divisors and moduli where a correction, a limit or a carry matters.
 
-use crate::tests::assert_at;
 use modular_word::paths::{div_1by1, div_2by1, exact_1, exact_2, redc};
 
 #[test]
@@ -30,10 +29,17 @@ fn divisions_and_reductions(rt: HostRuntime) {
 #[test]
 fn exact_division(rt: HostRuntime) {
     let rt = &rt;
-    for (n, want) in [(252, Some(36)), (253, None), (0, Some(0)), (1, None)] {
-        assert_at(rt, exact_1(7u8, 183, 36, n) == want, &n);
-    }
-    for (n, want) in [(65534, Some(9362)), (65535, None), (1, None)] {
-        assert_at(rt, exact_2(7u8, 183, 36, n) == want, &n);
-    }
+    let words = [
+        exact_1(7u8, 183, 36, 252),
+        exact_1(7u8, 183, 36, 253),
+        exact_1(7u8, 183, 36, 0),
+        exact_1(7u8, 183, 36, 1),
+    ];
+    check!(rt, 1; words == [Some(36), None, Some(0), None]);
+    let doubles = [
+        exact_2(7u8, 183, 36, 65534),
+        exact_2(7u8, 183, 36, 65535),
+        exact_2(7u8, 183, 36, 1),
+    ];
+    check!(rt, 2; doubles == [Some(9362), None, None]);
 }

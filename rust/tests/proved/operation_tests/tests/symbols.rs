@@ -1,6 +1,5 @@
 //! Known values of the symbols.
 
-mod any_operands;
 mod callers;
 mod combined;
 mod counted;

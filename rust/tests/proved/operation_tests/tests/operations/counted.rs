@@ -1,6 +1,6 @@
 //! Inverses with the number of their divisions.
 
-use crate::operation_tests::tests::assert_at;
+use super::inverses::{INVERSES_OF_16_BITS, INVERSES_OF_32_BITS, INVERSES_OF_64_BITS, widened};
 use num_modular::modular_prim::counted::{w8, w16, w32, w64, wsize};
 
 // A number, the modulus, the inverse and the number of divisions.
@@ -17,11 +17,7 @@ fn is_found<T: Copy + PartialEq + From<u8>>(
     found: (Option<T>, u32),
     want: (Option<u8>, u32),
 ) -> bool {
-    let inverse = match want.0 {
-        Some(inverse) => Some(T::from(inverse)),
-        None => None,
-    };
-    found.0 == inverse && found.1 == want.1
+    found == (widened(want.0), want.1)
 }
 
 // Whether the counted inverse of each width returns this.
@@ -38,13 +34,32 @@ fn answers(a: u8, m: u8, want: (Option<u8>, u32)) -> [bool; 5] {
 #[test]
 fn inverses_at_each_width() {
     let rt = crate::runtime::HostRuntime;
-    for row in ROWS {
-        let &(a, m, inverse, count) = row;
-        assert_at(
-            &rt,
-            m > 0 && answers(a, m, (inverse, count)) == [true; 5],
-            row,
-        );
+    for &(a, m, inverse, count) in ROWS {
+        check!(&rt, 1; m > 0 && answers(a, m, (inverse, count)) == [true; 5]);
+    }
+}
+
+#[test]
+fn inverses_of_16_bits() {
+    let rt = crate::runtime::HostRuntime;
+    for &(a, m, want) in INVERSES_OF_16_BITS {
+        check!(&rt, 1; m > 0 && w16::invm_counted(a, m).0 == want);
+    }
+}
+
+#[test]
+fn inverses_of_32_bits() {
+    let rt = crate::runtime::HostRuntime;
+    for &(a, m, want) in INVERSES_OF_32_BITS {
+        check!(&rt, 1; m > 0 && w32::invm_counted(a, m).0 == want);
+    }
+}
+
+#[test]
+fn inverses_of_64_bits() {
+    let rt = crate::runtime::HostRuntime;
+    for &(a, m, want) in INVERSES_OF_64_BITS {
+        check!(&rt, 1; m > 0 && w64::invm_counted(a, m).0 == want);
     }
 }
 

@@ -1,27 +1,13 @@
-//! Known inverses, and `inverse_by_subtraction` compared with `invm_counted`, which divides.
+//! Known inverses.
 
-use crate::operation_tests::tests::assert_at;
-use num_modular::modular_prim::counted::{w8, w16, w32, w64};
+use super::any_operands::inverse;
 use num_modular::modular_prim::inverse::inverse_by_subtraction;
-use num_modular::modular_prim::operations::ModularUnaryOps;
 use num_modular::modular_prim::plain_word::PlainWord;
+use num_modular::modular_symbols::reference_operations::ModularRefOps;
 use crate::runtime::Abort;
 
-// Each byte, modulo each odd byte.
-#[test]
-fn the_two_loops() {
-    let rt = crate::runtime::HostRuntime;
-    for half in 0..128u8 {
-        let m = 2 * half + 1;
-        for a in 0..=255u8 {
-            let inverse = inverse_by_subtraction(a, m);
-            assert_at(&rt, inverse == w8::invm_counted(a, m).0, &(a, m));
-        }
-    }
-}
-
 // A number, the modulus and the inverse, for each width.
-const INVERSES: &[(u8, u8, Option<u8>)] = &[
+pub const INVERSES: &[(u8, u8, Option<u8>)] = &[
     (5, 11, Some(9)),
     (8, 11, Some(7)),
     (10, 11, Some(10)),
@@ -31,17 +17,22 @@ const INVERSES: &[(u8, u8, Option<u8>)] = &[
     (3, 1, Some(0)),
     (6, 9, None),
     (12, 5, Some(3)),
+    (5, 21, Some(17)),
+    (16, 11, Some(9)),
+    (5, 15, None),
+    (11, 7, Some(2)),
+    (7, 7, None),
 ];
 
 // For 16 bits and wider.
-const WIDE_INVERSES: &[(u16, u16, Option<u16>)] = &[
+pub const WIDE_INVERSES: &[(u16, u16, Option<u16>)] = &[
     (3, 5000, Some(1667)),
     (1667, 5000, Some(3)),
     (999, 5000, Some(3999)),
     (5999, 5000, Some(3999)),
 ];
 
-const INVERSES_OF_16_BITS: &[(u16, u16, Option<u16>)] = &[
+pub const INVERSES_OF_16_BITS: &[(u16, u16, Option<u16>)] = &[
     (65535, 65521, Some(60841)),
     (32768, 65521, Some(56785)),
     (65520, 65521, Some(65520)),
@@ -49,7 +40,7 @@ const INVERSES_OF_16_BITS: &[(u16, u16, Option<u16>)] = &[
     (2, 65535, Some(32768)),
 ];
 
-const INVERSES_OF_32_BITS: &[(u32, u32, Option<u32>)] = &[
+pub const INVERSES_OF_32_BITS: &[(u32, u32, Option<u32>)] = &[
     (4294967295, 4294967291, Some(1073741823)),
     (2147483648, 4294967291, Some(2576980375)),
     (4294967290, 4294967291, Some(4294967290)),
@@ -57,7 +48,7 @@ const INVERSES_OF_32_BITS: &[(u32, u32, Option<u32>)] = &[
     (2, 4294967295, Some(2147483648)),
 ];
 
-const INVERSES_OF_64_BITS: &[(u64, u64, Option<u64>)] = &[
+pub const INVERSES_OF_64_BITS: &[(u64, u64, Option<u64>)] = &[
     (
         81985529216486895,
         18446744073709551557,
@@ -103,7 +94,7 @@ const INVERSES_OF_64_BITS: &[(u64, u64, Option<u64>)] = &[
     ),
 ];
 
-const INVERSES_OF_SIZES: &[(usize, usize, Option<usize>)] = &[
+pub const INVERSES_OF_SIZES: &[(usize, usize, Option<usize>)] = &[
     (999, 9223372036854775807, Some(3619181019466538655)),
     (
         9223372036854775804,
@@ -112,74 +103,40 @@ const INVERSES_OF_SIZES: &[(usize, usize, Option<usize>)] = &[
     ),
 ];
 
-// Whether the number by value and by reference has the row's inverse.
-fn is_inverse<S: Copy, T: PlainWord + From<S>>(row: &(S, S, Option<S>)) -> bool {
-    let &(a, m, want) = row;
-    let (a, m) = (&T::from(a), &T::from(m));
-    let want = match want {
+/// An inverse as a word of another width.
+pub fn widened<S, T: From<S>>(inverse: Option<S>) -> Option<T> {
+    match inverse {
         Some(inverse) => Some(T::from(inverse)),
         None => None,
-    };
-    !m.is_zero_word() && (*a).invm(m) == want && a.invm(m) == want
-}
-
-fn assert_inverses<S: Copy, T: PlainWord + From<S>>(rt: &impl Abort, rows: &[(S, S, Option<S>)]) {
-    for i in 0..rows.len() {
-        assert_at(rt, is_inverse::<S, T>(&rows[i]), &i);
     }
 }
 
-#[test]
-fn inverses_at_each_width() {
-    let rt = crate::runtime::HostRuntime;
-    let rt = &rt;
-    assert_inverses::<u8, u8>(rt, INVERSES);
-    assert_inverses::<u8, u16>(rt, INVERSES);
-    assert_inverses::<u8, u32>(rt, INVERSES);
-    assert_inverses::<u8, u64>(rt, INVERSES);
-    assert_inverses::<u8, usize>(rt, INVERSES);
-    assert_inverses::<u16, u16>(rt, WIDE_INVERSES);
-    assert_inverses::<u16, u32>(rt, WIDE_INVERSES);
-    assert_inverses::<u16, u64>(rt, WIDE_INVERSES);
-    assert_inverses::<u16, usize>(rt, WIDE_INVERSES);
-    assert_inverses::<u16, u16>(rt, INVERSES_OF_16_BITS);
-    assert_inverses::<u32, u32>(rt, INVERSES_OF_32_BITS);
-    assert_inverses::<u64, u64>(rt, INVERSES_OF_64_BITS);
-    assert_inverses::<usize, usize>(rt, INVERSES_OF_SIZES);
-}
-
-// Whether the modulus is odd, and the inverse by subtraction is this.
-fn is_inverse_by_subtraction<T: PlainWord>(a: T, m: T, want: Option<T>) -> bool {
-    m.is_odd() && inverse_by_subtraction(a, m) == want
-}
-
-// Whether both loops find the row's inverse.
-fn is_found_16(row: &(u16, u16, Option<u16>)) -> bool {
-    let &(a, m, want) = row;
-    m > 0 && w16::invm_counted(a, m).0 == want && is_inverse_by_subtraction(a, m, want)
-}
-
-fn is_found_32(row: &(u32, u32, Option<u32>)) -> bool {
-    let &(a, m, want) = row;
-    m > 0 && w32::invm_counted(a, m).0 == want && is_inverse_by_subtraction(a, m, want)
-}
-
-fn is_found_64(row: &(u64, u64, Option<u64>)) -> bool {
-    let &(a, m, want) = row;
-    m > 0 && w64::invm_counted(a, m).0 == want && is_inverse_by_subtraction(a, m, want)
-}
-
-#[test]
-fn the_two_loops_of_wide_words() {
-    let rt = crate::runtime::HostRuntime;
-    let rt = &rt;
-    for row in INVERSES_OF_16_BITS {
-        assert_at(rt, is_found_16(row), row);
+// The inverse by subtraction, which needs an odd modulus.
+fn by_subtraction<T: PlainWord>(a: T, m: T, otherwise: Option<T>) -> Option<T> {
+    if m.is_odd() {
+        inverse_by_subtraction(a, m)
+    } else {
+        otherwise
     }
-    for row in INVERSES_OF_32_BITS {
-        assert_at(rt, is_found_32(row), row);
-    }
-    for row in INVERSES_OF_64_BITS {
-        assert_at(rt, is_found_64(row), row);
+}
+
+// Whether the number has this inverse for each kind of operand, and by subtraction where the modulus is odd.
+fn has_inverse<T: PlainWord + ModularRefOps>(a: &T, m: &T, want: Option<T>) -> bool {
+    !m.is_zero_word()
+        && (
+            inverse(*a, m),
+            inverse(a, m),
+            a.invm_ref(m),
+            by_subtraction(*a, *m, want),
+        ) == (want, want, want, want)
+}
+
+/// Asserts that each number of a table has its inverse.
+pub fn assert_inverses<S: Copy, T: PlainWord + ModularRefOps + From<S>>(
+    rt: &impl Abort,
+    rows: &[(S, S, Option<S>)],
+) {
+    for &(a, m, want) in rows {
+        check!(rt, 1; has_inverse(&T::from(a), &T::from(m), widened(want)));
     }
 }

@@ -1,11 +1,27 @@
 //! The known values of each operation.
 
-use crate::operation_tests::tests::assert_at;
+use super::any_operands::{difference, power, signed};
+use super::inverses::{
+    INVERSES, INVERSES_OF_16_BITS, INVERSES_OF_32_BITS, INVERSES_OF_64_BITS, INVERSES_OF_SIZES,
+    WIDE_INVERSES, assert_inverses,
+};
 use num_modular::modular_prim::numbered::Numbered;
 use num_modular::modular_prim::operations::{ModularAbs, ModularCoreOps, ModularPow, ModularUnaryOps};
 use num_modular::modular_prim::plain_word::PlainWord;
 use num_modular::modular_prim::power::{powm_u32, powm_u64};
+use num_modular::modular_symbols::reference_operations::ModularRefOps;
 use crate::runtime::Abort;
+
+#[derive(Clone, Copy)]
+enum Operation {
+    Sum,
+    Difference,
+    Product,
+    Power,
+    Negative,
+    Double,
+    Square,
+}
 
 // Each operation with its operands by value and by reference.
 fn sums<T: PlainWord>(a: &T, b: &T, m: &T) -> (T, T, T, T) {
@@ -20,8 +36,8 @@ fn sums<T: PlainWord>(a: &T, b: &T, m: &T) -> (T, T, T, T) {
 fn differences<T: PlainWord>(a: &T, b: &T, m: &T) -> (T, T, T, T) {
     (
         (*a).subm(*b, m),
-        (*a).subm(b, m),
-        a.subm(*b, m),
+        difference(*a, b, m),
+        difference(a, *b, m),
         a.subm(b, m),
     )
 }
@@ -37,40 +53,50 @@ fn products<T: PlainWord>(a: &T, b: &T, m: &T) -> (T, T, T, T) {
 
 fn powers<T: PlainWord>(a: &T, b: &T, m: &T) -> (T, T, T, T) {
     (
-        (*a).powm(*b, m),
+        power(*a, *b, m),
         (*a).powm(b, m),
         a.powm(*b, m),
-        a.powm(b, m),
+        power(a, b, m),
     )
 }
 
-// The negatives, the doubles and the squares, of the operand by value and by reference.
-fn multiples<T: PlainWord>(a: &T, m: &T) -> ((T, T), (T, T), (T, T)) {
-    (
-        ((*a).negm(m), a.negm(m)),
-        ((*a).dblm(m), a.dblm(m)),
-        ((*a).sqm(m), a.sqm(m)),
-    )
+// The operations of one operand, which is by value and by reference.
+fn multiples<T: PlainWord>(operation: Operation, a: &T, m: &T) -> (T, T) {
+    match operation {
+        Operation::Negative => ((*a).negm(m), a.negm(m)),
+        Operation::Double => ((*a).dblm(m), a.dblm(m)),
+        _ => ((*a).sqm(m), a.sqm(m)),
+    }
 }
 
-#[derive(Clone, Copy)]
-enum Operation {
-    Sum,
-    Difference,
-    Product,
-    Power,
-}
-
+// What the operation returns for each kind of operands.
 fn answers<T: PlainWord>(operation: Operation, a: &T, b: &T, m: &T) -> (T, T, T, T) {
     match operation {
         Operation::Sum => sums(a, b, m),
         Operation::Difference => differences(a, b, m),
         Operation::Product => products(a, b, m),
         Operation::Power => powers(a, b, m),
+        _ => {
+            let found = multiples(operation, a, m);
+            (found.0, found.1, found.0, found.1)
+        }
     }
 }
 
-// Two operands, the modulus, and the residue of the result.
+// What the operation returns by its name for references.
+fn answer_of_references<T: ModularRefOps>(operation: Operation, a: &T, b: &T, m: &T) -> T {
+    match operation {
+        Operation::Sum => a.addm_ref(b, m),
+        Operation::Difference => a.subm_ref(b, m),
+        Operation::Product => a.mulm_ref(b, m),
+        Operation::Power => a.powm_ref(b, m),
+        Operation::Negative => a.negm_ref(m),
+        Operation::Double => a.dblm_ref(m),
+        Operation::Square => a.sqm_ref(m),
+    }
+}
+
+// Two operands, the modulus, and the residue of the result. The last operations have one operand, the first.
 const ROWS: &[(Operation, u8, u8, u8, u8)] = &[
     (Operation::Sum, 0, 0, 5, 0),
     (Operation::Sum, 1, 2, 5, 3),
@@ -81,6 +107,7 @@ const ROWS: &[(Operation, u8, u8, u8, u8)] = &[
     (Operation::Sum, 7, 11, 5, 3),
     (Operation::Sum, 12, 13, 5, 0),
     (Operation::Sum, u8::MAX, u8::MAX, 254, 2),
+    (Operation::Sum, 11, 9, 7, 6),
     (Operation::Difference, 0, 0, 7, 0),
     (Operation::Difference, 11, 9, 7, 2),
     (Operation::Difference, 5, 2, 7, 3),
@@ -113,6 +140,26 @@ const ROWS: &[(Operation, u8, u8, u8, u8)] = &[
     (Operation::Power, 255, 255, 1, 0),
     (Operation::Power, 3, 0, 1, 0),
     (Operation::Power, 12, 13, 5, 2),
+    (Operation::Negative, 0, 0, 5, 0),
+    (Operation::Negative, 2, 0, 5, 3),
+    (Operation::Negative, 1, 0, 5, 4),
+    (Operation::Negative, 5, 0, 5, 0),
+    (Operation::Negative, 12, 0, 5, 3),
+    (Operation::Negative, 11, 0, 7, 3),
+    (Operation::Double, 0, 0, 5, 0),
+    (Operation::Double, 2, 0, 5, 4),
+    (Operation::Double, 1, 0, 5, 2),
+    (Operation::Double, 5, 0, 5, 0),
+    (Operation::Double, 12, 0, 5, 4),
+    (Operation::Double, 11, 0, 7, 1),
+    (Operation::Double, 3, 0, 5, 1),
+    (Operation::Square, 0, 0, 5, 0),
+    (Operation::Square, 2, 0, 5, 4),
+    (Operation::Square, 1, 0, 5, 1),
+    (Operation::Square, 5, 0, 5, 0),
+    (Operation::Square, 12, 0, 5, 4),
+    (Operation::Square, 11, 0, 7, 2),
+    (Operation::Square, 4, 0, 7, 2),
 ];
 
 const ROWS_OF_64_BITS: &[(Operation, u64, u64, u64, u64)] = &[
@@ -138,62 +185,44 @@ const ROWS_OF_SIZES: &[(Operation, usize, usize, usize, usize)] = &[
     ),
 ];
 
-fn are_all<T: PlainWord>(found: (T, T, T, T), want: T) -> bool {
-    found.0 == want && found.1 == want && found.2 == want && found.3 == want
-}
-
-// Whether the operation returns the row's result for each kind of operands.
-fn is_right<S: Copy, T: PlainWord + From<S>>(row: &(Operation, S, S, S, S)) -> bool {
-    let &(operation, a, b, m, want) = row;
-    let m = T::from(m);
+// Whether the operation returns this for each kind of operands.
+fn is_right<T: PlainWord + ModularRefOps>(
+    operation: Operation,
+    a: &T,
+    b: &T,
+    m: &T,
+    want: T,
+) -> bool {
     !m.is_zero_word()
-        && are_all(
-            answers(operation, &T::from(a), &T::from(b), &m),
-            T::from(want),
-        )
+        && answers(operation, a, b, m) == (want, want, want, want)
+        && answer_of_references(operation, a, b, m) == want
 }
 
-fn assert_rows<S: Copy, T: PlainWord + From<S>>(rt: &impl Abort, rows: &[(Operation, S, S, S, S)]) {
-    for i in 0..rows.len() {
-        assert_at(rt, is_right::<S, T>(&rows[i]), &i);
+fn assert_rows<S: Copy, T: PlainWord + ModularRefOps + From<S>>(
+    rt: &impl Abort,
+    rows: &[(Operation, S, S, S, S)],
+) {
+    for &(operation, a, b, m, want) in rows {
+        let (a, b, m) = (&T::from(a), &T::from(b), &T::from(m));
+        check!(rt, 1; is_right(operation, a, b, m, T::from(want)));
     }
 }
 
-// An operand, the modulus, and the residues of the operand's negative, its double and its square.
-const MULTIPLES: &[(u8, u8, u8, u8, u8)] = &[
-    (0, 5, 0, 0, 0),
-    (2, 5, 3, 4, 4),
-    (1, 5, 4, 2, 1),
-    (5, 5, 0, 0, 0),
-    (12, 5, 3, 4, 4),
-];
-
-fn are_both<T: PlainWord>(found: (T, T), want: T) -> bool {
-    found.0 == want && found.1 == want
-}
-
-// Whether they are so for the operand by value and by reference.
-fn are_right<T: PlainWord + From<u8>>(row: &(u8, u8, u8, u8, u8)) -> bool {
-    let &(a, m, negative, double, square) = row;
-    let m = T::from(m);
-    if m.is_zero_word() {
-        return false;
-    }
-    let (negatives, doubles, squares) = multiples(&T::from(a), &m);
-    are_both(negatives, T::from(negative))
-        && are_both(doubles, T::from(double))
-        && are_both(squares, T::from(square))
-}
-
-fn assert_multiples<T: PlainWord + From<u8>>(rt: &impl Abort) {
-    for row in MULTIPLES {
-        assert_at(rt, are_right::<T>(row), row);
-    }
-}
-
-fn assert_operations<T: PlainWord + From<u8>>(rt: &impl Abort) {
+fn assert_operations<T: PlainWord + ModularRefOps + From<u8>>(rt: &impl Abort) {
     assert_rows::<u8, T>(rt, ROWS);
-    assert_multiples::<T>(rt);
+    assert_inverses::<u8, T>(rt, INVERSES);
+}
+
+// The rows of each word of 16 bits and more, and those of one width.
+fn assert_wide_operations<T: PlainWord + ModularRefOps + From<u8> + From<u16>>(
+    rt: &impl Abort,
+    rows: &[(Operation, T, T, T, T)],
+    inverses: &[(T, T, Option<T>)],
+) {
+    assert_operations::<T>(rt);
+    assert_inverses::<u16, T>(rt, WIDE_INVERSES);
+    assert_rows::<T, T>(rt, rows);
+    assert_inverses::<T, T>(rt, inverses);
 }
 
 #[test]
@@ -201,12 +230,10 @@ fn operations_at_each_width() {
     let rt = crate::runtime::HostRuntime;
     let rt = &rt;
     assert_operations::<u8>(rt);
-    assert_operations::<u16>(rt);
-    assert_operations::<u32>(rt);
-    assert_operations::<u64>(rt);
-    assert_operations::<usize>(rt);
-    assert_rows::<u64, u64>(rt, ROWS_OF_64_BITS);
-    assert_rows::<usize, usize>(rt, ROWS_OF_SIZES);
+    assert_wide_operations::<u16>(rt, &[], INVERSES_OF_16_BITS);
+    assert_wide_operations::<u32>(rt, &[], INVERSES_OF_32_BITS);
+    assert_wide_operations::<u64>(rt, ROWS_OF_64_BITS, INVERSES_OF_64_BITS);
+    assert_wide_operations::<usize>(rt, ROWS_OF_SIZES, INVERSES_OF_SIZES);
 }
 
 #[test]
@@ -237,7 +264,7 @@ fn assert_signed<M: Numbered + Copy + PartialEq + From<u8>, Z: ModularAbs<M> + F
     five: M,
 ) {
     for &(z, want) in SIGNED {
-        check!(rt, 1; Z::from(z).absm(&five) == M::from(want));
+        check!(rt, 1; signed(Z::from(z), &five) == M::from(want));
     }
 }
 
@@ -251,6 +278,6 @@ fn signed_numbers() {
     assert_signed::<u64, i64>(rt, 5);
     assert_signed::<u128, i128>(rt, 5);
     assert_signed::<usize, isize>(rt, 5);
-    let least = (i64::MIN.absm(&18446744073709551615), i128::MIN.absm(&7));
-    check!(rt, 1; least == (9223372036854775807, 5));
+    check!(rt, 1; i64::MIN.absm(&18446744073709551615) == 9223372036854775807);
+    check!(rt, 2; i128::MIN.absm(&7) == 5);
 }

@@ -1,6 +1,6 @@
 //! Prime numbers, and the symbols over them.
 
-use crate::operation_tests::tests::assert_at;
+use crate::operation_tests::tests::assert_nth;
 use num_modular::modular_symbols::count::jacobi_by_count;
 use num_modular::modular_symbols::primes::{is_prime_by_search, symbol_over_prime};
 
@@ -9,22 +9,22 @@ fn primes_below_thirty() {
     let rt = crate::runtime::HostRuntime;
     let rt = &rt;
     for n in [2, 3, 5, 7, 11, 13, 17, 19, 23, 29] {
-        assert_at(rt, is_prime_by_search(n), &n);
+        assert_nth(rt, n as usize, is_prime_by_search(n));
     }
     for n in [0, 1, 4, 9, 15, 21, 25, 27] {
-        assert_at(rt, !is_prime_by_search(n), &n);
+        assert_nth(rt, n as usize, !is_prime_by_search(n));
     }
 }
 
 #[test]
 fn symbols_over_primes() {
     let rt = crate::runtime::HostRuntime;
-    let rt = &rt;
-    for n in [3, 5, 7, 11, 13, 17, 19, 23, 29] {
-        assert!(is_prime_by_search(n) && n % 2 == 1);
-        for a in 0..2 * n {
-            let symbol = symbol_over_prime(a, n);
-            assert_at(rt, symbol == jacobi_by_count(false, a, n), &(a, n));
+    for n in 3..30 {
+        if is_prime_by_search(n) && n % 2 == 1 {
+            for a in 0..2 * n {
+                let symbol = symbol_over_prime(a, n);
+                assert_nth(&rt, n as usize, symbol == jacobi_by_count(false, a, n));
+            }
         }
     }
 }

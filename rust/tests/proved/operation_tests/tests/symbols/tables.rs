@@ -1,37 +1,31 @@
 //! The tables of the three symbols, for every width that holds their numbers.
 
+use super::loops::jacobi_symbols;
 use num_modular::modular_symbols::operands::SymbolWord;
 use num_modular::modular_symbols::symbols::ModularSymbols;
 use crate::runtime::Abort;
 
 #[derive(Clone, Copy)]
-pub enum Symbol {
+enum Symbol {
     Legendre,
     Jacobi,
     Kronecker,
 }
 
-// The Legendre symbol of a over n by both calls, `checked_legendre` and `legendre`.
-fn legendre_symbols<T: SymbolWord>(a: T, n: T) -> [Option<i8>; 2] {
+// The Legendre symbol of a over n by both calls, `checked_legendre` and `legendre`. The arrays have room for the three
+// ways to the Jacobi symbol.
+fn legendre_symbols<T: SymbolWord>(a: T, n: T) -> [Option<i8>; 3] {
     match a.checked_legendre(&n) {
-        Some(symbol) => [Some(symbol), Some(a.legendre(&n))],
-        None => [None; 2],
+        Some(symbol) => [Some(symbol), Some(symbol), Some(a.legendre(&n))],
+        None => [None; 3],
     }
 }
 
-// The Jacobi symbol by both calls.
-fn jacobi_symbols<T: SymbolWord>(a: T, n: T) -> [Option<i8>; 2] {
-    match a.checked_jacobi(&n) {
-        Some(symbol) => [Some(symbol), Some(a.jacobi(&n))],
-        None => [None; 2],
-    }
-}
-
-fn symbols<T: SymbolWord>(symbol: Symbol, a: T, n: T) -> [Option<i8>; 2] {
+fn symbols<T: SymbolWord>(symbol: Symbol, a: T, n: T) -> [Option<i8>; 3] {
     match symbol {
         Symbol::Legendre => legendre_symbols(a, n),
         Symbol::Jacobi => jacobi_symbols(a, n),
-        Symbol::Kronecker => [Some(a.kronecker(&n)); 2],
+        Symbol::Kronecker => [Some(a.kronecker(&n)); 3],
     }
 }
 
@@ -41,7 +35,7 @@ fn assert_symbols<S: Copy, T: SymbolWord + From<S>>(
     rows: &[(Symbol, S, S, Option<i8>)],
 ) {
     for &(symbol, a, n, want) in rows {
-        check!(rt, 1; symbols(symbol, T::from(a), T::from(n)) == [want; 2]);
+        check!(rt, 1; symbols(symbol, T::from(a), T::from(n)) == [want; 3]);
     }
 }
 
@@ -55,6 +49,7 @@ macro_rules! table {
             (Symbol::Legendre, 4, 11, Some(1)),
             (Symbol::Legendre, 7, 11, Some(-1)),
             (Symbol::Legendre, 10, 11, Some(-1)),
+            (Symbol::Legendre, 3, 11, Some(1)),
             (Symbol::Legendre, 0, 17, Some(0)),
             (Symbol::Legendre, 1, 17, Some(1)),
             (Symbol::Legendre, 2, 17, Some(1)),
@@ -117,11 +112,11 @@ macro_rules! table {
     };
 }
 
-const UNSIGNED: [(Symbol, u8, u8, Option<i8>); 64] = table!();
+const UNSIGNED: &[(Symbol, u8, u8, Option<i8>)] = &table!();
 
-const SIGNED: [(Symbol, i8, i8, Option<i8>); 64] = table!();
+const SIGNED: &[(Symbol, i8, i8, Option<i8>)] = &table!();
 
-const NEGATIVE: [(Symbol, i8, i8, Option<i8>); 65] = [
+const NEGATIVE: &[(Symbol, i8, i8, Option<i8>)] = &[
     (Symbol::Legendre, -10, 11, Some(1)),
     (Symbol::Legendre, -7, 11, Some(1)),
     (Symbol::Legendre, -4, 11, Some(-1)),
@@ -150,6 +145,7 @@ const NEGATIVE: [(Symbol, i8, i8, Option<i8>); 65] = [
     (Symbol::Jacobi, -2, 13, Some(-1)),
     (Symbol::Jacobi, -1, 13, Some(1)),
     (Symbol::Jacobi, -10, 15, Some(0)),
+    (Symbol::Jacobi, -1, 7, Some(-1)),
     (Symbol::Jacobi, -7, 15, Some(1)),
     (Symbol::Jacobi, -4, 15, Some(-1)),
     (Symbol::Jacobi, -2, 15, Some(-1)),
@@ -189,13 +185,29 @@ const NEGATIVE: [(Symbol, i8, i8, Option<i8>); 65] = [
     (Symbol::Kronecker, 0, 1, Some(1)),
 ];
 
+// The values of a width's least number.
+macro_rules! table_of_least {
+    ($word:ty) => {
+        [
+            (Symbol::Kronecker, <$word>::MIN, <$word>::MIN, Some(0)),
+            (Symbol::Kronecker, <$word>::MIN, -1, Some(-1)),
+            (Symbol::Kronecker, <$word>::MIN, 0, Some(0)),
+            (Symbol::Kronecker, <$word>::MIN, 1, Some(1)),
+            (Symbol::Jacobi, <$word>::MIN, <$word>::MIN, None),
+            (Symbol::Jacobi, <$word>::MIN, 1, Some(1)),
+            (Symbol::Legendre, <$word>::MIN, <$word>::MIN, None),
+            (Symbol::Legendre, <$word>::MIN, 1, Some(0)),
+        ]
+    };
+}
+
 fn assert_unsigned<T: SymbolWord + From<u8>>(rt: &impl Abort) {
-    assert_symbols::<u8, T>(rt, &UNSIGNED);
+    assert_symbols::<u8, T>(rt, UNSIGNED);
 }
 
 fn assert_signed<T: SymbolWord + From<i8>>(rt: &impl Abort) {
-    assert_symbols::<i8, T>(rt, &SIGNED);
-    assert_symbols::<i8, T>(rt, &NEGATIVE);
+    assert_symbols::<i8, T>(rt, SIGNED);
+    assert_symbols::<i8, T>(rt, NEGATIVE);
 }
 
 #[test]
@@ -212,22 +224,6 @@ fn symbols_at_each_width() {
     assert_signed::<i32>(rt);
     assert_signed::<i64>(rt);
     assert_signed::<isize>(rt);
-}
-
-// The values of a width's least number.
-macro_rules! table_of_least {
-    ($word:ty) => {
-        [
-            (Symbol::Kronecker, <$word>::MIN, <$word>::MIN, Some(0)),
-            (Symbol::Kronecker, <$word>::MIN, -1, Some(-1)),
-            (Symbol::Kronecker, <$word>::MIN, 0, Some(0)),
-            (Symbol::Kronecker, <$word>::MIN, 1, Some(1)),
-            (Symbol::Jacobi, <$word>::MIN, <$word>::MIN, None),
-            (Symbol::Jacobi, <$word>::MIN, 1, Some(1)),
-            (Symbol::Legendre, <$word>::MIN, <$word>::MIN, None),
-            (Symbol::Legendre, <$word>::MIN, 1, Some(0)),
-        ]
-    };
 }
 
 #[test]
@@ -249,14 +245,14 @@ const BYTES: &[(Symbol, u8, u8, Option<i8>)] = &[
 
 // Numbers for which a count of the half system takes too long. The symbols over primes are by Euler's criterion
 // over the factors of the second number.
-pub const LARGE_OF_32_BITS: &[(Symbol, u32, u32, Option<i8>)] = &[
+const LARGE_OF_32_BITS: &[(Symbol, u32, u32, Option<i8>)] = &[
     (Symbol::Jacobi, 4294967295, 4294967291, Some(1)),
     (Symbol::Jacobi, 2147483648, 4294967291, Some(-1)),
     (Symbol::Jacobi, 2147483649, 4294967291, Some(-1)),
     (Symbol::Jacobi, 7, 4294967291, Some(1)),
 ];
 
-pub const LARGE: &[(Symbol, u64, u64, Option<i8>)] = &[
+const LARGE: &[(Symbol, u64, u64, Option<i8>)] = &[
     (
         Symbol::Jacobi,
         81985529216486895,
@@ -360,7 +356,7 @@ const LARGE_SIZES: &[(Symbol, usize, usize, Option<i8>)] = &[
     (Symbol::Kronecker, 2, 18446744073709551615, Some(1)),
 ];
 
-pub const LARGE_SIGNED: &[(Symbol, i64, i64, Option<i8>)] = &[
+const LARGE_SIGNED: &[(Symbol, i64, i64, Option<i8>)] = &[
     (
         Symbol::Jacobi,
         -9223372036854775808,
