@@ -2,4 +2,5 @@
 
 mod bits;
 mod definitions;
+mod helpers;
 mod paths;
