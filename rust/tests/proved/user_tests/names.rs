@@ -1,6 +1,6 @@
 //! The public items of `num_modular` that no test names, by their paths.
 
-pub use num_modular::barrett::{FitsDivisor, StoredDivisor};
+pub use num_modular::barrett::{FitsDivisor, Normalized2by1Divisor, StoredDivisor};
 pub use num_modular::laws::{
     base_laws, canonical_laws, coefficient_laws, congruence_laws, digit_laws, division_laws,
     divisor_laws, euclids_lemma, fold_laws, form_laws, inverse_laws, inverse_product_laws,
@@ -12,8 +12,10 @@ pub use num_modular::laws::{
 };
 pub use num_modular::monty::neg_mod_inv::neginv;
 pub use num_modular::preinv::PreparedInverse;
+pub use num_modular::prim::by_subtraction::{inverse, jacobi};
 pub use num_modular::prim::{
-    IntegerValued, Numbered, SymbolWord, UnsignedOperand, is_prime_by_search, symbol_over_prime,
+    DivExactAssign, IntegerValued, ModularCoreOps, ModularRefOps, Numbered, SymbolWord,
+    UnsignedOperand, is_prime_by_search, powm_u32, powm_u64, symbol_over_prime,
 };
 pub use num_modular::reduced::ReducedInt;
 pub use num_modular::ring::{load_forms, unload_forms};
@@ -23,8 +25,39 @@ pub use num_modular::rings::{
     TrinomialModulus, TrinomialSolinas, TrinomialWord,
 };
 pub use num_modular::word::PlainWord;
-pub use num_modular::word::w8::{DoubleWord as DoubleWord8, Word as Word8};
-pub use num_modular::word::w16::{DoubleWord as DoubleWord16, Word as Word16};
-pub use num_modular::word::w32::{DoubleWord as DoubleWord32, Word as Word32};
-pub use num_modular::word::w64::{DoubleWord as DoubleWord64, Word as Word64};
-pub use num_modular::word::wsize::{DoubleWord as DoubleWordSize, Word as WordSize};
+
+pub mod w8 {
+    pub use num_modular::monty::neg_mod_inv::w8::neginv;
+    pub use num_modular::prim::counted::w8::{checked_jacobi_counted, invm_counted};
+    pub use num_modular::word::w8::{
+        DoubleWord, Word, extend, high, low, merge, nrem, ones, split, wmul, wsqr,
+    };
+}
+
+pub mod w16 {
+    pub use num_modular::prim::counted::w16::{checked_jacobi_counted, invm_counted};
+    pub use num_modular::word::w16::{
+        DoubleWord, Word, extend, high, low, merge, nrem, ones, split, wmul, wsqr,
+    };
+}
+
+pub mod w32 {
+    pub use num_modular::prim::counted::w32::{checked_jacobi_counted, invm_counted};
+    pub use num_modular::word::w32::{
+        DoubleWord, Word, extend, high, low, merge, nrem, ones, split, wmul, wsqr,
+    };
+}
+
+pub mod w64 {
+    pub use num_modular::prim::counted::w64::{checked_jacobi_counted, invm_counted};
+    pub use num_modular::word::w64::{
+        DoubleWord, Word, extend, high, low, merge, nrem, ones, split, wmul, wsqr,
+    };
+}
+
+pub mod wsize {
+    pub use num_modular::prim::counted::wsize::{checked_jacobi_counted, invm_counted};
+    pub use num_modular::word::wsize::{
+        DoubleWord, Word, extend, high, low, merge, nrem, ones, split, wmul, wsqr,
+    };
+}
