@@ -1,4 +1,4 @@
-//! Known values of the crates that use `num_modular`, and uses of its items by their paths.
+//! Known values of the crates that use `num_modular`, and the names of its public items.
 
 mod names;
 #[cfg(test)]

@@ -1,4 +1,5 @@
-//! Known values of each user from other sources, the README's examples, and a use of each public item.
+//! Known values of each user from other sources, the README's examples, and calls of `num_modular` that no other crate of
+//! tests makes.
 
 // `assert!` writes the text of what it compares, which takes longer to prove than the rest of most tests.
 macro_rules! check {
@@ -17,6 +18,7 @@ mod lattices;
 mod long_products;
 mod loops;
 mod paths;
+mod reducers;
 mod residues;
 
 use std::fmt::Debug;

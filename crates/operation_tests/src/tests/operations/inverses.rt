@@ -1,6 +1,7 @@
 //! Known inverses.
 
 use super::any_operands::inverse;
+use crate::tests::assert_nth;
 use modular_prim::inverse::inverse_by_subtraction;
 use modular_prim::plain_word::PlainWord;
 use modular_symbols::reference_operations::ModularRefOps;
@@ -136,7 +137,8 @@ pub fn assert_inverses<S: Copy, T: PlainWord + ModularRefOps + From<S>>(
     rt: &impl Abort,
     rows: &[(S, S, Option<S>)],
 ) {
-    for &(a, m, want) in rows {
-        check!(rt, 1; has_inverse(&T::from(a), &T::from(m), widened(want)));
+    for i in 0..rows.len() {
+        let (a, m, want) = rows[i];
+        assert_nth(rt, i, has_inverse(&T::from(a), &T::from(m), widened(want)));
     }
 }

@@ -1,23 +1,39 @@
 //! Real numbers with check symbols: every change of one symbol, exchanges of neighbours, and erased symbols.
 
+use super::assert_at;
 use num_modular::applications::ring_codes::{
     Code, EAN_8, EAN_13, ISBN_10, ISBN_13, ISSN, UPC_A, accepts_iban, has_iban_form, iban_code,
     iban_digits, standard_codes,
 };
 
-// The symbols of a text, at most 13: X is 10, and a hyphen is skipped.
+// The standards, whose codes a constant can't hold.
 #[derive(Clone, Copy)]
-struct Symbols {
-    list: [u64; 13],
-    count: usize,
+enum Standard {
+    Isbn10,
+    Isbn13,
+    Ean13,
+    Ean8,
+    UpcA,
+    Issn,
 }
 
-fn read(text: &[u8]) -> Symbols {
-    let mut list = [0; 13];
+fn code_of(standard: Standard) -> Code<'static> {
+    match standard {
+        Standard::Isbn10 => ISBN_10,
+        Standard::Isbn13 => ISBN_13,
+        Standard::Ean13 => EAN_13,
+        Standard::Ean8 => EAN_8,
+        Standard::UpcA => UPC_A,
+        Standard::Issn => ISSN,
+    }
+}
+
+// Writes the symbols of a text, at most 13, and returns their number: X is 10, and a hyphen is skipped.
+fn read(text: &[u8], symbols: &mut [u64; 13]) -> usize {
     let mut count = 0;
     for c in text {
         if *c != b'-' && count < 13 {
-            list[count] = if *c == b'X' {
+            symbols[count] = if *c == b'X' {
                 10
             } else {
                 (*c as u64).abs_diff(48)
@@ -25,228 +41,267 @@ fn read(text: &[u8]) -> Symbols {
             count += 1;
         }
     }
-    let count = count.min(13);
-    Symbols { list, count }
+    count.min(13)
 }
 
-fn accepts(code: Code<'_>, text: &[u8]) -> bool {
-    let symbols = read(text);
-    let list = symbols.list;
-    code.accepts(&list[..symbols.count])
-}
-
-// GB82 WEST 1234 5698 7654 32 as ISO 13616 converts it: W, E, S and T are 32, 14, 28 and 29, then come the digits,
-// G and B, which are 16 and 11, and 82.
-const ACCOUNT: [u64; 28] = [
-    3, 2, 1, 4, 2, 8, 2, 9, 1, 2, 3, 4, 5, 6, 9, 8, 7, 6, 5, 4, 3, 2, 1, 6, 1, 1, 8, 2,
-];
-
-// Whether the word is accepted, no word with another symbol of 0 to 10 is, and `finds_change` says so; and whether
-// each symbol is restored.
-fn keeps(code: Code<'_>, word: &mut [u64]) -> bool {
-    if word.len() != code.weights.len() {
+// Whether the word is accepted, and with the symbol at the place it is only if that doesn't change it, as
+// `finds_change` returns; and whether the changed symbol is restored.
+fn keeps_symbol(code: &Code<'_>, word: &mut [u64], place: usize, other: u64) -> bool {
+    if word.len() != code.weights.len() || place >= word.len() || !code.accepts(word) {
         return false;
     }
+    let symbol = word[place];
+    if code.finds_change(word, place, other) != (other != symbol) {
+        return false;
+    }
+    word[place] = other;
+    let is_accepted = code.accepts(word);
+    let is_restored = code.can_restore(code.weights[place])
+        && code.restore(word, place) == Some(symbol);
+    word[place] = symbol;
+    is_restored && is_accepted == (other == symbol)
+}
+
+// Whether that holds at each place, for the symbols 0 to 10.
+fn keeps(code: &Code<'_>, word: &mut [u64]) -> bool {
     for place in 0..word.len() {
-        let symbol = word[place];
         for other in 0..11 {
-            if !code.accepts(word) || code.finds_change(word, place, other) != (other != symbol) {
+            if !keeps_symbol(code, word, place, other) {
                 return false;
             }
-            word[place] = other;
-            if code.accepts(word) != (other == symbol) {
-                return false;
-            }
-            if !code.can_restore(code.weights[place]) || code.restore(word, place) != Some(symbol) {
-                return false;
-            }
-            word[place] = symbol;
         }
     }
     true
 }
 
-fn keeps_text(code: Code<'_>, text: &[u8]) -> bool {
-    let symbols = read(text);
-    let mut list = symbols.list;
-    keeps(code, &mut list[..symbols.count])
-}
-
-// Whether the word is accepted, and the exchange of the symbols at `place` and at the next place is detected.
-fn finds_one_exchange(code: Code<'_>, text: &[u8], place: usize) -> Option<bool> {
-    let symbols = read(text);
-    let list = symbols.list;
-    let word = &list[..symbols.count];
-    if word.len() < 2 || place > word.len() - 2 {
+// Whether the exchange of the symbols at the place and at the next is detected; `None` where the word isn't accepted.
+fn finds_exchange(code: &Code<'_>, word: &[u64], place: usize) -> Option<bool> {
+    if word.len() < 2 || place > word.len() - 2 || !code.accepts(word) {
         return None;
     }
-    if code.accepts(word) {
-        Some(code.finds_exchange(word, place))
-    } else {
-        None
+    Some(code.finds_exchange(word, place))
+}
+
+// What holds of the symbols of a text.
+#[derive(Clone, Copy)]
+enum Fact {
+    IsAccepted,
+    IsRefused,
+    // It is accepted, and `keeps` returns true.
+    IsKept,
+    // The exchange of the symbols at this place and at the next is detected.
+    FindsExchange(usize),
+    MissesExchange(usize),
+}
+
+fn holds(code: &Code<'_>, symbols: &mut [u64], fact: Fact) -> bool {
+    match fact {
+        Fact::IsAccepted => code.accepts(symbols),
+        Fact::IsRefused => !code.accepts(symbols),
+        Fact::IsKept => code.accepts(symbols) && keeps(code, symbols),
+        Fact::FindsExchange(place) => finds_exchange(code, symbols, place) == Some(true),
+        Fact::MissesExchange(place) => finds_exchange(code, symbols, place) == Some(false),
     }
 }
 
+fn holds_of_text(code: &Code<'_>, text: &[u8], fact: Fact) -> bool {
+    let mut symbols = [0; 13];
+    let count = read(text, &mut symbols);
+    holds(code, &mut symbols[..count], fact)
+}
+
+// A standard, a text, and what holds of it by the standard's code.
+const TEXTS: &[(Standard, &[u8], Fact)] = &[
+    (Standard::Isbn10, b"0306406152", Fact::IsKept),
+    (Standard::Isbn10, b"080442957X", Fact::IsKept),
+    (Standard::Isbn13, b"9780306406157", Fact::IsKept),
+    (Standard::Ean13, b"4006381333931", Fact::IsKept),
+    (Standard::Ean8, b"73513537", Fact::IsKept),
+    (Standard::UpcA, b"036000291452", Fact::IsKept),
+    (Standard::Issn, b"0378-5955", Fact::IsKept),
+    (Standard::Issn, b"2434-561X", Fact::IsKept),
+    // the weighted sum of each is 0 modulo 11, with an X before the last place
+    (Standard::Isbn10, b"X000000050", Fact::IsRefused),
+    (Standard::Isbn10, b"X00000000X", Fact::IsRefused),
+    (Standard::Issn, b"000X-0005", Fact::IsRefused),
+    // the number of a book is an article's, and not each article's is a book's
+    (Standard::Ean13, b"9780306406157", Fact::IsAccepted),
+    (Standard::Isbn13, b"4006381333931", Fact::IsRefused),
+    // 0 and 3 of a book; 3 and 8 of an article, which differ by 5, and 8 and 1
+    (Standard::Isbn10, b"0306406152", Fact::FindsExchange(0)),
+    (Standard::Ean13, b"4006381333931", Fact::MissesExchange(4)),
+    (Standard::Ean13, b"4006381333931", Fact::FindsExchange(5)),
+    (Standard::Isbn13, b"9780306406157", Fact::FindsExchange(2)),
+    (Standard::Ean13, b"4006831333931", Fact::IsAccepted),
+];
+
 #[test]
-fn numbers_of_each_standard() {
+fn texts_of_each_standard() {
     let rt = crate::runtime::HostRuntime;
-    let rt = &rt;
-    check!(rt, 1; keeps_text(ISBN_10, b"0306406152"));
-    check!(rt, 2; keeps_text(ISBN_10, b"080442957X"));
-    check!(rt, 3; keeps_text(ISBN_13, b"9780306406157"));
-    check!(rt, 4; keeps_text(EAN_13, b"4006381333931"));
-    check!(rt, 5; keeps_text(EAN_8, b"73513537"));
-    check!(rt, 6; keeps_text(UPC_A, b"036000291452"));
-    check!(rt, 7; keeps_text(ISSN, b"0378-5955"));
-    check!(rt, 8; keeps_text(ISSN, b"2434-561X"));
-    let mut word = ACCOUNT;
-    check!(rt, 9; keeps(iban_code(28), &mut word));
+    for &(standard, text, fact) in TEXTS {
+        assert_at(&rt, holds_of_text(&code_of(standard), text, fact), &text);
+    }
+}
+
+// Symbols that no code accepts. The weighted sums of ISBN-10 are 0 modulo 11: 11 for 0, and 14 for 3.
+const REFUSED: &[&[u64]] = &[
+    &[],
+    &[0],
+    &[11, 3, 0, 6, 4, 0, 6, 1, 5, 2],
+    &[0, 14, 0, 6, 4, 0, 6, 1, 5, 2],
+];
+
+// Whether none of the codes accepts the symbols.
+fn is_refused(symbols: &[u64]) -> bool {
+    for code in standard_codes() {
+        if code.accepts(symbols) {
+            return false;
+        }
+    }
+    true
 }
 
 #[test]
 fn words_of_another_form() {
     let rt = crate::runtime::HostRuntime;
-    let rt = &rt;
-    for code in standard_codes() {
-        check!(rt, 1; !code.accepts(&[]) && !code.accepts(&[0]));
+    for symbols in REFUSED {
+        assert_at(&rt, is_refused(symbols), symbols);
     }
-    // the weighted sum of each is 0 modulo 11: 11 for 0, 14 for 3, and an X before the last place
-    check!(rt, 2; !ISBN_10.accepts(&[11, 3, 0, 6, 4, 0, 6, 1, 5, 2]));
-    check!(rt, 3; !ISBN_10.accepts(&[0, 14, 0, 6, 4, 0, 6, 1, 5, 2]));
-    check!(rt, 4; !accepts(ISBN_10, b"X000000050") && !accepts(ISBN_10, b"X00000000X"));
-    check!(rt, 5; !accepts(ISSN, b"000X-0005"));
-    // the number of a book is an article's, and not each article's is a book's
-    check!(rt, 6; accepts(EAN_13, b"9780306406157") && !accepts(ISBN_13, b"4006381333931"));
+    // 5 and the modulus of EAN-13, 10, aren't coprime
+    check!(&rt, 1; !code_of(Standard::Ean13).can_restore(5));
 }
 
-#[test]
-fn exchanges_of_neighbours() {
-    let rt = crate::runtime::HostRuntime;
-    let rt = &rt;
-    // 0 and 3 of a book; 3 and 8 of an article, which differ by 5, and 8 and 1
-    check!(rt, 1; finds_one_exchange(ISBN_10, b"0306406152", 0) == Some(true));
-    check!(rt, 2; finds_one_exchange(EAN_13, b"4006381333931", 4) == Some(false));
-    check!(rt, 3; finds_one_exchange(EAN_13, b"4006381333931", 5) == Some(true));
-    check!(rt, 4; finds_one_exchange(ISBN_13, b"9780306406157", 2) == Some(true));
-    check!(rt, 5; accepts(EAN_13, b"4006831333931") && !EAN_13.can_restore(5));
-    if iban_code(28).accepts(&ACCOUNT) {
-        check!(rt, 6; iban_code(28).finds_exchange(&ACCOUNT, 26));
-    }
-}
+// GB82 WEST 1234 5698 7654 32 as ISO 13616 converts it: W, E, S and T are 32, 14, 28 and 29, then come the digits,
+// G and B, which are 16 and 11, and 82.
+const ACCOUNT: &[u64] = &[
+    3, 2, 1, 4, 2, 8, 2, 9, 1, 2, 3, 4, 5, 6, 9, 8, 7, 6, 5, 4, 3, 2, 1, 6, 1, 1, 8, 2,
+];
 
-// Whether the text is an IBAN, and none is after a change of one digit or letter to another.
-fn refuses_other_characters(text: &[u8]) -> bool {
-    let mut changed = [0u8; 34];
-    let count = text.len();
-    if count > 34 || !accepts_iban(text) {
-        return false;
-    }
-    changed[..count].copy_from_slice(text);
-    for place in 0..count {
-        let character = text[place];
-        let kind = if character.is_ascii_digit() {
-            b'0'..=b'9'
-        } else {
-            b'A'..=b'Z'
-        };
-        for other in kind {
-            changed[place] = other;
-            if accepts_iban(&changed[..count]) != (other == character) {
-                return false;
-            }
-        }
-        changed[place] = character;
-    }
-    true
-}
-
-#[test]
-fn published_ibans() {
-    let rt = crate::runtime::HostRuntime;
-    let rt = &rt;
-    // the United Kingdom, Germany, France and the Netherlands
-    check!(rt, 1; refuses_other_characters(b"GB82WEST12345698765432"));
-    check!(rt, 2; refuses_other_characters(b"DE89370400440532013000"));
-    check!(rt, 3; refuses_other_characters(b"FR1420041010050500013M02606"));
-    check!(rt, 4; refuses_other_characters(b"NL91ABNA0417164300"));
-    // a digit, a digit, a letter and a letter changed
-    check!(rt, 5; !accepts_iban(b"GB82WEST12345698765433"));
-    check!(rt, 6; !accepts_iban(b"DE88370400440532013000"));
-    check!(rt, 7; !accepts_iban(b"FR1420041010050500013N02606"));
-    check!(rt, 8; !accepts_iban(b"NL91ABNB0417164300"));
-}
-
-// Whether the text is an IBAN, and so is the same with two neighbours that differ exchanged, exactly at
-// these places.
-fn misses_exchanges(text: &[u8], places: &[usize]) -> bool {
-    let mut changed = [0u8; 34];
-    let count = text.len();
-    if count > 34 || !accepts_iban(text) {
-        return false;
-    }
-    changed[..count].copy_from_slice(text);
-    for place in 1..count {
-        if text[place - 1] != text[place] {
-            changed.swap(place - 1, place);
-            if accepts_iban(&changed[..count]) != places.contains(&(place - 1)) {
-                return false;
-            }
-            changed.swap(place - 1, place);
-        }
-    }
-    true
-}
-
-#[test]
-fn exchanged_characters_of_an_iban() {
-    let rt = crate::runtime::HostRuntime;
-    let rt = &rt;
-    check!(rt, 1; misses_exchanges(b"GB82WEST12345698765432", &[]));
-    check!(rt, 2; misses_exchanges(b"FR1420041010050500013M02606", &[]));
-    // 1 and B, 2 and M, 3 and X, in both orders
-    check!(rt, 3; misses_exchanges(b"FR172004101005051B013M02606", &[16]));
-    check!(rt, 4; misses_exchanges(b"FR2920041010050500012M02606", &[20]));
-    check!(rt, 5; misses_exchanges(b"GB80WEX312345698765432", &[6]));
-    check!(rt, 6; misses_exchanges(b"FR681B2M3X0B1M2X3", &[4, 6, 8, 11, 13, 15]));
-    // 1 is the last check digit
-    check!(rt, 7; misses_exchanges(b"GB21B1011", &[4]));
-}
-
-#[test]
-fn check_digits_of_an_iban() {
-    let rt = crate::runtime::HostRuntime;
-    let rt = &rt;
-    // the least and the greatest check digits, and one more that is generated
-    check!(rt, 1; accepts_iban(b"GB02WEST12345600000017"));
-    check!(rt, 2; accepts_iban(b"GB97WEST12345600000053"));
-    check!(rt, 3; accepts_iban(b"GB98WEST12345600000035"));
-    // the same accounts with check digits whose number is 1 modulo 97 and that aren't generated
-    check!(rt, 4; !accepts_iban(b"GB99WEST12345600000017"));
-    check!(rt, 5; !accepts_iban(b"GB00WEST12345600000053"));
-    check!(rt, 6; !accepts_iban(b"GB01WEST12345600000035"));
-}
-
-#[test]
-fn texts_of_another_form() {
-    let rt = crate::runtime::HostRuntime;
-    let rt = &rt;
-    check!(rt, 1; !has_iban_form(b"GB82 WEST 1234 5698 7654 32") && !has_iban_form(b"gb82west12345698765432"));
-    check!(rt, 2; !has_iban_form(b"82GBWEST12345698765432") && !has_iban_form(b"GB82") && !has_iban_form(b""));
-    check!(rt, 3; has_iban_form(b"GB82W") && !accepts_iban(b"GB82 WEST 1234 5698 7654 32"));
-}
-
-// Whether a text has the form of an IBAN, and these digits.
-fn has_digits(text: &[u8], wanted: &[u64]) -> bool {
+// Whether the text has the form of an IBAN and these digits, which the code keeps, and the exchange of those at the
+// place and at the next is detected.
+fn has_digits(text: &[u8], wanted: &[u64], place: usize) -> bool {
     let mut digits = [0; 68];
     if !has_iban_form(text) {
         return false;
     }
     let count = iban_digits(text, &mut digits);
-    &digits[..count] == wanted
+    let code = iban_code(count);
+    let word = &mut digits[..count];
+    *word == *wanted && keeps(&code, word) && finds_exchange(&code, word, place) == Some(true)
 }
 
 #[test]
 fn digits_of_an_iban() {
     let rt = crate::runtime::HostRuntime;
-    check!(&rt, 1; has_digits(b"GB82WEST12345698765432", &ACCOUNT));
+    check!(&rt, 1; has_digits(b"GB82WEST12345698765432", ACCOUNT, 26));
+}
+
+// Whether, after a change of one digit or letter of the text to another, it is no IBAN.
+fn refuses_other_characters(text: &mut [u8]) -> bool {
+    for place in 0..text.len() {
+        let character = text[place];
+        for other in b'0'..=b'Z' {
+            let is_of_kind = if character <= b'9' {
+                other <= b'9'
+            } else {
+                other >= b'A'
+            };
+            text[place] = other;
+            if is_of_kind && accepts_iban(text) != (other == character) {
+                return false;
+            }
+        }
+        text[place] = character;
+    }
+    true
+}
+
+// Whether, after an exchange of two neighbours that differ, the text is an IBAN exactly at these places.
+fn misses_exchanges(text: &mut [u8], places: &[usize]) -> bool {
+    for place in 1..text.len() {
+        let is_missed = text[place - 1] == text[place] || places.contains(&(place - 1));
+        text.swap(place - 1, place);
+        if accepts_iban(text) != is_missed {
+            return false;
+        }
+        text.swap(place - 1, place);
+    }
+    true
+}
+
+// What holds of a text.
+#[derive(Clone, Copy)]
+enum IbanFact {
+    HasNoForm,
+    // It has the form of an IBAN, and isn't one.
+    IsRefused,
+    IsAccepted,
+    // It is an IBAN, and none is after a change of one digit or letter to another.
+    RefusesOtherCharacters,
+    // It is an IBAN, and so is the same with two neighbours that differ exchanged, exactly at these places.
+    MissesExchanges(&'static [usize]),
+}
+
+fn holds_of_iban(text: &[u8], fact: IbanFact) -> bool {
+    let mut room = [0u8; 34];
+    if text.len() > 34 {
+        return false;
+    }
+    let changed = &mut room[..text.len()];
+    changed.copy_from_slice(text);
+    match fact {
+        IbanFact::HasNoForm => !has_iban_form(text) && !accepts_iban(text),
+        IbanFact::IsRefused => has_iban_form(text) && !accepts_iban(text),
+        IbanFact::IsAccepted => accepts_iban(text),
+        IbanFact::RefusesOtherCharacters => accepts_iban(text) && refuses_other_characters(changed),
+        IbanFact::MissesExchanges(places) => {
+            accepts_iban(text) && misses_exchanges(changed, places)
+        }
+    }
+}
+
+// A text, and what holds of it.
+const IBANS: &[(&[u8], IbanFact)] = &[
+    // the United Kingdom, Germany, France and the Netherlands
+    (b"GB82WEST12345698765432", IbanFact::RefusesOtherCharacters),
+    (b"DE89370400440532013000", IbanFact::RefusesOtherCharacters),
+    (b"FR1420041010050500013M02606", IbanFact::RefusesOtherCharacters),
+    (b"NL91ABNA0417164300", IbanFact::RefusesOtherCharacters),
+    // a digit, a digit, a letter and a letter changed
+    (b"GB82WEST12345698765433", IbanFact::IsRefused),
+    (b"DE88370400440532013000", IbanFact::IsRefused),
+    (b"FR1420041010050500013N02606", IbanFact::IsRefused),
+    (b"NL91ABNB0417164300", IbanFact::IsRefused),
+    (b"GB82WEST12345698765432", IbanFact::MissesExchanges(&[])),
+    (b"FR1420041010050500013M02606", IbanFact::MissesExchanges(&[])),
+    // 1 and B, 2 and M, 3 and X, in both orders
+    (b"FR172004101005051B013M02606", IbanFact::MissesExchanges(&[16])),
+    (b"FR2920041010050500012M02606", IbanFact::MissesExchanges(&[20])),
+    (b"GB80WEX312345698765432", IbanFact::MissesExchanges(&[6])),
+    (b"FR681B2M3X0B1M2X3", IbanFact::MissesExchanges(&[4, 6, 8, 11, 13, 15])),
+    // 1 is the last check digit
+    (b"GB21B1011", IbanFact::MissesExchanges(&[4])),
+    // the least and the greatest check digits, and one more that is generated
+    (b"GB02WEST12345600000017", IbanFact::IsAccepted),
+    (b"GB97WEST12345600000053", IbanFact::IsAccepted),
+    (b"GB98WEST12345600000035", IbanFact::IsAccepted),
+    // the same accounts with check digits whose number is 1 modulo 97 and that aren't generated
+    (b"GB99WEST12345600000017", IbanFact::IsRefused),
+    (b"GB00WEST12345600000053", IbanFact::IsRefused),
+    (b"GB01WEST12345600000035", IbanFact::IsRefused),
+    (b"GB82 WEST 1234 5698 7654 32", IbanFact::HasNoForm),
+    (b"gb82west12345698765432", IbanFact::HasNoForm),
+    (b"82GBWEST12345698765432", IbanFact::HasNoForm),
+    (b"GB82", IbanFact::HasNoForm),
+    (b"", IbanFact::HasNoForm),
+    // the shortest form
+    (b"GB82W", IbanFact::IsRefused),
+];
+
+#[test]
+fn ibans() {
+    let rt = crate::runtime::HostRuntime;
+    for &(text, fact) in IBANS {
+        assert_at(&rt, holds_of_iban(text, fact), &text);
+    }
 }

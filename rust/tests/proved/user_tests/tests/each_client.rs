@@ -2,7 +2,6 @@
 
 use super::assert_at;
 use num_modular::applications::examples::commands::{product_by_commands, residue_over_copies};
-use num_modular::applications::examples::cubic::cubic;
 use num_modular::applications::examples::each_reducer::{
     by_montgomery, by_plain_remainders, by_reciprocals, modulo_13, modulo_15, modulo_17, modulo_29,
     modulo_31, modulo_97, modulo_127, modulo_241, modulo_247,
@@ -13,7 +12,6 @@ use num_modular::applications::examples::operations::{product_and_sum, square};
 use num_modular::applications::examples::quotients::{by_inverse, by_operator, ten_by_five};
 use num_modular::applications::examples::squares::is_quadratic_residue;
 use num_modular::prim::is_prime_by_search;
-use num_modular::{Montgomery, Reducer};
 use num_modular::applications::residue_numbers::from_remainders;
 
 const X: (u64, u64, u64, u64) = (18446744073709551615, 12345678901234567890, 7, 1000000007);
@@ -93,18 +91,11 @@ const INNER_PRODUCTS: &[([u64; 4], [u64; 4], u64, u64)] = &[
     ([u64::MAX; 4], [u64::MAX - 1; 4], 6, 0),
 ];
 
-// The modulus, x, a, b and the residue of the cubic.
-const CUBICS: &[(u64, u64, u64, u64, u64)] = &[(97, 5, 2, 3, 41), (6, 9, 1, 1, 1)];
-
 #[test]
-fn inner_products_and_cubics() {
+fn inner_products() {
     let rt = crate::runtime::HostRuntime;
-    let rt = &rt;
     for &(xs, ys, m, want) in INNER_PRODUCTS {
-        check!(rt, 1; m > 0 && inner_product_of_four(xs, ys, m) == want);
-    }
-    for &(m, x, a, b, want) in CUBICS {
-        check!(rt, 2; m > 0 && cubic(&Montgomery::<u64>::new(m), x, a, b) == want);
+        check!(&rt, 1; m > 0 && inner_product_of_four(xs, ys, m) == want);
     }
 }
 
@@ -146,16 +137,16 @@ const PAIRS: &[(u32, u32, u32, u32, Option<u64>)] = &[
     ),
 ];
 
+// Whether `from_remainders` returns the number of the row.
+fn is_found(row: &(u32, u32, u32, u32, Option<u64>)) -> bool {
+    row.1 > 0 && row.3 > 0 && from_remainders(row.0, row.1, row.2, row.3) == row.4
+}
+
 #[test]
 fn pairs_of_residues() {
     let rt = crate::runtime::HostRuntime;
     for row in PAIRS {
-        let &(a, m, b, n, want) = row;
-        assert_at(
-            &rt,
-            m > 0 && n > 0 && from_remainders(a, m, b, n) == want,
-            row,
-        );
+        assert_at(&rt, is_found(row), &(row.0, row.2));
     }
 }
 

@@ -1,178 +1,135 @@
 //! Erasure codes: words of messages, messages from every choice of places, and bad input.
 
 use num_modular::ring::{load_forms, unload_forms};
-use num_modular::{FixedMersenne64, Montgomery, Reducer};
+use num_modular::{FixedMersenne64, Montgomery, Reducer, RingWord};
 use num_modular::applications::ring_codes::erasure::{
     RestoreError, ShareError, encode, encode_systematic, is_codeword, points_fit, recover, restore,
     restore_word, share,
 };
+use crate::runtime::Abort;
 
 const MERSENNE_PRIME: u64 = 2305843009213693951;
 
-// Whether the points fit.
-fn fit<R: Reducer<u64>, const N: usize>(r: &R, points: &[u64; N]) -> bool {
-    let mut forms = [0; N];
-    load_forms(r, points, &mut forms);
-    points_fit(r, &forms)
+fn forms_of<T: RingWord, R: Reducer<T>, const N: usize>(r: &R, words: &[T; N]) -> [T; N] {
+    let mut forms = [T::zero(); N];
+    load_forms(r, words, &mut forms);
+    forms
 }
 
-// The word of a message.
-fn word_of<R: Reducer<u64>, const N: usize, const K: usize>(
-    r: &R,
-    points: &[u64; N],
-    message: &[u64; K],
-) -> [u64; N] {
-    let mut point_forms = [0; N];
-    let mut message_forms = [0; K];
-    let mut forms = [0; N];
-    let mut word = [0; N];
-    load_forms(r, points, &mut point_forms);
-    load_forms(r, message, &mut message_forms);
-    encode(r, &point_forms, &message_forms, &mut forms);
-    unload_forms(r, &forms, &mut word);
-    word
+fn words_of<T: RingWord, R: Reducer<T>, const N: usize>(r: &R, forms: &[T; N]) -> [T; N] {
+    let mut words = [T::zero(); N];
+    unload_forms(r, forms, &mut words);
+    words
 }
 
-// The systematic word of a message; `None` where the points don't fit.
-fn systematic_word_of<R: Reducer<u64>, const N: usize, const K: usize>(
+// The systematic word of a message; `None` where the points don't fit. All are forms.
+fn systematic_word_of<T: RingWord, R: Reducer<T>, const N: usize, const K: usize>(
     r: &R,
-    points: &[u64; N],
-    message: &[u64; K],
-) -> Option<[u64; N]> {
-    let mut point_forms = [0; N];
-    let mut message_forms = [0; K];
-    let mut weights = [0; K];
-    let mut coefficients = [0; K];
-    let mut forms = [0; N];
-    let mut word = [0; N];
-    load_forms(r, points, &mut point_forms);
-    load_forms(r, message, &mut message_forms);
-    if !encode_systematic(
+    points: &[T],
+    message: &[T],
+) -> Option<[T; N]> {
+    let mut weights = [T::zero(); K];
+    let mut coefficients = [T::zero(); K];
+    let mut word = [T::zero(); N];
+    if encode_systematic(
         r,
-        &point_forms,
-        &message_forms,
+        points,
+        message,
         &mut weights,
         &mut coefficients,
-        &mut forms,
+        &mut word,
     ) {
-        return None;
-    }
-    unload_forms(r, &forms, &mut word);
-    Some(word)
-}
-
-// The message of K symbols from the symbols at these places.
-fn restored<R: Reducer<u64>, const N: usize, const P: usize, const K: usize>(
-    r: &R,
-    points: &[u64; N],
-    places: &[usize; P],
-    symbols: &[u64; P],
-) -> Result<[u64; K], RestoreError> {
-    let mut point_forms = [0; N];
-    let mut forms = [0; P];
-    let mut chosen = [0; K];
-    let mut weights = [0; K];
-    let mut message_forms = [0; K];
-    let mut message = [0; K];
-    load_forms(r, points, &mut point_forms);
-    load_forms(r, symbols, &mut forms);
-    match restore(
-        r,
-        &point_forms,
-        places,
-        &forms,
-        &mut chosen,
-        &mut weights,
-        &mut message_forms,
-    ) {
-        Err(error) => Err(error),
-        Ok(()) => {
-            unload_forms(r, &message_forms, &mut message);
-            Ok(message)
-        }
-    }
-}
-
-// The whole word of a message of K symbols from the symbols at these places.
-fn whole_word<R: Reducer<u64>, const N: usize, const P: usize, const K: usize>(
-    r: &R,
-    points: &[u64; N],
-    places: &[usize; P],
-    symbols: &[u64; P],
-) -> Result<[u64; N], RestoreError> {
-    let mut point_forms = [0; N];
-    let mut forms = [0; P];
-    let mut weights = [0; K];
-    let mut message = [0; K];
-    let mut word_forms = [0; N];
-    let mut word = [0; N];
-    load_forms(r, points, &mut point_forms);
-    load_forms(r, symbols, &mut forms);
-    match restore_word(
-        r,
-        &point_forms,
-        places,
-        &forms,
-        &mut weights,
-        &mut message,
-        &mut word_forms,
-    ) {
-        Err(error) => Err(error),
-        Ok(()) => {
-            unload_forms(r, &word_forms, &mut word);
-            Ok(word)
-        }
-    }
-}
-
-// Whether a word is that of a message of K symbols; `None` where the points don't fit.
-fn is_word<R: Reducer<u64>, const N: usize, const K: usize>(
-    r: &R,
-    points: &[u64; N],
-    word: &[u64; N],
-) -> Option<bool> {
-    let mut point_forms = [0; N];
-    let mut forms = [0; N];
-    let mut weights = [0; K];
-    let mut message = [0; K];
-    load_forms(r, points, &mut point_forms);
-    load_forms(r, word, &mut forms);
-    if points_fit(r, &point_forms) {
-        Some(is_codeword(r, &point_forms, &forms, &mut weights, &mut message))
+        Some(word)
     } else {
         None
     }
 }
 
-// Whether the symbols at three places give the message, and the whole word.
-fn restores<R: Reducer<u64>, const N: usize>(
-    r: &R,
-    points: &[u64; N],
-    word: &[u64; N],
-    message: [u64; 3],
-    places: [usize; 3],
-) -> bool {
-    let mut symbols = [0; 3];
-    for i in 0..3 {
-        if places[i] < N {
-            symbols[i] = word[places[i]];
-        }
+// Whether a word is that of a message of three symbols; `None` where the points don't fit. All are forms.
+fn is_word<T: RingWord, R: Reducer<T>>(r: &R, points: &[T], word: &[T]) -> Option<bool> {
+    let mut weights = [T::zero(); 3];
+    let mut message = [T::zero(); 3];
+    if points_fit(r, points) {
+        Some(is_codeword(r, points, word, &mut weights, &mut message))
+    } else {
+        None
     }
-    restored(r, points, &places, &symbols) == Ok(message)
-        && whole_word::<R, N, 3, 3>(r, points, &places, &symbols) == Ok(*word)
 }
 
-// Whether every three symbols of the word do.
-fn restores_from_each_three<R: Reducer<u64>, const N: usize>(
+// Whether the symbols at these places give this error, or where there is none the message and the word, by `restore`
+// and by `restore_word`. All are forms.
+fn restores<T: RingWord, R: Reducer<T>, const N: usize, const K: usize>(
     r: &R,
-    points: &[u64; N],
-    word: &[u64; N],
-    message: [u64; 3],
+    points: &[T],
+    places: &[usize],
+    symbols: &[T],
+    error: Option<RestoreError>,
+    message: &[T; K],
+    word: &[T; N],
 ) -> bool {
+    let mut chosen = [T::zero(); K];
+    let mut weights = [T::zero(); K];
+    let mut found = [T::zero(); K];
+    let alone = restore(
+        r,
+        points,
+        places,
+        symbols,
+        &mut chosen,
+        &mut weights,
+        &mut found,
+    );
+    let mut whole = [T::zero(); N];
+    let within = restore_word(
+        r,
+        points,
+        places,
+        symbols,
+        &mut weights,
+        &mut chosen,
+        &mut whole,
+    );
+    match error {
+        Some(error) => alone == Err(error) && within == Err(error),
+        None => {
+            alone == Ok(())
+                && within == Ok(())
+                && found == *message
+                && chosen == *message
+                && whole == *word
+        }
+    }
+}
+
+// The symbols at three places.
+fn at_places<const N: usize>(symbols: &[u64; N], places: &[usize; 3]) -> [u64; 3] {
+    let mut found = [0; 3];
+    for i in 0..3 {
+        if places[i] < N {
+            found[i] = symbols[places[i]];
+        }
+    }
+    found
+}
+
+// Points, a message and its word.
+struct Row<const N: usize> {
+    points: [u64; N],
+    message: [u64; 3],
+    word: [u64; N],
+}
+
+// Whether every three symbols of the word give the message and the word.
+fn restores_from_each_three<R: Reducer<u64>, const N: usize>(r: &R, row: &Row<N>) -> bool {
+    let points = forms_of(r, &row.points);
+    let message = forms_of(r, &row.message);
+    let word = forms_of(r, &row.word);
     for a in 0..N {
         for b in a + 1..N {
             for c in b + 1..N {
-                if !restores(r, points, word, message, [a, b, c]) {
+                let places = [a, b, c];
+                let symbols = forms_of(r, &at_places(&row.word, &places));
+                if !restores(r, &points, &places, &symbols, None, &message, &word) {
                     return false;
                 }
             }
@@ -183,80 +140,87 @@ fn restores_from_each_three<R: Reducer<u64>, const N: usize>(
 
 // Whether the word is that of the message, every three symbols give both back, and a change of the first
 // symbol is detected.
-fn has_word<R: Reducer<u64>, const N: usize>(
-    r: &R,
-    points: &[u64; N],
-    message: [u64; 3],
-    word: [u64; N],
-) -> bool {
-    let mut changed = word;
+fn has_word<R: Reducer<u64>, const N: usize>(r: &R, row: &Row<N>) -> bool {
+    let points = forms_of(r, &row.points);
+    let mut word = [0; N];
+    encode(r, &points, &forms_of(r, &row.message), &mut word);
+    let mut changed = row.word;
     changed[0] ^= 1;
-    word_of(r, points, &message) == word
-        && restores_from_each_three(r, points, &word, message)
-        && is_word::<R, N, 3>(r, points, &word) == Some(true)
-        && is_word::<R, N, 3>(r, points, &changed) == Some(false)
+    word == forms_of(r, &row.word)
+        && restores_from_each_three(r, row)
+        && is_word(r, &points, &word) == Some(true)
+        && is_word(r, &points, &forms_of(r, &changed)) == Some(false)
 }
 
-#[test]
-fn words_of_three_symbols() {
-    let rt = crate::runtime::HostRuntime;
-    let rt = &rt;
-    let points = [0, 1, 2, 3, 4, 5, 6];
-    let prime = Montgomery::<u64>::new(929);
-    check!(rt, 1; has_word(&prime, &points, [1, 2, 3], [1, 6, 17, 34, 57, 86, 121]));
-    let composite = Montgomery::<u64>::new(1001);
-    check!(rt, 2;
-        has_word(
-            &composite,
-            &points,
-            [500, 700, 999],
-            [500, 197, 891, 580, 265, 947, 624]
-        )
-    );
+// Whether the systematic word of the message is this one.
+fn has_systematic_word<R: Reducer<u64>>(r: &R, row: &Row<7>) -> bool {
+    let points = forms_of(r, &row.points);
+    let message = forms_of(r, &row.message);
+    let word = forms_of(r, &row.word);
+    systematic_word_of::<_, _, 7, 3>(r, &points, &message) == Some(word)
+        && is_word(r, &points, &word) == Some(true)
 }
 
-#[test]
-fn words_modulo_a_mersenne_prime() {
-    let rt = crate::runtime::HostRuntime;
-    let rt = &rt;
-    let r = FixedMersenne64::<61, 1>::new(&MERSENNE_PRIME);
-    let points = [1, 2, 3, 2305843009213693950, 1152921504606846976];
-    let message = [2305843009213693950, 1234567890123456789, 987654321];
-    let word = [
+const WORD_MODULO_A_MERSENNE_PRIME: &Row<5> = &Row {
+    points: [1, 2, 3, 2305843009213693950, 1152921504606846976],
+    message: [2305843009213693950, 1234567890123456789, 987654321],
+    word: [
         1234567891111111109,
         163292774983836910,
         1397860670045565304,
         1071275120077891482,
         40823193005218486,
-    ];
-    check!(rt, 1; has_word(&r, &points, message, word));
-    check!(rt, 2; restores(&r, &points, &word, message, [2, 3, 4]));
-}
+    ],
+};
 
 #[test]
-fn systematic_words() {
+fn words_modulo_a_mersenne_prime() {
     let rt = crate::runtime::HostRuntime;
-    let rt = &rt;
-    let points = [0, 1, 2, 3, 4, 5, 6];
-    let prime = Montgomery::<u64>::new(929);
-    let word = [3, 2, 1, 0, 928, 927, 926];
-    check!(rt, 1; systematic_word_of(&prime, &points, &[3, 2, 1]) == Some(word));
-    check!(rt, 2; is_word::<_, 7, 3>(&prime, &points, &word) == Some(true));
-    let composite = Montgomery::<u64>::new(1001);
-    let word = [500, 700, 999, 396, 893, 488, 182];
-    check!(rt, 3; systematic_word_of(&composite, &points, &[500, 700, 999]) == Some(word));
-    check!(rt, 4; is_word::<_, 7, 3>(&composite, &points, &word) == Some(true));
+    let r = FixedMersenne64::<61, 1>::new(&MERSENNE_PRIME);
+    check!(&rt, 1; has_word(&r, WORD_MODULO_A_MERSENNE_PRIME));
 }
 
-#[test]
-fn points_that_fit() {
-    let rt = crate::runtime::HostRuntime;
-    let rt = &rt;
-    check!(rt, 1; fit(&Montgomery::<u64>::new(929), &[0, 1, 2, 3, 4, 5, 6]));
-    check!(rt, 2; fit(&Montgomery::<u64>::new(1001), &[0, 1, 2, 3, 4, 5, 6]));
-    check!(rt, 3; !fit(&Montgomery::<u64>::new(1001), &[0, 1, 2, 3, 4, 5, 6, 7]));
-    check!(rt, 4; fit(&Montgomery::<u64>::new(1001), &[]));
-    check!(rt, 5; !fit(&Montgomery::<u64>::new(929), &[5, 934]));
+const WORD_MODULO_929: &Row<7> = &Row {
+    points: [0, 1, 2, 3, 4, 5, 6],
+    message: [1, 2, 3],
+    word: [1, 6, 17, 34, 57, 86, 121],
+};
+
+const WORD_MODULO_1001: &Row<7> = &Row {
+    points: [0, 1, 2, 3, 4, 5, 6],
+    message: [500, 700, 999],
+    word: [500, 197, 891, 580, 265, 947, 624],
+};
+
+const SYSTEMATIC_WORD_MODULO_929: &Row<7> = &Row {
+    points: [0, 1, 2, 3, 4, 5, 6],
+    message: [3, 2, 1],
+    word: [3, 2, 1, 0, 928, 927, 926],
+};
+
+const SYSTEMATIC_WORD_MODULO_1001: &Row<7> = &Row {
+    points: [0, 1, 2, 3, 4, 5, 6],
+    message: [500, 700, 999],
+    word: [500, 700, 999, 396, 893, 488, 182],
+};
+
+fn assert_words<R: Reducer<u64>>(rt: &impl Abort, prime: &R, composite: &R) {
+    check!(rt, 1; has_word(prime, WORD_MODULO_929));
+    check!(rt, 2; has_word(composite, WORD_MODULO_1001));
+    check!(rt, 3; has_systematic_word(prime, SYSTEMATIC_WORD_MODULO_929));
+    check!(rt, 4; has_systematic_word(composite, SYSTEMATIC_WORD_MODULO_1001));
+}
+
+fn fit<R: Reducer<u64>, const N: usize>(r: &R, points: &[u64; N]) -> bool {
+    points_fit(r, &forms_of(r, points))
+}
+
+fn assert_fit<R: Reducer<u64>>(rt: &impl Abort, prime: &R, composite: &R) {
+    check!(rt, 11; fit(prime, &[0, 1, 2, 3, 4, 5, 6]));
+    check!(rt, 12; fit(composite, &[0, 1, 2, 3, 4, 5, 6]));
+    check!(rt, 13; !fit(composite, &[0, 1, 2, 3, 4, 5, 6, 7]));
+    check!(rt, 14; fit(composite, &[]));
+    check!(rt, 15; !fit(prime, &[5, 934]));
 }
 
 // The numbers from 1 to N.
@@ -268,50 +232,60 @@ fn counted<const N: usize>() -> [u64; N] {
     numbers
 }
 
-#[test]
-fn many_symbols() {
-    let rt = crate::runtime::HostRuntime;
-    let rt = &rt;
-    let r = Montgomery::<u64>::new(257);
-    let points = counted::<255>();
-    let message = counted::<223>();
-    let word = word_of(&r, &points, &message);
-    check!(rt, 1; word[..5] == [47, 112, 216, 190, 80]);
-    check!(rt, 2; word[250..] == [255, 172, 114, 188, 123]);
+// Whether the word of 255 symbols has these ends and this sum.
+fn is_known_word(word: &[u64]) -> bool {
     let mut sum: u64 = 0;
-    for symbol in &word {
+    for symbol in word {
         sum = sum.wrapping_add(*symbol);
     }
-    check!(rt, 3; sum == 32269);
+    word.len() == 255
+        && word[..5] == [47, 112, 216, 190, 80]
+        && word[250..] == [255, 172, 114, 188, 123]
+        && sum == 32269
+}
+
+// The places from 32 on, and the symbols there.
+fn last_symbols(word: &[u64; 255]) -> ([usize; 223], [u64; 223]) {
     let mut places = [0; 223];
     let mut symbols = [0; 223];
     for i in 0..223 {
         places[i] = i + 32;
         symbols[i] = word[i + 32];
     }
-    check!(rt, 4; restored(&r, &points, &places, &symbols) == Ok(message));
-    check!(rt, 5; whole_word::<_, 255, 223, 223>(&r, &points, &places, &symbols) == Ok(word));
+    (places, symbols)
+}
+
+// Whether the word of 223 symbols is the known one modulo 257, and is restored without its first 32 symbols.
+fn restores_many<R: Reducer<u64>>(r: &R) -> bool {
+    let points = forms_of(r, &counted::<255>());
+    let message = forms_of(r, &counted::<223>());
+    let mut word = [0; 255];
+    encode(r, &points, &message, &mut word);
+    let words = words_of(r, &word);
+    let (places, symbols) = last_symbols(&words);
+    let symbols = forms_of(r, &symbols);
+    is_known_word(&words) && restores(r, &points, &places, &symbols, None, &message, &word)
 }
 
 // Whether this error comes of these places and symbols, for a message of three symbols.
-fn refuses<const P: usize>(places: &[usize; P], symbols: &[u64; P], error: RestoreError) -> bool {
-    let points = [0, 1, 2, 3, 4, 5, 6, 7];
-    let r = Montgomery::<u64>::new(1001);
-    let message: Result<[u64; 3], RestoreError> = restored(&r, &points, places, symbols);
-    let word = whole_word::<_, 8, P, 3>(&r, &points, places, symbols);
-    message == Err(error) && word == Err(error)
+fn refuses<R: Reducer<u64>, const P: usize>(
+    r: &R,
+    places: &[usize; P],
+    symbols: &[u64; P],
+    error: RestoreError,
+) -> bool {
+    let points = forms_of(r, &[0, 1, 2, 3, 4, 5, 6, 7]);
+    let symbols = forms_of(r, symbols);
+    restores(r, &points, places, &symbols, Some(error), &[0; 3], &[0; 8])
 }
 
-#[test]
-fn bad_input() {
-    let rt = crate::runtime::HostRuntime;
-    let rt = &rt;
-    check!(rt, 1; refuses(&[0, 1], &[1, 2], RestoreError::TooFewSymbols));
-    check!(rt, 2; refuses(&[4, 1, 4], &[1, 2, 1], RestoreError::PlaceTwice));
-    check!(rt, 3; refuses(&[0, 8, 1], &[1, 2, 3], RestoreError::PlaceOutOfRange));
-    check!(rt, 4; refuses(&[0, 3, 7], &[1, 2, 3], RestoreError::PointsDontFit));
-    let r = Montgomery::<u64>::new(1001);
-    check!(rt, 5; systematic_word_of(&r, &[0, 7, 1], &[1, 2]) == None);
+fn assert_refused<R: Reducer<u64>>(rt: &impl Abort, r: &R) {
+    check!(rt, 21; refuses(r, &[0, 1], &[1, 2], RestoreError::TooFewSymbols));
+    check!(rt, 22; refuses(r, &[4, 1, 4], &[1, 2, 1], RestoreError::PlaceTwice));
+    check!(rt, 23; refuses(r, &[0, 8, 1], &[1, 2, 3], RestoreError::PlaceOutOfRange));
+    check!(rt, 24; refuses(r, &[0, 3, 7], &[1, 2, 3], RestoreError::PointsDontFit));
+    let (points, message) = (forms_of(r, &[0, 7, 1]), forms_of(r, &[1, 2]));
+    check!(rt, 25; systematic_word_of::<_, _, 3, 2>(r, &points, &message) == None);
 }
 
 // The shares of a secret at these points.
@@ -320,41 +294,27 @@ fn shares_of<R: Reducer<u64>, const N: usize>(
     points: &[u64; N],
     coefficients: &[u64; 3],
 ) -> Result<[u64; N], ShareError> {
-    let mut point_forms = [0; N];
-    let mut forms = [0; 3];
-    let mut share_forms = [0; N];
+    let points = forms_of(r, points);
+    let coefficients = forms_of(r, coefficients);
     let mut shares = [0; N];
-    load_forms(r, points, &mut point_forms);
-    load_forms(r, coefficients, &mut forms);
-    match share(r, &point_forms, &forms, &mut share_forms) {
+    match share(r, &points, &coefficients, &mut shares) {
         Err(error) => Err(error),
-        Ok(()) => {
-            unload_forms(r, &share_forms, &mut shares);
-            Ok(shares)
-        }
+        Ok(()) => Ok(words_of(r, &shares)),
     }
 }
 
-// The secret from the shares at three places of five points.
+// The secret from the shares at three places of the points 1 to 5.
 fn recovered<R: Reducer<u64>>(r: &R, shares: &[u64; 5], places: &[usize; 3]) -> Option<u64> {
-    let mut points = [0; 5];
-    let mut kept = [0; 3];
-    let mut forms = [0; 3];
+    let points = forms_of(r, &[1, 2, 3, 4, 5]);
+    let kept = forms_of(r, &at_places(shares, places));
     let mut chosen = [0; 3];
     let mut weights = [0; 3];
     let mut restored = [0; 3];
-    load_forms(r, &[1, 2, 3, 4, 5], &mut points);
-    for i in 0..3 {
-        if places[i] < 5 {
-            kept[i] = shares[places[i]];
-        }
-    }
-    load_forms(r, &kept, &mut forms);
     match recover(
         r,
         &points,
         places,
-        &forms,
+        &kept,
         &mut chosen,
         &mut weights,
         &mut restored,
@@ -376,16 +336,26 @@ fn shared_and_recovered<R: Reducer<u64>>(
     }
 }
 
+fn assert_secrets<R: Reducer<u64>>(rt: &impl Abort, r: &R) {
+    let coefficients = &[123, 456, 789];
+    check!(rt, 31; shared_and_recovered(r, coefficients, &[0, 2, 4]) == Some(123));
+    check!(rt, 32; shared_and_recovered(r, coefficients, &[4, 1, 3]) == Some(123));
+    check!(rt, 33; shared_and_recovered(r, coefficients, &[4, 1, 4]) == None);
+    check!(rt, 34; shares_of(r, &[1, 2, 3], coefficients) == Ok([439, 475, 231]));
+    // at 0 the share is the secret
+    check!(rt, 35; shares_of(r, &[1, 0, 2], coefficients) == Err(ShareError::PointZero));
+    check!(rt, 36; shares_of(r, &[1, 2, 929], coefficients) == Err(ShareError::PointZero));
+}
+
 #[test]
-fn secrets() {
+fn codes_by_montgomery_forms() {
     let rt = crate::runtime::HostRuntime;
     let rt = &rt;
-    let r = Montgomery::<u64>::new(929);
-    check!(rt, 1; shared_and_recovered(&r, &[123, 456, 789], &[0, 2, 4]) == Some(123));
-    check!(rt, 2; shared_and_recovered(&r, &[123, 456, 789], &[4, 1, 3]) == Some(123));
-    check!(rt, 3; shared_and_recovered(&r, &[123, 456, 789], &[4, 1, 4]) == None);
-    check!(rt, 4; shares_of(&r, &[1, 2, 3], &[123, 456, 789]) == Ok([439, 475, 231]));
-    // at 0 the share is the secret
-    check!(rt, 5; shares_of(&r, &[1, 0, 2], &[123, 456, 789]) == Err(ShareError::PointZero));
-    check!(rt, 6; shares_of(&r, &[1, 2, 929], &[123, 456, 789]) == Err(ShareError::PointZero));
+    let prime = Montgomery::<u64>::new(929);
+    let composite = Montgomery::<u64>::new(1001);
+    assert_words(rt, &prime, &composite);
+    assert_fit(rt, &prime, &composite);
+    assert_refused(rt, &composite);
+    assert_secrets(rt, &prime);
+    check!(rt, 41; restores_many(&Montgomery::<u64>::new(257)));
 }

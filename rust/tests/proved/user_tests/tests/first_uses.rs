@@ -1,10 +1,9 @@
-//! The README's examples. Each value was computed with Python's integers.
+//! The README's examples, but the one over any reducer, of which `reducers` has a row. Each value was computed with
+//! Python's integers.
 
 use num_modular::applications::examples::first_use::{
-    minutes_and_seconds, product_and_one, product_by_folds, residue_by_commands, sum_of_squares,
-    symbol,
+    minutes_and_seconds, product_and_one, product_by_folds, residue_by_commands, symbol,
 };
-use num_modular::Montgomery;
 
 const X: u64 = 18446744073709551615;
 
@@ -17,12 +16,6 @@ fn products_and_residues() {
     check!(rt, 1; product_and_one(X, Y) == 84);
     check!(rt, 2; product_by_folds(X, Y) == 1103560967735299043);
     check!(rt, 3; residue_by_commands(X, 1000000007) == 582344007);
-}
-
-#[test]
-fn squares_over_a_reducer() {
-    let rt = crate::runtime::HostRuntime;
-    check!(&rt, 1; sum_of_squares(&Montgomery::<u64>::new(97), X, 50) == 86);
 }
 
 #[test]

@@ -26,9 +26,8 @@ const SEARCHES: &[(&[u8], &[u8], Option<usize>)] = &[
 // Whether each search returns this. At the base 0 a hash is the last byte, and at 1 it is the sum of the bytes, so
 // that many windows have the pattern's hash.
 fn finds_each(base: Hash) -> bool {
-    for row in SEARCHES {
-        let &(text, pattern, position) = row;
-        if find(base, text, pattern) != position {
+    for (text, pattern, position) in SEARCHES {
+        if find(base, text, pattern) != *position {
             return false;
         }
     }
@@ -43,25 +42,30 @@ fn searches() {
     }
 }
 
-// A base, a text, and the hash.
-const HASHES: &[(u64, &[u8], u64)] = &[
-    (256, b"abracadabra", 100030700541806068),
-    (2305843009213693950, b"abracadabra", 102),
-    (5, b"", 0),
-    (1000003, b"abracadabra", 2019167997446549444),
+// A base, a text, whether the window of 11 bytes is then moved from an a to an a, and the hash.
+const HASHES: &[(u64, &[u8], bool, u64)] = &[
+    (256, b"abracadabra", false, 100030700541806068),
+    (2305843009213693950, b"abracadabra", false, 102),
+    (5, b"", false, 0),
+    (1000003, b"abracadabra", false, 2019167997446549444),
+    (1000003, b"abracadabra", true, 2038550280337484571),
 ];
+
+fn residue_of(n: u64, text: &[u8], is_moved: bool) -> u64 {
+    let base = base(n);
+    let mut window = hash(base, text);
+    if is_moved {
+        window = moved(base, base.pow(&11), window, b'a', b'a');
+    }
+    window.residue()
+}
 
 #[test]
 fn hashes() {
     let rt = crate::runtime::HostRuntime;
-    for row in HASHES {
-        let &(n, text, residue) = row;
-        assert_at(&rt, hash(base(n), text).residue() == residue, &n);
+    for &(n, text, is_moved, residue) in HASHES {
+        assert_at(&rt, residue_of(n, text, is_moved) == residue, &n);
     }
-    let base = base(1000003);
-    let window = hash(base, b"abracadabra");
-    let moved = moved(base, base.pow(&11), window, b'a', b'a');
-    check!(&rt, 1; moved.residue() == 2038550280337484571);
 }
 
 #[test]

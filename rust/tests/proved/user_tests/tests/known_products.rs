@@ -1,11 +1,8 @@
 //! Known products from other sources, by digits of 16 bits packed four to a word, and slices that are too short.
 
 use super::assert_at;
-use super::long_products::multiply;
+use super::long_products::{is_product, multiply};
 use num_modular::applications::long_product::{MOST_PLACES, transform_length};
-use num_modular::plans::Factor;
-
-const NONE: Factor<u64> = Factor::<u64>::ZERO;
 
 // Two factors and their product, computed with another program: 20! and 40!/20!, 50! and 100!/50!, and 2^48 - 1
 // squared.
@@ -47,24 +44,20 @@ fn packed(digits: &[u16]) -> [u64; 32] {
     words
 }
 
-// Compares the digits of a product with those that are known, which all have 16 bits.
-fn is_product(xs: &[u16], ys: &[u16], known: &[u16]) -> bool {
-    let (x, y) = (packed(xs), packed(ys));
-    let (x, y) = (
-        &x[..xs.len().min(64).div_ceil(4)],
-        &y[..ys.len().min(64).div_ceil(4)],
-    );
-    let places = x.len() + y.len();
-    let (mut digits, mut words, mut factors) = ([7; 32], [7; 64], [NONE; 64]);
-    multiply(x, y, &mut digits[..places], &mut words, &mut factors)
-        && digits[..places] == packed(known)[..places]
+// Whether the product has these digits, which all have 16 bits.
+fn is_packed_product(xs: &[u16], ys: &[u16], known: &[u16]) -> bool {
+    let x = packed(xs);
+    let y = packed(ys);
+    let x = &x[..xs.len().min(64).div_ceil(4)];
+    let y = &y[..ys.len().min(64).div_ceil(4)];
+    is_product(x, y, &packed(known)[..x.len() + y.len()])
 }
 
 #[test]
 fn known_products() {
     let rt = crate::runtime::HostRuntime;
     for (xs, ys, known) in ROWS {
-        check!(&rt, 1; is_product(xs, ys, known));
+        check!(&rt, 1; is_packed_product(xs, ys, known));
     }
 }
 
@@ -87,42 +80,42 @@ fn squares_of_all_ones() {
     let rt = crate::runtime::HostRuntime;
     let ones = [65535; 64];
     for n in [1, 2, 5, 31, 32, 33, 64] {
-        let (xs, places) = (&ones[..n], 2 * n);
-        let known = square_of_all_ones(n);
-        assert_at(&rt, is_product(xs, xs, &known[..places]), &places);
+        let xs = &ones[..n];
+        assert_at(
+            &rt,
+            is_packed_product(xs, xs, &square_of_all_ones(n)[..2 * n]),
+            &n,
+        );
     }
 }
 
-// Whether three digits and two have a product exactly where the slices fit; else the first digit is unchanged.
-fn is_told(places: usize, left: usize, right: usize, fits: bool) -> bool {
-    if places > 16 || left > 16 || right > 16 {
+// Whether three digits and two have a product exactly where the row fits; else the first digit is unchanged.
+fn is_told(row: &(usize, usize, usize, bool)) -> bool {
+    let &(places, words, factors, fits) = row;
+    let mut digits = [7; 16];
+    if places > 16 {
         return false;
     }
-    let (mut digits, mut first, mut second) = ([7; 16], [7; 16], [NONE; 16]);
-    let done = multiply(
-        &[1, 2, 3],
-        &[4, 5],
-        &mut digits[..places],
-        &mut first[..left],
-        &mut second[..right],
-    );
+    let done = multiply(&[1, 2, 3], &[4, 5], &mut digits[..places], words, factors);
     done == fits && digits[0] == if fits { 4 } else { 7 }
 }
 
-// Short factors take no room but that of the digits.
+// The number of digits, of words and of factors, and whether they fit: short factors take no room but that of the
+// digits.
+const ROOMS: &[(usize, usize, usize, bool)] = &[
+    (5, 8, 8, true),
+    (5, 9, 16, true),
+    (4, 8, 8, false),
+    (6, 8, 8, false),
+    (5, 7, 8, true),
+    (5, 8, 7, true),
+];
+
 #[test]
 fn room() {
     let rt = crate::runtime::HostRuntime;
-    for row in [
-        (5, 8, 8, true),
-        (5, 9, 16, true),
-        (4, 8, 8, false),
-        (6, 8, 8, false),
-        (5, 7, 8, true),
-        (5, 8, 7, true),
-    ] {
-        let (places, left, right, fits) = row;
-        assert_at(&rt, is_told(places, left, right, fits), &row);
+    for row in ROOMS {
+        assert_at(&rt, is_told(row), row);
     }
 }
 
@@ -130,9 +123,8 @@ fn room() {
 fn no_digits() {
     let rt = crate::runtime::HostRuntime;
     let rt = &rt;
-    let mut none = [0; 1];
-    check!(rt, 1; multiply(&[], &[], &mut [], &mut none, &mut [NONE]));
-    check!(rt, 2; multiply(&[], &[], &mut [], &mut none, &mut []));
+    check!(rt, 1; multiply(&[], &[], &mut [], 1, 1));
+    check!(rt, 2; multiply(&[], &[], &mut [], 1, 0));
 }
 
 // A number of places, and the length of the transforms.

@@ -43,177 +43,159 @@ enum Step {
     PlaceByPlace,
 }
 
-fn dsa(step: Step, mut xs: [u32; 256], mut ys: [u32; 256]) -> Option<[u32; 256]> {
-    if !ml_dsa::are_residues(&xs) || !ml_dsa::are_residues(&ys) {
-        return None;
+// Replaces xs by the result; returns false where an entry isn't a residue.
+fn dsa(step: Step, xs: &mut [u32; 256], ys: &mut [u32; 256]) -> bool {
+    if !ml_dsa::are_residues(xs) || !ml_dsa::are_residues(ys) {
+        return false;
     }
     let ring = ml_dsa::Ring::new();
     match step {
-        Step::Transform => ring.ntt(&mut xs),
-        Step::Back => ring.inverse(&mut xs),
-        Step::Product => ring.product(&mut xs, &mut ys),
-        Step::PlaceByPlace => ring.multiply(&mut xs, &ys),
+        Step::Transform => ring.ntt(xs),
+        Step::Back => ring.inverse(xs),
+        Step::Product => ring.product(xs, ys),
+        Step::PlaceByPlace => ring.multiply(xs, ys),
     }
-    Some(xs)
+    true
 }
 
-fn kem(step: Step, mut xs: [u32; 256], mut ys: [u32; 256]) -> Option<[u32; 256]> {
-    if !ml_kem::are_residues(&xs) || !ml_kem::are_residues(&ys) {
-        return None;
+fn kem(step: Step, xs: &mut [u32; 256], ys: &mut [u32; 256]) -> bool {
+    if !ml_kem::are_residues(xs) || !ml_kem::are_residues(ys) {
+        return false;
     }
     let ring = ml_kem::Ring::new();
     match step {
-        Step::Transform => ring.ntt(&mut xs),
-        Step::Back => ring.inverse(&mut xs),
-        Step::Product => ring.product(&mut xs, &mut ys),
-        Step::PlaceByPlace => ring.multiply(&mut xs, &ys),
+        Step::Transform => ring.ntt(xs),
+        Step::Back => ring.inverse(xs),
+        Step::Product => ring.product(xs, ys),
+        Step::PlaceByPlace => ring.multiply(xs, ys),
     }
-    Some(xs)
+    true
 }
 
-fn dsa_seen(step: Step, xs: [u32; 256], ys: [u32; 256]) -> [u32; 7] {
-    match dsa(step, xs, ys) {
-        Some(w) => seen(&w),
-        None => [0; 7],
+#[derive(Clone, Copy)]
+enum Scheme {
+    Dsa,
+    Kem,
+}
+
+fn modulus(scheme: Scheme) -> u32 {
+    match scheme {
+        Scheme::Dsa => ml_dsa::MODULUS,
+        Scheme::Kem => ml_kem::MODULUS,
     }
 }
 
-fn kem_seen(step: Step, xs: [u32; 256], ys: [u32; 256]) -> [u32; 7] {
-    match kem(step, xs, ys) {
-        Some(w) => seen(&w),
-        None => [0; 7],
+fn apply(scheme: Scheme, step: Step, xs: &mut [u32; 256], ys: &mut [u32; 256]) -> bool {
+    match scheme {
+        Scheme::Dsa => dsa(step, xs, ys),
+        Scheme::Kem => kem(step, xs, ys),
     }
 }
 
-// A power of X, an index of its transform, and the value there: entries 1 to 15 and 255 of the table in appendix B
-// of FIPS 204.
-const DSA_POWERS: &[(usize, usize, u32)] = &[
-    (128, 0, 4808194),
-    (64, 0, 3765607),
-    (64, 128, 3761513),
-    (32, 0, 5178923),
-    (32, 64, 5496691),
-    (32, 128, 5234739),
-    (32, 192, 5178987),
-    (16, 0, 7778734),
-    (16, 32, 3542485),
-    (16, 64, 2682288),
-    (16, 96, 2129892),
-    (16, 128, 3764867),
-    (16, 160, 7375178),
-    (16, 192, 557458),
-    (16, 224, 7159240),
-    (1, 254, 7648983),
+// A power of X, an index of its transform, and the value there.
+const POWERS: &[(Scheme, usize, usize, u32)] = &[
+    // entries 1 to 15 and 255 of the table in appendix B of FIPS 204
+    (Scheme::Dsa, 128, 0, 4808194),
+    (Scheme::Dsa, 64, 0, 3765607),
+    (Scheme::Dsa, 64, 128, 3761513),
+    (Scheme::Dsa, 32, 0, 5178923),
+    (Scheme::Dsa, 32, 64, 5496691),
+    (Scheme::Dsa, 32, 128, 5234739),
+    (Scheme::Dsa, 32, 192, 5178987),
+    (Scheme::Dsa, 16, 0, 7778734),
+    (Scheme::Dsa, 16, 32, 3542485),
+    (Scheme::Dsa, 16, 64, 2682288),
+    (Scheme::Dsa, 16, 96, 2129892),
+    (Scheme::Dsa, 16, 128, 3764867),
+    (Scheme::Dsa, 16, 160, 7375178),
+    (Scheme::Dsa, 16, 192, 557458),
+    (Scheme::Dsa, 16, 224, 7159240),
+    (Scheme::Dsa, 1, 254, 7648983),
+    // entries 1 to 15 of the first table in appendix A of FIPS 203, and some of the second
+    (Scheme::Kem, 128, 0, 1729),
+    (Scheme::Kem, 64, 0, 2580),
+    (Scheme::Kem, 64, 128, 3289),
+    (Scheme::Kem, 32, 0, 2642),
+    (Scheme::Kem, 32, 64, 630),
+    (Scheme::Kem, 32, 128, 1897),
+    (Scheme::Kem, 32, 192, 848),
+    (Scheme::Kem, 16, 0, 1062),
+    (Scheme::Kem, 16, 32, 1919),
+    (Scheme::Kem, 16, 64, 193),
+    (Scheme::Kem, 16, 96, 797),
+    (Scheme::Kem, 16, 128, 2786),
+    (Scheme::Kem, 16, 160, 3260),
+    (Scheme::Kem, 16, 192, 569),
+    (Scheme::Kem, 16, 224, 1746),
+    (Scheme::Kem, 2, 0, 17),
+    (Scheme::Kem, 2, 2, 3312),
+    (Scheme::Kem, 2, 4, 2761),
+    (Scheme::Kem, 2, 6, 568),
+    (Scheme::Kem, 2, 252, 2154),
+    (Scheme::Kem, 2, 254, 1175),
 ];
 
-// A power of X, an index of its transform, and the value there: entries 1 to 15 of the first table in appendix A of
-// FIPS 203, and some of the second.
-const KEM_POWERS: &[(usize, usize, u32)] = &[
-    (128, 0, 1729),
-    (64, 0, 2580),
-    (64, 128, 3289),
-    (32, 0, 2642),
-    (32, 64, 630),
-    (32, 128, 1897),
-    (32, 192, 848),
-    (16, 0, 1062),
-    (16, 32, 1919),
-    (16, 64, 193),
-    (16, 96, 797),
-    (16, 128, 2786),
-    (16, 160, 3260),
-    (16, 192, 569),
-    (16, 224, 1746),
-    (2, 0, 17),
-    (2, 2, 3312),
-    (2, 4, 2761),
-    (2, 6, 568),
-    (2, 252, 2154),
-    (2, 254, 1175),
-];
+fn has_power(row: &(Scheme, usize, usize, u32)) -> bool {
+    let mut w = monomial(row.1);
+    apply(row.0, Step::Transform, &mut w, &mut monomial(0)) && w[row.2 % 256] == row.3
+}
 
 #[test]
-fn dsa_table() {
+fn tables_of_powers() {
     let rt = crate::runtime::HostRuntime;
-    for &(k, place, value) in DSA_POWERS {
-        let is_right = match dsa(Step::Transform, monomial(k), monomial(0)) {
-            Some(w) => w[place % 256] == value,
-            None => false,
-        };
-        assert_at(&rt, is_right, &(k, place));
+    for row in POWERS {
+        assert_at(&rt, has_power(row), &(row.1, row.2));
     }
 }
 
 // An operation, whether the entries of its lists are q - 1 or those listed, and what is seen of the result.
-const DSA_ROWS: &[(Step, bool, [u32; 7])] = &[
-    (Step::Transform, false, [1886738, 7506604, 7811974, 913702, 167585, 5008395, 1268708856]),
-    (Step::Transform, true, [3778841, 8294415, 178752, 8012511, 367904, 4601574, 1310621198]),
-    (Step::Back, false, [3477908, 3108380, 2896216, 5380351, 7397931, 6281963, 1533289978]),
-    (Step::Back, true, [8380416, 0, 0, 0, 0, 0, 1006903296]),
-    (Step::PlaceByPlace, false, [7492739, 4455239, 2220157, 7957819, 1052085, 8178988, 171115350]),
-    (Step::PlaceByPlace, true, [1, 1, 1, 1, 1, 1, 702681088]),
-    (Step::Product, false, [295442, 4740697, 3569378, 1367687, 6973809, 5285815, 453991145]),
-    (Step::Product, true, [8380163, 8380165, 8380167, 0, 2, 256, 153377023]),
+const ROWS: &[(Scheme, Step, bool, [u32; 7])] = &[
+    (Scheme::Dsa, Step::Transform, false, [1886738, 7506604, 7811974, 913702, 167585, 5008395, 1268708856]),
+    (Scheme::Dsa, Step::Transform, true, [3778841, 8294415, 178752, 8012511, 367904, 4601574, 1310621198]),
+    (Scheme::Dsa, Step::Back, false, [3477908, 3108380, 2896216, 5380351, 7397931, 6281963, 1533289978]),
+    (Scheme::Dsa, Step::Back, true, [8380416, 0, 0, 0, 0, 0, 1006903296]),
+    (Scheme::Dsa, Step::PlaceByPlace, false, [7492739, 4455239, 2220157, 7957819, 1052085, 8178988, 171115350]),
+    (Scheme::Dsa, Step::PlaceByPlace, true, [1, 1, 1, 1, 1, 1, 702681088]),
+    (Scheme::Dsa, Step::Product, false, [295442, 4740697, 3569378, 1367687, 6973809, 5285815, 453991145]),
+    (Scheme::Dsa, Step::Product, true, [8380163, 8380165, 8380167, 0, 2, 256, 153377023]),
+    (Scheme::Kem, Step::Transform, false, [73, 999, 2250, 643, 190, 617, 2747614200]),
+    (Scheme::Kem, Step::Transform, true, [2913, 2913, 2959, 1203, 2124, 414, 860692480]),
+    (Scheme::Kem, Step::Back, false, [1856, 3104, 1600, 212, 2799, 296, 3937434033]),
+    (Scheme::Kem, Step::Back, true, [3328, 3328, 0, 0, 0, 0, 3756630016]),
+    (Scheme::Kem, Step::PlaceByPlace, false, [20, 401, 2047, 1528, 63, 63, 3795999982]),
+    (Scheme::Kem, Step::PlaceByPlace, true, [18, 2, 3313, 2, 1585, 2, 2940274240]),
+    (Scheme::Kem, Step::Product, false, [3272, 142, 719, 1348, 2541, 453, 3313341057]),
+    (Scheme::Kem, Step::Product, true, [3075, 3077, 3079, 0, 2, 256, 2547788799]),
 ];
 
-#[test]
-fn dsa_rows() {
-    let rt = crate::runtime::HostRuntime;
-    let rt = &rt;
-    let q = ml_dsa::MODULUS;
-    let (xs, ys, greatest) = (listed(1, q), listed(2, q), [q - 1; 256]);
-    for &(step, is_greatest, want) in DSA_ROWS {
-        let found = if is_greatest {
-            dsa_seen(step, greatest, greatest)
-        } else {
-            dsa_seen(step, xs, ys)
-        };
-        assert_at(rt, found == want, &want);
+fn is_right(row: &(Scheme, Step, bool, [u32; 7])) -> bool {
+    let q = modulus(row.0);
+    let mut xs = [q - 1; 256];
+    let mut ys = [q - 1; 256];
+    if !row.2 {
+        xs = listed(1, q);
+        ys = listed(2, q);
     }
-    let mut last = greatest;
-    last[255] = q;
-    check!(rt, 1; dsa(Step::Transform, last, ys).is_none());
+    apply(row.0, row.1, &mut xs, &mut ys) && seen(&xs) == row.3
 }
 
 #[test]
-fn kem_table() {
+fn operations_on_lists() {
     let rt = crate::runtime::HostRuntime;
-    for &(k, place, value) in KEM_POWERS {
-        let is_right = match kem(Step::Transform, monomial(k), monomial(0)) {
-            Some(w) => w[place % 256] == value,
-            None => false,
-        };
-        assert_at(&rt, is_right, &(k, place));
+    for row in ROWS {
+        assert_at(&rt, is_right(row), &row.3);
     }
 }
 
-// An operation, whether the entries of its lists are q - 1 or those listed, and what is seen of the result.
-const KEM_ROWS: &[(Step, bool, [u32; 7])] = &[
-    (Step::Transform, false, [73, 999, 2250, 643, 190, 617, 2747614200]),
-    (Step::Transform, true, [2913, 2913, 2959, 1203, 2124, 414, 860692480]),
-    (Step::Back, false, [1856, 3104, 1600, 212, 2799, 296, 3937434033]),
-    (Step::Back, true, [3328, 3328, 0, 0, 0, 0, 3756630016]),
-    (Step::PlaceByPlace, false, [20, 401, 2047, 1528, 63, 63, 3795999982]),
-    (Step::PlaceByPlace, true, [18, 2, 3313, 2, 1585, 2, 2940274240]),
-    (Step::Product, false, [3272, 142, 719, 1348, 2541, 453, 3313341057]),
-    (Step::Product, true, [3075, 3077, 3079, 0, 2, 256, 2547788799]),
-];
+fn accepts_modulus(scheme: Scheme) -> bool {
+    let q = modulus(scheme);
+    let mut last = [q - 1; 256];
+    last[255] = q;
+    apply(scheme, Step::Transform, &mut last, &mut listed(2, q))
+}
 
 #[test]
-fn kem_rows() {
+fn entries_that_are_no_residues() {
     let rt = crate::runtime::HostRuntime;
-    let rt = &rt;
-    let q = ml_kem::MODULUS;
-    let (xs, ys, greatest) = (listed(1, q), listed(2, q), [q - 1; 256]);
-    for &(step, is_greatest, want) in KEM_ROWS {
-        let found = if is_greatest {
-            kem_seen(step, greatest, greatest)
-        } else {
-            kem_seen(step, xs, ys)
-        };
-        assert_at(rt, found == want, &want);
-    }
-    let mut last = greatest;
-    last[255] = q;
-    check!(rt, 1; kem(Step::Transform, last, ys).is_none());
+    check!(&rt, 1; !accepts_modulus(Scheme::Dsa) && !accepts_modulus(Scheme::Kem));
 }

@@ -1,13 +1,14 @@
 //! Products of digits of 64 bits, by rows and by transforms, and slices that are too short.
 
 use super::assert_at;
-use num_modular::applications::long_product::{fill_plans, product, product_planned, room};
-use num_modular::plans::Factor;
+use num_modular::applications::long_product::{FIRST, SECOND, THIRD, fill_plans, product, product_planned, room};
+use num_modular::plans::{Factor, PlanEntry};
 
 const NONE: Factor<u64> = Factor::<u64>::ZERO;
 
 // The steps of a linear congruential generator, which another program can compute too.
-fn fill_digits(seed: u64, digits: &mut [u64]) {
+fn digits_from<const N: usize>(seed: u64) -> [u64; N] {
+    let mut digits = [0; N];
     let mut digit = seed;
     for place in digits.iter_mut() {
         digit = digit
@@ -15,6 +16,7 @@ fn fill_digits(seed: u64, digits: &mut [u64]) {
             .wrapping_add(1442695040888963407);
         *place = digit;
     }
+    digits
 }
 
 // The digits as coefficients, the highest first, at the generator's factor, modulo 2^64.
@@ -26,31 +28,36 @@ fn checksum(digits: &[u64]) -> u64 {
     sum
 }
 
-/// Calls `product` with tables of `Factor`s. The tests share it, since a call of a generic function at a known type is
-/// costly to prove.
-pub fn multiply(
-    xs: &[u64],
-    ys: &[u64],
-    digits: &mut [u64],
-    words: &mut [u64],
-    factors: &mut [Factor<u64>],
-) -> bool {
-    product(xs, ys, digits, words, factors)
+/// Calls `product` with so many words and `Factor`s; returns false where they are more than 8192 and 3072. The tests
+/// share it, since a call of a generic function at a known type is costly to prove.
+pub fn multiply(xs: &[u64], ys: &[u64], digits: &mut [u64], words: usize, factors: usize) -> bool {
+    let mut room = [7; 8192];
+    let mut tables = [NONE; 3072];
+    if words > 8192 || factors > 3072 {
+        return false;
+    }
+    product(xs, ys, digits, &mut room[..words], &mut tables[..factors])
 }
 
-// The checksum of a product of factors of so many digits; `None` where `product` returns false.
-fn checksum_of_product(xs: usize, ys: usize) -> Option<u64> {
-    let (mut first, mut second) = ([0; 700], [0; 700]);
-    fill_digits(1, &mut first);
-    fill_digits(2, &mut second);
-    let (xs, ys) = (&first[..xs.min(700)], &second[..ys.min(700)]);
-    let (mut digits, mut words, mut factors) = ([7; 1400], [7; 8192], [NONE; 3072]);
-    let places = xs.len() + ys.len();
-    if multiply(xs, ys, &mut digits[..places], &mut words, &mut factors) {
-        Some(checksum(&digits[..places]))
-    } else {
-        None
+/// Whether the product of xs and ys has these digits, at most 1024.
+pub fn is_product(xs: &[u64], ys: &[u64], known: &[u64]) -> bool {
+    let mut room = [7; 1024];
+    if known.len() > 1024 {
+        return false;
     }
+    let digits = &mut room[..known.len()];
+    multiply(xs, ys, digits, 4096, 1536) && *digits == *known
+}
+
+// Whether the checksum of the product of factors of so many digits is known.
+fn has_checksum(row: &(usize, usize, u64)) -> bool {
+    let first = digits_from::<700>(1);
+    let second = digits_from::<700>(2);
+    let mut room = [7; 1400];
+    let xs = &first[..row.0.min(700)];
+    let ys = &second[..row.1.min(700)];
+    let digits = &mut room[..xs.len() + ys.len()];
+    multiply(xs, ys, digits, 8192, 3072) && checksum(digits) == row.2
 }
 
 // The numbers of digits of the factors, and the checksum of their product, computed with another program.
@@ -75,95 +82,114 @@ const ROWS: &[(usize, usize, u64)] = &[
 fn known_checksums() {
     let rt = crate::runtime::HostRuntime;
     for row in ROWS {
-        let &(xs, ys, known) = row;
-        assert_at(&rt, checksum_of_product(xs, ys) == Some(known), row);
+        assert_at(&rt, has_checksum(row), row);
     }
 }
+
+// The digits of the factors, and those of their product.
+const PRODUCT: (&[u64], &[u64], &[u64]) = (
+    &[7806831264735756412, 9396908728118811419],
+    &[14170967488582549417],
+    &[
+        3971508702249932252,
+        2385304725559399997,
+        7218796311547177778,
+    ],
+);
 
 #[test]
 fn a_known_product() {
     let rt = crate::runtime::HostRuntime;
-    let rt = &rt;
-    let mut digits = [7; 3];
-    check!(rt, 1;
-        multiply(
-            &[7806831264735756412, 9396908728118811419],
-            &[14170967488582549417],
-            &mut digits,
-            &mut [],
-            &mut []
-        )
-    );
-    let known = [
-        3971508702249932252,
-        2385304725559399997,
-        7218796311547177778,
-    ];
-    check!(rt, 2; digits == known);
+    let (xs, ys, known) = PRODUCT;
+    check!(&rt, 1; is_product(xs, ys, known));
 }
 
-// The square of 2^(64n) - 1 is 2^(128n) - 2^(64n + 1) + 1.
+// The square of 2^(64n) - 1 is 2^(128n) - 2^(64n + 1) + 1. Its digits, followed by the greatest.
+fn square_of_all_ones(n: usize) -> [u64; 1024] {
+    let mut known = [18446744073709551615; 1024];
+    for i in 0..1024 {
+        if i < n {
+            known[i] = 0;
+        }
+        if i == n {
+            known[i] = 18446744073709551614;
+        }
+    }
+    known[0] = 1;
+    known
+}
+
 #[test]
 fn squares_of_all_ones() {
     let rt = crate::runtime::HostRuntime;
-    let rt = &rt;
     let ones = [18446744073709551615; 512];
     for n in [1, 2, 3, 40, 300, 399, 400, 512] {
-        let (mut digits, mut words, mut factors) = ([7; 1024], [7; 4096], [NONE; 1536]);
-        let (xs, places) = (&ones[..n], 2 * n);
-        check!(rt, 1; multiply(xs, xs, &mut digits[..places], &mut words, &mut factors));
-        for i in 0..places {
-            let known = match i {
-                0 => 1,
-                _ if i < n => 0,
-                _ if i == n => 18446744073709551614,
-                _ => 18446744073709551615,
-            };
-            assert_at(rt, digits[i] == known, &(i, places));
-        }
+        let xs = &ones[..n];
+        assert_at(&rt, is_product(xs, xs, &square_of_all_ones(n)[..2 * n]), &n);
     }
 }
 
-// Plans for more entries work as well, for one product after another.
+// Whether the checksum is that of the row, by these plans.
+fn has_checksum_by_plans<F: PlanEntry<u64>>(
+    row: &(usize, usize, u64),
+    first: &[F],
+    second: &[F],
+    third: &[F],
+) -> bool {
+    let xs = digits_from::<700>(1);
+    let ys = digits_from::<700>(2);
+    let mut room = [7; 1400];
+    let mut words = [7; 8192];
+    let xs = &xs[..row.0.min(700)];
+    let ys = &ys[..row.1.min(700)];
+    let digits = &mut room[..xs.len() + ys.len()];
+    product_planned(xs, ys, digits, &mut words, first, second, third) && checksum(digits) == row.2
+}
+
+// Whether the checksums are those of the rows, by the plans that are made in these tables for one product after another.
+fn have_checksums_by_plans<F: PlanEntry<u64>>(
+    first: &mut [F],
+    second: &mut [F],
+    third: &mut [F],
+) -> bool {
+    if !fill_plans(first, second, third) {
+        return false;
+    }
+    for row in ROWS {
+        if !has_checksum_by_plans(row, first, second, third) {
+            return false;
+        }
+    }
+    true
+}
+
+// Plans for more entries work as well.
 #[test]
 fn plans_at_hand() {
     let rt = crate::runtime::HostRuntime;
-    let rt = &rt;
-    let (mut first, mut second, mut third) = ([NONE; 1024], [NONE; 1024], [NONE; 1024]);
-    assert!(fill_plans(&mut first, &mut second, &mut third));
-    let (mut xs, mut ys) = ([0; 700], [0; 700]);
-    fill_digits(1, &mut xs);
-    fill_digits(2, &mut ys);
-    for row in ROWS {
-        let &(length, other, known) = row;
-        let (xs, ys) = (&xs[..length.min(700)], &ys[..other.min(700)]);
-        let (mut digits, mut words) = ([7; 1400], [7; 8192]);
-        let places = xs.len() + ys.len();
-        let done = product_planned(
-            xs,
-            ys,
-            &mut digits[..places],
-            &mut words,
-            &first,
-            &second,
-            &third,
-        );
-        assert_at(rt, done && checksum(&digits[..places]) == known, row);
-    }
+    let mut first = [NONE; 1024];
+    let mut second = [NONE; 1024];
+    let mut third = [NONE; 1024];
+    check!(&rt, 1; have_checksums_by_plans(&mut first, &mut second, &mut third));
 }
+
+// The numbers of digits of the factors, of words, and of factors of each table.
+const SIZES: &[(usize, usize, usize, usize)] = &[
+    (0, 0, 0, 0),
+    (399, 100000, 0, 0),
+    (400, 400, 4096, 512),
+    (400, 624, 4096, 512),
+    (400, 625, 8192, 1024),
+    (2147483648, 2147483648, 17179869184, 2147483648),
+];
 
 #[test]
 fn the_room_of_products() {
     let rt = crate::runtime::HostRuntime;
-    for (xs, ys, words, factors) in [
-        (0, 0, 0, 0),
-        (399, 100000, 0, 0),
-        (400, 400, 4096, 512),
-        (400, 624, 4096, 512),
-        (400, 625, 8192, 1024),
-        (2147483648, 2147483648, 17179869184, 2147483648),
-    ] {
-        assert_at(&rt, room(xs, ys) == (words, factors), &(xs, ys));
+    for row in SIZES {
+        let &(xs, ys, words, factors) = row;
+        let is_right = xs <= 1 << 31 && ys <= 1 << 31 && room(xs, ys) == (words, factors);
+        assert_at(&rt, is_right, row);
     }
 }
 
@@ -182,20 +208,13 @@ const ROOMS: &[(usize, usize, usize, usize, bool)] = &[
 // is unchanged.
 fn is_told(row: &(usize, usize, usize, usize, bool)) -> bool {
     let &(length, places, words, factors, fits) = row;
-    let (mut xs, mut ys) = ([0; 400], [0; 624]);
-    fill_digits(1, &mut xs);
-    fill_digits(2, &mut ys);
-    let (mut digits, mut room, mut tables) = ([7; 1025], [7; 8192], [NONE; 3072]);
-    if length > 400 || places > 1025 || words > 8192 || factors > 3072 {
+    let xs = digits_from::<400>(1);
+    let ys = digits_from::<624>(2);
+    let mut digits = [7; 1025];
+    if length > 400 || places > 1025 {
         return false;
     }
-    let done = multiply(
-        &xs[..length],
-        &ys,
-        &mut digits[..places],
-        &mut room[..words],
-        &mut tables[..factors],
-    );
+    let done = multiply(&xs[..length], &ys, &mut digits[..places], words, factors);
     done == fits && (digits[0] == 7) == !fits
 }
 
@@ -203,7 +222,6 @@ fn is_told(row: &(usize, usize, usize, usize, bool)) -> bool {
 fn room_is_told() {
     let rt = crate::runtime::HostRuntime;
     for row in ROOMS {
-        let &(_, places, words, factors, _) = row;
-        assert_at(&rt, is_told(row), &(places, words, factors));
+        assert_at(&rt, is_told(row), row);
     }
 }

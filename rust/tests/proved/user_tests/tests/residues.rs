@@ -1,5 +1,6 @@
 //! Numbers by their residues, with known values from other sources.
 
+use super::assert_at;
 use num_modular::residues::{are_reduced, decode, encode, is_system};
 use num_modular::ring::{RingCommand, commands_fit};
 use num_modular::applications::residue_numbers::ResidueSystem;
@@ -11,70 +12,92 @@ fn there_and_back(moduli: &[u64], number: u128, residues: &[u64]) -> bool {
     if count > 8 || residues.len() != count || !is_system(moduli) {
         return false;
     }
-    encode(moduli, number, &mut room[..count]);
-    &room[..count] == residues
-        && are_reduced(moduli, residues)
-        && decode(moduli, residues) == number
+    let found = &mut room[..count];
+    encode(moduli, number, found);
+    *found == *residues && are_reduced(moduli, residues) && decode(moduli, residues) == number
+}
+
+// The number with these residues, by `ResidueSystem`.
+fn decoded(moduli: &[u64], residues: &[u64]) -> Option<u128> {
+    let system = match ResidueSystem::new(moduli) { Some(it) => it, None => {
+        return None;
+    } };
+    if residues.len() == system.moduli().len() && are_reduced(system.moduli(), residues) {
+        Some(system.decode(residues))
+    } else {
+        None
+    }
+}
+
+// Moduli, a number, and its residues.
+const NUMBERS: &[(&[u64], u128, &[u64])] = &[
+    // Sun Zi's number
+    (&[3, 5, 7], 23, &[2, 3, 2]),
+    (&[3, 5, 7], 104, &[2, 4, 6]),
+    (
+        &[18446744073709551615, 18446744073709551614],
+        123456789012345678901234567890123456789,
+        &[558601170425184219, 7251207113188671137],
+    ),
+    (
+        &[2, 3, 5, 7, 11, 13, 17, 19],
+        9698689,
+        &[1, 1, 4, 0, 0, 0, 2, 6],
+    ),
+];
+
+#[test]
+fn numbers() {
+    let rt = crate::runtime::HostRuntime;
+    for &(moduli, number, residues) in NUMBERS {
+        let is_right = there_and_back(moduli, number, residues);
+        assert_at(
+            &rt,
+            is_right && decoded(moduli, residues) == Some(number),
+            &number,
+        );
+    }
+}
+
+// Moduli, whether they are a system, and whether `ResidueSystem::new` returns one.
+const SYSTEMS: &[(&[u64], bool, bool)] = &[
+    (&[3, 5, 7], true, true),
+    (&[], true, true),
+    (&[1, 1], true, true),
+    (&[2, 3, 5, 7, 11, 13, 17, 19], true, true),
+    (&[2, 3, 5, 7, 11, 13, 17, 19, 23], true, false),
+    (&[3, 5, 9], false, false),
+    (&[0], false, false),
+    (&[3, 0], false, false),
+    (&[6, 35, 10], false, false),
+    (&[4, 9, 10], false, false),
+    // 2^128 - 1, and (2^64 - 1)·(2^64 + 6)
+    (&[18446744073709551615, 274177, 67280421310721], true, true),
+    (&[18446744073709551615, 2, 9223372036854775811], false, false),
+    (&[18446744073709551615, 18446744073709551614, 7], false, false),
+];
+
+// Whether `ResidueSystem::new` returns a system of these moduli.
+fn is_admitted(moduli: &[u64]) -> bool {
+    match ResidueSystem::new(moduli) {
+        Some(system) => system.moduli() == moduli,
+        None => false,
+    }
 }
 
 #[test]
 fn systems() {
     let rt = crate::runtime::HostRuntime;
-    let rt = &rt;
-    check!(rt, 1; is_system(&[3, 5, 7]) && is_system(&[]) && is_system(&[1, 1]));
-    check!(rt, 2; !is_system(&[3, 5, 9]) && !is_system(&[0]) && !is_system(&[6, 35, 10]));
-    check!(rt, 3; !is_system(&[18446744073709551615, 18446744073709551614, 7]));
-}
-
-#[test]
-fn numbers() {
-    let rt = crate::runtime::HostRuntime;
-    let rt = &rt;
-    // Sun Zi's number
-    check!(rt, 1; there_and_back(&[3, 5, 7], 23, &[2, 3, 2]));
-    check!(rt, 2; there_and_back(&[3, 5, 7], 104, &[2, 4, 6]));
-    check!(rt, 3;
-        there_and_back(
-            &[18446744073709551615, 18446744073709551614],
-            123456789012345678901234567890123456789,
-            &[558601170425184219, 7251207113188671137]
-        )
-    );
-    check!(rt, 4;
-        there_and_back(
-            &[2, 3, 5, 7, 11, 13, 17, 19],
-            9698689,
-            &[1, 1, 4, 0, 0, 0, 2, 6]
-        )
-    );
-}
-
-// Whether `ResidueSystem::new` returns a system of these moduli if `answer` is true, and `None` else.
-fn admitted(moduli: &[u64], answer: bool) -> bool {
-    match ResidueSystem::new(moduli) {
-        Some(system) => answer && system.moduli() == moduli,
-        None => !answer,
+    for &(moduli, is_one, is_small) in SYSTEMS {
+        let is_right = is_system(moduli) == is_one && is_admitted(moduli) == is_small;
+        assert_at(&rt, is_right, &moduli);
     }
 }
 
-#[test]
-fn small_systems() {
-    let rt = crate::runtime::HostRuntime;
-    let rt = &rt;
-    check!(rt, 1; admitted(&[3, 5, 7], true) && admitted(&[], true));
-    check!(rt, 2; admitted(&[3, 0], false) && admitted(&[4, 9, 10], false));
-    check!(rt, 3; admitted(&[2, 3, 5, 7, 11, 13, 17, 19], true));
-    check!(rt, 4; admitted(&[2, 3, 5, 7, 11, 13, 17, 19, 23], false));
-    // 2^128 - 1, and (2^64 - 1)·(2^64 + 6)
-    check!(rt, 5; admitted(&[18446744073709551615, 274177, 67280421310721], true));
-    check!(rt, 6; admitted(&[18446744073709551615, 2, 9223372036854775811], false));
-}
-
-// The residues of a number, followed by zeros.
-fn encoded(system: ResidueSystem<'_>, number: u128) -> [u64; 8] {
-    let mut residues = [0u64; 8];
-    let count = system.moduli().len();
-    system.encode(number, &mut residues[..count]);
+// The residues of a number.
+fn encoded<const N: usize>(system: &ResidueSystem<'_>, number: u128) -> [u64; N] {
+    let mut residues = [0u64; N];
+    system.encode(number, &mut residues);
     residues
 }
 
@@ -84,33 +107,35 @@ enum Operation {
     Mul,
 }
 
-// The results of an operation with two lists of residues, followed by zeros.
-fn results_of(
-    system: ResidueSystem<'_>,
+// Whether the operation on the residues of x and y gives those of this number.
+fn has_result<const N: usize>(
+    system: &ResidueSystem<'_>,
     operation: Operation,
-    left: &[u64; 8],
-    right: &[u64; 8],
-) -> [u64; 8] {
-    let mut results = [0u64; 8];
-    let count = system.moduli().len();
-    let (left, right) = (&left[..count], &right[..count]);
+    x: u128,
+    y: u128,
+    number: u128,
+) -> bool {
+    let left: &[u64] = &encoded::<N>(system, x);
+    let right: &[u64] = &encoded::<N>(system, y);
+    let mut found = [0u64; N];
     match operation {
-        Operation::Add => system.add(left, right, &mut results[..count]),
-        Operation::Sub => system.sub(left, right, &mut results[..count]),
-        Operation::Mul => system.mul(left, right, &mut results[..count]),
+        Operation::Add => system.add(left, right, &mut found),
+        Operation::Sub => system.sub(left, right, &mut found),
+        Operation::Mul => system.mul(left, right, &mut found),
     }
-    results
+    found == encoded(system, number)
 }
 
 // Whether the sums, differences and products of the residues of x and y are the residues of the results.
-fn computes(moduli: &[u64], x: u128, y: u128, results: [u128; 3]) -> bool {
+fn computes<const N: usize>(moduli: &[u64; N], x: u128, y: u128, results: &[u128; 3]) -> bool {
     let system = match ResidueSystem::new(moduli) { Some(it) => it, None => {
         return false;
     } };
-    let (left, right) = (encoded(system, x), encoded(system, y));
-    results_of(system, Operation::Add, &left, &right) == encoded(system, results[0])
-        && results_of(system, Operation::Sub, &left, &right) == encoded(system, results[1])
-        && results_of(system, Operation::Mul, &left, &right) == encoded(system, results[2])
+    let system = &system;
+    system.moduli().len() == N
+        && has_result::<N>(system, Operation::Add, x, y, results[0])
+        && has_result::<N>(system, Operation::Sub, x, y, results[1])
+        && has_result::<N>(system, Operation::Mul, x, y, results[2])
 }
 
 #[test]
@@ -118,16 +143,16 @@ fn results() {
     let rt = crate::runtime::HostRuntime;
     let rt = &rt;
     // computed with Python's integers
-    check!(rt, 1; computes(&[3, 5, 7], 23, 104, [22, 24, 82]));
-    check!(rt, 2; computes(&[3, 5, 7], 0, 1, [1, 104, 0]));
-    check!(rt, 3; computes(&[1], 5, 7, [0, 0, 0]) && computes(&[], 5, 7, [0, 0, 0]));
-    check!(rt, 4; computes(&[8, 27, 25, 49], 100000, 200000, [35400, 164600, 209000]));
+    check!(rt, 1; computes(&[3, 5, 7], 23, 104, &[22, 24, 82]));
+    check!(rt, 2; computes(&[3, 5, 7], 0, 1, &[1, 104, 0]));
+    check!(rt, 3; computes(&[1], 5, 7, &[0, 0, 0]) && computes(&[], 5, 7, &[0, 0, 0]));
+    check!(rt, 4; computes(&[8, 27, 25, 49], 100000, 200000, &[35400, 164600, 209000]));
     check!(rt, 5;
         computes(
             &[2, 3, 5, 7, 11, 13, 17, 19],
             9698689,
             1234567,
-            [1233566, 8464122, 5758753]
+            &[1233566, 8464122, 5758753]
         )
     );
     check!(rt, 6;
@@ -135,7 +160,7 @@ fn results() {
             &[18446744073709551615, 18446744073709551614],
             123456789012345678901234567890123456789,
             340282366920938463463374607431768211455,
-            [
+            &[
                 123456789012345678956574800111252111634,
                 123456789012345678845894335668994801944,
                 61001118606422532027155916007247152155
@@ -144,41 +169,24 @@ fn results() {
     );
 }
 
-#[test]
-fn decoded_by_a_system() {
-    let rt = crate::runtime::HostRuntime;
-    let moduli = [3, 5, 7];
-    let number = match ResidueSystem::new(&moduli) {
-        Some(system) => system.decode(&[2, 3, 2]),
-        None => 0,
-    };
-    check!(&rt, 1; number == 23);
-}
-
 // Whether the commands, from these numbers, leave these residues in register 1; `None` where an inverse doesn't exist.
-fn runs(
-    moduli: &[u64],
+fn runs<const N: usize, const P: usize>(
+    moduli: &[u64; N],
     commands: &[RingCommand<u64>],
-    numbers: &[u64],
-    residues: Option<&[u64]>,
+    numbers: &[u64; P],
+    residues: Option<&[u64; N]>,
 ) -> bool {
     let system = match ResidueSystem::new(moduli) { Some(it) => it, None => {
         return false;
     } };
-    let (places, count) = (numbers.len(), system.moduli().len());
-    let (mut registers, mut found) = ([0u64; 3], [0u64; 8]);
-    if places < 2 || places > 3 || !commands_fit(commands, places) {
+    let mut registers = [0u64; P];
+    let mut found = [0u64; N];
+    if system.moduli().len() != N || P < 2 || !commands_fit(commands, P) {
         return false;
     }
-    let done = system.run(
-        commands,
-        numbers,
-        1,
-        &mut registers[..places],
-        &mut found[..count],
-    );
+    let done = system.run(commands, numbers, 1, &mut registers, &mut found);
     match residues {
-        Some(wanted) => done && &found[..count] == wanted,
+        Some(wanted) => done && found == *wanted,
         None => !done,
     }
 }

@@ -5,6 +5,7 @@ use super::inverses::{
     INVERSES, INVERSES_OF_16_BITS, INVERSES_OF_32_BITS, INVERSES_OF_64_BITS, INVERSES_OF_SIZES,
     WIDE_INVERSES, assert_inverses,
 };
+use crate::operation_tests::tests::assert_nth;
 use num_modular::modular_prim::numbered::Numbered;
 use num_modular::modular_prim::operations::{ModularAbs, ModularCoreOps, ModularPow, ModularUnaryOps};
 use num_modular::modular_prim::plain_word::PlainWord;
@@ -202,9 +203,10 @@ fn assert_rows<S: Copy, T: PlainWord + ModularRefOps + From<S>>(
     rt: &impl Abort,
     rows: &[(Operation, S, S, S, S)],
 ) {
-    for &(operation, a, b, m, want) in rows {
+    for i in 0..rows.len() {
+        let (operation, a, b, m, want) = rows[i];
         let (a, b, m) = (&T::from(a), &T::from(b), &T::from(m));
-        check!(rt, 1; is_right(operation, a, b, m, T::from(want)));
+        assert_nth(rt, i, is_right(operation, a, b, m, T::from(want)));
     }
 }
 

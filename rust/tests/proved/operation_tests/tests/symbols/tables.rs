@@ -1,6 +1,7 @@
 //! The tables of the three symbols, for every width that holds their numbers.
 
 use super::loops::jacobi_symbols;
+use crate::operation_tests::tests::assert_nth;
 use num_modular::modular_symbols::operands::SymbolWord;
 use num_modular::modular_symbols::symbols::ModularSymbols;
 use crate::runtime::Abort;
@@ -34,8 +35,9 @@ fn assert_symbols<S: Copy, T: SymbolWord + From<S>>(
     rt: &impl Abort,
     rows: &[(Symbol, S, S, Option<i8>)],
 ) {
-    for &(symbol, a, n, want) in rows {
-        check!(rt, 1; symbols(symbol, T::from(a), T::from(n)) == [want; 3]);
+    for i in 0..rows.len() {
+        let (symbol, a, n, want) = rows[i];
+        assert_nth(rt, i, symbols(symbol, T::from(a), T::from(n)) == [want; 3]);
     }
 }
 
