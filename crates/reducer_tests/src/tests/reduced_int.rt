@@ -1,11 +1,11 @@
-//! Callers of the operators of `ReducedInt`, generic and at `VanillaInt<u8>`.
+//! Callers of the operators of `ReducedInt`, generic in the reducer.
 
 ghost use Rattle.modular_reduced.specs.Integers.{CanDivide, IsQuotient, IsReduced, modulus_of, residue_of};
 ghost use Rattle.modular_word.specs.Inverses.{HasInverse};
 ghost use Rattle.std.specs.Prelude.{◌≡◌, ◌↔◌, IfSome, IsSome, IsTrue};
 
 use modular_reduced::modular_integer::ModularInteger;
-use modular_reduced::reduced_int::{ReducedInt, VanillaInt};
+use modular_reduced::reduced_int::ReducedInt;
 use modular_reduced::reducer::Reducer;
 use modular_word::ring_word::RingWord;
 
@@ -36,16 +36,18 @@ pub fn quotient_if_any<T: RingWord, R: Reducer<T> + Copy>(
 }
 
 /// 5 modulo 21, which has an inverse.
-pub fn five_modulo_21() -> VanillaInt<u8>
+pub fn five_modulo_21<R: Reducer<u8> + Copy>() -> ReducedInt<u8, R>
+    requires { R.admits 21 }
     ensures five { IsReduced 21 5 result }
     ensures unit { HasInverse (modulus_of result) (residue_of result) }
 {
-    VanillaInt::<u8>::new(5, &21)
+    ReducedInt::<u8, R>::new(5, &21)
 }
 
 /// 5 - 255 modulo 21.
-pub fn difference_modulo_21() -> u8
+pub fn difference_modulo_21<R: Reducer<u8> + Copy>() -> u8
+    requires { R.admits 21 }
     ensures { result ≡ 2 }
 {
-    (five_modulo_21() - 255u8).residue()
+    (five_modulo_21::<R>() - 255u8).residue()
 }

@@ -2,4 +2,4 @@ use Rattle.misuse.proofs.Units.{inverse_of_5}
 use Rattle.reducer_tests.proofs.tests.reduced_int.five_modulo_21.Goals as goal
 
 pub returns-clause-unit : goal.returns-clause-unit
-returns-clause-unit c = (17, rw (c.new.ensures.modulus, c.new.ensures.residue) inverse_of_5)
+returns-clause-unit g c = (17, rw (c.new.ensures.modulus, c.new.ensures.residue) inverse_of_5)
