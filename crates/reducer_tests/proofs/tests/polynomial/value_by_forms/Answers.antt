@@ -1,9 +1,11 @@
-use Rattle.std.proofs.Common.{◌∙◌}
+use Rattle.std.proofs.Common.{◌%◌, ◌∙◌, ap, sym}
 use Rattle.reducer_tests.proofs.PolynomialLemmas.{value_at_7}
 use Rattle.reducer_tests.proofs.tests.polynomial.value_by_forms.Goals as goal
 
 pub returns : goal.returns
 returns c =
-    c.residue.ensures ∙ c.horner.ensures.residue
-    ∙ value_at_7 _ _ _ _ _ c.new-x.ensures.modulus c.convert.ensures.residue c.convert-2.ensures.residue
-    c.convert-3.ensures.residue c.new-x.ensures.residue
+    c.value.ensures
+    ∙ value_at_7 _ _ _ _ _ c.new-x.ensures.modulus
+    (c.new-a.ensures.residue ∙ ap (λ m. 2 % m) (sym c.new-x.ensures.modulus))
+    (c.new-b.ensures.residue ∙ ap (λ m. 3 % m) (sym c.new-x.ensures.modulus))
+    (c.new-c.ensures.residue ∙ ap (λ m. 5 % m) (sym c.new-x.ensures.modulus)) c.new-x.ensures.residue
