@@ -9,45 +9,28 @@ use std::process::Abort;
 #[test]
 fn greatest_words_and_counts(rt: HostRuntime) {
     let rt = &rt;
-    let found = (
-        FixedMersenne32::<2, 1>::reduce_double(u64::MAX),
-        FixedMersenne32::<32, 5>::reduce_double(u64::MAX),
-        FixedMersenne32::<16, 5>::reduce_single(u32::MAX),
-        FixedMersenne32::<13, 1>::reduce_single(67108863),
-        FixedMersenne64::<64, 59>::reduce_single(u64::MAX),
-        FixedMersenne64::<64, 59>::reduce_double(u128::MAX),
-        FixedMersenne::<64, 59>::reduce_single(u128::MAX),
-    );
-    check!(rt, 1; found == (0, 24, 24, 0, 58, 3480, 3480));
-    let found = (
-        FixedMersenne32::<16, 5>::reduce_counted(4294967295),
-        FixedMersenne32::<13, 1>::reduce_counted(67108863),
-        FixedMersenne32::<2, 1>::reduce_counted(18446744073709551615),
-        FixedMersenne64::<64, 59>::reduce_counted(u128::MAX).0,
-        FixedMersenne::<64, 59>::reduce_counted(u128::MAX).0,
-    );
-    check!(rt, 2; found == ((24, 3), (0, 2), (0, 32), 3480, 3480));
+    check!(rt, 1; FixedMersenne32::<2, 1>::reduce_double(u64::MAX) == 0);
+    check!(rt, 2; FixedMersenne32::<32, 5>::reduce_double(u64::MAX) == 24);
+    check!(rt, 3; FixedMersenne32::<16, 5>::reduce_single(u32::MAX) == 24);
+    check!(rt, 4; FixedMersenne32::<13, 1>::reduce_single(67108863) == 0);
+    check!(rt, 5; FixedMersenne64::<64, 59>::reduce_single(u64::MAX) == 58);
+    check!(rt, 6; FixedMersenne64::<64, 59>::reduce_double(u128::MAX) == 3480);
+    check!(rt, 7; FixedMersenne::<64, 59>::reduce_single(u128::MAX) == 3480);
+    check!(rt, 8; FixedMersenne32::<16, 5>::reduce_counted(4294967295) == (24, 3));
+    check!(rt, 9; FixedMersenne32::<13, 1>::reduce_counted(67108863) == (0, 2));
+    check!(rt, 10; FixedMersenne32::<2, 1>::reduce_counted(18446744073709551615) == (0, 32));
+    check!(rt, 11; FixedMersenne64::<64, 59>::reduce_counted(u128::MAX).0 == 3480);
+    check!(rt, 12; FixedMersenne::<64, 59>::reduce_counted(u128::MAX).0 == 3480);
 }
 
 #[test]
 fn moduli(rt: HostRuntime) {
-    let found = (
-        FixedMersenne32::<2, 1>::fixed_modulus(),
-        FixedMersenne32::<32, 5>::fixed_modulus(),
-        FixedMersenne64::<61, 1>::fixed_modulus(),
-        FixedMersenne64::<64, 59>::fixed_modulus(),
-        FixedMersenne::<64, 59>::fixed_modulus(),
-    );
-    check!(&rt, 1;
-        found
-            == (
-                3,
-                4294967291,
-                2305843009213693951,
-                18446744073709551557,
-                18446744073709551557
-            )
-    );
+    let rt = &rt;
+    check!(rt, 1; FixedMersenne32::<2, 1>::fixed_modulus() == 3);
+    check!(rt, 2; FixedMersenne32::<32, 5>::fixed_modulus() == 4294967291);
+    check!(rt, 3; FixedMersenne64::<61, 1>::fixed_modulus() == 2305843009213693951);
+    check!(rt, 4; FixedMersenne64::<64, 59>::fixed_modulus() == 18446744073709551557);
+    check!(rt, 5; FixedMersenne::<64, 59>::fixed_modulus() == 18446744073709551557);
 }
 
 // Asserts that the rows are right of the reducer of m = 2^P - K. Generic in the parameters, as each call with a known

@@ -4,44 +4,33 @@ ghost use Rattle.modular_folds.specs.Solinas.{IsTrinomial};
 
 use crate::tests::residues::{Call, Row, assert_rows};
 use modular_folds::solinas::{FixedTrinomialSolinas32, FixedTrinomialSolinas64};
-use modular_reduced::reducer::Reducer;
 use std::process::Abort;
 
 #[test]
 fn greatest_words_and_counts(rt: HostRuntime) {
     let rt = &rt;
-    let found = (
-        FixedTrinomialSolinas32::<4, 2, 1>::reduce_double(u64::MAX),
-        FixedTrinomialSolinas32::<4, 2, 1>::reduce_double(255),
-        FixedTrinomialSolinas32::<32, 31, -1>::reduce_double(u64::MAX),
-        FixedTrinomialSolinas32::<5, 4, -3>::reduce_single(31),
-        FixedTrinomialSolinas32::<5, 4, -3>::reduce_double(u64::MAX),
-        FixedTrinomialSolinas64::<64, 32, 1>::reduce_single(u64::MAX),
-        FixedTrinomialSolinas64::<64, 32, 1>::reduce_double(u128::MAX),
-        FixedTrinomialSolinas64::<64, 63, -1>::reduce_double(u128::MAX),
-        FixedTrinomialSolinas64::<64, 63, 1>::reduce_double(u128::MAX),
-    );
-    check!(rt, 1; found == (2, 8, 3, 5, 2, 4294967294, 18446744065119617024, 3, 3));
-    let found = (
-        FixedTrinomialSolinas32::<4, 2, 1>::reduce_counted(255),
-        FixedTrinomialSolinas32::<5, 4, -3>::reduce_counted(31),
-    );
-    check!(rt, 2; found == ((8, 3), (5, 0)));
-    let low = FixedTrinomialSolinas32::<5, 4, -3>::new(&13);
-    check!(rt, 3; low.transform(31) == 5);
+    check!(rt, 1; FixedTrinomialSolinas32::<4, 2, 1>::reduce_double(u64::MAX) == 2);
+    check!(rt, 2; FixedTrinomialSolinas32::<4, 2, 1>::reduce_double(255) == 8);
+    check!(rt, 3; FixedTrinomialSolinas32::<32, 31, -1>::reduce_double(u64::MAX) == 3);
+    check!(rt, 4; FixedTrinomialSolinas32::<5, 4, -3>::reduce_single(31) == 5);
+    check!(rt, 5; FixedTrinomialSolinas32::<5, 4, -3>::reduce_double(u64::MAX) == 2);
+    check!(rt, 6; FixedTrinomialSolinas64::<64, 32, 1>::reduce_single(u64::MAX) == 4294967294);
+    check!(rt, 7; FixedTrinomialSolinas64::<64, 32, 1>::reduce_double(u128::MAX) == 18446744065119617024);
+    check!(rt, 8; FixedTrinomialSolinas64::<64, 63, -1>::reduce_double(u128::MAX) == 3);
+    check!(rt, 9; FixedTrinomialSolinas64::<64, 63, 1>::reduce_double(u128::MAX) == 3);
+    check!(rt, 10; FixedTrinomialSolinas32::<4, 2, 1>::reduce_counted(255) == (8, 3));
+    check!(rt, 11; FixedTrinomialSolinas32::<5, 4, -3>::reduce_counted(31) == (5, 0));
 }
 
 #[test]
 fn moduli(rt: HostRuntime) {
-    let found = (
-        FixedTrinomialSolinas32::<2, 1, -1>::fixed_modulus(),
-        FixedTrinomialSolinas32::<4, 2, 1>::fixed_modulus(),
-        FixedTrinomialSolinas32::<5, 4, -3>::fixed_modulus(),
-        FixedTrinomialSolinas32::<32, 31, -1>::fixed_modulus(),
-        FixedTrinomialSolinas64::<6, 2, 1>::fixed_modulus(),
-        FixedTrinomialSolinas64::<64, 32, 1>::fixed_modulus(),
-    );
-    check!(&rt, 1; found == (1, 13, 13, 2147483647, 61, 18446744069414584321));
+    let rt = &rt;
+    check!(rt, 1; FixedTrinomialSolinas32::<2, 1, -1>::fixed_modulus() == 1);
+    check!(rt, 2; FixedTrinomialSolinas32::<4, 2, 1>::fixed_modulus() == 13);
+    check!(rt, 3; FixedTrinomialSolinas32::<5, 4, -3>::fixed_modulus() == 13);
+    check!(rt, 4; FixedTrinomialSolinas32::<32, 31, -1>::fixed_modulus() == 2147483647);
+    check!(rt, 5; FixedTrinomialSolinas64::<6, 2, 1>::fixed_modulus() == 61);
+    check!(rt, 6; FixedTrinomialSolinas64::<64, 32, 1>::fixed_modulus() == 18446744069414584321);
 }
 
 // Asserts that the rows are right of the reducer of m = 2^P1 - 2^P2 + K. Generic in the parameters, as each call with a
@@ -94,6 +83,7 @@ const OF_5_AND_4: &[Row<u32>] = &[
     Row::Residue(Call::Load, (13, 0), 0),
     Row::Residue(Call::Load, (u32::MAX, 0), 8),
     Row::Residue(Call::Product, (12, 12), 1),
+    Row::Form(Call::Load, (31, 0), 5),
 ];
 
 #[rattlefmt::skip]
