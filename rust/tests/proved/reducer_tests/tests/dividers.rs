@@ -14,7 +14,10 @@ use std::fmt::Debug;
 
 /// Whether `Debug` prints the numbers that a value stores as this text.
 pub fn shows<V: Debug>(alloc: Global, value: &V, text: &str) -> bool {
-    format!(in alloc; "{value:?}").map_or(false, |shown| shown.as_str() == text)
+    match format!(in alloc; "{value:?}") {
+        Ok(shown) => shown.as_str() == text,
+        Err(_) => false,
+    }
 }
 
 /// Whether `Debug` prints a value.

@@ -8,10 +8,12 @@ use crate::misuse::modular_integer::is_equivalence;
 use crate::misuse::reduced_int::{quotient_modulo_21, sum_modulo_21};
 use num_modular::modular_barrett::premul::PreMulInv2by1;
 use num_modular::modular_reduced::modular_integer::ModularInteger;
-use num_modular::modular_reduced::reduced_int::{ReducedInt, VanillaInt};
+use num_modular::modular_reduced::reduced_int::ReducedInt;
 use num_modular::modular_reduced::reducer::Reducer;
 use num_modular::modular_reduced::vanilla::Vanilla;
 use num_modular::modular_word::ring_word::RingWord;
+use crate::runtime::Global;
+use std::fmt::Debug;
 use crate::runtime::Abort;
 use crate::runtime::Fail;
 
@@ -20,39 +22,28 @@ fn integer<T: RingWord, R: Reducer<T> + Copy>(n: T, m: T) -> ReducedInt<T, R> {
     ReducedInt::<T, R>::new(n, &m)
 }
 
-// n modulo 21.
-fn ring(n: u8) -> VanillaInt<u8> {
-    VanillaInt::<u8>::new(n, &21)
-}
-
 // Its residue, by value, so that a result of an operator needs no place of its own.
 fn residue<T: RingWord, R: Reducer<T> + Copy>(a: ReducedInt<T, R>) -> T {
     a.residue()
 }
 
-// The residues of the sums of two integers, for each kind of operands.
+// The residues of the sums of two integers, for each kind of operands, and after each of two in place.
 fn sums_of_two<T: RingWord, R: Reducer<T> + Copy>(
     a: &ReducedInt<T, R>,
     b: &ReducedInt<T, R>,
-) -> [T; 4] {
+) -> [T; 6] {
+    let mut z = *a;
+    z += *b;
+    let once = residue(z);
+    z += b;
     [
         residue(*a + *b),
         residue(*a + b),
         residue(a + *b),
         residue(a + b),
+        once,
+        residue(z),
     ]
-}
-
-// The residues after each of two sums in place.
-fn sums_in_place<T: RingWord, R: Reducer<T> + Copy>(
-    a: ReducedInt<T, R>,
-    b: &ReducedInt<T, R>,
-) -> [T; 2] {
-    let mut z = a;
-    z += *b;
-    let once = residue(z);
-    z += b;
-    [once, residue(z)]
 }
 
 // The residues of the sums of an integer and a word.
@@ -80,35 +71,28 @@ fn sums_with_words_in_place<T: RingWord, R: Reducer<T> + Copy>(
 
 fn assert_sums<R: Reducer<u8> + Copy>(rt: &impl Abort) {
     let (a, b) = (&integer::<u8, R>(20, 21), &integer::<u8, R>(5, 21));
-    check!(rt, 1; sums_of_two(a, b) == [4; 4]);
-    check!(rt, 2; sums_in_place(*a, b) == [4, 9]);
-    check!(rt, 3; sums_with_a_word(a, &5) == [4; 4]);
-    check!(rt, 4; sums_with_words_in_place(integer::<u8, R>(9, 21), 255, &5) == [12, 17]);
+    check!(rt, 1; sums_of_two(a, b) == [4, 4, 4, 4, 4, 9]);
+    check!(rt, 2; sums_with_a_word(a, &5) == [4; 4]);
+    check!(rt, 3; sums_with_words_in_place(integer::<u8, R>(9, 21), 255, &5) == [12, 17]);
 }
 
-// The residues of the differences of two integers, for each kind of operands.
+// The residues of the differences of two integers, for each kind of operands, and after each of two in place.
 fn differences_of_two<T: RingWord, R: Reducer<T> + Copy>(
     a: &ReducedInt<T, R>,
     b: &ReducedInt<T, R>,
-) -> [T; 4] {
+) -> [T; 6] {
+    let mut z = *a;
+    z -= *b;
+    let once = residue(z);
+    z -= b;
     [
         residue(*a - *b),
         residue(*a - b),
         residue(a - *b),
         residue(a - b),
+        once,
+        residue(z),
     ]
-}
-
-// The residues after each of two differences in place.
-fn differences_in_place<T: RingWord, R: Reducer<T> + Copy>(
-    a: ReducedInt<T, R>,
-    b: &ReducedInt<T, R>,
-) -> [T; 2] {
-    let mut z = a;
-    z -= *b;
-    let once = residue(z);
-    z -= b;
-    [once, residue(z)]
 }
 
 // The residues of the differences of an integer and a word.
@@ -139,36 +123,29 @@ fn differences_with_words_in_place<T: RingWord, R: Reducer<T> + Copy>(
 
 fn assert_differences<R: Reducer<u8> + Copy>(rt: &impl Abort) {
     let (a, b) = (&integer::<u8, R>(3, 21), &integer::<u8, R>(5, 21));
-    check!(rt, 1; differences_of_two(a, b) == [19; 4]);
-    check!(rt, 2; differences_in_place(*a, b) == [19, 14]);
-    check!(rt, 3; differences_with_a_word(a, &5) == [19; 4]);
-    check!(rt, 4; differences_with_words_in_place(integer::<u8, R>(14, 21), 255, &5) == [11, 6]);
-    check!(rt, 5; differences_with_a_word(b, &255) == [2; 4]);
+    check!(rt, 4; differences_of_two(a, b) == [19, 19, 19, 19, 19, 14]);
+    check!(rt, 5; differences_with_a_word(a, &5) == [19; 4]);
+    check!(rt, 6; differences_with_words_in_place(integer::<u8, R>(14, 21), 255, &5) == [11, 6]);
+    check!(rt, 7; differences_with_a_word(b, &255) == [2; 4]);
 }
 
-// The residues of the products of two integers, for each kind of operands.
+// The residues of the products of two integers, for each kind of operands, and after each of two in place.
 fn products_of_two<T: RingWord, R: Reducer<T> + Copy>(
     a: &ReducedInt<T, R>,
     b: &ReducedInt<T, R>,
-) -> [T; 4] {
+) -> [T; 6] {
+    let mut z = *a;
+    z *= *b;
+    let once = residue(z);
+    z *= b;
     [
         residue(*a * *b),
         residue(*a * b),
         residue(a * *b),
         residue(a * b),
+        once,
+        residue(z),
     ]
-}
-
-// The residues after each of two products in place.
-fn products_in_place<T: RingWord, R: Reducer<T> + Copy>(
-    a: ReducedInt<T, R>,
-    b: &ReducedInt<T, R>,
-) -> [T; 2] {
-    let mut z = a;
-    z *= *b;
-    let once = residue(z);
-    z *= b;
-    [once, residue(z)]
 }
 
 // The residues of the products of an integer and a word.
@@ -196,11 +173,10 @@ fn products_with_words_in_place<T: RingWord, R: Reducer<T> + Copy>(
 
 fn assert_products<R: Reducer<u8> + Copy>(rt: &impl Abort) {
     let (a, b) = (&integer::<u8, R>(10, 21), &integer::<u8, R>(5, 21));
-    check!(rt, 1; products_of_two(a, b) == [8; 4]);
-    check!(rt, 2; products_in_place(*a, b) == [8, 19]);
-    check!(rt, 3; products_with_a_word(a, &5) == [8; 4]);
-    check!(rt, 4; products_with_words_in_place(integer::<u8, R>(19, 21), 255, &5) == [15, 12]);
-    check!(rt, 5; products_with_a_word(&integer::<u8, R>(12, 5), &13) == [1; 4]);
+    check!(rt, 8; products_of_two(a, b) == [8, 8, 8, 8, 8, 19]);
+    check!(rt, 9; products_with_a_word(a, &5) == [8; 4]);
+    check!(rt, 10; products_with_words_in_place(integer::<u8, R>(19, 21), 255, &5) == [15, 12]);
+    check!(rt, 11; products_with_a_word(&integer::<u8, R>(12, 5), &13) == [1; 4]);
 }
 
 // The residues of the quotients of two integers, for each kind of operands.
@@ -228,24 +204,15 @@ fn residue_if_any<T: RingWord, R: Reducer<T> + Copy>(a: Option<ReducedInt<T, R>>
     }
 }
 
-// Generic in the reducer, as each call with integers of a known reducer takes long to prove.
-fn assert_quotients_if_any<R: Reducer<u8> + Copy>(rt: &impl Abort) {
+fn assert_quotients<R: Reducer<u8> + Copy>(rt: &impl Abort) {
     let (ten, seven) = (integer::<u8, R>(10, 21), integer::<u8, R>(7, 21));
-    let five = integer::<u8, R>(5, 21);
-    let quotients = [
-        residue_if_any(quotient_if_any(ten, seven)),
-        residue_if_any(quotient_if_any(ten, integer::<u8, R>(5, 22))),
-        residue_if_any(quotient_if_any(ten, five)),
-    ];
-    check!(rt, 1; quotients == [None, None, Some(2)]);
-    let inverses = [residue_if_any(seven.inv()), residue_if_any(five.inv())];
-    check!(rt, 2; inverses == [None, Some(17)]);
-}
-
-#[test]
-fn inverses_and_quotients_if_any() {
-    let rt = crate::runtime::HostRuntime;
-    assert_quotients_if_any::<Vanilla<u8>>(&rt);
+    let five = five_modulo_21::<R>();
+    check!(rt, 12; quotients_of_two(&ten, &five) == [2; 4]);
+    check!(rt, 13; residue_if_any(quotient_if_any(ten, seven)) == None);
+    check!(rt, 14; residue_if_any(quotient_if_any(ten, integer::<u8, R>(5, 22))) == None);
+    check!(rt, 15; residue_if_any(quotient_if_any(ten, five)) == Some(2));
+    check!(rt, 16; residue_if_any(seven.inv()) == None);
+    check!(rt, 17; residue_if_any(five.inv()) == Some(17));
 }
 
 // The modulus, the residue and the form of an integer, and the residues of its double and its square.
@@ -271,36 +238,13 @@ fn converted<T: RingWord, R: Reducer<T> + Copy>(a: &ReducedInt<T, R>, y: T) -> (
 
 fn assert_methods<R: Reducer<u8> + Copy>(rt: &impl Abort) {
     let a = &integer::<u8, R>(255, 21);
-    check!(rt, 1; parts(a) == [21, 3, 3, 6, 9]);
-    check!(rt, 2; power::<u8, R>(21, 255, 0) == 1);
-    check!(rt, 3; power::<u8, R>(21, 255, 5) == 12);
-    check!(rt, 4; power::<u8, R>(1, 0, 0) == 0);
-    check!(rt, 5; converted(a, 255).0 == 3);
-    check!(rt, 6; converted(a, 21) == (0, false, true));
-    check!(rt, 7; negatives(&integer::<u8, R>(10, 21)) == [11, 11]);
-}
-
-#[test]
-fn operators_and_methods() {
-    let rt = crate::runtime::HostRuntime;
-    let rt = &rt;
-    assert_sums::<Vanilla<u8>>(rt);
-    assert_differences::<Vanilla<u8>>(rt);
-    assert_products::<Vanilla<u8>>(rt);
-    assert_methods::<Vanilla<u8>>(rt);
-    check!(rt, 1; quotients_of_two(&ring(10), &five_modulo_21()) == [2; 4]);
-    check!(rt, 2; sum_modulo_21() == 4);
-    check!(rt, 3; difference_modulo_21() == 2);
-    check!(rt, 4; quotient_modulo_21() == 2);
-}
-
-#[test]
-fn copies_and_text() -> Result<(), Fail> {
-    let rt = crate::runtime::HostRuntime;
-    let a = ring(255);
-    check!(&rt, 1; a.clone() == a);
-    check!(&rt, 2; is_printed(rt.alloc(), &a));
-    Ok(())
+    check!(rt, 18; parts(a) == [21, 3, 3, 6, 9]);
+    check!(rt, 19; power::<u8, R>(21, 255, 0) == 1);
+    check!(rt, 20; power::<u8, R>(21, 255, 5) == 12);
+    check!(rt, 21; power::<u8, R>(1, 0, 0) == 0);
+    check!(rt, 22; converted(a, 255).0 == 3);
+    check!(rt, 23; converted(a, 21) == (0, false, true));
+    check!(rt, 24; negatives(&integer::<u8, R>(10, 21)) == [11, 11]);
 }
 
 // Whether `==` is reflexive, symmetric and transitive for the integers of a list.
@@ -325,19 +269,40 @@ fn residue_of_nothing<I: ModularInteger + Copy>(x: I) -> I::Base {
 fn assert_any_integers<R: Reducer<u8> + Copy>(rt: &impl Abort) {
     let (three, other) = (integer::<u8, R>(3, 7), integer::<u8, R>(3, 11));
     let seven = integer::<u8, R>(10, 7);
-    check!(rt, 1; are_equal(&seven, &three));
-    check!(rt, 2; !are_equal(&three, &other));
-    check!(rt, 3; are_equivalent(&[&three, &seven, &other]));
-    check!(rt, 6; residue_of_nothing(integer::<u8, R>(7, 21)) == 0);
+    check!(rt, 25; are_equal(&seven, &three));
+    check!(rt, 26; !are_equal(&three, &other));
+    check!(rt, 27; are_equivalent(&[&three, &seven, &other]));
+    check!(rt, 28; residue_of_nothing(integer::<u8, R>(7, 21)) == 0);
+}
+
+fn assert_copied<R: Reducer<u8> + Copy + Debug>(rt: &impl Abort, alloc: Global) -> Result<(), Fail> {
+    let a = &integer::<u8, R>(255, 21);
+    check!(rt, 30; a.clone() == *a);
+    check!(rt, 31; is_printed(alloc, a));
+    Ok(())
+}
+
+// Generic in the reducer, as each call with integers of a known reducer takes long to prove.
+fn assert_integers<R: Reducer<u8> + Copy>(rt: &impl Abort) {
+    assert_sums::<R>(rt);
+    assert_differences::<R>(rt);
+    assert_products::<R>(rt);
+    assert_quotients::<R>(rt);
+    assert_methods::<R>(rt);
+    assert_any_integers::<R>(rt);
+    check!(rt, 29; difference_modulo_21::<R>() == 2);
 }
 
 #[test]
-fn equality_and_polynomials() {
+fn integers_of_bytes() -> Result<(), Fail> {
     let rt = crate::runtime::HostRuntime;
     let rt = &rt;
-    assert_any_integers::<Vanilla<u8>>(rt);
-    check!(rt, 4; value_of_bytes() == 19);
-    check!(rt, 5; value_by_forms() == 19);
+    assert_integers::<Vanilla<u8>>(rt);
+    assert_copied::<Vanilla<u8>>(rt, rt.alloc())?;
+    check!(rt, 32; sum_modulo_21() == 4);
+    check!(rt, 33; quotient_modulo_21() == 2);
+    check!(rt, 34; value_of_bytes() == 19);
+    Ok(())
 }
 
 // The residue of a + a, and that of x + y by the integers of its ring.
@@ -351,11 +316,12 @@ fn sums_modulo<R: Reducer<u64> + Copy>(m: u64, x: u64, y: u64) -> [u64; 2] {
 }
 
 #[test]
-fn sums_of_64_bits_of_any_integers() {
+fn integers_of_64_bits() {
     let rt = crate::runtime::HostRuntime;
     let rt = &rt;
     // 2^64 - 59
     let (m, top) = (18446744073709551557, u64::MAX);
     check!(rt, 1; sums_modulo::<Vanilla<u64>>(m, top, top - 60) == [116, 56]);
     check!(rt, 2; sums_modulo::<PreMulInv2by1<u64>>(m, top, top - 60) == [116, 56]);
+    check!(rt, 3; value_by_forms() == 19);
 }

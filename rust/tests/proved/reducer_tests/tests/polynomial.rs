@@ -3,6 +3,8 @@
 use num_modular::modular_barrett::premul::PreMulInv2by1;
 use num_modular::modular_reduced::modular_integer::ModularInteger;
 use num_modular::modular_reduced::reduced_int::{ReducedInt, VanillaInt};
+use num_modular::modular_reduced::reducer::Reducer;
+use num_modular::modular_word::ring_word::RingWord;
 
 /// The value at x of the polynomial with these coefficients, the highest first, by Horner's rule.
 /// Condition: all moduli are equal.
@@ -14,14 +16,29 @@ pub fn horner<I: ModularInteger + Copy>(coefficients: &[I], x: I) -> I {
     value
 }
 
+// The residue of the value at x. Generic in the reducer: at a known one, a call of `horner` brings all laws of
+// `ModularInteger` into the caller's proof.
+fn value<T: RingWord, R: Reducer<T> + Copy>(
+    coefficients: &[ReducedInt<T, R>],
+    x: ReducedInt<T, R>,
+) -> T {
+    horner(coefficients, x).residue()
+}
+
 /// 2·7^2 + 3·7 + 5 modulo 21, over bytes.
 pub fn value_of_bytes() -> u8 {
+    let a = VanillaInt::<u8>::new(2, &21);
+    let b = VanillaInt::<u8>::new(3, &21);
+    let c = VanillaInt::<u8>::new(5, &21);
     let x = VanillaInt::<u8>::new(7, &21);
-    horner(&[x.convert(2), x.convert(3), x.convert(5)], x).residue()
+    value(&[a, b, c], x)
 }
 
 /// The same by a reducer whose forms aren't the residues.
 pub fn value_by_forms() -> u64 {
+    let a = ReducedInt::<u64, PreMulInv2by1<u64>>::new(2, &21);
+    let b = ReducedInt::<u64, PreMulInv2by1<u64>>::new(3, &21);
+    let c = ReducedInt::<u64, PreMulInv2by1<u64>>::new(5, &21);
     let x = ReducedInt::<u64, PreMulInv2by1<u64>>::new(7, &21);
-    horner(&[x.convert(2), x.convert(3), x.convert(5)], x).residue()
+    value(&[a, b, c], x)
 }

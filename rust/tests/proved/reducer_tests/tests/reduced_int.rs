@@ -1,7 +1,7 @@
-//! Callers of the operators of `ReducedInt`, generic and at `VanillaInt<u8>`.
+//! Callers of the operators of `ReducedInt`, generic in the reducer.
 
 use num_modular::modular_reduced::modular_integer::ModularInteger;
-use num_modular::modular_reduced::reduced_int::{ReducedInt, VanillaInt};
+use num_modular::modular_reduced::reduced_int::ReducedInt;
 use num_modular::modular_reduced::reducer::Reducer;
 use num_modular::modular_word::ring_word::RingWord;
 
@@ -27,11 +27,11 @@ pub fn quotient_if_any<T: RingWord, R: Reducer<T> + Copy>(
 }
 
 /// 5 modulo 21, which has an inverse.
-pub fn five_modulo_21() -> VanillaInt<u8> {
-    VanillaInt::<u8>::new(5, &21)
+pub fn five_modulo_21<R: Reducer<u8> + Copy>() -> ReducedInt<u8, R> {
+    ReducedInt::<u8, R>::new(5, &21)
 }
 
 /// 5 - 255 modulo 21.
-pub fn difference_modulo_21() -> u8 {
-    (five_modulo_21() - 255u8).residue()
+pub fn difference_modulo_21<R: Reducer<u8> + Copy>() -> u8 {
+    (five_modulo_21::<R>() - 255u8).residue()
 }

@@ -2,50 +2,19 @@
 
 use num_modular::modular_reduced::reducer::Reducer;
 use num_modular::modular_word::ring_word::RingWord;
+use crate::runtime::Abort;
 
 /// The residue of a word.
 pub fn remainder<T: RingWord, R: Reducer<T>>(ring: &R, n: T) -> T {
     ring.residue(ring.transform(n))
 }
 
-// The residue of a sum modulo m, by the reducer of m.
-fn sum<T: RingWord, R: Reducer<T> + Copy>(m: T, x: T, y: T) -> T {
-    let ring = R::new(&m);
-    ring.residue(ring.add(&ring.transform(x), &ring.transform(y)))
-}
-
-/// The residue of a product modulo m, by the reducer of m.
-pub fn product<T: RingWord, R: Reducer<T> + Copy>(m: T, x: T, y: T) -> T {
-    let ring = R::new(&m);
-    ring.residue(ring.mul(&ring.transform(x), &ring.transform(y)))
-}
-
-/// The form of an inverse, by the reducer of m.
-pub fn inverse<T: RingWord, R: Reducer<T> + Copy>(m: T, x: T) -> Option<T> {
-    let ring = R::new(&m);
-    ring.inv(ring.transform(x))
-}
-
-/// The residue of an inverse.
-pub fn inverse_residue<T: RingWord, R: Reducer<T>>(ring: &R, x: T) -> Option<T> {
+// The residue of an inverse.
+fn inverse_residue<T: RingWord, R: Reducer<T>>(ring: &R, x: T) -> Option<T> {
     match ring.inv(ring.transform(x)) {
         Some(form) => Some(ring.residue(form)),
         None => None,
     }
-}
-
-// The residues of 0, 1, m - 1, m and a greatest word, and of (m - 1)^2, by the reducer of m.
-fn edges<T: RingWord, R: Reducer<T> + Copy>(m: T, last: T, greatest: T) -> [T; 6] {
-    let ring = R::new(&m);
-    let minus_one = ring.transform(last);
-    [
-        ring.residue(ring.transform(T::zero())),
-        ring.residue(ring.transform(T::one())),
-        ring.residue(minus_one),
-        ring.residue(ring.transform(ring.modulus())),
-        ring.residue(ring.transform(greatest)),
-        ring.residue(ring.mul(&minus_one, &minus_one)),
-    ]
 }
 
 /// The residues of a sum, a difference, a product, a double, a negative and a square.
@@ -62,47 +31,105 @@ pub fn residues<T: RingWord, R: Reducer<T>>(ring: &R, x: T, y: T) -> [T; 6] {
     ]
 }
 
-// Whether two words are forms of the reducer of m, and whether the value of a number's form is 0.
-fn checks<T: RingWord, R: Reducer<T> + Copy>(m: T, words: (T, T), multiple: T) -> [bool; 3] {
-    let ring = R::new(&m);
-    [
-        ring.check(&words.0),
-        ring.check(&words.1),
-        ring.is_zero(&ring.transform(multiple)),
-    ]
+/// A call of a reducer with the forms of two numbers. Some calls take the first alone.
+pub enum Call {
+    /// Only the form of the first.
+    Load,
+    Sum,
+    Difference,
+    Product,
+    /// The double of the first.
+    Double,
+    /// The negative of the first.
+    Negative,
+    /// The square of the first.
+    Square,
+    /// The power of the first, to the second number as an exponent.
+    Power,
+    /// The difference times the first.
+    DifferenceTimesFirst,
+    SumInPlace,
+    DifferenceInPlace,
+    ProductInPlace,
 }
 
-/// A question about a reducer, and what is right.
+// The form that a call leaves in place of a.
+fn form_in_place<T: RingWord, R: Reducer<T>>(ring: &R, call: &Call, a: T, b: T) -> T {
+    let mut form = a;
+    match call {
+        Call::SumInPlace => {
+            ring.add_in_place(&mut form, &b);
+            form
+        }
+        Call::DifferenceInPlace => {
+            ring.sub_in_place(&mut form, &b);
+            form
+        }
+        Call::ProductInPlace => {
+            ring.mul_in_place(&mut form, &b);
+            form
+        }
+        _ => form,
+    }
+}
+
+// The form that a call returns for two numbers.
+fn form<T: RingWord, R: Reducer<T>>(ring: &R, call: &Call, numbers: &(T, T)) -> T {
+    let a = ring.transform(numbers.0);
+    let b = ring.transform(numbers.1);
+    match call {
+        Call::Load => a,
+        Call::Sum => ring.add(&a, &b),
+        Call::Difference => ring.sub(&a, &b),
+        Call::Product => ring.mul(&a, &b),
+        Call::Double => ring.dbl(a),
+        Call::Negative => ring.neg(a),
+        Call::Square => ring.sqr(a),
+        Call::Power => ring.pow(a, &numbers.1),
+        Call::DifferenceTimesFirst => ring.mul_difference(&a, &b, &a),
+        _ => form_in_place(ring, call, a, b),
+    }
+}
+
+/// A question about a reducer, and what is right. No variant has an array of words, because a proof that its size is in
+/// bounds takes long.
 pub enum Row<T> {
-    /// Two numbers, and the residue of their sum.
-    Sum((T, T), T),
-    /// Two numbers, and the residue of their product.
-    Product((T, T), T),
-    /// A number and its form.
-    Form(T, T),
-    /// A number and its residue.
-    Remainder(T, T),
-    /// m - 1, a greatest word, and the edges.
-    Edges((T, T), [T; 6]),
-    /// Two numbers, and the residues of the operations with them.
-    Residues((T, T), [T; 6]),
+    /// A call, its two numbers, and the form that it returns.
+    Form(Call, (T, T), T),
+    /// The same, and the residue of the form.
+    Residue(Call, (T, T), T),
+    /// The same, and whether the value of the form is 0.
+    IsZero(Call, (T, T), bool),
+    /// A word, and whether it is a form.
+    Check(T, bool),
     /// A number, and the form of its inverse.
     Inverse(T, Option<T>),
-    /// Two words and a number, and what the checks of them return.
-    Checks((T, T), T, [bool; 3]),
+    /// A number, and the residue of its inverse.
+    InverseResidue(T, Option<T>),
 }
 
-/// Whether the row is right of the reducer of m.
-pub fn is_right<T: RingWord, R: Reducer<T> + Copy>(m: T, row: Row<T>) -> bool {
+// Whether the row is right of a reducer.
+fn is_right<T: RingWord, R: Reducer<T>>(ring: &R, row: &Row<T>) -> bool {
     match row {
-        Row::Sum(words, want) => sum::<T, R>(m, words.0, words.1) == want,
-        Row::Product(words, want) => product::<T, R>(m, words.0, words.1) == want,
-        Row::Form(n, want) => R::new(&m).transform(n) == want,
-        Row::Remainder(n, want) => remainder(&R::new(&m), n) == want,
-        Row::Edges(words, want) => edges::<T, R>(m, words.0, words.1) == want,
-        Row::Residues(words, want) => residues(&R::new(&m), words.0, words.1) == want,
-        Row::Inverse(x, want) => inverse::<T, R>(m, x) == want,
-        Row::Checks(words, multiple, want) => checks::<T, R>(m, words, multiple) == want,
+        Row::Form(call, numbers, want) => form(ring, call, numbers) == *want,
+        Row::Residue(call, numbers, want) => ring.residue(form(ring, call, numbers)) == *want,
+        Row::IsZero(call, numbers, want) => ring.is_zero(&form(ring, call, numbers)) == *want,
+        Row::Check(f, want) => ring.check(f) == *want,
+        Row::Inverse(n, want) => ring.inv(ring.transform(*n)) == *want,
+        Row::InverseResidue(n, want) => inverse_residue(ring, *n) == *want,
+    }
+}
+
+/// Whether a reducer has the row's modulus, and the row is right of it.
+pub fn is_right_modulo<T: RingWord, R: Reducer<T>>(ring: &R, row: &(T, Row<T>)) -> bool {
+    ring.modulus() == row.0 && is_right(ring, &row.1)
+}
+
+/// Asserts that the rows are right of the reducer of m.
+pub fn assert_rows<T: RingWord, R: Reducer<T> + Copy>(rt: &impl Abort, m: T, rows: &[Row<T>]) {
+    let ring = &R::new(&m);
+    for row in rows {
+        check!(rt, 1; is_right(ring, row));
     }
 }
 

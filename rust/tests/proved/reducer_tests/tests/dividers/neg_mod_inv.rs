@@ -5,23 +5,13 @@ use num_modular::modular_monty::neg_mod_inv::{w8, w16, w32, w64, wsize};
 #[test]
 fn rows() {
     let rt = crate::runtime::HostRuntime;
-    let found = (
-        (w8::neginv(1), w8::neginv(7)),
-        w16::neginv(65535),
-        w32::neginv(3),
-        w64::neginv(3),
-        wsize::neginv(3),
-    );
-    check!(&rt, 1;
-        found
-            == (
-                (255, 73),
-                1,
-                1431655765,
-                6148914691236517205,
-                6148914691236517205
-            )
-    );
+    let rt = &rt;
+    check!(rt, 1; w8::neginv(1) == 255);
+    check!(rt, 2; w8::neginv(7) == 73);
+    check!(rt, 3; w16::neginv(65535) == 1);
+    check!(rt, 4; w32::neginv(3) == 1431655765);
+    check!(rt, 5; w64::neginv(3) == 6148914691236517205);
+    check!(rt, 6; wsize::neginv(3) == 6148914691236517205);
 }
 
 #[test]

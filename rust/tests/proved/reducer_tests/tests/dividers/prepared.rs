@@ -18,64 +18,37 @@ fn stored_numbers() {
 #[test]
 fn rows() {
     let rt = crate::runtime::HostRuntime;
+    let rt = &rt;
     let seven = PreModInv::<u8>::from(7);
-    let words = [
-        is_divided(252u8, 7, &seven, Some(36)),
-        is_divided(253u8, 7, &seven, None),
-    ];
-    let doubles = [
-        is_divided(65534u16, 7, &seven, Some(9362)),
-        is_divided(65535u16, 7, &seven, None),
-        is_divided(1u16, 7, &seven, None),
-    ];
-    check!(&rt, 1; (words, doubles) == ([true; 2], [true; 3]));
+    check!(rt, 1; is_divided(252u8, 7, &seven, Some(36)));
+    check!(rt, 2; is_divided(253u8, 7, &seven, None));
+    check!(rt, 3; is_divided(65534u16, 7, &seven, Some(9362)));
+    check!(rt, 4; is_divided(65535u16, 7, &seven, None));
+    check!(rt, 5; is_divided(1u16, 7, &seven, None));
 }
 
 #[test]
 fn rows_of_wider_words() {
     let rt = crate::runtime::HostRuntime;
-    let by_three = PreModInv::<u16>::from(3);
-    let words = [
-        is_divided(65535u16, 3, &by_three, Some(21845)),
-        is_divided(4294967295u32, 3, &by_three, Some(1431655765)),
-    ];
-    let by_three = PreModInv::<u32>::from(3);
-    let doubles = [
-        is_divided(4294967295u32, 3, &by_three, Some(1431655765)),
-        is_divided(
-            18446744073709551615u64,
-            3,
-            &by_three,
-            Some(6148914691236517205),
-        ),
-    ];
-    check!(&rt, 1; (words, doubles) == ([true; 2], [true; 2]));
+    let rt = &rt;
+    let three = PreModInv::<u16>::from(3);
+    check!(rt, 1; is_divided(65535u16, 3, &three, Some(21845)));
+    check!(rt, 2; is_divided(4294967295u32, 3, &three, Some(1431655765)));
+    let three = PreModInv::<u32>::from(3);
+    check!(rt, 3; is_divided(4294967295u32, 3, &three, Some(1431655765)));
+    check!(rt, 4; is_divided(18446744073709551615u64, 3, &three, Some(6148914691236517205)));
 }
 
 #[test]
 fn rows_of_the_widest_words() {
     let rt = crate::runtime::HostRuntime;
-    let by_three = PreModInv::<u64>::from(3);
-    let words = [
-        is_divided(
-            18446744073709551615u64,
-            3,
-            &by_three,
-            Some(6148914691236517205),
-        ),
-        is_divided(
-            36893488147419103230u128,
-            3,
-            &by_three,
-            Some(12297829382473034410),
-        ),
-    ];
-    let by_three = PreModInv::<usize>::from(3);
-    let sizes = [
-        is_divided(18446744073709551614usize, 3, &by_three, None),
-        is_divided(36893488147419103231u128, 3, &by_three, None),
-    ];
-    check!(&rt, 1; (words, sizes) == ([true; 2], [true; 2]));
+    let rt = &rt;
+    let three = PreModInv::<u64>::from(3);
+    check!(rt, 1; is_divided(18446744073709551615u64, 3, &three, Some(6148914691236517205)));
+    check!(rt, 2; is_divided(36893488147419103230u128, 3, &three, Some(12297829382473034410)));
+    let three = PreModInv::<usize>::from(3);
+    check!(rt, 3; is_divided(18446744073709551614usize, 3, &three, None));
+    check!(rt, 4; is_divided(36893488147419103231u128, 3, &three, None));
 }
 
 #[test]

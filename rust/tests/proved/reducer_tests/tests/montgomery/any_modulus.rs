@@ -1,178 +1,93 @@
 //! Known values of the reducer, and comparisons with plain remainders.
 
 use crate::reducer_tests::tests::assert_at;
-use crate::reducer_tests::tests::residues::{agree, inverse, product};
+use crate::reducer_tests::tests::residues::{Call, Row, agree, is_right_modulo};
 use num_modular::modular_monty::montgomery::Montgomery;
 use num_modular::modular_prim::plain_word::PlainWord;
 use num_modular::modular_reduced::reducer::Reducer;
 use crate::runtime::Abort;
 
-// The forms of v, of its square, its double, its inverse and a power, and their residues.
-fn registers<R: Reducer<u8> + Copy>(m: u8, v: u8, exp: u8) -> ([u8; 5], [u8; 5]) {
-    let ring = R::new(&m);
-    let load = ring.transform(v);
-    let square = ring.mul(&load, &load);
-    let double = ring.add(&load, &load);
-    let inverse = match ring.inv(load) {
-        Some(x) => x,
-        None => load,
-    };
-    let power = ring.pow(load, &exp);
-    let residues = [
-        ring.residue(load),
-        ring.residue(square),
-        ring.residue(double),
-        ring.residue(inverse),
-        ring.residue(power),
-    ];
-    ([load, square, double, inverse, power], residues)
+// Whether the row is right of the reducer of its modulus. Generic in the word, as each call with a known reducer takes
+// long to prove.
+fn is_right_row<T: PlainWord>(row: &(T, Row<T>)) -> bool {
+    let m = row.0;
+    !m.is_zero_word() && is_right_modulo(&Montgomery::<T>::of(m), row)
 }
 
-// The modulus, a number, an exponent, the forms of five registers and their residues.
-const REGISTERS: &[(u8, u8, u8, [u8; 5], [u8; 5])] = &[
-    (
-        255,
-        254,
-        255,
-        [254, 1, 253, 254, 254],
-        [254, 1, 253, 254, 254],
-    ),
-    (
-        253,
-        252,
-        255,
-        [250, 3, 247, 250, 250],
-        [252, 1, 251, 252, 252],
-    ),
-];
-
-#[test]
-fn five_registers() {
-    let rt = crate::runtime::HostRuntime;
-    for &(m, v, exp, forms, residues) in REGISTERS {
-        check!(&rt, 1; m > 0 && registers::<Montgomery<u8>>(m, v, exp) == (forms, residues));
-    }
-}
-
-fn forms<R: Reducer<u8> + Copy>(m: u8, words: [u8; 3]) -> [u8; 3] {
-    let ring = R::new(&m);
-    let [x, y, z] = words;
-    [ring.transform(x), ring.transform(y), ring.transform(z)]
-}
-
-// The modulus, words and their forms.
-const FORMS: &[(u8, [u8; 3], [u8; 3])] = &[(21, [5, 7, 17], [20, 7, 5]), (1, [255; 3], [0; 3])];
-
-#[test]
-fn forms_of_words() {
-    let rt = crate::runtime::HostRuntime;
-    let rt = &rt;
-    for &(m, words, want) in FORMS {
-        check!(rt, 1; m > 0 && forms::<Montgomery<u8>>(m, words) == want);
-    }
-    let ring = Montgomery::<u8>::new(128);
-    for v in 0..128 {
-        check!(rt, 2; ring.transform(v) == v);
-    }
-}
-
-// The modulus, a number and the form of its inverse.
-const INVERSES: &[(u8, u8, Option<u8>)] = &[
-    (1, 255, Some(0)),
-    (254, 253, Some(251)),
-    (254, 2, None),
-];
-
-#[test]
-fn inverses() {
-    let rt = crate::runtime::HostRuntime;
-    for &(m, x, want) in INVERSES {
-        check!(&rt, 1; m > 0 && inverse::<u8, Montgomery<u8>>(m, x) == want);
-    }
-}
-
-// Whether a sum is 0.
-fn sum_is_zero<R: Reducer<u8> + Copy>(m: u8, x: u8, y: u8) -> bool {
-    let ring = R::new(&m);
-    ring.is_zero(&ring.add(&ring.transform(x), &ring.transform(y)))
-}
-
-#[test]
-fn sums_of_zero() {
-    let rt = crate::runtime::HostRuntime;
-    let rt = &rt;
-    check!(rt, 1; sum_is_zero::<Montgomery<u8>>(11, 5, 6));
-    check!(rt, 2; !sum_is_zero::<Montgomery<u8>>(11, 5, 7));
-}
-
-// Whether the row's modulus, two factors and residue of their product are so.
-fn is_right<T: PlainWord>(row: &(T, T, T, T)) -> bool {
-    let &(m, x, y, want) = row;
-    !m.is_zero_word() && product::<T, Montgomery<T>>(m, x, y) == want
-}
-
-fn assert_products<T: PlainWord>(rt: &impl Abort, rows: &[(T, T, T, T)]) {
+fn assert_rows<T: PlainWord>(rt: &impl Abort, rows: &[(T, Row<T>)]) {
     for i in 0..rows.len() {
-        assert_at(rt, is_right(&rows[i]), &i);
+        assert_at(rt, is_right_row(&rows[i]), &i);
     }
 }
 
-const PRODUCTS_OF_16_BITS: &[(u16, u16, u16, u16)] = &[
-    (65535, 65534, 65533, 2),
-    (65534, 65533, 65533, 1),
+// Rows: the modulus, and a question with what is right.
+const ROWS_OF_8_BITS: &[(u8, Row<u8>)] = &[
+    (255, Row::Form(Call::Load, (254, 0), 254)),
+    (255, Row::Form(Call::Product, (254, 254), 1)),
+    (255, Row::Form(Call::Sum, (254, 254), 253)),
+    (255, Row::Inverse(254, Some(254))),
+    (255, Row::Form(Call::Power, (254, 255), 254)),
+    (255, Row::Residue(Call::Load, (254, 0), 254)),
+    (255, Row::Residue(Call::Product, (254, 254), 1)),
+    (255, Row::Residue(Call::Sum, (254, 254), 253)),
+    (255, Row::InverseResidue(254, Some(254))),
+    (255, Row::Residue(Call::Power, (254, 255), 254)),
+    (253, Row::Form(Call::Load, (252, 0), 250)),
+    (253, Row::Form(Call::Product, (252, 252), 3)),
+    (253, Row::Form(Call::Sum, (252, 252), 247)),
+    (253, Row::Inverse(252, Some(250))),
+    (253, Row::Form(Call::Power, (252, 255), 250)),
+    (253, Row::Residue(Call::Load, (252, 0), 252)),
+    (253, Row::Residue(Call::Product, (252, 252), 1)),
+    (253, Row::Residue(Call::Sum, (252, 252), 251)),
+    (253, Row::InverseResidue(252, Some(252))),
+    (253, Row::Residue(Call::Power, (252, 255), 252)),
+    (21, Row::Form(Call::Load, (5, 0), 20)),
+    (21, Row::Form(Call::Load, (7, 0), 7)),
+    (21, Row::Form(Call::Load, (17, 0), 5)),
+    (1, Row::Form(Call::Load, (255, 0), 0)),
+    (1, Row::Inverse(255, Some(0))),
+    (254, Row::Inverse(253, Some(251))),
+    (254, Row::Inverse(2, None)),
+    (11, Row::IsZero(Call::Sum, (5, 6), true)),
+    (11, Row::IsZero(Call::Sum, (5, 7), false)),
+    (5, Row::Residue(Call::Product, (12, 13), 1)),
+    (20, Row::Form(Call::Load, (7, 0), 11)),
+    (20, Row::Form(Call::Load, (9, 0), 17)),
+    (20, Row::Form(Call::Product, (7, 9), 15)),
+    (254, Row::Form(Call::Load, (253, 0), 251)),
+    (254, Row::Form(Call::Product, (253, 253), 5)),
 ];
 
-const PRODUCTS_OF_32_BITS: &[(u32, u32, u32, u32)] = &[
-    (4294967295, 4294967294, 4294967293, 2),
-    (4294967294, 4294967293, 4294967293, 1),
+const ROWS_OF_16_BITS: &[(u16, Row<u16>)] = &[
+    (65535, Row::Residue(Call::Product, (65534, 65533), 2)),
+    (65534, Row::Residue(Call::Product, (65533, 65533), 1)),
 ];
 
-const PRODUCTS_OF_64_BITS: &[(u64, u64, u64, u64)] = &[
-    (
-        18446744073709551615,
-        18446744073709551614,
-        18446744073709551614,
-        1,
-    ),
-    (
-        18446744073709551614,
-        18446744073709551613,
-        18446744073709551613,
-        1,
-    ),
+const ROWS_OF_32_BITS: &[(u32, Row<u32>)] = &[
+    (4294967295, Row::Residue(Call::Product, (4294967294, 4294967293), 2)),
+    (4294967294, Row::Residue(Call::Product, (4294967293, 4294967293), 1)),
+];
+
+const ROWS_OF_64_BITS: &[(u64, Row<u64>)] = &[
+    (18446744073709551615, Row::Residue(Call::Product, (18446744073709551614, 18446744073709551614), 1)),
+    (18446744073709551614, Row::Residue(Call::Product, (18446744073709551613, 18446744073709551613), 1)),
+];
+
+const ROWS_OF_SIZES: &[(usize, Row<usize>)] = &[
+    (3, Row::Residue(Call::Product, (5, 7), 2)),
+    (6, Row::Residue(Call::Product, (5, 7), 5)),
 ];
 
 #[test]
-fn products_at_each_width() {
+fn rows_at_each_width() {
     let rt = crate::runtime::HostRuntime;
     let rt = &rt;
-    assert_products::<u8>(rt, &[(5, 12, 13, 1)]);
-    assert_products::<u16>(rt, PRODUCTS_OF_16_BITS);
-    assert_products::<u32>(rt, PRODUCTS_OF_32_BITS);
-    assert_products::<u64>(rt, PRODUCTS_OF_64_BITS);
-    assert_products::<usize>(rt, &[(3, 5, 7, 2), (6, 5, 7, 5)]);
-}
-
-// The forms of two numbers and of their product.
-fn product_forms<R: Reducer<u8> + Copy>(m: u8, x: u8, y: u8) -> [u8; 3] {
-    let ring = R::new(&m);
-    let a = ring.transform(x);
-    let b = ring.transform(y);
-    [a, b, ring.mul(&a, &b)]
-}
-
-// An even modulus, two numbers, their forms and that of their product.
-const PRODUCT_FORMS: &[(u8, u8, u8, [u8; 3])] = &[
-    (20, 7, 9, [11, 17, 15]),
-    (254, 253, 253, [251, 251, 5]),
-];
-
-#[test]
-fn even_moduli_of_bytes() {
-    let rt = crate::runtime::HostRuntime;
-    for &(m, x, y, want) in PRODUCT_FORMS {
-        check!(&rt, 1; m > 0 && product_forms::<Montgomery<u8>>(m, x, y) == want);
-    }
+    assert_rows(rt, ROWS_OF_8_BITS);
+    assert_rows(rt, ROWS_OF_16_BITS);
+    assert_rows(rt, ROWS_OF_32_BITS);
+    assert_rows(rt, ROWS_OF_64_BITS);
+    assert_rows(rt, ROWS_OF_SIZES);
 }
 
 #[test]
@@ -188,5 +103,14 @@ fn each_modulus() {
                 check!(rt, 3; agree(&ring, m, x, y));
             }
         }
+    }
+}
+
+#[test]
+fn forms_modulo_a_power_of_two() {
+    let rt = crate::runtime::HostRuntime;
+    let ring = Montgomery::<u8>::new(128);
+    for v in 0..128 {
+        check!(&rt, 1; ring.transform(v) == v);
     }
 }

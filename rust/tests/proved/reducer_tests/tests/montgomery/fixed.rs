@@ -1,55 +1,62 @@
 //! Known values of the reducers whose modulus is a parameter.
 
-use crate::reducer_tests::tests::residues::{Row, is_right};
+use crate::reducer_tests::tests::residues::{Call, Row, assert_rows};
 use num_modular::modular_monty::fixed::{FixedMontgomery32, FixedMontgomery64};
-use num_modular::modular_reduced::reducer::Reducer;
+use crate::runtime::Abort;
 
-// Whether the row is right of the reducer of P. Generic in P, as each call with a known reducer takes long to prove.
-fn is_right_32<const P: u32>(row: Row<u32>) -> bool {
-    is_right::<u32, FixedMontgomery32<P>>(P, row)
+// Asserts that the rows are right of the reducer of P. Generic in P, as each call with a known reducer takes long to prove.
+fn assert_32<const P: u32>(rt: &impl Abort, rows: &[Row<u32>]) {
+    assert_rows::<u32, FixedMontgomery32<P>>(rt, P, rows);
 }
 
-fn is_right_64<const P: u64>(row: Row<u64>) -> bool {
-    is_right::<u64, FixedMontgomery64<P>>(P, row)
+fn assert_64<const P: u64>(rt: &impl Abort, rows: &[Row<u64>]) {
+    assert_rows::<u64, FixedMontgomery64<P>>(rt, P, rows);
 }
+
+// A table for each modulus.
+const MODULO_1: &[Row<u32>] = &[
+    Row::Form(Call::Load, (4294967295, 0), 0),
+    Row::Inverse(4294967295, Some(0)),
+    Row::Residue(Call::Load, (0, 0), 0),
+    Row::Residue(Call::Load, (1, 0), 0),
+    Row::Residue(Call::Load, (4294967295, 0), 0),
+];
+
+const MODULO_17: &[Row<u32>] = &[
+    Row::Residue(Call::Product, (3, 5), 15),
+];
+
+const MODULO_4294967295: &[Row<u32>] = &[
+    Row::Residue(Call::Product, (4294967294, 4294967293), 2),
+];
+
+const MODULO_97: &[Row<u64>] = &[
+    Row::Residue(Call::Product, (10, 20), 6),
+    Row::Inverse(97, None),
+    Row::Check(96, true),
+    Row::Check(97, false),
+    Row::IsZero(Call::Load, (97, 0), true),
+];
+
+const MODULO_18446744073709551615: &[Row<u64>] = &[
+    Row::Residue(Call::Product, (18446744073709551614, 18446744073709551614), 1),
+];
 
 #[test]
-fn products() {
+fn rows() {
     let rt = crate::runtime::HostRuntime;
     let rt = &rt;
-    check!(rt, 1; is_right_32::<17>(Row::Product((3, 5), 15)));
-    check!(rt, 2; is_right_64::<97>(Row::Product((10, 20), 6)));
+    assert_32::<1>(rt, MODULO_1);
+    assert_32::<17>(rt, MODULO_17);
+    assert_32::<4294967295>(rt, MODULO_4294967295);
+    assert_64::<97>(rt, MODULO_97);
+    assert_64::<18446744073709551615>(rt, MODULO_18446744073709551615);
 }
 
 #[test]
-fn products_modulo_the_greatest_odd_words() {
-    let rt = crate::runtime::HostRuntime;
-    let rt = &rt;
-    const M: u32 = 4294967295;
-    check!(rt, 1; is_right_32::<M>(Row::Product((4294967294, 4294967293), 2)));
-    const N: u64 = 18446744073709551615;
-    let last = 18446744073709551614;
-    check!(rt, 2; is_right_64::<N>(Row::Product((last, last), 1)));
-}
-
-#[test]
-fn modulo_1() {
+fn moduli() {
     let rt = crate::runtime::HostRuntime;
     let rt = &rt;
     check!(rt, 1; FixedMontgomery32::<1>::fixed_modulus() == 1);
-    check!(rt, 2; is_right_32::<1>(Row::Form(4294967295, 0)));
-    check!(rt, 3; is_right_32::<1>(Row::Inverse(4294967295, Some(0))));
-    for n in [0, 1, 4294967295] {
-        check!(rt, 4; is_right_32::<1>(Row::Remainder(n, 0)));
-    }
-}
-
-#[test]
-fn what_is_no_form() {
-    let rt = crate::runtime::HostRuntime;
-    let rt = &rt;
-    check!(rt, 1; FixedMontgomery64::<97>::fixed_modulus() == 97);
-    let ring = FixedMontgomery64::<97>::new(&97);
-    check!(rt, 2; ring.check(&96) && !ring.check(&97));
-    check!(rt, 3; is_right_64::<97>(Row::Inverse(97, None)));
+    check!(rt, 2; FixedMontgomery64::<97>::fixed_modulus() == 97);
 }

@@ -13,13 +13,16 @@ fn is_restored<T: PlainWord>(m: T, negated_inverse: T, square: T) -> bool {
     }
 }
 
-// Whether these are the numbers of m, and restore the reducer of m.
-fn are_computed<T: PlainWord>(m: T, negated_inverse: T, square: T) -> bool {
-    let computed = Montgomery::<T>::of(m).computed_once();
-    computed.0 == negated_inverse && computed.1 == square && is_restored(m, negated_inverse, square)
+// Whether a modulus has these two numbers, and they restore its reducer.
+fn are_computed<T: PlainWord>(row: &(T, T, T)) -> bool {
+    let m = row.0;
+    if m.is_zero_word() {
+        return false;
+    }
+    Montgomery::<T>::of(m).computed_once() == (row.1, row.2) && is_restored(m, row.1, row.2)
 }
 
-// The moduli 1, odd, even and powers of two, with their numbers.
+// A modulus and its two numbers: the moduli 1, odd, even and powers of two.
 const COMPUTED: &[(u8, u8, u8)] = &[
     (1, 255, 0),
     (2, 255, 0),
@@ -31,10 +34,9 @@ const COMPUTED: &[(u8, u8, u8)] = &[
     (255, 1, 1),
 ];
 
-// A modulus and its two numbers.
 fn assert_computed<T: PlainWord>(rt: &impl Abort, rows: &[(T, T, T)]) {
-    for &(m, negated_inverse, square) in rows {
-        check!(rt, 1; !m.is_zero_word() && are_computed(m, negated_inverse, square));
+    for row in rows {
+        check!(rt, 1; are_computed(row));
     }
 }
 

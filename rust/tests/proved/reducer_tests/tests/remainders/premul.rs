@@ -2,55 +2,79 @@
 
 use crate::reducer_tests::tests::assert_at;
 use crate::reducer_tests::tests::dividers::is_printed;
-use crate::reducer_tests::tests::residues::{agree, inverse_residue, product, remainder};
+use crate::reducer_tests::tests::residues::{Call, Row, agree, is_right_modulo, remainder};
 use num_modular::modular_barrett::premul::PreMulInv2by1;
+use num_modular::modular_prim::plain_word::PlainWord;
 use num_modular::modular_reduced::reducer::Reducer;
-use num_modular::modular_word::ring_word::RingWord;
-
-fn power<T: RingWord, R: Reducer<T>>(r: &R, n: T, exp: T) -> T {
-    r.residue(r.pow(r.transform(n), &exp))
-}
+use crate::runtime::Abort;
 
 #[test]
-fn rows() {
+fn parts() {
     let rt = crate::runtime::HostRuntime;
     let rt = &rt;
     let ring = PreMulInv2by1::<u8>::new(21);
-    let found = (
-        (ring.divisor(), ring.modulus(), ring.shift()),
-        ring.divider().divisor(),
-    );
-    check!(rt, 1; found == ((168, 21, 3), 168));
-    let checks = [ring.check(&40), ring.check(&41), ring.check(&168)];
-    check!(rt, 2; checks == [true, false, false]);
-    let found = (
-        [ring.transform(5), ring.transform(7), ring.transform(17)],
-        [inverse_residue(&ring, 5), inverse_residue(&ring, 7)],
-        ring.is_zero(&ring.transform(42)),
-    );
-    check!(rt, 3; found == ([40, 56, 136], [Some(17), None], true));
+    check!(rt, 1; ring.divisor() == 168);
+    check!(rt, 2; ring.modulus() == 21);
+    check!(rt, 3; ring.shift() == 3);
+    check!(rt, 4; ring.divider().divisor() == 168);
     let copy = ring;
-    check!(rt, 4; copy == ring);
+    check!(rt, 5; copy == ring);
     // the same divisor for another modulus
-    let found = (
-        ring == PreMulInv2by1::of(42),
-        is_printed(rt.alloc(), &ring),
-    );
-    check!(rt, 5; found == (false, true));
+    check!(rt, 6; ring != PreMulInv2by1::of(42));
+    check!(rt, 7; is_printed(rt.alloc(), &ring));
 }
 
+// Whether the row is right of the reducer of its modulus. Generic in the word, as each call with a known reducer takes
+// long to prove.
+fn is_right_row<T: PlainWord>(row: &(T, Row<T>)) -> bool {
+    let m = row.0;
+    !m.is_zero_word() && is_right_modulo(&PreMulInv2by1::<T>::of(m), row)
+}
+
+fn assert_rows<T: PlainWord>(rt: &impl Abort, rows: &[(T, Row<T>)]) {
+    for i in 0..rows.len() {
+        assert_at(rt, is_right_row(&rows[i]), &i);
+    }
+}
+
+// Rows: the modulus, and a question with what is right.
+const ROWS_OF_8_BITS: &[(u8, Row<u8>)] = &[
+    (21, Row::Check(40, true)),
+    (21, Row::Check(41, false)),
+    (21, Row::Check(168, false)),
+    (21, Row::Form(Call::Load, (5, 0), 40)),
+    (21, Row::Form(Call::Load, (7, 0), 56)),
+    (21, Row::Form(Call::Load, (17, 0), 136)),
+    (21, Row::InverseResidue(5, Some(17))),
+    (21, Row::InverseResidue(7, None)),
+    (21, Row::IsZero(Call::Load, (42, 0), true)),
+];
+
+const ROWS_OF_16_BITS: &[(u16, Row<u16>)] = &[
+    (7, Row::Residue(Call::Power, (255, 255), 6)),
+];
+
+const ROWS_OF_32_BITS: &[(u32, Row<u32>)] = &[
+    (5000, Row::InverseResidue(3, Some(1667))),
+];
+
+const ROWS_OF_64_BITS: &[(u64, Row<u64>)] = &[
+    (u64::MAX, Row::Residue(Call::Product, (u64::MAX - 1, u64::MAX - 1), 1)),
+];
+
+const ROWS_OF_SIZES: &[(usize, Row<usize>)] = &[
+    (1000, Row::Residue(Call::Power, (2, 10), 24)),
+];
+
 #[test]
-fn widest_words() {
+fn rows_at_each_width() {
     let rt = crate::runtime::HostRuntime;
     let rt = &rt;
-    let last = u64::MAX - 1;
-    check!(rt, 1; product::<u64, PreMulInv2by1<u64>>(u64::MAX, last, last) == 1);
-    let ring = PreMulInv2by1::<usize>::new(1000);
-    check!(rt, 2; power(&ring, 2, 10) == 24);
-    let ring = PreMulInv2by1::<u32>::new(5000);
-    check!(rt, 3; inverse_residue(&ring, 3) == Some(1667));
-    let ring = PreMulInv2by1::<u16>::new(7);
-    check!(rt, 4; power(&ring, 255, 255) == 6);
+    assert_rows(rt, ROWS_OF_8_BITS);
+    assert_rows(rt, ROWS_OF_16_BITS);
+    assert_rows(rt, ROWS_OF_32_BITS);
+    assert_rows(rt, ROWS_OF_64_BITS);
+    assert_rows(rt, ROWS_OF_SIZES);
 }
 
 // Each modulus has as many checked forms as values.
@@ -74,12 +98,13 @@ fn forms_of_every_modulus() {
 #[test]
 fn operations_on_bytes() {
     let rt = crate::runtime::HostRuntime;
+    let rt = &rt;
     for m in [1u8, 2, 3, 21, 127, 128, 129, 255] {
         assert!(m > 0);
         let ring = PreMulInv2by1::<u8>::new(m);
         for a in 0..=255u8 {
             for b in 0..=255u8 {
-                assert_at(&rt, agree(&ring, m, a, b), &(a, b, m));
+                assert_at(rt, agree(&ring, m, a, b), &(a, b, m));
             }
         }
     }

@@ -1,7 +1,7 @@
-//! Each call of `Reducer`, through its bound, on the plain reducer of each width.
+//! Each call of `Reducer`, through its bound, on the plain reducer of each width, and the ring laws.
 
 use crate::reducer_tests::tests::assert_at;
-use crate::reducer_tests::tests::residues::inverse_residue;
+use crate::reducer_tests::tests::residues::{Call, Row, is_right_modulo};
 use num_modular::modular_prim::plain_word::PlainWord;
 use num_modular::modular_reduced::laws::{
     negative_cancels, products_associate, products_commute, products_distribute, residue_by_form,
@@ -11,168 +11,108 @@ use num_modular::modular_reduced::power::pow_counted;
 use num_modular::modular_reduced::reducer::Reducer;
 use num_modular::modular_reduced::vanilla::Vanilla;
 use num_modular::modular_word::ring_word::RingWord;
+use crate::runtime::Abort;
 
-// The residues of a sum, of one in place, and of a double.
-fn added<T: RingWord, R: Reducer<T>>(r: &R, a: T, b: T) -> [T; 3] {
-    let f = r.transform(a);
-    let g = r.transform(b);
-    let mut sum = f;
-    r.add_in_place(&mut sum, &g);
-    [
-        r.residue(r.add(&f, &g)),
-        r.residue(sum),
-        r.residue(r.dbl(f)),
-    ]
+// Whether the row is right of the reducer of its modulus. Generic in the word, as each call with a known reducer takes
+// long to prove.
+fn is_right_row<T: PlainWord>(row: &(T, Row<T>)) -> bool {
+    let m = row.0;
+    !m.is_zero_word() && is_right_modulo(&Vanilla::<T>::new(&m), row)
 }
 
-// The residues of a difference, of one in place, of a negative, and of a difference times a factor.
-fn subtracted<T: RingWord, R: Reducer<T>>(r: &R, a: T, b: T) -> [T; 4] {
-    let f = r.transform(a);
-    let g = r.transform(b);
-    let mut difference = f;
-    r.sub_in_place(&mut difference, &g);
-    [
-        r.residue(r.sub(&f, &g)),
-        r.residue(difference),
-        r.residue(r.neg(f)),
-        r.residue(r.mul_difference(&f, &g, &f)),
-    ]
-}
-
-// The residues of a product, of one in place, of a square and of a power.
-fn multiplied<T: RingWord, R: Reducer<T>>(r: &R, a: T, b: T, exp: T) -> [T; 4] {
-    let f = r.transform(a);
-    let g = r.transform(b);
-    let mut product = f;
-    r.mul_in_place(&mut product, &g);
-    [
-        r.residue(r.mul(&f, &g)),
-        r.residue(product),
-        r.residue(r.sqr(f)),
-        r.residue(r.pow(f, &exp)),
-    ]
-}
-
-// Whether a form and the modulus are forms, and whether a form and a difference of equal forms are 0.
-fn tests<T: RingWord, R: Reducer<T>>(r: &R, a: T, m: T) -> [bool; 4] {
-    let f = r.transform(a);
-    [
-        r.check(&f),
-        r.check(&m),
-        r.is_zero(&f),
-        r.is_zero(&r.sub(&f, &f)),
-    ]
-}
-
-// The residues that each call returns for a and b, the inverse of each, and the tests.
-type Answers<T> = ([T; 3], [T; 4], [T; 4], [Option<T>; 2], [bool; 4]);
-
-fn exercise<T: RingWord, R: Reducer<T>>(r: &R, m: T, a: T, b: T, exp: T) -> Answers<T> {
-    (
-        added(r, a, b),
-        subtracted(r, a, b),
-        multiplied(r, a, b, exp),
-        [inverse_residue(r, a), inverse_residue(r, b)],
-        tests(r, a, m),
-    )
-}
-
-// The modulus, two numbers, an exponent, and what the calls return.
-type Row<T> = (T, T, T, T, Answers<T>);
-
-// Whether the reducer of the row's modulus has this modulus, and its calls return this.
-fn is_right<T: PlainWord>(row: Row<T>) -> bool {
-    let (m, a, b, exp, want) = row;
-    if m.is_zero_word() {
-        return false;
+fn assert_rows<T: PlainWord>(rt: &impl Abort, rows: &[(T, Row<T>)]) {
+    for i in 0..rows.len() {
+        assert_at(rt, is_right_row(&rows[i]), &i);
     }
-    let ring = Vanilla::<T>::new(&m);
-    ring.modulus() == m && exercise(&ring, m, a, b, exp) == want
 }
 
+// Rows: the modulus, and a question with what is right.
 macro_rules! at_greatest_modulus {
     ($word:ty) => {
-        (
-            <$word>::MAX,
-            <$word>::MAX - 1,
-            <$word>::MAX - 2,
-            3,
-            (
-                [<$word>::MAX - 3, <$word>::MAX - 3, <$word>::MAX - 2],
-                [1, 1, 1, <$word>::MAX - 1],
-                [2, 2, 1, <$word>::MAX - 1],
-                [Some(<$word>::MAX - 1), Some(<$word>::MAX / 2)],
-                [true, false, false, true],
-            ),
-        )
+        &[
+            (<$word>::MAX, Row::Residue(Call::Sum, (<$word>::MAX - 1, <$word>::MAX - 2), <$word>::MAX - 3)),
+            (<$word>::MAX, Row::Residue(Call::SumInPlace, (<$word>::MAX - 1, <$word>::MAX - 2), <$word>::MAX - 3)),
+            (<$word>::MAX, Row::Residue(Call::Double, (<$word>::MAX - 1, 0), <$word>::MAX - 2)),
+            (<$word>::MAX, Row::Residue(Call::Difference, (<$word>::MAX - 1, <$word>::MAX - 2), 1)),
+            (<$word>::MAX, Row::Residue(Call::DifferenceInPlace, (<$word>::MAX - 1, <$word>::MAX - 2), 1)),
+            (<$word>::MAX, Row::Residue(Call::Negative, (<$word>::MAX - 1, 0), 1)),
+            (<$word>::MAX, Row::Residue(Call::DifferenceTimesFirst, (<$word>::MAX - 1, <$word>::MAX - 2), <$word>::MAX - 1)),
+            (<$word>::MAX, Row::Residue(Call::Product, (<$word>::MAX - 1, <$word>::MAX - 2), 2)),
+            (<$word>::MAX, Row::Residue(Call::ProductInPlace, (<$word>::MAX - 1, <$word>::MAX - 2), 2)),
+            (<$word>::MAX, Row::Residue(Call::Square, (<$word>::MAX - 1, 0), 1)),
+            (<$word>::MAX, Row::Residue(Call::Power, (<$word>::MAX - 1, 3), <$word>::MAX - 1)),
+            (<$word>::MAX, Row::InverseResidue(<$word>::MAX - 1, Some(<$word>::MAX - 1))),
+            (<$word>::MAX, Row::InverseResidue(<$word>::MAX - 2, Some(<$word>::MAX / 2))),
+            (<$word>::MAX, Row::Check(<$word>::MAX - 1, true)),
+            (<$word>::MAX, Row::Check(<$word>::MAX, false)),
+            (<$word>::MAX, Row::IsZero(Call::Load, (<$word>::MAX - 1, 0), false)),
+            (<$word>::MAX, Row::IsZero(Call::Difference, (<$word>::MAX - 1, <$word>::MAX - 1), true)),
+        ]
     };
 }
 
-const ROWS_OF_8_BITS: [Row<u8>; 3] = [
-    at_greatest_modulus!(u8),
-    // 7 has no inverse
-    (
-        21,
-        26,
-        7,
-        0,
-        (
-            [12, 12, 10],
-            [19, 19, 16, 11],
-            [14, 14, 4, 1],
-            [Some(17), None],
-            [true, false, false, true],
-        ),
-    ),
-    (
-        1,
-        255,
-        0,
-        0,
-        (
-            [0; 3],
-            [0; 4],
-            [0; 4],
-            [Some(0); 2],
-            [true, false, true, true],
-        ),
-    ),
+const GREATEST_OF_8_BITS: &[(u8, Row<u8>)] = at_greatest_modulus!(u8);
+
+const GREATEST_OF_16_BITS: &[(u16, Row<u16>)] = at_greatest_modulus!(u16);
+
+const GREATEST_OF_32_BITS: &[(u32, Row<u32>)] = at_greatest_modulus!(u32);
+
+const GREATEST_OF_64_BITS: &[(u64, Row<u64>)] = at_greatest_modulus!(u64);
+
+const GREATEST_SIZE: &[(usize, Row<usize>)] = at_greatest_modulus!(usize);
+
+// 7 has no inverse.
+const MODULO_21: &[(u8, Row<u8>)] = &[
+    (21, Row::Residue(Call::Sum, (26, 7), 12)),
+    (21, Row::Residue(Call::SumInPlace, (26, 7), 12)),
+    (21, Row::Residue(Call::Double, (26, 0), 10)),
+    (21, Row::Residue(Call::Difference, (26, 7), 19)),
+    (21, Row::Residue(Call::DifferenceInPlace, (26, 7), 19)),
+    (21, Row::Residue(Call::Negative, (26, 0), 16)),
+    (21, Row::Residue(Call::DifferenceTimesFirst, (26, 7), 11)),
+    (21, Row::Residue(Call::Product, (26, 7), 14)),
+    (21, Row::Residue(Call::ProductInPlace, (26, 7), 14)),
+    (21, Row::Residue(Call::Square, (26, 0), 4)),
+    (21, Row::Residue(Call::Power, (26, 0), 1)),
+    (21, Row::InverseResidue(26, Some(17))),
+    (21, Row::InverseResidue(7, None)),
+    (21, Row::Check(5, true)),
+    (21, Row::Check(21, false)),
+    (21, Row::IsZero(Call::Load, (26, 0), false)),
+    (21, Row::IsZero(Call::Difference, (26, 26), true)),
+];
+
+const MODULO_1: &[(u8, Row<u8>)] = &[
+    (1, Row::Residue(Call::Sum, (255, 0), 0)),
+    (1, Row::Residue(Call::SumInPlace, (255, 0), 0)),
+    (1, Row::Residue(Call::Double, (255, 0), 0)),
+    (1, Row::Residue(Call::Difference, (255, 0), 0)),
+    (1, Row::Residue(Call::DifferenceInPlace, (255, 0), 0)),
+    (1, Row::Residue(Call::Negative, (255, 0), 0)),
+    (1, Row::Residue(Call::DifferenceTimesFirst, (255, 0), 0)),
+    (1, Row::Residue(Call::Product, (255, 0), 0)),
+    (1, Row::Residue(Call::ProductInPlace, (255, 0), 0)),
+    (1, Row::Residue(Call::Square, (255, 0), 0)),
+    (1, Row::Residue(Call::Power, (255, 0), 0)),
+    (1, Row::InverseResidue(255, Some(0))),
+    (1, Row::InverseResidue(0, Some(0))),
+    (1, Row::Check(0, true)),
+    (1, Row::Check(1, false)),
+    (1, Row::IsZero(Call::Load, (255, 0), true)),
+    (1, Row::IsZero(Call::Difference, (255, 255), true)),
 ];
 
 #[test]
 fn rows_at_each_width() {
     let rt = crate::runtime::HostRuntime;
     let rt = &rt;
-    for row in ROWS_OF_8_BITS {
-        check!(rt, 1; is_right(row));
-    }
-    check!(rt, 2; is_right(at_greatest_modulus!(u16)));
-    check!(rt, 3; is_right(at_greatest_modulus!(u32)));
-    check!(rt, 4; is_right(at_greatest_modulus!(u64)));
-    check!(rt, 5; is_right(at_greatest_modulus!(usize)));
-}
-
-// An exponent, the power of 5 modulo 21 and the number of products.
-const COUNTED_POWERS: &[(u8, u8, u32)] = &[
-    (0, 1, 0),
-    (1, 5, 0),
-    (2, 4, 1),
-    (3, 20, 4),
-    (4, 16, 4),
-    (255, 20, 16),
-];
-
-fn counted_power<T: RingWord, R: Reducer<T>>(r: &R, a: T, exp: T) -> (T, u32) {
-    pow_counted(r, r.transform(a), &exp)
-}
-
-#[test]
-fn products_counted() {
-    let rt = crate::runtime::HostRuntime;
-    let r = Vanilla::<u8>::new(&21);
-    for &(exp, power, count) in COUNTED_POWERS {
-        assert_at(&rt, counted_power(&r, 5, exp) == (power, count), &exp);
-    }
+    assert_rows(rt, GREATEST_OF_8_BITS);
+    assert_rows(rt, MODULO_21);
+    assert_rows(rt, MODULO_1);
+    assert_rows(rt, GREATEST_OF_16_BITS);
+    assert_rows(rt, GREATEST_OF_32_BITS);
+    assert_rows(rt, GREATEST_OF_64_BITS);
+    assert_rows(rt, GREATEST_SIZE);
 }
 
 // Both sides of the laws of sums.
@@ -204,13 +144,34 @@ fn same<T: RingWord, R: Reducer<T>>(r: &R, x: T, y: T) -> bool {
     same_value(r, r.transform(x), r.transform(y))
 }
 
+// An exponent, the power of 5 modulo 21 and the number of products.
+const COUNTED_POWERS: &[(u8, u8, u32)] = &[
+    (0, 1, 0),
+    (1, 5, 0),
+    (2, 4, 1),
+    (3, 20, 4),
+    (4, 16, 4),
+    (255, 20, 16),
+];
+
+fn counted_power<T: RingWord, R: Reducer<T>>(r: &R, a: T, exp: T) -> (T, u32) {
+    pow_counted(r, r.transform(a), &exp)
+}
+
+// What is asked of the reducer of 21; generic in it, as each call with a known reducer takes long to prove.
+fn assert_laws_and_counts<R: Reducer<u8> + Copy>(rt: &impl Abort) {
+    let r = &R::new(&21);
+    check!(rt, 1; laws_of_sums(r, 20, 5, 19) == [(4, 4), (2, 2), (16, 0)]);
+    check!(rt, 2; laws_of_products(r, 20, 5, 19) == [(16, 16), (10, 10), (18, 18)]);
+    check!(rt, 3; residue_by_form(r, 255) == 3);
+    check!(rt, 4; same(r, 5, 5) && !same(r, 5, 6));
+    for &(exp, power, count) in COUNTED_POWERS {
+        assert_at(rt, counted_power(r, 5, exp) == (power, count), &exp);
+    }
+}
+
 #[test]
-fn laws() {
+fn laws_and_counts() {
     let rt = crate::runtime::HostRuntime;
-    let rt = &rt;
-    let r = Vanilla::<u8>::new(&21);
-    check!(rt, 1; laws_of_sums(&r, 20, 5, 19) == [(4, 4), (2, 2), (16, 0)]);
-    check!(rt, 2; laws_of_products(&r, 20, 5, 19) == [(16, 16), (10, 10), (18, 18)]);
-    check!(rt, 3; residue_by_form(&r, 255) == 3);
-    check!(rt, 4; same(&r, 5, 5) && !same(&r, 5, 6));
+    assert_laws_and_counts::<Vanilla<u8>>(&rt);
 }
