@@ -19,6 +19,7 @@ mod plan_callers;
 mod plan_rows;
 mod plans;
 mod products;
+mod questions;
 mod reducers;
 mod reversals;
 mod roots;

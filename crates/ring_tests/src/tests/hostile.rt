@@ -1,9 +1,8 @@
 //! Commands at the edges of a byte's moduli, with the forms that each reducer leaves.
 
 use super::assert_at;
-use super::runs::{Row, is_right, leaves};
+use super::runs::{Row, is_right};
 use num_modular::ring::{RingCommand, RunEnd};
-use num_modular::{FixedMontgomery32, FixedTrinomialSolinas32, Reducer, Vanilla};
 
 #[rattlefmt::skip]
 const MODULO_1: [RingCommand<u8>; 5] = [
@@ -58,6 +57,8 @@ const ROWS: &[Row<5>] = &[
         scaled: [40, 8, 40, 32, 8], montgomery: [20, 4, 20, 16, 4] },
     Row { m: 21, commands: &MISSING_INVERSE, end: RunEnd::NoInverse { at: 1 }, residues: [3, 0, 0, 0, 0],
         scaled: [24, 0, 0, 0, 0], montgomery: [12, 0, 0, 0, 0] },
+    // the empty list
+    Row { m: 21, commands: &[], end: RunEnd::Done, residues: [0; 5], scaled: [0; 5], montgomery: [0; 5] },
 ];
 
 #[test]
@@ -65,29 +66,4 @@ fn each_reducer_leaves_its_forms(rt: HostRuntime) {
     for row in ROWS {
         assert_at(&rt, is_right(row), &row.m);
     }
-}
-
-// 255, its inverse, its powers 0 and 1, and its negative.
-#[rattlefmt::skip]
-const OF_255: [RingCommand<u32>; 5] = [
-    RingCommand::Load { dst: 0, n: 255 },
-    RingCommand::Inv { dst: 1, a: 0 },
-    RingCommand::Pow { dst: 2, a: 0, exp: 0 },
-    RingCommand::Pow { dst: 3, a: 0, exp: 1 },
-    RingCommand::Neg { dst: 4, a: 0 },
-];
-
-// Whether they leave zeros by the reducer of m.
-fn leave_zeros<R: Reducer<u32> + Copy>(m: u32) -> bool
-    requires { R.admits m }
-{
-    leaves::<u32, R, 5>(m, &OF_255, RunEnd::Done, [0; 5], [0; 5])
-}
-
-#[test]
-fn fixed_reducers_modulo_1(rt: HostRuntime) {
-    let rt = &rt;
-    check!(rt, 1; leave_zeros::<FixedMontgomery32<1>>(1));
-    check!(rt, 2; leave_zeros::<FixedTrinomialSolinas32<2, 1, -1>>(1));
-    check!(rt, 3; leave_zeros::<Vanilla<u32>>(1));
 }

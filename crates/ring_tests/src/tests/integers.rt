@@ -1,130 +1,95 @@
 //! Integers of a ring, and powers with their count.
 
-use super::assert_at;
+use super::assert_right;
+use super::questions::{Question, first_wrong};
 use num_modular::reduced::pow_counted;
 use num_modular::word::RingWord;
-use num_modular::{
-    FixedMersenneInt, FixedMersenneInt32, FixedMersenneInt64, FixedMontgomeryInt32,
-    FixedMontgomeryInt64, FixedProthInt32, FixedProthInt64, FixedSolinasInt32, FixedSolinasInt64,
-    ModularAbs, ModularInteger, MontgomeryInt, ReducedInt, Reducer, Vanilla, VanillaInt, imax,
-    umax,
-};
+use num_modular::{ModularAbs, ModularInteger, ReducedInt, Reducer, imax};
 
-// The residue of a sum of an integer and a word.
-fn sum<T: RingWord, R: Reducer<T> + Copy>(a: ReducedInt<T, R>, n: T) -> T {
-    (a + n).residue()
+/// What an integer x modulo m returns with a word n: the residues of x, x + n, x - n, x * n, -x, 2 * x, the square, and
+/// the power n; whether x has an inverse, and whether it is 0.
+#[derive(Drop)]
+pub struct Integer<T> {
+    pub m: T,
+    pub x: T,
+    pub n: T,
+    pub residues: [T; 8],
+    pub tests: [bool; 2],
 }
 
-// The residue of their product.
-fn product<T: RingWord, R: Reducer<T> + Copy>(a: ReducedInt<T, R>, n: T) -> T {
-    (a * n).residue()
+// The residues of a sum, a difference and a product with a word.
+fn with_a_word<T: RingWord, R: Reducer<T> + Copy>(a: ReducedInt<T, R>, n: T) -> [T; 3] {
+    [(a + n).residue(), (a - n).residue(), (a * n).residue()]
 }
 
-// The residues of an integer's double and of its square.
-fn multiples<T: RingWord, R: Reducer<T> + Copy>(a: ReducedInt<T, R>) -> [T; 2] {
-    [a.double().residue(), a.square().residue()]
+// The residues that an integer returns.
+fn residues<T: RingWord, R: Reducer<T> + Copy>(a: ReducedInt<T, R>, n: T) -> [T; 8] {
+    let found = with_a_word(a, n);
+    [
+        a.residue(),
+        found[0],
+        found[1],
+        found[2],
+        (-a).residue(),
+        a.double().residue(),
+        a.square().residue(),
+        a.pow(&n).residue(),
+    ]
 }
 
-// The modulus of an integer.
-fn modulus<T: RingWord, R: Reducer<T> + Copy>(a: ReducedInt<T, R>) -> T {
-    a.modulus()
+impl<T: RingWord> Question<T> for Integer<T> {
+    type Answer = bool;
+
+    fn modulus(&self) -> T {
+        self.m
+    }
+
+    // Whether the integer returns these, its modulus and its form, and equals the integer of its residue.
+    fn answer<R: Reducer<T> + Copy>(&self, m: T) -> bool {
+        let a = ReducedInt::<T, R>::new(self.x, &m);
+        residues(a, self.n) == self.residues
+            && [a.inv().is_some(), a.is_zero()] == self.tests
+            && a.modulus() == m
+            && *a.repr() == R::new(&m).transform(self.x)
+            && a == a.convert(self.residues[0])
+    }
 }
 
-// What the form, the residue and the modulus of an integer are, and whether it is the integer of a word.
-fn parts<T: RingWord, R: Reducer<T> + Copy>(a: ReducedInt<T, R>, n: T) -> ([T; 3], bool) {
-    ([*a.repr(), a.residue(), a.modulus()], a == a.convert(n))
+// An exponent, and how many products its power takes, here of 3 modulo 97.
+struct Power {
+    exp: u64,
+    products: u32,
 }
 
-// The residue of a power, whether there is an inverse, and whether the integer is 0.
-fn tests<T: RingWord, R: Reducer<T> + Copy>(a: ReducedInt<T, R>, exp: T) -> (T, bool, bool) {
-    (a.pow(&exp).residue(), a.inv().is_some(), a.is_zero())
+impl Question<u64> for Power {
+    type Answer = bool;
+
+    fn modulus(&self) -> u64 {
+        97
+    }
+
+    fn answer<R: Reducer<u64> + Copy>(&self, m: u64) -> bool {
+        let reducer = &R::new(&m);
+        pow_counted(reducer, reducer.transform(3), &self.exp).1 == self.products
+    }
 }
 
-#[test]
-fn integers_by_plain_reduction(rt: HostRuntime) {
-    let a = VanillaInt::<u8>::new(255, &21);
-    let found = (parts(a, 3), multiples(a), tests(a, 3));
-    check!(&rt, 1; found == (([3, 3, 21], true), [6, 9], (6, false, false)));
-}
-
-// The residues of a difference and of a negative.
-fn difference<T: RingWord, R: Reducer<T> + Copy>(a: ReducedInt<T, R>, n: T) -> [T; 2] {
-    [(a - n).residue(), (-a).residue()]
-}
-
-#[test]
-fn integers_by_montgomery_forms(rt: HostRuntime) {
-    let rt = &rt;
-    check!(rt, 1; sum(MontgomeryInt::<u8>::new(5, &11), 6) == 0);
-    let x = MontgomeryInt::<u8>::new(12, &5);
-    let even = MontgomeryInt::<u8>::new(7, &20);
-    let found = (product(x, 13), difference(x, 3), product(even, 9));
-    check!(rt, 2; found == (1, [4, 3], 3));
-}
-
-#[test]
-fn integers_of_fixed_montgomery_forms(rt: HostRuntime) {
-    let rt = &rt;
-    let x = FixedMontgomeryInt32::<17>::new(3, &17);
-    check!(rt, 1; (product(x, 5), modulus(x)) == (15, 17));
-    let x = FixedMontgomeryInt64::<97>::new(10, &97);
-    check!(rt, 2; product(x, 20) == 6);
-}
-
-#[test]
-fn integers_modulo_proth_numbers(rt: HostRuntime) {
-    let rt = &rt;
-    let x = FixedProthInt32::<4, 1>::new(3, &17);
-    check!(rt, 1; (sum(x, 5), product(x, 5)) == (8, 15));
-    let x = FixedProthInt64::<5, 3>::new(10, &97);
-    check!(rt, 2; product(x, 20) == 6);
-}
-
-#[test]
-fn integers_modulo_mersenne_numbers(rt: HostRuntime) {
-    let a = FixedMersenneInt32::<13, 1>::new(100, &8191);
-    check!(&rt, 1; (sum(a, 200), modulus(a)) == (300, 8191));
-}
-
-#[test]
-fn integers_modulo_wide_mersenne_numbers(rt: HostRuntime) {
-    let rt = &rt;
-    let a = FixedMersenneInt64::<61, 1>::new(1000, &2305843009213693951);
-    check!(rt, 1; product(a, 2000) == 2000000);
-    let a = FixedMersenneInt::<31, 1>::new(1000, &2147483647);
-    check!(rt, 2; product(a, 2000) == 2000000);
-    let m: umax = 18446744073709551557;
-    let a = FixedMersenneInt::<64, 59>::new(m - 1, &m);
-    let found = (multiples(a)[1], imax::MIN.absm(&7));
-    check!(rt, 3; found == (1, 5));
-}
-
-#[test]
-fn integers_modulo_solinas_numbers(rt: HostRuntime) {
-    let rt = &rt;
-    let a = FixedSolinasInt32::<4, 2, 1>::new(3, &13);
-    check!(rt, 1; (sum(a, 5), modulus(a)) == (8, 13));
-    let a = FixedSolinasInt64::<6, 2, 1>::new(10, &61);
-    check!(rt, 2; product(a, 20) == 17);
-}
-
-#[test]
-fn integers_modulo_a_solinas_number_of_64_bits(rt: HostRuntime) {
-    let rt = &rt;
-    let m = 18446744069414584321;
-    let a = FixedSolinasInt64::<64, 32, 1>::new(m - 1, &m);
-    check!(rt, 1; sum(a, m - 2) == 18446744069414584318);
-    check!(rt, 2; multiples(a) == [18446744069414584319, 1]);
-}
-
-fn count_of<R: Reducer<u64>>(reducer: &R, exp: u64) -> u32 {
-    pow_counted(reducer, reducer.transform(3), &exp).1
-}
+#[rattlefmt::skip]
+const POWERS: &[Power] = &[
+    Power { exp: 0, products: 0 },
+    Power { exp: 1, products: 0 },
+    Power { exp: 2, products: 1 },
+    Power { exp: 3, products: 4 },
+    Power { exp: 4, products: 4 },
+    Power { exp: 255, products: 16 },
+];
 
 #[test]
 fn products_of_a_power(rt: HostRuntime) {
-    let reducer = Vanilla::<u64>::new(&97);
-    for (exp, products) in [(0, 0), (1, 0), (2, 1), (3, 4), (4, 4), (255, 16)] {
-        assert_at(&rt, count_of(&reducer, exp) == products, &exp);
-    }
+    assert_right(&rt, first_wrong(POWERS));
+}
+
+#[test]
+fn the_least_number(rt: HostRuntime) {
+    check!(&rt, 1; imax::MIN.absm(&7) == 5);
 }

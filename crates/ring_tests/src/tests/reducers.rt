@@ -1,11 +1,12 @@
 //! The same commands over each reducer.
 
-use super::assert_at;
 use super::commands::STOPPING;
+use super::questions::{Question, answers, first_wrong};
 use super::runs::{Row, is_right, run_over};
+use super::{assert_at, assert_right};
+use num_modular::Reducer;
 use num_modular::ring::{RingCommand, RunEnd};
 use num_modular::word::RingWord;
-use num_modular::{Montgomery, PreMulInv2by1, Reducer, Vanilla};
 
 // Every command; a run ends where an inverse doesn't exist.
 fn commands<T: RingWord>(x: T, y: T, exp: T) -> [RingCommand<T>; 12] {
@@ -25,24 +26,34 @@ fn commands<T: RingWord>(x: T, y: T, exp: T) -> [RingCommand<T>; 12] {
     ]
 }
 
-// The end of a run over three registers of value 0 by the reducer of m, and their residues after it.
-fn run_of_three<T: RingWord, R: Reducer<T> + Copy>(
+// Commands over three registers of value 0.
+#[derive(Drop)]
+struct Run<'a, T> {
     m: T,
-    commands: &[RingCommand<T>],
-) -> (Option<RunEnd>, [T; 3])
-    requires { R.admits (T.number m) }
-{
-    run_over(&R::new(&m), commands)
+    commands: &'a [RingCommand<T>],
+}
+
+impl<'a, T: RingWord> Question<T> for Run<'a, T> {
+    // The end, and the residues after it.
+    type Answer = (Option<RunEnd>, [T; 3]);
+
+    fn modulus(&self) -> T {
+        self.m
+    }
+
+    fn answer<R: Reducer<T> + Copy>(&self, m: T) -> (Option<RunEnd>, [T; 3]) {
+        run_over(&R::new(&m), self.commands)
+    }
 }
 
 #[test]
 fn the_three_reducers_end_alike_with_equal_residues(rt: HostRuntime) {
-    let commands = commands(201, 254, 77);
+    let commands = &commands(201, 254, 77);
     for m in 1..=255u8 {
-        let want = run_of_three::<u8, Vanilla<u8>>(m, &commands);
-        let scaled = run_of_three::<u8, PreMulInv2by1<u8>>(m, &commands);
-        let split = run_of_three::<u8, Montgomery<u8>>(m, &commands);
-        let is_same = want.0.is_some() && scaled == want && split == want;
+        let is_same = match answers(&Run { m, commands }) {
+            Some(found) => found[0].0.is_some() && found[1] == found[0] && found[2] == found[0],
+            None => false,
+        };
         assert_at(&rt, is_same, &m);
     }
 }
@@ -52,17 +63,16 @@ const LARGE_EVEN: &[u64] = &[9223372036854775808, 18446744073709551614, 65970697
 
 #[test]
 fn they_end_alike_for_large_even_moduli(rt: HostRuntime) {
-    let commands = commands(
+    let commands = &commands(
         81985529216486896,
         18364758544493064721,
         12297829382473034411,
     );
     for &m in LARGE_EVEN {
-        assert!(rt; m > 0);
-        let want = run_of_three::<u64, Vanilla<u64>>(m, &commands);
-        let scaled = run_of_three::<u64, PreMulInv2by1<u64>>(m, &commands);
-        let split = run_of_three::<u64, Montgomery<u64>>(m, &commands);
-        let is_same = want.0.is_some() && scaled == want && split == want;
+        let is_same = match answers(&Run { m, commands }) {
+            Some(found) => found[0].0.is_some() && found[1] == found[0] && found[2] == found[0],
+            None => false,
+        };
         assert_at(&rt, is_same, &m);
     }
 }
@@ -111,16 +121,6 @@ fn differences<R: Reducer<u8>>(reducer: &R, a: u8, b: u8) -> [u8; 2] {
     ]
 }
 
-// The residue of (a - b) * a by the reducer of m.
-fn product_of_difference<T: RingWord, R: Reducer<T> + Copy>(m: T, a: T, b: T) -> T
-    requires { R.admits (T.number m) }
-{
-    let reducer = &R::new(&m);
-    let f = reducer.transform(a);
-    let g = reducer.transform(b);
-    reducer.residue(reducer.mul_difference(&f, &g, &f))
-}
-
 // The residue of a * b, as a result and in place.
 fn products<R: Reducer<u8>>(reducer: &R, a: u8, b: u8) -> [u8; 2] {
     let f = reducer.transform(a);
@@ -163,31 +163,78 @@ fn tests_of_calls<R: Reducer<u8>>(reducer: &R, a: u8) -> (bool, bool, bool) {
     )
 }
 
-// Whether a reducer modulo 21 returns the residues of the calls for 5 and 7, these tests of a, and 21.
-fn returns<R: Reducer<u8>>(reducer: &R, a: u8, tests: (bool, bool, bool)) -> bool {
-    let residues = ([[12, 12], [19, 19], [14, 14]], [10, 16, 4, 20]);
-    residues_of_calls(reducer, 5, 7) == residues
-        && tests_of_calls(reducer, a) == tests
-        && reducer.modulus() == 21
+// A number, and what its tests return modulo 21: whether its form is checked, is 0 and has an inverse.
+struct Calls {
+    a: u8,
+    tests: (bool, bool, bool),
 }
+
+impl Question<u8> for Calls {
+    type Answer = bool;
+
+    fn modulus(&self) -> u8 {
+        21
+    }
+
+    // Whether they do, the other calls return these residues for 5 and 7, and the modulus is 21.
+    fn answer<R: Reducer<u8> + Copy>(&self, m: u8) -> bool {
+        let reducer = &R::new(&m);
+        let residues = ([[12, 12], [19, 19], [14, 14]], [10, 16, 4, 20]);
+        residues_of_calls(reducer, 5, 7) == residues
+            && tests_of_calls(reducer, self.a) == self.tests
+            && reducer.modulus() == 21
+    }
+}
+
+#[rattlefmt::skip]
+const CALLS: &[Calls] = &[
+    Calls { a: 21, tests: (true, true, false) },
+    Calls { a: 5, tests: (true, false, true) },
+    Calls { a: 7, tests: (true, false, false) },
+];
 
 #[test]
 fn each_call_of_a_reducer(rt: HostRuntime) {
-    let rt = &rt;
-    let plain = num_modular::reduced::Vanilla::<u8>::new(&21);
-    check!(rt, 1; returns(&plain, 21, (true, true, false)));
-    let scaled = num_modular::barrett::PreMulInv2by1::<u8>::new(21);
-    check!(rt, 2; returns(&scaled, 5, (true, false, true)));
-    let odd = num_modular::monty::Montgomery::<u8>::new(21);
-    check!(rt, 3; returns(&odd, 7, (true, false, false)));
+    assert_right(&rt, first_wrong(CALLS));
 }
+
+// A modulus, two numbers, and the residue of their difference times the first.
+struct Difference<T> {
+    m: T,
+    a: T,
+    b: T,
+    product: T,
+}
+
+impl<T: RingWord> Question<T> for Difference<T> {
+    type Answer = bool;
+
+    fn modulus(&self) -> T {
+        self.m
+    }
+
+    fn answer<R: Reducer<T> + Copy>(&self, m: T) -> bool {
+        let reducer = &R::new(&m);
+        let f = reducer.transform(self.a);
+        let g = reducer.transform(self.b);
+        reducer.residue(reducer.mul_difference(&f, &g, &f)) == self.product
+    }
+}
+
+#[rattlefmt::skip]
+const OF_BYTES: &[Difference<u8>] = &[
+    Difference { m: 21, a: 5, b: 7, product: 11 },
+    Difference { m: 20, a: 5, b: 7, product: 10 },
+];
+
+#[rattlefmt::skip]
+const OF_64_BITS: &[Difference<u64>] = &[
+    Difference { m: u64::MAX, a: 5, b: 7, product: u64::MAX - 10 },
+    Difference { m: u64::MAX, a: 7, b: 5, product: 14 },
+];
 
 #[test]
 fn a_difference_times_a_factor(rt: HostRuntime) {
-    let rt = &rt;
-    check!(rt, 1; product_of_difference::<u8, PreMulInv2by1<u8>>(21, 5, 7) == 11);
-    check!(rt, 2; product_of_difference::<u8, Montgomery<u8>>(21, 5, 7) == 11);
-    check!(rt, 3; product_of_difference::<u8, Montgomery<u8>>(20, 5, 7) == 10);
-    check!(rt, 4; product_of_difference::<u64, Montgomery<u64>>(u64::MAX, 5, 7) == u64::MAX - 10);
-    check!(rt, 5; product_of_difference::<u64, Montgomery<u64>>(u64::MAX, 7, 5) == 14);
+    assert_right(&rt, first_wrong(OF_BYTES));
+    assert_right(&rt, first_wrong(OF_64_BITS));
 }

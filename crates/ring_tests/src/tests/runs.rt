@@ -1,8 +1,9 @@
 //! Runs over any reducer, and what they leave.
 
+use super::questions::{Question, answers};
+use num_modular::Reducer;
 use num_modular::ring::{RingCommand, RunEnd, all_checked, commands_fit, run};
 use num_modular::word::RingWord;
-use num_modular::{Montgomery, PreMulInv2by1, Reducer, Vanilla};
 
 /// The end of a run, where its conditions hold.
 pub fn run_checked<T: RingWord, R: Reducer<T>>(
@@ -60,35 +61,6 @@ pub fn ends_with<T: RingWord, R: Reducer<T>, const N: usize>(
     run_over(reducer, commands) == (Some(end), residues)
 }
 
-/// The same by the reducer of m.
-pub fn ends_modulo<T: RingWord, R: Reducer<T> + Copy, const N: usize>(
-    m: T,
-    commands: &[RingCommand<T>],
-    end: RunEnd,
-    residues: [T; N],
-) -> bool
-    requires { R.admits (T.number m) }
-{
-    ends_with(&R::new(&m), commands, end, residues)
-}
-
-/// Whether a run over registers of value 0, by the reducer of m, ends so, and leaves these residues and these forms.
-pub fn leaves<T: RingWord, R: Reducer<T> + Copy, const N: usize>(
-    m: T,
-    commands: &[RingCommand<T>],
-    end: RunEnd,
-    residues: [T; N],
-    forms: [T; N],
-) -> bool
-    requires { R.admits (T.number m) }
-{
-    let reducer = &R::new(&m);
-    let mut left = [T::zero(); N];
-    run_from_zeros(reducer, commands, &mut left) == Some(end)
-        && left == forms
-        && ends_with(reducer, commands, end, residues)
-}
-
 /// A run from zeros modulo m over each reducer: its commands, its end and the residues that it leaves, which are the
 /// forms of `Vanilla`; then the forms of `PreMulInv2by1` and of `Montgomery`.
 pub struct Row<'a, const N: usize> {
@@ -100,11 +72,36 @@ pub struct Row<'a, const N: usize> {
     pub montgomery: [u8; N],
 }
 
+impl<'a, const N: usize> Question<u8> for Row<'a, N> {
+    // The forms that the run leaves, where its end and the residues are the row's.
+    type Answer = Option<[u8; N]>;
+
+    fn modulus(&self) -> u8 {
+        self.m
+    }
+
+    fn answer<R: Reducer<u8> + Copy>(&self, m: u8) -> Option<[u8; N]> {
+        let reducer = &R::new(&m);
+        let mut registers = [0; N];
+        let end = run_from_zeros(reducer, self.commands, &mut registers);
+        let forms = registers;
+        take_residues(reducer, &mut registers);
+        if end == Some(self.end) && registers == self.residues {
+            Some(forms)
+        } else {
+            None
+        }
+    }
+}
+
 /// Whether the run over each of them is so.
 pub fn is_right<const N: usize>(row: &Row<N>) -> bool {
-    let m = row.m;
-    m > 0
-        && leaves::<u8, Vanilla<u8>, N>(m, row.commands, row.end, row.residues, row.residues)
-        && leaves::<u8, PreMulInv2by1<u8>, N>(m, row.commands, row.end, row.residues, row.scaled)
-        && leaves::<u8, Montgomery<u8>, N>(m, row.commands, row.end, row.residues, row.montgomery)
+    match answers(row) {
+        Some(forms) => {
+            forms[0] == Some(row.residues)
+                && forms[1] == Some(row.scaled)
+                && forms[2] == Some(row.montgomery)
+        }
+        None => false,
+    }
 }

@@ -18,6 +18,7 @@ mod plan_callers;
 mod plan_rows;
 mod plans;
 mod products;
+mod questions;
 mod reducers;
 mod reversals;
 mod roots;
