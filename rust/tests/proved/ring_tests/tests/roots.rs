@@ -1,76 +1,75 @@
 //! Roots that are found.
 
 use super::assert_right;
-use num_modular::modular_prim::plain_word::PlainWord;
-use num_modular::modular_reduced::reducer::Reducer;
-use num_modular::modular_reduced::vanilla::Vanilla;
+use super::questions::{Question, first_wrong};
 use num_modular::modular_transform::transform::root_fits;
-use num_modular::modular_word::ring_word::RingWord;
+use num_modular::Reducer;
 use num_modular::ring::find_root;
+use num_modular::word::RingWord;
 
-// The residue of the root that is found modulo m for n entries, where it suits.
-fn found<T: PlainWord>(m: T, n: usize) -> Option<T> {
-    if m.is_zero_word() {
-        return None;
-    }
-    let r = Vanilla::new(&m);
-    let g = find_root(&r, n)?;
-    if root_fits(&r, &g, n) {
-        Some(r.residue(g))
-    } else {
-        None
-    }
+// A modulus, a number of entries, and the root that is found for so many, if any.
+struct Root<T> {
+    m: T,
+    n: usize,
+    root: Option<T>,
 }
 
-// The place of the first row of a modulus, a number of entries and the root that isn't found so.
-fn first_wrong<T: PlainWord>(rows: &[(T, usize, Option<T>)]) -> Option<usize> {
-    for i in 0..rows.len() {
-        let &(m, n, root) = &rows[i];
-        if found(m, n) != root {
-            return Some(i);
+impl<T: RingWord> Question<T> for Root<T> {
+    type Answer = bool;
+
+    fn modulus(&self) -> T {
+        self.m
+    }
+
+    // Whether the root is found and suits.
+    fn answer<R: Reducer<T> + Copy>(&self, m: T) -> bool {
+        let r = &R::new(&m);
+        match find_root(r, self.n) {
+            Some(g) => root_fits(r, &g, self.n) && Some(r.residue(g)) == self.root,
+            None => self.root.is_none(),
         }
     }
-    None
 }
 
-const OF_KNOWN_PRIMES: &[(u64, usize, Option<u64>)] = &[
-    (18446744069414584321, 1 << 32, Some(1753635133440165772)),
-    (1152921092289986561, 1 << 32, Some(766934721172217520)),
-    (1152920989210771457, 1 << 32, Some(249746581664304925)),
+const OF_BYTES: &[Root<u8>] = &[
+    Root { m: 17, n: 16, root: Some(3) },
+    Root { m: 251, n: 2, root: Some(250) },
+    Root { m: 1, n: 1, root: Some(0) },
+    Root { m: 15, n: 2, root: Some(14) },
+    Root { m: 7, n: 4, root: None },
+];
+
+const OF_16_BITS: &[Root<u16>] = &[
+    Root { m: 3329, n: 256, root: Some(3061) },
+    Root { m: 85, n: 4, root: Some(13) },
+];
+
+const OF_32_BITS: &[Root<u32>] = &[
+    Root { m: 8380417, n: 512, root: Some(6757063) },
+    Root { m: 20, n: 2, root: Some(19) },
+    Root { m: 13, n: 3, root: None },
+];
+
+const OF_64_BITS: &[Root<u64>] = &[
+    Root { m: 18446744069414584321, n: 1 << 32, root: Some(1753635133440165772) },
+    Root { m: 1152921092289986561, n: 1 << 32, root: Some(766934721172217520) },
+    Root { m: 1152920989210771457, n: 1 << 32, root: Some(249746581664304925) },
+    Root { m: 1, n: 2, root: Some(0) },
+    Root { m: 17, n: 32, root: None },
+    Root { m: 17, n: 0, root: None },
+];
+
+const OF_A_USIZE: &[Root<usize>] = &[
+    Root { m: 1152920933376196609, n: 1 << 32, root: Some(258783327117340409) },
 ];
 
 #[test]
-fn roots_of_known_primes() {
+fn roots_of_primes_and_other_moduli() {
     let rt = crate::runtime::HostRuntime;
-    assert_right(&rt, first_wrong(OF_KNOWN_PRIMES));
-    assert_right(&rt, first_wrong(&[(8380417_u32, 512, Some(6757063))]));
-    assert_right(&rt, first_wrong(&[(3329_u16, 256, Some(3061))]));
-    assert_right(
-        &rt,
-        first_wrong(&[(1152920933376196609_usize, 1 << 32, Some(258783327117340409))]),
-    );
-    assert_right(
-        &rt,
-        first_wrong(&[(17_u8, 16, Some(3)), (251_u8, 2, Some(250))]),
-    );
-}
-
-#[test]
-fn roots_of_other_moduli() {
-    let rt = crate::runtime::HostRuntime;
-    assert_right(
-        &rt,
-        first_wrong(&[(1_u8, 1, Some(0)), (15_u8, 2, Some(14))]),
-    );
-    assert_right(&rt, first_wrong(&[(1_u64, 2, Some(0))]));
-    assert_right(&rt, first_wrong(&[(20_u32, 2, Some(19))]));
-    assert_right(&rt, first_wrong(&[(85_u16, 4, Some(13))]));
-}
-
-#[test]
-fn no_roots() {
-    let rt = crate::runtime::HostRuntime;
-    assert_right(&rt, first_wrong(&[(7_u8, 4, None)]));
-    assert_right(&rt, first_wrong(&[(13_u32, 3, None)]));
-    assert_right(&rt, first_wrong(&[(17_u64, 32, None), (17_u64, 0, None)]));
+    let rt = &rt;
+    assert_right(rt, first_wrong(OF_BYTES));
+    assert_right(rt, first_wrong(OF_16_BITS));
+    assert_right(rt, first_wrong(OF_32_BITS));
+    assert_right(rt, first_wrong(OF_64_BITS));
+    assert_right(rt, first_wrong(OF_A_USIZE));
 }
