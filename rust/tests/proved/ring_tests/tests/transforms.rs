@@ -1,10 +1,11 @@
 //! Transforms and cyclic products over several reducers, known ones and beside their plain sums.
 
-use super::assert_at;
+use super::questions::{Question, answers, first_wrong};
+use super::{assert_at, assert_right};
 use num_modular::modular_transform::plain::{product_entry, suits, transform_entry};
 use num_modular::ring::{all_checked, convolve, ntt, ntt_counted, root_fits};
 use num_modular::word::RingWord;
-use num_modular::{FixedTrinomialSolinas64, Montgomery, PreMulInv2by1, Reducer, Vanilla};
+use num_modular::{FixedTrinomialSolinas64, Reducer};
 
 // Puts the forms of residues in their place.
 fn take_forms<T: RingWord, R: Reducer<T>>(r: &R, xs: &mut [T]) {
@@ -35,6 +36,18 @@ fn transformed<T: RingWord, R: Reducer<T>>(r: &R, xs: &mut [T], g: T) -> Option<
     }
 }
 
+// The same without the number.
+fn transformed_uncounted<T: RingWord, R: Reducer<T>>(r: &R, xs: &mut [T], g: T) -> bool {
+    take_forms(r, xs);
+    let root = r.transform(g);
+    if all_checked(r, xs) && root_fits(r, &root, xs.len()) {
+        ntt(r, xs, &root);
+        true
+    } else {
+        false
+    }
+}
+
 // The cyclic product of the forms of residues in their place; `None` where g doesn't suit.
 fn multiplied<T: RingWord, R: Reducer<T>>(r: &R, xs: &mut [T], ys: &mut [T], g: T) -> Option<bool> {
     take_forms(r, xs);
@@ -51,25 +64,36 @@ fn multiplied<T: RingWord, R: Reducer<T>>(r: &R, xs: &mut [T], ys: &mut [T], g: 
     }
 }
 
-// The number whose powers are asked for, the length, and whether it suits, modulo 21.
-const ROOTS: &[(u8, usize, bool)] = &[
-    (8, 2, false),
-    (20, 2, true),
-    (5, 1, true),
-    (20, 0, false),
-    (20, 3, false),
-];
+// A modulus, the number whose powers are asked for, the length, and whether it suits.
+struct Root {
+    m: u8,
+    g: u8,
+    n: usize,
+    suits: bool,
+}
 
-#[test]
-fn roots() {
-    let rt = crate::runtime::HostRuntime;
-    let r = Vanilla::<u8>::new(&21);
-    for row in ROOTS {
-        let &(g, n, fits) = row;
-        let found = [root_fits(&r, &r.transform(g), n), suits(21, g as u64, n)];
-        assert_at(&rt, found == [fits; 2], row);
+impl Question<u8> for Root {
+    type Answer = bool;
+
+    fn modulus(&self) -> u8 {
+        self.m
+    }
+
+    fn answer<R: Reducer<u8> + Copy>(&self, m: u8) -> bool {
+        let r = &R::new(&m);
+        root_fits(r, &r.transform(self.g), self.n) == self.suits
+            && m > 0
+            && suits(m as u64, self.g as u64, self.n) == self.suits
     }
 }
+
+const ROOTS: &[Root] = &[
+    Root { m: 21, g: 8, n: 2, suits: false },
+    Root { m: 21, g: 20, n: 2, suits: true },
+    Root { m: 21, g: 5, n: 1, suits: true },
+    Root { m: 21, g: 20, n: 0, suits: false },
+    Root { m: 21, g: 20, n: 3, suits: false },
+];
 
 // A modulus, a root, the residues of a list, how many products its transform takes, and the residues of that.
 struct Transform<'a> {
@@ -95,24 +119,23 @@ fn copied(list: &[u8]) -> [u8; 4] {
     room
 }
 
-// Whether the transform by the reducer of the modulus is the row's.
-fn transforms<R: Reducer<u8> + Copy>(m: u8, row: &Transform) -> bool {
-    let r = &R::new(&m);
-    let mut room = copied(row.list);
-    let xs = &mut room[..row.list.len().min(4)];
-    transformed(r, xs, row.root) == Some(row.products) && are_forms(r, xs, row.want)
-}
+impl<'a> Question<u8> for Transform<'a> {
+    type Answer = bool;
 
-#[test]
-fn known_transforms() {
-    let rt = crate::runtime::HostRuntime;
-    for row in TRANSFORMS {
-        let m = row.m;
-        let is_right = m > 0
-            && transforms::<Vanilla<u8>>(m, row)
-            && transforms::<PreMulInv2by1<u8>>(m, row)
-            && transforms::<Montgomery<u8>>(m, row);
-        assert_at(&rt, is_right, &m);
+    fn modulus(&self) -> u8 {
+        self.m
+    }
+
+    // Whether the transform takes so many products and is the row's, also where they aren't counted.
+    fn answer<R: Reducer<u8> + Copy>(&self, m: u8) -> bool {
+        let r = &R::new(&m);
+        let (mut counted, mut uncounted) = (copied(self.list), copied(self.list));
+        let xs = &mut counted[..self.list.len().min(4)];
+        let ys = &mut uncounted[..self.list.len().min(4)];
+        transformed(r, xs, self.root) == Some(self.products)
+            && are_forms(r, xs, self.want)
+            && transformed_uncounted(r, ys, self.root)
+            && are_forms(r, ys, self.want)
     }
 }
 
@@ -134,56 +157,64 @@ const PRODUCTS: &[Product] = &[
     Product { m: 20, root: 19, lists: [&[7, 9], &[1, 0]], inverted: false, want: [&[7, 9], &[1, 0]] },
 ];
 
-// Whether the cyclic product by the reducer of the modulus is the row's.
-fn multiplies<R: Reducer<u8> + Copy>(m: u8, row: &Product) -> bool {
-    let r = &R::new(&m);
-    let (mut first, mut second) = (copied(row.lists[0]), copied(row.lists[1]));
-    let xs = &mut first[..row.lists[0].len().min(4)];
-    let ys = &mut second[..row.lists[1].len().min(4)];
-    multiplied(r, xs, ys, row.root) == Some(row.inverted)
-        && are_forms(r, xs, row.want[0])
-        && are_forms(r, ys, row.want[1])
-}
+impl<'a> Question<u8> for Product<'a> {
+    type Answer = bool;
 
-#[test]
-fn known_products() {
-    let rt = crate::runtime::HostRuntime;
-    for row in PRODUCTS {
-        let m = row.m;
-        let is_right = m > 0
-            && multiplies::<Vanilla<u8>>(m, row)
-            && multiplies::<PreMulInv2by1<u8>>(m, row)
-            && multiplies::<Montgomery<u8>>(m, row);
-        assert_at(&rt, is_right, &m);
+    fn modulus(&self) -> u8 {
+        self.m
+    }
+
+    fn answer<R: Reducer<u8> + Copy>(&self, m: u8) -> bool {
+        let r = &R::new(&m);
+        let (mut first, mut second) = (copied(self.lists[0]), copied(self.lists[1]));
+        let xs = &mut first[..self.lists[0].len().min(4)];
+        let ys = &mut second[..self.lists[1].len().min(4)];
+        multiplied(r, xs, ys, self.root) == Some(self.inverted)
+            && are_forms(r, xs, self.want[0])
+            && are_forms(r, ys, self.want[1])
     }
 }
 
 #[test]
-fn without_a_count() {
+fn known_roots_transforms_and_products() {
     let rt = crate::runtime::HostRuntime;
-    let r = Vanilla::<u8>::new(&17);
-    let g = r.transform(4);
-    let mut xs = [1, 2, 3, 4];
-    if root_fits(&r, &g, 4) && all_checked(&r, &xs) {
-        ntt(&r, &mut xs, &g);
-    }
-    check!(&rt, 1; xs == [10, 7, 15, 6]);
+    let rt = &rt;
+    assert_right(rt, first_wrong(ROOTS));
+    assert_right(rt, first_wrong(TRANSFORMS));
+    assert_right(rt, first_wrong(PRODUCTS));
 }
 
-// A modulus, a root of so many entries, and two lists that begin with as many.
-struct Lists {
+// A modulus, a root for so many entries, and two lists that begin with as many; then their plain sums: the transforms of
+// both, and the cyclic product.
+struct Sums {
     m: u64,
     root: u64,
     length: usize,
     first: [u64; 256],
     second: [u64; 256],
+    first_transform: [u64; 256],
+    second_transform: [u64; 256],
+    product: [u64; 256],
 }
 
-// Their plain sums: the transforms of both, and the cyclic product.
-struct Sums {
-    first: [u64; 256],
-    second: [u64; 256],
-    product: [u64; 256],
+impl Question<u64> for Sums {
+    type Answer = bool;
+
+    fn modulus(&self) -> u64 {
+        self.m
+    }
+
+    // Whether a reducer's transforms and its cyclic product are these sums, every entry.
+    fn answer<R: Reducer<u64> + Copy>(&self, m: u64) -> bool {
+        let (r, n) = (&R::new(&m), self.length);
+        let (mut xs, mut ys, mut zs) = (self.first, self.second, self.first);
+        n <= 256
+            && transformed(r, &mut zs[..n], self.root).is_some()
+            && are_forms(r, &zs[..n], &self.first_transform[..n])
+            && multiplied(r, &mut xs[..n], &mut ys[..n], self.root) == Some(true)
+            && are_forms(r, &xs[..n], &self.product[..n])
+            && are_forms(r, &ys[..n], &self.second_transform[..n])
+    }
 }
 
 // Puts the plain transform by g of a list modulo m in its place.
@@ -208,32 +239,40 @@ fn take_product(entries: &mut [u64], m: u64, xs: &[u64], ys: &[u64]) {
     }
 }
 
-fn plain_sums(lists: &Lists) -> Sums {
+// Whether the transforms by the root of two lists modulo m, and their product, are the plain sums, over each reducer.
+fn are_plain(m: u64, root: u64, length: usize, first: [u64; 256], second: [u64; 256]) -> bool {
     let mut sums = Sums {
-        first: [0; 256],
-        second: [0; 256],
+        m,
+        root,
+        length,
+        first,
+        second,
+        first_transform: [0; 256],
+        second_transform: [0; 256],
         product: [0; 256],
     };
-    let n = lists.length;
-    if n <= 256 {
-        let (m, g, xs, ys) = (lists.m, lists.root, &lists.first[..n], &lists.second[..n]);
-        take_transform(&mut sums.first[..n], m, g, xs);
-        take_transform(&mut sums.second[..n], m, g, ys);
-        take_product(&mut sums.product[..n], m, xs, ys);
+    if length <= 256 {
+        take_transform(
+            &mut sums.first_transform[..length],
+            m,
+            root,
+            &first[..length],
+        );
+        take_transform(
+            &mut sums.second_transform[..length],
+            m,
+            root,
+            &second[..length],
+        );
+        take_product(
+            &mut sums.product[..length],
+            m,
+            &first[..length],
+            &second[..length],
+        );
     }
-    sums
-}
-
-// Whether a reducer's transforms and its cyclic product are these sums, every entry.
-fn are_sums<R: Reducer<u64>>(r: &R, lists: &Lists, sums: &Sums) -> bool {
-    let (n, g) = (lists.length, lists.root);
-    let (mut xs, mut ys, mut zs) = (lists.first, lists.second, lists.first);
-    n <= 256
-        && transformed(r, &mut zs[..n], g).is_some()
-        && are_forms(r, &zs[..n], &sums.first[..n])
-        && multiplied(r, &mut xs[..n], &mut ys[..n], g) == Some(true)
-        && are_forms(r, &xs[..n], &sums.product[..n])
-        && are_forms(r, &ys[..n], &sums.second[..n])
+    answers(&sums) == Some([true; 3])
+        && (m != MODULUS || sums.answer::<FixedTrinomialSolinas64<64, 32, 1>>(MODULUS))
 }
 
 // Eight values of no pattern, and a root of -1 to the fourth modulo 17.
@@ -241,37 +280,29 @@ const VALUES: [u64; 8] = [3, 14, 15, 9, 2, 6, 5, 11];
 
 const OTHERS: [u64; 8] = [2, 7, 1, 8, 16, 0, 4, 5];
 
-#[test]
-fn plain_sums_modulo_17() {
-    let rt = crate::runtime::HostRuntime;
-    let mut lists = Lists {
-        m: 17,
-        root: 2,
-        length: 8,
-        first: [0; 256],
-        second: [0; 256],
-    };
+// The eight values, and zeros.
+fn padded(values: &[u64; 8]) -> [u64; 256] {
+    let mut xs = [0; 256];
     for i in 0..8 {
-        lists.first[i] = VALUES[i];
-        lists.second[i] = OTHERS[i];
+        xs[i] = values[i];
     }
-    check!(&rt, 1; are_sums(&Vanilla::<u64>::new(&17), &lists, &plain_sums(&lists)));
+    xs
 }
 
 // The modulus 2^64 - 2^32 + 1, whose units have the order 2^32 * (2^32 - 1), with the generator 7.
 const MODULUS: u64 = 18446744069414584321;
 
-const GENERATOR: u64 = 7;
-
 // The residues i * i * 40503 + seed for the places i.
-fn seed(xs: &mut [u64], seed: u64) {
-    for i in 0..xs.len() {
+fn seeded(seed: u64) -> [u64; 256] {
+    let mut xs = [0; 256];
+    for i in 0..256 {
         xs[i] = (i as u64)
             .wrapping_mul(i as u64)
             .wrapping_mul(40503)
             .wrapping_add(seed)
             % MODULUS;
     }
+    xs
 }
 
 // The seeds of the two lists.
@@ -279,36 +310,24 @@ const FIRST: u64 = 3;
 
 const SECOND: u64 = 14;
 
-const LENGTHS: &[usize] = &[1, 2, 16, 32, 64, 128, 256];
+// The lengths of lists around a strip, each with a root for it: a power of the generator.
+const LENGTHS: &[(usize, u64)] = &[
+    (1, 1),
+    (2, 18446744069414584320),
+    (16, 17293822564807737345),
+    (32, 70368744161280),
+    (64, 549755813888),
+    (128, 17870292113338400769),
+    (256, 13797081185216407910),
+];
 
 #[test]
-fn plain_sums_around_a_strip() {
+fn plain_sums() {
     let rt = crate::runtime::HostRuntime;
-    let plain = Vanilla::<u64>::new(&MODULUS);
-    let montgomery = Montgomery::<u64>::new(MODULUS);
-    let solinas = FixedTrinomialSolinas64::<64, 32, 1>::new(&MODULUS);
-    let mut lists = Lists {
-        m: MODULUS,
-        root: 0,
-        length: 0,
-        first: [0; 256],
-        second: [0; 256],
-    };
-    seed(&mut lists.first, FIRST);
-    seed(&mut lists.second, SECOND);
-    for &n in LENGTHS {
-        assert!(n > 0);
-        lists.length = n;
-        lists.root = plain.residue(plain.pow(
-            plain.transform(GENERATOR),
-            &((MODULUS - 1) / n as u64),
-        ));
-        let sums = plain_sums(&lists);
-        let found = [
-            are_sums(&plain, &lists, &sums),
-            are_sums(&montgomery, &lists, &sums),
-            are_sums(&solinas, &lists, &sums),
-        ];
-        assert_at(&rt, found == [true; 3], &(n, found));
+    let rt = &rt;
+    check!(rt, 1; are_plain(17, 2, 8, padded(&VALUES), padded(&OTHERS)));
+    let (first, second) = (seeded(FIRST), seeded(SECOND));
+    for &(length, root) in LENGTHS {
+        assert_at(rt, are_plain(MODULUS, root, length, first, second), &length);
     }
 }
