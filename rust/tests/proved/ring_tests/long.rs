@@ -10,9 +10,11 @@ const MODULUS: u64 = 18446744069414584321;
 
 const GENERATOR: u64 = 7;
 
-// The transform by a form g, where its conditions hold.
-fn transform_in_place<R: Reducer<u64>>(r: &R, xs: &mut [u64], g: &u64) -> bool {
-    if r.check(g) && all_checked(r, xs) && root_fits(r, g, xs.len()) {
+// The transform modulo m by the 2^20th root of 1, where its conditions hold.
+fn transform_in_place<R: Reducer<u64> + Copy>(m: u64, xs: &mut [u64]) -> bool {
+    let r = &R::new(&m);
+    let g = &r.pow(r.transform(GENERATOR), &17592186040320);
+    if all_checked(r, xs) && root_fits(r, g, xs.len()) {
         ntt(r, xs, g);
         true
     } else {
@@ -38,10 +40,12 @@ fn are_first_and_zeros(xs: &[u64], first: u64) -> bool {
 #[test]
 fn a_million_ones() -> Result<(), Fail> {
     let rt = crate::runtime::HostRuntime;
-    let r = FixedTrinomialSolinas64::<64, 32, 1>::new(&MODULUS);
-    let g = r.pow(r.transform(GENERATOR), &17592186040320);
     let mut xs = vec![in rt.alloc(); 1; a_million()]?;
-    assert_nth(&rt, 1, transform_in_place(&r, xs.as_mut_slice(), &g));
+    let is_done = transform_in_place::<FixedTrinomialSolinas64<64, 32, 1>>(
+        MODULUS,
+        xs.as_mut_slice(),
+    );
+    assert_nth(&rt, 1, is_done);
     assert_nth(&rt, 2, are_first_and_zeros(xs.as_slice(), 1048576));
     Ok(())
 }
