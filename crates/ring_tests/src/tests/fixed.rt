@@ -9,6 +9,8 @@ use super::edges::{Edges, STOPPED};
 use super::integers::Integer;
 use super::questions::{Question, first_wrong, says_yes};
 use super::runs::{ends_with, run_from_zeros};
+use modular_folds::rings::{FoldModulus, FoldRing};
+use modular_monty::odd_ring::{OddModulus, OddRing};
 use num_modular::mersenne::{FixedMersenne, FixedMersenne32, FixedMersenne64};
 use num_modular::ring::{RingCommand, RunEnd};
 use num_modular::solinas::{FixedTrinomialSolinas32, FixedTrinomialSolinas64};
@@ -211,31 +213,64 @@ fn is_right_128<R: Reducer<umax> + Copy>(m: umax, _: PhantomData<ReducedInt<umax
         && is_asked
 }
 
-// The same for reducers by folds and of Proth numbers, generic in the parameters.
+// The same for reducers by Montgomery forms and by folds, generic in the modulus that their type knows: a call then needs
+// the laws of that modulus alone.
+
+fn by_odd_32<M: OddModulus<u32>>(m: u32, of: PhantomData<ReducedInt<u32, OddRing<u32, M>>>) -> bool
+    requires { M.admits m }
+{
+    is_right_32(m, of)
+}
+
+fn by_folds_32<M: FoldModulus<u32>>(
+    m: u32,
+    of: PhantomData<ReducedInt<u32, FoldRing<u32, M>>>,
+) -> bool
+    requires { M.admits m }
+{
+    is_right_32(m, of)
+}
+
+fn by_odd_64<M: OddModulus<u64>>(m: u64, of: PhantomData<ReducedInt<u64, OddRing<u64, M>>>) -> bool
+    requires { M.admits m }
+{
+    is_right_64(m, of)
+}
+
+fn by_folds_64<M: FoldModulus<u64>>(
+    m: u64,
+    of: PhantomData<ReducedInt<u64, FoldRing<u64, M>>>,
+) -> bool
+    requires { M.admits m }
+{
+    is_right_64(m, of)
+}
+
+// The moduli of more than two calls, generic in their parameters.
 
 fn by_solinas<const P1: u8, const P2: u8, const K: i32>(m: u32) -> bool
     requires { IsTrinomial 32 P1 P2 K m }
 {
-    is_right_32(m, PhantomData::<FixedSolinasInt32<P1, P2, K>>)
+    by_folds_32(m, PhantomData::<FixedSolinasInt32<P1, P2, K>>)
 }
 
 fn by_mersenne<const P: u8, const K: u32>(m: u32) -> bool
     requires { IsMersenne 32 P K m }
 {
-    is_right_32(m, PhantomData::<FixedMersenneInt32<P, K>>)
+    by_folds_32(m, PhantomData::<FixedMersenneInt32<P, K>>)
 }
 
 fn by_proth<const N: u8, const K: u8>(m: u32) -> bool
     requires { IsProth 32 greatest_proth_32 N K m }
 {
-    is_right_32(m, PhantomData::<FixedProthInt32<N, K>>)
+    by_odd_32(m, PhantomData::<FixedProthInt32<N, K>>)
 }
 
 #[test]
 fn fixed_moduli_of_32_bits(rt: HostRuntime) {
     let rt = &rt;
-    check!(rt, 1; is_right_32(1, PhantomData::<FixedMontgomeryInt32<1>>));
-    check!(rt, 2; is_right_32(17, PhantomData::<FixedMontgomeryInt32<17>>));
+    check!(rt, 1; by_odd_32(1, PhantomData::<FixedMontgomeryInt32<1>>));
+    check!(rt, 2; by_odd_32(17, PhantomData::<FixedMontgomeryInt32<17>>));
     // by folds
     check!(rt, 3; by_solinas::<2, 1, -1>(1));
     check!(rt, 4; by_solinas::<5, 4, -3>(13));
@@ -255,13 +290,13 @@ fn fixed_moduli_of_32_bits(rt: HostRuntime) {
 #[test]
 fn fixed_moduli_of_64_bits(rt: HostRuntime) {
     let rt = &rt;
-    check!(rt, 1; is_right_64(97, PhantomData::<FixedMontgomeryInt64<97>>));
-    check!(rt, 2; is_right_64(97, PhantomData::<FixedProthInt64<5, 3>>));
-    check!(rt, 3; is_right_64(9223372036854775809, PhantomData::<FixedProthInt64<63, 1>>));
-    check!(rt, 4; is_right_64(61, PhantomData::<FixedSolinasInt64<6, 2, 1>>));
-    check!(rt, 5; is_right_64(18446744069414584321, PhantomData::<FixedSolinasInt64<64, 32, 1>>));
-    check!(rt, 6; is_right_64(2305843009213693951, PhantomData::<FixedMersenneInt64<61, 1>>));
-    check!(rt, 7; is_right_64(18446744073709551557, PhantomData::<FixedMersenneInt64<64, 59>>));
+    check!(rt, 1; by_odd_64(97, PhantomData::<FixedMontgomeryInt64<97>>));
+    check!(rt, 2; by_odd_64(97, PhantomData::<FixedProthInt64<5, 3>>));
+    check!(rt, 3; by_odd_64(9223372036854775809, PhantomData::<FixedProthInt64<63, 1>>));
+    check!(rt, 4; by_folds_64(61, PhantomData::<FixedSolinasInt64<6, 2, 1>>));
+    check!(rt, 5; by_folds_64(18446744069414584321, PhantomData::<FixedSolinasInt64<64, 32, 1>>));
+    check!(rt, 6; by_folds_64(2305843009213693951, PhantomData::<FixedMersenneInt64<61, 1>>));
+    check!(rt, 7; by_folds_64(18446744073709551557, PhantomData::<FixedMersenneInt64<64, 59>>));
 }
 
 #[test]
