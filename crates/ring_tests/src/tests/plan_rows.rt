@@ -3,7 +3,6 @@
 ghost use Rattle.std.specs.Prelude.{◌*◌, ◌<◌, IsTrue, All};
 ghost use Rattle.num_modular.specs.Factors.{IsFactorOf, AllFactors};
 
-use super::{assert_right, plans, products};
 use modular_prim::plain_word::PlainWord;
 use modular_reduced::reducer::Reducer;
 use modular_reduced::vanilla::Vanilla;
@@ -33,14 +32,6 @@ pub struct Row<'a, T> {
     pub block: (usize, usize),
     pub lists: (&'a [T], &'a [T]),
     pub want: (&'a [T], &'a [T]),
-}
-
-/// Rows of one call with one answer: what the call returns, true where it returns nothing, and `None` where its
-/// conditions don't hold.
-pub struct Table<'a, T> {
-    pub call: Call<T>,
-    pub answer: Option<bool>,
-    pub rows: &'a [Row<'a, T>],
 }
 
 // Whether each entry is below 4m. A loop, since a closure takes longer to prove.
@@ -237,89 +228,47 @@ fn is_right<T: PlainWord>(
         && are_same(ys, row.want.1)
 }
 
-// The first row that is wrong, as 100 times the place of its table and its place there, with room for the longest plan
-// and two lists.
+// The place of the first row for which that isn't so.
 fn first_wrong<T: PlainWord>(
-    tables: &[Table<T>],
+    call: &Call<T>,
+    answer: Option<bool>,
+    rows: &[Row<T>],
     room: &mut [Factor<T>],
     first: &mut [T],
     second: &mut [T],
 ) -> Option<usize> {
-    for i in 0..tables.len() {
-        let table = &tables[i];
-        for j in 0..table.rows.len() {
-            if !is_right(
-                &table.call,
-                table.answer,
-                &table.rows[j],
-                room,
-                first,
-                second,
-            ) {
-                return Some(i.wrapping_mul(100).wrapping_add(j));
-            }
+    for i in 0..rows.len() {
+        if !is_right(call, answer, &rows[i], room, first, second) {
+            return Some(i);
         }
     }
     None
 }
 
-// The calls return nothing, or true.
-const DONE: Option<bool> = Some(true);
-
-#[rattlefmt::skip]
-const OF_16_BITS: &[Table<u16>] = &[
-    Table { call: Call::Split, answer: DONE, rows: plans::REMAINDERS_OF_16_BITS },
-    Table { call: Call::Join, answer: DONE, rows: plans::JOINS_OF_16_BITS },
-    Table { call: Call::InOrder, answer: DONE, rows: plans::TRANSFORMS_OF_16_BITS },
-    Table { call: Call::Convolve, answer: DONE, rows: products::PRODUCTS_OF_16_BITS },
-];
-
-#[rattlefmt::skip]
-const OF_32_BITS: &[Table<u32>] = &[
-    Table { call: Call::Split, answer: DONE, rows: plans::REMAINDERS_OF_32_BITS },
-    Table { call: Call::Join, answer: DONE, rows: plans::JOINS_OF_32_BITS },
-    Table { call: Call::InOrder, answer: DONE, rows: plans::TRANSFORMS_OF_32_BITS },
-    Table { call: Call::InOrder, answer: None, rows: plans::OTHER_LENGTHS },
-    Table { call: Call::Convolve, answer: DONE, rows: products::PRODUCTS_OF_32_BITS },
-];
-
-#[rattlefmt::skip]
-const OF_64_BITS: &[Table<u64>] = &[
-    Table { call: Call::Split, answer: DONE, rows: plans::REMAINDERS },
-    Table { call: Call::Join, answer: DONE, rows: plans::JOINS },
-    Table { call: Call::Scaled(15), answer: DONE, rows: plans::TIMES_15 },
-    Table { call: Call::Scaled(0), answer: DONE, rows: plans::TIMES_0 },
-    Table { call: Call::InOrder, answer: DONE, rows: plans::TRANSFORMS },
-    Table { call: Call::Multiply, answer: DONE, rows: products::BLOCKS_OF_TWO },
-    Table { call: Call::Convolve, answer: DONE, rows: products::PRODUCTS },
-    Table { call: Call::Convolve, answer: Some(false), rows: products::REFUSED },
-];
-
-#[test]
-fn calls_by_plans(rt: HostRuntime) {
-    let rt = &rt;
+/// The place of the first row whose call doesn't give this answer, or leaves other lists. The answer is what the call
+/// returns, true where it returns nothing, and `None` where its conditions don't hold.
+pub fn first_wrong_16(call: &Call<u16>, answer: Option<bool>, rows: &[Row<u16>]) -> Option<usize> {
     let mut room = [Factor::<u16> {
         value: 0,
         quotient: 0,
     }; 8];
-    assert_right(
-        rt,
-        first_wrong(OF_16_BITS, &mut room, &mut [0; 16], &mut [0; 16]),
-    );
+    first_wrong(call, answer, rows, &mut room, &mut [0; 16], &mut [0; 16])
+}
+
+/// The same of words of 32 bits.
+pub fn first_wrong_32(call: &Call<u32>, answer: Option<bool>, rows: &[Row<u32>]) -> Option<usize> {
     let mut room = [Factor::<u32> {
         value: 0,
         quotient: 0,
     }; 8];
-    assert_right(
-        rt,
-        first_wrong(OF_32_BITS, &mut room, &mut [0; 16], &mut [0; 16]),
-    );
+    first_wrong(call, answer, rows, &mut room, &mut [0; 16], &mut [0; 16])
+}
+
+/// The same of words of 64 bits.
+pub fn first_wrong_64(call: &Call<u64>, answer: Option<bool>, rows: &[Row<u64>]) -> Option<usize> {
     let mut room = [Factor::<u64> {
         value: 0,
         quotient: 0,
     }; 8];
-    assert_right(
-        rt,
-        first_wrong(OF_64_BITS, &mut room, &mut [0; 16], &mut [0; 16]),
-    );
+    first_wrong(call, answer, rows, &mut room, &mut [0; 16], &mut [0; 16])
 }

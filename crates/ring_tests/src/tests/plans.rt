@@ -1,7 +1,7 @@
 //! Known lists of remainders, their joins, and transforms in natural order, by plans.
 
-use super::assert_at;
-use super::plan_rows::Row;
+use super::plan_rows::{Call, Row, first_wrong_16, first_wrong_32, first_wrong_64};
+use super::{assert_at, assert_right};
 use num_modular::plans::splits;
 
 // How many entries, how many factors, the block, how many entries the last blocks have, and whether that splits.
@@ -27,7 +27,7 @@ fn lists_that_split(rt: HostRuntime) {
 }
 
 #[rattlefmt::skip]
-pub const REMAINDERS_OF_16_BITS: &[Row<u16>] = &[
+const REMAINDERS_OF_16_BITS: &[Row<u16>] = &[
     // the whole transform
     Row { plan: (17, 2, 4), block: (0, 1), lists: (&[1; 8], &[]), want: (&[8, 0, 0, 0, 0, 0, 0, 0], &[]) },
     Row { plan: (17, 2, 4), block: (0, 1), lists: (&[67], &[]), want: (&[16], &[]) },
@@ -36,7 +36,7 @@ pub const REMAINDERS_OF_16_BITS: &[Row<u16>] = &[
 ];
 
 #[rattlefmt::skip]
-pub const REMAINDERS_OF_32_BITS: &[Row<u32>] = &[
+const REMAINDERS_OF_32_BITS: &[Row<u32>] = &[
     // other blocks
     Row { plan: (17, 3, 8), block: (1, 1), lists: (&[1, 2, 3, 4, 5, 6, 7, 8], &[]),
         want: (&[5, 0, 13, 8, 9, 11, 5, 8], &[]) },
@@ -55,7 +55,7 @@ const GREATEST: u64 = 4611686018427387817;
 const ROOT_OF_8: u64 = 967200838763692757;
 
 #[rattlefmt::skip]
-pub const REMAINDERS: &[Row<u64>] = &[
+const REMAINDERS: &[Row<u64>] = &[
     // the whole transform
     Row { plan: (17, 3, 8), block: (0, 1), lists: (&[1, 2, 3, 4, 5, 6, 7, 8, 9, 10, 11, 12, 13, 14, 15, 16], &[]),
         want: (&[0, 9, 7, 11, 2, 12, 6, 16, 8, 13, 4, 3, 15, 14, 5, 10], &[]) },
@@ -74,8 +74,22 @@ pub const REMAINDERS: &[Row<u64>] = &[
         want: (&[4611686018427387809, 0, 0, 0, 0, 0, 0, 0], &[]) },
 ];
 
+#[test]
+fn remainders(rt: HostRuntime) {
+    let rt = &rt;
+    assert_right(
+        rt,
+        first_wrong_16(&Call::Split, Some(true), REMAINDERS_OF_16_BITS),
+    );
+    assert_right(
+        rt,
+        first_wrong_32(&Call::Split, Some(true), REMAINDERS_OF_32_BITS),
+    );
+    assert_right(rt, first_wrong_64(&Call::Split, Some(true), REMAINDERS));
+}
+
 #[rattlefmt::skip]
-pub const JOINS_OF_16_BITS: &[Row<u16>] = &[
+const JOINS_OF_16_BITS: &[Row<u16>] = &[
     // blocks of two
     Row { plan: (17, 3, 8), block: (1, 2), lists: (&[18, 66, 57, 50, 60, 51, 13, 42], &[]),
         want: (&[12, 5, 9, 2, 8, 7, 3, 10], &[]) },
@@ -85,7 +99,7 @@ pub const JOINS_OF_16_BITS: &[Row<u16>] = &[
 ];
 
 #[rattlefmt::skip]
-pub const JOINS_OF_32_BITS: &[Row<u32>] = &[
+const JOINS_OF_32_BITS: &[Row<u32>] = &[
     // blocks of two
     Row { plan: (3329, 1729, 2), block: (1, 2), lists: (&[1859, 260, 1472, 6402], &[]), want: (&[2, 4, 6, 8], &[]) },
     // known primes
@@ -107,7 +121,7 @@ const GREATEST_PRIME: u64 = 4611686018427387847;
 const GREATEST_ODD: u64 = 4611686018427387903;
 
 #[rattlefmt::skip]
-pub const JOINS: &[Row<u64>] = &[
+const JOINS: &[Row<u64>] = &[
     // lengths
     Row { plan: (17, 3, 8), block: (0, 1), lists: (&[34, 26, 41, 28, 36, 63, 40, 16, 42, 47, 4, 37, 15, 14, 5, 61], &[]),
         want: (&[16, 15, 14, 13, 12, 11, 10, 9, 8, 7, 6, 5, 4, 3, 2, 1], &[]) },
@@ -136,26 +150,47 @@ pub const JOINS: &[Row<u64>] = &[
         lists: (&[13835058055405620497, 4611686018303931113], &[]), want: (&[GREATEST_ODD - 2, 246913578], &[]) },
 ];
 
+#[test]
+fn joins(rt: HostRuntime) {
+    let rt = &rt;
+    assert_right(
+        rt,
+        first_wrong_16(&Call::Join, Some(true), JOINS_OF_16_BITS),
+    );
+    assert_right(
+        rt,
+        first_wrong_32(&Call::Join, Some(true), JOINS_OF_32_BITS),
+    );
+    assert_right(rt, first_wrong_64(&Call::Join, Some(true), JOINS));
+}
+
 // The factor is 15, and then 0.
 #[rattlefmt::skip]
-pub const TIMES_15: &[Row<u64>] = &[
+const TIMES_15: &[Row<u64>] = &[
     Row { plan: (17, 3, 8), block: (1, 1), lists: (&[39, 0, 47, 59, 9, 11, 22, 42], &[]),
         want: (&[1, 2, 3, 4, 5, 6, 7, 8], &[]) },
 ];
 
 #[rattlefmt::skip]
-pub const TIMES_0: &[Row<u64>] = &[
+const TIMES_0: &[Row<u64>] = &[
     Row { plan: (17, 3, 8), block: (1, 1), lists: (&[39, 0, 47, 59, 9, 11, 22, 42], &[]), want: (&[0; 8], &[]) },
 ];
 
+#[test]
+fn scaled(rt: HostRuntime) {
+    let rt = &rt;
+    assert_right(rt, first_wrong_64(&Call::Scaled(15), Some(true), TIMES_15));
+    assert_right(rt, first_wrong_64(&Call::Scaled(0), Some(true), TIMES_0));
+}
+
 #[rattlefmt::skip]
-pub const TRANSFORMS_OF_16_BITS: &[Row<u16>] = &[
+const TRANSFORMS_OF_16_BITS: &[Row<u16>] = &[
     Row { plan: (17, 4, 2), block: (0, 1), lists: (&[1, 2, 3, 4], &[]), want: (&[10, 7, 15, 6], &[]) },
     Row { plan: (85, 13, 2), block: (0, 1), lists: (&[1, 2, 3, 4], &[]), want: (&[10, 57, 83, 24], &[]) },
 ];
 
 #[rattlefmt::skip]
-pub const TRANSFORMS_OF_32_BITS: &[Row<u32>] = &[
+const TRANSFORMS_OF_32_BITS: &[Row<u32>] = &[
     // whole plans
     Row { plan: (20, 19, 1), block: (0, 1), lists: (&[79, 78], &[]), want: (&[17, 1], &[]) },
     // longer plans
@@ -166,14 +201,29 @@ pub const TRANSFORMS_OF_32_BITS: &[Row<u32>] = &[
 ];
 
 #[rattlefmt::skip]
-pub const TRANSFORMS: &[Row<u64>] = &[
+const TRANSFORMS: &[Row<u64>] = &[
     Row { plan: (17, 3, 8), block: (0, 1), lists: (&[1, 2, 3, 4, 5, 6, 7, 8, 9, 10, 11, 12, 13, 14, 15, 16], &[]),
         want: (&[0, 8, 2, 15, 7, 4, 6, 5, 9, 13, 12, 14, 11, 3, 16, 10], &[]) },
 ];
 
 // Lists whose lengths aren't powers of two.
 #[rattlefmt::skip]
-pub const OTHER_LENGTHS: &[Row<u32>] = &[
+const OTHER_LENGTHS: &[Row<u32>] = &[
     Row { plan: (17, 3, 8), block: (0, 1), lists: (&[], &[]), want: (&[], &[]) },
     Row { plan: (17, 3, 8), block: (0, 1), lists: (&[1, 2, 3], &[]), want: (&[1, 2, 3], &[]) },
 ];
+
+#[test]
+fn natural_order(rt: HostRuntime) {
+    let rt = &rt;
+    assert_right(
+        rt,
+        first_wrong_16(&Call::InOrder, Some(true), TRANSFORMS_OF_16_BITS),
+    );
+    assert_right(
+        rt,
+        first_wrong_32(&Call::InOrder, Some(true), TRANSFORMS_OF_32_BITS),
+    );
+    assert_right(rt, first_wrong_64(&Call::InOrder, Some(true), TRANSFORMS));
+    assert_right(rt, first_wrong_32(&Call::InOrder, None, OTHER_LENGTHS));
+}

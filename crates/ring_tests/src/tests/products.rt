@@ -1,7 +1,7 @@
 //! Known products of polynomials, by plans.
 
-use super::assert_at;
-use super::plan_rows::Row;
+use super::plan_rows::{Call, Row, first_wrong_16, first_wrong_32, first_wrong_64};
+use super::{assert_at, assert_right};
 use num_modular::plans::convolves;
 
 // How many entries, how many factors, the block, how many entries the last blocks have, and whether there is a product.
@@ -26,7 +26,7 @@ fn lists_that_convolve(rt: HostRuntime) {
 }
 
 #[rattlefmt::skip]
-pub const BLOCKS_OF_TWO: &[Row<u64>] = &[
+const BLOCKS_OF_TWO: &[Row<u64>] = &[
     Row { plan: (17, 3, 8), block: (1, 2), lists: (&[1, 2, 3, 4], &[5, 6, 7, 8]),
         want: (&[8, 16, 13, 1], &[5, 6, 7, 8]) },
     Row { plan: (17, 3, 8), block: (1, 2), lists: (&[16, 16, 16, 16], &[16, 16, 16, 16]),
@@ -36,7 +36,7 @@ pub const BLOCKS_OF_TWO: &[Row<u64>] = &[
 ];
 
 #[rattlefmt::skip]
-pub const PRODUCTS_OF_16_BITS: &[Row<u16>] = &[
+const PRODUCTS_OF_16_BITS: &[Row<u16>] = &[
     // other blocks
     Row { plan: (17, 3, 8), block: (2, 2), lists: (&[20, 14, 15, 43], &[2, 24, 1, 59]),
         want: (&[11, 9, 13, 8], &[11, 11, 10, 3]) },
@@ -53,7 +53,7 @@ pub const PRODUCTS_OF_16_BITS: &[Row<u16>] = &[
 ];
 
 #[rattlefmt::skip]
-pub const PRODUCTS_OF_32_BITS: &[Row<u32>] = &[
+const PRODUCTS_OF_32_BITS: &[Row<u32>] = &[
     // negacyclic
     Row { plan: (17, 3, 8), block: (1, 1), lists: (&[1, 53, 3, 55], &[0, 35, 51, 51]),
         want: (&[13, 1, 2, 3], &[9, 8, 15, 2]) },
@@ -73,7 +73,7 @@ pub const PRODUCTS_OF_32_BITS: &[Row<u32>] = &[
 ];
 
 #[rattlefmt::skip]
-pub const PRODUCTS: &[Row<u64>] = &[
+const PRODUCTS: &[Row<u64>] = &[
     // cyclic
     Row { plan: (17, 3, 8), block: (0, 1), lists: (&[35, 2, 3, 38], &[0, 1, 17, 17]),
         want: (&[4, 1, 2, 3], &[1, 16, 13, 4]) },
@@ -118,6 +118,25 @@ pub const PRODUCTS: &[Row<u64>] = &[
 
 // Two blocks, which 2 divides modulo no even number.
 #[rattlefmt::skip]
-pub const REFUSED: &[Row<u64>] = &[
+const REFUSED: &[Row<u64>] = &[
     Row { plan: (20, 19, 1), block: (0, 1), lists: (&[47, 9], &[1, 20]), want: (&[47, 9], &[1, 20]) },
 ];
+
+#[test]
+fn products(rt: HostRuntime) {
+    let rt = &rt;
+    assert_right(
+        rt,
+        first_wrong_64(&Call::Multiply, Some(true), BLOCKS_OF_TWO),
+    );
+    assert_right(
+        rt,
+        first_wrong_16(&Call::Convolve, Some(true), PRODUCTS_OF_16_BITS),
+    );
+    assert_right(
+        rt,
+        first_wrong_32(&Call::Convolve, Some(true), PRODUCTS_OF_32_BITS),
+    );
+    assert_right(rt, first_wrong_64(&Call::Convolve, Some(true), PRODUCTS));
+    assert_right(rt, first_wrong_64(&Call::Convolve, Some(false), REFUSED));
+}
