@@ -1,6 +1,6 @@
--- What the stages of a split and of a join rest on and give: a table of factors, and entries below a multiple of m (Harvey, "Faster
--- arithmetic for number-theoretic transforms", section 3), in blocks of the tree of remainders (Bernstein, "Multidigit
--- multiplication for mathematicians", section 2). The names are the library's own words.
+-- What the stages of a split and of a join rest on and give: a table of factors, and entries below a multiple of m
+-- (Harvey, "Faster arithmetic for number-theoretic transforms", section 3), in blocks of the tree of remainders
+-- (Bernstein, "Multidigit multiplication for mathematicians", section 2). The names are the library's own words.
 use Rattle.std.specs.Prelude.{◌≡◌, ℕ, ◌+◌, ◌*◌, ◌/◌, ◌%◌, ◌<◌, ◌≤◌, List, All, length}
 use Rattle.std.specs.Int.{IsPowerOfTwo}
 use Rattle.modular_barrett.specs.Factors.{AllFactors}
