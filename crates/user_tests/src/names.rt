@@ -11,12 +11,14 @@ pub use num_modular::laws::{
     undoing_laws,
 };
 pub use num_modular::monty::neg_mod_inv::neginv;
+pub use num_modular::monty::{FixedMontgomery32, FixedMontgomery64};
 pub use num_modular::preinv::PreparedInverse;
 pub use num_modular::prim::by_subtraction::{inverse, jacobi};
 pub use num_modular::prim::{
     DivExactAssign, IntegerValued, ModularCoreOps, ModularRefOps, Numbered, SymbolWord,
     UnsignedOperand, is_prime_by_search, powm_u32, powm_u64, symbol_over_prime,
 };
+pub use num_modular::proth::{FixedProth32, FixedProth64};
 pub use num_modular::reduced::ReducedInt;
 pub use num_modular::ring::{load_forms, unload_forms};
 pub use num_modular::rings::{

@@ -1,6 +1,5 @@
 //! Known values of the reducers by folds and of their reductions.
 
 mod callers;
-mod mersenne;
+mod fixed;
 mod reductions;
-mod solinas;

@@ -1,8 +1,6 @@
 //! Known values of each reducer by Montgomery's reduction, and comparisons with plain remainders.
 
-mod any_modulus;
 mod callers;
+mod every_modulus;
 mod fixed;
-mod proth;
 mod restored;
-mod shifted;

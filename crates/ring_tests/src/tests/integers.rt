@@ -7,14 +7,14 @@ use num_modular::word::RingWord;
 use num_modular::{ModularAbs, ModularInteger, ReducedInt, Reducer, imax};
 
 /// What an integer x modulo m returns with a word n: the residues of x, x + n, x - n, x * n, -x, 2 * x, the square, and
-/// the power n; whether x has an inverse, and whether it is 0.
+/// the power n; and that of its inverse, if there is one.
 #[derive(Drop)]
 pub struct Integer<T> {
     pub m: T,
     pub x: T,
     pub n: T,
     pub residues: [T; 8],
-    pub tests: [bool; 2],
+    pub inverse: Option<T>,
 }
 
 // The residues of a sum, a difference and a product with a word.
@@ -44,11 +44,16 @@ impl<T: RingWord> Question<T> for Integer<T> {
         self.m
     }
 
-    // Whether the integer returns these, its modulus and its form, and equals the integer of its residue.
+    // Whether the integer returns these, its modulus and its form, tells 0, and equals the integer of its residue.
     fn answer<R: Reducer<T> + Copy>(&self, m: T) -> bool {
         let a = ReducedInt::<T, R>::new(self.x, &m);
+        let inverse = match a.inv() {
+            Some(b) => Some(b.residue()),
+            None => None,
+        };
         residues(a, self.n) == self.residues
-            && [a.inv().is_some(), a.is_zero()] == self.tests
+            && inverse == self.inverse
+            && a.is_zero() == self.residues[0].is_zero_word()
             && a.modulus() == m
             && *a.repr() == R::new(&m).transform(self.x)
             && a == a.convert(self.residues[0])

@@ -7,6 +7,7 @@ macro_rules! check {
     };
 }
 
+mod any_modulus;
 mod dividers;
 mod folds;
 mod integers;

@@ -1,72 +1,42 @@
-//! Known values of the reducers whose modulus is a parameter.
+//! Known values of the reducers of fixed moduli: the moduli, reductions and sizes. `ring_tests` has rows of their rings.
 
-ghost use Rattle.std.specs.Prelude.{◌≡◌, ◌%◌};
-
-use crate::tests::residues::{Call, Row, assert_rows};
 use modular_monty::fixed::{FixedMontgomery32, FixedMontgomery64};
-use std::process::Abort;
-
-// Asserts that the rows are right of the reducer of P. Generic in P, as each call with a known reducer takes long to prove.
-fn assert_32<const P: u32>(rt: &impl Abort, rows: &[Row<u32>])
-    requires { P % 2 ≡ 1 }
-{
-    assert_rows::<u32, FixedMontgomery32<P>>(rt, P, rows);
-}
-
-fn assert_64<const P: u64>(rt: &impl Abort, rows: &[Row<u64>])
-    requires { P % 2 ≡ 1 }
-{
-    assert_rows::<u64, FixedMontgomery64<P>>(rt, P, rows);
-}
-
-// A table for each modulus.
-
-#[rattlefmt::skip]
-const MODULO_1: &[Row<u32>] = &[
-    Row::Form(Call::Load, (4294967295, 0), 0),
-    Row::Inverse(4294967295, Some(0)),
-    Row::Residue(Call::Load, (0, 0), 0),
-    Row::Residue(Call::Load, (1, 0), 0),
-    Row::Residue(Call::Load, (4294967295, 0), 0),
-];
-
-#[rattlefmt::skip]
-const MODULO_17: &[Row<u32>] = &[
-    Row::Residue(Call::Product, (3, 5), 15),
-];
-
-#[rattlefmt::skip]
-const MODULO_4294967295: &[Row<u32>] = &[
-    Row::Residue(Call::Product, (4294967294, 4294967293), 2),
-];
-
-#[rattlefmt::skip]
-const MODULO_97: &[Row<u64>] = &[
-    Row::Residue(Call::Product, (10, 20), 6),
-    Row::Inverse(97, None),
-    Row::Check(96, true),
-    Row::Check(97, false),
-    Row::IsZero(Call::Load, (97, 0), true),
-];
-
-#[rattlefmt::skip]
-const MODULO_18446744073709551615: &[Row<u64>] = &[
-    Row::Residue(Call::Product, (18446744073709551614, 18446744073709551614), 1),
-];
-
-#[test]
-fn rows(rt: HostRuntime) {
-    let rt = &rt;
-    assert_32::<1>(rt, MODULO_1);
-    assert_32::<17>(rt, MODULO_17);
-    assert_32::<4294967295>(rt, MODULO_4294967295);
-    assert_64::<97>(rt, MODULO_97);
-    assert_64::<18446744073709551615>(rt, MODULO_18446744073709551615);
-}
+use modular_monty::odd_ring::OddModulus;
+use modular_monty::proth::{FixedProth32, FixedProth64, ProthNumber32};
+use modular_reduced::reducer::Reducer;
+use std::mem::size_of;
 
 #[test]
 fn moduli(rt: HostRuntime) {
     let rt = &rt;
     check!(rt, 1; FixedMontgomery32::<1>::fixed_modulus() == 1);
-    check!(rt, 2; FixedMontgomery64::<97>::fixed_modulus() == 97);
+    check!(rt, 2; FixedMontgomery32::<17>::fixed_modulus() == 17);
+    check!(rt, 3; FixedMontgomery64::<97>::fixed_modulus() == 97);
+    check!(rt, 4; FixedProth32::<4, 1>::fixed_modulus() == 17);
+    check!(rt, 5; FixedProth32::<1, 1>::fixed_modulus() == 3);
+    check!(rt, 6; FixedProth32::<23, 255>::fixed_modulus() == 2139095041);
+    check!(rt, 7; FixedProth64::<5, 3>::fixed_modulus() == 97);
+}
+
+#[test]
+fn products_and_reductions(rt: HostRuntime) {
+    let rt = &rt;
+    let number = ProthNumber32::<27, 17>::keep(2281701377);
+    check!(rt, 1; number.shift_mul(4294967295) == 9799832791171465215);
+    let ring = FixedProth32::<27, 17>::new(&2281701377);
+    // (m - 1) * 2^32 + m: the sum is (2 * m - 1) * 2^32, which overflows 64 bits
+    check!(rt, 2; ring.reduce(9799832791439900673) == 2281701376);
+    let ring = FixedProth64::<63, 1>::new(&9223372036854775809);
+    check!(rt, 3; ring.reduce(0) == 0);
+    // (m - 1) * 2^64 + m: the sum is (2 * m - 1) * 2^64, which overflows 128 bits
+    check!(rt, 4; ring.reduce(170141183460469231740910675752738881537) == 9223372036854775808);
+}
+
+#[test]
+fn fixed_reducers_store_nothing(rt: HostRuntime) {
+    let rt = &rt;
+    check!(rt, 1; size_of::<FixedProth32<23, 255>>() == 0);
+    check!(rt, 2; size_of::<FixedProth64<32, 3>>() == 0);
+    check!(rt, 3; size_of::<FixedMontgomery32<4294967291>>() == 0);
+    check!(rt, 4; size_of::<FixedMontgomery64<18446744073709551557>>() == 0);
 }

@@ -2,11 +2,9 @@
 
 use crate::tests::assert_at;
 use crate::tests::dividers::is_printed;
-use crate::tests::residues::{Call, Row, agree, is_right_modulo, remainder};
+use crate::tests::residues::{agree, remainder};
 use modular_barrett::premul::PreMulInv2by1;
-use modular_prim::plain_word::PlainWord;
 use modular_reduced::reducer::Reducer;
-use std::process::Abort;
 
 #[test]
 fn parts(rt: HostRuntime) {
@@ -21,63 +19,6 @@ fn parts(rt: HostRuntime) {
     // the same divisor for another modulus
     check!(rt, 6; ring != PreMulInv2by1::new(42));
     check!(rt, 7; is_printed(rt.alloc(), &ring));
-}
-
-// Whether the row is right of the reducer of its modulus. Generic in the word, as each call with a known reducer takes
-// long to prove.
-fn is_right_row<T: PlainWord>(row: &(T, Row<T>)) -> bool {
-    let m = row.0;
-    !m.is_zero_word() && is_right_modulo(&PreMulInv2by1::<T>::new(m), row)
-}
-
-fn assert_rows<T: PlainWord>(rt: &impl Abort, rows: &[(T, Row<T>)]) {
-    for i in 0..rows.len() {
-        assert_at(rt, is_right_row(&rows[i]), &i);
-    }
-}
-
-// Rows: the modulus, and a question with what is right.
-#[rattlefmt::skip]
-const ROWS_OF_8_BITS: &[(u8, Row<u8>)] = &[
-    (21, Row::Check(40, true)),
-    (21, Row::Check(41, false)),
-    (21, Row::Check(168, false)),
-    (21, Row::Form(Call::Load, (5, 0), 40)),
-    (21, Row::Form(Call::Load, (7, 0), 56)),
-    (21, Row::Form(Call::Load, (17, 0), 136)),
-    (21, Row::InverseResidue(5, Some(17))),
-    (21, Row::InverseResidue(7, None)),
-    (21, Row::IsZero(Call::Load, (42, 0), true)),
-];
-
-#[rattlefmt::skip]
-const ROWS_OF_16_BITS: &[(u16, Row<u16>)] = &[
-    (7, Row::Residue(Call::Power, (255, 255), 6)),
-];
-
-#[rattlefmt::skip]
-const ROWS_OF_32_BITS: &[(u32, Row<u32>)] = &[
-    (5000, Row::InverseResidue(3, Some(1667))),
-];
-
-#[rattlefmt::skip]
-const ROWS_OF_64_BITS: &[(u64, Row<u64>)] = &[
-    (u64::MAX, Row::Residue(Call::Product, (u64::MAX - 1, u64::MAX - 1), 1)),
-];
-
-#[rattlefmt::skip]
-const ROWS_OF_SIZES: &[(usize, Row<usize>)] = &[
-    (1000, Row::Residue(Call::Power, (2, 10), 24)),
-];
-
-#[test]
-fn rows_at_each_width(rt: HostRuntime) {
-    let rt = &rt;
-    assert_rows(rt, ROWS_OF_8_BITS);
-    assert_rows(rt, ROWS_OF_16_BITS);
-    assert_rows(rt, ROWS_OF_32_BITS);
-    assert_rows(rt, ROWS_OF_64_BITS);
-    assert_rows(rt, ROWS_OF_SIZES);
 }
 
 // Each modulus has as many checked forms as values.

@@ -2,7 +2,6 @@
 
 use num_modular::modular_reduced::reducer::Reducer;
 use num_modular::modular_word::ring_word::RingWord;
-use crate::runtime::Abort;
 
 /// The residue of a word.
 pub fn remainder<T: RingWord, R: Reducer<T>>(ring: &R, n: T) -> T {
@@ -120,17 +119,9 @@ fn is_right<T: RingWord, R: Reducer<T>>(ring: &R, row: &Row<T>) -> bool {
     }
 }
 
-/// Whether a reducer has the row's modulus, and the row is right of it.
-pub fn is_right_modulo<T: RingWord, R: Reducer<T>>(ring: &R, row: &(T, Row<T>)) -> bool {
-    ring.modulus() == row.0 && is_right(ring, &row.1)
-}
-
-/// Asserts that the rows are right of the reducer of m.
-pub fn assert_rows<T: RingWord, R: Reducer<T> + Copy>(rt: &impl Abort, m: T, rows: &[Row<T>]) {
-    let ring = &R::new(&m);
-    for row in rows {
-        check!(rt, 1; is_right(ring, row));
-    }
+/// Whether a reducer has this modulus, and the row is right of it.
+pub fn is_right_modulo<T: RingWord, R: Reducer<T>>(ring: &R, m: T, row: &Row<T>) -> bool {
+    ring.modulus() == m && is_right(ring, row)
 }
 
 // A number modulo m.
