@@ -66,8 +66,9 @@ const STOPPING_AT_DIV: [RingCommand<u8>; 4] = [
 
 #[test]
 fn the_table_of_runs(rt: HostRuntime) {
-    for i in 0..RUNS.len() {
-        assert_at(&rt, is_right(&RUNS[i]), &i);
+    let runs = RUNS;
+    for i in 0..runs.len() {
+        assert_at(&rt, is_right(&runs[i]), &i);
     }
 }
 

@@ -23,12 +23,15 @@ pub enum Call<T> {
 }
 
 /// A row: the modulus, a root and how many factors the plan by the root has; the block and how many entries
-/// the last blocks have; one list, with none beside it, or two; and what a call makes of them.
+/// the last blocks have; one list, or two of the same length, one after the other; and what a call makes of them.
 pub struct Row<'a, T> {
-    pub plan: (T, T, usize),
-    pub block: (usize, usize),
-    pub lists: (&'a [T], &'a [T]),
-    pub want: (&'a [T], &'a [T]),
+    pub m: T,
+    pub root: T,
+    pub factors: usize,
+    pub block: usize,
+    pub last: usize,
+    pub lists: &'a [T],
+    pub want: &'a [T],
 }
 
 // Whether each entry is below 4m. A loop, since a closure takes longer to prove.
@@ -157,16 +160,22 @@ fn convolved<T: PlainWord, F: PlanEntry<T>>(
 fn called<T: PlainWord, F: PlanEntry<T>>(
     m: &PlannedModulus<T>,
     call: &Call<T>,
-    block: (usize, usize),
-    xs: &mut [T],
-    ys: &mut [T],
+    lists: &mut [T],
     table: &[F],
+    b: usize,
+    last: usize,
 ) -> Option<bool> {
-    let (b, last) = block;
+    let half = lists.len() / 2;
     let is_done = match call {
-        Call::Convolve => return convolved(m, xs, ys, table, b, last),
-        Call::Multiply => is_multiplied(m, xs, ys, table, b, last),
-        _ => is_done(m, call, xs, table, b, last),
+        Call::Convolve => {
+            let (xs, ys) = lists.split_at_mut(half);
+            return convolved(m, xs, ys, table, b, last);
+        }
+        Call::Multiply => {
+            let (xs, ys) = lists.split_at_mut(half);
+            is_multiplied(m, xs, ys, table, b, last)
+        }
+        _ => is_done(m, call, lists, table, b, last),
     };
     if is_done { Some(true) } else { None }
 }
@@ -188,27 +197,23 @@ fn are_same<T: RingWord>(xs: &[T], ys: &[T]) -> bool {
     xs.len() == ys.len()
 }
 
-// Whether the call gives this answer and leaves the row's lists, with room for a table and two lists.
+// Whether the call gives this answer and leaves the row's lists, with room for a table and the lists.
 fn is_right<T: PlainWord>(
     call: &Call<T>,
     answer: Option<bool>,
     row: &Row<T>,
     table: &mut [Factor<T>],
-    first: &mut [T],
-    second: &mut [T],
+    room: &mut [T],
 ) -> bool {
-    let (modulus, g, factors) = row.plan;
-    if !PlannedModulus::admits(modulus) || factors > table.len() {
+    if !PlannedModulus::admits(row.m) || row.factors > table.len() {
         return false;
     }
-    let m = PlannedModulus::new(modulus);
-    let table = &mut table[..factors];
-    let xs = placed(first, row.lists.0);
-    let ys = placed(second, row.lists.1);
-    is_planned(&m, g, table)
-        && called(&m, call, row.block, xs, ys, table) == answer
-        && are_same(xs, row.want.0)
-        && are_same(ys, row.want.1)
+    let m = PlannedModulus::new(row.m);
+    let table = &mut table[..row.factors];
+    let lists = placed(room, row.lists);
+    is_planned(&m, row.root, table)
+        && called(&m, call, lists, table, row.block, row.last) == answer
+        && are_same(lists, row.want)
 }
 
 // The place of the first row for which that isn't so.
@@ -216,12 +221,11 @@ fn first_wrong<T: PlainWord>(
     call: &Call<T>,
     answer: Option<bool>,
     rows: &[Row<T>],
-    room: &mut [Factor<T>],
-    first: &mut [T],
-    second: &mut [T],
+    table: &mut [Factor<T>],
+    room: &mut [T],
 ) -> Option<usize> {
     for i in 0..rows.len() {
-        if !is_right(call, answer, &rows[i], room, first, second) {
+        if !is_right(call, answer, &rows[i], table, room) {
             return Some(i);
         }
     }
@@ -231,18 +235,18 @@ fn first_wrong<T: PlainWord>(
 /// The place of the first row whose call doesn't give this answer, or leaves other lists. The answer is what the call
 /// returns, true where it returns nothing, and `None` where its conditions don't hold.
 pub fn first_wrong_16(call: &Call<u16>, answer: Option<bool>, rows: &[Row<u16>]) -> Option<usize> {
-    let mut room = [Factor::<u16>::ZERO; 8];
-    first_wrong(call, answer, rows, &mut room, &mut [0; 16], &mut [0; 16])
+    let mut table = [Factor::<u16>::ZERO; 8];
+    first_wrong(call, answer, rows, &mut table, &mut [0; 32])
 }
 
 /// The same of words of 32 bits.
 pub fn first_wrong_32(call: &Call<u32>, answer: Option<bool>, rows: &[Row<u32>]) -> Option<usize> {
-    let mut room = [Factor::<u32>::ZERO; 8];
-    first_wrong(call, answer, rows, &mut room, &mut [0; 16], &mut [0; 16])
+    let mut table = [Factor::<u32>::ZERO; 8];
+    first_wrong(call, answer, rows, &mut table, &mut [0; 32])
 }
 
 /// The same of words of 64 bits.
 pub fn first_wrong_64(call: &Call<u64>, answer: Option<bool>, rows: &[Row<u64>]) -> Option<usize> {
-    let mut room = [Factor::<u64>::ZERO; 8];
-    first_wrong(call, answer, rows, &mut room, &mut [0; 16], &mut [0; 16])
+    let mut table = [Factor::<u64>::ZERO; 8];
+    first_wrong(call, answer, rows, &mut table, &mut [0; 32])
 }
