@@ -4,7 +4,7 @@ ghost use Rattle.std.specs.Prelude.{◌≡◌, ◌<◌, ◌≤◌, All, length};
 ghost use Rattle.num_modular.specs.Forms.{IsForm};
 
 use num_modular::ring::{load_forms, unload_forms};
-use num_modular::{FixedMersenne64, Montgomery, Reducer, RingWord};
+use num_modular::{FixedMersenne64, Montgomery, Reducer};
 use ring_codes::erasure::{
     RestoreError, ShareError, encode, encode_systematic, is_codeword, points_fit, recover, restore,
     restore_word, share,
@@ -13,37 +13,37 @@ use std::process::Abort;
 
 const MERSENNE_PRIME: u64 = 2305843009213693951;
 
-fn forms_of<T: RingWord, R: Reducer<T>, const N: usize>(r: &R, words: &[T; N]) -> [T; N]
-    ensures { All (λ f. IsForm R.form R.value (R.modulus r.now) (T.number f)) result }
+fn forms_of<R: Reducer<u64>, const N: usize>(r: &R, words: &[u64; N]) -> [u64; N]
+    ensures { All (λ f. IsForm R.form R.value (R.modulus r.now) f) result }
 {
-    let mut forms = [T::zero(); N];
+    let mut forms = [0; N];
     load_forms(r, words, &mut forms);
     forms
 }
 
-fn words_of<T: RingWord, R: Reducer<T>, const N: usize>(r: &R, forms: &[T; N]) -> [T; N]
-    requires { All (λ f. IsForm R.form R.value (R.modulus r.now) (T.number f)) forms.now }
+fn words_of<R: Reducer<u64>, const N: usize>(r: &R, forms: &[u64; N]) -> [u64; N]
+    requires { All (λ f. IsForm R.form R.value (R.modulus r.now) f) forms.now }
 {
-    let mut words = [T::zero(); N];
+    let mut words = [0; N];
     unload_forms(r, forms, &mut words);
     words
 }
 
 // The systematic word of a message; `None` where the points don't fit. All are forms.
-fn systematic_word_of<T: RingWord, R: Reducer<T>, const N: usize, const K: usize>(
+fn systematic_word_of<R: Reducer<u64>, const N: usize, const K: usize>(
     r: &R,
-    points: &[T],
-    message: &[T],
-) -> Option<[T; N]>
-    requires points { All (λ f. IsForm R.form R.value (R.modulus r.now) (T.number f)) points.now }
-    requires message { All (λ f. IsForm R.form R.value (R.modulus r.now) (T.number f)) message.now }
+    points: &[u64],
+    message: &[u64],
+) -> Option<[u64; N]>
+    requires points { All (λ f. IsForm R.form R.value (R.modulus r.now) f) points.now }
+    requires message { All (λ f. IsForm R.form R.value (R.modulus r.now) f) message.now }
     requires count { length points.now ≡ N }
     requires symbols { length message.now ≡ K }
     requires few { K ≤ N }
 {
-    let mut weights = [T::zero(); K];
-    let mut coefficients = [T::zero(); K];
-    let mut word = [T::zero(); N];
+    let mut weights = [0; K];
+    let mut coefficients = [0; K];
+    let mut word = [0; N];
     if encode_systematic(
         r,
         points,
@@ -59,14 +59,14 @@ fn systematic_word_of<T: RingWord, R: Reducer<T>, const N: usize, const K: usize
 }
 
 // Whether a word is that of a message of three symbols; `None` where the points don't fit. All are forms.
-fn is_word<T: RingWord, R: Reducer<T>>(r: &R, points: &[T], word: &[T]) -> Option<bool>
-    requires points { All (λ f. IsForm R.form R.value (R.modulus r.now) (T.number f)) points.now }
-    requires word { All (λ f. IsForm R.form R.value (R.modulus r.now) (T.number f)) word.now }
+fn is_word<R: Reducer<u64>>(r: &R, points: &[u64], word: &[u64]) -> Option<bool>
+    requires points { All (λ f. IsForm R.form R.value (R.modulus r.now) f) points.now }
+    requires word { All (λ f. IsForm R.form R.value (R.modulus r.now) f) word.now }
     requires symbols { length word.now ≡ length points.now }
     requires few { 3 ≤ length points.now }
 {
-    let mut weights = [T::zero(); 3];
-    let mut message = [T::zero(); 3];
+    let mut weights = [0; 3];
+    let mut message = [0; 3];
     if points_fit(r, points) {
         Some(is_codeword(r, points, word, &mut weights, &mut message))
     } else {
@@ -74,26 +74,26 @@ fn is_word<T: RingWord, R: Reducer<T>>(r: &R, points: &[T], word: &[T]) -> Optio
     }
 }
 
-// Whether the symbols at these places give this error, or where there is none the message and the word, by `restore`
-// and by `restore_word`. All are forms.
-fn restores<T: RingWord, R: Reducer<T>, const N: usize, const K: usize>(
+// Whether the symbols at these places give this result, and where they can be restored the message and the word, by
+// `restore` and by `restore_word`. All are forms.
+fn restores<R: Reducer<u64>, const N: usize, const K: usize>(
     r: &R,
-    points: &[T],
+    points: &[u64],
     places: &[usize],
-    symbols: &[T],
-    error: Option<RestoreError>,
-    message: &[T; K],
-    word: &[T; N],
+    symbols: &[u64],
+    want: Result<(), RestoreError>,
+    message: &[u64; K],
+    word: &[u64; N],
 ) -> bool
-    requires points { All (λ f. IsForm R.form R.value (R.modulus r.now) (T.number f)) points.now }
-    requires symbols { All (λ f. IsForm R.form R.value (R.modulus r.now) (T.number f)) symbols.now }
+    requires points { All (λ f. IsForm R.form R.value (R.modulus r.now) f) points.now }
+    requires symbols { All (λ f. IsForm R.form R.value (R.modulus r.now) f) symbols.now }
     requires pairs { length symbols.now ≡ length places.now }
     requires count { length points.now ≡ N }
     requires few { K ≤ N }
 {
-    let mut chosen = [T::zero(); K];
-    let mut weights = [T::zero(); K];
-    let mut found = [T::zero(); K];
+    let mut chosen = [0; K];
+    let mut weights = [0; K];
+    let mut found = [0; K];
     let alone = restore(
         r,
         points,
@@ -103,7 +103,7 @@ fn restores<T: RingWord, R: Reducer<T>, const N: usize, const K: usize>(
         &mut weights,
         &mut found,
     );
-    let mut whole = [T::zero(); N];
+    let mut whole = [0; N];
     let within = restore_word(
         r,
         points,
@@ -113,16 +113,9 @@ fn restores<T: RingWord, R: Reducer<T>, const N: usize, const K: usize>(
         &mut chosen,
         &mut whole,
     );
-    match error {
-        Some(error) => alone == Err(error) && within == Err(error),
-        None => {
-            alone == Ok(())
-                && within == Ok(())
-                && found == *message
-                && chosen == *message
-                && whole == *word
-        }
-    }
+    alone == want
+        && within == want
+        && (want.is_err() || found == *message && chosen == *message && whole == *word)
 }
 
 // The symbols at three places.
@@ -155,7 +148,7 @@ fn restores_from_each_three<R: Reducer<u64>, const N: usize>(r: &R, row: &Row<N>
             for c in b + 1..N {
                 let places = [a, b, c];
                 let symbols = forms_of(r, &at_places(&row.word, &places));
-                if !restores(r, &points, &places, &symbols, None, &message, &word) {
+                if !restores(r, &points, &places, &symbols, Ok(()), &message, &word) {
                     return false;
                 }
             }
@@ -185,7 +178,7 @@ fn has_systematic_word<R: Reducer<u64>>(r: &R, row: &Row<7>) -> bool {
     let points = forms_of(r, &row.points);
     let message = forms_of(r, &row.message);
     let word = forms_of(r, &row.word);
-    systematic_word_of::<_, _, 7, 3>(r, &points, &message) == Some(word)
+    systematic_word_of::<_, 7, 3>(r, &points, &message) == Some(word)
         && is_word(r, &points, &word) == Some(true)
 }
 
@@ -293,7 +286,7 @@ fn restores_many<R: Reducer<u64>>(r: &R) -> bool {
     let words = words_of(r, &word);
     let (places, symbols) = last_symbols(&words);
     let symbols = forms_of(r, &symbols);
-    is_known_word(&words) && restores(r, &points, &places, &symbols, None, &message, &word)
+    is_known_word(&words) && restores(r, &points, &places, &symbols, Ok(()), &message, &word)
 }
 
 // Whether this error comes of these places and symbols, for a message of three symbols.
@@ -305,7 +298,7 @@ fn refuses<R: Reducer<u64>, const P: usize>(
 ) -> bool {
     let points = forms_of(r, &[0, 1, 2, 3, 4, 5, 6, 7]);
     let symbols = forms_of(r, symbols);
-    restores(r, &points, places, &symbols, Some(error), &[0; 3], &[0; 8])
+    restores(r, &points, places, &symbols, Err(error), &[0; 3], &[0; 8])
 }
 
 fn assert_refused<R: Reducer<u64>>(rt: &impl Abort, r: &R) {
@@ -314,7 +307,7 @@ fn assert_refused<R: Reducer<u64>>(rt: &impl Abort, r: &R) {
     check!(rt, 23; refuses(r, &[0, 8, 1], &[1, 2, 3], RestoreError::PlaceOutOfRange));
     check!(rt, 24; refuses(r, &[0, 3, 7], &[1, 2, 3], RestoreError::PointsDontFit));
     let (points, message) = (forms_of(r, &[0, 7, 1]), forms_of(r, &[1, 2]));
-    check!(rt, 25; systematic_word_of::<_, _, 3, 2>(r, &points, &message) == None);
+    check!(rt, 25; systematic_word_of::<_, 3, 2>(r, &points, &message) == None);
 }
 
 // The shares of a secret at these points.
@@ -376,14 +369,22 @@ fn assert_secrets<R: Reducer<u64>>(rt: &impl Abort, r: &R) {
     check!(rt, 36; shares_of(r, &[1, 2, 929], coefficients) == Err(ShareError::PointZero));
 }
 
+// Generic in the reducer, as each call with a known one takes long to prove.
+fn assert_codes<R: Reducer<u64> + Copy>(rt: &impl Abort)
+    requires of_257 { R.admits 257 }
+    requires of_929 { R.admits 929 }
+    requires of_1001 { R.admits 1001 }
+{
+    let prime = &R::new(&929);
+    let composite = &R::new(&1001);
+    assert_words(rt, prime, composite);
+    assert_fit(rt, prime, composite);
+    assert_refused(rt, composite);
+    assert_secrets(rt, prime);
+    check!(rt, 41; restores_many(&R::new(&257)));
+}
+
 #[test]
 fn codes_by_montgomery_forms(rt: HostRuntime) {
-    let rt = &rt;
-    let prime = Montgomery::<u64>::new(929);
-    let composite = Montgomery::<u64>::new(1001);
-    assert_words(rt, &prime, &composite);
-    assert_fit(rt, &prime, &composite);
-    assert_refused(rt, &composite);
-    assert_secrets(rt, &prime);
-    check!(rt, 41; restores_many(&Montgomery::<u64>::new(257)));
+    assert_codes::<Montgomery<u64>>(&rt);
 }

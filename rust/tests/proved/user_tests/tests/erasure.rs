@@ -1,7 +1,7 @@
 //! Erasure codes: words of messages, messages from every choice of places, and bad input.
 
 use num_modular::ring::{load_forms, unload_forms};
-use num_modular::{FixedMersenne64, Montgomery, Reducer, RingWord};
+use num_modular::{FixedMersenne64, Montgomery, Reducer};
 use num_modular::applications::ring_codes::erasure::{
     RestoreError, ShareError, encode, encode_systematic, is_codeword, points_fit, recover, restore,
     restore_word, share,
@@ -10,27 +10,27 @@ use crate::runtime::Abort;
 
 const MERSENNE_PRIME: u64 = 2305843009213693951;
 
-fn forms_of<T: RingWord, R: Reducer<T>, const N: usize>(r: &R, words: &[T; N]) -> [T; N] {
-    let mut forms = [T::zero(); N];
+fn forms_of<R: Reducer<u64>, const N: usize>(r: &R, words: &[u64; N]) -> [u64; N] {
+    let mut forms = [0; N];
     load_forms(r, words, &mut forms);
     forms
 }
 
-fn words_of<T: RingWord, R: Reducer<T>, const N: usize>(r: &R, forms: &[T; N]) -> [T; N] {
-    let mut words = [T::zero(); N];
+fn words_of<R: Reducer<u64>, const N: usize>(r: &R, forms: &[u64; N]) -> [u64; N] {
+    let mut words = [0; N];
     unload_forms(r, forms, &mut words);
     words
 }
 
 // The systematic word of a message; `None` where the points don't fit. All are forms.
-fn systematic_word_of<T: RingWord, R: Reducer<T>, const N: usize, const K: usize>(
+fn systematic_word_of<R: Reducer<u64>, const N: usize, const K: usize>(
     r: &R,
-    points: &[T],
-    message: &[T],
-) -> Option<[T; N]> {
-    let mut weights = [T::zero(); K];
-    let mut coefficients = [T::zero(); K];
-    let mut word = [T::zero(); N];
+    points: &[u64],
+    message: &[u64],
+) -> Option<[u64; N]> {
+    let mut weights = [0; K];
+    let mut coefficients = [0; K];
+    let mut word = [0; N];
     if encode_systematic(
         r,
         points,
@@ -46,9 +46,9 @@ fn systematic_word_of<T: RingWord, R: Reducer<T>, const N: usize, const K: usize
 }
 
 // Whether a word is that of a message of three symbols; `None` where the points don't fit. All are forms.
-fn is_word<T: RingWord, R: Reducer<T>>(r: &R, points: &[T], word: &[T]) -> Option<bool> {
-    let mut weights = [T::zero(); 3];
-    let mut message = [T::zero(); 3];
+fn is_word<R: Reducer<u64>>(r: &R, points: &[u64], word: &[u64]) -> Option<bool> {
+    let mut weights = [0; 3];
+    let mut message = [0; 3];
     if points_fit(r, points) {
         Some(is_codeword(r, points, word, &mut weights, &mut message))
     } else {
@@ -56,20 +56,20 @@ fn is_word<T: RingWord, R: Reducer<T>>(r: &R, points: &[T], word: &[T]) -> Optio
     }
 }
 
-// Whether the symbols at these places give this error, or where there is none the message and the word, by `restore`
-// and by `restore_word`. All are forms.
-fn restores<T: RingWord, R: Reducer<T>, const N: usize, const K: usize>(
+// Whether the symbols at these places give this result, and where they can be restored the message and the word, by
+// `restore` and by `restore_word`. All are forms.
+fn restores<R: Reducer<u64>, const N: usize, const K: usize>(
     r: &R,
-    points: &[T],
+    points: &[u64],
     places: &[usize],
-    symbols: &[T],
-    error: Option<RestoreError>,
-    message: &[T; K],
-    word: &[T; N],
+    symbols: &[u64],
+    want: Result<(), RestoreError>,
+    message: &[u64; K],
+    word: &[u64; N],
 ) -> bool {
-    let mut chosen = [T::zero(); K];
-    let mut weights = [T::zero(); K];
-    let mut found = [T::zero(); K];
+    let mut chosen = [0; K];
+    let mut weights = [0; K];
+    let mut found = [0; K];
     let alone = restore(
         r,
         points,
@@ -79,7 +79,7 @@ fn restores<T: RingWord, R: Reducer<T>, const N: usize, const K: usize>(
         &mut weights,
         &mut found,
     );
-    let mut whole = [T::zero(); N];
+    let mut whole = [0; N];
     let within = restore_word(
         r,
         points,
@@ -89,16 +89,9 @@ fn restores<T: RingWord, R: Reducer<T>, const N: usize, const K: usize>(
         &mut chosen,
         &mut whole,
     );
-    match error {
-        Some(error) => alone == Err(error) && within == Err(error),
-        None => {
-            alone == Ok(())
-                && within == Ok(())
-                && found == *message
-                && chosen == *message
-                && whole == *word
-        }
-    }
+    alone == want
+        && within == want
+        && (want.is_err() || found == *message && chosen == *message && whole == *word)
 }
 
 // The symbols at three places.
@@ -129,7 +122,7 @@ fn restores_from_each_three<R: Reducer<u64>, const N: usize>(r: &R, row: &Row<N>
             for c in b + 1..N {
                 let places = [a, b, c];
                 let symbols = forms_of(r, &at_places(&row.word, &places));
-                if !restores(r, &points, &places, &symbols, None, &message, &word) {
+                if !restores(r, &points, &places, &symbols, Ok(()), &message, &word) {
                     return false;
                 }
             }
@@ -157,7 +150,7 @@ fn has_systematic_word<R: Reducer<u64>>(r: &R, row: &Row<7>) -> bool {
     let points = forms_of(r, &row.points);
     let message = forms_of(r, &row.message);
     let word = forms_of(r, &row.word);
-    systematic_word_of::<_, _, 7, 3>(r, &points, &message) == Some(word)
+    systematic_word_of::<_, 7, 3>(r, &points, &message) == Some(word)
         && is_word(r, &points, &word) == Some(true)
 }
 
@@ -264,7 +257,7 @@ fn restores_many<R: Reducer<u64>>(r: &R) -> bool {
     let words = words_of(r, &word);
     let (places, symbols) = last_symbols(&words);
     let symbols = forms_of(r, &symbols);
-    is_known_word(&words) && restores(r, &points, &places, &symbols, None, &message, &word)
+    is_known_word(&words) && restores(r, &points, &places, &symbols, Ok(()), &message, &word)
 }
 
 // Whether this error comes of these places and symbols, for a message of three symbols.
@@ -276,7 +269,7 @@ fn refuses<R: Reducer<u64>, const P: usize>(
 ) -> bool {
     let points = forms_of(r, &[0, 1, 2, 3, 4, 5, 6, 7]);
     let symbols = forms_of(r, symbols);
-    restores(r, &points, places, &symbols, Some(error), &[0; 3], &[0; 8])
+    restores(r, &points, places, &symbols, Err(error), &[0; 3], &[0; 8])
 }
 
 fn assert_refused<R: Reducer<u64>>(rt: &impl Abort, r: &R) {
@@ -285,7 +278,7 @@ fn assert_refused<R: Reducer<u64>>(rt: &impl Abort, r: &R) {
     check!(rt, 23; refuses(r, &[0, 8, 1], &[1, 2, 3], RestoreError::PlaceOutOfRange));
     check!(rt, 24; refuses(r, &[0, 3, 7], &[1, 2, 3], RestoreError::PointsDontFit));
     let (points, message) = (forms_of(r, &[0, 7, 1]), forms_of(r, &[1, 2]));
-    check!(rt, 25; systematic_word_of::<_, _, 3, 2>(r, &points, &message) == None);
+    check!(rt, 25; systematic_word_of::<_, 3, 2>(r, &points, &message) == None);
 }
 
 // The shares of a secret at these points.
@@ -347,15 +340,19 @@ fn assert_secrets<R: Reducer<u64>>(rt: &impl Abort, r: &R) {
     check!(rt, 36; shares_of(r, &[1, 2, 929], coefficients) == Err(ShareError::PointZero));
 }
 
+// Generic in the reducer, as each call with a known one takes long to prove.
+fn assert_codes<R: Reducer<u64> + Copy>(rt: &impl Abort) {
+    let prime = &R::new(&929);
+    let composite = &R::new(&1001);
+    assert_words(rt, prime, composite);
+    assert_fit(rt, prime, composite);
+    assert_refused(rt, composite);
+    assert_secrets(rt, prime);
+    check!(rt, 41; restores_many(&R::new(&257)));
+}
+
 #[test]
 fn codes_by_montgomery_forms() {
     let rt = crate::runtime::HostRuntime;
-    let rt = &rt;
-    let prime = Montgomery::<u64>::new(929);
-    let composite = Montgomery::<u64>::new(1001);
-    assert_words(rt, &prime, &composite);
-    assert_fit(rt, &prime, &composite);
-    assert_refused(rt, &composite);
-    assert_secrets(rt, &prime);
-    check!(rt, 41; restores_many(&Montgomery::<u64>::new(257)));
+    assert_codes::<Montgomery<u64>>(&rt);
 }
