@@ -1,9 +1,10 @@
 -- The arithmetic of a reduction that divides by the base.
-use Rattle.std.proofs.Common.{◌≡◌, ℕ, ◌+◌, ◌-◌, ◌*◌, ◌/◌, ◌%◌, ◌<◌, ◌≤◌, ◌⊎◌, sym, ap, ◌∙◌, arith, ⊎_elim}
-use Rattle.std.proofs.Math.Nat.{add-mod, mod-eq_of_lt, mod-lt, div-add-mod, mul-le-mul_left, mul-le-mul_right, add-mul-mod_self_left}
+use Rattle.std.proofs.Common.{◌≡◌, ℕ, ◌+◌, ◌-◌, ◌*◌, ◌/◌, ◌%◌, ◌<◌, ◌≤◌, ◌⊎◌, inl, inr, sym, ap, ◌∙◌, arith, ⊎_elim}
+use Rattle.std.proofs.Math.Nat.{add-mod, mod-eq_of_lt, mod-lt, div-add-mod, mul-le-mul_left, mul-le-mul_right, add-mul-mod_self_left, lt_of_mul-lt-mul_right}
 use Rattle.std.proofs.lemmas.Nat.{mul-mod_first, mul-mod_second}
 use Rattle.std.proofs.lemmas.Bool.{cases_lt}
-use Rattle.modular_word.proofs.Congruence.{same_without_unit, next_is_multiple}
+use Rattle.modular_word.proofs.Congruence.{same_rest, factor_cancel, same_without_unit, next_is_multiple}
+use Rattle.modular_word.proofs.Divisors.{multiple_of}
 use Rattle.modular_word.specs.Reduction.{IsReduction, IsNegatedInverse}
 
 -- a number t with the low word t0, and the multiple of m by t0 times the negated inverse i, add up to a multiple of B
@@ -32,6 +33,91 @@ pub high_sum_is : (m q r : ℕ) → q < m + m → ((q < m) × (r ≡ q)) ⊎ (r 
 high_sum_is m q r below is = ⊎_elim (λ (h : (q < m) × (r ≡ q)). h.1 ∙ sym (mod-eq_of_lt h.0)) (λ (h : r + m ≡ q).
     let e : q ≡ r + m * 1 = omega arith in
     sym (ap (λ v. v % m) e ∙ add-mul-mod_self_left r m 1 ∙ mod-eq_of_lt (let l : r < m = omega arith in l))) is
+
+-- a number below the base and a multiple of it that add up to a multiple of the base
+only_multiple : (B x s q : ℕ) → x < B → x + B * s ≡ B * q → (x ≡ 0) × (s ≡ q)
+only_multiple B x s q below e =
+    let some : 0 < B = omega (arith, below) in
+    let none : x ≡ 0 = same_rest B x 0 s q below some (let h : x + B * s ≡ 0 + B * q = omega (arith, e) in h) in
+    (none, factor_cancel B s q some (let h : B * s ≡ B * q = omega (arith, none, e) in h))
+
+-- a sum whose low word is 0, by the base: the sum of the high words, and 1 where the low words aren't 0
+pub high_sum_of : (B t u t0 h l k carried : ℕ) → (t + u) % B ≡ 0 → t ≡ t0 + B * h → t0 < B → u ≡ l + B * k → l < B
+    → ((l ≡ 0) × (carried ≡ k)) ⊎ ((0 < l) × (carried ≡ k + 1)) → (t + u) / B ≡ h + carried
+high_sum_of B t u t0 h l k carried cleared et t0_fits eu l_fits is =
+    let q = (t + u) / B in
+    let whole : t + u ≡ B * q = multiple_of B (t + u) cleared in
+    ⊎_elim (λ (none : (l ≡ 0) × (carried ≡ k)).
+    let e : t0 + B * (h + k) ≡ B * q = let f = none.0 in omega arith in
+    let r = (only_multiple B t0 (h + k) q t0_fits e).1 in
+    let f = none.1 in omega arith) (λ (some : (0 < l) × (carried ≡ k + 1)).
+    ⊎_elim (λ (less : t0 + l < B).
+    let e : t0 + l + B * (h + k) ≡ B * q = omega arith in
+    let z = (only_multiple B (t0 + l) (h + k) q less e).0 in
+    absurd (let f = some.0 in omega arith)) (λ (more : B ≤ t0 + l).
+    let e : t0 + l - B + B * (h + k + 1) ≡ B * q = omega arith in
+    let r = (only_multiple B (t0 + l - B) (h + k + 1) q (omega arith) e).1 in
+    let f = some.1 in omega arith) (cases_lt (t0 + l) B)) is
+
+-- the high word of a number below m times the base
+pub high_below : (B m x x0 x1 : ℕ) → x ≡ x0 + B * x1 → x < B * m → x1 < m
+high_below B m x x0 x1 parts below = lt_of_mul-lt-mul_right B (let h : x1 * B < m * B = omega arith in h)
+
+-- a sum of two numbers below m times the base, by the base
+pub high_sum_below : (B m t u : ℕ) → (t + u) % B ≡ 0 → t < B * m → u < B * m → (t + u) / B < m + m
+high_sum_below B m t u cleared first second =
+    let whole : t + u ≡ B * ((t + u) / B) = multiple_of B (t + u) cleared in
+    lt_of_mul-lt-mul_right B (let h : (t + u) / B * B < (m + m) * B = omega arith in h)
+
+-- a number that is the base more than a word
+wrapped : (B q s : ℕ) → q < B → s ≡ q + B → s % B ≡ q
+wrapped B q s fits e =
+    ap (λ v. v % B) (let h : s ≡ q + B * 1 = omega (arith, e) in h) ∙ add-mul-mod_self_left q B 1 ∙ mod-eq_of_lt fits
+
+-- a wrapping difference of a word and a greater one
+pub borrowing : (B a b d : ℕ) → a < b → b < B → d < B → (d + b) % B ≡ a → d + b ≡ a + B
+borrowing B a b d less fits d_fits e =
+    ⊎_elim (λ (h : d + b < B).
+    let same : d + b ≡ a = sym (mod-eq_of_lt h) ∙ e in
+    absurd (omega arith)) (λ (h : B ≤ d + b).
+    let same : (d + b) % B ≡ d + b - B = wrapped B (d + b - B) (d + b) (omega arith) (omega arith) in
+    omega (arith, same, e)) (cases_lt (d + b) B)
+
+-- the base less m, where some number is below m times the base
+pub complement_of : (B m t c z : ℕ) → t < B * m → m < B → c < B → z ≡ 0 → (c + m) % B ≡ z → c + m ≡ B
+complement_of B m t c z below fits c_fits none e =
+    ⊎_elim (λ (some : 0 < m).
+    let h : c + m ≡ 0 + B = borrowing B 0 m c some fits c_fits (e ∙ none) in
+    omega (arith, h)) (λ (h : m ≤ 0).
+    let a : B * m ≤ B * 0 = mul-le-mul_left B h in
+    absurd (omega (arith, below))) (cases_lt 0 m)
+
+-- q modulo m, where q less m is known modulo the base: q is at least m ..
+pub above_modulus : (m q r : ℕ) → q < m + m → r + m ≡ q → r ≡ q % m
+above_modulus m q r twice e = high_sum_is m q r twice (inr e)
+
+-- .. or below m
+pub below_modulus : (B m q rest r : ℕ) → m < B → q < m + m → rest < B → rest + m ≡ q + B → r ≡ (rest + m) % B
+    → r ≡ q % m
+below_modulus B m q rest r fits twice rest_fits e is =
+    let less : q < m = omega (arith, rest_fits, e) in
+    high_sum_is m q r twice (inl (less, is ∙ wrapped B q (rest + m) (omega (arith, less, fits)) e))
+
+-- a sum and the base less m, each times the base, in double words: q less m is the high word, with a carry ..
+pub double_carried : (B m q c t u more s s0 r : ℕ) → t + u ≡ B * q → c + m ≡ B → more ≡ t + B * c
+    → more + u ≡ s + B * B → s ≡ s0 + B * r → s0 < B → r + m ≡ q
+double_carried B m q c t u more s s0 r whole complement em es parts s0_fits =
+    let e : s0 + B * (r + B) ≡ B * (q + c) = omega (arith, whole, em, es, parts) in
+    let h = (only_multiple B s0 (r + B) (q + c) s0_fits e).1 in
+    omega (arith, h, complement)
+
+-- .. and the base more without
+pub double_exact : (B m q c t u more s s0 r : ℕ) → t + u ≡ B * q → c + m ≡ B → more ≡ t + B * c
+    → more + u ≡ s → s ≡ s0 + B * r → s0 < B → r + m ≡ q + B
+double_exact B m q c t u more s s0 r whole complement em es parts s0_fits =
+    let e : s0 + B * r ≡ B * (q + c) = omega (arith, whole, em, es, parts) in
+    let h = (only_multiple B s0 r (q + c) s0_fits e).1 in
+    omega (arith, h, complement)
 
 -- t and a multiple of m, by the base, modulo m: the reduction of t
 pub reduces : (B m t x r : ℕ) → t < B * m → (t + x * m) % B ≡ 0 → r ≡ ((t + x * m) / B) % m → IsReduction B m t r

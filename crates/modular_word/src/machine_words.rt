@@ -5,21 +5,6 @@ ghost use Rattle.std.proofs.Common.{refl};
 
 use crate::path_word::PathWord;
 
-// `high_sum_modulo` of words of 64 bits. It adds single words, since a sum of double words takes longer.
-fn high_sum_modulo_64(first: u128, second: u128, m: u64) -> u64
-    requires cleared { (first + second) % 2 ^ 64 ≡ 0 }
-    requires first { first < 2 ^ 64 * m }
-    requires second { second < 2 ^ 64 * m }
-    ensures { result ≡ ((first + second) / 2 ^ 64) % m }
-{
-    let (_, first_high) = <u64 as PathWord>::split(first);
-    let (low, high) = <u64 as PathWord>::split(second);
-    // The low words add up to 0, or to the base.
-    let carried = if low == 0 { high } else { high + 1 };
-    let (rest, is_above) = first_high.wrapping_sub(m).overflowing_add(carried);
-    if is_above { rest } else { rest.wrapping_add(m) }
-}
-
 impl PathWord for u8 {
     type Double = u16;
 
@@ -49,6 +34,10 @@ impl PathWord for u8 {
 
     fn wrapping_add(self, rhs: u8) -> u8 {
         self.wrapping_add(rhs)
+    }
+
+    fn overflowing_add(self, rhs: u8) -> (u8, bool) {
+        self.overflowing_add(rhs)
     }
 
     fn wrapping_sub(self, rhs: u8) -> u8 {
@@ -100,14 +89,12 @@ impl PathWord for u8 {
         low as u16 + ((high as u16) << 8)
     }
 
-    fn high_sum_modulo(first: u16, second: u16, m: u8) -> u8 {
-        let (rest, is_above) = second.overflowing_add(first.wrapping_sub((m as u16) << 8));
-        let high = (rest >> 8) as u8;
-        if is_above { high } else { high.wrapping_add(m) }
-    }
-
     fn double_plus(first: u16, second: u16) -> u16 {
         first + second
+    }
+
+    fn double_overflowing_add(first: u16, second: u16) -> (u16, bool) {
+        first.overflowing_add(second)
     }
 
     ghost base_is = { refl };
@@ -142,6 +129,10 @@ impl PathWord for u16 {
 
     fn wrapping_add(self, rhs: u16) -> u16 {
         self.wrapping_add(rhs)
+    }
+
+    fn overflowing_add(self, rhs: u16) -> (u16, bool) {
+        self.overflowing_add(rhs)
     }
 
     fn wrapping_sub(self, rhs: u16) -> u16 {
@@ -193,14 +184,12 @@ impl PathWord for u16 {
         low as u32 + ((high as u32) << 16)
     }
 
-    fn high_sum_modulo(first: u32, second: u32, m: u16) -> u16 {
-        let (rest, is_above) = second.overflowing_add(first.wrapping_sub((m as u32) << 16));
-        let high = (rest >> 16) as u16;
-        if is_above { high } else { high.wrapping_add(m) }
-    }
-
     fn double_plus(first: u32, second: u32) -> u32 {
         first + second
+    }
+
+    fn double_overflowing_add(first: u32, second: u32) -> (u32, bool) {
+        first.overflowing_add(second)
     }
 
     ghost base_is = { refl };
@@ -235,6 +224,10 @@ impl PathWord for u32 {
 
     fn wrapping_add(self, rhs: u32) -> u32 {
         self.wrapping_add(rhs)
+    }
+
+    fn overflowing_add(self, rhs: u32) -> (u32, bool) {
+        self.overflowing_add(rhs)
     }
 
     fn wrapping_sub(self, rhs: u32) -> u32 {
@@ -286,14 +279,12 @@ impl PathWord for u32 {
         low as u64 + ((high as u64) << 32)
     }
 
-    fn high_sum_modulo(first: u64, second: u64, m: u32) -> u32 {
-        let (rest, is_above) = second.overflowing_add(first.wrapping_sub((m as u64) << 32));
-        let high = (rest >> 32) as u32;
-        if is_above { high } else { high.wrapping_add(m) }
-    }
-
     fn double_plus(first: u64, second: u64) -> u64 {
         first + second
+    }
+
+    fn double_overflowing_add(first: u64, second: u64) -> (u64, bool) {
+        first.overflowing_add(second)
     }
 
     ghost base_is = { refl };
@@ -326,6 +317,10 @@ impl PathWord for u64 {
 
     fn wrapping_add(self, rhs: u64) -> u64 {
         self.wrapping_add(rhs)
+    }
+
+    fn overflowing_add(self, rhs: u64) -> (u64, bool) {
+        self.overflowing_add(rhs)
     }
 
     fn wrapping_sub(self, rhs: u64) -> u64 {
@@ -380,12 +375,12 @@ impl PathWord for u64 {
         low as u128 + ((high as u128) << 64)
     }
 
-    fn high_sum_modulo(first: u128, second: u128, m: u64) -> u64 {
-        high_sum_modulo_64(first, second, m)
-    }
-
     fn double_plus(first: u128, second: u128) -> u128 {
         first + second
+    }
+
+    fn double_overflowing_add(first: u128, second: u128) -> (u128, bool) {
+        first.overflowing_add(second)
     }
 
     ghost base_is = { refl };
@@ -418,6 +413,10 @@ impl PathWord for usize {
 
     fn wrapping_add(self, rhs: usize) -> usize {
         self.wrapping_add(rhs)
+    }
+
+    fn overflowing_add(self, rhs: usize) -> (usize, bool) {
+        self.overflowing_add(rhs)
     }
 
     fn wrapping_sub(self, rhs: usize) -> usize {
@@ -472,12 +471,12 @@ impl PathWord for usize {
         low as u128 + ((high as u128) << 64)
     }
 
-    fn high_sum_modulo(first: u128, second: u128, m: usize) -> usize {
-        high_sum_modulo_64(first, second, m as u64) as usize
-    }
-
     fn double_plus(first: u128, second: u128) -> u128 {
         first + second
+    }
+
+    fn double_overflowing_add(first: u128, second: u128) -> (u128, bool) {
+        first.overflowing_add(second)
     }
 
     ghost base_is = { refl };

@@ -1,7 +1,7 @@
 //! What the paths use of a word: exact and wrapping sums, differences, products, shifts and comparisons of words
 //! and double words. There is no division and no remainder, so code over this trait alone makes none.
 
-ghost use Rattle.std.specs.Prelude.{◌≡◌, ℕ, ◌+◌, ◌-◌, ◌*◌, ◌/◌, ◌%◌, ◌^◌, ◌<◌, ◌≤◌, ◌↔◌, IsTrue};
+ghost use Rattle.std.specs.Prelude.{◌≡◌, ℕ, ◌+◌, ◌-◌, ◌*◌, ◌/◌, ◌%◌, ◌^◌, ◌<◌, ◌≤◌, ◌↔◌, IsTrue, IsFalse};
 ghost use Rattle.std.specs.Int.Count.{count_leading_zeros, count_trailing_zeros};
 
 use crate::ring_word::RingWord;
@@ -48,6 +48,12 @@ pub trait PathWord: RingWord {
     fn wrapping_add(self, rhs: Self) -> Self
         ensures value { Self.number result ≡ (Self.number self + Self.number rhs) % base }
         ensures fits { Self.number result < base };
+
+    /// The sum modulo the base, and whether it overflows: the carry.
+    fn overflowing_add(self, rhs: Self) -> (Self, bool)
+        ensures carried { IsTrue result.1 → Self.number self + Self.number rhs ≡ Self.number result.0 + base }
+        ensures exact { IsFalse result.1 → Self.number self + Self.number rhs ≡ Self.number result.0 }
+        ensures fits { Self.number result.0 < base };
 
     /// The difference modulo the base: the word whose sum with `rhs`, modulo the base, is `self`.
     fn wrapping_sub(self, rhs: Self) -> Self
@@ -118,20 +124,17 @@ pub trait PathWord: RingWord {
         ensures low_fits { Self.number low < base }
         ensures high_fits { Self.number high < base };
 
-    /// The high word of the sum of two double words, modulo m, below m. Conditions: the low word of the sum is 0,
-    /// and each of the two is below m times the base.
-    ///
-    /// The sum may overflow a double word; its carry is counted.
-    fn high_sum_modulo(first: Self::Double, second: Self::Double, m: Self) -> Self
-        requires cleared { (double_number first + double_number second) % base ≡ 0 }
-        requires first { double_number first < base * Self.number m }
-        requires second { double_number second < base * Self.number m }
-        ensures { Self.number result ≡ ((double_number first + double_number second) / base) % Self.number m };
-
     /// The sum of two double words. Condition: it fits a double word.
     fn double_plus(first: Self::Double, second: Self::Double) -> Self::Double
         requires { double_number first + double_number second < base * base }
         ensures { double_number result ≡ double_number first + double_number second };
+
+    /// The sum of two double words modulo the square of the base, and whether it overflows: the carry.
+    fn double_overflowing_add(first: Self::Double, second: Self::Double) -> (Self::Double, bool)
+        ensures carried { IsTrue result.1 →
+            double_number first + double_number second ≡ double_number result.0 + base * base }
+        ensures exact { IsFalse result.1 → double_number first + double_number second ≡ double_number result.0 }
+        ensures fits { double_number result.0 < base * base };
 
     // The base is 2 to the width.
     ghost base_is: { base ≡ 2 ^ Self.width };

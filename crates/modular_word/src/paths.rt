@@ -1,7 +1,7 @@
 //! The paths: division by a reciprocal, exact division and Montgomery's reduction, written and proved once for
 //! every width. What was precomputed of a divisor is passed as arguments.
 
-ghost use Rattle.std.specs.Prelude.{◌≡◌, ℕ, ◌+◌, ◌-◌, ◌*◌, ◌%◌, ◌^◌, ◌<◌, ◌≤◌};
+ghost use Rattle.std.specs.Prelude.{◌≡◌, ℕ, ◌+◌, ◌-◌, ◌*◌, ◌/◌, ◌%◌, ◌^◌, ◌<◌, ◌≤◌};
 ghost use Rattle.modular_word.specs.Division.{IsDivision, IsExactQuotient};
 ghost use Rattle.modular_word.specs.Reciprocals.{IsReciprocal, IsMultiplier, IsExactDivisor};
 ghost use Rattle.modular_word.specs.Reduction.{IsReduction, IsNegatedInverse};
@@ -142,9 +142,49 @@ pub fn clearing<T: PathWord>(m: T, negated_inverse: T, t: T::Double) -> T
     low.wrapping_mul(negated_inverse)
 }
 
+// The high word modulo m of the sum of t and `multiple`, whose low word is 0. Single words are added: the high words,
+// and the carry of the low ones, which add up to 0 or to the base. Conditions: t and `multiple` are below m times the
+// base.
+fn high_sum_by_words<T: PathWord>(t: T::Double, multiple: T::Double, m: T) -> T
+    requires cleared { (T.double_number t + T.double_number multiple) % T.base ≡ 0 }
+    requires first { T.double_number t < T.base * T.number m }
+    requires second { T.double_number multiple < T.base * T.number m }
+    requires fits { T.number m < T.base }
+    ensures { T.number result ≡ ((T.double_number t + T.double_number multiple) / T.base) % T.number m }
+{
+    let (_, high) = T::split(t);
+    let (low, more) = T::split(multiple);
+    let carried = if low.is_zero_word() {
+        more
+    } else {
+        more.plus(T::one())
+    };
+    let (rest, is_above) = high.wrapping_sub(m).overflowing_add(carried);
+    if is_above { rest } else { rest.wrapping_add(m) }
+}
+
+// The same by one sum of double words, to which the base less m is added as a high word: it overflows exactly where
+// the high word of the sum is at least m.
+fn high_sum_by_double_words<T: PathWord>(t: T::Double, multiple: T::Double, m: T) -> T
+    requires cleared { (T.double_number t + T.double_number multiple) % T.base ≡ 0 }
+    requires first { T.double_number t < T.base * T.number m }
+    requires second { T.double_number multiple < T.base * T.number m }
+    requires fits { T.number m < T.base }
+    ensures { T.number result ≡ ((T.double_number t + T.double_number multiple) / T.base) % T.number m }
+{
+    let complement = T::zero().wrapping_sub(m);
+    let more = T::double_plus(t, T::merge(T::zero(), complement));
+    let (sum, is_above) = T::double_overflowing_add(more, multiple);
+    let (_, rest) = T::split(sum);
+    if is_above { rest } else { rest.wrapping_add(m) }
+}
+
 /// The second step of Montgomery's reduction of t, given the word x of `clearing` and the product x·m: (t + x·m)
 /// divided by the base, less m where that is at least m. The caller passes x·m because a modulus of a special form
 /// may compute it faster. Conditions: t is below m times the base, and the sum of t and x·m has 0 in the low word.
+///
+/// The sum may overflow a double word; its carry is counted. Where a double word is longer than a machine word, adding
+/// single words is faster.
 pub fn reduce_by<T: PathWord>(m: T, t: T::Double, x: T, multiple: T::Double) -> T
     requires below { T.double_number t < T.base * T.number m }
     requires multiple { T.double_number multiple ≡ T.number x * T.number m }
@@ -152,7 +192,13 @@ pub fn reduce_by<T: PathWord>(m: T, t: T::Double, x: T, multiple: T::Double) -> 
     requires x_fits { T.number x < T.base }
     ensures { IsReduction T.base (T.number m) (T.double_number t) (T.number result) }
 {
-    T::high_sum_modulo(t, multiple, m)
+    // Reading m gives the proof that it fits a word.
+    let _ = m.is_below(x);
+    if T::bits() > 32 {
+        high_sum_by_words(t, multiple, m)
+    } else {
+        high_sum_by_double_words(t, multiple, m)
+    }
 }
 
 /// Montgomery's reduction of a double word t modulo an odd m, below m. Conditions: m times `negated_inverse` is -1

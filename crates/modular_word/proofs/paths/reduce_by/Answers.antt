@@ -1,27 +1,61 @@
 -- The sum of t and the multiple, by the base, modulo m.
-use Rattle.std.proofs.Common.{◌+◌, ◌/◌, ◌%◌, ap, ◌∙◌, arith}
+use Rattle.std.proofs.Common.{◌≡◌, ℕ, ◌+◌, ◌*◌, ◌/◌, ◌%◌, ◌<◌, ap, ◌∙◌, arith}
 use Rattle.modular_word.proofs.ReductionSteps.{multiple_below, reduces}
+use Rattle.modular_word.specs.Reduction.{IsReduction}
 use Rattle.modular_word.proofs.paths.reduce_by.Goals as goal
+use Rattle.modular_word.proofs.paths.reduce_by.Goals.{After-bits}
 
-pub high_sum_modulo-requires-clause-cleared : goal.high_sum_modulo-requires-clause-cleared
-high_sum_modulo-requires-clause-cleared g c =
+-- the low word of the sum is 0
+cleared : (g : _) (c : After-bits g)
+    → (g.T.PathWord.double_number c.args.t + g.T.PathWord.double_number c.args.multiple) % g.T.PathWord.base ≡ 0
+cleared g c =
     ap (λ v. (g.T.PathWord.double_number c.args.t + v) % g.T.PathWord.base) c.requires.multiple ∙ c.requires.low
 
-pub high_sum_modulo-requires-clause-second : goal.high_sum_modulo-requires-clause-second
-high_sum_modulo-requires-clause-second g c =
+-- the multiple is below m times the base
+second : (g : _) (c : After-bits g)
+    → g.T.PathWord.double_number c.args.multiple < g.T.PathWord.base * g.T.RingWord.number c.args.m
+second g c =
     let n = g.T.RingWord.number in
-    let B = g.T.PathWord.base in
     omega (
       arith,
       c.requires.multiple,
-      multiple_below B (n c.args.m) (n c.args.x) (g.T.PathWord.double_number c.args.t)
+      multiple_below g.T.PathWord.base (n c.args.m) (n c.args.x) (g.T.PathWord.double_number c.args.t)
           c.requires.below c.requires.x_fits,
     )
 
-pub returns : goal.returns
-returns g c =
+-- a result that is the high word modulo m is the reduction
+reduced : (g : _) (c : After-bits g) (r : ℕ)
+    → r
+    ≡ (g.T.PathWord.double_number c.args.t + g.T.PathWord.double_number c.args.multiple) / g.T.PathWord.base
+    % g.T.RingWord.number c.args.m
+    → IsReduction g.T.PathWord.base (g.T.RingWord.number c.args.m) (g.T.PathWord.double_number c.args.t) r
+reduced g c r is =
     let n = g.T.RingWord.number in
     let B = g.T.PathWord.base in
     let t = g.T.PathWord.double_number c.args.t in
-    reduces B (n c.args.m) t (n c.args.x) (n c.high_sum_modulo.result) c.requires.below c.requires.low
-    (c.high_sum_modulo.ensures ∙ ap (λ v. ((t + v) / B) % n c.args.m) c.requires.multiple)
+    reduces B (n c.args.m) t (n c.args.x) r c.requires.below c.requires.low
+    (is ∙ ap (λ v. ((t + v) / B) % n c.args.m) c.requires.multiple)
+
+pub high_sum_by_words-requires-clause-cleared : goal.high_sum_by_words-requires-clause-cleared
+high_sum_by_words-requires-clause-cleared g c =
+    cleared g (goal.at.high_sum_by_words-requires-clause-cleared g c).After-bits
+
+pub high_sum_by_words-requires-clause-second : goal.high_sum_by_words-requires-clause-second
+high_sum_by_words-requires-clause-second g c =
+    second g (goal.at.high_sum_by_words-requires-clause-second g c).After-bits
+
+pub high_sum_by_double_words-requires-clause-cleared : goal.high_sum_by_double_words-requires-clause-cleared
+high_sum_by_double_words-requires-clause-cleared g c =
+    cleared g (goal.at.high_sum_by_double_words-requires-clause-cleared g c).After-bits
+
+pub high_sum_by_double_words-requires-clause-second : goal.high_sum_by_double_words-requires-clause-second
+high_sum_by_double_words-requires-clause-second g c =
+    second g (goal.at.high_sum_by_double_words-requires-clause-second g c).After-bits
+
+pub returns-then-bits-gt32 : goal.returns-then-bits-gt32
+returns-then-bits-gt32 g c =
+    reduced g (goal.at.returns-then-bits-gt32 g c).After-bits _ c.high_sum_by_words.ensures
+
+pub returns-else-bits-gt32 : goal.returns-else-bits-gt32
+returns-else-bits-gt32 g c =
+    reduced g (goal.at.returns-else-bits-gt32 g c).After-bits _ c.high_sum_by_double_words.ensures

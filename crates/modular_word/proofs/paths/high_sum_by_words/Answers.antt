@@ -1,0 +1,61 @@
+-- The high words, with the carry of the low ones, less m.
+use Rattle.std.proofs.Common.{◌≡◌, ◌+◌, ◌/◌, ◌<◌, ap, ◌∙◌, arith, inl, inr}
+use Rattle.modular_word.proofs.ReductionSteps.{high_sum_of, high_below, high_sum_below, borrowing, above_modulus, below_modulus}
+use Rattle.modular_word.proofs.paths.high_sum_by_words.Goals as goal
+use Rattle.modular_word.proofs.paths.high_sum_by_words.Goals.{After-overflowing_add-rest, then-is_zero_word, else-is_zero_word}
+
+-- the two summands add up to the high word, less m, plus the base
+sum : (g : _) (c : After-overflowing_add-rest g)
+    → g.T.RingWord.number c.wrapping_sub.result + g.T.RingWord.number c.if-is_zero_word.carried
+    + g.T.RingWord.number c.args.m
+    ≡ (g.T.PathWord.double_number c.args.t + g.T.PathWord.double_number c.args.multiple) / g.T.PathWord.base
+    + g.T.PathWord.base
+sum g c =
+    let n = g.T.RingWord.number in
+    let B = g.T.PathWord.base in
+    let t = g.T.PathWord.double_number c.args.t in
+    let low = n c.split-low.result.0 in
+    let more = n c.split-low.result.1 in
+    let high = n c.split-high.result.1 in
+    let first = c.split-high.ensures in
+    let second = c.split-low.ensures in
+    let quotient =
+    high_sum_of B t (g.T.PathWord.double_number c.args.multiple) (n c.split-high.result.0) high low more
+    (n c.if-is_zero_word.carried) c.requires.cleared first.value first.low_fits second.value second.low_fits
+    (elim c.if-is_zero_word.branch [
+      | then-is_zero_word w ↦ inl (c.is_zero_word.ensures.zero.0 w.if-is_zero_word.true, ap n w.carried-is)
+      | else-is_zero_word w ↦
+          inr (
+            let other : low ≡ 0 → ⊥ = λ e. let s = c.is_zero_word.ensures.zero.1 e in cc (s, w.if-is_zero_word.false) in
+                omega arith,
+            ap n w.carried-is ∙ w.plus-carried.ensures ∙ ap (λ v. more + v) w.one.ensures,
+          )
+    ]) in
+    let difference =
+    borrowing B high (n c.args.m) (n c.wrapping_sub.result)
+    (high_below B (n c.args.m) t (n c.split-high.result.0) high first.value c.requires.first) c.requires.fits
+    c.wrapping_sub.ensures.fits c.wrapping_sub.ensures.value in
+    omega (arith, quotient, difference)
+
+-- the high word is less than twice m
+twice : (g : _) (c : After-overflowing_add-rest g)
+    → (g.T.PathWord.double_number c.args.t + g.T.PathWord.double_number c.args.multiple) / g.T.PathWord.base
+    < g.T.RingWord.number c.args.m + g.T.RingWord.number c.args.m
+twice g c =
+    high_sum_below g.T.PathWord.base (g.T.RingWord.number c.args.m) (g.T.PathWord.double_number c.args.t)
+    (g.T.PathWord.double_number c.args.multiple) c.requires.cleared c.requires.first c.requires.second
+
+pub returns-then-is_above : goal.returns-then-is_above
+returns-then-is_above g c =
+    let at = (goal.at.returns-then-is_above g c).After-overflowing_add-rest in
+    let n = g.T.RingWord.number in
+    above_modulus (n c.args.m) _ (n c.overflowing_add-rest.result.0) (twice g at)
+    (omega (arith, sum g at, c.overflowing_add-rest.ensures.carried c.if-is_above.true))
+
+pub returns-else-is_above : goal.returns-else-is_above
+returns-else-is_above g c =
+    let at = (goal.at.returns-else-is_above g c).After-overflowing_add-rest in
+    let n = g.T.RingWord.number in
+    below_modulus g.T.PathWord.base (n c.args.m) _ (n c.overflowing_add-rest.result.0) (n c.wrapping_add.result)
+    c.requires.fits (twice g at) c.overflowing_add-rest.ensures.fits
+    (omega (arith, sum g at, c.overflowing_add-rest.ensures.exact c.if-is_above.false)) c.wrapping_add.ensures.value
