@@ -52,7 +52,7 @@ pub sign-parity : (i : ℕ) (odd : Bool) → i % 2 ≡ cond odd 1 0 → sign i �
 sign-parity i true e = sign-odd i e
 sign-parity i false e = sign-even i e
 
-sign-sum : (i j k : ℕ) → k % 2 ≡ (i + j) % 2 → sign k ≡ sign i *ℤ sign j
+pub sign-sum : (i j k : ℕ) → k % 2 ≡ (i + j) % 2 → sign k ≡ sign i *ℤ sign j
 sign-sum i j k e =
     ⊎_elim
     (λ (p : i % 2 ≡ 0).
@@ -76,7 +76,7 @@ minus_one_times z = omega (arith, ints)
 pub zero_times : (z : ℤ) → pos 0 *ℤ z ≡ pos 0
 zero_times z = omega (arith, ints)
 
-times_zero : (z : ℤ) → z *ℤ pos 0 ≡ pos 0
+pub times_zero : (z : ℤ) → z *ℤ pos 0 ≡ pos 0
 times_zero z = omega (arith, ints)
 
 -- ---- the residue alone decides
@@ -191,7 +191,7 @@ pub jacobi-two : (n : ℕ) → n % 2 ≡ 1 → jacobi (pos 2) n ≡ cond (eqb (n
 jacobi-two n o = let k = jacobi-two_kept n o in let t = jacobi-two_turned n o in grind (arith, nat_tests, k, t)
 
 -- ---- reciprocity
-product_parity : (i j : ℕ) → (i * j) % 2 ≡ (i % 2) * (j % 2)
+pub product_parity : (i j : ℕ) → (i * j) % 2 ≡ (i % 2) * (j % 2)
 product_parity i j =
     ⊎_elim
     (λ (p : i % 2 ≡ 0).

@@ -7,6 +7,7 @@ pub mod KroneckerSteps
 pub mod LegendreClass
 pub mod Lattice
 pub mod PrimeLaws
+pub mod ProductSymbols
 pub mod RangeProducts
 pub mod ResidueProducts
 pub mod Squares

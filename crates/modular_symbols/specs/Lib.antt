@@ -1,6 +1,7 @@
 pub mod Jacobi
 pub mod Kronecker
 pub mod Legendre
+pub mod PrimeFactors
 pub mod Primes
 pub mod Steps
 pub use Rattle.modular_word.specs.Divisors

@@ -2,12 +2,14 @@
 //! are proved from its definition by a count of residues.
 
 ghost use Rattle.std.specs.Prelude.{◌≡◌, ℕ, ◌*◌, ◌-◌, ◌%◌, ◌^◌, ◌<◌, ◌↔◌, ◌⊎◌, ℤ, pos, negsuc};
-ghost use Rattle.std.specs.Prelude.{◌*ℤ◌, nat_abs, ◌==◌, ◌&&◌, ◌||◌, Some, IsSome, if◌then◌else◌};
+ghost use Rattle.std.specs.Prelude.{◌*ℤ◌, nat_abs, ◌==◌, ◌&&◌, ◌||◌, Some, IsSome, if◌then◌else◌, List};
+ghost use Rattle.std.specs.List.{AllZip};
 ghost use Rattle.modular_word.specs.Divisors.{Coprime, gcd};
 ghost use Rattle.modular_word.specs.Inverses.{HasInverse};
 ghost use Rattle.modular_word.specs.Residues.{residue};
 ghost use Rattle.modular_symbols.specs.Jacobi.{jacobi, checked_jacobi_of};
 ghost use Rattle.modular_symbols.specs.Legendre.{classed_power, checked_legendre_of};
+ghost use Rattle.modular_symbols.specs.PrimeFactors.{IsLegendre, product, symbol_product};
 ghost use Rattle.modular_symbols.specs.Primes.{IsPrime, IsOddPrime};
 
 /// The symbol of a over an odd n depends only on the residue of a; the symbol of a product is the product of the
@@ -15,10 +17,13 @@ ghost use Rattle.modular_symbols.specs.Primes.{IsPrime, IsOddPrime};
 /// exactly where both are 3 modulo 4 (reciprocity). Over an odd prime the symbol is 0, 1 or -1 as a^((n - 1)/2) is
 /// 0, 1 or -1 modulo n.
 ///
+/// The symbol of a over a product of two odd numbers is the product of the symbols over both. So over a product of odd
+/// primes, which may repeat, it is the product of the Legendre symbols.
+///
 /// The symbol is 1, -1 or 0, and 0 exactly where a and n have a common divisor above 1.
 ///
 /// Source: Hardy and Wright, "An Introduction to the Theory of Numbers", sections 6.5 to 6.13, there
-/// for primes.
+/// for primes; Ireland and Rosen, "A Classical Introduction to Modern Number Theory", section 5.2.
 pub fn jacobi_laws()
     ensures values { (a : ℤ) (n : ℕ) → (jacobi a n ≡ pos 1) ⊎ ((jacobi a n ≡ negsuc 0) ⊎ (jacobi a n ≡ pos 0)) }
     ensures zero { (a : ℤ) (n : ℕ) → 0 < n → (jacobi a n ≡ pos 0) ↔ (1 < gcd (nat_abs a) n) }
@@ -29,6 +34,9 @@ pub fn jacobi_laws()
     ensures reciprocity { (m n : ℕ) → m % 2 ≡ 1 → n % 2 ≡ 1 → gcd m n ≡ 1
         → jacobi (pos m) n *ℤ jacobi (pos n) m ≡ (if (m % 4 == 3) && (n % 4 == 3) then negsuc 0 else pos 1) }
     ensures prime { (a : ℤ) (n : ℕ) → n % 2 ≡ 1 → IsPrime n → classed_power a n ≡ Some (jacobi a n) }
+    ensures factors { (a : ℤ) (m n : ℕ) → m % 2 ≡ 1 → n % 2 ≡ 1 → jacobi a (m * n) ≡ jacobi a m *ℤ jacobi a n }
+    ensures primes { (a : ℤ) (primes : List ℕ) (symbols : List ℤ) → AllZip (IsLegendre a) primes symbols
+        → jacobi a (product primes) ≡ symbol_product symbols }
 {}
 
 /// A number that a prime p doesn't divide is coprime to p, so it has an inverse, and its power to the exponent p - 1 is

@@ -4,6 +4,7 @@ use Rattle.modular_word.proofs.Divisors.{Coprime-from_gcd}
 use Rattle.modular_symbols.proofs.Euler.{classed_power-jacobi}
 use Rattle.modular_symbols.proofs.JacobiLaws.{jacobi-values, jacobi-zero_exactly, jacobi-residue}
 use Rattle.modular_symbols.proofs.JacobiLaws.{jacobi-product, jacobi-two, jacobi-reciprocal}
+use Rattle.modular_symbols.proofs.ProductSymbols.{jacobi-factors, jacobi-primes}
 use Rattle.modular_symbols.proofs.laws.jacobi_laws.Goals as goal
 
 pub returns-clause-values : goal.returns-clause-values
@@ -26,3 +27,9 @@ returns-clause-reciprocity c m n k o g = jacobi-reciprocal m n k o (Coprime-from
 
 pub returns-clause-prime : goal.returns-clause-prime
 returns-clause-prime c a n o u = classed_power-jacobi a n o u
+
+pub returns-clause-factors : goal.returns-clause-factors
+returns-clause-factors c a m n o p = jacobi-factors a m n o p
+
+pub returns-clause-primes : goal.returns-clause-primes
+returns-clause-primes c a primes symbols h = jacobi-primes a primes symbols h

@@ -1,0 +1,155 @@
+-- The Jacobi symbol over a product, and over a product of odd primes, from the count.
+use Rattle.std.proofs.Common.{◌≡◌, ℕ, suc, ◌+◌, ◌-◌, ◌*◌, ◌%◌, ◌/◌, ◌<◌, ℤ, pos, negsuc, ◌*ℤ◌}
+use Rattle.std.proofs.Common.{List, [], ◌∷◌, fold, sym, ◌∙◌, ap, arith, ⊎_elim, refl}
+use Rattle.std.proofs.lemmas.Nat.{mod_below}
+use Rattle.std.proofs.lemmas.Option.{same_Some}
+use Rattle.std.proofs.Math.Nat.{mod-eq_of_lt, mod-add-mod, add-mul-mod_self_left}
+use Rattle.std.specs.List.{AllZip}
+use Rattle.modular_word.specs.Divisors.{Coprime}
+use Rattle.modular_word.specs.Residues.{residue}
+use Rattle.modular_word.proofs.Congruence.{mod_of_multiple}
+use Rattle.modular_word.proofs.Divisors.{divides, divides_through}
+use Rattle.modular_word.proofs.Divisors.{Coprime-swap, Coprime-left, Coprime-right, Coprime-product}
+use Rattle.modular_symbols.specs.PrimeFactors.{IsLegendre, product, symbol_product}
+use Rattle.modular_symbols.specs.Jacobi.{half_system_count, jacobi}
+use Rattle.modular_symbols.proofs.HalfSystem.{half_system_count-product}
+use Rattle.modular_symbols.proofs.JacobiLaws.{jacobi-coprime, jacobi-shared, coprime_or_not, jacobi-residue}
+use Rattle.modular_symbols.proofs.JacobiLaws.{jacobi-zero_one, parities, product_parity, sign-sum, zero_times, times_zero}
+use Rattle.modular_symbols.proofs.Lattice.{counts_reciprocal}
+use Rattle.modular_symbols.proofs.LegendreClass.{class_over_prime}
+use Rattle.modular_symbols.proofs.ResidueProducts.{residue_below, residue_opposite, residue_minus}
+
+-- ---- over a product of odd numbers, for an odd b that is at least 1
+-- the half of m * n has the parity of the sum of the halves
+half_of_product : (m n i j : ℕ) → m ≡ 2 * i + 1 → n ≡ 2 * j + 1 → (m * n - 1) / 2 ≡ i + j + 2 * (i * j)
+half_of_product m n i j e f =
+    let g : (2 * i + 1) * (2 * j + 1) ≡ 4 * (i * j) + 2 * i + 2 * j + 1 = omega arith in
+    let h : m * n ≡ 4 * (i * j) + 2 * i + 2 * j + 1 = ap (λ v. v * n) e ∙ ap (λ v. (2 * i + 1) * v) f ∙ g in
+    omega (arith, h)
+
+-- so the numbers of pairs add up, up to an even number
+pairs_of_product : (m n k : ℕ) → m % 2 ≡ 1 → n % 2 ≡ 1
+    → ((m * n - 1) / 2 * k) % 2 ≡ ((m - 1) / 2 * k + (n - 1) / 2 * k) % 2
+pairs_of_product m n k o p =
+    let i : ℕ = (m - 1) / 2 in
+    let j : ℕ = (n - 1) / 2 in
+    let h = half_of_product m n i j (omega arith) (omega arith) in
+    let d : (i + j + 2 * (i * j)) * k ≡ i * k + j * k + 2 * (i * j * k) = omega arith in
+    ap (λ v. (v * k) % 2) h ∙ ap (λ v. v % 2) d ∙ add-mul-mod_self_left (i * k + j * k) 2 (i * j * k)
+
+odd_product : (m n : ℕ) → m % 2 ≡ 1 → n % 2 ≡ 1 → (m * n) % 2 ≡ 1
+odd_product m n o p = product_parity m n ∙ ap (λ v. v * (n % 2)) o ∙ omega arith
+
+-- by reciprocity for each of m, n and m * n, and by the product in the upper argument over b
+parity_of_sum : (x y p x1 y1 p1 x2 y2 p2 : ℕ) → (x + y) % 2 ≡ p % 2 → (x1 + y1) % 2 ≡ p1 % 2
+    → (x2 + y2) % 2 ≡ p2 % 2 → y % 2 ≡ (y1 + y2) % 2 → p % 2 ≡ (p1 + p2) % 2 → x % 2 ≡ (x1 + x2) % 2
+parity_of_sum x y p x1 y1 p1 x2 y2 p2 e e1 e2 f g = omega arith
+
+count_over_product : (b m n : ℕ) → b % 2 ≡ 1 → m % 2 ≡ 1 → n % 2 ≡ 1 → Coprime b m → Coprime b n → Coprime b (m * n)
+    → half_system_count (pos b) (m * n) % 2 ≡ (half_system_count (pos b) m + half_system_count (pos b) n) % 2
+count_over_product b m n q o p c d w =
+    let k : ℕ = (b - 1) / 2 in
+    parity_of_sum
+    (half_system_count (pos b) (m * n)) (half_system_count (pos (m * n)) b) ((m * n - 1) / 2 * k)
+    (half_system_count (pos b) m) (half_system_count (pos m) b) ((m - 1) / 2 * k)
+    (half_system_count (pos b) n) (half_system_count (pos n) b) ((n - 1) / 2 * k)
+    (counts_reciprocal b (m * n) (odd_product m n o p) q w)
+    (counts_reciprocal b m o q c) (counts_reciprocal b n p q d)
+    (half_system_count-product m n b q (Coprime-swap b (m * n) w) (Coprime-swap b n d))
+    (pairs_of_product m n k o p)
+
+odd_over_product : (b m n : ℕ) → b % 2 ≡ 1 → m % 2 ≡ 1 → n % 2 ≡ 1
+    → jacobi (pos b) (m * n) ≡ jacobi (pos b) m *ℤ jacobi (pos b) n
+odd_over_product b m n q o p =
+    let l : 0 < m = omega arith in
+    let r : 0 < n = omega arith in
+    let u = odd_product m n o p in
+    let t : 0 < m * n = omega (arith, u) in
+    ⊎_elim
+    (λ (c : Coprime b m).
+    ⊎_elim
+    (λ (d : Coprime b n).
+    let w = Coprime-swap (m * n) b
+    (Coprime-product m n b (omega arith) (Coprime-swap b m c) (Coprime-swap b n d)) in
+    rw (jacobi-coprime (pos b) (m * n) t w, jacobi-coprime (pos b) m l c, jacobi-coprime (pos b) n r d)
+    (sign-sum (half_system_count (pos b) m) (half_system_count (pos b) n) (half_system_count (pos b) (m * n))
+    (count_over_product b m n q o p c d w)))
+    (λ (z : Coprime b n → ⊥).
+    jacobi-shared (pos b) (m * n) t (λ w. z (Coprime-swap n b (Coprime-right m n b (Coprime-swap b (m * n) w))))
+    ∙ sym (ap (λ v. jacobi (pos b) m *ℤ v) (jacobi-shared (pos b) n r z) ∙ times_zero (jacobi (pos b) m)))
+    (coprime_or_not b n r))
+    (λ (z : Coprime b m → ⊥).
+    jacobi-shared (pos b) (m * n) t (λ w. z (Coprime-swap m b (Coprime-left m n b (Coprime-swap b (m * n) w))))
+    ∙ sym (ap (λ v. v *ℤ jacobi (pos b) n) (jacobi-shared (pos b) m l z) ∙ zero_times (jacobi (pos b) n)))
+    (coprime_or_not b m l)
+
+-- ---- over a product of odd numbers, for every a
+-- the residue modulo a divisor
+residue_of_multiple : (m k : ℕ) (z : ℤ) → 0 < m → 0 < m * k → residue (m * k) z % m ≡ residue m z
+residue_of_multiple m k (pos x) p q = mod_of_multiple m k x
+residue_of_multiple m k (negsuc x) p q =
+    let r : ℕ = residue (m * k) (negsuc x) in
+    let d : (m * k) % m ≡ 0 = divides m (m * k) k refl in
+    sym (residue_minus m (suc x) (r % m) (mod_below r m p)
+    (mod-add-mod r m (suc x) ∙ divides_through m (m * k) (r + suc x) d (residue_opposite (m * k) x q)))
+
+-- an odd number that is congruent to z modulo an odd number
+odd_representative : (n : ℕ) (z : ℤ) → n % 2 ≡ 1 → (b : ℕ) × (b % 2 ≡ 1) × (b % n ≡ residue n z)
+odd_representative n z o =
+    let r : ℕ = residue n z in
+    let p : 0 < n = omega arith in
+    let l = residue_below n z p in
+    let e : n * 1 ≡ n = omega arith in
+    ⊎_elim
+    (λ (i : r % 2 ≡ 0).
+    (r + n, omega arith, ap (λ v. (r + v) % n) (sym e) ∙ add-mul-mod_self_left r n 1 ∙ mod-eq_of_lt l))
+    (λ (i : r % 2 ≡ 1). (r, i, mod-eq_of_lt l))
+    (parities r)
+
+same_residues : (a : ℤ) (b n : ℕ) → 0 < n → b % n ≡ residue n a → jacobi a n ≡ jacobi (pos b) n
+same_residues a b n p e =
+    jacobi-residue a n p ∙ sym (jacobi-residue (pos b) n p ∙ ap (λ v. jacobi (pos v) n) e)
+
+pub jacobi-factors : (a : ℤ) (m n : ℕ) → m % 2 ≡ 1 → n % 2 ≡ 1 → jacobi a (m * n) ≡ jacobi a m *ℤ jacobi a n
+jacobi-factors a m n o p =
+    let u = odd_product m n o p in
+    let l : 0 < m = omega arith in
+    let r : 0 < n = omega arith in
+    let t : 0 < m * n = omega (arith, u) in
+    let s : n * m ≡ m * n = omega arith in
+    let h = odd_representative (m * n) a u in
+    let b : ℕ = h.0 in
+    let e : b % m ≡ residue m a =
+    sym (mod_of_multiple m n b) ∙ ap (λ v. v % m) h.2 ∙ residue_of_multiple m n a l t in
+    let f : b % n ≡ residue n a =
+    sym (mod_of_multiple n m b) ∙ ap (λ v. b % v % n) s ∙ ap (λ v. v % n) h.2
+    ∙ ap (λ v. residue v a % n) (sym s) ∙ residue_of_multiple n m a r (omega arith) in
+    same_residues a b (m * n) t h.2 ∙ odd_over_product b m n h.1 o p
+    ∙ sym (ap (λ v. v *ℤ jacobi a n) (same_residues a b m l e)
+    ∙ ap (λ v. jacobi (pos b) m *ℤ v) (same_residues a b n r f))
+
+-- ---- over a product of odd primes
+legendre-jacobi : (a : ℤ) (p : ℕ) (s : ℤ) → IsLegendre a p s → jacobi a p ≡ s
+legendre-jacobi a p s h = same_Some (jacobi a p) s (sym (class_over_prime a (pos p) h.0) ∙ h.1)
+
+primes_after : (a : ℤ) (primes : List ℕ) (symbols : List ℤ) (n : ℕ) (z : ℤ) → n % 2 ≡ 1 → jacobi a n ≡ z
+    → AllZip (IsLegendre a) primes symbols
+    → jacobi a (fold (λ k p. k * p) n primes) ≡ fold (λ y s. y *ℤ s) z symbols
+primes_after a [] [] n z o e h = e
+primes_after a [] (s ∷ ss) n z o e h = absurd h
+primes_after a (p ∷ ps) [] n z o e h = absurd h
+primes_after a (p ∷ ps) (s ∷ ss) n z o e h =
+    primes_after a ps ss (n * p) (z *ℤ s) (odd_product n p o h.0.0.0)
+    (jacobi-factors a n p o h.0.0.0 ∙ ap (λ v. v *ℤ jacobi a p) e ∙ ap (λ v. z *ℤ v) (legendre-jacobi a p s h.0))
+    h.1
+
+jacobi-one : (a : ℤ) → jacobi a 1 ≡ pos 1
+jacobi-one a =
+    let one : 0 < 1 = omega arith in
+    let b = residue_below 1 a one in
+    let e : residue 1 a ≡ 0 = omega arith in
+    jacobi-residue a 1 one ∙ ap (λ v. jacobi (pos v) 1) e ∙ jacobi-zero_one
+
+pub jacobi-primes : (a : ℤ) (primes : List ℕ) (symbols : List ℤ) → AllZip (IsLegendre a) primes symbols
+    → jacobi a (product primes) ≡ symbol_product symbols
+jacobi-primes a primes symbols h = primes_after a primes symbols 1 (pos 1) (omega arith) (jacobi-one a) h
