@@ -1,9 +1,10 @@
 #!/usr/bin/env python3
 """The library from Python, by a shared object that is made of the installed archive.
 
-    c/examples/example.py PREFIX
+    c/examples/example.py PREFIX      PREFIX is the folder that c/install was given
 """
 import ctypes
+import os
 import subprocess
 import sys
 import tempfile
@@ -33,4 +34,9 @@ def main(prefix):
 
 
 if __name__ == "__main__":
+    if len(sys.argv) != 2:
+        print(__doc__.strip(), file=sys.stderr)
+        sys.exit(2)
+    if not os.path.exists(f"{sys.argv[1]}/lib/libnum_modular.a"):
+        sys.exit(f"{sys.argv[1]} has no lib/libnum_modular.a: c/install {sys.argv[1]} puts it there")
     main(sys.argv[1])
