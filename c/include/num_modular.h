@@ -21,50 +21,80 @@
 #include <stddef.h>
 #include <stdint.h>
 
+/* The version of this header; nm_version tells that of the library. */
+#define NM_VERSION_MAJOR 0u
+#define NM_VERSION_MINOR 7u
+#define NM_VERSION_PATCH 0u
+
+/* Before a function whose code tells whether there is a result: compilers that can warn where the code isn't used. */
+#if (defined(__cplusplus) && __cplusplus >= 201703L) || (defined(__STDC_VERSION__) && __STDC_VERSION__ >= 202311L)
+#define NM_CHECK [[nodiscard]]
+#elif defined(__GNUC__)
+#define NM_CHECK __attribute__((warn_unused_result))
+#else
+#define NM_CHECK
+#endif
+
 #ifdef __cplusplus
 extern "C" {
 #endif
 
 /* The codes. */
-#define NM_OK ((uint32_t)0)           /* the result is written */
-#define NM_NO_INVERSE ((uint32_t)1)   /* an inverse that the call needs doesn't exist */
-#define NM_BAD_ARGUMENT ((uint32_t)2) /* an argument breaks a precondition of the call */
-#define NM_BAD_CONTEXT ((uint32_t)3)  /* a divider, a context or a table isn't one that the library makes */
-#define NM_NO_ROOT ((uint32_t)4)      /* there is no root, or the given root doesn't suit the length */
-#define NM_NOT_FOUND ((uint32_t)5)    /* the pattern doesn't occur */
+#define NM_OK 0u           /* the result is written */
+#define NM_NO_INVERSE 1u   /* an inverse that the call needs doesn't exist */
+#define NM_BAD_ARGUMENT 2u /* an argument breaks a precondition of the call */
+#define NM_BAD_CONTEXT 3u  /* a divider, a context or a table isn't one that the library makes */
+#define NM_NO_ROOT 4u      /* there is no root, or the given root doesn't suit the length */
+#define NM_NOT_FOUND 5u    /* the pattern doesn't occur */
+
+/* What a code says, in a few words, as for an error message. */
+static inline const char *nm_strerror(uint32_t code) {
+    switch (code) {
+    case NM_OK: return "no error";
+    case NM_NO_INVERSE: return "a number has no inverse";
+    case NM_BAD_ARGUMENT: return "an argument breaks a precondition";
+    case NM_BAD_CONTEXT: return "a divider, context or table isn't one that the library makes";
+    case NM_NO_ROOT: return "no root suits the length";
+    case NM_NOT_FOUND: return "the pattern doesn't occur";
+    default: return "no code of num_modular";
+    }
+}
+
+/* The version of the library: 10000 * major + 100 * minor + patch. */
+uint32_t nm_version(void);
 
 /* --- Operations modulo m, of words that may be above m. NM_BAD_ARGUMENT: m is 0. --- */
 
 /* The residue of a + b. */
-uint32_t nm_addm(uint64_t a, uint64_t b, uint64_t m, uint64_t *sum);
+NM_CHECK uint32_t nm_addm(uint64_t a, uint64_t b, uint64_t m, uint64_t *sum);
 
 /* The residue of a - b, from 0 to m - 1. */
-uint32_t nm_subm(uint64_t a, uint64_t b, uint64_t m, uint64_t *difference);
+NM_CHECK uint32_t nm_subm(uint64_t a, uint64_t b, uint64_t m, uint64_t *difference);
 
 /* The residue of a * b. */
-uint32_t nm_mulm(uint64_t a, uint64_t b, uint64_t m, uint64_t *product);
+NM_CHECK uint32_t nm_mulm(uint64_t a, uint64_t b, uint64_t m, uint64_t *product);
 
 /* The residue of a to the power exponent; that of 1 for the exponent 0. */
-uint32_t nm_powm(uint64_t a, uint64_t exponent, uint64_t m, uint64_t *power);
+NM_CHECK uint32_t nm_powm(uint64_t a, uint64_t exponent, uint64_t m, uint64_t *power);
 
 /* The inverse of a. NM_NO_INVERSE: a has none. */
-uint32_t nm_invm(uint64_t a, uint64_t m, uint64_t *inverse);
+NM_CHECK uint32_t nm_invm(uint64_t a, uint64_t m, uint64_t *inverse);
 
 /* --- Symbols of a over n: -1, 0 or 1. --- */
 
 /* The Jacobi symbol. NM_BAD_ARGUMENT: n is even. */
-uint32_t nm_jacobi(uint64_t a, uint64_t n, int32_t *symbol);
+NM_CHECK uint32_t nm_jacobi(uint64_t a, uint64_t n, int32_t *symbol);
 
 /* The Jacobi symbol of signed numbers. NM_BAD_ARGUMENT: n is even or below 1. */
-uint32_t nm_jacobi_signed(int64_t a, int64_t n, int32_t *symbol);
+NM_CHECK uint32_t nm_jacobi_signed(int64_t a, int64_t n, int32_t *symbol);
 
 /* 0, 1 or -1, where a to the power (n - 1)/2, rounded down, is congruent to 0, 1 or n - 1 modulo n, tried in this
  * order. For an odd prime n it is the Legendre symbol; the call doesn't test whether n is prime.
  * NM_BAD_ARGUMENT: the power is none of these, or n is 0. */
-uint32_t nm_legendre(uint64_t a, uint64_t n, int32_t *symbol);
+NM_CHECK uint32_t nm_legendre(uint64_t a, uint64_t n, int32_t *symbol);
 
 /* nm_legendre of signed numbers. NM_BAD_ARGUMENT: as there, or n is below 1. */
-uint32_t nm_legendre_signed(int64_t a, int64_t n, int32_t *symbol);
+NM_CHECK uint32_t nm_legendre_signed(int64_t a, int64_t n, int32_t *symbol);
 
 /* The Kronecker symbol, which exists for all numbers. Returns NM_OK. */
 uint32_t nm_kronecker(uint64_t a, uint64_t n, int32_t *symbol);
@@ -88,14 +118,14 @@ typedef struct {
 } nm_division_t;
 
 /* The divider by d. NM_BAD_ARGUMENT: d is 0. */
-uint32_t nm_divider(uint64_t d, nm_divider_t *divider);
+NM_CHECK uint32_t nm_divider(uint64_t d, nm_divider_t *divider);
 
 /* Quotient and remainder of n. NM_BAD_CONTEXT: the divider isn't one that nm_divider makes. */
-uint32_t nm_div_rem(const nm_divider_t *divider, uint64_t n, nm_division_t *division);
+NM_CHECK uint32_t nm_div_rem(const nm_divider_t *divider, uint64_t n, nm_division_t *division);
 
 /* Quotient and remainder of low + 2^64 * high. NM_BAD_CONTEXT: as for nm_div_rem. NM_BAD_ARGUMENT: high isn't
  * below the divisor, so that the quotient doesn't fit a word. */
-uint32_t nm_div_rem_2by1(const nm_divider_t *divider, uint64_t low, uint64_t high, nm_division_t *division);
+NM_CHECK uint32_t nm_div_rem_2by1(const nm_divider_t *divider, uint64_t low, uint64_t high, nm_division_t *division);
 
 /* --- Montgomery's representation modulo any m that is at least 1. --- */
 
@@ -108,32 +138,32 @@ typedef struct {
 } nm_montgomery_t;
 
 /* The context of m. NM_BAD_ARGUMENT: m is 0. */
-uint32_t nm_montgomery(uint64_t m, nm_montgomery_t *context);
+NM_CHECK uint32_t nm_montgomery(uint64_t m, nm_montgomery_t *context);
 
 /* The calls below take and write forms: words that represent values modulo m. Each value has exactly one form, which is
  * below m. NM_BAD_CONTEXT: the context isn't one that nm_montgomery makes. NM_BAD_ARGUMENT: a word that must be a form
  * isn't one. */
 
 /* The form of n modulo m. */
-uint32_t nm_montgomery_transform(const nm_montgomery_t *context, uint64_t n, uint64_t *form);
+NM_CHECK uint32_t nm_montgomery_transform(const nm_montgomery_t *context, uint64_t n, uint64_t *form);
 
 /* The value of a form: a number below m. */
-uint32_t nm_montgomery_residue(const nm_montgomery_t *context, uint64_t form, uint64_t *value);
+NM_CHECK uint32_t nm_montgomery_residue(const nm_montgomery_t *context, uint64_t form, uint64_t *value);
 
 /* The form of the sum of two forms. */
-uint32_t nm_montgomery_add(const nm_montgomery_t *context, uint64_t a, uint64_t b, uint64_t *sum);
+NM_CHECK uint32_t nm_montgomery_add(const nm_montgomery_t *context, uint64_t a, uint64_t b, uint64_t *sum);
 
 /* The form of the difference of two forms. */
-uint32_t nm_montgomery_sub(const nm_montgomery_t *context, uint64_t a, uint64_t b, uint64_t *difference);
+NM_CHECK uint32_t nm_montgomery_sub(const nm_montgomery_t *context, uint64_t a, uint64_t b, uint64_t *difference);
 
 /* The form of the product of two forms. */
-uint32_t nm_montgomery_mul(const nm_montgomery_t *context, uint64_t a, uint64_t b, uint64_t *product);
+NM_CHECK uint32_t nm_montgomery_mul(const nm_montgomery_t *context, uint64_t a, uint64_t b, uint64_t *product);
 
 /* The form of the power of a form; that of 1 for the exponent 0. */
-uint32_t nm_montgomery_pow(const nm_montgomery_t *context, uint64_t form, uint64_t exponent, uint64_t *power);
+NM_CHECK uint32_t nm_montgomery_pow(const nm_montgomery_t *context, uint64_t form, uint64_t exponent, uint64_t *power);
 
 /* The form of the inverse of a form. NM_NO_INVERSE: its value has none. */
-uint32_t nm_montgomery_inv(const nm_montgomery_t *context, uint64_t form, uint64_t *inverse);
+NM_CHECK uint32_t nm_montgomery_inv(const nm_montgomery_t *context, uint64_t form, uint64_t *inverse);
 
 /* --- Transforms and cyclic products of lists of words, modulo m. ---
  *
@@ -141,35 +171,35 @@ uint32_t nm_montgomery_inv(const nm_montgomery_t *context, uint64_t form, uint64
  * two and, for n above 1, the root to the power n/2 is -1 modulo m. NM_BAD_CONTEXT: as above. */
 
 /* NM_OK where the root suits lists of n words, and NM_NO_ROOT where it doesn't. */
-uint32_t nm_montgomery_root_fits(const nm_montgomery_t *context, uint64_t root, size_t n);
+NM_CHECK uint32_t nm_montgomery_root_fits(const nm_montgomery_t *context, uint64_t root, size_t n);
 
 /* A root that suits lists of n words: x to the power (m - 1)/n, rounded down, for the least x from 2 to 255 for which
  * it does. NM_NO_ROOT: it does for no x, as where n is no power of two. */
-uint32_t nm_montgomery_find_root(const nm_montgomery_t *context, size_t n, uint64_t *root);
+NM_CHECK uint32_t nm_montgomery_find_root(const nm_montgomery_t *context, size_t n, uint64_t *root);
 
 /* Replaces the n words by their transform by the root: entry j is the sum of x_i * root^(i * j) modulo m.
  * NM_NO_ROOT: the root doesn't suit n. */
-uint32_t nm_montgomery_ntt(const nm_montgomery_t *context, uint64_t *xs, size_t n, uint64_t root);
+NM_CHECK uint32_t nm_montgomery_ntt(const nm_montgomery_t *context, uint64_t *xs, size_t n, uint64_t root);
 
 /* Replaces the first list by the cyclic product of both: entry e is the sum of x_i * y_j modulo m over all i + j = e or
  * e + n. The second list is replaced by its transform by the root. NM_BAD_ARGUMENT: the lengths n and k
  * differ. NM_NO_ROOT: the root doesn't suit n. NM_NO_INVERSE: n has no inverse modulo m. */
-uint32_t nm_montgomery_convolve(const nm_montgomery_t *context, uint64_t *xs, size_t n, uint64_t *ys, size_t k,
-                                uint64_t root);
+NM_CHECK uint32_t nm_montgomery_convolve(const nm_montgomery_t *context, uint64_t *xs, size_t n, uint64_t *ys, size_t k,
+                                         uint64_t root);
 
 /* --- Lists of commands on registers, modulo m. --- */
 
 /* What a command does. Operands are read before dst is written, so dst may be an operand. */
-#define NM_LOAD ((uint32_t)0) /* writes n modulo m in dst */
-#define NM_ADD ((uint32_t)1)  /* the sum of a and b */
-#define NM_SUB ((uint32_t)2)  /* the difference of a and b */
-#define NM_MUL ((uint32_t)3)  /* the product of a and b */
-#define NM_NEG ((uint32_t)4)  /* the negative of a */
-#define NM_DBL ((uint32_t)5)  /* the double of a */
-#define NM_SQR ((uint32_t)6)  /* the square of a */
-#define NM_INV ((uint32_t)7)  /* the inverse of a; the run stops where there is none */
-#define NM_DIV ((uint32_t)8)  /* the product of a and the inverse of b; the run stops where b has none */
-#define NM_POW ((uint32_t)9)  /* the power of a to the exponent n */
+#define NM_LOAD 0u /* writes n modulo m in dst */
+#define NM_ADD 1u  /* the sum of a and b */
+#define NM_SUB 2u  /* the difference of a and b */
+#define NM_MUL 3u  /* the product of a and b */
+#define NM_NEG 4u  /* the negative of a */
+#define NM_DBL 5u  /* the double of a */
+#define NM_SQR 6u  /* the square of a */
+#define NM_INV 7u  /* the inverse of a; the run stops where there is none */
+#define NM_DIV 8u  /* the product of a and the inverse of b; the run stops where b has none */
+#define NM_POW 9u  /* the power of a to the exponent n */
 
 /* A command. Fields that its operation doesn't use may have any value. */
 typedef struct {
@@ -184,17 +214,17 @@ typedef struct {
  * resulting residues; carried_out becomes the number of commands carried out. NM_NO_INVERSE: the inverse of command
  * number carried_out, counted from 0, doesn't exist, and the residues are those after the commands before it.
  * NM_BAD_ARGUMENT: an operation has no name, or a register number isn't below count. NM_BAD_CONTEXT: as above. */
-uint32_t nm_montgomery_run(const nm_montgomery_t *context, uint64_t *registers, size_t count,
-                           const nm_command_t *commands, size_t length, size_t *carried_out);
+NM_CHECK uint32_t nm_montgomery_run(const nm_montgomery_t *context, uint64_t *registers, size_t count,
+                                    const nm_command_t *commands, size_t length, size_t *carried_out);
 
 /* --- Transforms and cyclic products modulo 2^64 - 2^32 + 1. --- */
 
 /* nm_solinas_NAME is nm_montgomery_NAME modulo the prime 2^64 - 2^32 + 1, without a context. */
 #define NM_SOLINAS UINT64_C(18446744069414584321)
-uint32_t nm_solinas_root_fits(uint64_t root, size_t n);
-uint32_t nm_solinas_find_root(size_t n, uint64_t *root);
-uint32_t nm_solinas_ntt(uint64_t *xs, size_t n, uint64_t root);
-uint32_t nm_solinas_convolve(uint64_t *xs, size_t n, uint64_t *ys, size_t k, uint64_t root);
+NM_CHECK uint32_t nm_solinas_root_fits(uint64_t root, size_t n);
+NM_CHECK uint32_t nm_solinas_find_root(size_t n, uint64_t *root);
+NM_CHECK uint32_t nm_solinas_ntt(uint64_t *xs, size_t n, uint64_t root);
+NM_CHECK uint32_t nm_solinas_convolve(uint64_t *xs, size_t n, uint64_t *ys, size_t k, uint64_t root);
 
 /* --- Transforms and products by a plan, modulo m from 1 to 2^62. ---
  *
@@ -214,40 +244,42 @@ typedef struct {
 
 /* Fills the table with the plan by the root for transforms of n words, n being twice its length. NM_NO_ROOT: the
  * root doesn't suit n. */
-uint32_t nm_plan(uint64_t m, uint64_t root, nm_factor_t *table, size_t length);
+NM_CHECK uint32_t nm_plan(uint64_t m, uint64_t root, nm_factor_t *table, size_t length);
 
 /* NM_OK where the table is the one that nm_plan makes for this m and this root, and NM_BAD_CONTEXT where it isn't.
  * NM_NO_ROOT: as for nm_plan. */
-uint32_t nm_plan_fits(uint64_t m, uint64_t root, const nm_factor_t *table, size_t length);
+NM_CHECK uint32_t nm_plan_fits(uint64_t m, uint64_t root, const nm_factor_t *table, size_t length);
 
 /* Replaces the n words by their transform: entry j is the sum of x_i * h^(i * j) modulo m. h is the root of the plan,
  * or, where the plan is for more words, the power of it that suits n. NM_BAD_ARGUMENT: a word isn't below
  * 4 * m, or n is no power of two, or above twice the length of the table. */
-uint32_t nm_ntt_planned(uint64_t m, uint64_t *xs, size_t n, const nm_factor_t *table, size_t length);
+NM_CHECK uint32_t nm_ntt_planned(uint64_t m, uint64_t *xs, size_t n, const nm_factor_t *table, size_t length);
 
 /* Splits block b of the tree of remainders into count = n / last blocks: word i of block j becomes the sum over k of
  * x_(k * last + i) * c^k, the coefficient of the remainder modulo X^last - c, where c is the power of the plan's
  * root by the reversed bits of b * count + j. So b = 0 and last = 1 give the transform in
  * bit-reversed order, and b = 1 starts from a polynomial modulo X^n + 1. NM_BAD_ARGUMENT: a word isn't below 4 * m,
  * n isn't last times a power of two, or the table has fewer than (b + 1) * (count / 2) entries. */
-uint32_t nm_split(uint64_t m, uint64_t *xs, size_t n, const nm_factor_t *table, size_t length, size_t b, size_t last);
+NM_CHECK uint32_t nm_split(uint64_t m, uint64_t *xs, size_t n, const nm_factor_t *table, size_t length, size_t b,
+                           size_t last);
 
 /* Undoes nm_split, but for a factor: each word is multiplied by count. The codes are those of nm_split. */
-uint32_t nm_join(uint64_t m, uint64_t *xs, size_t n, const nm_factor_t *table, size_t length, size_t b, size_t last);
+NM_CHECK uint32_t nm_join(uint64_t m, uint64_t *xs, size_t n, const nm_factor_t *table, size_t length, size_t b,
+                          size_t last);
 
 /* Replaces the first list by the cyclic product of both: entry e is the sum of x_i * y_j modulo m over all
  * i + j = e or e + n. The second list is replaced by the result of nm_split for b = 0. Both are split down to blocks
  * of last words, which is 1, or 2 where the plan is for n / 2 words. NM_BAD_ARGUMENT: a word isn't below 4 * m, the
  * lengths n and k differ, last isn't 1 or 2, n isn't last times a power of two, or the table has fewer than
  * n / last / 2 entries, or none. NM_NO_INVERSE: n / last has no inverse modulo m. */
-uint32_t nm_convolve_planned(uint64_t m, uint64_t *xs, size_t n, uint64_t *ys, size_t k, const nm_factor_t *table,
-                             size_t length, size_t last);
+NM_CHECK uint32_t nm_convolve_planned(uint64_t m, uint64_t *xs, size_t n, uint64_t *ys, size_t k,
+                                      const nm_factor_t *table, size_t length, size_t last);
 
 /* The same modulo X^n + 1: entry e is the sum of x_i * y_j over all i + j = e, less that over all i + j = e + n. The
  * second list is replaced by the result of nm_split for b = 1. The codes are those of nm_convolve_planned, except that
  * the table must have at least n / last entries. */
-uint32_t nm_convolve_negacyclic(uint64_t m, uint64_t *xs, size_t n, uint64_t *ys, size_t k, const nm_factor_t *table,
-                                size_t length, size_t last);
+NM_CHECK uint32_t nm_convolve_negacyclic(uint64_t m, uint64_t *xs, size_t n, uint64_t *ys, size_t k,
+                                         const nm_factor_t *table, size_t length, size_t last);
 
 /* --- Applications: hashes, numbers by their residues, long products. --- */
 
@@ -259,7 +291,8 @@ uint32_t nm_hash(uint64_t x, const uint8_t *bytes, size_t n, uint64_t *hash);
  * NM_NOT_FOUND: it occurs nowhere. The result is right for every x, but the time depends on x: where x is drawn at
  * random from 0 to 2^61 - 2 after text and pattern are fixed, and k is at most 2^30, the expected time is proportional
  * to n + k. For any other x, such as 0 or 1, it may be proportional to n * k. */
-uint32_t nm_find(uint64_t x, const uint8_t *text, size_t n, const uint8_t *pattern, size_t k, size_t *position);
+NM_CHECK uint32_t nm_find(uint64_t x, const uint8_t *text, size_t n, const uint8_t *pattern, size_t k,
+                          size_t *position);
 
 /* The number low + 2^64 * high. */
 typedef struct {
@@ -270,18 +303,19 @@ typedef struct {
 /* The only number below the product of the n moduli that has the k residues. NM_BAD_ARGUMENT: n
  * and k differ, a modulus is 0, two have a common divisor above 1, their product isn't below 2^128, or a
  * residue isn't below its modulus. */
-uint32_t nm_decode(const uint64_t *moduli, size_t n, const uint64_t *residues, size_t k, nm_double_t *number);
+NM_CHECK uint32_t nm_decode(const uint64_t *moduli, size_t n, const uint64_t *residues, size_t k, nm_double_t *number);
 
 /* The lengths of the two scratch lists of nm_product for numbers of n and k digits: 0 where one of the numbers has
  * fewer than 400 digits, else 4 * e words and 3 * e / 2 factors, e being the least power of two that is at least
  * n + k. NM_BAD_ARGUMENT: n + k is above 2^32. */
-uint32_t nm_product_room(size_t n, size_t k, size_t *words, size_t *factors);
+NM_CHECK uint32_t nm_product_room(size_t n, size_t k, size_t *words, size_t *factors);
 
 /* The digits of the product of two numbers of n and k digits, which have 64 bits, the lowest first. The scratch lists
  * words and factors have unspecified contents afterwards. NM_BAD_ARGUMENT: places isn't n + k; or both numbers have at
  * least 400 digits, and places is above 2^32 or a scratch list is shorter than nm_product_room writes. */
-uint32_t nm_product(const uint64_t *xs, size_t n, const uint64_t *ys, size_t k, uint64_t *digits, size_t places,
-                    uint64_t *words, size_t words_length, nm_factor_t *factors, size_t factors_length);
+NM_CHECK uint32_t nm_product(const uint64_t *xs, size_t n, const uint64_t *ys, size_t k, uint64_t *digits,
+                             size_t places, uint64_t *words, size_t words_length, nm_factor_t *factors,
+                             size_t factors_length);
 
 #ifdef __cplusplus
 }

@@ -50,6 +50,7 @@ void row(const char *call, int holds, uint32_t code);
         row(#call, code == (want_code) && memcmp(list, wanted, sizeof wanted) == 0, code);                             \
     } while (0)
 
+void header_rows(void);
 void plain_rows(void);
 void symbol_rows(void);
 void divider_rows(void);

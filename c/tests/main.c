@@ -13,6 +13,7 @@ void row(const char *call, int holds, uint32_t code) {
 }
 
 int main(void) {
+    header_rows();
     plain_rows();
     symbol_rows();
     divider_rows();

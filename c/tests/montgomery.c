@@ -74,7 +74,7 @@ static void bad_context_rows(const nm_montgomery_t *ring) {
 static void changed_context_rows(uint64_t m) {
     for (int bit = 0; bit < 192; bit++) {
         nm_montgomery_t ring;
-        nm_montgomery(m, &ring);
+        CODE(NM_OK, nm_montgomery(m, &ring));
         *(bit < 64 ? &ring.modulus : bit < 128 ? &ring.negated_inverse : &ring.square) ^= UINT64_C(1) << bit % 64;
         bad_context_rows(&ring);
     }

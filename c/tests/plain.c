@@ -129,7 +129,7 @@ static const nm_division_t none = {UNTOUCHED, UNTOUCHED};
 static void changed_divider_rows(void) {
     for (int bit = 0; bit < 128; bit++) {
         nm_divider_t divider;
-        nm_divider(60, &divider);
+        CODE(NM_OK, nm_divider(60, &divider));
         *(bit < 64 ? &divider.divisor : &divider.reciprocal) ^= UINT64_C(1) << bit % 64;
         DIVISION(NM_BAD_CONTEXT, 0, 0, nm_div_rem(&divider, 61, &out));
         DIVISION(NM_BAD_CONTEXT, 0, 0, nm_div_rem_2by1(&divider, 61, 0, &out));
@@ -157,4 +157,18 @@ void divider_rows(void) {
     memset(&by, 0, sizeof by);
     DIVISION(NM_BAD_CONTEXT, 0, 0, nm_div_rem(&by, 5, &out));
     changed_divider_rows();
+}
+
+/* the preprocessor reads codes, operations and versions */
+#if NM_OK != 0 || NM_LOAD != 0 || NM_POW != 9 || NM_NOT_FOUND != 5 || NM_VERSION_MAJOR > 0
+#error "a macro of the header has another value"
+#endif
+
+void header_rows(void) {
+    uint32_t version = 10000 * NM_VERSION_MAJOR + 100 * NM_VERSION_MINOR + NM_VERSION_PATCH;
+    row("nm_version()", nm_version() == version, nm_version());
+    for (uint32_t code = 0; code <= NM_NOT_FOUND + 1; code++)
+        for (uint32_t other = 0; other < code; other++)
+            row("nm_strerror", strcmp(nm_strerror(code), nm_strerror(other)) != 0, code);
+    row("nm_strerror of no code", strcmp(nm_strerror(6), nm_strerror(UINT32_MAX)) == 0, 6);
 }

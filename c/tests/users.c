@@ -35,6 +35,7 @@ static void hash_rows(void) {
     POSITION(NM_OK, 0, nm_find(1, NULL, 0, NULL, 0, &out));
 }
 
+#ifndef UNOPTIMIZED
 /* The time of a search by the base x for 2000 a, b and 2000 a in 100,000 a. */
 static clock_t search_time(uint64_t x) {
     static uint8_t text[100000], pattern[4001];
@@ -50,6 +51,7 @@ static clock_t search_time(uint64_t x) {
 static void time_rows(void) {
     row("a drawn base takes less time", search_time(UINT64_C(1183974665320196433)) * 4 < search_time(0), 0);
 }
+#endif
 
 static void decode_rows(void) {
     static const uint64_t small[3] = {3, 5, 7}, residues[3] = {2, 3, 2}, above[3] = {2, 5, 2};
@@ -154,7 +156,9 @@ static void empty_rows(void) {
 
 void user_rows(void) {
     hash_rows();
+#ifndef UNOPTIMIZED
     time_rows();
+#endif
     decode_rows();
     room_rows();
     product_rows();

@@ -16,3 +16,4 @@ mod solinas;
 mod symbols;
 mod transforms;
 mod users;
+mod version;

@@ -1,0 +1,170 @@
+"""What a C program sees of the library for C, however it was built: for the scripts that try it."""
+import os
+import re
+import shlex
+import shutil
+import subprocess
+import sys
+from pathlib import Path
+
+TOP = Path(os.path.realpath(__file__)).parent.parent
+WARNINGS = ["-Wall", "-Wextra", "-pedantic", "-Werror"]
+SANITIZERS = ["-g", "-pthread", "-fsanitize=address,undefined", "-fno-sanitize-recover=all"]
+SOURCES = "".join(it.read_text() for it in sorted(TOP.glob("crates/num_modular_c/src/*.rt")))
+TYPES = {"usize": "size_t", "i32": "int32_t", "i64": "int64_t", **{f"u{it}": f"uint{it}_t" for it in (8, 16, 32, 64)}}
+COUNT = re.compile(r"(\d+) passed, (\d+) failed")
+IN_C = """the keys are equal
+(1 + 2X + 3X^2)(4 + 5X) has the coefficients 4 13 22 15
+a sum modulo 0 answers 2, and 7 stays
+"""
+IN_PYTHON = """code 0: 18446744073709551556
+code 2: 18446744073709551556 stays
+"""
+
+
+def run(*words, **more):
+    """What a program says on both outputs, and its status."""
+    how = {"stdin": subprocess.DEVNULL, "stdout": subprocess.PIPE, "stderr": subprocess.STDOUT, "text": True}
+    ran = subprocess.run([str(it) for it in words], **how, **more)
+    return ran.stdout, ran.returncode
+
+
+def told(name, holds, said=""):
+    """Prints what was tried, and with a failure what was said; answers how much passed and failed."""
+    print(f"{name}: {'passed' if holds else 'FAILED'}" + (f"\n{said.strip()[-2000:]}" if said and not holds else ""), flush=True)
+    return int(bool(holds)), int(not holds)
+
+
+def flags(prefix):
+    """How a program is compiled and linked with what is installed, by pkg-config where that is at hand."""
+    if shutil.which("pkg-config"):
+        env = {**os.environ, "PKG_CONFIG_PATH": f"{prefix}/lib/pkgconfig"}
+        said, status = run("pkg-config", "--cflags", "--libs", "num_modular", env=env)
+        return shlex.split(said) if status == 0 else ["pkg-config-failed"]
+    return [f"-I{prefix}/include", f"-L{prefix}/lib", "-lnum_modular"]
+
+
+def in_c(name):
+    """A type of the sources, as the header names it."""
+    return TYPES.get(name) or re.sub(r"(?<=[a-z])(?=[A-Z])", "_", name).lower() + "_t"
+
+
+def exports():
+    """The parameters of each export, as type and name in C. A list is a pointer, and then a length without a name."""
+    found = {}
+    for name, parameters in re.findall(r'\bpub extern "C" fn (\w+)\(([^)]*)\) -> u32\n', SOURCES):
+        found[name] = []
+        for own, reference, is_list, kind in re.findall(r"(\w+): (&(?:mut )?|)(\[?)(\w+)", parameters):
+            constant = "const " if reference == "&" else ""
+            found[name].append((constant + in_c(kind) + (" *" if reference else " "), own))
+            found[name] += [("size_t ", None)] if is_list else []
+    return found
+
+
+def without_comments(text):
+    return re.sub(r"/\*.*?\*/", "", text, flags=re.S)
+
+
+def declarations(header):
+    """The parameters of each function that the header declares, as type and name."""
+    declared = re.findall(r"^(?:NM_CHECK )?uint32_t (\w+)\(([^)]*)\);", without_comments(header), re.M)
+    return {name: re.findall(r"((?:const )?\w+ \*?)(\w+)(?:,\s*|$)", words) for name, words in declared}
+
+
+def signatures(header):
+    """What the header declares in another way than the sources."""
+    wanted, declared = exports(), declarations(header)
+    for name in sorted({*wanted, *declared}):
+        parameters = declared.get(name, [])
+        alike = [a == b and c in (None, d) for (a, c), (b, d) in zip(wanted.get(name, []), parameters)]
+        if name not in wanted or not all(alike) or len(alike) != max(len(parameters), len(wanted[name])):
+            yield f"{name}({parameters}) is {wanted.get(name)} in the sources"
+
+
+def layouts(header, folder):
+    """What a C compiler says where a struct or a constant of the header isn't that of the sources."""
+    constants = re.findall(r"^pub const (NM_\w+): u\d+ = (\d+);$", SOURCES, re.M)
+    lines = [f'_Static_assert({name} == UINT64_C({value}), "{name}");' for name, value in constants]
+    structs = re.findall(r"#\[repr\(C\)\]\n[^\n]*\npub struct (\w+) \{\n(.*?)\n\}", SOURCES, re.S)
+    for name, body in structs:
+        fields = [(own, in_c(kind)) for own, kind in re.findall(r"^ +pub (\w+): (\w+),$", body, re.M)]
+        lines.append(f"struct {name} {{ {' '.join(f'{kind} {own};' for own, kind in fields)} }};")
+        lines.append(f'_Static_assert(sizeof({in_c(name)}) == sizeof(struct {name}), "{name}");')
+        for own, kind in fields:
+            place = f"offsetof({in_c(name)}, {own}) == offsetof(struct {name}, {own})"
+            lines.append(f'_Static_assert({place}, "the place of {name}.{own}");')
+            lines.append(f'_Static_assert(_Generic((({in_c(name)} *)0)->{own}, {kind}: 1, default: 0), "{name}.{own}");')
+    Path(folder, "num_modular.h").write_text(header)
+    Path(folder, "layout.c").write_text("\n".join(["#include <num_modular.h>", *lines, ""]))
+    said, status = run("cc", "-std=c11", *WARNINGS, f"-I{folder}", "-fsyntax-only", f"{folder}/layout.c")
+    defined = set(re.findall(r"^#define (NM_\w+) (?:UINT64_C|\d)", header, re.M)), set(re.findall(r"^\} (nm_\w+);", header, re.M))
+    wanted = {it for it, _ in constants}, {in_c(it) for it, _ in structs}
+    return [said] * (status != 0) + [f"{defined} {wanted}"] * (defined != wanted)
+
+
+def names(prefix):
+    """Whether the archive, the header and the tests name the same functions, and the tests each list as an empty one."""
+    said, status = run("nm", "-g", "--defined-only", f"{prefix}/lib/libnum_modular.a")
+    exported, wanted = set(re.findall(r"^\w+ T (\w+)$", said, re.M)), exports()
+    tests = "".join(without_comments(it.read_text()) for it in sorted(TOP.glob("c/tests/*.c")))
+    calls = [(name, [it.strip() for it in words.split(",")]) for name, words in re.findall(r"\b(nm_\w+)\(([^()]*)\)", tests)]
+    empty = {(name, place) for name, words in calls for place in range(len(words)) if words[place : place + 2] == ["NULL", "0"]}
+    lists = {(name, place - 1) for name, found in wanted.items() for place, (_, own) in enumerate(found) if own is None}
+    called = set(re.findall(r"\b(nm_\w+)\(", tests))
+    yield told("the archive exports what the sources export", status == 0 and exported == {*wanted}, f"{exported ^ {*wanted}}")
+    yield told("the tests call what the sources export", wanted and {*wanted} <= called, f"{ {*wanted} - called}")
+    yield told("the tests pass NULL for each list", lists and lists <= empty, f"{sorted(lists - empty)}")
+
+
+def page(prefix, folder):
+    """The example of c/README.md, which prints what the page says."""
+    text = (TOP / "c/README.md").read_text()
+    code, output = re.findall(r"^```c\n(.*?)^```$", text, re.S | re.M), re.findall(r"^```text\n(.*?)^```$", text, re.S | re.M)
+    if len(code) != 1 or len(output) != 1:
+        return [told("c/README.md has an example and its output", False)]
+    Path(folder, "page.c").write_text(code[0])
+    return program(prefix, folder, "the example of c/README.md", [f"{folder}/page.c"], output[0])
+
+
+def compiled(prefix, folder, name, sources):
+    """Compiles a program under the sanitizers, and answers its file and what the compiler said."""
+    file = f"{folder}/{os.path.basename(name)}.out"
+    said, status = run("cc", "-std=c11", *WARNINGS, *SANITIZERS, "-o", file, *sources, *flags(prefix))
+    return file if status == 0 else None, said
+
+
+def program(prefix, folder, name, sources, want):
+    """Runs a program, and compares what it prints; where nothing is wanted, its last line counts."""
+    file, said = compiled(prefix, folder, name, sources)
+    if not file:
+        yield told(f"{name} is compiled", False, said)
+        return
+    said, status = run(file)
+    counts = COUNT.fullmatch(said.strip().splitlines()[-1] if said.strip() else "")
+    yield told(f"{name} under the sanitizers", status == 0 and (counts if want is None else said == want), said)
+    if want is None and counts:
+        yield int(counts[1]), int(counts[2])
+
+
+def header(prefix, folder):
+    """Whether the header stands by itself in C and in C++."""
+    for compiler, standard, suffix in (("cc", "-std=c99", "c"), ("c++", "-std=c++11", "cpp")):
+        if not shutil.which(compiler):
+            print(f"no {compiler}: the header wasn't tried with it")
+            continue
+        source = Path(folder, f"header.{suffix}")
+        source.write_text("#include <num_modular.h>\nint main(void) { return (int)nm_kronecker(0, 0, 0); }\n")
+        said, status = run(compiler, standard, *WARNINGS, f"-I{prefix}/include", "-c", "-o", f"{folder}/header.o", source)
+        yield told(f"the header with {compiler} {standard}", status == 0, said)
+
+
+def programs(prefix, folder, options=()):
+    """The header, c/tests, compiled with options more, and the examples, over what is installed."""
+    yield from header(prefix, folder)
+    yield from program(prefix, folder, "c/tests", [*options, *sorted(TOP.glob("c/tests/*.c"))], None)
+    yield from program(prefix, folder, "c/examples/example.c", [TOP / "c/examples/example.c"], IN_C)
+    yield from page(prefix, folder)
+    said, status = run(sys.executable, TOP / "c/examples/example.py", prefix)
+    yield told("c/examples/example.py", status == 0 and said == IN_PYTHON, said)
+    said, status = run(sys.executable, TOP / "c/examples/example.py")
+    yield told("c/examples/example.py without its word", status == 2 and "example.py PREFIX" in said, said)
