@@ -1,0 +1,40 @@
+"""Arithmetic modulo m, transforms and products of long numbers, by a library that is proved.
+
+Moduli, divisors, exponents and roots are integers from 0 to 2^64 - 1. Other operands may also be negative, and are then
+reduced modulo m. An integer that doesn't fit raises OverflowError.
+
+A list of words is a sequence of integers, of which the result is a new list; or a one-dimensional, contiguous, aligned and
+writable array of unsigned words of 64 bits (numpy's uint64, array.array("Q")), which is changed in place and returned.
+
+Nothing is claimed about constant time: don't pass secrets.
+"""
+from num_modular._calls import NoInverseError, NoRootError
+from num_modular._numbers import decode, encode, find, multiply, polynomial_hash, product
+from num_modular._rings import Divider, Montgomery, Plan
+from num_modular._words import addm, invm, jacobi, kronecker, legendre, mulm, powm, subm
+
+__all__ = [
+    "Divider",
+    "Montgomery",
+    "NoInverseError",
+    "NoRootError",
+    "Plan",
+    "addm",
+    "decode",
+    "encode",
+    "find",
+    "invm",
+    "jacobi",
+    "kronecker",
+    "legendre",
+    "multiply",
+    "mulm",
+    "polynomial_hash",
+    "powm",
+    "product",
+    "subm",
+]
+
+# Messages and help name each item by the path by which it is imported.
+for _name in __all__:
+    globals()[_name].__module__ = __name__

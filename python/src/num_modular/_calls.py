@@ -1,0 +1,76 @@
+"""What all calls of the library for C share: codes as exceptions, integers as words, lists as arrays of words."""
+from __future__ import annotations
+
+import sys
+from collections.abc import Iterable
+from typing import Any, NoReturn
+
+from num_modular._library import ffi, lib
+
+TOP = 1 << 64
+# The formats of words of 64 bits that the struct module and memoryview write, in the order of this machine's bytes.
+_LITTLE = sys.byteorder == "little"
+_FORMATS = {"Q", "@Q", "=Q", "<Q" if _LITTLE else ">Q", "N", "@N"} | ({"L", "@L"} if ffi.sizeof("long") == 8 else set())
+
+
+class NoInverseError(ValueError):
+    """A number that a call inverts has no inverse modulo m."""
+
+
+class NoRootError(ValueError):
+    """There is no root, or the given one doesn't suit the length."""
+
+
+_FAULTS = {
+    lib.NM_NO_INVERSE: (NoInverseError, "a number has no inverse"),
+    lib.NM_BAD_ARGUMENT: (ValueError, "an argument breaks a precondition"),
+    lib.NM_BAD_CONTEXT: (ValueError, "a divider, context or table isn't one that the library makes"),
+    lib.NM_NO_ROOT: (NoRootError, "no root suits the length"),
+}
+
+
+def fail(code: int, words: str = "") -> NoReturn:
+    """Raises the exception of a code."""
+    kind, usual = _FAULTS[code]
+    raise kind(words or usual)
+
+
+def check(code: int, words: str = "") -> None:
+    """Raises the exception of a code, if it isn't NM_OK."""
+    if code != lib.NM_OK:
+        fail(code, words)
+
+
+def reduced(n: int, m: int) -> int:
+    """A word that is congruent to n modulo m: n itself, or, where n is negative, its residue."""
+    return n if n >= 0 or m == 0 else n % m
+
+
+def words_of(array: Any, m: int) -> tuple[Any, bool]:
+    """The words of an array, which stays the caller's, and False; or new words with those of a sequence, and True."""
+    try:
+        view = memoryview(array)
+    except TypeError:
+        return ffi.new("uint64_t[]", [reduced(it, m) for it in array]), True
+    if view.format not in _FORMATS or view.ndim != 1:
+        raise TypeError(f"the array must have one dimension of unsigned words of 64 bits, not {view.ndim} of {view.format!r}")
+    if view.readonly:
+        raise ValueError("the array must be writable")
+    if not view.c_contiguous:
+        raise ValueError("the array must be contiguous")
+    words = ffi.from_buffer("uint64_t[]", array, require_writable=True)
+    if int(ffi.cast("uintptr_t", words)) % ffi.alignof("uint64_t"):
+        raise ValueError("the array must be aligned to words of 64 bits")
+    return words, False
+
+
+def apart(first: Any, second: Any) -> None:
+    """Raises an exception where two arrays of words overlap."""
+    begins, other = (int(ffi.cast("uintptr_t", it)) for it in (first, second))
+    if begins < other + 8 * len(second) and other < begins + 8 * len(first):
+        raise ValueError("the arrays must not overlap")
+
+
+def read_only(words: Iterable[int]) -> Any:
+    """New words with these numbers."""
+    return ffi.new("uint64_t[]", list(words))

@@ -1,0 +1,233 @@
+"""A modulus or a divisor with what is computed of it once: Montgomery's method, plans of transforms, division."""
+from __future__ import annotations
+
+from collections.abc import Iterable, Sequence
+from typing import Any
+
+from num_modular._calls import NoInverseError, apart, check, reduced, words_of
+from num_modular._library import ffi, lib
+
+_OPERATIONS = {
+    "load": (lib.NM_LOAD, ("dst", "n")),
+    "add": (lib.NM_ADD, ("dst", "a", "b")),
+    "sub": (lib.NM_SUB, ("dst", "a", "b")),
+    "mul": (lib.NM_MUL, ("dst", "a", "b")),
+    "div": (lib.NM_DIV, ("dst", "a", "b")),
+    "neg": (lib.NM_NEG, ("dst", "a")),
+    "dbl": (lib.NM_DBL, ("dst", "a")),
+    "sqr": (lib.NM_SQR, ("dst", "a")),
+    "inv": (lib.NM_INV, ("dst", "a")),
+    "pow": (lib.NM_POW, ("dst", "a", "n")),
+}
+
+
+class Divider:
+    """A divisor d from 1 to 2^64 - 1, by which numbers are divided without a division. ValueError: d is 0.
+
+    >>> Divider(60).divmod(1000)
+    (16, 40)
+    """
+
+    __slots__ = ("_divider",)
+
+    def __init__(self, d: int) -> None:
+        self._divider = ffi.new("nm_divider_t *")
+        check(lib.nm_divider(d, self._divider), "the divisor must be at least 1")
+
+    def __repr__(self) -> str:
+        return f"Divider({self.divisor})"
+
+    @property
+    def divisor(self) -> int:
+        """The divisor."""
+        return self._divider.divisor
+
+    def divmod(self, n: int) -> tuple[int, int]:
+        """Quotient and remainder of an n from 0 to 2^64 * d - 1. ValueError: the quotient doesn't fit a word.
+
+        >>> Divider(7).divmod(2**66)
+        (10540996613548315209, 1)
+        """
+        out = ffi.new("nm_division_t *")
+        check(lib.nm_div_rem_2by1(self._divider, n & (1 << 64) - 1, n >> 64, out), "the quotient must be below 2^64")
+        return out.quotient, out.remainder
+
+
+class Montgomery:
+    """A modulus m from 1 to 2^64 - 1 with what Montgomery's method computes of it once. ValueError: m is 0.
+
+    >>> Montgomery(97).pow(3, 1000)
+    36
+    """
+
+    __slots__ = ("_context",)
+
+    def __init__(self, m: int) -> None:
+        self._context = ffi.new("nm_montgomery_t *")
+        check(lib.nm_montgomery(m, self._context), "the modulus must be at least 1")
+
+    def __repr__(self) -> str:
+        return f"Montgomery({self.modulus})"
+
+    @property
+    def modulus(self) -> int:
+        """The modulus."""
+        return self._context.modulus
+
+    def pow(self, a: int, exponent: int) -> int:
+        """The residue of a to the power exponent, which is from 0 to 2^64 - 1.
+
+        >>> Montgomery(2**61 - 1).pow(3, 2**61 - 2)
+        1
+        """
+        out = ffi.new("uint64_t *")
+        check(lib.nm_montgomery_transform(self._context, reduced(a, self.modulus), out))
+        check(lib.nm_montgomery_pow(self._context, out[0], exponent, out))
+        check(lib.nm_montgomery_residue(self._context, out[0], out))
+        return out[0]
+
+    def find_root(self, n: int) -> int:
+        """A root that suits lists of n words: its power n/2 is -1 modulo m. NoRootError: none was found.
+
+        >>> Montgomery(97).find_root(8)
+        64
+        """
+        out = ffi.new("uint64_t *")
+        check(lib.nm_montgomery_find_root(self._context, n, out), f"no root of {n} words was found modulo {self.modulus}")
+        return out[0]
+
+    def ntt(self, xs: Any, root: int | None = None) -> Any:
+        """The transform of n words: entry j is the sum of x_i * root^(i * j) modulo m. The root is that of `find_root` where
+        none is given. NoRootError: the root doesn't suit n.
+
+        >>> Montgomery(17).ntt([1, 2, 3, 4], 4)
+        [10, 7, 15, 6]
+        """
+        words, is_new = words_of(xs, self.modulus)
+        root = self.find_root(len(words)) if root is None else reduced(root, self.modulus)
+        check(lib.nm_montgomery_ntt(self._context, words, len(words), root), f"{root} doesn't suit {len(words)} words")
+        return list(words) if is_new else xs
+
+    def convolve(self, xs: Any, ys: Any, root: int | None = None) -> Any:
+        """The cyclic product of two lists of n words: entry e is the sum of x_i * y_j modulo m over i + j = e or e + n. An
+        array ys becomes its transform. ValueError: the lengths differ, or the arrays overlap. NoRootError: the root
+        doesn't suit n. NoInverseError: n has no inverse modulo m.
+
+        >>> Montgomery(97).convolve([1, 2, 3, 0], [4, 5, 0, 0])
+        [4, 13, 22, 15]
+        """
+        first, is_new = words_of(xs, self.modulus)
+        second, _ = words_of(ys, self.modulus)
+        apart(first, second)
+        root = self.find_root(len(first)) if root is None else reduced(root, self.modulus)
+        check(lib.nm_montgomery_convolve(self._context, first, len(first), second, len(second), root))
+        return list(first) if is_new else xs
+
+    def run(self, registers: Any, commands: Iterable[Sequence[Any]]) -> Any:
+        """The registers after the commands, each a name and its numbers: `("load", dst, n)`, `("add", dst, a, b)`, likewise
+        `sub`, `mul` and `div`; `("neg", dst, a)`, likewise `dbl`, `sqr` and `inv`; `("pow", dst, a, exponent)`.
+
+        NoInverseError: the command with the number `at`, counted from 0, needs an inverse that doesn't exist; its `registers`
+        are those after the commands before it. ValueError: a command or a register doesn't exist.
+
+        >>> Montgomery(97).run([0, 0, 0], [("load", 0, 10), ("load", 1, 20), ("mul", 2, 0, 1)])
+        [10, 20, 6]
+        """
+        words, is_new = words_of(registers, self.modulus)
+        listed = [self._command(it) for it in commands]
+        done = ffi.new("size_t *")
+        code = lib.nm_montgomery_run(self._context, words, len(words), ffi.new("nm_command_t[]", listed), len(listed), done)
+        result = list(words) if is_new else registers
+        if code == lib.NM_NO_INVERSE:
+            fault = NoInverseError(f"the inverse of command {done[0]} doesn't exist")
+            fault.at, fault.registers = done[0], result
+            raise fault
+        check(code, "a register doesn't exist")
+        return result
+
+    def _command(self, words: Sequence[Any]) -> dict[str, int]:
+        name, *numbers = words
+        if name not in _OPERATIONS or len(numbers) != len(_OPERATIONS[name][1]):
+            raise ValueError(f"{words!r} is no command")
+        operation, fields = _OPERATIONS[name]
+        command = {"operation": operation, **dict(zip(fields, numbers))}
+        if name == "load":
+            command["n"] = reduced(command["n"], self.modulus)
+        return command
+
+
+class Plan:
+    """A table for transforms of n words modulo m, from 1 to 2^62, with which they are faster than by `Montgomery`. n is a power
+    of two, at least 2. The root is that of `Montgomery.find_root` where none is given.
+
+    Words of arrays are below 4 * m. ValueError: m or a word is out of range. NoRootError: the root doesn't suit n.
+
+    >>> Plan(97, 8).convolve([1, 2, 3, 0, 0, 0, 0, 0], [4, 5, 0, 0, 0, 0, 0, 0])
+    [4, 13, 22, 15, 0, 0, 0, 0]
+    """
+
+    __slots__ = ("_length", "_modulus", "_root", "_table")
+
+    def __init__(self, m: int, n: int, root: int | None = None) -> None:
+        if n < 2:
+            raise ValueError("a plan is for at least 2 words")
+        self._root = Montgomery(m).find_root(n) if root is None else reduced(root, m)
+        self._modulus, self._length = m, n
+        self._table = ffi.new("nm_factor_t[]", n // 2)
+        if n % 2:
+            check(lib.NM_NO_ROOT)
+        check(lib.nm_plan(m, self._root, self._table, n // 2))
+
+    def __repr__(self) -> str:
+        return f"Plan({self.modulus}, {self.length}, {self.root})"
+
+    @property
+    def modulus(self) -> int:
+        """The modulus."""
+        return self._modulus
+
+    @property
+    def length(self) -> int:
+        """The number of words of the longest list that the plan transforms."""
+        return self._length
+
+    @property
+    def root(self) -> int:
+        """The root, which suits lists of that length."""
+        return self._root
+
+    def ntt(self, xs: Any) -> Any:
+        """The transform of n words, or of fewer, by the power of the root that suits them: see `Montgomery.ntt`.
+
+        >>> Plan(17, 4, 4).ntt([1, 2, 3, 4])
+        [10, 7, 15, 6]
+        """
+        words, is_new = words_of(xs, self._modulus)
+        check(lib.nm_ntt_planned(self._modulus, words, len(words), self._table, len(self._table)))
+        return list(words) if is_new else xs
+
+    def convolve(self, xs: Any, ys: Any) -> Any:
+        """The product of two lists of n words, or of fewer, modulo X^n - 1: see `Montgomery.convolve`. An array ys gets other
+        contents. ValueError: the lengths aren't equal, aren't those of the plan, or the arrays overlap.
+
+        >>> Plan(97, 4).convolve([1, 2, 3, 0], [4, 5, 0, 0])
+        [4, 13, 22, 15]
+        """
+        return self._product(lib.nm_convolve_planned, xs, ys, 1)
+
+    def convolve_negacyclic(self, xs: Any, ys: Any) -> Any:
+        """The product modulo X^n + 1: entry e is the sum of x_i * y_j over i + j = e, less that over i + j = e + n. As
+        `convolve`.
+
+        >>> Plan(97, 4).convolve_negacyclic([0, 0, 0, 1], [0, 1, 0, 0])
+        [96, 0, 0, 0]
+        """
+        return self._product(lib.nm_convolve_negacyclic, xs, ys, 2)
+
+    def _product(self, call: Any, xs: Any, ys: Any, last: int) -> Any:
+        first, is_new = words_of(xs, self._modulus)
+        second, _ = words_of(ys, self._modulus)
+        apart(first, second)
+        table = self._table
+        check(call(self._modulus, first, len(first), second, len(second), table, len(table), last))
+        return list(first) if is_new else xs

@@ -1,0 +1,104 @@
+"""Operations modulo m on integers, and symbols."""
+from __future__ import annotations
+
+from num_modular._calls import check, reduced
+from num_modular._library import ffi, lib
+
+
+def addm(a: int, b: int, m: int) -> int:
+    """The residue of a + b modulo m. ValueError: m is 0.
+
+    >>> addm(5, -7, 10)
+    8
+    """
+    out = ffi.new("uint64_t *")
+    check(lib.nm_addm(reduced(a, m), reduced(b, m), m, out), "the modulus must be at least 1")
+    return out[0]
+
+
+def subm(a: int, b: int, m: int) -> int:
+    """The residue of a - b modulo m. ValueError: m is 0.
+
+    >>> subm(5, 7, 10)
+    8
+    """
+    out = ffi.new("uint64_t *")
+    check(lib.nm_subm(reduced(a, m), reduced(b, m), m, out), "the modulus must be at least 1")
+    return out[0]
+
+
+def mulm(a: int, b: int, m: int) -> int:
+    """The residue of a * b modulo m. ValueError: m is 0.
+
+    >>> mulm(12, 13, 5)
+    1
+    """
+    out = ffi.new("uint64_t *")
+    check(lib.nm_mulm(reduced(a, m), reduced(b, m), m, out), "the modulus must be at least 1")
+    return out[0]
+
+
+def powm(a: int, exponent: int, m: int) -> int:
+    """The residue of a to the power exponent modulo m. For a negative exponent it is that of the inverse of a.
+
+    ValueError: m is 0. NoInverseError: the exponent is negative, and a has no inverse. OverflowError: the exponent is not
+    between -2^64 and 2^64.
+
+    >>> powm(3, 1000, 97), powm(3, -1, 7)
+    (36, 5)
+    """
+    out = ffi.new("uint64_t *")
+    if exponent < 0:
+        a, exponent = invm(a, m), -exponent
+    check(lib.nm_powm(reduced(a, m), exponent, m, out), "the modulus must be at least 1")
+    return out[0]
+
+
+def invm(a: int, m: int) -> int:
+    """The inverse of a modulo m, from 0 to m - 1; 0 for m = 1. NoInverseError: there is none. ValueError: m is 0.
+
+    >>> invm(3, 7)
+    5
+    """
+    out = ffi.new("uint64_t *")
+    code = lib.nm_invm(reduced(a, m), m, out)
+    check(code, f"{a} has no inverse modulo {m}" if code == lib.NM_NO_INVERSE else "the modulus must be at least 1")
+    return out[0]
+
+
+def jacobi(a: int, n: int) -> int:
+    """The Jacobi symbol of a over n: -1, 0 or 1. ValueError: n is even.
+
+    >>> jacobi(2, 15), jacobi(7, 15), jacobi(5, 15)
+    (1, -1, 0)
+    """
+    out = ffi.new("int32_t *")
+    check(lib.nm_jacobi(reduced(a, n), n, out), "n must be odd")
+    return out[0]
+
+
+def legendre(a: int, p: int) -> int:
+    """The Legendre symbol of a over an odd prime p: 1 for the square of a number that p doesn't divide, 0 for a multiple of p,
+    else -1.
+
+    Whether p is prime isn't tested. For other p it is 0, 1 or -1 where a to the power (p - 1)/2, rounded down, is congruent
+    to it. ValueError: that power is none of these, or p is 0.
+
+    >>> legendre(2, 7), legendre(3, 7)
+    (1, -1)
+    """
+    out = ffi.new("int32_t *")
+    check(lib.nm_legendre(reduced(a, p), p, out), f"the symbol of {a} over {p} isn't defined")
+    return out[0]
+
+
+def kronecker(a: int, n: int) -> int:
+    """The Kronecker symbol of a over n: -1, 0 or 1. Both are from -2^63 to 2^63 - 1, or both from 0 to 2^64 - 1.
+
+    >>> kronecker(3, 8), kronecker(-1, 0), kronecker(-10, -11)
+    (-1, 1, -1)
+    """
+    out = ffi.new("int32_t *")
+    symbol = lib.nm_kronecker if a >= 0 and n >= 0 else lib.nm_kronecker_signed
+    check(symbol(a, n, out))
+    return out[0]

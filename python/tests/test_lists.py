@@ -1,0 +1,141 @@
+"""Transforms, products and runs of commands on lists and on arrays that are changed in place."""
+import array
+import random
+import threading
+
+import pytest
+
+from num_modular import Montgomery, NoInverseError, NoRootError, Plan
+
+PRIMES = (193, 12289, 998244353, 4611686018326724609)
+
+
+def transform(xs, root, m):
+    return [sum(x * pow(root, i * j, m) for i, x in enumerate(xs)) % m for j in range(len(xs))]
+
+
+def product(xs, ys, m, sign):
+    sums = [0] * len(xs)
+    for i, x in enumerate(xs):
+        for j, y in enumerate(ys):
+            sums[(i + j) % len(xs)] += x * y if i + j < len(xs) else sign * x * y
+    return [it % m for it in sums]
+
+
+@pytest.mark.parametrize("m", PRIMES)
+def test_transforms_and_products(m):
+    draw = random.Random(m)
+    for n in (2, 4, 16, 32):
+        xs, ys = ([draw.randrange(m) for _ in range(n)] for _ in range(2))
+        plan, ring = Plan(m, n), Montgomery(m)
+        assert (plan.modulus, plan.length, ring.modulus) == (m, n, m)
+        assert plan.ntt(xs) == ring.ntt(xs) == ring.ntt(xs, plan.root - m) == transform(xs, plan.root, m)
+        assert plan.convolve(xs, ys) == ring.convolve(xs, ys) == product(xs, ys, m, 1)
+        assert plan.convolve_negacyclic(xs, ys) == product(xs, ys, m, -1)
+        assert Plan(m, 2 * n).convolve(xs, ys) == product(xs, ys, m, 1)
+
+
+def arrays(words):
+    yield array.array("Q", words)
+    yield memoryview(array.array("Q", words))
+    try:
+        import numpy
+    except ImportError:
+        return
+    yield numpy.array(words, dtype=numpy.uint64)
+
+
+def test_arrays_are_changed_in_place():
+    xs, ys = [1, 2, 3, 0], [4, 5, 0, 0]
+    for call in (Montgomery(97).convolve, Plan(97, 4).convolve):
+        for first, second in zip(arrays(xs), arrays(ys)):
+            assert call(first, second) is first
+            assert list(first) == [4, 13, 22, 15]
+            assert list(second) != ys
+        assert call(xs, ys) == [4, 13, 22, 15]
+        assert (xs, ys) == ([1, 2, 3, 0], [4, 5, 0, 0])
+
+
+def test_arrays_that_are_refused():
+    ring = Montgomery(97)
+    bad = [
+        (TypeError, array.array("d", [0.0] * 8)),
+        (TypeError, array.array("I", [0] * 8)),
+        (TypeError, array.array("q", [0] * 8)),
+        (TypeError, bytearray(64)),
+        (TypeError, memoryview(bytearray(64)).cast("Q", (2, 4))),
+        (ValueError, memoryview(bytes(64)).cast("Q")),
+        (ValueError, memoryview(bytearray(128)).cast("Q")[::2]),
+        (TypeError, 5),
+        (TypeError, [1.5, 2]),
+        (OverflowError, [1 << 64, 2]),
+    ]
+    for fault, xs in bad:
+        with pytest.raises(fault):
+            ring.ntt(xs, 1)
+    words = array.array("Q", [1] * 8)
+    for xs, ys in ((words, words), (memoryview(words)[:4], memoryview(words)[3:7])):
+        with pytest.raises(ValueError, match="overlap"):
+            ring.convolve(xs, ys)
+
+
+def test_arrays_of_numpy_that_are_refused():
+    numpy = pytest.importorskip("numpy")
+    unaligned = numpy.frombuffer(bytearray(65), numpy.uint8)[1:].view(numpy.uint64)
+    swapped = numpy.zeros(8, numpy.dtype(numpy.uint64).newbyteorder())
+    read_only = numpy.zeros(8, numpy.uint64)
+    read_only.flags.writeable = False
+    for xs in (unaligned, swapped, read_only, numpy.zeros((2, 4), numpy.uint64), numpy.zeros(16, numpy.uint64)[::2], numpy.zeros(8)):
+        with pytest.raises((TypeError, ValueError)):
+            Montgomery(97).ntt(xs)
+
+
+def test_roots_and_lengths():
+    with pytest.raises(NoRootError):
+        Montgomery(97).ntt([1, 2, 3])
+    with pytest.raises(NoRootError):
+        Montgomery(97).ntt([1, 2, 3, 4], 5)
+    with pytest.raises(NoRootError):
+        Montgomery(97).ntt([])
+    with pytest.raises(NoInverseError):
+        Montgomery(4).convolve([1, 2], [3, 0], 3)
+    for m, n, root in ((97, 3, None), (97, 8, 5), (97, 64, None)):
+        with pytest.raises(NoRootError):
+            Plan(m, n, root)
+    for m, n in ((97, 1), (0, 4), ((1 << 62) + 1, 2)):
+        with pytest.raises(ValueError):
+            Plan(m, n)
+    plan = Plan(97, 4)
+    for xs, ys in (([1, 2], [3]), ([1] * 8, [1] * 8), ([1, 388], [1, 2])):
+        with pytest.raises(ValueError):
+            plan.convolve(xs, ys)
+
+
+def test_runs():
+    ring = Montgomery(21)
+    commands = [("load", 0, 5), ("load", 1, 7), ("inv", 2, 0), ("inv", 0, 1), ("add", 0, 0, 1)]
+    with pytest.raises(NoInverseError) as told:
+        ring.run([0] * 3, commands)
+    assert (told.value.at, told.value.registers) == (3, [5, 7, 17])
+    words = array.array("Q", [30, 0])
+    assert ring.run(words, [("sqr", 0, 0), ("pow", 1, 0, 3), ("neg", 1, 1), ("sub", 0, 1, 0)]) is words
+    assert list(words) == [(-(81**3) - 81) % 21, -(81**3) % 21]
+    assert ring.run([0], [("load", 0, -1)]) == [20]
+    for command in (("pop", 0), ("add", 0, 1), ("add", 0, 1, 7), ("load", 9, 1)):
+        with pytest.raises(ValueError):
+            ring.run([0, 0], [command])
+
+
+def test_threads_share_a_plan():
+    plan, n = Plan(998244353, 1024), 1024
+    wanted, found = plan.ntt(list(range(n))), [None] * 8
+
+    def work(place):
+        found[place] = [plan.ntt(list(range(n))) for _ in range(20)]
+
+    threads = [threading.Thread(target=work, args=(place,)) for place in range(8)]
+    for it in threads:
+        it.start()
+    for it in threads:
+        it.join()
+    assert found == [[wanted] * 20] * 8

@@ -1,0 +1,70 @@
+"""Operations on integers, beside Python's own."""
+import math
+import random
+
+import pytest
+
+from num_modular import Divider, Montgomery, NoInverseError, addm, invm, jacobi, kronecker, legendre, mulm, powm, subm
+
+TOP = 1 << 64
+
+
+def cases(count):
+    """Operands, some of them negative or at an edge, exponents and moduli of all lengths."""
+    draw = random.Random(1)
+    edges = [0, 1, 2, TOP - 2, TOP - 1]
+    for _ in range(count):
+        a, b = (draw.choice([draw.getrandbits(64), -draw.getrandbits(70), *edges]) for _ in range(2))
+        yield a, b, draw.getrandbits(draw.randrange(65)), draw.getrandbits(draw.randrange(1, 65)) or 1
+    yield from ((a, b, e, m) for a in edges for b in edges for e in edges for m in (1, 2, TOP - 2, TOP - 1))
+
+
+def test_operations():
+    for a, b, e, m in cases(3000):
+        assert (addm(a, b, m), subm(a, b, m), mulm(a, b, m)) == ((a + b) % m, (a - b) % m, a * b % m)
+        assert powm(a, e, m) == pow(a, e, m) == Montgomery(m).pow(a, e)
+
+
+def test_inverses():
+    for a, _, e, m in cases(2000):
+        if math.gcd(a, m) == 1:
+            assert invm(a, m) == pow(a, -1, m)
+            assert powm(a, -e, m) == pow(a, -e, m)
+        else:
+            with pytest.raises(NoInverseError):
+                invm(a, m)
+
+
+def test_symbols():
+    assert [jacobi(a, 15) for a in range(-1, 5)] == [-1, 0, 1, 1, 0, 1]
+    assert [legendre(a, 7) for a in range(7)] == [0, 1, 1, -1, 1, -1, -1]
+    assert [kronecker(*it) for it in ((-1, 0), (3, -128), (-3, -128), (-10, -11), (TOP - 2, TOP - 1))] == [1, -1, 1, -1, -1]
+    for symbol, a, n in ((jacobi, 3, 8), (jacobi, 3, 0), (legendre, 2, 9), (legendre, 3, 0)):
+        with pytest.raises(ValueError):
+            symbol(a, n)
+
+
+@pytest.mark.parametrize("call", [addm, subm, mulm, powm])
+def test_out_of_range(call):
+    for a, m, fault in ((3, 0, ValueError), (3, TOP, OverflowError), (3, -5, OverflowError), (TOP, 5, OverflowError), (3.0, 5, TypeError)):
+        with pytest.raises(fault):
+            call(a, 2, m)
+
+
+def test_exponents_out_of_range():
+    for exponent in (TOP, -TOP, -TOP - 1):
+        with pytest.raises(OverflowError):
+            powm(3, exponent, 7)
+
+
+def test_division():
+    draw = random.Random(2)
+    for _ in range(2000):
+        d = draw.getrandbits(draw.randrange(1, 65)) or 1
+        n = draw.randrange(d << 64)
+        assert Divider(d).divmod(n) == divmod(n, d)
+    for n, fault in ((7 << 64, ValueError), (-1, OverflowError), (1 << 128, OverflowError)):
+        with pytest.raises(fault):
+            Divider(7).divmod(n)
+    with pytest.raises(ValueError):
+        Divider(0)
