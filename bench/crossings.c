@@ -15,6 +15,7 @@ enum { ROUNDS = 7, PLACES = 65536 };
 
 static const uint64_t modulus = UINT64_C(18446744073709551557), factor = UINT64_C(1234567890123456789);
 static const uint64_t exponent = UINT64_C(9223372036854775778);
+static uint32_t codes; /* of all calls: 0 where each is NM_OK */
 static nm_montgomery_t ring;
 static uint64_t factor_form, list[PLACES], root;
 static const uint64_t prime = UINT64_C(4179340454199820289); /* 29 * 2^57 + 1 */
@@ -23,40 +24,40 @@ static nm_factor_t table[PLACES / 2];
 static uint64_t prime_root;
 
 static uint64_t mulm(uint64_t x) {
-    (void)nm_mulm(x, factor, modulus, &x);
+    codes |= nm_mulm(x, factor, modulus, &x);
     return x;
 }
 
 static uint64_t montgomery_mul(uint64_t x) {
-    (void)nm_montgomery_mul(&ring, x, factor_form, &x);
+    codes |= nm_montgomery_mul(&ring, x, factor_form, &x);
     return x;
 }
 
 static uint64_t powm(uint64_t x) {
-    (void)nm_powm(x, exponent, modulus, &x);
+    codes |= nm_powm(x, exponent, modulus, &x);
     return x;
 }
 
 static uint64_t montgomery_pow(uint64_t x) {
-    (void)nm_montgomery_pow(&ring, x, exponent, &x);
+    codes |= nm_montgomery_pow(&ring, x, exponent, &x);
     return x;
 }
 
 static uint64_t transform(uint64_t x) {
     list[0] = x;
-    (void)nm_solinas_ntt(list, PLACES, root);
+    codes |= nm_solinas_ntt(list, PLACES, root);
     return list[0];
 }
 
 static uint64_t transform_montgomery(uint64_t x) {
     list[0] = x;
-    (void)nm_montgomery_ntt(&prime_ring, list, PLACES, prime_root);
+    codes |= nm_montgomery_ntt(&prime_ring, list, PLACES, prime_root);
     return list[0];
 }
 
 static uint64_t transform_planned(uint64_t x) {
     list[0] = x;
-    (void)nm_ntt_planned(prime, list, PLACES, table, PLACES / 2);
+    codes |= nm_ntt_planned(prime, list, PLACES, table, PLACES / 2);
     return list[0];
 }
 
@@ -95,7 +96,7 @@ static uint64_t line(const char *name, uint64_t (*step)(uint64_t), uint64_t x, l
 }
 
 static uint64_t value(uint64_t form) {
-    (void)nm_montgomery_residue(&ring, form, &form);
+    codes |= nm_montgomery_residue(&ring, form, &form);
     return form;
 }
 
@@ -121,5 +122,6 @@ int main(void) {
     for (size_t i = 0; i < PLACES; i++) list[i] = i;
     wrong |= transformed ^ line("nm_ntt_planned, 2^16", transform_planned, 3, 10);
     if (wrong) printf("the answers differ\n");
-    return wrong != 0;
+    if (codes) printf("a call failed\n");
+    return wrong != 0 || codes != 0;
 }
