@@ -15,7 +15,7 @@ use modular_word::ring_word::RingWord;
 // Two numbers that the algorithm reduces to the greatest common divisor of x and m, each with a factor. Modulo m,
 // and multiplied by 2^twos, one is its factor times x, the other is minus its factor times x; `minus` tells which.
 #[derive(Clone, Copy)]
-struct Pair<T: PlainWord> {
+struct Pair<T: PathWord> {
     above: T,
     below: T,
     above_factor: T,
@@ -29,7 +29,7 @@ struct Pair<T: PlainWord> {
 // The trailing zeros of the wrapped difference are those of the difference, so that counting them doesn't wait for
 // the comparison. The choice is between plain values, so that compilers turn it into a select: a branch would
 // mispredict half the time.
-fn one_difference<T: PlainWord>(pair: Pair<T>) -> Pair<T>
+fn one_difference<T: PathWord>(pair: Pair<T>) -> Pair<T>
     requires differ { T.number pair.above ≢ T.number pair.below }
     requires fits { PairFits T.base (T.number pair.above) (T.number pair.below) (T.number pair.above_factor)
         (T.number pair.below_factor) pair.twos }
@@ -61,7 +61,7 @@ fn one_difference<T: PlainWord>(pair: Pair<T>) -> Pair<T>
 }
 
 // The pair of x and m once its numbers are equal. Conditions: x is at least 1 and below m.
-fn last_pair<T: PlainWord>(x: T, m: T) -> Pair<T>
+fn last_pair<T: PathWord>(x: T, m: T) -> Pair<T>
     requires some { 0 < T.number x }
     requires below { T.number x < T.number m }
     requires fits { T.number m < T.base }
@@ -88,7 +88,7 @@ fn last_pair<T: PlainWord>(x: T, m: T) -> Pair<T>
 }
 
 // The residue of w divided by 2^twos, modulo an odd m. Condition: w is below m.
-fn without_twos<T: PlainWord>(w: T, twos: u32, m: T) -> T
+fn without_twos<T: PathWord>(w: T, twos: u32, m: T) -> T
     requires odd { T.number m % 2 ≡ 1 }
     requires below { T.number w < T.number m }
     ensures value { Congruent (T.number m) (T.number result * 2 ^ twos) (T.number w) }
@@ -109,7 +109,7 @@ fn without_twos<T: PlainWord>(w: T, twos: u32, m: T) -> T
 }
 
 // The inverse of a number below an odd m, below m; `None` exactly where there is none.
-fn inverse_below<T: PlainWord>(x: T, m: T) -> Option<T>
+fn inverse_below<T: PathWord>(x: T, m: T) -> Option<T>
     requires odd { T.number m % 2 ≡ 1 }
     requires below { T.number x < T.number m }
     ensures { IsInversion T.number (T.number m) (T.number x) result }

@@ -121,7 +121,7 @@ fn power_by_reciprocal<T: PlainWord>(base: T, exp: T, m: T) -> T
 }
 
 // The shifted residue of the product of two shifted residues.
-fn scaled_product<T: PlainWord>(divisor: T, reciprocal: T, shift: u32, a: T, b: T) -> T
+fn scaled_product<T: PathWord>(divisor: T, reciprocal: T, shift: u32, a: T, b: T) -> T
     requires reciprocal { IsReciprocal T.base (T.number divisor) (T.number reciprocal) }
     requires shift { shift < T.width }
     requires below { T.number b < T.number divisor }

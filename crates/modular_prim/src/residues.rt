@@ -10,7 +10,7 @@ use modular_word::ring_word::RingWord;
 
 // Whether a word is below m. Always false for words of at most 16 bits, where a mispredicted branch takes longer
 // than the division that it avoids.
-fn spares_division<T: PlainWord>(a: T, m: T) -> bool
+fn spares_division<T: PathWord>(a: T, m: T) -> bool
     ensures { IsTrue result → T.number a < T.number m }
 {
     T::bits() > 16 && a.is_below(m)
@@ -37,14 +37,14 @@ fn reduced_unless<T: PlainWord>(is_residue: bool, a: T, m: T) -> T
 }
 
 // The sum of two words, as a double word.
-fn whole_sum<T: PlainWord>(a: T, b: T) -> T::Double
+fn whole_sum<T: PathWord>(a: T, b: T) -> T::Double
     ensures { T.double_number result ≡ T.number a + T.number b }
 {
     T::double_plus(T::merge(a, T::zero()), T::merge(b, T::zero()))
 }
 
 // The difference of the greater and the smaller of a and b.
-fn distance<T: PlainWord>(a: T, b: T) -> T
+fn distance<T: PathWord>(a: T, b: T) -> T
     ensures above { T.number b ≤ T.number a → T.number result + T.number b ≡ T.number a }
     ensures below { T.number a < T.number b → T.number result + T.number a ≡ T.number b }
 {
