@@ -146,11 +146,6 @@ module _ {w b m i square : ℕ} (r : IsOddRing w b m i square) where
       ∙ same_product m n n square (b * b) refl (same_residue (b * b) m r.is_square)
       ∙ ap (λ o. o % m) (let e : n * (b * b) ≡ n * b * b = omega arith in e)) is
 
-  -- what n times the base leaves is the form of n
-  pub divided_made : (n : ℕ) {low t h : ℕ} → t ≡ low + b * n → low ≡ 0 → h ≡ t % m → Made w m h (n % m)
-  divided_made n {low} {t} et none eh =
-      made n (eh ∙ ap (λ v. v % m) (let e : t ≡ n * b = omega (arith, et, none) in e))
-
   -- 0 is the form of 0
   pub zero_made : {n : ℕ} → n ≡ 0 → Made w m n (n % m)
   zero_made {n} e =

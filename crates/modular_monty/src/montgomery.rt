@@ -7,8 +7,7 @@ ghost use Rattle.modular_monty.specs.Split.{split_form, split_value, two_part, o
 ghost use Rattle.modular_monty.specs.SplitLaws.{modulus_positive, split_canonical};
 
 use crate::odd_ring::{OddModulus, OddRing, StoredModulus};
-use modular_prim::inverse::fast_inverse;
-use modular_prim::plain_word::PlainWord;
+use modular_prim::reducer_word::ReducerWord;
 use modular_reduced::reducer::Reducer;
 use modular_word::path_word::PathWord;
 use modular_word::ring_word::RingWord;
@@ -33,7 +32,7 @@ use std::alloc::AllocError;
 /// assert_eq!(RING.residue(RING.pow(seven, &100)), 1);
 /// ```
 #[derive(Debug)]
-pub struct Montgomery<T: PlainWord> {
+pub struct Montgomery<T: ReducerWord> {
     // The ring modulo k.
     odd: OddRing<T, StoredModulus<T>>,
     // The exponent s.
@@ -42,7 +41,7 @@ pub struct Montgomery<T: PlainWord> {
         (T.number odd.kept.negated_inverse) (T.number odd.kept.square) },
 }
 
-impl<T: PlainWord> Clone for Montgomery<T> {
+impl<T: ReducerWord> Clone for Montgomery<T> {
     ghost is_clone = { λ x y. y ≡ x };
 
     ghost is_infallible = { λ _. ⊤ };
@@ -52,9 +51,9 @@ impl<T: PlainWord> Clone for Montgomery<T> {
     }
 }
 
-impl<T: PlainWord> Copy for Montgomery<T> {}
+impl<T: ReducerWord> Copy for Montgomery<T> {}
 
-impl<T: PlainWord> Montgomery<T> {
+impl<T: ReducerWord> Montgomery<T> {
     /// The reducer of a modulus m. Condition: the modulus is at least 1.
     pub fn new(m: T) -> Self
         requires { 1 ≤ T.number m }
@@ -115,7 +114,7 @@ impl<T: PlainWord> Montgomery<T> {
 }
 
 // Each method tests s first, so that odd moduli are as fast as without the second part.
-impl<T: PlainWord> Reducer<T> for Montgomery<T> {
+impl<T: ReducerWord> Reducer<T> for Montgomery<T> {
     ghost admits = { λ m. 1 ≤ m };
 
     ghost form = { split_form T.width };
@@ -207,7 +206,7 @@ impl<T: PlainWord> Reducer<T> for Montgomery<T> {
 
     // The form of the inverse of the value.
     fn inv(&self, f: T) -> Option<T> {
-        match fast_inverse(self.residue(f), self.modulus()) {
+        match T::inverse(self.residue(f), self.modulus()) {
             Some(x) => Some(self.transform(x)),
             None => None,
         }

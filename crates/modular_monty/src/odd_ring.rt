@@ -8,18 +8,17 @@ ghost use Rattle.modular_monty.specs.MontgomeryLaws.{montgomery_canonical};
 
 use crate::neg_mod_inv::neginv;
 use modular_prim::below::{add_below, branchless_sub_below, dbl_below, neg_below, sub_below};
-use modular_prim::inverse::fast_inverse;
-use modular_prim::plain_word::PlainWord;
+use modular_prim::reducer_word::ReducerWord;
 use modular_reduced::reducer::Reducer;
 use modular_word::path_word::PathWord;
-use modular_word::paths::{ones, redc};
+use modular_word::paths::redc;
 use modular_word::ring_word::RingWord;
 use std::alloc::AllocError;
 use std::marker::PhantomData;
 
 /// An odd modulus, with what is precomputed of it: its negated inverse modulo the base, and the square of the base
 /// modulo m. A type that knows its modulus needn't store it, and a modulus of a special form may be multiplied faster.
-pub trait OddModulus<T: PlainWord>: Copy {
+pub trait OddModulus<T: PathWord>: Copy {
     // The moduli that the type admits.
     ghost admits: { ℕ → Type 0 };
 
@@ -52,16 +51,12 @@ pub trait OddModulus<T: PlainWord>: Copy {
     ghost is_odd_ring: { (m : Self) → IsOddRing T.width T.base (modulus m) (negated_inverse m) (square m) };
 }
 
-// What is precomputed of an odd modulus m. The square of the base doesn't fit a double word, but the square less m
-// does, and it is congruent to the square.
-pub(crate) fn computed_once<T: PlainWord>(m: T) -> (T, T)
+// What is precomputed of an odd modulus m.
+pub(crate) fn computed_once<T: ReducerWord>(m: T) -> (T, T)
     requires { T.number m % 2 ≡ 1 }
     ensures { IsOddRing T.width T.base (T.number m) (T.number result.0) (T.number result.1) }
 {
-    let negated_inverse = neginv(m);
-    let less = T::merge(T::zero().wrapping_sub(m), ones::<T>(T::bits()));
-    let square = T::narrow_remainder(less, m);
-    (negated_inverse, square)
+    (neginv(m), T::square_of_base(m))
 }
 
 // Whether a word is 1.
@@ -99,12 +94,12 @@ fn is_square_of_base<T: PathWord>(m: T, negated_inverse: T, square: T) -> bool
 ///
 /// Source: Handbook of Applied Cryptography, section 14.3.2.
 #[derive(Debug, Clone, Copy)]
-pub struct OddRing<T: PlainWord, M: OddModulus<T>> {
+pub struct OddRing<T: PathWord, M: OddModulus<T>> {
     pub kept: M,
     word: PhantomData<T>,
 }
 
-impl<T: PlainWord, M: OddModulus<T>> OddRing<T, M> {
+impl<T: PathWord, M: OddModulus<T>> OddRing<T, M> {
     /// The reducer of the modulus that is stored.
     pub fn over(kept: M) -> Self
         ensures { result.kept ≡ kept }
@@ -116,7 +111,7 @@ impl<T: PlainWord, M: OddModulus<T>> OddRing<T, M> {
     }
 }
 
-impl<T: PlainWord, M: OddModulus<T>> Reducer<T> for OddRing<T, M> {
+impl<T: ReducerWord, M: OddModulus<T>> Reducer<T> for OddRing<T, M> {
     ghost admits = { M.admits };
 
     ghost form = { montgomery_form T.width };
@@ -133,14 +128,8 @@ impl<T: PlainWord, M: OddModulus<T>> Reducer<T> for OddRing<T, M> {
         OddRing::over(M::keep(*m))
     }
 
-    // Up to 16 bits, dividing n times the base is fast; for longer words a product and a reduction take less time
-    // than the division of a double word.
     fn transform(&self, n: T) -> T {
-        if T::bits() <= 16 {
-            T::narrow_remainder(T::merge(T::zero(), n), self.kept.modulus())
-        } else {
-            self.kept.reduced(n.product(self.kept.square_of_base()))
-        }
+        self.kept.reduced(n.product(self.kept.square_of_base()))
     }
 
     fn check(&self, f: &T) -> bool {
@@ -186,7 +175,7 @@ impl<T: PlainWord, M: OddModulus<T>> Reducer<T> for OddRing<T, M> {
 
     // The form of the inverse of the value.
     fn inv(&self, f: T) -> Option<T> {
-        match fast_inverse(self.residue(f), self.kept.modulus()) {
+        match T::inverse(self.residue(f), self.kept.modulus()) {
             Some(x) => Some(self.transform(x)),
             None => None,
         }
@@ -199,7 +188,7 @@ impl<T: PlainWord, M: OddModulus<T>> Reducer<T> for OddRing<T, M> {
 
 /// An odd modulus that is known at run time, with what is precomputed of it.
 #[derive(Debug)]
-pub struct StoredModulus<T: PlainWord> {
+pub struct StoredModulus<T: PathWord> {
     /// The modulus m.
     pub modulus: T,
     /// The number n below the base with m * n congruent to -1 modulo the base.
@@ -209,7 +198,7 @@ pub struct StoredModulus<T: PlainWord> {
     ghost ring: { IsOddRing T.width T.base (T.number modulus) (T.number negated_inverse) (T.number square) },
 }
 
-impl<T: PlainWord> Clone for StoredModulus<T> {
+impl<T: PathWord> Clone for StoredModulus<T> {
     ghost is_clone = { λ x y. y ≡ x };
 
     ghost is_infallible = { λ _. ⊤ };
@@ -219,9 +208,9 @@ impl<T: PlainWord> Clone for StoredModulus<T> {
     }
 }
 
-impl<T: PlainWord> Copy for StoredModulus<T> {}
+impl<T: PathWord> Copy for StoredModulus<T> {}
 
-impl<T: PlainWord> StoredModulus<T> {
+impl<T: PathWord> StoredModulus<T> {
     /// What is stored of m, given the two numbers that were precomputed of it earlier; `None` exactly where m is
     /// even or one of the numbers is wrong. It makes no division.
     pub fn restored(m: T, negated_inverse: T, square: T) -> Option<StoredModulus<T>>
@@ -244,7 +233,7 @@ impl<T: PlainWord> StoredModulus<T> {
     }
 }
 
-impl<T: PlainWord> OddModulus<T> for StoredModulus<T> {
+impl<T: ReducerWord> OddModulus<T> for StoredModulus<T> {
     ghost admits = { λ m. m % 2 ≡ 1 };
 
     ghost modulus = { λ m. T.number m.modulus };

@@ -2,8 +2,8 @@ use Rattle.modular_monty.specs.SplitLaws.{split_canonical, modulus_positive}
 use Rattle.modular_monty.proofs.MontgomerySteps.{inverted, not_inverted}
 use Rattle.modular_monty.proofs.montgomery.MontgomeryReducer.inv.Goals as goal
 
-pub fast_inverse-requires : goal.fast_inverse-requires
-fast_inverse-requires g c = rw c.modulus.ensures (modulus_positive c.args.self.now.ring)
+pub inverse-requires : goal.inverse-requires
+inverse-requires g c = rw c.modulus.ensures (modulus_positive c.args.self.now.ring)
 
 pub returns-in-Some : goal.returns-in-Some
 returns-in-Some g c =

@@ -2,8 +2,8 @@ use Rattle.modular_monty.specs.MontgomeryLaws.{positive, montgomery_canonical}
 use Rattle.modular_monty.proofs.MontgomerySteps.{inverted, not_inverted}
 use Rattle.modular_monty.proofs.odd_ring.OddRingReducer.inv.Goals as goal
 
-pub fast_inverse-requires : goal.fast_inverse-requires
-fast_inverse-requires g c = rw c.modulus.ensures (positive (g.met.M.OddModulus.is_odd_ring c.args.self.now.kept))
+pub inverse-requires : goal.inverse-requires
+inverse-requires g c = rw c.modulus.ensures (positive (g.met.M.OddModulus.is_odd_ring c.args.self.now.kept))
 
 pub returns-in-Some : goal.returns-in-Some
 returns-in-Some g c =
