@@ -5,7 +5,6 @@ ghost use Rattle.modular_folds.specs.Folds.{fold_of, folds, IsFewFolds, IsFoldin
 
 use crate::fold_word::FoldWord;
 use modular_prim::below::reduced_once;
-use modular_prim::plain_word::PlainWord;
 use modular_word::path_word::PathWord;
 use modular_word::ring_word::RingWord;
 
@@ -177,7 +176,7 @@ fn reduced_short(v: u64, p: u32, c: u32, m: u32) -> u32
 }
 
 /// A word whose double words can be folded: u32 or u64.
-pub trait FoldedWord: PlainWord {
+pub trait FoldedWord: PathWord {
     /// A word below 2^p that is congruent to a double word modulo m, and the number of folds at the bit p by c that
     /// led to it. Condition: they reduce modulo m.
     fn fold_double(v: Self::Double, p: u32, c: Self, m: Self) -> (Self, u32)

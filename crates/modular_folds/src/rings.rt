@@ -6,8 +6,7 @@ ghost use Rattle.modular_reduced.specs.Plain.{plain_form, plain_value};
 
 use crate::folds::FoldedWord;
 use modular_prim::below::{add_below, dbl_below, neg_below, sub_below};
-use modular_prim::euclid::invm;
-use modular_prim::plain_word::PlainWord;
+use modular_prim::reducer_word::ReducerWord;
 use modular_reduced::reducer::Reducer;
 use modular_word::path_word::PathWord;
 use modular_word::ring_word::RingWord;
@@ -53,7 +52,7 @@ pub struct FoldRing<T: FoldedWord, M: FoldModulus<T>> {
     kept: M,
 }
 
-impl<T: FoldedWord, M: FoldModulus<T>> Reducer<T> for FoldRing<T, M> {
+impl<T: FoldedWord + ReducerWord, M: FoldModulus<T>> Reducer<T> for FoldRing<T, M> {
     ghost admits = { M.admits };
 
     ghost form = { plain_form };
@@ -114,7 +113,7 @@ impl<T: FoldedWord, M: FoldModulus<T>> Reducer<T> for FoldRing<T, M> {
     }
 
     fn inv(&self, f: T) -> Option<T> {
-        invm(f, self.kept.modulus())
+        T::inverse_by_euclid(f, self.kept.modulus())
     }
 
     fn sqr(&self, f: T) -> T {

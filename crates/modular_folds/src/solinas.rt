@@ -112,7 +112,7 @@ fn is_low(p1: u8, p2: u8, k: i64) -> bool
 }
 
 /// A word that has trinomial reducers: u32 or u64.
-pub trait TrinomialWord: FoldedWord {
+pub trait TrinomialWord: FoldedWord + PlainWord {
     /// The word of a given number. Condition: it fits.
     fn word_of(n: u64) -> Self
         requires { n < Self.base }

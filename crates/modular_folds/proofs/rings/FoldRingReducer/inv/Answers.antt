@@ -14,5 +14,5 @@ plain_inverse number m v (Some x) h = (number x, h, record { below = h.below; sa
 pub returns : goal.returns
 returns g c =
     let n = g.T.RingWord.number in
-    inverse_answered n (n c.args.f) c.invm.result (g.met.M.FoldModulus.canonical c.args.self.now.kept)
-    (plain_inverse n _ (n c.args.f) c.invm.result (rw c.modulus.ensures at c.invm.ensures))
+    inverse_answered n (n c.args.f) c.inverse_by_euclid.result (g.met.M.FoldModulus.canonical c.args.self.now.kept)
+    (plain_inverse n _ (n c.args.f) c.inverse_by_euclid.result (rw c.modulus.ensures at c.inverse_by_euclid.ensures))
