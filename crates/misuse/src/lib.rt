@@ -5,7 +5,6 @@
 
 pub mod fixed;
 pub mod mersenne;
-pub mod modular_integer;
 pub mod montgomery;
 pub mod normalized;
 pub mod one_by_one;

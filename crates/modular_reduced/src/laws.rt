@@ -1,10 +1,12 @@
 //! The ring laws, for the checked forms of any reducer. Each function computes both sides of a law and returns
-//! them; its contract says that they are equal. Also the laws of forms and values, by functions with an empty body.
+//! them; its contract says that they are equal. Also the laws of forms and values, by functions with an empty body, and
+//! that `==` of integers is an equivalence.
 
 ghost use Rattle.std.specs.Prelude.{◌≡◌, ℕ, ◌+◌, ◌*◌, ◌%◌, ◌^◌, ◌<◌, ◌↔◌, IsTrue, pos, neg_ℤ};
 ghost use Rattle.modular_word.specs.Residues.{residue};
 ghost use Rattle.modular_reduced.specs.Forms.{Represents, IsForm};
 
+use crate::modular_integer::ModularInteger;
 use crate::reducer::Reducer;
 use modular_word::ring_word::RingWord;
 
@@ -111,6 +113,19 @@ pub fn same_value<T: RingWord, R: Reducer<T>>(reducer: &R, a: T, b: T) -> bool
     ensures word { IsTrue result ↔ (a ≡ b) }
 {
     reducer.residue(a) == reducer.residue(b)
+}
+
+/// Whether `==` is reflexive at a, symmetric at a and b, and transitive at a, b and c: it always is.
+pub fn is_equivalence<I: ModularInteger>(a: &I, b: &I, c: &I) -> bool
+    ensures { IsTrue result }
+{
+    // A second name, because linters report `*a == *a`.
+    let same = a;
+    let reflexive = *a == *same;
+    let forth = *a == *b;
+    let back = *b == *a;
+    let transitive = !(forth && *b == *c) || *a == *c;
+    reflexive && forth == back && transitive
 }
 
 /// Forms and values are one to one. The form of a value v fits a word, is checked, and has the value v. A checked

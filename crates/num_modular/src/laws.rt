@@ -2,10 +2,11 @@
 //! the body and cite its clauses.
 //!
 //! The functions of the ring laws (`sums_commute` and the like) return both sides of a law; their contracts say
-//! that the sides are equal.
+//! that the sides are equal. `run_both` runs one list over two reducers.
 
 ghost use Rattle.std.specs.Prelude.{◌≡◌, ◌≢◌, ℕ, suc, ◌+◌, ◌-◌, ◌*◌, ◌/◌, ◌%◌, ◌^◌, ◌<◌};
 ghost use Rattle.std.specs.Prelude.{◌≤◌, ◌↔◌, pos, ◌-ℤ◌, List, All, None, length, map, slice_index};
+ghost use Rattle.modular_reduced.specs.Forms.{IsForm};
 ghost use Rattle.modular_word.specs.Inverses.{IsInverse, HasInverse};
 ghost use Rattle.modular_word.specs.Residues.{residue};
 ghost use Rattle.modular_word.specs.Sums.{sum_below, polynomial};
@@ -13,10 +14,11 @@ ghost use Rattle.modular_symbols.specs.Primes.{IsPrime};
 ghost use Rattle.modular_transform.specs.Transforms.{cyclic_product};
 ghost use Rattle.num_modular.specs.Polynomials.{ascending_polynomial, polynomial_at, HaveUnitDifferences};
 ghost use Rattle.modular_ring.specs.Products.{product_below};
-ghost use Rattle.modular_ring.specs.Ring.{whole, value_at, IsStop};
+ghost use Rattle.modular_ring.specs.Ring.{whole, value_at, IsStop, carried_out, IsFit, values_of, HoldValues};
 ghost use Rattle.num_modular.specs.Stops.{inverted_by, NeedsInverse};
 
-use crate::ring::RingCommand;
+use crate::ring::{RingCommand, RunEnd, run};
+use modular_reduced::reducer::Reducer;
 use modular_word::ring_word::RingWord;
 
 // Whole numbers.
@@ -34,8 +36,8 @@ pub use modular_symbols::halving::step_laws;
 pub use modular_folds::folds::fold_laws;
 pub use modular_monty::montgomery::form_laws;
 pub use modular_reduced::laws::{
-    canonical_laws, negative_cancels, products_associate, products_commute, products_distribute,
-    residue_by_form, same_value, sums_associate, sums_commute,
+    canonical_laws, is_equivalence, negative_cancels, products_associate, products_commute,
+    products_distribute, residue_by_form, same_value, sums_associate, sums_commute,
 };
 
 // Transforms.
@@ -61,6 +63,49 @@ pub fn stop_laws<T: RingWord>()
         ((at : ℕ) → IsStop m start wholes at → ⊥) →
         (i r : ℕ) → NeedsInverse commands i r → HasInverse m (value_at m start wholes i r) }
 {}
+
+/// Runs the same commands over two reducers, and returns both ends. They are equal, and the registers then have equal
+/// residues, whatever the forms and the words are. Condition: the moduli are equal, the registers hold checked forms
+/// of equal residues, the lists are equal as commands on whole numbers, and each register number is below the count.
+pub fn run_both<T: RingWord, U: RingWord, R: Reducer<T>, S: Reducer<U>>(
+    left: &R,
+    right: &S,
+    left_regs: &mut [T],
+    right_regs: &mut [U],
+    left_commands: &[RingCommand<T>],
+    right_commands: &[RingCommand<U>],
+) -> (RunEnd, RunEnd)
+    requires left_checked { All (λ f. IsForm R.form R.value (R.modulus left.now) (T.number f)) left_regs.old }
+    requires right_checked { All (λ f. IsForm S.form S.value (S.modulus right.now) (U.number f)) right_regs.old }
+    requires left_fit { All (IsFit (length left_regs.old)) left_commands.now }
+    requires right_fit { All (IsFit (length right_regs.old)) right_commands.now }
+    requires one_modulus { R.modulus left.now ≡ S.modulus right.now }
+    requires one_start { values_of T.number R.value (R.modulus left.now) left_regs.old
+        ≡ values_of U.number S.value (S.modulus right.now) right_regs.old }
+    requires one_list { map (whole T.number) left_commands.now ≡ map (whole U.number) right_commands.now }
+
+    // The left run satisfies the contract of `run`.
+    ensures stops { let m = R.modulus left.now in
+        let start = values_of T.number R.value m left_regs.old in
+        (at : ℕ) → (result.0 ≡ RunEnd.NoInverse at) ↔ IsStop m start (map (whole T.number) left_commands.now) at }
+    ensures done { let m = R.modulus left.now in
+        let start = values_of T.number R.value m left_regs.old in
+        (result.0 ≡ RunEnd.Done) ↔ ((at : ℕ) → IsStop m start (map (whole T.number) left_commands.now) at → ⊥) }
+    ensures left_values { let m = R.modulus left.now in
+        let start = values_of T.number R.value m left_regs.old in
+        let wholes = map (whole T.number) left_commands.now in
+        HoldValues T.number R.form m left_regs.new (value_at m start wholes (carried_out result.0 wholes)) }
+
+    // The right run ends at the same command, with checked forms of the same residues.
+    ensures one_end { result.0 ≡ result.1 }
+    ensures right_checked { All (λ f. IsForm S.form S.value (S.modulus right.now) (U.number f)) right_regs.new }
+    ensures one_result { values_of T.number R.value (R.modulus left.now) left_regs.new
+        ≡ values_of U.number S.value (S.modulus right.now) right_regs.new }
+{
+    let left_end = run(left, left_regs, left_commands);
+    let right_end = run(right, right_regs, right_commands);
+    (left_end, right_end)
+}
 
 // In the shape in which contracts of calls and loop invariants leave their terms.
 

@@ -1,6 +1,6 @@
 use Rattle.std.proofs.Common.{arith}
-use Rattle.run_misuse.proofs.SameRuns.{run_of, run_as, same_end, same_residues}
-use Rattle.run_misuse.proofs.runs.run_both.Goals as goal
+use Rattle.num_modular.proofs.SameRuns.{run_of, run_as, same_end, same_residues}
+use Rattle.num_modular.proofs.laws.run_both.Goals as goal
 
 pub run-left_end-requires-clause-checked : goal.run-left_end-requires-clause-checked
 run-left_end-requires-clause-checked g c = c.requires.left_checked
