@@ -1,9 +1,9 @@
 //! Modular rings over machine words, by the names of the crate `num-modular`.
 //!
-//! The root exports the traits, types and aliases, and the bounds of generic code over them. The modules are those of
-//! the Rust crate, and seven more: `ring` (lists of commands run over any reducer, and transforms), `plans` (transforms
-//! by a table), `rings` (the generic types behind the aliases), `hashes` (polynomial hashes and a search), `residues`
-//! (residue number systems), `laws`, and `modrun` (the body of the program).
+//! The root exports the traits, types and aliases, and the bounds of generic code over them. Beside the modules of the
+//! Rust crate there are `ring` (lists of commands run over any reducer, and transforms), `plans` (transforms by a
+//! table), `rings` (the generic types behind the aliases), `hashes` (polynomial hashes and a search), `residues`
+//! (residue number systems) and `laws`.
 #![tactic(auto)]
 
 pub mod barrett;
