@@ -288,9 +288,9 @@ NM_CHECK uint32_t nm_convolve_negacyclic(uint64_t m, uint64_t *xs, size_t n, uin
 uint32_t nm_hash(uint64_t x, const uint8_t *bytes, size_t n, uint64_t *hash);
 
 /* The first position where the pattern of k bytes occurs in the text of n bytes, by hashes at the base x.
- * NM_NOT_FOUND: it occurs nowhere. The result is right for every x, but the time depends on x: where x is drawn at
- * random from 0 to 2^61 - 2 after text and pattern are fixed, and k is at most 2^30, the expected time is proportional
- * to n + k. For any other x, such as 0 or 1, it may be proportional to n * k. */
+ * NM_NOT_FOUND: it occurs nowhere. The result is right for every x, but the time depends on x, and nothing is proved of
+ * it. Two different texts of k bytes have one hash at fewer than k of the x from 0 to 2^61 - 2. So an x should be drawn
+ * at random after text and pattern are fixed; for another, such as 0 or 1, the time may be proportional to n * k. */
 NM_CHECK uint32_t nm_find(uint64_t x, const uint8_t *text, size_t n, const uint8_t *pattern, size_t k,
                           size_t *position);
 
