@@ -57,7 +57,7 @@ impl Rows {
 
     /// The ratios of a line.
     fn ratios_of(&self, measured: &[f64]) -> Vec<f64> {
-        self.ratios.iter().map(|(_, of, to)| measured[*of] / measured[*to]).collect()
+        self.ratios.iter().map(|(_, of, to)| (measured[*of] / measured[*to] * 1e4).round() / 1e4).collect()
     }
 
     /// The geometric mean of each ratio. A line beside a plain line of Rust, not the Rust crate, is left out.
