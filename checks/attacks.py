@@ -5,7 +5,7 @@ and `--- new` before a text. An empty old text makes a file.
 """
 import re
 
-from libraries import TOP
+from calls import TOP
 
 
 class Attack:
