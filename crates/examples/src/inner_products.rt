@@ -7,6 +7,7 @@ use num_modular::laws::range_laws;
 use num_modular::{Montgomery, Reducer};
 
 /// The sum of the products of the entries, modulo m. Condition: the lists have the same length.
+#[tactic(auto, using(num_modular::specs::Remainders::remainders))]
 pub fn inner_product<R: Reducer<u64>>(r: &R, xs: &[u64], ys: &[u64]) -> u64
     requires { length xs.now ≡ length ys.now }
     ensures { result ≡ sum_below (length xs.now) (λ i. slice_index xs.now i * slice_index ys.now i) % R.modulus r.now }
