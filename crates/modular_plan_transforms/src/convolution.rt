@@ -2,7 +2,7 @@
 
 ghost use Rattle.std.specs.Prelude.{◌≡◌, ℕ, ◌+◌, ◌-◌, ◌*◌, ◌/◌, ◌%◌, ◌<◌, ◌≤◌, ◌↔◌, IsTrue, All, length};
 ghost use Rattle.std.specs.Int.{IsPowerOfTwo};
-ghost use Rattle.modular_word.specs.Inverses.{HasInverse};
+ghost use Rattle.modular_word.specs.Inverses.{IsInverse, HasInverse};
 ghost use Rattle.modular_transform.specs.Transforms.{cyclic_product};
 ghost use Rattle.modular_barrett.specs.Factors.{IsFactorOf, AllFactors};
 ghost use Rattle.modular_plan.specs.Plans.{numbers, constant, IsPlan, AreRemainders};
@@ -99,6 +99,38 @@ fn join_products<T: PlainWord, F: PlanEntry<T>>(
     }
 }
 
+// `convolve_block`, given the factor of the inverse of the number of blocks.
+pub(crate) fn convolve_scaled<T: PlainWord, F: PlanEntry<T>>(
+    m: &PlannedModulus<T>,
+    xs: &mut [T],
+    ys: &mut [T],
+    table: &[F],
+    b: usize,
+    last: usize,
+    part: &Factor<T>,
+)
+    requires entries_xs { All (λ x. T.number x < 4 * T.number m.now.modulus) xs.old }
+    requires entries_ys { All (λ x. T.number x < 4 * T.number m.now.modulus) ys.old }
+    requires equal { length ys.old ≡ length xs.old }
+    requires factors { AllFactors T.base (T.number m.now.modulus) F.value F.quotient table.now }
+    requires blocks { AreSmallBlocks (length xs.old) (length table.now) b last }
+    requires factor { IsFactorOf T.base T.number (T.number m.now.modulus) part.now }
+    requires inverse { IsInverse (T.number m.now.modulus) (length xs.old / last) (T.number part.now.value) }
+    ensures below { All (λ x. T.number x < T.number m.now.modulus) xs.new
+        × All (λ x. T.number x < T.number m.now.modulus) ys.new }
+    ensures product { let modulus = T.number m.now.modulus in (g z e : ℕ) →
+        IsPlan modulus g z (length table.now) (numbers F.value table.now) → e < length xs.old →
+        numbers T.number xs.new e ≡ product_modulo modulus (length xs.old) (constant g z b)
+        (numbers T.number xs.old) (numbers T.number ys.old) e }
+    ensures remainders { let modulus = T.number m.now.modulus in (g z : ℕ) →
+        IsPlan modulus g z (length table.now) (numbers F.value table.now) →
+        AreRemainders modulus g z b (length xs.old / last) last (numbers T.number ys.old) (numbers T.number ys.new) }
+{
+    split_first(m, xs, table, b, last);
+    split(m, ys, table, b, last);
+    join_products(m, xs, ys, table, b, last, part);
+}
+
 /// Whether `convolve_block` accepts lists of `length` entries as block b, down to blocks of `last`, and a plan of
 /// `factors` factors.
 pub fn convolves(length: usize, factors: usize, b: usize, last: usize) -> bool
@@ -154,10 +186,7 @@ pub fn convolve_block<T: PlainWord, F: PlanEntry<T>>(
     let count = residue_of_count(m, xs.len() / last);
     match invm(count, m.modulus) {
         Some(part) => {
-            let part = m.factor(part);
-            split_first(m, xs, table, b, last);
-            split(m, ys, table, b, last);
-            join_products(m, xs, ys, table, b, last, &part);
+            convolve_scaled(m, xs, ys, table, b, last, &m.factor(part));
             true
         }
         None => false,
