@@ -1,3 +1,4 @@
+pub mod Backward
 pub mod Columns
 pub mod Constants
 pub mod Convolutions
@@ -5,3 +6,4 @@ pub mod LastJoins
 pub mod NaturalOrder
 pub mod Reductions
 pub mod SmallProducts
+pub mod Wholes

@@ -51,7 +51,7 @@ reversed_among_more d (suc t) w p e below =
     ∙ ap (λ n. n * 2 ^ d) (sym (bits_reversed-suc t p))
 
 -- a plan for 2^z entries is long enough for 2^bits
-no_more_bits : (bits z n count : ℕ) → n ≡ 2 ^ bits → count ≡ 2 ^ z / 2 → n / 2 ≤ count → bits ≤ z
+pub no_more_bits : (bits z n count : ℕ) → n ≡ 2 ^ bits → count ≡ 2 ^ z / 2 → n / 2 ≤ count → bits ≤ z
 no_more_bits bits z n count whole half within = elim (cases_lt z bits) [
   | inl more ↦
       let two = two-pow-succ z in

@@ -15,7 +15,7 @@ use modular_prim::plain_word::PlainWord;
 use modular_word::path_word::PathWord;
 
 // Multiplies each entry of xs by the entry of ys with the same index.
-fn multiply_each<T: PlainWord>(m: &PlannedModulus<T>, xs: &mut [T], ys: &[T])
+pub(crate) fn multiply_each<T: PlainWord>(m: &PlannedModulus<T>, xs: &mut [T], ys: &[T])
     requires below { All (λ x. T.number x < T.number m.now.modulus) xs.old }
     requires equal { length ys.now ≡ length xs.old }
     ensures products { (i : ℕ) → i < length xs.old →

@@ -1,0 +1,152 @@
+-- A plan as one value: what its fields say of its table, a root that is tested by its half turn, and shorter plans.
+use Rattle.std.proofs.Common.{◌≡◌, ℕ, suc, zero, ◌+◌, ◌-◌, ◌*◌, ◌/◌, ◌%◌, ◌^◌, ◌<◌, ◌≤◌, ◌↔◌, List, All, length, get_or, map, take}
+use Rattle.std.proofs.Common.{refl, sym, ap, ◌∙◌, arith, subst, inl, inr}
+use Rattle.std.proofs.Math.Nat.{two-pow-succ, div_self, mod-lt, mod-eq_of_lt, mod_self, mul-div_cancel_left}
+use Rattle.std.proofs.Math.Numerals.{add-one}
+use Rattle.std.proofs.lemmas.Bool.{cases_lt}
+use Rattle.std.proofs.lemmas.List.{take-map, get_or-take, length-take-le}
+use Rattle.std.proofs.lemmas.Nat.{pow-add, pow_pos}
+use Rattle.std.specs.Int.{IsPowerOfTwo}
+use Rattle.modular_word.proofs.Congruence.{of_equal, chained, turned, multiplied, added, itself, residue_of}
+use Rattle.modular_word.proofs.Powers.{pow-one}
+use Rattle.modular_word.specs.Congruence.{Congruent}
+use Rattle.modular_word.specs.Inverses.{IsInverse}
+use Rattle.modular_transform.proofs.StageLemmas.{root_squared}
+use Rattle.modular_transform.specs.Orders.{bits_reversed}
+use Rattle.modular_transform.specs.Transforms.{Suits, transform}
+use Rattle.modular_plan.proofs.Shorter.{first_entries}
+use Rattle.modular_plan.specs.Plans.{numbers, IsPlan}
+use Rattle.modular_plan_transforms.proofs.NaturalOrder.{no_more_bits}
+
+-- the table of a plan, by the fields
+pub plan_of : {m g bits count : ℕ} {w : ℕ → ℕ} → 2 * count ≡ 2 ^ bits → (g ^ count + 1) % m ≡ 0
+    → ((k : ℕ) → k < count → w k ≡ g ^ bits_reversed (bits - 1) k % m) → IsPlan m g bits count w
+plan_of {m} {g} {bits} {count} whole turn entry =
+    let half : count ≡ 2 ^ bits / 2 = omega (arith, whole) in
+    record {
+      suits = record {
+        power_of_two = (bits, refl);
+        half_turn = λ _. subst (λ n. (g ^ n + 1) % m ≡ 0) half turn;
+      };
+      half = half;
+      entry = entry;
+    }
+
+-- and the half turn of a root, by the table
+pub turn_of : {m g bits count : ℕ} {w : ℕ → ℕ} → 2 * count ≡ 2 ^ bits → IsPlan m g bits count w
+    → (g ^ count + 1) % m ≡ 0
+turn_of {m} {g} {bits} whole plan =
+    let more : 1 < 2 ^ bits = (let p = pow_pos bits in omega (arith, whole, p)) in
+    subst (λ n. (g ^ n + 1) % m ≡ 0) (sym plan.half) (plan.suits.half_turn more)
+
+-- the root for all entries of a plan is the root itself
+pub root_itself : (m g bits n : ℕ) (x : ℕ → ℕ) (j : ℕ) → n ≡ 2 ^ bits
+    → transform m (g ^ (2 ^ bits / n)) n x j ≡ transform m g n x j
+root_itself m g bits n x j whole =
+    let one : 2 ^ bits / n ≡ 1 = ap (λ v. 2 ^ bits / v) whole ∙ div_self (pow_pos bits) in
+    let same : g ^ (2 ^ bits / n) ≡ g = ap (λ v. g ^ v) one ∙ pow-one g in
+    ap (λ h. transform m h n x j) same
+
+-- twice a power of two
+pub doubled : (z n : ℕ) → n ≡ 2 ^ z → 2 * n ≡ 2 ^ (z + 1)
+doubled z n e =
+    let two = two-pow-succ z in
+    let next = ap (λ v. 2 ^ v) (add-one z) in
+    omega (arith, e, two, next)
+
+pub squared : (m g t p q : ℕ) → p ≡ g ^ (2 ^ t) % m → q ≡ (p * p) % m → q ≡ g ^ (2 ^ (t + 1)) % m
+squared m g t p q is square =
+    let value : Congruent m p (g ^ (2 ^ t)) = chained (of_equal is) (residue_of (g ^ (2 ^ t))) in
+    let more = root_squared g t ∙ ap (λ v. g ^ (2 ^ v)) (sym (add-one t)) in
+    square ∙ (chained (multiplied value value) (of_equal more)).same
+
+pub below_modulus : (m p v : ℕ) → 0 < m → p ≡ v % m → p < m
+below_modulus m p v some e = subst (λ n. n < m) (sym e) (mod-lt v some)
+
+-- g suits 2 * n entries where its power p to the exponent n is -1
+pub suits_by_turn : (m g n p : ℕ) → 0 < m → IsPowerOfTwo n → p ≡ g ^ n % m → (p + 1 ≡ m) ↔ Suits m g (2 * n)
+suits_by_turn m g n p some power is =
+    let halved : 2 * n / 2 ≡ n = omega arith in
+    let same : (p + 1) % m ≡ (g ^ n + 1) % m = (added (chained (of_equal is) (residue_of (g ^ n))) (itself 1)).same in
+    let below = below_modulus m p (g ^ n) some is in
+    let least = pow_pos power.0 in
+    let whole = power.1 in (
+      λ (e : p + 1 ≡ m). record {
+        power_of_two = (power.0 + 1, doubled power.0 n power.1);
+        half_turn = λ l. ap (λ k. (g ^ k + 1) % m) halved ∙ sym same ∙ ap (λ v. v % m) e ∙ mod_self m;
+      },
+      λ (suits : Suits m g (2 * n)).
+          let zero : (p + 1) % m ≡ 0 = same ∙ ap (λ k. (g ^ k + 1) % m) (sym halved)
+          ∙ suits.half_turn (omega (arith, whole, least)) in
+          elim (cases_lt (p + 1) m) [
+            | inl l ↦ let all = mod-eq_of_lt l in absurd (omega (arith, zero, all))
+            | inr l ↦ omega (arith, below, l)
+          ],
+    )
+
+-- half of the inverse of 2^t
+pub half_inverse : (m t p q : ℕ) → IsInverse m (2 ^ t) p → q < m → 2 * q % m ≡ p → IsInverse m (2 ^ (t + 1)) q
+half_inverse m t p q inverse below twice =
+    let next = ap (λ v. 2 ^ v) (add-one t) in
+    let two = two-pow-succ t in
+    let power : 2 ^ (t + 1) ≡ 2 ^ t + 2 ^ t = omega (arith, next, two) in
+    let moved : (2 ^ t + 2 ^ t) * q ≡ 2 ^ t * (2 * q) = omega arith in
+    let same : Congruent m (2 * q) p = chained (turned (residue_of (2 * q))) (of_equal twice) in
+    record {
+      below = below;
+      one = (chained (of_equal (ap (λ v. v * q) power ∙ moved)) (multiplied (itself (2 ^ t)) same)).same ∙ inverse.one;
+    }
+
+-- what a shorter plan needs: how often its length is in the length of this one
+pub record IsShorter (bits n count y d : ℕ) : Type 0 where
+  pub bits_is : bits ≡ y + d
+  pub half : 2 * (n / 2) ≡ n
+  pub within : n / 2 ≤ count
+  pub quotient : count / (n / 2) ≡ 2 ^ d
+  pub root : 2 ^ bits / n ≡ 2 ^ d
+  pub first : 2 ^ y / 2 ≡ n / 2
+
+pub even : (y n : ℕ) → n ≡ 2 ^ y → 2 ≤ n → 2 * (n / 2) ≡ n
+even zero n is some = let one : 2 ^ 0 ≡ 1 = refl in absurd (omega (arith, is, some, one))
+even (suc y) n is some = let two = two-pow-succ y in omega (arith, is, two)
+
+pub is_shorter : (bits n count y : ℕ) → n ≡ 2 ^ y → 2 ≤ n → n ≤ 2 ^ bits → 2 * count ≡ 2 ^ bits
+    → IsShorter bits n count y (bits - y)
+is_shorter bits n count y is some most whole =
+    let twice = even y n is some in
+    let half : count ≡ 2 ^ bits / 2 = omega (arith, whole) in
+    let within : n / 2 ≤ count = omega (arith, most, whole, twice) in
+    let no_more = no_more_bits y bits n count is half within in
+    let d = bits - y in
+    let more : bits ≡ y + d = omega (arith, no_more) in
+    let power : 2 ^ bits ≡ n * 2 ^ d = ap (λ v. 2 ^ v) more ∙ pow-add 2 y d ∙ ap (λ v. v * 2 ^ d) (sym is) in
+    let moved : 2 * (n / 2) * 2 ^ d ≡ 2 * (n / 2 * 2 ^ d) = omega arith in
+    let all : 2 * (n / 2) * 2 ^ d ≡ n * 2 ^ d = ap (λ v. v * 2 ^ d) twice in
+    let parts : count ≡ n / 2 * 2 ^ d = omega (arith, whole, power, moved, all) in
+    record {
+      bits_is = more;
+      half = twice;
+      within = within;
+      quotient = ap (λ v. v / (n / 2)) parts ∙ mul-div_cancel_left (2 ^ d) {n = n / 2} (omega (arith, some));
+      root = ap (λ v. v / n) power ∙ mul-div_cancel_left (2 ^ d) (omega (arith, some));
+      first = ap (λ v. v / 2) (sym is);
+    }
+
+-- the first entries of a table
+pub all_taken : {T : Type 0} (P : T → Type 0) (n : ℕ) (xs : List T) → n ≤ length xs → All P xs → All P (take n xs)
+all_taken P n xs within all k d l =
+    let size = length-take-le n xs within in
+    let inside : k < n = omega (arith, l, size) in
+    subst P (sym (get_or-take n xs k d inside)) (all k d (omega (arith, inside, within)))
+
+pub number_taken : {T : Type 0} (value : T → ℕ) (n k : ℕ) (xs : List T) → k < n
+    → numbers value (take n xs) k ≡ numbers value xs k
+number_taken value n k xs below =
+    ap (λ ys. get_or ys k 0) (sym (take-map value n xs)) ∙ get_or-take n (map value xs) k 0 below
+
+-- the plan by a power of the root over them
+pub first_plan : {m g count : ℕ} {w : ℕ → ℕ} (bits h y d : ℕ) → bits ≡ y + d → h ≡ g ^ (2 ^ d) % m → IsPlan m g bits count w
+    → IsPlan m h y (2 ^ y / 2) w
+first_plan {m} {g} {count} {w} bits h y d more is plan =
+    subst (λ r. IsPlan m r y (2 ^ y / 2) w) (sym is)
+    (first_entries y d (subst (λ b. IsPlan m g b count w) more plan))

@@ -1,0 +1,34 @@
+use Rattle.std.proofs.Common.{◌≡◌, ℕ, ◌-◌, ◌*◌, ◌/◌, ◌^◌, ◌<◌, ◌≤◌, ◌∙◌, IsTrue, nat_lt, length, arith, sym}
+use Rattle.std.proofs.lemmas.Bool.{false≢true}
+use Rattle.std.proofs.lemmas.Bool.Decides.{nat_tests}
+use Rattle.std.specs.Int.{IsPowerOfTwo}
+use Rattle.modular_transform.proofs.PowersOfTwo.{power_of_two_tested, beyond_one}
+use Rattle.modular_plan_transforms.proofs.Wholes.{even}
+use Rattle.modular_plan_transforms.proofs.plan.Plan.has_shorter.Goals as goal
+
+less_of : (b q : ℕ) → IsTrue (nat_lt b q) → b < q
+less_of b q h = grind (arith, nat_tests)
+
+test_of : (b q : ℕ) → b < q → IsTrue (nat_lt b q)
+test_of b q h = grind (arith, nat_tests)
+
+pub returns-then-not-is_power_of_two : goal.returns-then-not-is_power_of_two
+returns-then-not-is_power_of_two g c = (
+  λ h. absurd (false≢true h),
+  λ given. absurd (false≢true (sym c.if-not-is_power_of_two.true ∙ c.is_power_of_two.ensures
+      ∙ (power_of_two_tested c.args.n).1 given.0)),
+)
+
+pub returns : goal.returns
+returns g c =
+    let n = c.args.n in
+    let count = length c.args.self.now.table.now in
+    let half = c.args.self.now.half in
+    let power : IsPowerOfTwo n
+    = (power_of_two_tested n).0 (sym c.is_power_of_two.ensures ∙ c.if-not-is_power_of_two.false) in
+    let some = beyond_one n power c.if-n-eq1.false in
+    let twice = even power.0 n power.1 (omega (arith, some)) in (
+      λ h. let l = less_of (n / 2 - 1) count h in
+          (power, omega (arith, some), omega (arith, l, twice, half)),
+      λ given. let most = given.2 in test_of (n / 2 - 1) count (omega (arith, most, twice, half, some)),
+    )

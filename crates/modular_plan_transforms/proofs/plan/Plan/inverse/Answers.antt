@@ -1,0 +1,77 @@
+use Rattle.std.proofs.Common.{◌≡◌, ℕ, ◌*◌, ◌/◌, ◌%◌, ◌^◌, ◌<◌, length, refl, arith, sym, ◌∙◌, subst}
+use Rattle.std.proofs.Math.Nat.{div-one}
+use Rattle.modular_word.proofs.Congruence.{of_equal, chained, residue_of}
+use Rattle.modular_word.specs.Inverses.{IsInverse}
+use Rattle.modular_transform.proofs.InverseTransform.{transform_congruent}
+use Rattle.modular_transform.proofs.PowersOfTwo.{exponent_below}
+use Rattle.modular_transform.specs.Transforms.{Suits}
+use Rattle.modular_plan.specs.Plans.{numbers, AreRemainders}
+use Rattle.modular_plan_transforms.proofs.NaturalOrder.{all_reordered}
+use Rattle.modular_plan_transforms.proofs.Backward.{remainders_of_transform, unscaled, preimage, transform_of_preimage}
+use Rattle.modular_plan_transforms.proofs.Wholes.{plan_of}
+use Rattle.modular_plan_transforms.proofs.plan.Plan.inverse.Goals as goal
+
+pub part-part-requires : goal.part-part-requires
+part-part-requires g c = (c.args.self.now.bits, c.requires.whole)
+
+pub reverse_places-requires-clause-few : goal.reverse_places-requires-clause-few
+reverse_places-requires-clause-few g c =
+    let l = exponent_below c.args.self.now.bits (length c.args.xs.now) c.requires.whole (omega arith) in omega (arith, l)
+
+pub join_scaled-requires : goal.join_scaled-requires
+join_scaled-requires g c =
+    let n = g.T.RingWord.number in
+    let plan = c.args.self.now in
+    let m = n plan.modulus.modulus in
+    let mid = c.reverse_places.new.entries in
+    let half = plan.half in
+    let whole : length mid ≡ 2 ^ plan.bits = (let w = c.requires.whole in omega (arith, w)) in
+    let all = div-one (length mid) in
+    record {
+      entries = all_reordered (λ x. n x < 4 * m) plan.bits (length c.args.xs.now) c.args.xs.now
+          mid c.requires.whole refl (omega arith) c.reverse_places.ensures c.requires.entries;
+      factors = plan.factors;
+      blocks = record {
+        some = omega arith;
+        count = (plan.bits, all ∙ whole);
+        whole = omega (arith, all);
+        within = omega (arith, all, whole, half);
+      };
+      factor = c.part-part.ensures.factor;
+    }
+
+pub returns-clause-undone : goal.returns-clause-undone
+returns-clause-undone g c x are i below =
+    let n = g.T.RingWord.number in
+    let plan = c.args.self.now in
+    let m = n plan.modulus.modulus in
+    let mid = c.reverse_places.new.entries in
+    let part = n c.part-part.result.value in
+    let same : length c.args.xs.now ≡ length mid = omega arith in
+    let remainders = remainders_of_transform n m (n plan.root) (length c.args.xs.now) plan.bits x c.args.xs.now mid
+    c.requires.whole refl (sym same) c.reverse_places.ensures are in
+    let all : length c.args.xs.now ≡ length mid / 1 = same ∙ sym (div-one (length mid)) in
+    c.join_scaled.ensures.joined (n plan.root) plan.bits x (plan_of plan.half plan.half_turn plan.powers)
+    (subst (λ k. AreRemainders m (n plan.root) plan.bits 0 k 1 x (λ i. numbers n mid i % m)) all remainders) i
+    (omega (arith, same, below))
+    ∙ unscaled m (length mid / 1) part (x i) (subst (λ k. IsInverse m k part) all c.part-part.ensures.inverse)
+
+pub returns-clause-values : goal.returns-clause-values
+returns-clause-values g c j below =
+    let n = g.T.RingWord.number in
+    let plan = c.args.self.now in
+    let m = n plan.modulus.modulus in
+    let size = length c.args.xs.now in
+    let part = n c.part-part.result.value in
+    let whole : 2 ^ plan.bits ≡ size = sym c.requires.whole in
+    let y = numbers n c.args.xs.now in
+    let suits : Suits m (n plan.root) size
+    = subst (λ k. Suits m (n plan.root) k) whole (plan_of plan.half plan.half_turn plan.powers).suits in
+    let half = plan.half in
+    let more : 1 < size = omega (arith, half, whole, below) in
+    let x = preimage m (n plan.root) size part y in
+    let back = λ (j : ℕ) (l : j < size).
+    transform_of_preimage m (n plan.root) size part j y plan.root_below more suits c.part-part.ensures.inverse l in
+    transform_congruent (n plan.root) size j (numbers n c.join_scaled.new.xs) x
+    (λ i l. chained (of_equal (returns-clause-undone g c x back i l)) (residue_of (x i)))
+    ∙ back j below

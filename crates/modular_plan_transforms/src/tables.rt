@@ -1,0 +1,72 @@
+//! What makes a plan: a root that suits, and a table of its powers; and the inverses of powers of two.
+
+ghost use Rattle.std.specs.Prelude.{◌≡◌, ◌+◌, ◌*◌, ◌%◌, ◌^◌, ◌<◌, ◌↔◌, IsTrue};
+ghost use Rattle.std.specs.Int.{IsPowerOfTwo};
+ghost use Rattle.modular_word.specs.Inverses.{IsInverse};
+ghost use Rattle.modular_transform.specs.Transforms.{Suits};
+
+use modular_barrett::planned::PlannedModulus;
+use modular_prim::plain_word::PlainWord;
+use modular_word::path_word::PathWord;
+use modular_word::ring_word::RingWord;
+
+// The power of g to the exponent `count`, below m, by squarings.
+pub(crate) fn power<T: PlainWord>(m: &PlannedModulus<T>, g: T, count: usize) -> T
+    requires below { T.number g < T.number m.now.modulus }
+    requires power_of_two { IsPowerOfTwo count }
+    ensures { T.number result ≡ T.number g ^ count % T.number m.now.modulus }
+{
+    let mut power = g;
+    'squares: for _done in 0..count.trailing_zeros() {
+        power = m.multiply(power, power);
+    }
+    power
+}
+
+// Whether a number below m is congruent to -1.
+fn is_minus_one<T: PlainWord>(m: &PlannedModulus<T>, x: T) -> bool
+    requires { T.number x < T.number m.now.modulus }
+    ensures { IsTrue result ↔ (T.number x + 1 ≡ T.number m.now.modulus) }
+{
+    x.plus(T::one()) == m.modulus
+}
+
+// Whether g is below m and suits transforms of 2·count entries.
+pub(crate) fn suits<T: PlainWord>(m: &PlannedModulus<T>, g: T, count: usize) -> bool
+    ensures { IsTrue result ↔ ((T.number g < T.number m.now.modulus)
+        × Suits (T.number m.now.modulus) (T.number g) (2 * count)) }
+{
+    if !g.is_below(m.modulus) {
+        return false;
+    }
+    if !count.is_power_of_two() {
+        return false;
+    }
+    is_minus_one(m, power(m, g, count))
+}
+
+// Half of a number below m, modulo an odd m.
+fn halved<T: PlainWord>(m: &PlannedModulus<T>, x: T) -> T
+    requires odd { T.number m.now.modulus % 2 ≡ 1 }
+    requires below { T.number x < T.number m.now.modulus }
+    ensures below { T.number result < T.number m.now.modulus }
+    ensures twice { 2 * T.number result % T.number m.now.modulus ≡ T.number x }
+{
+    if x.is_odd() {
+        x.plus(m.modulus).half()
+    } else {
+        x.half()
+    }
+}
+
+// The inverse of 2^bits modulo an odd m, by halvings of 1.
+pub(crate) fn inverse_of_power<T: PlainWord>(m: &PlannedModulus<T>, bits: u32) -> T
+    requires { T.number m.now.modulus % 2 ≡ 1 }
+    ensures { IsInverse (T.number m.now.modulus) (2 ^ bits) (T.number result) }
+{
+    let mut part = m.residue(T::one());
+    'halvings: for _done in 0..bits {
+        part = halved(m, part);
+    }
+    part
+}
