@@ -11,21 +11,21 @@ use Rattle.num_modular.specs.PolynomialLaws.{ascending-congruent}
 use Rattle.ring_codes.specs.Erasure.{IsEncoding, IsErasureCodeword, distance}
 
 -- k of the first n places, in their order, at which two words agree
-record Selection (n k : ℕ) (a b : ℕ → ℕ) : Type 0 where
-  place : ℕ → ℕ
-  within : (i : ℕ) → i < k → place i < n
-  same : (i : ℕ) → i < k → a (place i) ≡ b (place i)
-  rising : (i j : ℕ) → i < j → j < k → place i < place j
+pub record Selection (n k : ℕ) (a b : ℕ → ℕ) : Type 0 where
+  pub place : ℕ → ℕ
+  pub within : (i : ℕ) → i < k → place i < n
+  pub same : (i : ℕ) → i < k → a (place i) ≡ b (place i)
+  pub rising : (i j : ℕ) → i < j → j < k → place i < place j
 
 -- a place more at the end
-extended : ℕ → ℕ → (ℕ → ℕ) → ℕ → ℕ
+pub extended : ℕ → ℕ → (ℕ → ℕ) → ℕ → ℕ
 extended k n s i = cond (eqb i k) n (s i)
 
-at_end : (k n : ℕ) (s : ℕ → ℕ) (i : ℕ) → i ≡ k → extended k n s i ≡ n
+pub at_end : (k n : ℕ) (s : ℕ → ℕ) (i : ℕ) → i ≡ k → extended k n s i ≡ n
 unfolding extended
 at_end k n s i e = elim (eqb_tells i k) [ inl p ↦ rw p.0 refl | inr p ↦ absurd (p.1 e) ]
 
-before_end : (k n : ℕ) (s : ℕ → ℕ) (i : ℕ) → i ≢ k → extended k n s i ≡ s i
+pub before_end : (k n : ℕ) (s : ℕ → ℕ) (i : ℕ) → i ≢ k → extended k n s i ≡ s i
 unfolding extended
 before_end k n s i other = elim (eqb_tells i k) [ inl p ↦ absurd (other p.1) | inr p ↦ rw p.0 refl ]
 
@@ -75,7 +75,7 @@ counted_same x y e = elim (eqb_tells x y) [ inl p ↦ rw p.0 refl | inr p ↦ ab
 pub counted_other : (x y : ℕ) → x ≢ y → counted x y ≡ 1
 counted_other x y o = elim (eqb_tells x y) [ inl p ↦ absurd (o p.1) | inr p ↦ rw p.0 refl ]
 
-no_distance : (n : ℕ) (a b : ℕ → ℕ) → ((i : ℕ) → i < n → a i ≡ b i) → distance n a b ≡ 0
+pub no_distance : (n : ℕ) (a b : ℕ → ℕ) → ((i : ℕ) → i < n → a i ≡ b i) → distance n a b ≡ 0
 no_distance zero a b same = sum_below-zero (λ i. counted (a i) (b i))
 no_distance (suc n) a b same =
     let s = sum_below-suc n (λ i. counted (a i) (b i)) in
@@ -84,7 +84,7 @@ no_distance (suc n) a b same =
     omega (arith, s, z, i)
 
 -- words that differ at few places agree at many
-selected : (n k : ℕ) (a b : ℕ → ℕ) → distance n a b + k ≤ n → Selection n k a b
+pub selected : (n k : ℕ) (a b : ℕ → ℕ) → distance n a b + k ≤ n → Selection n k a b
 selected n zero a b few = none_selected n a b
 selected zero (suc k) a b few = absurd (omega arith)
 selected (suc n) (suc k) a b few =

@@ -4,7 +4,9 @@ mod Codewords
 pub mod Distances
 mod Finds
 mod Ibans
-mod NearestWords
+pub mod KeyPairs
+pub mod NearPairs
+pub mod NearestWords
 mod Neighbours
 pub mod NewtonForms
 pub mod Symbols

@@ -42,7 +42,7 @@ highest (suc d) r =
     let q = ap (λ v. r d * v) (none_behind d (suc d) r (omega arith)) in
     omega (arith, p, q)
 
-combined : (n : ℕ) (f g : ℕ → ℕ) (a X : ℕ)
+pub combined : (n : ℕ) (f g : ℕ → ℕ) (a X : ℕ)
     → ascending_polynomial n (λ i. f i + a * g i) X ≡ ascending_polynomial n f X + a * ascending_polynomial n g X
 combined zero f g a X =
     let p = sum_below-zero (λ i. (f i + a * g i) * X ^ i) in
@@ -95,7 +95,7 @@ difference_alike m X x positive =
     chained (of_equal e) (record { same = add-mul-mod_self_left X m x }) in
     cancelled x (chained (record { same = difference_and m X x positive }) (turned whole))
 
-unit_alike : (m a b : ℕ) → Congruent m a b → HasInverse m a → HasInverse m b
+pub unit_alike : (m a b : ℕ) → Congruent m a b → HasInverse m a → HasInverse m b
 unit_alike m a b e h =
     (h.0, record { below = h.1.below; one = (multiplied (turned e) (itself h.0)).same ∙ h.1.one })
 
@@ -120,7 +120,7 @@ product_zero m (suc n) l f below none = elim (cases_eq l n) [
       ∙ ap (λ v. (v * f n) % m) (product_zero m n l f (omega arith) none) ∙ ap (λ v. v % m) z ∙ zero-mod m
 ]
 
-no_value : (n X : ℕ) → ascending_polynomial n (λ i. 0) X ≡ 0
+pub no_value : (n X : ℕ) → ascending_polynomial n (λ i. 0) X ≡ 0
 no_value zero X = sum_below-zero (λ i. 0 * X ^ i)
 no_value (suc n) X = let s = sum_below-suc n (λ i. 0 * X ^ i) in let i = no_value n X in omega (arith, s, i)
 

@@ -1,5 +1,5 @@
-//! Reed-Solomon erasure codes, over any modulus: a message of k symbols is restored from any k of the n symbols of
-//! its word.
+//! Reed-Solomon codes, over any modulus: a message of k symbols is restored from any k of the n symbols of its word
+//! (`restore`), and from s symbols of which at most (s - k)/2 are wrong (`correct`).
 //!
 //! A message is the list of the coefficients of a polynomial, the constant first, and symbol i of its word is the
 //! polynomial's value at point i, modulo m. The points must fit (`points_fit`): the difference of any two has an
@@ -18,9 +18,13 @@ ghost use Rattle.num_modular.specs.Forms.{IsForm};
 ghost use Rattle.num_modular.specs.Polynomials.{ascending_polynomial, HaveUnitDifferences};
 ghost use Rattle.ring_codes.specs.Erasure.{IsEncoding, IsErasureCodeword, ArePlaces, IsFault, distance};
 
+mod correction;
+mod key_equation;
 mod newton;
+mod quotients;
 mod secrets;
 
+pub use correction::{CorrectError, correct};
 use newton::{differences_before, divide_differences, expand, fill_weights};
 use num_modular::ring::invert_each;
 use num_modular::{Reducer, RingWord};

@@ -1,0 +1,397 @@
+-- The steps of a pair of polynomials that solves the key equation: its multiplication by X - a, and the combination of
+-- two pairs that removes their discrepancies.
+use Rattle.std.proofs.Common.{◌≡◌, ℕ, zero, suc, ◌+◌, ◌-◌, ◌*◌, ◌%◌, ◌^◌, ◌<◌, ◌≤◌}
+use Rattle.std.proofs.Common.{ap, sym, ◌∙◌, arith, refl, inl, inr, subst, pos, ◌-ℤ◌, mod-lt}
+use Rattle.std.specs.Prelude.{Result, Ok, Err, IfOk}
+use Rattle.std.proofs.lemmas.Bool.{cases_eq, cases_lt}
+use Rattle.std.proofs.lemmas.Nat.{mul-mod_first, mul-mod_second}
+use Rattle.num_modular.specs.Callers.{has_both}
+use Rattle.num_modular.specs.Congruence.{Congruent}
+use Rattle.num_modular.specs.Inverses.{HasInverse}
+use Rattle.num_modular.specs.NumberLaws.{of_equal, itself, residue_of, turned, chained, added, multiplied, cancelled}
+use Rattle.num_modular.specs.NumberLaws.{sum_below-zero, sum_below-suc}
+use Rattle.num_modular.specs.Polynomials.{ascending_polynomial}
+use Rattle.num_modular.specs.PolynomialLaws.{ascending-first, ascending-congruent}
+use Rattle.num_modular.specs.Residues.{residue}
+use Rattle.ring_codes.proofs.NewtonForms.{subtracted}
+use Rattle.ring_codes.proofs.NearestWords.{combined, unit_alike}
+use Rattle.ring_codes.specs.KeyEquations.{shifted, Leads, IsKeyPair, AreKeyPairs}
+
+-- a multiple of 0 may be left out
+left_alone : (m a q b c : ℕ) → Congruent m (a + q * b) c → Congruent m b 0 → Congruent m a c
+left_alone m a q b c is none =
+    let e : a ≡ a + q * 0 = omega arith in
+    chained (of_equal e) (chained (added (itself a) (multiplied (itself q) (turned none))) is)
+
+left_alone_other : (m a q b : ℕ) → Congruent m b 0 → Congruent m (a + q * b) a
+left_alone_other m a q b none =
+    let e : a + q * 0 ≡ a = omega arith in
+    chained (added (itself a) (multiplied (itself q) none)) (of_equal e)
+
+times : (n p : ℕ) (f : ℕ → ℕ) (X : ℕ) → ascending_polynomial n (λ l. p * f l) X ≡ p * ascending_polynomial n f X
+times zero p f X =
+    let s = sum_below-zero (λ i. p * f i * X ^ i) in
+    let t = ap (λ v. p * v) (sum_below-zero (λ i. f i * X ^ i)) in
+    omega (arith, s, t)
+times (suc n) p f X =
+    let i = times n p f X in
+    let s = sum_below-suc n (λ i. p * f i * X ^ i) in
+    let t = ap (λ v. p * v) (sum_below-suc n (λ i. f i * X ^ i)) in
+    omega (arith, i, s, t)
+
+-- coefficients e with e l + b·g l congruent to h l
+with_multiple : (m n b X : ℕ) (e g h : ℕ → ℕ) → ((l : ℕ) → l < n → Congruent m (e l + b * g l) (h l))
+    → Congruent m (ascending_polynomial n e X + b * ascending_polynomial n g X) (ascending_polynomial n h X)
+with_multiple m n b X e g h each =
+    chained (of_equal (sym (combined n e g b X)))
+    (ascending-congruent n (λ i. e i + b * g i) h X X each (itself X))
+
+-- before the first coefficient, and from one to the next
+pub shifted_none : (f : ℕ → ℕ) → shifted f 0 ≡ 0
+unfolding shifted
+shifted_none f = refl
+
+pub shifted_next : (f : ℕ → ℕ) (i : ℕ) → shifted f (i + 1) ≡ f i
+unfolding shifted
+shifted_next f i = let e : i + 1 ≡ suc i = omega arith in ap (shifted f) e
+
+pub shifted-values : (n X : ℕ) (f : ℕ → ℕ) → ascending_polynomial (suc n) (shifted f) X ≡ X * ascending_polynomial n f X
+unfolding shifted
+shifted-values n X f = let e = ascending-first n (shifted f) X in omega (arith, e)
+
+-- .. where the last coefficient is 0
+shifted-whole : (m n X : ℕ) (f : ℕ → ℕ) → ((l : ℕ) → suc l ≡ n → Congruent m (f l) 0)
+    → Congruent m (ascending_polynomial n (shifted f) X) (X * ascending_polynomial n f X)
+shifted-whole m zero X f last =
+    let s = sum_below-zero (λ i. shifted f i * X ^ i) in
+    let t = ap (λ v. X * v) (sum_below-zero (λ i. f i * X ^ i)) in
+    of_equal (omega (arith, s, t))
+shifted-whole m (suc n) X f last =
+    let s = sum_below-suc n (λ i. f i * X ^ i) in
+    let q : ℕ = ascending_polynomial n f X in
+    let none : Congruent m (q + X ^ n * f n) q =
+    left_alone_other m q (X ^ n) (f n) (last n refl) in
+    let whole : ascending_polynomial (suc n) f X ≡ q + X ^ n * f n = omega (arith, s) in
+    chained (of_equal (shifted-values n X f))
+    (multiplied (itself X) (chained (turned none) (of_equal (sym whole))))
+
+raised_value : (m a X y N E P L : ℕ) → Congruent m (P + a * N) (X * N) → Congruent m (L + a * E) (X * E)
+    → Congruent m N (y * E) → Congruent m P (y * L)
+raised_value m a X y N E P L at_n at_e is =
+    let e : X * (y * E) ≡ y * (X * E) = omega arith in
+    let f : y * (L + a * E) ≡ y * L + a * (y * E) = omega arith in
+    cancelled (a * N)
+    (chained at_n (chained (multiplied (itself X) is) (chained (of_equal e)
+    (chained (multiplied (itself y) (turned at_e)) (chained (of_equal f)
+    (added (itself (y * L)) (multiplied (itself a) (turned is))))))))
+
+raised_root : (m a y N E P L : ℕ) → Congruent m (P + a * N) (a * N) → Congruent m (L + a * E) (a * E)
+    → Congruent m P (y * L)
+raised_root m a y N E P L at_n at_e =
+    let e : a * N ≡ 0 + a * N = omega arith in
+    let f : a * E ≡ 0 + a * E = omega arith in
+    let g : 0 ≡ y * 0 = omega arith in
+    let p : Congruent m P 0 = cancelled (a * N) (chained at_n (of_equal e)) in
+    let l : Congruent m L 0 = cancelled (a * E) (chained at_e (of_equal f)) in
+    chained p (chained (of_equal g) (multiplied (itself y) (turned l)))
+
+raised_none_at : (m a l : ℕ) (f g : ℕ → ℕ) → Congruent m (g l + a * f l) (shifted f l)
+    → Congruent m (f l) 0 → ((j : ℕ) → suc j ≡ l → Congruent m (f j) 0) → Congruent m (g l) 0
+unfolding shifted
+raised_none_at m a zero f g is here before = left_alone m (g 0) a (f 0) 0 is here
+raised_none_at m a (suc l) f g is here before =
+    chained (left_alone m (g (suc l)) a (f (suc l)) (f l) is here) (before l refl)
+
+-- a coefficient of the product by X - a, where it and the one before it are 0
+raised_none : (m a c l : ℕ) (f g : ℕ → ℕ) → ((j : ℕ) → j < c → Congruent m (g j + a * f j) (shifted f j))
+    → ((j : ℕ) → c ≤ j → g j ≡ 0) → Congruent m (f l) 0 → ((j : ℕ) → suc j ≡ l → Congruent m (f j) 0)
+    → Congruent m (g l) 0
+unfolding shifted
+raised_none m a c l f g each past here before = elim (cases_lt l c) [
+  | inl b ↦ raised_none_at m a l f g (each l b) here before
+  | inr b ↦ of_equal (past l b)
+]
+
+-- its first coefficient that isn't 0 by order
+raised_unit : (m a l : ℕ) (f g : ℕ → ℕ) → Congruent m (g (suc l) + a * f (suc l)) (shifted f (suc l))
+    → Congruent m (f (suc l)) 0 → HasInverse m (f l) → HasInverse m (g (suc l))
+unfolding shifted
+raised_unit m a l f g is none unit =
+    unit_alike m (f l) (g (suc l)) (turned (left_alone m (g (suc l)) a (f (suc l)) (f l) is none)) unit
+
+raised_leads : (m k c d u a : ℕ) (n e f g : ℕ → ℕ) → d + k ≡ c + 1 → u + 2 < 2 * c
+    → ((l : ℕ) → l < c → Congruent m (f l + a * n l) (shifted n l))
+    → ((l : ℕ) → l < d → Congruent m (g l + a * e l) (shifted e l))
+    → ((l : ℕ) → c ≤ l → f l ≡ 0) → ((l : ℕ) → d ≤ l → g l ≡ 0)
+    → Leads m k u n e → Leads m k (u + 2) f g
+raised_leads m k c d u a n e f g lengths room each_n each_e past_n past_e leads = record {
+  numerator_behind = λ l b. raised_none m a c l n f each_n past_n (leads.numerator_behind l (omega arith))
+      (λ j s. leads.numerator_behind j (omega arith));
+  locator_behind = λ l b. raised_none m a d l e g each_e past_e (leads.locator_behind l (omega arith))
+      (λ j s. leads.locator_behind j (omega arith));
+  unit = elim leads.unit [
+    | inl (l, at, unit) ↦ inl (
+      suc l,
+      omega arith,
+      raised_unit m a l n f (each_n (suc l) (omega arith)) (leads.numerator_behind (suc l) (omega arith)) unit,
+    )
+    | inr (l, at, unit) ↦ inr (
+      suc l,
+      omega arith,
+      raised_unit m a l e g (each_e (suc l) (omega arith)) (leads.locator_behind (suc l) (omega arith)) unit,
+    )
+  ];
+}
+
+-- the product by X - a
+pub raised : (m k c d i u a : ℕ) (x y n e f g : ℕ → ℕ) → d + k ≡ c + 1 → u + 2 < 2 * c → x i ≡ a
+    → ((l : ℕ) → l < c → Congruent m (f l + a * n l) (shifted n l))
+    → ((l : ℕ) → l < d → Congruent m (g l + a * e l) (shifted e l))
+    → ((l : ℕ) → c ≤ l → f l ≡ 0) → ((l : ℕ) → d ≤ l → g l ≡ 0)
+    → IsKeyPair m k c d i u x y n e → IsKeyPair m k c d (i + 1) (u + 2) x y f g
+raised m k c d i u a x y n e f g lengths room point each_n each_e past_n past_e pair =
+    let value_n : (X : ℕ) → Congruent m (ascending_polynomial c f X + a * ascending_polynomial c n X)
+    (X * ascending_polynomial c n X) =
+    λ X. chained (with_multiple m c a X f n (shifted n) each_n)
+    (shifted-whole m c X n (λ l s. pair.leads.numerator_behind l (omega arith))) in
+    let value_e : (X : ℕ) → Congruent m (ascending_polynomial d g X + a * ascending_polynomial d e X)
+    (X * ascending_polynomial d e X) =
+    λ X. chained (with_multiple m d a X g e (shifted e) each_e)
+    (shifted-whole m d X e (λ l s. pair.leads.locator_behind l (omega arith))) in
+    record {
+      solves = λ j l. elim (cases_eq j i) [
+        | inl s ↦
+            let at : x j ≡ a = ap x s ∙ point in
+            let root_n = chained (value_n (x j)) (of_equal (ap (λ v. v * ascending_polynomial c n (x j)) at)) in
+            let root_e = chained (value_e (x j)) (of_equal (ap (λ v. v * ascending_polynomial d e (x j)) at)) in
+            raised_root m a (y j) _ _ _ _ root_n root_e
+        | inr other ↦ raised_value m a (x j) (y j) _ _ _ _ (value_n (x j)) (value_e (x j))
+            (pair.solves j (omega arith))
+      ];
+      leads = raised_leads m k c d u a n e f g lengths room each_n each_e past_n past_e pair.leads;
+    }
+
+eliminated_value : (m p q r s y N E P L F G : ℕ) → Congruent m (F + q * P) (p * N) → Congruent m (G + q * L) (p * E)
+    → Congruent m (r + y * L) P → Congruent m (s + y * E) N → q * r ≡ p * s → Congruent m F (y * G)
+eliminated_value m p q r s y N E P L F G at_n at_e is_p is_n same =
+    let e : p * (s + y * E) ≡ p * s + y * (p * E) = omega arith in
+    let f : p * s + y * (G + q * L) ≡ y * G + q * (r + y * L) = omega (arith, same) in
+    cancelled (q * P)
+    (chained at_n (chained (multiplied (itself p) (turned is_n)) (chained (of_equal e)
+    (chained (added (itself (p * s)) (multiplied (itself y) (turned at_e))) (chained (of_equal f)
+    (added (itself (y * G)) (multiplied (itself q) is_p)))))))
+
+eliminated_none : (m p q c l : ℕ) (h n f : ℕ → ℕ) → ((j : ℕ) → j < c → Congruent m (f j + q * h j) (p * n j))
+    → ((j : ℕ) → c ≤ j → f j ≡ 0) → Congruent m (h l) 0 → Congruent m (n l) 0 → Congruent m (f l) 0
+eliminated_none m p q c l h n f each past none here = elim (cases_lt l c) [
+  | inl b ↦
+      let z : p * 0 ≡ 0 = omega arith in
+      chained (left_alone m (f l) q (h l) (p * n l) (each l b) none)
+      (chained (multiplied (itself p) here) (of_equal z))
+  | inr b ↦ of_equal (past l b)
+]
+
+eliminated_unit : (m p q a b c : ℕ) → Congruent m (a + q * b) (p * c) → Congruent m b 0 → HasInverse m p
+    → HasInverse m c → HasInverse m a
+eliminated_unit m p q a b c is none unit own =
+    unit_alike m (p * c) a (turned (left_alone m a q b (p * c) is none)) ((has_both m p c).1 (unit, own))
+
+eliminated_leads : (m k c d u v p q : ℕ) (h g n e f t : ℕ → ℕ) → d + k ≡ c + 1 → v < 2 * c → u < v → HasInverse m p
+    → ((l : ℕ) → l < c → Congruent m (f l + q * h l) (p * n l))
+    → ((l : ℕ) → l < d → Congruent m (t l + q * g l) (p * e l))
+    → ((l : ℕ) → c ≤ l → f l ≡ 0) → ((l : ℕ) → d ≤ l → t l ≡ 0)
+    → Leads m k u h g → Leads m k v n e → Leads m k v f t
+eliminated_leads m k c d u v p q h g n e f t lengths room less inverse each_n each_e past_n past_e pivot own = record {
+  numerator_behind = λ l b. eliminated_none m p q c l h n f each_n past_n (pivot.numerator_behind l (omega arith))
+      (own.numerator_behind l b);
+  locator_behind = λ l b. eliminated_none m p q d l g e t each_e past_e (pivot.locator_behind l (omega arith))
+      (own.locator_behind l b);
+  unit = elim own.unit [
+    | inl (l, at, unit) ↦ inl (
+      l,
+      at,
+      eliminated_unit m p q (f l) (h l) (n l) (each_n l (omega arith)) (pivot.numerator_behind l (omega arith)) inverse unit,
+    )
+    | inr (l, at, unit) ↦ inr (
+      l,
+      at,
+      eliminated_unit m p q (t l) (g l) (e l) (each_e l (omega arith)) (pivot.locator_behind l (omega arith)) inverse unit,
+    )
+  ];
+}
+
+-- p times a pair less q times the pivot, p and q being the discrepancies of the pivot and of the pair
+pub eliminated : (m k c d i u v p q : ℕ) (x y h g n e f t : ℕ → ℕ) → d + k ≡ c + 1 → v < 2 * c → u < v
+    → HasInverse m p
+    → ((l : ℕ) → l < c → Congruent m (f l + q * h l) (p * n l))
+    → ((l : ℕ) → l < d → Congruent m (t l + q * g l) (p * e l))
+    → ((l : ℕ) → c ≤ l → f l ≡ 0) → ((l : ℕ) → d ≤ l → t l ≡ 0)
+    → Congruent m (p + y i * ascending_polynomial d g (x i)) (ascending_polynomial c h (x i))
+    → Congruent m (q + y i * ascending_polynomial d e (x i)) (ascending_polynomial c n (x i))
+    → IsKeyPair m k c d i u x y h g → IsKeyPair m k c d i v x y n e → IsKeyPair m k c d (i + 1) v x y f t
+eliminated m k c d i u v p q x y h g n e f t lengths room less inverse each_n each_e past_n past_e is_p is_q pivot own =
+    let nothing : (j : ℕ) → 0 + y j ≡ y j = λ j. omega arith in
+    record {
+      solves = λ j l.
+          let at_n = with_multiple m c q (x j) f h (λ l. p * n l) each_n in
+          let at_e = with_multiple m d q (x j) t g (λ l. p * e l) each_e in
+          let whole_n = chained at_n (of_equal (times c p n (x j))) in
+          let whole_e = chained at_e (of_equal (times d p e (x j))) in
+          elim (cases_eq j i) [
+            | inl s ↦ subst (λ j. Congruent m (ascending_polynomial c f (x j)) (y j * ascending_polynomial d t (x j))) (sym s)
+                (eliminated_value m p q p q (y i) _ _ _ _ _ _
+                (subst (λ j. Congruent m (ascending_polynomial c f (x j) + q * ascending_polynomial c h (x j)) (p * ascending_polynomial c n (x j))) s whole_n)
+                (subst (λ j. Congruent m (ascending_polynomial d t (x j) + q * ascending_polynomial d g (x j)) (p * ascending_polynomial d e (x j))) s whole_e)
+                is_p is_q (let w : q * p ≡ p * q = omega arith in w))
+            | inr other ↦
+                let before : j < i = omega arith in
+                let z : q * 0 ≡ p * 0 = omega arith in
+                eliminated_value m p q 0 0 (y j) _ _ _ _ _ _ whole_n whole_e
+                (chained (of_equal (let w : 0 + y j * ascending_polynomial d g (x j) ≡ y j * ascending_polynomial d g (x j) = omega arith in w))
+                (turned (pivot.solves j before)))
+                (chained (of_equal (let w : 0 + y j * ascending_polynomial d e (x j) ≡ y j * ascending_polynomial d e (x j) = omega arith in w))
+                (turned (own.solves j before))) z
+          ];
+      leads = eliminated_leads m k c d u v p q h g n e f t lengths room less inverse each_n each_e past_n past_e
+          pivot.leads own.leads;
+    }
+
+-- the difference of a value and of a symbol times another
+pub discrepancy_value : (m y n e value located product d : ℕ) → 0 < m → value ≡ n % m → located ≡ e % m
+    → product ≡ (y * located) % m → d ≡ residue m (pos value -ℤ pos product) → Congruent m (d + y * e) n
+discrepancy_value m y n e value located product d positive is_n is_e is_product is =
+    let at_e : Congruent m located e = chained (of_equal is_e) (residue_of e) in
+    let one = subtracted m y product d value located positive is_product is in
+    chained (added (itself d) (multiplied (itself y) (turned at_e))) (chained one (chained (of_equal is_n) (residue_of n)))
+
+-- at the point and the symbol that were passed
+pub at_point : (m c d p a b s t : ℕ) (n e : ℕ → ℕ) → s ≡ a → t ≡ b
+    → Congruent m (p + b * ascending_polynomial d e a) (ascending_polynomial c n a)
+    → Congruent m (p + t * ascending_polynomial d e s) (ascending_polynomial c n s)
+at_point m c d p a b s t n e at_a at_b h =
+    subst (λ a. Congruent m (p + t * ascending_polynomial d e a) (ascending_polynomial c n a)) (sym at_a)
+    (subst (λ b. Congruent m (p + b * ascending_polynomial d e a) (ascending_polynomial c n a)) (sym at_b) h)
+
+-- a pair without a discrepancy solves the key equation there too
+kept_pair : (m k c d i u p : ℕ) (x y n e : ℕ → ℕ) → p ≡ 0
+    → Congruent m (p + y i * ascending_polynomial d e (x i)) (ascending_polynomial c n (x i))
+    → IsKeyPair m k c d i u x y n e → IsKeyPair m k c d (i + 1) u x y n e
+kept_pair m k c d i u p x y n e none is pair = record {
+  solves = λ j l. elim (cases_eq j i) [
+    | inl s ↦
+        let z : y i * ascending_polynomial d e (x i) ≡ p + y i * ascending_polynomial d e (x i) = omega (arith, none) in
+        subst (λ j. Congruent m (ascending_polynomial c n (x j)) (y j * ascending_polynomial d e (x j))) (sym s)
+        (turned (chained (of_equal z) is))
+    | inr other ↦ pair.solves j (omega arith)
+  ];
+  leads = pair.leads;
+}
+
+-- the next two pairs where neither, the second or the first alone has a discrepancy
+pub neither : (m k c d i v w p q : ℕ) (x y h g n e : ℕ → ℕ) → p ≡ 0 → q ≡ 0
+    → Congruent m (p + y i * ascending_polynomial d g (x i)) (ascending_polynomial c h (x i))
+    → Congruent m (q + y i * ascending_polynomial d e (x i)) (ascending_polynomial c n (x i))
+    → AreKeyPairs m k c d i v w x y h g n e → AreKeyPairs m k c d (i + 1) v w x y h g n e
+neither m k c d i v w p q x y h g n e none_p none_q is_p is_q pairs = record {
+  first = λ l. kept_pair m k c d i (2 * v) p x y h g none_p is_p (pairs.first l);
+  second = λ l. kept_pair m k c d i (2 * w + 1) q x y n e none_q is_q (pairs.second l);
+}
+
+-- what a pair becomes when it is multiplied by X - a
+abbrev pub Raises : ℕ → ℕ → ℕ → ℕ → ℕ → (ℕ → ℕ) → (ℕ → ℕ) → (ℕ → ℕ) → (ℕ → ℕ) → (ℕ → ℕ) → (ℕ → ℕ) → Type 0
+Raises m k c d i x y n e f t = (u : ℕ) → u + 2 < 2 * c → IsKeyPair m k c d i u x y n e
+    → IsKeyPair m k c d (i + 1) (u + 2) x y f t
+
+raised_even : (m k c d i v : ℕ) (x y n e f t : ℕ → ℕ) → Raises m k c d i x y n e f t
+    → (2 * v < 2 * c → IsKeyPair m k c d i (2 * v) x y n e)
+    → 2 * (v + 1) < 2 * c → IsKeyPair m k c d (i + 1) (2 * (v + 1)) x y f t
+raised_even m k c d i v x y n e f t raises pair l =
+    let s : 2 * v + 2 ≡ 2 * (v + 1) = omega arith in
+    subst (λ u. IsKeyPair m k c d (i + 1) u x y f t) s (raises (2 * v) (omega arith) (pair (omega arith)))
+
+raised_odd : (m k c d i w : ℕ) (x y n e f t : ℕ → ℕ) → Raises m k c d i x y n e f t
+    → (2 * w + 1 < 2 * c → IsKeyPair m k c d i (2 * w + 1) x y n e)
+    → 2 * (w + 1) + 1 < 2 * c → IsKeyPair m k c d (i + 1) (2 * (w + 1) + 1) x y f t
+raised_odd m k c d i w x y n e f t raises pair l =
+    let s : 2 * w + 1 + 2 ≡ 2 * (w + 1) + 1 = omega arith in
+    subst (λ u. IsKeyPair m k c d (i + 1) u x y f t) s (raises (2 * w + 1) (omega arith) (pair (omega arith)))
+
+pub second_alone : (m k c d i v w p : ℕ) (x y h g n e f t : ℕ → ℕ) → p ≡ 0
+    → Congruent m (p + y i * ascending_polynomial d g (x i)) (ascending_polynomial c h (x i))
+    → Raises m k c d i x y n e f t
+    → AreKeyPairs m k c d i v w x y h g n e → AreKeyPairs m k c d (i + 1) v (w + 1) x y h g f t
+second_alone m k c d i v w p x y h g n e f t none is raises pairs = record {
+  first = λ l. kept_pair m k c d i (2 * v) p x y h g none is (pairs.first l);
+  second = raised_odd m k c d i w x y n e f t raises pairs.second;
+}
+
+pub first_alone : (m k c d i v w q : ℕ) (x y h g n e f t : ℕ → ℕ) → q ≡ 0
+    → Congruent m (q + y i * ascending_polynomial d e (x i)) (ascending_polynomial c n (x i))
+    → Raises m k c d i x y h g f t
+    → AreKeyPairs m k c d i v w x y h g n e → AreKeyPairs m k c d (i + 1) (v + 1) w x y f t n e
+first_alone m k c d i v w q x y h g n e f t none is raises pairs = record {
+  first = raised_even m k c d i v x y h g f t raises pairs.first;
+  second = λ l. kept_pair m k c d i (2 * w + 1) q x y n e none is (pairs.second l);
+}
+
+-- what a pair becomes when its discrepancy is removed by a pivot before it in the order
+abbrev pub Reduces : ℕ → ℕ → ℕ → ℕ → ℕ → (ℕ → ℕ) → (ℕ → ℕ) → (ℕ → ℕ) → (ℕ → ℕ) → (ℕ → ℕ) → (ℕ → ℕ) → (ℕ → ℕ)
+    → (ℕ → ℕ) → Type 0
+Reduces m k c d i x y h g n e f t = (u v : ℕ) → v < 2 * c → u < v → IsKeyPair m k c d i u x y h g
+    → IsKeyPair m k c d i v x y n e → IsKeyPair m k c d (i + 1) v x y f t
+
+pub first_pivot : (m k c d i v w : ℕ) (x y h g n e f t o r : ℕ → ℕ) → v ≤ w
+    → Raises m k c d i x y h g f t → Reduces m k c d i x y h g n e o r
+    → AreKeyPairs m k c d i v w x y h g n e → AreKeyPairs m k c d (i + 1) (v + 1) w x y f t o r
+first_pivot m k c d i v w x y h g n e f t o r less raises reduces pairs = record {
+  first = raised_even m k c d i v x y h g f t raises pairs.first;
+  second = λ l. reduces (2 * v) (2 * w + 1) l (omega arith) (pairs.first (omega arith)) (pairs.second l);
+}
+
+pub second_pivot : (m k c d i v w : ℕ) (x y h g n e f t o r : ℕ → ℕ) → w < v
+    → Raises m k c d i x y n e f t → Reduces m k c d i x y n e h g o r
+    → AreKeyPairs m k c d i v w x y h g n e → AreKeyPairs m k c d (i + 1) v (w + 1) x y o r f t
+second_pivot m k c d i v w x y h g n e f t o r less raises reduces pairs = record {
+  first = λ l. reduces (2 * w + 1) (2 * v) l (omega arith) (pairs.second (omega arith)) (pairs.first l);
+  second = raised_odd m k c d i w x y n e f t raises pairs.second;
+}
+
+has_one : (m : ℕ) → 0 < m → HasInverse m (1 % m)
+has_one m positive =
+    let e : 1 * 1 ≡ 1 = omega arith in
+    (1 % m, record { below = mod-lt 1 positive; one = mul-mod_second (1 % m) 1 m ∙ mul-mod_first 1 1 m ∙ ap (λ v. v % m) e })
+
+-- the pairs (1, 0) and (0, 1)
+pub first_pairs : (m k c d : ℕ) (x y h g n e : ℕ → ℕ) → 0 < m → 1 ≤ k → h 0 ≡ 1 % m → ((l : ℕ) → 0 < l → h l ≡ 0)
+    → g 0 ≡ 0 % m → ((l : ℕ) → 0 < l → g l ≡ 0) → n 0 ≡ 0 % m → ((l : ℕ) → 0 < l → n l ≡ 0)
+    → e 0 ≡ 1 % m → ((l : ℕ) → 0 < l → e l ≡ 0) → AreKeyPairs m k c d 0 0 (k - 1) x y h g n e
+first_pairs m k c d x y h g n e positive some h_one h_none g_none g_zero n_none n_zero e_one e_none =
+    let one : HasInverse m (1 % m) = has_one m positive in
+    let all : (f : ℕ → ℕ) → f 0 ≡ 0 % m → ((l : ℕ) → 0 < l → f l ≡ 0) → (l : ℕ) → Congruent m (f l) 0 =
+    λ f first rest l. elim (cases_eq l 0) [
+      | inl s ↦ chained (of_equal (ap f s ∙ first)) (residue_of 0)
+      | inr other ↦ of_equal (rest l (omega arith))
+    ] in
+    record {
+      first = λ b. record {
+        solves = λ j l. absurd (omega arith);
+        leads = record {
+          numerator_behind = λ l b. of_equal (h_none l (omega arith));
+          locator_behind = λ l b. all g g_none g_zero l;
+          unit = inl (0, omega arith, subst (HasInverse m) (sym h_one) one);
+        };
+      };
+      second = λ b. record {
+        solves = λ j l. absurd (omega arith);
+        leads = record {
+          numerator_behind = λ l b. all n n_none n_zero l;
+          locator_behind = λ l b. of_equal (e_none l (omega arith));
+          unit = inr (0, omega arith, subst (HasInverse m) (sym e_one) one);
+        };
+      };
+    }
+
+-- what holds of the value of an `Ok`
+pub ok_then : {A B : Type 0} (r : Result A B) (P Q : A → Type 0) → ((a : A) → P a → Q a) → IfOk r P → IfOk r Q
+ok_then (Ok a) P Q f h = f a h
+ok_then (Err e) P Q f h = h

@@ -1,0 +1,380 @@
+-- What a pair that solves the key equation says of a message whose word is near: its numerator is the product of the
+-- message and the locator.
+use Rattle.std.proofs.Common.{◌≡◌, ◌≢◌, ℕ, zero, suc, ◌+◌, ◌-◌, ◌*◌, ◌/◌, ◌%◌, ◌^◌, ◌<◌, ◌≤◌}
+use Rattle.std.proofs.Common.{ap, sym, ◌∙◌, arith, inl, inr, subst, mod-eq_of_lt}
+use Rattle.std.proofs.Math.Nat.{mod-mod, zero-mod}
+use Rattle.std.proofs.lemmas.Bool.{cases_eq, cases_lt}
+use Rattle.std.proofs.Common.{List, [], ◌∷◌, length, get_or, set, All, get_or-set_same, get_or-set_other}
+use Rattle.num_modular.specs.Callers.{same_coefficients, entry, entry_at, held_entry, IsForm, IsCheckedFormOf, HoldBelow}
+use Rattle.num_modular.specs.Congruence.{Congruent}
+use Rattle.num_modular.specs.Inverses.{IsInverse, HasInverse}
+use Rattle.num_modular.specs.NumberLaws.{of_equal, itself, residue_of, turned, chained, added, multiplied}
+use Rattle.num_modular.specs.NumberLaws.{sum_below-zero, sum_below-suc, sum_below-same}
+use Rattle.num_modular.specs.Polynomials.{ascending_polynomial, HaveUnitDifferences}
+use Rattle.num_modular.specs.PolynomialLaws.{ascending-none, ascending-first, ascending-congruent}
+use Rattle.num_modular.specs.SumLaws.{tail}
+use Rattle.ring_codes.proofs.Distances.{Selection, selected, counted, counted_same, counted_other, extended, at_end, before_end}
+use Rattle.ring_codes.proofs.KeyPairs.{shifted-values}
+use Rattle.ring_codes.proofs.NearestWords.{combined, unit_alike, no_value}
+use Rattle.ring_codes.proofs.NewtonForms.{has_of_residue}
+use Rattle.ring_codes.proofs.Symbols.{fit_same, same_forms}
+use Rattle.ring_codes.specs.Erasure.{IsEncoding, distance}
+use Rattle.ring_codes.specs.KeyEquations.{shifted, Solves, Leads, IsKeyPair, IsQuotient, AreQuotients}
+
+-- the coefficients of the product of two polynomials, the first with k coefficients
+product : ℕ → (ℕ → ℕ) → (ℕ → ℕ) → ℕ → ℕ
+product zero f e i = 0
+product (suc k) f e i = shifted (product k (λ j. f (suc j)) e) i + f 0 * e i
+
+padded : (d n X : ℕ) (e : ℕ → ℕ) → d ≤ n → ((l : ℕ) → d ≤ l → e l ≡ 0)
+    → ascending_polynomial n e X ≡ ascending_polynomial d e X
+padded d n X e l past =
+    let b : ℕ = n - d in
+    let whole : n ≡ d + b = omega arith in
+    ap (λ k. ascending_polynomial k e X) whole
+    ∙ tail d b (λ i. e i * X ^ i) (λ i above below. let z = ap (λ k. k * X ^ i) (past i above) in omega (arith, z))
+
+product_value : (k d n X : ℕ) (f e : ℕ → ℕ) → 1 ≤ d → k + d ≤ n + 1 → ((l : ℕ) → d ≤ l → e l ≡ 0)
+    → ascending_polynomial n (product k f e) X ≡ ascending_polynomial k f X * ascending_polynomial d e X
+unfolding product
+product_value zero d n X f e some room past =
+    let z = no_value n X in
+    let k = ap (λ v. v * ascending_polynomial d e X) (ascending-none f X) in
+    omega (arith, z, k)
+product_value (suc k) d zero X f e some room past = absurd (omega arith)
+product_value (suc k) d (suc n) X f e some room past =
+    let p : ℕ → ℕ = product k (λ j. f (suc j)) e in
+    let both = combined (suc n) (shifted p) e (f 0) X in
+    let first = shifted-values n X p in
+    let i = ap (λ v. X * v) (product_value k d n X (λ j. f (suc j)) e some (omega arith) past) in
+    let whole = ap (λ v. f 0 * v) (padded d (suc n) X e (omega arith) past) in
+    let split = ap (λ v. v * ascending_polynomial d e X) (ascending-first k f X) in
+    omega (arith, both, first, i, whole, split)
+
+product_none : (m k d l : ℕ) (f e : ℕ → ℕ) → ((j : ℕ) → Congruent m (e j) 0) → Congruent m (product k f e l) 0
+unfolding product shifted
+product_none m zero d l f e none = itself 0
+product_none m (suc k) d zero f e none =
+    let z : 0 + f 0 * 0 ≡ 0 = omega arith in
+    chained (added (itself 0) (multiplied (itself (f 0)) (none 0))) (of_equal z)
+product_none m (suc k) d (suc l) f e none =
+    let z : 0 + f 0 * 0 ≡ 0 = omega arith in
+    chained (added (product_none m k d l (λ j. f (suc j)) e none) (multiplied (itself (f 0)) (none (suc l)))) (of_equal z)
+
+-- points at rising places fit
+pub rising_fit : (m n k : ℕ) (x place : ℕ → ℕ) → ((i : ℕ) → i < k → place i < n)
+    → ((i j : ℕ) → i < j → j < k → place i < place j) → HaveUnitDifferences m n x
+    → HaveUnitDifferences m k (λ i. x (place i))
+rising_fit m n k x place within rising fit = record {
+  unit = λ i j l d other. fit.unit (place i) (place j) (within i l) (within j d)
+      (elim (cases_lt i j) [
+        | inl b ↦ let r = rising i j b d in λ e. omega (arith, r, e)
+        | inr b ↦ let r = rising j i (omega arith) l in λ e. omega (arith, r, e)
+      ]);
+}
+
+-- points at selected places fit
+selected_fit : (m n k : ℕ) (x a b : ℕ → ℕ) (s : Selection n k a b) → HaveUnitDifferences m n x
+    → HaveUnitDifferences m k (λ i. x (s.place i))
+selected_fit m n k x a b s fit = rising_fit m n k x s.place s.within s.rising fit
+
+-- the numerator is the product of a near message and the locator
+near_numerator : (m k c d n : ℕ) (x y p e sent : ℕ → ℕ) → 1 ≤ d → d + k ≡ c + 1 → HaveUnitDifferences m n x
+    → ((l : ℕ) → d ≤ l → e l ≡ 0) → Solves m c d n x y p e
+    → distance n y (λ j. ascending_polynomial k sent (x j) % m) + c ≤ n
+    → (l : ℕ) → l < c → Congruent m (p l) (product k sent e l)
+near_numerator m k c d n x y p e sent some lengths fit past solves near =
+    let s = selected n c y (λ j. ascending_polynomial k sent (x j) % m) near in
+    same_coefficients m c p (product k sent e) (λ i. x (s.place i))
+    (selected_fit m n c x y (λ j. ascending_polynomial k sent (x j) % m) s fit)
+    (λ i l.
+    let X : ℕ = x (s.place i) in
+    let symbol : Congruent m (y (s.place i)) (ascending_polynomial k sent X) =
+    chained (of_equal (s.same i l)) (residue_of (ascending_polynomial k sent X)) in
+    chained (solves (s.place i) (s.within i l))
+    (chained (multiplied symbol (itself (ascending_polynomial d e X)))
+    (of_equal (sym (product_value k d c X sent e some (omega arith) past)))))
+
+-- .. so its values are
+pub near_value : (m k c d n : ℕ) (x y p e sent : ℕ → ℕ) → 1 ≤ d → d + k ≡ c + 1 → HaveUnitDifferences m n x
+    → ((l : ℕ) → d ≤ l → e l ≡ 0) → Solves m c d n x y p e
+    → distance n y (λ j. ascending_polynomial k sent (x j) % m) + c ≤ n
+    → (X : ℕ) → Congruent m (ascending_polynomial c p X) (ascending_polynomial k sent X * ascending_polynomial d e X)
+near_value m k c d n x y p e sent some lengths fit past solves near X =
+    chained (ascending-congruent c p (product k sent e) X X
+    (near_numerator m k c d n x y p e sent some lengths fit past solves near) (itself X))
+    (of_equal (product_value k d c X sent e some (omega arith) past))
+
+no_lead : (m k c d u : ℕ) (p e : ℕ → ℕ) → d + k ≡ c + 1 → u < 2 * c → ((l : ℕ) → l < c → Congruent m (p l) 0)
+    → ((l : ℕ) → l < d → Congruent m (e l) 0) → Leads m k u p e → HasInverse m 0
+no_lead m k c d u p e lengths room none_p none_e leads = elim leads.unit [
+  | inl (l, at, unit) ↦ unit_alike m (p l) 0 (none_p l (omega arith)) unit
+  | inr (l, at, unit) ↦ unit_alike m (e l) 0 (none_e l (omega arith)) unit
+]
+
+-- the locator of a pair isn't 0 at so many points where a near message exists
+pub enough_units : (m k c d n u : ℕ) (x y p e sent : ℕ → ℕ) → 1 ≤ d → d + k ≡ c + 1 → c ≤ n → u < 2 * c
+    → HaveUnitDifferences m n x → ((l : ℕ) → d ≤ l → e l ≡ 0) → IsKeyPair m k c d n u x y p e
+    → distance n y (λ j. ascending_polynomial k sent (x j) % m) + c ≤ n
+    → distance n (λ j. ascending_polynomial d e (x j) % m) (λ j. 0) < k → HasInverse m 0
+enough_units m k c d n u x y p e sent some lengths few room fit past pair near zeros =
+    let s = selected n d (λ j. ascending_polynomial d e (x j) % m) (λ j. 0) (omega (arith, zeros)) in
+    let none_at = same_coefficients m d e (λ i. 0) (λ i. x (s.place i))
+    (selected_fit m n d x (λ j. ascending_polynomial d e (x j) % m) (λ j. 0) s fit)
+    (λ i l. record { same = s.same i l ∙ sym (ap (λ v. v % m) (no_value d (x (s.place i))) ∙ zero-mod m) }) in
+    let none : (l : ℕ) → Congruent m (e l) 0 =
+    λ l. elim (cases_lt l d) [ inl b ↦ none_at l b | inr b ↦ of_equal (past l b) ] in
+    no_lead m k c d u p e lengths room
+    (λ l b. chained (near_numerator m k c d n x y p e sent some lengths fit past pair.solves near l b)
+    (product_none m k d l sent e none)) (λ l b. none l) pair.leads
+
+-- the quotient by a number with an inverse is the other factor
+quotient_is : (m n e q w : ℕ) → IsQuotient m n e q → Congruent m n (w * e) → Congruent m q w
+quotient_is m n e q w is product =
+    let x : ℕ = is.unit.0 in
+    let one : Congruent m (e * x) 1 = record { same = is.unit.1.one } in
+    let a : q ≡ q * 1 = omega arith in
+    let b : q * (e * x) ≡ (e * q) * x = omega arith in
+    let c : (w * e) * x ≡ w * (e * x) = omega arith in
+    let d : w * 1 ≡ w = omega arith in
+    chained (of_equal a) (chained (multiplied (itself q) (turned one)) (chained (of_equal b)
+    (chained (multiplied (chained is.product product) (itself x)) (chained (of_equal c)
+    (chained (multiplied (itself w) one) (of_equal d))))))
+
+-- the quotients are the values of a near message
+pub near_quotients : (m k c d n u : ℕ) (x y p e sent chosen values : ℕ → ℕ) → 1 ≤ d → d + k ≡ c + 1
+    → HaveUnitDifferences m n x → ((l : ℕ) → d ≤ l → e l ≡ 0) → IsKeyPair m k c d n u x y p e
+    → distance n y (λ j. ascending_polynomial k sent (x j) % m) + c ≤ n
+    → AreQuotients m n k x (ascending_polynomial c p) (ascending_polynomial d e) chosen values
+    → ((i : ℕ) → i < k → values i < m) → IsEncoding m k k chosen sent values
+near_quotients m k c d n u x y p e sent chosen values some lengths fit past pair near are below = record {
+  symbol = λ i l.
+      let X : ℕ = x (are.place i) in
+      let same = quotient_is m _ _ (values i) (ascending_polynomial k sent X) (are.quotient i l)
+      (near_value m k c d n x y p e sent some lengths fit past pair.solves near X) in
+      sym (mod-eq_of_lt (below i l)) ∙ same.same
+      ∙ ap (λ v. ascending_polynomial k sent v % m) (sym (are.chosen_there i l));
+}
+
+-- the chosen points fit
+pub chosen_fit : (m n k : ℕ) (x p e chosen values : ℕ → ℕ) → HaveUnitDifferences m n x
+    → AreQuotients m n k x p e chosen values → HaveUnitDifferences m k chosen
+chosen_fit m n k x p e chosen values fit are =
+    fit_same m k (λ i. x (are.place i)) chosen (λ i l. sym (are.chosen_there i l))
+    (rising_fit m n k x are.place are.within are.rising fit)
+
+-- fewer places, and words that are the same there
+pub distance_front : (k n : ℕ) (a b : ℕ → ℕ) → k ≤ n → distance k a b ≤ distance n a b
+distance_front k zero a b l = let e : k ≡ 0 = omega arith in subst (λ j. distance j a b ≤ distance 0 a b) (sym e) (omega arith)
+distance_front k (suc n) a b l = elim (cases_eq k (suc n)) [
+  | inl e ↦ subst (λ j. distance j a b ≤ distance (suc n) a b) (sym e) (omega arith)
+  | inr other ↦
+      let i = distance_front k n a b (omega arith) in
+      let s = sum_below-suc n (λ i. counted (a i) (b i)) in
+      omega (arith, i, s)
+]
+
+pub distance_same : (n : ℕ) (a b d : ℕ → ℕ) → ((i : ℕ) → i < n → b i ≡ d i) → distance n a b ≡ distance n a d
+distance_same n a b d same =
+    sum_below-same n (λ i. counted (a i) (b i)) (λ i. counted (a i) (d i)) (λ i l. ap (counted (a i)) (same i l))
+
+-- the chosen points and the quotients so far, as forms in two lists
+pub record Found {T : Type 0} (number : T → ℕ) (form value : ℕ → ℕ → ℕ) (m n k : ℕ) (x numerator locator : ℕ → ℕ)
+    (chosen values : List T) : Type 0 where
+  pub place : ℕ → ℕ
+  pub within : (i : ℕ) → i < k → place i < n
+  pub rising : (i j : ℕ) → i < j → j < k → place i < place j
+  pub chosen_there : HoldBelow number form value m chosen (λ i. x (place i)) k
+  pub quotient : (i : ℕ) (d : T) → i < k → IsForm form value m (number (get_or values i d))
+      × IsQuotient m (numerator (x (place i))) (locator (x (place i))) (value m (number (get_or values i d)))
+
+pub found_none : {T : Type 0} (number : T → ℕ) (form value : ℕ → ℕ → ℕ) (m : ℕ) (x p e : ℕ → ℕ) (chosen values : List T)
+    → Found number form value m 0 0 x p e chosen values
+found_none number form value m x p e chosen values = record {
+  place = λ i. i;
+  within = λ i l. absurd (omega arith);
+  rising = λ i j l b. absurd (omega arith);
+  chosen_there = record { each = λ k d l. absurd (omega arith) };
+  quotient = λ i d l. absurd (omega arith);
+}
+
+-- a point more without a quotient
+pub found_kept : {T : Type 0} (number : T → ℕ) (form value : ℕ → ℕ → ℕ) (m n k : ℕ) (x p e : ℕ → ℕ)
+    (chosen values : List T) → Found number form value m n k x p e chosen values
+    → Found number form value m (n + 1) k x p e chosen values
+found_kept number form value m n k x p e chosen values found = record {
+  place = found.place;
+  within = λ i l. let w = found.within i l in omega (arith, w);
+  rising = found.rising;
+  chosen_there = found.chosen_there;
+  quotient = found.quotient;
+}
+
+-- a point more with a quotient
+pub found_more : {T : Type 0} (number : T → ℕ) (form value : ℕ → ℕ → ℕ) (m n k : ℕ) (x p e : ℕ → ℕ)
+    (chosen values : List T) (f q : T) → k < length chosen → k < length values
+    → Found number form value m n k x p e chosen values → IsForm form value m (number f) → value m (number f) ≡ x n
+    → IsForm form value m (number q) → IsQuotient m (p (x n)) (e (x n)) (value m (number q))
+    → Found number form value m (n + 1) (k + 1) x p e (set chosen k f) (set values k q)
+found_more number form value m n k x p e chosen values f q room room_values found is_f at_f is_q quotient = record {
+  place = extended k n found.place;
+  within = λ i l. elim (cases_eq i k) [
+    | inl s ↦ let a = at_end k n found.place i s in omega (arith, a)
+    | inr o ↦ let a = before_end k n found.place i o in let w = found.within i (omega arith) in omega (arith, a, w)
+  ];
+  rising = λ i j l b. let o : i ≢ k = omega arith in
+      let a = before_end k n found.place i o in elim (cases_eq j k) [
+        | inl s ↦ let q = at_end k n found.place j s in let w = found.within i (omega arith) in omega (arith, a, q, w)
+        | inr d ↦ let q = before_end k n found.place j d in let w = found.rising i j l (omega arith) in omega (arith, a, q, w)
+      ];
+  chosen_there = record {
+    each = λ i d l. elim (cases_eq i k) [
+      | inl s ↦
+          let r : get_or (set chosen k f) i d ≡ f = ap (λ j. get_or (set chosen k f) j d) s ∙ get_or-set_same chosen k f d room in
+          let a = at_end k n found.place i s in
+          subst (λ y. IsCheckedFormOf form value m (number y) (x (extended k n found.place i))) (sym r)
+          (record { checked = is_f; same = at_f ∙ ap x (sym a) })
+      | inr o ↦
+          let a = before_end k n found.place i o in
+          let before = found.chosen_there.each i d (omega arith) in
+          subst (λ y. IsCheckedFormOf form value m (number y) (x (extended k n found.place i)))
+          (sym (get_or-set_other chosen k i f d o))
+          (record { checked = before.checked; same = before.same ∙ ap x (sym a) })
+    ];
+  };
+  quotient = λ i d l. elim (cases_eq i k) [
+    | inl s ↦
+        let r : get_or (set values k q) i d ≡ q = ap (λ j. get_or (set values k q) j d) s ∙ get_or-set_same values k q d room_values in
+        let a = at_end k n found.place i s in
+        subst (λ y. IsForm form value m (number y) × IsQuotient m (p (x (extended k n found.place i)))
+        (e (x (extended k n found.place i))) (value m (number y))) (sym r)
+        (is_q, subst (λ j. IsQuotient m (p (x j)) (e (x j)) (value m (number q))) (sym a) quotient)
+    | inr o ↦
+        let a = before_end k n found.place i o in
+        let before = found.quotient i d (omega arith) in
+        subst (λ y. IsForm form value m (number y) × IsQuotient m (p (x (extended k n found.place i)))
+        (e (x (extended k n found.place i))) (value m (number y))) (sym (get_or-set_other values k i q d o))
+        (before.0, subst (λ j. IsQuotient m (p (x j)) (e (x j)) (value m (number (get_or values i d)))) (sym a) before.1)
+  ];
+}
+
+-- .. of all of them
+pub found_forms : {T : Type 0} (number : T → ℕ) (form value : ℕ → ℕ → ℕ) (m n k : ℕ) (x p e : ℕ → ℕ)
+    (chosen values : List T) → length values ≤ k → Found number form value m n k x p e chosen values
+    → All (λ f. IsForm form value m (number f)) values
+found_forms number form value m n k x p e chosen values room found i d l = (found.quotient i d (omega (arith, l, room))).0
+
+pub found_quotients : {T : Type 0} (number : T → ℕ) (form value : ℕ → ℕ → ℕ) (m n k s : ℕ) (x p e : ℕ → ℕ)
+    (chosen values : List T) → k ≡ length chosen → k ≡ length values → n ≤ s
+    → Found number form value m n k x p e chosen values
+    → AreQuotients m s k x p e (entry number value m chosen) (entry number value m values)
+found_quotients number form value m n k s x p e [] values is_k same few found = record {
+  place = found.place;
+  within = λ i l. absurd (omega arith);
+  rising = λ i j l b. absurd (omega arith);
+  chosen_there = λ i l. absurd (omega arith);
+  quotient = λ i l. absurd (omega arith);
+}
+found_quotients number form value m n k s x p e (c ∷ cs) values is_k same few found = record {
+  place = found.place;
+  within = λ i l. let w = found.within i l in omega (arith, w, few);
+  rising = found.rising;
+  chosen_there = λ i l. held_entry number form value m (c ∷ cs) (λ i. x (found.place i)) k i found.chosen_there l
+      (omega (arith, l, is_k));
+  quotient = λ i l. subst (IsQuotient m (p (x (found.place i))) (e (x (found.place i))))
+      (entry_at number value m values i c (omega (arith, l, same))) (found.quotient i c l).1;
+}
+
+pub found_all : {T : Type 0} (number : T → ℕ) (form value : ℕ → ℕ → ℕ) (m n k j s : ℕ) (x p e : ℕ → ℕ)
+    (chosen values : List T) → k ≡ j → k ≡ length chosen → k ≡ length values → n ≤ s
+    → Found number form value m n k x p e chosen values
+    → AreQuotients m s j x p e (entry number value m chosen) (entry number value m values)
+found_all number form value m n k j s x p e chosen values is_j is_k same few found =
+    subst (λ k. AreQuotients m s k x p e (entry number value m chosen) (entry number value m values)) is_j
+    (found_quotients number form value m n k s x p e chosen values is_k same few found)
+
+-- one point more where a value is 0, or isn't
+pub zeros_kept : (n k : ℕ) (a b : ℕ → ℕ) → distance n a b ≤ k → a n ≡ b n → distance (n + 1) a b ≤ k
+zeros_kept n k a b few same =
+    let e : n + 1 ≡ suc n = omega arith in
+    let s = ap (λ j. distance j a b) e ∙ sum_below-suc n (λ i. counted (a i) (b i)) in
+    let z = counted_same (a n) (b n) same in
+    omega (arith, few, s, z)
+
+pub zeros_more : (n k : ℕ) (a b : ℕ → ℕ) → distance n a b ≤ k → distance (n + 1) a b ≤ k + 1
+zeros_more n k a b few =
+    let e : n + 1 ≡ suc n = omega arith in
+    let s = ap (λ j. distance j a b) e ∙ sum_below-suc n (λ i. counted (a i) (b i)) in
+    elim (cases_eq (a n) (b n)) [
+      | inl same ↦ let z = counted_same (a n) (b n) same in omega (arith, few, s, z)
+      | inr other ↦ let z = counted_other (a n) (b n) other in omega (arith, few, s, z)
+    ]
+
+-- forms differ exactly where their values do
+pub counted_forms : (form value : ℕ → ℕ → ℕ) (m f g v w : ℕ) → IsForm form value m f → IsForm form value m g
+    → value m f ≡ v → value m g ≡ w → counted f g ≡ counted v w
+counted_forms form value m f g v w is_f is_g at_f at_g = elim (cases_eq f g) [
+  | inl s ↦ counted_same f g s ∙ sym (counted_same v w (sym at_f ∙ ap (value m) s ∙ at_g))
+  | inr other ↦ counted_other f g other
+      ∙ sym (counted_other v w (λ e. other (same_forms form value m f g is_f is_g (at_f ∙ e ∙ sym at_g))))
+]
+
+pub one_counted : (n e r : ℕ) (a b : ℕ → ℕ) → e ≡ distance n a b → r ≡ counted (a n) (b n)
+    → e + r ≡ distance (n + 1) a b
+one_counted n e r a b is_e is_r =
+    let t : n + 1 ≡ suc n = omega arith in
+    let s = ap (λ j. distance j a b) t ∙ sum_below-suc n (λ i. counted (a i) (b i)) in
+    omega (arith, is_e, is_r, s)
+
+pub none_counted : (a b : ℕ → ℕ) → 0 ≡ distance 0 a b
+none_counted a b = sym (sum_below-zero (λ i. counted (a i) (b i)))
+
+pub counted_few : (n : ℕ) (a b : ℕ → ℕ) → distance n a b ≤ n
+counted_few zero a b = let s = sum_below-zero (λ i. counted (a i) (b i)) in omega (arith, s)
+counted_few (suc n) a b =
+    let i = counted_few n a b in
+    let s = sum_below-suc n (λ i. counted (a i) (b i)) in
+    elim (cases_eq (a n) (b n)) [
+      | inl same ↦ let z = counted_same (a n) (b n) same in omega (arith, i, s, z)
+      | inr other ↦ let z = counted_other (a n) (b n) other in omega (arith, i, s, z)
+    ]
+
+-- the quotient from an inverse
+pub quotient_made : (m n e value x dividend q : ℕ) → value ≡ e % m → IsInverse m value x → dividend ≡ n % m
+    → q ≡ (dividend * x) % m → IsQuotient m n e q
+quotient_made m n e value x dividend q is_e inverse is_n is = record {
+  unit = has_of_residue m e value is_e (x, inverse);
+  product =
+      let at_e : Congruent m e value = chained (turned (residue_of e)) (of_equal (sym is_e)) in
+      let at_q : Congruent m q (n * x) =
+      chained (of_equal is) (chained (residue_of (dividend * x))
+      (multiplied (chained (of_equal is_n) (residue_of n)) (itself x))) in
+      let one : Congruent m (value * x) 1 = record { same = inverse.one } in
+      let a : value * (n * x) ≡ n * (value * x) = omega arith in
+      let b : n * 1 ≡ n = omega arith in
+      chained (multiplied at_e at_q) (chained (of_equal a) (chained (multiplied (itself n) one) (of_equal b)));
+}
+
+-- the half of a number, rounded down
+pub half_of : (a : ℕ) → (2 * (a / 2) ≤ a) × (a ≤ 2 * (a / 2) + 1)
+half_of a = (omega arith, omega arith)
+
+-- a word that is near to the symbols at places, by the points there
+pub near_there : (m k n s r : ℕ) (X x place y sent other : ℕ → ℕ) → s ≡ r → IsEncoding m k n X sent other
+    → ((i : ℕ) → i < r → place i < n) → ((i : ℕ) → i < r → x i ≡ X (place i))
+    → 2 * distance r y (λ j. other (place j)) ≤ r - k
+    → 2 * distance s y (λ j. ascending_polynomial k sent (x j) % m) ≤ s - k
+near_there m k n s r X x place y sent other count is within at near =
+    let same = distance_same r y (λ j. other (place j)) (λ j. ascending_polynomial k sent (x j) % m)
+    (λ i l. is.symbol (place i) (within i l) ∙ ap (λ a. ascending_polynomial k sent a % m) (sym (at i l))) in
+    subst (λ s. 2 * distance s y (λ j. ascending_polynomial k sent (x j) % m) ≤ s - k) (sym count)
+    (omega (arith, same, near))
+
+-- the words of messages that are congruent
+pub same_word : (m k j n : ℕ) (X mine sent word other : ℕ → ℕ) → j ≡ k → IsEncoding m j n X mine word
+    → IsEncoding m k n X sent other → ((i : ℕ) → i < k → mine i ≡ sent i % m) → (i : ℕ) → i < n → word i ≡ other i
+same_word m k j n X mine sent word other count is_mine is_sent same i l =
+    is_mine.symbol i l ∙ ap (λ j. ascending_polynomial j mine (X i) % m) count
+    ∙ (ascending-congruent k mine sent (X i) (X i)
+    (λ i b. record { same = ap (λ v. v % m) (same i b) ∙ mod-mod (sent i) m }) (itself (X i))).same
+    ∙ sym (is_sent.symbol i l)

@@ -1,0 +1,19 @@
+use Rattle.num_modular.specs.Callers.{◌+◌, ◌*◌, entry, subst, length}
+use Rattle.num_modular.specs.Congruence.{Congruent}
+use Rattle.num_modular.specs.Polynomials.{ascending_polynomial}
+use Rattle.ring_codes.proofs.KeyPairs.{discrepancy_value}
+use Rattle.ring_codes.proofs.erasure.key_equation.discrepancy.Goals as goal
+
+pub returns-clause-value : goal.returns-clause-value
+returns-clause-value g c cn d is_c is_d =
+    let ring = g.R.Reducer in let m = ring.modulus c.args.r.now in let number = g.T.RingWord.number in
+    let positive = (g.met.R.Reducer.canonical c.args.r.now).positive in
+    let x = ring.value m (number c.args.point.now) in
+    let y = ring.value m (number c.args.symbol.now) in
+    let n = entry number ring.value m c.args.numerator.now in
+    let e = entry number ring.value m c.args.locator.now in
+    let v = ring.value m (number c.sub.result) in
+    let one = discrepancy_value m _ _ _ _ _ _ _ positive c.evaluate-value.ensures.value c.evaluate-located.ensures.value
+    c.mul-product.ensures.value c.sub.ensures.value in
+    subst (λ k. Congruent m (v + y * ascending_polynomial d e x) (ascending_polynomial k n x)) is_c
+    (subst (λ k. Congruent m (v + y * ascending_polynomial k e x) (ascending_polynomial (length c.args.numerator.now) n x)) is_d one)

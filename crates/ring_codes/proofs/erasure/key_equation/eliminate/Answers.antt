@@ -1,0 +1,55 @@
+use Rattle.num_modular.specs.Callers.{◌*◌, ◌%◌, ◌∙◌, ap, arith}
+use Rattle.num_modular.specs.Callers.{entry, entry_at, entry_read, form_read, forms_written, done_none, done_more}
+use Rattle.num_modular.specs.NumberLaws.{of_equal, chained, residue_of}
+use Rattle.ring_codes.proofs.NewtonForms.{subtracted}
+use Rattle.ring_codes.proofs.erasure.key_equation.eliminate.Goals as goal
+
+pub coefficients-init : goal.coefficients-init
+coefficients-init g c = (c.requires.coefficients, done_none _ _)
+
+pub coefficients-preserved : goal.coefficients-preserved
+coefficients-preserved g c =
+    let ring = g.R.Reducer in let m = ring.modulus c.args.r.now in let number = g.T.RingWord.number in
+    let positive = (g.met.R.Reducer.canonical c.args.r.now).positive in
+    let list = c.coefficients.coefficients in let i = c.coefficients.i in let so_far = c.coefficients.invariant in
+    let old = entry number ring.value m c.args.coefficients.now in
+    let pivots = entry number ring.value m c.args.pivots.now in
+    let a = ring.value m (number c.args.a.now) in
+    let b = ring.value m (number c.args.b.now) in
+    let pivot = entry_read number ring.value m c.args.pivots.now i _ (omega (arith, c.requires.equal)) c.index-pivots-i.is in
+    let here = entry_at number ring.value m list i c.index-coefficients-i.result (omega arith) ∙ so_far.1.kept i (omega arith) in
+    let own = c.mul-own.ensures.value ∙ ap (λ v. (a * v) % m) here in
+    let one = chained (subtracted m b (ring.value m (number c.mul-product.result)) _
+    (ring.value m (number c.mul-own.result)) (pivots i) positive
+    (c.mul-product.ensures.value ∙ ap (λ v. (b * v) % m) pivot) c.sub.ensures.value)
+    (chained (of_equal own) (residue_of (a * old i))) in (
+      forms_written number ring.form ring.value m list i c.sub.result c.sub.ensures.checked so_far.0,
+      done_more number ring.value m list i c.sub.result _ old (omega arith) so_far.1 one,
+    )
+
+pub mul-own-requires-clause-left : goal.mul-own-requires-clause-left
+mul-own-requires-clause-left g c = c.requires.a
+
+pub mul-own-requires-clause-right : goal.mul-own-requires-clause-right
+mul-own-requires-clause-right g c = c.coefficients.invariant.0 c.coefficients.i c.index-coefficients-i.result (omega arith)
+
+pub mul-product-requires-clause-left : goal.mul-product-requires-clause-left
+mul-product-requires-clause-left g c = c.requires.b
+
+pub mul-product-requires-clause-right : goal.mul-product-requires-clause-right
+mul-product-requires-clause-right g c =
+    let ring = g.R.Reducer in let m = ring.modulus c.args.r.now in
+    form_read g.T.RingWord.number ring.form ring.value m c.args.pivots.now c.coefficients.i _ c.requires.pivots
+    (omega (arith, c.requires.equal)) c.index-pivots-i.is
+
+pub sub-requires-clause-left : goal.sub-requires-clause-left
+sub-requires-clause-left g c = c.mul-own.ensures.checked
+
+pub sub-requires-clause-right : goal.sub-requires-clause-right
+sub-requires-clause-right g c = c.mul-product.ensures.checked
+
+pub returns-clause-checked : goal.returns-clause-checked
+returns-clause-checked g c = c.coefficients.invariant.0
+
+pub returns-clause-difference : goal.returns-clause-difference
+returns-clause-difference g c i l = c.coefficients.invariant.1.done i (omega arith)

@@ -1,0 +1,142 @@
+//! The message from a pair that solves the key equation: the quotients N(x)/E(x) at k points are its values there.
+
+ghost use Rattle.std.specs.Prelude.{◌≡◌, ◌≢◌, ℕ, ◌+◌, ◌*◌, ◌%◌, ◌<◌, ◌≤◌};
+ghost use Rattle.std.specs.Prelude.{All, IsTrue, IfOk, IfErr, length, MatchOption};
+ghost use Rattle.num_modular.specs.Congruence.{Congruent};
+ghost use Rattle.num_modular.specs.Entries.{entry};
+ghost use Rattle.num_modular.specs.Forms.{IsForm};
+ghost use Rattle.num_modular.specs.Inverses.{HasInverse};
+ghost use Rattle.num_modular.specs.Polynomials.{ascending_polynomial, HaveUnitDifferences};
+ghost use Rattle.ring_codes.specs.Erasure.{distance};
+ghost use Rattle.ring_codes.specs.KeyEquations.{IsKeyPair, AreQuotients, IsQuotient, IsWithoutInverse};
+
+use super::{evaluate, interpolate};
+use num_modular::{Reducer, RingWord};
+
+/// The form of N(x)/E(x); `None` where E(x) is 0 and has no inverse. Where E(x) is another number without an inverse
+/// modulo m, it returns that number. Condition: all are checked forms.
+pub fn quotient<T: RingWord, R: Reducer<T>>(
+    r: &R,
+    point: &T,
+    numerator: &[T],
+    locator: &[T],
+) -> Result<Option<T>, T>
+    requires point { IsForm R.form R.value (R.modulus r.now) (T.number point.now) }
+    requires numerator { All (λ f. IsForm R.form R.value (R.modulus r.now) (T.number f)) numerator.now }
+    requires locator { All (λ f. IsForm R.form R.value (R.modulus r.now) (T.number f)) locator.now }
+    ensures inverse { IfErr result (λ a. IsWithoutInverse (R.modulus r.now) (T.number a)) }
+    ensures quotient { let m = R.modulus r.now in let x = R.value m (T.number point.now) in
+        let n = ascending_polynomial (length numerator.now) (entry T.number R.value m numerator.now) x in
+        let e = ascending_polynomial (length locator.now) (entry T.number R.value m locator.now) x in
+        IfOk result (λ found. MatchOption found ((e % m ≡ 0) × (HasInverse m 0 → ⊥))
+        (λ f. IsForm R.form R.value m (T.number f) × IsQuotient m n e (R.value m (T.number f)))) }
+{
+    let value = evaluate(r, locator, point);
+    match r.inv(value) {
+        Some(inverse) => {
+            let dividend = evaluate(r, numerator, point);
+            Ok(Some(r.mul(&dividend, &inverse)))
+        }
+        None => {
+            if r.is_zero(&value) {
+                Ok(None)
+            } else {
+                Err(r.residue(value))
+            }
+        }
+    }
+}
+
+/// Writes the first k points at which E(x) has an inverse, and the quotients N(x)/E(x) there, k being the number of the
+/// places for them. Returns false where there are fewer. Where E(x) isn't 0 and has no inverse modulo m, it returns
+/// that number. Conditions: all are checked forms; there are at least `count` points; k is from 1 to `count`.
+pub fn divide<T: RingWord, R: Reducer<T>>(
+    r: &R,
+    points: &[T],
+    count: usize,
+    numerator: &[T],
+    locator: &[T],
+    chosen: &mut [T],
+    values: &mut [T],
+) -> Result<bool, T>
+    requires points { All (λ f. IsForm R.form R.value (R.modulus r.now) (T.number f)) points.now }
+    requires numerator { All (λ f. IsForm R.form R.value (R.modulus r.now) (T.number f)) numerator.now }
+    requires locator { All (λ f. IsForm R.form R.value (R.modulus r.now) (T.number f)) locator.now }
+    requires within { count ≤ length points.now }
+    requires some { 0 < length chosen.old }
+    requires few { length chosen.old ≤ count }
+    requires equal { length values.old ≡ length chosen.old }
+    ensures inverse { IfErr result (λ a. IsWithoutInverse (R.modulus r.now) (T.number a)) }
+    ensures checked_chosen { IfOk result (λ b. IsTrue b →
+        All (λ f. IsForm R.form R.value (R.modulus r.now) (T.number f)) chosen.new) }
+    ensures checked_values { IfOk result (λ b. IsTrue b →
+        All (λ f. IsForm R.form R.value (R.modulus r.now) (T.number f)) values.new) }
+    ensures quotients { let m = R.modulus r.now in
+        let n = ascending_polynomial (length numerator.now) (entry T.number R.value m numerator.now) in
+        let e = ascending_polynomial (length locator.now) (entry T.number R.value m locator.now) in
+        IfOk result (λ b. IsTrue b → AreQuotients m count (length chosen.old) (entry T.number R.value m points.now) n e
+        (entry T.number R.value m chosen.new) (entry T.number R.value m values.new)) }
+    ensures zeros { let m = R.modulus r.now in
+        let e = ascending_polynomial (length locator.now) (entry T.number R.value m locator.now) in
+        IfOk result (λ b. (IsTrue b → ⊥) → (HasInverse m 0 → ⊥)
+        × (distance count (λ j. e (entry T.number R.value m points.now j) % m) (λ j. 0) < length chosen.old)) }
+{
+    let mut found = 0;
+    'points: for i in 0..count {
+        match quotient(r, &points[i], numerator, locator) {
+            Err(a) => return Err(a),
+            Ok(None) => continue,
+            Ok(Some(value)) => {
+                chosen[found] = points[i];
+                values[found] = value;
+                found += 1;
+                if found == chosen.len() {
+                    return Ok(true);
+                }
+            }
+        }
+    }
+    Ok(false)
+}
+
+/// Writes the message whose values are the quotients of a pair. Returns false where fewer than k quotients exist.
+/// Conditions: those of `divide`; there are as many places for the points, the quotients and the weights as the message
+/// has symbols; the points fit.
+pub fn divide_pair<T: RingWord, R: Reducer<T>>(
+    r: &R,
+    points: &[T],
+    count: usize,
+    numerator: &[T],
+    locator: &[T],
+    chosen: &mut [T],
+    values: &mut [T],
+    weights: &mut [T],
+    message: &mut [T],
+) -> Result<bool, T>
+    requires points { All (λ f. IsForm R.form R.value (R.modulus r.now) (T.number f)) points.now }
+    requires numerator { All (λ f. IsForm R.form R.value (R.modulus r.now) (T.number f)) numerator.now }
+    requires locator { All (λ f. IsForm R.form R.value (R.modulus r.now) (T.number f)) locator.now }
+    requires within { count ≤ length points.now }
+    requires some { 0 < length message.old }
+    requires few { length message.old ≤ count }
+    requires chosen { length chosen.old ≡ length message.old }
+    requires values { length values.old ≡ length message.old }
+    requires weights { length weights.old ≡ length message.old }
+    requires fit { let m = R.modulus r.now in HaveUnitDifferences m count (entry T.number R.value m points.now) }
+    ensures inverse { IfErr result (λ a. IsWithoutInverse (R.modulus r.now) (T.number a)) }
+    ensures checked { IfOk result (λ b. IsTrue b →
+        All (λ f. IsForm R.form R.value (R.modulus r.now) (T.number f)) message.new) }
+    ensures message { let m = R.modulus r.now in
+        let k = length message.old in let x = entry T.number R.value m points.now in
+        IfOk result (λ b. (c d u : ℕ) (y sent : ℕ → ℕ) → length numerator.now ≡ c → length locator.now ≡ d → 1 ≤ d →
+        d + k ≡ c + 1 → c ≤ count → u < 2 * c →
+        IsKeyPair m k c d count u x y (entry T.number R.value m numerator.now) (entry T.number R.value m locator.now) →
+        distance count y (λ j. ascending_polynomial k sent (x j) % m) + c ≤ count →
+        IsTrue b × ((i : ℕ) → i < k → entry T.number R.value m message.new i ≡ sent i % m)) }
+{
+    match divide(r, points, count, numerator, locator, chosen, values) {
+        Err(a) => Err(a),
+        Ok(false) => Ok(false),
+        Ok(true) => Ok(interpolate(r, chosen, values, weights, message)),
+    }
+}
