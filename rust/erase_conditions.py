@@ -8,7 +8,7 @@ import re
 import textwrap
 from dataclasses import dataclass
 
-from erase_tokens import COUNT, Unknown, beginning, beyond, body_of, header, lexed
+from erase_tokens import COUNT, Unknown, beginning, beyond, body_of, header, lexed, put_attribute
 
 SENTENCE = re.compile(r"\s?\bConditions?(?: of [^:.]*)?:\s+(.+?)\.(?=\s|$)\s?", re.S)
 WIDTH = 100  # of a section of docs
@@ -19,35 +19,37 @@ MADE_BY = {"new": ("R::new(", "Montgomery::of(", "Self::of(", "M::keep(")}
 
 # Tests that are put in at the beginning of a body, since they look at more than `prove!` may, or since only rustc needs them:
 # by file and function, the condition's parts in turn. What they call is proved to tell whether the condition holds.
-EVERY, DEBUG = "assert", "debug_assert"
-FACTORS = (DEBUG, "table.iter().all(|it| crate::additions::is_factor(m, &it.factor()))")
+EVERY, DEBUG, RETURN = "assert", "debug_assert", "return"
+FACTORS = (DEBUG, "crate::additions::are_factors(m, xs.len(), table, b, last)")
 IN_ROOM = (DEBUG, "xs.iter().all(|x| m.has_room(*x))")
-SPLITS = (DEBUG, "crate::modular_plan_transforms::split::splits(xs.len(), table.len(), b, last)")
+SPLITS = (EVERY, "crate::modular_plan_transforms::split::splits(xs.len(), table.len(), b, last)")
 LENGTH = (EVERY, "xs.len().is_power_of_two()")
+QUOTIENT = ((DEBUG, "crate::additions::is_greatest_quotient(d, pre.q_lim)"),)
 DIVISOR = ((EVERY, "d != 0"),)
 LOOKS = {
     ("modular_transform/transform", "ntt_counted"): (
         LENGTH,
         (DEBUG, "r.check(g) && xs.iter().all(|x| r.check(x))"),
-        (DEBUG, "root_fits(r, g, xs.len())"),
+        (EVERY, "r.check(g) && root_fits(r, g, xs.len())"),
     ),
     ("modular_transform/convolution", "convolve"): (
         (EVERY, "ys.len() == xs.len()"),
         LENGTH,
         (DEBUG, "r.check(g) && xs.iter().all(|x| r.check(x)) && ys.iter().all(|y| r.check(y))"),
-        (DEBUG, "crate::modular_transform::transform::root_fits(r, g, xs.len())"),
+        (EVERY, "r.check(g) && crate::modular_transform::transform::root_fits(r, g, xs.len())"),
     ),
     ("modular_ring/ring", "run"): ((DEBUG, "all_checked(r, regs)"), (DEBUG, "commands_fit(commands, regs.len())")),
     ("modular_plan/plan", "plan"): (
-        (DEBUG, "g.is_below(m.modulus)"),
-        (DEBUG, "crate::additions::root_fits_plan(m, g, table.len())"),
+        (RETURN, "table.is_empty()"),
+        (EVERY, "g.is_below(m.modulus)"),
+        (EVERY, "crate::additions::root_fits_plan(m, g, table.len())"),
     ),
     ("modular_plan_transforms/split", "split"): (IN_ROOM, SPLITS, FACTORS),
     ("modular_plan_transforms/join", "join"): (IN_ROOM, SPLITS, FACTORS),
     ("modular_plan_transforms/join", "join_scaled"): (IN_ROOM, SPLITS, FACTORS, (DEBUG, "crate::additions::is_factor(m, w)")),
     ("modular_plan_transforms/convolution", "convolve_block"): (
-        (DEBUG, "ys.len() == xs.len()"),
-        (DEBUG, "convolves(xs.len(), table.len(), b, last)"),
+        (EVERY, "ys.len() == xs.len()"),
+        (EVERY, "convolves(xs.len(), table.len(), b, last)"),
         (DEBUG, "xs.iter().chain(ys.iter()).all(|x| m.has_room(*x))"),
         FACTORS,
     ),
@@ -60,16 +62,44 @@ LOOKS = {
     **{("modular_prim/plain_word", name): DIVISOR for name in ("quotient", "remainder", "low_quotient")},
     **{(f"modular_word/word/{word}", "nrem"): DIVISOR for word in ("w8", "w16", "w32", "w64", "wsize")},
     ("modular_ring/residues", "encode"): ((EVERY, "moduli.iter().all(|m| *m > 0)"), (EVERY, "residues.len() == moduli.len()")),
-    ("modular_ring/residues", "decode"): ((DEBUG, "is_system(moduli)"), (DEBUG, "are_reduced(moduli, residues)")),
+    ("modular_ring/residues", "decode"): (
+        (EVERY, "crate::additions::may_be_system(moduli)"),
+        (EVERY, "residues.len() >= moduli.len() && are_reduced(moduli, residues)"),
+    ),
+    ("modular_monty/preinv", "word_quotient"): QUOTIENT,
+    ("modular_monty/preinv", "double_quotient"): QUOTIENT,
 }
+# What a test that fails shows besides its words: the end of the message, and what stands in its braces.
+FACTORS_SHOWN = (": {} entries, {} factors, b = {}, last = {}", "xs.len(), table.len(), b, last")
+NUMBER = "crate::additions::number"
+SHOWN = {
+    "the moduli must be equal": (": {} and {}", f"{NUMBER}(x.reducer.modulus()), {NUMBER}(y.reducer.modulus())"),
+    "the divisor must have an inverse modulo m": (": {} modulo {}", f"{NUMBER}(y.reducer.residue(y.form)), {NUMBER}(y.reducer.modulus())"),
+    "the lists must have the same length": (": {} and {}", "xs.len(), ys.len()"),
+    "the length must be a power of two": (": {}", "xs.len()"),
+    "g must suit the length": (": n = {}, m = {}, g = {}", f"xs.len(), {NUMBER}(r.modulus()), {NUMBER}(r.residue(*g))"),
+    "g must be below m": (": {} and {}", f"{NUMBER}(g), {NUMBER}(m.modulus)"),
+    "g must suit n entries, n being a power of two": (": n = {}, m = {}, g = {}", f"2 * table.len(), {NUMBER}(m.modulus), {NUMBER}(g)"),
+    "there must be room for one residue a modulus": (": {} and {}", "residues.len(), moduli.len()"),
+}
+SHOWN_BY_LOOK = {SPLITS[1]: FACTORS_SHOWN, "convolves(xs.len(), table.len(), b, last)": FACTORS_SHOWN}
 FOUND = set()
+TRACKED, TRACKED_IN_DEBUG = "#[track_caller]", "#[cfg_attr(debug_assertions, track_caller)]"
+BETWEEN = (
+    (TRACKED, r"modular_reduced/reduced_int/.*\.Div(Assign)?\.\w+|modular_prim/residues\.\.reduced_unless"),
+    (TRACKED_IN_DEBUG, r"modular_reduced/reduced_int/.*\.(Add|Sub|Mul)(Assign)?\.\w+"),
+    (TRACKED, r"modular_prim/exact\.DivExact(Assign)?\.\w+|modular_prim/exact\.\.assign_exact"),
+    (TRACKED_IN_DEBUG, r"modular_(barrett|monty)/.*\.DivExact(Assign)?\.\w+"),
+)
 # Whose condition is tested by what they call: the kinds of the parts, and the names of a file's functions or of a trait's.
 TESTED_BELOW = (
     ((EVERY,), r"(Modular(Core|Unary|Ref)Ops|ModularPow|ModularAbs|PlainWord)\.\w+"),
     ((EVERY,), r"modular_prim/(residues|euclid|power|counted/\w+)\.\w+|modular_prim/abs\.signed_residue"),
     ((EVERY,), r"[\w/]+\.(new|of|keep)|modular_(folds|monty)/\w+\.(fixed_modulus|reduce_single|reduce_double|reduce_counted)"),
-    ((EVERY, DEBUG, DEBUG), r"modular_transform/transform\.ntt"),
-    ((DEBUG,), r"modular_barrett/exact\.exact_quotient|modular_plan_transforms/(transform|convolution)\.\w+"),
+    ((EVERY, DEBUG, EVERY), r"modular_transform/transform\.ntt"),
+    ((DEBUG, EVERY, DEBUG), r"modular_plan_transforms/transform\.ntt_planned"),
+    ((EVERY,), r"modular_plan_transforms/convolution\.\w+"),
+    ((DEBUG,), r"modular_barrett/exact\.exact_quotient"),
 )
 VERBS = {"is": "be", "are": "be", "has": "have", "have": "have", "suits": "suit", "fits": "fit", "admits": "admit", "takes": "take", "holds": "hold"}
 
@@ -169,11 +199,15 @@ def say(tokens, it, words):
     for count, at in reversed(list(enumerate(found))):
         own = parts[count] if len(parts) == len(found) else parts[-1] if tokens[at].text == "unreachable" else "; ".join(parts)
         closed = beyond(tokens, at + 2) - 1
+        test = "".join(x.text for x in tokens[at + 3 : closed])
+        by_look = (it for look, it in SHOWN_BY_LOOK.items() if look.replace(" ", "") == test)
+        end, shown = next(by_look, SHOWN.get(own, ("", "")))
+        message = f'"{own}{end}"' + f", {shown}" * bool(shown)
         if tokens[at].text == "unreachable":
             tokens[at].text = "panic"
-            tokens[closed:closed] = lexed(f'"{own}"')
+            tokens[closed:closed] = lexed(message)
         else:
-            tokens[closed:closed] = lexed(f', "{own}"')
+            tokens[closed:closed] = lexed(f", {message}")
         COUNT["message put in"] += 1
 
 
@@ -184,7 +218,8 @@ def put_looks(tokens, it, file):
     FOUND.add((file, tokens[it.at + 1].text))
     for macro, test in reversed(LOOKS.get((file, tokens[it.at + 1].text), ())):
         lead = tokens[it.body + 1].lead
-        tokens[it.body + 1 : it.body + 1] = lexed(f"{lead}{macro}!({test});")
+        look = f"if {test} {{{lead}    return;{lead}}}" if macro == RETURN else f"{macro}!({test});"
+        tokens[it.body + 1 : it.body + 1] = lexed(lead + look)
         COUNT[f"{macro}! of a condition put in"] += 1
 
 
@@ -256,9 +291,26 @@ def tests_itself(tokens, it):
     return EVERY in kinds or any(call in body for call in MADE_BY.get(tokens[it.at + 1].text, ()))
 
 
+def mark_callers(tokens, it, parts):
+    """A panic names the place of the call."""
+    every, debug, _ = parts
+    if every or debug:
+        put_attribute(tokens, beginning(tokens, it.at), TRACKED if every else TRACKED_IN_DEBUG)
+
+
+def mark_between(tokens, file):
+    """What stands between a call and the function that tests its condition."""
+    for it in functions(tokens):
+        name = f"{file}.{it.trait}.{tokens[it.at + 1].text}"
+        attribute = next((attribute for attribute, pattern in BETWEEN if re.fullmatch(pattern, name)), None)
+        if attribute and tokens[it.body].text != ";":
+            put_attribute(tokens, beginning(tokens, it.at), attribute)
+
+
 def state_conditions(tokens, file, traits):
     """Messages, tests and docs of the conditions of a file; what is lacking is returned."""
     lacking = []
+    mark_between(tokens, file)
     for it in [] if file.endswith("/tests") else functions(tokens):
         first, name = first_of(tokens, it.at), tokens[it.at + 1].text
         words = condition(tokens[first].lead) or traits.get((it.trait, name))
@@ -277,4 +329,5 @@ def state_conditions(tokens, file, traits):
             say_in_docs(tokens, first, parts)
         if asked and is_public(tokens, it) and not it.declared and makes(tokens, it.at) and not tests_itself(tokens, it):
             lacking.append(f"{file}.rt: {name} makes a value, and doesn't test its condition with `prove!`")
+        mark_callers(tokens, it, parts)
     return lacking

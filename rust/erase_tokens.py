@@ -3,7 +3,7 @@ import re
 from collections import Counter
 from dataclasses import dataclass
 
-ATTRIBUTES = {"derive", "cfg", "allow", "inline", "test", "must_use", "track_caller", "doc", "repr", "unsafe"}
+ATTRIBUTES = {"derive", "cfg", "allow", "inline", "test", "must_use", "track_caller", "cfg_attr", "repr", "unsafe"}
 TOKEN = re.compile(
     r"""(?P<space>\s+)|(?P<comment>//[^\n]*)
     |(?P<text>b?r(?P<marks>\#*)".*?"(?P=marks)|[bc]?"(?:\\.|[^"\\])*"|b?'(?:\\(?:u\{[^}]*\}|x..|.)|[^'\\])')
@@ -128,6 +128,15 @@ def read(text):
 def lexed(text):
     """The tokens of a text that is put in."""
     return read(text)[:-1]
+
+
+def put_attribute(tokens, at, attribute):
+    """Puts an attribute on a line of its own between the comments at `at` and what stands there."""
+    lead = tokens[at].lead
+    tokens[at].lead = "\n" + lead[len(lead.rstrip(" ")) :]
+    tokens[at:at] = lexed(attribute)
+    tokens[at].lead = lead
+    COUNT[f"{attribute} put in"] += 1
 
 
 # ------------------------------------------------------------------------------------------------ finding

@@ -1,21 +1,42 @@
 //! Calls outside their conditions, which the checker refuses and rustc doesn't: each cell of the table in README.md, with the
-//! words of the panic. docs/DIFFERENCES.md compares some of these with the Rust crate.
+//! words of the panic, whose place is the call. docs/DIFFERENCES.md compares some of these with the Rust crate.
 
 #![allow(unstable_name_collisions)]
 
 use num_modular::applications::ring_codes;
-use num_modular::plans::{convolve_block, convolve_planned, join, ntt_planned, plan, split, Factor, PlannedModulus};
+use num_modular::plans::{
+    convolve_block, convolve_negacyclic, convolve_planned, join, ntt_planned, plan, split, Factor, PlannedModulus,
+};
 use num_modular::residues;
-use num_modular::ring::{convolve, ntt, ntt_counted, run, RingCommand, RunEnd};
+use num_modular::ring::{convolve, find_root, ntt, ntt_counted, run, RingCommand, RunEnd};
 use num_modular::{
     DivExact, FixedMersenne, FixedMersenne32, FixedMersenne64, FixedMontgomery32, FixedProth32, FixedTrinomialSolinas32,
     ModularAbs, ModularCoreOps, ModularPow, ModularRefOps, ModularSymbols, ModularUnaryOps, Montgomery, MontgomeryInt,
     Normalized2by1Divisor, PreModInv, PreMulInv1by1, PreMulInv2by1, Reducer, Vanilla, VanillaInt,
 };
-use std::panic::catch_unwind;
+use std::cell::RefCell;
+use std::panic::{catch_unwind, set_hook};
+use std::sync::Once;
+
+thread_local! {
+    /// The file that the last panic of this thread names.
+    static PLACE: RefCell<String> = RefCell::default();
+}
+static HOOK: Once = Once::new();
+
+/// That file.
+fn place() -> String {
+    PLACE.with(|it| it.borrow().clone())
+}
 
 /// What a call panics with; `Err` has what it returns where it doesn't.
 fn message<T>(call: impl FnOnce() -> T + std::panic::UnwindSafe) -> Result<String, T> {
+    HOOK.call_once(|| {
+        set_hook(Box::new(|it| {
+            PLACE.with(|place| *place.borrow_mut() = it.location().map_or("", |it| it.file()).to_string());
+            println!("{it}");
+        }));
+    });
     match catch_unwind(call) {
         Ok(answer) => Err(answer),
         Err(words) => Ok(match words.downcast_ref::<String>() {
@@ -29,6 +50,7 @@ fn message<T>(call: impl FnOnce() -> T + std::panic::UnwindSafe) -> Result<Strin
 macro_rules! panic_with {
     ($words:expr; $($call:expr),* $(,)?) => {$(
         assert_eq!(message(|| { let _ = $call; }), Ok($words.to_string()), "{}", stringify!($call));
+        assert_eq!(place(), file!(), "{}", stringify!($call));
     )*};
 }
 
@@ -37,16 +59,22 @@ macro_rules! panic_in_debug_with {
     ($words:expr; $($call:expr => $answer:expr),+ $(,)?) => {$(
         let wanted = if cfg!(debug_assertions) { Ok($words.to_string()) } else { Err($answer) };
         assert_eq!(message(|| $call), wanted, "{}", stringify!($call));
+        if cfg!(debug_assertions) {
+            assert_eq!(place(), file!(), "{}", stringify!($call));
+        }
     )*};
     ($words:expr; $($call:expr),+ $(,)?) => {$(
         let wanted = if cfg!(debug_assertions) { Some($words.to_string()) } else { None };
         assert_eq!(message(|| $call).ok(), wanted, "{}", stringify!($call));
+        if cfg!(debug_assertions) {
+            assert_eq!(place(), file!(), "{}", stringify!($call));
+        }
     )*};
 }
 
 const MODULUS: &str = "the modulus must be at least 1";
 const DIVISOR: &str = "the divisor must be at least 1";
-const MODULI: &str = "the moduli must be equal";
+const MODULI: &str = "the moduli must be equal: 21 and 22";
 const RANGE: &str = "the parameters must be in range";
 
 fn int(n: u8, m: u8) -> VanillaInt<u8> {
@@ -61,7 +89,7 @@ fn constructors() {
     let planned = "the modulus must be at least 1 and at most 2^w/4, for words of w bits";
     panic_with!(planned; PlannedModulus::<u64>::new(0), PlannedModulus::<u64>::new(u64::MAX), PlannedModulus::<u8>::new(65));
     panic_with!("the divisor must be odd"; PreModInv::<u8>::from(0), PreModInv::<u8>::from(6));
-    panic_with!("the divisor must be odd"; <u8 as Into<PreModInv<u8>>>::into(6));
+    panic_with!("the divisor must be odd"; <PreModInv<u8> as From<u8>>::from(6));
     panic_with!("the divisor's top bit must be set"; Normalized2by1Divisor::<u8>::new(0), Normalized2by1Divisor::<u8>::new(127));
     panic_with!("the divisor must be above 1"; PreMulInv1by1::<u8>::new(0), PreMulInv1by1::<u8>::new(1));
     panic_with!("there must be at most 68 digits"; ring_codes::iban_code(69));
@@ -105,13 +133,14 @@ fn operations_modulo_0() {
 fn symbols_and_quotients_that_are_not_there() {
     panic_with!("n must be odd and above 0"; 7u8.jacobi(&16), 7u8.jacobi(&0), 7i8.jacobi(&-3));
     panic_with!("`checked_legendre` must be `Some`, as it is for each odd prime n"; 2u8.legendre(&9));
-    panic_with!("the divisor must have an inverse modulo m"; int(10, 21) / int(7, 21));
+    panic_with!("the divisor must have an inverse modulo m: 7 modulo 21"; int(10, 21) / int(7, 21));
 }
 
 #[test]
 fn operators_of_two_moduli() {
     panic_in_debug_with!(MODULI; int(1, 21) + int(1, 22) => int(2, 21), int(1, 21) - int(1, 22) => int(0, 21));
-    panic_in_debug_with!(MODULI; int(1, 21) * int(1, 22) => int(1, 21), int(10, 21) / int(5, 22) => int(6, 21));
+    panic_in_debug_with!(MODULI; int(1, 21) * int(1, 22) => int(1, 21));
+    panic_in_debug_with!("the moduli must be equal: 21 and 22"; int(10, 21) / int(5, 22) => int(6, 21));
 }
 
 #[test]
@@ -128,7 +157,11 @@ fn dividers_of_other_divisors() {
         PreMulInv1by1::<u8>::new(7).div_rem(255, 9),
         35u8.div_exact(9, &PreMulInv1by1::<u8>::new(7)));
     panic_in_debug_with!("the stored inverse must be that of the divisor";
-        35u8.div_exact(5, &PreModInv::<u8>::new(183, 36)));
+        35u8.div_exact(5, &PreModInv::<u8>::new(183, 36)),
+        36u64.div_exact(7, &PreModInv::<u64>::new(7905747460161236407, u64::MAX)),
+        36u128.div_exact(7u64, &PreModInv::<u64>::new(7905747460161236407, u64::MAX)),
+        35u8.div_exact(7, &PreModInv::<u8>::new(183, 35)));
+    assert_eq!(35u8.div_exact(7, &PreModInv::<u8>::new(183, 36)), Some(5));
 }
 
 #[test]
@@ -163,11 +196,11 @@ fn product<const N: usize, const M: usize>(g: u64, xs: [u64; N], ys: [u64; M]) -
 fn transforms() {
     assert_eq!(transform(22, [1, 2, 3, 4]), [10, 51, 95, 42]);
     assert_eq!(product(22, [1, 2, 0, 0], [3, 4, 0, 0]), Some([3, 10, 8, 0]));
-    panic_with!("the length must be a power of two"; transform(22, [1, 1, 1]), transform(22, []));
-    panic_with!("the length must be a power of two"; product(22, [1, 1, 1], [1, 1, 1]));
-    panic_with!("the lists must have the same length"; product(22, [1, 2, 3, 4], [1, 2]), product(22, [1, 2], [1, 2, 3, 4]));
-    panic_in_debug_with!("g must suit the length"; transform(5, [1, 2, 3, 4]));
-    panic_in_debug_with!("g must suit the length"; product(5, [1, 2, 0, 0], [3, 4, 0, 0]));
+    panic_with!("the length must be a power of two: 3"; transform(22, [1, 1, 1]), product(22, [1, 1, 1], [1, 1, 1]));
+    panic_with!("the length must be a power of two: 0"; transform(22, []));
+    panic_with!("the lists must have the same length: 4 and 2"; product(22, [1, 2, 3, 4], [1, 2]));
+    panic_with!("the lists must have the same length: 2 and 4"; product(22, [1, 2], [1, 2, 3, 4]));
+    panic_with!("g must suit the length: n = 4, m = 97, g = 5"; transform(5, [1, 2, 3, 4]), product(5, [1, 2, 0, 0], [3, 4, 0, 0]));
     let ring = Vanilla::<u64>::new(&97);
     panic_in_debug_with!("g and the entries must be checked forms"; ntt_counted(&ring, &mut [1000, 0], &96));
 }
@@ -188,33 +221,82 @@ fn planned_transform<const N: usize>(entries: [u64; N]) -> [u64; N] {
     xs
 }
 
+/// The plan modulo 97 by g.
+fn table<const N: usize>(g: u64) -> [u64; N] {
+    let mut table = [Factor::<u64>::ZERO; N];
+    plan(&PlannedModulus::<u64>::new(97), g, &mut table);
+    table.map(|it| it.value())
+}
+
 #[test]
 fn plans() {
     let modulus = PlannedModulus::<u64>::new(97);
-    let values = |g, mut table: [Factor<u64>; 2]| {
-        plan(&modulus, g, &mut table);
-        table.map(|it| it.value())
-    };
-    let zeros = [Factor::<u64>::ZERO; 2];
-    panic_in_debug_with!("g must suit n entries, n being a power of two"; values(5, zeros));
-    panic_in_debug_with!("g must be below m"; values(200, zeros));
+    panic_with!("g must suit n entries, n being a power of two: n = 4, m = 97, g = 5"; table::<2>(5));
+    panic_with!("g must suit n entries, n being a power of two: n = 6, m = 97, g = 22"; table::<3>(22));
+    panic_with!("g must be below m: 200 and 97"; table::<2>(200));
+    let ring = Montgomery::<u64>::new(97);
+    let form = find_root(&ring, 4).unwrap();
+    assert_ne!(form, ring.residue(form));
+    panic_with!(format!("g must suit n entries, n being a power of two: n = 4, m = 97, g = {form}"); table::<2>(form));
+    assert_eq!(table::<2>(ring.residue(form)), [1, ring.residue(form)]);
     panic_in_debug_with!("w must be below m"; modulus.factor(97));
+}
+
+#[test]
+fn plans_of_one_entry() {
+    assert_eq!(table::<0>(96), []);
+    let modulus = PlannedModulus::<u64>::new(97);
+    let mut xs = [98];
+    ntt_planned(&modulus, &mut xs, &[] as &[Factor<u64>]);
+    assert_eq!(xs, [1]);
+}
+
+#[test]
+fn transforms_by_plans() {
+    let (modulus, table) = planned();
     assert_eq!(planned_transform([1, 2, 3, 4]), [10, 51, 95, 42]);
-    panic_in_debug_with!("the entries must be below 4m"; planned_transform([1, 2, 3, 4000]));
-    assert!(message(|| planned_transform([1, 2, 3])).is_ok());
-    assert!(message(|| planned_transform([1, 2, 3, 4, 5, 6, 7, 8])).is_ok());
+    panic_in_debug_with!("the entries must be below 4m"; planned_transform([1, 2, 3, 400]));
+    let words = message(|| planned_transform([4000, 2, 3, 4])).unwrap_or_default();
+    assert_eq!(words, "the entries must be below 4m");
+    let lengths = "the number of entries must be `last` times a power of two, and the table must have";
+    let split_lengths = format!("{lengths} at least (b + 1)·(count/2) entries");
+    panic_with!(format!("{split_lengths}: 3 entries, 2 factors, b = 0, last = 1"); planned_transform([1, 2, 3]));
+    panic_with!(format!("{split_lengths}: 8 entries, 2 factors, b = 0, last = 1"); planned_transform([1, 2, 3, 4, 5, 6, 7, 8]));
+    panic_with!(format!("{split_lengths}: 4 entries, 2 factors, b = 1, last = 1"); split(&modulus, &mut [1, 2, 3, 4], &table, 1, 1));
+    panic_with!(format!("{lengths} (b + 1)·count/2 entries or more: 4 entries, 1 factors, b = 0, last = 1");
+        join(&modulus, &mut [1, 2, 3, 4], &table[..1], 0, 1));
     let other = PlannedModulus::<u64>::new(89);
-    let table = planned().1;
-    let split_by_another = || {
-        let mut xs = [1, 2, 3, 4];
-        split(&other, &mut xs, &table, 0, 1);
-    };
-    panic_in_debug_with!("the table's entries must be factors modulo m"; split_by_another());
-    let lengths = "the number of entries must be `last` times a power of two, and the table must have (b + 1)·count/2 entries or more";
-    if cfg!(debug_assertions) {
-        panic_with!(lengths; join(&planned().0, &mut [1, 2, 3, 4], &planned().1[..1], 0, 1));
-    }
-    panic_in_debug_with!("the lists must have the same length";
-        convolve_planned(&planned().0, &mut [1, 2], &mut [1, 2, 3, 4], &planned().1, 1));
-    assert!(message(|| convolve_block(&planned().0, &mut [1, 2, 3, 4], &mut [1, 2, 3, 4], &planned().1, 0, 0)).is_ok());
+    panic_in_debug_with!("the table's entries must be factors modulo m"; split(&other, &mut [1, 2, 3, 4], &table, 0, 1));
+    // the entries that the call doesn't use aren't tested
+    let mut longer = [Factor::<u64>::ZERO; 4];
+    longer[..2].copy_from_slice(&table);
+    longer[2] = other.factor(88);
+    let mut xs = [1, 2, 3, 4];
+    ntt_planned(&modulus, &mut xs, &longer);
+    assert_eq!(xs, [10, 51, 95, 42]);
+}
+
+#[test]
+fn products_by_plans() {
+    let (modulus, table) = planned();
+    panic_with!("the lists must have the same length: 2 and 4"; convolve_planned(&modulus, &mut [1, 2], &mut [1, 2, 3, 4], &table, 1));
+    let lengths = "`last` must be 1 or 2, the length is `last` times a power of two, and the table must have (b + 1)·n/last/2 entries or more";
+    panic_with!(format!("{lengths}: 4 entries, 2 factors, b = 0, last = 4");
+        convolve_planned(&modulus, &mut [1, 2, 3, 4], &mut [1, 2, 3, 4], &table, 4));
+    panic_with!(format!("{lengths}: 4 entries, 2 factors, b = 0, last = 0");
+        convolve_block(&modulus, &mut [1, 2, 3, 4], &mut [1, 2, 3, 4], &table, 0, 0));
+    panic_with!(format!("{lengths}: 4 entries, 2 factors, b = 1, last = 1");
+        convolve_negacyclic(&modulus, &mut [1, 2, 3, 4], &mut [1, 2, 3, 4], &table, 1));
+}
+
+#[test]
+fn residues_of_systems() {
+    panic_with!("each must have a residue below it"; residues::decode(&[3, 5], &[4, 2]), residues::decode(&[3, 5], &[1, 5]));
+    panic_with!("each must have a residue below it"; residues::decode(&[3, 5], &[1]));
+    panic_with!("the moduli must be a system"; residues::decode(&[3, 0], &[1, 0]), residues::decode(&[u64::MAX; 3], &[1; 3]));
+    let words = message(|| residues::decode(&[6, 9], &[1, 2])).unwrap_or_default();
+    let wanted = ["the divisor must have an inverse modulo m: 6 modulo 9", "the moduli must be a system"];
+    assert_eq!(words, wanted[usize::from(cfg!(debug_assertions))]);
+    assert_eq!(residues::decode(&[3, 5], &[1, 2]), 7);
+    panic_with!("there must be room for one residue a modulus: 1 and 2"; residues::encode(&[3, 5], 7, &mut [0]));
 }
