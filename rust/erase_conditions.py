@@ -240,18 +240,31 @@ def how_tested(tokens, it, file, words):
     return [[part for part, other in zip(parts, kinds) if other == kind] for kind in (EVERY, DEBUG, "")]
 
 
+def joined_parts(parts):
+    """Parts of a condition as one: the condition of another call is named, and no part begins with "and" twice."""
+    found = [re.sub(r"^and ", "", it) for it in parts]
+    found = [re.sub(r"^those of (.+)$", r"the conditions of \1 hold", it) for it in found]
+    return ", and ".join(found)
+
+
+def begun(words):
+    """Words as the beginning of a sentence: the name of a variable stays as it is."""
+    return words if re.match(r"(?:[a-z]|xs|ys|zs)(?: and| is|,| are|\W)", words) else words[0].upper() + words[1:]
+
+
 def sections(every, debug, none):
     """The lines of the docs that say what a call does outside its condition."""
     if every or debug:
-        said = f"Panics unless {', and '.join(every)}." if every else ""
+        said = f"Panics unless {joined_parts(every)}." if every else ""
         also = " also" if every else ""
         if debug:
-            said += f" A debug build{also} panics unless {', and '.join(debug)}."
+            said += f" A debug build{also} panics unless {joined_parts(debug)}."
             said += " A release build doesn't test that, and outside it panics, or returns no meaningful result."
         yield from ("", "# Panics", "", *textwrap.wrap(said.strip(), WIDTH))
     if none:
+        none = [it.replace(", and and ", ", and ") for it in none]
         said = f"{'; '.join(none)}. This isn't tested: outside it the call panics, or returns no meaningful result."
-        yield from ("", "# Preconditions", "", *textwrap.wrap(said[0].upper() + said[1:], WIDTH))
+        yield from ("", "# Preconditions", "", *textwrap.wrap(begun(said), WIDTH))
 
 
 def say_in_docs(tokens, first, parts):

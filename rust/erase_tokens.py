@@ -3,7 +3,7 @@ import re
 from collections import Counter
 from dataclasses import dataclass
 
-ATTRIBUTES = {"derive", "cfg", "allow", "inline", "test", "must_use", "track_caller", "cfg_attr", "repr", "unsafe"}
+ATTRIBUTES = {"derive", "cfg", "cfg_attr", "allow", "inline", "test", "must_use", "track_caller", "doc", "repr", "unsafe"}
 TOKEN = re.compile(
     r"""(?P<space>\s+)|(?P<comment>//[^\n]*)
     |(?P<text>b?r(?P<marks>\#*)".*?"(?P=marks)|[bc]?"(?:\\.|[^"\\])*"|b?'(?:\\(?:u\{[^}]*\}|x..|.)|[^'\\])')

@@ -1,0 +1,194 @@
+//! The traits of core that people expect of integers, errors and reducers. Written by hand, and so not proved; all
+//! computations here call proved functions.
+
+use crate::applications::ring_codes::erasure::{RestoreError, ShareError};
+use crate::{ModularInteger, ReducedInt, Reducer, RingWord};
+use core::fmt;
+use core::hash::{Hash, Hasher};
+use core::iter::{Product, Sum};
+use core::ops::DivAssign;
+
+impl<T: RingWord + fmt::Display, R: Reducer<T> + Copy> fmt::Display for ReducedInt<T, R> {
+    /// The residue.
+    fn fmt(&self, f: &mut fmt::Formatter) -> fmt::Result {
+        self.residue().fmt(f)
+    }
+}
+
+impl<T: RingWord + fmt::Debug, R: Reducer<T> + Copy> fmt::Debug for ReducedInt<T, R> {
+    /// The residue and the modulus.
+    fn fmt(&self, f: &mut fmt::Formatter) -> fmt::Result {
+        write!(f, "{:?} (mod {:?})", self.residue(), self.modulus())
+    }
+}
+
+// In other bases the residue is written, as `Display` writes it.
+macro_rules! bases {
+    ($($base:ident)*) => {$(
+        impl<T: RingWord + fmt::$base, R: Reducer<T> + Copy> fmt::$base for ReducedInt<T, R> {
+            /// The residue.
+            fn fmt(&self, f: &mut fmt::Formatter) -> fmt::Result {
+                fmt::$base::fmt(&self.residue(), f)
+            }
+        }
+    )*};
+}
+
+bases!(LowerHex UpperHex Octal Binary);
+
+impl<T: RingWord, R: Reducer<T> + Copy> Eq for ReducedInt<T, R> {}
+
+impl<T: RingWord + Hash, R: Reducer<T> + Copy> Hash for ReducedInt<T, R> {
+    /// Equal integers, which have equal residues and moduli, hash equally.
+    fn hash<H: Hasher>(&self, state: &mut H) {
+        self.residue().hash(state);
+        self.modulus().hash(state);
+    }
+}
+
+impl<T: RingWord, R: Reducer<T> + Copy> DivAssign for ReducedInt<T, R> {
+    #[track_caller]
+    fn div_assign(&mut self, rhs: Self) {
+        *self = &*self / &rhs;
+    }
+}
+
+impl<T: RingWord, R: Reducer<T> + Copy> DivAssign<&Self> for ReducedInt<T, R> {
+    #[track_caller]
+    fn div_assign(&mut self, rhs: &Self) {
+        *self = &*self / rhs;
+    }
+}
+
+impl fmt::Display for RestoreError {
+    fn fmt(&self, f: &mut fmt::Formatter) -> fmt::Result {
+        f.write_str(match self {
+            RestoreError::TooFewSymbols => "there are fewer symbols than the message has",
+            RestoreError::PlaceOutOfRange => "a place isn't below the number of points",
+            RestoreError::PlaceTwice => "a place occurs twice",
+            RestoreError::PointsDontFit => "the difference of two points has no inverse",
+        })
+    }
+}
+
+impl fmt::Display for ShareError {
+    fn fmt(&self, f: &mut fmt::Formatter) -> fmt::Result {
+        f.write_str(match self {
+            ShareError::PointZero => "a point is 0, where the share would be the secret",
+        })
+    }
+}
+
+#[cfg(feature = "std")]
+extern crate std;
+
+#[cfg(feature = "std")]
+impl std::error::Error for RestoreError {}
+
+#[cfg(feature = "std")]
+impl std::error::Error for ShareError {}
+
+// Sums and products of any number of integers. The empty ones need a modulus that the type knows.
+macro_rules! sums {
+    ($($integer:ident<$(const $parameter:ident: $kind:ty),*> over $ring:ident;)*) => {$(
+        impl<$(const $parameter: $kind),*> Sum for crate::$integer<$($parameter),*> {
+            fn sum<I: Iterator<Item = Self>>(items: I) -> Self {
+                let zero = Self::new(0, &crate::$ring::<$($parameter),*>::fixed_modulus());
+                items.fold(zero, |sum, it| sum + it)
+            }
+        }
+
+        impl<'a, $(const $parameter: $kind),*> Sum<&'a Self> for crate::$integer<$($parameter),*> {
+            fn sum<I: Iterator<Item = &'a Self>>(items: I) -> Self {
+                items.copied().sum()
+            }
+        }
+
+        impl<$(const $parameter: $kind),*> Product for crate::$integer<$($parameter),*> {
+            fn product<I: Iterator<Item = Self>>(items: I) -> Self {
+                let one = Self::new(1, &crate::$ring::<$($parameter),*>::fixed_modulus());
+                items.fold(one, |product, it| product * it)
+            }
+        }
+
+        impl<'a, $(const $parameter: $kind),*> Product<&'a Self> for crate::$integer<$($parameter),*> {
+            fn product<I: Iterator<Item = &'a Self>>(items: I) -> Self {
+                items.copied().product()
+            }
+        }
+    )*};
+}
+
+sums! {
+    FixedMontgomeryInt32<const P: u32> over FixedMontgomery32;
+    FixedMontgomeryInt64<const P: u64> over FixedMontgomery64;
+    FixedProthInt32<const N: u8, const K: u8> over FixedProth32;
+    FixedProthInt64<const N: u8, const K: u8> over FixedProth64;
+    FixedMersenneInt32<const P: u8, const K: u32> over FixedMersenne32;
+    FixedMersenneInt64<const P: u8, const K: u64> over FixedMersenne64;
+    FixedMersenneInt<const P: u8, const K: u64> over FixedMersenne;
+    FixedSolinasInt32<const P1: u8, const P2: u8, const K: i32> over FixedTrinomialSolinas32;
+    FixedSolinasInt64<const P1: u8, const P2: u8, const K: i64> over FixedTrinomialSolinas64;
+}
+
+#[cfg(test)]
+mod tests {
+    extern crate std;
+    use crate::applications::ring_codes::erasure::{RestoreError, ShareError};
+    use crate::*;
+    use std::collections::HashSet;
+    use std::string::ToString;
+
+    #[test]
+    fn integers_are_written() {
+        let x = MontgomeryInt::<u64>::new(107, &97);
+        assert_eq!(std::format!("{x} {x:>4} {x:?}"), "10   10 10 (mod 97)");
+        fn has_equality<T: Eq>(_: T) {}
+        has_equality(x);
+    }
+
+    #[test]
+    fn sums_and_products_of_integers_of_one_type() {
+        type Int = FixedMersenneInt32<31, 1>;
+        let all = [2147483646u32, 2, 3].map(|n| Int::new(n, &FixedMersenne32::<31, 1>::MODULUS));
+        assert_eq!((all.iter().sum::<Int>().residue(), all.iter().product::<Int>().residue()), (4, 2147483641));
+        assert_eq!((all[..0].iter().sum::<Int>().residue(), all[..0].iter().product::<Int>().residue()), (0, 1));
+    }
+
+    #[test]
+    fn integers_are_written_in_other_bases() {
+        let x = MontgomeryInt::<u64>::new(107, &197);
+        assert_eq!(std::format!("{x:x} {x:#X} {x:o} {x:#010b}"), "6b 0x6B 153 0b01101011");
+    }
+
+    #[test]
+    fn equal_integers_hash_equally() {
+        let x = MontgomeryInt::<u64>::new(107, &97);
+        let all: HashSet<_> = [x, x.convert(10), x.convert(11), MontgomeryInt::<u64>::new(10, &101)].into_iter().collect();
+        assert_eq!((all.len(), all.contains(&x.convert(204))), (3, true));
+    }
+
+    #[test]
+    fn integers_are_divided_in_place() {
+        let mut x = VanillaInt::<u8>::new(10, &21);
+        x /= x.convert(5);
+        assert_eq!(x.residue(), 2);
+        x /= &x.convert(4);
+        assert_eq!(x.residue(), 11);
+    }
+
+    #[test]
+    fn errors_are_written() {
+        assert_eq!(RestoreError::PlaceTwice.to_string(), "a place occurs twice");
+        assert_eq!(ShareError::PointZero.to_string(), "a point is 0, where the share would be the secret");
+        #[cfg(feature = "std")]
+        let _errors: [std::boxed::Box<dyn std::error::Error>; 2] = [RestoreError::PlaceTwice.into(), ShareError::PointZero.into()];
+    }
+
+    #[test]
+    fn a_table_of_an_inferred_word() {
+        let mut table = std::vec![plans::Factor::ZERO; 2];
+        plans::plan(&plans::PlannedModulus::<u64>::new(97), 22, &mut table);
+        assert_eq!(table[1].value(), 22);
+    }
+}
