@@ -61,3 +61,17 @@ fn symbols_of_any_number() {
     let numbers: [&dyn for<'a> ModularSymbols<&'a u64>; 2] = [&2u64, &7u64];
     assert_eq!(numbers.map(|x| x.jacobi(&15)), [1, -1]);
 }
+
+#[test]
+fn code_for_the_original_with_its_replacements() {
+    fn square<T: num_modular::RingWord, R: Reducer<T>>(ring: &R, a: &T) -> T {
+        ring.residue(ring.sqr(ring.transform(*a)))
+    }
+    fn sum<T: num_modular::ModularRefOps>(a: T, b: T, m: &T) -> T {
+        a.addm_ref(&b, m)
+    }
+    fn double<T: num_modular::RingWord, R: Reducer<T> + Copy>(x: ReducedInt<T, R>) -> T {
+        (x + x).residue()
+    }
+    assert_eq!((square(&FixedMersenne64::<61, 1>::RING, &3), sum(3u8, 4, &5), double(VanillaInt::<u8>::new(4, &7))), (9, 2, 1));
+}

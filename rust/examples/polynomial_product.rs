@@ -1,0 +1,29 @@
+//! The product of two polynomials modulo the prime 119·2^23 + 1, by a plan: one table serves both transforms.
+
+use num_modular::plans::{convolve_planned, plan, Factor, PlannedModulus};
+use num_modular::ring::find_root;
+use num_modular::{Reducer, Vanilla};
+
+const PRIME: u32 = 998244353;
+
+fn product(x: &[u32], y: &[u32]) -> Vec<u32> {
+    let places = x.len() + y.len() - 1;
+    let n = places.next_power_of_two().max(2);
+    let root = find_root(&Vanilla::<u32>::new(&PRIME), n).expect("n divides the prime less 1");
+    let modulus = PlannedModulus::<u32>::new(PRIME);
+    let mut table = vec![Factor::ZERO; n / 2];
+    plan(&modulus, root, &mut table);
+    let (mut xs, mut ys) = (x.to_vec(), y.to_vec());
+    xs.resize(n, 0);
+    ys.resize(n, 0);
+    assert!(convolve_planned(&modulus, &mut xs, &mut ys, &table, 1));
+    xs.truncate(places);
+    xs
+}
+
+fn main() {
+    // (1 + 2X + 3X²)(4 + 5X), and (X - 1)(X + 1)
+    assert_eq!(product(&[1, 2, 3], &[4, 5]), [4, 13, 22, 15]);
+    assert_eq!(product(&[PRIME - 1, 1], &[1, 1]), [PRIME - 1, 0, 1]);
+    println!("(1 + X)^2 has the coefficients {:?}", product(&[1, 1], &[1, 1]));
+}
