@@ -74,7 +74,6 @@ FACTORS_SHOWN = (": {} entries, {} factors, b = {}, last = {}", "xs.len(), table
 NUMBER = "crate::additions::number"
 SHOWN = {
     "the moduli must be equal": (": {} and {}", f"{NUMBER}(x.reducer.modulus()), {NUMBER}(y.reducer.modulus())"),
-    "the divisor must have an inverse modulo m": (": {} modulo {}", f"{NUMBER}(y.reducer.residue(y.form)), {NUMBER}(y.reducer.modulus())"),
     "the lists must have the same length": (": {} and {}", "xs.len(), ys.len()"),
     "the length must be a power of two": (": {}", "xs.len()"),
     "g must suit the length": (": n = {}, m = {}, g = {}", f"xs.len(), {NUMBER}(r.modulus()), {NUMBER}(r.residue(*g))"),
@@ -85,10 +84,10 @@ SHOWN = {
 SHOWN_BY_LOOK = {SPLITS[1]: FACTORS_SHOWN, "convolves(xs.len(), table.len(), b, last)": FACTORS_SHOWN}
 FOUND = set()
 TRACKED, TRACKED_IN_DEBUG = "#[track_caller]", "#[cfg_attr(debug_assertions, track_caller)]"
+SHORT = ("modular_word/", "modular_prim/", "modular_symbols/reference_operations", "modular_reduced/reduced_int/operations")
 BETWEEN = (
-    (TRACKED, r"modular_reduced/reduced_int/.*\.Div(Assign)?\.\w+|modular_prim/residues\.\.reduced_unless"),
-    (TRACKED_IN_DEBUG, r"modular_reduced/reduced_int/.*\.(Add|Sub|Mul)(Assign)?\.\w+"),
-    (TRACKED, r"modular_prim/exact\.DivExact(Assign)?\.\w+|modular_prim/exact\.\.assign_exact"),
+    (TRACKED_IN_DEBUG, r"modular_reduced/reduced_int/.*\.(Add|Sub|Mul|Div)(Assign)?\.\w+|modular_prim/residues\.\.reduced_unless"),
+    (TRACKED_IN_DEBUG, r"modular_prim/exact\.DivExact(Assign)?\.\w+|modular_prim/exact\.\.assign_exact"),
     (TRACKED_IN_DEBUG, r"modular_(barrett|monty)/.*\.DivExact(Assign)?\.\w+"),
 )
 # Whose condition is tested by what they call: the kinds of the parts, and the names of a file's functions or of a trait's.
@@ -304,11 +303,12 @@ def tests_itself(tokens, it):
     return EVERY in kinds or any(call in body for call in MADE_BY.get(tokens[it.at + 1].text, ()))
 
 
-def mark_callers(tokens, it, parts):
-    """A panic names the place of the call."""
+def mark_callers(tokens, it, file, parts):
+    """A panic names the place of the call; in a release build not where a call costs little more than its test."""
     every, debug, _ = parts
     if every or debug:
-        put_attribute(tokens, beginning(tokens, it.at), TRACKED if every else TRACKED_IN_DEBUG)
+        is_short = not every or file.startswith(SHORT)
+        put_attribute(tokens, beginning(tokens, it.at), TRACKED_IN_DEBUG if is_short else TRACKED)
 
 
 def mark_between(tokens, file):
@@ -342,5 +342,5 @@ def state_conditions(tokens, file, traits):
             say_in_docs(tokens, first, parts)
         if asked and is_public(tokens, it) and not it.declared and makes(tokens, it.at) and not tests_itself(tokens, it):
             lacking.append(f"{file}.rt: {name} makes a value, and doesn't test its condition with `prove!`")
-        mark_callers(tokens, it, parts)
+        mark_callers(tokens, it, file, parts)
     return lacking

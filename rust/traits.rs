@@ -47,14 +47,14 @@ impl<T: RingWord + Hash, R: Reducer<T> + Copy> Hash for ReducedInt<T, R> {
 }
 
 impl<T: RingWord, R: Reducer<T> + Copy> DivAssign for ReducedInt<T, R> {
-    #[track_caller]
+    #[cfg_attr(debug_assertions, track_caller)]
     fn div_assign(&mut self, rhs: Self) {
         *self = &*self / &rhs;
     }
 }
 
 impl<T: RingWord, R: Reducer<T> + Copy> DivAssign<&Self> for ReducedInt<T, R> {
-    #[track_caller]
+    #[cfg_attr(debug_assertions, track_caller)]
     fn div_assign(&mut self, rhs: &Self) {
         *self = &*self / rhs;
     }

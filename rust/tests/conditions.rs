@@ -46,11 +46,11 @@ fn message<T>(call: impl FnOnce() -> T + std::panic::UnwindSafe) -> Result<Strin
     }
 }
 
-/// Whether each call panics with these words, in every build.
+/// Whether each call panics with these words, in every build. A release build needn't name the place of a short one.
 macro_rules! panic_with {
     ($words:expr; $($call:expr),* $(,)?) => {$(
         assert_eq!(message(|| { let _ = $call; }), Ok($words.to_string()), "{}", stringify!($call));
-        assert_eq!(place(), file!(), "{}", stringify!($call));
+        assert!(place() == file!() || SHORT.iter().any(|it| *it == $words) && !cfg!(debug_assertions), "{}", stringify!($call));
     )*};
 }
 
@@ -72,6 +72,8 @@ macro_rules! panic_in_debug_with {
     )*};
 }
 
+/// The words of short calls.
+const SHORT: [&str; 3] = [MODULUS, DIVISOR, "the divisor must have an inverse modulo m"];
 const MODULUS: &str = "the modulus must be at least 1";
 const DIVISOR: &str = "the divisor must be at least 1";
 const MODULI: &str = "the moduli must be equal: 21 and 22";
@@ -133,7 +135,7 @@ fn operations_modulo_0() {
 fn symbols_and_quotients_that_are_not_there() {
     panic_with!("n must be odd and above 0"; 7u8.jacobi(&16), 7u8.jacobi(&0), 7i8.jacobi(&-3));
     panic_with!("`checked_legendre` must be `Some`, as it is for each odd prime n"; 2u8.legendre(&9));
-    panic_with!("the divisor must have an inverse modulo m: 7 modulo 21"; int(10, 21) / int(7, 21), { let mut x = int(10, 21); x /= int(7, 21) });
+    panic_with!("the divisor must have an inverse modulo m"; int(10, 21) / int(7, 21), { let mut x = int(10, 21); x /= int(7, 21) });
 }
 
 #[test]
@@ -295,7 +297,7 @@ fn residues_of_systems() {
     panic_with!("each must have a residue below it"; residues::decode(&[3, 5], &[1]));
     panic_with!("the moduli must be a system"; residues::decode(&[3, 0], &[1, 0]), residues::decode(&[u64::MAX; 3], &[1; 3]));
     let words = message(|| residues::decode(&[6, 9], &[1, 2])).unwrap_or_default();
-    let wanted = ["the divisor must have an inverse modulo m: 6 modulo 9", "the moduli must be a system"];
+    let wanted = ["the divisor must have an inverse modulo m", "the moduli must be a system"];
     assert_eq!(words, wanted[usize::from(cfg!(debug_assertions))]);
     assert_eq!(residues::decode(&[3, 5], &[1, 2]), 7);
     panic_with!("there must be room for one residue a modulus: 1 and 2"; residues::encode(&[3, 5], 7, &mut [0]));
