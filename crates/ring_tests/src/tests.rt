@@ -17,6 +17,7 @@ mod integers;
 mod modrun;
 mod plan_callers;
 mod plan_rows;
+mod plan_values;
 mod plans;
 mod products;
 mod questions;
