@@ -25,6 +25,11 @@ IN_ROOM = (DEBUG, "xs.iter().all(|x| m.has_room(*x))")
 SPLITS = (EVERY, "crate::modular_plan_transforms::split::splits(xs.len(), table.len(), b, last)")
 LENGTH = (EVERY, "xs.len().is_power_of_two()")
 QUOTIENT = ((DEBUG, "crate::additions::is_greatest_quotient(d, pre.q_lim)"),)
+PLAN = "modular_plan_transforms/plan"
+PLAN_ROOM = (DEBUG, "xs.iter().all(|x| self.modulus.has_room(*x))")
+PLAN_SPLITS = (EVERY, "self.splits(xs.len(), b, last)")
+PLAN_PAIR_ROOM = (DEBUG, "xs.iter().chain(ys.iter()).all(|x| self.modulus.has_room(*x))")
+EQUAL = (EVERY, "ys.len() == xs.len()")
 DIVISOR = ((EVERY, "d != 0"),)
 LOOKS = {
     ("modular_transform/transform", "ntt_counted"): (
@@ -53,6 +58,15 @@ LOOKS = {
         (DEBUG, "xs.iter().chain(ys.iter()).all(|x| m.has_room(*x))"),
         FACTORS,
     ),
+    **{(PLAN, name): ((EVERY, "self.fits(xs.len())"), PLAN_ROOM) for name in ("transform", "inverse")},
+    **{(PLAN, name): (PLAN_SPLITS, PLAN_ROOM) for name in ("split", "join")},
+    **{
+        (PLAN, name): ((EVERY, "self.fits(xs.len()) && ys.len() == xs.len()"), PLAN_PAIR_ROOM)
+        for name in ("convolve", "convolve_negacyclic")
+    },
+    (PLAN, "convolve_block"): (EQUAL, (EVERY, "self.convolves(xs.len(), b, last)"), PLAN_PAIR_ROOM),
+    (PLAN, "multiply"): (EQUAL, (DEBUG, "xs.iter().all(|x| x.is_below(self.modulus.modulus))")),
+    (PLAN, "shorter"): ((EVERY, "self.has_shorter(n)"),),
     ("modular_reduced/reduced_int/operations", "quotient"): ((DEBUG, "y.reducer.modulus() == x.reducer.modulus()"),),
     ("modular_barrett/normalized", "invert_word"): ((DEBUG, "d.leading_zeros() == 0"),),
     ("modular_barrett/one_by_one", "div_rem"): ((DEBUG, "crate::additions::is_multiplier(self.multiplier, self.shift, d)"),),

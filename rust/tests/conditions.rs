@@ -5,7 +5,7 @@
 
 use num_modular::applications::ring_codes;
 use num_modular::plans::{
-    convolve_block, convolve_negacyclic, convolve_planned, join, ntt_planned, plan, split, Factor, PlannedModulus,
+    convolve_block, convolve_negacyclic, convolve_planned, join, ntt_planned, plan, split, Factor, Plan, PlannedModulus,
 };
 use num_modular::residues;
 use num_modular::ring::{convolve, find_root, ntt, ntt_counted, run, RingCommand, RunEnd};
@@ -301,4 +301,22 @@ fn residues_of_systems() {
     assert_eq!(words, wanted[usize::from(cfg!(debug_assertions))]);
     assert_eq!(residues::decode(&[3, 5], &[1, 2]), 7);
     panic_with!("there must be room for one residue a modulus: 1 and 2"; residues::encode(&[3, 5], 7, &mut [0]));
+}
+
+#[test]
+fn plans_as_values() {
+    let (modulus, mut table) = planned();
+    let plan = Plan::new(&modulus, 22, &mut table).unwrap();
+    let transformed = |entries: &[u64]| {
+        let mut xs = entries.to_vec();
+        plan.transform(&mut xs);
+        xs
+    };
+    assert_eq!(transformed(&[1, 2, 3, 4]), [10, 51, 95, 42]);
+    panic_with!("the list must have n entries"; transformed(&[1, 2]), plan.inverse(&mut [1; 8]));
+    panic_in_debug_with!("the entries must be below 4m"; transformed(&[1, 2, 3, 4000]));
+    panic_with!("the lists must have n entries"; plan.convolve(&mut [1; 4], &mut [1; 2]));
+    panic_with!("the lists must have the same length: 4 and 2"; plan.multiply(&mut [1; 4], &[1; 2]));
+    panic_with!("n must be a power of two, from 2 to the number of entries of this plan"; plan.shorter(8), plan.shorter(3));
+    assert!(message(|| plan.split(&mut [1; 4], 1, 1)).is_ok());
 }
