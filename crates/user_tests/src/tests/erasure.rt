@@ -13,7 +13,7 @@ use std::process::Abort;
 
 const MERSENNE_PRIME: u64 = 2305843009213693951;
 
-fn forms_of<R: Reducer<u64>, const N: usize>(r: &R, words: &[u64; N]) -> [u64; N]
+pub fn forms_of<R: Reducer<u64>, const N: usize>(r: &R, words: &[u64; N]) -> [u64; N]
     ensures { All (λ f. IsForm R.form R.value (R.modulus r.now) f) result }
 {
     let mut forms = [0; N];
@@ -21,7 +21,7 @@ fn forms_of<R: Reducer<u64>, const N: usize>(r: &R, words: &[u64; N]) -> [u64; N
     forms
 }
 
-fn words_of<R: Reducer<u64>, const N: usize>(r: &R, forms: &[u64; N]) -> [u64; N]
+pub fn words_of<R: Reducer<u64>, const N: usize>(r: &R, forms: &[u64; N]) -> [u64; N]
     requires { All (λ f. IsForm R.form R.value (R.modulus r.now) f) forms.now }
 {
     let mut words = [0; N];
