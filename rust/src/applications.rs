@@ -1,10 +1,11 @@
 //! What stands on the library, each proved in its field's own words: short examples (`examples`), hashes, numbers by
-//! their residues, check symbols and erasure codes, products of long numbers, and the rings of FIPS 204 and 203. Nothing
-//! is said of constant time.
+//! their residues, check symbols and erasure codes, products of long numbers (where a usize has 64 bits), and the rings
+//! of FIPS 204 and 203. Nothing is said of constant time.
 
 pub mod examples;
 pub mod mersenne_hash;
 pub mod residue_numbers;
 pub mod ring_codes;
+#[cfg(target_pointer_width = "64")]
 pub mod long_product;
 pub mod lattice_rings;

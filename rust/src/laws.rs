@@ -2,9 +2,10 @@
 //! the body and cite its clauses.
 //!
 //! The functions of the ring laws (`sums_commute` and the like) return both sides of a law; their contracts say
-//! that the sides are equal.
+//! that the sides are equal. `run_both` runs one list over two reducers.
 
-use crate::ring::RingCommand;
+use crate::ring::{RingCommand, RunEnd, run};
+use crate::modular_reduced::reducer::Reducer;
 use crate::modular_word::ring_word::RingWord;
 
 // Whole numbers.
@@ -22,8 +23,8 @@ pub use crate::modular_symbols::halving::step_laws;
 pub use crate::modular_folds::folds::fold_laws;
 pub use crate::modular_monty::montgomery::form_laws;
 pub use crate::modular_reduced::laws::{
-    canonical_laws, negative_cancels, products_associate, products_commute, products_distribute,
-    residue_by_form, same_value, sums_associate, sums_commute,
+    canonical_laws, is_equivalence, negative_cancels, products_associate, products_commute,
+    products_distribute, residue_by_form, same_value, sums_associate, sums_commute,
 };
 
 // Transforms.
@@ -35,8 +36,31 @@ pub use crate::modular_symbols::laws::{jacobi_laws, prime_laws};
 /// Where a run stops, by the inverses that its commands need. A list of commands that needs none has no stop. A
 /// missing inverse is the stop where none is missing before it. Where there is no stop, that is, where the run is
 /// done, each inverse exists.
+#[doc(hidden)]
 #[inline]
 pub fn stop_laws<T: RingWord>() {}
+
+/// Runs the same commands over two reducers, and returns both ends. They are equal, and the registers then have equal
+/// residues, whatever the forms and the words are.
+///
+/// # Preconditions
+///
+/// The moduli are equal, the registers hold checked forms of equal residues, the lists are equal as
+/// commands on whole numbers, and each register number is below the count. This isn't tested: outside
+/// it the call panics, or returns no meaningful result.
+#[inline]
+pub fn run_both<T: RingWord, U: RingWord, R: Reducer<T>, S: Reducer<U>>(
+    left: &R,
+    right: &S,
+    left_regs: &mut [T],
+    right_regs: &mut [U],
+    left_commands: &[RingCommand<T>],
+    right_commands: &[RingCommand<U>],
+) -> (RunEnd, RunEnd) {
+    let left_end = run(left, left_regs, left_commands);
+    let right_end = run(right, right_regs, right_commands);
+    (left_end, right_end)
+}
 
 // In the shape in which contracts of calls and loop invariants leave their terms.
 
@@ -44,6 +68,7 @@ pub fn stop_laws<T: RingWord>() {}
 /// subtrahend is congruent to the minuend.
 ///
 /// Source: Gauss, Disquisitiones Arithmeticae, articles 1 to 8 and 31.
+#[doc(hidden)]
 #[inline]
 pub fn undoing_laws() {}
 
@@ -51,12 +76,14 @@ pub fn undoing_laws() {}
 /// terms of 0 may be dropped. A sum of n terms that are at most b is at most n·b.
 ///
 /// Source: Graham, Knuth and Patashnik, Concrete Mathematics, chapter 2.
+#[doc(hidden)]
 #[inline]
 pub fn sum_below_laws() {}
 
 /// An empty product is 1, and extending a range by one adds one factor. Products are equal where their factors are.
 ///
 /// Source: Graham, Knuth and Patashnik, Concrete Mathematics, section 2.1.
+#[doc(hidden)]
 #[inline]
 pub fn product_below_laws() {}
 
@@ -67,6 +94,7 @@ pub fn product_below_laws() {}
 ///
 /// Source: Gauss, Disquisitiones Arithmeticae, articles 29 and 31; for a range, Montgomery, "Speeding the
 /// Pollard and elliptic curve methods of factorization", section 10.3.1.
+#[doc(hidden)]
 #[inline]
 pub fn inverse_product_laws() {}
 
@@ -76,6 +104,7 @@ pub fn inverse_product_laws() {}
 ///
 /// Source: Hardy and Wright, "An Introduction to the Theory of Numbers", theorems 70 and 83; for the root
 /// Cohen, "A Course in Computational Algebraic Number Theory", section 1.5.1.
+#[doc(hidden)]
 #[inline]
 pub fn prime_power_laws() {}
 
@@ -85,6 +114,7 @@ pub fn prime_power_laws() {}
 /// add up to at most n + 1.
 ///
 /// Source: Knuth, The Art of Computer Programming, volume 2, section 4.3.3, part C.
+#[doc(hidden)]
 #[inline]
 pub fn coefficient_laws() {}
 
@@ -95,5 +125,6 @@ pub fn coefficient_laws() {}
 /// inverses.
 ///
 /// Source: Knuth, The Art of Computer Programming, volume 2, section 4.6.4 (Newton's form).
+#[doc(hidden)]
 #[inline]
 pub fn polynomial_laws() {}

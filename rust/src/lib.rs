@@ -1,21 +1,20 @@
 //! Modular rings over machine words, by the names of the crate `num-modular`.
 //!
-//! The root exports the traits, types and aliases, and the bounds of generic code over them. The modules are those of
-//! the Rust crate, and seven more: `ring` (lists of commands run over any reducer, and transforms), `plans` (transforms
-//! by a table), `rings` (the generic types behind the aliases), `hashes` (polynomial hashes and a search), `residues`
-//! (residue number systems), `laws`, and `modrun` (the body of the program).
+//! The root exports the traits, types and aliases, and the bounds of generic code over them. Beside the modules of the
+//! Rust crate there are `ring` (lists of commands run over any reducer, and transforms), `plans` (transforms by a
+//! table), `rings` (the generic types behind the aliases), `hashes` (polynomial hashes and a search), `residues`
+//! (residue number systems) and `laws`.
 #![no_std]
 #![forbid(unsafe_code)]
 #![doc = include_str!("../README.md")]
-// Contracts are gone, and with them the uses of some imports, parameters and fields; labels name loops to proofs.
-#![allow(dead_code, unused_imports, unused_labels, unused_variables)]
+// Contracts are gone, and with them the uses of some imports, parameters and fields.
+#![allow(dead_code, unused_imports, unused_variables)]
 #![allow(clippy::style, clippy::complexity, clippy::needless_range_loop)]
-
-#[cfg(not(target_pointer_width = "64"))]
-compile_error!("the proofs hold for usize of 64 bits");
 
 #[path = "../additions.rs"]
 mod additions;
+#[path = "../traits.rs"]
+mod traits;
 #[doc(hidden)]
 pub mod modular_word;
 #[doc(hidden)]
@@ -44,11 +43,15 @@ pub mod modular_plan_passes;
 pub mod modular_plan_stages;
 #[doc(hidden)]
 pub mod modular_plan_transforms;
+#[cfg(feature = "capi")]
+#[doc(hidden)]
+pub mod num_modular_c;
 
 pub mod applications;
 
 pub mod barrett;
 pub mod hashes;
+#[doc(hidden)]
 pub mod laws;
 pub mod mersenne;
 pub mod monty;

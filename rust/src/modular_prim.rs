@@ -13,4 +13,5 @@ pub mod operations;
 pub mod plain_word;
 pub mod power;
 pub mod reciprocal;
+pub mod reducer_word;
 pub mod residues;

@@ -4,6 +4,7 @@
 pub mod count;
 pub mod counted;
 pub mod halving;
+#[doc(hidden)]
 pub mod laws;
 pub mod low_part;
 pub mod magnitudes;

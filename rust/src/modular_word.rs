@@ -1,6 +1,7 @@
 //! Machine words as whole numbers, and the paths: division by a reciprocal, exact division and Montgomery's
 //! reduction, each written and proved once for every width.
 
+#[doc(hidden)]
 pub mod laws;
 pub mod machine_words;
 pub mod path_word;

@@ -9,6 +9,7 @@ pub use crate::modular_plan_transforms::convolution::{
     convolve_block, convolve_negacyclic, convolve_planned, convolves,
 };
 pub use crate::modular_plan_transforms::join::{join, join_scaled};
+pub use crate::modular_plan_transforms::plan::Plan;
 pub use crate::modular_plan_transforms::products::multiply;
 pub use crate::modular_plan_transforms::split::{split, splits};
 pub use crate::modular_plan_transforms::transform::ntt_planned;

@@ -20,7 +20,7 @@ pub fn collision_laws() {
 #[inline]
 pub fn same_hashes(bases: &[u64], first: &[u8], second: &[u8]) -> bool {
     collision_laws();
-    'bases: for n in bases {
+    for n in bases {
         let base = base(*n);
         if hash(base, first) != hash(base, second) {
             return false;

@@ -12,6 +12,7 @@ use crate::modular_word::ring_word::RingWord;
 /// A debug build panics unless the divider is that of the divisor d. A release build doesn't test that,
 /// and outside it panics, or returns no meaningful result.
 #[inline]
+#[cfg_attr(debug_assertions, track_caller)]
 pub fn exact_quotient<T: PathWord>(n: T, d: T, divider: &PreMulInv1by1<T>) -> Option<T> {
     let (q, r) = divider.div_rem(n, d);
     if r.is_zero_word() { Some(q) } else { None }
@@ -21,6 +22,7 @@ impl DivExact<u8, PreMulInv1by1<u8>> for u8 {
     type Output = u8;
 
     #[inline]
+    #[cfg_attr(debug_assertions, track_caller)]
     fn div_exact(self, d: u8, pre: &PreMulInv1by1<u8>) -> Option<u8> {
         exact_quotient(self, d, pre)
     }
@@ -30,6 +32,7 @@ impl DivExact<u16, PreMulInv1by1<u16>> for u16 {
     type Output = u16;
 
     #[inline]
+    #[cfg_attr(debug_assertions, track_caller)]
     fn div_exact(self, d: u16, pre: &PreMulInv1by1<u16>) -> Option<u16> {
         exact_quotient(self, d, pre)
     }
@@ -39,6 +42,7 @@ impl DivExact<u32, PreMulInv1by1<u32>> for u32 {
     type Output = u32;
 
     #[inline]
+    #[cfg_attr(debug_assertions, track_caller)]
     fn div_exact(self, d: u32, pre: &PreMulInv1by1<u32>) -> Option<u32> {
         exact_quotient(self, d, pre)
     }
@@ -48,15 +52,18 @@ impl DivExact<u64, PreMulInv1by1<u64>> for u64 {
     type Output = u64;
 
     #[inline]
+    #[cfg_attr(debug_assertions, track_caller)]
     fn div_exact(self, d: u64, pre: &PreMulInv1by1<u64>) -> Option<u64> {
         exact_quotient(self, d, pre)
     }
 }
 
+#[cfg(target_pointer_width = "64")]
 impl DivExact<usize, PreMulInv1by1<usize>> for usize {
     type Output = usize;
 
     #[inline]
+    #[cfg_attr(debug_assertions, track_caller)]
     fn div_exact(self, d: usize, pre: &PreMulInv1by1<usize>) -> Option<usize> {
         exact_quotient(self, d, pre)
     }
@@ -64,6 +71,7 @@ impl DivExact<usize, PreMulInv1by1<usize>> for usize {
 
 impl DivExactAssign<u8, PreMulInv1by1<u8>> for u8 {
     #[inline]
+    #[cfg_attr(debug_assertions, track_caller)]
     fn div_exact_assign(&mut self, d: u8, pre: &PreMulInv1by1<u8>) -> bool {
         assign_exact(self, d, pre)
     }
@@ -71,6 +79,7 @@ impl DivExactAssign<u8, PreMulInv1by1<u8>> for u8 {
 
 impl DivExactAssign<u16, PreMulInv1by1<u16>> for u16 {
     #[inline]
+    #[cfg_attr(debug_assertions, track_caller)]
     fn div_exact_assign(&mut self, d: u16, pre: &PreMulInv1by1<u16>) -> bool {
         assign_exact(self, d, pre)
     }
@@ -78,6 +87,7 @@ impl DivExactAssign<u16, PreMulInv1by1<u16>> for u16 {
 
 impl DivExactAssign<u32, PreMulInv1by1<u32>> for u32 {
     #[inline]
+    #[cfg_attr(debug_assertions, track_caller)]
     fn div_exact_assign(&mut self, d: u32, pre: &PreMulInv1by1<u32>) -> bool {
         assign_exact(self, d, pre)
     }
@@ -85,13 +95,16 @@ impl DivExactAssign<u32, PreMulInv1by1<u32>> for u32 {
 
 impl DivExactAssign<u64, PreMulInv1by1<u64>> for u64 {
     #[inline]
+    #[cfg_attr(debug_assertions, track_caller)]
     fn div_exact_assign(&mut self, d: u64, pre: &PreMulInv1by1<u64>) -> bool {
         assign_exact(self, d, pre)
     }
 }
 
+#[cfg(target_pointer_width = "64")]
 impl DivExactAssign<usize, PreMulInv1by1<usize>> for usize {
     #[inline]
+    #[cfg_attr(debug_assertions, track_caller)]
     fn div_exact_assign(&mut self, d: usize, pre: &PreMulInv1by1<usize>) -> bool {
         assign_exact(self, d, pre)
     }

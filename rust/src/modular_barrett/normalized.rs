@@ -7,6 +7,7 @@ use crate::modular_word::paths::div_2by1;
 use crate::modular_word::ring_word::RingWord;
 
 /// The divisor of a divider, for contracts.
+#[doc(hidden)]
 pub trait StoredDivisor: Sized {}
 
 impl<Any> StoredDivisor for Any {}
@@ -54,6 +55,7 @@ impl<T: PathWord> Normalized2by1Divisor<T> {
     /// A debug build panics unless the dividend's high word is below the divisor. A release build doesn't
     /// test that, and outside it panics, or returns no meaningful result.
     #[inline]
+    #[cfg_attr(debug_assertions, track_caller)]
     pub fn div_rem_2by1(&self, a: T::Double) -> (T, T) {
         debug_assert!(T::split(a).1.is_below(self.divisor), "the dividend's high word must be below the divisor");
         div_2by1(self.divisor, self.reciprocal, a)
@@ -68,6 +70,7 @@ impl<T: PlainWord> Normalized2by1Divisor<T> {
     /// A debug build panics unless the divisor's top bit is set. A release build doesn't test that, and
     /// outside it panics, or returns no meaningful result.
     #[inline]
+    #[cfg_attr(debug_assertions, track_caller)]
     pub fn invert_word(d: T) -> T {
         debug_assert!(d.leading_zeros() == 0, "the divisor's top bit must be set");
         reciprocal::invert_word(d)
@@ -79,6 +82,7 @@ impl<T: PlainWord> Normalized2by1Divisor<T> {
     ///
     /// Panics unless the divisor's top bit is set.
     #[inline]
+    #[track_caller]
     pub fn of(d: T) -> Self {
         assert!(T::zero().wrapping_sub(T::one()).half().is_below(d), "the divisor's top bit must be set");
         Normalized2by1Divisor {

@@ -6,6 +6,7 @@ use crate::modular_word::paths::{div_1by1, ones};
 use crate::modular_word::ring_word::RingWord;
 
 /// The divisors that a divider fits, for contracts.
+#[doc(hidden)]
 pub trait FitsDivisor: Sized {}
 
 impl<Any> FitsDivisor for Any {}
@@ -46,6 +47,7 @@ impl<T: PathWord> PreMulInv1by1<T> {
     /// A debug build panics unless the divider is that of the divisor d. A release build doesn't test that,
     /// and outside it panics, or returns no meaningful result.
     #[inline]
+    #[cfg_attr(debug_assertions, track_caller)]
     pub fn div_rem(&self, a: T, d: T) -> (T, T) {
         debug_assert!(crate::additions::is_multiplier(self.multiplier, self.shift, d), "the divider must be that of the divisor d");
         div_1by1(d, self.multiplier, self.shift, a)
@@ -61,6 +63,7 @@ impl<T: PlainWord> PreMulInv1by1<T> {
     /// # Panics
     ///
     /// Panics unless the divisor is above 1.
+    #[track_caller]
     pub fn of(d: T) -> Self {
         assert!(!d.half().is_zero_word(), "the divisor must be above 1");
         let less = d.minus(T::one());

@@ -87,6 +87,7 @@ impl<T: PlainWord> PlannedModulus<T> {
     ///
     /// Panics unless the modulus is at least 1 and at most 2^w/4, for words of w bits (`admits` tells).
     #[inline]
+    #[track_caller]
     pub fn new(m: T) -> Self {
         assert!(Self::admits(m), "the modulus must be at least 1 and at most 2^w/4, for words of w bits");
         let shift = m.leading_zeros();
@@ -104,6 +105,7 @@ impl<T: PlainWord> PlannedModulus<T> {
     ///
     /// A debug build panics unless w is below m. A release build doesn't test that, and outside it panics,
     /// or returns no meaningful result.
+    #[cfg_attr(debug_assertions, track_caller)]
     pub fn factor(&self, w: T) -> Factor<T> {
         debug_assert!(w.is_below(self.modulus), "w must be below m");
         let divisor = self.modulus.shift_left(self.shift);
@@ -155,7 +157,7 @@ impl<T: PlainWord> PlannedModulus<T> {
     ///
     /// # Preconditions
     ///
-    /// X is below m. This isn't tested: outside it the call panics, or returns no meaningful result.
+    /// x is below m. This isn't tested: outside it the call panics, or returns no meaningful result.
     #[inline]
     pub fn multiply(&self, x: T, y: T) -> T {
         let divisor = self.modulus.shift_left(self.shift);
@@ -170,7 +172,7 @@ impl<T: PlainWord> PlannedModulus<T> {
     ///
     /// # Preconditions
     ///
-    /// X + u is below 2m. This isn't tested: outside it the call panics, or returns no meaningful result.
+    /// x + u is below 2m. This isn't tested: outside it the call panics, or returns no meaningful result.
     pub fn product_sum(&self, x: T, v: T, u: T, y: T) -> T {
         let divisor = self.modulus.shift_left(self.shift);
         let by = self.shift - 1;

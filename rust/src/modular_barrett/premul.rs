@@ -48,6 +48,7 @@ impl<T: PlainWord> PreMulInv2by1<T> {
     ///
     /// Panics unless the modulus is at least 1.
     #[inline]
+    #[track_caller]
     pub fn of(m: T) -> Self {
         assert!(!m.is_zero_word(), "the modulus must be at least 1");
         let shift = m.leading_zeros();
@@ -78,6 +79,7 @@ impl<T: PlainWord> PreMulInv2by1<T> {
 
 impl<T: PlainWord> Reducer<T> for PreMulInv2by1<T> {
     #[inline]
+    #[track_caller]
     fn new(m: &T) -> Self {
         Self::of(*m)
     }

@@ -2,7 +2,6 @@
 
 use crate::modular_folds::fold_word::FoldWord;
 use crate::modular_prim::below::reduced_once;
-use crate::modular_prim::plain_word::PlainWord;
 use crate::modular_word::path_word::PathWord;
 use crate::modular_word::ring_word::RingWord;
 
@@ -54,7 +53,7 @@ pub fn fold_three<V: FoldWord>(v: V, p: u32, mask: V, c: V, m: V) -> (V, u32) {
 fn fold_on<V: FoldWord>(v: V, p: u32, mask: V, c: V, m: V) -> (V, u32) {
     let mut rest = v;
     let mut count = 0;
-    'folds: while mask.is_below(rest) {
+    while mask.is_below(rest) {
         let (next, one) = fold(rest, p, mask, c);
         rest = next;
         count += one;
@@ -67,7 +66,7 @@ fn fold_on<V: FoldWord>(v: V, p: u32, mask: V, c: V, m: V) -> (V, u32) {
 ///
 /// # Preconditions
 ///
-/// M is 2^p - c and more than half of 2^p, and p is at most the width of the words. This isn't tested:
+/// m is 2^p - c and more than half of 2^p, and p is at most the width of the words. This isn't tested:
 /// outside it the call panics, or returns no meaningful result.
 pub fn fold_all<V: FoldWord>(v: V, p: u32, c: V, m: V) -> (V, u32) {
     let mask = m.plus(c.minus(V::one()));
@@ -101,7 +100,7 @@ fn fold_in_line<V: FoldWord>(v: V, p: u32, c: V, m: V) -> V {
     let mut rest = v;
     // The greatest value that the next fold can return.
     let mut most = mask.times(c).plus(mask);
-    'folds: while !most.is_below(twice) {
+    while !most.is_below(twice) {
         rest = fold_once(rest, p, mask, c);
         most = most.shift_right(p).times(c).plus(mask);
     }
@@ -133,7 +132,7 @@ fn reduced_short(v: u64, p: u32, c: u32, m: u32) -> u32 {
 }
 
 /// A word whose double words can be folded: u32 or u64.
-pub trait FoldedWord: Sized + PlainWord {
+pub trait FoldedWord: Sized + PathWord {
     /// A word below 2^p that is congruent to a double word modulo m, and the number of folds at the bit p by c that
     /// led to it.
     ///
@@ -159,7 +158,7 @@ pub trait FoldedWord: Sized + PlainWord {
     ///
     /// # Preconditions
     ///
-    /// B is at most m, and the sum below 2m. This isn't tested: outside it the call panics, or returns no
+    /// b is at most m, and the sum below 2m. This isn't tested: outside it the call panics, or returns no
     /// meaningful result.
     #[must_use]
     fn sum_of_parts(a: Self, b: Self, p: u32, m: Self) -> Self;
@@ -233,7 +232,7 @@ pub(crate) fn sum_once<T: PathWord>(a: T, b: T, m: T) -> T {
 ///
 /// # Preconditions
 ///
-/// M is 2^p - c and more than half of 2^p, and p is at most the width of the words. This isn't tested:
+/// m is 2^p - c and more than half of 2^p, and p is at most the width of the words. This isn't tested:
 /// outside it the call panics, or returns no meaningful result.
 #[inline]
 pub fn reduce_by_folds<T: FoldedWord>(v: T::Double, p: u32, c: T, m: T) -> (T, u32) {
@@ -243,5 +242,6 @@ pub fn reduce_by_folds<T: FoldedWord>(v: T::Double, p: u32, c: T, m: T) -> (T, u
 
 /// A number below 2^p takes no folds. Where c is below 2^p and v = hi·2^p + lo isn't, v takes one fold more than
 /// hi·c + lo. Where c is less than half of 2^p, the number of folds is bounded by `IsFewFolds`.
+#[doc(hidden)]
 #[inline]
 pub fn fold_laws() {}

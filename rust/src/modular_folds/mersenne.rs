@@ -10,7 +10,7 @@ use crate::modular_reduced::reducer::Reducer;
 #[must_use]
 pub struct Mersenne32<const P: u8, const K: u32> {
     // Private, so that a value exists only for parameters in range; the modulus comes from the parameters.
-    made: (),
+    pub(crate) made: (),
 }
 
 /// The reducer of the modulus 2^P - K of at most 32 bits: the form of a value is the value itself.
@@ -28,7 +28,8 @@ impl<const P: u8, const K: u32> FoldRing<u32, Mersenne32<P, K>> {
     ///
     /// Panics unless the parameters are in range.
     #[inline]
-    pub fn fixed_modulus() -> u32 {
+    #[track_caller]
+    pub const fn fixed_modulus() -> u32 {
         assert!(P <= 32 && K % 2 == 1 && 2 * (K as u64) < 1 << P, "the parameters must be in range");
         ((1u64 << P) - K as u64) as u32
     }
@@ -39,6 +40,7 @@ impl<const P: u8, const K: u32> FoldRing<u32, Mersenne32<P, K>> {
     ///
     /// Panics unless the parameters are in range.
     #[inline]
+    #[track_caller]
     pub fn reduce_single(v: u32) -> u32 {
         Self::reduce_counted(v as u64).0
     }
@@ -49,6 +51,7 @@ impl<const P: u8, const K: u32> FoldRing<u32, Mersenne32<P, K>> {
     ///
     /// Panics unless the parameters are in range.
     #[inline]
+    #[track_caller]
     pub fn reduce_double(v: u64) -> u32 {
         Self::reduce_counted(v).0
     }
@@ -59,6 +62,7 @@ impl<const P: u8, const K: u32> FoldRing<u32, Mersenne32<P, K>> {
     ///
     /// Panics unless the parameters are in range.
     #[inline]
+    #[track_caller]
     pub fn reduce_counted(v: u64) -> (u32, u32) {
         reduce_by_folds::<u32>(v, P as u32, K, Self::fixed_modulus())
     }
@@ -67,6 +71,7 @@ impl<const P: u8, const K: u32> FoldRing<u32, Mersenne32<P, K>> {
 impl<const P: u8, const K: u32> FoldModulus<u32> for Mersenne32<P, K> {
     // Condition: the modulus is that of the parameters.
     #[inline]
+    #[track_caller]
     fn keep(m: u32) -> Self {
         assert!(m == FixedMersenne32::<P, K>::fixed_modulus(), "the modulus must be that of the parameters");
         Mersenne32 { made: () }
@@ -93,7 +98,7 @@ impl<const P: u8, const K: u32> FoldModulus<u32> for Mersenne32<P, K> {
 #[must_use]
 pub struct Mersenne64<const P: u8, const K: u64> {
     // Private, so that a value exists only for parameters in range; the modulus comes from the parameters.
-    made: (),
+    pub(crate) made: (),
 }
 
 /// The reducer of the modulus 2^P - K of at most 64 bits: the form of a value is the value itself.
@@ -121,7 +126,8 @@ impl<const P: u8, const K: u64> FoldRing<u64, Mersenne64<P, K>> {
     ///
     /// Panics unless the parameters are in range.
     #[inline]
-    pub fn fixed_modulus() -> u64 {
+    #[track_caller]
+    pub const fn fixed_modulus() -> u64 {
         assert!(P <= 64 && K % 2 == 1 && 2 * (K as u128) < 1 << P, "the parameters must be in range");
         ((1u128 << P) - K as u128) as u64
     }
@@ -132,6 +138,7 @@ impl<const P: u8, const K: u64> FoldRing<u64, Mersenne64<P, K>> {
     ///
     /// Panics unless the parameters are in range.
     #[inline]
+    #[track_caller]
     pub fn reduce_single(v: u64) -> u64 {
         Self::reduce_counted(v as u128).0
     }
@@ -142,6 +149,7 @@ impl<const P: u8, const K: u64> FoldRing<u64, Mersenne64<P, K>> {
     ///
     /// Panics unless the parameters are in range.
     #[inline]
+    #[track_caller]
     pub fn reduce_double(v: u128) -> u64 {
         Self::reduce_counted(v).0
     }
@@ -152,6 +160,7 @@ impl<const P: u8, const K: u64> FoldRing<u64, Mersenne64<P, K>> {
     ///
     /// Panics unless the parameters are in range.
     #[inline]
+    #[track_caller]
     pub fn reduce_counted(v: u128) -> (u64, u32) {
         reduce_by_folds::<u64>(v, P as u32, K, Self::fixed_modulus())
     }
@@ -160,6 +169,7 @@ impl<const P: u8, const K: u64> FoldRing<u64, Mersenne64<P, K>> {
 impl<const P: u8, const K: u64> FoldModulus<u64> for Mersenne64<P, K> {
     // Condition: the modulus is that of the parameters.
     #[inline]
+    #[track_caller]
     fn keep(m: u64) -> Self {
         assert!(m == FixedMersenne64::<P, K>::fixed_modulus(), "the modulus must be that of the parameters");
         Mersenne64 { made: () }
@@ -189,7 +199,7 @@ impl<const P: u8, const K: u64> FoldModulus<u64> for Mersenne64<P, K> {
 #[derive(Debug, Clone, Copy)]
 #[must_use]
 pub struct FixedMersenne<const P: u8, const K: u64> {
-    ring: FixedMersenne64<P, K>,
+    pub(crate) ring: FixedMersenne64<P, K>,
 }
 
 impl<const P: u8, const K: u64> FixedMersenne<P, K> {
@@ -199,7 +209,8 @@ impl<const P: u8, const K: u64> FixedMersenne<P, K> {
     ///
     /// Panics unless the parameters are in range.
     #[inline]
-    pub fn fixed_modulus() -> u128 {
+    #[track_caller]
+    pub const fn fixed_modulus() -> u128 {
         FixedMersenne64::<P, K>::fixed_modulus() as u128
     }
 
@@ -209,6 +220,7 @@ impl<const P: u8, const K: u64> FixedMersenne<P, K> {
     ///
     /// Panics unless the parameters are in range.
     #[inline]
+    #[track_caller]
     pub fn reduce_single(v: u128) -> u128 {
         Self::reduce_counted(v).0
     }
@@ -219,6 +231,7 @@ impl<const P: u8, const K: u64> FixedMersenne<P, K> {
     ///
     /// Panics unless the parameters are in range.
     #[inline]
+    #[track_caller]
     pub fn reduce_counted(v: u128) -> (u128, u32) {
         let (rest, count) = FixedMersenne64::<P, K>::reduce_counted(v);
         (rest as u128, count)
@@ -240,6 +253,7 @@ impl<const P: u8, const K: u64> FixedMersenne<P, K> {
 impl<const P: u8, const K: u64> Reducer<u128> for FixedMersenne<P, K> {
     // Condition: the modulus is that of the parameters.
     #[inline]
+    #[track_caller]
     fn new(m: &u128) -> Self {
         assert!(*m == Self::fixed_modulus(), "the modulus must be that of the parameters");
         FixedMersenne {

@@ -43,7 +43,7 @@ fn is_by_words<T: PathWord>(p: u32, c: T) -> bool {
 ///
 /// # Preconditions
 ///
-/// M is 2^p - c and more than half of 2^p, and p is at most the width of the words, and a and b are
+/// m is 2^p - c and more than half of 2^p, and p is at most the width of the words, and a and b are
 /// below m. This isn't tested: outside it the call panics, or returns no meaningful result.
 #[inline(always)]
 pub fn reduce_product<T: FoldedWord>(a: T, b: T, p: u32, c: T, m: T) -> T {
@@ -92,7 +92,7 @@ fn fold_word<T: PathWord>(v: T, p: u32, c: T) -> T {
 ///
 /// # Preconditions
 ///
-/// M is 2^p - c and more than half of 2^p, and p is at most the width of the words. This isn't tested:
+/// m is 2^p - c and more than half of 2^p, and p is at most the width of the words. This isn't tested:
 /// outside it the call panics, or returns no meaningful result.
 #[inline]
 pub fn reduce_word<T: FoldedWord>(v: T, p: u32, c: T, m: T) -> T {

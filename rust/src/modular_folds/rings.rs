@@ -2,8 +2,7 @@
 
 use crate::modular_folds::folds::FoldedWord;
 use crate::modular_prim::below::{add_below, dbl_below, neg_below, sub_below};
-use crate::modular_prim::euclid::invm;
-use crate::modular_prim::plain_word::PlainWord;
+use crate::modular_prim::reducer_word::ReducerWord;
 use crate::modular_reduced::reducer::Reducer;
 use crate::modular_word::path_word::PathWord;
 use crate::modular_word::ring_word::RingWord;
@@ -18,6 +17,7 @@ pub trait FoldModulus<T: FoldedWord>: Copy {
     ///
     /// Panics unless the modulus is that of the parameters, and these are in range.
     #[must_use]
+    #[track_caller]
     fn keep(m: T) -> Self;
 
     /// The modulus.
@@ -40,12 +40,13 @@ pub trait FoldModulus<T: FoldedWord>: Copy {
 #[derive(Debug, Clone, Copy)]
 #[must_use]
 pub struct FoldRing<T, M> {
-    word: PhantomData<T>,
-    kept: M,
+    pub(crate) word: PhantomData<T>,
+    pub(crate) kept: M,
 }
 
-impl<T: FoldedWord, M: FoldModulus<T>> Reducer<T> for FoldRing<T, M> {
+impl<T: FoldedWord + ReducerWord, M: FoldModulus<T>> Reducer<T> for FoldRing<T, M> {
     #[inline]
+    #[track_caller]
     fn new(m: &T) -> Self {
         FoldRing {
             word: PhantomData,
@@ -105,7 +106,7 @@ impl<T: FoldedWord, M: FoldModulus<T>> Reducer<T> for FoldRing<T, M> {
 
     #[inline]
     fn inv(&self, f: T) -> Option<T> {
-        invm(f, self.kept.modulus())
+        T::inverse_by_euclid(f, self.kept.modulus())
     }
 
     #[inline]

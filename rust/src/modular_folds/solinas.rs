@@ -84,7 +84,7 @@ fn is_low(p1: u8, p2: u8, k: i64) -> bool {
 }
 
 /// A word that has trinomial reducers: u32 or u64.
-pub trait TrinomialWord: Sized + FoldedWord {
+pub trait TrinomialWord: Sized + FoldedWord + PlainWord {
     /// The word of a given number.
     ///
     /// # Preconditions
@@ -112,8 +112,8 @@ impl TrinomialWord for u64 {
 #[derive(Debug)]
 #[must_use]
 pub struct TrinomialModulus<T, F> {
-    word: PhantomData<T>,
-    parameters: PhantomData<F>,
+    pub(crate) word: PhantomData<T>,
+    pub(crate) parameters: PhantomData<F>,
 }
 
 /// The reducer of the modulus m = 2^p1 - 2^p2 + k of the trinomial F, over words T: the form of a value is the
@@ -159,6 +159,7 @@ impl<T: TrinomialWord, F: Trinomial> FoldRing<T, TrinomialModulus<T, F>> {
     /// # Panics
     ///
     /// Panics unless the parameters are in range.
+    #[track_caller]
     pub fn fixed_modulus() -> T {
         assert!(F::p1() as u32 <= T::bits() && 0 < F::p2() && F::p2() < F::p1(), "the parameters must be in range");
         assert!(F::k().unsigned_abs() % 2 == 1 && F::k().unsigned_abs() < 1 << F::p2(), "the parameters must be in range");
@@ -171,6 +172,7 @@ impl<T: TrinomialWord, F: Trinomial> FoldRing<T, TrinomialModulus<T, F>> {
     ///
     /// Panics unless the parameters are in range.
     #[inline]
+    #[track_caller]
     pub fn reduce_single(v: T) -> T {
         Self::reduce_counted(T::merge(v, T::zero())).0
     }
@@ -181,6 +183,7 @@ impl<T: TrinomialWord, F: Trinomial> FoldRing<T, TrinomialModulus<T, F>> {
     ///
     /// Panics unless the parameters are in range.
     #[inline]
+    #[track_caller]
     pub fn reduce_double(v: T::Double) -> T {
         Self::reduce_counted(v).0
     }
@@ -198,6 +201,7 @@ impl<T: TrinomialWord, F: Trinomial> FoldRing<T, TrinomialModulus<T, F>> {
     ///
     /// Panics unless the parameters are in range.
     #[inline]
+    #[track_caller]
     pub fn reduce_counted(v: T::Double) -> (T, u32) {
         if is_low(F::p1(), F::p2(), F::k()) {
             (Self::remainder(v), 0)
@@ -210,6 +214,7 @@ impl<T: TrinomialWord, F: Trinomial> FoldRing<T, TrinomialModulus<T, F>> {
 impl<T: TrinomialWord, F: Trinomial> FoldModulus<T> for TrinomialModulus<T, F> {
     // Condition: the modulus is that of the parameters.
     #[inline]
+    #[track_caller]
     fn keep(m: T) -> Self {
         assert!(m == TrinomialSolinas::<T, F>::fixed_modulus(), "the modulus must be that of the parameters");
         TrinomialModulus {

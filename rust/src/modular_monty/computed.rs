@@ -7,7 +7,7 @@
 const fn negated_inverse(m: u64, width: u32) -> u64 {
     let mut inverse = m;
     let mut bits = 3u32;
-    'lift: while bits < width {
+    while bits < width {
         inverse = inverse.wrapping_mul(2u64.wrapping_sub(m.wrapping_mul(inverse)));
         bits += bits;
     }

@@ -17,7 +17,7 @@ struct Computed32<const P: u32> {
 #[must_use]
 pub struct OddNumber32<const P: u32> {
     // Private, so that a value exists only for an odd P; the numbers come from the parameter.
-    made: (),
+    pub(crate) made: (),
 }
 
 impl<const P: u32> OddNumber32<P> {
@@ -43,7 +43,8 @@ impl<const P: u32> OddRing<u32, OddNumber32<P>> {
     ///
     /// Panics unless the parameter P is odd.
     #[inline]
-    pub fn fixed_modulus() -> u32 {
+    #[track_caller]
+    pub const fn fixed_modulus() -> u32 {
         assert!(P % 2 == 1, "the parameter P must be odd");
         P
     }
@@ -52,6 +53,7 @@ impl<const P: u32> OddRing<u32, OddNumber32<P>> {
 impl<const P: u32> OddModulus<u32> for OddNumber32<P> {
     // Condition: the modulus is that of the parameters.
     #[inline]
+    #[track_caller]
     fn keep(m: u32) -> Self {
         assert!(m == FixedMontgomery32::<P>::fixed_modulus(), "the modulus must be that of the parameters");
         OddNumber32 { made: () }
@@ -85,7 +87,7 @@ struct Computed64<const P: u64> {
 #[must_use]
 pub struct OddNumber64<const P: u64> {
     // Private, so that a value exists only for an odd P; the numbers come from the parameter.
-    made: (),
+    pub(crate) made: (),
 }
 
 impl<const P: u64> OddNumber64<P> {
@@ -111,7 +113,8 @@ impl<const P: u64> OddRing<u64, OddNumber64<P>> {
     ///
     /// Panics unless the parameter P is odd.
     #[inline]
-    pub fn fixed_modulus() -> u64 {
+    #[track_caller]
+    pub const fn fixed_modulus() -> u64 {
         assert!(P % 2 == 1, "the parameter P must be odd");
         P
     }
@@ -120,6 +123,7 @@ impl<const P: u64> OddRing<u64, OddNumber64<P>> {
 impl<const P: u64> OddModulus<u64> for OddNumber64<P> {
     // Condition: the modulus is that of the parameters.
     #[inline]
+    #[track_caller]
     fn keep(m: u64) -> Self {
         assert!(m == FixedMontgomery64::<P>::fixed_modulus(), "the modulus must be that of the parameters");
         OddNumber64 { made: () }

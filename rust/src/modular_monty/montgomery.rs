@@ -1,8 +1,7 @@
 //! The reducer by Montgomery's representation, for every modulus.
 
 use crate::modular_monty::odd_ring::{OddModulus, OddRing, StoredModulus};
-use crate::modular_prim::inverse::fast_inverse;
-use crate::modular_prim::plain_word::PlainWord;
+use crate::modular_prim::reducer_word::ReducerWord;
 use crate::modular_reduced::reducer::Reducer;
 use crate::modular_word::path_word::PathWord;
 use crate::modular_word::ring_word::RingWord;
@@ -34,22 +33,23 @@ pub struct Montgomery<T> {
     pub(crate) twos: u32,
 }
 
-impl<T: PlainWord> Clone for Montgomery<T> {
+impl<T: ReducerWord> Clone for Montgomery<T> {
     #[inline]
     fn clone(&self) -> Self {
         *self
     }
 }
 
-impl<T: PlainWord> Copy for Montgomery<T> {}
+impl<T: ReducerWord> Copy for Montgomery<T> {}
 
-impl<T: PlainWord> Montgomery<T> {
+impl<T: ReducerWord> Montgomery<T> {
     /// The reducer of a modulus m.
     ///
     /// # Panics
     ///
     /// Panics unless the modulus is at least 1.
     #[inline]
+    #[track_caller]
     pub fn of(m: T) -> Self {
         assert!(!m.is_zero_word(), "the modulus must be at least 1");
         let twos = m.trailing_zeros();
@@ -94,8 +94,9 @@ impl<T: PlainWord> Montgomery<T> {
 }
 
 // Each method tests s first, so that odd moduli are as fast as without the second part.
-impl<T: PlainWord> Reducer<T> for Montgomery<T> {
+impl<T: ReducerWord> Reducer<T> for Montgomery<T> {
     #[inline]
+    #[track_caller]
     fn new(m: &T) -> Self {
         Montgomery::of(*m)
     }
@@ -183,7 +184,7 @@ impl<T: PlainWord> Reducer<T> for Montgomery<T> {
     // The form of the inverse of the value.
     #[inline]
     fn inv(&self, f: T) -> Option<T> {
-        match fast_inverse(self.residue(f), self.modulus()) {
+        match T::inverse(self.residue(f), self.modulus()) {
             Some(x) => Some(self.transform(x)),
             None => None,
         }
@@ -197,5 +198,6 @@ impl<T: PlainWord> Reducer<T> for Montgomery<T> {
 
 /// The two parts of a modulus are an odd number and a power of two. For an odd modulus the form of a value is the
 /// value times the base, modulo m.
+#[doc(hidden)]
 #[inline]
 pub fn form_laws<T: RingWord>() {}

@@ -3,23 +3,23 @@
 
 use crate::modular_monty::neg_mod_inv::neginv;
 use crate::modular_prim::below::{add_below, branchless_sub_below, dbl_below, neg_below, sub_below};
-use crate::modular_prim::inverse::fast_inverse;
-use crate::modular_prim::plain_word::PlainWord;
+use crate::modular_prim::reducer_word::ReducerWord;
 use crate::modular_reduced::reducer::Reducer;
 use crate::modular_word::path_word::PathWord;
-use crate::modular_word::paths::{ones, redc};
+use crate::modular_word::paths::redc;
 use crate::modular_word::ring_word::RingWord;
 use core::marker::PhantomData;
 
 /// An odd modulus, with what is precomputed of it: its negated inverse modulo the base, and the square of the base
 /// modulo m. A type that knows its modulus needn't store it, and a modulus of a special form may be multiplied faster.
-pub trait OddModulus<T: PlainWord>: Copy {
+pub trait OddModulus<T: PathWord>: Copy {
     /// What is stored of m.
     ///
     /// # Panics
     ///
     /// Panics unless the type admits the modulus.
     #[must_use]
+    #[track_caller]
     fn keep(m: T) -> Self;
 
     /// The modulus.
@@ -32,19 +32,15 @@ pub trait OddModulus<T: PlainWord>: Copy {
     ///
     /// # Preconditions
     ///
-    /// T is below the modulus times the base. This isn't tested: outside it the call panics, or returns no
+    /// t is below the modulus times the base. This isn't tested: outside it the call panics, or returns no
     /// meaningful result.
     fn reduced(&self, t: T::Double) -> T;
 }
 
-// What is precomputed of an odd modulus m. The square of the base doesn't fit a double word, but the square less m
-// does, and it is congruent to the square.
+// What is precomputed of an odd modulus m.
 #[inline]
-pub(crate) fn computed_once<T: PlainWord>(m: T) -> (T, T) {
-    let negated_inverse = neginv(m);
-    let less = T::merge(T::zero().wrapping_sub(m), ones::<T>(T::bits()));
-    let square = T::narrow_remainder(less, m);
-    (negated_inverse, square)
+pub(crate) fn computed_once<T: ReducerWord>(m: T) -> (T, T) {
+    (neginv(m), T::square_of_base(m))
 }
 
 // Whether a word is 1.
@@ -82,7 +78,7 @@ pub struct OddRing<T, M> {
     pub(crate) word: PhantomData<T>,
 }
 
-impl<T: PlainWord, M: OddModulus<T>> OddRing<T, M> {
+impl<T: PathWord, M: OddModulus<T>> OddRing<T, M> {
     /// The reducer of the modulus that is stored.
     #[inline]
     pub(crate) fn over(kept: M) -> Self {
@@ -93,21 +89,16 @@ impl<T: PlainWord, M: OddModulus<T>> OddRing<T, M> {
     }
 }
 
-impl<T: PlainWord, M: OddModulus<T>> Reducer<T> for OddRing<T, M> {
+impl<T: ReducerWord, M: OddModulus<T>> Reducer<T> for OddRing<T, M> {
     #[inline]
+    #[track_caller]
     fn new(m: &T) -> Self {
         OddRing::over(M::keep(*m))
     }
 
-    // Up to 16 bits, dividing n times the base is fast; for longer words a product and a reduction take less time
-    // than the division of a double word.
     #[inline]
     fn transform(&self, n: T) -> T {
-        if T::bits() <= 16 {
-            T::narrow_remainder(T::merge(T::zero(), n), self.kept.modulus())
-        } else {
-            self.kept.reduced(n.product(self.kept.square_of_base()))
-        }
+        self.kept.reduced(n.product(self.kept.square_of_base()))
     }
 
     #[inline]
@@ -164,7 +155,7 @@ impl<T: PlainWord, M: OddModulus<T>> Reducer<T> for OddRing<T, M> {
     // The form of the inverse of the value.
     #[inline]
     fn inv(&self, f: T) -> Option<T> {
-        match fast_inverse(self.residue(f), self.kept.modulus()) {
+        match T::inverse(self.residue(f), self.kept.modulus()) {
             Some(x) => Some(self.transform(x)),
             None => None,
         }
@@ -188,16 +179,16 @@ pub struct StoredModulus<T> {
     pub(crate) square: T,
 }
 
-impl<T: PlainWord> Clone for StoredModulus<T> {
+impl<T: PathWord> Clone for StoredModulus<T> {
     #[inline]
     fn clone(&self) -> Self {
         *self
     }
 }
 
-impl<T: PlainWord> Copy for StoredModulus<T> {}
+impl<T: PathWord> Copy for StoredModulus<T> {}
 
-impl<T: PlainWord> StoredModulus<T> {
+impl<T: PathWord> StoredModulus<T> {
     /// What is stored of m, given the two numbers that were precomputed of it earlier; `None` exactly where m is
     /// even or one of the numbers is wrong. It makes no division.
     #[inline]
@@ -217,8 +208,9 @@ impl<T: PlainWord> StoredModulus<T> {
     }
 }
 
-impl<T: PlainWord> OddModulus<T> for StoredModulus<T> {
+impl<T: ReducerWord> OddModulus<T> for StoredModulus<T> {
     #[inline]
+    #[track_caller]
     fn keep(m: T) -> Self {
         let (negated_inverse, square) = computed_once(m);
         StoredModulus {

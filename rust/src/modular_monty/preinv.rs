@@ -9,6 +9,7 @@ mod doubles;
 mod words;
 
 /// What contracts use of a precomputed inverse.
+#[doc(hidden)]
 pub trait PreparedInverse: Sized {}
 
 impl<Any> PreparedInverse for Any {}
@@ -51,6 +52,7 @@ impl<T: PlainWord> PreModInv<T> {
     ///
     /// Panics unless the divisor is odd.
     #[inline]
+    #[track_caller]
     pub fn from(d: T) -> Self {
         assert!(d.is_odd(), "the divisor must be odd");
         let d_inv = T::zero().wrapping_sub(neginv(d));
@@ -62,7 +64,9 @@ impl<T: PlainWord> PreModInv<T> {
 // The quotient of a word by d; `None` exactly where d doesn't divide it. Condition: the stored inverse is that of
 // the divisor.
 #[inline]
+#[cfg_attr(debug_assertions, track_caller)]
 fn word_quotient<T: PathWord>(n: T, d: T, pre: &PreModInv<T>) -> Option<T> {
+    debug_assert!(crate::additions::is_greatest_quotient(d, pre.q_lim), "the stored inverse must be that of the divisor");
     debug_assert!(d.wrapping_mul(pre.d_inv) == T::one(), "the stored inverse must be that of the divisor");
     exact_1(d, pre.d_inv, pre.q_lim, n)
 }
@@ -70,7 +74,9 @@ fn word_quotient<T: PathWord>(n: T, d: T, pre: &PreModInv<T>) -> Option<T> {
 // The quotient of a double word by d; `None` exactly where d doesn't divide it. Condition: the stored inverse is
 // that of the divisor.
 #[inline]
+#[cfg_attr(debug_assertions, track_caller)]
 fn double_quotient<T: PathWord>(n: T::Double, d: T, pre: &PreModInv<T>) -> Option<T::Double> {
+    debug_assert!(crate::additions::is_greatest_quotient(d, pre.q_lim), "the stored inverse must be that of the divisor");
     debug_assert!(d.wrapping_mul(pre.d_inv) == T::one(), "the stored inverse must be that of the divisor");
     exact_2(d, pre.d_inv, pre.q_lim, n)
 }

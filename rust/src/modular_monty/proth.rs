@@ -24,7 +24,7 @@ struct Computed32<const N: u8, const K: u8> {
 #[must_use]
 pub struct ProthNumber32<const N: u8, const K: u8> {
     // Private, so that a value exists only for parameters in range; the numbers come from the parameters.
-    made: (),
+    pub(crate) made: (),
 }
 
 impl<const N: u8, const K: u8> ProthNumber32<N, K> {
@@ -38,7 +38,8 @@ impl<const N: u8, const K: u8> ProthNumber32<N, K> {
 
     // The modulus. Condition: the parameters are in range.
     #[inline]
-    fn value() -> u32 {
+    #[track_caller]
+    const fn value() -> u32 {
         assert!(0 < N && N < 32 && K % 2 == 1 && (K as u32) < 1 << N, "the parameters must be in range");
         assert!(((K as u64) << N) < 2654435769, "the parameters must be in range");
         modulus_32(N, K)
@@ -46,7 +47,7 @@ impl<const N: u8, const K: u8> ProthNumber32<N, K> {
 
     /// The product of x and the modulus, by a product with K and a shift.
     #[inline]
-    pub fn shift_mul(&self, x: u32) -> u64 {
+    pub const fn shift_mul(&self, x: u32) -> u64 {
         ((x as u64 * K as u64) << N) + x as u64
     }
 }
@@ -67,7 +68,8 @@ impl<const N: u8, const K: u8> OddRing<u32, ProthNumber32<N, K>> {
     ///
     /// Panics unless the parameters are in range.
     #[inline]
-    pub fn fixed_modulus() -> u32 {
+    #[track_caller]
+    pub const fn fixed_modulus() -> u32 {
         ProthNumber32::<N, K>::value()
     }
 
@@ -75,7 +77,7 @@ impl<const N: u8, const K: u8> OddRing<u32, ProthNumber32<N, K>> {
     ///
     /// # Preconditions
     ///
-    /// T is below the modulus times 2^32. This isn't tested: outside it the call panics, or returns no
+    /// t is below the modulus times 2^32. This isn't tested: outside it the call panics, or returns no
     /// meaningful result.
     #[inline]
     pub fn reduce(&self, t: u64) -> u32 {
@@ -86,6 +88,7 @@ impl<const N: u8, const K: u8> OddRing<u32, ProthNumber32<N, K>> {
 impl<const N: u8, const K: u8> OddModulus<u32> for ProthNumber32<N, K> {
     // Condition: the modulus is that of the parameters.
     #[inline]
+    #[track_caller]
     fn keep(m: u32) -> Self {
         assert!(m == Self::value(), "the modulus must be that of the parameters");
         ProthNumber32 { made: () }
@@ -128,7 +131,7 @@ struct Computed64<const N: u8, const K: u8> {
 #[must_use]
 pub struct ProthNumber64<const N: u8, const K: u8> {
     // Private, so that a value exists only for parameters in range; the numbers come from the parameters.
-    made: (),
+    pub(crate) made: (),
 }
 
 impl<const N: u8, const K: u8> ProthNumber64<N, K> {
@@ -142,7 +145,8 @@ impl<const N: u8, const K: u8> ProthNumber64<N, K> {
 
     // The modulus. Condition: the parameters are in range.
     #[inline]
-    fn value() -> u64 {
+    #[track_caller]
+    const fn value() -> u64 {
         assert!(0 < N && N < 64 && K % 2 == 1 && (K as u64) < 1 << N, "the parameters must be in range");
         assert!(((K as u128) << N) < 11400714819323199485, "the parameters must be in range");
         modulus_64(N, K)
@@ -150,7 +154,7 @@ impl<const N: u8, const K: u8> ProthNumber64<N, K> {
 
     /// The product of x and the modulus, by a product with K and a shift.
     #[inline]
-    pub fn shift_mul(&self, x: u64) -> u128 {
+    pub const fn shift_mul(&self, x: u64) -> u128 {
         ((x as u128 * K as u128) << N) + x as u128
     }
 }
@@ -171,7 +175,8 @@ impl<const N: u8, const K: u8> OddRing<u64, ProthNumber64<N, K>> {
     ///
     /// Panics unless the parameters are in range.
     #[inline]
-    pub fn fixed_modulus() -> u64 {
+    #[track_caller]
+    pub const fn fixed_modulus() -> u64 {
         ProthNumber64::<N, K>::value()
     }
 
@@ -179,7 +184,7 @@ impl<const N: u8, const K: u8> OddRing<u64, ProthNumber64<N, K>> {
     ///
     /// # Preconditions
     ///
-    /// T is below the modulus times 2^64. This isn't tested: outside it the call panics, or returns no
+    /// t is below the modulus times 2^64. This isn't tested: outside it the call panics, or returns no
     /// meaningful result.
     #[inline]
     pub fn reduce(&self, t: u128) -> u64 {
@@ -190,6 +195,7 @@ impl<const N: u8, const K: u8> OddRing<u64, ProthNumber64<N, K>> {
 impl<const N: u8, const K: u8> OddModulus<u64> for ProthNumber64<N, K> {
     // Condition: the modulus is that of the parameters.
     #[inline]
+    #[track_caller]
     fn keep(m: u64) -> Self {
         assert!(m == Self::value(), "the modulus must be that of the parameters");
         ProthNumber64 { made: () }

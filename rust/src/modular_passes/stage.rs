@@ -37,16 +37,16 @@ pub fn stage<T: RingWord, R: Reducer<T>>(
     let mut powers = [running; STRIP];
     let mut column = 0;
     let mut products = 0;
-    'strips: while column < half {
+    while column < half {
         let width = STRIP.min(half - column);
-        'fill: for i in 0..width {
+        for i in 0..width {
             powers[i] = running;
             running = r.mul(&running, root);
             products += 1;
         }
-        'each_block: for block in 0..blocks {
+        for block in 0..blocks {
             let first = block * (half + half) + column;
-            'columns: for k in 0..width {
+            for k in 0..width {
                 let power = powers[k];
                 pair(r, forms, first + k, first + k + half, &power);
                 products += 1;

@@ -59,9 +59,9 @@ pub fn two_stages<T: RingWord, R: Reducer<T>>(
     let mut boths = [one; STRIP];
     let mut column = 0;
     let mut products = 0;
-    'strips: while column < step {
+    while column < step {
         let width = STRIP.min(step - column);
-        'fill: for i in 0..width {
+        for i in 0..width {
             firsts[i] = power;
             seconds[i] = turned_power;
             boths[i] = square_power;
@@ -70,9 +70,9 @@ pub fn two_stages<T: RingWord, R: Reducer<T>>(
             square_power = r.mul(&square_power, square);
             products += 3;
         }
-        'each_block: for block in 0..blocks {
+        for block in 0..blocks {
             let place = block * (4 * step) + column;
-            'columns: for k in 0..width {
+            for k in 0..width {
                 let (first, second, both) = (firsts[k], seconds[k], boths[k]);
                 four(r, forms, place + k, step, &first, &second, &both);
                 products += 4;

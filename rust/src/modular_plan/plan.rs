@@ -14,17 +14,20 @@ use crate::modular_word::ring_word::RingWord;
 ///
 /// # Panics
 ///
-/// A debug build panics unless g is below m, and g suits n entries, n being a power of two. A release
-/// build doesn't test that, and outside it panics, or returns no meaningful result.
+/// Panics unless g is below m, and g suits n entries, n being a power of two.
+#[track_caller]
 pub fn plan<T: PlainWord, F: PlanEntry<T>>(m: &PlannedModulus<T>, g: T, table: &mut [F]) {
-    debug_assert!(g.is_below(m.modulus), "g must be below m");
-    debug_assert!(crate::additions::root_fits_plan(m, g, table.len()), "g must suit n entries, n being a power of two");
+    if table.is_empty() {
+        return;
+    }
+    assert!(g.is_below(m.modulus), "g must be below m: {} and {}", crate::additions::number(g), crate::additions::number(m.modulus));
+    assert!(crate::additions::root_fits_plan(m, g, table.len()), "g must suit n entries, n being a power of two: n = {}, m = {}, g = {}", 2 * table.len(), crate::additions::number(m.modulus), crate::additions::number(g));
     table[0] = F::entry(m.factor(m.residue(T::one())));
     let bits = table.len().trailing_zeros();
     // The indexes with a single bit set: the highest gets g, and each lower one the square of the last.
     let mut power = g;
     let mut place = table.len();
-    'squares: for _bit in 0..bits {
+    for _bit in 0..bits {
         let factor = m.factor(power);
         place /= 2;
         table[place] = F::entry(factor);
@@ -33,9 +36,9 @@ pub fn plan<T: PlainWord, F: PlanEntry<T>>(m: &PlannedModulus<T>, g: T, table: &
     // The reversed bits of count + other are the sum of those of both, so that the power is a product. No product
     // waits for the one just before it.
     let mut count = 1;
-    'doublings: for _bit in 0..bits {
+    for _bit in 0..bits {
         let factor = table[count].factor();
-        'others: for other in 1..count {
+        for other in 1..count {
             let power = m.product(table[other].factor().value, &factor);
             table[count + other] = F::entry(m.factor(power));
         }

@@ -8,7 +8,7 @@ use crate::modular_word::ring_word::RingWord;
 #[inline]
 fn exponent<T: RingWord, R: Reducer<T>>(r: &R, n: usize) -> T {
     let mut rest = r.residue(r.neg(r.transform(T::one())));
-    'halvings: for _done in 0..n.trailing_zeros() {
+    for _done in 0..n.trailing_zeros() {
         rest = rest.half();
     }
     rest
@@ -27,7 +27,7 @@ pub fn find_root<T: RingWord, R: Reducer<T>>(r: &R, n: usize) -> Option<T> {
     let exponent = exponent::<T, R>(r, n);
     let one = r.transform(T::one());
     let mut base = one;
-    'bases: for _x in 2u32..256 {
+    for _x in 2u32..256 {
         base = r.add(&base, &one);
         let g = r.pow(base, &exponent);
         if root_fits(r, &g, n) {

@@ -72,6 +72,7 @@ pub fn minus_inverses<T: PlainWord, F: PlanEntry<T>, M: JoinSteps<T>>(
 /// The blocks, of 2·half entries each, fill the list, and half is at least 1, and the list's entries
 /// are below the bound, and those of the table are factors modulo m, one for each block, and `minus` is
 /// the factor -1. This isn't tested: outside it the call panics, or returns no meaningful result.
+#[inline]
 pub fn join_stage<T: PlainWord, F: PlanEntry<T>, M: JoinSteps<T>>(
     m: &M,
     xs: &mut [T],
@@ -81,7 +82,7 @@ pub fn join_stage<T: PlainWord, F: PlanEntry<T>, M: JoinSteps<T>>(
     first: usize,
     minus: &Factor<T>,
 ) {
-    'each_block: for p in 0..blocks {
+    for p in 0..blocks {
         let v = minus_inverse(m, table, first + p, *minus);
         let step = JoinPair { m: *m, v };
         pairs(m, &step, xs, p * (half + half), half);
@@ -100,7 +101,7 @@ fn join_two_stages<T: PlainWord, F: PlanEntry<T>, M: JoinSteps<T>>(
     first: usize,
     minus: &Factor<T>,
 ) {
-    'four_quarters: for p in 0..blocks {
+    for p in 0..blocks {
         let (w, u, v) = minus_inverses(m, table, first + p, *minus);
         let half = q + q;
         let step = JoinFour { m: *m, w, u, v };
@@ -152,12 +153,12 @@ pub fn join_fours<T: PlainWord, F: PlanEntry<T>, M: JoinSteps<T>>(
     first: usize,
     minus: &Factor<T>,
 ) {
-    'fours: for p in 0..blocks {
+    for p in 0..blocks {
         let (w, u, v) = minus_inverses(m, table, first + p, *minus);
         let place = p * 4;
         // Unreachable (see `is_beyond`).
         if m.is_beyond(xs[place]) {
-            return;
+            panic!("the entries must be below 4m");
         }
         let step = JoinFour { m: *m, w, u, v };
         neighbours(&JoinLowered { step }, xs, place);

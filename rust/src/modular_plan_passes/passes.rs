@@ -38,10 +38,10 @@ pub fn pairs<T: PlainWord, M: Bounded<T>, S: PairStep<T>>(
     first: usize,
     half: usize,
 ) {
-    'pairs: for i in 0..half {
+    for i in 0..half {
         // Unreachable (see `is_beyond`).
         if m.is_beyond(xs[first + i]) {
-            return;
+            panic!("the entries must be below 4m");
         }
         pair_at(step, xs, first + i, first + (half + i));
     }
@@ -68,11 +68,11 @@ fn columns<T: PlainWord, M: Bounded<T>, S: FourStep<T>>(
     third: &mut [T],
     fourth: &mut [T],
 ) {
-    'columns: for i in 0..first.len() {
+    for i in 0..first.len() {
         let x = first[i];
         // Unreachable (see `is_beyond`).
         if m.is_beyond(x) {
-            return;
+            panic!("the entries must be below 4m");
         }
         let (a, b, c, d) = step.four(x, second[i], third[i], fourth[i]);
         first[i] = a;

@@ -24,7 +24,7 @@ pub fn split_stage<T: PlainWord, M: SplitSteps<T>, F: PlanEntry<T>>(
     table: &[F],
     first: usize,
 ) {
-    'each_block: for p in 0..blocks {
+    for p in 0..blocks {
         let w = table[first + p].factor();
         let step = SplitPair { m: *m, w };
         pairs(m, &step, xs, p * (half + half), half);
@@ -42,7 +42,7 @@ fn split_two_stages<T: PlainWord, M: SplitSteps<T>, F: PlanEntry<T>>(
     table: &[F],
     first: usize,
 ) {
-    'four_quarters: for p in 0..blocks {
+    for p in 0..blocks {
         let (w, u, v) = factors_at(table, first + p);
         let half = q + q;
         let step = SplitFour { m: *m, w, u, v };
@@ -111,12 +111,12 @@ pub fn split_fours<T: PlainWord, M: SplitSteps<T>, F: PlanEntry<T>>(
     table: &[F],
     first: usize,
 ) {
-    'fours: for p in 0..blocks {
+    for p in 0..blocks {
         let (w, u, v) = factors_at(table, first + p);
         let place = p * 4;
         // Unreachable (see `is_beyond`).
         if m.is_beyond(xs[place]) {
-            return;
+            panic!("the entries must be below 4m");
         }
         let step = SplitFour { m: *m, w, u, v };
         neighbours(&SplitToResidues { step }, xs, place);

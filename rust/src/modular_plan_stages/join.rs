@@ -27,7 +27,7 @@ pub fn join_blocks<T: PlainWord, F: PlanEntry<T>, M: JoinSteps<T>>(
 ) {
     let mut size = last;
     let mut blocks = xs.len() / last;
-    'stages: while size < xs.len() {
+    while size < xs.len() {
         if 2 < blocks {
             blocks /= 4;
             join_known(m, xs, size, blocks, table, b * blocks, minus);
@@ -57,7 +57,7 @@ pub fn join_passes<T: PlainWord, F: PlanEntry<T>, M: JoinSteps<T>>(
 ) -> usize {
     let mut size = last;
     let mut blocks = xs.len() / last;
-    'passes: while 4 < blocks {
+    while 4 < blocks {
         blocks /= 4;
         join_known(m, xs, size, blocks, table, b * blocks, minus);
         size *= 4;

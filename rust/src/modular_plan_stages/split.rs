@@ -25,7 +25,7 @@ pub fn split_stages<T: PlainWord, M: SplitSteps<T>, F: PlanEntry<T>>(
     let mut left = (xs.len() / last).trailing_zeros();
     let mut size = xs.len();
     let mut blocks = 1;
-    'stages: while 0 < left {
+    while 0 < left {
         if left % 2 == 0 {
             size /= 4;
             split_pass(m, xs, size, blocks, table, b * blocks);

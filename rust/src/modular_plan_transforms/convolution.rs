@@ -16,7 +16,7 @@ use crate::modular_word::ring_word::RingWord;
 #[inline]
 fn residue_of_count<T: PlainWord>(m: &PlannedModulus<T>, count: usize) -> T {
     let mut residue = m.residue(T::one());
-    'doublings: for _done in 0..count.trailing_zeros() {
+    for _done in 0..count.trailing_zeros() {
         residue = reduced_once(residue.plus(residue), m.modulus);
     }
     residue
@@ -62,10 +62,26 @@ fn join_products<T: PlainWord, F: PlanEntry<T>>(
     }
 }
 
+// `convolve_block`, given the factor of the inverse of the number of blocks.
+#[inline]
+pub(crate) fn convolve_scaled<T: PlainWord, F: PlanEntry<T>>(
+    m: &PlannedModulus<T>,
+    xs: &mut [T],
+    ys: &mut [T],
+    table: &[F],
+    b: usize,
+    last: usize,
+    part: &Factor<T>,
+) {
+    split_first(m, xs, table, b, last);
+    split(m, ys, table, b, last);
+    join_products(m, xs, ys, table, b, last, part);
+}
+
 /// Whether `convolve_block` accepts lists of `length` entries as block b, down to blocks of `last`, and a plan of
 /// `factors` factors.
 #[inline]
-pub fn convolves(length: usize, factors: usize, b: usize, last: usize) -> bool {
+pub const fn convolves(length: usize, factors: usize, b: usize, last: usize) -> bool {
     if last > 2 {
         return false;
     }
@@ -90,10 +106,11 @@ pub fn convolves(length: usize, factors: usize, b: usize, last: usize) -> bool {
 ///
 /// # Panics
 ///
-/// A debug build panics unless the lists have the same length, and `last` is 1 or 2, the length is
-/// `last` times a power of two, and the table has (b + 1)·n/last/2 entries or more (`convolves` tells),
-/// and the entries are below 4m, and the table's entries are factors modulo m. A release build doesn't
-/// test that, and outside it panics, or returns no meaningful result.
+/// Panics unless the lists have the same length, and `last` is 1 or 2, the length is `last` times a
+/// power of two, and the table has (b + 1)·n/last/2 entries or more (`convolves` tells). A debug build
+/// also panics unless the entries are below 4m, and the table's entries are factors modulo m. A release
+/// build doesn't test that, and outside it panics, or returns no meaningful result.
+#[track_caller]
 pub fn convolve_block<T: PlainWord, F: PlanEntry<T>>(
     m: &PlannedModulus<T>,
     xs: &mut [T],
@@ -102,17 +119,14 @@ pub fn convolve_block<T: PlainWord, F: PlanEntry<T>>(
     b: usize,
     last: usize,
 ) -> bool {
-    debug_assert!(ys.len() == xs.len(), "the lists must have the same length");
-    debug_assert!(convolves(xs.len(), table.len(), b, last), "`last` must be 1 or 2, the length is `last` times a power of two, and the table must have (b + 1)·n/last/2 entries or more");
+    assert!(ys.len() == xs.len(), "the lists must have the same length: {} and {}", xs.len(), ys.len());
+    assert!(convolves(xs.len(), table.len(), b, last), "`last` must be 1 or 2, the length is `last` times a power of two, and the table must have (b + 1)·n/last/2 entries or more: {} entries, {} factors, b = {}, last = {}", xs.len(), table.len(), b, last);
     debug_assert!(xs.iter().chain(ys.iter()).all(|x| m.has_room(*x)), "the entries must be below 4m");
-    debug_assert!(table.iter().all(|it| crate::additions::is_factor(m, &it.factor())), "the table's entries must be factors modulo m");
+    debug_assert!(crate::additions::are_factors(m, xs.len(), table, b, last), "the table's entries must be factors modulo m");
     let count = residue_of_count(m, xs.len() / last);
     match invm(count, m.modulus) {
         Some(part) => {
-            let part = m.factor(part);
-            split_first(m, xs, table, b, last);
-            split(m, ys, table, b, last);
-            join_products(m, xs, ys, table, b, last, &part);
+            convolve_scaled(m, xs, ys, table, b, last, &m.factor(part));
             true
         }
         None => false,
@@ -125,9 +139,9 @@ pub fn convolve_block<T: PlainWord, F: PlanEntry<T>>(
 ///
 /// # Panics
 ///
-/// A debug build panics unless those of `convolve_block`. A release build doesn't test that, and
-/// outside it panics, or returns no meaningful result.
+/// Panics unless the conditions of `convolve_block` hold.
 #[inline]
+#[track_caller]
 pub fn convolve_planned<T: PlainWord, F: PlanEntry<T>>(
     m: &PlannedModulus<T>,
     xs: &mut [T],
@@ -144,9 +158,9 @@ pub fn convolve_planned<T: PlainWord, F: PlanEntry<T>>(
 ///
 /// # Panics
 ///
-/// A debug build panics unless those of `convolve_block`. A release build doesn't test that, and
-/// outside it panics, or returns no meaningful result.
+/// Panics unless the conditions of `convolve_block` hold.
 #[inline]
+#[track_caller]
 pub fn convolve_negacyclic<T: PlainWord, F: PlanEntry<T>>(
     m: &PlannedModulus<T>,
     xs: &mut [T],

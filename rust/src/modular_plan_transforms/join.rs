@@ -15,7 +15,7 @@ use crate::modular_word::ring_word::RingWord;
 // Replaces each entry by a congruent one below the bound.
 #[inline]
 fn lower_each<T: PlainWord, M: JoinSteps<T>>(m: &M, xs: &mut [T]) {
-    'entries: for i in 0..xs.len() {
+    for i in 0..xs.len() {
         xs[i] = m.lowered(xs[i]);
     }
 }
@@ -23,7 +23,7 @@ fn lower_each<T: PlainWord, M: JoinSteps<T>>(m: &M, xs: &mut [T]) {
 // Replaces each entry by its residue.
 #[inline]
 fn reduce_each<T: PlainWord, M: JoinSteps<T>>(m: &M, xs: &mut [T]) {
-    'entries: for i in 0..xs.len() {
+    for i in 0..xs.len() {
         xs[i] = m.residue(xs[i]);
     }
 }
@@ -78,11 +78,11 @@ fn join_reduced<T: PlainWord, F: PlanEntry<T>, M: JoinSteps<T>>(
 // Replaces each entry by its product with a factor.
 #[inline]
 fn scale_each<T: PlainWord, M: JoinSteps<T>>(m: &M, xs: &mut [T], w: &Factor<T>) {
-    'entries: for i in 0..xs.len() {
+    for i in 0..xs.len() {
         let x = xs[i];
         // Unreachable (see `is_beyond`).
         if m.is_beyond(x) {
-            return;
+            panic!("the entries must be below 4m");
         }
         xs[i] = m.product(x, w);
     }
@@ -137,11 +137,12 @@ fn join_scaled_by<T: PlainWord, F: PlanEntry<T>, M: JoinSteps<T>>(
 ///
 /// # Panics
 ///
-/// A debug build panics unless the entries are below 4m, and the number of entries is `last` times a
-/// power of two, and the table has (b + 1)·count/2 entries or more (`splits` tells), and the table's
-/// entries are factors modulo m. A release build doesn't test that, and outside it panics, or returns
-/// no meaningful result.
+/// Panics unless the number of entries is `last` times a power of two, and the table has (b +
+/// 1)·count/2 entries or more (`splits` tells). A debug build also panics unless the entries are below
+/// 4m, and the table's entries are factors modulo m. A release build doesn't test that, and outside it
+/// panics, or returns no meaningful result.
 #[inline]
+#[track_caller]
 pub fn join<T: PlainWord, F: PlanEntry<T>>(
     m: &PlannedModulus<T>,
     xs: &mut [T],
@@ -150,8 +151,8 @@ pub fn join<T: PlainWord, F: PlanEntry<T>>(
     last: usize,
 ) {
     debug_assert!(xs.iter().all(|x| m.has_room(*x)), "the entries must be below 4m");
-    debug_assert!(crate::modular_plan_transforms::split::splits(xs.len(), table.len(), b, last), "the number of entries must be `last` times a power of two, and the table must have (b + 1)·count/2 entries or more");
-    debug_assert!(table.iter().all(|it| crate::additions::is_factor(m, &it.factor())), "the table's entries must be factors modulo m");
+    assert!(crate::modular_plan_transforms::split::splits(xs.len(), table.len(), b, last), "the number of entries must be `last` times a power of two, and the table must have (b + 1)·count/2 entries or more: {} entries, {} factors, b = {}, last = {}", xs.len(), table.len(), b, last);
+    debug_assert!(crate::additions::are_factors(m, xs.len(), table, b, last), "the table's entries must be factors modulo m");
     match RoomyModulus::new(m) {
         Some(roomy) => join_reduced(&roomy, xs, table, b, last),
         None => join_reduced(m, xs, table, b, last),
@@ -163,11 +164,12 @@ pub fn join<T: PlainWord, F: PlanEntry<T>>(
 ///
 /// # Panics
 ///
-/// A debug build panics unless the entries are below 4m, and the number of entries is `last` times a
-/// power of two, and the table has (b + 1)·count/2 entries or more (`splits` tells), and the table's
-/// entries are factors modulo m, and w is a factor modulo m. A release build doesn't test that, and
-/// outside it panics, or returns no meaningful result.
+/// Panics unless the number of entries is `last` times a power of two, and the table has (b +
+/// 1)·count/2 entries or more (`splits` tells). A debug build also panics unless the entries are below
+/// 4m, and the table's entries are factors modulo m, and w is a factor modulo m. A release build
+/// doesn't test that, and outside it panics, or returns no meaningful result.
 #[inline]
+#[track_caller]
 pub fn join_scaled<T: PlainWord, F: PlanEntry<T>>(
     m: &PlannedModulus<T>,
     xs: &mut [T],
@@ -177,8 +179,8 @@ pub fn join_scaled<T: PlainWord, F: PlanEntry<T>>(
     w: &Factor<T>,
 ) {
     debug_assert!(xs.iter().all(|x| m.has_room(*x)), "the entries must be below 4m");
-    debug_assert!(crate::modular_plan_transforms::split::splits(xs.len(), table.len(), b, last), "the number of entries must be `last` times a power of two, and the table must have (b + 1)·count/2 entries or more");
-    debug_assert!(table.iter().all(|it| crate::additions::is_factor(m, &it.factor())), "the table's entries must be factors modulo m");
+    assert!(crate::modular_plan_transforms::split::splits(xs.len(), table.len(), b, last), "the number of entries must be `last` times a power of two, and the table must have (b + 1)·count/2 entries or more: {} entries, {} factors, b = {}, last = {}", xs.len(), table.len(), b, last);
+    debug_assert!(crate::additions::are_factors(m, xs.len(), table, b, last), "the table's entries must be factors modulo m");
     debug_assert!(crate::additions::is_factor(m, w), "w must be a factor modulo m");
     match RoomyModulus::new(m) {
         Some(roomy) => join_scaled_by(&roomy, xs, table, b, last, w),

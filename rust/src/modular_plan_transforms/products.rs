@@ -8,12 +8,12 @@ use crate::modular_word::path_word::PathWord;
 
 // Multiplies each entry of xs by the entry of ys with the same index.
 #[inline]
-fn multiply_each<T: PlainWord>(m: &PlannedModulus<T>, xs: &mut [T], ys: &[T]) {
-    'entries: for i in 0..xs.len() {
+pub(crate) fn multiply_each<T: PlainWord>(m: &PlannedModulus<T>, xs: &mut [T], ys: &[T]) {
+    for i in 0..xs.len() {
         let x = xs[i];
         // Unreachable (see `is_beyond`).
         if m.is_beyond(x) {
-            return;
+            panic!("the entries must be below 4m");
         }
         xs[i] = m.multiply(x, ys[i]);
     }
@@ -38,11 +38,11 @@ pub(crate) fn reduce_products<T: PlainWord>(
     xs: &mut [T],
     ys: &[T],
 ) {
-    'entries: for i in 0..xs.len() {
+    for i in 0..xs.len() {
         let y = ys[i];
         // Unreachable (see `is_beyond`).
         if m.is_beyond(y) {
-            return;
+            panic!("the entries must be below 4m");
         }
         xs[i] = reduced_product(m, inverse, xs[i], y);
     }
@@ -84,6 +84,7 @@ fn multiply_pair<T: PlainWord>(
 }
 
 // Multiplies the blocks of two entries.
+#[inline]
 fn multiply_pairs<T: PlainWord, F: PlanEntry<T>>(
     m: &PlannedModulus<T>,
     xs: &mut [T],
@@ -92,7 +93,7 @@ fn multiply_pairs<T: PlainWord, F: PlanEntry<T>>(
     b: usize,
 ) {
     let count = xs.len() / 2;
-    'each_block: for j in 0..count {
+    for j in 0..count {
         let turned = times_constant(m, table, b, count, j, xs[2 * j + 1]);
         multiply_pair(m, xs, ys, 2 * j, turned);
     }

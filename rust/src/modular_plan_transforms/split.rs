@@ -12,7 +12,7 @@ use crate::modular_word::path_word::PathWord;
 // Replaces each entry by its residue.
 #[inline]
 fn reduce_each<T: PlainWord, M: SplitSteps<T>>(m: &M, xs: &mut [T]) {
-    'entries: for i in 0..xs.len() {
+    for i in 0..xs.len() {
         xs[i] = m.residue(xs[i]);
     }
 }
@@ -20,7 +20,7 @@ fn reduce_each<T: PlainWord, M: SplitSteps<T>>(m: &M, xs: &mut [T]) {
 /// Whether `split` accepts a list of `length` entries, from block b down to blocks of `last`, and a plan of
 /// `factors` factors.
 #[inline]
-pub fn splits(length: usize, factors: usize, b: usize, last: usize) -> bool {
+pub const fn splits(length: usize, factors: usize, b: usize, last: usize) -> bool {
     if last == 0 {
         return false;
     }
@@ -88,11 +88,12 @@ pub fn split_loosely<T: PlainWord, F: PlanEntry<T>>(
 ///
 /// # Panics
 ///
-/// A debug build panics unless the entries are below 4m, and the number of entries is `last` times a
-/// power of two, and the table has at least (b + 1)·(count/2) entries (`splits` tells), and the table's
-/// entries are factors modulo m. A release build doesn't test that, and outside it panics, or returns
-/// no meaningful result.
+/// Panics unless the number of entries is `last` times a power of two, and the table has at least (b +
+/// 1)·(count/2) entries (`splits` tells). A debug build also panics unless the entries are below 4m,
+/// and the table's entries are factors modulo m. A release build doesn't test that, and outside it
+/// panics, or returns no meaningful result.
 #[inline]
+#[track_caller]
 pub fn split<T: PlainWord, F: PlanEntry<T>>(
     m: &PlannedModulus<T>,
     xs: &mut [T],
@@ -101,8 +102,8 @@ pub fn split<T: PlainWord, F: PlanEntry<T>>(
     last: usize,
 ) {
     debug_assert!(xs.iter().all(|x| m.has_room(*x)), "the entries must be below 4m");
-    debug_assert!(crate::modular_plan_transforms::split::splits(xs.len(), table.len(), b, last), "the number of entries must be `last` times a power of two, and the table must have at least (b + 1)·(count/2) entries");
-    debug_assert!(table.iter().all(|it| crate::additions::is_factor(m, &it.factor())), "the table's entries must be factors modulo m");
+    assert!(crate::modular_plan_transforms::split::splits(xs.len(), table.len(), b, last), "the number of entries must be `last` times a power of two, and the table must have at least (b + 1)·(count/2) entries: {} entries, {} factors, b = {}, last = {}", xs.len(), table.len(), b, last);
+    debug_assert!(crate::additions::are_factors(m, xs.len(), table, b, last), "the table's entries must be factors modulo m");
     match RoomyModulus::new(m) {
         Some(roomy) => split_by(&roomy, xs, table, b, last),
         None => split_by(m, xs, table, b, last),

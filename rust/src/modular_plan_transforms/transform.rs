@@ -13,10 +13,11 @@ use crate::modular_transform::order::reverse_places;
 ///
 /// # Panics
 ///
-/// A debug build panics unless the entries are below 4m, and n is a power of two, and at most twice as
-/// many as the table's factors, and these are factors modulo m. A release build doesn't test that, and
-/// outside it panics, or returns no meaningful result.
+/// Panics unless n is a power of two, and at most twice as many as the table's factors. A debug build
+/// also panics unless the entries are below 4m, and these are factors modulo m. A release build doesn't
+/// test that, and outside it panics, or returns no meaningful result.
 #[inline]
+#[track_caller]
 pub fn ntt_planned<T: PlainWord, F: PlanEntry<T>>(m: &PlannedModulus<T>, xs: &mut [T], table: &[F]) {
     split(m, xs, table, 0, 1);
     let bits = xs.len().trailing_zeros();

@@ -61,7 +61,7 @@ pub fn branchless_sub_below<T: PathWord>(a: T, b: T, m: T) -> T {
 ///
 /// # Preconditions
 ///
-/// A is below m. This isn't tested: outside it the call panics, or returns no meaningful result.
+/// a is below m. This isn't tested: outside it the call panics, or returns no meaningful result.
 #[inline]
 pub fn dbl_below<T: PathWord>(a: T, m: T) -> T {
     add_below(a, a, m)
@@ -71,7 +71,7 @@ pub fn dbl_below<T: PathWord>(a: T, m: T) -> T {
 ///
 /// # Preconditions
 ///
-/// A is below m. This isn't tested: outside it the call panics, or returns no meaningful result.
+/// a is below m. This isn't tested: outside it the call panics, or returns no meaningful result.
 #[inline]
 pub fn neg_below<T: PathWord>(a: T, m: T) -> T {
     if a.is_zero_word() { a } else { m.minus(a) }

@@ -70,7 +70,7 @@ fn has_two_digits<T: PathWord>(a: T, d: T) -> bool {
 ///
 /// # Preconditions
 ///
-/// D is at least 1. This isn't tested: outside it the call panics, or returns no meaningful result.
+/// d is at least 1. This isn't tested: outside it the call panics, or returns no meaningful result.
 #[inline]
 pub fn division<T: PlainWord>(a: T, d: T) -> (T, T) {
     if has_two_digits(a, d) {
@@ -116,7 +116,7 @@ fn has_four_digits<T: PathWord>(a: T, d: T) -> bool {
 ///
 /// # Preconditions
 ///
-/// D is at least 1. This isn't tested: outside it the call panics, or returns no meaningful result.
+/// d is at least 1. This isn't tested: outside it the call panics, or returns no meaningful result.
 #[inline]
 pub fn rest<T: PlainWord>(a: T, d: T) -> T {
     if has_short_quotient(a, d) {

@@ -9,6 +9,7 @@ use crate::modular_word::ring_word::RingWord;
 // A division of Euclid's algorithm: the remainder of last_r by r, and the coefficient that belongs to it. Conditions:
 // r is at least 1, and the coefficient fits a word.
 #[inline(always)]
+#[cfg_attr(debug_assertions, track_caller)]
 fn step<T: PlainWord>(last_r: T, r: T, last_t: T, t: T) -> (T, T) {
     let (quotient, rest) = division(last_r, r);
     (rest, last_t.plus(quotient.times(t)))
@@ -22,6 +23,7 @@ fn step<T: PlainWord>(last_r: T, r: T, last_t: T, t: T) -> (T, T) {
 ///
 /// Panics unless m is at least 1, and a may be above it.
 #[inline]
+#[cfg_attr(debug_assertions, track_caller)]
 pub fn invm<T: PlainWord>(a: T, m: T) -> Option<T> {
     invm_counted(a, m).0
 }
@@ -36,6 +38,7 @@ pub fn invm<T: PlainWord>(a: T, m: T) -> Option<T> {
 /// # Panics
 ///
 /// Panics unless m is at least 1, and a may be above it.
+#[cfg_attr(debug_assertions, track_caller)]
 pub fn invm_counted<T: PlainWord>(a: T, m: T) -> (Option<T>, u32) {
     let mut last_r = m;
     let mut r = a;
@@ -46,7 +49,7 @@ pub fn invm_counted<T: PlainWord>(a: T, m: T) -> (Option<T>, u32) {
     }
     let mut last_t = T::zero();
     let mut t = T::one();
-    'euclid: while !r.is_zero_word() {
+    while !r.is_zero_word() {
         let (rest, next) = step(last_r, r, last_t, t);
         last_r = rest;
         last_t = next;
@@ -69,5 +72,6 @@ pub fn invm_counted<T: PlainWord>(a: T, m: T) -> (Option<T>, u32) {
 
 /// Euclid's algorithm makes no division for u and 0, and for u and v one more than for v and the remainder of u by
 /// v. 2 to the number of its divisions is at most 2·u·v, for v from 1 to u - 1.
+#[doc(hidden)]
 #[inline]
 pub fn division_laws() {}

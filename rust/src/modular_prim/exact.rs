@@ -40,6 +40,7 @@ pub trait DivExactAssign<Rhs: Numbered, Precompute>: Sized + DivExact<Rhs, Preco
 /// What is stored fits d. This isn't tested: outside it the call panics, or returns no meaningful
 /// result.
 #[inline]
+#[cfg_attr(debug_assertions, track_caller)]
 pub fn assign_exact<N: DivExact<Rhs, Precompute, Output = N> + Copy, Rhs: Numbered, Precompute>(
     number: &mut N,
     d: Rhs,
@@ -60,6 +61,7 @@ pub fn assign_exact<N: DivExact<Rhs, Precompute, Output = N> + Copy, Rhs: Number
 ///
 /// Panics unless the divisor is at least 1.
 #[inline]
+#[cfg_attr(debug_assertions, track_caller)]
 pub fn exact_quotient<T: PlainWord>(n: T, d: T) -> Option<T> {
     assert!(!d.is_zero_word(), "the divisor must be at least 1");
     if n.remainder(d).is_zero_word() {
@@ -75,6 +77,7 @@ pub fn exact_quotient<T: PlainWord>(n: T, d: T) -> Option<T> {
 ///
 /// Panics unless the divisor is at least 1.
 #[inline]
+#[cfg_attr(debug_assertions, track_caller)]
 fn exact_quotient_128(n: u128, d: u128) -> Option<u128> {
     assert!(d != 0, "the divisor must be at least 1");
     let quotient = n / d;
@@ -89,6 +92,7 @@ impl DivExact<u8, ()> for u8 {
     type Output = u8;
 
     #[inline]
+    #[cfg_attr(debug_assertions, track_caller)]
     fn div_exact(self, d: u8, _pre: &()) -> Option<u8> {
         exact_quotient(self, d)
     }
@@ -98,6 +102,7 @@ impl DivExact<u16, ()> for u16 {
     type Output = u16;
 
     #[inline]
+    #[cfg_attr(debug_assertions, track_caller)]
     fn div_exact(self, d: u16, _pre: &()) -> Option<u16> {
         exact_quotient(self, d)
     }
@@ -107,6 +112,7 @@ impl DivExact<u32, ()> for u32 {
     type Output = u32;
 
     #[inline]
+    #[cfg_attr(debug_assertions, track_caller)]
     fn div_exact(self, d: u32, _pre: &()) -> Option<u32> {
         exact_quotient(self, d)
     }
@@ -116,6 +122,7 @@ impl DivExact<u64, ()> for u64 {
     type Output = u64;
 
     #[inline]
+    #[cfg_attr(debug_assertions, track_caller)]
     fn div_exact(self, d: u64, _pre: &()) -> Option<u64> {
         exact_quotient(self, d)
     }
@@ -125,6 +132,7 @@ impl DivExact<u128, ()> for u128 {
     type Output = u128;
 
     #[inline]
+    #[cfg_attr(debug_assertions, track_caller)]
     fn div_exact(self, d: u128, _pre: &()) -> Option<u128> {
         exact_quotient_128(self, d)
     }
@@ -132,6 +140,7 @@ impl DivExact<u128, ()> for u128 {
 
 impl DivExactAssign<u8, ()> for u8 {
     #[inline]
+    #[cfg_attr(debug_assertions, track_caller)]
     fn div_exact_assign(&mut self, d: u8, pre: &()) -> bool {
         assign_exact(self, d, pre)
     }
@@ -139,6 +148,7 @@ impl DivExactAssign<u8, ()> for u8 {
 
 impl DivExactAssign<u16, ()> for u16 {
     #[inline]
+    #[cfg_attr(debug_assertions, track_caller)]
     fn div_exact_assign(&mut self, d: u16, pre: &()) -> bool {
         assign_exact(self, d, pre)
     }
@@ -146,6 +156,7 @@ impl DivExactAssign<u16, ()> for u16 {
 
 impl DivExactAssign<u32, ()> for u32 {
     #[inline]
+    #[cfg_attr(debug_assertions, track_caller)]
     fn div_exact_assign(&mut self, d: u32, pre: &()) -> bool {
         assign_exact(self, d, pre)
     }
@@ -153,6 +164,7 @@ impl DivExactAssign<u32, ()> for u32 {
 
 impl DivExactAssign<u64, ()> for u64 {
     #[inline]
+    #[cfg_attr(debug_assertions, track_caller)]
     fn div_exact_assign(&mut self, d: u64, pre: &()) -> bool {
         assign_exact(self, d, pre)
     }
@@ -160,6 +172,7 @@ impl DivExactAssign<u64, ()> for u64 {
 
 impl DivExactAssign<u128, ()> for u128 {
     #[inline]
+    #[cfg_attr(debug_assertions, track_caller)]
     fn div_exact_assign(&mut self, d: u128, pre: &()) -> bool {
         assign_exact(self, d, pre)
     }

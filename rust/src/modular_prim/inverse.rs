@@ -24,7 +24,7 @@ struct Pair<T> {
 // The trailing zeros of the wrapped difference are those of the difference, so that counting them doesn't wait for
 // the comparison. The choice is between plain values, so that compilers turn it into a select: a branch would
 // mispredict half the time.
-fn one_difference<T: PlainWord>(pair: Pair<T>) -> Pair<T> {
+fn one_difference<T: PathWord>(pair: Pair<T>) -> Pair<T> {
     let less = pair.above.is_below(pair.below);
     let zeros = pair.above.wrapping_sub(pair.below).trailing_zeros();
     let chosen = if less {
@@ -44,7 +44,7 @@ fn one_difference<T: PlainWord>(pair: Pair<T>) -> Pair<T> {
 }
 
 // The pair of x and m once its numbers are equal. Conditions: x is at least 1 and below m.
-fn last_pair<T: PlainWord>(x: T, m: T) -> Pair<T> {
+fn last_pair<T: PathWord>(x: T, m: T) -> Pair<T> {
     let twos = x.trailing_zeros();
     let mut pair = Pair {
         above: x.shift_right(twos),
@@ -54,18 +54,18 @@ fn last_pair<T: PlainWord>(x: T, m: T) -> Pair<T> {
         twos: twos,
         minus: false,
     };
-    'differences: while pair.above != pair.below {
+    while pair.above != pair.below {
         pair = one_difference(pair);
     }
     pair
 }
 
 // The residue of w divided by 2^twos, modulo an odd m. Condition: w is below m.
-fn without_twos<T: PlainWord>(w: T, twos: u32, m: T) -> T {
+fn without_twos<T: PathWord>(w: T, twos: u32, m: T) -> T {
     let negated_inverse = neginv(m);
     let mut rest = w;
     let mut left = twos;
-    'words: while T::bits() < left {
+    while T::bits() < left {
         rest = redc(m, negated_inverse, T::merge(rest, T::zero()));
         left -= T::bits();
     }
@@ -77,7 +77,7 @@ fn without_twos<T: PlainWord>(w: T, twos: u32, m: T) -> T {
 }
 
 // The inverse of a number below an odd m, below m; `None` exactly where there is none.
-fn inverse_below<T: PlainWord>(x: T, m: T) -> Option<T> {
+fn inverse_below<T: PathWord>(x: T, m: T) -> Option<T> {
     let has_units = T::one().is_below(m);
     if x.is_zero_word() {
         return if has_units { None } else { Some(x) };
@@ -104,7 +104,7 @@ fn inverse_below<T: PlainWord>(x: T, m: T) -> Option<T> {
 ///
 /// # Preconditions
 ///
-/// M is odd, and a may be above it. This isn't tested: outside it the call panics, or returns no
+/// m is odd, and a may be above it. This isn't tested: outside it the call panics, or returns no
 /// meaningful result.
 #[inline]
 pub fn inverse_by_subtraction<T: PlainWord>(a: T, m: T) -> Option<T> {
@@ -117,7 +117,7 @@ pub fn inverse_by_subtraction<T: PlainWord>(a: T, m: T) -> Option<T> {
 ///
 /// # Preconditions
 ///
-/// M is at least 1, and a may be above it. This isn't tested: outside it the call panics, or returns no
+/// m is at least 1, and a may be above it. This isn't tested: outside it the call panics, or returns no
 /// meaningful result.
 #[inline]
 pub fn fast_inverse<T: PlainWord>(a: T, m: T) -> Option<T> {

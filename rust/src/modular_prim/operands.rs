@@ -9,16 +9,19 @@ impl<T: PlainWord> ModularCoreOps<T, &T> for T {
     type Output = T;
 
     #[inline]
+    #[cfg_attr(debug_assertions, track_caller)]
     fn addm(self, rhs: T, m: &T) -> T {
         residues::addm(self, rhs, *m)
     }
 
     #[inline]
+    #[cfg_attr(debug_assertions, track_caller)]
     fn subm(self, rhs: T, m: &T) -> T {
         residues::subm(self, rhs, *m)
     }
 
     #[inline]
+    #[cfg_attr(debug_assertions, track_caller)]
     fn mulm(self, rhs: T, m: &T) -> T {
         residues::mulm(self, rhs, *m)
     }
@@ -28,16 +31,19 @@ impl<T: PlainWord> ModularCoreOps<&T, &T> for T {
     type Output = T;
 
     #[inline]
+    #[cfg_attr(debug_assertions, track_caller)]
     fn addm(self, rhs: &T, m: &T) -> T {
         residues::addm(self, *rhs, *m)
     }
 
     #[inline]
+    #[cfg_attr(debug_assertions, track_caller)]
     fn subm(self, rhs: &T, m: &T) -> T {
         residues::subm(self, *rhs, *m)
     }
 
     #[inline]
+    #[cfg_attr(debug_assertions, track_caller)]
     fn mulm(self, rhs: &T, m: &T) -> T {
         residues::mulm(self, *rhs, *m)
     }
@@ -47,16 +53,19 @@ impl<T: PlainWord> ModularCoreOps<T, &T> for &T {
     type Output = T;
 
     #[inline]
+    #[cfg_attr(debug_assertions, track_caller)]
     fn addm(self, rhs: T, m: &T) -> T {
         residues::addm(*self, rhs, *m)
     }
 
     #[inline]
+    #[cfg_attr(debug_assertions, track_caller)]
     fn subm(self, rhs: T, m: &T) -> T {
         residues::subm(*self, rhs, *m)
     }
 
     #[inline]
+    #[cfg_attr(debug_assertions, track_caller)]
     fn mulm(self, rhs: T, m: &T) -> T {
         residues::mulm(*self, rhs, *m)
     }
@@ -66,16 +75,19 @@ impl<T: PlainWord> ModularCoreOps<&T, &T> for &T {
     type Output = T;
 
     #[inline]
+    #[cfg_attr(debug_assertions, track_caller)]
     fn addm(self, rhs: &T, m: &T) -> T {
         residues::addm(*self, *rhs, *m)
     }
 
     #[inline]
+    #[cfg_attr(debug_assertions, track_caller)]
     fn subm(self, rhs: &T, m: &T) -> T {
         residues::subm(*self, *rhs, *m)
     }
 
     #[inline]
+    #[cfg_attr(debug_assertions, track_caller)]
     fn mulm(self, rhs: &T, m: &T) -> T {
         residues::mulm(*self, *rhs, *m)
     }
@@ -85,21 +97,25 @@ impl<T: PlainWord> ModularUnaryOps<&T> for T {
     type Output = T;
 
     #[inline]
+    #[cfg_attr(debug_assertions, track_caller)]
     fn negm(self, m: &T) -> T {
         residues::negm(self, *m)
     }
 
     #[inline]
+    #[cfg_attr(debug_assertions, track_caller)]
     fn invm(self, m: &T) -> Option<T> {
         euclid::invm(self, *m)
     }
 
     #[inline]
+    #[cfg_attr(debug_assertions, track_caller)]
     fn dblm(self, m: &T) -> T {
         residues::dblm(self, *m)
     }
 
     #[inline]
+    #[cfg_attr(debug_assertions, track_caller)]
     fn sqm(self, m: &T) -> T {
         residues::sqm(self, *m)
     }
@@ -109,21 +125,25 @@ impl<T: PlainWord> ModularUnaryOps<&T> for &T {
     type Output = T;
 
     #[inline]
+    #[cfg_attr(debug_assertions, track_caller)]
     fn negm(self, m: &T) -> T {
         residues::negm(*self, *m)
     }
 
     #[inline]
+    #[cfg_attr(debug_assertions, track_caller)]
     fn invm(self, m: &T) -> Option<T> {
         euclid::invm(*self, *m)
     }
 
     #[inline]
+    #[cfg_attr(debug_assertions, track_caller)]
     fn dblm(self, m: &T) -> T {
         residues::dblm(*self, *m)
     }
 
     #[inline]
+    #[cfg_attr(debug_assertions, track_caller)]
     fn sqm(self, m: &T) -> T {
         residues::sqm(*self, *m)
     }
@@ -133,6 +153,7 @@ impl<T: PlainWord> ModularPow<T, &T> for T {
     type Output = T;
 
     #[inline]
+    #[cfg_attr(debug_assertions, track_caller)]
     fn powm(self, exp: T, m: &T) -> T {
         power::powm(self, exp, *m)
     }
@@ -142,6 +163,7 @@ impl<T: PlainWord> ModularPow<&T, &T> for T {
     type Output = T;
 
     #[inline]
+    #[cfg_attr(debug_assertions, track_caller)]
     fn powm(self, exp: &T, m: &T) -> T {
         power::powm(self, *exp, *m)
     }
@@ -151,6 +173,7 @@ impl<T: PlainWord> ModularPow<T, &T> for &T {
     type Output = T;
 
     #[inline]
+    #[cfg_attr(debug_assertions, track_caller)]
     fn powm(self, exp: T, m: &T) -> T {
         power::powm(*self, exp, *m)
     }
@@ -160,6 +183,7 @@ impl<T: PlainWord> ModularPow<&T, &T> for &T {
     type Output = T;
 
     #[inline]
+    #[cfg_attr(debug_assertions, track_caller)]
     fn powm(self, exp: &T, m: &T) -> T {
         power::powm(*self, *exp, *m)
     }

@@ -23,6 +23,7 @@ pub trait ModularCoreOps<Rhs: Numbered = Self, Modulus: Numbered = Self>: Sized 
     /// # Panics
     ///
     /// Panics unless m is at least 1.
+    #[cfg_attr(debug_assertions, track_caller)]
     fn addm(self, rhs: Rhs, m: Modulus) -> Self::Output;
 
     /// The residue of the difference.
@@ -30,6 +31,7 @@ pub trait ModularCoreOps<Rhs: Numbered = Self, Modulus: Numbered = Self>: Sized 
     /// # Panics
     ///
     /// Panics unless m is at least 1.
+    #[cfg_attr(debug_assertions, track_caller)]
     fn subm(self, rhs: Rhs, m: Modulus) -> Self::Output;
 
     /// The residue of the product.
@@ -37,6 +39,7 @@ pub trait ModularCoreOps<Rhs: Numbered = Self, Modulus: Numbered = Self>: Sized 
     /// # Panics
     ///
     /// Panics unless m is at least 1.
+    #[cfg_attr(debug_assertions, track_caller)]
     fn mulm(self, rhs: Rhs, m: Modulus) -> Self::Output;
 }
 
@@ -61,6 +64,7 @@ pub trait ModularUnaryOps<Modulus: Numbered = Self>: Sized + Numbered {
     /// # Panics
     ///
     /// Panics unless m is at least 1.
+    #[cfg_attr(debug_assertions, track_caller)]
     fn negm(self, m: Modulus) -> Self::Output;
 
     /// The inverse modulo m, 0 for m = 1; `None` exactly where there is none.
@@ -68,6 +72,7 @@ pub trait ModularUnaryOps<Modulus: Numbered = Self>: Sized + Numbered {
     /// # Panics
     ///
     /// Panics unless m is at least 1.
+    #[cfg_attr(debug_assertions, track_caller)]
     fn invm(self, m: Modulus) -> Option<Self::Output>;
 
     /// The residue of the double.
@@ -75,6 +80,7 @@ pub trait ModularUnaryOps<Modulus: Numbered = Self>: Sized + Numbered {
     /// # Panics
     ///
     /// Panics unless m is at least 1.
+    #[cfg_attr(debug_assertions, track_caller)]
     fn dblm(self, m: Modulus) -> Self::Output;
 
     /// The residue of the square.
@@ -82,6 +88,7 @@ pub trait ModularUnaryOps<Modulus: Numbered = Self>: Sized + Numbered {
     /// # Panics
     ///
     /// Panics unless m is at least 1.
+    #[cfg_attr(debug_assertions, track_caller)]
     fn sqm(self, m: Modulus) -> Self::Output;
 }
 
@@ -103,6 +110,7 @@ pub trait ModularPow<Exp: Numbered = Self, Modulus: Numbered = Self>: Sized + Nu
     /// # Panics
     ///
     /// Panics unless m is at least 1.
+    #[cfg_attr(debug_assertions, track_caller)]
     fn powm(self, exp: Exp, m: Modulus) -> Self::Output;
 }
 
@@ -113,5 +121,6 @@ pub trait ModularAbs<Modulus: Numbered = Self>: Sized + IntegerValued {
     /// # Panics
     ///
     /// Panics unless m is at least 1.
+    #[cfg_attr(debug_assertions, track_caller)]
     fn absm(self, m: &Modulus) -> Modulus;
 }

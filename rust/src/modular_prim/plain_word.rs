@@ -2,7 +2,9 @@
 
 use crate::modular_prim::numbered::Numbered;
 use crate::modular_word::path_word::PathWord;
-use crate::modular_word::word::{w8, w16, w32, w64, wsize};
+use crate::modular_word::word::{w8, w16, w32, w64};
+#[cfg(target_pointer_width = "64")]
+use crate::modular_word::word::wsize;
 
 /// A machine word with quotients and remainders.
 pub trait PlainWord: Sized + PathWord + Numbered {
@@ -12,6 +14,7 @@ pub trait PlainWord: Sized + PathWord + Numbered {
     ///
     /// Panics unless the divisor is at least 1.
     #[must_use]
+    #[cfg_attr(debug_assertions, track_caller)]
     fn quotient(self, d: Self) -> Self;
 
     /// The remainder of two words.
@@ -20,6 +23,7 @@ pub trait PlainWord: Sized + PathWord + Numbered {
     ///
     /// Panics unless the modulus is at least 1.
     #[must_use]
+    #[cfg_attr(debug_assertions, track_caller)]
     fn remainder(self, d: Self) -> Self;
 
     /// The low word of the quotient of a double word by a word, rounded down.
@@ -28,6 +32,7 @@ pub trait PlainWord: Sized + PathWord + Numbered {
     ///
     /// Panics unless the divisor is at least 1.
     #[must_use]
+    #[cfg_attr(debug_assertions, track_caller)]
     fn low_quotient(double: Self::Double, d: Self) -> Self;
 
     /// The remainder of a double word by a word.
@@ -36,29 +41,34 @@ pub trait PlainWord: Sized + PathWord + Numbered {
     ///
     /// Panics unless the modulus is at least 1.
     #[must_use]
+    #[cfg_attr(debug_assertions, track_caller)]
     fn narrow_remainder(double: Self::Double, d: Self) -> Self;
 }
 
 impl PlainWord for u8 {
     #[inline]
+    #[cfg_attr(debug_assertions, track_caller)]
     fn quotient(self, d: u8) -> u8 {
         assert!(d != 0, "the divisor must be at least 1");
         self / d
     }
 
     #[inline]
+    #[cfg_attr(debug_assertions, track_caller)]
     fn remainder(self, d: u8) -> u8 {
         assert!(d != 0, "the modulus must be at least 1");
         self % d
     }
 
     #[inline]
+    #[cfg_attr(debug_assertions, track_caller)]
     fn low_quotient(double: u16, d: u8) -> u8 {
         assert!(d != 0, "the divisor must be at least 1");
         ((double / d as u16) & 0xff) as u8
     }
 
     #[inline]
+    #[cfg_attr(debug_assertions, track_caller)]
     fn narrow_remainder(double: u16, d: u8) -> u8 {
         w8::nrem(double, d)
     }
@@ -66,24 +76,28 @@ impl PlainWord for u8 {
 
 impl PlainWord for u16 {
     #[inline]
+    #[cfg_attr(debug_assertions, track_caller)]
     fn quotient(self, d: u16) -> u16 {
         assert!(d != 0, "the divisor must be at least 1");
         self / d
     }
 
     #[inline]
+    #[cfg_attr(debug_assertions, track_caller)]
     fn remainder(self, d: u16) -> u16 {
         assert!(d != 0, "the modulus must be at least 1");
         self % d
     }
 
     #[inline]
+    #[cfg_attr(debug_assertions, track_caller)]
     fn low_quotient(double: u32, d: u16) -> u16 {
         assert!(d != 0, "the divisor must be at least 1");
         ((double / d as u32) & 0xffff) as u16
     }
 
     #[inline]
+    #[cfg_attr(debug_assertions, track_caller)]
     fn narrow_remainder(double: u32, d: u16) -> u16 {
         w16::nrem(double, d)
     }
@@ -91,24 +105,28 @@ impl PlainWord for u16 {
 
 impl PlainWord for u32 {
     #[inline]
+    #[cfg_attr(debug_assertions, track_caller)]
     fn quotient(self, d: u32) -> u32 {
         assert!(d != 0, "the divisor must be at least 1");
         self / d
     }
 
     #[inline]
+    #[cfg_attr(debug_assertions, track_caller)]
     fn remainder(self, d: u32) -> u32 {
         assert!(d != 0, "the modulus must be at least 1");
         self % d
     }
 
     #[inline]
+    #[cfg_attr(debug_assertions, track_caller)]
     fn low_quotient(double: u64, d: u32) -> u32 {
         assert!(d != 0, "the divisor must be at least 1");
         ((double / d as u64) & 0xffff_ffff) as u32
     }
 
     #[inline]
+    #[cfg_attr(debug_assertions, track_caller)]
     fn narrow_remainder(double: u64, d: u32) -> u32 {
         w32::nrem(double, d)
     }
@@ -116,49 +134,58 @@ impl PlainWord for u32 {
 
 impl PlainWord for u64 {
     #[inline]
+    #[cfg_attr(debug_assertions, track_caller)]
     fn quotient(self, d: u64) -> u64 {
         assert!(d != 0, "the divisor must be at least 1");
         self / d
     }
 
     #[inline]
+    #[cfg_attr(debug_assertions, track_caller)]
     fn remainder(self, d: u64) -> u64 {
         assert!(d != 0, "the modulus must be at least 1");
         self % d
     }
 
     #[inline]
+    #[cfg_attr(debug_assertions, track_caller)]
     fn low_quotient(double: u128, d: u64) -> u64 {
         assert!(d != 0, "the divisor must be at least 1");
         ((double / d as u128) & 0xffff_ffff_ffff_ffff) as u64
     }
 
     #[inline]
+    #[cfg_attr(debug_assertions, track_caller)]
     fn narrow_remainder(double: u128, d: u64) -> u64 {
         w64::nrem(double, d)
     }
 }
 
+#[cfg(target_pointer_width = "64")]
 impl PlainWord for usize {
     #[inline]
+    #[cfg_attr(debug_assertions, track_caller)]
     fn quotient(self, d: usize) -> usize {
         assert!(d != 0, "the divisor must be at least 1");
         self / d
     }
 
     #[inline]
+    #[cfg_attr(debug_assertions, track_caller)]
     fn remainder(self, d: usize) -> usize {
         assert!(d != 0, "the modulus must be at least 1");
         self % d
     }
 
     #[inline]
+    #[cfg_attr(debug_assertions, track_caller)]
     fn low_quotient(double: u128, d: usize) -> usize {
         assert!(d != 0, "the divisor must be at least 1");
         ((double / d as u128) & 0xffff_ffff_ffff_ffff) as usize
     }
 
     #[inline]
+    #[cfg_attr(debug_assertions, track_caller)]
     fn narrow_remainder(double: u128, d: usize) -> usize {
         wsize::nrem(double, d)
     }

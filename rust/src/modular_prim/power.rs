@@ -15,6 +15,7 @@ use crate::modular_word::ring_word::RingWord;
 /// # Panics
 ///
 /// Panics unless m is at least 1.
+#[cfg_attr(debug_assertions, track_caller)]
 pub fn powm<T: PlainWord>(base: T, exp: T, m: T) -> T {
     let one = T::one();
     if two::<T>().is_below(exp) {
@@ -50,7 +51,7 @@ fn power_by_division<T: PlainWord>(base: T, exp: T, m: T) -> T {
         reduced(T::one(), m)
     };
     let mut rest = exp.half();
-    'digits: while !rest.is_zero_word() {
+    while !rest.is_zero_word() {
         power = sqm(power, m);
         if rest.is_odd() {
             product = mulm(power, product, m);
@@ -73,7 +74,7 @@ fn power_by_reduction<T: PlainWord>(base: T, exp: T, m: T) -> T {
         reduced(T::one(), m)
     };
     let mut rest = exp.half();
-    'digits: while !rest.is_zero_word() {
+    while !rest.is_zero_word() {
         power = redc(m, negated_inverse, power.product(power));
         if rest.is_odd() {
             product = redc(m, negated_inverse, power.product(product));
@@ -96,7 +97,7 @@ fn power_by_reciprocal<T: PlainWord>(base: T, exp: T, m: T) -> T {
         reduced(T::one(), m).shift_left(shift)
     };
     let mut rest = exp.half();
-    'digits: while !rest.is_zero_word() {
+    while !rest.is_zero_word() {
         power = scaled_product(divisor, reciprocal, shift, power, power);
         if rest.is_odd() {
             product = scaled_product(divisor, reciprocal, shift, power, product);
@@ -108,7 +109,7 @@ fn power_by_reciprocal<T: PlainWord>(base: T, exp: T, m: T) -> T {
 
 // The shifted residue of the product of two shifted residues.
 #[inline]
-fn scaled_product<T: PlainWord>(divisor: T, reciprocal: T, shift: u32, a: T, b: T) -> T {
+fn scaled_product<T: PathWord>(divisor: T, reciprocal: T, shift: u32, a: T, b: T) -> T {
     div_2by1(divisor, reciprocal, a.shift_right(shift).product(b)).1
 }
 

@@ -8,7 +8,7 @@ use crate::modular_word::ring_word::RingWord;
 // Whether a word is below m. Always false for words of at most 16 bits, where a mispredicted branch takes longer
 // than the division that it avoids.
 #[inline]
-fn spares_division<T: PlainWord>(a: T, m: T) -> bool {
+fn spares_division<T: PathWord>(a: T, m: T) -> bool {
     T::bits() > 16 && a.is_below(m)
 }
 
@@ -19,25 +19,27 @@ fn spares_division<T: PlainWord>(a: T, m: T) -> bool {
 ///
 /// Panics unless m is at least 1.
 #[inline]
+#[cfg_attr(debug_assertions, track_caller)]
 pub fn reduced<T: PlainWord>(a: T, m: T) -> T {
     reduced_unless(spares_division(a, m), a, m)
 }
 
 // The residue of a word, without a division where the caller knows that the word is below m.
 #[inline]
+#[cfg_attr(debug_assertions, track_caller)]
 fn reduced_unless<T: PlainWord>(is_residue: bool, a: T, m: T) -> T {
     if is_residue { a } else { a.remainder(m) }
 }
 
 // The sum of two words, as a double word.
 #[inline]
-fn whole_sum<T: PlainWord>(a: T, b: T) -> T::Double {
+fn whole_sum<T: PathWord>(a: T, b: T) -> T::Double {
     T::double_plus(T::merge(a, T::zero()), T::merge(b, T::zero()))
 }
 
 // The difference of the greater and the smaller of a and b.
 #[inline]
-fn distance<T: PlainWord>(a: T, b: T) -> T {
+fn distance<T: PathWord>(a: T, b: T) -> T {
     if a.is_below(b) {
         b.minus(a)
     } else {
@@ -54,6 +56,7 @@ fn distance<T: PlainWord>(a: T, b: T) -> T {
 /// # Panics
 ///
 /// Panics unless m is at least 1.
+#[cfg_attr(debug_assertions, track_caller)]
 pub fn addm<T: PlainWord>(a: T, b: T, m: T) -> T {
     if spares_division(a, m) & spares_division(b, m) {
         add_below(a, b, m)
@@ -74,6 +77,7 @@ pub fn addm<T: PlainWord>(a: T, b: T, m: T) -> T {
 /// # Panics
 ///
 /// Panics unless m is at least 1.
+#[cfg_attr(debug_assertions, track_caller)]
 pub fn subm<T: PlainWord>(a: T, b: T, m: T) -> T {
     if T::bits() <= 16 {
         return sub_below(a.remainder(m), b.remainder(m), m);
@@ -98,6 +102,7 @@ pub fn subm<T: PlainWord>(a: T, b: T, m: T) -> T {
 ///
 /// Panics unless m is at least 1.
 #[inline]
+#[cfg_attr(debug_assertions, track_caller)]
 pub fn mulm<T: PlainWord>(a: T, b: T, m: T) -> T {
     T::narrow_remainder(a.product(b), m)
 }
@@ -108,6 +113,7 @@ pub fn mulm<T: PlainWord>(a: T, b: T, m: T) -> T {
 ///
 /// Panics unless m is at least 1.
 #[inline]
+#[cfg_attr(debug_assertions, track_caller)]
 pub fn negm<T: PlainWord>(a: T, m: T) -> T {
     neg_below(reduced(a, m), m)
 }
@@ -118,6 +124,7 @@ pub fn negm<T: PlainWord>(a: T, m: T) -> T {
 ///
 /// Panics unless m is at least 1.
 #[inline]
+#[cfg_attr(debug_assertions, track_caller)]
 pub fn dblm<T: PlainWord>(a: T, m: T) -> T {
     dbl_below(reduced(a, m), m)
 }
@@ -128,6 +135,7 @@ pub fn dblm<T: PlainWord>(a: T, m: T) -> T {
 ///
 /// Panics unless m is at least 1.
 #[inline]
+#[cfg_attr(debug_assertions, track_caller)]
 pub fn sqm<T: PlainWord>(a: T, m: T) -> T {
     mulm(a, a, m)
 }

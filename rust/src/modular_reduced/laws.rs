@@ -1,6 +1,8 @@
 //! The ring laws, for the checked forms of any reducer. Each function computes both sides of a law and returns
-//! them; its contract says that they are equal. Also the laws of forms and values, by functions with an empty body.
+//! them; its contract says that they are equal. Also the laws of forms and values, by functions with an empty body, and
+//! that `==` of integers is an equivalence.
 
+use crate::modular_reduced::modular_integer::ModularInteger;
 use crate::modular_reduced::reducer::Reducer;
 use crate::modular_word::ring_word::RingWord;
 
@@ -8,7 +10,7 @@ use crate::modular_word::ring_word::RingWord;
 ///
 /// # Preconditions
 ///
-/// A and b are checked forms. This isn't tested: outside it the call panics, or returns no meaningful
+/// a and b are checked forms. This isn't tested: outside it the call panics, or returns no meaningful
 /// result.
 #[inline]
 pub fn sums_commute<T: RingWord, R: Reducer<T>>(reducer: &R, a: T, b: T) -> (T, T) {
@@ -19,7 +21,7 @@ pub fn sums_commute<T: RingWord, R: Reducer<T>>(reducer: &R, a: T, b: T) -> (T, 
 ///
 /// # Preconditions
 ///
-/// A, b and c are checked forms. This isn't tested: outside it the call panics, or returns no
+/// a, b and c are checked forms. This isn't tested: outside it the call panics, or returns no
 /// meaningful result.
 #[inline]
 pub fn sums_associate<T: RingWord, R: Reducer<T>>(reducer: &R, a: T, b: T, c: T) -> (T, T) {
@@ -32,7 +34,7 @@ pub fn sums_associate<T: RingWord, R: Reducer<T>>(reducer: &R, a: T, b: T, c: T)
 ///
 /// # Preconditions
 ///
-/// A and b are checked forms. This isn't tested: outside it the call panics, or returns no meaningful
+/// a and b are checked forms. This isn't tested: outside it the call panics, or returns no meaningful
 /// result.
 #[inline]
 pub fn products_commute<T: RingWord, R: Reducer<T>>(reducer: &R, a: T, b: T) -> (T, T) {
@@ -43,7 +45,7 @@ pub fn products_commute<T: RingWord, R: Reducer<T>>(reducer: &R, a: T, b: T) -> 
 ///
 /// # Preconditions
 ///
-/// A, b and c are checked forms. This isn't tested: outside it the call panics, or returns no
+/// a, b and c are checked forms. This isn't tested: outside it the call panics, or returns no
 /// meaningful result.
 #[inline]
 pub fn products_associate<T: RingWord, R: Reducer<T>>(reducer: &R, a: T, b: T, c: T) -> (T, T) {
@@ -56,7 +58,7 @@ pub fn products_associate<T: RingWord, R: Reducer<T>>(reducer: &R, a: T, b: T, c
 ///
 /// # Preconditions
 ///
-/// A, b and c are checked forms. This isn't tested: outside it the call panics, or returns no
+/// a, b and c are checked forms. This isn't tested: outside it the call panics, or returns no
 /// meaningful result.
 #[inline]
 pub fn products_distribute<T: RingWord, R: Reducer<T>>(reducer: &R, a: T, b: T, c: T) -> (T, T) {
@@ -69,7 +71,7 @@ pub fn products_distribute<T: RingWord, R: Reducer<T>>(reducer: &R, a: T, b: T, 
 ///
 /// # Preconditions
 ///
-/// A is a checked form. This isn't tested: outside it the call panics, or returns no meaningful result.
+/// a is a checked form. This isn't tested: outside it the call panics, or returns no meaningful result.
 #[inline]
 pub fn negative_cancels<T: RingWord, R: Reducer<T>>(reducer: &R, a: T) -> (T, T) {
     let negative = reducer.neg(a);
@@ -90,6 +92,17 @@ pub fn residue_by_form<T: RingWord, R: Reducer<T>>(reducer: &R, n: T) -> T {
 #[inline]
 pub fn same_value<T: RingWord, R: Reducer<T>>(reducer: &R, a: T, b: T) -> bool {
     reducer.residue(a) == reducer.residue(b)
+}
+
+/// Whether `==` is reflexive at a, symmetric at a and b, and transitive at a, b and c: it always is.
+pub fn is_equivalence<I: ModularInteger>(a: &I, b: &I, c: &I) -> bool {
+    // A second name, because linters report `*a == *a`.
+    let same = a;
+    let reflexive = *a == *same;
+    let forth = *a == *b;
+    let back = *b == *a;
+    let transitive = !(forth && *b == *c) || *a == *c;
+    reflexive && forth == back && transitive
 }
 
 /// Forms and values are one to one. The form of a value v fits a word, is checked, and has the value v. A checked

@@ -9,7 +9,7 @@ fn binary_power<T: RingWord, R: Reducer<T>>(reducer: &R, base: T, exp: T) -> (T,
     let mut power = base;
     let mut product = reducer.transform(T::one());
     let mut count = 0;
-    'digits: while !rest.is_zero_word() {
+    while !rest.is_zero_word() {
         if rest.is_odd() {
             product = reducer.mul(&product, &power);
             count += 1;
@@ -47,5 +47,6 @@ pub fn pow_counted<T: RingWord, R: Reducer<T>>(reducer: &R, base: T, exp: &T) ->
 }
 
 /// The number of binary digits of e is the least k with e below 2^k.
+#[doc(hidden)]
 #[inline]
 pub fn digit_laws() {}

@@ -25,6 +25,7 @@ pub trait Reducer<T: RingWord>: Sized {
     ///
     /// Panics unless the reducer admits the modulus.
     #[must_use]
+    #[track_caller]
     fn new(m: &T) -> Self;
 
     /// The form of n mod m, for every word n.

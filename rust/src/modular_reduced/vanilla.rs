@@ -29,6 +29,7 @@ impl<T: PlainWord> Copy for Vanilla<T> {}
 impl<T: PlainWord> Reducer<T> for Vanilla<T> {
     // Condition: the modulus is at least 1.
     #[inline]
+    #[track_caller]
     fn new(m: &T) -> Self {
         let modulus = *m;
         // Reading the word gives the proof that it fits its width.

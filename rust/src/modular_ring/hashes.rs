@@ -22,7 +22,7 @@ pub fn base(n: u64) -> Hash {
 #[inline]
 pub fn hash(base: Hash, text: &[u8]) -> Hash {
     let mut value = base.convert(0);
-    'bytes: for byte in text {
+    for byte in text {
         value = value * base + *byte as u64;
     }
     value
@@ -64,7 +64,7 @@ pub fn find(base: Hash, text: &[u8], pattern: &[u8]) -> Option<usize> {
     let power = base.pow(&(length as u64));
     let mut window = hash(base, &text[..length]);
     let last = text.len() - length;
-    'windows: for at in 0..last {
+    for at in 0..last {
         if is_hit(wanted, window, text, pattern, at) {
             return Some(at);
         }

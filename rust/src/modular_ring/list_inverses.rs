@@ -15,14 +15,14 @@ use crate::modular_word::ring_word::RingWord;
 /// panics, or returns no meaningful result.
 pub fn invert_each<T: RingWord, R: Reducer<T>>(r: &R, forms: &mut [T], products: &mut [T]) -> bool {
     let mut product = r.transform(T::one());
-    'forward: for i in 0..forms.len() {
+    for i in 0..forms.len() {
         products[i] = product;
         product = r.mul(&product, &forms[i]);
     }
     let mut inverse = match r.inv(product) { Some(it) => it, None => {
         return false;
     } };
-    'backward: for k in 0..forms.len() {
+    for k in 0..forms.len() {
         let i = forms.len() - 1 - k;
         let before = r.mul(&inverse, &forms[i]);
         forms[i] = r.mul(&inverse, &products[i]);

@@ -24,7 +24,7 @@ pub fn is_system(moduli: &[u64]) -> bool {
     divisor_laws();
     inverse_laws();
     let mut range: u128 = 1;
-    'moduli: for (place, modulus) in moduli.iter().enumerate() {
+    for (place, modulus) in moduli.iter().enumerate() {
         if *modulus == 0 || !has_inverse(range, *modulus) {
             return false;
         }
@@ -51,10 +51,11 @@ fn next_digit(m: u64, residue: u64, number: u128, range: u128) -> u64 {
 ///
 /// Panics unless each modulus is above 0, and there is room for one residue a modulus.
 #[inline]
+#[track_caller]
 pub fn encode(moduli: &[u64], number: u128, residues: &mut [u64]) {
     assert!(moduli.iter().all(|m| *m > 0), "each modulus must be above 0");
-    assert!(residues.len() == moduli.len(), "there must be room for one residue a modulus");
-    'moduli: for (place, modulus) in moduli.iter().enumerate() {
+    assert!(residues.len() == moduli.len(), "there must be room for one residue a modulus: {} and {}", residues.len(), moduli.len());
+    for (place, modulus) in moduli.iter().enumerate() {
         residues[place] = (number % *modulus as u128) as u64;
     }
 }
@@ -67,7 +68,7 @@ pub fn encode(moduli: &[u64], number: u128, residues: &mut [u64]) {
 /// result.
 #[inline]
 pub fn are_reduced(moduli: &[u64], residues: &[u64]) -> bool {
-    'moduli: for (place, modulus) in moduli.iter().enumerate() {
+    for (place, modulus) in moduli.iter().enumerate() {
         if residues[place] >= *modulus {
             return false;
         }
@@ -82,17 +83,17 @@ pub fn are_reduced(moduli: &[u64], residues: &[u64]) -> bool {
 ///
 /// # Panics
 ///
-/// A debug build panics unless the moduli are a system (`is_system` tells), and each has a residue
-/// below it (`are_reduced` tells). A release build doesn't test that, and outside it panics, or returns
-/// no meaningful result.
+/// Panics unless the moduli are a system (`is_system` tells), and each has a residue below it
+/// (`are_reduced` tells).
+#[track_caller]
 pub fn decode(moduli: &[u64], residues: &[u64]) -> u128 {
-    debug_assert!(is_system(moduli), "the moduli must be a system");
-    debug_assert!(are_reduced(moduli, residues), "each must have a residue below it");
+    assert!(crate::additions::may_be_system(moduli), "the moduli must be a system");
+    assert!(residues.len() >= moduli.len() && are_reduced(moduli, residues), "each must have a residue below it");
     divisor_laws();
     inverse_laws();
     let mut number: u128 = 0;
     let mut range: u128 = 1;
-    'moduli: for (place, modulus) in moduli.iter().enumerate() {
+    for (place, modulus) in moduli.iter().enumerate() {
         let digit = next_digit(*modulus, residues[place], number, range);
         number += range * digit as u128;
         range *= *modulus as u128;

@@ -180,6 +180,7 @@ fn quotient<T: RingWord, R: Reducer<T>>(r: &R, a: &T, b: T) -> Option<T> {
 //
 // Kept out of line, so that the loop of `run` stays small.
 #[inline(never)]
+#[track_caller]
 fn computed_form<T: RingWord, R: Reducer<T>>(
     r: &R,
     regs: &[T],
@@ -298,11 +299,12 @@ fn carry_out<T: RingWord, R: Reducer<T>>(
 /// register number is below the number of registers (`commands_fit` tells). A release build doesn't
 /// test that, and outside it panics, or returns no meaningful result.
 #[inline]
+#[cfg_attr(debug_assertions, track_caller)]
 pub fn run<T: RingWord, R: Reducer<T>>(r: &R, regs: &mut [T], commands: &[RingCommand<T>]) -> RunEnd {
     debug_assert!(all_checked(r, regs), "each register must hold a checked form");
     debug_assert!(commands_fit(commands, regs.len()), "each register number must be below the number of registers");
     let mut last = unwritten(regs);
-    'commands: for (at, command) in commands.iter().enumerate() {
+    for (at, command) in commands.iter().enumerate() {
         if !carry_out(r, regs, &mut last, command) {
             return RunEnd::NoInverse { at };
         }

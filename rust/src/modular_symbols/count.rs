@@ -15,7 +15,7 @@ use crate::modular_word::ring_word::RingWord;
 ///
 /// # Preconditions
 ///
-/// N is odd. This isn't tested: outside it the call panics, or returns no meaningful result.
+/// n is odd. This isn't tested: outside it the call panics, or returns no meaningful result.
 pub fn jacobi_by_count<T: PlainWord>(a_minus: bool, a: T, n: T) -> i8 {
     if invm(a, n).is_none() {
         return 0;
@@ -24,7 +24,7 @@ pub fn jacobi_by_count<T: PlainWord>(a_minus: bool, a: T, n: T) -> i8 {
     let half = n.half();
     let mut x = T::zero();
     let mut odd = false;
-    'half_system: while x.is_below(half) {
+    while x.is_below(half) {
         x = x.plus(T::one());
         if half.is_below(mulm(residue, x, n)) {
             odd = !odd;

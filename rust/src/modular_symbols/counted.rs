@@ -8,6 +8,7 @@ pub mod w16;
 pub mod w32;
 pub mod w64;
 pub mod w8;
+#[cfg(target_pointer_width = "64")]
 pub mod wsize;
 
 /// The Jacobi symbol of a over n and the number of halvings and swaps, counted from the residue of a; `None`

@@ -19,7 +19,7 @@ fn halve_and_swap<T: PlainWord>(a: T, n: T) -> (i8, u32) {
     let mut below = n;
     let mut turned = false;
     let mut count = 0;
-    'swaps: while !above.is_zero_word() {
+    while !above.is_zero_word() {
         let twos = above.trailing_zeros();
         let odd = above.shift_right(twos);
         turned ^= is_turned(odd, twos, below);
@@ -38,7 +38,7 @@ fn halve_and_swap<T: PlainWord>(a: T, n: T) -> (i8, u32) {
 ///
 /// # Preconditions
 ///
-/// N is odd. This isn't tested: outside it the call panics, or returns no meaningful result.
+/// n is odd. This isn't tested: outside it the call panics, or returns no meaningful result.
 #[inline]
 pub fn jacobi_by_halving<T: PlainWord>(a_minus: bool, a: T, n: T) -> i8 {
     jacobi_counted(a_minus, a, n).0
@@ -54,7 +54,7 @@ pub fn jacobi_by_halving<T: PlainWord>(a_minus: bool, a: T, n: T) -> i8 {
 ///
 /// # Preconditions
 ///
-/// N is odd. This isn't tested: outside it the call panics, or returns no meaningful result.
+/// n is odd. This isn't tested: outside it the call panics, or returns no meaningful result.
 #[inline]
 pub fn jacobi_counted<T: PlainWord>(a_minus: bool, a: T, n: T) -> (i8, u32) {
     halve_and_swap(signed_residue(a_minus, a, n), n)
@@ -62,5 +62,6 @@ pub fn jacobi_counted<T: PlainWord>(a_minus: bool, a: T, n: T) -> (i8, u32) {
 
 /// 0 takes no steps. 2^z times an odd number takes z halvings, a swap, and the steps of the residue after the swap.
 /// 2 to the number of steps is at most 2·a·n, for a from 1 to n - 1.
+#[doc(hidden)]
 #[inline]
 pub fn step_laws() {}

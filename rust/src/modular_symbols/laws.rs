@@ -6,10 +6,14 @@
 /// exactly where both are 3 modulo 4 (reciprocity). Over an odd prime the symbol is 0, 1 or -1 as a^((n - 1)/2) is
 /// 0, 1 or -1 modulo n.
 ///
+/// The symbol of a over a product of two odd numbers is the product of the symbols over both. So over a product of odd
+/// primes, which may repeat, it is the product of the Legendre symbols.
+///
 /// The symbol is 1, -1 or 0, and 0 exactly where a and n have a common divisor above 1.
 ///
 /// Source: Hardy and Wright, "An Introduction to the Theory of Numbers", sections 6.5 to 6.13, there
-/// for primes.
+/// for primes; Ireland and Rosen, "A Classical Introduction to Modern Number Theory", section 5.2.
+#[doc(hidden)]
 #[inline]
 pub fn jacobi_laws() {}
 
@@ -18,5 +22,6 @@ pub fn jacobi_laws() {}
 /// are 1 exactly for a quadratic residue: a number congruent to the square of one that p doesn't divide.
 ///
 /// Source: Hardy and Wright, "An Introduction to the Theory of Numbers", sections 6.1 to 6.6.
+#[doc(hidden)]
 #[inline]
 pub fn prime_laws() {}

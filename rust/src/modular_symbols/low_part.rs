@@ -36,6 +36,7 @@ impl LowPart for u64 {
     }
 }
 
+#[cfg(target_pointer_width = "64")]
 impl LowPart for usize {
     #[inline]
     fn low_part(self) -> u32 {

@@ -12,7 +12,7 @@ use crate::modular_word::ring_word::RingWord;
 ///
 /// # Preconditions
 ///
-/// N is odd. This isn't tested: outside it the call panics, or returns no meaningful result.
+/// n is odd. This isn't tested: outside it the call panics, or returns no meaningful result.
 #[inline]
 pub fn jacobi_symbol<T: PlainWord>(a_minus: bool, a: T, n: T) -> i8 {
     jacobi_by_halving(a_minus, a, n)
@@ -22,7 +22,7 @@ pub fn jacobi_symbol<T: PlainWord>(a_minus: bool, a: T, n: T) -> i8 {
 ///
 /// # Preconditions
 ///
-/// A negative n has a magnitude of at least 1. This isn't tested: outside it the call panics, or
+/// a negative n has a magnitude of at least 1. This isn't tested: outside it the call panics, or
 /// returns no meaningful result.
 #[inline]
 pub fn checked_jacobi<T: PlainWord>(a_minus: bool, a: T, n_minus: bool, n: T) -> Option<i8> {
@@ -40,7 +40,7 @@ pub fn checked_jacobi<T: PlainWord>(a_minus: bool, a: T, n_minus: bool, n: T) ->
 ///
 /// # Preconditions
 ///
-/// A negative n has a magnitude of at least 1. This isn't tested: outside it the call panics, or
+/// a negative n has a magnitude of at least 1. This isn't tested: outside it the call panics, or
 /// returns no meaningful result.
 #[inline]
 pub fn checked_legendre<T: PlainWord>(a_minus: bool, a: T, n_minus: bool, n: T) -> Option<i8> {
@@ -91,7 +91,7 @@ fn symbol_above<T: PlainWord>(a_minus: bool, a: T, n: T) -> i8 {
 ///
 /// # Preconditions
 ///
-/// A negative number has a magnitude of at least 1. This isn't tested: outside it the call panics, or
+/// a negative number has a magnitude of at least 1. This isn't tested: outside it the call panics, or
 /// returns no meaningful result.
 #[inline]
 pub fn kronecker_symbol<T: PlainWord>(a_minus: bool, a: T, n_minus: bool, n: T) -> i8 {

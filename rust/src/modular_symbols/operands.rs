@@ -9,6 +9,7 @@ use crate::modular_prim::plain_word::PlainWord;
 ///
 /// It has no methods. Code that is generic over the modular operations and the symbols uses it to treat both
 /// numbers of an operand as one.
+#[doc(hidden)]
 pub trait UnsignedOperand: Sized + Numbered + IntegerValued + Eq {}
 
 impl<Any: Numbered + IntegerValued + Eq> UnsignedOperand for Any {}
@@ -58,6 +59,7 @@ impl SymbolWord for u64 {
     }
 }
 
+#[cfg(target_pointer_width = "64")]
 impl SymbolWord for usize {
     type Magnitude = usize;
 
@@ -103,6 +105,7 @@ impl SymbolWord for i64 {
     }
 }
 
+#[cfg(target_pointer_width = "64")]
 impl SymbolWord for isize {
     type Magnitude = usize;
 

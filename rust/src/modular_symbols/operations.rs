@@ -8,6 +8,7 @@ use crate::modular_prim::plain_word::PlainWord;
 
 /// All modular operations and the symbols of a word, with operands by value and the modulus by reference. The
 /// contracts of these traits give each result to generic code.
+#[doc(hidden)]
 pub trait ModularOps<Rhs: Numbered = Self, Modulus: UnsignedOperand = Self, Output: Numbered = Self>: Sized + UnsignedOperand
     + ModularCoreOps<Rhs, Modulus, Output = Output>
     + ModularUnaryOps<Modulus, Output = Output>

@@ -14,6 +14,7 @@ pub trait ModularRefOps: UnsignedOperand + Copy {
     ///
     /// Panics unless m is at least 1.
     #[must_use]
+    #[cfg_attr(debug_assertions, track_caller)]
     fn addm_ref(&self, rhs: &Self, m: &Self) -> Self;
 
     /// The residue of the difference.
@@ -22,6 +23,7 @@ pub trait ModularRefOps: UnsignedOperand + Copy {
     ///
     /// Panics unless m is at least 1.
     #[must_use]
+    #[cfg_attr(debug_assertions, track_caller)]
     fn subm_ref(&self, rhs: &Self, m: &Self) -> Self;
 
     /// The residue of the product.
@@ -30,6 +32,7 @@ pub trait ModularRefOps: UnsignedOperand + Copy {
     ///
     /// Panics unless m is at least 1.
     #[must_use]
+    #[cfg_attr(debug_assertions, track_caller)]
     fn mulm_ref(&self, rhs: &Self, m: &Self) -> Self;
 
     /// The residue of the negative.
@@ -38,6 +41,7 @@ pub trait ModularRefOps: UnsignedOperand + Copy {
     ///
     /// Panics unless m is at least 1.
     #[must_use]
+    #[cfg_attr(debug_assertions, track_caller)]
     fn negm_ref(&self, m: &Self) -> Self;
 
     /// The inverse modulo m, 0 for m = 1; `None` exactly where there is none.
@@ -45,6 +49,7 @@ pub trait ModularRefOps: UnsignedOperand + Copy {
     /// # Panics
     ///
     /// Panics unless m is at least 1.
+    #[cfg_attr(debug_assertions, track_caller)]
     fn invm_ref(&self, m: &Self) -> Option<Self>;
 
     /// The residue of the double.
@@ -53,6 +58,7 @@ pub trait ModularRefOps: UnsignedOperand + Copy {
     ///
     /// Panics unless m is at least 1.
     #[must_use]
+    #[cfg_attr(debug_assertions, track_caller)]
     fn dblm_ref(&self, m: &Self) -> Self;
 
     /// The residue of the square.
@@ -61,6 +67,7 @@ pub trait ModularRefOps: UnsignedOperand + Copy {
     ///
     /// Panics unless m is at least 1.
     #[must_use]
+    #[cfg_attr(debug_assertions, track_caller)]
     fn sqm_ref(&self, m: &Self) -> Self;
 
     /// The residue of the power to the exponent `exp`; that of 1 for the exponent 0.
@@ -69,6 +76,7 @@ pub trait ModularRefOps: UnsignedOperand + Copy {
     ///
     /// Panics unless m is at least 1.
     #[must_use]
+    #[cfg_attr(debug_assertions, track_caller)]
     fn powm_ref(&self, exp: &Self, m: &Self) -> Self;
 
     /// 0, 1 or -1, as `checked_legendre` returns it; `None` where the power is none of these, and for n = 0.
@@ -83,41 +91,49 @@ pub trait ModularRefOps: UnsignedOperand + Copy {
 
 impl<T: PlainWord + SymbolWord + UnsignedOperand> ModularRefOps for T {
     #[inline]
+    #[cfg_attr(debug_assertions, track_caller)]
     fn addm_ref(&self, rhs: &T, m: &T) -> T {
         residues::addm(*self, *rhs, *m)
     }
 
     #[inline]
+    #[cfg_attr(debug_assertions, track_caller)]
     fn subm_ref(&self, rhs: &T, m: &T) -> T {
         residues::subm(*self, *rhs, *m)
     }
 
     #[inline]
+    #[cfg_attr(debug_assertions, track_caller)]
     fn mulm_ref(&self, rhs: &T, m: &T) -> T {
         residues::mulm(*self, *rhs, *m)
     }
 
     #[inline]
+    #[cfg_attr(debug_assertions, track_caller)]
     fn negm_ref(&self, m: &T) -> T {
         residues::negm(*self, *m)
     }
 
     #[inline]
+    #[cfg_attr(debug_assertions, track_caller)]
     fn invm_ref(&self, m: &T) -> Option<T> {
         euclid::invm(*self, *m)
     }
 
     #[inline]
+    #[cfg_attr(debug_assertions, track_caller)]
     fn dblm_ref(&self, m: &T) -> T {
         residues::dblm(*self, *m)
     }
 
     #[inline]
+    #[cfg_attr(debug_assertions, track_caller)]
     fn sqm_ref(&self, m: &T) -> T {
         residues::sqm(*self, *m)
     }
 
     #[inline]
+    #[cfg_attr(debug_assertions, track_caller)]
     fn powm_ref(&self, exp: &T, m: &T) -> T {
         power::powm(*self, *exp, *m)
     }

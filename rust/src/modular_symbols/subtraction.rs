@@ -42,7 +42,7 @@ fn subtract_and_halve<T: LowPart>(a: T, n: T) -> i8 {
     let (mut above, mut twos) = odd_part(a, n);
     let mut below = n;
     let mut swaps = 0;
-    'differences: while above != below {
+    while above != below {
         let (difference, smaller, all_swaps, all_twos) = one_difference(above, below, swaps, twos);
         above = difference;
         below = smaller;
@@ -69,7 +69,7 @@ fn subtract_and_halve<T: LowPart>(a: T, n: T) -> i8 {
 ///
 /// # Preconditions
 ///
-/// N is odd. This isn't tested: outside it the call panics, or returns no meaningful result.
+/// n is odd. This isn't tested: outside it the call panics, or returns no meaningful result.
 #[inline]
 pub fn jacobi_by_subtraction<T: LowPart>(a_minus: bool, a: T, n: T) -> i8 {
     subtract_and_halve(signed_residue(a_minus, a, n), n)

@@ -20,6 +20,7 @@ pub trait ModularSymbols<Modulus: IntegerValued = Self>: IntegerValued {
     ///
     /// Panics unless `checked_legendre` is `Some`, as it is for each odd prime n.
     #[inline]
+    #[track_caller]
     fn legendre(&self, n: Modulus) -> i8 {
         match self.checked_legendre(n) {
             Some(symbol) => symbol,
@@ -40,6 +41,7 @@ pub trait ModularSymbols<Modulus: IntegerValued = Self>: IntegerValued {
     ///
     /// Panics unless n is odd and above 0.
     #[inline]
+    #[track_caller]
     fn jacobi(&self, n: Modulus) -> i8 {
         match self.checked_jacobi(n) {
             Some(symbol) => symbol,

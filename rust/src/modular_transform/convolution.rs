@@ -8,7 +8,7 @@ use crate::modular_word::ring_word::RingWord;
 // Multiplies each entry of xs by the entry of ys with the same index.
 #[inline]
 fn multiply_each<T: RingWord, R: Reducer<T>>(r: &R, xs: &mut [T], ys: &[T]) {
-    'entries: for i in 0..xs.len() {
+    for i in 0..xs.len() {
         xs[i] = r.mul(&xs[i], &ys[i]);
     }
 }
@@ -21,7 +21,7 @@ fn multiply_each<T: RingWord, R: Reducer<T>>(r: &R, xs: &mut [T], ys: &[T]) {
 /// returns no meaningful result.
 #[inline]
 pub fn scale<T: RingWord, R: Reducer<T>>(r: &R, xs: &mut [T], factor: &T) {
-    'entries: for i in 0..xs.len() {
+    for i in 0..xs.len() {
         xs[i] = r.mul(&xs[i], factor);
     }
 }
@@ -30,7 +30,7 @@ pub fn scale<T: RingWord, R: Reducer<T>>(r: &R, xs: &mut [T], factor: &T) {
 #[inline]
 fn length_form<T: RingWord, R: Reducer<T>>(r: &R, n: usize) -> T {
     let mut length = r.transform(T::one());
-    'doublings: for _done in 0..n.trailing_zeros() {
+    for _done in 0..n.trailing_zeros() {
         length = r.dbl(length);
     }
     length
@@ -71,15 +71,16 @@ fn multiply<T: RingWord, R: Reducer<T>>(r: &R, xs: &mut [T], ys: &mut [T], g: &T
 ///
 /// # Panics
 ///
-/// Panics unless the lists have the same length, and the length is a power of two. A debug build also
-/// panics unless g and all entries are checked forms, and g suits the length (`root_fits` tells). A
+/// Panics unless the lists have the same length, and the length is a power of two, and g suits the
+/// length (`root_fits` tells). A debug build also panics unless g and all entries are checked forms. A
 /// release build doesn't test that, and outside it panics, or returns no meaningful result.
 #[inline]
+#[track_caller]
 pub fn convolve<T: RingWord, R: Reducer<T>>(r: &R, xs: &mut [T], ys: &mut [T], g: &T) -> bool {
-    assert!(ys.len() == xs.len(), "the lists must have the same length");
-    assert!(xs.len().is_power_of_two(), "the length must be a power of two");
+    assert!(ys.len() == xs.len(), "the lists must have the same length: {} and {}", xs.len(), ys.len());
+    assert!(xs.len().is_power_of_two(), "the length must be a power of two: {}", xs.len());
     debug_assert!(r.check(g) && xs.iter().all(|x| r.check(x)) && ys.iter().all(|y| r.check(y)), "g and all entries must be checked forms");
-    debug_assert!(crate::modular_transform::transform::root_fits(r, g, xs.len()), "g must suit the length");
+    assert!(r.check(g) && crate::modular_transform::transform::root_fits(r, g, xs.len()), "g must suit the length: n = {}, m = {}, g = {}", xs.len(), crate::additions::number(r.modulus()), crate::additions::number(r.residue(*g)));
     let length = length_form(r, xs.len());
     match r.inv(length) {
         Some(part) => {

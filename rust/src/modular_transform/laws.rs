@@ -6,6 +6,7 @@
 /// by g, gives n times the values; times an inverse of n, it gives the values.
 ///
 /// Source: Pollard, "The fast Fourier transform in a finite field", section 2.
+#[doc(hidden)]
 #[inline]
 pub fn transform_laws() {}
 
@@ -14,5 +15,6 @@ pub fn transform_laws() {}
 /// by the values of the polynomials at each b.
 ///
 /// Source: Knuth, The Art of Computer Programming, volume 2, section 4.3.3, part C.
+#[doc(hidden)]
 #[inline]
 pub fn product_laws() {}

@@ -9,7 +9,7 @@ use crate::modular_word::ring_word::RingWord;
 /// The result is what `convolve` and `ntt` take: the values are the residues of the words.
 #[inline]
 pub fn load_forms<T: RingWord, R: Reducer<T>>(r: &R, words: &[T], forms: &mut [T]) {
-    'entries: for i in 0..forms.len() {
+    for i in 0..forms.len() {
         let word = if i < words.len() { words[i] } else { T::zero() };
         forms[i] = r.transform(word);
     }
@@ -23,7 +23,7 @@ pub fn load_forms<T: RingWord, R: Reducer<T>>(r: &R, words: &[T], forms: &mut [T
 /// panics, or returns no meaningful result.
 #[inline]
 pub fn unload_forms<T: RingWord, R: Reducer<T>>(r: &R, forms: &[T], words: &mut [T]) {
-    'entries: for i in 0..words.len() {
+    for i in 0..words.len() {
         words[i] = r.residue(forms[i]);
     }
 }

@@ -24,7 +24,7 @@ pub fn reverse_places<T: Copy>(entries: &mut [T], bits: u32) {
 #[inline]
 fn reverse_one_by_one<T: Copy>(entries: &mut [T], bits: u32) {
     let mut other = 0;
-    'places: for place in 0..entries.len() {
+    for place in 0..entries.len() {
         other = next_reversed(other, place, bits);
         if place < other {
             entries.swap(place, other);
@@ -39,14 +39,14 @@ fn reverse_one_by_one<T: Copy>(entries: &mut [T], bits: u32) {
 fn reverse_by_tiles<T: Copy>(entries: &mut [T], bits: u32) {
     let step = entries.len() / SIDE;
     let mut other = 0;
-    'tiles: for tile in 0..step / SIDE {
+    for tile in 0..step / SIDE {
         other = next_reversed(other, tile, bits - 2 * SIDE_BITS);
         if tile <= other {
             let mut to_column = 0;
-            'rows: for row in 0..SIDE {
+            for row in 0..SIDE {
                 to_column = next_reversed(to_column, row, SIDE_BITS);
                 let mut to_row = 0;
-                'columns: for column in 0..SIDE {
+                for column in 0..SIDE {
                     to_row = next_reversed(to_row, column, SIDE_BITS);
                     if tile < other || row * SIDE + column < to_row * SIDE + to_column {
                         let place = row * step + tile * SIDE + column;
@@ -74,7 +74,7 @@ fn next_reversed(last: usize, place: usize, bits: u32) -> usize {
 #[inline]
 pub fn mirror<T: Copy>(entries: &mut [T]) {
     let n = entries.len();
-    'places: for place in 1..n {
+    for place in 1..n {
         let other = n - place;
         if place < other {
             entries.swap(place, other);

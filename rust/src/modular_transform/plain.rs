@@ -8,7 +8,7 @@ use crate::modular_word::plain::power_of;
 ///
 /// # Preconditions
 ///
-/// M is at least 1. This isn't tested: outside it the call panics, or returns no meaningful result.
+/// m is at least 1. This isn't tested: outside it the call panics, or returns no meaningful result.
 #[inline]
 pub fn suits(m: u64, g: u64, n: usize) -> bool {
     if !n.is_power_of_two() {
@@ -24,12 +24,12 @@ pub fn suits(m: u64, g: u64, n: usize) -> bool {
 ///
 /// # Preconditions
 ///
-/// M is at least 1. This isn't tested: outside it the call panics, or returns no meaningful result.
+/// m is at least 1. This isn't tested: outside it the call panics, or returns no meaningful result.
 pub fn transform_entry(m: u64, g: u64, xs: &[u64], j: usize) -> u64 {
     let step = power_of(g, j as u64, m);
     let mut power = 1 % m;
     let mut sum = 0;
-    'terms: for i in 0..xs.len() {
+    for i in 0..xs.len() {
         sum = ((sum as u128 + xs[i] as u128 * power as u128) % m as u128) as u64;
         power = (power as u128 * step as u128 % m as u128) as u64;
     }
@@ -49,7 +49,7 @@ fn term(product: u128, i: usize, j: usize, e: usize, n: usize) -> u128 {
 // The sum of the terms of entry e of the cyclic product that have the factor x with index i.
 fn row_sum(m: u64, x: u64, i: usize, ys: &[u64], e: usize) -> u64 {
     let mut sum = 0;
-    'terms: for j in 0..ys.len() {
+    for j in 0..ys.len() {
         let product = x as u128 * ys[j] as u128;
         let term = term(product, i, j, e, ys.len()) % m as u128;
         sum = ((sum as u128 + term) % m as u128) as u64;
@@ -61,11 +61,12 @@ fn row_sum(m: u64, x: u64, i: usize, ys: &[u64], e: usize) -> u64 {
 ///
 /// # Preconditions
 ///
-/// M is at least 1, the lists have the same length, and e is below it. This isn't tested: outside it
+/// m is at least 1, the lists have the same length, and e is below it. This isn't tested: outside it
 /// the call panics, or returns no meaningful result.
+#[inline]
 pub fn product_entry(m: u64, xs: &[u64], ys: &[u64], e: usize) -> u64 {
     let mut sum = 0;
-    'rows: for i in 0..xs.len() {
+    for i in 0..xs.len() {
         let row = row_sum(m, xs[i], i, ys, e);
         sum = ((sum as u128 + row as u128) % m as u128) as u64;
     }

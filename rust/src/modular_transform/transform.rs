@@ -11,7 +11,7 @@ use crate::modular_word::ring_word::RingWord;
 ///
 /// # Preconditions
 ///
-/// G is a checked form. This isn't tested: outside it the call panics, or returns no meaningful result.
+/// g is a checked form. This isn't tested: outside it the call panics, or returns no meaningful result.
 pub fn root_fits<T: RingWord, R: Reducer<T>>(r: &R, g: &T, n: usize) -> bool {
     if !n.is_power_of_two() {
         return false;
@@ -20,7 +20,7 @@ pub fn root_fits<T: RingWord, R: Reducer<T>>(r: &R, g: &T, n: usize) -> bool {
         return true;
     }
     let mut power = *g;
-    'squares: for _done in 1..n.trailing_zeros() {
+    for _done in 1..n.trailing_zeros() {
         power = r.sqr(power);
     }
     let one = r.transform(T::one());
@@ -34,18 +34,19 @@ pub fn root_fits<T: RingWord, R: Reducer<T>>(r: &R, g: &T, n: usize) -> bool {
 ///
 /// # Panics
 ///
-/// Panics unless the length is a power of two. A debug build also panics unless g and the entries are
-/// checked forms, and g suits the length (`root_fits` tells). A release build doesn't test that, and
+/// Panics unless the length is a power of two, and g suits the length (`root_fits` tells). A debug
+/// build also panics unless g and the entries are checked forms. A release build doesn't test that, and
 /// outside it panics, or returns no meaningful result.
+#[track_caller]
 pub fn ntt_counted<T: RingWord, R: Reducer<T>>(r: &R, xs: &mut [T], g: &T) -> u128 {
-    assert!(xs.len().is_power_of_two(), "the length must be a power of two");
+    assert!(xs.len().is_power_of_two(), "the length must be a power of two: {}", xs.len());
     debug_assert!(r.check(g) && xs.iter().all(|x| r.check(x)), "g and the entries must be checked forms");
-    debug_assert!(root_fits(r, g, xs.len()), "g must suit the length");
+    assert!(r.check(g) && root_fits(r, g, xs.len()), "g must suit the length: n = {}, m = {}, g = {}", xs.len(), crate::additions::number(r.modulus()), crate::additions::number(r.residue(*g)));
     let stages = xs.len().trailing_zeros();
     let mut roots = [*g; 64];
     let mut root = *g;
     let mut products = 0;
-    'roots: for i in 0..stages as usize {
+    for i in 0..stages as usize {
         roots[i] = root;
         root = r.sqr(root);
         products += 1;
@@ -59,7 +60,7 @@ pub fn ntt_counted<T: RingWord, R: Reducer<T>>(r: &R, xs: &mut [T], g: &T) -> u1
         blocks = 2;
         done = 1;
     }
-    'passes: while done < stages as usize {
+    while done < stages as usize {
         let (root, square) = (roots[done], roots[done + 1]);
         let turned = roots[stages as usize - 2];
         products += two_stages(r, xs, half / 2, blocks, &root, &square, &turned);
@@ -95,10 +96,11 @@ pub fn ntt_counted<T: RingWord, R: Reducer<T>>(r: &R, xs: &mut [T], g: &T) -> u1
 ///
 /// # Panics
 ///
-/// Panics unless the length is a power of two. A debug build also panics unless g and the entries are
-/// checked forms, and g suits the length (`root_fits` tells). A release build doesn't test that, and
+/// Panics unless the length is a power of two, and g suits the length (`root_fits` tells). A debug
+/// build also panics unless g and the entries are checked forms. A release build doesn't test that, and
 /// outside it panics, or returns no meaningful result.
 #[inline]
+#[track_caller]
 pub fn ntt<T: RingWord, R: Reducer<T>>(r: &R, xs: &mut [T], g: &T) {
     let _products = ntt_counted(r, xs, g);
 }

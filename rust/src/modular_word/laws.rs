@@ -6,6 +6,7 @@ use crate::modular_word::path_word::PathWord;
 
 /// A number is below the base exactly where it is below 2^w, for words of w bits. The base is at least 256. Its
 /// square is the number of double words, and the high word of a double word is below it.
+#[doc(hidden)]
 #[inline]
 pub fn base_laws<T: PathWord>() {}
 
@@ -13,6 +14,7 @@ pub fn base_laws<T: PathWord>() {}
 /// congruent to a modulo m.
 ///
 /// Source: Gauss, Disquisitiones Arithmeticae, articles 1 to 4.
+#[doc(hidden)]
 #[inline]
 pub fn residue_laws() {}
 
@@ -20,6 +22,7 @@ pub fn residue_laws() {}
 /// takes the same laws by `using(modular_word::proofs::Remainders::remainders)`.
 ///
 /// Source: Gauss, Disquisitiones Arithmeticae, articles 6 to 8.
+#[doc(hidden)]
 #[inline]
 pub fn remainder_laws() {}
 
@@ -27,10 +30,12 @@ pub fn remainder_laws() {}
 /// it. A term cancels, and so does a factor that has an inverse.
 ///
 /// Source: Gauss, Disquisitiones Arithmeticae, articles 2, 6 to 8 and 22.
+#[doc(hidden)]
 #[inline]
 pub fn congruence_laws() {}
 
 /// The laws of exponents.
+#[doc(hidden)]
 #[inline]
 pub fn power_laws() {}
 
@@ -38,6 +43,7 @@ pub fn power_laws() {}
 /// a number is coprime to n depends only on its residue modulo n.
 ///
 /// Source: Euclid, Elements, book VII, propositions 1 and 2.
+#[doc(hidden)]
 #[inline]
 pub fn divisor_laws() {}
 
@@ -45,12 +51,14 @@ pub fn divisor_laws() {}
 /// is at most one, and `inverse_of` is it, or `None` where there is none. It depends only on the residue.
 ///
 /// Source: Gauss, Disquisitiones Arithmeticae, articles 29 and 31.
+#[doc(hidden)]
 #[inline]
 pub fn inverse_laws() {}
 
 /// Euclid's lemma: where n divides a·b and is coprime to a, it divides b.
 ///
 /// Source: Euclid, Elements, book VII, proposition 30 (there for a prime n).
+#[doc(hidden)]
 #[inline]
 pub fn euclids_lemma() {}
 
@@ -59,6 +67,7 @@ pub fn euclids_lemma() {}
 /// many fail it, add up to the length of the range. A sum from 1 to h is a sum from 0 to h - 1.
 ///
 /// Source: Graham, Knuth and Patashnik, Concrete Mathematics, chapter 2.
+#[doc(hidden)]
 #[inline]
 pub fn sum_laws() {}
 
@@ -67,6 +76,7 @@ pub fn sum_laws() {}
 /// coefficient.
 ///
 /// Source: Knuth, The Art of Computer Programming, volume 2, section 4.6.4.
+#[doc(hidden)]
 #[inline]
 pub fn range_laws() {}
 
@@ -76,5 +86,6 @@ pub fn range_laws() {}
 ///
 /// Source: Gauss, Disquisitiones Arithmeticae, articles 29, 31 and 36; Knuth, The Art of Computer
 /// Programming, volume 2, section 4.3.2.
+#[doc(hidden)]
 #[inline]
 pub fn linear_congruence_laws() {}

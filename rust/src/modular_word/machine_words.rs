@@ -2,16 +2,6 @@
 
 use crate::modular_word::path_word::PathWord;
 
-// `high_sum_modulo` of words of 64 bits. It adds single words, since a sum of double words takes longer.
-fn high_sum_modulo_64(first: u128, second: u128, m: u64) -> u64 {
-    let (_, first_high) = <u64 as PathWord>::split(first);
-    let (low, high) = <u64 as PathWord>::split(second);
-    // The low words add up to 0, or to the base.
-    let carried = if low == 0 { high } else { high + 1 };
-    let (rest, is_above) = first_high.wrapping_sub(m).overflowing_add(carried);
-    if is_above { rest } else { rest.wrapping_add(m) }
-}
-
 impl PathWord for u8 {
     type Double = u16;
 
@@ -42,6 +32,11 @@ impl PathWord for u8 {
     #[inline]
     fn wrapping_add(self, rhs: u8) -> u8 {
         self.wrapping_add(rhs)
+    }
+
+    #[inline]
+    fn overflowing_add(self, rhs: u8) -> (u8, bool) {
+        self.overflowing_add(rhs)
     }
 
     #[inline]
@@ -105,15 +100,13 @@ impl PathWord for u8 {
     }
 
     #[inline]
-    fn high_sum_modulo(first: u16, second: u16, m: u8) -> u8 {
-        let (rest, is_above) = second.overflowing_add(first.wrapping_sub((m as u16) << 8));
-        let high = (rest >> 8) as u8;
-        if is_above { high } else { high.wrapping_add(m) }
+    fn double_plus(first: u16, second: u16) -> u16 {
+        first + second
     }
 
     #[inline]
-    fn double_plus(first: u16, second: u16) -> u16 {
-        first + second
+    fn double_overflowing_add(first: u16, second: u16) -> (u16, bool) {
+        first.overflowing_add(second)
     }
 }
 
@@ -147,6 +140,11 @@ impl PathWord for u16 {
     #[inline]
     fn wrapping_add(self, rhs: u16) -> u16 {
         self.wrapping_add(rhs)
+    }
+
+    #[inline]
+    fn overflowing_add(self, rhs: u16) -> (u16, bool) {
+        self.overflowing_add(rhs)
     }
 
     #[inline]
@@ -210,15 +208,13 @@ impl PathWord for u16 {
     }
 
     #[inline]
-    fn high_sum_modulo(first: u32, second: u32, m: u16) -> u16 {
-        let (rest, is_above) = second.overflowing_add(first.wrapping_sub((m as u32) << 16));
-        let high = (rest >> 16) as u16;
-        if is_above { high } else { high.wrapping_add(m) }
+    fn double_plus(first: u32, second: u32) -> u32 {
+        first + second
     }
 
     #[inline]
-    fn double_plus(first: u32, second: u32) -> u32 {
-        first + second
+    fn double_overflowing_add(first: u32, second: u32) -> (u32, bool) {
+        first.overflowing_add(second)
     }
 }
 
@@ -252,6 +248,11 @@ impl PathWord for u32 {
     #[inline]
     fn wrapping_add(self, rhs: u32) -> u32 {
         self.wrapping_add(rhs)
+    }
+
+    #[inline]
+    fn overflowing_add(self, rhs: u32) -> (u32, bool) {
+        self.overflowing_add(rhs)
     }
 
     #[inline]
@@ -315,15 +316,13 @@ impl PathWord for u32 {
     }
 
     #[inline]
-    fn high_sum_modulo(first: u64, second: u64, m: u32) -> u32 {
-        let (rest, is_above) = second.overflowing_add(first.wrapping_sub((m as u64) << 32));
-        let high = (rest >> 32) as u32;
-        if is_above { high } else { high.wrapping_add(m) }
+    fn double_plus(first: u64, second: u64) -> u64 {
+        first + second
     }
 
     #[inline]
-    fn double_plus(first: u64, second: u64) -> u64 {
-        first + second
+    fn double_overflowing_add(first: u64, second: u64) -> (u64, bool) {
+        first.overflowing_add(second)
     }
 }
 
@@ -355,6 +354,11 @@ impl PathWord for u64 {
     #[inline]
     fn wrapping_add(self, rhs: u64) -> u64 {
         self.wrapping_add(rhs)
+    }
+
+    #[inline]
+    fn overflowing_add(self, rhs: u64) -> (u64, bool) {
+        self.overflowing_add(rhs)
     }
 
     #[inline]
@@ -421,16 +425,17 @@ impl PathWord for u64 {
     }
 
     #[inline]
-    fn high_sum_modulo(first: u128, second: u128, m: u64) -> u64 {
-        high_sum_modulo_64(first, second, m)
-    }
-
-    #[inline]
     fn double_plus(first: u128, second: u128) -> u128 {
         first + second
     }
+
+    #[inline]
+    fn double_overflowing_add(first: u128, second: u128) -> (u128, bool) {
+        first.overflowing_add(second)
+    }
 }
 
+#[cfg(target_pointer_width = "64")]
 impl PathWord for usize {
     type Double = u128;
 
@@ -459,6 +464,11 @@ impl PathWord for usize {
     #[inline]
     fn wrapping_add(self, rhs: usize) -> usize {
         self.wrapping_add(rhs)
+    }
+
+    #[inline]
+    fn overflowing_add(self, rhs: usize) -> (usize, bool) {
+        self.overflowing_add(rhs)
     }
 
     #[inline]
@@ -525,12 +535,12 @@ impl PathWord for usize {
     }
 
     #[inline]
-    fn high_sum_modulo(first: u128, second: u128, m: usize) -> usize {
-        high_sum_modulo_64(first, second, m as u64) as usize
+    fn double_plus(first: u128, second: u128) -> u128 {
+        first + second
     }
 
     #[inline]
-    fn double_plus(first: u128, second: u128) -> u128 {
-        first + second
+    fn double_overflowing_add(first: u128, second: u128) -> (u128, bool) {
+        first.overflowing_add(second)
     }
 }

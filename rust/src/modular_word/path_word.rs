@@ -46,6 +46,9 @@ pub trait PathWord: Sized + RingWord {
     #[must_use]
     fn wrapping_add(self, rhs: Self) -> Self;
 
+    /// The sum modulo the base, and whether it overflows: the carry.
+    fn overflowing_add(self, rhs: Self) -> (Self, bool);
+
     /// The difference modulo the base: the word whose sum with `rhs`, modulo the base, is `self`.
     #[must_use]
     fn wrapping_sub(self, rhs: Self) -> Self;
@@ -107,17 +110,6 @@ pub trait PathWord: Sized + RingWord {
     /// The double word with a given low and high word.
     fn merge(low: Self, high: Self) -> Self::Double;
 
-    /// The high word of the sum of two double words, modulo m, below m.
-    ///
-    /// The sum may overflow a double word; its carry is counted.
-    ///
-    /// # Preconditions
-    ///
-    /// The low word of the sum is 0, and each of the two is below m times the base. This isn't tested:
-    /// outside it the call panics, or returns no meaningful result.
-    #[must_use]
-    fn high_sum_modulo(first: Self::Double, second: Self::Double, m: Self) -> Self;
-
     /// The sum of two double words.
     ///
     /// # Preconditions
@@ -125,4 +117,7 @@ pub trait PathWord: Sized + RingWord {
     /// It fits a double word. This isn't tested: outside it the call panics, or returns no meaningful
     /// result.
     fn double_plus(first: Self::Double, second: Self::Double) -> Self::Double;
+
+    /// The sum of two double words modulo the square of the base, and whether it overflows: the carry.
+    fn double_overflowing_add(first: Self::Double, second: Self::Double) -> (Self::Double, bool);
 }

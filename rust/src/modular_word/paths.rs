@@ -7,7 +7,7 @@ use crate::modular_word::path_word::PathWord;
 ///
 /// # Preconditions
 ///
-/// N is at most the width. This isn't tested: outside it the call panics, or returns no meaningful
+/// n is at most the width. This isn't tested: outside it the call panics, or returns no meaningful
 /// result.
 #[inline]
 pub fn ones<T: PathWord>(n: u32) -> T {
@@ -117,12 +117,12 @@ pub fn exact_2<T: PathWord>(d: T, inverse: T, limit: T, n: T::Double) -> Option<
 ///
 /// # Preconditions
 ///
-/// M is odd. This isn't tested: outside it the call panics, or returns no meaningful result.
+/// m is odd. This isn't tested: outside it the call panics, or returns no meaningful result.
 pub fn neginv<T: PathWord>(m: T) -> T {
     let two = two::<T>();
     let mut inverse = m;
     let mut bits = 3;
-    'lift: while bits < T::bits() {
+    while bits < T::bits() {
         inverse = inverse.wrapping_mul(two.wrapping_sub(m.wrapping_mul(inverse)));
         bits += bits;
     }
@@ -133,7 +133,7 @@ pub fn neginv<T: PathWord>(m: T) -> T {
 ///
 /// # Preconditions
 ///
-/// M times `negated_inverse` is -1 modulo the base. This isn't tested: outside it the call panics, or
+/// m times `negated_inverse` is -1 modulo the base. This isn't tested: outside it the call panics, or
 /// returns no meaningful result.
 #[inline]
 pub fn clearing<T: PathWord>(m: T, negated_inverse: T, t: T::Double) -> T {
@@ -141,17 +141,51 @@ pub fn clearing<T: PathWord>(m: T, negated_inverse: T, t: T::Double) -> T {
     low.wrapping_mul(negated_inverse)
 }
 
+// The high word modulo m of the sum of t and `multiple`, whose low word is 0. Single words are added: the high words,
+// and the carry of the low ones, which add up to 0 or to the base. Conditions: t and `multiple` are below m times the
+// base.
+fn high_sum_by_words<T: PathWord>(t: T::Double, multiple: T::Double, m: T) -> T {
+    let (_, high) = T::split(t);
+    let (low, more) = T::split(multiple);
+    let carried = if low.is_zero_word() {
+        more
+    } else {
+        more.plus(T::one())
+    };
+    let (rest, is_above) = high.wrapping_sub(m).overflowing_add(carried);
+    if is_above { rest } else { rest.wrapping_add(m) }
+}
+
+// The same by one sum of double words, to which the base less m is added as a high word: it overflows exactly where
+// the high word of the sum is at least m.
+fn high_sum_by_double_words<T: PathWord>(t: T::Double, multiple: T::Double, m: T) -> T {
+    let complement = T::zero().wrapping_sub(m);
+    let more = T::double_plus(t, T::merge(T::zero(), complement));
+    let (sum, is_above) = T::double_overflowing_add(more, multiple);
+    let (_, rest) = T::split(sum);
+    if is_above { rest } else { rest.wrapping_add(m) }
+}
+
 /// The second step of Montgomery's reduction of t, given the word x of `clearing` and the product x·m: (t + x·m)
 /// divided by the base, less m where that is at least m. The caller passes x·m because a modulus of a special form
 /// may compute it faster.
 ///
+/// The sum may overflow a double word; its carry is counted. Where a double word is longer than a machine word, adding
+/// single words is faster.
+///
 /// # Preconditions
 ///
-/// T is below m times the base, and the sum of t and x·m has 0 in the low word. This isn't tested:
+/// t is below m times the base, and the sum of t and x·m has 0 in the low word. This isn't tested:
 /// outside it the call panics, or returns no meaningful result.
 #[inline]
 pub fn reduce_by<T: PathWord>(m: T, t: T::Double, x: T, multiple: T::Double) -> T {
-    T::high_sum_modulo(t, multiple, m)
+    // Reading m gives the proof that it fits a word.
+    let _ = m.is_below(x);
+    if T::bits() > 32 {
+        high_sum_by_words(t, multiple, m)
+    } else {
+        high_sum_by_double_words(t, multiple, m)
+    }
 }
 
 /// Montgomery's reduction of a double word t modulo an odd m, below m.
@@ -160,7 +194,7 @@ pub fn reduce_by<T: PathWord>(m: T, t: T::Double, x: T, multiple: T::Double) -> 
 ///
 /// # Preconditions
 ///
-/// M times `negated_inverse` is -1 modulo the base, and t is below m times the base. This isn't tested:
+/// m times `negated_inverse` is -1 modulo the base, and t is below m times the base. This isn't tested:
 /// outside it the call panics, or returns no meaningful result.
 #[inline]
 pub fn redc<T: PathWord>(m: T, negated_inverse: T, t: T::Double) -> T {

@@ -17,7 +17,7 @@ fn computed_residue(z: i64, m: u64) -> u64 {
 ///
 /// # Preconditions
 ///
-/// M is at least 1. This isn't tested: outside it the call panics, or returns no meaningful result.
+/// m is at least 1. This isn't tested: outside it the call panics, or returns no meaningful result.
 #[inline]
 pub fn residue_of(z: i64, m: u64) -> u64 {
     computed_residue(z, m)
@@ -27,7 +27,7 @@ pub fn residue_of(z: i64, m: u64) -> u64 {
 ///
 /// # Preconditions
 ///
-/// M is at least 1. This isn't tested: outside it the call panics, or returns no meaningful result.
+/// m is at least 1. This isn't tested: outside it the call panics, or returns no meaningful result.
 #[inline]
 pub fn power_of(base: u64, exp: u64, m: u64) -> u64 {
     let mut power = 1 % m;
@@ -41,7 +41,7 @@ pub fn power_of(base: u64, exp: u64, m: u64) -> u64 {
 ///
 /// # Preconditions
 ///
-/// M is at least 1. This isn't tested: outside it the call panics, or returns no meaningful result.
+/// m is at least 1. This isn't tested: outside it the call panics, or returns no meaningful result.
 #[inline]
 pub fn inverse_by_search(a: u64, m: u64) -> Option<u64> {
     for x in 0..m {
@@ -57,11 +57,11 @@ pub fn inverse_by_search(a: u64, m: u64) -> Option<u64> {
 ///
 /// # Preconditions
 ///
-/// N is at least 1. This isn't tested: outside it the call panics, or returns no meaningful result.
+/// n is at least 1. This isn't tested: outside it the call panics, or returns no meaningful result.
 #[inline]
 pub fn greatest_common_divisor(a: u64, n: u64) -> u64 {
     let mut greatest = 0;
-    'divisors: for below in 0..n {
+    for below in 0..n {
         let divisor = below + 1;
         if a % divisor == 0 && n % divisor == 0 {
             greatest = divisor;

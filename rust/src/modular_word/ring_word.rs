@@ -155,6 +155,7 @@ impl RingWord for u64 {
     }
 }
 
+#[cfg(target_pointer_width = "64")]
 impl RingWord for usize {
     #[inline]
     fn zero() -> usize {

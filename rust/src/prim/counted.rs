@@ -25,6 +25,7 @@ pub mod w64 {
 }
 
 /// Words of the pointer width.
+#[cfg(target_pointer_width = "64")]
 pub mod wsize {
     pub use crate::modular_prim::counted::wsize::invm_counted;
     pub use crate::modular_symbols::counted::wsize::checked_jacobi_counted;

@@ -4,7 +4,6 @@
 
 pub mod fixed;
 pub mod mersenne;
-pub mod modular_integer;
 pub mod montgomery;
 pub mod normalized;
 pub mod one_by_one;

@@ -9,6 +9,7 @@ use crate::{PreMulInv2by1, Reducer};
 ///
 /// A debug build panics unless m is at least 1. A release build doesn't test that, and outside it
 /// panics, or returns no meaningful result.
+#[cfg_attr(debug_assertions, track_caller)]
 pub fn residue_over_copies(n: u64, m: u64) -> u64 {
     let reducer = PreMulInv2by1::<u64>::new(m);
     let mut registers = [reducer.transform(n); 2];
@@ -23,6 +24,7 @@ pub fn residue_over_copies(n: u64, m: u64) -> u64 {
 ///
 /// A debug build panics unless m is at least 1. A release build doesn't test that, and outside it
 /// panics, or returns no meaningful result.
+#[cfg_attr(debug_assertions, track_caller)]
 pub fn product_by_commands(x: u64, n: u64, m: u64) -> u64 {
     let reducer = PreMulInv2by1::<u64>::new(m);
     let mut registers = [reducer.transform(0); 2];

@@ -20,6 +20,7 @@ pub fn product_and_one(x: u64, y: u64) -> u64 {
 ///
 /// A debug build panics unless m is at least 1. A release build doesn't test that, and outside it
 /// panics, or returns no meaningful result.
+#[cfg_attr(debug_assertions, track_caller)]
 pub fn residue_by_commands(n: u64, m: u64) -> u64 {
     let reducer = PreMulInv2by1::<u64>::new(m);
     let mut registers = [reducer.transform(0); 2];

@@ -5,11 +5,12 @@ use crate::{FixedMersenneInt64, ModularInteger};
 
 /// The polynomial with the bytes as coefficients, the highest first, at x modulo 2^61 - 1, by Horner's
 /// rule.
+#[inline]
 pub fn hash(bytes: &[u8], x: u64) -> u64 {
     range_laws();
     let point = FixedMersenneInt64::<61, 1>::new(x, &2305843009213693951);
     let mut value = point.convert(0);
-    'bytes: for byte in bytes {
+    for byte in bytes {
         value = value * point + u64::from(*byte);
     }
     value.residue()

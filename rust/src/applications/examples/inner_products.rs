@@ -12,7 +12,7 @@ use crate::{Montgomery, Reducer};
 pub fn inner_product<R: Reducer<u64>>(r: &R, xs: &[u64], ys: &[u64]) -> u64 {
     range_laws();
     let mut sum = r.transform(0);
-    'terms: for i in 0..xs.len() {
+    for i in 0..xs.len() {
         let product = r.mul(&r.transform(xs[i]), &r.transform(ys[i]));
         sum = r.add(&sum, &product);
     }
@@ -23,7 +23,7 @@ pub fn inner_product<R: Reducer<u64>>(r: &R, xs: &[u64], ys: &[u64]) -> u64 {
 ///
 /// # Preconditions
 ///
-/// M is at least 1. This isn't tested: outside it the call panics, or returns no meaningful result.
+/// m is at least 1. This isn't tested: outside it the call panics, or returns no meaningful result.
 #[inline]
 pub fn inner_product_of_four(x: [u64; 4], y: [u64; 4], m: u64) -> u64 {
     inner_product(&Montgomery::<u64>::new(m), &x, &y)

@@ -7,7 +7,7 @@ use crate::laws::power_laws;
 ///
 /// # Preconditions
 ///
-/// M is at least 1. This isn't tested: outside it the call panics, or returns no meaningful result.
+/// m is at least 1. This isn't tested: outside it the call panics, or returns no meaningful result.
 #[inline]
 pub fn known_word(g: u64, secret: u64, m: u64) -> u64 {
     g.powm(secret, &m)
@@ -17,7 +17,7 @@ pub fn known_word(g: u64, secret: u64, m: u64) -> u64 {
 ///
 /// # Preconditions
 ///
-/// M is at least 1. This isn't tested: outside it the call panics, or returns no meaningful result.
+/// m is at least 1. This isn't tested: outside it the call panics, or returns no meaningful result.
 #[inline]
 pub fn keys(g: u64, first: u64, second: u64, m: u64) -> (u64, u64) {
     power_laws();

@@ -6,7 +6,7 @@ use crate::{ModularOps, Montgomery, PlainWord, Reducer, UnsignedOperand};
 ///
 /// # Preconditions
 ///
-/// M is at least 1. This isn't tested: outside it the call panics, or returns no meaningful result.
+/// m is at least 1. This isn't tested: outside it the call panics, or returns no meaningful result.
 #[inline]
 pub fn product_and_sum<M: UnsignedOperand + Copy, T: ModularOps<T, M, T>>(
     x: T,
@@ -21,7 +21,7 @@ pub fn product_and_sum<M: UnsignedOperand + Copy, T: ModularOps<T, M, T>>(
 ///
 /// # Preconditions
 ///
-/// M is at least 1. This isn't tested: outside it the call panics, or returns no meaningful result.
+/// m is at least 1. This isn't tested: outside it the call panics, or returns no meaningful result.
 #[inline]
 pub fn square<T: PlainWord>(x: T, m: T) -> T {
     let r = Montgomery::<T>::of(m);

@@ -6,7 +6,7 @@ use crate::{ModularInteger, MontgomeryInt, VanillaInt};
 ///
 /// # Preconditions
 ///
-/// M is at least 1. This isn't tested: outside it the call panics, or returns no meaningful result.
+/// m is at least 1. This isn't tested: outside it the call panics, or returns no meaningful result.
 #[inline]
 pub fn by_inverse(a: u64, b: u64, m: u64) -> Option<u64> {
     let b = MontgomeryInt::<u64>::new(b, &m);
@@ -19,7 +19,7 @@ pub fn by_inverse(a: u64, b: u64, m: u64) -> Option<u64> {
 ///
 /// # Preconditions
 ///
-/// M is at least 1. This isn't tested: outside it the call panics, or returns no meaningful result.
+/// m is at least 1. This isn't tested: outside it the call panics, or returns no meaningful result.
 #[inline]
 pub fn by_operator(a: u64, b: u64, m: u64) -> Option<u64> {
     let b = MontgomeryInt::<u64>::new(b, &m);

@@ -8,7 +8,7 @@ use crate::{ModularPow, ModularUnaryOps};
 ///
 /// # Preconditions
 ///
-/// P is a prime that is 3 modulo 4. This isn't tested: outside it the call panics, or returns no
+/// p is a prime that is 3 modulo 4. This isn't tested: outside it the call panics, or returns no
 /// meaningful result.
 #[inline]
 pub fn square_root(a: u64, p: u64) -> Option<u64> {

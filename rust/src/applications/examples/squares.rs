@@ -7,7 +7,7 @@ use crate::prim::symbol_over_prime;
 ///
 /// # Preconditions
 ///
-/// P is an odd prime. This isn't tested: outside it the call panics, or returns no meaningful result.
+/// p is an odd prime. This isn't tested: outside it the call panics, or returns no meaningful result.
 #[inline]
 pub fn is_quadratic_residue(a: u64, p: u64) -> bool {
     prime_laws();

@@ -111,7 +111,7 @@ impl Ring {
     /// The entries are residues. This isn't tested: outside it the call panics, or returns no meaningful
     /// result.
     pub fn multiply(&self, xs: &mut [u32; 256], ys: &[u32; 256]) {
-        'remainders: for i in 0..128 {
+        for i in 0..128 {
             let (x, y) = ((xs[2 * i], xs[2 * i + 1]), (ys[2 * i], ys[2 * i + 1]));
             let (constant, linear) = multiply_remainders(x, y, self.square(i));
             xs[2 * i] = constant;

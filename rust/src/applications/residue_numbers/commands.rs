@@ -8,7 +8,7 @@ use crate::{Reducer, Vanilla};
 // Writes the residues of the numbers modulo m.
 #[inline]
 fn load(m: u64, numbers: &[u64], registers: &mut [u64]) {
-    'places: for (place, number) in numbers.iter().enumerate() {
+    for (place, number) in numbers.iter().enumerate() {
         registers[place] = *number % m;
     }
 }
@@ -56,7 +56,7 @@ impl<'a> ResidueSystem<'a> {
         inverse_laws();
         stop_laws::<u64>();
         let moduli = self.moduli;
-        'moduli: for (place, modulus) in moduli.iter().enumerate() {
+        for (place, modulus) in moduli.iter().enumerate() {
             match residue_by_run(*modulus, commands, numbers, register, registers) {
                 Some(residue) => residues[place] = residue,
                 None => return false,

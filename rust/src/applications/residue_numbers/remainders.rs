@@ -8,7 +8,7 @@ use crate::{ModularCoreOps, ModularUnaryOps};
 ///
 /// # Preconditions
 ///
-/// M and n are at least 1. This isn't tested: outside it the call panics, or returns no meaningful
+/// m and n are at least 1. This isn't tested: outside it the call panics, or returns no meaningful
 /// result.
 pub fn from_remainders(a: u32, m: u32, b: u32, n: u32) -> Option<u64> {
     linear_congruence_laws();

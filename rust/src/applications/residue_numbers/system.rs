@@ -73,7 +73,7 @@ impl<'a> ResidueSystem<'a> {
     #[inline]
     fn combine(&self, operation: Operation, left: &[u64], right: &[u64], results: &mut [u64]) {
         let moduli = self.moduli;
-        'moduli: for (place, modulus) in moduli.iter().enumerate() {
+        for (place, modulus) in moduli.iter().enumerate() {
             results[place] = result_at(operation, *modulus, left[place], right[place]);
         }
     }

@@ -9,7 +9,7 @@ impl<'a> Code<'a> {
         let m = self.modulus;
         let weights = self.weights;
         let mut sum = 0 % m;
-        'places: for (place, symbol) in word.iter().enumerate() {
+        for (place, symbol) in word.iter().enumerate() {
             let product = weights[place].mulm(*symbol, &m);
             sum = sum.addm(product, &m);
         }
@@ -51,7 +51,7 @@ impl<'a> Code<'a> {
         if word.len() != self.weights.len() {
             return false;
         }
-        'places: for (place, symbol) in word.iter().enumerate() {
+        for (place, symbol) in word.iter().enumerate() {
             if place != erased && !self.fits(place, *symbol) {
                 return false;
             }

@@ -1,5 +1,5 @@
-//! Reed-Solomon erasure codes, over any modulus: a message of k symbols is restored from any k of the n symbols of
-//! its word.
+//! Reed-Solomon codes, over any modulus: a message of k symbols is restored from any k of the n symbols of its word
+//! (`restore`), and from s symbols of which at most (s - k)/2 are wrong (`correct`).
 //!
 //! A message is the list of the coefficients of a polynomial, the constant first, and symbol i of its word is the
 //! polynomial's value at point i, modulo m. The points must fit (`points_fit`): the difference of any two has an
@@ -11,9 +11,13 @@
 //!
 //! Source: Reed and Solomon, "Polynomial codes over certain finite fields".
 
+mod correction;
+mod key_equation;
 mod newton;
+mod quotients;
 mod secrets;
 
+pub use correction::{CorrectError, correct};
 use newton::{differences_before, divide_differences, expand, fill_weights};
 use crate::ring::invert_each;
 use crate::{Reducer, RingWord};
@@ -40,7 +44,7 @@ pub enum RestoreError {
 /// result.
 pub fn points_fit<T: RingWord, R: Reducer<T>>(r: &R, points: &[T]) -> bool {
     let mut product = r.transform(T::one());
-    'points: for i in 0..points.len() {
+    for i in 0..points.len() {
         let differences = differences_before(r, points, i);
         product = r.mul(&product, &differences);
     }
@@ -55,7 +59,7 @@ pub fn points_fit<T: RingWord, R: Reducer<T>>(r: &R, points: &[T]) -> bool {
 /// result.
 pub fn evaluate<T: RingWord, R: Reducer<T>>(r: &R, coefficients: &[T], point: &T) -> T {
     let mut value = r.transform(T::zero());
-    'coefficients: for k in 0..coefficients.len() {
+    for k in 0..coefficients.len() {
         let i = coefficients.len() - 1 - k;
         let product = r.mul(&value, point);
         value = r.add(&coefficients[i], &product);
@@ -75,7 +79,7 @@ pub fn evaluate<T: RingWord, R: Reducer<T>>(r: &R, coefficients: &[T], point: &T
 /// tested: outside it the call panics, or returns no meaningful result.
 #[inline]
 pub fn encode<T: RingWord, R: Reducer<T>>(r: &R, points: &[T], message: &[T], word: &mut [T]) {
-    'points: for i in 0..points.len() {
+    for i in 0..points.len() {
         word[i] = evaluate(r, message, &points[i]);
     }
 }
@@ -130,7 +134,7 @@ pub fn is_codeword<T: RingWord, R: Reducer<T>>(
     if !interpolate(r, points, word, weights, message) {
         return false;
     }
-    'places: for i in message.len()..points.len() {
+    for i in message.len()..points.len() {
         let symbol = evaluate(r, message, &points[i]);
         if symbol != word[i] {
             return false;
@@ -166,7 +170,7 @@ pub fn encode_systematic<T: RingWord, R: Reducer<T>>(
 // Whether the place at an index also occurs at a lower index.
 #[inline]
 fn occurs_before(places: &[usize], at: usize) -> bool {
-    'indices: for j in 0..at {
+    for j in 0..at {
         if places[j] == places[at] {
             return true;
         }
@@ -179,7 +183,7 @@ fn choose<T: RingWord>(points: &[T], places: &[usize], chosen: &mut [T]) -> Resu
     if places.len() < chosen.len() {
         return Err(RestoreError::TooFewSymbols);
     }
-    'places: for i in 0..chosen.len() {
+    for i in 0..chosen.len() {
         let place = places[i];
         if place >= points.len() {
             return Err(RestoreError::PlaceOutOfRange);
@@ -228,7 +232,7 @@ pub fn restore<T: RingWord, R: Reducer<T>>(
 // An index below `count` of a place in the list; `None` exactly where there is none.
 #[inline]
 fn index_of(places: &[usize], count: usize, place: usize) -> Option<usize> {
-    'indices: for j in 0..count {
+    for j in 0..count {
         if places[j] == place {
             return Some(j);
         }
@@ -262,7 +266,7 @@ fn fill_word<T: RingWord, R: Reducer<T>>(
     symbols: &[T],
     word: &mut [T],
 ) {
-    'points: for i in 0..points.len() {
+    for i in 0..points.len() {
         word[i] = symbol_at(r, points, message, places, symbols, i);
     }
 }
@@ -307,5 +311,6 @@ pub fn restore_word<T: RingWord, R: Reducer<T>>(
 ///
 /// Source: Reed and Solomon, "Polynomial codes over certain finite fields"; Singleton, "Maximum distance
 /// q-nary codes".
+#[doc(hidden)]
 #[inline]
 pub fn distance_laws() {}

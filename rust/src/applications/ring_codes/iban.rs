@@ -22,6 +22,7 @@ const POWERS: [u64; 68] = [
 /// # Panics
 ///
 /// Panics unless there are at most 68 digits.
+#[track_caller]
 pub fn iban_code(count: usize) -> Code<'static> {
     assert!(count <= 68, "there must be at most 68 digits");
     let powers: &'static [u64] = &POWERS;
@@ -81,7 +82,7 @@ fn write_character(c: u8, digits: &mut [u64], end: usize) -> usize {
 #[inline]
 fn write_text(text: &[u8], digits: &mut [u64], start: usize) -> usize {
     let mut end = start;
-    'characters: for c in text {
+    for c in text {
         end = write_character(*c, digits, end);
     }
     end

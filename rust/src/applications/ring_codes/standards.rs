@@ -59,7 +59,7 @@ pub const ISSN: Code<'static> = Code {
 
 /// The codes of ISBN-10, ISBN-13, EAN-13, EAN-8, UPC-A and ISSN, in this order, each as its standard defines it.
 #[inline]
-pub fn standard_codes() -> [Code<'static>; 6] {
+pub const fn standard_codes() -> [Code<'static>; 6] {
     [ISBN_10, ISBN_13, EAN_13, EAN_8, UPC_A, ISSN]
 }
 
@@ -68,5 +68,6 @@ pub fn standard_codes() -> [Code<'static>; 6] {
 /// by 5. An IBAN as text: every change of one character to another of its kind, digit or letter, and every exchange
 /// of two neighbours that differ, except of 1 and B, of 2 and M, and of 3 and X after the check digits; none of these
 /// is detected.
+#[doc(hidden)]
 #[inline]
 pub fn standard_finds() {}

@@ -6,7 +6,7 @@ use crate::modular_word::word::wsize::Word;
 ///
 /// # Preconditions
 ///
-/// M is odd. This isn't tested: outside it the call panics, or returns no meaningful result.
+/// m is odd. This isn't tested: outside it the call panics, or returns no meaningful result.
 #[inline]
 pub fn neginv(m: Word) -> Word {
     super::neginv(m)

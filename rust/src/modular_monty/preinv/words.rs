@@ -7,6 +7,7 @@ impl DivExact<u8, PreModInv<u8>> for u8 {
     type Output = u8;
 
     #[inline]
+    #[cfg_attr(debug_assertions, track_caller)]
     fn div_exact(self, d: u8, pre: &PreModInv<u8>) -> Option<u8> {
         word_quotient(self, d, pre)
     }
@@ -16,6 +17,7 @@ impl DivExact<u16, PreModInv<u16>> for u16 {
     type Output = u16;
 
     #[inline]
+    #[cfg_attr(debug_assertions, track_caller)]
     fn div_exact(self, d: u16, pre: &PreModInv<u16>) -> Option<u16> {
         word_quotient(self, d, pre)
     }
@@ -25,6 +27,7 @@ impl DivExact<u32, PreModInv<u32>> for u32 {
     type Output = u32;
 
     #[inline]
+    #[cfg_attr(debug_assertions, track_caller)]
     fn div_exact(self, d: u32, pre: &PreModInv<u32>) -> Option<u32> {
         word_quotient(self, d, pre)
     }
@@ -34,15 +37,18 @@ impl DivExact<u64, PreModInv<u64>> for u64 {
     type Output = u64;
 
     #[inline]
+    #[cfg_attr(debug_assertions, track_caller)]
     fn div_exact(self, d: u64, pre: &PreModInv<u64>) -> Option<u64> {
         word_quotient(self, d, pre)
     }
 }
 
+#[cfg(target_pointer_width = "64")]
 impl DivExact<usize, PreModInv<usize>> for usize {
     type Output = usize;
 
     #[inline]
+    #[cfg_attr(debug_assertions, track_caller)]
     fn div_exact(self, d: usize, pre: &PreModInv<usize>) -> Option<usize> {
         word_quotient(self, d, pre)
     }
@@ -50,6 +56,7 @@ impl DivExact<usize, PreModInv<usize>> for usize {
 
 impl DivExactAssign<u8, PreModInv<u8>> for u8 {
     #[inline]
+    #[cfg_attr(debug_assertions, track_caller)]
     fn div_exact_assign(&mut self, d: u8, pre: &PreModInv<u8>) -> bool {
         assign_exact(self, d, pre)
     }
@@ -57,6 +64,7 @@ impl DivExactAssign<u8, PreModInv<u8>> for u8 {
 
 impl DivExactAssign<u16, PreModInv<u16>> for u16 {
     #[inline]
+    #[cfg_attr(debug_assertions, track_caller)]
     fn div_exact_assign(&mut self, d: u16, pre: &PreModInv<u16>) -> bool {
         assign_exact(self, d, pre)
     }
@@ -64,6 +72,7 @@ impl DivExactAssign<u16, PreModInv<u16>> for u16 {
 
 impl DivExactAssign<u32, PreModInv<u32>> for u32 {
     #[inline]
+    #[cfg_attr(debug_assertions, track_caller)]
     fn div_exact_assign(&mut self, d: u32, pre: &PreModInv<u32>) -> bool {
         assign_exact(self, d, pre)
     }
@@ -71,13 +80,16 @@ impl DivExactAssign<u32, PreModInv<u32>> for u32 {
 
 impl DivExactAssign<u64, PreModInv<u64>> for u64 {
     #[inline]
+    #[cfg_attr(debug_assertions, track_caller)]
     fn div_exact_assign(&mut self, d: u64, pre: &PreModInv<u64>) -> bool {
         assign_exact(self, d, pre)
     }
 }
 
+#[cfg(target_pointer_width = "64")]
 impl DivExactAssign<usize, PreModInv<usize>> for usize {
     #[inline]
+    #[cfg_attr(debug_assertions, track_caller)]
     fn div_exact_assign(&mut self, d: usize, pre: &PreModInv<usize>) -> bool {
         assign_exact(self, d, pre)
     }

@@ -8,6 +8,7 @@ use crate::modular_prim::euclid;
 ///
 /// Panics unless m is at least 1.
 #[inline]
+#[cfg_attr(debug_assertions, track_caller)]
 pub fn invm_counted(a: u8, m: u8) -> (Option<u8>, u32) {
     euclid::invm_counted(a, m)
 }

@@ -10,6 +10,7 @@ impl<T: RingWord, R: Reducer<T> + Copy> Add<ReducedInt<T, R>> for ReducedInt<T, 
     type Output = ReducedInt<T, R>;
 
     #[inline]
+    #[cfg_attr(debug_assertions, track_caller)]
     fn add(self, rhs: ReducedInt<T, R>) -> ReducedInt<T, R> {
         sum(&self, &rhs)
     }
@@ -19,6 +20,7 @@ impl<T: RingWord, R: Reducer<T> + Copy> Add<&ReducedInt<T, R>> for ReducedInt<T,
     type Output = ReducedInt<T, R>;
 
     #[inline]
+    #[cfg_attr(debug_assertions, track_caller)]
     fn add(self, rhs: &ReducedInt<T, R>) -> ReducedInt<T, R> {
         sum(&self, rhs)
     }
@@ -28,6 +30,7 @@ impl<T: RingWord, R: Reducer<T> + Copy> Add<T> for ReducedInt<T, R> {
     type Output = ReducedInt<T, R>;
 
     #[inline]
+    #[cfg_attr(debug_assertions, track_caller)]
     fn add(self, rhs: T) -> ReducedInt<T, R> {
         sum_with(&self, rhs)
     }
@@ -37,6 +40,7 @@ impl<T: RingWord, R: Reducer<T> + Copy> Add<&T> for ReducedInt<T, R> {
     type Output = ReducedInt<T, R>;
 
     #[inline]
+    #[cfg_attr(debug_assertions, track_caller)]
     fn add(self, rhs: &T) -> ReducedInt<T, R> {
         sum_with(&self, *rhs)
     }
@@ -46,6 +50,7 @@ impl<T: RingWord, R: Reducer<T> + Copy> Add<ReducedInt<T, R>> for &ReducedInt<T,
     type Output = ReducedInt<T, R>;
 
     #[inline]
+    #[cfg_attr(debug_assertions, track_caller)]
     fn add(self, rhs: ReducedInt<T, R>) -> ReducedInt<T, R> {
         sum(self, &rhs)
     }
@@ -55,6 +60,7 @@ impl<T: RingWord, R: Reducer<T> + Copy> Add<&ReducedInt<T, R>> for &ReducedInt<T
     type Output = ReducedInt<T, R>;
 
     #[inline]
+    #[cfg_attr(debug_assertions, track_caller)]
     fn add(self, rhs: &ReducedInt<T, R>) -> ReducedInt<T, R> {
         sum(self, rhs)
     }
@@ -64,6 +70,7 @@ impl<T: RingWord, R: Reducer<T> + Copy> Add<T> for &ReducedInt<T, R> {
     type Output = ReducedInt<T, R>;
 
     #[inline]
+    #[cfg_attr(debug_assertions, track_caller)]
     fn add(self, rhs: T) -> ReducedInt<T, R> {
         sum_with(self, rhs)
     }
@@ -73,6 +80,7 @@ impl<T: RingWord, R: Reducer<T> + Copy> Add<&T> for &ReducedInt<T, R> {
     type Output = ReducedInt<T, R>;
 
     #[inline]
+    #[cfg_attr(debug_assertions, track_caller)]
     fn add(self, rhs: &T) -> ReducedInt<T, R> {
         sum_with(self, *rhs)
     }
@@ -80,6 +88,7 @@ impl<T: RingWord, R: Reducer<T> + Copy> Add<&T> for &ReducedInt<T, R> {
 
 impl<T: RingWord, R: Reducer<T> + Copy> AddAssign<ReducedInt<T, R>> for ReducedInt<T, R> {
     #[inline]
+    #[cfg_attr(debug_assertions, track_caller)]
     fn add_assign(&mut self, rhs: ReducedInt<T, R>) {
         *self = sum(self, &rhs);
     }
@@ -87,6 +96,7 @@ impl<T: RingWord, R: Reducer<T> + Copy> AddAssign<ReducedInt<T, R>> for ReducedI
 
 impl<T: RingWord, R: Reducer<T> + Copy> AddAssign<&ReducedInt<T, R>> for ReducedInt<T, R> {
     #[inline]
+    #[cfg_attr(debug_assertions, track_caller)]
     fn add_assign(&mut self, rhs: &ReducedInt<T, R>) {
         *self = sum(self, rhs);
     }
@@ -94,6 +104,7 @@ impl<T: RingWord, R: Reducer<T> + Copy> AddAssign<&ReducedInt<T, R>> for Reduced
 
 impl<T: RingWord, R: Reducer<T> + Copy> AddAssign<T> for ReducedInt<T, R> {
     #[inline]
+    #[cfg_attr(debug_assertions, track_caller)]
     fn add_assign(&mut self, rhs: T) {
         *self = sum_with(self, rhs);
     }
@@ -101,6 +112,7 @@ impl<T: RingWord, R: Reducer<T> + Copy> AddAssign<T> for ReducedInt<T, R> {
 
 impl<T: RingWord, R: Reducer<T> + Copy> AddAssign<&T> for ReducedInt<T, R> {
     #[inline]
+    #[cfg_attr(debug_assertions, track_caller)]
     fn add_assign(&mut self, rhs: &T) {
         *self = sum_with(self, *rhs);
     }

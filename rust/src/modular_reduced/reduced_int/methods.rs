@@ -11,6 +11,7 @@ impl<T: RingWord, R: Reducer<T> + Copy> ReducedInt<T, R> {
     ///
     /// Panics unless the reducer admits m.
     #[inline]
+    #[track_caller]
     pub fn new(n: T, m: &T) -> Self {
         let reducer = R::new(m);
         let form = reducer.transform(n);

@@ -28,6 +28,7 @@ impl<T: RingWord, R: Reducer<T> + Copy> Div<ReducedInt<T, R>> for ReducedInt<T, 
     type Output = ReducedInt<T, R>;
 
     #[inline]
+    #[cfg_attr(debug_assertions, track_caller)]
     fn div(self, rhs: ReducedInt<T, R>) -> ReducedInt<T, R> {
         quotient(&self, &rhs)
     }
@@ -37,6 +38,7 @@ impl<T: RingWord, R: Reducer<T> + Copy> Div<&ReducedInt<T, R>> for ReducedInt<T,
     type Output = ReducedInt<T, R>;
 
     #[inline]
+    #[cfg_attr(debug_assertions, track_caller)]
     fn div(self, rhs: &ReducedInt<T, R>) -> ReducedInt<T, R> {
         quotient(&self, rhs)
     }
@@ -46,6 +48,7 @@ impl<T: RingWord, R: Reducer<T> + Copy> Div<ReducedInt<T, R>> for &ReducedInt<T,
     type Output = ReducedInt<T, R>;
 
     #[inline]
+    #[cfg_attr(debug_assertions, track_caller)]
     fn div(self, rhs: ReducedInt<T, R>) -> ReducedInt<T, R> {
         quotient(self, &rhs)
     }
@@ -55,6 +58,7 @@ impl<T: RingWord, R: Reducer<T> + Copy> Div<&ReducedInt<T, R>> for &ReducedInt<T
     type Output = ReducedInt<T, R>;
 
     #[inline]
+    #[cfg_attr(debug_assertions, track_caller)]
     fn div(self, rhs: &ReducedInt<T, R>) -> ReducedInt<T, R> {
         quotient(self, rhs)
     }

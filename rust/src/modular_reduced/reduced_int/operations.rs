@@ -20,11 +20,12 @@ pub fn in_ring<T: RingWord, R: Reducer<T> + Copy>(x: &ReducedInt<T, R>, n: T) ->
 /// A debug build panics unless the moduli are equal. A release build doesn't test that, and outside it
 /// panics, or returns no meaningful result.
 #[inline]
+#[cfg_attr(debug_assertions, track_caller)]
 pub fn sum<T: RingWord, R: Reducer<T> + Copy>(
     x: &ReducedInt<T, R>,
     y: &ReducedInt<T, R>,
 ) -> ReducedInt<T, R> {
-    debug_assert!(x.reducer.modulus() == y.reducer.modulus(), "the moduli must be equal");
+    debug_assert!(x.reducer.modulus() == y.reducer.modulus(), "the moduli must be equal: {} and {}", crate::additions::number(x.reducer.modulus()), crate::additions::number(y.reducer.modulus()));
     ReducedInt {
         form: x.reducer.add(&x.form, &y.form),
         reducer: x.reducer,
@@ -44,11 +45,12 @@ pub fn sum_with<T: RingWord, R: Reducer<T> + Copy>(x: &ReducedInt<T, R>, n: T) -
 /// A debug build panics unless the moduli are equal. A release build doesn't test that, and outside it
 /// panics, or returns no meaningful result.
 #[inline]
+#[cfg_attr(debug_assertions, track_caller)]
 pub fn difference<T: RingWord, R: Reducer<T> + Copy>(
     x: &ReducedInt<T, R>,
     y: &ReducedInt<T, R>,
 ) -> ReducedInt<T, R> {
-    debug_assert!(x.reducer.modulus() == y.reducer.modulus(), "the moduli must be equal");
+    debug_assert!(x.reducer.modulus() == y.reducer.modulus(), "the moduli must be equal: {} and {}", crate::additions::number(x.reducer.modulus()), crate::additions::number(y.reducer.modulus()));
     ReducedInt {
         form: x.reducer.sub(&x.form, &y.form),
         reducer: x.reducer,
@@ -71,11 +73,12 @@ pub fn difference_with<T: RingWord, R: Reducer<T> + Copy>(
 /// A debug build panics unless the moduli are equal. A release build doesn't test that, and outside it
 /// panics, or returns no meaningful result.
 #[inline]
+#[cfg_attr(debug_assertions, track_caller)]
 pub fn product<T: RingWord, R: Reducer<T> + Copy>(
     x: &ReducedInt<T, R>,
     y: &ReducedInt<T, R>,
 ) -> ReducedInt<T, R> {
-    debug_assert!(x.reducer.modulus() == y.reducer.modulus(), "the moduli must be equal");
+    debug_assert!(x.reducer.modulus() == y.reducer.modulus(), "the moduli must be equal: {} and {}", crate::additions::number(x.reducer.modulus()), crate::additions::number(y.reducer.modulus()));
     ReducedInt {
         form: x.reducer.mul(&x.form, &y.form),
         reducer: x.reducer,
@@ -98,11 +101,12 @@ pub fn product_with<T: RingWord, R: Reducer<T> + Copy>(
 /// Panics unless the divisor has an inverse modulo m. A debug build also panics unless the moduli are
 /// equal. A release build doesn't test that, and outside it panics, or returns no meaningful result.
 #[inline]
+#[cfg_attr(debug_assertions, track_caller)]
 pub fn quotient<T: RingWord, R: Reducer<T> + Copy>(
     x: &ReducedInt<T, R>,
     y: &ReducedInt<T, R>,
 ) -> ReducedInt<T, R> {
-    debug_assert!(y.reducer.modulus() == x.reducer.modulus(), "the moduli must be equal");
+    debug_assert!(y.reducer.modulus() == x.reducer.modulus(), "the moduli must be equal: {} and {}", crate::additions::number(x.reducer.modulus()), crate::additions::number(y.reducer.modulus()));
     let inverse = match y.inv() { Some(it) => it, None => {
         panic!("the divisor must have an inverse modulo m")
     } };

@@ -10,6 +10,7 @@ impl<T: RingWord, R: Reducer<T> + Copy> Sub<ReducedInt<T, R>> for ReducedInt<T, 
     type Output = ReducedInt<T, R>;
 
     #[inline]
+    #[cfg_attr(debug_assertions, track_caller)]
     fn sub(self, rhs: ReducedInt<T, R>) -> ReducedInt<T, R> {
         difference(&self, &rhs)
     }
@@ -19,6 +20,7 @@ impl<T: RingWord, R: Reducer<T> + Copy> Sub<&ReducedInt<T, R>> for ReducedInt<T,
     type Output = ReducedInt<T, R>;
 
     #[inline]
+    #[cfg_attr(debug_assertions, track_caller)]
     fn sub(self, rhs: &ReducedInt<T, R>) -> ReducedInt<T, R> {
         difference(&self, rhs)
     }
@@ -28,6 +30,7 @@ impl<T: RingWord, R: Reducer<T> + Copy> Sub<T> for ReducedInt<T, R> {
     type Output = ReducedInt<T, R>;
 
     #[inline]
+    #[cfg_attr(debug_assertions, track_caller)]
     fn sub(self, rhs: T) -> ReducedInt<T, R> {
         difference_with(&self, rhs)
     }
@@ -37,6 +40,7 @@ impl<T: RingWord, R: Reducer<T> + Copy> Sub<&T> for ReducedInt<T, R> {
     type Output = ReducedInt<T, R>;
 
     #[inline]
+    #[cfg_attr(debug_assertions, track_caller)]
     fn sub(self, rhs: &T) -> ReducedInt<T, R> {
         difference_with(&self, *rhs)
     }
@@ -46,6 +50,7 @@ impl<T: RingWord, R: Reducer<T> + Copy> Sub<ReducedInt<T, R>> for &ReducedInt<T,
     type Output = ReducedInt<T, R>;
 
     #[inline]
+    #[cfg_attr(debug_assertions, track_caller)]
     fn sub(self, rhs: ReducedInt<T, R>) -> ReducedInt<T, R> {
         difference(self, &rhs)
     }
@@ -55,6 +60,7 @@ impl<T: RingWord, R: Reducer<T> + Copy> Sub<&ReducedInt<T, R>> for &ReducedInt<T
     type Output = ReducedInt<T, R>;
 
     #[inline]
+    #[cfg_attr(debug_assertions, track_caller)]
     fn sub(self, rhs: &ReducedInt<T, R>) -> ReducedInt<T, R> {
         difference(self, rhs)
     }
@@ -64,6 +70,7 @@ impl<T: RingWord, R: Reducer<T> + Copy> Sub<T> for &ReducedInt<T, R> {
     type Output = ReducedInt<T, R>;
 
     #[inline]
+    #[cfg_attr(debug_assertions, track_caller)]
     fn sub(self, rhs: T) -> ReducedInt<T, R> {
         difference_with(self, rhs)
     }
@@ -73,6 +80,7 @@ impl<T: RingWord, R: Reducer<T> + Copy> Sub<&T> for &ReducedInt<T, R> {
     type Output = ReducedInt<T, R>;
 
     #[inline]
+    #[cfg_attr(debug_assertions, track_caller)]
     fn sub(self, rhs: &T) -> ReducedInt<T, R> {
         difference_with(self, *rhs)
     }
@@ -80,6 +88,7 @@ impl<T: RingWord, R: Reducer<T> + Copy> Sub<&T> for &ReducedInt<T, R> {
 
 impl<T: RingWord, R: Reducer<T> + Copy> SubAssign<ReducedInt<T, R>> for ReducedInt<T, R> {
     #[inline]
+    #[cfg_attr(debug_assertions, track_caller)]
     fn sub_assign(&mut self, rhs: ReducedInt<T, R>) {
         *self = difference(self, &rhs);
     }
@@ -87,6 +96,7 @@ impl<T: RingWord, R: Reducer<T> + Copy> SubAssign<ReducedInt<T, R>> for ReducedI
 
 impl<T: RingWord, R: Reducer<T> + Copy> SubAssign<&ReducedInt<T, R>> for ReducedInt<T, R> {
     #[inline]
+    #[cfg_attr(debug_assertions, track_caller)]
     fn sub_assign(&mut self, rhs: &ReducedInt<T, R>) {
         *self = difference(self, rhs);
     }
@@ -94,6 +104,7 @@ impl<T: RingWord, R: Reducer<T> + Copy> SubAssign<&ReducedInt<T, R>> for Reduced
 
 impl<T: RingWord, R: Reducer<T> + Copy> SubAssign<T> for ReducedInt<T, R> {
     #[inline]
+    #[cfg_attr(debug_assertions, track_caller)]
     fn sub_assign(&mut self, rhs: T) {
         *self = difference_with(self, rhs);
     }
@@ -101,6 +112,7 @@ impl<T: RingWord, R: Reducer<T> + Copy> SubAssign<T> for ReducedInt<T, R> {
 
 impl<T: RingWord, R: Reducer<T> + Copy> SubAssign<&T> for ReducedInt<T, R> {
     #[inline]
+    #[cfg_attr(debug_assertions, track_caller)]
     fn sub_assign(&mut self, rhs: &T) {
         *self = difference_with(self, *rhs);
     }

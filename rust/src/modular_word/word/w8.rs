@@ -13,7 +13,7 @@ pub type DoubleWord = u16;
 ///
 /// # Preconditions
 ///
-/// N is at most 8. This isn't tested: outside it the call panics, or returns no meaningful result.
+/// n is at most 8. This isn't tested: outside it the call panics, or returns no meaningful result.
 #[inline]
 pub fn ones(n: u32) -> Word {
     paths::ones(n)
@@ -21,7 +21,7 @@ pub fn ones(n: u32) -> Word {
 
 /// The word as a double word of the same number.
 #[inline]
-pub fn extend(word: Word) -> DoubleWord {
+pub const fn extend(word: Word) -> DoubleWord {
     word as DoubleWord
 }
 
@@ -67,7 +67,8 @@ pub fn wsqr(a: Word) -> DoubleWord {
 ///
 /// Panics unless the modulus is at least 1.
 #[inline]
-pub fn nrem(n: DoubleWord, d: Word) -> Word {
+#[cfg_attr(debug_assertions, track_caller)]
+pub const fn nrem(n: DoubleWord, d: Word) -> Word {
     assert!(d != 0, "the modulus must be at least 1");
     (n % extend(d)) as Word
 }

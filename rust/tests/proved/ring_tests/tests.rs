@@ -16,6 +16,7 @@ mod hostile;
 mod integers;
 mod plan_callers;
 mod plan_rows;
+mod plan_values;
 mod plans;
 mod products;
 mod questions;

@@ -18,22 +18,6 @@ pub fn checked_run<T: RingWord, R: Reducer<T>>(
     }
 }
 
-/// Runs the same commands over two reducers of one modulus, from equal residues.
-///
-/// Both runs stop at the same command and leave equal residues, whatever the forms and the words are.
-pub fn run_both<T: RingWord, U: RingWord, R: Reducer<T>, S: Reducer<U>>(
-    left: &R,
-    right: &S,
-    left_regs: &mut [T],
-    right_regs: &mut [U],
-    left_commands: &[RingCommand<T>],
-    right_commands: &[RingCommand<U>],
-) -> (RunEnd, RunEnd) {
-    let left_end = run(left, left_regs, left_commands);
-    let right_end = run(right, right_regs, right_commands);
-    (left_end, right_end)
-}
-
 /// The residue of n modulo the reducer's modulus, by one command on three registers.
 pub fn residue_by_run<R: Reducer<u64>>(r: &R, n: u64) -> u64 {
     let mut regs = [r.transform(0); 3];

@@ -4,11 +4,11 @@ pub use num_modular::barrett::{FitsDivisor, Normalized2by1Divisor, StoredDivisor
 pub use num_modular::laws::{
     base_laws, canonical_laws, coefficient_laws, congruence_laws, digit_laws, division_laws,
     divisor_laws, euclids_lemma, fold_laws, form_laws, inverse_laws, inverse_product_laws,
-    jacobi_laws, linear_congruence_laws, negative_cancels, polynomial_laws, power_laws, prime_laws,
-    prime_power_laws, product_below_laws, product_laws, products_associate, products_commute,
-    products_distribute, range_laws, remainder_laws, residue_by_form, residue_laws, same_value,
-    step_laws, stop_laws, sum_below_laws, sum_laws, sums_associate, sums_commute, transform_laws,
-    undoing_laws,
+    is_equivalence, jacobi_laws, linear_congruence_laws, negative_cancels, polynomial_laws,
+    power_laws, prime_laws, prime_power_laws, product_below_laws, product_laws, products_associate,
+    products_commute, products_distribute, range_laws, remainder_laws, residue_by_form,
+    residue_laws, same_value, step_laws, stop_laws, sum_below_laws, sum_laws, sums_associate,
+    sums_commute, transform_laws, undoing_laws,
 };
 pub use num_modular::monty::neg_mod_inv::neginv;
 pub use num_modular::monty::{FixedMontgomery32, FixedMontgomery64};

@@ -9,6 +9,7 @@ macro_rules! check {
 }
 
 mod check_symbols;
+mod correction;
 mod each_client;
 mod erasure;
 mod first_uses;

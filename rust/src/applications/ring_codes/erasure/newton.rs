@@ -11,7 +11,7 @@ use crate::{Reducer, RingWord};
 #[inline]
 pub fn differences_before<T: RingWord, R: Reducer<T>>(r: &R, points: &[T], place: usize) -> T {
     let mut product = r.transform(T::one());
-    'differences: for j in 0..place {
+    for j in 0..place {
         let difference = r.sub(&points[place], &points[j]);
         product = r.mul(&product, &difference);
     }
@@ -27,7 +27,7 @@ pub fn differences_before<T: RingWord, R: Reducer<T>>(r: &R, points: &[T], place
 /// outside it the call panics, or returns no meaningful result.
 #[inline]
 pub fn fill_weights<T: RingWord, R: Reducer<T>>(r: &R, points: &[T], weights: &mut [T]) {
-    'points: for i in 0..weights.len() {
+    for i in 0..weights.len() {
         weights[i] = differences_before(r, points, i);
     }
 }
@@ -46,7 +46,7 @@ pub fn newton_value<T: RingWord, R: Reducer<T>>(
     point: &T,
 ) -> T {
     let mut value = r.transform(T::zero());
-    'coefficients: for k in 0..count {
+    for k in 0..count {
         let i = count - 1 - k;
         let difference = r.sub(point, &points[i]);
         let product = r.mul(&difference, &value);
@@ -69,7 +69,7 @@ pub fn divide_differences<T: RingWord, R: Reducer<T>>(
     inverses: &[T],
     values: &mut [T],
 ) {
-    'points: for i in 0..values.len() {
+    for i in 0..values.len() {
         let known = newton_value(r, points, values, i, &points[i]);
         let rest = r.sub(&values[i], &known);
         values[i] = r.mul(&rest, &inverses[i]);
@@ -89,7 +89,7 @@ pub fn subtract_multiples<T: RingWord, R: Reducer<T>>(
     values: &mut [T],
     from: usize,
 ) {
-    'places: for i in from + 1..values.len() {
+    for i in from + 1..values.len() {
         let product = r.mul(point, &values[i]);
         values[i - 1] = r.sub(&values[i - 1], &product);
     }
@@ -103,7 +103,7 @@ pub fn subtract_multiples<T: RingWord, R: Reducer<T>>(
 /// outside it the call panics, or returns no meaningful result.
 #[inline]
 pub fn expand<T: RingWord, R: Reducer<T>>(r: &R, points: &[T], form: &mut [T]) {
-    'points: for k in 0..form.len() {
+    for k in 0..form.len() {
         let from = form.len() - 1 - k;
         subtract_multiples(r, &points[from], form, from);
     }

@@ -13,7 +13,7 @@ pub enum ShareError {
 // Whether no point is 0.
 #[inline]
 fn are_nonzero<T: RingWord, R: Reducer<T>>(r: &R, points: &[T]) -> bool {
-    'points: for i in 0..points.len() {
+    for i in 0..points.len() {
         if r.is_zero(&points[i]) {
             return false;
         }

@@ -41,8 +41,8 @@ fn assert_rows<T: PlainWord>(rt: &impl Abort, rows: &[(Reducers, T, Row<T>)]) {
     }
 }
 
-// Rows: the reducers, the modulus, and a question with what is right. First those of the greatest modulus, for each
-// width.
+// Rows: the reducers, the modulus, and a question with what is right. First come those of the greatest modulus of each
+// width. A row that says nothing of forms is right of each reducer.
 macro_rules! rows {
     ($greatest:expr; $($row:expr,)*) => {
         &[
@@ -111,29 +111,28 @@ const OF_8_BITS: &[(Reducers, u8, Row<u8>)] = rows! { u8::MAX;
     (Reducers::Scaled, 21, Row::Form(Call::Load, (5, 0), 40)),
     (Reducers::Scaled, 21, Row::Form(Call::Load, (7, 0), 56)),
     (Reducers::Scaled, 21, Row::Form(Call::Load, (17, 0), 136)),
-    (Reducers::Scaled, 21, Row::InverseResidue(5, Some(17))),
-    (Reducers::Scaled, 21, Row::InverseResidue(7, None)),
-    (Reducers::Scaled, 21, Row::IsZero(Call::Load, (42, 0), true)),
+    (Reducers::Each, 21, Row::InverseResidue(5, Some(17))),
+    (Reducers::Each, 21, Row::IsZero(Call::Load, (42, 0), true)),
     (Reducers::Montgomery, 255, Row::Form(Call::Load, (254, 0), 254)),
     (Reducers::Montgomery, 255, Row::Form(Call::Product, (254, 254), 1)),
     (Reducers::Montgomery, 255, Row::Form(Call::Sum, (254, 254), 253)),
     (Reducers::Montgomery, 255, Row::Inverse(254, Some(254))),
     (Reducers::Montgomery, 255, Row::Form(Call::Power, (254, 255), 254)),
-    (Reducers::Montgomery, 255, Row::Residue(Call::Load, (254, 0), 254)),
-    (Reducers::Montgomery, 255, Row::Residue(Call::Product, (254, 254), 1)),
-    (Reducers::Montgomery, 255, Row::Residue(Call::Sum, (254, 254), 253)),
-    (Reducers::Montgomery, 255, Row::InverseResidue(254, Some(254))),
-    (Reducers::Montgomery, 255, Row::Residue(Call::Power, (254, 255), 254)),
+    (Reducers::Each, 255, Row::Residue(Call::Load, (254, 0), 254)),
+    (Reducers::Each, 255, Row::Residue(Call::Product, (254, 254), 1)),
+    (Reducers::Each, 255, Row::Residue(Call::Sum, (254, 254), 253)),
+    (Reducers::Each, 255, Row::InverseResidue(254, Some(254))),
+    (Reducers::Each, 255, Row::Residue(Call::Power, (254, 255), 254)),
     (Reducers::Montgomery, 253, Row::Form(Call::Load, (252, 0), 250)),
     (Reducers::Montgomery, 253, Row::Form(Call::Product, (252, 252), 3)),
     (Reducers::Montgomery, 253, Row::Form(Call::Sum, (252, 252), 247)),
     (Reducers::Montgomery, 253, Row::Inverse(252, Some(250))),
     (Reducers::Montgomery, 253, Row::Form(Call::Power, (252, 255), 250)),
-    (Reducers::Montgomery, 253, Row::Residue(Call::Load, (252, 0), 252)),
-    (Reducers::Montgomery, 253, Row::Residue(Call::Product, (252, 252), 1)),
-    (Reducers::Montgomery, 253, Row::Residue(Call::Sum, (252, 252), 251)),
-    (Reducers::Montgomery, 253, Row::InverseResidue(252, Some(252))),
-    (Reducers::Montgomery, 253, Row::Residue(Call::Power, (252, 255), 252)),
+    (Reducers::Each, 253, Row::Residue(Call::Load, (252, 0), 252)),
+    (Reducers::Each, 253, Row::Residue(Call::Product, (252, 252), 1)),
+    (Reducers::Each, 253, Row::Residue(Call::Sum, (252, 252), 251)),
+    (Reducers::Each, 253, Row::InverseResidue(252, Some(252))),
+    (Reducers::Each, 253, Row::Residue(Call::Power, (252, 255), 252)),
     (Reducers::Montgomery, 21, Row::Form(Call::Load, (5, 0), 20)),
     (Reducers::Montgomery, 21, Row::Form(Call::Load, (7, 0), 7)),
     (Reducers::Montgomery, 21, Row::Form(Call::Load, (17, 0), 5)),
@@ -141,9 +140,9 @@ const OF_8_BITS: &[(Reducers, u8, Row<u8>)] = rows! { u8::MAX;
     (Reducers::Montgomery, 1, Row::Inverse(255, Some(0))),
     (Reducers::Montgomery, 254, Row::Inverse(253, Some(251))),
     (Reducers::Montgomery, 254, Row::Inverse(2, None)),
-    (Reducers::Montgomery, 11, Row::IsZero(Call::Sum, (5, 6), true)),
-    (Reducers::Montgomery, 11, Row::IsZero(Call::Sum, (5, 7), false)),
-    (Reducers::Montgomery, 5, Row::Residue(Call::Product, (12, 13), 1)),
+    (Reducers::Each, 11, Row::IsZero(Call::Sum, (5, 6), true)),
+    (Reducers::Each, 11, Row::IsZero(Call::Sum, (5, 7), false)),
+    (Reducers::Each, 5, Row::Residue(Call::Product, (12, 13), 1)),
     (Reducers::Montgomery, 20, Row::Form(Call::Load, (7, 0), 11)),
     (Reducers::Montgomery, 20, Row::Form(Call::Load, (9, 0), 17)),
     (Reducers::Montgomery, 20, Row::Form(Call::Product, (7, 9), 15)),
@@ -152,29 +151,28 @@ const OF_8_BITS: &[(Reducers, u8, Row<u8>)] = rows! { u8::MAX;
 };
 
 const OF_16_BITS: &[(Reducers, u16, Row<u16>)] = rows! { u16::MAX;
-    (Reducers::Scaled, 7, Row::Residue(Call::Power, (255, 255), 6)),
-    (Reducers::Montgomery, 65535, Row::Residue(Call::Product, (65534, 65533), 2)),
-    (Reducers::Montgomery, 65534, Row::Residue(Call::Product, (65533, 65533), 1)),
+    (Reducers::Each, 7, Row::Residue(Call::Power, (255, 255), 6)),
+    (Reducers::Each, 65535, Row::Residue(Call::Product, (65534, 65533), 2)),
+    (Reducers::Each, 65534, Row::Residue(Call::Product, (65533, 65533), 1)),
 };
 
 const OF_32_BITS: &[(Reducers, u32, Row<u32>)] = rows! { u32::MAX;
-    (Reducers::Scaled, 5000, Row::InverseResidue(3, Some(1667))),
-    (Reducers::Montgomery, 4294967295, Row::Residue(Call::Product, (4294967294, 4294967293), 2)),
-    (Reducers::Montgomery, 4294967294, Row::Residue(Call::Product, (4294967293, 4294967293), 1)),
+    (Reducers::Each, 5000, Row::InverseResidue(3, Some(1667))),
+    (Reducers::Each, 4294967295, Row::Residue(Call::Product, (4294967294, 4294967293), 2)),
+    (Reducers::Each, 4294967294, Row::Residue(Call::Product, (4294967293, 4294967293), 1)),
 };
 
 const OF_64_BITS: &[(Reducers, u64, Row<u64>)] = rows! { u64::MAX;
-    (Reducers::Scaled, u64::MAX, Row::Residue(Call::Product, (u64::MAX - 1, u64::MAX - 1), 1)),
-    (Reducers::Montgomery, 18446744073709551615,
+    (Reducers::Each, 18446744073709551615,
         Row::Residue(Call::Product, (18446744073709551614, 18446744073709551614), 1)),
-    (Reducers::Montgomery, 18446744073709551614,
+    (Reducers::Each, 18446744073709551614,
         Row::Residue(Call::Product, (18446744073709551613, 18446744073709551613), 1)),
 };
 
 const OF_SIZES: &[(Reducers, usize, Row<usize>)] = rows! { usize::MAX;
-    (Reducers::Scaled, 1000, Row::Residue(Call::Power, (2, 10), 24)),
-    (Reducers::Montgomery, 3, Row::Residue(Call::Product, (5, 7), 2)),
-    (Reducers::Montgomery, 6, Row::Residue(Call::Product, (5, 7), 5)),
+    (Reducers::Each, 1000, Row::Residue(Call::Power, (2, 10), 24)),
+    (Reducers::Each, 3, Row::Residue(Call::Product, (5, 7), 2)),
+    (Reducers::Each, 6, Row::Residue(Call::Product, (5, 7), 5)),
 };
 
 #[test]

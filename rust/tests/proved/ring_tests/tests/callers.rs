@@ -1,9 +1,10 @@
 //! The callers of `run` over plain reducers.
 
 use super::run_callers::run_to_the_end;
+use num_modular::laws::run_both;
 use num_modular::ring::{RingCommand, RunEnd};
 use num_modular::{Reducer, Vanilla};
-use crate::run_misuse::runs::{checked_run, residue_by_run, run_both};
+use crate::run_misuse::runs::{checked_run, residue_by_run};
 
 #[test]
 fn a_run_is_refused_where_a_condition_fails() {

@@ -199,7 +199,7 @@ fn reducers_of_any_modulus() {
     assert_right(rt, first_wrong(INTEGERS_OF_64_BITS));
 }
 
-// A word; whether it is a form, and its own form and residue, by each reducer of the fixed modulus m.
+// A word n; whether it is a form itself, and the form and the residue of n, by each reducer of the fixed modulus m.
 struct Word<T> {
     m: T,
     n: T,

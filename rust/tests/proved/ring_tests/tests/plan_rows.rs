@@ -34,8 +34,8 @@ pub struct Row<'a, T> {
     pub want: &'a [T],
 }
 
-// Whether each entry is below 4m. A loop, since a closure takes longer to prove.
-fn all_in_room<T: PlainWord>(m: &PlannedModulus<T>, xs: &[T]) -> bool {
+/// Whether each entry is below 4m. A loop, since a closure takes longer to prove.
+pub fn all_in_room<T: PlainWord>(m: &PlannedModulus<T>, xs: &[T]) -> bool {
     'entries: for i in 0..xs.len() {
         if !m.has_room(xs[i]) {
             return false;
@@ -44,8 +44,8 @@ fn all_in_room<T: PlainWord>(m: &PlannedModulus<T>, xs: &[T]) -> bool {
     true
 }
 
-// Whether each entry is below m.
-fn all_below<T: PlainWord>(m: &PlannedModulus<T>, xs: &[T]) -> bool {
+/// Whether each entry is below m.
+pub fn all_below<T: PlainWord>(m: &PlannedModulus<T>, xs: &[T]) -> bool {
     'entries: for i in 0..xs.len() {
         if !xs[i].is_below(m.modulus()) {
             return false;
@@ -180,15 +180,15 @@ fn called<T: PlainWord, F: PlanEntry<T>>(
     if is_done { Some(true) } else { None }
 }
 
-// The first places of a room, with the list there as far as there is room.
-fn placed<'a, T: RingWord>(room: &'a mut [T], list: &[T]) -> &'a mut [T] {
+/// The first places of a room, with the list there as far as there is room.
+pub fn placed<'a, T: RingWord>(room: &'a mut [T], list: &[T]) -> &'a mut [T] {
     let n = list.len().min(room.len());
     room[..n].copy_from_slice(&list[..n]);
     &mut room[..n]
 }
 
-// Whether two lists are the same.
-fn are_same<T: RingWord>(xs: &[T], ys: &[T]) -> bool {
+/// Whether two lists are the same.
+pub fn are_same<T: RingWord>(xs: &[T], ys: &[T]) -> bool {
     for i in 0..xs.len() {
         if i >= ys.len() || xs[i] != ys[i] {
             return false;

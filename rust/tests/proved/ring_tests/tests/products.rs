@@ -26,7 +26,7 @@ fn lists_that_convolve() {
     }
 }
 
-// A table of a few rows each: what the checker writes of a table with lists grows with the square of their number.
+// Several short tables, since what the checker writes of a table grows with the square of the lists in it.
 const BLOCKS_OF_TWO: &[Row<u64>] = &[
     Row { m: 17, root: 3, factors: 8, block: 1, last: 2, lists: &[1, 2, 3, 4, 5, 6, 7, 8],
         want: &[8, 16, 13, 1, 5, 6, 7, 8] },
@@ -95,6 +95,7 @@ const CYCLIC: &[Row<u64>] = &[
         want: &[9, 1, 12, 14, 3, 6, 8, 5, 6, 3, 13, 11, 15, 12, 8, 2] },
 ];
 
+// Composite and even moduli, and 1.
 const COMPOSITE: &[Row<u64>] = &[
     Row { m: 85, root: 13, factors: 2, block: 0, last: 1, lists: &[256, 257, 173, 89, 1, 256, 170, 0],
         want: &[5, 3, 5, 7, 2, 0, 14, 73] },

@@ -10,13 +10,13 @@ use crate::runtime::Abort;
 
 const MERSENNE_PRIME: u64 = 2305843009213693951;
 
-fn forms_of<R: Reducer<u64>, const N: usize>(r: &R, words: &[u64; N]) -> [u64; N] {
+pub fn forms_of<R: Reducer<u64>, const N: usize>(r: &R, words: &[u64; N]) -> [u64; N] {
     let mut forms = [0; N];
     load_forms(r, words, &mut forms);
     forms
 }
 
-fn words_of<R: Reducer<u64>, const N: usize>(r: &R, forms: &[u64; N]) -> [u64; N] {
+pub fn words_of<R: Reducer<u64>, const N: usize>(r: &R, forms: &[u64; N]) -> [u64; N] {
     let mut words = [0; N];
     unload_forms(r, forms, &mut words);
     words

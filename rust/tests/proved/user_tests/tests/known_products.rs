@@ -48,8 +48,8 @@ fn packed(digits: &[u16]) -> [u64; 32] {
 fn is_packed_product(xs: &[u16], ys: &[u16], known: &[u16]) -> bool {
     let x = packed(xs);
     let y = packed(ys);
-    let x = &x[..xs.len().min(64).div_ceil(4)];
-    let y = &y[..ys.len().min(64).div_ceil(4)];
+    let x = &x[..(xs.len().min(64) + 3) / 4];
+    let y = &y[..(ys.len().min(64) + 3) / 4];
     is_product(x, y, &packed(known)[..x.len() + y.len()])
 }
 

@@ -1,0 +1,171 @@
+//! Correction of wrong symbols.
+
+use super::key_equation::solve;
+use super::quotients::divide_pair;
+use super::{RestoreError, choose, encode, points_fit};
+use crate::{Reducer, RingWord};
+
+/// Why `correct` returns no message.
+#[derive(Clone, Copy, Debug, PartialEq, Eq)]
+pub enum CorrectError<T> {
+    /// The places or the points don't fit.
+    Restore(RestoreError),
+    /// No word of the code is near enough to the symbols.
+    TooManyErrors,
+    /// A number above 0 and below m that has no inverse modulo m, so that it has a common factor with m. It never
+    /// comes where m is a prime.
+    NoInverse(T),
+}
+
+// Copies the points at all places, if they are right and the points fit.
+#[inline]
+fn locate<T: RingWord, R: Reducer<T>>(
+    r: &R,
+    points: &[T],
+    places: &[usize],
+    located: &mut [T],
+) -> Result<(), RestoreError> {
+    match choose(points, places, located) {
+        Err(error) => Err(error),
+        Ok(()) => {
+            if points_fit(r, located) {
+                Ok(())
+            } else {
+                Err(RestoreError::PointsDontFit)
+            }
+        }
+    }
+}
+
+// 1 where two words differ, otherwise 0.
+#[inline]
+fn difference<T: RingWord>(a: &T, b: &T) -> usize {
+    if a != b { 1 } else { 0 }
+}
+
+// The number of the symbols that differ from those of a word at their places.
+#[inline]
+fn count_errors<T: RingWord, R: Reducer<T>>(
+    _r: &R,
+    places: &[usize],
+    symbols: &[T],
+    word: &[T],
+) -> usize {
+    let mut errors = 0;
+    for i in 0..places.len() {
+        errors += difference(&symbols[i], &word[places[i]]);
+    }
+    errors
+}
+
+// Writes the only message that can have a near word. Returns false where there is none. Where a number without an
+// inverse modulo m is in the way, it returns that number.
+fn decode<T: RingWord, R: Reducer<T>>(
+    r: &R,
+    points: &[T],
+    symbols: &[T],
+    scratch: &mut [T],
+    message: &mut [T],
+) -> Result<bool, T> {
+    let k = message.len();
+    let half = (points.len() - k) / 2;
+    let (first_numerator, rest) = scratch.split_at_mut(half + k);
+    let (first_locator, rest) = rest.split_at_mut(half + 1);
+    let (second_numerator, rest) = rest.split_at_mut(half + k);
+    let (second_locator, rest) = rest.split_at_mut(half + 1);
+    let (chosen, rest) = rest.split_at_mut(k);
+    let (values, rest) = rest.split_at_mut(k);
+    let weights = &mut rest[..k];
+    let count = k + 2 * half;
+    match solve(
+        r,
+        points,
+        symbols,
+        count,
+        k,
+        first_numerator,
+        first_locator,
+        second_numerator,
+        second_locator,
+    ) {
+        Err(a) => Err(a),
+        Ok((first, second)) => {
+            if first <= second {
+                divide_pair(
+                    r,
+                    points,
+                    count,
+                    first_numerator,
+                    first_locator,
+                    chosen,
+                    values,
+                    weights,
+                    message,
+                )
+            } else {
+                divide_pair(
+                    r,
+                    points,
+                    count,
+                    second_numerator,
+                    second_locator,
+                    chosen,
+                    values,
+                    weights,
+                    message,
+                )
+            }
+        }
+    }
+}
+
+/// Corrects symbols that may be wrong: writes the only message whose word differs in e of the s symbols, where 2·e is
+/// at most s - k, and that word, and returns e. Erasures are the places that aren't listed; so e wrong symbols and n - s
+/// lost ones are corrected if 2·e + (n - s) ≤ n - k.
+///
+/// The modulus may be composite. `NoInverse(a)` then says that a number without an inverse was met, and a has a common
+/// factor with m; it never comes where m is a prime. `TooManyErrors` comes only where no word is that near. The other
+/// errors are those of `restore`, for all s places. After an error the contents of `message` and `word` are unspecified.
+///
+/// The contents of `scratch`, `message` and `word` are ignored. It takes at most about 9·s² + n·k products and 2·s
+/// inversions.
+///
+/// Source: Welch and Berlekamp, US patent 4,633,470; Kötter, "On algebraic decoding of algebraic-geometric and cyclic
+/// codes".
+///
+/// # Preconditions
+///
+/// Points and symbols are checked forms, each place has its symbol, k, the length of the message, is at
+/// least 1, the word has a place for each point, and there are 3·(s + k) + 2 places of scratch. This
+/// isn't tested: outside it the call panics, or returns no meaningful result.
+pub fn correct<T: RingWord, R: Reducer<T>>(
+    r: &R,
+    points: &[T],
+    places: &[usize],
+    symbols: &[T],
+    scratch: &mut [T],
+    message: &mut [T],
+    word: &mut [T],
+) -> Result<usize, CorrectError<T>> {
+    if places.len() < message.len() {
+        return Err(CorrectError::Restore(RestoreError::TooFewSymbols));
+    }
+    let (located, rest) = scratch.split_at_mut(places.len());
+    match locate(r, points, places, located) {
+        Err(error) => return Err(CorrectError::Restore(error)),
+        Ok(()) => {}
+    }
+    match decode(r, located, symbols, rest, message) {
+        Err(a) => Err(CorrectError::NoInverse(a)),
+        Ok(false) => Err(CorrectError::TooManyErrors),
+        Ok(true) => {
+            encode(r, points, message, word);
+            let errors = count_errors(r, places, symbols, word);
+            if errors <= (places.len() - message.len()) / 2 {
+                Ok(errors)
+            } else {
+                Err(CorrectError::TooManyErrors)
+            }
+        }
+    }
+}

@@ -1,0 +1,94 @@
+//! The message from a pair that solves the key equation: the quotients N(x)/E(x) at k points are its values there.
+
+use super::{evaluate, interpolate};
+use crate::{Reducer, RingWord};
+
+/// The form of N(x)/E(x); `None` where E(x) is 0 and has no inverse. Where E(x) is another number without an inverse
+/// modulo m, it returns that number.
+///
+/// # Preconditions
+///
+/// All are checked forms. This isn't tested: outside it the call panics, or returns no meaningful
+/// result.
+pub fn quotient<T: RingWord, R: Reducer<T>>(
+    r: &R,
+    point: &T,
+    numerator: &[T],
+    locator: &[T],
+) -> Result<Option<T>, T> {
+    let value = evaluate(r, locator, point);
+    match r.inv(value) {
+        Some(inverse) => {
+            let dividend = evaluate(r, numerator, point);
+            Ok(Some(r.mul(&dividend, &inverse)))
+        }
+        None => {
+            if r.is_zero(&value) {
+                Ok(None)
+            } else {
+                Err(r.residue(value))
+            }
+        }
+    }
+}
+
+/// Writes the first k points at which E(x) has an inverse, and the quotients N(x)/E(x) there, k being the number of the
+/// places for them. Returns false where there are fewer. Where E(x) isn't 0 and has no inverse modulo m, it returns
+/// that number.
+///
+/// # Preconditions
+///
+/// All are checked forms, and there are at least `count` points, and k is from 1 to `count`. This isn't
+/// tested: outside it the call panics, or returns no meaningful result.
+pub fn divide<T: RingWord, R: Reducer<T>>(
+    r: &R,
+    points: &[T],
+    count: usize,
+    numerator: &[T],
+    locator: &[T],
+    chosen: &mut [T],
+    values: &mut [T],
+) -> Result<bool, T> {
+    let mut found = 0;
+    for i in 0..count {
+        match quotient(r, &points[i], numerator, locator) {
+            Err(a) => return Err(a),
+            Ok(None) => continue,
+            Ok(Some(value)) => {
+                chosen[found] = points[i];
+                values[found] = value;
+                found += 1;
+                if found == chosen.len() {
+                    return Ok(true);
+                }
+            }
+        }
+    }
+    Ok(false)
+}
+
+/// Writes the message whose values are the quotients of a pair. Returns false where fewer than k quotients exist.
+///
+/// # Preconditions
+///
+/// Those of `divide`, and there are as many places for the points, the quotients and the weights as the
+/// message has symbols, and the points fit. This isn't tested: outside it the call panics, or returns
+/// no meaningful result.
+#[inline]
+pub fn divide_pair<T: RingWord, R: Reducer<T>>(
+    r: &R,
+    points: &[T],
+    count: usize,
+    numerator: &[T],
+    locator: &[T],
+    chosen: &mut [T],
+    values: &mut [T],
+    weights: &mut [T],
+    message: &mut [T],
+) -> Result<bool, T> {
+    match divide(r, points, count, numerator, locator, chosen, values) {
+        Err(a) => Err(a),
+        Ok(false) => Ok(false),
+        Ok(true) => Ok(interpolate(r, chosen, values, weights, message)),
+    }
+}

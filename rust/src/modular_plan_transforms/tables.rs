@@ -1,0 +1,54 @@
+//! What makes a plan: a root that suits, and a table of its powers; and the inverses of powers of two.
+
+use crate::modular_barrett::planned::PlannedModulus;
+use crate::modular_prim::plain_word::PlainWord;
+use crate::modular_word::path_word::PathWord;
+use crate::modular_word::ring_word::RingWord;
+
+// The power of g to the exponent `count`, below m, by squarings.
+#[inline]
+pub(crate) fn power<T: PlainWord>(m: &PlannedModulus<T>, g: T, count: usize) -> T {
+    let mut power = g;
+    for _done in 0..count.trailing_zeros() {
+        power = m.multiply(power, power);
+    }
+    power
+}
+
+// Whether a number below m is congruent to -1.
+#[inline]
+fn is_minus_one<T: PlainWord>(m: &PlannedModulus<T>, x: T) -> bool {
+    x.plus(T::one()) == m.modulus
+}
+
+// Whether g is below m and suits transforms of 2·count entries.
+#[inline]
+pub(crate) fn suits<T: PlainWord>(m: &PlannedModulus<T>, g: T, count: usize) -> bool {
+    if !g.is_below(m.modulus) {
+        return false;
+    }
+    if !count.is_power_of_two() {
+        return false;
+    }
+    is_minus_one(m, power(m, g, count))
+}
+
+// Half of a number below m, modulo an odd m.
+#[inline]
+fn halved<T: PlainWord>(m: &PlannedModulus<T>, x: T) -> T {
+    if x.is_odd() {
+        x.plus(m.modulus).half()
+    } else {
+        x.half()
+    }
+}
+
+// The inverse of 2^bits modulo an odd m, by halvings of 1.
+#[inline]
+pub(crate) fn inverse_of_power<T: PlainWord>(m: &PlannedModulus<T>, bits: u32) -> T {
+    let mut part = m.residue(T::one());
+    for _done in 0..bits {
+        part = halved(m, part);
+    }
+    part
+}

@@ -1,0 +1,70 @@
+//! Lists of commands for C.
+
+use crate::ring::{RingCommand, commands_fit};
+
+/// Writes n modulo m in dst.
+pub const NM_LOAD: u32 = 0;
+/// Writes the sum of a and b.
+pub const NM_ADD: u32 = 1;
+/// Writes the difference of a and b.
+pub const NM_SUB: u32 = 2;
+/// Writes the product of a and b.
+pub const NM_MUL: u32 = 3;
+/// Writes the negative of a.
+pub const NM_NEG: u32 = 4;
+/// Writes the double of a.
+pub const NM_DBL: u32 = 5;
+/// Writes the square of a.
+pub const NM_SQR: u32 = 6;
+/// Writes the inverse of a; the run stops where there is none.
+pub const NM_INV: u32 = 7;
+/// Writes the product of a and the inverse of b; the run stops where b has none.
+pub const NM_DIV: u32 = 8;
+/// Writes the power of a to the exponent n.
+pub const NM_POW: u32 = 9;
+
+/// A command on registers, each given by its index. Fields that an operation doesn't use may have any value.
+#[repr(C)]
+#[derive(Clone, Copy)]
+#[must_use]
+pub struct NmCommand {
+    /// The operation: `NM_LOAD` to `NM_POW`.
+    pub operation: u32,
+    /// The register that is written.
+    pub dst: usize,
+    /// The register of the first operand.
+    pub a: usize,
+    /// The register of the second operand.
+    pub b: usize,
+    /// The number that is loaded, or the exponent.
+    pub n: u64,
+}
+
+// The ring command of a command.
+pub(crate) fn ring_command(c: &NmCommand) -> RingCommand<u64> {
+    let (dst, a, b, n) = (c.dst, c.a, c.b, c.n);
+    match c.operation {
+        NM_LOAD => RingCommand::Load { dst, n },
+        NM_ADD => RingCommand::Add { dst, a, b },
+        NM_SUB => RingCommand::Sub { dst, a, b },
+        NM_MUL => RingCommand::Mul { dst, a, b },
+        NM_NEG => RingCommand::Neg { dst, a },
+        NM_DBL => RingCommand::Dbl { dst, a },
+        NM_SQR => RingCommand::Sqr { dst, a },
+        NM_INV => RingCommand::Inv { dst, a },
+        NM_DIV => RingCommand::Div { dst, a, b },
+        _ => RingCommand::Pow { dst, a, exp: n },
+    }
+}
+
+// Whether the command has an operation, and register numbers below `count`.
+#[inline]
+fn is_admitted(c: &NmCommand, count: usize) -> bool {
+    c.operation < 10 && commands_fit(&[ring_command(c)], count)
+}
+
+// Whether each command has an operation, and register numbers below `count`.
+#[inline]
+pub(crate) fn are_admitted(commands: &[NmCommand], count: usize) -> bool {
+    commands.iter().all(|c| is_admitted(c, count))
+}

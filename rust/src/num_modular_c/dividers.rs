@@ -1,0 +1,106 @@
+//! Division by an invariant divisor, by its reciprocal.
+
+use crate::num_modular_c::codes::{NM_BAD_ARGUMENT, NM_BAD_CONTEXT, NM_OK};
+use crate::modular_word::path_word::PathWord;
+use crate::modular_word::paths::div_2by1;
+use crate::Normalized2by1Divisor;
+use crate::word::w64::merge;
+
+/// A divisor and its reciprocal, as `nm_divider` computes it.
+#[repr(C)]
+#[derive(Clone, Copy)]
+#[must_use]
+pub struct NmDivider {
+    /// The divisor.
+    pub divisor: u64,
+    /// The reciprocal of the divisor shifted left until its top bit is set.
+    pub reciprocal: u64,
+}
+
+/// A quotient and a remainder.
+#[repr(C)]
+#[derive(Clone, Copy)]
+#[must_use]
+pub struct NmDivision {
+    /// The quotient, rounded down.
+    pub quotient: u64,
+    /// The remainder.
+    pub remainder: u64,
+}
+
+// Whether v is the reciprocal of d.
+#[inline]
+fn is_reciprocal(d: u64, v: u64) -> bool {
+    if d < 0x8000_0000_0000_0000 {
+        return false;
+    }
+    let gap = merge(0, d.wrapping_neg());
+    let product = v as u128 * d as u128;
+    product < gap && gap <= product + d as u128
+}
+
+// A number shifted left until its top bit is set.
+#[inline]
+fn to_the_top(d: u64) -> u64 {
+    d.shift_left(d.leading_zeros())
+}
+
+// Quotient and remainder of a double word, whose high word is below the divisor.
+#[inline]
+fn divided(divider: &NmDivider, low: u64, high: u64) -> NmDivision {
+    let shift = divider.divisor.leading_zeros();
+    let dividend = merge(low, high) << shift;
+    let (quotient, remainder) = div_2by1(to_the_top(divider.divisor), divider.reciprocal, dividend);
+    NmDivision {
+        quotient,
+        remainder: remainder >> shift,
+    }
+}
+
+// Whether the reciprocal is that of the divisor.
+#[inline]
+fn is_divider(divider: &NmDivider) -> bool {
+    divider.divisor != 0 && is_reciprocal(to_the_top(divider.divisor), divider.reciprocal)
+}
+
+/// Writes the divider by d. `NM_BAD_ARGUMENT`: d is 0.
+#[inline]
+pub fn nm_divider(d: u64, divider: &mut NmDivider) -> u32 {
+    if d == 0 {
+        return NM_BAD_ARGUMENT;
+    }
+    *divider = NmDivider {
+        divisor: d,
+        reciprocal: Normalized2by1Divisor::invert_word(to_the_top(d)),
+    };
+    NM_OK
+}
+
+/// Writes quotient and remainder of a word. `NM_BAD_CONTEXT`: the divider isn't one that `nm_divider` makes.
+#[inline]
+pub fn nm_div_rem(divider: &NmDivider, n: u64, division: &mut NmDivision) -> u32 {
+    if !is_divider(divider) {
+        return NM_BAD_CONTEXT;
+    }
+    *division = divided(divider, n, 0);
+    NM_OK
+}
+
+/// Writes quotient and remainder of the double word low + 2^64·high. `NM_BAD_CONTEXT`: the divider isn't one that
+/// `nm_divider` makes. `NM_BAD_ARGUMENT`: high isn't below the divisor, so that the quotient doesn't fit a word.
+#[inline]
+pub fn nm_div_rem_2by1(
+    divider: &NmDivider,
+    low: u64,
+    high: u64,
+    division: &mut NmDivision,
+) -> u32 {
+    if !is_divider(divider) {
+        return NM_BAD_CONTEXT;
+    }
+    if high >= divider.divisor {
+        return NM_BAD_ARGUMENT;
+    }
+    *division = divided(divider, low, high);
+    NM_OK
+}

@@ -1,0 +1,172 @@
+//! Correction of wrong symbols: messages that are found, symbols that are too far from each word, and numbers without
+//! an inverse.
+
+use super::erasure::{forms_of, words_of};
+use num_modular::{FixedMersenne64, Montgomery, Reducer};
+use num_modular::applications::ring_codes::erasure::{CorrectError, RestoreError, correct};
+use crate::runtime::Abort;
+
+const MERSENNE_PRIME: u64 = 2305843009213693951;
+
+type Found<const K: usize> = Result<([u64; K], usize), CorrectError<u64>>;
+
+// The message and the number of wrong symbols, given the symbols at places of the points.
+fn corrected<R: Reducer<u64>, const N: usize, const S: usize, const K: usize>(
+    r: &R,
+    points: &[u64; N],
+    places: &[usize; S],
+    symbols: &[u64; S],
+) -> Found<K> {
+    let points = forms_of(r, points);
+    let symbols = forms_of(r, symbols);
+    let mut scratch = [0; 100];
+    let mut message = [0; K];
+    let mut word = [0; N];
+    match correct(
+        r,
+        &points,
+        places,
+        &symbols,
+        &mut scratch,
+        &mut message,
+        &mut word,
+    ) {
+        Err(error) => Err(error),
+        Ok(errors) => Ok((words_of(r, &message), errors)),
+    }
+}
+
+// Symbols at places of the points 0 to 6, and the message of three symbols with the number of errors.
+struct Row<'a, const S: usize> {
+    places: &'a [usize; S],
+    symbols: &'a [u64; S],
+    found: Found<3>,
+}
+
+fn holds<R: Reducer<u64>, const S: usize>(r: &R, row: &Row<S>) -> bool {
+    corrected::<_, 7, _, _>(r, &[0, 1, 2, 3, 4, 5, 6], row.places, row.symbols) == row.found
+}
+
+// Whether this is the message, or a number without an inverse was in the way.
+fn is_or_has_no_inverse<R: Reducer<u64>, const K: usize>(
+    r: &R,
+    found: Found<K>,
+    want: Found<K>,
+) -> bool {
+    match found {
+        Err(CorrectError::NoInverse(a)) => a != 0
+            && a < r.modulus()
+            && r.inv(r.transform(a)).is_none(),
+        _ => found == want,
+    }
+}
+
+const TWO_ERRORS: &Row<7> = &Row {
+    places: &[0, 1, 2, 3, 4, 5, 6],
+    symbols: &[1, 0, 17, 34, 57, 900, 121],
+    found: Ok(([1, 2, 3], 2)),
+};
+
+const THREE_ERRORS: &Row<7> = &Row {
+    places: &[0, 1, 2, 3, 4, 5, 6],
+    symbols: &[1, 0, 17, 34, 57, 900, 1],
+    found: Err(CorrectError::TooManyErrors),
+};
+
+const ONE_ERROR: &Row<5> = &Row {
+    places: &[1, 2, 3, 4, 5],
+    symbols: &[6, 16, 34, 57, 86],
+    found: Ok(([1, 2, 3], 1)),
+};
+
+const NO_ERROR: &Row<3> = &Row {
+    places: &[4, 5, 6],
+    symbols: &[57, 86, 121],
+    found: Ok(([1, 2, 3], 0)),
+};
+
+const ONE_OF_FOUR: &Row<4> = &Row {
+    places: &[3, 4, 5, 6],
+    symbols: &[34, 58, 86, 121],
+    found: Err(CorrectError::TooManyErrors),
+};
+
+const TOO_FEW: &Row<2> = &Row {
+    places: &[3, 4],
+    symbols: &[34, 57],
+    found: Err(CorrectError::Restore(RestoreError::TooFewSymbols)),
+};
+
+fn assert_rows<R: Reducer<u64>>(rt: &impl Abort, r: &R) {
+    check!(rt, 1; holds(r, TWO_ERRORS));
+    check!(rt, 2; holds(r, THREE_ERRORS));
+    check!(rt, 3; holds(r, ONE_ERROR));
+    check!(rt, 4; holds(r, NO_ERROR));
+    check!(rt, 5; holds(r, ONE_OF_FOUR));
+    check!(rt, 6; holds(r, TOO_FEW));
+}
+
+// Modulo composite numbers; the last row was found by search.
+fn assert_composite<R: Reducer<u64>>(rt: &impl Abort, r: &R, small: &R, product: &R) {
+    let places = &[0, 1, 2, 3, 4, 5, 6];
+    let found = corrected(
+        r,
+        &[0, 1, 2, 3, 4, 5, 6],
+        places,
+        &[0, 197, 891, 892, 265, 947, 624],
+    );
+    check!(rt, 11; is_or_has_no_inverse(r, found, Ok(([500, 700, 999], 2))));
+    let found = corrected(small, &[1, 2, 3], &[0, 1, 2], &[7, 8, 7]);
+    check!(rt, 12; is_or_has_no_inverse(small, found, Ok(([7], 1))));
+    let found = corrected::<_, 5, 5, 2>(
+        product,
+        &[0, 1, 2, 3, 4],
+        &[0, 1, 2, 3, 4],
+        &[2, 10, 4, 26, 34],
+    );
+    check!(rt, 13; found == Err(CorrectError::NoInverse(14)));
+}
+
+// The points are 3^(16·i) modulo 257.
+fn corrects_four<R: Reducer<u64>>(r: &R) -> bool {
+    let points = &[
+        1, 249, 64, 2, 241, 128, 4, 225, 256, 8, 193, 255, 16, 129, 253, 32,
+    ];
+    let places = &[0, 1, 2, 3, 4, 5, 6, 7, 8, 9, 10, 11, 12, 13, 14, 15];
+    let symbols = &[
+        1, 166, 198, 34, 141, 61, 6, 7, 51, 200, 123, 157, 9, 183, 31, 0,
+    ];
+    corrected(r, points, places, symbols) == Ok(([72, 101, 108, 108, 111, 33, 0, 255], 4))
+}
+
+// Generic in the reducer, as each call with a known one takes long to prove.
+fn assert_corrections<R: Reducer<u64> + Copy>(rt: &impl Abort) {
+    assert_rows(rt, &R::new(&929));
+    assert_composite(rt, &R::new(&1001), &R::new(&15), &R::new(&35));
+    check!(rt, 21; corrects_four(&R::new(&257)));
+}
+
+#[test]
+fn corrections_by_montgomery_forms() {
+    let rt = crate::runtime::HostRuntime;
+    assert_corrections::<Montgomery<u64>>(&rt);
+}
+
+fn corrects_one<R: Reducer<u64>>(r: &R) -> bool {
+    let points = &[1, 2, 3, 2305843009213693950, 1152921504606846976];
+    let symbols = &[
+        1234567891111111109,
+        163292774983836910,
+        0,
+        1071275120077891482,
+        40823193005218486,
+    ];
+    corrected(r, points, &[0, 1, 2, 3, 4], symbols)
+        == Ok(([2305843009213693950, 1234567890123456789, 987654321], 1))
+}
+
+#[test]
+fn corrections_modulo_a_mersenne_prime() {
+    let rt = crate::runtime::HostRuntime;
+    check!(&rt, 1; corrects_one(&FixedMersenne64::<61, 1>::new(&MERSENNE_PRIME)));
+}
