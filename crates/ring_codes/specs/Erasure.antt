@@ -2,10 +2,13 @@
 -- Journal of the Society for Industrial and Applied Mathematics 8, 1960; over rings Quintin, Barbier and Chabot,
 -- "On generalized Reed-Solomon codes over commutative and noncommutative rings", 2013).
 use Rattle.std.specs.Prelude.{◌≡◌, ◌≢◌, ℕ, ◌%◌, ◌<◌, ◌≤◌, List, length, slice_index, ◌==◌, if◌then◌else◌}
+use Rattle.num_modular.specs.Inverses.{HasInverse}
 use Rattle.num_modular.specs.Polynomials.{ascending_polynomial, HaveUnitDifferences}
 use Rattle.num_modular.specs.Sums.{sum_below}
 use Rattle.ring_codes.specs.declared.erasure.RestoreError.{RestoreError}
 use Rattle.ring_codes.specs.declared.erasure.RestoreError.TheVariants.{TooFewSymbols, PlaceOutOfRange, PlaceTwice, PointsDontFit}
+use Rattle.ring_codes.specs.declared.erasure.secrets.ShareError.{ShareError}
+use Rattle.ring_codes.specs.declared.erasure.secrets.ShareError.TheVariants as refused
 
 -- the word of a message of k symbols at n points: symbol i is the value modulo m at point i of the polynomial with the
 -- message's symbols as coefficients, the constant first
@@ -34,3 +37,8 @@ IsFault m k n x places PlaceOutOfRange = (i : ℕ) × (i < k) × (n ≤ slice_in
 IsFault m k n x places PlaceTwice =
     (i : ℕ) × (j : ℕ) × (i < j) × (j < k) × (slice_index places i ≡ slice_index places j)
 IsFault m k n x places PointsDontFit = HaveUnitDifferences m k (λ i. x (slice_index places i)) → ⊥
+
+-- the meaning of an error of `share`, for n points x: not each of them, or not each difference, has an inverse
+abbrev pub IsShareFault : ℕ → ℕ → (ℕ → ℕ) → ShareError → Type 0
+IsShareFault m n x refused.PointWithoutInverse = ((i : ℕ) → i < n → HasInverse m (x i)) → ⊥
+IsShareFault m n x refused.PointsDontFit = HaveUnitDifferences m n x → ⊥

@@ -1,39 +1,44 @@
 //! Shamir's secret sharing, by the erasure codes.
 
-ghost use Rattle.std.specs.Prelude.{◌≡◌, ◌≢◌, ℕ, ◌%◌, ◌<◌, ◌↔◌, IsTrue, IsOk, IfErr, IfOk, All, length, slice_index};
+ghost use Rattle.std.specs.Prelude.{◌≡◌, ℕ, ◌%◌, ◌<◌, ◌↔◌, IsTrue, IsOk, IfErr, IfOk, All, length, slice_index};
 ghost use Rattle.num_modular.specs.Entries.{entry};
 ghost use Rattle.num_modular.specs.Forms.{IsForm};
+ghost use Rattle.num_modular.specs.Inverses.{HasInverse};
 ghost use Rattle.num_modular.specs.Polynomials.{HaveUnitDifferences};
-ghost use Rattle.ring_codes.specs.Erasure.{IsEncoding, ArePlaces, IsFault};
+ghost use Rattle.ring_codes.specs.Erasure.{IsEncoding, ArePlaces, IsFault, IsShareFault};
 
-use super::{RestoreError, encode, restore};
+use super::{RestoreError, encode, points_fit, restore};
 use num_modular::{Reducer, RingWord};
 
 /// The reason why `share` refuses.
 #[derive(Clone, Copy, Debug, PartialEq, Eq)]
 pub enum ShareError {
-    /// A point is 0 modulo m, where the share would be the secret.
-    PointZero,
+    /// A point has no inverse modulo m, so that the share there would say something of the secret. At 0 it would be the
+    /// secret.
+    PointWithoutInverse,
+    /// The difference of two of the points has no inverse modulo m.
+    PointsDontFit,
 }
 
-// Whether no point is 0.
-fn are_nonzero<T: RingWord, R: Reducer<T>>(r: &R, points: &[T]) -> bool
+// Whether each point has an inverse.
+fn have_inverses<T: RingWord, R: Reducer<T>>(r: &R, points: &[T]) -> bool
     requires { All (λ f. IsForm R.form R.value (R.modulus r.now) (T.number f)) points.now }
     ensures { let m = R.modulus r.now in IsTrue result ↔
-        ((i : ℕ) → i < length points.now → entry T.number R.value m points.now i ≢ 0) }
+        ((i : ℕ) → i < length points.now → HasInverse m (entry T.number R.value m points.now i)) }
 {
+    let mut product = r.transform(T::one());
     'points: for i in 0..points.len() {
-        if r.is_zero(&points[i]) {
-            return false;
-        }
+        product = r.mul(&product, &points[i]);
     }
-    true
+    r.inv(product).is_some()
 }
 
 /// Writes the shares of a secret, by Shamir's scheme: the values at the points of the polynomial whose constant is
 /// the secret. The caller draws the other coefficients at random, each from 0 to m - 1. Returns an error, with the
-/// shares unchanged, exactly where a point is 0 modulo m: the share there would be the secret. Conditions: those of
-/// `encode`.
+/// shares unchanged, exactly where a point or the difference of two points has no inverse modulo m; so no point is 0,
+/// and no two are the same. Conditions: those of `encode`.
+///
+/// A point without an inverse would tell something: modulo 15 the share s + 3·c at 3 is the secret s modulo 3.
 ///
 /// It doesn't run in constant time, and it isn't proved that fewer shares reveal nothing about the secret.
 ///
@@ -48,7 +53,10 @@ pub fn share<T: RingWord, R: Reducer<T>>(
     requires coefficients { All (λ f. IsForm R.form R.value (R.modulus r.now) (T.number f)) coefficients.now }
     requires room { length shares.old ≡ length points.now }
     ensures accepted { let m = R.modulus r.now in IsOk result ↔
-        ((i : ℕ) → i < length points.now → entry T.number R.value m points.now i ≢ 0) }
+        (((i : ℕ) → i < length points.now → HasInverse m (entry T.number R.value m points.now i))
+        × HaveUnitDifferences m (length points.now) (entry T.number R.value m points.now)) }
+    ensures fault { let m = R.modulus r.now in
+        IfErr result (λ e. IsShareFault m (length points.now) (entry T.number R.value m points.now) e) }
     ensures checked { IsOk result →
         All (λ f. IsForm R.form R.value (R.modulus r.now) (T.number f)) shares.new }
     ensures encoding { let m = R.modulus r.now in IsOk result →
@@ -56,8 +64,11 @@ pub fn share<T: RingWord, R: Reducer<T>>(
         (entry T.number R.value m coefficients.now) (entry T.number R.value m shares.new) }
     ensures unchanged { IfErr result (λ e. shares.new ≡ shares.old) }
 {
-    if !are_nonzero(r, points) {
-        return Err(ShareError::PointZero);
+    if !have_inverses(r, points) {
+        return Err(ShareError::PointWithoutInverse);
+    }
+    if !points_fit(r, points) {
+        return Err(ShareError::PointsDontFit);
     }
     encode(r, points, coefficients, shares);
     Ok(())

@@ -1,32 +1,21 @@
 use Rattle.std.proofs.lemmas.Bool.{false≢true}
+use Rattle.num_modular.specs.Callers.{refl}
 use Rattle.ring_codes.proofs.erasure.secrets.share.Goals as goal
 
-pub are_nonzero-requires : goal.are_nonzero-requires
-are_nonzero-requires g c = c.requires.points
+pub returns-then-not-have_inverses-clause-accepted : goal.returns-then-not-have_inverses-clause-accepted
+returns-then-not-have_inverses-clause-accepted g c =
+    (λ t. absurd (false≢true t), λ h. absurd (false≢true (c.if-not-have_inverses.ensures.1 h.0)))
 
-pub encode-requires-clause-points : goal.encode-requires-clause-points
-encode-requires-clause-points g c = c.requires.points
+pub returns-then-not-have_inverses-clause-fault : goal.returns-then-not-have_inverses-clause-fault
+returns-then-not-have_inverses-clause-fault g c each = false≢true (c.if-not-have_inverses.ensures.1 each)
 
-pub encode-requires-clause-message : goal.encode-requires-clause-message
-encode-requires-clause-message g c = c.requires.coefficients
+pub returns-then-not-points_fit-clause-accepted : goal.returns-then-not-points_fit-clause-accepted
+returns-then-not-points_fit-clause-accepted g c =
+    (λ t. absurd (false≢true t), λ h. absurd (false≢true (c.if-not-points_fit.ensures.1 h.1)))
 
-pub encode-requires-clause-room : goal.encode-requires-clause-room
-encode-requires-clause-room g c = c.requires.room
-
-pub returns-then-not-are_nonzero-clause-accepted : goal.returns-then-not-are_nonzero-clause-accepted
-returns-then-not-are_nonzero-clause-accepted g c = c.if-not-are_nonzero.ensures
-
-pub returns-then-not-are_nonzero-clause-checked : goal.returns-then-not-are_nonzero-clause-checked
-returns-then-not-are_nonzero-clause-checked g c t = absurd (false≢true t)
-
-pub returns-then-not-are_nonzero-clause-encoding : goal.returns-then-not-are_nonzero-clause-encoding
-returns-then-not-are_nonzero-clause-encoding g c t = absurd (false≢true t)
+pub returns-then-not-points_fit-clause-fault : goal.returns-then-not-points_fit-clause-fault
+returns-then-not-points_fit-clause-fault g c fit = false≢true (c.if-not-points_fit.ensures.1 fit)
 
 pub returns-clause-accepted : goal.returns-clause-accepted
-returns-clause-accepted g c = c.if-not-are_nonzero.ensures
-
-pub returns-clause-checked : goal.returns-clause-checked
-returns-clause-checked g c t = c.encode.ensures.checked
-
-pub returns-clause-encoding : goal.returns-clause-encoding
-returns-clause-encoding g c t = c.encode.ensures.encoding
+returns-clause-accepted g c =
+    (λ t. (c.if-not-have_inverses.ensures.0 refl, c.if-not-points_fit.ensures.0 refl), λ h. refl)
