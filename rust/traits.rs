@@ -1,7 +1,7 @@
 //! The traits of core that people expect of integers, errors and reducers. Written by hand, and so not proved; all
 //! computations here call proved functions.
 
-use crate::applications::ring_codes::erasure::{RestoreError, ShareError};
+use crate::applications::ring_codes::erasure::{CorrectError, RestoreError, ShareError};
 use crate::{ModularInteger, ReducedInt, Reducer, RingWord};
 use core::fmt;
 use core::hash::{Hash, Hasher};
@@ -74,8 +74,19 @@ impl fmt::Display for RestoreError {
 impl fmt::Display for ShareError {
     fn fmt(&self, f: &mut fmt::Formatter) -> fmt::Result {
         f.write_str(match self {
-            ShareError::PointZero => "a point is 0, where the share would be the secret",
+            ShareError::PointWithoutInverse => "a point has no inverse, so that its share would tell of the secret",
+            ShareError::PointsDontFit => "the difference of two points has no inverse",
         })
+    }
+}
+
+impl<T: fmt::Display> fmt::Display for CorrectError<T> {
+    fn fmt(&self, f: &mut fmt::Formatter) -> fmt::Result {
+        match self {
+            CorrectError::Restore(fault) => fault.fmt(f),
+            CorrectError::TooManyErrors => f.write_str("no word of the code is near enough to the symbols"),
+            CorrectError::NoInverse(number) => write!(f, "{number} has no inverse"),
+        }
     }
 }
 
@@ -87,6 +98,9 @@ impl std::error::Error for RestoreError {}
 
 #[cfg(feature = "std")]
 impl std::error::Error for ShareError {}
+
+#[cfg(feature = "std")]
+impl<T: fmt::Debug + fmt::Display> std::error::Error for CorrectError<T> {}
 
 // Sums and products of any number of integers. The empty ones need a modulus that the type knows.
 macro_rules! sums {
@@ -134,7 +148,7 @@ sums! {
 #[cfg(test)]
 mod tests {
     extern crate std;
-    use crate::applications::ring_codes::erasure::{RestoreError, ShareError};
+    use crate::applications::ring_codes::erasure::{CorrectError, RestoreError, ShareError};
     use crate::*;
     use std::collections::HashSet;
     use std::string::ToString;
@@ -180,9 +194,11 @@ mod tests {
     #[test]
     fn errors_are_written() {
         assert_eq!(RestoreError::PlaceTwice.to_string(), "a place occurs twice");
-        assert_eq!(ShareError::PointZero.to_string(), "a point is 0, where the share would be the secret");
+        assert_eq!(ShareError::PointsDontFit.to_string(), RestoreError::PointsDontFit.to_string());
+        assert_eq!(CorrectError::NoInverse(15u8).to_string(), "15 has no inverse");
         #[cfg(feature = "std")]
-        let _errors: [std::boxed::Box<dyn std::error::Error>; 2] = [RestoreError::PlaceTwice.into(), ShareError::PointZero.into()];
+        let _errors: [std::boxed::Box<dyn std::error::Error>; 3] =
+            [RestoreError::PlaceTwice.into(), ShareError::PointsDontFit.into(), CorrectError::NoInverse(15u8).into()];
     }
 
     #[test]

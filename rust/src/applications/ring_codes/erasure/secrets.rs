@@ -1,29 +1,34 @@
 //! Shamir's secret sharing, by the erasure codes.
 
-use super::{RestoreError, encode, restore};
+use super::{RestoreError, encode, points_fit, restore};
 use crate::{Reducer, RingWord};
 
 /// The reason why `share` refuses.
 #[derive(Clone, Copy, Debug, PartialEq, Eq)]
 pub enum ShareError {
-    /// A point is 0 modulo m, where the share would be the secret.
-    PointZero,
+    /// A point has no inverse modulo m, so that the share there would say something of the secret. At 0 it would be the
+    /// secret.
+    PointWithoutInverse,
+    /// The difference of two of the points has no inverse modulo m.
+    PointsDontFit,
 }
 
-// Whether no point is 0.
+// Whether each point has an inverse.
 #[inline]
-fn are_nonzero<T: RingWord, R: Reducer<T>>(r: &R, points: &[T]) -> bool {
+fn have_inverses<T: RingWord, R: Reducer<T>>(r: &R, points: &[T]) -> bool {
+    let mut product = r.transform(T::one());
     for i in 0..points.len() {
-        if r.is_zero(&points[i]) {
-            return false;
-        }
+        product = r.mul(&product, &points[i]);
     }
-    true
+    r.inv(product).is_some()
 }
 
 /// Writes the shares of a secret, by Shamir's scheme: the values at the points of the polynomial whose constant is
 /// the secret. The caller draws the other coefficients at random, each from 0 to m - 1. Returns an error, with the
-/// shares unchanged, exactly where a point is 0 modulo m: the share there would be the secret.
+/// shares unchanged, exactly where a point or the difference of two points has no inverse modulo m; so no point is 0,
+/// and no two are the same.
+///
+/// A point without an inverse would tell something: modulo 15 the share s + 3·c at 3 is the secret s modulo 3.
 ///
 /// It doesn't run in constant time, and it isn't proved that fewer shares reveal nothing about the secret.
 ///
@@ -39,8 +44,11 @@ pub fn share<T: RingWord, R: Reducer<T>>(
     coefficients: &[T],
     shares: &mut [T],
 ) -> Result<(), ShareError> {
-    if !are_nonzero(r, points) {
-        return Err(ShareError::PointZero);
+    if !have_inverses(r, points) {
+        return Err(ShareError::PointWithoutInverse);
+    }
+    if !points_fit(r, points) {
+        return Err(ShareError::PointsDontFit);
     }
     encode(r, points, coefficients, shares);
     Ok(())

@@ -329,15 +329,20 @@ fn shared_and_recovered<R: Reducer<u64>>(
     }
 }
 
-fn assert_secrets<R: Reducer<u64>>(rt: &impl Abort, r: &R) {
+fn assert_secrets<R: Reducer<u64>>(rt: &impl Abort, r: &R, composite: &R) {
     let coefficients = &[123, 456, 789];
     check!(rt, 31; shared_and_recovered(r, coefficients, &[0, 2, 4]) == Some(123));
     check!(rt, 32; shared_and_recovered(r, coefficients, &[4, 1, 3]) == Some(123));
     check!(rt, 33; shared_and_recovered(r, coefficients, &[4, 1, 4]) == None);
     check!(rt, 34; shares_of(r, &[1, 2, 3], coefficients) == Ok([439, 475, 231]));
-    // at 0 the share is the secret
-    check!(rt, 35; shares_of(r, &[1, 0, 2], coefficients) == Err(ShareError::PointZero));
-    check!(rt, 36; shares_of(r, &[1, 2, 929], coefficients) == Err(ShareError::PointZero));
+    // at 0 the share is the secret, and modulo 1001 the share at 7 is the secret modulo 7
+    let refused = Err(ShareError::PointWithoutInverse);
+    check!(rt, 35; shares_of(r, &[1, 0, 2], coefficients) == refused);
+    check!(rt, 36; shares_of(r, &[1, 2, 929], coefficients) == refused);
+    check!(rt, 37; shares_of(composite, &[6, 7, 1], coefficients) == refused);
+    let refused = Err(ShareError::PointsDontFit);
+    check!(rt, 38; shares_of(r, &[1, 2, 1], coefficients) == refused);
+    check!(rt, 39; shares_of(composite, &[1, 2, 8], coefficients) == refused);
 }
 
 // Generic in the reducer, as each call with a known one takes long to prove.
@@ -347,7 +352,7 @@ fn assert_codes<R: Reducer<u64> + Copy>(rt: &impl Abort) {
     assert_words(rt, prime, composite);
     assert_fit(rt, prime, composite);
     assert_refused(rt, composite);
-    assert_secrets(rt, prime);
+    assert_secrets(rt, prime, composite);
     check!(rt, 41; restores_many(&R::new(&257)));
 }
 
