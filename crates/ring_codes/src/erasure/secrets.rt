@@ -35,8 +35,8 @@ fn have_inverses<T: RingWord, R: Reducer<T>>(r: &R, points: &[T]) -> bool
 
 /// Writes the shares of a secret, by Shamir's scheme: the values at the points of the polynomial whose constant is
 /// the secret. The caller draws the other coefficients at random, each from 0 to m - 1. Returns an error, with the
-/// shares unchanged, exactly where a point or the difference of two points has no inverse modulo m; so no point is 0,
-/// and no two are the same. Conditions: those of `encode`.
+/// shares unchanged, exactly where a point or the difference of two points has no inverse modulo m. So it refuses the
+/// point 0, and points that occur twice, if m is at least 2. Conditions: those of `encode`.
 ///
 /// A point without an inverse would tell something: modulo 15 the share s + 3·c at 3 is the secret s modulo 3.
 ///

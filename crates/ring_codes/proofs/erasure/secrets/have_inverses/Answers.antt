@@ -17,7 +17,7 @@ points-preserved g c =
       checked = c.mul-product.ensures.checked;
       same = c.mul-product.ensures.value
           ∙ product_step m c.points.i _ _ (entry number ring.value m c.args.points.now) c.points.invariant.same
-          (entry_read number ring.value m c.args.points.now c.points.i _ c.points-test.true c.index-points-i.is);
+          (entry_read number ring.value m c.args.points.now c.points.i _ (omega arith) c.index-points-i.is);
     }
 
 pub returns : goal.returns
@@ -39,7 +39,7 @@ mul-product-requires-clause-left g c = c.points.invariant.checked
 pub mul-product-requires-clause-right : goal.mul-product-requires-clause-right
 mul-product-requires-clause-right g c =
     let ring = g.R.Reducer in let m = ring.modulus c.args.r.now in
-    form_read g.T.RingWord.number ring.form ring.value m c.args.points.now c.points.i _ c.requires c.points-test.true
+    form_read g.T.RingWord.number ring.form ring.value m c.args.points.now c.points.i _ c.requires (omega arith)
     c.index-points-i.is
 
 pub inv-requires : goal.inv-requires
