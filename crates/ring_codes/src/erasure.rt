@@ -28,7 +28,7 @@ pub use correction::{CorrectError, correct};
 use newton::{differences_before, divide_differences, expand, fill_weights};
 use num_modular::ring::invert_each;
 use num_modular::{Reducer, RingWord};
-pub use secrets::{ShareError, recover, share};
+pub use secrets::{ShareError, recover, recover_correct, share};
 
 /// Why a message can't be restored.
 #[derive(Clone, Copy, Debug, PartialEq, Eq)]

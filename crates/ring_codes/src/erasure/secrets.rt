@@ -1,13 +1,14 @@
 //! Shamir's secret sharing, by the erasure codes.
 
-ghost use Rattle.std.specs.Prelude.{◌≡◌, ℕ, ◌%◌, ◌<◌, ◌↔◌, IsTrue, IsOk, IfErr, IfOk, All, length, slice_index};
+ghost use Rattle.std.specs.Prelude.{◌≡◌, ℕ, ◌+◌, ◌*◌, ◌%◌, ◌<◌, ◌≤◌, ◌↔◌, IsTrue, IsOk, IfErr, IfOk, All, length, slice_index};
 ghost use Rattle.num_modular.specs.Entries.{entry};
 ghost use Rattle.num_modular.specs.Forms.{IsForm};
 ghost use Rattle.num_modular.specs.Inverses.{HasInverse};
 ghost use Rattle.num_modular.specs.Polynomials.{HaveUnitDifferences};
+ghost use Rattle.ring_codes.specs.Correction.{IsNear, AreFit, IsPlaceFault, IsFarFault, IsInverseFault};
 ghost use Rattle.ring_codes.specs.Erasure.{IsEncoding, ArePlaces, IsFault, IsShareFault};
 
-use super::{RestoreError, encode, points_fit, restore};
+use super::{CorrectError, RestoreError, correct, encode, points_fit, restore};
 use num_modular::{Reducer, RingWord};
 
 /// The reason why `share` refuses.
@@ -118,5 +119,58 @@ pub fn recover<T: RingWord, R: Reducer<T>>(
     match restore(r, points, places, shares, chosen, weights, coefficients) {
         Ok(()) => Ok(coefficients[0]),
         Err(error) => Err(error),
+    }
+}
+
+/// Returns the secret from s shares of which some may be forged: the constant of the only polynomial with k
+/// coefficients that differs from e of the shares, where 2·e is at most s - k. Its coefficients are written to
+/// `coefficients`, and the right shares at all points to `word`. Errors and conditions are those of `correct`:
+/// `TooManyErrors` comes only where no polynomial is that near.
+///
+/// So with s = 16 and k = 6 five forged shares do no harm. The secret is the right one if at most (s - k)/2 shares
+/// are forged; nothing is known of it if there are more.
+///
+/// Source: McEliece and Sarwate, "On sharing secrets and Reed-Solomon codes".
+pub fn recover_correct<T: RingWord, R: Reducer<T>>(
+    r: &R,
+    points: &[T],
+    places: &[usize],
+    shares: &[T],
+    scratch: &mut [T],
+    coefficients: &mut [T],
+    word: &mut [T],
+) -> Result<T, CorrectError<T>>
+    requires points { All (λ f. IsForm R.form R.value (R.modulus r.now) (T.number f)) points.now }
+    requires shares { All (λ f. IsForm R.form R.value (R.modulus r.now) (T.number f)) shares.now }
+    requires pairs { length shares.now ≡ length places.now }
+    requires some { 0 < length coefficients.old }
+    requires scratch { 3 * (length places.now + length coefficients.old) + 2 ≤ length scratch.old }
+    requires room { length word.old ≡ length points.now }
+    ensures accepted { let m = R.modulus r.now in IsOk result →
+        AreFit m (length coefficients.old) (length points.now) (entry T.number R.value m points.now) places.now }
+    ensures checked { IfOk result (λ secret. IsForm R.form R.value (R.modulus r.now) (T.number secret)) }
+    ensures secret { let m = R.modulus r.now in IfOk result (λ secret. (original other : ℕ → ℕ) →
+        IsEncoding m (length coefficients.old) (length points.now) (entry T.number R.value m points.now)
+        original other →
+        IsNear (length coefficients.old) places.now (entry T.number R.value m shares.now) other →
+        R.value m (T.number secret) ≡ original 0 % m) }
+    ensures right { let m = R.modulus r.now in IsOk result →
+        IsEncoding m (length coefficients.old) (length points.now) (entry T.number R.value m points.now)
+        (entry T.number R.value m coefficients.new) (entry T.number R.value m word.new)
+        × IsNear (length coefficients.old) places.now (entry T.number R.value m shares.now)
+        (entry T.number R.value m word.new) }
+    ensures forms { IsOk result →
+        All (λ f. IsForm R.form R.value (R.modulus r.now) (T.number f)) coefficients.new }
+    ensures shares { IsOk result → All (λ f. IsForm R.form R.value (R.modulus r.now) (T.number f)) word.new }
+    ensures fault { let m = R.modulus r.now in IfErr result (λ e. IsPlaceFault m (length coefficients.old)
+        (length points.now) (entry T.number R.value m points.now) places.now e) }
+    ensures complete { let m = R.modulus r.now in IfErr result (λ e. IsFarFault m (length coefficients.old)
+        (length points.now) (entry T.number R.value m points.now) places.now
+        (entry T.number R.value m shares.now) e) }
+    ensures inverse { let m = R.modulus r.now in IfErr result (λ e. IsInverseFault T.number m e) }
+{
+    match correct(r, points, places, shares, scratch, coefficients, word) {
+        Ok(_) => Ok(coefficients[0]),
+        Err(fault) => Err(fault),
     }
 }
