@@ -9,4 +9,5 @@ pub mod NearPairs
 pub mod NearestWords
 mod Neighbours
 pub mod NewtonForms
+pub mod Secrecy
 pub mod Symbols

@@ -76,18 +76,18 @@ value_is (suc d) X r =
     omega (arith, first, rest, whole, product)
 
 -- (m - 1)·x takes the place of -x
-turned_sign : (m x : ℕ) → 0 < m → x + (m - 1) * x ≡ m * x
+pub turned_sign : (m x : ℕ) → 0 < m → x + (m - 1) * x ≡ m * x
 turned_sign m x positive =
     let s : suc (m - 1) ≡ m = omega arith in
     let e : x + (m - 1) * x ≡ suc (m - 1) * x = omega arith in
     e ∙ ap (λ k. k * x) s
 
-at_root : (m x : ℕ) → 0 < m → (x + (m - 1) * x) % m ≡ 0
+pub at_root : (m x : ℕ) → 0 < m → (x + (m - 1) * x) % m ≡ 0
 at_root m x positive =
     let e : m * x ≡ 0 + m * x = omega arith in
     ap (λ v. v % m) (turned_sign m x positive ∙ e) ∙ add-mul-mod_self_left 0 m x ∙ zero-mod m
 
-difference_alike : (m X x : ℕ) → 0 < m → Congruent m (residue m (pos X -ℤ pos x)) (X + (m - 1) * x)
+pub difference_alike : (m X x : ℕ) → 0 < m → Congruent m (residue m (pos X -ℤ pos x)) (X + (m - 1) * x)
 difference_alike m X x positive =
     let t = turned_sign m x positive in
     let e : X + (m - 1) * x + x ≡ X + m * x = omega (arith, t) in

@@ -4,4 +4,5 @@ pub mod Erasure
 pub mod Ibans
 pub mod KeyEquations
 pub mod Newton
+pub mod Secrets
 pub mod Standards

@@ -7,7 +7,7 @@
 //!
 //! Points, messages and words are lists of checked forms of a reducer; `load_forms` and `unload_forms` of
 //! `num_modular::ring` convert from words and back. No memory is allocated: the caller passes the scratch lists.
-//! The calls don't run in constant time, and no secrecy is proved.
+//! The calls don't run in constant time.
 //!
 //! Source: Reed and Solomon, "Polynomial codes over certain finite fields".
 
@@ -28,7 +28,7 @@ pub use correction::{CorrectError, correct};
 use newton::{differences_before, divide_differences, expand, fill_weights};
 use num_modular::ring::invert_each;
 use num_modular::{Reducer, RingWord};
-pub use secrets::{ShareError, recover, recover_correct, share};
+pub use secrets::{ShareError, recover, recover_correct, secrecy_laws, share};
 
 /// Why a message can't be restored.
 #[derive(Clone, Copy, Debug, PartialEq, Eq)]

@@ -1,12 +1,13 @@
 //! Shamir's secret sharing, by the erasure codes.
 
-ghost use Rattle.std.specs.Prelude.{◌≡◌, ℕ, ◌+◌, ◌*◌, ◌%◌, ◌<◌, ◌≤◌, ◌↔◌, IsTrue, IsOk, IfErr, IfOk, All, length, slice_index};
+ghost use Rattle.std.specs.Prelude.{◌≡◌, ℕ, ◌+◌, ◌-◌, ◌*◌, ◌%◌, ◌<◌, ◌≤◌, ◌↔◌, IsTrue, IsOk, IfErr, IfOk, All, length, slice_index};
 ghost use Rattle.num_modular.specs.Entries.{entry};
 ghost use Rattle.num_modular.specs.Forms.{IsForm};
 ghost use Rattle.num_modular.specs.Inverses.{HasInverse};
 ghost use Rattle.num_modular.specs.Polynomials.{HaveUnitDifferences};
 ghost use Rattle.ring_codes.specs.Correction.{IsNear, AreFit, IsPlaceFault, IsFarFault, IsInverseFault};
 ghost use Rattle.ring_codes.specs.Erasure.{IsEncoding, ArePlaces, IsFault, IsShareFault};
+ghost use Rattle.ring_codes.specs.Secrets.{IsPerfectlySecret};
 
 use super::{CorrectError, RestoreError, correct, encode, points_fit, restore};
 use num_modular::{Reducer, RingWord};
@@ -41,7 +42,7 @@ fn have_inverses<T: RingWord, R: Reducer<T>>(r: &R, points: &[T]) -> bool
 ///
 /// A point without an inverse would tell something: modulo 15 the share s + 3·c at 3 is the secret s modulo 3.
 ///
-/// It doesn't run in constant time, and it isn't proved that fewer shares reveal nothing about the secret.
+/// What k - 1 shares say about the secret is in `secrecy_laws`. It doesn't run in constant time.
 ///
 /// Source: Shamir, "How to share a secret".
 pub fn share<T: RingWord, R: Reducer<T>>(
@@ -174,3 +175,16 @@ pub fn recover_correct<T: RingWord, R: Reducer<T>>(
         Err(fault) => Err(fault),
     }
 }
+
+/// Perfect secrecy: at k - 1 points that `share` accepts, any k - 1 shares and any secret, all below m, fit exactly one
+/// list of k coefficients below m. So for each secret exactly one choice of the other coefficients gives these shares.
+///
+/// It follows that k - 1 shares reveal nothing about the secret if the other k - 1 coefficients are uniform from 0 to
+/// m - 1, and independent of each other and of the secret. The contract states the count alone: such coefficients are
+/// the caller's part, and nothing is said of timing.
+///
+/// Source: Shamir, "How to share a secret".
+pub fn secrecy_laws()
+    ensures { (m k : ℕ) (points : ℕ → ℕ) → 1 ≤ k → ((i : ℕ) → i < k - 1 → HasInverse m (points i)) →
+        HaveUnitDifferences m (k - 1) points → IsPerfectlySecret m k points }
+{}

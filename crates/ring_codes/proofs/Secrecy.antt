@@ -1,0 +1,182 @@
+-- Any values at points that fit are those of a polynomial, by Newton's way; with a constant that is given, exactly one.
+use Rattle.std.proofs.Common.{◌≡◌, ℕ, zero, suc, ◌+◌, ◌-◌, ◌*◌, ◌%◌, ◌^◌, ◌<◌, ◌≤◌, pos, ◌-ℤ◌, ap, sym, subst, ◌∙◌, arith, refl}
+use Rattle.std.proofs.Common.{inl, inr, mod-eq_of_lt, mod-lt}
+use Rattle.std.proofs.Math.Nat.{zero-mod, add-mul-mod_self_left}
+use Rattle.std.proofs.lemmas.Bool.{cases_eq}
+use Rattle.num_modular.specs.Callers.{same_coefficients}
+use Rattle.num_modular.specs.Congruence.{Congruent}
+use Rattle.num_modular.specs.Inverses.{IsInverse, HasInverse}
+use Rattle.num_modular.specs.NumberLaws.{of_equal, itself, residue_of, turned, chained, added, multiplied, cancelled}
+use Rattle.num_modular.specs.NumberLaws.{sum_below-suc}
+use Rattle.num_modular.specs.Polynomials.{ascending_polynomial, HaveUnitDifferences}
+use Rattle.num_modular.specs.PolynomialLaws.{ascending-first, ascending-congruent}
+use Rattle.num_modular.specs.Residues.{residue}
+use Rattle.ring_codes.specs.Secrets.{FitsShares, IsPerfectlySecret}
+use Rattle.ring_codes.proofs.Distances.{extended, at_end, before_end}
+use Rattle.ring_codes.proofs.NearestWords.{combined, turned_sign, at_root, difference_alike}
+
+-- the inverses of the first d numbers
+inverses : (m d : ℕ) (f : ℕ → ℕ) → ((i : ℕ) → i < d → HasInverse m (f i))
+    → (u : ℕ → ℕ) × ((i : ℕ) → i < d → IsInverse m (f i) (u i))
+inverses m zero f each = ((λ i. 0), λ i l. absurd (omega arith))
+inverses m (suc d) f each =
+    let before = inverses m d f (λ i l. each i (omega arith)) in
+    let last = each d (omega arith) in (
+      extended d last.0 before.0,
+      λ i l. elim (cases_eq i d) [
+        | inl e ↦
+            subst (IsInverse m (f i)) (sym (at_end d last.0 before.0 i e))
+            (subst (λ j. IsInverse m (f j) last.0) (sym e) last.1)
+        | inr o ↦ subst (IsInverse m (f i)) (sym (before_end d last.0 before.0 i o)) (before.1 i (omega arith))
+      ],
+    )
+
+-- the coefficients of v + (X + r) times a polynomial
+raised : ℕ → ℕ → (ℕ → ℕ) → ℕ → ℕ
+raised v r h zero = v + r * h zero
+raised v r h (suc i) = h i + r * h (suc i)
+
+raised_behind : (d v r : ℕ) (h : ℕ → ℕ) → ((i : ℕ) → d ≤ i → h i ≡ 0)
+    → (i : ℕ) → suc d ≤ i → raised v r h i ≡ 0
+unfolding raised
+raised_behind d v r h none zero l = absurd (omega arith)
+raised_behind d v r h none (suc i) l =
+    let p = none i (omega arith) in
+    let q = ap (λ w. r * w) (none (suc i) (omega arith)) in
+    omega (arith, p, q)
+
+value_raised : (d v r X : ℕ) (h : ℕ → ℕ) → h d ≡ 0
+    → ascending_polynomial (suc d) (raised v r h) X ≡ v + (X + r) * ascending_polynomial d h X
+unfolding raised
+value_raised d v r X h none =
+    let first = ascending-first d (raised v r h) X in
+    let rest = ap (λ w. X * w) (combined d h (λ i. h (suc i)) r X) in
+    let more = sum_below-suc d (λ i. h i * X ^ i) in
+    let gone = ap (λ w. w * X ^ d) none in
+    let same : ascending_polynomial (suc d) h X ≡ ascending_polynomial d h X = omega (arith, more, gone) in
+    let whole = ap (λ w. r * w) (sym same ∙ ascending-first d h X) in
+    omega (arith, first, rest, whole)
+
+-- v + (X + r)·H is w, where H is the quotient of w - v by d, which is X + r
+divided : (m X r d u H v w : ℕ) → 0 < m → Congruent m d (X + r) → IsInverse m d u
+    → Congruent m H ((w + (m - 1) * v) * u) → Congruent m (v + (X + r) * H) w
+divided m X r d u H v w positive unit inverse value =
+    let one : Congruent m (d * u) 1 = record { same = inverse.one } in
+    let product : Congruent m ((X + r) * H) (d * ((w + (m - 1) * v) * u)) = multiplied (turned unit) value in
+    let swap : d * ((w + (m - 1) * v) * u) ≡ (w + (m - 1) * v) * (d * u) = omega arith in
+    let reduced : Congruent m ((w + (m - 1) * v) * (d * u)) ((w + (m - 1) * v) * 1) =
+    multiplied (itself (w + (m - 1) * v)) one in
+    let whole : Congruent m (v + (X + r) * H) (v + (w + (m - 1) * v) * 1) =
+    added (itself v) (chained product (chained (of_equal swap) reduced)) in
+    let s = turned_sign m v positive in
+    let e : v + (w + (m - 1) * v) * 1 ≡ w + m * v = omega (arith, s) in
+    chained whole (chained (of_equal e) (record { same = add-mul-mod_self_left w m v }))
+
+values_raised : (m d : ℕ) (x v u h : ℕ → ℕ) → 0 < m → h d ≡ 0
+    → ((i : ℕ) → i < d → IsInverse m (residue m (pos (x (suc i)) -ℤ pos (x 0))) (u i))
+    → ((i : ℕ) → i < d
+    → Congruent m (ascending_polynomial d h (x (suc i))) ((v (suc i) + (m - 1) * v 0) * u i))
+    → (i : ℕ) → i < suc d
+    → Congruent m (ascending_polynomial (suc d) (raised (v 0) ((m - 1) * x 0) h) (x i)) (v i)
+values_raised m d x v u h positive none units values zero l =
+    let r : ℕ = (m - 1) * x 0 in
+    let H : ℕ = ascending_polynomial d h (x 0) in
+    let root : Congruent m (x 0 + r) 0 = record { same = at_root m (x 0) positive ∙ sym (zero-mod m) } in
+    let gone : v 0 + 0 * H ≡ v 0 = omega arith in
+    chained (of_equal (value_raised d (v 0) r (x 0) h none))
+    (chained (added (itself (v 0)) (multiplied root (itself H))) (of_equal gone))
+values_raised m d x v u h positive none units values (suc i) l =
+    let r : ℕ = (m - 1) * x 0 in
+    chained (of_equal (value_raised d (v 0) r (x (suc i)) h none))
+    (divided m (x (suc i)) r (residue m (pos (x (suc i)) -ℤ pos (x 0))) (u i)
+    (ascending_polynomial d h (x (suc i))) (v 0) (v (suc i)) positive
+    (difference_alike m (x (suc i)) (x 0) positive) (units i (omega arith)) (values i (omega arith)))
+
+-- d coefficients with these values at d points
+through : (m d : ℕ) (x v : ℕ → ℕ) → 0 < m → HaveUnitDifferences m d x
+    → (h : ℕ → ℕ) × ((i : ℕ) → d ≤ i → h i ≡ 0)
+    × ((i : ℕ) → i < d → Congruent m (ascending_polynomial d h (x i)) (v i))
+through m zero x v positive fit = ((λ i. 0), (λ i l. refl), λ i l. absurd (omega arith))
+through m (suc d) x v positive fit =
+    let u = inverses m d (λ i. residue m (pos (x (suc i)) -ℤ pos (x 0)))
+    (λ i l. fit.unit (suc i) 0 (omega arith) (omega arith) (omega arith)) in
+    let rest = through m d (λ i. x (suc i)) (λ i. (v (suc i) + (m - 1) * v 0) * u.0 i) positive
+    (record { unit = λ i j k l other. fit.unit (suc i) (suc j) (omega arith) (omega arith) (omega arith) }) in (
+      raised (v 0) ((m - 1) * x 0) rest.0,
+      raised_behind d (v 0) ((m - 1) * x 0) rest.0 rest.1,
+      values_raised m d x v u.0 rest.0 positive (rest.1 d (omega arith)) u.1 rest.2,
+    )
+
+without_unit : (m X u a b : ℕ) → IsInverse m X u → Congruent m (X * a) (X * b) → Congruent m a b
+without_unit m X u a b inverse same =
+    let one : Congruent m (X * u) 1 = record { same = inverse.one } in
+    let back : (n : ℕ) → Congruent m (X * n * u) n =
+    λ n.
+    let e : X * n * u ≡ n * (X * u) = omega arith in
+    let f : n * 1 ≡ n = omega arith in
+    chained (of_equal e) (chained (multiplied (itself n) one) (of_equal f)) in
+    chained (turned (back a)) (chained (multiplied same (itself u)) (back b))
+
+-- what two such lists have behind the secret has the same values
+same_behind : (m d secret X u share : ℕ) (a b : ℕ → ℕ) → IsInverse m X u → a 0 ≡ secret → b 0 ≡ secret
+    → share ≡ ascending_polynomial (suc d) a X % m → share ≡ ascending_polynomial (suc d) b X % m
+    → Congruent m (ascending_polynomial d (λ i. a (suc i)) X) (ascending_polynomial d (λ i. b (suc i)) X)
+same_behind m d secret X u share a b inverse is_a is_b at_a at_b =
+    let A : ℕ = ascending_polynomial d (λ i. a (suc i)) X in
+    let B : ℕ = ascending_polynomial d (λ i. b (suc i)) X in
+    let f = ascending-first d a X in
+    let g = ascending-first d b X in
+    let left : X * A + secret ≡ ascending_polynomial (suc d) a X = omega (arith, f, is_a) in
+    let right : ascending_polynomial (suc d) b X ≡ X * B + secret = omega (arith, g, is_b) in
+    let both : Congruent m (ascending_polynomial (suc d) a X) (ascending_polynomial (suc d) b X) =
+    record { same = sym at_a ∙ at_b } in
+    without_unit m X u A B inverse
+    (cancelled secret (chained (of_equal left) (chained both (of_equal right))))
+
+same_list : (m d secret : ℕ) (x y a b : ℕ → ℕ) → ((i : ℕ) → i < d → HasInverse m (x i))
+    → HaveUnitDifferences m d x → FitsShares m (suc d) secret x y a → FitsShares m (suc d) secret x y b
+    → (i : ℕ) → i < suc d → a i ≡ b i
+same_list m d secret x y a b each fit p q zero l = p.constant ∙ sym q.constant
+same_list m d secret x y a b each fit p q (suc i) l =
+    let same = same_coefficients m d (λ i. a (suc i)) (λ i. b (suc i)) x fit
+    (λ i l. same_behind m d secret (x i) (each i l).0 (y i) a b (each i l).1 p.constant q.constant
+    (p.encoding.symbol i (omega arith)) (q.encoding.symbol i (omega arith))) i (omega arith) in
+    sym (mod-eq_of_lt (p.below (suc i) l)) ∙ same.same ∙ mod-eq_of_lt (q.below (suc i) l)
+
+fitting : (m d secret : ℕ) (x y : ℕ → ℕ) → secret < m → ((i : ℕ) → i < d → y i < m)
+    → ((i : ℕ) → i < d → HasInverse m (x i)) → HaveUnitDifferences m d x
+    → (c : ℕ → ℕ) × FitsShares m (suc d) secret x y c
+unfolding raised
+fitting m d secret x y small shares each fit =
+    let positive : 0 < m = omega arith in
+    let u = inverses m d x each in
+    let g = through m d x (λ i. (y i + (m - 1) * secret) * u.0 i) positive fit in
+    let f : ℕ → ℕ = raised secret 0 g.0 in
+    let value : (i : ℕ) → i < d → Congruent m (ascending_polynomial (suc d) (λ i. f i % m) (x i)) (y i) =
+    λ i l.
+    let same : x i ≡ x i + 0 = omega arith in
+    chained (ascending-congruent (suc d) (λ i. f i % m) f (x i) (x i) (λ i l. residue_of (f i)) (itself (x i)))
+    (chained (of_equal (value_raised d secret 0 (x i) g.0 (g.1 d (omega arith))))
+    (divided m (x i) 0 (x i) (u.0 i) (ascending_polynomial d g.0 (x i)) secret (y i) positive (of_equal same)
+    (u.1 i l) (g.2 i l))) in
+    let first : secret + 0 * g.0 0 ≡ secret = omega arith in (
+      (λ i. f i % m),
+      record {
+        below = λ i l. mod-lt (f i) positive;
+        constant = ap (λ v. v % m) first ∙ mod-eq_of_lt small;
+        encoding = record {
+          symbol = λ i l. let k : i < d = omega (arith, l) in
+              sym ((value i k).same ∙ mod-eq_of_lt (shares i k));
+        };
+      },
+    )
+
+pub perfect : (m k : ℕ) (x : ℕ → ℕ) → 1 ≤ k → ((i : ℕ) → i < k - 1 → HasInverse m (x i))
+    → HaveUnitDifferences m (k - 1) x → IsPerfectlySecret m k x
+perfect m zero x some each fit = absurd (omega arith)
+perfect m (suc d) x some each fit = λ secret shares small below.
+    let units : (i : ℕ) → i < d → HasInverse m (x i) = λ i l. each i (omega arith) in
+    let apart : HaveUnitDifferences m d x =
+    record { unit = λ i j k l other. fit.unit i j (omega arith) (omega arith) other } in
+    let found = fitting m d secret x shares small (λ i l. below i (omega arith)) units apart in
+    (found.0, found.1, λ other fits. same_list m d secret x shares other found.0 units apart fits found.1)
