@@ -5,6 +5,7 @@ pub mod Distances
 mod Finds
 mod Ibans
 pub mod KeyPairs
+mod LuhnDigits
 pub mod NearPairs
 pub mod NearestWords
 mod Neighbours

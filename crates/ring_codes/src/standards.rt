@@ -3,6 +3,7 @@
 ghost use Rattle.std.specs.Prelude.{◌≡◌, ℕ, ◌≤◌, [], ◌∷◌, map};
 ghost use Rattle.ring_codes.specs.Codes.{code_of, FindsEachChange, FindsEachExchange, FindsAllButFives};
 ghost use Rattle.ring_codes.specs.Ibans.{FindsEachCharacter, FindsAllButElevenfold};
+ghost use Rattle.ring_codes.specs.Luhn.{LuhnFindsEachChange, LuhnFindsAllButNines};
 ghost use Rattle.ring_codes.specs.Standards.{ean_8, ean_13, isbn_10, isbn_13, issn, upc_a, mod_97_10};
 
 use crate::Code;
@@ -73,7 +74,8 @@ pub fn standard_codes() -> [Code<'static>; 6]
 /// exchange of two neighbours that differ. ISBN-13, EAN and UPC: every such exchange, except of symbols that differ
 /// by 5. An IBAN as text: every change of one character to another of its kind, digit or letter, and every exchange
 /// of two neighbours that differ, except of 1 and B, of 2 and M, and of 3 and X after the check digits; none of these
-/// is detected.
+/// is detected. Luhn's check digit: every change of one digit, and every exchange of two neighbours that differ,
+/// except 09 and 90.
 pub fn standard_finds()
     ensures changes_modulo_11 { FindsEachChange isbn_10 × FindsEachChange issn }
     ensures changes_modulo_10 { FindsEachChange isbn_13 × FindsEachChange ean_13 × FindsEachChange ean_8
@@ -84,4 +86,5 @@ pub fn standard_finds()
     ensures iban { (n : ℕ) → n ≤ 68 → FindsEachChange (mod_97_10 n) × FindsEachExchange (mod_97_10 n) }
     ensures characters { FindsEachCharacter }
     ensures neighbours { FindsAllButElevenfold }
+    ensures luhn { LuhnFindsEachChange × LuhnFindsAllButNines }
 {}

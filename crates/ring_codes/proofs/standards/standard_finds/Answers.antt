@@ -1,5 +1,6 @@
 use Rattle.ring_codes.proofs.Characters.{characters}
 use Rattle.ring_codes.proofs.Finds.{of_isbn_10, of_isbn_13, of_ean_13, of_ean_8, of_upc_a, of_issn, of_iban}
+use Rattle.ring_codes.proofs.LuhnDigits.{luhn_changes, luhn_exchanges}
 use Rattle.ring_codes.proofs.Neighbours.{neighbours_told}
 use Rattle.ring_codes.proofs.standards.standard_finds.Goals as goal
 
@@ -23,3 +24,6 @@ returns-clause-characters c = characters
 
 pub returns-clause-neighbours : goal.returns-clause-neighbours
 returns-clause-neighbours c = neighbours_told
+
+pub returns-clause-luhn : goal.returns-clause-luhn
+returns-clause-luhn c = (luhn_changes, luhn_exchanges)
