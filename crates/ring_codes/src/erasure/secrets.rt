@@ -125,8 +125,8 @@ pub fn recover<T: RingWord, R: Reducer<T>>(
 
 /// Returns the secret from s shares of which some may be forged: the constant of the only polynomial with k
 /// coefficients that differs from e of the shares, where 2·e is at most s - k. Its coefficients are written to
-/// `coefficients`, and the right shares at all points to `word`. Errors and conditions are those of `correct`:
-/// `TooManyErrors` comes only where no polynomial is that near.
+/// `coefficients`, and the right shares at all points to `word`. The errors are those of `correct`: `TooManyErrors`
+/// comes only where no polynomial is that near. Conditions: those of `correct`.
 ///
 /// So with s = 16 and k = 6 five forged shares do no harm. The secret is the right one if at most (s - k)/2 shares
 /// are forged; nothing is known of it if there are more.
