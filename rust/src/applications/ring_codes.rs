@@ -2,15 +2,17 @@
 //!
 //! A code (`Code`) is a modulus m, a residue, and for each place a weight and the symbols that are allowed there.
 //! Its words have an allowed symbol at each place, and their weighted sum is congruent to the residue modulo m.
-//! `standards` has the codes of ISBN, EAN, UPC and ISSN; `accepts_iban` tests an IBAN. `erasure` has codes whose
-//! messages are restored from any k symbols.
+//! `standards` has the codes of ISBN, EAN, UPC and ISSN; `accepts_iban` tests an IBAN, and `accepts_luhn` the digits of
+//! a payment card. `erasure` has codes whose messages are restored from any k symbols.
 
 mod checks;
 pub mod erasure;
 mod iban;
+mod luhn;
 mod standards;
 
 pub use iban::{accepts_iban, has_iban_form, iban_code, iban_digits};
+pub use luhn::accepts_luhn;
 pub use standards::{EAN_8, EAN_13, ISBN_10, ISBN_13, ISSN, UPC_A, standard_codes, standard_finds};
 
 /// A code with one check equation: its words have an allowed symbol for each weight, and their weighted sum is

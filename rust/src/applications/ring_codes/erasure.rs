@@ -7,7 +7,7 @@
 //!
 //! Points, messages and words are lists of checked forms of a reducer; `load_forms` and `unload_forms` of
 //! `num_modular::ring` convert from words and back. No memory is allocated: the caller passes the scratch lists.
-//! The calls don't run in constant time, and no secrecy is proved.
+//! The calls don't run in constant time.
 //!
 //! Source: Reed and Solomon, "Polynomial codes over certain finite fields".
 
@@ -21,7 +21,7 @@ pub use correction::{CorrectError, correct};
 use newton::{differences_before, divide_differences, expand, fill_weights};
 use crate::ring::invert_each;
 use crate::{Reducer, RingWord};
-pub use secrets::{ShareError, recover, share};
+pub use secrets::{ShareError, recover, recover_correct, secrecy_laws, share};
 
 /// Why a message can't be restored.
 #[derive(Clone, Copy, Debug, PartialEq, Eq)]

@@ -67,7 +67,8 @@ pub const fn standard_codes() -> [Code<'static>; 6] {
 /// exchange of two neighbours that differ. ISBN-13, EAN and UPC: every such exchange, except of symbols that differ
 /// by 5. An IBAN as text: every change of one character to another of its kind, digit or letter, and every exchange
 /// of two neighbours that differ, except of 1 and B, of 2 and M, and of 3 and X after the check digits; none of these
-/// is detected.
+/// is detected. Luhn's check digit: every change of one digit, and every exchange of two neighbours that differ,
+/// except 09 and 90.
 #[doc(hidden)]
 #[inline]
 pub fn standard_finds() {}

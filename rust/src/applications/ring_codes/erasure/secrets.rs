@@ -1,6 +1,6 @@
 //! Shamir's secret sharing, by the erasure codes.
 
-use super::{RestoreError, encode, points_fit, restore};
+use super::{CorrectError, RestoreError, correct, encode, points_fit, restore};
 use crate::{Reducer, RingWord};
 
 /// The reason why `share` refuses.
@@ -25,12 +25,12 @@ fn have_inverses<T: RingWord, R: Reducer<T>>(r: &R, points: &[T]) -> bool {
 
 /// Writes the shares of a secret, by Shamir's scheme: the values at the points of the polynomial whose constant is
 /// the secret. The caller draws the other coefficients at random, each from 0 to m - 1. Returns an error, with the
-/// shares unchanged, exactly where a point or the difference of two points has no inverse modulo m; so no point is 0,
-/// and no two are the same.
+/// shares unchanged, exactly where a point or the difference of two points has no inverse modulo m. So it refuses the
+/// point 0, and points that occur twice, if m is at least 2.
 ///
 /// A point without an inverse would tell something: modulo 15 the share s + 3·c at 3 is the secret s modulo 3.
 ///
-/// It doesn't run in constant time, and it isn't proved that fewer shares reveal nothing about the secret.
+/// What k - 1 shares say about the secret is in `secrecy_laws`. It doesn't run in constant time.
 ///
 /// Source: Shamir, "How to share a secret".
 ///
@@ -78,3 +78,44 @@ pub fn recover<T: RingWord, R: Reducer<T>>(
         Err(error) => Err(error),
     }
 }
+
+/// Returns the secret from s shares of which some may be forged: the constant of the only polynomial with k
+/// coefficients that differs from e of the shares, where 2·e is at most s - k. Its coefficients are written to
+/// `coefficients`, and the right shares at all points to `word`. The errors are those of `correct`: `TooManyErrors`
+/// comes only where no polynomial is that near.
+///
+/// So with s = 16 and k = 6 five forged shares do no harm. The secret is the right one if at most (s - k)/2 shares
+/// are forged; nothing is known of it if there are more.
+///
+/// Source: McEliece and Sarwate, "On sharing secrets and Reed-Solomon codes".
+///
+/// # Preconditions
+///
+/// Those of `correct`. This isn't tested: outside it the call panics, or returns no meaningful result.
+#[inline]
+pub fn recover_correct<T: RingWord, R: Reducer<T>>(
+    r: &R,
+    points: &[T],
+    places: &[usize],
+    shares: &[T],
+    scratch: &mut [T],
+    coefficients: &mut [T],
+    word: &mut [T],
+) -> Result<T, CorrectError<T>> {
+    match correct(r, points, places, shares, scratch, coefficients, word) {
+        Ok(_) => Ok(coefficients[0]),
+        Err(fault) => Err(fault),
+    }
+}
+
+/// Perfect secrecy: at k - 1 points that `share` accepts, any k - 1 shares and any secret, all below m, fit exactly one
+/// list of k coefficients below m. So for each secret exactly one choice of the other coefficients gives these shares.
+///
+/// It follows that k - 1 shares reveal nothing about the secret if the other k - 1 coefficients are uniform from 0 to
+/// m - 1, and independent of each other and of the secret. The contract states the count alone: such coefficients are
+/// the caller's part, and nothing is said of timing.
+///
+/// Source: Shamir, "How to share a secret".
+#[doc(hidden)]
+#[inline]
+pub fn secrecy_laws() {}

@@ -2,8 +2,8 @@
 
 use super::assert_at;
 use num_modular::applications::ring_codes::{
-    Code, EAN_8, EAN_13, ISBN_10, ISBN_13, ISSN, UPC_A, accepts_iban, has_iban_form, iban_code,
-    iban_digits, standard_codes,
+    Code, EAN_8, EAN_13, ISBN_10, ISBN_13, ISSN, UPC_A, accepts_iban, accepts_luhn, has_iban_form,
+    iban_code, iban_digits, standard_codes,
 };
 
 // The standards, whose codes a constant can't hold.
@@ -303,5 +303,28 @@ fn ibans() {
     let rt = crate::runtime::HostRuntime;
     for &(text, fact) in IBANS {
         assert_at(&rt, holds_of_iban(text, fact), &text);
+    }
+}
+
+// Digits, and whether Luhn's check digit is right.
+const LUHN: &[(&[u64], bool)] = &[
+    (&[7, 9, 9, 2, 7, 3, 9, 8, 7, 1, 3], true),
+    (&[4, 5, 3, 9, 5, 7, 8, 7, 6, 3, 6, 2, 1, 4, 8, 6], true),
+    (&[0], true),
+    (&[7, 9, 9, 2, 7, 3, 9, 8, 7, 1, 0], false),
+    (&[7, 9, 9, 2, 7, 3, 9, 8, 7, 3, 1], false),
+    // 09 and 90 count the same
+    (&[0, 9, 1], true),
+    (&[9, 0, 1], true),
+    // no digit, and a symbol that is none, though the sum is 10
+    (&[], false),
+    (&[10], false),
+];
+
+#[test]
+fn luhn() {
+    let rt = crate::runtime::HostRuntime;
+    for &(digits, is_right) in LUHN {
+        assert_at(&rt, accepts_luhn(digits) == is_right, &digits);
     }
 }

@@ -3,7 +3,7 @@
 
 use super::erasure::{forms_of, words_of};
 use num_modular::{FixedMersenne64, Montgomery, Reducer};
-use num_modular::applications::ring_codes::erasure::{CorrectError, RestoreError, correct};
+use num_modular::applications::ring_codes::erasure::{CorrectError, RestoreError, correct, recover_correct};
 use crate::runtime::Abort;
 
 const MERSENNE_PRIME: u64 = 2305843009213693951;
@@ -169,4 +169,74 @@ fn corrects_one<R: Reducer<u64>>(r: &R) -> bool {
 fn corrections_modulo_a_mersenne_prime() {
     let rt = crate::runtime::HostRuntime;
     check!(&rt, 1; corrects_one(&FixedMersenne64::<61, 1>::new(&MERSENNE_PRIME)));
+}
+
+// The secret of six coefficients from the shares at the points 1 to 16.
+fn recovered_of_16<R: Reducer<u64>>(r: &R, shares: &[u64; 16]) -> Result<u64, CorrectError<u64>> {
+    let points = forms_of(r, &[1, 2, 3, 4, 5, 6, 7, 8, 9, 10, 11, 12, 13, 14, 15, 16]);
+    let places = &[0, 1, 2, 3, 4, 5, 6, 7, 8, 9, 10, 11, 12, 13, 14, 15];
+    let shares = forms_of(r, shares);
+    let mut scratch = [0; 68];
+    let mut coefficients = [0; 6];
+    let mut word = [0; 16];
+    match recover_correct(
+        r,
+        &points,
+        places,
+        &shares,
+        &mut scratch,
+        &mut coefficients,
+        &mut word,
+    ) {
+        Err(error) => Err(error),
+        Ok(secret) => Ok(r.residue(secret)),
+    }
+}
+
+// Forged are the shares at the places 0, 3, 7, 10 and 15, and in the second row the one at 12, too.
+fn assert_forged<R: Reducer<u64>>(rt: &impl Abort, r: &R) {
+    let five = &[
+        0,
+        2263660705714498339,
+        1983826127546273476,
+        535653252670485421,
+        1705317880778951981,
+        2028236365750446848,
+        350017465022302839,
+        12345,
+        2254886438323883737,
+        1977471093176659282,
+        2305843009213693950,
+        1271170814873572156,
+        1510847948136904331,
+        1700392217122106196,
+        1343865738562750294,
+        1343865738562750294,
+    ];
+    check!(rt, 1; recovered_of_16(r, five) == Ok(1234567890123456789));
+    let six = &[
+        0,
+        2263660705714498339,
+        1983826127546273476,
+        535653252670485421,
+        1705317880778951981,
+        2028236365750446848,
+        350017465022302839,
+        12345,
+        2254886438323883737,
+        1977471093176659282,
+        2305843009213693950,
+        1271170814873572156,
+        1510847948136904408,
+        1700392217122106196,
+        1343865738562750294,
+        1343865738562750294,
+    ];
+    check!(rt, 2; recovered_of_16(r, six) == Err(CorrectError::TooManyErrors));
+}
+
+#[test]
+fn secrets_with_forged_shares() {
+    let rt = crate::runtime::HostRuntime;
+    assert_forged(&rt, &FixedMersenne64::<61, 1>::new(&MERSENNE_PRIME));
 }
