@@ -44,7 +44,7 @@ struct Row<'a, const S: usize> {
 }
 
 fn holds<R: Reducer<u64>, const S: usize>(r: &R, row: &Row<S>) -> bool {
-    corrected::<_, 7, _, _>(r, &[0, 1, 2, 3, 4, 5, 6], row.places, row.symbols) == row.found
+    corrected::<R, 7, S, 3>(r, &[0, 1, 2, 3, 4, 5, 6], row.places, row.symbols) == row.found
 }
 
 // Whether this is the message, or a number without an inverse was in the way.
