@@ -55,7 +55,8 @@ def head_of_impl(head):
 
 
 def block_of(head):
-    """What a check calls the block that a line begins: `impl<T> A<u8, B<T>> for B<T> {` is BAU8, a trait has its own name."""
+    """What a check calls the block that a line begins: `impl<T> A<u8, B<T>> for B<T> {` is BAU8, `impl<T> A for T {` is AnyA,
+    a trait has its own name."""
     if not head.startswith("impl"):
         return re.search(r"trait (\w+)", head)[1] if head else ""
     generics, trait, of = head_of_impl(head)
@@ -65,7 +66,8 @@ def block_of(head):
     name, _, given = trait.rpartition(">")[0].partition("<") if "<" in trait else (trait, "", "")
     given = [it for it in re.split(r", (?![^<]*>)", given) if it != of]
     trait = [it for it in re.findall(r"\w+", " ".join((name, *given))) if it not in parameters]
-    return "".join(it[0].upper() + it[1:] for it in (words[0], *trait))
+    of = "Any" if words[0] in parameters else words[0]
+    return "".join(it[0].upper() + it[1:] for it in (of, *trait))
 
 
 def module_of(file):
