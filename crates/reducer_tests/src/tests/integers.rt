@@ -7,7 +7,6 @@ use crate::tests::dividers::is_printed;
 use crate::tests::modular_integer::{residue_of_sum, sum_in_ring};
 use crate::tests::polynomial::{horner, value_by_forms, value_of_bytes};
 use crate::tests::reduced_int::{are_equal, difference_modulo_21, five_modulo_21, quotient_if_any};
-use misuse::reduced_int::{quotient_modulo_21, sum_modulo_21};
 use modular_barrett::premul::PreMulInv2by1;
 use modular_reduced::laws::is_equivalence;
 use modular_reduced::modular_integer::ModularInteger;
@@ -19,6 +18,7 @@ use std::alloc::Global;
 use std::fmt::Debug;
 use std::process::Abort;
 use std::test::Fail;
+use test_callers::reduced_int::{quotient_modulo_21, sum_modulo_21};
 
 // n modulo m.
 fn integer<T: RingWord, R: Reducer<T> + Copy>(n: T, m: T) -> ReducedInt<T, R>

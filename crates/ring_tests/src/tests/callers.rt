@@ -4,7 +4,7 @@ use super::run_callers::run_to_the_end;
 use num_modular::laws::run_both;
 use num_modular::ring::{RingCommand, RunEnd};
 use num_modular::{Reducer, Vanilla};
-use run_misuse::runs::{checked_run, residue_by_run};
+use test_callers::runs::{checked_run, residue_by_run};
 
 #[test]
 fn a_run_is_refused_where_a_condition_fails(rt: HostRuntime) {

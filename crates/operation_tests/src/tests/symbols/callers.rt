@@ -1,7 +1,7 @@
 //! Known values, computed by hand, of the code that is generic over the symbols.
 
 use super::combined::{product_symbol, product_symbol_ref, symbols_of_8_bits, symbols_of_64_bits};
-use misuse::symbols::{jacobi_of_seven, legendre_of_three};
+use test_callers::symbols::{jacobi_of_seven, legendre_of_three};
 
 #[test]
 fn callers_of_symbols(rt: HostRuntime) {

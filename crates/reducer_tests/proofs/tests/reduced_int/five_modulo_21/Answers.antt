@@ -1,4 +1,4 @@
-use Rattle.misuse.proofs.Units.{inverse_of_5}
+use Rattle.test_callers.proofs.Units.{inverse_of_5}
 use Rattle.reducer_tests.proofs.tests.reduced_int.five_modulo_21.Goals as goal
 
 pub returns-clause-unit : goal.returns-clause-unit

@@ -1,5 +1,0 @@
-use Rattle.std.proofs.Common.{rules}
-use Rattle.misuse.proofs.one_by_one.halves.Goals as goal
-
-pub new-two-requires : goal.new-two-requires
-new-two-requires c = search rules

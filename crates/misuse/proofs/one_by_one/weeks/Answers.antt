@@ -1,5 +1,0 @@
-use Rattle.std.proofs.Common.{rules}
-use Rattle.misuse.proofs.one_by_one.weeks.Goals as goal
-
-pub div_rem-requires : goal.div_rem-requires
-div_rem-requires c = search rules

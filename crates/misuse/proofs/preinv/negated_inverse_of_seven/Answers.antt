@@ -1,5 +1,0 @@
-use Rattle.std.proofs.Common.{rules}
-use Rattle.misuse.proofs.preinv.negated_inverse_of_seven.Goals as goal
-
-pub neginv-requires : goal.neginv-requires
-neginv-requires c = search rules

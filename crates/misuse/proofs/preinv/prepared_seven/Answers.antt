@@ -1,5 +1,0 @@
-use Rattle.std.proofs.Common.{rules}
-use Rattle.misuse.proofs.preinv.prepared_seven.Goals as goal
-
-pub from-requires : goal.from-requires
-from-requires c = search rules

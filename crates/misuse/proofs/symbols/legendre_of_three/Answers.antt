@@ -1,5 +1,0 @@
-use Rattle.std.proofs.Common.{rules}
-use Rattle.misuse.proofs.symbols.legendre_of_three.Goals as goal
-
-pub legendre-requires : goal.legendre-requires
-legendre-requires c = search rules
