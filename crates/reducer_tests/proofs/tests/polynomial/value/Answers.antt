@@ -1,5 +1,0 @@
-use Rattle.std.proofs.Common.{◌∙◌}
-use Rattle.reducer_tests.proofs.tests.polynomial.value.Goals as goal
-
-pub returns : goal.returns
-returns g c = c.residue.ensures ∙ c.horner.ensures.residue

@@ -1,5 +1,0 @@
-use Rattle.std.proofs.Common.{arith}
-use Rattle.reducer_tests.proofs.tests.remainders.callers.plain_ring_of_21.Goals as goal
-
-pub new-requires : goal.new-requires
-new-requires c = omega arith

@@ -1,8 +1,0 @@
-use Rattle.std.proofs.Common.{refl}
-use Rattle.ring_tests.proofs.tests.runs.run_checked.Goals as goal
-
-pub run-requires : goal.run-requires
-run-requires g c = record {
-  checked = c.if-all_checked.ensures.0 refl;
-  fit = c.if-commands_fit.ensures.0 refl;
-}

@@ -1,0 +1,6 @@
+//! Known values of words, of modular operations on plain integers, of symbols, of the dividers, of each reducer, and of
+//! integers over reducers.
+#![tactic(auto)]
+
+#[cfg(test)]
+mod tests;
