@@ -15,7 +15,7 @@ use Rattle.modular_reduced.specs.Values.{HoldValues}
 use Rattle.modular_word.proofs.Congruence.{of_equal, itself, turned, chained, multiplied, residue_of}
 use Rattle.modular_transform.proofs.CyclicProducts.{HalfTurn, Mirrored, convolved}
 use Rattle.modular_transform.proofs.Reordering.{mirrored_first, mirrored_other}
-use Rattle.modular_passes.proofs.ValueLemmas.{values, held_value, value_at}
+use Rattle.modular_transform.proofs.ValueLemmas.{values, held_value, value_at}
 
 -- a root that suits, for the convolution theorem
 half_turn_at : {m g n : ℕ} (z : ℕ) → n ≡ 2 ^ z → Suits m g n → HalfTurn m g n

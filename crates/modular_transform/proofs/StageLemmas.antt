@@ -6,7 +6,7 @@ use Rattle.std.proofs.Math.Nat.{two-pow-succ, pow-zero, mod-eq_of_lt}
 use Rattle.modular_word.specs.Sums.{sum_below}
 use Rattle.modular_transform.specs.Transforms.{transform}
 use Rattle.modular_word.specs.Congruence.{Congruent}
-use Rattle.modular_passes.specs.Stages.{IsStage}
+use Rattle.modular_transform.specs.Stages.{IsStage}
 use Rattle.modular_transform.specs.Orders.{bits_reversed}
 use Rattle.modular_transform.proofs.BitReversal.{bits_reversed-zero, bits_reversed-suc}
 use Rattle.modular_word.proofs.Congruence.{of_equal, turned, chained}

@@ -9,14 +9,14 @@ use Rattle.modular_reduced.proofs.FormLemmas.{form_as}
 use Rattle.modular_transform.specs.Transforms.{transform, Suits}
 use Rattle.modular_word.specs.Congruence.{Congruent}
 use Rattle.modular_transform.specs.Orders.{bits_reversed, IsReordered}
-use Rattle.modular_passes.specs.Stages.{IsStage, IsTwoStages}
+use Rattle.modular_transform.specs.Stages.{IsStage, IsTwoStages}
 use Rattle.modular_reduced.specs.Values.{HoldValues}
-use Rattle.modular_passes.proofs.ValueLemmas.{values, value_at}
+use Rattle.modular_transform.proofs.ValueLemmas.{values, value_at}
 use Rattle.modular_word.proofs.Congruence.{of_equal, turned, chained, added, multiplied, powered, residue_of}
 use Rattle.modular_word.proofs.Powers.{pow-mul}
 use Rattle.modular_transform.proofs.MinusOne.{IsMinusOne, same_minus_one}
 use Rattle.modular_transform.proofs.BitReversal.{bits_reversed_below, bits_reversed_twice}
-use Rattle.modular_passes.proofs.PairLemmas.{stage_by}
+use Rattle.modular_transform.proofs.PairLemmas.{stage_by}
 use Rattle.modular_transform.proofs.PowersOfTwo.{power_by_zeros}
 use Rattle.modular_transform.proofs.StageLemmas.{BlocksTransform, stages_more, stages_end, root_squared}
 

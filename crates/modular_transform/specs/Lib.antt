@@ -1,4 +1,5 @@
+pub mod Entries
+pub mod EntryLaws
 pub mod Orders
+pub mod Stages
 pub mod Transforms
-pub use Rattle.modular_passes.specs.Entries
-pub use Rattle.modular_passes.specs.EntryLaws

@@ -1,4 +1,5 @@
-//! Number-theoretic transforms and cyclic products, in place, over any reducer, and lists of forms.
+//! Number-theoretic transforms and cyclic products, in place, over any reducer, their passes of one stage or two, and
+//! lists of forms.
 #![tactic(auto)]
 
 pub mod convolution;
@@ -6,4 +7,6 @@ pub mod laws;
 pub mod lists;
 pub mod order;
 pub mod plain;
+pub mod stage;
 pub mod transform;
+pub mod two_stages;

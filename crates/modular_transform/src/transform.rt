@@ -6,8 +6,8 @@ ghost use Rattle.modular_reduced.specs.Values.{values_of, HoldValues};
 ghost use Rattle.modular_transform.specs.Transforms.{Suits, transform};
 
 use crate::order::reverse_places;
-use modular_passes::stage::stage;
-use modular_passes::two_stages::two_stages;
+use crate::stage::stage;
+use crate::two_stages::two_stages;
 use modular_reduced::reducer::Reducer;
 use modular_word::ring_word::RingWord;
 

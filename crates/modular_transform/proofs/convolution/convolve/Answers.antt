@@ -3,7 +3,7 @@ use Rattle.std.proofs.lemmas.Bool.{false≢true}
 use Rattle.modular_word.specs.Inverses.{IsInverse}
 use Rattle.modular_word.proofs.Congruence.{turned}
 use Rattle.modular_transform.proofs.ConvolveLemmas.{inverse_along}
-use Rattle.modular_passes.proofs.ValueLemmas.{held_value}
+use Rattle.modular_transform.proofs.ValueLemmas.{held_value}
 use Rattle.modular_transform.proofs.convolution.convolve.Goals as goal
 
 pub length_form-length-requires : goal.length_form-length-requires

@@ -1,7 +1,7 @@
-use Rattle.modular_passes.specs.EntryLaws.{form_read}
+use Rattle.modular_transform.specs.EntryLaws.{form_read}
 use Rattle.std.proofs.Common.{◌*◌, ◌%◌, ◌<◌, length, ◌∙◌, ap, arith, refl, subst, sym}
-use Rattle.modular_passes.proofs.ValueLemmas.{values}
-use Rattle.modular_passes.proofs.ValueLemmas.{value_read, value_at, forms_written, entry_done, entry_kept}
+use Rattle.modular_transform.proofs.ValueLemmas.{values}
+use Rattle.modular_transform.proofs.ValueLemmas.{value_read, value_at, forms_written, entry_done, entry_kept}
 use Rattle.modular_transform.proofs.convolution.multiply_each.Goals as goal
 use Rattle.modular_transform.proofs.Places.{at_most}
 use borrow.Author.Count.{falls}

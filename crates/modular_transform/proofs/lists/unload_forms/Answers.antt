@@ -1,6 +1,6 @@
 use Rattle.std.proofs.Common.{◌≡◌, ◌∙◌, arith, map, slice_index, ◌<◌, subst, sym}
-use Rattle.modular_passes.specs.Entries.{entry}
-use Rattle.modular_passes.specs.EntryLaws.{entry_read, done_none, done_more}
+use Rattle.modular_transform.specs.Entries.{entry}
+use Rattle.modular_transform.specs.EntryLaws.{entry_read, done_none, done_more}
 use Rattle.modular_transform.proofs.lists.unload_forms.Goals as goal
 use borrow.Author.Count.{falls}
 use borrow.Author.Rules.{scaled_Fits}

@@ -11,16 +11,16 @@ use Rattle.modular_word.proofs.Congruence.{of_equal, chained}
 use Rattle.modular_word.proofs.Powers.{pow-one}
 use Rattle.modular_reduced.specs.Forms.{IsForm}
 use Rattle.modular_transform.specs.Transforms.{transform}
-use Rattle.modular_passes.proofs.Places.{ended}
+use Rattle.modular_transform.proofs.StripPlaces.{ended}
 use Rattle.modular_transform.proofs.Places.{stage_offset, stages_left, two_left, below_limit}
 use Rattle.modular_transform.proofs.PowersOfTwo.{trailing_zeros_of_power, exponent_below}
 use Rattle.modular_transform.proofs.StageLemmas.{BlocksTransform, stages_start}
-use Rattle.modular_passes.proofs.StripPowers.{one_form}
+use Rattle.modular_transform.proofs.StripPowers.{one_form}
 use Rattle.modular_transform.proofs.TransformLemmas.{stage_sizes, two_sizes, suited_length, root_more, quarter_turn}
 use Rattle.modular_transform.proofs.TransformLemmas.{blocks_more, two_more, products_more, two_products_more}
 use Rattle.modular_transform.proofs.TransformLemmas.{blocks_all, products_all, plain_order}
-use Rattle.modular_passes.proofs.ValueLemmas.{values, value_at, values-set_same, values-set_other, held_value}
-use Rattle.modular_passes.proofs.ValueLemmas.{held_forms}
+use Rattle.modular_transform.proofs.ValueLemmas.{values, value_at, values-set_same, values-set_other, held_value}
+use Rattle.modular_transform.proofs.ValueLemmas.{held_forms}
 use Rattle.modular_transform.proofs.transform.ntt_counted.Goals as goal
 use Rattle.modular_transform.proofs.transform.ntt_counted.Goals.{then-stages-eq1, else-stages-eq1}
 use lib.Count.{trailing_le}

@@ -2,7 +2,7 @@ use Rattle.std.proofs.Common.{◌≡◌, ℕ, ◌+◌, ◌-◌, ◌*◌, ◌/◌
 use Rattle.modular_reduced.specs.Forms.{IsForm}
 use Rattle.modular_word.specs.Congruence.{Congruent}
 use Rattle.modular_transform.proofs.StageLemmas.{BlocksTransform}
-use Rattle.modular_passes.proofs.ValueLemmas.{values}
+use Rattle.modular_transform.proofs.ValueLemmas.{values}
 use Rattle.modular_transform.proofs.transform.ntt_counted.Given as goal
 
 -- the roots of the stages before this one are written

@@ -4,10 +4,10 @@ use Rattle.std.proofs.Common.{sym, ◌∙◌, ap, refl, arith, inl, inr}
 use Rattle.std.proofs.Math.Dec.{ltb}
 use Rattle.std.proofs.lemmas.Bool.{cases_eq, lt-ltb, le-ltb}
 use Rattle.std.proofs.lemmas.Nat.{mod-mul-add}
-use Rattle.modular_passes.specs.Stages.{IsStage, IsTwoStages, weighted, low, high}
-use Rattle.modular_passes.proofs.FourLemmas.{FoursDone, block_fits}
-use Rattle.modular_passes.proofs.PairLemmas.{pair_along}
-use Rattle.modular_passes.proofs.ValueLemmas.{pair_of}
+use Rattle.modular_transform.specs.Stages.{IsStage, IsTwoStages, weighted, low, high}
+use Rattle.modular_transform.proofs.FourLemmas.{FoursDone, block_fits}
+use Rattle.modular_transform.proofs.PairLemmas.{pair_along}
+use Rattle.modular_transform.proofs.ValueLemmas.{pair_of}
 
 -- the values after a stage with the root w, by their places
 abbrev after : ℕ → ℕ → ℕ → (ℕ → ℕ) → ℕ → ℕ

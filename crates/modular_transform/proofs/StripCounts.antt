@@ -1,8 +1,8 @@
 -- The columns and the products that the loops over the strips count.
 use Rattle.std.proofs.Common.{◌≡◌, ℕ, ◌+◌, ◌-◌, ◌*◌, ◌^◌, ◌<◌, ◌≤◌, min, ap, arith}
 use Rattle.std.proofs.lemmas.Nat.{mul-le}
-use Rattle.modular_passes.proofs.FourLemmas.{block_fits, fours_fit, four_fits}
-use Rattle.modular_passes.proofs.PairLemmas.{block_fits as pair_block_fits, columns_fit, pairs_fit}
+use Rattle.modular_transform.proofs.FourLemmas.{block_fits, fours_fit, four_fits}
+use Rattle.modular_transform.proofs.PairLemmas.{block_fits as pair_block_fits, columns_fit, pairs_fit}
 use mir.Syntax.{w64, w128}
 use mir.Val.{Fits}
 

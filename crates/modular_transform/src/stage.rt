@@ -3,7 +3,7 @@
 ghost use Rattle.std.specs.Prelude.{◌≡◌, ◌+◌, ◌*◌, ◌<◌, All, length, slice_index};
 ghost use Rattle.modular_reduced.specs.Forms.{IsForm};
 ghost use Rattle.modular_reduced.specs.Values.{values_of};
-ghost use Rattle.modular_passes.specs.Stages.{PairDone, IsStage};
+ghost use Rattle.modular_transform.specs.Stages.{PairDone, IsStage};
 
 use modular_reduced::reducer::Reducer;
 use modular_word::ring_word::RingWord;

@@ -4,7 +4,7 @@ ghost use Rattle.std.specs.Prelude.{◌≡◌, ◌+◌, ◌*◌, ◌^◌, ◌<�
 ghost use Rattle.modular_word.specs.Congruence.{Congruent};
 ghost use Rattle.modular_reduced.specs.Forms.{IsForm};
 ghost use Rattle.modular_reduced.specs.Values.{values_of};
-ghost use Rattle.modular_passes.specs.Stages.{ArePowers, FourDone, IsTwoStages};
+ghost use Rattle.modular_transform.specs.Stages.{ArePowers, FourDone, IsTwoStages};
 
 use crate::stage::STRIP;
 use modular_reduced::reducer::Reducer;

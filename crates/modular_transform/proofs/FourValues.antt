@@ -4,9 +4,9 @@ use Rattle.std.proofs.Common.{sym, ◌∙◌, ap, arith}
 use Rattle.std.proofs.Math.ListN.{set, length-set}
 use Rattle.modular_reduced.specs.Forms.{Represents, IsForm, IsCanonical}
 use Rattle.modular_reduced.proofs.FormLemmas.{form_of_value}
-use Rattle.modular_passes.specs.Stages.{IsPair, FourDone, weighted}
-use Rattle.modular_passes.proofs.PairLemmas.{pair_along}
-use Rattle.modular_passes.proofs.ValueLemmas.{values, value_read, values-set_same, values-set_other, forms_written, pair_of}
+use Rattle.modular_transform.specs.Stages.{IsPair, FourDone, weighted}
+use Rattle.modular_transform.proofs.PairLemmas.{pair_along}
+use Rattle.modular_transform.proofs.ValueLemmas.{values, value_read, values-set_same, values-set_other, forms_written, pair_of}
 
 -- the sum and the weighted difference of two forms are a pair of their values
 represented : {form value : ℕ → ℕ → ℕ} {width m power a b sum product : ℕ} → IsCanonical form value width m

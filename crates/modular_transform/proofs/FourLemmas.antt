@@ -4,8 +4,8 @@ use Rattle.std.proofs.lemmas.Bool.{cases_lt}
 use Rattle.std.proofs.lemmas.Nat.{same_from_place, mul-le}
 use Rattle.modular_word.specs.Congruence.{Congruent}
 use Rattle.modular_word.proofs.Congruence.{itself, multiplied}
-use Rattle.modular_passes.specs.Stages.{weighted, IsFour, FourDone}
-use Rattle.modular_passes.proofs.PairLemmas.{pair_along, pair_by}
+use Rattle.modular_transform.specs.Stages.{weighted, IsFour, FourDone}
+use Rattle.modular_transform.proofs.PairLemmas.{pair_along, pair_by}
 
 -- from the values x to the values y, the fours of the blocks from a to b - 1 in the columns from c to d - 1 are done
 -- and no others; a block has four quarters of h values

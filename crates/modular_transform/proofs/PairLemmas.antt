@@ -4,7 +4,7 @@ use Rattle.std.proofs.lemmas.Bool.{cases_lt}
 use Rattle.std.proofs.lemmas.Nat.{same_from_place, mul-le}
 use Rattle.modular_word.specs.Congruence.{Congruent}
 use Rattle.modular_word.proofs.Congruence.{itself, turned, chained, added, multiplied, powered}
-use Rattle.modular_passes.specs.Stages.{IsPair, PairDone, PairsDone, IsStage, low, high}
+use Rattle.modular_transform.specs.Stages.{IsPair, PairDone, PairsDone, IsStage, low, high}
 
 -- the same pair by other names of its values
 pub pair_along : {m u a b c d a' b' c' d' : ℕ} → a ≡ a' → b ≡ b' → c ≡ c' → d ≡ d'

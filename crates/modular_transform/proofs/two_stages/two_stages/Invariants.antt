@@ -1,9 +1,9 @@
 use Rattle.std.proofs.Common.{◌≡◌, ℕ, ◌+◌, ◌-◌, ◌*◌, ◌%◌, ◌^◌, ◌<◌, ◌≤◌, All}
 use Rattle.modular_word.specs.Congruence.{Congruent}
 use Rattle.modular_reduced.specs.Forms.{Represents, IsForm}
-use Rattle.modular_passes.proofs.FourLemmas.{FoursDone}
-use Rattle.modular_passes.proofs.ValueLemmas.{values}
-use Rattle.modular_passes.proofs.two_stages.two_stages.Given as goal
+use Rattle.modular_transform.proofs.FourLemmas.{FoursDone}
+use Rattle.modular_transform.proofs.ValueLemmas.{values}
+use Rattle.modular_transform.proofs.two_stages.two_stages.Given as goal
 
 -- the columns before the strip are done
 abbrev pub invariant-strips : goal.invariant-strips

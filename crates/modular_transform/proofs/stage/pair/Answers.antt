@@ -1,7 +1,7 @@
 use Rattle.std.proofs.Common.{arith, ◌<◌, length}
-use Rattle.modular_passes.specs.EntryLaws.{form_read, forms_written}
-use Rattle.modular_passes.proofs.ValueLemmas.{pair_written}
-use Rattle.modular_passes.proofs.stage.pair.Goals as goal
+use Rattle.modular_transform.specs.EntryLaws.{form_read, forms_written}
+use Rattle.modular_transform.proofs.ValueLemmas.{pair_written}
+use Rattle.modular_transform.proofs.stage.pair.Goals as goal
 use borrow.Author.Rules.{scaled_Fits}
 
 pub returns-clause-done : goal.returns-clause-done

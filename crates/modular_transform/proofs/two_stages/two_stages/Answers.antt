@@ -2,20 +2,20 @@ use Rattle.std.proofs.Common.{◌≡◌, ℕ, ◌+◌, ◌-◌, ◌*◌, ◌%◌
 use Rattle.modular_word.specs.Congruence.{Congruent}
 use Rattle.modular_reduced.specs.Forms.{Represents}
 use Rattle.modular_reduced.proofs.FormLemmas.{form_of_value}
-use Rattle.modular_passes.proofs.FourLemmas.{FoursDone, none_done, one_done, columns_joined, blocks_joined, done_by}
-use Rattle.modular_passes.proofs.PairLemmas.{none_between}
-use Rattle.modular_passes.proofs.Places.{strip_offset, quarter_within, in_strip, ended, strip_falls}
-use Rattle.modular_passes.proofs.Places.{column_fits, block_fits_word}
-use Rattle.modular_passes.proofs.StripPowers.{one_form, first_power, power_first, power_next, strip_power, strip_next}
-use Rattle.modular_passes.proofs.StripCounts.{none_least, none_more, none_of, none_written, one_later, later, together}
-use Rattle.modular_passes.proofs.StripCounts.{taken_back, width_fits, column_within, next_within}
-use Rattle.modular_passes.proofs.StripCounts.{powers_begun, powers_more, powers_done, fours_begun, fours_more}
-use Rattle.modular_passes.proofs.StripCounts.{fours_done, strip_counted, quarters_fit, strip_place_fits}
-use Rattle.modular_passes.proofs.StripCounts.{column_place_fits, four_place_within, some_step, powers_count_fits}
-use Rattle.modular_passes.proofs.StripCounts.{fours_count_fits}
-use Rattle.modular_passes.proofs.TwoStages.{two_stages_done}
-use Rattle.modular_passes.proofs.ValueLemmas.{values, value_at, values_below, forms_written, entry_done}
-use Rattle.modular_passes.proofs.two_stages.two_stages.Goals as goal
+use Rattle.modular_transform.proofs.FourLemmas.{FoursDone, none_done, one_done, columns_joined, blocks_joined, done_by}
+use Rattle.modular_transform.proofs.PairLemmas.{none_between}
+use Rattle.modular_transform.proofs.StripPlaces.{strip_offset, quarter_within, in_strip, ended, strip_falls}
+use Rattle.modular_transform.proofs.StripPlaces.{column_fits, block_fits_word}
+use Rattle.modular_transform.proofs.StripPowers.{one_form, first_power, power_first, power_next, strip_power, strip_next}
+use Rattle.modular_transform.proofs.StripCounts.{none_least, none_more, none_of, none_written, one_later, later, together}
+use Rattle.modular_transform.proofs.StripCounts.{taken_back, width_fits, column_within, next_within}
+use Rattle.modular_transform.proofs.StripCounts.{powers_begun, powers_more, powers_done, fours_begun, fours_more}
+use Rattle.modular_transform.proofs.StripCounts.{fours_done, strip_counted, quarters_fit, strip_place_fits}
+use Rattle.modular_transform.proofs.StripCounts.{column_place_fits, four_place_within, some_step, powers_count_fits}
+use Rattle.modular_transform.proofs.StripCounts.{fours_count_fits}
+use Rattle.modular_transform.proofs.TwoStages.{two_stages_done}
+use Rattle.modular_transform.proofs.ValueLemmas.{values, value_at, values_below, forms_written, entry_done}
+use Rattle.modular_transform.proofs.two_stages.two_stages.Goals as goal
 use borrow.Author.Count.{falls}
 
 pub strips-init : goal.strips-init

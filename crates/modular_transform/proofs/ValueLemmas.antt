@@ -13,7 +13,7 @@ use Rattle.modular_word.proofs.ResidueLemmas.{residue_sub, residue_sub_wrapped}
 use Rattle.modular_reduced.specs.Forms.{Represents, IsForm, IsCanonical}
 use Rattle.modular_reduced.specs.Values.{values_of, HoldValues}
 use Rattle.modular_reduced.proofs.FormLemmas.{form_of_value}
-use Rattle.modular_passes.specs.Stages.{IsPair, PairDone}
+use Rattle.modular_transform.specs.Stages.{IsPair, PairDone}
 
 -- the value of the form at each place
 abbrev pub values : {T : Type 0} → (T → ℕ) → (ℕ → ℕ → ℕ) → ℕ → List T → ℕ → ℕ

@@ -1,21 +1,21 @@
 use Rattle.std.proofs.Common.{◌≡◌, ℕ, ◌+◌, ◌-◌, ◌*◌, ◌%◌, ◌^◌, ◌<◌, length, ◌∙◌, ap, arith, subst}
 use Rattle.modular_reduced.specs.Forms.{Represents}
 use Rattle.modular_reduced.proofs.FormLemmas.{form_of_value}
-use Rattle.modular_passes.specs.Stages.{PairsDone}
-use Rattle.modular_passes.proofs.PairLemmas.{none_between, none_done, one_done, columns_joined, blocks_joined}
-use Rattle.modular_passes.proofs.PairLemmas.{done_by, stage_done}
-use Rattle.modular_passes.proofs.StripPowers.{one_form, first_power, power_first}
-use Rattle.modular_passes.proofs.StripPowers.{power_next, strip_power, strip_next}
-use Rattle.modular_passes.proofs.Places.{strip_offset, half_within, in_strip, ended}
-use Rattle.modular_passes.proofs.Places.{column_fits, strip_falls}
-use Rattle.modular_passes.proofs.StripCounts.{none_least, none_of, none_written, one_later, later, together}
-use Rattle.modular_passes.proofs.StripCounts.{taken_back, width_fits, column_within, next_within}
-use Rattle.modular_passes.proofs.StripCounts.{one_begun, one_more, ones_done, pairs_done, pair_strip_counted}
-use Rattle.modular_passes.proofs.StripCounts.{halves_fit, half_block_fits, pair_strip_fits, pair_place_fits}
-use Rattle.modular_passes.proofs.StripCounts.{other_place_fits, pair_ordered, pair_place_within, other_place}
-use Rattle.modular_passes.proofs.StripCounts.{column_count_fits, pairs_count_fits}
-use Rattle.modular_passes.proofs.ValueLemmas.{values, value_at, forms_written, entry_done}
-use Rattle.modular_passes.proofs.stage.stage.Goals as goal
+use Rattle.modular_transform.specs.Stages.{PairsDone}
+use Rattle.modular_transform.proofs.PairLemmas.{none_between, none_done, one_done, columns_joined, blocks_joined}
+use Rattle.modular_transform.proofs.PairLemmas.{done_by, stage_done}
+use Rattle.modular_transform.proofs.StripPowers.{one_form, first_power, power_first}
+use Rattle.modular_transform.proofs.StripPowers.{power_next, strip_power, strip_next}
+use Rattle.modular_transform.proofs.StripPlaces.{strip_offset, half_within, in_strip, ended}
+use Rattle.modular_transform.proofs.StripPlaces.{column_fits, strip_falls}
+use Rattle.modular_transform.proofs.StripCounts.{none_least, none_of, none_written, one_later, later, together}
+use Rattle.modular_transform.proofs.StripCounts.{taken_back, width_fits, column_within, next_within}
+use Rattle.modular_transform.proofs.StripCounts.{one_begun, one_more, ones_done, pairs_done, pair_strip_counted}
+use Rattle.modular_transform.proofs.StripCounts.{halves_fit, half_block_fits, pair_strip_fits, pair_place_fits}
+use Rattle.modular_transform.proofs.StripCounts.{other_place_fits, pair_ordered, pair_place_within, other_place}
+use Rattle.modular_transform.proofs.StripCounts.{column_count_fits, pairs_count_fits}
+use Rattle.modular_transform.proofs.ValueLemmas.{values, value_at, forms_written, entry_done}
+use Rattle.modular_transform.proofs.stage.stage.Goals as goal
 
 pub offset_bounds-powers-i : goal.offset_bounds-powers-i
 offset_bounds-powers-i g c =

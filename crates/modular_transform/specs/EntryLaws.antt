@@ -8,7 +8,7 @@ use Rattle.std.proofs.lemmas.List.{get_or-map, get_or_past, length-map, map-set}
 use Rattle.std.proofs.lemmas.List.Elements.{All-set}
 use Rattle.modular_reduced.specs.Forms.{IsForm}
 use Rattle.modular_reduced.specs.Values.{values_of}
-use Rattle.modular_passes.specs.Entries.{entry, IsCheckedFormOf, HoldBelow, DoneBelow, DoneFrom}
+use Rattle.modular_transform.specs.Entries.{entry, IsCheckedFormOf, HoldBelow, DoneBelow, DoneFrom}
 
 -- the value of the form at index i
 pub entry_at : {T : Type 0} (number : T → ℕ) (value : ℕ → ℕ → ℕ) (m : ℕ) (forms : List T) (i : ℕ) (d : T)

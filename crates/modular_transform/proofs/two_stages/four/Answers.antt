@@ -1,7 +1,7 @@
-use Rattle.modular_passes.specs.EntryLaws.{form_read}
-use Rattle.modular_passes.proofs.FourValues.{four_checked, four_written}
-use Rattle.modular_passes.proofs.Places.{four_within, length_fits}
-use Rattle.modular_passes.proofs.two_stages.four.Goals as goal
+use Rattle.modular_transform.specs.EntryLaws.{form_read}
+use Rattle.modular_transform.proofs.FourValues.{four_checked, four_written}
+use Rattle.modular_transform.proofs.StripPlaces.{four_within, length_fits}
+use Rattle.modular_transform.proofs.two_stages.four.Goals as goal
 use borrow.Author.Rules.{scaled_Fits, Below-set}
 
 pub returns-clause-checked : goal.returns-clause-checked
