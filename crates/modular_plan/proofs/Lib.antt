@@ -1,5 +1,4 @@
 pub mod Doublings
 pub mod Entries
 pub mod Shorter
-pub mod SmallBases
 pub mod Tables

@@ -4,4 +4,3 @@
 pub mod bounded;
 pub mod entry;
 pub mod plan;
-pub mod roots;

@@ -13,6 +13,7 @@ pub mod PlainSums
 pub mod PolynomialProducts
 pub mod PowersOfTwo
 pub mod Reordering
+pub mod SmallBases
 pub mod StageLemmas
 pub mod StripCounts
 pub mod StripPlaces

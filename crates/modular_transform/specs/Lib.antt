@@ -1,5 +1,6 @@
 pub mod Entries
 pub mod EntryLaws
 pub mod Orders
+pub mod Roots
 pub mod Stages
 pub mod Transforms

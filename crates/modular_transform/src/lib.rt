@@ -7,6 +7,7 @@ pub mod laws;
 pub mod lists;
 pub mod order;
 pub mod plain;
+pub mod roots;
 pub mod stage;
 pub mod transform;
 pub mod two_stages;

@@ -1,7 +1,7 @@
 //! Transforms and cyclic products of lists of words modulo any m, and runs of commands, given a context.
 
 ghost use Rattle.std.specs.Prelude.{◌≡◌, ◌≢◌, ℕ, ◌%◌, ◌<◌, ◌≤◌, All, length, map, slice_index};
-ghost use Rattle.modular_plan.specs.Roots.{root_by, IsFirstBase};
+ghost use Rattle.modular_transform.specs.Roots.{root_by, IsFirstBase};
 ghost use Rattle.num_modular.specs.Inverses.{HasInverse};
 ghost use Rattle.num_modular.specs.Ring.{IsStop};
 ghost use Rattle.num_modular.specs.Transforms.{Suits, transform};

@@ -1,7 +1,7 @@
 //! Transforms and cyclic products of lists of words modulo 2^64 - 2^32 + 1.
 
 ghost use Rattle.std.specs.Prelude.{◌≡◌, ◌≢◌, ℕ, ◌%◌, ◌<◌, ◌≤◌, length, slice_index};
-ghost use Rattle.modular_plan.specs.Roots.{root_by, IsFirstBase};
+ghost use Rattle.modular_transform.specs.Roots.{root_by, IsFirstBase};
 ghost use Rattle.num_modular.specs.Inverses.{HasInverse};
 ghost use Rattle.num_modular.specs.Transforms.{Suits, transform};
 ghost use Rattle.num_modular_c.specs.Codes.{Did, Refused, BothRefused};

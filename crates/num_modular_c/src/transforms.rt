@@ -1,7 +1,7 @@
 //! Transforms and cyclic products of lists of words over any reducer, with the codes that the calls for C return.
 
 ghost use Rattle.std.specs.Prelude.{◌≡◌, ◌≢◌, ℕ, ◌%◌, ◌<◌, ◌≤◌, ◌↔◌, IsTrue, length, slice_index};
-ghost use Rattle.modular_plan.specs.Roots.{root_by, IsFirstBase};
+ghost use Rattle.modular_transform.specs.Roots.{root_by, IsFirstBase};
 ghost use Rattle.num_modular.specs.Inverses.{HasInverse};
 ghost use Rattle.num_modular.specs.Transforms.{Suits, transform};
 ghost use Rattle.num_modular_c.specs.Codes.{Did, Refused, BothRefused};
@@ -9,7 +9,7 @@ ghost use Rattle.num_modular_c.specs.Transforms.{residues, IsConvolution};
 
 use crate::codes::{NM_BAD_ARGUMENT, NM_NO_INVERSE, NM_NO_ROOT, NM_OK};
 use crate::lists::{load, unload};
-use modular_plan::roots::find_root;
+use modular_transform::roots::find_root;
 use num_modular::Reducer;
 use num_modular::ring::{convolve, ntt, root_fits};
 

@@ -3,8 +3,8 @@ use Rattle.std.proofs.Math.Nat.{pow-zero, div-one}
 use Rattle.std.specs.Int.{trailing_zeros, w64}
 use Rattle.modular_word.specs.Residues.{residue}
 use Rattle.modular_transform.proofs.PowersOfTwo.{power_by_zeros}
-use Rattle.modular_plan.proofs.SmallBases.{residue_of_minus_one, halved_once_more}
-use Rattle.modular_plan.proofs.roots.exponent.Goals as goal
+use Rattle.modular_transform.proofs.SmallBases.{residue_of_minus_one, halved_once_more}
+use Rattle.modular_transform.proofs.roots.exponent.Goals as goal
 
 pub halvings-init : goal.halvings-init
 halvings-init g c =

@@ -2,9 +2,9 @@ use Rattle.std.proofs.Common.{◌≡◌, ℕ, ◌+◌, ◌-◌, ◌/◌, ◌%◌
 use Rattle.std.proofs.lemmas.Bool.{cases_eq, false≢true}
 use Rattle.modular_transform.specs.Transforms.{Suits}
 use Rattle.modular_transform.proofs.PowersOfTwo.{power_of_two_tested}
-use Rattle.modular_plan.specs.Roots.{root_by}
-use Rattle.modular_plan.proofs.SmallBases.{one_more, power_of_rest}
-use Rattle.modular_plan.proofs.roots.find_root.Goals as goal
+use Rattle.modular_transform.specs.Roots.{root_by}
+use Rattle.modular_transform.proofs.SmallBases.{one_more, power_of_rest}
+use Rattle.modular_transform.proofs.roots.find_root.Goals as goal
 
 pub returns-then-not-is_power_of_two : goal.returns-then-not-is_power_of_two
 returns-then-not-is_power_of_two g c =

@@ -4,10 +4,10 @@ ghost use Rattle.std.specs.Prelude.{◌≡◌, ℕ, ◌-◌, ◌/◌, ◌<◌, �
 ghost use Rattle.std.specs.Int.{IsPowerOfTwo};
 ghost use Rattle.modular_reduced.specs.Forms.{IsForm};
 ghost use Rattle.modular_transform.specs.Transforms.{Suits};
-ghost use Rattle.modular_plan.specs.Roots.{root_by, IsFirstBase};
+ghost use Rattle.modular_transform.specs.Roots.{root_by, IsFirstBase};
 
+use crate::transform::root_fits;
 use modular_reduced::reducer::Reducer;
-use modular_transform::transform::root_fits;
 use modular_word::ring_word::RingWord;
 
 // (m - 1) / n, rounded down. Condition: n is a power of two.

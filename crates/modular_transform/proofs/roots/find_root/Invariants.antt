@@ -1,8 +1,8 @@
 use Rattle.std.proofs.Common.{◌≡◌, ℕ, ◌-◌, ◌%◌, ◌<◌, ◌≤◌}
 use Rattle.modular_reduced.specs.Forms.{IsForm}
 use Rattle.modular_transform.specs.Transforms.{Suits}
-use Rattle.modular_plan.specs.Roots.{root_by}
-use Rattle.modular_plan.proofs.roots.find_root.Given as goal
+use Rattle.modular_transform.specs.Roots.{root_by}
+use Rattle.modular_transform.proofs.roots.find_root.Given as goal
 
 -- the numbers from 2 to x - 1 are tried
 abbrev pub invariant-bases : goal.invariant-bases
