@@ -44,7 +44,7 @@ LOOKS = {
         (EVERY, "r.check(g) && crate::modular_transform::transform::root_fits(r, g, xs.len())"),
     ),
     ("modular_ring/ring", "run"): ((DEBUG, "all_checked(r, regs)"), (DEBUG, "commands_fit(commands, regs.len())")),
-    ("modular_plan/plan", "plan"): (
+    ("modular_plan_passes/plan", "plan"): (
         (RETURN, "table.is_empty()"),
         (EVERY, "g.is_below(m.modulus)"),
         (EVERY, "crate::additions::root_fits_plan(m, g, table.len())"),

@@ -6,7 +6,7 @@ ghost use Rattle.modular_transform.specs.Transforms.{Suits};
 ghost use Rattle.modular_barrett.specs.Factors.{IsFactorOf};
 
 use modular_barrett::planned::{Factor, PlannedModulus};
-use modular_plan::plan::plan;
+use modular_plan_passes::plan::plan;
 use modular_plan_transforms::convolution::convolve_planned;
 use modular_plan_transforms::join::join_scaled;
 use modular_plan_transforms::split::split;

@@ -4,12 +4,12 @@ use Rattle.std.proofs.Common.{sym, ◌∙◌, ap, arith, subst}
 use Rattle.std.proofs.Math.ListN.{set}
 use Rattle.std.proofs.lemmas.Bool.{cases_eq, cases_lt}
 use Rattle.modular_barrett.specs.Factors.{IsFactor}
-use Rattle.modular_plan.specs.Plans.{numbers}
+use Rattle.modular_plan_passes.specs.Plans.{numbers}
 use Rattle.modular_plan_passes.specs.Splits.{AreAt, AreFourBelow, AreNeighbours, AreQuarters, ColumnsDone}
 use Rattle.modular_plan_passes.specs.Splits.{DoneBelow, HalvesDone}
 use Rattle.modular_plan_passes.specs.Steps.{IsFourSplit, FourDone, BlockOfFours, StageOfFours}
-use Rattle.modular_plan.proofs.Doublings.{same_factor}
-use Rattle.modular_plan.proofs.Entries.{written, not_written, number_read, all_below, bounded_at}
+use Rattle.modular_plan_passes.proofs.Doublings.{same_factor}
+use Rattle.modular_plan_passes.proofs.Entries.{written, not_written, number_read, all_below, bounded_at}
 use Rattle.modular_plan_passes.proofs.Fours.{four_along, stage_of_fours_more}
 use Rattle.modular_plan_passes.proofs.Quarters.{in_front, behind}
 

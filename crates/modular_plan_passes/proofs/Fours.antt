@@ -4,10 +4,10 @@ use Rattle.std.proofs.Common.{sym, ◌∙◌, arith, subst}
 use Rattle.std.proofs.Math.ListN.{set, length-set}
 use Rattle.std.proofs.Math.Nat.{mul-le-mul_right, zero-mul}
 use Rattle.std.proofs.lemmas.Bool.{cases_eq, cases_lt}
-use Rattle.modular_plan.specs.Plans.{numbers}
+use Rattle.modular_plan_passes.specs.Plans.{numbers}
 use Rattle.modular_plan_passes.specs.Splits.{DoneBelow}
 use Rattle.modular_plan_passes.specs.Steps.{IsPairSplit, IsFourSplit, FourDone, FourAt, BlockOfFours, StageOfFours}
-use Rattle.modular_plan.proofs.Entries.{written, not_written}
+use Rattle.modular_plan_passes.proofs.Entries.{written, not_written}
 
 -- a split of four entries by those of its pairs
 pub four_of_pairs : {m : ℕ} (w u v : ℕ) {a b c d a' b' c' d' e f g h p q r s : ℕ} → a' ≡ a → b' ≡ b → c' ≡ c → d' ≡ d

@@ -11,7 +11,7 @@ use Rattle.modular_word.proofs.Congruence.{multiplied, cancelled, cancelled_unit
 use Rattle.modular_word.proofs.Sums.{sum_below-zero, sum_below-suc, sum_below-same, sum_below-mul}
 use Rattle.modular_transform.specs.Orders.{bits_reversed}
 use Rattle.modular_transform.specs.Transforms.{Suits}
-use Rattle.modular_plan.specs.Plans.{constant, IsPlan, AreRemainders}
+use Rattle.modular_plan_passes.specs.Plans.{constant, IsPlan, AreRemainders}
 use Rattle.modular_plan_passes.specs.Steps.{StageDone, IsLevel}
 use Rattle.modular_plan_passes.proofs.Levels.{constants, level_sum, StageSizes, stage_sizes}
 use Rattle.modular_plan_passes.specs.Joins.{IsPairJoin}

@@ -15,7 +15,7 @@ use Rattle.modular_transform.specs.Orders.{bits_reversed}
 use Rattle.modular_transform.specs.Transforms.{Suits}
 use Rattle.modular_transform.proofs.BitReversal.{bits_reversed-suc, bits_reversed_of_high, bits_reversed_below}
 use Rattle.modular_transform.proofs.MinusOne.{IsMinusOne, pow_of_square, even_power_of_minus_one}
-use Rattle.modular_plan.specs.Plans.{constant, IsPlan, AreRemainders}
+use Rattle.modular_plan_passes.specs.Plans.{constant, IsPlan, AreRemainders}
 use Rattle.modular_plan_passes.specs.Steps.{IsPairSplit, StageDone, IsLevel}
 
 -- the terms at even and at odd places

@@ -1,5 +1,7 @@
 pub mod Bounds
 pub mod Columns
+pub mod Doublings
+pub mod Entries
 pub mod Fours
 pub mod JoinedPairs
 pub mod Joins
@@ -8,6 +10,8 @@ pub mod KnownJoins
 pub mod Levels
 pub mod Mirrors
 pub mod Quarters
+pub mod Shorter
 pub mod Steps
+pub mod Tables
 pub mod TwoJoins
 pub mod TwoLevels

@@ -6,7 +6,7 @@ use Rattle.modular_word.specs.Congruence.{Congruent}
 use Rattle.modular_word.proofs.Congruence.{of_equal, itself, chained, added, multiplied, residue_of}
 use Rattle.modular_transform.specs.Orders.{bits_reversed}
 use Rattle.modular_transform.proofs.BitReversal.{bits_reversed-suc, bits_reversed_of_zero}
-use Rattle.modular_plan.specs.Plans.{IsPlan}
+use Rattle.modular_plan_passes.specs.Plans.{IsPlan}
 use Rattle.modular_plan_passes.specs.Joins.{IsMinusInverse}
 
 -- q and r, with their highest bit the same and all others different

@@ -7,9 +7,9 @@ use Rattle.std.proofs.lemmas.Bool.{cases_eq}
 use Rattle.modular_word.specs.Congruence.{Congruent}
 use Rattle.modular_word.proofs.Congruence.{of_equal, itself, turned, chained, added}
 use Rattle.modular_word.proofs.Congruence.{multiplied, mod_of_multiple_left}
-use Rattle.modular_plan.specs.Plans.{numbers}
+use Rattle.modular_plan_passes.specs.Plans.{numbers}
 use Rattle.modular_plan_passes.specs.Steps.{IsPairSplit, PairDone, BlockDone, StageDone}
-use Rattle.modular_plan.proofs.Entries.{written, not_written}
+use Rattle.modular_plan_passes.proofs.Entries.{written, not_written}
 
 -- the sum and the difference of a pair
 pub pair_of : {m : ℕ} (w a b t rest sum difference : ℕ) → Congruent m t (b * w) → rest + t ≡ 2 * m

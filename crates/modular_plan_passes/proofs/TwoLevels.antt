@@ -9,7 +9,7 @@ use Rattle.modular_word.specs.Sums.{sum_below}
 use Rattle.modular_word.proofs.Congruence.{of_equal, chained, residue_of}
 use Rattle.modular_transform.specs.Orders.{bits_reversed}
 use Rattle.modular_transform.specs.Transforms.{Suits}
-use Rattle.modular_plan.specs.Plans.{constant, IsPlan, AreRemainders}
+use Rattle.modular_plan_passes.specs.Plans.{constant, IsPlan, AreRemainders}
 use Rattle.modular_plan_passes.specs.Steps.{IsFourSplit, FourAt, StageOfFours, IsLevel}
 use Rattle.modular_plan_passes.proofs.Levels.{level_pair, StageSizes, sizes_of, table_room, twice_fits, larger, remainders_of}
 

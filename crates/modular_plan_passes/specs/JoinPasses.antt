@@ -3,7 +3,7 @@
 -- (Bernstein, "Multidigit multiplication for mathematicians", section 2). The names are the library's own words.
 use Rattle.std.specs.Prelude.{◌≡◌, ℕ, ◌+◌, ◌*◌, ◌<◌, ◌≤◌, List, All, length}
 use Rattle.modular_barrett.specs.Factors.{IsFactor, AllFactors}
-use Rattle.modular_plan.specs.Plans.{numbers, IsPlan}
+use Rattle.modular_plan_passes.specs.Plans.{numbers, IsPlan}
 use Rattle.modular_plan_passes.specs.Steps.{StageOfFours}
 use Rattle.modular_plan_passes.specs.Splits.{IsPassReady}
 use Rattle.modular_plan_passes.specs.Joins.{IsFourJoin}

@@ -1,4 +1,5 @@
 pub mod JoinPasses
 pub mod Joins
+pub mod Plans
 pub mod Splits
 pub mod Steps

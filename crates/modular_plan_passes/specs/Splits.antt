@@ -5,7 +5,7 @@
 use Rattle.std.specs.Prelude.{◌≡◌, ℕ, ◌+◌, ◌*◌, ◌/◌, ◌<◌, ◌≤◌, List, All, length}
 use Rattle.modular_barrett.specs.Factors.{IsFactor, AllFactors}
 use Rattle.modular_barrett.specs.declared.planned.Factor.{Factor}
-use Rattle.modular_plan.specs.Plans.{numbers}
+use Rattle.modular_plan_passes.specs.Plans.{numbers}
 use Rattle.modular_plan_passes.specs.Steps.{IsFourSplit, StageOfFours}
 
 -- four numbers are below a bound

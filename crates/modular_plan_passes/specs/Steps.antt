@@ -4,7 +4,7 @@
 use Rattle.std.specs.Prelude.{◌≡◌, ◌≢◌, ℕ, ◌+◌, ◌*◌, ◌^◌, ◌<◌, ◌≤◌}
 use Rattle.modular_word.specs.Congruence.{Congruent}
 use Rattle.modular_word.specs.Sums.{sum_below}
-use Rattle.modular_plan.specs.Plans.{constant}
+use Rattle.modular_plan_passes.specs.Plans.{constant}
 
 -- a and b become a + b * w and a - b * w
 pub record IsPairSplit (m w a b sum difference : ℕ) : Type 0 where

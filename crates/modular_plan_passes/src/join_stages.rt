@@ -2,17 +2,17 @@
 
 ghost use Rattle.std.specs.Prelude.{◌≡◌, ℕ, ◌+◌, ◌*◌, ◌^◌, ◌<◌, ◌≤◌, All, length};
 ghost use Rattle.modular_barrett.specs.Factors.{IsFactorOf};
-ghost use Rattle.modular_plan.specs.Plans.{numbers, IsPlan};
+ghost use Rattle.modular_plan_passes.specs.Plans.{numbers, IsPlan};
 ghost use Rattle.modular_plan_passes.specs.Splits.{AreFactorsOf};
 ghost use Rattle.modular_plan_passes.specs.Steps.{StageDone};
 ghost use Rattle.modular_plan_passes.specs.Joins.{IsPairJoin, IsMinusInverse, AreMinusInverses};
 ghost use Rattle.modular_plan_passes.specs.JoinPasses.{IsTableOfFactors, IsStageReady, IsJoinPassReady, IsPassJoined};
 
+use crate::entry::PlanEntry;
 use crate::join_steps::JoinSteps;
 use crate::pass_joins::{JoinFour, JoinLowered, JoinPair};
 use crate::passes::{neighbours, pairs, quarters};
 use modular_barrett::planned::Factor;
-use modular_plan::entry::PlanEntry;
 use modular_prim::plain_word::PlainWord;
 use modular_word::path_word::PathWord;
 use modular_word::ring_word::RingWord;

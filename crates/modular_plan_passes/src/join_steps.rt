@@ -7,9 +7,9 @@ ghost use Rattle.modular_plan_passes.specs.Joins.{IsPairJoin, IsFourJoin, IsMinu
 ghost use Rattle.modular_plan_passes.specs.Splits.{AreFourBelow, AreFactorsOf};
 ghost use Rattle.std.proofs.Common.{le_refl, mul-le-mul_right, lit≤};
 
+use crate::bounded::Bounded;
 use modular_barrett::planned::{Factor, PlannedModulus};
 use modular_barrett::roomy::RoomyModulus;
-use modular_plan::bounded::Bounded;
 use modular_prim::below::reduced_once;
 use modular_prim::plain_word::PlainWord;
 use modular_word::path_word::PathWord;

@@ -2,13 +2,13 @@
 //! entries a quarter of the block apart.
 
 ghost use Rattle.std.specs.Prelude.{ℕ, ◌+◌, ◌<◌, ◌≤◌, All, length};
-ghost use Rattle.modular_plan.specs.Plans.{numbers};
+ghost use Rattle.modular_plan_passes.specs.Plans.{numbers};
 ghost use Rattle.modular_plan_passes.specs.Splits.{AreFourBelow, AreHalves, AreNeighbours, AreQuarters, IsBlockReady};
 ghost use Rattle.modular_plan_passes.specs.Splits.{ColumnsDone, HalvesDone};
 ghost use Rattle.modular_plan_passes.specs.Steps.{PairDone, BlockDone, FourDone, BlockOfFours};
 
+use crate::bounded::Bounded;
 use crate::places::{four_at, set_four};
-use modular_plan::bounded::Bounded;
 use modular_prim::plain_word::PlainWord;
 use modular_word::ring_word::RingWord;
 

@@ -2,12 +2,12 @@
 
 ghost use Rattle.std.specs.Prelude.{◌≡◌, ℕ, ◌+◌, ◌*◌, ◌<◌, All, length};
 ghost use Rattle.modular_barrett.specs.Factors.{AllFactors};
-ghost use Rattle.modular_plan.specs.Plans.{numbers};
+ghost use Rattle.modular_plan_passes.specs.Plans.{numbers};
 ghost use Rattle.modular_plan_passes.specs.Splits.{AreAt, AreFactorsOf, AreInOrder};
 ghost use Rattle.modular_plan_passes.specs.Steps.{FourDone};
 
+use crate::entry::PlanEntry;
 use modular_barrett::planned::Factor;
-use modular_plan::entry::PlanEntry;
 use modular_prim::plain_word::PlainWord;
 use modular_word::path_word::PathWord;
 

@@ -2,15 +2,15 @@
 
 ghost use Rattle.std.specs.Prelude.{◌≡◌, ◌+◌, ◌*◌, ◌<◌, ◌≤◌, All, length};
 ghost use Rattle.modular_barrett.specs.Factors.{AllFactors};
-ghost use Rattle.modular_plan.specs.Plans.{numbers};
+ghost use Rattle.modular_plan_passes.specs.Plans.{numbers};
 ghost use Rattle.modular_plan_passes.specs.Splits.{IsPassDone, IsPassReady};
 ghost use Rattle.modular_plan_passes.specs.Steps.{IsPairSplit, StageDone};
 
+use crate::entry::PlanEntry;
 use crate::pass_splits::{SplitByOne, SplitFour, SplitPair, SplitToResidues};
 use crate::passes::{neighbours, pairs, quarters};
 use crate::places::factors_at;
 use crate::split_steps::SplitSteps;
-use modular_plan::entry::PlanEntry;
 use modular_prim::plain_word::PlainWord;
 use modular_word::path_word::PathWord;
 

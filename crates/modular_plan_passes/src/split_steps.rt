@@ -6,9 +6,9 @@ ghost use Rattle.modular_barrett.specs.Factors.{IsFactorOf};
 ghost use Rattle.modular_plan_passes.specs.Splits.{AreFourBelow, AreFactorsOf};
 ghost use Rattle.modular_plan_passes.specs.Steps.{IsPairSplit, IsFourSplit};
 
+use crate::bounded::Bounded;
 use modular_barrett::planned::{Factor, PlannedModulus};
 use modular_barrett::roomy::RoomyModulus;
-use modular_plan::bounded::Bounded;
 use modular_prim::below::reduced_once;
 use modular_prim::plain_word::PlainWord;
 use modular_word::path_word::PathWord;

@@ -13,7 +13,7 @@ use Rattle.modular_transform.proofs.BitReversal.{bits_reversed_below}
 use Rattle.modular_transform.proofs.ConvolveLemmas.{half_turn}
 use Rattle.modular_transform.proofs.CyclicProducts.{full_turn}
 use Rattle.modular_transform.proofs.InverseTransform.{inverse_suits, value_back}
-use Rattle.modular_plan.specs.Plans.{numbers, constant, AreRemainders}
+use Rattle.modular_plan_passes.specs.Plans.{numbers, constant, AreRemainders}
 use Rattle.modular_plan_transforms.proofs.NaturalOrder.{number_reordered}
 
 -- the list new, in which the entries of old are in bit-reversed order, are the remainders of the list x of which old is

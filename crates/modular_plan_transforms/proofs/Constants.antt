@@ -4,7 +4,7 @@ use Rattle.std.proofs.Math.Nat.{two-pow-succ, add-mul-mod_self_right, mul-le-mul
 use Rattle.modular_word.specs.Congruence.{Congruent}
 use Rattle.modular_word.proofs.Congruence.{of_equal, itself, turned, chained, added, cancelled, residue_of}
 use Rattle.modular_transform.specs.Orders.{bits_reversed}
-use Rattle.modular_plan.specs.Plans.{constant, IsPlan}
+use Rattle.modular_plan_passes.specs.Plans.{constant, IsPlan}
 use Rattle.modular_plan_passes.proofs.Levels.{constants}
 
 -- an entry is the constant of one block, and minus it that of the next

@@ -16,10 +16,10 @@ use Rattle.modular_word.proofs.Sums.{sum_below-same, sum_below-add}
 use Rattle.modular_transform.specs.Transforms.{Suits, cyclic_product}
 use Rattle.modular_transform.proofs.BitReversal.{bits_reversed_of_zero}
 use Rattle.modular_transform.proofs.MinusOne.{pow_of_square}
-use Rattle.modular_plan.specs.Plans.{constant, IsPlan, AreRemainders}
+use Rattle.modular_plan_passes.specs.Plans.{constant, IsPlan, AreRemainders}
 use Rattle.modular_plan_passes.proofs.Levels.{constants}
-use Rattle.modular_plan_stages.specs.Conditions.{AreBlocks}
-use Rattle.modular_plan_transforms.specs.Conditions.{AreSmallBlocks}
+use Rattle.modular_plan_transforms.specs.PlanConditions.{AreBlocks}
+use Rattle.modular_plan_transforms.specs.ProductConditions.{AreSmallBlocks}
 use Rattle.modular_plan_transforms.specs.Products.{coefficient, product_modulo, AreProducts}
 use Rattle.modular_plan_transforms.proofs.Columns.{column_of_product}
 

@@ -9,7 +9,7 @@ use Rattle.modular_word.specs.Congruence.{Congruent}
 use Rattle.modular_word.specs.Sums.{sum_below}
 use Rattle.modular_word.proofs.Congruence.{of_equal, chained, itself, multiplied}
 use Rattle.modular_word.proofs.Sums.{sum_below-same, sum_below-mul}
-use Rattle.modular_plan.specs.Plans.{numbers, constant, IsPlan, AreRemainders}
+use Rattle.modular_plan_passes.specs.Plans.{numbers, constant, IsPlan, AreRemainders}
 use Rattle.modular_plan_passes.specs.Steps.{FourAt}
 use Rattle.modular_plan_passes.proofs.Fours.{first_stage}
 use Rattle.modular_plan_passes.specs.Joins.{IsFourJoin}

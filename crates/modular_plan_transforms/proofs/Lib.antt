@@ -2,6 +2,7 @@ pub mod Backward
 pub mod Columns
 pub mod Constants
 pub mod Convolutions
+pub mod JoinedPasses
 pub mod LastJoins
 pub mod NaturalOrder
 pub mod Reductions

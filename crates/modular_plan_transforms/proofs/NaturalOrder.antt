@@ -10,8 +10,8 @@ use Rattle.modular_transform.specs.Orders.{bits_reversed, IsReordered}
 use Rattle.modular_transform.specs.Transforms.{transform}
 use Rattle.modular_transform.proofs.BitReversal.{bits_reversed-suc, bits_reversed_of_zero}
 use Rattle.modular_transform.proofs.BitReversal.{bits_reversed_below, bits_reversed_twice}
-use Rattle.modular_plan.specs.Plans.{numbers, constant, AreRemainders}
-use Rattle.modular_plan.proofs.Entries.{number_at}
+use Rattle.modular_plan_passes.specs.Plans.{numbers, constant, AreRemainders}
+use Rattle.modular_plan_passes.proofs.Entries.{number_at}
 
 -- a list in another order has what all had
 pub all_reordered : {T : Type 0} (P : T → Type 0) (bits n : ℕ) (old new : List T) → n ≡ 2 ^ bits

@@ -9,7 +9,7 @@ use Rattle.modular_word.specs.Sums.{sum_below}
 use Rattle.modular_word.proofs.Congruence.{of_equal, itself, turned, chained, added, multiplied, cancelled}
 use Rattle.modular_word.proofs.Congruence.{residue_of, equal_below}
 use Rattle.modular_word.proofs.Sums.{sum_below-same, sum_below-mul}
-use Rattle.modular_plan.specs.Plans.{constant, AreRemainders}
+use Rattle.modular_plan_passes.specs.Plans.{constant, AreRemainders}
 
 -- the inverse of m, from the negated one
 pub inverse_of_negated : (b m i r : ℕ) → 0 < b → IsNegatedInverse b m i → (r + i) % b ≡ 0 → r < b → IsInverse b m r

@@ -5,7 +5,7 @@ use Rattle.std.proofs.Math.Nat.{add-mul-mod_self_right}
 use Rattle.modular_word.specs.Congruence.{Congruent}
 use Rattle.modular_word.specs.Sums.{sum_below}
 use Rattle.modular_word.proofs.Congruence.{of_equal, itself, turned, chained, added, multiplied, cancelled, residue_of}
-use Rattle.modular_plan.specs.Plans.{constant}
+use Rattle.modular_plan_passes.specs.Plans.{constant}
 use Rattle.modular_plan_passes.specs.Steps.{PairDone}
 use Rattle.modular_plan_transforms.specs.Products.{product_modulo, AreProducts}
 

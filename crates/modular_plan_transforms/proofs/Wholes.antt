@@ -14,8 +14,8 @@ use Rattle.modular_word.specs.Inverses.{IsInverse}
 use Rattle.modular_transform.proofs.StageLemmas.{root_squared}
 use Rattle.modular_transform.specs.Orders.{bits_reversed}
 use Rattle.modular_transform.specs.Transforms.{Suits, transform}
-use Rattle.modular_plan.proofs.Shorter.{first_entries}
-use Rattle.modular_plan.specs.Plans.{numbers, IsPlan}
+use Rattle.modular_plan_passes.proofs.Shorter.{first_entries}
+use Rattle.modular_plan_passes.specs.Plans.{numbers, IsPlan}
 use Rattle.modular_plan_transforms.proofs.NaturalOrder.{no_more_bits}
 
 -- the table of a plan, by the fields

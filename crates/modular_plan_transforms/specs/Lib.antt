@@ -1,2 +1,3 @@
-pub mod Conditions
+pub mod PlanConditions
+pub mod ProductConditions
 pub mod Products

@@ -2,7 +2,7 @@
 -- The names are the library's own words.
 use Rattle.std.specs.Prelude.{◌≡◌, ℕ, ◌+◌, ◌*◌, ◌%◌, ◌<◌, ◌==◌, if◌then◌else◌}
 use Rattle.modular_word.specs.Sums.{sum_below}
-use Rattle.modular_plan.specs.Plans.{constant}
+use Rattle.modular_plan_passes.specs.Plans.{constant}
 
 -- coefficient s of the product of the polynomials with the n coefficients x and the n coefficients y
 abbrev pub coefficient : ℕ → (ℕ → ℕ) → (ℕ → ℕ) → ℕ → ℕ

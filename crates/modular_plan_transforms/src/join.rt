@@ -4,17 +4,17 @@ ghost use Rattle.std.specs.Prelude.{◌≡◌, ℕ, ◌+◌, ◌*◌, ◌/◌, �
 ghost use Rattle.std.specs.Int.{IsPowerOfTwo};
 ghost use Rattle.modular_word.specs.Congruence.{Congruent};
 ghost use Rattle.modular_barrett.specs.Factors.{IsFactorOf, AllFactors};
-ghost use Rattle.modular_plan.specs.Plans.{numbers, IsPlan, AreRemainders};
-ghost use Rattle.modular_plan_stages.specs.Conditions.{AreBlocks, FitsPlan, IsLevelReady, IsLevelJoined};
+ghost use Rattle.modular_plan_passes.specs.Plans.{numbers, IsPlan, AreRemainders};
+ghost use Rattle.modular_plan_transforms.specs.PlanConditions.{AreBlocks, FitsPlan, IsLevelReady, IsLevelJoined};
 
+use crate::join_blocks::{join_blocks, join_passes};
 use modular_barrett::planned::{Factor, PlannedModulus};
 use modular_barrett::roomy::RoomyModulus;
-use modular_plan::entry::PlanEntry;
+use modular_plan_passes::entry::PlanEntry;
 use modular_plan_passes::join_stages::{join_fours, minus_inverses};
 use modular_plan_passes::join_steps::JoinSteps;
 use modular_plan_passes::pass_joins::JoinByOne;
 use modular_plan_passes::passes::quarters;
-use modular_plan_stages::join::{join_blocks, join_passes};
 use modular_prim::plain_word::PlainWord;
 use modular_word::path_word::PathWord;
 use modular_word::ring_word::RingWord;

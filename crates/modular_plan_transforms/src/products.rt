@@ -4,13 +4,13 @@ ghost use Rattle.std.specs.Prelude.{◌≡◌, ℕ, ◌+◌, ◌*◌, ◌/◌, �
 ghost use Rattle.modular_word.specs.Congruence.{Congruent};
 ghost use Rattle.modular_word.specs.Inverses.{IsInverse};
 ghost use Rattle.modular_barrett.specs.Factors.{AllFactors};
-ghost use Rattle.modular_plan.specs.Plans.{numbers, constant, IsPlan};
+ghost use Rattle.modular_plan_passes.specs.Plans.{numbers, constant, IsPlan};
 ghost use Rattle.modular_plan_passes.specs.Steps.{PairDone};
 ghost use Rattle.modular_plan_transforms.specs.Products.{AreProducts};
 
 use modular_barrett::planned::PlannedModulus;
-use modular_plan::bounded::Bounded;
-use modular_plan::entry::PlanEntry;
+use modular_plan_passes::bounded::Bounded;
+use modular_plan_passes::entry::PlanEntry;
 use modular_prim::plain_word::PlainWord;
 use modular_word::path_word::PathWord;
 

@@ -3,15 +3,15 @@
 ghost use Rattle.std.specs.Prelude.{◌≡◌, ℕ, ◌+◌, ◌*◌, ◌/◌, ◌%◌, ◌<◌, ◌≤◌, ◌↔◌, IsTrue, All, length};
 ghost use Rattle.std.specs.Int.{IsPowerOfTwo};
 ghost use Rattle.modular_barrett.specs.Factors.{AllFactors};
-ghost use Rattle.modular_plan.specs.Plans.{numbers, IsPlan, AreRemainders};
-ghost use Rattle.modular_plan_stages.specs.Conditions.{AreBlocks, FitsPlan};
+ghost use Rattle.modular_plan_passes.specs.Plans.{numbers, IsPlan, AreRemainders};
+ghost use Rattle.modular_plan_transforms.specs.PlanConditions.{AreBlocks, FitsPlan};
 
+use crate::split_blocks::split_blocks;
 use modular_barrett::planned::PlannedModulus;
 use modular_barrett::roomy::RoomyModulus;
-use modular_plan::entry::PlanEntry;
+use modular_plan_passes::entry::PlanEntry;
 use modular_plan_passes::split_stages::split_fours;
 use modular_plan_passes::split_steps::SplitSteps;
-use modular_plan_stages::split::split_stages;
 use modular_prim::plain_word::PlainWord;
 use modular_word::path_word::PathWord;
 
@@ -64,10 +64,10 @@ fn split_by<T: PlainWord, M: SplitSteps<T>, F: PlanEntry<T>>(
 {
     if last == 1 && 4 <= xs.len() {
         let fours = xs.len() / 4;
-        split_stages(m, xs, table, b, 4);
+        split_blocks(m, xs, table, b, 4);
         split_fours(m, xs, fours, table, b * fours);
     } else {
-        split_stages(m, xs, table, b, last);
+        split_blocks(m, xs, table, b, last);
         reduce_each(m, xs);
     }
 }
@@ -90,8 +90,8 @@ pub fn split_loosely<T: PlainWord, F: PlanEntry<T>>(
         (λ i. numbers T.number xs.new i % modulus) }
 {
     match RoomyModulus::new(m) {
-        Some(roomy) => split_stages(&roomy, xs, table, b, last),
-        None => split_stages(m, xs, table, b, last),
+        Some(roomy) => split_blocks(&roomy, xs, table, b, last),
+        None => split_blocks(m, xs, table, b, last),
     }
 }
 

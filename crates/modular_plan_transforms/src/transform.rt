@@ -4,11 +4,11 @@ ghost use Rattle.std.specs.Prelude.{◌≡◌, ℕ, ◌*◌, ◌/◌, ◌^◌, �
 ghost use Rattle.std.specs.Int.{IsPowerOfTwo};
 ghost use Rattle.modular_transform.specs.Transforms.{transform};
 ghost use Rattle.modular_barrett.specs.Factors.{AllFactors};
-ghost use Rattle.modular_plan.specs.Plans.{numbers, IsPlan};
+ghost use Rattle.modular_plan_passes.specs.Plans.{numbers, IsPlan};
 
 use crate::split::split;
 use modular_barrett::planned::PlannedModulus;
-use modular_plan::entry::PlanEntry;
+use modular_plan_passes::entry::PlanEntry;
 use modular_prim::plain_word::PlainWord;
 use modular_transform::order::reverse_places;
 

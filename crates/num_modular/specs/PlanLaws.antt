@@ -7,7 +7,7 @@ pub use Rattle.modular_transform.proofs.PowersOfTwo.{power_of_two_tested}
 -- reversed bits: they are below the same power of two; with one more bit; and of twice a number
 pub use Rattle.modular_transform.proofs.BitReversal.{bits_reversed_below, bits_reversed_of_high, bits_reversed_twice}
 -- the number at an index of a list, and the constants of a block's two halves
-pub use Rattle.modular_plan.proofs.Entries.{number_at}
+pub use Rattle.modular_plan_passes.proofs.Entries.{number_at}
 pub use Rattle.modular_plan_transforms.proofs.Constants.{IsPairOfConstants, pair_of_constants}
 -- products modulo X - c and X^2 - c, coefficient by coefficient
 pub use Rattle.modular_plan_transforms.proofs.SmallProducts.{product_of_one, product_of_two_low, product_of_two_high}

@@ -1,7 +1,7 @@
 -- Plans for C, and the lists of words that calls by a plan accept. The names are the library's own words.
 use Rattle.std.specs.Prelude.{◌≡◌, ℕ, ◌*◌, ◌/◌, ◌^◌, ◌<◌, ◌≤◌, List, All, length}
 use Rattle.modular_barrett.specs.Factors.{IsFactor}
-use Rattle.modular_plan.specs.Plans.{numbers, IsPlan, AreRemainders}
+use Rattle.modular_plan_passes.specs.Plans.{numbers, IsPlan, AreRemainders}
 use Rattle.num_modular.specs.PlanConditions.{AreBlocks}
 use Rattle.num_modular.specs.ProductConditions.{AreSmallBlocks}
 use Rattle.num_modular_c.specs.declared.plans.NmFactor.{NmFactor}

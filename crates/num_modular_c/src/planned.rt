@@ -1,7 +1,7 @@
 //! Transforms and products of lists of words by a plan.
 
 ghost use Rattle.std.specs.Prelude.{◌≡◌, ℕ, ◌+◌, ◌-◌, ◌*◌, ◌/◌, ◌%◌, ◌^◌, ◌<◌, ◌↔◌, IsTrue, length};
-ghost use Rattle.modular_plan.specs.Plans.{constant, AreRemainders};
+ghost use Rattle.modular_plan_passes.specs.Plans.{constant, AreRemainders};
 ghost use Rattle.modular_plan_transforms.specs.Products.{product_modulo};
 ghost use Rattle.num_modular.specs.Inverses.{HasInverse};
 ghost use Rattle.num_modular.specs.Transforms.{transform, cyclic_product};

@@ -2,7 +2,7 @@
 
 ghost use Rattle.std.specs.Prelude.{◌≡◌, ℕ, ◌-◌, ◌*◌, ◌%◌, ◌^◌, ◌<◌, ◌≤◌, ◌↔◌, IsTrue, length};
 ghost use Rattle.modular_barrett.specs.Factors.{IsFactor};
-ghost use Rattle.modular_plan.specs.Plans.{numbers};
+ghost use Rattle.modular_plan_passes.specs.Plans.{numbers};
 ghost use Rattle.modular_transform.specs.Orders.{bits_reversed};
 ghost use Rattle.num_modular.specs.Transforms.{Suits};
 ghost use Rattle.num_modular_c.specs.Codes.{Did, Refused};
@@ -11,8 +11,8 @@ ghost use Rattle.num_modular_c.specs.Plans.{IsAdmitted, AreFactors, IsTable};
 use crate::codes::{NM_BAD_ARGUMENT, NM_BAD_CONTEXT, NM_NO_ROOT, NM_OK};
 use crate::transforms::root_code;
 use modular_barrett::planned::{Factor, PlannedModulus};
-use modular_plan::entry::PlanEntry;
-use modular_plan::plan::plan;
+use modular_plan_passes::entry::PlanEntry;
+use modular_plan_passes::plan::plan;
 use num_modular::Montgomery;
 use num_modular::word::w64::merge;
 

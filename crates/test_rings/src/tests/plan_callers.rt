@@ -4,11 +4,11 @@ ghost use Rattle.std.specs.Prelude.{◌≡◌, ℕ, ◌+◌, ◌*◌, ◌/◌, �
 ghost use Rattle.modular_word.specs.Inverses.{IsInverse};
 ghost use Rattle.modular_transform.specs.Transforms.{Suits, transform};
 ghost use Rattle.modular_barrett.specs.Factors.{IsFactorOf};
-ghost use Rattle.modular_plan.specs.Plans.{numbers};
+ghost use Rattle.modular_plan_passes.specs.Plans.{numbers};
 ghost use Rattle.num_modular.specs.PlanConditions.{AreBlocks};
 
 use modular_barrett::planned::{Factor, PlannedModulus};
-use modular_plan::plan::plan;
+use modular_plan_passes::plan::plan;
 use modular_plan_transforms::join::join_scaled;
 use modular_plan_transforms::split::split;
 use modular_plan_transforms::transform::ntt_planned;

@@ -1,6 +1,6 @@
 use Rattle.std.proofs.Common.{◌≡◌, length, arith, subst, sym, ◌∙◌}
-use Rattle.modular_plan.specs.Plans.{numbers}
-use Rattle.modular_plan.proofs.Entries.{number_read}
+use Rattle.modular_plan_passes.specs.Plans.{numbers}
+use Rattle.modular_plan_passes.proofs.Entries.{number_read}
 use Rattle.modular_plan_passes.specs.Joins.{IsMinusInverse}
 use Rattle.modular_plan_passes.proofs.Mirrors.{mirror_of_plan, first_of_plan}
 use Rattle.modular_plan_passes.proofs.Columns.{factor_read}

@@ -1,6 +1,6 @@
 use Rattle.std.proofs.Common.{arith, refl, ◌<◌, ◌∙◌, subst, sym}
 use Rattle.modular_plan_passes.proofs.Columns.{columns_none, column_more, columns_all, column_at, column_given, column_done}
-use Rattle.modular_plan.proofs.Entries.{never_beyond, number_read}
+use Rattle.modular_plan_passes.proofs.Entries.{never_beyond, number_read}
 use Rattle.modular_plan_passes.proofs.Fours.{four_along}
 use Rattle.modular_plan_passes.proofs.passes.columns.Goals as goal
 use borrow.Author.Count.{falls}

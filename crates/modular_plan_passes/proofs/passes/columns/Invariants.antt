@@ -1,4 +1,4 @@
-use Rattle.modular_plan.specs.Plans.{numbers}
+use Rattle.modular_plan_passes.specs.Plans.{numbers}
 use Rattle.modular_plan_passes.specs.Splits.{ColumnsDone}
 use Rattle.modular_plan_passes.proofs.passes.columns.Given as goal
 

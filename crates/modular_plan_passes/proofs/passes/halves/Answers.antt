@@ -1,5 +1,5 @@
 use Rattle.std.proofs.Common.{◌≡◌, ◌+◌, ◌<◌, ◌++◌, All, length, length-append, arith, subst, sym}
-use Rattle.modular_plan.specs.Plans.{numbers}
+use Rattle.modular_plan_passes.specs.Plans.{numbers}
 use Rattle.modular_plan_passes.specs.Splits.{HalvesDone}
 use Rattle.modular_plan_passes.proofs.Columns.{columns_all, halves_done}
 use Rattle.modular_plan_passes.proofs.Quarters.{all_in_front, all_behind}

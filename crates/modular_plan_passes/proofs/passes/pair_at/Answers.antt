@@ -1,7 +1,7 @@
 use Rattle.std.proofs.Common.{◌<◌, length, arith, subst}
 use Rattle.std.proofs.lemmas.List.Elements.{All-set}
-use Rattle.modular_plan.specs.Plans.{numbers}
-use Rattle.modular_plan.proofs.Entries.{below_read, number_read}
+use Rattle.modular_plan_passes.specs.Plans.{numbers}
+use Rattle.modular_plan_passes.proofs.Entries.{below_read, number_read}
 use Rattle.modular_plan_passes.proofs.Steps.{pair_written}
 use Rattle.modular_plan_passes.proofs.passes.pair_at.Goals as goal
 use borrow.Author.Rules.{scaled_Fits}

@@ -1,5 +1,5 @@
 use Rattle.std.proofs.Common.{◌+◌, arith, refl, ◌<◌, length}
-use Rattle.modular_plan.proofs.Entries.{never_beyond}
+use Rattle.modular_plan_passes.proofs.Entries.{never_beyond}
 use Rattle.modular_plan_passes.proofs.Steps.{block_none, block_more, block_all}
 use Rattle.modular_plan_passes.proofs.passes.pairs.Goals as goal
 use borrow.Author.Count.{falls}

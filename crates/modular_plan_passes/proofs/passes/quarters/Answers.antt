@@ -1,5 +1,5 @@
 use Rattle.std.proofs.Common.{◌≡◌, ◌<◌, ◌++◌, All, ◌∙◌, ap, arith, subst, sym}
-use Rattle.modular_plan.specs.Plans.{numbers}
+use Rattle.modular_plan_passes.specs.Plans.{numbers}
 use Rattle.modular_plan_passes.specs.Steps.{BlockOfFours}
 use Rattle.modular_plan_passes.proofs.Columns.{block_of_halves}
 use Rattle.modular_plan_passes.proofs.Quarters.{all_in_front, all_behind}

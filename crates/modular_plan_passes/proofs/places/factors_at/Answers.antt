@@ -1,6 +1,6 @@
 use Rattle.std.proofs.Common.{◌+◌, ◌*◌, ◌<◌, length, ◌∙◌, arith}
 use Rattle.modular_plan_passes.proofs.Columns.{factor_read}
-use Rattle.modular_plan.proofs.Entries.{number_read}
+use Rattle.modular_plan_passes.proofs.Entries.{number_read}
 use Rattle.modular_plan_passes.proofs.places.factors_at.Goals as goal
 
 pub returns : goal.returns

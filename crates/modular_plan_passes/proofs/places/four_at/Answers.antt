@@ -1,5 +1,5 @@
 use Rattle.std.proofs.Common.{arith}
-use Rattle.modular_plan.proofs.Entries.{number_read}
+use Rattle.modular_plan_passes.proofs.Entries.{number_read}
 use Rattle.modular_plan_passes.proofs.places.four_at.Goals as goal
 
 pub returns : goal.returns

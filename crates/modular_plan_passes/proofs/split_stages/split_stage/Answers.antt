@@ -1,9 +1,9 @@
 use Rattle.std.proofs.Common.{◌+◌, ◌*◌, ◌<◌, ◌≤◌, length, ◌∙◌, arith, subst}
 use Rattle.std.proofs.Math.Nat.{mul-le-mul_right, le_refl}
-use Rattle.modular_plan.specs.Plans.{numbers}
+use Rattle.modular_plan_passes.specs.Plans.{numbers}
 use Rattle.modular_plan_passes.specs.Steps.{IsPairSplit, BlockDone}
 use Rattle.modular_plan_passes.proofs.Columns.{factor_read}
-use Rattle.modular_plan.proofs.Entries.{number_read}
+use Rattle.modular_plan_passes.proofs.Entries.{number_read}
 use Rattle.modular_plan_passes.proofs.Steps.{stage_none, stage_more, stage_all}
 use Rattle.modular_plan_passes.proofs.split_stages.split_stage.Goals as goal
 use borrow.Author.Count.{falls}

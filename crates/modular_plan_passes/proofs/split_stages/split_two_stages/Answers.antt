@@ -2,7 +2,7 @@ use Rattle.std.proofs.Common.{◌+◌, ◌≤◌, arith, le_refl}
 use Rattle.std.proofs.Math.Nat.{mul-le-mul_right}
 use Rattle.modular_plan_passes.proofs.Columns.{block_below, stage_with}
 use Rattle.modular_plan_passes.proofs.Fours.{block_mapped, stage_of_fours_none, stage_of_fours_all}
-use Rattle.modular_plan.specs.Plans.{numbers}
+use Rattle.modular_plan_passes.specs.Plans.{numbers}
 use Rattle.modular_plan_passes.proofs.split_stages.split_two_stages.Goals as goal
 use borrow.Author.Count.{falls}
 

@@ -1,8 +1,8 @@
 use Rattle.std.proofs.Common.{◌≡◌, ℕ, ◌*◌, ◌/◌, ◌%◌, length, ap, arith, sym, subst}
 use Rattle.modular_word.specs.Congruence.{Congruent}
-use Rattle.modular_plan.specs.Plans.{numbers, AreRemainders}
-use Rattle.modular_plan_stages.specs.Conditions.{AreBlocks}
-use Rattle.modular_plan_transforms.specs.Conditions.{AreSmallBlocks}
+use Rattle.modular_plan_passes.specs.Plans.{numbers, AreRemainders}
+use Rattle.modular_plan_transforms.specs.PlanConditions.{AreBlocks}
+use Rattle.modular_plan_transforms.specs.ProductConditions.{AreSmallBlocks}
 use Rattle.modular_plan_transforms.specs.Products.{AreProducts}
 use Rattle.modular_plan_transforms.proofs.Convolutions.{blocks_of, joined_product}
 use Rattle.modular_plan_transforms.proofs.convolution.convolve_scaled.Goals as goal

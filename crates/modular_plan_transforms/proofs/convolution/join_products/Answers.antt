@@ -2,9 +2,9 @@ use Rattle.std.proofs.Common.{◌≡◌, ℕ, ◌+◌, ◌*◌, ◌/◌, ◌%◌
 use Rattle.modular_word.specs.Congruence.{Congruent}
 use Rattle.modular_word.proofs.Congruence.{of_equal, itself, turned, chained, multiplied, residue_of}
 use Rattle.modular_word.proofs.ReductionSteps.{base_inverse}
-use Rattle.modular_plan.specs.Plans.{numbers, AreRemainders}
-use Rattle.modular_plan.proofs.Entries.{all_wider}
-use Rattle.modular_plan_stages.specs.Conditions.{AreBlocks}
+use Rattle.modular_plan_passes.specs.Plans.{numbers, AreRemainders}
+use Rattle.modular_plan_passes.proofs.Entries.{all_wider}
+use Rattle.modular_plan_transforms.specs.PlanConditions.{AreBlocks}
 use Rattle.modular_plan_transforms.proofs.Convolutions.{blocks_of}
 use Rattle.modular_plan_transforms.proofs.SmallProducts.{are_products_of_one}
 use Rattle.modular_plan_transforms.proofs.Reductions.{inverse_of_negated, remainders_times, over_base, made_up_for}

@@ -1,5 +1,5 @@
 use Rattle.std.proofs.Common.{◌≡◌, ap, subst, sym}
-use Rattle.modular_plan_stages.specs.Conditions.{FitsPlan}
+use Rattle.modular_plan_transforms.specs.PlanConditions.{FitsPlan}
 use Rattle.modular_plan_transforms.proofs.join.join.Goals as goal
 
 pub join_reduced-requires : goal.join_reduced-requires

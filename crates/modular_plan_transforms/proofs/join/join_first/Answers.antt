@@ -1,5 +1,5 @@
 use Rattle.std.proofs.Common.{◌≡◌, ◌*◌, ◌/◌, length, sym, ◌∙◌, arith}
-use Rattle.modular_plan.specs.Plans.{numbers}
+use Rattle.modular_plan_passes.specs.Plans.{numbers}
 use Rattle.modular_plan_transforms.proofs.LastJoins.{remainders_once}
 use Rattle.modular_plan_passes.proofs.TwoJoins.{first_fours, remainders_of_fours, remainders_reduced}
 use Rattle.modular_plan_transforms.proofs.join.join_first.Goals as goal

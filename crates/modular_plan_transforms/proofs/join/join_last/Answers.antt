@@ -1,12 +1,12 @@
 use Rattle.std.proofs.Common.{◌≡◌, ◌*◌, ◌/◌, length, sym, ◌∙◌, ap, arith}
 use Rattle.std.proofs.Math.Nat.{zero-mul, mod-eq_of_lt}
 use Rattle.modular_word.proofs.Congruence.{itself, multiplied}
-use Rattle.modular_plan.specs.Plans.{numbers}
+use Rattle.modular_plan_passes.specs.Plans.{numbers}
 use Rattle.modular_plan_passes.proofs.Columns.{fours_below}
-use Rattle.modular_plan.proofs.Entries.{number_read, all_below}
+use Rattle.modular_plan_passes.proofs.Entries.{number_read, all_below}
 use Rattle.modular_plan_transforms.proofs.LastJoins.{last_joined, numbers_past, two_entries}
 use Rattle.modular_plan_transforms.proofs.join.join_last.Goals as goal
-use Rattle.modular_plan.proofs.Entries.{all_wider}
+use Rattle.modular_plan_passes.proofs.Entries.{all_wider}
 
 pub minus_inverses-v-requires : goal.minus_inverses-v-requires
 minus_inverses-v-requires g c =

@@ -1,5 +1,5 @@
 use Rattle.std.proofs.Common.{◌≡◌, ap, subst, sym}
-use Rattle.modular_plan_stages.specs.Conditions.{FitsPlan}
+use Rattle.modular_plan_transforms.specs.PlanConditions.{FitsPlan}
 use Rattle.modular_plan_transforms.proofs.join.join_scaled.Goals as goal
 
 pub join_scaled_by-requires-clause-fits : goal.join_scaled_by-requires-clause-fits

@@ -1,6 +1,6 @@
 use Rattle.std.proofs.Common.{◌≡◌, ◌*◌, ◌/◌, ◌%◌, length, sym, ◌∙◌, ap, arith, subst}
-use Rattle.modular_plan.specs.Plans.{numbers, AreRemainders}
-use Rattle.modular_plan_stages.specs.Conditions.{AreBlocks}
+use Rattle.modular_plan_passes.specs.Plans.{numbers, AreRemainders}
+use Rattle.modular_plan_transforms.specs.PlanConditions.{AreBlocks}
 use Rattle.modular_plan_transforms.proofs.LastJoins.{rescaled}
 use Rattle.modular_plan_transforms.proofs.join.join_scaled_by.Goals as goal
 

@@ -1,5 +1,5 @@
 use Rattle.std.proofs.Common.{◌≡◌, ℕ, ◌%◌, ◌<◌, ◌≤◌}
-use Rattle.modular_plan.specs.Plans.{numbers}
+use Rattle.modular_plan_passes.specs.Plans.{numbers}
 use Rattle.modular_plan_transforms.proofs.join.reduce_each.Given as goal
 
 -- the first i entries are done

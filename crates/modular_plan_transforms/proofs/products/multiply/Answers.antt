@@ -1,5 +1,5 @@
 use Rattle.std.proofs.Common.{◌≡◌, ◌+◌, ◌*◌, ◌/◌, ◌≤◌, length, ap, arith, subst}
-use Rattle.modular_plan.specs.Plans.{numbers}
+use Rattle.modular_plan_passes.specs.Plans.{numbers}
 use Rattle.modular_plan_transforms.specs.Products.{AreProducts}
 use Rattle.modular_plan_transforms.proofs.SmallProducts.{are_products_of_one}
 use Rattle.modular_plan_transforms.proofs.products.multiply.Goals as goal

@@ -1,7 +1,7 @@
 use Rattle.std.proofs.Common.{◌+◌, ◌<◌, length, arith}
 use Rattle.std.proofs.lemmas.List.Elements.{All-set}
-use Rattle.modular_plan.specs.Plans.{numbers}
-use Rattle.modular_plan.proofs.Entries.{number_read, bounded}
+use Rattle.modular_plan_passes.specs.Plans.{numbers}
+use Rattle.modular_plan_passes.proofs.Entries.{number_read, bounded}
 use Rattle.modular_plan_passes.proofs.Steps.{pair_written}
 use Rattle.modular_plan_transforms.proofs.SmallProducts.{IsPairProduct, pair_of_read}
 use Rattle.modular_plan_transforms.proofs.products.multiply_pair.Goals as goal

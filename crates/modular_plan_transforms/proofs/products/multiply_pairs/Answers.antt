@@ -1,7 +1,7 @@
 use Rattle.std.proofs.Common.{ℕ, ◌+◌, ◌*◌, ◌/◌, ◌<◌, length, arith, ◌∙◌, subst}
 use Rattle.modular_word.specs.Congruence.{Congruent}
-use Rattle.modular_plan.specs.Plans.{numbers, constant}
-use Rattle.modular_plan.proofs.Entries.{number_read}
+use Rattle.modular_plan_passes.specs.Plans.{numbers, constant}
+use Rattle.modular_plan_passes.proofs.Entries.{number_read}
 use Rattle.modular_plan_transforms.proofs.SmallProducts.{pairs_more}
 use Rattle.modular_plan_transforms.proofs.products.multiply_pairs.Goals as goal
 use borrow.Author.Count.{falls}

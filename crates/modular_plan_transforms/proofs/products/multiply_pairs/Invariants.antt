@@ -1,5 +1,5 @@
 use Rattle.std.proofs.Common.{◌≡◌, ℕ, ◌+◌, ◌*◌, ◌/◌, ◌<◌, ◌≤◌, All, length}
-use Rattle.modular_plan.specs.Plans.{numbers, constant, IsPlan}
+use Rattle.modular_plan_passes.specs.Plans.{numbers, constant, IsPlan}
 use Rattle.modular_plan_transforms.specs.Products.{product_modulo}
 use Rattle.modular_plan_transforms.proofs.products.multiply_pairs.Given as goal
 

@@ -1,7 +1,7 @@
 use Rattle.std.proofs.Common.{◌*◌, ◌<◌, length, ◌∙◌, ap, arith, refl, sym, subst}
 use Rattle.modular_word.specs.Congruence.{Congruent}
-use Rattle.modular_plan.specs.Plans.{numbers}
-use Rattle.modular_plan.proofs.Entries.{number_at, number_read, bounded, entry_written, entry_kept, never_beyond}
+use Rattle.modular_plan_passes.specs.Plans.{numbers}
+use Rattle.modular_plan_passes.proofs.Entries.{number_at, number_read, bounded, entry_written, entry_kept, never_beyond}
 use Rattle.modular_plan_transforms.proofs.products.reduce_products.Goals as goal
 use borrow.Author.Count.{falls}
 use borrow.Author.Rules.{scaled_Fits}

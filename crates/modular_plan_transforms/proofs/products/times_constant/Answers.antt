@@ -3,8 +3,8 @@ use Rattle.std.proofs.Math.Nat.{mod-lt}
 use Rattle.modular_word.specs.Congruence.{Congruent}
 use Rattle.modular_word.proofs.Congruence.{chained, of_equal, itself, multiplied, residue_of}
 use Rattle.modular_barrett.specs.Factors.{IsFactor}
-use Rattle.modular_plan.specs.Plans.{constant}
-use Rattle.modular_plan.proofs.Entries.{number_read}
+use Rattle.modular_plan_passes.specs.Plans.{constant}
+use Rattle.modular_plan_passes.proofs.Entries.{number_read}
 use Rattle.modular_plan_transforms.proofs.Constants.{pair_of_constants, block_of}
 use Rattle.modular_plan_transforms.proofs.SmallProducts.{product_by_odd}
 use Rattle.modular_plan_transforms.proofs.products.times_constant.Goals as goal

@@ -1,6 +1,6 @@
 use Rattle.std.proofs.Common.{◌≡◌, ◌/◌, ◌<◌, All, length, ap, subst, sym}
-use Rattle.modular_plan.specs.Plans.{numbers, IsPlan, AreRemainders}
-use Rattle.modular_plan_stages.specs.Conditions.{FitsPlan}
+use Rattle.modular_plan_passes.specs.Plans.{numbers, IsPlan, AreRemainders}
+use Rattle.modular_plan_transforms.specs.PlanConditions.{FitsPlan}
 use Rattle.modular_plan_transforms.proofs.split.split.Goals as goal
 
 pub split_by-requires : goal.split_by-requires

@@ -1,11 +1,11 @@
 use Rattle.std.proofs.Common.{◌≡◌, ◌/◌, length, arith}
-use Rattle.modular_plan.proofs.Entries.{bounded_at}
+use Rattle.modular_plan_passes.proofs.Entries.{bounded_at}
 use Rattle.modular_plan_passes.proofs.Levels.{remainders_of}
 use Rattle.modular_plan_passes.proofs.TwoLevels.{whole_fours, remainders_of_fours}
 use Rattle.modular_plan_transforms.proofs.split.split_by.Goals as goal
 
-pub split_stages-requires : goal.split_stages-requires
-split_stages-requires g c =
+pub split_blocks-requires : goal.split_blocks-requires
+split_blocks-requires g c =
     let fours = whole_fours (length c.args.xs.now) c.args.last c.args.b (length c.args.table.now) c.if-last-eq1.true
     c.if-xs-ge4.true c.requires.blocks.count c.requires.blocks.within in
     record {
@@ -20,7 +20,7 @@ split_fours-requires g c =
     c.if-xs-ge4.true c.requires.blocks.count c.requires.blocks.within in
     let whole = fours.whole in
     record {
-      entries = c.split_stages.ensures.entries;
+      entries = c.split_blocks.ensures.entries;
       factors = c.requires.factors;
       whole = omega (arith, whole);
       within = fours.places;
@@ -38,7 +38,7 @@ returns-then-xs-ge4 g c =
       below = c.split_fours.ensures.entries;
       remainders = λ r z plan.
           remainders_of_fours r z c.args.b (length c.args.xs.now) c.args.last (length c.args.table.now) _ _ _ _
-          c.if-last-eq1.true fours plan (c.split_stages.ensures.level r z plan) c.split_fours.ensures.done
+          c.if-last-eq1.true fours plan (c.split_blocks.ensures.level r z plan) c.split_fours.ensures.done
           (λ i l. bounded_at n m c.split_fours.new.xs i c.split_fours.ensures.entries (omega arith));
     }
 
@@ -47,6 +47,6 @@ returns-else-last-eq1 g c = record {
   below = c.reduce_each.ensures.below;
   remainders = λ r z plan.
       remainders_of r z c.args.b (length c.args.xs.now / c.args.last) c.args.last (length c.args.xs.now) _ _ _
-      c.requires.blocks.whole (c.split_stages-else-last-eq1.ensures.level r z plan)
+      c.requires.blocks.whole (c.split_blocks-else-last-eq1.ensures.level r z plan)
       (λ i l. c.reduce_each.ensures.residues i (omega arith));
 }

@@ -1,20 +1,20 @@
 use Rattle.std.proofs.Common.{◌≡◌, ◌/◌, length, refl, sym, ap, subst}
-use Rattle.modular_plan.specs.Plans.{numbers, IsPlan}
+use Rattle.modular_plan_passes.specs.Plans.{numbers, IsPlan}
 use Rattle.modular_plan_passes.specs.Steps.{IsLevel}
 use Rattle.modular_plan_passes.proofs.Levels.{remainders_of}
-use Rattle.modular_plan_stages.specs.Conditions.{FitsPlan}
+use Rattle.modular_plan_transforms.specs.PlanConditions.{FitsPlan}
 use Rattle.modular_plan_transforms.proofs.split.split_loosely.Goals as goal
 
-pub split_stages-requires : goal.split_stages-requires
-split_stages-requires g c =
+pub split_blocks-requires : goal.split_blocks-requires
+split_blocks-requires g c =
     let n = g.T.RingWord.number in
     let same : n c.in-Some.roomy.planned.modulus ≡ n c.args.m.now.modulus = ap (λ p. n p.modulus) c.in-Some.ensures in
     subst (λ k. FitsPlan n g.F.PlanEntry.value g.F.PlanEntry.quotient g.T.PathWord.base k c.args.b c.args.last
     c.args.xs.now c.args.table.now) (sym same)
     (record { entries = c.requires.entries; factors = c.requires.factors; blocks = c.requires.blocks })
 
-pub split_stages-requires-in-None : goal.split_stages-requires-in-None
-split_stages-requires-in-None g c =
+pub split_blocks-requires-in-None : goal.split_blocks-requires-in-None
+split_blocks-requires-in-None g c =
     record { entries = c.requires.entries; factors = c.requires.factors; blocks = c.requires.blocks }
 
 pub returns-in-Some : goal.returns-in-Some
@@ -28,8 +28,8 @@ returns-in-Some g c =
     record {
       remainders = λ r z plan.
           remainders_of r z c.args.b count c.args.last (length c.args.xs.now) _ _ _ c.requires.blocks.whole
-          (subst (λ k. IsLevel k r z c.args.b count c.args.last (numbers n c.args.xs.now) (numbers n c.split_stages.new.xs))
-          same (c.split_stages.ensures.level r z (subst (λ k. IsPlan k r z factors w) (sym same) plan)))
+          (subst (λ k. IsLevel k r z c.args.b count c.args.last (numbers n c.args.xs.now) (numbers n c.split_blocks.new.xs))
+          same (c.split_blocks.ensures.level r z (subst (λ k. IsPlan k r z factors w) (sym same) plan)))
           (λ i l. refl);
     }
 
@@ -37,5 +37,5 @@ pub returns-in-None : goal.returns-in-None
 returns-in-None g c = record {
   remainders = λ r z plan.
       remainders_of r z c.args.b (length c.args.xs.now / c.args.last) c.args.last (length c.args.xs.now) _ _ _
-      c.requires.blocks.whole (c.split_stages-in-None.ensures.level r z plan) (λ i l. refl);
+      c.requires.blocks.whole (c.split_blocks-in-None.ensures.level r z plan) (λ i l. refl);
 }

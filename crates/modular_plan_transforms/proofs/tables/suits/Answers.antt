@@ -1,7 +1,7 @@
 use Rattle.std.proofs.Common.{sym, ◌∙◌, arith}
 use Rattle.std.proofs.lemmas.Bool.{false≢true}
 use Rattle.modular_transform.proofs.PowersOfTwo.{power_of_two_tested}
-use Rattle.modular_plan.proofs.Tables.{half_power}
+use Rattle.modular_plan_passes.proofs.Tables.{half_power}
 use Rattle.modular_plan_transforms.proofs.Wholes.{suits_by_turn}
 use Rattle.modular_plan_transforms.proofs.tables.suits.Goals as goal
 

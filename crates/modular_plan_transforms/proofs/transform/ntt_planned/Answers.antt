@@ -1,7 +1,7 @@
 use Rattle.std.proofs.Common.{◌≡◌, ◌+◌, ◌*◌, ◌/◌, ◌<◌, ◌≤◌, length, refl, arith, subst, sym, ◌∙◌}
 use Rattle.std.specs.Int.{trailing_zeros, w64, IsPowerOfTwo}
 use Rattle.modular_transform.proofs.PowersOfTwo.{power_by_zeros}
-use Rattle.modular_plan.specs.Plans.{numbers, AreRemainders}
+use Rattle.modular_plan_passes.specs.Plans.{numbers, AreRemainders}
 use Rattle.modular_plan_transforms.proofs.NaturalOrder.{in_natural_order, all_reordered}
 use Rattle.modular_plan_transforms.proofs.transform.ntt_planned.Goals as goal
 

@@ -1,6 +1,6 @@
 use Rattle.std.proofs.Common.{◌*◌, ◌%◌, ◌^◌, ◌<◌, length, ap, sym, ◌∙◌, arith, refl, rules, below_more}
-use Rattle.modular_plan.specs.Plans.{numbers}
-use Rattle.modular_plan.proofs.Entries.{number_at}
+use Rattle.modular_plan_passes.specs.Plans.{numbers}
+use Rattle.modular_plan_passes.proofs.Entries.{number_at}
 use Rattle.modular_transform.specs.Orders.{bits_reversed}
 use Rattle.modular_transform.proofs.BitReversal.{bits_reversed_below, bits_reversed_of_zero, bits_reversed_twice}
 use Rattle.num_modular_c.proofs.PlanTables.{power_first, power_next}

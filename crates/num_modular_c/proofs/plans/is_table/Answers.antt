@@ -1,6 +1,6 @@
 use Rattle.std.proofs.Common.{◌≡◌, ◌^◌, length, rules, arith, subst, sym}
 use Rattle.std.specs.Int.{trailing_zeros, w64}
-use Rattle.modular_plan.proofs.Tables.{half_power}
+use Rattle.modular_plan_passes.proofs.Tables.{half_power}
 use Rattle.modular_transform.proofs.PowersOfTwo.{power_by_zeros}
 use Rattle.num_modular_c.proofs.PlanTables.{ArePowers, table_of, powers_of}
 use Rattle.num_modular_c.proofs.plans.is_table.Goals as goal

@@ -1,6 +1,6 @@
 use Rattle.std.proofs.Common.{◌<◌, length, arith, ◌∙◌, subst}
 use Rattle.std.proofs.Math.Nat.{div-one}
-use Rattle.modular_plan.specs.Plans.{numbers, AreRemainders}
+use Rattle.modular_plan_passes.specs.Plans.{numbers, AreRemainders}
 use Rattle.modular_plan_transforms.proofs.Convolutions.{cyclic}
 use Rattle.modular_plan_transforms.proofs.plan.Plan.convolve.Goals as goal
 

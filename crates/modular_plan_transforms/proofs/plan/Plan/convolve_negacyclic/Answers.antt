@@ -1,7 +1,7 @@
 use Rattle.std.proofs.Common.{◌≡◌, ◌<◌, ◌*◌, ◌/◌, length, arith, ◌∙◌, sym, subst}
 use Rattle.std.proofs.lemmas.Nat.{pow_pos}
 use Rattle.std.specs.Int.{IsPowerOfTwo}
-use Rattle.modular_plan.proofs.Tables.{half_power}
+use Rattle.modular_plan_passes.proofs.Tables.{half_power}
 use Rattle.modular_plan_transforms.proofs.Convolutions.{negacyclic}
 use Rattle.modular_plan_transforms.proofs.Wholes.{plan_of}
 use Rattle.modular_plan_transforms.proofs.plan.Plan.convolve_negacyclic.Goals as goal

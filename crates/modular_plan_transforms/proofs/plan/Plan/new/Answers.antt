@@ -1,8 +1,8 @@
 use Rattle.std.proofs.Common.{◌≡◌, ◌+◌, ◌*◌, length, arith, sym, subst, ap, ◌∙◌}
 use Rattle.std.specs.Int.{trailing_zeros, w64}
 use Rattle.modular_transform.proofs.PowersOfTwo.{power_by_zeros}
-use Rattle.modular_plan.proofs.Tables.{half_power}
-use Rattle.modular_plan.specs.Plans.{numbers, IsPlan}
+use Rattle.modular_plan_passes.proofs.Tables.{half_power}
+use Rattle.modular_plan_passes.specs.Plans.{numbers, IsPlan}
 use Rattle.modular_plan_transforms.proofs.Wholes.{turn_of, doubled}
 use Rattle.modular_plan_transforms.proofs.plan.Plan.new.Goals as goal
 

@@ -1,5 +1,5 @@
 use Rattle.std.proofs.Common.{length, arith, ◌∙◌}
-use Rattle.modular_plan.specs.Plans.{numbers}
+use Rattle.modular_plan_passes.specs.Plans.{numbers}
 use Rattle.modular_plan_transforms.proofs.Wholes.{plan_of, root_itself}
 use Rattle.modular_plan_transforms.proofs.plan.Plan.transform.Goals as goal
 

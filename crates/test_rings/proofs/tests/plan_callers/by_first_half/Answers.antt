@@ -6,7 +6,7 @@ use Rattle.std.proofs.lemmas.Nat.{pow_pos}
 use Rattle.std.specs.Int.{IsPowerOfTwo}
 use Rattle.modular_transform.specs.Transforms.{transform}
 use Rattle.modular_barrett.specs.Factors.{IsFactor}
-use Rattle.modular_plan.specs.Plans.{numbers, IsPlan}
+use Rattle.modular_plan_passes.specs.Plans.{numbers, IsPlan}
 use Rattle.test_rings.proofs.tests.plan_callers.by_first_half.Goals as goal
 
 -- half of a power of two that is even

@@ -1,7 +1,7 @@
 use Rattle.std.proofs.Common.{◌≡◌, ℕ, ◌+◌, ◌*◌, ◌/◌, ◌%◌, ◌≤◌, length, sym, ◌∙◌, ap, arith, subst}
 use Rattle.std.proofs.Math.Nat.{mod-mod}
 use Rattle.std.proofs.lemmas.Nat.{mul-mod_first}
-use Rattle.modular_plan.specs.Plans.{numbers, IsPlan, AreRemainders}
+use Rattle.modular_plan_passes.specs.Plans.{numbers, IsPlan, AreRemainders}
 use Rattle.num_modular.specs.PlanConditions.{AreBlocks}
 use Rattle.test_rings.proofs.tests.plan_callers.split_and_joined.Goals as goal
 

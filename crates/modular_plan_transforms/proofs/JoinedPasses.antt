@@ -3,7 +3,7 @@ use Rattle.std.proofs.Common.{◌≡◌, ℕ, ◌+◌, ◌*◌, ◌/◌, ◌%◌
 use Rattle.std.proofs.Math.Nat.{mul-div_cancel, mul-le-mul_left}
 use Rattle.std.proofs.lemmas.Nat.{pow_pos}
 use Rattle.std.specs.Int.{IsPowerOfTwo}
-use Rattle.modular_plan.specs.Plans.{AreRemainders}
+use Rattle.modular_plan_passes.specs.Plans.{AreRemainders}
 use Rattle.modular_plan_passes.specs.Steps.{IsLevel}
 
 -- the sizes after some passes of two stages

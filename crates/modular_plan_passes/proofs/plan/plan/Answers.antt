@@ -5,14 +5,14 @@ use Rattle.std.proofs.lemmas.Nat.{pow_pos}
 use Rattle.std.specs.Int.{trailing_zeros, w64, IsPowerOfTwo}
 use Rattle.modular_transform.proofs.PowersOfTwo.{power_by_zeros}
 use Rattle.modular_transform.specs.Orders.{bits_reversed}
-use Rattle.modular_plan.specs.Plans.{numbers}
-use Rattle.modular_plan.proofs.Entries.{number_at}
-use Rattle.modular_plan.proofs.Tables.{half_power}
-use Rattle.modular_plan.proofs.Doublings.{IsMade, made_now, made_before, same_factor, one_more, one_lower}
-use Rattle.modular_plan.proofs.Doublings.{first_power, half_place, two_within, twice_place, root_itself, square_next}
-use Rattle.modular_plan.proofs.Doublings.{product_of_two, planned}
-use Rattle.modular_plan.proofs.Shorter.{first_entries}
-use Rattle.modular_plan.proofs.plan.plan.Goals as goal
+use Rattle.modular_plan_passes.specs.Plans.{numbers}
+use Rattle.modular_plan_passes.proofs.Entries.{number_at}
+use Rattle.modular_plan_passes.proofs.Tables.{half_power}
+use Rattle.modular_plan_passes.proofs.Doublings.{IsMade, made_now, made_before, same_factor, one_more, one_lower}
+use Rattle.modular_plan_passes.proofs.Doublings.{first_power, half_place, two_within, twice_place, root_itself, square_next}
+use Rattle.modular_plan_passes.proofs.Doublings.{product_of_two, planned}
+use Rattle.modular_plan_passes.proofs.Shorter.{first_entries}
+use Rattle.modular_plan_passes.proofs.plan.plan.Goals as goal
 use borrow.Author.Count.{falls}
 use borrow.Author.Rules.{scaled_Fits}
 

@@ -1,7 +1,7 @@
 use Rattle.std.proofs.Common.{◌≡◌, ℕ, ◌*◌, ◌/◌, ◌^◌, ◌<◌, All, length}
-use Rattle.modular_plan.specs.Plans.{numbers, IsPlan}
+use Rattle.modular_plan_passes.specs.Plans.{numbers, IsPlan}
 use Rattle.modular_plan_passes.specs.Steps.{IsLevel}
-use Rattle.modular_plan_stages.proofs.split.split_stages.Given as goal
+use Rattle.modular_plan_transforms.proofs.split_blocks.split_blocks.Given as goal
 
 -- the levels so far are done
 abbrev pub invariant-stages : goal.invariant-stages

@@ -2,8 +2,8 @@ use Rattle.std.proofs.Common.{◌≡◌, ◌*◌, ◌/◌, ◌^◌, ◌≤◌, s
 use Rattle.std.proofs.Math.Nat.{mul-le-mul_right}
 use Rattle.modular_plan_passes.proofs.Joins.{level_lowest}
 use Rattle.modular_plan_passes.proofs.TwoJoins.{two_join_sizes, two_join_rooms, level_joined_two}
-use Rattle.modular_plan_stages.proofs.JoinedPasses.{sizes_left, blocks_left, remainders_of_level}
-use Rattle.modular_plan_stages.proofs.join.join_passes.Goals as goal
+use Rattle.modular_plan_transforms.proofs.JoinedPasses.{sizes_left, blocks_left, remainders_of_level}
+use Rattle.modular_plan_transforms.proofs.join_blocks.join_passes.Goals as goal
 
 pub passes-init : goal.passes-init
 passes-init g c = record {

@@ -1,10 +1,10 @@
 use Rattle.std.proofs.Common.{◌≡◌, ◌+◌, ◌*◌, ◌/◌, ◌^◌, suc, length, sym, ◌∙◌, ap, arith, refl, subst}
-use Rattle.modular_plan.specs.Plans.{numbers}
+use Rattle.modular_plan_passes.specs.Plans.{numbers}
 use Rattle.modular_plan_passes.specs.Steps.{IsLevel}
 use Rattle.modular_plan_passes.proofs.Levels.{table_room}
 use Rattle.modular_plan_passes.proofs.Joins.{join_sizes, level_lowest, level_joined, level_top}
 use Rattle.modular_plan_passes.proofs.TwoJoins.{two_join_sizes, two_join_rooms, level_joined_two}
-use Rattle.modular_plan_stages.proofs.join.join_blocks.Goals as goal
+use Rattle.modular_plan_transforms.proofs.join_blocks.join_blocks.Goals as goal
 
 pub stages-init : goal.stages-init
 stages-init g c = record {

@@ -2,11 +2,11 @@
 
 ghost use Rattle.std.specs.Prelude.{◌≡◌, ℕ, ◌*◌, ◌/◌, ◌%◌, ◌<◌, All, length};
 ghost use Rattle.modular_word.specs.Congruence.{Congruent};
-ghost use Rattle.modular_plan.specs.Plans.{numbers, IsPlan, AreRemainders};
-ghost use Rattle.modular_plan_stages.specs.Conditions.{IsLevelReady, IsLevelJoined};
+ghost use Rattle.modular_plan_passes.specs.Plans.{numbers, IsPlan, AreRemainders};
+ghost use Rattle.modular_plan_transforms.specs.PlanConditions.{IsLevelReady, IsLevelJoined};
 
 use modular_barrett::planned::Factor;
-use modular_plan::entry::PlanEntry;
+use modular_plan_passes::entry::PlanEntry;
 use modular_plan_passes::join_stages::{join_known, join_stage};
 use modular_plan_passes::join_steps::JoinSteps;
 use modular_prim::plain_word::PlainWord;

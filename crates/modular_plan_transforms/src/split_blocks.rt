@@ -1,11 +1,11 @@
 //! All stages of a split by a plan.
 
 ghost use Rattle.std.specs.Prelude.{◌≡◌, ℕ, ◌+◌, ◌*◌, ◌/◌, ◌<◌, ◌≤◌, All, length};
-ghost use Rattle.modular_plan.specs.Plans.{numbers, IsPlan};
+ghost use Rattle.modular_plan_passes.specs.Plans.{numbers, IsPlan};
 ghost use Rattle.modular_plan_passes.specs.Steps.{IsLevel};
-ghost use Rattle.modular_plan_stages.specs.Conditions.{FitsPlan};
+ghost use Rattle.modular_plan_transforms.specs.PlanConditions.{FitsPlan};
 
-use modular_plan::entry::PlanEntry;
+use modular_plan_passes::entry::PlanEntry;
 use modular_plan_passes::split_stages::{split_pass, split_stage};
 use modular_plan_passes::split_steps::SplitSteps;
 use modular_prim::plain_word::PlainWord;
@@ -15,7 +15,7 @@ use modular_word::path_word::PathWord;
 /// that each other pass does two. Conditions: the entries are below 4m; `last` is at least 1, the number of entries is
 /// `last` times a power of two, and the table has (b + 1)·(count/2) entries or more, count being the number of blocks;
 /// the table's entries are factors modulo m.
-pub fn split_stages<T: PlainWord, M: SplitSteps<T>, F: PlanEntry<T>>(
+pub fn split_blocks<T: PlainWord, M: SplitSteps<T>, F: PlanEntry<T>>(
     m: &M,
     xs: &mut [T],
     table: &[F],

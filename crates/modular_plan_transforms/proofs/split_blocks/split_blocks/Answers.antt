@@ -1,9 +1,9 @@
 use Rattle.std.proofs.Common.{◌≡◌, ◌-◌, ◌*◌, ◌/◌, ◌^◌, length, sym, ◌∙◌, ap, arith}
 use Rattle.modular_transform.proofs.PowersOfTwo.{power_by_zeros}
-use Rattle.modular_plan.proofs.Entries.{all_wider}
+use Rattle.modular_plan_passes.proofs.Entries.{all_wider}
 use Rattle.modular_plan_passes.proofs.Levels.{sizes_of, table_room, twice_fits, level_first, level_next, level_end, larger}
 use Rattle.modular_plan_passes.proofs.TwoLevels.{two_sizes, two_rooms, four_fit, level_after_two}
-use Rattle.modular_plan_stages.proofs.split.split_stages.Goals as goal
+use Rattle.modular_plan_transforms.proofs.split_blocks.split_blocks.Goals as goal
 
 pub stages-init : goal.stages-init
 stages-init g c =

@@ -11,9 +11,9 @@ use Rattle.modular_transform.specs.Orders.{bits_reversed}
 use Rattle.modular_transform.specs.Transforms.{Suits}
 use Rattle.modular_transform.proofs.BitReversal.{bits_reversed-suc, bits_reversed_of_zero, bits_reversed_of_parts}
 use Rattle.modular_barrett.specs.Factors.{IsFactor}
-use Rattle.modular_plan.specs.Plans.{numbers, IsPlan}
-use Rattle.modular_plan.proofs.Entries.{written, not_written}
-use Rattle.modular_plan.proofs.Tables.{exponent}
+use Rattle.modular_plan_passes.specs.Plans.{numbers, IsPlan}
+use Rattle.modular_plan_passes.proofs.Entries.{written, not_written}
+use Rattle.modular_plan_passes.proofs.Tables.{exponent}
 
 -- the reversed bits of a place below 2^t and one of bit t
 record AreApart (s t x : ℕ) : Type 0 where

@@ -7,7 +7,7 @@ use Rattle.modular_transform.specs.Orders.{bits_reversed}
 use Rattle.modular_transform.specs.Transforms.{Suits}
 use Rattle.modular_transform.proofs.BitReversal.{bits_reversed_of_zero, bits_reversed_of_parts}
 use Rattle.modular_transform.proofs.InverseTransform.{power_suits}
-use Rattle.modular_plan.specs.Plans.{IsPlan}
+use Rattle.modular_plan_passes.specs.Plans.{IsPlan}
 
 -- of a place below 2^t, d bits more reverse to d zeros below
 more_bits : (t d k : ℕ) → k < 2 ^ t → bits_reversed (t + d) k ≡ 2 ^ d * bits_reversed t k

@@ -4,7 +4,7 @@
 use Rattle.std.specs.Prelude.{◌≡◌, ℕ, ◌+◌, ◌*◌, ◌/◌, ◌%◌, ◌<◌, ◌≤◌, List, All, length}
 use Rattle.std.specs.Int.{IsPowerOfTwo}
 use Rattle.modular_barrett.specs.Factors.{AllFactors}
-use Rattle.modular_plan.specs.Plans.{numbers, IsPlan, AreRemainders}
+use Rattle.modular_plan_passes.specs.Plans.{numbers, IsPlan, AreRemainders}
 use Rattle.modular_plan_passes.specs.JoinPasses.{IsTableOfFactors}
 
 -- a list of this length consists of blocks of `last` entries, a power of two of them, and a table of so many

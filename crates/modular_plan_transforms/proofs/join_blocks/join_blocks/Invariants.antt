@@ -1,11 +1,11 @@
 use Rattle.std.proofs.Common.{◌≡◌, ℕ, ◌-◌, ◌*◌, ◌/◌, ◌%◌, ◌^◌, ◌<◌, All, length}
-use Rattle.modular_plan.specs.Plans.{numbers, IsPlan, AreRemainders}
+use Rattle.modular_plan_passes.specs.Plans.{numbers, IsPlan, AreRemainders}
 use Rattle.modular_plan_passes.specs.Steps.{IsLevel}
-use Rattle.modular_plan_stages.proofs.join.join_passes.Given as goal
+use Rattle.modular_plan_transforms.proofs.join_blocks.join_blocks.Given as goal
 
 -- the entries are the remainders of 2 ^ done times the list, in 2 ^ rest blocks
-abbrev pub invariant-passes : goal.invariant-passes
-invariant-passes g l =
+abbrev pub invariant-stages : goal.invariant-stages
+invariant-stages g l =
     let number = g.T.RingWord.number in
     let value = g.F.PlanEntry.value in
     let m = g.M.JoinSteps.modulus l.m in
@@ -22,5 +22,5 @@ invariant-passes g l =
           → IsLevel m g z l.b l.blocks l.size (λ k. 2 ^ done * x k) (numbers number l.xs);
     }
 
-abbrev pub decreases-passes : goal.decreases-passes
-decreases-passes g l = l.blocks - 4
+abbrev pub decreases-stages : goal.decreases-stages
+decreases-stages g l = length l.initial.xs - l.size

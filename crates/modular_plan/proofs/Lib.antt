@@ -1,4 +1,0 @@
-pub mod Doublings
-pub mod Entries
-pub mod Shorter
-pub mod Tables
