@@ -117,6 +117,14 @@ pub fn exact_2<T: PathWord>(d: T, inverse: T, limit: T, n: T::Double) -> Option<
 /// m is its own inverse modulo 8, and each step doubles the number of correct bits.
 ///
 /// Source: Dumas, "On Newton-Raphson iteration for multiplicative inverses modulo prime powers".
+///
+/// # Examples
+///
+/// ```
+/// use num_modular::monty::neg_mod_inv::neginv;
+///
+/// assert_eq!(neginv(3u8), 85); // 3 * 85 = 255
+/// ```
 pub fn neginv<T: PathWord>(m: T) -> T
     requires { T.number m % 2 ≡ 1 }
     ensures { IsNegatedInverse T.base (T.number m) (T.number result) }

@@ -7,12 +7,38 @@ use crate::path_word::PathWord;
 use crate::paths;
 
 /// A word.
+///
+/// # Examples
+///
+/// ```
+/// use num_modular::word::w32::Word;
+///
+/// let greatest: Word = 0xffff_ffff;
+/// assert_eq!(greatest, u32::MAX);
+/// ```
 pub type Word = u32;
 
 /// A double word, which holds the product of two words.
+///
+/// # Examples
+///
+/// ```
+/// use num_modular::word::w32::{DoubleWord, Word};
+///
+/// assert_eq!(DoubleWord::BITS, 2 * Word::BITS);
+/// ```
 pub type DoubleWord = u64;
 
 /// The word whose low n bits are ones: 2^n - 1. Condition: n is at most 32.
+///
+/// # Examples
+///
+/// ```
+/// use num_modular::word::w32::ones;
+///
+/// assert_eq!(ones(3), 0b111);
+/// assert_eq!(ones(32), u32::MAX);
+/// ```
 pub fn ones(n: u32) -> Word
     requires { n ≤ 32 }
     ensures { result + 1 ≡ 2 ^ n }
@@ -21,6 +47,14 @@ pub fn ones(n: u32) -> Word
 }
 
 /// The word as a double word of the same number.
+///
+/// # Examples
+///
+/// ```
+/// use num_modular::word::w32::extend;
+///
+/// assert_eq!(extend(4_000_000_000), 4_000_000_000_u64);
+/// ```
 pub fn extend(word: Word) -> DoubleWord
     ensures { result ≡ word }
 {
@@ -28,6 +62,14 @@ pub fn extend(word: Word) -> DoubleWord
 }
 
 /// The low word of a double word: its number modulo 2^32.
+///
+/// # Examples
+///
+/// ```
+/// use num_modular::word::w32::low;
+///
+/// assert_eq!(low(0x0123_4567_89ab_cdef), 0x89ab_cdef);
+/// ```
 pub fn low(dw: DoubleWord) -> Word
     ensures { result ≡ dw % 2 ^ 32 }
 {
@@ -35,6 +77,14 @@ pub fn low(dw: DoubleWord) -> Word
 }
 
 /// The high word of a double word: its number divided by 2^32, rounded down.
+///
+/// # Examples
+///
+/// ```
+/// use num_modular::word::w32::high;
+///
+/// assert_eq!(high(0x0123_4567_89ab_cdef), 0x0123_4567);
+/// ```
 pub fn high(dw: DoubleWord) -> Word
     ensures { result ≡ dw / 2 ^ 32 }
 {
@@ -42,6 +92,14 @@ pub fn high(dw: DoubleWord) -> Word
 }
 
 /// The low and the high word of a double word, in this order.
+///
+/// # Examples
+///
+/// ```
+/// use num_modular::word::w32::split;
+///
+/// assert_eq!(split(0x0123_4567_89ab_cdef), (0x89ab_cdef, 0x0123_4567));
+/// ```
 pub fn split(dw: DoubleWord) -> (Word, Word)
     ensures { IsDivision dw (2 ^ 32) result.1 result.0 }
 {
@@ -49,6 +107,14 @@ pub fn split(dw: DoubleWord) -> (Word, Word)
 }
 
 /// The double word of a low and a high word.
+///
+/// # Examples
+///
+/// ```
+/// use num_modular::word::w32::merge;
+///
+/// assert_eq!(merge(0x89ab_cdef, 0x0123_4567), 0x0123_4567_89ab_cdef);
+/// ```
 pub fn merge(low: Word, high: Word) -> DoubleWord
     ensures { result ≡ low + 2 ^ 32 * high }
 {
@@ -56,6 +122,14 @@ pub fn merge(low: Word, high: Word) -> DoubleWord
 }
 
 /// The whole product of two words.
+///
+/// # Examples
+///
+/// ```
+/// use num_modular::word::w32::wmul;
+///
+/// assert_eq!(wmul(4_000_000_000, 5), 20_000_000_000);
+/// ```
 pub fn wmul(a: Word, b: Word) -> DoubleWord
     ensures { result ≡ a * b }
 {
@@ -63,6 +137,14 @@ pub fn wmul(a: Word, b: Word) -> DoubleWord
 }
 
 /// The whole square of a word.
+///
+/// # Examples
+///
+/// ```
+/// use num_modular::word::w32::wsqr;
+///
+/// assert_eq!(wsqr(1_000_000), 1_000_000_000_000);
+/// ```
 pub fn wsqr(a: Word) -> DoubleWord
     ensures { result ≡ a * a }
 {
@@ -70,6 +152,14 @@ pub fn wsqr(a: Word) -> DoubleWord
 }
 
 /// The remainder of a double word by a word. Condition: the modulus is at least 1.
+///
+/// # Examples
+///
+/// ```
+/// use num_modular::word::w32::nrem;
+///
+/// assert_eq!(nrem(1_000_000_000_000, 97), 50);
+/// ```
 pub fn nrem(n: DoubleWord, d: Word) -> Word
     requires { 1 ≤ d }
     ensures { result ≡ n % d }
