@@ -11,6 +11,16 @@ use modular_word::ring_word::RingWord;
 ///
 /// With `()` nothing is precomputed, and the quotient is that of the machine's division, for words of 8 to 128 bits
 /// but not usize, as in the Rust crate; the divisor must be at least 1.
+///
+/// # Examples
+///
+/// ```
+/// use num_modular::{DivExact, PreModInv};
+///
+/// let seven = PreModInv::<u64>::from(7);
+/// assert_eq!(91u64.div_exact(7, &seven), Some(13));
+/// assert_eq!(91u64.div_exact(7, &()), Some(13));
+/// ```
 pub trait DivExact<Rhs: Numbered, Precompute>: Numbered + Sized {
     /// The type of the quotients.
     type Output: Numbered;
@@ -20,15 +30,46 @@ pub trait DivExact<Rhs: Numbered, Precompute>: Numbered + Sized {
 
     /// The quotient by d; `None` exactly where d doesn't divide the number. Condition: what is
     /// stored fits d.
+    ///
+    /// # Examples
+    ///
+    /// ```
+    /// use num_modular::{DivExact, PreMulInv1by1};
+    ///
+    /// let sixty = PreMulInv1by1::<u32>::new(60);
+    /// assert_eq!(3600u32.div_exact(60, &sixty), Some(60));
+    /// assert_eq!(3601u32.div_exact(60, &sixty), None);
+    /// ```
     fn div_exact(self, d: Rhs, pre: &Precompute) -> Option<Self::Output>
         requires { fits d pre.now }
         ensures { IsExactQuotient Self.Output.whole_number (Self.whole_number self) (Rhs.whole_number d) result };
 }
 
 /// Exact division in place by a divisor, given what was precomputed of it, or `()`.
+///
+/// # Examples
+///
+/// ```
+/// use num_modular::DivExactAssign;
+///
+/// let mut n = 91u64;
+/// assert!(n.div_exact_assign(7, &()));
+/// assert_eq!(n, 13);
+/// ```
 pub trait DivExactAssign<Rhs: Numbered, Precompute>: DivExact<Rhs, Precompute, Output = Self> {
     /// Replaces the number by its quotient by d and returns true. Where d doesn't divide the number, returns false
     /// and leaves it unchanged. Condition: what is stored fits d.
+    ///
+    /// # Examples
+    ///
+    /// ```
+    /// use num_modular::{DivExactAssign, PreModInv};
+    ///
+    /// let seven = PreModInv::<u64>::from(7);
+    /// let mut n = 92u64;
+    /// assert!(!n.div_exact_assign(7, &seven));
+    /// assert_eq!(n, 92);
+    /// ```
     fn div_exact_assign(&mut self, d: Rhs, pre: &Precompute) -> bool
         requires { Self.fits d pre.now }
         ensures exact { IsTrue result → Self.whole_number self.new * Rhs.whole_number d ≡ Self.whole_number self.old }

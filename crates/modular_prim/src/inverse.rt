@@ -137,6 +137,15 @@ fn inverse_below<T: PathWord>(x: T, m: T) -> Option<T>
 /// division is the reduction of an a that isn't below m.
 ///
 /// Source: Kaliski, "The Montgomery inverse and its applications", IEEE Transactions on Computers 44, 1995.
+///
+/// # Examples
+///
+/// ```
+/// use num_modular::prim::by_subtraction::inverse;
+///
+/// assert_eq!(inverse(3u64, 7), Some(5)); // 3 * 5 = 15
+/// assert_eq!(inverse(6u64, 9), None); // 3 divides both
+/// ```
 pub fn inverse_by_subtraction<T: PlainWord>(a: T, m: T) -> Option<T>
     requires { T.number m % 2 ≡ 1 }
     ensures { IsInversion T.number (T.number m) (T.number a) result }

@@ -8,25 +8,69 @@ use modular_word::path_word::PathWord;
 use modular_word::word::{w8, w16, w32, w64, wsize};
 
 /// A machine word with quotients and remainders.
+///
+/// # Examples
+///
+/// ```
+/// use num_modular::PlainWord;
+///
+/// fn gcd<T: PlainWord>(a: T, b: T) -> T {
+///     if b.is_zero_word() { a } else { gcd(b, a.remainder(b)) }
+/// }
+/// assert_eq!((gcd(48u8, 36), gcd(1000u64, 360)), (12, 40));
+/// ```
 pub trait PlainWord: PathWord + Numbered {
     /// The quotient of two words, rounded down. Condition: the divisor is at least 1.
+    ///
+    /// # Examples
+    ///
+    /// ```
+    /// use num_modular::PlainWord;
+    ///
+    /// assert_eq!(100u8.quotient(7), 14);
+    /// ```
     fn quotient(self, d: Self) -> Self
         requires { 1 ≤ Self.number d }
         ensures { Self.number result ≡ Self.number self / Self.number d };
 
     /// The remainder of two words. Condition: the modulus is at least 1.
+    ///
+    /// # Examples
+    ///
+    /// ```
+    /// use num_modular::PlainWord;
+    ///
+    /// assert_eq!(100u8.remainder(7), 2);
+    /// ```
     fn remainder(self, d: Self) -> Self
         requires { 1 ≤ Self.number d }
         ensures value { Self.number result ≡ Self.number self % Self.number d }
         ensures fits { Self.number self < Self.base };
 
     /// The low word of the quotient of a double word by a word, rounded down. Condition: the divisor is at least 1.
+    ///
+    /// # Examples
+    ///
+    /// ```
+    /// use num_modular::PlainWord;
+    ///
+    /// assert_eq!(u8::low_quotient(1000, 7), 142);
+    /// assert_eq!(u8::low_quotient(2000, 7), 29); // 285 - 256
+    /// ```
     fn low_quotient(double: Self::Double, d: Self) -> Self
         requires { 1 ≤ Self.number d }
         ensures value { Self.number result ≡ (Self.double_number double / Self.number d) % Self.base }
         ensures fits { Self.number d < Self.base };
 
     /// The remainder of a double word by a word. Condition: the modulus is at least 1.
+    ///
+    /// # Examples
+    ///
+    /// ```
+    /// use num_modular::PlainWord;
+    ///
+    /// assert_eq!(u8::narrow_remainder(2000, 7), 5);
+    /// ```
     fn narrow_remainder(double: Self::Double, d: Self) -> Self
         requires { 1 ≤ Self.number d }
         ensures value { Self.number result ≡ Self.double_number double % Self.number d }

@@ -143,6 +143,15 @@ fn power_or_zero<T: PlainWord>(base: T, exp: T, m: T) -> T
 }
 
 /// `powm` of words of 32 bits, below m; 0 for m = 0.
+///
+/// # Examples
+///
+/// ```
+/// use num_modular::prim::powm_u32;
+///
+/// assert_eq!(powm_u32(2, 10, 1000), 24); // 1024 modulo 1000
+/// assert_eq!(powm_u32(2, 10, 0), 0);
+/// ```
 pub fn powm_u32(base: u32, exp: u32, m: u32) -> u32
     ensures power { 1 ≤ m → result ≡ base ^ exp % m }
     ensures zero { m ≡ 0 → result ≡ 0 }
@@ -151,6 +160,15 @@ pub fn powm_u32(base: u32, exp: u32, m: u32) -> u32
 }
 
 /// `powm` of words of 64 bits, below m; 0 for m = 0.
+///
+/// # Examples
+///
+/// ```
+/// use num_modular::prim::powm_u64;
+///
+/// assert_eq!(powm_u64(3, 100, 101), 1); // Fermat's little theorem
+/// assert_eq!(powm_u64(3, 100, 0), 0);
+/// ```
 pub fn powm_u64(base: u64, exp: u64, m: u64) -> u64
     ensures power { 1 ≤ m → result ≡ base ^ exp % m }
     ensures zero { m ≡ 0 → result ≡ 0 }

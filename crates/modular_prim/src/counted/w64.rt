@@ -8,6 +8,15 @@ use crate::euclid;
 
 /// The inverse of a modulo m, `None` exactly where there is none, and the number of divisions.
 /// Condition: m is at least 1.
+///
+/// # Examples
+///
+/// ```
+/// use num_modular::prim::counted::w64::invm_counted;
+///
+/// assert_eq!(invm_counted(3, 7), (Some(5), 2)); // 7 by 3, and 3 by 1
+/// assert_eq!(invm_counted(3, 6), (None, 1)); // 6 by 3
+/// ```
 pub fn invm_counted(a: u64, m: u64) -> (Option<u64>, u32)
     requires { 1 ≤ m }
     ensures inverse { IsInversion (λ x. x) m a result.0 }
