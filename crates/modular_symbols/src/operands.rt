@@ -28,11 +28,31 @@ impl<T: UnsignedOperand> UnsignedOperand for &T {
 }
 
 /// A signed or unsigned machine word.
+///
+/// # Examples
+///
+/// ```
+/// use num_modular::SymbolWord;
+///
+/// fn is_positive<T: SymbolWord + PartialEq + Default>(n: T) -> bool {
+///     n != T::default() && !n.sign_and_magnitude().0
+/// }
+/// assert!(is_positive(3u8) && !is_positive(-3i64) && !is_positive(0));
+/// ```
 pub trait SymbolWord: IntegerValued + Copy {
     /// The unsigned word that holds every magnitude, also that of the least number.
     type Magnitude: LowPart;
 
     /// Whether the number is negative, and its magnitude.
+    ///
+    /// # Examples
+    ///
+    /// ```
+    /// use num_modular::SymbolWord;
+    ///
+    /// assert_eq!((-128i8).sign_and_magnitude(), (true, 128));
+    /// assert_eq!(5u64.sign_and_magnitude(), (false, 5));
+    /// ```
     fn sign_and_magnitude(self) -> (bool, Self::Magnitude)
         ensures value { signed result.0 (pos (Self.Magnitude.number result.1)) ≡ Self.integer_value self }
         ensures negative { IsTrue result.0 → 0 < Self.Magnitude.number result.1 };

@@ -86,6 +86,15 @@ fn subtract_and_halve<T: LowPart>(a: T, n: T) -> i8
 /// are equal. The only division is the reduction of a magnitude that isn't below n.
 ///
 /// Source: Shallit and Sorenson, "A binary algorithm for the Jacobi symbol", ACM SIGSAM Bulletin 27, 1993.
+///
+/// # Examples
+///
+/// ```
+/// use num_modular::prim::by_subtraction::jacobi;
+///
+/// assert_eq!(jacobi(false, 2u64, 15), 1);
+/// assert_eq!(jacobi(true, 1u64, 7), -1); // of -1 over 7
+/// ```
 pub fn jacobi_by_subtraction<T: LowPart>(a_minus: bool, a: T, n: T) -> i8
     requires { T.number n % 2 ≡ 1 }
     ensures { result ≡ jacobi (signed a_minus (pos (T.number a))) (T.number n) }

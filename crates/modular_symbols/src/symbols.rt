@@ -21,6 +21,15 @@ use crate::operands::{IntegerValued, SymbolWord};
 /// ```
 pub trait ModularSymbols<Modulus: IntegerValued>: IntegerValued {
     /// The value in `checked_legendre`. Condition: `checked_legendre` is `Some`, as it is for each odd prime n.
+    ///
+    /// # Examples
+    ///
+    /// ```
+    /// use num_modular::ModularSymbols;
+    ///
+    /// assert_eq!(2u8.legendre(&7), 1); // 3 * 3 = 9
+    /// assert_eq!((-1i8).legendre(&7), -1);
+    /// ```
     fn legendre(&self, n: Modulus) -> i8
         requires { IsSome (checked_legendre_of (Self.integer_value self.now) (Modulus.integer_value n)) }
         ensures { Some result ≡ checked_legendre_of (Self.integer_value self.now) (Modulus.integer_value n) }
@@ -36,12 +45,29 @@ pub trait ModularSymbols<Modulus: IntegerValued>: IntegerValued {
     ///
     /// For an odd prime n this is the Legendre symbol, which is the Jacobi symbol. The call doesn't test whether n
     /// is prime.
+    ///
+    /// # Examples
+    ///
+    /// ```
+    /// use num_modular::ModularSymbols;
+    ///
+    /// assert_eq!(2u8.checked_legendre(&7), Some(1)); // 2^3 modulo 7 is 1
+    /// assert_eq!(2u8.checked_legendre(&9), None); // 2^4 modulo 9 is 7
+    /// ```
     fn checked_legendre(&self, n: Modulus) -> Option<i8>
         ensures class { result ≡ checked_legendre_of (Self.integer_value self.now) (Modulus.integer_value n) }
         ensures prime { IsOddPrime (Modulus.integer_value n)
             → result ≡ Some (jacobi (Self.integer_value self.now) (nat_abs (Modulus.integer_value n))) };
 
     /// The value in `checked_jacobi`. Condition: n is odd and above 0.
+    ///
+    /// # Examples
+    ///
+    /// ```
+    /// use num_modular::ModularSymbols;
+    ///
+    /// assert_eq!(7u8.jacobi(&15), -1); // 1 over 3, and -1 over 5
+    /// ```
     fn jacobi(&self, n: Modulus) -> i8
         requires { IsSome (checked_jacobi_of (Self.integer_value self.now) (Modulus.integer_value n)) }
         ensures { Some result ≡ checked_jacobi_of (Self.integer_value self.now) (Modulus.integer_value n) }
@@ -55,6 +81,15 @@ pub trait ModularSymbols<Modulus: IntegerValued>: IntegerValued {
     /// The Jacobi symbol; `None` exactly for an even n and for n below 1.
     ///
     /// Source: Cohen, "A Course in Computational Algebraic Number Theory", algorithm 1.4.10.
+    ///
+    /// # Examples
+    ///
+    /// ```
+    /// use num_modular::ModularSymbols;
+    ///
+    /// assert_eq!(7u8.checked_jacobi(&15), Some(-1));
+    /// assert_eq!(7u8.checked_jacobi(&16), None);
+    /// ```
     fn checked_jacobi(&self, n: Modulus) -> Option<i8>
         ensures { result ≡ checked_jacobi_of (Self.integer_value self.now) (Modulus.integer_value n) };
 
@@ -64,6 +99,16 @@ pub trait ModularSymbols<Modulus: IntegerValued>: IntegerValued {
     /// modulo 8, else -1. Over 0 it is 1 for 1 and -1, and else 0.
     ///
     /// Source: Cohen, "A Course in Computational Algebraic Number Theory", definition 1.4.8.
+    ///
+    /// # Examples
+    ///
+    /// ```
+    /// use num_modular::ModularSymbols;
+    ///
+    /// assert_eq!(3i8.kronecker(&2), -1);
+    /// assert_eq!((-1i8).kronecker(&-1), -1);
+    /// assert_eq!(7i8.kronecker(&0), 0);
+    /// ```
     fn kronecker(&self, n: Modulus) -> i8
         ensures { result ≡ kronecker (Self.integer_value self.now) (Modulus.integer_value n) };
 }

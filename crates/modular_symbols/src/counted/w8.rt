@@ -6,6 +6,15 @@ ghost use Rattle.modular_symbols.specs.Steps.{jacobi_steps};
 
 /// The Jacobi symbol of a over n and the number of halvings and swaps, counted from the residue of a; `None`
 /// exactly for an even n.
+///
+/// # Examples
+///
+/// ```
+/// use num_modular::prim::counted::w8::checked_jacobi_counted;
+///
+/// assert_eq!(checked_jacobi_counted(2, 15), Some((1, 2))); // 2 is halved, 15 reduced modulo 1
+/// assert_eq!(checked_jacobi_counted(2, 14), None);
+/// ```
 pub fn checked_jacobi_counted(a: u8, n: u8) -> Option<(i8, u32)>
     ensures symbol { option_map (λ found. found.0) result ≡ checked_jacobi_of (pos a) (pos n) }
     ensures count { IfSome result (λ found. found.1 ≡ jacobi_steps (a % n) n) }
