@@ -11,6 +11,17 @@ use std::ops::{Add, Mul, Neg, Sub};
 ///
 /// Integers of equal modulus may be added, subtracted and multiplied, and each may be negated. The laws below say
 /// what the operators and `==` return.
+///
+/// # Examples
+///
+/// ```
+/// use num_modular::{ModularInteger, MontgomeryInt};
+///
+/// fn cube<I: ModularInteger + Copy>(x: I) -> I {
+///     x.square() * x
+/// }
+/// assert_eq!(cube(MontgomeryInt::<u64>::new(10, &97)).residue(), 30); // 1000 modulo 97
+/// ```
 pub trait ModularInteger: PartialEq
     + Add<Self, Output = Self>
     + Sub<Self, Output = Self>
@@ -26,28 +37,79 @@ pub trait ModularInteger: PartialEq
     ghost residue_number: { Self → ℕ };
 
     /// The modulus m.
+    ///
+    /// # Examples
+    ///
+    /// ```
+    /// use num_modular::{ModularInteger, MontgomeryInt};
+    ///
+    /// assert_eq!(MontgomeryInt::<u64>::new(10, &97).modulus(), 97);
+    /// ```
     fn modulus(&self) -> Self::Base
         ensures { Self.Base.number result ≡ modulus_number self.now };
 
     /// The residue, below m.
+    ///
+    /// # Examples
+    ///
+    /// ```
+    /// use num_modular::{ModularInteger, MontgomeryInt};
+    ///
+    /// assert_eq!(MontgomeryInt::<u64>::new(100, &97).residue(), 3);
+    /// ```
     fn residue(&self) -> Self::Base
         ensures { Self.Base.number result ≡ residue_number self.now };
 
     /// Whether the residue is 0.
+    ///
+    /// # Examples
+    ///
+    /// ```
+    /// use num_modular::{ModularInteger, MontgomeryInt};
+    ///
+    /// assert!(MontgomeryInt::<u64>::new(194, &97).is_zero()); // 2 * 97
+    /// assert!(!MontgomeryInt::<u64>::new(195, &97).is_zero());
+    /// ```
     fn is_zero(&self) -> bool
         ensures { IsTrue result ↔ (residue_number self.now ≡ 0) };
 
     /// The integer n mod m, with the modulus of `self`.
+    ///
+    /// # Examples
+    ///
+    /// ```
+    /// use num_modular::{ModularInteger, MontgomeryInt};
+    ///
+    /// let x = MontgomeryInt::<u64>::new(10, &97);
+    /// let y = x.convert(100);
+    /// assert_eq!((y.residue(), y.modulus()), (3, 97));
+    /// ```
     fn convert(&self, n: Self::Base) -> Self
         ensures { let m = modulus_number self.now in
             IsInteger modulus_number residue_number m (Self.Base.number n % m) result };
 
     /// Twice the integer.
+    ///
+    /// # Examples
+    ///
+    /// ```
+    /// use num_modular::{ModularInteger, MontgomeryInt};
+    ///
+    /// assert_eq!(MontgomeryInt::<u64>::new(50, &97).double().residue(), 3);
+    /// ```
     fn double(self) -> Self
         ensures { let m = modulus_number self in
             IsInteger modulus_number residue_number m ((2 * residue_number self) % m) result };
 
     /// The integer times itself.
+    ///
+    /// # Examples
+    ///
+    /// ```
+    /// use num_modular::{ModularInteger, MontgomeryInt};
+    ///
+    /// assert_eq!(MontgomeryInt::<u64>::new(10, &97).square().residue(), 3);
+    /// ```
     fn square(self) -> Self
         ensures { let m = modulus_number self in
             IsInteger modulus_number residue_number m ((residue_number self * residue_number self) % m) result };

@@ -39,6 +39,17 @@ fn binary_power<T: RingWord, R: Reducer<T>>(reducer: &R, base: T, exp: T) -> (T,
 ///
 /// Source: Knuth, The Art of Computer Programming, volume 2, section 4.6.3, algorithm A, with a square at the last
 /// digit too.
+///
+/// # Examples
+///
+/// ```
+/// use num_modular::reduced::pow_counted;
+/// use num_modular::{Reducer, Vanilla};
+///
+/// let ring = Vanilla::<u64>::new(&97);
+/// // 3^5 = 243 = 2 * 97 + 49; 5 has three binary digits, two of which are 1
+/// assert_eq!(pow_counted(&ring, 3, &5), (49, 3 + 2));
+/// ```
 pub fn pow_counted<T: RingWord, R: Reducer<T>>(reducer: &R, base: T, exp: &T) -> (T, u32)
     requires { IsForm R.form R.value (R.modulus reducer.now) (T.number base) }
     ensures power { let m = R.modulus reducer.now in

@@ -50,6 +50,15 @@ pub struct ReducedInt<T: RingWord, R: Reducer<T>> {
 }
 
 /// Integers modulo m by plain reduction: the form of a residue is the residue.
+///
+/// # Examples
+///
+/// ```
+/// use num_modular::{ModularInteger, VanillaInt};
+///
+/// let x = VanillaInt::<u8>::new(10, &21);
+/// assert_eq!((x * x).residue(), 16); // 100 modulo 21
+/// ```
 pub type VanillaInt<T> = ReducedInt<T, Vanilla<T>>;
 
 impl<T: RingWord, R: Reducer<T> + Copy> Copy for ReducedInt<T, R> {}

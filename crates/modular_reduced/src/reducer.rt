@@ -37,36 +37,105 @@ pub trait Reducer<T: RingWord> {
     ghost modulus: { Self → ℕ };
 
     /// The reducer of a modulus. Condition: the reducer admits the modulus.
+    ///
+    /// # Examples
+    ///
+    /// ```
+    /// use num_modular::{Reducer, Vanilla};
+    ///
+    /// fn product<R: Reducer<u64>>(x: u64, y: u64, m: u64) -> u64 {
+    ///     let ring = R::new(&m);
+    ///     ring.residue(ring.mul(&ring.transform(x), &ring.transform(y)))
+    /// }
+    /// assert_eq!(product::<Vanilla<u64>>(1000, 3, 97), 90); // 3000 modulo 97
+    /// ```
     fn new(m: &T) -> Self
         requires { admits (T.number m.now) }
         ensures { modulus result ≡ T.number m.now };
 
     /// The form of n mod m, for every word n.
+    ///
+    /// # Examples
+    ///
+    /// ```
+    /// use num_modular::{FixedMontgomery32, Reducer};
+    ///
+    /// let ring = FixedMontgomery32::<97>::RING;
+    /// assert_eq!(ring.transform(1) as u64, (1 << 32) % 97);
+    /// assert_eq!(ring.transform(98), ring.transform(1));
+    /// ```
     fn transform(&self, n: T) -> T
         ensures form { Represents form (modulus self.now) (T.number result) (T.number n % modulus self.now) }
         ensures checked { IsForm form value (modulus self.now) (T.number result) }
         ensures value { value (modulus self.now) (T.number result) ≡ T.number n % modulus self.now };
 
     /// Whether a word is a checked form.
+    ///
+    /// # Examples
+    ///
+    /// ```
+    /// use num_modular::{Reducer, Vanilla};
+    ///
+    /// let ring = Vanilla::<u64>::new(&97);
+    /// assert!(ring.check(&96));
+    /// assert!(!ring.check(&97));
+    /// ```
     fn check(&self, f: &T) -> bool
         ensures { IsTrue result ↔ IsForm form value (modulus self.now) (T.number f.now) };
 
     /// The modulus.
+    ///
+    /// # Examples
+    ///
+    /// ```
+    /// use num_modular::{FixedMersenne64, Reducer};
+    ///
+    /// assert_eq!(FixedMersenne64::<61, 1>::RING.modulus(), (1 << 61) - 1);
+    /// ```
     fn modulus(&self) -> T
         ensures { T.number result ≡ modulus self.now };
 
     /// The value of a form: a number below the modulus.
+    ///
+    /// # Examples
+    ///
+    /// ```
+    /// use num_modular::{Montgomery, Reducer};
+    ///
+    /// let ring = Montgomery::<u64>::new(97);
+    /// assert_eq!(ring.residue(ring.transform(100)), 3);
+    /// ```
     fn residue(&self, f: T) -> T
         requires { IsForm form value (modulus self.now) (T.number f) }
         ensures form { Represents form (modulus self.now) (T.number f) (T.number result) }
         ensures value { T.number result ≡ value (modulus self.now) (T.number f) };
 
     /// Whether the value of a form is 0.
+    ///
+    /// # Examples
+    ///
+    /// ```
+    /// use num_modular::{Montgomery, Reducer};
+    ///
+    /// let ring = Montgomery::<u64>::new(97);
+    /// assert!(ring.is_zero(&ring.transform(194))); // 2 * 97
+    /// assert!(!ring.is_zero(&ring.transform(195)));
+    /// ```
     fn is_zero(&self, f: &T) -> bool
         requires { IsForm form value (modulus self.now) (T.number f.now) }
         ensures { IsTrue result ↔ (value (modulus self.now) (T.number f.now) ≡ 0) };
 
     /// The form of the sum modulo m.
+    ///
+    /// # Examples
+    ///
+    /// ```
+    /// use num_modular::{Montgomery, Reducer};
+    ///
+    /// let ring = Montgomery::<u64>::new(97);
+    /// let (x, y) = (ring.transform(60), ring.transform(50));
+    /// assert_eq!(ring.residue(ring.add(&x, &y)), 13); // 110 - 97
+    /// ```
     fn add(&self, a: &T, b: &T) -> T
         requires left { IsForm form value (modulus self.now) (T.number a.now) }
         requires right { IsForm form value (modulus self.now) (T.number b.now) }
@@ -77,6 +146,17 @@ pub trait Reducer<T: RingWord> {
             value m (T.number result) ≡ (value m (T.number a.now) + value m (T.number b.now)) % m };
 
     /// `add`, in place of the first operand.
+    ///
+    /// # Examples
+    ///
+    /// ```
+    /// use num_modular::{Reducer, Vanilla};
+    ///
+    /// let ring = Vanilla::<u64>::new(&97);
+    /// let mut sum = 60;
+    /// ring.add_in_place(&mut sum, &50);
+    /// assert_eq!(sum, 13);
+    /// ```
     fn add_in_place(&self, a: &mut T, b: &T)
         requires left { IsForm form value (modulus self.now) (T.number a.old) }
         requires right { IsForm form value (modulus self.now) (T.number b.now) }
@@ -90,6 +170,15 @@ pub trait Reducer<T: RingWord> {
     }
 
     /// The form of the double modulo m.
+    ///
+    /// # Examples
+    ///
+    /// ```
+    /// use num_modular::{Montgomery, Reducer};
+    ///
+    /// let ring = Montgomery::<u64>::new(97);
+    /// assert_eq!(ring.residue(ring.dbl(ring.transform(60))), 23); // 120 - 97
+    /// ```
     fn dbl(&self, f: T) -> T
         requires { IsForm form value (modulus self.now) (T.number f) }
         ensures form { let m = modulus self.now in
@@ -99,6 +188,16 @@ pub trait Reducer<T: RingWord> {
             value m (T.number result) ≡ (2 * value m (T.number f)) % m };
 
     /// The form of the difference modulo m.
+    ///
+    /// # Examples
+    ///
+    /// ```
+    /// use num_modular::{Montgomery, Reducer};
+    ///
+    /// let ring = Montgomery::<u64>::new(97);
+    /// let (x, y) = (ring.transform(50), ring.transform(60));
+    /// assert_eq!(ring.residue(ring.sub(&x, &y)), 87); // -10 + 97
+    /// ```
     fn sub(&self, a: &T, b: &T) -> T
         requires left { IsForm form value (modulus self.now) (T.number a.now) }
         requires right { IsForm form value (modulus self.now) (T.number b.now) }
@@ -110,6 +209,17 @@ pub trait Reducer<T: RingWord> {
             value m (T.number result) ≡ residue m (pos (value m (T.number a.now)) -ℤ pos (value m (T.number b.now))) };
 
     /// `sub`, in place of the first operand.
+    ///
+    /// # Examples
+    ///
+    /// ```
+    /// use num_modular::{Reducer, Vanilla};
+    ///
+    /// let ring = Vanilla::<u64>::new(&97);
+    /// let mut difference = 50;
+    /// ring.sub_in_place(&mut difference, &60);
+    /// assert_eq!(difference, 87);
+    /// ```
     fn sub_in_place(&self, a: &mut T, b: &T)
         requires left { IsForm form value (modulus self.now) (T.number a.old) }
         requires right { IsForm form value (modulus self.now) (T.number b.now) }
@@ -124,6 +234,15 @@ pub trait Reducer<T: RingWord> {
     }
 
     /// The form of the negative modulo m.
+    ///
+    /// # Examples
+    ///
+    /// ```
+    /// use num_modular::{Montgomery, Reducer};
+    ///
+    /// let ring = Montgomery::<u64>::new(97);
+    /// assert_eq!(ring.residue(ring.neg(ring.transform(10))), 87);
+    /// ```
     fn neg(&self, f: T) -> T
         requires { IsForm form value (modulus self.now) (T.number f) }
         ensures form { let m = modulus self.now in
@@ -133,6 +252,16 @@ pub trait Reducer<T: RingWord> {
             value m (T.number result) ≡ residue m (neg_ℤ (pos (value m (T.number f)))) };
 
     /// The form of the product modulo m.
+    ///
+    /// # Examples
+    ///
+    /// ```
+    /// use num_modular::{Montgomery, Reducer};
+    ///
+    /// let ring = Montgomery::<u64>::new(97);
+    /// let (x, y) = (ring.transform(20), ring.transform(10));
+    /// assert_eq!(ring.residue(ring.mul(&x, &y)), 6); // 200 - 2 * 97
+    /// ```
     fn mul(&self, a: &T, b: &T) -> T
         requires left { IsForm form value (modulus self.now) (T.number a.now) }
         requires right { IsForm form value (modulus self.now) (T.number b.now) }
@@ -143,6 +272,17 @@ pub trait Reducer<T: RingWord> {
             value m (T.number result) ≡ (value m (T.number a.now) * value m (T.number b.now)) % m };
 
     /// `mul`, in place of the first operand.
+    ///
+    /// # Examples
+    ///
+    /// ```
+    /// use num_modular::{Reducer, Vanilla};
+    ///
+    /// let ring = Vanilla::<u64>::new(&97);
+    /// let mut product = 20;
+    /// ring.mul_in_place(&mut product, &10);
+    /// assert_eq!(product, 6);
+    /// ```
     fn mul_in_place(&self, a: &mut T, b: &T)
         requires left { IsForm form value (modulus self.now) (T.number a.old) }
         requires right { IsForm form value (modulus self.now) (T.number b.now) }
@@ -159,6 +299,16 @@ pub trait Reducer<T: RingWord> {
     ///
     /// A reducer may override it with a faster body for callers in which the comparison of a and b mispredicts, as
     /// in the butterflies of a transform.
+    ///
+    /// # Examples
+    ///
+    /// ```
+    /// use num_modular::{Montgomery, Reducer};
+    ///
+    /// let ring = Montgomery::<u64>::new(97);
+    /// let [x, y, factor] = [50, 60, 3].map(|n| ring.transform(n));
+    /// assert_eq!(ring.residue(ring.mul_difference(&x, &y, &factor)), 67); // -30 + 97
+    /// ```
     fn mul_difference(&self, a: &T, b: &T, factor: &T) -> T
         requires left { IsForm form value (modulus self.now) (T.number a.now) }
         requires right { IsForm form value (modulus self.now) (T.number b.now) }
@@ -178,6 +328,16 @@ pub trait Reducer<T: RingWord> {
     }
 
     /// The form of the inverse modulo m; `None` exactly where there is none.
+    ///
+    /// # Examples
+    ///
+    /// ```
+    /// use num_modular::{Montgomery, Reducer};
+    ///
+    /// let ring = Montgomery::<u64>::new(10);
+    /// assert_eq!(ring.inv(ring.transform(3)).map(|f| ring.residue(f)), Some(7)); // 3 * 7 = 21
+    /// assert_eq!(ring.inv(ring.transform(4)), None);
+    /// ```
     fn inv(&self, f: T) -> Option<T>
         requires { IsForm form value (modulus self.now) (T.number f) }
         ensures form { let m = modulus self.now in IsInverseForm T.number form m (value m (T.number f)) result }
@@ -186,6 +346,15 @@ pub trait Reducer<T: RingWord> {
             IsInversion (λ x. value m (T.number x)) m (value m (T.number f)) result };
 
     /// The form of the square modulo m.
+    ///
+    /// # Examples
+    ///
+    /// ```
+    /// use num_modular::{Montgomery, Reducer};
+    ///
+    /// let ring = Montgomery::<u64>::new(97);
+    /// assert_eq!(ring.residue(ring.sqr(ring.transform(10))), 3);
+    /// ```
     fn sqr(&self, f: T) -> T
         requires { IsForm form value (modulus self.now) (T.number f) }
         ensures form { let m = modulus self.now in
@@ -195,6 +364,15 @@ pub trait Reducer<T: RingWord> {
             value m (T.number result) ≡ (value m (T.number f) * value m (T.number f)) % m };
 
     /// The form of the power to the exponent `exp` modulo m; that of 1 for the exponent 0.
+    ///
+    /// # Examples
+    ///
+    /// ```
+    /// use num_modular::{Montgomery, Reducer};
+    ///
+    /// let ring = Montgomery::<u64>::new(1000);
+    /// assert_eq!(ring.residue(ring.pow(ring.transform(2), &10)), 24); // 1024 modulo 1000
+    /// ```
     final fn pow(&self, f: T, exp: &T) -> T
         requires { IsForm form value (modulus self.now) (T.number f) }
         ensures form { let m = modulus self.now in

@@ -15,6 +15,16 @@ use std::alloc::AllocError;
 /// word. An inverse is computed by subtraction for an odd modulus, by Euclid's algorithm for an even one.
 ///
 /// Source: Handbook of Applied Cryptography, section 14.3.1.
+///
+/// # Examples
+///
+/// ```
+/// use num_modular::{Reducer, Vanilla};
+///
+/// let ring = Vanilla::<u32>::new(&100);
+/// assert_eq!(ring.mul(&12, &34), 8); // 408 modulo 100
+/// assert_eq!(ring.inv(3), Some(67)); // 3 * 67 = 201
+/// ```
 #[derive(Debug)]
 pub struct Vanilla<T: PlainWord> {
     modulus: T,

@@ -10,6 +10,14 @@ use modular_word::ring_word::RingWord;
 
 impl<T: RingWord, R: Reducer<T> + Copy> ReducedInt<T, R> {
     /// The integer n mod m. Condition: the reducer admits m.
+    ///
+    /// # Examples
+    ///
+    /// ```
+    /// use num_modular::{ModularInteger, VanillaInt};
+    ///
+    /// assert_eq!(VanillaInt::<u8>::new(200, &7).residue(), 4);
+    /// ```
     pub fn new(n: T, m: &T) -> Self
         requires { R.admits (T.number m.now) }
         ensures { IsReduced (T.number m.now) (T.number n % T.number m.now) result }
@@ -20,6 +28,15 @@ impl<T: RingWord, R: Reducer<T> + Copy> ReducedInt<T, R> {
     }
 
     /// The form of the residue.
+    ///
+    /// # Examples
+    ///
+    /// ```
+    /// use num_modular::FixedMontgomeryInt32;
+    ///
+    /// let x = FixedMontgomeryInt32::<97>::new(1, &97);
+    /// assert_eq!(*x.repr() as u64, (1 << 32) % 97); // the Montgomery form of 1
+    /// ```
     pub fn repr(&self) -> &T
         ensures word { T.number result.now ≡ form_of self.now }
         ensures form { T.number result.now ≡ R.form (modulus_of self.now) (residue_of self.now) }
@@ -28,6 +45,16 @@ impl<T: RingWord, R: Reducer<T> + Copy> ReducedInt<T, R> {
     }
 
     /// The inverse modulo m; `None` exactly where there is none.
+    ///
+    /// # Examples
+    ///
+    /// ```
+    /// use num_modular::{ModularInteger, VanillaInt};
+    ///
+    /// let x = VanillaInt::<u64>::new(3, &10);
+    /// assert_eq!(x.inv().map(|y| y.residue()), Some(7)); // 3 * 7 = 21
+    /// assert!(x.convert(4).inv().is_none());
+    /// ```
     pub fn inv(self) -> Option<Self>
         ensures { let m = modulus_of self in
             MatchOption result ((x : ℕ) → IsInverse m (residue_of self) x → ⊥)
@@ -41,6 +68,15 @@ impl<T: RingWord, R: Reducer<T> + Copy> ReducedInt<T, R> {
     }
 
     /// The power to the exponent `exp`; 1 mod m for the exponent 0. `pow_counted` says how many products it takes.
+    ///
+    /// # Examples
+    ///
+    /// ```
+    /// use num_modular::{ModularInteger, VanillaInt};
+    ///
+    /// let x = VanillaInt::<u64>::new(2, &1000);
+    /// assert_eq!(x.pow(&10).residue(), 24); // 1024 modulo 1000
+    /// ```
     pub fn pow(self, exp: &T) -> Self
         ensures { let m = modulus_of self in IsReduced m (residue_of self ^ T.number exp.now % m) result }
     {
