@@ -20,6 +20,15 @@ pub trait StoredDivisor {
 /// A divisor d whose top bit is set, and its reciprocal v: with B the base, (v + B)·d is B² - k for a k from 1 to d.
 ///
 /// Source: Möller and Granlund, "Improved division by invariant integers".
+///
+/// # Examples
+///
+/// ```
+/// use num_modular::Normalized2by1Divisor;
+///
+/// let divisor = Normalized2by1Divisor::<u8>::new(200);
+/// assert_eq!(divisor.div_rem_2by1(1234), (6, 34)); // 6 * 200 + 34
+/// ```
 #[derive(Debug, PartialEq, Eq)]
 pub struct Normalized2by1Divisor<T: PathWord> {
     divisor: T,
@@ -45,6 +54,14 @@ impl<T: PathWord> StoredDivisor for Normalized2by1Divisor<T> {
 
 impl<T: PathWord> Normalized2by1Divisor<T> {
     /// The divisor.
+    ///
+    /// # Examples
+    ///
+    /// ```
+    /// use num_modular::Normalized2by1Divisor;
+    ///
+    /// assert_eq!(Normalized2by1Divisor::<u8>::new(200).divisor(), 200);
+    /// ```
     pub const fn divisor(&self) -> T
         ensures { T.number result ≡ ⟦<Normalized2by1Divisor<T> as StoredDivisor>⟧.divisor self.now }
     {
@@ -52,6 +69,16 @@ impl<T: PathWord> Normalized2by1Divisor<T> {
     }
 
     /// Quotient and remainder of a word. The quotient is 0 or 1, because the divisor's top bit is set.
+    ///
+    /// # Examples
+    ///
+    /// ```
+    /// use num_modular::Normalized2by1Divisor;
+    ///
+    /// let divisor = Normalized2by1Divisor::<u8>::new(200);
+    /// assert_eq!(divisor.div_rem_1by1(234), (1, 34));
+    /// assert_eq!(divisor.div_rem_1by1(34), (0, 34));
+    /// ```
     pub fn div_rem_1by1(&self, a: T) -> (T, T)
         ensures { let d = ⟦<Normalized2by1Divisor<T> as StoredDivisor>⟧.divisor self.now in
             IsDivision (T.number a) d (T.number result.0) (T.number result.1) }
@@ -64,6 +91,15 @@ impl<T: PathWord> Normalized2by1Divisor<T> {
     }
 
     /// Quotient and remainder of a double word. Condition: the dividend's high word is below the divisor.
+    ///
+    /// # Examples
+    ///
+    /// ```
+    /// use num_modular::Normalized2by1Divisor;
+    ///
+    /// let divisor = Normalized2by1Divisor::<u32>::new(4_000_000_000);
+    /// assert_eq!(divisor.div_rem_2by1(12_000_000_005), (3, 5));
+    /// ```
     pub fn div_rem_2by1(&self, a: T::Double) -> (T, T)
         requires { T.double_number a < ⟦<Normalized2by1Divisor<T> as StoredDivisor>⟧.divisor self.now * T.base }
         ensures { let d = ⟦<Normalized2by1Divisor<T> as StoredDivisor>⟧.divisor self.now in
@@ -76,6 +112,15 @@ impl<T: PathWord> Normalized2by1Divisor<T> {
 
 impl<T: PlainWord> Normalized2by1Divisor<T> {
     /// The reciprocal of a divisor. Condition: the divisor's top bit is set.
+    ///
+    /// # Examples
+    ///
+    /// ```
+    /// use num_modular::Normalized2by1Divisor;
+    ///
+    /// // (71 + 256) * 200 = 65400, which is 65536 less 136
+    /// assert_eq!(Normalized2by1Divisor::<u8>::invert_word(200), 71);
+    /// ```
     pub fn invert_word(d: T) -> T
         requires { T.base ≤ 2 * T.number d }
         ensures { IsReciprocal T.base (T.number d) (T.number result) }
@@ -84,6 +129,17 @@ impl<T: PlainWord> Normalized2by1Divisor<T> {
     }
 
     /// A divisor with its reciprocal. Condition: the divisor's top bit is set.
+    ///
+    /// # Examples
+    ///
+    /// ```
+    /// use num_modular::{Normalized2by1Divisor, PlainWord};
+    ///
+    /// fn last_digits<T: PlainWord>(divisor: T, n: T) -> T {
+    ///     Normalized2by1Divisor::of(divisor).div_rem_1by1(n).1
+    /// }
+    /// assert_eq!(last_digits(200u8, 234), 34);
+    /// ```
     pub fn new(d: T) -> Self
         requires { T.base ≤ 2 * T.number d }
         ensures { ⟦<Normalized2by1Divisor<T> as StoredDivisor>⟧.divisor result ≡ T.number d }

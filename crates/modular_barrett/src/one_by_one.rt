@@ -52,6 +52,15 @@ impl<T: PathWord> PreMulInv1by1<T> {
     ///
     /// Source: Granlund and Montgomery, "Division by invariant integers using multiplication", figure
     /// 4.1.
+    ///
+    /// # Examples
+    ///
+    /// ```
+    /// use num_modular::PreMulInv1by1;
+    ///
+    /// let seven = PreMulInv1by1::<u8>::new(7);
+    /// assert_eq!(seven.div_rem(100, 7), (14, 2));
+    /// ```
     pub fn div_rem(&self, a: T, d: T) -> (T, T)
         requires { ⟦<PreMulInv1by1<T> as FitsDivisor>⟧.fits self.now (T.number d) }
         ensures { IsDivision (T.number a) (T.number d) (T.number result.0) (T.number result.1) }
@@ -66,6 +75,20 @@ impl<T: PlainWord> PreMulInv1by1<T> {
     /// is above 1.
     ///
     /// Source: Granlund and Montgomery, "Division by invariant integers using multiplication", section 4.
+    ///
+    /// # Examples
+    ///
+    /// ```
+    /// use num_modular::{PlainWord, PreMulInv1by1};
+    ///
+    /// fn remainder_each<T: PlainWord>(numbers: &mut [T], d: T) {
+    ///     let divider = PreMulInv1by1::of(d);
+    ///     numbers.iter_mut().for_each(|n| *n = divider.div_rem(*n, d).1);
+    /// }
+    /// let mut numbers = [7u32, 100, 1000];
+    /// remainder_each(&mut numbers, 7);
+    /// assert_eq!(numbers, [0, 2, 6]);
+    /// ```
     pub fn new(d: T) -> Self
         requires { 1 < T.number d }
         ensures { ⟦<PreMulInv1by1<T> as FitsDivisor>⟧.fits result (T.number d) }

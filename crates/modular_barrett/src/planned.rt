@@ -16,6 +16,15 @@ use std::alloc::AllocError;
 /// A factor w below a modulus m, and its quotient w·B/m, rounded down, with B the base.
 ///
 /// Source: Harvey, "Faster arithmetic for number-theoretic transforms", section 3, after Shoup.
+///
+/// # Examples
+///
+/// ```
+/// use num_modular::plans::PlannedModulus;
+///
+/// let factor = PlannedModulus::<u8>::new(17).factor(3);
+/// assert_eq!((factor.value(), factor.quotient()), (3, 45)); // 3 * 256 = 45 * 17 + 3
+/// ```
 #[derive(Debug, PartialEq, Eq)]
 pub struct Factor<T: PathWord> {
     /// The factor.
@@ -38,6 +47,16 @@ impl<T: PathWord> Copy for Factor<T> {}
 
 impl<T: PathWord> Factor<T> {
     /// Whether the factor is 1.
+    ///
+    /// # Examples
+    ///
+    /// ```
+    /// use num_modular::plans::PlannedModulus;
+    ///
+    /// let modulus = PlannedModulus::<u64>::new(97);
+    /// assert!(modulus.factor(1).is_one());
+    /// assert!(!modulus.factor(2).is_one());
+    /// ```
     pub fn is_one(&self) -> bool
         ensures { IsTrue result ↔ (T.number self.now.value ≡ 1) }
     {
@@ -86,6 +105,15 @@ impl<T: PathWord> Copy for PlannedModulus<T> {}
 
 impl<T: PlainWord> PlannedModulus<T> {
     /// Whether m can be the modulus of a plan: it is at least 1, and 4m is at most the base.
+    ///
+    /// # Examples
+    ///
+    /// ```
+    /// use num_modular::plans::PlannedModulus;
+    ///
+    /// assert!(PlannedModulus::<u8>::admits(64)); // 256 / 4
+    /// assert!(!PlannedModulus::<u8>::admits(65));
+    /// ```
     pub fn admits(m: T) -> bool
         ensures { IsTrue result ↔ ((1 ≤ T.number m) × (4 * T.number m ≤ T.base)) }
     {
@@ -99,6 +127,15 @@ impl<T: PlainWord> PlannedModulus<T> {
 
     /// The modulus with its reciprocal. Condition: the modulus is at least 1 and at most 2^w/4, for words of w bits
     /// (`admits` tells).
+    ///
+    /// # Examples
+    ///
+    /// ```
+    /// use num_modular::plans::PlannedModulus;
+    ///
+    /// let modulus = PlannedModulus::<u64>::new(97);
+    /// assert_eq!(modulus.multiply(10, 20), 6); // 200 - 2 * 97
+    /// ```
     pub fn new(m: T) -> Self
         requires some { 1 ≤ T.number m }
         requires room { 4 * T.number m ≤ T.base }
@@ -115,6 +152,16 @@ impl<T: PlainWord> PlannedModulus<T> {
     }
 
     /// The factor w with its quotient, which is computed by the reciprocal. Condition: w is below m.
+    ///
+    /// # Examples
+    ///
+    /// ```
+    /// use num_modular::plans::PlannedModulus;
+    ///
+    /// let modulus = PlannedModulus::<u64>::new(97);
+    /// let ten = modulus.factor(10);
+    /// assert_eq!(modulus.product(1000, &ten), 9); // 10000 = 103 * 97 + 9
+    /// ```
     pub fn factor(&self, w: T) -> Factor<T>
         requires { T.number w < T.number self.now.modulus }
         ensures value { T.number result.value ≡ T.number w }
@@ -129,6 +176,15 @@ impl<T: PlainWord> PlannedModulus<T> {
 
     /// The residue of a factor times the base, below m, computed from its quotient. Condition: the factor is a
     /// residue modulo m.
+    ///
+    /// # Examples
+    ///
+    /// ```
+    /// use num_modular::plans::PlannedModulus;
+    ///
+    /// let modulus = PlannedModulus::<u8>::new(13);
+    /// assert_eq!(modulus.times_base(&modulus.factor(5)), 6); // 5 * 256 = 98 * 13 + 6
+    /// ```
     pub fn times_base(&self, w: &Factor<T>) -> T
         requires { IsFactorOf T.base T.number (T.number self.now.modulus) w.now }
         ensures { T.number result ≡ (T.number w.now.value * T.base) % T.number self.now.modulus }
@@ -142,6 +198,16 @@ impl<T: PlainWord> PlannedModulus<T> {
     /// It takes the high word of one product and the low words of two.
     ///
     /// Source: Harvey, "Faster arithmetic for number-theoretic transforms", section 3.
+    ///
+    /// # Examples
+    ///
+    /// ```
+    /// use num_modular::plans::PlannedModulus;
+    ///
+    /// let modulus = PlannedModulus::<u8>::new(13);
+    /// let product = modulus.times(200, &modulus.factor(5));
+    /// assert!(product == 12 || product == 12 + 13); // 1000 = 76 * 13 + 12
+    /// ```
     pub fn times(&self, x: T, w: &Factor<T>) -> T
         requires { IsFactorOf T.base T.number (T.number self.now.modulus) w.now }
         ensures below { T.number result < 2 * T.number self.now.modulus }
@@ -154,6 +220,15 @@ impl<T: PlainWord> PlannedModulus<T> {
     }
 
     /// The residue of the product of any word x with a factor, below m. Condition: the factor is a residue modulo m.
+    ///
+    /// # Examples
+    ///
+    /// ```
+    /// use num_modular::plans::PlannedModulus;
+    ///
+    /// let modulus = PlannedModulus::<u8>::new(13);
+    /// assert_eq!(modulus.product(200, &modulus.factor(5)), 12);
+    /// ```
     pub fn product(&self, x: T, w: &Factor<T>) -> T
         requires { IsFactorOf T.base T.number (T.number self.now.modulus) w.now }
         ensures { T.number result ≡ (T.number x * T.number w.now.value) % T.number self.now.modulus }
@@ -163,6 +238,15 @@ impl<T: PlainWord> PlannedModulus<T> {
 
     /// The residue of the product of a word x with any word y, below m, computed by the reciprocal. Condition: x is
     /// below m.
+    ///
+    /// # Examples
+    ///
+    /// ```
+    /// use num_modular::plans::PlannedModulus;
+    ///
+    /// let modulus = PlannedModulus::<u8>::new(13);
+    /// assert_eq!(modulus.multiply(5, 200), 12); // 1000 = 76 * 13 + 12
+    /// ```
     pub fn multiply(&self, x: T, y: T) -> T
         requires { T.number x < T.number self.now.modulus }
         ensures { T.number result ≡ (T.number x * T.number y) % T.number self.now.modulus }
@@ -176,6 +260,15 @@ impl<T: PlainWord> PlannedModulus<T> {
     /// The residue of x·v + u·y, below m. Condition: x + u is below 2m.
     ///
     /// It divides once, by the reciprocal, modulo 2m: the high word of the sum may be at least m, but it is below 2m.
+    ///
+    /// # Examples
+    ///
+    /// ```
+    /// use num_modular::plans::PlannedModulus;
+    ///
+    /// let modulus = PlannedModulus::<u8>::new(13);
+    /// assert_eq!(modulus.product_sum(5, 200, 7, 100), 10); // 5 * 200 + 7 * 100 = 130 * 13 + 10
+    /// ```
     pub fn product_sum(&self, x: T, v: T, u: T, y: T) -> T
         requires { T.number x + T.number u < 2 * T.number self.now.modulus }
         ensures value { T.number result ≡ (T.number x * T.number v + T.number u * T.number y)
@@ -190,6 +283,14 @@ impl<T: PlainWord> PlannedModulus<T> {
     }
 
     /// The word 2m.
+    ///
+    /// # Examples
+    ///
+    /// ```
+    /// use num_modular::plans::PlannedModulus;
+    ///
+    /// assert_eq!(PlannedModulus::<u8>::new(13).twice(), 26);
+    /// ```
     pub fn twice(&self) -> T
         ensures { T.number result ≡ 2 * T.number self.now.modulus }
     {
@@ -197,6 +298,16 @@ impl<T: PlainWord> PlannedModulus<T> {
     }
 
     /// Whether a word is below 4m.
+    ///
+    /// # Examples
+    ///
+    /// ```
+    /// use num_modular::plans::PlannedModulus;
+    ///
+    /// let modulus = PlannedModulus::<u8>::new(13);
+    /// assert!(modulus.has_room(51));
+    /// assert!(!modulus.has_room(52)); // 4 * 13
+    /// ```
     pub fn has_room(&self, x: T) -> bool
         ensures { IsTrue result ↔ (T.number x < 4 * T.number self.now.modulus) }
     {
@@ -204,6 +315,14 @@ impl<T: PlainWord> PlannedModulus<T> {
     }
 
     /// The residue of a word, below m. Condition: it is below 4m (`has_room` tells).
+    ///
+    /// # Examples
+    ///
+    /// ```
+    /// use num_modular::plans::PlannedModulus;
+    ///
+    /// assert_eq!(PlannedModulus::<u8>::new(13).residue(51), 12);
+    /// ```
     pub fn residue(&self, x: T) -> T
         requires { T.number x < 4 * T.number self.now.modulus }
         ensures { T.number result ≡ T.number x % T.number self.now.modulus }

@@ -52,6 +52,18 @@ impl<T: PlainWord> Copy for PreMulInv2by1<T> {}
 
 impl<T: PlainWord> PreMulInv2by1<T> {
     /// The reducer of a modulus. Condition: the modulus is at least 1.
+    ///
+    /// # Examples
+    ///
+    /// ```
+    /// use num_modular::{PlainWord, PreMulInv2by1, Reducer};
+    ///
+    /// fn square<T: PlainWord>(x: T, m: T) -> T {
+    ///     let ring = PreMulInv2by1::of(m);
+    ///     ring.residue(ring.sqr(ring.transform(x)))
+    /// }
+    /// assert_eq!(square(16u8, 251), 5); // 256 - 251
+    /// ```
     pub fn new(m: T) -> Self
         requires { 1 ≤ T.number m }
         ensures { ⟦<PreMulInv2by1<T> as Reducer<T>>⟧.modulus result ≡ T.number m }
@@ -65,6 +77,15 @@ impl<T: PlainWord> PreMulInv2by1<T> {
     }
 
     /// The divider by the shifted modulus.
+    ///
+    /// # Examples
+    ///
+    /// ```
+    /// use num_modular::PreMulInv2by1;
+    ///
+    /// let ring = PreMulInv2by1::<u8>::new(10);
+    /// assert_eq!(ring.divider().divisor(), 160); // 10 * 2^4
+    /// ```
     pub const fn divider(&self) -> &Normalized2by1Divisor<T>
         ensures { let m = ⟦<PreMulInv2by1<T> as Reducer<T>>⟧.modulus self.now in
             ⟦<Normalized2by1Divisor<T> as StoredDivisor>⟧.divisor result.now ≡ m * scale T.width m }
@@ -73,6 +94,14 @@ impl<T: PlainWord> PreMulInv2by1<T> {
     }
 
     /// The number of leading zeros of the modulus.
+    ///
+    /// # Examples
+    ///
+    /// ```
+    /// use num_modular::PreMulInv2by1;
+    ///
+    /// assert_eq!(PreMulInv2by1::<u8>::new(10).shift(), 4); // 00001010
+    /// ```
     pub const fn shift(&self) -> u32
         ensures { result ≡ count_leading_zeros T.width (⟦<PreMulInv2by1<T> as Reducer<T>>⟧.modulus self.now) }
     {
@@ -80,6 +109,14 @@ impl<T: PlainWord> PreMulInv2by1<T> {
     }
 
     /// The shifted modulus, whose top bit is set.
+    ///
+    /// # Examples
+    ///
+    /// ```
+    /// use num_modular::PreMulInv2by1;
+    ///
+    /// assert_eq!(PreMulInv2by1::<u8>::new(10).divisor(), 160); // 10 * 2^4
+    /// ```
     pub const fn divisor(&self) -> T
         ensures scaled { let m = ⟦<PreMulInv2by1<T> as Reducer<T>>⟧.modulus self.now in
             T.number result ≡ m * scale T.width m }
