@@ -40,10 +40,27 @@ impl<const P: u32> OddNumber32<P> {
 /// modulo P. `new` accepts only P.
 ///
 /// Source: Handbook of Applied Cryptography, section 14.3.2.
+///
+/// # Examples
+///
+/// ```
+/// use num_modular::{FixedMontgomery32, Reducer};
+///
+/// const RING: FixedMontgomery32<97> = FixedMontgomery32::RING;
+/// assert_eq!(RING.residue(RING.sqr(RING.transform(10))), 3); // 100 - 97
+/// ```
 pub type FixedMontgomery32<const P: u32> = OddRing<u32, OddNumber32<P>>;
 
 impl<const P: u32> OddRing<u32, OddNumber32<P>> {
     /// The modulus P. Condition: the parameter P is odd.
+    ///
+    /// # Examples
+    ///
+    /// ```
+    /// use num_modular::FixedMontgomery32;
+    ///
+    /// assert_eq!(FixedMontgomery32::<97>::fixed_modulus(), 97);
+    /// ```
     pub fn fixed_modulus() -> u32
         requires { P % 2 ≡ 1 }
         ensures { result ≡ P }
@@ -115,10 +132,28 @@ impl<const P: u64> OddNumber64<P> {
 /// modulo P. `new` accepts only P.
 ///
 /// Source: Handbook of Applied Cryptography, section 14.3.2.
+///
+/// # Examples
+///
+/// ```
+/// use num_modular::{FixedMontgomery64, Reducer};
+///
+/// const RING: FixedMontgomery64<1_000_000_007> = FixedMontgomery64::RING;
+/// let x = RING.transform(2);
+/// assert_eq!(RING.residue(RING.pow(x, &30)), 73_741_817); // 2^30 - 1000000007
+/// ```
 pub type FixedMontgomery64<const P: u64> = OddRing<u64, OddNumber64<P>>;
 
 impl<const P: u64> OddRing<u64, OddNumber64<P>> {
     /// The modulus P. Condition: the parameter P is odd.
+    ///
+    /// # Examples
+    ///
+    /// ```
+    /// use num_modular::FixedMontgomery64;
+    ///
+    /// assert_eq!(FixedMontgomery64::<97>::fixed_modulus(), 97);
+    /// ```
     pub fn fixed_modulus() -> u64
         requires { P % 2 ≡ 1 }
         ensures { result ≡ P }

@@ -55,6 +55,15 @@ impl<T: ReducerWord> Copy for Montgomery<T> {}
 
 impl<T: ReducerWord> Montgomery<T> {
     /// The reducer of a modulus m. Condition: the modulus is at least 1.
+    ///
+    /// # Examples
+    ///
+    /// ```
+    /// use num_modular::{Montgomery, Reducer};
+    ///
+    /// let ring = Montgomery::of(97u8);
+    /// assert_eq!(ring.residue(ring.sqr(ring.transform(10))), 3); // 100 - 97
+    /// ```
     pub fn new(m: T) -> Self
         requires { 1 ≤ T.number m }
         ensures { ⟦<Montgomery<T> as Reducer<T>>⟧.modulus result ≡ T.number m }
@@ -69,6 +78,15 @@ impl<T: ReducerWord> Montgomery<T> {
 
     /// What is precomputed of m: the negated inverse of its odd part modulo the base, and the square of the base
     /// modulo that part.
+    ///
+    /// # Examples
+    ///
+    /// ```
+    /// use num_modular::Montgomery;
+    ///
+    /// // 95 * 97 is -1 modulo 256, and 256^2 = 675 * 97 + 61
+    /// assert_eq!(Montgomery::<u8>::new(97).computed_once(), (95, 61));
+    /// ```
     pub fn computed_once(&self) -> (T, T)
         ensures { let m = ⟦<Montgomery<T> as Reducer<T>>⟧.modulus self.now in
             IsComputedOnce T.width T.base m (T.number result.0) (T.number result.1) }
@@ -78,6 +96,16 @@ impl<T: ReducerWord> Montgomery<T> {
 
     /// The reducer of m, given the two numbers that `computed_once` returned for m; `None` exactly where m is 0 or
     /// a number is wrong. It makes no division.
+    ///
+    /// # Examples
+    ///
+    /// ```
+    /// use num_modular::{Montgomery, Reducer};
+    ///
+    /// let ring = Montgomery::<u8>::restored(97, 95, 61).unwrap();
+    /// assert_eq!(ring.modulus(), 97);
+    /// assert!(Montgomery::<u8>::restored(97, 95, 62).is_none());
+    /// ```
     pub fn restored(m: T, negated_inverse: T, square: T) -> Option<Self>
         ensures { let fits = IsComputedOnce T.width T.base (T.number m) (T.number negated_inverse) (T.number square) in
             MatchOption result (fits → ⊥) (λ r. (⟦<Montgomery<T> as Reducer<T>>⟧.modulus r ≡ T.number m) × fits) }

@@ -93,6 +93,19 @@ fn is_square_of_base<T: PathWord>(m: T, negated_inverse: T, square: T) -> bool
 /// A product of forms takes one product of words and one reduction, which divides by the base alone.
 ///
 /// Source: Handbook of Applied Cryptography, section 14.3.2.
+///
+/// # Examples
+///
+/// ```
+/// use num_modular::rings::{OddModulus, OddRing};
+/// use num_modular::{FixedMontgomery32, FixedProth32, Reducer};
+///
+/// fn cube<M: OddModulus<u32>>(ring: &OddRing<u32, M>, n: u32) -> u32 {
+///     ring.residue(ring.pow(ring.transform(n), &3))
+/// }
+/// assert_eq!(cube(&FixedMontgomery32::<101>::RING, 10), 91); // 1000 modulo 101
+/// assert_eq!(cube(&FixedProth32::<5, 3>::RING, 10), 30); // modulo 3 * 2^5 + 1 = 97
+/// ```
 #[derive(Debug, Clone, Copy)]
 pub struct OddRing<T: PathWord, M: OddModulus<T>> {
     pub kept: M,

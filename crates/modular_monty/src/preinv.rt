@@ -56,6 +56,16 @@ impl<T: PathWord> PreparedInverse for PreModInv<T> {
 
 impl<T: PathWord> PreModInv<T> {
     /// Stores the two numbers as they are given.
+    ///
+    /// # Examples
+    ///
+    /// ```
+    /// use num_modular::{DivExact, PreModInv};
+    ///
+    /// // 7 * 183 = 5 * 256 + 1, and 255 = 36 * 7 + 3
+    /// const SEVEN: PreModInv<u8> = PreModInv::new(183, 36);
+    /// assert_eq!(91u8.div_exact(7, &SEVEN), Some(13));
+    /// ```
     pub const fn new(d_inv: T, q_lim: T) -> Self
         ensures inverse { ⟦<PreModInv<T> as PreparedInverse>⟧.inverse result ≡ T.number d_inv }
         ensures limit { ⟦<PreModInv<T> as PreparedInverse>⟧.limit result ≡ T.number q_lim }
@@ -66,6 +76,16 @@ impl<T: PathWord> PreModInv<T> {
 
 impl<T: PlainWord> PreModInv<T> {
     /// The two numbers that fit the divisor d. Condition: the divisor is odd.
+    ///
+    /// # Examples
+    ///
+    /// ```
+    /// use num_modular::{DivExact, PreModInv};
+    ///
+    /// let seven = PreModInv::<u8>::from(7);
+    /// assert_eq!(91u8.div_exact(7, &seven), Some(13));
+    /// assert_eq!(92u8.div_exact(7, &seven), None);
+    /// ```
     pub fn from(d: T) -> Self
         requires { T.number d % 2 ≡ 1 }
         ensures { ⟦<PreModInv<T> as PreparedInverse>⟧.fits result (T.number d) }

@@ -72,10 +72,27 @@ impl<const N: u8, const K: u8> ProthNumber32<N, K> {
 /// number, is at most 2654435769.
 ///
 /// Source: Handbook of Applied Cryptography, section 14.3.2.
+///
+/// # Examples
+///
+/// ```
+/// use num_modular::{FixedProth32, Reducer};
+///
+/// const RING: FixedProth32<27, 15> = FixedProth32::RING; // 15 * 2^27 + 1
+/// assert_eq!(RING.residue(RING.transform(u32::MAX)), 268435453);
+/// ```
 pub type FixedProth32<const N: u8, const K: u8> = OddRing<u32, ProthNumber32<N, K>>;
 
 impl<const N: u8, const K: u8> OddRing<u32, ProthNumber32<N, K>> {
     /// The modulus K * 2^N + 1. Condition: the parameters are in range.
+    ///
+    /// # Examples
+    ///
+    /// ```
+    /// use num_modular::FixedProth32;
+    ///
+    /// assert_eq!(FixedProth32::<5, 3>::fixed_modulus(), 97); // 3 * 2^5 + 1
+    /// ```
     pub fn fixed_modulus() -> u32
         requires { IsProthRange 32 greatest_proth_32 N K }
         ensures { result ≡ proth_modulus N K }
@@ -85,6 +102,14 @@ impl<const N: u8, const K: u8> OddRing<u32, ProthNumber32<N, K>> {
 
     /// Montgomery's reduction of t: the u below the modulus with u * 2^32 congruent to t.
     /// Condition: t is below the modulus times 2^32.
+    ///
+    /// # Examples
+    ///
+    /// ```
+    /// use num_modular::FixedProth32;
+    ///
+    /// assert_eq!(FixedProth32::<5, 3>::RING.reduce(96 << 32), 96);
+    /// ```
     pub fn reduce(&self, t: u64) -> u32
         requires { t < 2 ^ 32 * proth_modulus N K }
         ensures { IsReduction (2 ^ 32) (proth_modulus N K) t result }
@@ -187,10 +212,28 @@ impl<const N: u8, const K: u8> ProthNumber64<N, K> {
 /// number, is at most 11400714819323199485.
 ///
 /// Source: Handbook of Applied Cryptography, section 14.3.2.
+///
+/// # Examples
+///
+/// ```
+/// use num_modular::{FixedProth64, Reducer};
+///
+/// const RING: FixedProth64<57, 29> = FixedProth64::RING; // 29 * 2^57 + 1
+/// let x = RING.transform(2);
+/// assert_eq!(RING.residue(RING.pow(x, &57)), 1 << 57);
+/// ```
 pub type FixedProth64<const N: u8, const K: u8> = OddRing<u64, ProthNumber64<N, K>>;
 
 impl<const N: u8, const K: u8> OddRing<u64, ProthNumber64<N, K>> {
     /// The modulus K * 2^N + 1. Condition: the parameters are in range.
+    ///
+    /// # Examples
+    ///
+    /// ```
+    /// use num_modular::FixedProth64;
+    ///
+    /// assert_eq!(FixedProth64::<57, 29>::fixed_modulus(), (29 << 57) + 1);
+    /// ```
     pub fn fixed_modulus() -> u64
         requires { IsProthRange 64 greatest_proth_64 N K }
         ensures { result ≡ proth_modulus N K }
@@ -200,6 +243,14 @@ impl<const N: u8, const K: u8> OddRing<u64, ProthNumber64<N, K>> {
 
     /// Montgomery's reduction of t: the u below the modulus with u * 2^64 congruent to t.
     /// Condition: t is below the modulus times 2^64.
+    ///
+    /// # Examples
+    ///
+    /// ```
+    /// use num_modular::FixedProth64;
+    ///
+    /// assert_eq!(FixedProth64::<57, 29>::RING.reduce(1000 << 64), 1000);
+    /// ```
     pub fn reduce(&self, t: u128) -> u64
         requires { t < 2 ^ 64 * proth_modulus N K }
         ensures { IsReduction (2 ^ 64) (proth_modulus N K) t result }
