@@ -26,10 +26,27 @@ pub struct Mersenne32<const P: u8, const K: u32> {
 /// words and products are reduced by folds.
 ///
 /// Source: Handbook of Applied Cryptography, algorithm 14.47.
+///
+/// # Examples
+///
+/// ```
+/// use num_modular::{FixedMersenne32, Reducer};
+///
+/// const RING: FixedMersenne32<31, 1> = FixedMersenne32::RING;
+/// assert_eq!(RING.mul(&(1 << 30), &6), 3); // 6 * 2^30 = 3 * 2^31
+/// ```
 pub type FixedMersenne32<const P: u8, const K: u32> = FoldRing<u32, Mersenne32<P, K>>;
 
 impl<const P: u8, const K: u32> FoldRing<u32, Mersenne32<P, K>> {
     /// The modulus. Condition: the parameters are in range.
+    ///
+    /// # Examples
+    ///
+    /// ```
+    /// use num_modular::FixedMersenne32;
+    ///
+    /// assert_eq!(FixedMersenne32::<8, 5>::fixed_modulus(), 251); // 2^8 - 5
+    /// ```
     pub fn fixed_modulus() -> u32
         requires { IsMersenneRange 32 P K }
         ensures { result ≡ mersenne P K }
@@ -39,6 +56,15 @@ impl<const P: u8, const K: u32> FoldRing<u32, Mersenne32<P, K>> {
     }
 
     /// The residue of a word. Condition: the parameters are in range.
+    ///
+    /// # Examples
+    ///
+    /// ```
+    /// use num_modular::FixedMersenne32;
+    ///
+    /// assert_eq!(FixedMersenne32::<31, 1>::reduce_single(1 << 31), 1);
+    /// assert_eq!(FixedMersenne32::<8, 5>::reduce_single(1000), 247); // 1000 - 3 * 251
+    /// ```
     pub fn reduce_single(v: u32) -> u32
         requires { IsMersenneRange 32 P K }
         ensures { result ≡ v % mersenne P K }
@@ -47,6 +73,14 @@ impl<const P: u8, const K: u32> FoldRing<u32, Mersenne32<P, K>> {
     }
 
     /// The residue of a double word. Condition: the parameters are in range.
+    ///
+    /// # Examples
+    ///
+    /// ```
+    /// use num_modular::FixedMersenne32;
+    ///
+    /// assert_eq!(FixedMersenne32::<31, 1>::reduce_double(1 << 40), 1 << 9);
+    /// ```
     pub fn reduce_double(v: u64) -> u32
         requires { IsMersenneRange 32 P K }
         ensures { result ≡ v % mersenne P K }
@@ -56,6 +90,16 @@ impl<const P: u8, const K: u32> FoldRing<u32, Mersenne32<P, K>> {
 
     /// The residue of a double word, and the number of folds that make it less than 2^P. Condition: the parameters
     /// are in range.
+    ///
+    /// # Examples
+    ///
+    /// ```
+    /// use num_modular::FixedMersenne32;
+    ///
+    /// // 1000 = 3 * 256 + 232, which folds to 3 * 5 + 232
+    /// assert_eq!(FixedMersenne32::<8, 5>::reduce_counted(1000), (247, 1));
+    /// assert_eq!(FixedMersenne32::<8, 5>::reduce_counted(251), (0, 0));
+    /// ```
     pub fn reduce_counted(v: u64) -> (u32, u32)
         requires { IsMersenneRange 32 P K }
         ensures value { result.0 ≡ v % mersenne P K }
@@ -122,6 +166,14 @@ pub type FixedMersenne64<const P: u8, const K: u64> = FoldRing<u64, Mersenne64<P
 
 impl<const P: u8, const K: u64> FoldRing<u64, Mersenne64<P, K>> {
     /// The modulus. Condition: the parameters are in range.
+    ///
+    /// # Examples
+    ///
+    /// ```
+    /// use num_modular::FixedMersenne64;
+    ///
+    /// assert_eq!(FixedMersenne64::<61, 1>::fixed_modulus(), (1 << 61) - 1);
+    /// ```
     pub fn fixed_modulus() -> u64
         requires { IsMersenneRange 64 P K }
         ensures { result ≡ mersenne P K }
@@ -131,6 +183,14 @@ impl<const P: u8, const K: u64> FoldRing<u64, Mersenne64<P, K>> {
     }
 
     /// The residue of a word. Condition: the parameters are in range.
+    ///
+    /// # Examples
+    ///
+    /// ```
+    /// use num_modular::FixedMersenne64;
+    ///
+    /// assert_eq!(FixedMersenne64::<61, 1>::reduce_single(1 << 63), 1 << 2);
+    /// ```
     pub fn reduce_single(v: u64) -> u64
         requires { IsMersenneRange 64 P K }
         ensures { result ≡ v % mersenne P K }
@@ -139,6 +199,14 @@ impl<const P: u8, const K: u64> FoldRing<u64, Mersenne64<P, K>> {
     }
 
     /// The residue of a double word. Condition: the parameters are in range.
+    ///
+    /// # Examples
+    ///
+    /// ```
+    /// use num_modular::FixedMersenne64;
+    ///
+    /// assert_eq!(FixedMersenne64::<61, 1>::reduce_double(1 << 100), 1 << 39);
+    /// ```
     pub fn reduce_double(v: u128) -> u64
         requires { IsMersenneRange 64 P K }
         ensures { result ≡ v % mersenne P K }
@@ -148,6 +216,14 @@ impl<const P: u8, const K: u64> FoldRing<u64, Mersenne64<P, K>> {
 
     /// The residue of a double word, and the number of folds that make it less than 2^P. Condition: the parameters
     /// are in range.
+    ///
+    /// # Examples
+    ///
+    /// ```
+    /// use num_modular::FixedMersenne64;
+    ///
+    /// assert_eq!(FixedMersenne64::<61, 1>::reduce_counted(1 << 100), (1 << 39, 1));
+    /// ```
     pub fn reduce_counted(v: u128) -> (u64, u32)
         requires { IsMersenneRange 64 P K }
         ensures value { result.0 ≡ v % mersenne P K }
@@ -191,6 +267,15 @@ impl<const P: u8, const K: u64> FoldModulus<u64> for Mersenne64<P, K> {
 ///
 /// The parameters are in range where P is at most 64 and K is odd and less than half of 2^P. Forms are below 2^64,
 /// so a product of two of them fits a word. `FixedMersenne64` computes sums, differences and inverses.
+///
+/// # Examples
+///
+/// ```
+/// use num_modular::{FixedMersenne, Reducer};
+///
+/// const RING: FixedMersenne<61, 1> = FixedMersenne::RING;
+/// assert_eq!(RING.mul(&(1 << 60), &6), 3); // 6 * 2^60 = 3 * 2^61
+/// ```
 #[derive(Debug, Clone, Copy)]
 pub struct FixedMersenne<const P: u8, const K: u64> {
     ring: FixedMersenne64<P, K>,
@@ -198,6 +283,14 @@ pub struct FixedMersenne<const P: u8, const K: u64> {
 
 impl<const P: u8, const K: u64> FixedMersenne<P, K> {
     /// The modulus. Condition: the parameters are in range.
+    ///
+    /// # Examples
+    ///
+    /// ```
+    /// use num_modular::FixedMersenne;
+    ///
+    /// assert_eq!(FixedMersenne::<61, 1>::fixed_modulus(), (1 << 61) - 1);
+    /// ```
     pub fn fixed_modulus() -> u128
         requires { IsMersenneRange 64 P K }
         ensures { result ≡ mersenne P K }
@@ -206,6 +299,14 @@ impl<const P: u8, const K: u64> FixedMersenne<P, K> {
     }
 
     /// The residue of a word. Condition: the parameters are in range.
+    ///
+    /// # Examples
+    ///
+    /// ```
+    /// use num_modular::FixedMersenne;
+    ///
+    /// assert_eq!(FixedMersenne::<61, 1>::reduce_single(1 << 100), 1 << 39);
+    /// ```
     pub fn reduce_single(v: u128) -> u128
         requires { IsMersenneRange 64 P K }
         ensures { result ≡ v % mersenne P K }
@@ -215,6 +316,14 @@ impl<const P: u8, const K: u64> FixedMersenne<P, K> {
 
     /// The residue of a word, and the number of folds that make it less than 2^P. Condition: the parameters are in
     /// range.
+    ///
+    /// # Examples
+    ///
+    /// ```
+    /// use num_modular::FixedMersenne;
+    ///
+    /// assert_eq!(FixedMersenne::<61, 1>::reduce_counted(1 << 100), (1 << 39, 1));
+    /// ```
     pub fn reduce_counted(v: u128) -> (u128, u32)
         requires { IsMersenneRange 64 P K }
         ensures value { result.0 ≡ v % mersenne P K }

@@ -46,6 +46,19 @@ pub trait FoldModulus<T: FoldedWord>: Copy {
 
 /// The reducer of a modulus near a power of two, over words T: the form of a value is the value itself. It stores
 /// nothing, and `new` accepts only the modulus of the parameters.
+///
+/// # Examples
+///
+/// ```
+/// use num_modular::rings::{FoldModulus, FoldRing};
+/// use num_modular::{FixedMersenne32, FixedTrinomialSolinas32, Reducer};
+///
+/// fn cube<M: FoldModulus<u32>>(ring: &FoldRing<u32, M>, n: u32) -> u32 {
+///     ring.residue(ring.pow(ring.transform(n), &3))
+/// }
+/// assert_eq!(cube(&FixedMersenne32::<8, 5>::RING, 10), 247); // 1000 modulo 251
+/// assert_eq!(cube(&FixedTrinomialSolinas32::<5, 4, -3>::RING, 10), 12); // 1000 modulo 13
+/// ```
 #[derive(Debug, Clone, Copy)]
 pub struct FoldRing<T: FoldedWord, M: FoldModulus<T>> {
     word: PhantomData<T>,

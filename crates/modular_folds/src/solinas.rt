@@ -154,15 +154,43 @@ pub struct TrinomialModulus<T: TrinomialWord, F: Trinomial> {
 /// then less than half of 2^p1, and the remainder is a division's. `inv` divides by Euclid's algorithm.
 ///
 /// Source: Solinas, "Generalized Mersenne numbers" (1999).
+///
+/// # Examples
+///
+/// ```
+/// use num_modular::rings::{Trinomial64, TrinomialSolinas};
+///
+/// type Goldilocks = TrinomialSolinas<u64, Trinomial64<64, 32, 1>>;
+/// assert_eq!(Goldilocks::MODULUS, 0xffff_ffff_0000_0001);
+/// ```
 pub type TrinomialSolinas<T, F> = FoldRing<T, TrinomialModulus<T, F>>;
 
 /// The reducer of the modulus 2^P1 - 2^P2 + K of at most 32 bits.
+///
+/// # Examples
+///
+/// ```
+/// use num_modular::{FixedTrinomialSolinas32, Reducer};
+///
+/// // 2^16 - 2^8 + 1 = 65281, and 300 * 300 = 65281 + 24719
+/// const RING: FixedTrinomialSolinas32<16, 8, 1> = FixedTrinomialSolinas32::<16, 8, 1>::RING;
+/// assert_eq!(RING.sqr(300), 24719);
+/// ```
 pub type FixedTrinomialSolinas32<const P1: u8, const P2: u8, const K: i32> = TrinomialSolinas<
     u32,
     Trinomial32<P1, P2, K>,
 >;
 
 /// The reducer of the modulus 2^P1 - 2^P2 + K of at most 64 bits.
+///
+/// # Examples
+///
+/// ```
+/// use num_modular::{FixedTrinomialSolinas64, Reducer};
+///
+/// type Goldilocks = FixedTrinomialSolinas64<64, 32, 1>;
+/// assert_eq!(Goldilocks::RING.mul(&(1 << 32), &(1 << 32)), (1 << 32) - 1);
+/// ```
 pub type FixedTrinomialSolinas64<const P1: u8, const P2: u8, const K: i64> = TrinomialSolinas<
     u64,
     Trinomial64<P1, P2, K>,
@@ -190,6 +218,15 @@ impl<T: TrinomialWord, F: Trinomial> FoldRing<T, TrinomialModulus<T, F>> {
     }
 
     /// The modulus. Condition: the parameters are in range.
+    ///
+    /// # Examples
+    ///
+    /// ```
+    /// use num_modular::{FixedTrinomialSolinas32, FixedTrinomialSolinas64};
+    ///
+    /// assert_eq!(FixedTrinomialSolinas32::<5, 4, -3>::fixed_modulus(), 13); // 32 - 16 - 3
+    /// assert_eq!(FixedTrinomialSolinas64::<64, 32, 1>::fixed_modulus(), 0xffff_ffff_0000_0001);
+    /// ```
     pub fn fixed_modulus() -> T
         requires { IsTrinomialRange T.width F.p1 F.p2 F.k }
         ensures value { T.number result ≡ trinomial F.p1 F.p2 F.k }
@@ -201,6 +238,14 @@ impl<T: TrinomialWord, F: Trinomial> FoldRing<T, TrinomialModulus<T, F>> {
     }
 
     /// The residue of a word. Condition: the parameters are in range.
+    ///
+    /// # Examples
+    ///
+    /// ```
+    /// use num_modular::FixedTrinomialSolinas32;
+    ///
+    /// assert_eq!(FixedTrinomialSolinas32::<16, 8, 1>::reduce_single(1 << 16), 255); // 2^8 - 1
+    /// ```
     pub fn reduce_single(v: T) -> T
         requires { IsTrinomialRange T.width F.p1 F.p2 F.k }
         ensures { T.number result ≡ T.number v % trinomial F.p1 F.p2 F.k }
@@ -209,6 +254,15 @@ impl<T: TrinomialWord, F: Trinomial> FoldRing<T, TrinomialModulus<T, F>> {
     }
 
     /// The residue of a double word. Condition: the parameters are in range.
+    ///
+    /// # Examples
+    ///
+    /// ```
+    /// use num_modular::FixedTrinomialSolinas64;
+    ///
+    /// type Goldilocks = FixedTrinomialSolinas64<64, 32, 1>;
+    /// assert_eq!(Goldilocks::reduce_double(1 << 64), (1 << 32) - 1);
+    /// ```
     pub fn reduce_double(v: T::Double) -> T
         requires { IsTrinomialRange T.width F.p1 F.p2 F.k }
         ensures { T.number result ≡ T.double_number v % trinomial F.p1 F.p2 F.k }
@@ -226,6 +280,15 @@ impl<T: TrinomialWord, F: Trinomial> FoldRing<T, TrinomialModulus<T, F>> {
 
     /// The residue of a double word, and the number of folds that make it less than 2^p1; 0 where the remainder is
     /// a division's. Condition: the parameters are in range.
+    ///
+    /// # Examples
+    ///
+    /// ```
+    /// use num_modular::FixedTrinomialSolinas64;
+    ///
+    /// type Goldilocks = FixedTrinomialSolinas64<64, 32, 1>;
+    /// assert_eq!(Goldilocks::reduce_counted(1 << 64), ((1 << 32) - 1, 1));
+    /// ```
     pub fn reduce_counted(v: T::Double) -> (T, u32)
         requires { IsTrinomialRange T.width F.p1 F.p2 F.k }
         ensures value { T.number result.0 ≡ T.double_number v % trinomial F.p1 F.p2 F.k }
