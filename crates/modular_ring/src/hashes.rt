@@ -13,10 +13,29 @@ use modular_reduced::reduced_int::ReducedInt;
 use modular_word::laws::residue_laws;
 
 /// A hash: an integer modulo 2^61 - 1.
+///
+/// # Examples
+///
+/// ```
+/// use num_modular::hashes::{base, hash, Hash};
+/// use num_modular::ModularInteger;
+///
+/// let h: Hash = hash(base(256), b"ab");
+/// assert_eq!(h.residue(), 97 * 256 + 98); // the codes of a and b
+/// ```
 pub type Hash = ReducedInt<u64, FixedMersenne64<61, 1>>;
 
 /// A base of hashes: n modulo 2^61 - 1. Two different texts of n bytes have the same hash at fewer than n bases
 /// (`collision_laws` of the crate `mersenne_hash`), so a random base distinguishes them with high probability.
+///
+/// # Examples
+///
+/// ```
+/// use num_modular::hashes::base;
+/// use num_modular::ModularInteger;
+///
+/// assert_eq!(base(1 << 61).residue(), 1);
+/// ```
 pub fn base(n: u64) -> Hash
     ensures { residue_of result ≡ n % mersenne 61 1 }
 {
@@ -27,6 +46,15 @@ pub fn base(n: u64) -> Hash
 /// modulo 2^61 - 1.
 ///
 /// Source: Karp and Rabin, "Efficient randomized pattern-matching algorithms".
+///
+/// # Examples
+///
+/// ```
+/// use num_modular::hashes::{base, hash};
+/// use num_modular::ModularInteger;
+///
+/// assert_eq!(hash(base(1000), &[1, 2, 3]).residue(), 1_002_003);
+/// ```
 pub fn hash(base: Hash, text: &[u8]) -> Hash
     ensures { residue_of result ≡ polynomial_value text.now (residue_of base) % mersenne 61 1 }
 {
@@ -42,6 +70,16 @@ pub fn hash(base: Hash, text: &[u8]) -> Hash
 /// `power` is the power of the base to the window's length.
 ///
 /// Source: Karp and Rabin, "Efficient randomized pattern-matching algorithms".
+///
+/// # Examples
+///
+/// ```
+/// use num_modular::hashes::{base, hash, moved};
+///
+/// let base = base(1000);
+/// let window = hash(base, &[1, 2, 3]);
+/// assert_eq!(moved(base, base.pow(&3), window, 1, 4), hash(base, &[2, 3, 4]));
+/// ```
 pub fn moved(base: Hash, power: Hash, window: Hash, first: u8, next: u8) -> Hash
     ensures value { let m = mersenne 61 1 in residue_of result
         ≡ residue m (pos ((residue_of window * residue_of base + next) % m) -ℤ pos ((residue_of power * first) % m)) }
@@ -74,6 +112,16 @@ fn is_hit(wanted: Hash, window: Hash, text: &[u8], pattern: &[u8], at: usize) ->
 /// adversary chose for the base, all of them may: no contract bounds the time.
 ///
 /// Source: Karp and Rabin, "Efficient randomized pattern-matching algorithms".
+///
+/// # Examples
+///
+/// ```
+/// use num_modular::hashes::{base, find};
+///
+/// let base = base(123_456_789);
+/// assert_eq!(find(base, b"abracadabra", b"cad"), Some(4));
+/// assert_eq!(find(base, b"abracadabra", b"cab"), None);
+/// ```
 pub fn find(base: Hash, text: &[u8], pattern: &[u8]) -> Option<usize>
     ensures { IsSearch text.now pattern.now result }
 {

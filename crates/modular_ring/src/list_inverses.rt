@@ -14,6 +14,18 @@ use modular_word::ring_word::RingWord;
 ///
 /// Source: Montgomery, "Speeding the Pollard and elliptic curve methods of factorization", section 10.3.1: the
 /// inverses come from that of the product of all forms.
+///
+/// # Examples
+///
+/// ```
+/// use num_modular::ring::invert_each;
+/// use num_modular::{Reducer, Vanilla};
+///
+/// let ring = Vanilla::<u64>::new(&17);
+/// let (mut forms, mut scratch) = ([3, 4], [0; 2]);
+/// assert!(invert_each(&ring, &mut forms, &mut scratch));
+/// assert_eq!(forms, [6, 13]); // 3 * 6 = 17 + 1, and 4 * 13 = 3 * 17 + 1
+/// ```
 #[tactic(auto, using(modular_word::proofs::Remainders::remainders, crate::specs::ProductLaws::products_so_far))]
 pub fn invert_each<T: RingWord, R: Reducer<T>>(r: &R, forms: &mut [T], products: &mut [T]) -> bool
     requires checked { All (λ f. IsForm R.form R.value (R.modulus r.now) (T.number f)) forms.old }

@@ -28,6 +28,15 @@ fn next_range(range: u128, m: u64) -> Option<u128>
 }
 
 /// Whether the moduli are those of a system: each is above 0, any two are coprime, and their product is below 2^128.
+///
+/// # Examples
+///
+/// ```
+/// use num_modular::residues::is_system;
+///
+/// assert!(is_system(&[3, 5, 7]));
+/// assert!(!is_system(&[4, 6])); // 2 divides both
+/// ```
 pub fn is_system(moduli: &[u64]) -> bool
     ensures { IsTrue result ↔ IsSystem moduli.now }
 {
@@ -62,6 +71,16 @@ fn next_digit(m: u64, residue: u64, number: u128, range: u128) -> u64
 
 /// The residues of a number. Conditions: each modulus is above 0; there is room for one residue
 /// a modulus.
+///
+/// # Examples
+///
+/// ```
+/// use num_modular::residues::encode;
+///
+/// let mut residues = [0; 3];
+/// encode(&[3, 5, 7], 23, &mut residues);
+/// assert_eq!(residues, [2, 3, 2]);
+/// ```
 pub fn encode(moduli: &[u64], number: u128, residues: &mut [u64])
     requires positive { (i : ℕ) → i < length moduli.now → 0 < slice_index moduli.now i }
     requires room { length residues.old ≡ length moduli.now }
@@ -73,6 +92,15 @@ pub fn encode(moduli: &[u64], number: u128, residues: &mut [u64])
 }
 
 /// Whether each residue is below its modulus. Condition: each modulus has a residue.
+///
+/// # Examples
+///
+/// ```
+/// use num_modular::residues::are_reduced;
+///
+/// assert!(are_reduced(&[3, 5, 7], &[2, 3, 2]));
+/// assert!(!are_reduced(&[3, 5, 7], &[3, 3, 2]));
+/// ```
 pub fn are_reduced(moduli: &[u64], residues: &[u64]) -> bool
     requires { length residues.now ≡ length moduli.now }
     ensures { IsTrue result
@@ -91,6 +119,14 @@ pub fn are_reduced(moduli: &[u64], residues: &[u64]) -> bool
 ///
 /// Source: Garner, "The residue number system"; Knuth, The Art of Computer Programming, volume 2, section 4.3.2,
 /// (24) and (25).
+///
+/// # Examples
+///
+/// ```
+/// use num_modular::residues::decode;
+///
+/// assert_eq!(decode(&[3, 5, 7], &[2, 3, 2]), 23); // Sunzi's example
+/// ```
 pub fn decode(moduli: &[u64], residues: &[u64]) -> u128
     requires system { IsSystem moduli.now }
     requires count { length residues.now ≡ length moduli.now }
