@@ -13,6 +13,17 @@ use modular_word::ring_word::RingWord;
 
 /// Whether g suits transforms of n entries: n is a power of two, and for n above 1 the value of g to the power n/2
 /// is -1 modulo m. Condition: g is a checked form. n may be too large for a word.
+///
+/// # Examples
+///
+/// ```
+/// use num_modular::ring::root_fits;
+/// use num_modular::{Reducer, Vanilla};
+///
+/// let ring = Vanilla::<u64>::new(&97);
+/// assert!(root_fits(&ring, &22, 4)); // 22^2 = 5 * 97 - 1
+/// assert!(!root_fits(&ring, &22, 8));
+/// ```
 pub fn root_fits<T: RingWord, R: Reducer<T>>(r: &R, g: &T, n: usize) -> bool
     requires { IsForm R.form R.value (R.modulus r.now) (T.number g.now) }
     ensures { let m = R.modulus r.now in IsTrue result ↔ Suits m (R.value m (T.number g.now)) n }
@@ -37,6 +48,18 @@ pub fn root_fits<T: RingWord, R: Reducer<T>>(r: &R, g: &T, n: usize) -> bool
 ///
 /// The z stages have half blocks of n/2, n/4, .., 1 entries. A stage takes a product for each of its n/2 pairs, a
 /// product for the power of each column, and a square for the root of the next stage.
+///
+/// # Examples
+///
+/// ```
+/// use num_modular::ring::ntt_counted;
+/// use num_modular::{Reducer, Vanilla};
+///
+/// let ring = Vanilla::<u64>::new(&17);
+/// let mut forms = [1, 2, 3, 4];
+/// assert_eq!(ntt_counted(&ring, &mut forms, &4), 4 * 2 / 2 + 4 - 1 + 2);
+/// assert_eq!(forms, [10, 7, 15, 6]);
+/// ```
 pub fn ntt_counted<T: RingWord, R: Reducer<T>>(r: &R, xs: &mut [T], g: &T) -> u128
     requires checked { All (λ f. IsForm R.form R.value (R.modulus r.now) (T.number f)) xs.old }
     requires root { IsForm R.form R.value (R.modulus r.now) (T.number g.now) }
