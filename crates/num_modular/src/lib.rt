@@ -47,36 +47,117 @@ pub use modular_symbols::symbols::ModularSymbols;
 pub use modular_word::ring_word::RingWord;
 
 /// An integer modulo a number that is at least 1, over `Montgomery`.
+///
+/// # Examples
+///
+/// ```
+/// use num_modular::{ModularInteger, MontgomeryInt};
+///
+/// let x = MontgomeryInt::<u64>::new(10, &97);
+/// assert_eq!((x * x).residue(), 3); // 100 - 97
+/// ```
 pub type MontgomeryInt<T> = ReducedInt<T, Montgomery<T>>;
 
 /// An integer modulo the odd parameter P, over `FixedMontgomery32`.
+///
+/// # Examples
+///
+/// ```
+/// use num_modular::{FixedMontgomeryInt32, ModularInteger};
+///
+/// let x = FixedMontgomeryInt32::<97>::new(10, &97);
+/// assert_eq!((x * x).residue(), 3); // 100 - 97
+/// ```
 pub type FixedMontgomeryInt32<const P: u32> = ReducedInt<u32, FixedMontgomery32<P>>;
 
 /// An integer modulo the odd parameter P, over `FixedMontgomery64`.
+///
+/// # Examples
+///
+/// ```
+/// use num_modular::{FixedMontgomeryInt64, ModularInteger};
+///
+/// let x = FixedMontgomeryInt64::<97>::new(10, &97);
+/// assert_eq!((x * x).residue(), 3); // 100 - 97
+/// ```
 pub type FixedMontgomeryInt64<const P: u64> = ReducedInt<u64, FixedMontgomery64<P>>;
 
 /// An integer modulo K * 2^N + 1, over `FixedProth32`: N is from 1 to 31, K odd and below 2^N, and the modulus at
 /// most 2654435769.
+///
+/// # Examples
+///
+/// ```
+/// use num_modular::{FixedProthInt32, ModularInteger};
+///
+/// let x = FixedProthInt32::<5, 3>::new(10, &97); // 3 * 2^5 + 1
+/// assert_eq!((x * x).residue(), 3);
+/// ```
 pub type FixedProthInt32<const N: u8, const K: u8> = ReducedInt<u32, FixedProth32<N, K>>;
 
 /// An integer modulo K * 2^N + 1, over `FixedProth64`: N is from 1 to 63, K odd and below 2^N, and the modulus at
 /// most 11400714819323199485.
+///
+/// # Examples
+///
+/// ```
+/// use num_modular::{FixedProth64, FixedProthInt64, ModularInteger};
+///
+/// let x = FixedProthInt64::<57, 29>::new(1 << 57, &FixedProth64::<57, 29>::MODULUS);
+/// assert_eq!((x * 29 + 1).residue(), 0); // 29 * 2^57 + 1
+/// ```
 pub type FixedProthInt64<const N: u8, const K: u8> = ReducedInt<u64, FixedProth64<N, K>>;
 
 /// An integer modulo 2^P - K of at most 64 bits, over `FixedMersenne`: P is at most 64, K odd and less than half of
 /// 2^P.
+///
+/// # Examples
+///
+/// ```
+/// use num_modular::{FixedMersenne, FixedMersenneInt, ModularInteger};
+///
+/// let x = FixedMersenneInt::<61, 1>::new(1 << 60, &FixedMersenne::<61, 1>::MODULUS);
+/// assert_eq!((x * 6).residue(), 3); // 3 * 2^61
+/// ```
 pub type FixedMersenneInt<const P: u8, const K: u64> = ReducedInt<umax, FixedMersenne<P, K>>;
 
 /// An integer modulo 2^P - K of at most 32 bits, over `FixedMersenne32`: P is at most 32, K odd and less than half
 /// of 2^P.
+///
+/// # Examples
+///
+/// ```
+/// use num_modular::{FixedMersenne32, FixedMersenneInt32, ModularInteger};
+///
+/// let x = FixedMersenneInt32::<31, 1>::new(1 << 30, &FixedMersenne32::<31, 1>::MODULUS);
+/// assert_eq!((x * 6).residue(), 3); // 3 * 2^31
+/// ```
 pub type FixedMersenneInt32<const P: u8, const K: u32> = ReducedInt<u32, FixedMersenne32<P, K>>;
 
 /// An integer modulo 2^P - K of at most 64 bits, over `FixedMersenne64`: P is at most 64, K odd and less than half
 /// of 2^P.
+///
+/// # Examples
+///
+/// ```
+/// use num_modular::{FixedMersenne64, FixedMersenneInt64, ModularInteger};
+///
+/// let x = FixedMersenneInt64::<61, 1>::new(1 << 60, &FixedMersenne64::<61, 1>::MODULUS);
+/// assert_eq!((x * 6).residue(), 3); // 3 * 2^61
+/// ```
 pub type FixedMersenneInt64<const P: u8, const K: u64> = ReducedInt<u64, FixedMersenne64<P, K>>;
 
 /// An integer modulo 2^P1 - 2^P2 + K of at most 32 bits, over `FixedTrinomialSolinas32`: P1 is at most 32, P2 from
 /// 1 to P1 - 1, K odd with a magnitude below 2^P2.
+///
+/// # Examples
+///
+/// ```
+/// use num_modular::{FixedSolinasInt32, FixedTrinomialSolinas32, ModularInteger};
+///
+/// let m = FixedTrinomialSolinas32::<16, 8, 1>::MODULUS; // 65281
+/// assert_eq!(FixedSolinasInt32::<16, 8, 1>::new(1 << 16, &m).residue(), 255); // 2^8 - 1
+/// ```
 pub type FixedSolinasInt32<const P1: u8, const P2: u8, const K: i32> = ReducedInt<
     u32,
     FixedTrinomialSolinas32<P1, P2, K>,
@@ -84,15 +165,41 @@ pub type FixedSolinasInt32<const P1: u8, const P2: u8, const K: i32> = ReducedIn
 
 /// An integer modulo 2^P1 - 2^P2 + K of at most 64 bits, over `FixedTrinomialSolinas64`: P1 is at most 64, P2 from
 /// 1 to P1 - 1, K odd with a magnitude below 2^P2.
+///
+/// # Examples
+///
+/// ```
+/// use num_modular::{FixedSolinasInt64, FixedTrinomialSolinas64, ModularInteger};
+///
+/// let m = FixedTrinomialSolinas64::<64, 32, 1>::MODULUS;
+/// let x = FixedSolinasInt64::<64, 32, 1>::new(1 << 32, &m);
+/// assert_eq!((x * x).residue(), (1 << 32) - 1);
+/// ```
 pub type FixedSolinasInt64<const P1: u8, const P2: u8, const K: i64> = ReducedInt<
     u64,
     FixedTrinomialSolinas64<P1, P2, K>,
 >;
 
 /// The widest unsigned word.
+///
+/// # Examples
+///
+/// ```
+/// use num_modular::umax;
+///
+/// assert_eq!(umax::MAX, u128::MAX);
+/// ```
 #[allow(non_camel_case_types)]
 pub type umax = u128;
 
 /// The widest signed word.
+///
+/// # Examples
+///
+/// ```
+/// use num_modular::imax;
+///
+/// assert_eq!(imax::MAX, i128::MAX);
+/// ```
 #[allow(non_camel_case_types)]
 pub type imax = i128;
