@@ -16,6 +16,17 @@ use modular_word::ring_word::RingWord;
 ///
 /// Conditions: g is below m; g suits n entries, n being a power of two. The first entries of a plan are a plan for
 /// fewer entries, by the power of g that suits them.
+///
+/// # Examples
+///
+/// ```
+/// use num_modular::plans::{plan, Factor, PlannedModulus};
+///
+/// let modulus = PlannedModulus::<u64>::new(17);
+/// let mut table = [Factor::<u64>::ZERO; 4];
+/// plan(&modulus, 2, &mut table); // 2^4 = 17 - 1
+/// assert_eq!(table.map(|factor| factor.value()), [1, 2 * 2, 2, 2 * 2 * 2]);
+/// ```
 pub fn plan<T: PlainWord, F: PlanEntry<T>>(m: &PlannedModulus<T>, g: T, table: &mut [F])
     requires below { T.number g < T.number m.now.modulus }
     requires suits { Suits (T.number m.now.modulus) (T.number g) (2 * length table.old) }

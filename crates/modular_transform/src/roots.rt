@@ -28,6 +28,17 @@ fn exponent<T: RingWord, R: Reducer<T>>(r: &R, n: usize) -> T
 /// For a prime m and an n above 1 that divides m - 1 these are the x that aren't squares modulo m.
 ///
 /// Source: Pollard, "The fast Fourier transform in a finite field", section 3.
+///
+/// # Examples
+///
+/// ```
+/// use num_modular::ring::find_root;
+/// use num_modular::{Reducer, Vanilla};
+///
+/// let ring = Vanilla::<u64>::new(&17);
+/// assert_eq!(find_root(&ring, 8), Some(9)); // 3^2, and 9^4 = 386 * 17 - 1
+/// assert_eq!(find_root(&ring, 32), None);
+/// ```
 pub fn find_root<T: RingWord, R: Reducer<T>>(r: &R, n: usize) -> Option<T>
     ensures { let m = R.modulus r.now in MatchOption result
         ((x : ℕ) → 2 ≤ x → x < 256 → Suits m (root_by m n x) n → ⊥)
