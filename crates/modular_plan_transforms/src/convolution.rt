@@ -133,6 +133,16 @@ pub(crate) fn convolve_scaled<T: PlainWord, F: PlanEntry<T>>(
 
 /// Whether `convolve_block` accepts lists of `length` entries as block b, down to blocks of `last`, and a plan of
 /// `factors` factors.
+///
+/// # Examples
+///
+/// ```
+/// use num_modular::plans::convolves;
+///
+/// assert!(convolves(4, 2, 0, 1));
+/// assert!(convolves(4, 2, 1, 2)); // block 1 of four entries needs two factors with blocks of 2,
+/// assert!(!convolves(4, 2, 1, 1)); // and four with blocks of 1
+/// ```
 pub fn convolves(length: usize, factors: usize, b: usize, last: usize) -> bool
     ensures { IsTrue result ↔ AreSmallBlocks length factors b last }
 {
@@ -158,6 +168,19 @@ pub fn convolves(length: usize, factors: usize, b: usize, last: usize) -> bool
 ///
 /// Source: Bernstein, "Multidigit multiplication for mathematicians", section 2: split both lists, multiply the
 /// remainders, join the products.
+///
+/// # Examples
+///
+/// ```
+/// use num_modular::plans::{convolve_block, plan, Factor, PlannedModulus};
+///
+/// let modulus = PlannedModulus::<u64>::new(17);
+/// let mut table = [Factor::<u64>::ZERO; 2];
+/// plan(&modulus, 4, &mut table);
+/// let (mut xs, mut ys) = ([0, 0, 0, 1], [0, 1, 0, 0]);
+/// assert!(convolve_block(&modulus, &mut xs, &mut ys, &table, 1, 2));
+/// assert_eq!(xs, [16, 0, 0, 0]); // X^3 * X is -1 modulo X^4 + 1
+/// ```
 pub fn convolve_block<T: PlainWord, F: PlanEntry<T>>(
     m: &PlannedModulus<T>,
     xs: &mut [T],
@@ -196,6 +219,19 @@ pub fn convolve_block<T: PlainWord, F: PlanEntry<T>>(
 /// Replaces xs by the cyclic product of xs and ys, as `convolve_block` for b = 0: entry e becomes the sum of
 /// x_i·y_j modulo m over i + j = e or e + n. Returns false, with both lists unchanged, exactly where the number
 /// n/last of blocks has no inverse modulo m. Conditions: those of `convolve_block`.
+///
+/// # Examples
+///
+/// ```
+/// use num_modular::plans::{convolve_planned, plan, Factor, PlannedModulus};
+///
+/// let modulus = PlannedModulus::<u64>::new(17);
+/// let mut table = [Factor::<u64>::ZERO; 2];
+/// plan(&modulus, 4, &mut table);
+/// let (mut xs, mut ys) = ([1, 2, 0, 0], [3, 4, 0, 0]);
+/// assert!(convolve_planned(&modulus, &mut xs, &mut ys, &table, 1));
+/// assert_eq!(xs, [3, 10, 8, 0]); // (1 + 2X)(3 + 4X)
+/// ```
 pub fn convolve_planned<T: PlainWord, F: PlanEntry<T>>(
     m: &PlannedModulus<T>,
     xs: &mut [T],
@@ -226,6 +262,19 @@ pub fn convolve_planned<T: PlainWord, F: PlanEntry<T>>(
 /// Replaces xs by the product of xs and ys modulo X^n + 1, as `convolve_block` for b = 1: entry e becomes the sum
 /// of x_i·y_j modulo m over i + j = e, less that over i + j = e + n. Returns false, with both lists unchanged,
 /// exactly where the number n/last of blocks has no inverse modulo m. Conditions: those of `convolve_block`.
+///
+/// # Examples
+///
+/// ```
+/// use num_modular::plans::{convolve_negacyclic, plan, Factor, PlannedModulus};
+///
+/// let modulus = PlannedModulus::<u64>::new(17);
+/// let mut table = [Factor::<u64>::ZERO; 2];
+/// plan(&modulus, 4, &mut table);
+/// let (mut xs, mut ys) = ([1, 2, 3, 4], [0, 1, 0, 0]);
+/// assert!(convolve_negacyclic(&modulus, &mut xs, &mut ys, &table, 2));
+/// assert_eq!(xs, [13, 1, 2, 3]); // times X; -4 + 17
+/// ```
 pub fn convolve_negacyclic<T: PlainWord, F: PlanEntry<T>>(
     m: &PlannedModulus<T>,
     xs: &mut [T],

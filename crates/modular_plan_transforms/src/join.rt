@@ -190,6 +190,19 @@ fn join_scaled_by<T: PlainWord, F: PlanEntry<T>, M: JoinSteps<T>>(
 ///
 /// Source: each step undoes one of `split` but for the factor 2, as in Gentleman and Sande, "Fast Fourier
 /// transforms: for fun and profit", section 2.
+///
+/// # Examples
+///
+/// ```
+/// use num_modular::plans::{join, plan, Factor, PlannedModulus};
+///
+/// let modulus = PlannedModulus::<u64>::new(17);
+/// let mut table = [Factor::<u64>::ZERO; 2];
+/// plan(&modulus, 4, &mut table);
+/// let mut entries = [10, 15, 7, 6]; // what `split` makes of 1, 2, 3, 4
+/// join(&modulus, &mut entries, &table, 0, 1);
+/// assert_eq!(entries, [4, 8, 12, 16]);
+/// ```
 pub fn join<T: PlainWord, F: PlanEntry<T>>(
     m: &PlannedModulus<T>,
     xs: &mut [T],
@@ -216,6 +229,19 @@ pub fn join<T: PlainWord, F: PlanEntry<T>>(
 /// number of blocks as the factor, the results are the coefficients themselves. Conditions: the entries are below
 /// 4m; the number of entries is `last` times a power of two, and the table has (b + 1)·count/2 entries or more
 /// (`splits` tells); the table's entries are factors modulo m; w is a factor modulo m.
+///
+/// # Examples
+///
+/// ```
+/// use num_modular::plans::{join_scaled, plan, Factor, PlannedModulus};
+///
+/// let modulus = PlannedModulus::<u64>::new(17);
+/// let mut table = [Factor::<u64>::ZERO; 2];
+/// plan(&modulus, 4, &mut table);
+/// let mut entries = [10, 15, 7, 6]; // what `split` makes of 1, 2, 3, 4
+/// join_scaled(&modulus, &mut entries, &table, 0, 1, &modulus.factor(13)); // 4 * 13 = 3 * 17 + 1
+/// assert_eq!(entries, [1, 2, 3, 4]);
+/// ```
 pub fn join_scaled<T: PlainWord, F: PlanEntry<T>>(
     m: &PlannedModulus<T>,
     xs: &mut [T],

@@ -65,6 +65,17 @@ impl<'a, T: PlainWord, F: PlanEntry<T>> Plan<'a, T, F> {
     /// exactly where m is even, g isn't below m, or g doesn't suit n.
     ///
     /// Modulo an even m the number n would have no inverse, and so the transform would have none.
+    ///
+    /// # Examples
+    ///
+    /// ```
+    /// use num_modular::plans::{Factor, Plan, PlannedModulus};
+    ///
+    /// let modulus = PlannedModulus::<u64>::new(17);
+    /// let mut table = [Factor::<u64>::ZERO; 2];
+    /// assert!(Plan::new(&modulus, 4, &mut table).is_some()); // 4^2 = 17 - 1
+    /// assert!(Plan::new(&modulus, 2, &mut table).is_none());
+    /// ```
     pub fn new(m: &PlannedModulus<T>, g: T, table: &'a mut [F]) -> Option<Self>
         ensures { let modulus = T.number m.now.modulus in let n = 2 * length table.old in
             MatchOption result (modulus % 2 ≡ 1 → T.number g < modulus → Suits modulus (T.number g) n → ⊥)
@@ -89,6 +100,17 @@ impl<'a, T: PlainWord, F: PlanEntry<T>> Plan<'a, T, F> {
     /// The plan for n entries, by the power of the root that suits them, with the first n/2 entries of the
     /// table. Condition: n is a power of two, from 2 to the number of entries of this plan (`has_shorter`
     /// tells).
+    ///
+    /// # Examples
+    ///
+    /// ```
+    /// use num_modular::plans::{Factor, Plan, PlannedModulus};
+    ///
+    /// let mut table = [Factor::<u64>::ZERO; 4];
+    /// let plan = Plan::new(&PlannedModulus::<u64>::new(17), 2, &mut table).unwrap();
+    /// let shorter = plan.shorter(4);
+    /// assert_eq!((shorter.bits(), shorter.root()), (2, 4));
+    /// ```
     pub fn shorter(&self, n: usize) -> Plan<'a, T, F>
         requires power { IsPowerOfTwo n }
         requires some { 2 ≤ n }
@@ -108,6 +130,17 @@ impl<'a, T: PlainWord, F: PlanEntry<T>> Plan<'a, T, F> {
     }
 
     /// Whether there is a shorter plan for n entries: n is a power of two, from 2 to the number of entries of this plan.
+    ///
+    /// # Examples
+    ///
+    /// ```
+    /// use num_modular::plans::{Factor, Plan, PlannedModulus};
+    ///
+    /// let mut table = [Factor::<u64>::ZERO; 4];
+    /// let plan = Plan::new(&PlannedModulus::<u64>::new(17), 2, &mut table).unwrap();
+    /// assert!(plan.has_shorter(4) && plan.has_shorter(8));
+    /// assert!(!plan.has_shorter(1) && !plan.has_shorter(16));
+    /// ```
     pub fn has_shorter(&self, n: usize) -> bool
         ensures { IsTrue result ↔ (IsPowerOfTwo n × (2 ≤ n) × (n ≤ 2 ^ self.now.bits)) }
     {
@@ -121,6 +154,16 @@ impl<'a, T: PlainWord, F: PlanEntry<T>> Plan<'a, T, F> {
     }
 
     /// The modulus with its reciprocal.
+    ///
+    /// # Examples
+    ///
+    /// ```
+    /// use num_modular::plans::{Factor, Plan, PlannedModulus};
+    ///
+    /// let mut table = [Factor::<u64>::ZERO; 2];
+    /// let plan = Plan::new(&PlannedModulus::<u64>::new(17), 4, &mut table).unwrap();
+    /// assert_eq!(plan.modulus().modulus(), 17);
+    /// ```
     pub fn modulus(&self) -> PlannedModulus<T>
         ensures { result ≡ self.now.modulus }
     {
@@ -128,6 +171,16 @@ impl<'a, T: PlainWord, F: PlanEntry<T>> Plan<'a, T, F> {
     }
 
     /// The root g.
+    ///
+    /// # Examples
+    ///
+    /// ```
+    /// use num_modular::plans::{Factor, Plan, PlannedModulus};
+    ///
+    /// let mut table = [Factor::<u64>::ZERO; 2];
+    /// let plan = Plan::new(&PlannedModulus::<u64>::new(17), 4, &mut table).unwrap();
+    /// assert_eq!(plan.root(), 4);
+    /// ```
     pub fn root(&self) -> T
         ensures { result ≡ self.now.root }
     {
@@ -135,6 +188,16 @@ impl<'a, T: PlainWord, F: PlanEntry<T>> Plan<'a, T, F> {
     }
 
     /// The binary logarithm of the number n of entries.
+    ///
+    /// # Examples
+    ///
+    /// ```
+    /// use num_modular::plans::{Factor, Plan, PlannedModulus};
+    ///
+    /// let mut table = [Factor::<u64>::ZERO; 2];
+    /// let plan = Plan::new(&PlannedModulus::<u64>::new(17), 4, &mut table).unwrap();
+    /// assert_eq!(plan.bits(), 2); // four entries
+    /// ```
     pub fn bits(&self) -> u32
         ensures { result ≡ self.now.bits }
     {
@@ -142,6 +205,17 @@ impl<'a, T: PlainWord, F: PlanEntry<T>> Plan<'a, T, F> {
     }
 
     /// Whether a list of so many entries has n entries.
+    ///
+    /// # Examples
+    ///
+    /// ```
+    /// use num_modular::plans::{Factor, Plan, PlannedModulus};
+    ///
+    /// let mut table = [Factor::<u64>::ZERO; 2];
+    /// let plan = Plan::new(&PlannedModulus::<u64>::new(17), 4, &mut table).unwrap();
+    /// assert!(plan.fits(4));
+    /// assert!(!plan.fits(8));
+    /// ```
     pub fn fits(&self, entries: usize) -> bool
         ensures { IsTrue result ↔ (entries ≡ 2 ^ self.now.bits) }
     {
@@ -149,6 +223,17 @@ impl<'a, T: PlainWord, F: PlanEntry<T>> Plan<'a, T, F> {
     }
 
     /// Whether `split` and `join` accept a list of so many entries as block b, with blocks of `last` entries.
+    ///
+    /// # Examples
+    ///
+    /// ```
+    /// use num_modular::plans::{Factor, Plan, PlannedModulus};
+    ///
+    /// let mut table = [Factor::<u64>::ZERO; 2];
+    /// let plan = Plan::new(&PlannedModulus::<u64>::new(17), 4, &mut table).unwrap();
+    /// assert!(plan.splits(4, 0, 1));
+    /// assert!(!plan.splits(8, 0, 1));
+    /// ```
     pub fn splits(&self, entries: usize, b: usize, last: usize) -> bool
         ensures { IsTrue result ↔ AreBlocks entries (length self.now.table.now) b last }
     {
@@ -156,6 +241,17 @@ impl<'a, T: PlainWord, F: PlanEntry<T>> Plan<'a, T, F> {
     }
 
     /// Whether `convolve_block` accepts lists of so many entries as block b, with blocks of `last` entries.
+    ///
+    /// # Examples
+    ///
+    /// ```
+    /// use num_modular::plans::{Factor, Plan, PlannedModulus};
+    ///
+    /// let mut table = [Factor::<u64>::ZERO; 2];
+    /// let plan = Plan::new(&PlannedModulus::<u64>::new(17), 4, &mut table).unwrap();
+    /// assert!(plan.convolves(4, 1, 2));
+    /// assert!(!plan.convolves(4, 1, 1));
+    /// ```
     pub fn convolves(&self, entries: usize, b: usize, last: usize) -> bool
         ensures { IsTrue result ↔ AreSmallBlocks entries (length self.now.table.now) b last }
     {
@@ -176,6 +272,18 @@ impl<'a, T: PlainWord, F: PlanEntry<T>> Plan<'a, T, F> {
     /// below m. Conditions: the list has n entries (`fits` tells); the entries are below 4m.
     ///
     /// Source: `split`, and a reversal of the bits of the indexes.
+    ///
+    /// # Examples
+    ///
+    /// ```
+    /// use num_modular::plans::{Factor, Plan, PlannedModulus};
+    ///
+    /// let mut table = [Factor::<u64>::ZERO; 2];
+    /// let plan = Plan::new(&PlannedModulus::<u64>::new(17), 4, &mut table).unwrap();
+    /// let mut entries = [1, 2, 3, 4];
+    /// plan.transform(&mut entries);
+    /// assert_eq!(entries, [10, 7, 15, 6]); // 1 + 2X + 3X^2 + 4X^3 at 1, 4, -1 and -4
+    /// ```
     pub fn transform(&self, xs: &mut [T])
         requires whole { length xs.old ≡ 2 ^ self.now.bits }
         requires entries { All (λ x. T.number x < 4 * T.number self.now.modulus.modulus) xs.old }
@@ -191,6 +299,18 @@ impl<'a, T: PlainWord, F: PlanEntry<T>> Plan<'a, T, F> {
     /// m. Conditions: the list has n entries (`fits` tells); the entries are below 4m.
     ///
     /// Source: a reversal of the bits of the indexes, and `join`, times the inverse of n.
+    ///
+    /// # Examples
+    ///
+    /// ```
+    /// use num_modular::plans::{Factor, Plan, PlannedModulus};
+    ///
+    /// let mut table = [Factor::<u64>::ZERO; 2];
+    /// let plan = Plan::new(&PlannedModulus::<u64>::new(17), 4, &mut table).unwrap();
+    /// let mut entries = [10, 7, 15, 6];
+    /// plan.inverse(&mut entries);
+    /// assert_eq!(entries, [1, 2, 3, 4]);
+    /// ```
     pub fn inverse(&self, xs: &mut [T])
         requires whole { length xs.old ≡ 2 ^ self.now.bits }
         requires entries { All (λ x. T.number x < 4 * T.number self.now.modulus.modulus) xs.old }
@@ -215,6 +335,18 @@ impl<'a, T: PlainWord, F: PlanEntry<T>> Plan<'a, T, F> {
     /// So b = 0 and last = 1 give the transform in bit-reversed order, and b = 1 starts from a polynomial modulo X^h
     /// + 1, h being the length of the list. Conditions: the length is `last` times a power of two, and (b + 1)·count is
     /// at most n, or count is 1 (`splits` tells); the entries are below 4m.
+    ///
+    /// # Examples
+    ///
+    /// ```
+    /// use num_modular::plans::{Factor, Plan, PlannedModulus};
+    ///
+    /// let mut table = [Factor::<u64>::ZERO; 2];
+    /// let plan = Plan::new(&PlannedModulus::<u64>::new(17), 4, &mut table).unwrap();
+    /// let mut entries = [1, 2, 3, 4];
+    /// plan.split(&mut entries, 0, 2);
+    /// assert_eq!(entries, [4, 6, 15, 15]); // 4 + 6X modulo X^2 - 1, and -2 - 2X modulo X^2 + 1
+    /// ```
     pub fn split(&self, xs: &mut [T], b: usize, last: usize)
         requires blocks { AreBlocks (length xs.old) (length self.now.table.now) b last }
         requires entries { All (λ x. T.number x < 4 * T.number self.now.modulus.modulus) xs.old }
@@ -228,6 +360,18 @@ impl<'a, T: PlainWord, F: PlanEntry<T>> Plan<'a, T, F> {
     /// Undoes `split`, in place: where the entries are the remainders of a polynomial, they become its coefficients,
     /// residues below m. Conditions: the length is `last` times a power of two, and (b + 1)·count is at most n, or count is
     /// 1 (`splits` tells); the entries are below 4m.
+    ///
+    /// # Examples
+    ///
+    /// ```
+    /// use num_modular::plans::{Factor, Plan, PlannedModulus};
+    ///
+    /// let mut table = [Factor::<u64>::ZERO; 2];
+    /// let plan = Plan::new(&PlannedModulus::<u64>::new(17), 4, &mut table).unwrap();
+    /// let mut entries = [4, 6, 15, 15];
+    /// plan.join(&mut entries, 0, 2);
+    /// assert_eq!(entries, [1, 2, 3, 4]);
+    /// ```
     pub fn join(&self, xs: &mut [T], b: usize, last: usize)
         requires blocks { AreBlocks (length xs.old) (length self.now.table.now) b last }
         requires entries { All (λ x. T.number x < 4 * T.number self.now.modulus.modulus) xs.old }
@@ -243,6 +387,18 @@ impl<'a, T: PlainWord, F: PlanEntry<T>> Plan<'a, T, F> {
 
     /// Multiplies each entry of xs by the entry of ys with the same index, modulo m. Conditions: the lists have the
     /// same length; the entries of xs are below m.
+    ///
+    /// # Examples
+    ///
+    /// ```
+    /// use num_modular::plans::{Factor, Plan, PlannedModulus};
+    ///
+    /// let mut table = [Factor::<u64>::ZERO; 2];
+    /// let plan = Plan::new(&PlannedModulus::<u64>::new(17), 4, &mut table).unwrap();
+    /// let mut entries = [2, 3];
+    /// plan.multiply(&mut entries, &[5, 7]);
+    /// assert_eq!(entries, [10, 4]); // 21 - 17
+    /// ```
     pub fn multiply(&self, xs: &mut [T], ys: &[T])
         requires equal { length ys.now ≡ length xs.old }
         requires entries { All (λ x. T.number x < T.number self.now.modulus.modulus) xs.old }
@@ -261,6 +417,18 @@ impl<'a, T: PlainWord, F: PlanEntry<T>> Plan<'a, T, F> {
     ///
     /// Source: Bernstein, "Multidigit multiplication for mathematicians", section 2: split both lists, multiply the
     /// remainders, join the products.
+    ///
+    /// # Examples
+    ///
+    /// ```
+    /// use num_modular::plans::{Factor, Plan, PlannedModulus};
+    ///
+    /// let mut table = [Factor::<u64>::ZERO; 2];
+    /// let plan = Plan::new(&PlannedModulus::<u64>::new(17), 4, &mut table).unwrap();
+    /// let (mut xs, mut ys) = ([0, 3], [0, 2]);
+    /// plan.convolve_block(&mut xs, &mut ys, 1, 1);
+    /// assert_eq!(xs, [11, 0]); // 3X * 2X is -6 modulo X^2 + 1
+    /// ```
     pub fn convolve_block(&self, xs: &mut [T], ys: &mut [T], b: usize, last: usize)
         requires equal { length ys.old ≡ length xs.old }
         requires blocks { AreSmallBlocks (length xs.old) (length self.now.table.now) b last }
@@ -282,6 +450,18 @@ impl<'a, T: PlainWord, F: PlanEntry<T>> Plan<'a, T, F> {
     /// Replaces xs by the cyclic product of two lists of n entries: entry e becomes the sum of x_i·y_j modulo m over
     /// i + j = e or e + n. ys becomes its transform in bit-reversed order. Conditions: the lists have n entries
     /// (`fits` tells); the entries are below 4m.
+    ///
+    /// # Examples
+    ///
+    /// ```
+    /// use num_modular::plans::{Factor, Plan, PlannedModulus};
+    ///
+    /// let mut table = [Factor::<u64>::ZERO; 2];
+    /// let plan = Plan::new(&PlannedModulus::<u64>::new(17), 4, &mut table).unwrap();
+    /// let (mut xs, mut ys) = ([1, 2, 0, 0], [3, 4, 0, 0]);
+    /// plan.convolve(&mut xs, &mut ys);
+    /// assert_eq!(xs, [3, 10, 8, 0]); // (1 + 2X)(3 + 4X)
+    /// ```
     pub fn convolve(&self, xs: &mut [T], ys: &mut [T])
         requires whole { length xs.old ≡ 2 ^ self.now.bits }
         requires equal { length ys.old ≡ length xs.old }
@@ -301,6 +481,18 @@ impl<'a, T: PlainWord, F: PlanEntry<T>> Plan<'a, T, F> {
     /// Replaces xs by the product of two lists of n entries modulo X^n + 1: entry e becomes the sum of x_i·y_j modulo m
     /// over i + j = e, less that over i + j = e + n. ys becomes its remainders modulo X^2 - c, as `split`
     /// computes them. Conditions: the lists have n entries (`fits` tells); the entries are below 4m.
+    ///
+    /// # Examples
+    ///
+    /// ```
+    /// use num_modular::plans::{Factor, Plan, PlannedModulus};
+    ///
+    /// let mut table = [Factor::<u64>::ZERO; 2];
+    /// let plan = Plan::new(&PlannedModulus::<u64>::new(17), 4, &mut table).unwrap();
+    /// let (mut xs, mut ys) = ([1, 2, 3, 4], [0, 1, 0, 0]);
+    /// plan.convolve_negacyclic(&mut xs, &mut ys);
+    /// assert_eq!(xs, [13, 1, 2, 3]); // times X; -4 + 17
+    /// ```
     pub fn convolve_negacyclic(&self, xs: &mut [T], ys: &mut [T])
         requires whole { length xs.old ≡ 2 ^ self.now.bits }
         requires equal { length ys.old ≡ length xs.old }

@@ -157,6 +157,19 @@ fn multiply_pairs<T: PlainWord, F: PlanEntry<T>>(
 /// Conditions: `last` is 1 or 2; the lists have the same length, a multiple of `last`; the entries of xs are below m;
 /// the table's entries are factors modulo m, and there are (b + 1)·count/2 of them or more, count being the number
 /// of blocks.
+///
+/// # Examples
+///
+/// ```
+/// use num_modular::plans::{multiply, plan, Factor, PlannedModulus};
+///
+/// let modulus = PlannedModulus::<u64>::new(17);
+/// let mut table = [Factor::<u64>::ZERO; 1];
+/// plan(&modulus, 16, &mut table);
+/// let mut entries = [2, 3];
+/// multiply(&modulus, &mut entries, &[5, 7], &table, 0, 1);
+/// assert_eq!(entries, [10, 4]); // 21 - 17
+/// ```
 pub fn multiply<T: PlainWord, F: PlanEntry<T>>(
     m: &PlannedModulus<T>,
     xs: &mut [T],

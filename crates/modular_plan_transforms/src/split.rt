@@ -29,6 +29,15 @@ fn reduce_each<T: PlainWord, M: SplitSteps<T>>(m: &M, xs: &mut [T])
 
 /// Whether `split` accepts a list of `length` entries, from block b down to blocks of `last`, and a plan of
 /// `factors` factors.
+///
+/// # Examples
+///
+/// ```
+/// use num_modular::plans::splits;
+///
+/// assert!(splits(4, 2, 0, 1)); // two factors suffice for four entries
+/// assert!(!splits(8, 2, 0, 1));
+/// ```
 pub fn splits(length: usize, factors: usize, b: usize, last: usize) -> bool
     ensures { IsTrue result ↔ AreBlocks length factors b last }
 {
@@ -108,6 +117,19 @@ pub fn split_loosely<T: PlainWord, F: PlanEntry<T>>(
 ///
 /// Source: the sums and differences of Cooley and Tukey with one factor for each block, as in Bernstein,
 /// "Multidigit multiplication for mathematicians", section 2.
+///
+/// # Examples
+///
+/// ```
+/// use num_modular::plans::{plan, split, Factor, PlannedModulus};
+///
+/// let modulus = PlannedModulus::<u64>::new(17);
+/// let mut table = [Factor::<u64>::ZERO; 2];
+/// plan(&modulus, 4, &mut table);
+/// let mut entries = [1, 2, 3, 4];
+/// split(&modulus, &mut entries, &table, 0, 1);
+/// assert_eq!(entries, [10, 15, 7, 6]); // 1 + 2X + 3X^2 + 4X^3 at 1, -1, 4 and -4
+/// ```
 pub fn split<T: PlainWord, F: PlanEntry<T>>(
     m: &PlannedModulus<T>,
     xs: &mut [T],

@@ -19,6 +19,19 @@ use modular_transform::order::reverse_places;
 /// these are factors modulo m.
 ///
 /// Source: `split`, and a reversal of the bits of the indexes.
+///
+/// # Examples
+///
+/// ```
+/// use num_modular::plans::{ntt_planned, plan, Factor, PlannedModulus};
+///
+/// let modulus = PlannedModulus::<u64>::new(17);
+/// let mut table = [Factor::<u64>::ZERO; 2];
+/// plan(&modulus, 4, &mut table);
+/// let mut entries = [1, 2, 3, 4];
+/// ntt_planned(&modulus, &mut entries, &table);
+/// assert_eq!(entries, [10, 7, 15, 6]); // 1 + 2X + 3X^2 + 4X^3 at 1, 4, -1 and -4
+/// ```
 pub fn ntt_planned<T: PlainWord, F: PlanEntry<T>>(m: &PlannedModulus<T>, xs: &mut [T], table: &[F])
     requires entries { All (λ x. T.number x < 4 * T.number m.now.modulus) xs.old }
     requires factors { AllFactors T.base (T.number m.now.modulus) F.value F.quotient table.now }
