@@ -55,6 +55,19 @@ impl<'a> ResidueSystem<'a> {
     ///
     /// Conditions: each register number is below the count of the numbers (`commands_fit` tells), that of the
     /// wanted register too; there is room for as many registers as numbers, and for one residue a modulus.
+    ///
+    /// # Examples
+    ///
+    /// ```
+    /// use num_modular::applications::residue_numbers::ResidueSystem;
+    /// use num_modular::ring::RingCommand;
+    ///
+    /// let system = ResidueSystem::new(&[3, 5, 7]).unwrap();
+    /// let commands = [RingCommand::Mul { dst: 0, a: 0, b: 1 }, RingCommand::Dbl { dst: 0, a: 0 }];
+    /// let (mut registers, mut residues) = ([0; 2], [0; 3]);
+    /// assert!(system.run(&commands, &[3, 4], 0, &mut registers, &mut residues));
+    /// assert_eq!(system.decode(&residues), 24); // 2 * (3 * 4)
+    /// ```
     pub fn run(
         &self,
         commands: &[RingCommand<u64>],

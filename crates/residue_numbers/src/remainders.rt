@@ -8,6 +8,15 @@ use num_modular::{ModularCoreOps, ModularUnaryOps};
 
 /// The number below m·n that is congruent to a modulo m and to b modulo n; `None` exactly where m has no inverse
 /// modulo n. Condition: m and n are at least 1.
+///
+/// # Examples
+///
+/// ```
+/// use num_modular::applications::residue_numbers::from_remainders;
+///
+/// assert_eq!(from_remainders(2, 3, 3, 5), Some(8));
+/// assert_eq!(from_remainders(2, 4, 3, 6), None); // 4 has no inverse modulo 6
+/// ```
 pub fn from_remainders(a: u32, m: u32, b: u32, n: u32) -> Option<u64>
     requires m { 1 ≤ m }
     requires n { 1 ≤ n }

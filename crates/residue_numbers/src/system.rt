@@ -15,6 +15,19 @@ use num_modular::residues::{decode, encode, is_system};
 ///
 /// Source: Garner, "The residue number system"; Knuth, The Art of Computer Programming, volume 2,
 /// section 4.3.2.
+///
+/// # Examples
+///
+/// ```
+/// use num_modular::applications::residue_numbers::ResidueSystem;
+///
+/// let system = ResidueSystem::new(&[3, 5, 7]).unwrap();
+/// let (mut left, mut right, mut product) = ([0; 3], [0; 3], [0; 3]);
+/// system.encode(8, &mut left);
+/// system.encode(9, &mut right);
+/// system.mul(&left, &right, &mut product);
+/// assert_eq!(system.decode(&product), 72);
+/// ```
 #[derive(Clone, Copy)]
 pub struct ResidueSystem<'a> {
     /// The moduli.
@@ -45,6 +58,15 @@ fn result_at(operation: Operation, m: u64, left: u64, right: u64) -> u64
 impl<'a> ResidueSystem<'a> {
     /// The system of these moduli; `None` exactly where a modulus is 0, two have a common divisor above 1, the
     /// product is at least 2^128, or there are more than eight.
+    ///
+    /// # Examples
+    ///
+    /// ```
+    /// use num_modular::applications::residue_numbers::ResidueSystem;
+    ///
+    /// assert!(ResidueSystem::new(&[3, 5, 7]).is_some());
+    /// assert!(ResidueSystem::new(&[4, 6]).is_none()); // 2 divides both
+    /// ```
     pub fn new(moduli: &'a [u64]) -> Option<Self>
         ensures exactly { IsSome result ↔ IsSmallSystem moduli.now }
         ensures moduli { IfSome result (λ system. system.moduli.now ≡ moduli.now) }
@@ -56,6 +78,16 @@ impl<'a> ResidueSystem<'a> {
     }
 
     /// The residues of a number. Condition: there is room for one a modulus.
+    ///
+    /// # Examples
+    ///
+    /// ```
+    /// use num_modular::applications::residue_numbers::ResidueSystem;
+    ///
+    /// let mut residues = [0; 3];
+    /// ResidueSystem::new(&[3, 5, 7]).unwrap().encode(23, &mut residues);
+    /// assert_eq!(residues, [2, 3, 2]);
+    /// ```
     pub fn encode(&self, number: u128, residues: &mut [u64])
         requires { length residues.old ≡ length self.now.moduli.now }
         ensures { AreResidues self.now.moduli.now residues.new number }
@@ -66,6 +98,15 @@ impl<'a> ResidueSystem<'a> {
     /// The only number below the product of the moduli that has these residues. So `decode` and `encode` undo each
     /// other: `decode` returns a number below the product from its residues (clause `only`), and `encode` the residues
     /// from the number (clause `number`). Condition: each modulus has a residue below it (`are_reduced` tells).
+    ///
+    /// # Examples
+    ///
+    /// ```
+    /// use num_modular::applications::residue_numbers::ResidueSystem;
+    ///
+    /// let system = ResidueSystem::new(&[3, 5, 7]).unwrap();
+    /// assert_eq!(system.decode(&[2, 3, 2]), 23);
+    /// ```
     pub fn decode(&self, residues: &[u64]) -> u128
         requires count { length residues.now ≡ length self.now.moduli.now }
         requires reduced { (i : ℕ) → i < length self.now.moduli.now →
@@ -96,6 +137,17 @@ impl<'a> ResidueSystem<'a> {
     /// The sums of residues, each modulo its modulus: from those of x and of y the residues of x + y
     /// modulo the product of the moduli. Conditions: each modulus has a left residue, a right one and
     /// room for their sum.
+    ///
+    /// # Examples
+    ///
+    /// ```
+    /// use num_modular::applications::residue_numbers::ResidueSystem;
+    ///
+    /// let system = ResidueSystem::new(&[3, 5, 7]).unwrap();
+    /// let mut sums = [0; 3];
+    /// system.add(&[2, 3, 2], &[1, 0, 3], &mut sums); // 23 + 10
+    /// assert_eq!(system.decode(&sums), 33);
+    /// ```
     pub fn add(&self, left: &[u64], right: &[u64], sums: &mut [u64])
         requires left { length left.now ≡ length self.now.moduli.now }
         requires right { length right.now ≡ length self.now.moduli.now }
@@ -112,6 +164,17 @@ impl<'a> ResidueSystem<'a> {
     /// The differences of residues, each modulo its modulus: from those of x and of y the residues of
     /// x - y modulo the product of the moduli. Conditions: each modulus has a left residue, a right
     /// one and room for their difference.
+    ///
+    /// # Examples
+    ///
+    /// ```
+    /// use num_modular::applications::residue_numbers::ResidueSystem;
+    ///
+    /// let system = ResidueSystem::new(&[3, 5, 7]).unwrap();
+    /// let mut differences = [0; 3];
+    /// system.sub(&[2, 3, 2], &[1, 0, 3], &mut differences); // 23 - 10
+    /// assert_eq!(system.decode(&differences), 13);
+    /// ```
     pub fn sub(&self, left: &[u64], right: &[u64], differences: &mut [u64])
         requires left { length left.now ≡ length self.now.moduli.now }
         requires right { length right.now ≡ length self.now.moduli.now }
@@ -130,6 +193,17 @@ impl<'a> ResidueSystem<'a> {
     /// The products of residues, each modulo its modulus: from those of x and of y the residues of
     /// x·y modulo the product of the moduli. Conditions: each modulus has a left residue, a right one
     /// and room for their product.
+    ///
+    /// # Examples
+    ///
+    /// ```
+    /// use num_modular::applications::residue_numbers::ResidueSystem;
+    ///
+    /// let system = ResidueSystem::new(&[3, 5, 7]).unwrap();
+    /// let mut products = [0; 3];
+    /// system.mul(&[2, 3, 2], &[1, 0, 3], &mut products); // 23 * 10 = 2 * 105 + 20
+    /// assert_eq!(system.decode(&products), 20);
+    /// ```
     pub fn mul(&self, left: &[u64], right: &[u64], products: &mut [u64])
         requires left { length left.now ≡ length self.now.moduli.now }
         requires right { length right.now ≡ length self.now.moduli.now }
