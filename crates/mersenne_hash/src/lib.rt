@@ -25,6 +25,15 @@ pub fn collision_laws()
 
 /// Whether two texts have the same hash at each of the bases. For texts of equal length n and at least n different
 /// bases that is whether the texts are equal.
+///
+/// # Examples
+///
+/// ```
+/// use num_modular::applications::mersenne_hash::same_hashes;
+///
+/// assert!(same_hashes(&[2, 3, 5], b"abc", b"abc"));
+/// assert!(!same_hashes(&[2, 3, 5], b"abc", b"abd"));
+/// ```
 pub fn same_hashes(bases: &[u64], first: &[u8], second: &[u8]) -> bool
     ensures each { IsTrue result ↔ ((i : ℕ) → i < length bases.now →
         hash_of first.now (slice_index bases.now i % mersenne 61 1)
