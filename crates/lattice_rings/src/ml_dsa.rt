@@ -23,6 +23,17 @@ const PART: u32 = 8347681;
 ///
 /// The table is the plan by zeta, which suits 512 entries. In block 1, modulo X^256 + 1, the constants are the odd
 /// powers zeta^(2·BitRev8(i) + 1), in the standard's order.
+///
+/// # Examples
+///
+/// ```
+/// use num_modular::applications::lattice_rings::ml_dsa::{Ring, MODULUS};
+///
+/// let (mut xs, mut ys) = ([0; 256], [0; 256]);
+/// (xs[255], ys[1]) = (1, 1);
+/// Ring::new().product(&mut xs, &mut ys);
+/// assert_eq!(xs[0], MODULUS - 1); // X^255 * X is -1
+/// ```
 #[derive(Drop)]
 pub struct Ring {
     modulus: PlannedModulus<u32>,
@@ -37,6 +48,15 @@ pub struct Ring {
 }
 
 /// Whether each coefficient is a residue, below q.
+///
+/// # Examples
+///
+/// ```
+/// use num_modular::applications::lattice_rings::ml_dsa::{are_residues, MODULUS};
+///
+/// assert!(are_residues(&[MODULUS - 1; 256]));
+/// assert!(!are_residues(&[MODULUS; 256]));
+/// ```
 pub fn are_residues(w: &[u32; 256]) -> bool
     ensures { IsTrue result ↔ All (λ x. x < 8380417) w.now }
 {
@@ -45,6 +65,18 @@ pub fn are_residues(w: &[u32; 256]) -> bool
 
 impl Ring {
     /// The ring with its table.
+    ///
+    /// # Examples
+    ///
+    /// ```
+    /// use num_modular::applications::lattice_rings::ml_dsa::Ring;
+    ///
+    /// let ring = Ring::new();
+    /// let mut w = [0; 256];
+    /// w[0] = 7;
+    /// ring.ntt(&mut w);
+    /// assert_eq!(w, [7; 256]); // a constant has the same value everywhere
+    /// ```
     pub fn new() -> Self {
         let modulus = PlannedModulus::new(MODULUS);
         let part = modulus.factor(PART);
@@ -61,6 +93,17 @@ impl Ring {
     /// coefficients are residues (`are_residues` tells).
     ///
     /// Source: FIPS 204, section 7.5, algorithm 41.
+    ///
+    /// # Examples
+    ///
+    /// ```
+    /// use num_modular::applications::lattice_rings::ml_dsa::{Ring, ZETA};
+    ///
+    /// let mut w = [0; 256];
+    /// w[1] = 1;
+    /// Ring::new().ntt(&mut w);
+    /// assert_eq!(w[0], ZETA); // the value of X at zeta
+    /// ```
     pub fn ntt(&self, w: &mut [u32; 256])
         requires { All (λ x. x < 8380417) w.old }
         ensures residues { All (λ x. x < 8380417) w.new }
@@ -73,6 +116,16 @@ impl Ring {
     /// Condition: the values are residues.
     ///
     /// Source: FIPS 204, section 7.5, algorithm 42.
+    ///
+    /// # Examples
+    ///
+    /// ```
+    /// use num_modular::applications::lattice_rings::ml_dsa::Ring;
+    ///
+    /// let mut w = [7; 256];
+    /// Ring::new().inverse(&mut w);
+    /// assert_eq!((w[0], w[1]), (7, 0)); // the constant 7
+    /// ```
     pub fn inverse(&self, w: &mut [u32; 256])
         requires { All (λ x. x < 8380417) w.old }
         ensures residues { All (λ x. x < 8380417) w.new }
@@ -88,6 +141,17 @@ impl Ring {
     /// NTT(ys). Condition: the coefficients are residues.
     ///
     /// Source: FIPS 204, section 2.5: the entrywise product of NTT(xs) and NTT(ys) is transformed back.
+    ///
+    /// # Examples
+    ///
+    /// ```
+    /// use num_modular::applications::lattice_rings::ml_dsa::{Ring, MODULUS};
+    ///
+    /// let (mut xs, mut ys) = ([0; 256], [0; 256]);
+    /// (xs[0], xs[255], ys[1]) = (5, 1, 1);
+    /// Ring::new().product(&mut xs, &mut ys);
+    /// assert_eq!((xs[0], xs[1]), (MODULUS - 1, 5)); // (5 + X^255) * X
+    /// ```
     pub fn product(&self, xs: &mut [u32; 256], ys: &mut [u32; 256])
         requires xs { All (λ x. x < 8380417) xs.old }
         requires ys { All (λ x. x < 8380417) ys.old }
@@ -105,6 +169,20 @@ impl Ring {
     /// product of the two polynomials. Condition: the entries are residues.
     ///
     /// Source: FIPS 204, section 7.6, algorithm 45.
+    ///
+    /// # Examples
+    ///
+    /// ```
+    /// use num_modular::applications::lattice_rings::ml_dsa::{Ring, ZETA};
+    ///
+    /// let ring = Ring::new();
+    /// let mut w = [0; 256];
+    /// w[1] = 1;
+    /// ring.ntt(&mut w);
+    /// let other = w;
+    /// ring.multiply(&mut w, &other);
+    /// assert_eq!(w[0], ZETA * ZETA); // the value of X^2 at zeta, below q
+    /// ```
     pub fn multiply(&self, xs: &mut [u32; 256], ys: &[u32; 256])
         requires xs { All (λ x. x < 8380417) xs.old }
         requires ys { All (λ x. x < 8380417) ys.now }
