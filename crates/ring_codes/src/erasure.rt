@@ -31,6 +31,14 @@ use num_modular::{Reducer, RingWord};
 pub use secrets::{ShareError, recover, recover_correct, secrecy_laws, share};
 
 /// Why a message can't be restored.
+///
+/// # Examples
+///
+/// ```
+/// use num_modular::applications::ring_codes::erasure::RestoreError;
+///
+/// assert_eq!(RestoreError::PlaceTwice.to_string(), "a place occurs twice");
+/// ```
 #[derive(Clone, Copy, Debug, PartialEq, Eq)]
 pub enum RestoreError {
     /// There are fewer symbols than the message has.
@@ -45,6 +53,17 @@ pub enum RestoreError {
 
 /// Whether the points fit: the difference of any two has an inverse modulo m. Condition: they are
 /// checked forms.
+///
+/// # Examples
+///
+/// ```
+/// use num_modular::applications::ring_codes::erasure::points_fit;
+/// use num_modular::{Reducer, Vanilla};
+///
+/// let ring = Vanilla::<u8>::new(&15);
+/// assert!(points_fit(&ring, &[0, 1, 2]));
+/// assert!(!points_fit(&ring, &[0, 1, 3])); // 3 has no inverse modulo 15
+/// ```
 pub fn points_fit<T: RingWord, R: Reducer<T>>(r: &R, points: &[T]) -> bool
     requires { All (λ f. IsForm R.form R.value (R.modulus r.now) (T.number f)) points.now }
     ensures { let m = R.modulus r.now in
@@ -60,6 +79,16 @@ pub fn points_fit<T: RingWord, R: Reducer<T>>(r: &R, points: &[T]) -> bool
 
 /// The form of the value of a polynomial at a point, given its coefficients, the constant first, by Horner's rule.
 /// Condition: all are checked forms.
+///
+/// # Examples
+///
+/// ```
+/// use num_modular::applications::ring_codes::erasure::evaluate;
+/// use num_modular::{Reducer, Vanilla};
+///
+/// let ring = Vanilla::<u8>::new(&97);
+/// assert_eq!(evaluate(&ring, &[5, 7], &2), 19); // 5 + 7 * 2
+/// ```
 pub fn evaluate<T: RingWord, R: Reducer<T>>(r: &R, coefficients: &[T], point: &T) -> T
     requires coefficients { All (λ f. IsForm R.form R.value (R.modulus r.now) (T.number f)) coefficients.now }
     requires point { IsForm R.form R.value (R.modulus r.now) (T.number point.now) }
@@ -83,6 +112,18 @@ pub fn evaluate<T: RingWord, R: Reducer<T>>(r: &R, coefficients: &[T], point: &T
 /// It takes n·k products.
 ///
 /// Source: Reed and Solomon, "Polynomial codes over certain finite fields".
+///
+/// # Examples
+///
+/// ```
+/// use num_modular::applications::ring_codes::erasure::encode;
+/// use num_modular::{Reducer, Vanilla};
+///
+/// let ring = Vanilla::<u8>::new(&97);
+/// let mut word = [0; 4];
+/// encode(&ring, &[1, 2, 3, 4], &[5, 7], &mut word);
+/// assert_eq!(word, [12, 19, 26, 33]); // 5 + 7X at 1, 2, 3 and 4
+/// ```
 pub fn encode<T: RingWord, R: Reducer<T>>(r: &R, points: &[T], message: &[T], word: &mut [T])
     requires points { All (λ f. IsForm R.form R.value (R.modulus r.now) (T.number f)) points.now }
     requires message { All (λ f. IsForm R.form R.value (R.modulus r.now) (T.number f)) message.now }
@@ -104,6 +145,18 @@ pub fn encode<T: RingWord, R: Reducer<T>>(r: &R, points: &[T], message: &[T], wo
 /// `weights` and `coefficients` are ignored.
 ///
 /// Source: Knuth, The Art of Computer Programming, volume 2, section 4.6.4 (Newton's divided differences).
+///
+/// # Examples
+///
+/// ```
+/// use num_modular::applications::ring_codes::erasure::interpolate;
+/// use num_modular::{Reducer, Vanilla};
+///
+/// let ring = Vanilla::<u8>::new(&97);
+/// let (mut weights, mut coefficients) = ([0; 2], [0; 2]);
+/// assert!(interpolate(&ring, &[3, 4], &[26, 33], &mut weights, &mut coefficients));
+/// assert_eq!(coefficients, [5, 7]); // 5 + 7 * 3 = 26, and 5 + 7 * 4 = 33
+/// ```
 pub fn interpolate<T: RingWord, R: Reducer<T>>(
     r: &R,
     points: &[T],
@@ -144,6 +197,19 @@ pub fn interpolate<T: RingWord, R: Reducer<T>>(
 /// Conditions: the points fit (`points_fit` tells), points and word are checked forms, the word has a symbol for
 /// each point, and there are k weights, k being at most the number of points. The contents of `weights` and
 /// `message` are ignored.
+///
+/// # Examples
+///
+/// ```
+/// use num_modular::applications::ring_codes::erasure::is_codeword;
+/// use num_modular::{Reducer, Vanilla};
+///
+/// let ring = Vanilla::<u8>::new(&97);
+/// let (mut weights, mut message) = ([0; 2], [0; 2]);
+/// assert!(is_codeword(&ring, &[1, 2, 3, 4], &[12, 19, 26, 33], &mut weights, &mut message));
+/// assert_eq!(message, [5, 7]);
+/// assert!(!is_codeword(&ring, &[1, 2, 3, 4], &[12, 19, 26, 34], &mut weights, &mut message));
+/// ```
 pub fn is_codeword<T: RingWord, R: Reducer<T>>(
     r: &R,
     points: &[T],
@@ -184,6 +250,18 @@ pub fn is_codeword<T: RingWord, R: Reducer<T>>(
 ///
 /// Conditions: points and message are checked forms, the word has a place for each point, and there are k weights
 /// and k coefficients, k being the length of the message and at most the number of points.
+///
+/// # Examples
+///
+/// ```
+/// use num_modular::applications::ring_codes::erasure::encode_systematic;
+/// use num_modular::{Reducer, Vanilla};
+///
+/// let ring = Vanilla::<u8>::new(&97);
+/// let (mut weights, mut coefficients, mut word) = ([0; 2], [0; 2], [0; 4]);
+/// assert!(encode_systematic(&ring, &[1, 2, 3, 4], &[12, 19], &mut weights, &mut coefficients, &mut word));
+/// assert_eq!(word, [12, 19, 26, 33]); // 5 + 7X
+/// ```
 pub fn encode_systematic<T: RingWord, R: Reducer<T>>(
     r: &R,
     points: &[T],
@@ -261,6 +339,19 @@ fn choose<T: RingWord>(points: &[T], places: &[usize], chosen: &mut [T]) -> Resu
 /// An error names a cause that is present: too few symbols, a place without a point, a place that occurs twice,
 /// points that don't fit. Conditions: points and symbols are checked forms, each place has its symbol, and there
 /// are k weights and room for k points. The contents of these and of `message` are ignored.
+///
+/// # Examples
+///
+/// ```
+/// use num_modular::applications::ring_codes::erasure::restore;
+/// use num_modular::{Reducer, Vanilla};
+///
+/// let ring = Vanilla::<u8>::new(&97);
+/// let (mut chosen, mut weights, mut message) = ([0; 2], [0; 2], [0; 2]);
+/// // of the word 12, 19, 26, 33 two symbols are left
+/// restore(&ring, &[1, 2, 3, 4], &[3, 1], &[33, 19], &mut chosen, &mut weights, &mut message).unwrap();
+/// assert_eq!(message, [5, 7]);
+/// ```
 pub fn restore<T: RingWord, R: Reducer<T>>(
     r: &R,
     points: &[T],
@@ -383,6 +474,18 @@ fn fill_word<T: RingWord, R: Reducer<T>>(
 /// contents of `weights`, `message` and `word` don't matter; after an error their contents are unspecified.
 ///
 /// Source: Reed and Solomon, "Polynomial codes over certain finite fields".
+///
+/// # Examples
+///
+/// ```
+/// use num_modular::applications::ring_codes::erasure::restore_word;
+/// use num_modular::{Reducer, Vanilla};
+///
+/// let ring = Vanilla::<u8>::new(&97);
+/// let (mut weights, mut message, mut word) = ([0; 2], [0; 2], [0; 4]);
+/// restore_word(&ring, &[1, 2, 3, 4], &[3, 1], &[33, 19], &mut weights, &mut message, &mut word).unwrap();
+/// assert_eq!((message, word), ([5, 7], [12, 19, 26, 33]));
+/// ```
 pub fn restore_word<T: RingWord, R: Reducer<T>>(
     r: &R,
     points: &[T],

@@ -15,6 +15,14 @@ use super::{RestoreError, choose, encode, points_fit};
 use num_modular::{Reducer, RingWord};
 
 /// Why `correct` returns no message.
+///
+/// # Examples
+///
+/// ```
+/// use num_modular::applications::ring_codes::erasure::CorrectError;
+///
+/// assert_eq!(CorrectError::NoInverse(15u8).to_string(), "15 has no inverse");
+/// ```
 #[derive(Clone, Copy, Debug, PartialEq, Eq)]
 pub enum CorrectError<T> {
     /// The places or the points don't fit.
@@ -180,6 +188,20 @@ fn decode<T: RingWord, R: Reducer<T>>(
 ///
 /// Source: Welch and Berlekamp, US patent 4,633,470; Kötter, "On algebraic decoding of algebraic-geometric and cyclic
 /// codes".
+///
+/// # Examples
+///
+/// ```
+/// use num_modular::applications::ring_codes::erasure::correct;
+/// use num_modular::{Reducer, Vanilla};
+///
+/// let ring = Vanilla::<u8>::new(&97);
+/// let (mut scratch, mut message, mut word) = ([0; 20], [0; 2], [0; 4]);
+/// // the third symbol should be 26
+/// let symbols = [12, 19, 50, 33];
+/// let found = correct(&ring, &[1, 2, 3, 4], &[0, 1, 2, 3], &symbols, &mut scratch, &mut message, &mut word);
+/// assert_eq!((found, message, word), (Ok(1), [5, 7], [12, 19, 26, 33]));
+/// ```
 pub fn correct<T: RingWord, R: Reducer<T>>(
     r: &R,
     points: &[T],

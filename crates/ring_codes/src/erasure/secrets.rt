@@ -13,6 +13,16 @@ use super::{CorrectError, RestoreError, correct, encode, points_fit, restore};
 use num_modular::{Reducer, RingWord};
 
 /// The reason why `share` refuses.
+///
+/// # Examples
+///
+/// ```
+/// use num_modular::applications::ring_codes::erasure::{share, ShareError};
+/// use num_modular::{Reducer, Vanilla};
+///
+/// let ring = Vanilla::<u8>::new(&97);
+/// assert_eq!(share(&ring, &[0], &[5, 7], &mut [0]), Err(ShareError::PointWithoutInverse));
+/// ```
 #[derive(Clone, Copy, Debug, PartialEq, Eq)]
 pub enum ShareError {
     /// A point has no inverse modulo m, so that the share there would say something of the secret. At 0 it would be the
@@ -45,6 +55,18 @@ fn have_inverses<T: RingWord, R: Reducer<T>>(r: &R, points: &[T]) -> bool
 /// What k - 1 shares say about the secret is in `secrecy_laws`. It doesn't run in constant time.
 ///
 /// Source: Shamir, "How to share a secret".
+///
+/// # Examples
+///
+/// ```
+/// use num_modular::applications::ring_codes::erasure::share;
+/// use num_modular::{Reducer, Vanilla};
+///
+/// let ring = Vanilla::<u8>::new(&97);
+/// let mut shares = [0; 3];
+/// share(&ring, &[1, 2, 3], &[5, 7], &mut shares).unwrap(); // 5 is the secret, 7 is drawn at random
+/// assert_eq!(shares, [12, 19, 26]);
+/// ```
 pub fn share<T: RingWord, R: Reducer<T>>(
     r: &R,
     points: &[T],
@@ -80,6 +102,18 @@ pub fn share<T: RingWord, R: Reducer<T>>(
 /// written to `coefficients`. The errors are those of `restore`. Conditions: those of `restore`; k is at least 1.
 ///
 /// Source: Shamir, "How to share a secret".
+///
+/// # Examples
+///
+/// ```
+/// use num_modular::applications::ring_codes::erasure::recover;
+/// use num_modular::{Reducer, Vanilla};
+///
+/// let ring = Vanilla::<u8>::new(&97);
+/// let (mut chosen, mut weights, mut coefficients) = ([0; 2], [0; 2], [0; 2]);
+/// let secret = recover(&ring, &[1, 2, 3], &[2, 0], &[26, 12], &mut chosen, &mut weights, &mut coefficients);
+/// assert_eq!(secret, Ok(5));
+/// ```
 pub fn recover<T: RingWord, R: Reducer<T>>(
     r: &R,
     points: &[T],
@@ -132,6 +166,21 @@ pub fn recover<T: RingWord, R: Reducer<T>>(
 /// are forged; nothing is known of it if there are more.
 ///
 /// Source: McEliece and Sarwate, "On sharing secrets and Reed-Solomon codes".
+///
+/// # Examples
+///
+/// ```
+/// use num_modular::applications::ring_codes::erasure::recover_correct;
+/// use num_modular::{Reducer, Vanilla};
+///
+/// let ring = Vanilla::<u8>::new(&97);
+/// let (mut scratch, mut coefficients, mut word) = ([0; 20], [0; 2], [0; 4]);
+/// // the second share, 19, is forged
+/// let shares = [12, 20, 26, 33];
+/// let secret =
+///     recover_correct(&ring, &[1, 2, 3, 4], &[0, 1, 2, 3], &shares, &mut scratch, &mut coefficients, &mut word);
+/// assert_eq!(secret, Ok(5));
+/// ```
 pub fn recover_correct<T: RingWord, R: Reducer<T>>(
     r: &R,
     points: &[T],
