@@ -6,6 +6,14 @@ use num_modular::ring::{RingCommand, RunEnd, run};
 use num_modular::{PreMulInv2by1, Reducer};
 
 /// n modulo m, from registers that hold n. Condition: m is at least 1.
+///
+/// # Examples
+///
+/// ```
+/// use num_modular::applications::examples::commands::residue_over_copies;
+///
+/// assert_eq!(residue_over_copies(1000, 97), 30); // 1000 - 10 * 97
+/// ```
 pub fn residue_over_copies(n: u64, m: u64) -> u64
     requires { 1 ≤ m }
     ensures { result ≡ n % m }
@@ -18,6 +26,14 @@ pub fn residue_over_copies(n: u64, m: u64) -> u64
 }
 
 /// x·n modulo m by three commands. Condition: m is at least 1.
+///
+/// # Examples
+///
+/// ```
+/// use num_modular::applications::examples::commands::product_by_commands;
+///
+/// assert_eq!(product_by_commands(10, 20, 97), 6); // 200 - 2 * 97
+/// ```
 #[tactic(auto, using(num_modular::specs::Remainders::remainders))]
 pub fn product_by_commands(x: u64, n: u64, m: u64) -> u64
     requires { 1 ≤ m }

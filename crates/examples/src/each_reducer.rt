@@ -10,6 +10,14 @@ use num_modular::{
 };
 
 /// Over the plain reducer. Condition: m is at least 1.
+///
+/// # Examples
+///
+/// ```
+/// use num_modular::applications::examples::each_reducer::by_plain_remainders;
+///
+/// assert_eq!(by_plain_remainders((1, 2, 3, 4), (5, 6, 7, 8), 50), (1, 6, 20)); // the last is 70 - 50
+/// ```
 pub fn by_plain_remainders(
     x: (u64, u64, u64, u64),
     y: (u64, u64, u64, u64),
@@ -24,6 +32,14 @@ pub fn by_plain_remainders(
 }
 
 /// By the reciprocal of m. Condition: m is at least 1.
+///
+/// # Examples
+///
+/// ```
+/// use num_modular::applications::examples::each_reducer::by_reciprocals;
+///
+/// assert_eq!(by_reciprocals((1, 2, 3, 4), (5, 6, 7, 8), 50), (1, 6, 20)); // the last is 70 - 50
+/// ```
 pub fn by_reciprocals(x: (u64, u64, u64, u64), y: (u64, u64, u64, u64), m: u64) -> (u64, u64, u64)
     requires { 1 ≤ m }
     ensures trip { result.0 ≡ x.0 % m }
@@ -34,6 +50,14 @@ pub fn by_reciprocals(x: (u64, u64, u64, u64), y: (u64, u64, u64, u64), m: u64) 
 }
 
 /// In Montgomery's representation. Condition: m is at least 1.
+///
+/// # Examples
+///
+/// ```
+/// use num_modular::applications::examples::each_reducer::by_montgomery;
+///
+/// assert_eq!(by_montgomery((1, 2, 3, 4), (5, 6, 7, 8), 50), (1, 6, 20)); // the last is 70 - 50
+/// ```
 pub fn by_montgomery(x: (u64, u64, u64, u64), y: (u64, u64, u64, u64), m: u64) -> (u64, u64, u64)
     requires { 1 ≤ m }
     ensures trip { result.0 ≡ x.0 % m }
@@ -44,6 +68,15 @@ pub fn by_montgomery(x: (u64, u64, u64, u64), y: (u64, u64, u64, u64), m: u64) -
 }
 
 /// In Montgomery's representation, modulo the odd parameter 13.
+///
+/// # Examples
+///
+/// ```
+/// use num_modular::applications::examples::each_reducer::modulo_13;
+///
+/// // the residues of 10, 51 and 700
+/// assert_eq!(modulo_13((10, 20, 30, 40), (5, 6, 7, 8)), (10, 12, 11));
+/// ```
 pub fn modulo_13(x: (u32, u32, u32, u32), y: (u32, u32, u32, u32)) -> (u32, u32, u32)
     ensures trip { result.0 ≡ x.0 % 13 }
     ensures one { result.1 ≡ (x.0 * y.0 + 1) % 13 }
@@ -53,6 +86,15 @@ pub fn modulo_13(x: (u32, u32, u32, u32), y: (u32, u32, u32, u32)) -> (u32, u32,
 }
 
 /// Modulo 15.
+///
+/// # Examples
+///
+/// ```
+/// use num_modular::applications::examples::each_reducer::modulo_15;
+///
+/// // the residues of 10, 51 and 700
+/// assert_eq!(modulo_15((10, 20, 30, 40), (5, 6, 7, 8)), (10, 6, 10));
+/// ```
 pub fn modulo_15(x: (u64, u64, u64, u64), y: (u64, u64, u64, u64)) -> (u64, u64, u64)
     ensures trip { result.0 ≡ x.0 % 15 }
     ensures one { result.1 ≡ (x.0 * y.0 + 1) % 15 }
@@ -62,6 +104,15 @@ pub fn modulo_15(x: (u64, u64, u64, u64), y: (u64, u64, u64, u64)) -> (u64, u64,
 }
 
 /// Modulo 2^4 + 1.
+///
+/// # Examples
+///
+/// ```
+/// use num_modular::applications::examples::each_reducer::modulo_17;
+///
+/// // the residues of 10, 51 and 700
+/// assert_eq!(modulo_17((10, 20, 30, 40), (5, 6, 7, 8)), (10, 0, 3));
+/// ```
 pub fn modulo_17(x: (u32, u32, u32, u32), y: (u32, u32, u32, u32)) -> (u32, u32, u32)
     ensures trip { result.0 ≡ x.0 % 17 }
     ensures one { result.1 ≡ (x.0 * y.0 + 1) % 17 }
@@ -71,6 +122,15 @@ pub fn modulo_17(x: (u32, u32, u32, u32), y: (u32, u32, u32, u32)) -> (u32, u32,
 }
 
 /// Modulo 3·2^5 + 1.
+///
+/// # Examples
+///
+/// ```
+/// use num_modular::applications::examples::each_reducer::modulo_97;
+///
+/// // the residues of 10, 51 and 700
+/// assert_eq!(modulo_97((10, 20, 30, 40), (5, 6, 7, 8)), (10, 51, 21));
+/// ```
 pub fn modulo_97(x: (u64, u64, u64, u64), y: (u64, u64, u64, u64)) -> (u64, u64, u64)
     ensures trip { result.0 ≡ x.0 % 97 }
     ensures one { result.1 ≡ (x.0 * y.0 + 1) % 97 }
@@ -80,6 +140,15 @@ pub fn modulo_97(x: (u64, u64, u64, u64), y: (u64, u64, u64, u64)) -> (u64, u64,
 }
 
 /// Modulo 2^5 - 1.
+///
+/// # Examples
+///
+/// ```
+/// use num_modular::applications::examples::each_reducer::modulo_31;
+///
+/// // the residues of 10, 51 and 700
+/// assert_eq!(modulo_31((10, 20, 30, 40), (5, 6, 7, 8)), (10, 20, 18));
+/// ```
 pub fn modulo_31(x: (u32, u32, u32, u32), y: (u32, u32, u32, u32)) -> (u32, u32, u32)
     ensures trip { result.0 ≡ x.0 % 31 }
     ensures one { result.1 ≡ (x.0 * y.0 + 1) % 31 }
@@ -89,6 +158,15 @@ pub fn modulo_31(x: (u32, u32, u32, u32), y: (u32, u32, u32, u32)) -> (u32, u32,
 }
 
 /// Modulo 2^5 - 3.
+///
+/// # Examples
+///
+/// ```
+/// use num_modular::applications::examples::each_reducer::modulo_29;
+///
+/// // the residues of 10, 51 and 700
+/// assert_eq!(modulo_29((10, 20, 30, 40), (5, 6, 7, 8)), (10, 22, 4));
+/// ```
 pub fn modulo_29(x: (u64, u64, u64, u64), y: (u64, u64, u64, u64)) -> (u64, u64, u64)
     ensures trip { result.0 ≡ x.0 % 29 }
     ensures one { result.1 ≡ (x.0 * y.0 + 1) % 29 }
@@ -98,6 +176,15 @@ pub fn modulo_29(x: (u64, u64, u64, u64), y: (u64, u64, u64, u64)) -> (u64, u64,
 }
 
 /// Modulo 2^7 - 1, in the widest words.
+///
+/// # Examples
+///
+/// ```
+/// use num_modular::applications::examples::each_reducer::modulo_127;
+///
+/// // the residues of 10, 51 and 700
+/// assert_eq!(modulo_127((10, 20, 30, 40), (5, 6, 7, 8)), (10, 51, 65));
+/// ```
 pub fn modulo_127(x: (u128, u128, u128, u128), y: (u128, u128, u128, u128)) -> (u128, u128, u128)
     ensures trip { result.0 ≡ x.0 % 127 }
     ensures one { result.1 ≡ (x.0 * y.0 + 1) % 127 }
@@ -107,6 +194,15 @@ pub fn modulo_127(x: (u128, u128, u128, u128), y: (u128, u128, u128, u128)) -> (
 }
 
 /// Modulo 2^8 - 2^4 + 1.
+///
+/// # Examples
+///
+/// ```
+/// use num_modular::applications::examples::each_reducer::modulo_241;
+///
+/// // the residues of 10, 51 and 700
+/// assert_eq!(modulo_241((10, 20, 30, 40), (5, 6, 7, 8)), (10, 51, 218));
+/// ```
 pub fn modulo_241(x: (u32, u32, u32, u32), y: (u32, u32, u32, u32)) -> (u32, u32, u32)
     ensures trip { result.0 ≡ x.0 % 241 }
     ensures one { result.1 ≡ (x.0 * y.0 + 1) % 241 }
@@ -116,6 +212,15 @@ pub fn modulo_241(x: (u32, u32, u32, u32), y: (u32, u32, u32, u32)) -> (u32, u32
 }
 
 /// Modulo 2^8 - 2^3 - 1.
+///
+/// # Examples
+///
+/// ```
+/// use num_modular::applications::examples::each_reducer::modulo_247;
+///
+/// // the residues of 10, 51 and 700
+/// assert_eq!(modulo_247((10, 20, 30, 40), (5, 6, 7, 8)), (10, 51, 206));
+/// ```
 pub fn modulo_247(x: (u64, u64, u64, u64), y: (u64, u64, u64, u64)) -> (u64, u64, u64)
     ensures trip { result.0 ≡ x.0 % 247 }
     ensures one { result.1 ≡ (x.0 * y.0 + 1) % 247 }

@@ -8,6 +8,14 @@ use num_modular::{FixedMersenneInt64, ModularInteger};
 
 /// The polynomial with the bytes as coefficients, the highest first, at x modulo 2^61 - 1, by Horner's
 /// rule.
+///
+/// # Examples
+///
+/// ```
+/// use num_modular::applications::examples::hashes::hash;
+///
+/// assert_eq!(hash(&[1, 2, 3], 1000), 1_002_003);
+/// ```
 pub fn hash(bytes: &[u8], x: u64) -> u64
     ensures { result ≡ polynomial (length bytes.now) (slice_index bytes.now) x % 2305843009213693951 }
 {

@@ -7,6 +7,16 @@ use num_modular::laws::range_laws;
 use num_modular::{Montgomery, Reducer};
 
 /// The sum of the products of the entries, modulo m. Condition: the lists have the same length.
+///
+/// # Examples
+///
+/// ```
+/// use num_modular::applications::examples::inner_products::inner_product;
+/// use num_modular::Montgomery;
+///
+/// let ring = Montgomery::<u64>::new(20);
+/// assert_eq!(inner_product(&ring, &[1, 2, 3], &[4, 5, 6]), 12); // 4 + 10 + 18 - 20
+/// ```
 #[tactic(auto, using(num_modular::specs::Remainders::remainders))]
 pub fn inner_product<R: Reducer<u64>>(r: &R, xs: &[u64], ys: &[u64]) -> u64
     requires { length xs.now ≡ length ys.now }
@@ -22,6 +32,14 @@ pub fn inner_product<R: Reducer<u64>>(r: &R, xs: &[u64], ys: &[u64]) -> u64
 }
 
 /// The inner product of four words with four words modulo m. Condition: m is at least 1.
+///
+/// # Examples
+///
+/// ```
+/// use num_modular::applications::examples::inner_products::inner_product_of_four;
+///
+/// assert_eq!(inner_product_of_four([1, 2, 3, 4], [5, 6, 7, 8], 50), 20); // 5 + 12 + 21 + 32 - 50
+/// ```
 pub fn inner_product_of_four(x: [u64; 4], y: [u64; 4], m: u64) -> u64
     requires { 1 ≤ m }
     ensures { result ≡ sum_below 4 (λ i. slice_index x i * slice_index y i) % m }

@@ -5,6 +5,14 @@ ghost use Rattle.std.specs.Prelude.{◌≡◌, ◌+◌, ◌*◌, ◌%◌, ◌≤
 use num_modular::{ModularOps, Montgomery, PlainWord, Reducer, UnsignedOperand};
 
 /// x·y + z modulo m. Condition: m is at least 1.
+///
+/// # Examples
+///
+/// ```
+/// use num_modular::applications::examples::operations::product_and_sum;
+///
+/// assert_eq!(product_and_sum(10u8, 20, 5, &97), 11); // 205 - 2 * 97
+/// ```
 #[tactic(auto, using(num_modular::specs::Remainders::remainders))]
 pub fn product_and_sum<M: UnsignedOperand + Copy, T: ModularOps<T, M, T>>(
     x: T,
@@ -19,6 +27,14 @@ pub fn product_and_sum<M: UnsignedOperand + Copy, T: ModularOps<T, M, T>>(
 }
 
 /// x² modulo m in Montgomery's representation, for every width. Condition: m is at least 1.
+///
+/// # Examples
+///
+/// ```
+/// use num_modular::applications::examples::operations::square;
+///
+/// assert_eq!(square(16u8, 251), 5); // 256 - 251
+/// ```
 #[tactic(auto, using(num_modular::specs::Remainders::remainders))]
 pub fn square<T: PlainWord>(x: T, m: T) -> T
     requires { 1 ≤ T.number m }

@@ -16,6 +16,21 @@ use num_modular::ring::{convolve, load_forms, unload_forms};
 ///
 /// Conditions: no coefficient is above `bound`, and m is above n·bound^2; n is at least the number of
 /// coefficients of the product; and g is the checked form of a root that suits n.
+///
+/// # Examples
+///
+/// ```
+/// use num_modular::applications::examples::polynomials::product_of;
+/// use num_modular::ring::find_root;
+/// use num_modular::{Reducer, Vanilla};
+///
+/// let ring = Vanilla::<u64>::new(&97);
+/// let root = find_root(&ring, 4).unwrap();
+/// let (mut product, mut left, mut right) = ([0; 3], [0; 4], [0; 4]);
+/// // (1 + 2X)(3 + 4X), with coefficients of at most 4: 97 is above 4 * 4^2
+/// assert!(product_of(&ring, root, &[1, 2], &[3, 4], &mut product, &mut left, &mut right, 4));
+/// assert_eq!(product, [3, 10, 8]);
+/// ```
 pub fn product_of<R: Reducer<u64>>(
     r: &R,
     g: u64,

@@ -7,6 +7,15 @@ ghost use Rattle.std.specs.Prelude.{◌≡◌, ℕ, ◌*◌, ◌%◌, ◌≤◌,
 use num_modular::{ModularInteger, MontgomeryInt, VanillaInt};
 
 /// a times the inverse of b modulo m; `None` exactly where b has none. Condition: m is at least 1.
+///
+/// # Examples
+///
+/// ```
+/// use num_modular::applications::examples::quotients::by_inverse;
+///
+/// assert_eq!(by_inverse(10, 5, 21), Some(2));
+/// assert_eq!(by_inverse(10, 6, 21), None); // 3 divides 6 and 21
+/// ```
 #[tactic(auto, using(num_modular::specs::Remainders::remainders))]
 pub fn by_inverse(a: u64, b: u64, m: u64) -> Option<u64>
     requires { 1 ≤ m }
@@ -21,6 +30,15 @@ pub fn by_inverse(a: u64, b: u64, m: u64) -> Option<u64>
 
 /// The number below m whose product with b is congruent to a modulo m; `None` exactly where b has no inverse.
 /// Condition: m is at least 1.
+///
+/// # Examples
+///
+/// ```
+/// use num_modular::applications::examples::quotients::by_operator;
+///
+/// assert_eq!(by_operator(10, 4, 21), Some(13)); // 13 * 4 = 2 * 21 + 10
+/// assert_eq!(by_operator(10, 6, 21), None); // 3 divides 6 and 21
+/// ```
 pub fn by_operator(a: u64, b: u64, m: u64) -> Option<u64>
     requires { 1 ≤ m }
     ensures { MatchOption result (HasInverse m (b % m) → ⊥) (λ q. IsModularQuotient m (a % m) (b % m) q) }
@@ -35,6 +53,14 @@ pub fn by_operator(a: u64, b: u64, m: u64) -> Option<u64>
 }
 
 /// 10 / 5 modulo 21.
+///
+/// # Examples
+///
+/// ```
+/// use num_modular::applications::examples::quotients::ten_by_five;
+///
+/// assert_eq!(ten_by_five(), 2);
+/// ```
 pub fn ten_by_five() -> u8
     ensures { result ≡ 2 }
 {

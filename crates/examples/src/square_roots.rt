@@ -8,6 +8,15 @@ use num_modular::{ModularPow, ModularUnaryOps};
 
 /// The power of a to the exponent (p + 1)/4 modulo p, where it is a square root of a; `None` exactly where a has no
 /// square root modulo p. Condition: p is a prime that is 3 modulo 4.
+///
+/// # Examples
+///
+/// ```
+/// use num_modular::applications::examples::square_roots::square_root;
+///
+/// assert_eq!(square_root(2, 7), Some(4)); // 4 * 4 = 2 * 7 + 2
+/// assert_eq!(square_root(3, 7), None);
+/// ```
 pub fn square_root(a: u64, p: u64) -> Option<u64>
     requires three { p % 4 ≡ 3 }
     requires prime { IsPrime p }
