@@ -18,6 +18,19 @@ use std::marker::PhantomData;
 
 /// An odd modulus, with what is precomputed of it: its negated inverse modulo the base, and the square of the base
 /// modulo m. A type that knows its modulus needn't store it, and a modulus of a special form may be multiplied faster.
+///
+/// # Examples
+///
+/// ```
+/// use num_modular::rings::{OddModulus, OddRing};
+/// use num_modular::{FixedMontgomery64, FixedProth64, Reducer};
+///
+/// fn inverse_of_two<M: OddModulus<u64>>(ring: &OddRing<u64, M>) -> Option<u64> {
+///     ring.inv(ring.transform(2)).map(|f| ring.residue(f))
+/// }
+/// assert_eq!(inverse_of_two(&FixedMontgomery64::<101>::RING), Some(51));
+/// assert_eq!(inverse_of_two(&FixedProth64::<5, 3>::RING), Some(49)); // modulo 97
+/// ```
 pub trait OddModulus<T: PathWord>: Copy {
     // The moduli that the type admits.
     ghost admits: { ℕ → Type 0 };
@@ -29,19 +42,67 @@ pub trait OddModulus<T: PathWord>: Copy {
     ghost square: { Self → ℕ };
 
     /// What is stored of m. Condition: the type admits the modulus.
+    ///
+    /// # Examples
+    ///
+    /// ```
+    /// use num_modular::rings::{OddModulus, OddRing};
+    /// use num_modular::FixedProth32;
+    ///
+    /// fn keep<M: OddModulus<u32>>(_: OddRing<u32, M>, m: u32) -> M {
+    ///     M::keep(m)
+    /// }
+    /// assert_eq!(keep(FixedProth32::<5, 3>::RING, 97).modulus(), 97);
+    /// ```
     fn keep(m: T) -> Self
         requires { admits (T.number m) }
         ensures { modulus result ≡ T.number m };
 
     /// The modulus.
+    ///
+    /// # Examples
+    ///
+    /// ```
+    /// use num_modular::rings::{OddModulus, OddRing};
+    /// use num_modular::FixedProth32;
+    ///
+    /// fn modulus_of<M: OddModulus<u32>>(_: OddRing<u32, M>, m: u32) -> u32 {
+    ///     M::keep(m).modulus()
+    /// }
+    /// assert_eq!(modulus_of(FixedProth32::<5, 3>::RING, 97), 97);
+    /// ```
     fn modulus(&self) -> T
         ensures { T.number result ≡ modulus self.now };
 
     /// The square of the base, modulo m.
+    ///
+    /// # Examples
+    ///
+    /// ```
+    /// use num_modular::rings::{OddModulus, OddRing};
+    /// use num_modular::FixedProth32;
+    ///
+    /// fn square_of<M: OddModulus<u32>>(_: OddRing<u32, M>, m: u32) -> u32 {
+    ///     M::keep(m).square_of_base()
+    /// }
+    /// assert_eq!(square_of(FixedProth32::<5, 3>::RING, 97) as u128, (1 << 64) % 97);
+    /// ```
     fn square_of_base(&self) -> T
         ensures { T.number result ≡ square self.now };
 
     /// Montgomery's reduction of t, below m. Condition: t is below the modulus times the base.
+    ///
+    /// # Examples
+    ///
+    /// ```
+    /// use num_modular::rings::{OddModulus, OddRing};
+    /// use num_modular::FixedProth32;
+    ///
+    /// fn reduced<M: OddModulus<u32>>(_: OddRing<u32, M>, m: u32, t: u64) -> u32 {
+    ///     M::keep(m).reduced(t)
+    /// }
+    /// assert_eq!(reduced(FixedProth32::<5, 3>::RING, 97, 10 << 32), 10);
+    /// ```
     fn reduced(&self, t: T::Double) -> T
         requires { T.double_number t < T.base * modulus self.now }
         ensures { IsReduction T.base (modulus self.now) (T.double_number t) (T.number result) };
