@@ -13,6 +13,16 @@ use crate::rings::{FoldModulus, FoldRing};
 use modular_reduced::reducer::Reducer;
 
 /// The modulus 2^P - K of at most 32 bits.
+///
+/// # Examples
+///
+/// ```
+/// use num_modular::rings::{FoldRing, Mersenne32};
+/// use num_modular::Reducer;
+///
+/// const RING: FoldRing<u32, Mersenne32<8, 5>> = FoldRing::<u32, Mersenne32<8, 5>>::RING;
+/// assert_eq!(RING.modulus(), 251); // 2^8 - 5
+/// ```
 #[derive(Debug, Clone, Copy)]
 pub struct Mersenne32<const P: u8, const K: u32> {
     // Private, so that a value exists only for parameters in range; the modulus comes from the parameters.
@@ -139,6 +149,16 @@ impl<const P: u8, const K: u32> FoldModulus<u32> for Mersenne32<P, K> {
 }
 
 /// The modulus 2^P - K of at most 64 bits.
+///
+/// # Examples
+///
+/// ```
+/// use num_modular::rings::{FoldRing, Mersenne64};
+/// use num_modular::Reducer;
+///
+/// const RING: FoldRing<u64, Mersenne64<61, 1>> = FoldRing::<u64, Mersenne64<61, 1>>::RING;
+/// assert_eq!(RING.modulus(), (1 << 61) - 1);
+/// ```
 #[derive(Debug, Clone, Copy)]
 pub struct Mersenne64<const P: u8, const K: u64> {
     // Private, so that a value exists only for parameters in range; the modulus comes from the parameters.

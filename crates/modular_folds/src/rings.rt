@@ -14,6 +14,19 @@ use std::marker::PhantomData;
 
 /// A modulus near a power of two that the parameters of the type give: its value, and how words and products are
 /// reduced by it. A value of the type exists only for parameters in range.
+///
+/// # Examples
+///
+/// ```
+/// use num_modular::rings::{FoldModulus, FoldRing};
+/// use num_modular::{FixedMersenne64, FixedTrinomialSolinas64, Reducer};
+///
+/// fn inverse_of_two<M: FoldModulus<u64>>(ring: &FoldRing<u64, M>) -> Option<u64> {
+///     ring.inv(2)
+/// }
+/// assert_eq!(inverse_of_two(&FixedMersenne64::<61, 1>::RING), Some(1 << 60));
+/// assert_eq!(inverse_of_two(&FixedTrinomialSolinas64::<5, 4, -3>::RING), Some(7)); // modulo 13
+/// ```
 pub trait FoldModulus<T: FoldedWord>: Copy {
     // The moduli that the type admits.
     ghost admits: { ℕ → Type 0 };
@@ -21,19 +34,51 @@ pub trait FoldModulus<T: FoldedWord>: Copy {
     ghost modulus: { Self → ℕ };
 
     /// The modulus of the parameters. Condition: the modulus is that of the parameters, and these are in range.
+    ///
+    /// # Examples
+    ///
+    /// ```
+    /// use num_modular::rings::{FoldModulus, Mersenne32};
+    ///
+    /// assert_eq!(Mersenne32::<31, 1>::keep(2147483647).modulus(), 2147483647);
+    /// ```
     fn keep(m: T) -> Self
         requires { admits (T.number m) }
         ensures { modulus result ≡ T.number m };
 
     /// The modulus.
+    ///
+    /// # Examples
+    ///
+    /// ```
+    /// use num_modular::rings::{FoldModulus, Mersenne32};
+    ///
+    /// assert_eq!(Mersenne32::<8, 5>::keep(251).modulus(), 251); // 2^8 - 5
+    /// ```
     fn modulus(&self) -> T
         ensures { T.number result ≡ modulus self.now };
 
     /// The residue of a word, below the modulus.
+    ///
+    /// # Examples
+    ///
+    /// ```
+    /// use num_modular::rings::{FoldModulus, Mersenne32};
+    ///
+    /// assert_eq!(Mersenne32::<8, 5>::keep(251).reduced(1000), 247); // 1000 - 3 * 251
+    /// ```
     fn reduced(&self, n: T) -> T
         ensures { T.number result ≡ T.number n % modulus self.now };
 
     /// The residue of a product, below the modulus. Condition: both factors are below the modulus.
+    ///
+    /// # Examples
+    ///
+    /// ```
+    /// use num_modular::rings::{FoldModulus, Mersenne32};
+    ///
+    /// assert_eq!(Mersenne32::<8, 5>::keep(251).product(16, 16), 5); // 256 - 251
+    /// ```
     fn product(&self, a: T, b: T) -> T
         requires left { T.number a < modulus self.now }
         requires right { T.number b < modulus self.now }

@@ -19,6 +19,17 @@ use std::marker::PhantomData;
 
 /// The trinomial 2^p1 - 2^p2 + k as a type, because an invariant of a type can't mention a signed constant
 /// parameter. The three numbers are constants in the code.
+///
+/// # Examples
+///
+/// ```
+/// use num_modular::rings::{Trinomial, Trinomial32};
+///
+/// fn value<F: Trinomial>() -> i128 {
+///     (1 << F::p1()) - (1 << F::p2()) + i128::from(F::k())
+/// }
+/// assert_eq!(value::<Trinomial32<16, 8, 1>>(), 65281); // 65536 - 256 + 1
+/// ```
 pub trait Trinomial {
     ghost p1: { ℕ };
 
@@ -27,19 +38,51 @@ pub trait Trinomial {
     ghost k: { ℤ };
 
     /// The greater exponent.
+    ///
+    /// # Examples
+    ///
+    /// ```
+    /// use num_modular::rings::{Trinomial, Trinomial32};
+    ///
+    /// assert_eq!(Trinomial32::<16, 8, 1>::p1(), 16);
+    /// ```
     fn p1() -> u8
         ensures { result ≡ p1 };
 
     /// The lower exponent.
+    ///
+    /// # Examples
+    ///
+    /// ```
+    /// use num_modular::rings::{Trinomial, Trinomial32};
+    ///
+    /// assert_eq!(Trinomial32::<16, 8, 1>::p2(), 8);
+    /// ```
     fn p2() -> u8
         ensures { result ≡ p2 };
 
     /// The last term.
+    ///
+    /// # Examples
+    ///
+    /// ```
+    /// use num_modular::rings::{Trinomial, Trinomial32};
+    ///
+    /// assert_eq!(Trinomial32::<5, 4, -3>::k(), -3);
+    /// ```
     fn k() -> i64
         ensures { result ≡ k };
 }
 
 /// The trinomial 2^P1 - 2^P2 + K, for words of 32 bits.
+///
+/// # Examples
+///
+/// ```
+/// use num_modular::rings::{Trinomial32, TrinomialSolinas};
+///
+/// assert_eq!(TrinomialSolinas::<u32, Trinomial32<16, 8, 1>>::MODULUS, 65281); // 65536 - 256 + 1
+/// ```
 #[derive(Debug, Clone, Copy)]
 pub struct Trinomial32<const P1: u8, const P2: u8, const K: i32> {}
 
@@ -64,6 +107,14 @@ impl<const P1: u8, const P2: u8, const K: i32> Trinomial for Trinomial32<P1, P2,
 }
 
 /// The trinomial 2^P1 - 2^P2 + K, for words of 64 bits.
+///
+/// # Examples
+///
+/// ```
+/// use num_modular::rings::{Trinomial64, TrinomialSolinas};
+///
+/// assert_eq!(TrinomialSolinas::<u64, Trinomial64<64, 32, 1>>::MODULUS, 0xffff_ffff_0000_0001);
+/// ```
 #[derive(Debug, Clone, Copy)]
 pub struct Trinomial64<const P1: u8, const P2: u8, const K: i64> {}
 
@@ -139,6 +190,15 @@ impl TrinomialWord for u64 {
 }
 
 /// The modulus 2^p1 - 2^p2 + k of the trinomial F, over words T.
+///
+/// # Examples
+///
+/// ```
+/// use num_modular::rings::{FoldModulus, Trinomial32, TrinomialModulus};
+///
+/// let kept = TrinomialModulus::<u32, Trinomial32<16, 8, 1>>::keep(65281);
+/// assert_eq!(kept.reduced(65536), 255); // 2^8 - 1
+/// ```
 #[derive(Debug)]
 pub struct TrinomialModulus<T: TrinomialWord, F: Trinomial> {
     word: PhantomData<T>,
