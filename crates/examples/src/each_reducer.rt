@@ -1,4 +1,4 @@
-//! The computations of `any_reducer` for each reducer: no proof is needed, since they are proved for all reducers.
+//! The computations of `any_reducer`, for each reducer.
 
 ghost use Rattle.std.specs.Prelude.{◌≡◌, ◌+◌, ◌*◌, ◌%◌, ◌≤◌};
 
@@ -9,7 +9,7 @@ use num_modular::{
     PreMulInv2by1, Reducer, Vanilla,
 };
 
-/// Over the plain reducer. Condition: m is at least 1.
+/// `three_results` over the plain reducer. Condition: m is at least 1.
 ///
 /// # Examples
 ///
@@ -31,7 +31,7 @@ pub fn by_plain_remainders(
     three_results(&Vanilla::<u64>::new(&m), x, y)
 }
 
-/// By the reciprocal of m. Condition: m is at least 1.
+/// `three_results` by the reciprocal of m. Condition: m is at least 1.
 ///
 /// # Examples
 ///
@@ -49,7 +49,7 @@ pub fn by_reciprocals(x: (u64, u64, u64, u64), y: (u64, u64, u64, u64), m: u64) 
     three_results(&PreMulInv2by1::<u64>::new(m), x, y)
 }
 
-/// In Montgomery's representation. Condition: m is at least 1.
+/// `three_results` in Montgomery's representation. Condition: m is at least 1.
 ///
 /// # Examples
 ///
@@ -67,7 +67,7 @@ pub fn by_montgomery(x: (u64, u64, u64, u64), y: (u64, u64, u64, u64), m: u64) -
     three_results(&Montgomery::<u64>::new(m), x, y)
 }
 
-/// In Montgomery's representation, modulo the odd parameter 13.
+/// `three_results` in Montgomery's representation, modulo the odd parameter 13.
 ///
 /// # Examples
 ///
@@ -85,7 +85,7 @@ pub fn modulo_13(x: (u32, u32, u32, u32), y: (u32, u32, u32, u32)) -> (u32, u32,
     three_results(&FixedMontgomery32::<13>::new(&13), x, y)
 }
 
-/// Modulo 15.
+/// `three_results` modulo 15.
 ///
 /// # Examples
 ///
@@ -103,7 +103,7 @@ pub fn modulo_15(x: (u64, u64, u64, u64), y: (u64, u64, u64, u64)) -> (u64, u64,
     three_results(&FixedMontgomery64::<15>::new(&15), x, y)
 }
 
-/// Modulo 2^4 + 1.
+/// `three_results` modulo 2^4 + 1.
 ///
 /// # Examples
 ///
@@ -121,7 +121,7 @@ pub fn modulo_17(x: (u32, u32, u32, u32), y: (u32, u32, u32, u32)) -> (u32, u32,
     three_results(&FixedProth32::<4, 1>::new(&17), x, y)
 }
 
-/// Modulo 3·2^5 + 1.
+/// `three_results` modulo 3·2^5 + 1.
 ///
 /// # Examples
 ///
@@ -139,7 +139,7 @@ pub fn modulo_97(x: (u64, u64, u64, u64), y: (u64, u64, u64, u64)) -> (u64, u64,
     three_results(&FixedProth64::<5, 3>::new(&97), x, y)
 }
 
-/// Modulo 2^5 - 1.
+/// `three_results` modulo 2^5 - 1.
 ///
 /// # Examples
 ///
@@ -157,7 +157,7 @@ pub fn modulo_31(x: (u32, u32, u32, u32), y: (u32, u32, u32, u32)) -> (u32, u32,
     three_results(&FixedMersenne32::<5, 1>::new(&31), x, y)
 }
 
-/// Modulo 2^5 - 3.
+/// `three_results` modulo 2^5 - 3.
 ///
 /// # Examples
 ///
@@ -175,7 +175,7 @@ pub fn modulo_29(x: (u64, u64, u64, u64), y: (u64, u64, u64, u64)) -> (u64, u64,
     three_results(&FixedMersenne64::<5, 3>::new(&29), x, y)
 }
 
-/// Modulo 2^7 - 1, in the widest words.
+/// `three_results` modulo 2^7 - 1, in the widest words.
 ///
 /// # Examples
 ///
@@ -193,7 +193,7 @@ pub fn modulo_127(x: (u128, u128, u128, u128), y: (u128, u128, u128, u128)) -> (
     three_results(&FixedMersenne::<7, 1>::new(&127), x, y)
 }
 
-/// Modulo 2^8 - 2^4 + 1.
+/// `three_results` modulo 2^8 - 2^4 + 1.
 ///
 /// # Examples
 ///
@@ -211,7 +211,7 @@ pub fn modulo_241(x: (u32, u32, u32, u32), y: (u32, u32, u32, u32)) -> (u32, u32
     three_results(&FixedTrinomialSolinas32::<8, 4, 1>::new(&241), x, y)
 }
 
-/// Modulo 2^8 - 2^3 - 1.
+/// `three_results` modulo 2^8 - 2^3 - 1.
 ///
 /// # Examples
 ///

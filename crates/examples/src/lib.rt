@@ -1,5 +1,4 @@
-//! The examples of README and docs/, and more of their kind. Each names `num_modular` alone, and proves its own
-//! theorem from the public contracts.
+//! The examples of README and docs/, and more of their kind. Each names `num_modular` alone.
 #![tactic(auto)]
 
 pub mod any_reducer;

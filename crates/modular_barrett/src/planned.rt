@@ -314,7 +314,7 @@ impl<T: PlainWord> PlannedModulus<T> {
         x.half().is_below(self.twice())
     }
 
-    /// The residue of a word, below m. Condition: it is below 4m (`has_room` tells).
+    /// The residue of a word, below m. Condition: the word is below 4m (`has_room` tells).
     ///
     /// # Examples
     ///

@@ -7,22 +7,22 @@ use modular_word::ring_word::RingWord;
 
 /// A dividend that can be folded: a word of 64 or 128 bits.
 pub trait FoldWord: RingWord {
-    /// The sum. Condition: it fits the word.
+    /// The sum. Condition: the sum fits the word.
     fn plus(self, rhs: Self) -> Self
         requires { Self.number self + Self.number rhs < 2 ^ Self.width }
         ensures { Self.number result ≡ Self.number self + Self.number rhs };
 
-    /// The difference. Condition: it is not below 0.
+    /// The difference. Condition: the difference is not below 0.
     fn minus(self, rhs: Self) -> Self
         requires { Self.number rhs ≤ Self.number self }
         ensures { Self.number result + Self.number rhs ≡ Self.number self };
 
-    /// The product. Condition: it fits the word.
+    /// The product. Condition: the product fits the word.
     fn times(self, rhs: Self) -> Self
         requires { Self.number self * Self.number rhs < 2 ^ Self.width }
         ensures { Self.number result ≡ Self.number self * Self.number rhs };
 
-    /// The product with a factor, plus a word. Condition: it fits the word.
+    /// The product with a factor, plus a word. Condition: the result fits the word.
     ///
     /// For a factor 2^k + 1 or 2^k - 1 it is a shift and two sums, whose latency is less than that of a product. The
     /// sums may wrap; LLVM would turn sums that don't back into a product.

@@ -178,7 +178,7 @@ fn reduced_short(v: u64, p: u32, c: u32, m: u32) -> u32
 /// A word whose double words can be folded: u32 or u64.
 pub trait FoldedWord: PathWord {
     /// A word below 2^p that is congruent to a double word modulo m, and the number of folds at the bit p by c that
-    /// led to it. Condition: they reduce modulo m.
+    /// led to it. Condition: such folds reduce modulo m.
     fn fold_double(v: Self::Double, p: u32, c: Self, m: Self) -> (Self, u32)
         requires { IsFolding Self.width p (Self.number c) (Self.number m) }
         ensures below { Self.number result.0 < 2 ^ p }
@@ -186,7 +186,7 @@ pub trait FoldedWord: PathWord {
         ensures count { result.1 ≡ folds p (Self.number c) (Self.double_number v) };
 
     /// The residue of a product of two words below 2^p, by folds at the bit p by c without comparisons of the
-    /// product. Condition: they reduce modulo m, and c is at most a fourth of 2^p.
+    /// product. Condition: such folds reduce modulo m, and c is at most a fourth of 2^p.
     fn reduce_in_line(v: Self::Double, p: u32, c: Self, m: Self) -> Self
         requires folding { IsFolding Self.width p (Self.number c) (Self.number m) }
         requires small { 4 * Self.number c ≤ 2 ^ p }

@@ -17,8 +17,7 @@ use modular_word::ring_word::RingWord;
 use std::alloc::AllocError;
 use std::marker::PhantomData;
 
-/// The trinomial 2^p1 - 2^p2 + k as a type, because an invariant of a type can't mention a signed constant
-/// parameter. The three numbers are constants in the code.
+/// The trinomial 2^p1 - 2^p2 + k, as a type.
 ///
 /// # Examples
 ///
@@ -31,6 +30,7 @@ use std::marker::PhantomData;
 /// assert_eq!(value::<Trinomial32<16, 8, 1>>(), 65281); // 65536 - 256 + 1
 /// ```
 pub trait Trinomial {
+    // The numbers of a type, because an invariant can't mention a signed constant parameter.
     ghost p1: { ℕ };
 
     ghost p2: { ℕ };
@@ -164,7 +164,7 @@ fn is_low(p1: u8, p2: u8, k: i64) -> bool
 
 /// A word that has trinomial reducers: u32 or u64.
 pub trait TrinomialWord: FoldedWord + PlainWord {
-    /// The word of a given number. Condition: it fits.
+    /// The word of a given number. Condition: the number fits.
     fn word_of(n: u64) -> Self
         requires { n < Self.base }
         ensures { Self.number result ≡ n };

@@ -7,7 +7,8 @@ use crate::numbered::Numbered;
 use crate::plain_word::PlainWord;
 use modular_word::ring_word::RingWord;
 
-/// Exact division by a divisor, given what was precomputed of it: a multiplier, a prepared inverse, or `()`.
+/// Exact division by a divisor, given what was precomputed of it: a multiplier (`PreMulInv1by1`), an inverse
+/// (`PreModInv`), or `()`.
 ///
 /// With `()` nothing is precomputed, and the quotient is that of the machine's division, for words of 8 to 128 bits
 /// but not usize, as in the Rust crate; the divisor must be at least 1.
@@ -28,8 +29,8 @@ pub trait DivExact<Rhs: Numbered, Precompute>: Numbered + Sized {
     // What is stored is that of the divisor.
     ghost fits: { Rhs → Precompute → Type 0 };
 
-    /// The quotient by d; `None` exactly where d doesn't divide the number. Condition: what is
-    /// stored fits d.
+    /// The quotient by d; `None` exactly where d doesn't divide the number. Condition: `pre`
+    /// fits the divisor d.
     ///
     /// # Examples
     ///
@@ -58,7 +59,7 @@ pub trait DivExact<Rhs: Numbered, Precompute>: Numbered + Sized {
 /// ```
 pub trait DivExactAssign<Rhs: Numbered, Precompute>: DivExact<Rhs, Precompute, Output = Self> {
     /// Replaces the number by its quotient by d and returns true. Where d doesn't divide the number, returns false
-    /// and leaves it unchanged. Condition: what is stored fits d.
+    /// and leaves it unchanged. Condition: `pre` fits the divisor d.
     ///
     /// # Examples
     ///

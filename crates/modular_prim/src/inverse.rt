@@ -130,7 +130,7 @@ fn inverse_below<T: PathWord>(x: T, m: T) -> Option<T>
     Some(without_twos(factor, pair.twos, m))
 }
 
-/// The inverse of a modulo m, below m; `None` exactly where there is none. Condition: m is odd; a may be above it.
+/// The inverse of a modulo m, below m; `None` exactly where there is none. a may be above m. Condition: m is odd.
 ///
 /// Each turn of the loop replaces the greater of two numbers by the odd part of their difference, until they are
 /// equal. It keeps their factors up to a power of two, which Montgomery's reduction removes at the end. The only

@@ -9,8 +9,8 @@ use std::ops::{Add, Mul, Neg, Sub};
 
 /// An integer modulo m, with its modulus.
 ///
-/// Integers of equal modulus may be added, subtracted and multiplied, and each may be negated. The laws below say
-/// what the operators and `==` return.
+/// Integers of equal modulus may be added, subtracted and multiplied, and each may be negated. `==` returns whether
+/// the moduli and the residues are equal.
 ///
 /// # Examples
 ///
@@ -30,7 +30,7 @@ pub trait ModularInteger: PartialEq
     /// The type of moduli and residues.
     type Base: RingWord;
 
-    // The modulus.
+    // The modulus. The laws below say what the operators and `==` return.
     ghost modulus_number: { Self → ℕ };
 
     // The residue: a number below the modulus.

@@ -19,9 +19,6 @@ mod sub;
 
 /// An integer modulo m: a form, and its reducer.
 ///
-/// Contracts use its modulus (`modulus_of`), its residue, a number below the modulus (`residue_of`), and its form
-/// (`form_of`).
-///
 /// | Operators | Return modulo m | Condition |
 /// |---|---|---|
 /// | `x + y`, `x - y`, `x * y`, and `+=`, `-=`, `*=` | the sum, difference, product | the moduli are equal |
@@ -46,6 +43,7 @@ mod sub;
 pub struct ReducedInt<T: RingWord, R: Reducer<T>> {
     form: T,
     reducer: R,
+    // Contracts use the modulus (`modulus_of`), the residue (`residue_of`), and the form (`form_of`).
     ghost checked: { IsForm R.form R.value (R.modulus reducer) (T.number form) },
 }
 

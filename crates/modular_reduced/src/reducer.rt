@@ -11,7 +11,7 @@ use modular_word::ring_word::RingWord;
 /// Arithmetic modulo m on forms: words that represent the values from 0 to m - 1.
 ///
 /// A form is checked where `check` returns true. Each value has exactly one checked form, and each checked form
-/// exactly one value. Condition of every call but `check` and `transform`: the forms are checked.
+/// exactly one value. Condition of every call but `check` and `transform`: each form is checked.
 ///
 /// # Examples
 ///

@@ -25,8 +25,8 @@ use modular_word::laws::residue_laws;
 /// ```
 pub type Hash = ReducedInt<u64, FixedMersenne64<61, 1>>;
 
-/// A base of hashes: n modulo 2^61 - 1. Two different texts of n bytes have the same hash at fewer than n bases
-/// (`collision_laws` of the crate `mersenne_hash`), so a random base distinguishes them with high probability.
+/// A base of hashes: n modulo 2^61 - 1. Two different texts of k bytes have the same hash at fewer than k bases, so a
+/// random base distinguishes them with high probability.
 ///
 /// # Examples
 ///
@@ -107,9 +107,9 @@ fn is_hit(wanted: Hash, window: Hash, text: &[u8], pattern: &[u8], at: usize) ->
 /// The first position where the pattern occurs in the text; `None` exactly where it occurs nowhere.
 ///
 /// The result is right for every base, because the bytes of a window are compared where its hash is the pattern's.
-/// For a base that is drawn at random after text and pattern are fixed, few other windows have that hash
-/// (`collision_laws` of `mersenne_hash`). For the base 0, where the hash is the last byte, or for a text that an
-/// adversary chose for the base, all of them may: no contract bounds the time.
+/// For a base that is drawn at random after text and pattern are fixed, few other windows have that hash. For the base
+/// 0, where the hash is the last byte, or for a text that an adversary chose for the base, all of them may; the search
+/// then compares the pattern at each position.
 ///
 /// Source: Karp and Rabin, "Efficient randomized pattern-matching algorithms".
 ///

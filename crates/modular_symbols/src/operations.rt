@@ -9,14 +9,24 @@ use modular_prim::numbered::Numbered;
 use modular_prim::operations::{ModularCoreOps, ModularPow, ModularUnaryOps};
 use modular_prim::plain_word::PlainWord;
 
-/// All modular operations and the symbols of a word, with operands by value and the modulus by reference. The
-/// contracts of these traits give each result to generic code.
+/// All modular operations and the symbols of a word, with operands by value and the modulus by reference.
+///
+/// # Examples
+///
+/// ```
+/// use num_modular::ModularOps;
+///
+/// fn sum_of_squares<T: Copy + for<'a> ModularOps<T, &'a T, T>>(x: T, y: T, m: T) -> T {
+///     x.sqm(&m).addm(y.sqm(&m), &m)
+/// }
+/// assert_eq!(sum_of_squares(200u8, 100, 251), 51); // 50000 = 199 * 251 + 51
+/// ```
 pub trait ModularOps<Rhs: Numbered, Modulus: UnsignedOperand, Output: Numbered>: UnsignedOperand
     + ModularCoreOps<Rhs, Modulus, Output = Output>
     + ModularUnaryOps<Modulus, Output = Output>
     + ModularPow<Rhs, Modulus, Output = Output>
     + ModularSymbols<Modulus> {
-    // Operands of equal number are equal, and so are results.
+    // Operands of equal number are equal, and so are results: so the contracts of the traits above give each result.
     ghost one_operand: { (x y : Self) → Self.whole_number x ≡ Self.whole_number y → x ≡ y };
 
     ghost one_answer: { (x y : Output) → Output.whole_number x ≡ Output.whole_number y → x ≡ y };

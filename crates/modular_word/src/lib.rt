@@ -1,5 +1,5 @@
 //! Machine words as whole numbers, and the paths: division by a reciprocal, exact division and Montgomery's
-//! reduction, each written and proved once for every width.
+//! reduction, each written once for every width.
 #![tactic(auto)]
 
 pub mod laws;

@@ -1,12 +1,9 @@
-//! Words that contracts see as whole numbers.
+//! The trait of machine words.
 
 ghost use Rattle.std.proofs.Common.{lit≤, rules};
 ghost use Rattle.std.specs.Prelude.{◌≡◌, ℕ, ◌+◌, ◌*◌, ◌/◌, ◌%◌, ◌^◌, ◌<◌, ◌≤◌, ◌↔◌, true, IsTrue};
 
-/// A machine word, from 8 to 128 bits wide.
-///
-/// Contracts use its number and its width in bits. Words of equal number are equal, and `==` compares the numbers.
-/// The clauses `fits` of the calls say that a word they read is below 2 to the width.
+/// A machine word, from 8 to 128 bits wide: a whole number, which `==` compares.
 ///
 /// # Examples
 ///
@@ -19,7 +16,7 @@ ghost use Rattle.std.specs.Prelude.{◌≡◌, ℕ, ◌+◌, ◌*◌, ◌/◌, �
 /// assert_eq!((binary_digits(10u8), binary_digits(1_000_000u64)), (4, 20));
 /// ```
 pub trait RingWord: Copy + Eq {
-    // The number of a word.
+    // The number of a word; where a call reads a word, its clause `fits` says that the number is below 2 to the width.
     ghost number: { Self → ℕ };
 
     // The number of bits of a word.

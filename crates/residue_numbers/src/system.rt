@@ -77,7 +77,7 @@ impl<'a> ResidueSystem<'a> {
         Some(ResidueSystem { moduli })
     }
 
-    /// The residues of a number. Condition: there is room for one a modulus.
+    /// The residues of a number. Condition: there is room for one residue a modulus.
     ///
     /// # Examples
     ///
@@ -96,8 +96,8 @@ impl<'a> ResidueSystem<'a> {
     }
 
     /// The only number below the product of the moduli that has these residues. So `decode` and `encode` undo each
-    /// other: `decode` returns a number below the product from its residues (clause `only`), and `encode` the residues
-    /// from the number (clause `number`). Condition: each modulus has a residue below it (`are_reduced` tells).
+    /// other: `decode` returns a number below the product from its residues, and `encode` the residues from the
+    /// number. Condition: each modulus has a residue below it (`are_reduced` of `num_modular::residues` tells).
     ///
     /// # Examples
     ///

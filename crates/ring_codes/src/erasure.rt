@@ -51,8 +51,8 @@ pub enum RestoreError {
     PointsDontFit,
 }
 
-/// Whether the points fit: the difference of any two has an inverse modulo m. Condition: they are
-/// checked forms.
+/// Whether the points fit: the difference of any two has an inverse modulo m. Condition: the points are checked
+/// forms.
 ///
 /// # Examples
 ///
@@ -78,7 +78,7 @@ pub fn points_fit<T: RingWord, R: Reducer<T>>(r: &R, points: &[T]) -> bool
 }
 
 /// The form of the value of a polynomial at a point, given its coefficients, the constant first, by Horner's rule.
-/// Condition: all are checked forms.
+/// Condition: coefficients and point are checked forms.
 ///
 /// # Examples
 ///
@@ -338,7 +338,7 @@ fn choose<T: RingWord>(points: &[T], places: &[usize], chosen: &mut [T]) -> Resu
 ///
 /// An error names a cause that is present: too few symbols, a place without a point, a place that occurs twice,
 /// points that don't fit. Conditions: points and symbols are checked forms, each place has its symbol, and there
-/// are k weights and room for k points. The contents of these and of `message` are ignored.
+/// are k weights and room for k points in `chosen`. The contents of `chosen`, `weights` and `message` are ignored.
 ///
 /// # Examples
 ///
