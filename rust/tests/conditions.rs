@@ -3,7 +3,7 @@
 
 #![allow(unstable_name_collisions)]
 
-use num_modular::applications::ring_codes;
+use num_modular::applications::check_digits;
 use num_modular::plans::{
     convolve_block, convolve_negacyclic, convolve_planned, join, ntt_planned, plan, split, Factor, Plan, PlannedModulus,
 };
@@ -94,7 +94,7 @@ fn constructors() {
     panic_with!("the divisor must be odd"; <PreModInv<u8> as From<u8>>::from(6));
     panic_with!("the divisor's top bit must be set"; Normalized2by1Divisor::<u8>::new(0), Normalized2by1Divisor::<u8>::new(127));
     panic_with!("the divisor must be above 1"; PreMulInv1by1::<u8>::new(0), PreMulInv1by1::<u8>::new(1));
-    panic_with!("there must be at most 68 digits"; ring_codes::iban_code(69));
+    panic_with!("there must be at most 68 digits"; check_digits::iban_code(69));
 }
 
 #[test]

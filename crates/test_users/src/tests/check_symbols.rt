@@ -3,7 +3,7 @@
 ghost use Rattle.std.specs.Prelude.{◌≤◌};
 
 use super::assert_at;
-use ring_codes::{
+use check_digits::{
     Code, EAN_8, EAN_13, ISBN_10, ISBN_13, ISSN, UPC_A, accepts_iban, accepts_luhn, has_iban_form,
     iban_code, iban_digits, standard_codes,
 };

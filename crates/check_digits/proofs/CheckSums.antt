@@ -1,0 +1,171 @@
+-- Sums that differ in one term, and what a changed sum is modulo m.
+use Rattle.std.proofs.Common.{◌↔◌, ◌≡◌, ◌≢◌, ℕ, zero, suc, ◌+◌, ◌*◌, ◌/◌, ◌%◌, ◌<◌}
+use Rattle.std.proofs.Common.{◌≤◌, List, length, get_or, set, sym, ap, ◌∙◌, refl, arith, add-one}
+use Rattle.std.proofs.Common.{⊎_elim, length-set, get_or-set_same, get_or-set_other, ℤ, pos, negsuc}
+use Rattle.std.proofs.Math.Nat.{add-mod, add-mod-mod, mod-add-mod, div-add-mod}
+use Rattle.std.proofs.Math.Nat.{add-mul-mod_self_left, zero-mod, mod-eq_of_lt, mod-lt}
+use Rattle.std.proofs.lemmas.Bool.{cases_lt}
+use Rattle.std.proofs.lemmas.Nat.{mul-mod_first}
+use Rattle.num_modular.specs.Inverses.{HasInverse}
+use Rattle.num_modular.specs.Residues.{residue}
+use Rattle.num_modular.specs.Sums.{sum_below}
+use Rattle.check_digits.specs.Codes.{weighted_sum, exchanged}
+
+pub sum_none : (f : ℕ → ℕ) → sum_below 0 f ≡ 0
+unfolding sum_below
+sum_none f = refl
+
+pub sum_more : (n : ℕ) (f : ℕ → ℕ) → sum_below (n + 1) f ≡ sum_below n f + f n
+unfolding sum_below
+sum_more n f = ap (λ k. sum_below k f) (add-one n)
+
+-- one more term, reduced modulo m
+pub residue_more : (m sum t v p : ℕ) → v ≡ sum % m → p ≡ t % m → (v + p) % m ≡ (sum + t) % m
+residue_more m sum t v p e f = ap (λ n. (n + p) % m) e ∙ ap (λ n. (sum % m + n) % m) f ∙ sym (add-mod sum t m)
+
+before_term : (f g : ℕ → ℕ) (p n : ℕ) → ((i : ℕ) → i ≢ p → f i ≡ g i) → n ≤ p → sum_below n f ≡ sum_below n g
+unfolding sum_below
+before_term f g p zero h l = refl
+before_term f g p (suc n) h l =
+    let ne : n ≢ p = omega arith in
+    omega (arith, before_term f g p n h (omega arith), h n ne)
+
+-- sums that differ in the term at p
+pub one_term : (f g : ℕ → ℕ) (p n : ℕ) → ((i : ℕ) → i ≢ p → f i ≡ g i) → p < n
+    → sum_below n f + g p ≡ sum_below n g + f p
+unfolding sum_below
+one_term f g p zero h l = absurd (omega arith)
+one_term f g p (suc n) h l =
+    ⊎_elim
+    (λ (b : p < n).
+    let ne : n ≢ p = omega arith in
+    omega (arith, one_term f g p n h b, h n ne))
+    (λ (b : n ≤ p).
+    let here : p ≡ n = omega arith in
+    omega (arith, before_term f g p n h b, ap f here, ap g here))
+    (cases_lt p n)
+
+-- a word with one symbol changed
+pub changed_symbol : (ws xs : List ℕ) (p s : ℕ) → p < length xs
+    → weighted_sum ws (set xs p s) + get_or ws p 0 * get_or xs p 0 ≡ weighted_sum ws xs + get_or ws p 0 * s
+changed_symbol ws xs p s h =
+    let f : ℕ → ℕ = λ i. get_or ws i 0 * get_or (set xs p s) i 0 in
+    let g : ℕ → ℕ = λ i. get_or ws i 0 * get_or xs i 0 in
+    ap (λ n. sum_below n f + g p) (length-set xs p s)
+    ∙ one_term f g p (length xs) (λ i ne. ap (λ x. get_or ws i 0 * x) (get_or-set_other xs p i s 0 ne)) h
+    ∙ ap (λ x. sum_below (length xs) g + get_or ws p 0 * x) (get_or-set_same xs p s 0 h)
+
+-- and with two neighbours exchanged
+pub exchanged_symbols : (ws xs : List ℕ) (p : ℕ) → suc p < length xs
+    → weighted_sum ws (exchanged xs p) + get_or ws p 0 * get_or xs p 0 + get_or ws (suc p) 0 * get_or xs (suc p) 0
+    ≡ weighted_sum ws xs + get_or ws p 0 * get_or xs (suc p) 0 + get_or ws (suc p) 0 * get_or xs p 0
+exchanged_symbols ws xs p h =
+    let x = get_or xs p 0 in
+    let y = get_or xs (suc p) 0 in
+    let within : p < length xs = omega arith in
+    let ne : suc p ≢ p = omega arith in
+    let first = changed_symbol ws xs p y within in
+    let longer : suc p < length (set xs p y) = omega (arith, length-set xs p y) in
+    let second = changed_symbol ws (set xs p y) (suc p) x longer in
+    let same = ap (λ n. get_or ws (suc p) 0 * n) (get_or-set_other xs p (suc p) y 0 ne) in
+    omega (arith, first, second, same)
+
+-- equal remainders, by multiples of m
+spread : (m a b : ℕ) → a % m ≡ b % m → a + m * (b / m) ≡ b + m * (a / m)
+spread m a b e = omega (arith, div-add-mod a m, div-add-mod b m)
+
+gathered : (m a b j k : ℕ) → a + m * j ≡ b + m * k → a % m ≡ b % m
+gathered m a b j k e = sym (add-mul-mod_self_left a m j) ∙ ap (λ n. n % m) e ∙ add-mul-mod_self_left b m k
+
+-- the sum of a word with a symbol changed, d being the difference of the symbols
+pub changed_sum : (m S S' w x s d : ℕ) → S' + w * x ≡ S + w * s → (d + x) % m ≡ s % m → S' % m ≡ (S + w * d) % m
+changed_sum m S S' w x s d moved difference =
+    let times = ap (λ n. w * n) (spread m (d + x) s difference) in
+    gathered m S' (S + w * d) (w * ((d + x) / m)) (w * (s / m)) (omega (arith, times, moved))
+
+-- and with two neighbours exchanged, e being the difference of the weights
+pub exchanged_sum : (m S S' v w x y e d : ℕ) → S' + v * x + w * y ≡ S + v * y + w * x
+    → (e + w) % m ≡ v % m → (d + x) % m ≡ y % m → S' % m ≡ (S + e * d) % m
+exchanged_sum m S S' v w x y e d moved weights symbols =
+    let weights_x = ap (λ n. n * x) (spread m (e + w) v weights) in
+    let weights_y = ap (λ n. n * y) (spread m (e + w) v weights) in
+    let times = ap (λ n. e * n) (spread m (d + x) y symbols) in
+    gathered m S' (S + e * d) (e * ((d + x) / m) + (e + w) / m * y + v / m * x)
+    (e * (y / m) + v / m * y + (e + w) / m * x) (omega (arith, times, moved, weights_x, weights_y))
+
+-- a sum is still congruent to r, exactly where the change is congruent to 0
+pub still_leaves : (m r S S' p : ℕ) → S % m ≡ r % m → S' % m ≡ (S + p) % m → (S' % m ≡ r % m) ↔ (p % m ≡ 0)
+still_leaves m r S S' p leaves changed = (
+  λ h.
+      let equal = spread m (S + p) S (sym changed ∙ h ∙ sym leaves) in
+      gathered m p 0 _ _ (let e : p + m * (S / m) ≡ 0 + m * ((S + p) / m) = omega (arith, equal) in e) ∙ zero-mod m,
+  λ none.
+      let same : S + 0 ≡ S = omega arith in
+      changed ∙ sym (add-mod-mod S p m) ∙ ap (λ n. (S + n) % m) none ∙ ap (λ n. n % m) same ∙ leaves,
+)
+
+cancels_at : (m e i d j k q : ℕ) → e * i + m * j ≡ 1 + m * k → m * q ≡ e * d → d + m * (k * d) ≡ 0 + m * (i * q + j * d)
+cancels_at m e i d j k q one whole =
+    let times = ap (λ n. n * d) one in
+    let along = ap (λ n. i * n) whole in
+    omega (arith, times, along)
+
+-- a factor with an inverse cancels from a product that is 0 modulo m
+pub unit_cancels : (m e i d : ℕ) → (e * i) % m ≡ 1 % m → (e * d) % m ≡ 0 → d % m ≡ 0
+unit_cancels m e i d one zero_product =
+    let whole = div-add-mod (e * d) m in
+    gathered m d 0 _ _
+    (cancels_at m e i d (1 / m) (e * i / m) (e * d / m) (spread m (e * i) 1 one) (omega (arith, whole)))
+    ∙ zero-mod m
+
+-- so it shows a difference
+pub unit_finds : (m e d x s : ℕ) → HasInverse m e → (d + x) % m ≡ s % m → s % m ≢ x % m → (e * d) % m ≢ 0
+unit_finds m e d x s (i, inverse) difference apart zero_product =
+    apart (sym difference ∙ sym (mod-add-mod d m x)
+    ∙ ap (λ n. (n + x) % m) (unit_cancels m e i d inverse.one zero_product)
+    ∙ ap (λ n. n % m) (let e : 0 + x ≡ x = omega arith in e))
+
+restored_at : (m S S' w x s q t r a b c d j k : ℕ) → S' + w * x ≡ S + w * s
+    → q * w + m * a ≡ t + m * b → t + r + m * c ≡ S + m * d
+    → s + q + m * j ≡ x + m * k → S' + m * (b + w * j + d) ≡ r + m * (c + w * k + a)
+restored_at m S S' w x s q t r a b c d j k moved quotient less difference =
+    let times = ap (λ n. w * n) difference in
+    omega (arith, times, moved, quotient, less)
+
+-- the restored symbol: q times the weight is t, which is the sum less r, modulo m, and s is the symbol there less q
+pub restored_sum : (m S S' w x s q t r : ℕ) → S' + w * x ≡ S + w * s → (q * w) % m ≡ t % m
+    → (t + r) % m ≡ S % m → (s + q) % m ≡ x % m
+    → S' % m ≡ r % m
+restored_sum m S S' w x s q t r moved quotient less difference =
+    gathered m S' r _ _
+    (restored_at m S S' w x s q t r _ _ _ _ _ _ moved (spread m (q * w) t quotient) (spread m (t + r) S less)
+    (spread m (s + q) x difference))
+
+one_at : (m S S' S'' w x s t i a b j k : ℕ) → S' + w * x ≡ S + w * s
+    → S'' + w * x ≡ S + w * t → S' + m * a ≡ S'' + m * b
+    → w * i + m * j ≡ 1 + m * k → t + m * (k * t + j * s + i * b) ≡ s + m * (k * s + j * t + i * a)
+one_at m S S' S'' w x s t i a b j k moved other equal one =
+    let times_s = ap (λ n. n * s) one in
+    let times_t = ap (λ n. n * t) one in
+    let left = ap (λ n. i * n) moved in
+    let right = ap (λ n. i * n) other in
+    let along = ap (λ n. i * n) equal in
+    omega (arith, times_s, times_t, left, right, along)
+
+-- two symbols below m that give congruent sums are equal
+pub one_symbol : (m S S' S'' w x s t : ℕ) → HasInverse m w → s < m → t < m → S' % m ≡ S'' % m
+    → S' + w * x ≡ S + w * s → S'' + w * x ≡ S + w * t → t ≡ s
+one_symbol m S S' S'' w x s t (i, inverse) s_below t_below equal moved other =
+    sym (mod-eq_of_lt t_below)
+    ∙ gathered m t s _ _
+    (one_at m S S' S'' w x s t i _ _ _ _ moved other (spread m S' S'' equal) (spread m (w * i) 1 inverse.one))
+    ∙ mod-eq_of_lt s_below
+
+pub residue_below : (m : ℕ) (z : ℤ) → 0 < m → residue m z < m
+residue_below m (pos n) positive = mod-lt n positive
+residue_below m (negsuc n) positive = omega arith
+
+-- a number with an inverse, and its residue
+pub has_to_residue : (m a v : ℕ) → v ≡ a % m → HasInverse m a → HasInverse m v
+has_to_residue m a v e (i, h) =
+    (i, record { below = h.below; one = ap (λ w. (w * i) % m) e ∙ mul-mod_first a i m ∙ h.one })

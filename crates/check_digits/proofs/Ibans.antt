@@ -1,0 +1,183 @@
+-- Digits of texts, and the number that digits write modulo 97.
+use Rattle.std.proofs.Common.{◌≡◌, ◌↔◌, ℕ, zero, suc, ◌+◌, ◌-◌, ◌*◌, ◌%◌, ◌^◌, ◌<◌, Bool, true, ◌&&◌}
+use Rattle.std.proofs.Common.{nat_eq, List, [], ◌∷◌, length, get_or, drop, sym, ap, ◌∙◌, refl, arith}
+use Rattle.std.proofs.Math.Nat.{add-mod}
+use Rattle.std.proofs.lemmas.Bool.{and_parts, eqb-true, leb-true}
+use Rattle.std.proofs.lemmas.List.{get_or-drop}
+use Rattle.std.proofs.lemmas.Nat.{mul-mod_first}
+use Rattle.num_modular.specs.Sums.{sum_below, polynomial}
+use Rattle.std.proofs.Common.{append-nil, length-drop, ◌≤◌, ◌⊎◌, ⊎_elim, ◌++◌, ◌/◌, take, subst, false, nat_le, if◌then◌else◌}
+use Rattle.std.specs.List.{All, flat_map}
+use Rattle.std.proofs.lemmas.List.{ext_get_or, get_or-take, length-take-le, take_all, take_more}
+use Rattle.std.proofs.lemmas.Grind.{flat_map-append}
+use Rattle.std.proofs.lemmas.List.Elements.{All-nil, All-cons, All-append, All-drop, All-take, All-from_recursion, recursion_from_All}
+use Rattle.check_digits.specs.Codes.{weighted_sum, CheckCode, IsCodeword}
+use Rattle.check_digits.specs.Ibans.{IsDigit, IsLetter, digits_of, iban_digits, iban_number}
+use Rattle.check_digits.specs.Standards.{from_right, mod_97_10}
+use Rattle.check_digits.proofs.Finds.{each_below, passes, length-from_right, get_or-from_right}
+
+-- sums whose terms leave the same modulo m
+sums_alike : (m n : ℕ) (f g : ℕ → ℕ) → ((i : ℕ) → i < n → f i % m ≡ g i % m) → sum_below n f % m ≡ sum_below n g % m
+unfolding sum_below
+sums_alike m zero f g h = refl
+sums_alike m (suc n) f g h =
+    add-mod (sum_below n f) (f n) m
+    ∙ ap (λ k. (k + f n % m) % m) (sums_alike m n f g (λ i l. h i (omega (arith, l))))
+    ∙ ap (λ k. (sum_below n g % m + k) % m) (h n (omega arith))
+    ∙ sym (add-mod (sum_below n g) (g n) m)
+
+-- with the powers of ten as weights, the sum of digits is congruent to the number that they form
+pub number_of_sum : (m : ℕ) (weights digits : List ℕ)
+    → ((i : ℕ) → i < length digits → get_or weights i 0 ≡ 10 ^ (length digits - 1 - i) % m)
+    → weighted_sum weights digits % m ≡ polynomial (length digits) (λ i. get_or digits i 0) 10 % m
+number_of_sum m weights digits powers =
+    let n = length digits in
+    sums_alike m n (λ i. get_or weights i 0 * get_or digits i 0) (λ i. get_or digits i 0 * 10 ^ (n - 1 - i))
+    (λ i h.
+    let d = get_or digits i 0 in
+    let p = 10 ^ (n - 1 - i) in
+    let turn : p * d ≡ d * p = omega arith in
+    ap (λ w. (w * d) % m) (powers i h) ∙ mul-mod_first p d m ∙ ap (λ k. k % m) turn)
+
+-- whether the numbers of a list are the powers of ten modulo m, the last being that of 0
+abbrev pub are_powers : ℕ → List ℕ → Bool
+are_powers m [] = true
+are_powers m (x ∷ xs) = nat_eq x (10 ^ length xs % m) && are_powers m xs
+
+powers_at : (m : ℕ) (xs : List ℕ) → are_powers m xs ≡ true → (i : ℕ) → i < length xs
+    → get_or xs i 0 ≡ 10 ^ (length xs - 1 - i) % m
+powers_at m [] h i l = absurd (omega (arith, l))
+powers_at m (x ∷ xs) h zero l =
+    let same : length xs ≡ length (x ∷ xs) - 1 - 0 = omega arith in
+    eqb-true x (10 ^ length xs % m) (and_parts (nat_eq x (10 ^ length xs % m)) (are_powers m xs) h).0
+    ∙ ap (λ e. 10 ^ e % m) same
+powers_at m (x ∷ xs) h (suc i) l =
+    let same : length xs - 1 - i ≡ length (x ∷ xs) - 1 - suc i = omega arith in
+    powers_at m xs (and_parts (nat_eq x (10 ^ length xs % m)) (are_powers m xs) h).1 i (omega (arith, l))
+    ∙ ap (λ e. 10 ^ e % m) same
+
+-- so are the last of them
+pub powers_behind : (m place : ℕ) (xs : List ℕ) (count i : ℕ) → are_powers m xs ≡ true
+    → place + count ≡ length xs → i < count
+    → get_or (drop place xs) i 0 ≡ 10 ^ (count - 1 - i) % m
+powers_behind m place xs count i h whole within =
+    let same : length xs - 1 - (place + i) ≡ count - 1 - i = omega (arith, whole) in
+    get_or-drop place xs i 0 ∙ powers_at m xs h (place + i) (omega (arith, whole)) ∙ ap (λ e. 10 ^ e % m) same
+
+-- the digits of characters are digits
+digits_by : (b : Bool) (c : ℕ) → nat_le c 57 ≡ b → c ≤ 90
+    → All (λ d. d ≤ 9) (if b then (c - 48) ∷ [] else ((c - 55) / 10) ∷ ((c - 55) % 10) ∷ [])
+digits_by true c e h =
+    let digit : c ≤ 57 = leb-true c 57 e in
+    All-cons (λ d. d ≤ 9) (c - 48) [] (omega arith) (All-nil (λ d. d ≤ 9))
+digits_by false c e h =
+    All-cons (λ d. d ≤ 9) ((c - 55) / 10) (((c - 55) % 10) ∷ []) (omega arith)
+    (All-cons (λ d. d ≤ 9) ((c - 55) % 10) [] (omega arith) (All-nil (λ d. d ≤ 9)))
+
+digits_small : (c : ℕ) → IsDigit c ⊎ IsLetter c → All (λ d. d ≤ 9) (digits_of c)
+digits_small c h =
+    let bound : c ≤ 90 = ⊎_elim (λ (d : IsDigit c). let b = d.1 in omega arith) (λ (l : IsLetter c). l.1) h in
+    digits_by (nat_le c 57) c refl bound
+
+pub all_digits : (text : List ℕ) → All (λ c. IsDigit c ⊎ IsLetter c) text → All (λ d. d ≤ 9) (flat_map digits_of text)
+all_digits [] h = All-nil (λ d. d ≤ 9)
+all_digits (c ∷ cs) h =
+    let parts = recursion_from_All (λ c. IsDigit c ⊎ IsLetter c) (c ∷ cs) h in
+    All-append (λ d. d ≤ 9) (digits_of c) (flat_map digits_of cs) (digits_small c parts.0)
+    (all_digits cs (All-from_recursion (λ c. IsDigit c ⊎ IsLetter c) cs parts.1))
+
+-- the digits of a text are a word of the code of its number of digits, exactly where they form a number that is
+-- 1 modulo 97
+pub is_word : (code : CheckCode) (text word : List ℕ) (n : ℕ) → code ≡ mod_97_10 n → word ≡ iban_digits text
+    → length word ≡ n → All (λ c. IsDigit c ⊎ IsLetter c) text
+    → IsCodeword code word ↔ (iban_number text % 97 ≡ 1)
+is_word code text word n is digits count characters =
+    let weights : List ℕ = from_right n (λ j. 10 ^ j % 97) in
+    let number : weighted_sum weights word % 97 ≡ iban_number text % 97 =
+    number_of_sum 97 weights word
+    (λ i h. get_or-from_right n (λ j. 10 ^ j % 97) i (omega (arith, h, count)) ∙ ap (λ k. 10 ^ (k - 1 - i) % 97) (sym count))
+    ∙ ap (λ ds. polynomial (length ds) (λ i. get_or ds i 0) 10 % 97) digits in
+    let small : All (λ d. d ≤ 9) word =
+    subst (All (λ d. d ≤ 9)) (sym digits)
+    (all_digits (drop 4 text ++ take 4 text)
+    (All-append (λ c. IsDigit c ⊎ IsLetter c) (drop 4 text) (take 4 text)
+    (All-drop (λ c. IsDigit c ⊎ IsLetter c) 4 text characters)
+    (All-take (λ c. IsDigit c ⊎ IsLetter c) 4 text characters))) in
+    subst (λ k. IsCodeword k word ↔ (iban_number text % 97 ≡ 1)) (sym is) (
+      λ w. sym number ∙ w.leaves,
+      λ h. record {
+        places = count ∙ sym (length-from_right n (λ j. 10 ^ j % 97));
+        symbols = λ i l. record {
+          least = subst (λ k. k ≤ get_or word i 0) (sym (get_or-from_right n (λ j. 0) i (omega (arith, l, count)))) (omega arith);
+          greatest = subst (λ k. get_or word i 0 ≤ k) (sym (get_or-from_right n (λ j. 9) i (omega (arith, l, count))))
+              (small i 0 l);
+        };
+        leaves = number ∙ h;
+      },
+    )
+
+-- a list by its places
+listed : (n : ℕ) (xs : List ℕ) (f : ℕ → ℕ) → length xs ≡ n → ((i : ℕ) → i < n → get_or xs i 0 ≡ f (n - 1 - i))
+    → xs ≡ from_right n f
+listed n xs f count at =
+    ext_get_or 0 xs (from_right n f) (count ∙ sym (length-from_right n f))
+    (λ i h.
+    let inside : i < n = omega (arith, count, h) in
+    at i inside ∙ sym (get_or-from_right n f i inside))
+
+abbrev pub code_with : List ℕ → List ℕ → List ℕ → CheckCode
+code_with ws ls gs = record { modulus = 97; residue = 1; weights = ws; least = ls; greatest = gs }
+
+-- whether one number is at each of 68 places
+abbrev pub is_constant : ℕ → List ℕ → Bool
+is_constant v xs = each_below 68 (λ i. nat_eq (get_or xs i 0) v)
+
+-- the first of them
+constant : (v n : ℕ) (xs : List ℕ) → n ≤ 68 → length xs ≡ 68 → is_constant v xs ≡ true
+    → take n xs ≡ from_right n (λ j. v)
+constant v n xs most count h =
+    listed n (take n xs) (λ j. v) (length-take-le n xs (omega (arith, count)))
+    (λ i l.
+    let inside : i < 68 = omega (arith, l) in
+    get_or-take n xs i 0 l
+    ∙ eqb-true (get_or xs i 0) v (passes 68 (λ i. nat_eq (get_or xs i 0) v) h i inside))
+
+-- the code of the powers of ten, and of the digits
+pub is_code : (n : ℕ) (ws ls gs : List ℕ) → n ≤ 68 → length ws ≡ n
+    → ((i : ℕ) → i < n → get_or ws i 0 ≡ 10 ^ (n - 1 - i) % 97)
+    → length ls ≡ 68 → is_constant 0 ls ≡ true → length gs ≡ 68 → is_constant 9 gs ≡ true
+    → code_with ws (take n ls) (take n gs) ≡ mod_97_10 n
+is_code n ws ls gs most count weights l_count l g_count g =
+    ap (λ xs. code_with xs (take n ls) (take n gs)) (listed n ws (λ j. 10 ^ j % 97) count weights)
+    ∙ ap (λ xs. code_with (from_right n (λ j. 10 ^ j % 97)) xs (take n gs)) (constant 0 n ls most l_count l)
+    ∙ ap (λ xs. code_with (from_right n (λ j. 10 ^ j % 97)) (from_right n (λ j. 0)) xs)
+    (constant 9 n gs most g_count g)
+
+-- the digits of one more character
+pub more_digits : (f : ℕ → List ℕ) (text : List ℕ) (i : ℕ) → i < length text
+    → flat_map f (take (i + 1) text) ≡ flat_map f (take i text) ++ f (get_or text i 0)
+more_digits f text i l =
+    ap (flat_map f) (take_more text i 0 l) ∙ flat_map-append f (take i text) (get_or text i 0 ∷ [])
+    ∙ ap (λ xs. flat_map f (take i text) ++ xs) (append-nil (f (get_or text i 0)))
+
+-- the places that the digits take
+pub room_left : (e s i n d room : ℕ) → e ≤ s + 2 * i → i < n → s + 2 * n ≤ d → room ≡ d → e + 2 ≤ room
+room_left e s i n d room so_far l whole same = omega arith
+
+pub room_next : (e r s i : ℕ) → e ≤ s + 2 * i → r ≤ e + 2 → r ≤ s + 2 * (i + 1)
+room_next e r s i so_far next = omega arith
+
+pub room_within : (e s i n : ℕ) → e ≤ s + 2 * i → i ≤ n → e ≤ s + 2 * n
+room_within e s i n so_far l = omega arith
+
+pub rest_whole : (text : List ℕ) → take (length text - 4) (drop 4 text) ≡ drop 4 text
+rest_whole text = take_all (length text - 4) (drop 4 text) (omega (arith, length-drop 4 text))
+
+pub first_room : (text : List ℕ) → 5 ≤ length text → length text ≤ 34
+    → 0 + 2 * length (take (length text - 4) (drop 4 text)) ≤ 68
+first_room text least most = omega (arith, ap length (rest_whole text), length-drop 4 text)
+
+pub both_rooms : (text : List ℕ) (e : ℕ) → 5 ≤ length text → length text ≤ 34
+    → e ≤ 0 + 2 * length (take (length text - 4) (drop 4 text)) → e + 2 * length (take 4 text) ≤ 68
+both_rooms text e least most first =
+    omega (arith, ap length (rest_whole text), length-drop 4 text, length-take-le 4 text (omega arith))

@@ -1,0 +1,7 @@
+mod Characters
+mod CheckSums
+mod Codewords
+mod Finds
+mod Ibans
+mod LuhnDigits
+mod Neighbours

@@ -1,0 +1,4 @@
+pub mod Codes
+pub mod Ibans
+pub mod Luhn
+pub mod Standards
