@@ -3,5 +3,6 @@ pub mod KeyPairs
 pub mod NearPairs
 pub mod NearestWords
 pub mod NewtonForms
+pub mod RootPowers
 pub mod Secrecy
 pub mod Symbols

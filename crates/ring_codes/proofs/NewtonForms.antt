@@ -53,7 +53,7 @@ product-first (suc n) f =
     omega (arith, i)
 
 -- a factor of 0
-product-none : (n l : ℕ) (f : ℕ → ℕ) → l < n → f l ≡ 0 → product_below n f ≡ 0
+pub product-none : (n l : ℕ) (f : ℕ → ℕ) → l < n → f l ≡ 0 → product_below n f ≡ 0
 unfolding product_below
 product-none zero l f below none = absurd (omega arith)
 product-none (suc n) l f below none = elim (cases_eq l n) [
@@ -77,7 +77,7 @@ form-more m (suc n) c x a =
     let p = ap (λ v. v * c (suc n)) (product-first n f) in
     omega (arith, i, p)
 
-no_difference : (m a : ℕ) → residue m (pos a -ℤ pos a) ≡ 0
+pub no_difference : (m a : ℕ) → residue m (pos a -ℤ pos a) ≡ 0
 no_difference m a = let e : pos a -ℤ pos a ≡ pos 0 = omega (arith, ints) in ap (residue m) e ∙ zero-mod m
 
 -- at a point before it, one coefficient more changes nothing
@@ -177,11 +177,11 @@ one_expanded m n a X e s positive each last =
 to_residue : (m a x : ℕ) → IsInverse m a x → IsInverse m (a % m) x
 to_residue m a x h = record { below = h.below; one = mul-mod_first a x m ∙ h.one }
 
-of_residue : (m a x : ℕ) → IsInverse m (a % m) x → IsInverse m a x
+pub of_residue : (m a x : ℕ) → IsInverse m (a % m) x → IsInverse m a x
 of_residue m a x h = record { below = h.below; one = sym (mul-mod_first a x m) ∙ h.one }
 
 -- b - a has an inverse where a - b has
-turned_difference : (m a b : ℕ) → HasInverse m (residue m (pos a -ℤ pos b)) → HasInverse m (residue m (pos b -ℤ pos a))
+pub turned_difference : (m a b : ℕ) → HasInverse m (residue m (pos a -ℤ pos b)) → HasInverse m (residue m (pos b -ℤ pos a))
 turned_difference m a b h =
     let below = h.1.below in
     let positive : 0 < m = omega (arith, below) in

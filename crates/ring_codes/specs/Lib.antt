@@ -2,4 +2,5 @@ pub mod Correction
 pub mod Erasure
 pub mod KeyEquations
 pub mod Newton
+pub mod Powers
 pub mod Secrets

@@ -21,6 +21,7 @@ ghost use Rattle.ring_codes.specs.Erasure.{IsEncoding, IsErasureCodeword, ArePla
 mod correction;
 mod key_equation;
 mod newton;
+mod powers;
 mod quotients;
 mod secrets;
 
@@ -28,6 +29,7 @@ pub use correction::{CorrectError, correct};
 use newton::{differences_before, divide_differences, expand, fill_weights};
 use num_modular::ring::invert_each;
 use num_modular::{Reducer, RingWord};
+pub use powers::{encode_by_transform, fill_powers, root_laws};
 pub use secrets::{ShareError, recover, recover_correct, secrecy_laws, share};
 
 /// Why a message can't be restored.

@@ -1,0 +1,42 @@
+use Rattle.num_modular.specs.Callers.{◌*◌, ◌%◌, ◌∙◌, ap, sym, arith}
+use Rattle.std.proofs.Common.{◌^◌, add-one}
+use Rattle.std.proofs.Math.Nat.{pow-zero, pow-suc}
+use Rattle.std.proofs.lemmas.Nat.{mul-mod_first}
+use Rattle.num_modular.specs.Callers.{hold_more, held_entry, held_forms}
+use Rattle.ring_codes.proofs.erasure.powers.fill_powers.Goals as goal
+
+pub powers-init : goal.powers-init
+powers-init g c =
+    let ring = g.R.Reducer in let m = ring.modulus c.args.r.now in let number = g.T.RingWord.number in (
+      record { each = λ k d l. absurd (omega arith) },
+      record {
+        checked = c.transform-power.ensures.checked;
+        same = c.transform-power.ensures.value ∙ ap (λ v. v % m) (c.one.ensures ∙ sym (pow-zero _));
+      },
+    )
+
+pub powers-preserved : goal.powers-preserved
+powers-preserved g c =
+    let ring = g.R.Reducer in let m = ring.modulus c.args.r.now in let number = g.T.RingWord.number in
+    let a = ring.value m (number c.args.g.now) in let i = c.powers.i in
+    let held = c.powers.invariant.0 in let next = c.powers.invariant.1 in (
+      hold_more number ring.form ring.value m c.powers.points i c.powers.power (λ i. a ^ i % m) (omega arith) held
+          next.checked next.same,
+      record {
+        checked = c.mul-power.ensures.checked;
+        same = c.mul-power.ensures.value ∙ ap (λ v. (v * a) % m) next.same ∙ mul-mod_first (a ^ i) a m
+            ∙ ap (λ v. v % m) (sym (pow-suc a i) ∙ ap (λ k. a ^ k) (sym (add-one i)));
+      },
+    )
+
+pub returns-clause-checked : goal.returns-clause-checked
+returns-clause-checked g c =
+    let ring = g.R.Reducer in let m = ring.modulus c.args.r.now in
+    held_forms g.T.RingWord.number ring.form ring.value m c.powers.points _ _ c.powers.invariant.0 (omega arith)
+
+pub returns-clause-powers : goal.returns-clause-powers
+returns-clause-powers g c =
+    let ring = g.R.Reducer in let m = ring.modulus c.args.r.now in record {
+      power = λ i l. held_entry g.T.RingWord.number ring.form ring.value m c.powers.points _ _ i c.powers.invariant.0
+          (omega arith) (omega arith);
+    }

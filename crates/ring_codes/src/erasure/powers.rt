@@ -1,0 +1,70 @@
+//! Codes whose points are the powers of a root of unity: their words are transforms.
+
+ghost use Rattle.std.specs.Prelude.{◌≡◌, ℕ, ◌%◌, ◌<◌, ◌≤◌, All, length};
+ghost use Rattle.num_modular.specs.Entries.{entry};
+ghost use Rattle.num_modular.specs.Forms.{IsForm};
+ghost use Rattle.num_modular.specs.Polynomials.{HaveUnitDifferences};
+ghost use Rattle.num_modular.specs.Transforms.{Suits, transform};
+ghost use Rattle.ring_codes.specs.Erasure.{IsEncoding};
+ghost use Rattle.ring_codes.specs.Powers.{ArePowers};
+
+use num_modular::ring::ntt;
+use num_modular::{Reducer, RingWord};
+
+/// Writes the points g^0, g^1, .. modulo m, as many as the list holds. Condition: g is a checked form.
+///
+/// Where m is odd and g suits their number n (`root_fits` tells), the points fit (`root_laws`): `restore`, `correct` and
+/// the other calls accept them.
+pub fn fill_powers<T: RingWord, R: Reducer<T>>(r: &R, g: &T, points: &mut [T])
+    requires { IsForm R.form R.value (R.modulus r.now) (T.number g.now) }
+    ensures checked { All (λ f. IsForm R.form R.value (R.modulus r.now) (T.number f)) points.new }
+    ensures powers { let m = R.modulus r.now in
+        ArePowers m (R.value m (T.number g.now)) (length points.old) (entry T.number R.value m points.new) }
+{
+    let mut power = r.transform(T::one());
+    'powers: for i in 0..points.len() {
+        points[i] = power;
+        power = r.mul(&power, g);
+    }
+}
+
+/// Writes the word of a message at the points g^0, .., g^(n - 1), n being the length of the word: what `encode` writes
+/// at these points, by one transform instead of n·k products.
+///
+/// Conditions: n is a power of two; g and the message are checked forms; g suits n (`root_fits` tells); the message has
+/// at most n symbols.
+///
+/// Source: `ntt` of the message followed by zeros.
+pub fn encode_by_transform<T: RingWord, R: Reducer<T>>(r: &R, g: &T, message: &[T], word: &mut [T])
+    requires root { IsForm R.form R.value (R.modulus r.now) (T.number g.now) }
+    requires message { All (λ f. IsForm R.form R.value (R.modulus r.now) (T.number f)) message.now }
+    requires suits { let m = R.modulus r.now in Suits m (R.value m (T.number g.now)) (length word.old) }
+    requires few { length message.now ≤ length word.old }
+    ensures checked { All (λ f. IsForm R.form R.value (R.modulus r.now) (T.number f)) word.new }
+    ensures encoding { let m = R.modulus r.now in (points : ℕ → ℕ) →
+        ArePowers m (R.value m (T.number g.now)) (length word.old) points →
+        IsEncoding m (length message.now) (length word.old) points
+        (entry T.number R.value m message.now) (entry T.number R.value m word.new) }
+{
+    let zero = r.transform(T::zero());
+    'symbols: for i in 0..word.len() {
+        word[i] = if i < message.len() { message[i] } else { zero };
+    }
+    ntt(r, word, g);
+}
+
+/// Where m is odd and g suits n, the points g^0, .., g^(n - 1) fit: the difference of any two has an inverse modulo
+/// m. At these points the word of a message of k symbols is its transform by g, the message being followed by n - k
+/// zeros.
+///
+/// For g^i and g^j with i > j the difference is g^j·(g^(i - j) - 1), and the second factor divides -2, the last power
+/// being -1 after some squarings of g^(i - j).
+///
+/// Source: Pollard, "The fast Fourier transform in a finite field".
+pub fn root_laws()
+    ensures fit { (m g n : ℕ) (points : ℕ → ℕ) → m % 2 ≡ 1 → Suits m g n → ArePowers m g n points →
+        HaveUnitDifferences m n points }
+    ensures transform { (m g k n : ℕ) (points message : ℕ → ℕ) → k ≤ n → ArePowers m g n points →
+        ((i : ℕ) → k ≤ i → i < n → message i ≡ 0) →
+        IsEncoding m k n points message (transform m g n message) }
+{}
