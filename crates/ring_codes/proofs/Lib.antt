@@ -1,5 +1,6 @@
 pub mod Distances
 pub mod KeyPairs
+pub mod Lagrange
 pub mod NearPairs
 pub mod NearestWords
 pub mod NewtonForms

@@ -32,11 +32,11 @@ inverses m (suc d) f each =
     )
 
 -- the coefficients of v + (X + r) times a polynomial
-raised : ℕ → ℕ → (ℕ → ℕ) → ℕ → ℕ
+pub raised : ℕ → ℕ → (ℕ → ℕ) → ℕ → ℕ
 raised v r h zero = v + r * h zero
 raised v r h (suc i) = h i + r * h (suc i)
 
-raised_behind : (d v r : ℕ) (h : ℕ → ℕ) → ((i : ℕ) → d ≤ i → h i ≡ 0)
+pub raised_behind : (d v r : ℕ) (h : ℕ → ℕ) → ((i : ℕ) → d ≤ i → h i ≡ 0)
     → (i : ℕ) → suc d ≤ i → raised v r h i ≡ 0
 unfolding raised
 raised_behind d v r h none zero l = absurd (omega arith)
@@ -45,7 +45,7 @@ raised_behind d v r h none (suc i) l =
     let q = ap (λ w. r * w) (none (suc i) (omega arith)) in
     omega (arith, p, q)
 
-value_raised : (d v r X : ℕ) (h : ℕ → ℕ) → h d ≡ 0
+pub value_raised : (d v r X : ℕ) (h : ℕ → ℕ) → h d ≡ 0
     → ascending_polynomial (suc d) (raised v r h) X ≡ v + (X + r) * ascending_polynomial d h X
 unfolding raised
 value_raised d v r X h none =
@@ -93,7 +93,7 @@ values_raised m d x v u h positive none units values (suc i) l =
     (difference_alike m (x (suc i)) (x 0) positive) (units i (omega arith)) (values i (omega arith)))
 
 -- d coefficients with these values at d points
-through : (m d : ℕ) (x v : ℕ → ℕ) → 0 < m → HaveUnitDifferences m d x
+pub through : (m d : ℕ) (x v : ℕ → ℕ) → 0 < m → HaveUnitDifferences m d x
     → (h : ℕ → ℕ) × ((i : ℕ) → d ≤ i → h i ≡ 0)
     × ((i : ℕ) → i < d → Congruent m (ascending_polynomial d h (x i)) (v i))
 through m zero x v positive fit = ((λ i. 0), (λ i l. refl), λ i l. absurd (omega arith))

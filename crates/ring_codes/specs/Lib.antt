@@ -3,4 +3,5 @@ pub mod Erasure
 pub mod KeyEquations
 pub mod Newton
 pub mod Powers
+pub mod Prepared
 pub mod Secrets

@@ -22,6 +22,7 @@ mod correction;
 mod key_equation;
 mod newton;
 mod powers;
+mod prepared;
 mod quotients;
 mod secrets;
 
@@ -30,6 +31,7 @@ use newton::{differences_before, divide_differences, expand, fill_weights};
 use num_modular::ring::invert_each;
 use num_modular::{Reducer, RingWord};
 pub use powers::{encode_by_transform, fill_powers, root_laws};
+pub use prepared::PreparedCode;
 pub use secrets::{ShareError, recover, recover_correct, secrecy_laws, share};
 
 /// Why a message can't be restored.

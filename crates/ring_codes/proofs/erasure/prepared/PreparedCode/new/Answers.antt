@@ -1,0 +1,28 @@
+use Rattle.num_modular.specs.Callers.{ℕ, ◌*◌, ◌%◌, ◌∙◌, refl, length}
+use Rattle.num_modular.specs.Callers.{entry}
+use Rattle.num_modular.specs.NumberLaws.{of_equal, itself, residue_of, chained, multiplied}
+use Rattle.ring_codes.specs.Prepared.{product_but}
+use Rattle.ring_codes.proofs.Lagrange.{rows_from}
+use Rattle.ring_codes.proofs.erasure.prepared.PreparedCode.new.Goals as goal
+
+pub invariant_of-result : goal.invariant_of-result
+invariant_of-result g c =
+    let ring = g.R.Reducer in let m = ring.modulus c.args.ring.now in let number = g.T.RingWord.number in
+    let positive = (g.met.R.Reducer.canonical c.args.ring.now).positive in
+    let known = c.args.known.now in let wanted = c.args.wanted.now in
+    let x = entry number ring.value m known in let y = entry number ring.value m wanted in
+    let w = entry number ring.value m c.fill_weights.new.weights in
+    let k : ℕ = length known in
+    let fit = c.if-not-fill_weights.ensures.fit.0 refl in
+    record {
+      known_forms = c.requires.known;
+      wanted_forms = c.requires.wanted;
+      row_forms = c.fill_rows.ensures.checked;
+      fit = ∣ fit ∣₁;
+      count = c.fill_rows.auto.rows ∙ c.requires.count;
+      factors = rows_from m k (length wanted) x y w (entry number ring.value m c.fill_rows.new.rows) positive fit
+          (c.if-not-fill_weights.ensures.inverses refl)
+          (λ j i l b. chained (of_equal (c.fill_rows.ensures.values j i l b))
+          (chained (residue_of (product_but m k x i (y j) % m * w i))
+          (multiplied (residue_of (product_but m k x i (y j))) (itself (w i)))));
+    }

@@ -1,0 +1,96 @@
+use Rattle.num_modular.specs.Callers.{◌≡◌, ◌≢◌, ℕ, ◌-◌, ◌%◌, ◌<◌, ◌∙◌, ap, sym, arith, inl, inr, length}
+use Rattle.num_modular.specs.Callers.{entry, entry_at, entry_read, entry_written, entry_kept, forms_written}
+use Rattle.num_modular.specs.Callers.{hold_more, held_forms, held_entry, product_none, product_step, product_below}
+use Rattle.std.proofs.Common.{pos, ◌-ℤ◌, slice_set}
+use Rattle.std.proofs.lemmas.Bool.{cases_eq}
+use Rattle.num_modular.specs.Residues.{residue}
+use Rattle.ring_codes.specs.Prepared.{product_but}
+use Rattle.ring_codes.proofs.Lagrange.{product_of_parts}
+use Rattle.ring_codes.proofs.erasure.prepared.fill_products.Goals as goal
+
+pub forward-init : goal.forward-init
+forward-init g c =
+    let m = g.R.Reducer.modulus c.args.r.now in (
+      record { each = λ k d l. absurd (omega arith) },
+      record {
+        checked = c.transform-one.ensures.checked;
+        same = product_none m _ _ (c.transform-one.ensures.value ∙ ap (λ v. v % m) c.one.ensures);
+      },
+    )
+
+pub forward-preserved : goal.forward-preserved
+forward-preserved g c =
+    let ring = g.R.Reducer in let m = ring.modulus c.args.r.now in let number = g.T.RingWord.number in
+    let points = c.args.points.now in let x = entry number ring.value m points in
+    let a = ring.value m (number c.args.point.now) in let i = c.forward.i in
+    let f : ℕ → ℕ = λ l. residue m (pos a -ℤ pos (x l)) in
+    let held = c.forward.invariant.0 in let next = c.forward.invariant.1 in
+    let point = entry_read number ring.value m points i _ c.forward-test.true c.index-points-i.is in (
+      hold_more number ring.form ring.value m c.forward.products i c.forward.before (λ i. product_below i f % m)
+          (omega arith) held next.checked next.same,
+      record {
+        checked = c.mul-before.ensures.checked;
+        same = c.mul-before.ensures.value
+            ∙ product_step m i _ _ f next.same
+            (c.sub-difference.ensures.value ∙ ap (λ v. residue m (pos a -ℤ pos v)) point);
+      },
+    )
+
+pub backward-init : goal.backward-init
+backward-init g c =
+    let ring = g.R.Reducer in let m = ring.modulus c.args.r.now in let number = g.T.RingWord.number in
+    let x = entry number ring.value m c.args.points.now in let a = ring.value m (number c.args.point.now) in
+    let f : ℕ → ℕ = λ l. residue m (pos a -ℤ pos (x l)) in
+    let held = c.forward.invariant.0 in (
+      held_forms number ring.form ring.value m c.forward.products (λ i. product_below i f % m) c.forward.i held
+          (omega arith),
+      λ i l. held_entry number ring.form ring.value m c.forward.products (λ i. product_below i f % m) c.forward.i i held
+          (omega arith) (omega arith),
+      λ i l b. absurd (omega (arith, l, b)),
+      record {
+        checked = c.transform-one.ensures.checked;
+        same = product_none m _ _ (c.transform-one.ensures.value ∙ ap (λ v. v % m) c.one.ensures);
+      },
+    )
+
+pub backward-preserved : goal.backward-preserved
+backward-preserved g c =
+    let ring = g.R.Reducer in let m = ring.modulus c.args.r.now in let number = g.T.RingWord.number in
+    let points = c.args.points.now in let x = entry number ring.value m points in
+    let a = ring.value m (number c.args.point.now) in
+    let n : ℕ = length points in let k = c.backward.k in let i : ℕ = n - 1 - k in
+    let products = c.backward.products in
+    let below : k < n = c.backward-test.true in
+    let inside : i < n = omega (arith, below) in
+    let within : i < length products = omega arith in
+    let f : ℕ → ℕ = λ l. residue m (pos a -ℤ pos (x l)) in
+    let back : ℕ → ℕ = λ l. f (n - 1 - l) in
+    let so_far = c.backward.invariant in
+    let before = entry_at number ring.value m products i c.index-products-i.result within in
+    let point = entry_read number ring.value m points i _ inside c.index-points-i-in-backward.is in
+    let count : k ≡ n - 1 - i = omega (arith, below) in
+    let here = product_of_parts m n i _ a _ x (before ∙ so_far.1 i (omega (arith, below)))
+    (so_far.3.same ∙ ap (λ j. product_below j back % m) count) in
+    let kept = λ (j : ℕ) (other : j ≢ i). entry_kept number ring.value m products i j c.mul.result other in (
+      forms_written number ring.form ring.value m products i c.mul.result c.mul.ensures.checked so_far.0,
+      λ j l. kept j (omega (arith, l, below)) ∙ so_far.1 j (omega (arith, l)),
+      λ j l b. elim (cases_eq j i) [
+        | inl e ↦
+            ap (λ p. entry number ring.value m (slice_set products i c.mul.result) p) e
+            ∙ entry_written number ring.value m products i c.mul.result within ∙ c.mul.ensures.value ∙ here
+            ∙ ap (λ p. product_but m n x p a % m) (sym e)
+        | inr other ↦ kept j other ∙ so_far.2 j (omega (arith, l, other, below)) b
+      ],
+      record {
+        checked = c.mul-after.ensures.checked;
+        same = c.mul-after.ensures.value
+            ∙ product_step m k _ _ back so_far.3.same
+            (c.sub-difference-in-backward.ensures.value ∙ ap (λ v. residue m (pos a -ℤ pos v)) point);
+      },
+    )
+
+pub returns-clause-checked : goal.returns-clause-checked
+returns-clause-checked g c = c.backward.invariant.0
+
+pub returns-clause-values : goal.returns-clause-values
+returns-clause-values g c i l = c.backward.invariant.2 i (omega arith) l

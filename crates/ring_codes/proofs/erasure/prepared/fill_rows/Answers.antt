@@ -1,0 +1,71 @@
+use Rattle.num_modular.specs.Callers.{◌≡◌, ℕ, ◌+◌, ◌*◌, ◌/◌, ◌%◌, ◌≤◌, ◌∙◌, ap, sym, arith, length}
+use Rattle.num_modular.specs.Callers.{entry, entry_at, entry_read, hold_more, held_forms, held_entry}
+use Rattle.std.proofs.Math.Nat.{mul-le-mul_right}
+use Rattle.std.proofs.lemmas.Nat.{mod-mul-add, div-mul-add}
+use borrow.Author.Rules.{scaled_Fits}
+use Rattle.ring_codes.specs.Prepared.{product_but}
+use Rattle.ring_codes.proofs.Lagrange.{row_within}
+use Rattle.ring_codes.proofs.erasure.prepared.fill_rows.Goals as goal
+
+pub bounds-rows-next : goal.bounds-rows-next
+bounds-rows-next g c =
+    let k : ℕ = length c.args.known.now in
+    let inside = row_within c.wanted.j (length c.args.wanted.now) k c.known.i c.wanted-test.true c.known-test.true in
+    omega (arith, inside, c.known.invariant.0, c.requires.count)
+
+pub offset_bounds-rows-next : goal.offset_bounds-rows-next
+offset_bounds-rows-next g c =
+    let k : ℕ = length c.args.known.now in
+    let inside = row_within c.wanted.j (length c.args.wanted.now) k c.known.i c.wanted-test.true c.known-test.true in
+    scaled_Fits _ _ _ (omega (arith, inside, c.known.invariant.0, c.requires.count)) c.well_formed.1.1.1.1.1.0.1
+
+pub known-preserved : goal.known-preserved
+known-preserved g c =
+    let ring = g.R.Reducer in let m = ring.modulus c.args.r.now in let number = g.T.RingWord.number in
+    let known = c.args.known.now in let x = entry number ring.value m known in
+    let y = entry number ring.value m c.args.wanted.now in let w = entry number ring.value m c.args.weights.now in
+    let k : ℕ = length known in let j = c.wanted.j in let i = c.known.i in let next = c.known.next in
+    let products = c.fill_products.new.products in
+    let v : ℕ → ℕ = λ e. (product_but m k x (e % k) (y (e / k)) % m * w (e % k)) % m in
+    let so_far = c.known.invariant.1 in let at = c.known.invariant.0 in
+    let column : next % k ≡ i = ap (λ e. e % k) at ∙ mod-mul-add j k i c.known-test.true in
+    let row : next / k ≡ j = ap (λ e. e / k) at ∙ div-mul-add j k i c.known-test.true in
+    let point = entry_read number ring.value m c.args.wanted.now j _ c.wanted-test.true c.index-wanted-j.is in
+    let product = entry_at number ring.value m products i c.index-products-i.result (omega arith) in
+    let weight = entry_read number ring.value m c.args.weights.now i _ (omega arith) c.index-weights-i.is in
+    let here : v next ≡ (product_but m k x i (y j) % m * w i) % m =
+    ap (λ e. (product_but m k x e (y (next / k)) % m * w e) % m) column
+    ∙ ap (λ e. (product_but m k x i (y e) % m * w i) % m) row in
+    let value = c.mul.ensures.value
+    ∙ ap (λ e. (e * ring.value m (number c.index-weights-i.result)) % m)
+    (product ∙ c.fill_products.ensures.values i c.known-test.true ∙ ap (λ a. product_but m k x i a % m) point)
+    ∙ ap (λ e. (product_but m k x i (y j) % m * e) % m) weight in
+    let inside = row_within j (length c.args.wanted.now) k i c.wanted-test.true c.known-test.true in (
+      omega (arith, at),
+      hold_more number ring.form ring.value m c.known.rows next c.mul.result v
+          (omega (arith, inside, at, c.requires.count)) so_far c.mul.ensures.checked (value ∙ sym here),
+    )
+
+pub returns-clause-values : goal.returns-clause-values
+returns-clause-values g c j i l b =
+    let ring = g.R.Reducer in let m = ring.modulus c.args.r.now in let number = g.T.RingWord.number in
+    let known = c.args.known.now in let x = entry number ring.value m known in
+    let y = entry number ring.value m c.args.wanted.now in let w = entry number ring.value m c.args.weights.now in
+    let k : ℕ = length known in let n : ℕ = length c.args.wanted.now in
+    let v : ℕ → ℕ = λ e. (product_but m k x (e % k) (y (e / k)) % m * w (e % k)) % m in
+    let inside = row_within j n k i l b in
+    let all : n * k ≤ c.wanted.j * k = mul-le-mul_right k c.wanted-test.false in
+    let at = c.wanted.invariant.0 in
+    held_entry number ring.form ring.value m c.wanted.rows v c.wanted.next (j * k + i) c.wanted.invariant.1
+    (omega (arith, inside, all, at)) (omega (arith, inside, c.wanted.auto.rows, c.requires.count))
+    ∙ ap (λ e. (product_but m k x e (y ((j * k + i) / k)) % m * w e) % m) (mod-mul-add j k i b)
+    ∙ ap (λ e. (product_but m k x i (y e) % m * w i) % m) (div-mul-add j k i b)
+
+pub returns-clause-checked : goal.returns-clause-checked
+returns-clause-checked g c =
+    let ring = g.R.Reducer in let m = ring.modulus c.args.r.now in
+    let k : ℕ = length c.args.known.now in
+    let all : length c.args.wanted.now * k ≤ c.wanted.j * k = mul-le-mul_right k c.wanted-test.false in
+    let at = c.wanted.invariant.0 in
+    held_forms g.T.RingWord.number ring.form ring.value m c.wanted.rows _ _ c.wanted.invariant.1
+    (omega (arith, all, at, c.wanted.auto.rows, c.requires.count))

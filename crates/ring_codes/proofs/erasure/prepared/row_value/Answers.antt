@@ -1,0 +1,32 @@
+use Rattle.num_modular.specs.Callers.{ℕ, ◌+◌, ◌*◌, ◌%◌, ◌<◌, ◌∙◌, ap, sym, arith, length}
+use Rattle.num_modular.specs.Callers.{entry, entry_read}
+use Rattle.std.proofs.Common.{add-one}
+use Rattle.num_modular.specs.NumberLaws.{of_equal, chained, residue_of, added, sum_below-zero, sum_below-suc}
+use Rattle.num_modular.specs.Sums.{sum_below}
+use Rattle.ring_codes.proofs.erasure.prepared.row_value.Goals as goal
+
+pub factors-init : goal.factors-init
+factors-init g c =
+    let m = g.R.Reducer.modulus c.args.r.now in record {
+      checked = c.transform-sum.ensures.checked;
+      same = c.transform-sum.ensures.value ∙ ap (λ v. v % m) (c.zero.ensures ∙ sym (sum_below-zero _));
+    }
+
+pub factors-preserved : goal.factors-preserved
+factors-preserved g c =
+    let ring = g.R.Reducer in let m = ring.modulus c.args.r.now in let number = g.T.RingWord.number in
+    let rows = c.args.rows.now in let symbols = c.args.symbols.now in let i = c.factors.i in
+    let f : ℕ → ℕ = λ i. entry number ring.value m rows (c.args.start + i) * entry number ring.value m symbols i in
+    let below : i < length symbols = c.factors-test.true in
+    let row = entry_read number ring.value m rows (c.args.start + i) _ (omega (arith, below, c.requires.within))
+    c.index-rows-start.is in
+    let symbol = entry_read number ring.value m symbols i _ below c.index-symbols-i.is in
+    let product = c.mul-product.ensures.value ∙ ap (λ v. (v * ring.value m (number c.index-symbols-i.result)) % m) row
+    ∙ ap (λ v. (entry number ring.value m rows (c.args.start + i) * v) % m) symbol in
+    record {
+      checked = c.add-sum.ensures.checked;
+      same = c.add-sum.ensures.value
+          ∙ (added (chained (of_equal c.factors.invariant.same) (residue_of (sum_below i f)))
+          (chained (of_equal product) (residue_of (f i)))).same
+          ∙ ap (λ v. v % m) (sym (sum_below-suc i f) ∙ ap (λ j. sum_below j f) (sym (add-one i)));
+    }

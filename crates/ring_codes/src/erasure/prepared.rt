@@ -1,0 +1,241 @@
+//! Codes prepared for many words: what depends on the points alone is computed once.
+
+ghost use Rattle.std.specs.Prelude.{◌≡◌, ℕ, ◌+◌, ◌*◌, ◌%◌, ◌<◌, ◌≤◌, ◌↔◌, IsTrue, All, length, MatchOption};
+ghost use Rattle.num_modular.specs.Entries.{entry};
+ghost use Rattle.num_modular.specs.Forms.{IsForm};
+ghost use Rattle.num_modular.specs.Inverses.{IsInverse};
+ghost use Rattle.num_modular.specs.Polynomials.{HaveUnitDifferences};
+ghost use Rattle.num_modular.specs.Sums.{sum_below};
+ghost use Rattle.ring_codes.specs.Erasure.{IsEncoding};
+ghost use Rattle.ring_codes.specs.Prepared.{product_but, AreRows};
+
+use num_modular::ring::invert_each;
+use num_modular::{Reducer, RingWord};
+
+/// A code prepared for many words. The k symbols at its known points give those at its t wanted points by k·t products.
+///
+/// A systematic code knows the first k points and wants the others: `extend` writes the check symbols of a message. To
+/// restore, it knows the points of k kept symbols and wants those of the lost ones, or all. A table of t·k factors,
+/// which the caller owns, is filled once.
+#[derive(Drop)]
+pub struct PreparedCode<'a, T: RingWord, R: Reducer<T>> {
+    ring: &'a R,
+    known: &'a [T],
+    wanted: &'a [T],
+    rows: &'a [T],
+    pub ghost known_forms: { All (λ f. IsForm R.form R.value (R.modulus ring.now) (T.number f)) known.now },
+    pub ghost wanted_forms: { All (λ f. IsForm R.form R.value (R.modulus ring.now) (T.number f)) wanted.now },
+    pub ghost row_forms: { All (λ f. IsForm R.form R.value (R.modulus ring.now) (T.number f)) rows.now },
+    // The known points fit.
+    pub ghost fit: { let m = R.modulus ring.now in
+        ∥ HaveUnitDifferences m (length known.now) (entry T.number R.value m known.now) ∥₁ },
+    // A row of k factors for each wanted point.
+    pub ghost count: { length rows.now ≡ length wanted.now * length known.now },
+    pub ghost factors: { let m = R.modulus ring.now in
+        AreRows m (length known.now) (length wanted.now) (entry T.number R.value m known.now)
+        (entry T.number R.value m wanted.now) (entry T.number R.value m rows.now) },
+}
+
+impl<'a, T: RingWord, R: Reducer<T>> PreparedCode<'a, T, R> {
+    /// Fills the rows, t·k for k known and t wanted points, and returns the code. `None` exactly where the known points
+    /// don't fit.
+    ///
+    /// Conditions: the points are checked forms, there are t·k rows, and 2·k places of scratch. The contents of both
+    /// are ignored. It takes about 4·k² + 5·t·k products and one inversion.
+    ///
+    /// Source: Lagrange's form: Knuth, The Art of Computer Programming, volume 2, section 4.6.4.
+    pub fn new(
+        ring: &'a R,
+        known: &'a [T],
+        wanted: &'a [T],
+        rows: &'a mut [T],
+        scratch: &mut [T],
+    ) -> Option<Self>
+        requires known { All (λ f. IsForm R.form R.value (R.modulus ring.now) (T.number f)) known.now }
+        requires wanted { All (λ f. IsForm R.form R.value (R.modulus ring.now) (T.number f)) wanted.now }
+        requires count { length rows.old ≡ length wanted.now * length known.now }
+        requires scratch { length scratch.old ≡ 2 * length known.now }
+        ensures { let m = R.modulus ring.now in MatchOption result
+            (HaveUnitDifferences m (length known.now) (entry T.number R.value m known.now) → ⊥)
+            (λ made. (made.ring.now ≡ ring.now) × (made.known.now ≡ known.now) × (made.wanted.now ≡ wanted.now)) }
+    {
+        let (weights, row) = scratch.split_at_mut(known.len());
+        if !fill_weights(ring, known, row, weights) {
+            return None;
+        }
+        fill_rows(ring, known, wanted, weights, row, rows);
+        Some(PreparedCode {
+            ring,
+            known,
+            wanted,
+            rows,
+        })
+    }
+
+    /// The number k of known points.
+    pub fn known(&self) -> usize
+        ensures { result ≡ length self.now.known.now }
+    {
+        self.known.len()
+    }
+
+    /// The number t of wanted points.
+    pub fn wanted(&self) -> usize
+        ensures { result ≡ length self.now.wanted.now }
+    {
+        self.wanted.len()
+    }
+
+    /// Writes the symbols at the wanted points, given those at the known points: both are of the word of one message of
+    /// k symbols, the only one with the given symbols.
+    ///
+    /// Conditions: the symbols are checked forms, one for each known point, and there is a place for each wanted
+    /// point. It takes t·k products.
+    pub fn extend(&self, symbols: &[T], others: &mut [T])
+        requires symbols { All (λ f. IsForm R.form R.value (R.modulus self.now.ring.now) (T.number f)) symbols.now }
+        requires given { length symbols.now ≡ length self.now.known.now }
+        requires room { length others.old ≡ length self.now.wanted.now }
+        ensures checked { All (λ f. IsForm R.form R.value (R.modulus self.now.ring.now) (T.number f)) others.new }
+        ensures word { let m = R.modulus self.now.ring.now in let k = length self.now.known.now in
+            (message : ℕ → ℕ) ×
+            IsEncoding m k k (entry T.number R.value m self.now.known.now) message
+            (entry T.number R.value m symbols.now) ×
+            IsEncoding m k (length self.now.wanted.now) (entry T.number R.value m self.now.wanted.now) message
+            (entry T.number R.value m others.new) }
+        ensures original { let m = R.modulus self.now.ring.now in let k = length self.now.known.now in
+            (message : ℕ → ℕ) →
+            IsEncoding m k k (entry T.number R.value m self.now.known.now) message
+            (entry T.number R.value m symbols.now) →
+            IsEncoding m k (length self.now.wanted.now) (entry T.number R.value m self.now.wanted.now) message
+            (entry T.number R.value m others.new) }
+    {
+        'wanted: for j in 0..self.wanted.len() {
+            others[j] = row_value(self.ring, self.rows, j * symbols.len(), symbols);
+        }
+    }
+
+    /// Whether the symbols at the known points and those at the wanted points are of the word of one message of k
+    /// symbols. Conditions: all are checked forms, and there is one for each point. It takes at most t·k products.
+    pub fn is_codeword(&self, symbols: &[T], others: &[T]) -> bool
+        requires symbols { All (λ f. IsForm R.form R.value (R.modulus self.now.ring.now) (T.number f)) symbols.now }
+        requires others { All (λ f. IsForm R.form R.value (R.modulus self.now.ring.now) (T.number f)) others.now }
+        requires given { length symbols.now ≡ length self.now.known.now }
+        requires pairs { length others.now ≡ length self.now.wanted.now }
+        ensures { let m = R.modulus self.now.ring.now in let k = length self.now.known.now in
+            IsTrue result ↔ ((message : ℕ → ℕ) ×
+            IsEncoding m k k (entry T.number R.value m self.now.known.now) message
+            (entry T.number R.value m symbols.now) ×
+            IsEncoding m k (length self.now.wanted.now) (entry T.number R.value m self.now.wanted.now) message
+            (entry T.number R.value m others.now)) }
+    {
+        'wanted: for j in 0..others.len() {
+            let symbol = row_value(self.ring, self.rows, j * symbols.len(), symbols);
+            if symbol != others[j] {
+                return false;
+            }
+        }
+        true
+    }
+}
+
+// Writes for each point the product of the differences of a point from the other ones.
+fn fill_products<T: RingWord, R: Reducer<T>>(r: &R, points: &[T], point: &T, products: &mut [T])
+    requires points { All (λ f. IsForm R.form R.value (R.modulus r.now) (T.number f)) points.now }
+    requires point { IsForm R.form R.value (R.modulus r.now) (T.number point.now) }
+    requires room { length products.old ≡ length points.now }
+    ensures checked { All (λ f. IsForm R.form R.value (R.modulus r.now) (T.number f)) products.new }
+    ensures values { let m = R.modulus r.now in (i : ℕ) → i < length points.now →
+        entry T.number R.value m products.new i ≡ product_but m (length points.now)
+        (entry T.number R.value m points.now) i (R.value m (T.number point.now)) % m }
+{
+    let one = r.transform(T::one());
+    let mut before = one;
+    'forward: for i in 0..points.len() {
+        products[i] = before;
+        let difference = r.sub(point, &points[i]);
+        before = r.mul(&before, &difference);
+    }
+    let mut after = one;
+    'backward: for k in 0..points.len() {
+        let i = points.len() - 1 - k;
+        products[i] = r.mul(&products[i], &after);
+        let difference = r.sub(point, &points[i]);
+        after = r.mul(&after, &difference);
+    }
+}
+
+// Writes for each point the inverse of the product of its differences from the other ones. Returns false exactly where
+// the points don't fit.
+fn fill_weights<T: RingWord, R: Reducer<T>>(
+    r: &R,
+    points: &[T],
+    products: &mut [T],
+    weights: &mut [T],
+) -> bool
+    requires points { All (λ f. IsForm R.form R.value (R.modulus r.now) (T.number f)) points.now }
+    requires products { length products.old ≡ length points.now }
+    requires weights { length weights.old ≡ length points.now }
+    ensures fit { let m = R.modulus r.now in
+        IsTrue result ↔ HaveUnitDifferences m (length points.now) (entry T.number R.value m points.now) }
+    ensures checked { IsTrue result →
+        All (λ f. IsForm R.form R.value (R.modulus r.now) (T.number f)) weights.new }
+    ensures inverses { let m = R.modulus r.now in let x = entry T.number R.value m points.now in
+        IsTrue result → (i : ℕ) → i < length points.now →
+        IsInverse m (product_but m (length points.now) x i (x i)) (entry T.number R.value m weights.new i) }
+{
+    'points: for i in 0..points.len() {
+        fill_products(r, points, &points[i], products);
+        weights[i] = products[i];
+    }
+    invert_each(r, weights, products)
+}
+
+// Writes a row for each wanted point: for each known point the product of the differences of the wanted point from the
+// other known ones, times the weight of the known point.
+fn fill_rows<T: RingWord, R: Reducer<T>>(
+    r: &R,
+    known: &[T],
+    wanted: &[T],
+    weights: &[T],
+    products: &mut [T],
+    rows: &mut [T],
+)
+    requires known { All (λ f. IsForm R.form R.value (R.modulus r.now) (T.number f)) known.now }
+    requires wanted { All (λ f. IsForm R.form R.value (R.modulus r.now) (T.number f)) wanted.now }
+    requires weights { All (λ f. IsForm R.form R.value (R.modulus r.now) (T.number f)) weights.now }
+    requires each { length weights.now ≡ length known.now }
+    requires products { length products.old ≡ length known.now }
+    requires count { length rows.old ≡ length wanted.now * length known.now }
+    ensures checked { All (λ f. IsForm R.form R.value (R.modulus r.now) (T.number f)) rows.new }
+    ensures values { let m = R.modulus r.now in let k = length known.now in
+        (j i : ℕ) → j < length wanted.now → i < k → entry T.number R.value m rows.new (j * k + i)
+        ≡ (product_but m k (entry T.number R.value m known.now) i (entry T.number R.value m wanted.now j) % m
+        * entry T.number R.value m weights.now i) % m }
+{
+    let mut next = 0;
+    'wanted: for j in 0..wanted.len() {
+        fill_products(r, known, &wanted[j], products);
+        'known: for i in 0..known.len() {
+            rows[next] = r.mul(&products[i], &weights[i]);
+            next += 1;
+        }
+    }
+}
+
+// The sum of the symbols, each times its factor, from an index of the rows on.
+fn row_value<T: RingWord, R: Reducer<T>>(r: &R, rows: &[T], start: usize, symbols: &[T]) -> T
+    requires rows { All (λ f. IsForm R.form R.value (R.modulus r.now) (T.number f)) rows.now }
+    requires symbols { All (λ f. IsForm R.form R.value (R.modulus r.now) (T.number f)) symbols.now }
+    requires within { start + length symbols.now ≤ length rows.now }
+    ensures checked { IsForm R.form R.value (R.modulus r.now) (T.number result) }
+    ensures value { let m = R.modulus r.now in R.value m (T.number result)
+        ≡ sum_below (length symbols.now) (λ i. entry T.number R.value m rows.now (start + i)
+        * entry T.number R.value m symbols.now i) % m }
+{
+    let mut sum = r.transform(T::zero());
+    'factors: for i in 0..symbols.len() {
+        let product = r.mul(&rows[start + i], &symbols[i]);
+        sum = r.add(&sum, &product);
+    }
+    sum
+}
