@@ -6,4 +6,5 @@ pub mod NearestWords
 pub mod NewtonForms
 pub mod RootPowers
 pub mod Secrecy
+mod Singleton
 pub mod Symbols

@@ -18,6 +18,7 @@ ghost use Rattle.num_modular.specs.Forms.{IsForm};
 ghost use Rattle.num_modular.specs.Polynomials.{ascending_polynomial, HaveUnitDifferences};
 ghost use Rattle.ring_codes.specs.Erasure.{IsEncoding, IsErasureCodeword, ArePlaces, IsFault, distance};
 
+mod bounds;
 mod correction;
 mod key_equation;
 mod newton;
@@ -26,6 +27,7 @@ mod prepared;
 mod quotients;
 mod secrets;
 
+pub use bounds::singleton_law;
 pub use correction::{CorrectError, correct};
 use newton::{differences_before, divide_differences, expand, fill_weights};
 use num_modular::ring::invert_each;

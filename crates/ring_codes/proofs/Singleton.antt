@@ -1,0 +1,141 @@
+-- Singleton's bound: words that differ in at least d of n places differ in the first n - d + 1 ones, so that these are
+-- the digits of different numbers.
+use Rattle.std.proofs.Common.{◌≡◌, ◌≢◌, ◌⊎◌, ℕ, zero, suc, ◌+◌, ◌-◌, ◌*◌, ◌/◌, ◌%◌, ◌^◌, ◌<◌, ◌≤◌, ap, sym, ◌∙◌, arith, inl, inr, mod-eq_of_lt}
+use Rattle.std.proofs.Math.Nat.{add-mul-mod_self_left, pow-zero, pow-suc, mul-le-mul_left, mul-div_cancel_left}
+use Rattle.std.proofs.lemmas.Bool.{cases_eq, cases_lt}
+use Rattle.num_modular.specs.NumberLaws.{sum_below-zero, sum_below-suc}
+use Rattle.num_modular.specs.Polynomials.{ascending_polynomial}
+use Rattle.num_modular.specs.PolynomialLaws.{ascending-none, ascending-first}
+use Rattle.ring_codes.specs.Erasure.{distance}
+use Rattle.ring_codes.proofs.Distances.{extended, at_end, before_end, counted, counted_same, counted_other}
+
+-- the number with these digits
+below_power : (r m : ℕ) (c : ℕ → ℕ) → ((i : ℕ) → i < r → c i < m) → ascending_polynomial r c m < m ^ r
+below_power zero m c small = let z = ascending-none c m in let o = pow-zero m in omega (arith, z, o)
+below_power (suc r) m c small =
+    let rest = below_power r m (λ i. c (suc i)) (λ i l. small (suc i) (omega arith)) in
+    let v : ℕ = ascending_polynomial r (λ i. c (suc i)) m in
+    let most : m * suc v ≤ m * m ^ r = mul-le-mul_left m rest in
+    let one : m * suc v ≡ m * v + m = omega arith in
+    let first = small 0 (omega arith) in
+    let f = ascending-first r c m in
+    let p = pow-suc m r in
+    let swap : m ^ r * m ≡ m * m ^ r = omega arith in
+    omega (arith, most, one, first, f, p, swap)
+
+-- a list by its first element and the others
+digit : (r : ℕ) (c d : ℕ → ℕ) (i : ℕ) → i < suc r → c 0 ≡ d 0 → ((j : ℕ) → j < r → c (suc j) ≡ d (suc j)) → c i ≡ d i
+digit r c d zero l first rest = first
+digit r c d (suc i) l first rest = rest i (omega arith)
+
+-- the number tells its digits
+same_digits : (r m : ℕ) (c d : ℕ → ℕ) → ((i : ℕ) → i < r → c i < m) → ((i : ℕ) → i < r → d i < m)
+    → ascending_polynomial r c m ≡ ascending_polynomial r d m → (i : ℕ) → i < r → c i ≡ d i
+same_digits zero m c d small_c small_d same i l = absurd (omega arith)
+same_digits (suc r) m c d small_c small_d same i l =
+    let v : ℕ = ascending_polynomial r (λ i. c (suc i)) m in
+    let w : ℕ = ascending_polynomial r (λ i. d (suc i)) m in
+    let c_small = small_c 0 (omega arith) in
+    let d_small = small_d 0 (omega arith) in
+    let positive : 0 < m = omega (arith, c_small) in
+    let whole : c 0 + m * v ≡ d 0 + m * w = sym (ascending-first r c m) ∙ same ∙ ascending-first r d m in
+    let first : c 0 ≡ d 0 =
+    sym (mod-eq_of_lt c_small) ∙ sym (add-mul-mod_self_left (c 0) m v) ∙ ap (λ n. n % m) whole
+    ∙ add-mul-mod_self_left (d 0) m w ∙ mod-eq_of_lt d_small in
+    let more : m * v ≡ m * w = omega (arith, whole, first) in
+    let rest : v ≡ w =
+    sym (mul-div_cancel_left v positive) ∙ ap (λ n. n / m) more ∙ mul-div_cancel_left w positive in
+    digit r c d i l first
+    (same_digits r m (λ i. c (suc i)) (λ i. d (suc i)) (λ j k. small_c (suc j) (omega arith))
+    (λ j k. small_d (suc j) (omega arith)) rest)
+
+-- where a function takes a value
+found : (size v : ℕ) (f : ℕ → ℕ) → ((a : ℕ) × (a < size) × (f a ≡ v)) ⊎ ((a : ℕ) → a < size → f a ≢ v)
+found zero v f = inr (λ a l e. absurd (omega arith))
+found (suc size) v f = elim (cases_eq (f size) v) [
+  | inl e ↦ inl (size, omega arith, e)
+  | inr other ↦ elim (found size v f) [
+    | inl h ↦ let l = h.1 in inl (h.0, omega (arith, l), h.2)
+    | inr none ↦ inr (λ a l e. elim (cases_eq a size) [
+      | inl same ↦ other (ap f (sym same) ∙ e)
+      | inr differ ↦ none a (omega arith) e
+    ])
+  ]
+]
+
+-- different numbers below a bound are at most as many
+pigeonholes : (most size : ℕ) (f : ℕ → ℕ) → ((a : ℕ) → a < size → f a < most)
+    → ((a b : ℕ) → a < size → b < size → a ≢ b → f a ≢ f b) → size ≤ most
+pigeonholes zero zero f below apart = omega arith
+pigeonholes zero (suc size) f below apart = let l = below 0 (omega arith) in absurd (omega (arith, l))
+pigeonholes (suc most) zero f below apart = omega arith
+pigeonholes (suc most) (suc size) f below apart = elim (found (suc size) most f) [
+  | inr none ↦
+      let l = pigeonholes most (suc size) f
+      (λ a l. let b = below a l in let o = none a l in omega (arith, b, o)) apart in
+      omega (arith, l)
+  | inl at ↦
+      let c : ℕ = at.0 in
+      let c_below = at.1 in
+      let g : ℕ → ℕ = extended c (f size) f in
+      let other : (a : ℕ) → a < suc size → a ≢ c → f a < most =
+      λ a l differ. let b = below a l in let o = apart a c l c_below differ in
+      let t = at.2 in
+      let not_most : f a ≢ most = λ e. o (e ∙ sym t) in
+      omega (arith, b, not_most) in
+      let l = pigeonholes most size g
+      (λ a l. elim (cases_eq a c) [
+        | inl e ↦
+            let p = at_end c (f size) f a e in
+            let b = other size (omega arith) (omega (arith, e, l)) in
+            omega (arith, p, b)
+        | inr differ ↦
+            let p = before_end c (f size) f a differ in
+            let b = other a (omega arith) differ in
+            omega (arith, p, b)
+      ])
+      (λ a b l k differ same. elim (cases_eq a c) [
+        | inl e ↦
+            let q : b ≢ c = omega (arith, e, differ) in
+            apart size b (omega arith) (omega arith) (omega arith)
+            (sym (at_end c (f size) f a e) ∙ same ∙ before_end c (f size) f b q)
+        | inr p ↦ elim (cases_eq b c) [
+          | inl e ↦ apart a size (omega arith) (omega arith) (omega arith)
+              (sym (before_end c (f size) f a p) ∙ same ∙ at_end c (f size) f b e)
+          | inr q ↦ apart a b (omega arith) (omega arith) differ
+              (sym (before_end c (f size) f a p) ∙ same ∙ before_end c (f size) f b q)
+        ]
+      ]) in
+      omega (arith, l)
+]
+
+counted_most : (x y : ℕ) → counted x y ≤ 1
+counted_most x y = elim (cases_eq x y) [
+  | inl e ↦ let z = counted_same x y e in omega (arith, z)
+  | inr o ↦ let z = counted_other x y o in omega (arith, z)
+]
+
+-- words that agree at the first r places differ in n - r at most
+few_behind : (n r : ℕ) (a b : ℕ → ℕ) → ((i : ℕ) → i < r → a i ≡ b i) → distance n a b ≤ n - r
+few_behind zero r a b same = let z = sum_below-zero (λ i. counted (a i) (b i)) in omega (arith, z)
+few_behind (suc n) r a b same =
+    let s = sum_below-suc n (λ i. counted (a i) (b i)) in
+    let i = few_behind n r a b same in
+    elim (cases_lt n r) [
+      | inl before ↦ let z = counted_same (a n) (b n) (same n before) in omega (arith, s, z, i)
+      | inr behind ↦ let o = counted_most (a n) (b n) in omega (arith, s, o, i, behind)
+    ]
+
+pub bound : (m n d size : ℕ) (words : ℕ → ℕ → ℕ) → 1 ≤ d → d ≤ n
+    → ((a i : ℕ) → a < size → i < n → words a i < m)
+    → ((a b : ℕ) → a < size → b < size → a ≢ b → d ≤ distance n (words a) (words b)) → size ≤ m ^ (n - d + 1)
+bound m n d size words some few small apart =
+    let r : ℕ = n - d + 1 in
+    let digits : (a : ℕ) → a < size → (i : ℕ) → i < r → words a i < m =
+    λ a l i b. small a i l (omega (arith, b, some, few)) in
+    pigeonholes (m ^ r) size (λ a. ascending_polynomial r (words a) m) (λ a l. below_power r m (words a) (digits a l))
+    (λ a b l k differ same.
+    let far = apart a b l k differ in
+    let near = few_behind n r (words a) (words b)
+    (same_digits r m (words a) (words b) (digits a l) (digits b k) same) in
+    omega (arith, far, near, some, few))
