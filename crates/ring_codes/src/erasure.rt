@@ -5,6 +5,11 @@
 //! polynomial's value at point i, modulo m. The points must fit (`points_fit`): the difference of any two has an
 //! inverse modulo m. So their number is at most the least prime that divides m.
 //!
+//! The codes are maximum distance separable (MDS): two words differ in n - k + 1 symbols at least, the most that
+//! Singleton's bound allows (`distance_laws`, `singleton_law`). So up to half of n - k wrong symbols leave the word
+//! unique. `PreparedCode` computes once what depends on the points alone; where the points are the powers of a root of
+//! unity, `encode_by_transform` encodes by one transform.
+//!
 //! Points, messages and words are lists of checked forms of a reducer; `load_forms` and `unload_forms` of
 //! `num_modular::ring` convert from words and back. No memory is allocated: the caller passes the scratch lists.
 //! The calls don't run in constant time.

@@ -19,6 +19,7 @@ mod lattices;
 mod long_products;
 mod loops;
 mod paths;
+mod prepared_codes;
 mod reducers;
 mod residues;
 

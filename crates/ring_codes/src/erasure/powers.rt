@@ -15,6 +15,19 @@ use num_modular::{Reducer, RingWord};
 ///
 /// Where m is odd and g suits their number n (`root_fits` tells), the points fit (`root_laws`): `restore`, `correct` and
 /// the other calls accept them.
+///
+/// # Examples
+///
+/// ```
+/// use num_modular::applications::ring_codes::erasure::{fill_powers, points_fit};
+/// use num_modular::{Reducer, Vanilla};
+///
+/// let ring = Vanilla::<u64>::new(&85);
+/// let mut points = [0; 4];
+/// fill_powers(&ring, &13, &mut points); // 13^2 is -1 modulo 85
+/// assert_eq!(points, [1, 13, 84, 72]);
+/// assert!(points_fit(&ring, &points));
+/// ```
 pub fn fill_powers<T: RingWord, R: Reducer<T>>(r: &R, g: &T, points: &mut [T])
     requires { IsForm R.form R.value (R.modulus r.now) (T.number g.now) }
     ensures checked { All (λ f. IsForm R.form R.value (R.modulus r.now) (T.number f)) points.new }
@@ -35,6 +48,19 @@ pub fn fill_powers<T: RingWord, R: Reducer<T>>(r: &R, g: &T, points: &mut [T])
 /// at most n symbols.
 ///
 /// Source: `ntt` of the message followed by zeros.
+///
+/// # Examples
+///
+/// ```
+/// use num_modular::applications::ring_codes::erasure::{encode, encode_by_transform};
+/// use num_modular::{Reducer, Vanilla};
+///
+/// let ring = Vanilla::<u64>::new(&85);
+/// let (mut word, mut same) = ([0; 4], [0; 4]);
+/// encode_by_transform(&ring, &13, &[1, 2, 3], &mut word);
+/// encode(&ring, &[1, 13, 84, 72], &[1, 2, 3], &mut same);
+/// assert_eq!((word, same), ([6, 24, 2, 57], [6, 24, 2, 57]));
+/// ```
 pub fn encode_by_transform<T: RingWord, R: Reducer<T>>(r: &R, g: &T, message: &[T], word: &mut [T])
     requires root { IsForm R.form R.value (R.modulus r.now) (T.number g.now) }
     requires message { All (λ f. IsForm R.form R.value (R.modulus r.now) (T.number f)) message.now }

@@ -17,6 +17,22 @@ use num_modular::{Reducer, RingWord};
 /// A systematic code knows the first k points and wants the others: `extend` writes the check symbols of a message. To
 /// restore, it knows the points of k kept symbols and wants those of the lost ones, or all. A table of t·k factors,
 /// which the caller owns, is filled once.
+///
+/// # Examples
+///
+/// ```
+/// use num_modular::applications::ring_codes::erasure::PreparedCode;
+/// use num_modular::{Reducer, Vanilla};
+///
+/// let ring = Vanilla::<u64>::new(&929);
+/// let points = [0, 1, 2, 3, 4, 5, 6];
+/// let (mut rows, mut scratch) = ([0; 12], [0; 6]);
+/// let code = PreparedCode::new(&ring, &points[..3], &points[3..], &mut rows, &mut scratch).unwrap();
+/// let mut word = [3, 2, 1, 0, 0, 0, 0];
+/// let (message, checks) = word.split_at_mut(3);
+/// code.extend(message, checks);
+/// assert_eq!(word, [3, 2, 1, 0, 928, 927, 926]);
+/// ```
 #[derive(Drop)]
 pub struct PreparedCode<'a, T: RingWord, R: Reducer<T>> {
     ring: &'a R,
@@ -44,6 +60,18 @@ impl<'a, T: RingWord, R: Reducer<T>> PreparedCode<'a, T, R> {
     /// are ignored. It takes about 4·k² + 5·t·k products and one inversion.
     ///
     /// Source: Lagrange's form: Knuth, The Art of Computer Programming, volume 2, section 4.6.4.
+    ///
+    /// # Examples
+    ///
+    /// ```
+    /// use num_modular::applications::ring_codes::erasure::PreparedCode;
+    /// use num_modular::{Reducer, Vanilla};
+    ///
+    /// let ring = Vanilla::<u64>::new(&15);
+    /// let (mut rows, mut scratch) = ([0; 2], [0; 4]);
+    /// assert!(PreparedCode::new(&ring, &[0, 1], &[2], &mut rows, &mut scratch).is_some());
+    /// assert!(PreparedCode::new(&ring, &[0, 3], &[2], &mut rows, &mut scratch).is_none()); // 3 has no inverse
+    /// ```
     pub fn new(
         ring: &'a R,
         known: &'a [T],
@@ -72,25 +100,25 @@ impl<'a, T: RingWord, R: Reducer<T>> PreparedCode<'a, T, R> {
         })
     }
 
-    /// The number k of known points.
-    pub fn known(&self) -> usize
-        ensures { result ≡ length self.now.known.now }
-    {
-        self.known.len()
-    }
-
-    /// The number t of wanted points.
-    pub fn wanted(&self) -> usize
-        ensures { result ≡ length self.now.wanted.now }
-    {
-        self.wanted.len()
-    }
-
     /// Writes the symbols at the wanted points, given those at the known points: both are of the word of one message of
     /// k symbols, the only one with the given symbols.
     ///
     /// Conditions: the symbols are checked forms, one for each known point, and there is a place for each wanted
     /// point. It takes t·k products.
+    ///
+    /// # Examples
+    ///
+    /// ```
+    /// use num_modular::applications::ring_codes::erasure::PreparedCode;
+    /// use num_modular::{Reducer, Vanilla};
+    ///
+    /// // of the word 1, 6, 17, 34, 57, 86, 121 at the points 0 to 6, the message being 1, 2, 3
+    /// let ring = Vanilla::<u64>::new(&929);
+    /// let (mut rows, mut scratch, mut lost) = ([0; 6], [0; 6], [0; 2]);
+    /// let code = PreparedCode::new(&ring, &[6, 1, 4], &[0, 2], &mut rows, &mut scratch).unwrap();
+    /// code.extend(&[121, 6, 57], &mut lost);
+    /// assert_eq!(lost, [1, 17]);
+    /// ```
     pub fn extend(&self, symbols: &[T], others: &mut [T])
         requires symbols { All (λ f. IsForm R.form R.value (R.modulus self.now.ring.now) (T.number f)) symbols.now }
         requires given { length symbols.now ≡ length self.now.known.now }
@@ -116,6 +144,19 @@ impl<'a, T: RingWord, R: Reducer<T>> PreparedCode<'a, T, R> {
 
     /// Whether the symbols at the known points and those at the wanted points are of the word of one message of k
     /// symbols. Conditions: all are checked forms, and there is one for each point. It takes at most t·k products.
+    ///
+    /// # Examples
+    ///
+    /// ```
+    /// use num_modular::applications::ring_codes::erasure::PreparedCode;
+    /// use num_modular::{Reducer, Vanilla};
+    ///
+    /// let ring = Vanilla::<u64>::new(&929);
+    /// let (mut rows, mut scratch) = ([0; 6], [0; 6]);
+    /// let code = PreparedCode::new(&ring, &[0, 1, 2], &[3, 4], &mut rows, &mut scratch).unwrap();
+    /// assert!(code.is_codeword(&[3, 2, 1], &[0, 928]));
+    /// assert!(!code.is_codeword(&[3, 2, 1], &[0, 927]));
+    /// ```
     pub fn is_codeword(&self, symbols: &[T], others: &[T]) -> bool
         requires symbols { All (λ f. IsForm R.form R.value (R.modulus self.now.ring.now) (T.number f)) symbols.now }
         requires others { All (λ f. IsForm R.form R.value (R.modulus self.now.ring.now) (T.number f)) others.now }
