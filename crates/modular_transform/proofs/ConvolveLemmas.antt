@@ -77,7 +77,7 @@ inverse_along {m} {a} {b} {x} same h =
     record { below = h.below; one = (multiplied (turned same) (itself x)).same ∙ h.one }
 
 -- the value at a place of a reordered list
-reordered_value : {T : Type 0} (number : T → ℕ) (value : ℕ → ℕ → ℕ) (m i : ℕ) (d : T) (s : ℕ → ℕ) (old new : List T)
+pub reordered_value : {T : Type 0} (number : T → ℕ) (value : ℕ → ℕ → ℕ) (m i : ℕ) (d : T) (s : ℕ → ℕ) (old new : List T)
     → IsReordered s old new → i < length old → i < length new → s i < length old
     → values number value m new i ≡ values number value m old (s i)
 reordered_value number value m i d s old new reordered l l_new l_s =
@@ -96,26 +96,22 @@ mirrored_forms number form value m old new reordered same all i d l =
 
 -- the lists on the way from xs and ys to their cyclic product
 pub convolution_end : {T : Type 0} (number : T → ℕ) (form value : ℕ → ℕ → ℕ) (width m g n part : ℕ)
-    (xs ys xs1 ys1 xs2 xs3 xs4 xs5 : List T)
+    (xs ys xs1 ys1 xs2 xs3 : List T)
     → IsCanonical form value width m → Suits m g n → IsInverse m n part
     → length xs ≡ n → length ys ≡ n → length xs1 ≡ n → length ys1 ≡ n → length xs2 ≡ n → length xs3 ≡ n
-    → length xs4 ≡ n → length xs5 ≡ n
     → HoldValues number form m xs1 (transform m g (length xs) (values number value m xs))
     → HoldValues number form m ys1 (transform m g (length ys) (values number value m ys))
     → HoldValues number form m xs2 (λ i. (values number value m xs1 i * values number value m ys1 i) % m)
-    → HoldValues number form m xs3 (transform m g (length xs2) (values number value m xs2))
-    → IsReordered (mirrored (length xs3)) xs3 xs4
-    → HoldValues number form m xs5 (λ i. (values number value m xs4 i * part) % m)
-    → HoldValues number form m xs5 (cyclic_product m n (values number value m xs) (values number value m ys))
-convolution_end number form value width m g n part xs ys xs1 ys1 xs2 xs3 xs4 xs5 canonical suits inverse l l_ys l1 l_ys1
-    l2 l3 l4 l5 is1 is_ys1 is2 is3 is4 is5 = record {
+    → HoldValues number form m xs3
+    (λ i. (transform m g (length xs2) (values number value m xs2) (mirrored (length xs2) i) * part) % m)
+    → HoldValues number form m xs3 (cyclic_product m n (values number value m xs) (values number value m ys))
+convolution_end number form value width m g n part xs ys xs1 ys1 xs2 xs3 canonical suits inverse l l_ys l1 l_ys1
+    l2 l3 is1 is_ys1 is2 is3 = record {
       each = λ i d in_range.
           let x = values number value m xs in
           let y = values number value m ys in
           let c = values number value m xs2 in
           let li : i < n = omega arith in
-          let k = mirrored n i in
-          let lk : k < n = (mirrored_place n i li).image in
           let product : (j : ℕ) → j < n → c j ≡ (transform m g n x j * transform m g n y j) % m = λ j h.
           let x1 = held_value number form value width m xs1 (transform m g (length xs) x) j canonical is1 (omega arith)
           ∙ ap (λ v. transform m g v x j) l in
@@ -125,16 +121,9 @@ convolution_end number form value width m g n part xs ys xs1 ys1 xs2 xs3 xs4 xs5
           held_value number form value width m xs2
           (λ i. (values number value m xs1 i * values number value m ys1 i) % m) j canonical is2 (omega arith)
           ∙ ap (λ v. (v * values number value m ys1 j) % m) x1 ∙ ap (λ v. (transform m g n x j * v) % m) y1 in
-          let e : mirrored (length xs3) i ≡ k = ap (λ v. mirrored v i) l3 in
-          let v4 : values number value m xs4 i ≡ transform m g n c k =
-          reordered_value number value m i d (mirrored (length xs3)) xs3 xs4 is4
-          (omega arith) (omega arith) (omega arith)
-          ∙ ap (values number value m xs3) e
-          ∙ held_value number form value width m xs3 (transform m g (length xs2) c) k canonical is3 (omega arith)
-          ∙ ap (λ v. transform m g v c k) l2 in
-          let whole =
-          ap (λ v. (v * part) % m) v4 ∙ convolved_entry g n i part x y c canonical.positive suits li inverse product in
-          subst (λ v. Represents form m (number (get_or xs5 i d)) v) whole (is5.each i d in_range);
+          let whole = ap (λ v. (transform m g v c (mirrored v i) * part) % m) l2
+          ∙ convolved_entry g n i part x y c canonical.positive suits li inverse product in
+          subst (λ v. Represents form m (number (get_or xs3 i d)) v) whole (is3.each i d in_range);
     }
 
 -- the doublings of 1 come to the length

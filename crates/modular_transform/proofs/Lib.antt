@@ -19,6 +19,7 @@ pub mod StripCounts
 pub mod StripPlaces
 pub mod StripPowers
 pub mod Tiles
+pub mod TransformBack
 pub mod TransformLemmas
 pub mod TwoStages
 pub mod ValueLemmas

@@ -8,7 +8,7 @@ ghost use Rattle.modular_reduced.specs.Forms.{IsForm};
 ghost use Rattle.modular_reduced.specs.Values.{values_of, HoldValues};
 ghost use Rattle.modular_transform.specs.Transforms.{Suits, transform, cyclic_product};
 
-use crate::order::mirror;
+use crate::inverse::{length_form, transform_back};
 use crate::transform::ntt;
 use modular_reduced::reducer::Reducer;
 use modular_word::ring_word::RingWord;
@@ -27,36 +27,6 @@ fn multiply_each<T: RingWord, R: Reducer<T>>(r: &R, xs: &mut [T], ys: &[T])
     'entries: for i in 0..xs.len() {
         xs[i] = r.mul(&xs[i], &ys[i]);
     }
-}
-
-/// Multiplies each entry by a factor. Conditions: the entries and the factor are checked forms.
-pub fn scale<T: RingWord, R: Reducer<T>>(r: &R, xs: &mut [T], factor: &T)
-    requires checked { All (λ f. IsForm R.form R.value (R.modulus r.now) (T.number f)) xs.old }
-    requires factor { IsForm R.form R.value (R.modulus r.now) (T.number factor.now) }
-    ensures entries { let m = R.modulus r.now in
-        HoldValues T.number R.form m xs.new
-        (λ i. (slice_index (values_of T.number R.value m xs.old) i * R.value m (T.number factor.now)) % m) }
-    ensures values { let m = R.modulus r.now in
-        (i : ℕ) → i < length xs.old → slice_index (values_of T.number R.value m xs.new) i
-        ≡ (slice_index (values_of T.number R.value m xs.old) i * R.value m (T.number factor.now)) % m }
-    ensures checked { All (λ f. IsForm R.form R.value (R.modulus r.now) (T.number f)) xs.new }
-{
-    'entries: for i in 0..xs.len() {
-        xs[i] = r.mul(&xs[i], factor);
-    }
-}
-
-// The form of n, a power of two, by doubling 1, because n may not fit a word.
-fn length_form<T: RingWord, R: Reducer<T>>(r: &R, n: usize) -> T
-    requires { IsPowerOfTwo n }
-    ensures form { IsForm R.form R.value (R.modulus r.now) (T.number result) }
-    ensures counted { let m = R.modulus r.now in Congruent m (R.value m (T.number result)) n }
-{
-    let mut length = r.transform(T::one());
-    'doublings: for _done in 0..n.trailing_zeros() {
-        length = r.dbl(length);
-    }
-    length
 }
 
 // Replaces xs by the cyclic product and ys by its transform, given a root g and an inverse of the length.
@@ -82,9 +52,7 @@ fn multiply<T: RingWord, R: Reducer<T>>(r: &R, xs: &mut [T], ys: &mut [T], g: &T
     ntt(r, xs, g);
     ntt(r, ys, g);
     multiply_each(r, xs, ys);
-    ntt(r, xs, g);
-    mirror(xs);
-    scale(r, xs, part);
+    transform_back(r, xs, g, part);
 }
 
 /// Replaces xs by the cyclic product of xs and ys, and ys by its transform by g. Returns false, with both lists

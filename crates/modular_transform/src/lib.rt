@@ -3,6 +3,7 @@
 #![tactic(auto)]
 
 pub mod convolution;
+pub mod inverse;
 pub mod laws;
 pub mod lists;
 pub mod order;

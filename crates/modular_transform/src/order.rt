@@ -68,9 +68,11 @@ fn reverse_by_tiles<T: Copy>(entries: &mut [T], bits: u32)
     }
 }
 
-// The reversed bits of `place`, from those of `place` - 1, in `last`. Where `place` ends in t zeros, the lowest
-// bits of `place` - 1 are a zero and t ones, and these t + 1 bits change.
-fn next_reversed(last: usize, place: usize, bits: u32) -> usize
+/// The reversed bits of `place`, from those of `place` - 1, in `last`. Conditions: `place` is below 2^bits; `bits` is at
+/// most 63.
+///
+/// Where `place` ends in t zeros, the lowest bits of `place` - 1 are a zero and t ones, and these t + 1 bits change.
+pub fn next_reversed(last: usize, place: usize, bits: u32) -> usize
     requires few { bits ≤ 63 }
     requires below { place < 2 ^ bits }
     requires last { last ≡ bits_reversed bits (place - 1) }

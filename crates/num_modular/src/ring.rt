@@ -3,6 +3,7 @@
 pub use modular_ring::list_inverses::invert_each;
 pub use modular_ring::ring::{RingCommand, RunEnd, all_checked, commands_fit, run};
 pub use modular_transform::convolution::convolve;
+pub use modular_transform::inverse::intt;
 pub use modular_transform::lists::{load_forms, unload_forms};
 pub use modular_transform::roots::find_root;
 pub use modular_transform::transform::{ntt, ntt_counted, root_fits};

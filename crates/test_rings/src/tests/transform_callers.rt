@@ -7,7 +7,7 @@ ghost use Rattle.modular_reduced.specs.Values.{values_of, HoldValues};
 ghost use Rattle.modular_transform.specs.Transforms.{Suits};
 
 use modular_reduced::reducer::Reducer;
-use modular_transform::convolution::scale;
+use modular_transform::inverse::scale;
 use modular_transform::laws::transform_laws;
 use modular_transform::transform::ntt;
 use modular_word::ring_word::RingWord;

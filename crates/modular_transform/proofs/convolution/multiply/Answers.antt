@@ -1,8 +1,8 @@
 use Rattle.std.proofs.Common.{◌≡◌, length, refl, sym, arith, subst}
 use Rattle.modular_reduced.specs.Values.{HoldValues}
 use Rattle.modular_transform.specs.Transforms.{Suits, transform}
-use Rattle.modular_transform.proofs.ConvolveLemmas.{mirrored_forms, convolution_end}
-use Rattle.modular_transform.proofs.ValueLemmas.{values}
+use Rattle.modular_transform.proofs.ConvolveLemmas.{convolution_end}
+use Rattle.modular_passes.proofs.ValueLemmas.{values}
 use Rattle.modular_transform.proofs.convolution.multiply.Goals as goal
 
 pub ntt-requires-clause-checked : goal.ntt-requires-clause-checked
@@ -32,23 +32,18 @@ multiply_each-requires-clause-checked_xs g c = c.ntt.ensures.checked
 pub multiply_each-requires-clause-checked_ys : goal.multiply_each-requires-clause-checked_ys
 multiply_each-requires-clause-checked_ys g c = c.ntt-2.ensures.checked
 
-pub ntt-requires-3-clause-checked : goal.ntt-requires-3-clause-checked
-ntt-requires-3-clause-checked g c = c.multiply_each.ensures.checked
+pub transform_back-requires-clause-checked : goal.transform_back-requires-clause-checked
+transform_back-requires-clause-checked g c = c.multiply_each.ensures.checked
 
-pub ntt-requires-3-clause-root : goal.ntt-requires-3-clause-root
-ntt-requires-3-clause-root g c = c.requires.root
+pub transform_back-requires-clause-root : goal.transform_back-requires-clause-root
+transform_back-requires-clause-root g c = c.requires.root
 
-pub ntt-requires-3-clause-suits : goal.ntt-requires-3-clause-suits
-ntt-requires-3-clause-suits g c =
+pub transform_back-requires-clause-suits : goal.transform_back-requires-clause-suits
+transform_back-requires-clause-suits g c =
     let m = g.R.Reducer.modulus c.args.r.now in
     let root = g.R.Reducer.value m (g.T.RingWord.number c.args.g.now) in
     let same : length c.args.xs.now ≡ length c.multiply_each.new.xs = omega arith in
     subst (Suits m root) same c.requires.suits
-
-pub scale-requires-clause-checked : goal.scale-requires-clause-checked
-scale-requires-clause-checked g c =
-    mirrored_forms g.T.RingWord.number g.R.Reducer.form g.R.Reducer.value _ _ _ c.mirror.ensures
-    (omega arith) c.ntt-3.ensures.checked
 
 pub returns-clause-product : goal.returns-clause-product
 returns-clause-product g c =
@@ -58,11 +53,10 @@ returns-clause-product g c =
     let root = value m (number c.args.g.now) in
     convolution_end number g.R.Reducer.form value g.T.RingWord.width m root (length c.args.xs.now)
     (value m (number c.args.part.now)) c.args.xs.now c.args.ys.now c.ntt.new.xs c.ntt-2.new.xs c.multiply_each.new.xs
-    c.ntt-3.new.xs c.mirror.new.entries c.scale.new.xs
+    c.transform_back.new.xs
     (g.met.R.Reducer.canonical c.args.r.now) c.requires.suits c.requires.inverse refl c.requires.equal (omega arith)
-    (omega arith) (omega arith) (omega arith) (omega arith) (omega arith)
-    c.ntt.ensures.entries c.ntt-2.ensures.entries c.multiply_each.ensures.entries c.ntt-3.ensures.entries
-    c.mirror.ensures c.scale.ensures.entries
+    (omega arith) (omega arith) (omega arith)
+    c.ntt.ensures.entries c.ntt-2.ensures.entries c.multiply_each.ensures.entries c.transform_back.ensures.entries
 
 pub returns-clause-transformed : goal.returns-clause-transformed
 returns-clause-transformed g c =
@@ -74,4 +68,4 @@ returns-clause-transformed g c =
     (transform m root n (values number value m c.args.ys.now))) c.requires.equal c.ntt-2.ensures.entries
 
 pub returns-clause-checked : goal.returns-clause-checked
-returns-clause-checked g c = (c.scale.ensures.checked, c.ntt-2.ensures.checked)
+returns-clause-checked g c = (c.transform_back.ensures.checked, c.ntt-2.ensures.checked)

@@ -1,7 +1,7 @@
 use Rattle.std.proofs.Common.{◌^◌}
 use Rattle.modular_reduced.specs.Forms.{IsForm}
 use Rattle.modular_word.specs.Congruence.{Congruent}
-use Rattle.modular_transform.proofs.convolution.length_form.Given as goal
+use Rattle.modular_transform.proofs.inverse.length_form.Given as goal
 
 -- 1, doubled t times
 abbrev pub invariant-doublings : goal.invariant-doublings

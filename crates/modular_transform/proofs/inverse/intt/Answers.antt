@@ -1,0 +1,90 @@
+use Rattle.std.proofs.Common.{◌*◌, ◌%◌, length, refl, sym, arith, subst, ◌∙◌}
+use Rattle.std.proofs.lemmas.Bool.{false≢true}
+use Rattle.std.proofs.Math.Nat.{mod-eq_of_lt}
+use Rattle.modular_word.specs.Inverses.{IsInverse}
+use Rattle.modular_word.proofs.Congruence.{turned}
+use Rattle.modular_passes.proofs.ValueLemmas.{values, values_below, held_value}
+use Rattle.modular_transform.specs.Orders.{mirrored}
+use Rattle.modular_transform.specs.Transforms.{transform}
+use Rattle.modular_transform.proofs.ConvolveLemmas.{inverse_along}
+use Rattle.modular_transform.proofs.TransformBack.{undone_at, restored_at}
+use Rattle.modular_transform.proofs.inverse.intt.Goals as goal
+
+pub length_form-length-requires : goal.length_form-length-requires
+length_form-length-requires g c = c.requires.suits.power_of_two
+
+pub inv-requires : goal.inv-requires
+inv-requires g c = c.length_form-length.ensures.form
+
+pub transform_back-requires-clause-checked : goal.transform_back-requires-clause-checked
+transform_back-requires-clause-checked g c = c.requires.checked
+
+pub transform_back-requires-clause-root : goal.transform_back-requires-clause-root
+transform_back-requires-clause-root g c = c.requires.root
+
+pub transform_back-requires-clause-suits : goal.transform_back-requires-clause-suits
+transform_back-requires-clause-suits g c = c.requires.suits
+
+pub returns-in-Some-clause-inverse : goal.returns-in-Some-clause-inverse
+returns-in-Some-clause-inverse g c =
+    let found = c.in-Some.ensures.form in
+    (λ h. (found.0, inverse_along c.length_form-length.ensures.counted found.1), λ h. refl)
+
+pub returns-in-Some-clause-unchanged : goal.returns-in-Some-clause-unchanged
+returns-in-Some-clause-unchanged g c none = absurd (none refl)
+
+pub returns-in-Some-clause-values : goal.returns-in-Some-clause-values
+returns-in-Some-clause-values g c h j l =
+    let m = g.R.Reducer.modulus c.args.r.now in
+    let number = g.T.RingWord.number in
+    let value = g.R.Reducer.value in
+    let canonical = g.met.R.Reducer.canonical c.args.r.now in
+    let n = length c.args.xs.now in
+    let root = value m (number c.args.g.now) in
+    let found = c.in-Some.ensures.form in
+    let part_is = canonical.one_value _ _ found.2 in
+    let part = value m (number c.in-Some.part) in
+    let inverse : IsInverse m n part
+    = subst (IsInverse m n) (sym part_is) (inverse_along c.length_form-length.ensures.counted found.1) in
+    let old = values number value m c.args.xs.now in
+    let below = values_below number g.R.Reducer.form value m c.args.xs.now j c.requires.checked l in
+    restored_at m root n part j (values number value m c.transform_back.new.xs) old c.requires.root.below c.requires.suits
+    inverse l (λ i k. held_value number g.R.Reducer.form value g.T.RingWord.width m c.transform_back.new.xs
+    (λ i. (transform m root n old (mirrored n i) * part) % m) i canonical c.transform_back.ensures.entries (omega arith))
+    ∙ mod-eq_of_lt below
+
+pub returns-in-Some-clause-undone : goal.returns-in-Some-clause-undone
+returns-in-Some-clause-undone g c h x are i l =
+    let m = g.R.Reducer.modulus c.args.r.now in
+    let number = g.T.RingWord.number in
+    let value = g.R.Reducer.value in
+    let canonical = g.met.R.Reducer.canonical c.args.r.now in
+    let n = length c.args.xs.now in
+    let root = value m (number c.args.g.now) in
+    let found = c.in-Some.ensures.form in
+    let part_is = canonical.one_value _ _ found.2 in
+    let part = value m (number c.in-Some.part) in
+    let inverse : IsInverse m n part
+    = subst (IsInverse m n) (sym part_is) (inverse_along c.length_form-length.ensures.counted found.1) in
+    let old = values number value m c.args.xs.now in
+    held_value number g.R.Reducer.form value g.T.RingWord.width m c.transform_back.new.xs
+    (λ i. (transform m root n old (mirrored n i) * part) % m) i canonical c.transform_back.ensures.entries (omega arith)
+    ∙ undone_at m root n part i x old canonical.positive c.requires.suits inverse l are
+
+pub returns-in-Some-clause-checked : goal.returns-in-Some-clause-checked
+returns-in-Some-clause-checked g c = c.transform_back.ensures.checked
+
+pub returns-in-None-clause-inverse : goal.returns-in-None-clause-inverse
+returns-in-None-clause-inverse g c = (
+  λ h. absurd (false≢true h),
+  λ h. absurd (c.in-None.ensures.form h.0 (inverse_along (turned c.length_form-length.ensures.counted) h.1)),
+)
+
+pub returns-in-None-clause-unchanged : goal.returns-in-None-clause-unchanged
+returns-in-None-clause-unchanged g c none = refl
+
+pub returns-in-None-clause-values : goal.returns-in-None-clause-values
+returns-in-None-clause-values g c h = absurd (false≢true h)
+
+pub returns-in-None-clause-undone : goal.returns-in-None-clause-undone
+returns-in-None-clause-undone g c h = absurd (false≢true h)
