@@ -1,3 +1,4 @@
 pub mod PlanConditions
 pub mod ProductConditions
 pub mod Products
+pub mod Tables

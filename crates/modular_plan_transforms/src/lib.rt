@@ -3,6 +3,7 @@
 #![tactic(auto)]
 
 pub mod convolution;
+pub mod filled;
 pub mod join;
 pub mod join_blocks;
 pub mod plan;

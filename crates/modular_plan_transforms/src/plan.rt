@@ -10,8 +10,10 @@ ghost use Rattle.modular_plan_passes.specs.Plans.{numbers, constant, AreRemainde
 ghost use Rattle.modular_plan_transforms.specs.PlanConditions.{AreBlocks};
 ghost use Rattle.modular_plan_transforms.specs.ProductConditions.{AreSmallBlocks};
 ghost use Rattle.modular_plan_transforms.specs.Products.{product_modulo};
+ghost use Rattle.modular_plan_transforms.specs.Tables.{IsTable};
 
 use crate::convolution::{convolve_scaled, convolves};
+use crate::filled::is_table;
 use crate::join::{join, join_scaled};
 use crate::products::multiply_each;
 use crate::split::{split, splits};
@@ -93,6 +95,34 @@ impl<'a, T: PlainWord, F: PlanEntry<T>> Plan<'a, T, F> {
             modulus: *m,
             root: g,
             bits,
+            table,
+        })
+    }
+
+    /// The plan by g over a table that is filled already, for n entries, n being twice its length. `None` exactly where m
+    /// is even, g isn't below m, g doesn't suit n, or the table isn't the one that `new` makes: an entry isn't the factor
+    /// of its power, or has another quotient.
+    ///
+    /// It takes a product for each entry's power and one for its quotient.
+    pub fn with_table(m: &PlannedModulus<T>, g: T, table: &'a [F]) -> Option<Self>
+        ensures { let modulus = T.number m.now.modulus in let n = 2 * length table.now in
+            MatchOption result (modulus % 2 ≡ 1 → T.number g < modulus → Suits modulus (T.number g) n
+            → IsTable T.base modulus (T.number g) F.value F.quotient table.now → ⊥)
+            (λ made. (made.modulus ≡ m.now) × (made.root ≡ g) × (2 ^ made.bits ≡ n) × (made.table.now ≡ table.now)) }
+    {
+        if !m.modulus.is_odd() {
+            return None;
+        }
+        if !suits(m, g, table.len()) {
+            return None;
+        }
+        if !is_table(m, g, table) {
+            return None;
+        }
+        Some(Plan {
+            modulus: *m,
+            root: g,
+            bits: table.len().trailing_zeros() + 1,
             table,
         })
     }

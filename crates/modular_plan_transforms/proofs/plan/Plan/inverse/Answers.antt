@@ -4,10 +4,11 @@ use Rattle.modular_word.proofs.Congruence.{of_equal, chained, residue_of}
 use Rattle.modular_word.specs.Inverses.{IsInverse}
 use Rattle.modular_transform.proofs.InverseTransform.{transform_congruent}
 use Rattle.modular_transform.proofs.PowersOfTwo.{exponent_below}
+use Rattle.modular_transform.proofs.TransformBack.{preimage, transform_of_preimage}
 use Rattle.modular_transform.specs.Transforms.{Suits}
 use Rattle.modular_plan_passes.specs.Plans.{numbers, AreRemainders}
 use Rattle.modular_plan_transforms.proofs.NaturalOrder.{all_reordered}
-use Rattle.modular_plan_transforms.proofs.Backward.{remainders_of_transform, unscaled, preimage, transform_of_preimage}
+use Rattle.modular_plan_transforms.proofs.Backward.{remainders_of_transform, unscaled}
 use Rattle.modular_plan_transforms.proofs.Wholes.{plan_of}
 use Rattle.modular_plan_transforms.proofs.plan.Plan.inverse.Goals as goal
 

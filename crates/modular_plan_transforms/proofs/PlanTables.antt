@@ -1,0 +1,82 @@
+-- A table is the plan by g where its entries are factors and the powers of g in bit-reversed order.
+use Rattle.std.proofs.Common.{◌≡◌, ℕ, suc, ◌+◌, ◌-◌, ◌*◌, ◌/◌, ◌%◌, ◌^◌, ◌<◌, ◌≤◌, ◌↔◌, List, length, ap, subst, sym, ◌∙◌, arith}
+use Rattle.std.proofs.Math.Nat.{two-pow-succ, pow-zero, lt-div-mul-add, div-mul-le_self}
+use Rattle.std.proofs.lemmas.Nat.{mul-mod_first, pow-add, div-mul-add}
+use Rattle.modular_word.proofs.Congruence.{same_rest, factor_cancel}
+use Rattle.modular_word.proofs.Powers.{pow-one}
+use Rattle.modular_barrett.specs.Factors.{IsFactor, AllFactors}
+use Rattle.modular_plan.specs.Plans.{numbers}
+use Rattle.modular_plan.proofs.Tables.{exponent}
+use Rattle.modular_transform.specs.Orders.{bits_reversed}
+use Rattle.modular_transform.specs.Transforms.{Suits}
+use Rattle.modular_plan_transforms.specs.Tables.{IsTable}
+
+-- the values are the powers of g in the order of the bits reversed
+abbrev pub ArePowers : {F : Type 0} → ℕ → ℕ → ℕ → (F → ℕ) → List F → Type 0
+ArePowers m g bits value table = (k : ℕ) → k < length table → numbers value table k ≡ g ^ bits_reversed bits k % m
+
+-- a factor with its quotient q: the number that completes q * m to a multiple of the base is below m, and the multiple is
+-- by the factor
+pub factor_by_sum : (b m w q low top rest low_sum high : ℕ) → m < b → q * m ≡ low + b * top → (rest + low) % b ≡ 0
+    → rest < b → q * m + rest ≡ low_sum + b * high → low_sum < b
+    → ((w < m) × (rest < m) × (high ≡ w)) ↔ IsFactor b m w q
+factor_by_sum b m w q low top rest low_sum high small product wrapped rest_fits sum low_fits =
+    let k : ℕ = (rest + low) / b in
+    let some : 0 < b = omega (arith, small) in
+    let parts : rest + low ≡ 0 + b * k = omega (arith, wrapped) in
+    let spread : b * (top + k) ≡ b * top + b * k = omega arith in
+    let none : low_sum ≡ 0 = same_rest b low_sum 0 high (top + k) low_fits some (omega (arith, sum, product, parts, spread)) in (
+      λ are.
+          let e : b * high ≡ w * b = ap (λ v. b * v) are.2 ∙ omega arith in
+          record {
+            below = are.0;
+            quotient = sym (div-mul-add q m rest are.1) ∙ ap (λ v. v / m) (omega (arith, sum, none, e));
+          },
+      λ is.
+          let below = is.below in
+          let more : 0 < m = omega (arith, below) in
+          let least : w * b / m * m ≤ w * b = div-mul-le_self (w * b) m in
+          let most : w * b < w * b / m * m + m = lt-div-mul-add more in
+          let whole = ap (λ v. v * m) is.quotient in
+          let left : ℕ = w * b - q * m in
+          let all : w * b ≡ q * m + left = omega (arith, least, whole) in
+          let few : left < m = omega (arith, all, most, whole) in
+          let turn : w * b ≡ b * w = omega arith in
+          let add_left : b * (w + k) ≡ b * w + b * k = omega arith in
+          let same : left ≡ rest = same_rest b left rest (top + k) w (omega (arith, few, small)) rest_fits
+          (omega (arith, all, product, parts, spread, turn)) in (
+            below,
+            subst (λ v. v < m) same few,
+            factor_cancel b high w some (omega (arith, sum, none, all, same, turn)),
+          ),
+    )
+
+-- the powers, one after the other
+pub power_first : (m one power g : ℕ) → one ≡ 1 → power ≡ one % m → power ≡ g ^ 0 % m
+power_first m one power g is_one is = is ∙ ap (λ v. v % m) (is_one ∙ sym (pow-zero g))
+
+pub power_next : (m g k power next : ℕ) → power ≡ g ^ k % m → next ≡ (power * g) % m → next ≡ g ^ (k + 1) % m
+power_next m g k power next is e =
+    e ∙ ap (λ v. (v * g) % m) is ∙ mul-mod_first (g ^ k) g m
+    ∙ ap (λ v. v % m) (ap (λ v. g ^ k * v) (sym (pow-one g)) ∙ sym (pow-add g k 1))
+
+pub table_of : {F : Type 0} (b m g bits : ℕ) (value quotient : F → ℕ) (table : List F) → length table ≡ 2 ^ bits
+    → Suits m g (2 * length table) → AllFactors b m value quotient table → ArePowers m g bits value table
+    → IsTable b m g value quotient table
+table_of b m g bits value quotient table whole suits factors powers = record {
+  factors = factors;
+  plan = λ z e.
+      let ex = exponent z (length table) bits e whole in
+      record {
+        suits = subst (Suits m g) (sym e) suits;
+        half = ex.1;
+        entry = λ k l. powers k l ∙ ap (λ v. g ^ bits_reversed v k % m) ex.0;
+      };
+}
+
+pub powers_of : {F : Type 0} (b m g bits : ℕ) (value quotient : F → ℕ) (table : List F) → length table ≡ 2 ^ bits
+    → IsTable b m g value quotient table → ArePowers m g bits value table
+powers_of b m g bits value quotient table whole is k l =
+    let two = two-pow-succ bits in
+    let less : suc bits - 1 ≡ bits = omega arith in
+    (is.plan (suc bits) (omega (arith, two, whole))).entry k l ∙ ap (λ v. g ^ bits_reversed v k % m) less

@@ -1,0 +1,88 @@
+use Rattle.std.proofs.Common.{Bool, true, false, not, ◌≡◌, ◌*◌, ◌%◌, ◌^◌, ◌<◌, length, ap, sym, ◌∙◌, arith, refl, below_more}
+use Rattle.std.proofs.lemmas.Bool.{false≢true}
+use Rattle.modular_plan.specs.Plans.{numbers}
+use Rattle.modular_plan.proofs.Entries.{number_read}
+use Rattle.modular_transform.specs.Orders.{bits_reversed}
+use Rattle.modular_transform.proofs.BitReversal.{bits_reversed_below, bits_reversed_of_zero, bits_reversed_twice}
+use Rattle.modular_plan_transforms.proofs.PlanTables.{power_first, power_next}
+use Rattle.modular_plan_transforms.proofs.filled.are_powers.Goals as goal
+use Rattle.modular_plan_transforms.proofs.filled.are_powers.Goals.{After-next_reversed-place}
+use borrow.Author.Count.{falls}
+use borrow.Author.Rules.{scaled_Fits}
+
+pub powers-init : goal.powers-init
+powers-init g c = record {
+  power = power_first _ _ _ _ c.one.ensures c.residue-power.ensures;
+  place = sym (bits_reversed_of_zero c.args.bits);
+  passed = λ k l. absurd (omega arith);
+}
+
+pub powers-smaller : goal.powers-smaller
+powers-smaller g c = falls _ _ c.powers-test.true
+
+-- where the power that is tried stands
+at_place : (g : _) (c : After-next_reversed-place g) → c.next_reversed-place.result < length c.args.table.now
+at_place g c =
+    let b = bits_reversed_below c.args.bits c.powers.exponent in
+    let is = c.next_reversed-place.ensures in
+    let whole = c.requires.whole in
+    omega (arith, b, is, whole)
+
+pub bounds-table-place : goal.bounds-table-place
+bounds-table-place g c = at_place g (goal.at.bounds-table-place g c).After-next_reversed-place
+
+pub offset_bounds-table-place : goal.offset_bounds-table-place
+offset_bounds-table-place g c =
+    let l = at_place g (goal.at.offset_bounds-table-place g c).After-next_reversed-place in omega (arith, l)
+
+unequal_not : (b : Bool) → not b ≡ false → b ≡ true
+unequal_not true e = refl
+unequal_not false e = absurd (false≢true (sym e))
+
+pub returns-then-ne : goal.returns-then-ne
+returns-then-ne g c = (
+  λ t. absurd (false≢true t),
+  λ all.
+      let n = g.T.RingWord.number in
+      let place = c.next_reversed-place.result in
+      let within = at_place g (goal.at.returns-then-ne g c).After-next_reversed-place in
+      let back = ap (bits_reversed c.args.bits) c.next_reversed-place.ensures
+      ∙ bits_reversed_twice c.args.bits c.powers.exponent (let l = c.powers-test.true in let w = c.requires.whole in
+      omega (arith, l, w)) in
+      let power = ap (λ k. n c.args.g ^ k % n c.args.m.now.modulus) back in
+      let value = c.factor.ensures.value ∙ number_read g.F.PlanEntry.value c.args.table.now place _ within c.index-table-place.is in
+      let same = (g.met.T.RingWord.equal c.factor.result.value c.powers.power).1
+      (value ∙ all place within ∙ power ∙ sym c.powers.invariant.power) in
+      absurd (false≢true (sym (c.ne.ensures ∙ ap not same) ∙ c.if-ne.true)),
+)
+
+pub powers-preserved : goal.powers-preserved
+powers-preserved g c =
+    let n = g.T.RingWord.number in
+    let within = at_place g (goal.at.powers-preserved g c).After-next_reversed-place in
+    let value = c.factor.ensures.value
+    ∙ number_read g.F.PlanEntry.value c.args.table.now c.next_reversed-place.result _ within c.index-table-place.is in
+    let here = ap (numbers g.F.PlanEntry.value c.args.table.now) (sym c.next_reversed-place.ensures) in
+    let same = (g.met.T.RingWord.equal c.factor.result.value c.powers.power).0
+    (unequal_not _ (sym c.ne.ensures ∙ c.if-ne.false)) in
+    record {
+      power = power_next _ (n c.args.g) c.powers.exponent _ _ c.powers.invariant.power
+          (c.product-power.ensures
+          ∙ ap (λ v. (n c.powers.power * v) % n c.args.m.now.modulus) c.factor-root.ensures.value);
+      place = c.next_reversed-place.ensures ∙ ap (bits_reversed c.args.bits) (omega arith);
+      passed = below_more _ _ c.powers.invariant.passed (here ∙ sym value ∙ same ∙ c.powers.invariant.power);
+    }
+
+pub returns : goal.returns
+returns g c = (
+  λ t k l.
+      let bits = c.args.bits in
+      let w = c.requires.whole in
+      let done = c.powers-test.false in
+      let end = c.powers.auto.exponent-end in
+      let twice = bits_reversed_twice bits k (omega (arith, w, l)) in
+      let below = bits_reversed_below bits k in
+      ap (numbers g.F.PlanEntry.value c.args.table.now) (sym twice)
+      ∙ c.powers.invariant.passed (bits_reversed bits k) (omega (arith, below, w, done, end)),
+  λ all. refl,
+)

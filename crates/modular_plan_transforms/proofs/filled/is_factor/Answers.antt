@@ -1,0 +1,50 @@
+use Rattle.std.proofs.Common.{◌≡◌, ◌+◌, ◌*◌, ◌<◌, ◌↔◌, ap, arith, sym, ◌∙◌}
+use Rattle.std.proofs.lemmas.Bool.{false≢true}
+use Rattle.modular_barrett.specs.Factors.{IsFactor}
+use Rattle.modular_plan_transforms.proofs.PlanTables.{factor_by_sum}
+use Rattle.modular_plan_transforms.proofs.filled.is_factor.Goals as goal
+use Rattle.modular_plan_transforms.proofs.filled.is_factor.Goals.{After-split-high}
+
+-- the three tests together
+tested : (g : _) (c : After-split-high g) → let n = g.T.RingWord.number in
+    ((n c.args.w.now.value < n c.args.m) × (n c.wrapping_sub-rest.result < n c.args.m)
+    × (n c.split-high.result.1 ≡ n c.args.w.now.value))
+    ↔ IsFactor g.T.PathWord.base (n c.args.m) (n c.args.w.now.value) (n c.args.w.now.quotient)
+tested g c =
+    let n = g.T.RingWord.number in
+    let b = g.T.PathWord.base in
+    let q = n c.args.w.now.quotient in
+    let m = n c.args.m in
+    let rest = n c.wrapping_sub-rest.result in
+    let none : b * n c.zero-2.result ≡ b * 0 = ap (λ z. b * z) c.zero-2.ensures in
+    let value = c.product-whole.ensures.value in
+    let merged = c.merge.ensures.value in
+    let added = c.double_plus.ensures in
+    let parts = c.split-high.ensures.value in
+    factor_by_sum b m (n c.args.w.now.value) q (n c.split-low.result.0) (n c.split-low.result.1) rest
+    (n c.split-high.result.0) (n c.split-high.result.1)
+    c.product-whole.ensures.other_fits (sym value ∙ c.split-low.ensures.value)
+    (c.wrapping_sub-rest.ensures.value ∙ c.zero.ensures) c.wrapping_sub-rest.ensures.fits
+    (let s : q * m + rest ≡ n c.split-high.result.0 + b * n c.split-high.result.1
+    = omega (arith, none, value, merged, added, parts) in s)
+    c.split-high.ensures.low_fits
+
+pub returns-then-not-is_below-2 : goal.returns-then-not-is_below-2
+returns-then-not-is_below-2 g c = (
+  λ t. absurd (false≢true t),
+  λ is. absurd (false≢true (sym c.if-not-is_below-2.true
+      ∙ c.is_below-2.ensures.below.1 ((tested g (goal.at.returns-then-not-is_below-2 g c).After-split-high).1 is).1)),
+)
+
+pub returns : goal.returns
+returns g c =
+    let n = g.T.RingWord.number in
+    let equal = g.met.T.RingWord.equal c.split-high.result.1 c.args.w.now.value in
+    let tests = tested g (goal.at.returns g c).After-split-high in (
+      λ t. tests.0 (
+        c.is_below.ensures.below.0 c.if-not-is_below.false,
+        c.is_below-2.ensures.below.0 c.if-not-is_below-2.false,
+        equal.0 (sym c.eq.ensures ∙ t),
+      ),
+      λ is. c.eq.ensures ∙ equal.1 (tests.1 is).2,
+    )

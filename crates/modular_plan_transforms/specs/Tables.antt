@@ -1,0 +1,11 @@
+-- A table that holds a plan (Harvey, "Faster arithmetic for number-theoretic transforms", section 3). The name is the
+-- library's own word.
+use Rattle.std.specs.Prelude.{◌≡◌, ℕ, ◌*◌, ◌^◌, List, length}
+use Rattle.modular_barrett.specs.Factors.{AllFactors}
+use Rattle.modular_plan.specs.Plans.{numbers, IsPlan}
+
+-- the table is the plan by g, with the quotients by m, for as many entries as twice its length; b is the base, and the
+-- two functions give an entry's factor and its quotient
+pub record IsTable {F : Type 0} (b m g : ℕ) (value quotient : F → ℕ) (table : List F) : Type 0 where
+  pub factors : AllFactors b m value quotient table
+  pub plan : (z : ℕ) → 2 ^ z ≡ 2 * length table → IsPlan m g z (length table) (numbers value table)
