@@ -6,6 +6,7 @@ where nothing is tested. Parts of a sentence are parted by `; `: where a body ha
 """
 import re
 import textwrap
+from collections import defaultdict
 from dataclasses import dataclass
 
 from erase_tokens import COUNT, Unknown, beginning, beyond, body_of, header, lexed, put_attribute
@@ -18,41 +19,41 @@ MADE |= {"StoredModulus", "PreMulInv1by1", "PreMulInv2by1", "Normalized2by1Divis
 MADE_BY = {"new": ("R::new(", "Montgomery::of(", "Self::of(", "M::keep(")}
 
 # Tests that are put in at the beginning of a body, since they look at more than `prove!` may, or since only rustc needs them:
-# by file and function, the condition's parts in turn. What they call is proved to tell whether the condition holds.
+# by file in its crate and function, the condition's parts in turn. What they call is proved to tell whether the condition holds.
 EVERY, DEBUG, RETURN = "assert", "debug_assert", "return"
 FACTORS = (DEBUG, "crate::additions::are_factors(m, xs.len(), table, b, last)")
 IN_ROOM = (DEBUG, "xs.iter().all(|x| m.has_room(*x))")
-SPLITS = (EVERY, "crate::modular_plan_transforms::split::splits(xs.len(), table.len(), b, last)")
+SPLITS = (EVERY, "crate::plans::splits(xs.len(), table.len(), b, last)")
 LENGTH = (EVERY, "xs.len().is_power_of_two()")
 QUOTIENT = ((DEBUG, "crate::additions::is_greatest_quotient(d, pre.q_lim)"),)
-PLAN = "modular_plan_transforms/plan"
+PLAN = "plan"
 PLAN_ROOM = (DEBUG, "xs.iter().all(|x| self.modulus.has_room(*x))")
 PLAN_SPLITS = (EVERY, "self.splits(xs.len(), b, last)")
 PLAN_PAIR_ROOM = (DEBUG, "xs.iter().chain(ys.iter()).all(|x| self.modulus.has_room(*x))")
 EQUAL = (EVERY, "ys.len() == xs.len()")
 DIVISOR = ((EVERY, "d != 0"),)
 LOOKS = {
-    ("modular_transform/transform", "ntt_counted"): (
+    ("transform", "ntt_counted"): (
         LENGTH,
         (DEBUG, "r.check(g) && xs.iter().all(|x| r.check(x))"),
         (EVERY, "r.check(g) && root_fits(r, g, xs.len())"),
     ),
-    ("modular_transform/convolution", "convolve"): (
+    ("convolution", "convolve"): (
         (EVERY, "ys.len() == xs.len()"),
         LENGTH,
         (DEBUG, "r.check(g) && xs.iter().all(|x| r.check(x)) && ys.iter().all(|y| r.check(y))"),
-        (EVERY, "r.check(g) && crate::modular_transform::transform::root_fits(r, g, xs.len())"),
+        (EVERY, "r.check(g) && crate::ring::root_fits(r, g, xs.len())"),
     ),
-    ("modular_ring/ring", "run"): ((DEBUG, "all_checked(r, regs)"), (DEBUG, "commands_fit(commands, regs.len())")),
-    ("modular_plan_passes/plan", "plan"): (
+    ("ring", "run"): ((DEBUG, "all_checked(r, regs)"), (DEBUG, "commands_fit(commands, regs.len())")),
+    ("plan", "plan"): (
         (RETURN, "table.is_empty()"),
         (EVERY, "g.is_below(m.modulus)"),
         (EVERY, "crate::additions::root_fits_plan(m, g, table.len())"),
     ),
-    ("modular_plan_transforms/split", "split"): (IN_ROOM, SPLITS, FACTORS),
-    ("modular_plan_transforms/join", "join"): (IN_ROOM, SPLITS, FACTORS),
-    ("modular_plan_transforms/join", "join_scaled"): (IN_ROOM, SPLITS, FACTORS, (DEBUG, "crate::additions::is_factor(m, w)")),
-    ("modular_plan_transforms/convolution", "convolve_block"): (
+    ("split", "split"): (IN_ROOM, SPLITS, FACTORS),
+    ("join", "join"): (IN_ROOM, SPLITS, FACTORS),
+    ("join", "join_scaled"): (IN_ROOM, SPLITS, FACTORS, (DEBUG, "crate::additions::is_factor(m, w)")),
+    ("convolution", "convolve_block"): (
         (EVERY, "ys.len() == xs.len()"),
         (EVERY, "convolves(xs.len(), table.len(), b, last)"),
         (DEBUG, "xs.iter().chain(ys.iter()).all(|x| m.has_room(*x))"),
@@ -67,21 +68,21 @@ LOOKS = {
     (PLAN, "convolve_block"): (EQUAL, (EVERY, "self.convolves(xs.len(), b, last)"), PLAN_PAIR_ROOM),
     (PLAN, "multiply"): (EQUAL, (DEBUG, "xs.iter().all(|x| x.is_below(self.modulus.modulus))")),
     (PLAN, "shorter"): ((EVERY, "self.has_shorter(n)"),),
-    ("modular_reduced/reduced_int/operations", "quotient"): ((DEBUG, "y.reducer.modulus() == x.reducer.modulus()"),),
-    ("modular_barrett/normalized", "invert_word"): ((DEBUG, "d.leading_zeros() == 0"),),
-    ("modular_barrett/one_by_one", "div_rem"): ((DEBUG, "crate::additions::is_multiplier(self.multiplier, self.shift, d)"),),
+    ("reduced_int/operations", "quotient"): ((DEBUG, "y.reducer.modulus() == x.reducer.modulus()"),),
+    ("normalized", "invert_word"): ((DEBUG, "d.leading_zeros() == 0"),),
+    ("one_by_one", "div_rem"): ((DEBUG, "crate::additions::is_multiplier(self.multiplier, self.shift, d)"),),
     ("modular_prim/exact", "exact_quotient"): ((EVERY, "!d.is_zero_word()"),),
     ("modular_prim/exact", "exact_quotient_128"): ((EVERY, "d != 0"),),
-    ("modular_prim/abs", "signed_residue_128"): ((EVERY, "m != 0"),),
-    **{("modular_prim/plain_word", name): DIVISOR for name in ("quotient", "remainder", "low_quotient")},
-    **{(f"modular_word/word/{word}", "nrem"): DIVISOR for word in ("w8", "w16", "w32", "w64", "wsize")},
-    ("modular_ring/residues", "encode"): ((EVERY, "moduli.iter().all(|m| *m > 0)"), (EVERY, "residues.len() == moduli.len()")),
-    ("modular_ring/residues", "decode"): (
+    ("abs", "signed_residue_128"): ((EVERY, "m != 0"),),
+    **{("plain_word", name): DIVISOR for name in ("quotient", "remainder", "low_quotient")},
+    **{(f"word/{word}", "nrem"): DIVISOR for word in ("w8", "w16", "w32", "w64", "wsize")},
+    ("residues", "encode"): ((EVERY, "moduli.iter().all(|m| *m > 0)"), (EVERY, "residues.len() == moduli.len()")),
+    ("residues", "decode"): (
         (EVERY, "crate::additions::may_be_system(moduli)"),
         (EVERY, "residues.len() >= moduli.len() && are_reduced(moduli, residues)"),
     ),
-    ("modular_monty/preinv", "word_quotient"): QUOTIENT,
-    ("modular_monty/preinv", "double_quotient"): QUOTIENT,
+    ("preinv", "word_quotient"): QUOTIENT,
+    ("preinv", "double_quotient"): QUOTIENT,
 }
 # What a test that fails shows besides its words: the end of the message, and what stands in its braces.
 FACTORS_SHOWN = (": {} entries, {} factors, b = {}, last = {}", "xs.len(), table.len(), b, last")
@@ -96,7 +97,7 @@ SHOWN = {
     "there must be room for one residue a modulus": (": {} and {}", "residues.len(), moduli.len()"),
 }
 SHOWN_BY_LOOK = {SPLITS[1]: FACTORS_SHOWN, "convolves(xs.len(), table.len(), b, last)": FACTORS_SHOWN}
-FOUND = set()
+FOUND = defaultdict(set)
 TRACKED, TRACKED_IN_DEBUG = "#[track_caller]", "#[cfg_attr(debug_assertions, track_caller)]"
 SHORT = ("modular_word/", "modular_prim/", "modular_symbols/reference_operations", "modular_reduced/reduced_int/operations")
 BETWEEN = (
@@ -110,8 +111,8 @@ TESTED_BELOW = (
     ((EVERY,), r"modular_prim/(residues|euclid|power|counted/\w+)\.\w+|modular_prim/abs\.signed_residue"),
     ((EVERY,), r"[\w/]+\.(new|of|keep)|modular_(folds|monty)/\w+\.(fixed_modulus|reduce_single|reduce_double|reduce_counted)"),
     ((EVERY, DEBUG, EVERY), r"modular_transform/transform\.ntt"),
-    ((DEBUG, EVERY, DEBUG), r"modular_plan_transforms/transform\.ntt_planned"),
-    ((EVERY,), r"modular_plan_transforms/convolution\.\w+"),
+    ((DEBUG, EVERY, DEBUG), r"modular_plan\w*/transform\.ntt_planned"),
+    ((EVERY,), r"modular_plan\w*/convolution\.\w+"),
     ((DEBUG,), r"modular_barrett/exact\.exact_quotient"),
 )
 VERBS = {"is": "be", "are": "be", "has": "have", "have": "have", "suits": "suit", "fits": "fit", "admits": "admit", "takes": "take", "holds": "hold"}
@@ -224,12 +225,18 @@ def say(tokens, it, words):
         COUNT["message put in"] += 1
 
 
+def in_crate(file):
+    """The path of a file in its crate."""
+    return file.partition("/")[2]
+
+
 def put_looks(tokens, it, file):
     """Puts the tests of the table at the beginning of a body."""
     if tokens[it.body].text == ";":
         return
-    FOUND.add((file, tokens[it.at + 1].text))
-    for macro, test in reversed(LOOKS.get((file, tokens[it.at + 1].text), ())):
+    key = next((key for key in ((file, tokens[it.at + 1].text), (in_crate(file), tokens[it.at + 1].text)) if key in LOOKS), None)
+    FOUND[key].add(file)
+    for macro, test in reversed(LOOKS.get(key, ())):
         lead = tokens[it.body + 1].lead
         look = f"if {test} {{{lead}    return;{lead}}}" if macro == RETURN else f"{macro}!({test});"
         tokens[it.body + 1 : it.body + 1] = lexed(lead + look)
@@ -237,8 +244,9 @@ def put_looks(tokens, it, file):
 
 
 def lost_looks():
-    """The functions of the table that no file has."""
-    return [f"{file}.rt: {name}, which should be tested, isn't there" for file, name in LOOKS if (file, name) not in FOUND]
+    """The functions of the table that no file has, or two."""
+    lost = [f"{file}.rt: {name}, which should be tested, isn't there" for file, name in LOOKS if not FOUND[file, name]]
+    return lost + [f"{key[0]}.rt: {key[1]}, which should be tested, is in {len(FOUND[key])} files" for key in LOOKS if len(FOUND[key]) > 1]
 
 
 def how_tested(tokens, it, file, words):

@@ -49,14 +49,26 @@ impl<T: RingWord + Hash, R: Reducer<T> + Copy> Hash for ReducedInt<T, R> {
 impl<T: RingWord, R: Reducer<T> + Copy> DivAssign for ReducedInt<T, R> {
     #[cfg_attr(debug_assertions, track_caller)]
     fn div_assign(&mut self, rhs: Self) {
-        *self = &*self / &rhs;
+        *self = *self / rhs;
     }
 }
 
 impl<T: RingWord, R: Reducer<T> + Copy> DivAssign<&Self> for ReducedInt<T, R> {
     #[cfg_attr(debug_assertions, track_caller)]
     fn div_assign(&mut self, rhs: &Self) {
-        *self = &*self / rhs;
+        *self = *self / rhs;
+    }
+}
+
+impl Default for crate::applications::lattice_rings::ml_dsa::Ring {
+    fn default() -> Self {
+        Self::new()
+    }
+}
+
+impl Default for crate::applications::lattice_rings::ml_kem::Ring {
+    fn default() -> Self {
+        Self::new()
     }
 }
 

@@ -1,0 +1,347 @@
+"""Takes away what only proofs use, for rust/erase: laws, traits without members, imports; and names parameters that nothing reads."""
+import re
+from dataclasses import dataclass, field
+
+from erase_conditions import first_of
+from erase_tokens import COUNT, Token, Unknown, beyond, body_of, cut, lexed, parameters, put_attribute, stands
+
+LAWS = "laws"  # a module of this name has what only proofs and tests call
+WIDTH = 100  # of an import
+
+
+# ------------------------------------------------------------------------------------------------ imports
+@dataclass
+class Path:
+    """A part of an import: a path, and what stands in its braces, or None; `alias` is the name after `as`."""
+
+    words: list
+    inner: list = None
+    alias: str = ""
+
+    def name(self):
+        return self.alias or next(it for it in reversed(self.words) if it != "self")
+
+    def text(self):
+        inner = "" if self.inner is None else "::{" + ", ".join(it.text() for it in self.inner) + "}"
+        return "::".join(self.words) + inner + (f" as {self.alias}" if self.alias else "")
+
+
+@dataclass
+class Import:
+    """An import: the indexes of its first token and behind its last, and its tree."""
+
+    begin: int
+    end: int
+    tree: Path
+    public: bool
+
+
+def read_path(tokens, at):
+    """The part of an import at `at`, and the index behind it."""
+    found = Path([])
+    while True:
+        if tokens[at].text == "{":
+            found.inner, at = [], at + 1
+            while tokens[at].text != "}":
+                part, at = read_path(tokens, at)
+                found.inner.append(part)
+                at += tokens[at].text == ","
+            return found, at + 1
+        found.words += tokens[at].text.split("::")  # a rewritten head is one token
+        at += 1
+        if tokens[at].text == "as":
+            found.alias, at = tokens[at + 1].text, at + 2
+        if tokens[at].text != "::":
+            return found, at
+        at += 1
+
+
+def imports(tokens):
+    """The imports of a file, the last first."""
+    found = []
+    for at, it in enumerate(tokens):
+        if it.text == "use" and it.kind == "name" and tokens[at - 1].text != ".":
+            tree, end = read_path(tokens, at + 1)
+            if tokens[end].text != ";":
+                raise Unknown("an import that has no end")
+            begin = first_of(tokens, at)
+            found.append(Import(begin, end + 1, tree, "pub" in [it.text for it in tokens[begin:at]]))
+    return found[::-1]
+
+
+def leaves(tree, path=()):
+    """The last two words of each path that an import gives."""
+    path = (*path, *tree.words)
+    return [path[-2:]] if tree.inner is None else [it for part in tree.inner for it in leaves(part, path)]
+
+
+def kept(tree, keeps, path=()):
+    """The tree without the leaves that `keeps` refuses; None for nothing."""
+    whole = (*path, *tree.words)
+    if tree.inner is None:
+        return tree if keeps(whole, tree.name()) else None
+    inner = [it for it in (kept(part, keeps, whole) for part in tree.inner) if it]
+    if len(inner) == 1 and inner[0].words != ["self"]:
+        return Path([*tree.words, *inner[0].words], inner[0].inner, inner[0].alias)
+    return Path(tree.words, inner, tree.alias) if inner else None
+
+
+def filter_imports(tokens, keeps, what, public=True):
+    """Takes the names that `keeps` refuses out of the imports, those that are public too, where `public` is true."""
+    for it in imports(tokens):
+        if it.public and not public:
+            continue
+        tree = kept(it.tree, keeps)
+        if tree and tree.text() == it.tree.text():
+            continue
+        COUNT[f"import {what} taken away"] += 1
+        if tree is None:
+            cut(tokens, it.begin, it.end, True)
+            continue
+        head = "".join(x.lead * (count > 0) + x.text for count, x in enumerate(tokens[it.begin : it.end]))
+        head = head[: re.search(r"\buse\s", head).end()]
+        text = f"{head}{tree.text()};"
+        if len(text.rsplit("\n", 1)[-1]) > WIDTH:
+            opened, closed = text.index("{"), text.rindex("}")
+            lines = re.sub(r"(.{1,92}),(?: |$)", r"    \1,\n", text[opened + 1 : closed] + ", ").rstrip()
+            text = f"{text[: opened + 1]}\n{lines}\n{text[closed:]}"
+        tokens[it.begin : it.end] = lexed(tokens[it.begin].lead + text)
+
+
+# ------------------------------------------------------------------------------------------------ laws
+def free_functions(tokens):
+    """The indexes of `fn` of the functions that stand in no other item."""
+    at, found = 0, []
+    while at < len(tokens):
+        if tokens[at].text == "fn" and at + 1 < len(tokens) and tokens[at + 1].kind == "name":
+            found.append(at)
+            at = body_of(tokens, at)
+        at = beyond(tokens, at) if tokens[at].text == "{" else at + 1
+    return found
+
+
+def law_functions(tokens):
+    """The indexes of those of them that return nothing and have no body: their contracts state laws."""
+    for at in free_functions(tokens):
+        body = body_of(tokens, at)
+        if tokens[body - 1].text == ")" and stands(tokens, body, ["{", "}"]):
+            yield at
+
+
+def without_calls(tokens, names):
+    """Takes the statements away that call these functions."""
+    for at in range(len(tokens) - 2, 0, -1):
+        if tokens[at].text in names and tokens[at - 1].text in ("{", "}", ";"):
+            end = beyond(tokens, at + 2) if stands(tokens, at + 1, ["::", "<"]) else at + 1
+            if tokens[end].text == "(" and tokens[beyond(tokens, end)].text == ";":
+                cut(tokens, at, beyond(tokens, end) + 1, True)
+                COUNT["call of a law taken away"] += 1
+
+
+def take_laws(files):
+    """Takes laws away from all files, and what does nothing without them. `files`: the tokens by crate and path."""
+    names = set()
+    while True:
+        found = set()
+        for files_of_crate in files.values():
+            for tokens in files_of_crate.values():
+                for at in reversed(list(law_functions(tokens))):
+                    found.add(tokens[at + 1].text)
+                    cut(tokens, first_of(tokens, at), body_of(tokens, at) + 2, True)
+                    COUNT["law taken away"] += 1
+        if not found:
+            break
+        names |= found
+        for files_of_crate in files.values():
+            for tokens in files_of_crate.values():
+                without_calls(tokens, names)
+                filter_imports(tokens, lambda _, name: name not in names, "of a law")
+    for crate, files_of_crate in files.items():
+        for path, tokens in files_of_crate.items():
+            if lost := next((it.text for it in tokens if it.kind == "name" and it.text in names), None):
+                raise Unknown(f"crates/{crate}/src/{path}.rt: the law {lost} is used there, but in no statement of its own")
+
+
+def has_nothing(tokens):
+    """Whether a file has no item but imports of its own."""
+    rest = list(tokens[:-1])
+    for it in imports(rest):
+        if it.public:
+            return False
+        del rest[it.begin : it.end]
+    return not rest
+
+
+def take_empty_modules(files):
+    """Takes the modules away that have nothing left."""
+    for files_of_crate in files.values():
+        for path in [path for path, tokens in files_of_crate.items() if has_nothing(tokens)]:
+            del files_of_crate[path]
+            above = path.parent if path.parent in files_of_crate else next(it for it in files_of_crate if str(it) == "lib")
+            tokens = files_of_crate[above]
+            at = next(at for at in range(len(tokens)) if stands(tokens, at, ["mod", path.name, ";"]))
+            cut(tokens, first_of(tokens, at), at + 3, True)
+            COUNT["module without items taken away"] += 1
+
+
+# ------------------------------------------------------------------------------------------------ traits
+def take_markers(tokens, markers):
+    """Takes traits without members away, as bounds too. `markers` has what each requires besides: a trait of core, or ""."""
+    filter_imports(tokens, lambda _, name: name not in markers, "of a trait without members")
+    for at in range(len(tokens) - 2, 0, -1):
+        if tokens[at].text == "trait" and tokens[at + 1].text in markers:
+            end = at
+            while tokens[end].text != "{":
+                end += 1
+            cut(tokens, first_of(tokens, at), beyond(tokens, end), True)
+            COUNT["trait without members taken away"] += 1
+        elif tokens[at].text in markers and tokens[at].kind == "name" and tokens[at - 1].text in (":", "+"):
+            COUNT["bound by a trait without members taken away"] += 1
+            if markers[tokens[at].text]:
+                tokens[at].text = markers[tokens[at].text]
+            elif tokens[at - 1].text == "+":
+                del tokens[at - 1 : at + 1]
+            elif tokens[at + 1].text == "+":
+                tokens[at + 2].lead = tokens[at].lead
+                del tokens[at : at + 2]
+            else:
+                del tokens[at - 1 : at + 1]
+    if lost := next((it.text for it in tokens if it.kind == "name" and it.text in markers), None):
+        raise Unknown(f"the trait {lost}, which has no members, is named where it is no bound")
+
+
+# ------------------------------------------------------------------------------------------------ names
+@dataclass
+class Trait:
+    """The methods of a trait, and the traits that it requires."""
+
+    methods: set = field(default_factory=set)
+    supers: set = field(default_factory=set)
+
+
+def traits_of(files):
+    """The traits of these files by their name."""
+    found = {}
+    for tokens in files:
+        for at, it in enumerate(tokens):
+            if it.text == "trait" and tokens[at + 1].kind == "name":
+                body = at
+                while tokens[body].text != "{":
+                    body += 1
+                end = beyond(tokens, body)
+                methods = {tokens[x + 1].text for x in range(body, end) if tokens[x].text == "fn"}
+                found[tokens[at + 1].text] = Trait(methods, {x.text for x in tokens[at + 2 : body] if x.kind == "name"})
+    return found
+
+
+def implied(names, traits):
+    """These names, and the traits that those among them require."""
+    found, rest = set(), set(names)
+    while rest:
+        found |= rest
+        rest = {other for it in rest if it in traits for other in traits[it].supers} - found
+    return found
+
+
+def take_unused_imports(tokens, traits):
+    """Takes the imports away that only ghost text used. A trait is used where it is named, and where a method of it is called
+    that no bound of the file brings."""
+    inside = {at for it in imports(tokens) for at in range(it.begin, it.end)}
+    outside = [it for at, it in enumerate(tokens) if at not in inside]
+    heads = zip([Token("", "end", ""), *outside], outside)
+    names = {it.text for before, it in heads if it.kind == "name" and before.text not in (".", "::", "fn")}
+    called = {it.text for before, it in zip(outside, outside[1:]) if before.text in (".", "::")}
+    brought = implied(names, traits)
+    others = {method for it in brought & set(traits) for method in traits[it].methods}
+
+    def is_used(path, name):
+        if name in names or name in ("*", "self", "_"):
+            return True
+        return name in traits and name not in brought and bool(traits[name].methods & called - others)
+
+    filter_imports(tokens, is_used, "that nothing uses", public=False)
+
+
+def name_unread(tokens):
+    """A parameter that only ghost text reads is read once, and a place that only ghost text reads isn't counted."""
+    for at in range(len(tokens) - 2, -1, -1):
+        if tokens[at].text == "fn" and tokens[at + 1].kind == "name" and tokens[body := body_of(tokens, at)].text == "{":
+            opened = beyond(tokens, at + 2) if tokens[at + 2].text == "<" else at + 2
+            end = beyond(tokens, body)
+            inside = " ".join(it.text for it in tokens[body:end])
+            for part in reversed(parameters(tokens[opened : beyond(tokens, opened)])):
+                words = [it.text for it in part if it.text != "mut"]
+                if len(words) > 2 and words[1] == ":" and not re.search(rf"\b{words[0]}\b", inside):
+                    lead = tokens[body + 1].lead if "\n" in tokens[body + 1].lead else "\n"
+                    tokens[body + 1 : body + 1] = lexed(f"{lead}let _ = {words[0]};")
+                    COUNT["parameter that nothing reads named"] += 1
+        if stands(tokens, at, ["for", "("]) and stands(tokens, beyond(tokens, at + 1), ["in"]):
+            opened = at
+            while tokens[opened].text != "{":
+                opened += 1
+            inside = {it.text for it in tokens[opened : beyond(tokens, opened)]}
+            if stands(tokens, opened - 4, ". enumerate ( )".split()) and tokens[at + 2].text not in inside:
+                del tokens[opened - 4 : opened]
+                closed = beyond(tokens, at + 1) - 1
+                del tokens[closed]
+                del tokens[at + 1 : at + 4]
+                tokens[at + 1].lead = " "
+                COUNT["count of a loop taken away"] += 1
+
+
+def mark_unread_fields(tokens):
+    """A field without a value, which keeps others from making one, is read by nothing."""
+    for at in range(len(tokens) - 3, 0, -1):
+        if stands(tokens, at, ["made", ":", "(", ")"]):
+            tokens[at].text = "_made"
+            COUNT["field without a value named with an underscore"] += 1
+
+
+# ------------------------------------------------------------------------------------------------ modules of tests
+def only_tests_use(files, parts, named):
+    """The private modules whose functions only tests call: by crate, their paths. `files`: the tokens of the library by crate
+    and path; `parts`: the crates whose modules are private; `named`: what else is named, by the last two words of its path."""
+    free = {}
+    for crate, files_of_crate in files.items():
+        for path, tokens in files_of_crate.items():
+            named_there = {it for found in imports(tokens) for it in leaves(found.tree)}
+            rest, exports = list(tokens[:-1]), False
+            for it in imports(rest):
+                exports |= it.public
+                del rest[it.begin : it.end]
+            named_there |= {(x.text.split("::")[-1], y.text) for x, sign, y in zip(rest, rest[1:], rest[2:]) if sign.text == "::"}
+            own = {(path.name, rest[at + 1].text) for at in free_functions(rest)}
+            modules = (crate, *path.parts)
+            own |= set(zip(modules, modules[1:])) if own else set()
+            free[crate, path] = own, named_there, has_functions_only(rest) and not exports
+    gone = {key for key in free if key[1].name == LAWS}
+    while True:
+        used = set(named).union(*(words for key, (_, words, _) in free.items() if key not in gone))
+        more = {key for key, (own, _, only) in free.items() if only and key[0] in parts and own and not own & used} - gone
+        if not more:
+            return gone
+        gone |= more
+
+
+def has_functions_only(tokens):
+    """Whether a file has no item but functions and constants."""
+    at = 0
+    while at < len(tokens):
+        if tokens[at].text in ("impl", "trait", "struct", "enum", "mod", "type", "use", "macro_rules"):
+            return False
+        if tokens[at].text == "fn" and tokens[at + 1].kind == "name":
+            at = body_of(tokens, at)
+        at = beyond(tokens, at) if tokens[at].text == "{" else at + 1
+    return True
+
+
+def mark_modules_of_tests(files, gone):
+    """Marks these modules, so that only tests compile them."""
+    for crate, path in gone:
+        files_of_crate = files[crate]
+        above = path.parent if path.parent in files_of_crate else next(it for it in files_of_crate if str(it) == "lib")
+        tokens = files_of_crate[above]
+        at = next((at for at in range(len(tokens)) if stands(tokens, at, ["mod", path.name, ";"])), None)
+        if at is None:
+            raise Unknown(f"crates/{crate}/src/{path}.rt: no module declares this one")
+        put_attribute(tokens, first_of(tokens, at), "#[cfg(test)]")
