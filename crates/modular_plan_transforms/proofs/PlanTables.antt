@@ -5,8 +5,8 @@ use Rattle.std.proofs.lemmas.Nat.{mul-mod_first, pow-add, div-mul-add}
 use Rattle.modular_word.proofs.Congruence.{same_rest, factor_cancel}
 use Rattle.modular_word.proofs.Powers.{pow-one}
 use Rattle.modular_barrett.specs.Factors.{IsFactor, AllFactors}
-use Rattle.modular_plan.specs.Plans.{numbers}
-use Rattle.modular_plan.proofs.Tables.{exponent}
+use Rattle.modular_plan_passes.specs.Plans.{numbers}
+use Rattle.modular_plan_passes.proofs.Tables.{exponent}
 use Rattle.modular_transform.specs.Orders.{bits_reversed}
 use Rattle.modular_transform.specs.Transforms.{Suits}
 use Rattle.modular_plan_transforms.specs.Tables.{IsTable}

@@ -2,7 +2,7 @@
 -- library's own word.
 use Rattle.std.specs.Prelude.{◌≡◌, ℕ, ◌*◌, ◌^◌, List, length}
 use Rattle.modular_barrett.specs.Factors.{AllFactors}
-use Rattle.modular_plan.specs.Plans.{numbers, IsPlan}
+use Rattle.modular_plan_passes.specs.Plans.{numbers, IsPlan}
 
 -- the table is the plan by g, with the quotients by m, for as many entries as twice its length; b is the base, and the
 -- two functions give an entry's factor and its quotient

@@ -12,7 +12,7 @@ use Rattle.modular_word.proofs.Powers.{pow-mul, one-pow}
 use Rattle.modular_word.proofs.Sums.{sum_below-zero, sum_below-suc, sum_below-same, sum_below-mul, sum_below-congruent}
 use Rattle.modular_reduced.specs.Forms.{Represents, IsCanonical}
 use Rattle.modular_reduced.specs.Values.{HoldValues}
-use Rattle.modular_passes.proofs.ValueLemmas.{values, held_value}
+use Rattle.modular_transform.proofs.ValueLemmas.{values, held_value}
 use Rattle.modular_transform.specs.Orders.{IsReordered, mirrored}
 use Rattle.modular_transform.specs.Transforms.{Suits, transform}
 use Rattle.modular_transform.proofs.ConvolveLemmas.{half_turn, mirrored_place, reordered_value}

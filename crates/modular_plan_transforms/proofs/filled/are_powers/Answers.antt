@@ -1,7 +1,7 @@
 use Rattle.std.proofs.Common.{Bool, true, false, not, ◌≡◌, ◌*◌, ◌%◌, ◌^◌, ◌<◌, length, ap, sym, ◌∙◌, arith, refl, below_more}
 use Rattle.std.proofs.lemmas.Bool.{false≢true}
-use Rattle.modular_plan.specs.Plans.{numbers}
-use Rattle.modular_plan.proofs.Entries.{number_read}
+use Rattle.modular_plan_passes.specs.Plans.{numbers}
+use Rattle.modular_plan_passes.proofs.Entries.{number_read}
 use Rattle.modular_transform.specs.Orders.{bits_reversed}
 use Rattle.modular_transform.proofs.BitReversal.{bits_reversed_below, bits_reversed_of_zero, bits_reversed_twice}
 use Rattle.modular_plan_transforms.proofs.PlanTables.{power_first, power_next}

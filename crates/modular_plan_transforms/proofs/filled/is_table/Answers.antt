@@ -1,7 +1,7 @@
 use Rattle.std.proofs.Common.{◌≡◌, ◌^◌, length, rules, arith, sym, ◌∙◌}
 use Rattle.std.proofs.lemmas.Bool.{false≢true}
 use Rattle.std.specs.Int.{trailing_zeros, w64}
-use Rattle.modular_plan.proofs.Tables.{half_power}
+use Rattle.modular_plan_passes.proofs.Tables.{half_power}
 use Rattle.modular_transform.proofs.PowersOfTwo.{power_by_zeros}
 use Rattle.modular_plan_transforms.proofs.PlanTables.{table_of, powers_of}
 use Rattle.modular_plan_transforms.proofs.filled.is_table.Goals as goal

@@ -2,7 +2,7 @@ use Rattle.std.proofs.Common.{◌≡◌, length, refl, sym, arith, subst}
 use Rattle.modular_reduced.specs.Values.{HoldValues}
 use Rattle.modular_transform.specs.Transforms.{Suits, transform}
 use Rattle.modular_transform.proofs.ConvolveLemmas.{convolution_end}
-use Rattle.modular_passes.proofs.ValueLemmas.{values}
+use Rattle.modular_transform.proofs.ValueLemmas.{values}
 use Rattle.modular_transform.proofs.convolution.multiply.Goals as goal
 
 pub ntt-requires-clause-checked : goal.ntt-requires-clause-checked

@@ -3,7 +3,7 @@ use Rattle.std.proofs.lemmas.Bool.{false≢true}
 use Rattle.std.proofs.Math.Nat.{mod-eq_of_lt}
 use Rattle.modular_word.specs.Inverses.{IsInverse}
 use Rattle.modular_word.proofs.Congruence.{turned}
-use Rattle.modular_passes.proofs.ValueLemmas.{values, values_below, held_value}
+use Rattle.modular_transform.proofs.ValueLemmas.{values, values_below, held_value}
 use Rattle.modular_transform.specs.Orders.{mirrored}
 use Rattle.modular_transform.specs.Transforms.{transform}
 use Rattle.modular_transform.proofs.ConvolveLemmas.{inverse_along}

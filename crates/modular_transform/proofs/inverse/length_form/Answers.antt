@@ -1,6 +1,6 @@
 use Rattle.std.proofs.Common.{arith}
 use Rattle.modular_transform.proofs.ConvolveLemmas.{doubled_more, doubled_all}
-use Rattle.modular_passes.proofs.StripPowers.{first_power}
+use Rattle.modular_transform.proofs.StripPowers.{first_power}
 use Rattle.modular_transform.proofs.inverse.length_form.Goals as goal
 
 pub doublings-init : goal.doublings-init

@@ -1,6 +1,6 @@
 use Rattle.std.proofs.Common.{◌*◌, ◌%◌, ◌<◌, length, ◌∙◌, ap, arith, refl, subst, sym}
-use Rattle.modular_passes.proofs.ValueLemmas.{values}
-use Rattle.modular_passes.proofs.ValueLemmas.{value_at, forms_written, entry_done, entry_kept}
+use Rattle.modular_transform.proofs.ValueLemmas.{values}
+use Rattle.modular_transform.proofs.ValueLemmas.{value_at, forms_written, entry_done, entry_kept}
 use Rattle.modular_transform.proofs.inverse.scale.Goals as goal
 use borrow.Author.Count.{falls}
 use borrow.Author.Rules.{scaled_Fits}

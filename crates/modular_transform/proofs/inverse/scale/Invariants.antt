@@ -1,6 +1,6 @@
 use Rattle.std.proofs.Common.{◌≡◌, ℕ, ◌*◌, ◌%◌, ◌<◌, ◌≤◌, All}
 use Rattle.modular_reduced.specs.Forms.{IsForm}
-use Rattle.modular_passes.proofs.ValueLemmas.{values}
+use Rattle.modular_transform.proofs.ValueLemmas.{values}
 use Rattle.modular_transform.proofs.inverse.scale.Given as goal
 
 -- the first i entries are done

@@ -1,7 +1,7 @@
 use Rattle.std.proofs.Common.{◌+◌, length, arith, sym}
 use Rattle.std.specs.Int.{trailing_zeros, w64}
 use Rattle.modular_transform.proofs.PowersOfTwo.{power_by_zeros}
-use Rattle.modular_plan.proofs.Tables.{half_power}
+use Rattle.modular_plan_passes.proofs.Tables.{half_power}
 use Rattle.modular_plan_transforms.proofs.Wholes.{turn_of, doubled}
 use Rattle.modular_plan_transforms.proofs.plan.Plan.with_table.Goals as goal
 
