@@ -122,3 +122,29 @@ wrapped b m x r m_fits r_fits below e = elim (cases_lt (r + m) b) [
       sym (mod-eq_of_lt small) ∙ sym (add-mod_right (r + m - b) b) ∙ ap (λ v. v % b) rest ∙ e in
       record { taken = λ l. absurd (omega (arith, is, rest, l)); left = λ l. omega (arith, is, rest) }
 ]
+
+-- a difference below 0 wraps around the bound
+pub lifted : (b m x r : ℕ) → m < b → r < b → x < m → (r + m) % b ≡ x → r + m ≡ x + b
+lifted b m x r m_fits r_fits below e = elim (cases_lt (r + m) b) [
+  | inl less ↦
+      let is : r + m ≡ x = sym (mod-eq_of_lt less) ∙ e in
+      absurd (omega (arith, is, below))
+  | inr more ↦
+      let rest : (r + m - b) + b ≡ r + m = omega arith in
+      let small : r + m - b < b = omega arith in
+      let is : r + m - b ≡ x =
+      sym (mod-eq_of_lt small) ∙ sym (add-mod_right (r + m - b) b) ∙ ap (λ v. v % b) rest ∙ e in
+      omega (arith, is, rest)
+]
+
+-- a difference that isn't below 0 doesn't
+pub settled : (b m x r : ℕ) → x < b → r < b → m ≤ x → (r + m) % b ≡ x → r + m ≡ x
+settled b m x r x_fits r_fits at_most e = elim (cases_lt (r + m) b) [
+  | inl less ↦ sym (mod-eq_of_lt less) ∙ e
+  | inr more ↦
+      let rest : (r + m - b) + b ≡ r + m = omega arith in
+      let small : r + m - b < b = omega arith in
+      let is : r + m - b ≡ x =
+      sym (mod-eq_of_lt small) ∙ sym (add-mod_right (r + m - b) b) ∙ ap (λ v. v % b) rest ∙ e in
+      absurd (omega (arith, is, rest, r_fits, at_most))
+]

@@ -18,19 +18,18 @@ pub fn reduced_once<T: PathWord>(x: T, m: T) -> T
     if less.is_below(x) { less } else { x }
 }
 
-/// The residue of a + b, below m. Condition: both are below m.
+/// The residue of a + b, below m. The carry of a + (b - m) chooses, without a branch, so that compilers work on several
+/// entries of a list at once. Condition: both are below m.
 pub fn add_below<T: PathWord>(a: T, b: T, m: T) -> T
     requires left { T.number a < T.number m }
     requires right { T.number b < T.number m }
     ensures value { T.number result ≡ (T.number a + T.number b) % T.number m }
     ensures below { T.number result < T.number m }
 {
-    let gap = m.minus(b);
-    if a.is_below(gap) {
-        a.plus(b)
-    } else {
-        a.minus(gap)
-    }
+    // Reading the word gives the proof that it fits its width.
+    let _ = m.is_below(a);
+    let (rest, above) = a.overflowing_add(b.wrapping_sub(m));
+    if above { rest } else { a.plus(b) }
 }
 
 /// The residue of a - b, below m. Condition: both are below m.
@@ -40,10 +39,13 @@ pub fn sub_below<T: PathWord>(a: T, b: T, m: T) -> T
     ensures value { T.number result ≡ residue (T.number m) (pos (T.number a) -ℤ pos (T.number b)) }
     ensures below { T.number result < T.number m }
 {
+    // Reading the word gives the proof that it fits its width.
+    let _ = m.is_below(a);
+    let less = a.wrapping_sub(b);
     if a.is_below(b) {
-        m.minus(b.minus(a))
+        less.wrapping_add(m)
     } else {
-        a.minus(b)
+        less
     }
 }
 

@@ -1,26 +1,28 @@
-use Rattle.std.proofs.Common.{arith}
-use Rattle.modular_prim.proofs.ResidueSteps.{difference_below, difference_above}
+use Rattle.std.proofs.Common.{◌≡◌, ◌+◌, ◌-◌, ◌%◌, ◌<◌, ◌≤◌, arith, ap, ◌∙◌}
+use Rattle.std.proofs.Math.Nat.{mod-eq_of_lt, add-mod_right}
+use Rattle.modular_prim.proofs.ResidueSteps.{difference_below, difference_above, lifted, settled}
 use Rattle.modular_prim.proofs.below.sub_below.Goals as goal
 
 pub returns-then-is_below-clause-value : goal.returns-then-is_below-clause-value
 returns-then-is_below-clause-value g c =
     let n = g.T.RingWord.number in
-    let less = c.is_below.ensures.below.0 c.if-is_below.true in
-    difference_below (n c.args.m) (n c.args.a) (n c.args.b) (n c.minus.result)
-    (n c.minus-then-is_below.result) c.requires.right less
-    c.minus.ensures.value c.minus-then-is_below.ensures.value
-
-pub returns-then-is_below-clause-below : goal.returns-then-is_below-clause-below
-returns-then-is_below-clause-below g c =
-    let n = g.T.RingWord.number in
-    let less = c.is_below.ensures.below.0 c.if-is_below.true in
-    omega (arith, c.minus.ensures.value, c.minus-then-is_below.ensures.value)
+    let base = g.T.PathWord.base in
+    let less = c.is_below-2.ensures.below.0 c.if-is_below.true in
+    let is = lifted base (n c.args.b) (n c.args.a) (n c.wrapping_sub-less.result) c.is_below-2.ensures.other_fits
+    c.wrapping_sub-less.ensures.fits less c.wrapping_sub-less.ensures.value in
+    let gap = n c.args.b - n c.args.a in
+    let past : n c.wrapping_sub-less.result + n c.args.m ≡ (n c.args.m - gap) + base =
+    omega (arith, is, less, c.requires.right) in
+    let within : n c.args.m - gap < base = omega (arith, c.is_below.ensures.fits) in
+    let result : n c.wrapping_add.result ≡ n c.args.m - gap =
+    c.wrapping_add.ensures.value ∙ ap (λ v. v % base) past ∙ add-mod_right (n c.args.m - gap) base ∙ mod-eq_of_lt within in
+    difference_below (n c.args.m) (n c.args.a) (n c.args.b) gap (n c.wrapping_add.result) c.requires.right less
+    (omega (arith, less)) (omega (arith, result, less, c.requires.right))
 
 pub returns-else-is_below-clause-value : goal.returns-else-is_below-clause-value
 returns-else-is_below-clause-value g c =
     let n = g.T.RingWord.number in
-    difference_above (n c.args.m) (n c.args.a) (n c.args.b) (n c.minus-else-is_below.result) c.requires.left
-    c.minus-else-is_below.ensures.value
-
-pub returns-else-is_below-clause-below : goal.returns-else-is_below-clause-below
-returns-else-is_below-clause-below g c = omega (arith, c.minus-else-is_below.ensures.value, c.requires.left)
+    let more : n c.args.b ≤ n c.args.a = grind arith in
+    difference_above (n c.args.m) (n c.args.a) (n c.args.b) (n c.wrapping_sub-less.result) c.requires.left
+    (settled g.T.PathWord.base (n c.args.b) (n c.args.a) (n c.wrapping_sub-less.result) c.is_below-2.ensures.fits
+    c.wrapping_sub-less.ensures.fits more c.wrapping_sub-less.ensures.value)
