@@ -10,12 +10,12 @@ use crate::reducer::Reducer;
 use modular_word::ring_word::RingWord;
 
 impl<T: RingWord, R: Reducer<T> + Copy> PartialEq for ReducedInt<T, R> {
-    // Both the moduli and the forms are equal.
-    ghost eq = { λ x y. nat_eq (modulus_of x) (modulus_of y) && nat_eq (form_of x) (form_of y) };
+    // Both the forms and the moduli are equal. The forms come first: a modulus may take a few steps to compute.
+    ghost eq = { λ x y. nat_eq (form_of x) (form_of y) && nat_eq (modulus_of x) (modulus_of y) };
 
     ghost laws = { Prim.search (comparing, rules) };
 
     fn eq(&self, other: &Self) -> bool {
-        self.reducer.modulus() == other.reducer.modulus() && self.form == other.form
+        self.form == other.form && self.reducer.modulus() == other.reducer.modulus()
     }
 }
