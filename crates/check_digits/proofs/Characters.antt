@@ -13,7 +13,7 @@ use Rattle.std.proofs.lemmas.Nat.{mul-pow, mul-mod_second, pow-mod}
 use Rattle.num_modular.specs.Inverses.{HasInverse}
 use Rattle.num_modular.specs.Sums.{sum_below, polynomial}
 use Rattle.check_digits.specs.Ibans.{IsDigit, IsLetter, AreOfOneKind, FindsEachCharacter, digits_of, iban_digits, iban_number}
-use Rattle.check_digits.proofs.CheckSums.{one_symbol}
+use Rattle.check_digits.proofs.CheckSums.{one_symbol, sum_same}
 
 -- the number that digits write, by its first digit
 abbrev pub written : List ℕ → ℕ
@@ -24,11 +24,6 @@ sum_first : (n : ℕ) (f : ℕ → ℕ) → sum_below (suc n) f ≡ f 0 + sum_be
 unfolding sum_below
 sum_first zero f = omega arith
 sum_first (suc n) f = let before = sum_first n f in omega (arith, before)
-
-sum_same : (n : ℕ) (f g : ℕ → ℕ) → ((i : ℕ) → i < n → f i ≡ g i) → sum_below n f ≡ sum_below n g
-unfolding sum_below
-sum_same zero f g h = refl
-sum_same (suc n) f g h = omega (arith, sum_same n f g (λ i l. h i (omega (arith, l))), h n (omega arith))
 
 pub written_is : (ds : List ℕ) → written ds ≡ polynomial (length ds) (λ i. get_or ds i 0) 10
 unfolding sum_below

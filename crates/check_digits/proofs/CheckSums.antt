@@ -1,11 +1,13 @@
 -- Sums that differ in one term, and what a changed sum is modulo m.
 use Rattle.std.proofs.Common.{◌↔◌, ◌≡◌, ◌≢◌, ℕ, zero, suc, ◌+◌, ◌*◌, ◌/◌, ◌%◌, ◌<◌}
-use Rattle.std.proofs.Common.{◌≤◌, List, length, get_or, set, sym, ap, ◌∙◌, refl, arith, add-one}
+use Rattle.std.proofs.Math.ListN.{get_or-append}
+use Rattle.std.proofs.Math.Seq.{get_or-append_seam}
+use Rattle.std.proofs.Common.{◌≤◌, List, [], ◌∷◌, ◌++◌, length, length-append, get_or, set, sym, ap, ◌∙◌, refl, arith, add-one}
 use Rattle.std.proofs.Common.{⊎_elim, length-set, get_or-set_same, get_or-set_other, ℤ, pos, negsuc}
 use Rattle.std.proofs.Math.Nat.{add-mod, add-mod-mod, mod-add-mod, div-add-mod}
 use Rattle.std.proofs.Math.Nat.{add-mul-mod_self_left, zero-mod, mod-eq_of_lt, mod-lt}
 use Rattle.std.proofs.lemmas.Bool.{cases_lt}
-use Rattle.std.proofs.lemmas.Nat.{mul-mod_first}
+use Rattle.std.proofs.lemmas.Nat.{mul-mod_first, mul-mod_second}
 use Rattle.num_modular.specs.Inverses.{HasInverse}
 use Rattle.num_modular.specs.Residues.{residue}
 use Rattle.num_modular.specs.Sums.{sum_below}
@@ -18,6 +20,11 @@ sum_none f = refl
 pub sum_more : (n : ℕ) (f : ℕ → ℕ) → sum_below (n + 1) f ≡ sum_below n f + f n
 unfolding sum_below
 sum_more n f = ap (λ k. sum_below k f) (add-one n)
+
+pub sum_same : (n : ℕ) (f g : ℕ → ℕ) → ((i : ℕ) → i < n → f i ≡ g i) → sum_below n f ≡ sum_below n g
+unfolding sum_below
+sum_same zero f g h = refl
+sum_same (suc n) f g h = omega (arith, sum_same n f g (λ i l. h i (omega (arith, l))), h n (omega arith))
 
 -- one more term, reduced modulo m
 pub residue_more : (m sum t v p : ℕ) → v ≡ sum % m → p ≡ t % m → (v + p) % m ≡ (sum + t) % m
@@ -125,21 +132,33 @@ unit_finds m e d x s (i, inverse) difference apart zero_product =
     ∙ ap (λ n. (n + x) % m) (unit_cancels m e i d inverse.one zero_product)
     ∙ ap (λ n. n % m) (let e : 0 + x ≡ x = omega arith in e))
 
-restored_at : (m S S' w x s q t r a b c d j k : ℕ) → S' + w * x ≡ S + w * s
-    → q * w + m * a ≡ t + m * b → t + r + m * c ≡ S + m * d
-    → s + q + m * j ≡ x + m * k → S' + m * (b + w * j + d) ≡ r + m * (c + w * k + a)
-restored_at m S S' w x s q t r a b c d j k moved quotient less difference =
-    let times = ap (λ n. w * n) difference in
-    omega (arith, times, moved, quotient, less)
+-- a word with one more symbol
+pub appended_symbol : (ws xs : List ℕ) (s : ℕ)
+    → weighted_sum ws (xs ++ s ∷ []) ≡ weighted_sum ws xs + get_or ws (length xs) 0 * s
+appended_symbol ws xs s =
+    let n = length xs in
+    let f : ℕ → ℕ = λ i. get_or ws i 0 * get_or (xs ++ s ∷ []) i 0 in
+    let count : length (xs ++ s ∷ []) ≡ n + 1 = (let e = length-append xs (s ∷ []) in omega (arith, e)) in
+    ap (λ k. sum_below k f) count ∙ sum_more n f
+    ∙ ap (λ v. v + f n) (sum_same n f (λ i. get_or ws i 0 * get_or xs i 0)
+    (λ i l. ap (λ x. get_or ws i 0 * x) (get_or-append xs (s ∷ []) 0 i l)))
+    ∙ ap (λ x. weighted_sum ws xs + get_or ws n 0 * x) (get_or-append_seam xs s [] 0)
 
--- the restored symbol: q times the weight is t, which is the sum less r, modulo m, and s is the symbol there less q
-pub restored_sum : (m S S' w x s q t r : ℕ) → S' + w * x ≡ S + w * s → (q * w) % m ≡ t % m
-    → (t + r) % m ≡ S % m → (s + q) % m ≡ x % m
-    → S' % m ≡ r % m
-restored_sum m S S' w x s q t r moved quotient less difference =
-    gathered m S' r _ _
-    (restored_at m S S' w x s q t r _ _ _ _ _ _ moved (spread m (q * w) t quotient) (spread m (t + r) S less)
-    (spread m (s + q) x difference))
+-- a quotient by the weight completes the sum, where rest is the residue r less the sum
+pub completed_sum : (m sum w q rest r : ℕ) → (q * (w % m)) % m ≡ rest % m → (rest + sum) % m ≡ r % m
+    → (sum + w * q) % m ≡ r % m
+completed_sum m sum w q rest r product less =
+    let turn : sum + w * q ≡ q * w + sum = omega arith in
+    ap (λ n. n % m) turn ∙ sym (mod-add-mod (q * w) m sum)
+    ∙ ap (λ n. (n + sum) % m) (sym (mul-mod_second q w m) ∙ product) ∙ mod-add-mod rest m sum ∙ less
+
+-- a word with another symbol, by the sum of its others
+pub others_sum : (m S S' w x s others : ℕ) → S' + w * x ≡ S + w * s → (others + (w * x) % m) % m ≡ S % m
+    → S' % m ≡ (others + w * s) % m
+others_sum m S S' w x s others moved less =
+    let whole = spread m (others + (w * x) % m) S less in
+    let part = div-add-mod (w * x) m in
+    gathered m S' (others + w * s) ((others + (w * x) % m) / m + w * x / m) (S / m) (omega (arith, whole, part, moved))
 
 one_at : (m S S' S'' w x s t i a b j k : ℕ) → S' + w * x ≡ S + w * s
     → S'' + w * x ≡ S + w * t → S' + m * a ≡ S'' + m * b
@@ -169,3 +188,10 @@ residue_below m (negsuc n) positive = omega arith
 pub has_to_residue : (m a v : ℕ) → v ≡ a % m → HasInverse m a → HasInverse m v
 has_to_residue m a v e (i, h) =
     (i, record { below = h.below; one = ap (λ w. (w * i) % m) e ∙ mul-mod_first a i m ∙ h.one })
+
+-- one symbol completes a sum
+pub one_completion : (m sum w s t : ℕ) → HasInverse m w → s < m → t < m → (sum + w * s) % m ≡ (sum + w * t) % m → t ≡ s
+one_completion m sum w s t unit s_below t_below same =
+    let first : sum + w * s + w * 0 ≡ sum + w * s = omega arith in
+    let second : sum + w * t + w * 0 ≡ sum + w * t = omega arith in
+    one_symbol m sum (sum + w * s) (sum + w * t) w 0 s t unit s_below t_below same first second

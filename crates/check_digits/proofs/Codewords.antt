@@ -1,13 +1,15 @@
 -- Words of codes with one symbol changed, or with two neighbours exchanged.
 use Rattle.std.proofs.Common.{Bool, true, false, not, IsTrue, ◌↔◌, ◌≡◌, ◌≢◌, ℕ, suc, ◌+◌, ◌-◌, ◌*◌, ◌%◌, ◌<◌, pos, ◌-ℤ◌}
-use Rattle.std.proofs.Common.{List, length, get_or, set, sym, ap, ◌∙◌, refl, subst, arith, ⊎_elim}
+use Rattle.std.proofs.Math.ListN.{get_or-append}
+use Rattle.std.proofs.Math.Seq.{get_or-append_seam}
+use Rattle.std.proofs.Common.{◌≤◌, List, [], ◌∷◌, ◌++◌, length, length-append, get_or, set, sym, ap, ◌∙◌, refl, subst, arith, ⊎_elim}
 use Rattle.std.proofs.Common.{length-set, get_or-set_same, get_or-set_other}
 use Rattle.std.proofs.Math.Nat.{mod-add-mod, add-mul-mod_self_left, mod-eq_of_lt}
-use Rattle.std.proofs.lemmas.Bool.{cases_eq, false≢true}
+use Rattle.std.proofs.lemmas.Bool.{cases_eq, cases_lt, false≢true}
 use Rattle.num_modular.specs.NumberLaws.{difference_and}
 use Rattle.num_modular.specs.Residues.{residue}
-use Rattle.check_digits.specs.Codes.{CheckCode, Fits, IsCodeword, exchanged}
-use Rattle.check_digits.proofs.CheckSums.{changed_symbol, changed_sum, exchanged_symbols, exchanged_sum, still_leaves}
+use Rattle.check_digits.specs.Codes.{weighted_sum, CheckCode, Fits, IsCodeword, exchanged}
+use Rattle.check_digits.proofs.CheckSums.{appended_symbol, changed_symbol, changed_sum, exchanged_symbols, exchanged_sum, still_leaves}
 
 -- a symbol written into a word: each fits, where the others do
 pub set_fits : (code : CheckCode) (word : List ℕ) (p s : ℕ) → Fits code p s
@@ -128,3 +130,30 @@ unshown true F W V t told v =
 unshown false F W V t told v =
     let unfit = λ (fits : F). false≢true (t.1 fits) in
     ((λ h w. unfit (told.0 w).0, λ h. refl), (λ h fits. absurd (unfit fits), λ h. refl))
+
+-- the word with one more symbol
+pub appended_word : (code : CheckCode) (word : List ℕ) (s : ℕ) → length word + 1 ≡ length code.weights
+    → IsCodeword code (word ++ s ∷ []) ↔ (((i : ℕ) → i < length word → Fits code i (get_or word i 0))
+    × Fits code (length word) s
+    × ((weighted_sum code.weights word + get_or code.weights (length word) 0 * s) % code.modulus
+    ≡ code.residue % code.modulus))
+appended_word code word s whole =
+    let n = length word in
+    let w : List ℕ = word ++ s ∷ [] in
+    let count : length w ≡ n + 1 = (let e = length-append word (s ∷ []) in omega (arith, e)) in
+    let sum = ap (λ v. v % code.modulus) (appended_symbol code.weights word s) in (
+      λ is. (
+        λ i l. subst (Fits code i) (get_or-append word (s ∷ []) 0 i l) (is.symbols i (omega (arith, count, l))),
+        subst (Fits code n) (get_or-append_seam word s [] 0) (is.symbols n (omega (arith, count))),
+        sym sum ∙ is.leaves,
+      ),
+      λ h. record {
+        places = count ∙ whole;
+        symbols = λ i l. ⊎_elim (λ (b : i < n). subst (Fits code i) (sym (get_or-append word (s ∷ []) 0 i b)) (h.0 i b))
+            (λ (b : n ≤ i).
+            let here : n ≡ i = omega (arith, b, l, count) in
+            subst (λ k. Fits code k (get_or w k 0)) here (subst (Fits code n) (sym (get_or-append_seam word s [] 0)) h.1))
+            (cases_lt i n);
+        leaves = sum ∙ h.2;
+      },
+    )

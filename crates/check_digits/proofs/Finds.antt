@@ -1,28 +1,14 @@
 -- What the codes of standards find.
 use Rattle.std.proofs.Common.{Bool, true, ◌&&◌, ◌||◌, nat_eq, nat_lt, ◌↔◌, ◌≡◌, ℕ, zero, suc, ◌+◌, ◌-◌, ◌*◌, ◌%◌, ◌^◌}
-use Rattle.std.proofs.Common.{◌<◌, ◌≤◌, ◌⊎◌, inl, inr, List, length, get_or, sym, ap, ◌∙◌, refl, arith, ⊎_elim, subst, lit<}
-use Rattle.std.proofs.lemmas.Bool.{and_parts, or_cases, eqb-true, ltb-true, cases_lt}
+use Rattle.std.proofs.Common.{◌<◌, ◌≤◌, ◌⊎◌, inl, inr, List, length, get_or, sym, ap, ◌∙◌, refl, arith, subst, lit<}
+use Rattle.std.proofs.lemmas.Bool.{and_parts, or_cases, eqb-true, ltb-true}
 use Rattle.std.proofs.lemmas.Nat.{mul-mod_first}
-use Rattle.check_digits.specs.Codes.{CheckCode}
+use Rattle.check_digits.specs.Codes.{CheckCode, IsCodeword}
 use Rattle.check_digits.specs.Codes.{FindsEachChange, FindsEachExchange, FindsAllButFives}
-use Rattle.check_digits.specs.Standards.{from_right, mod_97_10, isbn_10, isbn_13, issn, ean_13, ean_8, upc_a}
+use Rattle.check_digits.specs.Standards.{from_right, mod_97_10, isbn_10, isbn_13, issn, ean_13, ean_8, upc_a, orcid, aba_rtn}
 use Rattle.check_digits.proofs.CheckSums.{unit_cancels}
+use Rattle.check_digits.proofs.Decisions.{each_below, passes}
 use Rattle.check_digits.proofs.Codewords.{changed_word, exchanged_word, same_residues, a_difference}
-
--- whether each number below n passes a test
-abbrev pub each_below : ℕ → (ℕ → Bool) → Bool
-each_below zero test = true
-each_below (suc n) test = each_below n test && test n
-
-pub passes : (n : ℕ) (test : ℕ → Bool) → each_below n test ≡ true → (i : ℕ) → i < n → test i ≡ true
-passes zero test h i l = absurd (omega (arith, l))
-passes (suc n) test h i l =
-    let parts = and_parts (each_below n test) (test n) h in
-    ⊎_elim (λ (b : i < n). passes n test parts.0 i b)
-    (λ (b : n ≤ i).
-    let here : i ≡ n = omega arith in
-    ap test here ∙ parts.1)
-    (cases_lt i n)
 
 -- the symbols of each place are residues
 abbrev pub IsBounded : CheckCode → Type 0
@@ -32,7 +18,7 @@ IsBounded code = (i : ℕ) → i < length code.weights → get_or code.greatest 
 finds_changes : (code : CheckCode) (inverse : ℕ → ℕ) → IsBounded code
     → ((i : ℕ) → i < length code.weights
     → (get_or code.weights i 0 * inverse i) % code.modulus ≡ 1 % code.modulus)
-    → FindsEachChange code
+    → FindsEachChange (IsCodeword code)
 finds_changes code inverse bounded units word i s is within apart changed =
     let m = code.modulus in
     let x = get_or word i 0 in
@@ -59,7 +45,7 @@ IsStep code i =
 finds_exchanges : (code : CheckCode) (inverse : ℕ → ℕ) → IsBounded code
     → ((i : ℕ) → suc i < length code.weights → IsStep code i)
     → ((i : ℕ) → suc i < length code.weights → (step_at code i * inverse i) % code.modulus ≡ 1 % code.modulus)
-    → FindsEachExchange code
+    → FindsEachExchange (IsCodeword code)
 finds_exchanges code inverse bounded steps units word i is within apart changed =
     let m = code.modulus in
     let x = get_or word i 0 in
@@ -76,23 +62,26 @@ finds_exchanges code inverse bounded steps units word i is within apart changed 
     apart (sym (same_residues m (y + (m - x)) x y x_below y_below difference
     (unit_cancels m (step_at code i) (inverse i) (y + (m - x)) (units i inside) both.2)))
 
--- modulo 10, a product with 2 or 8
-five_by : (e d : ℕ) → (e % 10 ≡ 2) ⊎ (e % 10 ≡ 8) → ((e * d) % 10 ≡ 0) ↔ (d % 5 ≡ 0)
-five_by e d =
-    let same = mul-mod_first e d 10 in
-    ⊎_elim
-    (λ (b : e % 10 ≡ 2).
-    let product : (e * d) % 10 ≡ (2 * d) % 10 = sym same ∙ ap (λ n. (n * d) % 10) b in
-    ((λ h. omega (arith, product, h)), λ h. omega (arith, product, h)))
-    (λ (b : e % 10 ≡ 8).
-    let product : (e * d) % 10 ≡ (8 * d) % 10 = sym same ∙ ap (λ n. (n * d) % 10) b in
-    ((λ h. omega (arith, product, h)), λ h. omega (arith, product, h)))
+-- modulo 10, a product with 2, 6 or 8
+abbrev IsTwice : ℕ → Type 0
+IsTwice e = (e % 10 ≡ 2) ⊎ (e % 10 ≡ 6) ⊎ (e % 10 ≡ 8)
+
+five_by : (e d : ℕ) → IsTwice e → ((e * d) % 10 ≡ 0) ↔ (d % 5 ≡ 0)
+five_by e d (inl b) =
+    let product : (e * d) % 10 ≡ (2 * d) % 10 = sym (mul-mod_first e d 10) ∙ ap (λ n. (n * d) % 10) b in
+    ((λ h. omega (arith, product, h)), λ h. omega (arith, product, h))
+five_by e d (inr (inl b)) =
+    let product : (e * d) % 10 ≡ (6 * d) % 10 = sym (mul-mod_first e d 10) ∙ ap (λ n. (n * d) % 10) b in
+    ((λ h. omega (arith, product, h)), λ h. omega (arith, product, h))
+five_by e d (inr (inr b)) =
+    let product : (e * d) % 10 ≡ (8 * d) % 10 = sym (mul-mod_first e d 10) ∙ ap (λ n. (n * d) % 10) b in
+    ((λ h. omega (arith, product, h)), λ h. omega (arith, product, h))
 
 -- and the difference of two digits
 same_modulo_5 : (x y : ℕ) → x < 10 → ((y + (10 - x)) % 5 ≡ 0) ↔ (x % 5 ≡ y % 5)
 same_modulo_5 x y l = ((λ h. omega (arith, h)), λ h. omega (arith, h))
 
--- a code modulo 10 whose neighbouring weights differ by 2 or 8
+-- a code modulo 10 whose neighbouring weights differ by 2, 6 or 8
 abbrev pub modulo_10 : ℕ → List ℕ → List ℕ → List ℕ → CheckCode
 modulo_10 r weights least greatest =
     record { modulus = 10; residue = r; weights = weights; least = least; greatest = greatest }
@@ -100,7 +89,7 @@ modulo_10 r weights least greatest =
 finds_but_fives : (r : ℕ) (ws ls gs : List ℕ) → IsBounded (modulo_10 r ws ls gs)
     → ((i : ℕ) → suc i < length ws → IsStep (modulo_10 r ws ls gs) i)
     → ((i : ℕ) → suc i < length ws
-    → (step_at (modulo_10 r ws ls gs) i % 10 ≡ 2) ⊎ (step_at (modulo_10 r ws ls gs) i % 10 ≡ 8))
+    → IsTwice (step_at (modulo_10 r ws ls gs) i))
     → FindsAllButFives (modulo_10 r ws ls gs)
 finds_but_fives r ws ls gs bounded steps twos word i is within =
     let code = modulo_10 r ws ls gs in
@@ -132,8 +121,20 @@ abbrev exchange_test : CheckCode → ℕ → ℕ → Bool
 exchange_test code power i =
     step_test code i && nat_eq ((step_at code i * step_at code i ^ power) % code.modulus) (1 % code.modulus)
 
+abbrev is_twice : ℕ → Bool
+is_twice e = nat_eq (e % 10) 2 || (nat_eq (e % 10) 6 || nat_eq (e % 10) 8)
+
+twice_tested : (e : ℕ) → is_twice e ≡ true → IsTwice e
+twice_tested e h = elim (or_cases (nat_eq (e % 10) 2) (nat_eq (e % 10) 6 || nat_eq (e % 10) 8) h) [
+  | inl a ↦ inl (eqb-true (e % 10) 2 a)
+  | inr b ↦ elim (or_cases (nat_eq (e % 10) 6) (nat_eq (e % 10) 8) b) [
+    | inl a ↦ inr (inl (eqb-true (e % 10) 6 a))
+    | inr a ↦ inr (inr (eqb-true (e % 10) 8 a))
+  ]
+]
+
 abbrev five_test : CheckCode → ℕ → Bool
-five_test code i = step_test code i && (nat_eq (step_at code i % 10) 2 || nat_eq (step_at code i % 10) 8)
+five_test code i = step_test code i && is_twice (step_at code i)
 
 -- the clauses of these calls
 abbrev pub Passes : CheckCode → ℕ → Type 0
@@ -147,7 +148,7 @@ bounded_by code power h i l =
     (nat_eq ((w * w ^ power) % code.modulus) (1 % code.modulus))
     (passes (length code.weights) (change_test code power) h i l)).0
 
-pub changes_tested : (code : CheckCode) (power : ℕ) → Passes code power → FindsEachChange code
+pub changes_tested : (code : CheckCode) (power : ℕ) → Passes code power → FindsEachChange (IsCodeword code)
 changes_tested code power h =
     finds_changes code (λ i. get_or code.weights i 0 ^ power) (bounded_by code power h)
     (λ i l.
@@ -162,7 +163,7 @@ step_tested code i h =
     eqb-true ((step_at code i + get_or code.weights (suc i) 0) % code.modulus) (get_or code.weights i 0 % code.modulus) h
 
 pub exchanges_tested : (code : CheckCode) (power n : ℕ) → length code.weights ≡ suc n → Passes code power
-    → each_below n (exchange_test code power) ≡ true → FindsEachExchange code
+    → each_below n (exchange_test code power) ≡ true → FindsEachExchange (IsCodeword code)
 exchanges_tested code power n count h tested =
     let at = λ (i : ℕ) (l : suc i < length code.weights).
     and_parts (step_test code i)
@@ -177,12 +178,10 @@ pub fives_tested : (r n : ℕ) (ws ls gs : List ℕ) → length ws ≡ suc n →
 fives_tested r n ws ls gs count h tested =
     let code = modulo_10 r ws ls gs in
     let at = λ (i : ℕ) (l : suc i < length ws).
-    and_parts (step_test code i) (nat_eq (step_at code i % 10) 2 || nat_eq (step_at code i % 10) 8)
+    and_parts (step_test code i) (is_twice (step_at code i))
     (passes n (five_test code) tested i (omega (arith, count, l))) in
     finds_but_fives r ws ls gs (bounded_by code 3 h) (λ i l. step_tested code i (at i l).0)
-    (λ i l.
-    ⊎_elim (λ e. inl (eqb-true (step_at code i % 10) 2 e)) (λ e. inr (eqb-true (step_at code i % 10) 8 e))
-    (or_cases (nat_eq (step_at code i % 10) 2) (nat_eq (step_at code i % 10) 8) (at i l).1))
+    (λ i l. twice_tested (step_at code i) (at i l).1)
 
 -- lists from the right
 pub length-from_right : (n : ℕ) (f : ℕ → ℕ) → length (from_right n f) ≡ n
@@ -199,29 +198,37 @@ get_or-from_right (suc n) f (suc i) l =
     get_or-from_right n f i (omega (arith, l)) ∙ ap f same
 
 -- the tests of each standard
-pub of_isbn_10 : FindsEachChange isbn_10 × FindsEachExchange isbn_10
+pub of_isbn_10 : FindsEachChange (IsCodeword isbn_10) × FindsEachExchange (IsCodeword isbn_10)
 unfolding from_right
 of_isbn_10 = (changes_tested isbn_10 9 refl, exchanges_tested isbn_10 9 9 refl refl refl)
 
-pub of_issn : FindsEachChange issn × FindsEachExchange issn
+pub of_issn : FindsEachChange (IsCodeword issn) × FindsEachExchange (IsCodeword issn)
 unfolding from_right
 of_issn = (changes_tested issn 9 refl, exchanges_tested issn 9 7 refl refl refl)
 
-pub of_isbn_13 : FindsEachChange isbn_13 × FindsAllButFives isbn_13
+pub of_isbn_13 : FindsEachChange (IsCodeword isbn_13) × FindsAllButFives isbn_13
 unfolding from_right
 of_isbn_13 = (changes_tested isbn_13 3 refl, fives_tested 0 12 isbn_13.weights isbn_13.least isbn_13.greatest refl refl refl)
 
-pub of_ean_13 : FindsEachChange ean_13 × FindsAllButFives ean_13
+pub of_ean_13 : FindsEachChange (IsCodeword ean_13) × FindsAllButFives ean_13
 unfolding from_right
 of_ean_13 = (changes_tested ean_13 3 refl, fives_tested 0 12 ean_13.weights ean_13.least ean_13.greatest refl refl refl)
 
-pub of_ean_8 : FindsEachChange ean_8 × FindsAllButFives ean_8
+pub of_ean_8 : FindsEachChange (IsCodeword ean_8) × FindsAllButFives ean_8
 unfolding from_right
 of_ean_8 = (changes_tested ean_8 3 refl, fives_tested 0 7 ean_8.weights ean_8.least ean_8.greatest refl refl refl)
 
-pub of_upc_a : FindsEachChange upc_a × FindsAllButFives upc_a
+pub of_upc_a : FindsEachChange (IsCodeword upc_a) × FindsAllButFives upc_a
 unfolding from_right
 of_upc_a = (changes_tested upc_a 3 refl, fives_tested 0 11 upc_a.weights upc_a.least upc_a.greatest refl refl refl)
+
+pub of_orcid : FindsEachChange (IsCodeword orcid) × FindsEachExchange (IsCodeword orcid)
+unfolding from_right
+of_orcid = (changes_tested orcid 9 refl, exchanges_tested orcid 9 15 refl refl refl)
+
+pub of_aba_rtn : FindsEachChange (IsCodeword aba_rtn) × FindsAllButFives aba_rtn
+unfolding from_right
+of_aba_rtn = (changes_tested aba_rtn 3 refl, fives_tested 0 8 aba_rtn.weights aba_rtn.least aba_rtn.greatest refl refl refl)
 
 -- the digits of an IBAN: the powers of ten, and what neighbours of them differ by
 abbrev power_of : ℕ → ℕ
@@ -243,7 +250,7 @@ powers_pass = refl
 power_steps_pass : each_below 67 power_step_test ≡ true
 power_steps_pass = refl
 
-pub of_iban : (n : ℕ) → n ≤ 68 → FindsEachChange (mod_97_10 n) × FindsEachExchange (mod_97_10 n)
+pub of_iban : (n : ℕ) → n ≤ 68 → FindsEachChange (IsCodeword (mod_97_10 n)) × FindsEachExchange (IsCodeword (mod_97_10 n))
 of_iban n most =
     let code = mod_97_10 n in
     let ws : List ℕ = from_right n power_of in

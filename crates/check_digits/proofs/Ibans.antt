@@ -14,7 +14,8 @@ use Rattle.std.proofs.lemmas.List.Elements.{All-nil, All-cons, All-append, All-d
 use Rattle.check_digits.specs.Codes.{weighted_sum, CheckCode, IsCodeword}
 use Rattle.check_digits.specs.Ibans.{IsDigit, IsLetter, digits_of, iban_digits, iban_number}
 use Rattle.check_digits.specs.Standards.{from_right, mod_97_10}
-use Rattle.check_digits.proofs.Finds.{each_below, passes, length-from_right, get_or-from_right}
+use Rattle.check_digits.proofs.Decisions.{each_below, passes}
+use Rattle.check_digits.proofs.Finds.{length-from_right, get_or-from_right}
 
 -- sums whose terms leave the same modulo m
 sums_alike : (m n : ℕ) (f g : ℕ → ℕ) → ((i : ℕ) → i < n → f i % m ≡ g i % m) → sum_below n f % m ≡ sum_below n g % m
@@ -86,17 +87,22 @@ all_digits (c ∷ cs) h =
     All-append (λ d. d ≤ 9) (digits_of c) (flat_map digits_of cs) (digits_small c parts.0)
     (all_digits cs (All-from_recursion (λ c. IsDigit c ⊎ IsLetter c) cs parts.1))
 
+-- the weighted sum of the digits of a text leaves what the number leaves that they form
+pub number_leaves : (code : CheckCode) (text word : List ℕ) (n : ℕ) → code ≡ mod_97_10 n → word ≡ iban_digits text
+    → length word ≡ n → weighted_sum code.weights word % 97 ≡ iban_number text % 97
+number_leaves code text word n is digits count =
+    ap (λ k. weighted_sum k.weights word % 97) is
+    ∙ number_of_sum 97 (from_right n (λ j. 10 ^ j % 97)) word
+    (λ i h. get_or-from_right n (λ j. 10 ^ j % 97) i (omega (arith, h, count)) ∙ ap (λ k. 10 ^ (k - 1 - i) % 97) (sym count))
+    ∙ ap (λ ds. polynomial (length ds) (λ i. get_or ds i 0) 10 % 97) digits
+
 -- the digits of a text are a word of the code of its number of digits, exactly where they form a number that is
 -- 1 modulo 97
 pub is_word : (code : CheckCode) (text word : List ℕ) (n : ℕ) → code ≡ mod_97_10 n → word ≡ iban_digits text
     → length word ≡ n → All (λ c. IsDigit c ⊎ IsLetter c) text
     → IsCodeword code word ↔ (iban_number text % 97 ≡ 1)
 is_word code text word n is digits count characters =
-    let weights : List ℕ = from_right n (λ j. 10 ^ j % 97) in
-    let number : weighted_sum weights word % 97 ≡ iban_number text % 97 =
-    number_of_sum 97 weights word
-    (λ i h. get_or-from_right n (λ j. 10 ^ j % 97) i (omega (arith, h, count)) ∙ ap (λ k. 10 ^ (k - 1 - i) % 97) (sym count))
-    ∙ ap (λ ds. polynomial (length ds) (λ i. get_or ds i 0) 10 % 97) digits in
+    let number = number_leaves (mod_97_10 n) text word n refl digits count in
     let small : All (λ d. d ≤ 9) word =
     subst (All (λ d. d ≤ 9)) (sym digits)
     (all_digits (drop 4 text ++ take 4 text)

@@ -1,7 +1,13 @@
 mod Characters
 mod CheckSums
 mod Codewords
+mod DammDigits
+mod Decisions
 mod Finds
+mod IbanChecks
 mod Ibans
 mod LuhnDigits
 mod Neighbours
+mod States
+mod TextSymbols
+mod VerhoeffDigits

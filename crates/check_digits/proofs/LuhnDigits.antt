@@ -1,13 +1,20 @@
 -- What Luhn's check digit finds.
 use Rattle.std.proofs.Common.{◌≡◌, ◌≢◌, ◌↔◌, ◌⊎◌, inl, inr, ℕ, suc, ◌+◌, ◌-◌, ◌*◌, ◌/◌, ◌%◌, ◌<◌, ◌≤◌, ◌==◌, if◌then◌else◌}
-use Rattle.std.proofs.Common.{List, length, get_or, set, sym, ap, ◌∙◌, arith, subst, ⊎_elim}
+use Rattle.std.proofs.Math.ListN.{get_or-append}
+use Rattle.std.proofs.Math.Seq.{get_or-append_seam}
+use Rattle.std.proofs.Common.{List, [], ◌∷◌, ◌++◌, All, length, length-append, get_or, set, sym, ap, ◌∙◌, arith, subst, ⊎_elim}
 use Rattle.std.proofs.Common.{length-set, get_or-set_same, get_or-set_other}
 use Rattle.std.proofs.lemmas.Bool.{cases_lt}
 use Rattle.std.proofs.lemmas.List.Elements.{All-set}
 use Rattle.num_modular.specs.Sums.{sum_below}
-use Rattle.check_digits.specs.Codes.{exchanged}
-use Rattle.check_digits.specs.Luhn.{luhn_value, luhn_sum, LuhnFindsEachChange, LuhnFindsAllButNines}
-use Rattle.check_digits.proofs.CheckSums.{one_term}
+use Rattle.check_digits.specs.Codes.{exchanged, FindsEachChange, IsCheckSymbol}
+use Rattle.check_digits.specs.Luhn.{luhn_value, luhn_sum, IsLuhn, LuhnFindsAllButNines}
+use Rattle.check_digits.proofs.CheckSums.{one_term, sum_more, sum_same}
+use Rattle.check_digits.proofs.States.{one_more, all_more}
+
+-- the sum of a word
+abbrev whole_sum : List ℕ → ℕ
+whole_sum word = luhn_sum (length word) word
 
 -- what a doubled digit counts
 abbrev doubled : ℕ → ℕ
@@ -45,8 +52,8 @@ value_apart j d e d_most e_most same =
 
 -- the sum of a word with one digit changed
 changed_luhn : (xs : List ℕ) (p d : ℕ) → p < length xs
-    → luhn_sum (set xs p d) + luhn_value (length xs - 1 - p) (get_or xs p 0)
-    ≡ luhn_sum xs + luhn_value (length xs - 1 - p) d
+    → whole_sum (set xs p d) + luhn_value (length xs - 1 - p) (get_or xs p 0)
+    ≡ whole_sum xs + luhn_value (length xs - 1 - p) d
 changed_luhn xs p d h =
     let n = length xs in
     let f : ℕ → ℕ = λ i. luhn_value (n - 1 - i) (get_or (set xs p d) i 0) in
@@ -56,7 +63,7 @@ changed_luhn xs p d h =
     ∙ ap (λ x. sum_below n g + luhn_value (n - 1 - p) x) (get_or-set_same xs p d 0 h)
 
 -- every change is found
-pub luhn_changes : LuhnFindsEachChange
+pub luhn_changes : FindsEachChange IsLuhn
 luhn_changes word i digit is within apart changed =
     let x = get_or word i 0 in
     let j = length word - 1 - i in
@@ -128,8 +135,8 @@ counts_same j x y x_most y_most apart =
 
 -- the sum of a word with two neighbours exchanged
 exchanged_luhn : (xs : List ℕ) (p : ℕ) → suc p < length xs
-    → luhn_sum (exchanged xs p) + counted (length xs - 1 - suc p) (get_or xs p 0) (get_or xs (suc p) 0)
-    ≡ luhn_sum xs + counted (length xs - 1 - suc p) (get_or xs (suc p) 0) (get_or xs p 0)
+    → whole_sum (exchanged xs p) + counted (length xs - 1 - suc p) (get_or xs p 0) (get_or xs (suc p) 0)
+    ≡ whole_sum xs + counted (length xs - 1 - suc p) (get_or xs (suc p) 0) (get_or xs p 0)
 exchanged_luhn xs p h =
     let x = get_or xs p 0 in
     let y = get_or xs (suc p) 0 in
@@ -139,15 +146,15 @@ exchanged_luhn xs p h =
     let within : p < n = omega (arith, h) in
     let ne : suc p ≢ p = omega arith in
     let place : n - 1 - p ≡ suc j = omega (arith, h) in
-    let first : luhn_sum half + luhn_value (suc j) x ≡ luhn_sum xs + luhn_value (suc j) y =
-    subst (λ k. luhn_sum half + luhn_value k x ≡ luhn_sum xs + luhn_value k y) place (changed_luhn xs p y within) in
+    let first : whole_sum half + luhn_value (suc j) x ≡ whole_sum xs + luhn_value (suc j) y =
+    subst (λ k. whole_sum half + luhn_value k x ≡ whole_sum xs + luhn_value k y) place (changed_luhn xs p y within) in
     let longer : suc p < length half = omega (arith, length-set xs p y, h) in
     let moved = changed_luhn half (suc p) x longer in
-    let second : luhn_sum (exchanged xs p) + luhn_value j y ≡ luhn_sum half + luhn_value j x =
-    subst (λ z. luhn_sum (exchanged xs p) + luhn_value j z ≡ luhn_sum half + luhn_value j x)
+    let second : whole_sum (exchanged xs p) + luhn_value j y ≡ whole_sum half + luhn_value j x =
+    subst (λ z. whole_sum (exchanged xs p) + luhn_value j z ≡ whole_sum half + luhn_value j x)
     (get_or-set_other xs p (suc p) y 0 ne)
-    (subst (λ k. luhn_sum (exchanged xs p) + luhn_value (k - 1 - suc p) (get_or half (suc p) 0)
-    ≡ luhn_sum half + luhn_value (k - 1 - suc p) x) (length-set xs p y) moved) in
+    (subst (λ k. whole_sum (exchanged xs p) + luhn_value (k - 1 - suc p) (get_or half (suc p) 0)
+    ≡ whole_sum half + luhn_value (k - 1 - suc p) x) (length-set xs p y) moved) in
     omega (arith, first, second)
 
 -- the exchanges that aren't found
@@ -177,3 +184,33 @@ luhn_exchanges word i is within apart =
             multiple = omega (arith, moved, before, same);
           },
     )
+
+-- the sum of a word with one more digit
+more_sum : (word : List ℕ) (s : ℕ) → whole_sum (word ++ s ∷ []) ≡ luhn_sum (length word + 1) word + s
+more_sum word s =
+    let n = length word in
+    let w : List ℕ = word ++ s ∷ [] in
+    let count : length w ≡ n + 1 = (let e = length-append word (s ∷ []) in omega (arith, e)) in
+    let f : ℕ → ℕ = λ i. luhn_value (n + 1 - 1 - i) (get_or w i 0) in
+    let last : n + 1 - 1 - n ≡ 0 = omega arith in
+    ap (λ k. sum_below k (λ i. luhn_value (k - 1 - i) (get_or w i 0))) count ∙ sum_more n f
+    ∙ ap (λ v. v + f n) (sum_same n f (λ i. luhn_value (n + 1 - 1 - i) (get_or word i 0))
+    (λ i l. ap (luhn_value (n + 1 - 1 - i)) (get_or-append word (s ∷ []) 0 i l)))
+    ∙ ap (λ k. luhn_sum (n + 1) word + luhn_value k (get_or w n 0)) last
+    ∙ ap (λ d. luhn_sum (n + 1) word + d) (get_or-append_seam word s [] 0)
+
+pub luhn_completed : (word : List ℕ) (v : ℕ) → All (λ d. d ≤ 9) word → v ≡ luhn_sum (length word + 1) word % 10
+    → IsCheckSymbol 10 IsLuhn word ((10 - v) % 10)
+luhn_completed word v all is =
+    let s = (10 - v) % 10 in
+    let most : s ≤ 9 = omega arith in
+    let sum = more_sum word s in
+    record {
+      below = omega arith;
+      accepted = record {
+        least = omega (arith, one_more word s);
+        digits = all_more word s all most;
+        multiple = omega (arith, sum, is);
+      };
+      only = λ t l w. (let other = more_sum word t in let m = w.multiple in omega (arith, other, m, is, l));
+    }

@@ -16,7 +16,7 @@ use Rattle.num_modular.specs.NumberLaws.{of_equal, itself, turned, chained, adde
 use Rattle.check_digits.specs.Codes.{exchanged}
 use Rattle.check_digits.specs.Ibans.{IsDigit, IsLetter, IsIban, AreElevenfold, FindsAllButElevenfold, digits_of, iban_digits, iban_number, check_number}
 use Rattle.check_digits.proofs.Characters.{written, written_is, written_more, digit_is, letter_is, power_unit, rotated}
-use Rattle.check_digits.proofs.Finds.{each_below, passes}
+use Rattle.check_digits.proofs.Decisions.{each_below, passes}
 
 -- the digits of two characters, and the number that they write
 abbrev pair : ℕ → ℕ → List ℕ

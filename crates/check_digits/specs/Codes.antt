@@ -1,6 +1,6 @@
 -- Codes over the integers modulo m with one check equation (Gallian, "The mathematics of identification numbers",
 -- The College Mathematics Journal 22, 1991; Verhoeff, Error Detecting Decimal Codes, chapter 2).
-use Rattle.std.specs.Prelude.{◌≡◌, ◌≢◌, ℕ, suc, ◌*◌, ◌%◌, ◌<◌, ◌≤◌, ◌↔◌, List, length, slice_index, slice_set}
+use Rattle.std.specs.Prelude.{◌≡◌, ◌≢◌, ℕ, suc, ◌*◌, ◌%◌, ◌<◌, ◌≤◌, ◌↔◌, List, [], ◌∷◌, ◌++◌, length, slice_index, slice_set}
 use Rattle.std.specs.Prelude.{Option, MatchOption}
 use Rattle.num_modular.specs.Sums.{sum_below}
 use Rattle.check_digits.specs.declared.Code.{Code}
@@ -56,15 +56,15 @@ IsRestored code word place found =
     MatchOption found ((t : ℕ) → t < code.modulus → ¬ IsCodeword code (slice_set word place t))
     (IsOnlySymbol code word place)
 
--- every change of one symbol of a word is detected
-abbrev pub FindsEachChange : CheckCode → Type 0
-FindsEachChange code = (word : List ℕ) (i symbol : ℕ) → IsCodeword code word → i < length word
-    → symbol ≢ slice_index word i → ¬ IsCodeword code (slice_set word i symbol)
+-- every change of one symbol of an accepted word is detected
+abbrev pub FindsEachChange : (List ℕ → Type 0) → Type 0
+FindsEachChange Accepted = (word : List ℕ) (i symbol : ℕ) → Accepted word → i < length word
+    → symbol ≢ slice_index word i → ¬ Accepted (slice_set word i symbol)
 
 -- every exchange of two neighbours that differ is detected
-abbrev pub FindsEachExchange : CheckCode → Type 0
-FindsEachExchange code = (word : List ℕ) (i : ℕ) → IsCodeword code word → suc i < length word
-    → slice_index word i ≢ slice_index word (suc i) → ¬ IsCodeword code (exchanged word i)
+abbrev pub FindsEachExchange : (List ℕ → Type 0) → Type 0
+FindsEachExchange Accepted = (word : List ℕ) (i : ℕ) → Accepted word → suc i < length word
+    → slice_index word i ≢ slice_index word (suc i) → ¬ Accepted (exchanged word i)
 
 -- the exchanges of neighbours that aren't detected are those of symbols that are congruent modulo 5, so that they
 -- are equal or differ by 5, where each is allowed at its new place
@@ -73,3 +73,14 @@ FindsAllButFives code = (word : List ℕ) (i : ℕ) → IsCodeword code word →
     → IsCodeword code (exchanged word i)
     ↔ (Fits code i (slice_index word (suc i)) × Fits code (suc i) (slice_index word i)
     × (slice_index word i % 5 ≡ slice_index word (suc i) % 5))
+
+-- the symbol is the only one below n that, behind the word, makes it an accepted one
+pub record IsCheckSymbol (n : ℕ) (Accepted : List ℕ → Type 0) (word : List ℕ) (symbol : ℕ) : Type 0 where
+  pub below : symbol < n
+  pub accepted : Accepted (word ++ symbol ∷ [])
+  pub only : (t : ℕ) → t < n → Accepted (word ++ t ∷ []) → t ≡ symbol
+
+-- the result of the search for it: `None` exactly where no symbol below n does
+abbrev pub IsCompletion : ℕ → (List ℕ → Type 0) → List ℕ → Option ℕ → Type 0
+IsCompletion n Accepted word found =
+    MatchOption found ((t : ℕ) → t < n → ¬ Accepted (word ++ t ∷ [])) (IsCheckSymbol n Accepted word)

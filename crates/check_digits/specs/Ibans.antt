@@ -1,5 +1,5 @@
 -- IBANs as their standard defines them (ISO 13616-1:2020, by ISO/IEC 7064:2003, MOD 97-10).
-use Rattle.std.specs.Prelude.{◌≡◌, ◌≢◌, ◌↔◌, ℕ, suc, ◌<◌, slice_set, ◌+◌, ◌-◌, ◌*◌, ◌/◌, ◌%◌, ◌≤◌, ◌⊎◌, if◌then◌else◌, nat_le}
+use Rattle.std.specs.Prelude.{◌≡◌, ◌≢◌, ◌↔◌, ℕ, suc, ◌<◌, slice_set, ◌+◌, ◌-◌, ◌*◌, ◌/◌, ◌%◌, ◌≤◌, ◌⊎◌, if◌then◌else◌, nat_le, nat_eq}
 use Rattle.std.specs.Prelude.{List, All, [], ◌∷◌, ◌++◌, length, slice_index, take, drop}
 use Rattle.std.specs.List.{flat_map}
 use Rattle.num_modular.specs.Sums.{polynomial}
@@ -43,6 +43,28 @@ pub record IsIban (text : List ℕ) : Type 0 where
   pub form : IsIbanForm text
   pub generated : (2 ≤ check_number text) × (check_number text ≤ 98)
   pub leaves : iban_number text % 97 ≡ 1
+
+-- the text with other check digits
+abbrev pub with_check : List ℕ → ℕ → ℕ → List ℕ
+with_check text a b = slice_set (slice_set text 2 a) 3 b
+
+-- the two characters are the only ones that, as its check digits, make the text an IBAN
+pub record AreCheckDigits (text digits : List ℕ) : Type 0 where
+  pub accepted : IsIban (with_check text (slice_index digits 0) (slice_index digits 1))
+  pub only : (a b : ℕ) → IsIban (with_check text a b) → (a ≡ slice_index digits 0) × (b ≡ slice_index digits 1)
+
+-- a character, if it is no space
+abbrev pub unspaced : ℕ → List ℕ
+unspaced c = if nat_eq c 32 then [] else c ∷ []
+
+-- the characters of a text without its spaces
+abbrev pub without_spaces : List ℕ → List ℕ
+without_spaces text = flat_map unspaced text
+
+-- the text is in groups of four characters, with a space between two groups
+pub record IsGrouped (text : List ℕ) : Type 0 where
+  pub spaces : (i : ℕ) → i < length text → (slice_index text i ≡ 32) ↔ (i % 5 ≡ 4)
+  pub last : length text % 5 ≢ 0
 
 -- both characters are digits, or both are letters
 abbrev pub AreOfOneKind : ℕ → ℕ → Type 0

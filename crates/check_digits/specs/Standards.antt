@@ -38,6 +38,28 @@ mod_97_10 n = record {
   greatest = from_right n (λ j. 9);
 }
 
+-- sixteen symbols whose sum with the weights 1, 2, 4, .. is 1 modulo 11; the check symbol is a digit or X, which is 10,
+-- and the others are digits (ISO/IEC 7064:2003, MOD 11-2, for ORCID and for ISNI, ISO 27729)
+abbrev pub orcid : CheckCode
+orcid = record {
+  modulus = 11;
+  residue = 1;
+  weights = from_right 16 (λ j. 2 ^ j % 11);
+  least = from_right 16 (λ j. 0);
+  greatest = from_right 16 (λ j. if j == 0 then 10 else 9);
+}
+
+-- nine digits whose sum with the weights 1, 7, 3, 1, 7, 3, .. is 0 modulo 10 (routing numbers of the American Bankers
+-- Association)
+abbrev pub aba_rtn : CheckCode
+aba_rtn = record {
+  modulus = 10;
+  residue = 0;
+  weights = from_right 9 (λ j. if j % 3 == 0 then 1 else if j % 3 == 1 then 7 else 3);
+  least = from_right 9 (λ j. 0);
+  greatest = from_right 9 (λ j. 9);
+}
+
 -- ISBN of ten symbols (ISO 2108, first to third edition)
 abbrev pub isbn_10 : CheckCode
 isbn_10 = modulo_11 10

@@ -1,13 +1,14 @@
-//! Which words a code accepts, which changes it detects, and how it restores an erased symbol.
+//! Which words a code accepts, which changes it detects, how it restores an erased symbol, and the check digit.
 
-ghost use Rattle.std.specs.Prelude.{◌≡◌, ◌≢◌, ℕ, suc, ◌+◌, ◌*◌, ◌%◌, ◌<◌, ◌≤◌, ◌↔◌};
+ghost use Rattle.std.specs.Prelude.{◌≡◌, ◌≢◌, ℕ, suc, ◌+◌, ◌-◌, ◌*◌, ◌%◌, ◌<◌, ◌≤◌, ◌↔◌};
 ghost use Rattle.std.specs.Prelude.{IsTrue, length, slice_index, slice_set, pos, ◌-ℤ◌};
 ghost use Rattle.num_modular.specs.Integers.{IsReduced};
 ghost use Rattle.num_modular.specs.Inverses.{HasInverse};
 ghost use Rattle.num_modular.specs.Residues.{residue};
-ghost use Rattle.check_digits.specs.Codes.{weighted_sum, code_of, Fits, IsCodeword, exchanged, IsRestored};
+ghost use Rattle.check_digits.specs.Codes.{weighted_sum, code_of, Fits, IsCodeword, exchanged, IsRestored, IsCompletion};
+ghost use Rattle.check_digits.specs.Texts.{IsSymbolText, symbols_of};
 
-use crate::Code;
+use crate::{Code, read_symbols};
 use num_modular::{ModularCoreOps, ModularInteger, ModularUnaryOps, VanillaInt};
 
 impl<'a> Code<'a> {
@@ -27,6 +28,15 @@ impl<'a> Code<'a> {
     }
 
     /// The weighted sum of the symbols, modulo the modulus. Condition: each place has a weight.
+    ///
+    /// # Examples
+    ///
+    /// ```
+    /// use num_modular::applications::check_digits::ISBN_10;
+    /// use num_modular::ModularInteger;
+    ///
+    /// assert_eq!(ISBN_10.check_sum(&[0, 3, 0, 6, 4, 0, 6, 1, 5]).residue(), 9); // the digit 2 is missing
+    /// ```
     pub fn check_sum(&self, word: &[u64]) -> VanillaInt<u64>
         requires { length word.now ≤ length self.now.weights.now }
         ensures { IsReduced self.now.modulus (weighted_sum self.now.weights.now word.now % self.now.modulus) result }
@@ -35,6 +45,15 @@ impl<'a> Code<'a> {
     }
 
     /// Whether the symbol is allowed at the place. Condition: the code has the place.
+    ///
+    /// # Examples
+    ///
+    /// ```
+    /// use num_modular::applications::check_digits::ISBN_10;
+    ///
+    /// assert!(ISBN_10.fits(9, 10)); // X
+    /// assert!(!ISBN_10.fits(0, 10));
+    /// ```
     pub fn fits(&self, place: usize, symbol: u64) -> bool
         requires { place < length self.now.weights.now }
         ensures { IsTrue result ↔ Fits (code_of self.now) place symbol }
@@ -54,14 +73,12 @@ impl<'a> Code<'a> {
         self.fits(place, word[place + 1]) && self.fits(place + 1, word[place])
     }
 
-    // Whether the word has a symbol for each place, and each of them but the one at `erased` is allowed there.
+    // Whether each symbol but the one at `erased` is allowed at its place.
     fn fits_but(&self, word: &[u64], erased: usize) -> bool
-        ensures { IsTrue result ↔ (length word.now ≡ length self.now.weights.now)
-            × ((i : ℕ) → i < length word.now → i ≢ erased → Fits (code_of self.now) i (slice_index word.now i)) }
+        requires { length word.now ≤ length self.now.weights.now }
+        ensures { IsTrue result
+            ↔ ((i : ℕ) → i < length word.now → i ≢ erased → Fits (code_of self.now) i (slice_index word.now i)) }
     {
-        if word.len() != self.weights.len() {
-            return false;
-        }
         'places: for (place, symbol) in word.iter().enumerate() {
             if place != erased && !self.fits(place, *symbol) {
                 return false;
@@ -71,10 +88,45 @@ impl<'a> Code<'a> {
     }
 
     /// Whether the word is one of the code.
+    ///
+    /// # Examples
+    ///
+    /// ```
+    /// use num_modular::applications::check_digits::ISBN_10;
+    ///
+    /// assert!(ISBN_10.accepts(&[0, 3, 0, 6, 4, 0, 6, 1, 5, 2]));
+    /// ```
     pub fn accepts(&self, word: &[u64]) -> bool
         ensures { IsTrue result ↔ IsCodeword (code_of self.now) word.now }
     {
-        self.fits_but(word, word.len()) && self.sum(word) == self.residue % self.modulus
+        word.len() == self.weights.len()
+            && self.fits_but(word, word.len())
+            && self.sum(word) == self.residue % self.modulus
+    }
+
+    /// Whether the text, in ASCII, is of a word of the code: its digits, X for 10, and between two of them at most one
+    /// hyphen or space (`is_symbol_text` tells). Where these have to be isn't tested, because for an ISBN it depends on
+    /// the country and the publisher. Condition: the code has at most 68 places.
+    ///
+    /// # Examples
+    ///
+    /// ```
+    /// use num_modular::applications::check_digits::{ISBN_13, ORCID};
+    ///
+    /// assert!(ISBN_13.accepts_text(b"978-0-306-40615-7"));
+    /// assert!(ORCID.accepts_text(b"0000-0002-1694-233X"));
+    /// assert!(!ORCID.accepts_text(b"0000-0002-1694-2339"));
+    /// ```
+    pub fn accepts_text(&self, text: &[u8]) -> bool
+        requires { length self.now.weights.now ≤ 68 }
+        ensures { IsTrue result ↔ IsSymbolText text.now × IsCodeword (code_of self.now) (symbols_of text.now) }
+    {
+        prove!(self.weights.len() <= 68);
+        let mut symbols = [0; 68];
+        match read_symbols(text, &mut symbols) {
+            Some(count) => self.accepts(&symbols[..count]),
+            None => false,
+        }
     }
 
     /// Whether the code detects the change of one symbol of a word: the word with `symbol` at `place` isn't accepted.
@@ -84,6 +136,14 @@ impl<'a> Code<'a> {
     /// Conditions: the word is accepted, and it has the place.
     ///
     /// Source: Gallian, "The mathematics of identification numbers", theorem 1.
+    ///
+    /// # Examples
+    ///
+    /// ```
+    /// use num_modular::applications::check_digits::EAN_8;
+    ///
+    /// assert!(EAN_8.finds_change(&[7, 3, 5, 1, 3, 5, 3, 7], 0, 2));
+    /// ```
     pub fn finds_change(&self, word: &[u64], place: usize, symbol: u64) -> bool
         requires accepted { IsCodeword (code_of self.now) word.now }
         requires within { place < length word.now }
@@ -114,6 +174,15 @@ impl<'a> Code<'a> {
     /// the symbols differ modulo m. Conditions: the word is accepted, and it has both places.
     ///
     /// Source: Gallian, "The mathematics of identification numbers", theorem 2.
+    ///
+    /// # Examples
+    ///
+    /// ```
+    /// use num_modular::applications::check_digits::EAN_8;
+    ///
+    /// let word = [7, 3, 5, 1, 3, 5, 3, 7];
+    /// assert!(EAN_8.finds_exchange(&word, 0));
+    /// ```
     pub fn finds_exchange(&self, word: &[u64], place: usize) -> bool
         requires accepted { IsCodeword (code_of self.now) word.now }
         requires within { suc place < length word.now }
@@ -141,10 +210,34 @@ impl<'a> Code<'a> {
     }
 
     /// Whether an erased symbol of this weight can be restored: the weight has an inverse modulo m.
+    ///
+    /// # Examples
+    ///
+    /// ```
+    /// use num_modular::applications::check_digits::EAN_8;
+    ///
+    /// assert!(EAN_8.can_restore(3));
+    /// assert!(!EAN_8.can_restore(5)); // 5 and 10 have the divisor 5
+    /// ```
     pub fn can_restore(&self, weight: u64) -> bool
         ensures { IsTrue result ↔ HasInverse self.now.modulus weight }
     {
         weight.invm(&self.modulus).is_some()
+    }
+
+    // The only number below m that, times the weight, completes the sum to the residue of the code.
+    fn complete(&self, sum: u64, weight: u64) -> u64
+        requires { HasInverse self.now.modulus weight }
+        ensures below { result < self.now.modulus }
+        ensures leaves { (sum + weight * result) % self.now.modulus ≡ self.now.residue % self.now.modulus }
+        ensures only { (t : ℕ) → t < self.now.modulus →
+            (sum + weight * t) % self.now.modulus ≡ self.now.residue % self.now.modulus →
+            t ≡ result }
+    {
+        let m = self.modulus;
+        let divisor = VanillaInt::<u64>::new(weight, &m);
+        let quotient = divisor.convert(self.residue.subm(sum, &m)) / divisor;
+        quotient.residue()
     }
 
     // The only number below m for which, as the symbol at the place, the weighted sum has the residue of the code.
@@ -162,24 +255,67 @@ impl<'a> Code<'a> {
     {
         let m = self.modulus;
         let weights = self.weights;
-        let sum = self.sum(word).subm(self.residue, &m);
-        let weight = VanillaInt::<u64>::new(weights[place], &m);
-        let quotient = weight.convert(sum) / weight;
-        word[place].subm(quotient.residue(), &m)
+        let others = self
+            .sum(word)
+            .subm(weights[place].mulm(word[place], &m), &m);
+        self.complete(others, weights[place])
     }
 
     /// The only symbol below m that completes the word to one of the code, in place of an erased one. `None`
     /// exactly where no symbol below m does. The symbol at `place` is ignored. Conditions: the word has the place,
     /// and the code a weight with an inverse modulo m there (`can_restore` tells).
+    ///
+    /// # Examples
+    ///
+    /// ```
+    /// use num_modular::applications::check_digits::EAN_8;
+    ///
+    /// assert_eq!(EAN_8.restore(&[7, 0, 5, 1, 3, 5, 3, 7], 1), Some(3));
+    /// ```
     pub fn restore(&self, word: &[u64], place: usize) -> Option<u64>
         requires within { place < length word.now }
         requires unit { HasInverse self.now.modulus (slice_index self.now.weights.now place) }
         ensures { IsRestored (code_of self.now) word.now place result }
     {
+        if word.len() != self.weights.len() {
+            return None;
+        }
         if !self.fits_but(word, place) {
             return None;
         }
         let symbol = self.solve(word, place);
+        if self.fits(place, symbol) {
+            Some(symbol)
+        } else {
+            None
+        }
+    }
+
+    /// The only symbol below m that, behind the word, makes it one of the code: its check digit, where 10 is X. `None`
+    /// exactly where no symbol below m does. Condition: the last weight has an inverse modulo m, as the weight 1 of each
+    /// code of `standards` has.
+    ///
+    /// # Examples
+    ///
+    /// ```
+    /// use num_modular::applications::check_digits::{EAN_8, ISBN_10};
+    ///
+    /// assert_eq!(EAN_8.check_digit(&[7, 3, 5, 1, 3, 5, 3]), Some(7));
+    /// assert_eq!(ISBN_10.check_digit(&[0, 8, 0, 4, 4, 2, 9, 5, 7]), Some(10)); // X
+    /// ```
+    pub fn check_digit(&self, word: &[u64]) -> Option<u64>
+        requires { HasInverse self.now.modulus (slice_index self.now.weights.now (length self.now.weights.now - 1)) }
+        ensures { IsCompletion self.now.modulus (IsCodeword (code_of self.now)) word.now result }
+    {
+        let place = word.len();
+        let weights = self.weights;
+        if place + 1 != weights.len() {
+            return None;
+        }
+        if !self.fits_but(word, place) {
+            return None;
+        }
+        let symbol = self.complete(self.sum(word), weights[place]);
         if self.fits(place, symbol) {
             Some(symbol)
         } else {

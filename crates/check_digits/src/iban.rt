@@ -4,13 +4,16 @@
 //! of a letter is that of its two digits.
 
 ghost use Rattle.std.specs.Prelude.{◌≡◌, ℕ, suc, ◌+◌, ◌-◌, ◌*◌, ◌%◌, ◌^◌, ◌<◌, ◌≤◌, ◌↔◌};
-ghost use Rattle.std.specs.Prelude.{◌⊎◌, ◌++◌, IsTrue, All, length, slice_index, take};
+ghost use Rattle.std.specs.Prelude.{◌≢◌, ◌⊎◌, ◌++◌, IsTrue, All, MatchOption, length, slice_index, take};
+ghost use Rattle.std.specs.Prelude.{if◌then◌else◌, nat_eq, [], ◌∷◌};
 ghost use Rattle.std.specs.List.{flat_map};
 ghost use Rattle.check_digits.specs.Codes.{code_of};
-ghost use Rattle.check_digits.specs.Ibans.{IsDigit, IsLetter, IsIbanForm, digits_of, iban_digits, check_number, IsIban};
+ghost use Rattle.check_digits.specs.Ibans.{IsDigit, IsLetter, IsIbanForm, digits_of, iban_digits, check_number, IsIban, AreCheckDigits};
+ghost use Rattle.check_digits.specs.Ibans.{unspaced, without_spaces, IsGrouped};
 ghost use Rattle.check_digits.specs.Standards.{mod_97_10};
 
 use crate::Code;
+use num_modular::ModularInteger;
 
 const LEAST: [u64; 68] = [0; 68];
 
@@ -25,6 +28,14 @@ const POWERS: [u64; 68] = [
 
 /// The code of IBANs with `count` digits: the modulus is 97, the weights are the powers of ten, and the weighted
 /// sum of a word is 1 modulo 97 (ISO/IEC 7064, MOD 97-10). Condition: there are at most 68 digits.
+///
+/// # Examples
+///
+/// ```
+/// use num_modular::applications::check_digits::iban_code;
+///
+/// assert_eq!(iban_code(4).weights, [30, 3, 10, 1]); // 1000 is 30 modulo 97
+/// ```
 pub fn iban_code(count: usize) -> Code<'static>
     requires { count ≤ 68 }
     ensures modulus { result.modulus ≡ 97 }
@@ -69,6 +80,15 @@ fn all_characters(text: &[u8]) -> bool
 
 /// Whether the text, in ASCII, has the form of an IBAN: two letters A to Z, two digits, and one to
 /// thirty letters and digits, with no space.
+///
+/// # Examples
+///
+/// ```
+/// use num_modular::applications::check_digits::has_iban_form;
+///
+/// assert!(has_iban_form(b"GB00WEST12345698765432"));
+/// assert!(!has_iban_form(b"GB00 WEST"));
+/// ```
 pub fn has_iban_form(text: &[u8]) -> bool
     ensures { IsTrue result ↔ IsIbanForm text.now }
 {
@@ -116,6 +136,16 @@ fn write_text(text: &[u8], digits: &mut [u64], start: usize) -> usize
 /// Writes the digits into which the standard converts an IBAN, and returns their number: the first four characters
 /// are moved to the end, and a letter is replaced by two digits, 10 for A to 35 for Z. Conditions: the text has the
 /// form of an IBAN (`has_iban_form` tells), and there is room for 68 digits.
+///
+/// # Examples
+///
+/// ```
+/// use num_modular::applications::check_digits::iban_digits;
+///
+/// let mut digits = [0; 68];
+/// let count = iban_digits(b"GB82W7", &mut digits);
+/// assert_eq!(digits[..count], [3, 2, 7, 1, 6, 1, 1, 8, 2]); // W, 7, G, B and 82
+/// ```
 pub fn iban_digits(text: &[u8], digits: &mut [u64]) -> usize
     requires form { IsIbanForm text.now }
     requires room { 68 ≤ length digits.old }
@@ -140,6 +170,14 @@ fn check_number(text: &[u8]) -> u8
 /// `standard_finds` says which changes of one character and which exchanges of two neighbours are detected. A text
 /// with the form and such check digits is an IBAN exactly where its digits are a word of `iban_code`; so every
 /// change of one of these digits and every exchange of two neighbouring digits that differ is detected too.
+///
+/// # Examples
+///
+/// ```
+/// use num_modular::applications::check_digits::accepts_iban;
+///
+/// assert!(accepts_iban(b"GB82WEST12345698765432"));
+/// ```
 pub fn accepts_iban(text: &[u8]) -> bool
     ensures { IsTrue result ↔ IsIban text.now }
 {
@@ -153,4 +191,93 @@ pub fn accepts_iban(text: &[u8]) -> bool
     let mut digits = [0; 68];
     let count = iban_digits(text, &mut digits);
     iban_code(count).accepts(&digits[..count])
+}
+
+// Whether the text is in groups of four characters, with a space between two groups.
+fn is_grouped(text: &[u8]) -> bool
+    ensures { IsTrue result ↔ IsGrouped text.now }
+{
+    'places: for (place, c) in text.iter().enumerate() {
+        if (*c == b' ') != (place % 5 == 4) {
+            return false;
+        }
+    }
+    text.len() % 5 != 0
+}
+
+// Writes a character that is no space at the index `end`, and returns the index after it.
+fn write_unspaced(c: u8, characters: &mut [u8], end: usize) -> usize
+    requires { end + length (unspaced c) ≤ length characters.old }
+    ensures end { result ≡ end + length (unspaced c) }
+    ensures length { length characters.new ≡ length characters.old }
+    ensures characters { take result characters.new ≡ take end characters.old ++ unspaced c }
+{
+    if c == b' ' {
+        return end;
+    }
+    characters[end] = c;
+    end + 1
+}
+
+// Writes the characters of a text without its spaces, and returns their number.
+fn write_ungrouped(text: &[u8], characters: &mut [u8]) -> usize
+    requires { length (without_spaces text.now) ≤ length characters.old }
+    ensures count { result ≡ length (without_spaces text.now) }
+    ensures length { length characters.new ≡ length characters.old }
+    ensures characters { take result characters.new ≡ without_spaces text.now }
+{
+    let mut end = 0;
+    'characters: for c in text {
+        end = write_unspaced(*c, characters, end);
+    }
+    end
+}
+
+/// Whether the text is an IBAN as its standard prints it: in groups of four characters, with a space between two groups
+/// and no other. For an IBAN without spaces there is `accepts_iban`.
+///
+/// # Examples
+///
+/// ```
+/// use num_modular::applications::check_digits::accepts_iban_text;
+///
+/// assert!(accepts_iban_text(b"GB82 WEST 1234 5698 7654 32"));
+/// ```
+pub fn accepts_iban_text(text: &[u8]) -> bool
+    ensures { IsTrue result ↔ IsGrouped text.now × IsIban (without_spaces text.now) }
+{
+    // 34 characters and 8 spaces
+    if text.len() > 42 {
+        return false;
+    }
+    if !is_grouped(text) {
+        return false;
+    }
+    let mut characters = [0; 34];
+    let count = write_ungrouped(text, &mut characters);
+    accepts_iban(&characters[..count])
+}
+
+/// The check digits of an IBAN, as the two characters after those of the country: the only ones that make the text an
+/// IBAN. Those in the text are ignored, and may be 00. `None` exactly where the text hasn't the form of an IBAN.
+///
+/// # Examples
+///
+/// ```
+/// use num_modular::applications::check_digits::iban_check_digits;
+///
+/// assert_eq!(iban_check_digits(b"GB00WEST12345698765432"), Some(*b"82"));
+/// ```
+pub fn iban_check_digits(text: &[u8]) -> Option<[u8; 2]>
+    ensures { MatchOption result (¬ IsIbanForm text.now) (AreCheckDigits text.now) }
+{
+    if !has_iban_form(text) {
+        return None;
+    }
+    let mut digits = [0; 68];
+    let count = iban_digits(text, &mut digits);
+    let residue = iban_code(count).check_sum(&digits[..count]).residue();
+    let others = (residue + 194 - check_number(text) as u64) % 97;
+    let check = 98 - others as u8;
+    Some([b'0' + check / 10, b'0' + check % 10])
 }

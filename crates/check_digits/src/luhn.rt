@@ -1,7 +1,10 @@
 //! Luhn's check digit, by which payment cards and the numbers of mobile devices (IMEI) are checked.
 
-ghost use Rattle.std.specs.Prelude.{◌≡◌, ◌%◌, ◌≤◌, ◌↔◌, IsTrue, All};
+ghost use Rattle.std.specs.Prelude.{◌≡◌, ◌%◌, ◌≤◌, ◌↔◌, IsTrue, All, length};
+ghost use Rattle.check_digits.specs.Codes.{IsCompletion};
 ghost use Rattle.check_digits.specs.Luhn.{luhn_value, luhn_sum, IsLuhn};
+
+use crate::are_digits;
 
 // What a digit counts at a place.
 fn value(place: usize, digit: u64) -> u64
@@ -15,14 +18,15 @@ fn value(place: usize, digit: u64) -> u64
     2 * digit / 10 + 2 * digit % 10
 }
 
-// The sum of what the digits count, modulo 10.
-fn sum(word: &[u64]) -> u64
-    requires { All (λ d. d ≤ 9) word.now }
-    ensures { result ≡ luhn_sum word.now % 10 }
+// The sum of what the digits count at the first of so many places, modulo 10.
+fn sum(word: &[u64], places: usize) -> u64
+    requires digits { All (λ d. d ≤ 9) word.now }
+    requires room { length word.now ≤ places }
+    ensures { result ≡ luhn_sum places word.now % 10 }
 {
     let mut sum = 0;
     'places: for (index, digit) in word.iter().enumerate() {
-        sum = (sum + value(word.len() - 1 - index, *digit)) % 10;
+        sum = (sum + value(places - 1 - index, *digit)) % 10;
     }
     sum
 }
@@ -34,11 +38,40 @@ fn sum(word: &[u64]) -> u64
 /// differ, except 09 and 90.
 ///
 /// Source: ISO/IEC 7812-1, annex B.
+///
+/// # Examples
+///
+/// ```
+/// use num_modular::applications::check_digits::accepts_luhn;
+///
+/// assert!(accepts_luhn(&[7, 9, 9, 2, 7, 3, 9, 8, 7, 1, 3]));
+/// assert!(!accepts_luhn(&[7, 9, 9, 2, 7, 3, 9, 8, 7, 1, 0]));
+/// ```
 pub fn accepts_luhn(word: &[u64]) -> bool
     ensures { IsTrue result ↔ IsLuhn word.now }
 {
-    if word.is_empty() || !word.iter().all(|d| *d <= 9) {
+    if word.is_empty() || !are_digits(word) {
         return false;
     }
-    sum(word) == 0
+    sum(word, word.len()) == 0
+}
+
+/// The only digit that, behind the word, makes it one that `accepts_luhn` accepts. `None` exactly where a symbol of the
+/// word is above 9.
+///
+/// # Examples
+///
+/// ```
+/// use num_modular::applications::check_digits::luhn_check_digit;
+///
+/// assert_eq!(luhn_check_digit(&[7, 9, 9, 2, 7, 3, 9, 8, 7, 1]), Some(3));
+/// ```
+pub fn luhn_check_digit(word: &[u64]) -> Option<u64>
+    ensures { IsCompletion 10 IsLuhn word.now result }
+{
+    if are_digits(word) {
+        Some((10 - sum(word, word.len() + 1)) % 10)
+    } else {
+        None
+    }
 }

@@ -7,12 +7,13 @@ use Rattle.check_digits.proofs.Code.restore.Goals as goal
 pub returns-then-fits : goal.returns-then-fits
 returns-then-fits c =
     let others = c.fits_but.ensures.0 c.if-not-fits_but.false in
+    let count = c.if-word-self.false in
     record {
       below = c.solve-symbol.ensures.below;
       accepted = record {
-        places = length-set c.args.word.now c.args.place c.solve-symbol.result ∙ others.0;
+        places = length-set c.args.word.now c.args.place c.solve-symbol.result ∙ count;
         symbols = set_fits (code_of c.args.self.now) c.args.word.now c.args.place c.solve-symbol.result
-            (c.fits.ensures.0 c.if-fits.true) others.1;
+            (c.fits.ensures.0 c.if-fits.true) others;
         leaves = c.solve-symbol.ensures.leaves;
       };
       only = λ t below w. c.solve-symbol.ensures.only t below w.leaves;
@@ -28,7 +29,8 @@ returns-else-fits c t below w =
 pub returns-then-not-fits_but : goal.returns-then-not-fits_but
 returns-then-not-fits_but c t below w =
     false≢true (sym c.if-not-fits_but.true
-    ∙ c.fits_but.ensures.1 (
-      sym (length-set c.args.word.now c.args.place t) ∙ w.places,
-      fits_elsewhere (code_of c.args.self.now) c.args.word.now c.args.place t w,
-    ))
+    ∙ c.fits_but.ensures.1 (fits_elsewhere (code_of c.args.self.now) c.args.word.now c.args.place t w))
+
+pub returns-then-word-self : goal.returns-then-word-self
+returns-then-word-self c t below w =
+    c.if-word-self.true (sym (length-set c.args.word.now c.args.place t) ∙ w.places)

@@ -1,46 +1,39 @@
-use Rattle.std.proofs.Common.{◌≡◌, ◌+◌, ◌*◌, ◌%◌, ◌<◌, subst, get_or, sym, ◌∙◌, ap}
+use Rattle.std.proofs.Common.{◌≡◌, ℕ, ◌+◌, ◌*◌, ◌%◌, ◌<◌, pos, ◌-ℤ◌, get_or, set, sym, ◌∙◌, ap}
 use Rattle.std.proofs.Math.Nat.{mod-mod}
-use Rattle.std.proofs.lemmas.Nat.{mul-mod_second}
-use Rattle.num_modular.specs.Integers.{residue_of}
-use Rattle.num_modular.specs.Inverses.{HasInverse}
 use Rattle.num_modular.specs.NumberLaws.{difference_and}
+use Rattle.num_modular.specs.Residues.{residue}
 use Rattle.check_digits.specs.Codes.{weighted_sum}
-use Rattle.check_digits.proofs.CheckSums.{changed_symbol, restored_sum, one_symbol, residue_below, has_to_residue}
+use Rattle.check_digits.proofs.CheckSums.{changed_symbol, others_sum}
 use Rattle.check_digits.proofs.Code.solve.Goals as goal
 
-pub div-quotient-requires : goal.div-quotient-requires
-div-quotient-requires c =
-    let w = get_or c.args.self.now.weights.now c.args.place 0 in (
-      c.convert.ensures.modulus,
-      subst (λ k. HasInverse k (residue_of c.new-weight.result)) (sym c.new-weight.ensures.modulus)
-          (has_to_residue c.args.self.now.modulus w _ c.new-weight.ensures.residue c.requires.unit),
-    )
+-- the sum less a term
+others_less : (m others sum product S p : ℕ) → 0 < m → others ≡ residue m (pos sum -ℤ pos product) → product ≡ p % m
+    → sum ≡ S % m → (others + p % m) % m ≡ S % m
+others_less m others sum product S p positive is is_product is_sum =
+    ap (λ k. (others + k) % m) (sym is_product) ∙ ap (λ k. (k + product) % m) is
+    ∙ difference_and m sum product positive ∙ ap (λ k. k % m) is_sum ∙ mod-mod S m
 
 pub returns-clause-leaves : goal.returns-clause-leaves
 returns-clause-leaves c =
     let m = c.args.self.now.modulus in
-    let r = c.args.self.now.residue in
-    let S = weighted_sum c.args.self.now.weights.now c.args.word.now in
-    let w = get_or c.args.self.now.weights.now c.args.place 0 in
+    let ws = c.args.self.now.weights.now in
+    let w = get_or ws c.args.place 0 in
     let x = get_or c.args.word.now c.args.place 0 in
-    let q = c.residue.result in
-    let t = c.subm-sum.result in
-    let product : (q * (w % m)) % m ≡ t % m = cc in
-    restored_sum m _ _ w x c.subm.result q t r
-    (changed_symbol c.args.self.now.weights.now c.args.word.now c.args.place c.subm.result c.requires.within)
-    (sym (mul-mod_second q w m) ∙ product)
-    (ap (λ k. (k + r) % m) c.subm-sum.ensures ∙ difference_and m c.sum.result r c.args.self.now.positive
-    ∙ ap (λ k. k % m) c.sum.ensures ∙ mod-mod S m)
-    (ap (λ k. (k + q) % m) c.subm.ensures ∙ difference_and m x q c.args.self.now.positive)
-
-pub returns-clause-below : goal.returns-clause-below
-returns-clause-below c =
-    subst (λ k. k < c.args.self.now.modulus) (sym c.subm.ensures)
-    (residue_below c.args.self.now.modulus _ c.args.self.now.positive)
+    let S = weighted_sum ws c.args.word.now in
+    others_sum m S (weighted_sum ws (set c.args.word.now c.args.place c.complete.result)) w x c.complete.result
+    c.subm-others.result (changed_symbol ws c.args.word.now c.args.place c.complete.result c.requires.within)
+    (others_less m c.subm-others.result c.sum.result c.mulm.result S (w * x) c.args.self.now.positive c.subm-others.ensures
+    c.mulm.ensures c.sum.ensures) ∙ c.complete.ensures.leaves
 
 pub returns-clause-only : goal.returns-clause-only
 returns-clause-only c t below leaves =
-    one_symbol c.args.self.now.modulus _ _ _ _ _ _ t c.requires.unit (returns-clause-below c) below
-    (returns-clause-leaves c ∙ sym leaves)
-    (changed_symbol c.args.self.now.weights.now c.args.word.now c.args.place c.subm.result c.requires.within)
-    (changed_symbol c.args.self.now.weights.now c.args.word.now c.args.place t c.requires.within)
+    let m = c.args.self.now.modulus in
+    let ws = c.args.self.now.weights.now in
+    let w = get_or ws c.args.place 0 in
+    let x = get_or c.args.word.now c.args.place 0 in
+    let S = weighted_sum ws c.args.word.now in
+    c.complete.ensures.only t below
+    (sym (others_sum m S (weighted_sum ws (set c.args.word.now c.args.place t)) w x t c.subm-others.result
+    (changed_symbol ws c.args.word.now c.args.place t c.requires.within)
+    (others_less m c.subm-others.result c.sum.result c.mulm.result S (w * x) c.args.self.now.positive c.subm-others.ensures
+    c.mulm.ensures c.sum.ensures)) ∙ leaves)

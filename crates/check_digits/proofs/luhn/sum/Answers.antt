@@ -1,4 +1,4 @@
-use Rattle.std.proofs.Common.{ℕ, ◌+◌, ◌-◌, ◌%◌, length, get_or, ap, sym, ◌∙◌}
+use Rattle.std.proofs.Common.{ℕ, ◌+◌, ◌-◌, ◌%◌, get_or, ap, sym, ◌∙◌}
 use Rattle.std.proofs.Math.Nat.{mod-add-mod}
 use Rattle.num_modular.specs.Sums.{sum_below}
 use Rattle.check_digits.specs.Luhn.{luhn_value}
@@ -11,7 +11,7 @@ places-init c = ap (λ n. n % 10) (sym (sum_none _))
 pub places-preserved : goal.places-preserved
 places-preserved c =
     let word = c.args.word.now in
-    let f : ℕ → ℕ = λ i. luhn_value (length word - 1 - i) (get_or word i 0) in
+    let f : ℕ → ℕ = λ i. luhn_value (c.args.places - 1 - i) (get_or word i 0) in
     let before = sum_below c.places.index f in
     ap (λ n. (n + c.value.result) % 10) c.places.invariant ∙ mod-add-mod before 10 c.value.result
     ∙ ap (λ n. (before + n) % 10) c.value.ensures.value ∙ ap (λ n. n % 10) (sym (sum_more c.places.index f))

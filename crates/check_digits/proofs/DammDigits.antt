@@ -1,0 +1,103 @@
+-- What Damm's check digit detects.
+use Rattle.std.proofs.Common.{◌≡◌, ◌≢◌, ℕ, suc, ◌<◌, ◌≤◌, true, nat_lt, nat_eq}
+use Rattle.std.proofs.Math.ListN.{get_or-append}
+use Rattle.std.proofs.Math.Seq.{get_or-append_seam}
+use Rattle.std.proofs.Common.{List, [], ◌∷◌, ◌++◌, All, length, get_or, set, sym, ap, ◌∙◌, refl, arith}
+use Rattle.std.proofs.Common.{length-set, get_or-set_same, get_or-set_other}
+use Rattle.std.proofs.lemmas.Bool.{ltb-true, eqb-true}
+use Rattle.check_digits.specs.Codes.{exchanged, FindsEachChange, FindsEachExchange, IsCheckSymbol}
+use Rattle.check_digits.specs.Damm.{damm_product, damm_check, IsDamm}
+use Rattle.check_digits.specs.States.{state_after}
+use Rattle.check_digits.proofs.Decisions.{each_below, passes, apart}
+use Rattle.check_digits.proofs.States.{Distinguishes, changed_apart, exchanged_apart, state_same, state_next, state_most, one_more, all_more}
+
+pub product_small : (a b : ℕ) → a ≤ 9 → b ≤ 9 → damm_product a b ≤ 9
+product_small a b a_most b_most =
+    let t : nat_lt (damm_product a b) 10 ≡ true =
+    passes 10 (λ b. nat_lt (damm_product a b) 10)
+    (passes 10 (λ a. each_below 10 (λ b. nat_lt (damm_product a b) 10)) refl a (omega arith)) b (omega arith) in
+    let l = ltb-true (damm_product a b) 10 t in
+    omega (arith, l)
+
+pub rows : (c a b : ℕ) → c ≤ 9 → a ≤ 9 → b ≤ 9 → damm_product c a ≡ damm_product c b → a ≡ b
+rows c a b c_most a_most b_most same = apart (λ c a b. damm_product c a) refl c a b c_most a_most b_most same
+
+columns : (c a b : ℕ) → c ≤ 9 → a ≤ 9 → b ≤ 9 → damm_product a c ≡ damm_product b c → a ≡ b
+columns c a b c_most a_most b_most same = apart (λ c a b. damm_product a c) refl c a b c_most a_most b_most same
+
+orders : (c a b : ℕ) → c ≤ 9 → a ≤ 9 → b ≤ 9
+    → damm_product (damm_product c a) b ≡ damm_product (damm_product c b) a → a ≡ b
+orders c a b c_most a_most b_most same =
+    apart (λ c a b. damm_product (damm_product c a) b) refl c a b c_most a_most b_most same
+
+abbrev pub damm_step : ℕ → ℕ → ℕ → ℕ
+damm_step i c d = damm_product c d
+
+damm_distinguishes : Distinguishes damm_step
+damm_distinguishes = record {
+  closed = λ i c d. product_small c d;
+  states = λ i c e d c_most e_most d_most same. columns d c e d_most c_most e_most same;
+  digits = λ i c d e. rows c d e;
+  orders = λ i c d e. orders c d e;
+}
+
+digit_at : (word : List ℕ) → All (λ d. d ≤ 9) word → (j : ℕ) → j < length word → get_or word j 0 ≤ 9
+digit_at word all j l = all j 0 l
+
+pub damm_changes : FindsEachChange IsDamm
+damm_changes word i digit is within apart_ changed =
+    let n = length word in
+    let new = set word i digit in
+    let count = length-set word i digit in
+    let e : damm_check word ≡ state_after damm_step 0 (λ j. get_or new j 0) n =
+    is.product ∙ sym (ap (λ k. state_after damm_step 0 (λ j. get_or new j 0) k) (sym count) ∙ changed.product) in
+    apart_ (sym (changed_apart damm_step 0 (λ j. get_or word j 0) (λ j. get_or new j 0) i n damm_distinguishes (omega arith)
+    within (digit_at word is.digits) (λ j l. digit_at new changed.digits j (omega (arith, count, l)))
+    (λ j _ ne. sym (get_or-set_other word i j digit 0 ne)) e ∙ get_or-set_same word i digit 0 within))
+
+pub damm_exchanges : FindsEachExchange IsDamm
+damm_exchanges word i is within apart_ changed =
+    let n = length word in
+    let x = get_or word i 0 in
+    let y = get_or word (suc i) 0 in
+    let half = set word i y in
+    let new = exchanged word i in
+    let count : length new ≡ n = length-set half (suc i) x ∙ length-set word i y in
+    let e : damm_check word ≡ state_after damm_step 0 (λ j. get_or new j 0) n =
+    is.product ∙ sym (ap (λ k. state_after damm_step 0 (λ j. get_or new j 0) k) (sym count) ∙ changed.product) in
+    let before : i < n = omega (arith, within) in
+    let behind : suc i < length half = omega (arith, length-set word i y, within) in
+    let ne : i ≢ suc i = omega arith in
+    apart_ (exchanged_apart damm_step 0 (λ j. get_or word j 0) (λ j. get_or new j 0) i n damm_distinguishes (omega arith)
+    within (digit_at word is.digits) (λ j l. digit_at new changed.digits j (omega (arith, count, l)))
+    (λ j _ no nor. sym (get_or-set_other half (suc i) j x 0 nor ∙ get_or-set_other word i j y 0 no))
+    (get_or-set_other half (suc i) i x 0 ne ∙ get_or-set_same word i y 0 before)
+    (get_or-set_same half (suc i) x 0 behind) e)
+
+-- the product of a word with one more digit
+more_product : (word : List ℕ) (s : ℕ) → damm_check (word ++ s ∷ []) ≡ damm_product (damm_check word) s
+more_product word s =
+    let n = length word in
+    let f : ℕ → ℕ = λ j. get_or (word ++ s ∷ []) j 0 in
+    ap (state_after damm_step 0 f) (one_more word s) ∙ state_next damm_step 0 f n
+    ∙ ap (λ c. damm_product c (f n)) (state_same damm_step 0 f (λ j. get_or word j 0) n (λ j l. get_or-append word (s ∷ []) 0 j l))
+    ∙ ap (λ d. damm_product (damm_check word) d) (get_or-append_seam word s [] 0)
+
+squares : (a : ℕ) → a ≤ 9 → damm_product a a ≡ 0
+squares a most = eqb-true (damm_product a a) 0 (passes 10 (λ a. nat_eq (damm_product a a) 0) refl a (omega arith))
+
+pub damm_completed : (word : List ℕ) → All (λ d. d ≤ 9) word → IsCheckSymbol 10 IsDamm word (damm_check word)
+damm_completed word all =
+    let c = damm_check word in
+    let most : c ≤ 9 = state_most damm_step 0 (λ j. get_or word j 0) (length word) damm_distinguishes.closed (omega arith)
+    (digit_at word all) in
+    record {
+      below = omega (arith, most);
+      accepted = record {
+        least = omega (arith, one_more word c);
+        digits = all_more word c all most;
+        product = more_product word c ∙ squares c most;
+      };
+      only = λ t l is. rows c t c most (omega (arith, l)) most
+          (sym (more_product word t) ∙ is.product ∙ sym (squares c most));
+    }

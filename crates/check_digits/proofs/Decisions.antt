@@ -1,0 +1,38 @@
+-- Facts about the numbers below n that are tested for each of them.
+use Rattle.std.proofs.Common.{◌≡◌, ℕ, zero, suc, ◌<◌, ◌≤◌, Bool, true, false, ◌&&◌, ◌||◌, not, nat_eq, ap, ◌∙◌, arith, ⊎_elim}
+use Rattle.std.proofs.lemmas.Bool.{and_parts, eqb-true, eq-eqb, cases_lt, false≢true}
+
+-- whether each number below n passes a test
+abbrev pub each_below : ℕ → (ℕ → Bool) → Bool
+each_below zero test = true
+each_below (suc n) test = each_below n test && test n
+
+pub passes : (n : ℕ) (test : ℕ → Bool) → each_below n test ≡ true → (i : ℕ) → i < n → test i ≡ true
+passes zero test h i l = absurd (omega (arith, l))
+passes (suc n) test h i l =
+    let parts = and_parts (each_below n test) (test n) h in
+    ⊎_elim (λ (b : i < n). passes n test parts.0 i b)
+    (λ (b : n ≤ i).
+    let here : i ≡ n = omega arith in
+    ap test here ∙ parts.1)
+    (cases_lt i n)
+
+-- whether a term of three digits is the same with the last two exchanged only where these are equal
+abbrev pub asymmetric : (ℕ → ℕ → ℕ → ℕ) → Bool
+asymmetric u = each_below 10 (λ c. each_below 10 (λ a. each_below 10 (λ b.
+    not (nat_eq (u c a b) (u c b a)) || nat_eq a b)))
+
+not_or : (p q : Bool) → (not p || q) ≡ true → p ≡ true → q ≡ true
+not_or true q h e = h
+not_or false q h e = absurd (false≢true e)
+
+pub apart : (u : ℕ → ℕ → ℕ → ℕ) → asymmetric u ≡ true → (c a b : ℕ) → c ≤ 9 → a ≤ 9 → b ≤ 9
+    → u c a b ≡ u c b a → a ≡ b
+apart u h c a b c_most a_most b_most same =
+    let t : (not (nat_eq (u c a b) (u c b a)) || nat_eq a b) ≡ true =
+    passes 10 (λ b. not (nat_eq (u c a b) (u c b a)) || nat_eq a b)
+    (passes 10 (λ a. each_below 10 (λ b. not (nat_eq (u c a b) (u c b a)) || nat_eq a b))
+    (passes 10 (λ c. each_below 10 (λ a. each_below 10 (λ b. not (nat_eq (u c a b) (u c b a)) || nat_eq a b)))
+    h c (omega arith)) a (omega arith)) b (omega arith) in
+    eqb-true a b (not_or (nat_eq (u c a b) (u c b a)) (nat_eq a b) t
+    (eq-eqb (u c a b) (u c b a) same))

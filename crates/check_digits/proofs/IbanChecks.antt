@@ -1,0 +1,81 @@
+-- The check digits of an IBAN.
+use Rattle.std.proofs.Common.{◌≡◌, ℕ, ◌+◌, ◌-◌, ◌*◌, ◌/◌, ◌%◌, ◌≤◌, ◌⊎◌, inl, nat_le}
+use Rattle.std.proofs.Common.{List, [], ◌∷◌, ◌++◌, set, append_assoc, sym, ap, ◌∙◌, refl, arith}
+use Rattle.std.specs.List.{flat_map}
+use Rattle.std.proofs.lemmas.Grind.{flat_map-append}
+use Rattle.std.proofs.lemmas.List.Elements.{All-set}
+use Rattle.check_digits.specs.Ibans.{IsDigit, IsLetter, IsIbanForm, AreCheckDigits, digits_of, iban_digits, iban_number, check_number}
+use Rattle.check_digits.proofs.Characters.{written, written_is, written_more, digit_is}
+
+-- the number is a hundred times that of the other characters, and that of the check digits
+split_number : (s t a b : ℕ) (rest : List ℕ) → IsDigit a → IsDigit b → iban_number (s ∷ t ∷ a ∷ b ∷ rest)
+    ≡ 100 * written (flat_map digits_of (rest ++ s ∷ t ∷ [])) + (10 * (a - 48) + (b - 48))
+split_number s t a b rest h k =
+    let front : List ℕ = flat_map digits_of (rest ++ s ∷ t ∷ []) in
+    let two : List ℕ = (a - 48) ∷ (b - 48) ∷ [] in
+    let last : flat_map digits_of (a ∷ b ∷ []) ≡ two =
+    ap (λ xs. xs ++ (digits_of b ++ [])) (digit_is a (nat_le a 57) refl h)
+    ∙ ap (λ xs. (a - 48) ∷ (xs ++ [])) (digit_is b (nat_le b 57) refl k) in
+    let whole : iban_digits (s ∷ t ∷ a ∷ b ∷ rest) ≡ front ++ two =
+    ap (flat_map digits_of) (sym (append_assoc rest (s ∷ t ∷ []) (a ∷ b ∷ [])))
+    ∙ flat_map-append digits_of (rest ++ s ∷ t ∷ []) (a ∷ b ∷ []) ∙ ap (λ xs. front ++ xs) last in
+    let end : written front * 100 + ((a - 48) * 10 + ((b - 48) * 1 + 0))
+    ≡ 100 * written front + (10 * (a - 48) + (b - 48)) = omega arith in
+    sym (written_is (iban_digits (s ∷ t ∷ a ∷ b ∷ rest))) ∙ ap written whole ∙ written_more front two ∙ end
+
+-- the check digits of a number, v being what it leaves with those of the number c
+abbrev pub check_of : ℕ → ℕ → ℕ
+check_of v c = 98 - (v + 194 - c) % 97
+
+right_check : (n v c k : ℕ) → c ≤ 99 → v ≡ (100 * n + c) % 97 → k ≡ check_of v c → (100 * n + k) % 97 ≡ 1
+right_check n v c k most is is_k = omega (arith, most, is, is_k)
+
+one_check : (n k l : ℕ) → 2 ≤ k → k ≤ 98 → 2 ≤ l → l ≤ 98 → (100 * n + k) % 97 ≡ 1 → (100 * n + l) % 97 ≡ 1 → l ≡ k
+one_check n k l k_least k_most l_least l_most e f = omega (arith, k_least, k_most, l_least, l_most, e, f)
+
+pub check_digits_of : (text : List ℕ) (v : ℕ) → IsIbanForm text → v ≡ iban_number text % 97
+    → AreCheckDigits text ((48 + check_of v (check_number text) / 10) ∷ (48 + check_of v (check_number text) % 10) ∷ [])
+check_digits_of [] v form is = let l = form.least in absurd (omega (arith, l))
+check_digits_of (s ∷ []) v form is = let l = form.least in absurd (omega (arith, l))
+check_digits_of (s ∷ t ∷ []) v form is = let l = form.least in absurd (omega (arith, l))
+check_digits_of (s ∷ t ∷ u ∷ []) v form is = let l = form.least in absurd (omega (arith, l))
+check_digits_of (s ∷ t ∷ u ∷ c ∷ rest) v form is =
+    let text : List ℕ = s ∷ t ∷ u ∷ c ∷ rest in
+    let n = written (flat_map digits_of (rest ++ s ∷ t ∷ [])) in
+    let old : ℕ = 10 * (u - 48) + (c - 48) in
+    let u_most = form.check.0.1 in
+    let c_most = form.check.1.1 in
+    let old_most : old ≤ 99 = omega (arith, u_most, c_most) in
+    let k : ℕ = check_of v old in
+    let leaves : v ≡ (100 * n + old) % 97 =
+    is ∙ ap (λ x. x % 97) (split_number s t u c rest form.check.0 form.check.1) in
+    let right = right_check n v old k old_most leaves refl in
+    let least : 2 ≤ k = omega arith in
+    let most : k ≤ 98 = omega arith in
+    let a : ℕ = 48 + k / 10 in
+    let b : ℕ = 48 + k % 10 in
+    let a_is : IsDigit a = (omega arith, omega (arith, most)) in
+    let b_is : IsDigit b = (omega arith, omega arith) in
+    let number : 10 * (a - 48) + (b - 48) ≡ k = omega arith in
+    record {
+      accepted = record {
+        form = record {
+          least = form.least;
+          most = form.most;
+          country = form.country;
+          check = (a_is, b_is);
+          characters = All-set (λ c. IsDigit c ⊎ IsLetter c) (set text 2 a) 3 b (inl b_is)
+              (All-set (λ c. IsDigit c ⊎ IsLetter c) text 2 a (inl a_is) form.characters);
+        };
+        generated = (omega (arith, number, least), omega (arith, number, most));
+        leaves = ap (λ x. x % 97) (split_number s t a b rest a_is b_is) ∙ ap (λ x. (100 * n + x) % 97) number ∙ right;
+      };
+      only = λ d e w.
+          let there = ap (λ x. x % 97) (sym (split_number s t d e rest w.form.check.0 w.form.check.1)) ∙ w.leaves in
+          let same = one_check n k (10 * (d - 48) + (e - 48)) least most w.generated.0 w.generated.1 right there in
+          let d_least = w.form.check.0.0 in
+          let e_least = w.form.check.1.0 in
+          let d_most = w.form.check.0.1 in
+          let e_most = w.form.check.1.1 in
+          (omega (arith, same, d_least, e_least, d_most, e_most), omega (arith, same, d_least, e_least, d_most, e_most));
+    }

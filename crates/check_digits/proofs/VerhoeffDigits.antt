@@ -1,0 +1,262 @@
+-- What Verhoeff's check digit detects.
+use Rattle.std.proofs.Common.{◌≡◌, ◌≢◌, ℕ, zero, suc, ◌+◌, ◌-◌, ◌*◌, ◌/◌, ◌%◌, ◌<◌, ◌≤◌, Bool, true, nat_lt, nat_eq, if◌then◌else◌}
+use Rattle.std.proofs.Math.ListN.{get_or-append}
+use Rattle.std.proofs.Math.Seq.{get_or-append_seam}
+use Rattle.std.proofs.Common.{List, [], ◌∷◌, ◌++◌, All, length, get_or, set, sym, ap, ◌∙◌, refl, arith}
+use Rattle.std.proofs.Common.{length-set, get_or-set_same, get_or-set_other}
+use Rattle.std.proofs.lemmas.Bool.{ltb-true, eqb-true}
+use Rattle.check_digits.specs.Codes.{exchanged, FindsEachChange, FindsEachExchange, IsCheckSymbol}
+use Rattle.check_digits.specs.Verhoeff.{dihedral, permuted, image, verhoeff_product, IsVerhoeff}
+use Rattle.check_digits.specs.States.{state_after}
+use Rattle.check_digits.proofs.Decisions.{each_below, passes, apart}
+use Rattle.check_digits.proofs.States.{Distinguishes, changed_apart, exchanged_apart, state_first, state_same, state_next, state_most, state_later, one_more, all_more}
+
+pub dihedral_small : (a b : ℕ) → dihedral a b ≤ 9
+dihedral_small a b = omega arith
+
+pub left_cancels : (c a b : ℕ) → c ≤ 9 → a ≤ 9 → b ≤ 9 → dihedral c a ≡ dihedral c b → a ≡ b
+left_cancels c a b c_most a_most b_most same = apart (λ c a b. dihedral c a) refl c a b c_most a_most b_most same
+
+right_cancels : (c a b : ℕ) → c ≤ 9 → a ≤ 9 → b ≤ 9 → dihedral a c ≡ dihedral b c → a ≡ b
+right_cancels c a b c_most a_most b_most same = apart (λ c a b. dihedral a c) refl c a b c_most a_most b_most same
+
+orders : (c a b : ℕ) → c ≤ 9 → a ≤ 9 → b ≤ 9
+    → dihedral (dihedral c a) (permuted b) ≡ dihedral (dihedral c b) (permuted a) → a ≡ b
+orders c a b c_most a_most b_most same =
+    apart (λ c a b. dihedral (dihedral c a) (permuted b)) refl c a b c_most a_most b_most same
+
+permuted_apart : (a b : ℕ) → a ≤ 9 → b ≤ 9 → permuted a ≡ permuted b → a ≡ b
+permuted_apart a b a_most b_most same = apart (λ c a b. permuted a) refl 0 a b (omega arith) a_most b_most same
+
+associates : (a b c : ℕ) → a ≤ 9 → b ≤ 9 → c ≤ 9 → dihedral a (dihedral b c) ≡ dihedral (dihedral a b) c
+associates a b c a_most b_most c_most =
+    eqb-true (dihedral a (dihedral b c)) (dihedral (dihedral a b) c)
+    (passes 10 (λ c. nat_eq (dihedral a (dihedral b c)) (dihedral (dihedral a b) c))
+    (passes 10 (λ b. each_below 10 (λ c. nat_eq (dihedral a (dihedral b c)) (dihedral (dihedral a b) c)))
+    (passes 10 (λ a. each_below 10 (λ b. each_below 10 (λ c. nat_eq (dihedral a (dihedral b c)) (dihedral (dihedral a b) c))))
+    refl a (omega arith)) b (omega arith)) c (omega arith))
+
+unit_behind : (a : ℕ) → a ≤ 9 → dihedral a 0 ≡ a
+unit_behind a most = eqb-true (dihedral a 0) a (passes 10 (λ a. nat_eq (dihedral a 0) a) refl a (omega arith))
+
+unit_before : (a : ℕ) → a ≤ 9 → dihedral 0 a ≡ a
+unit_before a most = eqb-true (dihedral 0 a) a (passes 10 (λ a. nat_eq (dihedral 0 a) a) refl a (omega arith))
+
+-- the inverse: that of a rotation, and a reflection itself
+abbrev pub inverse_of : ℕ → ℕ
+inverse_of a = if nat_lt a 5 then (5 - a) % 5 else a
+
+inverse_small : (a : ℕ) → a ≤ 9 → inverse_of a ≤ 9
+inverse_small a most =
+    let l = ltb-true (inverse_of a) 10 (passes 10 (λ a. nat_lt (inverse_of a) 10) refl a (omega arith)) in
+    omega (arith, l)
+
+inverse_cancels : (a : ℕ) → a ≤ 9 → dihedral (inverse_of a) a ≡ 0
+inverse_cancels a most =
+    eqb-true (dihedral (inverse_of a) a) 0 (passes 10 (λ a. nat_eq (dihedral (inverse_of a) a) 0) refl a (omega arith))
+
+permuted_small : (a : ℕ) → a ≤ 9 → permuted a ≤ 9
+permuted_small a most =
+    let l = ltb-true (permuted a) 10 (passes 10 (λ a. nat_lt (permuted a) 10) refl a (omega arith)) in
+    omega (arith, l)
+
+image_next : (k d : ℕ) → image (suc k) d ≡ permuted (image k d)
+unfolding image
+image_next k d = refl
+
+pub image_small : (k d : ℕ) → d ≤ 9 → image k d ≤ 9
+unfolding image
+image_small zero d most = most
+image_small (suc k) d most = permuted_small (image k d) (image_small k d most)
+
+image_apart : (k a b : ℕ) → a ≤ 9 → b ≤ 9 → image k a ≡ image k b → a ≡ b
+unfolding image
+image_apart zero a b a_most b_most same = same
+image_apart (suc k) a b a_most b_most same =
+    image_apart k a b a_most b_most
+    (permuted_apart (image k a) (image k b) (image_small k a a_most) (image_small k b b_most) same)
+
+-- the step at a place, the first place being that of the last digit
+abbrev pub verhoeff_step : ℕ → ℕ → ℕ → ℕ → ℕ
+verhoeff_step first i c d = dihedral c (image (i + first) d)
+
+image_step : (first i d : ℕ) → image (suc i + first) d ≡ permuted (image (i + first) d)
+image_step first i d =
+    let e : suc i + first ≡ suc (i + first) = omega arith in
+    ap (λ k. image k d) e ∙ image_next (i + first) d
+
+pub verhoeff_distinguishes : (first : ℕ) → Distinguishes (verhoeff_step first)
+verhoeff_distinguishes first = record {
+  closed = λ i c d _ _. dihedral_small c (image (i + first) d);
+  states = λ i c e d c_most e_most d_most same.
+      right_cancels (image (i + first) d) c e (image_small (i + first) d d_most) c_most e_most same;
+  digits = λ i c d e c_most d_most e_most same.
+      image_apart (i + first) d e d_most e_most
+      (left_cancels c (image (i + first) d) (image (i + first) e) c_most (image_small (i + first) d d_most)
+      (image_small (i + first) e e_most) same);
+  orders = λ i c d e c_most d_most e_most same.
+      let a = image (i + first) d in
+      let b = image (i + first) e in
+      image_apart (i + first) d e d_most e_most
+      (orders c a b c_most (image_small (i + first) d d_most) (image_small (i + first) e e_most)
+      (ap (dihedral (dihedral c a)) (sym (image_step first i e)) ∙ same ∙ ap (dihedral (dihedral c b)) (image_step first i d)));
+}
+
+-- the digits of a word by their places
+abbrev pub from_last : List ℕ → ℕ → ℕ
+from_last word j = get_or word (length word - 1 - j) 0
+
+digit_at : (word : List ℕ) → All (λ d. d ≤ 9) word → (n : ℕ) → length word ≡ n → (j : ℕ) → j < n
+    → get_or word (n - 1 - j) 0 ≤ 9
+digit_at word all n count j l = all (n - 1 - j) 0 (omega (arith, count))
+
+product_by : (word : List ℕ) (n : ℕ) → length word ≡ n
+    → verhoeff_product 0 word ≡ state_after (verhoeff_step 0) 0 (λ j. get_or word (n - 1 - j) 0) n
+product_by word n count = ap (λ n. state_after (verhoeff_step 0) 0 (λ j. get_or word (n - 1 - j) 0) n) count
+
+pub verhoeff_changes : FindsEachChange IsVerhoeff
+verhoeff_changes word i digit is within apart_ changed =
+    let n = length word in
+    let p = n - 1 - i in
+    let new = set word i digit in
+    let count : length new ≡ n = length-set word i digit in
+    let e = is.product ∙ sym (sym (product_by new n count) ∙ changed.product) in
+    let place : n - 1 - p ≡ i = omega (arith, within) in
+    apart_ (sym (ap (λ k. get_or word k 0) (sym place) ∙ changed_apart (verhoeff_step 0) 0 (λ j. get_or word (n - 1 - j) 0)
+    (λ j. get_or new (n - 1 - j) 0) p n
+    (verhoeff_distinguishes 0) (omega arith)
+    (omega (arith, within)) (digit_at word is.digits n refl) (digit_at new changed.digits n count)
+    (λ j l ne. sym (get_or-set_other word i (n - 1 - j) digit 0 (omega (arith, l, ne, within)))) e
+    ∙ ap (λ k. get_or new k 0) place ∙ get_or-set_same word i digit 0 within))
+
+pub verhoeff_exchanges : FindsEachExchange IsVerhoeff
+verhoeff_exchanges word i is within apart_ changed =
+    let n = length word in
+    let p = n - 1 - suc i in
+    let x = get_or word i 0 in
+    let y = get_or word (suc i) 0 in
+    let half = set word i y in
+    let new = exchanged word i in
+    let count : length new ≡ n = length-set half (suc i) x ∙ length-set word i y in
+    let e = is.product ∙ sym (sym (product_by new n count) ∙ changed.product) in
+    let first : n - 1 - p ≡ suc i = omega (arith, within) in
+    let second : n - 1 - suc p ≡ i = omega (arith, within) in
+    let before : i < n = omega (arith, within) in
+    let behind : suc i < length half = omega (arith, length-set word i y, within) in
+    let ne : i ≢ suc i = omega arith in
+    apart_ (sym (ap (λ k. get_or word k 0) (sym first) ∙ exchanged_apart (verhoeff_step 0) 0
+    (λ j. get_or word (n - 1 - j) 0) (λ j. get_or new (n - 1 - j) 0) p n (verhoeff_distinguishes 0) (omega arith)
+    (omega (arith, within)) (digit_at word is.digits n refl) (digit_at new changed.digits n count)
+    (λ j l no nor. sym (get_or-set_other half (suc i) (n - 1 - j) x 0 (omega (arith, l, no, within))
+    ∙ get_or-set_other word i (n - 1 - j) y 0 (omega (arith, l, nor, within))))
+    (ap (λ k. get_or new k 0) first ∙ get_or-set_same half (suc i) x 0 behind ∙ ap (λ k. get_or word k 0) (sym second))
+    (ap (λ k. get_or new k 0) second ∙ get_or-set_other half (suc i) i x 0 ne ∙ get_or-set_same word i y 0 before
+    ∙ ap (λ k. get_or word k 0) (sym first)) e
+    ∙ ap (λ k. get_or word k 0) second))
+
+-- the product from another state on
+from_state : (first start n : ℕ) (f : ℕ → ℕ) → start ≤ 9 → ((j : ℕ) → j < n → f j ≤ 9)
+    → state_after (verhoeff_step first) start f n ≡ dihedral start (state_after (verhoeff_step first) 0 f n)
+from_state first start zero f most digits =
+    state_first (verhoeff_step first) start f
+    ∙ sym (ap (dihedral start) (state_first (verhoeff_step first) 0 f) ∙ unit_behind start most)
+from_state first start (suc n) f most digits =
+    let s = state_after (verhoeff_step first) 0 f n in
+    let d = image (n + first) (f n) in
+    state_next (verhoeff_step first) start f n
+    ∙ ap (λ c. dihedral c d) (from_state first start n f most (λ j l. digits j (omega arith)))
+    ∙ sym (ap (dihedral start) (state_next (verhoeff_step first) 0 f n)
+    ∙ associates start s d most
+    (state_most (verhoeff_step first) 0 f n (verhoeff_distinguishes first).closed (omega arith) (λ j l. digits j (omega arith)))
+    (image_small (n + first) (f n) (digits n (omega arith))))
+
+later_step : (i c d : ℕ) → verhoeff_step 0 (suc i) c d ≡ verhoeff_step 1 i c d
+later_step i c d = let e : suc i + 0 ≡ i + 1 = omega arith in ap (λ k. dihedral c (image k d)) e
+
+image_none : (d : ℕ) → image (0 + 0) d ≡ d
+unfolding image
+image_none d = refl
+
+-- the product of a word with one more digit
+more_product : (word : List ℕ) (s : ℕ) → All (λ d. d ≤ 9) word → s ≤ 9
+    → verhoeff_product 0 (word ++ s ∷ []) ≡ dihedral s (verhoeff_product 1 word)
+more_product word s all most =
+    let n = length word in
+    let f : ℕ → ℕ = λ j. get_or (word ++ s ∷ []) (suc n - 1 - j) 0 in
+    let g : ℕ → ℕ = λ j. get_or word (n - 1 - j) 0 in
+    let last : suc n - 1 - 0 ≡ n = omega arith in
+    let first : verhoeff_step 0 0 0 (f 0) ≡ s =
+    ap (dihedral 0) (image_none (f 0)) ∙ ap (λ k. dihedral 0 (get_or (word ++ s ∷ []) k 0)) last
+    ∙ ap (dihedral 0) (get_or-append_seam word s [] 0) ∙ unit_before s most in
+    product_by (word ++ s ∷ []) (suc n) (one_more word s)
+    ∙ state_later (verhoeff_step 0) (verhoeff_step 1) 0 f n later_step
+    ∙ ap (λ c. state_after (verhoeff_step 1) c (λ j. f (suc j)) n) first
+    ∙ state_same (verhoeff_step 1) s (λ j. f (suc j)) g n
+    (λ j l.
+    let e : suc n - 1 - suc j ≡ n - 1 - j = omega (arith, l) in
+    ap (λ k. get_or (word ++ s ∷ []) k 0) e ∙ get_or-append word (s ∷ []) 0 (n - 1 - j) (omega (arith, l)))
+    ∙ from_state 1 s n g most (digit_at word all n refl)
+
+pub verhoeff_completed : (word : List ℕ) → All (λ d. d ≤ 9) word
+    → IsCheckSymbol 10 IsVerhoeff word (inverse_of (verhoeff_product 1 word))
+verhoeff_completed word all =
+    let n = length word in
+    let p = verhoeff_product 1 word in
+    let p_most : p ≤ 9 = state_most (verhoeff_step 1) 0 (λ j. get_or word (n - 1 - j) 0) n
+    (verhoeff_distinguishes 1).closed (omega arith) (digit_at word all n refl) in
+    let s = inverse_of p in
+    let most : s ≤ 9 = inverse_small p p_most in
+    record {
+      below = omega (arith, most);
+      accepted = record {
+        least = omega (arith, one_more word s);
+        digits = all_more word s all most;
+        product = more_product word s all most ∙ inverse_cancels p p_most;
+      };
+      only = λ t l is. right_cancels p t s p_most (omega (arith, l)) most
+          (sym (more_product word t all (omega (arith, l))) ∙ is.product ∙ sym (inverse_cancels p p_most));
+    }
+
+-- the permutation is the identity after eight steps
+eightfold : (a : ℕ) → a ≤ 9 → image 8 a ≡ a
+unfolding image
+eightfold a most = eqb-true (image 8 a) a (passes 10 (λ a. nat_eq (image 8 a) a) refl a (omega arith))
+
+image_sum : (k l d : ℕ) → image (k + l) d ≡ image k (image l d)
+unfolding image
+image_sum zero l d = let e : 0 + l ≡ l = omega arith in ap (λ k. image k d) e
+image_sum (suc k) l d =
+    let e : suc k + l ≡ suc (k + l) = omega arith in
+    ap (λ k. image k d) e ∙ image_next (k + l) d ∙ ap permuted (image_sum k l d)
+
+image_eights : (q d : ℕ) → d ≤ 9 → image (8 * q) d ≡ d
+unfolding image
+image_eights zero d most = let e : 8 * 0 ≡ 0 = omega arith in ap (λ k. image k d) e
+image_eights (suc q) d most =
+    let e : 8 * suc q ≡ 8 + 8 * q = omega arith in
+    ap (λ k. image k d) e ∙ image_sum 8 (8 * q) d ∙ ap (image 8) (image_eights q d most) ∙ eightfold d most
+
+pub image_residue : (k d : ℕ) → d ≤ 9 → image k d ≡ image (k % 8) d
+image_residue k d most =
+    let e : k ≡ k % 8 + 8 * (k / 8) = omega arith in
+    ap (λ k. image k d) e ∙ image_sum (k % 8) (8 * (k / 8)) d ∙ ap (image (k % 8)) (image_eights (k / 8) d most)
+
+-- the images at eight places, ten digits each
+abbrev row : ℕ → List ℕ
+row k = image k 0 ∷ image k 1 ∷ image k 2 ∷ image k 3 ∷ image k 4 ∷ image k 5 ∷ image k 6 ∷ image k 7 ∷ image k 8 ∷ image k 9 ∷ []
+
+abbrev pub images : List ℕ
+images = row 0 ++ row 1 ++ row 2 ++ row 3 ++ row 4 ++ row 5 ++ row 6 ++ row 7
+
+abbrev image_test : ℕ → ℕ → Bool
+image_test k d = nat_eq (get_or images (10 * k + d) 0) (image k d)
+
+images_pass : each_below 8 (λ k. each_below 10 (image_test k)) ≡ true
+unfolding image
+images_pass = refl
+
+pub image_read : (k d : ℕ) → d ≤ 9 → get_or images (10 * (k % 8) + d) 0 ≡ image k d
+image_read k d most =
+    eqb-true (get_or images (10 * (k % 8) + d) 0) (image (k % 8) d)
+    (passes 10 (image_test (k % 8)) (passes 8 (λ k. each_below 10 (image_test k)) images_pass (k % 8) (omega arith)) d (omega arith))
+    ∙ sym (image_residue k d most)
