@@ -4,8 +4,10 @@ ghost use Rattle.std.specs.Prelude.{◌≤◌};
 
 use super::assert_at;
 use check_digits::{
-    Code, EAN_8, EAN_13, ISBN_10, ISBN_13, ISSN, UPC_A, accepts_iban, accepts_luhn, has_iban_form,
-    iban_code, iban_digits, standard_codes,
+    ABA_RTN, Code, EAN_8, EAN_13, ISBN_10, ISBN_13, ISSN, ORCID, UPC_A, accepts_damm, accepts_iban,
+    accepts_iban_text, accepts_luhn, accepts_verhoeff, damm_check_digit, has_iban_form,
+    iban_check_digits, iban_code, iban_digits, is_symbol_text, luhn_check_digit, read_symbols,
+    standard_codes, verhoeff_check_digit,
 };
 
 // The standards, whose codes a constant can't hold.
@@ -17,6 +19,8 @@ enum Standard {
     Ean8,
     UpcA,
     Issn,
+    Orcid,
+    AbaRtn,
 }
 
 fn code_of(standard: Standard) -> Code<'static> {
@@ -27,25 +31,9 @@ fn code_of(standard: Standard) -> Code<'static> {
         Standard::Ean8 => EAN_8,
         Standard::UpcA => UPC_A,
         Standard::Issn => ISSN,
+        Standard::Orcid => ORCID,
+        Standard::AbaRtn => ABA_RTN,
     }
-}
-
-// Writes the symbols of a text, at most 13, and returns their number: X is 10, and a hyphen is skipped.
-fn read(text: &[u8], symbols: &mut [u64; 13]) -> usize
-    ensures { result ≤ 13 }
-{
-    let mut count = 0;
-    for c in text {
-        if *c != b'-' && count < 13 {
-            symbols[count] = if *c == b'X' {
-                10
-            } else {
-                (*c as u64).abs_diff(48)
-            };
-            count += 1;
-        }
-    }
-    count.min(13)
 }
 
 // Whether the word is accepted, and with the symbol at the place it is only if that doesn't change it, as
@@ -66,7 +54,16 @@ fn keeps_symbol(code: &Code<'_>, word: &mut [u64], place: usize, other: u64) -> 
     is_restored && is_accepted == (other == symbol)
 }
 
-// Whether that holds at each place, for the symbols 0 to 10.
+// Whether the last symbol is the check digit of those before it.
+fn is_completed(code: &Code<'_>, word: &[u64]) -> bool {
+    if word.is_empty() || !code.can_restore(code.weights[code.weights.len() - 1]) {
+        return false;
+    }
+    let last = word.len() - 1;
+    code.check_digit(&word[..last]) == Some(word[last])
+}
+
+// Whether the word is kept at each place, for the symbols 0 to 10.
 fn keeps(code: &Code<'_>, word: &mut [u64]) -> bool {
     for place in 0..word.len() {
         for other in 0..11 {
@@ -91,7 +88,7 @@ fn finds_exchange(code: &Code<'_>, word: &[u64], place: usize) -> Option<bool> {
 enum Fact {
     IsAccepted,
     IsRefused,
-    // It is accepted, and `keeps` returns true.
+    // It is accepted, its last symbol is its check digit, and `keeps` returns true.
     IsKept,
     // The exchange of the symbols at this place and at the next is detected.
     FindsExchange(usize),
@@ -102,16 +99,28 @@ fn holds(code: &Code<'_>, symbols: &mut [u64], fact: Fact) -> bool {
     match fact {
         Fact::IsAccepted => code.accepts(symbols),
         Fact::IsRefused => !code.accepts(symbols),
-        Fact::IsKept => code.accepts(symbols) && keeps(code, symbols),
+        Fact::IsKept => {
+            code.accepts(symbols) && is_completed(code, symbols) && keeps(code, symbols)
+        }
         Fact::FindsExchange(place) => finds_exchange(code, symbols, place) == Some(true),
         Fact::MissesExchange(place) => finds_exchange(code, symbols, place) == Some(false),
     }
 }
 
+// Whether it holds of the symbols of the text, and the code accepts the text exactly where it accepts these.
 fn holds_of_text(code: &Code<'_>, text: &[u8], fact: Fact) -> bool {
-    let mut symbols = [0; 13];
-    let count = read(text, &mut symbols);
-    holds(code, &mut symbols[..count], fact)
+    let mut symbols = [0; 16];
+    if code.weights.len() > 68 {
+        return false;
+    }
+    let is_accepted = code.accepts_text(text);
+    match read_symbols(text, &mut symbols) {
+        Some(count) => {
+            is_accepted == code.accepts(&symbols[..count])
+                && holds(code, &mut symbols[..count], fact)
+        }
+        None => false,
+    }
 }
 
 // A standard, a text, and what holds of it by the standard's code.
@@ -124,6 +133,18 @@ const TEXTS: &[(Standard, &[u8], Fact)] = &[
     (Standard::UpcA, b"036000291452", Fact::IsKept),
     (Standard::Issn, b"0378-5955", Fact::IsKept),
     (Standard::Issn, b"2434-561X", Fact::IsKept),
+    (Standard::Orcid, b"0000-0002-1825-0097", Fact::IsKept),
+    (Standard::Orcid, b"0000-0001-5109-3700", Fact::IsKept),
+    (Standard::Orcid, b"0000-0002-1694-233X", Fact::IsKept),
+    (Standard::AbaRtn, b"111000025", Fact::IsKept),
+    (Standard::AbaRtn, b"021000021", Fact::IsKept),
+    // with hyphens, and with spaces
+    (Standard::Isbn10, b"0-306-40615-2", Fact::IsAccepted),
+    (Standard::Isbn13, b"978-0-306-40615-7", Fact::IsAccepted),
+    (Standard::Ean13, b"4 006381 333931", Fact::IsAccepted),
+    (Standard::Orcid, b"0000000218250097", Fact::IsAccepted),
+    (Standard::Orcid, b"0000-0002-1825-0098", Fact::IsRefused),
+    (Standard::AbaRtn, b"111000024", Fact::IsRefused),
     // the weighted sum of each is 0 modulo 11, with an X before the last place
     (Standard::Isbn10, b"X000000050", Fact::IsRefused),
     (Standard::Isbn10, b"X00000000X", Fact::IsRefused),
@@ -137,6 +158,8 @@ const TEXTS: &[(Standard, &[u8], Fact)] = &[
     (Standard::Ean13, b"4006381333931", Fact::FindsExchange(5)),
     (Standard::Isbn13, b"9780306406157", Fact::FindsExchange(2)),
     (Standard::Ean13, b"4006831333931", Fact::IsAccepted),
+    (Standard::AbaRtn, b"111000025", Fact::FindsExchange(2)),
+    (Standard::AbaRtn, b"061000052", Fact::MissesExchange(6)),
 ];
 
 #[test]
@@ -144,6 +167,35 @@ fn texts_of_each_standard(rt: HostRuntime) {
     for &(standard, text, fact) in TEXTS {
         assert_at(&rt, holds_of_text(&code_of(standard), text, fact), &text);
     }
+}
+
+// What isn't a text of symbols.
+const NO_TEXTS: &[&[u8]] = &[
+    b"", b"-", b" 1", b"1-", b"1--2", b"1 -2", b"1_2", b"1.2", b"12x", b"A", b"1\n", b"1/2", b"1:2",
+];
+
+// Whether nothing is read of the text, and ISBN-10 refuses it.
+fn is_no_text(text: &[u8]) -> bool {
+    let mut symbols = [7; 16];
+    let code = code_of(Standard::Isbn10);
+    !is_symbol_text(text)
+        && read_symbols(text, &mut symbols) == None
+        && code.weights.len() <= 68
+        && !code.accepts_text(text)
+}
+
+#[test]
+fn texts_of_another_form(rt: HostRuntime) {
+    for text in NO_TEXTS {
+        assert_at(&rt, is_no_text(text), text);
+    }
+    // an ISBN-10 whose digits are parted by other characters
+    check!(&rt, 1; is_no_text(b"0.306.40615.2"));
+    // three symbols, where there is room for two, and for three
+    check!(&rt, 2; read_symbols(b"1-2 X", &mut [0; 2]) == None);
+    let mut symbols = [0; 3];
+    check!(&rt, 3; read_symbols(b"1-2 X", &mut symbols) == Some(3));
+    check!(&rt, 4; symbols == [1, 2, 10]);
 }
 
 // Symbols that no code accepts. The weighted sums of ISBN-10 are 0 modulo 11: 11 for 0, and 14 for 3.
@@ -251,14 +303,27 @@ fn holds_of_iban(text: &[u8], fact: IbanFact) -> bool {
     let changed = &mut room[..text.len()];
     changed.copy_from_slice(text);
     match fact {
-        IbanFact::HasNoForm => !has_iban_form(text) && !accepts_iban(text),
+        IbanFact::HasNoForm => {
+            !has_iban_form(text) && !accepts_iban(text) && iban_check_digits(text) == None
+        }
         IbanFact::IsRefused => has_iban_form(text) && !accepts_iban(text),
-        IbanFact::IsAccepted => accepts_iban(text),
+        IbanFact::IsAccepted => accepts_iban(text) && is_checked(text, changed),
         IbanFact::RefusesOtherCharacters => accepts_iban(text) && refuses_other_characters(changed),
         IbanFact::MissesExchanges(places) => {
             accepts_iban(text) && misses_exchanges(changed, places)
         }
     }
+}
+
+// Whether the check digits of the IBAN are found where 00 stands in their place.
+fn is_checked(text: &[u8], changed: &mut [u8]) -> bool {
+    if text.len() < 4 || changed.len() != text.len() {
+        return false;
+    }
+    let digits = [text[2], text[3]];
+    changed[2] = b'0';
+    changed[3] = b'0';
+    iban_check_digits(changed) == Some(digits)
 }
 
 // A text, and what holds of it.
@@ -307,24 +372,129 @@ fn ibans(rt: HostRuntime) {
     }
 }
 
-// Digits, and whether Luhn's check digit is right.
-const LUHN: &[(&[u64], bool)] = &[
-    (&[7, 9, 9, 2, 7, 3, 9, 8, 7, 1, 3], true),
-    (&[4, 5, 3, 9, 5, 7, 8, 7, 6, 3, 6, 2, 1, 4, 8, 6], true),
-    (&[0], true),
-    (&[7, 9, 9, 2, 7, 3, 9, 8, 7, 1, 0], false),
-    (&[7, 9, 9, 2, 7, 3, 9, 8, 7, 3, 1], false),
-    // 09 and 90 count the same
-    (&[0, 9, 1], true),
-    (&[9, 0, 1], true),
-    // no digit, and a symbol that is none, though the sum is 10
-    (&[], false),
-    (&[10], false),
+// Texts, and whether they are IBANs as these are printed.
+const PRINTED: &[(&[u8], bool)] = &[
+    (b"GB82 WEST 1234 5698 7654 32", true),
+    (b"FR14 2004 1010 0505 0001 3M02 606", true),
+    (b"GB82 WEST 1234 5698 7654 33", false),
+    (b"GB82WEST12345698765432", false),
+    (b"GB82 WEST 1234 5698 7654 32 ", false),
+    (b" GB82 WEST 1234 5698 7654 32", false),
+    (b"GB82 WEST 1234 5698 76543 2", false),
+    (b"GB82  WEST 1234 5698 7654 32", false),
+    (b"GB82-WEST-1234-5698-7654-32", false),
+    (b"gb82 west 1234 5698 7654 32", false),
+    (b"", false),
 ];
 
 #[test]
-fn luhn(rt: HostRuntime) {
-    for &(digits, is_right) in LUHN {
-        assert_at(&rt, accepts_luhn(digits) == is_right, &digits);
+fn printed_ibans(rt: HostRuntime) {
+    for &(text, is_iban) in PRINTED {
+        assert_at(&rt, accepts_iban_text(text) == is_iban, &text);
+    }
+    check!(&rt, 1; iban_check_digits(b"GB00WEST12345698765432") == Some([b'8', b'2']));
+    check!(&rt, 2; iban_check_digits(b"GB99WEST12345600000017") == Some([b'0', b'2']));
+}
+
+// The check digits of digits of any number.
+#[derive(Clone, Copy)]
+enum Decimal {
+    Luhn,
+    Verhoeff,
+    Damm,
+}
+
+fn accepts(code: Decimal, digits: &[u64]) -> bool {
+    match code {
+        Decimal::Luhn => accepts_luhn(digits),
+        Decimal::Verhoeff => accepts_verhoeff(digits),
+        Decimal::Damm => accepts_damm(digits),
+    }
+}
+
+fn check_digit(code: Decimal, digits: &[u64]) -> Option<u64> {
+    match code {
+        Decimal::Luhn => luhn_check_digit(digits),
+        Decimal::Verhoeff => verhoeff_check_digit(digits),
+        Decimal::Damm => damm_check_digit(digits),
+    }
+}
+
+// Whether the digits of the text are accepted; the last of accepted ones has to be their check digit.
+fn accepts_digits(code: Decimal, text: &[u8]) -> bool {
+    let mut digits = [0; 23];
+    match read_symbols(text, &mut digits) {
+        Some(count) if accepts(code, &digits[..count]) => {
+            count > 0 && check_digit(code, &digits[..count - 1]) == Some(digits[count - 1])
+        }
+        _ => false,
+    }
+}
+
+// A text, and whether its digits are accepted.
+const DECIMALS: &[(Decimal, &[u8], bool)] = &[
+    (Decimal::Luhn, b"79927398713", true),
+    (Decimal::Luhn, b"4539578763621486", true),
+    (Decimal::Luhn, b"4539 5787 6362 1486", true),
+    (Decimal::Luhn, b"0", true),
+    (Decimal::Luhn, b"79927398710", false),
+    (Decimal::Luhn, b"79927398731", false),
+    // 09 and 90 count the same
+    (Decimal::Luhn, b"091", true),
+    (Decimal::Luhn, b"901", true),
+    // a symbol that is no digit, though the sum is 10
+    (Decimal::Luhn, b"X", false),
+    (Decimal::Verhoeff, b"2363", true),
+    (Decimal::Verhoeff, b"2364", false),
+    (Decimal::Verhoeff, b"0", true),
+    (Decimal::Verhoeff, b"X", false),
+    // each place has its own permutation, up to the eighth
+    (Decimal::Verhoeff, b"84736430954837284567892", true),
+    (Decimal::Damm, b"5724", true),
+    (Decimal::Damm, b"5727", false),
+    (Decimal::Damm, b"0", true),
+    (Decimal::Damm, b"X", false),
+];
+
+#[test]
+fn decimals(rt: HostRuntime) {
+    for &(code, text, is_right) in DECIMALS {
+        assert_at(&rt, accepts_digits(code, text) == is_right, &text);
+    }
+    for code in [Decimal::Luhn, Decimal::Verhoeff, Decimal::Damm] {
+        check!(&rt, 1; !accepts(code, &[]) && check_digit(code, &[10]) == None);
+    }
+}
+
+// Whether no other digit at a place, and no exchange of it and the next that differ, is accepted.
+fn detects(code: Decimal, digits: &mut [u64], place: usize) -> bool {
+    if place >= digits.len() {
+        return false;
+    }
+    let digit = digits[place];
+    for other in 0..10 {
+        digits[place] = other;
+        if accepts(code, digits) != (other == digit) {
+            return false;
+        }
+    }
+    digits[place] = digit;
+    if place + 1 < digits.len() {
+        digits.swap(place, place + 1);
+        if accepts(code, digits) != (digits[place] == digit) {
+            return false;
+        }
+        digits.swap(place, place + 1);
+    }
+    true
+}
+
+#[test]
+fn decimals_of_the_stronger_codes(rt: HostRuntime) {
+    let mut verhoeff = [2, 3, 6, 3];
+    let mut damm = [5, 7, 2, 4];
+    for place in 0..4 {
+        check!(&rt, 1; detects(Decimal::Verhoeff, &mut verhoeff, place));
+        check!(&rt, 2; detects(Decimal::Damm, &mut damm, place));
     }
 }
