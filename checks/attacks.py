@@ -5,7 +5,7 @@ and `--- new` before a text. An empty old text makes a file.
 """
 import re
 
-from calls import TOP
+from libraries import TOP
 
 
 class Attack:
@@ -22,13 +22,19 @@ class Attack:
     def apply(self, top):
         """Makes the edits in a copy of the repository."""
         for name, old, new in self.edits:
+            if fault := misfit(top / name, old):
+                raise SystemExit(f"{self.name}: {fault} in {name}")
             text = (top / name).read_text(encoding="utf-8") if old else ""
-            if old and text.count(old) != 1:
-                raise SystemExit(f"{self.name}: its old text stands {text.count(old)} times in {name}")
             (top / name).write_text(text.replace(old, new) if old else new, encoding="utf-8")
 
 
-def attacks(word, names):
-    """The attacks whose heads have a word, or those of them that are named."""
-    found = [it for it in map(Attack, sorted((TOP / "checks/attacks").iterdir())) if word in it.head]
+def misfit(file, old):
+    """Why an edit doesn't apply to a file; nothing where it does."""
+    count = file.read_text(encoding="utf-8").count(old) if old and file.is_file() else 0
+    return f"`{old.strip()}` stands {count} times" if old and count != 1 else ""
+
+
+def attacks(word=None, names=()):
+    """The attacks whose heads have a word, or those of them that are named; all of them without a word."""
+    found = [it for it in map(Attack, sorted((TOP / "checks/attacks").iterdir())) if word is None or word in it.head]
     return [it for it in found if not names or it.name in names]

@@ -3,11 +3,12 @@ import os
 import re
 import shlex
 import shutil
-import subprocess
 import sys
 from pathlib import Path
 
-TOP = Path(os.path.realpath(__file__)).parent.parent
+from libraries import TOP
+from results import run, told
+
 WARNINGS = ["-Wall", "-Wextra", "-pedantic", "-Werror"]
 SANITIZERS = ["-g", "-pthread", "-fsanitize=address,undefined", "-fno-sanitize-recover=all"]
 SOURCES = "".join(it.read_text() for it in sorted(TOP.glob("crates/num_modular_c/src/*.rt")))
@@ -20,19 +21,6 @@ a sum modulo 0 answers 2, and 7 stays
 IN_PYTHON = """code 0: 18446744073709551556
 code 2: 18446744073709551556 stays
 """
-
-
-def run(*words, **more):
-    """What a program says on both outputs, and its status."""
-    how = {"stdin": subprocess.DEVNULL, "stdout": subprocess.PIPE, "stderr": subprocess.STDOUT, "text": True}
-    ran = subprocess.run([str(it) for it in words], **how, **more)
-    return ran.stdout, ran.returncode
-
-
-def told(name, holds, said=""):
-    """Prints what was tried, and with a failure what was said; answers how much passed and failed."""
-    print(f"{name}: {'passed' if holds else 'FAILED'}" + (f"\n{said.strip()[-2000:]}" if said and not holds else ""), flush=True)
-    return int(bool(holds)), int(not holds)
 
 
 def flags(prefix):

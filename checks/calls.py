@@ -1,21 +1,9 @@
 """Reads the sources for `checks/promises`: each function by the path that a check prints, and the calls of a promise."""
 import re
 from functools import lru_cache
-from pathlib import Path
 
-TOP = Path(__file__).resolve().parent.parent
-# The crates, each with the libraries that it lists.
-LISTED = {
-    name: libraries.split()
-    for name, libraries in re.findall(r"^(\w+)[^:\n]*:(.*)$", (TOP / "crates.txt").read_text(), re.M)
-}
-# Those of them that aren't built as a library for other crates: programs and static libraries.
-ENDS = {
-    name
-    for name in LISTED
-    if re.search(rf"^{name} staticlib:", (TOP / "crates.txt").read_text(), re.M)
-    or not (TOP / f"crates/{name}/src/lib.rt").exists()
-}
+from libraries import LISTED, TOP
+
 # Measured functions stand on the whole library, which would have to be proved for them alone.
 LEFT_OUT = {"modular_bench"}
 FUNCTION = re.compile(r"^( *)(?:pub(?:\(crate\))? )?fn (\w+)", re.M)
