@@ -77,7 +77,7 @@ def looped(code):
     while found := re.search(pattern, code):
         place, named, until, changed, block = found.groups()
         place = place or "_place_"
-        block = block.replace("* entry ", f"{named} [ {place} ] ")
+        block = block.replace("* entry ", f"{named} [ {place} ] ").replace("entry . ", f"{named} [ {place} ] . ")
         block = re.sub(r"\bentry\b", f"& {named} [ {place} ]" if not changed else f"& mut {named} [ {place} ]", block)
         until = until or f"{named} . len ( )"
         code = f"{code[: found.start()]}for {place} in 0 . . {until} {block}{code[found.end() :]}"

@@ -43,7 +43,8 @@ def loops_over_lists(tokens):
             elif borrowed and x in borrowed:
                 tokens[x - 2 : x + 4] = lexed(tokens[x - 2].lead + PLACE)
             else:
-                tokens[x : x + 4] = lexed(f"{lead}*{PLACE}")
+                star = "" if tokens[x + 4].text == "." else "*"
+                tokens[x : x + 4] = lexed(f"{lead}{star}{PLACE}")
         still = any(it.text == index for it in tokens[body : beyond(tokens, body)])
         part = "" if whole else f"[..{text_of(until).strip()}]"
         items = f"{named}{part}.iter{'_mut' * is_changed}()"

@@ -2,10 +2,11 @@
 //! their residues, check symbols and erasure codes, products of long numbers (where a usize has 64 bits), and the rings
 //! of FIPS 204 and 203. Nothing is said of constant time.
 
-pub mod examples;
-pub mod mersenne_hash;
-pub mod residue_numbers;
-pub mod ring_codes;
 #[cfg(target_pointer_width = "64")]
 pub mod long_product;
+pub mod examples;
+pub mod check_digits;
+pub mod ring_codes;
+pub mod mersenne_hash;
+pub mod residue_numbers;
 pub mod lattice_rings;

@@ -1,5 +1,5 @@
 //! Moduli near a power of two: the paths by folds, which are remainders of double words and products of words,
-//! written and proved once for every such modulus, and the reducers that use them.
+//! written once for every such modulus, and the reducers that use them.
 
 pub mod fold_word;
 pub mod folds;

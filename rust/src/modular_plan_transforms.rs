@@ -1,10 +1,13 @@
-//! Transforms by a plan: from a polynomial to its remainders and back, products of blocks and of polynomials, the
-//! transform in natural order, and a plan as one value.
+//! Transforms by a plan: all stages from a polynomial to its remainders and back, products of blocks and of polynomials,
+//! the transform in natural order, and a plan as one value.
 
 pub mod convolution;
+pub mod filled;
 pub mod join;
+pub mod join_blocks;
 pub mod plan;
 pub mod products;
 pub mod split;
+pub mod split_blocks;
 mod tables;
 pub mod transform;

@@ -1,6 +1,6 @@
 //! Rings of residues: reducers, which compute with forms modulo m, and integers modulo m over any reducer.
 
-#[doc(hidden)]
+#[cfg(test)]
 pub mod laws;
 pub mod modular_integer;
 pub mod power;

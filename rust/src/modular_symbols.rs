@@ -1,11 +1,10 @@
 //! The Legendre, Jacobi and Kronecker symbols of signed and unsigned machine words, and the traits that combine the
 //! modular operations.
 
+#[cfg(test)]
 pub mod count;
 pub mod counted;
 pub mod halving;
-#[doc(hidden)]
-pub mod laws;
 pub mod low_part;
 pub mod magnitudes;
 pub mod operands;

@@ -1,11 +1,9 @@
 //! Machine words as whole numbers, and the paths: division by a reciprocal, exact division and Montgomery's
-//! reduction, each written and proved once for every width.
-
-#[doc(hidden)]
-pub mod laws;
+//! reduction, each written once for every width.
 pub mod machine_words;
 pub mod path_word;
 pub mod paths;
+#[cfg(test)]
 pub mod plain;
 pub mod ring_word;
 pub mod word;

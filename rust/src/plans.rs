@@ -3,8 +3,8 @@
 //! the transforms that need no table, over any reducer, and `find_root`.
 
 pub use crate::modular_barrett::planned::{Factor, PlannedModulus};
-pub use crate::modular_plan::entry::PlanEntry;
-pub use crate::modular_plan::plan::plan;
+pub use crate::modular_plan_passes::entry::PlanEntry;
+pub use crate::modular_plan_passes::plan::plan;
 pub use crate::modular_plan_transforms::convolution::{
     convolve_block, convolve_negacyclic, convolve_planned, convolves,
 };

@@ -1,3 +1,3 @@
 //! Exact division by an invariant odd divisor.
 
-pub use crate::modular_monty::preinv::{PreModInv, PreparedInverse};
+pub use crate::modular_monty::preinv::PreModInv;

@@ -1,5 +1,4 @@
-//! The examples of README and docs/, and more of their kind. Each names `num_modular` alone, and proves its own
-//! theorem from the public contracts.
+//! The examples of README and docs/, and more of their kind. Each names `num_modular` alone.
 
 pub mod any_reducer;
 pub mod commands;
@@ -11,8 +10,6 @@ pub mod generators;
 pub mod hashes;
 pub mod inner_products;
 pub mod keys;
-#[doc(hidden)]
-pub mod laws;
 pub mod operations;
 pub mod polynomials;
 pub mod quotients;

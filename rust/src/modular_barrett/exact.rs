@@ -1,9 +1,8 @@
 //! Exact division of a word by a word, by the divisor's multiplier and shift.
 
-use crate::modular_barrett::one_by_one::{FitsDivisor, PreMulInv1by1};
+use crate::modular_barrett::one_by_one::PreMulInv1by1;
 use crate::modular_prim::exact::{DivExact, DivExactAssign, assign_exact};
 use crate::modular_word::path_word::PathWord;
-use crate::modular_word::ring_word::RingWord;
 
 /// The quotient by d; `None` exactly where d doesn't divide n.
 ///

@@ -4,17 +4,19 @@ use crate::modular_prim::plain_word::PlainWord;
 use crate::modular_prim::reciprocal;
 use crate::modular_word::path_word::PathWord;
 use crate::modular_word::paths::div_2by1;
-use crate::modular_word::ring_word::RingWord;
-
-/// The divisor of a divider, for contracts.
-#[doc(hidden)]
-pub trait StoredDivisor: Sized {}
-
-impl<Any> StoredDivisor for Any {}
 
 /// A divisor d whose top bit is set, and its reciprocal v: with B the base, (v + B)·d is B² - k for a k from 1 to d.
 ///
 /// Source: Möller and Granlund, "Improved division by invariant integers".
+///
+/// # Examples
+///
+/// ```
+/// use num_modular::Normalized2by1Divisor;
+///
+/// let divisor = Normalized2by1Divisor::<u8>::new(200);
+/// assert_eq!(divisor.div_rem_2by1(1234), (6, 34)); // 6 * 200 + 34
+/// ```
 #[derive(Debug, PartialEq, Eq)]
 #[must_use]
 pub struct Normalized2by1Divisor<T> {
@@ -33,12 +35,30 @@ impl<T: PathWord> Copy for Normalized2by1Divisor<T> {}
 
 impl<T: PathWord> Normalized2by1Divisor<T> {
     /// The divisor.
+    ///
+    /// # Examples
+    ///
+    /// ```
+    /// use num_modular::Normalized2by1Divisor;
+    ///
+    /// assert_eq!(Normalized2by1Divisor::<u8>::new(200).divisor(), 200);
+    /// ```
     #[inline]
     pub const fn divisor(&self) -> T {
         self.divisor
     }
 
     /// Quotient and remainder of a word. The quotient is 0 or 1, because the divisor's top bit is set.
+    ///
+    /// # Examples
+    ///
+    /// ```
+    /// use num_modular::Normalized2by1Divisor;
+    ///
+    /// let divisor = Normalized2by1Divisor::<u8>::new(200);
+    /// assert_eq!(divisor.div_rem_1by1(234), (1, 34));
+    /// assert_eq!(divisor.div_rem_1by1(34), (0, 34));
+    /// ```
     #[inline]
     pub fn div_rem_1by1(&self, a: T) -> (T, T) {
         if a.is_below(self.divisor) {
@@ -49,6 +69,15 @@ impl<T: PathWord> Normalized2by1Divisor<T> {
     }
 
     /// Quotient and remainder of a double word.
+    ///
+    /// # Examples
+    ///
+    /// ```
+    /// use num_modular::Normalized2by1Divisor;
+    ///
+    /// let divisor = Normalized2by1Divisor::<u32>::new(4_000_000_000);
+    /// assert_eq!(divisor.div_rem_2by1(12_000_000_005), (3, 5));
+    /// ```
     ///
     /// # Panics
     ///
@@ -65,6 +94,15 @@ impl<T: PathWord> Normalized2by1Divisor<T> {
 impl<T: PlainWord> Normalized2by1Divisor<T> {
     /// The reciprocal of a divisor.
     ///
+    /// # Examples
+    ///
+    /// ```
+    /// use num_modular::Normalized2by1Divisor;
+    ///
+    /// // (71 + 256) * 200 = 65400, which is 65536 less 136
+    /// assert_eq!(Normalized2by1Divisor::<u8>::invert_word(200), 71);
+    /// ```
+    ///
     /// # Panics
     ///
     /// A debug build panics unless the divisor's top bit is set. A release build doesn't test that, and
@@ -77,6 +115,17 @@ impl<T: PlainWord> Normalized2by1Divisor<T> {
     }
 
     /// A divisor with its reciprocal.
+    ///
+    /// # Examples
+    ///
+    /// ```
+    /// use num_modular::{Normalized2by1Divisor, PlainWord};
+    ///
+    /// fn last_digits<T: PlainWord>(divisor: T, n: T) -> T {
+    ///     Normalized2by1Divisor::of(divisor).div_rem_1by1(n).1
+    /// }
+    /// assert_eq!(last_digits(200u8, 234), 34);
+    /// ```
     ///
     /// # Panics
     ///

@@ -3,13 +3,6 @@
 use crate::modular_prim::plain_word::PlainWord;
 use crate::modular_word::path_word::PathWord;
 use crate::modular_word::paths::{div_1by1, ones};
-use crate::modular_word::ring_word::RingWord;
-
-/// The divisors that a divider fits, for contracts.
-#[doc(hidden)]
-pub trait FitsDivisor: Sized {}
-
-impl<Any> FitsDivisor for Any {}
 
 /// The multiplier and the shift of a divisor. The divisor itself isn't stored; the caller passes it to each call.
 ///
@@ -42,6 +35,15 @@ impl<T: PathWord> PreMulInv1by1<T> {
     /// Source: Granlund and Montgomery, "Division by invariant integers using multiplication", figure
     /// 4.1.
     ///
+    /// # Examples
+    ///
+    /// ```
+    /// use num_modular::PreMulInv1by1;
+    ///
+    /// let seven = PreMulInv1by1::<u8>::new(7);
+    /// assert_eq!(seven.div_rem(100, 7), (14, 2));
+    /// ```
+    ///
     /// # Panics
     ///
     /// A debug build panics unless the divider is that of the divisor d. A release build doesn't test that,
@@ -59,6 +61,20 @@ impl<T: PlainWord> PreMulInv1by1<T> {
     /// base, the multiplier is B·(2^n - d)/d, rounded down, plus 1, and the shift is n - 1.
     ///
     /// Source: Granlund and Montgomery, "Division by invariant integers using multiplication", section 4.
+    ///
+    /// # Examples
+    ///
+    /// ```
+    /// use num_modular::{PlainWord, PreMulInv1by1};
+    ///
+    /// fn remainder_each<T: PlainWord>(numbers: &mut [T], d: T) {
+    ///     let divider = PreMulInv1by1::of(d);
+    ///     numbers.iter_mut().for_each(|n| *n = divider.div_rem(*n, d).1);
+    /// }
+    /// let mut numbers = [7u32, 100, 1000];
+    /// remainder_each(&mut numbers, 7);
+    /// assert_eq!(numbers, [0, 2, 6]);
+    /// ```
     ///
     /// # Panics
     ///

@@ -5,11 +5,19 @@ use crate::modular_prim::plain_word::PlainWord;
 use crate::modular_prim::reciprocal::invert_word;
 use crate::modular_word::path_word::PathWord;
 use crate::modular_word::paths::div_2by1;
-use crate::modular_word::ring_word::RingWord;
 
 /// A factor w below a modulus m, and its quotient w·B/m, rounded down, with B the base.
 ///
 /// Source: Harvey, "Faster arithmetic for number-theoretic transforms", section 3, after Shoup.
+///
+/// # Examples
+///
+/// ```
+/// use num_modular::plans::PlannedModulus;
+///
+/// let factor = PlannedModulus::<u8>::new(17).factor(3);
+/// assert_eq!((factor.value(), factor.quotient()), (3, 45)); // 3 * 256 = 45 * 17 + 3
+/// ```
 #[derive(Debug, PartialEq, Eq)]
 #[must_use]
 pub struct Factor<T> {
@@ -30,6 +38,16 @@ impl<T: PathWord> Copy for Factor<T> {}
 
 impl<T: PathWord> Factor<T> {
     /// Whether the factor is 1.
+    ///
+    /// # Examples
+    ///
+    /// ```
+    /// use num_modular::plans::PlannedModulus;
+    ///
+    /// let modulus = PlannedModulus::<u64>::new(97);
+    /// assert!(modulus.factor(1).is_one());
+    /// assert!(!modulus.factor(2).is_one());
+    /// ```
     #[inline]
     pub fn is_one(&self) -> bool {
         self.value == T::one()
@@ -71,6 +89,15 @@ impl<T: PathWord> Copy for PlannedModulus<T> {}
 
 impl<T: PlainWord> PlannedModulus<T> {
     /// Whether m can be the modulus of a plan: it is at least 1, and 4m is at most the base.
+    ///
+    /// # Examples
+    ///
+    /// ```
+    /// use num_modular::plans::PlannedModulus;
+    ///
+    /// assert!(PlannedModulus::<u8>::admits(64)); // 256 / 4
+    /// assert!(!PlannedModulus::<u8>::admits(65));
+    /// ```
     #[inline]
     pub fn admits(m: T) -> bool {
         let greatest = T::one().shift_left(T::bits() - 2);
@@ -82,6 +109,15 @@ impl<T: PlainWord> PlannedModulus<T> {
     }
 
     /// The modulus with its reciprocal.
+    ///
+    /// # Examples
+    ///
+    /// ```
+    /// use num_modular::plans::PlannedModulus;
+    ///
+    /// let modulus = PlannedModulus::<u64>::new(97);
+    /// assert_eq!(modulus.multiply(10, 20), 6); // 200 - 2 * 97
+    /// ```
     ///
     /// # Panics
     ///
@@ -101,6 +137,16 @@ impl<T: PlainWord> PlannedModulus<T> {
 
     /// The factor w with its quotient, which is computed by the reciprocal.
     ///
+    /// # Examples
+    ///
+    /// ```
+    /// use num_modular::plans::PlannedModulus;
+    ///
+    /// let modulus = PlannedModulus::<u64>::new(97);
+    /// let ten = modulus.factor(10);
+    /// assert_eq!(modulus.product(1000, &ten), 9); // 10000 = 103 * 97 + 9
+    /// ```
+    ///
     /// # Panics
     ///
     /// A debug build panics unless w is below m. A release build doesn't test that, and outside it panics,
@@ -115,6 +161,15 @@ impl<T: PlainWord> PlannedModulus<T> {
     }
 
     /// The residue of a factor times the base, below m, computed from its quotient.
+    ///
+    /// # Examples
+    ///
+    /// ```
+    /// use num_modular::plans::PlannedModulus;
+    ///
+    /// let modulus = PlannedModulus::<u8>::new(13);
+    /// assert_eq!(modulus.times_base(&modulus.factor(5)), 6); // 5 * 256 = 98 * 13 + 6
+    /// ```
     ///
     /// # Preconditions
     ///
@@ -131,6 +186,16 @@ impl<T: PlainWord> PlannedModulus<T> {
     ///
     /// Source: Harvey, "Faster arithmetic for number-theoretic transforms", section 3.
     ///
+    /// # Examples
+    ///
+    /// ```
+    /// use num_modular::plans::PlannedModulus;
+    ///
+    /// let modulus = PlannedModulus::<u8>::new(13);
+    /// let product = modulus.times(200, &modulus.factor(5));
+    /// assert!(product == 12 || product == 12 + 13); // 1000 = 76 * 13 + 12
+    /// ```
+    ///
     /// # Preconditions
     ///
     /// The factor is a residue modulo m. This isn't tested: outside it the call panics, or returns no
@@ -144,6 +209,15 @@ impl<T: PlainWord> PlannedModulus<T> {
 
     /// The residue of the product of any word x with a factor, below m.
     ///
+    /// # Examples
+    ///
+    /// ```
+    /// use num_modular::plans::PlannedModulus;
+    ///
+    /// let modulus = PlannedModulus::<u8>::new(13);
+    /// assert_eq!(modulus.product(200, &modulus.factor(5)), 12);
+    /// ```
+    ///
     /// # Preconditions
     ///
     /// The factor is a residue modulo m. This isn't tested: outside it the call panics, or returns no
@@ -154,6 +228,15 @@ impl<T: PlainWord> PlannedModulus<T> {
     }
 
     /// The residue of the product of a word x with any word y, below m, computed by the reciprocal.
+    ///
+    /// # Examples
+    ///
+    /// ```
+    /// use num_modular::plans::PlannedModulus;
+    ///
+    /// let modulus = PlannedModulus::<u8>::new(13);
+    /// assert_eq!(modulus.multiply(5, 200), 12); // 1000 = 76 * 13 + 12
+    /// ```
     ///
     /// # Preconditions
     ///
@@ -170,6 +253,15 @@ impl<T: PlainWord> PlannedModulus<T> {
     ///
     /// It divides once, by the reciprocal, modulo 2m: the high word of the sum may be at least m, but it is below 2m.
     ///
+    /// # Examples
+    ///
+    /// ```
+    /// use num_modular::plans::PlannedModulus;
+    ///
+    /// let modulus = PlannedModulus::<u8>::new(13);
+    /// assert_eq!(modulus.product_sum(5, 200, 7, 100), 10); // 5 * 200 + 7 * 100 = 130 * 13 + 10
+    /// ```
+    ///
     /// # Preconditions
     ///
     /// x + u is below 2m. This isn't tested: outside it the call panics, or returns no meaningful result.
@@ -182,12 +274,30 @@ impl<T: PlainWord> PlannedModulus<T> {
     }
 
     /// The word 2m.
+    ///
+    /// # Examples
+    ///
+    /// ```
+    /// use num_modular::plans::PlannedModulus;
+    ///
+    /// assert_eq!(PlannedModulus::<u8>::new(13).twice(), 26);
+    /// ```
     #[inline]
     pub fn twice(&self) -> T {
         self.modulus.plus(self.modulus)
     }
 
     /// Whether a word is below 4m.
+    ///
+    /// # Examples
+    ///
+    /// ```
+    /// use num_modular::plans::PlannedModulus;
+    ///
+    /// let modulus = PlannedModulus::<u8>::new(13);
+    /// assert!(modulus.has_room(51));
+    /// assert!(!modulus.has_room(52)); // 4 * 13
+    /// ```
     #[inline]
     pub fn has_room(&self, x: T) -> bool {
         x.half().is_below(self.twice())
@@ -195,10 +305,18 @@ impl<T: PlainWord> PlannedModulus<T> {
 
     /// The residue of a word, below m.
     ///
+    /// # Examples
+    ///
+    /// ```
+    /// use num_modular::plans::PlannedModulus;
+    ///
+    /// assert_eq!(PlannedModulus::<u8>::new(13).residue(51), 12);
+    /// ```
+    ///
     /// # Preconditions
     ///
-    /// It is below 4m (`has_room` tells). This isn't tested: outside it the call panics, or returns no
-    /// meaningful result.
+    /// The word is below 4m (`has_room` tells). This isn't tested: outside it the call panics, or returns
+    /// no meaningful result.
     #[inline]
     pub fn residue(&self, x: T) -> T {
         reduced_once(reduced_once(x, self.twice()), self.modulus)

@@ -1,12 +1,10 @@
 //! The reducer whose forms are the values shifted to the top of the word.
 
-use crate::modular_barrett::normalized::{Normalized2by1Divisor, StoredDivisor};
+use crate::modular_barrett::normalized::Normalized2by1Divisor;
 use crate::modular_prim::below::{add_below, dbl_below, neg_below, sub_below};
 use crate::modular_prim::inverse::fast_inverse;
 use crate::modular_prim::plain_word::PlainWord;
 use crate::modular_reduced::reducer::Reducer;
-use crate::modular_word::path_word::PathWord;
-use crate::modular_word::ring_word::RingWord;
 
 /// The reducer of a modulus m that is at least 1, by division of a double word. With s the leading zeros of m, the
 /// form of a value v is v·2^s, and the divisor is m·2^s, whose top bit is set.
@@ -44,6 +42,18 @@ impl<T: PlainWord> Copy for PreMulInv2by1<T> {}
 impl<T: PlainWord> PreMulInv2by1<T> {
     /// The reducer of a modulus.
     ///
+    /// # Examples
+    ///
+    /// ```
+    /// use num_modular::{PlainWord, PreMulInv2by1, Reducer};
+    ///
+    /// fn square<T: PlainWord>(x: T, m: T) -> T {
+    ///     let ring = PreMulInv2by1::of(m);
+    ///     ring.residue(ring.sqr(ring.transform(x)))
+    /// }
+    /// assert_eq!(square(16u8, 251), 5); // 256 - 251
+    /// ```
+    ///
     /// # Panics
     ///
     /// Panics unless the modulus is at least 1.
@@ -59,18 +69,43 @@ impl<T: PlainWord> PreMulInv2by1<T> {
     }
 
     /// The divider by the shifted modulus.
+    ///
+    /// # Examples
+    ///
+    /// ```
+    /// use num_modular::PreMulInv2by1;
+    ///
+    /// let ring = PreMulInv2by1::<u8>::new(10);
+    /// assert_eq!(ring.divider().divisor(), 160); // 10 * 2^4
+    /// ```
     #[inline]
     pub const fn divider(&self) -> &Normalized2by1Divisor<T> {
         &self.divider
     }
 
     /// The number of leading zeros of the modulus.
+    ///
+    /// # Examples
+    ///
+    /// ```
+    /// use num_modular::PreMulInv2by1;
+    ///
+    /// assert_eq!(PreMulInv2by1::<u8>::new(10).shift(), 4); // 00001010
+    /// ```
     #[inline]
     pub const fn shift(&self) -> u32 {
         self.shift
     }
 
     /// The shifted modulus, whose top bit is set.
+    ///
+    /// # Examples
+    ///
+    /// ```
+    /// use num_modular::PreMulInv2by1;
+    ///
+    /// assert_eq!(PreMulInv2by1::<u8>::new(10).divisor(), 160); // 10 * 2^4
+    /// ```
     #[inline]
     pub const fn divisor(&self) -> T {
         self.divider.divisor()

@@ -3,7 +3,6 @@
 use crate::modular_barrett::planned::{Factor, PlannedModulus};
 use crate::modular_prim::plain_word::PlainWord;
 use crate::modular_word::path_word::PathWord;
-use crate::modular_word::ring_word::RingWord;
 
 /// The modulus m of a plan that is at most a sixteenth of the base, so that words below 16m hold sums that aren't
 /// reduced.

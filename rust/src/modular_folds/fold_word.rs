@@ -9,7 +9,8 @@ pub trait FoldWord: Sized + RingWord {
     ///
     /// # Preconditions
     ///
-    /// It fits the word. This isn't tested: outside it the call panics, or returns no meaningful result.
+    /// The sum fits the word. This isn't tested: outside it the call panics, or returns no meaningful
+    /// result.
     #[must_use]
     fn plus(self, rhs: Self) -> Self;
 
@@ -17,7 +18,8 @@ pub trait FoldWord: Sized + RingWord {
     ///
     /// # Preconditions
     ///
-    /// It is not below 0. This isn't tested: outside it the call panics, or returns no meaningful result.
+    /// The difference is not below 0. This isn't tested: outside it the call panics, or returns no
+    /// meaningful result.
     #[must_use]
     fn minus(self, rhs: Self) -> Self;
 
@@ -25,7 +27,8 @@ pub trait FoldWord: Sized + RingWord {
     ///
     /// # Preconditions
     ///
-    /// It fits the word. This isn't tested: outside it the call panics, or returns no meaningful result.
+    /// The product fits the word. This isn't tested: outside it the call panics, or returns no meaningful
+    /// result.
     #[must_use]
     fn times(self, rhs: Self) -> Self;
 
@@ -36,7 +39,8 @@ pub trait FoldWord: Sized + RingWord {
     ///
     /// # Preconditions
     ///
-    /// It fits the word. This isn't tested: outside it the call panics, or returns no meaningful result.
+    /// The result fits the word. This isn't tested: outside it the call panics, or returns no meaningful
+    /// result.
     #[must_use]
     fn multiply_add(self, factor: Self, addend: Self) -> Self;
 

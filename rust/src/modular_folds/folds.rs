@@ -3,7 +3,6 @@
 use crate::modular_folds::fold_word::FoldWord;
 use crate::modular_prim::below::reduced_once;
 use crate::modular_word::path_word::PathWord;
-use crate::modular_word::ring_word::RingWord;
 
 // One fold at the bit p: the part above it times c, plus the part below it; and 1, or 0 where the part above is 0.
 // The mask has the bits below p set.
@@ -28,6 +27,7 @@ fn fold<V: FoldWord>(v: V, p: u32, mask: V, c: V) -> (V, u32) {
 /// returns no meaningful result.
 #[inline]
 pub fn fold_two<V: FoldWord>(v: V, p: u32, mask: V, c: V, m: V) -> (V, u32) {
+    let _ = m;
     let (first, one) = fold(v, p, mask, c);
     let (second, two) = fold(first, p, mask, c);
     (second, one + two)
@@ -42,6 +42,7 @@ pub fn fold_two<V: FoldWord>(v: V, p: u32, mask: V, c: V, m: V) -> (V, u32) {
 /// at most 2^p, and v is at most a product of two numbers below 2^p. This isn't tested: outside it the
 /// call panics, or returns no meaningful result.
 pub fn fold_three<V: FoldWord>(v: V, p: u32, mask: V, c: V, m: V) -> (V, u32) {
+    let _ = m;
     let (first, one) = fold(v, p, mask, c);
     let (second, two) = fold(first, p, mask, c);
     let (third, three) = fold(second, p, mask, c);
@@ -51,6 +52,7 @@ pub fn fold_three<V: FoldWord>(v: V, p: u32, mask: V, c: V, m: V) -> (V, u32) {
 // Folds until the number is below 2^p, with a comparison before each.
 #[inline]
 fn fold_on<V: FoldWord>(v: V, p: u32, mask: V, c: V, m: V) -> (V, u32) {
+    let _ = m;
     let mut rest = v;
     let mut count = 0;
     while mask.is_below(rest) {
@@ -138,7 +140,7 @@ pub trait FoldedWord: Sized + PathWord {
     ///
     /// # Preconditions
     ///
-    /// They reduce modulo m. This isn't tested: outside it the call panics, or returns no meaningful
+    /// Such folds reduce modulo m. This isn't tested: outside it the call panics, or returns no meaningful
     /// result.
     fn fold_double(v: Self::Double, p: u32, c: Self, m: Self) -> (Self, u32);
 
@@ -147,7 +149,7 @@ pub trait FoldedWord: Sized + PathWord {
     ///
     /// # Preconditions
     ///
-    /// They reduce modulo m, and c is at most a fourth of 2^p. This isn't tested: outside it the call
+    /// Such folds reduce modulo m, and c is at most a fourth of 2^p. This isn't tested: outside it the call
     /// panics, or returns no meaningful result.
     #[must_use]
     fn reduce_in_line(v: Self::Double, p: u32, c: Self, m: Self) -> Self;
@@ -239,9 +241,3 @@ pub fn reduce_by_folds<T: FoldedWord>(v: T::Double, p: u32, c: T, m: T) -> (T, u
     let (rest, count) = T::fold_double(v, p, c, m);
     (sum_once(rest, T::zero(), m), count)
 }
-
-/// A number below 2^p takes no folds. Where c is below 2^p and v = hi·2^p + lo isn't, v takes one fold more than
-/// hi·c + lo. Where c is less than half of 2^p, the number of folds is bounded by `IsFewFolds`.
-#[doc(hidden)]
-#[inline]
-pub fn fold_laws() {}

@@ -6,11 +6,21 @@ use crate::modular_folds::rings::{FoldModulus, FoldRing};
 use crate::modular_reduced::reducer::Reducer;
 
 /// The modulus 2^P - K of at most 32 bits.
+///
+/// # Examples
+///
+/// ```
+/// use num_modular::rings::{FoldRing, Mersenne32};
+/// use num_modular::Reducer;
+///
+/// const RING: FoldRing<u32, Mersenne32<8, 5>> = FoldRing::<u32, Mersenne32<8, 5>>::RING;
+/// assert_eq!(RING.modulus(), 251); // 2^8 - 5
+/// ```
 #[derive(Debug, Clone, Copy)]
 #[must_use]
 pub struct Mersenne32<const P: u8, const K: u32> {
     // Private, so that a value exists only for parameters in range; the modulus comes from the parameters.
-    pub(crate) made: (),
+    pub(crate) _made: (),
 }
 
 /// The reducer of the modulus 2^P - K of at most 32 bits: the form of a value is the value itself.
@@ -19,10 +29,27 @@ pub struct Mersenne32<const P: u8, const K: u32> {
 /// words and products are reduced by folds.
 ///
 /// Source: Handbook of Applied Cryptography, algorithm 14.47.
+///
+/// # Examples
+///
+/// ```
+/// use num_modular::{FixedMersenne32, Reducer};
+///
+/// const RING: FixedMersenne32<31, 1> = FixedMersenne32::RING;
+/// assert_eq!(RING.mul(&(1 << 30), &6), 3); // 6 * 2^30 = 3 * 2^31
+/// ```
 pub type FixedMersenne32<const P: u8, const K: u32> = FoldRing<u32, Mersenne32<P, K>>;
 
 impl<const P: u8, const K: u32> FoldRing<u32, Mersenne32<P, K>> {
     /// The modulus.
+    ///
+    /// # Examples
+    ///
+    /// ```
+    /// use num_modular::FixedMersenne32;
+    ///
+    /// assert_eq!(FixedMersenne32::<8, 5>::fixed_modulus(), 251); // 2^8 - 5
+    /// ```
     ///
     /// # Panics
     ///
@@ -36,6 +63,15 @@ impl<const P: u8, const K: u32> FoldRing<u32, Mersenne32<P, K>> {
 
     /// The residue of a word.
     ///
+    /// # Examples
+    ///
+    /// ```
+    /// use num_modular::FixedMersenne32;
+    ///
+    /// assert_eq!(FixedMersenne32::<31, 1>::reduce_single(1 << 31), 1);
+    /// assert_eq!(FixedMersenne32::<8, 5>::reduce_single(1000), 247); // 1000 - 3 * 251
+    /// ```
+    ///
     /// # Panics
     ///
     /// Panics unless the parameters are in range.
@@ -47,6 +83,14 @@ impl<const P: u8, const K: u32> FoldRing<u32, Mersenne32<P, K>> {
 
     /// The residue of a double word.
     ///
+    /// # Examples
+    ///
+    /// ```
+    /// use num_modular::FixedMersenne32;
+    ///
+    /// assert_eq!(FixedMersenne32::<31, 1>::reduce_double(1 << 40), 1 << 9);
+    /// ```
+    ///
     /// # Panics
     ///
     /// Panics unless the parameters are in range.
@@ -57,6 +101,16 @@ impl<const P: u8, const K: u32> FoldRing<u32, Mersenne32<P, K>> {
     }
 
     /// The residue of a double word, and the number of folds that make it less than 2^P.
+    ///
+    /// # Examples
+    ///
+    /// ```
+    /// use num_modular::FixedMersenne32;
+    ///
+    /// // 1000 = 3 * 256 + 232, which folds to 3 * 5 + 232
+    /// assert_eq!(FixedMersenne32::<8, 5>::reduce_counted(1000), (247, 1));
+    /// assert_eq!(FixedMersenne32::<8, 5>::reduce_counted(251), (0, 0));
+    /// ```
     ///
     /// # Panics
     ///
@@ -74,7 +128,7 @@ impl<const P: u8, const K: u32> FoldModulus<u32> for Mersenne32<P, K> {
     #[track_caller]
     fn keep(m: u32) -> Self {
         assert!(m == FixedMersenne32::<P, K>::fixed_modulus(), "the modulus must be that of the parameters");
-        Mersenne32 { made: () }
+        Mersenne32 { _made: () }
     }
 
     #[inline]
@@ -94,11 +148,21 @@ impl<const P: u8, const K: u32> FoldModulus<u32> for Mersenne32<P, K> {
 }
 
 /// The modulus 2^P - K of at most 64 bits.
+///
+/// # Examples
+///
+/// ```
+/// use num_modular::rings::{FoldRing, Mersenne64};
+/// use num_modular::Reducer;
+///
+/// const RING: FoldRing<u64, Mersenne64<61, 1>> = FoldRing::<u64, Mersenne64<61, 1>>::RING;
+/// assert_eq!(RING.modulus(), (1 << 61) - 1);
+/// ```
 #[derive(Debug, Clone, Copy)]
 #[must_use]
 pub struct Mersenne64<const P: u8, const K: u64> {
     // Private, so that a value exists only for parameters in range; the modulus comes from the parameters.
-    pub(crate) made: (),
+    pub(crate) _made: (),
 }
 
 /// The reducer of the modulus 2^P - K of at most 64 bits: the form of a value is the value itself.
@@ -122,6 +186,14 @@ pub type FixedMersenne64<const P: u8, const K: u64> = FoldRing<u64, Mersenne64<P
 impl<const P: u8, const K: u64> FoldRing<u64, Mersenne64<P, K>> {
     /// The modulus.
     ///
+    /// # Examples
+    ///
+    /// ```
+    /// use num_modular::FixedMersenne64;
+    ///
+    /// assert_eq!(FixedMersenne64::<61, 1>::fixed_modulus(), (1 << 61) - 1);
+    /// ```
+    ///
     /// # Panics
     ///
     /// Panics unless the parameters are in range.
@@ -134,6 +206,14 @@ impl<const P: u8, const K: u64> FoldRing<u64, Mersenne64<P, K>> {
 
     /// The residue of a word.
     ///
+    /// # Examples
+    ///
+    /// ```
+    /// use num_modular::FixedMersenne64;
+    ///
+    /// assert_eq!(FixedMersenne64::<61, 1>::reduce_single(1 << 63), 1 << 2);
+    /// ```
+    ///
     /// # Panics
     ///
     /// Panics unless the parameters are in range.
@@ -145,6 +225,14 @@ impl<const P: u8, const K: u64> FoldRing<u64, Mersenne64<P, K>> {
 
     /// The residue of a double word.
     ///
+    /// # Examples
+    ///
+    /// ```
+    /// use num_modular::FixedMersenne64;
+    ///
+    /// assert_eq!(FixedMersenne64::<61, 1>::reduce_double(1 << 100), 1 << 39);
+    /// ```
+    ///
     /// # Panics
     ///
     /// Panics unless the parameters are in range.
@@ -155,6 +243,14 @@ impl<const P: u8, const K: u64> FoldRing<u64, Mersenne64<P, K>> {
     }
 
     /// The residue of a double word, and the number of folds that make it less than 2^P.
+    ///
+    /// # Examples
+    ///
+    /// ```
+    /// use num_modular::FixedMersenne64;
+    ///
+    /// assert_eq!(FixedMersenne64::<61, 1>::reduce_counted(1 << 100), (1 << 39, 1));
+    /// ```
     ///
     /// # Panics
     ///
@@ -172,7 +268,7 @@ impl<const P: u8, const K: u64> FoldModulus<u64> for Mersenne64<P, K> {
     #[track_caller]
     fn keep(m: u64) -> Self {
         assert!(m == FixedMersenne64::<P, K>::fixed_modulus(), "the modulus must be that of the parameters");
-        Mersenne64 { made: () }
+        Mersenne64 { _made: () }
     }
 
     #[inline]
@@ -196,6 +292,15 @@ impl<const P: u8, const K: u64> FoldModulus<u64> for Mersenne64<P, K> {
 ///
 /// The parameters are in range where P is at most 64 and K is odd and less than half of 2^P. Forms are below 2^64,
 /// so a product of two of them fits a word. `FixedMersenne64` computes sums, differences and inverses.
+///
+/// # Examples
+///
+/// ```
+/// use num_modular::{FixedMersenne, Reducer};
+///
+/// const RING: FixedMersenne<61, 1> = FixedMersenne::RING;
+/// assert_eq!(RING.mul(&(1 << 60), &6), 3); // 6 * 2^60 = 3 * 2^61
+/// ```
 #[derive(Debug, Clone, Copy)]
 #[must_use]
 pub struct FixedMersenne<const P: u8, const K: u64> {
@@ -204,6 +309,14 @@ pub struct FixedMersenne<const P: u8, const K: u64> {
 
 impl<const P: u8, const K: u64> FixedMersenne<P, K> {
     /// The modulus.
+    ///
+    /// # Examples
+    ///
+    /// ```
+    /// use num_modular::FixedMersenne;
+    ///
+    /// assert_eq!(FixedMersenne::<61, 1>::fixed_modulus(), (1 << 61) - 1);
+    /// ```
     ///
     /// # Panics
     ///
@@ -216,6 +329,14 @@ impl<const P: u8, const K: u64> FixedMersenne<P, K> {
 
     /// The residue of a word.
     ///
+    /// # Examples
+    ///
+    /// ```
+    /// use num_modular::FixedMersenne;
+    ///
+    /// assert_eq!(FixedMersenne::<61, 1>::reduce_single(1 << 100), 1 << 39);
+    /// ```
+    ///
     /// # Panics
     ///
     /// Panics unless the parameters are in range.
@@ -226,6 +347,14 @@ impl<const P: u8, const K: u64> FixedMersenne<P, K> {
     }
 
     /// The residue of a word, and the number of folds that make it less than 2^P.
+    ///
+    /// # Examples
+    ///
+    /// ```
+    /// use num_modular::FixedMersenne;
+    ///
+    /// assert_eq!(FixedMersenne::<61, 1>::reduce_counted(1 << 100), (1 << 39, 1));
+    /// ```
     ///
     /// # Panics
     ///
@@ -313,10 +442,7 @@ impl<const P: u8, const K: u64> Reducer<u128> for FixedMersenne<P, K> {
 
     #[inline]
     fn inv(&self, f: u128) -> Option<u128> {
-        match self.ring.inv(Self::narrow(f)) {
-            Some(x) => Some(x as u128),
-            None => None,
-        }
+        self.ring.inv(Self::narrow(f)).map(|x| x as u128)
     }
 
     #[inline]

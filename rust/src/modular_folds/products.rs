@@ -4,7 +4,6 @@
 use crate::modular_folds::folds::{FoldedWord, reduce_by_folds};
 use crate::modular_prim::below::reduced_once;
 use crate::modular_word::path_word::PathWord;
-use crate::modular_word::ring_word::RingWord;
 
 // The parts of high·c + low below and above the bit p. The lower part, as an argument and as a result, is shifted
 // to the top of its word, so that the two parts are the words of a double word. Condition: c is below 2^p.

@@ -4,14 +4,33 @@ use crate::modular_folds::folds::FoldedWord;
 use crate::modular_prim::below::{add_below, dbl_below, neg_below, sub_below};
 use crate::modular_prim::reducer_word::ReducerWord;
 use crate::modular_reduced::reducer::Reducer;
-use crate::modular_word::path_word::PathWord;
-use crate::modular_word::ring_word::RingWord;
 use core::marker::PhantomData;
 
 /// A modulus near a power of two that the parameters of the type give: its value, and how words and products are
 /// reduced by it. A value of the type exists only for parameters in range.
+///
+/// # Examples
+///
+/// ```
+/// use num_modular::rings::{FoldModulus, FoldRing};
+/// use num_modular::{FixedMersenne64, FixedTrinomialSolinas64, Reducer};
+///
+/// fn inverse_of_two<M: FoldModulus<u64>>(ring: &FoldRing<u64, M>) -> Option<u64> {
+///     ring.inv(2)
+/// }
+/// assert_eq!(inverse_of_two(&FixedMersenne64::<61, 1>::RING), Some(1 << 60));
+/// assert_eq!(inverse_of_two(&FixedTrinomialSolinas64::<5, 4, -3>::RING), Some(7)); // modulo 13
+/// ```
 pub trait FoldModulus<T: FoldedWord>: Copy {
     /// The modulus of the parameters.
+    ///
+    /// # Examples
+    ///
+    /// ```
+    /// use num_modular::rings::{FoldModulus, Mersenne32};
+    ///
+    /// assert_eq!(Mersenne32::<31, 1>::keep(2147483647).modulus(), 2147483647);
+    /// ```
     ///
     /// # Panics
     ///
@@ -21,12 +40,36 @@ pub trait FoldModulus<T: FoldedWord>: Copy {
     fn keep(m: T) -> Self;
 
     /// The modulus.
+    ///
+    /// # Examples
+    ///
+    /// ```
+    /// use num_modular::rings::{FoldModulus, Mersenne32};
+    ///
+    /// assert_eq!(Mersenne32::<8, 5>::keep(251).modulus(), 251); // 2^8 - 5
+    /// ```
     fn modulus(&self) -> T;
 
     /// The residue of a word, below the modulus.
+    ///
+    /// # Examples
+    ///
+    /// ```
+    /// use num_modular::rings::{FoldModulus, Mersenne32};
+    ///
+    /// assert_eq!(Mersenne32::<8, 5>::keep(251).reduced(1000), 247); // 1000 - 3 * 251
+    /// ```
     fn reduced(&self, n: T) -> T;
 
     /// The residue of a product, below the modulus.
+    ///
+    /// # Examples
+    ///
+    /// ```
+    /// use num_modular::rings::{FoldModulus, Mersenne32};
+    ///
+    /// assert_eq!(Mersenne32::<8, 5>::keep(251).product(16, 16), 5); // 256 - 251
+    /// ```
     ///
     /// # Preconditions
     ///
@@ -37,6 +80,19 @@ pub trait FoldModulus<T: FoldedWord>: Copy {
 
 /// The reducer of a modulus near a power of two, over words T: the form of a value is the value itself. It stores
 /// nothing, and `new` accepts only the modulus of the parameters.
+///
+/// # Examples
+///
+/// ```
+/// use num_modular::rings::{FoldModulus, FoldRing};
+/// use num_modular::{FixedMersenne32, FixedTrinomialSolinas32, Reducer};
+///
+/// fn cube<M: FoldModulus<u32>>(ring: &FoldRing<u32, M>, n: u32) -> u32 {
+///     ring.residue(ring.pow(ring.transform(n), &3))
+/// }
+/// assert_eq!(cube(&FixedMersenne32::<8, 5>::RING, 10), 247); // 1000 modulo 251
+/// assert_eq!(cube(&FixedTrinomialSolinas32::<5, 4, -3>::RING, 10), 12); // 1000 modulo 13
+/// ```
 #[derive(Debug, Clone, Copy)]
 #[must_use]
 pub struct FoldRing<T, M> {

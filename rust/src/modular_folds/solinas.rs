@@ -4,24 +4,64 @@ use crate::modular_folds::folds::{FoldedWord, reduce_by_folds};
 use crate::modular_folds::products::{reduce_product, reduce_word};
 use crate::modular_folds::rings::{FoldModulus, FoldRing};
 use crate::modular_prim::plain_word::PlainWord;
-use crate::modular_word::path_word::PathWord;
-use crate::modular_word::ring_word::RingWord;
 use core::marker::PhantomData;
 
-/// The trinomial 2^p1 - 2^p2 + k as a type, because an invariant of a type can't mention a signed constant
-/// parameter. The three numbers are constants in the code.
+/// The trinomial 2^p1 - 2^p2 + k, as a type.
+///
+/// # Examples
+///
+/// ```
+/// use num_modular::rings::{Trinomial, Trinomial32};
+///
+/// fn value<F: Trinomial>() -> i128 {
+///     (1 << F::p1()) - (1 << F::p2()) + i128::from(F::k())
+/// }
+/// assert_eq!(value::<Trinomial32<16, 8, 1>>(), 65281); // 65536 - 256 + 1
+/// ```
 pub trait Trinomial: Sized {
     /// The greater exponent.
+    ///
+    /// # Examples
+    ///
+    /// ```
+    /// use num_modular::rings::{Trinomial, Trinomial32};
+    ///
+    /// assert_eq!(Trinomial32::<16, 8, 1>::p1(), 16);
+    /// ```
     fn p1() -> u8;
 
     /// The lower exponent.
+    ///
+    /// # Examples
+    ///
+    /// ```
+    /// use num_modular::rings::{Trinomial, Trinomial32};
+    ///
+    /// assert_eq!(Trinomial32::<16, 8, 1>::p2(), 8);
+    /// ```
     fn p2() -> u8;
 
     /// The last term.
+    ///
+    /// # Examples
+    ///
+    /// ```
+    /// use num_modular::rings::{Trinomial, Trinomial32};
+    ///
+    /// assert_eq!(Trinomial32::<5, 4, -3>::k(), -3);
+    /// ```
     fn k() -> i64;
 }
 
 /// The trinomial 2^P1 - 2^P2 + K, for words of 32 bits.
+///
+/// # Examples
+///
+/// ```
+/// use num_modular::rings::{Trinomial32, TrinomialSolinas};
+///
+/// assert_eq!(TrinomialSolinas::<u32, Trinomial32<16, 8, 1>>::MODULUS, 65281); // 65536 - 256 + 1
+/// ```
 #[derive(Debug, Clone, Copy)]
 #[must_use]
 pub struct Trinomial32<const P1: u8, const P2: u8, const K: i32> {}
@@ -44,6 +84,14 @@ impl<const P1: u8, const P2: u8, const K: i32> Trinomial for Trinomial32<P1, P2,
 }
 
 /// The trinomial 2^P1 - 2^P2 + K, for words of 64 bits.
+///
+/// # Examples
+///
+/// ```
+/// use num_modular::rings::{Trinomial64, TrinomialSolinas};
+///
+/// assert_eq!(TrinomialSolinas::<u64, Trinomial64<64, 32, 1>>::MODULUS, 0xffff_ffff_0000_0001);
+/// ```
 #[derive(Debug, Clone, Copy)]
 #[must_use]
 pub struct Trinomial64<const P1: u8, const P2: u8, const K: i64> {}
@@ -68,6 +116,7 @@ impl<const P1: u8, const P2: u8, const K: i64> Trinomial for Trinomial64<P1, P2,
 // The factor of a fold at the bit p1: 2^p2 - k.
 #[inline]
 fn factor_of(p1: u8, p2: u8, k: i64) -> u64 {
+    let _ = p1;
     ((1u64 << p2) as i128 - k as i128) as u64
 }
 
@@ -89,7 +138,7 @@ pub trait TrinomialWord: Sized + FoldedWord + PlainWord {
     ///
     /// # Preconditions
     ///
-    /// It fits. This isn't tested: outside it the call panics, or returns no meaningful result.
+    /// The number fits. This isn't tested: outside it the call panics, or returns no meaningful result.
     #[must_use]
     fn word_of(n: u64) -> Self;
 }
@@ -109,6 +158,15 @@ impl TrinomialWord for u64 {
 }
 
 /// The modulus 2^p1 - 2^p2 + k of the trinomial F, over words T.
+///
+/// # Examples
+///
+/// ```
+/// use num_modular::rings::{FoldModulus, Trinomial32, TrinomialModulus};
+///
+/// let kept = TrinomialModulus::<u32, Trinomial32<16, 8, 1>>::keep(65281);
+/// assert_eq!(kept.reduced(65536), 255); // 2^8 - 1
+/// ```
 #[derive(Debug)]
 #[must_use]
 pub struct TrinomialModulus<T, F> {
@@ -124,15 +182,43 @@ pub struct TrinomialModulus<T, F> {
 /// then less than half of 2^p1, and the remainder is a division's. `inv` divides by Euclid's algorithm.
 ///
 /// Source: Solinas, "Generalized Mersenne numbers" (1999).
+///
+/// # Examples
+///
+/// ```
+/// use num_modular::rings::{Trinomial64, TrinomialSolinas};
+///
+/// type Goldilocks = TrinomialSolinas<u64, Trinomial64<64, 32, 1>>;
+/// assert_eq!(Goldilocks::MODULUS, 0xffff_ffff_0000_0001);
+/// ```
 pub type TrinomialSolinas<T, F> = FoldRing<T, TrinomialModulus<T, F>>;
 
 /// The reducer of the modulus 2^P1 - 2^P2 + K of at most 32 bits.
+///
+/// # Examples
+///
+/// ```
+/// use num_modular::{FixedTrinomialSolinas32, Reducer};
+///
+/// // 2^16 - 2^8 + 1 = 65281, and 300 * 300 = 65281 + 24719
+/// const RING: FixedTrinomialSolinas32<16, 8, 1> = FixedTrinomialSolinas32::<16, 8, 1>::RING;
+/// assert_eq!(RING.sqr(300), 24719);
+/// ```
 pub type FixedTrinomialSolinas32<const P1: u8, const P2: u8, const K: i32> = TrinomialSolinas<
     u32,
     Trinomial32<P1, P2, K>,
 >;
 
 /// The reducer of the modulus 2^P1 - 2^P2 + K of at most 64 bits.
+///
+/// # Examples
+///
+/// ```
+/// use num_modular::{FixedTrinomialSolinas64, Reducer};
+///
+/// type Goldilocks = FixedTrinomialSolinas64<64, 32, 1>;
+/// assert_eq!(Goldilocks::RING.mul(&(1 << 32), &(1 << 32)), (1 << 32) - 1);
+/// ```
 pub type FixedTrinomialSolinas64<const P1: u8, const P2: u8, const K: i64> = TrinomialSolinas<
     u64,
     Trinomial64<P1, P2, K>,
@@ -156,6 +242,15 @@ impl<T: TrinomialWord, F: Trinomial> FoldRing<T, TrinomialModulus<T, F>> {
 
     /// The modulus.
     ///
+    /// # Examples
+    ///
+    /// ```
+    /// use num_modular::{FixedTrinomialSolinas32, FixedTrinomialSolinas64};
+    ///
+    /// assert_eq!(FixedTrinomialSolinas32::<5, 4, -3>::fixed_modulus(), 13); // 32 - 16 - 3
+    /// assert_eq!(FixedTrinomialSolinas64::<64, 32, 1>::fixed_modulus(), 0xffff_ffff_0000_0001);
+    /// ```
+    ///
     /// # Panics
     ///
     /// Panics unless the parameters are in range.
@@ -168,6 +263,14 @@ impl<T: TrinomialWord, F: Trinomial> FoldRing<T, TrinomialModulus<T, F>> {
 
     /// The residue of a word.
     ///
+    /// # Examples
+    ///
+    /// ```
+    /// use num_modular::FixedTrinomialSolinas32;
+    ///
+    /// assert_eq!(FixedTrinomialSolinas32::<16, 8, 1>::reduce_single(1 << 16), 255); // 2^8 - 1
+    /// ```
+    ///
     /// # Panics
     ///
     /// Panics unless the parameters are in range.
@@ -178,6 +281,15 @@ impl<T: TrinomialWord, F: Trinomial> FoldRing<T, TrinomialModulus<T, F>> {
     }
 
     /// The residue of a double word.
+    ///
+    /// # Examples
+    ///
+    /// ```
+    /// use num_modular::FixedTrinomialSolinas64;
+    ///
+    /// type Goldilocks = FixedTrinomialSolinas64<64, 32, 1>;
+    /// assert_eq!(Goldilocks::reduce_double(1 << 64), (1 << 32) - 1);
+    /// ```
     ///
     /// # Panics
     ///
@@ -196,6 +308,15 @@ impl<T: TrinomialWord, F: Trinomial> FoldRing<T, TrinomialModulus<T, F>> {
 
     /// The residue of a double word, and the number of folds that make it less than 2^p1; 0 where the remainder is
     /// a division's.
+    ///
+    /// # Examples
+    ///
+    /// ```
+    /// use num_modular::FixedTrinomialSolinas64;
+    ///
+    /// type Goldilocks = FixedTrinomialSolinas64<64, 32, 1>;
+    /// assert_eq!(Goldilocks::reduce_counted(1 << 64), ((1 << 32) - 1, 1));
+    /// ```
     ///
     /// # Panics
     ///

@@ -2,7 +2,6 @@
 
 use crate::modular_monty::computed::computed_once;
 use crate::modular_monty::odd_ring::{OddModulus, OddRing};
-use crate::modular_reduced::reducer::Reducer;
 use crate::modular_word::paths::redc;
 
 // What is precomputed of P. It is a type because proofs use what the type of a constant guarantees, not its value.
@@ -17,7 +16,7 @@ struct Computed32<const P: u32> {
 #[must_use]
 pub struct OddNumber32<const P: u32> {
     // Private, so that a value exists only for an odd P; the numbers come from the parameter.
-    pub(crate) made: (),
+    pub(crate) _made: (),
 }
 
 impl<const P: u32> OddNumber32<P> {
@@ -34,10 +33,27 @@ impl<const P: u32> OddNumber32<P> {
 /// modulo P. `new` accepts only P.
 ///
 /// Source: Handbook of Applied Cryptography, section 14.3.2.
+///
+/// # Examples
+///
+/// ```
+/// use num_modular::{FixedMontgomery32, Reducer};
+///
+/// const RING: FixedMontgomery32<97> = FixedMontgomery32::RING;
+/// assert_eq!(RING.residue(RING.sqr(RING.transform(10))), 3); // 100 - 97
+/// ```
 pub type FixedMontgomery32<const P: u32> = OddRing<u32, OddNumber32<P>>;
 
 impl<const P: u32> OddRing<u32, OddNumber32<P>> {
     /// The modulus P.
+    ///
+    /// # Examples
+    ///
+    /// ```
+    /// use num_modular::FixedMontgomery32;
+    ///
+    /// assert_eq!(FixedMontgomery32::<97>::fixed_modulus(), 97);
+    /// ```
     ///
     /// # Panics
     ///
@@ -56,7 +72,7 @@ impl<const P: u32> OddModulus<u32> for OddNumber32<P> {
     #[track_caller]
     fn keep(m: u32) -> Self {
         assert!(m == FixedMontgomery32::<P>::fixed_modulus(), "the modulus must be that of the parameters");
-        OddNumber32 { made: () }
+        OddNumber32 { _made: () }
     }
 
     #[inline]
@@ -87,7 +103,7 @@ struct Computed64<const P: u64> {
 #[must_use]
 pub struct OddNumber64<const P: u64> {
     // Private, so that a value exists only for an odd P; the numbers come from the parameter.
-    pub(crate) made: (),
+    pub(crate) _made: (),
 }
 
 impl<const P: u64> OddNumber64<P> {
@@ -104,10 +120,28 @@ impl<const P: u64> OddNumber64<P> {
 /// modulo P. `new` accepts only P.
 ///
 /// Source: Handbook of Applied Cryptography, section 14.3.2.
+///
+/// # Examples
+///
+/// ```
+/// use num_modular::{FixedMontgomery64, Reducer};
+///
+/// const RING: FixedMontgomery64<1_000_000_007> = FixedMontgomery64::RING;
+/// let x = RING.transform(2);
+/// assert_eq!(RING.residue(RING.pow(x, &30)), 73_741_817); // 2^30 - 1000000007
+/// ```
 pub type FixedMontgomery64<const P: u64> = OddRing<u64, OddNumber64<P>>;
 
 impl<const P: u64> OddRing<u64, OddNumber64<P>> {
     /// The modulus P.
+    ///
+    /// # Examples
+    ///
+    /// ```
+    /// use num_modular::FixedMontgomery64;
+    ///
+    /// assert_eq!(FixedMontgomery64::<97>::fixed_modulus(), 97);
+    /// ```
     ///
     /// # Panics
     ///
@@ -126,7 +160,7 @@ impl<const P: u64> OddModulus<u64> for OddNumber64<P> {
     #[track_caller]
     fn keep(m: u64) -> Self {
         assert!(m == FixedMontgomery64::<P>::fixed_modulus(), "the modulus must be that of the parameters");
-        OddNumber64 { made: () }
+        OddNumber64 { _made: () }
     }
 
     #[inline]

@@ -1,10 +1,8 @@
 //! The reducer by Montgomery's representation, for every modulus.
 
-use crate::modular_monty::odd_ring::{OddModulus, OddRing, StoredModulus};
+use crate::modular_monty::odd_ring::{OddRing, StoredModulus};
 use crate::modular_prim::reducer_word::ReducerWord;
 use crate::modular_reduced::reducer::Reducer;
-use crate::modular_word::path_word::PathWord;
-use crate::modular_word::ring_word::RingWord;
 
 /// The reducer of a modulus m that is at least 1, by Montgomery's representation. With m = 2^s·k for odd k, and the
 /// base 2 to the width of the words, the form of v has two parts. Its lowest s bits are v modulo 2^s, and the bits
@@ -45,6 +43,15 @@ impl<T: ReducerWord> Copy for Montgomery<T> {}
 impl<T: ReducerWord> Montgomery<T> {
     /// The reducer of a modulus m.
     ///
+    /// # Examples
+    ///
+    /// ```
+    /// use num_modular::{Montgomery, Reducer};
+    ///
+    /// let ring = Montgomery::of(97u8);
+    /// assert_eq!(ring.residue(ring.sqr(ring.transform(10))), 3); // 100 - 97
+    /// ```
+    ///
     /// # Panics
     ///
     /// Panics unless the modulus is at least 1.
@@ -61,6 +68,15 @@ impl<T: ReducerWord> Montgomery<T> {
 
     /// What is precomputed of m: the negated inverse of its odd part modulo the base, and the square of the base
     /// modulo that part.
+    ///
+    /// # Examples
+    ///
+    /// ```
+    /// use num_modular::Montgomery;
+    ///
+    /// // 95 * 97 is -1 modulo 256, and 256^2 = 675 * 97 + 61
+    /// assert_eq!(Montgomery::<u8>::new(97).computed_once(), (95, 61));
+    /// ```
     #[inline]
     pub fn computed_once(&self) -> (T, T) {
         (self.odd.kept.negated_inverse, self.odd.kept.square)
@@ -68,6 +84,16 @@ impl<T: ReducerWord> Montgomery<T> {
 
     /// The reducer of m, given the two numbers that `computed_once` returned for m; `None` exactly where m is 0 or
     /// a number is wrong. It makes no division.
+    ///
+    /// # Examples
+    ///
+    /// ```
+    /// use num_modular::{Montgomery, Reducer};
+    ///
+    /// let ring = Montgomery::<u8>::restored(97, 95, 61).unwrap();
+    /// assert_eq!(ring.modulus(), 97);
+    /// assert!(Montgomery::<u8>::restored(97, 95, 62).is_none());
+    /// ```
     pub fn restored(m: T, negated_inverse: T, square: T) -> Option<Self> {
         if m.is_zero_word() {
             return None;
@@ -184,10 +210,7 @@ impl<T: ReducerWord> Reducer<T> for Montgomery<T> {
     // The form of the inverse of the value.
     #[inline]
     fn inv(&self, f: T) -> Option<T> {
-        match T::inverse(self.residue(f), self.modulus()) {
-            Some(x) => Some(self.transform(x)),
-            None => None,
-        }
+        T::inverse(self.residue(f), self.modulus()).map(|x| self.transform(x))
     }
 
     #[inline]
@@ -195,9 +218,3 @@ impl<T: ReducerWord> Reducer<T> for Montgomery<T> {
         self.mul(&f, &f)
     }
 }
-
-/// The two parts of a modulus are an odd number and a power of two. For an odd modulus the form of a value is the
-/// value times the base, modulo m.
-#[doc(hidden)]
-#[inline]
-pub fn form_laws<T: RingWord>() {}

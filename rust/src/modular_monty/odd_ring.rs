@@ -7,13 +7,37 @@ use crate::modular_prim::reducer_word::ReducerWord;
 use crate::modular_reduced::reducer::Reducer;
 use crate::modular_word::path_word::PathWord;
 use crate::modular_word::paths::redc;
-use crate::modular_word::ring_word::RingWord;
 use core::marker::PhantomData;
 
 /// An odd modulus, with what is precomputed of it: its negated inverse modulo the base, and the square of the base
 /// modulo m. A type that knows its modulus needn't store it, and a modulus of a special form may be multiplied faster.
+///
+/// # Examples
+///
+/// ```
+/// use num_modular::rings::{OddModulus, OddRing};
+/// use num_modular::{FixedMontgomery64, FixedProth64, Reducer};
+///
+/// fn inverse_of_two<M: OddModulus<u64>>(ring: &OddRing<u64, M>) -> Option<u64> {
+///     ring.inv(ring.transform(2)).map(|f| ring.residue(f))
+/// }
+/// assert_eq!(inverse_of_two(&FixedMontgomery64::<101>::RING), Some(51));
+/// assert_eq!(inverse_of_two(&FixedProth64::<5, 3>::RING), Some(49)); // modulo 97
+/// ```
 pub trait OddModulus<T: PathWord>: Copy {
     /// What is stored of m.
+    ///
+    /// # Examples
+    ///
+    /// ```
+    /// use num_modular::rings::{OddModulus, OddRing};
+    /// use num_modular::FixedProth32;
+    ///
+    /// fn keep<M: OddModulus<u32>>(_: OddRing<u32, M>, m: u32) -> M {
+    ///     M::keep(m)
+    /// }
+    /// assert_eq!(keep(FixedProth32::<5, 3>::RING, 97).modulus(), 97);
+    /// ```
     ///
     /// # Panics
     ///
@@ -23,12 +47,48 @@ pub trait OddModulus<T: PathWord>: Copy {
     fn keep(m: T) -> Self;
 
     /// The modulus.
+    ///
+    /// # Examples
+    ///
+    /// ```
+    /// use num_modular::rings::{OddModulus, OddRing};
+    /// use num_modular::FixedProth32;
+    ///
+    /// fn modulus_of<M: OddModulus<u32>>(_: OddRing<u32, M>, m: u32) -> u32 {
+    ///     M::keep(m).modulus()
+    /// }
+    /// assert_eq!(modulus_of(FixedProth32::<5, 3>::RING, 97), 97);
+    /// ```
     fn modulus(&self) -> T;
 
     /// The square of the base, modulo m.
+    ///
+    /// # Examples
+    ///
+    /// ```
+    /// use num_modular::rings::{OddModulus, OddRing};
+    /// use num_modular::FixedProth32;
+    ///
+    /// fn square_of<M: OddModulus<u32>>(_: OddRing<u32, M>, m: u32) -> u32 {
+    ///     M::keep(m).square_of_base()
+    /// }
+    /// assert_eq!(square_of(FixedProth32::<5, 3>::RING, 97) as u128, (1 << 64) % 97);
+    /// ```
     fn square_of_base(&self) -> T;
 
     /// Montgomery's reduction of t, below m.
+    ///
+    /// # Examples
+    ///
+    /// ```
+    /// use num_modular::rings::{OddModulus, OddRing};
+    /// use num_modular::FixedProth32;
+    ///
+    /// fn reduced<M: OddModulus<u32>>(_: OddRing<u32, M>, m: u32, t: u64) -> u32 {
+    ///     M::keep(m).reduced(t)
+    /// }
+    /// assert_eq!(reduced(FixedProth32::<5, 3>::RING, 97, 10 << 32), 10);
+    /// ```
     ///
     /// # Preconditions
     ///
@@ -71,6 +131,19 @@ fn is_square_of_base<T: PathWord>(m: T, negated_inverse: T, square: T) -> bool {
 /// A product of forms takes one product of words and one reduction, which divides by the base alone.
 ///
 /// Source: Handbook of Applied Cryptography, section 14.3.2.
+///
+/// # Examples
+///
+/// ```
+/// use num_modular::rings::{OddModulus, OddRing};
+/// use num_modular::{FixedMontgomery32, FixedProth32, Reducer};
+///
+/// fn cube<M: OddModulus<u32>>(ring: &OddRing<u32, M>, n: u32) -> u32 {
+///     ring.residue(ring.pow(ring.transform(n), &3))
+/// }
+/// assert_eq!(cube(&FixedMontgomery32::<101>::RING, 10), 91); // 1000 modulo 101
+/// assert_eq!(cube(&FixedProth32::<5, 3>::RING, 10), 30); // modulo 3 * 2^5 + 1 = 97
+/// ```
 #[derive(Debug, Clone, Copy)]
 #[must_use]
 pub struct OddRing<T, M> {
@@ -155,10 +228,7 @@ impl<T: ReducerWord, M: OddModulus<T>> Reducer<T> for OddRing<T, M> {
     // The form of the inverse of the value.
     #[inline]
     fn inv(&self, f: T) -> Option<T> {
-        match T::inverse(self.residue(f), self.kept.modulus()) {
-            Some(x) => Some(self.transform(x)),
-            None => None,
-        }
+        T::inverse(self.residue(f), self.kept.modulus()).map(|x| self.transform(x))
     }
 
     #[inline]

@@ -8,12 +8,6 @@ use crate::modular_word::paths::{exact_1, exact_2, ones};
 mod doubles;
 mod words;
 
-/// What contracts use of a precomputed inverse.
-#[doc(hidden)]
-pub trait PreparedInverse: Sized {}
-
-impl<Any> PreparedInverse for Any {}
-
 /// The inverse of an odd divisor modulo the base, and the greatest quotient of a word by it.
 ///
 /// The two numbers fit a divisor d where d * d_inv is 1 modulo the base and q_lim is the greatest word divided by
@@ -39,6 +33,16 @@ pub struct PreModInv<T> {
 
 impl<T: PathWord> PreModInv<T> {
     /// Stores the two numbers as they are given.
+    ///
+    /// # Examples
+    ///
+    /// ```
+    /// use num_modular::{DivExact, PreModInv};
+    ///
+    /// // 7 * 183 = 5 * 256 + 1, and 255 = 36 * 7 + 3
+    /// const SEVEN: PreModInv<u8> = PreModInv::new(183, 36);
+    /// assert_eq!(91u8.div_exact(7, &SEVEN), Some(13));
+    /// ```
     #[inline]
     pub const fn new(d_inv: T, q_lim: T) -> Self {
         PreModInv { d_inv, q_lim }
@@ -47,6 +51,16 @@ impl<T: PathWord> PreModInv<T> {
 
 impl<T: PlainWord> PreModInv<T> {
     /// The two numbers that fit the divisor d.
+    ///
+    /// # Examples
+    ///
+    /// ```
+    /// use num_modular::{DivExact, PreModInv};
+    ///
+    /// let seven = PreModInv::<u8>::from(7);
+    /// assert_eq!(91u8.div_exact(7, &seven), Some(13));
+    /// assert_eq!(92u8.div_exact(7, &seven), None);
+    /// ```
     ///
     /// # Panics
     ///

@@ -2,7 +2,6 @@
 
 use crate::modular_monty::computed::computed_once;
 use crate::modular_monty::odd_ring::{OddModulus, OddRing};
-use crate::modular_reduced::reducer::Reducer;
 use crate::modular_word::paths::{clearing, reduce_by};
 
 // The number k * 2^n + 1, for parameters in range.
@@ -24,7 +23,7 @@ struct Computed32<const N: u8, const K: u8> {
 #[must_use]
 pub struct ProthNumber32<const N: u8, const K: u8> {
     // Private, so that a value exists only for parameters in range; the numbers come from the parameters.
-    pub(crate) made: (),
+    pub(crate) _made: (),
 }
 
 impl<const N: u8, const K: u8> ProthNumber32<N, K> {
@@ -59,10 +58,27 @@ impl<const N: u8, const K: u8> ProthNumber32<N, K> {
 /// number, is at most 2654435769.
 ///
 /// Source: Handbook of Applied Cryptography, section 14.3.2.
+///
+/// # Examples
+///
+/// ```
+/// use num_modular::{FixedProth32, Reducer};
+///
+/// const RING: FixedProth32<27, 15> = FixedProth32::RING; // 15 * 2^27 + 1
+/// assert_eq!(RING.residue(RING.transform(u32::MAX)), 268435453);
+/// ```
 pub type FixedProth32<const N: u8, const K: u8> = OddRing<u32, ProthNumber32<N, K>>;
 
 impl<const N: u8, const K: u8> OddRing<u32, ProthNumber32<N, K>> {
     /// The modulus K * 2^N + 1.
+    ///
+    /// # Examples
+    ///
+    /// ```
+    /// use num_modular::FixedProth32;
+    ///
+    /// assert_eq!(FixedProth32::<5, 3>::fixed_modulus(), 97); // 3 * 2^5 + 1
+    /// ```
     ///
     /// # Panics
     ///
@@ -74,6 +90,14 @@ impl<const N: u8, const K: u8> OddRing<u32, ProthNumber32<N, K>> {
     }
 
     /// Montgomery's reduction of t: the u below the modulus with u * 2^32 congruent to t.
+    ///
+    /// # Examples
+    ///
+    /// ```
+    /// use num_modular::FixedProth32;
+    ///
+    /// assert_eq!(FixedProth32::<5, 3>::RING.reduce(96 << 32), 96);
+    /// ```
     ///
     /// # Preconditions
     ///
@@ -91,7 +115,7 @@ impl<const N: u8, const K: u8> OddModulus<u32> for ProthNumber32<N, K> {
     #[track_caller]
     fn keep(m: u32) -> Self {
         assert!(m == Self::value(), "the modulus must be that of the parameters");
-        ProthNumber32 { made: () }
+        ProthNumber32 { _made: () }
     }
 
     #[inline]
@@ -131,7 +155,7 @@ struct Computed64<const N: u8, const K: u8> {
 #[must_use]
 pub struct ProthNumber64<const N: u8, const K: u8> {
     // Private, so that a value exists only for parameters in range; the numbers come from the parameters.
-    pub(crate) made: (),
+    pub(crate) _made: (),
 }
 
 impl<const N: u8, const K: u8> ProthNumber64<N, K> {
@@ -166,10 +190,28 @@ impl<const N: u8, const K: u8> ProthNumber64<N, K> {
 /// number, is at most 11400714819323199485.
 ///
 /// Source: Handbook of Applied Cryptography, section 14.3.2.
+///
+/// # Examples
+///
+/// ```
+/// use num_modular::{FixedProth64, Reducer};
+///
+/// const RING: FixedProth64<57, 29> = FixedProth64::RING; // 29 * 2^57 + 1
+/// let x = RING.transform(2);
+/// assert_eq!(RING.residue(RING.pow(x, &57)), 1 << 57);
+/// ```
 pub type FixedProth64<const N: u8, const K: u8> = OddRing<u64, ProthNumber64<N, K>>;
 
 impl<const N: u8, const K: u8> OddRing<u64, ProthNumber64<N, K>> {
     /// The modulus K * 2^N + 1.
+    ///
+    /// # Examples
+    ///
+    /// ```
+    /// use num_modular::FixedProth64;
+    ///
+    /// assert_eq!(FixedProth64::<57, 29>::fixed_modulus(), (29 << 57) + 1);
+    /// ```
     ///
     /// # Panics
     ///
@@ -181,6 +223,14 @@ impl<const N: u8, const K: u8> OddRing<u64, ProthNumber64<N, K>> {
     }
 
     /// Montgomery's reduction of t: the u below the modulus with u * 2^64 congruent to t.
+    ///
+    /// # Examples
+    ///
+    /// ```
+    /// use num_modular::FixedProth64;
+    ///
+    /// assert_eq!(FixedProth64::<57, 29>::RING.reduce(1000 << 64), 1000);
+    /// ```
     ///
     /// # Preconditions
     ///
@@ -198,7 +248,7 @@ impl<const N: u8, const K: u8> OddModulus<u64> for ProthNumber64<N, K> {
     #[track_caller]
     fn keep(m: u64) -> Self {
         assert!(m == Self::value(), "the modulus must be that of the parameters");
-        ProthNumber64 { made: () }
+        ProthNumber64 { _made: () }
     }
 
     #[inline]

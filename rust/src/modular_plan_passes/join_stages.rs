@@ -1,13 +1,11 @@
 //! The passes of a join over all blocks: a stage, or two.
 
+use crate::modular_plan_passes::entry::PlanEntry;
 use crate::modular_plan_passes::join_steps::JoinSteps;
 use crate::modular_plan_passes::pass_joins::{JoinFour, JoinLowered, JoinPair};
 use crate::modular_plan_passes::passes::{neighbours, pairs, quarters};
 use crate::modular_barrett::planned::Factor;
-use crate::modular_plan::entry::PlanEntry;
 use crate::modular_prim::plain_word::PlainWord;
-use crate::modular_word::path_word::PathWord;
-use crate::modular_word::ring_word::RingWord;
 
 // The index with the bits below its highest bit 2^k inverted.
 #[inline]
@@ -25,6 +23,7 @@ fn minus_inverse<T: PlainWord, F: PlanEntry<T>, M: JoinSteps<T>>(
     place: usize,
     minus: Factor<T>,
 ) -> Factor<T> {
+    let _ = m;
     if place == 0 {
         return minus;
     }
@@ -50,6 +49,7 @@ pub fn minus_inverses<T: PlainWord, F: PlanEntry<T>, M: JoinSteps<T>>(
     place: usize,
     minus: Factor<T>,
 ) -> (Factor<T>, Factor<T>, Factor<T>) {
+    let _ = m;
     if place == 0 {
         return (minus, minus, table[1].factor());
     }

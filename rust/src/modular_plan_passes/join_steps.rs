@@ -1,12 +1,10 @@
 //! The steps of a pass of `join`, by how much greater than the modulus words may be.
 
+use crate::modular_plan_passes::bounded::Bounded;
 use crate::modular_barrett::planned::{Factor, PlannedModulus};
 use crate::modular_barrett::roomy::RoomyModulus;
-use crate::modular_plan::bounded::Bounded;
 use crate::modular_prim::below::reduced_once;
 use crate::modular_prim::plain_word::PlainWord;
-use crate::modular_word::path_word::PathWord;
-use crate::modular_word::ring_word::RingWord;
 
 /// A modulus m by which pairs and fours of entries are joined. Between two passes the entries stay below a bound, a
 /// multiple of m. Condition of each call: numbers x, y, z and t are below the bound, and factors are factors modulo m.

@@ -4,8 +4,6 @@ use crate::modular_plan_passes::join_steps::JoinSteps;
 use crate::modular_plan_passes::passes::{FourStep, PairStep};
 use crate::modular_barrett::planned::Factor;
 use crate::modular_prim::plain_word::PlainWord;
-use crate::modular_word::path_word::PathWord;
-use crate::modular_word::ring_word::RingWord;
 
 /// Joins two entries by v, minus the inverse of the factor of a block.
 #[must_use]

@@ -4,8 +4,6 @@ use crate::modular_plan_passes::passes::{FourStep, PairStep};
 use crate::modular_plan_passes::split_steps::SplitSteps;
 use crate::modular_barrett::planned::Factor;
 use crate::modular_prim::plain_word::PlainWord;
-use crate::modular_word::path_word::PathWord;
-use crate::modular_word::ring_word::RingWord;
 
 /// Splits two entries by the factor w of a block.
 #[must_use]

@@ -1,10 +1,9 @@
 //! A stage of a block, on each two of its entries half a block apart; and two stages in one pass, on each four of its
 //! entries a quarter of the block apart.
 
+use crate::modular_plan_passes::bounded::Bounded;
 use crate::modular_plan_passes::places::{four_at, set_four};
-use crate::modular_plan::bounded::Bounded;
 use crate::modular_prim::plain_word::PlainWord;
-use crate::modular_word::ring_word::RingWord;
 
 /// What a stage makes of two entries half a block apart.
 pub trait PairStep<T: PlainWord>: Sized {

@@ -1,9 +1,8 @@
 //! What two stages in one pass read and write: four entries of a list, and three of a table.
 
+use crate::modular_plan_passes::entry::PlanEntry;
 use crate::modular_barrett::planned::Factor;
-use crate::modular_plan::entry::PlanEntry;
 use crate::modular_prim::plain_word::PlainWord;
-use crate::modular_word::path_word::PathWord;
 
 // The entries at four indexes.
 #[inline(always)]

@@ -1,12 +1,11 @@
 //! The passes of a split over all blocks: a stage, or two.
 
+use crate::modular_plan_passes::entry::PlanEntry;
 use crate::modular_plan_passes::pass_splits::{SplitByOne, SplitFour, SplitPair, SplitToResidues};
 use crate::modular_plan_passes::passes::{neighbours, pairs, quarters};
 use crate::modular_plan_passes::places::factors_at;
 use crate::modular_plan_passes::split_steps::SplitSteps;
-use crate::modular_plan::entry::PlanEntry;
 use crate::modular_prim::plain_word::PlainWord;
-use crate::modular_word::path_word::PathWord;
 
 /// Splits all blocks of a stage, block p by entry first + p of the table.
 ///

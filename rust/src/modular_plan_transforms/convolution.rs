@@ -4,13 +4,11 @@ use crate::modular_plan_transforms::join::join_scaled;
 use crate::modular_plan_transforms::products::{multiply, reduce_products};
 use crate::modular_plan_transforms::split::{split, split_loosely, splits};
 use crate::modular_barrett::planned::{Factor, PlannedModulus};
-use crate::modular_plan::entry::PlanEntry;
+use crate::modular_plan_passes::entry::PlanEntry;
 use crate::modular_prim::below::reduced_once;
 use crate::modular_prim::euclid::invm;
 use crate::modular_prim::plain_word::PlainWord;
-use crate::modular_word::path_word::PathWord;
 use crate::modular_word::paths::neginv;
-use crate::modular_word::ring_word::RingWord;
 
 // The residue of a power of two, by doubling 1, because the power may not fit a word.
 #[inline]
@@ -80,6 +78,16 @@ pub(crate) fn convolve_scaled<T: PlainWord, F: PlanEntry<T>>(
 
 /// Whether `convolve_block` accepts lists of `length` entries as block b, down to blocks of `last`, and a plan of
 /// `factors` factors.
+///
+/// # Examples
+///
+/// ```
+/// use num_modular::plans::convolves;
+///
+/// assert!(convolves(4, 2, 0, 1));
+/// assert!(convolves(4, 2, 1, 2)); // block 1 of four entries needs two factors with blocks of 2,
+/// assert!(!convolves(4, 2, 1, 1)); // and four with blocks of 1
+/// ```
 #[inline]
 pub const fn convolves(length: usize, factors: usize, b: usize, last: usize) -> bool {
     if last > 2 {
@@ -103,6 +111,19 @@ pub const fn convolves(length: usize, factors: usize, b: usize, last: usize) -> 
 ///
 /// Source: Bernstein, "Multidigit multiplication for mathematicians", section 2: split both lists, multiply the
 /// remainders, join the products.
+///
+/// # Examples
+///
+/// ```
+/// use num_modular::plans::{convolve_block, plan, Factor, PlannedModulus};
+///
+/// let modulus = PlannedModulus::<u64>::new(17);
+/// let mut table = [Factor::<u64>::ZERO; 2];
+/// plan(&modulus, 4, &mut table);
+/// let (mut xs, mut ys) = ([0, 0, 0, 1], [0, 1, 0, 0]);
+/// assert!(convolve_block(&modulus, &mut xs, &mut ys, &table, 1, 2));
+/// assert_eq!(xs, [16, 0, 0, 0]); // X^3 * X is -1 modulo X^4 + 1
+/// ```
 ///
 /// # Panics
 ///
@@ -137,6 +158,19 @@ pub fn convolve_block<T: PlainWord, F: PlanEntry<T>>(
 /// x_i·y_j modulo m over i + j = e or e + n. Returns false, with both lists unchanged, exactly where the number
 /// n/last of blocks has no inverse modulo m.
 ///
+/// # Examples
+///
+/// ```
+/// use num_modular::plans::{convolve_planned, plan, Factor, PlannedModulus};
+///
+/// let modulus = PlannedModulus::<u64>::new(17);
+/// let mut table = [Factor::<u64>::ZERO; 2];
+/// plan(&modulus, 4, &mut table);
+/// let (mut xs, mut ys) = ([1, 2, 0, 0], [3, 4, 0, 0]);
+/// assert!(convolve_planned(&modulus, &mut xs, &mut ys, &table, 1));
+/// assert_eq!(xs, [3, 10, 8, 0]); // (1 + 2X)(3 + 4X)
+/// ```
+///
 /// # Panics
 ///
 /// Panics unless the conditions of `convolve_block` hold.
@@ -155,6 +189,19 @@ pub fn convolve_planned<T: PlainWord, F: PlanEntry<T>>(
 /// Replaces xs by the product of xs and ys modulo X^n + 1, as `convolve_block` for b = 1: entry e becomes the sum
 /// of x_i·y_j modulo m over i + j = e, less that over i + j = e + n. Returns false, with both lists unchanged,
 /// exactly where the number n/last of blocks has no inverse modulo m.
+///
+/// # Examples
+///
+/// ```
+/// use num_modular::plans::{convolve_negacyclic, plan, Factor, PlannedModulus};
+///
+/// let modulus = PlannedModulus::<u64>::new(17);
+/// let mut table = [Factor::<u64>::ZERO; 2];
+/// plan(&modulus, 4, &mut table);
+/// let (mut xs, mut ys) = ([1, 2, 3, 4], [0, 1, 0, 0]);
+/// assert!(convolve_negacyclic(&modulus, &mut xs, &mut ys, &table, 2));
+/// assert_eq!(xs, [13, 1, 2, 3]); // times X; -4 + 17
+/// ```
 ///
 /// # Panics
 ///

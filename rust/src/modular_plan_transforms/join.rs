@@ -1,30 +1,28 @@
 //! From remainders modulo X^last - c back to the polynomial, in place, by stages.
 
+use crate::modular_plan_transforms::join_blocks::{join_blocks, join_passes};
 use crate::modular_barrett::planned::{Factor, PlannedModulus};
 use crate::modular_barrett::roomy::RoomyModulus;
-use crate::modular_plan::entry::PlanEntry;
+use crate::modular_plan_passes::entry::PlanEntry;
 use crate::modular_plan_passes::join_stages::{join_fours, minus_inverses};
 use crate::modular_plan_passes::join_steps::JoinSteps;
 use crate::modular_plan_passes::pass_joins::JoinByOne;
 use crate::modular_plan_passes::passes::quarters;
-use crate::modular_plan_stages::join::{join_blocks, join_passes};
 use crate::modular_prim::plain_word::PlainWord;
-use crate::modular_word::path_word::PathWord;
-use crate::modular_word::ring_word::RingWord;
 
 // Replaces each entry by a congruent one below the bound.
 #[inline]
 fn lower_each<T: PlainWord, M: JoinSteps<T>>(m: &M, xs: &mut [T]) {
-    for i in 0..xs.len() {
-        xs[i] = m.lowered(xs[i]);
+    for entry in xs.iter_mut() {
+        *entry = m.lowered(*entry);
     }
 }
 
 // Replaces each entry by its residue.
 #[inline]
 fn reduce_each<T: PlainWord, M: JoinSteps<T>>(m: &M, xs: &mut [T]) {
-    for i in 0..xs.len() {
-        xs[i] = m.residue(xs[i]);
+    for entry in xs.iter_mut() {
+        *entry = m.residue(*entry);
     }
 }
 
@@ -78,13 +76,13 @@ fn join_reduced<T: PlainWord, F: PlanEntry<T>, M: JoinSteps<T>>(
 // Replaces each entry by its product with a factor.
 #[inline]
 fn scale_each<T: PlainWord, M: JoinSteps<T>>(m: &M, xs: &mut [T], w: &Factor<T>) {
-    for i in 0..xs.len() {
-        let x = xs[i];
+    for entry in xs.iter_mut() {
+        let x = *entry;
         // Unreachable (see `is_beyond`).
         if m.is_beyond(x) {
             panic!("the entries must be below 4m");
         }
-        xs[i] = m.product(x, w);
+        *entry = m.product(x, w);
     }
 }
 
@@ -135,6 +133,19 @@ fn join_scaled_by<T: PlainWord, F: PlanEntry<T>, M: JoinSteps<T>>(
 /// Source: each step undoes one of `split` but for the factor 2, as in Gentleman and Sande, "Fast Fourier
 /// transforms: for fun and profit", section 2.
 ///
+/// # Examples
+///
+/// ```
+/// use num_modular::plans::{join, plan, Factor, PlannedModulus};
+///
+/// let modulus = PlannedModulus::<u64>::new(17);
+/// let mut table = [Factor::<u64>::ZERO; 2];
+/// plan(&modulus, 4, &mut table);
+/// let mut entries = [10, 15, 7, 6]; // what `split` makes of 1, 2, 3, 4
+/// join(&modulus, &mut entries, &table, 0, 1);
+/// assert_eq!(entries, [4, 8, 12, 16]);
+/// ```
+///
 /// # Panics
 ///
 /// Panics unless the number of entries is `last` times a power of two, and the table has (b +
@@ -151,7 +162,7 @@ pub fn join<T: PlainWord, F: PlanEntry<T>>(
     last: usize,
 ) {
     debug_assert!(xs.iter().all(|x| m.has_room(*x)), "the entries must be below 4m");
-    assert!(crate::modular_plan_transforms::split::splits(xs.len(), table.len(), b, last), "the number of entries must be `last` times a power of two, and the table must have (b + 1)·count/2 entries or more: {} entries, {} factors, b = {}, last = {}", xs.len(), table.len(), b, last);
+    assert!(crate::plans::splits(xs.len(), table.len(), b, last), "the number of entries must be `last` times a power of two, and the table must have (b + 1)·count/2 entries or more: {} entries, {} factors, b = {}, last = {}", xs.len(), table.len(), b, last);
     debug_assert!(crate::additions::are_factors(m, xs.len(), table, b, last), "the table's entries must be factors modulo m");
     match RoomyModulus::new(m) {
         Some(roomy) => join_reduced(&roomy, xs, table, b, last),
@@ -161,6 +172,19 @@ pub fn join<T: PlainWord, F: PlanEntry<T>>(
 
 /// Joins the blocks as `join` does and multiplies each coefficient by a factor. With the inverse modulo m of the
 /// number of blocks as the factor, the results are the coefficients themselves.
+///
+/// # Examples
+///
+/// ```
+/// use num_modular::plans::{join_scaled, plan, Factor, PlannedModulus};
+///
+/// let modulus = PlannedModulus::<u64>::new(17);
+/// let mut table = [Factor::<u64>::ZERO; 2];
+/// plan(&modulus, 4, &mut table);
+/// let mut entries = [10, 15, 7, 6]; // what `split` makes of 1, 2, 3, 4
+/// join_scaled(&modulus, &mut entries, &table, 0, 1, &modulus.factor(13)); // 4 * 13 = 3 * 17 + 1
+/// assert_eq!(entries, [1, 2, 3, 4]);
+/// ```
 ///
 /// # Panics
 ///
@@ -179,7 +203,7 @@ pub fn join_scaled<T: PlainWord, F: PlanEntry<T>>(
     w: &Factor<T>,
 ) {
     debug_assert!(xs.iter().all(|x| m.has_room(*x)), "the entries must be below 4m");
-    assert!(crate::modular_plan_transforms::split::splits(xs.len(), table.len(), b, last), "the number of entries must be `last` times a power of two, and the table must have (b + 1)·count/2 entries or more: {} entries, {} factors, b = {}, last = {}", xs.len(), table.len(), b, last);
+    assert!(crate::plans::splits(xs.len(), table.len(), b, last), "the number of entries must be `last` times a power of two, and the table must have (b + 1)·count/2 entries or more: {} entries, {} factors, b = {}, last = {}", xs.len(), table.len(), b, last);
     debug_assert!(crate::additions::are_factors(m, xs.len(), table, b, last), "the table's entries must be factors modulo m");
     debug_assert!(crate::additions::is_factor(m, w), "w must be a factor modulo m");
     match RoomyModulus::new(m) {

@@ -1,18 +1,17 @@
 //! A plan for transforms as one value: a modulus, a root and the table of its powers.
 
 use crate::modular_plan_transforms::convolution::{convolve_scaled, convolves};
-use crate::modular_plan_transforms::join::{join, join_scaled};
+use crate::modular_plan_transforms::filled::is_table;
+use crate::modular_plan_transforms::join::join_scaled;
 use crate::modular_plan_transforms::products::multiply_each;
 use crate::modular_plan_transforms::split::{split, splits};
 use crate::modular_plan_transforms::tables::{inverse_of_power, power, suits};
 use crate::modular_plan_transforms::transform::ntt_planned;
 use crate::modular_barrett::planned::{Factor, PlannedModulus};
-use crate::modular_plan::entry::PlanEntry;
-use crate::modular_plan::plan::plan;
+use crate::modular_plan_passes::entry::PlanEntry;
+use crate::modular_plan_passes::plan::plan;
 use crate::modular_prim::plain_word::PlainWord;
 use crate::modular_transform::order::reverse_places;
-use crate::modular_word::path_word::PathWord;
-use crate::modular_word::ring_word::RingWord;
 
 /// A plan for transforms of n = 2^bits entries: an odd modulus m, a root g that suits n, and the table of the n/2
 /// factors of its powers, which the caller owns.
@@ -44,6 +43,17 @@ impl<'a, T: PlainWord, F: PlanEntry<T>> Plan<'a, T, F> {
     /// exactly where m is even, g isn't below m, or g doesn't suit n.
     ///
     /// Modulo an even m the number n would have no inverse, and so the transform would have none.
+    ///
+    /// # Examples
+    ///
+    /// ```
+    /// use num_modular::plans::{Factor, Plan, PlannedModulus};
+    ///
+    /// let modulus = PlannedModulus::<u64>::new(17);
+    /// let mut table = [Factor::<u64>::ZERO; 2];
+    /// assert!(Plan::new(&modulus, 4, &mut table).is_some()); // 4^2 = 17 - 1
+    /// assert!(Plan::new(&modulus, 2, &mut table).is_none());
+    /// ```
     pub fn new(m: &PlannedModulus<T>, g: T, table: &'a mut [F]) -> Option<Self> {
         if !m.modulus.is_odd() {
             return None;
@@ -61,8 +71,42 @@ impl<'a, T: PlainWord, F: PlanEntry<T>> Plan<'a, T, F> {
         })
     }
 
+    /// The plan by g over a table that is filled already, for n entries, n being twice its length. `None` exactly where m
+    /// is even, g isn't below m, g doesn't suit n, or the table isn't the one that `new` makes: an entry isn't the factor
+    /// of its power, or has another quotient.
+    ///
+    /// It takes a product for each entry's power and one for its quotient.
+    pub fn with_table(m: &PlannedModulus<T>, g: T, table: &'a [F]) -> Option<Self> {
+        if !m.modulus.is_odd() {
+            return None;
+        }
+        if !suits(m, g, table.len()) {
+            return None;
+        }
+        if !is_table(m, g, table) {
+            return None;
+        }
+        Some(Plan {
+            modulus: *m,
+            root: g,
+            bits: table.len().trailing_zeros() + 1,
+            table,
+        })
+    }
+
     /// The plan for n entries, by the power of the root that suits them, with the first n/2 entries of the
     /// table.
+    ///
+    /// # Examples
+    ///
+    /// ```
+    /// use num_modular::plans::{Factor, Plan, PlannedModulus};
+    ///
+    /// let mut table = [Factor::<u64>::ZERO; 4];
+    /// let plan = Plan::new(&PlannedModulus::<u64>::new(17), 2, &mut table).unwrap();
+    /// let shorter = plan.shorter(4);
+    /// assert_eq!((shorter.bits(), shorter.root()), (2, 4));
+    /// ```
     ///
     /// # Panics
     ///
@@ -82,6 +126,17 @@ impl<'a, T: PlainWord, F: PlanEntry<T>> Plan<'a, T, F> {
     }
 
     /// Whether there is a shorter plan for n entries: n is a power of two, from 2 to the number of entries of this plan.
+    ///
+    /// # Examples
+    ///
+    /// ```
+    /// use num_modular::plans::{Factor, Plan, PlannedModulus};
+    ///
+    /// let mut table = [Factor::<u64>::ZERO; 4];
+    /// let plan = Plan::new(&PlannedModulus::<u64>::new(17), 2, &mut table).unwrap();
+    /// assert!(plan.has_shorter(4) && plan.has_shorter(8));
+    /// assert!(!plan.has_shorter(1) && !plan.has_shorter(16));
+    /// ```
     #[inline]
     pub fn has_shorter(&self, n: usize) -> bool {
         if !n.is_power_of_two() {
@@ -94,36 +149,99 @@ impl<'a, T: PlainWord, F: PlanEntry<T>> Plan<'a, T, F> {
     }
 
     /// The modulus with its reciprocal.
+    ///
+    /// # Examples
+    ///
+    /// ```
+    /// use num_modular::plans::{Factor, Plan, PlannedModulus};
+    ///
+    /// let mut table = [Factor::<u64>::ZERO; 2];
+    /// let plan = Plan::new(&PlannedModulus::<u64>::new(17), 4, &mut table).unwrap();
+    /// assert_eq!(plan.modulus().modulus(), 17);
+    /// ```
     #[inline]
     pub fn modulus(&self) -> PlannedModulus<T> {
         self.modulus
     }
 
     /// The root g.
+    ///
+    /// # Examples
+    ///
+    /// ```
+    /// use num_modular::plans::{Factor, Plan, PlannedModulus};
+    ///
+    /// let mut table = [Factor::<u64>::ZERO; 2];
+    /// let plan = Plan::new(&PlannedModulus::<u64>::new(17), 4, &mut table).unwrap();
+    /// assert_eq!(plan.root(), 4);
+    /// ```
     #[inline]
     pub fn root(&self) -> T {
         self.root
     }
 
     /// The binary logarithm of the number n of entries.
+    ///
+    /// # Examples
+    ///
+    /// ```
+    /// use num_modular::plans::{Factor, Plan, PlannedModulus};
+    ///
+    /// let mut table = [Factor::<u64>::ZERO; 2];
+    /// let plan = Plan::new(&PlannedModulus::<u64>::new(17), 4, &mut table).unwrap();
+    /// assert_eq!(plan.bits(), 2); // four entries
+    /// ```
     #[inline]
     pub fn bits(&self) -> u32 {
         self.bits
     }
 
     /// Whether a list of so many entries has n entries.
+    ///
+    /// # Examples
+    ///
+    /// ```
+    /// use num_modular::plans::{Factor, Plan, PlannedModulus};
+    ///
+    /// let mut table = [Factor::<u64>::ZERO; 2];
+    /// let plan = Plan::new(&PlannedModulus::<u64>::new(17), 4, &mut table).unwrap();
+    /// assert!(plan.fits(4));
+    /// assert!(!plan.fits(8));
+    /// ```
     #[inline]
     pub fn fits(&self, entries: usize) -> bool {
         entries / 2 == self.table.len() && entries % 2 == 0
     }
 
     /// Whether `split` and `join` accept a list of so many entries as block b, with blocks of `last` entries.
+    ///
+    /// # Examples
+    ///
+    /// ```
+    /// use num_modular::plans::{Factor, Plan, PlannedModulus};
+    ///
+    /// let mut table = [Factor::<u64>::ZERO; 2];
+    /// let plan = Plan::new(&PlannedModulus::<u64>::new(17), 4, &mut table).unwrap();
+    /// assert!(plan.splits(4, 0, 1));
+    /// assert!(!plan.splits(8, 0, 1));
+    /// ```
     #[inline]
     pub fn splits(&self, entries: usize, b: usize, last: usize) -> bool {
         splits(entries, self.table.len(), b, last)
     }
 
     /// Whether `convolve_block` accepts lists of so many entries as block b, with blocks of `last` entries.
+    ///
+    /// # Examples
+    ///
+    /// ```
+    /// use num_modular::plans::{Factor, Plan, PlannedModulus};
+    ///
+    /// let mut table = [Factor::<u64>::ZERO; 2];
+    /// let plan = Plan::new(&PlannedModulus::<u64>::new(17), 4, &mut table).unwrap();
+    /// assert!(plan.convolves(4, 1, 2));
+    /// assert!(!plan.convolves(4, 1, 1));
+    /// ```
     #[inline]
     pub fn convolves(&self, entries: usize, b: usize, last: usize) -> bool {
         convolves(entries, self.table.len(), b, last)
@@ -140,6 +258,18 @@ impl<'a, T: PlainWord, F: PlanEntry<T>> Plan<'a, T, F> {
     /// below m.
     ///
     /// Source: `split`, and a reversal of the bits of the indexes.
+    ///
+    /// # Examples
+    ///
+    /// ```
+    /// use num_modular::plans::{Factor, Plan, PlannedModulus};
+    ///
+    /// let mut table = [Factor::<u64>::ZERO; 2];
+    /// let plan = Plan::new(&PlannedModulus::<u64>::new(17), 4, &mut table).unwrap();
+    /// let mut entries = [1, 2, 3, 4];
+    /// plan.transform(&mut entries);
+    /// assert_eq!(entries, [10, 7, 15, 6]); // 1 + 2X + 3X^2 + 4X^3 at 1, 4, -1 and -4
+    /// ```
     ///
     /// # Panics
     ///
@@ -158,6 +288,18 @@ impl<'a, T: PlainWord, F: PlanEntry<T>> Plan<'a, T, F> {
     /// m.
     ///
     /// Source: a reversal of the bits of the indexes, and `join`, times the inverse of n.
+    ///
+    /// # Examples
+    ///
+    /// ```
+    /// use num_modular::plans::{Factor, Plan, PlannedModulus};
+    ///
+    /// let mut table = [Factor::<u64>::ZERO; 2];
+    /// let plan = Plan::new(&PlannedModulus::<u64>::new(17), 4, &mut table).unwrap();
+    /// let mut entries = [10, 7, 15, 6];
+    /// plan.inverse(&mut entries);
+    /// assert_eq!(entries, [1, 2, 3, 4]);
+    /// ```
     ///
     /// # Panics
     ///
@@ -181,6 +323,18 @@ impl<'a, T: PlainWord, F: PlanEntry<T>> Plan<'a, T, F> {
     /// So b = 0 and last = 1 give the transform in bit-reversed order, and b = 1 starts from a polynomial modulo X^h
     /// + 1, h being the length of the list.
     ///
+    /// # Examples
+    ///
+    /// ```
+    /// use num_modular::plans::{Factor, Plan, PlannedModulus};
+    ///
+    /// let mut table = [Factor::<u64>::ZERO; 2];
+    /// let plan = Plan::new(&PlannedModulus::<u64>::new(17), 4, &mut table).unwrap();
+    /// let mut entries = [1, 2, 3, 4];
+    /// plan.split(&mut entries, 0, 2);
+    /// assert_eq!(entries, [4, 6, 15, 15]); // 4 + 6X modulo X^2 - 1, and -2 - 2X modulo X^2 + 1
+    /// ```
+    ///
     /// # Panics
     ///
     /// Panics unless the length is `last` times a power of two, and (b + 1)·count is at most n, or count is
@@ -197,6 +351,18 @@ impl<'a, T: PlainWord, F: PlanEntry<T>> Plan<'a, T, F> {
     /// Undoes `split`, in place: where the entries are the remainders of a polynomial, they become its coefficients,
     /// residues below m.
     ///
+    /// # Examples
+    ///
+    /// ```
+    /// use num_modular::plans::{Factor, Plan, PlannedModulus};
+    ///
+    /// let mut table = [Factor::<u64>::ZERO; 2];
+    /// let plan = Plan::new(&PlannedModulus::<u64>::new(17), 4, &mut table).unwrap();
+    /// let mut entries = [4, 6, 15, 15];
+    /// plan.join(&mut entries, 0, 2);
+    /// assert_eq!(entries, [1, 2, 3, 4]);
+    /// ```
+    ///
     /// # Panics
     ///
     /// Panics unless the length is `last` times a power of two, and (b + 1)·count is at most n, or count is
@@ -212,6 +378,18 @@ impl<'a, T: PlainWord, F: PlanEntry<T>> Plan<'a, T, F> {
     }
 
     /// Multiplies each entry of xs by the entry of ys with the same index, modulo m.
+    ///
+    /// # Examples
+    ///
+    /// ```
+    /// use num_modular::plans::{Factor, Plan, PlannedModulus};
+    ///
+    /// let mut table = [Factor::<u64>::ZERO; 2];
+    /// let plan = Plan::new(&PlannedModulus::<u64>::new(17), 4, &mut table).unwrap();
+    /// let mut entries = [2, 3];
+    /// plan.multiply(&mut entries, &[5, 7]);
+    /// assert_eq!(entries, [10, 4]); // 21 - 17
+    /// ```
     ///
     /// # Panics
     ///
@@ -230,6 +408,18 @@ impl<'a, T: PlainWord, F: PlanEntry<T>> Plan<'a, T, F> {
     ///
     /// Source: Bernstein, "Multidigit multiplication for mathematicians", section 2: split both lists, multiply the
     /// remainders, join the products.
+    ///
+    /// # Examples
+    ///
+    /// ```
+    /// use num_modular::plans::{Factor, Plan, PlannedModulus};
+    ///
+    /// let mut table = [Factor::<u64>::ZERO; 2];
+    /// let plan = Plan::new(&PlannedModulus::<u64>::new(17), 4, &mut table).unwrap();
+    /// let (mut xs, mut ys) = ([0, 3], [0, 2]);
+    /// plan.convolve_block(&mut xs, &mut ys, 1, 1);
+    /// assert_eq!(xs, [11, 0]); // 3X * 2X is -6 modulo X^2 + 1
+    /// ```
     ///
     /// # Panics
     ///
@@ -250,6 +440,18 @@ impl<'a, T: PlainWord, F: PlanEntry<T>> Plan<'a, T, F> {
     /// Replaces xs by the cyclic product of two lists of n entries: entry e becomes the sum of x_i·y_j modulo m over
     /// i + j = e or e + n. ys becomes its transform in bit-reversed order.
     ///
+    /// # Examples
+    ///
+    /// ```
+    /// use num_modular::plans::{Factor, Plan, PlannedModulus};
+    ///
+    /// let mut table = [Factor::<u64>::ZERO; 2];
+    /// let plan = Plan::new(&PlannedModulus::<u64>::new(17), 4, &mut table).unwrap();
+    /// let (mut xs, mut ys) = ([1, 2, 0, 0], [3, 4, 0, 0]);
+    /// plan.convolve(&mut xs, &mut ys);
+    /// assert_eq!(xs, [3, 10, 8, 0]); // (1 + 2X)(3 + 4X)
+    /// ```
+    ///
     /// # Panics
     ///
     /// Panics unless the lists have n entries (`fits` tells). A debug build also panics unless the entries
@@ -266,6 +468,18 @@ impl<'a, T: PlainWord, F: PlanEntry<T>> Plan<'a, T, F> {
     /// Replaces xs by the product of two lists of n entries modulo X^n + 1: entry e becomes the sum of x_i·y_j modulo m
     /// over i + j = e, less that over i + j = e + n. ys becomes its remainders modulo X^2 - c, as `split`
     /// computes them.
+    ///
+    /// # Examples
+    ///
+    /// ```
+    /// use num_modular::plans::{Factor, Plan, PlannedModulus};
+    ///
+    /// let mut table = [Factor::<u64>::ZERO; 2];
+    /// let plan = Plan::new(&PlannedModulus::<u64>::new(17), 4, &mut table).unwrap();
+    /// let (mut xs, mut ys) = ([1, 2, 3, 4], [0, 1, 0, 0]);
+    /// plan.convolve_negacyclic(&mut xs, &mut ys);
+    /// assert_eq!(xs, [13, 1, 2, 3]); // times X; -4 + 17
+    /// ```
     ///
     /// # Panics
     ///

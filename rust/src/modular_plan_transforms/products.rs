@@ -1,10 +1,9 @@
 //! Products of blocks: of polynomials modulo X^last - c.
 
 use crate::modular_barrett::planned::PlannedModulus;
-use crate::modular_plan::bounded::Bounded;
-use crate::modular_plan::entry::PlanEntry;
+use crate::modular_plan_passes::bounded::Bounded;
+use crate::modular_plan_passes::entry::PlanEntry;
 use crate::modular_prim::plain_word::PlainWord;
-use crate::modular_word::path_word::PathWord;
 
 // Multiplies each entry of xs by the entry of ys with the same index.
 #[inline]
@@ -102,6 +101,19 @@ fn multiply_pairs<T: PlainWord, F: PlanEntry<T>>(
 /// Multiplies the blocks of `last` entries of the two lists, below block b of the tree of remainders, as
 /// polynomials modulo X^last - c, with the constants c of `split`. So the products of two lists of remainders are
 /// the remainders of a product. For `last` = 1 entries of equal index are multiplied.
+///
+/// # Examples
+///
+/// ```
+/// use num_modular::plans::{multiply, plan, Factor, PlannedModulus};
+///
+/// let modulus = PlannedModulus::<u64>::new(17);
+/// let mut table = [Factor::<u64>::ZERO; 1];
+/// plan(&modulus, 16, &mut table);
+/// let mut entries = [2, 3];
+/// multiply(&modulus, &mut entries, &[5, 7], &table, 0, 1);
+/// assert_eq!(entries, [10, 4]); // 21 - 17
+/// ```
 ///
 /// # Preconditions
 ///

@@ -1,24 +1,32 @@
 //! From a polynomial to its remainders modulo X^last - c, in place, by stages.
 
+use crate::modular_plan_transforms::split_blocks::split_blocks;
 use crate::modular_barrett::planned::PlannedModulus;
 use crate::modular_barrett::roomy::RoomyModulus;
-use crate::modular_plan::entry::PlanEntry;
+use crate::modular_plan_passes::entry::PlanEntry;
 use crate::modular_plan_passes::split_stages::split_fours;
 use crate::modular_plan_passes::split_steps::SplitSteps;
-use crate::modular_plan_stages::split::split_stages;
 use crate::modular_prim::plain_word::PlainWord;
-use crate::modular_word::path_word::PathWord;
 
 // Replaces each entry by its residue.
 #[inline]
 fn reduce_each<T: PlainWord, M: SplitSteps<T>>(m: &M, xs: &mut [T]) {
-    for i in 0..xs.len() {
-        xs[i] = m.residue(xs[i]);
+    for entry in xs.iter_mut() {
+        *entry = m.residue(*entry);
     }
 }
 
 /// Whether `split` accepts a list of `length` entries, from block b down to blocks of `last`, and a plan of
 /// `factors` factors.
+///
+/// # Examples
+///
+/// ```
+/// use num_modular::plans::splits;
+///
+/// assert!(splits(4, 2, 0, 1)); // two factors suffice for four entries
+/// assert!(!splits(8, 2, 0, 1));
+/// ```
 #[inline]
 pub const fn splits(length: usize, factors: usize, b: usize, last: usize) -> bool {
     if last == 0 {
@@ -47,10 +55,10 @@ fn split_by<T: PlainWord, M: SplitSteps<T>, F: PlanEntry<T>>(
 ) {
     if last == 1 && 4 <= xs.len() {
         let fours = xs.len() / 4;
-        split_stages(m, xs, table, b, 4);
+        split_blocks(m, xs, table, b, 4);
         split_fours(m, xs, fours, table, b * fours);
     } else {
-        split_stages(m, xs, table, b, last);
+        split_blocks(m, xs, table, b, last);
         reduce_each(m, xs);
     }
 }
@@ -69,8 +77,8 @@ pub fn split_loosely<T: PlainWord, F: PlanEntry<T>>(
     last: usize,
 ) {
     match RoomyModulus::new(m) {
-        Some(roomy) => split_stages(&roomy, xs, table, b, last),
-        None => split_stages(m, xs, table, b, last),
+        Some(roomy) => split_blocks(&roomy, xs, table, b, last),
+        None => split_blocks(m, xs, table, b, last),
     }
 }
 
@@ -85,6 +93,19 @@ pub fn split_loosely<T: PlainWord, F: PlanEntry<T>>(
 ///
 /// Source: the sums and differences of Cooley and Tukey with one factor for each block, as in Bernstein,
 /// "Multidigit multiplication for mathematicians", section 2.
+///
+/// # Examples
+///
+/// ```
+/// use num_modular::plans::{plan, split, Factor, PlannedModulus};
+///
+/// let modulus = PlannedModulus::<u64>::new(17);
+/// let mut table = [Factor::<u64>::ZERO; 2];
+/// plan(&modulus, 4, &mut table);
+/// let mut entries = [1, 2, 3, 4];
+/// split(&modulus, &mut entries, &table, 0, 1);
+/// assert_eq!(entries, [10, 15, 7, 6]); // 1 + 2X + 3X^2 + 4X^3 at 1, -1, 4 and -4
+/// ```
 ///
 /// # Panics
 ///
@@ -102,7 +123,7 @@ pub fn split<T: PlainWord, F: PlanEntry<T>>(
     last: usize,
 ) {
     debug_assert!(xs.iter().all(|x| m.has_room(*x)), "the entries must be below 4m");
-    assert!(crate::modular_plan_transforms::split::splits(xs.len(), table.len(), b, last), "the number of entries must be `last` times a power of two, and the table must have at least (b + 1)·(count/2) entries: {} entries, {} factors, b = {}, last = {}", xs.len(), table.len(), b, last);
+    assert!(crate::plans::splits(xs.len(), table.len(), b, last), "the number of entries must be `last` times a power of two, and the table must have at least (b + 1)·(count/2) entries: {} entries, {} factors, b = {}, last = {}", xs.len(), table.len(), b, last);
     debug_assert!(crate::additions::are_factors(m, xs.len(), table, b, last), "the table's entries must be factors modulo m");
     match RoomyModulus::new(m) {
         Some(roomy) => split_by(&roomy, xs, table, b, last),

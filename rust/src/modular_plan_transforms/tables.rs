@@ -2,8 +2,6 @@
 
 use crate::modular_barrett::planned::PlannedModulus;
 use crate::modular_prim::plain_word::PlainWord;
-use crate::modular_word::path_word::PathWord;
-use crate::modular_word::ring_word::RingWord;
 
 // The power of g to the exponent `count`, below m, by squarings.
 #[inline]

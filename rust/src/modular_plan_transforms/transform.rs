@@ -2,7 +2,7 @@
 
 use crate::modular_plan_transforms::split::split;
 use crate::modular_barrett::planned::PlannedModulus;
-use crate::modular_plan::entry::PlanEntry;
+use crate::modular_plan_passes::entry::PlanEntry;
 use crate::modular_prim::plain_word::PlainWord;
 use crate::modular_transform::order::reverse_places;
 
@@ -10,6 +10,19 @@ use crate::modular_transform::order::reverse_places;
 /// m. h is the root of the plan, or, where the plan is for more entries, the power of it that suits n entries.
 ///
 /// Source: `split`, and a reversal of the bits of the indexes.
+///
+/// # Examples
+///
+/// ```
+/// use num_modular::plans::{ntt_planned, plan, Factor, PlannedModulus};
+///
+/// let modulus = PlannedModulus::<u64>::new(17);
+/// let mut table = [Factor::<u64>::ZERO; 2];
+/// plan(&modulus, 4, &mut table);
+/// let mut entries = [1, 2, 3, 4];
+/// ntt_planned(&modulus, &mut entries, &table);
+/// assert_eq!(entries, [10, 7, 15, 6]); // 1 + 2X + 3X^2 + 4X^3 at 1, 4, -1 and -4
+/// ```
 ///
 /// # Panics
 ///

@@ -17,19 +17,18 @@ pub fn reduced_once<T: PathWord>(x: T, m: T) -> T {
     if less.is_below(x) { less } else { x }
 }
 
-/// The residue of a + b, below m.
+/// The residue of a + b, below m. The carry of a + (b - m) chooses, without a branch, so that compilers work on several
+/// entries of a list at once.
 ///
 /// # Preconditions
 ///
 /// Both are below m. This isn't tested: outside it the call panics, or returns no meaningful result.
 #[inline]
 pub fn add_below<T: PathWord>(a: T, b: T, m: T) -> T {
-    let gap = m.minus(b);
-    if a.is_below(gap) {
-        a.plus(b)
-    } else {
-        a.minus(gap)
-    }
+    // Reading the word gives the proof that it fits its width.
+    let _ = m.is_below(a);
+    let (rest, above) = a.overflowing_add(b.wrapping_sub(m));
+    if above { rest } else { a.plus(b) }
 }
 
 /// The residue of a - b, below m.
@@ -39,10 +38,13 @@ pub fn add_below<T: PathWord>(a: T, b: T, m: T) -> T {
 /// Both are below m. This isn't tested: outside it the call panics, or returns no meaningful result.
 #[inline]
 pub fn sub_below<T: PathWord>(a: T, b: T, m: T) -> T {
+    // Reading the word gives the proof that it fits its width.
+    let _ = m.is_below(a);
+    let less = a.wrapping_sub(b);
     if a.is_below(b) {
-        m.minus(b.minus(a))
+        less.wrapping_add(m)
     } else {
-        a.minus(b)
+        less
     }
 }
 

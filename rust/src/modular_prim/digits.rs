@@ -4,7 +4,6 @@
 use crate::modular_prim::plain_word::PlainWord;
 use crate::modular_word::path_word::PathWord;
 use crate::modular_word::paths::two;
-use crate::modular_word::ring_word::RingWord;
 
 // The digit k and the rest of a, if a is at least the multiple k·d; else the pair `before`, for a smaller digit.
 //
@@ -55,10 +54,8 @@ fn part_of_base<T: PathWord>(by: u32) -> T {
 // where the division instruction is as fast.
 #[inline]
 fn has_two_digits<T: PathWord>(a: T, d: T) -> bool {
-    if T::bits() > 16 {
-        if d.is_below(part_of_base::<T>(4)) {
-            return a.shift_right(4).is_below(d);
-        }
+    if T::bits() > 16 && d.is_below(part_of_base::<T>(4)) {
+        return a.shift_right(4).is_below(d);
     }
     false
 }
@@ -103,10 +100,8 @@ fn rest_of_short_quotient<T: PlainWord>(a: T, d: T) -> T {
 // where the division instruction is as fast.
 #[inline]
 fn has_four_digits<T: PathWord>(a: T, d: T) -> bool {
-    if T::bits() > 32 {
-        if a.shift_right(8).is_below(d) {
-            return d.is_below(part_of_base::<T>(8));
-        }
+    if T::bits() > 32 && a.shift_right(8).is_below(d) {
+        return d.is_below(part_of_base::<T>(8));
     }
     false
 }

@@ -3,8 +3,6 @@
 use crate::modular_prim::below::neg_below;
 use crate::modular_prim::digits::division;
 use crate::modular_prim::plain_word::PlainWord;
-use crate::modular_word::path_word::PathWord;
-use crate::modular_word::ring_word::RingWord;
 
 // A division of Euclid's algorithm: the remainder of last_r by r, and the coefficient that belongs to it. Conditions:
 // r is at least 1, and the coefficient fits a word.
@@ -69,9 +67,3 @@ pub fn invm_counted<T: PlainWord>(a: T, m: T) -> (Option<T>, u32) {
         (Some(neg_below(last_t, m)), count)
     }
 }
-
-/// Euclid's algorithm makes no division for u and 0, and for u and v one more than for v and the remainder of u by
-/// v. 2 to the number of its divisions is at most 2·u·v, for v from 1 to u - 1.
-#[doc(hidden)]
-#[inline]
-pub fn division_laws() {}

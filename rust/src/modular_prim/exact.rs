@@ -1,34 +1,73 @@
 //! Exact division.
-
-use crate::modular_prim::numbered::Numbered;
 use crate::modular_prim::plain_word::PlainWord;
-use crate::modular_word::ring_word::RingWord;
 
-/// Exact division by a divisor, given what was precomputed of it: a multiplier, a prepared inverse, or `()`.
+/// Exact division by a divisor, given what was precomputed of it: a multiplier (`PreMulInv1by1`), an inverse
+/// (`PreModInv`), or `()`.
 ///
 /// With `()` nothing is precomputed, and the quotient is that of the machine's division, for words of 8 to 128 bits
 /// but not usize, as in the Rust crate; the divisor must be at least 1.
-pub trait DivExact<Rhs: Numbered, Precompute>: Numbered + Sized {
+///
+/// # Examples
+///
+/// ```
+/// use num_modular::{DivExact, PreModInv};
+///
+/// let seven = PreModInv::<u64>::from(7);
+/// assert_eq!(91u64.div_exact(7, &seven), Some(13));
+/// assert_eq!(91u64.div_exact(7, &()), Some(13));
+/// ```
+pub trait DivExact<Rhs, Precompute>: Sized {
     /// The type of the quotients.
-    type Output: Numbered;
+    type Output;
 
     /// The quotient by d; `None` exactly where d doesn't divide the number.
     ///
+    /// # Examples
+    ///
+    /// ```
+    /// use num_modular::{DivExact, PreMulInv1by1};
+    ///
+    /// let sixty = PreMulInv1by1::<u32>::new(60);
+    /// assert_eq!(3600u32.div_exact(60, &sixty), Some(60));
+    /// assert_eq!(3601u32.div_exact(60, &sixty), None);
+    /// ```
+    ///
     /// # Preconditions
     ///
-    /// What is stored fits d. This isn't tested: outside it the call panics, or returns no meaningful
+    /// `pre` fits the divisor d. This isn't tested: outside it the call panics, or returns no meaningful
     /// result.
     fn div_exact(self, d: Rhs, pre: &Precompute) -> Option<Self::Output>;
 }
 
 /// Exact division in place by a divisor, given what was precomputed of it, or `()`.
-pub trait DivExactAssign<Rhs: Numbered, Precompute>: Sized + DivExact<Rhs, Precompute, Output = Self> {
+///
+/// # Examples
+///
+/// ```
+/// use num_modular::DivExactAssign;
+///
+/// let mut n = 91u64;
+/// assert!(n.div_exact_assign(7, &()));
+/// assert_eq!(n, 13);
+/// ```
+pub trait DivExactAssign<Rhs, Precompute>: Sized + DivExact<Rhs, Precompute, Output = Self> {
     /// Replaces the number by its quotient by d and returns true. Where d doesn't divide the number, returns false
     /// and leaves it unchanged.
     ///
+    /// # Examples
+    ///
+    /// ```
+    /// use num_modular::{DivExactAssign, PreModInv};
+    ///
+    /// let seven = PreModInv::<u64>::from(7);
+    /// let mut n = 92u64;
+    /// assert!(!n.div_exact_assign(7, &seven));
+    /// assert_eq!(n, 92);
+    /// ```
+    ///
     /// # Preconditions
     ///
-    /// What is stored fits d. This isn't tested: outside it the call panics, or returns no meaningful
+    /// `pre` fits the divisor d. This isn't tested: outside it the call panics, or returns no meaningful
     /// result.
     fn div_exact_assign(&mut self, d: Rhs, pre: &Precompute) -> bool;
 }
@@ -41,7 +80,7 @@ pub trait DivExactAssign<Rhs: Numbered, Precompute>: Sized + DivExact<Rhs, Preco
 /// result.
 #[inline]
 #[cfg_attr(debug_assertions, track_caller)]
-pub fn assign_exact<N: DivExact<Rhs, Precompute, Output = N> + Copy, Rhs: Numbered, Precompute>(
+pub fn assign_exact<N: DivExact<Rhs, Precompute, Output = N> + Copy, Rhs, Precompute>(
     number: &mut N,
     d: Rhs,
     pre: &Precompute,
@@ -94,6 +133,7 @@ impl DivExact<u8, ()> for u8 {
     #[inline]
     #[cfg_attr(debug_assertions, track_caller)]
     fn div_exact(self, d: u8, _pre: &()) -> Option<u8> {
+        let _ = _pre;
         exact_quotient(self, d)
     }
 }
@@ -104,6 +144,7 @@ impl DivExact<u16, ()> for u16 {
     #[inline]
     #[cfg_attr(debug_assertions, track_caller)]
     fn div_exact(self, d: u16, _pre: &()) -> Option<u16> {
+        let _ = _pre;
         exact_quotient(self, d)
     }
 }
@@ -114,6 +155,7 @@ impl DivExact<u32, ()> for u32 {
     #[inline]
     #[cfg_attr(debug_assertions, track_caller)]
     fn div_exact(self, d: u32, _pre: &()) -> Option<u32> {
+        let _ = _pre;
         exact_quotient(self, d)
     }
 }
@@ -124,6 +166,7 @@ impl DivExact<u64, ()> for u64 {
     #[inline]
     #[cfg_attr(debug_assertions, track_caller)]
     fn div_exact(self, d: u64, _pre: &()) -> Option<u64> {
+        let _ = _pre;
         exact_quotient(self, d)
     }
 }
@@ -134,6 +177,7 @@ impl DivExact<u128, ()> for u128 {
     #[inline]
     #[cfg_attr(debug_assertions, track_caller)]
     fn div_exact(self, d: u128, _pre: &()) -> Option<u128> {
+        let _ = _pre;
         exact_quotient_128(self, d)
     }
 }

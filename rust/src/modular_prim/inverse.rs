@@ -5,7 +5,6 @@ use crate::modular_prim::plain_word::PlainWord;
 use crate::modular_prim::residues::reduced;
 use crate::modular_word::path_word::PathWord;
 use crate::modular_word::paths::{neginv, redc};
-use crate::modular_word::ring_word::RingWord;
 
 // Two numbers that the algorithm reduces to the greatest common divisor of x and m, each with a factor. Modulo m,
 // and multiplied by 2^twos, one is its factor times x, the other is minus its factor times x; `minus` tells which.
@@ -51,7 +50,7 @@ fn last_pair<T: PathWord>(x: T, m: T) -> Pair<T> {
         below: m,
         above_factor: T::one(),
         below_factor: T::zero(),
-        twos: twos,
+        twos,
         minus: false,
     };
     while pair.above != pair.below {
@@ -94,7 +93,7 @@ fn inverse_below<T: PathWord>(x: T, m: T) -> Option<T> {
     Some(without_twos(factor, pair.twos, m))
 }
 
-/// The inverse of a modulo m, below m; `None` exactly where there is none.
+/// The inverse of a modulo m, below m; `None` exactly where there is none. a may be above m.
 ///
 /// Each turn of the loop replaces the greater of two numbers by the odd part of their difference, until they are
 /// equal. It keeps their factors up to a power of two, which Montgomery's reduction removes at the end. The only
@@ -102,10 +101,18 @@ fn inverse_below<T: PathWord>(x: T, m: T) -> Option<T> {
 ///
 /// Source: Kaliski, "The Montgomery inverse and its applications", IEEE Transactions on Computers 44, 1995.
 ///
+/// # Examples
+///
+/// ```
+/// use num_modular::prim::by_subtraction::inverse;
+///
+/// assert_eq!(inverse(3u64, 7), Some(5)); // 3 * 5 = 15
+/// assert_eq!(inverse(6u64, 9), None); // 3 divides both
+/// ```
+///
 /// # Preconditions
 ///
-/// m is odd, and a may be above it. This isn't tested: outside it the call panics, or returns no
-/// meaningful result.
+/// m is odd. This isn't tested: outside it the call panics, or returns no meaningful result.
 #[inline]
 pub fn inverse_by_subtraction<T: PlainWord>(a: T, m: T) -> Option<T> {
     inverse_below(reduced(a, m), m)

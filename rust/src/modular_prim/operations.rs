@@ -1,7 +1,5 @@
 //! The modular operations, as traits.
 
-use crate::modular_prim::numbered::{IntegerValued, Numbered};
-
 /// Sums, differences and products modulo m, of operands that may be above m. Each returns a residue below m.
 /// Condition of each: m is at least 1.
 ///
@@ -14,11 +12,20 @@ use crate::modular_prim::numbered::{IntegerValued, Numbered};
 /// assert_eq!(2u64.subm(5u64, &97), 94);
 /// assert_eq!(u64::MAX.mulm(u64::MAX, &97), 11);
 /// ```
-pub trait ModularCoreOps<Rhs: Numbered = Self, Modulus: Numbered = Self>: Sized + Numbered {
+pub trait ModularCoreOps<Rhs = Self, Modulus = Self>: Sized {
     /// The type of the results.
-    type Output: Numbered;
+    type Output;
 
     /// The residue of the sum.
+    ///
+    /// # Examples
+    ///
+    /// ```
+    /// use num_modular::ModularCoreOps;
+    ///
+    /// assert_eq!(5u32.addm(4u32, &7), 2);
+    /// assert_eq!(255u8.addm(255u8, &100), 10); // 510 modulo 100
+    /// ```
     ///
     /// # Panics
     ///
@@ -28,6 +35,15 @@ pub trait ModularCoreOps<Rhs: Numbered = Self, Modulus: Numbered = Self>: Sized 
 
     /// The residue of the difference.
     ///
+    /// # Examples
+    ///
+    /// ```
+    /// use num_modular::ModularCoreOps;
+    ///
+    /// assert_eq!(5u32.subm(4u32, &7), 1);
+    /// assert_eq!(4u32.subm(5u32, &7), 6); // -1 modulo 7
+    /// ```
+    ///
     /// # Panics
     ///
     /// Panics unless m is at least 1.
@@ -35,6 +51,15 @@ pub trait ModularCoreOps<Rhs: Numbered = Self, Modulus: Numbered = Self>: Sized 
     fn subm(self, rhs: Rhs, m: Modulus) -> Self::Output;
 
     /// The residue of the product.
+    ///
+    /// # Examples
+    ///
+    /// ```
+    /// use num_modular::ModularCoreOps;
+    ///
+    /// assert_eq!(5u32.mulm(4u32, &7), 6);
+    /// assert_eq!(255u8.mulm(255u8, &100), 25); // 65025 modulo 100
+    /// ```
     ///
     /// # Panics
     ///
@@ -55,11 +80,20 @@ pub trait ModularCoreOps<Rhs: Numbered = Self, Modulus: Numbered = Self>: Sized 
 /// assert_eq!(3u32.invm(&7), Some(5));
 /// assert_eq!(3u32.invm(&6), None);
 /// ```
-pub trait ModularUnaryOps<Modulus: Numbered = Self>: Sized + Numbered {
+pub trait ModularUnaryOps<Modulus = Self>: Sized {
     /// The type of the results.
-    type Output: Numbered;
+    type Output;
 
     /// The residue of the negative.
+    ///
+    /// # Examples
+    ///
+    /// ```
+    /// use num_modular::ModularUnaryOps;
+    ///
+    /// assert_eq!(3u32.negm(&7), 4);
+    /// assert_eq!(7u32.negm(&7), 0);
+    /// ```
     ///
     /// # Panics
     ///
@@ -69,6 +103,15 @@ pub trait ModularUnaryOps<Modulus: Numbered = Self>: Sized + Numbered {
 
     /// The inverse modulo m, 0 for m = 1; `None` exactly where there is none.
     ///
+    /// # Examples
+    ///
+    /// ```
+    /// use num_modular::ModularUnaryOps;
+    ///
+    /// assert_eq!(3u32.invm(&10), Some(7)); // 3 * 7 = 21
+    /// assert_eq!(4u32.invm(&10), None); // 2 divides both
+    /// ```
+    ///
     /// # Panics
     ///
     /// Panics unless m is at least 1.
@@ -77,6 +120,14 @@ pub trait ModularUnaryOps<Modulus: Numbered = Self>: Sized + Numbered {
 
     /// The residue of the double.
     ///
+    /// # Examples
+    ///
+    /// ```
+    /// use num_modular::ModularUnaryOps;
+    ///
+    /// assert_eq!(200u8.dblm(&251), 149); // 400 - 251
+    /// ```
+    ///
     /// # Panics
     ///
     /// Panics unless m is at least 1.
@@ -84,6 +135,14 @@ pub trait ModularUnaryOps<Modulus: Numbered = Self>: Sized + Numbered {
     fn dblm(self, m: Modulus) -> Self::Output;
 
     /// The residue of the square.
+    ///
+    /// # Examples
+    ///
+    /// ```
+    /// use num_modular::ModularUnaryOps;
+    ///
+    /// assert_eq!(16u8.sqm(&251), 5); // 256 - 251
+    /// ```
     ///
     /// # Panics
     ///
@@ -101,11 +160,20 @@ pub trait ModularUnaryOps<Modulus: Numbered = Self>: Sized + Numbered {
 ///
 /// assert_eq!(3u64.powm(100, &101), 1);
 /// ```
-pub trait ModularPow<Exp: Numbered = Self, Modulus: Numbered = Self>: Sized + Numbered {
+pub trait ModularPow<Exp = Self, Modulus = Self>: Sized {
     /// The type of the results.
-    type Output: Numbered;
+    type Output;
 
     /// The residue of the base to the power `exp`; for the exponent 0, the residue of 1.
+    ///
+    /// # Examples
+    ///
+    /// ```
+    /// use num_modular::ModularPow;
+    ///
+    /// assert_eq!(2u32.powm(10, &1000), 24); // 1024 modulo 1000
+    /// assert_eq!(2u32.powm(0, &1000), 1);
+    /// ```
     ///
     /// # Panics
     ///
@@ -115,8 +183,25 @@ pub trait ModularPow<Exp: Numbered = Self, Modulus: Numbered = Self>: Sized + Nu
 }
 
 /// Residues of signed numbers, as unsigned words. Condition: m is at least 1.
-pub trait ModularAbs<Modulus: Numbered = Self>: Sized + IntegerValued {
+///
+/// # Examples
+///
+/// ```
+/// use num_modular::ModularAbs;
+///
+/// assert_eq!((-3i64).absm(&7u64), 4);
+/// ```
+pub trait ModularAbs<Modulus = Self>: Sized {
     /// The residue of a signed number: the only number from 0 to m - 1 from which it differs by a multiple of m.
+    ///
+    /// # Examples
+    ///
+    /// ```
+    /// use num_modular::ModularAbs;
+    ///
+    /// assert_eq!((-10i8).absm(&7u8), 4); // -10 + 2 * 7
+    /// assert_eq!(10i8.absm(&7u8), 3);
+    /// ```
     ///
     /// # Panics
     ///

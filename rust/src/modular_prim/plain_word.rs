@@ -1,14 +1,31 @@
 //! Words with division, which the paths don't use.
-
-use crate::modular_prim::numbered::Numbered;
 use crate::modular_word::path_word::PathWord;
 use crate::modular_word::word::{w8, w16, w32, w64};
 #[cfg(target_pointer_width = "64")]
 use crate::modular_word::word::wsize;
 
 /// A machine word with quotients and remainders.
-pub trait PlainWord: Sized + PathWord + Numbered {
+///
+/// # Examples
+///
+/// ```
+/// use num_modular::PlainWord;
+///
+/// fn gcd<T: PlainWord>(a: T, b: T) -> T {
+///     if b.is_zero_word() { a } else { gcd(b, a.remainder(b)) }
+/// }
+/// assert_eq!((gcd(48u8, 36), gcd(1000u64, 360)), (12, 40));
+/// ```
+pub trait PlainWord: Sized + PathWord {
     /// The quotient of two words, rounded down.
+    ///
+    /// # Examples
+    ///
+    /// ```
+    /// use num_modular::PlainWord;
+    ///
+    /// assert_eq!(100u8.quotient(7), 14);
+    /// ```
     ///
     /// # Panics
     ///
@@ -19,6 +36,14 @@ pub trait PlainWord: Sized + PathWord + Numbered {
 
     /// The remainder of two words.
     ///
+    /// # Examples
+    ///
+    /// ```
+    /// use num_modular::PlainWord;
+    ///
+    /// assert_eq!(100u8.remainder(7), 2);
+    /// ```
+    ///
     /// # Panics
     ///
     /// Panics unless the modulus is at least 1.
@@ -28,6 +53,15 @@ pub trait PlainWord: Sized + PathWord + Numbered {
 
     /// The low word of the quotient of a double word by a word, rounded down.
     ///
+    /// # Examples
+    ///
+    /// ```
+    /// use num_modular::PlainWord;
+    ///
+    /// assert_eq!(u8::low_quotient(1000, 7), 142);
+    /// assert_eq!(u8::low_quotient(2000, 7), 29); // 285 - 256
+    /// ```
+    ///
     /// # Panics
     ///
     /// Panics unless the divisor is at least 1.
@@ -36,6 +70,14 @@ pub trait PlainWord: Sized + PathWord + Numbered {
     fn low_quotient(double: Self::Double, d: Self) -> Self;
 
     /// The remainder of a double word by a word.
+    ///
+    /// # Examples
+    ///
+    /// ```
+    /// use num_modular::PlainWord;
+    ///
+    /// assert_eq!(u8::narrow_remainder(2000, 7), 5);
+    /// ```
     ///
     /// # Panics
     ///

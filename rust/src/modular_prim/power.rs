@@ -5,7 +5,6 @@ use crate::modular_prim::reciprocal::invert_word;
 use crate::modular_prim::residues::{mulm, reduced, sqm};
 use crate::modular_word::path_word::PathWord;
 use crate::modular_word::paths::{div_2by1, neginv, redc, two};
-use crate::modular_word::ring_word::RingWord;
 
 /// The residue of the power of `base` to `exp`, below m; that of 1 for the exponent 0.
 ///
@@ -124,12 +123,30 @@ fn power_or_zero<T: PlainWord>(base: T, exp: T, m: T) -> T {
 }
 
 /// `powm` of words of 32 bits, below m; 0 for m = 0.
+///
+/// # Examples
+///
+/// ```
+/// use num_modular::prim::powm_u32;
+///
+/// assert_eq!(powm_u32(2, 10, 1000), 24); // 1024 modulo 1000
+/// assert_eq!(powm_u32(2, 10, 0), 0);
+/// ```
 #[inline]
 pub fn powm_u32(base: u32, exp: u32, m: u32) -> u32 {
     power_or_zero(base, exp, m)
 }
 
 /// `powm` of words of 64 bits, below m; 0 for m = 0.
+///
+/// # Examples
+///
+/// ```
+/// use num_modular::prim::powm_u64;
+///
+/// assert_eq!(powm_u64(3, 100, 101), 1); // Fermat's little theorem
+/// assert_eq!(powm_u64(3, 100, 0), 0);
+/// ```
 #[inline]
 pub fn powm_u64(base: u64, exp: u64, m: u64) -> u64 {
     power_or_zero(base, exp, m)

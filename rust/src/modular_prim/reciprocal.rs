@@ -1,9 +1,7 @@
 //! The reciprocal of a word.
 
 use crate::modular_prim::plain_word::PlainWord;
-use crate::modular_word::path_word::PathWord;
 use crate::modular_word::paths::ones;
-use crate::modular_word::ring_word::RingWord;
 
 /// The reciprocal of a divisor d: (B² - 1)/d - B, rounded down, with B the base.
 ///

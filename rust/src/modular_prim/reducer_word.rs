@@ -5,7 +5,6 @@ use crate::modular_prim::inverse::fast_inverse;
 use crate::modular_prim::plain_word::PlainWord;
 use crate::modular_word::path_word::PathWord;
 use crate::modular_word::paths::ones;
-use crate::modular_word::ring_word::RingWord;
 
 /// A machine word with what reducers divide for: inverses, and a number that is computed once for each modulus. It
 /// has no quotient and no remainder, so that code over this trait alone can't reduce a product by one.

@@ -3,7 +3,6 @@
 use crate::modular_prim::below::{add_below, dbl_below, neg_below, sub_below};
 use crate::modular_prim::plain_word::PlainWord;
 use crate::modular_word::path_word::PathWord;
-use crate::modular_word::ring_word::RingWord;
 
 // Whether a word is below m. Always false for words of at most 16 bits, where a mispredicted branch takes longer
 // than the division that it avoids.

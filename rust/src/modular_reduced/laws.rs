@@ -104,9 +104,3 @@ pub fn is_equivalence<I: ModularInteger>(a: &I, b: &I, c: &I) -> bool {
     let transitive = !(forth && *b == *c) || *a == *c;
     reflexive && forth == back && transitive
 }
-
-/// Forms and values are one to one. The form of a value v fits a word, is checked, and has the value v. A checked
-/// form is the form of its value, so that forms of equal values are equal. A word that represents v is a checked
-/// form of value v.
-#[inline]
-pub fn canonical_laws<T: RingWord, R: Reducer<T>>(reducer: &R) {}

@@ -30,6 +30,17 @@ fn binary_power<T: RingWord, R: Reducer<T>>(reducer: &R, base: T, exp: T) -> (T,
 /// Source: Knuth, The Art of Computer Programming, volume 2, section 4.6.3, algorithm A, with a square at the last
 /// digit too.
 ///
+/// # Examples
+///
+/// ```
+/// use num_modular::reduced::pow_counted;
+/// use num_modular::{Reducer, Vanilla};
+///
+/// let ring = Vanilla::<u64>::new(&97);
+/// // 3^5 = 243 = 2 * 97 + 49; 5 has three binary digits, two of which are 1
+/// assert_eq!(pow_counted(&ring, 3, &5), (49, 3 + 2));
+/// ```
+///
 /// # Preconditions
 ///
 /// The base is a checked form. This isn't tested: outside it the call panics, or returns no meaningful
@@ -38,15 +49,8 @@ pub fn pow_counted<T: RingWord, R: Reducer<T>>(reducer: &R, base: T, exp: &T) ->
     if *exp == T::one() {
         return (base, 0);
     }
-    if exp.half() == T::one() {
-        if !exp.is_odd() {
-            return (reducer.sqr(base), 1);
-        }
+    if exp.half() == T::one() && !exp.is_odd() {
+        return (reducer.sqr(base), 1);
     }
     binary_power(reducer, base, *exp)
 }
-
-/// The number of binary digits of e is the least k with e below 2^k.
-#[doc(hidden)]
-#[inline]
-pub fn digit_laws() {}

@@ -15,9 +15,6 @@ mod sub;
 
 /// An integer modulo m: a form, and its reducer.
 ///
-/// Contracts use its modulus (`modulus_of`), its residue, a number below the modulus (`residue_of`), and its form
-/// (`form_of`).
-///
 /// | Operators | Return modulo m | Condition |
 /// |---|---|---|
 /// | `x + y`, `x - y`, `x * y`, and `+=`, `-=`, `*=` | the sum, difference, product | the moduli are equal |
@@ -45,6 +42,15 @@ pub struct ReducedInt<T, R> {
 }
 
 /// Integers modulo m by plain reduction: the form of a residue is the residue.
+///
+/// # Examples
+///
+/// ```
+/// use num_modular::{ModularInteger, VanillaInt};
+///
+/// let x = VanillaInt::<u8>::new(10, &21);
+/// assert_eq!((x * x).residue(), 16); // 100 modulo 21
+/// ```
 pub type VanillaInt<T> = ReducedInt<T, Vanilla<T>>;
 
 impl<T: RingWord, R: Reducer<T> + Copy> Copy for ReducedInt<T, R> {}

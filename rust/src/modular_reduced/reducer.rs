@@ -6,7 +6,7 @@ use crate::modular_word::ring_word::RingWord;
 /// Arithmetic modulo m on forms: words that represent the values from 0 to m - 1.
 ///
 /// A form is checked where `check` returns true. Each value has exactly one checked form, and each checked form
-/// exactly one value. Condition of every call but `check` and `transform`: the forms are checked.
+/// exactly one value. Condition of every call but `check` and `transform`: each form is checked.
 ///
 /// # Examples
 ///
@@ -21,6 +21,18 @@ use crate::modular_word::ring_word::RingWord;
 pub trait Reducer<T: RingWord>: Sized {
     /// The reducer of a modulus.
     ///
+    /// # Examples
+    ///
+    /// ```
+    /// use num_modular::{Reducer, Vanilla};
+    ///
+    /// fn product<R: Reducer<u64>>(x: u64, y: u64, m: u64) -> u64 {
+    ///     let ring = R::new(&m);
+    ///     ring.residue(ring.mul(&ring.transform(x), &ring.transform(y)))
+    /// }
+    /// assert_eq!(product::<Vanilla<u64>>(1000, 3, 97), 90); // 3000 modulo 97
+    /// ```
+    ///
     /// # Panics
     ///
     /// Panics unless the reducer admits the modulus.
@@ -29,43 +41,111 @@ pub trait Reducer<T: RingWord>: Sized {
     fn new(m: &T) -> Self;
 
     /// The form of n mod m, for every word n.
+    ///
+    /// # Examples
+    ///
+    /// ```
+    /// use num_modular::{FixedMontgomery32, Reducer};
+    ///
+    /// let ring = FixedMontgomery32::<97>::RING;
+    /// assert_eq!(ring.transform(1) as u64, (1 << 32) % 97);
+    /// assert_eq!(ring.transform(98), ring.transform(1));
+    /// ```
     fn transform(&self, n: T) -> T;
 
     /// Whether a word is a checked form.
+    ///
+    /// # Examples
+    ///
+    /// ```
+    /// use num_modular::{Reducer, Vanilla};
+    ///
+    /// let ring = Vanilla::<u64>::new(&97);
+    /// assert!(ring.check(&96));
+    /// assert!(!ring.check(&97));
+    /// ```
     fn check(&self, f: &T) -> bool;
 
     /// The modulus.
+    ///
+    /// # Examples
+    ///
+    /// ```
+    /// use num_modular::{FixedMersenne64, Reducer};
+    ///
+    /// assert_eq!(FixedMersenne64::<61, 1>::RING.modulus(), (1 << 61) - 1);
+    /// ```
     fn modulus(&self) -> T;
 
     /// The value of a form: a number below the modulus.
     ///
+    /// # Examples
+    ///
+    /// ```
+    /// use num_modular::{Montgomery, Reducer};
+    ///
+    /// let ring = Montgomery::<u64>::new(97);
+    /// assert_eq!(ring.residue(ring.transform(100)), 3);
+    /// ```
+    ///
     /// # Preconditions
     ///
-    /// The forms are checked. This isn't tested: outside it the call panics, or returns no meaningful
+    /// Each form is checked. This isn't tested: outside it the call panics, or returns no meaningful
     /// result.
     fn residue(&self, f: T) -> T;
 
     /// Whether the value of a form is 0.
     ///
+    /// # Examples
+    ///
+    /// ```
+    /// use num_modular::{Montgomery, Reducer};
+    ///
+    /// let ring = Montgomery::<u64>::new(97);
+    /// assert!(ring.is_zero(&ring.transform(194))); // 2 * 97
+    /// assert!(!ring.is_zero(&ring.transform(195)));
+    /// ```
+    ///
     /// # Preconditions
     ///
-    /// The forms are checked. This isn't tested: outside it the call panics, or returns no meaningful
+    /// Each form is checked. This isn't tested: outside it the call panics, or returns no meaningful
     /// result.
     fn is_zero(&self, f: &T) -> bool;
 
     /// The form of the sum modulo m.
     ///
+    /// # Examples
+    ///
+    /// ```
+    /// use num_modular::{Montgomery, Reducer};
+    ///
+    /// let ring = Montgomery::<u64>::new(97);
+    /// let (x, y) = (ring.transform(60), ring.transform(50));
+    /// assert_eq!(ring.residue(ring.add(&x, &y)), 13); // 110 - 97
+    /// ```
+    ///
     /// # Preconditions
     ///
-    /// The forms are checked. This isn't tested: outside it the call panics, or returns no meaningful
+    /// Each form is checked. This isn't tested: outside it the call panics, or returns no meaningful
     /// result.
     fn add(&self, a: &T, b: &T) -> T;
 
     /// `add`, in place of the first operand.
     ///
+    /// # Examples
+    ///
+    /// ```
+    /// use num_modular::{Reducer, Vanilla};
+    ///
+    /// let ring = Vanilla::<u64>::new(&97);
+    /// let mut sum = 60;
+    /// ring.add_in_place(&mut sum, &50);
+    /// assert_eq!(sum, 13);
+    /// ```
+    ///
     /// # Preconditions
     ///
-    /// The forms are checked. This isn't tested: outside it the call panics, or returns no meaningful
+    /// Each form is checked. This isn't tested: outside it the call panics, or returns no meaningful
     /// result.
     #[inline]
     fn add_in_place(&self, a: &mut T, b: &T) {
@@ -74,25 +154,55 @@ pub trait Reducer<T: RingWord>: Sized {
 
     /// The form of the double modulo m.
     ///
+    /// # Examples
+    ///
+    /// ```
+    /// use num_modular::{Montgomery, Reducer};
+    ///
+    /// let ring = Montgomery::<u64>::new(97);
+    /// assert_eq!(ring.residue(ring.dbl(ring.transform(60))), 23); // 120 - 97
+    /// ```
+    ///
     /// # Preconditions
     ///
-    /// The forms are checked. This isn't tested: outside it the call panics, or returns no meaningful
+    /// Each form is checked. This isn't tested: outside it the call panics, or returns no meaningful
     /// result.
     fn dbl(&self, f: T) -> T;
 
     /// The form of the difference modulo m.
     ///
+    /// # Examples
+    ///
+    /// ```
+    /// use num_modular::{Montgomery, Reducer};
+    ///
+    /// let ring = Montgomery::<u64>::new(97);
+    /// let (x, y) = (ring.transform(50), ring.transform(60));
+    /// assert_eq!(ring.residue(ring.sub(&x, &y)), 87); // -10 + 97
+    /// ```
+    ///
     /// # Preconditions
     ///
-    /// The forms are checked. This isn't tested: outside it the call panics, or returns no meaningful
+    /// Each form is checked. This isn't tested: outside it the call panics, or returns no meaningful
     /// result.
     fn sub(&self, a: &T, b: &T) -> T;
 
     /// `sub`, in place of the first operand.
     ///
+    /// # Examples
+    ///
+    /// ```
+    /// use num_modular::{Reducer, Vanilla};
+    ///
+    /// let ring = Vanilla::<u64>::new(&97);
+    /// let mut difference = 50;
+    /// ring.sub_in_place(&mut difference, &60);
+    /// assert_eq!(difference, 87);
+    /// ```
+    ///
     /// # Preconditions
     ///
-    /// The forms are checked. This isn't tested: outside it the call panics, or returns no meaningful
+    /// Each form is checked. This isn't tested: outside it the call panics, or returns no meaningful
     /// result.
     #[inline]
     fn sub_in_place(&self, a: &mut T, b: &T) {
@@ -101,25 +211,55 @@ pub trait Reducer<T: RingWord>: Sized {
 
     /// The form of the negative modulo m.
     ///
+    /// # Examples
+    ///
+    /// ```
+    /// use num_modular::{Montgomery, Reducer};
+    ///
+    /// let ring = Montgomery::<u64>::new(97);
+    /// assert_eq!(ring.residue(ring.neg(ring.transform(10))), 87);
+    /// ```
+    ///
     /// # Preconditions
     ///
-    /// The forms are checked. This isn't tested: outside it the call panics, or returns no meaningful
+    /// Each form is checked. This isn't tested: outside it the call panics, or returns no meaningful
     /// result.
     fn neg(&self, f: T) -> T;
 
     /// The form of the product modulo m.
     ///
+    /// # Examples
+    ///
+    /// ```
+    /// use num_modular::{Montgomery, Reducer};
+    ///
+    /// let ring = Montgomery::<u64>::new(97);
+    /// let (x, y) = (ring.transform(20), ring.transform(10));
+    /// assert_eq!(ring.residue(ring.mul(&x, &y)), 6); // 200 - 2 * 97
+    /// ```
+    ///
     /// # Preconditions
     ///
-    /// The forms are checked. This isn't tested: outside it the call panics, or returns no meaningful
+    /// Each form is checked. This isn't tested: outside it the call panics, or returns no meaningful
     /// result.
     fn mul(&self, a: &T, b: &T) -> T;
 
     /// `mul`, in place of the first operand.
     ///
+    /// # Examples
+    ///
+    /// ```
+    /// use num_modular::{Reducer, Vanilla};
+    ///
+    /// let ring = Vanilla::<u64>::new(&97);
+    /// let mut product = 20;
+    /// ring.mul_in_place(&mut product, &10);
+    /// assert_eq!(product, 6);
+    /// ```
+    ///
     /// # Preconditions
     ///
-    /// The forms are checked. This isn't tested: outside it the call panics, or returns no meaningful
+    /// Each form is checked. This isn't tested: outside it the call panics, or returns no meaningful
     /// result.
     #[inline]
     fn mul_in_place(&self, a: &mut T, b: &T) {
@@ -131,9 +271,19 @@ pub trait Reducer<T: RingWord>: Sized {
     /// A reducer may override it with a faster body for callers in which the comparison of a and b mispredicts, as
     /// in the butterflies of a transform.
     ///
+    /// # Examples
+    ///
+    /// ```
+    /// use num_modular::{Montgomery, Reducer};
+    ///
+    /// let ring = Montgomery::<u64>::new(97);
+    /// let [x, y, factor] = [50, 60, 3].map(|n| ring.transform(n));
+    /// assert_eq!(ring.residue(ring.mul_difference(&x, &y, &factor)), 67); // -30 + 97
+    /// ```
+    ///
     /// # Preconditions
     ///
-    /// The forms are checked. This isn't tested: outside it the call panics, or returns no meaningful
+    /// Each form is checked. This isn't tested: outside it the call panics, or returns no meaningful
     /// result.
     #[inline]
     fn mul_difference(&self, a: &T, b: &T, factor: &T) -> T {
@@ -143,25 +293,53 @@ pub trait Reducer<T: RingWord>: Sized {
 
     /// The form of the inverse modulo m; `None` exactly where there is none.
     ///
+    /// # Examples
+    ///
+    /// ```
+    /// use num_modular::{Montgomery, Reducer};
+    ///
+    /// let ring = Montgomery::<u64>::new(10);
+    /// assert_eq!(ring.inv(ring.transform(3)).map(|f| ring.residue(f)), Some(7)); // 3 * 7 = 21
+    /// assert_eq!(ring.inv(ring.transform(4)), None);
+    /// ```
+    ///
     /// # Preconditions
     ///
-    /// The forms are checked. This isn't tested: outside it the call panics, or returns no meaningful
+    /// Each form is checked. This isn't tested: outside it the call panics, or returns no meaningful
     /// result.
     fn inv(&self, f: T) -> Option<T>;
 
     /// The form of the square modulo m.
     ///
+    /// # Examples
+    ///
+    /// ```
+    /// use num_modular::{Montgomery, Reducer};
+    ///
+    /// let ring = Montgomery::<u64>::new(97);
+    /// assert_eq!(ring.residue(ring.sqr(ring.transform(10))), 3);
+    /// ```
+    ///
     /// # Preconditions
     ///
-    /// The forms are checked. This isn't tested: outside it the call panics, or returns no meaningful
+    /// Each form is checked. This isn't tested: outside it the call panics, or returns no meaningful
     /// result.
     fn sqr(&self, f: T) -> T;
 
     /// The form of the power to the exponent `exp` modulo m; that of 1 for the exponent 0.
     ///
+    /// # Examples
+    ///
+    /// ```
+    /// use num_modular::{Montgomery, Reducer};
+    ///
+    /// let ring = Montgomery::<u64>::new(1000);
+    /// assert_eq!(ring.residue(ring.pow(ring.transform(2), &10)), 24); // 1024 modulo 1000
+    /// ```
+    ///
     /// # Preconditions
     ///
-    /// The forms are checked. This isn't tested: outside it the call panics, or returns no meaningful
+    /// Each form is checked. This isn't tested: outside it the call panics, or returns no meaningful
     /// result.
     #[inline]
     fn pow(&self, f: T, exp: &T) -> T {

@@ -11,6 +11,16 @@ use crate::modular_prim::plain_word::PlainWord;
 /// word. An inverse is computed by subtraction for an odd modulus, by Euclid's algorithm for an even one.
 ///
 /// Source: Handbook of Applied Cryptography, section 14.3.1.
+///
+/// # Examples
+///
+/// ```
+/// use num_modular::{Reducer, Vanilla};
+///
+/// let ring = Vanilla::<u32>::new(&100);
+/// assert_eq!(ring.mul(&12, &34), 8); // 408 modulo 100
+/// assert_eq!(ring.inv(3), Some(67)); // 3 * 67 = 201
+/// ```
 #[derive(Debug)]
 #[must_use]
 pub struct Vanilla<T> {

@@ -3,13 +3,31 @@
 use crate::modular_folds::mersenne::FixedMersenne64;
 use crate::modular_reduced::modular_integer::ModularInteger;
 use crate::modular_reduced::reduced_int::ReducedInt;
-use crate::modular_word::laws::residue_laws;
 
 /// A hash: an integer modulo 2^61 - 1.
+///
+/// # Examples
+///
+/// ```
+/// use num_modular::hashes::{base, hash, Hash};
+/// use num_modular::ModularInteger;
+///
+/// let h: Hash = hash(base(256), b"ab");
+/// assert_eq!(h.residue(), 97 * 256 + 98); // the codes of a and b
+/// ```
 pub type Hash = ReducedInt<u64, FixedMersenne64<61, 1>>;
 
-/// A base of hashes: n modulo 2^61 - 1. Two different texts of n bytes have the same hash at fewer than n bases
-/// (`collision_laws` of the crate `mersenne_hash`), so a random base distinguishes them with high probability.
+/// A base of hashes: n modulo 2^61 - 1. Two different texts of k bytes have the same hash at fewer than k bases, so a
+/// random base distinguishes them with high probability.
+///
+/// # Examples
+///
+/// ```
+/// use num_modular::hashes::base;
+/// use num_modular::ModularInteger;
+///
+/// assert_eq!(base(1 << 61).residue(), 1);
+/// ```
 #[inline]
 pub fn base(n: u64) -> Hash {
     Hash::new(n, &FixedMersenne64::<61, 1>::fixed_modulus())
@@ -19,6 +37,15 @@ pub fn base(n: u64) -> Hash {
 /// modulo 2^61 - 1.
 ///
 /// Source: Karp and Rabin, "Efficient randomized pattern-matching algorithms".
+///
+/// # Examples
+///
+/// ```
+/// use num_modular::hashes::{base, hash};
+/// use num_modular::ModularInteger;
+///
+/// assert_eq!(hash(base(1000), &[1, 2, 3]).residue(), 1_002_003);
+/// ```
 #[inline]
 pub fn hash(base: Hash, text: &[u8]) -> Hash {
     let mut value = base.convert(0);
@@ -33,9 +60,18 @@ pub fn hash(base: Hash, text: &[u8]) -> Hash {
 /// `power` is the power of the base to the window's length.
 ///
 /// Source: Karp and Rabin, "Efficient randomized pattern-matching algorithms".
+///
+/// # Examples
+///
+/// ```
+/// use num_modular::hashes::{base, hash, moved};
+///
+/// let base = base(1000);
+/// let window = hash(base, &[1, 2, 3]);
+/// assert_eq!(moved(base, base.pow(&3), window, 1, 4), hash(base, &[2, 3, 4]));
+/// ```
 #[inline]
 pub fn moved(base: Hash, power: Hash, window: Hash, first: u8, next: u8) -> Hash {
-    residue_laws();
     let longer = window * base + next as u64;
     longer - power * first as u64
 }
@@ -50,11 +86,21 @@ fn is_hit(wanted: Hash, window: Hash, text: &[u8], pattern: &[u8], at: usize) ->
 /// The first position where the pattern occurs in the text; `None` exactly where it occurs nowhere.
 ///
 /// The result is right for every base, because the bytes of a window are compared where its hash is the pattern's.
-/// For a base that is drawn at random after text and pattern are fixed, few other windows have that hash
-/// (`collision_laws` of `mersenne_hash`). For the base 0, where the hash is the last byte, or for a text that an
-/// adversary chose for the base, all of them may: no contract bounds the time.
+/// For a base that is drawn at random after text and pattern are fixed, few other windows have that hash. For the base
+/// 0, where the hash is the last byte, or for a text that an adversary chose for the base, all of them may; the search
+/// then compares the pattern at each position.
 ///
 /// Source: Karp and Rabin, "Efficient randomized pattern-matching algorithms".
+///
+/// # Examples
+///
+/// ```
+/// use num_modular::hashes::{base, find};
+///
+/// let base = base(123_456_789);
+/// assert_eq!(find(base, b"abracadabra", b"cad"), Some(4));
+/// assert_eq!(find(base, b"abracadabra", b"cab"), None);
+/// ```
 pub fn find(base: Hash, text: &[u8], pattern: &[u8]) -> Option<usize> {
     let length = pattern.len();
     if length > text.len() {

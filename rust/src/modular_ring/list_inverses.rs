@@ -9,6 +9,18 @@ use crate::modular_word::ring_word::RingWord;
 /// Source: Montgomery, "Speeding the Pollard and elliptic curve methods of factorization", section 10.3.1: the
 /// inverses come from that of the product of all forms.
 ///
+/// # Examples
+///
+/// ```
+/// use num_modular::ring::invert_each;
+/// use num_modular::{Reducer, Vanilla};
+///
+/// let ring = Vanilla::<u64>::new(&17);
+/// let (mut forms, mut scratch) = ([3, 4], [0; 2]);
+/// assert!(invert_each(&ring, &mut forms, &mut scratch));
+/// assert_eq!(forms, [6, 13]); // 3 * 6 = 17 + 1, and 4 * 13 = 3 * 17 + 1
+/// ```
+///
 /// # Preconditions
 ///
 /// The forms are checked, and the scratch list is as long. This isn't tested: outside it the call

@@ -2,12 +2,10 @@
 
 use crate::modular_reduced::modular_integer::ModularInteger;
 use crate::modular_reduced::reduced_int::VanillaInt;
-use crate::modular_word::laws::{divisor_laws, inverse_laws, residue_laws};
 
 // Whether n has an inverse modulo m.
 #[inline]
 fn has_inverse(n: u128, m: u64) -> bool {
-    inverse_laws();
     VanillaInt::<u64>::new((n % m as u128) as u64, &m)
         .inv()
         .is_some()
@@ -20,11 +18,18 @@ fn next_range(range: u128, m: u64) -> Option<u128> {
 }
 
 /// Whether the moduli are those of a system: each is above 0, any two are coprime, and their product is below 2^128.
+///
+/// # Examples
+///
+/// ```
+/// use num_modular::residues::is_system;
+///
+/// assert!(is_system(&[3, 5, 7]));
+/// assert!(!is_system(&[4, 6])); // 2 divides both
+/// ```
 pub fn is_system(moduli: &[u64]) -> bool {
-    divisor_laws();
-    inverse_laws();
     let mut range: u128 = 1;
-    for (place, modulus) in moduli.iter().enumerate() {
+    for modulus in moduli.iter() {
         if *modulus == 0 || !has_inverse(range, *modulus) {
             return false;
         }
@@ -38,14 +43,22 @@ pub fn is_system(moduli: &[u64]) -> bool {
 
 // The next digit of a number in the mixed radix of the moduli: the factor of `range` for which the sum has the residue.
 fn next_digit(m: u64, residue: u64, number: u128, range: u128) -> u64 {
-    inverse_laws();
-    residue_laws();
     let known = VanillaInt::<u64>::new((number % m as u128) as u64, &m);
     let weight = known.convert((range % m as u128) as u64);
     ((known.convert(residue) - known) / weight).residue()
 }
 
 /// The residues of a number.
+///
+/// # Examples
+///
+/// ```
+/// use num_modular::residues::encode;
+///
+/// let mut residues = [0; 3];
+/// encode(&[3, 5, 7], 23, &mut residues);
+/// assert_eq!(residues, [2, 3, 2]);
+/// ```
 ///
 /// # Panics
 ///
@@ -61,6 +74,15 @@ pub fn encode(moduli: &[u64], number: u128, residues: &mut [u64]) {
 }
 
 /// Whether each residue is below its modulus.
+///
+/// # Examples
+///
+/// ```
+/// use num_modular::residues::are_reduced;
+///
+/// assert!(are_reduced(&[3, 5, 7], &[2, 3, 2]));
+/// assert!(!are_reduced(&[3, 5, 7], &[3, 3, 2]));
+/// ```
 ///
 /// # Preconditions
 ///
@@ -81,6 +103,14 @@ pub fn are_reduced(moduli: &[u64], residues: &[u64]) -> bool {
 /// Source: Garner, "The residue number system"; Knuth, The Art of Computer Programming, volume 2, section 4.3.2,
 /// (24) and (25).
 ///
+/// # Examples
+///
+/// ```
+/// use num_modular::residues::decode;
+///
+/// assert_eq!(decode(&[3, 5, 7], &[2, 3, 2]), 23); // Sunzi's example
+/// ```
+///
 /// # Panics
 ///
 /// Panics unless the moduli are a system (`is_system` tells), and each has a residue below it
@@ -89,8 +119,6 @@ pub fn are_reduced(moduli: &[u64], residues: &[u64]) -> bool {
 pub fn decode(moduli: &[u64], residues: &[u64]) -> u128 {
     assert!(crate::additions::may_be_system(moduli), "the moduli must be a system");
     assert!(residues.len() >= moduli.len() && are_reduced(moduli, residues), "each must have a residue below it");
-    divisor_laws();
-    inverse_laws();
     let mut number: u128 = 0;
     let mut range: u128 = 1;
     for (place, modulus) in moduli.iter().enumerate() {

@@ -6,6 +6,18 @@ use crate::modular_word::ring_word::RingWord;
 /// A command on registers, each given by its index in a slice of forms.
 ///
 /// Operands are read before `dst` is written, so `dst` may be an operand.
+///
+/// # Examples
+///
+/// ```
+/// use num_modular::ring::{run, RingCommand};
+/// use num_modular::{Reducer, Vanilla};
+///
+/// let ring = Vanilla::<u64>::new(&97);
+/// let mut registers = [0];
+/// run(&ring, &mut registers, &[RingCommand::Load { dst: 0, n: 1000 }, RingCommand::Sqr { dst: 0, a: 0 }]);
+/// assert_eq!(registers, [27]); // 1000000 modulo 97
+/// ```
 #[derive(Debug, PartialEq, Eq)]
 pub enum RingCommand<T> {
     /// Writes n modulo m.
@@ -101,6 +113,18 @@ impl<T: Copy> Clone for RingCommand<T> {
 impl<T: Copy> Copy for RingCommand<T> {}
 
 /// How a run ended.
+///
+/// # Examples
+///
+/// ```
+/// use num_modular::ring::{run, RingCommand, RunEnd};
+/// use num_modular::{Reducer, Vanilla};
+///
+/// let ring = Vanilla::<u64>::new(&10);
+/// let inverse = RingCommand::Inv { dst: 0, a: 0 };
+/// assert_eq!(run(&ring, &mut [3], &[inverse]), RunEnd::Done);
+/// assert_eq!(run(&ring, &mut [4], &[inverse]), RunEnd::NoInverse { at: 0 });
+/// ```
 #[derive(Clone, Copy, Debug, PartialEq, Eq)]
 pub enum RunEnd {
     /// Every command was carried out.
@@ -141,12 +165,33 @@ fn command_fits<T: RingWord>(command: &RingCommand<T>, len: usize) -> bool {
 }
 
 /// Whether each register number of the commands is below `len`.
+///
+/// # Examples
+///
+/// ```
+/// use num_modular::ring::{commands_fit, RingCommand};
+///
+/// let commands = [RingCommand::<u64>::Add { dst: 2, a: 0, b: 1 }];
+/// assert!(commands_fit(&commands, 3));
+/// assert!(!commands_fit(&commands, 2));
+/// ```
 #[inline]
 pub fn commands_fit<T: RingWord>(commands: &[RingCommand<T>], len: usize) -> bool {
     commands.iter().all(|command| command_fits(command, len))
 }
 
 /// Whether each register holds a checked form of the reducer.
+///
+/// # Examples
+///
+/// ```
+/// use num_modular::ring::all_checked;
+/// use num_modular::{Reducer, Vanilla};
+///
+/// let ring = Vanilla::<u64>::new(&97);
+/// assert!(all_checked(&ring, &[0, 96]));
+/// assert!(!all_checked(&ring, &[0, 97]));
+/// ```
 #[inline]
 pub fn all_checked<T: RingWord, R: Reducer<T>>(r: &R, regs: &[T]) -> bool {
     regs.iter().all(|form| r.check(form))

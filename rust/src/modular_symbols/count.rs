@@ -5,8 +5,6 @@ use crate::modular_prim::abs::signed_residue;
 use crate::modular_prim::euclid::invm;
 use crate::modular_prim::plain_word::PlainWord;
 use crate::modular_prim::residues::mulm;
-use crate::modular_word::path_word::PathWord;
-use crate::modular_word::ring_word::RingWord;
 
 /// The Jacobi symbol over n of a number, given by its sign and its magnitude: -1, 0 or 1, by a count of residues of
 /// the half system 1, .., (n - 1)/2.

@@ -2,7 +2,6 @@
 
 use crate::modular_symbols::halving::jacobi_counted;
 use crate::modular_prim::plain_word::PlainWord;
-use crate::modular_word::ring_word::RingWord;
 
 pub mod w16;
 pub mod w32;

@@ -4,8 +4,6 @@ use crate::modular_symbols::turns::{is_turned_by_swap, is_turned_by_twos};
 use crate::modular_prim::abs::signed_residue;
 use crate::modular_prim::digits;
 use crate::modular_prim::plain_word::PlainWord;
-use crate::modular_word::path_word::PathWord;
-use crate::modular_word::ring_word::RingWord;
 
 // Whether replacing `a`·2^twos over n by n over `a` negates the symbol.
 #[inline]
@@ -59,9 +57,3 @@ pub fn jacobi_by_halving<T: PlainWord>(a_minus: bool, a: T, n: T) -> i8 {
 pub fn jacobi_counted<T: PlainWord>(a_minus: bool, a: T, n: T) -> (i8, u32) {
     halve_and_swap(signed_residue(a_minus, a, n), n)
 }
-
-/// 0 takes no steps. 2^z times an odd number takes z halvings, a swap, and the steps of the residue after the swap.
-/// 2 to the number of steps is at most 2·a·n, for a from 1 to n - 1.
-#[doc(hidden)]
-#[inline]
-pub fn step_laws() {}

@@ -5,8 +5,6 @@ use crate::modular_symbols::turns::is_minus_over_two;
 use crate::modular_prim::abs::signed_residue;
 use crate::modular_prim::plain_word::PlainWord;
 use crate::modular_prim::power::powm;
-use crate::modular_word::path_word::PathWord;
-use crate::modular_word::ring_word::RingWord;
 
 /// The Jacobi symbol of a number over n.
 ///
@@ -49,9 +47,7 @@ pub fn checked_legendre<T: PlainWord>(a_minus: bool, a: T, n_minus: bool, n: T) 
 
 // `checked_legendre` without the statement on primes.
 fn class_of_power<T: PlainWord>(a_minus: bool, a: T, n_minus: bool, n: T) -> Option<i8> {
-    if n_minus {
-        None
-    } else if n.is_zero_word() {
+    if n_minus || n.is_zero_word() {
         None
     } else {
         let last = n.minus(T::one());

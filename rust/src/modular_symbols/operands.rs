@@ -1,25 +1,33 @@
 //! The integer of an operand, and words given by their sign and their magnitude.
 
 use crate::modular_symbols::low_part::LowPart;
-pub use crate::modular_prim::numbered::IntegerValued;
-use crate::modular_prim::numbered::Numbered;
-use crate::modular_prim::plain_word::PlainWord;
-
-/// An unsigned operand: its integer is its whole number, which `==` compares.
-///
-/// It has no methods. Code that is generic over the modular operations and the symbols uses it to treat both
-/// numbers of an operand as one.
-#[doc(hidden)]
-pub trait UnsignedOperand: Sized + Numbered + IntegerValued + Eq {}
-
-impl<Any: Numbered + IntegerValued + Eq> UnsignedOperand for Any {}
 
 /// A signed or unsigned machine word.
-pub trait SymbolWord: IntegerValued + Copy {
+///
+/// # Examples
+///
+/// ```
+/// use num_modular::SymbolWord;
+///
+/// fn is_positive<T: SymbolWord + PartialEq + Default>(n: T) -> bool {
+///     n != T::default() && !n.sign_and_magnitude().0
+/// }
+/// assert!(is_positive(3u8) && !is_positive(-3i64) && !is_positive(0));
+/// ```
+pub trait SymbolWord: Copy {
     /// The unsigned word that holds every magnitude, also that of the least number.
     type Magnitude: LowPart;
 
     /// Whether the number is negative, and its magnitude.
+    ///
+    /// # Examples
+    ///
+    /// ```
+    /// use num_modular::SymbolWord;
+    ///
+    /// assert_eq!((-128i8).sign_and_magnitude(), (true, 128));
+    /// assert_eq!(5u64.sign_and_magnitude(), (false, 5));
+    /// ```
     fn sign_and_magnitude(self) -> (bool, Self::Magnitude);
 }
 

@@ -1,14 +1,33 @@
 //! The modular operations and the symbols over plain references.
 
-use crate::modular_symbols::operands::{SymbolWord, UnsignedOperand};
+use crate::modular_symbols::operands::SymbolWord;
 use crate::modular_symbols::symbols::ModularSymbols;
 use crate::modular_prim::plain_word::PlainWord;
 use crate::modular_prim::{euclid, power, residues};
 
 /// All modular operations and the symbols of a word, with every operand by reference; the results are those of
 /// `ModularOps`. Condition of each operation: m is at least 1. The symbols have none.
-pub trait ModularRefOps: UnsignedOperand + Copy {
+///
+/// # Examples
+///
+/// ```
+/// use num_modular::ModularRefOps;
+///
+/// fn sum_of_squares<T: ModularRefOps>(x: &T, y: &T, m: &T) -> T {
+///     x.sqm_ref(m).addm_ref(&y.sqm_ref(m), m)
+/// }
+/// assert_eq!(sum_of_squares(&3u8, &4, &7), 4); // 25 modulo 7
+/// ```
+pub trait ModularRefOps: Eq + Copy {
     /// The residue of the sum.
+    ///
+    /// # Examples
+    ///
+    /// ```
+    /// use num_modular::ModularRefOps;
+    ///
+    /// assert_eq!(5u32.addm_ref(&4, &7), 2);
+    /// ```
     ///
     /// # Panics
     ///
@@ -19,6 +38,14 @@ pub trait ModularRefOps: UnsignedOperand + Copy {
 
     /// The residue of the difference.
     ///
+    /// # Examples
+    ///
+    /// ```
+    /// use num_modular::ModularRefOps;
+    ///
+    /// assert_eq!(4u32.subm_ref(&5, &7), 6);
+    /// ```
+    ///
     /// # Panics
     ///
     /// Panics unless m is at least 1.
@@ -27,6 +54,14 @@ pub trait ModularRefOps: UnsignedOperand + Copy {
     fn subm_ref(&self, rhs: &Self, m: &Self) -> Self;
 
     /// The residue of the product.
+    ///
+    /// # Examples
+    ///
+    /// ```
+    /// use num_modular::ModularRefOps;
+    ///
+    /// assert_eq!(5u32.mulm_ref(&4, &7), 6);
+    /// ```
     ///
     /// # Panics
     ///
@@ -37,6 +72,14 @@ pub trait ModularRefOps: UnsignedOperand + Copy {
 
     /// The residue of the negative.
     ///
+    /// # Examples
+    ///
+    /// ```
+    /// use num_modular::ModularRefOps;
+    ///
+    /// assert_eq!(3u32.negm_ref(&7), 4);
+    /// ```
+    ///
     /// # Panics
     ///
     /// Panics unless m is at least 1.
@@ -46,6 +89,15 @@ pub trait ModularRefOps: UnsignedOperand + Copy {
 
     /// The inverse modulo m, 0 for m = 1; `None` exactly where there is none.
     ///
+    /// # Examples
+    ///
+    /// ```
+    /// use num_modular::ModularRefOps;
+    ///
+    /// assert_eq!(3u32.invm_ref(&10), Some(7));
+    /// assert_eq!(4u32.invm_ref(&10), None);
+    /// ```
+    ///
     /// # Panics
     ///
     /// Panics unless m is at least 1.
@@ -53,6 +105,14 @@ pub trait ModularRefOps: UnsignedOperand + Copy {
     fn invm_ref(&self, m: &Self) -> Option<Self>;
 
     /// The residue of the double.
+    ///
+    /// # Examples
+    ///
+    /// ```
+    /// use num_modular::ModularRefOps;
+    ///
+    /// assert_eq!(5u32.dblm_ref(&7), 3);
+    /// ```
     ///
     /// # Panics
     ///
@@ -63,6 +123,14 @@ pub trait ModularRefOps: UnsignedOperand + Copy {
 
     /// The residue of the square.
     ///
+    /// # Examples
+    ///
+    /// ```
+    /// use num_modular::ModularRefOps;
+    ///
+    /// assert_eq!(5u32.sqm_ref(&7), 4);
+    /// ```
+    ///
     /// # Panics
     ///
     /// Panics unless m is at least 1.
@@ -72,6 +140,14 @@ pub trait ModularRefOps: UnsignedOperand + Copy {
 
     /// The residue of the power to the exponent `exp`; that of 1 for the exponent 0.
     ///
+    /// # Examples
+    ///
+    /// ```
+    /// use num_modular::ModularRefOps;
+    ///
+    /// assert_eq!(2u32.powm_ref(&10, &1000), 24);
+    /// ```
+    ///
     /// # Panics
     ///
     /// Panics unless m is at least 1.
@@ -80,16 +156,42 @@ pub trait ModularRefOps: UnsignedOperand + Copy {
     fn powm_ref(&self, exp: &Self, m: &Self) -> Self;
 
     /// 0, 1 or -1, as `checked_legendre` returns it; `None` where the power is none of these, and for n = 0.
+    ///
+    /// # Examples
+    ///
+    /// ```
+    /// use num_modular::ModularRefOps;
+    ///
+    /// assert_eq!(2u32.checked_legendre_ref(&7), Some(1)); // 3 * 3 = 9
+    /// assert_eq!(2u32.checked_legendre_ref(&9), None); // 2^4 modulo 9 is 7
+    /// ```
     fn checked_legendre_ref(&self, n: &Self) -> Option<i8>;
 
     /// The Jacobi symbol; `None` exactly for an even n.
+    ///
+    /// # Examples
+    ///
+    /// ```
+    /// use num_modular::ModularRefOps;
+    ///
+    /// assert_eq!(2u32.checked_jacobi_ref(&15), Some(1));
+    /// assert_eq!(2u32.checked_jacobi_ref(&14), None);
+    /// ```
     fn checked_jacobi_ref(&self, n: &Self) -> Option<i8>;
 
     /// The Kronecker symbol.
+    ///
+    /// # Examples
+    ///
+    /// ```
+    /// use num_modular::ModularRefOps;
+    ///
+    /// assert_eq!(3u32.kronecker_ref(&2), -1);
+    /// ```
     fn kronecker_ref(&self, n: &Self) -> i8;
 }
 
-impl<T: PlainWord + SymbolWord + UnsignedOperand> ModularRefOps for T {
+impl<T: PlainWord + SymbolWord + Eq> ModularRefOps for T {
     #[inline]
     #[cfg_attr(debug_assertions, track_caller)]
     fn addm_ref(&self, rhs: &T, m: &T) -> T {

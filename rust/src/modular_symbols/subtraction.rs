@@ -3,9 +3,6 @@
 use crate::modular_symbols::low_part::LowPart;
 use crate::modular_symbols::turns::{turn_by_swap, turn_by_twos};
 use crate::modular_prim::abs::signed_residue;
-use crate::modular_prim::plain_word::PlainWord;
-use crate::modular_word::path_word::PathWord;
-use crate::modular_word::ring_word::RingWord;
 
 // The odd part of a, or of n where a is 0; the lowest bit of the second result is 1 where this negates the symbol
 // over n.
@@ -66,6 +63,15 @@ fn subtract_and_halve<T: LowPart>(a: T, n: T) -> i8 {
 /// are equal. The only division is the reduction of a magnitude that isn't below n.
 ///
 /// Source: Shallit and Sorenson, "A binary algorithm for the Jacobi symbol", ACM SIGSAM Bulletin 27, 1993.
+///
+/// # Examples
+///
+/// ```
+/// use num_modular::prim::by_subtraction::jacobi;
+///
+/// assert_eq!(jacobi(false, 2u64, 15), 1);
+/// assert_eq!(jacobi(true, 1u64, 7), -1); // of -1 over 7
+/// ```
 ///
 /// # Preconditions
 ///

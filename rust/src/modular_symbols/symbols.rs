@@ -1,7 +1,7 @@
 //! The trait of the symbols.
 
 use crate::modular_symbols::magnitudes;
-use crate::modular_symbols::operands::{IntegerValued, SymbolWord};
+use crate::modular_symbols::operands::SymbolWord;
 
 /// The symbols of a number over n. A symbol is -1, 0 or 1.
 ///
@@ -13,8 +13,17 @@ use crate::modular_symbols::operands::{IntegerValued, SymbolWord};
 /// assert_eq!(2u8.jacobi(&15), 1);
 /// assert_eq!(2u8.checked_jacobi(&14), None);
 /// ```
-pub trait ModularSymbols<Modulus: IntegerValued = Self>: IntegerValued {
+pub trait ModularSymbols<Modulus = Self> {
     /// The value in `checked_legendre`.
+    ///
+    /// # Examples
+    ///
+    /// ```
+    /// use num_modular::ModularSymbols;
+    ///
+    /// assert_eq!(2u8.legendre(&7), 1); // 3 * 3 = 9
+    /// assert_eq!((-1i8).legendre(&7), -1);
+    /// ```
     ///
     /// # Panics
     ///
@@ -33,9 +42,26 @@ pub trait ModularSymbols<Modulus: IntegerValued = Self>: IntegerValued {
     ///
     /// For an odd prime n this is the Legendre symbol, which is the Jacobi symbol. The call doesn't test whether n
     /// is prime.
+    ///
+    /// # Examples
+    ///
+    /// ```
+    /// use num_modular::ModularSymbols;
+    ///
+    /// assert_eq!(2u8.checked_legendre(&7), Some(1)); // 2^3 modulo 7 is 1
+    /// assert_eq!(2u8.checked_legendre(&9), None); // 2^4 modulo 9 is 7
+    /// ```
     fn checked_legendre(&self, n: Modulus) -> Option<i8>;
 
     /// The value in `checked_jacobi`.
+    ///
+    /// # Examples
+    ///
+    /// ```
+    /// use num_modular::ModularSymbols;
+    ///
+    /// assert_eq!(7u8.jacobi(&15), -1); // 1 over 3, and -1 over 5
+    /// ```
     ///
     /// # Panics
     ///
@@ -52,6 +78,15 @@ pub trait ModularSymbols<Modulus: IntegerValued = Self>: IntegerValued {
     /// The Jacobi symbol; `None` exactly for an even n and for n below 1.
     ///
     /// Source: Cohen, "A Course in Computational Algebraic Number Theory", algorithm 1.4.10.
+    ///
+    /// # Examples
+    ///
+    /// ```
+    /// use num_modular::ModularSymbols;
+    ///
+    /// assert_eq!(7u8.checked_jacobi(&15), Some(-1));
+    /// assert_eq!(7u8.checked_jacobi(&16), None);
+    /// ```
     fn checked_jacobi(&self, n: Modulus) -> Option<i8>;
 
     /// The Kronecker symbol, of any number over any number, the least ones included. It is the product of the
@@ -60,6 +95,16 @@ pub trait ModularSymbols<Modulus: IntegerValued = Self>: IntegerValued {
     /// modulo 8, else -1. Over 0 it is 1 for 1 and -1, and else 0.
     ///
     /// Source: Cohen, "A Course in Computational Algebraic Number Theory", definition 1.4.8.
+    ///
+    /// # Examples
+    ///
+    /// ```
+    /// use num_modular::ModularSymbols;
+    ///
+    /// assert_eq!(3i8.kronecker(&2), -1);
+    /// assert_eq!((-1i8).kronecker(&-1), -1);
+    /// assert_eq!(7i8.kronecker(&0), 0);
+    /// ```
     fn kronecker(&self, n: Modulus) -> i8;
 }
 

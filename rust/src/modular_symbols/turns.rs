@@ -2,8 +2,6 @@
 
 use crate::modular_symbols::low_part::LowPart;
 use crate::modular_prim::plain_word::PlainWord;
-use crate::modular_word::path_word::PathWord;
-use crate::modular_word::ring_word::RingWord;
 
 // Whether an odd number is 3 modulo 4.
 #[inline]

@@ -1,6 +1,6 @@
 //! The cyclic product of two lists, by transforms.
 
-use crate::modular_transform::order::mirror;
+use crate::modular_transform::inverse::{length_form, transform_back};
 use crate::modular_transform::transform::ntt;
 use crate::modular_reduced::reducer::Reducer;
 use crate::modular_word::ring_word::RingWord;
@@ -13,38 +13,13 @@ fn multiply_each<T: RingWord, R: Reducer<T>>(r: &R, xs: &mut [T], ys: &[T]) {
     }
 }
 
-/// Multiplies each entry by a factor.
-///
-/// # Preconditions
-///
-/// The entries and the factor are checked forms. This isn't tested: outside it the call panics, or
-/// returns no meaningful result.
-#[inline]
-pub fn scale<T: RingWord, R: Reducer<T>>(r: &R, xs: &mut [T], factor: &T) {
-    for i in 0..xs.len() {
-        xs[i] = r.mul(&xs[i], factor);
-    }
-}
-
-// The form of n, a power of two, by doubling 1, because n may not fit a word.
-#[inline]
-fn length_form<T: RingWord, R: Reducer<T>>(r: &R, n: usize) -> T {
-    let mut length = r.transform(T::one());
-    for _done in 0..n.trailing_zeros() {
-        length = r.dbl(length);
-    }
-    length
-}
-
 // Replaces xs by the cyclic product and ys by its transform, given a root g and an inverse of the length.
 #[inline]
 fn multiply<T: RingWord, R: Reducer<T>>(r: &R, xs: &mut [T], ys: &mut [T], g: &T, part: &T) {
     ntt(r, xs, g);
     ntt(r, ys, g);
     multiply_each(r, xs, ys);
-    ntt(r, xs, g);
-    mirror(xs);
-    scale(r, xs, part);
+    transform_back(r, xs, g, part);
 }
 
 /// Replaces xs by the cyclic product of xs and ys, and ys by its transform by g. Returns false, with both lists
@@ -80,7 +55,7 @@ pub fn convolve<T: RingWord, R: Reducer<T>>(r: &R, xs: &mut [T], ys: &mut [T], g
     assert!(ys.len() == xs.len(), "the lists must have the same length: {} and {}", xs.len(), ys.len());
     assert!(xs.len().is_power_of_two(), "the length must be a power of two: {}", xs.len());
     debug_assert!(r.check(g) && xs.iter().all(|x| r.check(x)) && ys.iter().all(|y| r.check(y)), "g and all entries must be checked forms");
-    assert!(r.check(g) && crate::modular_transform::transform::root_fits(r, g, xs.len()), "g must suit the length: n = {}, m = {}, g = {}", xs.len(), crate::additions::number(r.modulus()), crate::additions::number(r.residue(*g)));
+    assert!(r.check(g) && crate::ring::root_fits(r, g, xs.len()), "g must suit the length: n = {}, m = {}, g = {}", xs.len(), crate::additions::number(r.modulus()), crate::additions::number(r.residue(*g)));
     let length = length_form(r, xs.len());
     match r.inv(length) {
         Some(part) => {

@@ -7,6 +7,18 @@ use crate::modular_word::ring_word::RingWord;
 /// of `forms` are ignored.
 ///
 /// The result is what `convolve` and `ntt` take: the values are the residues of the words.
+///
+/// # Examples
+///
+/// ```
+/// use num_modular::ring::load_forms;
+/// use num_modular::{Reducer, Vanilla};
+///
+/// let ring = Vanilla::<u64>::new(&97);
+/// let mut forms = [5; 4];
+/// load_forms(&ring, &[100, 2], &mut forms);
+/// assert_eq!(forms, [3, 2, 0, 0]);
+/// ```
 #[inline]
 pub fn load_forms<T: RingWord, R: Reducer<T>>(r: &R, words: &[T], forms: &mut [T]) {
     for i in 0..forms.len() {
@@ -16,6 +28,19 @@ pub fn load_forms<T: RingWord, R: Reducer<T>>(r: &R, words: &[T], forms: &mut [T
 }
 
 /// Stores the values of the first forms, each below the modulus.
+///
+/// # Examples
+///
+/// ```
+/// use num_modular::ring::{load_forms, unload_forms};
+/// use num_modular::Montgomery;
+///
+/// let ring = Montgomery::<u64>::new(97);
+/// let (mut forms, mut words) = ([0; 4], [0; 2]);
+/// load_forms(&ring, &[100, 2], &mut forms);
+/// unload_forms(&ring, &forms, &mut words);
+/// assert_eq!(words, [3, 2]);
+/// ```
 ///
 /// # Preconditions
 ///

@@ -58,10 +58,16 @@ fn reverse_by_tiles<T: Copy>(entries: &mut [T], bits: u32) {
     }
 }
 
-// The reversed bits of `place`, from those of `place` - 1, in `last`. Where `place` ends in t zeros, the lowest
-// bits of `place` - 1 are a zero and t ones, and these t + 1 bits change.
+/// The reversed bits of `place`, from those of `place` - 1, in `last`.
+///
+/// Where `place` ends in t zeros, the lowest bits of `place` - 1 are a zero and t ones, and these t + 1 bits change.
+///
+/// # Preconditions
+///
+/// `place` is below 2^bits, and `bits` is at most 63. This isn't tested: outside it the call panics, or
+/// returns no meaningful result.
 #[inline]
-fn next_reversed(last: usize, place: usize, bits: u32) -> usize {
+pub fn next_reversed(last: usize, place: usize, bits: u32) -> usize {
     if place == 0 {
         return 0;
     }

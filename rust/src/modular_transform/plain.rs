@@ -29,8 +29,8 @@ pub fn transform_entry(m: u64, g: u64, xs: &[u64], j: usize) -> u64 {
     let step = power_of(g, j as u64, m);
     let mut power = 1 % m;
     let mut sum = 0;
-    for i in 0..xs.len() {
-        sum = ((sum as u128 + xs[i] as u128 * power as u128) % m as u128) as u64;
+    for entry in xs.iter() {
+        sum = ((sum as u128 + *entry as u128 * power as u128) % m as u128) as u64;
         power = (power as u128 * step as u128 % m as u128) as u64;
     }
     sum
@@ -66,8 +66,8 @@ fn row_sum(m: u64, x: u64, i: usize, ys: &[u64], e: usize) -> u64 {
 #[inline]
 pub fn product_entry(m: u64, xs: &[u64], ys: &[u64], e: usize) -> u64 {
     let mut sum = 0;
-    for i in 0..xs.len() {
-        let row = row_sum(m, xs[i], i, ys, e);
+    for (i, entry) in xs.iter().enumerate() {
+        let row = row_sum(m, *entry, i, ys, e);
         sum = ((sum as u128 + row as u128) % m as u128) as u64;
     }
     sum

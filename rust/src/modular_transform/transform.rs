@@ -1,13 +1,24 @@
 //! The number-theoretic transform in place.
 
 use crate::modular_transform::order::reverse_places;
-use crate::modular_passes::stage::stage;
-use crate::modular_passes::two_stages::two_stages;
+use crate::modular_transform::stage::stage;
+use crate::modular_transform::two_stages::two_stages;
 use crate::modular_reduced::reducer::Reducer;
 use crate::modular_word::ring_word::RingWord;
 
 /// Whether g suits transforms of n entries: n is a power of two, and for n above 1 the value of g to the power n/2
 /// is -1 modulo m. n may be too large for a word.
+///
+/// # Examples
+///
+/// ```
+/// use num_modular::ring::root_fits;
+/// use num_modular::{Reducer, Vanilla};
+///
+/// let ring = Vanilla::<u64>::new(&97);
+/// assert!(root_fits(&ring, &22, 4)); // 22^2 = 5 * 97 - 1
+/// assert!(!root_fits(&ring, &22, 8));
+/// ```
 ///
 /// # Preconditions
 ///
@@ -32,6 +43,18 @@ pub fn root_fits<T: RingWord, R: Reducer<T>>(r: &R, g: &T, n: usize) -> bool {
 /// The z stages have half blocks of n/2, n/4, .., 1 entries. A stage takes a product for each of its n/2 pairs, a
 /// product for the power of each column, and a square for the root of the next stage.
 ///
+/// # Examples
+///
+/// ```
+/// use num_modular::ring::ntt_counted;
+/// use num_modular::{Reducer, Vanilla};
+///
+/// let ring = Vanilla::<u64>::new(&17);
+/// let mut forms = [1, 2, 3, 4];
+/// assert_eq!(ntt_counted(&ring, &mut forms, &4), 4 * 2 / 2 + 4 - 1 + 2);
+/// assert_eq!(forms, [10, 7, 15, 6]);
+/// ```
+///
 /// # Panics
 ///
 /// Panics unless the length is a power of two, and g suits the length (`root_fits` tells). A debug
@@ -46,8 +69,8 @@ pub fn ntt_counted<T: RingWord, R: Reducer<T>>(r: &R, xs: &mut [T], g: &T) -> u1
     let mut roots = [*g; 64];
     let mut root = *g;
     let mut products = 0;
-    for i in 0..stages as usize {
-        roots[i] = root;
+    for entry in roots[..stages as usize].iter_mut() {
+        *entry = root;
         root = r.sqr(root);
         products += 1;
     }

@@ -55,6 +55,7 @@ pub fn div_2by1<T: PathWord>(d: T, reciprocal: T, a: T::Double) -> (T, T) {
 // The quotient of a word by a divisor, by the divisor's multiplier and shift.
 #[inline]
 fn quotient_1by1<T: PathWord>(d: T, multiplier: T, shift: u32, a: T) -> T {
+    let _ = d;
     let (_, t) = T::split(multiplier.product(a));
     t.plus(a.minus(t).shift_right(1)).shift_right(shift)
 }
@@ -86,6 +87,7 @@ pub fn div_1by1<T: PathWord>(d: T, multiplier: T, shift: u32, a: T) -> (T, T) {
 /// tested: outside it the call panics, or returns no meaningful result.
 #[inline]
 pub fn exact_1<T: PathWord>(d: T, inverse: T, limit: T, n: T) -> Option<T> {
+    let _ = d;
     let q = n.wrapping_mul(inverse);
     if limit.is_below(q) { None } else { Some(q) }
 }
@@ -115,6 +117,14 @@ pub fn exact_2<T: PathWord>(d: T, inverse: T, limit: T, n: T::Double) -> Option<
 ///
 /// Source: Dumas, "On Newton-Raphson iteration for multiplicative inverses modulo prime powers".
 ///
+/// # Examples
+///
+/// ```
+/// use num_modular::monty::neg_mod_inv::neginv;
+///
+/// assert_eq!(neginv(3u8), 85); // 3 * 85 = 255
+/// ```
+///
 /// # Preconditions
 ///
 /// m is odd. This isn't tested: outside it the call panics, or returns no meaningful result.
@@ -137,6 +147,7 @@ pub fn neginv<T: PathWord>(m: T) -> T {
 /// returns no meaningful result.
 #[inline]
 pub fn clearing<T: PathWord>(m: T, negated_inverse: T, t: T::Double) -> T {
+    let _ = m;
     let (low, _) = T::split(t);
     low.wrapping_mul(negated_inverse)
 }

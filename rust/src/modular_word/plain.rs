@@ -44,12 +44,7 @@ pub fn power_of(base: u64, exp: u64, m: u64) -> u64 {
 /// m is at least 1. This isn't tested: outside it the call panics, or returns no meaningful result.
 #[inline]
 pub fn inverse_by_search(a: u64, m: u64) -> Option<u64> {
-    for x in 0..m {
-        if a as u128 * x as u128 % m as u128 == (1 % m) as u128 {
-            return Some(x);
-        }
-    }
-    None
+    (0..m).find(|&x| a as u128 * x as u128 % m as u128 == (1 % m) as u128)
 }
 
 /// The greatest common divisor of a and n, by trying each number up to n.

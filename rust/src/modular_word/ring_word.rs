@@ -1,28 +1,86 @@
-//! Words that contracts see as whole numbers.
+//! The trait of machine words.
 
-/// A machine word, from 8 to 128 bits wide.
+/// A machine word, from 8 to 128 bits wide: a whole number, which `==` compares.
 ///
-/// Contracts use its number and its width in bits. Words of equal number are equal, and `==` compares the numbers.
-/// The clauses `fits` of the calls say that a word they read is below 2 to the width.
+/// # Examples
+///
+/// ```
+/// use num_modular::RingWord;
+///
+/// fn binary_digits<T: RingWord>(n: T) -> u32 {
+///     if n.is_zero_word() { 0 } else { 1 + binary_digits(n.half()) }
+/// }
+/// assert_eq!((binary_digits(10u8), binary_digits(1_000_000u64)), (4, 20));
+/// ```
 pub trait RingWord: Copy + Eq {
     /// The word 0.
+    ///
+    /// # Examples
+    ///
+    /// ```
+    /// use num_modular::RingWord;
+    ///
+    /// assert_eq!(u8::zero(), 0);
+    /// ```
     #[must_use]
     fn zero() -> Self;
 
     /// The word 1.
+    ///
+    /// # Examples
+    ///
+    /// ```
+    /// use num_modular::RingWord;
+    ///
+    /// assert_eq!(u8::one(), 1);
+    /// ```
     #[must_use]
     fn one() -> Self;
 
     /// The number of bits of a word.
+    ///
+    /// # Examples
+    ///
+    /// ```
+    /// use num_modular::RingWord;
+    ///
+    /// assert_eq!((u8::bits(), u64::bits()), (8, 64));
+    /// ```
     fn bits() -> u32;
 
     /// Whether the word is 0.
+    ///
+    /// # Examples
+    ///
+    /// ```
+    /// use num_modular::RingWord;
+    ///
+    /// assert!(0u8.is_zero_word());
+    /// assert!(!5u8.is_zero_word());
+    /// ```
     fn is_zero_word(self) -> bool;
 
     /// Whether the word is odd.
+    ///
+    /// # Examples
+    ///
+    /// ```
+    /// use num_modular::RingWord;
+    ///
+    /// assert!(5u8.is_odd());
+    /// assert!(!6u8.is_odd());
+    /// ```
     fn is_odd(self) -> bool;
 
     /// Half the word, rounded down.
+    ///
+    /// # Examples
+    ///
+    /// ```
+    /// use num_modular::RingWord;
+    ///
+    /// assert_eq!(7u8.half(), 3);
+    /// ```
     #[must_use]
     fn half(self) -> Self;
 }

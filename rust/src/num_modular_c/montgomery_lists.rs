@@ -1,6 +1,6 @@
 //! Transforms and cyclic products of lists of words modulo any m, and runs of commands, given a context.
 
-use crate::num_modular_c::codes::{NM_BAD_ARGUMENT, NM_BAD_CONTEXT, NM_NO_INVERSE, NM_NO_ROOT, NM_OK};
+use crate::num_modular_c::codes::NM_BAD_CONTEXT;
 use crate::num_modular_c::commands::NmCommand;
 use crate::num_modular_c::montgomery::{NmMontgomery, reducer};
 use crate::num_modular_c::runs::carry_out;

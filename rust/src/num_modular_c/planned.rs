@@ -11,8 +11,8 @@ use crate::modular_plan_transforms::transform::ntt_planned;
 // Whether each word is below 4m.
 #[inline]
 fn have_room(m: &PlannedModulus<u64>, words: &[u64]) -> bool {
-    for place in 0..words.len() {
-        if !m.has_room(words[place]) {
+    for entry in words.iter() {
+        if !m.has_room(*entry) {
             return false;
         }
     }

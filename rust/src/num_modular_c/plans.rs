@@ -1,10 +1,10 @@
 //! Plans of transforms: tables of factors that the caller owns.
 
-use crate::num_modular_c::codes::{NM_BAD_ARGUMENT, NM_BAD_CONTEXT, NM_NO_ROOT, NM_OK};
+use crate::num_modular_c::codes::{NM_BAD_ARGUMENT, NM_BAD_CONTEXT, NM_OK};
 use crate::num_modular_c::transforms::root_code;
 use crate::modular_barrett::planned::{Factor, PlannedModulus};
-use crate::modular_plan::entry::PlanEntry;
-use crate::modular_plan::plan::plan;
+use crate::modular_plan_passes::entry::PlanEntry;
+use crate::modular_plan_passes::plan::plan;
 use crate::Montgomery;
 use crate::word::w64::merge;
 
@@ -48,8 +48,8 @@ fn is_factor(m: u64, entry: &NmFactor) -> bool {
 // Whether each entry is a factor with its quotient.
 #[inline]
 pub(crate) fn are_factors(m: u64, table: &[NmFactor]) -> bool {
-    for place in 0..table.len() {
-        if !is_factor(m, &table[place]) {
+    for entry in table.iter() {
+        if !is_factor(m, entry) {
             return false;
         }
     }

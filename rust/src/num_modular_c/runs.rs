@@ -23,8 +23,8 @@ pub(crate) fn run_each<R: Reducer<u64>>(
     registers: &mut [u64],
     commands: &[NmCommand],
 ) -> usize {
-    for at in 0..commands.len() {
-        if !step(r, registers, ring_command(&commands[at])) {
+    for (at, entry) in commands.iter().enumerate() {
+        if !step(r, registers, ring_command(entry)) {
             return at;
         }
     }

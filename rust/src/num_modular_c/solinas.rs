@@ -1,6 +1,4 @@
 //! Transforms and cyclic products of lists of words modulo 2^64 - 2^32 + 1.
-
-use crate::num_modular_c::codes::{NM_BAD_ARGUMENT, NM_NO_INVERSE, NM_NO_ROOT, NM_OK};
 use crate::num_modular_c::transforms::{found_root, multiplied, root_code, transformed};
 use crate::{FixedTrinomialSolinas64, Reducer};
 

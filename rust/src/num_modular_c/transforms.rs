@@ -2,7 +2,7 @@
 
 use crate::num_modular_c::codes::{NM_BAD_ARGUMENT, NM_NO_INVERSE, NM_NO_ROOT, NM_OK};
 use crate::num_modular_c::lists::{load, unload};
-use crate::modular_plan::roots::find_root;
+use crate::modular_transform::roots::find_root;
 use crate::Reducer;
 use crate::ring::{convolve, ntt, root_fits};
 
@@ -44,10 +44,7 @@ pub(crate) fn transformed<R: Reducer<u64>>(r: &R, xs: &mut [u64], root: u64) -> 
 // Whether a number has an inverse.
 #[inline]
 fn has_inverse<R: Reducer<u64>>(r: &R, n: usize) -> bool {
-    match r.inv(r.transform(n as u64)) {
-        Some(_) => true,
-        None => false,
-    }
+    r.inv(r.transform(n as u64)).is_some()
 }
 
 // Replaces the first list by the cyclic product of both lists, and the second by its transform.

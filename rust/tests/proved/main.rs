@@ -5,9 +5,4 @@
 #[macro_use]
 #[path = "../../runtime.rs"]
 mod runtime;
-pub mod misuse;
-pub mod run_misuse;
-pub mod operation_tests;
-pub mod reducer_tests;
-pub mod ring_tests;
-pub mod user_tests;
+pub mod test_users;

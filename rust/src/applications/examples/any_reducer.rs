@@ -3,12 +3,32 @@
 use crate::{Reducer, RingWord};
 
 /// x modulo m, by way of its form.
+///
+/// # Examples
+///
+/// ```
+/// use num_modular::applications::examples::any_reducer::round_trip;
+/// use num_modular::Montgomery;
+///
+/// let ring = Montgomery::<u64>::new(97);
+/// assert_eq!(round_trip(&ring, 100), 3);
+/// ```
 #[inline]
 pub fn round_trip<T: RingWord, R: Reducer<T>>(r: &R, x: T) -> T {
     r.residue(r.transform(x))
 }
 
 /// x·y + 1 modulo m.
+///
+/// # Examples
+///
+/// ```
+/// use num_modular::applications::examples::any_reducer::product_and_one;
+/// use num_modular::Montgomery;
+///
+/// let ring = Montgomery::<u64>::new(97);
+/// assert_eq!(product_and_one(&ring, 10, 20), 7); // 201 - 2 * 97
+/// ```
 #[inline]
 pub fn product_and_one<T: RingWord, R: Reducer<T>>(r: &R, x: T, y: T) -> T {
     let product = r.mul(&r.transform(x), &r.transform(y));
@@ -22,6 +42,16 @@ fn product<T: RingWord, R: Reducer<T>>(r: &R, x: T, y: T) -> T {
 }
 
 /// The inner product of four words with four others, modulo m.
+///
+/// # Examples
+///
+/// ```
+/// use num_modular::applications::examples::any_reducer::inner_product_of_four;
+/// use num_modular::Montgomery;
+///
+/// let ring = Montgomery::<u64>::new(50);
+/// assert_eq!(inner_product_of_four(&ring, (1, 2, 3, 4), (5, 6, 7, 8)), 20); // 5 + 12 + 21 + 32 - 50
+/// ```
 pub fn inner_product_of_four<T: RingWord, R: Reducer<T>>(
     r: &R,
     x: (T, T, T, T),
@@ -33,6 +63,16 @@ pub fn inner_product_of_four<T: RingWord, R: Reducer<T>>(
 }
 
 /// The first word of x, one more than its product with the first of y, and the inner product, modulo m.
+///
+/// # Examples
+///
+/// ```
+/// use num_modular::applications::examples::any_reducer::three_results;
+/// use num_modular::Montgomery;
+///
+/// let ring = Montgomery::<u64>::new(50);
+/// assert_eq!(three_results(&ring, (1, 2, 3, 4), (5, 6, 7, 8)), (1, 6, 20));
+/// ```
 #[inline]
 pub fn three_results<T: RingWord, R: Reducer<T>>(
     r: &R,

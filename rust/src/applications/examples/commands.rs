@@ -5,6 +5,14 @@ use crate::{PreMulInv2by1, Reducer};
 
 /// n modulo m, from registers that hold n.
 ///
+/// # Examples
+///
+/// ```
+/// use num_modular::applications::examples::commands::residue_over_copies;
+///
+/// assert_eq!(residue_over_copies(1000, 97), 30); // 1000 - 10 * 97
+/// ```
+///
 /// # Panics
 ///
 /// A debug build panics unless m is at least 1. A release build doesn't test that, and outside it
@@ -19,6 +27,14 @@ pub fn residue_over_copies(n: u64, m: u64) -> u64 {
 }
 
 /// x·n modulo m by three commands.
+///
+/// # Examples
+///
+/// ```
+/// use num_modular::applications::examples::commands::product_by_commands;
+///
+/// assert_eq!(product_by_commands(10, 20, 97), 6); // 200 - 2 * 97
+/// ```
 ///
 /// # Panics
 ///

@@ -4,6 +4,16 @@ use crate::Reducer;
 use crate::ring::{RingCommand, RunEnd, run};
 
 /// x^3 + a·x + b modulo m.
+///
+/// # Examples
+///
+/// ```
+/// use num_modular::applications::examples::cubic::cubic;
+/// use num_modular::{Reducer, Vanilla};
+///
+/// let ring = Vanilla::<u64>::new(&97);
+/// assert_eq!(cubic(&ring, 5, 2, 7), 45); // 125 + 2 * 5 + 7 - 97
+/// ```
 pub fn cubic<R: Reducer<u64>>(r: &R, x: u64, a: u64, b: u64) -> u64 {
     let mut registers = [
         r.transform(x),

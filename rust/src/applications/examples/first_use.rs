@@ -7,6 +7,14 @@ use crate::{
 };
 
 /// x·y + 1 modulo 97, in Montgomery's representation.
+///
+/// # Examples
+///
+/// ```
+/// use num_modular::applications::examples::first_use::product_and_one;
+///
+/// assert_eq!(product_and_one(10, 20), 7); // 201 - 2 * 97
+/// ```
 #[inline]
 pub fn product_and_one(x: u64, y: u64) -> u64 {
     let x = MontgomeryInt::<u64>::new(x, &97);
@@ -15,6 +23,14 @@ pub fn product_and_one(x: u64, y: u64) -> u64 {
 }
 
 /// n modulo m by a division of two words by one, as a list of commands.
+///
+/// # Examples
+///
+/// ```
+/// use num_modular::applications::examples::first_use::residue_by_commands;
+///
+/// assert_eq!(residue_by_commands(1000, 97), 30); // 1000 - 10 * 97
+/// ```
 ///
 /// # Panics
 ///
@@ -30,6 +46,14 @@ pub fn residue_by_commands(n: u64, m: u64) -> u64 {
 }
 
 /// x·y modulo the Mersenne prime 2^61 - 1, by folds.
+///
+/// # Examples
+///
+/// ```
+/// use num_modular::applications::examples::first_use::product_by_folds;
+///
+/// assert_eq!(product_by_folds(1 << 60, 6), 3); // 6 * 2^60 = 3 * 2^61
+/// ```
 #[inline]
 pub fn product_by_folds(x: u64, y: u64) -> u64 {
     let ring = FixedMersenne64::<61, 1>::new(&FixedMersenne64::<61, 1>::fixed_modulus());
@@ -37,6 +61,14 @@ pub fn product_by_folds(x: u64, y: u64) -> u64 {
 }
 
 /// Whole minutes and seconds, by the multiplier of 60 in place of a division.
+///
+/// # Examples
+///
+/// ```
+/// use num_modular::applications::examples::first_use::minutes_and_seconds;
+///
+/// assert_eq!(minutes_and_seconds(3725), (62, 5));
+/// ```
 #[inline]
 pub fn minutes_and_seconds(seconds: u32) -> (u32, u32) {
     let sixty = PreMulInv1by1::<u32>::new(60);
@@ -44,12 +76,31 @@ pub fn minutes_and_seconds(seconds: u32) -> (u32, u32) {
 }
 
 /// The Jacobi symbol of x over n; `None` exactly for an even n and for 0.
+///
+/// # Examples
+///
+/// ```
+/// use num_modular::applications::examples::first_use::symbol;
+///
+/// assert_eq!(symbol(2, 15), Some(1));
+/// assert_eq!(symbol(2, 14), None);
+/// ```
 #[inline]
 pub fn symbol(x: u64, n: u64) -> Option<i8> {
     x.checked_jacobi(&n)
 }
 
 /// x^2 + y^2 modulo any reducer's modulus.
+///
+/// # Examples
+///
+/// ```
+/// use num_modular::applications::examples::first_use::sum_of_squares;
+/// use num_modular::Montgomery;
+///
+/// let ring = Montgomery::<u64>::new(10);
+/// assert_eq!(sum_of_squares(&ring, 3, 4), 5); // 25 - 2 * 10
+/// ```
 #[inline]
 pub fn sum_of_squares<T: RingWord, R: Reducer<T>>(ring: &R, x: T, y: T) -> T {
     let x = ring.transform(x);

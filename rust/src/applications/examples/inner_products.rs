@@ -1,16 +1,23 @@
 //! The inner product of two lists, over any reducer.
-
-use crate::laws::range_laws;
 use crate::{Montgomery, Reducer};
 
 /// The sum of the products of the entries, modulo m.
+///
+/// # Examples
+///
+/// ```
+/// use num_modular::applications::examples::inner_products::inner_product;
+/// use num_modular::Montgomery;
+///
+/// let ring = Montgomery::<u64>::new(20);
+/// assert_eq!(inner_product(&ring, &[1, 2, 3], &[4, 5, 6]), 12); // 4 + 10 + 18 - 20
+/// ```
 ///
 /// # Preconditions
 ///
 /// The lists have the same length. This isn't tested: outside it the call panics, or returns no
 /// meaningful result.
 pub fn inner_product<R: Reducer<u64>>(r: &R, xs: &[u64], ys: &[u64]) -> u64 {
-    range_laws();
     let mut sum = r.transform(0);
     for i in 0..xs.len() {
         let product = r.mul(&r.transform(xs[i]), &r.transform(ys[i]));
@@ -20,6 +27,14 @@ pub fn inner_product<R: Reducer<u64>>(r: &R, xs: &[u64], ys: &[u64]) -> u64 {
 }
 
 /// The inner product of four words with four words modulo m.
+///
+/// # Examples
+///
+/// ```
+/// use num_modular::applications::examples::inner_products::inner_product_of_four;
+///
+/// assert_eq!(inner_product_of_four([1, 2, 3, 4], [5, 6, 7, 8], 50), 20); // 5 + 12 + 21 + 32 - 50
+/// ```
 ///
 /// # Preconditions
 ///

@@ -1,14 +1,22 @@
 //! Generic code over the modular operations of words.
 
-use crate::{ModularOps, Montgomery, PlainWord, Reducer, UnsignedOperand};
+use crate::{ModularOps, Montgomery, PlainWord, Reducer};
 
 /// x·y + z modulo m.
+///
+/// # Examples
+///
+/// ```
+/// use num_modular::applications::examples::operations::product_and_sum;
+///
+/// assert_eq!(product_and_sum(10u8, 20, 5, &97), 11); // 205 - 2 * 97
+/// ```
 ///
 /// # Preconditions
 ///
 /// m is at least 1. This isn't tested: outside it the call panics, or returns no meaningful result.
 #[inline]
-pub fn product_and_sum<M: UnsignedOperand + Copy, T: ModularOps<T, M, T>>(
+pub fn product_and_sum<M: Eq + Copy, T: ModularOps<T, M, T>>(
     x: T,
     y: T,
     z: T,
@@ -18,6 +26,14 @@ pub fn product_and_sum<M: UnsignedOperand + Copy, T: ModularOps<T, M, T>>(
 }
 
 /// x² modulo m in Montgomery's representation, for every width.
+///
+/// # Examples
+///
+/// ```
+/// use num_modular::applications::examples::operations::square;
+///
+/// assert_eq!(square(16u8, 251), 5); // 256 - 251
+/// ```
 ///
 /// # Preconditions
 ///

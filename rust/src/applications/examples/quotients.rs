@@ -4,6 +4,15 @@ use crate::{ModularInteger, MontgomeryInt, VanillaInt};
 
 /// a times the inverse of b modulo m; `None` exactly where b has none.
 ///
+/// # Examples
+///
+/// ```
+/// use num_modular::applications::examples::quotients::by_inverse;
+///
+/// assert_eq!(by_inverse(10, 5, 21), Some(2));
+/// assert_eq!(by_inverse(10, 6, 21), None); // 3 divides 6 and 21
+/// ```
+///
 /// # Preconditions
 ///
 /// m is at least 1. This isn't tested: outside it the call panics, or returns no meaningful result.
@@ -16,6 +25,15 @@ pub fn by_inverse(a: u64, b: u64, m: u64) -> Option<u64> {
 }
 
 /// The number below m whose product with b is congruent to a modulo m; `None` exactly where b has no inverse.
+///
+/// # Examples
+///
+/// ```
+/// use num_modular::applications::examples::quotients::by_operator;
+///
+/// assert_eq!(by_operator(10, 4, 21), Some(13)); // 13 * 4 = 2 * 21 + 10
+/// assert_eq!(by_operator(10, 6, 21), None); // 3 divides 6 and 21
+/// ```
 ///
 /// # Preconditions
 ///
@@ -32,6 +50,14 @@ pub fn by_operator(a: u64, b: u64, m: u64) -> Option<u64> {
 }
 
 /// 10 / 5 modulo 21.
+///
+/// # Examples
+///
+/// ```
+/// use num_modular::applications::examples::quotients::ten_by_five;
+///
+/// assert_eq!(ten_by_five(), 2);
+/// ```
 #[inline]
 pub fn ten_by_five() -> u8 {
     let ten = VanillaInt::<u8>::new(10, &21);

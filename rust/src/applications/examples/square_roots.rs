@@ -1,10 +1,17 @@
 //! Square roots modulo primes that are 3 modulo 4.
-
-use crate::laws::prime_power_laws;
 use crate::{ModularPow, ModularUnaryOps};
 
 /// The power of a to the exponent (p + 1)/4 modulo p, where it is a square root of a; `None` exactly where a has no
 /// square root modulo p.
+///
+/// # Examples
+///
+/// ```
+/// use num_modular::applications::examples::square_roots::square_root;
+///
+/// assert_eq!(square_root(2, 7), Some(4)); // 4 * 4 = 2 * 7 + 2
+/// assert_eq!(square_root(3, 7), None);
+/// ```
 ///
 /// # Preconditions
 ///
@@ -12,7 +19,6 @@ use crate::{ModularPow, ModularUnaryOps};
 /// meaningful result.
 #[inline]
 pub fn square_root(a: u64, p: u64) -> Option<u64> {
-    prime_power_laws();
     let root = a.powm(p / 4 + 1, &p);
     if root.sqm(&p) == a % p {
         Some(root)

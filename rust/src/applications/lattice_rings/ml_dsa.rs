@@ -1,6 +1,4 @@
 //! The ring of FIPS 204 (ML-DSA): polynomials modulo X^256 + 1 over the residues of q = 8380417.
-
-use crate::laws::transform_laws;
 use crate::plans::{Factor, PlannedModulus, join_scaled, multiply, plan, split};
 
 /// The modulus q.
@@ -17,6 +15,17 @@ const PART: u32 = 8347681;
 ///
 /// The table is the plan by zeta, which suits 512 entries. In block 1, modulo X^256 + 1, the constants are the odd
 /// powers zeta^(2·BitRev8(i) + 1), in the standard's order.
+///
+/// # Examples
+///
+/// ```
+/// use num_modular::applications::lattice_rings::ml_dsa::{Ring, MODULUS};
+///
+/// let (mut xs, mut ys) = ([0; 256], [0; 256]);
+/// (xs[255], ys[1]) = (1, 1);
+/// Ring::new().product(&mut xs, &mut ys);
+/// assert_eq!(xs[0], MODULUS - 1); // X^255 * X is -1
+/// ```
 #[must_use]
 pub struct Ring {
     modulus: PlannedModulus<u32>,
@@ -25,6 +34,15 @@ pub struct Ring {
 }
 
 /// Whether each coefficient is a residue, below q.
+///
+/// # Examples
+///
+/// ```
+/// use num_modular::applications::lattice_rings::ml_dsa::{are_residues, MODULUS};
+///
+/// assert!(are_residues(&[MODULUS - 1; 256]));
+/// assert!(!are_residues(&[MODULUS; 256]));
+/// ```
 #[inline]
 pub fn are_residues(w: &[u32; 256]) -> bool {
     w.iter().all(|x| *x < MODULUS)
@@ -32,6 +50,18 @@ pub fn are_residues(w: &[u32; 256]) -> bool {
 
 impl Ring {
     /// The ring with its table.
+    ///
+    /// # Examples
+    ///
+    /// ```
+    /// use num_modular::applications::lattice_rings::ml_dsa::Ring;
+    ///
+    /// let ring = Ring::new();
+    /// let mut w = [0; 256];
+    /// w[0] = 7;
+    /// ring.ntt(&mut w);
+    /// assert_eq!(w, [7; 256]); // a constant has the same value everywhere
+    /// ```
     #[inline]
     pub fn new() -> Self {
         let modulus = PlannedModulus::new(MODULUS);
@@ -49,6 +79,17 @@ impl Ring {
     ///
     /// Source: FIPS 204, section 7.5, algorithm 41.
     ///
+    /// # Examples
+    ///
+    /// ```
+    /// use num_modular::applications::lattice_rings::ml_dsa::{Ring, ZETA};
+    ///
+    /// let mut w = [0; 256];
+    /// w[1] = 1;
+    /// Ring::new().ntt(&mut w);
+    /// assert_eq!(w[0], ZETA); // the value of X at zeta
+    /// ```
+    ///
     /// # Preconditions
     ///
     /// The coefficients are residues (`are_residues` tells). This isn't tested: outside it the call panics,
@@ -62,13 +103,22 @@ impl Ring {
     ///
     /// Source: FIPS 204, section 7.5, algorithm 42.
     ///
+    /// # Examples
+    ///
+    /// ```
+    /// use num_modular::applications::lattice_rings::ml_dsa::Ring;
+    ///
+    /// let mut w = [7; 256];
+    /// Ring::new().inverse(&mut w);
+    /// assert_eq!((w[0], w[1]), (7, 0)); // the constant 7
+    /// ```
+    ///
     /// # Preconditions
     ///
     /// The values are residues. This isn't tested: outside it the call panics, or returns no meaningful
     /// result.
     #[inline]
     pub fn inverse(&self, w: &mut [u32; 256]) {
-        transform_laws();
         join_scaled(&self.modulus, w, &self.table, 1, 1, &self.part);
     }
 
@@ -76,6 +126,17 @@ impl Ring {
     /// NTT(ys).
     ///
     /// Source: FIPS 204, section 2.5: the entrywise product of NTT(xs) and NTT(ys) is transformed back.
+    ///
+    /// # Examples
+    ///
+    /// ```
+    /// use num_modular::applications::lattice_rings::ml_dsa::{Ring, MODULUS};
+    ///
+    /// let (mut xs, mut ys) = ([0; 256], [0; 256]);
+    /// (xs[0], xs[255], ys[1]) = (5, 1, 1);
+    /// Ring::new().product(&mut xs, &mut ys);
+    /// assert_eq!((xs[0], xs[1]), (MODULUS - 1, 5)); // (5 + X^255) * X
+    /// ```
     ///
     /// # Preconditions
     ///
@@ -93,6 +154,20 @@ impl Ring {
     /// product of the two polynomials.
     ///
     /// Source: FIPS 204, section 7.6, algorithm 45.
+    ///
+    /// # Examples
+    ///
+    /// ```
+    /// use num_modular::applications::lattice_rings::ml_dsa::{Ring, ZETA};
+    ///
+    /// let ring = Ring::new();
+    /// let mut w = [0; 256];
+    /// w[1] = 1;
+    /// ring.ntt(&mut w);
+    /// let other = w;
+    /// ring.multiply(&mut w, &other);
+    /// assert_eq!(w[0], ZETA * ZETA); // the value of X^2 at zeta, below q
+    /// ```
     ///
     /// # Preconditions
     ///

@@ -1,6 +1,4 @@
 //! The ring of FIPS 203 (ML-KEM): polynomials modulo X^256 + 1 over the residues of q = 3329.
-
-use crate::laws::transform_laws;
 use crate::plans::{Factor, PlannedModulus, join_scaled, plan, split};
 
 /// The modulus q.
@@ -18,6 +16,17 @@ const PART: u32 = 3303;
 /// The table is the plan by zeta, which suits 256 entries. In block 1, modulo X^256 + 1, the constants are the odd
 /// powers zeta^(2·BitRev7(i) + 1), in the standard's order. There is no root of unity of order 512 modulo q, so the
 /// transform stops at remainders with two coefficients.
+///
+/// # Examples
+///
+/// ```
+/// use num_modular::applications::lattice_rings::ml_kem::{Ring, MODULUS};
+///
+/// let (mut xs, mut ys) = ([0; 256], [0; 256]);
+/// (xs[255], ys[1]) = (1, 1);
+/// Ring::new().product(&mut xs, &mut ys);
+/// assert_eq!(xs[0], MODULUS - 1); // X^255 * X is -1
+/// ```
 #[must_use]
 pub struct Ring {
     modulus: PlannedModulus<u32>,
@@ -26,6 +35,15 @@ pub struct Ring {
 }
 
 /// Whether each coefficient is a residue, below q.
+///
+/// # Examples
+///
+/// ```
+/// use num_modular::applications::lattice_rings::ml_kem::{are_residues, MODULUS};
+///
+/// assert!(are_residues(&[MODULUS - 1; 256]));
+/// assert!(!are_residues(&[MODULUS; 256]));
+/// ```
 #[inline]
 pub fn are_residues(w: &[u32; 256]) -> bool {
     w.iter().all(|x| *x < MODULUS)
@@ -43,6 +61,18 @@ fn multiply_remainders(x: (u32, u32), y: (u32, u32), c: u32) -> (u32, u32) {
 
 impl Ring {
     /// The ring with its table.
+    ///
+    /// # Examples
+    ///
+    /// ```
+    /// use num_modular::applications::lattice_rings::ml_kem::Ring;
+    ///
+    /// let ring = Ring::new();
+    /// let mut w = [0; 256];
+    /// w[0] = 7;
+    /// ring.ntt(&mut w);
+    /// assert_eq!(w[..4], [7, 0, 7, 0]); // the remainders of a constant
+    /// ```
     #[inline]
     pub fn new() -> Self {
         let modulus = PlannedModulus::new(MODULUS);
@@ -61,6 +91,17 @@ impl Ring {
     ///
     /// Source: FIPS 203, section 4.3, algorithm 9.
     ///
+    /// # Examples
+    ///
+    /// ```
+    /// use num_modular::applications::lattice_rings::ml_kem::{Ring, ZETA};
+    ///
+    /// let mut w = [0; 256];
+    /// w[2] = 1;
+    /// Ring::new().ntt(&mut w);
+    /// assert_eq!(w[..2], [ZETA, 0]); // X^2 modulo X^2 - zeta
+    /// ```
+    ///
     /// # Preconditions
     ///
     /// The coefficients are residues (`are_residues` tells). This isn't tested: outside it the call panics,
@@ -74,13 +115,24 @@ impl Ring {
     ///
     /// Source: FIPS 203, section 4.3, algorithm 10.
     ///
+    /// # Examples
+    ///
+    /// ```
+    /// use num_modular::applications::lattice_rings::ml_kem::Ring;
+    ///
+    /// let ring = Ring::new();
+    /// let mut w = [1; 256];
+    /// ring.ntt(&mut w);
+    /// ring.inverse(&mut w);
+    /// assert_eq!(w, [1; 256]);
+    /// ```
+    ///
     /// # Preconditions
     ///
     /// The entries are residues. This isn't tested: outside it the call panics, or returns no meaningful
     /// result.
     #[inline]
     pub fn inverse(&self, w: &mut [u32; 256]) {
-        transform_laws();
         join_scaled(&self.modulus, w, &self.table, 1, 2, &self.part);
     }
 
@@ -88,6 +140,17 @@ impl Ring {
     /// NTT(ys).
     ///
     /// Source: FIPS 203, section 4.3, algorithms 11 and 12: the products of the remainders are joined.
+    ///
+    /// # Examples
+    ///
+    /// ```
+    /// use num_modular::applications::lattice_rings::ml_kem::{Ring, MODULUS};
+    ///
+    /// let (mut xs, mut ys) = ([0; 256], [0; 256]);
+    /// (xs[0], xs[255], ys[1]) = (5, 1, 1);
+    /// Ring::new().product(&mut xs, &mut ys);
+    /// assert_eq!((xs[0], xs[1]), (MODULUS - 1, 5)); // (5 + X^255) * X
+    /// ```
     ///
     /// # Preconditions
     ///
@@ -105,6 +168,20 @@ impl Ring {
     /// transform of the product of the two polynomials.
     ///
     /// Source: FIPS 203, section 4.3, algorithms 11 and 12.
+    ///
+    /// # Examples
+    ///
+    /// ```
+    /// use num_modular::applications::lattice_rings::ml_kem::{Ring, ZETA};
+    ///
+    /// let ring = Ring::new();
+    /// let mut w = [0; 256];
+    /// w[1] = 1;
+    /// ring.ntt(&mut w);
+    /// let other = w;
+    /// ring.multiply(&mut w, &other);
+    /// assert_eq!(w[..2], [ZETA, 0]); // X * X modulo X^2 - zeta
+    /// ```
     ///
     /// # Preconditions
     ///

@@ -1,7 +1,6 @@
 //! Lists of ring commands, run modulo each modulus of a system.
 
 use crate::applications::residue_numbers::ResidueSystem;
-use crate::laws::{inverse_laws, remainder_laws, residue_laws, stop_laws};
 use crate::ring::{RingCommand, RunEnd, run};
 use crate::{Reducer, Vanilla};
 
@@ -38,11 +37,25 @@ impl<'a> ResidueSystem<'a> {
     /// exists modulo the product. Where it returns false, some of the residues may be unwritten. The contents of
     /// the registers are ignored.
     ///
+    /// # Examples
+    ///
+    /// ```
+    /// use num_modular::applications::residue_numbers::ResidueSystem;
+    /// use num_modular::ring::RingCommand;
+    ///
+    /// let system = ResidueSystem::new(&[3, 5, 7]).unwrap();
+    /// let commands = [RingCommand::Mul { dst: 0, a: 0, b: 1 }, RingCommand::Dbl { dst: 0, a: 0 }];
+    /// let (mut registers, mut residues) = ([0; 2], [0; 3]);
+    /// assert!(system.run(&commands, &[3, 4], 0, &mut registers, &mut residues));
+    /// assert_eq!(system.decode(&residues), 24); // 2 * (3 * 4)
+    /// ```
+    ///
     /// # Preconditions
     ///
     /// Each register number is below the count of the numbers (`commands_fit` tells), that of the wanted
     /// register too, and there is room for as many registers as numbers, and for one residue a modulus.
     /// This isn't tested: outside it the call panics, or returns no meaningful result.
+    #[inline]
     pub fn run(
         &self,
         commands: &[RingCommand<u64>],
@@ -51,10 +64,6 @@ impl<'a> ResidueSystem<'a> {
         registers: &mut [u64],
         residues: &mut [u64],
     ) -> bool {
-        residue_laws();
-        remainder_laws();
-        inverse_laws();
-        stop_laws::<u64>();
         let moduli = self.moduli;
         for (place, modulus) in moduli.iter().enumerate() {
             match residue_by_run(*modulus, commands, numbers, register, registers) {

@@ -1,7 +1,6 @@
 //! Residue number systems of at most eight moduli.
 
 use crate::ModularCoreOps;
-use crate::laws::residue_laws;
 use crate::residues::{decode, encode, is_system};
 
 /// A residue number system: up to eight moduli above 0, any two of which are coprime, and whose product, the range,
@@ -9,6 +8,19 @@ use crate::residues::{decode, encode, is_system};
 ///
 /// Source: Garner, "The residue number system"; Knuth, The Art of Computer Programming, volume 2,
 /// section 4.3.2.
+///
+/// # Examples
+///
+/// ```
+/// use num_modular::applications::residue_numbers::ResidueSystem;
+///
+/// let system = ResidueSystem::new(&[3, 5, 7]).unwrap();
+/// let (mut left, mut right, mut product) = ([0; 3], [0; 3], [0; 3]);
+/// system.encode(8, &mut left);
+/// system.encode(9, &mut right);
+/// system.mul(&left, &right, &mut product);
+/// assert_eq!(system.decode(&product), 72);
+/// ```
 #[derive(Clone, Copy)]
 #[must_use]
 pub struct ResidueSystem<'a> {
@@ -37,6 +49,15 @@ fn result_at(operation: Operation, m: u64, left: u64, right: u64) -> u64 {
 impl<'a> ResidueSystem<'a> {
     /// The system of these moduli; `None` exactly where a modulus is 0, two have a common divisor above 1, the
     /// product is at least 2^128, or there are more than eight.
+    ///
+    /// # Examples
+    ///
+    /// ```
+    /// use num_modular::applications::residue_numbers::ResidueSystem;
+    ///
+    /// assert!(ResidueSystem::new(&[3, 5, 7]).is_some());
+    /// assert!(ResidueSystem::new(&[4, 6]).is_none()); // 2 divides both
+    /// ```
     #[inline]
     pub fn new(moduli: &'a [u64]) -> Option<Self> {
         if moduli.len() > 8 || !is_system(moduli) {
@@ -47,23 +68,42 @@ impl<'a> ResidueSystem<'a> {
 
     /// The residues of a number.
     ///
+    /// # Examples
+    ///
+    /// ```
+    /// use num_modular::applications::residue_numbers::ResidueSystem;
+    ///
+    /// let mut residues = [0; 3];
+    /// ResidueSystem::new(&[3, 5, 7]).unwrap().encode(23, &mut residues);
+    /// assert_eq!(residues, [2, 3, 2]);
+    /// ```
+    ///
     /// # Preconditions
     ///
-    /// There is room for one a modulus. This isn't tested: outside it the call panics, or returns no
-    /// meaningful result.
+    /// There is room for one residue a modulus. This isn't tested: outside it the call panics, or returns
+    /// no meaningful result.
     #[inline]
     pub fn encode(&self, number: u128, residues: &mut [u64]) {
         encode(self.moduli, number, residues);
     }
 
     /// The only number below the product of the moduli that has these residues. So `decode` and `encode` undo each
-    /// other: `decode` returns a number below the product from its residues (clause `only`), and `encode` the residues
-    /// from the number (clause `number`).
+    /// other: `decode` returns a number below the product from its residues, and `encode` the residues from the
+    /// number.
+    ///
+    /// # Examples
+    ///
+    /// ```
+    /// use num_modular::applications::residue_numbers::ResidueSystem;
+    ///
+    /// let system = ResidueSystem::new(&[3, 5, 7]).unwrap();
+    /// assert_eq!(system.decode(&[2, 3, 2]), 23);
+    /// ```
     ///
     /// # Preconditions
     ///
-    /// Each modulus has a residue below it (`are_reduced` tells). This isn't tested: outside it the call
-    /// panics, or returns no meaningful result.
+    /// Each modulus has a residue below it (`are_reduced` of `num_modular::residues` tells). This isn't
+    /// tested: outside it the call panics, or returns no meaningful result.
     #[inline]
     pub fn decode(&self, residues: &[u64]) -> u128 {
         decode(self.moduli, residues)
@@ -81,6 +121,17 @@ impl<'a> ResidueSystem<'a> {
     /// The sums of residues, each modulo its modulus: from those of x and of y the residues of x + y
     /// modulo the product of the moduli.
     ///
+    /// # Examples
+    ///
+    /// ```
+    /// use num_modular::applications::residue_numbers::ResidueSystem;
+    ///
+    /// let system = ResidueSystem::new(&[3, 5, 7]).unwrap();
+    /// let mut sums = [0; 3];
+    /// system.add(&[2, 3, 2], &[1, 0, 3], &mut sums); // 23 + 10
+    /// assert_eq!(system.decode(&sums), 33);
+    /// ```
+    ///
     /// # Preconditions
     ///
     /// Each modulus has a left residue, a right one and room for their sum. This isn't tested: outside it
@@ -93,18 +144,39 @@ impl<'a> ResidueSystem<'a> {
     /// The differences of residues, each modulo its modulus: from those of x and of y the residues of
     /// x - y modulo the product of the moduli.
     ///
+    /// # Examples
+    ///
+    /// ```
+    /// use num_modular::applications::residue_numbers::ResidueSystem;
+    ///
+    /// let system = ResidueSystem::new(&[3, 5, 7]).unwrap();
+    /// let mut differences = [0; 3];
+    /// system.sub(&[2, 3, 2], &[1, 0, 3], &mut differences); // 23 - 10
+    /// assert_eq!(system.decode(&differences), 13);
+    /// ```
+    ///
     /// # Preconditions
     ///
     /// Each modulus has a left residue, a right one and room for their difference. This isn't tested:
     /// outside it the call panics, or returns no meaningful result.
     #[inline]
     pub fn sub(&self, left: &[u64], right: &[u64], differences: &mut [u64]) {
-        residue_laws();
         self.combine(Operation::Difference, left, right, differences);
     }
 
     /// The products of residues, each modulo its modulus: from those of x and of y the residues of
     /// x·y modulo the product of the moduli.
+    ///
+    /// # Examples
+    ///
+    /// ```
+    /// use num_modular::applications::residue_numbers::ResidueSystem;
+    ///
+    /// let system = ResidueSystem::new(&[3, 5, 7]).unwrap();
+    /// let mut products = [0; 3];
+    /// system.mul(&[2, 3, 2], &[1, 0, 3], &mut products); // 23 * 10 = 2 * 105 + 20
+    /// assert_eq!(system.decode(&products), 20);
+    /// ```
     ///
     /// # Preconditions
     ///

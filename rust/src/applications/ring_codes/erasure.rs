@@ -5,15 +5,21 @@
 //! polynomial's value at point i, modulo m. The points must fit (`points_fit`): the difference of any two has an
 //! inverse modulo m. So their number is at most the least prime that divides m.
 //!
+//! The codes are maximum distance separable (MDS): two words differ in n - k + 1 symbols at least, the most that
+//! Singleton's bound allows (`distance_laws`, `singleton_law`). So up to half of n - k wrong symbols leave the word
+//! unique. `PreparedCode` computes once what depends on the points alone; where the points are the powers of a root of
+//! unity, `encode_by_transform` encodes by one transform.
+//!
 //! Points, messages and words are lists of checked forms of a reducer; `load_forms` and `unload_forms` of
 //! `num_modular::ring` convert from words and back. No memory is allocated: the caller passes the scratch lists.
 //! The calls don't run in constant time.
 //!
 //! Source: Reed and Solomon, "Polynomial codes over certain finite fields".
-
 mod correction;
 mod key_equation;
 mod newton;
+mod powers;
+mod prepared;
 mod quotients;
 mod secrets;
 
@@ -21,9 +27,19 @@ pub use correction::{CorrectError, correct};
 use newton::{differences_before, divide_differences, expand, fill_weights};
 use crate::ring::invert_each;
 use crate::{Reducer, RingWord};
-pub use secrets::{ShareError, recover, recover_correct, secrecy_laws, share};
+pub use powers::{encode_by_transform, fill_powers};
+pub use prepared::PreparedCode;
+pub use secrets::{ShareError, recover, recover_correct, share};
 
 /// Why a message can't be restored.
+///
+/// # Examples
+///
+/// ```
+/// use num_modular::applications::ring_codes::erasure::RestoreError;
+///
+/// assert_eq!(RestoreError::PlaceTwice.to_string(), "a place occurs twice");
+/// ```
 #[derive(Clone, Copy, Debug, PartialEq, Eq)]
 pub enum RestoreError {
     /// There are fewer symbols than the message has.
@@ -38,10 +54,21 @@ pub enum RestoreError {
 
 /// Whether the points fit: the difference of any two has an inverse modulo m.
 ///
+/// # Examples
+///
+/// ```
+/// use num_modular::applications::ring_codes::erasure::points_fit;
+/// use num_modular::{Reducer, Vanilla};
+///
+/// let ring = Vanilla::<u8>::new(&15);
+/// assert!(points_fit(&ring, &[0, 1, 2]));
+/// assert!(!points_fit(&ring, &[0, 1, 3])); // 3 has no inverse modulo 15
+/// ```
+///
 /// # Preconditions
 ///
-/// They are checked forms. This isn't tested: outside it the call panics, or returns no meaningful
-/// result.
+/// The points are checked forms. This isn't tested: outside it the call panics, or returns no
+/// meaningful result.
 pub fn points_fit<T: RingWord, R: Reducer<T>>(r: &R, points: &[T]) -> bool {
     let mut product = r.transform(T::one());
     for i in 0..points.len() {
@@ -53,10 +80,20 @@ pub fn points_fit<T: RingWord, R: Reducer<T>>(r: &R, points: &[T]) -> bool {
 
 /// The form of the value of a polynomial at a point, given its coefficients, the constant first, by Horner's rule.
 ///
+/// # Examples
+///
+/// ```
+/// use num_modular::applications::ring_codes::erasure::evaluate;
+/// use num_modular::{Reducer, Vanilla};
+///
+/// let ring = Vanilla::<u8>::new(&97);
+/// assert_eq!(evaluate(&ring, &[5, 7], &2), 19); // 5 + 7 * 2
+/// ```
+///
 /// # Preconditions
 ///
-/// All are checked forms. This isn't tested: outside it the call panics, or returns no meaningful
-/// result.
+/// Coefficients and point are checked forms. This isn't tested: outside it the call panics, or returns
+/// no meaningful result.
 pub fn evaluate<T: RingWord, R: Reducer<T>>(r: &R, coefficients: &[T], point: &T) -> T {
     let mut value = r.transform(T::zero());
     for k in 0..coefficients.len() {
@@ -72,6 +109,18 @@ pub fn evaluate<T: RingWord, R: Reducer<T>>(r: &R, coefficients: &[T], point: &T
 /// It takes n·k products.
 ///
 /// Source: Reed and Solomon, "Polynomial codes over certain finite fields".
+///
+/// # Examples
+///
+/// ```
+/// use num_modular::applications::ring_codes::erasure::encode;
+/// use num_modular::{Reducer, Vanilla};
+///
+/// let ring = Vanilla::<u8>::new(&97);
+/// let mut word = [0; 4];
+/// encode(&ring, &[1, 2, 3, 4], &[5, 7], &mut word);
+/// assert_eq!(word, [12, 19, 26, 33]); // 5 + 7X at 1, 2, 3 and 4
+/// ```
 ///
 /// # Preconditions
 ///
@@ -91,6 +140,18 @@ pub fn encode<T: RingWord, R: Reducer<T>>(r: &R, points: &[T], message: &[T], wo
 /// `weights` and `coefficients` are ignored.
 ///
 /// Source: Knuth, The Art of Computer Programming, volume 2, section 4.6.4 (Newton's divided differences).
+///
+/// # Examples
+///
+/// ```
+/// use num_modular::applications::ring_codes::erasure::interpolate;
+/// use num_modular::{Reducer, Vanilla};
+///
+/// let ring = Vanilla::<u8>::new(&97);
+/// let (mut weights, mut coefficients) = ([0; 2], [0; 2]);
+/// assert!(interpolate(&ring, &[3, 4], &[26, 33], &mut weights, &mut coefficients));
+/// assert_eq!(coefficients, [5, 7]); // 5 + 7 * 3 = 26, and 5 + 7 * 4 = 33
+/// ```
 ///
 /// # Preconditions
 ///
@@ -119,6 +180,19 @@ pub fn interpolate<T: RingWord, R: Reducer<T>>(
 /// The contents of `weights` and
 /// `message` are ignored.
 ///
+/// # Examples
+///
+/// ```
+/// use num_modular::applications::ring_codes::erasure::is_codeword;
+/// use num_modular::{Reducer, Vanilla};
+///
+/// let ring = Vanilla::<u8>::new(&97);
+/// let (mut weights, mut message) = ([0; 2], [0; 2]);
+/// assert!(is_codeword(&ring, &[1, 2, 3, 4], &[12, 19, 26, 33], &mut weights, &mut message));
+/// assert_eq!(message, [5, 7]);
+/// assert!(!is_codeword(&ring, &[1, 2, 3, 4], &[12, 19, 26, 34], &mut weights, &mut message));
+/// ```
+///
 /// # Preconditions
 ///
 /// The points fit (`points_fit` tells), points and word are checked forms, the word has a symbol for
@@ -145,6 +219,18 @@ pub fn is_codeword<T: RingWord, R: Reducer<T>>(
 
 /// Writes the systematic word of a message, whose first k symbols are the message's, and the coefficients of its
 /// polynomial. Returns false, with the word unchanged, exactly where the first k points don't fit.
+///
+/// # Examples
+///
+/// ```
+/// use num_modular::applications::ring_codes::erasure::encode_systematic;
+/// use num_modular::{Reducer, Vanilla};
+///
+/// let ring = Vanilla::<u8>::new(&97);
+/// let (mut weights, mut coefficients, mut word) = ([0; 2], [0; 2], [0; 4]);
+/// assert!(encode_systematic(&ring, &[1, 2, 3, 4], &[12, 19], &mut weights, &mut coefficients, &mut word));
+/// assert_eq!(word, [12, 19, 26, 33]); // 5 + 7X
+/// ```
 ///
 /// # Preconditions
 ///
@@ -201,12 +287,26 @@ fn choose<T: RingWord>(points: &[T], places: &[usize], chosen: &mut [T]) -> Resu
 ///
 /// An error names a cause that is present: too few symbols, a place without a point, a place that occurs twice,
 /// points that don't fit.
-/// The contents of these and of `message` are ignored.
+/// The contents of `chosen`, `weights` and `message` are ignored.
+///
+/// # Examples
+///
+/// ```
+/// use num_modular::applications::ring_codes::erasure::restore;
+/// use num_modular::{Reducer, Vanilla};
+///
+/// let ring = Vanilla::<u8>::new(&97);
+/// let (mut chosen, mut weights, mut message) = ([0; 2], [0; 2], [0; 2]);
+/// // of the word 12, 19, 26, 33 two symbols are left
+/// restore(&ring, &[1, 2, 3, 4], &[3, 1], &[33, 19], &mut chosen, &mut weights, &mut message).unwrap();
+/// assert_eq!(message, [5, 7]);
+/// ```
 ///
 /// # Preconditions
 ///
 /// Points and symbols are checked forms, each place has its symbol, and there are k weights and room
-/// for k points. This isn't tested: outside it the call panics, or returns no meaningful result.
+/// for k points in `chosen`. This isn't tested: outside it the call panics, or returns no meaningful
+/// result.
 #[inline]
 pub fn restore<T: RingWord, R: Reducer<T>>(
     r: &R,
@@ -232,12 +332,7 @@ pub fn restore<T: RingWord, R: Reducer<T>>(
 // An index below `count` of a place in the list; `None` exactly where there is none.
 #[inline]
 fn index_of(places: &[usize], count: usize, place: usize) -> Option<usize> {
-    for j in 0..count {
-        if places[j] == place {
-            return Some(j);
-        }
-    }
-    None
+    (0..count).find(|&j| places[j] == place)
 }
 
 // The symbol at a place: the kept one, or the value of the message at the point.
@@ -266,8 +361,8 @@ fn fill_word<T: RingWord, R: Reducer<T>>(
     symbols: &[T],
     word: &mut [T],
 ) {
-    for i in 0..points.len() {
-        word[i] = symbol_at(r, points, message, places, symbols, i);
+    for (i, entry) in word[..points.len()].iter_mut().enumerate() {
+        *entry = symbol_at(r, points, message, places, symbols, i);
     }
 }
 
@@ -279,6 +374,18 @@ fn fill_word<T: RingWord, R: Reducer<T>>(
 /// contents of `weights`, `message` and `word` don't matter; after an error their contents are unspecified.
 ///
 /// Source: Reed and Solomon, "Polynomial codes over certain finite fields".
+///
+/// # Examples
+///
+/// ```
+/// use num_modular::applications::ring_codes::erasure::restore_word;
+/// use num_modular::{Reducer, Vanilla};
+///
+/// let ring = Vanilla::<u8>::new(&97);
+/// let (mut weights, mut message, mut word) = ([0; 2], [0; 2], [0; 4]);
+/// restore_word(&ring, &[1, 2, 3, 4], &[3, 1], &[33, 19], &mut weights, &mut message, &mut word).unwrap();
+/// assert_eq!((message, word), ([5, 7], [12, 19, 26, 33]));
+/// ```
 ///
 /// # Preconditions
 ///
@@ -303,14 +410,3 @@ pub fn restore_word<T: RingWord, R: Reducer<T>>(
         }
     }
 }
-
-/// The words of two messages of k symbols that differ modulo m differ in at least n - k + 1 of n symbols, and so do
-/// two different words. So changing at most n - k symbols of a word never gives a word. The bound is met: if k is at
-/// least 1 and m at least 2, the words of some two such messages differ in exactly n - k + 1 symbols, for example those
-/// of (X - p_1)·..·(X - p_(k-1)) and of 0.
-///
-/// Source: Reed and Solomon, "Polynomial codes over certain finite fields"; Singleton, "Maximum distance
-/// q-nary codes".
-#[doc(hidden)]
-#[inline]
-pub fn distance_laws() {}

@@ -4,6 +4,15 @@ use crate::modular_word::word::w64::Word;
 
 /// The word x with m * x = -1 modulo 2^64.
 ///
+/// # Examples
+///
+/// ```
+/// use num_modular::monty::neg_mod_inv::w64::neginv;
+///
+/// assert_eq!(neginv(3), 0x5555_5555_5555_5555);
+/// assert_eq!(3 * neginv(3), u64::MAX); // -1 modulo 2^64
+/// ```
+///
 /// # Preconditions
 ///
 /// m is odd. This isn't tested: outside it the call panics, or returns no meaningful result.

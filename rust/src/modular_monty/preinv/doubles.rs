@@ -1,6 +1,6 @@
 //! Exact division of a double word by a word.
 
-use super::{PreModInv, PreparedInverse, double_quotient};
+use super::{PreModInv, double_quotient};
 use crate::modular_prim::exact::{DivExact, DivExactAssign, assign_exact};
 
 impl DivExact<u8, PreModInv<u8>> for u16 {

@@ -1,6 +1,6 @@
 //! Exact division of a word by a word.
 
-use super::{PreModInv, PreparedInverse, word_quotient};
+use super::{PreModInv, word_quotient};
 use crate::modular_prim::exact::{DivExact, DivExactAssign, assign_exact};
 
 impl DivExact<u8, PreModInv<u8>> for u8 {

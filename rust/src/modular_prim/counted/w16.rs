@@ -4,6 +4,15 @@ use crate::modular_prim::euclid;
 
 /// The inverse of a modulo m, `None` exactly where there is none, and the number of divisions.
 ///
+/// # Examples
+///
+/// ```
+/// use num_modular::prim::counted::w16::invm_counted;
+///
+/// assert_eq!(invm_counted(3, 7), (Some(5), 2)); // 7 by 3, and 3 by 1
+/// assert_eq!(invm_counted(3, 6), (None, 1)); // 6 by 3
+/// ```
+///
 /// # Panics
 ///
 /// Panics unless m is at least 1.

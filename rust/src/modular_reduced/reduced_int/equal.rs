@@ -7,6 +7,6 @@ use crate::modular_word::ring_word::RingWord;
 impl<T: RingWord, R: Reducer<T> + Copy> PartialEq for ReducedInt<T, R> {
     #[inline]
     fn eq(&self, other: &Self) -> bool {
-        self.reducer.modulus() == other.reducer.modulus() && self.form == other.form
+        self.form == other.form && self.reducer.modulus() == other.reducer.modulus()
     }
 }

@@ -4,12 +4,38 @@ use crate::modular_word::path_word::PathWord;
 use crate::modular_word::paths;
 
 /// A word.
+///
+/// # Examples
+///
+/// ```
+/// use num_modular::word::w8::Word;
+///
+/// let greatest: Word = 0xff;
+/// assert_eq!(greatest, u8::MAX);
+/// ```
 pub type Word = u8;
 
 /// A double word, which holds the product of two words.
+///
+/// # Examples
+///
+/// ```
+/// use num_modular::word::w8::{DoubleWord, Word};
+///
+/// assert_eq!(DoubleWord::BITS, 2 * Word::BITS);
+/// ```
 pub type DoubleWord = u16;
 
 /// The word whose low n bits are ones: 2^n - 1.
+///
+/// # Examples
+///
+/// ```
+/// use num_modular::word::w8::ones;
+///
+/// assert_eq!(ones(3), 0b111);
+/// assert_eq!(ones(8), u8::MAX);
+/// ```
 ///
 /// # Preconditions
 ///
@@ -20,48 +46,112 @@ pub fn ones(n: u32) -> Word {
 }
 
 /// The word as a double word of the same number.
+///
+/// # Examples
+///
+/// ```
+/// use num_modular::word::w8::extend;
+///
+/// assert_eq!(extend(200), 200u16);
+/// ```
 #[inline]
 pub const fn extend(word: Word) -> DoubleWord {
     word as DoubleWord
 }
 
 /// The low word of a double word: its number modulo 2^8.
+///
+/// # Examples
+///
+/// ```
+/// use num_modular::word::w8::low;
+///
+/// assert_eq!(low(0x1234), 0x34);
+/// ```
 #[inline]
 pub fn low(dw: DoubleWord) -> Word {
     Word::split(dw).0
 }
 
 /// The high word of a double word: its number divided by 2^8, rounded down.
+///
+/// # Examples
+///
+/// ```
+/// use num_modular::word::w8::high;
+///
+/// assert_eq!(high(0x1234), 0x12);
+/// ```
 #[inline]
 pub fn high(dw: DoubleWord) -> Word {
     Word::split(dw).1
 }
 
 /// The low and the high word of a double word, in this order.
+///
+/// # Examples
+///
+/// ```
+/// use num_modular::word::w8::split;
+///
+/// assert_eq!(split(0x1234), (0x34, 0x12));
+/// ```
 #[inline]
 pub fn split(dw: DoubleWord) -> (Word, Word) {
     Word::split(dw)
 }
 
 /// The double word of a low and a high word.
+///
+/// # Examples
+///
+/// ```
+/// use num_modular::word::w8::merge;
+///
+/// assert_eq!(merge(0x34, 0x12), 0x1234);
+/// ```
 #[inline]
 pub fn merge(low: Word, high: Word) -> DoubleWord {
     Word::merge(low, high)
 }
 
 /// The whole product of two words.
+///
+/// # Examples
+///
+/// ```
+/// use num_modular::word::w8::wmul;
+///
+/// assert_eq!(wmul(200, 100), 20_000);
+/// ```
 #[inline]
 pub fn wmul(a: Word, b: Word) -> DoubleWord {
     a.product(b)
 }
 
 /// The whole square of a word.
+///
+/// # Examples
+///
+/// ```
+/// use num_modular::word::w8::wsqr;
+///
+/// assert_eq!(wsqr(200), 40_000);
+/// ```
 #[inline]
 pub fn wsqr(a: Word) -> DoubleWord {
     a.product(a)
 }
 
 /// The remainder of a double word by a word.
+///
+/// # Examples
+///
+/// ```
+/// use num_modular::word::w8::nrem;
+///
+/// assert_eq!(nrem(1_000, 97), 30);
+/// ```
 ///
 /// # Panics
 ///

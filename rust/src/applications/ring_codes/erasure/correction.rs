@@ -6,6 +6,14 @@ use super::{RestoreError, choose, encode, points_fit};
 use crate::{Reducer, RingWord};
 
 /// Why `correct` returns no message.
+///
+/// # Examples
+///
+/// ```
+/// use num_modular::applications::ring_codes::erasure::CorrectError;
+///
+/// assert_eq!(CorrectError::NoInverse(15u8).to_string(), "15 has no inverse");
+/// ```
 #[derive(Clone, Copy, Debug, PartialEq, Eq)]
 pub enum CorrectError<T> {
     /// The places or the points don't fit.
@@ -51,6 +59,7 @@ fn count_errors<T: RingWord, R: Reducer<T>>(
     symbols: &[T],
     word: &[T],
 ) -> usize {
+    let _ = _r;
     let mut errors = 0;
     for i in 0..places.len() {
         errors += difference(&symbols[i], &word[places[i]]);
@@ -133,6 +142,20 @@ fn decode<T: RingWord, R: Reducer<T>>(
 /// Source: Welch and Berlekamp, US patent 4,633,470; Kötter, "On algebraic decoding of algebraic-geometric and cyclic
 /// codes".
 ///
+/// # Examples
+///
+/// ```
+/// use num_modular::applications::ring_codes::erasure::correct;
+/// use num_modular::{Reducer, Vanilla};
+///
+/// let ring = Vanilla::<u8>::new(&97);
+/// let (mut scratch, mut message, mut word) = ([0; 20], [0; 2], [0; 4]);
+/// // the third symbol should be 26
+/// let symbols = [12, 19, 50, 33];
+/// let found = correct(&ring, &[1, 2, 3, 4], &[0, 1, 2, 3], &symbols, &mut scratch, &mut message, &mut word);
+/// assert_eq!((found, message, word), (Ok(1), [5, 7], [12, 19, 26, 33]));
+/// ```
+///
 /// # Preconditions
 ///
 /// Points and symbols are checked forms, each place has its symbol, k, the length of the message, is at
@@ -151,9 +174,8 @@ pub fn correct<T: RingWord, R: Reducer<T>>(
         return Err(CorrectError::Restore(RestoreError::TooFewSymbols));
     }
     let (located, rest) = scratch.split_at_mut(places.len());
-    match locate(r, points, places, located) {
-        Err(error) => return Err(CorrectError::Restore(error)),
-        Ok(()) => {}
+    if let Err(error) = locate(r, points, places, located) {
+        return Err(CorrectError::Restore(error));
     }
     match decode(r, located, symbols, rest, message) {
         Err(a) => Err(CorrectError::NoInverse(a)),

@@ -33,10 +33,10 @@ pub fn discrepancy<T: RingWord, R: Reducer<T>>(
 /// result.
 pub fn multiply_by_root<T: RingWord, R: Reducer<T>>(r: &R, point: &T, coefficients: &mut [T]) {
     let mut before = r.transform(T::zero());
-    for i in 0..coefficients.len() {
-        let coefficient = coefficients[i];
+    for entry in coefficients.iter_mut() {
+        let coefficient = *entry;
         let product = r.mul(point, &coefficient);
-        coefficients[i] = r.sub(&before, &product);
+        *entry = r.sub(&before, &product);
         before = coefficient;
     }
 }
@@ -70,8 +70,8 @@ pub fn eliminate<T: RingWord, R: Reducer<T>>(
 #[inline]
 pub fn set_constant<T: RingWord, R: Reducer<T>>(r: &R, constant: &T, coefficients: &mut [T]) {
     let zero = r.transform(T::zero());
-    for i in 0..coefficients.len() {
-        coefficients[i] = zero;
+    for entry in coefficients.iter_mut() {
+        *entry = zero;
     }
     coefficients[0] = *constant;
 }

@@ -27,8 +27,8 @@ pub fn differences_before<T: RingWord, R: Reducer<T>>(r: &R, points: &[T], place
 /// outside it the call panics, or returns no meaningful result.
 #[inline]
 pub fn fill_weights<T: RingWord, R: Reducer<T>>(r: &R, points: &[T], weights: &mut [T]) {
-    for i in 0..weights.len() {
-        weights[i] = differences_before(r, points, i);
+    for (i, entry) in weights.iter_mut().enumerate() {
+        *entry = differences_before(r, points, i);
     }
 }
 

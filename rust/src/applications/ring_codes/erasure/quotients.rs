@@ -50,12 +50,12 @@ pub fn divide<T: RingWord, R: Reducer<T>>(
     values: &mut [T],
 ) -> Result<bool, T> {
     let mut found = 0;
-    for i in 0..count {
-        match quotient(r, &points[i], numerator, locator) {
+    for entry in points[..count].iter() {
+        match quotient(r, entry, numerator, locator) {
             Err(a) => return Err(a),
             Ok(None) => continue,
             Ok(Some(value)) => {
-                chosen[found] = points[i];
+                chosen[found] = *entry;
                 values[found] = value;
                 found += 1;
                 if found == chosen.len() {

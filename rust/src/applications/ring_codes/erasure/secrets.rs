@@ -4,6 +4,16 @@ use super::{CorrectError, RestoreError, correct, encode, points_fit, restore};
 use crate::{Reducer, RingWord};
 
 /// The reason why `share` refuses.
+///
+/// # Examples
+///
+/// ```
+/// use num_modular::applications::ring_codes::erasure::{share, ShareError};
+/// use num_modular::{Reducer, Vanilla};
+///
+/// let ring = Vanilla::<u8>::new(&97);
+/// assert_eq!(share(&ring, &[0], &[5, 7], &mut [0]), Err(ShareError::PointWithoutInverse));
+/// ```
 #[derive(Clone, Copy, Debug, PartialEq, Eq)]
 pub enum ShareError {
     /// A point has no inverse modulo m, so that the share there would say something of the secret. At 0 it would be the
@@ -17,8 +27,8 @@ pub enum ShareError {
 #[inline]
 fn have_inverses<T: RingWord, R: Reducer<T>>(r: &R, points: &[T]) -> bool {
     let mut product = r.transform(T::one());
-    for i in 0..points.len() {
-        product = r.mul(&product, &points[i]);
+    for entry in points.iter() {
+        product = r.mul(&product, entry);
     }
     r.inv(product).is_some()
 }
@@ -28,15 +38,28 @@ fn have_inverses<T: RingWord, R: Reducer<T>>(r: &R, points: &[T]) -> bool {
 /// shares unchanged, exactly where a point or the difference of two points has no inverse modulo m. So it refuses the
 /// point 0, and points that occur twice, if m is at least 2.
 ///
-/// A point without an inverse would tell something: modulo 15 the share s + 3·c at 3 is the secret s modulo 3.
-///
-/// What k - 1 shares say about the secret is in `secrecy_laws`. It doesn't run in constant time.
+/// k - 1 shares say nothing about the secret, if the other k - 1 coefficients are uniform, and independent of each
+/// other and of the secret. A point without an inverse would tell something: modulo 15 the share s + 3·c at 3 is the
+/// secret s modulo 3. The call doesn't run in constant time.
 ///
 /// Source: Shamir, "How to share a secret".
 ///
+/// # Examples
+///
+/// ```
+/// use num_modular::applications::ring_codes::erasure::share;
+/// use num_modular::{Reducer, Vanilla};
+///
+/// let ring = Vanilla::<u8>::new(&97);
+/// let mut shares = [0; 3];
+/// share(&ring, &[1, 2, 3], &[5, 7], &mut shares).unwrap(); // 5 is the secret, 7 is drawn at random
+/// assert_eq!(shares, [12, 19, 26]);
+/// ```
+///
 /// # Preconditions
 ///
-/// Those of `encode`. This isn't tested: outside it the call panics, or returns no meaningful result.
+/// Points and coefficients are checked forms, and `shares` has a place for each point. This isn't
+/// tested: outside it the call panics, or returns no meaningful result.
 #[inline]
 pub fn share<T: RingWord, R: Reducer<T>>(
     r: &R,
@@ -59,9 +82,22 @@ pub fn share<T: RingWord, R: Reducer<T>>(
 ///
 /// Source: Shamir, "How to share a secret".
 ///
+/// # Examples
+///
+/// ```
+/// use num_modular::applications::ring_codes::erasure::recover;
+/// use num_modular::{Reducer, Vanilla};
+///
+/// let ring = Vanilla::<u8>::new(&97);
+/// let (mut chosen, mut weights, mut coefficients) = ([0; 2], [0; 2], [0; 2]);
+/// let secret = recover(&ring, &[1, 2, 3], &[2, 0], &[26, 12], &mut chosen, &mut weights, &mut coefficients);
+/// assert_eq!(secret, Ok(5));
+/// ```
+///
 /// # Preconditions
 ///
-/// Those of `restore`, and k is at least 1. This isn't tested: outside it the call panics, or returns
+/// Points and shares are checked forms, each place has its share, k is at least 1, and there are k
+/// weights and room for k points in `chosen`. This isn't tested: outside it the call panics, or returns
 /// no meaningful result.
 #[inline]
 pub fn recover<T: RingWord, R: Reducer<T>>(
@@ -89,9 +125,26 @@ pub fn recover<T: RingWord, R: Reducer<T>>(
 ///
 /// Source: McEliece and Sarwate, "On sharing secrets and Reed-Solomon codes".
 ///
+/// # Examples
+///
+/// ```
+/// use num_modular::applications::ring_codes::erasure::recover_correct;
+/// use num_modular::{Reducer, Vanilla};
+///
+/// let ring = Vanilla::<u8>::new(&97);
+/// let (mut scratch, mut coefficients, mut word) = ([0; 20], [0; 2], [0; 4]);
+/// // the second share, 19, is forged
+/// let shares = [12, 20, 26, 33];
+/// let secret =
+///     recover_correct(&ring, &[1, 2, 3, 4], &[0, 1, 2, 3], &shares, &mut scratch, &mut coefficients, &mut word);
+/// assert_eq!(secret, Ok(5));
+/// ```
+///
 /// # Preconditions
 ///
-/// Those of `correct`. This isn't tested: outside it the call panics, or returns no meaningful result.
+/// Points and shares are checked forms, each place has its share, k is at least 1, `word` has a place
+/// for each point, and there are 3·(s + k) + 2 places of scratch. This isn't tested: outside it the
+/// call panics, or returns no meaningful result.
 #[inline]
 pub fn recover_correct<T: RingWord, R: Reducer<T>>(
     r: &R,
@@ -107,15 +160,3 @@ pub fn recover_correct<T: RingWord, R: Reducer<T>>(
         Err(fault) => Err(fault),
     }
 }
-
-/// Perfect secrecy: at k - 1 points that `share` accepts, any k - 1 shares and any secret, all below m, fit exactly one
-/// list of k coefficients below m. So for each secret exactly one choice of the other coefficients gives these shares.
-///
-/// It follows that k - 1 shares reveal nothing about the secret if the other k - 1 coefficients are uniform from 0 to
-/// m - 1, and independent of each other and of the secret. The contract states the count alone: such coefficients are
-/// the caller's part, and nothing is said of timing.
-///
-/// Source: Shamir, "How to share a secret".
-#[doc(hidden)]
-#[inline]
-pub fn secrecy_laws() {}

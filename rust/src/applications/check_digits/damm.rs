@@ -1,0 +1,75 @@
+//! Damm's check digit.
+
+use crate::applications::check_digits::are_digits;
+
+// Damm's quasigroup, row by row.
+const TABLE: [u64; 100] = [
+    0, 3, 1, 7, 5, 9, 8, 6, 4, 2,
+    7, 0, 9, 2, 1, 5, 4, 8, 6, 3,
+    4, 2, 0, 6, 8, 7, 1, 3, 5, 9,
+    1, 7, 5, 0, 9, 8, 3, 4, 2, 6,
+    6, 1, 2, 3, 0, 4, 5, 9, 7, 8,
+    3, 6, 7, 4, 2, 0, 9, 5, 8, 1,
+    5, 8, 6, 9, 7, 2, 0, 1, 3, 4,
+    8, 9, 4, 5, 3, 6, 2, 0, 1, 7,
+    9, 4, 3, 8, 6, 1, 7, 2, 0, 5,
+    2, 5, 8, 1, 4, 3, 6, 7, 9, 0,
+];
+
+// The element in row a and column b.
+#[inline]
+fn product(a: u64, b: u64) -> u64 {
+    TABLE[(10 * a + b) as usize]
+}
+
+// The product of the digits from the left.
+#[inline]
+fn check(word: &[u64]) -> u64 {
+    let mut state = 0;
+    for digit in word {
+        state = product(state, *digit);
+    }
+    state
+}
+
+/// Whether the digits, of which there is at least one, are right by Damm's check digit: each is at most 9, and their
+/// product from the left, from 0 on, is 0 in Damm's quasigroup of order 10.
+///
+/// `standard_finds` says what it detects: every change of one digit, and every exchange of two neighbours that differ.
+///
+/// Source: H. M. Damm, "Total anti-symmetrische Quasigruppen", 2004.
+///
+/// # Examples
+///
+/// ```
+/// use num_modular::applications::check_digits::accepts_damm;
+///
+/// assert!(accepts_damm(&[5, 7, 2, 4]));
+/// assert!(!accepts_damm(&[5, 2, 7, 4]));
+/// ```
+#[inline]
+pub fn accepts_damm(word: &[u64]) -> bool {
+    if word.is_empty() || !are_digits(word) {
+        return false;
+    }
+    check(word) == 0
+}
+
+/// The only digit that, behind the word, makes it one that `accepts_damm` accepts. `None` exactly where a symbol
+/// of the word is above 9.
+///
+/// # Examples
+///
+/// ```
+/// use num_modular::applications::check_digits::damm_check_digit;
+///
+/// assert_eq!(damm_check_digit(&[5, 7, 2]), Some(4));
+/// ```
+#[inline]
+pub fn damm_check_digit(word: &[u64]) -> Option<u64> {
+    if are_digits(word) {
+        Some(check(word))
+    } else {
+        None
+    }
+}

@@ -1,0 +1,93 @@
+//! The codes of the standards.
+
+use crate::applications::check_digits::Code;
+
+/// ISBN-10; the symbol X, which is allowed only at the last place, is 10 (ISO 2108, first to third edition).
+pub const ISBN_10: Code<'static> = Code {
+    modulus: 11,
+    residue: 0,
+    weights: &[10, 9, 8, 7, 6, 5, 4, 3, 2, 1],
+    least: &[0; 10],
+    greatest: &[9, 9, 9, 9, 9, 9, 9, 9, 9, 10],
+};
+
+/// ISBN-13: an EAN-13 that begins with 978 or 979 (ISO 2108:2017). Those that begin with 9790 are ISMN, numbers of
+/// printed music (ISO 10957), which this code accepts too.
+pub const ISBN_13: Code<'static> = Code {
+    modulus: 10,
+    residue: 0,
+    weights: &[1, 3, 1, 3, 1, 3, 1, 3, 1, 3, 1, 3, 1],
+    least: &[9, 7, 8, 0, 0, 0, 0, 0, 0, 0, 0, 0, 0],
+    greatest: &[9, 7, 9, 9, 9, 9, 9, 9, 9, 9, 9, 9, 9],
+};
+
+/// EAN-13, which is GTIN-13 (GS1 General Specifications, section 7.9.1).
+pub const EAN_13: Code<'static> = Code {
+    modulus: 10,
+    residue: 0,
+    weights: &[1, 3, 1, 3, 1, 3, 1, 3, 1, 3, 1, 3, 1],
+    least: &[0; 13],
+    greatest: &[9; 13],
+};
+
+/// EAN-8, which is GTIN-8 (GS1 General Specifications, section 7.9.1).
+pub const EAN_8: Code<'static> = Code {
+    modulus: 10,
+    residue: 0,
+    weights: &[3, 1, 3, 1, 3, 1, 3, 1],
+    least: &[0; 8],
+    greatest: &[9; 8],
+};
+
+/// UPC-A, which is GTIN-12 (GS1 General Specifications, section 7.9.1).
+pub const UPC_A: Code<'static> = Code {
+    modulus: 10,
+    residue: 0,
+    weights: &[3, 1, 3, 1, 3, 1, 3, 1, 3, 1, 3, 1],
+    least: &[0; 12],
+    greatest: &[9; 12],
+};
+
+/// ISSN without its hyphen; the symbol X, which is allowed only at the last place, is 10 (ISO 3297).
+pub const ISSN: Code<'static> = Code {
+    modulus: 11,
+    residue: 0,
+    weights: &[8, 7, 6, 5, 4, 3, 2, 1],
+    least: &[0; 8],
+    greatest: &[9, 9, 9, 9, 9, 9, 9, 10],
+};
+
+/// ORCID without its hyphens; the symbol X, which is allowed only at the last place, is 10 (ISO/IEC 7064, MOD 11-2).
+/// ISNI (ISO 27729) has the same code.
+pub const ORCID: Code<'static> = Code {
+    modulus: 11,
+    residue: 1,
+    weights: &[10, 5, 8, 4, 2, 1, 6, 3, 7, 9, 10, 5, 8, 4, 2, 1],
+    least: &[0; 16],
+    greatest: &[9, 9, 9, 9, 9, 9, 9, 9, 9, 9, 9, 9, 9, 9, 9, 10],
+};
+
+/// The routing number of a bank in the United States (American Bankers Association).
+pub const ABA_RTN: Code<'static> = Code {
+    modulus: 10,
+    residue: 0,
+    weights: &[3, 7, 1, 3, 7, 1, 3, 7, 1],
+    least: &[0; 9],
+    greatest: &[9; 9],
+};
+
+/// The codes of ISBN-10, ISBN-13, EAN-13, EAN-8, UPC-A, ISSN, ORCID and routing numbers, in this order, each as its
+/// standard defines it.
+///
+/// # Examples
+///
+/// ```
+/// use num_modular::applications::check_digits::standard_codes;
+///
+/// let found: Vec<usize> = standard_codes().iter().map(|code| code.weights.len()).collect();
+/// assert_eq!(found, [10, 13, 13, 8, 12, 8, 16, 9]);
+/// ```
+#[inline]
+pub const fn standard_codes() -> [Code<'static>; 8] {
+    [ISBN_10, ISBN_13, EAN_13, EAN_8, UPC_A, ISSN, ORCID, ABA_RTN]
+}

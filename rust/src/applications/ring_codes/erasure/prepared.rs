@@ -1,0 +1,204 @@
+//! Codes prepared for many words: what depends on the points alone is computed once.
+
+use crate::ring::invert_each;
+use crate::{Reducer, RingWord};
+
+/// A code prepared for many words. The k symbols at its known points give those at its t wanted points by k·t products.
+///
+/// A systematic code knows the first k points and wants the others: `extend` writes the check symbols of a message. To
+/// restore, it knows the points of k kept symbols and wants those of the lost ones, or all. A table of t·k factors,
+/// which the caller owns, is filled once.
+///
+/// # Examples
+///
+/// ```
+/// use num_modular::applications::ring_codes::erasure::PreparedCode;
+/// use num_modular::{Reducer, Vanilla};
+///
+/// let ring = Vanilla::<u64>::new(&929);
+/// let points = [0, 1, 2, 3, 4, 5, 6];
+/// let (mut rows, mut scratch) = ([0; 12], [0; 6]);
+/// let code = PreparedCode::new(&ring, &points[..3], &points[3..], &mut rows, &mut scratch).unwrap();
+/// let mut word = [3, 2, 1, 0, 0, 0, 0];
+/// let (message, checks) = word.split_at_mut(3);
+/// code.extend(message, checks);
+/// assert_eq!(word, [3, 2, 1, 0, 928, 927, 926]);
+/// ```
+#[must_use]
+pub struct PreparedCode<'a, T, R> {
+    ring: &'a R,
+    known: &'a [T],
+    wanted: &'a [T],
+    rows: &'a [T],
+}
+
+impl<'a, T: RingWord, R: Reducer<T>> PreparedCode<'a, T, R> {
+    /// Fills the rows, t·k for k known and t wanted points, and returns the code. `None` exactly where the known points
+    /// don't fit.
+    ///
+    /// The contents of both
+    /// are ignored. It takes about 4·k² + 5·t·k products and one inversion.
+    ///
+    /// Source: Lagrange's form: Knuth, The Art of Computer Programming, volume 2, section 4.6.4.
+    ///
+    /// # Examples
+    ///
+    /// ```
+    /// use num_modular::applications::ring_codes::erasure::PreparedCode;
+    /// use num_modular::{Reducer, Vanilla};
+    ///
+    /// let ring = Vanilla::<u64>::new(&15);
+    /// let (mut rows, mut scratch) = ([0; 2], [0; 4]);
+    /// assert!(PreparedCode::new(&ring, &[0, 1], &[2], &mut rows, &mut scratch).is_some());
+    /// assert!(PreparedCode::new(&ring, &[0, 3], &[2], &mut rows, &mut scratch).is_none()); // 3 has no inverse
+    /// ```
+    ///
+    /// # Panics
+    ///
+    /// Panics unless the points are checked forms, there are t·k rows, and 2·k places of scratch.
+    #[track_caller]
+    pub fn new(
+        ring: &'a R,
+        known: &'a [T],
+        wanted: &'a [T],
+        rows: &'a mut [T],
+        scratch: &mut [T],
+    ) -> Option<Self> {
+        let (weights, row) = scratch.split_at_mut(known.len());
+        if !fill_weights(ring, known, row, weights) {
+            return None;
+        }
+        fill_rows(ring, known, wanted, weights, row, rows);
+        Some(PreparedCode {
+            ring,
+            known,
+            wanted,
+            rows,
+        })
+    }
+
+    /// Writes the symbols at the wanted points, given those at the known points: both are of the word of one message of
+    /// k symbols, the only one with the given symbols.
+    ///
+    /// It takes t·k products.
+    ///
+    /// # Examples
+    ///
+    /// ```
+    /// use num_modular::applications::ring_codes::erasure::PreparedCode;
+    /// use num_modular::{Reducer, Vanilla};
+    ///
+    /// // of the word 1, 6, 17, 34, 57, 86, 121 at the points 0 to 6, the message being 1, 2, 3
+    /// let ring = Vanilla::<u64>::new(&929);
+    /// let (mut rows, mut scratch, mut lost) = ([0; 6], [0; 6], [0; 2]);
+    /// let code = PreparedCode::new(&ring, &[6, 1, 4], &[0, 2], &mut rows, &mut scratch).unwrap();
+    /// code.extend(&[121, 6, 57], &mut lost);
+    /// assert_eq!(lost, [1, 17]);
+    /// ```
+    ///
+    /// # Preconditions
+    ///
+    /// The symbols are checked forms, one for each known point, and there is a place for each wanted point.
+    /// This isn't tested: outside it the call panics, or returns no meaningful result.
+    #[inline]
+    pub fn extend(&self, symbols: &[T], others: &mut [T]) {
+        for (j, entry) in others[..self.wanted.len()].iter_mut().enumerate() {
+            *entry = row_value(self.ring, self.rows, j * symbols.len(), symbols);
+        }
+    }
+
+    /// Whether the symbols at the known points and those at the wanted points are of the word of one message of k
+    /// symbols. It takes at most t·k products.
+    ///
+    /// # Examples
+    ///
+    /// ```
+    /// use num_modular::applications::ring_codes::erasure::PreparedCode;
+    /// use num_modular::{Reducer, Vanilla};
+    ///
+    /// let ring = Vanilla::<u64>::new(&929);
+    /// let (mut rows, mut scratch) = ([0; 6], [0; 6]);
+    /// let code = PreparedCode::new(&ring, &[0, 1, 2], &[3, 4], &mut rows, &mut scratch).unwrap();
+    /// assert!(code.is_codeword(&[3, 2, 1], &[0, 928]));
+    /// assert!(!code.is_codeword(&[3, 2, 1], &[0, 927]));
+    /// ```
+    ///
+    /// # Preconditions
+    ///
+    /// All are checked forms, and there is one for each point. This isn't tested: outside it the call
+    /// panics, or returns no meaningful result.
+    #[inline]
+    pub fn is_codeword(&self, symbols: &[T], others: &[T]) -> bool {
+        for (j, entry) in others.iter().enumerate() {
+            let symbol = row_value(self.ring, self.rows, j * symbols.len(), symbols);
+            if symbol != *entry {
+                return false;
+            }
+        }
+        true
+    }
+}
+
+// Writes for each point the product of the differences of a point from the other ones.
+fn fill_products<T: RingWord, R: Reducer<T>>(r: &R, points: &[T], point: &T, products: &mut [T]) {
+    let one = r.transform(T::one());
+    let mut before = one;
+    for i in 0..points.len() {
+        products[i] = before;
+        let difference = r.sub(point, &points[i]);
+        before = r.mul(&before, &difference);
+    }
+    let mut after = one;
+    for k in 0..points.len() {
+        let i = points.len() - 1 - k;
+        products[i] = r.mul(&products[i], &after);
+        let difference = r.sub(point, &points[i]);
+        after = r.mul(&after, &difference);
+    }
+}
+
+// Writes for each point the inverse of the product of its differences from the other ones. Returns false exactly where
+// the points don't fit.
+#[inline]
+fn fill_weights<T: RingWord, R: Reducer<T>>(
+    r: &R,
+    points: &[T],
+    products: &mut [T],
+    weights: &mut [T],
+) -> bool {
+    for i in 0..points.len() {
+        fill_products(r, points, &points[i], products);
+        weights[i] = products[i];
+    }
+    invert_each(r, weights, products)
+}
+
+// Writes a row for each wanted point: for each known point the product of the differences of the wanted point from the
+// other known ones, times the weight of the known point.
+fn fill_rows<T: RingWord, R: Reducer<T>>(
+    r: &R,
+    known: &[T],
+    wanted: &[T],
+    weights: &[T],
+    products: &mut [T],
+    rows: &mut [T],
+) {
+    let mut next = 0;
+    for entry in wanted.iter() {
+        fill_products(r, known, entry, products);
+        for i in 0..known.len() {
+            rows[next] = r.mul(&products[i], &weights[i]);
+            next += 1;
+        }
+    }
+}
+
+// The sum of the symbols, each times its factor, from an index of the rows on.
+fn row_value<T: RingWord, R: Reducer<T>>(r: &R, rows: &[T], start: usize, symbols: &[T]) -> T {
+    let mut sum = r.transform(T::zero());
+    for (i, entry) in symbols.iter().enumerate() {
+        let product = r.mul(&rows[start + i], entry);
+        sum = r.add(&sum, &product);
+    }
+    sum
+}

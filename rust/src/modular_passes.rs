@@ -1,4 +1,0 @@
-//! One pass of a transform over any reducer: a stage, or two at once.
-
-pub mod stage;
-pub mod two_stages;

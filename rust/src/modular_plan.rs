@@ -1,6 +1,0 @@
-//! Tables of factors for transforms by a plan, which the caller owns, their entries and roots.
-
-pub mod bounded;
-pub mod entry;
-pub mod plan;
-pub mod roots;

@@ -1,0 +1,56 @@
+//! The plan: a table of the powers of a root, as factors, which the caller owns.
+
+use crate::modular_plan_passes::entry::PlanEntry;
+use crate::modular_barrett::planned::PlannedModulus;
+use crate::modular_prim::plain_word::PlainWord;
+
+/// Fills the table with the plan by g for transforms of n entries, n being twice its length: entry k becomes the
+/// factor of g to the power of the reversed bits of k.
+///
+/// The first entries of a plan are a plan for
+/// fewer entries, by the power of g that suits them.
+///
+/// # Examples
+///
+/// ```
+/// use num_modular::plans::{plan, Factor, PlannedModulus};
+///
+/// let modulus = PlannedModulus::<u64>::new(17);
+/// let mut table = [Factor::<u64>::ZERO; 4];
+/// plan(&modulus, 2, &mut table); // 2^4 = 17 - 1
+/// assert_eq!(table.map(|factor| factor.value()), [1, 2 * 2, 2, 2 * 2 * 2]);
+/// ```
+///
+/// # Panics
+///
+/// Panics unless g is below m, and g suits n entries, n being a power of two.
+#[track_caller]
+pub fn plan<T: PlainWord, F: PlanEntry<T>>(m: &PlannedModulus<T>, g: T, table: &mut [F]) {
+    if table.is_empty() {
+        return;
+    }
+    assert!(g.is_below(m.modulus), "g must be below m: {} and {}", crate::additions::number(g), crate::additions::number(m.modulus));
+    assert!(crate::additions::root_fits_plan(m, g, table.len()), "g must suit n entries, n being a power of two: n = {}, m = {}, g = {}", 2 * table.len(), crate::additions::number(m.modulus), crate::additions::number(g));
+    table[0] = F::entry(m.factor(m.residue(T::one())));
+    let bits = table.len().trailing_zeros();
+    // The indexes with a single bit set: the highest gets g, and each lower one the square of the last.
+    let mut power = g;
+    let mut place = table.len();
+    for _bit in 0..bits {
+        let factor = m.factor(power);
+        place /= 2;
+        table[place] = F::entry(factor);
+        power = m.product(power, &factor);
+    }
+    // The reversed bits of count + other are the sum of those of both, so that the power is a product. No product
+    // waits for the one just before it.
+    let mut count = 1;
+    for _bit in 0..bits {
+        let factor = table[count].factor();
+        for other in 1..count {
+            let power = m.product(table[other].factor().value, &factor);
+            table[count + other] = F::entry(m.factor(power));
+        }
+        count *= 2;
+    }
+}

@@ -1,0 +1,77 @@
+//! The inverse of the transform, in place.
+
+use crate::modular_transform::order::mirror;
+use crate::modular_transform::transform::ntt;
+use crate::modular_reduced::reducer::Reducer;
+use crate::modular_word::ring_word::RingWord;
+
+/// Multiplies each entry by a factor.
+///
+/// # Preconditions
+///
+/// The entries and the factor are checked forms. This isn't tested: outside it the call panics, or
+/// returns no meaningful result.
+#[inline]
+pub fn scale<T: RingWord, R: Reducer<T>>(r: &R, xs: &mut [T], factor: &T) {
+    for entry in xs.iter_mut() {
+        *entry = r.mul(&*entry, factor);
+    }
+}
+
+// The form of n, a power of two, by doubling 1, because n may not fit a word.
+#[inline]
+pub(crate) fn length_form<T: RingWord, R: Reducer<T>>(r: &R, n: usize) -> T {
+    let mut length = r.transform(T::one());
+    for _done in 0..n.trailing_zeros() {
+        length = r.dbl(length);
+    }
+    length
+}
+
+// Transforms, reverses the order of all entries but the first, and multiplies each by a factor. With an inverse of the
+// length as the factor, it undoes the transform.
+#[inline]
+pub(crate) fn transform_back<T: RingWord, R: Reducer<T>>(r: &R, xs: &mut [T], g: &T, part: &T) {
+    ntt(r, xs, g);
+    mirror(xs);
+    scale(r, xs, part);
+}
+
+/// Undoes `ntt`: replaces the entries by those whose transform by g they are. Returns false, with the entries
+/// unchanged, exactly where their number n has no inverse modulo m.
+///
+/// The modulus needn't be prime. No memory is allocated. n may be too large for a word.
+///
+/// Source: Pollard, "The fast Fourier transform in a finite field", section 2: the transform by the inverse of g, which
+/// is that by g in another order, divided by n.
+///
+/// # Examples
+///
+/// ```
+/// use num_modular::ring::{find_root, intt, ntt};
+/// use num_modular::{Reducer, Vanilla};
+///
+/// let ring = Vanilla::<u64>::new(&97);
+/// let root = find_root(&ring, 4).unwrap();
+/// let mut entries = [1, 2, 3, 4];
+/// ntt(&ring, &mut entries, &root);
+/// assert_eq!(entries[0], 1 + 2 + 3 + 4);
+/// assert!(intt(&ring, &mut entries, &root));
+/// assert_eq!(entries, [1, 2, 3, 4]);
+/// ```
+///
+/// # Preconditions
+///
+/// The length is a power of two, and g and the entries are checked forms, and g suits the length
+/// (`root_fits` tells). This isn't tested: outside it the call panics, or returns no meaningful result.
+#[inline]
+pub fn intt<T: RingWord, R: Reducer<T>>(r: &R, xs: &mut [T], g: &T) -> bool {
+    let length = length_form(r, xs.len());
+    match r.inv(length) {
+        Some(part) => {
+            transform_back(r, xs, g, &part);
+            true
+        }
+        None => false,
+    }
+}

@@ -1,0 +1,44 @@
+//! Polynomials over any integers modulo m.
+
+use crate::modular_barrett::premul::PreMulInv2by1;
+use crate::modular_reduced::modular_integer::ModularInteger;
+use crate::modular_reduced::reduced_int::{ReducedInt, VanillaInt};
+use crate::modular_reduced::reducer::Reducer;
+use crate::modular_word::ring_word::RingWord;
+
+/// The value at x of the polynomial with these coefficients, the highest first, by Horner's rule.
+/// Condition: all moduli are equal.
+pub fn horner<I: ModularInteger + Copy>(coefficients: &[I], x: I) -> I {
+    let mut value = x - x;
+    'terms: for c in coefficients {
+        value = value * x + *c;
+    }
+    value
+}
+
+// The residue of the value at x. Generic in the reducer: at a known one, a call of `horner` brings all laws of
+// `ModularInteger` into the caller's proof.
+fn value<T: RingWord, R: Reducer<T> + Copy>(
+    coefficients: &[ReducedInt<T, R>],
+    x: ReducedInt<T, R>,
+) -> T {
+    horner(coefficients, x).residue()
+}
+
+/// 2·7^2 + 3·7 + 5 modulo 21, over bytes.
+pub fn value_of_bytes() -> u8 {
+    let a = VanillaInt::<u8>::new(2, &21);
+    let b = VanillaInt::<u8>::new(3, &21);
+    let c = VanillaInt::<u8>::new(5, &21);
+    let x = VanillaInt::<u8>::new(7, &21);
+    value(&[a, b, c], x)
+}
+
+/// The same by a reducer whose forms aren't the residues.
+pub fn value_by_forms() -> u64 {
+    let a = ReducedInt::<u64, PreMulInv2by1<u64>>::new(2, &21);
+    let b = ReducedInt::<u64, PreMulInv2by1<u64>>::new(3, &21);
+    let c = ReducedInt::<u64, PreMulInv2by1<u64>>::new(5, &21);
+    let x = ReducedInt::<u64, PreMulInv2by1<u64>>::new(7, &21);
+    value(&[a, b, c], x)
+}

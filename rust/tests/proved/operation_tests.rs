@@ -1,4 +1,0 @@
-//! Known values of words, of modular operations on plain integers, and of symbols.
-
-#[cfg(test)]
-mod tests;

@@ -1,4 +1,0 @@
-//! Known values of the dividers, of each reducer, and of integers over reducers.
-
-#[cfg(test)]
-mod tests;
