@@ -1,6 +1,6 @@
 use Rattle.std.proofs.Common.{below_more}
 use Rattle.std.proofs.lemmas.Bool.{false≢true}
-use Rattle.num_modular.specs.Callers.{ℕ, ◌+◌, ◌*◌, ◌%◌, ◌∙◌, ap, sym, refl, arith, length}
+use Rattle.num_modular.specs.Callers.{◌<◌, ℕ, ◌+◌, ◌*◌, ◌%◌, ◌∙◌, ap, sym, refl, arith, length}
 use Rattle.num_modular.specs.Callers.{entry, entry_read, form_read}
 use Rattle.num_modular.specs.Sums.{sum_below}
 use Rattle.ring_codes.proofs.Lagrange.{fit_known, message_of, value_from_row}
@@ -15,8 +15,9 @@ returns-then-ne g c =
     let rows = entry number ring.value m self.rows.now in
     let symbols = entry number ring.value m c.args.symbols.now in let others = c.args.others.now in
     let k : ℕ = length self.known.now in let n : ℕ = length self.wanted.now in let j = c.wanted.j in
-    let symbol = entry_read number ring.value m others j _ c.wanted-test.true c.index-others-j.is in
-    let is = form_read number ring.form ring.value m others j _ c.requires.others c.wanted-test.true c.index-others-j.is in (
+    let below : j < length others = omega arith in
+    let symbol = entry_read number ring.value m others j _ below c.index-others-j.is in
+    let is = form_read number ring.form ring.value m others j _ c.requires.others below c.index-others-j.is in (
       λ t. absurd (false≢true t),
       λ (message, known, wanted).
           absurd (told_other _ _ _ c.ne.ensures c.if-ne.true
@@ -33,7 +34,8 @@ wanted-preserved g c =
     let self = c.args.self.now in
     let ring = g.R.Reducer in let m = ring.modulus self.ring.now in let number = g.T.RingWord.number in
     let others = c.args.others.now in let j = c.wanted.j in
-    let symbol = entry_read number ring.value m others j _ c.wanted-test.true c.index-others-j.is in
+    let below : j < length others = omega arith in
+    let symbol = entry_read number ring.value m others j _ below c.index-others-j.is in
     let same = told_same _ _ _ c.ne.ensures c.if-ne.false
     (g.met.T.RingWord.equal c.row_value-symbol.result c.index-others-j.result) in
     below_more _ _ c.wanted.invariant
