@@ -1,5 +1,5 @@
 //! Links the static library that `rt lib` makes of the crate `modular_bench`, and with the feature
-//! `peers` FLINT, GMP and NTL.
+//! `peers` FLINT, GMP and NTL, and libfec if it is there.
 
 use std::env;
 use std::fs;
@@ -18,6 +18,7 @@ fn main() {
     println!("cargo:rustc-env=RUSTC_VERSION={}", compiler());
     println!("cargo:rerun-if-changed={}", folder.join("libmodular_bench.a").display());
     link_moved(&folder.join("libmodular_bench.a"));
+    println!("cargo:rustc-check-cfg=cfg(libfec)");
     if env::var_os("CARGO_FEATURE_PEERS").is_some() {
         link_peers(&Path::new(&here).join("peers"));
     }
@@ -68,6 +69,11 @@ fn link_peers(sources: &Path) {
     println!("cargo:rustc-link-lib=static=peers");
     for library in ["ntl", "flint", "gmp", "stdc++"] {
         println!("cargo:rustc-link-lib={library}");
+    }
+    let header = Command::new("cc").args(["-E", "-include", "fec.h", "-x", "c", "/dev/null"]).output();
+    if header.is_ok_and(|output| output.status.success()) {
+        println!("cargo:rustc-cfg=libfec");
+        println!("cargo:rustc-link-lib=fec");
     }
 }
 

@@ -4,10 +4,12 @@
 //! the answers are compared; where they differ it says so and ends with status 1.
 //!
 //! With a folder as argument it writes speed.json and the tables of speed.md there, else it prints the tables. With
-//! `--peers` before the folder, which the feature `peers` brings, it measures the port beside FLINT and NTL in place of all
-//! that; with `--plans` the transforms by a plan and what stands on them alone, beside GMP too. It starts itself with
+//! `--peers` before the folder, which the feature `peers` brings, it measures the port beside FLINT and NTL, and libfec where
+//! it is, in place of all that; with `--plans` the transforms by a plan and what stands on them alone, beside GMP too. It starts itself with
 //! `--times`, for the further processes that measure the short lines.
 
+#[cfg(feature = "peers")]
+mod codes;
 #[cfg(feature = "peers")]
 mod erasure;
 mod erased;
@@ -160,7 +162,7 @@ fn beside_crate() -> Option<Report> {
 fn beside_peers() -> Option<Report> {
     (peers::agree() && erasure::agree()).then(|| Report {
         machine: format!("{}, and FLINT {}", machine(), peers::version()),
-        tables: vec![peers::measured(), erasure::measured()],
+        tables: [peers::measured(), erasure::measured(), codes::measured()].into_iter().chain(codes::beside_libfec()).collect(),
         growth: Vec::new(),
     })
 }
