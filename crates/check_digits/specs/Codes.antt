@@ -1,6 +1,7 @@
 -- Codes over the integers modulo m with one check equation (Gallian, "The mathematics of identification numbers",
 -- The College Mathematics Journal 22, 1991; Verhoeff, Error Detecting Decimal Codes, chapter 2).
-use Rattle.std.specs.Prelude.{◌≡◌, ◌≢◌, ℕ, suc, ◌*◌, ◌%◌, ◌<◌, ◌≤◌, ◌↔◌, List, [], ◌∷◌, ◌++◌, length, slice_index, slice_set}
+use Rattle.std.specs.Prelude.{◌≡◌, ◌≢◌, ℕ, suc, ◌*◌, ◌%◌, ◌<◌, ◌≤◌, ◌↔◌}
+use Rattle.std.specs.Prelude.{List, [], ◌∷◌, ◌++◌, length, slice_index, slice_set}
 use Rattle.std.specs.Prelude.{Option, MatchOption}
 use Rattle.num_modular.specs.Sums.{sum_below}
 use Rattle.check_digits.specs.declared.Code.{Code}

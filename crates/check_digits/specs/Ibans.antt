@@ -1,5 +1,6 @@
 -- IBANs as their standard defines them (ISO 13616-1:2020, by ISO/IEC 7064:2003, MOD 97-10).
-use Rattle.std.specs.Prelude.{◌≡◌, ◌≢◌, ◌↔◌, ℕ, suc, ◌<◌, slice_set, ◌+◌, ◌-◌, ◌*◌, ◌/◌, ◌%◌, ◌≤◌, ◌⊎◌, if◌then◌else◌, nat_le, nat_eq}
+use Rattle.std.specs.Prelude.{◌≡◌, ◌≢◌, ◌↔◌, ℕ, suc, ◌<◌, slice_set, ◌+◌, ◌-◌, ◌*◌, ◌/◌, ◌%◌, ◌≤◌, ◌⊎◌}
+use Rattle.std.specs.Prelude.{if◌then◌else◌, nat_le, nat_eq}
 use Rattle.std.specs.Prelude.{List, All, [], ◌∷◌, ◌++◌, length, slice_index, take, drop}
 use Rattle.std.specs.List.{flat_map}
 use Rattle.num_modular.specs.Sums.{polynomial}

@@ -1,4 +1,5 @@
--- Check digits by states: a word is read digit by digit, and each digit leads from a state to the next.
+-- Check digits by states: a word is read digit by digit, and each digit leads from a state to the next. The word
+-- `state_after` is the library's own, for what Verhoeff's and Damm's products have in common.
 use Rattle.std.specs.Prelude.{ℕ, zero, suc}
 
 -- the state after n digits, where the digit read at a time leads from a state to `step time state digit`

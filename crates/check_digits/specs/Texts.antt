@@ -1,4 +1,5 @@
--- Texts of symbols as people write them, by the numbers of their characters in ASCII.
+-- Texts of symbols as people write them, by the numbers of their characters in ASCII. The words are the library's own.
+-- ISO 2108 has hyphens or spaces in an ISBN, and ISO 3297 a hyphen in an ISSN.
 use Rattle.std.specs.Prelude.{◌≡◌, ℕ, suc, ◌-◌, ◌<◌, ◌≤◌, ◌⊎◌, if◌then◌else◌, nat_eq, nat_lt}
 use Rattle.std.specs.Prelude.{List, [], ◌∷◌, All, length, slice_index, take}
 use Rattle.std.specs.List.{flat_map}

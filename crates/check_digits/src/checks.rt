@@ -5,7 +5,8 @@ ghost use Rattle.std.specs.Prelude.{IsTrue, length, slice_index, slice_set, pos,
 ghost use Rattle.num_modular.specs.Integers.{IsReduced};
 ghost use Rattle.num_modular.specs.Inverses.{HasInverse};
 ghost use Rattle.num_modular.specs.Residues.{residue};
-ghost use Rattle.check_digits.specs.Codes.{weighted_sum, code_of, Fits, IsCodeword, exchanged, IsRestored, IsCompletion};
+ghost use Rattle.check_digits.specs.Codes.{weighted_sum, code_of, Fits, IsCodeword, exchanged, IsRestored};
+ghost use Rattle.check_digits.specs.Codes.{IsCompletion};
 ghost use Rattle.check_digits.specs.Texts.{IsSymbolText, symbols_of};
 
 use crate::{Code, read_symbols};
@@ -292,8 +293,8 @@ impl<'a> Code<'a> {
     }
 
     /// The only symbol below m that, behind the word, makes it one of the code: its check digit, where 10 is X. `None`
-    /// exactly where no symbol below m does. Condition: the last weight has an inverse modulo m, as the weight 1 of each
-    /// code of `standards` has.
+    /// exactly where no symbol below m does. Condition: the last weight has an inverse modulo m, as the weight 1 of
+    /// each code of `standards` has.
     ///
     /// # Examples
     ///

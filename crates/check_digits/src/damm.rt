@@ -25,8 +25,7 @@ const TABLE: [u64; 100] = [
 fn product(a: u64, b: u64) -> u64
     requires first { a ≤ 9 }
     requires second { b ≤ 9 }
-    ensures value { result ≡ damm_product a b }
-    ensures small { result ≤ 9 }
+    ensures { result ≡ damm_product a b }
 {
     TABLE[(10 * a + b) as usize]
 }

@@ -8,8 +8,8 @@ ghost use Rattle.std.specs.Prelude.{◌≢◌, ◌⊎◌, ◌++◌, IsTrue, All,
 ghost use Rattle.std.specs.Prelude.{if◌then◌else◌, nat_eq, [], ◌∷◌};
 ghost use Rattle.std.specs.List.{flat_map};
 ghost use Rattle.check_digits.specs.Codes.{code_of};
-ghost use Rattle.check_digits.specs.Ibans.{IsDigit, IsLetter, IsIbanForm, digits_of, iban_digits, check_number, IsIban, AreCheckDigits};
-ghost use Rattle.check_digits.specs.Ibans.{unspaced, without_spaces, IsGrouped};
+ghost use Rattle.check_digits.specs.Ibans.{IsDigit, IsLetter, IsIbanForm, digits_of, iban_digits, check_number, IsIban};
+ghost use Rattle.check_digits.specs.Ibans.{AreCheckDigits, unspaced, without_spaces, IsGrouped};
 ghost use Rattle.check_digits.specs.Standards.{mod_97_10};
 
 use crate::Code;

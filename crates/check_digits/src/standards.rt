@@ -111,7 +111,8 @@ pub fn standard_finds()
     ensures changes_modulo_11 { FindsEachChange (IsCodeword isbn_10) × FindsEachChange (IsCodeword issn)
         × FindsEachChange (IsCodeword orcid) }
     ensures changes_modulo_10 { FindsEachChange (IsCodeword isbn_13) × FindsEachChange (IsCodeword ean_13)
-        × FindsEachChange (IsCodeword ean_8) × FindsEachChange (IsCodeword upc_a) × FindsEachChange (IsCodeword aba_rtn) }
+        × FindsEachChange (IsCodeword ean_8) × FindsEachChange (IsCodeword upc_a)
+        × FindsEachChange (IsCodeword aba_rtn) }
     ensures exchanges { FindsEachExchange (IsCodeword isbn_10) × FindsEachExchange (IsCodeword issn)
         × FindsEachExchange (IsCodeword orcid) }
     ensures fives { FindsAllButFives isbn_13 × FindsAllButFives ean_13 × FindsAllButFives ean_8

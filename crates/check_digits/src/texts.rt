@@ -1,6 +1,7 @@
 //! Texts of symbols as people write them, with hyphens or spaces.
 
-ghost use Rattle.std.specs.Prelude.{◌≡◌, ℕ, suc, ◌+◌, ◌<◌, ◌≤◌, ◌↔◌, ◌⊎◌, ◌++◌, IsTrue, All, MatchOption, length, slice_index, take};
+ghost use Rattle.std.specs.Prelude.{◌≡◌, ℕ, suc, ◌+◌, ◌<◌, ◌≤◌, ◌↔◌, ◌⊎◌, ◌++◌};
+ghost use Rattle.std.specs.Prelude.{IsTrue, All, MatchOption, length, slice_index, take};
 ghost use Rattle.std.specs.List.{flat_map};
 ghost use Rattle.check_digits.specs.Texts.{IsSymbol, IsSeparator, IsSymbolText, AreSymbols, symbol_of, symbols_of};
 
@@ -35,7 +36,8 @@ fn has_symbol(text: &[u8], place: usize) -> bool
 // Whether a symbol is behind each separator.
 fn are_between(text: &[u8]) -> bool
     ensures { IsTrue result
-        ↔ ((i : ℕ) → i < length text.now → IsSeparator (slice_index text.now i) → IsSymbol (slice_index text.now (suc i))) }
+        ↔ ((i : ℕ) → i < length text.now
+        → IsSeparator (slice_index text.now i) → IsSymbol (slice_index text.now (suc i))) }
 {
     'places: for place in 0..text.len() {
         if is_separator(text[place]) && !has_symbol(text, place + 1) {
