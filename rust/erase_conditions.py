@@ -81,6 +81,18 @@ LOOKS = {
         (EVERY, "crate::additions::may_be_system(moduli)"),
         (EVERY, "residues.len() >= moduli.len() && are_reduced(moduli, residues)"),
     ),
+    ("erasure/prepared", "new"): (
+        (DEBUG, "known.iter().chain(wanted).all(|x| ring.check(x))"),
+        (EVERY, "rows.len() == wanted.len() * known.len() && scratch.len() == 2 * known.len()"),
+    ),
+    ("erasure/prepared", "extend"): (
+        (DEBUG, "symbols.iter().all(|x| self.ring.check(x))"),
+        (EVERY, "symbols.len() == self.known.len() && others.len() == self.wanted.len()"),
+    ),
+    ("erasure/prepared", "is_codeword"): (
+        (DEBUG, "symbols.iter().chain(others).all(|x| self.ring.check(x))"),
+        (EVERY, "symbols.len() == self.known.len() && others.len() == self.wanted.len()"),
+    ),
     ("preinv", "word_quotient"): QUOTIENT,
     ("preinv", "double_quotient"): QUOTIENT,
 }

@@ -56,7 +56,7 @@ impl<'a, T: RingWord, R: Reducer<T>> PreparedCode<'a, T, R> {
     /// Fills the rows, t·k for k known and t wanted points, and returns the code. `None` exactly where the known points
     /// don't fit.
     ///
-    /// Conditions: the points are checked forms, there are t·k rows, and 2·k places of scratch. The contents of both
+    /// Conditions: the points are checked forms; there are t·k rows, and 2·k places of scratch. The contents of both
     /// are ignored. It takes about 4·k² + 5·t·k products and one inversion.
     ///
     /// Source: Lagrange's form: Knuth, The Art of Computer Programming, volume 2, section 4.6.4.
@@ -103,7 +103,7 @@ impl<'a, T: RingWord, R: Reducer<T>> PreparedCode<'a, T, R> {
     /// Writes the symbols at the wanted points, given those at the known points: both are of the word of one message of
     /// k symbols, the only one with the given symbols.
     ///
-    /// Conditions: the symbols are checked forms, one for each known point, and there is a place for each wanted
+    /// Conditions: the symbols are checked forms; there is a symbol for each known point, and a place for each wanted
     /// point. It takes t·k products.
     ///
     /// # Examples
@@ -143,7 +143,8 @@ impl<'a, T: RingWord, R: Reducer<T>> PreparedCode<'a, T, R> {
     }
 
     /// Whether the symbols at the known points and those at the wanted points are of the word of one message of k
-    /// symbols. Conditions: all are checked forms, and there is one for each point. It takes at most t·k products.
+    /// symbols. Conditions: the symbols are checked forms; there is a symbol for each known point, and one for each wanted
+    /// point. It takes at most t·k products.
     ///
     /// # Examples
     ///
