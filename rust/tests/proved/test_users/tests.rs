@@ -10,6 +10,7 @@ macro_rules! check {
 
 mod check_symbols;
 mod correction;
+mod decimal_digits;
 mod each_client;
 mod erasure;
 mod first_uses;

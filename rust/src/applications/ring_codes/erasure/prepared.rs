@@ -55,7 +55,9 @@ impl<'a, T: RingWord, R: Reducer<T>> PreparedCode<'a, T, R> {
     ///
     /// # Panics
     ///
-    /// Panics unless the points are checked forms, there are t·k rows, and 2·k places of scratch.
+    /// Panics unless there are t·k rows, and 2·k places of scratch. A debug build also panics unless the
+    /// points are checked forms. A release build doesn't test that, and outside it panics, or returns no
+    /// meaningful result.
     #[track_caller]
     pub fn new(
         ring: &'a R,
@@ -64,6 +66,8 @@ impl<'a, T: RingWord, R: Reducer<T>> PreparedCode<'a, T, R> {
         rows: &'a mut [T],
         scratch: &mut [T],
     ) -> Option<Self> {
+        debug_assert!(known.iter().chain(wanted).all(|x| ring.check(x)), "the points must be checked forms");
+        assert!(rows.len() == wanted.len() * known.len() && scratch.len() == 2 * known.len(), "there must be t·k rows, and 2·k places of scratch");
         let (weights, row) = scratch.split_at_mut(known.len());
         if !fill_weights(ring, known, row, weights) {
             return None;
@@ -96,19 +100,24 @@ impl<'a, T: RingWord, R: Reducer<T>> PreparedCode<'a, T, R> {
     /// assert_eq!(lost, [1, 17]);
     /// ```
     ///
-    /// # Preconditions
+    /// # Panics
     ///
-    /// The symbols are checked forms, one for each known point, and there is a place for each wanted point.
-    /// This isn't tested: outside it the call panics, or returns no meaningful result.
+    /// Panics unless there is a symbol for each known point, and a place for each wanted point. A debug
+    /// build also panics unless the symbols are checked forms. A release build doesn't test that, and
+    /// outside it panics, or returns no meaningful result.
     #[inline]
+    #[track_caller]
     pub fn extend(&self, symbols: &[T], others: &mut [T]) {
+        debug_assert!(symbols.iter().all(|x| self.ring.check(x)), "the symbols must be checked forms");
+        assert!(symbols.len() == self.known.len() && others.len() == self.wanted.len(), "there must be a symbol for each known point, and a place for each wanted point");
         for (j, entry) in others[..self.wanted.len()].iter_mut().enumerate() {
             *entry = row_value(self.ring, self.rows, j * symbols.len(), symbols);
         }
     }
 
     /// Whether the symbols at the known points and those at the wanted points are of the word of one message of k
-    /// symbols. It takes at most t·k products.
+    /// symbols.
+    /// It takes at most t·k products.
     ///
     /// # Examples
     ///
@@ -123,12 +132,16 @@ impl<'a, T: RingWord, R: Reducer<T>> PreparedCode<'a, T, R> {
     /// assert!(!code.is_codeword(&[3, 2, 1], &[0, 927]));
     /// ```
     ///
-    /// # Preconditions
+    /// # Panics
     ///
-    /// All are checked forms, and there is one for each point. This isn't tested: outside it the call
+    /// Panics unless there is a symbol for each known point, and one for each wanted point. A debug build
+    /// also panics unless the symbols are checked forms. A release build doesn't test that, and outside it
     /// panics, or returns no meaningful result.
     #[inline]
+    #[track_caller]
     pub fn is_codeword(&self, symbols: &[T], others: &[T]) -> bool {
+        debug_assert!(symbols.iter().chain(others).all(|x| self.ring.check(x)), "the symbols must be checked forms");
+        assert!(symbols.len() == self.known.len() && others.len() == self.wanted.len(), "there must be a symbol for each known point, and one for each wanted point");
         for (j, entry) in others.iter().enumerate() {
             let symbol = row_value(self.ring, self.rows, j * symbols.len(), symbols);
             if symbol != *entry {
