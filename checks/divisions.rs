@@ -10,6 +10,7 @@ use num_modular::modular_barrett::roomy::RoomyModulus;
 use num_modular::modular_folds::folds::{fold_all, fold_three, fold_two, reduce_by_folds};
 use num_modular::modular_folds::products::{reduce_product, reduce_word};
 use num_modular::modular_monty::odd_ring::StoredModulus;
+use num_modular::modular_monty::proth::{ProthNumber32, ProthNumber64};
 use num_modular::modular_plan_transforms::split::split_loosely;
 use num_modular::modular_prim::below::{add_below, branchless_sub_below, dbl_below, neg_below, reduced_once, sub_below};
 use num_modular::modular_prim::euclid::invm;
@@ -19,7 +20,6 @@ use num_modular::modular_prim::residues::{addm, dblm, mulm, negm, reduced, sqm, 
 use num_modular::modular_word::paths::{clearing, div_1by1, div_2by1, exact_1, exact_2, neginv, ones, redc, reduce_by, two};
 use num_modular::plans::{convolve_block, convolve_negacyclic, convolve_planned, join, join_scaled, multiply, ntt_planned};
 use num_modular::plans::{plan, split, Factor, PlannedModulus};
-use num_modular::rings::{ProthNumber32, ProthNumber64};
 use num_modular::{
     DivExact, DivExactAssign, FixedMersenne, FixedMersenne32, FixedMersenne64, FixedMontgomery32, FixedMontgomery64,
     FixedProth32, FixedProth64, FixedTrinomialSolinas32, FixedTrinomialSolinas64, Montgomery, Normalized2by1Divisor,

@@ -2,11 +2,12 @@
 //!
 //! The root exports the traits, types and aliases, and the bounds of generic code over them. Beside the modules of the
 //! Rust crate there are `ring` (lists of commands run over any reducer, and transforms), `plans` (transforms by a
-//! table), `rings` (the generic types behind the aliases), `hashes` (polynomial hashes and a search), `residues`
+//! table), `families` (the generic types behind the aliases), `hashes` (polynomial hashes and a search), `residues`
 //! (residue number systems) and `laws`.
 #![tactic(auto)]
 
 pub mod barrett;
+pub mod families;
 pub mod hashes;
 pub mod laws;
 pub mod mersenne;
@@ -19,7 +20,6 @@ pub mod proth;
 pub mod reduced;
 pub mod residues;
 pub mod ring;
-pub mod rings;
 pub mod solinas;
 pub mod word;
 

@@ -9,6 +9,6 @@ pub use modular_prim::operations::{ModularAbs, ModularCoreOps, ModularPow, Modul
 pub use modular_prim::power::{powm_u32, powm_u64};
 pub use modular_symbols::operands::{IntegerValued, SymbolWord, UnsignedOperand};
 pub use modular_symbols::operations::ModularOps;
-pub use modular_symbols::primes::{is_prime_by_search, symbol_over_prime};
+pub use modular_symbols::primes::symbol_over_prime;
 pub use modular_symbols::reference_operations::ModularRefOps;
 pub use modular_symbols::symbols::ModularSymbols;

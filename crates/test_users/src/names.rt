@@ -1,6 +1,10 @@
 //! The public items of `num_modular` that no test names, by their paths.
 
 pub use num_modular::barrett::{FitsDivisor, Normalized2by1Divisor, StoredDivisor};
+pub use num_modular::families::{
+    FoldModulus, FoldRing, Mersenne32, Mersenne64, OddModulus, OddRing, Trinomial, Trinomial32,
+    Trinomial64, TrinomialModulus, TrinomialSolinas,
+};
 pub use num_modular::laws::{
     base_laws, canonical_laws, coefficient_laws, congruence_laws, digit_laws, division_laws,
     divisor_laws, euclids_lemma, fold_laws, form_laws, inverse_laws, inverse_product_laws,
@@ -16,16 +20,11 @@ pub use num_modular::preinv::PreparedInverse;
 pub use num_modular::prim::by_subtraction::{inverse, jacobi};
 pub use num_modular::prim::{
     DivExactAssign, IntegerValued, ModularCoreOps, ModularRefOps, Numbered, SymbolWord,
-    UnsignedOperand, is_prime_by_search, powm_u32, powm_u64, symbol_over_prime,
+    UnsignedOperand, powm_u32, powm_u64, symbol_over_prime,
 };
 pub use num_modular::proth::{FixedProth32, FixedProth64};
 pub use num_modular::reduced::ReducedInt;
 pub use num_modular::ring::{load_forms, unload_forms};
-pub use num_modular::rings::{
-    FoldModulus, FoldRing, FoldWord, FoldedWord, Mersenne32, Mersenne64, OddModulus, OddNumber32,
-    OddNumber64, OddRing, ProthNumber32, ProthNumber64, Trinomial, Trinomial32, Trinomial64,
-    TrinomialModulus, TrinomialSolinas, TrinomialWord,
-};
 pub use num_modular::word::PlainWord;
 
 pub mod w8 {

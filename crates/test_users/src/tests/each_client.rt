@@ -11,7 +11,7 @@ use examples::inner_products::inner_product_of_four;
 use examples::operations::{product_and_sum, square};
 use examples::quotients::{by_inverse, by_operator, ten_by_five};
 use examples::squares::is_quadratic_residue;
-use num_modular::prim::is_prime_by_search;
+use modular_symbols::primes::is_prime_by_search;
 use residue_numbers::from_remainders;
 
 const X: (u64, u64, u64, u64) = (18446744073709551615, 12345678901234567890, 7, 1000000007);

@@ -4,7 +4,7 @@ use super::assert_at;
 use examples::fermat_tests::is_shown_composite;
 use examples::keys::{keys, known_word};
 use examples::square_roots::square_root;
-use num_modular::prim::is_prime_by_search;
+use modular_symbols::primes::is_prime_by_search;
 
 #[test]
 fn keys_of_two_parties(rt: HostRuntime) {
