@@ -10,16 +10,16 @@ ghost use Rattle.num_modular.specs.Program.{IsFault, reducer_name, usage, line_o
 ghost use Rattle.num_modular.specs.Words.{FindsWhere};
 
 use self::words::{REGISTERS, command, number};
-use crate::ring::{RingCommand, RunEnd, run};
+use crate::commands::{RingCommand, RunEnd, run};
 use modular_barrett::premul::PreMulInv2by1;
 use modular_monty::montgomery::Montgomery;
 use modular_reduced::reducer::Reducer;
 use modular_reduced::vanilla::Vanilla;
-use std::alloc::{Allocator, Global};
+use std::alloc::Global;
 use std::io;
 use std::io::Write;
 
-pub mod words;
+mod words;
 
 /// The reducers that the program's first word can name.
 #[derive(Clone, Copy, Debug, PartialEq, Eq)]
@@ -57,21 +57,6 @@ pub fn run_words<O: Write, E: Write>(alloc: Global, words: &[&str], out: &mut O,
         (Appends (O.contents out.old) (O.contents out.new))
         (Appends (E.contents err.old) (E.contents err.new)) result }
 {
-    run_words_in(&alloc, words, out, err)
-}
-
-// `run_words` with any allocator for the commands.
-fn run_words_in<A: Allocator, O: Write, E: Write>(
-    alloc: &A,
-    words: &[&str],
-    out: &mut O,
-    err: &mut E,
-) -> u8
-    ensures range { result ≤ 4 }
-    ensures answer { result < 4 → IsAnswer (Ask words.now) (out.new ≡ out.old)
-        (Appends (O.contents out.old) (O.contents out.new))
-        (Appends (E.contents err.old) (E.contents err.new)) result }
-{
     match run_by_name(alloc, words, out, err) {
         Ok(status) => status,
         Err(_) => 4,
@@ -79,8 +64,8 @@ fn run_words_in<A: Allocator, O: Write, E: Write>(
 }
 
 // The status, unless a write fails.
-fn run_by_name<A: Allocator, O: Write, E: Write>(
-    alloc: &A,
+fn run_by_name<O: Write, E: Write>(
+    alloc: Global,
     words: &[&str],
     out: &mut O,
     err: &mut E,
@@ -139,9 +124,9 @@ fn refuse<E: Write>(err: &mut E) -> io::Result<u8>
 }
 
 // Reads the commands and runs them over a reducer.
-fn run_over<R: Reducer<u64>, A: Allocator, O: Write, E: Write>(
+fn run_over<R: Reducer<u64>, O: Write, E: Write>(
     reducer: &R,
-    alloc: &A,
+    alloc: Global,
     words: &[&str],
     out: &mut O,
     err: &mut E,
@@ -162,10 +147,7 @@ fn run_over<R: Reducer<u64>, A: Allocator, O: Write, E: Write>(
 }
 
 // The commands that the words denote.
-fn read_commands<'a, A: Allocator>(
-    alloc: &'a A,
-    words: &[&str],
-) -> Result<Vec<RingCommand<u64>, &'a A>, Fault>
+fn read_commands(alloc: Global, words: &[&str]) -> Result<Vec<RingCommand<u64>, Global>, Fault>
     ensures { MatchResult result (λ v. AreCommands words.now v.items) (λ fault. IsFault words.now fault) }
 {
     let mut commands = Vec::new(alloc);

@@ -5,19 +5,19 @@ use Rattle.num_modular.proofs.ProgramLemmas.{unreadable_at, more_read}
 use Rattle.num_modular.proofs.modrun.read_commands.Goals as goal
 
 pub words-init : goal.words-init
-words-init g c = subst (AreCommands []) (sym c.new-commands.ensures.items) tt
+words-init c = subst (AreCommands []) (sym c.new-commands.ensures.items) tt
 
 pub words-preserved : goal.words-preserved
-words-preserved g c =
+words-preserved c =
     let pushed : c.push.new.self.items ≡ c.words.commands.items ++ (c.in-Some.read ∷ []) = search rules in
     subst (AreCommands (take (c.words.word-index + 1) c.args.words.now)) (sym pushed)
     (more_read c.args.words.now c.words.word-index _ c.words.commands.items c.in-Some.read c.words-test.true
     c.words.invariant c.in-Some.ensures)
 
 pub returns-in_default : goal.returns-in_default
-returns-in_default g c = unreadable_at c.args.words.now c.words.word-index _ c.words-test.true c.in_default.ensures
+returns-in_default c = unreadable_at c.args.words.now c.words.word-index _ c.words-test.true c.in_default.ensures
 
 pub returns : goal.returns
-returns g c =
+returns c =
     subst (λ ws. AreCommands ws c.words.commands.items)
     (take_all c.words.word-index c.args.words.now c.words-test.false) c.words.invariant
