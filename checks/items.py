@@ -57,6 +57,11 @@ def items(crate, module, text, at):
         for path, name in names_of(re.sub(r"\s+", " ", uses)):
             first, *rest = path.split("::")
             first, rest = (crate, rest) if first == "crate" else (crate, module + rest) if first == "self" else (first, rest)
+            if path.startswith("crate::"):
+                # what another module exports too
+                inner = items_at(crate, rest[:-1], "")
+                yield from ((item, f"{at}::{name}") for item, other in inner if other == f"::{rest[-1]}")
+                continue
             within = list(items_at(first, rest, f"{at}::{name}")) if name[0].islower() else []
             yield from within or [("::".join([first, *rest]), f"{at}::{name}")]
     for _, name in ITEM.findall(text):

@@ -17,7 +17,7 @@ ghost use Rattle.modular_ring.specs.Products.{product_below};
 ghost use Rattle.modular_ring.specs.Ring.{whole, value_at, IsStop, carried_out, IsFit, values_of, HoldValues};
 ghost use Rattle.num_modular.specs.Stops.{inverted_by, NeedsInverse};
 
-use crate::ring::{RingCommand, RunEnd, run};
+use crate::commands::{RingCommand, RunEnd, run};
 use modular_reduced::reducer::Reducer;
 use modular_word::ring_word::RingWord;
 

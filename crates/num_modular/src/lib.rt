@@ -1,12 +1,13 @@
 //! Modular rings over machine words, by the names of the crate `num-modular`.
 //!
 //! The root exports the traits, types and aliases, and the bounds of generic code over them. Beside the modules of the
-//! Rust crate there are `ring` (lists of commands run over any reducer, and transforms), `plans` (transforms by a
-//! table), `families` (the generic types behind the aliases), `hashes` (polynomial hashes and a search), `residues`
-//! (residue number systems) and `laws`.
+//! Rust crate there are `commands` (lists of commands run over any reducer) and `transforms`, both also in `ring`,
+//! `plans` (transforms by a table), `families` (the generic types behind the aliases), `hashes` (polynomial hashes and
+//! a search), `residues` (residue number systems) and `laws`.
 #![tactic(auto)]
 
 pub mod barrett;
+pub mod commands;
 pub mod families;
 pub mod hashes;
 pub mod laws;
@@ -21,6 +22,7 @@ pub mod reduced;
 pub mod residues;
 pub mod ring;
 pub mod solinas;
+pub mod transforms;
 pub mod word;
 
 pub use modular_barrett::normalized::{Normalized2by1Divisor, StoredDivisor};

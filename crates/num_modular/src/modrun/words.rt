@@ -4,7 +4,7 @@ ghost use Rattle.std.specs.Prelude.{◌≡◌, ℕ, ◌<◌, List, ◌∷◌, []
 ghost use Rattle.num_modular.specs.Words.{IsNumberText, AreNumberTexts, IsReadAs};
 ghost use Rattle.num_modular.specs.Words.{IsCommand, IsCommandWord, FindsWhere, parts};
 
-use crate::ring::RingCommand;
+use crate::commands::RingCommand;
 
 /// The number of registers.
 pub const REGISTERS: usize = 8;
