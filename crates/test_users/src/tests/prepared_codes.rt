@@ -1,7 +1,6 @@
 //! Prepared codes, and codes at the powers of a root.
 
 ghost use Rattle.std.specs.Prelude.{◌*◌, ◌≤◌};
-ghost use Rattle.num_modular.specs.Transforms.{Suits};
 
 use super::erasure::{forms_of, words_of};
 use num_modular::ring::root_fits;
