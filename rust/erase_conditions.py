@@ -9,7 +9,7 @@ import textwrap
 from collections import defaultdict
 from dataclasses import dataclass
 
-from erase_tokens import COUNT, Unknown, beginning, beyond, body_of, header, lexed, put_attribute
+from erase_tokens import COUNT, Unknown, beginning, beyond, body_of, header, lexed, parameters, put_attribute
 
 SENTENCE = re.compile(r"\s?\bConditions?(?: of [^:.]*)?:\s+(.+?)\.(?=\s|$)\s?", re.S)
 WIDTH = 100  # of a section of docs
@@ -20,7 +20,8 @@ MADE_BY = {"new": ("R::new(", "Montgomery::of(", "Self::of(", "M::keep(")}
 
 # Tests that are put in at the beginning of a body, since they look at more than `prove!` may, or since only rustc needs them:
 # by file in its crate and function, the condition's parts in turn. What they call is proved to tell whether the condition holds.
-EVERY, DEBUG, RETURN = "assert", "debug_assert", "return"
+EVERY, DEBUG, RETURN, CALL = "assert", "debug_assert", "return", "call"
+FILLED = (CALL, "crate::additions::expect_filled(m, table)")
 FACTORS = (DEBUG, "crate::additions::are_factors(m, xs.len(), table, b, last)")
 IN_ROOM = (DEBUG, "xs.iter().all(|x| m.has_room(*x))")
 SPLITS = (EVERY, "crate::plans::splits(xs.len(), table.len(), b, last)")
@@ -50,13 +51,14 @@ LOOKS = {
         (EVERY, "g.is_below(m.modulus)"),
         (EVERY, "crate::additions::root_fits_plan(m, g, table.len())"),
     ),
-    ("split", "split"): (IN_ROOM, SPLITS, FACTORS),
-    ("join", "join"): (IN_ROOM, SPLITS, FACTORS),
-    ("join", "join_scaled"): (IN_ROOM, SPLITS, FACTORS, (DEBUG, "crate::additions::is_factor(m, w)")),
+    ("split", "split"): (IN_ROOM, SPLITS, FILLED, FACTORS),
+    ("join", "join"): (IN_ROOM, SPLITS, FILLED, FACTORS),
+    ("join", "join_scaled"): (IN_ROOM, SPLITS, FILLED, FACTORS, (DEBUG, "crate::additions::is_factor(m, w)")),
     ("convolution", "convolve_block"): (
         (EVERY, "ys.len() == xs.len()"),
         (EVERY, "convolves(xs.len(), table.len(), b, last)"),
         (DEBUG, "xs.iter().chain(ys.iter()).all(|x| m.has_room(*x))"),
+        FILLED,
         FACTORS,
     ),
     **{(PLAN, name): ((EVERY, "self.fits(xs.len())"), PLAN_ROOM) for name in ("transform", "inverse")},
@@ -180,7 +182,8 @@ def condition(lead):
     """The condition that the comments right above an item state; None for none."""
     text = "\n".join(re.sub(r"^\s*//[/!]? ?", "", line) for line in lead[attached(lead) :].split("\n"))
     found = SENTENCE.search(text)
-    return " ".join(found[1].split()) if found else None
+    # what may be so is no condition
+    return re.sub(r", and \w+ may be [^;,]*", "", " ".join(found[1].split())) if found else None
 
 
 def conditions_of_traits(files):
@@ -250,7 +253,7 @@ def put_looks(tokens, it, file):
     FOUND[key].add(file)
     for macro, test in reversed(LOOKS.get(key, ())):
         lead = tokens[it.body + 1].lead
-        look = f"if {test} {{{lead}    return;{lead}}}" if macro == RETURN else f"{macro}!({test});"
+        look = {RETURN: f"if {test} {{{lead}    return;{lead}}}", CALL: f"{test};"}.get(macro, f"{macro}!({test});")
         tokens[it.body + 1 : it.body + 1] = lexed(lead + look)
         COUNT[f"{macro}! of a condition put in"] += 1
 
@@ -273,11 +276,32 @@ def how_tested(tokens, it, file, words):
     return [[part for part, other in zip(parts, kinds) if other == kind] for kind in (EVERY, DEBUG, "")]
 
 
+def with_subject(part, names):
+    """A part of a condition, with the names of the parameters that its pronoun stands for."""
+    pronoun, _, rest = part.partition(" ")
+    if not re.match(r"(is a checked form|are checked( forms)?|are below m|is below 4m|is odd)\b", rest):
+        return part
+    if pronoun == "it" and len(names) == 1 or pronoun in ("they", "all", "both") and 1 <= len(names) <= 3:
+        return f"{', '.join(names[:-1])}{' and ' * (len(names) > 1)}{names[-1]} {rest}"
+    return part
+
+
+def arguments(tokens, it):
+    """The names of the parameters of a function that are words or lists of words, but for the modulus."""
+    opened = beyond(tokens, it.at + 2) if tokens[it.at + 2].text == "<" else it.at + 2
+    parts = [[x.text for x in part if x.text != "mut"] for part in parameters(tokens[opened : beyond(tokens, opened)])]
+    return [part[0] for part in parts if part[1:2] == [":"] and part[0] != "m" and part[-1] in ("T", "]") and "T" in part]
+
+
 def joined_parts(parts):
     """Parts of a condition as one: the condition of another call is named, and no part begins with "and" twice."""
     found = [re.sub(r"^and ", "", it) for it in parts]
-    found = [re.sub(r"^those of (.+)$", r"the conditions of \1 hold", it) for it in found]
-    return ", and ".join(found)
+    return ", and ".join(by_name(it) for it in found)
+
+
+def by_name(part):
+    """The condition of another call by the call's name."""
+    return re.sub(r"^(?:as|those of) (`[^`]+`(?: and `[^`]+`)*)", r"the conditions of \1 hold", part)
 
 
 def begun(words):
@@ -295,7 +319,7 @@ def sections(every, debug, none):
             said += " A release build doesn't test that, and outside it panics, or returns no meaningful result."
         yield from ("", "# Panics", "", *textwrap.wrap(said.strip(), WIDTH))
     if none:
-        none = [it.replace(", and and ", ", and ") for it in none]
+        none = [by_name(it.replace(", and and ", ", and ")) for it in none]
         said = f"{'; '.join(none)}. This isn't tested: outside it the call panics, or returns no meaningful result."
         yield from ("", "# Preconditions", "", *textwrap.wrap(begun(said), WIDTH))
 
@@ -373,7 +397,8 @@ def state_conditions(tokens, file, traits):
         parts = how_tested(tokens, it, file, words)
         say(tokens, it, words)
         if asked:
-            say_in_docs(tokens, first, parts)
+            names = arguments(tokens, it)
+            say_in_docs(tokens, first, [[with_subject(part, names) for part in kind] for kind in parts])
         if asked and is_public(tokens, it) and not it.declared and makes(tokens, it.at) and not tests_itself(tokens, it):
             lacking.append(f"{file}.rt: {name} makes a value, and doesn't test its condition with `prove!`")
         mark_callers(tokens, it, file, parts)

@@ -271,7 +271,7 @@ def name_unread(tokens):
             inside = " ".join(it.text for it in tokens[body:end])
             for part in reversed(parameters(tokens[opened : beyond(tokens, opened)])):
                 words = [it.text for it in part if it.text != "mut"]
-                if len(words) > 2 and words[1] == ":" and not re.search(rf"\b{words[0]}\b", inside):
+                if len(words) > 2 and words[1] == ":" and words[0][0] != "_" and not re.search(rf"\b{words[0]}\b", inside):
                     lead = tokens[body + 1].lead if "\n" in tokens[body + 1].lead else "\n"
                     tokens[body + 1 : body + 1] = lexed(f"{lead}let _ = {words[0]};")
                     COUNT["parameter that nothing reads named"] += 1

@@ -159,10 +159,13 @@ fn dividers_of_other_divisors() {
         PreMulInv1by1::<u8>::new(7).div_rem(255, 9),
         35u8.div_exact(9, &PreMulInv1by1::<u8>::new(7)));
     panic_in_debug_with!("the stored inverse must be that of the divisor";
-        35u8.div_exact(5, &PreModInv::<u8>::new(183, 36)),
+        35u8.div_exact(5, &PreModInv::<u8>::new(183, 36)));
+    panic_with!("the numbers must be the inverse and the limit of one odd divisor";
         36u64.div_exact(7, &PreModInv::<u64>::new(7905747460161236407, u64::MAX)),
         36u128.div_exact(7u64, &PreModInv::<u64>::new(7905747460161236407, u64::MAX)),
-        35u8.div_exact(7, &PreModInv::<u8>::new(183, 35)));
+        35u8.div_exact(7, &PreModInv::<u8>::new(183, 35)),
+        35u8.div_exact(7, &PreModInv::<u8>::new(183, 37)),
+        PreModInv::<u8>::new(0, 255), PreModInv::<u8>::new(2, 127), PreModInv::<u8>::new(183, 0));
     assert_eq!(35u8.div_exact(7, &PreModInv::<u8>::new(183, 36)), Some(5));
 }
 
@@ -276,6 +279,21 @@ fn transforms_by_plans() {
     let mut xs = [1, 2, 3, 4];
     ntt_planned(&modulus, &mut xs, &longer);
     assert_eq!(xs, [10, 51, 95, 42]);
+}
+
+#[test]
+fn tables_that_were_never_filled() {
+    let modulus = PlannedModulus::<u64>::new(97);
+    let table = vec![Factor::ZERO; 2];
+    let ones = || ([1u64; 4], [1u64; 4]);
+    panic_with!("the table must be filled: its first factor is 0";
+        ntt_planned(&modulus, &mut ones().0, &table), split(&modulus, &mut ones().0, &table, 0, 1),
+        join(&modulus, &mut ones().0, &table, 0, 1), convolve_planned(&modulus, &mut ones().0, &mut ones().1, &table, 1),
+        convolve_block(&modulus, &mut ones().0, &mut ones().1, &table, 0, 1));
+    let one = PlannedModulus::<u64>::new(1);
+    let mut xs = [1, 2, 3, 3];
+    ntt_planned(&one, &mut xs, &table);
+    assert_eq!(xs, [0; 4]);
 }
 
 #[test]

@@ -3,7 +3,7 @@
 
 use num_modular::{
     FixedMersenne, FixedMersenne32, FixedMersenne64, FixedMontgomery32, FixedMontgomery64, FixedProth32, FixedProth64,
-    FixedTrinomialSolinas32, FixedTrinomialSolinas64, ModularInteger, ModularSymbols, Montgomery, Normalized2by1Divisor, PreModInv,
+    FixedTrinomialSolinas32, FixedTrinomialSolinas64, ModularInteger, ModularRefOps, ModularSymbols, Montgomery, Normalized2by1Divisor, PreModInv,
     PreMulInv1by1, PreMulInv2by1, ReducedInt, Reducer, Vanilla, VanillaInt,
 };
 use std::mem::size_of;
@@ -26,7 +26,7 @@ fn fixed_reducers_hold_nothing() {
 
 #[test]
 fn constants_of_const_functions() {
-    const BY_SEVEN: PreModInv<u8> = PreModInv::new(183, 36);
+    const BY_SEVEN: PreModInv<u8> = PreModInv::<u8>::new(183, 36);
     let made: PreModInv<u8> = 7u8.into();
     assert_eq!(format!("{BY_SEVEN:?}"), format!("{made:?}"));
 }
@@ -70,6 +70,12 @@ fn code_for_the_original_with_its_replacements() {
     fn sum<T: num_modular::ModularRefOps>(a: T, b: T, m: &T) -> T {
         a.addm_ref(&b, m)
     }
+    // written for the original, and unchanged
+    fn difference<T: ModularRefOps>(a: T, b: T, m: &T) -> Option<T> {
+        assert_eq!(a.jacobi(m), 1);
+        a.subm(&b, m).powm(&b, m).invm(m)
+    }
+    assert_eq!(difference(11u64, 4, &19), Some(11));
     fn double<T: num_modular::RingWord, R: Reducer<T> + Copy>(x: ReducedInt<T, R>) -> T {
         (x + x).residue()
     }
