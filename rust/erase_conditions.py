@@ -12,7 +12,7 @@ from dataclasses import dataclass
 from erase_tokens import COUNT, Unknown, beginning, beyond, body_of, header, lexed, parameters, put_attribute
 
 SENTENCE = re.compile(r"\s?\bConditions?(?: of [^:.]*)?:\s+(.+?)\.(?=\s|$)\s?", re.S)
-WIDTH = 100  # of a section of docs
+WIDTH, LONGEST = 100, 116  # of a section of docs, and of a line of the sources
 MADE = {"Self", "PlannedModulus", "RoomyModulus", "Code", "ResidueSystem", "Vanilla", "Montgomery", "OddRing", "FoldRing"}
 MADE |= {"StoredModulus", "PreMulInv1by1", "PreMulInv2by1", "Normalized2by1Divisor", "PreModInv", "FixedMersenne"}
 # Who makes a value by another function, which tests the condition.
@@ -183,7 +183,7 @@ def condition(lead):
     text = "\n".join(re.sub(r"^\s*//[/!]? ?", "", line) for line in lead[attached(lead) :].split("\n"))
     found = SENTENCE.search(text)
     # what may be so is no condition
-    return re.sub(r", and \w+ may be [^;,]*", "", " ".join(found[1].split())) if found else None
+    return re.sub(r"(?:, and|;) \w+ may be [^;,]*", "", " ".join(found[1].split())) if found else None
 
 
 def conditions_of_traits(files):
@@ -339,6 +339,23 @@ def say_in_docs(tokens, first, parts):
     whole = "".join(f"{indent}{('/// ' + line).rstrip()}\n" for line in (*text.split("\n"), *sections(*parts)))
     tokens[first].lead = lead[:begin] + whole + others + indent
     COUNT["sections of docs put in"] += 1
+
+
+def without_laws(tokens):
+    """Docs without references to clauses and laws, which the Rust crate hasn't: in parentheses, or a whole sentence."""
+    for it in tokens:
+        lines = it.lead.split("\n")
+        docs = [at for at, line in enumerate(lines) if re.match(r"\s*//[/!]", line)]
+        if not docs or not re.search(r"\(clause |_laws`", it.lead):
+            continue
+        mark = re.match(r"\s*//[/!]", lines[docs[0]])[0]
+        text = "\n".join(lines[at][len(mark) :].removeprefix(" ") for at in docs)
+        text = re.sub(r"\s\((?:clauses?\s`|`\w+_laws`)[^)]*\)", "", text)
+        text = re.sub(r"(?:(?<=\.\s)|^)[A-Z`][^.]*`\w+_laws`[^.]*\.\s?", "", text, flags=re.M)
+        whole = [x for line in text.split("\n") for x in textwrap.wrap(line, LONGEST) or [""]]
+        lines[docs[0] : docs[-1] + 1] = [f"{mark} {line}".rstrip() for line in whole]
+        it.lead = "\n".join(lines)
+        COUNT["references to laws in docs taken away"] += 1
 
 
 def makes(tokens, at):
