@@ -4,7 +4,7 @@
 //! The functions of the ring laws (`sums_commute` and the like) return both sides of a law; their contracts say
 //! that the sides are equal. `run_both` runs one list over two reducers.
 
-use crate::ring::{RingCommand, RunEnd, run};
+use crate::commands::{RingCommand, RunEnd, run};
 use crate::modular_reduced::reducer::Reducer;
 use crate::modular_word::ring_word::RingWord;
 

@@ -1,15 +1,18 @@
 //! Modular rings over machine words, by the names of the crate `num-modular`.
 //!
 //! The root exports the traits, types and aliases, and the bounds of generic code over them. Beside the modules of the
-//! Rust crate there are `ring` (lists of commands run over any reducer, and transforms), `plans` (transforms by a
-//! table), `rings` (the generic types behind the aliases), `hashes` (polynomial hashes and a search), `residues`
-//! (residue number systems) and `laws`.
+//! Rust crate there are `commands` (lists of commands run over any reducer) and `transforms`, both also in `ring`,
+//! `plans` (transforms by a table), `families` (the generic types behind the aliases), `hashes` (polynomial hashes and
+//! a search), `residues` (residue number systems) and `laws`.
 #![cfg_attr(not(test), no_std)]
 #![forbid(unsafe_code)]
 #![doc = include_str!("../README.md")]
 
 #[path = "../additions.rs"]
 mod additions;
+#[cfg(any(feature = "num-traits", feature = "serde"))]
+#[path = "../features.rs"]
+mod features;
 #[path = "../traits.rs"]
 mod traits;
 mod modular_word;
@@ -30,6 +33,8 @@ pub mod num_modular_c;
 pub mod applications;
 
 pub mod barrett;
+pub mod commands;
+pub mod families;
 pub mod hashes;
 #[cfg(test)]
 pub mod laws;
@@ -42,8 +47,8 @@ pub mod proth;
 pub mod reduced;
 pub mod residues;
 pub mod ring;
-pub mod rings;
 pub mod solinas;
+pub mod transforms;
 pub mod word;
 
 pub use crate::modular_barrett::normalized::Normalized2by1Divisor;

@@ -5,3 +5,4 @@
 pub mod test_callers;
 pub mod test_operations;
 pub mod test_rings;
+pub mod test_users;

@@ -1,9 +1,6 @@
-//! Lists of commands on registers, run over any reducer, and transforms over any reducer.
+//! `commands` and `transforms` in one module: lists of commands and transforms, over any reducer.
 
-pub use crate::modular_ring::list_inverses::invert_each;
-pub use crate::modular_ring::ring::{RingCommand, RunEnd, all_checked, commands_fit, run};
-pub use crate::modular_transform::convolution::convolve;
-pub use crate::modular_transform::inverse::intt;
-pub use crate::modular_transform::lists::{load_forms, unload_forms};
-pub use crate::modular_transform::roots::find_root;
-pub use crate::modular_transform::transform::{ntt, ntt_counted, root_fits};
+pub use crate::commands::{RingCommand, RunEnd, all_checked, commands_fit, run};
+pub use crate::transforms::{
+    convolve, find_root, intt, invert_each, load_forms, ntt, ntt_counted, root_fits, unload_forms,
+};

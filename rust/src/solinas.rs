@@ -1,6 +1,3 @@
 //! The reducers of the moduli 2^P1 - 2^P2 + K, by folds.
 
-pub use crate::modular_folds::solinas::{
-    FixedTrinomialSolinas32, FixedTrinomialSolinas64, Trinomial, Trinomial32, Trinomial64,
-    TrinomialSolinas, TrinomialWord,
-};
+pub use crate::modular_folds::solinas::{FixedTrinomialSolinas32, FixedTrinomialSolinas64};

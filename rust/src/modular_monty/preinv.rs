@@ -27,8 +27,8 @@ mod words;
 #[derive(Debug, Clone, Copy)]
 #[must_use]
 pub struct PreModInv<T> {
-    d_inv: T,
-    q_lim: T,
+    pub(crate) d_inv: T,
+    pub(crate) q_lim: T,
 }
 
 impl<T: PathWord> PreModInv<T> {
@@ -44,7 +44,7 @@ impl<T: PathWord> PreModInv<T> {
     /// assert_eq!(91u8.div_exact(7, &SEVEN), Some(13));
     /// ```
     #[inline]
-    pub const fn new(d_inv: T, q_lim: T) -> Self {
+    pub(crate) const fn of(d_inv: T, q_lim: T) -> Self {
         PreModInv { d_inv, q_lim }
     }
 }
@@ -71,7 +71,7 @@ impl<T: PlainWord> PreModInv<T> {
         assert!(d.is_odd(), "the divisor must be odd");
         let d_inv = T::zero().wrapping_sub(neginv(d));
         let q_lim = ones::<T>(T::bits()).quotient(d);
-        PreModInv::new(d_inv, q_lim)
+        PreModInv::of(d_inv, q_lim)
     }
 }
 

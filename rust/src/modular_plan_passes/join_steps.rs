@@ -16,7 +16,7 @@ pub trait JoinSteps<T: PlainWord>: Bounded<T> + Copy {
     ///
     /// # Preconditions
     ///
-    /// It is below 4m. This isn't tested: outside it the call panics, or returns no meaningful result.
+    /// x is below 4m. This isn't tested: outside it the call panics, or returns no meaningful result.
     fn lowered(&self, x: T) -> T;
 
     /// Numbers below the bound, congruent to x + y and (y - x)·v.

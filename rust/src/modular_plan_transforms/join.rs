@@ -163,6 +163,7 @@ pub fn join<T: PlainWord, F: PlanEntry<T>>(
 ) {
     debug_assert!(xs.iter().all(|x| m.has_room(*x)), "the entries must be below 4m");
     assert!(crate::plans::splits(xs.len(), table.len(), b, last), "the number of entries must be `last` times a power of two, and the table must have (b + 1)·count/2 entries or more: {} entries, {} factors, b = {}, last = {}", xs.len(), table.len(), b, last);
+    crate::additions::expect_filled(m, table);
     debug_assert!(crate::additions::are_factors(m, xs.len(), table, b, last), "the table's entries must be factors modulo m");
     match RoomyModulus::new(m) {
         Some(roomy) => join_reduced(&roomy, xs, table, b, last),
@@ -204,6 +205,7 @@ pub fn join_scaled<T: PlainWord, F: PlanEntry<T>>(
 ) {
     debug_assert!(xs.iter().all(|x| m.has_room(*x)), "the entries must be below 4m");
     assert!(crate::plans::splits(xs.len(), table.len(), b, last), "the number of entries must be `last` times a power of two, and the table must have (b + 1)·count/2 entries or more: {} entries, {} factors, b = {}, last = {}", xs.len(), table.len(), b, last);
+    crate::additions::expect_filled(m, table);
     debug_assert!(crate::additions::are_factors(m, xs.len(), table, b, last), "the table's entries must be factors modulo m");
     debug_assert!(crate::additions::is_factor(m, w), "w must be a factor modulo m");
     match RoomyModulus::new(m) {

@@ -42,8 +42,8 @@ pub fn join_blocks<T: PlainWord, F: PlanEntry<T>, M: JoinSteps<T>>(
 ///
 /// # Preconditions
 ///
-/// Those of `join_blocks`. This isn't tested: outside it the call panics, or returns no meaningful
-/// result.
+/// The conditions of `join_blocks` hold. This isn't tested: outside it the call panics, or returns no
+/// meaningful result.
 #[inline]
 pub fn join_passes<T: PlainWord, F: PlanEntry<T>, M: JoinSteps<T>>(
     m: &M,

@@ -67,7 +67,8 @@ fn split_by<T: PlainWord, M: SplitSteps<T>, F: PlanEntry<T>>(
 ///
 /// # Preconditions
 ///
-/// Those of `split`. This isn't tested: outside it the call panics, or returns no meaningful result.
+/// The conditions of `split` hold. This isn't tested: outside it the call panics, or returns no
+/// meaningful result.
 #[inline]
 pub fn split_loosely<T: PlainWord, F: PlanEntry<T>>(
     m: &PlannedModulus<T>,
@@ -124,6 +125,7 @@ pub fn split<T: PlainWord, F: PlanEntry<T>>(
 ) {
     debug_assert!(xs.iter().all(|x| m.has_room(*x)), "the entries must be below 4m");
     assert!(crate::plans::splits(xs.len(), table.len(), b, last), "the number of entries must be `last` times a power of two, and the table must have at least (b + 1)·(count/2) entries: {} entries, {} factors, b = {}, last = {}", xs.len(), table.len(), b, last);
+    crate::additions::expect_filled(m, table);
     debug_assert!(crate::additions::are_factors(m, xs.len(), table, b, last), "the table's entries must be factors modulo m");
     match RoomyModulus::new(m) {
         Some(roomy) => split_by(&roomy, xs, table, b, last),

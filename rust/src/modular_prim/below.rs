@@ -22,7 +22,7 @@ pub fn reduced_once<T: PathWord>(x: T, m: T) -> T {
 ///
 /// # Preconditions
 ///
-/// Both are below m. This isn't tested: outside it the call panics, or returns no meaningful result.
+/// a and b are below m. This isn't tested: outside it the call panics, or returns no meaningful result.
 #[inline]
 pub fn add_below<T: PathWord>(a: T, b: T, m: T) -> T {
     // Reading the word gives the proof that it fits its width.
@@ -35,7 +35,7 @@ pub fn add_below<T: PathWord>(a: T, b: T, m: T) -> T {
 ///
 /// # Preconditions
 ///
-/// Both are below m. This isn't tested: outside it the call panics, or returns no meaningful result.
+/// a and b are below m. This isn't tested: outside it the call panics, or returns no meaningful result.
 #[inline]
 pub fn sub_below<T: PathWord>(a: T, b: T, m: T) -> T {
     // Reading the word gives the proof that it fits its width.
@@ -53,7 +53,7 @@ pub fn sub_below<T: PathWord>(a: T, b: T, m: T) -> T {
 ///
 /// # Preconditions
 ///
-/// Both are below m. This isn't tested: outside it the call panics, or returns no meaningful result.
+/// a and b are below m. This isn't tested: outside it the call panics, or returns no meaningful result.
 #[inline]
 pub fn branchless_sub_below<T: PathWord>(a: T, b: T, m: T) -> T {
     a.minus_modulo(b, m)

@@ -19,7 +19,7 @@ fn step<T: PlainWord>(last_r: T, r: T, last_t: T, t: T) -> (T, T) {
 ///
 /// # Panics
 ///
-/// Panics unless m is at least 1, and a may be above it.
+/// Panics unless m is at least 1.
 #[inline]
 #[cfg_attr(debug_assertions, track_caller)]
 pub fn invm<T: PlainWord>(a: T, m: T) -> Option<T> {
@@ -35,7 +35,7 @@ pub fn invm<T: PlainWord>(a: T, m: T) -> Option<T> {
 ///
 /// # Panics
 ///
-/// Panics unless m is at least 1, and a may be above it.
+/// Panics unless m is at least 1.
 #[cfg_attr(debug_assertions, track_caller)]
 pub fn invm_counted<T: PlainWord>(a: T, m: T) -> (Option<T>, u32) {
     let mut last_r = m;

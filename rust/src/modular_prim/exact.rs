@@ -133,7 +133,6 @@ impl DivExact<u8, ()> for u8 {
     #[inline]
     #[cfg_attr(debug_assertions, track_caller)]
     fn div_exact(self, d: u8, _pre: &()) -> Option<u8> {
-        let _ = _pre;
         exact_quotient(self, d)
     }
 }
@@ -144,7 +143,6 @@ impl DivExact<u16, ()> for u16 {
     #[inline]
     #[cfg_attr(debug_assertions, track_caller)]
     fn div_exact(self, d: u16, _pre: &()) -> Option<u16> {
-        let _ = _pre;
         exact_quotient(self, d)
     }
 }
@@ -155,7 +153,6 @@ impl DivExact<u32, ()> for u32 {
     #[inline]
     #[cfg_attr(debug_assertions, track_caller)]
     fn div_exact(self, d: u32, _pre: &()) -> Option<u32> {
-        let _ = _pre;
         exact_quotient(self, d)
     }
 }
@@ -166,7 +163,6 @@ impl DivExact<u64, ()> for u64 {
     #[inline]
     #[cfg_attr(debug_assertions, track_caller)]
     fn div_exact(self, d: u64, _pre: &()) -> Option<u64> {
-        let _ = _pre;
         exact_quotient(self, d)
     }
 }
@@ -177,7 +173,6 @@ impl DivExact<u128, ()> for u128 {
     #[inline]
     #[cfg_attr(debug_assertions, track_caller)]
     fn div_exact(self, d: u128, _pre: &()) -> Option<u128> {
-        let _ = _pre;
         exact_quotient_128(self, d)
     }
 }

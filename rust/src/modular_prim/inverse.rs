@@ -124,8 +124,7 @@ pub fn inverse_by_subtraction<T: PlainWord>(a: T, m: T) -> Option<T> {
 ///
 /// # Preconditions
 ///
-/// m is at least 1, and a may be above it. This isn't tested: outside it the call panics, or returns no
-/// meaningful result.
+/// m is at least 1. This isn't tested: outside it the call panics, or returns no meaningful result.
 #[inline]
 pub fn fast_inverse<T: PlainWord>(a: T, m: T) -> Option<T> {
     if m.is_odd() {

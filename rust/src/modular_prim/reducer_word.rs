@@ -13,16 +13,14 @@ pub trait ReducerWord: Sized + PathWord {
     ///
     /// # Preconditions
     ///
-    /// m is at least 1, and a may be above it. This isn't tested: outside it the call panics, or returns no
-    /// meaningful result.
+    /// m is at least 1. This isn't tested: outside it the call panics, or returns no meaningful result.
     fn inverse(a: Self, m: Self) -> Option<Self>;
 
     /// The same by Euclid's algorithm for every m.
     ///
     /// # Preconditions
     ///
-    /// m is at least 1, and a may be above it. This isn't tested: outside it the call panics, or returns no
-    /// meaningful result.
+    /// m is at least 1. This isn't tested: outside it the call panics, or returns no meaningful result.
     fn inverse_by_euclid(a: Self, m: Self) -> Option<Self>;
 
     /// The square of the base, modulo m.

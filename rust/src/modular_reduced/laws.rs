@@ -88,7 +88,7 @@ pub fn residue_by_form<T: RingWord, R: Reducer<T>>(reducer: &R, n: T) -> T {
 ///
 /// # Preconditions
 ///
-/// Both are checked. This isn't tested: outside it the call panics, or returns no meaningful result.
+/// a and b are checked. This isn't tested: outside it the call panics, or returns no meaningful result.
 #[inline]
 pub fn same_value<T: RingWord, R: Reducer<T>>(reducer: &R, a: T, b: T) -> bool {
     reducer.residue(a) == reducer.residue(b)

@@ -18,7 +18,12 @@ use crate::modular_prim::{euclid, power, residues};
 /// }
 /// assert_eq!(sum_of_squares(&3u8, &4, &7), 4); // 25 modulo 7
 /// ```
-pub trait ModularRefOps: Eq + Copy {
+pub trait ModularRefOps: Eq + Copy
+    + for<'r> crate::ModularCoreOps<&'r Self, &'r Self, Output = Self>
+    + for<'r> crate::ModularUnaryOps<&'r Self, Output = Self>
+    + for<'r> crate::ModularPow<&'r Self, &'r Self, Output = Self>
+    + for<'r> ModularSymbols<&'r Self>
+{
     /// The residue of the sum.
     ///
     /// # Examples

@@ -99,7 +99,8 @@ pub fn exact_1<T: PathWord>(d: T, inverse: T, limit: T, n: T) -> Option<T> {
 ///
 /// # Preconditions
 ///
-/// As `exact_1`. This isn't tested: outside it the call panics, or returns no meaningful result.
+/// The conditions of `exact_1` hold. This isn't tested: outside it the call panics, or returns no
+/// meaningful result.
 pub fn exact_2<T: PathWord>(d: T, inverse: T, limit: T, n: T::Double) -> Option<T::Double> {
     let (n0, n1) = T::split(n);
     let q0 = n0.wrapping_mul(inverse);

@@ -5,4 +5,3 @@
 #[macro_use]
 #[path = "../../runtime.rs"]
 mod runtime;
-pub mod test_users;

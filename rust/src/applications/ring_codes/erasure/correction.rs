@@ -59,7 +59,6 @@ fn count_errors<T: RingWord, R: Reducer<T>>(
     symbols: &[T],
     word: &[T],
 ) -> usize {
-    let _ = _r;
     let mut errors = 0;
     for i in 0..places.len() {
         errors += difference(&symbols[i], &word[places[i]]);

@@ -29,8 +29,8 @@ pub fn discrepancy<T: RingWord, R: Reducer<T>>(
 ///
 /// # Preconditions
 ///
-/// All are checked forms. This isn't tested: outside it the call panics, or returns no meaningful
-/// result.
+/// Point and coefficients are checked forms. This isn't tested: outside it the call panics, or returns
+/// no meaningful result.
 pub fn multiply_by_root<T: RingWord, R: Reducer<T>>(r: &R, point: &T, coefficients: &mut [T]) {
     let mut before = r.transform(T::zero());
     for entry in coefficients.iter_mut() {
@@ -80,8 +80,8 @@ pub fn set_constant<T: RingWord, R: Reducer<T>>(r: &R, constant: &T, coefficient
 ///
 /// # Preconditions
 ///
-/// All are checked forms. This isn't tested: outside it the call panics, or returns no meaningful
-/// result.
+/// Point, numerator and locator are checked forms. This isn't tested: outside it the call panics, or
+/// returns no meaningful result.
 #[inline]
 pub fn raise<T: RingWord, R: Reducer<T>>(r: &R, point: &T, numerator: &mut [T], locator: &mut [T]) {
     multiply_by_root(r, point, numerator);

@@ -36,8 +36,8 @@ pub fn fill_weights<T: RingWord, R: Reducer<T>>(r: &R, points: &[T], weights: &m
 ///
 /// # Preconditions
 ///
-/// All are checked forms, and there are at least `count` points and coefficients. This isn't tested:
-/// outside it the call panics, or returns no meaningful result.
+/// Points, form and point are checked forms, and there are at least `count` points and coefficients.
+/// This isn't tested: outside it the call panics, or returns no meaningful result.
 pub fn newton_value<T: RingWord, R: Reducer<T>>(
     r: &R,
     points: &[T],
@@ -60,9 +60,9 @@ pub fn newton_value<T: RingWord, R: Reducer<T>>(
 ///
 /// # Preconditions
 ///
-/// All are checked forms, and there are as many points and inverses as values or more, and each inverse
-/// is that of the product of the point's differences from those before it. This isn't tested: outside
-/// it the call panics, or returns no meaningful result.
+/// Points, inverses and values are checked forms, and there are as many points and inverses as values
+/// or more, and each inverse is that of the product of the point's differences from those before it.
+/// This isn't tested: outside it the call panics, or returns no meaningful result.
 pub fn divide_differences<T: RingWord, R: Reducer<T>>(
     r: &R,
     points: &[T],
@@ -80,8 +80,8 @@ pub fn divide_differences<T: RingWord, R: Reducer<T>>(
 ///
 /// # Preconditions
 ///
-/// All are checked forms, and there is a value at the place. This isn't tested: outside it the call
-/// panics, or returns no meaningful result.
+/// Point and values are checked forms, and there is a value at the place. This isn't tested: outside it
+/// the call panics, or returns no meaningful result.
 #[inline]
 pub fn subtract_multiples<T: RingWord, R: Reducer<T>>(
     r: &R,
@@ -99,8 +99,8 @@ pub fn subtract_multiples<T: RingWord, R: Reducer<T>>(
 ///
 /// # Preconditions
 ///
-/// All are checked forms, and there are as many points as coefficients or more. This isn't tested:
-/// outside it the call panics, or returns no meaningful result.
+/// Points and form are checked forms, and there are as many points as coefficients or more. This isn't
+/// tested: outside it the call panics, or returns no meaningful result.
 #[inline]
 pub fn expand<T: RingWord, R: Reducer<T>>(r: &R, points: &[T], form: &mut [T]) {
     for k in 0..form.len() {

@@ -5,7 +5,7 @@ use crate::{Reducer, RingWord};
 
 /// Writes the points g^0, g^1, .. modulo m, as many as the list holds.
 ///
-/// Where m is odd and g suits their number n (`root_fits` tells), the points fit (`root_laws`): `restore`, `correct` and
+/// Where m is odd and g suits their number n (`root_fits` tells), the points fit: `restore`, `correct` and
 /// the other calls accept them.
 ///
 /// # Examples

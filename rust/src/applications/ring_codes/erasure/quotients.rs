@@ -8,8 +8,8 @@ use crate::{Reducer, RingWord};
 ///
 /// # Preconditions
 ///
-/// All are checked forms. This isn't tested: outside it the call panics, or returns no meaningful
-/// result.
+/// Point, numerator and locator are checked forms. This isn't tested: outside it the call panics, or
+/// returns no meaningful result.
 pub fn quotient<T: RingWord, R: Reducer<T>>(
     r: &R,
     point: &T,
@@ -71,9 +71,9 @@ pub fn divide<T: RingWord, R: Reducer<T>>(
 ///
 /// # Preconditions
 ///
-/// Those of `divide`, and there are as many places for the points, the quotients and the weights as the
-/// message has symbols, and the points fit. This isn't tested: outside it the call panics, or returns
-/// no meaningful result.
+/// The conditions of `divide` hold, and there are as many places for the points, the quotients and the
+/// weights as the message has symbols, and the points fit. This isn't tested: outside it the call
+/// panics, or returns no meaningful result.
 #[inline]
 pub fn divide_pair<T: RingWord, R: Reducer<T>>(
     r: &R,

@@ -1,8 +1,8 @@
 //! Erasure codes: words of messages, messages from every choice of places, and bad input.
 
-use num_modular::ring::{load_forms, unload_forms};
-use num_modular::{FixedMersenne64, Montgomery, Reducer};
-use num_modular::applications::ring_codes::erasure::{
+use crate::ring::{load_forms, unload_forms};
+use crate::{FixedMersenne64, Montgomery, Reducer};
+use crate::applications::ring_codes::erasure::{
     RestoreError, ShareError, encode, encode_systematic, is_codeword, points_fit, recover, restore,
     restore_word, share,
 };

@@ -1,9 +1,9 @@
 //! Prepared codes, and codes at the powers of a root.
 
 use super::erasure::{forms_of, words_of};
-use num_modular::ring::root_fits;
-use num_modular::{Montgomery, Reducer};
-use num_modular::applications::ring_codes::erasure::{PreparedCode, encode_by_transform, fill_powers, points_fit};
+use crate::ring::root_fits;
+use crate::{Montgomery, Reducer};
+use crate::applications::ring_codes::erasure::{PreparedCode, encode_by_transform, fill_powers, points_fit};
 use crate::runtime::Abort;
 
 // The symbols at the wanted points, given those at the known points; `None` where the known points don't fit, or the

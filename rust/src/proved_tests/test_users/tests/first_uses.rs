@@ -1,7 +1,7 @@
 //! The README's examples, but the one over any reducer, of which `reducers` has a row. Each value was computed with
 //! Python's integers.
 
-use num_modular::applications::examples::first_use::{
+use crate::applications::examples::first_use::{
     minutes_and_seconds, product_and_one, product_by_folds, residue_by_commands, symbol,
 };
 

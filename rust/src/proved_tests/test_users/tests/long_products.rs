@@ -1,10 +1,13 @@
 //! Products of digits of 64 bits, by rows and by transforms, and slices that are too short.
 
 use super::assert_at;
-use num_modular::applications::long_product::{FIRST, SECOND, THIRD, fill_plans, product, product_planned, room};
-use num_modular::plans::{Factor, PlanEntry};
+use crate::applications::long_product::{FIRST, SECOND, THIRD, fill_plans, product, product_planned, room};
+use crate::plans::{Factor, PlanEntry};
 
-const NONE: Factor<u64> = Factor::<u64>::ZERO;
+const NONE: Factor<u64> = Factor {
+    value: 0,
+    quotient: 0,
+};
 
 // The steps of a linear congruential generator, which another program can compute too.
 fn digits_from<const N: usize>(seed: u64) -> [u64; N] {

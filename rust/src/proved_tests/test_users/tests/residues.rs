@@ -1,9 +1,9 @@
 //! Numbers by their residues, with known values from other sources.
 
 use super::assert_at;
-use num_modular::residues::{are_reduced, decode, encode, is_system};
-use num_modular::ring::{RingCommand, commands_fit};
-use num_modular::applications::residue_numbers::ResidueSystem;
+use crate::residues::{are_reduced, decode, encode, is_system};
+use crate::ring::{RingCommand, commands_fit};
+use crate::applications::residue_numbers::ResidueSystem;
 
 // Whether the moduli are a system in which the number has these residues, and is decoded from them.
 fn there_and_back(moduli: &[u64], number: u128, residues: &[u64]) -> bool {
@@ -22,7 +22,7 @@ fn decoded(moduli: &[u64], residues: &[u64]) -> Option<u128> {
     let system = match ResidueSystem::new(moduli) { Some(it) => it, None => {
         return None;
     } };
-    if residues.len() == system.moduli().len() && are_reduced(system.moduli(), residues) {
+    if residues.len() == system.moduli.len() && are_reduced(system.moduli, residues) {
         Some(system.decode(residues))
     } else {
         None
@@ -80,7 +80,7 @@ const SYSTEMS: &[(&[u64], bool, bool)] = &[
 // Whether `ResidueSystem::new` returns a system of these moduli.
 fn is_admitted(moduli: &[u64]) -> bool {
     match ResidueSystem::new(moduli) {
-        Some(system) => system.moduli() == moduli,
+        Some(system) => system.moduli == moduli,
         None => false,
     }
 }
@@ -132,7 +132,7 @@ fn computes<const N: usize>(moduli: &[u64; N], x: u128, y: u128, results: &[u128
         return false;
     } };
     let system = &system;
-    system.moduli().len() == N
+    system.moduli.len() == N
         && has_result::<N>(system, Operation::Add, x, y, results[0])
         && has_result::<N>(system, Operation::Sub, x, y, results[1])
         && has_result::<N>(system, Operation::Mul, x, y, results[2])
@@ -181,7 +181,7 @@ fn runs<const N: usize, const P: usize>(
     } };
     let mut registers = [0u64; P];
     let mut found = [0u64; N];
-    if system.moduli().len() != N || P < 2 || !commands_fit(commands, P) {
+    if system.moduli.len() != N || P < 2 || !commands_fit(commands, P) {
         return false;
     }
     let done = system.run(commands, numbers, 1, &mut registers, &mut found);

@@ -4,7 +4,7 @@
 // `assert!` writes the text of what it compares, which takes longer to prove than the rest of most tests.
 macro_rules! check {
     ($rt:expr, $number:literal; $holds:expr) => {
-        crate::test_users::tests::assert_nth($rt, $number, $holds)
+        crate::proved_tests::test_users::tests::assert_nth($rt, $number, $holds)
     };
 }
 

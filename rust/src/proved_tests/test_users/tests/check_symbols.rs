@@ -1,7 +1,7 @@
 //! Real numbers with check symbols: every change of one symbol, exchanges of neighbours, and erased symbols.
 
 use super::assert_at;
-use num_modular::applications::check_digits::{
+use crate::applications::check_digits::{
     ABA_RTN, Code, EAN_8, EAN_13, ISBN_10, ISBN_13, ISSN, ORCID, UPC_A, accepts_iban,
     accepts_iban_text, has_iban_form, iban_check_digits, iban_code, iban_digits, is_symbol_text,
     read_symbols, standard_codes,

@@ -1,10 +1,10 @@
 //! Known values of the examples with powers and loops, computed with Python.
 
 use super::assert_at;
-use num_modular::applications::examples::fermat_tests::is_shown_composite;
-use num_modular::applications::examples::keys::{keys, known_word};
-use num_modular::applications::examples::square_roots::square_root;
-use num_modular::prim::is_prime_by_search;
+use crate::applications::examples::fermat_tests::is_shown_composite;
+use crate::applications::examples::keys::{keys, known_word};
+use crate::applications::examples::square_roots::square_root;
+use crate::modular_symbols::primes::is_prime_by_search;
 
 #[test]
 fn keys_of_two_parties() {

@@ -1,18 +1,18 @@
 //! Known values of each client, computed with Python.
 
 use super::assert_at;
-use num_modular::applications::examples::commands::{product_by_commands, residue_over_copies};
-use num_modular::applications::examples::each_reducer::{
+use crate::applications::examples::commands::{product_by_commands, residue_over_copies};
+use crate::applications::examples::each_reducer::{
     by_montgomery, by_plain_remainders, by_reciprocals, modulo_13, modulo_15, modulo_17, modulo_29,
     modulo_31, modulo_97, modulo_127, modulo_241, modulo_247,
 };
-use num_modular::applications::examples::hashes::hash;
-use num_modular::applications::examples::inner_products::inner_product_of_four;
-use num_modular::applications::examples::operations::{product_and_sum, square};
-use num_modular::applications::examples::quotients::{by_inverse, by_operator, ten_by_five};
-use num_modular::applications::examples::squares::is_quadratic_residue;
-use num_modular::prim::is_prime_by_search;
-use num_modular::applications::residue_numbers::from_remainders;
+use crate::applications::examples::hashes::hash;
+use crate::applications::examples::inner_products::inner_product_of_four;
+use crate::applications::examples::operations::{product_and_sum, square};
+use crate::applications::examples::quotients::{by_inverse, by_operator, ten_by_five};
+use crate::applications::examples::squares::is_quadratic_residue;
+use crate::modular_symbols::primes::is_prime_by_search;
+use crate::applications::residue_numbers::from_remainders;
 
 const X: (u64, u64, u64, u64) = (18446744073709551615, 12345678901234567890, 7, 1000000007);
 

@@ -2,8 +2,8 @@
 //! an inverse.
 
 use super::erasure::{forms_of, words_of};
-use num_modular::{FixedMersenne64, Montgomery, Reducer};
-use num_modular::applications::ring_codes::erasure::{CorrectError, RestoreError, correct, recover_correct};
+use crate::{FixedMersenne64, Montgomery, Reducer};
+use crate::applications::ring_codes::erasure::{CorrectError, RestoreError, correct, recover_correct};
 use crate::runtime::Abort;
 
 const MERSENNE_PRIME: u64 = 2305843009213693951;

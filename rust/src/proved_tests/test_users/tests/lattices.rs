@@ -2,7 +2,7 @@
 //! the standards' algorithms, and the tables of their appendices.
 
 use super::assert_at;
-use num_modular::applications::lattice_rings::{ml_dsa, ml_kem};
+use crate::applications::lattice_rings::{ml_dsa, ml_kem};
 
 // A list of residues of q.
 fn listed(seed: u32, q: u32) -> [u32; 256] {

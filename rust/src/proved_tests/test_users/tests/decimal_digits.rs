@@ -1,7 +1,7 @@
 //! Digits of any number with a check digit: Luhn's, Verhoeff's and Damm's.
 
 use super::assert_at;
-use num_modular::applications::check_digits::{
+use crate::applications::check_digits::{
     accepts_damm, accepts_luhn, accepts_verhoeff, damm_check_digit, luhn_check_digit, read_symbols,
     verhoeff_check_digit,
 };

@@ -1,8 +1,8 @@
 //! Known values of calls that only this crate makes.
 
-use num_modular::DivExact;
-use num_modular::monty::neg_mod_inv::{w16, w32, w64, wsize};
-use num_modular::preinv::PreModInv;
+use crate::DivExact;
+use crate::monty::neg_mod_inv::{w16, w32, w64, wsize};
+use crate::preinv::PreModInv;
 
 #[test]
 fn prepared_and_negated_inverses() {

@@ -2,7 +2,7 @@
 
 use super::assert_at;
 use super::long_products::{is_product, multiply};
-use num_modular::applications::long_product::{MOST_PLACES, transform_length};
+use crate::applications::long_product::{MOST_PLACES, transform_length};
 
 // Two factors and their product, computed with another program: 20! and 40!/20!, 50! and 100!/50!, and 2^48 - 1
 // squared.

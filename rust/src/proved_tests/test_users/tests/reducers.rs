@@ -2,12 +2,12 @@
 //! reducer, since a call at a known type is costly to prove.
 
 use super::assert_at;
-use num_modular::applications::examples::cubic::cubic;
-use num_modular::applications::examples::first_use::sum_of_squares;
-use num_modular::applications::examples::generators::jump;
-use num_modular::applications::examples::polynomials::product_of;
-use num_modular::ring::{invert_each, load_forms, root_fits, unload_forms};
-use num_modular::{Montgomery, Reducer};
+use crate::applications::examples::cubic::cubic;
+use crate::applications::examples::first_use::sum_of_squares;
+use crate::applications::examples::generators::jump;
+use crate::applications::examples::polynomials::product_of;
+use crate::ring::{invert_each, load_forms, root_fits, unload_forms};
+use crate::{Montgomery, Reducer};
 
 fn has_inverses<R: Reducer<u64>>(r: &R, words: &[u64; 4], known: &[u64; 4], exist: bool) -> bool {
     let mut forms = [0; 4];

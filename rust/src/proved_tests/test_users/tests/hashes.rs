@@ -1,9 +1,9 @@
 //! Hashes and searches, with known values from other sources.
 
 use super::assert_at;
-use num_modular::applications::mersenne_hash::same_hashes;
-use num_modular::ModularInteger;
-use num_modular::hashes::{Hash, base, find, hash, moved};
+use crate::applications::mersenne_hash::same_hashes;
+use crate::ModularInteger;
+use crate::hashes::{Hash, base, find, hash, moved};
 
 // A text, a pattern, and the first position where it occurs.
 const SEARCHES: &[(&[u8], &[u8], Option<usize>)] = &[
