@@ -45,7 +45,10 @@ LOOKS = {
         (DEBUG, "r.check(g) && xs.iter().all(|x| r.check(x)) && ys.iter().all(|y| r.check(y))"),
         (EVERY, "r.check(g) && crate::ring::root_fits(r, g, xs.len())"),
     ),
-    ("ring", "run"): ((DEBUG, "all_checked(r, regs)"), (DEBUG, "commands_fit(commands, regs.len())")),
+    ("ring", "run"): (
+        (DEBUG, "all_checked(r, regs)"),
+        (DEBUG, "commands.iter().all(|c| commands_fit(&[c.command()], regs.len()))"),
+    ),
     ("plan", "plan"): (
         (RETURN, "table.is_empty()"),
         (EVERY, "g.is_below(m.modulus)"),

@@ -7,6 +7,7 @@ ghost use Rattle.modular_reduced.specs.Forms.{IsForm};
 ghost use Rattle.modular_ring.specs.Ring.{whole, destination_of, outcome, value_at, IsStop};
 ghost use Rattle.modular_ring.specs.Ring.{value_after, LacksInverse, carried_out, IsFit, values_of, HoldValues};
 ghost use Rattle.modular_ring.specs.Ring.{IsFormOf, IsHeldAt, Combines};
+ghost use Rattle.modular_ring.specs.declared.ring.RingCommand.{RingCommand};
 
 use modular_reduced::reducer::Reducer;
 use modular_word::ring_word::RingWord;
@@ -123,6 +124,25 @@ impl<T: Copy> Clone for RingCommand<T> {
 }
 
 impl<T: Copy> Copy for RingCommand<T> {}
+
+/// A command as `run` reads it: `RingCommand` itself, or a struct of the caller that represents one, such as one with
+/// the layout of another language.
+pub trait AsCommand<T: RingWord> {
+    // The command that it represents.
+    ghost command: { Self → RingCommand T };
+
+    /// The command that it represents.
+    fn command(&self) -> RingCommand<T>
+        ensures { result ≡ command self.now };
+}
+
+impl<T: RingWord> AsCommand<T> for RingCommand<T> {
+    ghost command = { λ command. command };
+
+    fn command(&self) -> RingCommand<T> {
+        *self
+    }
+}
 
 /// How a run ended.
 ///
@@ -252,29 +272,29 @@ fn quotient<T: RingWord, R: Reducer<T>>(r: &R, a: &T, b: T) -> Option<T>
 //
 // Kept out of line, so that the loop of `run` stays small.
 #[inline(never)]
-fn computed_form<T: RingWord, R: Reducer<T>>(
+fn computed_form<T: RingWord, R: Reducer<T>, C: AsCommand<T>>(
     r: &R,
     regs: &[T],
-    command: &RingCommand<T>,
+    command: &C,
 ) -> Option<T>
     requires checked { All (λ f. IsForm R.form R.value (R.modulus r.now) (T.number f)) regs.now }
-    requires fit { IsFit (length regs.now) command.now }
-    requires other { Combines command.now → ⊥ }
+    requires fit { IsFit (length regs.now) (C.command command.now) }
+    requires other { Combines (C.command command.now) → ⊥ }
     ensures { let m = R.modulus r.now in
         (v : ℕ → ℕ) → HoldValues T.number R.form m regs.now v →
-        IsFormOf T.number R.form m (outcome m v (whole T.number command.now)) result }
+        IsFormOf T.number R.form m (outcome m v (whole T.number (C.command command.now))) result }
 {
-    match command {
-        RingCommand::Load { n, .. } => Some(r.transform(*n)),
+    match command.command() {
+        RingCommand::Load { n, .. } => Some(r.transform(n)),
         RingCommand::Add { .. } | RingCommand::Sub { .. } | RingCommand::Mul { .. } => {
             unreachable!()
         }
-        RingCommand::Neg { a, .. } => Some(r.neg(regs[*a])),
-        RingCommand::Dbl { a, .. } => Some(r.dbl(regs[*a])),
-        RingCommand::Sqr { a, .. } => Some(r.sqr(regs[*a])),
-        RingCommand::Inv { a, .. } => r.inv(regs[*a]),
-        RingCommand::Div { a, b, .. } => quotient(r, &regs[*a], regs[*b]),
-        RingCommand::Pow { a, exp, .. } => Some(r.pow(regs[*a], exp)),
+        RingCommand::Neg { a, .. } => Some(r.neg(regs[a])),
+        RingCommand::Dbl { a, .. } => Some(r.dbl(regs[a])),
+        RingCommand::Sqr { a, .. } => Some(r.sqr(regs[a])),
+        RingCommand::Inv { a, .. } => r.inv(regs[a]),
+        RingCommand::Div { a, b, .. } => quotient(r, &regs[a], regs[b]),
+        RingCommand::Pow { a, exp, .. } => Some(r.pow(regs[a], &exp)),
     }
 }
 
@@ -328,26 +348,27 @@ fn write<T: RingWord>(regs: &mut [T], last: &mut Last<T>, dst: usize, form: T)
 // take as long as the command. Each has an arm of its own up to the write, since one for the three is slower. Only the
 // first operand is looked for in `last`: the test takes time in every command.
 #[inline(always)]
-fn carry_out<T: RingWord, R: Reducer<T>>(
+fn carry_out<T: RingWord, R: Reducer<T>, C: AsCommand<T>>(
     r: &R,
     regs: &mut [T],
     last: &mut Last<T>,
-    command: &RingCommand<T>,
+    command: &C,
 ) -> bool
     requires checked { All (λ f. IsForm R.form R.value (R.modulus r.now) (T.number f)) regs.old }
-    requires fit { IsFit (length regs.old) command.now }
+    requires fit { IsFit (length regs.old) (C.command command.now) }
     requires holds { IsHeldAt regs.old last.old.register last.old.form }
     ensures count { length regs.new ≡ length regs.old }
     ensures values { let m = R.modulus r.now in
         IsTrue result → (v : ℕ → ℕ) → HoldValues T.number R.form m regs.old v →
-        HoldValues T.number R.form m regs.new (value_after m v (Some (whole T.number command.now))) }
+        HoldValues T.number R.form m regs.new (value_after m v (Some (whole T.number (C.command command.now)))) }
     ensures missing { let m = R.modulus r.now in
         (v : ℕ → ℕ) → HoldValues T.number R.form m regs.old v →
-        IsFalse result ↔ LacksInverse m v (whole T.number command.now) }
+        IsFalse result ↔ LacksInverse m v (whole T.number (C.command command.now)) }
     ensures kept { IsFalse result → regs.new ≡ regs.old }
     ensures holds { IsHeldAt regs.new last.new.register last.new.form }
 {
-    match *command {
+    let read = command.command();
+    match read {
         RingCommand::Add { dst, a, b } => {
             let form = r.add(&held(regs, last, a), &regs[b]);
             write(regs, last, dst, form);
@@ -365,7 +386,7 @@ fn carry_out<T: RingWord, R: Reducer<T>>(
         }
         _ => match computed_form(r, regs, command) {
             Some(form) => {
-                write(regs, last, destination(command), form);
+                write(regs, last, destination(&read), form);
                 true
             }
             None => false,
@@ -393,34 +414,40 @@ fn carry_out<T: RingWord, R: Reducer<T>>(
 /// run(&ring, &mut registers, &commands);
 /// assert_eq!(registers.map(|f| ring.residue(f)), [3, 34]);
 /// ```
-pub fn run<T: RingWord, R: Reducer<T>>(r: &R, regs: &mut [T], commands: &[RingCommand<T>]) -> RunEnd
+pub fn run<T: RingWord, R: Reducer<T>, C: AsCommand<T>>(
+    r: &R,
+    regs: &mut [T],
+    commands: &[C],
+) -> RunEnd
     requires checked { All (λ f. IsForm R.form R.value (R.modulus r.now) (T.number f)) regs.old }
-    requires fit { All (IsFit (length regs.old)) commands.now }
+    requires fit { All (λ c. IsFit (length regs.old) (C.command c)) commands.now }
 
     // The run stops exactly where `IsStop` says, by the values of the registers.
     ensures stops { let m = R.modulus r.now in
         let start = values_of T.number R.value m regs.old in
-        (at : ℕ) → (result ≡ RunEnd.NoInverse at) ↔ IsStop m start (map (whole T.number) commands.now) at }
+        let wholes = map (λ c. whole T.number (C.command c)) commands.now in
+        (at : ℕ) → (result ≡ RunEnd.NoInverse at) ↔ IsStop m start wholes at }
     ensures done { let m = R.modulus r.now in
         let start = values_of T.number R.value m regs.old in
-        (result ≡ RunEnd.Done) ↔ ((at : ℕ) → IsStop m start (map (whole T.number) commands.now) at → ⊥) }
+        let wholes = map (λ c. whole T.number (C.command c)) commands.now in
+        (result ≡ RunEnd.Done) ↔ ((at : ℕ) → IsStop m start wholes at → ⊥) }
 
     // Each register then holds the checked form of its value at the stop.
     ensures values { let m = R.modulus r.now in
         let start = values_of T.number R.value m regs.old in
-        let wholes = map (whole T.number) commands.now in
+        let wholes = map (λ c. whole T.number (C.command c)) commands.now in
         HoldValues T.number R.form m regs.new (value_at m start wholes (carried_out result wholes)) }
     ensures checked { All (λ f. IsForm R.form R.value (R.modulus r.now) (T.number f)) regs.new }
 
     // So its residue is that value, for the list of values and for each register that is read.
     ensures residues { let m = R.modulus r.now in
         let start = values_of T.number R.value m regs.old in
-        let wholes = map (whole T.number) commands.now in
+        let wholes = map (λ c. whole T.number (C.command c)) commands.now in
         (n : ℕ) → n < length regs.old → slice_index (values_of T.number R.value m regs.new) n
         ≡ value_at m start wholes (carried_out result wholes) n }
     ensures read { let m = R.modulus r.now in
         let start = values_of T.number R.value m regs.old in
-        let wholes = map (whole T.number) commands.now in
+        let wholes = map (λ c. whole T.number (C.command c)) commands.now in
         (n : ℕ) (other : T) → n < length regs.old → R.value m (T.number (slice_index_or regs.new n other))
         ≡ value_at m start wholes (carried_out result wholes) n }
 {

@@ -2,4 +2,4 @@ pub mod Division
 pub mod InPlace
 pub mod PlanTables
 pub mod SameTerms
-pub mod Steps
+pub mod Wholes

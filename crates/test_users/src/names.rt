@@ -24,7 +24,7 @@ pub use num_modular::prim::{
 };
 pub use num_modular::proth::{FixedProth32, FixedProth64};
 pub use num_modular::reduced::ReducedInt;
-pub use num_modular::ring::{load_forms, unload_forms};
+pub use num_modular::ring::{AsCommand, load_forms, unload_forms};
 pub use num_modular::word::PlainWord;
 
 pub mod w8 {

@@ -35,16 +35,22 @@ pub carry_out-requires-clause-checked : goal.carry_out-requires-clause-checked
 carry_out-requires-clause-checked g c =
     all_forms (g.met.R.Reducer.canonical c.args.r.now) c.commands.invariant.held
 
+-- what a command represents, over whole numbers
+abbrev over_wholes : {T C : Type 0} → (T → ℕ) → (C → RingCommand T) → C → RingCommand ℕ
+over_wholes number command_of c = whole number (command_of c)
+
 -- a command of a list that fits fits registers of the same number
-fit_here : {T : Type 0} {count registers : ℕ} (commands : List (RingCommand T)) (at : ℕ) (command : RingCommand T)
-    → All (IsFit count) commands → at < length commands → command ≡ get_or commands at command
-    → registers ≡ count → IsFit registers command
-fit_here commands at command fit within is same =
-    subst (λ n. IsFit n command) (sym same) (subst (IsFit _) (sym is) (fit at command within))
+fit_here : {T C : Type 0} (command_of : C → RingCommand T) {count registers : ℕ} (commands : List C) (at : ℕ)
+    (command : C)
+    → All (λ c. IsFit count (command_of c)) commands → at < length commands → command ≡ get_or commands at command
+    → registers ≡ count → IsFit registers (command_of command)
+fit_here command_of {count} commands at command fit within is same =
+    subst (λ n. IsFit n (command_of command)) (sym same)
+    (subst (λ c. IsFit count (command_of c)) (sym is) (fit at command within))
 
 pub carry_out-requires-clause-fit : goal.carry_out-requires-clause-fit
 carry_out-requires-clause-fit g c =
-    fit_here c.args.commands.now c.commands.at c.index-commands-at.result c.requires.fit c.commands-test.true
+    fit_here g.C.AsCommand.command c.args.commands.now c.commands.at c.index-commands-at.result c.requires.fit c.commands-test.true
     c.index-commands-at.is c.commands.auto.regs
 
 pub carry_out-requires-clause-holds : goal.carry_out-requires-clause-holds
@@ -61,33 +67,33 @@ commands-preserved g c =
     let number = g.T.RingWord.number in
     let m = g.R.Reducer.modulus c.args.r.now in
     let start = values_of number g.R.Reducer.value m c.args.regs.now in
-    let wholes = map (whole number) c.args.commands.now in
+    let read_as = over_wholes number g.C.AsCommand.command in
+    let wholes = map read_as c.args.commands.now in
     let at = c.commands.at in
     let command = c.index-commands-at.result in
     let read = slice_get_read c.args.commands.now _ at command refl c.commands-test.true c.index-commands-at.is in
-    let is : slice_get wholes at ≡ Some (whole number command) =
-    read_map (whole number) c.args.commands.now at command read in
+    let is : slice_get wholes at ≡ Some (read_as command) =
+    read_map read_as c.args.commands.now at command read in
     let told = c.if-not-carry_out.false in
     let held = c.commands.invariant.held in
     record {
-      held = after_command number g.R.Reducer.form m start wholes at c.carry_out.new.regs (whole number command) is
+      held = after_command number g.R.Reducer.form m start wholes at c.carry_out.new.regs (read_as command) is
           (c.carry_out.ensures.values told (value_at m start wholes at) held);
       passed = below_more (λ j. LacksInverseAt m start wholes j → ⊥) at c.commands.invariant.passed (λ lacks. absurd (true_not_false told
           ((c.carry_out.ensures.missing (value_at m start wholes at) held).1
-          (lacks_of m start wholes at (whole number command) is lacks))));
+          (lacks_of m start wholes at (read_as command) is lacks))));
       last = c.carry_out.ensures.holds;
     }
 
 -- where the command that was read lacks its inverse, and none before it did, is the stop
-stop_here : {T : Type 0} (number : T → ℕ) (m : ℕ) (start : List ℕ) (commands : List (RingCommand T))
-    (at : ℕ) {command : RingCommand T}
+stop_here : {C : Type 0} (read_as : C → RingCommand ℕ) (m : ℕ) (start : List ℕ) (commands : List C)
+    (at : ℕ) {command : C}
     → slice_get commands at ≡ Some command
-    → LacksInverse m (value_at m start (map (whole number) commands) at) (whole number command)
-    → ((j : ℕ) → j < at → LacksInverseAt m start (map (whole number) commands) j → ⊥)
-    → IsStop m start (map (whole number) commands) at
-stop_here number m start commands at {command} read lacks passed = record {
-  lacks = lacks_at m start (map (whole number) commands) at (whole number command)
-      (read_map (whole number) commands at command read) lacks;
+    → LacksInverse m (value_at m start (map read_as commands) at) (read_as command)
+    → ((j : ℕ) → j < at → LacksInverseAt m start (map read_as commands) j → ⊥)
+    → IsStop m start (map read_as commands) at
+stop_here read_as m start commands at {command} read lacks passed = record {
+  lacks = lacks_at m start (map read_as commands) at (read_as command) (read_map read_as commands at command read) lacks;
   first = passed;
 }
 
@@ -99,9 +105,10 @@ returns-then-not-carry_out-clause-stops g c =
     let read = slice_get_read c.args.commands.now _ c.commands.at c.index-commands-at.result refl
     c.commands-test.true c.index-commands-at.is in
     let told = c.if-not-carry_out.true in
-    let lacks = (c.carry_out.ensures.missing (value_at m start (map (whole number) c.args.commands.now) c.commands.at)
+    let read_as = over_wholes number g.C.AsCommand.command in
+    let lacks = (c.carry_out.ensures.missing (value_at m start (map read_as c.args.commands.now) c.commands.at)
     c.commands.invariant.held).0 told in
-    stops_at (stop_here number m start c.args.commands.now c.commands.at read lacks c.commands.invariant.passed)
+    stops_at (stop_here read_as m start c.args.commands.now c.commands.at read lacks c.commands.invariant.passed)
 
 pub returns-then-not-carry_out-clause-done : goal.returns-then-not-carry_out-clause-done
 returns-then-not-carry_out-clause-done g c =
@@ -111,9 +118,10 @@ returns-then-not-carry_out-clause-done g c =
     let read = slice_get_read c.args.commands.now _ c.commands.at c.index-commands-at.result refl
     c.commands-test.true c.index-commands-at.is in
     let told = c.if-not-carry_out.true in
-    let lacks = (c.carry_out.ensures.missing (value_at m start (map (whole number) c.args.commands.now) c.commands.at)
+    let read_as = over_wholes number g.C.AsCommand.command in
+    let lacks = (c.carry_out.ensures.missing (value_at m start (map read_as c.args.commands.now) c.commands.at)
     c.commands.invariant.held).0 told in
-    not_done (stop_here number m start c.args.commands.now c.commands.at read lacks c.commands.invariant.passed)
+    not_done (stop_here read_as m start c.args.commands.now c.commands.at read lacks c.commands.invariant.passed)
 
 -- registers that are kept hold what they held
 kept_hold : {T : Type 0} {number : T → ℕ} {form : ℕ → ℕ → ℕ} {m : ℕ} {before after : List T} {v : ℕ → ℕ}
@@ -153,22 +161,21 @@ returns-then-not-carry_out-clause-read g c n other h =
     (subst (λ k. n < k) (sym (c.carry_out.ensures.count ∙ c.commands.auto.regs)) h)
 
 -- where none of the commands lacked its inverse, there is no stop
-never : {T : Type 0} (number : T → ℕ) {m at : ℕ} {start : List ℕ} (commands : List (RingCommand T))
-    → ((j : ℕ) → j < at → LacksInverseAt m start (map (whole number) commands) j → ⊥) → at ≡ length commands
-    → (stop : ℕ) → IsStop m start (map (whole number) commands) stop → ⊥
-never number commands passed all =
-    let count = length-map commands (whole number) in
+never : {C : Type 0} (read_as : C → RingCommand ℕ) {m at : ℕ} {start : List ℕ} (commands : List C)
+    → ((j : ℕ) → j < at → LacksInverseAt m start (map read_as commands) j → ⊥) → at ≡ length commands
+    → (stop : ℕ) → IsStop m start (map read_as commands) stop → ⊥
+never read_as commands passed all =
+    let count = length-map commands read_as in
     never_stops (λ j h lacks. passed j (omega (arith, count, all)) lacks)
 
 -- registers that hold the row after all commands hold the last row of the table
-holds_last : {T : Type 0} (number : T → ℕ) (form : ℕ → ℕ → ℕ) {m at : ℕ} {registers : List T} (start : List ℕ)
-    (commands : List (RingCommand T))
-    → HoldValues number form m registers (value_at m start (map (whole number) commands) at) → at ≡ length commands
-    → HoldValues number form m registers
-    (value_at m start (map (whole number) commands) (length (map (whole number) commands)))
-holds_last number form {m} {at} {registers} start commands held all =
-    subst (λ n. HoldValues number form m registers (value_at m start (map (whole number) commands) n))
-    (all ∙ sym (length-map commands (whole number))) held
+holds_last : {T C : Type 0} (number : T → ℕ) (form : ℕ → ℕ → ℕ) (read_as : C → RingCommand ℕ) {m at : ℕ}
+    {registers : List T} (start : List ℕ) (commands : List C)
+    → HoldValues number form m registers (value_at m start (map read_as commands) at) → at ≡ length commands
+    → HoldValues number form m registers (value_at m start (map read_as commands) (length (map read_as commands)))
+holds_last number form read_as {m} {at} {registers} start commands held all =
+    subst (λ n. HoldValues number form m registers (value_at m start (map read_as commands) n))
+    (all ∙ sym (length-map commands read_as)) held
 
 -- after the last command, all are carried out
 all_done : {at count : ℕ} → at ≤ count → count ≤ at → at ≡ count
@@ -181,13 +188,13 @@ done_not_stopped at e = cc
 pub returns-clause-stops : goal.returns-clause-stops
 returns-clause-stops g c at = (
   λ e. absurd (done_not_stopped at e),
-  λ stop. absurd (never g.T.RingWord.number c.args.commands.now c.commands.invariant.passed
+  λ stop. absurd (never (over_wholes g.T.RingWord.number g.C.AsCommand.command) c.args.commands.now c.commands.invariant.passed
       (all_done c.commands.auto.at-end c.commands-test.false) at stop),
 )
 
 pub returns-clause-done : goal.returns-clause-done
 returns-clause-done g c = (
-  λ e. never g.T.RingWord.number c.args.commands.now c.commands.invariant.passed
+  λ e. never (over_wholes g.T.RingWord.number g.C.AsCommand.command) c.args.commands.now c.commands.invariant.passed
       (all_done c.commands.auto.at-end c.commands-test.false),
   λ h. refl,
 )
@@ -195,6 +202,7 @@ returns-clause-done g c = (
 pub returns-clause-values : goal.returns-clause-values
 returns-clause-values g c =
     holds_last g.T.RingWord.number g.R.Reducer.form
+    (over_wholes g.T.RingWord.number g.C.AsCommand.command)
     (values_of g.T.RingWord.number g.R.Reducer.value (g.R.Reducer.modulus c.args.r.now) c.args.regs.now)
     c.args.commands.now c.commands.invariant.held
     (all_done c.commands.auto.at-end c.commands-test.false)
@@ -205,6 +213,7 @@ returns-clause-checked g c = all_forms (g.met.R.Reducer.canonical c.args.r.now) 
 pub returns-clause-residues : goal.returns-clause-residues
 returns-clause-residues g c n h =
     let held = holds_last g.T.RingWord.number g.R.Reducer.form
+    (over_wholes g.T.RingWord.number g.C.AsCommand.command)
     (values_of g.T.RingWord.number g.R.Reducer.value (g.R.Reducer.modulus c.args.r.now) c.args.regs.now)
     c.args.commands.now c.commands.invariant.held
     (all_done c.commands.auto.at-end c.commands-test.false) in
@@ -214,6 +223,7 @@ returns-clause-residues g c n h =
 pub returns-clause-read : goal.returns-clause-read
 returns-clause-read g c n other h =
     let held = holds_last g.T.RingWord.number g.R.Reducer.form
+    (over_wholes g.T.RingWord.number g.C.AsCommand.command)
     (values_of g.T.RingWord.number g.R.Reducer.value (g.R.Reducer.modulus c.args.r.now) c.args.regs.now)
     c.args.commands.now c.commands.invariant.held
     (all_done c.commands.auto.at-end c.commands-test.false) in

@@ -8,7 +8,7 @@ invariant-commands g l =
     let m = g.R.Reducer.modulus l.r in
     let number = g.T.RingWord.number in
     let start = values_of number g.R.Reducer.value m l.fn.regs in
-    let wholes = map (whole number) l.commands in
+    let wholes = map (λ c. whole number (g.C.AsCommand.command c)) l.commands in
     record {
       held : HoldValues number g.R.Reducer.form m l.regs (value_at m start wholes l.at);
       passed : (j : ℕ) → j < l.at → LacksInverseAt m start wholes j → ⊥;

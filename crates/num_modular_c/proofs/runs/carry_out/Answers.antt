@@ -1,40 +1,55 @@
-use Rattle.std.proofs.Common.{◌≡◌, length, arith, refl}
-use Rattle.std.proofs.lemmas.Bool.{false≢true}
-use Rattle.modular_ring.proofs.RunLemmas.{same_stop}
+use Rattle.std.proofs.Common.{◌≡◌, ◌∙◌, ◌%◌, ap, map, refl, arith}
+use Rattle.std.proofs.lemmas.List.{length-map}
+use Rattle.num_modular.specs.Ring.{value_at, values_of}
+use Rattle.num_modular_c.specs.Commands.{ring_command_of}
+use Rattle.num_modular_c.proofs.InPlace.{loaded}
+use Rattle.num_modular_c.proofs.Wholes.{wholes_same}
 use Rattle.num_modular_c.proofs.runs.carry_out.Goals as goal
+use Rattle.num_modular_c.proofs.runs.carry_out.Goals.{After-load}
 
-pub returns-then-not-are_admitted-clause-bad_argument : goal.returns-then-not-are_admitted-clause-bad_argument
-returns-then-not-are_admitted-clause-bad_argument g c refused = ((refl, refl), refl)
+-- the values that are loaded
+start : (g : _) (c : After-load g)
+    → values_of (λ f. f) g.R.Reducer.value (g.R.Reducer.modulus c.args.r.now) c.load.new.xs
+    ≡ map (λ x. x % g.R.Reducer.modulus c.args.r.now) c.args.registers.now
+start g c = loaded _ g.R.Reducer.value c.args.registers.now c.load.new.xs (omega arith) c.load.ensures.values
 
-pub returns-then-not-are_admitted-clause-did : goal.returns-then-not-are_admitted-clause-did
-returns-then-not-are_admitted-clause-did g c all none = absurd (false≢true (c.if-not-are_admitted.ensures.1 all))
+pub returns-in-Done-clause-did : goal.returns-in-Done-clause-did
+returns-in-Done-clause-did g c all none =
+    let at = (goal.at.returns-in-Done-clause-did g c).After-load in
+    let m = g.R.Reducer.modulus c.args.r.now in
+    let residues = map (λ x. x % m) c.args.registers.now in
+    let commands = map ring_command_of c.args.commands.now in (
+      refl,
+      record {
+        carried_out = refl;
+        values = λ n l. c.unload.ensures n (omega arith)
+            ∙ (rw (start g at, wholes_same c.args.commands.now, c.in-Done.is) at c.run-end.ensures.residues n (omega arith))
+            ∙ ap (λ k. value_at m residues commands k n) (length-map c.args.commands.now ring_command_of);
+      },
+    )
 
-pub returns-then-not-are_admitted-clause-no_inverse : goal.returns-then-not-are_admitted-clause-no_inverse
-returns-then-not-are_admitted-clause-no_inverse g c at all stop =
-    absurd (false≢true (c.if-not-are_admitted.ensures.1 all))
+pub returns-in-Done-clause-no_inverse : goal.returns-in-Done-clause-no_inverse
+returns-in-Done-clause-no_inverse g c stop all is =
+    let at = (goal.at.returns-in-Done-clause-no_inverse g c).After-load in
+    absurd (c.run-end.ensures.done.0 c.in-Done.is stop
+    (rw (start g at, wholes_same c.args.commands.now) is))
 
-pub returns-then-done-commands-clause-did : goal.returns-then-done-commands-clause-did
-returns-then-done-commands-clause-did g c all none =
-    absurd (none _ (c.run_words.ensures.stop c.if-done-commands.true))
+pub returns-in-NoInverse-clause-did : goal.returns-in-NoInverse-clause-did
+returns-in-NoInverse-clause-did g c all none =
+    let at = (goal.at.returns-in-NoInverse-clause-did g c).After-load in
+    absurd (none c.in-NoInverse.at
+    (rw (start g at, wholes_same c.args.commands.now) at (c.run-end.ensures.stops c.in-NoInverse.at).0 c.in-NoInverse.is))
 
-pub returns-then-done-commands-clause-no_inverse : goal.returns-then-done-commands-clause-no_inverse
-returns-then-done-commands-clause-no_inverse g c at all stop =
-    let same = same_stop (c.run_words.ensures.stop c.if-done-commands.true) stop in
-    (refl, record { carried_out = same; values = λ n l. rw same at c.run_words.ensures.values.values n l })
-
-pub returns-then-done-commands-clause-bad_argument : goal.returns-then-done-commands-clause-bad_argument
-returns-then-done-commands-clause-bad_argument g c refused = absurd (refused (c.if-not-are_admitted.ensures.0 refl))
-
-pub returns-else-done-commands-clause-did : goal.returns-else-done-commands-clause-did
-returns-else-done-commands-clause-did g c all none =
-    let most = c.run_words.ensures.at_most in
-    let same : c.run_words.result ≡ length c.args.commands.now = omega (arith, most, c.if-done-commands.false) in
-    (refl, record { carried_out = same; values = λ n l. rw same at c.run_words.ensures.values.values n l })
-
-pub returns-else-done-commands-clause-no_inverse : goal.returns-else-done-commands-clause-no_inverse
-returns-else-done-commands-clause-no_inverse g c at all stop =
-    let most = c.run_words.ensures.at_most in
-    absurd (c.run_words.ensures.done (omega (arith, most, c.if-done-commands.false)) at stop)
-
-pub returns-else-done-commands-clause-bad_argument : goal.returns-else-done-commands-clause-bad_argument
-returns-else-done-commands-clause-bad_argument g c refused = absurd (refused (c.if-not-are_admitted.ensures.0 refl))
+pub returns-in-NoInverse-clause-no_inverse : goal.returns-in-NoInverse-clause-no_inverse
+returns-in-NoInverse-clause-no_inverse g c stop all is =
+    let at = (goal.at.returns-in-NoInverse-clause-no_inverse g c).After-load in
+    let told = (c.run-end.ensures.stops stop).1 (rw (start g at, wholes_same c.args.commands.now) is) in
+    let here = c.in-NoInverse.is in
+    let same : c.in-NoInverse.at ≡ stop = cc in (
+      refl,
+      record {
+        carried_out = same;
+        values = λ n l. c.unload.ensures n (omega arith)
+            ∙ (rw (start g at, wholes_same c.args.commands.now, told) at c.run-end.ensures.residues n (omega arith));
+      },
+    )

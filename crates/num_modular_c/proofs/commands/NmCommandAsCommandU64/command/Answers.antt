@@ -1,4 +1,4 @@
-use Rattle.num_modular_c.proofs.commands.ring_command.Goals as goal
+use Rattle.num_modular_c.proofs.commands.NmCommandAsCommandU64.command.Goals as goal
 
 pub returns-in-0 : goal.returns-in-0
 returns-in-0 c = rw c.in-0.is
