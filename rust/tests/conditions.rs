@@ -5,7 +5,7 @@
 
 use num_modular::applications::check_digits;
 use num_modular::plans::{
-    convolve_block, convolve_negacyclic, convolve_planned, join, ntt_planned, plan, split, Factor, Plan, PlannedModulus,
+    convolve_block, convolve_negacyclic, convolve_planned, join, ntt_planned, plan, split, Factor, Plan, PlanEntry, PlannedModulus,
 };
 use num_modular::residues;
 use num_modular::ring::{convolve, find_root, ntt, ntt_counted, run, RingCommand, RunEnd};
@@ -337,4 +337,38 @@ fn plans_as_values() {
     panic_with!("the lists must have the same length: 4 and 2"; plan.multiply(&mut [1; 4], &[1; 2]));
     panic_with!("n must be a power of two, from 2 to the number of entries of this plan"; plan.shorter(8), plan.shorter(3));
     assert!(message(|| plan.split(&mut [1; 4], 1, 1)).is_ok());
+}
+
+thread_local! {
+    /// How often this thread has read an entry of a table.
+    static READ: RefCell<usize> = RefCell::default();
+}
+
+/// An entry of a table that counts how often it is read.
+#[derive(Clone, Copy)]
+struct Counted(Factor<u64>);
+
+impl PlanEntry<u64> for Counted {
+    fn entry(factor: Factor<u64>) -> Self {
+        Counted(factor)
+    }
+
+    fn factor(&self) -> Factor<u64> {
+        READ.with(|it| *it.borrow_mut() += 1);
+        self.0
+    }
+}
+
+#[test]
+fn a_short_transform_reads_the_used_part_of_a_table() {
+    let modulus = PlannedModulus::<u64>::new(469762049); // 7·2^26 + 1, of which 3 is a primitive root
+    let mut table = vec![Counted(Factor::ZERO); 1 << 13];
+    let root = 3u64.powm((469762049 - 1) >> 14, &469762049);
+    plan(&modulus, root, &mut table);
+    let reads = |length: usize| {
+        READ.with(|it| *it.borrow_mut() = 0);
+        ntt_planned(&modulus, &mut vec![1; length], &table);
+        READ.with(|it| *it.borrow())
+    };
+    assert!(reads(4) <= 4 * 4 && reads(64) <= 4 * 64, "{} and {}", reads(4), reads(64));
 }
