@@ -340,7 +340,9 @@ def say_in_docs(tokens, first, parts):
     text = "\n".join(re.sub(r"^\s*/// ?", "", line) for line in docs)
     text = SENTENCE.sub(lambda found: "\n" if "\n" in found[0] else " ", text, count=1)
     text = re.sub(r"\n{3,}", "\n\n", "\n".join(line.rstrip() for line in text.split("\n"))).strip("\n")
-    whole = "".join(f"{indent}{('/// ' + line).rstrip()}\n" for line in (*text.split("\n"), *sections(*parts)))
+    said, mark, examples = text.partition("\n# Examples\n")
+    lines = (*said.rstrip("\n").split("\n"), *sections(*parts), *(f"{mark}{examples}".split("\n") if mark else ()))
+    whole = "".join(f"{indent}{('/// ' + line).rstrip()}\n" for line in lines)
     tokens[first].lead = lead[:begin] + whole + others + indent
     COUNT["sections of docs put in"] += 1
 
