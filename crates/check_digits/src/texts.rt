@@ -95,7 +95,7 @@ fn write_symbol(c: u8, symbols: &mut [u64], end: usize) -> usize
 
 /// Writes the symbols of a text, in which X is 10 and single hyphens or spaces may be between symbols, and returns
 /// their number. `None` exactly where the text isn't such a text (`is_symbol_text` tells), or has more symbols than
-/// there is room for.
+/// there is room for; then nothing is written.
 ///
 /// # Examples
 ///
@@ -108,7 +108,8 @@ fn write_symbol(c: u8, symbols: &mut [u64], end: usize) -> usize
 /// ```
 pub fn read_symbols(text: &[u8], symbols: &mut [u64]) -> Option<usize>
     ensures length { length symbols.new ≡ length symbols.old }
-    ensures read { MatchOption result (IsSymbolText text.now → length symbols.old < length (symbols_of text.now))
+    ensures read { MatchOption result
+        ((IsSymbolText text.now → length symbols.old < length (symbols_of text.now)) × (symbols.new ≡ symbols.old))
         (AreSymbols text.now symbols.new) }
 {
     if !is_symbol_text(text) || count_symbols(text) > symbols.len() {
