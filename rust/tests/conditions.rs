@@ -98,6 +98,12 @@ fn constructors() {
 }
 
 #[test]
+fn texts_of_a_long_code() {
+    let code = check_digits::Code { modulus: 1, residue: 0, weights: &[1; 69], least: &[0; 69], greatest: &[9; 69] };
+    panic_in_debug_with!("the code must have at most 68 places"; code.accepts_text(b"1") => false);
+}
+
+#[test]
 fn parameters_out_of_range() {
     panic_with!("the parameter P must be odd"; FixedMontgomery32::<6>::fixed_modulus(), FixedMontgomery32::<6>::new(&6));
     panic_with!(RANGE; FixedProth32::<31, 3>::fixed_modulus(), FixedProth32::<31, 3>::new(&2147483649));
