@@ -17,7 +17,7 @@ use modular_reduced::reducer::Reducer;
 /// # Examples
 ///
 /// ```
-/// use num_modular::rings::{FoldRing, Mersenne32};
+/// use num_modular::families::{FoldRing, Mersenne32};
 /// use num_modular::Reducer;
 ///
 /// const RING: FoldRing<u32, Mersenne32<8, 5>> = FoldRing::<u32, Mersenne32<8, 5>>::RING;
@@ -153,7 +153,7 @@ impl<const P: u8, const K: u32> FoldModulus<u32> for Mersenne32<P, K> {
 /// # Examples
 ///
 /// ```
-/// use num_modular::rings::{FoldRing, Mersenne64};
+/// use num_modular::families::{FoldRing, Mersenne64};
 /// use num_modular::Reducer;
 ///
 /// const RING: FoldRing<u64, Mersenne64<61, 1>> = FoldRing::<u64, Mersenne64<61, 1>>::RING;

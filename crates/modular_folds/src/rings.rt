@@ -18,7 +18,7 @@ use std::marker::PhantomData;
 /// # Examples
 ///
 /// ```
-/// use num_modular::rings::{FoldModulus, FoldRing};
+/// use num_modular::families::{FoldModulus, FoldRing};
 /// use num_modular::{FixedMersenne64, FixedTrinomialSolinas64, Reducer};
 ///
 /// fn inverse_of_two<M: FoldModulus<u64>>(ring: &FoldRing<u64, M>) -> Option<u64> {
@@ -38,7 +38,7 @@ pub trait FoldModulus<T: FoldedWord>: Copy {
     /// # Examples
     ///
     /// ```
-    /// use num_modular::rings::{FoldModulus, Mersenne32};
+    /// use num_modular::families::{FoldModulus, Mersenne32};
     ///
     /// assert_eq!(Mersenne32::<31, 1>::keep(2147483647).modulus(), 2147483647);
     /// ```
@@ -51,7 +51,7 @@ pub trait FoldModulus<T: FoldedWord>: Copy {
     /// # Examples
     ///
     /// ```
-    /// use num_modular::rings::{FoldModulus, Mersenne32};
+    /// use num_modular::families::{FoldModulus, Mersenne32};
     ///
     /// assert_eq!(Mersenne32::<8, 5>::keep(251).modulus(), 251); // 2^8 - 5
     /// ```
@@ -63,7 +63,7 @@ pub trait FoldModulus<T: FoldedWord>: Copy {
     /// # Examples
     ///
     /// ```
-    /// use num_modular::rings::{FoldModulus, Mersenne32};
+    /// use num_modular::families::{FoldModulus, Mersenne32};
     ///
     /// assert_eq!(Mersenne32::<8, 5>::keep(251).reduced(1000), 247); // 1000 - 3 * 251
     /// ```
@@ -75,7 +75,7 @@ pub trait FoldModulus<T: FoldedWord>: Copy {
     /// # Examples
     ///
     /// ```
-    /// use num_modular::rings::{FoldModulus, Mersenne32};
+    /// use num_modular::families::{FoldModulus, Mersenne32};
     ///
     /// assert_eq!(Mersenne32::<8, 5>::keep(251).product(16, 16), 5); // 256 - 251
     /// ```
@@ -95,7 +95,7 @@ pub trait FoldModulus<T: FoldedWord>: Copy {
 /// # Examples
 ///
 /// ```
-/// use num_modular::rings::{FoldModulus, FoldRing};
+/// use num_modular::families::{FoldModulus, FoldRing};
 /// use num_modular::{FixedMersenne32, FixedTrinomialSolinas32, Reducer};
 ///
 /// fn cube<M: FoldModulus<u32>>(ring: &FoldRing<u32, M>, n: u32) -> u32 {

@@ -22,7 +22,7 @@ use std::marker::PhantomData;
 /// # Examples
 ///
 /// ```
-/// use num_modular::rings::{Trinomial, Trinomial32};
+/// use num_modular::families::{Trinomial, Trinomial32};
 ///
 /// fn value<F: Trinomial>() -> i128 {
 ///     (1 << F::p1()) - (1 << F::p2()) + i128::from(F::k())
@@ -42,7 +42,7 @@ pub trait Trinomial {
     /// # Examples
     ///
     /// ```
-    /// use num_modular::rings::{Trinomial, Trinomial32};
+    /// use num_modular::families::{Trinomial, Trinomial32};
     ///
     /// assert_eq!(Trinomial32::<16, 8, 1>::p1(), 16);
     /// ```
@@ -54,7 +54,7 @@ pub trait Trinomial {
     /// # Examples
     ///
     /// ```
-    /// use num_modular::rings::{Trinomial, Trinomial32};
+    /// use num_modular::families::{Trinomial, Trinomial32};
     ///
     /// assert_eq!(Trinomial32::<16, 8, 1>::p2(), 8);
     /// ```
@@ -66,7 +66,7 @@ pub trait Trinomial {
     /// # Examples
     ///
     /// ```
-    /// use num_modular::rings::{Trinomial, Trinomial32};
+    /// use num_modular::families::{Trinomial, Trinomial32};
     ///
     /// assert_eq!(Trinomial32::<5, 4, -3>::k(), -3);
     /// ```
@@ -79,7 +79,7 @@ pub trait Trinomial {
 /// # Examples
 ///
 /// ```
-/// use num_modular::rings::{Trinomial32, TrinomialSolinas};
+/// use num_modular::families::{Trinomial32, TrinomialSolinas};
 ///
 /// assert_eq!(TrinomialSolinas::<u32, Trinomial32<16, 8, 1>>::MODULUS, 65281); // 65536 - 256 + 1
 /// ```
@@ -111,7 +111,7 @@ impl<const P1: u8, const P2: u8, const K: i32> Trinomial for Trinomial32<P1, P2,
 /// # Examples
 ///
 /// ```
-/// use num_modular::rings::{Trinomial64, TrinomialSolinas};
+/// use num_modular::families::{Trinomial64, TrinomialSolinas};
 ///
 /// assert_eq!(TrinomialSolinas::<u64, Trinomial64<64, 32, 1>>::MODULUS, 0xffff_ffff_0000_0001);
 /// ```
@@ -194,7 +194,7 @@ impl TrinomialWord for u64 {
 /// # Examples
 ///
 /// ```
-/// use num_modular::rings::{FoldModulus, Trinomial32, TrinomialModulus};
+/// use num_modular::families::{FoldModulus, Trinomial32, TrinomialModulus};
 ///
 /// let kept = TrinomialModulus::<u32, Trinomial32<16, 8, 1>>::keep(65281);
 /// assert_eq!(kept.reduced(65536), 255); // 2^8 - 1
@@ -218,7 +218,7 @@ pub struct TrinomialModulus<T: TrinomialWord, F: Trinomial> {
 /// # Examples
 ///
 /// ```
-/// use num_modular::rings::{Trinomial64, TrinomialSolinas};
+/// use num_modular::families::{Trinomial64, TrinomialSolinas};
 ///
 /// type Goldilocks = TrinomialSolinas<u64, Trinomial64<64, 32, 1>>;
 /// assert_eq!(Goldilocks::MODULUS, 0xffff_ffff_0000_0001);

@@ -22,7 +22,7 @@ use std::marker::PhantomData;
 /// # Examples
 ///
 /// ```
-/// use num_modular::rings::{OddModulus, OddRing};
+/// use num_modular::families::{OddModulus, OddRing};
 /// use num_modular::{FixedMontgomery64, FixedProth64, Reducer};
 ///
 /// fn inverse_of_two<M: OddModulus<u64>>(ring: &OddRing<u64, M>) -> Option<u64> {
@@ -46,7 +46,7 @@ pub trait OddModulus<T: PathWord>: Copy {
     /// # Examples
     ///
     /// ```
-    /// use num_modular::rings::{OddModulus, OddRing};
+    /// use num_modular::families::{OddModulus, OddRing};
     /// use num_modular::FixedProth32;
     ///
     /// fn keep<M: OddModulus<u32>>(_: OddRing<u32, M>, m: u32) -> M {
@@ -63,7 +63,7 @@ pub trait OddModulus<T: PathWord>: Copy {
     /// # Examples
     ///
     /// ```
-    /// use num_modular::rings::{OddModulus, OddRing};
+    /// use num_modular::families::{OddModulus, OddRing};
     /// use num_modular::FixedProth32;
     ///
     /// fn modulus_of<M: OddModulus<u32>>(_: OddRing<u32, M>, m: u32) -> u32 {
@@ -79,7 +79,7 @@ pub trait OddModulus<T: PathWord>: Copy {
     /// # Examples
     ///
     /// ```
-    /// use num_modular::rings::{OddModulus, OddRing};
+    /// use num_modular::families::{OddModulus, OddRing};
     /// use num_modular::FixedProth32;
     ///
     /// fn square_of<M: OddModulus<u32>>(_: OddRing<u32, M>, m: u32) -> u32 {
@@ -95,7 +95,7 @@ pub trait OddModulus<T: PathWord>: Copy {
     /// # Examples
     ///
     /// ```
-    /// use num_modular::rings::{OddModulus, OddRing};
+    /// use num_modular::families::{OddModulus, OddRing};
     /// use num_modular::FixedProth32;
     ///
     /// fn reduced<M: OddModulus<u32>>(_: OddRing<u32, M>, m: u32, t: u64) -> u32 {
@@ -158,7 +158,7 @@ fn is_square_of_base<T: PathWord>(m: T, negated_inverse: T, square: T) -> bool
 /// # Examples
 ///
 /// ```
-/// use num_modular::rings::{OddModulus, OddRing};
+/// use num_modular::families::{OddModulus, OddRing};
 /// use num_modular::{FixedMontgomery32, FixedProth32, Reducer};
 ///
 /// fn cube<M: OddModulus<u32>>(ring: &OddRing<u32, M>, n: u32) -> u32 {

@@ -63,7 +63,7 @@ impl<T: PathWord> PreModInv<T> {
     /// use num_modular::{DivExact, PreModInv};
     ///
     /// // 7 * 183 = 5 * 256 + 1, and 255 = 36 * 7 + 3
-    /// const SEVEN: PreModInv<u8> = PreModInv::new(183, 36);
+    /// const SEVEN: PreModInv<u8> = PreModInv::<u8>::new(183, 36);
     /// assert_eq!(91u8.div_exact(7, &SEVEN), Some(13));
     /// ```
     pub const fn new(d_inv: T, q_lim: T) -> Self
