@@ -1,3 +1,3 @@
 //! Lists of commands on registers, run over any reducer.
 
-pub use crate::modular_ring::ring::{RingCommand, RunEnd, all_checked, commands_fit, run};
+pub use crate::modular_ring::ring::{AsCommand, RingCommand, RunEnd, all_checked, commands_fit, run};

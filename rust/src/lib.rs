@@ -3,7 +3,7 @@
 //! The root exports the traits, types and aliases, and the bounds of generic code over them. Beside the modules of the
 //! Rust crate there are `commands` (lists of commands run over any reducer) and `transforms`, both also in `ring`,
 //! `plans` (transforms by a table), `families` (the generic types behind the aliases), `hashes` (polynomial hashes and
-//! a search), `residues` (residue number systems) and `laws`.
+//! a search), `residues` (residue number systems) and `applications`.
 #![cfg_attr(not(test), no_std)]
 #![forbid(unsafe_code)]
 #![doc = include_str!("../README.md")]

@@ -70,6 +70,11 @@ impl<T: PathWord> Normalized2by1Divisor<T> {
 
     /// Quotient and remainder of a double word.
     ///
+    /// # Panics
+    ///
+    /// A debug build panics unless the dividend's high word is below the divisor. A release build doesn't
+    /// test that, and outside it panics, or returns no meaningful result.
+    ///
     /// # Examples
     ///
     /// ```
@@ -78,11 +83,6 @@ impl<T: PathWord> Normalized2by1Divisor<T> {
     /// let divisor = Normalized2by1Divisor::<u32>::new(4_000_000_000);
     /// assert_eq!(divisor.div_rem_2by1(12_000_000_005), (3, 5));
     /// ```
-    ///
-    /// # Panics
-    ///
-    /// A debug build panics unless the dividend's high word is below the divisor. A release build doesn't
-    /// test that, and outside it panics, or returns no meaningful result.
     #[inline]
     #[cfg_attr(debug_assertions, track_caller)]
     pub fn div_rem_2by1(&self, a: T::Double) -> (T, T) {
@@ -94,6 +94,11 @@ impl<T: PathWord> Normalized2by1Divisor<T> {
 impl<T: PlainWord> Normalized2by1Divisor<T> {
     /// The reciprocal of a divisor.
     ///
+    /// # Panics
+    ///
+    /// A debug build panics unless the divisor's top bit is set. A release build doesn't test that, and
+    /// outside it panics, or returns no meaningful result.
+    ///
     /// # Examples
     ///
     /// ```
@@ -102,11 +107,6 @@ impl<T: PlainWord> Normalized2by1Divisor<T> {
     /// // (71 + 256) * 200 = 65400, which is 65536 less 136
     /// assert_eq!(Normalized2by1Divisor::<u8>::invert_word(200), 71);
     /// ```
-    ///
-    /// # Panics
-    ///
-    /// A debug build panics unless the divisor's top bit is set. A release build doesn't test that, and
-    /// outside it panics, or returns no meaningful result.
     #[inline]
     #[cfg_attr(debug_assertions, track_caller)]
     pub fn invert_word(d: T) -> T {
@@ -115,6 +115,10 @@ impl<T: PlainWord> Normalized2by1Divisor<T> {
     }
 
     /// A divisor with its reciprocal.
+    ///
+    /// # Panics
+    ///
+    /// Panics unless the divisor's top bit is set.
     ///
     /// # Examples
     ///
@@ -126,10 +130,6 @@ impl<T: PlainWord> Normalized2by1Divisor<T> {
     /// }
     /// assert_eq!(last_digits(200u8, 234), 34);
     /// ```
-    ///
-    /// # Panics
-    ///
-    /// Panics unless the divisor's top bit is set.
     #[inline]
     #[track_caller]
     pub fn of(d: T) -> Self {

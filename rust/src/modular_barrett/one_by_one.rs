@@ -35,6 +35,11 @@ impl<T: PathWord> PreMulInv1by1<T> {
     /// Source: Granlund and Montgomery, "Division by invariant integers using multiplication", figure
     /// 4.1.
     ///
+    /// # Panics
+    ///
+    /// A debug build panics unless the divider is that of the divisor d. A release build doesn't test that,
+    /// and outside it panics, or returns no meaningful result.
+    ///
     /// # Examples
     ///
     /// ```
@@ -43,11 +48,6 @@ impl<T: PathWord> PreMulInv1by1<T> {
     /// let seven = PreMulInv1by1::<u8>::new(7);
     /// assert_eq!(seven.div_rem(100, 7), (14, 2));
     /// ```
-    ///
-    /// # Panics
-    ///
-    /// A debug build panics unless the divider is that of the divisor d. A release build doesn't test that,
-    /// and outside it panics, or returns no meaningful result.
     #[inline]
     #[cfg_attr(debug_assertions, track_caller)]
     pub fn div_rem(&self, a: T, d: T) -> (T, T) {
@@ -62,6 +62,10 @@ impl<T: PlainWord> PreMulInv1by1<T> {
     ///
     /// Source: Granlund and Montgomery, "Division by invariant integers using multiplication", section 4.
     ///
+    /// # Panics
+    ///
+    /// Panics unless the divisor is above 1.
+    ///
     /// # Examples
     ///
     /// ```
@@ -75,10 +79,6 @@ impl<T: PlainWord> PreMulInv1by1<T> {
     /// remainder_each(&mut numbers, 7);
     /// assert_eq!(numbers, [0, 2, 6]);
     /// ```
-    ///
-    /// # Panics
-    ///
-    /// Panics unless the divisor is above 1.
     #[track_caller]
     pub fn of(d: T) -> Self {
         assert!(!d.half().is_zero_word(), "the divisor must be above 1");

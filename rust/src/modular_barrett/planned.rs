@@ -110,6 +110,10 @@ impl<T: PlainWord> PlannedModulus<T> {
 
     /// The modulus with its reciprocal.
     ///
+    /// # Panics
+    ///
+    /// Panics unless the modulus is at least 1 and at most 2^w/4, for words of w bits (`admits` tells).
+    ///
     /// # Examples
     ///
     /// ```
@@ -118,10 +122,6 @@ impl<T: PlainWord> PlannedModulus<T> {
     /// let modulus = PlannedModulus::<u64>::new(97);
     /// assert_eq!(modulus.multiply(10, 20), 6); // 200 - 2 * 97
     /// ```
-    ///
-    /// # Panics
-    ///
-    /// Panics unless the modulus is at least 1 and at most 2^w/4, for words of w bits (`admits` tells).
     #[inline]
     #[track_caller]
     pub fn new(m: T) -> Self {
@@ -137,6 +137,11 @@ impl<T: PlainWord> PlannedModulus<T> {
 
     /// The factor w with its quotient, which is computed by the reciprocal.
     ///
+    /// # Panics
+    ///
+    /// A debug build panics unless w is below m. A release build doesn't test that, and outside it panics,
+    /// or returns no meaningful result.
+    ///
     /// # Examples
     ///
     /// ```
@@ -146,11 +151,6 @@ impl<T: PlainWord> PlannedModulus<T> {
     /// let ten = modulus.factor(10);
     /// assert_eq!(modulus.product(1000, &ten), 9); // 10000 = 103 * 97 + 9
     /// ```
-    ///
-    /// # Panics
-    ///
-    /// A debug build panics unless w is below m. A release build doesn't test that, and outside it panics,
-    /// or returns no meaningful result.
     #[cfg_attr(debug_assertions, track_caller)]
     pub fn factor(&self, w: T) -> Factor<T> {
         debug_assert!(w.is_below(self.modulus), "w must be below m");
@@ -162,6 +162,11 @@ impl<T: PlainWord> PlannedModulus<T> {
 
     /// The residue of a factor times the base, below m, computed from its quotient.
     ///
+    /// # Preconditions
+    ///
+    /// The factor is a residue modulo m. This isn't tested: outside it the call panics, or returns no
+    /// meaningful result.
+    ///
     /// # Examples
     ///
     /// ```
@@ -170,11 +175,6 @@ impl<T: PlainWord> PlannedModulus<T> {
     /// let modulus = PlannedModulus::<u8>::new(13);
     /// assert_eq!(modulus.times_base(&modulus.factor(5)), 6); // 5 * 256 = 98 * 13 + 6
     /// ```
-    ///
-    /// # Preconditions
-    ///
-    /// The factor is a residue modulo m. This isn't tested: outside it the call panics, or returns no
-    /// meaningful result.
     #[inline]
     pub fn times_base(&self, w: &Factor<T>) -> T {
         T::zero().wrapping_sub(w.quotient.wrapping_mul(self.modulus))
@@ -186,6 +186,11 @@ impl<T: PlainWord> PlannedModulus<T> {
     ///
     /// Source: Harvey, "Faster arithmetic for number-theoretic transforms", section 3.
     ///
+    /// # Preconditions
+    ///
+    /// The factor is a residue modulo m. This isn't tested: outside it the call panics, or returns no
+    /// meaningful result.
+    ///
     /// # Examples
     ///
     /// ```
@@ -195,11 +200,6 @@ impl<T: PlainWord> PlannedModulus<T> {
     /// let product = modulus.times(200, &modulus.factor(5));
     /// assert!(product == 12 || product == 12 + 13); // 1000 = 76 * 13 + 12
     /// ```
-    ///
-    /// # Preconditions
-    ///
-    /// The factor is a residue modulo m. This isn't tested: outside it the call panics, or returns no
-    /// meaningful result.
     #[inline]
     pub fn times(&self, x: T, w: &Factor<T>) -> T {
         let (_, whole) = T::split(x.product(w.quotient));
@@ -209,6 +209,11 @@ impl<T: PlainWord> PlannedModulus<T> {
 
     /// The residue of the product of any word x with a factor, below m.
     ///
+    /// # Preconditions
+    ///
+    /// The factor is a residue modulo m. This isn't tested: outside it the call panics, or returns no
+    /// meaningful result.
+    ///
     /// # Examples
     ///
     /// ```
@@ -217,17 +222,16 @@ impl<T: PlainWord> PlannedModulus<T> {
     /// let modulus = PlannedModulus::<u8>::new(13);
     /// assert_eq!(modulus.product(200, &modulus.factor(5)), 12);
     /// ```
-    ///
-    /// # Preconditions
-    ///
-    /// The factor is a residue modulo m. This isn't tested: outside it the call panics, or returns no
-    /// meaningful result.
     #[inline]
     pub fn product(&self, x: T, w: &Factor<T>) -> T {
         reduced_once(self.times(x, w), self.modulus)
     }
 
     /// The residue of the product of a word x with any word y, below m, computed by the reciprocal.
+    ///
+    /// # Preconditions
+    ///
+    /// x is below m. This isn't tested: outside it the call panics, or returns no meaningful result.
     ///
     /// # Examples
     ///
@@ -237,10 +241,6 @@ impl<T: PlainWord> PlannedModulus<T> {
     /// let modulus = PlannedModulus::<u8>::new(13);
     /// assert_eq!(modulus.multiply(5, 200), 12); // 1000 = 76 * 13 + 12
     /// ```
-    ///
-    /// # Preconditions
-    ///
-    /// x is below m. This isn't tested: outside it the call panics, or returns no meaningful result.
     #[inline]
     pub fn multiply(&self, x: T, y: T) -> T {
         let divisor = self.modulus.shift_left(self.shift);
@@ -253,6 +253,10 @@ impl<T: PlainWord> PlannedModulus<T> {
     ///
     /// It divides once, by the reciprocal, modulo 2m: the high word of the sum may be at least m, but it is below 2m.
     ///
+    /// # Preconditions
+    ///
+    /// x + u is below 2m. This isn't tested: outside it the call panics, or returns no meaningful result.
+    ///
     /// # Examples
     ///
     /// ```
@@ -261,10 +265,6 @@ impl<T: PlainWord> PlannedModulus<T> {
     /// let modulus = PlannedModulus::<u8>::new(13);
     /// assert_eq!(modulus.product_sum(5, 200, 7, 100), 10); // 5 * 200 + 7 * 100 = 130 * 13 + 10
     /// ```
-    ///
-    /// # Preconditions
-    ///
-    /// x + u is below 2m. This isn't tested: outside it the call panics, or returns no meaningful result.
     pub fn product_sum(&self, x: T, v: T, u: T, y: T) -> T {
         let divisor = self.modulus.shift_left(self.shift);
         let by = self.shift - 1;
@@ -305,6 +305,11 @@ impl<T: PlainWord> PlannedModulus<T> {
 
     /// The residue of a word, below m.
     ///
+    /// # Preconditions
+    ///
+    /// The word is below 4m (`has_room` tells). This isn't tested: outside it the call panics, or returns
+    /// no meaningful result.
+    ///
     /// # Examples
     ///
     /// ```
@@ -312,11 +317,6 @@ impl<T: PlainWord> PlannedModulus<T> {
     ///
     /// assert_eq!(PlannedModulus::<u8>::new(13).residue(51), 12);
     /// ```
-    ///
-    /// # Preconditions
-    ///
-    /// The word is below 4m (`has_room` tells). This isn't tested: outside it the call panics, or returns
-    /// no meaningful result.
     #[inline]
     pub fn residue(&self, x: T) -> T {
         reduced_once(reduced_once(x, self.twice()), self.modulus)

@@ -42,6 +42,10 @@ impl<T: PlainWord> Copy for PreMulInv2by1<T> {}
 impl<T: PlainWord> PreMulInv2by1<T> {
     /// The reducer of a modulus.
     ///
+    /// # Panics
+    ///
+    /// Panics unless the modulus is at least 1.
+    ///
     /// # Examples
     ///
     /// ```
@@ -53,10 +57,6 @@ impl<T: PlainWord> PreMulInv2by1<T> {
     /// }
     /// assert_eq!(square(16u8, 251), 5); // 256 - 251
     /// ```
-    ///
-    /// # Panics
-    ///
-    /// Panics unless the modulus is at least 1.
     #[inline]
     #[track_caller]
     pub fn of(m: T) -> Self {

@@ -10,7 +10,7 @@ use crate::modular_reduced::reducer::Reducer;
 /// # Examples
 ///
 /// ```
-/// use num_modular::rings::{FoldRing, Mersenne32};
+/// use num_modular::families::{FoldRing, Mersenne32};
 /// use num_modular::Reducer;
 ///
 /// const RING: FoldRing<u32, Mersenne32<8, 5>> = FoldRing::<u32, Mersenne32<8, 5>>::RING;
@@ -43,6 +43,10 @@ pub type FixedMersenne32<const P: u8, const K: u32> = FoldRing<u32, Mersenne32<P
 impl<const P: u8, const K: u32> FoldRing<u32, Mersenne32<P, K>> {
     /// The modulus.
     ///
+    /// # Panics
+    ///
+    /// Panics unless the parameters are in range.
+    ///
     /// # Examples
     ///
     /// ```
@@ -50,10 +54,6 @@ impl<const P: u8, const K: u32> FoldRing<u32, Mersenne32<P, K>> {
     ///
     /// assert_eq!(FixedMersenne32::<8, 5>::fixed_modulus(), 251); // 2^8 - 5
     /// ```
-    ///
-    /// # Panics
-    ///
-    /// Panics unless the parameters are in range.
     #[inline]
     #[track_caller]
     pub const fn fixed_modulus() -> u32 {
@@ -63,6 +63,10 @@ impl<const P: u8, const K: u32> FoldRing<u32, Mersenne32<P, K>> {
 
     /// The residue of a word.
     ///
+    /// # Panics
+    ///
+    /// Panics unless the parameters are in range.
+    ///
     /// # Examples
     ///
     /// ```
@@ -71,10 +75,6 @@ impl<const P: u8, const K: u32> FoldRing<u32, Mersenne32<P, K>> {
     /// assert_eq!(FixedMersenne32::<31, 1>::reduce_single(1 << 31), 1);
     /// assert_eq!(FixedMersenne32::<8, 5>::reduce_single(1000), 247); // 1000 - 3 * 251
     /// ```
-    ///
-    /// # Panics
-    ///
-    /// Panics unless the parameters are in range.
     #[inline]
     #[track_caller]
     pub fn reduce_single(v: u32) -> u32 {
@@ -83,6 +83,10 @@ impl<const P: u8, const K: u32> FoldRing<u32, Mersenne32<P, K>> {
 
     /// The residue of a double word.
     ///
+    /// # Panics
+    ///
+    /// Panics unless the parameters are in range.
+    ///
     /// # Examples
     ///
     /// ```
@@ -90,10 +94,6 @@ impl<const P: u8, const K: u32> FoldRing<u32, Mersenne32<P, K>> {
     ///
     /// assert_eq!(FixedMersenne32::<31, 1>::reduce_double(1 << 40), 1 << 9);
     /// ```
-    ///
-    /// # Panics
-    ///
-    /// Panics unless the parameters are in range.
     #[inline]
     #[track_caller]
     pub fn reduce_double(v: u64) -> u32 {
@@ -101,6 +101,10 @@ impl<const P: u8, const K: u32> FoldRing<u32, Mersenne32<P, K>> {
     }
 
     /// The residue of a double word, and the number of folds that make it less than 2^P.
+    ///
+    /// # Panics
+    ///
+    /// Panics unless the parameters are in range.
     ///
     /// # Examples
     ///
@@ -111,10 +115,6 @@ impl<const P: u8, const K: u32> FoldRing<u32, Mersenne32<P, K>> {
     /// assert_eq!(FixedMersenne32::<8, 5>::reduce_counted(1000), (247, 1));
     /// assert_eq!(FixedMersenne32::<8, 5>::reduce_counted(251), (0, 0));
     /// ```
-    ///
-    /// # Panics
-    ///
-    /// Panics unless the parameters are in range.
     #[inline]
     #[track_caller]
     pub fn reduce_counted(v: u64) -> (u32, u32) {
@@ -152,7 +152,7 @@ impl<const P: u8, const K: u32> FoldModulus<u32> for Mersenne32<P, K> {
 /// # Examples
 ///
 /// ```
-/// use num_modular::rings::{FoldRing, Mersenne64};
+/// use num_modular::families::{FoldRing, Mersenne64};
 /// use num_modular::Reducer;
 ///
 /// const RING: FoldRing<u64, Mersenne64<61, 1>> = FoldRing::<u64, Mersenne64<61, 1>>::RING;
@@ -186,6 +186,10 @@ pub type FixedMersenne64<const P: u8, const K: u64> = FoldRing<u64, Mersenne64<P
 impl<const P: u8, const K: u64> FoldRing<u64, Mersenne64<P, K>> {
     /// The modulus.
     ///
+    /// # Panics
+    ///
+    /// Panics unless the parameters are in range.
+    ///
     /// # Examples
     ///
     /// ```
@@ -193,10 +197,6 @@ impl<const P: u8, const K: u64> FoldRing<u64, Mersenne64<P, K>> {
     ///
     /// assert_eq!(FixedMersenne64::<61, 1>::fixed_modulus(), (1 << 61) - 1);
     /// ```
-    ///
-    /// # Panics
-    ///
-    /// Panics unless the parameters are in range.
     #[inline]
     #[track_caller]
     pub const fn fixed_modulus() -> u64 {
@@ -206,6 +206,10 @@ impl<const P: u8, const K: u64> FoldRing<u64, Mersenne64<P, K>> {
 
     /// The residue of a word.
     ///
+    /// # Panics
+    ///
+    /// Panics unless the parameters are in range.
+    ///
     /// # Examples
     ///
     /// ```
@@ -213,10 +217,6 @@ impl<const P: u8, const K: u64> FoldRing<u64, Mersenne64<P, K>> {
     ///
     /// assert_eq!(FixedMersenne64::<61, 1>::reduce_single(1 << 63), 1 << 2);
     /// ```
-    ///
-    /// # Panics
-    ///
-    /// Panics unless the parameters are in range.
     #[inline]
     #[track_caller]
     pub fn reduce_single(v: u64) -> u64 {
@@ -225,6 +225,10 @@ impl<const P: u8, const K: u64> FoldRing<u64, Mersenne64<P, K>> {
 
     /// The residue of a double word.
     ///
+    /// # Panics
+    ///
+    /// Panics unless the parameters are in range.
+    ///
     /// # Examples
     ///
     /// ```
@@ -232,10 +236,6 @@ impl<const P: u8, const K: u64> FoldRing<u64, Mersenne64<P, K>> {
     ///
     /// assert_eq!(FixedMersenne64::<61, 1>::reduce_double(1 << 100), 1 << 39);
     /// ```
-    ///
-    /// # Panics
-    ///
-    /// Panics unless the parameters are in range.
     #[inline]
     #[track_caller]
     pub fn reduce_double(v: u128) -> u64 {
@@ -244,6 +244,10 @@ impl<const P: u8, const K: u64> FoldRing<u64, Mersenne64<P, K>> {
 
     /// The residue of a double word, and the number of folds that make it less than 2^P.
     ///
+    /// # Panics
+    ///
+    /// Panics unless the parameters are in range.
+    ///
     /// # Examples
     ///
     /// ```
@@ -251,10 +255,6 @@ impl<const P: u8, const K: u64> FoldRing<u64, Mersenne64<P, K>> {
     ///
     /// assert_eq!(FixedMersenne64::<61, 1>::reduce_counted(1 << 100), (1 << 39, 1));
     /// ```
-    ///
-    /// # Panics
-    ///
-    /// Panics unless the parameters are in range.
     #[inline]
     #[track_caller]
     pub fn reduce_counted(v: u128) -> (u64, u32) {
@@ -310,6 +310,10 @@ pub struct FixedMersenne<const P: u8, const K: u64> {
 impl<const P: u8, const K: u64> FixedMersenne<P, K> {
     /// The modulus.
     ///
+    /// # Panics
+    ///
+    /// Panics unless the parameters are in range.
+    ///
     /// # Examples
     ///
     /// ```
@@ -317,10 +321,6 @@ impl<const P: u8, const K: u64> FixedMersenne<P, K> {
     ///
     /// assert_eq!(FixedMersenne::<61, 1>::fixed_modulus(), (1 << 61) - 1);
     /// ```
-    ///
-    /// # Panics
-    ///
-    /// Panics unless the parameters are in range.
     #[inline]
     #[track_caller]
     pub const fn fixed_modulus() -> u128 {
@@ -329,6 +329,10 @@ impl<const P: u8, const K: u64> FixedMersenne<P, K> {
 
     /// The residue of a word.
     ///
+    /// # Panics
+    ///
+    /// Panics unless the parameters are in range.
+    ///
     /// # Examples
     ///
     /// ```
@@ -336,10 +340,6 @@ impl<const P: u8, const K: u64> FixedMersenne<P, K> {
     ///
     /// assert_eq!(FixedMersenne::<61, 1>::reduce_single(1 << 100), 1 << 39);
     /// ```
-    ///
-    /// # Panics
-    ///
-    /// Panics unless the parameters are in range.
     #[inline]
     #[track_caller]
     pub fn reduce_single(v: u128) -> u128 {
@@ -348,6 +348,10 @@ impl<const P: u8, const K: u64> FixedMersenne<P, K> {
 
     /// The residue of a word, and the number of folds that make it less than 2^P.
     ///
+    /// # Panics
+    ///
+    /// Panics unless the parameters are in range.
+    ///
     /// # Examples
     ///
     /// ```
@@ -355,10 +359,6 @@ impl<const P: u8, const K: u64> FixedMersenne<P, K> {
     ///
     /// assert_eq!(FixedMersenne::<61, 1>::reduce_counted(1 << 100), (1 << 39, 1));
     /// ```
-    ///
-    /// # Panics
-    ///
-    /// Panics unless the parameters are in range.
     #[inline]
     #[track_caller]
     pub fn reduce_counted(v: u128) -> (u128, u32) {

@@ -12,7 +12,7 @@ use core::marker::PhantomData;
 /// # Examples
 ///
 /// ```
-/// use num_modular::rings::{FoldModulus, FoldRing};
+/// use num_modular::families::{FoldModulus, FoldRing};
 /// use num_modular::{FixedMersenne64, FixedTrinomialSolinas64, Reducer};
 ///
 /// fn inverse_of_two<M: FoldModulus<u64>>(ring: &FoldRing<u64, M>) -> Option<u64> {
@@ -24,17 +24,17 @@ use core::marker::PhantomData;
 pub trait FoldModulus<T: FoldedWord>: Copy {
     /// The modulus of the parameters.
     ///
-    /// # Examples
-    ///
-    /// ```
-    /// use num_modular::rings::{FoldModulus, Mersenne32};
-    ///
-    /// assert_eq!(Mersenne32::<31, 1>::keep(2147483647).modulus(), 2147483647);
-    /// ```
-    ///
     /// # Panics
     ///
     /// Panics unless the modulus is that of the parameters, and these are in range.
+    ///
+    /// # Examples
+    ///
+    /// ```
+    /// use num_modular::families::{FoldModulus, Mersenne32};
+    ///
+    /// assert_eq!(Mersenne32::<31, 1>::keep(2147483647).modulus(), 2147483647);
+    /// ```
     #[must_use]
     #[track_caller]
     fn keep(m: T) -> Self;
@@ -44,7 +44,7 @@ pub trait FoldModulus<T: FoldedWord>: Copy {
     /// # Examples
     ///
     /// ```
-    /// use num_modular::rings::{FoldModulus, Mersenne32};
+    /// use num_modular::families::{FoldModulus, Mersenne32};
     ///
     /// assert_eq!(Mersenne32::<8, 5>::keep(251).modulus(), 251); // 2^8 - 5
     /// ```
@@ -55,7 +55,7 @@ pub trait FoldModulus<T: FoldedWord>: Copy {
     /// # Examples
     ///
     /// ```
-    /// use num_modular::rings::{FoldModulus, Mersenne32};
+    /// use num_modular::families::{FoldModulus, Mersenne32};
     ///
     /// assert_eq!(Mersenne32::<8, 5>::keep(251).reduced(1000), 247); // 1000 - 3 * 251
     /// ```
@@ -63,18 +63,18 @@ pub trait FoldModulus<T: FoldedWord>: Copy {
 
     /// The residue of a product, below the modulus.
     ///
-    /// # Examples
-    ///
-    /// ```
-    /// use num_modular::rings::{FoldModulus, Mersenne32};
-    ///
-    /// assert_eq!(Mersenne32::<8, 5>::keep(251).product(16, 16), 5); // 256 - 251
-    /// ```
-    ///
     /// # Preconditions
     ///
     /// Both factors are below the modulus. This isn't tested: outside it the call panics, or returns no
     /// meaningful result.
+    ///
+    /// # Examples
+    ///
+    /// ```
+    /// use num_modular::families::{FoldModulus, Mersenne32};
+    ///
+    /// assert_eq!(Mersenne32::<8, 5>::keep(251).product(16, 16), 5); // 256 - 251
+    /// ```
     fn product(&self, a: T, b: T) -> T;
 }
 
@@ -84,7 +84,7 @@ pub trait FoldModulus<T: FoldedWord>: Copy {
 /// # Examples
 ///
 /// ```
-/// use num_modular::rings::{FoldModulus, FoldRing};
+/// use num_modular::families::{FoldModulus, FoldRing};
 /// use num_modular::{FixedMersenne32, FixedTrinomialSolinas32, Reducer};
 ///
 /// fn cube<M: FoldModulus<u32>>(ring: &FoldRing<u32, M>, n: u32) -> u32 {

@@ -11,7 +11,7 @@ use core::marker::PhantomData;
 /// # Examples
 ///
 /// ```
-/// use num_modular::rings::{Trinomial, Trinomial32};
+/// use num_modular::families::{Trinomial, Trinomial32};
 ///
 /// fn value<F: Trinomial>() -> i128 {
 ///     (1 << F::p1()) - (1 << F::p2()) + i128::from(F::k())
@@ -24,7 +24,7 @@ pub trait Trinomial: Sized {
     /// # Examples
     ///
     /// ```
-    /// use num_modular::rings::{Trinomial, Trinomial32};
+    /// use num_modular::families::{Trinomial, Trinomial32};
     ///
     /// assert_eq!(Trinomial32::<16, 8, 1>::p1(), 16);
     /// ```
@@ -35,7 +35,7 @@ pub trait Trinomial: Sized {
     /// # Examples
     ///
     /// ```
-    /// use num_modular::rings::{Trinomial, Trinomial32};
+    /// use num_modular::families::{Trinomial, Trinomial32};
     ///
     /// assert_eq!(Trinomial32::<16, 8, 1>::p2(), 8);
     /// ```
@@ -46,7 +46,7 @@ pub trait Trinomial: Sized {
     /// # Examples
     ///
     /// ```
-    /// use num_modular::rings::{Trinomial, Trinomial32};
+    /// use num_modular::families::{Trinomial, Trinomial32};
     ///
     /// assert_eq!(Trinomial32::<5, 4, -3>::k(), -3);
     /// ```
@@ -58,7 +58,7 @@ pub trait Trinomial: Sized {
 /// # Examples
 ///
 /// ```
-/// use num_modular::rings::{Trinomial32, TrinomialSolinas};
+/// use num_modular::families::{Trinomial32, TrinomialSolinas};
 ///
 /// assert_eq!(TrinomialSolinas::<u32, Trinomial32<16, 8, 1>>::MODULUS, 65281); // 65536 - 256 + 1
 /// ```
@@ -88,7 +88,7 @@ impl<const P1: u8, const P2: u8, const K: i32> Trinomial for Trinomial32<P1, P2,
 /// # Examples
 ///
 /// ```
-/// use num_modular::rings::{Trinomial64, TrinomialSolinas};
+/// use num_modular::families::{Trinomial64, TrinomialSolinas};
 ///
 /// assert_eq!(TrinomialSolinas::<u64, Trinomial64<64, 32, 1>>::MODULUS, 0xffff_ffff_0000_0001);
 /// ```
@@ -162,7 +162,7 @@ impl TrinomialWord for u64 {
 /// # Examples
 ///
 /// ```
-/// use num_modular::rings::{FoldModulus, Trinomial32, TrinomialModulus};
+/// use num_modular::families::{FoldModulus, Trinomial32, TrinomialModulus};
 ///
 /// let kept = TrinomialModulus::<u32, Trinomial32<16, 8, 1>>::keep(65281);
 /// assert_eq!(kept.reduced(65536), 255); // 2^8 - 1
@@ -186,7 +186,7 @@ pub struct TrinomialModulus<T, F> {
 /// # Examples
 ///
 /// ```
-/// use num_modular::rings::{Trinomial64, TrinomialSolinas};
+/// use num_modular::families::{Trinomial64, TrinomialSolinas};
 ///
 /// type Goldilocks = TrinomialSolinas<u64, Trinomial64<64, 32, 1>>;
 /// assert_eq!(Goldilocks::MODULUS, 0xffff_ffff_0000_0001);
@@ -242,6 +242,10 @@ impl<T: TrinomialWord, F: Trinomial> FoldRing<T, TrinomialModulus<T, F>> {
 
     /// The modulus.
     ///
+    /// # Panics
+    ///
+    /// Panics unless the parameters are in range.
+    ///
     /// # Examples
     ///
     /// ```
@@ -250,10 +254,6 @@ impl<T: TrinomialWord, F: Trinomial> FoldRing<T, TrinomialModulus<T, F>> {
     /// assert_eq!(FixedTrinomialSolinas32::<5, 4, -3>::fixed_modulus(), 13); // 32 - 16 - 3
     /// assert_eq!(FixedTrinomialSolinas64::<64, 32, 1>::fixed_modulus(), 0xffff_ffff_0000_0001);
     /// ```
-    ///
-    /// # Panics
-    ///
-    /// Panics unless the parameters are in range.
     #[track_caller]
     pub fn fixed_modulus() -> T {
         assert!(F::p1() as u32 <= T::bits() && 0 < F::p2() && F::p2() < F::p1(), "the parameters must be in range");
@@ -263,6 +263,10 @@ impl<T: TrinomialWord, F: Trinomial> FoldRing<T, TrinomialModulus<T, F>> {
 
     /// The residue of a word.
     ///
+    /// # Panics
+    ///
+    /// Panics unless the parameters are in range.
+    ///
     /// # Examples
     ///
     /// ```
@@ -270,10 +274,6 @@ impl<T: TrinomialWord, F: Trinomial> FoldRing<T, TrinomialModulus<T, F>> {
     ///
     /// assert_eq!(FixedTrinomialSolinas32::<16, 8, 1>::reduce_single(1 << 16), 255); // 2^8 - 1
     /// ```
-    ///
-    /// # Panics
-    ///
-    /// Panics unless the parameters are in range.
     #[inline]
     #[track_caller]
     pub fn reduce_single(v: T) -> T {
@@ -281,6 +281,10 @@ impl<T: TrinomialWord, F: Trinomial> FoldRing<T, TrinomialModulus<T, F>> {
     }
 
     /// The residue of a double word.
+    ///
+    /// # Panics
+    ///
+    /// Panics unless the parameters are in range.
     ///
     /// # Examples
     ///
@@ -290,10 +294,6 @@ impl<T: TrinomialWord, F: Trinomial> FoldRing<T, TrinomialModulus<T, F>> {
     /// type Goldilocks = FixedTrinomialSolinas64<64, 32, 1>;
     /// assert_eq!(Goldilocks::reduce_double(1 << 64), (1 << 32) - 1);
     /// ```
-    ///
-    /// # Panics
-    ///
-    /// Panics unless the parameters are in range.
     #[inline]
     #[track_caller]
     pub fn reduce_double(v: T::Double) -> T {
@@ -309,6 +309,10 @@ impl<T: TrinomialWord, F: Trinomial> FoldRing<T, TrinomialModulus<T, F>> {
     /// The residue of a double word, and the number of folds that make it less than 2^p1; 0 where the remainder is
     /// a division's.
     ///
+    /// # Panics
+    ///
+    /// Panics unless the parameters are in range.
+    ///
     /// # Examples
     ///
     /// ```
@@ -317,10 +321,6 @@ impl<T: TrinomialWord, F: Trinomial> FoldRing<T, TrinomialModulus<T, F>> {
     /// type Goldilocks = FixedTrinomialSolinas64<64, 32, 1>;
     /// assert_eq!(Goldilocks::reduce_counted(1 << 64), ((1 << 32) - 1, 1));
     /// ```
-    ///
-    /// # Panics
-    ///
-    /// Panics unless the parameters are in range.
     #[inline]
     #[track_caller]
     pub fn reduce_counted(v: T::Double) -> (T, u32) {

@@ -47,6 +47,10 @@ pub type FixedMontgomery32<const P: u32> = OddRing<u32, OddNumber32<P>>;
 impl<const P: u32> OddRing<u32, OddNumber32<P>> {
     /// The modulus P.
     ///
+    /// # Panics
+    ///
+    /// Panics unless the parameter P is odd.
+    ///
     /// # Examples
     ///
     /// ```
@@ -54,10 +58,6 @@ impl<const P: u32> OddRing<u32, OddNumber32<P>> {
     ///
     /// assert_eq!(FixedMontgomery32::<97>::fixed_modulus(), 97);
     /// ```
-    ///
-    /// # Panics
-    ///
-    /// Panics unless the parameter P is odd.
     #[inline]
     #[track_caller]
     pub const fn fixed_modulus() -> u32 {
@@ -135,6 +135,10 @@ pub type FixedMontgomery64<const P: u64> = OddRing<u64, OddNumber64<P>>;
 impl<const P: u64> OddRing<u64, OddNumber64<P>> {
     /// The modulus P.
     ///
+    /// # Panics
+    ///
+    /// Panics unless the parameter P is odd.
+    ///
     /// # Examples
     ///
     /// ```
@@ -142,10 +146,6 @@ impl<const P: u64> OddRing<u64, OddNumber64<P>> {
     ///
     /// assert_eq!(FixedMontgomery64::<97>::fixed_modulus(), 97);
     /// ```
-    ///
-    /// # Panics
-    ///
-    /// Panics unless the parameter P is odd.
     #[inline]
     #[track_caller]
     pub const fn fixed_modulus() -> u64 {

@@ -43,6 +43,10 @@ impl<T: ReducerWord> Copy for Montgomery<T> {}
 impl<T: ReducerWord> Montgomery<T> {
     /// The reducer of a modulus m.
     ///
+    /// # Panics
+    ///
+    /// Panics unless the modulus is at least 1.
+    ///
     /// # Examples
     ///
     /// ```
@@ -51,10 +55,6 @@ impl<T: ReducerWord> Montgomery<T> {
     /// let ring = Montgomery::of(97u8);
     /// assert_eq!(ring.residue(ring.sqr(ring.transform(10))), 3); // 100 - 97
     /// ```
-    ///
-    /// # Panics
-    ///
-    /// Panics unless the modulus is at least 1.
     #[inline]
     #[track_caller]
     pub fn of(m: T) -> Self {

@@ -15,7 +15,7 @@ use core::marker::PhantomData;
 /// # Examples
 ///
 /// ```
-/// use num_modular::rings::{OddModulus, OddRing};
+/// use num_modular::families::{OddModulus, OddRing};
 /// use num_modular::{FixedMontgomery64, FixedProth64, Reducer};
 ///
 /// fn inverse_of_two<M: OddModulus<u64>>(ring: &OddRing<u64, M>) -> Option<u64> {
@@ -27,10 +27,14 @@ use core::marker::PhantomData;
 pub trait OddModulus<T: PathWord>: Copy {
     /// What is stored of m.
     ///
+    /// # Panics
+    ///
+    /// Panics unless the type admits the modulus.
+    ///
     /// # Examples
     ///
     /// ```
-    /// use num_modular::rings::{OddModulus, OddRing};
+    /// use num_modular::families::{OddModulus, OddRing};
     /// use num_modular::FixedProth32;
     ///
     /// fn keep<M: OddModulus<u32>>(_: OddRing<u32, M>, m: u32) -> M {
@@ -38,10 +42,6 @@ pub trait OddModulus<T: PathWord>: Copy {
     /// }
     /// assert_eq!(keep(FixedProth32::<5, 3>::RING, 97).modulus(), 97);
     /// ```
-    ///
-    /// # Panics
-    ///
-    /// Panics unless the type admits the modulus.
     #[must_use]
     #[track_caller]
     fn keep(m: T) -> Self;
@@ -51,7 +51,7 @@ pub trait OddModulus<T: PathWord>: Copy {
     /// # Examples
     ///
     /// ```
-    /// use num_modular::rings::{OddModulus, OddRing};
+    /// use num_modular::families::{OddModulus, OddRing};
     /// use num_modular::FixedProth32;
     ///
     /// fn modulus_of<M: OddModulus<u32>>(_: OddRing<u32, M>, m: u32) -> u32 {
@@ -66,7 +66,7 @@ pub trait OddModulus<T: PathWord>: Copy {
     /// # Examples
     ///
     /// ```
-    /// use num_modular::rings::{OddModulus, OddRing};
+    /// use num_modular::families::{OddModulus, OddRing};
     /// use num_modular::FixedProth32;
     ///
     /// fn square_of<M: OddModulus<u32>>(_: OddRing<u32, M>, m: u32) -> u32 {
@@ -78,10 +78,15 @@ pub trait OddModulus<T: PathWord>: Copy {
 
     /// Montgomery's reduction of t, below m.
     ///
+    /// # Preconditions
+    ///
+    /// t is below the modulus times the base. This isn't tested: outside it the call panics, or returns no
+    /// meaningful result.
+    ///
     /// # Examples
     ///
     /// ```
-    /// use num_modular::rings::{OddModulus, OddRing};
+    /// use num_modular::families::{OddModulus, OddRing};
     /// use num_modular::FixedProth32;
     ///
     /// fn reduced<M: OddModulus<u32>>(_: OddRing<u32, M>, m: u32, t: u64) -> u32 {
@@ -89,11 +94,6 @@ pub trait OddModulus<T: PathWord>: Copy {
     /// }
     /// assert_eq!(reduced(FixedProth32::<5, 3>::RING, 97, 10 << 32), 10);
     /// ```
-    ///
-    /// # Preconditions
-    ///
-    /// t is below the modulus times the base. This isn't tested: outside it the call panics, or returns no
-    /// meaningful result.
     fn reduced(&self, t: T::Double) -> T;
 }
 
@@ -135,7 +135,7 @@ fn is_square_of_base<T: PathWord>(m: T, negated_inverse: T, square: T) -> bool {
 /// # Examples
 ///
 /// ```
-/// use num_modular::rings::{OddModulus, OddRing};
+/// use num_modular::families::{OddModulus, OddRing};
 /// use num_modular::{FixedMontgomery32, FixedProth32, Reducer};
 ///
 /// fn cube<M: OddModulus<u32>>(ring: &OddRing<u32, M>, n: u32) -> u32 {

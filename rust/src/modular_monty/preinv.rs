@@ -40,7 +40,7 @@ impl<T: PathWord> PreModInv<T> {
     /// use num_modular::{DivExact, PreModInv};
     ///
     /// // 7 * 183 = 5 * 256 + 1, and 255 = 36 * 7 + 3
-    /// const SEVEN: PreModInv<u8> = PreModInv::new(183, 36);
+    /// const SEVEN: PreModInv<u8> = PreModInv::<u8>::new(183, 36);
     /// assert_eq!(91u8.div_exact(7, &SEVEN), Some(13));
     /// ```
     #[inline]
@@ -52,6 +52,10 @@ impl<T: PathWord> PreModInv<T> {
 impl<T: PlainWord> PreModInv<T> {
     /// The two numbers that fit the divisor d.
     ///
+    /// # Panics
+    ///
+    /// Panics unless the divisor is odd.
+    ///
     /// # Examples
     ///
     /// ```
@@ -61,10 +65,6 @@ impl<T: PlainWord> PreModInv<T> {
     /// assert_eq!(91u8.div_exact(7, &seven), Some(13));
     /// assert_eq!(92u8.div_exact(7, &seven), None);
     /// ```
-    ///
-    /// # Panics
-    ///
-    /// Panics unless the divisor is odd.
     #[inline]
     #[track_caller]
     pub fn from(d: T) -> Self {

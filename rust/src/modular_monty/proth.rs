@@ -72,6 +72,10 @@ pub type FixedProth32<const N: u8, const K: u8> = OddRing<u32, ProthNumber32<N, 
 impl<const N: u8, const K: u8> OddRing<u32, ProthNumber32<N, K>> {
     /// The modulus K * 2^N + 1.
     ///
+    /// # Panics
+    ///
+    /// Panics unless the parameters are in range.
+    ///
     /// # Examples
     ///
     /// ```
@@ -79,10 +83,6 @@ impl<const N: u8, const K: u8> OddRing<u32, ProthNumber32<N, K>> {
     ///
     /// assert_eq!(FixedProth32::<5, 3>::fixed_modulus(), 97); // 3 * 2^5 + 1
     /// ```
-    ///
-    /// # Panics
-    ///
-    /// Panics unless the parameters are in range.
     #[inline]
     #[track_caller]
     pub const fn fixed_modulus() -> u32 {
@@ -91,6 +91,11 @@ impl<const N: u8, const K: u8> OddRing<u32, ProthNumber32<N, K>> {
 
     /// Montgomery's reduction of t: the u below the modulus with u * 2^32 congruent to t.
     ///
+    /// # Preconditions
+    ///
+    /// t is below the modulus times 2^32. This isn't tested: outside it the call panics, or returns no
+    /// meaningful result.
+    ///
     /// # Examples
     ///
     /// ```
@@ -98,11 +103,6 @@ impl<const N: u8, const K: u8> OddRing<u32, ProthNumber32<N, K>> {
     ///
     /// assert_eq!(FixedProth32::<5, 3>::RING.reduce(96 << 32), 96);
     /// ```
-    ///
-    /// # Preconditions
-    ///
-    /// t is below the modulus times 2^32. This isn't tested: outside it the call panics, or returns no
-    /// meaningful result.
     #[inline]
     pub fn reduce(&self, t: u64) -> u32 {
         self.kept.reduced(t)
@@ -205,6 +205,10 @@ pub type FixedProth64<const N: u8, const K: u8> = OddRing<u64, ProthNumber64<N, 
 impl<const N: u8, const K: u8> OddRing<u64, ProthNumber64<N, K>> {
     /// The modulus K * 2^N + 1.
     ///
+    /// # Panics
+    ///
+    /// Panics unless the parameters are in range.
+    ///
     /// # Examples
     ///
     /// ```
@@ -212,10 +216,6 @@ impl<const N: u8, const K: u8> OddRing<u64, ProthNumber64<N, K>> {
     ///
     /// assert_eq!(FixedProth64::<57, 29>::fixed_modulus(), (29 << 57) + 1);
     /// ```
-    ///
-    /// # Panics
-    ///
-    /// Panics unless the parameters are in range.
     #[inline]
     #[track_caller]
     pub const fn fixed_modulus() -> u64 {
@@ -224,6 +224,11 @@ impl<const N: u8, const K: u8> OddRing<u64, ProthNumber64<N, K>> {
 
     /// Montgomery's reduction of t: the u below the modulus with u * 2^64 congruent to t.
     ///
+    /// # Preconditions
+    ///
+    /// t is below the modulus times 2^64. This isn't tested: outside it the call panics, or returns no
+    /// meaningful result.
+    ///
     /// # Examples
     ///
     /// ```
@@ -231,11 +236,6 @@ impl<const N: u8, const K: u8> OddRing<u64, ProthNumber64<N, K>> {
     ///
     /// assert_eq!(FixedProth64::<57, 29>::RING.reduce(1000 << 64), 1000);
     /// ```
-    ///
-    /// # Preconditions
-    ///
-    /// t is below the modulus times 2^64. This isn't tested: outside it the call panics, or returns no
-    /// meaningful result.
     #[inline]
     pub fn reduce(&self, t: u128) -> u64 {
         self.kept.reduced(t)

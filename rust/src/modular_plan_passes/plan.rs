@@ -10,6 +10,10 @@ use crate::modular_prim::plain_word::PlainWord;
 /// The first entries of a plan are a plan for
 /// fewer entries, by the power of g that suits them.
 ///
+/// # Panics
+///
+/// Panics unless g is below m, and g suits n entries, n being a power of two.
+///
 /// # Examples
 ///
 /// ```
@@ -20,10 +24,6 @@ use crate::modular_prim::plain_word::PlainWord;
 /// plan(&modulus, 2, &mut table); // 2^4 = 17 - 1
 /// assert_eq!(table.map(|factor| factor.value()), [1, 2 * 2, 2, 2 * 2 * 2]);
 /// ```
-///
-/// # Panics
-///
-/// Panics unless g is below m, and g suits n entries, n being a power of two.
 #[track_caller]
 pub fn plan<T: PlainWord, F: PlanEntry<T>>(m: &PlannedModulus<T>, g: T, table: &mut [F]) {
     if table.is_empty() {

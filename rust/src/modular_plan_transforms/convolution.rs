@@ -112,6 +112,13 @@ pub const fn convolves(length: usize, factors: usize, b: usize, last: usize) -> 
 /// Source: Bernstein, "Multidigit multiplication for mathematicians", section 2: split both lists, multiply the
 /// remainders, join the products.
 ///
+/// # Panics
+///
+/// Panics unless the lists have the same length, and `last` is 1 or 2, the length is `last` times a
+/// power of two, and the table has (b + 1)·n/last/2 entries or more (`convolves` tells). A debug build
+/// also panics unless the entries are below 4m, and the table's entries are factors modulo m. A release
+/// build doesn't test that, and outside it panics, or returns no meaningful result.
+///
 /// # Examples
 ///
 /// ```
@@ -124,13 +131,6 @@ pub const fn convolves(length: usize, factors: usize, b: usize, last: usize) -> 
 /// assert!(convolve_block(&modulus, &mut xs, &mut ys, &table, 1, 2));
 /// assert_eq!(xs, [16, 0, 0, 0]); // X^3 * X is -1 modulo X^4 + 1
 /// ```
-///
-/// # Panics
-///
-/// Panics unless the lists have the same length, and `last` is 1 or 2, the length is `last` times a
-/// power of two, and the table has (b + 1)·n/last/2 entries or more (`convolves` tells). A debug build
-/// also panics unless the entries are below 4m, and the table's entries are factors modulo m. A release
-/// build doesn't test that, and outside it panics, or returns no meaningful result.
 #[track_caller]
 pub fn convolve_block<T: PlainWord, F: PlanEntry<T>>(
     m: &PlannedModulus<T>,
@@ -159,6 +159,10 @@ pub fn convolve_block<T: PlainWord, F: PlanEntry<T>>(
 /// x_i·y_j modulo m over i + j = e or e + n. Returns false, with both lists unchanged, exactly where the number
 /// n/last of blocks has no inverse modulo m.
 ///
+/// # Panics
+///
+/// Panics unless the conditions of `convolve_block` hold.
+///
 /// # Examples
 ///
 /// ```
@@ -171,10 +175,6 @@ pub fn convolve_block<T: PlainWord, F: PlanEntry<T>>(
 /// assert!(convolve_planned(&modulus, &mut xs, &mut ys, &table, 1));
 /// assert_eq!(xs, [3, 10, 8, 0]); // (1 + 2X)(3 + 4X)
 /// ```
-///
-/// # Panics
-///
-/// Panics unless the conditions of `convolve_block` hold.
 #[inline]
 #[track_caller]
 pub fn convolve_planned<T: PlainWord, F: PlanEntry<T>>(
@@ -191,6 +191,10 @@ pub fn convolve_planned<T: PlainWord, F: PlanEntry<T>>(
 /// of x_i·y_j modulo m over i + j = e, less that over i + j = e + n. Returns false, with both lists unchanged,
 /// exactly where the number n/last of blocks has no inverse modulo m.
 ///
+/// # Panics
+///
+/// Panics unless the conditions of `convolve_block` hold.
+///
 /// # Examples
 ///
 /// ```
@@ -203,10 +207,6 @@ pub fn convolve_planned<T: PlainWord, F: PlanEntry<T>>(
 /// assert!(convolve_negacyclic(&modulus, &mut xs, &mut ys, &table, 2));
 /// assert_eq!(xs, [13, 1, 2, 3]); // times X; -4 + 17
 /// ```
-///
-/// # Panics
-///
-/// Panics unless the conditions of `convolve_block` hold.
 #[inline]
 #[track_caller]
 pub fn convolve_negacyclic<T: PlainWord, F: PlanEntry<T>>(

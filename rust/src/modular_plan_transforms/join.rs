@@ -133,6 +133,13 @@ fn join_scaled_by<T: PlainWord, F: PlanEntry<T>, M: JoinSteps<T>>(
 /// Source: each step undoes one of `split` but for the factor 2, as in Gentleman and Sande, "Fast Fourier
 /// transforms: for fun and profit", section 2.
 ///
+/// # Panics
+///
+/// Panics unless the number of entries is `last` times a power of two, and the table has (b +
+/// 1)·count/2 entries or more (`splits` tells). A debug build also panics unless the entries are below
+/// 4m, and the table's entries are factors modulo m. A release build doesn't test that, and outside it
+/// panics, or returns no meaningful result.
+///
 /// # Examples
 ///
 /// ```
@@ -145,13 +152,6 @@ fn join_scaled_by<T: PlainWord, F: PlanEntry<T>, M: JoinSteps<T>>(
 /// join(&modulus, &mut entries, &table, 0, 1);
 /// assert_eq!(entries, [4, 8, 12, 16]);
 /// ```
-///
-/// # Panics
-///
-/// Panics unless the number of entries is `last` times a power of two, and the table has (b +
-/// 1)·count/2 entries or more (`splits` tells). A debug build also panics unless the entries are below
-/// 4m, and the table's entries are factors modulo m. A release build doesn't test that, and outside it
-/// panics, or returns no meaningful result.
 #[inline]
 #[track_caller]
 pub fn join<T: PlainWord, F: PlanEntry<T>>(
@@ -174,6 +174,13 @@ pub fn join<T: PlainWord, F: PlanEntry<T>>(
 /// Joins the blocks as `join` does and multiplies each coefficient by a factor. With the inverse modulo m of the
 /// number of blocks as the factor, the results are the coefficients themselves.
 ///
+/// # Panics
+///
+/// Panics unless the number of entries is `last` times a power of two, and the table has (b +
+/// 1)·count/2 entries or more (`splits` tells). A debug build also panics unless the entries are below
+/// 4m, and the table's entries are factors modulo m, and w is a factor modulo m. A release build
+/// doesn't test that, and outside it panics, or returns no meaningful result.
+///
 /// # Examples
 ///
 /// ```
@@ -186,13 +193,6 @@ pub fn join<T: PlainWord, F: PlanEntry<T>>(
 /// join_scaled(&modulus, &mut entries, &table, 0, 1, &modulus.factor(13)); // 4 * 13 = 3 * 17 + 1
 /// assert_eq!(entries, [1, 2, 3, 4]);
 /// ```
-///
-/// # Panics
-///
-/// Panics unless the number of entries is `last` times a power of two, and the table has (b +
-/// 1)·count/2 entries or more (`splits` tells). A debug build also panics unless the entries are below
-/// 4m, and the table's entries are factors modulo m, and w is a factor modulo m. A release build
-/// doesn't test that, and outside it panics, or returns no meaningful result.
 #[inline]
 #[track_caller]
 pub fn join_scaled<T: PlainWord, F: PlanEntry<T>>(

@@ -97,6 +97,11 @@ impl<'a, T: PlainWord, F: PlanEntry<T>> Plan<'a, T, F> {
     /// The plan for n entries, by the power of the root that suits them, with the first n/2 entries of the
     /// table.
     ///
+    /// # Panics
+    ///
+    /// Panics unless n is a power of two, from 2 to the number of entries of this plan (`has_shorter`
+    /// tells).
+    ///
     /// # Examples
     ///
     /// ```
@@ -107,11 +112,6 @@ impl<'a, T: PlainWord, F: PlanEntry<T>> Plan<'a, T, F> {
     /// let shorter = plan.shorter(4);
     /// assert_eq!((shorter.bits(), shorter.root()), (2, 4));
     /// ```
-    ///
-    /// # Panics
-    ///
-    /// Panics unless n is a power of two, from 2 to the number of entries of this plan (`has_shorter`
-    /// tells).
     #[inline]
     #[track_caller]
     pub fn shorter(&self, n: usize) -> Plan<'a, T, F> {
@@ -259,6 +259,12 @@ impl<'a, T: PlainWord, F: PlanEntry<T>> Plan<'a, T, F> {
     ///
     /// Source: `split`, and a reversal of the bits of the indexes.
     ///
+    /// # Panics
+    ///
+    /// Panics unless the list has n entries (`fits` tells). A debug build also panics unless the entries
+    /// are below 4m. A release build doesn't test that, and outside it panics, or returns no meaningful
+    /// result.
+    ///
     /// # Examples
     ///
     /// ```
@@ -270,12 +276,6 @@ impl<'a, T: PlainWord, F: PlanEntry<T>> Plan<'a, T, F> {
     /// plan.transform(&mut entries);
     /// assert_eq!(entries, [10, 7, 15, 6]); // 1 + 2X + 3X^2 + 4X^3 at 1, 4, -1 and -4
     /// ```
-    ///
-    /// # Panics
-    ///
-    /// Panics unless the list has n entries (`fits` tells). A debug build also panics unless the entries
-    /// are below 4m. A release build doesn't test that, and outside it panics, or returns no meaningful
-    /// result.
     #[inline]
     #[track_caller]
     pub fn transform(&self, xs: &mut [T]) {
@@ -289,6 +289,12 @@ impl<'a, T: PlainWord, F: PlanEntry<T>> Plan<'a, T, F> {
     ///
     /// Source: a reversal of the bits of the indexes, and `join`, times the inverse of n.
     ///
+    /// # Panics
+    ///
+    /// Panics unless the list has n entries (`fits` tells). A debug build also panics unless the entries
+    /// are below 4m. A release build doesn't test that, and outside it panics, or returns no meaningful
+    /// result.
+    ///
     /// # Examples
     ///
     /// ```
@@ -300,12 +306,6 @@ impl<'a, T: PlainWord, F: PlanEntry<T>> Plan<'a, T, F> {
     /// plan.inverse(&mut entries);
     /// assert_eq!(entries, [1, 2, 3, 4]);
     /// ```
-    ///
-    /// # Panics
-    ///
-    /// Panics unless the list has n entries (`fits` tells). A debug build also panics unless the entries
-    /// are below 4m. A release build doesn't test that, and outside it panics, or returns no meaningful
-    /// result.
     #[inline]
     #[track_caller]
     pub fn inverse(&self, xs: &mut [T]) {
@@ -323,6 +323,12 @@ impl<'a, T: PlainWord, F: PlanEntry<T>> Plan<'a, T, F> {
     /// So b = 0 and last = 1 give the transform in bit-reversed order, and b = 1 starts from a polynomial modulo X^h
     /// + 1, h being the length of the list.
     ///
+    /// # Panics
+    ///
+    /// Panics unless the length is `last` times a power of two, and (b + 1)·count is at most n, or count is
+    /// 1 (`splits` tells). A debug build also panics unless the entries are below 4m. A release build
+    /// doesn't test that, and outside it panics, or returns no meaningful result.
+    ///
     /// # Examples
     ///
     /// ```
@@ -334,12 +340,6 @@ impl<'a, T: PlainWord, F: PlanEntry<T>> Plan<'a, T, F> {
     /// plan.split(&mut entries, 0, 2);
     /// assert_eq!(entries, [4, 6, 15, 15]); // 4 + 6X modulo X^2 - 1, and -2 - 2X modulo X^2 + 1
     /// ```
-    ///
-    /// # Panics
-    ///
-    /// Panics unless the length is `last` times a power of two, and (b + 1)·count is at most n, or count is
-    /// 1 (`splits` tells). A debug build also panics unless the entries are below 4m. A release build
-    /// doesn't test that, and outside it panics, or returns no meaningful result.
     #[inline]
     #[track_caller]
     pub fn split(&self, xs: &mut [T], b: usize, last: usize) {
@@ -350,6 +350,12 @@ impl<'a, T: PlainWord, F: PlanEntry<T>> Plan<'a, T, F> {
 
     /// Undoes `split`, in place: where the entries are the remainders of a polynomial, they become its coefficients,
     /// residues below m.
+    ///
+    /// # Panics
+    ///
+    /// Panics unless the length is `last` times a power of two, and (b + 1)·count is at most n, or count is
+    /// 1 (`splits` tells). A debug build also panics unless the entries are below 4m. A release build
+    /// doesn't test that, and outside it panics, or returns no meaningful result.
     ///
     /// # Examples
     ///
@@ -362,12 +368,6 @@ impl<'a, T: PlainWord, F: PlanEntry<T>> Plan<'a, T, F> {
     /// plan.join(&mut entries, 0, 2);
     /// assert_eq!(entries, [1, 2, 3, 4]);
     /// ```
-    ///
-    /// # Panics
-    ///
-    /// Panics unless the length is `last` times a power of two, and (b + 1)·count is at most n, or count is
-    /// 1 (`splits` tells). A debug build also panics unless the entries are below 4m. A release build
-    /// doesn't test that, and outside it panics, or returns no meaningful result.
     #[inline]
     #[track_caller]
     pub fn join(&self, xs: &mut [T], b: usize, last: usize) {
@@ -378,6 +378,11 @@ impl<'a, T: PlainWord, F: PlanEntry<T>> Plan<'a, T, F> {
     }
 
     /// Multiplies each entry of xs by the entry of ys with the same index, modulo m.
+    ///
+    /// # Panics
+    ///
+    /// Panics unless the lists have the same length. A debug build also panics unless the entries of xs are
+    /// below m. A release build doesn't test that, and outside it panics, or returns no meaningful result.
     ///
     /// # Examples
     ///
@@ -390,11 +395,6 @@ impl<'a, T: PlainWord, F: PlanEntry<T>> Plan<'a, T, F> {
     /// plan.multiply(&mut entries, &[5, 7]);
     /// assert_eq!(entries, [10, 4]); // 21 - 17
     /// ```
-    ///
-    /// # Panics
-    ///
-    /// Panics unless the lists have the same length. A debug build also panics unless the entries of xs are
-    /// below m. A release build doesn't test that, and outside it panics, or returns no meaningful result.
     #[inline]
     #[track_caller]
     pub fn multiply(&self, xs: &mut [T], ys: &[T]) {
@@ -409,6 +409,13 @@ impl<'a, T: PlainWord, F: PlanEntry<T>> Plan<'a, T, F> {
     /// Source: Bernstein, "Multidigit multiplication for mathematicians", section 2: split both lists, multiply the
     /// remainders, join the products.
     ///
+    /// # Panics
+    ///
+    /// Panics unless the lists have the same length h, and `last` is 1 or 2, h is `last` times a power of
+    /// two, and (b + 1)·h/last is at most n (`convolves` tells). A debug build also panics unless the
+    /// entries are below 4m. A release build doesn't test that, and outside it panics, or returns no
+    /// meaningful result.
+    ///
     /// # Examples
     ///
     /// ```
@@ -420,13 +427,6 @@ impl<'a, T: PlainWord, F: PlanEntry<T>> Plan<'a, T, F> {
     /// plan.convolve_block(&mut xs, &mut ys, 1, 1);
     /// assert_eq!(xs, [11, 0]); // 3X * 2X is -6 modulo X^2 + 1
     /// ```
-    ///
-    /// # Panics
-    ///
-    /// Panics unless the lists have the same length h, and `last` is 1 or 2, h is `last` times a power of
-    /// two, and (b + 1)·h/last is at most n (`convolves` tells). A debug build also panics unless the
-    /// entries are below 4m. A release build doesn't test that, and outside it panics, or returns no
-    /// meaningful result.
     #[inline]
     #[track_caller]
     pub fn convolve_block(&self, xs: &mut [T], ys: &mut [T], b: usize, last: usize) {
@@ -440,6 +440,12 @@ impl<'a, T: PlainWord, F: PlanEntry<T>> Plan<'a, T, F> {
     /// Replaces xs by the cyclic product of two lists of n entries: entry e becomes the sum of x_i·y_j modulo m over
     /// i + j = e or e + n. ys becomes its transform in bit-reversed order.
     ///
+    /// # Panics
+    ///
+    /// Panics unless the lists have n entries (`fits` tells). A debug build also panics unless the entries
+    /// are below 4m. A release build doesn't test that, and outside it panics, or returns no meaningful
+    /// result.
+    ///
     /// # Examples
     ///
     /// ```
@@ -451,12 +457,6 @@ impl<'a, T: PlainWord, F: PlanEntry<T>> Plan<'a, T, F> {
     /// plan.convolve(&mut xs, &mut ys);
     /// assert_eq!(xs, [3, 10, 8, 0]); // (1 + 2X)(3 + 4X)
     /// ```
-    ///
-    /// # Panics
-    ///
-    /// Panics unless the lists have n entries (`fits` tells). A debug build also panics unless the entries
-    /// are below 4m. A release build doesn't test that, and outside it panics, or returns no meaningful
-    /// result.
     #[inline]
     #[track_caller]
     pub fn convolve(&self, xs: &mut [T], ys: &mut [T]) {
@@ -469,6 +469,12 @@ impl<'a, T: PlainWord, F: PlanEntry<T>> Plan<'a, T, F> {
     /// over i + j = e, less that over i + j = e + n. ys becomes its remainders modulo X^2 - c, as `split`
     /// computes them.
     ///
+    /// # Panics
+    ///
+    /// Panics unless the lists have n entries (`fits` tells). A debug build also panics unless the entries
+    /// are below 4m. A release build doesn't test that, and outside it panics, or returns no meaningful
+    /// result.
+    ///
     /// # Examples
     ///
     /// ```
@@ -480,12 +486,6 @@ impl<'a, T: PlainWord, F: PlanEntry<T>> Plan<'a, T, F> {
     /// plan.convolve_negacyclic(&mut xs, &mut ys);
     /// assert_eq!(xs, [13, 1, 2, 3]); // times X; -4 + 17
     /// ```
-    ///
-    /// # Panics
-    ///
-    /// Panics unless the lists have n entries (`fits` tells). A debug build also panics unless the entries
-    /// are below 4m. A release build doesn't test that, and outside it panics, or returns no meaningful
-    /// result.
     #[inline]
     #[track_caller]
     pub fn convolve_negacyclic(&self, xs: &mut [T], ys: &mut [T]) {

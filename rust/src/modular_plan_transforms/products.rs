@@ -102,6 +102,13 @@ fn multiply_pairs<T: PlainWord, F: PlanEntry<T>>(
 /// polynomials modulo X^last - c, with the constants c of `split`. So the products of two lists of remainders are
 /// the remainders of a product. For `last` = 1 entries of equal index are multiplied.
 ///
+/// # Preconditions
+///
+/// `last` is 1 or 2, and the lists have the same length, a multiple of `last`, and the entries of xs
+/// are below m, and the table's entries are factors modulo m, and there are (b + 1)·count/2 of them or
+/// more, count being the number of blocks. This isn't tested: outside it the call panics, or returns no
+/// meaningful result.
+///
 /// # Examples
 ///
 /// ```
@@ -114,13 +121,6 @@ fn multiply_pairs<T: PlainWord, F: PlanEntry<T>>(
 /// multiply(&modulus, &mut entries, &[5, 7], &table, 0, 1);
 /// assert_eq!(entries, [10, 4]); // 21 - 17
 /// ```
-///
-/// # Preconditions
-///
-/// `last` is 1 or 2, and the lists have the same length, a multiple of `last`, and the entries of xs
-/// are below m, and the table's entries are factors modulo m, and there are (b + 1)·count/2 of them or
-/// more, count being the number of blocks. This isn't tested: outside it the call panics, or returns no
-/// meaningful result.
 #[inline]
 pub fn multiply<T: PlainWord, F: PlanEntry<T>>(
     m: &PlannedModulus<T>,

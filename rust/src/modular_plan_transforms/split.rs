@@ -95,6 +95,13 @@ pub fn split_loosely<T: PlainWord, F: PlanEntry<T>>(
 /// Source: the sums and differences of Cooley and Tukey with one factor for each block, as in Bernstein,
 /// "Multidigit multiplication for mathematicians", section 2.
 ///
+/// # Panics
+///
+/// Panics unless the number of entries is `last` times a power of two, and the table has at least (b +
+/// 1)·(count/2) entries (`splits` tells). A debug build also panics unless the entries are below 4m,
+/// and the table's entries are factors modulo m. A release build doesn't test that, and outside it
+/// panics, or returns no meaningful result.
+///
 /// # Examples
 ///
 /// ```
@@ -107,13 +114,6 @@ pub fn split_loosely<T: PlainWord, F: PlanEntry<T>>(
 /// split(&modulus, &mut entries, &table, 0, 1);
 /// assert_eq!(entries, [10, 15, 7, 6]); // 1 + 2X + 3X^2 + 4X^3 at 1, -1, 4 and -4
 /// ```
-///
-/// # Panics
-///
-/// Panics unless the number of entries is `last` times a power of two, and the table has at least (b +
-/// 1)·(count/2) entries (`splits` tells). A debug build also panics unless the entries are below 4m,
-/// and the table's entries are factors modulo m. A release build doesn't test that, and outside it
-/// panics, or returns no meaningful result.
 #[inline]
 #[track_caller]
 pub fn split<T: PlainWord, F: PlanEntry<T>>(

@@ -11,6 +11,12 @@ use crate::modular_transform::order::reverse_places;
 ///
 /// Source: `split`, and a reversal of the bits of the indexes.
 ///
+/// # Panics
+///
+/// Panics unless n is a power of two, and at most twice as many as the table's factors. A debug build
+/// also panics unless the entries are below 4m, and these are factors modulo m. A release build doesn't
+/// test that, and outside it panics, or returns no meaningful result.
+///
 /// # Examples
 ///
 /// ```
@@ -23,12 +29,6 @@ use crate::modular_transform::order::reverse_places;
 /// ntt_planned(&modulus, &mut entries, &table);
 /// assert_eq!(entries, [10, 7, 15, 6]); // 1 + 2X + 3X^2 + 4X^3 at 1, 4, -1 and -4
 /// ```
-///
-/// # Panics
-///
-/// Panics unless n is a power of two, and at most twice as many as the table's factors. A debug build
-/// also panics unless the entries are below 4m, and these are factors modulo m. A release build doesn't
-/// test that, and outside it panics, or returns no meaningful result.
 #[inline]
 #[track_caller]
 pub fn ntt_planned<T: PlainWord, F: PlanEntry<T>>(m: &PlannedModulus<T>, xs: &mut [T], table: &[F]) {

@@ -22,6 +22,11 @@ pub trait DivExact<Rhs, Precompute>: Sized {
 
     /// The quotient by d; `None` exactly where d doesn't divide the number.
     ///
+    /// # Preconditions
+    ///
+    /// `pre` fits the divisor d. This isn't tested: outside it the call panics, or returns no meaningful
+    /// result.
+    ///
     /// # Examples
     ///
     /// ```
@@ -31,11 +36,6 @@ pub trait DivExact<Rhs, Precompute>: Sized {
     /// assert_eq!(3600u32.div_exact(60, &sixty), Some(60));
     /// assert_eq!(3601u32.div_exact(60, &sixty), None);
     /// ```
-    ///
-    /// # Preconditions
-    ///
-    /// `pre` fits the divisor d. This isn't tested: outside it the call panics, or returns no meaningful
-    /// result.
     fn div_exact(self, d: Rhs, pre: &Precompute) -> Option<Self::Output>;
 }
 
@@ -54,6 +54,11 @@ pub trait DivExactAssign<Rhs, Precompute>: Sized + DivExact<Rhs, Precompute, Out
     /// Replaces the number by its quotient by d and returns true. Where d doesn't divide the number, returns false
     /// and leaves it unchanged.
     ///
+    /// # Preconditions
+    ///
+    /// `pre` fits the divisor d. This isn't tested: outside it the call panics, or returns no meaningful
+    /// result.
+    ///
     /// # Examples
     ///
     /// ```
@@ -64,11 +69,6 @@ pub trait DivExactAssign<Rhs, Precompute>: Sized + DivExact<Rhs, Precompute, Out
     /// assert!(!n.div_exact_assign(7, &seven));
     /// assert_eq!(n, 92);
     /// ```
-    ///
-    /// # Preconditions
-    ///
-    /// `pre` fits the divisor d. This isn't tested: outside it the call panics, or returns no meaningful
-    /// result.
     fn div_exact_assign(&mut self, d: Rhs, pre: &Precompute) -> bool;
 }
 

@@ -101,6 +101,10 @@ fn inverse_below<T: PathWord>(x: T, m: T) -> Option<T> {
 ///
 /// Source: Kaliski, "The Montgomery inverse and its applications", IEEE Transactions on Computers 44, 1995.
 ///
+/// # Preconditions
+///
+/// m is odd. This isn't tested: outside it the call panics, or returns no meaningful result.
+///
 /// # Examples
 ///
 /// ```
@@ -109,10 +113,6 @@ fn inverse_below<T: PathWord>(x: T, m: T) -> Option<T> {
 /// assert_eq!(inverse(3u64, 7), Some(5)); // 3 * 5 = 15
 /// assert_eq!(inverse(6u64, 9), None); // 3 divides both
 /// ```
-///
-/// # Preconditions
-///
-/// m is odd. This isn't tested: outside it the call panics, or returns no meaningful result.
 #[inline]
 pub fn inverse_by_subtraction<T: PlainWord>(a: T, m: T) -> Option<T> {
     inverse_below(reduced(a, m), m)

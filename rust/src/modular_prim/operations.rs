@@ -18,6 +18,10 @@ pub trait ModularCoreOps<Rhs = Self, Modulus = Self>: Sized {
 
     /// The residue of the sum.
     ///
+    /// # Panics
+    ///
+    /// Panics unless m is at least 1.
+    ///
     /// # Examples
     ///
     /// ```
@@ -26,14 +30,14 @@ pub trait ModularCoreOps<Rhs = Self, Modulus = Self>: Sized {
     /// assert_eq!(5u32.addm(4u32, &7), 2);
     /// assert_eq!(255u8.addm(255u8, &100), 10); // 510 modulo 100
     /// ```
-    ///
-    /// # Panics
-    ///
-    /// Panics unless m is at least 1.
     #[cfg_attr(debug_assertions, track_caller)]
     fn addm(self, rhs: Rhs, m: Modulus) -> Self::Output;
 
     /// The residue of the difference.
+    ///
+    /// # Panics
+    ///
+    /// Panics unless m is at least 1.
     ///
     /// # Examples
     ///
@@ -43,14 +47,14 @@ pub trait ModularCoreOps<Rhs = Self, Modulus = Self>: Sized {
     /// assert_eq!(5u32.subm(4u32, &7), 1);
     /// assert_eq!(4u32.subm(5u32, &7), 6); // -1 modulo 7
     /// ```
-    ///
-    /// # Panics
-    ///
-    /// Panics unless m is at least 1.
     #[cfg_attr(debug_assertions, track_caller)]
     fn subm(self, rhs: Rhs, m: Modulus) -> Self::Output;
 
     /// The residue of the product.
+    ///
+    /// # Panics
+    ///
+    /// Panics unless m is at least 1.
     ///
     /// # Examples
     ///
@@ -60,10 +64,6 @@ pub trait ModularCoreOps<Rhs = Self, Modulus = Self>: Sized {
     /// assert_eq!(5u32.mulm(4u32, &7), 6);
     /// assert_eq!(255u8.mulm(255u8, &100), 25); // 65025 modulo 100
     /// ```
-    ///
-    /// # Panics
-    ///
-    /// Panics unless m is at least 1.
     #[cfg_attr(debug_assertions, track_caller)]
     fn mulm(self, rhs: Rhs, m: Modulus) -> Self::Output;
 }
@@ -86,6 +86,10 @@ pub trait ModularUnaryOps<Modulus = Self>: Sized {
 
     /// The residue of the negative.
     ///
+    /// # Panics
+    ///
+    /// Panics unless m is at least 1.
+    ///
     /// # Examples
     ///
     /// ```
@@ -94,14 +98,14 @@ pub trait ModularUnaryOps<Modulus = Self>: Sized {
     /// assert_eq!(3u32.negm(&7), 4);
     /// assert_eq!(7u32.negm(&7), 0);
     /// ```
-    ///
-    /// # Panics
-    ///
-    /// Panics unless m is at least 1.
     #[cfg_attr(debug_assertions, track_caller)]
     fn negm(self, m: Modulus) -> Self::Output;
 
     /// The inverse modulo m, 0 for m = 1; `None` exactly where there is none.
+    ///
+    /// # Panics
+    ///
+    /// Panics unless m is at least 1.
     ///
     /// # Examples
     ///
@@ -111,14 +115,14 @@ pub trait ModularUnaryOps<Modulus = Self>: Sized {
     /// assert_eq!(3u32.invm(&10), Some(7)); // 3 * 7 = 21
     /// assert_eq!(4u32.invm(&10), None); // 2 divides both
     /// ```
-    ///
-    /// # Panics
-    ///
-    /// Panics unless m is at least 1.
     #[cfg_attr(debug_assertions, track_caller)]
     fn invm(self, m: Modulus) -> Option<Self::Output>;
 
     /// The residue of the double.
+    ///
+    /// # Panics
+    ///
+    /// Panics unless m is at least 1.
     ///
     /// # Examples
     ///
@@ -127,14 +131,14 @@ pub trait ModularUnaryOps<Modulus = Self>: Sized {
     ///
     /// assert_eq!(200u8.dblm(&251), 149); // 400 - 251
     /// ```
-    ///
-    /// # Panics
-    ///
-    /// Panics unless m is at least 1.
     #[cfg_attr(debug_assertions, track_caller)]
     fn dblm(self, m: Modulus) -> Self::Output;
 
     /// The residue of the square.
+    ///
+    /// # Panics
+    ///
+    /// Panics unless m is at least 1.
     ///
     /// # Examples
     ///
@@ -143,10 +147,6 @@ pub trait ModularUnaryOps<Modulus = Self>: Sized {
     ///
     /// assert_eq!(16u8.sqm(&251), 5); // 256 - 251
     /// ```
-    ///
-    /// # Panics
-    ///
-    /// Panics unless m is at least 1.
     #[cfg_attr(debug_assertions, track_caller)]
     fn sqm(self, m: Modulus) -> Self::Output;
 }
@@ -166,6 +166,10 @@ pub trait ModularPow<Exp = Self, Modulus = Self>: Sized {
 
     /// The residue of the base to the power `exp`; for the exponent 0, the residue of 1.
     ///
+    /// # Panics
+    ///
+    /// Panics unless m is at least 1.
+    ///
     /// # Examples
     ///
     /// ```
@@ -174,10 +178,6 @@ pub trait ModularPow<Exp = Self, Modulus = Self>: Sized {
     /// assert_eq!(2u32.powm(10, &1000), 24); // 1024 modulo 1000
     /// assert_eq!(2u32.powm(0, &1000), 1);
     /// ```
-    ///
-    /// # Panics
-    ///
-    /// Panics unless m is at least 1.
     #[cfg_attr(debug_assertions, track_caller)]
     fn powm(self, exp: Exp, m: Modulus) -> Self::Output;
 }
@@ -194,6 +194,10 @@ pub trait ModularPow<Exp = Self, Modulus = Self>: Sized {
 pub trait ModularAbs<Modulus = Self>: Sized {
     /// The residue of a signed number: the only number from 0 to m - 1 from which it differs by a multiple of m.
     ///
+    /// # Panics
+    ///
+    /// Panics unless m is at least 1.
+    ///
     /// # Examples
     ///
     /// ```
@@ -202,10 +206,6 @@ pub trait ModularAbs<Modulus = Self>: Sized {
     /// assert_eq!((-10i8).absm(&7u8), 4); // -10 + 2 * 7
     /// assert_eq!(10i8.absm(&7u8), 3);
     /// ```
-    ///
-    /// # Panics
-    ///
-    /// Panics unless m is at least 1.
     #[cfg_attr(debug_assertions, track_caller)]
     fn absm(self, m: &Modulus) -> Modulus;
 }

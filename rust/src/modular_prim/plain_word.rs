@@ -19,6 +19,10 @@ use crate::modular_word::word::wsize;
 pub trait PlainWord: Sized + PathWord {
     /// The quotient of two words, rounded down.
     ///
+    /// # Panics
+    ///
+    /// Panics unless the divisor is at least 1.
+    ///
     /// # Examples
     ///
     /// ```
@@ -26,15 +30,15 @@ pub trait PlainWord: Sized + PathWord {
     ///
     /// assert_eq!(100u8.quotient(7), 14);
     /// ```
-    ///
-    /// # Panics
-    ///
-    /// Panics unless the divisor is at least 1.
     #[must_use]
     #[cfg_attr(debug_assertions, track_caller)]
     fn quotient(self, d: Self) -> Self;
 
     /// The remainder of two words.
+    ///
+    /// # Panics
+    ///
+    /// Panics unless the modulus is at least 1.
     ///
     /// # Examples
     ///
@@ -43,15 +47,15 @@ pub trait PlainWord: Sized + PathWord {
     ///
     /// assert_eq!(100u8.remainder(7), 2);
     /// ```
-    ///
-    /// # Panics
-    ///
-    /// Panics unless the modulus is at least 1.
     #[must_use]
     #[cfg_attr(debug_assertions, track_caller)]
     fn remainder(self, d: Self) -> Self;
 
     /// The low word of the quotient of a double word by a word, rounded down.
+    ///
+    /// # Panics
+    ///
+    /// Panics unless the divisor is at least 1.
     ///
     /// # Examples
     ///
@@ -61,15 +65,15 @@ pub trait PlainWord: Sized + PathWord {
     /// assert_eq!(u8::low_quotient(1000, 7), 142);
     /// assert_eq!(u8::low_quotient(2000, 7), 29); // 285 - 256
     /// ```
-    ///
-    /// # Panics
-    ///
-    /// Panics unless the divisor is at least 1.
     #[must_use]
     #[cfg_attr(debug_assertions, track_caller)]
     fn low_quotient(double: Self::Double, d: Self) -> Self;
 
     /// The remainder of a double word by a word.
+    ///
+    /// # Panics
+    ///
+    /// Panics unless the modulus is at least 1.
     ///
     /// # Examples
     ///
@@ -78,10 +82,6 @@ pub trait PlainWord: Sized + PathWord {
     ///
     /// assert_eq!(u8::narrow_remainder(2000, 7), 5);
     /// ```
-    ///
-    /// # Panics
-    ///
-    /// Panics unless the modulus is at least 1.
     #[must_use]
     #[cfg_attr(debug_assertions, track_caller)]
     fn narrow_remainder(double: Self::Double, d: Self) -> Self;

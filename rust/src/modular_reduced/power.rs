@@ -30,6 +30,11 @@ fn binary_power<T: RingWord, R: Reducer<T>>(reducer: &R, base: T, exp: T) -> (T,
 /// Source: Knuth, The Art of Computer Programming, volume 2, section 4.6.3, algorithm A, with a square at the last
 /// digit too.
 ///
+/// # Preconditions
+///
+/// The base is a checked form. This isn't tested: outside it the call panics, or returns no meaningful
+/// result.
+///
 /// # Examples
 ///
 /// ```
@@ -40,11 +45,6 @@ fn binary_power<T: RingWord, R: Reducer<T>>(reducer: &R, base: T, exp: T) -> (T,
 /// // 3^5 = 243 = 2 * 97 + 49; 5 has three binary digits, two of which are 1
 /// assert_eq!(pow_counted(&ring, 3, &5), (49, 3 + 2));
 /// ```
-///
-/// # Preconditions
-///
-/// The base is a checked form. This isn't tested: outside it the call panics, or returns no meaningful
-/// result.
 pub fn pow_counted<T: RingWord, R: Reducer<T>>(reducer: &R, base: T, exp: &T) -> (T, u32) {
     if *exp == T::one() {
         return (base, 0);

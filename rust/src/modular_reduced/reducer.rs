@@ -21,6 +21,10 @@ use crate::modular_word::ring_word::RingWord;
 pub trait Reducer<T: RingWord>: Sized {
     /// The reducer of a modulus.
     ///
+    /// # Panics
+    ///
+    /// Panics unless the reducer admits the modulus.
+    ///
     /// # Examples
     ///
     /// ```
@@ -32,10 +36,6 @@ pub trait Reducer<T: RingWord>: Sized {
     /// }
     /// assert_eq!(product::<Vanilla<u64>>(1000, 3, 97), 90); // 3000 modulo 97
     /// ```
-    ///
-    /// # Panics
-    ///
-    /// Panics unless the reducer admits the modulus.
     #[must_use]
     #[track_caller]
     fn new(m: &T) -> Self;
@@ -79,6 +79,11 @@ pub trait Reducer<T: RingWord>: Sized {
 
     /// The value of a form: a number below the modulus.
     ///
+    /// # Preconditions
+    ///
+    /// Each form is checked. This isn't tested: outside it the call panics, or returns no meaningful
+    /// result.
+    ///
     /// # Examples
     ///
     /// ```
@@ -87,14 +92,14 @@ pub trait Reducer<T: RingWord>: Sized {
     /// let ring = Montgomery::<u64>::new(97);
     /// assert_eq!(ring.residue(ring.transform(100)), 3);
     /// ```
+    fn residue(&self, f: T) -> T;
+
+    /// Whether the value of a form is 0.
     ///
     /// # Preconditions
     ///
     /// Each form is checked. This isn't tested: outside it the call panics, or returns no meaningful
     /// result.
-    fn residue(&self, f: T) -> T;
-
-    /// Whether the value of a form is 0.
     ///
     /// # Examples
     ///
@@ -105,14 +110,14 @@ pub trait Reducer<T: RingWord>: Sized {
     /// assert!(ring.is_zero(&ring.transform(194))); // 2 * 97
     /// assert!(!ring.is_zero(&ring.transform(195)));
     /// ```
+    fn is_zero(&self, f: &T) -> bool;
+
+    /// The form of the sum modulo m.
     ///
     /// # Preconditions
     ///
     /// Each form is checked. This isn't tested: outside it the call panics, or returns no meaningful
     /// result.
-    fn is_zero(&self, f: &T) -> bool;
-
-    /// The form of the sum modulo m.
     ///
     /// # Examples
     ///
@@ -123,14 +128,14 @@ pub trait Reducer<T: RingWord>: Sized {
     /// let (x, y) = (ring.transform(60), ring.transform(50));
     /// assert_eq!(ring.residue(ring.add(&x, &y)), 13); // 110 - 97
     /// ```
+    fn add(&self, a: &T, b: &T) -> T;
+
+    /// `add`, in place of the first operand.
     ///
     /// # Preconditions
     ///
     /// Each form is checked. This isn't tested: outside it the call panics, or returns no meaningful
     /// result.
-    fn add(&self, a: &T, b: &T) -> T;
-
-    /// `add`, in place of the first operand.
     ///
     /// # Examples
     ///
@@ -142,17 +147,17 @@ pub trait Reducer<T: RingWord>: Sized {
     /// ring.add_in_place(&mut sum, &50);
     /// assert_eq!(sum, 13);
     /// ```
-    ///
-    /// # Preconditions
-    ///
-    /// Each form is checked. This isn't tested: outside it the call panics, or returns no meaningful
-    /// result.
     #[inline]
     fn add_in_place(&self, a: &mut T, b: &T) {
         *a = self.add(a, b);
     }
 
     /// The form of the double modulo m.
+    ///
+    /// # Preconditions
+    ///
+    /// Each form is checked. This isn't tested: outside it the call panics, or returns no meaningful
+    /// result.
     ///
     /// # Examples
     ///
@@ -162,14 +167,14 @@ pub trait Reducer<T: RingWord>: Sized {
     /// let ring = Montgomery::<u64>::new(97);
     /// assert_eq!(ring.residue(ring.dbl(ring.transform(60))), 23); // 120 - 97
     /// ```
+    fn dbl(&self, f: T) -> T;
+
+    /// The form of the difference modulo m.
     ///
     /// # Preconditions
     ///
     /// Each form is checked. This isn't tested: outside it the call panics, or returns no meaningful
     /// result.
-    fn dbl(&self, f: T) -> T;
-
-    /// The form of the difference modulo m.
     ///
     /// # Examples
     ///
@@ -180,14 +185,14 @@ pub trait Reducer<T: RingWord>: Sized {
     /// let (x, y) = (ring.transform(50), ring.transform(60));
     /// assert_eq!(ring.residue(ring.sub(&x, &y)), 87); // -10 + 97
     /// ```
+    fn sub(&self, a: &T, b: &T) -> T;
+
+    /// `sub`, in place of the first operand.
     ///
     /// # Preconditions
     ///
     /// Each form is checked. This isn't tested: outside it the call panics, or returns no meaningful
     /// result.
-    fn sub(&self, a: &T, b: &T) -> T;
-
-    /// `sub`, in place of the first operand.
     ///
     /// # Examples
     ///
@@ -199,17 +204,17 @@ pub trait Reducer<T: RingWord>: Sized {
     /// ring.sub_in_place(&mut difference, &60);
     /// assert_eq!(difference, 87);
     /// ```
-    ///
-    /// # Preconditions
-    ///
-    /// Each form is checked. This isn't tested: outside it the call panics, or returns no meaningful
-    /// result.
     #[inline]
     fn sub_in_place(&self, a: &mut T, b: &T) {
         *a = self.sub(a, b);
     }
 
     /// The form of the negative modulo m.
+    ///
+    /// # Preconditions
+    ///
+    /// Each form is checked. This isn't tested: outside it the call panics, or returns no meaningful
+    /// result.
     ///
     /// # Examples
     ///
@@ -219,14 +224,14 @@ pub trait Reducer<T: RingWord>: Sized {
     /// let ring = Montgomery::<u64>::new(97);
     /// assert_eq!(ring.residue(ring.neg(ring.transform(10))), 87);
     /// ```
+    fn neg(&self, f: T) -> T;
+
+    /// The form of the product modulo m.
     ///
     /// # Preconditions
     ///
     /// Each form is checked. This isn't tested: outside it the call panics, or returns no meaningful
     /// result.
-    fn neg(&self, f: T) -> T;
-
-    /// The form of the product modulo m.
     ///
     /// # Examples
     ///
@@ -237,14 +242,14 @@ pub trait Reducer<T: RingWord>: Sized {
     /// let (x, y) = (ring.transform(20), ring.transform(10));
     /// assert_eq!(ring.residue(ring.mul(&x, &y)), 6); // 200 - 2 * 97
     /// ```
+    fn mul(&self, a: &T, b: &T) -> T;
+
+    /// `mul`, in place of the first operand.
     ///
     /// # Preconditions
     ///
     /// Each form is checked. This isn't tested: outside it the call panics, or returns no meaningful
     /// result.
-    fn mul(&self, a: &T, b: &T) -> T;
-
-    /// `mul`, in place of the first operand.
     ///
     /// # Examples
     ///
@@ -256,11 +261,6 @@ pub trait Reducer<T: RingWord>: Sized {
     /// ring.mul_in_place(&mut product, &10);
     /// assert_eq!(product, 6);
     /// ```
-    ///
-    /// # Preconditions
-    ///
-    /// Each form is checked. This isn't tested: outside it the call panics, or returns no meaningful
-    /// result.
     #[inline]
     fn mul_in_place(&self, a: &mut T, b: &T) {
         *a = self.mul(a, b);
@@ -271,6 +271,11 @@ pub trait Reducer<T: RingWord>: Sized {
     /// A reducer may override it with a faster body for callers in which the comparison of a and b mispredicts, as
     /// in the butterflies of a transform.
     ///
+    /// # Preconditions
+    ///
+    /// Each form is checked. This isn't tested: outside it the call panics, or returns no meaningful
+    /// result.
+    ///
     /// # Examples
     ///
     /// ```
@@ -280,11 +285,6 @@ pub trait Reducer<T: RingWord>: Sized {
     /// let [x, y, factor] = [50, 60, 3].map(|n| ring.transform(n));
     /// assert_eq!(ring.residue(ring.mul_difference(&x, &y, &factor)), 67); // -30 + 97
     /// ```
-    ///
-    /// # Preconditions
-    ///
-    /// Each form is checked. This isn't tested: outside it the call panics, or returns no meaningful
-    /// result.
     #[inline]
     fn mul_difference(&self, a: &T, b: &T, factor: &T) -> T {
         let difference = self.sub(a, b);
@@ -292,6 +292,11 @@ pub trait Reducer<T: RingWord>: Sized {
     }
 
     /// The form of the inverse modulo m; `None` exactly where there is none.
+    ///
+    /// # Preconditions
+    ///
+    /// Each form is checked. This isn't tested: outside it the call panics, or returns no meaningful
+    /// result.
     ///
     /// # Examples
     ///
@@ -302,14 +307,14 @@ pub trait Reducer<T: RingWord>: Sized {
     /// assert_eq!(ring.inv(ring.transform(3)).map(|f| ring.residue(f)), Some(7)); // 3 * 7 = 21
     /// assert_eq!(ring.inv(ring.transform(4)), None);
     /// ```
+    fn inv(&self, f: T) -> Option<T>;
+
+    /// The form of the square modulo m.
     ///
     /// # Preconditions
     ///
     /// Each form is checked. This isn't tested: outside it the call panics, or returns no meaningful
     /// result.
-    fn inv(&self, f: T) -> Option<T>;
-
-    /// The form of the square modulo m.
     ///
     /// # Examples
     ///
@@ -319,14 +324,14 @@ pub trait Reducer<T: RingWord>: Sized {
     /// let ring = Montgomery::<u64>::new(97);
     /// assert_eq!(ring.residue(ring.sqr(ring.transform(10))), 3);
     /// ```
+    fn sqr(&self, f: T) -> T;
+
+    /// The form of the power to the exponent `exp` modulo m; that of 1 for the exponent 0.
     ///
     /// # Preconditions
     ///
     /// Each form is checked. This isn't tested: outside it the call panics, or returns no meaningful
     /// result.
-    fn sqr(&self, f: T) -> T;
-
-    /// The form of the power to the exponent `exp` modulo m; that of 1 for the exponent 0.
     ///
     /// # Examples
     ///
@@ -336,11 +341,6 @@ pub trait Reducer<T: RingWord>: Sized {
     /// let ring = Montgomery::<u64>::new(1000);
     /// assert_eq!(ring.residue(ring.pow(ring.transform(2), &10)), 24); // 1024 modulo 1000
     /// ```
-    ///
-    /// # Preconditions
-    ///
-    /// Each form is checked. This isn't tested: outside it the call panics, or returns no meaningful
-    /// result.
     #[inline]
     fn pow(&self, f: T, exp: &T) -> T {
         pow_counted(self, f, exp).0

@@ -9,6 +9,11 @@ use crate::modular_word::ring_word::RingWord;
 /// Source: Montgomery, "Speeding the Pollard and elliptic curve methods of factorization", section 10.3.1: the
 /// inverses come from that of the product of all forms.
 ///
+/// # Preconditions
+///
+/// The forms are checked, and the scratch list is as long. This isn't tested: outside it the call
+/// panics, or returns no meaningful result.
+///
 /// # Examples
 ///
 /// ```
@@ -20,11 +25,6 @@ use crate::modular_word::ring_word::RingWord;
 /// assert!(invert_each(&ring, &mut forms, &mut scratch));
 /// assert_eq!(forms, [6, 13]); // 3 * 6 = 17 + 1, and 4 * 13 = 3 * 17 + 1
 /// ```
-///
-/// # Preconditions
-///
-/// The forms are checked, and the scratch list is as long. This isn't tested: outside it the call
-/// panics, or returns no meaningful result.
 pub fn invert_each<T: RingWord, R: Reducer<T>>(r: &R, forms: &mut [T], products: &mut [T]) -> bool {
     let mut product = r.transform(T::one());
     for i in 0..forms.len() {

@@ -50,6 +50,10 @@ fn next_digit(m: u64, residue: u64, number: u128, range: u128) -> u64 {
 
 /// The residues of a number.
 ///
+/// # Panics
+///
+/// Panics unless each modulus is above 0, and there is room for one residue a modulus.
+///
 /// # Examples
 ///
 /// ```
@@ -59,10 +63,6 @@ fn next_digit(m: u64, residue: u64, number: u128, range: u128) -> u64 {
 /// encode(&[3, 5, 7], 23, &mut residues);
 /// assert_eq!(residues, [2, 3, 2]);
 /// ```
-///
-/// # Panics
-///
-/// Panics unless each modulus is above 0, and there is room for one residue a modulus.
 #[inline]
 #[track_caller]
 pub fn encode(moduli: &[u64], number: u128, residues: &mut [u64]) {
@@ -75,6 +75,11 @@ pub fn encode(moduli: &[u64], number: u128, residues: &mut [u64]) {
 
 /// Whether each residue is below its modulus.
 ///
+/// # Preconditions
+///
+/// Each modulus has a residue. This isn't tested: outside it the call panics, or returns no meaningful
+/// result.
+///
 /// # Examples
 ///
 /// ```
@@ -83,11 +88,6 @@ pub fn encode(moduli: &[u64], number: u128, residues: &mut [u64]) {
 /// assert!(are_reduced(&[3, 5, 7], &[2, 3, 2]));
 /// assert!(!are_reduced(&[3, 5, 7], &[3, 3, 2]));
 /// ```
-///
-/// # Preconditions
-///
-/// Each modulus has a residue. This isn't tested: outside it the call panics, or returns no meaningful
-/// result.
 #[inline]
 pub fn are_reduced(moduli: &[u64], residues: &[u64]) -> bool {
     for (place, modulus) in moduli.iter().enumerate() {
@@ -103,6 +103,11 @@ pub fn are_reduced(moduli: &[u64], residues: &[u64]) -> bool {
 /// Source: Garner, "The residue number system"; Knuth, The Art of Computer Programming, volume 2, section 4.3.2,
 /// (24) and (25).
 ///
+/// # Panics
+///
+/// Panics unless the moduli are a system (`is_system` tells), and each has a residue below it
+/// (`are_reduced` tells).
+///
 /// # Examples
 ///
 /// ```
@@ -110,11 +115,6 @@ pub fn are_reduced(moduli: &[u64], residues: &[u64]) -> bool {
 ///
 /// assert_eq!(decode(&[3, 5, 7], &[2, 3, 2]), 23); // Sunzi's example
 /// ```
-///
-/// # Panics
-///
-/// Panics unless the moduli are a system (`is_system` tells), and each has a residue below it
-/// (`are_reduced` tells).
 #[track_caller]
 pub fn decode(moduli: &[u64], residues: &[u64]) -> u128 {
     assert!(crate::additions::may_be_system(moduli), "the moduli must be a system");

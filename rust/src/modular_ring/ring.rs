@@ -112,6 +112,20 @@ impl<T: Copy> Clone for RingCommand<T> {
 
 impl<T: Copy> Copy for RingCommand<T> {}
 
+/// A command as `run` reads it: `RingCommand` itself, or a struct of the caller that represents one, such as one with
+/// the layout of another language.
+pub trait AsCommand<T: RingWord>: Sized {
+    /// The command that it represents.
+    fn command(&self) -> RingCommand<T>;
+}
+
+impl<T: RingWord> AsCommand<T> for RingCommand<T> {
+    #[inline]
+    fn command(&self) -> RingCommand<T> {
+        *self
+    }
+}
+
 /// How a run ended.
 ///
 /// # Examples
@@ -226,22 +240,22 @@ fn quotient<T: RingWord, R: Reducer<T>>(r: &R, a: &T, b: T) -> Option<T> {
 // Kept out of line, so that the loop of `run` stays small.
 #[inline(never)]
 #[track_caller]
-fn computed_form<T: RingWord, R: Reducer<T>>(
+fn computed_form<T: RingWord, R: Reducer<T>, C: AsCommand<T>>(
     r: &R,
     regs: &[T],
-    command: &RingCommand<T>,
+    command: &C,
 ) -> Option<T> {
-    match command {
-        RingCommand::Load { n, .. } => Some(r.transform(*n)),
+    match command.command() {
+        RingCommand::Load { n, .. } => Some(r.transform(n)),
         RingCommand::Add { .. } | RingCommand::Sub { .. } | RingCommand::Mul { .. } => {
             panic!("the command must be no sum, difference or product, since `run` computes these itself")
         }
-        RingCommand::Neg { a, .. } => Some(r.neg(regs[*a])),
-        RingCommand::Dbl { a, .. } => Some(r.dbl(regs[*a])),
-        RingCommand::Sqr { a, .. } => Some(r.sqr(regs[*a])),
-        RingCommand::Inv { a, .. } => r.inv(regs[*a]),
-        RingCommand::Div { a, b, .. } => quotient(r, &regs[*a], regs[*b]),
-        RingCommand::Pow { a, exp, .. } => Some(r.pow(regs[*a], exp)),
+        RingCommand::Neg { a, .. } => Some(r.neg(regs[a])),
+        RingCommand::Dbl { a, .. } => Some(r.dbl(regs[a])),
+        RingCommand::Sqr { a, .. } => Some(r.sqr(regs[a])),
+        RingCommand::Inv { a, .. } => r.inv(regs[a]),
+        RingCommand::Div { a, b, .. } => quotient(r, &regs[a], regs[b]),
+        RingCommand::Pow { a, exp, .. } => Some(r.pow(regs[a], &exp)),
     }
 }
 
@@ -286,13 +300,14 @@ fn write<T: RingWord>(regs: &mut [T], last: &mut Last<T>, dst: usize, form: T) {
 // take as long as the command. Each has an arm of its own up to the write, since one for the three is slower. Only the
 // first operand is looked for in `last`: the test takes time in every command.
 #[inline(always)]
-fn carry_out<T: RingWord, R: Reducer<T>>(
+fn carry_out<T: RingWord, R: Reducer<T>, C: AsCommand<T>>(
     r: &R,
     regs: &mut [T],
     last: &mut Last<T>,
-    command: &RingCommand<T>,
+    command: &C,
 ) -> bool {
-    match *command {
+    let read = command.command();
+    match read {
         RingCommand::Add { dst, a, b } => {
             let form = r.add(&held(regs, last, a), &regs[b]);
             write(regs, last, dst, form);
@@ -310,7 +325,7 @@ fn carry_out<T: RingWord, R: Reducer<T>>(
         }
         _ => match computed_form(r, regs, command) {
             Some(form) => {
-                write(regs, last, destination(command), form);
+                write(regs, last, destination(&read), form);
                 true
             }
             None => false,
@@ -325,6 +340,12 @@ fn carry_out<T: RingWord, R: Reducer<T>>(
 /// register then holds the checked form of its value after the commands that were carried out, computed on whole
 /// numbers modulo m. No memory is allocated.
 ///
+/// # Panics
+///
+/// A debug build panics unless each register holds a checked form (`all_checked` tells), and each
+/// register number is below the number of registers (`commands_fit` tells). A release build doesn't
+/// test that, and outside it panics, or returns no meaningful result.
+///
 /// # Examples
 ///
 /// ```
@@ -337,17 +358,15 @@ fn carry_out<T: RingWord, R: Reducer<T>>(
 /// run(&ring, &mut registers, &commands);
 /// assert_eq!(registers.map(|f| ring.residue(f)), [3, 34]);
 /// ```
-///
-/// # Panics
-///
-/// A debug build panics unless each register holds a checked form (`all_checked` tells), and each
-/// register number is below the number of registers (`commands_fit` tells). A release build doesn't
-/// test that, and outside it panics, or returns no meaningful result.
 #[inline]
 #[cfg_attr(debug_assertions, track_caller)]
-pub fn run<T: RingWord, R: Reducer<T>>(r: &R, regs: &mut [T], commands: &[RingCommand<T>]) -> RunEnd {
+pub fn run<T: RingWord, R: Reducer<T>, C: AsCommand<T>>(
+    r: &R,
+    regs: &mut [T],
+    commands: &[C],
+) -> RunEnd {
     debug_assert!(all_checked(r, regs), "each register must hold a checked form");
-    debug_assert!(commands_fit(commands, regs.len()), "each register number must be below the number of registers");
+    debug_assert!(commands.iter().all(|c| commands_fit(&[c.command()], regs.len())), "each register number must be below the number of registers");
     let mut last = unwritten(regs);
     for (at, command) in commands.iter().enumerate() {
         if !carry_out(r, regs, &mut last, command) {

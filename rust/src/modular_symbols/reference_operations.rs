@@ -26,6 +26,10 @@ pub trait ModularRefOps: Eq + Copy
 {
     /// The residue of the sum.
     ///
+    /// # Panics
+    ///
+    /// Panics unless m is at least 1.
+    ///
     /// # Examples
     ///
     /// ```
@@ -33,15 +37,15 @@ pub trait ModularRefOps: Eq + Copy
     ///
     /// assert_eq!(5u32.addm_ref(&4, &7), 2);
     /// ```
-    ///
-    /// # Panics
-    ///
-    /// Panics unless m is at least 1.
     #[must_use]
     #[cfg_attr(debug_assertions, track_caller)]
     fn addm_ref(&self, rhs: &Self, m: &Self) -> Self;
 
     /// The residue of the difference.
+    ///
+    /// # Panics
+    ///
+    /// Panics unless m is at least 1.
     ///
     /// # Examples
     ///
@@ -50,15 +54,15 @@ pub trait ModularRefOps: Eq + Copy
     ///
     /// assert_eq!(4u32.subm_ref(&5, &7), 6);
     /// ```
-    ///
-    /// # Panics
-    ///
-    /// Panics unless m is at least 1.
     #[must_use]
     #[cfg_attr(debug_assertions, track_caller)]
     fn subm_ref(&self, rhs: &Self, m: &Self) -> Self;
 
     /// The residue of the product.
+    ///
+    /// # Panics
+    ///
+    /// Panics unless m is at least 1.
     ///
     /// # Examples
     ///
@@ -67,15 +71,15 @@ pub trait ModularRefOps: Eq + Copy
     ///
     /// assert_eq!(5u32.mulm_ref(&4, &7), 6);
     /// ```
-    ///
-    /// # Panics
-    ///
-    /// Panics unless m is at least 1.
     #[must_use]
     #[cfg_attr(debug_assertions, track_caller)]
     fn mulm_ref(&self, rhs: &Self, m: &Self) -> Self;
 
     /// The residue of the negative.
+    ///
+    /// # Panics
+    ///
+    /// Panics unless m is at least 1.
     ///
     /// # Examples
     ///
@@ -84,15 +88,15 @@ pub trait ModularRefOps: Eq + Copy
     ///
     /// assert_eq!(3u32.negm_ref(&7), 4);
     /// ```
-    ///
-    /// # Panics
-    ///
-    /// Panics unless m is at least 1.
     #[must_use]
     #[cfg_attr(debug_assertions, track_caller)]
     fn negm_ref(&self, m: &Self) -> Self;
 
     /// The inverse modulo m, 0 for m = 1; `None` exactly where there is none.
+    ///
+    /// # Panics
+    ///
+    /// Panics unless m is at least 1.
     ///
     /// # Examples
     ///
@@ -102,14 +106,14 @@ pub trait ModularRefOps: Eq + Copy
     /// assert_eq!(3u32.invm_ref(&10), Some(7));
     /// assert_eq!(4u32.invm_ref(&10), None);
     /// ```
-    ///
-    /// # Panics
-    ///
-    /// Panics unless m is at least 1.
     #[cfg_attr(debug_assertions, track_caller)]
     fn invm_ref(&self, m: &Self) -> Option<Self>;
 
     /// The residue of the double.
+    ///
+    /// # Panics
+    ///
+    /// Panics unless m is at least 1.
     ///
     /// # Examples
     ///
@@ -118,15 +122,15 @@ pub trait ModularRefOps: Eq + Copy
     ///
     /// assert_eq!(5u32.dblm_ref(&7), 3);
     /// ```
-    ///
-    /// # Panics
-    ///
-    /// Panics unless m is at least 1.
     #[must_use]
     #[cfg_attr(debug_assertions, track_caller)]
     fn dblm_ref(&self, m: &Self) -> Self;
 
     /// The residue of the square.
+    ///
+    /// # Panics
+    ///
+    /// Panics unless m is at least 1.
     ///
     /// # Examples
     ///
@@ -135,15 +139,15 @@ pub trait ModularRefOps: Eq + Copy
     ///
     /// assert_eq!(5u32.sqm_ref(&7), 4);
     /// ```
-    ///
-    /// # Panics
-    ///
-    /// Panics unless m is at least 1.
     #[must_use]
     #[cfg_attr(debug_assertions, track_caller)]
     fn sqm_ref(&self, m: &Self) -> Self;
 
     /// The residue of the power to the exponent `exp`; that of 1 for the exponent 0.
+    ///
+    /// # Panics
+    ///
+    /// Panics unless m is at least 1.
     ///
     /// # Examples
     ///
@@ -152,10 +156,6 @@ pub trait ModularRefOps: Eq + Copy
     ///
     /// assert_eq!(2u32.powm_ref(&10, &1000), 24);
     /// ```
-    ///
-    /// # Panics
-    ///
-    /// Panics unless m is at least 1.
     #[must_use]
     #[cfg_attr(debug_assertions, track_caller)]
     fn powm_ref(&self, exp: &Self, m: &Self) -> Self;

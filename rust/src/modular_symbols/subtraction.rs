@@ -64,6 +64,10 @@ fn subtract_and_halve<T: LowPart>(a: T, n: T) -> i8 {
 ///
 /// Source: Shallit and Sorenson, "A binary algorithm for the Jacobi symbol", ACM SIGSAM Bulletin 27, 1993.
 ///
+/// # Preconditions
+///
+/// n is odd. This isn't tested: outside it the call panics, or returns no meaningful result.
+///
 /// # Examples
 ///
 /// ```
@@ -72,10 +76,6 @@ fn subtract_and_halve<T: LowPart>(a: T, n: T) -> i8 {
 /// assert_eq!(jacobi(false, 2u64, 15), 1);
 /// assert_eq!(jacobi(true, 1u64, 7), -1); // of -1 over 7
 /// ```
-///
-/// # Preconditions
-///
-/// n is odd. This isn't tested: outside it the call panics, or returns no meaningful result.
 #[inline]
 pub fn jacobi_by_subtraction<T: LowPart>(a_minus: bool, a: T, n: T) -> i8 {
     subtract_and_halve(signed_residue(a_minus, a, n), n)

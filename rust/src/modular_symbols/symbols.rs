@@ -16,6 +16,10 @@ use crate::modular_symbols::operands::SymbolWord;
 pub trait ModularSymbols<Modulus = Self> {
     /// The value in `checked_legendre`.
     ///
+    /// # Panics
+    ///
+    /// Panics unless `checked_legendre` is `Some`, as it is for each odd prime n.
+    ///
     /// # Examples
     ///
     /// ```
@@ -24,10 +28,6 @@ pub trait ModularSymbols<Modulus = Self> {
     /// assert_eq!(2u8.legendre(&7), 1); // 3 * 3 = 9
     /// assert_eq!((-1i8).legendre(&7), -1);
     /// ```
-    ///
-    /// # Panics
-    ///
-    /// Panics unless `checked_legendre` is `Some`, as it is for each odd prime n.
     #[inline]
     #[track_caller]
     fn legendre(&self, n: Modulus) -> i8 {
@@ -55,6 +55,10 @@ pub trait ModularSymbols<Modulus = Self> {
 
     /// The value in `checked_jacobi`.
     ///
+    /// # Panics
+    ///
+    /// Panics unless n is odd and above 0.
+    ///
     /// # Examples
     ///
     /// ```
@@ -62,10 +66,6 @@ pub trait ModularSymbols<Modulus = Self> {
     ///
     /// assert_eq!(7u8.jacobi(&15), -1); // 1 over 3, and -1 over 5
     /// ```
-    ///
-    /// # Panics
-    ///
-    /// Panics unless n is odd and above 0.
     #[inline]
     #[track_caller]
     fn jacobi(&self, n: Modulus) -> i8 {

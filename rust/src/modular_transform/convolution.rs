@@ -31,6 +31,12 @@ fn multiply<T: RingWord, R: Reducer<T>>(r: &R, xs: &mut [T], ys: &mut [T], g: &T
 /// Source: Knuth, The Art of Computer Programming, volume 2, section 4.3.3, part C: transform both lists, multiply
 /// entry by entry, transform back.
 ///
+/// # Panics
+///
+/// Panics unless the lists have the same length, and the length is a power of two, and g suits the
+/// length (`root_fits` tells). A debug build also panics unless g and all entries are checked forms. A
+/// release build doesn't test that, and outside it panics, or returns no meaningful result.
+///
 /// # Examples
 ///
 /// ```
@@ -43,12 +49,6 @@ fn multiply<T: RingWord, R: Reducer<T>>(r: &R, xs: &mut [T], ys: &mut [T], g: &T
 /// assert!(convolve(&ring, &mut xs, &mut ys, &root));
 /// assert_eq!(xs, [3, 10, 8, 0]); // (1 + 2X)(3 + 4X)
 /// ```
-///
-/// # Panics
-///
-/// Panics unless the lists have the same length, and the length is a power of two, and g suits the
-/// length (`root_fits` tells). A debug build also panics unless g and all entries are checked forms. A
-/// release build doesn't test that, and outside it panics, or returns no meaningful result.
 #[inline]
 #[track_caller]
 pub fn convolve<T: RingWord, R: Reducer<T>>(r: &R, xs: &mut [T], ys: &mut [T], g: &T) -> bool {

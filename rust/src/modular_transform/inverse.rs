@@ -45,6 +45,11 @@ pub(crate) fn transform_back<T: RingWord, R: Reducer<T>>(r: &R, xs: &mut [T], g:
 /// Source: Pollard, "The fast Fourier transform in a finite field", section 2: the transform by the inverse of g, which
 /// is that by g in another order, divided by n.
 ///
+/// # Preconditions
+///
+/// The length is a power of two, and g and the entries are checked forms, and g suits the length
+/// (`root_fits` tells). This isn't tested: outside it the call panics, or returns no meaningful result.
+///
 /// # Examples
 ///
 /// ```
@@ -59,11 +64,6 @@ pub(crate) fn transform_back<T: RingWord, R: Reducer<T>>(r: &R, xs: &mut [T], g:
 /// assert!(intt(&ring, &mut entries, &root));
 /// assert_eq!(entries, [1, 2, 3, 4]);
 /// ```
-///
-/// # Preconditions
-///
-/// The length is a power of two, and g and the entries are checked forms, and g suits the length
-/// (`root_fits` tells). This isn't tested: outside it the call panics, or returns no meaningful result.
 #[inline]
 pub fn intt<T: RingWord, R: Reducer<T>>(r: &R, xs: &mut [T], g: &T) -> bool {
     let length = length_form(r, xs.len());

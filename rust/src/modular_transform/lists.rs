@@ -29,6 +29,11 @@ pub fn load_forms<T: RingWord, R: Reducer<T>>(r: &R, words: &[T], forms: &mut [T
 
 /// Stores the values of the first forms, each below the modulus.
 ///
+/// # Preconditions
+///
+/// The forms are checked, and at least as many as the places. This isn't tested: outside it the call
+/// panics, or returns no meaningful result.
+///
 /// # Examples
 ///
 /// ```
@@ -41,11 +46,6 @@ pub fn load_forms<T: RingWord, R: Reducer<T>>(r: &R, words: &[T], forms: &mut [T
 /// unload_forms(&ring, &forms, &mut words);
 /// assert_eq!(words, [3, 2]);
 /// ```
-///
-/// # Preconditions
-///
-/// The forms are checked, and at least as many as the places. This isn't tested: outside it the call
-/// panics, or returns no meaningful result.
 #[inline]
 pub fn unload_forms<T: RingWord, R: Reducer<T>>(r: &R, forms: &[T], words: &mut [T]) {
     for i in 0..words.len() {

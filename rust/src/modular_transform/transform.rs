@@ -9,6 +9,10 @@ use crate::modular_word::ring_word::RingWord;
 /// Whether g suits transforms of n entries: n is a power of two, and for n above 1 the value of g to the power n/2
 /// is -1 modulo m. n may be too large for a word.
 ///
+/// # Preconditions
+///
+/// g is a checked form. This isn't tested: outside it the call panics, or returns no meaningful result.
+///
 /// # Examples
 ///
 /// ```
@@ -19,10 +23,6 @@ use crate::modular_word::ring_word::RingWord;
 /// assert!(root_fits(&ring, &22, 4)); // 22^2 = 5 * 97 - 1
 /// assert!(!root_fits(&ring, &22, 8));
 /// ```
-///
-/// # Preconditions
-///
-/// g is a checked form. This isn't tested: outside it the call panics, or returns no meaningful result.
 pub fn root_fits<T: RingWord, R: Reducer<T>>(r: &R, g: &T, n: usize) -> bool {
     if !n.is_power_of_two() {
         return false;
@@ -43,6 +43,12 @@ pub fn root_fits<T: RingWord, R: Reducer<T>>(r: &R, g: &T, n: usize) -> bool {
 /// The z stages have half blocks of n/2, n/4, .., 1 entries. A stage takes a product for each of its n/2 pairs, a
 /// product for the power of each column, and a square for the root of the next stage.
 ///
+/// # Panics
+///
+/// Panics unless the length is a power of two, and g suits the length (`root_fits` tells). A debug
+/// build also panics unless g and the entries are checked forms. A release build doesn't test that, and
+/// outside it panics, or returns no meaningful result.
+///
 /// # Examples
 ///
 /// ```
@@ -54,12 +60,6 @@ pub fn root_fits<T: RingWord, R: Reducer<T>>(r: &R, g: &T, n: usize) -> bool {
 /// assert_eq!(ntt_counted(&ring, &mut forms, &4), 4 * 2 / 2 + 4 - 1 + 2);
 /// assert_eq!(forms, [10, 7, 15, 6]);
 /// ```
-///
-/// # Panics
-///
-/// Panics unless the length is a power of two, and g suits the length (`root_fits` tells). A debug
-/// build also panics unless g and the entries are checked forms. A release build doesn't test that, and
-/// outside it panics, or returns no meaningful result.
 #[track_caller]
 pub fn ntt_counted<T: RingWord, R: Reducer<T>>(r: &R, xs: &mut [T], g: &T) -> u128 {
     assert!(xs.len().is_power_of_two(), "the length must be a power of two: {}", xs.len());
@@ -103,6 +103,12 @@ pub fn ntt_counted<T: RingWord, R: Reducer<T>>(r: &R, xs: &mut [T], g: &T) -> u1
 /// Source: the decimation in frequency of Gentleman and Sande, "Fast Fourier transforms: for fun and profit", over
 /// residues: Pollard, "The fast Fourier transform in a finite field".
 ///
+/// # Panics
+///
+/// Panics unless the length is a power of two, and g suits the length (`root_fits` tells). A debug
+/// build also panics unless g and the entries are checked forms. A release build doesn't test that, and
+/// outside it panics, or returns no meaningful result.
+///
 /// # Examples
 ///
 /// ```
@@ -116,12 +122,6 @@ pub fn ntt_counted<T: RingWord, R: Reducer<T>>(r: &R, xs: &mut [T], g: &T) -> u1
 /// ntt(&ring, &mut forms, &root);
 /// assert_eq!(ring.residue(forms[0]), 10);
 /// ```
-///
-/// # Panics
-///
-/// Panics unless the length is a power of two, and g suits the length (`root_fits` tells). A debug
-/// build also panics unless g and the entries are checked forms. A release build doesn't test that, and
-/// outside it panics, or returns no meaningful result.
 #[inline]
 #[track_caller]
 pub fn ntt<T: RingWord, R: Reducer<T>>(r: &R, xs: &mut [T], g: &T) {

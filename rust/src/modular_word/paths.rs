@@ -118,6 +118,10 @@ pub fn exact_2<T: PathWord>(d: T, inverse: T, limit: T, n: T::Double) -> Option<
 ///
 /// Source: Dumas, "On Newton-Raphson iteration for multiplicative inverses modulo prime powers".
 ///
+/// # Preconditions
+///
+/// m is odd. This isn't tested: outside it the call panics, or returns no meaningful result.
+///
 /// # Examples
 ///
 /// ```
@@ -125,10 +129,6 @@ pub fn exact_2<T: PathWord>(d: T, inverse: T, limit: T, n: T::Double) -> Option<
 ///
 /// assert_eq!(neginv(3u8), 85); // 3 * 85 = 255
 /// ```
-///
-/// # Preconditions
-///
-/// m is odd. This isn't tested: outside it the call panics, or returns no meaningful result.
 pub fn neginv<T: PathWord>(m: T) -> T {
     let two = two::<T>();
     let mut inverse = m;

@@ -1,6 +1,6 @@
 //! Lists of commands for C.
 
-use crate::ring::{RingCommand, commands_fit};
+use crate::ring::{AsCommand, RingCommand, commands_fit};
 
 /// Writes n modulo m in dst.
 pub const NM_LOAD: u32 = 0;
@@ -40,27 +40,28 @@ pub struct NmCommand {
     pub n: u64,
 }
 
-// The ring command of a command.
-pub(crate) fn ring_command(c: &NmCommand) -> RingCommand<u64> {
-    let (dst, a, b, n) = (c.dst, c.a, c.b, c.n);
-    match c.operation {
-        NM_LOAD => RingCommand::Load { dst, n },
-        NM_ADD => RingCommand::Add { dst, a, b },
-        NM_SUB => RingCommand::Sub { dst, a, b },
-        NM_MUL => RingCommand::Mul { dst, a, b },
-        NM_NEG => RingCommand::Neg { dst, a },
-        NM_DBL => RingCommand::Dbl { dst, a },
-        NM_SQR => RingCommand::Sqr { dst, a },
-        NM_INV => RingCommand::Inv { dst, a },
-        NM_DIV => RingCommand::Div { dst, a, b },
-        _ => RingCommand::Pow { dst, a, exp: n },
+impl AsCommand<u64> for NmCommand {
+    fn command(&self) -> RingCommand<u64> {
+        let (dst, a, b, n) = (self.dst, self.a, self.b, self.n);
+        match self.operation {
+            NM_LOAD => RingCommand::Load { dst, n },
+            NM_ADD => RingCommand::Add { dst, a, b },
+            NM_SUB => RingCommand::Sub { dst, a, b },
+            NM_MUL => RingCommand::Mul { dst, a, b },
+            NM_NEG => RingCommand::Neg { dst, a },
+            NM_DBL => RingCommand::Dbl { dst, a },
+            NM_SQR => RingCommand::Sqr { dst, a },
+            NM_INV => RingCommand::Inv { dst, a },
+            NM_DIV => RingCommand::Div { dst, a, b },
+            _ => RingCommand::Pow { dst, a, exp: n },
+        }
     }
 }
 
 // Whether the command has an operation, and register numbers below `count`.
 #[inline]
 fn is_admitted(c: &NmCommand, count: usize) -> bool {
-    c.operation < 10 && commands_fit(&[ring_command(c)], count)
+    c.operation < 10 && commands_fit(&[c.command()], count)
 }
 
 // Whether each command has an operation, and register numbers below `count`.

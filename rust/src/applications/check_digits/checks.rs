@@ -18,6 +18,11 @@ impl<'a> Code<'a> {
 
     /// The weighted sum of the symbols, modulo the modulus.
     ///
+    /// # Preconditions
+    ///
+    /// Each place has a weight. This isn't tested: outside it the call panics, or returns no meaningful
+    /// result.
+    ///
     /// # Examples
     ///
     /// ```
@@ -26,17 +31,17 @@ impl<'a> Code<'a> {
     ///
     /// assert_eq!(ISBN_10.check_sum(&[0, 3, 0, 6, 4, 0, 6, 1, 5]).residue(), 9); // the digit 2 is missing
     /// ```
-    ///
-    /// # Preconditions
-    ///
-    /// Each place has a weight. This isn't tested: outside it the call panics, or returns no meaningful
-    /// result.
     #[inline]
     pub fn check_sum(&self, word: &[u64]) -> VanillaInt<u64> {
         VanillaInt::<u64>::new(self.sum(word), &self.modulus)
     }
 
     /// Whether the symbol is allowed at the place.
+    ///
+    /// # Preconditions
+    ///
+    /// The code has the place. This isn't tested: outside it the call panics, or returns no meaningful
+    /// result.
     ///
     /// # Examples
     ///
@@ -46,11 +51,6 @@ impl<'a> Code<'a> {
     /// assert!(ISBN_10.fits(9, 10)); // X
     /// assert!(!ISBN_10.fits(0, 10));
     /// ```
-    ///
-    /// # Preconditions
-    ///
-    /// The code has the place. This isn't tested: outside it the call panics, or returns no meaningful
-    /// result.
     #[inline]
     pub fn fits(&self, place: usize, symbol: u64) -> bool {
         let least = self.least;
@@ -95,6 +95,11 @@ impl<'a> Code<'a> {
     /// hyphen or space (`is_symbol_text` tells). Where these have to be isn't tested, because for an ISBN it depends on
     /// the country and the publisher.
     ///
+    /// # Panics
+    ///
+    /// A debug build panics unless the code has at most 68 places. A release build doesn't test that, and
+    /// outside it panics, or returns no meaningful result.
+    ///
     /// # Examples
     ///
     /// ```
@@ -104,11 +109,6 @@ impl<'a> Code<'a> {
     /// assert!(ORCID.accepts_text(b"0000-0002-1694-233X"));
     /// assert!(!ORCID.accepts_text(b"0000-0002-1694-2339"));
     /// ```
-    ///
-    /// # Panics
-    ///
-    /// A debug build panics unless the code has at most 68 places. A release build doesn't test that, and
-    /// outside it panics, or returns no meaningful result.
     #[inline]
     #[cfg_attr(debug_assertions, track_caller)]
     pub fn accepts_text(&self, text: &[u8]) -> bool {
@@ -127,6 +127,11 @@ impl<'a> Code<'a> {
     ///
     /// Source: Gallian, "The mathematics of identification numbers", theorem 1.
     ///
+    /// # Preconditions
+    ///
+    /// The word is accepted, and it has the place. This isn't tested: outside it the call panics, or
+    /// returns no meaningful result.
+    ///
     /// # Examples
     ///
     /// ```
@@ -134,11 +139,6 @@ impl<'a> Code<'a> {
     ///
     /// assert!(EAN_8.finds_change(&[7, 3, 5, 1, 3, 5, 3, 7], 0, 2));
     /// ```
-    ///
-    /// # Preconditions
-    ///
-    /// The word is accepted, and it has the place. This isn't tested: outside it the call panics, or
-    /// returns no meaningful result.
     pub fn finds_change(&self, word: &[u64], place: usize, symbol: u64) -> bool {
         let m = self.modulus;
         let weights = self.weights;
@@ -159,6 +159,11 @@ impl<'a> Code<'a> {
     ///
     /// Source: Gallian, "The mathematics of identification numbers", theorem 2.
     ///
+    /// # Preconditions
+    ///
+    /// The word is accepted, and it has both places. This isn't tested: outside it the call panics, or
+    /// returns no meaningful result.
+    ///
     /// # Examples
     ///
     /// ```
@@ -167,11 +172,6 @@ impl<'a> Code<'a> {
     /// let word = [7, 3, 5, 1, 3, 5, 3, 7];
     /// assert!(EAN_8.finds_exchange(&word, 0));
     /// ```
-    ///
-    /// # Preconditions
-    ///
-    /// The word is accepted, and it has both places. This isn't tested: outside it the call panics, or
-    /// returns no meaningful result.
     pub fn finds_exchange(&self, word: &[u64], place: usize) -> bool {
         let m = self.modulus;
         let weights = self.weights;
@@ -222,6 +222,11 @@ impl<'a> Code<'a> {
     /// The only symbol below m that completes the word to one of the code, in place of an erased one. `None`
     /// exactly where no symbol below m does. The symbol at `place` is ignored.
     ///
+    /// # Preconditions
+    ///
+    /// The word has the place, and the code a weight with an inverse modulo m there (`can_restore` tells).
+    /// This isn't tested: outside it the call panics, or returns no meaningful result.
+    ///
     /// # Examples
     ///
     /// ```
@@ -229,11 +234,6 @@ impl<'a> Code<'a> {
     ///
     /// assert_eq!(EAN_8.restore(&[7, 0, 5, 1, 3, 5, 3, 7], 1), Some(3));
     /// ```
-    ///
-    /// # Preconditions
-    ///
-    /// The word has the place, and the code a weight with an inverse modulo m there (`can_restore` tells).
-    /// This isn't tested: outside it the call panics, or returns no meaningful result.
     pub fn restore(&self, word: &[u64], place: usize) -> Option<u64> {
         if word.len() != self.weights.len() {
             return None;
@@ -252,6 +252,11 @@ impl<'a> Code<'a> {
     /// The only symbol below m that, behind the word, makes it one of the code: its check digit, where 10 is X. `None`
     /// exactly where no symbol below m does.
     ///
+    /// # Preconditions
+    ///
+    /// The last weight has an inverse modulo m, as the weight 1 of each code of `standards` has. This isn't
+    /// tested: outside it the call panics, or returns no meaningful result.
+    ///
     /// # Examples
     ///
     /// ```
@@ -260,11 +265,6 @@ impl<'a> Code<'a> {
     /// assert_eq!(EAN_8.check_digit(&[7, 3, 5, 1, 3, 5, 3]), Some(7));
     /// assert_eq!(ISBN_10.check_digit(&[0, 8, 0, 4, 4, 2, 9, 5, 7]), Some(10)); // X
     /// ```
-    ///
-    /// # Preconditions
-    ///
-    /// The last weight has an inverse modulo m, as the weight 1 of each code of `standards` has. This isn't
-    /// tested: outside it the call panics, or returns no meaningful result.
     pub fn check_digit(&self, word: &[u64]) -> Option<u64> {
         let place = word.len();
         let weights = self.weights;

@@ -20,6 +20,10 @@ const POWERS: [u64; 68] = [
 /// The code of IBANs with `count` digits: the modulus is 97, the weights are the powers of ten, and the weighted
 /// sum of a word is 1 modulo 97 (ISO/IEC 7064, MOD 97-10).
 ///
+/// # Panics
+///
+/// Panics unless there are at most 68 digits.
+///
 /// # Examples
 ///
 /// ```
@@ -27,10 +31,6 @@ const POWERS: [u64; 68] = [
 ///
 /// assert_eq!(iban_code(4).weights, [30, 3, 10, 1]); // 1000 is 30 modulo 97
 /// ```
-///
-/// # Panics
-///
-/// Panics unless there are at most 68 digits.
 #[track_caller]
 pub fn iban_code(count: usize) -> Code<'static> {
     assert!(count <= 68, "there must be at most 68 digits");
@@ -109,6 +109,11 @@ fn write_text(text: &[u8], digits: &mut [u64], start: usize) -> usize {
 /// Writes the digits into which the standard converts an IBAN, and returns their number: the first four characters
 /// are moved to the end, and a letter is replaced by two digits, 10 for A to 35 for Z.
 ///
+/// # Preconditions
+///
+/// The text has the form of an IBAN (`has_iban_form` tells), and there is room for 68 digits. This
+/// isn't tested: outside it the call panics, or returns no meaningful result.
+///
 /// # Examples
 ///
 /// ```
@@ -118,11 +123,6 @@ fn write_text(text: &[u8], digits: &mut [u64], start: usize) -> usize {
 /// let count = iban_digits(b"GB82W7", &mut digits);
 /// assert_eq!(digits[..count], [3, 2, 7, 1, 6, 1, 1, 8, 2]); // W, 7, G, B and 82
 /// ```
-///
-/// # Preconditions
-///
-/// The text has the form of an IBAN (`has_iban_form` tells), and there is room for 68 digits. This
-/// isn't tested: outside it the call panics, or returns no meaningful result.
 #[inline]
 pub fn iban_digits(text: &[u8], digits: &mut [u64]) -> usize {
     let end = write_text(&text[4..], digits, 0);

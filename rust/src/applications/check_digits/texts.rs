@@ -75,7 +75,7 @@ fn write_symbol(c: u8, symbols: &mut [u64], end: usize) -> usize {
 
 /// Writes the symbols of a text, in which X is 10 and single hyphens or spaces may be between symbols, and returns
 /// their number. `None` exactly where the text isn't such a text (`is_symbol_text` tells), or has more symbols than
-/// there is room for.
+/// there is room for; then nothing is written.
 ///
 /// # Examples
 ///

@@ -5,6 +5,11 @@ use crate::{PreMulInv2by1, Reducer};
 
 /// n modulo m, from registers that hold n.
 ///
+/// # Panics
+///
+/// A debug build panics unless m is at least 1. A release build doesn't test that, and outside it
+/// panics, or returns no meaningful result.
+///
 /// # Examples
 ///
 /// ```
@@ -12,11 +17,6 @@ use crate::{PreMulInv2by1, Reducer};
 ///
 /// assert_eq!(residue_over_copies(1000, 97), 30); // 1000 - 10 * 97
 /// ```
-///
-/// # Panics
-///
-/// A debug build panics unless m is at least 1. A release build doesn't test that, and outside it
-/// panics, or returns no meaningful result.
 #[cfg_attr(debug_assertions, track_caller)]
 pub fn residue_over_copies(n: u64, m: u64) -> u64 {
     let reducer = PreMulInv2by1::<u64>::new(m);
@@ -28,6 +28,11 @@ pub fn residue_over_copies(n: u64, m: u64) -> u64 {
 
 /// x·n modulo m by three commands.
 ///
+/// # Panics
+///
+/// A debug build panics unless m is at least 1. A release build doesn't test that, and outside it
+/// panics, or returns no meaningful result.
+///
 /// # Examples
 ///
 /// ```
@@ -35,11 +40,6 @@ pub fn residue_over_copies(n: u64, m: u64) -> u64 {
 ///
 /// assert_eq!(product_by_commands(10, 20, 97), 6); // 200 - 2 * 97
 /// ```
-///
-/// # Panics
-///
-/// A debug build panics unless m is at least 1. A release build doesn't test that, and outside it
-/// panics, or returns no meaningful result.
 #[cfg_attr(debug_assertions, track_caller)]
 pub fn product_by_commands(x: u64, n: u64, m: u64) -> u64 {
     let reducer = PreMulInv2by1::<u64>::new(m);

@@ -9,6 +9,10 @@ use crate::{
 
 /// `three_results` over the plain reducer.
 ///
+/// # Preconditions
+///
+/// m is at least 1. This isn't tested: outside it the call panics, or returns no meaningful result.
+///
 /// # Examples
 ///
 /// ```
@@ -16,10 +20,6 @@ use crate::{
 ///
 /// assert_eq!(by_plain_remainders((1, 2, 3, 4), (5, 6, 7, 8), 50), (1, 6, 20)); // the last is 70 - 50
 /// ```
-///
-/// # Preconditions
-///
-/// m is at least 1. This isn't tested: outside it the call panics, or returns no meaningful result.
 #[inline]
 pub fn by_plain_remainders(
     x: (u64, u64, u64, u64),
@@ -31,6 +31,10 @@ pub fn by_plain_remainders(
 
 /// `three_results` by the reciprocal of m.
 ///
+/// # Preconditions
+///
+/// m is at least 1. This isn't tested: outside it the call panics, or returns no meaningful result.
+///
 /// # Examples
 ///
 /// ```
@@ -38,16 +42,16 @@ pub fn by_plain_remainders(
 ///
 /// assert_eq!(by_reciprocals((1, 2, 3, 4), (5, 6, 7, 8), 50), (1, 6, 20)); // the last is 70 - 50
 /// ```
-///
-/// # Preconditions
-///
-/// m is at least 1. This isn't tested: outside it the call panics, or returns no meaningful result.
 #[inline]
 pub fn by_reciprocals(x: (u64, u64, u64, u64), y: (u64, u64, u64, u64), m: u64) -> (u64, u64, u64) {
     three_results(&PreMulInv2by1::<u64>::new(m), x, y)
 }
 
 /// `three_results` in Montgomery's representation.
+///
+/// # Preconditions
+///
+/// m is at least 1. This isn't tested: outside it the call panics, or returns no meaningful result.
 ///
 /// # Examples
 ///
@@ -56,10 +60,6 @@ pub fn by_reciprocals(x: (u64, u64, u64, u64), y: (u64, u64, u64, u64), m: u64) 
 ///
 /// assert_eq!(by_montgomery((1, 2, 3, 4), (5, 6, 7, 8), 50), (1, 6, 20)); // the last is 70 - 50
 /// ```
-///
-/// # Preconditions
-///
-/// m is at least 1. This isn't tested: outside it the call panics, or returns no meaningful result.
 #[inline]
 pub fn by_montgomery(x: (u64, u64, u64, u64), y: (u64, u64, u64, u64), m: u64) -> (u64, u64, u64) {
     three_results(&Montgomery::<u64>::new(m), x, y)

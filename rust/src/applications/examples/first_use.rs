@@ -24,6 +24,11 @@ pub fn product_and_one(x: u64, y: u64) -> u64 {
 
 /// n modulo m by a division of two words by one, as a list of commands.
 ///
+/// # Panics
+///
+/// A debug build panics unless m is at least 1. A release build doesn't test that, and outside it
+/// panics, or returns no meaningful result.
+///
 /// # Examples
 ///
 /// ```
@@ -31,11 +36,6 @@ pub fn product_and_one(x: u64, y: u64) -> u64 {
 ///
 /// assert_eq!(residue_by_commands(1000, 97), 30); // 1000 - 10 * 97
 /// ```
-///
-/// # Panics
-///
-/// A debug build panics unless m is at least 1. A release build doesn't test that, and outside it
-/// panics, or returns no meaningful result.
 #[cfg_attr(debug_assertions, track_caller)]
 pub fn residue_by_commands(n: u64, m: u64) -> u64 {
     let reducer = PreMulInv2by1::<u64>::new(m);

@@ -3,6 +3,11 @@ use crate::{Montgomery, Reducer};
 
 /// The sum of the products of the entries, modulo m.
 ///
+/// # Preconditions
+///
+/// The lists have the same length. This isn't tested: outside it the call panics, or returns no
+/// meaningful result.
+///
 /// # Examples
 ///
 /// ```
@@ -12,11 +17,6 @@ use crate::{Montgomery, Reducer};
 /// let ring = Montgomery::<u64>::new(20);
 /// assert_eq!(inner_product(&ring, &[1, 2, 3], &[4, 5, 6]), 12); // 4 + 10 + 18 - 20
 /// ```
-///
-/// # Preconditions
-///
-/// The lists have the same length. This isn't tested: outside it the call panics, or returns no
-/// meaningful result.
 pub fn inner_product<R: Reducer<u64>>(r: &R, xs: &[u64], ys: &[u64]) -> u64 {
     let mut sum = r.transform(0);
     for i in 0..xs.len() {
@@ -28,6 +28,10 @@ pub fn inner_product<R: Reducer<u64>>(r: &R, xs: &[u64], ys: &[u64]) -> u64 {
 
 /// The inner product of four words with four words modulo m.
 ///
+/// # Preconditions
+///
+/// m is at least 1. This isn't tested: outside it the call panics, or returns no meaningful result.
+///
 /// # Examples
 ///
 /// ```
@@ -35,10 +39,6 @@ pub fn inner_product<R: Reducer<u64>>(r: &R, xs: &[u64], ys: &[u64]) -> u64 {
 ///
 /// assert_eq!(inner_product_of_four([1, 2, 3, 4], [5, 6, 7, 8], 50), 20); // 5 + 12 + 21 + 32 - 50
 /// ```
-///
-/// # Preconditions
-///
-/// m is at least 1. This isn't tested: outside it the call panics, or returns no meaningful result.
 #[inline]
 pub fn inner_product_of_four(x: [u64; 4], y: [u64; 4], m: u64) -> u64 {
     inner_product(&Montgomery::<u64>::new(m), &x, &y)

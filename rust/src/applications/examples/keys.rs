@@ -4,6 +4,10 @@ use crate::ModularPow;
 
 /// The word that a party publishes: the power of the base g to the party's secret, modulo m.
 ///
+/// # Preconditions
+///
+/// m is at least 1. This isn't tested: outside it the call panics, or returns no meaningful result.
+///
 /// # Examples
 ///
 /// ```
@@ -11,16 +15,16 @@ use crate::ModularPow;
 ///
 /// assert_eq!(known_word(5, 6, 23), 8); // 5^6 = 15625 = 679 * 23 + 8
 /// ```
-///
-/// # Preconditions
-///
-/// m is at least 1. This isn't tested: outside it the call panics, or returns no meaningful result.
 #[inline]
 pub fn known_word(g: u64, secret: u64, m: u64) -> u64 {
     g.powm(secret, &m)
 }
 
 /// The keys of two parties, each from its own secret and the word that the other publishes: they are equal.
+///
+/// # Preconditions
+///
+/// m is at least 1. This isn't tested: outside it the call panics, or returns no meaningful result.
 ///
 /// # Examples
 ///
@@ -30,10 +34,6 @@ pub fn known_word(g: u64, secret: u64, m: u64) -> u64 {
 /// // the parties publish 5^6 = 8 and 5^15 = 19 modulo 23
 /// assert_eq!(keys(5, 6, 15, 23), (2, 2)); // 19^6 and 8^15
 /// ```
-///
-/// # Preconditions
-///
-/// m is at least 1. This isn't tested: outside it the call panics, or returns no meaningful result.
 #[inline]
 pub fn keys(g: u64, first: u64, second: u64, m: u64) -> (u64, u64) {
     let from_second = known_word(g, second, m).powm(first, &m);

@@ -4,6 +4,10 @@ use crate::{ModularOps, Montgomery, PlainWord, Reducer};
 
 /// x·y + z modulo m.
 ///
+/// # Preconditions
+///
+/// m is at least 1. This isn't tested: outside it the call panics, or returns no meaningful result.
+///
 /// # Examples
 ///
 /// ```
@@ -11,10 +15,6 @@ use crate::{ModularOps, Montgomery, PlainWord, Reducer};
 ///
 /// assert_eq!(product_and_sum(10u8, 20, 5, &97), 11); // 205 - 2 * 97
 /// ```
-///
-/// # Preconditions
-///
-/// m is at least 1. This isn't tested: outside it the call panics, or returns no meaningful result.
 #[inline]
 pub fn product_and_sum<M: Eq + Copy, T: ModularOps<T, M, T>>(
     x: T,
@@ -27,6 +27,10 @@ pub fn product_and_sum<M: Eq + Copy, T: ModularOps<T, M, T>>(
 
 /// x² modulo m in Montgomery's representation, for every width.
 ///
+/// # Preconditions
+///
+/// m is at least 1. This isn't tested: outside it the call panics, or returns no meaningful result.
+///
 /// # Examples
 ///
 /// ```
@@ -34,10 +38,6 @@ pub fn product_and_sum<M: Eq + Copy, T: ModularOps<T, M, T>>(
 ///
 /// assert_eq!(square(16u8, 251), 5); // 256 - 251
 /// ```
-///
-/// # Preconditions
-///
-/// m is at least 1. This isn't tested: outside it the call panics, or returns no meaningful result.
 #[inline]
 pub fn square<T: PlainWord>(x: T, m: T) -> T {
     let r = Montgomery::<T>::of(m);

@@ -7,6 +7,12 @@ use crate::ring::{convolve, load_forms, unload_forms};
 /// lists have unspecified contents afterwards. Returns false, with `product` unchanged, exactly where the length n
 /// of the scratch lists has no inverse modulo m.
 ///
+/// # Preconditions
+///
+/// No coefficient is above `bound`, and m is above n·bound^2, and n is at least the number of
+/// coefficients of the product, and g is the checked form of a root that suits n. This isn't tested:
+/// outside it the call panics, or returns no meaningful result.
+///
 /// # Examples
 ///
 /// ```
@@ -21,12 +27,6 @@ use crate::ring::{convolve, load_forms, unload_forms};
 /// assert!(product_of(&ring, root, &[1, 2], &[3, 4], &mut product, &mut left, &mut right, 4));
 /// assert_eq!(product, [3, 10, 8]);
 /// ```
-///
-/// # Preconditions
-///
-/// No coefficient is above `bound`, and m is above n·bound^2, and n is at least the number of
-/// coefficients of the product, and g is the checked form of a root that suits n. This isn't tested:
-/// outside it the call panics, or returns no meaningful result.
 #[inline]
 pub fn product_of<R: Reducer<u64>>(
     r: &R,

@@ -4,6 +4,10 @@ use crate::{ModularInteger, MontgomeryInt, VanillaInt};
 
 /// a times the inverse of b modulo m; `None` exactly where b has none.
 ///
+/// # Preconditions
+///
+/// m is at least 1. This isn't tested: outside it the call panics, or returns no meaningful result.
+///
 /// # Examples
 ///
 /// ```
@@ -12,10 +16,6 @@ use crate::{ModularInteger, MontgomeryInt, VanillaInt};
 /// assert_eq!(by_inverse(10, 5, 21), Some(2));
 /// assert_eq!(by_inverse(10, 6, 21), None); // 3 divides 6 and 21
 /// ```
-///
-/// # Preconditions
-///
-/// m is at least 1. This isn't tested: outside it the call panics, or returns no meaningful result.
 #[inline]
 pub fn by_inverse(a: u64, b: u64, m: u64) -> Option<u64> {
     let b = MontgomeryInt::<u64>::new(b, &m);
@@ -26,6 +26,10 @@ pub fn by_inverse(a: u64, b: u64, m: u64) -> Option<u64> {
 
 /// The number below m whose product with b is congruent to a modulo m; `None` exactly where b has no inverse.
 ///
+/// # Preconditions
+///
+/// m is at least 1. This isn't tested: outside it the call panics, or returns no meaningful result.
+///
 /// # Examples
 ///
 /// ```
@@ -34,10 +38,6 @@ pub fn by_inverse(a: u64, b: u64, m: u64) -> Option<u64> {
 /// assert_eq!(by_operator(10, 4, 21), Some(13)); // 13 * 4 = 2 * 21 + 10
 /// assert_eq!(by_operator(10, 6, 21), None); // 3 divides 6 and 21
 /// ```
-///
-/// # Preconditions
-///
-/// m is at least 1. This isn't tested: outside it the call panics, or returns no meaningful result.
 #[inline]
 pub fn by_operator(a: u64, b: u64, m: u64) -> Option<u64> {
     let b = MontgomeryInt::<u64>::new(b, &m);

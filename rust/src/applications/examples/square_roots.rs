@@ -4,6 +4,11 @@ use crate::{ModularPow, ModularUnaryOps};
 /// The power of a to the exponent (p + 1)/4 modulo p, where it is a square root of a; `None` exactly where a has no
 /// square root modulo p.
 ///
+/// # Preconditions
+///
+/// p is a prime that is 3 modulo 4. This isn't tested: outside it the call panics, or returns no
+/// meaningful result.
+///
 /// # Examples
 ///
 /// ```
@@ -12,11 +17,6 @@ use crate::{ModularPow, ModularUnaryOps};
 /// assert_eq!(square_root(2, 7), Some(4)); // 4 * 4 = 2 * 7 + 2
 /// assert_eq!(square_root(3, 7), None);
 /// ```
-///
-/// # Preconditions
-///
-/// p is a prime that is 3 modulo 4. This isn't tested: outside it the call panics, or returns no
-/// meaningful result.
 #[inline]
 pub fn square_root(a: u64, p: u64) -> Option<u64> {
     let root = a.powm(p / 4 + 1, &p);

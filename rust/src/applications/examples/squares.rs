@@ -3,6 +3,10 @@ use crate::prim::symbol_over_prime;
 
 /// Whether a is congruent to the square of a number that p doesn't divide.
 ///
+/// # Preconditions
+///
+/// p is an odd prime. This isn't tested: outside it the call panics, or returns no meaningful result.
+///
 /// # Examples
 ///
 /// ```
@@ -11,10 +15,6 @@ use crate::prim::symbol_over_prime;
 /// assert!(is_quadratic_residue(2, 7)); // 3 * 3 = 7 + 2
 /// assert!(!is_quadratic_residue(3, 7));
 /// ```
-///
-/// # Preconditions
-///
-/// p is an odd prime. This isn't tested: outside it the call panics, or returns no meaningful result.
 #[inline]
 pub fn is_quadratic_residue(a: u64, p: u64) -> bool {
     symbol_over_prime(a, p) == 1

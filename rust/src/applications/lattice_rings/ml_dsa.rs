@@ -79,6 +79,11 @@ impl Ring {
     ///
     /// Source: FIPS 204, section 7.5, algorithm 41.
     ///
+    /// # Preconditions
+    ///
+    /// The coefficients are residues (`are_residues` tells). This isn't tested: outside it the call panics,
+    /// or returns no meaningful result.
+    ///
     /// # Examples
     ///
     /// ```
@@ -89,11 +94,6 @@ impl Ring {
     /// Ring::new().ntt(&mut w);
     /// assert_eq!(w[0], ZETA); // the value of X at zeta
     /// ```
-    ///
-    /// # Preconditions
-    ///
-    /// The coefficients are residues (`are_residues` tells). This isn't tested: outside it the call panics,
-    /// or returns no meaningful result.
     #[inline]
     pub fn ntt(&self, w: &mut [u32; 256]) {
         split(&self.modulus, w, &self.table, 1, 1);
@@ -102,6 +102,11 @@ impl Ring {
     /// The inverse of `ntt` in place: the only polynomial whose NTT is the list; its coefficients are residues.
     ///
     /// Source: FIPS 204, section 7.5, algorithm 42.
+    ///
+    /// # Preconditions
+    ///
+    /// The values are residues. This isn't tested: outside it the call panics, or returns no meaningful
+    /// result.
     ///
     /// # Examples
     ///
@@ -112,11 +117,6 @@ impl Ring {
     /// Ring::new().inverse(&mut w);
     /// assert_eq!((w[0], w[1]), (7, 0)); // the constant 7
     /// ```
-    ///
-    /// # Preconditions
-    ///
-    /// The values are residues. This isn't tested: outside it the call panics, or returns no meaningful
-    /// result.
     #[inline]
     pub fn inverse(&self, w: &mut [u32; 256]) {
         join_scaled(&self.modulus, w, &self.table, 1, 1, &self.part);
@@ -126,6 +126,11 @@ impl Ring {
     /// NTT(ys).
     ///
     /// Source: FIPS 204, section 2.5: the entrywise product of NTT(xs) and NTT(ys) is transformed back.
+    ///
+    /// # Preconditions
+    ///
+    /// The coefficients are residues. This isn't tested: outside it the call panics, or returns no
+    /// meaningful result.
     ///
     /// # Examples
     ///
@@ -137,11 +142,6 @@ impl Ring {
     /// Ring::new().product(&mut xs, &mut ys);
     /// assert_eq!((xs[0], xs[1]), (MODULUS - 1, 5)); // (5 + X^255) * X
     /// ```
-    ///
-    /// # Preconditions
-    ///
-    /// The coefficients are residues. This isn't tested: outside it the call panics, or returns no
-    /// meaningful result.
     #[inline]
     pub fn product(&self, xs: &mut [u32; 256], ys: &mut [u32; 256]) {
         self.ntt(xs);
@@ -154,6 +154,11 @@ impl Ring {
     /// product of the two polynomials.
     ///
     /// Source: FIPS 204, section 7.6, algorithm 45.
+    ///
+    /// # Preconditions
+    ///
+    /// The entries are residues. This isn't tested: outside it the call panics, or returns no meaningful
+    /// result.
     ///
     /// # Examples
     ///
@@ -168,11 +173,6 @@ impl Ring {
     /// ring.multiply(&mut w, &other);
     /// assert_eq!(w[0], ZETA * ZETA); // the value of X^2 at zeta, below q
     /// ```
-    ///
-    /// # Preconditions
-    ///
-    /// The entries are residues. This isn't tested: outside it the call panics, or returns no meaningful
-    /// result.
     #[inline]
     pub fn multiply(&self, xs: &mut [u32; 256], ys: &[u32; 256]) {
         multiply(&self.modulus, xs, ys, &self.table, 1, 1);

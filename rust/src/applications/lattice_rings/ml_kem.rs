@@ -91,6 +91,11 @@ impl Ring {
     ///
     /// Source: FIPS 203, section 4.3, algorithm 9.
     ///
+    /// # Preconditions
+    ///
+    /// The coefficients are residues (`are_residues` tells). This isn't tested: outside it the call panics,
+    /// or returns no meaningful result.
+    ///
     /// # Examples
     ///
     /// ```
@@ -101,11 +106,6 @@ impl Ring {
     /// Ring::new().ntt(&mut w);
     /// assert_eq!(w[..2], [ZETA, 0]); // X^2 modulo X^2 - zeta
     /// ```
-    ///
-    /// # Preconditions
-    ///
-    /// The coefficients are residues (`are_residues` tells). This isn't tested: outside it the call panics,
-    /// or returns no meaningful result.
     #[inline]
     pub fn ntt(&self, w: &mut [u32; 256]) {
         split(&self.modulus, w, &self.table, 1, 2);
@@ -114,6 +114,11 @@ impl Ring {
     /// The inverse of `ntt` in place: the only polynomial whose NTT is the list; its coefficients are residues.
     ///
     /// Source: FIPS 203, section 4.3, algorithm 10.
+    ///
+    /// # Preconditions
+    ///
+    /// The entries are residues. This isn't tested: outside it the call panics, or returns no meaningful
+    /// result.
     ///
     /// # Examples
     ///
@@ -126,11 +131,6 @@ impl Ring {
     /// ring.inverse(&mut w);
     /// assert_eq!(w, [1; 256]);
     /// ```
-    ///
-    /// # Preconditions
-    ///
-    /// The entries are residues. This isn't tested: outside it the call panics, or returns no meaningful
-    /// result.
     #[inline]
     pub fn inverse(&self, w: &mut [u32; 256]) {
         join_scaled(&self.modulus, w, &self.table, 1, 2, &self.part);
@@ -140,6 +140,11 @@ impl Ring {
     /// NTT(ys).
     ///
     /// Source: FIPS 203, section 4.3, algorithms 11 and 12: the products of the remainders are joined.
+    ///
+    /// # Preconditions
+    ///
+    /// The coefficients are residues. This isn't tested: outside it the call panics, or returns no
+    /// meaningful result.
     ///
     /// # Examples
     ///
@@ -151,11 +156,6 @@ impl Ring {
     /// Ring::new().product(&mut xs, &mut ys);
     /// assert_eq!((xs[0], xs[1]), (MODULUS - 1, 5)); // (5 + X^255) * X
     /// ```
-    ///
-    /// # Preconditions
-    ///
-    /// The coefficients are residues. This isn't tested: outside it the call panics, or returns no
-    /// meaningful result.
     #[inline]
     pub fn product(&self, xs: &mut [u32; 256], ys: &mut [u32; 256]) {
         self.ntt(xs);
@@ -168,6 +168,11 @@ impl Ring {
     /// transform of the product of the two polynomials.
     ///
     /// Source: FIPS 203, section 4.3, algorithms 11 and 12.
+    ///
+    /// # Preconditions
+    ///
+    /// The entries are residues. This isn't tested: outside it the call panics, or returns no meaningful
+    /// result.
     ///
     /// # Examples
     ///
@@ -182,11 +187,6 @@ impl Ring {
     /// ring.multiply(&mut w, &other);
     /// assert_eq!(w[..2], [ZETA, 0]); // X * X modulo X^2 - zeta
     /// ```
-    ///
-    /// # Preconditions
-    ///
-    /// The entries are residues. This isn't tested: outside it the call panics, or returns no meaningful
-    /// result.
     pub fn multiply(&self, xs: &mut [u32; 256], ys: &[u32; 256]) {
         for i in 0..128 {
             let (x, y) = ((xs[2 * i], xs[2 * i + 1]), (ys[2 * i], ys[2 * i + 1]));

@@ -37,6 +37,12 @@ impl<'a> ResidueSystem<'a> {
     /// exists modulo the product. Where it returns false, some of the residues may be unwritten. The contents of
     /// the registers are ignored.
     ///
+    /// # Preconditions
+    ///
+    /// Each register number is below the count of the numbers (`commands_fit` tells), that of the wanted
+    /// register too, and there is room for as many registers as numbers, and for one residue a modulus.
+    /// This isn't tested: outside it the call panics, or returns no meaningful result.
+    ///
     /// # Examples
     ///
     /// ```
@@ -49,12 +55,6 @@ impl<'a> ResidueSystem<'a> {
     /// assert!(system.run(&commands, &[3, 4], 0, &mut registers, &mut residues));
     /// assert_eq!(system.decode(&residues), 24); // 2 * (3 * 4)
     /// ```
-    ///
-    /// # Preconditions
-    ///
-    /// Each register number is below the count of the numbers (`commands_fit` tells), that of the wanted
-    /// register too, and there is room for as many registers as numbers, and for one residue a modulus.
-    /// This isn't tested: outside it the call panics, or returns no meaningful result.
     #[inline]
     pub fn run(
         &self,

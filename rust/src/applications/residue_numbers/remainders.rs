@@ -4,6 +4,11 @@ use crate::{ModularCoreOps, ModularUnaryOps};
 /// The number below m·n that is congruent to a modulo m and to b modulo n; `None` exactly where m has no inverse
 /// modulo n.
 ///
+/// # Preconditions
+///
+/// m and n are at least 1. This isn't tested: outside it the call panics, or returns no meaningful
+/// result.
+///
 /// # Examples
 ///
 /// ```
@@ -12,11 +17,6 @@ use crate::{ModularCoreOps, ModularUnaryOps};
 /// assert_eq!(from_remainders(2, 3, 3, 5), Some(8));
 /// assert_eq!(from_remainders(2, 4, 3, 6), None); // 4 has no inverse modulo 6
 /// ```
-///
-/// # Preconditions
-///
-/// m and n are at least 1. This isn't tested: outside it the call panics, or returns no meaningful
-/// result.
 pub fn from_remainders(a: u32, m: u32, b: u32, n: u32) -> Option<u64> {
     let a = a % m;
     let inverse = m.invm(&n)?;

@@ -68,6 +68,11 @@ impl<'a> ResidueSystem<'a> {
 
     /// The residues of a number.
     ///
+    /// # Preconditions
+    ///
+    /// There is room for one residue a modulus. This isn't tested: outside it the call panics, or returns
+    /// no meaningful result.
+    ///
     /// # Examples
     ///
     /// ```
@@ -77,11 +82,6 @@ impl<'a> ResidueSystem<'a> {
     /// ResidueSystem::new(&[3, 5, 7]).unwrap().encode(23, &mut residues);
     /// assert_eq!(residues, [2, 3, 2]);
     /// ```
-    ///
-    /// # Preconditions
-    ///
-    /// There is room for one residue a modulus. This isn't tested: outside it the call panics, or returns
-    /// no meaningful result.
     #[inline]
     pub fn encode(&self, number: u128, residues: &mut [u64]) {
         encode(self.moduli, number, residues);
@@ -91,6 +91,11 @@ impl<'a> ResidueSystem<'a> {
     /// other: `decode` returns a number below the product from its residues, and `encode` the residues from the
     /// number.
     ///
+    /// # Preconditions
+    ///
+    /// Each modulus has a residue below it (`are_reduced` of `num_modular::residues` tells). This isn't
+    /// tested: outside it the call panics, or returns no meaningful result.
+    ///
     /// # Examples
     ///
     /// ```
@@ -99,11 +104,6 @@ impl<'a> ResidueSystem<'a> {
     /// let system = ResidueSystem::new(&[3, 5, 7]).unwrap();
     /// assert_eq!(system.decode(&[2, 3, 2]), 23);
     /// ```
-    ///
-    /// # Preconditions
-    ///
-    /// Each modulus has a residue below it (`are_reduced` of `num_modular::residues` tells). This isn't
-    /// tested: outside it the call panics, or returns no meaningful result.
     #[inline]
     pub fn decode(&self, residues: &[u64]) -> u128 {
         decode(self.moduli, residues)
@@ -121,6 +121,11 @@ impl<'a> ResidueSystem<'a> {
     /// The sums of residues, each modulo its modulus: from those of x and of y the residues of x + y
     /// modulo the product of the moduli.
     ///
+    /// # Preconditions
+    ///
+    /// Each modulus has a left residue, a right one and room for their sum. This isn't tested: outside it
+    /// the call panics, or returns no meaningful result.
+    ///
     /// # Examples
     ///
     /// ```
@@ -131,11 +136,6 @@ impl<'a> ResidueSystem<'a> {
     /// system.add(&[2, 3, 2], &[1, 0, 3], &mut sums); // 23 + 10
     /// assert_eq!(system.decode(&sums), 33);
     /// ```
-    ///
-    /// # Preconditions
-    ///
-    /// Each modulus has a left residue, a right one and room for their sum. This isn't tested: outside it
-    /// the call panics, or returns no meaningful result.
     #[inline]
     pub fn add(&self, left: &[u64], right: &[u64], sums: &mut [u64]) {
         self.combine(Operation::Sum, left, right, sums);
@@ -143,6 +143,11 @@ impl<'a> ResidueSystem<'a> {
 
     /// The differences of residues, each modulo its modulus: from those of x and of y the residues of
     /// x - y modulo the product of the moduli.
+    ///
+    /// # Preconditions
+    ///
+    /// Each modulus has a left residue, a right one and room for their difference. This isn't tested:
+    /// outside it the call panics, or returns no meaningful result.
     ///
     /// # Examples
     ///
@@ -154,11 +159,6 @@ impl<'a> ResidueSystem<'a> {
     /// system.sub(&[2, 3, 2], &[1, 0, 3], &mut differences); // 23 - 10
     /// assert_eq!(system.decode(&differences), 13);
     /// ```
-    ///
-    /// # Preconditions
-    ///
-    /// Each modulus has a left residue, a right one and room for their difference. This isn't tested:
-    /// outside it the call panics, or returns no meaningful result.
     #[inline]
     pub fn sub(&self, left: &[u64], right: &[u64], differences: &mut [u64]) {
         self.combine(Operation::Difference, left, right, differences);
@@ -166,6 +166,11 @@ impl<'a> ResidueSystem<'a> {
 
     /// The products of residues, each modulo its modulus: from those of x and of y the residues of
     /// x·y modulo the product of the moduli.
+    ///
+    /// # Preconditions
+    ///
+    /// Each modulus has a left residue, a right one and room for their product. This isn't tested: outside
+    /// it the call panics, or returns no meaningful result.
     ///
     /// # Examples
     ///
@@ -177,11 +182,6 @@ impl<'a> ResidueSystem<'a> {
     /// system.mul(&[2, 3, 2], &[1, 0, 3], &mut products); // 23 * 10 = 2 * 105 + 20
     /// assert_eq!(system.decode(&products), 20);
     /// ```
-    ///
-    /// # Preconditions
-    ///
-    /// Each modulus has a left residue, a right one and room for their product. This isn't tested: outside
-    /// it the call panics, or returns no meaningful result.
     #[inline]
     pub fn mul(&self, left: &[u64], right: &[u64], products: &mut [u64]) {
         self.combine(Operation::Product, left, right, products);

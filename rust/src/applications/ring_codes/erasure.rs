@@ -6,7 +6,7 @@
 //! inverse modulo m. So their number is at most the least prime that divides m.
 //!
 //! The codes are maximum distance separable (MDS): two words differ in n - k + 1 symbols at least, the most that
-//! Singleton's bound allows. So up to half of n - k wrong symbols leave the word
+//! Singleton's bound allows (`distance_laws`, `singleton_law`). So up to half of n - k wrong symbols leave the word
 //! unique. `PreparedCode` computes once what depends on the points alone; where the points are the powers of a root of
 //! unity, `encode_by_transform` encodes by one transform.
 //!
@@ -54,6 +54,11 @@ pub enum RestoreError {
 
 /// Whether the points fit: the difference of any two has an inverse modulo m.
 ///
+/// # Preconditions
+///
+/// The points are checked forms. This isn't tested: outside it the call panics, or returns no
+/// meaningful result.
+///
 /// # Examples
 ///
 /// ```
@@ -64,11 +69,6 @@ pub enum RestoreError {
 /// assert!(points_fit(&ring, &[0, 1, 2]));
 /// assert!(!points_fit(&ring, &[0, 1, 3])); // 3 has no inverse modulo 15
 /// ```
-///
-/// # Preconditions
-///
-/// The points are checked forms. This isn't tested: outside it the call panics, or returns no
-/// meaningful result.
 pub fn points_fit<T: RingWord, R: Reducer<T>>(r: &R, points: &[T]) -> bool {
     let mut product = r.transform(T::one());
     for i in 0..points.len() {
@@ -80,6 +80,11 @@ pub fn points_fit<T: RingWord, R: Reducer<T>>(r: &R, points: &[T]) -> bool {
 
 /// The form of the value of a polynomial at a point, given its coefficients, the constant first, by Horner's rule.
 ///
+/// # Preconditions
+///
+/// Coefficients and point are checked forms. This isn't tested: outside it the call panics, or returns
+/// no meaningful result.
+///
 /// # Examples
 ///
 /// ```
@@ -89,11 +94,6 @@ pub fn points_fit<T: RingWord, R: Reducer<T>>(r: &R, points: &[T]) -> bool {
 /// let ring = Vanilla::<u8>::new(&97);
 /// assert_eq!(evaluate(&ring, &[5, 7], &2), 19); // 5 + 7 * 2
 /// ```
-///
-/// # Preconditions
-///
-/// Coefficients and point are checked forms. This isn't tested: outside it the call panics, or returns
-/// no meaningful result.
 pub fn evaluate<T: RingWord, R: Reducer<T>>(r: &R, coefficients: &[T], point: &T) -> T {
     let mut value = r.transform(T::zero());
     for k in 0..coefficients.len() {
@@ -110,6 +110,11 @@ pub fn evaluate<T: RingWord, R: Reducer<T>>(r: &R, coefficients: &[T], point: &T
 ///
 /// Source: Reed and Solomon, "Polynomial codes over certain finite fields".
 ///
+/// # Preconditions
+///
+/// The points and the message are checked forms, and the word has a place for each point. This isn't
+/// tested: outside it the call panics, or returns no meaningful result.
+///
 /// # Examples
 ///
 /// ```
@@ -121,11 +126,6 @@ pub fn evaluate<T: RingWord, R: Reducer<T>>(r: &R, coefficients: &[T], point: &T
 /// encode(&ring, &[1, 2, 3, 4], &[5, 7], &mut word);
 /// assert_eq!(word, [12, 19, 26, 33]); // 5 + 7X at 1, 2, 3 and 4
 /// ```
-///
-/// # Preconditions
-///
-/// The points and the message are checked forms, and the word has a place for each point. This isn't
-/// tested: outside it the call panics, or returns no meaningful result.
 #[inline]
 pub fn encode<T: RingWord, R: Reducer<T>>(r: &R, points: &[T], message: &[T], word: &mut [T]) {
     for i in 0..points.len() {
@@ -141,6 +141,11 @@ pub fn encode<T: RingWord, R: Reducer<T>>(r: &R, points: &[T], message: &[T], wo
 ///
 /// Source: Knuth, The Art of Computer Programming, volume 2, section 4.6.4 (Newton's divided differences).
 ///
+/// # Preconditions
+///
+/// Points and values are checked forms, at least k each, and there are k weights. This isn't tested:
+/// outside it the call panics, or returns no meaningful result.
+///
 /// # Examples
 ///
 /// ```
@@ -152,11 +157,6 @@ pub fn encode<T: RingWord, R: Reducer<T>>(r: &R, points: &[T], message: &[T], wo
 /// assert!(interpolate(&ring, &[3, 4], &[26, 33], &mut weights, &mut coefficients));
 /// assert_eq!(coefficients, [5, 7]); // 5 + 7 * 3 = 26, and 5 + 7 * 4 = 33
 /// ```
-///
-/// # Preconditions
-///
-/// Points and values are checked forms, at least k each, and there are k weights. This isn't tested:
-/// outside it the call panics, or returns no meaningful result.
 pub fn interpolate<T: RingWord, R: Reducer<T>>(
     r: &R,
     points: &[T],
@@ -180,6 +180,12 @@ pub fn interpolate<T: RingWord, R: Reducer<T>>(
 /// The contents of `weights` and
 /// `message` are ignored.
 ///
+/// # Preconditions
+///
+/// The points fit (`points_fit` tells), points and word are checked forms, the word has a symbol for
+/// each point, and there are k weights, k being at most the number of points. This isn't tested:
+/// outside it the call panics, or returns no meaningful result.
+///
 /// # Examples
 ///
 /// ```
@@ -192,12 +198,6 @@ pub fn interpolate<T: RingWord, R: Reducer<T>>(
 /// assert_eq!(message, [5, 7]);
 /// assert!(!is_codeword(&ring, &[1, 2, 3, 4], &[12, 19, 26, 34], &mut weights, &mut message));
 /// ```
-///
-/// # Preconditions
-///
-/// The points fit (`points_fit` tells), points and word are checked forms, the word has a symbol for
-/// each point, and there are k weights, k being at most the number of points. This isn't tested:
-/// outside it the call panics, or returns no meaningful result.
 pub fn is_codeword<T: RingWord, R: Reducer<T>>(
     r: &R,
     points: &[T],
@@ -220,6 +220,12 @@ pub fn is_codeword<T: RingWord, R: Reducer<T>>(
 /// Writes the systematic word of a message, whose first k symbols are the message's, and the coefficients of its
 /// polynomial. Returns false, with the word unchanged, exactly where the first k points don't fit.
 ///
+/// # Preconditions
+///
+/// Points and message are checked forms, the word has a place for each point, and there are k weights
+/// and k coefficients, k being the length of the message and at most the number of points. This isn't
+/// tested: outside it the call panics, or returns no meaningful result.
+///
 /// # Examples
 ///
 /// ```
@@ -231,12 +237,6 @@ pub fn is_codeword<T: RingWord, R: Reducer<T>>(
 /// assert!(encode_systematic(&ring, &[1, 2, 3, 4], &[12, 19], &mut weights, &mut coefficients, &mut word));
 /// assert_eq!(word, [12, 19, 26, 33]); // 5 + 7X
 /// ```
-///
-/// # Preconditions
-///
-/// Points and message are checked forms, the word has a place for each point, and there are k weights
-/// and k coefficients, k being the length of the message and at most the number of points. This isn't
-/// tested: outside it the call panics, or returns no meaningful result.
 #[inline]
 pub fn encode_systematic<T: RingWord, R: Reducer<T>>(
     r: &R,
@@ -289,6 +289,12 @@ fn choose<T: RingWord>(points: &[T], places: &[usize], chosen: &mut [T]) -> Resu
 /// points that don't fit.
 /// The contents of `chosen`, `weights` and `message` are ignored.
 ///
+/// # Preconditions
+///
+/// Points and symbols are checked forms, each place has its symbol, and there are k weights and room
+/// for k points in `chosen`. This isn't tested: outside it the call panics, or returns no meaningful
+/// result.
+///
 /// # Examples
 ///
 /// ```
@@ -301,12 +307,6 @@ fn choose<T: RingWord>(points: &[T], places: &[usize], chosen: &mut [T]) -> Resu
 /// restore(&ring, &[1, 2, 3, 4], &[3, 1], &[33, 19], &mut chosen, &mut weights, &mut message).unwrap();
 /// assert_eq!(message, [5, 7]);
 /// ```
-///
-/// # Preconditions
-///
-/// Points and symbols are checked forms, each place has its symbol, and there are k weights and room
-/// for k points in `chosen`. This isn't tested: outside it the call panics, or returns no meaningful
-/// result.
 #[inline]
 pub fn restore<T: RingWord, R: Reducer<T>>(
     r: &R,
@@ -375,6 +375,12 @@ fn fill_word<T: RingWord, R: Reducer<T>>(
 ///
 /// Source: Reed and Solomon, "Polynomial codes over certain finite fields".
 ///
+/// # Preconditions
+///
+/// Points and symbols are checked forms, each place has its symbol, there are k weights, k being at
+/// most the number of points, and the word has a place for each point. This isn't tested: outside it
+/// the call panics, or returns no meaningful result.
+///
 /// # Examples
 ///
 /// ```
@@ -386,12 +392,6 @@ fn fill_word<T: RingWord, R: Reducer<T>>(
 /// restore_word(&ring, &[1, 2, 3, 4], &[3, 1], &[33, 19], &mut weights, &mut message, &mut word).unwrap();
 /// assert_eq!((message, word), ([5, 7], [12, 19, 26, 33]));
 /// ```
-///
-/// # Preconditions
-///
-/// Points and symbols are checked forms, each place has its symbol, there are k weights, k being at
-/// most the number of points, and the word has a place for each point. This isn't tested: outside it
-/// the call panics, or returns no meaningful result.
 pub fn restore_word<T: RingWord, R: Reducer<T>>(
     r: &R,
     points: &[T],

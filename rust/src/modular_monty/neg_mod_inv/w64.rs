@@ -4,6 +4,10 @@ use crate::modular_word::word::w64::Word;
 
 /// The word x with m * x = -1 modulo 2^64.
 ///
+/// # Preconditions
+///
+/// m is odd. This isn't tested: outside it the call panics, or returns no meaningful result.
+///
 /// # Examples
 ///
 /// ```
@@ -12,10 +16,6 @@ use crate::modular_word::word::w64::Word;
 /// assert_eq!(neginv(3), 0x5555_5555_5555_5555);
 /// assert_eq!(3 * neginv(3), u64::MAX); // -1 modulo 2^64
 /// ```
-///
-/// # Preconditions
-///
-/// m is odd. This isn't tested: outside it the call panics, or returns no meaningful result.
 #[inline]
 pub fn neginv(m: Word) -> Word {
     super::neginv(m)

@@ -4,6 +4,10 @@ use crate::modular_prim::euclid;
 
 /// The inverse of a modulo m, `None` exactly where there is none, and the number of divisions.
 ///
+/// # Panics
+///
+/// Panics unless m is at least 1.
+///
 /// # Examples
 ///
 /// ```
@@ -12,10 +16,6 @@ use crate::modular_prim::euclid;
 /// assert_eq!(invm_counted(3, 7), (Some(5), 2)); // 7 by 3, and 3 by 1
 /// assert_eq!(invm_counted(3, 6), (None, 1)); // 6 by 3
 /// ```
-///
-/// # Panics
-///
-/// Panics unless m is at least 1.
 #[inline]
 #[cfg_attr(debug_assertions, track_caller)]
 pub fn invm_counted(a: u32, m: u32) -> (Option<u32>, u32) {

@@ -7,6 +7,10 @@ use crate::modular_word::ring_word::RingWord;
 impl<T: RingWord, R: Reducer<T> + Copy> ReducedInt<T, R> {
     /// The integer n mod m.
     ///
+    /// # Panics
+    ///
+    /// Panics unless the reducer admits m.
+    ///
     /// # Examples
     ///
     /// ```
@@ -14,10 +18,6 @@ impl<T: RingWord, R: Reducer<T> + Copy> ReducedInt<T, R> {
     ///
     /// assert_eq!(VanillaInt::<u8>::new(200, &7).residue(), 4);
     /// ```
-    ///
-    /// # Panics
-    ///
-    /// Panics unless the reducer admits m.
     #[inline]
     #[track_caller]
     pub fn new(n: T, m: &T) -> Self {

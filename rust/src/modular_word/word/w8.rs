@@ -28,6 +28,10 @@ pub type DoubleWord = u16;
 
 /// The word whose low n bits are ones: 2^n - 1.
 ///
+/// # Preconditions
+///
+/// n is at most 8. This isn't tested: outside it the call panics, or returns no meaningful result.
+///
 /// # Examples
 ///
 /// ```
@@ -36,10 +40,6 @@ pub type DoubleWord = u16;
 /// assert_eq!(ones(3), 0b111);
 /// assert_eq!(ones(8), u8::MAX);
 /// ```
-///
-/// # Preconditions
-///
-/// n is at most 8. This isn't tested: outside it the call panics, or returns no meaningful result.
 #[inline]
 pub fn ones(n: u32) -> Word {
     paths::ones(n)
@@ -145,6 +145,10 @@ pub fn wsqr(a: Word) -> DoubleWord {
 
 /// The remainder of a double word by a word.
 ///
+/// # Panics
+///
+/// Panics unless the modulus is at least 1.
+///
 /// # Examples
 ///
 /// ```
@@ -152,10 +156,6 @@ pub fn wsqr(a: Word) -> DoubleWord {
 ///
 /// assert_eq!(nrem(1_000, 97), 30);
 /// ```
-///
-/// # Panics
-///
-/// Panics unless the modulus is at least 1.
 #[inline]
 #[cfg_attr(debug_assertions, track_caller)]
 pub const fn nrem(n: DoubleWord, d: Word) -> Word {

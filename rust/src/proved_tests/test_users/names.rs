@@ -18,7 +18,7 @@ pub use crate::prim::{
 };
 pub use crate::proth::{FixedProth32, FixedProth64};
 pub use crate::reduced::ReducedInt;
-pub use crate::ring::{load_forms, unload_forms};
+pub use crate::ring::{AsCommand, load_forms, unload_forms};
 pub use crate::word::PlainWord;
 
 pub mod w8 {

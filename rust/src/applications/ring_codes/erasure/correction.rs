@@ -141,6 +141,12 @@ fn decode<T: RingWord, R: Reducer<T>>(
 /// Source: Welch and Berlekamp, US patent 4,633,470; Kötter, "On algebraic decoding of algebraic-geometric and cyclic
 /// codes".
 ///
+/// # Preconditions
+///
+/// Points and symbols are checked forms, each place has its symbol, k, the length of the message, is at
+/// least 1, the word has a place for each point, and there are 3·(s + k) + 2 places of scratch. This
+/// isn't tested: outside it the call panics, or returns no meaningful result.
+///
 /// # Examples
 ///
 /// ```
@@ -154,12 +160,6 @@ fn decode<T: RingWord, R: Reducer<T>>(
 /// let found = correct(&ring, &[1, 2, 3, 4], &[0, 1, 2, 3], &symbols, &mut scratch, &mut message, &mut word);
 /// assert_eq!((found, message, word), (Ok(1), [5, 7], [12, 19, 26, 33]));
 /// ```
-///
-/// # Preconditions
-///
-/// Points and symbols are checked forms, each place has its symbol, k, the length of the message, is at
-/// least 1, the word has a place for each point, and there are 3·(s + k) + 2 places of scratch. This
-/// isn't tested: outside it the call panics, or returns no meaningful result.
 pub fn correct<T: RingWord, R: Reducer<T>>(
     r: &R,
     points: &[T],

@@ -8,6 +8,10 @@ use crate::{Reducer, RingWord};
 /// Where m is odd and g suits their number n (`root_fits` tells), the points fit: `restore`, `correct` and
 /// the other calls accept them.
 ///
+/// # Preconditions
+///
+/// g is a checked form. This isn't tested: outside it the call panics, or returns no meaningful result.
+///
 /// # Examples
 ///
 /// ```
@@ -20,10 +24,6 @@ use crate::{Reducer, RingWord};
 /// assert_eq!(points, [1, 13, 84, 72]);
 /// assert!(points_fit(&ring, &points));
 /// ```
-///
-/// # Preconditions
-///
-/// g is a checked form. This isn't tested: outside it the call panics, or returns no meaningful result.
 #[inline]
 pub fn fill_powers<T: RingWord, R: Reducer<T>>(r: &R, g: &T, points: &mut [T]) {
     let mut power = r.transform(T::one());
@@ -38,6 +38,12 @@ pub fn fill_powers<T: RingWord, R: Reducer<T>>(r: &R, g: &T, points: &mut [T]) {
 ///
 /// Source: `ntt` of the message followed by zeros.
 ///
+/// # Preconditions
+///
+/// n is a power of two, and g and the message are checked forms, and g suits n (`root_fits` tells), and
+/// the message has at most n symbols. This isn't tested: outside it the call panics, or returns no
+/// meaningful result.
+///
 /// # Examples
 ///
 /// ```
@@ -50,12 +56,6 @@ pub fn fill_powers<T: RingWord, R: Reducer<T>>(r: &R, g: &T, points: &mut [T]) {
 /// encode(&ring, &[1, 13, 84, 72], &[1, 2, 3], &mut same);
 /// assert_eq!((word, same), ([6, 24, 2, 57], [6, 24, 2, 57]));
 /// ```
-///
-/// # Preconditions
-///
-/// n is a power of two, and g and the message are checked forms, and g suits n (`root_fits` tells), and
-/// the message has at most n symbols. This isn't tested: outside it the call panics, or returns no
-/// meaningful result.
 #[inline]
 pub fn encode_by_transform<T: RingWord, R: Reducer<T>>(r: &R, g: &T, message: &[T], word: &mut [T]) {
     let zero = r.transform(T::zero());

@@ -41,6 +41,12 @@ impl<'a, T: RingWord, R: Reducer<T>> PreparedCode<'a, T, R> {
     ///
     /// Source: Lagrange's form: Knuth, The Art of Computer Programming, volume 2, section 4.6.4.
     ///
+    /// # Panics
+    ///
+    /// Panics unless there are t·k rows, and 2·k places of scratch. A debug build also panics unless the
+    /// points are checked forms. A release build doesn't test that, and outside it panics, or returns no
+    /// meaningful result.
+    ///
     /// # Examples
     ///
     /// ```
@@ -52,12 +58,6 @@ impl<'a, T: RingWord, R: Reducer<T>> PreparedCode<'a, T, R> {
     /// assert!(PreparedCode::new(&ring, &[0, 1], &[2], &mut rows, &mut scratch).is_some());
     /// assert!(PreparedCode::new(&ring, &[0, 3], &[2], &mut rows, &mut scratch).is_none()); // 3 has no inverse
     /// ```
-    ///
-    /// # Panics
-    ///
-    /// Panics unless there are t·k rows, and 2·k places of scratch. A debug build also panics unless the
-    /// points are checked forms. A release build doesn't test that, and outside it panics, or returns no
-    /// meaningful result.
     #[track_caller]
     pub fn new(
         ring: &'a R,
@@ -86,6 +86,12 @@ impl<'a, T: RingWord, R: Reducer<T>> PreparedCode<'a, T, R> {
     ///
     /// It takes t·k products.
     ///
+    /// # Panics
+    ///
+    /// Panics unless there is a symbol for each known point, and a place for each wanted point. A debug
+    /// build also panics unless the symbols are checked forms. A release build doesn't test that, and
+    /// outside it panics, or returns no meaningful result.
+    ///
     /// # Examples
     ///
     /// ```
@@ -99,12 +105,6 @@ impl<'a, T: RingWord, R: Reducer<T>> PreparedCode<'a, T, R> {
     /// code.extend(&[121, 6, 57], &mut lost);
     /// assert_eq!(lost, [1, 17]);
     /// ```
-    ///
-    /// # Panics
-    ///
-    /// Panics unless there is a symbol for each known point, and a place for each wanted point. A debug
-    /// build also panics unless the symbols are checked forms. A release build doesn't test that, and
-    /// outside it panics, or returns no meaningful result.
     #[inline]
     #[track_caller]
     pub fn extend(&self, symbols: &[T], others: &mut [T]) {
@@ -119,6 +119,12 @@ impl<'a, T: RingWord, R: Reducer<T>> PreparedCode<'a, T, R> {
     /// symbols.
     /// It takes at most t·k products.
     ///
+    /// # Panics
+    ///
+    /// Panics unless there is a symbol for each known point, and one for each wanted point. A debug build
+    /// also panics unless the symbols are checked forms. A release build doesn't test that, and outside it
+    /// panics, or returns no meaningful result.
+    ///
     /// # Examples
     ///
     /// ```
@@ -131,12 +137,6 @@ impl<'a, T: RingWord, R: Reducer<T>> PreparedCode<'a, T, R> {
     /// assert!(code.is_codeword(&[3, 2, 1], &[0, 928]));
     /// assert!(!code.is_codeword(&[3, 2, 1], &[0, 927]));
     /// ```
-    ///
-    /// # Panics
-    ///
-    /// Panics unless there is a symbol for each known point, and one for each wanted point. A debug build
-    /// also panics unless the symbols are checked forms. A release build doesn't test that, and outside it
-    /// panics, or returns no meaningful result.
     #[inline]
     #[track_caller]
     pub fn is_codeword(&self, symbols: &[T], others: &[T]) -> bool {

@@ -44,6 +44,11 @@ fn have_inverses<T: RingWord, R: Reducer<T>>(r: &R, points: &[T]) -> bool {
 ///
 /// Source: Shamir, "How to share a secret".
 ///
+/// # Preconditions
+///
+/// Points and coefficients are checked forms, and `shares` has a place for each point. This isn't
+/// tested: outside it the call panics, or returns no meaningful result.
+///
 /// # Examples
 ///
 /// ```
@@ -55,11 +60,6 @@ fn have_inverses<T: RingWord, R: Reducer<T>>(r: &R, points: &[T]) -> bool {
 /// share(&ring, &[1, 2, 3], &[5, 7], &mut shares).unwrap(); // 5 is the secret, 7 is drawn at random
 /// assert_eq!(shares, [12, 19, 26]);
 /// ```
-///
-/// # Preconditions
-///
-/// Points and coefficients are checked forms, and `shares` has a place for each point. This isn't
-/// tested: outside it the call panics, or returns no meaningful result.
 #[inline]
 pub fn share<T: RingWord, R: Reducer<T>>(
     r: &R,
@@ -82,6 +82,12 @@ pub fn share<T: RingWord, R: Reducer<T>>(
 ///
 /// Source: Shamir, "How to share a secret".
 ///
+/// # Preconditions
+///
+/// Points and shares are checked forms, each place has its share, k is at least 1, and there are k
+/// weights and room for k points in `chosen`. This isn't tested: outside it the call panics, or returns
+/// no meaningful result.
+///
 /// # Examples
 ///
 /// ```
@@ -93,12 +99,6 @@ pub fn share<T: RingWord, R: Reducer<T>>(
 /// let secret = recover(&ring, &[1, 2, 3], &[2, 0], &[26, 12], &mut chosen, &mut weights, &mut coefficients);
 /// assert_eq!(secret, Ok(5));
 /// ```
-///
-/// # Preconditions
-///
-/// Points and shares are checked forms, each place has its share, k is at least 1, and there are k
-/// weights and room for k points in `chosen`. This isn't tested: outside it the call panics, or returns
-/// no meaningful result.
 #[inline]
 pub fn recover<T: RingWord, R: Reducer<T>>(
     r: &R,
@@ -125,6 +125,12 @@ pub fn recover<T: RingWord, R: Reducer<T>>(
 ///
 /// Source: McEliece and Sarwate, "On sharing secrets and Reed-Solomon codes".
 ///
+/// # Preconditions
+///
+/// Points and shares are checked forms, each place has its share, k is at least 1, `word` has a place
+/// for each point, and there are 3·(s + k) + 2 places of scratch. This isn't tested: outside it the
+/// call panics, or returns no meaningful result.
+///
 /// # Examples
 ///
 /// ```
@@ -139,12 +145,6 @@ pub fn recover<T: RingWord, R: Reducer<T>>(
 ///     recover_correct(&ring, &[1, 2, 3, 4], &[0, 1, 2, 3], &shares, &mut scratch, &mut coefficients, &mut word);
 /// assert_eq!(secret, Ok(5));
 /// ```
-///
-/// # Preconditions
-///
-/// Points and shares are checked forms, each place has its share, k is at least 1, `word` has a place
-/// for each point, and there are 3·(s + k) + 2 places of scratch. This isn't tested: outside it the
-/// call panics, or returns no meaningful result.
 #[inline]
 pub fn recover_correct<T: RingWord, R: Reducer<T>>(
     r: &R,
