@@ -1,7 +1,8 @@
 -- Plans for C, and the lists of words that calls by a plan accept. The names are the library's own words.
 use Rattle.std.specs.Prelude.{◌≡◌, ℕ, ◌*◌, ◌/◌, ◌^◌, ◌<◌, ◌≤◌, List, All, length}
-use Rattle.modular_barrett.specs.Factors.{IsFactor}
+use Rattle.modular_barrett.specs.Factors.{AllFactors}
 use Rattle.modular_plan_passes.specs.Plans.{numbers, IsPlan, AreRemainders}
+use Rattle.modular_plan_transforms.specs.Tables.{IsTable as IsPlanTable}
 use Rattle.num_modular.specs.PlanConditions.{AreBlocks}
 use Rattle.num_modular.specs.ProductConditions.{AreSmallBlocks}
 use Rattle.num_modular_c.specs.declared.plans.NmFactor.{NmFactor}
@@ -20,16 +21,15 @@ words_of words = numbers (λ x. x) words
 
 -- each entry is a factor below m with its quotient by m
 abbrev pub AreFactors : ℕ → List NmFactor → Type 0
-AreFactors m table = All (λ f. IsFactor (2 ^ 64) m f.value f.quotient) table
+AreFactors m table = AllFactors (2 ^ 64) m (λ f. f.value) (λ f. f.quotient) table
 
 -- the table's values are the plan by g for transforms of 2^z entries
 abbrev pub IsPlanBy : ℕ → ℕ → ℕ → List NmFactor → Type 0
 IsPlanBy m g z table = IsPlan m g z (length table) (numbers (λ f. f.value) table)
 
 -- the table is the plan by g, with the quotients by m, for as many entries as twice its length
-pub record IsTable (m g : ℕ) (table : List NmFactor) : Type 0 where
-  pub factors : AreFactors m table
-  pub plan : (z : ℕ) → 2 ^ z ≡ 2 * length table → IsPlanBy m g z table
+abbrev pub IsTable : ℕ → ℕ → List NmFactor → Type 0
+IsTable m g table = IsPlanTable (2 ^ 64) m g (λ f. f.value) (λ f. f.quotient) table
 
 -- the words are below 4m, and a plan of so many factors splits them, as block b, into blocks of `last`
 pub record IsSplit (m factors b last : ℕ) (words : List ℕ) : Type 0 where

@@ -10,9 +10,10 @@ ghost use Rattle.num_modular_c.specs.Plans.{words_of, AreBelow, AreFactors, IsPl
 ghost use Rattle.num_modular_c.specs.Plans.{IsSplit, IsPair, IsPlannedProduct};
 
 use crate::codes::{NM_BAD_ARGUMENT, NM_BAD_CONTEXT, NM_NO_INVERSE, NM_OK};
-use crate::plans::{NmFactor, are_factors};
+use crate::plans::NmFactor;
 use modular_barrett::planned::PlannedModulus;
 use modular_plan_transforms::convolution::{convolve_negacyclic, convolve_planned, convolves};
+use modular_plan_transforms::filled::are_factors;
 use modular_plan_transforms::join::join;
 use modular_plan_transforms::split::{split, splits};
 use modular_plan_transforms::transform::ntt_planned;
