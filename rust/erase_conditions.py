@@ -46,6 +46,11 @@ LOOKS = {
         (DEBUG, "r.check(g) && xs.iter().all(|x| r.check(x)) && ys.iter().all(|y| r.check(y))"),
         (EVERY, "r.check(g) && crate::ring::root_fits(r, g, xs.len())"),
     ),
+    ("inverse", "intt"): (
+        LENGTH,
+        (DEBUG, "r.check(g) && xs.iter().all(|x| r.check(x))"),
+        (EVERY, "r.check(g) && crate::ring::root_fits(r, g, xs.len())"),
+    ),
     ("ring", "run"): (
         (DEBUG, "all_checked(r, regs)"),
         (DEBUG, "commands.iter().all(|c| commands_fit(&[c.command()], regs.len()))"),

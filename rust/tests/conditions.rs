@@ -8,7 +8,7 @@ use num_modular::plans::{
     convolve_block, convolve_negacyclic, convolve_planned, join, ntt_planned, plan, split, Factor, Plan, PlanEntry, PlannedModulus,
 };
 use num_modular::residues;
-use num_modular::ring::{convolve, find_root, ntt, ntt_counted, run, RingCommand, RunEnd};
+use num_modular::ring::{convolve, find_root, intt, ntt, ntt_counted, run, RingCommand, RunEnd};
 use num_modular::{
     DivExact, FixedMersenne, FixedMersenne32, FixedMersenne64, FixedMontgomery32, FixedProth32, FixedTrinomialSolinas32,
     ModularAbs, ModularCoreOps, ModularPow, ModularRefOps, ModularSymbols, ModularUnaryOps, Montgomery, MontgomeryInt,
@@ -216,6 +216,20 @@ fn transforms() {
     panic_in_debug_with!("g and the entries must be checked forms"; ntt_counted(&ring, &mut [1000, 0], &96));
 }
 
+#[test]
+fn inverse_transforms() {
+    let undone = |m: u64, g: u64, entries: [u64; 4]| {
+        let mut xs = entries;
+        intt(&Vanilla::<u64>::new(&m), &mut xs, &g).then(|| xs)
+    };
+    assert_eq!(undone(97, 22, [10, 51, 95, 42]), Some([1, 2, 3, 4]));
+    let mut xs = [16, 18];
+    assert!(!intt(&Vanilla::<u64>::new(&20), &mut xs, &19)); // 2 has no inverse modulo 20
+    assert_eq!(xs, [16, 18]);
+    panic_with!("the length must be a power of two: 3"; intt(&Vanilla::<u64>::new(&97), &mut [1, 1, 1], &22));
+    panic_with!("g must suit the length: n = 4, m = 97, g = 5"; undone(97, 5, [1, 2, 3, 4]));
+}
+
 /// The modulus 97, and its plan for four entries by the root 22.
 fn planned() -> (PlannedModulus<u64>, [Factor<u64>; 2]) {
     let modulus = PlannedModulus::<u64>::new(97);
@@ -377,4 +391,17 @@ fn a_short_transform_reads_the_used_part_of_a_table() {
         READ.with(|it| *it.borrow())
     };
     assert!(reads(4) <= 4 * 4 && reads(64) <= 4 * 64, "{} and {}", reads(4), reads(64));
+}
+
+#[test]
+fn plans_over_filled_tables() {
+    let (modulus, table) = planned();
+    let plan = Plan::with_table(&modulus, 22, &table).unwrap();
+    let mut xs = [10, 51, 95, 42];
+    plan.inverse(&mut xs);
+    assert_eq!(xs, [1, 2, 3, 4]);
+    assert!(Plan::with_table(&modulus, 75, &table).is_none()); // 75 suits too, but the table has the powers of 22
+    assert!(Plan::with_table(&modulus, 5, &table).is_none());
+    assert!(Plan::with_table(&modulus, 22, &[table[1], table[0]]).is_none());
+    assert!(Plan::with_table(&PlannedModulus::<u64>::new(193), 81, &table).is_none()); // another modulus
 }
