@@ -1,5 +1,6 @@
 """Takes away what only proofs use, for rust/erase: laws, traits without members, imports; and names parameters that nothing reads."""
 import re
+from collections import Counter
 from dataclasses import dataclass, field
 
 from erase_conditions import first_of
@@ -333,6 +334,45 @@ def has_functions_only(tokens):
             at = body_of(tokens, at)
         at = beyond(tokens, at) if tokens[at].text == "{" else at + 1
     return True
+
+
+def mark_functions_of_tests(files, parts, gone, named):
+    """Marks the functions of the other private modules that only tests call, and what they alone import."""
+    last, exported = {name for _, name in named}, set()
+    for crate, files_of_crate in files.items():
+        for path, tokens in files_of_crate.items():
+            if (crate, path) not in gone:
+                last |= {it[-1] for found in imports(tokens) for it in leaves(found.tree)}
+                exported |= {it for found in imports(tokens) if found.public for it in leaves(found.tree)}
+                last |= {y.text for x, y in zip(tokens, tokens[1:]) if x.text == "::"}
+    for crate in parts:
+        for path, tokens in files[crate].items():
+            if (crate, path) in gone or exported & set(zip((crate, *path.parts), path.parts)):
+                continue  # whoever exports a module exports its functions
+            counts = Counter(it.text for it in tokens if it.kind == "name")
+            for at in reversed(free_functions(tokens)):
+                name = tokens[at + 1].text
+                if tokens[at - 1].text == "pub" and name not in last and counts[name] == 1:
+                    inside = Counter(it.text for it in tokens[at : beyond(tokens, body_of(tokens, at))] if it.kind == "name")
+                    put_attribute(tokens, first_of(tokens, at), "#[cfg(test)]")
+                    mark_imports_of_tests(tokens, {it for it in inside if inside[it] == counts[it] - 1})
+
+
+def mark_imports_of_tests(tokens, names):
+    """Imports these names for tests alone, where a file imports them."""
+    found = []
+
+    def keeps(path, name):
+        if name in names:
+            found.append("::".join(path))
+        return name not in names
+
+    filter_imports(tokens, keeps, "that only tests need", public=False)
+    for path in found:
+        tokens[0:0] = lexed("#[cfg(test)]\nuse " + path + ";")
+        tokens[next(at for at, it in enumerate(tokens) if it.text == ";") + 1].lead = "\n" + tokens[
+            next(at for at, it in enumerate(tokens) if it.text == ";") + 1
+        ].lead.lstrip("\n")
 
 
 def mark_modules_of_tests(files, gone):
