@@ -1,6 +1,9 @@
 //! Transforms by a plan: factors with their quotients in a table that the caller owns, for moduli that are at most
 //! a quarter of the base. An entry of the table is a `Factor`, or a struct of the caller (`PlanEntry`). `ring` has
 //! the transforms that need no table, over any reducer, and `find_root`.
+//!
+//! `Plan` knows that its table is a plan, and asks only for lists that fit. The functions over a table are for a struct
+//! that owns its table, which can't keep a `Plan`; they also ask for the table's factors.
 
 pub use crate::modular_barrett::planned::{Factor, PlannedModulus};
 pub use crate::modular_plan_passes::entry::PlanEntry;

@@ -45,10 +45,11 @@ pub(crate) fn transform_back<T: RingWord, R: Reducer<T>>(r: &R, xs: &mut [T], g:
 /// Source: Pollard, "The fast Fourier transform in a finite field", section 2: the transform by the inverse of g, which
 /// is that by g in another order, divided by n.
 ///
-/// # Preconditions
+/// # Panics
 ///
-/// The length is a power of two, and g and the entries are checked forms, and g suits the length
-/// (`root_fits` tells). This isn't tested: outside it the call panics, or returns no meaningful result.
+/// Panics unless the length is a power of two, and g suits the length (`root_fits` tells). A debug
+/// build also panics unless g and the entries are checked forms. A release build doesn't test that, and
+/// outside it panics, or returns no meaningful result.
 ///
 /// # Examples
 ///
@@ -65,7 +66,11 @@ pub(crate) fn transform_back<T: RingWord, R: Reducer<T>>(r: &R, xs: &mut [T], g:
 /// assert_eq!(entries, [1, 2, 3, 4]);
 /// ```
 #[inline]
+#[track_caller]
 pub fn intt<T: RingWord, R: Reducer<T>>(r: &R, xs: &mut [T], g: &T) -> bool {
+    assert!(xs.len().is_power_of_two(), "the length must be a power of two: {}", xs.len());
+    debug_assert!(r.check(g) && xs.iter().all(|x| r.check(x)), "g and the entries must be checked forms");
+    assert!(r.check(g) && crate::ring::root_fits(r, g, xs.len()), "g must suit the length: n = {}, m = {}, g = {}", xs.len(), crate::additions::number(r.modulus()), crate::additions::number(r.residue(*g)));
     let length = length_form(r, xs.len());
     match r.inv(length) {
         Some(part) => {

@@ -1,9 +1,10 @@
 //! Transforms and products of lists of words by a plan.
 
 use crate::num_modular_c::codes::{NM_BAD_ARGUMENT, NM_BAD_CONTEXT, NM_NO_INVERSE, NM_OK};
-use crate::num_modular_c::plans::{NmFactor, are_factors};
+use crate::num_modular_c::plans::NmFactor;
 use crate::modular_barrett::planned::PlannedModulus;
 use crate::modular_plan_transforms::convolution::{convolve_negacyclic, convolve_planned, convolves};
+use crate::modular_plan_transforms::filled::are_factors;
 use crate::modular_plan_transforms::join::join;
 use crate::modular_plan_transforms::split::{split, splits};
 use crate::modular_plan_transforms::transform::ntt_planned;

@@ -322,7 +322,9 @@ fn is_plan_over(row: &Table, table: &mut [Factor<u64>]) -> bool {
     }
     let m = PlannedModulus::<u64>::new(row.m);
     match Plan::with_table(&m, row.root, &table[..row.entries.len()]) {
-        Some(plan) => plan.modulus() == m && plan.root() == row.root && plan.fits(2 * row.entries.len()),
+        Some(plan) => plan.modulus() == m
+            && plan.root() == row.root
+            && plan.fits(2 * row.entries.len()),
         None => false,
     }
 }
@@ -334,6 +336,10 @@ fn tables_that_are_plans(rt: HostRuntime) {
         quotient: 0,
     }; 4];
     for i in 0..TABLES.len() {
-        assert_at(&rt, is_plan_over(&TABLES[i], &mut table) == TABLES[i].is, &i);
+        assert_at(
+            &rt,
+            is_plan_over(&TABLES[i], &mut table) == TABLES[i].is,
+            &i,
+        );
     }
 }

@@ -272,3 +272,69 @@ fn plans_that_there_are() {
         assert_at(&rt, is_plan(m, root, &mut table[..factors]) == is, row);
     }
 }
+
+// A modulus, a root, the factors of a table with their quotients, and whether the table is a plan by the root.
+struct Table<'a> {
+    m: u64,
+    root: u64,
+    entries: &'a [(u64, u64)],
+    is: bool,
+}
+
+const TABLES: &[Table] = &[
+    Table { m: 17, root: 4, entries: &[(1, 1085102592571150095), (4, 4340410370284600380)], is: true },
+    Table { m: 17, root: 2, entries: &[(1, 1085102592571150095), (4, 4340410370284600380), (2, 2170205185142300190),
+        (8, 8680820740569200760)], is: true },
+    Table { m: 1, root: 0, entries: &[(0, 0)], is: true },
+    // powers of another root, in another order, and a last one that isn't
+    Table { m: 17, root: 13, entries: &[(1, 1085102592571150095), (4, 4340410370284600380)], is: false },
+    Table { m: 17, root: 2, entries: &[(1, 1085102592571150095), (2, 2170205185142300190), (4, 4340410370284600380),
+        (8, 8680820740569200760)], is: false },
+    Table { m: 17, root: 2, entries: &[(1, 1085102592571150095), (4, 4340410370284600380), (2, 2170205185142300190),
+        (9, 9765923333140350855)], is: false },
+    // a quotient that is one too small, and one that is one too great
+    Table { m: 17, root: 4, entries: &[(1, 1085102592571150095), (4, 4340410370284600379)], is: false },
+    Table { m: 17, root: 4, entries: &[(1, 1085102592571150096), (4, 4340410370284600380)], is: false },
+    // a power that isn't reduced
+    Table { m: 17, root: 4, entries: &[(18, 1085102592571150095), (4, 4340410370284600380)], is: false },
+    // an even modulus, a root that isn't below the modulus, and lengths that aren't twice a power of two
+    Table { m: 20, root: 19, entries: &[(1, 922337203685477580)], is: false },
+    Table { m: 17, root: 21, entries: &[(1, 1085102592571150095), (4, 4340410370284600380)], is: false },
+    Table { m: 17, root: 4, entries: &[], is: false },
+    Table { m: 17, root: 4, entries: &[(1, 1085102592571150095), (4, 4340410370284600380), (16, 17361641481138401520)],
+        is: false },
+];
+
+// Whether the row's table is a plan, with this modulus, root and number of entries; its factors get room.
+fn is_plan_over(row: &Table, table: &mut [Factor<u64>]) -> bool {
+    if !PlannedModulus::<u64>::admits(row.m) || row.entries.len() > table.len() {
+        return false;
+    }
+    for i in 0..row.entries.len() {
+        let (value, quotient) = row.entries[i];
+        table[i] = Factor { value, quotient };
+    }
+    let m = PlannedModulus::<u64>::new(row.m);
+    match Plan::with_table(&m, row.root, &table[..row.entries.len()]) {
+        Some(plan) => plan.modulus() == m
+            && plan.root() == row.root
+            && plan.fits(2 * row.entries.len()),
+        None => false,
+    }
+}
+
+#[test]
+fn tables_that_are_plans() {
+    let rt = crate::runtime::HostRuntime;
+    let mut table = [Factor::<u64> {
+        value: 0,
+        quotient: 0,
+    }; 4];
+    for i in 0..TABLES.len() {
+        assert_at(
+            &rt,
+            is_plan_over(&TABLES[i], &mut table) == TABLES[i].is,
+            &i,
+        );
+    }
+}

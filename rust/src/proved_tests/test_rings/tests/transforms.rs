@@ -3,7 +3,7 @@
 use super::questions::{Question, answers, first_wrong};
 use super::{assert_at, assert_right};
 use crate::modular_transform::plain::{product_entry, suits, transform_entry};
-use crate::ring::{all_checked, convolve, ntt, ntt_counted, root_fits};
+use crate::ring::{all_checked, convolve, intt, ntt, ntt_counted, root_fits};
 use crate::word::RingWord;
 use crate::{FixedTrinomialSolinas64, Reducer};
 
@@ -45,6 +45,17 @@ fn transformed_uncounted<T: RingWord, R: Reducer<T>>(r: &R, xs: &mut [T], g: T) 
         true
     } else {
         false
+    }
+}
+
+// The forms of residues transformed back in their place; `None` where g doesn't suit.
+fn transformed_back<T: RingWord, R: Reducer<T>>(r: &R, xs: &mut [T], g: T) -> Option<bool> {
+    take_forms(r, xs);
+    let root = r.transform(g);
+    if all_checked(r, xs) && root_fits(r, &root, xs.len()) {
+        Some(intt(r, xs, &root))
+    } else {
+        None
     }
 }
 
@@ -139,6 +150,40 @@ impl<'a> Question<u8> for Transform<'a> {
     }
 }
 
+// A modulus, a root, the residues of a list, whether their number has an inverse, and the residues of the list whose
+// transform it is.
+struct Inverse<'a> {
+    m: u8,
+    root: u8,
+    list: &'a [u8],
+    inverted: bool,
+    want: &'a [u8],
+}
+
+const INVERSES: &[Inverse] = &[
+    Inverse { m: 17, root: 4, list: &[3, 1, 4, 15], inverted: true, want: &[10, 1, 2, 7] },
+    Inverse { m: 17, root: 3, list: &[5], inverted: true, want: &[5] },
+    Inverse { m: 85, root: 13, list: &[10, 57, 83, 24], inverted: true, want: &[1, 2, 3, 4] },
+    Inverse { m: 1, root: 0, list: &[0, 0], inverted: true, want: &[0, 0] },
+    Inverse { m: 20, root: 19, list: &[7], inverted: true, want: &[7] },
+    Inverse { m: 20, root: 19, list: &[16, 18], inverted: false, want: &[16, 18] },
+];
+
+impl<'a> Question<u8> for Inverse<'a> {
+    type Answer = bool;
+
+    fn modulus(&self) -> u8 {
+        self.m
+    }
+
+    fn answer<R: Reducer<u8> + Copy>(&self, m: u8) -> bool {
+        let r = &R::new(&m);
+        let mut list = copied(self.list);
+        let xs = &mut list[..self.list.len().min(4)];
+        transformed_back(r, xs, self.root) == Some(self.inverted) && are_forms(r, xs, self.want)
+    }
+}
+
 // A modulus, a root, the residues of two lists, whether their number has an inverse, and the residues of the
 // cyclic product and of the transform of the second list.
 struct Product<'a> {
@@ -181,6 +226,7 @@ fn known_roots_transforms_and_products() {
     let rt = &rt;
     assert_right(rt, first_wrong(ROOTS));
     assert_right(rt, first_wrong(TRANSFORMS));
+    assert_right(rt, first_wrong(INVERSES));
     assert_right(rt, first_wrong(PRODUCTS));
 }
 
