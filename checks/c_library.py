@@ -40,9 +40,10 @@ def in_c(name):
 def exports():
     """The parameters of each export, as type and name in C. A list is a pointer, and then a length without a name."""
     found = {}
-    for name, parameters in re.findall(r'\bpub extern "C" fn (\w+)\(([^)]*)\) -> u32\n', SOURCES):
+    for name, parameters in re.findall(r'\bpub extern "C" fn (\w+)(?:<\'a>)?\(([^)]*)\) -> u32\n', SOURCES):
         found[name] = []
-        for own, reference, is_list, kind in re.findall(r"(\w+): (&(?:mut )?|)(\[?)(\w+)", parameters):
+        for own, reference, is_list, kind in re.findall(r"(\w+): (&(?:'a )?(?:mut )?|)(\[?)(\w+)", parameters):
+            reference = reference.replace("'a ", "")
             constant = "const " if reference == "&" else ""
             found[name].append((constant + in_c(kind) + (" *" if reference else " "), own))
             found[name] += [("size_t ", None)] if is_list else []
@@ -73,9 +74,11 @@ def layouts(header, folder):
     """What a C compiler says where a struct or a constant of the header isn't that of the sources."""
     constants = re.findall(r"^pub const (NM_\w+): u\d+ = (\d+);$", SOURCES, re.M)
     lines = [f'_Static_assert({name} == UINT64_C({value}), "{name}");' for name, value in constants]
-    structs = re.findall(r"#\[repr\(C\)\]\n[^\n]*\npub struct (\w+) \{\n(.*?)\n\}", SOURCES, re.S)
+    structs = re.findall(r"#\[repr\(C\)\]\n[^\n]*\npub struct (\w+)(?:<'a>)? \{\n(.*?)\n\}", SOURCES, re.S)
     for name, body in structs:
-        fields = [(own, in_c(kind)) for own, kind in re.findall(r"^ +pub (\w+): (\w+),$", body, re.M)]
+        fields = []
+        for own, is_list, kind in re.findall(r"^ +pub (\w+): (&'a \[)?(\w+)\]?,$", body, re.M):
+            fields += [(own, f"const {in_c(kind)} *"), (f"{own}_length", "size_t")] if is_list else [(own, in_c(kind))]
         lines.append(f"struct {name} {{ {' '.join(f'{kind} {own};' for own, kind in fields)} }};")
         lines.append(f'_Static_assert(sizeof({in_c(name)}) == sizeof(struct {name}), "{name}");')
         for own, kind in fields:

@@ -1,9 +1,10 @@
 /* Arithmetic modulo m on words of 64 bits: the library num_modular, proved, for C.
  *
  * Each function tests its preconditions and returns a code. With NM_OK it has written its result. With any other code
- * it leaves everything that the caller passed unchanged; only nm_montgomery_run also writes with NM_NO_INVERSE. It is
- * proved that the old and the new contents are equal, which would also hold for a body that writes and restores. That
- * such a call doesn't write at all is tested, with outputs in a read-only page.
+ * it leaves everything that the caller passed unchanged, but for the scratch list of the erasure codes; only
+ * nm_montgomery_run and nm_erasure_correct also write with NM_NO_INVERSE. It is proved that the old and the new contents
+ * are equal, which would also hold for a body that writes and restores. That such a call doesn't write at all is tested,
+ * with outputs in a read-only page.
  *
  * The caller must ensure these preconditions, which the library can't test:
  *
@@ -46,6 +47,13 @@ extern "C" {
 #define NM_BAD_CONTEXT 3u  /* a divider, a context or a table isn't one that the library makes */
 #define NM_NO_ROOT 4u      /* there is no root, or the given root doesn't suit the length */
 #define NM_NOT_FOUND 5u    /* the pattern doesn't occur */
+/* those of the erasure codes */
+#define NM_TOO_FEW_SYMBOLS 6u        /* there are fewer symbols than the message has */
+#define NM_PLACE_OUT_OF_RANGE 7u     /* a place isn't below the number of points */
+#define NM_PLACE_TWICE 8u            /* a place occurs twice */
+#define NM_POINTS_DONT_FIT 9u        /* the difference of two points has no inverse */
+#define NM_TOO_MANY_ERRORS 10u       /* no word of the code is near enough to the symbols */
+#define NM_POINT_WITHOUT_INVERSE 11u /* a point has no inverse, so that the share there would tell something */
 
 /* What a code says, in a few words, as for an error message. */
 static inline const char *nm_strerror(uint32_t code) {
@@ -56,6 +64,12 @@ static inline const char *nm_strerror(uint32_t code) {
     case NM_BAD_CONTEXT: return "a divider, context or table isn't one that the library makes";
     case NM_NO_ROOT: return "no root suits the length";
     case NM_NOT_FOUND: return "the pattern doesn't occur";
+    case NM_TOO_FEW_SYMBOLS: return "there are fewer symbols than the message has";
+    case NM_PLACE_OUT_OF_RANGE: return "a place isn't below the number of points";
+    case NM_PLACE_TWICE: return "a place occurs twice";
+    case NM_POINTS_DONT_FIT: return "the difference of two points has no inverse";
+    case NM_TOO_MANY_ERRORS: return "no word of the code is near enough to the symbols";
+    case NM_POINT_WITHOUT_INVERSE: return "a point has no inverse";
     default: return "no code of num_modular";
     }
 }
@@ -280,6 +294,49 @@ NM_CHECK uint32_t nm_convolve_planned(uint64_t m, uint64_t *xs, size_t n, uint64
  * the table must have at least n / last entries. */
 NM_CHECK uint32_t nm_convolve_negacyclic(uint64_t m, uint64_t *xs, size_t n, uint64_t *ys, size_t k,
                                          const nm_factor_t *table, size_t length, size_t last);
+
+/* --- Erasure codes (Reed-Solomon) and secret sharing (Shamir), modulo any m. ---
+ *
+ * A message of k symbols is the list of the coefficients of a polynomial, the constant first, and symbol i of its word is
+ * the value modulo m at point i. Lists hold words that may be above m; results are below m. The message comes back from
+ * any k symbols, or from s symbols of which at most (s - k)/2 are wrong, if the points fit: the difference of any two
+ * has an inverse modulo m. So their number is at most the least prime that divides m.
+ *
+ * places are numbers of points, counted from 0, and symbol j is the one at place j. The contents of scratch are
+ * unspecified after every call, whatever its code. With n points and s places: NM_BAD_ARGUMENT: word or shares hasn't n
+ * entries, t isn't s, or scratch is shorter than the call needs. NM_BAD_CONTEXT: the context isn't one that nm_montgomery
+ * makes. Where several codes fit, any one of them may come. Nothing runs in constant time. */
+
+/* The word of the message. scratch: n + k words. */
+NM_CHECK uint32_t nm_erasure_encode(const nm_montgomery_t *context, const uint64_t *points, size_t n,
+                                    const uint64_t *message, size_t k, uint64_t *word, size_t length, uint64_t *scratch,
+                                    size_t scratch_length);
+
+/* The message of k symbols, by the first k places and the symbols there. scratch: n + s + 3 * k words.
+ * NM_TOO_FEW_SYMBOLS: s is below k. NM_PLACE_OUT_OF_RANGE, NM_PLACE_TWICE: of the first k places. NM_POINTS_DONT_FIT: the
+ * points at these places don't. */
+NM_CHECK uint32_t nm_erasure_restore(const nm_montgomery_t *context, const uint64_t *points, size_t n,
+                                     const size_t *places, size_t s, const uint64_t *symbols, size_t t,
+                                     uint64_t *message, size_t k, uint64_t *scratch, size_t scratch_length);
+
+/* The only message of k symbols, at least 1, whose word differs in e of the s symbols, where 2 * e is at most s - k; that
+ * word; and e, as errors. scratch: 2 * n + 4 * s + 4 * k + 2 words.
+ * NM_TOO_MANY_ERRORS: no word is that near. NM_NO_INVERSE: a number above 0 without an inverse modulo m was met, and is
+ * written to number; it never comes where m is a prime. The codes of nm_erasure_restore, for all s places.
+ * NM_BAD_ARGUMENT also where k is 0. */
+NM_CHECK uint32_t nm_erasure_correct(const nm_montgomery_t *context, const uint64_t *points, size_t n,
+                                     const size_t *places, size_t s, const uint64_t *symbols, size_t t,
+                                     uint64_t *message, size_t k, uint64_t *word, size_t length, uint64_t *scratch,
+                                     size_t scratch_length, size_t *errors, uint64_t *number);
+
+/* Shares of a secret, by Shamir's scheme: the word of a message whose first symbol is the secret, and whose k - 1 others
+ * the caller draws at random, each from 0 to m - 1. Then k - 1 shares say nothing of the secret. nm_erasure_restore gives
+ * it back as the first symbol of the message from any k shares, and nm_erasure_correct though some are forged.
+ * scratch: n + k words. NM_POINT_WITHOUT_INVERSE: a point, such as 0, has no inverse. NM_POINTS_DONT_FIT: the points
+ * don't. */
+NM_CHECK uint32_t nm_erasure_share(const nm_montgomery_t *context, const uint64_t *points, size_t n,
+                                   const uint64_t *coefficients, size_t k, uint64_t *shares, size_t length,
+                                   uint64_t *scratch, size_t scratch_length);
 
 /* --- Applications: hashes, numbers by their residues, long products. --- */
 

@@ -167,8 +167,8 @@ void divider_rows(void) {
 void header_rows(void) {
     uint32_t version = 10000 * NM_VERSION_MAJOR + 100 * NM_VERSION_MINOR + NM_VERSION_PATCH;
     row("nm_version()", nm_version() == version, nm_version());
-    for (uint32_t code = 0; code <= NM_NOT_FOUND + 1; code++)
+    for (uint32_t code = 0; code <= NM_POINT_WITHOUT_INVERSE + 1; code++)
         for (uint32_t other = 0; other < code; other++)
             row("nm_strerror", strcmp(nm_strerror(code), nm_strerror(other)) != 0, code);
-    row("nm_strerror of no code", strcmp(nm_strerror(6), nm_strerror(UINT32_MAX)) == 0, 6);
+    row("nm_strerror of no code", strcmp(nm_strerror(12), nm_strerror(UINT32_MAX)) == 0, 12);
 }

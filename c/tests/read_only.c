@@ -116,6 +116,38 @@ static void plan_refusals(void) {
     REFUSES(NM_NO_INVERSE, nm_convolve_negacyclic(20, words, 2, others, 2, table, 2, 1));
 }
 
+/* scratch can be written */
+static void erasure_refusals(const nm_montgomery_t *ring, const nm_montgomery_t *changed) {
+    static const uint64_t points[3] = {0, 1, 3}, symbols[3] = {1, 2, 3};
+    static const size_t few[1] = {0}, twice[2] = {1, 1}, beyond[2] = {0, 3}, apart[2] = {0, 1};
+    const uint64_t even[2] = {1, 3};
+    uint64_t scratch[60], *others = words + 8, *number = words + 16;
+    size_t *errors = (size_t *)(words + 15);
+    REFUSES(CAUGHT, nm_erasure_encode(ring, points, 3, symbols, 2, words, 3, scratch, 60));
+    REFUSES(NM_BAD_CONTEXT, nm_erasure_encode(changed, points, 3, symbols, 2, words, 3, scratch, 60));
+    REFUSES(NM_BAD_ARGUMENT, nm_erasure_encode(ring, points, 3, symbols, 2, words, 2, scratch, 60));
+    REFUSES(NM_BAD_CONTEXT, nm_erasure_share(changed, points, 3, symbols, 2, words, 3, scratch, 60));
+    REFUSES(NM_BAD_ARGUMENT, nm_erasure_share(ring, points, 3, symbols, 2, words, 3, scratch, 4));
+    REFUSES(NM_POINT_WITHOUT_INVERSE, nm_erasure_share(ring, points, 3, symbols, 2, words, 3, scratch, 60));
+    REFUSES(NM_POINTS_DONT_FIT, nm_erasure_share(ring, even, 2, symbols, 2, words, 2, scratch, 60));
+    REFUSES(NM_BAD_CONTEXT, nm_erasure_restore(changed, points, 3, apart, 2, symbols, 2, words, 2, scratch, 60));
+    REFUSES(NM_BAD_ARGUMENT, nm_erasure_restore(ring, points, 3, apart, 2, symbols, 1, words, 2, scratch, 60));
+    REFUSES(NM_TOO_FEW_SYMBOLS, nm_erasure_restore(ring, points, 3, few, 1, symbols, 1, words, 2, scratch, 60));
+    REFUSES(NM_PLACE_TWICE, nm_erasure_restore(ring, points, 3, twice, 2, symbols, 2, words, 2, scratch, 60));
+    REFUSES(NM_PLACE_OUT_OF_RANGE, nm_erasure_restore(ring, points, 3, beyond, 2, symbols, 2, words, 2, scratch, 60));
+    REFUSES(NM_POINTS_DONT_FIT, nm_erasure_restore(ring, even, 2, apart, 2, symbols, 2, words, 2, scratch, 60));
+#define CORRECT(with, at, places, s, t)                                                                                \
+    nm_erasure_correct(with, at, 2, places, s, symbols, t, words, 1, others, 2, scratch, 60, errors, number)
+    REFUSES(NM_BAD_CONTEXT, CORRECT(changed, points, apart, 2, 2));
+    REFUSES(NM_BAD_ARGUMENT, CORRECT(ring, points, apart, 2, 1));
+    REFUSES(NM_TOO_FEW_SYMBOLS, CORRECT(ring, points, apart, 0, 0));
+    REFUSES(NM_PLACE_TWICE, CORRECT(ring, points, twice, 2, 2));
+    REFUSES(NM_PLACE_OUT_OF_RANGE, CORRECT(ring, points, beyond, 2, 2));
+    REFUSES(NM_POINTS_DONT_FIT, CORRECT(ring, even, apart, 2, 2));
+    REFUSES(NM_TOO_MANY_ERRORS, CORRECT(ring, points, apart, 2, 2));
+#undef CORRECT
+}
+
 static void user_refusals(void) {
     static const uint8_t text[3] = {1, 2, 3}, pattern[1] = {4};
     static const uint64_t moduli[2] = {3, 9}, residues[2] = {0, 0};
@@ -146,6 +178,7 @@ void read_only_rows(void) {
     form_refusals(&ring, &changed);
     list_refusals(&ring, &changed);
     plan_refusals();
+    erasure_refusals(&ring, &changed);
     user_refusals();
     sigaction(SIGSEGV, &old, NULL);
     munmap(words, size);

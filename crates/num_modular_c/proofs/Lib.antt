@@ -1,4 +1,5 @@
 pub mod Division
 pub mod InPlace
+pub mod Moved
 pub mod SameTerms
 pub mod Wholes

@@ -4,3 +4,4 @@ pub mod Transforms
 pub mod Commands
 pub mod Systems
 pub mod Plans
+pub mod Erasure

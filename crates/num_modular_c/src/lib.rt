@@ -5,6 +5,7 @@
 mod codes;
 mod commands;
 mod dividers;
+mod erasure;
 mod lists;
 mod montgomery;
 mod montgomery_lists;

@@ -1,10 +1,11 @@
-//! Conversion of lists of words to lists of forms in place, and back.
+//! Conversion of lists of words to lists of forms, and back.
 
-ghost use Rattle.std.specs.Prelude.{◌≡◌, ℕ, ◌%◌, ◌<◌, All, length, slice_index};
+ghost use Rattle.std.specs.Prelude.{◌≡◌, ℕ, ◌%◌, ◌<◌, All, length, map, slice_index};
 ghost use Rattle.num_modular.specs.Forms.{IsForm};
 ghost use Rattle.num_modular.specs.Values.{values_of};
 
 use num_modular::Reducer;
+use num_modular::ring::{load_forms, unload_forms};
 
 // Replaces each word by its form.
 pub(crate) fn load<R: Reducer<u64>>(r: &R, xs: &mut [u64])
@@ -26,4 +27,23 @@ pub(crate) fn unload<R: Reducer<u64>>(r: &R, xs: &mut [u64])
     'entries: for i in 0..xs.len() {
         xs[i] = r.residue(xs[i]);
     }
+}
+
+// Writes the form of each word in another list.
+pub(crate) fn load_from<R: Reducer<u64>>(r: &R, words: &[u64], forms: &mut [u64])
+    requires { length forms.old ≡ length words.now }
+    ensures checked { All (λ f. IsForm R.form R.value (R.modulus r.now) f) forms.new }
+    ensures values { let m = R.modulus r.now in
+        values_of (λ f. f) R.value m forms.new ≡ map (λ x. x % m) words.now }
+{
+    load_forms(r, words, forms);
+}
+
+// Writes the value of each form in another list.
+pub(crate) fn unload_from<R: Reducer<u64>>(r: &R, forms: &[u64], words: &mut [u64])
+    requires checked { All (λ f. IsForm R.form R.value (R.modulus r.now) f) forms.now }
+    requires room { length words.old ≡ length forms.now }
+    ensures { words.new ≡ values_of (λ f. f) R.value (R.modulus r.now) forms.now }
+{
+    unload_forms(r, forms, words);
 }
