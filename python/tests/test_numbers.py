@@ -1,4 +1,5 @@
 """Products of long numbers and polynomials, hashes and residue systems, beside Python's own."""
+import array
 import random
 
 import pytest
@@ -31,6 +32,16 @@ def test_polynomials():
     for m in (0, -1, 2**64):
         with pytest.raises(ValueError):
             multiply([1], [1], m)
+
+
+def test_polynomials_in_arrays():
+    xs, ys = array.array("Q", [1, 2, 3]), array.array("Q", [4, 5, 6, 7])
+    assert multiply(xs, ys, 10**9 + 7) == [4, 13, 28, 34, 32, 21]
+    assert multiply(xs, array.array("Q"), 5) == []
+    with pytest.raises(TypeError):
+        multiply([1.5], [2], 5)
+    numpy = pytest.importorskip("numpy")
+    assert multiply(numpy.array(xs, numpy.uint64), numpy.array(ys, numpy.uint64), 97) == [4, 13, 28, 34, 32, 21]
 
 
 def test_hashes():

@@ -1,4 +1,4 @@
-"""Arithmetic modulo m, transforms and products of long numbers, by a library that is proved.
+"""Arithmetic modulo m, transforms, products of long numbers and erasure codes, by a library that is proved.
 
 Moduli, divisors, exponents and roots are integers from 0 to 2^64 - 1. Other operands may also be negative, and are then
 reduced modulo m. An integer that doesn't fit raises OverflowError.
@@ -6,19 +6,25 @@ reduced modulo m. An integer that doesn't fit raises OverflowError.
 A list of words is a sequence of integers, of which the result is a new list; or a one-dimensional, contiguous, aligned and
 writable array of unsigned words of 64 bits (numpy's uint64, array.array("Q")), which is changed in place and returned.
 
-Nothing is claimed about constant time: don't pass secrets.
+Nothing is claimed about constant time, so timing may reveal secrets.
 """
-from num_modular._calls import NoInverseError, NoRootError
+from num_modular._calls import NoInverseError, NoRootError, PointsError, TooFewSymbolsError, TooManyErrorsError
+from num_modular._codes import Correction, ErasureCode
 from num_modular._numbers import decode, encode, find, multiply, polynomial_hash, product
 from num_modular._rings import Divider, Montgomery, Plan
 from num_modular._words import addm, invm, jacobi, kronecker, legendre, mulm, powm, subm
 
 __all__ = [
+    "Correction",
     "Divider",
+    "ErasureCode",
     "Montgomery",
     "NoInverseError",
     "NoRootError",
     "Plan",
+    "PointsError",
+    "TooFewSymbolsError",
+    "TooManyErrorsError",
     "addm",
     "decode",
     "encode",

@@ -21,11 +21,29 @@ class NoRootError(ValueError):
     """There is no root, or the given one doesn't suit the length."""
 
 
+class PointsError(ValueError):
+    """A point of an erasure code, or the difference of two, has no inverse modulo m."""
+
+
+class TooFewSymbolsError(ValueError):
+    """An erasure code has fewer symbols than its message."""
+
+
+class TooManyErrorsError(ValueError):
+    """No word of an erasure code is near enough to the symbols."""
+
+
 _FAULTS = {
     lib.NM_NO_INVERSE: (NoInverseError, "a number has no inverse"),
     lib.NM_BAD_ARGUMENT: (ValueError, "an argument breaks a precondition"),
     lib.NM_BAD_CONTEXT: (ValueError, "a divider, context or table isn't one that the library makes"),
     lib.NM_NO_ROOT: (NoRootError, "no root suits the length"),
+    lib.NM_TOO_FEW_SYMBOLS: (TooFewSymbolsError, "there are fewer symbols than the message has"),
+    lib.NM_PLACE_OUT_OF_RANGE: (ValueError, "a place isn't below the number of points"),
+    lib.NM_PLACE_TWICE: (ValueError, "a place occurs twice"),
+    lib.NM_POINTS_DONT_FIT: (PointsError, "the difference of two points has no inverse"),
+    lib.NM_TOO_MANY_ERRORS: (TooManyErrorsError, "no word of the code is near enough to the symbols"),
+    lib.NM_POINT_WITHOUT_INVERSE: (PointsError, "a point has no inverse"),
 }
 
 

@@ -3,6 +3,7 @@ from __future__ import annotations
 
 import secrets
 from collections.abc import Iterable, Sequence
+from operator import index
 
 from num_modular._calls import check, read_only, reduced
 from num_modular._library import ffi, lib
@@ -45,10 +46,10 @@ def multiply(xs: Sequence[int], ys: Sequence[int], m: int) -> list[int]:
     """
     if not 0 < m < 1 << 64:
         raise ValueError("the modulus must be from 1 to 2^64 - 1")
-    if not xs or not ys:
+    if len(xs) == 0 or len(ys) == 0:
         return []
     size = 3 * _WORD
-    packed = (int.from_bytes(b"".join((it % m).to_bytes(size, "little") for it in list_), "little") for list_ in (xs, ys))
+    packed = (int.from_bytes(b"".join((index(it) % m).to_bytes(size, "little") for it in list_), "little") for list_ in (xs, ys))
     count = len(xs) + len(ys) - 1
     sums = product(*packed).to_bytes(count * size, "little")
     return [int.from_bytes(sums[at : at + size], "little") % m for at in range(0, count * size, size)]

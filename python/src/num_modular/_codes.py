@@ -1,0 +1,154 @@
+"""Erasure codes, which correct wrong symbols too, and secret sharing."""
+from __future__ import annotations
+
+import secrets
+from collections.abc import Iterable, Mapping, Sequence
+from operator import index
+from typing import Any, NamedTuple, Optional, Union
+
+from num_modular._calls import NoInverseError, check, read_only, reduced
+from num_modular._library import ffi, lib
+
+# The symbols of a word: one for each point, or None where it is lost; or those that are there, by the numbers of the points.
+Symbols = Union[Sequence[Optional[int]], Mapping[int, int]]
+
+
+class Correction(NamedTuple):
+    """What `ErasureCode.correct` found: the message, its word, and how many of the symbols differ from the word."""
+
+    message: list[int]
+    word: list[int]
+    errors: int
+
+
+class ErasureCode:
+    """Reed-Solomon codes modulo m, from 1 to 2^64 - 1, and Shamir's secret sharing, at points that are numbers modulo m.
+
+    A message is a list of numbers modulo m, and symbol i of its word is the value at point i of the polynomial with these
+    coefficients, the constant first. Any k symbols give back a message of k, if the points fit: the difference of any two
+    has an inverse modulo m. So there are at most as many points as the least prime that divides m.
+
+    A word with lost symbols has None for each of them; or it is a dict, from the number of a point to the symbol there.
+    ValueError: m is 0, or a point has a number that doesn't exist.
+
+    >>> code = ErasureCode(929, range(7))
+    >>> code.encode([1, 2, 3])
+    [1, 6, 17, 34, 57, 86, 121]
+    >>> code.restore([1, None, None, 34, None, None, 121], 3)
+    [1, 2, 3]
+    """
+
+    __slots__ = ("_context", "_points")
+
+    def __init__(self, m: int, points: Iterable[int]) -> None:
+        self._context = ffi.new("nm_montgomery_t *")
+        check(lib.nm_montgomery(m, self._context), "the modulus must be at least 1")
+        self._points = self._words(points)
+
+    def __repr__(self) -> str:
+        return f"ErasureCode({self.modulus}, {self.points})"
+
+    @property
+    def modulus(self) -> int:
+        """The modulus."""
+        return self._context.modulus
+
+    @property
+    def points(self) -> list[int]:
+        """The points."""
+        return list(self._points)
+
+    def encode(self, message: Iterable[int]) -> list[int]:
+        """The word of a message: a symbol for each point.
+
+        >>> ErasureCode(97, [1, 2, 3]).encode([5, 10])
+        [15, 25, 35]
+        """
+        return self._encoded(lib.nm_erasure_encode, message)
+
+    def restore(self, word: Symbols, k: int) -> list[int]:
+        """The message of k symbols, by the first k symbols of the word that aren't lost.
+
+        TooFewSymbolsError: there are fewer. PointsError: the points of these don't fit.
+
+        >>> ErasureCode(97, [1, 2, 3]).restore({2: 35, 0: 15}, 2)
+        [5, 10]
+        """
+        places, symbols = self._received(word)
+        message, n, s = ffi.new("uint64_t[]", k), len(self._points), len(places)
+        scratch = ffi.new("uint64_t[]", n + s + 3 * k)
+        check(lib.nm_erasure_restore(self._context, self._points, n, places, s, symbols, s, message, k, scratch, len(scratch)))
+        return list(message)
+
+    def correct(self, word: Symbols, k: int) -> Correction:
+        """The only message of k symbols, at least 1, whose word differs in e of the s symbols that aren't lost, where 2 * e is
+        at most s - k; with that word, and e.
+
+        TooFewSymbolsError: s is below k. TooManyErrorsError: no word is that near. PointsError: the points of the symbols
+        don't fit. NoInverseError: a number without an inverse modulo m was met, which is its `number`; never for a prime m.
+
+        >>> ErasureCode(929, range(7)).correct([1, 0, 17, 34, 57, 900, 121], 3)
+        Correction(message=[1, 2, 3], word=[1, 6, 17, 34, 57, 86, 121], errors=2)
+        """
+        places, symbols = self._received(word)
+        n, s = len(self._points), len(places)
+        message, found = ffi.new("uint64_t[]", k), ffi.new("uint64_t[]", n)
+        scratch = ffi.new("uint64_t[]", 2 * n + 4 * s + 4 * k + 2)
+        errors, number = ffi.new("size_t *"), ffi.new("uint64_t *")
+        code = lib.nm_erasure_correct(self._context, self._points, n, places, s, symbols, s, message, k, found, n, scratch,
+                                      len(scratch), errors, number)
+        if code == lib.NM_NO_INVERSE:
+            fault = NoInverseError(f"{number[0]} has no inverse modulo {self.modulus}")
+            fault.number = number[0]
+            raise fault
+        check(code)
+        return Correction(list(message), list(found), errors[0])
+
+    def share(self, secret: int, k: int) -> list[int]:
+        """A share of the secret, a number modulo m, for each point: any k of them give it back, and k - 1 say nothing of it, as
+        the k - 1 other coefficients are drawn by the module `secrets`. It doesn't run in constant time.
+
+        PointsError: a point, such as 0, or the difference of two has no inverse. ValueError: k is below 1.
+
+        >>> shares = ErasureCode(2**61 - 1, range(1, 6)).share(1234567, 3)
+        >>> ErasureCode(2**61 - 1, range(1, 6)).recover({0: shares[0], 4: shares[4], 2: shares[2]}, 3)
+        1234567
+        """
+        if k < 1:
+            raise ValueError("k must be at least 1")
+        drawn = (secrets.randbelow(self.modulus) for _ in range(k - 1))
+        return self._encoded(lib.nm_erasure_share, [secret, *drawn])
+
+    def recover(self, shares: Symbols, k: int) -> int:
+        """The secret, by the first k shares that aren't lost, all of them right. The exceptions are those of `restore`.
+
+        >>> ErasureCode(97, [1, 2, 3]).recover([15, None, 35], 2)
+        5
+        """
+        if k < 1:
+            raise ValueError("k must be at least 1")
+        return self.restore(shares, k)[0]
+
+    def recover_correct(self, shares: Symbols, k: int) -> int:
+        """The secret, by s shares of which at most (s - k)/2 are forged. The exceptions are those of `correct`.
+
+        >>> ErasureCode(97, [1, 2, 3, 4]).recover_correct([15, 96, 35, 45], 2)
+        5
+        """
+        return self.correct(shares, k).message[0]
+
+    def _words(self, numbers: Iterable[int]) -> Any:
+        return read_only(reduced(index(it), self.modulus) for it in numbers)
+
+    def _encoded(self, call: Any, message: Iterable[int]) -> list[int]:
+        words, n = self._words(message), len(self._points)
+        out, scratch = ffi.new("uint64_t[]", n), ffi.new("uint64_t[]", n + len(words))
+        check(call(self._context, self._points, n, words, len(words), out, n, scratch, len(scratch)))
+        return list(out)
+
+    def _received(self, word: Symbols) -> tuple[Any, Any]:
+        """The places and the symbols that aren't lost."""
+        pairs = word.items() if isinstance(word, Mapping) else enumerate(word)
+        there = [(place, symbol) for place, symbol in pairs if symbol is not None]
+        places = ffi.new("size_t[]", [place for place, _ in there])
+        return places, self._words(symbol for _, symbol in there)

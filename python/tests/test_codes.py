@@ -1,0 +1,116 @@
+"""Erasure codes and secret sharing, beside sums of powers by Python's integers."""
+import itertools
+import math
+import random
+
+import pytest
+
+from num_modular import ErasureCode, NoInverseError, PointsError, TooFewSymbolsError, TooManyErrorsError
+
+PRIMES = (2, 7, 929, 2**61 - 1, 18446744073709551557)
+
+
+def word_of(message, points, m):
+    return [sum(it * x**j for j, it in enumerate(message)) % m for x in points]
+
+
+@pytest.mark.parametrize("m", PRIMES)
+def test_words_and_messages(m):
+    draw = random.Random(m)
+    for _ in range(40):
+        n = draw.randrange(1, min(m, 9) + 1)
+        k = draw.randrange(n + 1)
+        points = draw.sample(range(min(m, 1000)), n)
+        message = [draw.randrange(m) for _ in range(k)]
+        code, word = ErasureCode(m, points), word_of(message, points, m)
+        assert (code.modulus, code.points) == (m, points)
+        assert code.encode(message) == code.encode([it - m for it in message]) == word
+        for kept in itertools.islice(itertools.combinations(range(n), k), 20):
+            assert code.restore([word[i] if i in kept else None for i in range(n)], k) == message
+            assert code.restore({i: word[i] for i in reversed(kept)}, k) == message
+
+
+@pytest.mark.parametrize("m", PRIMES[2:])
+def test_wrong_symbols(m):
+    draw = random.Random(m)
+    for _ in range(100):
+        n, k = draw.choice([(7, 3), (10, 4), (5, 5), (12, 1)])
+        points = draw.sample(range(m), n) if m < 1000 else draw.sample(range(10**6), n)
+        message = [draw.randrange(m) for _ in range(k)]
+        code, word = ErasureCode(m, points), word_of(message, points, m)
+        lost = draw.randrange(n - k + 1)
+        wrong = draw.randrange((n - k - lost) // 2 + 1)
+        places = draw.sample(range(n), lost + wrong)
+        received = list(word)
+        for i in places[:lost]:
+            received[i] = None
+        for i in places[lost:]:
+            received[i] = (received[i] + draw.randrange(1, m)) % m
+        assert code.correct(received, k) == (message, word, wrong)
+
+
+def test_errors():
+    code = ErasureCode(929, range(7))
+    word = code.encode([1, 2, 3])
+    assert code.correct([1, 0, 17, 34, 57, 900, 121], 3) == ([1, 2, 3], word, 2)
+    with pytest.raises(TooManyErrorsError):
+        code.correct([1, 0, 17, 34, 57, 900, 1], 3)
+    for call in (code.restore, code.correct):
+        with pytest.raises(TooFewSymbolsError):
+            call([1, 6, *[None] * 5], 3)
+        with pytest.raises(ValueError):
+            call({0: 1, 7: 2, 1: 3}, 3)
+        with pytest.raises(OverflowError):
+            call({0: 1, -1: 2, 1: 3}, 3)
+        with pytest.raises(TypeError):
+            call([1.0, 2, 3], 3)
+    with pytest.raises(ValueError):
+        code.correct(word, 0)
+    for m, fault in ((0, ValueError), (2**64, OverflowError), (-3, OverflowError)):
+        with pytest.raises(fault):
+            ErasureCode(m, [1])
+    composite = ErasureCode(1001, range(8))
+    with pytest.raises(PointsError):
+        composite.restore({0: 1, 7: 2, 3: 3}, 3)
+    with pytest.raises(NoInverseError) as told:
+        ErasureCode(35, range(5)).correct([2, 10, 4, 26, 34], 2)
+    assert 1 < math.gcd(told.value.number, 35) < 35
+
+
+def test_composite_modulus():
+    draw, points = random.Random(8), range(7)
+    for _ in range(50):
+        message = [draw.randrange(1001) for _ in range(3)]
+        word = word_of(message, points, 1001)
+        code = ErasureCode(1001, points)
+        for kept in itertools.combinations(points, 3):
+            assert code.restore({i: word[i] for i in kept}, 3) == message
+
+
+def test_secrets():
+    m, points = 2**61 - 1, range(1, 9)
+    code = ErasureCode(m, points)
+    shares = code.share(-5, 3)
+    for kept in itertools.combinations(range(8), 3):
+        assert code.recover({i: shares[i] for i in kept}, 3) == m - 5
+    message = code.restore(shares, 3)
+    assert word_of(message, points, m) == shares
+    assert code.share(-5, 3) != shares
+    forged = [0, shares[1], 1, *shares[3:]]
+    assert code.recover_correct(forged, 3) == m - 5
+    for bad in (range(8), [1, 2, 1], [m]):
+        with pytest.raises(PointsError):
+            ErasureCode(m, bad).share(1, 2)
+    for k in (0, -1):
+        with pytest.raises(ValueError):
+            code.share(1, k)
+        with pytest.raises(ValueError):
+            code.recover(shares, k)
+
+
+def test_numbers_of_numpy():
+    numpy = pytest.importorskip("numpy")
+    code = ErasureCode(929, numpy.arange(7, dtype=numpy.uint64))
+    word = numpy.array(code.encode(numpy.array([1, 2, 3], numpy.uint64)), numpy.uint64)
+    assert word.tolist() == [1, 6, 17, 34, 57, 86, 121]
+    assert code.restore(word, 3) == [1, 2, 3]
