@@ -23,6 +23,11 @@ static nm_montgomery_t prime_ring;
 static nm_factor_t table[PLACES / 2];
 static uint64_t prime_root;
 
+/* an erasure code of 128 symbols, of which any 64 restore the message */
+enum { SYMBOLS = 128, MESSAGE = 64, SCRATCH = 2 * SYMBOLS + 4 * SYMBOLS + 4 * MESSAGE + 2 };
+static uint64_t points[SYMBOLS], message[MESSAGE], word[SYMBOLS], found[SYMBOLS], scratch[SCRATCH];
+static size_t places[SYMBOLS];
+
 static uint64_t mulm(uint64_t x) {
     codes |= nm_mulm(x, factor, modulus, &x);
     return x;
@@ -61,6 +66,33 @@ static uint64_t transform_planned(uint64_t x) {
     return list[0];
 }
 
+static uint64_t encoded(uint64_t x) {
+    message[0] = x;
+    codes |= nm_erasure_encode(&prime_ring, points, SYMBOLS, message, MESSAGE, word, SYMBOLS, scratch, SCRATCH);
+    return word[1];
+}
+
+static uint64_t restored(uint64_t x) {
+    word[0] = x;
+    codes |= nm_erasure_restore(&prime_ring, points, SYMBOLS, places, MESSAGE, word, MESSAGE, message, MESSAGE, scratch,
+                                SCRATCH);
+    return message[1];
+}
+
+/* of all symbols, of which none is wrong */
+static uint64_t corrected(uint64_t x) {
+    size_t errors;
+    uint64_t number;
+    codes |= nm_erasure_correct(&prime_ring, points, SYMBOLS, places, SYMBOLS, word, SYMBOLS, message, MESSAGE, found,
+                                SYMBOLS, scratch, SCRATCH, &errors, &number);
+    return x ^ errors;
+}
+
+static uint64_t inverted(uint64_t x) {
+    codes |= nm_invm(x, modulus, &x);
+    return x + 1;
+}
+
 static uint64_t table_tried(uint64_t x) { return x ^ nm_plan_fits(prime, prime_root, table, PLACES / 2); }
 
 static uint64_t table_filled(uint64_t x) { return x ^ nm_plan(prime, prime_root, table, PLACES / 2); }
@@ -72,6 +104,8 @@ static uint64_t inverse;
 static uint64_t flint_mul_preinv(uint64_t x) { return n_mulmod2_preinv(x, factor, modulus, inverse); }
 
 static uint64_t flint_pow(uint64_t x) { return n_powmod2(x, (slong)exponent, modulus); }
+
+static uint64_t flint_inv(uint64_t x) { return n_invmod(x, modulus) + 1; }
 #endif
 
 /* The least time of a step, and the answer of the last. */
@@ -91,7 +125,7 @@ static double measured(uint64_t (*step)(uint64_t), uint64_t x, long steps, uint6
 
 static uint64_t line(const char *name, uint64_t (*step)(uint64_t), uint64_t x, long steps) {
     uint64_t last;
-    printf("%-24s %12.1f ns\n", name, measured(step, x, steps, &last));
+    printf("%-32s %12.1f ns\n", name, measured(step, x, steps, &last));
     return last;
 }
 
@@ -108,19 +142,28 @@ int main(void) {
     wrong |= product ^ value(line("nm_montgomery_mul", montgomery_mul, three, 1000000));
     uint64_t power = line("nm_powm", powm, 3, 20000);
     wrong |= power ^ value(line("nm_montgomery_pow", montgomery_pow, three, 20000));
+    uint64_t inverse_of = line("nm_invm", inverted, 3, 100000);
 #ifdef WITH_FLINT
     inverse = n_preinvert_limb(modulus);
     wrong |= product ^ line("n_mulmod2_preinv", flint_mul_preinv, 3, 1000000);
     wrong |= product ^ line("n_preinvert_limb with it", flint_mul, 3, 1000000);
     wrong |= power ^ line("n_powmod2", flint_pow, 3, 20000);
+    wrong |= inverse_of ^ line("n_invmod", flint_inv, 3, 100000);
+#else
+    (void)inverse_of;
 #endif
     line("nm_solinas_ntt, 2^16", transform, 3, 10);
     if (nm_montgomery(prime, &prime_ring) || nm_montgomery_find_root(&prime_ring, PLACES, &prime_root)) return 1;
-    wrong |= line("nm_plan, 2^15 entries", table_filled, 0, 10) | line("nm_plan_fits, 2^15", table_tried, 0, 10);
+    wrong |= line("nm_plan, 2^15 entries", table_filled, 0, 10) | line("nm_plan_fits, 2^15 entries", table_tried, 0, 10);
     for (size_t i = 0; i < PLACES; i++) list[i] = i;
     uint64_t transformed = line("nm_montgomery_ntt, 2^16", transform_montgomery, 3, 10);
     for (size_t i = 0; i < PLACES; i++) list[i] = i;
     wrong |= transformed ^ line("nm_ntt_planned, 2^16", transform_planned, 3, 10);
+    for (size_t i = 0; i < SYMBOLS; i++) points[i] = i + 1, places[i] = i;
+    for (size_t i = 0; i < MESSAGE; i++) message[i] = i * i;
+    line("nm_erasure_encode, 64 of 128", encoded, 3, 100);
+    line("nm_erasure_correct, 64 of 128", corrected, 3, 10);
+    line("nm_erasure_restore, 64 of 128", restored, 3, 100);
     if (wrong) printf("the answers differ\n");
     if (codes) printf("a call failed\n");
     return wrong != 0 || codes != 0;

@@ -1,11 +1,12 @@
 """What a call of the library from Python costs, beside Python's integers, gmpy2 and numpy, where these are at hand.
 
-Each line compares the results first, and prints the least time of a call over several rounds, in nanoseconds.
+Each row compares the results first, and has the least time of a call over several rounds. Prints a table of docs/speed.md.
 """
 import random
 import timeit
 
 import num_modular as nm
+from crossings_table import shown
 
 try:
     import gmpy2
@@ -27,41 +28,38 @@ def least(call):
     return min(timer.repeat(ROUNDS, max(count // 4, 1))) / max(count // 4, 1) * 1e9
 
 
-def line(name, *calls):
-    """Calls that compute the same, each by its name."""
-    results = [call() for _, call in calls]
-    if any(it != results[0] for it in results):
+def row(name, own, python=None, by_gmpy2=None, by_numpy=None, alike=True):
+    """A row: a call of the package, and calls that compute the same, where `alike`."""
+    calls = [own, python, by_gmpy2 if gmpy2 else None, by_numpy if numpy else None]
+    if alike and any(it() != own() for it in calls if it):
         raise SystemExit(f"{name}: the results differ")
-    print(f"{name:24}", "   ".join(f"{who} {least(call):.0f} ns" for who, call in calls), flush=True)
-
-
-def by_gmpy2(call):
-    return [("gmpy2", call)] if gmpy2 else []
+    print("|", name, *(f"| {shown(least(it)) if it else ''}" for it in calls), "|", flush=True)
 
 
 def main():
     draw = random.Random(1)
+    print("| call | num_modular | Python | gmpy2 | numpy |\n|---|---:|---:|---:|---:|")
     a, b, e = draw.randrange(M), draw.randrange(M), draw.randrange(M)
-    line("mulm", ("mulm", lambda: nm.mulm(a, b, M)), ("a * b % m", lambda: a * b % M))
-    line("powm", ("powm", lambda: nm.powm(a, e, M)), ("pow", lambda: pow(a, e, M)), *by_gmpy2(lambda: gmpy2.powmod(a, e, M)))
-    line("invm", ("invm", lambda: nm.invm(a, M)), ("pow", lambda: pow(a, -1, M)), *by_gmpy2(lambda: gmpy2.invert(a, M)))
-    line("jacobi", ("jacobi", lambda: nm.jacobi(a, M)), *by_gmpy2(lambda: gmpy2.jacobi(a, M)))
-    for bits in (1 << 16, 1 << 20, 1 << 24):
-        x, y = draw.getrandbits(bits), draw.getrandbits(bits)
-        others = [("x * y", lambda: x * y)] if bits < 1 << 24 else []
-        if gmpy2:
-            p, q = gmpy2.mpz(x), gmpy2.mpz(y)
-            others.append(("gmpy2 of its own numbers", lambda: p * q))
-        line(f"product, {bits} bits", ("product", lambda: nm.product(x, y)), *others)
-    n = 1 << 12
-    xs, ys = ([draw.randrange(10**9 + 7) for _ in range(n)] for _ in range(2))
-    print(f"{'multiply, 2^12':24} multiply {least(lambda: nm.multiply(xs, ys, 10**9 + 7)):.0f} ns")
+    row("`mulm`", lambda: nm.mulm(a, b, M), lambda: a * b % M)
+    row("`powm`", lambda: nm.powm(a, e, M), lambda: pow(a, e, M), lambda: gmpy2.powmod(a, e, M))
+    row("`invm`", lambda: nm.invm(a, M), lambda: pow(a, -1, M), lambda: gmpy2.invert(a, M))
+    row("`jacobi`", lambda: nm.jacobi(a, M), None, lambda: gmpy2.jacobi(a, M))
+    for bits in (16, 20, 24):
+        x, y = draw.getrandbits(1 << bits), draw.getrandbits(1 << bits)
+        p, q = (gmpy2.mpz(x), gmpy2.mpz(y)) if gmpy2 else (0, 0)
+        row(f"`product`, 2^{bits} bits", lambda: nm.product(x, y), (lambda: x * y) if bits < 24 else None, lambda: p * q)
+    xs, ys = ([draw.randrange(10**9 + 7) for _ in range(1 << 12)] for _ in range(2))
+    row("`multiply`, 2^12 coefficients", lambda: nm.multiply(xs, ys, 10**9 + 7))
+    code, message = nm.ErasureCode(PRIME, range(1, 129)), [draw.randrange(PRIME) for _ in range(64)]
+    word = code.encode(message)
+    row("`ErasureCode.encode`, 64 of 128", lambda: code.encode(message))
+    row("`ErasureCode.restore`, 64 of 128", lambda: code.restore(word, 64))
     if numpy:
         plan = nm.Plan(PRIME, 1 << 16)
         words = numpy.array([draw.randrange(PRIME) for _ in range(1 << 16)], numpy.uint64)
         floats = words.astype(numpy.float64)
-        print(f"{'ntt, 2^16, in place':24} Plan.ntt {least(lambda: plan.ntt(words)):.0f} ns   "
-              f"numpy.fft.fft, of floats {least(lambda: numpy.fft.fft(floats)):.0f} ns")
+        name = "`Plan.ntt`, 2^16 words in place; `fft` of floats"
+        row(name, lambda: plan.ntt(words), None, None, lambda: numpy.fft.fft(floats), alike=False)
 
 
 if __name__ == "__main__":
