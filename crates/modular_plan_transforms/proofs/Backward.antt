@@ -1,18 +1,13 @@
 -- The transform back: the entries of a list, in bit-reversed order, are the remainders of the list whose transform it is.
-use Rattle.std.proofs.Common.{◌≡◌, ℕ, suc, ◌+◌, ◌-◌, ◌*◌, ◌%◌, ◌^◌, ◌<◌, List, length, sym, ap, ◌∙◌, arith}
-use Rattle.std.proofs.Math.Nat.{mod-lt, mod-mod, pow-succ'}
+use Rattle.std.proofs.Common.{◌≡◌, ℕ, ◌+◌, ◌*◌, ◌%◌, ◌^◌, ◌<◌, List, length, sym, ap, ◌∙◌, arith}
 use Rattle.modular_word.specs.Congruence.{Congruent}
 use Rattle.modular_word.specs.Inverses.{IsInverse}
-use Rattle.modular_word.specs.Sums.{sum_below}
-use Rattle.modular_word.proofs.Congruence.{of_equal, chained, turned, multiplied, residue_of, itself}
+use Rattle.modular_word.proofs.Congruence.{multiplied, itself}
 use Rattle.modular_word.proofs.Powers.{pow-mul}
-use Rattle.modular_word.proofs.Sums.{sum_below-same, sum_below-mul}
+use Rattle.modular_word.proofs.Sums.{sum_below-same}
 use Rattle.modular_transform.specs.Orders.{bits_reversed, IsReordered}
-use Rattle.modular_transform.specs.Transforms.{Suits, transform}
+use Rattle.modular_transform.specs.Transforms.{transform}
 use Rattle.modular_transform.proofs.BitReversal.{bits_reversed_below}
-use Rattle.modular_transform.proofs.ConvolveLemmas.{half_turn}
-use Rattle.modular_transform.proofs.CyclicProducts.{full_turn}
-use Rattle.modular_transform.proofs.InverseTransform.{inverse_suits, value_back}
 use Rattle.modular_plan_passes.specs.Plans.{numbers, constant, AreRemainders}
 use Rattle.modular_plan_transforms.proofs.NaturalOrder.{number_reordered}
 

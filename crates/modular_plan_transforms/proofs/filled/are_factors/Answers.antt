@@ -1,8 +1,6 @@
-use Rattle.std.proofs.Common.{arith, refl}
-use Rattle.std.proofs.lemmas.Bool.{false≢true}
+use Rattle.std.proofs.Common.{arith}
 use Rattle.modular_plan_transforms.proofs.filled.are_factors.Goals as goal
 use borrow.Author.Count.{falls}
-use borrow.Author.Rules.{scaled_Fits}
 
 pub entries-init : goal.entries-init
 entries-init g c = λ k l. absurd (omega arith)

@@ -8,7 +8,6 @@ use Rattle.modular_plan_transforms.proofs.PlanTables.{power_first, power_next}
 use Rattle.modular_plan_transforms.proofs.filled.are_powers.Goals as goal
 use Rattle.modular_plan_transforms.proofs.filled.are_powers.Goals.{After-next_reversed-place}
 use borrow.Author.Count.{falls}
-use borrow.Author.Rules.{scaled_Fits}
 
 pub powers-init : goal.powers-init
 powers-init g c = record {

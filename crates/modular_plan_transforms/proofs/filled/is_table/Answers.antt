@@ -1,4 +1,4 @@
-use Rattle.std.proofs.Common.{◌≡◌, ◌^◌, length, rules, arith, sym, ◌∙◌}
+use Rattle.std.proofs.Common.{◌≡◌, ◌^◌, length, arith, sym, ◌∙◌}
 use Rattle.std.proofs.lemmas.Bool.{false≢true}
 use Rattle.std.specs.Int.{trailing_zeros, w64}
 use Rattle.modular_plan_passes.proofs.Tables.{half_power}
