@@ -4,7 +4,7 @@ use Rattle.std.proofs.Common.{map, take, get_or, arith, ap, sym, ◌∙◌, refl
 use Rattle.std.proofs.lemmas.List.{take_more, map-append}
 use Rattle.std.proofs.lemmas.Nat.{mul-mod_first}
 use Rattle.std.proofs.Math.Nat.{pow-zero, pow-succ', mod-add-mod}
-use Rattle.test_operations.specs.Polynomials.{polynomial_value}
+use Rattle.modular_ring.specs.Hashes.{polynomial_value}
 
 -- with no coefficient the value is 0
 pub value_none : (x : ℕ) → polynomial_value [] x ≡ 0

@@ -1,6 +1,6 @@
 //! Polynomials over any integers modulo m.
 
-ghost use Rattle.test_operations.specs.Polynomials.{polynomial_value};
+ghost use Rattle.modular_ring.specs.Hashes.{polynomial_value};
 ghost use Rattle.modular_reduced.specs.Integers.{IsInteger, modulus_of, residue_of};
 ghost use Rattle.std.specs.Prelude.{◌≡◌, ◌%◌, All, map};
 

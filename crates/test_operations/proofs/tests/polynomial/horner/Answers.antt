@@ -2,7 +2,7 @@ use Rattle.std.proofs.Common.{◌≡◌, ◌≤◌, ◌%◌, ◌-◌, ℕ, sym, 
 use Rattle.std.proofs.lemmas.List.Elements.{All-get_or}
 use Rattle.std.proofs.Math.Nat.{zero-mod}
 use Rattle.modular_word.proofs.ResidueLemmas.{residue_sub}
-use Rattle.test_operations.specs.Polynomials.{polynomial_value}
+use Rattle.modular_ring.specs.Hashes.{polynomial_value}
 use Rattle.test_operations.proofs.PolynomialLemmas.{value_none, residue_more, mapped_more}
 use Rattle.test_operations.proofs.tests.polynomial.horner.Goals as goal
 

@@ -1,5 +1,5 @@
 use Rattle.std.proofs.Common.{◌%◌, map, take}
-use Rattle.test_operations.specs.Polynomials.{polynomial_value}
+use Rattle.modular_ring.specs.Hashes.{polynomial_value}
 use Rattle.modular_reduced.specs.Integers.{IsInteger}
 use Rattle.test_operations.proofs.tests.polynomial.horner.Given as goal
 
