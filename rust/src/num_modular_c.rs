@@ -4,6 +4,7 @@
 pub mod codes;
 pub mod commands;
 pub mod dividers;
+pub mod erasure;
 pub mod lists;
 pub mod montgomery;
 pub mod montgomery_lists;

@@ -35,6 +35,74 @@ pub unsafe extern "C" fn nm_div_rem_2by1(
 }
 
 #[no_mangle]
+pub unsafe extern "C" fn nm_erasure_encode(
+    context: &c::montgomery::NmMontgomery,
+    points: *const u64,
+    points_length: usize,
+    message: *const u64,
+    message_length: usize,
+    word: *mut u64,
+    word_length: usize,
+    scratch: *mut u64,
+    scratch_length: usize,
+) -> u32 {
+    c::erasure::nm_erasure_encode(context, list(points, points_length), list(message, message_length), list_mut(word, word_length), list_mut(scratch, scratch_length))
+}
+
+#[no_mangle]
+pub unsafe extern "C" fn nm_erasure_share(
+    context: &c::montgomery::NmMontgomery,
+    points: *const u64,
+    points_length: usize,
+    coefficients: *const u64,
+    coefficients_length: usize,
+    shares: *mut u64,
+    shares_length: usize,
+    scratch: *mut u64,
+    scratch_length: usize,
+) -> u32 {
+    c::erasure::nm_erasure_share(context, list(points, points_length), list(coefficients, coefficients_length), list_mut(shares, shares_length), list_mut(scratch, scratch_length))
+}
+
+#[no_mangle]
+pub unsafe extern "C" fn nm_erasure_restore(
+    context: &c::montgomery::NmMontgomery,
+    points: *const u64,
+    points_length: usize,
+    places: *const usize,
+    places_length: usize,
+    symbols: *const u64,
+    symbols_length: usize,
+    message: *mut u64,
+    message_length: usize,
+    scratch: *mut u64,
+    scratch_length: usize,
+) -> u32 {
+    c::erasure::nm_erasure_restore(context, list(points, points_length), list(places, places_length), list(symbols, symbols_length), list_mut(message, message_length), list_mut(scratch, scratch_length))
+}
+
+#[no_mangle]
+pub unsafe extern "C" fn nm_erasure_correct(
+    context: &c::montgomery::NmMontgomery,
+    points: *const u64,
+    points_length: usize,
+    places: *const usize,
+    places_length: usize,
+    symbols: *const u64,
+    symbols_length: usize,
+    message: *mut u64,
+    message_length: usize,
+    word: *mut u64,
+    word_length: usize,
+    scratch: *mut u64,
+    scratch_length: usize,
+    errors: &mut usize,
+    number: &mut u64,
+) -> u32 {
+    c::erasure::nm_erasure_correct(context, list(points, points_length), list(places, places_length), list(symbols, symbols_length), list_mut(message, message_length), list_mut(word, word_length), list_mut(scratch, scratch_length), errors, number)
+}
+
+#[no_mangle]
 pub unsafe extern "C" fn nm_montgomery(m: u64, context: &mut c::montgomery::NmMontgomery) -> u32 {
     c::montgomery::nm_montgomery(m, context)
 }

@@ -1,4 +1,5 @@
-//! Reciprocals as const functions, for divisors that are known at compile time.
+//! Reciprocals as const functions, for divisors that are known at compile time. Only the Cargo crate calls these eight,
+//! in `rust/additions.rs`, where `new` is a const function.
 
 // `invert_word` in words of 8 bits.
 #[inline]

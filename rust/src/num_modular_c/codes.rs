@@ -18,3 +18,21 @@ pub const NM_NO_ROOT: u32 = 4;
 
 /// The pattern doesn't occur.
 pub const NM_NOT_FOUND: u32 = 5;
+
+/// There are fewer symbols than the message has.
+pub const NM_TOO_FEW_SYMBOLS: u32 = 6;
+
+/// A place isn't below the number of points.
+pub const NM_PLACE_OUT_OF_RANGE: u32 = 7;
+
+/// A place occurs twice.
+pub const NM_PLACE_TWICE: u32 = 8;
+
+/// The difference of two points has no inverse.
+pub const NM_POINTS_DONT_FIT: u32 = 9;
+
+/// No word of the code is near enough to the symbols.
+pub const NM_TOO_MANY_ERRORS: u32 = 10;
+
+/// A point has no inverse, so that the share there would say something of the secret.
+pub const NM_POINT_WITHOUT_INVERSE: u32 = 11;

@@ -1,6 +1,7 @@
-//! Conversion of lists of words to lists of forms in place, and back.
+//! Conversion of lists of words to lists of forms, and back.
 
 use crate::Reducer;
+use crate::ring::{load_forms, unload_forms};
 
 // Replaces each word by its form.
 #[inline]
@@ -16,4 +17,16 @@ pub(crate) fn unload<R: Reducer<u64>>(r: &R, xs: &mut [u64]) {
     for entry in xs.iter_mut() {
         *entry = r.residue(*entry);
     }
+}
+
+// Writes the form of each word in another list.
+#[inline]
+pub(crate) fn load_from<R: Reducer<u64>>(r: &R, words: &[u64], forms: &mut [u64]) {
+    load_forms(r, words, forms);
+}
+
+// Writes the value of each form in another list.
+#[inline]
+pub(crate) fn unload_from<R: Reducer<u64>>(r: &R, forms: &[u64], words: &mut [u64]) {
+    unload_forms(r, forms, words);
 }

@@ -53,7 +53,8 @@ fn keeps_symbol(code: &Code<'_>, word: &mut [u64], place: usize, other: u64) -> 
 
 // Whether the last symbol is the check digit of those before it.
 fn is_completed(code: &Code<'_>, word: &[u64]) -> bool {
-    if word.is_empty() || !code.can_restore(code.weights[code.weights.len() - 1]) {
+    let weights = code.weights;
+    if word.is_empty() || weights.is_empty() || !code.can_restore(weights[weights.len() - 1]) {
         return false;
     }
     let last = word.len() - 1;
