@@ -1,3 +1,3 @@
 //! Stands for `serde` where cargo has no registry.
 #![no_std]
-compile_error!("take .cargo/config.toml of the Cargo crate away to build with the feature `serde`");
+compile_error!("take [patch.crates-io] in Cargo.toml away to build with the feature `serde`");
