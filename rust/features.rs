@@ -98,7 +98,7 @@ mod numbers {
 
 #[cfg(feature = "serde")]
 mod serial {
-    use crate::rings::{FoldRing, OddRing};
+    use crate::families::{FoldRing, OddRing};
     use crate::{FixedMersenne, ModularInteger, Montgomery, PlainWord, PreMulInv2by1, ReducedInt, Reducer, RingWord, Vanilla};
     use core::fmt;
     use core::marker::PhantomData;
