@@ -220,7 +220,7 @@ fn transforms() {
 fn inverse_transforms() {
     let undone = |m: u64, g: u64, entries: [u64; 4]| {
         let mut xs = entries;
-        intt(&Vanilla::<u64>::new(&m), &mut xs, &g).then(|| xs)
+        intt(&Vanilla::<u64>::new(&m), &mut xs, &g).then_some(xs)
     };
     assert_eq!(undone(97, 22, [10, 51, 95, 42]), Some([1, 2, 3, 4]));
     let mut xs = [16, 18];
