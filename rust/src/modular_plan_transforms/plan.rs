@@ -76,6 +76,17 @@ impl<'a, T: PlainWord, F: PlanEntry<T>> Plan<'a, T, F> {
     /// of its power, or has another quotient.
     ///
     /// It takes a product for each entry's power and one for its quotient.
+    ///
+    /// # Examples
+    ///
+    /// ```
+    /// use num_modular::plans::{Plan, PlannedModulus};
+    ///
+    /// let modulus = PlannedModulus::<u64>::new(17);
+    /// let table = [1, 4].map(|power| modulus.factor(power));
+    /// assert!(Plan::with_table(&modulus, 4, &table).is_some()); // 4^2 = 17 - 1
+    /// assert!(Plan::with_table(&modulus, 13, &table).is_none()); // its table has 1 and 13
+    /// ```
     pub fn with_table(m: &PlannedModulus<T>, g: T, table: &'a [F]) -> Option<Self> {
         if !m.modulus.is_odd() {
             return None;

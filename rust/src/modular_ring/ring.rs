@@ -114,8 +114,36 @@ impl<T: Copy> Copy for RingCommand<T> {}
 
 /// A command as `run` reads it: `RingCommand` itself, or a struct of the caller that represents one, such as one with
 /// the layout of another language.
+///
+/// # Examples
+///
+/// ```
+/// use num_modular::ring::{run, AsCommand, RingCommand};
+/// use num_modular::{Reducer, Vanilla};
+///
+/// struct Square(usize);
+///
+/// impl AsCommand<u64> for Square {
+///     fn command(&self) -> RingCommand<u64> {
+///         RingCommand::Sqr { dst: self.0, a: self.0 }
+///     }
+/// }
+///
+/// let mut registers = [10];
+/// run(&Vanilla::<u64>::new(&97), &mut registers, &[Square(0)]);
+/// assert_eq!(registers, [3]); // 100 - 97
+/// ```
 pub trait AsCommand<T: RingWord>: Sized {
     /// The command that it represents.
+    ///
+    /// # Examples
+    ///
+    /// ```
+    /// use num_modular::ring::{AsCommand, RingCommand};
+    ///
+    /// let command = RingCommand::<u64>::Dbl { dst: 1, a: 0 };
+    /// assert_eq!(command.command(), command);
+    /// ```
     fn command(&self) -> RingCommand<T>;
 }
 

@@ -6,7 +6,7 @@
 //! inverse modulo m. So their number is at most the least prime that divides m.
 //!
 //! The codes are maximum distance separable (MDS): two words differ in n - k + 1 symbols at least, the most that
-//! Singleton's bound allows (`distance_laws`, `singleton_law`). So up to half of n - k wrong symbols leave the word
+//! Singleton's bound allows. So up to half of n - k wrong symbols leave the word
 //! unique. `PreparedCode` computes once what depends on the points alone; where the points are the powers of a root of
 //! unity, `encode_by_transform` encodes by one transform.
 //!
