@@ -92,6 +92,17 @@ LOOKS = {
         (EVERY, "crate::additions::may_be_system(moduli)"),
         (EVERY, "residues.len() >= moduli.len() && are_reduced(moduli, residues)"),
     ),
+    ("erasure/powers", "encode_by_transform"): (
+        (EVERY, "word.len().is_power_of_two()"),
+        (DEBUG, "r.check(g) && message.iter().all(|x| r.check(x))"),
+        (EVERY, "r.check(g) && crate::ring::root_fits(r, g, word.len())"),
+        (EVERY, "message.len() <= word.len()"),
+    ),
+    ("erasure/powers", "encode_by_plan"): (
+        (EVERY, "plan.fits(word.len())"),
+        (EVERY, "message.len() <= word.len()"),
+        (DEBUG, "message.iter().all(|x| plan.modulus().has_room(*x))"),
+    ),
     ("erasure/prepared", "new"): (
         (DEBUG, "known.iter().chain(wanted).all(|x| ring.check(x))"),
         (EVERY, "rows.len() == wanted.len() * known.len() && scratch.len() == 2 * known.len()"),

@@ -37,7 +37,7 @@ pub use correction::{CorrectError, correct};
 use newton::{differences_before, divide_differences, expand, fill_weights};
 use num_modular::ring::invert_each;
 use num_modular::{Reducer, RingWord};
-pub use powers::{encode_by_transform, fill_powers, root_laws};
+pub use powers::{encode_by_plan, encode_by_transform, fill_powers, root_laws};
 pub use prepared::PreparedCode;
 pub use secrets::{ShareError, recover, recover_correct, secrecy_laws, share};
 

@@ -1,14 +1,17 @@
 //! Codes whose points are the powers of a root of unity: their words are transforms.
 
-ghost use Rattle.std.specs.Prelude.{◌≡◌, ℕ, ◌%◌, ◌<◌, ◌≤◌, All, length};
+ghost use Rattle.std.specs.Prelude.{◌≡◌, ℕ, ◌*◌, ◌%◌, ◌^◌, ◌<◌, ◌≤◌, All, length};
 ghost use Rattle.num_modular.specs.Entries.{entry};
 ghost use Rattle.num_modular.specs.Forms.{IsForm};
+ghost use Rattle.num_modular.specs.Plans.{numbers};
 ghost use Rattle.num_modular.specs.Polynomials.{HaveUnitDifferences};
 ghost use Rattle.num_modular.specs.Transforms.{Suits, transform};
 ghost use Rattle.ring_codes.specs.Erasure.{IsEncoding};
 ghost use Rattle.ring_codes.specs.Powers.{ArePowers};
 
+use num_modular::plans::{Plan, PlanEntry};
 use num_modular::ring::ntt;
+use num_modular::word::PlainWord;
 use num_modular::{Reducer, RingWord};
 
 /// Writes the points g^0, g^1, .. modulo m, as many as the list holds. Condition: g is a checked form.
@@ -77,6 +80,50 @@ pub fn encode_by_transform<T: RingWord, R: Reducer<T>>(r: &R, g: &T, message: &[
         word[i] = if i < message.len() { message[i] } else { zero };
     }
     ntt(r, word, g);
+}
+
+/// Writes the word of a message at the points g^0, .., g^(n - 1), g being the root of a plan for n entries: one transform
+/// with the plan's table. Symbols are plain words, and those of the word are below m.
+///
+/// Conditions: the word has n places (`Plan::fits` tells); the message has at most n symbols; the symbols are below 4m.
+///
+/// Source: `Plan::transform` of the message followed by zeros.
+///
+/// # Examples
+///
+/// ```
+/// use num_modular::applications::ring_codes::erasure::encode_by_plan;
+/// use num_modular::plans::{Factor, Plan, PlannedModulus};
+///
+/// let modulus = PlannedModulus::<u64>::new(97);
+/// let mut table = [Factor::<u64>::ZERO; 2];
+/// let plan = Plan::new(&modulus, 22, &mut table).unwrap(); // the points are 1, 22, 96 and 75
+/// let mut word = [0; 4];
+/// encode_by_plan(&plan, &[1, 2, 3], &mut word);
+/// assert_eq!(word, [6, 42, 2, 51]);
+/// ```
+pub fn encode_by_plan<T: PlainWord, F: PlanEntry<T>>(
+    plan: &Plan<T, F>,
+    message: &[T],
+    word: &mut [T],
+)
+    requires whole { length word.old ≡ 2 ^ plan.now.bits }
+    requires few { length message.now ≤ length word.old }
+    requires symbols { All (λ x. T.number x < 4 * T.number plan.now.modulus.modulus) message.now }
+    ensures below { All (λ x. T.number x < T.number plan.now.modulus.modulus) word.new }
+    ensures encoding { let m = T.number plan.now.modulus.modulus in (points : ℕ → ℕ) →
+        ArePowers m (T.number plan.now.root) (length word.old) points →
+        IsEncoding m (length message.now) (length word.old) points
+        (numbers T.number message.now) (numbers T.number word.new) }
+{
+    'symbols: for i in 0..word.len() {
+        word[i] = if i < message.len() {
+            message[i]
+        } else {
+            T::zero()
+        };
+    }
+    plan.transform(word);
 }
 
 /// Where m is odd and g suits n, the points g^0, .., g^(n - 1) fit: the difference of any two has an inverse modulo

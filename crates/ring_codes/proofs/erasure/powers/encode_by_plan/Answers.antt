@@ -1,0 +1,71 @@
+use Rattle.num_modular.specs.Callers.{◌≡◌, ℕ, ◌*◌, ◌<◌, ◌≤◌, ◌∙◌, ap, arith, length, sym, subst}
+use Rattle.num_modular.specs.Callers.{entry_at, entry_read, entry_past, entry_written, entry_kept}
+use Rattle.std.proofs.Common.{get_or, inl, inr}
+use Rattle.std.proofs.Math.ListN.{set}
+use Rattle.std.proofs.lemmas.Bool.{cases_eq, cases_lt}
+use Rattle.num_modular.specs.Plans.{numbers}
+use Rattle.num_modular.specs.Transforms.{transform}
+use Rattle.ring_codes.proofs.RootPowers.{value_by_transform}
+use Rattle.ring_codes.proofs.erasure.powers.encode_by_plan.Goals as goal
+use Rattle.ring_codes.proofs.erasure.powers.encode_by_plan.Goals.{then-i-message, else-i-message}
+
+pub symbols-init : goal.symbols-init
+symbols-init g c = λ k l. absurd (omega arith)
+
+pub symbols-preserved : goal.symbols-preserved
+symbols-preserved g c =
+    let number = g.T.RingWord.number in let i : ℕ = c.symbols.i in let x = c.if-i-message.word in
+    let padded = c.symbols.word in let message = c.args.message.now in
+    let within : i < length padded = omega arith in
+    let is : number x ≡ numbers number message i = elim c.if-i-message.branch [
+      | then-i-message w ↦
+          let read = w.index-message-i in
+          ap number w.word-is ∙ entry_read number (λ k x. x) 0 message i read.result w.if-i-message.true read.is
+      | else-i-message w ↦
+          ap number w.word-is ∙ w.zero.ensures ∙ sym (entry_past number (λ k x. x) 0 message i w.if-i-message.false)
+    ] in
+    λ k l. elim (cases_eq k i) [
+      | inl e ↦
+          let here = entry_written number (λ k x. x) 0 padded i x within in
+          subst (λ j. numbers number (set padded i x) j ≡ numbers number message j) (sym e) (here ∙ is)
+      | inr other ↦
+          entry_kept number (λ k x. x) 0 padded i k x other ∙ c.symbols.invariant k (omega (arith, l, other))
+    ]
+
+pub transform-requires-clause-entries : goal.transform-requires-clause-entries
+transform-requires-clause-entries g c =
+    let number = g.T.RingWord.number in let message = c.args.message.now in let padded = c.symbols.word in
+    let bound : ℕ = 4 * number c.args.plan.now.modulus.modulus in
+    λ k d l.
+    let is : number (get_or padded k d) ≡ numbers number message k =
+    entry_at number (λ k x. x) 0 padded k d l ∙ c.symbols.invariant k (omega (arith, l)) in
+    elim (cases_lt k (length message)) [
+      | inl short ↦
+          let read = entry_at number (λ k x. x) 0 message k d short in
+          subst (λ v. v < bound) (sym (is ∙ sym read)) (c.requires.symbols k d short)
+      | inr after ↦
+          let zero = is ∙ entry_past number (λ k x. x) 0 message k after in
+          let odd = c.args.plan.now.odd in
+          omega (arith, zero, odd)
+    ]
+
+pub returns-clause-encoding : goal.returns-clause-encoding
+returns-clause-encoding g c points powers =
+    let number = g.T.RingWord.number in
+    let m = number c.args.plan.now.modulus.modulus in
+    let root = number c.args.plan.now.root in
+    let message = c.args.message.now in let padded = c.symbols.word in
+    let n : ℕ = length c.args.word.now in
+    let count : length padded ≡ n = c.symbols.auto.word in
+    let past : (i : ℕ) → length message ≤ i → numbers number message i ≡ 0 =
+    λ i b. entry_past number (λ k x. x) m message i b in
+    let held : (i : ℕ) → i < n → numbers number padded i ≡ numbers number message i =
+    λ i l. c.symbols.invariant i (omega (arith, l)) in
+    record {
+      symbol = λ j l.
+          c.transform.ensures.values j (omega (arith, l, count))
+          ∙ ap (λ k. transform m root k (numbers number padded) j) count
+          ∙ value_by_transform m root (length message) n j points (numbers number message)
+          (numbers number padded) c.requires.few powers (λ i b. held i (omega (arith, b, c.requires.few)))
+          (λ i b k. held i k ∙ past i b) l;
+    }

@@ -1,0 +1,9 @@
+use Rattle.std.proofs.Common.{◌≡◌, ℕ, ◌<◌}
+use Rattle.num_modular.specs.Plans.{numbers}
+use Rattle.ring_codes.proofs.erasure.powers.encode_by_plan.Given as goal
+
+-- the symbols of the message, then zeros
+abbrev pub invariant-symbols : goal.invariant-symbols
+invariant-symbols g l =
+    let number = g.T.RingWord.number in
+    (k : ℕ) → k < l.i → numbers number l.word k ≡ numbers number l.fn.message k
