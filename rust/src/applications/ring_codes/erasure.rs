@@ -27,7 +27,7 @@ pub use correction::{CorrectError, correct};
 use newton::{differences_before, divide_differences, expand, fill_weights};
 use crate::ring::invert_each;
 use crate::{Reducer, RingWord};
-pub use powers::{encode_by_transform, fill_powers};
+pub use powers::{encode_by_plan, encode_by_transform, fill_powers};
 pub use prepared::PreparedCode;
 pub use secrets::{ShareError, recover, recover_correct, share};
 

@@ -1,9 +1,12 @@
 //! Prepared codes, and codes at the powers of a root.
 
 use super::erasure::{forms_of, words_of};
+use crate::plans::{Plan, PlannedModulus};
 use crate::ring::root_fits;
 use crate::{Montgomery, Reducer};
-use crate::applications::ring_codes::erasure::{PreparedCode, encode_by_transform, fill_powers, points_fit};
+use crate::applications::ring_codes::erasure::{
+    PreparedCode, encode_by_plan, encode_by_transform, fill_powers, points_fit,
+};
 use crate::runtime::Abort;
 
 // The symbols at the wanted points, given those at the known points; `None` where the known points don't fit, or the
@@ -83,6 +86,16 @@ fn assert_transformed<R: Reducer<u64>>(rt: &impl Abort, prime: &R, composite: &R
     check!(rt, 13; transformed(composite, 13, &[1, 13, 84, 72], &[80, 0, 0, 7]) == Some([2, 74, 73, 1]));
 }
 
+// The word of a message by a plan for four entries modulo 97, at the points 1, 22, 96 and 75.
+fn planned_word() -> Option<[u64; 4]> {
+    let modulus = PlannedModulus::<u64>::new(97);
+    let mut table = [modulus.factor(0); 2];
+    let plan = Plan::new(&modulus, 22, &mut table)?;
+    let mut word = [0; 4];
+    encode_by_plan(&plan, &[1, 2, 300], &mut word);
+    Some(word)
+}
+
 // Generic in the reducer, as each call with a known one takes long to prove.
 fn assert_codes<R: Reducer<u64> + Copy>(rt: &impl Abort) {
     let prime = &R::new(&929);
@@ -97,4 +110,10 @@ fn assert_codes<R: Reducer<u64> + Copy>(rt: &impl Abort) {
 fn prepared_codes_by_montgomery_forms() {
     let rt = crate::runtime::HostRuntime;
     assert_codes::<Montgomery<u64>>(&rt);
+}
+
+#[test]
+fn words_by_a_plan() {
+    let rt = crate::runtime::HostRuntime;
+    check!(&rt, 1; planned_word() == Some([12, 36, 8, 45]));
 }
