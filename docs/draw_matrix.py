@@ -38,9 +38,7 @@ def text_of(lines):
     """The summary and the table of the groups with a line above the limit, as Markdown."""
     ratios = sorted(it["ratio"] for it in lines)
     above = sum(it > LIMIT for it in ratios)
-    at = [ratios[len(ratios) * part // 100] for part in (5, 25, 50, 75, 95)]
-    yield (f"{len(lines):,} lines; their mean is {mean(ratios):.2f}; {above} are above 1.05 and {sum(it > 1.2 for it in ratios)} above 1.2. "
-           f"Of a hundred lines, 5, 25, 50, 75 and 95 are below {', '.join(f'{it:.2f}' for it in at)}.\n\n")
+    yield f"{len(lines):,} lines, mean {mean(ratios):.2f}; {above} above 1.05, {sum(it > 1.2 for it in ratios)} above 1.2.\n\n"
     yield "| Call | Side | Where (lines above 1.05 of all, greatest) |\n|---|---|---|\n"
     rows = defaultdict(list)
     for (side, call, (kind, width)), group in grouped(lines).items():
@@ -62,15 +60,12 @@ def draw(lines):
     for part, side in zip(parts, ("chain", "eight")):
         means = [[mean(groups[side, call, it]) if (side, call, it) in groups else math.nan for it in columns] for call in calls]
         shown = [[math.log2(it) if it == it else math.nan for it in row] for row in means]
-        part.imshow(shown, cmap="RdBu_r", vmin=-1, vmax=1, aspect="auto")
+        shade = part.imshow(shown, cmap="RdBu_r", vmin=-1, vmax=1, aspect="auto")
         part.set_xticks(range(len(columns)), [f"{kind} {width}" for kind, width in columns], rotation=90, fontsize=7)
         part.set_yticks(range(len(calls)), calls, fontsize=7)
         part.set_title({"chain": "a chain", "eight": "eight chains side by side"}[side], fontsize=9)
-        for y, row in enumerate(means):
-            for x, it in enumerate(row):
-                if it == it:
-                    part.text(x, y, f"{it:.1f}", ha="center", va="center", fontsize=4.5)
-    figure.tight_layout()
+    bar = figure.colorbar(shade, ax=parts, fraction=0.02, ticks=[-1, -0.5, 0, 0.5, 1])
+    bar.ax.set_yticklabels(["0.5", "0.7", "1", "1.4", "2"])
     save(figure, "speed-matrix.svg", "Every small call beside the Rust crate",
          "A map of the time of each call, by kind of reducer and width, divided by the Rust crate's: blue is faster, red slower.")
 
