@@ -129,8 +129,7 @@ pub fn measured() -> Rows {
     };
     Rows {
         key: "codes",
-        title: "Words of 255 symbols (of 256 by a transform) from messages of 223, without 32 symbols and with 16 wrong ones, in MB/s \
-                of the symbols of the word; a prepared code gives 32 symbols from 223"
+        title: "Words of 255 symbols (256 by a transform), messages of 223, 32 lost or 16 wrong, in MB/s"
             .to_string(),
         heads: vec!["encode", "prepared encode", "by transform", "restore_word", "prepared restore", "correct"],
         ratios: vec![("prepared/encode", 1, 0), ("transform/encode", 2, 0), ("prepared/restore", 4, 3)],
@@ -191,8 +190,7 @@ pub fn beside_libfec() -> Option<Rows> {
         let line = |name: &str, our: usize, their: usize| (name.to_string(), vec![ours[our], theirs[their]]);
         Some(Rows {
             key: "libfec",
-            title: "Words of 255 symbols of 8 bits from messages of 223, in MB/s: modulo 257, and by libfec's `encode_rs_8` and \
-                    `decode_rs_8` over the field of 256 elements"
+            title: "The same of 8 bits, modulo 257, and by libfec over the field of 256 elements, in MB/s"
                 .to_string(),
             heads: vec!["Cargo crate", "libfec"],
             ratios: vec![("libfec/Cargo crate", 1, 0)],
