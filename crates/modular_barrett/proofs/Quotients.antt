@@ -7,7 +7,7 @@ use Rattle.std.proofs.lemmas.Nat.{div-mul-add, pow-add}
 use Rattle.modular_word.specs.Congruence.{Congruent}
 use Rattle.modular_word.specs.Division.{IsDivision}
 use Rattle.modular_word.specs.Reciprocals.{IsReciprocal}
-use Rattle.modular_word.proofs.Congruence.{of_equal, itself, chained, added, residue_of, mod_cancel}
+use Rattle.modular_word.proofs.Congruence.{mod_of_eq, mod_refl, mod_trans, mod_add, residue_of, mod_cancel}
 use Rattle.modular_barrett.specs.Factors.{IsFactor}
 
 -- the quotient of scaled numbers is the quotient
@@ -124,7 +124,7 @@ left_by_quotient b m w q p r some room is is_p none fits =
     let product : m * q ≡ m * (w * b / m) = ap (λ v. m * v) is.quotient in
     let whole : (w * b) % m + q * m ≡ 0 + w * b = omega (arith, d, product) in
     let all : Congruent b ((w * b) % m + p) 0 =
-    chained (added (itself ((w * b) % m)) (chained (of_equal is_p) (residue_of (q * m))))
-    (chained (of_equal whole) (record { same = add-mul-mod_self_right 0 w b })) in
+    mod_trans (mod_add (mod_refl ((w * b) % m)) (mod_trans (mod_of_eq is_p) (residue_of (q * m))))
+    (mod_trans (mod_of_eq whole) (record { same = add-mul-mod_self_right 0 w b })) in
     let zero_is : 0 % b ≡ 0 = mod-eq_of_lt (let k : 0 < b = omega (arith, some, room) in k) in
     mod_cancel b r ((w * b) % m) p fits (omega (arith, small, room)) (none ∙ sym zero_is ∙ sym all.same)

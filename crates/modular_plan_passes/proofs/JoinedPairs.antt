@@ -1,7 +1,7 @@
 -- Pairs that are joined, and what is reduced before and afterwards.
 use Rattle.std.proofs.Common.{◌≡◌, ℕ, ◌+◌, ◌*◌, arith}
 use Rattle.modular_word.specs.Congruence.{Congruent}
-use Rattle.modular_word.proofs.Congruence.{of_equal, itself, turned, chained, added, multiplied, cancelled}
+use Rattle.modular_word.proofs.Congruence.{mod_of_eq, mod_refl, mod_sym, mod_trans, mod_add, mod_mul, mod_add_cancel}
 use Rattle.modular_plan_passes.specs.Joins.{IsPairJoin, IsMinusInverse}
 
 -- the sum of a pair, and its difference times v, minus the inverse of w: by a multiple of m
@@ -11,19 +11,19 @@ joined_pair_of {m} w v a b rest bound product sum none is_rest is_sum is_product
     let spread : (b + rest) * v * w + b + rest ≡ (b + rest) * (w * v + 1) = omega arith in
     let nothing : (b + rest) * 0 ≡ 0 = omega arith in
     let all : Congruent m (product * w + b + rest) 0 =
-    chained (added (added (multiplied is_product (itself w)) (itself b)) (itself rest))
-    (chained (of_equal spread) (chained (multiplied (itself (b + rest)) inverse.product) (of_equal nothing))) in
+    mod_trans (mod_add (mod_add (mod_mul is_product (mod_refl w)) (mod_refl b)) (mod_refl rest))
+    (mod_trans (mod_of_eq spread) (mod_trans (mod_mul (mod_refl (b + rest)) inverse.product) (mod_of_eq nothing))) in
     let whole : a + rest ≡ bound = omega (arith, is_rest) in
     record {
-      summed = of_equal is_sum;
-      subtracted = cancelled rest (chained all (turned (chained (of_equal whole) none)));
+      summed = mod_of_eq is_sum;
+      subtracted = mod_add_cancel rest (mod_trans all (mod_sym (mod_trans (mod_of_eq whole) none)));
     }
 
 -- a pair whose sum is reduced
 pub joined_pair_reduced : {m : ℕ} (w a b sum product sum' : ℕ) → Congruent m sum' sum → IsPairJoin m w a b sum product
     → IsPairJoin m w a b sum' product
 joined_pair_reduced w a b sum product sum' is pair = record {
-  summed = chained is pair.summed;
+  summed = mod_trans is pair.summed;
   subtracted = pair.subtracted;
 }
 
@@ -31,8 +31,8 @@ joined_pair_reduced w a b sum product sum' is pair = record {
 pub joined_pair_along : {m : ℕ} (w a b x y sum product : ℕ) → Congruent m x a → Congruent m y b
     → IsPairJoin m w x y sum product → IsPairJoin m w a b sum product
 joined_pair_along {m} w a b x y sum product first second pair = record {
-  summed = chained pair.summed (added first second);
-  subtracted = chained (added (itself (product * w)) (turned second)) (chained pair.subtracted first);
+  summed = mod_trans pair.summed (mod_add first second);
+  subtracted = mod_trans (mod_add (mod_refl (product * w)) (mod_sym second)) (mod_trans pair.subtracted first);
 }
 
 -- the sum and the difference of a pair that is joined by 1, by a multiple of m
@@ -42,16 +42,16 @@ joined_by_one {m} a b bound sum difference none is_sum is_difference =
     let whole : difference * 1 + b ≡ a + bound = omega (arith, is_difference) in
     let rest : a + 0 ≡ a = omega arith in
     record {
-      summed = of_equal is_sum;
-      subtracted = chained (of_equal whole) (chained (added (itself a) none) (of_equal rest));
+      summed = mod_of_eq is_sum;
+      subtracted = mod_trans (mod_of_eq whole) (mod_trans (mod_add (mod_refl a) none) (mod_of_eq rest));
     }
 
 -- a pair whose two results are reduced
 pub joined_pair_up_to : {m : ℕ} (w a b sum quotient sum' quotient' : ℕ) → Congruent m sum' sum
     → Congruent m quotient' quotient → IsPairJoin m w a b sum quotient → IsPairJoin m w a b sum' quotient'
 joined_pair_up_to {m} w a b sum quotient sum' quotient' first second pair = record {
-  summed = chained first pair.summed;
-  subtracted = chained (added (multiplied second (itself w)) (itself b)) pair.subtracted;
+  summed = mod_trans first pair.summed;
+  subtracted = mod_trans (mod_add (mod_mul second (mod_refl w)) (mod_refl b)) pair.subtracted;
 }
 
 -- a pair times a number
@@ -61,6 +61,6 @@ joined_pair_scaled {m} w a b sum quotient s pair =
     let both : (a + b) * s ≡ a * s + b * s = omega arith in
     let parts : quotient * s * w + b * s ≡ (quotient * w + b) * s = omega arith in
     record {
-      summed = chained (multiplied pair.summed (itself s)) (of_equal both);
-      subtracted = chained (of_equal parts) (multiplied pair.subtracted (itself s));
+      summed = mod_trans (mod_mul pair.summed (mod_refl s)) (mod_of_eq both);
+      subtracted = mod_trans (mod_of_eq parts) (mod_mul pair.subtracted (mod_refl s));
     }

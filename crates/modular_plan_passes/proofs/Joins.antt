@@ -6,8 +6,8 @@ use Rattle.std.proofs.lemmas.Bool.{cases_lt}
 use Rattle.std.proofs.lemmas.Nat.{pow_pos}
 use Rattle.modular_word.specs.Congruence.{Congruent}
 use Rattle.modular_word.specs.Sums.{sum_below}
-use Rattle.modular_word.proofs.Congruence.{of_equal, itself, turned, chained, added}
-use Rattle.modular_word.proofs.Congruence.{multiplied, cancelled, cancelled_unit, residue_of}
+use Rattle.modular_word.proofs.Congruence.{mod_of_eq, mod_refl, mod_sym, mod_trans, mod_add}
+use Rattle.modular_word.proofs.Congruence.{mod_mul, mod_add_cancel, mod_mul_cancel, residue_of}
 use Rattle.modular_word.proofs.Sums.{sum_below-zero, sum_below-suc, sum_below-same, sum_below-mul}
 use Rattle.modular_transform.specs.Orders.{bits_reversed}
 use Rattle.modular_transform.specs.Transforms.{Suits}
@@ -30,8 +30,9 @@ joined_low : {m : ℕ} (a d t odd y z low : ℕ) → Congruent m y (a + t * d) �
 joined_low {m} a d t odd y z low is_y is_z opposite summed =
     let spread : (a + t * d) + (a + odd * d) ≡ 2 * a + (odd + t) * d = omega arith in
     let none : 2 * a + 0 * d ≡ 2 * a = omega arith in
-    chained summed (chained (added is_y is_z)
-    (chained (of_equal spread) (chained (added (itself (2 * a)) (multiplied opposite (itself d))) (of_equal none))))
+    mod_trans summed (mod_trans (mod_add is_y is_z)
+    (mod_trans (mod_of_eq spread) (mod_trans (mod_add (mod_refl (2 * a)) (mod_mul opposite (mod_refl d)))
+    (mod_of_eq none))))
 
 -- and the quotient of their difference
 joined_high : {m : ℕ} (a d t odd w j y z high : ℕ) → Congruent m y (a + t * d) → Congruent m z (a + odd * d)
@@ -39,16 +40,16 @@ joined_high : {m : ℕ} (a d t odd w j y z high : ℕ) → Congruent m y (a + t 
     → Congruent m (high * w + z) y → Congruent m high (2 * d)
 joined_high {m} a d t odd w j y z high is_y is_z opposite is_w unit subtracted =
     let at : Congruent m (high * t + (a + odd * d)) (a + t * d) =
-    chained (added (multiplied (itself high) (turned is_w)) (turned is_z)) (chained subtracted is_y) in
+    mod_trans (mod_add (mod_mul (mod_refl high) (mod_sym is_w)) (mod_sym is_z)) (mod_trans subtracted is_y) in
     let more : high * t + (a + odd * d) + t * d ≡ high * t + a + (odd + t) * d = omega arith in
     let none : high * t + a + 0 * d ≡ high * t + a = omega arith in
     let left : Congruent m (high * t + (a + odd * d) + t * d) (high * t + a) =
-    chained (of_equal more)
-    (chained (added (itself (high * t + a)) (multiplied opposite (itself d))) (of_equal none)) in
+    mod_trans (mod_of_eq more)
+    (mod_trans (mod_add (mod_refl (high * t + a)) (mod_mul opposite (mod_refl d))) (mod_of_eq none)) in
     let right : a + t * d + t * d ≡ (2 * d) * t + a = omega arith in
     let same : Congruent m (high * t + a) ((2 * d) * t + a) =
-    chained (turned left) (chained (added at (itself (t * d))) (of_equal right)) in
-    cancelled_unit t j unit (cancelled a same)
+    mod_trans (mod_sym left) (mod_trans (mod_add at (mod_refl (t * d))) (mod_of_eq right)) in
+    mod_mul_cancel t j unit (mod_add_cancel a same)
 
 -- a pair of the level above
 pub joined_pair : {m : ℕ} (g u q count half s i : ℕ) (x : ℕ → ℕ) (w y z low high : ℕ) → q < 2 ^ u
@@ -68,13 +69,13 @@ joined_pair {m} g u q count half s i x w y z low high below suits is_w is_y is_z
     let a = sum_below count (λ k. f (k * (half + half) + i) * c ^ k) in
     let d = sum_below count (λ k. f (k * (half + half) + (half + i)) * c ^ k) in
     let first : Congruent m y (a + t * d) =
-    chained is_y (chained (of_equal (ap (λ v. sum_below (count * 2) (λ k. f (k * half + i) * v ^ k)) are.even_is))
+    mod_trans is_y (mod_trans (mod_of_eq (ap (λ v. sum_below (count * 2) (λ k. f (k * half + i) * v ^ k)) are.even_is))
     (level_sum count half i t c f are.root)) in
-    let second : Congruent m z (a + odd * d) = chained is_z (level_sum count half i odd c f are.odd_root) in (
-      chained (joined_low a d t odd _ _ _ first second are.opposite pair.summed)
-          (of_equal (sym (scaled_sum count s (half + half) i c x))),
-      chained (joined_high a d t odd w are.inverse _ _ _ first second are.opposite is_w are.unit pair.subtracted)
-          (of_equal (sym (scaled_sum count s (half + half) (half + i) c x))),
+    let second : Congruent m z (a + odd * d) = mod_trans is_z (level_sum count half i odd c f are.odd_root) in (
+      mod_trans (joined_low a d t odd _ _ _ first second are.opposite pair.summed)
+          (mod_of_eq (sym (scaled_sum count s (half + half) i c x))),
+      mod_trans (joined_high a d t odd w are.inverse _ _ _ first second are.opposite is_w are.unit pair.subtracted)
+          (mod_of_eq (sym (scaled_sum count s (half + half) (half + i) c x))),
     )
 
 -- the entry of block q at place j * size + i of a level
@@ -82,8 +83,8 @@ pub level_entry : {m : ℕ} (g z b count size j i place q : ℕ) (x y : ℕ → 
     → i < size → place ≡ j * size + i → q ≡ b * count + j
     → Congruent m (y place) (sum_below count (λ k. x (k * size + i) * constant g z q ^ k))
 level_entry {m} g z b count size j i place q x y level lj li at is =
-    chained (of_equal (ap y at)) (chained (level.each j i lj li)
-    (of_equal (ap (λ v. sum_below count (λ k. x (k * size + i) * constant g z v ^ k)) (sym is))))
+    mod_trans (mod_of_eq (ap y at)) (mod_trans (level.each j i lj li)
+    (mod_of_eq (ap (λ v. sum_below count (λ k. x (k * size + i) * constant g z v ^ k)) (sym is))))
 
 level_above : {m : ℕ} (g u b count half s : ℕ) (x y after w : ℕ → ℕ) → (b + 1) * count ≤ 2 ^ u → Suits m g (2 ^ suc u)
     → ((p : ℕ) → p < count → Congruent m (w p) (g ^ bits_reversed u (b * count + p)))
@@ -149,10 +150,10 @@ level_joined {m} g (suc u) b blocks size last done count length entries w x y af
     subst (λ s. IsLevel m g (suc u) b blocks (size + size) (λ k. s * x k) after) twice
     (level_above g u b blocks size (2 ^ done) x y after (λ p. w (b * blocks + p)) enough plan.suits
     (λ p l.
-    chained (of_equal (plan.entry (b * blocks + p)
+    mod_trans (mod_of_eq (plan.entry (b * blocks + p)
     (let k : b * blocks + p < entries = omega (arith, enough, half, two, l) in k)))
-    (chained (residue_of (g ^ bits_reversed (suc u - 1) (b * blocks + p)))
-    (of_equal (ap (λ k. g ^ bits_reversed k (b * blocks + p)) e))))
+    (mod_trans (residue_of (g ^ bits_reversed (suc u - 1) (b * blocks + p)))
+    (mod_of_eq (ap (λ k. g ^ bits_reversed k (b * blocks + p)) e))))
     before stage)
 
 -- the sizes of a stage that joins: half as many blocks, of twice the size
@@ -226,7 +227,7 @@ level_top {m} g z b size last blocks zero done count length x y some positive fu
     let first : 0 * size + i ≡ i = omega arith in
     let xe = ap (λ v. 2 ^ done * x v) first in
     let ce = ap (λ v. v * x i) c in
-    chained (of_equal (ap y (sym first))) (chained at (of_equal (omega (arith, sum, n0, p, xe, ce))))
+    mod_trans (mod_of_eq (ap y (sym first))) (mod_trans at (mod_of_eq (omega (arith, sum, n0, p, xe, ce))))
 level_top {m} g z b size last blocks (suc rest) done count length x y some positive full blocks_is
     sized counted whole level i l =
     let two = two-pow-succ rest in

@@ -7,8 +7,8 @@ use Rattle.std.proofs.lemmas.Nat.{pow-add, pow_pos}
 use Rattle.std.specs.Int.{IsPowerOfTwo}
 use Rattle.modular_word.specs.Congruence.{Congruent}
 use Rattle.modular_word.specs.Sums.{sum_below}
-use Rattle.modular_word.proofs.Congruence.{of_equal, itself, turned, chained, added}
-use Rattle.modular_word.proofs.Congruence.{multiplied, powered, cancelled, residue_of}
+use Rattle.modular_word.proofs.Congruence.{mod_of_eq, mod_refl, mod_sym, mod_trans, mod_add}
+use Rattle.modular_word.proofs.Congruence.{mod_mul, mod_pow, mod_add_cancel, residue_of}
 use Rattle.modular_word.proofs.Powers.{pow-one}
 use Rattle.modular_word.proofs.Sums.{sum_below-zero, sum_below-suc, sum_below-congruent, sum_below-add, sum_below-mul}
 use Rattle.modular_transform.specs.Orders.{bits_reversed}
@@ -38,15 +38,15 @@ two_terms : {m : ℕ} (half i v c k : ℕ) (x : ℕ → ℕ) → Congruent m (v 
     → Congruent m (x ((2 * k) * half + i) * v ^ (2 * k) + x ((2 * k + 1) * half + i) * v ^ (2 * k + 1))
     (x (k * (half + half) + i) * c ^ k + v * (x (k * (half + half) + (half + i)) * c ^ k))
 two_terms {m} half i v c k x root =
-    let square : Congruent m (v ^ (2 * k)) (c ^ k) = chained (of_equal (sym (pow_of_square v k))) (powered k root) in
+    let square : Congruent m (v ^ (2 * k)) (c ^ k) = mod_trans (mod_of_eq (sym (pow_of_square v k))) (mod_pow k root) in
     let even : (2 * k) * half + i ≡ k * (half + half) + i = omega arith in
     let odd : (2 * k + 1) * half + i ≡ k * (half + half) + (half + i) = omega arith in
     let power : v ^ (2 * k + 1) ≡ v ^ (2 * k) * v = pow-add v (2 * k) 1 ∙ ap (λ n. v ^ (2 * k) * n) (pow-one v) in
     let turn : x (k * (half + half) + (half + i)) * (c ^ k * v) ≡ v * (x (k * (half + half) + (half + i)) * c ^ k) =
     omega arith in
-    added (multiplied (of_equal (ap x even)) square)
-    (chained (multiplied (of_equal (ap x odd)) (chained (of_equal power) (multiplied square (itself v))))
-    (of_equal turn))
+    mod_add (mod_mul (mod_of_eq (ap x even)) square)
+    (mod_trans (mod_mul (mod_of_eq (ap x odd)) (mod_trans (mod_of_eq power) (mod_mul square (mod_refl v))))
+    (mod_of_eq turn))
 
 -- the sum by a root v of c, from the two sums by c
 pub level_sum : {m : ℕ} (count half i v c : ℕ) (x : ℕ → ℕ) → Congruent m (v * v) c
@@ -57,10 +57,10 @@ level_sum {m} count half i v c x root =
     let f = λ (k : ℕ). x (k * half + i) * v ^ k in
     let a = λ (k : ℕ). x (k * (half + half) + i) * c ^ k in
     let b = λ (k : ℕ). x (k * (half + half) + (half + i)) * c ^ k in
-    chained (of_equal (sum_doubled count f))
-    (chained (sum_below-congruent count (λ k. f (2 * k) + f (2 * k + 1)) (λ k. a k + v * b k)
+    mod_trans (mod_of_eq (sum_doubled count f))
+    (mod_trans (sum_below-congruent count (λ k. f (2 * k) + f (2 * k + 1)) (λ k. a k + v * b k)
     (λ k l. two_terms half i v c k x root))
-    (of_equal (sum_below-add count a (λ k. v * b k) ∙ ap (λ s. sum_below count a + s) (sum_below-mul count v b))))
+    (mod_of_eq (sum_below-add count a (λ k. v * b k) ∙ ap (λ s. sum_below count a + s) (sum_below-mul count v b))))
 
 -- the constants of block p of a level with u more levels below it,
 -- by t, the entry of the plan for it, and h, the half turn
@@ -105,8 +105,8 @@ constants {m} g u p below suits =
     let ro : bits_reversed (suc u) (2 * p + 1) ≡ r + 2 ^ u = omega (arith, o, o2, o3) in
     let odd_is : constant g (suc u) (2 * p + 1) ≡ t * h = ap (λ k. g ^ k) ro ∙ pow-add g r (2 ^ u) in
     let square : Congruent m (h * h) 1 =
-    chained (of_equal (sym (pow-one (h * h))))
-    (chained (of_equal (pow_of_square h 1)) (even_power_of_minus_one 1 minus)) in
+    mod_trans (mod_of_eq (sym (pow-one (h * h))))
+    (mod_trans (mod_of_eq (pow_of_square h 1)) (even_power_of_minus_one 1 minus)) in
     let spread : (t * h) * (t * h) ≡ (t * t) * (h * h) = omega arith in
     let one : (t * t) * 1 ≡ t * t = omega arith in
     let join : t * h + t ≡ t * (h + 1) = omega arith in
@@ -116,15 +116,15 @@ constants {m} g u p below suits =
     sym (pow-add g r (2 ^ u - r)) ∙ ap (λ k. g ^ k) (let e : r + (2 ^ u - r) ≡ 2 ^ u = omega (arith, r_below) in e) in
     let twice_up : t * (g ^ (2 ^ u - r) * h) ≡ (t * g ^ (2 ^ u - r)) * h = omega arith in
     record {
-      root = of_equal (sym c_is);
+      root = mod_of_eq (sym c_is);
       even_is = ap (λ k. g ^ k) re;
       odd_root =
-          chained (of_equal (ap (λ v. v * v) odd_is))
-          (chained (of_equal spread) (chained (multiplied (itself (t * t)) square) (of_equal (one ∙ sym c_is))));
-      opposite = chained (of_equal (ap (λ v. v + t) odd_is))
-          (chained (of_equal join) (chained (multiplied (itself t) turn) (of_equal none)));
+          mod_trans (mod_of_eq (ap (λ v. v * v) odd_is))
+          (mod_trans (mod_of_eq spread) (mod_trans (mod_mul (mod_refl (t * t)) square) (mod_of_eq (one ∙ sym c_is))));
+      opposite = mod_trans (mod_of_eq (ap (λ v. v + t) odd_is))
+          (mod_trans (mod_of_eq join) (mod_trans (mod_mul (mod_refl t) turn) (mod_of_eq none)));
       inverse = g ^ (2 ^ u - r) * h;
-      unit = chained (of_equal (twice_up ∙ ap (λ v. v * h) up)) square;
+      unit = mod_trans (mod_of_eq (twice_up ∙ ap (λ v. v * h) up)) square;
     }
 
 -- the sum of a pair
@@ -133,7 +133,7 @@ even_entry : {m : ℕ} (a b y z w t sum difference : ℕ) → Congruent m y a �
     → Congruent m sum (a + t * b)
 even_entry {m} a b y z w t sum difference is_a is_b is_t pair =
     let turn : b * t ≡ t * b = omega arith in
-    chained pair.summed (added is_a (chained (multiplied is_b is_t) (of_equal turn)))
+    mod_trans pair.summed (mod_add is_a (mod_trans (mod_mul is_b is_t) (mod_of_eq turn)))
 
 -- and its difference
 odd_entry : {m : ℕ} (a b y z w t odd sum difference : ℕ) → Congruent m y a → Congruent m z b
@@ -143,10 +143,11 @@ odd_entry {m} a b y z w t odd sum difference is_a is_b is_t opposite pair =
     let spread : a + odd * b + b * t ≡ a + (odd + t) * b = omega arith in
     let none : a + 0 * b ≡ a = omega arith in
     let right : Congruent m (a + odd * b + b * t) a =
-    chained (of_equal spread) (chained (added (itself a) (multiplied opposite (itself b))) (of_equal none)) in
+    mod_trans (mod_of_eq spread) (mod_trans (mod_add (mod_refl a) (mod_mul opposite (mod_refl b))) (mod_of_eq none)) in
     let left : Congruent m (difference + b * t) a =
-    chained (added (itself difference) (multiplied (turned is_b) (turned is_t))) (chained pair.subtracted is_a) in
-    cancelled (b * t) (chained left (turned right))
+    mod_trans (mod_add (mod_refl difference) (mod_mul (mod_sym is_b) (mod_sym is_t))) (mod_trans pair.subtracted is_a)
+    in
+    mod_add_cancel (b * t) (mod_trans left (mod_sym right))
 
 pub level_first : {m : ℕ} (g z b n : ℕ) (x : ℕ → ℕ) → IsLevel m g z b 1 n x x
 level_first {m} g z b n x = record {
@@ -159,7 +160,7 @@ level_first {m} g z b n x = record {
       let z0 : j * n ≡ 0 * n = ap (λ v. v * n) (let e : j ≡ 0 = omega arith in e) in
       let place : j * n + i ≡ 0 * n + i = omega (arith, z0) in
       let xe = ap x place in
-      of_equal (omega (arith, s, n0, p, xe));
+      mod_of_eq (omega (arith, s, n0, p, xe));
 }
 
 -- a pair of the next level
@@ -182,10 +183,10 @@ level_pair {m} g u q count half i x w y z sum difference below suits is_w first 
     level_sum count half i t c x are.root in
     let odd_sum : Congruent m (sum_below (count * 2) (λ k. x (k * half + i) * odd ^ k)) (a + odd * d) =
     level_sum count half i odd c x are.odd_root in (
-      chained (even_entry a d _ _ w t _ _ first second is_w pair)
-          (chained (turned even_sum)
-          (of_equal (ap (λ v. sum_below (count * 2) (λ k. x (k * half + i) * v ^ k)) (sym are.even_is)))),
-      chained (odd_entry a d _ _ w t odd _ _ first second is_w are.opposite pair) (turned odd_sum),
+      mod_trans (even_entry a d _ _ w t _ _ first second is_w pair)
+          (mod_trans (mod_sym even_sum)
+          (mod_of_eq (ap (λ v. sum_below (count * 2) (λ k. x (k * half + i) * v ^ k)) (sym are.even_is)))),
+      mod_trans (odd_entry a d _ _ w t odd _ _ first second is_w are.opposite pair) (mod_sym odd_sum),
     )
 
 pub level_more : {m : ℕ} (g u b count half : ℕ) (x y after w : ℕ → ℕ) → (b + 1) * count ≤ 2 ^ u → Suits m g (2 ^ suc u)
@@ -298,10 +299,10 @@ level_next {m} g (suc u) b blocks size last rest count length entries w x y afte
     let e : suc u - 1 ≡ u = omega arith in
     level_more g u b blocks (size / 2) x y after (λ p. w (b * blocks + p)) enough plan.suits
     (λ p l.
-    chained (of_equal (plan.entry (b * blocks + p)
+    mod_trans (mod_of_eq (plan.entry (b * blocks + p)
     (let k : b * blocks + p < entries = omega (arith, enough, half, two, l) in k)))
-    (chained (residue_of (g ^ bits_reversed (suc u - 1) (b * blocks + p)))
-    (of_equal (ap (λ k. g ^ bits_reversed k (b * blocks + p)) e))))
+    (mod_trans (residue_of (g ^ bits_reversed (suc u - 1) (b * blocks + p)))
+    (mod_of_eq (ap (λ k. g ^ bits_reversed k (b * blocks + p)) e))))
     (subst (λ n. IsLevel m g (suc u) b blocks n x y) sizes.twice before) stage
 
 -- no stage is left

@@ -3,7 +3,7 @@ use Rattle.std.proofs.Common.{◌≡◌, ℕ, suc, zero, ◌+◌, ◌-◌, ◌*�
 use Rattle.std.proofs.Math.Nat.{two-pow-succ, pow-zero, mod-eq_of_lt, zero-mod, add-mul-mod_self_right}
 use Rattle.std.proofs.lemmas.Nat.{pow-add, pow_pos}
 use Rattle.modular_word.specs.Congruence.{Congruent}
-use Rattle.modular_word.proofs.Congruence.{of_equal, itself, chained, added, multiplied, residue_of}
+use Rattle.modular_word.proofs.Congruence.{mod_of_eq, mod_refl, mod_trans, mod_add, mod_mul, residue_of}
 use Rattle.modular_transform.specs.Orders.{bits_reversed}
 use Rattle.modular_transform.proofs.BitReversal.{bits_reversed-suc, bits_reversed_of_zero}
 use Rattle.modular_plan_passes.specs.Plans.{IsPlan}
@@ -67,8 +67,8 @@ mirror_of_plan {m} g (suc u) count k q r w plan below least most mirror =
     let r_below : r < count = omega (arith, inside, count_is) in
     let is_half : 2 ^ suc u / 2 ≡ 2 ^ u = omega (arith, two) in
     let e : suc u - 1 ≡ u = omega arith in
-    let entry = λ (p : ℕ) (l : p < count). chained (of_equal (plan.entry p l))
-    (chained (residue_of (g ^ bits_reversed (suc u - 1) p)) (of_equal (ap (λ v. g ^ bits_reversed v p) e))) in
+    let entry = λ (p : ℕ) (l : p < count). mod_trans (mod_of_eq (plan.entry p l))
+    (mod_trans (residue_of (g ^ bits_reversed (suc u - 1) p)) (mod_of_eq (ap (λ v. g ^ bits_reversed v p) e))) in
     let product : g ^ bits_reversed u q * g ^ bits_reversed u r ≡ g ^ (2 ^ suc u / 2)
     = sym (pow-add g (bits_reversed u q) (bits_reversed u r)) ∙ ap (λ v. g ^ v) (are.total ∙ sym is_half) in
     let turn : Congruent m (g ^ (2 ^ suc u / 2) + 1) 0 =
@@ -77,7 +77,8 @@ mirror_of_plan {m} g (suc u) count k q r w plan below least most mirror =
       within = r_below;
       inverse = record {
         product =
-            chained (added (chained (multiplied (entry q below) (entry r r_below)) (of_equal product)) (itself 1)) turn;
+            mod_trans (mod_add (mod_trans (mod_mul (entry q below) (entry r r_below)) (mod_of_eq product))
+            (mod_refl 1)) turn;
       };
     }
 
@@ -86,11 +87,11 @@ pub first_of_plan : {m : ℕ} (g z count v : ℕ) (w : ℕ → ℕ) → IsPlan m
     → v + 1 ≡ m → IsMinusInverse m (w 0) v
 first_of_plan {m} g z count v w plan some is =
     let r = ap (λ e. g ^ e) (bits_reversed_of_zero (z - 1)) ∙ pow-zero g in
-    let one : Congruent m (w 0) 1 = chained (of_equal (plan.entry 0 some))
-    (chained (residue_of (g ^ bits_reversed (z - 1) 0)) (of_equal r)) in
+    let one : Congruent m (w 0) 1 = mod_trans (mod_of_eq (plan.entry 0 some))
+    (mod_trans (residue_of (g ^ bits_reversed (z - 1) 0)) (mod_of_eq r)) in
     let whole : 1 * v + 1 ≡ 0 + 1 * m = omega (arith, is) in
     let gone : Congruent m (0 + 1 * m) 0 = record { same = add-mul-mod_self_right 0 1 m } in
-    record { product = chained (added (multiplied one (itself v)) (itself 1)) (chained (of_equal whole) gone) }
+    record { product = mod_trans (mod_add (mod_mul one (mod_refl v)) (mod_refl 1)) (mod_trans (mod_of_eq whole) gone) }
 
 -- the place mirrored in its power of two, as words have it
 pub mirrored_place : (k q power : ℕ) → 2 ^ k ≤ q → q < 2 * 2 ^ k → q < 18446744073709551616

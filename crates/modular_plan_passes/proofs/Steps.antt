@@ -5,8 +5,8 @@ use Rattle.std.proofs.Math.ListN.{set, length-set}
 use Rattle.std.proofs.Math.Nat.{add-mul-mod_self_right, mul-le-mul_right}
 use Rattle.std.proofs.lemmas.Bool.{cases_eq}
 use Rattle.modular_word.specs.Congruence.{Congruent}
-use Rattle.modular_word.proofs.Congruence.{of_equal, itself, turned, chained, added}
-use Rattle.modular_word.proofs.Congruence.{multiplied, mod_of_multiple_left}
+use Rattle.modular_word.proofs.Congruence.{mod_of_eq, mod_refl, mod_sym, mod_trans, mod_add}
+use Rattle.modular_word.proofs.Congruence.{mod_mul, mod_of_multiple_left}
 use Rattle.modular_plan_passes.specs.Plans.{numbers}
 use Rattle.modular_plan_passes.specs.Steps.{IsPairSplit, PairDone, BlockDone, StageDone}
 use Rattle.modular_plan_passes.proofs.Entries.{written, not_written}
@@ -18,17 +18,17 @@ pub pair_of : {m : ℕ} (w a b t rest sum difference : ℕ) → Congruent m t (b
 pair_of {m} w a b t rest sum difference is_t is_rest is_sum is_difference =
     let whole : difference + t ≡ a + 2 * m = omega arith in
     record {
-      summed = chained (of_equal is_sum) (added (itself a) is_t);
-      subtracted = chained (added (itself difference) (turned is_t))
-          (chained (of_equal whole) (record { same = add-mul-mod_self_right a 2 m }));
+      summed = mod_trans (mod_of_eq is_sum) (mod_add (mod_refl a) is_t);
+      subtracted = mod_trans (mod_add (mod_refl difference) (mod_sym is_t))
+          (mod_trans (mod_of_eq whole) (record { same = add-mul-mod_self_right a 2 m }));
     }
 
 -- .. by 1, where a bound of b is a multiple of m
 pub pair_by_one : {m : ℕ} (k a b bound sum difference : ℕ) → bound ≡ k * m → sum ≡ a + b → difference + b ≡ a + bound
     → IsPairSplit m 1 a b sum difference
 pair_by_one {m} k a b bound sum difference is_bound is_sum is_difference = record {
-  summed = of_equal (omega arith);
-  subtracted = chained (of_equal (let e : difference + b * 1 ≡ a + k * m = omega arith in e))
+  summed = mod_of_eq (omega arith);
+  subtracted = mod_trans (mod_of_eq (let e : difference + b * 1 ≡ a + k * m = omega arith in e))
       (record { same = add-mul-mod_self_right a k m });
 }
 
@@ -41,8 +41,9 @@ reduced_by {m} k x bound r is is_bound =
 pub pair_along : {m : ℕ} (w a b x y sum difference : ℕ) → Congruent m x a → Congruent m y b
     → IsPairSplit m w x y sum difference → IsPairSplit m w a b sum difference
 pair_along {m} w a b x y sum difference first second pair = record {
-  summed = chained pair.summed (added first (multiplied second (itself w)));
-  subtracted = chained (added (itself difference) (multiplied (turned second) (itself w))) (chained pair.subtracted first);
+  summed = mod_trans pair.summed (mod_add first (mod_mul second (mod_refl w)));
+  subtracted = mod_trans (mod_add (mod_refl difference) (mod_mul (mod_sym second) (mod_refl w)))
+  (mod_trans pair.subtracted first);
 }
 
 -- .. and one that is reduced afterwards
@@ -50,8 +51,8 @@ pub pair_up_to : {m : ℕ} (w a b sum difference sum' difference' : ℕ) → Con
     → Congruent m difference' difference → IsPairSplit m w a b sum difference
     → IsPairSplit m w a b sum' difference'
 pair_up_to {m} w a b sum difference sum' difference' first second pair = record {
-  summed = chained first pair.summed;
-  subtracted = chained (added second (itself (b * w))) pair.subtracted;
+  summed = mod_trans first pair.summed;
+  subtracted = mod_trans (mod_add second (mod_refl (b * w))) pair.subtracted;
 }
 
 -- what a pair writes

@@ -6,7 +6,7 @@ use Rattle.std.proofs.lemmas.Bool.{cases_lt}
 use Rattle.std.specs.Int.{IsPowerOfTwo}
 use Rattle.modular_word.specs.Congruence.{Congruent}
 use Rattle.modular_word.specs.Sums.{sum_below}
-use Rattle.modular_word.proofs.Congruence.{of_equal, chained, residue_of}
+use Rattle.modular_word.proofs.Congruence.{mod_of_eq, mod_trans, residue_of}
 use Rattle.modular_transform.specs.Orders.{bits_reversed}
 use Rattle.modular_transform.specs.Transforms.{Suits}
 use Rattle.modular_plan_passes.specs.Plans.{constant, IsPlan, AreRemainders}
@@ -163,8 +163,8 @@ level_joined_two {m} g (suc u) b blocks size last done count length entries w x 
     (subst (λ s. IsLevel m g (suc u) b (blocks / 4) (size + size + (size + size)) (λ k. s * x k) after) scale
     (level_two_above g u b (blocks / 4) size (2 ^ done) x y after w enough plan.suits
     (λ k l.
-    chained (of_equal (plan.entry k (let i : k < entries = omega (arith, half, two, l) in i)))
-    (chained (residue_of (g ^ bits_reversed (suc u - 1) k)) (of_equal (ap (λ v. g ^ bits_reversed v k) e))))
+    mod_trans (mod_of_eq (plan.entry k (let i : k < entries = omega (arith, half, two, l) in i)))
+    (mod_trans (residue_of (g ^ bits_reversed (suc u - 1) k)) (mod_of_eq (ap (λ v. g ^ bits_reversed v k) e))))
     (subst (λ n. IsLevel m g (suc u) b n size (λ k. 2 ^ done * x k) y) sizes.twice before) stage))
 
 -- the entries of the plan for two stages

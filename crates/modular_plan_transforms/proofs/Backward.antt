@@ -2,7 +2,7 @@
 use Rattle.std.proofs.Common.{◌≡◌, ℕ, ◌+◌, ◌*◌, ◌%◌, ◌^◌, ◌<◌, List, length, sym, ap, ◌∙◌, arith}
 use Rattle.modular_word.specs.Congruence.{Congruent}
 use Rattle.modular_word.specs.Inverses.{IsInverse}
-use Rattle.modular_word.proofs.Congruence.{multiplied, itself}
+use Rattle.modular_word.proofs.Congruence.{mod_mul, mod_refl}
 use Rattle.modular_word.proofs.Powers.{pow-mul}
 use Rattle.modular_word.proofs.Sums.{sum_below-same}
 use Rattle.modular_transform.specs.Orders.{bits_reversed, IsReordered}
@@ -41,4 +41,4 @@ unscaled m n part v inverse =
     let moved : n * v * part ≡ n * part * v = omega arith in
     let one : 1 * v ≡ v = omega arith in
     let unit : Congruent m (n * part) 1 = record { same = inverse.one } in
-    ap (λ w. w % m) moved ∙ (multiplied unit (itself v)).same ∙ ap (λ w. w % m) one
+    ap (λ w. w % m) moved ∙ (mod_mul unit (mod_refl v)).same ∙ ap (λ w. w % m) one

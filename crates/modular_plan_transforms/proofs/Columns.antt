@@ -7,7 +7,7 @@ use Rattle.std.proofs.lemmas.Bool.Decides.{eqb_tells}
 use Rattle.std.proofs.lemmas.Nat.{pow-add, div-mul-add}
 use Rattle.modular_word.specs.Congruence.{Congruent}
 use Rattle.modular_word.specs.Sums.{sum_below}
-use Rattle.modular_word.proofs.Congruence.{of_equal, itself, turned, chained, added, multiplied, residue_of}
+use Rattle.modular_word.proofs.Congruence.{mod_of_eq, mod_refl, mod_sym, mod_trans, mod_add, mod_mul, residue_of}
 use Rattle.modular_word.proofs.Powers.{pow-one}
 use Rattle.modular_word.proofs.Sums.{sum_below-zero, sum_below-suc, sum_below-same, sum_below-congruent, sum_below-add}
 use Rattle.modular_word.proofs.Sums.{sum_below-joined, sum_below-of_zeros, sum_below-exchanged, sum_below-times_sum}
@@ -258,7 +258,7 @@ column count last c i x y li =
 -- what is congruent where a test holds
 tested_congruent : {m a e : ℕ} (b : Bool) → Congruent m a e → Congruent m (cond b a 0) (cond b e 0)
 tested_congruent {m} {a} {e} true h = h
-tested_congruent {m} {a} {e} false h = itself 0
+tested_congruent {m} {a} {e} false h = mod_refl 0
 
 -- a term of the product modulo X^n - d, by its two coefficients
 folded : {m : ℕ} (count last c d i k : ℕ) (x y : ℕ → ℕ) → Congruent m (c ^ count) d
@@ -271,9 +271,10 @@ folded {m} count last c d i k x y power =
     let b = coefficient n x y (k * last + i + n) in
     let place : k * last + i + n ≡ (count + k) * last + i = omega arith in
     let spread : (a + c ^ count * b) * c ^ k ≡ a * c ^ k + b * (c ^ count * c ^ k) = omega arith in
-    chained (multiplied (chained (residue_of (a + d * b)) (added (itself a) (multiplied (turned power) (itself b))))
-    (itself (c ^ k)))
-    (of_equal (spread ∙ ap (λ v. a * c ^ k + b * v) (sym (pow-add c count k))
+    mod_trans (mod_mul (mod_trans (residue_of (a + d * b)) (mod_add (mod_refl a)
+    (mod_mul (mod_sym power) (mod_refl b))))
+    (mod_refl (c ^ k)))
+    (mod_of_eq (spread ∙ ap (λ v. a * c ^ k + b * v) (sym (pow-add c count k))
     ∙ ap (λ v. a * c ^ k + coefficient n x y v * c ^ (count + k)) place))
 
 -- a sum of congruent coefficients
@@ -284,7 +285,7 @@ coefficient-congruent {m} n s x y u v first second =
     sum_below-congruent n (λ i. sum_below n (λ j. cond (eqb (i + j) s) (x i * y j) 0))
     (λ i. sum_below n (λ j. cond (eqb (i + j) s) (u i * v j) 0))
     (λ i li. sum_below-congruent n (λ j. cond (eqb (i + j) s) (x i * y j) 0) (λ j. cond (eqb (i + j) s) (u i * v j) 0)
-    (λ j lj. tested_congruent (eqb (i + j) s) (multiplied (first i li) (second j lj))))
+    (λ j lj. tested_congruent (eqb (i + j) s) (mod_mul (first i li) (second j lj))))
 
 -- a product modulo X^n - d, in the column i: the product of the remainders modulo X^last - c, where c to the count is d
 pub column_of_product : {m : ℕ} (count last c d i : ℕ) (x y u v : ℕ → ℕ) → i < last → Congruent m (c ^ count) d
@@ -298,12 +299,12 @@ column_of_product {m} count last c d i x y u v li power first second =
     let q = λ (k : ℕ). p (count + k) in
     let r = λ (k : ℕ). product_modulo m n d x y (k * last + i) * c ^ k in
     let whole : Congruent m (product_modulo m last c u v i) (sum_below (count + count) p) =
-    chained (residue_of (coefficient last u v i + c * coefficient last u v (i + last)))
-    (chained (added (coefficient-congruent last i u v _ _ first second)
-    (multiplied (itself c) (coefficient-congruent last (i + last) u v _ _ first second)))
-    (of_equal (sym (column count last c i x y li)))) in
+    mod_trans (residue_of (coefficient last u v i + c * coefficient last u v (i + last)))
+    (mod_trans (mod_add (coefficient-congruent last i u v _ _ first second)
+    (mod_mul (mod_refl c) (coefficient-congruent last (i + last) u v _ _ first second)))
+    (mod_of_eq (sym (column count last c i x y li)))) in
     let halves : sum_below (count + count) p ≡ sum_below count (λ k. p k + q k) =
     sum_below-joined count count p ∙ sym (sum_below-add count p q) in
     let terms : Congruent m (sum_below count (λ k. p k + q k)) (sum_below count r) =
-    sum_below-congruent count (λ k. p k + q k) r (λ k l. turned (folded count last c d i k x y power)) in
-    chained whole (chained (of_equal halves) terms)
+    sum_below-congruent count (λ k. p k + q k) r (λ k l. mod_sym (folded count last c d i k x y power)) in
+    mod_trans whole (mod_trans (mod_of_eq halves) terms)

@@ -2,7 +2,7 @@
 use Rattle.std.proofs.Common.{◌≡◌, ℕ, suc, zero, ◌+◌, ◌-◌, ◌*◌, ◌/◌, ◌%◌, ◌^◌, ◌<◌, ◌≤◌, refl, sym, ◌∙◌, ap, arith}
 use Rattle.std.proofs.Math.Nat.{two-pow-succ, add-mul-mod_self_right, mul-le-mul_right}
 use Rattle.modular_word.specs.Congruence.{Congruent}
-use Rattle.modular_word.proofs.Congruence.{of_equal, itself, turned, chained, added, cancelled, residue_of}
+use Rattle.modular_word.proofs.Congruence.{mod_of_eq, mod_refl, mod_sym, mod_trans, mod_add, mod_add_cancel, residue_of}
 use Rattle.modular_transform.specs.Orders.{bits_reversed}
 use Rattle.modular_plan_passes.specs.Plans.{constant, IsPlan}
 use Rattle.modular_plan_passes.proofs.Levels.{constants}
@@ -22,16 +22,17 @@ pair_of_constants {m} g (suc u) count p w plan below =
     let are = constants g u p (omega (arith, half, two, below)) plan.suits in
     let e : suc u - 1 ≡ u = omega arith in
     let entry : Congruent m (w p) (g ^ bits_reversed u p) =
-    chained (of_equal (plan.entry p below))
-    (chained (residue_of (g ^ bits_reversed (suc u - 1) p)) (of_equal (ap (λ v. g ^ bits_reversed v p) e))) in
+    mod_trans (mod_of_eq (plan.entry p below))
+    (mod_trans (residue_of (g ^ bits_reversed (suc u - 1) p)) (mod_of_eq (ap (λ v. g ^ bits_reversed v p) e))) in
     record {
-      even = chained entry (of_equal (sym are.even_is));
+      even = mod_trans entry (mod_of_eq (sym are.even_is));
       odd = λ v is.
           let whole : v + w p ≡ 0 + 1 * m = omega (arith, is) in
           let gone : Congruent m (0 + 1 * m) 0 = record { same = add-mul-mod_self_right 0 1 m } in
-          cancelled (w p)
-          (chained (of_equal whole)
-          (chained gone (turned (chained (added (itself (constant g (suc u) (2 * p + 1))) entry) are.opposite))));
+          mod_add_cancel (w p)
+          (mod_trans (mod_of_eq whole)
+          (mod_trans gone (mod_sym (mod_trans (mod_add (mod_refl (constant g (suc u) (2 * p + 1))) entry)
+          are.opposite))));
     }
 
 -- the place of the entry for block b * count + j, and whether

@@ -8,8 +8,8 @@ use Rattle.std.proofs.lemmas.Nat.{pow_pos}
 use Rattle.std.specs.Int.{IsPowerOfTwo}
 use Rattle.modular_word.specs.Congruence.{Congruent}
 use Rattle.modular_word.specs.Sums.{sum_below}
-use Rattle.modular_word.proofs.Congruence.{of_equal, itself, turned, chained, added}
-use Rattle.modular_word.proofs.Congruence.{multiplied, powered, cancelled, residue_of}
+use Rattle.modular_word.proofs.Congruence.{mod_of_eq, mod_refl, mod_sym, mod_trans, mod_add}
+use Rattle.modular_word.proofs.Congruence.{mod_mul, mod_pow, mod_add_cancel, residue_of}
 use Rattle.modular_word.proofs.Powers.{pow-one}
 use Rattle.modular_transform.specs.Orders.{bits_reversed}
 use Rattle.modular_word.proofs.Sums.{sum_below-same, sum_below-add}
@@ -32,11 +32,11 @@ square_of_constant {m} g u q j below half suits =
       | inl e ↦
           let c : constant g (suc u) j ≡ g ^ bits_reversed u q =
           ap (constant g (suc u)) (let k : j ≡ 2 * q = omega arith in k) ∙ are.even_is in
-          chained (of_equal (ap (λ v. v * v) c)) are.root
+          mod_trans (mod_of_eq (ap (λ v. v * v) c)) are.root
       | inr e ↦
           let c : constant g (suc u) j ≡ constant g (suc u) (2 * q + 1) =
           ap (constant g (suc u)) (let k : j ≡ 2 * q + 1 = omega arith in k) in
-          chained (of_equal (ap (λ v. v * v) c)) are.odd_root
+          mod_trans (mod_of_eq (ap (λ v. v * v) c)) are.odd_root
     ]
 
 -- 2^(k+1) blocks below block b: their constants to that power are that of b
@@ -51,7 +51,7 @@ power_of_constant {m} g u b zero j room below suits =
     let c = constant g (suc u) (b * 2 ^ 1 + j) in
     let s : c ^ (2 ^ 1) ≡ c * c = ap (λ v. c ^ v) (let e : 2 ^ 1 ≡ 2 * 1 = omega (arith, two) in e)
     ∙ sym (pow_of_square c 1) ∙ pow-one (c * c) in
-    chained (of_equal s) (square_of_constant g u b (b * 2 ^ 1 + j) (omega (arith, room, o)) half suits)
+    mod_trans (mod_of_eq s) (square_of_constant g u b (b * 2 ^ 1 + j) (omega (arith, room, o)) half suits)
 power_of_constant {m} g u b (suc k) j room below suits =
     let two = two-pow-succ (suc k) in
     let twice = two-pow-succ k in
@@ -66,8 +66,8 @@ power_of_constant {m} g u b (suc k) j room below suits =
     let c = constant g (suc u) (b * 2 ^ suc (suc k) + j) in
     let s : c ^ (2 ^ suc (suc k)) ≡ (c * c) ^ (2 ^ suc k) = ap (λ v. c ^ v)
     (let e : 2 ^ suc (suc k) ≡ 2 * 2 ^ suc k = omega (arith, two) in e) ∙ sym (pow_of_square c (2 ^ suc k)) in
-    chained (of_equal s)
-    (chained (powered (2 ^ suc k) (square_of_constant g u q (b * 2 ^ suc (suc k) + j) q_below half suits))
+    mod_trans (mod_of_eq s)
+    (mod_trans (mod_pow (2 ^ suc k) (square_of_constant g u q (b * 2 ^ suc (suc k) + j) q_below half suits))
     (power_of_constant g u b k p (omega (arith, room, halved)) p_below suits))
 
 -- .. for the blocks of a plan
@@ -79,7 +79,7 @@ constant_of_plan {m} g z b zero count j entries w is room plan below =
     let c1 : count ≡ 1 = omega (arith, is, one) in
     let bc = ap (λ v. b * v) c1 in
     let block : b * count + j ≡ b = omega (arith, bc, c1, below) in
-    of_equal (ap (λ v. constant g z (b * count + j) ^ v) c1
+    mod_of_eq (ap (λ v. constant g z (b * count + j) ^ v) c1
     ∙ pow-one (constant g z (b * count + j)) ∙ ap (constant g z) block)
 constant_of_plan {m} g zero b (suc k) count j entries w is room plan below =
     let half = plan.half in
@@ -119,10 +119,10 @@ remainders_of_loose_product {m} g z b count last entries w x y u v p power room 
       let column = column_of_product count last c (constant g z b) i x y
       (λ k. u (j * last + k)) (λ k. v (j * last + k)) li
       (constant_of_plan g z b power.0 count j entries w power.1 room plan lj)
-      (λ a la. chained (turned (residue_of (u (j * last + a))))
-      (chained (of_equal (first.each j a lj la)) (residue_of (sum_below count (λ k. x (k * last + a) * c ^ k)))))
+      (λ a la. mod_trans (mod_sym (residue_of (u (j * last + a))))
+      (mod_trans (mod_of_eq (first.each j a lj la)) (residue_of (sum_below count (λ k. x (k * last + a) * c ^ k)))))
       (λ a la.
-      chained (of_equal (second.each j a lj la)) (residue_of (sum_below count (λ l. y (l * last + a) * c ^ l)))) in
+      mod_trans (mod_of_eq (second.each j a lj la)) (residue_of (sum_below count (λ l. y (l * last + a) * c ^ l)))) in
       ap (λ n. n % m) value ∙ column.same;
 }
 
@@ -156,7 +156,7 @@ scaled_back : {m : ℕ} (count part v : ℕ) → Congruent m (count * part) 1 �
 scaled_back {m} count part v one =
     let turn : count * (v % m) * part ≡ count * part * (v % m) = omega arith in
     let o : 1 * v ≡ v = omega arith in
-    (chained (of_equal turn) (chained (multiplied one (residue_of v)) (of_equal o))).same
+    (mod_trans (mod_of_eq turn) (mod_trans (mod_mul one (residue_of v)) (mod_of_eq o))).same
 
 -- the entries that are joined are the product
 pub joined_product : {m : ℕ} (g z b last entries count size part : ℕ) (w x y u v p out : ℕ → ℕ) → IsPowerOfTwo count
@@ -182,8 +182,8 @@ pub residue_doubled : (m r t s q : ℕ) → r ≡ 2 ^ t % m → s ≡ r + r → 
 residue_doubled m r t s q is twice e =
     let more : 2 ^ t + 2 ^ t ≡ 2 ^ (t + 1) = let d = two-pow-succ t in
     let k = ap (λ v. 2 ^ v) (let f : t + 1 ≡ suc t = omega arith in f) in omega (arith, d, k) in
-    let value : Congruent m r (2 ^ t) = chained (of_equal is) (residue_of (2 ^ t)) in
-    e ∙ ap (λ n. n % m) twice ∙ (chained (added value value) (of_equal more)).same
+    let value : Congruent m r (2 ^ t) = mod_trans (mod_of_eq is) (residue_of (2 ^ t)) in
+    e ∙ ap (λ n. n % m) twice ∙ (mod_trans (mod_add value value) (mod_of_eq more)).same
 
 -- a test of two places is two tests
 both_tests : (n s e v : ℕ) → 0 < n → cond (eqb s e || eqb s (e + n)) v 0 ≡ cond (eqb s e) v 0 + cond (eqb s (e + n)) v 0
@@ -224,12 +224,12 @@ negacyclic {m} n e g (suc u) count w x y positive some plan =
     let are = constants g u 0 (pow_pos u) plan.suits in
     let one : g ^ bits_reversed u 0 ≡ 1 = ap (λ k. g ^ k) (bits_reversed_of_zero u) ∙ pow-zero g in
     let zero_block : Congruent m (constant g (suc u) 1 + 1) 0 =
-    chained (of_equal (ap (λ v. constant g (suc u) 1 + v) (sym one))) are.opposite in
+    mod_trans (mod_of_eq (ap (λ v. constant g (suc u) 1 + v) (sym one))) are.opposite in
     let whole : m - 1 + 1 ≡ 0 + 1 * m = omega (arith, positive) in
     let gone : Congruent m (0 + 1 * m) 0 = record { same = add-mul-mod_self_right 0 1 m } in
     let same : Congruent m (constant g (suc u) 1) (m - 1) =
-    cancelled 1 (chained zero_block (turned (chained (of_equal whole) gone))) in
-    (added (itself (coefficient n x y e)) (multiplied same (itself (coefficient n x y (e + n))))).same
+    mod_add_cancel 1 (mod_trans zero_block (mod_sym (mod_trans (mod_of_eq whole) gone))) in
+    (mod_add (mod_refl (coefficient n x y e)) (mod_mul same (mod_refl (coefficient n x y (e + n))))).same
 
 even_count : (k count : ℕ) → count ≡ 2 ^ k → count ≢ 1 → count ≡ 2 * (count / 2)
 even_count zero count is more = let one : 2 ^ 0 ≡ 1 = refl in absurd (more (is ∙ one))

@@ -7,7 +7,7 @@ use Rattle.std.proofs.lemmas.List.{get_or_past}
 use Rattle.std.specs.Int.{IsPowerOfTwo}
 use Rattle.modular_word.specs.Congruence.{Congruent}
 use Rattle.modular_word.specs.Sums.{sum_below}
-use Rattle.modular_word.proofs.Congruence.{of_equal, chained, itself, multiplied}
+use Rattle.modular_word.proofs.Congruence.{mod_of_eq, mod_trans, mod_refl, mod_mul}
 use Rattle.modular_word.proofs.Sums.{sum_below-same, sum_below-mul}
 use Rattle.modular_plan_passes.specs.Plans.{numbers, constant, IsPlan, AreRemainders}
 use Rattle.modular_plan_passes.specs.Steps.{FourAt}
@@ -47,7 +47,7 @@ remainders_scaled {m} g z b count last s x y are = record {
       let all = sum_below-same count (λ k. (x (k * last + i) * s) * c ^ k) (λ k. s * f k) (λ k l. omega arith)
       ∙ sum_below-mul count s f in
       let turn : sum_below count f * s ≡ s * sum_below count f = omega arith in
-      (multiplied one (itself s)).same ∙ ap (λ v. v % m) (turn ∙ sym all);
+      (mod_mul one (mod_refl s)).same ∙ ap (λ v. v % m) (turn ∙ sym all);
 }
 
 -- the entries of the plan
@@ -81,6 +81,6 @@ last_joined {m} g z b last count length entries s w x y after some no_b four pow
       after = λ k h. past k (omega (arith, fill, h));
     })) in
     let spread : count * (x i * s) ≡ count * x i * s = omega arith in
-    chained (level_top g z b (last * 4) last (count / 4) sizes.rest 2 count length (λ k. x k * s) after some
+    mod_trans (level_top g z b (last * 4) last (count / 4) sizes.rest 2 count length (λ k. x k * s) after some
     (omega (arith, fill, some)) (omega (arith, fill)) sizes.halved sizes.sized sizes.counted whole level i l)
-    (of_equal spread)
+    (mod_of_eq spread)

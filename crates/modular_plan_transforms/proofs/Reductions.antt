@@ -6,7 +6,7 @@ use Rattle.modular_word.specs.Congruence.{Congruent}
 use Rattle.modular_word.specs.Inverses.{IsInverse}
 use Rattle.modular_word.specs.Reduction.{IsNegatedInverse}
 use Rattle.modular_word.specs.Sums.{sum_below}
-use Rattle.modular_word.proofs.Congruence.{of_equal, itself, turned, chained, added, multiplied, cancelled}
+use Rattle.modular_word.proofs.Congruence.{mod_of_eq, mod_refl, mod_sym, mod_trans, mod_add, mod_mul, mod_add_cancel}
 use Rattle.modular_word.proofs.Congruence.{residue_of, equal_below}
 use Rattle.modular_word.proofs.Sums.{sum_below-same, sum_below-mul}
 use Rattle.modular_plan_passes.specs.Plans.{constant, AreRemainders}
@@ -21,10 +21,11 @@ inverse_of_negated b m i r some negated none fits =
     let nothing : m * 0 ≡ 0 = omega arith in
     let whole : 0 + b * 1 ≡ 1 + (b - 1) = omega arith in
     let all : Congruent b (m * r + (b - 1)) (1 + (b - 1)) =
-    chained (added (itself (m * r)) (turned product))
-    (chained (of_equal spread) (chained (multiplied (itself m) gone)
-    (chained (of_equal nothing) (chained (turned (record { same = add-mul-mod_self_left 0 b 1 })) (of_equal whole))))) in
-    record { below = fits; one = (cancelled (b - 1) all).same }
+    mod_trans (mod_add (mod_refl (m * r)) (mod_sym product))
+    (mod_trans (mod_of_eq spread) (mod_trans (mod_mul (mod_refl m) gone)
+    (mod_trans (mod_of_eq nothing) (mod_trans (mod_sym (record { same = add-mul-mod_self_left 0 b 1 }))
+    (mod_of_eq whole))))) in
+    record { below = fits; one = (mod_add_cancel (b - 1) all).same }
 
 -- a product t and the multiple of m with its low word, and the words of both
 pub record IsReducing (b m t q low high multiple : ℕ) : Type 0 where
@@ -41,10 +42,11 @@ reducing {b} {m} {i} t q low high p0 multiple inverse parts below low_fits is fi
     let turn : low * i * m ≡ low * (m * i) = omega arith in
     let one : low * 1 ≡ low = omega arith in
     let same : Congruent b p0 low =
-    chained (turned (record { same = add-mul-mod_self_left p0 b multiple }))
-    (chained (of_equal (sym multiple_parts))
-    (chained (multiplied (chained (of_equal is) (residue_of (low * i))) (itself m))
-    (chained (of_equal turn) (chained (multiplied (itself low) (record { same = inverse.one })) (of_equal one))))) in
+    mod_trans (mod_sym (record { same = add-mul-mod_self_left p0 b multiple }))
+    (mod_trans (mod_of_eq (sym multiple_parts))
+    (mod_trans (mod_mul (mod_trans (mod_of_eq is) (residue_of (low * i))) (mod_refl m))
+    (mod_trans (mod_of_eq turn) (mod_trans (mod_mul (mod_refl low) (record { same = inverse.one })) (mod_of_eq one)))))
+    in
     let e : p0 ≡ low = equal_below p0_fits low_fits same in
     record { parts = parts; multiple_parts = omega (arith, multiple_parts, e); below = below; fits = fits }
 
@@ -86,8 +88,9 @@ remainders_times {m} g z b count last t x y u are is = record {
       sym (sum_below-mul count t (λ k. x (k * last + i) * c ^ k))
       ∙ sum_below-same count (λ k. t * (x (k * last + i) * c ^ k)) (λ k. t * x (k * last + i) * c ^ k)
       (λ k l. omega arith) in
-      (chained (is j i lj li)
-      (chained (multiplied (itself t) (chained (of_equal (are.each j i lj li)) (residue_of sum))) (of_equal spread))).same;
+      (mod_trans (is j i lj li)
+      (mod_trans (mod_mul (mod_refl t) (mod_trans (mod_of_eq (are.each j i lj li)) (residue_of sum)))
+      (mod_of_eq spread))).same;
 }
 
 -- a product over b is t times the product, t being the inverse of b
@@ -96,8 +99,8 @@ pub over_base : {m : ℕ} (b t r product : ℕ) → Congruent m (b * t) 1 → Co
 over_base {m} b t r product unit is =
     let one : r ≡ r * 1 = omega arith in
     let turn : r * (b * t) ≡ t * (r * b) = omega arith in
-    chained (of_equal one)
-    (chained (multiplied (itself r) (turned unit)) (chained (of_equal turn) (multiplied (itself t) is)))
+    mod_trans (mod_of_eq one)
+    (mod_trans (mod_mul (mod_refl r) (mod_sym unit)) (mod_trans (mod_of_eq turn) (mod_mul (mod_refl t) is)))
 
 -- the factor times b makes up for it
 pub made_up_for : {m : ℕ} (b t count value w scaled : ℕ) → Congruent m (b * t) 1 → Congruent m scaled (w * b)
@@ -105,5 +108,5 @@ pub made_up_for : {m : ℕ} (b t count value w scaled : ℕ) → Congruent m (b 
 made_up_for {m} b t count value w scaled unit is =
     let turn : count * (t * value) * (w * b) ≡ count * value * w * (b * t) = omega arith in
     let one : count * value * w * 1 ≡ count * value * w = omega arith in
-    (chained (multiplied (itself (count * (t * value))) is)
-    (chained (of_equal turn) (chained (multiplied (itself (count * value * w)) unit) (of_equal one)))).same
+    (mod_trans (mod_mul (mod_refl (count * (t * value))) is)
+    (mod_trans (mod_of_eq turn) (mod_trans (mod_mul (mod_refl (count * value * w)) unit) (mod_of_eq one)))).same

@@ -4,7 +4,8 @@ use Rattle.std.proofs.lemmas.Bool.{cases_eq}
 use Rattle.std.proofs.Math.Nat.{add-mul-mod_self_right}
 use Rattle.modular_word.specs.Congruence.{Congruent}
 use Rattle.modular_word.specs.Sums.{sum_below}
-use Rattle.modular_word.proofs.Congruence.{of_equal, itself, turned, chained, added, multiplied, cancelled, residue_of}
+use Rattle.modular_word.proofs.Congruence.{mod_of_eq, mod_refl, mod_sym, mod_trans, mod_add, mod_mul, mod_add_cancel}
+use Rattle.modular_word.proofs.Congruence.{residue_of}
 use Rattle.modular_plan_passes.specs.Plans.{constant}
 use Rattle.modular_plan_passes.specs.Steps.{PairDone}
 use Rattle.modular_plan_transforms.specs.Products.{product_modulo, AreProducts}
@@ -50,13 +51,13 @@ product_by_odd {m} x w c product rest below odd is whole =
     let e : v + w ≡ m = omega arith in
     let both : x * (v + w) ≡ x * m = ap (λ k. x * k) e in
     let none : Congruent m (x * v + product) 0 =
-    chained (added (itself (x * v)) (chained (of_equal is) (residue_of (x * w))))
-    (chained (of_equal (let k : x * v + x * w ≡ 0 + x * m = omega (arith, both) in k))
+    mod_trans (mod_add (mod_refl (x * v)) (mod_trans (mod_of_eq is) (residue_of (x * w))))
+    (mod_trans (mod_of_eq (let k : x * v + x * w ≡ 0 + x * m = omega (arith, both) in k))
     (record { same = add-mul-mod_self_right 0 x m })) in
     let gone : Congruent m (rest + product) 0 =
-    chained (of_equal (let k : rest + product ≡ 0 + 1 * m = omega (arith, whole) in k))
+    mod_trans (mod_of_eq (let k : rest + product ≡ 0 + 1 * m = omega (arith, whole) in k))
     (record { same = add-mul-mod_self_right 0 1 m }) in
-    chained (cancelled product (chained gone (turned none))) (multiplied (itself x) (odd v e))
+    mod_trans (mod_add_cancel product (mod_trans gone (mod_sym none))) (mod_mul (mod_refl x) (odd v e))
 
 -- the block that was multiplied
 block_multiplied : {m : ℕ} (j turned c : ℕ) (x y before after : ℕ → ℕ) → Congruent m turned (before (2 * j + 1) * c)
@@ -71,11 +72,12 @@ block_multiplied {m} j turned c x y before after is kept step i below =
     let turn : x (j * 2 + 1) * c * y (j * 2 + 1) ≡ c * (x (j * 2 + 1) * y (j * 2 + 1)) = omega arith in
     let w : Congruent m (before (2 * j) * y (2 * j) + turned * y (2 * j + 1))
     (x (j * 2 + 0) * y (j * 2 + 0) + c * (x (j * 2 + 1) * y (j * 2 + 1))) =
-    added (multiplied (of_equal u) (of_equal (ap y first)))
-    (chained (multiplied (chained is (multiplied (of_equal v) (itself c))) (of_equal (ap y second))) (of_equal turn)) in
+    mod_add (mod_mul (mod_of_eq u) (mod_of_eq (ap y first)))
+    (mod_trans (mod_mul (mod_trans is (mod_mul (mod_of_eq v) (mod_refl c))) (mod_of_eq (ap y second)))
+    (mod_of_eq turn)) in
     let z : Congruent m (before (2 * j) * y (2 * j + 1) + before (2 * j + 1) * y (2 * j))
     (x (j * 2 + 0) * y (j * 2 + 1) + x (j * 2 + 1) * y (j * 2 + 0)) =
-    added (multiplied (of_equal u) (of_equal (ap y second))) (multiplied (of_equal v) (of_equal (ap y first))) in
+    mod_add (mod_mul (mod_of_eq u) (mod_of_eq (ap y second))) (mod_mul (mod_of_eq v) (mod_of_eq (ap y first))) in
     elim (cases_eq i 0) [
       | inl e ↦
           subst (λ n. after (j * 2 + n) ≡ product_modulo m 2 c (λ k. x (j * 2 + k)) (λ k. y (j * 2 + k)) n) (sym e)

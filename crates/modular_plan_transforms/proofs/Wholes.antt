@@ -7,7 +7,7 @@ use Rattle.std.proofs.lemmas.Bool.{cases_lt}
 use Rattle.std.proofs.lemmas.List.{take-map, get_or-take, length-take-le}
 use Rattle.std.proofs.lemmas.Nat.{pow-add, pow_pos}
 use Rattle.std.specs.Int.{IsPowerOfTwo}
-use Rattle.modular_word.proofs.Congruence.{of_equal, chained, turned, multiplied, added, itself, residue_of}
+use Rattle.modular_word.proofs.Congruence.{mod_of_eq, mod_trans, mod_sym, mod_mul, mod_add, mod_refl, residue_of}
 use Rattle.modular_word.proofs.Powers.{pow-one}
 use Rattle.modular_word.specs.Congruence.{Congruent}
 use Rattle.modular_word.specs.Inverses.{IsInverse}
@@ -56,9 +56,9 @@ doubled z n e =
 
 pub squared : (m g t p q : ℕ) → p ≡ g ^ (2 ^ t) % m → q ≡ (p * p) % m → q ≡ g ^ (2 ^ (t + 1)) % m
 squared m g t p q is square =
-    let value : Congruent m p (g ^ (2 ^ t)) = chained (of_equal is) (residue_of (g ^ (2 ^ t))) in
+    let value : Congruent m p (g ^ (2 ^ t)) = mod_trans (mod_of_eq is) (residue_of (g ^ (2 ^ t))) in
     let more = root_squared g t ∙ ap (λ v. g ^ (2 ^ v)) (sym (add-one t)) in
-    square ∙ (chained (multiplied value value) (of_equal more)).same
+    square ∙ (mod_trans (mod_mul value value) (mod_of_eq more)).same
 
 pub below_modulus : (m p v : ℕ) → 0 < m → p ≡ v % m → p < m
 below_modulus m p v some e = subst (λ n. n < m) (sym e) (mod-lt v some)
@@ -67,7 +67,8 @@ below_modulus m p v some e = subst (λ n. n < m) (sym e) (mod-lt v some)
 pub suits_by_turn : (m g n p : ℕ) → 0 < m → IsPowerOfTwo n → p ≡ g ^ n % m → (p + 1 ≡ m) ↔ Suits m g (2 * n)
 suits_by_turn m g n p some power is =
     let halved : 2 * n / 2 ≡ n = omega arith in
-    let same : (p + 1) % m ≡ (g ^ n + 1) % m = (added (chained (of_equal is) (residue_of (g ^ n))) (itself 1)).same in
+    let same : (p + 1) % m ≡ (g ^ n + 1) % m = (mod_add (mod_trans (mod_of_eq is) (residue_of (g ^ n)))
+    (mod_refl 1)).same in
     let below = below_modulus m p (g ^ n) some is in
     let least = pow_pos power.0 in
     let whole = power.1 in (
@@ -91,10 +92,11 @@ half_inverse m t p q inverse below twice =
     let two = two-pow-succ t in
     let power : 2 ^ (t + 1) ≡ 2 ^ t + 2 ^ t = omega (arith, next, two) in
     let moved : (2 ^ t + 2 ^ t) * q ≡ 2 ^ t * (2 * q) = omega arith in
-    let same : Congruent m (2 * q) p = chained (turned (residue_of (2 * q))) (of_equal twice) in
+    let same : Congruent m (2 * q) p = mod_trans (mod_sym (residue_of (2 * q))) (mod_of_eq twice) in
     record {
       below = below;
-      one = (chained (of_equal (ap (λ v. v * q) power ∙ moved)) (multiplied (itself (2 ^ t)) same)).same ∙ inverse.one;
+      one = (mod_trans (mod_of_eq (ap (λ v. v * q) power ∙ moved)) (mod_mul (mod_refl (2 ^ t)) same)).same ∙
+      inverse.one;
     }
 
 -- what a shorter plan needs: how often its length is in the length of this one

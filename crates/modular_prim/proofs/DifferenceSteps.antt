@@ -11,8 +11,8 @@ use lib.Count.{under}
 use Rattle.modular_word.specs.Congruence.{Congruent}
 use Rattle.modular_word.specs.Inverses.{IsInverse, IsInversion}
 use Rattle.modular_word.specs.Reduction.{IsReduction}
-use Rattle.modular_word.proofs.Congruence.{of_equal, itself, turned, chained, added, multiplied, powered}
-use Rattle.modular_word.proofs.Congruence.{cancelled, cancelled_unit}
+use Rattle.modular_word.proofs.Congruence.{mod_of_eq, mod_refl, mod_sym, mod_trans, mod_add, mod_mul, mod_pow}
+use Rattle.modular_word.proofs.Congruence.{mod_add_cancel, mod_mul_cancel}
 use Rattle.modular_word.proofs.Divisors.{divides, divides_sum, divides_rest, divides_product, multiple_of}
 use Rattle.modular_word.proofs.Divisors.{Coprime-from_IsInverse}
 use Rattle.modular_word.proofs.Powers.{one-pow}
@@ -106,19 +106,20 @@ scaled : (m : ℕ) (s : Bool) (p q c : ℕ) → CongruentBySign m s p q → Cong
 scaled m true p q c h =
     let e : p * c + q * c ≡ (p + q) * c = omega arith in
     let z : 0 * c ≡ 0 = omega arith in
-    chained (of_equal e) (chained (multiplied h (itself c)) (of_equal z))
-scaled m false p q c h = multiplied h (itself c)
+    mod_trans (mod_of_eq e) (mod_trans (mod_mul h (mod_refl c)) (mod_of_eq z))
+scaled m false p q c h = mod_mul h (mod_refl c)
 
 difference : (m : ℕ) (s : Bool) (d b a p q : ℕ) → d + b ≡ a → CongruentBySign m s a p → CongruentBySign m (not s) b q
     → CongruentBySign m s d (p + q)
 difference m true d b a p q e h l =
     let f : d + (p + q) ≡ d + p + q = omega arith in
     let g : d + p + b ≡ a + p = omega arith in
-    chained (of_equal f) (chained (added (itself (d + p)) (turned l)) (chained (of_equal g) h))
+    mod_trans (mod_of_eq f) (mod_trans (mod_add (mod_refl (d + p)) (mod_sym l)) (mod_trans (mod_of_eq g) h))
 difference m false d b a p q e h l =
     let f : d ≡ d + 0 = omega arith in
     let g : d + (b + q) ≡ a + q = omega arith in
-    chained (of_equal f) (chained (added (itself d) (turned l)) (chained (of_equal g) (added h (itself q))))
+    mod_trans (mod_of_eq f) (mod_trans (mod_add (mod_refl d) (mod_sym l))
+    (mod_trans (mod_of_eq g) (mod_add h (mod_refl q))))
 
 -- ---- a turn of the loop
 -- the numbers change places
@@ -273,7 +274,7 @@ first_pair m x t o u v h eu ev =
     let below : m * 2 ^ t + v * x ≡ 0 + m * 2 ^ t = omega arith in
     record {
       whole = omega arith;
-      above = of_equal above;
+      above = mod_of_eq above;
       below = record { same = ap (λ n. n % m) below ∙ add-mul-mod_self_left 0 m (2 ^ t) };
       common = λ d g i. (i, ap (λ n. n % d) (sym h.whole) ∙ divides_product d o (2 ^ t) g);
     }
@@ -319,10 +320,10 @@ unit_power m k o =
     let j = (m + 1) / 2 in
     let e : 2 * j ≡ 1 + m * 1 = omega arith in
     let one : Congruent m (2 * j) 1 = record { same = ap (λ n. n % m) e ∙ add-mul-mod_self_left 1 m 1 } in
-    chained (of_equal (sym (mul-pow 2 j k))) (chained (powered k one) (of_equal (one-pow k)))
+    mod_trans (mod_of_eq (sym (mul-pow 2 j k))) (mod_trans (mod_pow k one) (mod_of_eq (one-pow k)))
 
 without_power : {m a b : ℕ} (k : ℕ) → m % 2 ≡ 1 → Congruent m (a * 2 ^ k) (b * 2 ^ k) → Congruent m a b
-without_power {m} {a} {b} k o h = cancelled_unit (2 ^ k) (((m + 1) / 2) ^ k) (unit_power m k o) h
+without_power {m} {a} {b} k o h = mod_mul_cancel (2 ^ k) (((m + 1) / 2) ^ k) (unit_power m k o) h
 
 -- the factor with its sign
 pub factor_minus : (m u w : ℕ) (s : Bool) → s ≡ true → w + u ≡ m → CongruentBySign m s w u
@@ -332,7 +333,7 @@ factor_minus m u w true e h =
     record { same = ap (λ n. n % m) f ∙ add-mul-mod_self_left 0 m 1 }
 
 pub factor_plus : (m u w : ℕ) (s : Bool) → s ≡ false → w ≡ u → CongruentBySign m s w u
-factor_plus m u w false e h = of_equal h
+factor_plus m u w false e h = mod_of_eq h
 factor_plus m u w true e h = absurd (cc)
 
 factor_power : (m x u p w : ℕ) (s : Bool) → CongruentBySign m s p (u * x) → CongruentBySign m s w u
@@ -340,10 +341,11 @@ factor_power : (m x u p w : ℕ) (s : Bool) → CongruentBySign m s p (u * x) �
 factor_power m x u p w true h f =
     let e : x * w + u * x ≡ x * (w + u) = omega arith in
     let z : x * 0 ≡ 0 = omega arith in
-    cancelled (u * x) (chained (of_equal e) (chained (multiplied (itself x) f) (chained (of_equal z) (turned h))))
+    mod_add_cancel (u * x) (mod_trans (mod_of_eq e) (mod_trans (mod_mul (mod_refl x) f)
+    (mod_trans (mod_of_eq z) (mod_sym h))))
 factor_power m x u p w false h f =
     let e : x * u ≡ u * x = omega arith in
-    chained (multiplied (itself x) f) (chained (of_equal e) (turned h))
+    mod_trans (mod_mul (mod_refl x) f) (mod_trans (mod_of_eq e) (mod_sym h))
 
 -- where it is 1, the factor with its sign, without the twos, is the inverse
 pub last_inverse : (m x a b u v k w y : ℕ) (s : Bool) → m % 2 ≡ 1 → IsPair m x a b u v k s → a ≡ 1
@@ -354,7 +356,7 @@ last_inverse m x a b u v k w y s o p e f l h =
     let product : Congruent m (x * w) (a * 2 ^ k) = factor_power m x u (a * 2 ^ k) w s p.above f in
     let one : Congruent m (x * y) 1 =
     without_power k o
-    (chained (of_equal r) (chained (multiplied (itself x) h) (chained product (of_equal t)))) in
+    (mod_trans (mod_of_eq r) (mod_trans (mod_mul (mod_refl x) h) (mod_trans product (mod_of_eq t)))) in
     record { below = l; one = one.same }
 
 -- ---- the twos taken out
@@ -367,7 +369,7 @@ word_taken m base w r r' t z j x eb et ez h c =
     let b : base * z ≡ base * 0 = ap (λ n. base * n) ez in
     let low : t ≡ r = omega arith in
     let g : Congruent m (r' * base) r = record { same = h.congruent ∙ ap (λ n. n % m) low } in
-    chained (of_equal e) (chained (multiplied g (itself (2 ^ j))) c)
+    mod_trans (mod_of_eq e) (mod_trans (mod_mul g (mod_refl (2 ^ j))) c)
 
 -- the last one, of a number times what is left up to a word
 pub rest_taken : (m base w v r r' t k j x : ℕ) → m % 2 ≡ 1 → base ≡ 2 ^ w → k ≤ w → v ≡ w → t ≡ r * 2 ^ (v - k)
@@ -379,9 +381,9 @@ rest_taken m base w v r r' t k j x o eb l ev et h c =
     let e : r' * 2 ^ k * 2 ^ (w - k) ≡ r' * base = f ∙ ap (λ n. r' * n) (sym p) in
     let shifted : t ≡ r * 2 ^ (w - k) = et ∙ ap (λ n. r * 2 ^ (n - k)) ev in
     let g : Congruent m (r' * base) (r * 2 ^ (w - k)) = record { same = h.congruent ∙ ap (λ n. n % m) shifted } in
-    let here : Congruent m (r' * 2 ^ k) r = without_power (w - k) o (chained (of_equal e) g) in
+    let here : Congruent m (r' * 2 ^ k) r = without_power (w - k) o (mod_trans (mod_of_eq e) g) in
     let q : r' * 2 ^ (k + j) ≡ r' * 2 ^ k * 2 ^ j = ap (λ n. r' * n) (pow-add 2 k j) ∙ omega arith in
-    chained (of_equal q) (chained (multiplied here (itself (2 ^ j))) c)
+    mod_trans (mod_of_eq q) (mod_trans (mod_mul here (mod_refl (2 ^ j))) c)
 
 -- what is reduced is below the modulus times the base
 pub scaled_fits : (base m r t v k w : ℕ) → base ≡ 2 ^ w → v ≡ w → t ≡ r * 2 ^ (v - k) → r < m → t < base * m

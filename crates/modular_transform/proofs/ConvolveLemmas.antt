@@ -12,7 +12,7 @@ use Rattle.modular_transform.specs.Transforms.{transform, cyclic_product, Suits}
 use Rattle.modular_word.specs.Congruence.{Congruent}
 use Rattle.modular_transform.specs.Orders.{IsReordered, mirrored}
 use Rattle.modular_reduced.specs.Values.{HoldValues}
-use Rattle.modular_word.proofs.Congruence.{of_equal, itself, turned, chained, multiplied, residue_of}
+use Rattle.modular_word.proofs.Congruence.{mod_of_eq, mod_refl, mod_sym, mod_trans, mod_mul, residue_of}
 use Rattle.modular_transform.proofs.CyclicProducts.{HalfTurn, Mirrored, convolved}
 use Rattle.modular_transform.proofs.Reordering.{mirrored_first, mirrored_other}
 use Rattle.modular_transform.proofs.ValueLemmas.{values, held_value, value_at}
@@ -51,16 +51,16 @@ pub convolved_entry : {m : ℕ} (g n e part : ℕ) (x y c : ℕ → ℕ) → 0 <
     → (transform m g n c (mirrored n e) * part) % m ≡ cyclic_product m n x y e
 convolved_entry {m} g n e part x y c positive suits l inverse is =
     let whole : Congruent m (transform m g n c (mirrored n e)) (n * cyclic_product m n x y e) =
-    chained (residue_of _)
-    (chained (convolved g n e (mirrored n e) x y c (half_turn suits) (mirrored_place n e l)
-    (λ j k. chained (of_equal (is j k)) (chained (residue_of _) (multiplied (residue_of _) (residue_of _)))))
-    (multiplied (itself n) (turned (residue_of _)))) in
+    mod_trans (residue_of _)
+    (mod_trans (convolved g n e (mirrored n e) x y c (half_turn suits) (mirrored_place n e l)
+    (λ j k. mod_trans (mod_of_eq (is j k)) (mod_trans (residue_of _) (mod_mul (residue_of _) (residue_of _)))))
+    (mod_mul (mod_refl n) (mod_sym (residue_of _)))) in
     let p = cyclic_product m n x y e in
     let one : Congruent m (n * part) 1 = record { same = inverse.one } in
     let q : n * p * part ≡ n * part * p = omega arith in
     let o : 1 * p ≡ p = omega arith in
-    let r = chained (multiplied whole (itself part))
-    (chained (of_equal q) (chained (multiplied one (itself p)) (of_equal o))) in
+    let r = mod_trans (mod_mul whole (mod_refl part))
+    (mod_trans (mod_of_eq q) (mod_trans (mod_mul one (mod_refl p)) (mod_of_eq o))) in
     let small : p < m = mod_below _ m positive in
     r.same ∙ mod-eq_of_lt small
 
@@ -69,12 +69,12 @@ pub doubled_more : {m : ℕ} (v w t : ℕ) → Congruent m v (2 ^ t) → w ≡ (
 doubled_more v w t is e =
     let s : t + 1 ≡ suc t = omega arith in
     let d : 2 * 2 ^ t ≡ 2 ^ (t + 1) = let p = two-pow-succ t in let q = ap (λ k. 2 ^ k) s in omega (arith, p, q) in
-    chained (of_equal e) (chained (residue_of (2 * v)) (chained (multiplied (itself 2) is) (of_equal d)))
+    mod_trans (mod_of_eq e) (mod_trans (residue_of (2 * v)) (mod_trans (mod_mul (mod_refl 2) is) (mod_of_eq d)))
 
 -- congruent numbers have the same inverses
 pub inverse_along : {m a b x : ℕ} → Congruent m a b → IsInverse m a x → IsInverse m b x
 inverse_along {m} {a} {b} {x} same h =
-    record { below = h.below; one = (multiplied (turned same) (itself x)).same ∙ h.one }
+    record { below = h.below; one = (mod_mul (mod_sym same) (mod_refl x)).same ∙ h.one }
 
 -- the value at a place of a reordered list
 pub reordered_value : {T : Type 0} (number : T → ℕ) (value : ℕ → ℕ → ℕ) (m i : ℕ) (d : T) (s : ℕ → ℕ) (old new : List T)
@@ -130,4 +130,4 @@ convolution_end number form value width m g n part xs ys xs1 ys1 xs2 xs3 canonic
 pub doubled_all : {m n : ℕ} (v t : ℕ) → Congruent m v (2 ^ t) → t ≡ trailing_zeros w64 n → IsPowerOfTwo n
     → n < 2 ^ 64 → Congruent m v n
 doubled_all {m} {n} v t is e power below =
-    chained is (of_equal (ap (λ k. 2 ^ k) e ∙ sym (power_by_zeros n power below)))
+    mod_trans is (mod_of_eq (ap (λ k. 2 ^ k) e ∙ sym (power_by_zeros n power below)))

@@ -7,7 +7,7 @@ use Rattle.std.proofs.lemmas.Bool.Decides.{eqb_tells}
 use Rattle.std.proofs.Math.Nat.{two-pow-succ, pow-zero}
 use Rattle.modular_word.specs.Sums.{sum_below}
 use Rattle.modular_word.specs.Congruence.{Congruent}
-use Rattle.modular_word.proofs.Congruence.{of_equal, itself, chained, multiplied, powered}
+use Rattle.modular_word.proofs.Congruence.{mod_of_eq, mod_refl, mod_trans, mod_mul, mod_pow}
 use Rattle.modular_word.proofs.Powers.{pow-mul, one-pow}
 use Rattle.modular_transform.proofs.MinusOne.{IsMinusOne, even_power_of_minus_one}
 use Rattle.modular_word.proofs.Sums.{sum_below-same, sum_below-congruent, sum_below-mul}
@@ -23,27 +23,27 @@ pub full_turn : {m : ℕ} (g n : ℕ) → HalfTurn m g n → 1 < n → Congruent
 full_turn g n turn l =
     let k = turn.known l in
     let e : n ≡ 2 ^ k.0 * (2 * 1) = k.1 ∙ two-pow-succ k.0 ∙ omega arith in
-    chained (of_equal (ap (λ v. g ^ v) e ∙ pow-mul g (2 ^ k.0) (2 * 1))) (even_power_of_minus_one 1 k.2)
+    mod_trans (mod_of_eq (ap (λ v. g ^ v) e ∙ pow-mul g (2 ^ k.0) (2 * 1))) (even_power_of_minus_one 1 k.2)
 
 -- powers of 1
 pub geometric_of_one : {m : ℕ} (n h : ℕ) → Congruent m h 1 → Congruent m (geometric n h) n
 geometric_of_one n h is =
     let o : n * 1 ≡ n = omega arith in
-    chained (sum_below-congruent n (λ j. h ^ j) (λ j. 1) (λ j l. chained (powered j is) (of_equal (one-pow j))))
-    (of_equal (sum_below-of_constant n 1 ∙ o))
+    mod_trans (sum_below-congruent n (λ j. h ^ j) (λ j. 1) (λ j l. mod_trans (mod_pow j is) (mod_of_eq (one-pow j))))
+    (mod_of_eq (sum_below-of_constant n 1 ∙ o))
 
 -- g to some full turns
 turns : {m : ℕ} (g n q : ℕ) → HalfTurn m g n → 1 < n → Congruent m (g ^ (n * q)) 1
 turns g n q turn l =
-    chained (of_equal (pow-mul g n q)) (chained (powered q (full_turn g n turn l)) (of_equal (one-pow q)))
+    mod_trans (mod_of_eq (pow-mul g n q)) (mod_trans (mod_pow q (full_turn g n turn l)) (mod_of_eq (one-pow q)))
 
 -- full turns add up to n ..
 at_full_turns : {m : ℕ} (g n q d : ℕ) → HalfTurn m g n → 1 < n → d ≡ n * q → Congruent m (geometric n (g ^ d)) n
 at_full_turns g n q d turn l e =
-    geometric_of_one n (g ^ d) (chained (of_equal (ap (λ v. g ^ v) e)) (turns g n q turn l))
+    geometric_of_one n (g ^ d) (mod_trans (mod_of_eq (ap (λ v. g ^ v) e)) (turns g n q turn l))
 
 at_no_turn : {m : ℕ} (g n : ℕ) → Congruent m (geometric n (g ^ 0)) n
-at_no_turn g n = geometric_of_one n (g ^ 0) (of_equal (pow-zero g))
+at_no_turn g n = geometric_of_one n (g ^ 0) (mod_of_eq (pow-zero g))
 
 -- .. and others to 0
 pub at_other_turns : {m : ℕ} (g n q r d : ℕ) → HalfTurn m g n → 1 < n → 0 < r → r < n → d ≡ n * q + r
@@ -51,11 +51,11 @@ pub at_other_turns : {m : ℕ} (g n q r d : ℕ) → HalfTurn m g n → 1 < n �
 at_other_turns {m} g n q r d turn l some below e =
     let k = turn.known l in
     let o : 1 * g ^ r ≡ g ^ r = omega arith in
-    let same : Congruent m (g ^ d) (g ^ r) = chained (of_equal (ap (λ v. g ^ v) e ∙ pow-add g (n * q) r))
-    (chained (multiplied (turns g n q turn l) (itself (g ^ r))) (of_equal o)) in
+    let same : Congruent m (g ^ d) (g ^ r) = mod_trans (mod_of_eq (ap (λ v. g ^ v) e ∙ pow-add g (n * q) r))
+    (mod_trans (mod_mul (turns g n q turn l) (mod_refl (g ^ r))) (mod_of_eq o)) in
     let within : r < 2 ^ suc k.0 = let s = k.1 in omega arith in
-    chained (sum_below-congruent n (λ j. (g ^ d) ^ j) (λ j. (g ^ r) ^ j) (λ j h. powered j same))
-    (chained (of_equal (ap (λ v. geometric v (g ^ r)) k.1)) (powers_vanish k.0 g r k.2 some within))
+    mod_trans (sum_below-congruent n (λ j. (g ^ d) ^ j) (λ j. (g ^ r) ^ j) (λ j h. mod_pow j same))
+    (mod_trans (mod_of_eq (ap (λ v. geometric v (g ^ r)) k.1)) (powers_vanish k.0 g r k.2 some within))
 
 -- the place k of the mirror image of place e: e + k is 0 or n
 pub record Mirrored (n e k : ℕ) : Type 0 where
@@ -72,7 +72,7 @@ summed_at {m} g n e k a b turn mirror la lb at =
     elim at [
       | inl is ↦ elim mirror.sum [
         | inl none ↦ let d : a + b + k ≡ 0 = omega arith in
-            chained (of_equal (ap (λ v. geometric n (g ^ v)) d)) (at_no_turn g n)
+            mod_trans (mod_of_eq (ap (λ v. geometric n (g ^ v)) d)) (at_no_turn g n)
         | inr whole ↦ elim (cases_lt 1 n) [
           | inl l ↦ at_full_turns g n 1 (a + b + k) turn l (omega arith)
           | inr s ↦ absurd (omega arith)
@@ -123,12 +123,12 @@ tested {m} g n e k a b c turn mirror la lb =
     let no : c * 0 ≡ n * 0 = omega arith in
     elim (eqb_tells (a + b) e) [
       | inl p ↦
-          rw p.0 (chained (multiplied (itself c) (summed_at g n e k a b turn mirror la lb (inl p.1))) (of_equal yes))
+          rw p.0 (mod_trans (mod_mul (mod_refl c) (summed_at g n e k a b turn mirror la lb (inl p.1))) (mod_of_eq yes))
       | inr p ↦ elim (eqb_tells (a + b) (e + n)) [
         | inl q ↦ rw (p.0, q.0)
-            (chained (multiplied (itself c) (summed_at g n e k a b turn mirror la lb (inr q.1))) (of_equal yes))
+            (mod_trans (mod_mul (mod_refl c) (summed_at g n e k a b turn mirror la lb (inr q.1))) (mod_of_eq yes))
         | inr q ↦ rw (p.0, q.0)
-            (chained (multiplied (itself c) (vanished_at g n e k a b turn mirror la lb p.1 q.1)) (of_equal no))
+            (mod_trans (mod_mul (mod_refl c) (vanished_at g n e k a b turn mirror la lb p.1 q.1)) (mod_of_eq no))
       ]
     ]
 
@@ -183,13 +183,13 @@ pub convolved : {m : ℕ} (g n e k : ℕ) (x y c : ℕ → ℕ) → HalfTurn m g
     (n * sum_below n (λ a. sum_below n (λ b. cond (eqb (a + b) e || eqb (a + b) (e + n)) (x a * y b) 0)))
 convolved {m} g n e k x y c turn mirror is =
     let f = λ (a b j : ℕ). x a * y b * (g ^ (a + b + k)) ^ j in
-    chained (sum_below-congruent n (λ j. c j * g ^ (j * k)) (λ j. sum_below n (λ a. sum_below n (λ b. f a b j)))
-    (λ j l. chained (multiplied (is j l) (itself (g ^ (j * k)))) (of_equal (expanded g n k j x y))))
-    (chained (of_equal (moved n f))
-    (chained (sum_below-congruent n (λ a. sum_below n (λ b. sum_below n (λ j. f a b j)))
+    mod_trans (sum_below-congruent n (λ j. c j * g ^ (j * k)) (λ j. sum_below n (λ a. sum_below n (λ b. f a b j)))
+    (λ j l. mod_trans (mod_mul (is j l) (mod_refl (g ^ (j * k)))) (mod_of_eq (expanded g n k j x y))))
+    (mod_trans (mod_of_eq (moved n f))
+    (mod_trans (sum_below-congruent n (λ a. sum_below n (λ b. sum_below n (λ j. f a b j)))
     (λ a. sum_below n (λ b. n * (cond (eqb (a + b) e || eqb (a + b) (e + n)) (x a * y b) 0)))
     (λ a la. sum_below-congruent n (λ b. sum_below n (λ j. f a b j))
     (λ b. n * (cond (eqb (a + b) e || eqb (a + b) (e + n)) (x a * y b) 0))
-    (λ b lb. chained (of_equal (sum_below-mul n (x a * y b) (λ j. (g ^ (a + b + k)) ^ j)))
+    (λ b lb. mod_trans (mod_of_eq (sum_below-mul n (x a * y b) (λ j. (g ^ (a + b + k)) ^ j)))
     (tested g n e k a b (x a * y b) turn mirror la lb))))
-    (of_equal (scaled n n n (λ a b. cond (eqb (a + b) e || eqb (a + b) (e + n)) (x a * y b) 0)))))
+    (mod_of_eq (scaled n n n (λ a b. cond (eqb (a + b) e || eqb (a + b) (e + n)) (x a * y b) 0)))))

@@ -3,7 +3,7 @@ use Rattle.std.proofs.Common.{◌≡◌, ℕ, ◌+◌, ◌*◌, ◌%◌, ◌<◌
 use Rattle.std.proofs.lemmas.Bool.{cases_lt}
 use Rattle.std.proofs.lemmas.Nat.{same_from_place, mul-le}
 use Rattle.modular_word.specs.Congruence.{Congruent}
-use Rattle.modular_word.proofs.Congruence.{itself, multiplied}
+use Rattle.modular_word.proofs.Congruence.{mod_refl, mod_mul}
 use Rattle.modular_transform.specs.Stages.{weighted, IsFour, FourDone}
 use Rattle.modular_transform.proofs.PairLemmas.{pair_along, pair_by}
 
@@ -54,7 +54,7 @@ four_by : {m p q s h k p' q' s' : ℕ} {x y : ℕ → ℕ} → Congruent m p p' 
     → IsFour m p q s h k x y → IsFour m p' q' s' h k x y
 four_by is_p is_q is_s four = record {
   sums = pair_by is_s four.sums;
-  differences = pair_by is_s (pair_along (multiplied (itself _) is_p).same (multiplied (itself _) is_q).same refl refl
+  differences = pair_by is_s (pair_along (mod_mul (mod_refl _) is_p).same (mod_mul (mod_refl _) is_q).same refl refl
       four.differences);
 }
 

@@ -5,7 +5,7 @@ use Rattle.std.proofs.lemmas.Bool.{cases_lt, cases_eq}
 use Rattle.std.proofs.Math.Nat.{two-pow-succ}
 use Rattle.modular_word.specs.Sums.{sum_below}
 use Rattle.modular_word.specs.Congruence.{Congruent}
-use Rattle.modular_word.proofs.Congruence.{of_equal, itself, chained, multiplied}
+use Rattle.modular_word.proofs.Congruence.{mod_of_eq, mod_refl, mod_trans, mod_mul}
 use Rattle.modular_word.proofs.Powers.{pow-mul}
 use Rattle.modular_transform.proofs.MinusOne.{IsMinusOne, odd_power_of_minus_one, same_minus_one}
 use Rattle.modular_word.proofs.Sums.{sum_below-same, sum_below-joined, sum_below-mul}
@@ -31,13 +31,13 @@ geometric_vanishes {m} (suc z) t h l factor =
     let left : 0 * (h ^ (2 ^ z) + 1) ≡ 0 = omega arith in
     let right : geometric (2 ^ z) h * 0 ≡ 0 = omega arith in
     elim (cases_lt t z) [
-      | inl k ↦ chained (of_equal double)
-          (chained (multiplied (geometric_vanishes z t h k factor) (itself (h ^ (2 ^ z) + 1))) (of_equal left))
+      | inl k ↦ mod_trans (mod_of_eq double)
+          (mod_trans (mod_mul (geometric_vanishes z t h k factor) (mod_refl (h ^ (2 ^ z) + 1))) (mod_of_eq left))
       | inr k ↦
           let same : t ≡ z = omega arith in
           let factor_z : IsMinusOne m (h ^ (2 ^ z)) = same_minus_one (ap (λ n. h ^ (2 ^ n)) same) factor in
-          chained (of_equal double)
-          (chained (multiplied (itself (geometric (2 ^ z) h)) factor_z.and_one) (of_equal right))
+          mod_trans (mod_of_eq double)
+          (mod_trans (mod_mul (mod_refl (geometric (2 ^ z) h)) factor_z.and_one) (mod_of_eq right))
     ]
 
 -- some doubling of d is an odd multiple of 2 ^ y

@@ -3,7 +3,7 @@ use Rattle.std.proofs.Common.{◌≡◌, ℕ, ◌+◌, ◌*◌, ◌^◌, ◌<◌
 use Rattle.std.proofs.lemmas.Nat.{pow-add}
 use Rattle.modular_word.specs.Sums.{sum_below}
 use Rattle.modular_word.specs.Congruence.{Congruent}
-use Rattle.modular_word.proofs.Congruence.{of_equal, itself, turned, chained, added, multiplied, cancelled}
+use Rattle.modular_word.proofs.Congruence.{mod_of_eq, mod_refl, mod_sym, mod_trans, mod_add, mod_mul, mod_add_cancel}
 use Rattle.modular_word.proofs.Powers.{pow-mul}
 use Rattle.modular_transform.proofs.MinusOne.{IsMinusOne, pow_of_square}
 use Rattle.modular_transform.proofs.MinusOne.{even_power_of_minus_one, odd_power_of_minus_one}
@@ -30,18 +30,18 @@ even_pair : {m : ℕ} (w h r i x y u : ℕ) → IsMinusOne m (w ^ h) → Congrue
 even_pair {m} w h r i x y u half_turn is =
     let q = w ^ (i * (2 * r)) in
     let o : 1 * q ≡ q = omega arith in
-    let one : Congruent m (w ^ ((h + i) * (2 * r))) q = chained (of_equal (further h w (2 * r) i))
-    (chained (multiplied (even_power_of_minus_one r half_turn) (itself q)) (of_equal o)) in
+    let one : Congruent m (w ^ ((h + i) * (2 * r))) q = mod_trans (mod_of_eq (further h w (2 * r) i))
+    (mod_trans (mod_mul (even_power_of_minus_one r half_turn) (mod_refl q)) (mod_of_eq o)) in
     let d : x * q + y * q ≡ (x + y) * q = omega arith in
-    chained (added (itself (x * q)) (multiplied (itself y) one))
-    (chained (of_equal d) (multiplied (turned is) (of_equal (sym (square_root w i r)))))
+    mod_trans (mod_add (mod_refl (x * q)) (mod_mul (mod_refl y) one))
+    (mod_trans (mod_of_eq d) (mod_mul (mod_sym is) (mod_of_eq (sym (square_root w i r)))))
 
 -- the entries at even places
 pub even_entries : {m : ℕ} (w h r : ℕ) (x u : ℕ → ℕ) → IsMinusOne m (w ^ h)
     → ((i : ℕ) → i < h → Congruent m (u i) (x i + x (h + i)))
     → Congruent m (sum_below (h + h) (λ i. x i * w ^ (i * (2 * r)))) (sum_below h (λ i. u i * (w * w) ^ (i * r)))
 even_entries {m} w h r x u half_turn is =
-    chained (of_equal (pairs h w (2 * r) x))
+    mod_trans (mod_of_eq (pairs h w (2 * r) x))
     (sum_below-congruent h (λ i. x i * w ^ (i * (2 * r)) + x (h + i) * w ^ ((h + i) * (2 * r)))
     (λ i. u i * (w * w) ^ (i * r)) (λ i l. even_pair w h r i (x i) (x (h + i)) (u i) half_turn (is i l)))
 
@@ -62,16 +62,16 @@ odd_pair {m} w h r i x y v half_turn is =
     let left : x * q + y * w ^ ((h + i) * (2 * r + 1)) + y * q ≡ x * q + y * q * (p + 1) = omega (arith, yz) in
     let none : x * q + y * q * 0 ≡ x * w ^ i * s = omega (arith, xq) in
     let right : (v + y * w ^ i) * s ≡ v * s + y * q = omega (arith, yq) in
-    cancelled (y * q)
-    (chained (of_equal left)
-    (chained (added (itself (x * q)) (multiplied (itself (y * q)) (odd_power_of_minus_one r half_turn).and_one))
-    (chained (of_equal none) (chained (multiplied (turned is) (itself s)) (of_equal right)))))
+    mod_add_cancel (y * q)
+    (mod_trans (mod_of_eq left)
+    (mod_trans (mod_add (mod_refl (x * q)) (mod_mul (mod_refl (y * q)) (odd_power_of_minus_one r half_turn).and_one))
+    (mod_trans (mod_of_eq none) (mod_trans (mod_mul (mod_sym is) (mod_refl s)) (mod_of_eq right)))))
 
 -- the entries at odd places
 pub odd_entries : {m : ℕ} (w h r : ℕ) (x v : ℕ → ℕ) → IsMinusOne m (w ^ h)
     → ((i : ℕ) → i < h → Congruent m (v i + x (h + i) * w ^ i) (x i * w ^ i))
     → Congruent m (sum_below (h + h) (λ i. x i * w ^ (i * (2 * r + 1)))) (sum_below h (λ i. v i * (w * w) ^ (i * r)))
 odd_entries {m} w h r x v half_turn is =
-    chained (of_equal (pairs h w (2 * r + 1) x))
+    mod_trans (mod_of_eq (pairs h w (2 * r + 1) x))
     (sum_below-congruent h (λ i. x i * w ^ (i * (2 * r + 1)) + x (h + i) * w ^ ((h + i) * (2 * r + 1)))
     (λ i. v i * (w * w) ^ (i * r)) (λ i l. odd_pair w h r i (x i) (x (h + i)) (v i) half_turn (is i l)))

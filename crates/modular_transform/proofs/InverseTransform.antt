@@ -8,7 +8,8 @@ use Rattle.std.specs.Int.{IsPowerOfTwo}
 use Rattle.modular_word.specs.Congruence.{Congruent}
 use Rattle.modular_word.specs.Inverses.{IsInverse}
 use Rattle.modular_word.specs.Sums.{sum_below}
-use Rattle.modular_word.proofs.Congruence.{of_equal, itself, turned, chained, added, multiplied, powered, residue_of}
+use Rattle.modular_word.proofs.Congruence.{mod_of_eq, mod_refl, mod_sym, mod_trans, mod_add, mod_mul, mod_pow}
+use Rattle.modular_word.proofs.Congruence.{residue_of}
 use Rattle.modular_word.proofs.Powers.{one-pow, pow-mul}
 use Rattle.modular_word.proofs.Sums.{sum_below-zero, sum_below-suc, sum_below-same}
 use Rattle.modular_word.proofs.Sums.{sum_below-congruent, sum_below-mul, sum_below-exchanged}
@@ -18,11 +19,11 @@ use Rattle.modular_transform.proofs.ConvolveLemmas.{half_turn}
 
 -- a sum with one term that isn't 0
 sum_zeros : {m : ℕ} (n : ℕ) (f : ℕ → ℕ) → ((i : ℕ) → i < n → Congruent m (f i) 0) → Congruent m (sum_below n f) 0
-sum_zeros zero f none = of_equal (sum_below-zero f)
+sum_zeros zero f none = mod_of_eq (sum_below-zero f)
 sum_zeros (suc n) f none =
     let z : 0 + 0 ≡ 0 = omega arith in
-    chained (of_equal (sum_below-suc n f))
-    (chained (added (sum_zeros n f (λ i l. none i (omega arith))) (none n (omega arith))) (of_equal z))
+    mod_trans (mod_of_eq (sum_below-suc n f))
+    (mod_trans (mod_add (sum_zeros n f (λ i l. none i (omega arith))) (none n (omega arith))) (mod_of_eq z))
 
 sum_only : {m : ℕ} (n k : ℕ) (f : ℕ → ℕ) → k < n → ((i : ℕ) → i < n → i ≢ k → Congruent m (f i) 0)
     → Congruent m (sum_below n f) (f k)
@@ -30,19 +31,19 @@ sum_only zero k f l none = absurd (omega arith)
 sum_only {m} (suc n) k f l none = elim (cases_eq k n) [
   | inl e ↦
       let z : 0 + f n ≡ f k = ap (λ v. 0 + f v) (sym e) ∙ omega arith in
-      chained (of_equal (sum_below-suc n f))
-      (chained (added (sum_zeros n f (λ i j. none i (omega arith) (omega arith))) (itself (f n))) (of_equal z))
+      mod_trans (mod_of_eq (sum_below-suc n f))
+      (mod_trans (mod_add (sum_zeros n f (λ i j. none i (omega arith) (omega arith))) (mod_refl (f n))) (mod_of_eq z))
   | inr s ↦
       let z : f k + 0 ≡ f k = omega arith in
-      chained (of_equal (sum_below-suc n f)) (chained (added (sum_only n k f (omega arith)
-      (λ i j ne. none i (omega arith) ne)) (none n (omega arith) (omega arith))) (of_equal z))
+      mod_trans (mod_of_eq (sum_below-suc n f)) (mod_trans (mod_add (sum_only n k f (omega arith)
+      (λ i j ne. none i (omega arith) ne)) (none n (omega arith) (omega arith))) (mod_of_eq z))
 ]
 
 -- powers of a number and of its inverse cancel
 powers_cancel : {m g h : ℕ} (k : ℕ) → IsInverse m g h → Congruent m (g ^ k * h ^ k) 1
 powers_cancel {m} {g} {h} k inverse =
     let one : Congruent m (g * h) 1 = record { same = inverse.one } in
-    chained (of_equal (sym (mul-pow g h k))) (chained (powered k one) (of_equal (one-pow k)))
+    mod_trans (mod_of_eq (sym (mul-pow g h k))) (mod_trans (mod_pow k one) (mod_of_eq (one-pow k)))
 
 -- the inverse of a root that suits
 pub inverse_suits : {m g h n : ℕ} → IsInverse m g h → Suits m g n → Suits m h n
@@ -56,9 +57,9 @@ inverse_suits {m} {g} {h} {n} inverse suits = record {
       let o : 1 + h ^ k ≡ h ^ k + 1 = omega arith in
       let z : 0 * h ^ k ≡ 0 = omega arith in
       let sum : Congruent m (h ^ k + 1) 0 =
-      chained (of_equal (sym o))
-      (chained (added (turned cancel) (itself (h ^ k)))
-      (chained (of_equal (sym e)) (chained (multiplied turn (itself (h ^ k))) (of_equal z)))) in
+      mod_trans (mod_of_eq (sym o))
+      (mod_trans (mod_add (mod_sym cancel) (mod_refl (h ^ k)))
+      (mod_trans (mod_of_eq (sym e)) (mod_trans (mod_mul turn (mod_refl (h ^ k))) (mod_of_eq z)))) in
       sum.same ∙ zero-mod m;
 }
 
@@ -72,12 +73,12 @@ above {m} {g} {h} i k j inverse l =
     let r : g ^ ((i - k) * j) * g ^ (j * k) * h ^ (j * k) ≡ g ^ ((i - k) * j) * (g ^ (j * k) * h ^ (j * k)) =
     omega arith in
     let o : g ^ ((i - k) * j) * 1 ≡ g ^ ((i - k) * j) = omega arith in
-    chained (of_equal (q ∙ r)) (chained (multiplied (itself (g ^ ((i - k) * j))) (powers_cancel (j * k) inverse))
-    (of_equal (o ∙ pow-mul g (i - k) j)))
+    mod_trans (mod_of_eq (q ∙ r)) (mod_trans (mod_mul (mod_refl (g ^ ((i - k) * j))) (powers_cancel (j * k) inverse))
+    (mod_of_eq (o ∙ pow-mul g (i - k) j)))
 
 swapped : {m g h : ℕ} → IsInverse m g h → Congruent m (h * g) 1
 swapped {m} {g} {h} inverse = let e : h * g ≡ g * h = omega arith in
-    chained (of_equal e) (record { same = inverse.one })
+    mod_trans (mod_of_eq e) (record { same = inverse.one })
 
 below : {m g h : ℕ} (i k j : ℕ) → IsInverse m g h → i < k → Congruent m (g ^ (i * j) * h ^ (j * k)) ((h ^ (k - i)) ^ j)
 below {m} {g} {h} i k j inverse l =
@@ -88,29 +89,29 @@ below {m} {g} {h} i k j inverse l =
     let r : g ^ (i * j) * (h ^ ((k - i) * j) * h ^ (i * j)) ≡ h ^ ((k - i) * j) * (g ^ (i * j) * h ^ (i * j)) =
     omega arith in
     let o : h ^ ((k - i) * j) * 1 ≡ h ^ ((k - i) * j) = omega arith in
-    chained (of_equal (q ∙ r)) (chained (multiplied (itself (h ^ ((k - i) * j))) (powers_cancel (i * j) inverse))
-    (of_equal (o ∙ pow-mul h (k - i) j)))
+    mod_trans (mod_of_eq (q ∙ r)) (mod_trans (mod_mul (mod_refl (h ^ ((k - i) * j))) (powers_cancel (i * j) inverse))
+    (mod_of_eq (o ∙ pow-mul h (k - i) j)))
 
 -- the sum of g^(i * j) * h^(j * k) over j: n for i = k ..
 same_places : {m g h : ℕ} (n k : ℕ) → IsInverse m g h → Congruent m (sum_below n (λ j. g ^ (k * j) * h ^ (j * k))) n
 same_places {m} {g} {h} n k inverse =
     let o : n * 1 ≡ n = omega arith in
-    chained (sum_below-congruent n (λ j. g ^ (k * j) * h ^ (j * k)) (λ j. 1 ^ j)
+    mod_trans (sum_below-congruent n (λ j. g ^ (k * j) * h ^ (j * k)) (λ j. 1 ^ j)
     (λ j l. let e : k * j ≡ j * k = omega arith in
-    chained (of_equal (ap (λ v. g ^ v * h ^ (j * k)) e))
-    (chained (powers_cancel (j * k) inverse) (of_equal (sym (one-pow j))))))
-    (geometric_of_one n 1 (itself 1))
+    mod_trans (mod_of_eq (ap (λ v. g ^ v * h ^ (j * k)) e))
+    (mod_trans (powers_cancel (j * k) inverse) (mod_of_eq (sym (one-pow j))))))
+    (geometric_of_one n 1 (mod_refl 1))
 
 -- .. and else 0
 other_places : {m g h : ℕ} (n i k : ℕ) → IsInverse m g h → Suits m g n → i < n → k < n → i ≢ k
     → Congruent m (sum_below n (λ j. g ^ (i * j) * h ^ (j * k))) 0
 other_places {m} {g} {h} n i k inverse suits li lk ne = elim (cases_lt k i) [
   | inl l ↦
-      chained (sum_below-congruent n (λ j. g ^ (i * j) * h ^ (j * k)) (λ j. (g ^ (i - k)) ^ j)
+      mod_trans (sum_below-congruent n (λ j. g ^ (i * j) * h ^ (j * k)) (λ j. (g ^ (i - k)) ^ j)
       (λ j t. above i k j inverse l))
       (at_other_turns g n 0 (i - k) (i - k) (half_turn suits) (omega arith) (omega arith) (omega arith) (omega arith))
   | inr s ↦
-      chained (sum_below-congruent n (λ j. g ^ (i * j) * h ^ (j * k)) (λ j. (h ^ (k - i)) ^ j)
+      mod_trans (sum_below-congruent n (λ j. g ^ (i * j) * h ^ (j * k)) (λ j. (h ^ (k - i)) ^ j)
       (λ j t. below i k j inverse (omega arith)))
       (at_other_turns h n 0 (k - i) (k - i) (half_turn (inverse_suits inverse suits)) (omega arith)
       (omega arith) (omega arith) (omega arith))
@@ -139,22 +140,22 @@ pub transform_congruent : {m : ℕ} (g n j : ℕ) (x y : ℕ → ℕ) → ((i : 
     → transform m g n x j ≡ transform m g n y j
 transform_congruent {m} g n j x y same =
     (sum_below-congruent n (λ i. x i * g ^ (i * j)) (λ i. y i * g ^ (i * j))
-    (λ i l. multiplied (same i l) (itself (g ^ (i * j))))).same
+    (λ i l. mod_mul (same i l) (mod_refl (g ^ (i * j))))).same
 
 -- entry k of the transform back is n times value k
 pub transformed_back : {m g h : ℕ} (n k : ℕ) (x : ℕ → ℕ) → IsInverse m g h → Suits m g n → k < n
     → Congruent m (transform m h n (transform m g n x) k) (n * x k)
 transformed_back {m} {g} {h} n k x inverse suits l =
     let o : x k * n ≡ n * x k = omega arith in
-    chained (residue_of (sum_below n (λ j. transform m g n x j * h ^ (j * k))))
-    (chained (sum_below-congruent n (λ j. transform m g n x j * h ^ (j * k))
+    mod_trans (residue_of (sum_below n (λ j. transform m g n x j * h ^ (j * k))))
+    (mod_trans (sum_below-congruent n (λ j. transform m g n x j * h ^ (j * k))
     (λ j. sum_below n (λ i. x i * g ^ (i * j)) * h ^ (j * k))
-    (λ j t. multiplied (residue_of (sum_below n (λ i. x i * g ^ (i * j)))) (itself (h ^ (j * k)))))
-    (chained (of_equal (back_sum n k g h x))
-    (chained (sum_only n k (λ i. x i * sum_below n (λ j. g ^ (i * j) * h ^ (j * k))) l
+    (λ j t. mod_mul (residue_of (sum_below n (λ i. x i * g ^ (i * j)))) (mod_refl (h ^ (j * k)))))
+    (mod_trans (mod_of_eq (back_sum n k g h x))
+    (mod_trans (sum_only n k (λ i. x i * sum_below n (λ j. g ^ (i * j) * h ^ (j * k))) l
     (λ i t ne. let z : x i * 0 ≡ 0 = omega arith in
-    chained (multiplied (itself (x i)) (other_places n i k inverse suits t l ne)) (of_equal z)))
-    (chained (multiplied (itself (x k)) (same_places n k inverse)) (of_equal o)))))
+    mod_trans (mod_mul (mod_refl (x i)) (other_places n i k inverse suits t l ne)) (mod_of_eq z)))
+    (mod_trans (mod_mul (mod_refl (x k)) (same_places n k inverse)) (mod_of_eq o)))))
 
 -- .. and times 1/n the value itself
 pub value_back : {m g h : ℕ} (n k part : ℕ) (x : ℕ → ℕ) → IsInverse m g h → IsInverse m n part → Suits m g n → k < n
@@ -163,8 +164,8 @@ value_back {m} {g} {h} n k part x inverse of_length suits l =
     let one : Congruent m (n * part) 1 = record { same = of_length.one } in
     let q : n * x k * part ≡ n * part * x k = omega arith in
     let o : 1 * x k ≡ x k = omega arith in
-    chained (multiplied (transformed_back n k x inverse suits l) (itself part))
-    (chained (of_equal q) (chained (multiplied one (itself (x k))) (of_equal o)))
+    mod_trans (mod_mul (transformed_back n k x inverse suits l) (mod_refl part))
+    (mod_trans (mod_of_eq q) (mod_trans (mod_mul one (mod_refl (x k))) (mod_of_eq o)))
 
 -- a power of two is 1 or even
 even_length : (z n : ℕ) → n ≡ 2 ^ z → 1 < n → n ≡ 2 * (n / 2)
@@ -184,6 +185,6 @@ power_suits {m} {g} k n power suits = record {
       let more : 1 < n * k = omega (arith, w, p, q) in
       let turn : Congruent m (g ^ (n * k / 2) + 1) 0 = record { same = suits.half_turn more ∙ sym (zero-mod m) } in
       let same : Congruent m ((g ^ k % m) ^ (n / 2)) (g ^ (n * k / 2)) =
-      chained (powered (n / 2) (residue_of (g ^ k))) (of_equal (sym (ap (λ v. g ^ v) half ∙ pow-mul g k (n / 2)))) in
-      (chained (added same (itself 1)) turn).same ∙ zero-mod m;
+      mod_trans (mod_pow (n / 2) (residue_of (g ^ k))) (mod_of_eq (sym (ap (λ v. g ^ v) half ∙ pow-mul g k (n / 2)))) in
+      (mod_trans (mod_add same (mod_refl 1)) turn).same ∙ zero-mod m;
 }

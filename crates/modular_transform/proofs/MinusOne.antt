@@ -2,7 +2,8 @@
 use Rattle.std.proofs.Common.{◌≡◌, ℕ, ◌+◌, ◌*◌, ◌^◌, sym, ◌∙◌, ap, arith}
 use Rattle.std.proofs.lemmas.Nat.{pow-add, mul-pow}
 use Rattle.modular_word.specs.Congruence.{Congruent}
-use Rattle.modular_word.proofs.Congruence.{of_equal, itself, turned, chained, added, multiplied, powered, cancelled}
+use Rattle.modular_word.proofs.Congruence.{mod_of_eq, mod_refl, mod_sym, mod_trans, mod_add, mod_mul, mod_pow}
+use Rattle.modular_word.proofs.Congruence.{mod_add_cancel}
 use Rattle.modular_word.proofs.Powers.{one-pow, pow-one}
 
 -- a is -1 modulo m
@@ -20,13 +21,15 @@ square_of_minus_one {m} {a} h =
     let e : a * a + a ≡ a * (a + 1) = omega arith in
     let z : a * 0 ≡ 0 = omega arith in
     let o : 1 + a ≡ a + 1 = omega arith in
-    cancelled a
-    (chained (of_equal e)
-    (chained (multiplied (itself a) h.and_one) (chained (of_equal z) (chained (turned h.and_one) (of_equal (sym o))))))
+    mod_add_cancel a
+    (mod_trans (mod_of_eq e)
+    (mod_trans (mod_mul (mod_refl a) h.and_one) (mod_trans (mod_of_eq z)
+    (mod_trans (mod_sym h.and_one) (mod_of_eq (sym o))))))
 
 pub even_power_of_minus_one : {m a : ℕ} (k : ℕ) → IsMinusOne m a → Congruent m (a ^ (2 * k)) 1
 even_power_of_minus_one {m} {a} k h =
-    chained (of_equal (sym (pow_of_square a k))) (chained (powered k (square_of_minus_one h)) (of_equal (one-pow k)))
+    mod_trans (mod_of_eq (sym (pow_of_square a k))) (mod_trans (mod_pow k (square_of_minus_one h))
+    (mod_of_eq (one-pow k)))
 
 pub odd_power_of_minus_one : {m a : ℕ} (k : ℕ) → IsMinusOne m a → IsMinusOne m (a ^ (2 * k + 1))
 odd_power_of_minus_one {m} {a} k h =
@@ -34,9 +37,10 @@ odd_power_of_minus_one {m} {a} k h =
     let o : 1 * a + 1 ≡ a + 1 = omega arith in
     record {
       and_one =
-          chained (added (chained (of_equal e) (multiplied (even_power_of_minus_one k h) (itself a))) (itself 1))
-          (chained (of_equal o) h.and_one);
+          mod_trans (mod_add (mod_trans (mod_of_eq e) (mod_mul (even_power_of_minus_one k h) (mod_refl a)))
+          (mod_refl 1))
+          (mod_trans (mod_of_eq o) h.and_one);
     }
 
 pub same_minus_one : {m a b : ℕ} → a ≡ b → IsMinusOne m a → IsMinusOne m b
-same_minus_one e h = record { and_one = chained (of_equal (ap (λ v. v + 1) (sym e))) h.and_one }
+same_minus_one e h = record { and_one = mod_trans (mod_of_eq (ap (λ v. v + 1) (sym e))) h.and_one }

@@ -3,7 +3,7 @@ use Rattle.std.proofs.Common.{◌≡◌, ℕ, ◌+◌, ◌*◌, ◌^◌, ◌<◌
 use Rattle.std.proofs.lemmas.Bool.{cases_lt}
 use Rattle.std.proofs.lemmas.Nat.{same_from_place, mul-le}
 use Rattle.modular_word.specs.Congruence.{Congruent}
-use Rattle.modular_word.proofs.Congruence.{itself, turned, chained, added, multiplied, powered}
+use Rattle.modular_word.proofs.Congruence.{mod_refl, mod_sym, mod_trans, mod_add, mod_mul, mod_pow}
 use Rattle.modular_transform.specs.Stages.{IsPair, PairDone, PairsDone, IsStage, low, high}
 
 -- the same pair by other names of its values
@@ -18,7 +18,8 @@ pub pair_by : {m u v a b c d : ℕ} → Congruent m u v → IsPair m u a b c d �
 pair_by is h = record {
   summed = h.summed;
   subtracted =
-      chained (added (itself _) (multiplied (itself _) (turned is))) (chained h.subtracted (multiplied (itself _) is));
+      mod_trans (mod_add (mod_refl _) (mod_mul (mod_refl _) (mod_sym is)))
+      (mod_trans h.subtracted (mod_mul (mod_refl _) is));
 }
 
 -- there is no index that is at least a and below a
@@ -109,7 +110,7 @@ stage_done x y done = record { pairs = λ p i u v. done.pairs p i (omega arith) 
 -- a stage by a root that is congruent
 pub stage_by : {m v w h blocks : ℕ} (x y : ℕ → ℕ) → Congruent m v w
     → IsStage m v h blocks x y → IsStage m w h blocks x y
-stage_by x y is stage = record { pairs = λ p i u v. pair_by (powered i is) (stage.pairs p i u v) }
+stage_by x y is stage = record { pairs = λ p i u v. pair_by (mod_pow i is) (stage.pairs p i u v) }
 
 -- the places of a block are places of the list
 pub block_fits : (block blocks h n : ℕ) → block < blocks → blocks * (h + h) ≡ n → block * (h + h) + (h + h) ≤ n

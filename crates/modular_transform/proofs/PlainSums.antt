@@ -6,7 +6,7 @@ use Rattle.std.proofs.Math.Nat.{pow-zero, zero-mod}
 use Rattle.std.specs.Int.{IsPowerOfTwo}
 use Rattle.modular_word.specs.Congruence.{Congruent}
 use Rattle.modular_word.specs.Sums.{sum_below}
-use Rattle.modular_word.proofs.Congruence.{of_equal, itself, chained, added, multiplied, residue_of}
+use Rattle.modular_word.proofs.Congruence.{mod_of_eq, mod_refl, mod_trans, mod_add, mod_mul, residue_of}
 use Rattle.modular_word.proofs.Sums.{sum_below-zero, sum_below-suc}
 use Rattle.modular_transform.specs.Transforms.{Suits}
 use Rattle.modular_transform.proofs.PowersOfTwo.{beyond_one}
@@ -21,23 +21,23 @@ pub sum_more : (m i s t : ℕ) (f : ℕ → ℕ) → s ≡ sum_below i f % m →
 sum_more m i s t f so_far term =
     let e : suc i ≡ i + 1 = omega arith in
     let c : Congruent m (s + t) (sum_below i f + f i) =
-    added (chained (of_equal so_far) (residue_of (sum_below i f))) term in
+    mod_add (mod_trans (mod_of_eq so_far) (residue_of (sum_below i f))) term in
     c.same ∙ ap (λ v. v % m) (sym (sum_below-suc i f) ∙ ap (λ n. sum_below n f) e)
 
 -- the power of the first term, and of the next
 pub term_power_first : (m g j one : ℕ) → one ≡ 1 % m → Congruent m one (g ^ (0 * j))
 term_power_first m g j one is =
     let z : 0 * j ≡ 0 = omega arith in
-    chained (of_equal is) (chained (residue_of 1) (of_equal (sym (ap (λ n. g ^ n) z ∙ pow-zero g))))
+    mod_trans (mod_of_eq is) (mod_trans (residue_of 1) (mod_of_eq (sym (ap (λ n. g ^ n) z ∙ pow-zero g))))
 
 pub term_power_next : (m g i j p step q : ℕ) → Congruent m p (g ^ (i * j)) → step ≡ g ^ j % m → q ≡ p * step % m
     → Congruent m q (g ^ ((i + 1) * j))
 term_power_next m g i j p step q power is_step is_q =
     let e : (i + 1) * j ≡ i * j + j = omega arith in
-    chained (of_equal is_q)
-    (chained (residue_of (p * step))
-    (chained (multiplied power (chained (of_equal is_step) (residue_of (g ^ j))))
-    (of_equal (sym (ap (λ n. g ^ n) e ∙ pow-add g (i * j) j)))))
+    mod_trans (mod_of_eq is_q)
+    (mod_trans (residue_of (p * step))
+    (mod_trans (mod_mul power (mod_trans (mod_of_eq is_step) (residue_of (g ^ j))))
+    (mod_of_eq (sym (ap (λ n. g ^ n) e ∙ pow-add g (i * j) j)))))
 
 test_of_zero : (a : ℕ) → IsTrue (nat_eq a 0) ↔ (a ≡ 0)
 test_of_zero a = (λ (h : IsTrue (nat_eq a 0)). grind (arith, nat_tests, h), λ (e : a ≡ 0). grind (arith, nat_tests, e))
@@ -47,7 +47,7 @@ pub suits_by_power : (m g n p : ℕ) → IsPowerOfTwo n → n ≢ 1 → p ≡ g 
     → IsTrue (nat_eq ((p + 1) % m) 0) ↔ Suits m g n
 suits_by_power m g n p power other is =
     let same : (p + 1) % m ≡ (g ^ (n / 2) + 1) % m =
-    (added (chained (of_equal is) (residue_of (g ^ (n / 2)))) (itself 1)).same in
+    (mod_add (mod_trans (mod_of_eq is) (residue_of (g ^ (n / 2)))) (mod_refl 1)).same in
     let test = test_of_zero ((p + 1) % m) in (
       λ (h : IsTrue (nat_eq ((p + 1) % m) 0)). record { power_of_two = power; half_turn = λ l. sym same ∙ test.0 h },
       λ (suits : Suits m g n). test.1 (same ∙ suits.half_turn (beyond_one n power other)),

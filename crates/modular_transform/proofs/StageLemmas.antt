@@ -9,7 +9,7 @@ use Rattle.modular_word.specs.Congruence.{Congruent}
 use Rattle.modular_transform.specs.Stages.{IsStage}
 use Rattle.modular_transform.specs.Orders.{bits_reversed}
 use Rattle.modular_transform.proofs.BitReversal.{bits_reversed-zero, bits_reversed-suc}
-use Rattle.modular_word.proofs.Congruence.{of_equal, turned, chained}
+use Rattle.modular_word.proofs.Congruence.{mod_of_eq, mod_sym, mod_trans}
 use Rattle.modular_word.proofs.Powers.{pow-one}
 use Rattle.modular_transform.proofs.MinusOne.{IsMinusOne}
 use Rattle.modular_word.proofs.Sums.{sum_below-same, sum_below-suc, sum_below-zero}
@@ -30,7 +30,7 @@ stages_start {m} g n x = record {
       let z = bits_reversed-zero p in
       let o : p ≡ 0 = omega (arith, k) in
       let place : bits_reversed 0 p + 2 ^ 0 * r ≡ r = omega (arith, k, z) in
-      of_equal (sum_below-same n (λ i. x (p * n + i) * (g ^ (2 ^ 0)) ^ (i * r))
+      mod_of_eq (sum_below-same n (λ i. x (p * n + i) * (g ^ (2 ^ 0)) ^ (i * r))
       (λ i. x i * g ^ (i * (bits_reversed 0 p + 2 ^ 0 * r)))
       (λ i h.
       let q : p * n + i ≡ i = ap (λ v. v * n + i) o ∙ omega arith in
@@ -61,12 +61,12 @@ next_even {m} g n t h x y z p r half_turn blocks stage below l bit =
     omega (arith, kr, b, rev) in
     let halves = even_entries w h r (λ i. y (q * (h + h) + i)) (λ i. z (q * (h + h) + i)) half_turn
     (λ i j. (stage.pairs q i within j).summed) in
-    chained (of_equal (sum_below-same h (λ i. z (p * h + i) * (g ^ (2 ^ suc t)) ^ (i * r))
+    mod_trans (mod_of_eq (sum_below-same h (λ i. z (p * h + i) * (g ^ (2 ^ suc t)) ^ (i * r))
     (λ i. z (q * (h + h) + i) * (w * w) ^ (i * r))
     (λ i j. ap (λ v. z (v + i) * (g ^ (2 ^ suc t)) ^ (i * r)) row
     ∙ ap (λ v. z (q * (h + h) + i) * v ^ (i * r)) (sym (root_squared g t)))))
-    (chained (turned halves) (chained (blocks.entry q (2 * r) within (omega arith))
-    (of_equal (ap (λ v. sum_below n (λ i. x i * g ^ (i * v))) place))))
+    (mod_trans (mod_sym halves) (mod_trans (blocks.entry q (2 * r) within (omega arith))
+    (mod_of_eq (ap (λ v. sum_below n (λ i. x i * g ^ (i * v))) place))))
 
 next_odd : {m : ℕ} (g n t h : ℕ) (x y z : ℕ → ℕ) (p r : ℕ) → IsMinusOne m ((g ^ (2 ^ t)) ^ h)
     → BlocksTransform m g n t (h + h) x y → IsStage m (g ^ (2 ^ t)) h (2 ^ t) y z
@@ -87,14 +87,14 @@ next_odd {m} g n t h x y z p r half_turn blocks stage below l bit =
     omega (arith, kr, b, rev) in
     let halves = odd_entries w h r (λ i. y (q * (h + h) + i)) (λ i. z (q * (h + h) + (h + i))) half_turn
     (λ i j. (stage.pairs q i within j).subtracted) in
-    chained (of_equal (sum_below-same h (λ i. z (p * h + i) * (g ^ (2 ^ suc t)) ^ (i * r))
+    mod_trans (mod_of_eq (sum_below-same h (λ i. z (p * h + i) * (g ^ (2 ^ suc t)) ^ (i * r))
     (λ i. z (q * (h + h) + (h + i)) * (w * w) ^ (i * r))
     (λ i j.
     let at : p * h + i ≡ q * (h + h) + (h + i) = omega (arith, row) in
     ap (λ v. z v * (g ^ (2 ^ suc t)) ^ (i * r)) at
     ∙ ap (λ v. z (q * (h + h) + (h + i)) * v ^ (i * r)) (sym (root_squared g t)))))
-    (chained (turned halves) (chained (blocks.entry q (2 * r + 1) within (omega arith))
-    (of_equal (ap (λ v. sum_below n (λ i. x i * g ^ (i * v))) place))))
+    (mod_trans (mod_sym halves) (mod_trans (blocks.entry q (2 * r + 1) within (omega arith))
+    (mod_of_eq (ap (λ v. sum_below n (λ i. x i * g ^ (i * v))) place))))
 
 -- one stage further
 pub stages_more : {m : ℕ} (g n t h : ℕ) (x y z : ℕ → ℕ) → IsMinusOne m ((g ^ (2 ^ t)) ^ h)
@@ -117,5 +117,5 @@ stages_end {m} g n t x y p blocks below small =
     (λ v. v + y (p * 1 + 0) * (g ^ (2 ^ t)) ^ (0 * 0)) (sum_below-zero (λ i. y (p * 1 + i) * (g ^ (2 ^ t)) ^ (i * 0)))
     ∙ ap (λ v. 0 + y (p * 1 + 0) * v) (pow-zero (g ^ (2 ^ t))) ∙ ap (λ v. 0 + y v * 1) at in
     let single : 0 + y p * 1 ≡ y p = omega arith in
-    let e = chained (of_equal (sym (one ∙ single))) (blocks.entry p 0 below (omega arith)) in
+    let e = mod_trans (mod_of_eq (sym (one ∙ single))) (blocks.entry p 0 below (omega arith)) in
     sym (mod-eq_of_lt small) ∙ e.same ∙ ap (λ v. sum_below n (λ i. x i * g ^ (i * v)) % m) place

@@ -4,7 +4,7 @@ use Rattle.std.proofs.Math.Nat.{mod-eq_of_lt, pow-zero}
 use Rattle.std.proofs.lemmas.List.Elements.{All-replicate}
 use Rattle.std.proofs.lemmas.Nat.{mul-mod_first, pow-add}
 use Rattle.modular_word.specs.Congruence.{Congruent}
-use Rattle.modular_word.proofs.Congruence.{of_equal, itself, chained, multiplied, residue_of}
+use Rattle.modular_word.proofs.Congruence.{mod_of_eq, mod_refl, mod_trans, mod_mul, residue_of}
 use Rattle.modular_word.proofs.Powers.{pow-one}
 use Rattle.modular_reduced.specs.Forms.{Represents, IsForm, IsCanonical}
 use Rattle.modular_reduced.proofs.FormLemmas.{form_as}
@@ -38,23 +38,24 @@ pub strip_power : {m p : ℕ} (w column width : ℕ) (v : ℕ → ℕ)
     → (i : ℕ) → column ≤ i → i < column + width → Congruent m (v (i - column)) (w ^ i)
 strip_power {m} {p} w column width v holds is i l k =
     let e : column + (i - column) ≡ i = omega arith in
-    chained (of_equal (holds (i - column) (omega arith)))
-    (chained (residue_of (p * w ^ (i - column)))
-    (chained (multiplied is (itself (w ^ (i - column))))
-    (of_equal (sym (pow-add w column (i - column)) ∙ ap (λ n. w ^ n) e))))
+    mod_trans (mod_of_eq (holds (i - column) (omega arith)))
+    (mod_trans (residue_of (p * w ^ (i - column)))
+    (mod_trans (mod_mul is (mod_refl (w ^ (i - column))))
+    (mod_of_eq (sym (pow-add w column (i - column)) ∙ ap (λ n. w ^ n) e))))
 
 -- the running power of the strip after it
 pub strip_next : {form value : ℕ → ℕ → ℕ} {width m f p : ℕ} (w column count : ℕ) → IsCanonical form value width m
     → Represents form m f ((p * w ^ count) % m) → Congruent m p (w ^ column)
     → Congruent m (value m f) (w ^ (column + count))
 strip_next {form} {value} {width} {m} {f} {p} w column count canonical next is =
-    chained (of_equal (canonical.one_value _ _ next))
-    (chained (residue_of (p * w ^ count))
-    (chained (multiplied is (itself (w ^ count))) (of_equal (sym (pow-add w column count)))))
+    mod_trans (mod_of_eq (canonical.one_value _ _ next))
+    (mod_trans (residue_of (p * w ^ count))
+    (mod_trans (mod_mul is (mod_refl (w ^ count))) (mod_of_eq (sym (pow-add w column count)))))
 
 -- the first running power is 1
 pub first_power : {form value : ℕ → ℕ → ℕ} {width m f one : ℕ} (w : ℕ) → IsCanonical form value width m → one ≡ 1
     → Represents form m f (one % m)
     → Congruent m (value m f) (w ^ 0)
 first_power {form} {value} {width} {m} {f} {one} w canonical is_one is =
-    chained (of_equal (canonical.one_value _ _ is)) (chained (residue_of one) (of_equal (is_one ∙ sym (pow-zero w))))
+    mod_trans (mod_of_eq (canonical.one_value _ _ is)) (mod_trans (residue_of one)
+    (mod_of_eq (is_one ∙ sym (pow-zero w))))

@@ -7,7 +7,7 @@ use Rattle.std.proofs.Math.Nat.{mod-lt, mod-mod, pow-succ', pow-zero}
 use Rattle.modular_word.specs.Congruence.{Congruent}
 use Rattle.modular_word.specs.Inverses.{IsInverse}
 use Rattle.modular_word.specs.Sums.{sum_below}
-use Rattle.modular_word.proofs.Congruence.{of_equal, chained, turned, multiplied, powered, residue_of, itself}
+use Rattle.modular_word.proofs.Congruence.{mod_of_eq, mod_trans, mod_sym, mod_mul, mod_pow, residue_of, mod_refl}
 use Rattle.modular_word.proofs.Powers.{pow-mul, one-pow}
 use Rattle.modular_word.proofs.Sums.{sum_below-zero, sum_below-suc, sum_below-same, sum_below-mul, sum_below-congruent}
 use Rattle.modular_reduced.specs.Forms.{Represents, IsCanonical}
@@ -28,7 +28,7 @@ inverse_root {m} {g} {n} some more suits =
     let power : g * g ^ (n - 1) ≡ g ^ n = sym (pow-succ' g (n - 1)) ∙ ap (λ v. g ^ v) e in
     record {
       below = mod-lt (g ^ (n - 1)) some;
-      one = (chained (multiplied (itself g) (residue_of (g ^ (n - 1)))) (chained (of_equal power) whole)).same;
+      one = (mod_trans (mod_mul (mod_refl g) (residue_of (g ^ (n - 1)))) (mod_trans (mod_of_eq power) whole)).same;
     }
 
 -- a transform of scaled values
@@ -38,8 +38,8 @@ transform_scaled m g n part j u =
     let s = sum_below n (λ i. u i * g ^ (i * j)) in
     let terms = sum_below-same n (λ i. part * u i * g ^ (i * j)) (λ i. part * (u i * g ^ (i * j)))
     (λ i _. omega arith) in
-    chained (residue_of _) (chained (of_equal (terms ∙ sum_below-mul n part (λ i. u i * g ^ (i * j))))
-    (multiplied (itself part) (turned (residue_of s))))
+    mod_trans (residue_of _) (mod_trans (mod_of_eq (terms ∙ sum_below-mul n part (λ i. u i * g ^ (i * j))))
+    (mod_mul (mod_refl part) (mod_sym (residue_of s))))
 
 -- a list whose transform is given
 pub preimage : ℕ → ℕ → ℕ → ℕ → (ℕ → ℕ) → ℕ → ℕ
@@ -57,7 +57,7 @@ transform_of_preimage m g n part j y below more suits inverse l =
     let u = transform m h n y in
     let whole = sum_below n (λ i. part * u i * g ^ (i * j)) in
     let swap : part * transform m g n u j ≡ transform m g n u j * part = omega arith in
-    sym (mod-mod whole m) ∙ (chained (transform_scaled m g n part j u) (chained (of_equal swap)
+    sym (mod-mod whole m) ∙ (mod_trans (transform_scaled m g n part j u) (mod_trans (mod_of_eq swap)
     (value_back n j part y back inverse (inverse_suits root suits) l))).same
 
 -- the exponents of the inverse root, by full turns
@@ -65,10 +65,10 @@ turned_by : {m : ℕ} (g n i k q : ℕ) → Congruent m (g ^ n) 1 → (n - 1) * 
     → Congruent m ((g ^ (n - 1) % m) ^ i) (g ^ k)
 turned_by {m} g n i k q whole is =
     let one : 1 * g ^ k ≡ g ^ k = omega arith in
-    chained (powered i (residue_of (g ^ (n - 1))))
-    (chained (of_equal (sym (pow-mul g (n - 1) i) ∙ ap (λ v. g ^ v) is ∙ pow-add g (n * q) k
+    mod_trans (mod_pow i (residue_of (g ^ (n - 1))))
+    (mod_trans (mod_of_eq (sym (pow-mul g (n - 1) i) ∙ ap (λ v. g ^ v) is ∙ pow-add g (n * q) k
     ∙ ap (λ v. v * g ^ k) (pow-mul g n q)))
-    (chained (multiplied (chained (powered q whole) (of_equal (one-pow q))) (itself (g ^ k))) (of_equal one)))
+    (mod_trans (mod_mul (mod_trans (mod_pow q whole) (mod_of_eq (one-pow q))) (mod_refl (g ^ k))) (mod_of_eq one)))
 
 -- the powers of the inverse root are those of the root at the mirrored places
 power_mirrored : {m : ℕ} (g n i : ℕ) → Congruent m (g ^ n) 1 → i < n
@@ -76,7 +76,8 @@ power_mirrored : {m : ℕ} (g n i : ℕ) → Congruent m (g ^ n) 1 → i < n
 power_mirrored {m} g n i whole l = elim (cases_eq i 0) [
   | inl z ↦
       let none : (n - 1) * i ≡ n * 0 + 0 = ap (λ v. (n - 1) * v) z ∙ omega arith in
-      chained (turned_by g n i 0 0 whole none) (of_equal (ap (λ v. g ^ v) (sym (ap (mirrored n) z ∙ mirrored_first n))))
+      mod_trans (turned_by g n i 0 0 whole none) (mod_of_eq (ap (λ v. g ^ v)
+      (sym (ap (mirrored n) z ∙ mirrored_first n))))
   | inr s ↦
       let some : 0 < i = omega arith in
       let q : ℕ = i - 1 in
@@ -84,8 +85,8 @@ power_mirrored {m} g n i whole l = elim (cases_eq i 0) [
       let all : n ≡ (n - 1) + 1 = omega (arith, l) in
       let left : (n - 1) * i ≡ (n - 1) * q + (n - 1) = ap (λ v. (n - 1) * v) next ∙ omega arith in
       let right : n * q ≡ (n - 1) * q + q = ap (λ v. v * q) all ∙ omega arith in
-      chained (turned_by g n i (n - i) q whole (omega (arith, left, right, next, l)))
-      (of_equal (ap (λ v. g ^ v) (sym (mirrored_other n i some l))))
+      mod_trans (turned_by g n i (n - i) q whole (omega (arith, left, right, next, l)))
+      (mod_of_eq (ap (λ v. g ^ v) (sym (mirrored_other n i some l))))
 ]
 
 -- so that the transform by the root, at the mirrored places, is that by its inverse
@@ -98,10 +99,10 @@ at_mirror {m} {g} {n} c i suits more l =
     (sum_below-congruent n (λ j. c j * g ^ (j * k)) (λ j. c j * h ^ (j * i))
     (λ j _. let a : j * k ≡ k * j = omega arith in
     let b : i * j ≡ j * i = omega arith in
-    multiplied (itself (c j))
-    (chained (of_equal (ap (λ v. g ^ v) a ∙ pow-mul g k j))
-    (chained (powered j (turned (power_mirrored g n i whole l)))
-    (of_equal (sym (pow-mul h i j) ∙ ap (λ v. h ^ v) b)))))).same
+    mod_mul (mod_refl (c j))
+    (mod_trans (mod_of_eq (ap (λ v. g ^ v) a ∙ pow-mul g k j))
+    (mod_trans (mod_pow j (mod_sym (power_mirrored g n i whole l)))
+    (mod_of_eq (sym (pow-mul h i j) ∙ ap (λ v. h ^ v) b)))))).same
 
 -- the transform of a single value
 transform_of_one : (m g : ℕ) (c : ℕ → ℕ) → transform m g 1 c 0 ≡ c 0 % m
@@ -118,8 +119,8 @@ times_part {m} {part} v inverse =
     let one : Congruent m (1 * part) 1 = record { same = inverse.one } in
     let a : v * part ≡ v * (1 * part) = omega arith in
     let b : v * 1 ≡ v = omega arith in
-    (chained (multiplied (residue_of v) (itself part))
-    (chained (of_equal a) (chained (multiplied (itself v) one) (of_equal b)))).same
+    (mod_trans (mod_mul (residue_of v) (mod_refl part))
+    (mod_trans (mod_of_eq a) (mod_trans (mod_mul (mod_refl v) one) (mod_of_eq b)))).same
 
 -- entry i of the transform back, for a list of one entry
 single : (m g n part i : ℕ) (c : ℕ → ℕ) → n ≡ 1 → i ≡ 0 → IsInverse m n part
@@ -140,7 +141,7 @@ undone_at m g n part i x old some suits inverse l is = elim (cases_lt 1 n) [
       let h = g ^ (n - 1) % m in
       let root = inverse_root some more suits in
       ap (λ v. (v * part) % m) (at_mirror old i suits more l
-      ∙ transform_congruent h n i old (transform m g n x) (λ j k. of_equal (sym (is j k))))
+      ∙ transform_congruent h n i old (transform m g n x) (λ j k. mod_of_eq (sym (is j k))))
       ∙ (value_back n i part x root inverse suits l).same
   | inr few ↦
       let only : n ≡ 1 = omega (arith, few, l) in
@@ -160,8 +161,8 @@ restored_at m g n part j new old below suits inverse l is = elim (cases_lt 1 n) 
       let h = g ^ (n - 1) % m in
       transform_congruent g n j new (preimage m g n part old)
       (λ i k. let turn : transform m h n old i * part ≡ part * transform m h n old i = omega arith in
-      chained (of_equal (is i k ∙ ap (λ v. (v * part) % m) (at_mirror old i suits more k)))
-      (chained (residue_of _) (of_equal turn)))
+      mod_trans (mod_of_eq (is i k ∙ ap (λ v. (v * part) % m) (at_mirror old i suits more k)))
+      (mod_trans (residue_of _) (mod_of_eq turn)))
       ∙ transform_of_preimage m g n part j old below more suits inverse l
   | inr few ↦
       let only : n ≡ 1 = omega (arith, few, l) in

@@ -12,7 +12,7 @@ use Rattle.modular_transform.specs.Orders.{bits_reversed, IsReordered}
 use Rattle.modular_transform.specs.Stages.{IsStage, IsTwoStages}
 use Rattle.modular_reduced.specs.Values.{HoldValues}
 use Rattle.modular_transform.proofs.ValueLemmas.{values, value_at}
-use Rattle.modular_word.proofs.Congruence.{of_equal, turned, chained, added, multiplied, powered, residue_of}
+use Rattle.modular_word.proofs.Congruence.{mod_of_eq, mod_sym, mod_trans, mod_add, mod_mul, mod_pow, residue_of}
 use Rattle.modular_word.proofs.Powers.{pow-mul}
 use Rattle.modular_transform.proofs.MinusOne.{IsMinusOne, same_minus_one}
 use Rattle.modular_transform.proofs.BitReversal.{bits_reversed_below, bits_reversed_twice}
@@ -69,8 +69,9 @@ pub root_more : {m : ℕ} (g t v w : ℕ) → Congruent m v (g ^ (2 ^ t)) → w 
     → Congruent m w (g ^ (2 ^ (t + 1)))
 root_more g t v w is e =
     let s : suc t ≡ t + 1 = omega arith in
-    chained (of_equal e)
-    (chained (residue_of (v * v)) (chained (multiplied is is) (of_equal (root_squared g t ∙ ap (λ k. g ^ (2 ^ k)) s))))
+    mod_trans (mod_of_eq e)
+    (mod_trans (residue_of (v * v)) (mod_trans (mod_mul is is)
+    (mod_of_eq (root_squared g t ∙ ap (λ k. g ^ (2 ^ k)) s))))
 
 -- one stage of the loop
 pub blocks_more : {m : ℕ} (g z t n half blocks v : ℕ) (x y w : ℕ → ℕ) → StageSizes z t n half blocks → blocks ≡ 2 ^ t
@@ -133,7 +134,7 @@ quarter_turn g z t n half blocks v w sizes l root quarter =
     let p : 2 ^ t * (half / 2) ≡ 2 ^ (z - 2) =
     ap (λ k. 2 ^ t * k) (sym sizes.quarter) ∙ sym (pow-add 2 t (z - (t + 2))) ∙ ap (λ k. 2 ^ k) e in
     let q = ap (λ k. g ^ k) (sym p) ∙ pow-mul g (2 ^ t) (half / 2) in
-    chained quarter (chained (of_equal q) (turned (powered (half / 2) root)))
+    mod_trans quarter (mod_trans (mod_of_eq q) (mod_sym (mod_pow (half / 2) root)))
 
 -- two stages of the loop
 pub two_more : {m : ℕ} (g z t n half blocks v w : ℕ) (x y u : ℕ → ℕ) → TwoSizes z t n half blocks → blocks ≡ 2 ^ t
@@ -231,8 +232,8 @@ suits_tested {m} g n z t v one o s whole some is_t power is_one is_o is_s =
     let e : z ≡ suc t = omega arith in
     let d = whole ∙ ap (λ k. 2 ^ k) e ∙ two-pow-succ t in
     let h : n / 2 ≡ 2 ^ t = omega (arith, d) in
-    let o1 : Congruent m o 1 = chained (of_equal is_o) (chained (residue_of one) (of_equal is_one)) in
-    let same : s ≡ (g ^ (n / 2) + 1) % m = is_s ∙ (added power o1).same ∙ ap (λ k. (g ^ k + 1) % m) (sym h) in
+    let o1 : Congruent m o 1 = mod_trans (mod_of_eq is_o) (mod_trans (residue_of one) (mod_of_eq is_one)) in
+    let same : s ≡ (g ^ (n / 2) + 1) % m = is_s ∙ (mod_add power o1).same ∙ ap (λ k. (g ^ k + 1) % m) (sym h) in
     let p = pow_pos t in (
       λ zero. record { power_of_two = (z, whole); half_turn = λ l. sym same ∙ zero },
       λ suits. same ∙ suits.half_turn (omega (arith, d, p)),

@@ -8,7 +8,7 @@ use Rattle.std.proofs.lemmas.List.{get_or-map, map-set}
 use Rattle.std.proofs.lemmas.List.Elements.{All-set}
 use Rattle.modular_word.specs.Congruence.{Congruent}
 use Rattle.modular_word.specs.Residues.{residue}
-use Rattle.modular_word.proofs.Congruence.{of_equal, itself, chained, added, multiplied, residue_of}
+use Rattle.modular_word.proofs.Congruence.{mod_of_eq, mod_refl, mod_trans, mod_add, mod_mul, residue_of}
 use Rattle.modular_word.proofs.ResidueLemmas.{residue_sub, residue_sub_wrapped}
 use Rattle.modular_reduced.specs.Forms.{Represents, IsForm, IsCanonical}
 use Rattle.modular_reduced.specs.Values.{values_of, HoldValues}
@@ -66,11 +66,11 @@ residue_restored m v w lv lw = elim (cases_lt v w) [
       let e = residue_sub_wrapped m v w lw l in
       let s : residue m (pos v -ℤ pos w) + w ≡ v + m = omega (arith, e) in
       let z : Congruent m (v + m) v = record { same = add-mod_right v m } in
-      chained (of_equal s) z
+      mod_trans (mod_of_eq s) z
   | inr l ↦
       let e = residue_sub m v w lv l in
       let s : residue m (pos v -ℤ pos w) + w ≡ v = omega (arith, e) in
-      of_equal s
+      mod_of_eq s
 ]
 
 -- the sum of two values, and their difference times a power
@@ -81,10 +81,10 @@ pair_of {m} a b power sum difference la lb is_sum is_difference =
     let restored : Congruent m (d + b) a = residue_restored m a b la lb in
     let spread : d * power + b * power ≡ (d + b) * power = omega arith in
     record {
-      summed = chained (of_equal is_sum) (residue_of (a + b));
+      summed = mod_trans (mod_of_eq is_sum) (residue_of (a + b));
       subtracted =
-          chained (added (chained (of_equal is_difference) (residue_of (d * power))) (itself (b * power)))
-          (chained (of_equal spread) (multiplied restored (itself power)));
+          mod_trans (mod_add (mod_trans (mod_of_eq is_difference) (residue_of (d * power))) (mod_refl (b * power)))
+          (mod_trans (mod_of_eq spread) (mod_mul restored (mod_refl power)));
     }
 
 -- what a pair writes

@@ -78,41 +78,41 @@ next_is_multiple m x h e =
     let g : x + 1 ≡ 0 + m * (x / m + 1) = omega arith in
     ap (λ v. v % m) g ∙ add-mul-mod_self_left 0 m (x / m + 1)
 
-pub of_equal : {m a b : ℕ} → a ≡ b → Congruent m a b
-of_equal {m} {a} {b} e = record { same = ap (λ n. n % m) e }
+pub mod_of_eq : {m a b : ℕ} → a ≡ b → Congruent m a b
+mod_of_eq {m} {a} {b} e = record { same = ap (λ n. n % m) e }
 
-pub itself : {m : ℕ} (a : ℕ) → Congruent m a a
-itself a = record { same = refl }
+pub mod_refl : {m : ℕ} (a : ℕ) → Congruent m a a
+mod_refl a = record { same = refl }
 
-pub turned : {m a b : ℕ} → Congruent m a b → Congruent m b a
-turned h = record { same = sym h.same }
+pub mod_sym : {m a b : ℕ} → Congruent m a b → Congruent m b a
+mod_sym h = record { same = sym h.same }
 
-pub chained : {m a b c : ℕ} → Congruent m a b → Congruent m b c → Congruent m a c
-chained h k = record { same = h.same ∙ k.same }
+pub mod_trans : {m a b c : ℕ} → Congruent m a b → Congruent m b c → Congruent m a c
+mod_trans h k = record { same = h.same ∙ k.same }
 
 pub residue_of : {m : ℕ} (a : ℕ) → Congruent m (a % m) a
 residue_of {m} a = record { same = mod-mod a m }
 
-pub added : {m a b c d : ℕ} → Congruent m a b → Congruent m c d → Congruent m (a + c) (b + d)
-added {m} {a} {b} {c} {d} h k = record { same = same_sum m a b c d h.same k.same }
+pub mod_add : {m a b c d : ℕ} → Congruent m a b → Congruent m c d → Congruent m (a + c) (b + d)
+mod_add {m} {a} {b} {c} {d} h k = record { same = same_sum m a b c d h.same k.same }
 
-pub multiplied : {m a b c d : ℕ} → Congruent m a b → Congruent m c d → Congruent m (a * c) (b * d)
-multiplied {m} {a} {b} {c} {d} h k = record { same = same_product m a b c d h.same k.same }
+pub mod_mul : {m a b c d : ℕ} → Congruent m a b → Congruent m c d → Congruent m (a * c) (b * d)
+mod_mul {m} {a} {b} {c} {d} h k = record { same = same_product m a b c d h.same k.same }
 
-pub powered : {m a b : ℕ} (k : ℕ) → Congruent m a b → Congruent m (a ^ k) (b ^ k)
-powered {m} {a} {b} k h = record { same = sym (pow-mod a k m) ∙ ap (λ n. n ^ k % m) h.same ∙ pow-mod b k m }
+pub mod_pow : {m a b : ℕ} (k : ℕ) → Congruent m a b → Congruent m (a ^ k) (b ^ k)
+mod_pow {m} {a} {b} k h = record { same = sym (pow-mod a k m) ∙ ap (λ n. n ^ k % m) h.same ∙ pow-mod b k m }
 
 -- a summand on both sides goes
-pub cancelled : {m a b : ℕ} (c : ℕ) → Congruent m (a + c) (b + c) → Congruent m a b
-cancelled {m = zero} {a} {b} c h =
+pub mod_add_cancel : {m a b : ℕ} (c : ℕ) → Congruent m (a + c) (b + c) → Congruent m a b
+mod_add_cancel {m = zero} {a} {b} c h =
     let e : a + c ≡ b + c = sym (mod-zero (a + c)) ∙ h.same ∙ mod-zero (b + c) in
     let f : a ≡ b = omega (arith, e) in
-    of_equal f
-cancelled {m = suc m} {a} {b} c h = record { same = same_without (suc m) a b c (omega arith) h.same }
+    mod_of_eq f
+mod_add_cancel {m = suc m} {a} {b} c h = record { same = same_without (suc m) a b c (omega arith) h.same }
 
 -- a factor with an inverse on both sides goes
-pub cancelled_unit : {m a b : ℕ} (c j : ℕ) → Congruent m (c * j) 1 → Congruent m (a * c) (b * c) → Congruent m a b
-cancelled_unit {m} {a} {b} c j u h = record { same = same_without_unit m a b c j u.same h.same }
+pub mod_mul_cancel : {m a b : ℕ} (c j : ℕ) → Congruent m (c * j) 1 → Congruent m (a * c) (b * c) → Congruent m a b
+mod_mul_cancel {m} {a} {b} c j u h = record { same = same_without_unit m a b c j u.same h.same }
 
 -- what is congruent modulo a multiple of m is congruent modulo m
 pub modulo_divisor : {m a b : ℕ} (q : ℕ) → Congruent (m * q) a b → Congruent m a b

@@ -6,7 +6,7 @@ use Rattle.std.proofs.Math.Nat.{add-zero, mul-zero}
 use Rattle.modular_word.specs.Congruence.{Congruent}
 use Rattle.std.proofs.Math.Bool.{not}
 use Rattle.modular_word.specs.Sums.{sum_below, sum_to, count_to, Permutes}
-use Rattle.modular_word.proofs.Congruence.{itself, added}
+use Rattle.modular_word.proofs.Congruence.{mod_refl, mod_add}
 
 pub sum_to-zero : (f : ℕ → ℕ) → sum_to f 0 ≡ 0
 unfolding sum_to
@@ -224,8 +224,8 @@ sum_below-same (suc n) f g h =
 pub sum_below-congruent : {m : ℕ} (n : ℕ) (f g : ℕ → ℕ) → ((i : ℕ) → i < n → Congruent m (f i) (g i))
     → Congruent m (sum_below n f) (sum_below n g)
 unfolding sum_below
-sum_below-congruent zero f g h = itself 0
-sum_below-congruent (suc n) f g h = added (sum_below-congruent n f g (λ i l. h i (omega arith))) (h n (omega arith))
+sum_below-congruent zero f g h = mod_refl 0
+sum_below-congruent (suc n) f g h = mod_add (sum_below-congruent n f g (λ i l. h i (omega arith))) (h n (omega arith))
 
 pub sum_below-add : (n : ℕ) (f g : ℕ → ℕ) → sum_below n (λ i. f i + g i) ≡ sum_below n f + sum_below n g
 unfolding sum_below

@@ -8,8 +8,8 @@ use Rattle.modular_word.specs.Congruence.{Congruent}
 use Rattle.modular_word.specs.Inverses.{HasInverse}
 use Rattle.modular_word.specs.Residues.{residue}
 use Rattle.modular_word.specs.Sums.{polynomial}
-use Rattle.modular_word.proofs.Congruence.{of_equal, itself, turned, chained, added, multiplied, cancelled}
-use Rattle.modular_word.proofs.Congruence.{cancelled_unit}
+use Rattle.modular_word.proofs.Congruence.{mod_of_eq, mod_refl, mod_sym, mod_trans, mod_add, mod_mul, mod_add_cancel}
+use Rattle.modular_word.proofs.Congruence.{mod_mul_cancel}
 use Rattle.modular_word.proofs.Polynomials.{horner}
 use Rattle.modular_word.proofs.ResidueLemmas.{difference_and}
 use Rattle.modular_word.proofs.Sums.{sum_below-zero, sum_below-of_zeros}
@@ -55,8 +55,8 @@ divided (suc n) a x c =
 at_other : (m a b p s q u : ℕ) → p + a * q ≡ s + b * q → Congruent m (u + a) b → Congruent m p (s + q * u)
 at_other m a b p s q u e is =
     let split : s + (u + a) * q ≡ (s + q * u) + a * q = omega arith in
-    cancelled (a * q)
-    (chained (of_equal e) (chained (added (itself s) (multiplied (turned is) (itself q))) (of_equal split)))
+    mod_add_cancel (a * q)
+    (mod_trans (mod_of_eq e) (mod_trans (mod_add (mod_refl s) (mod_mul (mod_sym is) (mod_refl q))) (mod_of_eq split)))
 
 -- where two polynomials are congruent at a and at b, so are the quotients by X - a at b
 same_quotient : (m n a b : ℕ) (c d : ℕ → ℕ) → HasInverse m (residue m (pos b -ℤ pos a))
@@ -82,16 +82,16 @@ same_quotient m n a b c d unit at_a at_b =
     let s : ℕ = ascending_polynomial (suc n) c a in
     let t : ℕ = ascending_polynomial (suc n) d a in
     let both : Congruent m (s + q * u) (s + r * u) =
-    chained (turned left) (chained at_b (chained right (added (turned at_a) (itself (r * u))))) in
+    mod_trans (mod_sym left) (mod_trans at_b (mod_trans right (mod_add (mod_sym at_a) (mod_refl (r * u))))) in
     let swap : s + q * u ≡ q * u + s = omega arith in
     let swap_other : s + r * u ≡ r * u + s = omega arith in
-    cancelled_unit u unit.0 (record { same = unit.1.one })
-    (cancelled s (chained (of_equal (sym swap)) (chained both (of_equal swap_other))))
+    mod_mul_cancel u unit.0 (record { same = unit.1.one })
+    (mod_add_cancel s (mod_trans (mod_of_eq (sym swap)) (mod_trans both (mod_of_eq swap_other))))
 
 values_behind : (m n a : ℕ) (c d : ℕ → ℕ) → ((i : ℕ) → i < n → Congruent m (rests n a c i) (rests n a d i))
     → Congruent m (ascending_polynomial n c a) (ascending_polynomial n d a)
 unfolding rests
-values_behind m zero a c d same = of_equal (ascending-none c a ∙ sym (ascending-none d a))
+values_behind m zero a c d same = mod_of_eq (ascending-none c a ∙ sym (ascending-none d a))
 values_behind m (suc n) a c d same = same zero (omega arith)
 
 -- congruent rests have congruent coefficients
@@ -104,9 +104,9 @@ from_rests m (suc n) a c d same zero l =
     values_behind m n a (λ j. c (suc j)) (λ j. d (suc j)) (λ i k. same (suc i) (omega arith)) in
     let whole = same zero (omega arith) in
     let w : ℕ = ascending_polynomial n (λ j. c (suc j)) a in
-    cancelled (a * w)
-    (chained (of_equal (sym (ascending-first n c a))) (chained whole (chained (of_equal (ascending-first n d a))
-    (added (itself (d 0)) (multiplied (itself a) (turned behind))))))
+    mod_add_cancel (a * w)
+    (mod_trans (mod_of_eq (sym (ascending-first n c a))) (mod_trans whole (mod_trans (mod_of_eq (ascending-first n d a))
+    (mod_add (mod_refl (d 0)) (mod_mul (mod_refl a) (mod_sym behind))))))
 from_rests m (suc n) a c d same (suc i) l =
     from_rests m n a (λ j. c (suc j)) (λ j. d (suc j)) (λ i k. same (suc i) (omega arith)) i (omega arith)
 
@@ -207,5 +207,5 @@ distinct_units p n x prime apart = record {
       let none : Congruent p r 0 = record { same = z ∙ sym (zero-mod p) } in
       let is : Congruent p (r + x j) (x i) = record { same = difference_and p (x i) (x j) (omega (arith, above)) } in
       let sum : 0 + x j ≡ x j = omega arith in
-      (chained (turned is) (chained (added none (itself (x j))) (of_equal sum))).same));
+      (mod_trans (mod_sym is) (mod_trans (mod_add none (mod_refl (x j))) (mod_of_eq sum))).same));
 }

@@ -3,7 +3,7 @@
 use Rattle.std.proofs.Common.{◌≡◌, ℕ, zero, suc, ◌+◌, ◌*◌, ◌^◌, ◌<◌, ap, arith}
 use Rattle.std.proofs.Math.Nat.{pow-zero, pow-suc}
 use Rattle.modular_word.specs.Congruence.{Congruent}
-use Rattle.modular_word.proofs.Congruence.{multiplied, powered}
+use Rattle.modular_word.proofs.Congruence.{mod_mul, mod_pow}
 use Rattle.modular_word.proofs.Sums.{sum_below-zero, sum_below-suc, sum_below-same, sum_below-congruent}
 use Rattle.num_modular.specs.Polynomials.{ascending_polynomial}
 
@@ -37,4 +37,4 @@ ascending-same n c d x same =
 pub ascending-congruent : {m : ℕ} (n : ℕ) (c d : ℕ → ℕ) (x y : ℕ) → ((i : ℕ) → i < n → Congruent m (c i) (d i))
     → Congruent m x y → Congruent m (ascending_polynomial n c x) (ascending_polynomial n d y)
 ascending-congruent n c d x y same e =
-    sum_below-congruent n (λ i. c i * x ^ i) (λ i. d i * y ^ i) (λ i l. multiplied (same i l) (powered i e))
+    sum_below-congruent n (λ i. c i * x ^ i) (λ i. d i * y ^ i) (λ i l. mod_mul (same i l) (mod_pow i e))

@@ -2,7 +2,7 @@ use Rattle.std.proofs.Common.{◌/◌, length, refl, sym, subst}
 use Rattle.std.proofs.lemmas.Bool.{false≢true}
 use Rattle.modular_word.specs.Congruence.{Congruent}
 use Rattle.modular_word.specs.Inverses.{IsInverse}
-use Rattle.modular_word.proofs.Congruence.{of_equal, chained, turned, residue_of}
+use Rattle.modular_word.proofs.Congruence.{mod_of_eq, mod_trans, mod_sym, residue_of}
 use Rattle.modular_transform.proofs.ConvolveLemmas.{inverse_along}
 use Rattle.modular_plan_transforms.proofs.convolution.convolve_block.Goals as goal
 
@@ -11,7 +11,7 @@ convolve_scaled-requires g c =
     let m = g.T.RingWord.number c.args.m.now.modulus in
     let count = length c.args.xs.now / c.args.last in
     let counted : Congruent m (g.T.RingWord.number c.residue_of_count-count.result) count =
-    chained (of_equal c.residue_of_count-count.ensures) (residue_of count) in
+    mod_trans (mod_of_eq c.residue_of_count-count.ensures) (residue_of count) in
     record {
       entries_xs = c.requires.entries_xs;
       entries_ys = c.requires.entries_ys;
@@ -27,7 +27,7 @@ returns-in-Some g c =
     let m = g.T.RingWord.number c.args.m.now.modulus in
     let count = length c.args.xs.now / c.args.last in
     let counted : Congruent m (g.T.RingWord.number c.residue_of_count-count.result) count =
-    chained (of_equal c.residue_of_count-count.ensures) (residue_of count) in
+    mod_trans (mod_of_eq c.residue_of_count-count.ensures) (residue_of count) in
     record {
       inverse = (λ h. (g.T.RingWord.number c.in-Some.part, inverse_along counted c.in-Some.ensures), λ h. refl);
       unchanged = λ h. absurd (h refl);
@@ -41,9 +41,9 @@ returns-in-None g c =
     let m = g.T.RingWord.number c.args.m.now.modulus in
     let count = length c.args.xs.now / c.args.last in
     let same : Congruent m (g.T.RingWord.number c.residue_of_count-count.result) count =
-    chained (of_equal c.residue_of_count-count.ensures) (residue_of count) in
+    mod_trans (mod_of_eq c.residue_of_count-count.ensures) (residue_of count) in
     record {
-      inverse = (λ h. absurd (false≢true h), λ h. absurd (c.in-None.ensures h.0 (inverse_along (turned same) h.1)));
+      inverse = (λ h. absurd (false≢true h), λ h. absurd (c.in-None.ensures h.0 (inverse_along (mod_sym same) h.1)));
       unchanged = λ h. (refl, refl);
       below = λ h. absurd (false≢true h);
       product = λ h. absurd (false≢true h);

@@ -1,6 +1,6 @@
 use Rattle.std.proofs.Common.{◌≡◌, ℕ, ◌+◌, ◌*◌, ◌/◌, ◌%◌, ◌<◌, length, refl, sym, ap, ◌∙◌, arith, subst}
 use Rattle.modular_word.specs.Congruence.{Congruent}
-use Rattle.modular_word.proofs.Congruence.{of_equal, itself, turned, chained, multiplied, residue_of}
+use Rattle.modular_word.proofs.Congruence.{mod_of_eq, mod_refl, mod_sym, mod_trans, mod_mul, residue_of}
 use Rattle.modular_word.proofs.ReductionSteps.{base_inverse}
 use Rattle.modular_plan_passes.specs.Plans.{numbers, AreRemainders}
 use Rattle.modular_plan_passes.proofs.Entries.{all_wider}
@@ -70,7 +70,8 @@ returns-then-is_odd g c =
     let single : count * last ≡ count * 1 = ap (λ v. count * v) one in
     let same : length c.reduce_products.new.xs / last ≡ count = ap (λ v. v / last) (omega arith) in
     let scaled : Congruent m (n c.factor-scaled.result.value) (n c.args.w.now.value * base) =
-    chained (of_equal (c.factor-scaled.ensures.value ∙ c.times_base.ensures)) (residue_of (n c.args.w.now.value * base)) in
+    mod_trans (mod_of_eq (c.factor-scaled.ensures.value ∙ c.times_base.ensures))
+    (residue_of (n c.args.w.now.value * base)) in
     record {
       below = c.join_scaled.ensures.below;
       joined = λ root z plan. (
@@ -78,8 +79,8 @@ returns-then-is_odd g c =
         are_products_of_one root z b count last old others p one (λ k l. refl),
         λ x are e below.
             let entry = λ (k : ℕ) (l : k < length xs).
-            chained (over_base base t (new k) (old k * others k) unit (c.reduce_products.ensures.products k l))
-            (multiplied (itself t) (turned (chained (residue_of (p k)) (residue_of (old k * others k))))) in
+            mod_trans (over_base base t (new k) (old k * others k) unit (c.reduce_products.ensures.products k l))
+            (mod_mul (mod_refl t) (mod_sym (mod_trans (residue_of (p k)) (residue_of (old k * others k))))) in
             let all = remainders_times root z b count last t x (λ k. p k % m) new are
             (λ j k lj lk. entry (j * last + k) (let place = ap (λ v. j * v) one in omega (arith, place, single, whole, lj, lk, one))) in
             c.join_scaled.ensures.joined root z (λ k. t * x k) plan

@@ -1,6 +1,6 @@
 use Rattle.std.proofs.Common.{◌≡◌, ◌*◌, ◌/◌, length, sym, ◌∙◌, ap, arith}
 use Rattle.std.proofs.Math.Nat.{zero-mul, mod-eq_of_lt}
-use Rattle.modular_word.proofs.Congruence.{itself, multiplied}
+use Rattle.modular_word.proofs.Congruence.{mod_refl, mod_mul}
 use Rattle.modular_plan_passes.specs.Plans.{numbers}
 use Rattle.modular_plan_passes.proofs.Columns.{fours_below}
 use Rattle.modular_plan_passes.proofs.Entries.{number_read, all_below}
@@ -65,7 +65,7 @@ returns-else-b-eq0 g c = record {
       let kept = c.join_blocks.auto.xs in
       λ r z x plan are i l.
       c.scale_each.ensures.products i (omega (arith, kept, l))
-      ∙ (multiplied (c.join_blocks.ensures.joined r z x plan are i l) (itself (n c.args.w.now.value))).same);
+      ∙ (mod_mul (c.join_blocks.ensures.joined r z x plan are i l) (mod_refl (n c.args.w.now.value))).same);
   below = c.scale_each.ensures.below;
 }
 

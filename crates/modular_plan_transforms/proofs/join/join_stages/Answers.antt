@@ -1,5 +1,5 @@
 use Rattle.std.proofs.Common.{◌≡◌, ◌*◌, ◌/◌, ◌%◌, length, sym, ◌∙◌, ap, arith, subst}
-use Rattle.modular_word.proofs.Congruence.{of_equal, chained}
+use Rattle.modular_word.proofs.Congruence.{mod_of_eq, mod_trans}
 use Rattle.modular_plan_passes.specs.Plans.{numbers, AreRemainders}
 use Rattle.modular_plan_transforms.specs.PlanConditions.{AreBlocks}
 use Rattle.modular_plan_transforms.proofs.LastJoins.{rescaled}
@@ -19,9 +19,9 @@ returns g c = record {
       λ r z x plan are i l.
       let times : length after / size * (first.scale * x i) ≡ length before / c.args.last * x i =
       ap (λ v. v / size * (first.scale * x i)) same ∙ rescaled (length before / size) first.scale _ (x i) first.times in
-      chained (c.join_blocks.ensures.joined r z (λ k. first.scale * x k) plan
+      mod_trans (c.join_blocks.ensures.joined r z (λ k. first.scale * x k) plan
       (subst (λ v. AreRemainders m r z b (v / size) size (λ k. first.scale * x k) (λ k. numbers n after k % m)) (sym same)
-      (first.joined r z x plan are)) i (omega (arith, l, same))) (of_equal times));
+      (first.joined r z x plan are)) i (omega (arith, l, same))) (mod_of_eq times));
   entries = c.join_blocks.ensures.entries;
 }
 

@@ -1,6 +1,6 @@
 use Rattle.std.proofs.Common.{◌*◌, ◌<◌, length, ◌∙◌, arith, subst, sym}
 use Rattle.modular_word.specs.Congruence.{Congruent}
-use Rattle.modular_word.proofs.Congruence.{of_equal, chained}
+use Rattle.modular_word.proofs.Congruence.{mod_of_eq, mod_trans}
 use Rattle.modular_plan_passes.specs.Plans.{numbers}
 use Rattle.modular_plan_passes.proofs.Entries.{number_read, bounded, entry_written, entry_kept, all_below}
 use Rattle.modular_plan_transforms.proofs.join.lower_each.Goals as goal
@@ -33,7 +33,7 @@ entries-preserved g c =
       below = entry_written n xs i c.lowered.result (λ k v. v < bound) within c.entries.invariant.below
           c.lowered.ensures.below;
       done = entry_written n xs i c.lowered.result (λ k v. Congruent m v (old k)) within c.entries.invariant.done
-          (chained c.lowered.ensures.congruent (of_equal same));
+          (mod_trans c.lowered.ensures.congruent (mod_of_eq same));
       kept = entry_kept n xs i c.lowered.result old c.entries.invariant.kept;
     }
 

@@ -1,7 +1,7 @@
 use Rattle.std.proofs.Common.{◌≡◌, ℕ, ◌+◌, ◌*◌, ◌/◌, ◌%◌, ◌<◌, length, sym, ◌∙◌, ap, arith, subst}
 use Rattle.std.proofs.Math.Nat.{mod-lt}
 use Rattle.modular_word.specs.Congruence.{Congruent}
-use Rattle.modular_word.proofs.Congruence.{chained, of_equal, itself, multiplied, residue_of}
+use Rattle.modular_word.proofs.Congruence.{mod_trans, mod_of_eq, mod_refl, mod_mul, residue_of}
 use Rattle.modular_barrett.specs.Factors.{IsFactor}
 use Rattle.modular_plan_passes.specs.Plans.{constant}
 use Rattle.modular_plan_passes.proofs.Entries.{number_read}
@@ -71,8 +71,8 @@ returns-then-rest-eq0 g c = record {
       let at : 2 * p ≡ c.args.b * c.args.count + c.args.j = omega (arith, e, even) in
       λ root z plan.
       subst (λ v. Congruent m (n c.product-turned.result) (x * constant root z v)) at
-      (chained (of_equal c.product-turned.ensures) (chained (residue_of (x * n c.factor-w.result.value))
-      (multiplied (itself x) (subst (λ v. Congruent m v (constant root z (2 * p))) (sym is)
+      (mod_trans (mod_of_eq c.product-turned.ensures) (mod_trans (residue_of (x * n c.factor-w.result.value))
+      (mod_mul (mod_refl x) (subst (λ v. Congruent m v (constant root z (2 * p))) (sym is)
       (pair_of_constants root z (length table) p _ plan block.within).even)))));
 }
 

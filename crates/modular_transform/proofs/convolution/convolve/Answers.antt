@@ -1,7 +1,7 @@
 use Rattle.std.proofs.Common.{refl, sym, arith, subst}
 use Rattle.std.proofs.lemmas.Bool.{false≢true}
 use Rattle.modular_word.specs.Inverses.{IsInverse}
-use Rattle.modular_word.proofs.Congruence.{turned}
+use Rattle.modular_word.proofs.Congruence.{mod_sym}
 use Rattle.modular_transform.proofs.ConvolveLemmas.{inverse_along}
 use Rattle.modular_transform.proofs.ValueLemmas.{held_value}
 use Rattle.modular_transform.proofs.convolution.convolve.Goals as goal
@@ -68,7 +68,7 @@ returns-in-Some-clause-checked g c = c.multiply.ensures.checked
 pub returns-in-None-clause-inverse : goal.returns-in-None-clause-inverse
 returns-in-None-clause-inverse g c = (
   λ h. absurd (false≢true h),
-  λ h. absurd (c.in-None.ensures.form h.0 (inverse_along (turned c.length_form-length.ensures.counted) h.1)),
+  λ h. absurd (c.in-None.ensures.form h.0 (inverse_along (mod_sym c.length_form-length.ensures.counted) h.1)),
 )
 
 pub returns-in-None-clause-unchanged : goal.returns-in-None-clause-unchanged

@@ -2,7 +2,7 @@ use Rattle.std.proofs.Common.{◌*◌, ◌%◌, length, refl, sym, arith, subst,
 use Rattle.std.proofs.lemmas.Bool.{false≢true}
 use Rattle.std.proofs.Math.Nat.{mod-eq_of_lt}
 use Rattle.modular_word.specs.Inverses.{IsInverse}
-use Rattle.modular_word.proofs.Congruence.{turned}
+use Rattle.modular_word.proofs.Congruence.{mod_sym}
 use Rattle.modular_transform.proofs.ValueLemmas.{values, values_below, held_value}
 use Rattle.modular_transform.specs.Orders.{mirrored}
 use Rattle.modular_transform.specs.Transforms.{transform}
@@ -77,7 +77,7 @@ returns-in-Some-clause-checked g c = c.transform_back.ensures.checked
 pub returns-in-None-clause-inverse : goal.returns-in-None-clause-inverse
 returns-in-None-clause-inverse g c = (
   λ h. absurd (false≢true h),
-  λ h. absurd (c.in-None.ensures.form h.0 (inverse_along (turned c.length_form-length.ensures.counted) h.1)),
+  λ h. absurd (c.in-None.ensures.form h.0 (inverse_along (mod_sym c.length_form-length.ensures.counted) h.1)),
 )
 
 pub returns-in-None-clause-unchanged : goal.returns-in-None-clause-unchanged

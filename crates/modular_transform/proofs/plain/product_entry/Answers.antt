@@ -1,6 +1,6 @@
 use Rattle.std.proofs.Common.{ℕ, ◌+◌, ◌*◌, cond, eqb, ◌||◌, slice_index, sym, ap}
 use Rattle.modular_word.specs.Sums.{sum_below}
-use Rattle.modular_word.proofs.Congruence.{of_equal, chained, residue_of}
+use Rattle.modular_word.proofs.Congruence.{mod_of_eq, mod_trans, residue_of}
 use Rattle.modular_transform.proofs.PlainSums.{sum_none, sum_more}
 use Rattle.modular_transform.proofs.plain.product_entry.Goals as goal
 
@@ -12,4 +12,4 @@ rows-preserved c =
     let row = λ (n : ℕ). sum_below n (λ j. cond (eqb (c.rows.i + j) c.args.e || eqb (c.rows.i + j) (c.args.e + n))
     (slice_index c.args.xs.now c.rows.i * slice_index c.args.ys.now j) 0) in
     sum_more _ c.rows.i _ _ _ c.rows.invariant
-    (chained (of_equal c.row_sum-row.ensures) (chained (residue_of _) (of_equal (ap row (sym c.requires.equal)))))
+    (mod_trans (mod_of_eq c.row_sum-row.ensures) (mod_trans (residue_of _) (mod_of_eq (ap row (sym c.requires.equal)))))

@@ -7,7 +7,7 @@ use Rattle.std.proofs.Math.ListN.{set}
 use Rattle.std.proofs.Math.Nat.{pow-le-pow_right}
 use Rattle.std.specs.Int.{trailing_zeros, w64}
 use Rattle.modular_word.specs.Congruence.{Congruent}
-use Rattle.modular_word.proofs.Congruence.{of_equal, chained}
+use Rattle.modular_word.proofs.Congruence.{mod_of_eq, mod_trans}
 use Rattle.modular_word.proofs.Powers.{pow-one}
 use Rattle.modular_reduced.specs.Forms.{IsForm}
 use Rattle.modular_transform.specs.Transforms.{transform}
@@ -38,10 +38,10 @@ root_written : {T : Type 0} (number : T → ℕ) (value : ℕ → ℕ → ℕ) (
     → Congruent m (value m (number root)) (w ^ (2 ^ s))
     → (t : ℕ) → t < s + 1 → Congruent m (values number value m (set roots s root) t) (w ^ (2 ^ t))
 root_written number value m w roots s root within before is t l = elim (cases_eq t s) [
-  | inl e ↦ chained (of_equal (ap (values number value m (set roots s root)) e
+  | inl e ↦ mod_trans (mod_of_eq (ap (values number value m (set roots s root)) e
       ∙ values-set_same number value m roots s root within))
       (subst (λ k. Congruent m (value m (number root)) (w ^ (2 ^ k))) (sym e) is)
-  | inr n ↦ chained (of_equal (values-set_other number value m roots s t root n)) (before t (omega arith))
+  | inr n ↦ mod_trans (mod_of_eq (values-set_other number value m roots s t root n)) (before t (omega arith))
 ]
 
 -- what is left after two stages
@@ -77,7 +77,7 @@ roots-init g c =
     record {
       checked = one_form number g.R.Reducer.form value m 64 c.args.g.now c.requires.root;
       form = c.requires.root;
-      root = of_equal (sym (pow-one (value m (number c.args.g.now))));
+      root = mod_of_eq (sym (pow-one (value m (number c.args.g.now))));
       written = no_roots m (values number value m (replicate 64 c.args.g.now)) (λ t. value m (number c.args.g.now) ^ (2 ^ t));
       count = refl;
     }
@@ -153,7 +153,7 @@ passes-init g c =
             blocks = omega (arith, blocks, powers, more);
             transforms = moved (0 + 1) w.stage.new.forms done w.xs-is
                 (blocks_more root z 0 n (n / 2) 1 root x x (of w.stage.new.forms) sizes refl (omega (arith, next, some))
-                c.requires.suits (of_equal (sym (pow-one root))) start w.stage.ensures.stage);
+                c.requires.suits (mod_of_eq (sym (pow-one root))) start w.stage.ensures.stage);
             count = omega (arith, products, count, left, rows, done);
           }
       | else-stages-eq1 w ↦
@@ -208,7 +208,7 @@ passes-preserved g c =
     let all : c.roots.i ≡ z = ended c.roots.auto.i-end c.roots-test.false in
     let few = exponent_below z n whole below in
     let at = λ (k : ℕ) (f : _) (l : k < z).
-    chained (of_equal (value_at number value m c.roots.roots k f (omega (arith, l, few))))
+    mod_trans (mod_of_eq (value_at number value m c.roots.roots k f (omega (arith, l, few))))
     (c.roots.invariant.written k (omega (arith, l, all))) in
     let of = values number value m in
     record {
@@ -289,7 +289,7 @@ two_stages-products-requires-clause-turn g c =
     let all : c.roots.i ≡ z = ended c.roots.auto.i-end c.roots-test.false in
     let few = exponent_below z n whole below in
     let at = λ (k : ℕ) (f : _) (l : k < z).
-    chained (of_equal (value_at number value m c.roots.roots k f (omega (arith, l, few))))
+    mod_trans (mod_of_eq (value_at number value m c.roots.roots k f (omega (arith, l, few))))
     (c.roots.invariant.written k (omega (arith, l, all))) in
     quarter_turn root z t n c.passes.half c.passes.blocks _ _ sizes two (at t c.index-roots-done.result more)
     (at (z - 2) c.index-roots-stages.result (stages_left even more).turn)

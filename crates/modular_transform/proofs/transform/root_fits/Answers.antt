@@ -2,7 +2,7 @@ use Rattle.std.proofs.Common.{◌≡◌, ◌+◌, ◌-◌, ◌^◌, ◌<◌, sym
 use Rattle.std.proofs.lemmas.Bool.{false≢true}
 use Rattle.std.specs.Int.{trailing_zeros, w64}
 use Rattle.modular_word.specs.Congruence.{Congruent}
-use Rattle.modular_word.proofs.Congruence.{of_equal}
+use Rattle.modular_word.proofs.Congruence.{mod_of_eq}
 use Rattle.modular_word.proofs.Powers.{pow-one}
 use Rattle.modular_transform.proofs.PowersOfTwo.{power_of_two_tested, power_by_zeros, exponent_above_zero}
 use Rattle.modular_transform.proofs.TransformLemmas.{root_more, suits_one, suits_tested}
@@ -19,7 +19,7 @@ pub returns-then-n-eq1 : goal.returns-then-n-eq1
 returns-then-n-eq1 g c = (λ h. suits_one (let e : c.args.n ≡ 1 = omega arith in e), λ suits. refl)
 
 pub squares-init : goal.squares-init
-squares-init g c = record { form = c.requires; power = of_equal (sym (pow-one _)) }
+squares-init g c = record { form = c.requires; power = mod_of_eq (sym (pow-one _)) }
 
 pub squares-preserved : goal.squares-preserved
 squares-preserved g c =

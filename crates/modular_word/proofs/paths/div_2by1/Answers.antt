@@ -2,7 +2,7 @@
 use Rattle.std.proofs.Common.{◌≡◌, ℕ, ◌+◌, ◌*◌, ◌%◌, ◌<◌, arith, sym, ap, ◌∙◌}
 use Rattle.std.proofs.Math.Nat.{lt_of_mul-lt-mul_right}
 use Rattle.modular_word.specs.Congruence.{Congruent}
-use Rattle.modular_word.proofs.Congruence.{of_equal, itself, turned, chained, residue_of, added, multiplied}
+use Rattle.modular_word.proofs.Congruence.{mod_of_eq, mod_refl, mod_sym, mod_trans, residue_of, mod_add, mod_mul}
 use Rattle.modular_word.proofs.ReciprocalSteps.{Setting, Guess, guess_of, step_down, step_none, step_up}
 use Rattle.modular_word.proofs.paths.div_2by1.Goals as goal
 use Rattle.modular_word.proofs.paths.div_2by1.Goals.{then-is_below, else-is_below, then-not-is_below, else-not-is_below}
@@ -12,12 +12,12 @@ less_is : (B d a0 q1 q r more : ℕ) → q ≡ (q1 + 1) % B → more ≡ (r + d)
     → (r + (q * d) % B) % B ≡ a0
 less_is B d a0 q1 q r more eq er em =
     let next : Congruent B (q * d) ((q1 + 1) * d) =
-    multiplied (chained (of_equal eq) (residue_of (q1 + 1))) (itself d) in
-    let sum : Congruent B (r + d) more = turned (chained (of_equal er) (residue_of (r + d))) in
+    mod_mul (mod_trans (mod_of_eq eq) (residue_of (q1 + 1))) (mod_refl d) in
+    let sum : Congruent B (r + d) more = mod_sym (mod_trans (mod_of_eq er) (residue_of (r + d))) in
     let e : r + (q1 + 1) * d ≡ r + d + q1 * d = omega arith in
     let whole : Congruent B (r + (q * d) % B) (more + (q1 * d) % B) =
-    chained (added (itself r) (chained (residue_of (q * d)) next))
-    (chained (of_equal e) (added sum (turned (residue_of (q1 * d))))) in
+    mod_trans (mod_add (mod_refl r) (mod_trans (residue_of (q * d)) next))
+    (mod_trans (mod_of_eq e) (mod_add sum (mod_sym (residue_of (q1 * d))))) in
     whole.same ∙ em
 
 pub returns : goal.returns

@@ -1,10 +1,10 @@
 use Rattle.std.proofs.Common.{◌∙◌}
 use Rattle.std.proofs.Math.Nat.{mul-one}
-use Rattle.modular_word.proofs.Congruence.{of_equal, itself, chained, multiplied, residue_of}
+use Rattle.modular_word.proofs.Congruence.{mod_of_eq, mod_refl, mod_trans, mod_mul, residue_of}
 use Rattle.modular_barrett.proofs.roomy.RoomyModulus.residue.Goals as goal
 
 pub returns : goal.returns
 returns g c =
     let x = g.T.RingWord.number c.args.x in
-    let unit = chained (of_equal c.args.self.now.is_one) (residue_of 1) in
-    c.product.ensures ∙ (chained (multiplied (itself x) unit) (of_equal (mul-one x))).same
+    let unit = mod_trans (mod_of_eq c.args.self.now.is_one) (residue_of 1) in
+    c.product.ensures ∙ (mod_trans (mod_mul (mod_refl x) unit) (mod_of_eq (mul-one x))).same

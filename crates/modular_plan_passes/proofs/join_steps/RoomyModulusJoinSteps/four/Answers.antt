@@ -1,5 +1,5 @@
 use Rattle.std.proofs.Common.{arith}
-use Rattle.modular_word.proofs.Congruence.{chained}
+use Rattle.modular_word.proofs.Congruence.{mod_trans}
 use Rattle.modular_plan_passes.proofs.Bounds.{multiple_is_none, reduced_by_multiple}
 use Rattle.modular_plan_passes.proofs.JoinedPairs.{joined_pair_reduced}
 use Rattle.modular_plan_passes.proofs.join_steps.RoomyModulusJoinSteps.four.Goals as goal
@@ -66,7 +66,7 @@ returns g c = record {
         h = n high.result.1;
         low = low.ensures.pair u inverses.low;
         high = high.ensures.pair v inverses.high;
-        first = joined_pair_reduced w _ _ _ _ _ (chained again once) (c.gather-a.ensures.pair w inverses.own);
+        first = joined_pair_reduced w _ _ _ _ _ (mod_trans again once) (c.gather-a.ensures.pair w inverses.own);
         second = c.gather-b.ensures.pair w inverses.own;
       });
 }

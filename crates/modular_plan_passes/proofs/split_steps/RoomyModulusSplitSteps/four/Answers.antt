@@ -1,5 +1,5 @@
 use Rattle.std.proofs.Common.{arith, refl}
-use Rattle.modular_word.proofs.Congruence.{itself}
+use Rattle.modular_word.proofs.Congruence.{mod_refl}
 use Rattle.modular_plan_passes.proofs.Steps.{pair_along, reduced_by}
 use Rattle.modular_plan_passes.proofs.Fours.{four_of_pairs}
 use Rattle.modular_plan_passes.proofs.split_steps.RoomyModulusSplitSteps.four.Goals as goal
@@ -15,7 +15,7 @@ returns g c = record {
   four = (let n = g.T.RingWord.number in
       let w = n c.args.w.now.value in
       let outer = pair_along w (n c.args.x) (n c.args.z) (n c.reduced_once.result) (n c.args.z) _ _
-      (reduced_by 8 (n c.args.x) _ _ c.reduced_once.ensures.value c.eightfold.ensures) (itself (n c.args.z))
+      (reduced_by 8 (n c.args.x) _ _ c.reduced_once.ensures.value c.eightfold.ensures) (mod_refl (n c.args.z))
       c.spread-e.ensures.pair in
       four_of_pairs w (n c.args.u.now.value) (n c.args.v.now.value) refl refl refl refl
       outer c.spread-f.ensures.pair c.spread-a.ensures.pair c.spread-c.ensures.pair);

@@ -1,6 +1,6 @@
 use Rattle.std.proofs.Common.{◌≡◌, ℕ, ◌*◌, ◌/◌, ◌%◌, ◌^◌, ◌<◌, length, refl, arith, sym, ◌∙◌, subst}
 use Rattle.std.proofs.Math.Nat.{div-one}
-use Rattle.modular_word.proofs.Congruence.{of_equal, chained, residue_of}
+use Rattle.modular_word.proofs.Congruence.{mod_of_eq, mod_trans, residue_of}
 use Rattle.modular_word.specs.Inverses.{IsInverse}
 use Rattle.modular_transform.proofs.InverseTransform.{transform_congruent}
 use Rattle.modular_transform.proofs.PowersOfTwo.{exponent_below}
@@ -74,5 +74,5 @@ returns-clause-values g c j below =
     let back = λ (j : ℕ) (l : j < size).
     transform_of_preimage m (n plan.root) size part j y plan.root_below more suits c.part-part.ensures.inverse l in
     transform_congruent (n plan.root) size j (numbers n c.join_scaled.new.xs) x
-    (λ i l. chained (of_equal (returns-clause-undone g c x back i l)) (residue_of (x i)))
+    (λ i l. mod_trans (mod_of_eq (returns-clause-undone g c x back i l)) (residue_of (x i)))
     ∙ back j below
