@@ -23,12 +23,6 @@ none_written x y k l = absurd (omega arith)
 pub one_later : (n : ℕ) → n ≤ n + 1
 one_later n = omega arith
 
-pub later : (n k : ℕ) → n ≤ n + k
-later n k = omega arith
-
-pub together : (a b c : ℕ) → a + b + c ≡ a + (b + c)
-together a b c = omega arith
-
 pub taken_back : (a b : ℕ) → b ≡ a + b - a
 taken_back a b = omega arith
 

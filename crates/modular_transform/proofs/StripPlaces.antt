@@ -36,10 +36,6 @@ strip_offset size column {i} {n = n} within least few room =
 pub in_strip : (rest : ℕ) {i width : ℕ} → i < width → width ≡ min 128 rest → i < 128
 in_strip rest within least = omega (arith, within, least)
 
--- a loop up to n has ended at n
-pub ended : {i n : ℕ} → i ≤ n → n ≤ i → i ≡ n
-ended upto past = omega arith
-
 -- the columns after a strip fit, and are fewer
 pub column_fits : {column width columns : ℕ} → width ≡ min 128 (columns - column) → column ≤ columns
     → columns < 2 ^ 64 → Fits w64 (column + width)

@@ -1,4 +1,5 @@
 use Rattle.std.proofs.Common.{◌≡◌, ℕ, ◌+◌, ◌-◌, ◌*◌, ◌%◌, ◌^◌, ◌<◌, length, ◌∙◌, ap, arith, subst}
+use Rattle.std.proofs.Math.Nat.{le-add_right, add_assoc, le_antisymm}
 use Rattle.modular_reduced.specs.Forms.{Represents}
 use Rattle.modular_reduced.proofs.FormLemmas.{form_of_value}
 use Rattle.modular_transform.specs.Stages.{PairsDone}
@@ -6,9 +7,9 @@ use Rattle.modular_transform.proofs.PairLemmas.{none_between, none_done, one_don
 use Rattle.modular_transform.proofs.PairLemmas.{done_by, stage_done}
 use Rattle.modular_transform.proofs.StripPowers.{one_form, first_power, power_first}
 use Rattle.modular_transform.proofs.StripPowers.{power_next, strip_power, strip_next}
-use Rattle.modular_transform.proofs.StripPlaces.{strip_offset, half_within, in_strip, ended}
+use Rattle.modular_transform.proofs.StripPlaces.{strip_offset, half_within, in_strip}
 use Rattle.modular_transform.proofs.StripPlaces.{column_fits, strip_falls}
-use Rattle.modular_transform.proofs.StripCounts.{none_least, none_of, none_written, one_later, later, together}
+use Rattle.modular_transform.proofs.StripCounts.{none_least, none_of, none_written, one_later}
 use Rattle.modular_transform.proofs.StripCounts.{taken_back, width_fits, column_within, next_within}
 use Rattle.modular_transform.proofs.StripCounts.{one_begun, one_more, ones_done, pairs_done, pair_strip_counted}
 use Rattle.modular_transform.proofs.StripCounts.{halves_fit, half_block_fits, pair_strip_fits, pair_place_fits}
@@ -106,7 +107,7 @@ each_block-init g c =
     let column = c.strips.column in
     let width = c.min-width.result in
     let power = λ (j : ℕ). values number value m c.fill.powers (j - column) in
-    let all = ended c.fill.auto.i-end c.fill-test.false in
+    let all = le_antisymm c.fill.auto.i-end c.fill-test.false in
     record {
       checked = c.strips.invariant.checked;
       done = none_done m power c.args.half 0 0 column (column + width) (values number value m c.strips.forms)
@@ -136,7 +137,7 @@ pub returns-clause-count : goal.returns-clause-count
 returns-clause-count g c =
     let count = c.strips.invariant.count in
     let within = c.strips.invariant.within in
-    let all = ended c.strips.invariant.within c.strips-test.false in
+    let all = le_antisymm c.strips.invariant.within c.strips-test.false in
     count ∙ ap (λ n. n * (c.args.blocks + 1)) all
 
 pub fill-preserved : goal.fill-preserved
@@ -196,13 +197,13 @@ columns-preserved g c =
     let place : k ≡ i - column = taken_back column k in
     let is_power = value_at number value m powers k c.index-powers-k.result within
     ∙ ap (values number value m powers) place in
-    let next : i + 1 ≡ column + (k + 1) = together column k 1 in
+    let next : i + 1 ≡ column + (k + 1) = add_assoc column k 1 in
     let l = c.columns-test.true in
     let inside = c.strips.invariant.within in
-    let one = one_done power h p i y z (column_within least inside l) (together (p * (h + h)) column k)
+    let one = one_done power h p i y z (column_within least inside l) (add_assoc (p * (h + h)) column k)
     (other_place (p * (h + h)) column k h) is_power c.pair.ensures.done in
     let joined = columns_joined {m = m} {h = h} {a = p} {b = p + 1} {c = column} {d = i} {e = i + 1}
-    {power = power} x y z (later column k) (one_later i) (next_within least inside l) before.done one in
+    {power = power} x y z (le-add_right column k) (one_later i) (next_within least inside l) before.done one in
     record {
       checked = c.pair.ensures.checked;
       done = subst (λ e. PairsDone m power h p (p + 1) column e x z) next joined;
@@ -223,7 +224,7 @@ each_block-preserved g c =
     let y = values number value m c.each_block.forms in
     let z = values number value m c.columns.forms in
     let power = λ (j : ℕ). values number value m c.fill.powers (j - column) in
-    let all = ended c.columns.auto.k-end c.columns-test.false in
+    let all = le_antisymm c.columns.auto.k-end c.columns-test.false in
     let here = subst (λ k. PairsDone m power h p (p + 1) column (column + k) y z) all c.columns.invariant.done in
     record {
       checked = c.columns.invariant.checked;
@@ -250,8 +251,8 @@ strips-preserved g c =
     let z = values number value m c.each_block.forms in
     let before = c.strips.invariant in
     let filled = c.fill.invariant in
-    let all = ended c.fill.auto.i-end c.fill-test.false in
-    let blocks = ended c.each_block.auto.block-end c.each_block-test.false in
+    let all = le_antisymm c.fill.auto.i-end c.fill-test.false in
+    let blocks = le_antisymm c.each_block.auto.block-end c.each_block-test.false in
     let written =
     subst (λ (n : ℕ). (k : ℕ) → k < n → values number value m c.fill.powers k ≡ (s * w ^ k) % m) all filled.written in
     let power = λ (j : ℕ). values number value m c.fill.powers (j - column) in
@@ -268,7 +269,7 @@ strips-preserved g c =
       running = strip_next w column width canonical running before.running;
       within = within;
       done = columns_joined {m = m} {h = h} {a = 0} {b = c.args.blocks} {c = 0} {d = column} {e = column + width}
-          {power = λ i. w ^ i} x y z (none_least column) (later column width) within before.done by_root;
+          {power = λ i. w ^ i} x y z (none_least column) (le-add_right column width) within before.done by_root;
       count = pair_strip_counted column width c.each_block.invariant.count blocks;
     }
 
@@ -281,7 +282,7 @@ returns-clause-stage g c =
     let x = values number value m c.args.forms.now in
     let y = values number value m c.strips.forms in
     let within = c.strips.invariant.within in
-    let e = ended c.strips.invariant.within c.strips-test.false in
+    let e = le_antisymm c.strips.invariant.within c.strips-test.false in
     stage_done x y (subst (λ d. PairsDone m (λ i. w ^ i) c.args.half 0 c.args.blocks 0 d x y) e c.strips.invariant.done)
 
 pub overflow_sub-half : goal.overflow_sub-half

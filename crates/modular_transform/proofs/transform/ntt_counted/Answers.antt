@@ -4,14 +4,13 @@ use Rattle.std.proofs.lemmas.Bool.{cases_eq}
 use Rattle.std.proofs.lemmas.List.Elements.{All-set}
 use Rattle.std.proofs.lemmas.Nat.{pow_pos, mul-le}
 use Rattle.std.proofs.Math.ListN.{set}
-use Rattle.std.proofs.Math.Nat.{pow-le-pow_right}
+use Rattle.std.proofs.Math.Nat.{pow-le-pow_right, le_antisymm}
 use Rattle.std.specs.Int.{trailing_zeros, w64}
 use Rattle.modular_word.specs.Congruence.{Congruent}
 use Rattle.modular_word.proofs.Congruence.{mod_of_eq, mod_trans}
 use Rattle.modular_word.proofs.Powers.{pow-one}
 use Rattle.modular_reduced.specs.Forms.{IsForm}
 use Rattle.modular_transform.specs.Transforms.{transform}
-use Rattle.modular_transform.proofs.StripPlaces.{ended}
 use Rattle.modular_transform.proofs.Places.{stage_offset, stages_left, two_left, below_limit}
 use Rattle.modular_transform.proofs.PowersOfTwo.{trailing_zeros_of_power, exponent_below}
 use Rattle.modular_transform.proofs.StageLemmas.{BlocksTransform, stages_start}
@@ -119,7 +118,7 @@ passes-init g c =
     let of = values number value m in
     let x = of c.args.xs.now in
     let d = c.if-stages-eq1.done in
-    let all : c.roots.i ≡ z = ended c.roots.auto.i-end c.roots-test.false in
+    let all : c.roots.i ≡ z = le_antisymm c.roots.auto.i-end c.roots-test.false in
     let squares = c.roots.invariant.count in
     let zero : z - 0 ≡ z = omega arith in
     let size : n ≡ 2 ^ (z - 0) = whole ∙ ap (λ k. 2 ^ k) (sym zero) in
@@ -205,7 +204,7 @@ passes-preserved g c =
     let more : t < z = c.passes-test.true in
     let two = two_left even more in
     let sizes = two_sizes z t n c.passes.half c.passes.blocks more even whole before.half before.blocks in
-    let all : c.roots.i ≡ z = ended c.roots.auto.i-end c.roots-test.false in
+    let all : c.roots.i ≡ z = le_antisymm c.roots.auto.i-end c.roots-test.false in
     let few = exponent_below z n whole below in
     let at = λ (k : ℕ) (f : _) (l : k < z).
     mod_trans (mod_of_eq (value_at number value m c.roots.roots k f (omega (arith, l, few))))
@@ -286,7 +285,7 @@ two_stages-products-requires-clause-turn g c =
     let more : t < z = c.passes-test.true in
     let two = two_left even more in
     let sizes = two_sizes z t n c.passes.half c.passes.blocks more even whole before.half before.blocks in
-    let all : c.roots.i ≡ z = ended c.roots.auto.i-end c.roots-test.false in
+    let all : c.roots.i ≡ z = le_antisymm c.roots.auto.i-end c.roots-test.false in
     let few = exponent_below z n whole below in
     let at = λ (k : ℕ) (f : _) (l : k < z).
     mod_trans (mod_of_eq (value_at number value m c.roots.roots k f (omega (arith, l, few))))

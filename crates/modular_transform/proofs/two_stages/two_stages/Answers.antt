@@ -1,13 +1,14 @@
 use Rattle.std.proofs.Common.{◌≡◌, ℕ, ◌+◌, ◌-◌, ◌*◌, ◌%◌, ◌^◌, ◌<◌, ◌≤◌, ◌∙◌, ap, arith, subst}
+use Rattle.std.proofs.Math.Nat.{le-add_right, add_assoc, le_antisymm}
 use Rattle.modular_word.specs.Congruence.{Congruent}
 use Rattle.modular_reduced.specs.Forms.{Represents}
 use Rattle.modular_reduced.proofs.FormLemmas.{form_of_value}
 use Rattle.modular_transform.proofs.FourLemmas.{FoursDone, none_done, one_done, columns_joined, blocks_joined, done_by}
 use Rattle.modular_transform.proofs.PairLemmas.{none_between}
-use Rattle.modular_transform.proofs.StripPlaces.{strip_offset, quarter_within, in_strip, ended, strip_falls}
+use Rattle.modular_transform.proofs.StripPlaces.{strip_offset, quarter_within, in_strip, strip_falls}
 use Rattle.modular_transform.proofs.StripPlaces.{column_fits, block_fits_word}
 use Rattle.modular_transform.proofs.StripPowers.{one_form, first_power, power_first, power_next, strip_power, strip_next}
-use Rattle.modular_transform.proofs.StripCounts.{none_least, none_more, none_of, none_written, one_later, later, together}
+use Rattle.modular_transform.proofs.StripCounts.{none_least, none_more, none_of, none_written, one_later}
 use Rattle.modular_transform.proofs.StripCounts.{taken_back, width_fits, column_within, next_within}
 use Rattle.modular_transform.proofs.StripCounts.{powers_begun, powers_more, powers_done, fours_begun, fours_more}
 use Rattle.modular_transform.proofs.StripCounts.{fours_done, strip_counted, quarters_fit, strip_place_fits}
@@ -51,7 +52,7 @@ each_block-init g c =
     let m = g.R.Reducer.modulus c.args.r.now in
     let of = values g.T.RingWord.number g.R.Reducer.value m in
     let column = c.strips.column in
-    let all : c.fill.i ≡ c.min-width.result = ended c.fill.auto.i-end c.fill-test.false in
+    let all : c.fill.i ≡ c.min-width.result = le_antisymm c.fill.auto.i-end c.fill-test.false in
     record {
       checked = c.strips.invariant.checked;
       done = none_done m (λ i. of c.fill.firsts (i - column)) (λ i. of c.fill.seconds (i - column))
@@ -82,7 +83,7 @@ pub returns-clause-count : goal.returns-clause-count
 returns-clause-count g c =
     let count = c.strips.invariant.count in
     let within = c.strips.invariant.within in
-    let all = ended c.strips.invariant.within c.strips-test.false in
+    let all = le_antisymm c.strips.invariant.within c.strips-test.false in
     count ∙ ap (λ n. n * (4 * c.args.blocks + 3)) all
 
 pub overflow_mul-place : goal.overflow_mul-place
@@ -156,7 +157,7 @@ each_block-preserved g c =
     let x = of c.strips.forms in
     let y = of c.each_block.forms in
     let z = of c.columns.forms in
-    let all : c.columns.k ≡ width = ended c.columns.auto.k-end c.columns-test.false in
+    let all : c.columns.k ≡ width = le_antisymm c.columns.auto.k-end c.columns-test.false in
     let here = subst (λ k. FoursDone m ps qs ss h p (p + 1) column (column + k) y z) all c.columns.invariant.done in
     record {
       checked = c.columns.invariant.checked;
@@ -184,7 +185,7 @@ strips-preserved g c =
     let z = of c.each_block.forms in
     let before = c.strips.invariant in
     let filled = c.fill.invariant in
-    let all : c.fill.i ≡ width = ended c.fill.auto.i-end c.fill-test.false in
+    let all : c.fill.i ≡ width = le_antisymm c.fill.auto.i-end c.fill-test.false in
     let upto = λ (P : ℕ → Type 0) (is : P c.fill.i). subst P all is in
     let of_first = upto (λ n. (k : ℕ) → k < n → of c.fill.firsts k ≡ (value m (number c.strips.power) * w ^ k) % m)
     filled.of_first in
@@ -201,7 +202,7 @@ strips-preserved g c =
     let ps = λ (j : ℕ). of c.fill.firsts (j - column) in
     let qs = λ (j : ℕ). of c.fill.seconds (j - column) in
     let ss = λ (j : ℕ). of c.fill.boths (j - column) in
-    let blocks : c.each_block.block ≡ c.args.blocks = ended c.each_block.auto.block-end c.each_block-test.false in
+    let blocks : c.each_block.block ≡ c.args.blocks = le_antisymm c.each_block.auto.block-end c.each_block-test.false in
     let strip = subst (λ b. FoursDone m ps qs ss h 0 b column (column + width) y z) blocks
     c.each_block.invariant.done in
     let turned = λ (i : ℕ) (l : column ≤ i) (b : i < column + width).
@@ -222,12 +223,12 @@ strips-preserved g c =
       turned_form = form_of_value {v = (value m (number c.strips.turned_power) * w ^ width) % m} canonical turned_power;
       square_form = form_of_value {v = (value m (number c.strips.square_power) * v ^ width) % m} canonical square_power;
       power = strip_next w column width canonical power before.power;
-      turned = subst (λ e. Congruent m (value m (number c.fill.turned_power)) (w ^ e)) (together h column width)
+      turned = subst (λ e. Congruent m (value m (number c.fill.turned_power)) (w ^ e)) (add_assoc h column width)
           (strip_next w (h + column) width canonical turned_power before.turned);
       square = strip_next v column width canonical square_power before.square;
       within = within;
       done = columns_joined {m = m} {h = h} {a = 0} {b = c.args.blocks} {c = 0} {d = column} {e = column + width}
-          {p = λ i. w ^ i} {q = λ i. w ^ (h + i)} {s = λ i. v ^ i} x y z (none_least column) (later column width)
+          {p = λ i. w ^ i} {q = λ i. w ^ (h + i)} {s = λ i. v ^ i} x y z (none_least column) (le-add_right column width)
           within before.done by_root;
       count = strip_counted column width c.each_block.invariant.count blocks;
     }
@@ -243,7 +244,7 @@ returns-clause-stages g c =
     let x = values number value m c.args.forms.now in
     let y = values number value m c.strips.forms in
     let within = c.strips.invariant.within in
-    let e = ended within c.strips-test.false in
+    let e = le_antisymm within c.strips-test.false in
     two_stages_done m w v h c.args.blocks _ x y c.requires.whole
     (λ k l. values_below number g.R.Reducer.form value m c.args.forms.now k c.requires.checked l)
     (subst (λ d. FoursDone m (λ i. w ^ i) (λ i. w ^ (h + i)) (λ i. v ^ i) h 0 c.args.blocks 0 d x y) e
@@ -331,12 +332,12 @@ columns-preserved g c =
     ∙ ap (of c.fill.seconds) place in
     let of_both = value_at number value m c.fill.boths k c.index-boths-k.result (omega (arith, least))
     ∙ ap (of c.fill.boths) place in
-    let next : i + 1 ≡ column + (k + 1) = together column k 1 in
+    let next : i + 1 ≡ column + (k + 1) = add_assoc column k 1 in
     let within = c.strips.invariant.within in
-    let one = one_done ps qs ss h p i y z (column_within least within l) (together (p * (4 * h)) column k)
+    let one = one_done ps qs ss h p i y z (column_within least within l) (add_assoc (p * (4 * h)) column k)
     of_first of_second of_both c.four.ensures.done in
     let joined = columns_joined {m = m} {h = h} {a = p} {b = p + 1} {c = column} {d = i} {e = i + 1}
-    {p = ps} {q = qs} {s = ss} x y z (later column k) (one_later i) (next_within least within l)
+    {p = ps} {q = qs} {s = ss} x y z (le-add_right column k) (one_later i) (next_within least within l)
     c.columns.invariant.done one in
     record {
       checked = c.four.ensures.checked;
