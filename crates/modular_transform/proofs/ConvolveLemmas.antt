@@ -15,7 +15,7 @@ use Rattle.modular_reduced.specs.Values.{HoldValues}
 use Rattle.modular_word.proofs.Congruence.{mod_of_eq, mod_refl, mod_sym, mod_trans, mod_mul, residue_of}
 use Rattle.modular_transform.proofs.CyclicProducts.{HalfTurn, Mirrored, convolved}
 use Rattle.modular_transform.proofs.Reordering.{mirrored_first, mirrored_other}
-use Rattle.modular_transform.proofs.ValueLemmas.{values, held_value, value_at}
+use Rattle.modular_transform.proofs.ValueLemmas.{values, held_value, value_of_entry}
 
 -- a root that suits, for the convolution theorem
 half_turn_at : {m g n : ℕ} (z : ℕ) → n ≡ 2 ^ z → Suits m g n → HalfTurn m g n
@@ -81,8 +81,8 @@ pub reordered_value : {T : Type 0} (number : T → ℕ) (value : ℕ → ℕ →
     → IsReordered s old new → i < length old → i < length new → s i < length old
     → values number value m new i ≡ values number value m old (s i)
 reordered_value number value m i d s old new reordered l l_new l_s =
-    sym (value_at number value m new i d l_new) ∙ ap (λ f. value m (number f)) (reordered.each i d l)
-    ∙ value_at number value m old (s i) d l_s
+    sym (value_of_entry number value m new i d l_new) ∙ ap (λ f. value m (number f)) (reordered.each i d l)
+    ∙ value_of_entry number value m old (s i) d l_s
 
 -- the forms of the mirrored list are those of the list
 pub mirrored_forms : {T : Type 0} (number : T → ℕ) (form value : ℕ → ℕ → ℕ) (m : ℕ) (old new : List T)

@@ -11,7 +11,7 @@ use Rattle.modular_word.specs.Congruence.{Congruent}
 use Rattle.modular_transform.specs.Orders.{bits_reversed, IsReordered}
 use Rattle.modular_transform.specs.Stages.{IsStage, IsTwoStages}
 use Rattle.modular_reduced.specs.Values.{HoldValues}
-use Rattle.modular_transform.proofs.ValueLemmas.{values, value_at}
+use Rattle.modular_transform.proofs.ValueLemmas.{values, value_of_entry}
 use Rattle.modular_word.proofs.Congruence.{mod_of_eq, mod_sym, mod_trans, mod_add, mod_mul, mod_pow, residue_of}
 use Rattle.modular_word.proofs.Powers.{pow-mul}
 use Rattle.modular_transform.proofs.MinusOne.{IsMinusOne, same_minus_one}
@@ -180,7 +180,7 @@ plain_order number form value m g n z x forms new whole len len_new checked bloc
       let is = reordered.each i d (omega arith) in
       let f = get_or forms j d in
       let is_form = checked j d lj in
-      let e : value m (number f) ≡ values number value m forms j = value_at number value m forms j d lj in
+      let e : value m (number f) ≡ values number value m forms j = value_of_entry number value m forms j d lj in
       let small : values number value m forms j < m = subst (λ v. v < m) e is_form.below in
       let t = stages_end g n z x (values number value m forms) j blocks (bits_reversed_below z i) small in
       subst (λ y. Represents form m (number y) (transform m g n x i)) (sym is)

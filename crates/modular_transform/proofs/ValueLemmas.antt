@@ -20,28 +20,28 @@ abbrev pub values : {T : Type 0} → (T → ℕ) → (ℕ → ℕ → ℕ) → �
 values number value m forms i = get_or (values_of number value m forms) i 0
 
 -- the value of the form at place i
-pub value_at : {T : Type 0} (number : T → ℕ) (value : ℕ → ℕ → ℕ) (m : ℕ) (forms : List T) (i : ℕ) (d : T)
+pub value_of_entry : {T : Type 0} (number : T → ℕ) (value : ℕ → ℕ → ℕ) (m : ℕ) (forms : List T) (i : ℕ) (d : T)
     → i < length forms → value m (number (get_or forms i d)) ≡ values number value m forms i
-value_at number value m forms i d below = sym (get_or-map (λ f. value m (number f)) forms i d 0 below)
+value_of_entry number value m forms i d below = sym (get_or-map (λ f. value m (number f)) forms i d 0 below)
 
 -- the value of a form that was read at place i
 pub value_read : {T : Type 0} (number : T → ℕ) (value : ℕ → ℕ → ℕ) (m : ℕ) (forms : List T) (i : ℕ) (x : T)
     → i < length forms → x ≡ get_or forms i x → value m (number x) ≡ values number value m forms i
-value_read number value m forms i x below is = ap (λ f. value m (number f)) is ∙ value_at number value m forms i x below
+value_read number value m forms i x below is = ap (λ f. value m (number f)) is ∙ value_of_entry number value m forms i x below
 
 -- the value of a checked form is below m
 pub values_below : {T : Type 0} (number : T → ℕ) (form value : ℕ → ℕ → ℕ) (m : ℕ) (forms : List T) (i : ℕ)
     → All (λ f. IsForm form value m (number f)) forms → i < length forms → values number value m forms i < m
 values_below number form value m [] i all l = absurd (omega arith)
 values_below number form value m (x ∷ xs) i all l =
-    subst (λ v. v < m) (value_at number value m (x ∷ xs) i x l) (all i x l).below
+    subst (λ v. v < m) (value_of_entry number value m (x ∷ xs) i x l) (all i x l).below
 
 -- after a write: the place itself ..
 pub values-set_same : {T : Type 0} (number : T → ℕ) (value : ℕ → ℕ → ℕ) (m : ℕ) (forms : List T) (i : ℕ) (x : T)
     → i < length forms → values number value m (set forms i x) i ≡ value m (number x)
 values-set_same number value m forms i x below =
     let l : i < length (set forms i x) = subst (λ n. i < n) (sym (length-set forms i x)) below in
-    sym (value_at number value m (set forms i x) i x l)
+    sym (value_of_entry number value m (set forms i x) i x l)
     ∙ ap (λ f. value m (number f)) (get_or-set_same forms i x x below)
 
 -- .. and every other
@@ -148,7 +148,7 @@ pub held_value : {T : Type 0} (number : T → ℕ) (form value : ℕ → ℕ →
     → values number value m forms i ≡ v i
 held_value number form value width m [] v i canonical holds l = absurd (omega arith)
 held_value number form value width m (x ∷ xs) v i canonical holds l =
-    sym (value_at number value m (x ∷ xs) i x l) ∙ canonical.one_value _ _ (holds.each i x l)
+    sym (value_of_entry number value m (x ∷ xs) i x l) ∙ canonical.one_value _ _ (holds.each i x l)
 
 pub held_forms : {T : Type 0} (number : T → ℕ) (form value : ℕ → ℕ → ℕ) (width m : ℕ) (forms : List T) (v : ℕ → ℕ)
     → IsCanonical form value width m → HoldValues number form m forms v

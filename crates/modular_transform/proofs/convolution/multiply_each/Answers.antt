@@ -1,7 +1,7 @@
 use Rattle.modular_transform.specs.EntryLaws.{form_read}
 use Rattle.std.proofs.Common.{◌*◌, ◌%◌, ◌<◌, length, ◌∙◌, ap, arith, refl, subst, sym}
 use Rattle.modular_transform.proofs.ValueLemmas.{values}
-use Rattle.modular_transform.proofs.ValueLemmas.{value_read, value_at, forms_written, entry_done, entry_kept}
+use Rattle.modular_transform.proofs.ValueLemmas.{value_read, value_of_entry, forms_written, entry_done, entry_kept}
 use Rattle.modular_transform.proofs.convolution.multiply_each.Goals as goal
 use Rattle.modular_transform.proofs.Places.{at_most}
 use borrow.Author.Count.{falls}
@@ -20,7 +20,7 @@ entries-preserved g c =
     let y = values number value m c.args.ys.now in
     let within : i < length xs = omega arith in
     let within_ys : i < length c.args.ys.now = let e = c.requires.equal in omega arith in
-    let x_is = value_at number value m xs i c.index-xs-i.result within ∙ before.kept i (omega arith) in
+    let x_is = value_of_entry number value m xs i c.index-xs-i.result within ∙ before.kept i (omega arith) in
     let y_is = value_read number value m c.args.ys.now i c.index-ys-i.result within_ys c.index-ys-i.is in
     let is = canonical.one_value _ _ c.mul.ensures.form ∙ ap (λ v. v * value m (number c.index-ys-i.result) % m) x_is
     ∙ ap (λ v. old i * v % m) y_is in
@@ -78,6 +78,6 @@ returns-clause-entries g c =
     let xs = c.entries.xs in
     record {
       each = λ i d l. let is = last.checked i d l in
-          let same = value_at number g.R.Reducer.value m xs i d l ∙ last.done i (omega (arith, l)) in
+          let same = value_of_entry number g.R.Reducer.value m xs i d l ∙ last.done i (omega (arith, l)) in
           record { below = subst (λ v. v < m) same is.below; same = is.same ∙ ap (g.R.Reducer.form m) same };
     }

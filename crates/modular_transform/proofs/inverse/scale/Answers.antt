@@ -1,6 +1,6 @@
 use Rattle.std.proofs.Common.{◌*◌, ◌%◌, ◌<◌, length, ◌∙◌, ap, arith, refl, subst, sym}
 use Rattle.modular_transform.proofs.ValueLemmas.{values}
-use Rattle.modular_transform.proofs.ValueLemmas.{value_at, forms_written, entry_done, entry_kept}
+use Rattle.modular_transform.proofs.ValueLemmas.{value_of_entry, forms_written, entry_done, entry_kept}
 use Rattle.modular_transform.proofs.inverse.scale.Goals as goal
 use borrow.Author.Count.{falls}
 use borrow.Author.Rules.{scaled_Fits}
@@ -17,7 +17,7 @@ entries-preserved g c =
     let old = values number value m c.args.xs.now in
     let factor = value m (number c.args.factor.now) in
     let within : i < length xs = omega arith in
-    let x_is = value_at number value m xs i c.index-xs-i.result within ∙ before.kept i (omega arith) in
+    let x_is = value_of_entry number value m xs i c.index-xs-i.result within ∙ before.kept i (omega arith) in
     let is = canonical.one_value _ _ c.mul.ensures.form ∙ ap (λ v. v * factor % m) x_is in
     record {
       checked = forms_written number g.R.Reducer.form value _ m xs i _ c.mul.result canonical
@@ -68,6 +68,6 @@ returns-clause-entries g c =
     let xs = c.entries.xs in
     record {
       each = λ i d l. let is = last.checked i d l in
-          let same = value_at number g.R.Reducer.value m xs i d l ∙ last.done i (omega (arith, l)) in
+          let same = value_of_entry number g.R.Reducer.value m xs i d l ∙ last.done i (omega (arith, l)) in
           record { below = subst (λ v. v < m) same is.below; same = is.same ∙ ap (g.R.Reducer.form m) same };
     }

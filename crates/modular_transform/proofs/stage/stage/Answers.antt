@@ -15,7 +15,7 @@ use Rattle.modular_transform.proofs.StripCounts.{one_begun, one_more, ones_done,
 use Rattle.modular_transform.proofs.StripCounts.{halves_fit, half_block_fits, pair_strip_fits, pair_place_fits}
 use Rattle.modular_transform.proofs.StripCounts.{other_place_fits, pair_ordered, pair_place_within, other_place}
 use Rattle.modular_transform.proofs.StripCounts.{column_count_fits, pairs_count_fits}
-use Rattle.modular_transform.proofs.ValueLemmas.{values, value_at, forms_written, entry_done}
+use Rattle.modular_transform.proofs.ValueLemmas.{values, value_of_entry, forms_written, entry_done}
 use Rattle.modular_transform.proofs.stage.stage.Goals as goal
 
 pub offset_bounds-powers-i : goal.offset_bounds-powers-i
@@ -195,7 +195,7 @@ columns-preserved g c =
     let within : k < length powers = omega (arith, least) in
     let power = λ (j : ℕ). values number value m powers (j - column) in
     let place : k ≡ i - column = taken_back column k in
-    let is_power = value_at number value m powers k c.index-powers-k.result within
+    let is_power = value_of_entry number value m powers k c.index-powers-k.result within
     ∙ ap (values number value m powers) place in
     let next : i + 1 ≡ column + (k + 1) = add_assoc column k 1 in
     let l = c.columns-test.true in

@@ -18,7 +18,7 @@ use Rattle.modular_transform.proofs.StripPowers.{one_form}
 use Rattle.modular_transform.proofs.TransformLemmas.{stage_sizes, two_sizes, suited_length, root_more, quarter_turn}
 use Rattle.modular_transform.proofs.TransformLemmas.{blocks_more, two_more, products_more, two_products_more}
 use Rattle.modular_transform.proofs.TransformLemmas.{blocks_all, products_all, plain_order}
-use Rattle.modular_transform.proofs.ValueLemmas.{values, value_at, values-set_same, values-set_other, held_value}
+use Rattle.modular_transform.proofs.ValueLemmas.{values, value_of_entry, values-set_same, values-set_other, held_value}
 use Rattle.modular_transform.proofs.ValueLemmas.{held_forms}
 use Rattle.modular_transform.proofs.transform.ntt_counted.Goals as goal
 use Rattle.modular_transform.proofs.transform.ntt_counted.Goals.{then-stages-eq1, else-stages-eq1}
@@ -207,7 +207,7 @@ passes-preserved g c =
     let all : c.roots.i ≡ z = le_antisymm c.roots.auto.i-end c.roots-test.false in
     let few = exponent_below z n whole below in
     let at = λ (k : ℕ) (f : _) (l : k < z).
-    mod_trans (mod_of_eq (value_at number value m c.roots.roots k f (omega (arith, l, few))))
+    mod_trans (mod_of_eq (value_of_entry number value m c.roots.roots k f (omega (arith, l, few))))
     (c.roots.invariant.written k (omega (arith, l, all))) in
     let of = values number value m in
     record {
@@ -288,7 +288,7 @@ two_stages-products-requires-clause-turn g c =
     let all : c.roots.i ≡ z = le_antisymm c.roots.auto.i-end c.roots-test.false in
     let few = exponent_below z n whole below in
     let at = λ (k : ℕ) (f : _) (l : k < z).
-    mod_trans (mod_of_eq (value_at number value m c.roots.roots k f (omega (arith, l, few))))
+    mod_trans (mod_of_eq (value_of_entry number value m c.roots.roots k f (omega (arith, l, few))))
     (c.roots.invariant.written k (omega (arith, l, all))) in
     quarter_turn root z t n c.passes.half c.passes.blocks _ _ sizes two (at t c.index-roots-done.result more)
     (at (z - 2) c.index-roots-stages.result (stages_left even more).turn)

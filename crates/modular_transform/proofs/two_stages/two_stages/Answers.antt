@@ -15,7 +15,7 @@ use Rattle.modular_transform.proofs.StripCounts.{fours_done, strip_counted, quar
 use Rattle.modular_transform.proofs.StripCounts.{column_place_fits, four_place_within, some_step, powers_count_fits}
 use Rattle.modular_transform.proofs.StripCounts.{fours_count_fits}
 use Rattle.modular_transform.proofs.TwoStages.{two_stages_done}
-use Rattle.modular_transform.proofs.ValueLemmas.{values, value_at, values_below, forms_written, entry_done}
+use Rattle.modular_transform.proofs.ValueLemmas.{values, value_of_entry, values_below, forms_written, entry_done}
 use Rattle.modular_transform.proofs.two_stages.two_stages.Goals as goal
 use borrow.Author.Count.{falls}
 
@@ -326,11 +326,11 @@ columns-preserved g c =
     let x = of c.each_block.forms in
     let y = of c.columns.forms in
     let z = of c.four.new.forms in
-    let of_first = value_at number value m c.fill.firsts k c.index-firsts-k.result (omega (arith, least))
+    let of_first = value_of_entry number value m c.fill.firsts k c.index-firsts-k.result (omega (arith, least))
     ∙ ap (of c.fill.firsts) place in
-    let of_second = value_at number value m c.fill.seconds k c.index-seconds-k.result (omega (arith, least))
+    let of_second = value_of_entry number value m c.fill.seconds k c.index-seconds-k.result (omega (arith, least))
     ∙ ap (of c.fill.seconds) place in
-    let of_both = value_at number value m c.fill.boths k c.index-boths-k.result (omega (arith, least))
+    let of_both = value_of_entry number value m c.fill.boths k c.index-boths-k.result (omega (arith, least))
     ∙ ap (of c.fill.boths) place in
     let next : i + 1 ≡ column + (k + 1) = add_assoc column k 1 in
     let within = c.strips.invariant.within in

@@ -1,4 +1,4 @@
-use Rattle.modular_monty.proofs.SplitSteps.{parts, below_is_form}
+use Rattle.modular_monty.proofs.TwoPartSteps.{parts, below_is_form}
 use Rattle.num_modular_c.proofs.montgomery.is_form.Goals as goal
 
 pub returns-clause-below : goal.returns-clause-below

@@ -1,4 +1,4 @@
-use Rattle.modular_monty.proofs.SplitSteps.{high_checked}
+use Rattle.modular_monty.proofs.TwoPartSteps.{high_checked}
 use Rattle.modular_monty.proofs.montgomery.Montgomery.high.Goals as goal
 
 pub returns-clause-form : goal.returns-clause-form

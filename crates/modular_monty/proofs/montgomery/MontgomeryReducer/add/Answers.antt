@@ -1,6 +1,6 @@
 use Rattle.std.proofs.Common.{refl, ◌+◌}
 use Rattle.modular_word.proofs.Congruence.{same_sum}
-use Rattle.modular_monty.proofs.SplitSteps.{operation_made, high_checked, all_high, joined_none}
+use Rattle.modular_monty.proofs.TwoPartSteps.{operation_made, high_checked, all_high, joined_none}
 use Rattle.modular_monty.proofs.montgomery.MontgomeryReducer.add.Goals as goal
 
 pub add-requires : goal.add-requires

@@ -1,4 +1,4 @@
-use Rattle.modular_monty.proofs.SplitSteps.{parts, below_is_form}
+use Rattle.modular_monty.proofs.TwoPartSteps.{parts, below_is_form}
 use Rattle.modular_monty.proofs.montgomery.MontgomeryReducer.check.Goals as goal
 
 pub returns : goal.returns

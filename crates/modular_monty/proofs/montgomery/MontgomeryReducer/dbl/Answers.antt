@@ -1,4 +1,4 @@
-use Rattle.modular_monty.proofs.SplitSteps.{double_made}
+use Rattle.modular_monty.proofs.TwoPartSteps.{double_made}
 use Rattle.modular_monty.proofs.montgomery.MontgomeryReducer.dbl.Goals as goal
 
 pub returns : goal.returns

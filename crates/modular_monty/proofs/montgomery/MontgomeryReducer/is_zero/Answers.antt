@@ -1,4 +1,4 @@
-use Rattle.modular_monty.proofs.SplitSteps.{zero_iff}
+use Rattle.modular_monty.proofs.TwoPartSteps.{zero_iff}
 use Rattle.modular_monty.proofs.montgomery.MontgomeryReducer.is_zero.Goals as goal
 
 pub returns : goal.returns

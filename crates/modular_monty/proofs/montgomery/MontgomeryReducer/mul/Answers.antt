@@ -1,6 +1,6 @@
 use Rattle.std.proofs.Common.{refl, ◌*◌}
 use Rattle.modular_word.proofs.Congruence.{same_product}
-use Rattle.modular_monty.proofs.SplitSteps.{operation_made, high_checked, all_high, joined_none}
+use Rattle.modular_monty.proofs.TwoPartSteps.{operation_made, high_checked, all_high, joined_none}
 use Rattle.modular_monty.proofs.montgomery.MontgomeryReducer.mul.Goals as goal
 
 pub mul-requires : goal.mul-requires

@@ -1,4 +1,4 @@
-use Rattle.modular_monty.proofs.SplitSteps.{difference_product_made, high_checked, all_high, none_low, joined_none}
+use Rattle.modular_monty.proofs.TwoPartSteps.{difference_product_made, high_checked, all_high, none_low, joined_none}
 use Rattle.modular_monty.proofs.montgomery.MontgomeryReducer.mul_difference.Goals as goal
 
 pub mul_difference-requires : goal.mul_difference-requires

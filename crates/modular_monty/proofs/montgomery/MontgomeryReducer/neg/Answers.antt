@@ -1,5 +1,5 @@
 use Rattle.modular_monty.specs.SplitLaws.{modulus_positive}
-use Rattle.modular_monty.proofs.SplitSteps.{below_is_form, negative_made}
+use Rattle.modular_monty.proofs.TwoPartSteps.{below_is_form, negative_made}
 use Rattle.modular_monty.proofs.montgomery.MontgomeryReducer.neg.Goals as goal
 
 pub sub-requires-clause-left : goal.sub-requires-clause-left

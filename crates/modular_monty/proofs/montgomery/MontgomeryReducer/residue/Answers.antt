@@ -1,5 +1,5 @@
 use Rattle.std.proofs.Common.{◌+◌, ap, ◌∙◌}
-use Rattle.modular_monty.proofs.SplitSteps.{value_made, odd_value_made, steps_fit, turns_fit, low_word, high_checked, all_high}
+use Rattle.modular_monty.proofs.TwoPartSteps.{value_made, odd_value_made, steps_fit, turns_fit, low_word, high_checked, all_high}
 use Rattle.modular_monty.proofs.montgomery.MontgomeryReducer.residue.Goals as goal
 
 pub residue-requires : goal.residue-requires

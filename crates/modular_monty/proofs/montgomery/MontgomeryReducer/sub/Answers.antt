@@ -1,5 +1,5 @@
 use Rattle.std.proofs.Common.{sym}
-use Rattle.modular_monty.proofs.SplitSteps.{difference_made, low_word, high_checked, all_high, none_low, joined_none}
+use Rattle.modular_monty.proofs.TwoPartSteps.{difference_made, low_word, high_checked, all_high, none_low, joined_none}
 use Rattle.modular_monty.proofs.montgomery.MontgomeryReducer.sub.Goals as goal
 
 pub sub-requires : goal.sub-requires

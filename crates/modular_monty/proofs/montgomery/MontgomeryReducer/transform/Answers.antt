@@ -1,5 +1,5 @@
 use Rattle.std.proofs.Common.{refl}
-use Rattle.modular_monty.proofs.SplitSteps.{made, joined_none}
+use Rattle.modular_monty.proofs.TwoPartSteps.{made, joined_none}
 use Rattle.modular_monty.proofs.montgomery.MontgomeryReducer.transform.Goals as goal
 
 pub returns-then-self-eq0 : goal.returns-then-self-eq0
