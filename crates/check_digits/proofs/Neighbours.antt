@@ -12,7 +12,8 @@ use Rattle.std.proofs.lemmas.List.Elements.{All-set}
 use Rattle.std.proofs.lemmas.Nat.{mul-mod_second}
 use Rattle.num_modular.specs.Congruence.{Congruent}
 use Rattle.num_modular.specs.Inverses.{HasInverse}
-use Rattle.num_modular.specs.NumberLaws.{of_equal, itself, turned, chained, added, multiplied, cancelled, residue_of}
+use Rattle.num_modular.specs.NumberLaws.{mod_of_eq, mod_refl, mod_sym, mod_trans, mod_add, mod_mul, mod_add_cancel}
+use Rattle.num_modular.specs.NumberLaws.{residue_of}
 use Rattle.check_digits.specs.Codes.{exchanged}
 use Rattle.check_digits.specs.Ibans.{IsDigit, IsLetter, IsIban, AreElevenfold, FindsAllButElevenfold, digits_of, iban_digits, iban_number, check_number}
 use Rattle.check_digits.proofs.Characters.{written, written_is, written_more, digit_is, letter_is, power_unit, rotated}
@@ -184,15 +185,15 @@ cancelled_factor m a b c h same =
     λ x.
     let e : x * c * h.0 ≡ x * (c * h.0) = omega arith in
     let f : x * 1 ≡ x = omega arith in
-    chained (of_equal e) (chained (multiplied (itself x) one) (of_equal f)) in
-    chained (turned (back a)) (chained (multiplied same (itself h.0)) (back b))
+    mod_trans (mod_of_eq e) (mod_trans (mod_mul (mod_refl x) one) (mod_of_eq f)) in
+    mod_trans (mod_sym (back a)) (mod_trans (mod_mul same (mod_refl h.0)) (back b))
 
 -- the exchange leaves the same exactly where the two characters do
 apart_by : (s a b t u : ℕ) → HasInverse 97 t → Congruent 97 (s + (a * t + u)) (s + (b * t + u)) → Congruent 97 a b
 apart_by s a b t u unit same =
     let e : a * t + (s + u) ≡ s + (a * t + u) = omega arith in
     let f : s + (b * t + u) ≡ b * t + (s + u) = omega arith in
-    cancelled_factor 97 a b t unit (cancelled (s + u) (chained (of_equal e) (chained same (of_equal f))))
+    cancelled_factor 97 a b t unit (mod_add_cancel (s + u) (mod_trans (mod_of_eq e) (mod_trans same (mod_of_eq f))))
 
 number_by : (before behind : List ℕ) (c d : ℕ) → written (flat_map digits_of (before ++ d ∷ c ∷ behind))
     ≡ written (flat_map digits_of before) * 10 ^ (length (pair c d) + length (flat_map digits_of behind))
@@ -212,7 +213,8 @@ exchanged_neighbours before behind c d same =
     let whole : Congruent 97 (written (flat_map digits_of (before ++ c ∷ d ∷ behind)))
     (written (flat_map digits_of (before ++ d ∷ c ∷ behind))) = record { same = same } in
     (apart_by _ (written (pair c d)) (written (pair d c)) _ _ (power_unit (length (flat_map digits_of behind)))
-    (chained (of_equal (sym (number_at before behind c d))) (chained whole (of_equal (number_by before behind c d))))).same
+    (mod_trans (mod_of_eq (sym (number_at before behind c d)))
+    (mod_trans whole (mod_of_eq (number_by before behind c d))))).same
 
 kept_neighbours : (before behind : List ℕ) (c d : ℕ) → written (pair c d) ≡ written (pair d c)
     → written (flat_map digits_of (before ++ c ∷ d ∷ behind)) ≡ written (flat_map digits_of (before ++ d ∷ c ∷ behind))
@@ -238,8 +240,8 @@ less_one_unit k l =
     let x : ℕ = a ^ 95 % 97 in
     let one : (a * x) % 97 ≡ 1 =
     mul-mod_second a (a ^ 95) 97 ∙ eqb-true ((a * a ^ 95) % 97) 1 (passes 68 less_one_test less_one_passes k l) in
-    let is : Congruent 97 (10 ^ suc k + 96) a = turned (added (residue_of (10 ^ suc k)) (itself 96)) in
-    (x, record { below = omega arith; one = (multiplied is (itself x)).same ∙ one })
+    let is : Congruent 97 (10 ^ suc k + 96) a = mod_sym (mod_add (residue_of (10 ^ suc k)) (mod_refl 96)) in
+    (x, record { below = omega arith; one = (mod_mul is (mod_refl x)).same ∙ one })
 
 -- a character has two digits at most
 few_digits : (b : Bool) (c : ℕ) → length (if b then (c - 48) ∷ [] else ((c - 55) / 10) ∷ ((c - 55) % 10) ∷ []) ≤ 2
@@ -277,11 +279,13 @@ ends_differ m c d p unit c_small d_small same =
     let f : c * p + (m + d) + 96 * (c + d) ≡ c * (p + 96) + m + 97 * d = omega arith in
     let less : (x k : ℕ) → Congruent 97 (x + 97 * k) x = λ x k. record { same = add-mul-mod_self_left x 97 k } in
     let whole : Congruent 97 (d * (p + 96) + m) (c * (p + 96) + m) =
-    chained (turned (less (d * (p + 96) + m) c)) (chained (of_equal e) (chained (added same (itself (96 * (c + d))))
-    (chained (of_equal f) (less (c * (p + 96) + m) d)))) in
+    mod_trans (mod_sym (less (d * (p + 96) + m) c)) (mod_trans (mod_of_eq e)
+    (mod_trans (mod_add same (mod_refl (96 * (c + d))))
+    (mod_trans (mod_of_eq f) (less (c * (p + 96) + m) d)))) in
     let d_below : d < 97 = omega (arith, d_small) in
     let c_below : c < 97 = omega (arith, c_small) in
-    sym (mod-eq_of_lt d_below) ∙ (cancelled_factor 97 d c (p + 96) unit (cancelled m whole)).same ∙ mod-eq_of_lt c_below
+    sym (mod-eq_of_lt d_below) ∙ (cancelled_factor 97 d c (p + 96) unit (mod_add_cancel m whole)).same ∙ mod-eq_of_lt
+    c_below
 
 ends_exchanged : (mid : List ℕ) (c d : ℕ) → IsDigit c → IsDigit d → length mid ≤ 32
     → written (flat_map digits_of (d ∷ mid ++ c ∷ [])) % 97 ≡ written (flat_map digits_of (c ∷ mid ++ d ∷ [])) % 97 → c ≡ d
@@ -296,7 +300,7 @@ ends_exchanged mid c d h k few same =
     let e = ends_differ (written (flat_map digits_of mid) * 10) (c - 48) (d - 48)
     (10 ^ suc (length (flat_map digits_of mid))) (less_one_unit (length (flat_map digits_of mid)) (omega (arith, n, few)))
     (omega arith) (omega arith)
-    (chained (of_equal (sym (ends_number mid c d h k))) (chained whole (of_equal (ends_number mid d c k h)))) in
+    (mod_trans (mod_of_eq (sym (ends_number mid c d h k))) (mod_trans whole (mod_of_eq (ends_number mid d c k h)))) in
     omega (arith, e, c_least, d_least)
 
 number_of : (text xs : List ℕ) → rotated text ≡ xs → written (flat_map digits_of xs) ≡ iban_number text

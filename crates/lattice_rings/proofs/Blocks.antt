@@ -6,7 +6,7 @@ use Rattle.std.proofs.lemmas.Nat.{div-mul-add, mod-mul-add, mul-pow, pow-add, po
 use Rattle.std.proofs.lemmas.List.{map-id}
 use Rattle.num_modular.specs.Congruence.{Congruent}
 use Rattle.num_modular.specs.Sums.{sum_below}
-use Rattle.num_modular.specs.NumberLaws.{of_equal, itself, turned, chained, added, multiplied, powered, residue_of}
+use Rattle.num_modular.specs.NumberLaws.{mod_of_eq, mod_refl, mod_sym, mod_trans, mod_add, mod_mul, mod_pow, residue_of}
 use Rattle.num_modular.specs.NumberLaws.{one-pow, pow-mul}
 use Rattle.num_modular.specs.NumberLaws.{sum_below-same, sum_below-congruent, sum_below-mul}
 use Rattle.num_modular.specs.Orders.{bits_reversed}
@@ -82,7 +82,7 @@ pub number_gone : (m count part x : ℕ) → Congruent m (count * part) 1 → (c
 number_gone m count part x one =
     let turn : count * x * part ≡ count * part * x = omega arith in
     let o : 1 * x ≡ x = omega arith in
-    (chained (of_equal turn) (chained (multiplied one (itself x)) (of_equal o))).same
+    (mod_trans (mod_of_eq turn) (mod_trans (mod_mul one (mod_refl x)) (mod_of_eq o))).same
 
 -- the powers of g and of its inverse h in a term, G being congruent to g^2
 term : {m : ℕ} (g h G r k part u : ℕ) → Congruent m (g * h) 1 → Congruent m G (g * g)
@@ -96,10 +96,10 @@ term {m} g h G r k part u inverse square =
     omega arith in
     let o : 1 * (part * (u * G ^ (k * r))) ≡ part * (u * G ^ (k * r)) = omega arith in
     let one : Congruent m (g ^ k * h ^ k) 1 =
-    chained (of_equal (sym (mul-pow g h k))) (chained (powered k inverse) (of_equal (one-pow k))) in
-    chained (of_equal (ap (λ v. part * h ^ k * u * v) a ∙ b))
-    (chained (multiplied one (multiplied (itself part) (multiplied (itself u) (powered (k * r) (turned square)))))
-    (of_equal o))
+    mod_trans (mod_of_eq (sym (mul-pow g h k))) (mod_trans (mod_pow k inverse) (mod_of_eq (one-pow k))) in
+    mod_trans (mod_of_eq (ap (λ v. part * h ^ k * u * v) a ∙ b))
+    (mod_trans (mod_mul one (mod_mul (mod_refl part) (mod_mul (mod_refl u) (mod_pow (k * r) (mod_sym square)))))
+    (mod_of_eq o))
 
 -- the polynomial whose values are given, h being the inverse of g, H that of g^2 and part that of the number of blocks
 abbrev pub preimage : ℕ → ℕ → ℕ → ℕ → ℕ → ℕ → (ℕ → ℕ) → ℕ → ℕ
@@ -126,19 +126,19 @@ preimage_values {m} g h G H s last part y inverse square of_number back below = 
       let w = λ (k : ℕ). u k * G ^ (k * r) in
       let all : Congruent m (sum_below n f) (sum_below n (λ k. part * w k)) =
       sum_below-congruent n f (λ k. part * w k)
-      (λ k l. chained (multiplied (chained (of_equal (is k)) (residue_of (part * h ^ k * u k))) (itself (c ^ k)))
+      (λ k l. mod_trans (mod_mul (mod_trans (mod_of_eq (is k)) (residue_of (part * h ^ k * u k))) (mod_refl (c ^ k)))
       (term g h G r k part (u k) inverse square)) in
       let whole : Congruent m (part * sum_below n w) (part * (n * v i r)) =
-      multiplied (itself part)
-      (chained (turned (residue_of (sum_below n w))) (back (v i) r (bits_reversed_below s j))) in
+      mod_mul (mod_refl part)
+      (mod_trans (mod_sym (residue_of (sum_below n w))) (back (v i) r (bits_reversed_below s j))) in
       let place : v i r ≡ y (j * last + i) = ap (λ q. y (q * last + i)) (bits_reversed_twice s j lj) in
       let turn : part * (n * v i r) ≡ n * part * v i r = omega arith in
       let o : 1 * v i r ≡ v i r = omega arith in
       let end : Congruent m (sum_below n f) (y (j * last + i)) =
-      chained all
-      (chained (of_equal (sum_below-mul n part w))
-      (chained whole (chained (of_equal turn)
-      (chained (multiplied of_number (itself (v i r))) (of_equal (o ∙ place)))))) in
+      mod_trans all
+      (mod_trans (mod_of_eq (sum_below-mul n part w))
+      (mod_trans whole (mod_trans (mod_of_eq turn)
+      (mod_trans (mod_mul of_number (mod_refl (v i r))) (mod_of_eq (o ∙ place)))))) in
       sym (mod-eq_of_lt (below j i lj li)) ∙ sym end.same;
 }
 
@@ -147,14 +147,14 @@ taken_away : (m a b : ℕ) → 0 < m → ((a + (m - 1) * b) % m + b) % m ≡ a %
 taken_away m a b some =
     let s : a + (m - 1) * b + b ≡ a + b * m = (let o : m - 1 + 1 ≡ m = omega (arith, some) in
     let d : (m - 1) * b + b ≡ b * (m - 1 + 1) = omega arith in let f = ap (λ v. b * v) o in omega (arith, d, f)) in
-    (chained (added (residue_of (a + (m - 1) * b)) (itself b)) (of_equal s)).same ∙ add-mul-mod_self_right a b m
+    (mod_trans (mod_add (residue_of (a + (m - 1) * b)) (mod_refl b)) (mod_of_eq s)).same ∙ add-mul-mod_self_right a b m
 
 added_to : (m a b p : ℕ) → p < m → (p + b) % m ≡ a % m → (a + (m - 1) * b) % m ≡ p
 added_to m a b p below is =
     let s : p + b + (m - 1) * b ≡ p + b * m = (let o : m - 1 + 1 ≡ m = omega (arith, below) in
     let d : (m - 1) * b + b ≡ b * (m - 1 + 1) = omega arith in let f = ap (λ v. b * v) o in omega (arith, d, f)) in
     let known : Congruent m (p + b) a = record { same = is } in
-    (chained (added (turned known) (itself ((m - 1) * b))) (of_equal s)).same
+    (mod_trans (mod_add (mod_sym known) (mod_refl ((m - 1) * b))) (mod_of_eq s)).same
     ∙ add-mul-mod_self_right p b m ∙ mod-eq_of_lt below
 
 -- what `split` says of words, in the words of the standards

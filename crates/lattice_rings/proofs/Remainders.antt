@@ -5,7 +5,7 @@ use Rattle.std.proofs.Math.ListN.{set, length-set}
 use Rattle.std.proofs.Math.Nat.{mod-lt}
 use Rattle.std.proofs.lemmas.Bool.{cases_eq}
 use Rattle.num_modular.specs.Congruence.{Congruent}
-use Rattle.num_modular.specs.NumberLaws.{of_equal, itself, chained, added, multiplied}
+use Rattle.num_modular.specs.NumberLaws.{mod_of_eq, mod_refl, mod_trans, mod_add, mod_mul}
 use Rattle.num_modular.specs.Orders.{bits_reversed}
 use Rattle.num_modular.specs.Plans.{numbers, constant}
 use Rattle.num_modular.specs.PlanLaws.{IsPairOfConstants, pair_of_constants}
@@ -27,7 +27,7 @@ pub even_square : (r : Ring) (i : ℕ) → i < 128 → i % 2 ≡ 0
     → Congruent 3329 (numbers (λ f. f.value) r.table (64 + i / 2)) (17 ^ (2 * bits_reversed 7 i + 1))
 even_square r i below even =
     let e : 2 * (64 + i / 2) ≡ 1 * 128 + i = omega arith in
-    chained (pair_at r (i / 2) (omega arith)).even (of_equal (ap (constant 17 8) e ∙ constant_is 17 7 i below))
+    mod_trans (pair_at r (i / 2) (omega arith)).even (mod_of_eq (ap (constant 17 8) e ∙ constant_is 17 7 i below))
 
 pub odd_square : (r : Ring) (i : ℕ) → i < 128 → i % 2 ≢ 0
     → Congruent 3329 (3329 - numbers (λ f. f.value) r.table (64 + i / 2)) (17 ^ (2 * bits_reversed 7 i + 1))
@@ -35,8 +35,8 @@ odd_square r i below odd =
     let e : 2 * (64 + i / 2) + 1 ≡ 1 * 128 + i = omega arith in
     let w = numbers (λ f. f.value) r.table (64 + i / 2) in
     let few : w < 3329 = entry_below r (64 + i / 2) (omega arith) in
-    chained ((pair_at r (i / 2) (omega arith)).odd (3329 - w) (omega (arith, few)))
-    (of_equal (ap (constant 17 8) e ∙ constant_is 17 7 i below))
+    mod_trans ((pair_at r (i / 2) (omega arith)).odd (3329 - w) (omega (arith, few)))
+    (mod_of_eq (ap (constant 17 8) e ∙ constant_is 17 7 i below))
 
 -- the first i remainders of p are the products of those of x and y, and the others are those of x
 pub record ProductsBelow (i : ℕ) (x y p : List ℕ) : Type 0 where
@@ -88,8 +88,8 @@ products_more i a b c x y p within square before is_a is_b =
             ≡ (get_or x (2 * n) 0 * get_or y (2 * n) 0
             + get_or x (2 * n + 1) 0 * get_or y (2 * n + 1) 0 * 17 ^ (2 * bits_reversed 7 n + 1)) % 3329) (sym s)
             (at_e ∙ is_a
-            ∙ (added (multiplied (of_equal u) (itself (get_or y e 0)))
-            (multiplied (multiplied (of_equal v) (itself (get_or y f 0))) square)).same)
+            ∙ (mod_add (mod_mul (mod_of_eq u) (mod_refl (get_or y e 0)))
+            (mod_mul (mod_mul (mod_of_eq v) (mod_refl (get_or y f 0))) square)).same)
         | inr n ↦ other p e f (2 * k) a b (omega arith) (omega arith) ∙ before.constant k (omega arith)
       ];
       linear = λ k l. elim (cases_eq k i) [
@@ -98,8 +98,8 @@ products_more i a b c x y p within square before is_a is_b =
             ≡ (get_or x (2 * n) 0 * get_or y (2 * n + 1) 0 + get_or x (2 * n + 1) 0 * get_or y (2 * n) 0) % 3329)
             (sym s)
             (at_f ∙ is_b
-            ∙ (added (multiplied {m = 3329} (of_equal u) (itself (get_or y f 0)))
-            (multiplied (of_equal v) (itself (get_or y e 0)))).same)
+            ∙ (mod_add (mod_mul {m = 3329} (mod_of_eq u) (mod_refl (get_or y f 0)))
+            (mod_mul (mod_of_eq v) (mod_refl (get_or y e 0)))).same)
         | inr n ↦ other p e f (2 * k + 1) a b (omega arith) (omega arith) ∙ before.linear k (omega arith)
       ];
       kept = λ k l. other p e f k a b (omega arith) (omega arith) ∙ before.kept k (omega arith);

@@ -8,7 +8,8 @@ use Rattle.std.proofs.lemmas.Nat.{mul-mod_first, mul-mod_second}
 use Rattle.num_modular.specs.Callers.{has_both}
 use Rattle.num_modular.specs.Congruence.{Congruent}
 use Rattle.num_modular.specs.Inverses.{HasInverse}
-use Rattle.num_modular.specs.NumberLaws.{of_equal, itself, residue_of, turned, chained, added, multiplied, cancelled}
+use Rattle.num_modular.specs.NumberLaws.{mod_of_eq, mod_refl, residue_of, mod_sym, mod_trans, mod_add, mod_mul}
+use Rattle.num_modular.specs.NumberLaws.{mod_add_cancel}
 use Rattle.num_modular.specs.NumberLaws.{sum_below-zero, sum_below-suc}
 use Rattle.num_modular.specs.Polynomials.{ascending_polynomial}
 use Rattle.num_modular.specs.PolynomialLaws.{ascending-first, ascending-congruent}
@@ -21,12 +22,12 @@ use Rattle.ring_codes.specs.KeyEquations.{shifted, Leads, IsKeyPair, AreKeyPairs
 left_alone : (m a q b c : ℕ) → Congruent m (a + q * b) c → Congruent m b 0 → Congruent m a c
 left_alone m a q b c is none =
     let e : a ≡ a + q * 0 = omega arith in
-    chained (of_equal e) (chained (added (itself a) (multiplied (itself q) (turned none))) is)
+    mod_trans (mod_of_eq e) (mod_trans (mod_add (mod_refl a) (mod_mul (mod_refl q) (mod_sym none))) is)
 
 left_alone_other : (m a q b : ℕ) → Congruent m b 0 → Congruent m (a + q * b) a
 left_alone_other m a q b none =
     let e : a + q * 0 ≡ a = omega arith in
-    chained (added (itself a) (multiplied (itself q) none)) (of_equal e)
+    mod_trans (mod_add (mod_refl a) (mod_mul (mod_refl q) none)) (mod_of_eq e)
 
 times : (n p : ℕ) (f : ℕ → ℕ) (X : ℕ) → ascending_polynomial n (λ l. p * f l) X ≡ p * ascending_polynomial n f X
 times zero p f X =
@@ -43,8 +44,8 @@ times (suc n) p f X =
 with_multiple : (m n b X : ℕ) (e g h : ℕ → ℕ) → ((l : ℕ) → l < n → Congruent m (e l + b * g l) (h l))
     → Congruent m (ascending_polynomial n e X + b * ascending_polynomial n g X) (ascending_polynomial n h X)
 with_multiple m n b X e g h each =
-    chained (of_equal (sym (combined n e g b X)))
-    (ascending-congruent n (λ i. e i + b * g i) h X X each (itself X))
+    mod_trans (mod_of_eq (sym (combined n e g b X)))
+    (ascending-congruent n (λ i. e i + b * g i) h X X each (mod_refl X))
 
 -- before the first coefficient, and from one to the next
 pub shifted_none : (f : ℕ → ℕ) → shifted f 0 ≡ 0
@@ -65,25 +66,25 @@ shifted-whole : (m n X : ℕ) (f : ℕ → ℕ) → ((l : ℕ) → suc l ≡ n �
 shifted-whole m zero X f last =
     let s = sum_below-zero (λ i. shifted f i * X ^ i) in
     let t = ap (λ v. X * v) (sum_below-zero (λ i. f i * X ^ i)) in
-    of_equal (omega (arith, s, t))
+    mod_of_eq (omega (arith, s, t))
 shifted-whole m (suc n) X f last =
     let s = sum_below-suc n (λ i. f i * X ^ i) in
     let q : ℕ = ascending_polynomial n f X in
     let none : Congruent m (q + X ^ n * f n) q =
     left_alone_other m q (X ^ n) (f n) (last n refl) in
     let whole : ascending_polynomial (suc n) f X ≡ q + X ^ n * f n = omega (arith, s) in
-    chained (of_equal (shifted-values n X f))
-    (multiplied (itself X) (chained (turned none) (of_equal (sym whole))))
+    mod_trans (mod_of_eq (shifted-values n X f))
+    (mod_mul (mod_refl X) (mod_trans (mod_sym none) (mod_of_eq (sym whole))))
 
 raised_value : (m a X y N E P L : ℕ) → Congruent m (P + a * N) (X * N) → Congruent m (L + a * E) (X * E)
     → Congruent m N (y * E) → Congruent m P (y * L)
 raised_value m a X y N E P L at_n at_e is =
     let e : X * (y * E) ≡ y * (X * E) = omega arith in
     let f : y * (L + a * E) ≡ y * L + a * (y * E) = omega arith in
-    cancelled (a * N)
-    (chained at_n (chained (multiplied (itself X) is) (chained (of_equal e)
-    (chained (multiplied (itself y) (turned at_e)) (chained (of_equal f)
-    (added (itself (y * L)) (multiplied (itself a) (turned is))))))))
+    mod_add_cancel (a * N)
+    (mod_trans at_n (mod_trans (mod_mul (mod_refl X) is) (mod_trans (mod_of_eq e)
+    (mod_trans (mod_mul (mod_refl y) (mod_sym at_e)) (mod_trans (mod_of_eq f)
+    (mod_add (mod_refl (y * L)) (mod_mul (mod_refl a) (mod_sym is))))))))
 
 raised_root : (m a y N E P L : ℕ) → Congruent m (P + a * N) (a * N) → Congruent m (L + a * E) (a * E)
     → Congruent m P (y * L)
@@ -91,16 +92,16 @@ raised_root m a y N E P L at_n at_e =
     let e : a * N ≡ 0 + a * N = omega arith in
     let f : a * E ≡ 0 + a * E = omega arith in
     let g : 0 ≡ y * 0 = omega arith in
-    let p : Congruent m P 0 = cancelled (a * N) (chained at_n (of_equal e)) in
-    let l : Congruent m L 0 = cancelled (a * E) (chained at_e (of_equal f)) in
-    chained p (chained (of_equal g) (multiplied (itself y) (turned l)))
+    let p : Congruent m P 0 = mod_add_cancel (a * N) (mod_trans at_n (mod_of_eq e)) in
+    let l : Congruent m L 0 = mod_add_cancel (a * E) (mod_trans at_e (mod_of_eq f)) in
+    mod_trans p (mod_trans (mod_of_eq g) (mod_mul (mod_refl y) (mod_sym l)))
 
 raised_none_at : (m a l : ℕ) (f g : ℕ → ℕ) → Congruent m (g l + a * f l) (shifted f l)
     → Congruent m (f l) 0 → ((j : ℕ) → suc j ≡ l → Congruent m (f j) 0) → Congruent m (g l) 0
 unfolding shifted
 raised_none_at m a zero f g is here before = left_alone m (g 0) a (f 0) 0 is here
 raised_none_at m a (suc l) f g is here before =
-    chained (left_alone m (g (suc l)) a (f (suc l)) (f l) is here) (before l refl)
+    mod_trans (left_alone m (g (suc l)) a (f (suc l)) (f l) is here) (before l refl)
 
 -- a coefficient of the product by X - a, where it and the one before it are 0
 raised_none : (m a c l : ℕ) (f g : ℕ → ℕ) → ((j : ℕ) → j < c → Congruent m (g j + a * f j) (shifted f j))
@@ -109,7 +110,7 @@ raised_none : (m a c l : ℕ) (f g : ℕ → ℕ) → ((j : ℕ) → j < c → C
 unfolding shifted
 raised_none m a c l f g each past here before = elim (cases_lt l c) [
   | inl b ↦ raised_none_at m a l f g (each l b) here before
-  | inr b ↦ of_equal (past l b)
+  | inr b ↦ mod_of_eq (past l b)
 ]
 
 -- its first coefficient that isn't 0 by order
@@ -117,7 +118,7 @@ raised_unit : (m a l : ℕ) (f g : ℕ → ℕ) → Congruent m (g (suc l) + a *
     → Congruent m (f (suc l)) 0 → HasInverse m (f l) → HasInverse m (g (suc l))
 unfolding shifted
 raised_unit m a l f g is none unit =
-    unit_alike m (f l) (g (suc l)) (turned (left_alone m (g (suc l)) a (f (suc l)) (f l) is none)) unit
+    unit_alike m (f l) (g (suc l)) (mod_sym (left_alone m (g (suc l)) a (f (suc l)) (f l) is none)) unit
 
 raised_leads : (m k c d u a : ℕ) (n e f g : ℕ → ℕ) → d + k ≡ c + 1 → u + 2 < 2 * c
     → ((l : ℕ) → l < c → Congruent m (f l + a * n l) (shifted n l))
@@ -152,18 +153,18 @@ pub raised : (m k c d i u a : ℕ) (x y n e f g : ℕ → ℕ) → d + k ≡ c +
 raised m k c d i u a x y n e f g lengths room point each_n each_e past_n past_e pair =
     let value_n : (X : ℕ) → Congruent m (ascending_polynomial c f X + a * ascending_polynomial c n X)
     (X * ascending_polynomial c n X) =
-    λ X. chained (with_multiple m c a X f n (shifted n) each_n)
+    λ X. mod_trans (with_multiple m c a X f n (shifted n) each_n)
     (shifted-whole m c X n (λ l s. pair.leads.numerator_behind l (omega arith))) in
     let value_e : (X : ℕ) → Congruent m (ascending_polynomial d g X + a * ascending_polynomial d e X)
     (X * ascending_polynomial d e X) =
-    λ X. chained (with_multiple m d a X g e (shifted e) each_e)
+    λ X. mod_trans (with_multiple m d a X g e (shifted e) each_e)
     (shifted-whole m d X e (λ l s. pair.leads.locator_behind l (omega arith))) in
     record {
       solves = λ j l. elim (cases_eq j i) [
         | inl s ↦
             let at : x j ≡ a = ap x s ∙ point in
-            let root_n = chained (value_n (x j)) (of_equal (ap (λ v. v * ascending_polynomial c n (x j)) at)) in
-            let root_e = chained (value_e (x j)) (of_equal (ap (λ v. v * ascending_polynomial d e (x j)) at)) in
+            let root_n = mod_trans (value_n (x j)) (mod_of_eq (ap (λ v. v * ascending_polynomial c n (x j)) at)) in
+            let root_e = mod_trans (value_e (x j)) (mod_of_eq (ap (λ v. v * ascending_polynomial d e (x j)) at)) in
             raised_root m a (y j) _ _ _ _ root_n root_e
         | inr other ↦ raised_value m a (x j) (y j) _ _ _ _ (value_n (x j)) (value_e (x j))
             (pair.solves j (omega arith))
@@ -176,25 +177,25 @@ eliminated_value : (m p q r s y N E P L F G : ℕ) → Congruent m (F + q * P) (
 eliminated_value m p q r s y N E P L F G at_n at_e is_p is_n same =
     let e : p * (s + y * E) ≡ p * s + y * (p * E) = omega arith in
     let f : p * s + y * (G + q * L) ≡ y * G + q * (r + y * L) = omega (arith, same) in
-    cancelled (q * P)
-    (chained at_n (chained (multiplied (itself p) (turned is_n)) (chained (of_equal e)
-    (chained (added (itself (p * s)) (multiplied (itself y) (turned at_e))) (chained (of_equal f)
-    (added (itself (y * G)) (multiplied (itself q) is_p)))))))
+    mod_add_cancel (q * P)
+    (mod_trans at_n (mod_trans (mod_mul (mod_refl p) (mod_sym is_n)) (mod_trans (mod_of_eq e)
+    (mod_trans (mod_add (mod_refl (p * s)) (mod_mul (mod_refl y) (mod_sym at_e))) (mod_trans (mod_of_eq f)
+    (mod_add (mod_refl (y * G)) (mod_mul (mod_refl q) is_p)))))))
 
 eliminated_none : (m p q c l : ℕ) (h n f : ℕ → ℕ) → ((j : ℕ) → j < c → Congruent m (f j + q * h j) (p * n j))
     → ((j : ℕ) → c ≤ j → f j ≡ 0) → Congruent m (h l) 0 → Congruent m (n l) 0 → Congruent m (f l) 0
 eliminated_none m p q c l h n f each past none here = elim (cases_lt l c) [
   | inl b ↦
       let z : p * 0 ≡ 0 = omega arith in
-      chained (left_alone m (f l) q (h l) (p * n l) (each l b) none)
-      (chained (multiplied (itself p) here) (of_equal z))
-  | inr b ↦ of_equal (past l b)
+      mod_trans (left_alone m (f l) q (h l) (p * n l) (each l b) none)
+      (mod_trans (mod_mul (mod_refl p) here) (mod_of_eq z))
+  | inr b ↦ mod_of_eq (past l b)
 ]
 
 eliminated_unit : (m p q a b c : ℕ) → Congruent m (a + q * b) (p * c) → Congruent m b 0 → HasInverse m p
     → HasInverse m c → HasInverse m a
 eliminated_unit m p q a b c is none unit own =
-    unit_alike m (p * c) a (turned (left_alone m a q b (p * c) is none)) ((has_both m p c).1 (unit, own))
+    unit_alike m (p * c) a (mod_sym (left_alone m a q b (p * c) is none)) ((has_both m p c).1 (unit, own))
 
 eliminated_leads : (m k c d u v p q : ℕ) (h g n e f t : ℕ → ℕ) → d + k ≡ c + 1 → v < 2 * c → u < v → HasInverse m p
     → ((l : ℕ) → l < c → Congruent m (f l + q * h l) (p * n l))
@@ -235,8 +236,8 @@ eliminated m k c d i u v p q x y h g n e f t lengths room less inverse each_n ea
       solves = λ j l.
           let at_n = with_multiple m c q (x j) f h (λ l. p * n l) each_n in
           let at_e = with_multiple m d q (x j) t g (λ l. p * e l) each_e in
-          let whole_n = chained at_n (of_equal (times c p n (x j))) in
-          let whole_e = chained at_e (of_equal (times d p e (x j))) in
+          let whole_n = mod_trans at_n (mod_of_eq (times c p n (x j))) in
+          let whole_e = mod_trans at_e (mod_of_eq (times d p e (x j))) in
           elim (cases_eq j i) [
             | inl s ↦ subst (λ j. Congruent m (ascending_polynomial c f (x j)) (y j * ascending_polynomial d t (x j))) (sym s)
                 (eliminated_value m p q p q (y i) _ _ _ _ _ _
@@ -247,10 +248,12 @@ eliminated m k c d i u v p q x y h g n e f t lengths room less inverse each_n ea
                 let before : j < i = omega arith in
                 let z : q * 0 ≡ p * 0 = omega arith in
                 eliminated_value m p q 0 0 (y j) _ _ _ _ _ _ whole_n whole_e
-                (chained (of_equal (let w : 0 + y j * ascending_polynomial d g (x j) ≡ y j * ascending_polynomial d g (x j) = omega arith in w))
-                (turned (pivot.solves j before)))
-                (chained (of_equal (let w : 0 + y j * ascending_polynomial d e (x j) ≡ y j * ascending_polynomial d e (x j) = omega arith in w))
-                (turned (own.solves j before))) z
+                (mod_trans (mod_of_eq (let w : 0 + y j * ascending_polynomial d g (x j) ≡ y j * ascending_polynomial d
+                g (x j) = omega arith in w))
+                (mod_sym (pivot.solves j before)))
+                (mod_trans (mod_of_eq (let w : 0 + y j * ascending_polynomial d e (x j) ≡ y j * ascending_polynomial d
+                e (x j) = omega arith in w))
+                (mod_sym (own.solves j before))) z
           ];
       leads = eliminated_leads m k c d u v p q h g n e f t lengths room less inverse each_n each_e past_n past_e
           pivot.leads own.leads;
@@ -260,9 +263,10 @@ eliminated m k c d i u v p q x y h g n e f t lengths room less inverse each_n ea
 pub discrepancy_value : (m y n e value located product d : ℕ) → 0 < m → value ≡ n % m → located ≡ e % m
     → product ≡ (y * located) % m → d ≡ residue m (pos value -ℤ pos product) → Congruent m (d + y * e) n
 discrepancy_value m y n e value located product d positive is_n is_e is_product is =
-    let at_e : Congruent m located e = chained (of_equal is_e) (residue_of e) in
+    let at_e : Congruent m located e = mod_trans (mod_of_eq is_e) (residue_of e) in
     let one = subtracted m y product d value located positive is_product is in
-    chained (added (itself d) (multiplied (itself y) (turned at_e))) (chained one (chained (of_equal is_n) (residue_of n)))
+    mod_trans (mod_add (mod_refl d) (mod_mul (mod_refl y) (mod_sym at_e)))
+    (mod_trans one (mod_trans (mod_of_eq is_n) (residue_of n)))
 
 -- at the point and the symbol that were passed
 pub at_point : (m c d p a b s t : ℕ) (n e : ℕ → ℕ) → s ≡ a → t ≡ b
@@ -281,7 +285,7 @@ kept_pair m k c d i u p x y n e none is pair = record {
     | inl s ↦
         let z : y i * ascending_polynomial d e (x i) ≡ p + y i * ascending_polynomial d e (x i) = omega (arith, none) in
         subst (λ j. Congruent m (ascending_polynomial c n (x j)) (y j * ascending_polynomial d e (x j))) (sym s)
-        (turned (chained (of_equal z) is))
+        (mod_sym (mod_trans (mod_of_eq z) is))
     | inr other ↦ pair.solves j (omega arith)
   ];
   leads = pair.leads;
@@ -369,14 +373,14 @@ first_pairs m k c d x y h g n e positive some h_one h_none g_none g_zero n_none 
     let one : HasInverse m (1 % m) = has_one m positive in
     let all : (f : ℕ → ℕ) → f 0 ≡ 0 % m → ((l : ℕ) → 0 < l → f l ≡ 0) → (l : ℕ) → Congruent m (f l) 0 =
     λ f first rest l. elim (cases_eq l 0) [
-      | inl s ↦ chained (of_equal (ap f s ∙ first)) (residue_of 0)
-      | inr other ↦ of_equal (rest l (omega arith))
+      | inl s ↦ mod_trans (mod_of_eq (ap f s ∙ first)) (residue_of 0)
+      | inr other ↦ mod_of_eq (rest l (omega arith))
     ] in
     record {
       first = λ b. record {
         solves = λ j l. absurd (omega arith);
         leads = record {
-          numerator_behind = λ l b. of_equal (h_none l (omega arith));
+          numerator_behind = λ l b. mod_of_eq (h_none l (omega arith));
           locator_behind = λ l b. all g g_none g_zero l;
           unit = inl (0, omega arith, subst (HasInverse m) (sym h_one) one);
         };
@@ -385,7 +389,7 @@ first_pairs m k c d x y h g n e positive some h_one h_none g_none g_zero n_none 
         solves = λ j l. absurd (omega arith);
         leads = record {
           numerator_behind = λ l b. all n n_none n_zero l;
-          locator_behind = λ l b. of_equal (e_none l (omega arith));
+          locator_behind = λ l b. mod_of_eq (e_none l (omega arith));
           unit = inr (0, omega arith, subst (HasInverse m) (sym e_one) one);
         };
       };

@@ -9,7 +9,7 @@ use Rattle.num_modular.specs.Callers.{same_coefficients}
 use Rattle.num_modular.specs.Congruence.{Congruent}
 use Rattle.num_modular.specs.Inverses.{IsInverse, HasInverse}
 use Rattle.num_modular.specs.ProductLaws.{has_both, has_each, has_product}
-use Rattle.num_modular.specs.NumberLaws.{of_equal, itself, residue_of, turned, chained, added, multiplied}
+use Rattle.num_modular.specs.NumberLaws.{mod_of_eq, mod_refl, residue_of, mod_sym, mod_trans, mod_add, mod_mul}
 use Rattle.num_modular.specs.NumberLaws.{sum_below-zero, sum_below-suc, sum_below-congruent}
 use Rattle.num_modular.specs.Polynomials.{ascending_polynomial, HaveUnitDifferences}
 use Rattle.num_modular.specs.PolynomialLaws.{ascending-none, ascending-congruent}
@@ -34,15 +34,15 @@ moved : (m d e : ℕ) (F G : ℕ → ℕ) → d ≡ e → ((X : ℕ) → F X ≡
 moved m d e F G count same p = record {
   coefficient = p.coefficient;
   behind = λ i l. p.behind i (omega (arith, l, count));
-  value = λ X. chained (of_equal (ap (λ n. ascending_polynomial n p.coefficient X) (sym count)))
-      (chained (p.value X) (of_equal (same X)));
+  value = λ X. mod_trans (mod_of_eq (ap (λ n. ascending_polynomial n p.coefficient X) (sym count)))
+      (mod_trans (p.value X) (mod_of_eq (same X)));
 }
 
 constant_one : (m : ℕ) → IsPolynomial m 1 (λ X. 1)
 constant_one m = record {
   coefficient = raised 1 0 (λ i. 0);
   behind = raised_behind 0 1 0 (λ i. 0) (λ i l. refl);
-  value = λ X. of_equal (value_raised 0 1 0 X (λ i. 0) refl
+  value = λ X. mod_of_eq (value_raised 0 1 0 X (λ i. 0) refl
       ∙ (let z = ap (λ v. (X + 0) * v) (ascending-none (λ i. 0) X) in omega (arith, z)));
 }
 
@@ -55,8 +55,8 @@ times_difference m d a F positive p = record {
   value = λ X.
       let e : 0 + (X + (m - 1) * a) * ascending_polynomial d p.coefficient X
       ≡ ascending_polynomial d p.coefficient X * (X + (m - 1) * a) = omega arith in
-      chained (of_equal (value_raised d 0 ((m - 1) * a) X p.coefficient (p.behind d (omega arith)) ∙ e))
-      (multiplied (p.value X) (turned (difference_alike m X a positive)));
+      mod_trans (mod_of_eq (value_raised d 0 ((m - 1) * a) X p.coefficient (p.behind d (omega arith)) ∙ e))
+      (mod_mul (p.value X) (mod_sym (difference_alike m X a positive)));
 }
 
 times_differences : (m b d : ℕ) (a F : ℕ → ℕ) → 0 < m → IsPolynomial m d F
@@ -76,7 +76,7 @@ sum_of : (m k n : ℕ) (v : ℕ → ℕ) (F : ℕ → ℕ → ℕ) → ((i : ℕ
 sum_of m k zero v F each = record {
   coefficient = λ i. 0;
   behind = λ i l. refl;
-  value = λ X. of_equal (no_value k X ∙ sym (sum_below-zero (λ i. v i * F i X)));
+  value = λ X. mod_of_eq (no_value k X ∙ sym (sum_below-zero (λ i. v i * F i X)));
 }
 sum_of m k (suc n) v F each =
     let before = sum_of m k n v F (λ i l. each i (omega arith)) in
@@ -84,9 +84,9 @@ sum_of m k (suc n) v F each =
     record {
       coefficient = λ i. before.coefficient i + v n * last.coefficient i;
       behind = λ i l. let p = before.behind i l in let q = ap (λ w. v n * w) (last.behind i l) in omega (arith, p, q);
-      value = λ X. chained (of_equal (combined k before.coefficient last.coefficient (v n) X))
-          (chained (added (before.value X) (multiplied (itself (v n)) (last.value X)))
-          (of_equal (sym (sum_below-suc n (λ i. v i * F i X)))));
+      value = λ X. mod_trans (mod_of_eq (combined k before.coefficient last.coefficient (v n) X))
+          (mod_trans (mod_add (before.value X) (mod_mul (mod_refl (v n)) (last.value X)))
+          (mod_of_eq (sym (sum_below-suc n (λ i. v i * F i X)))));
     }
 
 product_is : (m k i : ℕ) (x : ℕ → ℕ) → 0 < m → i < k → IsPolynomial m k (product_but m k x i)
@@ -134,9 +134,10 @@ lagrange m k X x w c positive fit inverse =
     let one : Congruent m (p * w l) 1 = record { same = (inverse l b).one } in
     let e : y * w l * p ≡ y * (p * w l) = omega arith in
     let f : y * 1 ≡ y = omega arith in
-    chained (whole.value (x l)) (chained (of_equal (alone ∙ e)) (chained (multiplied (itself y) one) (of_equal f))) in
+    mod_trans (whole.value (x l)) (mod_trans (mod_of_eq (alone ∙ e))
+    (mod_trans (mod_mul (mod_refl y) one) (mod_of_eq f))) in
     let same = same_coefficients m k whole.coefficient c x fit at in
-    chained (turned (whole.value X)) (ascending-congruent k whole.coefficient c X X same (itself X))
+    mod_trans (mod_sym (whole.value X)) (ascending-congruent k whole.coefficient c X X same (mod_refl X))
 
 -- the rows
 pub rows_from : (m k n : ℕ) (x y w rows : ℕ → ℕ) → 0 < m → HaveUnitDifferences m k x
@@ -145,13 +146,13 @@ pub rows_from : (m k n : ℕ) (x y w rows : ℕ → ℕ) → 0 < m → HaveUnitD
     → AreRows m k n x y rows
 rows_from m k n x y w rows positive fit inverse each = record {
   value = λ j c l.
-      chained (sum_below-congruent k (λ i. rows (j * k + i) * ascending_polynomial k c (x i))
+      mod_trans (sum_below-congruent k (λ i. rows (j * k + i) * ascending_polynomial k c (x i))
       (λ i. (ascending_polynomial k c (x i) * w i) * product_but m k x i (y j))
       (λ i b.
       let p : ℕ = product_but m k x i (y j) in
       let v : ℕ = ascending_polynomial k c (x i) in
       let e : p * w i * v ≡ v * w i * p = omega arith in
-      chained (multiplied (each j i l b) (itself v)) (of_equal e)))
+      mod_trans (mod_mul (each j i l b) (mod_refl v)) (mod_of_eq e)))
       (lagrange m k (y j) x w c positive fit inverse);
 }
 
@@ -162,7 +163,7 @@ pub product_of_parts : (m k i p a b : ℕ) (x : ℕ → ℕ)
     → (p * b) % m ≡ product_but m k x i a % m
 unfolding product_but
 product_of_parts m k i p a b x is_p is_b =
-    (multiplied (chained (of_equal is_p) (residue_of _)) (chained (of_equal is_b) (residue_of _))).same
+    (mod_mul (mod_trans (mod_of_eq is_p) (residue_of _)) (mod_trans (mod_of_eq is_b) (residue_of _))).same
 
 -- the points fit exactly where the products at them have inverses
 pub fit_from_all : (m k : ℕ) (x : ℕ → ℕ) → ((i : ℕ) → i < k → HasInverse m (product_but m k x i (x i)))
@@ -196,10 +197,10 @@ all_from_fit m k x positive fit i l =
 pub value_from_row : (m k n j : ℕ) (x y rows symbols c : ℕ → ℕ) → AreRows m k n x y rows → IsEncoding m k k x c symbols
     → j < n → sum_below k (λ i. rows (j * k + i) * symbols i) % m ≡ ascending_polynomial k c (y j) % m
 value_from_row m k n j x y rows symbols c are is l =
-    (chained (sum_below-congruent k (λ i. rows (j * k + i) * symbols i)
+    (mod_trans (sum_below-congruent k (λ i. rows (j * k + i) * symbols i)
     (λ i. rows (j * k + i) * ascending_polynomial k c (x i))
-    (λ i b. multiplied (itself (rows (j * k + i)))
-    (chained (of_equal (is.symbol i b)) (residue_of (ascending_polynomial k c (x i))))))
+    (λ i b. mod_mul (mod_refl (rows (j * k + i)))
+    (mod_trans (mod_of_eq (is.symbol i b)) (residue_of (ascending_polynomial k c (x i))))))
     (are.value j c l)).same
 
 -- any symbols at the known points are of a message

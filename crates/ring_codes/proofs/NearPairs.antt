@@ -8,7 +8,7 @@ use Rattle.std.proofs.Common.{List, [], ◌∷◌, length, get_or, set, All, get
 use Rattle.num_modular.specs.Callers.{same_coefficients, entry, entry_at, held_entry, IsForm, IsCheckedFormOf, HoldBelow}
 use Rattle.num_modular.specs.Congruence.{Congruent}
 use Rattle.num_modular.specs.Inverses.{IsInverse, HasInverse}
-use Rattle.num_modular.specs.NumberLaws.{of_equal, itself, residue_of, turned, chained, added, multiplied}
+use Rattle.num_modular.specs.NumberLaws.{mod_of_eq, mod_refl, residue_of, mod_sym, mod_trans, mod_add, mod_mul}
 use Rattle.num_modular.specs.NumberLaws.{sum_below-zero, sum_below-suc, sum_below-same}
 use Rattle.num_modular.specs.Polynomials.{ascending_polynomial, HaveUnitDifferences}
 use Rattle.num_modular.specs.PolynomialLaws.{ascending-none, ascending-first, ascending-congruent}
@@ -53,13 +53,14 @@ product_value (suc k) d (suc n) X f e some room past =
 
 product_none : (m k d l : ℕ) (f e : ℕ → ℕ) → ((j : ℕ) → Congruent m (e j) 0) → Congruent m (product k f e l) 0
 unfolding product shifted
-product_none m zero d l f e none = itself 0
+product_none m zero d l f e none = mod_refl 0
 product_none m (suc k) d zero f e none =
     let z : 0 + f 0 * 0 ≡ 0 = omega arith in
-    chained (added (itself 0) (multiplied (itself (f 0)) (none 0))) (of_equal z)
+    mod_trans (mod_add (mod_refl 0) (mod_mul (mod_refl (f 0)) (none 0))) (mod_of_eq z)
 product_none m (suc k) d (suc l) f e none =
     let z : 0 + f 0 * 0 ≡ 0 = omega arith in
-    chained (added (product_none m k d l (λ j. f (suc j)) e none) (multiplied (itself (f 0)) (none (suc l)))) (of_equal z)
+    mod_trans (mod_add (product_none m k d l (λ j. f (suc j)) e none) (mod_mul (mod_refl (f 0)) (none (suc l))))
+    (mod_of_eq z)
 
 -- points at rising places fit
 pub rising_fit : (m n k : ℕ) (x place : ℕ → ℕ) → ((i : ℕ) → i < k → place i < n)
@@ -90,10 +91,10 @@ near_numerator m k c d n x y p e sent some lengths fit past solves near =
     (λ i l.
     let X : ℕ = x (s.place i) in
     let symbol : Congruent m (y (s.place i)) (ascending_polynomial k sent X) =
-    chained (of_equal (s.same i l)) (residue_of (ascending_polynomial k sent X)) in
-    chained (solves (s.place i) (s.within i l))
-    (chained (multiplied symbol (itself (ascending_polynomial d e X)))
-    (of_equal (sym (product_value k d c X sent e some (omega arith) past)))))
+    mod_trans (mod_of_eq (s.same i l)) (residue_of (ascending_polynomial k sent X)) in
+    mod_trans (solves (s.place i) (s.within i l))
+    (mod_trans (mod_mul symbol (mod_refl (ascending_polynomial d e X)))
+    (mod_of_eq (sym (product_value k d c X sent e some (omega arith) past)))))
 
 -- .. so its values are
 pub near_value : (m k c d n : ℕ) (x y p e sent : ℕ → ℕ) → 1 ≤ d → d + k ≡ c + 1 → HaveUnitDifferences m n x
@@ -101,9 +102,9 @@ pub near_value : (m k c d n : ℕ) (x y p e sent : ℕ → ℕ) → 1 ≤ d → 
     → distance n y (λ j. ascending_polynomial k sent (x j) % m) + c ≤ n
     → (X : ℕ) → Congruent m (ascending_polynomial c p X) (ascending_polynomial k sent X * ascending_polynomial d e X)
 near_value m k c d n x y p e sent some lengths fit past solves near X =
-    chained (ascending-congruent c p (product k sent e) X X
-    (near_numerator m k c d n x y p e sent some lengths fit past solves near) (itself X))
-    (of_equal (product_value k d c X sent e some (omega arith) past))
+    mod_trans (ascending-congruent c p (product k sent e) X X
+    (near_numerator m k c d n x y p e sent some lengths fit past solves near) (mod_refl X))
+    (mod_of_eq (product_value k d c X sent e some (omega arith) past))
 
 no_lead : (m k c d u : ℕ) (p e : ℕ → ℕ) → d + k ≡ c + 1 → u < 2 * c → ((l : ℕ) → l < c → Congruent m (p l) 0)
     → ((l : ℕ) → l < d → Congruent m (e l) 0) → Leads m k u p e → HasInverse m 0
@@ -123,9 +124,9 @@ enough_units m k c d n u x y p e sent some lengths few room fit past pair near z
     (selected_fit m n d x (λ j. ascending_polynomial d e (x j) % m) (λ j. 0) s fit)
     (λ i l. record { same = s.same i l ∙ sym (ap (λ v. v % m) (no_value d (x (s.place i))) ∙ zero-mod m) }) in
     let none : (l : ℕ) → Congruent m (e l) 0 =
-    λ l. elim (cases_lt l d) [ inl b ↦ none_at l b | inr b ↦ of_equal (past l b) ] in
+    λ l. elim (cases_lt l d) [ inl b ↦ none_at l b | inr b ↦ mod_of_eq (past l b) ] in
     no_lead m k c d u p e lengths room
-    (λ l b. chained (near_numerator m k c d n x y p e sent some lengths fit past pair.solves near l b)
+    (λ l b. mod_trans (near_numerator m k c d n x y p e sent some lengths fit past pair.solves near l b)
     (product_none m k d l sent e none)) (λ l b. none l) pair.leads
 
 -- the quotient by a number with an inverse is the other factor
@@ -137,9 +138,9 @@ quotient_is m n e q w is product =
     let b : q * (e * x) ≡ (e * q) * x = omega arith in
     let c : (w * e) * x ≡ w * (e * x) = omega arith in
     let d : w * 1 ≡ w = omega arith in
-    chained (of_equal a) (chained (multiplied (itself q) (turned one)) (chained (of_equal b)
-    (chained (multiplied (chained is.product product) (itself x)) (chained (of_equal c)
-    (chained (multiplied (itself w) one) (of_equal d))))))
+    mod_trans (mod_of_eq a) (mod_trans (mod_mul (mod_refl q) (mod_sym one)) (mod_trans (mod_of_eq b)
+    (mod_trans (mod_mul (mod_trans is.product product) (mod_refl x)) (mod_trans (mod_of_eq c)
+    (mod_trans (mod_mul (mod_refl w) one) (mod_of_eq d))))))
 
 -- the quotients are the values of a near message
 pub near_quotients : (m k c d n u : ℕ) (x y p e sent chosen values : ℕ → ℕ) → 1 ≤ d → d + k ≡ c + 1
@@ -345,14 +346,14 @@ pub quotient_made : (m n e value x dividend q : ℕ) → value ≡ e % m → IsI
 quotient_made m n e value x dividend q is_e inverse is_n is = record {
   unit = has_of_residue m e value is_e (x, inverse);
   product =
-      let at_e : Congruent m e value = chained (turned (residue_of e)) (of_equal (sym is_e)) in
+      let at_e : Congruent m e value = mod_trans (mod_sym (residue_of e)) (mod_of_eq (sym is_e)) in
       let at_q : Congruent m q (n * x) =
-      chained (of_equal is) (chained (residue_of (dividend * x))
-      (multiplied (chained (of_equal is_n) (residue_of n)) (itself x))) in
+      mod_trans (mod_of_eq is) (mod_trans (residue_of (dividend * x))
+      (mod_mul (mod_trans (mod_of_eq is_n) (residue_of n)) (mod_refl x))) in
       let one : Congruent m (value * x) 1 = record { same = inverse.one } in
       let a : value * (n * x) ≡ n * (value * x) = omega arith in
       let b : n * 1 ≡ n = omega arith in
-      chained (multiplied at_e at_q) (chained (of_equal a) (chained (multiplied (itself n) one) (of_equal b)));
+      mod_trans (mod_mul at_e at_q) (mod_trans (mod_of_eq a) (mod_trans (mod_mul (mod_refl n) one) (mod_of_eq b)));
 }
 
 -- the half of a number, rounded down
@@ -376,5 +377,5 @@ pub same_word : (m k j n : ℕ) (X mine sent word other : ℕ → ℕ) → j ≡
 same_word m k j n X mine sent word other count is_mine is_sent same i l =
     is_mine.symbol i l ∙ ap (λ j. ascending_polynomial j mine (X i) % m) count
     ∙ (ascending-congruent k mine sent (X i) (X i)
-    (λ i b. record { same = ap (λ v. v % m) (same i b) ∙ mod-mod (sent i) m }) (itself (X i))).same
+    (λ i b. record { same = ap (λ v. v % m) (same i b) ∙ mod-mod (sent i) m }) (mod_refl (X i))).same
     ∙ sym (is_sent.symbol i l)

@@ -7,7 +7,7 @@ use Rattle.std.proofs.lemmas.Bool.{cases_eq, cases_lt}
 use Rattle.std.proofs.lemmas.Nat.{mul-mod_first, mul-mod_second}
 use Rattle.num_modular.specs.Congruence.{Congruent}
 use Rattle.num_modular.specs.Inverses.{HasInverse}
-use Rattle.num_modular.specs.NumberLaws.{of_equal, itself, turned, chained, multiplied, cancelled}
+use Rattle.num_modular.specs.NumberLaws.{mod_of_eq, mod_refl, mod_sym, mod_trans, mod_mul, mod_add_cancel}
 use Rattle.num_modular.specs.NumberLaws.{difference_and, sum_below-zero, sum_below-suc}
 use Rattle.num_modular.specs.Polynomials.{ascending_polynomial, HaveUnitDifferences}
 use Rattle.num_modular.specs.PolynomialLaws.{ascending-none, ascending-first}
@@ -92,12 +92,12 @@ difference_alike m X x positive =
     let t = turned_sign m x positive in
     let e : X + (m - 1) * x + x ≡ X + m * x = omega (arith, t) in
     let whole : Congruent m (X + (m - 1) * x + x) X =
-    chained (of_equal e) (record { same = add-mul-mod_self_left X m x }) in
-    cancelled x (chained (record { same = difference_and m X x positive }) (turned whole))
+    mod_trans (mod_of_eq e) (record { same = add-mul-mod_self_left X m x }) in
+    mod_add_cancel x (mod_trans (record { same = difference_and m X x positive }) (mod_sym whole))
 
 pub unit_alike : (m a b : ℕ) → Congruent m a b → HasInverse m a → HasInverse m b
 unit_alike m a b e h =
-    (h.0, record { below = h.1.below; one = (multiplied (turned e) (itself h.0)).same ∙ h.1.one })
+    (h.0, record { below = h.1.below; one = (mod_mul (mod_sym e) (mod_refl h.0)).same ∙ h.1.one })
 
 unit_not_zero : (m a : ℕ) → 2 ≤ m → HasInverse m a → a % m ≢ 0
 unit_not_zero m a two h z =

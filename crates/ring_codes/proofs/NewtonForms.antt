@@ -8,7 +8,8 @@ use Rattle.std.proofs.lemmas.Int.{ints}
 use Rattle.std.proofs.lemmas.Nat.{mul-mod_first, mul-mod_second}
 use Rattle.num_modular.specs.Congruence.{Congruent}
 use Rattle.num_modular.specs.Inverses.{IsInverse, HasInverse, IsInversion}
-use Rattle.num_modular.specs.NumberLaws.{of_equal, itself, residue_of, turned, chained, added, multiplied, cancelled}
+use Rattle.num_modular.specs.NumberLaws.{mod_of_eq, mod_refl, residue_of, mod_sym, mod_trans, mod_add, mod_mul}
+use Rattle.num_modular.specs.NumberLaws.{mod_add_cancel}
 use Rattle.num_modular.specs.NumberLaws.{difference_and, sum_below-zero, sum_below-suc}
 use Rattle.num_modular.specs.Polynomials.{ascending_polynomial, HaveUnitDifferences}
 use Rattle.num_modular.specs.PolynomialLaws.{ascending-none, ascending-first, ascending-same}
@@ -97,13 +98,13 @@ divided m known f rest y d w c is_known is_rest inverse is =
     let split : d * (rest * w) ≡ rest * (d * w) = omega arith in
     let times_one : rest * 1 ≡ rest = omega arith in
     let product : Congruent m (d * c) rest =
-    chained (multiplied (itself d) (chained (of_equal is) (residue_of (rest * w))))
-    (chained (of_equal split) (chained (multiplied (itself rest) one) (of_equal times_one))) in
-    let form : Congruent m f known = chained (turned (residue_of f)) (of_equal (sym is_known)) in
+    mod_trans (mod_mul (mod_refl d) (mod_trans (mod_of_eq is) (residue_of (rest * w))))
+    (mod_trans (mod_of_eq split) (mod_trans (mod_mul (mod_refl rest) one) (mod_of_eq times_one))) in
+    let form : Congruent m f known = mod_trans (mod_sym (residue_of f)) (mod_of_eq (sym is_known)) in
     let swap : known + rest ≡ rest + known = omega arith in
     let sum : (rest + known) % m ≡ y % m =
     ap (λ v. (v + known) % m) is_rest ∙ difference_and m y known positive in
-    (chained (added form product) (chained (of_equal swap) (record { same = sum }))).same
+    (mod_trans (mod_add form product) (mod_trans (mod_of_eq swap) (record { same = sum }))).same
 
 one_divided_at : (m i : ℕ) (c d x y : ℕ → ℕ) (known rest w : ℕ)
     → ((l : ℕ) → l < i → newton_form m i c x (x l) % m ≡ y l) → ((l : ℕ) → l < i → d l ≡ c l)
@@ -143,7 +144,7 @@ taken m zero a X e s each =
     let p = sum_below-zero (λ i. e i * X ^ i) in
     let q = ap (λ v. a * v) (sum_below-zero (λ i. s (suc i) * X ^ i)) in
     let r = sum_below-zero (λ i. s i * X ^ i) in
-    of_equal (omega (arith, p, q, r))
+    mod_of_eq (omega (arith, p, q, r))
 taken m (suc n) a X e s each =
     let i = taken m n a X e s (λ l k. each l (omega arith)) in
     let p = sum_below-suc n (λ i. e i * X ^ i) in
@@ -152,7 +153,8 @@ taken m (suc n) a X e s each =
     let split : ascending_polynomial (suc n) e X + a * ascending_polynomial (suc n) (λ l. s (suc l)) X
     ≡ (ascending_polynomial n e X + a * ascending_polynomial n (λ l. s (suc l)) X) + (e n + a * s (suc n)) * X ^ n =
     omega (arith, p, q) in
-    chained (of_equal split) (chained (added i (multiplied (each n (omega arith)) (itself (X ^ n)))) (of_equal (sym r)))
+    mod_trans (mod_of_eq split) (mod_trans (mod_add i (mod_mul (each n (omega arith)) (mod_refl (X ^ n))))
+    (mod_of_eq (sym r)))
 
 pub one_expanded : (m n a X : ℕ) (e s : ℕ → ℕ) → 0 < m
     → ((l : ℕ) → l < n → Congruent m (e l + a * s (suc l)) (s l)) → e n ≡ s n
@@ -167,11 +169,12 @@ one_expanded m n a X e s positive each last =
     let split : ascending_polynomial (suc n) e X + a * q ≡ (ascending_polynomial n e X + a * q) + s n * X ^ n =
     omega (arith, p, top) in
     let whole : Congruent m (ascending_polynomial (suc n) e X + a * q) (s 0 + X * q) =
-    chained (of_equal split) (chained (added (taken m n a X e s each) (itself (s n * X ^ n)))
-    (of_equal (sym r ∙ ascending-first n s X))) in
+    mod_trans (mod_of_eq split) (mod_trans (mod_add (taken m n a X e s each) (mod_refl (s n * X ^ n)))
+    (mod_of_eq (sym r ∙ ascending-first n s X))) in
     let is : Congruent m (u + a) X = record { same = difference_and m X a positive } in
     let apart : s 0 + (u + a) * q ≡ (s 0 + u * q) + a * q = omega arith in
-    cancelled (a * q) (chained whole (chained (added (itself (s 0)) (multiplied (turned is) (itself q))) (of_equal apart)))
+    mod_add_cancel (a * q) (mod_trans whole (mod_trans (mod_add (mod_refl (s 0)) (mod_mul (mod_sym is) (mod_refl q)))
+    (mod_of_eq apart)))
 
 -- a number and its residue have the same inverses
 to_residue : (m a x : ℕ) → IsInverse m a x → IsInverse m (a % m) x
@@ -195,7 +198,7 @@ turned_difference m a b h =
     let sum_is : (u + v) + (a + b) ≡ (u + b) + (v + a) = omega arith in
     let none_is : a + b ≡ 0 + (a + b) = omega arith in
     let none : Congruent m (u + v) 0 =
-    cancelled (a + b) (chained (of_equal sum_is) (chained (added at_u at_v) (of_equal none_is))) in
+    mod_add_cancel (a + b) (mod_trans (mod_of_eq sum_is) (mod_trans (mod_add at_u at_v) (mod_of_eq none_is))) in
     let whole : v * y + v * x ≡ v * m + 0 =
     (let e : v * y + v * x ≡ v * (y + x) = omega arith in
     let f : y + x ≡ m = omega arith in
@@ -206,10 +209,10 @@ turned_difference m a b h =
     let zero_times : 0 * x ≡ 0 = omega arith in
     let apart : (u + v) * x ≡ u * x + v * x = omega arith in
     let other : Congruent m 0 (1 + v * x) =
-    chained (of_equal (sym zero_times)) (chained (multiplied (turned none) (itself x))
-    (chained (of_equal apart) (added one (itself (v * x))))) in
+    mod_trans (mod_of_eq (sym zero_times)) (mod_trans (mod_mul (mod_sym none) (mod_refl x))
+    (mod_trans (mod_of_eq apart) (mod_add one (mod_refl (v * x))))) in
     let product : Congruent m (v * y) 1 =
-    cancelled (v * x) (chained (of_equal whole) (chained multiple other)) in (
+    mod_add_cancel (v * x) (mod_trans (mod_of_eq whole) (mod_trans multiple other)) in (
       y % m,
       record {
         below = mod-lt y positive;
@@ -250,9 +253,9 @@ value_more m n k c a value product sum l is_value is_product is =
     (λ i b. ap c (let t : n - (k + 1) + suc i ≡ n - k + i = omega arith in t))) in
     let whole : c (n - 1 - k) + v * a ≡ ascending_polynomial (suc k) (λ i. c (n - (k + 1) + i)) a = omega (arith, e, f, g) in
     let product_is : Congruent m product (v * a) =
-    chained (of_equal is_product) (chained (residue_of (value * a))
-    (multiplied (chained (of_equal is_value) (residue_of v)) (itself a))) in
-    is ∙ (added (itself (c (n - 1 - k))) product_is).same ∙ ap (λ w. w % m) whole
+    mod_trans (mod_of_eq is_product) (mod_trans (residue_of (value * a))
+    (mod_mul (mod_trans (mod_of_eq is_value) (residue_of v)) (mod_refl a))) in
+    is ∙ (mod_add (mod_refl (c (n - 1 - k))) product_is).same ∙ ap (λ w. w % m) whole
     ∙ ap (λ j. ascending_polynomial j (λ i. c (n - (k + 1) + i)) a % m) (let t : suc k ≡ k + 1 = omega arith in t)
 
 pub value_none : (m a value : ℕ) (c : ℕ → ℕ) → value ≡ 0 % m → value ≡ ascending_polynomial 0 c a % m
@@ -279,9 +282,9 @@ form_before m n k c x a value d product sum l is_value is_difference is_product 
     at_zero ∙ ap (λ w. c (n - 1 - k) + minus m a (x (n - 1 - k)) * w) f
     ∙ ap (λ w. c (n - 1 - k) + w * v) (sym is_difference) in
     let product_is : Congruent m product (d * v) =
-    chained (of_equal is_product) (chained (residue_of (d * value))
-    (multiplied (itself d) (chained (of_equal is_value) (residue_of v)))) in
-    is ∙ (added (itself (c (n - 1 - k))) product_is).same ∙ ap (λ w. w % m) (sym whole)
+    mod_trans (mod_of_eq is_product) (mod_trans (residue_of (d * value))
+    (mod_mul (mod_refl d) (mod_trans (mod_of_eq is_value) (residue_of v)))) in
+    is ∙ (mod_add (mod_refl (c (n - 1 - k))) product_is).same ∙ ap (λ w. w % m) (sym whole)
     ∙ ap (λ j. newton_form m j (λ i. c (n - (k + 1) + i)) (λ i. x (n - (k + 1) + i)) a % m)
     (let t : suc k ≡ k + 1 = omega arith in t)
 
@@ -310,22 +313,22 @@ expanded_more m n k c e f x positive l before kept done last a =
     let shift : (i : ℕ) → from + suc i ≡ n - k + i = λ i. omega arith in
     let each : (i : ℕ) → i < k → Congruent m (f (from + i) + x (n - 1 - k) * e (from + suc i)) (e (from + i)) =
     λ i b. let t : from + i + 1 ≡ from + suc i = omega arith in
-    chained (of_equal (ap (λ w. f (from + i) + x (n - 1 - k) * e w) (sym t)))
+    mod_trans (mod_of_eq (ap (λ w. f (from + i) + x (n - 1 - k) * e w) (sym t)))
     (done (from + i) (omega arith) (omega arith)) in
     let q : ℕ = ascending_polynomial k (λ i. e (from + suc i)) a in
     let rest : Congruent m q (newton_form m k (λ i. c (from + suc i)) (λ i. x (from + suc i)) a) =
-    chained (of_equal (ascending-same k (λ i. e (from + suc i)) (λ i. e (n - k + i)) a (λ i b. ap e (shift i))))
-    (chained (before a)
-    (of_equal (sym (form-same m k (λ i. c (from + suc i)) (λ i. c (n - k + i)) (λ i. x (from + suc i))
+    mod_trans (mod_of_eq (ascending-same k (λ i. e (from + suc i)) (λ i. e (n - k + i)) a (λ i b. ap e (shift i))))
+    (mod_trans (before a)
+    (mod_of_eq (sym (form-same m k (λ i. c (from + suc i)) (λ i. c (n - k + i)) (λ i. x (from + suc i))
     (λ i. x (n - k + i)) a (λ i b. ap c (shift i)) (λ i b. ap x (shift i)))))) in
     let one = one_expanded m k (x (n - 1 - k)) a (λ i. f (from + i)) (λ i. e (from + i)) positive each
     (last (from + k) (omega arith)) in
-    let first : Congruent m (e (from + 0)) (c (from + 0)) = of_equal (kept (from + 0) (omega arith)) in
+    let first : Congruent m (e (from + 0)) (c (from + 0)) = mod_of_eq (kept (from + 0) (omega arith)) in
     let next : suc k ≡ k + 1 = omega arith in
-    chained (of_equal (ap (λ j. ascending_polynomial j (λ i. f (from + i)) a) (sym next)))
-    (chained one
-    (chained (added first (multiplied (of_equal (ap (λ w. minus m a (x w)) here)) rest))
-    (of_equal (sym (form-first m k (λ i. c (from + i)) (λ i. x (from + i)) a)
+    mod_trans (mod_of_eq (ap (λ j. ascending_polynomial j (λ i. f (from + i)) a) (sym next)))
+    (mod_trans one
+    (mod_trans (mod_add first (mod_mul (mod_of_eq (ap (λ w. minus m a (x w)) here)) rest))
+    (mod_of_eq (sym (form-first m k (λ i. c (from + i)) (λ i. x (from + i)) a)
     ∙ ap (λ j. newton_form m j (λ i. c (from + i)) (λ i. x (from + i)) a) next))))
 
 pub expanded_all : (m n k : ℕ) (c e x : ℕ → ℕ) → k ≡ n
@@ -333,16 +336,17 @@ pub expanded_all : (m n k : ℕ) (c e x : ℕ → ℕ) → k ≡ n
     (newton_form m k (λ i. c (n - k + i)) (λ i. x (n - k + i)) a))
     → (a : ℕ) → Congruent m (ascending_polynomial n e a) (newton_form m n c x a)
 expanded_all m n k c e x is same a =
-    chained (of_equal (sym (ap (λ k. ascending_polynomial k (λ i. e (n - k + i)) a) is ∙ value_all n a e)))
-    (chained (same a)
-    (of_equal (ap (λ k. newton_form m k (λ i. c (n - k + i)) (λ i. x (n - k + i)) a) is ∙ form_all m n a c x)))
+    mod_trans (mod_of_eq (sym (ap (λ k. ascending_polynomial k (λ i. e (n - k + i)) a) is ∙ value_all n a e)))
+    (mod_trans (same a)
+    (mod_of_eq (ap (λ k. newton_form m k (λ i. c (n - k + i)) (λ i. x (n - k + i)) a) is ∙ form_all m n a c x)))
 
 -- the difference of a value and a multiple of the next one
 pub subtracted : (m a product new o next : ℕ) → 0 < m → product ≡ (a * next) % m
     → new ≡ residue m (pos o -ℤ pos product) → Congruent m (new + a * next) o
 subtracted m a product new o next positive is_product is =
-    let product_is : Congruent m (a * next) product = chained (turned (residue_of (a * next))) (of_equal (sym is_product)) in
-    chained (added (of_equal is) product_is) (record { same = difference_and m o product positive })
+    let product_is : Congruent m (a * next) product = mod_trans (mod_sym (residue_of (a * next)))
+    (mod_of_eq (sym is_product)) in
+    mod_trans (mod_add (mod_of_eq is) product_is) (record { same = difference_and m o product positive })
 
 -- an inversion says whether there is an inverse
 pub inversion_tells : {T : Type 0} (value : T → ℕ) (m a : ℕ) (found : Option T) (b : Bool)

@@ -6,7 +6,8 @@ use Rattle.std.proofs.lemmas.Nat.{pow-add}
 use Rattle.std.proofs.lemmas.Bool.{cases_lt, cases_eq}
 use Rattle.num_modular.specs.Congruence.{Congruent}
 use Rattle.num_modular.specs.Inverses.{HasInverse}
-use Rattle.num_modular.specs.NumberLaws.{of_equal, itself, residue_of, turned, chained, added, multiplied, powered, cancelled}
+use Rattle.num_modular.specs.NumberLaws.{mod_of_eq, mod_refl, residue_of, mod_sym, mod_trans, mod_add, mod_mul, mod_pow}
+use Rattle.num_modular.specs.NumberLaws.{mod_add_cancel}
 use Rattle.num_modular.specs.NumberLaws.{difference_and, sum_below-congruent, pow-mul, one-pow}
 use Rattle.num_modular.specs.Polynomials.{ascending_polynomial, HaveUnitDifferences}
 use Rattle.num_modular.specs.ProductLaws.{has_both}
@@ -24,12 +25,12 @@ divides_power : (m a h n : ℕ) → Congruent m (a + 1) h → (q : ℕ) × Congr
 divides_power m a h zero is =
     let z = pow-zero h in
     let e : a * 0 + 1 ≡ h ^ 0 = omega (arith, z) in
-    (0, of_equal e)
+    (0, mod_of_eq e)
 divides_power m a h (suc n) is =
     let before = divides_power m a h n is in
     let q : ℕ = before.0 in
     let e : a * (a * q + q + 1) + 1 ≡ (a * q + 1) * (a + 1) = omega arith in
-    (a * q + q + 1, chained (of_equal e) (chained (multiplied before.1 is) (of_equal (sym (pow-suc h n)))))
+    (a * q + q + 1, mod_trans (mod_of_eq e) (mod_trans (mod_mul before.1 is) (mod_of_eq (sym (pow-suc h n)))))
 
 -- modulo an odd number 2 has an inverse, and so has what divides -2
 two_divided : (m a q : ℕ) → m % 2 ≡ 1 → Congruent m (a * q + 2) 0 → HasInverse m a
@@ -40,18 +41,19 @@ two_divided m a q odd none =
     let e : a * (q * half) + 2 * half ≡ (a * q + 2) * half = omega arith in
     let z : 0 * half ≡ 0 = omega arith in
     let sum : Congruent m (a * (q * half) + 2 * half) 0 =
-    chained (of_equal e) (chained (multiplied none (itself half)) (of_equal z)) in
+    mod_trans (mod_of_eq e) (mod_trans (mod_mul none (mod_refl half)) (mod_of_eq z)) in
     let more : a * (q * half) + 2 * half + 1 ≡ a * (q * half) + m = omega (arith, whole) in
     let round : Congruent m (a * (q * half) + m) (a * (q * half)) =
     (let f : a * (q * half) + m ≡ a * (q * half) + m * 1 = omega arith in
-    chained (of_equal f) (record { same = add-mul-mod_self_left (a * (q * half)) m 1 })) in
+    mod_trans (mod_of_eq f) (record { same = add-mul-mod_self_left (a * (q * half)) m 1 })) in
     let one_is : 0 + 1 ≡ 1 = omega arith in
     let product : Congruent m (a * (q * half)) 1 =
-    chained (turned round) (chained (of_equal (sym more)) (chained (added sum (itself 1)) (of_equal one_is))) in (
+    mod_trans (mod_sym round) (mod_trans (mod_of_eq (sym more))
+    (mod_trans (mod_add sum (mod_refl 1)) (mod_of_eq one_is))) in (
       (q * half) % m,
       record {
         below = mod-lt (q * half) positive;
-        one = (chained (multiplied (itself a) (residue_of (q * half))) product).same;
+        one = (mod_trans (mod_mul (mod_refl a) (residue_of (q * half))) product).same;
       },
     )
 
@@ -59,8 +61,8 @@ square_of : (m x : ℕ) → Congruent m (x + 1) 0 → Congruent m (x * x) 1
 square_of m x is =
     let e : x * x + (x + 1) ≡ (x + 1) * x + 1 = omega arith in
     let z : 0 * x + 1 ≡ 1 + 0 = omega arith in
-    cancelled (x + 1) (chained (of_equal e) (chained (added (multiplied is (itself x)) (itself 1))
-    (chained (of_equal z) (added (itself 1) (turned is)))))
+    mod_add_cancel (x + 1) (mod_trans (mod_of_eq e) (mod_trans (mod_add (mod_mul is (mod_refl x)) (mod_refl 1))
+    (mod_trans (mod_of_eq z) (mod_add (mod_refl 1) (mod_sym is)))))
 
 -- an odd power of -1 is -1
 odd_power : (m x d : ℕ) → Congruent m (x + 1) 0 → d % 2 ≡ 1 → Congruent m (x ^ d + 1) 0
@@ -70,12 +72,12 @@ odd_power m x d is odd =
     let square : x ^ 2 ≡ x * x = (let s = pow-suc x 1 in let t = pow-suc x 0 in let z = pow-zero x in
     let u = ap (λ v. v * x) t in let w = ap (λ v. v * x * x) z in omega (arith, s, u, w)) in
     let even : Congruent m (x ^ (2 * h)) 1 =
-    chained (of_equal (pow-mul x 2 h ∙ ap (λ v. v ^ h) square))
-    (chained (powered h (square_of m x is)) (of_equal (one-pow h))) in
+    mod_trans (mod_of_eq (pow-mul x 2 h ∙ ap (λ v. v ^ h) square))
+    (mod_trans (mod_pow h (square_of m x is)) (mod_of_eq (one-pow h))) in
     let power : x ^ d ≡ x ^ (2 * h) * x = ap (λ v. x ^ v) whole ∙ pow-suc x (2 * h) in
     let e : 1 * x + 1 ≡ x + 1 = omega arith in
-    chained (of_equal (ap (λ v. v + 1) power))
-    (chained (added (multiplied even (itself x)) (itself 1)) (chained (of_equal e) is))
+    mod_trans (mod_of_eq (ap (λ v. v + 1) power))
+    (mod_trans (mod_add (mod_mul even (mod_refl x)) (mod_refl 1)) (mod_trans (mod_of_eq e) is))
 
 -- g^d less 1, where g^(2^y) is -1: for odd d, and for each d
 odd_less_one : (m y g d a : ℕ) → m % 2 ≡ 1 → Congruent m (g ^ (2 ^ y) + 1) 0 → d % 2 ≡ 1
@@ -87,8 +89,8 @@ odd_less_one m y g d a odd is d_odd a_is =
     let power : (g ^ d) ^ (2 ^ y) ≡ (g ^ (2 ^ y)) ^ d =
     sym (pow-mul g d (2 ^ y)) ∙ ap (λ v. g ^ v) swap ∙ pow-mul g (2 ^ y) d in
     let e : a * q + 2 ≡ a * q + 1 + 1 = omega arith in
-    two_divided m a q odd (chained (of_equal e) (chained (added found.1 (itself 1))
-    (chained (of_equal (ap (λ v. v + 1) power)) (odd_power m (g ^ (2 ^ y)) d is d_odd))))
+    two_divided m a q odd (mod_trans (mod_of_eq e) (mod_trans (mod_add found.1 (mod_refl 1))
+    (mod_trans (mod_of_eq (ap (λ v. v + 1) power)) (odd_power m (g ^ (2 ^ y)) d is d_odd))))
 
 power_less_one : (m y g d a : ℕ) → m % 2 ≡ 1 → Congruent m (g ^ (2 ^ y) + 1) 0 → 0 < d → d < 2 ^ suc y
     → Congruent m (a + 1) (g ^ d) → HasInverse m a
@@ -104,9 +106,9 @@ power_less_one m (suc y) g d a odd is some few a_is = elim (cases_eq (d % 2) 1) 
       let power : (g ^ 2) ^ (2 ^ y) ≡ g ^ (2 ^ suc y) =
       (let s = pow-suc 2 y in let e : 2 * 2 ^ y ≡ 2 ^ suc y = omega (arith, s) in
       sym (pow-mul g 2 (2 ^ y)) ∙ ap (λ v. g ^ v) e) in
-      power_less_one m y (g ^ 2) h a odd (chained (of_equal (ap (λ v. v + 1) power)) is) (omega (arith, whole, some))
+      power_less_one m y (g ^ 2) h a odd (mod_trans (mod_of_eq (ap (λ v. v + 1) power)) is) (omega (arith, whole, some))
       (omega (arith, whole, few, more))
-      (chained a_is (of_equal (ap (λ v. g ^ v) (sym whole) ∙ pow-mul g 2 h)))
+      (mod_trans a_is (mod_of_eq (ap (λ v. g ^ v) (sym whole) ∙ pow-mul g 2 h)))
 ]
 
 -- the same for powers below n, where g suits n
@@ -124,7 +126,7 @@ below_order m g n d a (suc y) odd suits whole some few is =
 -- g and its powers have inverses
 own_inverse : (m x : ℕ) → 0 < m → Congruent m (x * x) 1 → HasInverse m x
 own_inverse m x positive is =
-    (x % m, record { below = mod-lt x positive; one = (chained (multiplied (itself x) (residue_of x)) is).same })
+    (x % m, record { below = mod-lt x positive; one = (mod_trans (mod_mul (mod_refl x) (residue_of x)) is).same })
 
 root_unit : (m g n : ℕ) → 0 < m → 1 < n → Suits m g n → HasInverse m g
 root_unit m g n positive more suits =
@@ -138,7 +140,7 @@ root_unit m g n positive more suits =
 power_unit : (m g j : ℕ) → 0 < m → HasInverse m g → HasInverse m (g ^ j)
 power_unit m g zero positive unit =
     let e : g ^ 0 * g ^ 0 ≡ 1 = let z = pow-zero g in ap (λ v. v * v) z in
-    own_inverse m (g ^ 0) positive (of_equal e)
+    own_inverse m (g ^ 0) positive (mod_of_eq e)
 power_unit m g (suc j) positive unit =
     subst (HasInverse m) (sym (pow-suc g j)) ((has_both m (g ^ j) g).1 (power_unit m g j positive unit, unit))
 
@@ -151,16 +153,17 @@ lower_unit m g n i j x odd suits powers before within =
     let a : ℕ = residue m (pos (g ^ d) -ℤ pos 1) in
     let at_a : Congruent m (a + 1) (g ^ d) = record { same = difference_and m (g ^ d) 1 positive } in
     let at_u : Congruent m (u + x j) (x i) = record { same = difference_and m (x i) (x j) positive } in
-    let is_i : Congruent m (x i) (g ^ i) = chained (of_equal (powers.power i within)) (residue_of (g ^ i)) in
-    let is_j : Congruent m (x j) (g ^ j) = chained (of_equal (powers.power j (omega arith))) (residue_of (g ^ j)) in
+    let is_i : Congruent m (x i) (g ^ i) = mod_trans (mod_of_eq (powers.power i within)) (residue_of (g ^ i)) in
+    let is_j : Congruent m (x j) (g ^ j) = mod_trans (mod_of_eq (powers.power j (omega arith))) (residue_of (g ^ j)) in
     let e : g ^ j * a + g ^ j ≡ g ^ j * (a + 1) = omega arith in
     let whole : j + d ≡ i = omega (arith, before) in
     let f : g ^ j * g ^ d ≡ g ^ i = sym (pow-add g j d) ∙ ap (λ v. g ^ v) whole in
     let other : Congruent m (g ^ j * a + g ^ j) (g ^ i) =
-    chained (of_equal e) (chained (multiplied (itself (g ^ j)) at_a) (of_equal f)) in
+    mod_trans (mod_of_eq e) (mod_trans (mod_mul (mod_refl (g ^ j)) at_a) (mod_of_eq f)) in
     let same : Congruent m u (g ^ j * a) =
-    cancelled (g ^ j) (chained (added (itself u) (turned is_j)) (chained at_u (chained is_i (turned other)))) in
-    unit_alike m (g ^ j * a) u (turned same)
+    mod_add_cancel (g ^ j) (mod_trans (mod_add (mod_refl u) (mod_sym is_j))
+    (mod_trans at_u (mod_trans is_i (mod_sym other)))) in
+    unit_alike m (g ^ j * a) u (mod_sym same)
     ((has_both m (g ^ j) a).1 (
       power_unit m g j positive (root_unit m g n positive (omega arith) suits),
       below_order m g n d a suits.power_of_two.0 odd suits suits.power_of_two.1 (omega arith) (omega arith) at_a,
@@ -187,11 +190,11 @@ value_by_transform m g k n j points message x few powers same none within =
     ap (λ v. sum_below v f) whole
     ∙ tail k d f (λ i l b. let z = ap (λ v. v * g ^ (i * j)) (none i l (omega (arith, b, few))) in omega (arith, z)) in
     let point : Congruent m (g ^ j) (points j) =
-    chained (turned (residue_of (g ^ j))) (of_equal (sym (powers.power j within))) in
+    mod_trans (mod_sym (residue_of (g ^ j))) (mod_of_eq (sym (powers.power j within))) in
     let each : (i : ℕ) → i < k → Congruent m (f i) (message i * points j ^ i) =
     λ i l.
     let swap : i * j ≡ j * i = omega arith in
-    multiplied (of_equal (same i l)) (chained (of_equal (ap (λ v. g ^ v) swap ∙ pow-mul g j i)) (powered i point)) in
+    mod_mul (mod_of_eq (same i l)) (mod_trans (mod_of_eq (ap (λ v. g ^ v) swap ∙ pow-mul g j i)) (mod_pow i point)) in
     ap (λ v. v % m) short ∙ (sum_below-congruent k f (λ i. message i * points j ^ i) each).same
 
 pub encoding_by_transform : (m g k n : ℕ) (points message : ℕ → ℕ) → k ≤ n → ArePowers m g n points

@@ -6,7 +6,8 @@ use Rattle.std.proofs.lemmas.Bool.{cases_eq}
 use Rattle.num_modular.specs.Callers.{same_coefficients}
 use Rattle.num_modular.specs.Congruence.{Congruent}
 use Rattle.num_modular.specs.Inverses.{IsInverse, HasInverse}
-use Rattle.num_modular.specs.NumberLaws.{of_equal, itself, residue_of, turned, chained, added, multiplied, cancelled}
+use Rattle.num_modular.specs.NumberLaws.{mod_of_eq, mod_refl, residue_of, mod_sym, mod_trans, mod_add, mod_mul}
+use Rattle.num_modular.specs.NumberLaws.{mod_add_cancel}
 use Rattle.num_modular.specs.NumberLaws.{sum_below-suc}
 use Rattle.num_modular.specs.Polynomials.{ascending_polynomial, HaveUnitDifferences}
 use Rattle.num_modular.specs.PolynomialLaws.{ascending-first, ascending-congruent}
@@ -62,15 +63,15 @@ divided : (m X r d u H v w : ℕ) → 0 < m → Congruent m d (X + r) → IsInve
     → Congruent m H ((w + (m - 1) * v) * u) → Congruent m (v + (X + r) * H) w
 divided m X r d u H v w positive unit inverse value =
     let one : Congruent m (d * u) 1 = record { same = inverse.one } in
-    let product : Congruent m ((X + r) * H) (d * ((w + (m - 1) * v) * u)) = multiplied (turned unit) value in
+    let product : Congruent m ((X + r) * H) (d * ((w + (m - 1) * v) * u)) = mod_mul (mod_sym unit) value in
     let swap : d * ((w + (m - 1) * v) * u) ≡ (w + (m - 1) * v) * (d * u) = omega arith in
     let reduced : Congruent m ((w + (m - 1) * v) * (d * u)) ((w + (m - 1) * v) * 1) =
-    multiplied (itself (w + (m - 1) * v)) one in
+    mod_mul (mod_refl (w + (m - 1) * v)) one in
     let whole : Congruent m (v + (X + r) * H) (v + (w + (m - 1) * v) * 1) =
-    added (itself v) (chained product (chained (of_equal swap) reduced)) in
+    mod_add (mod_refl v) (mod_trans product (mod_trans (mod_of_eq swap) reduced)) in
     let s = turned_sign m v positive in
     let e : v + (w + (m - 1) * v) * 1 ≡ w + m * v = omega (arith, s) in
-    chained whole (chained (of_equal e) (record { same = add-mul-mod_self_left w m v }))
+    mod_trans whole (mod_trans (mod_of_eq e) (record { same = add-mul-mod_self_left w m v }))
 
 values_raised : (m d : ℕ) (x v u h : ℕ → ℕ) → 0 < m → h d ≡ 0
     → ((i : ℕ) → i < d → IsInverse m (residue m (pos (x (suc i)) -ℤ pos (x 0))) (u i))
@@ -83,11 +84,11 @@ values_raised m d x v u h positive none units values zero l =
     let H : ℕ = ascending_polynomial d h (x 0) in
     let root : Congruent m (x 0 + r) 0 = record { same = at_root m (x 0) positive ∙ sym (zero-mod m) } in
     let gone : v 0 + 0 * H ≡ v 0 = omega arith in
-    chained (of_equal (value_raised d (v 0) r (x 0) h none))
-    (chained (added (itself (v 0)) (multiplied root (itself H))) (of_equal gone))
+    mod_trans (mod_of_eq (value_raised d (v 0) r (x 0) h none))
+    (mod_trans (mod_add (mod_refl (v 0)) (mod_mul root (mod_refl H))) (mod_of_eq gone))
 values_raised m d x v u h positive none units values (suc i) l =
     let r : ℕ = (m - 1) * x 0 in
-    chained (of_equal (value_raised d (v 0) r (x (suc i)) h none))
+    mod_trans (mod_of_eq (value_raised d (v 0) r (x (suc i)) h none))
     (divided m (x (suc i)) r (residue m (pos (x (suc i)) -ℤ pos (x 0))) (u i)
     (ascending_polynomial d h (x (suc i))) (v 0) (v (suc i)) positive
     (difference_alike m (x (suc i)) (x 0) positive) (units i (omega arith)) (values i (omega arith)))
@@ -114,8 +115,8 @@ without_unit m X u a b inverse same =
     λ n.
     let e : X * n * u ≡ n * (X * u) = omega arith in
     let f : n * 1 ≡ n = omega arith in
-    chained (of_equal e) (chained (multiplied (itself n) one) (of_equal f)) in
-    chained (turned (back a)) (chained (multiplied same (itself u)) (back b))
+    mod_trans (mod_of_eq e) (mod_trans (mod_mul (mod_refl n) one) (mod_of_eq f)) in
+    mod_trans (mod_sym (back a)) (mod_trans (mod_mul same (mod_refl u)) (back b))
 
 -- what two such lists have behind the secret has the same values
 same_behind : (m d secret X u share : ℕ) (a b : ℕ → ℕ) → IsInverse m X u → a 0 ≡ secret → b 0 ≡ secret
@@ -131,7 +132,7 @@ same_behind m d secret X u share a b inverse is_a is_b at_a at_b =
     let both : Congruent m (ascending_polynomial (suc d) a X) (ascending_polynomial (suc d) b X) =
     record { same = sym at_a ∙ at_b } in
     without_unit m X u A B inverse
-    (cancelled secret (chained (of_equal left) (chained both (of_equal right))))
+    (mod_add_cancel secret (mod_trans (mod_of_eq left) (mod_trans both (mod_of_eq right))))
 
 same_list : (m d secret : ℕ) (x y a b : ℕ → ℕ) → ((i : ℕ) → i < d → HasInverse m (x i))
     → HaveUnitDifferences m d x → FitsShares m (suc d) secret x y a → FitsShares m (suc d) secret x y b
@@ -155,9 +156,9 @@ fitting m d secret x y small shares each fit =
     let value : (i : ℕ) → i < d → Congruent m (ascending_polynomial (suc d) (λ i. f i % m) (x i)) (y i) =
     λ i l.
     let same : x i ≡ x i + 0 = omega arith in
-    chained (ascending-congruent (suc d) (λ i. f i % m) f (x i) (x i) (λ i l. residue_of (f i)) (itself (x i)))
-    (chained (of_equal (value_raised d secret 0 (x i) g.0 (g.1 d (omega arith))))
-    (divided m (x i) 0 (x i) (u.0 i) (ascending_polynomial d g.0 (x i)) secret (y i) positive (of_equal same)
+    mod_trans (ascending-congruent (suc d) (λ i. f i % m) f (x i) (x i) (λ i l. residue_of (f i)) (mod_refl (x i)))
+    (mod_trans (mod_of_eq (value_raised d secret 0 (x i) g.0 (g.1 d (omega arith))))
+    (divided m (x i) 0 (x i) (u.0 i) (ascending_polynomial d g.0 (x i)) secret (y i) positive (mod_of_eq same)
     (u.1 i l) (g.2 i l))) in
     let first : secret + 0 * g.0 0 ≡ secret = omega arith in (
       (λ i. f i % m),

@@ -2,7 +2,7 @@ use Rattle.std.proofs.Common.{below_more}
 use Rattle.std.proofs.Math.Nat.{mod-mod}
 use Rattle.std.proofs.lemmas.Bool.{false≢true}
 use Rattle.num_modular.specs.Callers.{◌≡◌, ◌%◌, length, entry, entry_read, form_read, ◌∙◌, ap, sym, refl, arith}
-use Rattle.num_modular.specs.NumberLaws.{itself}
+use Rattle.num_modular.specs.NumberLaws.{mod_refl}
 use Rattle.num_modular.specs.Polynomials.{ascending_polynomial}
 use Rattle.num_modular.specs.PolynomialLaws.{ascending-congruent}
 use Rattle.ring_codes.proofs.Symbols.{same_forms, told_same, told_other}
@@ -26,7 +26,7 @@ returns-then-ne-clause-codeword g c =
           let only = c.if-not-interpolate.ensures.only refl other
           (record { symbol = λ i l. encoding.symbol i (omega (arith, l, c.requires.few)) }) in
           let same = ascending-congruent k mine other (x i) (x i)
-          (λ i l. record { same = ap (λ v. v % m) (only i l) ∙ mod-mod (other i) m }) (itself (x i)) in
+          (λ i l. record { same = ap (λ v. v % m) (only i l) ∙ mod-mod (other i) m }) (mod_refl (x i)) in
           absurd (told_other _ _ _ c.ne.ensures c.if-ne.true
           (g.met.T.RingWord.equal c.evaluate-symbol.result c.index-word-i.result)
           (same_forms ring.form ring.value m _ _ c.evaluate-symbol.ensures.checked is

@@ -2,7 +2,7 @@ use Rattle.std.proofs.lemmas.Bool.{false≢true}
 use Rattle.std.proofs.Common.{slice_index}
 use Rattle.std.proofs.Math.Nat.{mod-mod}
 use Rattle.num_modular.specs.Callers.{◌≡◌, ◌%◌, length, entry, ◌∙◌, ap, sym, refl, subst, arith}
-use Rattle.num_modular.specs.NumberLaws.{itself}
+use Rattle.num_modular.specs.NumberLaws.{mod_refl}
 use Rattle.num_modular.specs.PolynomialLaws.{ascending-congruent}
 use Rattle.ring_codes.specs.Erasure.{IsEncoding}
 use Rattle.num_modular.specs.Callers.{◌≤◌}
@@ -52,7 +52,7 @@ returns-in-Ok-clause-original g c t original is read i l =
     let a = entry number ring.value m c.args.points.now i in
     let only = c.in-Ok.ensures.original refl is.0 original is.1 read in
     let same = ascending-congruent (length c.args.message.now) (entry number ring.value m c.restore.new.message) is.0 a a
-    (λ j k. record { same = ap (λ v. v % m) (only j k) ∙ mod-mod (is.0 j) m }) (itself a) in
+    (λ j k. record { same = ap (λ v. v % m) (only j k) ∙ mod-mod (is.0 j) m }) (mod_refl a) in
     (returns-in-Ok-clause-encoding g c refl).symbol i l ∙ same.same ∙ sym (is.1.symbol i l)
 
 pub returns-in-Ok-clause-forms : goal.returns-in-Ok-clause-forms

@@ -1,7 +1,7 @@
 use Rattle.std.proofs.Math.Nat.{zero-mod}
 use Rattle.num_modular.specs.Callers.{◌*◌, ◌%◌, ◌∙◌, ap, sym, arith}
 use Rattle.num_modular.specs.Callers.{entry, entry_read, form_read, forms_written, done_none, done_more}
-use Rattle.num_modular.specs.NumberLaws.{of_equal, chained}
+use Rattle.num_modular.specs.NumberLaws.{mod_of_eq, mod_trans}
 use Rattle.ring_codes.proofs.KeyPairs.{shifted_none, shifted_next}
 use Rattle.ring_codes.proofs.NewtonForms.{subtracted}
 use Rattle.ring_codes.proofs.erasure.key_equation.multiply_by_root.Goals as goal
@@ -26,9 +26,9 @@ coefficients-preserved g c =
     let a = ring.value m (number c.args.point.now) in
     let here = entry_read number ring.value m list i _ (omega arith) c.index-coefficients-i.is
     ∙ so_far.2.kept i (omega arith) in
-    let one = chained (subtracted m a (ring.value m (number c.mul-product.result)) _
+    let one = mod_trans (subtracted m a (ring.value m (number c.mul-product.result)) _
     (ring.value m (number c.coefficients.before)) (old i) positive
-    (c.mul-product.ensures.value ∙ ap (λ v. (a * v) % m) here) c.sub.ensures.value) (of_equal so_far.1.same) in (
+    (c.mul-product.ensures.value ∙ ap (λ v. (a * v) % m) here) c.sub.ensures.value) (mod_of_eq so_far.1.same) in (
       forms_written number ring.form ring.value m list i c.sub.result c.sub.ensures.checked so_far.0,
       record {
         checked = form_read number ring.form ring.value m list i _ so_far.0 (omega arith) c.index-coefficients-i.is;

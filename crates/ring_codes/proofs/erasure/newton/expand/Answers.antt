@@ -1,5 +1,5 @@
 use Rattle.num_modular.specs.Callers.{◌≡◌, ◌+◌, ◌-◌, ◌*◌, length, ◌∙◌, ap, sym, refl, arith, entry, entry_read, form_read}
-use Rattle.num_modular.specs.NumberLaws.{of_equal, chained}
+use Rattle.num_modular.specs.NumberLaws.{mod_of_eq, mod_trans}
 use Rattle.num_modular.specs.PolynomialLaws.{ascending-none}
 use Rattle.ring_codes.proofs.NewtonForms.{form-none, expanded_more, expanded_all}
 use borrow.Author.Count.{falls}
@@ -12,7 +12,7 @@ use Rattle.ring_codes.proofs.erasure.newton.expand.Goals as goal
 
 pub points-init : goal.points-init
 points-init g c =
-    (c.requires.form, λ a. of_equal (ascending-none _ a ∙ sym (form-none _ _ _ a)), λ i l. refl)
+    (c.requires.form, λ a. mod_of_eq (ascending-none _ a ∙ sym (form-none _ _ _ a)), λ i l. refl)
 
 pub points-preserved : goal.points-preserved
 points-preserved g c =
@@ -29,7 +29,8 @@ points-preserved g c =
     let done = c.subtract_multiples.ensures in (
       done.checked,
       expanded_more m n k (entry number ring.value m c.args.form.now) e f x positive (omega arith) so_far.1 so_far.2
-          (λ i l b. chained (of_equal (ap (λ v. f i + v * e (i + 1)) (sym point))) (done.done i (omega arith) (omega arith)))
+          (λ i l b. mod_trans (mod_of_eq (ap (λ v. f i + v * e (i + 1)) (sym point)))
+          (done.done i (omega arith) (omega arith)))
           (λ i l. done.last i (omega arith)),
       λ i l. done.before i (omega arith) ∙ so_far.2 i (omega arith),
     )

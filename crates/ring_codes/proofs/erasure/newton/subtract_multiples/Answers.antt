@@ -3,7 +3,7 @@ use Rattle.std.proofs.lemmas.Bool.{cases_eq}
 use Rattle.num_modular.specs.Callers.{◌≡◌, ◌≢◌, ℕ, ◌+◌, ◌-◌, ◌*◌, ◌%◌, ◌∙◌, ap, sym, inl, inr, arith, subst, refl}
 use Rattle.num_modular.specs.Callers.{entry, entry_at, entry_written, entry_kept, forms_written}
 use Rattle.num_modular.specs.Congruence.{Congruent}
-use Rattle.num_modular.specs.NumberLaws.{of_equal, chained}
+use Rattle.num_modular.specs.NumberLaws.{mod_of_eq, mod_trans}
 use Rattle.num_modular.specs.Residues.{residue}
 use Rattle.ring_codes.proofs.NewtonForms.{subtracted}
 use borrow.Author.Rules.{scaled_Fits}
@@ -35,7 +35,7 @@ places-preserved g c =
       λ k l b. elim (cases_eq k before) [
         | inl e ↦ subst (λ j. Congruent m (entry number ring.value m new j + a * old (j + 1)) (old j)) (sym e) one
         | inr other ↦
-            chained (of_equal (ap (λ v. v + a * old (k + 1)) (kept k other))) (so_far.1 k l (omega arith))
+            mod_trans (mod_of_eq (ap (λ v. v + a * old (k + 1)) (kept k other))) (so_far.1 k l (omega arith))
       ],
       λ k l. kept k (omega arith) ∙ so_far.2 k l,
       λ k l. kept k (omega arith) ∙ so_far.3 k (omega arith),

@@ -1,7 +1,7 @@
 use Rattle.num_modular.specs.Callers.{ℕ, ◌+◌, ◌*◌, ◌%◌, ◌<◌, ◌∙◌, ap, sym, arith, length}
 use Rattle.num_modular.specs.Callers.{entry, entry_read}
 use Rattle.std.proofs.Common.{add-one}
-use Rattle.num_modular.specs.NumberLaws.{of_equal, chained, residue_of, added, sum_below-zero, sum_below-suc}
+use Rattle.num_modular.specs.NumberLaws.{mod_of_eq, mod_trans, residue_of, mod_add, sum_below-zero, sum_below-suc}
 use Rattle.num_modular.specs.Sums.{sum_below}
 use Rattle.ring_codes.proofs.erasure.prepared.row_value.Goals as goal
 
@@ -26,7 +26,7 @@ factors-preserved g c =
     record {
       checked = c.add-sum.ensures.checked;
       same = c.add-sum.ensures.value
-          ∙ (added (chained (of_equal c.factors.invariant.same) (residue_of (sum_below i f)))
-          (chained (of_equal product) (residue_of (f i)))).same
+          ∙ (mod_add (mod_trans (mod_of_eq c.factors.invariant.same) (residue_of (sum_below i f)))
+          (mod_trans (mod_of_eq product) (residue_of (f i)))).same
           ∙ ap (λ v. v % m) (sym (sum_below-suc i f) ∙ ap (λ j. sum_below j f) (sym (add-one i)));
     }
