@@ -11,7 +11,8 @@ use Rattle.std.proofs.lemmas.List.{set_split, set-get_or, length-take-le, set-ap
 use Rattle.std.proofs.lemmas.List.Concat.{flat_map-cons}
 use Rattle.std.proofs.lemmas.Nat.{mul-pow, mul-mod_second, pow-mod}
 use Rattle.num_modular.specs.Inverses.{HasInverse}
-use Rattle.num_modular.specs.Sums.{sum_below, polynomial}
+use Rattle.num_modular.specs.NumberLaws.{sum_below-first}
+use Rattle.num_modular.specs.Sums.{sum_below, polynomial_highest_first}
 use Rattle.check_digits.specs.Ibans.{IsDigit, IsLetter, AreOfOneKind, FindsEachCharacter, digits_of, iban_digits, iban_number}
 use Rattle.check_digits.proofs.CheckSums.{one_symbol, sum_same}
 
@@ -20,12 +21,7 @@ abbrev pub written : List ℕ → ℕ
 written [] = 0
 written (d ∷ ds) = d * 10 ^ length ds + written ds
 
-sum_first : (n : ℕ) (f : ℕ → ℕ) → sum_below (suc n) f ≡ f 0 + sum_below n (λ i. f (suc i))
-unfolding sum_below
-sum_first zero f = omega arith
-sum_first (suc n) f = let before = sum_first n f in omega (arith, before)
-
-pub written_is : (ds : List ℕ) → written ds ≡ polynomial (length ds) (λ i. get_or ds i 0) 10
+pub written_is : (ds : List ℕ) → written ds ≡ polynomial_highest_first (length ds) (λ i. get_or ds i 0) 10
 unfolding sum_below
 written_is [] = refl
 written_is (d ∷ ds) =
@@ -38,7 +34,7 @@ written_is (d ∷ ds) =
     let same : n - 1 - i ≡ suc n - 1 - suc i = omega (arith, l) in
     ap (λ k. get_or ds i 0 * 10 ^ k) same) in
     ap (λ k. d * 10 ^ k + written ds) top
-    ∙ ap (λ v. d * 10 ^ (suc n - 1 - 0) + v) (written_is ds ∙ rest) ∙ sym (sum_first n f)
+    ∙ ap (λ v. d * 10 ^ (suc n - 1 - 0) + v) (written_is ds ∙ rest) ∙ sym (sum_below-first n f)
 
 pub written_more : (ds es : List ℕ) → written (ds ++ es) ≡ written ds * 10 ^ length es + written es
 written_more [] es = omega arith

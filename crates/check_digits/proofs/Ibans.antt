@@ -5,7 +5,7 @@ use Rattle.std.proofs.Math.Nat.{add-mod}
 use Rattle.std.proofs.lemmas.Bool.{and_parts, eqb-true, leb-true}
 use Rattle.std.proofs.lemmas.List.{get_or-drop}
 use Rattle.std.proofs.lemmas.Nat.{mul-mod_first}
-use Rattle.num_modular.specs.Sums.{sum_below, polynomial}
+use Rattle.num_modular.specs.Sums.{sum_below, polynomial_highest_first}
 use Rattle.std.proofs.Common.{append-nil, length-drop, ◌≤◌, ◌⊎◌, ⊎_elim, ◌++◌, ◌/◌, take, subst, false, nat_le, if◌then◌else◌}
 use Rattle.std.specs.List.{All, flat_map}
 use Rattle.std.proofs.lemmas.List.{ext_get_or, get_or-take, length-take-le, take_all, take_more}
@@ -30,7 +30,7 @@ sums_alike m (suc n) f g h =
 -- with the powers of ten as weights, the sum of digits is congruent to the number that they form
 pub number_of_sum : (m : ℕ) (weights digits : List ℕ)
     → ((i : ℕ) → i < length digits → get_or weights i 0 ≡ 10 ^ (length digits - 1 - i) % m)
-    → weighted_sum weights digits % m ≡ polynomial (length digits) (λ i. get_or digits i 0) 10 % m
+    → weighted_sum weights digits % m ≡ polynomial_highest_first (length digits) (λ i. get_or digits i 0) 10 % m
 number_of_sum m weights digits powers =
     let n = length digits in
     sums_alike m n (λ i. get_or weights i 0 * get_or digits i 0) (λ i. get_or digits i 0 * 10 ^ (n - 1 - i))
@@ -94,7 +94,7 @@ number_leaves code text word n is digits count =
     ap (λ k. weighted_sum k.weights word % 97) is
     ∙ number_of_sum 97 (from_right n (λ j. 10 ^ j % 97)) word
     (λ i h. get_or-from_right n (λ j. 10 ^ j % 97) i (omega (arith, h, count)) ∙ ap (λ k. 10 ^ (k - 1 - i) % 97) (sym count))
-    ∙ ap (λ ds. polynomial (length ds) (λ i. get_or ds i 0) 10 % 97) digits
+    ∙ ap (λ ds. polynomial_highest_first (length ds) (λ i. get_or ds i 0) 10 % 97) digits
 
 -- the digits of a text are a word of the code of its number of digits, exactly where they form a number that is
 -- 1 modulo 97

@@ -3,7 +3,7 @@ use Rattle.std.specs.Prelude.{◌≡◌, ◌≢◌, ◌↔◌, ℕ, suc, ◌<◌
 use Rattle.std.specs.Prelude.{if◌then◌else◌, nat_le, nat_eq}
 use Rattle.std.specs.Prelude.{List, All, [], ◌∷◌, ◌++◌, length, slice_index, take, drop}
 use Rattle.std.specs.List.{flat_map}
-use Rattle.num_modular.specs.Sums.{polynomial}
+use Rattle.num_modular.specs.Sums.{polynomial_highest_first}
 use Rattle.check_digits.specs.Codes.{exchanged}
 
 -- a digit 0 to 9, by its number in ASCII
@@ -32,7 +32,7 @@ iban_digits text = flat_map digits_of (drop 4 text ++ take 4 text)
 
 -- the number that these digits form in decimal
 abbrev pub iban_number : List ℕ → ℕ
-iban_number text = polynomial (length (iban_digits text)) (slice_index (iban_digits text)) 10
+iban_number text = polynomial_highest_first (length (iban_digits text)) (slice_index (iban_digits text)) 10
 
 -- the number that the two check digits form
 abbrev pub check_number : List ℕ → ℕ

@@ -1,7 +1,7 @@
 //! A polynomial hash of bytes.
 
 ghost use Rattle.std.specs.Prelude.{◌≡◌, ◌%◌, length, slice_index};
-ghost use Rattle.num_modular.specs.Sums.{polynomial};
+ghost use Rattle.num_modular.specs.Sums.{polynomial_highest_first};
 
 use num_modular::laws::range_laws;
 use num_modular::{FixedMersenneInt64, ModularInteger};
@@ -17,7 +17,7 @@ use num_modular::{FixedMersenneInt64, ModularInteger};
 /// assert_eq!(hash(&[1, 2, 3], 1000), 1_002_003);
 /// ```
 pub fn hash(bytes: &[u8], x: u64) -> u64
-    ensures { result ≡ polynomial (length bytes.now) (slice_index bytes.now) x % 2305843009213693951 }
+    ensures { result ≡ polynomial_highest_first (length bytes.now) (slice_index bytes.now) x % 2305843009213693951 }
 {
     range_laws();
     let point = FixedMersenneInt64::<61, 1>::new(x, &2305843009213693951);

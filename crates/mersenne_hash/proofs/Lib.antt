@@ -1,2 +1,1 @@
-mod Collisions
 mod Primality

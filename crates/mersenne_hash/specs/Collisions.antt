@@ -1,11 +1,11 @@
 -- Hashes of texts at several bases (Carter and Wegman, "Universal classes of hash functions", 1979).
-use Rattle.std.specs.Prelude.{◌≡◌, ◌≢◌, ℕ, ◌%◌, ◌<◌, List, length, All}
-use Rattle.num_modular.specs.Hashes.{polynomial_value}
+use Rattle.std.specs.Prelude.{◌≡◌, ◌≢◌, ℕ, ◌%◌, ◌<◌, List, length, slice_index, All}
+use Rattle.num_modular.specs.Sums.{polynomial_highest_first}
 use Rattle.num_modular.specs.Mersenne.{mersenne}
 
 -- the hash of a text at a base: the value of its polynomial there, modulo 2^61 - 1
 abbrev pub hash_of : List ℕ → ℕ → ℕ
-hash_of text base = polynomial_value text base % mersenne 61 1
+hash_of text base = polynomial_highest_first (length text) (slice_index text) base % mersenne 61 1
 
 -- the n bases x 0, .., x (n - 1) are different modulo 2^61 - 1
 pub record AreApart (n : ℕ) (x : ℕ → ℕ) : Type 0 where

@@ -1,43 +1,14 @@
--- Horner's rule, and the values of a window that moves.
+-- The values of a window that moves.
 use Rattle.std.proofs.Common.{◌≡◌, ℕ, suc, ◌+◌, ◌-◌, ◌*◌, ◌%◌, ◌/◌, ◌^◌, ◌<◌, List, [], ◌∷◌, ◌++◌, length, take, drop}
-use Rattle.std.proofs.Common.{get_or, arith, ap, sym, ◌∙◌, refl, length-append, length-drop, add-one, slice_range}
+use Rattle.std.proofs.Common.{get_or, slice_index, slice_range, arith, ap, sym, ◌∙◌, refl, length-append, length-drop}
+use Rattle.std.proofs.Common.{add-one}
 use Rattle.std.proofs.lemmas.List.{take_more, get_or-drop}
 use Rattle.std.proofs.lemmas.Nat.{mul-mod_first}
-use Rattle.std.proofs.Math.Nat.{pow-zero, pow-succ', mod-add-mod, add-mod-mod, mod-mod}
+use Rattle.std.proofs.Math.Nat.{add-mod-mod, mod-mod}
 use Rattle.std.proofs.Math.Nat.{div-add-mod, add-mul-mod_self_left, mod-eq_of_lt}
 use Rattle.std.proofs.Math.Seq.{drop-cons}
-use Rattle.modular_ring.specs.Hashes.{polynomial_value}
-
--- with no coefficient the value is 0
-pub value_none : (x : ℕ) → polynomial_value [] x ≡ 0
-unfolding polynomial_value
-value_none x = refl
-
-first_more : (d c x n p q : ℕ) → p ≡ q * x + c → d * (x * x ^ n) + p ≡ (d * x ^ n + q) * x + c
-first_more d c x n p q e = omega arith
-
--- with one more it is the value so far, times x, and the coefficient
-pub value_more : (cs : List ℕ) (c x : ℕ) → polynomial_value (cs ++ c ∷ []) x ≡ polynomial_value cs x * x + c
-unfolding polynomial_value
-value_more [] c x = let e : c * x ^ 0 ≡ c * 1 = ap (λ k. c * k) (pow-zero x) in omega (arith, e)
-value_more (d ∷ cs) c x =
-    let longer : length (cs ++ c ∷ []) ≡ suc (length cs) = simp length-append (add-one (length cs)) in
-    ap (λ k. d * x ^ k + polynomial_value (cs ++ c ∷ []) x) longer
-    ∙ ap (λ k. d * k + polynomial_value (cs ++ c ∷ []) x) (pow-succ' x (length cs))
-    ∙ first_more d c x (length cs) _ _ (value_more cs c x)
-
--- the first coefficient
-value_first : (cs : List ℕ) (c x : ℕ) → polynomial_value (c ∷ cs) x ≡ c * x ^ length cs + polynomial_value cs x
-unfolding polynomial_value
-value_first cs c x = refl
-
--- one step of Horner's rule, modulo m
-pub residue_more : (m : ℕ) (cs : List ℕ) (c x value product : ℕ)
-    → value ≡ polynomial_value cs x % m → product ≡ (value * x) % m
-    → (product + c) % m ≡ polynomial_value (cs ++ c ∷ []) x % m
-residue_more m cs c x value product e f =
-    ap (λ k. (k + c) % m) (f ∙ ap (λ k. (k * x) % m) e ∙ mul-mod_first (polynomial_value cs x) x m)
-    ∙ mod-add-mod (polynomial_value cs x * x) m c ∙ ap (λ k. k % m) (sym (value_more cs c x))
+use Rattle.modular_word.specs.Sums.{polynomial_highest_first}
+use Rattle.modular_word.proofs.Polynomials.{value_first, residue_more}
 
 -- equal remainders, by multiples of m
 spread : (m a b : ℕ) → a % m ≡ b % m → a + m * (b / m) ≡ b + m * (a / m)
@@ -56,9 +27,9 @@ less m r t l v e f = gathered m r v _ _ (less_at m r t l v _ _ _ _ (spread m (r 
 
 -- the value of a window that moves, modulo m
 pub residue_moved : (m x c d : ℕ) (old new : List ℕ) (window power longer out value : ℕ) → old ++ d ∷ [] ≡ c ∷ new
-    → window ≡ polynomial_value old x % m → power ≡ x ^ length old % m
+    → window ≡ polynomial_highest_first (length old) (slice_index old) x % m → power ≡ x ^ length old % m
     → longer ≡ ((window * x) % m + d) % m → out ≡ (power * c) % m → (value + out) % m ≡ longer % m → value < m
-    → value ≡ polynomial_value new x % m
+    → value ≡ polynomial_highest_first (length new) (slice_index new) x % m
 residue_moved m x c d old new window power longer out value same is power_is longer_is out_is difference below =
     let lengths = ap length same in
     let count : length old ≡ length new = omega (arith, lengths, length-append old (d ∷ [])) in
@@ -67,15 +38,16 @@ residue_moved m x c d old new window power longer out value same is power_is lon
     let term : out ≡ (c * x ^ length new) % m =
     out_is ∙ ap (λ k. (k * c) % m) power_is ∙ mul-mod_first (x ^ length old) c m
     ∙ ap (λ k. (x ^ k * c) % m) count ∙ ap (λ k. k % m) turn in
-    let l = polynomial_value (old ++ d ∷ []) x in
+    let l = polynomial_highest_first (length (old ++ d ∷ [])) (slice_index (old ++ d ∷ [])) x in
     let t = c * x ^ length new in
-    let v = polynomial_value new x in
+    let v = polynomial_highest_first (length new) (slice_index new) x in
     let whole_is : longer ≡ l % m = longer_is ∙ whole in
     sym (mod-eq_of_lt below)
     ∙ less m value t l v
     (sym (add-mod-mod value t m) ∙ ap (λ k. (value + k) % m) (sym term) ∙ difference
     ∙ ap (λ k. k % m) whole_is ∙ mod-mod l m)
-    (ap (λ cs. polynomial_value cs x % m) same ∙ ap (λ k. k % m) (value_first new c x))
+    (ap (λ cs. polynomial_highest_first (length cs) (slice_index cs) x % m) same
+    ∙ ap (λ k. k % m) (value_first new c x))
 
 -- the window at a position and the byte after it are the byte there and the next window
 pub window_moves : (n at : ℕ) (xs : List ℕ) → at + n < length xs

@@ -3,11 +3,6 @@
 use Rattle.std.specs.Prelude.{◌≡◌, ℕ, ◌+◌, ◌*◌, ◌^◌, ◌<◌, ◌≤◌, List, [], ◌∷◌, length, slice_range}
 use Rattle.std.specs.Prelude.{Option, MatchOption}
 
--- the value at x of the polynomial with these coefficients, the highest first: each coefficient times its power of x
-unfoldable pub polynomial_value : List ℕ → ℕ → ℕ
-polynomial_value [] x = 0
-polynomial_value (c ∷ cs) x = c * x ^ length cs + polynomial_value cs x
-
 -- the pattern occurs in the text at the position i
 pub record StandsAt (text pattern : List ℕ) (i : ℕ) : Type 0 where
   pub within : i + length pattern ≤ length text

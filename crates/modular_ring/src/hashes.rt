@@ -1,11 +1,12 @@
 //! Text search by polynomial hashes modulo 2^61 - 1: the hash of a window is computed from that of the one before.
 
 ghost use Rattle.std.specs.Prelude.{◌≡◌, ℕ, ◌+◌, ◌*◌, ◌%◌, ◌^◌, ◌≤◌, ◌↔◌, List, []};
-ghost use Rattle.std.specs.Prelude.{◌∷◌, ◌++◌, IsTrue, length, slice_range, pos, ◌-ℤ◌};
+ghost use Rattle.std.specs.Prelude.{◌∷◌, ◌++◌, IsTrue, length, slice_index, slice_range, pos, ◌-ℤ◌};
 ghost use Rattle.modular_reduced.specs.Integers.{residue_of};
 ghost use Rattle.modular_folds.specs.Mersenne.{mersenne};
 ghost use Rattle.modular_word.specs.Residues.{residue};
-ghost use Rattle.modular_ring.specs.Hashes.{polynomial_value, StandsAt, IsSearch};
+ghost use Rattle.modular_ring.specs.Hashes.{StandsAt, IsSearch};
+ghost use Rattle.modular_word.specs.Sums.{polynomial_highest_first};
 
 use modular_folds::mersenne::FixedMersenne64;
 use modular_reduced::modular_integer::ModularInteger;
@@ -56,7 +57,8 @@ pub fn base(n: u64) -> Hash
 /// assert_eq!(hash(base(1000), &[1, 2, 3]).residue(), 1_002_003);
 /// ```
 pub fn hash(base: Hash, text: &[u8]) -> Hash
-    ensures { residue_of result ≡ polynomial_value text.now (residue_of base) % mersenne 61 1 }
+    ensures { residue_of result
+        ≡ polynomial_highest_first (length text.now) (slice_index text.now) (residue_of base) % mersenne 61 1 }
 {
     let mut value = base.convert(0);
     'bytes: for byte in text {
@@ -84,9 +86,9 @@ pub fn moved(base: Hash, power: Hash, window: Hash, first: u8, next: u8) -> Hash
     ensures value { let m = mersenne 61 1 in residue_of result
         ≡ residue m (pos ((residue_of window * residue_of base + next) % m) -ℤ pos ((residue_of power * first) % m)) }
     ensures hash { (old moved : List ℕ) → old ++ (next ∷ []) ≡ first ∷ moved →
-        residue_of window ≡ polynomial_value old (residue_of base) % mersenne 61 1 →
+        residue_of window ≡ polynomial_highest_first (length old) (slice_index old) (residue_of base) % mersenne 61 1 →
         residue_of power ≡ residue_of base ^ length old % mersenne 61 1 →
-        residue_of result ≡ polynomial_value moved (residue_of base) % mersenne 61 1 }
+        residue_of result ≡ polynomial_highest_first (length moved) (slice_index moved) (residue_of base) % mersenne 61 1 }
 {
     residue_laws();
     let longer = window * base + next as u64;

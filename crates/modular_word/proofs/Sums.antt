@@ -211,6 +211,12 @@ pub sum_below-suc : (n : ℕ) (f : ℕ → ℕ) → sum_below (suc n) f ≡ sum_
 unfolding sum_below
 sum_below-suc n f = refl
 
+-- by its first term
+pub sum_below-first : (n : ℕ) (f : ℕ → ℕ) → sum_below (suc n) f ≡ f 0 + sum_below n (λ i. f (suc i))
+unfolding sum_below
+sum_below-first zero f = omega arith
+sum_below-first (suc n) f = let before = sum_below-first n f in omega (arith, before)
+
 -- equal summands, equal sums
 pub sum_below-same : (n : ℕ) (f g : ℕ → ℕ) → ((i : ℕ) → i < n → f i ≡ g i) → sum_below n f ≡ sum_below n g
 unfolding sum_below

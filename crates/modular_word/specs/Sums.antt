@@ -6,10 +6,14 @@ unfoldable pub sum_below : ℕ → (ℕ → ℕ) → ℕ
 sum_below zero f = 0
 sum_below (suc n) f = sum_below n f + f n
 
--- the value at x of the polynomial with the coefficients c 0, .., c (n - 1), the highest first
+-- the value at x of the polynomial with the coefficients c 0, .., c (n - 1), the constant first
 -- (Knuth, The Art of Computer Programming, volume 2, section 4.6.4)
 abbrev pub polynomial : ℕ → (ℕ → ℕ) → ℕ → ℕ
-polynomial n c x = sum_below n (λ i. c i * x ^ (n - 1 - i))
+polynomial n c x = sum_below n (λ i. c i * x ^ i)
+
+-- the same with the highest first, as in numerals and texts
+abbrev pub polynomial_highest_first : ℕ → (ℕ → ℕ) → ℕ → ℕ
+polynomial_highest_first n c x = sum_below n (λ i. c i * x ^ (n - 1 - i))
 
 -- f 1 + f 2 + .. + f h
 unfoldable pub sum_to : (ℕ → ℕ) → ℕ → ℕ

@@ -7,7 +7,7 @@ ghost use Rattle.modular_word.specs.Congruence.{Congruent};
 ghost use Rattle.modular_word.specs.Divisors.{Coprime, IsGreatestCommonDivisor, gcd};
 ghost use Rattle.modular_word.specs.Inverses.{IsInverse, IsInversion, HasInverse, inverse_of};
 ghost use Rattle.modular_word.specs.Residues.{IsResidue, residue};
-ghost use Rattle.modular_word.specs.Sums.{sum_below, sum_to, count_to, polynomial, Permutes};
+ghost use Rattle.modular_word.specs.Sums.{sum_below, sum_to, count_to, polynomial_highest_first, Permutes};
 
 use crate::path_word::PathWord;
 
@@ -121,7 +121,7 @@ pub fn sum_laws()
 pub fn range_laws()
     ensures none { (f : ℕ → ℕ) → sum_below 0 f ≡ 0 }
     ensures more { (f : ℕ → ℕ) (n : ℕ) → sum_below (n + 1) f ≡ sum_below n f + f n }
-    ensures horner { (n : ℕ) (c : ℕ → ℕ) (x : ℕ) → polynomial (n + 1) c x ≡ polynomial n c x * x + c n }
+    ensures horner { (n : ℕ) (c : ℕ → ℕ) (x : ℕ) → polynomial_highest_first (n + 1) c x ≡ polynomial_highest_first n c x * x + c n }
 {}
 
 /// The linear congruence a·y = b modulo m is solved by b·x where x is an inverse of a. So where x is the inverse of

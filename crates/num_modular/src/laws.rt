@@ -9,10 +9,10 @@ ghost use Rattle.std.specs.Prelude.{◌≤◌, ◌↔◌, pos, ◌-ℤ◌, List,
 ghost use Rattle.modular_reduced.specs.Forms.{IsForm};
 ghost use Rattle.modular_word.specs.Inverses.{IsInverse, HasInverse};
 ghost use Rattle.modular_word.specs.Residues.{residue};
-ghost use Rattle.modular_word.specs.Sums.{sum_below, polynomial};
+ghost use Rattle.modular_word.specs.Sums.{sum_below};
 ghost use Rattle.modular_symbols.specs.Primes.{IsPrime};
 ghost use Rattle.modular_transform.specs.Transforms.{cyclic_product};
-ghost use Rattle.num_modular.specs.Polynomials.{ascending_polynomial, polynomial_at, HaveUnitDifferences};
+ghost use Rattle.num_modular.specs.Polynomials.{polynomial, polynomial_highest_first, HaveUnitDifferences};
 ghost use Rattle.modular_ring.specs.Products.{product_below};
 ghost use Rattle.modular_ring.specs.Ring.{whole, value_at, IsStop, carried_out, IsFit, values_of, HoldValues};
 ghost use Rattle.num_modular.specs.Stops.{inverted_by, NeedsInverse};
@@ -192,7 +192,8 @@ pub fn coefficient_laws()
         cyclic_product m n x y e ≡ sum_below (e + 1) (λ i. slice_index xs i * slice_index ys (e - i)) }
 {}
 
-/// Horner's rule for a polynomial by its coefficients, the constant first. Modulo m, which may be composite, a
+/// Horner's rule for a polynomial by its coefficients, the constant first, and the same polynomial by these in
+/// reverse. Modulo m, which may be composite, a
 /// polynomial with at most n coefficients that is 0 at n points whose differences all have inverses has only
 /// coefficients of 0. So two of them with equal values at the points have equal coefficients, as lists, as
 /// functions, and with the highest coefficient first. Modulo a prime, differences of distinct residues have
@@ -200,24 +201,27 @@ pub fn coefficient_laws()
 ///
 /// Source: Knuth, The Art of Computer Programming, volume 2, section 4.6.4 (Newton's form).
 pub fn polynomial_laws()
-    ensures none { (c : ℕ → ℕ) (x : ℕ) → ascending_polynomial 0 c x ≡ 0 }
+    ensures none { (c : ℕ → ℕ) (x : ℕ) → polynomial 0 c x ≡ 0 }
     ensures first { (n : ℕ) (c : ℕ → ℕ) (x : ℕ) →
-        ascending_polynomial (suc n) c x ≡ c 0 + x * ascending_polynomial n (λ i. c (suc i)) x }
+        polynomial (suc n) c x ≡ c 0 + x * polynomial n (λ i. c (suc i)) x }
+    ensures reversed { (n : ℕ) (c : ℕ → ℕ) (x : ℕ) →
+        polynomial_highest_first n c x ≡ polynomial n (λ i. c (n - 1 - i)) x }
     ensures zero { (m : ℕ) (cs points : List ℕ) →
         HaveUnitDifferences m (length points) (λ i. slice_index points i) → length cs ≤ length points →
-        ((i : ℕ) → i < length points → polynomial_at cs (slice_index points i) % m ≡ 0) →
+        ((i : ℕ) → i < length points → polynomial (length cs) (slice_index cs) (slice_index points i) % m ≡ 0) →
         (i : ℕ) → i < length cs → slice_index cs i % m ≡ 0 }
     ensures lists { (m : ℕ) (cs ds points : List ℕ) →
         HaveUnitDifferences m (length points) (λ i. slice_index points i) →
         length cs ≤ length points → length ds ≤ length points →
         ((i : ℕ) → i < length points →
-        polynomial_at cs (slice_index points i) % m ≡ polynomial_at ds (slice_index points i) % m) →
+        polynomial (length cs) (slice_index cs) (slice_index points i) % m ≡
+        polynomial (length ds) (slice_index ds) (slice_index points i) % m) →
         (i : ℕ) → i < length points → slice_index cs i % m ≡ slice_index ds i % m }
     ensures values { (m n : ℕ) (c d x : ℕ → ℕ) → HaveUnitDifferences m n x →
-        ((i : ℕ) → i < n → ascending_polynomial n c (x i) % m ≡ ascending_polynomial n d (x i) % m) →
+        ((i : ℕ) → i < n → polynomial n c (x i) % m ≡ polynomial n d (x i) % m) →
         (i : ℕ) → i < n → c i % m ≡ d i % m }
     ensures descending { (m n : ℕ) (c d x : ℕ → ℕ) → HaveUnitDifferences m n x →
-        ((i : ℕ) → i < n → polynomial n c (x i) % m ≡ polynomial n d (x i) % m) →
+        ((i : ℕ) → i < n → polynomial_highest_first n c (x i) % m ≡ polynomial_highest_first n d (x i) % m) →
         (i : ℕ) → i < n → c i % m ≡ d i % m }
     ensures prime { (p n : ℕ) (x : ℕ → ℕ) → IsPrime p →
         ((i j : ℕ) → i < n → j < n → i ≢ j → x i % p ≢ x j % p) → HaveUnitDifferences p n x }

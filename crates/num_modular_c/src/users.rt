@@ -1,9 +1,10 @@
 //! Hashes and a search, numbers by their residues, and the product of long numbers.
 
-ghost use Rattle.std.specs.Prelude.{◌≡◌, ℕ, ◌+◌, ◌*◌, ◌/◌, ◌%◌, ◌^◌, ◌<◌, ◌≤◌, ◌↔◌, IsTrue, length};
+ghost use Rattle.std.specs.Prelude.{◌≡◌, ℕ, ◌+◌, ◌*◌, ◌/◌, ◌%◌, ◌^◌, ◌<◌, ◌≤◌, ◌↔◌, IsTrue, length, slice_index};
 ghost use Rattle.long_product.specs.Numbers.{number_of};
 ghost use Rattle.long_product.specs.Room.{HasRoom};
-ghost use Rattle.num_modular.specs.Hashes.{polynomial_value, IsFirst, StandsAt};
+ghost use Rattle.num_modular.specs.Hashes.{IsFirst, StandsAt};
+ghost use Rattle.num_modular.specs.Sums.{polynomial_highest_first};
 ghost use Rattle.num_modular_c.specs.Codes.{Did, Refused, BothRefused};
 ghost use Rattle.num_modular_c.specs.Systems.{IsEncoding, IsDecoded};
 
@@ -29,7 +30,8 @@ pub struct NmDouble {
 /// highest first, modulo 2^61 - 1. Returns `NM_OK`.
 #[unsafe(no_mangle)]
 pub extern "C" fn nm_hash(x: u64, bytes: &[u8], hash: &mut u64) -> u32
-    ensures { Did result (hash.new ≡ polynomial_value bytes.now (x % 2305843009213693951) % 2305843009213693951) }
+    ensures { let base = x % 2305843009213693951 in Did result (hash.new
+        ≡ polynomial_highest_first (length bytes.now) (slice_index bytes.now) base % 2305843009213693951) }
 {
     *hash = hash_at(base(x), bytes).residue();
     NM_OK

@@ -7,7 +7,7 @@ use Rattle.num_modular.specs.Callers.{same_coefficients}
 use Rattle.num_modular.specs.Congruence.{Congruent}
 use Rattle.num_modular.specs.NumberLaws.{mod_refl, sum_below-zero, sum_below-suc}
 use Rattle.num_modular.specs.Polynomials.{HaveUnitDifferences}
-use Rattle.num_modular.specs.PolynomialLaws.{ascending-congruent}
+use Rattle.num_modular.specs.PolynomialLaws.{polynomial-congruent}
 use Rattle.ring_codes.specs.Erasure.{IsEncoding, IsErasureCodeword, distance}
 
 -- k of the first n places, in their order, at which two words agree
@@ -134,7 +134,7 @@ words_apart m k n points u v few fit is_u is_v differ = elim (cases_lt n (distan
       let same = same_messages m k n points is_u.0 is_v.0 u v fit is_u.1 is_v.1 near in
       let none = no_distance n u v
       (λ i l. is_u.1.symbol i l
-      ∙ (ascending-congruent k is_u.0 is_v.0 (points i) (points i) same (mod_refl (points i))).same
+      ∙ (polynomial-congruent k is_u.0 is_v.0 (points i) (points i) same (mod_refl (points i))).same
       ∙ sym (is_v.1.symbol i l)) in
       absurd (omega (arith, none, differ))
 ]

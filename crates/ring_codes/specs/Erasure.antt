@@ -3,7 +3,7 @@
 -- "On generalized Reed-Solomon codes over commutative and noncommutative rings", 2013).
 use Rattle.std.specs.Prelude.{◌≡◌, ◌≢◌, ℕ, ◌%◌, ◌<◌, ◌≤◌, List, length, slice_index, ◌==◌, if◌then◌else◌}
 use Rattle.num_modular.specs.Inverses.{HasInverse}
-use Rattle.num_modular.specs.Polynomials.{ascending_polynomial, HaveUnitDifferences}
+use Rattle.num_modular.specs.Polynomials.{polynomial, HaveUnitDifferences}
 use Rattle.num_modular.specs.Sums.{sum_below}
 use Rattle.ring_codes.specs.declared.erasure.RestoreError.{RestoreError}
 use Rattle.ring_codes.specs.declared.erasure.RestoreError.TheVariants.{TooFewSymbols, PlaceOutOfRange, PlaceTwice, PointsDontFit}
@@ -13,7 +13,7 @@ use Rattle.ring_codes.specs.declared.erasure.secrets.ShareError.TheVariants as r
 -- the word of a message of k symbols at n points: symbol i is the value modulo m at point i of the polynomial with the
 -- message's symbols as coefficients, the constant first
 pub record IsEncoding (m k n : ℕ) (points message word : ℕ → ℕ) : Type 0 where
-  pub symbol : (i : ℕ) → i < n → word i ≡ ascending_polynomial k message (points i) % m
+  pub symbol : (i : ℕ) → i < n → word i ≡ polynomial k message (points i) % m
 
 -- the word is that of some message
 abbrev pub IsErasureCodeword : ℕ → ℕ → ℕ → (ℕ → ℕ) → (ℕ → ℕ) → Type 0

@@ -20,7 +20,7 @@ ghost use Rattle.std.specs.Prelude.{◌≡◌, ◌≢◌, ℕ, ◌+◌, ◌-◌,
 ghost use Rattle.std.specs.Prelude.{length, slice_index, slice_index_or, MatchOption};
 ghost use Rattle.num_modular.specs.Entries.{entry};
 ghost use Rattle.num_modular.specs.Forms.{IsForm};
-ghost use Rattle.num_modular.specs.Polynomials.{ascending_polynomial, HaveUnitDifferences};
+ghost use Rattle.num_modular.specs.Polynomials.{polynomial, HaveUnitDifferences};
 ghost use Rattle.ring_codes.specs.Erasure.{IsEncoding, IsErasureCodeword, ArePlaces, IsFault, distance};
 
 mod bounds;
@@ -105,7 +105,7 @@ pub fn evaluate<T: RingWord, R: Reducer<T>>(r: &R, coefficients: &[T], point: &T
     requires point { IsForm R.form R.value (R.modulus r.now) (T.number point.now) }
     ensures checked { IsForm R.form R.value (R.modulus r.now) (T.number result) }
     ensures value { let m = R.modulus r.now in R.value m (T.number result)
-        ≡ ascending_polynomial (length coefficients.now) (entry T.number R.value m coefficients.now)
+        ≡ polynomial (length coefficients.now) (entry T.number R.value m coefficients.now)
         (R.value m (T.number point.now)) % m }
 {
     let mut value = r.transform(T::zero());
@@ -440,7 +440,7 @@ fn symbol_at<T: RingWord, R: Reducer<T>>(
         (entry T.number R.value m message.now) (entry T.number R.value m symbols.now) }
     ensures checked { IsForm R.form R.value (R.modulus r.now) (T.number result) }
     ensures value { let m = R.modulus r.now in R.value m (T.number result)
-        ≡ ascending_polynomial (length message.now) (entry T.number R.value m message.now)
+        ≡ polynomial (length message.now) (entry T.number R.value m message.now)
         (entry T.number R.value m points.now place) % m }
 {
     match index_of(places, message.len(), place) {

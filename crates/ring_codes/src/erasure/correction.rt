@@ -4,7 +4,7 @@ ghost use Rattle.std.specs.Prelude.{◌≡◌, ℕ, ◌+◌, ◌-◌, ◌*◌, �
 ghost use Rattle.std.specs.Prelude.{All, IsTrue, IsOk, IfOk, IfErr, length, slice_index, ◌==◌, if◌then◌else◌};
 ghost use Rattle.num_modular.specs.Entries.{entry};
 ghost use Rattle.num_modular.specs.Forms.{IsForm};
-ghost use Rattle.num_modular.specs.Polynomials.{ascending_polynomial, HaveUnitDifferences};
+ghost use Rattle.num_modular.specs.Polynomials.{polynomial, HaveUnitDifferences};
 ghost use Rattle.ring_codes.specs.Correction.{IsNear, AreFit, IsPlaceFault, IsFarFault, IsInverseFault};
 ghost use Rattle.ring_codes.specs.Erasure.{IsEncoding, ArePlaces, IsFault, distance};
 ghost use Rattle.ring_codes.specs.KeyEquations.{IsWithoutInverse};
@@ -117,7 +117,7 @@ fn decode<T: RingWord, R: Reducer<T>>(
     ensures message { let m = R.modulus r.now in let s = length points.now in let k = length message.old in
         IfOk result (λ b. (sent : ℕ → ℕ) →
         2 * distance s (entry T.number R.value m symbols.now)
-        (λ j. ascending_polynomial k sent (entry T.number R.value m points.now j) % m) ≤ s - k →
+        (λ j. polynomial k sent (entry T.number R.value m points.now j) % m) ≤ s - k →
         IsTrue b × ((i : ℕ) → i < k → entry T.number R.value m message.new i ≡ sent i % m)) }
 {
     let k = message.len();

@@ -7,7 +7,7 @@ ghost use Rattle.std.specs.Prelude.{◌^◌, All, IsOk, IfOk, IfErr, length};
 ghost use Rattle.num_modular.specs.Congruence.{Congruent};
 ghost use Rattle.num_modular.specs.Entries.{entry};
 ghost use Rattle.num_modular.specs.Forms.{IsForm};
-ghost use Rattle.num_modular.specs.Polynomials.{ascending_polynomial};
+ghost use Rattle.num_modular.specs.Polynomials.{polynomial};
 ghost use Rattle.ring_codes.specs.KeyEquations.{shifted, IsKeyPair, AreKeyPairs, IsWithoutInverse};
 
 use super::evaluate;
@@ -29,8 +29,8 @@ pub fn discrepancy<T: RingWord, R: Reducer<T>>(
     ensures value { let m = R.modulus r.now in let x = R.value m (T.number point.now) in
         (c d : ℕ) → length numerator.now ≡ c → length locator.now ≡ d →
         Congruent m (R.value m (T.number result) + R.value m (T.number symbol.now)
-        * ascending_polynomial d (entry T.number R.value m locator.now) x)
-        (ascending_polynomial c (entry T.number R.value m numerator.now) x) }
+        * polynomial d (entry T.number R.value m locator.now) x)
+        (polynomial c (entry T.number R.value m numerator.now) x) }
 {
     let value = evaluate(r, numerator, point);
     let located = evaluate(r, locator, point);
@@ -164,10 +164,10 @@ pub fn reduce<T: RingWord, R: Reducer<T>>(
         let ol = entry T.number R.value m locator.old in
         IsOk result → (c d k i u v : ℕ) (x y : ℕ → ℕ) →
         length numerator.old ≡ c → length locator.old ≡ d → d + k ≡ c + 1 → v < 2 * c → u < v →
-        Congruent m (R.value m (T.number pivot_discrepancy.now) + y i * ascending_polynomial d pl (x i))
-        (ascending_polynomial c pn (x i)) →
-        Congruent m (R.value m (T.number discrepancy.now) + y i * ascending_polynomial d ol (x i))
-        (ascending_polynomial c on (x i)) →
+        Congruent m (R.value m (T.number pivot_discrepancy.now) + y i * polynomial d pl (x i))
+        (polynomial c pn (x i)) →
+        Congruent m (R.value m (T.number discrepancy.now) + y i * polynomial d ol (x i))
+        (polynomial c on (x i)) →
         IsKeyPair m k c d i u x y pn pl → IsKeyPair m k c d i v x y on ol →
         IsKeyPair m k c d (i + 1) v x y (entry T.number R.value m numerator.new)
         (entry T.number R.value m locator.new) }

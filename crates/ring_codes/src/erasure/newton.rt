@@ -5,7 +5,7 @@ ghost use Rattle.num_modular.specs.Congruence.{Congruent};
 ghost use Rattle.num_modular.specs.Entries.{entry};
 ghost use Rattle.num_modular.specs.Forms.{IsForm};
 ghost use Rattle.num_modular.specs.Inverses.{IsInverse};
-ghost use Rattle.num_modular.specs.Polynomials.{ascending_polynomial};
+ghost use Rattle.num_modular.specs.Polynomials.{polynomial};
 ghost use Rattle.num_modular.specs.Products.{product_below};
 ghost use Rattle.ring_codes.specs.Newton.{difference, newton_form};
 
@@ -137,7 +137,7 @@ pub fn expand<T: RingWord, R: Reducer<T>>(r: &R, points: &[T], form: &mut [T])
     requires within { length form.old ≤ length points.now }
     ensures checked { All (λ f. IsForm R.form R.value (R.modulus r.now) (T.number f)) form.new }
     ensures same { let m = R.modulus r.now in (a : ℕ) →
-        Congruent m (ascending_polynomial (length form.old) (entry T.number R.value m form.new) a)
+        Congruent m (polynomial (length form.old) (entry T.number R.value m form.new) a)
         (newton_form m (length form.old) (entry T.number R.value m form.old)
         (entry T.number R.value m points.now) a) }
 {

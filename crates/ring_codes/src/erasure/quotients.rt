@@ -6,7 +6,7 @@ ghost use Rattle.num_modular.specs.Congruence.{Congruent};
 ghost use Rattle.num_modular.specs.Entries.{entry};
 ghost use Rattle.num_modular.specs.Forms.{IsForm};
 ghost use Rattle.num_modular.specs.Inverses.{HasInverse};
-ghost use Rattle.num_modular.specs.Polynomials.{ascending_polynomial, HaveUnitDifferences};
+ghost use Rattle.num_modular.specs.Polynomials.{polynomial, HaveUnitDifferences};
 ghost use Rattle.ring_codes.specs.Erasure.{distance};
 ghost use Rattle.ring_codes.specs.KeyEquations.{IsKeyPair, AreQuotients, IsQuotient, IsWithoutInverse};
 
@@ -26,8 +26,8 @@ pub fn quotient<T: RingWord, R: Reducer<T>>(
     requires locator { All (λ f. IsForm R.form R.value (R.modulus r.now) (T.number f)) locator.now }
     ensures inverse { IfErr result (λ a. IsWithoutInverse (R.modulus r.now) (T.number a)) }
     ensures quotient { let m = R.modulus r.now in let x = R.value m (T.number point.now) in
-        let n = ascending_polynomial (length numerator.now) (entry T.number R.value m numerator.now) x in
-        let e = ascending_polynomial (length locator.now) (entry T.number R.value m locator.now) x in
+        let n = polynomial (length numerator.now) (entry T.number R.value m numerator.now) x in
+        let e = polynomial (length locator.now) (entry T.number R.value m locator.now) x in
         IfOk result (λ found. MatchOption found ((e % m ≡ 0) × (HasInverse m 0 → ⊥))
         (λ f. IsForm R.form R.value m (T.number f) × IsQuotient m n e (R.value m (T.number f)))) }
 {
@@ -72,12 +72,12 @@ pub fn divide<T: RingWord, R: Reducer<T>>(
     ensures checked_values { IfOk result (λ b. IsTrue b →
         All (λ f. IsForm R.form R.value (R.modulus r.now) (T.number f)) values.new) }
     ensures quotients { let m = R.modulus r.now in
-        let n = ascending_polynomial (length numerator.now) (entry T.number R.value m numerator.now) in
-        let e = ascending_polynomial (length locator.now) (entry T.number R.value m locator.now) in
+        let n = polynomial (length numerator.now) (entry T.number R.value m numerator.now) in
+        let e = polynomial (length locator.now) (entry T.number R.value m locator.now) in
         IfOk result (λ b. IsTrue b → AreQuotients m count (length chosen.old) (entry T.number R.value m points.now) n e
         (entry T.number R.value m chosen.new) (entry T.number R.value m values.new)) }
     ensures zeros { let m = R.modulus r.now in
-        let e = ascending_polynomial (length locator.now) (entry T.number R.value m locator.now) in
+        let e = polynomial (length locator.now) (entry T.number R.value m locator.now) in
         IfOk result (λ b. (IsTrue b → ⊥) → (HasInverse m 0 → ⊥)
         × (distance count (λ j. e (entry T.number R.value m points.now j) % m) (λ j. 0) < length chosen.old)) }
 {
@@ -131,7 +131,7 @@ pub fn divide_pair<T: RingWord, R: Reducer<T>>(
         IfOk result (λ b. (c d u : ℕ) (y sent : ℕ → ℕ) → length numerator.now ≡ c → length locator.now ≡ d → 1 ≤ d →
         d + k ≡ c + 1 → c ≤ count → u < 2 * c →
         IsKeyPair m k c d count u x y (entry T.number R.value m numerator.now) (entry T.number R.value m locator.now) →
-        distance count y (λ j. ascending_polynomial k sent (x j) % m) + c ≤ count →
+        distance count y (λ j. polynomial k sent (x j) % m) + c ≤ count →
         IsTrue b × ((i : ℕ) → i < k → entry T.number R.value m message.new i ≡ sent i % m)) }
 {
     match divide(r, points, count, numerator, locator, chosen, values) {

@@ -1,8 +1,8 @@
 //! Polynomials over any integers modulo m.
 
-ghost use Rattle.modular_ring.specs.Hashes.{polynomial_value};
+ghost use Rattle.modular_word.specs.Sums.{polynomial_highest_first};
 ghost use Rattle.modular_reduced.specs.Integers.{IsInteger, modulus_of, residue_of};
-ghost use Rattle.std.specs.Prelude.{◌≡◌, ◌%◌, All, map};
+ghost use Rattle.std.specs.Prelude.{◌≡◌, ◌%◌, All, map, length, slice_index};
 
 use modular_barrett::premul::PreMulInv2by1;
 use modular_reduced::modular_integer::ModularInteger;
@@ -15,8 +15,9 @@ use modular_word::ring_word::RingWord;
 pub fn horner<I: ModularInteger + Copy>(coefficients: &[I], x: I) -> I
     requires { All (λ c. I.modulus_number c ≡ I.modulus_number x) coefficients.now }
     ensures { let m = I.modulus_number x in
+        let numbers = map I.residue_number coefficients.now in
         IsInteger I.modulus_number I.residue_number m
-        (polynomial_value (map I.residue_number coefficients.now) (I.residue_number x) % m) result }
+        (polynomial_highest_first (length numbers) (slice_index numbers) (I.residue_number x) % m) result }
 {
     let mut value = x - x;
     'terms: for c in coefficients {
@@ -32,7 +33,8 @@ fn value<T: RingWord, R: Reducer<T> + Copy>(
     x: ReducedInt<T, R>,
 ) -> T
     requires { All (λ c. modulus_of c ≡ modulus_of x) coefficients.now }
-    ensures { T.number result ≡ polynomial_value (map residue_of coefficients.now) (residue_of x) % modulus_of x }
+    ensures { let numbers = map residue_of coefficients.now in T.number result
+        ≡ polynomial_highest_first (length numbers) (slice_index numbers) (residue_of x) % modulus_of x }
 {
     horner(coefficients, x).residue()
 }

@@ -1,9 +1,9 @@
-use Rattle.std.proofs.Common.{ℕ, ◌%◌, List, take, get_or, ap, sym, ◌∙◌}
+use Rattle.std.proofs.Common.{ℕ, ◌%◌, List, take, get_or, ap, sym, ◌∙◌, length, slice_index}
 use Rattle.std.proofs.lemmas.List.{take_more}
 use Rattle.modular_reduced.specs.Integers.{residue_of}
 use Rattle.modular_folds.specs.Mersenne.{mersenne}
-use Rattle.modular_ring.specs.Hashes.{polynomial_value}
-use Rattle.modular_ring.proofs.Windows.{value_none, residue_more}
+use Rattle.modular_word.specs.Sums.{polynomial_highest_first}
+use Rattle.modular_word.proofs.Polynomials.{value_none, residue_more}
 use Rattle.modular_ring.proofs.hashes.hash.Goals as goal
 
 pub bytes-init : goal.bytes-init
@@ -17,4 +17,4 @@ bytes-preserved c =
     let x = residue_of c.args.base in
     c.add-value.ensures.residue
     ∙ residue_more m (take i text) (get_or text i 0) x _ _ c.bytes.invariant c.mul.ensures.residue
-    ∙ ap (λ cs. polynomial_value cs x % m) (sym (take_more text i 0 c.bytes-test.true))
+    ∙ ap (λ cs. polynomial_highest_first (length cs) (slice_index cs) x % m) (sym (take_more text i 0 c.bytes-test.true))

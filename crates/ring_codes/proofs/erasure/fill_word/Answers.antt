@@ -1,5 +1,5 @@
 use Rattle.num_modular.specs.Callers.{◌%◌, length, arith, entry, hold_more, held_forms, held_entry}
-use Rattle.num_modular.specs.Polynomials.{ascending_polynomial}
+use Rattle.num_modular.specs.Polynomials.{polynomial}
 use borrow.Author.Rules.{scaled_Fits}
 use borrow.Author.Count.{falls}
 use Rattle.num_modular.specs.Callers.{◌<◌, subst, sym, ◌∙◌}
@@ -16,7 +16,7 @@ points-preserved g c =
     let ring = g.R.Reducer in let m = ring.modulus c.args.r.now in let number = g.T.RingWord.number in
     let message = c.args.message.now in
     hold_more number ring.form ring.value m c.points.word c.points.i c.symbol_at.result
-    (λ i. ascending_polynomial (length message) (entry number ring.value m message)
+    (λ i. polynomial (length message) (entry number ring.value m message)
     (entry number ring.value m c.args.points.now i) % m)
     (omega arith) c.points.invariant c.symbol_at.ensures.checked c.symbol_at.ensures.value
 

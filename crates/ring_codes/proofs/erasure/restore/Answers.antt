@@ -1,7 +1,7 @@
 use Rattle.std.proofs.Common.{slice_index}
 use Rattle.std.proofs.lemmas.Bool.{false≢true}
 use Rattle.num_modular.specs.Callers.{◌≡◌, ℕ, ◌%◌, ◌<◌, length, entry, ◌∙◌, ap, sym, refl, subst, arith, IsForm}
-use Rattle.num_modular.specs.Polynomials.{ascending_polynomial}
+use Rattle.num_modular.specs.Polynomials.{polynomial}
 use Rattle.ring_codes.specs.Erasure.{ArePlaces, IsFault}
 use Rattle.ring_codes.proofs.Symbols.{entry_chosen, fit_same, no_fault}
 use Rattle.num_modular.specs.Callers.{◌≤◌}
@@ -52,7 +52,7 @@ returns-then-interpolate-clause-symbols g c t =
     let right = ((returns-then-interpolate-clause-accepted g c).0 refl).0 in
     record {
       symbol = λ i l. (c.if-interpolate.ensures.values refl).symbol i l
-          ∙ ap (λ a. ascending_polynomial k (entry number ring.value m c.interpolate.new.coefficients) a % m)
+          ∙ ap (λ a. polynomial k (entry number ring.value m c.interpolate.new.coefficients) a % m)
           (entry_chosen number ring.value m points chosen i (slice_index places i)
           (λ d. c.in-Ok.ensures.chosen refl i d (omega (arith, c.requires.chosen, l)))
           (omega (arith, c.requires.chosen, l)) (right.within i l));
@@ -67,7 +67,7 @@ returns-then-interpolate-clause-original g c t original word is read =
     c.if-interpolate.ensures.only refl original
     (record {
       symbol = λ i l. read i l ∙ is.symbol (slice_index places i) (right.within i l)
-          ∙ ap (λ a. ascending_polynomial k original a % m)
+          ∙ ap (λ a. polynomial k original a % m)
           (sym (entry_chosen number ring.value m points chosen i (slice_index places i)
           (λ d. c.in-Ok.ensures.chosen refl i d (omega (arith, c.requires.chosen, l)))
           (omega (arith, c.requires.chosen, l)) (right.within i l)));

@@ -3,7 +3,7 @@ use Rattle.std.proofs.Common.{slice_index}
 use Rattle.std.proofs.Math.Nat.{mod-mod}
 use Rattle.num_modular.specs.Callers.{◌≡◌, ◌%◌, length, entry, ◌∙◌, ap, sym, refl, subst, arith}
 use Rattle.num_modular.specs.NumberLaws.{mod_refl}
-use Rattle.num_modular.specs.PolynomialLaws.{ascending-congruent}
+use Rattle.num_modular.specs.PolynomialLaws.{polynomial-congruent}
 use Rattle.ring_codes.specs.Erasure.{IsEncoding}
 use Rattle.num_modular.specs.Callers.{◌≤◌}
 use Rattle.std.proofs.lemmas.List.{length-take-le}
@@ -51,7 +51,7 @@ returns-in-Ok-clause-original g c t original is read i l =
     let ring = g.R.Reducer in let m = ring.modulus c.args.r.now in let number = g.T.RingWord.number in
     let a = entry number ring.value m c.args.points.now i in
     let only = c.in-Ok.ensures.original refl is.0 original is.1 read in
-    let same = ascending-congruent (length c.args.message.now) (entry number ring.value m c.restore.new.message) is.0 a a
+    let same = polynomial-congruent (length c.args.message.now) (entry number ring.value m c.restore.new.message) is.0 a a
     (λ j k. record { same = ap (λ v. v % m) (only j k) ∙ mod-mod (is.0 j) m }) (mod_refl a) in
     (returns-in-Ok-clause-encoding g c refl).symbol i l ∙ same.same ∙ sym (is.1.symbol i l)
 

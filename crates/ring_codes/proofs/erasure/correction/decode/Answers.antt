@@ -1,6 +1,6 @@
 use Rattle.num_modular.specs.Callers.{ℕ, ◌+◌, ◌*◌, ◌-◌, ◌%◌, ◌<◌, ◌≤◌, ◌∙◌, arith, length}
 use Rattle.num_modular.specs.Callers.{entry}
-use Rattle.num_modular.specs.Polynomials.{ascending_polynomial}
+use Rattle.num_modular.specs.Polynomials.{polynomial}
 use Rattle.num_modular.specs.Callers.{◌/◌}
 use Rattle.ring_codes.proofs.KeyPairs.{ok_then}
 use Rattle.ring_codes.proofs.NearPairs.{distance_front, half_of}
@@ -20,7 +20,7 @@ returns-then-first-second-clause-message g c =
     let pairs = c.in-Ok.ensures.pairs cn d c.split_at_mut-first_numerator.ensures.front_len c.split_at_mut-first_locator.ensures.front_len in
     ok_then c.divide_pair.result _ _
     (λ b h sent near.
-    let front = distance_front count s y (λ j. ascending_polynomial k sent (x j) % m) within in
+    let front = distance_front count s y (λ j. polynomial k sent (x j) % m) within in
     h cn d (2 * c.in-Ok.first) y sent (c.solve.auto.first_numerator ∙ c.split_at_mut-first_numerator.ensures.front_len)
     (c.solve.auto.first_locator ∙ c.split_at_mut-first_locator.ensures.front_len) (omega arith) (omega arith) (omega arith) room
     (pairs.first room) (omega (arith, near, front, high)))
@@ -40,7 +40,7 @@ returns-else-first-second-clause-message g c =
     let pairs = c.in-Ok.ensures.pairs cn d c.split_at_mut-first_numerator.ensures.front_len c.split_at_mut-first_locator.ensures.front_len in
     ok_then c.divide_pair-else-first-second.result _ _
     (λ b h sent near.
-    let front = distance_front count s y (λ j. ascending_polynomial k sent (x j) % m) within in
+    let front = distance_front count s y (λ j. polynomial k sent (x j) % m) within in
     h cn d (2 * c.in-Ok.second + 1) y sent (c.solve.auto.second_numerator ∙ c.split_at_mut-second_numerator.ensures.front_len)
     (c.solve.auto.second_locator ∙ c.split_at_mut-second_locator.ensures.front_len) (omega arith) (omega arith) (omega arith) room
     (pairs.second room) (omega (arith, near, front, high)))

@@ -1,6 +1,6 @@
 use Rattle.num_modular.specs.Callers.{◌+◌, ◌*◌, entry, subst, length}
 use Rattle.num_modular.specs.Congruence.{Congruent}
-use Rattle.num_modular.specs.Polynomials.{ascending_polynomial}
+use Rattle.num_modular.specs.Polynomials.{polynomial}
 use Rattle.ring_codes.proofs.KeyPairs.{discrepancy_value}
 use Rattle.ring_codes.proofs.erasure.key_equation.discrepancy.Goals as goal
 
@@ -15,5 +15,5 @@ returns-clause-value g c cn d is_c is_d =
     let v = ring.value m (number c.sub.result) in
     let one = discrepancy_value m _ _ _ _ _ _ _ positive c.evaluate-value.ensures.value c.evaluate-located.ensures.value
     c.mul-product.ensures.value c.sub.ensures.value in
-    subst (λ k. Congruent m (v + y * ascending_polynomial d e x) (ascending_polynomial k n x)) is_c
-    (subst (λ k. Congruent m (v + y * ascending_polynomial k e x) (ascending_polynomial (length c.args.numerator.now) n x)) is_d one)
+    subst (λ k. Congruent m (v + y * polynomial d e x) (polynomial k n x)) is_c
+    (subst (λ k. Congruent m (v + y * polynomial k e x) (polynomial (length c.args.numerator.now) n x)) is_d one)

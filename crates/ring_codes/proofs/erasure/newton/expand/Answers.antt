@@ -1,6 +1,6 @@
 use Rattle.num_modular.specs.Callers.{◌≡◌, ◌+◌, ◌-◌, ◌*◌, length, ◌∙◌, ap, sym, refl, arith, entry, entry_read, form_read}
 use Rattle.num_modular.specs.NumberLaws.{mod_of_eq, mod_trans}
-use Rattle.num_modular.specs.PolynomialLaws.{ascending-none}
+use Rattle.num_modular.specs.PolynomialLaws.{polynomial-none}
 use Rattle.ring_codes.proofs.NewtonForms.{form-none, expanded_more, expanded_all}
 use borrow.Author.Count.{falls}
 use Rattle.ring_codes.proofs.Symbols.{back_within}
@@ -12,7 +12,7 @@ use Rattle.ring_codes.proofs.erasure.newton.expand.Goals as goal
 
 pub points-init : goal.points-init
 points-init g c =
-    (c.requires.form, λ a. mod_of_eq (ascending-none _ a ∙ sym (form-none _ _ _ a)), λ i l. refl)
+    (c.requires.form, λ a. mod_of_eq (polynomial-none _ a ∙ sym (form-none _ _ _ a)), λ i l. refl)
 
 pub points-preserved : goal.points-preserved
 points-preserved g c =

@@ -1,7 +1,7 @@
 use Rattle.num_modular.specs.Callers.{◌%◌, ◌<◌, ◌∙◌, sym, arith, subst, length}
 use Rattle.num_modular.specs.Callers.{entry, entry_past}
 use Rattle.std.proofs.lemmas.Bool.{false≢true}
-use Rattle.num_modular.specs.Polynomials.{ascending_polynomial}
+use Rattle.num_modular.specs.Polynomials.{polynomial}
 use Rattle.ring_codes.specs.Erasure.{distance}
 use Rattle.ring_codes.specs.KeyEquations.{AreQuotients}
 use Rattle.ring_codes.proofs.Symbols.{entry_below}
@@ -19,9 +19,9 @@ returns-in-Ok-true-clause-message g c cn d u y sent is_c is_d some lengths few r
     let values = entry number ring.value m c.divide.new.values in
     let forms = c.in-Ok-true.ensures.checked_values c.in-Ok-true.field-0-test in
     let whole = c.divide.auto.values ∙ c.requires.values in
-    let are = subst (λ cn. AreQuotients m n k x (ascending_polynomial cn p) (ascending_polynomial d e) chosen values) is_c
-    (subst (λ d. AreQuotients m n k x (ascending_polynomial (length c.args.numerator.now) p) (ascending_polynomial d e) chosen values) is_d
-    (subst (λ k. AreQuotients m n k x (ascending_polynomial (length c.args.numerator.now) p) (ascending_polynomial (length c.args.locator.now) e) chosen values) c.requires.chosen
+    let are = subst (λ cn. AreQuotients m n k x (polynomial cn p) (polynomial d e) chosen values) is_c
+    (subst (λ d. AreQuotients m n k x (polynomial (length c.args.numerator.now) p) (polynomial d e) chosen values) is_d
+    (subst (λ k. AreQuotients m n k x (polynomial (length c.args.numerator.now) p) (polynomial (length c.args.locator.now) e) chosen values) c.requires.chosen
     (c.in-Ok-true.ensures.quotients c.in-Ok-true.field-0-test))) in
     let fit = c.interpolate.ensures.fit.1 (chosen_fit m n k x _ _ chosen values c.requires.fit are) in (
       fit,
@@ -39,7 +39,7 @@ returns-in-Ok-false-clause-message g c cn d u y sent is_c is_d some lengths few 
     let p = entry number ring.value m c.args.numerator.now in
     let e = entry number ring.value m c.args.locator.now in
     let zeros = c.in-Ok-false.ensures.zeros (λ t. false≢true (sym c.in-Ok-false.field-0-test ∙ t)) in
-    let fewer = subst (λ d. distance n (λ j. ascending_polynomial d e (x j) % m) (λ j. 0) < length c.args.chosen.now) is_d zeros.1 in
-    let fewer_still = subst (λ k. distance n (λ j. ascending_polynomial d e (x j) % m) (λ j. 0) < k) c.requires.chosen fewer in
+    let fewer = subst (λ d. distance n (λ j. polynomial d e (x j) % m) (λ j. 0) < length c.args.chosen.now) is_d zeros.1 in
+    let fewer_still = subst (λ k. distance n (λ j. polynomial d e (x j) % m) (λ j. 0) < k) c.requires.chosen fewer in
     absurd (zeros.0 (enough_units m k cn d n u x y p e sent some lengths few room c.requires.fit
     (λ l b. entry_past number ring.value m c.args.locator.now l (omega (arith, b, is_d))) pair near fewer_still))

@@ -1,9 +1,10 @@
-use Rattle.std.proofs.Common.{◌≡◌, ◌≤◌, ◌%◌, ◌-◌, ℕ, sym, ◌∙◌, ap, refl, arith}
+use Rattle.std.proofs.Common.{◌≡◌, ◌≤◌, ◌%◌, ◌-◌, ℕ, sym, ◌∙◌, ap, refl, arith, length, slice_index}
 use Rattle.std.proofs.lemmas.List.Elements.{All-get_or}
 use Rattle.std.proofs.Math.Nat.{zero-mod}
 use Rattle.modular_word.proofs.ResidueLemmas.{residue_sub}
-use Rattle.modular_ring.specs.Hashes.{polynomial_value}
-use Rattle.test_operations.proofs.PolynomialLemmas.{value_none, residue_more, mapped_more}
+use Rattle.modular_word.specs.Sums.{polynomial_highest_first}
+use Rattle.modular_word.proofs.Polynomials.{value_none, residue_more}
+use Rattle.test_operations.proofs.PolynomialLemmas.{mapped_more}
 use Rattle.test_operations.proofs.tests.polynomial.horner.Goals as goal
 
 pub terms-init : goal.terms-init
@@ -41,6 +42,6 @@ terms-preserved g c =
       modulus = sum_is.modulus ∙ product_modulus;
       residue = sum_residue
           ∙ residue_more m _ (ring.residue_number item) (ring.residue_number x) _ _ so_far.residue product_residue
-          ∙ ap (λ cs. polynomial_value cs (ring.residue_number x) % m) (sym
+          ∙ ap (λ cs. polynomial_highest_first (length cs) (slice_index cs) (ring.residue_number x) % m) (sym
           (mapped_more ring.residue_number c.args.coefficients.now c.terms.c-index item c.terms-test.true c.c-item.is));
     }

@@ -1,5 +1,5 @@
-use Rattle.std.proofs.Common.{◌%◌, map, take}
-use Rattle.modular_ring.specs.Hashes.{polynomial_value}
+use Rattle.std.proofs.Common.{◌%◌, map, take, length, slice_index}
+use Rattle.modular_word.specs.Sums.{polynomial_highest_first}
 use Rattle.modular_reduced.specs.Integers.{IsInteger}
 use Rattle.test_operations.proofs.tests.polynomial.horner.Given as goal
 
@@ -8,5 +8,6 @@ abbrev pub invariant-terms : goal.invariant-terms
 invariant-terms g l =
     let ring = g.I.ModularInteger in
     let m = ring.modulus_number l.x in
+    let numbers = map ring.residue_number (take l.c-index l.coefficients) in
     IsInteger ring.modulus_number ring.residue_number m
-    (polynomial_value (map ring.residue_number (take l.c-index l.coefficients)) (ring.residue_number l.x) % m) l.value
+    (polynomial_highest_first (length numbers) (slice_index numbers) (ring.residue_number l.x) % m) l.value
