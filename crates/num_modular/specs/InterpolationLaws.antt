@@ -1,7 +1,7 @@
 -- Polynomials with n coefficients whose values at n numbers with unit differences are congruent have congruent
 -- coefficients: by induction, from a polynomial to its quotient by X - a. The names are the library's own words.
 use Rattle.std.proofs.Common.{◌≡◌, ◌≢◌, ℕ, zero, suc, ◌+◌, ◌-◌, ◌*◌, ◌%◌, ◌^◌, ◌<◌, ◌≤◌, pos, ◌-ℤ◌}
-use Rattle.std.proofs.Common.{ap, sym, ◌∙◌, arith, List, length, get_or}
+use Rattle.std.proofs.Common.{ap, sym, ◌∙◌, arith, List, length, get_or, slice_index}
 use Rattle.std.proofs.Math.Nat.{zero-mod}
 use Rattle.std.proofs.lemmas.List.{get_or_past}
 use Rattle.modular_word.specs.Congruence.{Congruent}
