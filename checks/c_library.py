@@ -13,6 +13,7 @@ WARNINGS = ["-Wall", "-Wextra", "-pedantic", "-Werror"]
 SANITIZERS = ["-g", "-pthread", "-fsanitize=address,undefined", "-fno-sanitize-recover=all"]
 SOURCES = "".join(it.read_text() for it in sorted(TOP.glob("crates/num_modular_c/src/*.rt")))
 TYPES = {"usize": "size_t", "i32": "int32_t", "i64": "int64_t", **{f"u{it}": f"uint{it}_t" for it in (8, 16, 32, 64)}}
+PARAMETER = re.compile(r"(\w+): ((?:&(?:'a )?|\*)(?:mut |const )?|)(\[?)(?:\w+::)*(\w+)")
 COUNT = re.compile(r"(\d+) passed, (\d+) failed")
 IN_C = """the keys are equal
 (1 + 2X + 3X^2)(4 + 5X) has the coefficients 4 13 22 15
@@ -37,15 +38,14 @@ def in_c(name):
     return TYPES.get(name) or re.sub(r"(?<=[a-z])(?=[A-Z])", "_", name).lower() + "_t"
 
 
-def exports():
-    """The parameters of each export, as type and name in C. A list is a pointer, and then a length without a name."""
+def exports(text=SOURCES):
+    """The parameters of each function for C, as type and name in C. A list is a pointer, and then a length without a name."""
     found = {}
-    for name, parameters in re.findall(r'\bpub extern "C" fn (\w+)(?:<\'a>)?\(([^)]*)\) -> u32\n', SOURCES):
+    for name, parameters in re.findall(r'\bpub (?:unsafe )?extern "C" fn (\w+)(?:<\'a>)?\(([^)]*)\) -> u32\b', text):
         found[name] = []
-        for own, reference, is_list, kind in re.findall(r"(\w+): (&(?:'a )?(?:mut )?|)(\[?)(\w+)", parameters):
-            reference = reference.replace("'a ", "")
-            constant = "const " if reference == "&" else ""
-            found[name].append((constant + in_c(kind) + (" *" if reference else " "), own))
+        for own, pointer, is_list, kind in PARAMETER.findall(parameters):
+            constant = "const " if pointer and "mut" not in pointer else ""
+            found[name].append((constant + in_c(kind) + (" *" if pointer else " "), own))
             found[name] += [("size_t ", None)] if is_list else []
     return found
 
@@ -60,9 +60,9 @@ def declarations(header):
     return {name: re.findall(r"((?:const )?\w+ \*?)(\w+)(?:,\s*|$)", words) for name, words in declared}
 
 
-def signatures(header):
-    """What the header declares in another way than the sources."""
-    wanted, declared = exports(), declarations(header)
+def signatures(header, wanted):
+    """What the header declares in another way than what is exported; a name that is None isn't compared."""
+    declared = declarations(header)
     for name in sorted({*wanted, *declared}):
         parameters = declared.get(name, [])
         alike = [a == b and c in (None, d) for (a, c), (b, d) in zip(wanted.get(name, []), parameters)]
@@ -70,15 +70,16 @@ def signatures(header):
             yield f"{name}({parameters}) is {wanted.get(name)} in the sources"
 
 
-def layouts(header, folder):
-    """What a C compiler says where a struct or a constant of the header isn't that of the sources."""
-    constants = re.findall(r"^pub const (NM_\w+): u\d+ = (\d+);$", SOURCES, re.M)
+def layouts(header, folder, text=SOURCES):
+    """What a C compiler says where a struct or a constant of the header isn't that of a text in Rattle or in Rust."""
+    constants = re.findall(r"^pub const (NM_\w+): u\d+ = (\d+);$", text, re.M)
     lines = [f'_Static_assert({name} == UINT64_C({value}), "{name}");' for name, value in constants]
-    structs = re.findall(r"#\[repr\(C\)\]\n[^\n]*\npub struct (\w+)(?:<'a>)? \{\n(.*?)\n\}", SOURCES, re.S)
+    structs = re.findall(r"#\[repr\(C\)\]\n(?:#[^\n]*\n)?pub struct (\w+)(?:<'a>)? \{\n(.*?)\n\}", text, re.S)
     for name, body in structs:
         fields = []
-        for own, is_list, kind in re.findall(r"^ +pub (\w+): (&'a \[)?(\w+)\]?,$", body, re.M):
-            fields += [(own, f"const {in_c(kind)} *"), (f"{own}_length", "size_t")] if is_list else [(own, in_c(kind))]
+        for own, pointer, kind in re.findall(r"^ +(?:pub )?(\w+): (&'a \[|\*const |)(?:\w+::)*(\w+)\]?,$", body, re.M):
+            fields.append((own, f"const {in_c(kind)} *" if pointer else in_c(kind)))
+            fields += [(f"{own}_length", "size_t")] if "[" in pointer else []
         lines.append(f"struct {name} {{ {' '.join(f'{kind} {own};' for own, kind in fields)} }};")
         lines.append(f'_Static_assert(sizeof({in_c(name)}) == sizeof(struct {name}), "{name}");')
         for own, kind in fields:
@@ -88,9 +89,10 @@ def layouts(header, folder):
     Path(folder, "num_modular.h").write_text(header)
     Path(folder, "layout.c").write_text("\n".join(["#include <num_modular.h>", *lines, ""]))
     said, status = run("cc", "-std=c11", *WARNINGS, f"-I{folder}", "-fsyntax-only", f"{folder}/layout.c")
-    defined = set(re.findall(r"^#define (NM_\w+) (?:UINT64_C|\d)", header, re.M)), set(re.findall(r"^\} (nm_\w+);", header, re.M))
-    wanted = {it for it, _ in constants}, {in_c(it) for it, _ in structs}
-    return [said] * (status != 0) + [f"{defined} {wanted}"] * (defined != wanted)
+    defined = {*re.findall(r"^#define (NM_\w+) (?:UINT64_C|\d)", header, re.M), *re.findall(r"^\} (nm_\w+);", header, re.M)}
+    wanted = {*(it for it, _ in constants), *(in_c(it) for it, _ in structs)}
+    differs = wanted != defined if text is SOURCES else wanted - defined
+    return [said] * (status != 0) + [f"{defined} {wanted}"] * bool(differs)
 
 
 def names(prefix):
@@ -117,21 +119,16 @@ def page(prefix, folder):
     return program(prefix, folder, "the example of c/README.md", [f"{folder}/page.c"], output[0])
 
 
-def compiled(prefix, folder, name, sources):
-    """Compiles a program under the sanitizers, and answers its file and what the compiler said."""
+def program(prefix, folder, name, sources, want):
+    """Compiles a program under the sanitizers, runs it, and compares what it prints; where nothing is wanted, its last line
+    counts."""
     file = f"{folder}/{os.path.basename(name)}.out"
     said, status = run("cc", "-std=c11", *WARNINGS, *SANITIZERS, "-o", file, *sources, *flags(prefix))
-    return file if status == 0 else None, said
-
-
-def program(prefix, folder, name, sources, want):
-    """Runs a program, and compares what it prints; where nothing is wanted, its last line counts."""
-    file, said = compiled(prefix, folder, name, sources)
-    if not file:
+    if status:
         yield told(f"{name} is compiled", False, said)
         return
     said, status = run(file)
-    counts = COUNT.fullmatch(said.strip().splitlines()[-1] if said.strip() else "")
+    counts = COUNT.fullmatch(said.strip().rpartition("\n")[2])
     yield told(f"{name} under the sanitizers", status == 0 and (counts if want is None else said == want), said)
     if want is None and counts:
         yield int(counts[1]), int(counts[2])

@@ -1,5 +1,8 @@
 """Runs what a script of checks/ tries, and says what passed and failed."""
+import os
+import re
 import subprocess
+from pathlib import Path
 
 
 def run(*words, **more):
@@ -22,3 +25,22 @@ def total(found):
     passed, failed = sum(it for it, _ in counts), sum(it for _, it in counts)
     print(f"{passed} passed, {failed} failed")
     return int(failed > 0 or passed == 0)
+
+
+def skipped(why):
+    """Says why nothing can be tried here, which is a fault under CI alone; answers the script's status."""
+    failed = int(bool(os.environ.get("CI")))
+    print(f"{why}\n0 passed, {failed} failed")
+    return failed
+
+
+def lowest_rust(package):
+    """The lowest version of Rust that a package states, and the folder of its rustc, or None: of the folder that the
+    variable LOWEST_RUST names, of /usr/bin, and of rustup's."""
+    version = re.search(r'^rust-version = "([\d.]+)"', (package / "Cargo.toml").read_text(encoding="utf-8"), re.M)[1]
+    home = Path(os.environ.get("RUSTUP_HOME", Path.home() / ".rustup"))
+    given = [Path(os.environ["LOWEST_RUST"])] if "LOWEST_RUST" in os.environ else []
+    for folder in (*given, Path("/usr/bin"), *home.glob("toolchains/*/bin")):
+        if (folder / "rustc").exists() and re.match(rf"rustc {version}[. ]", run(folder / "rustc", "--version")[0]):
+            return version, folder
+    return version, None
