@@ -1,6 +1,5 @@
 """Takes away what only proofs use, for rust/erase: laws, traits without members, imports; and names parameters that nothing reads."""
 import re
-from collections import Counter
 from dataclasses import dataclass, field
 
 from erase_conditions import first_of
@@ -8,6 +7,12 @@ from erase_tokens import COUNT, Token, Unknown, beyond, body_of, cut, lexed, par
 
 LAWS = "laws"  # a module of this name has what only proofs and tests call
 WIDTH = 100  # of an import
+# Modules and functions that only tests call, besides modules of laws: rustc warns where one is missing here, and refuses
+# the crate where one is too many.
+OF_TESTS = {
+    ("modular_symbols", "count"), ("modular_symbols/primes", "is_prime_by_search"), ("modular_transform", "plain"),
+    ("modular_word", "plain"),
+}
 
 
 # ------------------------------------------------------------------------------------------------ imports
@@ -68,12 +73,6 @@ def imports(tokens):
             begin = first_of(tokens, at)
             found.append(Import(begin, end + 1, tree, "pub" in [it.text for it in tokens[begin:at]]))
     return found[::-1]
-
-
-def leaves(tree, path=()):
-    """The last two words of each path that an import gives."""
-    path = (*path, *tree.words)
-    return [path[-2:]] if tree.inner is None else [it for part in tree.inner for it in leaves(part, path)]
 
 
 def kept(tree, keeps, path=()):
@@ -298,90 +297,17 @@ def mark_unread_fields(tokens):
             COUNT["field without a value named with an underscore"] += 1
 
 
-# ------------------------------------------------------------------------------------------------ modules of tests
-def only_tests_use(files, parts, named):
-    """The private modules whose functions only tests call: by crate, their paths. `files`: the tokens of the library by crate
-    and path; `parts`: the crates whose modules are private; `named`: what else is named, by the last two words of its path."""
-    free = {}
+# ------------------------------------------------------------------------------------------------ tests
+def mark_tests(files):
+    """Marks what only tests call, so that only they compile it. `files`: the tokens of the library by crate and path."""
+    lost = set(OF_TESTS)
     for crate, files_of_crate in files.items():
         for path, tokens in files_of_crate.items():
-            named_there = {it for found in imports(tokens) for it in leaves(found.tree)}
-            rest, exports = list(tokens[:-1]), False
-            for it in imports(rest):
-                exports |= it.public
-                del rest[it.begin : it.end]
-            named_there |= {(x.text.split("::")[-1], y.text) for x, sign, y in zip(rest, rest[1:], rest[2:]) if sign.text == "::"}
-            own = {(path.name, rest[at + 1].text) for at in free_functions(rest)}
-            modules = (crate, *path.parts)
-            own |= set(zip(modules, modules[1:])) if own else set()
-            free[crate, path] = own, named_there, has_functions_only(rest) and not exports
-    gone = {key for key in free if key[1].name == LAWS}
-    while True:
-        used = set(named).union(*(words for key, (_, words, _) in free.items() if key not in gone))
-        more = {key for key, (own, _, only) in free.items() if only and key[0] in parts and own and not own & used} - gone
-        if not more:
-            return gone
-        gone |= more
-
-
-def has_functions_only(tokens):
-    """Whether a file has no item but functions and constants."""
-    at = 0
-    while at < len(tokens):
-        if tokens[at].text in ("impl", "trait", "struct", "enum", "mod", "type", "use", "macro_rules"):
-            return False
-        if tokens[at].text == "fn" and tokens[at + 1].kind == "name":
-            at = body_of(tokens, at)
-        at = beyond(tokens, at) if tokens[at].text == "{" else at + 1
-    return True
-
-
-def mark_functions_of_tests(files, parts, gone, named):
-    """Marks the functions of the other private modules that only tests call, and what they alone import."""
-    last, exported = {name for _, name in named}, set()
-    for crate, files_of_crate in files.items():
-        for path, tokens in files_of_crate.items():
-            if (crate, path) not in gone:
-                last |= {it[-1] for found in imports(tokens) for it in leaves(found.tree)}
-                exported |= {it for found in imports(tokens) if found.public for it in leaves(found.tree)}
-                last |= {y.text for x, y in zip(tokens, tokens[1:]) if x.text == "::"}
-    for crate in parts:
-        for path, tokens in files[crate].items():
-            if (crate, path) in gone or exported & set(zip((crate, *path.parts), path.parts)):
-                continue  # whoever exports a module exports its functions
-            counts = Counter(it.text for it in tokens if it.kind == "name")
-            for at in reversed(free_functions(tokens)):
-                name = tokens[at + 1].text
-                if tokens[at - 1].text == "pub" and name not in last and counts[name] == 1:
-                    inside = Counter(it.text for it in tokens[at : beyond(tokens, body_of(tokens, at))] if it.kind == "name")
+            file = crate if str(path) == "lib" else f"{crate}/{path}"
+            for at in range(len(tokens) - 2, -1, -1):
+                key = file, tokens[at + 1].text
+                if tokens[at].text in ("mod", "fn") and key in OF_TESTS or stands(tokens, at, ["mod", LAWS, ";"]):
                     put_attribute(tokens, first_of(tokens, at), "#[cfg(test)]")
-                    mark_imports_of_tests(tokens, {it for it in inside if inside[it] == counts[it] - 1})
-
-
-def mark_imports_of_tests(tokens, names):
-    """Imports these names for tests alone, where a file imports them."""
-    found = []
-
-    def keeps(path, name):
-        if name in names:
-            found.append("::".join(path))
-        return name not in names
-
-    filter_imports(tokens, keeps, "that only tests need", public=False)
-    for path in found:
-        tokens[0:0] = lexed("#[cfg(test)]\nuse " + path + ";")
-        tokens[next(at for at, it in enumerate(tokens) if it.text == ";") + 1].lead = "\n" + tokens[
-            next(at for at, it in enumerate(tokens) if it.text == ";") + 1
-        ].lead.lstrip("\n")
-
-
-def mark_modules_of_tests(files, gone):
-    """Marks these modules, so that only tests compile them."""
-    for crate, path in gone:
-        files_of_crate = files[crate]
-        above = path.parent if path.parent in files_of_crate else next(it for it in files_of_crate if str(it) == "lib")
-        tokens = files_of_crate[above]
-        at = next((at for at in range(len(tokens)) if stands(tokens, at, ["mod", path.name, ";"])), None)
-        if at is None:
-            raise Unknown(f"crates/{crate}/src/{path}.rt: no module declares this one")
-        put_attribute(tokens, first_of(tokens, at), "#[cfg(test)]")
+                    lost.discard(key)
+    if lost:
+        raise Unknown(f"only tests should call these, which aren't there: {sorted(lost)}")
