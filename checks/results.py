@@ -18,6 +18,13 @@ def told(name, holds, said=""):
     return int(bool(holds)), int(not holds)
 
 
+def counted(faults, count=1):
+    """Prints the faults of so many things that were tried; answers how much passed and failed."""
+    for it in faults:
+        print(it, flush=True)
+    return max(count - len(faults), 0), len(faults)
+
+
 def total(found):
     """Prints how much passed and failed, of results that are true or false or count both; answers the script's status.
     Nothing at all is a fault too."""
