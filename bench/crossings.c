@@ -28,84 +28,43 @@ enum { SYMBOLS = 128, MESSAGE = 64, SCRATCH = 2 * SYMBOLS + 4 * SYMBOLS + 4 * ME
 static uint64_t points[SYMBOLS], message[MESSAGE], word[SYMBOLS], found[SYMBOLS], scratch[SCRATCH];
 static size_t places[SYMBOLS];
 
-static uint64_t mulm(uint64_t x) {
-    codes |= nm_mulm(x, factor, modulus, &x);
-    return x;
-}
+/* a step: a call of the answer before, and its own */
+#define STEP(NAME, CALL, ANSWER) \
+    static uint64_t NAME(uint64_t x) { \
+        codes |= CALL; \
+        return ANSWER; \
+    }
 
-static uint64_t montgomery_mul(uint64_t x) {
-    codes |= nm_montgomery_mul(&ring, x, factor_form, &x);
-    return x;
-}
+STEP(mulm, nm_mulm(x, factor, modulus, &x), x)
+STEP(montgomery_mul, nm_montgomery_mul(&ring, x, factor_form, &x), x)
+STEP(powm, nm_powm(x, exponent, modulus, &x), x)
+STEP(montgomery_pow, nm_montgomery_pow(&ring, x, exponent, &x), x)
+STEP(inverted, nm_invm(x, modulus, &x), x + 1)
+STEP(value, nm_montgomery_residue(&ring, x, &x), x)
 
-static uint64_t powm(uint64_t x) {
-    codes |= nm_powm(x, exponent, modulus, &x);
-    return x;
-}
+STEP(transform, (list[0] = x, nm_solinas_ntt(list, PLACES, root)), list[0])
+STEP(transform_montgomery, (list[0] = x, nm_montgomery_ntt(&prime_ring, list, PLACES, prime_root)), list[0])
+STEP(transform_planned, (list[0] = x, nm_ntt_planned(prime, list, PLACES, table, PLACES / 2)), list[0])
+STEP(table_tried, 0, x ^ nm_plan_fits(prime, prime_root, table, PLACES / 2))
+STEP(table_filled, 0, x ^ nm_plan(prime, prime_root, table, PLACES / 2))
 
-static uint64_t montgomery_pow(uint64_t x) {
-    codes |= nm_montgomery_pow(&ring, x, exponent, &x);
-    return x;
-}
-
-static uint64_t transform(uint64_t x) {
-    list[0] = x;
-    codes |= nm_solinas_ntt(list, PLACES, root);
-    return list[0];
-}
-
-static uint64_t transform_montgomery(uint64_t x) {
-    list[0] = x;
-    codes |= nm_montgomery_ntt(&prime_ring, list, PLACES, prime_root);
-    return list[0];
-}
-
-static uint64_t transform_planned(uint64_t x) {
-    list[0] = x;
-    codes |= nm_ntt_planned(prime, list, PLACES, table, PLACES / 2);
-    return list[0];
-}
-
-static uint64_t encoded(uint64_t x) {
-    message[0] = x;
-    codes |= nm_erasure_encode(&prime_ring, points, SYMBOLS, message, MESSAGE, word, SYMBOLS, scratch, SCRATCH);
-    return word[1];
-}
-
-static uint64_t restored(uint64_t x) {
-    word[0] = x;
-    codes |= nm_erasure_restore(&prime_ring, points, SYMBOLS, places, MESSAGE, word, MESSAGE, message, MESSAGE, scratch,
-                                SCRATCH);
-    return message[1];
-}
-
-/* of all symbols, of which none is wrong */
-static uint64_t corrected(uint64_t x) {
-    size_t errors;
-    uint64_t number;
-    codes |= nm_erasure_correct(&prime_ring, points, SYMBOLS, places, SYMBOLS, word, SYMBOLS, message, MESSAGE, found,
-                                SYMBOLS, scratch, SCRATCH, &errors, &number);
-    return x ^ errors;
-}
-
-static uint64_t inverted(uint64_t x) {
-    codes |= nm_invm(x, modulus, &x);
-    return x + 1;
-}
-
-static uint64_t table_tried(uint64_t x) { return x ^ nm_plan_fits(prime, prime_root, table, PLACES / 2); }
-
-static uint64_t table_filled(uint64_t x) { return x ^ nm_plan(prime, prime_root, table, PLACES / 2); }
+/* `corrected` takes all symbols, of which none is wrong */
+static size_t errors;
+static uint64_t number;
+#define CODE &prime_ring, points, SYMBOLS
+#define MEMORY scratch, SCRATCH
+STEP(encoded, (message[0] = x, nm_erasure_encode(CODE, message, MESSAGE, word, SYMBOLS, MEMORY)), word[1])
+STEP(restored, (word[0] = x, nm_erasure_restore(CODE, places, MESSAGE, word, MESSAGE, message, MESSAGE, MEMORY)),
+     message[1])
+STEP(corrected, nm_erasure_correct(CODE, places, SYMBOLS, word, SYMBOLS, message, MESSAGE, found, SYMBOLS, MEMORY,
+                                   &errors, &number), x ^ errors)
 
 #ifdef WITH_FLINT
-static uint64_t flint_mul(uint64_t x) { return n_mulmod2_preinv(x, factor, modulus, n_preinvert_limb(modulus)); }
-
 static uint64_t inverse;
-static uint64_t flint_mul_preinv(uint64_t x) { return n_mulmod2_preinv(x, factor, modulus, inverse); }
-
-static uint64_t flint_pow(uint64_t x) { return n_powmod2(x, (slong)exponent, modulus); }
-
-static uint64_t flint_inv(uint64_t x) { return n_invmod(x, modulus) + 1; }
+STEP(flint_mul, 0, n_mulmod2_preinv(x, factor, modulus, n_preinvert_limb(modulus)))
+STEP(flint_mul_preinv, 0, n_mulmod2_preinv(x, factor, modulus, inverse))
+STEP(flint_pow, 0, n_powmod2(x, (slong)exponent, modulus))
+STEP(flint_inv, 0, n_invmod(x, modulus) + 1)
 #endif
 
 /* The least time of a step, and the answer of the last. */
@@ -127,11 +86,6 @@ static uint64_t line(const char *name, uint64_t (*step)(uint64_t), uint64_t x, l
     uint64_t last;
     printf("%-32s %12.1f ns\n", name, measured(step, x, steps, &last));
     return last;
-}
-
-static uint64_t value(uint64_t form) {
-    codes |= nm_montgomery_residue(&ring, form, &form);
-    return form;
 }
 
 int main(void) {
