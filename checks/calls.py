@@ -180,8 +180,6 @@ class Promise:
         for place, names in re.findall(r"^use ([\w:]+?)::(\w+|\{[^}]*\});", self.of.whole, re.M):
             place = re.sub(r"^crate\b", self.crate, place) if function.crate != self.crate else place
             uses += [f"use {place}::{it};" for it in re.findall(r"\w+", names) if re.search(rf"\b{it}\b", said)]
-        if not any("◌≡◌" in it for it in uses):
-            uses.append("ghost use Rattle.std.specs.Prelude.{◌≡◌};")
         if function.file != self.of.file:
             own = "::".join(["crate" if function.crate == self.crate else self.crate, *module_of(self.of.file)])
             declared = re.findall(r"^pub (?:struct|trait|type|enum) (\w+)", self.of.whole, re.M)
@@ -198,9 +196,7 @@ class Promise:
         return list(find(function))
 
     def calls_of_name(self, function):
-        whole = "::".join(self.path.split("::")[1:-1])
-        pattern = rf"(?<![\w.:])(?<!fn )(?:(?:crate|{self.crate})::{whole}::)?{self.name}(?=\(|::<)"
-        for it in re.finditer(pattern, function.code):
+        for it in re.finditer(rf"(?<![\w.:])(?<!fn ){self.name}(?=\(|::<)", function.code):
             yield Call(self, function, it)
 
     def calls_of_methods(self, function):
@@ -208,17 +204,9 @@ class Promise:
         for it in re.finditer(rf"(?<![\w.])([\w.]+)\.{self.name}\(", function.code):
             is_own = it[1] == "self" and self.is_trait
             is_other = it[1] == "self" and not self.is_trait and function.is_of != self.of.block
-            is_other |= self.is_trait and self.is_without_impl(function, it[1])
             if not is_other and arguments(function.code, it.end() - 1) == expected:
                 is_borrowed = it[1] == "self" or re.search(rf"\b{it[1]}: &", function.code)
                 yield Call(self, function, it, f"({'' if is_borrowed else '&'}{it[1]}, ", is_own)
-
-    def is_without_impl(self, function, name):
-        """Whether a name is a parameter of a struct that doesn't have the promise's trait."""
-        of = re.search(rf"[(\s]{re.escape(name)}: &?(\w+)", function.code)
-        is_struct = of and any(re.search(rf"^pub struct {of[1]}\b", it.whole, re.M) for crate in LISTED for it in functions(crate))
-        impls = ((it.trait.split("<")[0], it.type.split("<")[0]) for crate in LISTED for it in functions(crate))
-        return bool(is_struct) and (self.of.block, of[1]) not in impls
 
     def calls_of_types(self, function):
         for it in re.finditer(rf"(?<![\w.:])(\w+)(?:::<([^()]*)>)?::{self.name}\(", function.code):
