@@ -10,8 +10,14 @@ TOKEN = re.compile(
     |(?P<label>'[A-Za-z_]\w*)|(?P<name>[A-Za-z_]\w*)|(?P<number>\d\w*(?:\.\d\w*)?)|(?P<sign>::|->|=>|.)""",
     re.X | re.S,
 )
-CLAUSE = re.compile(r"(?:requires|ensures)(?:\s+[a-z_]\w*)?\s*(?=\{)")
-MEMBER = re.compile(r"ghost\s+[a-z_]\w*\s*[:=]\s*(?=\{)")
+BRACES = r"\{(?:[^{}]|\{(?:[^{}]|\{(?:[^{}]|\{(?:[^{}]|\{[^{}]*\})*\})*\})*\})*\}"
+GHOST = re.compile(
+    rf"""(?P<clause>(?:requires|ensures)(?:\s+[a-z_]\w*)?\s*{BRACES})|(?P<import>ghost\s+use\b[^;]*;)
+    |(?P<member>ghost\s+[a-z_]\w*\s*[:=]\s*{BRACES}\s*[;,])
+    |(?P<tactic>\#!?\[(?:tactic|rattlefmt)\b(?:[^][]|\[[^]]*\])*\])
+    |(?P<unknown>(?:requires|ensures|ghost)\b|\#!?\[(?!(?:{'|'.join(sorted(ATTRIBUTES))})\b))""",
+    re.X,
+)
 COUNT = Counter()
 
 
@@ -33,41 +39,6 @@ class Token:
 
 
 # ------------------------------------------------------------------------------------------------ reading
-def closing(text, at):
-    """The end of what the bracket at `at` opens, in ghost text, where `--` begins a comment."""
-    depth = 0
-    while at < len(text):
-        if text.startswith("-- ", at) and text[at - 1].isspace():
-            at = text.index("\n", at)
-        depth += (text[at] in "({[") - (text[at] in ")}]")
-        at += 1
-        if depth == 0:
-            return at
-    raise Unknown("a bracket that isn't closed")
-
-
-def ghost_end(text, at):
-    """The kind and the end of the ghost text that begins at `at`; None where it is code."""
-    if found := CLAUSE.match(text, at):
-        return "clause", closing(text, found.end())
-    if re.compile(r"(?:requires|ensures)\b").match(text, at):
-        raise Unknown("a clause without braces")
-    if re.compile(r"ghost\s+use\b").match(text, at):
-        return "import", text.index(";", at) + 1
-    if found := MEMBER.match(text, at):
-        end = closing(text, found.end())
-        if text[end] not in ";,":
-            raise Unknown("a ghost member without an end")
-        return "member", end + 1
-    if re.compile(r"ghost\b").match(text, at):
-        raise Unknown("ghost text of an unknown kind")
-    if re.compile(r"#!?\[(?:tactic|rattlefmt)\b").match(text, at):
-        return "tactic", closing(text, text.index("[", at))
-    if text[at] == "#" and not re.compile(rf"#!?\[(?:{'|'.join(sorted(ATTRIBUTES))})\b").match(text, at):
-        raise Unknown("an attribute of an unknown kind")
-    return None
-
-
 def without_attached(lead):
     """What comes before an item, without the comments that stand right above it; the module's own docs stay."""
     lines = lead.split("\n")
@@ -91,31 +62,28 @@ def read(text):
     """The tokens of the code, without ghost text. The last token is empty."""
     tokens, at, lead, above, ghost, clause, asked = [], 0, "", None, False, False, False
     while at < len(text):
-        found = TOKEN.match(text, at)
+        found = GHOST.match(text, at) or TOKEN.match(text, at)
         kind, word = found.lastgroup, found.group()
         if kind in ("space", "comment"):
             lead, at = lead + word, found.end()
             continue
-        try:
-            gone = ghost_end(text, at) if kind == "name" or word == "#" else None
-            if gone is None and kind != "text" and not word.isascii():
-                raise Unknown(f"ghost text that nothing announces, {word}")
-        except (Unknown, ValueError) as fault:
-            raise Unknown(f"{text.count(chr(10), 0, at) + 1}: {fault}") from fault
+        gone = kind in ("clause", "import", "member", "tactic")
+        if kind == "unknown" or not (gone or kind == "text" or word.isascii()):
+            raise Unknown(f"{text.count(chr(10), 0, at) + 1}: ghost text of an unknown kind, or an attribute, {word}")
         if above is not None:
             lead = joined(above, lead)
             above = None
         if gone:
-            COUNT[f"{gone[0]} taken away"] += 1
-            at, ghost, clause = gone[1], True, clause or gone[0] == "clause"
-            if gone[0] == "clause":
-                lead, asked = "", asked or word == "requires"
+            COUNT[f"{kind} taken away"] += 1
+            at, ghost, clause = found.end(), True, clause or kind == "clause"
+            if kind == "clause":
+                lead, asked = "", asked or word.startswith("requires")
             else:
                 for words in (["pub"], ["pub", "(", "crate", ")"]):
-                    if gone[0] != "tactic" and [it.text for it in tokens[-len(words) :]] == words:
+                    if kind != "tactic" and [it.text for it in tokens[-len(words) :]] == words:
                         lead = tokens[-len(words)].lead
                         del tokens[-len(words) :]
-                above, lead = without_attached(lead) if gone[0] != "tactic" else lead, ""
+                above, lead = without_attached(lead) if kind != "tactic" else lead, ""
             continue
         if clause:
             lead, clause = " " if word == "{" else "", False
