@@ -9,7 +9,7 @@ import textwrap
 from collections import defaultdict
 from dataclasses import dataclass
 
-from erase_tokens import COUNT, Unknown, beginning, beyond, body_of, header, lexed, parameters, put_attribute
+from erase_tokens import COUNT, Unknown, beginning, beyond, body_of, header, lexed, next_of, parameters, put_attribute
 
 SENTENCE = re.compile(r"\s?\bConditions?(?: of [^:.]*)?:\s+(.+?)\.(?=\s|$)\s?", re.S)
 OF_PROOFS = r"\w_laws`|\blaws below\b|\b[Cc]ontracts?\b|\b[Cc]lauses `"
@@ -167,9 +167,7 @@ def functions(tokens):
     blocks = []
     for at, it in enumerate(tokens):
         if it.text == "trait" and tokens[at + 1].kind == "name":
-            body = at
-            while tokens[body].text != "{":
-                body += 1
+            body = next_of(tokens, at, "{")
             blocks.append((body, beyond(tokens, body), tokens[at + 1].text, True))
         if it.text == "impl" and it.kind == "name" and (found := header(tokens, at)):
             blocks.append((found[1], beyond(tokens, found[1]), found[0], False))

@@ -113,6 +113,11 @@ def stands(tokens, at, words):
     return [it.text for it in tokens[at : at + len(words)]] == words
 
 
+def next_of(tokens, at, *words):
+    """The index of the next of these words."""
+    return next(it for it in range(at, len(tokens)) if tokens[it].text in words)
+
+
 def beyond(tokens, at):
     """The index behind what the bracket at `at` opens, angle brackets too."""
     pairs = {"<": ">", "(": ")", "{": "}", "[": "]"}
@@ -160,9 +165,7 @@ def header(tokens, at):
         at += 1
     if tokens[at].text != "for":
         return None
-    while tokens[at].text != "{":
-        at += 1
-    return name, at
+    return name, next_of(tokens, at, "{")
 
 
 def body_of(tokens, at):

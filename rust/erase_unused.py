@@ -3,7 +3,7 @@ import re
 from dataclasses import dataclass, field
 
 from erase_conditions import first_of
-from erase_tokens import COUNT, Token, Unknown, beyond, body_of, cut, lexed, parameters, put_attribute, stands
+from erase_tokens import COUNT, Token, Unknown, beyond, body_of, cut, lexed, next_of, parameters, put_attribute, stands
 
 LAWS = "laws"  # a module of this name has what only proofs and tests call
 WIDTH = 100  # of an import
@@ -190,9 +190,7 @@ def take_markers(tokens, markers):
     filter_imports(tokens, lambda _, name: name not in markers, "of a trait without members")
     for at in range(len(tokens) - 2, 0, -1):
         if tokens[at].text == "trait" and tokens[at + 1].text in markers:
-            end = at
-            while tokens[end].text != "{":
-                end += 1
+            end = next_of(tokens, at, "{")
             cut(tokens, first_of(tokens, at), beyond(tokens, end), True)
             COUNT["trait without members taken away"] += 1
         elif tokens[at].text in markers and tokens[at].kind == "name" and tokens[at - 1].text in (":", "+"):
@@ -225,9 +223,7 @@ def traits_of(files):
     for tokens in files:
         for at, it in enumerate(tokens):
             if it.text == "trait" and tokens[at + 1].kind == "name":
-                body = at
-                while tokens[body].text != "{":
-                    body += 1
+                body = next_of(tokens, at, "{")
                 end = beyond(tokens, body)
                 methods = {tokens[x + 1].text for x in range(body, end) if tokens[x].text == "fn"}
                 found[tokens[at + 1].text] = Trait(methods, {x.text for x in tokens[at + 2 : body] if x.kind == "name"})
@@ -276,9 +272,7 @@ def name_unread(tokens):
                     tokens[body + 1 : body + 1] = lexed(f"{lead}let _ = {words[0]};")
                     COUNT["parameter that nothing reads named"] += 1
         if stands(tokens, at, ["for", "("]) and stands(tokens, beyond(tokens, at + 1), ["in"]):
-            opened = at
-            while tokens[opened].text != "{":
-                opened += 1
+            opened = next_of(tokens, at, "{")
             inside = {it.text for it in tokens[opened : beyond(tokens, opened)]}
             if stands(tokens, opened - 4, ". enumerate ( )".split()) and tokens[at + 2].text not in inside:
                 del tokens[opened - 4 : opened]
