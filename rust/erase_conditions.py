@@ -9,7 +9,7 @@ import textwrap
 from collections import defaultdict
 from dataclasses import dataclass
 
-from erase_tokens import COUNT, Unknown, beginning, beyond, body_of, header, lexed, next_of, parameters, put_attribute
+from erase_tokens import COUNT, Unknown, beginning, beyond, body_of, header, lexed, parameters, put_attribute, traits
 
 SENTENCE = re.compile(r"\s?\bConditions?(?: of [^:.]*)?:\s+(.+?)\.(?=\s|$)\s?", re.S)
 OF_PROOFS = r"\w_laws`|\blaws below\b|\b[Cc]ontracts?\b|\b[Cc]lauses `"
@@ -164,11 +164,8 @@ class Function:
 
 def functions(tokens):
     """The functions of a file, the last first."""
-    blocks = []
+    blocks = [(body, beyond(tokens, body), tokens[name].text, True) for name, _, body, _ in traits(tokens)]
     for at, it in enumerate(tokens):
-        if it.text == "trait" and tokens[at + 1].kind == "name":
-            body = next_of(tokens, at, "{")
-            blocks.append((body, beyond(tokens, body), tokens[at + 1].text, True))
         if it.text == "impl" and it.kind == "name" and (found := header(tokens, at)):
             blocks.append((found[1], beyond(tokens, found[1]), found[0], False))
     for at in range(len(tokens) - 2, -1, -1):
@@ -208,9 +205,9 @@ def conditions_of_traits(files):
     """By trait, and by trait and method: the condition that the docs state. `files`: the tokens of all files."""
     found = {}
     for tokens in files:
-        for at, it in enumerate(tokens):
-            if it.text == "trait" and tokens[at + 1].kind == "name" and (words := condition(tokens[first_of(tokens, at)].lead)):
-                found[tokens[at + 1].text] = words
+        for name, *_ in traits(tokens):
+            if words := condition(tokens[first_of(tokens, name - 1)].lead):
+                found[tokens[name].text] = words
         for it in functions(tokens):
             words = condition(tokens[first_of(tokens, it.at)].lead)
             if it.declared and tokens[it.body].asked and (words or it.trait in found):

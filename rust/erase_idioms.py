@@ -2,41 +2,10 @@
 import re
 from types import SimpleNamespace
 
-from erase_tokens import COUNT, beyond, lexed, stands
+from erase_tokens import COUNT, beyond, lexed, matched, stands, text_of
 
 PLACE = "entry"  # the entry of a list in a loop
 ASCII = {("b'0'", "b'9'"): "is_ascii_digit()", ("b'A'", "b'Z'"): "is_ascii_uppercase()"}
-
-
-def text_of(tokens):
-    return "".join(it.lead + it.text for it in tokens)
-
-
-def matched(tokens, at, pattern):
-    """What the names of a pattern stand for where it begins at `at`, and the index behind it; None where it doesn't match.
-    `$x` is one token, `$x..` are the tokens up to the pattern's next word, `$x{}` is a block; a name stands for the same
-    each time."""
-    found, words = {}, pattern.split()
-    for word, behind in zip(words, [*words[1:], ""]):
-        begin, name, stop = at, word.strip("$.{}"), "{" if behind.endswith("{}") else behind
-        if word.endswith(".."):
-            while tokens[at].text != stop:
-                if tokens[at].text in (";", "}", ""):
-                    return None
-                at = beyond(tokens, at) if tokens[at].text in ("(", "[", "{") else at + 1
-        elif word.endswith("{}") and word != "{}":
-            if tokens[at].text != "{":
-                return None
-            at = beyond(tokens, at)
-        elif tokens[at].text != word and (word[0] != "$" or tokens[at].kind in ("sign", "end")):
-            return None
-        else:
-            at += 1
-        if word[0] == "$":
-            part = tokens[begin:at]
-            if [it.text for it in found.setdefault(name, part)] != [it.text for it in part]:
-                return None
-    return found, at
 
 
 def loops_over_lists(tokens):

@@ -141,6 +141,46 @@ def parameters(tokens):
     return [it for it in parts if it]
 
 
+def text_of(tokens):
+    return "".join(it.lead + it.text for it in tokens)
+
+
+def matched(tokens, at, pattern):
+    """What the names of a pattern stand for where it begins at `at`, and the index behind it; None where it doesn't match.
+    `$x` is one token, `$x..` are the tokens up to the pattern's next word, `$x{}` is a block; a name stands for the same
+    each time."""
+    found, words = {}, pattern.split()
+    for word, behind in zip(words, [*words[1:], ""]):
+        begin, name, stop = at, word.strip("$.{}"), "{" if behind.endswith("{}") else behind
+        if word.endswith(".."):
+            while tokens[at].text != stop:
+                if tokens[at].text in (";", "}", ""):
+                    return None
+                at = beyond(tokens, at) if tokens[at].text in ("(", "[", "{") else at + 1
+        elif word.endswith("{}") and word != "{}":
+            if tokens[at].text != "{":
+                return None
+            at = beyond(tokens, at)
+        elif tokens[at].text != word and (word[0] != "$" or tokens[at].kind in ("sign", "end")):
+            return None
+        else:
+            at += 1
+        if word[0] == "$":
+            part = tokens[begin:at]
+            if [it.text for it in found.setdefault(name, part)] != [it.text for it in part]:
+                return None
+    return found, at
+
+
+def traits(tokens):
+    """Each trait: the indexes of its name, of its bounds and of its body, and its parameters."""
+    for at, it in enumerate(tokens):
+        if it.text == "trait" and tokens[at + 1].kind == "name":
+            bounds = beyond(tokens, at + 2) if tokens[at + 2].text == "<" else at + 2
+            body = next_of(tokens, bounds, "{")
+            yield at + 1, bounds, body, parameters(tokens[at + 2 : bounds]) if bounds > at + 2 else []
+
+
 def cut(tokens, begin, end, item):
     """Takes tokens away; with an item the comments right above it go too."""
     lead = tokens[begin].lead

@@ -1,9 +1,9 @@
 """Takes away what only proofs use, for rust/erase: laws, traits without members, imports; and names parameters that nothing reads."""
 import re
-from dataclasses import dataclass, field
+from dataclasses import dataclass
 
 from erase_conditions import first_of
-from erase_tokens import COUNT, Token, Unknown, beyond, body_of, cut, lexed, next_of, parameters, put_attribute, stands
+from erase_tokens import COUNT, Token, Unknown, beyond, body_of, cut, lexed, next_of, parameters, put_attribute, stands, traits
 
 LAWS = "laws"  # a module of this name has what only proofs and tests call
 WIDTH = 100  # of an import
@@ -209,37 +209,26 @@ def take_markers(tokens, markers):
 
 
 # ------------------------------------------------------------------------------------------------ names
-@dataclass
-class Trait:
-    """The methods of a trait, and the traits that it requires."""
-
-    methods: set = field(default_factory=set)
-    supers: set = field(default_factory=set)
-
-
 def traits_of(files):
-    """The traits of these files by their name."""
+    """The traits of these files by name: their methods, and the traits that they require."""
     found = {}
     for tokens in files:
-        for at, it in enumerate(tokens):
-            if it.text == "trait" and tokens[at + 1].kind == "name":
-                body = next_of(tokens, at, "{")
-                end = beyond(tokens, body)
-                methods = {tokens[x + 1].text for x in range(body, end) if tokens[x].text == "fn"}
-                found[tokens[at + 1].text] = Trait(methods, {x.text for x in tokens[at + 2 : body] if x.kind == "name"})
+        for name, _, body, _ in traits(tokens):
+            methods = {tokens[x + 1].text for x in range(body, beyond(tokens, body)) if tokens[x].text == "fn"}
+            found[tokens[name].text] = methods, {x.text for x in tokens[name + 1 : body] if x.kind == "name"}
     return found
 
 
-def implied(names, traits):
+def implied(names, known):
     """These names, and the traits that those among them require."""
     found, rest = set(), set(names)
     while rest:
         found |= rest
-        rest = {other for it in rest if it in traits for other in traits[it].supers} - found
+        rest = {other for it in rest if it in known for other in known[it][1]} - found
     return found
 
 
-def take_unused_imports(tokens, traits):
+def take_unused_imports(tokens, known):
     """Takes the imports away that only ghost text used. A trait is used where it is named, and where a method of it is called
     that no bound of the file brings."""
     inside = {at for it in imports(tokens) for at in range(it.begin, it.end)}
@@ -247,13 +236,13 @@ def take_unused_imports(tokens, traits):
     heads = zip([Token("", "end", ""), *outside], outside)
     names = {it.text for before, it in heads if it.kind == "name" and before.text not in (".", "::", "fn")}
     called = {it.text for before, it in zip(outside, outside[1:]) if before.text in (".", "::")}
-    brought = implied(names, traits)
-    others = {method for it in brought & set(traits) for method in traits[it].methods}
+    brought = implied(names, known)
+    others = {method for it in brought & set(known) for method in known[it][0]}
 
     def is_used(path, name):
         if name in names or name in ("*", "self", "_"):
             return True
-        return name in traits and name not in brought and bool(traits[name].methods & called - others)
+        return name in known and name not in brought and bool(known[name][0] & called - others)
 
     filter_imports(tokens, is_used, "that nothing uses", public=False)
 
