@@ -5,21 +5,13 @@
 //! Each function here returns the address of one instance, of whose arguments the compiler knows nothing. It is exported
 //! under the name that `checks/divisions` prints and `divisions.txt` lists: the type, and the function or method.
 
-use num_modular::modular_barrett::exact::exact_quotient;
-use num_modular::modular_barrett::roomy::RoomyModulus;
-use num_modular::modular_folds::folds::{fold_all, fold_three, fold_two, reduce_by_folds};
-use num_modular::modular_folds::products::{reduce_product, reduce_word};
-use num_modular::modular_monty::odd_ring::StoredModulus;
-use num_modular::modular_monty::proth::{ProthNumber32, ProthNumber64};
+use num_modular::modular_barrett::{exact::*, roomy::*};
+use num_modular::modular_folds::{folds::*, products::*};
+use num_modular::modular_monty::{odd_ring::StoredModulus, proth::*};
 use num_modular::modular_plan_transforms::split::split_loosely;
-use num_modular::modular_prim::below::{add_below, branchless_sub_below, dbl_below, neg_below, reduced_once, sub_below};
-use num_modular::modular_prim::euclid::invm;
-use num_modular::modular_prim::inverse::{fast_inverse, inverse_by_subtraction};
-use num_modular::modular_prim::power::powm;
-use num_modular::modular_prim::residues::{addm, dblm, mulm, negm, reduced, sqm, subm};
-use num_modular::modular_word::paths::{clearing, div_1by1, div_2by1, exact_1, exact_2, neginv, ones, redc, reduce_by, two};
-use num_modular::plans::{convolve_block, convolve_negacyclic, convolve_planned, join, join_scaled, multiply, ntt_planned};
-use num_modular::plans::{plan, split, Factor, PlannedModulus};
+use num_modular::modular_prim::{below::*, euclid::*, inverse::*, power::*, residues::*};
+use num_modular::modular_word::paths::*;
+use num_modular::plans::*;
 use num_modular::{
     DivExact, DivExactAssign, FixedMersenne, FixedMersenne32, FixedMersenne64, FixedMontgomery32, FixedMontgomery64,
     FixedProth32, FixedProth64, FixedTrinomialSolinas32, FixedTrinomialSolinas64, Montgomery, Normalized2by1Divisor,
@@ -45,17 +37,13 @@ macro_rules! of {
     };
 }
 
-/// Functions at a width of words.
+/// Functions at a width of words, and over factors of that width.
 macro_rules! at {
-    ($word:ty: $($name:ident)*) => {
-        $(call!(concat!(stringify!($name), "::<", stringify!($word), ">"), $name::<$word>);)*
+    ($word:ty, $given:tt: $($name:ident)*) => {
+        $(at! { $name $word, $given })*
     };
-}
-
-/// Functions at a width of words, over factors of that width.
-macro_rules! by_factors {
-    ($word:ty: $($name:ident)*) => {
-        $(call!(concat!(stringify!($name), "::<", stringify!($word), ">"), $name::<$word, Factor<$word>>);)*
+    ($name:ident $word:ty, ($($given:ty),*)) => {
+        call!(concat!(stringify!($name), "::<", stringify!($word), ">"), $name::<$($given),*>);
     };
 }
 
@@ -113,13 +101,13 @@ macro_rules! each_width {
         call!(concat!("PreMulInv2by1<", stringify!($word), ">::const new"), <PreMulInv2by1<$word>>::new);
         call!(concat!("Montgomery<", stringify!($word), ">::const new"), <Montgomery<$word>>::new);
         at! {
-            $word: exact_quotient ones two div_2by1 div_1by1 exact_1 exact_2 neginv clearing reduce_by redc
+            $word, ($word): exact_quotient ones two div_2by1 div_1by1 exact_1 exact_2 neginv clearing reduce_by redc
             reduced_once add_below sub_below branchless_sub_below dbl_below neg_below
             reduced addm subm mulm negm dblm sqm powm invm inverse_by_subtraction fast_inverse
         }
-        by_factors! {
-            $word: plan split split_loosely join join_scaled multiply ntt_planned convolve_block convolve_planned
-            convolve_negacyclic
+        at! {
+            $word, ($word, Factor<$word>): plan split split_loosely join join_scaled multiply ntt_planned convolve_block
+            convolve_planned convolve_negacyclic
         }
     )*};
 }
@@ -135,8 +123,8 @@ each_width! {
 /// Folds at a width of words, with numbers that aren't known when they are compiled.
 macro_rules! folds {
     ($($word:ident, $double:ident;)*) => {$(
-        at! { $word: reduce_by_folds reduce_product reduce_word }
-        at! { $double: fold_two fold_three fold_all }
+        at! { $word, ($word): reduce_by_folds reduce_product reduce_word }
+        at! { $double, ($double): fold_two fold_three fold_all }
     )*};
 }
 
@@ -145,60 +133,63 @@ folds! {
     u64, u128;
 }
 
-/// Fixed reducers by folds.
-macro_rules! fold_rings {
-    ($($type:ty: $word:ident;)*) => {$(
-        reducers! { $type: $word; }
-        of! { $type: fixed_modulus reduce_single reduce_double reduce_counted }
-    )*};
+/// Fixed reducers over words of one kind, with functions of their own.
+macro_rules! fixed {
+    ($word:ident: $own:tt; $($type:ty;)*) => {
+        $(
+            reducers! { $type: $word; }
+            fixed! { $type, $own }
+        )*
+    };
+    ($type:ty, ($($own:ident)*)) => {
+        of! { $type: $($own)* }
+    };
 }
 
-fold_rings! {
-    FixedMersenne32<2, 1>: u32;
-    FixedMersenne32<13, 1>: u32;
-    FixedMersenne32<16, 1>: u32;
-    FixedMersenne32<17, 257>: u32;
-    FixedMersenne32<20, 524287>: u32;
-    FixedMersenne32<31, 1>: u32;
-    FixedMersenne32<32, 1>: u32;
-    FixedMersenne32<32, 5>: u32;
-    FixedMersenne32<32, 65537>: u32;
-    FixedMersenne32<32, 2147483647>: u32;
-    FixedMersenne64<2, 1>: u64;
-    FixedMersenne64<13, 1>: u64;
-    FixedMersenne64<32, 5>: u64;
-    FixedMersenne64<33, 131073>: u64;
-    FixedMersenne64<40, 549755813887>: u64;
-    FixedMersenne64<61, 1>: u64;
-    FixedMersenne64<64, 1>: u64;
-    FixedMersenne64<64, 59>: u64;
-    FixedMersenne64<64, 4294967297>: u64;
-    FixedMersenne64<64, 9223372036854775807>: u64;
-    FixedTrinomialSolinas32<2, 1, 1>: u32;
-    FixedTrinomialSolinas32<24, 16, -65535>: u32;
-    FixedTrinomialSolinas32<32, 1, 1>: u32;
-    FixedTrinomialSolinas32<32, 16, -3>: u32;
-    FixedTrinomialSolinas32<32, 31, 2147483647>: u32;
-    FixedTrinomialSolinas32<5, 4, -3>: u32;
-    FixedTrinomialSolinas32<32, 31, -1>: u32;
-    FixedTrinomialSolinas64<2, 1, 1>: u64;
-    FixedTrinomialSolinas64<40, 30, -1073741823>: u64;
-    FixedTrinomialSolinas64<64, 1, -1>: u64;
-    FixedTrinomialSolinas64<64, 32, 1>: u64;
-    FixedTrinomialSolinas64<64, 63, 9223372036854775807>: u64;
-    FixedTrinomialSolinas64<5, 4, -3>: u64;
-    FixedTrinomialSolinas64<64, 63, -1>: u64;
+fixed! {
+    u32: (fixed_modulus reduce_single reduce_double reduce_counted);
+    FixedMersenne32<2, 1>;
+    FixedMersenne32<13, 1>;
+    FixedMersenne32<16, 1>;
+    FixedMersenne32<17, 257>;
+    FixedMersenne32<20, 524287>;
+    FixedMersenne32<31, 1>;
+    FixedMersenne32<32, 1>;
+    FixedMersenne32<32, 5>;
+    FixedMersenne32<32, 65537>;
+    FixedMersenne32<32, 2147483647>;
+    FixedTrinomialSolinas32<2, 1, 1>;
+    FixedTrinomialSolinas32<24, 16, -65535>;
+    FixedTrinomialSolinas32<32, 1, 1>;
+    FixedTrinomialSolinas32<32, 16, -3>;
+    FixedTrinomialSolinas32<32, 31, 2147483647>;
+    FixedTrinomialSolinas32<5, 4, -3>;
+    FixedTrinomialSolinas32<32, 31, -1>;
 }
 
-/// The fixed reducers by folds over words of 128 bits.
-macro_rules! wide_fold_rings {
-    ($($type:ty;)*) => {$(
-        reducers! { $type: u128; }
-        of! { $type: fixed_modulus reduce_single reduce_counted }
-    )*};
+fixed! {
+    u64: (fixed_modulus reduce_single reduce_double reduce_counted);
+    FixedMersenne64<2, 1>;
+    FixedMersenne64<13, 1>;
+    FixedMersenne64<32, 5>;
+    FixedMersenne64<33, 131073>;
+    FixedMersenne64<40, 549755813887>;
+    FixedMersenne64<61, 1>;
+    FixedMersenne64<64, 1>;
+    FixedMersenne64<64, 59>;
+    FixedMersenne64<64, 4294967297>;
+    FixedMersenne64<64, 9223372036854775807>;
+    FixedTrinomialSolinas64<2, 1, 1>;
+    FixedTrinomialSolinas64<40, 30, -1073741823>;
+    FixedTrinomialSolinas64<64, 1, -1>;
+    FixedTrinomialSolinas64<64, 32, 1>;
+    FixedTrinomialSolinas64<64, 63, 9223372036854775807>;
+    FixedTrinomialSolinas64<5, 4, -3>;
+    FixedTrinomialSolinas64<64, 63, -1>;
 }
 
-wide_fold_rings! {
+fixed! {
+    u128: (fixed_modulus reduce_single reduce_counted);
     FixedMersenne<2, 1>;
     FixedMersenne<40, 549755813887>;
     FixedMersenne<61, 1>;
@@ -207,32 +198,28 @@ wide_fold_rings! {
     FixedMersenne<64, 9223372036854775807>;
 }
 
-/// Fixed reducers by Montgomery's reduction.
-macro_rules! odd_rings {
-    ($($type:ty: $word:ident;)*) => {$(
-        reducers! { $type: $word; }
-        of! { $type: fixed_modulus }
-    )*};
+fixed! {
+    u32: (fixed_modulus);
+    FixedMontgomery32<1>;
+    FixedMontgomery32<3>;
+    FixedMontgomery32<97>;
+    FixedMontgomery32<2147483649>;
+    FixedMontgomery32<4294967295>;
 }
 
-odd_rings! {
-    FixedMontgomery32<1>: u32;
-    FixedMontgomery32<3>: u32;
-    FixedMontgomery32<97>: u32;
-    FixedMontgomery32<2147483649>: u32;
-    FixedMontgomery32<4294967295>: u32;
-    FixedMontgomery64<1>: u64;
-    FixedMontgomery64<3>: u64;
-    FixedMontgomery64<97>: u64;
-    FixedMontgomery64<9223372036854775809>: u64;
-    FixedMontgomery64<18446744073709551615>: u64;
+fixed! {
+    u64: (fixed_modulus);
+    FixedMontgomery64<1>;
+    FixedMontgomery64<3>;
+    FixedMontgomery64<97>;
+    FixedMontgomery64<9223372036854775809>;
+    FixedMontgomery64<18446744073709551615>;
 }
 
 /// Fixed reducers of Proth numbers, with the type of their modulus.
 macro_rules! proth_rings {
     ($($type:ty, $number:ty: $word:ident;)*) => {$(
-        odd_rings! { $type: $word; }
-        of! { $type: reduce }
+        fixed! { $word: (fixed_modulus reduce); $type; }
         of! { $number: shift_mul }
     )*};
 }
