@@ -3,9 +3,15 @@
 In Rattle, a list of an `extern "C"` function is a pointer and a length. In Rust it isn't, so each such function becomes a
 safe one, and gets a wrapper in capi/src/lib.rs that makes references and slices of what C passes.
 """
-from erase_tokens import COUNT, Unknown, beyond, lexed, parameters, stands
+import re
 
-EXPORT = '# [ unsafe ( no_mangle ) ] pub extern "C" fn'.split()
+from erase_tokens import COUNT, Unknown, lexed, stands
+
+MARK = "# [ unsafe ( no_mangle ) ]"
+EXPORT = re.compile(re.escape(MARK) + r' pub extern "C" fn (\w+) (?:< \'\w+ > )?\( (.*?) ?\) -> u32 ')
+# A parameter or a field: its name, the reference before its type, whether it is a list, and the type without lifetimes.
+TYPED = re.compile(r"(?:pub )?(\w+) : (&?) ?(?:'\w+ )?(mut )?(\[ )?(\w+)(?: < '\w+ >)?(?: \])?(?: ,|$) ?")
+STRUCT = re.compile(r"\bstruct (\w+) (< '\w+ > )?\{ (.*?) \}")
 PLAIN = {"u8", "u32", "u64", "i32", "i64", "usize"}
 HEAD = '''//! The functions that `c/include/num_modular.h` declares, over the module `num_modular_c` of the library.
 //!
@@ -21,54 +27,36 @@ use runtime::{list, list_mut};
 '''
 
 
-def typed(words):
-    """A parameter's or a field's type: the reference before it, whether it is a list, and the name; without lifetimes."""
-    words = [it for it in words if not it.startswith("'")]
-    words = words[:-2] if words[-2:] == ["<", ">"] else words
-    reference = "&" if words[0] == "&" else ""
-    mutable = "mut " if words[1:2] == ["mut"] else ""
-    rest = words[len(reference) + bool(mutable) :]
-    is_list = rest[0] == "[" and rest[-1] == "]"
-    rest = rest[1:-1] if is_list else rest
-    if len(rest) != 1 or is_list and not reference or not reference and rest[0] not in PLAIN:
-        raise Unknown(f"the type {' '.join(words)}")
-    return reference + mutable, is_list, rest[0]
+def typed(text):
+    """The parameters or fields of a text: the name, the reference, whether it is a list, and the name of the type."""
+    found, end = [], 0
+    while end < len(text):
+        one = TYPED.match(text, end)
+        if not one or one[4] and not one[2] or not one[2] and one[5] not in PLAIN:
+            raise Unknown(f"the parameter or field {text[end:]}")
+        found.append((one[1], one[2] + (one[3] or ""), bool(one[4]), one[5]))
+        end = one.end()
+    return found
 
 
-def exports(tokens):
-    """The index, the name and the parameters of each function for C: the parameter's name, reference, list and type."""
-    for at, it in enumerate(tokens):
-        if it.text != "#" or not stands(tokens, at, EXPORT):
-            continue
-        name, found = tokens[at + len(EXPORT)].text, []
-        opened = at + len(EXPORT) + 1
-        opened = beyond(tokens, opened) if tokens[opened].text == "<" else opened
-        closed = beyond(tokens, opened)
-        if not stands(tokens, closed, ["->", "u32"]):
-            raise Unknown(f"{name} doesn't return a code")
-        for own, colon, *kind in ([it.text for it in part] for part in parameters(tokens[opened:closed])):
-            if colon != ":":
-                raise Unknown(f"{name} has the parameter {own} {colon}")
-            found.append((own, *typed(kind)))
-        yield at, name, found
+def exports(code):
+    """The name and the parameters of each function for C."""
+    found = [(name, typed(words)) for name, words in EXPORT.findall(code)]
+    if len(found) != code.count(MARK):
+        raise Unknown("a function for C that doesn't return a code")
+    return found
 
 
 STRUCTS = {}  # the module of each struct
 LENT = {}  # the fields of each struct that holds a list
 
 
-def read_structs(path, tokens):
+def read_structs(path, code):
     """Notes the structs of a module."""
-    for at, it in enumerate(tokens):
-        if it.text != "struct":
-            continue
-        name, opened = tokens[at + 1].text, at + 2
+    for name, lent, fields in STRUCT.findall(code):
         STRUCTS[name] = path
-        if tokens[opened].text != "<":
-            continue
-        opened = beyond(tokens, opened)
-        parts = parameters(tokens[opened : beyond(tokens, opened)])
-        LENT[name] = [(own, *typed(kind)) for _, own, _, *kind in ([it.text for it in part] for part in parts)]
+        if lent:
+            LENT[name] = typed(fields)
 
 
 def path_of(kind):
@@ -151,18 +139,18 @@ impl {name} {{
 
 def wrappers(files):
     """The text of capi/src/lib.rs; the functions themselves become safe ones."""
-    for path, tokens in files.items():
-        read_structs(path, tokens)
+    codes = {path: " ".join(it.text for it in tokens) for path, tokens in files.items()}
+    for path, code in codes.items():
+        read_structs(path, code)
     texts = [lent_struct(name) for name in LENT]
-    texts += [wrapper(path, name, found) for path, tokens in files.items() for _, name, found in exports(tokens)]
+    texts += [wrapper(path, name, found) for path, code in codes.items() for name, found in exports(code)]
     for path, tokens in files.items():
-        for at in reversed([at for at, _, _ in exports(tokens)]):
+        for at in range(len(tokens) - 2, -1, -1):
             lead = tokens[at].lead
-            tokens[at : at + len(EXPORT)] = lexed(f"{lead}pub fn")
-            COUNT["function for C made a safe one"] += 1
-        if str(path) == "lib":
-            for at in range(len(tokens) - 2, -1, -1):
-                if stands(tokens, at, ["mod"]) and tokens[at + 2].text == ";":
-                    lead, tokens[at].lead = tokens[at].lead, " "
-                    tokens[at:at] = lexed(f"{lead}pub")
+            if stands(tokens, at, f'{MARK} pub extern "C" fn'.split()):
+                tokens[at : at + 11] = lexed(f"{lead}pub fn")
+                COUNT["function for C made a safe one"] += 1
+            elif str(path) == "lib" and tokens[at].text == "mod" and tokens[at + 2].text == ";":
+                tokens[at].lead = " "
+                tokens[at:at] = lexed(f"{lead}pub")
     return HEAD + "\n" + "\n".join(texts)
