@@ -1,4 +1,4 @@
-"""Runs what a script of checks/ tries, and says what passed and failed."""
+"""Runs what a script of checks/ tries, and says what passed and failed: the last line is 'N passed, M failed'."""
 import os
 import re
 import subprocess
