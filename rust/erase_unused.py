@@ -17,49 +17,33 @@ OF_TESTS = {
 
 # ------------------------------------------------------------------------------------------------ imports
 @dataclass
-class Path:
-    """A part of an import: a path, and what stands in its braces, or None; `alias` is the name after `as`."""
-
-    words: list
-    inner: list = None
-    alias: str = ""
-
-    def name(self):
-        return self.alias or next(it for it in reversed(self.words) if it != "self")
-
-    def text(self):
-        inner = "" if self.inner is None else "::{" + ", ".join(it.text() for it in self.inner) + "}"
-        return "::".join(self.words) + inner + (f" as {self.alias}" if self.alias else "")
-
-
-@dataclass
 class Import:
-    """An import: the indexes of its first token and behind its last, and its tree."""
+    """An import: the indexes of its first token and behind its last, its paths, and whether it is public."""
 
     begin: int
     end: int
-    tree: Path
+    paths: list
     public: bool
 
 
-def read_path(tokens, at):
-    """The part of an import at `at`, and the index behind it."""
-    found = Path([])
-    while True:
-        if tokens[at].text == "{":
-            found.inner, at = [], at + 1
-            while tokens[at].text != "}":
-                part, at = read_path(tokens, at)
-                found.inner.append(part)
-                at += tokens[at].text == ","
-            return found, at + 1
-        found.words += tokens[at].text.split("::")  # a rewritten head is one token
-        at += 1
-        if tokens[at].text == "as":
-            found.alias, at = tokens[at + 1].text, at + 2
-        if tokens[at].text != "::":
-            return found, at
-        at += 1
+def paths_of(text):
+    """The paths of an import, each with what stands behind it, as `as NAME`."""
+    text = text.replace(" :: ", "::")
+    while inner := re.search(r"([\w:]*)\{([^{}]*)\}", text):
+        parts = [inner[1] + it.strip() for it in inner[2].split(",") if it.strip()]
+        text = text[: inner.start()] + " , ".join(parts) + text[inner.end() :]
+    return [it.strip() for it in text.split(",")]
+
+
+def tree(paths):
+    """Paths as one, with braces."""
+    heads = {}
+    for it in paths:
+        head, _, rest = it.partition("::")
+        heads.setdefault(head, []).append(rest)
+    inner = {head: "{self}" if rests == ["self"] else tree(rests) for head, rests in heads.items() if rests != [""]}
+    parts = [f"{head}::{inner[head]}" if head in inner else head for head in heads]
+    return parts[0] if len(parts) == 1 else "{" + ", ".join(parts) + "}"
 
 
 def imports(tokens):
@@ -67,40 +51,25 @@ def imports(tokens):
     found = []
     for at, it in enumerate(tokens):
         if it.text == "use" and it.kind == "name" and tokens[at - 1].text != ".":
-            tree, end = read_path(tokens, at + 1)
-            if tokens[end].text != ";":
-                raise Unknown("an import that has no end")
-            begin = first_of(tokens, at)
-            found.append(Import(begin, end + 1, tree, "pub" in [it.text for it in tokens[begin:at]]))
+            begin, end = first_of(tokens, at), next_of(tokens, at, ";")
+            paths = paths_of(" ".join(it.text for it in tokens[at + 1 : end]))
+            found.append(Import(begin, end + 1, paths, "pub" in [it.text for it in tokens[begin:at]]))
     return found[::-1]
-
-
-def kept(tree, keeps, path=()):
-    """The tree without the leaves that `keeps` refuses; None for nothing."""
-    whole = (*path, *tree.words)
-    if tree.inner is None:
-        return tree if keeps(whole, tree.name()) else None
-    inner = [it for it in (kept(part, keeps, whole) for part in tree.inner) if it]
-    if len(inner) == 1 and inner[0].words != ["self"]:
-        return Path([*tree.words, *inner[0].words], inner[0].inner, inner[0].alias)
-    return Path(tree.words, inner, tree.alias) if inner else None
 
 
 def filter_imports(tokens, keeps, what, public=True):
     """Takes the names that `keeps` refuses out of the imports, those that are public too, where `public` is true."""
     for it in imports(tokens):
-        if it.public and not public:
-            continue
-        tree = kept(it.tree, keeps)
-        if tree and tree.text() == it.tree.text():
+        names = [re.split(r"::| as ", path.removesuffix("::self")) for path in it.paths]
+        paths = [path for path, words in zip(it.paths, names) if keeps(words, words[-1])]
+        if it.public and not public or paths == it.paths:
             continue
         COUNT[f"import {what} taken away"] += 1
-        if tree is None:
+        if not paths:
             cut(tokens, it.begin, it.end, True)
             continue
         head = "".join(x.lead * (count > 0) + x.text for count, x in enumerate(tokens[it.begin : it.end]))
-        head = head[: re.search(r"\buse\s", head).end()]
-        text = f"{head}{tree.text()};"
+        text = head[: re.search(r"\buse ", head).end()] + tree(paths) + ";"
         if len(text.rsplit("\n", 1)[-1]) > WIDTH:
             opened, closed = text.index("{"), text.rindex("}")
             lines = re.sub(r"(.{1,92}),(?: |$)", r"    \1,\n", text[opened + 1 : closed] + ", ").rstrip()
