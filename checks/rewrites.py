@@ -49,17 +49,10 @@ def without_markers(code, found):
 
 def leaves(tree):
     """The paths of an import."""
-    inner = re.match(r"([^{]*?)(?: :: )?\{ (.*) \}$", tree)
-    if not inner:
-        return [tree]
-    rest, parts, depth = inner[2].split(" "), [[]], 0
-    for word in rest:
-        depth += (word == "{") - (word == "}")
-        if word == "," and not depth:
-            parts.append([])
-        else:
-            parts[-1].append(word)
-    return [f"{inner[1]} :: {leaf}" for part in parts if part for leaf in leaves(" ".join(part))]
+    while inner := re.search(r"((?:\w+ :: )*)\{ ([^{}]*) \}", tree):
+        parts = [inner[1] + it.strip() for it in inner[2].split(",") if it.strip()]
+        tree = tree[: inner.start()] + " , ".join(parts) + tree[inner.end() :]
+    return tree.split(" , ")
 
 
 def parted(code):
