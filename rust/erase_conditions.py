@@ -120,9 +120,9 @@ LOOKS = {
 }
 # What a test that fails shows besides its words: the end of the message, and what stands in its braces.
 FACTORS_SHOWN = (": {} entries, {} factors, b = {}, last = {}", "xs.len(), table.len(), b, last")
-NUMBER = "crate::additions::number"
+NUMBER, SHOWN_MODULUS = "crate::additions::number", "crate::additions::ShownModulus"
 SHOWN = {
-    "the moduli must be equal": (": {} and {}", f"{NUMBER}(x.reducer.modulus()), {NUMBER}(y.reducer.modulus())"),
+    "the moduli must be equal": (": {} and {}", ", ".join(f"{SHOWN_MODULUS}({it}.reducer.shown_modulus())" for it in "xy")),
     "the lists must have the same length": (": {} and {}", "xs.len(), ys.len()"),
     "the length must be a power of two": (": {}", "xs.len()"),
     "g must suit the length": (": n = {}, m = {}, g = {}", f"xs.len(), {NUMBER}(r.modulus()), {NUMBER}(r.residue(*g))"),
@@ -143,7 +143,7 @@ BETWEEN = (
 TESTED_BELOW = (
     ((EVERY,), r"(Modular(Core|Unary|Ref)Ops|ModularPow|ModularAbs|PlainWord)\.\w+"),
     ((EVERY,), r"modular_prim/(residues|euclid|power|counted/\w+)\.\w+|modular_prim/abs\.signed_residue"),
-    ((EVERY,), r"[\w/]+\.(new|of|keep)|modular_(folds|monty)/\w+\.(fixed_modulus|reduce_single|reduce_double|reduce_counted)"),
+    ((EVERY,), r"[\w/]+\.(new|of|keep)|modular_(folds|monty)/\w+\.(fixed_modulus|reduced_word|reduce_double|reduce_counted)"),
     ((EVERY, DEBUG, EVERY), r"modular_transform/transform\.ntt"),
     ((DEBUG, EVERY, DEBUG), r"modular_plan\w*/transform\.ntt_planned"),
     ((EVERY,), r"modular_plan\w*/convolution\.\w+"),

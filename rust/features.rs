@@ -20,12 +20,12 @@ macro_rules! fixed {
 
 #[cfg(feature = "num-traits")]
 mod numbers {
-    use crate::{ModularInteger, ReducedInt, Reducer, RingWord};
+    use crate::{ModularInteger, ReducedInt, Reducer};
     use num_traits::{Inv, One, Pow, Zero};
 
     const NO_INVERSE: &str = "the integer must have an inverse modulo m";
 
-    impl<T: RingWord, R: Reducer<T> + Copy> Inv for ReducedInt<T, R> {
+    impl<T: PartialEq + Clone, R: Reducer<T> + Clone> Inv for ReducedInt<T, R> {
         type Output = Self;
 
         /// The inverse.
@@ -39,16 +39,16 @@ mod numbers {
         }
     }
 
-    impl<T: RingWord, R: Reducer<T> + Copy> Inv for &ReducedInt<T, R> {
+    impl<T: PartialEq + Clone, R: Reducer<T> + Clone> Inv for &ReducedInt<T, R> {
         type Output = ReducedInt<T, R>;
 
         #[track_caller]
         fn inv(self) -> ReducedInt<T, R> {
-            ReducedInt::inv(*self).expect(NO_INVERSE)
+            ReducedInt::inv(self.clone()).expect(NO_INVERSE)
         }
     }
 
-    impl<T: RingWord, R: Reducer<T> + Copy> Pow<T> for ReducedInt<T, R> {
+    impl<T: PartialEq + Clone, R: Reducer<T> + Clone> Pow<T> for ReducedInt<T, R> {
         type Output = Self;
 
         fn pow(self, exp: T) -> Self {
@@ -56,7 +56,7 @@ mod numbers {
         }
     }
 
-    impl<T: RingWord, R: Reducer<T> + Copy> Pow<&T> for ReducedInt<T, R> {
+    impl<T: PartialEq + Clone, R: Reducer<T> + Clone> Pow<&T> for ReducedInt<T, R> {
         type Output = Self;
 
         fn pow(self, exp: &T) -> Self {
@@ -64,11 +64,11 @@ mod numbers {
         }
     }
 
-    impl<T: RingWord, R: Reducer<T> + Copy> Pow<T> for &ReducedInt<T, R> {
+    impl<T: PartialEq + Clone, R: Reducer<T> + Clone> Pow<T> for &ReducedInt<T, R> {
         type Output = ReducedInt<T, R>;
 
         fn pow(self, exp: T) -> ReducedInt<T, R> {
-            ReducedInt::pow(*self, &exp)
+            ReducedInt::pow(self.clone(), &exp)
         }
     }
 
@@ -189,7 +189,7 @@ mod serial {
 
     const FIELDS: &[&str] = &["modulus", "residue"];
 
-    impl<T: RingWord + Serialize, R: Reducer<T> + Copy> Serialize for ReducedInt<T, R> {
+    impl<T: PartialEq + Clone + Serialize, R: Reducer<T> + Clone> Serialize for ReducedInt<T, R> {
         /// The fields `modulus` and `residue`.
         fn serialize<S: Serializer>(&self, serializer: S) -> Result<S::Ok, S::Error> {
             let mut fields = serializer.serialize_struct("ReducedInt", 2)?;

@@ -2,20 +2,20 @@
 //! computations here call proved functions.
 
 use crate::applications::ring_codes::erasure::{CorrectError, RestoreError, ShareError};
-use crate::{ModularInteger, ReducedInt, Reducer, RingWord};
+use crate::{ModularInteger, ReducedInt, Reducer};
 use core::fmt;
 use core::hash::{Hash, Hasher};
 use core::iter::{Product, Sum};
 use core::ops::DivAssign;
 
-impl<T: RingWord + fmt::Display, R: Reducer<T> + Copy> fmt::Display for ReducedInt<T, R> {
+impl<T: PartialEq + Clone + fmt::Display, R: Reducer<T> + Clone> fmt::Display for ReducedInt<T, R> {
     /// The residue.
     fn fmt(&self, f: &mut fmt::Formatter) -> fmt::Result {
         self.residue().fmt(f)
     }
 }
 
-impl<T: RingWord + fmt::Debug, R: Reducer<T> + Copy> fmt::Debug for ReducedInt<T, R> {
+impl<T: PartialEq + Clone + fmt::Debug, R: Reducer<T> + Clone> fmt::Debug for ReducedInt<T, R> {
     /// The residue and the modulus.
     fn fmt(&self, f: &mut fmt::Formatter) -> fmt::Result {
         write!(f, "{:?} (mod {:?})", self.residue(), self.modulus())
@@ -25,7 +25,7 @@ impl<T: RingWord + fmt::Debug, R: Reducer<T> + Copy> fmt::Debug for ReducedInt<T
 // In other bases the residue is written, as `Display` writes it.
 macro_rules! bases {
     ($($base:ident)*) => {$(
-        impl<T: RingWord + fmt::$base, R: Reducer<T> + Copy> fmt::$base for ReducedInt<T, R> {
+        impl<T: PartialEq + Clone + fmt::$base, R: Reducer<T> + Clone> fmt::$base for ReducedInt<T, R> {
             /// The residue.
             fn fmt(&self, f: &mut fmt::Formatter) -> fmt::Result {
                 fmt::$base::fmt(&self.residue(), f)
@@ -36,9 +36,9 @@ macro_rules! bases {
 
 bases!(LowerHex UpperHex Octal Binary);
 
-impl<T: RingWord, R: Reducer<T> + Copy> Eq for ReducedInt<T, R> {}
+impl<T: Eq, R: Reducer<T>> Eq for ReducedInt<T, R> {}
 
-impl<T: RingWord + Hash, R: Reducer<T> + Copy> Hash for ReducedInt<T, R> {
+impl<T: PartialEq + Clone + Hash, R: Reducer<T> + Clone> Hash for ReducedInt<T, R> {
     /// Equal integers, which have equal residues and moduli, hash equally.
     fn hash<H: Hasher>(&self, state: &mut H) {
         self.residue().hash(state);
@@ -46,17 +46,17 @@ impl<T: RingWord + Hash, R: Reducer<T> + Copy> Hash for ReducedInt<T, R> {
     }
 }
 
-impl<T: RingWord, R: Reducer<T> + Copy> DivAssign for ReducedInt<T, R> {
+impl<T: PartialEq + Clone, R: Reducer<T> + Clone> DivAssign for ReducedInt<T, R> {
     #[cfg_attr(debug_assertions, track_caller)]
     fn div_assign(&mut self, rhs: Self) {
-        *self = *self / rhs;
+        *self = self.clone() / rhs;
     }
 }
 
-impl<T: RingWord, R: Reducer<T> + Copy> DivAssign<&Self> for ReducedInt<T, R> {
+impl<T: PartialEq + Clone, R: Reducer<T> + Clone> DivAssign<&Self> for ReducedInt<T, R> {
     #[cfg_attr(debug_assertions, track_caller)]
     fn div_assign(&mut self, rhs: &Self) {
-        *self = *self / rhs;
+        *self = self.clone() / rhs;
     }
 }
 

@@ -114,7 +114,8 @@ fn parameters_out_of_range() {
     panic_with!(RANGE; FixedMersenne32::<4, 16>::reduce_single(1000), FixedMersenne32::<4, 16>::reduce_double(1000));
     panic_with!(RANGE; FixedMersenne64::<65, 1>::fixed_modulus(), FixedMersenne::<65, 1>::fixed_modulus());
     panic_with!(RANGE; FixedTrinomialSolinas32::<5, 2, 5>::fixed_modulus(), FixedTrinomialSolinas32::<2, 5, 1>::fixed_modulus());
-    panic_with!(RANGE; FixedTrinomialSolinas32::<33, 5, 1>::reduce_double(7));
+    panic_with!(RANGE; FixedTrinomialSolinas32::<33, 5, 1>::reduce_double(7), FixedTrinomialSolinas32::<33, 5, 1>::reduce_single(7));
+    panic_with!(RANGE; FixedTrinomialSolinas32::<5, 2, 4>::reduce_single(7), FixedMersenne::<65, 1>::reduce_single(7));
 }
 
 #[test]
