@@ -1,12 +1,11 @@
 -- Residues of sums and of negatives.
 use Rattle.std.proofs.Common.{◌≡◌, ℕ, ◌+◌, ◌-◌, ◌*◌, ◌/◌, ◌%◌, ◌<◌, ◌≤◌, pos}
 use Rattle.std.proofs.Common.{negsuc, neg_ℤ, ◌-ℤ◌, sym, ap, ◌∙◌, arith, ⊎_elim, inl, inr}
-use Rattle.std.proofs.Math.Nat.{add-mod-mod, add-mod_right, mod-lt, mod-mod, mod_self, mod-eq_of_lt, div-add-mod, add-mul-mod_self_left}
+use Rattle.std.proofs.Math.Nat.{add-mod_right, mod-lt, mod-mod, mod_self, mod-eq_of_lt, div-add-mod, add-mul-mod_self_left}
 use Rattle.std.proofs.lemmas.Bool.{cases_lt}
 use Rattle.std.proofs.lemmas.Int.{ints}
 use Rattle.modular_word.specs.Residues.{residue}
-use Rattle.modular_word.proofs.Congruence.{mod_cancel}
-use Rattle.modular_word.proofs.ResidueLemmas.{residue_is, residue_neg, difference_and}
+use Rattle.modular_word.proofs.ResidueLemmas.{residue_neg}
 
 -- the residue of a negative, by the remainder of the number
 pub neg_value : (m n : ℕ) → 0 < m → residue m (neg_ℤ (pos n)) ≡ (m - n % m) % m
@@ -79,15 +78,6 @@ pub difference_above : (m a b r : ℕ) → a < m → r + b ≡ a → r ≡ resid
 difference_above m a b r h e =
     let f : pos r ≡ pos a -ℤ pos b = omega (arith, ints) in
     sym (mod-eq_of_lt (let k : r < m = omega arith in k)) ∙ ap (residue m) f
-
--- the difference of two remainders has the residue of the difference
-pub sub_of_rests : (m a b : ℕ) → 0 < m → residue m (pos (a % m) -ℤ pos (b % m)) ≡ residue m (pos a -ℤ pos b)
-sub_of_rests m a b h =
-    let rests = pos (a % m) -ℤ pos (b % m) in
-    let whole = pos a -ℤ pos b in
-    mod_cancel m (residue m rests) (residue m whole) b (residue_is m rests h).below (residue_is m whole h).below
-    (sym (add-mod-mod (residue m rests) b m) ∙ difference_and m (a % m) (b % m) h ∙ mod-mod a m
-    ∙ sym (difference_and m a b h))
 
 -- by the gap m - b: the sum of a and b below m, and the one that is at least m
 pub sum_within : (m a b gap r : ℕ) → gap + b ≡ m → a < gap → r ≡ a + b → r ≡ (a + b) % m

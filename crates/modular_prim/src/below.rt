@@ -66,7 +66,25 @@ pub fn dbl_below<T: PathWord>(a: T, m: T) -> T
     ensures value { T.number result ≡ (2 * T.number a) % T.number m }
     ensures below { T.number result < T.number m }
 {
-    add_below(a, a, m)
+    if T::bits() <= 8 {
+        doubled_once(a, m)
+    } else {
+        add_below(a, a, m)
+    }
+}
+
+// The residue of 2a, below m, by a comparison of the sum. At 8 bits compilers work on more entries of a list at once
+// than by the carry of `add_below`. Condition: a is below m.
+fn doubled_once<T: PathWord>(a: T, m: T) -> T
+    requires { T.number a < T.number m }
+    ensures value { T.number result ≡ (2 * T.number a) % T.number m }
+    ensures below { T.number result < T.number m }
+{
+    // Reading the word gives the proof that it fits its width.
+    let _ = m.is_below(a);
+    let (sum, over) = a.overflowing_add(a);
+    let less = sum.wrapping_sub(m);
+    if over || !sum.is_below(m) { less } else { sum }
 }
 
 /// The residue of -a, below m. Condition: a is below m.

@@ -3,7 +3,7 @@
 ghost use Rattle.std.specs.Prelude.{◌≡◌, ℕ, ◌+◌, ◌*◌, ◌%◌, ◌<◌, ◌≤◌, pos, ◌-ℤ◌, neg_ℤ, IsTrue};
 ghost use Rattle.modular_word.specs.Residues.{residue};
 
-use crate::below::{add_below, dbl_below, neg_below, sub_below};
+use crate::below::{add_below, dbl_below, neg_below};
 use crate::plain_word::PlainWord;
 use modular_word::path_word::PathWord;
 use modular_word::ring_word::RingWord;
@@ -83,14 +83,11 @@ pub fn subm<T: PlainWord>(a: T, b: T, m: T) -> T
     requires { 1 ≤ T.number m }
     ensures { T.number result ≡ residue (T.number m) (pos (T.number a) -ℤ pos (T.number b)) }
 {
-    if T::bits() <= 16 {
-        return sub_below(a.remainder(m), b.remainder(m), m);
-    }
     let apart = distance(a, b);
     let is_residue = if T::bits() > 32 {
         apart.is_below(m)
     } else {
-        a.is_below(m) & b.is_below(m)
+        spares_division(a, m) & spares_division(b, m)
     };
     let rest = reduced_unless(is_residue, apart, m);
     if a.is_below(b) {
@@ -121,7 +118,11 @@ pub fn dblm<T: PlainWord>(a: T, m: T) -> T
     requires { 1 ≤ T.number m }
     ensures { T.number result ≡ (2 * T.number a) % T.number m }
 {
-    dbl_below(reduced(a, m), m)
+    if T::bits() <= 16 {
+        addm(a, a, m)
+    } else {
+        dbl_below(reduced(a, m), m)
+    }
 }
 
 /// The residue of a·a, below m. Condition: m is at least 1.
