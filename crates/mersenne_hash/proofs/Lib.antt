@@ -1,1 +1,5 @@
+mod Concatenations
+mod Lengths
+mod Parts
 mod Primality
+mod Written

@@ -1,5 +1,6 @@
--- Hashes of texts at several bases (Carter and Wegman, "Universal classes of hash functions", 1979).
-use Rattle.std.specs.Prelude.{◌≡◌, ◌≢◌, ℕ, ◌%◌, ◌<◌, List, length, slice_index, All}
+-- Hashes of texts at several bases (Dietzfelbinger, Gil, Matias and Pippenger, "Polynomial hash functions are
+-- reliable", 1992).
+use Rattle.std.specs.Prelude.{◌≡◌, ◌≢◌, ℕ, ◌+◌, ◌%◌, ◌<◌, ◌≤◌, List, ◌∷◌, length, slice_index, All}
 use Rattle.num_modular.specs.Sums.{polynomial_highest_first}
 use Rattle.num_modular.specs.Mersenne.{mersenne}
 
@@ -17,3 +18,10 @@ abbrev pub FewCollisions : Type 0
 FewCollisions = (s t : List ℕ) (x : ℕ → ℕ) → length s ≡ length t → AreApart (length s) x
     → All (λ c. c < mersenne 61 1) s → All (λ c. c < mersenne 61 1) t
     → ((i : ℕ) → i < length s → hash_of s (x i) ≡ hash_of t (x i)) → s ≡ t
+
+-- two texts of at most n symbols below 2^61 - 1 are equal if, each behind a symbol 1, they have the same hash at n + 1
+-- different bases: so at most n bases give two different texts, of whatever lengths, the same hash
+abbrev pub FewCollisionsOfAnyLengths : Type 0
+FewCollisionsOfAnyLengths = (s t : List ℕ) (n : ℕ) (x : ℕ → ℕ) → length s ≤ n → length t ≤ n → AreApart (n + 1) x
+    → All (λ c. c < mersenne 61 1) s → All (λ c. c < mersenne 61 1) t
+    → ((i : ℕ) → i < n + 1 → hash_of (1 ∷ s) (x i) ≡ hash_of (1 ∷ t) (x i)) → s ≡ t

@@ -1,30 +1,68 @@
-//! Hashes at several bases, over `num_modular::hashes`: at how many bases two texts can have the same hash.
+//! Hashes of texts, over `num_modular::hashes`: at how many bases two texts can have the same hash, and the hashes of
+//! parts (`prefixes`).
 #![tactic(auto)]
 
-ghost use Rattle.std.specs.Prelude.{◌≡◌, ℕ, ◌%◌, ◌<◌, ◌≤◌, ◌↔◌, IsTrue, length, slice_index};
+pub mod prefixes;
+
+ghost use Rattle.std.specs.Prelude.{◌≡◌, ℕ, ◌+◌, ◌*◌, ◌%◌, ◌^◌, ◌<◌, ◌≤◌, ◌↔◌, IsTrue, List, ◌∷◌, ◌++◌, length};
+ghost use Rattle.std.specs.Prelude.{slice_index};
+ghost use Rattle.num_modular.specs.Integers.{residue_of};
 ghost use Rattle.num_modular.specs.Mersenne.{mersenne};
 ghost use Rattle.num_modular.specs.Primes.{IsPrime};
-ghost use Rattle.mersenne_hash.specs.Collisions.{hash_of, AreApart, FewCollisions};
+ghost use Rattle.mersenne_hash.specs.Collisions.{hash_of, AreApart, FewCollisions, FewCollisionsOfAnyLengths};
 
-use num_modular::hashes::{base, hash};
-use num_modular::laws::{polynomial_laws, prime_laws};
+use num_modular::ModularInteger;
+use num_modular::hashes::{Hash, base, hash};
+use num_modular::laws::{polynomial_laws, prime_laws, range_laws};
 
 /// 2^61 - 1 is prime. So two different texts of n symbols below 2^61 - 1 have the same hash at fewer than n of the
-/// bases 0 to 2^61 - 2, and any n different bases distinguish them.
+/// bases 0 to 2^61 - 2, and any n different bases distinguish them: for a random base the hashes are
+/// (n - 1)/(2^61 - 1)-almost universal. With a symbol 1 in front, as in `length_hash`, two different texts of at most n
+/// symbols have the same hash at no more than n bases, also where their lengths differ. The hash of two texts, one after
+/// the other, follows from theirs.
 ///
 /// Source: Pocklington, "The determination of the prime or composite nature of large numbers by Fermat's theorem";
-/// Carter and Wegman, "Universal classes of hash functions". The proof uses the law of polynomials
-/// `num_modular::laws::polynomial_laws`.
+/// Dietzfelbinger, Gil, Matias and Pippenger, "Polynomial hash functions are reliable". The proof uses the law of
+/// polynomials `num_modular::laws::polynomial_laws`.
 pub fn collision_laws()
     ensures prime { IsPrime (mersenne 61 1) }
     ensures few { FewCollisions }
+    ensures lengths { FewCollisionsOfAnyLengths }
+    ensures joined { (s t : List ℕ) (x : ℕ) →
+        hash_of (s ++ t) x ≡ (hash_of s x * x ^ length t + hash_of t x) % mersenne 61 1 }
 {
     prime_laws();
     polynomial_laws();
+    range_laws();
+}
+
+/// The hash of a text behind a symbol 1: b^n + `hash(b, text)` for n bytes at the base b. Texts that differ by zeros in
+/// front have different ones at all bases but few, where `hash` is the same for them at each base.
+///
+/// # Examples
+///
+/// ```
+/// use num_modular::applications::mersenne_hash::length_hash;
+/// use num_modular::hashes::{base, hash};
+///
+/// let base = base(123_456_789);
+/// assert_eq!(hash(base, b"\0a"), hash(base, b"a"));
+/// assert_ne!(length_hash(base, b"\0a"), length_hash(base, b"a"));
+/// ```
+pub fn length_hash(base: Hash, text: &[u8]) -> Hash
+    ensures { residue_of result ≡ hash_of (1 ∷ text.now) (residue_of base) }
+{
+    range_laws();
+    let mut value = base.convert(1);
+    'bytes: for byte in text {
+        value = value * base + *byte as u64;
+    }
+    value
 }
 
 /// Whether two texts have the same hash at each of the bases. For texts of equal length n and at least n different
-/// bases that is whether the texts are equal.
+/// bases that is whether the texts are equal. Where both texts are at hand `==` is faster: this is the comparison of two
+/// parties that exchange hashes alone.
 ///
 /// # Examples
 ///

@@ -1,0 +1,88 @@
+-- Polynomials of texts that are joined, and of texts behind zeros.
+use Rattle.std.proofs.Common.{◌≡◌, ℕ, zero, suc, ◌+◌, ◌-◌, ◌*◌, ◌%◌, ◌^◌, ◌<◌, List, ◌++◌, length, get_or, slice_index}
+use Rattle.std.proofs.Common.{replicate, arith, ap, ap₂, sym, ◌∙◌, length-append, add-one}
+use Rattle.std.proofs.Math.ListN.{get_or-append}
+use Rattle.std.proofs.Math.Nat.{pow-zero, pow-suc}
+use Rattle.std.proofs.lemmas.List.{length-replicate, get_or-replicate, get_or-append-add}
+use Rattle.num_modular.specs.NumberLaws.{sum_below-zero, sum_below-same, mod_add, mod_mul, mod_refl, mod_trans, mod_of_eq}
+use Rattle.num_modular.specs.NumberLaws.{residue_of}
+use Rattle.num_modular.specs.SumLaws.{tail}
+use Rattle.num_modular.specs.Sums.{sum_below, polynomial_highest_first}
+
+-- Horner's rule, as `range_laws` states it
+abbrev pub Horner : Type 0
+Horner = (n : ℕ) (c : ℕ → ℕ) (x : ℕ) → polynomial_highest_first (n + 1) c x ≡ polynomial_highest_first n c x * x + c n
+
+step : (a b d p q x s t : ℕ) → p ≡ (a * q + b) * x + d → s ≡ q * x → t ≡ b * x + d → p ≡ a * s + t
+step a b d p q x s t e f g = let h = ap (λ k. a * k) f in omega (arith, e, h, g)
+
+-- the first n of n + k coefficients, and the others
+pub polynomial_joined : Horner → (n k : ℕ) (c : ℕ → ℕ) (x : ℕ) → polynomial_highest_first (n + k) c x
+    ≡ polynomial_highest_first n c x * x ^ k + polynomial_highest_first k (λ i. c (n + i)) x
+polynomial_joined horner n zero c x =
+    let none = sum_below-zero (λ i. c (n + i) * x ^ (0 - 1 - i)) in
+    let one = ap (λ p. polynomial_highest_first n c x * p) (pow-zero x) in
+    let whole = ap (λ k. polynomial_highest_first k c x) (let e : n + 0 ≡ n = omega arith in e) in
+    omega (arith, none, one, whole)
+polynomial_joined horner n (suc k) c x =
+    let before = polynomial_joined horner n k c x in
+    let one_more = ap (λ k. polynomial_highest_first k c x) (let e : n + suc k ≡ n + k + 1 = omega arith in e) in
+    let last = ap (λ k. polynomial_highest_first k (λ i. c (n + i)) x) (let e : suc k ≡ k + 1 = omega arith in e) in
+    step (polynomial_highest_first n c x) (polynomial_highest_first k (λ i. c (n + i)) x) (c (n + k)) _ (x ^ k) x _ _
+    (one_more ∙ horner (n + k) c x ∙ ap (λ v. v * x + c (n + k)) before) (pow-suc x k)
+    (last ∙ horner k (λ i. c (n + i)) x)
+
+-- of two texts, one after the other
+pub polynomial_of_joined : Horner → (s t : List ℕ) (x : ℕ)
+    → polynomial_highest_first (length (s ++ t)) (slice_index (s ++ t)) x
+    ≡ polynomial_highest_first (length s) (slice_index s) x * x ^ length t
+    + polynomial_highest_first (length t) (slice_index t) x
+polynomial_of_joined horner s t x =
+    let n = length s in let k = length t in let c : ℕ → ℕ = λ i. get_or (s ++ t) i 0 in
+    let first : polynomial_highest_first n c x ≡ polynomial_highest_first n (λ i. get_or s i 0) x =
+    sum_below-same n (λ i. c i * x ^ (n - 1 - i)) (λ i. get_or s i 0 * x ^ (n - 1 - i))
+    (λ i l. ap (λ v. v * x ^ (n - 1 - i)) (get_or-append s t 0 i l)) in
+    let second : polynomial_highest_first k (λ i. c (n + i)) x ≡ polynomial_highest_first k (λ i. get_or t i 0) x =
+    sum_below-same k (λ i. c (n + i) * x ^ (k - 1 - i)) (λ i. get_or t i 0 * x ^ (k - 1 - i))
+    (λ i l. ap (λ v. v * x ^ (k - 1 - i)) (get_or-append-add s t i 0)) in
+    ap (λ l. polynomial_highest_first l c x) (length-append s t) ∙ polynomial_joined horner n k c x
+    ∙ ap₂ (λ v w. v * x ^ k + w) first second
+
+-- zeros in front change nothing
+pub polynomial_behind_zeros : Horner → (d : ℕ) (cs : List ℕ) (x : ℕ)
+    → polynomial_highest_first (d + length cs) (slice_index (replicate d 0 ++ cs)) x
+    ≡ polynomial_highest_first (length cs) (slice_index cs) x
+polynomial_behind_zeros horner d cs x =
+    let zeros : List ℕ = replicate d 0 in
+    let n = length zeros in let k = length cs in
+    let length_is : n ≡ d = length-replicate d 0 in
+    let whole : length (zeros ++ cs) ≡ d + k = length-append zeros cs ∙ ap (λ n. n + k) length_is in
+    let none : polynomial_highest_first n (λ i. get_or zeros i 0) x ≡ 0 =
+    tail 0 n (λ i. get_or zeros i 0 * x ^ (n - 1 - i))
+    (λ i past l.
+    ap (λ v. v * x ^ (n - 1 - i)) (get_or-replicate d i 0 0 (omega (arith, l, length_is))))
+    ∙ sum_below-zero (λ i. get_or zeros i 0 * x ^ (n - 1 - i)) in
+    ap (λ l. polynomial_highest_first l (λ i. get_or (zeros ++ cs) i 0) x) (sym whole)
+    ∙ polynomial_of_joined horner zeros cs x
+    ∙ ap (λ v. v * x ^ k + polynomial_highest_first k (λ i. get_or cs i 0) x) none
+
+-- without a coefficient, and with one
+pub no_coefficient : (c : ℕ → ℕ) (x : ℕ) → polynomial_highest_first 0 c x ≡ 0
+no_coefficient c x = sum_below-zero (λ i. c i * x ^ (0 - 1 - i))
+
+pub one_coefficient : Horner → (c : ℕ → ℕ) (x : ℕ) → polynomial_highest_first 1 c x ≡ c 0
+one_coefficient horner c x =
+    let none = ap (λ v. v * x) (sum_below-zero (λ i. c i * x ^ (0 - 1 - i))) in
+    let one = horner 0 c x in
+    omega (arith, none, one)
+
+-- one step of Horner's rule, modulo m
+pub residue_more : Horner → (m n : ℕ) (c : ℕ → ℕ) (x d value product : ℕ) → c n ≡ d
+    → value ≡ polynomial_highest_first n c x % m → product ≡ (value * x) % m
+    → (product + d) % m ≡ polynomial_highest_first (n + 1) c x % m
+residue_more horner m n c x d value product is e f =
+    let v = polynomial_highest_first n c x in
+    ap₂ (λ k d. (k + d) % m) f (sym is)
+    ∙ (mod_add (mod_trans (residue_of (value * x)) (mod_mul (mod_trans (mod_of_eq e) (residue_of v)) (mod_refl x)))
+    (mod_refl (c n))).same
+    ∙ ap (λ k. k % m) (sym (horner n c x))

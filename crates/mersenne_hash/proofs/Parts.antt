@@ -1,0 +1,56 @@
+-- The hash of a part of a text, by those of two beginnings.
+use Rattle.std.proofs.Common.{◌≡◌, ℕ, ◌+◌, ◌-◌, ◌*◌, ◌%◌, ◌^◌, ◌<◌, ◌≤◌, List, length, slice_index, slice_range, get_or, map}
+use Rattle.std.proofs.Common.{take, drop, arith, ap, ap₂, sym, ◌∙◌, length-drop, mod-eq_of_lt}
+use Rattle.std.proofs.lemmas.List.{length-take-le, get_or-take, get_or-drop, get_or-map}
+use Rattle.num_modular.specs.NumberLaws.{mod_add, mod_mul, mod_refl, mod_sym, mod_trans, mod_of_eq, mod_add_cancel, residue_of, sum_below-same}
+use Rattle.num_modular.specs.Congruence.{Congruent}
+use Rattle.num_modular.specs.Sums.{polynomial_highest_first}
+use Rattle.mersenne_hash.proofs.Concatenations.{Horner, polynomial_joined}
+
+-- the number of an entry that was read
+pub residue_of_entry : {T : Type 0} (number : T → ℕ) (xs : List T) (i : ℕ) (x : T) → i < length xs → x ≡ get_or xs i x
+    → number x ≡ get_or (map number xs) i 0
+residue_of_entry number xs i x l e = ap number e ∙ sym (get_or-map number xs i x 0 l)
+
+-- the polynomial of a part has the coefficients from there on
+part_polynomial : (from to : ℕ) (text : List ℕ) (x : ℕ) → from ≤ to → to ≤ length text
+    → polynomial_highest_first (length (slice_range text from to)) (slice_index (slice_range text from to)) x
+    ≡ polynomial_highest_first (to - from) (λ i. get_or text (from + i) 0) x
+part_polynomial from to text x ordered within =
+    let k : ℕ = to - from in
+    let count : length (take k (drop from text)) ≡ k =
+    length-take-le k (drop from text) (let e = length-drop from text in omega (arith, e, ordered, within)) in
+    ap (λ n. polynomial_highest_first n (λ i. get_or (take k (drop from text)) i 0) x) count
+    ∙ sum_below-same k (λ i. get_or (take k (drop from text)) i 0 * x ^ (k - 1 - i))
+    (λ i. get_or text (from + i) 0 * x ^ (k - 1 - i))
+    (λ i l. ap (λ v. v * x ^ (k - 1 - i)) (get_or-take k (drop from text) i 0 l ∙ get_or-drop from text i 0))
+
+-- what the hash of the longer beginning leaves, less that of the shorter one times a power
+pub part_is : Horner → (p from to : ℕ) (text : List ℕ) (x whole start power product value : ℕ)
+    → from ≤ to → to ≤ length text
+    → whole ≡ polynomial_highest_first to (slice_index text) x % p
+    → start ≡ polynomial_highest_first from (slice_index text) x % p → power ≡ x ^ (to - from) % p
+    → product ≡ (start * power) % p → (value + product) % p ≡ whole % p → value < p
+    → value
+    ≡ polynomial_highest_first (length (slice_range text from to)) (slice_index (slice_range text from to)) x % p
+part_is horner p from to text x whole start power product value ordered within whole_is start_is power_is product_is sum
+    below =
+    let k : ℕ = to - from in
+    let c : ℕ → ℕ = λ i. get_or text i 0 in
+    let a : ℕ = polynomial_highest_first from c x in
+    let b : ℕ = polynomial_highest_first k (λ i. c (from + i)) x in
+    let split : polynomial_highest_first to c x ≡ a * x ^ k + b =
+    ap (λ n. polynomial_highest_first n c x) (let e : to ≡ from + k = omega (arith, ordered) in e)
+    ∙ polynomial_joined horner from k c x in
+    let product_of : Congruent p product (a * x ^ k) =
+    mod_trans (mod_trans (mod_of_eq product_is) (residue_of (start * power)))
+    (mod_mul (mod_trans (mod_of_eq start_is) (residue_of a)) (mod_trans (mod_of_eq power_is) (residue_of (x ^ k)))) in
+    let sum_of : Congruent p (value + product) whole = record { same = sum } in
+    let whole_of : Congruent p whole (b + a * x ^ k) =
+    mod_trans (mod_trans (mod_of_eq whole_is) (residue_of (polynomial_highest_first to c x)))
+    (mod_of_eq (let e : polynomial_highest_first to c x ≡ b + a * x ^ k = omega (arith, split) in e)) in
+    let value_of : Congruent p value b =
+    mod_add_cancel (a * x ^ k)
+    (mod_trans (mod_add (mod_refl value) (mod_sym product_of)) (mod_trans sum_of whole_of)) in
+    sym (mod-eq_of_lt below) ∙ value_of.same
+    ∙ ap (λ v. v % p) (sym (part_polynomial from to text x ordered within))
