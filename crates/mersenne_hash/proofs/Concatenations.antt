@@ -1,6 +1,6 @@
 -- Polynomials of texts that are joined, and of texts behind zeros.
-use Rattle.std.proofs.Common.{◌≡◌, ℕ, zero, suc, ◌+◌, ◌-◌, ◌*◌, ◌%◌, ◌^◌, ◌<◌, List, ◌++◌, length, get_or, slice_index}
-use Rattle.std.proofs.Common.{replicate, arith, ap, ap₂, sym, ◌∙◌, length-append, add-one}
+use Rattle.std.proofs.Common.{◌≡◌, ℕ, zero, suc, ◌+◌, ◌-◌, ◌*◌, ◌%◌, ◌^◌, List, ◌++◌, length, get_or, slice_index}
+use Rattle.std.proofs.Common.{replicate, arith, ap, ap₂, sym, ◌∙◌, length-append}
 use Rattle.std.proofs.Math.ListN.{get_or-append}
 use Rattle.std.proofs.Math.Nat.{pow-zero, pow-suc}
 use Rattle.std.proofs.lemmas.List.{length-replicate, get_or-replicate, get_or-append-add}
@@ -58,13 +58,16 @@ polynomial_behind_zeros horner d cs x =
     let length_is : n ≡ d = length-replicate d 0 in
     let whole : length (zeros ++ cs) ≡ d + k = length-append zeros cs ∙ ap (λ n. n + k) length_is in
     let none : polynomial_highest_first n (λ i. get_or zeros i 0) x ≡ 0 =
-    tail 0 n (λ i. get_or zeros i 0 * x ^ (n - 1 - i))
+    ap (λ k. sum_below k (λ i. get_or zeros i 0 * x ^ (n - 1 - i))) (let e : n ≡ 0 + n = omega arith in e)
+    ∙ tail 0 n (λ i. get_or zeros i 0 * x ^ (n - 1 - i))
     (λ i past l.
-    ap (λ v. v * x ^ (n - 1 - i)) (get_or-replicate d i 0 0 (omega (arith, l, length_is))))
+    let z = ap (λ v. v * x ^ (n - 1 - i)) (get_or-replicate d i 0 0 (omega (arith, l, length_is))) in
+    omega (arith, z))
     ∙ sum_below-zero (λ i. get_or zeros i 0 * x ^ (n - 1 - i)) in
     ap (λ l. polynomial_highest_first l (λ i. get_or (zeros ++ cs) i 0) x) (sym whole)
     ∙ polynomial_of_joined horner zeros cs x
     ∙ ap (λ v. v * x ^ k + polynomial_highest_first k (λ i. get_or cs i 0) x) none
+    ∙ (let v : ℕ = polynomial_highest_first k (λ i. get_or cs i 0) x in let e : 0 * x ^ k + v ≡ v = omega arith in e)
 
 -- without a coefficient, and with one
 pub no_coefficient : (c : ℕ → ℕ) (x : ℕ) → polynomial_highest_first 0 c x ≡ 0

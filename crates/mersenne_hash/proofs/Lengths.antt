@@ -1,6 +1,6 @@
 -- Texts behind a symbol 1, with zeros in front up to one length: they tell where the text begins.
-use Rattle.std.proofs.Common.{◌≡◌, ℕ, suc, ◌+◌, ◌-◌, ◌%◌, ◌<◌, ◌≤◌, List, ◌∷◌, ◌++◌, length, get_or, All}
-use Rattle.std.proofs.Common.{replicate, arith, ap, sym, ◌∙◌, inl, inr, length-append, absurd, lit<}
+use Rattle.std.proofs.Common.{◌≡◌, ℕ, suc, ◌+◌, ◌%◌, ◌<◌, List, ◌∷◌, ◌++◌, length, get_or, All}
+use Rattle.std.proofs.Common.{replicate, arith, ap, sym, ◌∙◌, inl, inr, length-append}
 use Rattle.std.proofs.lemmas.Bool.{cases_eq, cases_lt}
 use Rattle.std.proofs.Math.ListN.{get_or-append}
 use Rattle.std.proofs.Math.Nat.{mod-eq_of_lt}
@@ -21,7 +21,7 @@ at_mark d text i =
 
 before_mark : (d : ℕ) (text : List ℕ) (i : ℕ) → i < d → get_or (marked d text) i 0 ≡ 0
 before_mark d text i l =
-    get_or-append (replicate d 0) (1 ∷ text) 0 i (let e = length-replicate d 0 in omega (arith, l, e))
+    get_or-append (replicate d 0) (1 ∷ text) 0 i (let zeros : List ℕ = replicate d 0 in let e : length zeros ≡ d = length-replicate d 0 in omega (arith, l, e))
     ∙ get_or-replicate d i 0 0 l
 
 -- the marks of texts with congruent symbols stand at one place

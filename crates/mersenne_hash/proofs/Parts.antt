@@ -1,6 +1,6 @@
 -- The hash of a part of a text, by those of two beginnings.
 use Rattle.std.proofs.Common.{◌≡◌, ℕ, ◌+◌, ◌-◌, ◌*◌, ◌%◌, ◌^◌, ◌<◌, ◌≤◌, List, length, slice_index, slice_range, get_or, map}
-use Rattle.std.proofs.Common.{take, drop, arith, ap, ap₂, sym, ◌∙◌, length-drop, mod-eq_of_lt}
+use Rattle.std.proofs.Common.{take, drop, arith, ap, sym, ◌∙◌, length-drop, mod-eq_of_lt}
 use Rattle.std.proofs.lemmas.List.{length-take-le, get_or-take, get_or-drop, get_or-map}
 use Rattle.num_modular.specs.NumberLaws.{mod_add, mod_mul, mod_refl, mod_sym, mod_trans, mod_of_eq, mod_add_cancel, residue_of, sum_below-same}
 use Rattle.num_modular.specs.Congruence.{Congruent}

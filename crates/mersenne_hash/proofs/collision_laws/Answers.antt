@@ -1,4 +1,4 @@
-use Rattle.std.proofs.Common.{◌≡◌, ℕ, ◌+◌, ◌-◌, ◌^◌, ◌%◌, ◌∷◌, length, get_or, arith, ap, sym, ◌∙◌, lit<, tt}
+use Rattle.std.proofs.Common.{◌≡◌, ℕ, ◌+◌, ◌-◌, ◌^◌, ◌%◌, ◌∷◌, length, get_or, arith, ap, sym, ◌∙◌, lit<}
 use Rattle.std.proofs.Math.Nat.{mod-eq_of_lt}
 use Rattle.std.proofs.lemmas.List.{ext_get_or}
 use Rattle.num_modular.specs.Mersenne.{mersenne}

@@ -1,5 +1,6 @@
-use Rattle.std.proofs.Common.{◌≡◌, ℕ, ◌+◌, ◌*◌, ◌%◌, ◌^◌, List, length, slice_index, get_or, arith, ap, sym, ◌∙◌, refl}
+use Rattle.std.proofs.Common.{ℕ, ◌%◌, ◌^◌, List, slice_index, get_or, arith, ap, sym, ◌∙◌, refl}
 use Rattle.std.proofs.Math.Nat.{pow-zero}
+use Rattle.std.proofs.lemmas.List.{length-set}
 use Rattle.num_modular.specs.Integers.{residue_of}
 use Rattle.num_modular.specs.Mersenne.{mersenne}
 use Rattle.num_modular.specs.Sums.{polynomial_highest_first}
@@ -16,6 +17,8 @@ places-init c =
     record {
       value = value;
       power = power;
+      entries = length-set _ _ _ ∙ c.requires.entries;
+      exponents = length-set _ _ _ ∙ c.requires.exponents;
       hashed = first_written residue_of c.args.hashes.now c.convert-value.result hash (omega arith) value;
       raised = first_written residue_of c.args.powers.now c.convert-power.result (λ k. x ^ k % p) (omega arith) power;
     }
@@ -33,7 +36,9 @@ places-preserved c =
     record {
       value = value;
       power = power;
-      hashed = more_written residue_of c.places.hashes i c.add-value.result hash (omega arith) before.hashed value;
-      raised = more_written residue_of c.places.powers i c.mul-power.result (λ k. x ^ k % p) (omega arith) before.raised
-          power;
+      entries = length-set _ _ _ ∙ before.entries;
+      exponents = length-set _ _ _ ∙ before.exponents;
+      hashed = more_written residue_of c.places.hashes i c.add-value.result hash (omega (arith, before.entries)) before.hashed value;
+      raised = more_written residue_of c.places.powers i c.mul-power.result (λ k. x ^ k % p) (omega (arith, before.exponents))
+          before.raised power;
     }

@@ -1,4 +1,4 @@
-use Rattle.std.proofs.Common.{◌≡◌, ℕ, ◌%◌, ◌^◌, ◌≤◌, map, slice_index}
+use Rattle.std.proofs.Common.{◌≡◌, ℕ, ◌+◌, ◌%◌, ◌^◌, ◌≤◌, length, map, slice_index}
 use Rattle.num_modular.specs.Integers.{residue_of}
 use Rattle.num_modular.specs.Mersenne.{mersenne}
 use Rattle.num_modular.specs.Sums.{polynomial_highest_first}
@@ -13,5 +13,7 @@ invariant-places l =
       value : residue_of l.value ≡ hash l.i;
       power : residue_of l.power ≡ x ^ l.i % p;
       hashed : (k : ℕ) → k ≤ l.i → slice_index (map residue_of l.hashes) k ≡ hash k;
+      entries : length l.hashes ≡ length l.text + 1;
+      exponents : length l.powers ≡ length l.text + 1;
       raised : (k : ℕ) → k ≤ l.i → slice_index (map residue_of l.powers) k ≡ x ^ k % p;
     }
