@@ -121,7 +121,8 @@ pub fn sum_laws()
 pub fn range_laws()
     ensures none { (f : ℕ → ℕ) → sum_below 0 f ≡ 0 }
     ensures more { (f : ℕ → ℕ) (n : ℕ) → sum_below (n + 1) f ≡ sum_below n f + f n }
-    ensures horner { (n : ℕ) (c : ℕ → ℕ) (x : ℕ) → polynomial_highest_first (n + 1) c x ≡ polynomial_highest_first n c x * x + c n }
+    ensures horner { (n : ℕ) (c : ℕ → ℕ) (x : ℕ) →
+        polynomial_highest_first (n + 1) c x ≡ polynomial_highest_first n c x * x + c n }
 {}
 
 /// The linear congruence a·y = b modulo m is solved by b·x where x is an inverse of a. So where x is the inverse of
