@@ -15,6 +15,9 @@ mod additions;
 mod features;
 #[path = "../traits.rs"]
 mod traits;
+#[cfg(doctest)]
+#[doc = include_str!("../FROM_NUM_MODULAR.md")]
+mod from_num_modular {}
 mod modular_word;
 mod modular_prim;
 mod modular_symbols;

@@ -1,9 +1,36 @@
-//! Hashes at several bases, over `num_modular::hashes`: at how many bases two texts can have the same hash.
+//! Hashes of texts, over `num_modular::hashes`: at how many bases two texts can have the same hash, and the hashes of
+//! parts (`prefixes`).
 
-use crate::hashes::{base, hash};
+pub mod prefixes;
+
+use crate::ModularInteger;
+use crate::hashes::{Hash, base, hash};
+
+/// The hash of a text behind a symbol 1: b^n + `hash(b, text)` for n bytes at the base b. Texts that differ by zeros in
+/// front have different ones at all bases but few, where `hash` is the same for them at each base.
+///
+/// # Examples
+///
+/// ```
+/// use num_modular::applications::mersenne_hash::length_hash;
+/// use num_modular::hashes::{base, hash};
+///
+/// let base = base(123_456_789);
+/// assert_eq!(hash(base, b"\0a"), hash(base, b"a"));
+/// assert_ne!(length_hash(base, b"\0a"), length_hash(base, b"a"));
+/// ```
+#[inline]
+pub fn length_hash(base: Hash, text: &[u8]) -> Hash {
+    let mut value = base.convert(1);
+    for byte in text {
+        value = value * base + *byte as u64;
+    }
+    value
+}
 
 /// Whether two texts have the same hash at each of the bases. For texts of equal length n and at least n different
-/// bases that is whether the texts are equal.
+/// bases that is whether the texts are equal. Where both texts are at hand `==` is faster: this is the comparison of two
+/// parties that exchange hashes alone.
 ///
 /// # Examples
 ///

@@ -75,9 +75,10 @@ impl<const P: u8, const K: u32> FoldRing<u32, Mersenne32<P, K>> {
     /// assert_eq!(FixedMersenne32::<31, 1>::reduce_single(1 << 31), 1);
     /// assert_eq!(FixedMersenne32::<8, 5>::reduce_single(1000), 247); // 1000 - 3 * 251
     /// ```
+    #[cfg(test)]
     #[inline]
     #[track_caller]
-    pub fn reduce_single(v: u32) -> u32 {
+    pub(crate) fn reduced_word(v: u32) -> u32 {
         Self::reduce_counted(v as u64).0
     }
 
@@ -217,9 +218,10 @@ impl<const P: u8, const K: u64> FoldRing<u64, Mersenne64<P, K>> {
     ///
     /// assert_eq!(FixedMersenne64::<61, 1>::reduce_single(1 << 63), 1 << 2);
     /// ```
+    #[cfg(test)]
     #[inline]
     #[track_caller]
-    pub fn reduce_single(v: u64) -> u64 {
+    pub(crate) fn reduced_word(v: u64) -> u64 {
         Self::reduce_counted(v as u128).0
     }
 
@@ -342,7 +344,7 @@ impl<const P: u8, const K: u64> FixedMersenne<P, K> {
     /// ```
     #[inline]
     #[track_caller]
-    pub fn reduce_single(v: u128) -> u128 {
+    pub(crate) fn reduced_word(v: u128) -> u128 {
         Self::reduce_counted(v).0
     }
 
@@ -369,7 +371,7 @@ impl<const P: u8, const K: u64> FixedMersenne<P, K> {
     // The residue of a product of two forms, which fits a word.
     #[inline]
     fn product(a: u128, b: u128) -> u128 {
-        Self::reduce_single(a * b)
+        Self::reduced_word(a * b)
     }
 
     // A form as a word of 64 bits.
@@ -392,7 +394,7 @@ impl<const P: u8, const K: u64> Reducer<u128> for FixedMersenne<P, K> {
 
     #[inline]
     fn transform(&self, n: u128) -> u128 {
-        Self::reduce_single(n)
+        Self::reduced_word(n)
     }
 
     #[inline]
@@ -448,5 +450,14 @@ impl<const P: u8, const K: u64> Reducer<u128> for FixedMersenne<P, K> {
     #[inline]
     fn sqr(&self, f: u128) -> u128 {
         Self::product(f, f)
+    }
+
+    #[inline]
+    fn pow(&self, f: u128, exp: &u128) -> u128 {
+        crate::modular_reduced::power::pow_counted(self, f, exp).0
+    }
+
+    fn shown_modulus(&self) -> Option<u128> {
+        Some(crate::additions::number(self.modulus()))
     }
 }

@@ -169,4 +169,13 @@ impl<T: FoldedWord + ReducerWord, M: FoldModulus<T>> Reducer<T> for FoldRing<T, 
     fn sqr(&self, f: T) -> T {
         self.kept.product(f, f)
     }
+
+    #[inline]
+    fn pow(&self, f: T, exp: &T) -> T {
+        crate::modular_reduced::power::pow_counted(self, f, exp).0
+    }
+
+    fn shown_modulus(&self) -> Option<u128> {
+        Some(crate::additions::number(self.modulus()))
+    }
 }

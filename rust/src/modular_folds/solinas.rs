@@ -276,7 +276,7 @@ impl<T: TrinomialWord, F: Trinomial> FoldRing<T, TrinomialModulus<T, F>> {
     /// ```
     #[inline]
     #[track_caller]
-    pub fn reduce_single(v: T) -> T {
+    pub(crate) fn reduced_word(v: T) -> T {
         Self::reduce_counted(T::merge(v, T::zero())).0
     }
 
@@ -351,7 +351,7 @@ impl<T: TrinomialWord, F: Trinomial> FoldModulus<T> for TrinomialModulus<T, F> {
 
     fn reduced(&self, n: T) -> T {
         if is_low(F::p1(), F::p2(), F::k()) {
-            TrinomialSolinas::<T, F>::reduce_single(n)
+            TrinomialSolinas::<T, F>::reduced_word(n)
         } else {
             reduce_word(
                 n,

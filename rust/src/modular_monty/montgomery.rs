@@ -217,4 +217,13 @@ impl<T: ReducerWord> Reducer<T> for Montgomery<T> {
     fn sqr(&self, f: T) -> T {
         self.mul(&f, &f)
     }
+
+    #[inline]
+    fn pow(&self, f: T, exp: &T) -> T {
+        crate::modular_reduced::power::pow_counted(self, f, exp).0
+    }
+
+    fn shown_modulus(&self) -> Option<u128> {
+        Some(crate::additions::number(self.modulus()))
+    }
 }

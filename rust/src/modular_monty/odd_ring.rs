@@ -235,6 +235,15 @@ impl<T: ReducerWord, M: OddModulus<T>> Reducer<T> for OddRing<T, M> {
     fn sqr(&self, f: T) -> T {
         self.mul(&f, &f)
     }
+
+    #[inline]
+    fn pow(&self, f: T, exp: &T) -> T {
+        crate::modular_reduced::power::pow_counted(self, f, exp).0
+    }
+
+    fn shown_modulus(&self) -> Option<u128> {
+        Some(crate::additions::number(self.modulus()))
+    }
 }
 
 /// An odd modulus that is known at run time, with what is precomputed of it.

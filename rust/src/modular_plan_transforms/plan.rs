@@ -331,8 +331,8 @@ impl<'a, T: PlainWord, F: PlanEntry<T>> Plan<'a, T, F> {
     /// k of x_(k·last + i)·c^k modulo m, the coefficient of the remainder modulo X^last - c, where c is the power of
     /// g by the reversed bits of b·count + j, count being the number of blocks.
     ///
-    /// So b = 0 and last = 1 give the transform in bit-reversed order, and b = 1 starts from a polynomial modulo X^h
-    /// + 1, h being the length of the list.
+    /// So b = 0 and last = 1 give the transform in bit-reversed order, and b = 1 starts from a polynomial modulo
+    /// X^h + 1, h being the length of the list.
     ///
     /// # Panics
     ///

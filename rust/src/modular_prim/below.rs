@@ -66,7 +66,22 @@ pub fn branchless_sub_below<T: PathWord>(a: T, b: T, m: T) -> T {
 /// a is below m. This isn't tested: outside it the call panics, or returns no meaningful result.
 #[inline]
 pub fn dbl_below<T: PathWord>(a: T, m: T) -> T {
-    add_below(a, a, m)
+    if T::bits() <= 8 {
+        doubled_once(a, m)
+    } else {
+        add_below(a, a, m)
+    }
+}
+
+// The residue of 2a, below m, by a comparison of the sum. At 8 bits compilers work on more entries of a list at once
+// than by the carry of `add_below`. Condition: a is below m.
+#[inline]
+fn doubled_once<T: PathWord>(a: T, m: T) -> T {
+    // Reading the word gives the proof that it fits its width.
+    let _ = m.is_below(a);
+    let (sum, over) = a.overflowing_add(a);
+    let less = sum.wrapping_sub(m);
+    if over || !sum.is_below(m) { less } else { sum }
 }
 
 /// The residue of -a, below m.

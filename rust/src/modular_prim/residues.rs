@@ -1,6 +1,6 @@
 //! Residues of sums, differences and products of words that may be above the modulus.
 
-use crate::modular_prim::below::{add_below, dbl_below, neg_below, sub_below};
+use crate::modular_prim::below::{add_below, dbl_below, neg_below};
 use crate::modular_prim::plain_word::PlainWord;
 use crate::modular_word::path_word::PathWord;
 
@@ -78,14 +78,11 @@ pub fn addm<T: PlainWord>(a: T, b: T, m: T) -> T {
 /// Panics unless m is at least 1.
 #[cfg_attr(debug_assertions, track_caller)]
 pub fn subm<T: PlainWord>(a: T, b: T, m: T) -> T {
-    if T::bits() <= 16 {
-        return sub_below(a.remainder(m), b.remainder(m), m);
-    }
     let apart = distance(a, b);
     let is_residue = if T::bits() > 32 {
         apart.is_below(m)
     } else {
-        a.is_below(m) & b.is_below(m)
+        spares_division(a, m) & spares_division(b, m)
     };
     let rest = reduced_unless(is_residue, apart, m);
     if a.is_below(b) {
@@ -125,7 +122,11 @@ pub fn negm<T: PlainWord>(a: T, m: T) -> T {
 #[inline]
 #[cfg_attr(debug_assertions, track_caller)]
 pub fn dblm<T: PlainWord>(a: T, m: T) -> T {
-    dbl_below(reduced(a, m), m)
+    if T::bits() <= 16 {
+        addm(a, a, m)
+    } else {
+        dbl_below(reduced(a, m), m)
+    }
 }
 
 /// The residue of a·a, below m.

@@ -1,6 +1,4 @@
 //! The trait of integers modulo m, for generic code.
-
-use crate::modular_word::ring_word::RingWord;
 use core::ops::{Add, Mul, Neg, Sub};
 
 /// An integer modulo m, with its modulus.
@@ -24,7 +22,7 @@ pub trait ModularInteger: Sized + PartialEq
     + Mul<Self, Output = Self>
     + Neg<Output = Self> {
     /// The type of moduli and residues.
-    type Base: RingWord;
+    type Base;
 
     /// The modulus m.
     ///

@@ -1,8 +1,5 @@
 //! Integers modulo m over any reducer.
-
-use crate::modular_reduced::reducer::Reducer;
 use crate::modular_reduced::vanilla::Vanilla;
-use crate::modular_word::ring_word::RingWord;
 
 mod add;
 mod equal;
@@ -35,6 +32,7 @@ mod sub;
 /// assert_eq!((x * y + 1).residue(), 7);
 /// assert_eq!((x / y * y).residue(), 10);
 /// ```
+#[derive(Clone, Copy)]
 #[must_use]
 pub struct ReducedInt<T, R> {
     form: T,
@@ -52,12 +50,3 @@ pub struct ReducedInt<T, R> {
 /// assert_eq!((x * x).residue(), 16); // 100 modulo 21
 /// ```
 pub type VanillaInt<T> = ReducedInt<T, Vanilla<T>>;
-
-impl<T: RingWord, R: Reducer<T> + Copy> Copy for ReducedInt<T, R> {}
-
-impl<T: RingWord, R: Reducer<T> + Copy> Clone for ReducedInt<T, R> {
-    #[inline]
-    fn clone(&self) -> Self {
-        *self
-    }
-}

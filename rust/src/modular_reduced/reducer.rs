@@ -1,8 +1,5 @@
 //! The trait of reducers, with its laws.
 
-use crate::modular_reduced::power::pow_counted;
-use crate::modular_word::ring_word::RingWord;
-
 /// Arithmetic modulo m on forms: words that represent the values from 0 to m - 1.
 ///
 /// A form is checked where `check` returns true. Each value has exactly one checked form, and each checked form
@@ -18,7 +15,7 @@ use crate::modular_word::ring_word::RingWord;
 /// assert_eq!(ring.residue(ring.mul(&x, &y)), 3000 % 97);
 /// assert_eq!(ring.inv(y).map(|f| ring.residue(f)), Some(65));
 /// ```
-pub trait Reducer<T: RingWord>: Sized {
+pub trait Reducer<T>: Sized {
     /// The reducer of a modulus.
     ///
     /// # Panics
@@ -341,8 +338,11 @@ pub trait Reducer<T: RingWord>: Sized {
     /// let ring = Montgomery::<u64>::new(1000);
     /// assert_eq!(ring.residue(ring.pow(ring.transform(2), &10)), 24); // 1024 modulo 1000
     /// ```
+    fn pow(&self, f: T, exp: &T) -> T;
+
+    #[doc(hidden)]
     #[inline]
-    fn pow(&self, f: T, exp: &T) -> T {
-        pow_counted(self, f, exp).0
+    fn shown_modulus(&self) -> Option<u128> {
+        None
     }
 }

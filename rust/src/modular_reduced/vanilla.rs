@@ -107,4 +107,13 @@ impl<T: PlainWord> Reducer<T> for Vanilla<T> {
     fn sqr(&self, f: T) -> T {
         T::narrow_remainder(f.product(f), self.modulus)
     }
+
+    #[inline]
+    fn pow(&self, f: T, exp: &T) -> T {
+        crate::modular_reduced::power::pow_counted(self, f, exp).0
+    }
+
+    fn shown_modulus(&self) -> Option<u128> {
+        Some(crate::additions::number(self.modulus()))
+    }
 }

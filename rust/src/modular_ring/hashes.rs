@@ -34,7 +34,8 @@ pub fn base(n: u64) -> Hash {
 }
 
 /// The hash of a text: the value at the base of the polynomial with its bytes as coefficients, the highest first,
-/// modulo 2^61 - 1.
+/// modulo 2^61 - 1. Texts that differ by zeros in front have the same hash at every base; `mersenne_hash::length_hash`
+/// tells them apart.
 ///
 /// Source: Karp and Rabin, "Efficient randomized pattern-matching algorithms".
 ///

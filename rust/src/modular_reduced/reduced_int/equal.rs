@@ -2,9 +2,8 @@
 
 use super::ReducedInt;
 use crate::modular_reduced::reducer::Reducer;
-use crate::modular_word::ring_word::RingWord;
 
-impl<T: RingWord, R: Reducer<T> + Copy> PartialEq for ReducedInt<T, R> {
+impl<T: PartialEq, R: Reducer<T>> PartialEq for ReducedInt<T, R> {
     #[inline]
     fn eq(&self, other: &Self) -> bool {
         self.form == other.form && self.reducer.modulus() == other.reducer.modulus()

@@ -2,9 +2,8 @@
 
 use super::ReducedInt;
 use crate::modular_reduced::reducer::Reducer;
-use crate::modular_word::ring_word::RingWord;
 
-impl<T: RingWord, R: Reducer<T> + Copy> ReducedInt<T, R> {
+impl<T, R: Reducer<T>> ReducedInt<T, R> {
     /// The integer n mod m.
     ///
     /// # Panics

@@ -4,9 +4,8 @@ use super::ReducedInt;
 use super::operations::in_ring;
 use crate::modular_reduced::modular_integer::ModularInteger;
 use crate::modular_reduced::reducer::Reducer;
-use crate::modular_word::ring_word::RingWord;
 
-impl<T: RingWord, R: Reducer<T> + Copy> ModularInteger for ReducedInt<T, R> {
+impl<T: PartialEq + Clone, R: Reducer<T> + Clone> ModularInteger for ReducedInt<T, R> {
     type Base = T;
 
     #[inline]
@@ -16,7 +15,7 @@ impl<T: RingWord, R: Reducer<T> + Copy> ModularInteger for ReducedInt<T, R> {
 
     #[inline]
     fn residue(&self) -> T {
-        self.reducer.residue(self.form)
+        self.reducer.residue(self.form.clone())
     }
 
     #[inline]

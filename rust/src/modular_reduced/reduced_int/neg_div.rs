@@ -3,10 +3,9 @@
 use super::ReducedInt;
 use super::operations::{negative, quotient};
 use crate::modular_reduced::reducer::Reducer;
-use crate::modular_word::ring_word::RingWord;
 use core::ops::{Div, Neg};
 
-impl<T: RingWord, R: Reducer<T> + Copy> Neg for ReducedInt<T, R> {
+impl<T: PartialEq + Clone, R: Reducer<T> + Clone> Neg for ReducedInt<T, R> {
     type Output = ReducedInt<T, R>;
 
     #[inline]
@@ -15,7 +14,7 @@ impl<T: RingWord, R: Reducer<T> + Copy> Neg for ReducedInt<T, R> {
     }
 }
 
-impl<T: RingWord, R: Reducer<T> + Copy> Neg for &ReducedInt<T, R> {
+impl<T: PartialEq + Clone, R: Reducer<T> + Clone> Neg for &ReducedInt<T, R> {
     type Output = ReducedInt<T, R>;
 
     #[inline]
@@ -24,7 +23,7 @@ impl<T: RingWord, R: Reducer<T> + Copy> Neg for &ReducedInt<T, R> {
     }
 }
 
-impl<T: RingWord, R: Reducer<T> + Copy> Div<ReducedInt<T, R>> for ReducedInt<T, R> {
+impl<T: PartialEq + Clone, R: Reducer<T> + Clone> Div<ReducedInt<T, R>> for ReducedInt<T, R> {
     type Output = ReducedInt<T, R>;
 
     #[inline]
@@ -34,7 +33,7 @@ impl<T: RingWord, R: Reducer<T> + Copy> Div<ReducedInt<T, R>> for ReducedInt<T, 
     }
 }
 
-impl<T: RingWord, R: Reducer<T> + Copy> Div<&ReducedInt<T, R>> for ReducedInt<T, R> {
+impl<T: PartialEq + Clone, R: Reducer<T> + Clone> Div<&ReducedInt<T, R>> for ReducedInt<T, R> {
     type Output = ReducedInt<T, R>;
 
     #[inline]
@@ -44,7 +43,7 @@ impl<T: RingWord, R: Reducer<T> + Copy> Div<&ReducedInt<T, R>> for ReducedInt<T,
     }
 }
 
-impl<T: RingWord, R: Reducer<T> + Copy> Div<ReducedInt<T, R>> for &ReducedInt<T, R> {
+impl<T: PartialEq + Clone, R: Reducer<T> + Clone> Div<ReducedInt<T, R>> for &ReducedInt<T, R> {
     type Output = ReducedInt<T, R>;
 
     #[inline]
@@ -54,7 +53,7 @@ impl<T: RingWord, R: Reducer<T> + Copy> Div<ReducedInt<T, R>> for &ReducedInt<T,
     }
 }
 
-impl<T: RingWord, R: Reducer<T> + Copy> Div<&ReducedInt<T, R>> for &ReducedInt<T, R> {
+impl<T: PartialEq + Clone, R: Reducer<T> + Clone> Div<&ReducedInt<T, R>> for &ReducedInt<T, R> {
     type Output = ReducedInt<T, R>;
 
     #[inline]

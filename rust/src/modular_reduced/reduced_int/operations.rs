@@ -2,14 +2,13 @@
 
 use super::ReducedInt;
 use crate::modular_reduced::reducer::Reducer;
-use crate::modular_word::ring_word::RingWord;
 
 /// The integer n mod m, with the modulus of x.
 #[inline]
-pub fn in_ring<T: RingWord, R: Reducer<T> + Copy>(x: &ReducedInt<T, R>, n: T) -> ReducedInt<T, R> {
+pub fn in_ring<T: PartialEq + Clone, R: Reducer<T> + Clone>(x: &ReducedInt<T, R>, n: T) -> ReducedInt<T, R> {
     ReducedInt {
         form: x.reducer.transform(n),
-        reducer: x.reducer,
+        reducer: x.reducer.clone(),
     }
 }
 
@@ -21,20 +20,20 @@ pub fn in_ring<T: RingWord, R: Reducer<T> + Copy>(x: &ReducedInt<T, R>, n: T) ->
 /// panics, or returns no meaningful result.
 #[inline]
 #[cfg_attr(debug_assertions, track_caller)]
-pub fn sum<T: RingWord, R: Reducer<T> + Copy>(
+pub fn sum<T: PartialEq + Clone, R: Reducer<T> + Clone>(
     x: &ReducedInt<T, R>,
     y: &ReducedInt<T, R>,
 ) -> ReducedInt<T, R> {
-    debug_assert!(x.reducer.modulus() == y.reducer.modulus(), "the moduli must be equal: {} and {}", crate::additions::number(x.reducer.modulus()), crate::additions::number(y.reducer.modulus()));
+    debug_assert!(x.reducer.modulus() == y.reducer.modulus(), "the moduli must be equal: {} and {}", crate::additions::ShownModulus(x.reducer.shown_modulus()), crate::additions::ShownModulus(y.reducer.shown_modulus()));
     ReducedInt {
         form: x.reducer.add(&x.form, &y.form),
-        reducer: x.reducer,
+        reducer: x.reducer.clone(),
     }
 }
 
 /// The sum of an integer and a word.
 #[inline]
-pub fn sum_with<T: RingWord, R: Reducer<T> + Copy>(x: &ReducedInt<T, R>, n: T) -> ReducedInt<T, R> {
+pub fn sum_with<T: PartialEq + Clone, R: Reducer<T> + Clone>(x: &ReducedInt<T, R>, n: T) -> ReducedInt<T, R> {
     sum(x, &in_ring(x, n))
 }
 
@@ -46,20 +45,20 @@ pub fn sum_with<T: RingWord, R: Reducer<T> + Copy>(x: &ReducedInt<T, R>, n: T) -
 /// panics, or returns no meaningful result.
 #[inline]
 #[cfg_attr(debug_assertions, track_caller)]
-pub fn difference<T: RingWord, R: Reducer<T> + Copy>(
+pub fn difference<T: PartialEq + Clone, R: Reducer<T> + Clone>(
     x: &ReducedInt<T, R>,
     y: &ReducedInt<T, R>,
 ) -> ReducedInt<T, R> {
-    debug_assert!(x.reducer.modulus() == y.reducer.modulus(), "the moduli must be equal: {} and {}", crate::additions::number(x.reducer.modulus()), crate::additions::number(y.reducer.modulus()));
+    debug_assert!(x.reducer.modulus() == y.reducer.modulus(), "the moduli must be equal: {} and {}", crate::additions::ShownModulus(x.reducer.shown_modulus()), crate::additions::ShownModulus(y.reducer.shown_modulus()));
     ReducedInt {
         form: x.reducer.sub(&x.form, &y.form),
-        reducer: x.reducer,
+        reducer: x.reducer.clone(),
     }
 }
 
 /// The difference of an integer and a word.
 #[inline]
-pub fn difference_with<T: RingWord, R: Reducer<T> + Copy>(
+pub fn difference_with<T: PartialEq + Clone, R: Reducer<T> + Clone>(
     x: &ReducedInt<T, R>,
     n: T,
 ) -> ReducedInt<T, R> {
@@ -74,20 +73,20 @@ pub fn difference_with<T: RingWord, R: Reducer<T> + Copy>(
 /// panics, or returns no meaningful result.
 #[inline]
 #[cfg_attr(debug_assertions, track_caller)]
-pub fn product<T: RingWord, R: Reducer<T> + Copy>(
+pub fn product<T: PartialEq + Clone, R: Reducer<T> + Clone>(
     x: &ReducedInt<T, R>,
     y: &ReducedInt<T, R>,
 ) -> ReducedInt<T, R> {
-    debug_assert!(x.reducer.modulus() == y.reducer.modulus(), "the moduli must be equal: {} and {}", crate::additions::number(x.reducer.modulus()), crate::additions::number(y.reducer.modulus()));
+    debug_assert!(x.reducer.modulus() == y.reducer.modulus(), "the moduli must be equal: {} and {}", crate::additions::ShownModulus(x.reducer.shown_modulus()), crate::additions::ShownModulus(y.reducer.shown_modulus()));
     ReducedInt {
         form: x.reducer.mul(&x.form, &y.form),
-        reducer: x.reducer,
+        reducer: x.reducer.clone(),
     }
 }
 
 /// The product of an integer and a word.
 #[inline]
-pub fn product_with<T: RingWord, R: Reducer<T> + Copy>(
+pub fn product_with<T: PartialEq + Clone, R: Reducer<T> + Clone>(
     x: &ReducedInt<T, R>,
     n: T,
 ) -> ReducedInt<T, R> {
@@ -102,12 +101,12 @@ pub fn product_with<T: RingWord, R: Reducer<T> + Copy>(
 /// equal. A release build doesn't test that, and outside it panics, or returns no meaningful result.
 #[inline]
 #[cfg_attr(debug_assertions, track_caller)]
-pub fn quotient<T: RingWord, R: Reducer<T> + Copy>(
+pub fn quotient<T: PartialEq + Clone, R: Reducer<T> + Clone>(
     x: &ReducedInt<T, R>,
     y: &ReducedInt<T, R>,
 ) -> ReducedInt<T, R> {
-    debug_assert!(y.reducer.modulus() == x.reducer.modulus(), "the moduli must be equal: {} and {}", crate::additions::number(x.reducer.modulus()), crate::additions::number(y.reducer.modulus()));
-    let inverse = match y.inv() { Some(it) => it, None => {
+    debug_assert!(y.reducer.modulus() == x.reducer.modulus(), "the moduli must be equal: {} and {}", crate::additions::ShownModulus(x.reducer.shown_modulus()), crate::additions::ShownModulus(y.reducer.shown_modulus()));
+    let inverse = match y.clone().inv() { Some(it) => it, None => {
         panic!("the divisor must have an inverse modulo m")
     } };
     product(x, &inverse)
@@ -115,9 +114,9 @@ pub fn quotient<T: RingWord, R: Reducer<T> + Copy>(
 
 /// The negative.
 #[inline]
-pub fn negative<T: RingWord, R: Reducer<T> + Copy>(x: &ReducedInt<T, R>) -> ReducedInt<T, R> {
+pub fn negative<T: PartialEq + Clone, R: Reducer<T> + Clone>(x: &ReducedInt<T, R>) -> ReducedInt<T, R> {
     ReducedInt {
-        form: x.reducer.neg(x.form),
-        reducer: x.reducer,
+        form: x.reducer.neg(x.form.clone()),
+        reducer: x.reducer.clone(),
     }
 }

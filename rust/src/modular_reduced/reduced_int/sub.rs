@@ -3,10 +3,9 @@
 use super::ReducedInt;
 use super::operations::{difference, difference_with};
 use crate::modular_reduced::reducer::Reducer;
-use crate::modular_word::ring_word::RingWord;
 use core::ops::{Sub, SubAssign};
 
-impl<T: RingWord, R: Reducer<T> + Copy> Sub<ReducedInt<T, R>> for ReducedInt<T, R> {
+impl<T: PartialEq + Clone, R: Reducer<T> + Clone> Sub<ReducedInt<T, R>> for ReducedInt<T, R> {
     type Output = ReducedInt<T, R>;
 
     #[inline]
@@ -16,7 +15,7 @@ impl<T: RingWord, R: Reducer<T> + Copy> Sub<ReducedInt<T, R>> for ReducedInt<T, 
     }
 }
 
-impl<T: RingWord, R: Reducer<T> + Copy> Sub<&ReducedInt<T, R>> for ReducedInt<T, R> {
+impl<T: PartialEq + Clone, R: Reducer<T> + Clone> Sub<&ReducedInt<T, R>> for ReducedInt<T, R> {
     type Output = ReducedInt<T, R>;
 
     #[inline]
@@ -26,7 +25,7 @@ impl<T: RingWord, R: Reducer<T> + Copy> Sub<&ReducedInt<T, R>> for ReducedInt<T,
     }
 }
 
-impl<T: RingWord, R: Reducer<T> + Copy> Sub<T> for ReducedInt<T, R> {
+impl<T: PartialEq + Clone, R: Reducer<T> + Clone> Sub<T> for ReducedInt<T, R> {
     type Output = ReducedInt<T, R>;
 
     #[inline]
@@ -36,17 +35,17 @@ impl<T: RingWord, R: Reducer<T> + Copy> Sub<T> for ReducedInt<T, R> {
     }
 }
 
-impl<T: RingWord, R: Reducer<T> + Copy> Sub<&T> for ReducedInt<T, R> {
+impl<T: PartialEq + Clone, R: Reducer<T> + Clone> Sub<&T> for ReducedInt<T, R> {
     type Output = ReducedInt<T, R>;
 
     #[inline]
     #[cfg_attr(debug_assertions, track_caller)]
     fn sub(self, rhs: &T) -> ReducedInt<T, R> {
-        difference_with(&self, *rhs)
+        difference_with(&self, rhs.clone())
     }
 }
 
-impl<T: RingWord, R: Reducer<T> + Copy> Sub<ReducedInt<T, R>> for &ReducedInt<T, R> {
+impl<T: PartialEq + Clone, R: Reducer<T> + Clone> Sub<ReducedInt<T, R>> for &ReducedInt<T, R> {
     type Output = ReducedInt<T, R>;
 
     #[inline]
@@ -56,7 +55,7 @@ impl<T: RingWord, R: Reducer<T> + Copy> Sub<ReducedInt<T, R>> for &ReducedInt<T,
     }
 }
 
-impl<T: RingWord, R: Reducer<T> + Copy> Sub<&ReducedInt<T, R>> for &ReducedInt<T, R> {
+impl<T: PartialEq + Clone, R: Reducer<T> + Clone> Sub<&ReducedInt<T, R>> for &ReducedInt<T, R> {
     type Output = ReducedInt<T, R>;
 
     #[inline]
@@ -66,7 +65,7 @@ impl<T: RingWord, R: Reducer<T> + Copy> Sub<&ReducedInt<T, R>> for &ReducedInt<T
     }
 }
 
-impl<T: RingWord, R: Reducer<T> + Copy> Sub<T> for &ReducedInt<T, R> {
+impl<T: PartialEq + Clone, R: Reducer<T> + Clone> Sub<T> for &ReducedInt<T, R> {
     type Output = ReducedInt<T, R>;
 
     #[inline]
@@ -76,17 +75,17 @@ impl<T: RingWord, R: Reducer<T> + Copy> Sub<T> for &ReducedInt<T, R> {
     }
 }
 
-impl<T: RingWord, R: Reducer<T> + Copy> Sub<&T> for &ReducedInt<T, R> {
+impl<T: PartialEq + Clone, R: Reducer<T> + Clone> Sub<&T> for &ReducedInt<T, R> {
     type Output = ReducedInt<T, R>;
 
     #[inline]
     #[cfg_attr(debug_assertions, track_caller)]
     fn sub(self, rhs: &T) -> ReducedInt<T, R> {
-        difference_with(self, *rhs)
+        difference_with(self, rhs.clone())
     }
 }
 
-impl<T: RingWord, R: Reducer<T> + Copy> SubAssign<ReducedInt<T, R>> for ReducedInt<T, R> {
+impl<T: PartialEq + Clone, R: Reducer<T> + Clone> SubAssign<ReducedInt<T, R>> for ReducedInt<T, R> {
     #[inline]
     #[cfg_attr(debug_assertions, track_caller)]
     fn sub_assign(&mut self, rhs: ReducedInt<T, R>) {
@@ -94,7 +93,7 @@ impl<T: RingWord, R: Reducer<T> + Copy> SubAssign<ReducedInt<T, R>> for ReducedI
     }
 }
 
-impl<T: RingWord, R: Reducer<T> + Copy> SubAssign<&ReducedInt<T, R>> for ReducedInt<T, R> {
+impl<T: PartialEq + Clone, R: Reducer<T> + Clone> SubAssign<&ReducedInt<T, R>> for ReducedInt<T, R> {
     #[inline]
     #[cfg_attr(debug_assertions, track_caller)]
     fn sub_assign(&mut self, rhs: &ReducedInt<T, R>) {
@@ -102,7 +101,7 @@ impl<T: RingWord, R: Reducer<T> + Copy> SubAssign<&ReducedInt<T, R>> for Reduced
     }
 }
 
-impl<T: RingWord, R: Reducer<T> + Copy> SubAssign<T> for ReducedInt<T, R> {
+impl<T: PartialEq + Clone, R: Reducer<T> + Clone> SubAssign<T> for ReducedInt<T, R> {
     #[inline]
     #[cfg_attr(debug_assertions, track_caller)]
     fn sub_assign(&mut self, rhs: T) {
@@ -110,10 +109,10 @@ impl<T: RingWord, R: Reducer<T> + Copy> SubAssign<T> for ReducedInt<T, R> {
     }
 }
 
-impl<T: RingWord, R: Reducer<T> + Copy> SubAssign<&T> for ReducedInt<T, R> {
+impl<T: PartialEq + Clone, R: Reducer<T> + Clone> SubAssign<&T> for ReducedInt<T, R> {
     #[inline]
     #[cfg_attr(debug_assertions, track_caller)]
     fn sub_assign(&mut self, rhs: &T) {
-        *self = difference_with(self, *rhs);
+        *self = difference_with(self, rhs.clone());
     }
 }

@@ -1,7 +1,8 @@
 //! Hashes and searches, with known values from other sources.
 
 use super::assert_at;
-use crate::applications::mersenne_hash::same_hashes;
+use crate::applications::mersenne_hash::prefixes::PrefixHashes;
+use crate::applications::mersenne_hash::{length_hash, same_hashes};
 use crate::ModularInteger;
 use crate::hashes::{Hash, base, find, hash, moved};
 
@@ -81,4 +82,69 @@ fn hashes_that_collide() {
     // 2^61 is congruent to the base 1
     check!(rt, 4; same_hashes(&[1, 2, 2305843009213693952], &first, &second));
     check!(rt, 5; same_hashes(&[0, 1, 2], &first, &first));
+}
+
+// The places from which a pattern is searched in "abracadabra", and the first position from there on.
+const SEARCHES_FROM: &[(&[u8], usize, Option<usize>)] = &[
+    (b"abra", 0, Some(0)),
+    (b"abra", 1, Some(7)),
+    (b"abra", 7, Some(7)),
+    (b"abra", 8, None),
+    (b"a", 1, Some(3)),
+    (b"a", 10, Some(10)),
+    (b"a", 11, None),
+    (b"", 5, Some(5)),
+    (b"", 11, Some(11)),
+    (b"", 12, None),
+    (b"abracadabra", 0, Some(0)),
+    (b"abracadabrac", 0, None),
+    (b"x", 0, None),
+];
+
+// Whether each part has the hash that `hash` gives it, and each search returns this.
+fn has_parts(text: &PrefixHashes<'_>, base: Hash) -> bool {
+    let whole = b"abracadabra";
+    for from in 0..12 {
+        for to in from..12 {
+            if text.substring_hash(from, to) != hash(base, &whole[from..to]) {
+                return false;
+            }
+        }
+    }
+    for (pattern, from, position) in SEARCHES_FROM {
+        if text.find_from(pattern, *from) != *position {
+            return false;
+        }
+    }
+    true
+}
+
+#[test]
+fn hashes_of_parts() {
+    let rt = crate::runtime::HostRuntime;
+    for n in [0, 1, 256, 1000003, 2305843009213693950] {
+        let base = base(n);
+        let mut hashes = [base; 12];
+        let mut powers = [base; 12];
+        match PrefixHashes::new(base, b"abracadabra", &mut hashes, &mut powers) {
+            Some(text) => assert_at(&rt, has_parts(&text, base), &n),
+            None => assert_at(&rt, false, &n),
+        }
+    }
+    let mut few = [base(2); 3];
+    let mut powers = [base(2); 4];
+    check!(&rt, 1; PrefixHashes::new(base(2), b"abc", &mut few, &mut powers).is_none());
+    check!(&rt, 2; PrefixHashes::new(base(2), b"ab", &mut few, &mut powers).is_none());
+    check!(&rt, 3; PrefixHashes::new(base(2), b"", &mut [], &mut powers).is_none());
+}
+
+#[test]
+fn hashes_that_know_lengths() {
+    let rt = crate::runtime::HostRuntime;
+    let rt = &rt;
+    let b = base(1000003);
+    check!(rt, 1; hash(b, b"\x00a") == hash(b, b"a"));
+    check!(rt, 2; length_hash(b, b"\x00a") != length_hash(b, b"a"));
+    check!(rt, 3; length_hash(b, b"") == base(1));
+    check!(rt, 4; length_hash(base(1000), &[2, 3]).residue() == 1_002_003);
 }
