@@ -6,9 +6,9 @@
 //! inverse modulo m. So their number is at most the least prime that divides m.
 //!
 //! The codes are maximum distance separable (MDS): two words differ in n - k + 1 symbols at least, the most that
-//! Singleton's bound allows. So up to half of n - k wrong symbols leave the word
-//! unique. `PreparedCode` computes once what depends on the points alone; where the points are the powers of a root of
-//! unity, `encode_by_transform` encodes by one transform.
+//! Singleton's bound allows. So up to half of n - k wrong symbols leave the word unique. `PreparedCode` computes once what
+//! depends on the points alone; where the points are the powers of a root of unity, `encode_by_transform` encodes by one
+//! transform.
 //!
 //! Points, messages and words are lists of checked forms of a reducer; `load_forms` and `unload_forms` of
 //! `num_modular::ring` convert from words and back. No memory is allocated: the caller passes the scratch lists.
@@ -16,12 +16,12 @@
 //!
 //! Source: Reed and Solomon, "Polynomial codes over certain finite fields".
 
-ghost use Rattle.std.specs.Prelude.{◌≡◌, ◌≢◌, ℕ, ◌+◌, ◌-◌, ◌%◌, ◌<◌, ◌≤◌, ◌↔◌, IsTrue, IsOk, IfErr, All};
-ghost use Rattle.std.specs.Prelude.{length, slice_index, slice_index_or, MatchOption};
+ghost use Rattle.std.specs.Prelude.{◌≡◌, ℕ, ◌%◌, ◌<◌, ◌≤◌, ◌↔◌, IsTrue, IsOk, IfErr, All};
+ghost use Rattle.std.specs.Prelude.{length, slice_index, slice_index_or};
 ghost use Rattle.num_modular.specs.Entries.{entry};
 ghost use Rattle.num_modular.specs.Forms.{IsForm};
 ghost use Rattle.num_modular.specs.Polynomials.{polynomial, HaveUnitDifferences};
-ghost use Rattle.ring_codes.specs.Erasure.{IsEncoding, IsErasureCodeword, ArePlaces, IsFault, distance};
+ghost use Rattle.ring_codes.specs.Erasure.{IsEncoding, IsErasureCodeword, ArePlaces, IsFault};
 
 mod bounds;
 mod correction;
@@ -31,8 +31,9 @@ mod powers;
 mod prepared;
 mod quotients;
 mod secrets;
+mod words;
 
-pub use bounds::singleton_law;
+pub use bounds::{distance_laws, singleton_law};
 pub use correction::{CorrectError, correct};
 use newton::{differences_before, divide_differences, expand, fill_weights};
 use num_modular::ring::invert_each;
@@ -40,6 +41,7 @@ use num_modular::{Reducer, RingWord};
 pub use powers::{encode_by_plan, encode_by_transform, fill_powers, root_laws};
 pub use prepared::PreparedCode;
 pub use secrets::{ShareError, recover, recover_correct, secrecy_laws, share};
+pub use words::restore_word;
 
 /// Why a message can't be restored.
 ///
@@ -405,166 +407,3 @@ pub fn restore<T: RingWord, R: Reducer<T>>(
         }
     }
 }
-
-// An index below `count` of a place in the list; `None` exactly where there is none.
-fn index_of(places: &[usize], count: usize, place: usize) -> Option<usize>
-    requires { count ≤ length places.now }
-    ensures { MatchOption result ((j : ℕ) → j < count → slice_index places.now j ≢ place)
-        (λ j. (j < count) × (slice_index places.now j ≡ place)) }
-{
-    'indices: for j in 0..count {
-        if places[j] == place {
-            return Some(j);
-        }
-    }
-    None
-}
-
-// The symbol at a place: the kept one, or the value of the message at the point.
-fn symbol_at<T: RingWord, R: Reducer<T>>(
-    r: &R,
-    points: &[T],
-    message: &[T],
-    places: &[usize],
-    symbols: &[T],
-    place: usize,
-) -> T
-    requires points { All (λ f. IsForm R.form R.value (R.modulus r.now) (T.number f)) points.now }
-    requires message { All (λ f. IsForm R.form R.value (R.modulus r.now) (T.number f)) message.now }
-    requires symbols { All (λ f. IsForm R.form R.value (R.modulus r.now) (T.number f)) symbols.now }
-    requires pairs { length symbols.now ≡ length places.now }
-    requires enough { length message.now ≤ length places.now }
-    requires within { place < length points.now }
-    requires kept { let m = R.modulus r.now in IsEncoding m (length message.now) (length message.now)
-        (λ i. entry T.number R.value m points.now (slice_index places.now i))
-        (entry T.number R.value m message.now) (entry T.number R.value m symbols.now) }
-    ensures checked { IsForm R.form R.value (R.modulus r.now) (T.number result) }
-    ensures value { let m = R.modulus r.now in R.value m (T.number result)
-        ≡ polynomial (length message.now) (entry T.number R.value m message.now)
-        (entry T.number R.value m points.now place) % m }
-{
-    match index_of(places, message.len(), place) {
-        Some(j) => symbols[j],
-        None => evaluate(r, message, &points[place]),
-    }
-}
-
-// Writes the word of a message, some of whose symbols were kept.
-fn fill_word<T: RingWord, R: Reducer<T>>(
-    r: &R,
-    points: &[T],
-    message: &[T],
-    places: &[usize],
-    symbols: &[T],
-    word: &mut [T],
-)
-    requires points { All (λ f. IsForm R.form R.value (R.modulus r.now) (T.number f)) points.now }
-    requires message { All (λ f. IsForm R.form R.value (R.modulus r.now) (T.number f)) message.now }
-    requires symbols { All (λ f. IsForm R.form R.value (R.modulus r.now) (T.number f)) symbols.now }
-    requires pairs { length symbols.now ≡ length places.now }
-    requires enough { length message.now ≤ length places.now }
-    requires room { length word.old ≡ length points.now }
-    requires kept { let m = R.modulus r.now in IsEncoding m (length message.now) (length message.now)
-        (λ i. entry T.number R.value m points.now (slice_index places.now i))
-        (entry T.number R.value m message.now) (entry T.number R.value m symbols.now) }
-    ensures checked { All (λ f. IsForm R.form R.value (R.modulus r.now) (T.number f)) word.new }
-    ensures encoding { let m = R.modulus r.now in
-        IsEncoding m (length message.now) (length points.now) (entry T.number R.value m points.now)
-        (entry T.number R.value m message.now) (entry T.number R.value m word.new) }
-{
-    'points: for i in 0..points.len() {
-        word[i] = symbol_at(r, points, message, places, symbols, i);
-    }
-}
-
-/// Restores the whole word of a message of k symbols, k being the length of `message`, from the first k places and the
-/// symbols there, whichever places these are: every lost symbol, and the message.
-///
-/// The errors are those of `restore`. Conditions: points and symbols are checked forms, each place has its symbol,
-/// there are k weights, k being at most the number of points, and the word has a place for each point. The previous
-/// contents of `weights`, `message` and `word` don't matter; after an error their contents are unspecified.
-///
-/// Source: Reed and Solomon, "Polynomial codes over certain finite fields".
-///
-/// # Examples
-///
-/// ```
-/// use num_modular::applications::ring_codes::erasure::restore_word;
-/// use num_modular::{Reducer, Vanilla};
-///
-/// let ring = Vanilla::<u8>::new(&97);
-/// let (mut weights, mut message, mut word) = ([0; 2], [0; 2], [0; 4]);
-/// restore_word(&ring, &[1, 2, 3, 4], &[3, 1], &[33, 19], &mut weights, &mut message, &mut word).unwrap();
-/// assert_eq!((message, word), ([5, 7], [12, 19, 26, 33]));
-/// ```
-pub fn restore_word<T: RingWord, R: Reducer<T>>(
-    r: &R,
-    points: &[T],
-    places: &[usize],
-    symbols: &[T],
-    weights: &mut [T],
-    message: &mut [T],
-    word: &mut [T],
-) -> Result<(), RestoreError>
-    requires points { All (λ f. IsForm R.form R.value (R.modulus r.now) (T.number f)) points.now }
-    requires symbols { All (λ f. IsForm R.form R.value (R.modulus r.now) (T.number f)) symbols.now }
-    requires pairs { length symbols.now ≡ length places.now }
-    requires few { length message.old ≤ length points.now }
-    requires weights { length weights.old ≡ length message.old }
-    requires room { length word.old ≡ length points.now }
-    ensures accepted { let m = R.modulus r.now in IsOk result ↔
-        (ArePlaces (length message.old) (length points.now) places.now × HaveUnitDifferences m (length message.old)
-        (λ i. entry T.number R.value m points.now (slice_index places.now i))) }
-    ensures fault { let m = R.modulus r.now in IfErr result (λ e. IsFault m (length message.old) (length points.now)
-        (entry T.number R.value m points.now) places.now e) }
-    ensures checked { IsOk result →
-        All (λ f. IsForm R.form R.value (R.modulus r.now) (T.number f)) word.new }
-    ensures forms { IsOk result →
-        All (λ f. IsForm R.form R.value (R.modulus r.now) (T.number f)) message.new }
-    ensures encoding { let m = R.modulus r.now in IsOk result →
-        IsEncoding m (length message.old) (length points.now) (entry T.number R.value m points.now)
-        (entry T.number R.value m message.new) (entry T.number R.value m word.new) }
-    ensures symbols { let m = R.modulus r.now in IsOk result → (i : ℕ) → i < length message.old →
-        entry T.number R.value m word.new (slice_index places.now i) ≡ entry T.number R.value m symbols.now i }
-    ensures original { let m = R.modulus r.now in IsOk result → (original : ℕ → ℕ) →
-        IsErasureCodeword m (length message.old) (length points.now) (entry T.number R.value m points.now) original →
-        ((i : ℕ) → i < length message.old →
-        entry T.number R.value m symbols.now i ≡ original (slice_index places.now i)) →
-        (i : ℕ) → i < length points.now → entry T.number R.value m word.new i ≡ original i }
-    ensures message { let m = R.modulus r.now in IsOk result → (sent word : ℕ → ℕ) →
-        IsEncoding m (length message.old) (length points.now) (entry T.number R.value m points.now) sent word →
-        ((i : ℕ) → i < length message.old →
-        entry T.number R.value m symbols.now i ≡ word (slice_index places.now i)) →
-        (i : ℕ) → i < length message.old → entry T.number R.value m message.new i ≡ sent i % m }
-{
-    let chosen = &mut word[..message.len()];
-    match restore(r, points, places, symbols, chosen, weights, message) {
-        Err(error) => Err(error),
-        Ok(()) => {
-            fill_word(r, points, message, places, symbols, word);
-            Ok(())
-        }
-    }
-}
-
-/// The words of two messages of k symbols that differ modulo m differ in at least n - k + 1 of n symbols, and so do
-/// two different words. So changing at most n - k symbols of a word never gives a word. The bound is met: if k is at
-/// least 1 and m at least 2, the words of some two such messages differ in exactly n - k + 1 symbols, for example those
-/// of (X - p_1)·..·(X - p_(k-1)) and of 0.
-///
-/// Source: Reed and Solomon, "Polynomial codes over certain finite fields"; Singleton, "Maximum distance
-/// q-nary codes".
-pub fn distance_laws()
-    ensures messages { (m k n : ℕ) (points a b u v : ℕ → ℕ) → k ≤ n → HaveUnitDifferences m n points →
-        IsEncoding m k n points a u → IsEncoding m k n points b v →
-        (i : ℕ) → i < k → a i % m ≢ b i % m → n - k + 1 ≤ distance n u v }
-    ensures words { (m k n : ℕ) (points u v : ℕ → ℕ) → k ≤ n → HaveUnitDifferences m n points →
-        IsErasureCodeword m k n points u → IsErasureCodeword m k n points v → 0 < distance n u v →
-        n - k + 1 ≤ distance n u v }
-    ensures change { (m k n : ℕ) (points word changed : ℕ → ℕ) → k ≤ n → HaveUnitDifferences m n points →
-        IsErasureCodeword m k n points word → 0 < distance n word changed → distance n word changed ≤ n - k →
-        IsErasureCodeword m k n points changed → ⊥ }
-    ensures met { (m k n : ℕ) (points : ℕ → ℕ) → 2 ≤ m → 1 ≤ k → k ≤ n → HaveUnitDifferences m n points →
-        (a : ℕ → ℕ) × (b : ℕ → ℕ) × (u : ℕ → ℕ) × (v : ℕ → ℕ) × IsEncoding m k n points a u ×
-        IsEncoding m k n points b v × ((i : ℕ) × (i < k) × (a i % m ≢ b i % m)) × (distance n u v ≡ n - k + 1) }
-{}

@@ -2,7 +2,7 @@ use Rattle.num_modular.specs.Callers.{◌%◌, length, entry, entry_read, form_r
 use Rattle.num_modular.specs.Polynomials.{polynomial}
 use Rattle.num_modular.specs.Callers.{◌<◌, subst, sym}
 use Rattle.std.proofs.Math.Nat.{le_of_lt, le_trans}
-use Rattle.ring_codes.proofs.erasure.symbol_at.Goals as goal
+use Rattle.ring_codes.proofs.erasure.words.symbol_at.Goals as goal
 
 pub returns-in-Some-clause-checked : goal.returns-in-Some-clause-checked
 returns-in-Some-clause-checked g c =

@@ -3,7 +3,7 @@ use Rattle.num_modular.specs.Polynomials.{polynomial}
 use borrow.Author.Rules.{scaled_Fits}
 use borrow.Author.Count.{falls}
 use Rattle.num_modular.specs.Callers.{◌<◌, subst, sym, ◌∙◌}
-use Rattle.ring_codes.proofs.erasure.fill_word.Goals as goal
+use Rattle.ring_codes.proofs.erasure.words.fill_word.Goals as goal
 
 pub points-init : goal.points-init
 points-init g c = record { each = λ k d l. absurd (omega arith) }

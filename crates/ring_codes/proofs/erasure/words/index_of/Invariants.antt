@@ -1,5 +1,5 @@
 use Rattle.std.proofs.Common.{◌≢◌, ℕ, ◌<◌, slice_index}
-use Rattle.ring_codes.proofs.erasure.index_of.Given as goal
+use Rattle.ring_codes.proofs.erasure.words.index_of.Given as goal
 
 -- the place isn't among those so far
 abbrev pub invariant-indices : goal.invariant-indices

@@ -8,7 +8,7 @@ use Rattle.ring_codes.specs.Erasure.{IsEncoding}
 use Rattle.num_modular.specs.Callers.{◌≤◌}
 use Rattle.std.proofs.lemmas.List.{length-take-le}
 use Rattle.ring_codes.proofs.Symbols.{joined_length}
-use Rattle.ring_codes.proofs.erasure.restore_word.Goals as goal
+use Rattle.ring_codes.proofs.erasure.words.restore_word.Goals as goal
 
 pub returns-in-Err-clause-accepted : goal.returns-in-Err-clause-accepted
 returns-in-Err-clause-accepted g c = c.in-Err.ensures.accepted

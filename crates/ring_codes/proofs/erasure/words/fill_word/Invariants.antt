@@ -1,6 +1,6 @@
 use Rattle.num_modular.specs.Callers.{◌%◌, length, HoldBelow, entry}
 use Rattle.num_modular.specs.Polynomials.{polynomial}
-use Rattle.ring_codes.proofs.erasure.fill_word.Given as goal
+use Rattle.ring_codes.proofs.erasure.words.fill_word.Given as goal
 
 -- the symbols at the points so far
 abbrev pub invariant-points : goal.invariant-points

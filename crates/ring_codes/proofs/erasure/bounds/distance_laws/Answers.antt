@@ -1,7 +1,7 @@
 use Rattle.std.proofs.Common.{arith}
 use Rattle.ring_codes.proofs.Distances.{messages_apart, words_apart}
 use Rattle.ring_codes.proofs.NearestWords.{bound_met}
-use Rattle.ring_codes.proofs.erasure.distance_laws.Goals as goal
+use Rattle.ring_codes.proofs.erasure.bounds.distance_laws.Goals as goal
 
 pub returns : goal.returns
 returns c = record {

@@ -1,0 +1,152 @@
+//! Whole words from some of their symbols.
+
+ghost use Rattle.std.specs.Prelude.{◌≡◌, ◌≢◌, ℕ, ◌%◌, ◌<◌, ◌≤◌, ◌↔◌, IsOk, IfErr, All};
+ghost use Rattle.std.specs.Prelude.{length, slice_index, MatchOption};
+ghost use Rattle.num_modular.specs.Entries.{entry};
+ghost use Rattle.num_modular.specs.Forms.{IsForm};
+ghost use Rattle.num_modular.specs.Polynomials.{polynomial, HaveUnitDifferences};
+ghost use Rattle.ring_codes.specs.Erasure.{IsEncoding, IsErasureCodeword, ArePlaces, IsFault};
+
+use super::{RestoreError, evaluate, restore};
+use num_modular::{Reducer, RingWord};
+
+// An index below `count` of a place in the list; `None` exactly where there is none.
+fn index_of(places: &[usize], count: usize, place: usize) -> Option<usize>
+    requires { count ≤ length places.now }
+    ensures { MatchOption result ((j : ℕ) → j < count → slice_index places.now j ≢ place)
+        (λ j. (j < count) × (slice_index places.now j ≡ place)) }
+{
+    'indices: for j in 0..count {
+        if places[j] == place {
+            return Some(j);
+        }
+    }
+    None
+}
+
+// The symbol at a place: the kept one, or the value of the message at the point.
+fn symbol_at<T: RingWord, R: Reducer<T>>(
+    r: &R,
+    points: &[T],
+    message: &[T],
+    places: &[usize],
+    symbols: &[T],
+    place: usize,
+) -> T
+    requires points { All (λ f. IsForm R.form R.value (R.modulus r.now) (T.number f)) points.now }
+    requires message { All (λ f. IsForm R.form R.value (R.modulus r.now) (T.number f)) message.now }
+    requires symbols { All (λ f. IsForm R.form R.value (R.modulus r.now) (T.number f)) symbols.now }
+    requires pairs { length symbols.now ≡ length places.now }
+    requires enough { length message.now ≤ length places.now }
+    requires within { place < length points.now }
+    requires kept { let m = R.modulus r.now in IsEncoding m (length message.now) (length message.now)
+        (λ i. entry T.number R.value m points.now (slice_index places.now i))
+        (entry T.number R.value m message.now) (entry T.number R.value m symbols.now) }
+    ensures checked { IsForm R.form R.value (R.modulus r.now) (T.number result) }
+    ensures value { let m = R.modulus r.now in R.value m (T.number result)
+        ≡ polynomial (length message.now) (entry T.number R.value m message.now)
+        (entry T.number R.value m points.now place) % m }
+{
+    match index_of(places, message.len(), place) {
+        Some(j) => symbols[j],
+        None => evaluate(r, message, &points[place]),
+    }
+}
+
+// Writes the word of a message, some of whose symbols were kept.
+fn fill_word<T: RingWord, R: Reducer<T>>(
+    r: &R,
+    points: &[T],
+    message: &[T],
+    places: &[usize],
+    symbols: &[T],
+    word: &mut [T],
+)
+    requires points { All (λ f. IsForm R.form R.value (R.modulus r.now) (T.number f)) points.now }
+    requires message { All (λ f. IsForm R.form R.value (R.modulus r.now) (T.number f)) message.now }
+    requires symbols { All (λ f. IsForm R.form R.value (R.modulus r.now) (T.number f)) symbols.now }
+    requires pairs { length symbols.now ≡ length places.now }
+    requires enough { length message.now ≤ length places.now }
+    requires room { length word.old ≡ length points.now }
+    requires kept { let m = R.modulus r.now in IsEncoding m (length message.now) (length message.now)
+        (λ i. entry T.number R.value m points.now (slice_index places.now i))
+        (entry T.number R.value m message.now) (entry T.number R.value m symbols.now) }
+    ensures checked { All (λ f. IsForm R.form R.value (R.modulus r.now) (T.number f)) word.new }
+    ensures encoding { let m = R.modulus r.now in
+        IsEncoding m (length message.now) (length points.now) (entry T.number R.value m points.now)
+        (entry T.number R.value m message.now) (entry T.number R.value m word.new) }
+{
+    'points: for i in 0..points.len() {
+        word[i] = symbol_at(r, points, message, places, symbols, i);
+    }
+}
+
+/// Restores the whole word of a message of k symbols, k being the length of `message`, from the first k places and the
+/// symbols there, whichever places these are: every lost symbol, and the message.
+///
+/// The errors are those of `restore`. Conditions: points and symbols are checked forms, each place has its symbol,
+/// there are k weights, k being at most the number of points, and the word has a place for each point. The previous
+/// contents of `weights`, `message` and `word` don't matter; after an error their contents are unspecified.
+///
+/// Source: Reed and Solomon, "Polynomial codes over certain finite fields".
+///
+/// # Examples
+///
+/// ```
+/// use num_modular::applications::ring_codes::erasure::restore_word;
+/// use num_modular::{Reducer, Vanilla};
+///
+/// let ring = Vanilla::<u8>::new(&97);
+/// let (mut weights, mut message, mut word) = ([0; 2], [0; 2], [0; 4]);
+/// restore_word(&ring, &[1, 2, 3, 4], &[3, 1], &[33, 19], &mut weights, &mut message, &mut word).unwrap();
+/// assert_eq!((message, word), ([5, 7], [12, 19, 26, 33]));
+/// ```
+pub fn restore_word<T: RingWord, R: Reducer<T>>(
+    r: &R,
+    points: &[T],
+    places: &[usize],
+    symbols: &[T],
+    weights: &mut [T],
+    message: &mut [T],
+    word: &mut [T],
+) -> Result<(), RestoreError>
+    requires points { All (λ f. IsForm R.form R.value (R.modulus r.now) (T.number f)) points.now }
+    requires symbols { All (λ f. IsForm R.form R.value (R.modulus r.now) (T.number f)) symbols.now }
+    requires pairs { length symbols.now ≡ length places.now }
+    requires few { length message.old ≤ length points.now }
+    requires weights { length weights.old ≡ length message.old }
+    requires room { length word.old ≡ length points.now }
+    ensures accepted { let m = R.modulus r.now in IsOk result ↔
+        (ArePlaces (length message.old) (length points.now) places.now × HaveUnitDifferences m (length message.old)
+        (λ i. entry T.number R.value m points.now (slice_index places.now i))) }
+    ensures fault { let m = R.modulus r.now in IfErr result (λ e. IsFault m (length message.old) (length points.now)
+        (entry T.number R.value m points.now) places.now e) }
+    ensures checked { IsOk result →
+        All (λ f. IsForm R.form R.value (R.modulus r.now) (T.number f)) word.new }
+    ensures forms { IsOk result →
+        All (λ f. IsForm R.form R.value (R.modulus r.now) (T.number f)) message.new }
+    ensures encoding { let m = R.modulus r.now in IsOk result →
+        IsEncoding m (length message.old) (length points.now) (entry T.number R.value m points.now)
+        (entry T.number R.value m message.new) (entry T.number R.value m word.new) }
+    ensures symbols { let m = R.modulus r.now in IsOk result → (i : ℕ) → i < length message.old →
+        entry T.number R.value m word.new (slice_index places.now i) ≡ entry T.number R.value m symbols.now i }
+    ensures original { let m = R.modulus r.now in IsOk result → (original : ℕ → ℕ) →
+        IsErasureCodeword m (length message.old) (length points.now) (entry T.number R.value m points.now) original →
+        ((i : ℕ) → i < length message.old →
+        entry T.number R.value m symbols.now i ≡ original (slice_index places.now i)) →
+        (i : ℕ) → i < length points.now → entry T.number R.value m word.new i ≡ original i }
+    ensures message { let m = R.modulus r.now in IsOk result → (sent word : ℕ → ℕ) →
+        IsEncoding m (length message.old) (length points.now) (entry T.number R.value m points.now) sent word →
+        ((i : ℕ) → i < length message.old →
+        entry T.number R.value m symbols.now i ≡ word (slice_index places.now i)) →
+        (i : ℕ) → i < length message.old → entry T.number R.value m message.new i ≡ sent i % m }
+{
+    let chosen = &mut word[..message.len()];
+    match restore(r, points, places, symbols, chosen, weights, message) {
+        Err(error) => Err(error),
+        Ok(()) => {
+            fill_word(r, points, message, places, symbols, word);
+            Ok(())
+        }
+    }
+}
