@@ -36,3 +36,30 @@ returns-else-points_fit-clause-fault g c fit =
     (λ i l. sym (entry_chosen number ring.value m points chosen i (slice_index places i)
     (λ d. c.in-Ok.ensures.chosen refl i d (omega (arith, c.requires.room, l))) (omega (arith, c.requires.room, l))
     (right.within i l))) fit)))
+
+pub returns-in-Err-clause-places : goal.returns-in-Err-clause-places
+returns-in-Err-clause-places g c t = absurd (false≢true t)
+
+pub returns-in-Err-clause-checked : goal.returns-in-Err-clause-checked
+returns-in-Err-clause-checked g c t = absurd (false≢true t)
+
+pub returns-in-Err-clause-located : goal.returns-in-Err-clause-located
+returns-in-Err-clause-located g c t = absurd (false≢true t)
+
+pub returns-in-Err-clause-fit : goal.returns-in-Err-clause-fit
+returns-in-Err-clause-fit g c t = absurd (false≢true t)
+
+pub returns-else-points_fit-clause-places : goal.returns-else-points_fit-clause-places
+returns-else-points_fit-clause-places g c t = absurd (false≢true t)
+
+pub returns-else-points_fit-clause-checked : goal.returns-else-points_fit-clause-checked
+returns-else-points_fit-clause-checked g c t = absurd (false≢true t)
+
+pub returns-else-points_fit-clause-located : goal.returns-else-points_fit-clause-located
+returns-else-points_fit-clause-located g c t = absurd (false≢true t)
+
+pub returns-else-points_fit-clause-fit : goal.returns-else-points_fit-clause-fit
+returns-else-points_fit-clause-fit g c t = absurd (false≢true t)
+
+pub returns-then-points_fit-clause-fault : goal.returns-then-points_fit-clause-fault
+returns-then-points_fit-clause-fault g c = tt

@@ -17,3 +17,30 @@ returns-clause-value g c cn d is_c is_d =
     c.mul-product.ensures.value c.sub.ensures.value in
     subst (λ k. Congruent m (v + y * polynomial d e x) (polynomial k n x)) is_c
     (subst (λ k. Congruent m (v + y * polynomial k e x) (polynomial (length c.args.numerator.now) n x)) is_d one)
+
+pub evaluate-value-requires-clause-coefficients : goal.evaluate-value-requires-clause-coefficients
+evaluate-value-requires-clause-coefficients g c = c.requires.numerator
+
+pub evaluate-value-requires-clause-point : goal.evaluate-value-requires-clause-point
+evaluate-value-requires-clause-point g c = c.requires.point
+
+pub evaluate-located-requires-clause-coefficients : goal.evaluate-located-requires-clause-coefficients
+evaluate-located-requires-clause-coefficients g c = c.requires.locator
+
+pub evaluate-located-requires-clause-point : goal.evaluate-located-requires-clause-point
+evaluate-located-requires-clause-point g c = c.requires.point
+
+pub mul-product-requires-clause-left : goal.mul-product-requires-clause-left
+mul-product-requires-clause-left g c = c.requires.symbol
+
+pub mul-product-requires-clause-right : goal.mul-product-requires-clause-right
+mul-product-requires-clause-right g c = c.evaluate-located.ensures.checked
+
+pub sub-requires-clause-left : goal.sub-requires-clause-left
+sub-requires-clause-left g c = c.evaluate-value.ensures.checked
+
+pub sub-requires-clause-right : goal.sub-requires-clause-right
+sub-requires-clause-right g c = c.mul-product.ensures.checked
+
+pub returns-clause-checked : goal.returns-clause-checked
+returns-clause-checked g c = c.sub.ensures.checked

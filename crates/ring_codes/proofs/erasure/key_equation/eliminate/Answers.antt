@@ -2,6 +2,9 @@ use Rattle.num_modular.specs.Callers.{◌*◌, ◌%◌, ◌∙◌, ap, arith}
 use Rattle.num_modular.specs.Callers.{entry, entry_at, entry_read, form_read, forms_written, done_none, done_more}
 use Rattle.num_modular.specs.NumberLaws.{mod_of_eq, mod_trans, residue_of}
 use Rattle.ring_codes.proofs.NewtonForms.{subtracted}
+use Rattle.num_modular.specs.Callers.{◌<◌, ◌-◌, sym, subst}
+use borrow.Author.Count.{falls}
+use Rattle.std.proofs.Math.Nat.{le_of_lt}
 use Rattle.ring_codes.proofs.erasure.key_equation.eliminate.Goals as goal
 
 pub coefficients-init : goal.coefficients-init
@@ -53,3 +56,18 @@ returns-clause-checked g c = c.coefficients.invariant.0
 
 pub returns-clause-difference : goal.returns-clause-difference
 returns-clause-difference g c i l = c.coefficients.invariant.1.done i (omega arith)
+
+pub bounds-coefficients-i : goal.bounds-coefficients-i
+bounds-coefficients-i g c = subst (λ n. c.coefficients.i < n) (sym c.coefficients.auto.coefficients) c.coefficients-test.true
+
+pub bounds-coefficients-i-in-coefficients : goal.bounds-coefficients-i-in-coefficients
+bounds-coefficients-i-in-coefficients g c = subst (λ n. c.coefficients.i < n) (sym c.coefficients.auto.coefficients) c.coefficients-test.true
+
+pub bounds-pivots-i : goal.bounds-pivots-i
+bounds-pivots-i g c = subst (λ n. c.coefficients.i < n) (sym c.requires.equal) c.coefficients-test.true
+
+pub offset_bounds-pivots-i : goal.offset_bounds-pivots-i
+offset_bounds-pivots-i g c = le_of_lt (subst (λ n. c.coefficients.i < n) (sym c.requires.equal) c.coefficients-test.true)
+
+pub coefficients-smaller : goal.coefficients-smaller
+coefficients-smaller g c = falls _ _ c.coefficients-test.true

@@ -4,6 +4,8 @@ use Rattle.num_modular.specs.Callers.{entry, entry_read, form_read, forms_writte
 use Rattle.num_modular.specs.NumberLaws.{mod_of_eq, mod_trans}
 use Rattle.ring_codes.proofs.KeyPairs.{shifted_none, shifted_next}
 use Rattle.ring_codes.proofs.NewtonForms.{subtracted}
+use Rattle.num_modular.specs.Callers.{◌<◌, ◌-◌, subst}
+use borrow.Author.Count.{falls}
 use Rattle.ring_codes.proofs.erasure.key_equation.multiply_by_root.Goals as goal
 
 pub coefficients-init : goal.coefficients-init
@@ -57,3 +59,12 @@ returns-clause-checked g c = c.coefficients.invariant.0
 
 pub returns-clause-product : goal.returns-clause-product
 returns-clause-product g c i l = c.coefficients.invariant.2.done i (omega arith)
+
+pub bounds-coefficients-i : goal.bounds-coefficients-i
+bounds-coefficients-i g c = subst (λ n. c.coefficients.i < n) (sym c.coefficients.auto.coefficients) c.coefficients-test.true
+
+pub bounds-coefficients-i-in-coefficients : goal.bounds-coefficients-i-in-coefficients
+bounds-coefficients-i-in-coefficients g c = subst (λ n. c.coefficients.i < n) (sym c.coefficients.auto.coefficients) c.coefficients-test.true
+
+pub coefficients-smaller : goal.coefficients-smaller
+coefficients-smaller g c = falls _ _ c.coefficients-test.true

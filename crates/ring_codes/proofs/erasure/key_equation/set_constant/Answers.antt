@@ -1,6 +1,9 @@
 use Rattle.num_modular.specs.Callers.{◌≢◌, ◌∙◌, arith, inl, inr, length}
 use Rattle.num_modular.specs.Callers.{entry_past, entry_kept, held_entry}
 use Rattle.std.proofs.lemmas.Bool.{cases_lt}
+use Rattle.num_modular.specs.Callers.{◌<◌, ◌≤◌, ◌%◌, ap, sym, subst, hold_more, held_forms, forms_written, entry_written}
+use borrow.Author.Count.{falls}
+use Rattle.ring_codes.proofs.Counts.{zero_mod}
 use Rattle.ring_codes.proofs.erasure.key_equation.set_constant.Goals as goal
 
 pub returns-clause-others : goal.returns-clause-others
@@ -14,3 +17,38 @@ returns-clause-others g c i l =
           (omega arith) b
       | inr b ↦ entry_past number ring.value m list i b
     ]
+
+pub coefficients-init : goal.coefficients-init
+coefficients-init g c = record { each = λ k d l. absurd (omega arith) }
+
+pub bounds-coefficients-i : goal.bounds-coefficients-i
+bounds-coefficients-i g c = subst (λ n. c.coefficients.i < n) (sym c.coefficients.auto.coefficients) c.coefficients-test.true
+
+pub coefficients-smaller : goal.coefficients-smaller
+coefficients-smaller g c = falls _ _ c.coefficients-test.true
+
+pub coefficients-preserved : goal.coefficients-preserved
+coefficients-preserved g c =
+    let ring = g.R.Reducer in let m = ring.modulus c.args.r.now in let number = g.T.RingWord.number in
+    let list = c.coefficients.coefficients in let i = c.coefficients.i in
+    let within : i < length list = subst (λ n. i < n) (sym c.coefficients.auto.coefficients) c.coefficients-test.true in
+    hold_more number ring.form ring.value m list i c.transform-zero.result (λ k. 0) within c.coefficients.invariant
+    c.transform-zero.ensures.checked
+    (c.transform-zero.ensures.value ∙ ap (λ v. v % m) c.zero.ensures ∙ zero_mod m)
+
+pub bounds-coefficients-0 : goal.bounds-coefficients-0
+bounds-coefficients-0 g c = subst (λ n. 0 < n) (sym c.coefficients.auto.coefficients) c.requires.some
+
+pub returns-clause-checked : goal.returns-clause-checked
+returns-clause-checked g c =
+    let ring = g.R.Reducer in let m = ring.modulus c.args.r.now in let number = g.T.RingWord.number in
+    let list = c.coefficients.coefficients in
+    let all : length list ≤ c.coefficients.i = subst (λ n. n ≤ c.coefficients.i) (sym c.coefficients.auto.coefficients) c.coefficients-test.false in
+    forms_written number ring.form ring.value m list 0 c.args.constant.now c.requires.constant
+    (held_forms number ring.form ring.value m list (λ k. 0) c.coefficients.i c.coefficients.invariant all)
+
+pub returns-clause-constant : goal.returns-clause-constant
+returns-clause-constant g c =
+    let ring = g.R.Reducer in let m = ring.modulus c.args.r.now in let number = g.T.RingWord.number in
+    entry_written number ring.value m c.coefficients.coefficients 0 c.args.constant.now
+    (subst (λ n. 0 < n) (sym c.coefficients.auto.coefficients) c.requires.some)

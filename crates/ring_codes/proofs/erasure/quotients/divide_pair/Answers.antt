@@ -6,6 +6,8 @@ use Rattle.ring_codes.specs.Erasure.{distance}
 use Rattle.ring_codes.specs.KeyEquations.{AreQuotients}
 use Rattle.ring_codes.proofs.Symbols.{entry_below}
 use Rattle.ring_codes.proofs.NearPairs.{enough_units, near_quotients, chosen_fit}
+use Rattle.num_modular.specs.Callers.{◌≤◌}
+use Rattle.std.proofs.Math.Nat.{le_refl}
 use Rattle.ring_codes.proofs.erasure.quotients.divide_pair.Goals as goal
 
 pub returns-in-Ok-true-clause-message : goal.returns-in-Ok-true-clause-message
@@ -43,3 +45,57 @@ returns-in-Ok-false-clause-message g c cn d u y sent is_c is_d some lengths few 
     let fewer_still = subst (λ k. distance n (λ j. polynomial d e (x j) % m) (λ j. 0) < k) c.requires.chosen fewer in
     absurd (zeros.0 (enough_units m k cn d n u x y p e sent some lengths few room c.requires.fit
     (λ l b. entry_past number ring.value m c.args.locator.now l (omega (arith, b, is_d))) pair near fewer_still))
+
+pub divide-requires-clause-points : goal.divide-requires-clause-points
+divide-requires-clause-points g c = c.requires.points
+
+pub divide-requires-clause-numerator : goal.divide-requires-clause-numerator
+divide-requires-clause-numerator g c = c.requires.numerator
+
+pub divide-requires-clause-locator : goal.divide-requires-clause-locator
+divide-requires-clause-locator g c = c.requires.locator
+
+pub divide-requires-clause-within : goal.divide-requires-clause-within
+divide-requires-clause-within g c = c.requires.within
+
+pub divide-requires-clause-some : goal.divide-requires-clause-some
+divide-requires-clause-some g c = subst (λ n. 0 < n) (sym c.requires.chosen) c.requires.some
+
+pub divide-requires-clause-few : goal.divide-requires-clause-few
+divide-requires-clause-few g c = subst (λ n. n ≤ c.args.count) (sym c.requires.chosen) c.requires.few
+
+pub divide-requires-clause-equal : goal.divide-requires-clause-equal
+divide-requires-clause-equal g c = c.requires.values ∙ sym c.requires.chosen
+
+pub interpolate-requires-clause-points : goal.interpolate-requires-clause-points
+interpolate-requires-clause-points g c = c.in-Ok-true.ensures.checked_chosen c.in-Ok-true.field-0-test
+
+pub interpolate-requires-clause-values : goal.interpolate-requires-clause-values
+interpolate-requires-clause-values g c = c.in-Ok-true.ensures.checked_values c.in-Ok-true.field-0-test
+
+pub interpolate-requires-clause-points_within : goal.interpolate-requires-clause-points_within
+interpolate-requires-clause-points_within g c = subst (λ n. length c.args.message.now ≤ n) (sym (c.divide.auto.chosen ∙ c.requires.chosen)) (le_refl _)
+
+pub interpolate-requires-clause-values_within : goal.interpolate-requires-clause-values_within
+interpolate-requires-clause-values_within g c = subst (λ n. length c.args.message.now ≤ n) (sym (c.divide.auto.values ∙ c.requires.values)) (le_refl _)
+
+pub interpolate-requires-clause-weights : goal.interpolate-requires-clause-weights
+interpolate-requires-clause-weights g c = c.requires.weights
+
+pub returns-in-Err-clause-inverse : goal.returns-in-Err-clause-inverse
+returns-in-Err-clause-inverse g c = c.in-Err.ensures.inverse
+
+pub returns-in-Err-clause-checked : goal.returns-in-Err-clause-checked
+returns-in-Err-clause-checked g c = tt
+
+pub returns-in-Err-clause-message : goal.returns-in-Err-clause-message
+returns-in-Err-clause-message g c = tt
+
+pub returns-in-Ok-true-clause-inverse : goal.returns-in-Ok-true-clause-inverse
+returns-in-Ok-true-clause-inverse g c = tt
+
+pub returns-in-Ok-false-clause-inverse : goal.returns-in-Ok-false-clause-inverse
+returns-in-Ok-false-clause-inverse g c = tt
+
+pub returns-in-Ok-true-clause-checked : goal.returns-in-Ok-true-clause-checked
+returns-in-Ok-true-clause-checked g c = c.interpolate.ensures.checked

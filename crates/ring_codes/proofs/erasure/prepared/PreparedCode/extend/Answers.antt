@@ -3,6 +3,9 @@ use Rattle.num_modular.specs.Callers.{entry, held_entry}
 use Rattle.num_modular.specs.Sums.{sum_below}
 use Rattle.ring_codes.proofs.Lagrange.{fit_known, message_of, value_from_row}
 use Rattle.ring_codes.proofs.Symbols.{entry_below}
+use Rattle.num_modular.specs.Callers.{◌<◌, ◌≤◌, ◌-◌, sym, subst, hold_more, held_forms}
+use borrow.Author.Count.{falls}
+use Rattle.ring_codes.proofs.Counts.{row_fits}
 use Rattle.ring_codes.proofs.erasure.prepared.PreparedCode.extend.Goals as goal
 
 pub returns-clause-original : goal.returns-clause-original
@@ -33,3 +36,34 @@ returns-clause-word g c =
     let found = message_of m k x symbols positive (fit_known m k x self.fit)
     (λ i l. entry_below number ring.form ring.value m c.args.symbols.now i c.requires.symbols (omega arith)) in
     (found.0, found.1, returns-clause-original g c found.0 found.1)
+
+pub wanted-init : goal.wanted-init
+wanted-init g c = record { each = λ k d l. absurd (omega arith) }
+
+pub row_value-requires-clause-rows : goal.row_value-requires-clause-rows
+row_value-requires-clause-rows g c = c.args.self.now.row_forms
+
+pub row_value-requires-clause-symbols : goal.row_value-requires-clause-symbols
+row_value-requires-clause-symbols g c = c.requires.symbols
+
+pub row_value-requires-clause-within : goal.row_value-requires-clause-within
+row_value-requires-clause-within g c = row_fits _ _ _ _ _ c.wanted-test.true c.requires.given c.args.self.now.count
+
+pub bounds-others-j : goal.bounds-others-j
+bounds-others-j g c = subst (λ n. c.wanted.j < n) (sym (c.wanted.auto.others ∙ c.requires.room)) c.wanted-test.true
+
+pub wanted-smaller : goal.wanted-smaller
+wanted-smaller g c = falls _ _ c.wanted-test.true
+
+pub wanted-preserved : goal.wanted-preserved
+wanted-preserved g c =
+    let self = c.args.self.now in let ring = g.R.Reducer in let m = ring.modulus self.ring.now in let number = g.T.RingWord.number in
+    hold_more number ring.form ring.value m c.wanted.others c.wanted.j c.row_value.result _
+    (subst (λ n. c.wanted.j < n) (sym (c.wanted.auto.others ∙ c.requires.room)) c.wanted-test.true)
+    c.wanted.invariant c.row_value.ensures.checked c.row_value.ensures.value
+
+pub returns-clause-checked : goal.returns-clause-checked
+returns-clause-checked g c =
+    let self = c.args.self.now in let ring = g.R.Reducer in let m = ring.modulus self.ring.now in let number = g.T.RingWord.number in
+    held_forms number ring.form ring.value m c.wanted.others _ _ c.wanted.invariant
+    (subst (λ n. n ≤ c.wanted.j) (sym (c.wanted.auto.others ∙ c.requires.room)) c.wanted-test.false)
