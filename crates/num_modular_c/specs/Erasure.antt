@@ -9,7 +9,6 @@ use Rattle.ring_codes.specs.declared.erasure.correction.CorrectError.{CorrectErr
 use Rattle.ring_codes.specs.declared.erasure.correction.CorrectError.TheVariants.{Restore, TooManyErrors, NoInverse}
 use Rattle.ring_codes.specs.declared.erasure.secrets.ShareError.{ShareError}
 use Rattle.ring_codes.specs.declared.erasure.secrets.ShareError.TheVariants as refused
-use Rattle.num_modular_c.specs.Codes.{Refused, BothRefused}
 use Rattle.num_modular_c.specs.declared.codes.TheConstants.{NM_NO_INVERSE, NM_TOO_FEW_SYMBOLS, NM_PLACE_OUT_OF_RANGE}
 use Rattle.num_modular_c.specs.declared.codes.TheConstants.{NM_PLACE_TWICE, NM_POINTS_DONT_FIT, NM_TOO_MANY_ERRORS}
 use Rattle.num_modular_c.specs.declared.codes.TheConstants.{NM_POINT_WITHOUT_INVERSE}
