@@ -3,13 +3,14 @@
  * Each function tests its preconditions and returns a code. With NM_OK it has written its result. With any other code
  * it leaves everything that the caller passed unchanged, but for the scratch list of the erasure codes; only
  * nm_montgomery_run and nm_erasure_correct also write with NM_NO_INVERSE. It is proved that the old and the new contents
- * are equal, which would also hold for a body that writes and restores. That such a call doesn't write at all is tested,
- * with outputs in a read-only page.
+ * are equal, but for the table of nm_plan_make; that would also hold for a body that writes and restores. That such a
+ * call doesn't write at all is tested, with outputs in a read-only page.
  *
  * The caller must ensure these preconditions, which the library can't test:
  *
  * - A pointer to a single value is valid. A list is a pointer and a number of elements, and has at least so many. For
  *   every list, NULL with the number 0 is an empty list.
+ * - A plan of type nm_plan_t, and its table, are as nm_plan_make or nm_plan_check left them; nm_plan_check itself takes any.
  * - What a call writes, which is each argument without const, overlaps no other argument. Arguments that are const may
  *   overlap each other in any way, or be the same.
  * - No function allocates, keeps a state or calls back, so calls may run in several threads at the same time, and may
@@ -294,6 +295,49 @@ NM_CHECK uint32_t nm_convolve_planned(uint64_t m, uint64_t *xs, size_t n, uint64
  * the table must have at least n / last entries. */
 NM_CHECK uint32_t nm_convolve_negacyclic(uint64_t m, uint64_t *xs, size_t n, uint64_t *ys, size_t k,
                                          const nm_factor_t *table, size_t length, size_t last);
+
+/* --- The same by a plan as one value. ---
+ *
+ * nm_plan_make and nm_plan_check test the table, and the other calls trust it. So the caller must ensure that a plan is
+ * one that nm_plan_make wrote or nm_plan_check accepted, and that neither it nor its table has changed since then. It is
+ * enough that the entries of the table are factors modulo m with their quotients: where they are no plan, the results are
+ * below m and meaningless. For other entries nothing is claimed.
+ *
+ * The codes but NM_BAD_CONTEXT are those of the calls above: words must be below 4 * m, and n at most twice the length of
+ * the table. NM_NO_INVERSE: n has no inverse modulo m, as for n above 1 where m is even. */
+
+/* A plan: modulus, root, and a table, which stays the caller's and must live as long as the plan. It may be copied. */
+typedef struct {
+    uint64_t modulus;
+    uint64_t root;
+    const nm_factor_t *table;
+    size_t table_length;
+} nm_plan_t;
+
+/* Fills the table as nm_plan does, and writes the plan. The codes are those of nm_plan. */
+NM_CHECK uint32_t nm_plan_make(uint64_t m, uint64_t root, nm_factor_t *table, size_t length, nm_plan_t *plan);
+
+/* NM_OK where the plan's table is the one that nm_plan_make makes for its modulus and root, as for a plan that the caller
+ * wrote over a table that is filled already. The other codes are those of nm_plan_fits. */
+NM_CHECK uint32_t nm_plan_check(const nm_plan_t *plan);
+
+/* nm_ntt_planned. */
+NM_CHECK uint32_t nm_plan_transform(const nm_plan_t *plan, uint64_t *xs, size_t n);
+
+/* Undoes nm_plan_transform: replaces the n words by those whose transform they are. */
+NM_CHECK uint32_t nm_plan_inverse(const nm_plan_t *plan, uint64_t *xs, size_t n);
+
+/* nm_split. */
+NM_CHECK uint32_t nm_plan_split(const nm_plan_t *plan, uint64_t *xs, size_t n, size_t b, size_t last);
+
+/* Undoes nm_plan_split, also the factor that nm_join leaves. NM_NO_INVERSE: of n / last. */
+NM_CHECK uint32_t nm_plan_join(const nm_plan_t *plan, uint64_t *xs, size_t n, size_t b, size_t last);
+
+/* nm_convolve_planned for last = 1. */
+NM_CHECK uint32_t nm_plan_convolve(const nm_plan_t *plan, uint64_t *xs, size_t n, uint64_t *ys, size_t k);
+
+/* nm_convolve_negacyclic for last = 2. NM_NO_INVERSE: of n / 2. */
+NM_CHECK uint32_t nm_plan_convolve_negacyclic(const nm_plan_t *plan, uint64_t *xs, size_t n, uint64_t *ys, size_t k);
 
 /* --- Erasure codes (Reed-Solomon) and secret sharing (Shamir), modulo any m. ---
  *

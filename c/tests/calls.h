@@ -58,6 +58,7 @@ void montgomery_rows(void);
 void run_rows(void);
 void transform_rows(void);
 void plan_rows(void);
+void plan_value_rows(void);
 void erasure_rows(void);
 void user_rows(void);
 void sharing_rows(void);

@@ -21,6 +21,7 @@ int main(void) {
     run_rows();
     transform_rows();
     plan_rows();
+    plan_value_rows();
     erasure_rows();
     user_rows();
     sharing_rows();

@@ -116,6 +116,29 @@ static void plan_refusals(void) {
     REFUSES(NM_NO_INVERSE, nm_convolve_negacyclic(20, words, 2, others, 2, table, 2, 1));
 }
 
+/* modulo 1 the words are too great */
+static void plan_value_refusals(void) {
+    uint64_t *others = words + 8;
+    nm_factor_t table[2];
+    nm_plan_t plan, small;
+    CODE(NM_OK, nm_plan_make(1, 0, table, 2, &small));
+    REFUSES(CAUGHT, nm_plan_make(1, 0, table, 2, (nm_plan_t *)words));
+    REFUSES(NM_BAD_ARGUMENT, nm_plan_make(GREATEST + 1, 1, (nm_factor_t *)words, 2, (nm_plan_t *)others));
+    REFUSES(NM_NO_ROOT, nm_plan_make(17, 3, (nm_factor_t *)words, 2, (nm_plan_t *)others));
+    REFUSES(NM_BAD_ARGUMENT, nm_plan_transform(&small, words, 4));
+    REFUSES(NM_BAD_ARGUMENT, nm_plan_inverse(&small, words, 4));
+    REFUSES(NM_BAD_ARGUMENT, nm_plan_split(&small, words, 4, 0, 1));
+    REFUSES(NM_BAD_ARGUMENT, nm_plan_join(&small, words, 4, 0, 1));
+    REFUSES(NM_BAD_ARGUMENT, nm_plan_convolve(&small, words, 4, others, 4));
+    REFUSES(NM_BAD_ARGUMENT, nm_plan_convolve_negacyclic(&small, words, 4, others, 4));
+    CODE(NM_OK, nm_plan_make(20, 19, table, 1, &plan));
+    table[1] = table[0], plan.table_length = 2;
+    REFUSES(NM_NO_INVERSE, nm_plan_inverse(&plan, words, 2));
+    REFUSES(NM_NO_INVERSE, nm_plan_join(&plan, words, 2, 0, 1));
+    REFUSES(NM_NO_INVERSE, nm_plan_convolve(&plan, words, 2, others, 2));
+    REFUSES(NM_NO_INVERSE, nm_plan_convolve_negacyclic(&plan, words, 4, others, 4));
+}
+
 /* scratch can be written */
 static void erasure_refusals(const nm_montgomery_t *ring, const nm_montgomery_t *changed) {
     static const uint64_t points[3] = {0, 1, 3}, symbols[3] = {1, 2, 3};
@@ -178,6 +201,7 @@ void read_only_rows(void) {
     form_refusals(&ring, &changed);
     list_refusals(&ring, &changed);
     plan_refusals();
+    plan_value_refusals();
     erasure_refusals(&ring, &changed);
     user_refusals();
     sigaction(SIGSEGV, &old, NULL);

@@ -41,8 +41,9 @@ static void overlap_rows(void) {
 static nm_montgomery_t ring;
 static nm_factor_t table[WORDS / 2];
 static uint64_t root;
+static nm_plan_t plan;
 
-/* Puts a product of polynomials in place of the list, by the context and by the plan in turn. */
+/* Puts a product of polynomials in place of the list, by the context, by the table and by the plan in turn. */
 static void *work(void *list) {
     uint64_t *xs = list, other[WORDS];
     for (int turn = 0; turn < 8; turn++) {
@@ -50,6 +51,8 @@ static void *work(void *list) {
         if (nm_montgomery_convolve(&ring, xs, WORDS, other, WORDS, root) != NM_OK) return NULL;
         memcpy(other, xs, sizeof other);
         if (nm_convolve_planned(ring.modulus, xs, WORDS, other, WORDS, table, WORDS / 2, 1) != NM_OK) return NULL;
+        memcpy(other, xs, sizeof other);
+        if (nm_plan_convolve(&plan, xs, WORDS, other, WORDS) != NM_OK) return NULL;
     }
     return list;
 }
@@ -61,7 +64,7 @@ static void thread_rows(void) {
     int ended = 0, alike = 0;
     CODE(NM_OK, nm_montgomery(UINT64_C(4179340454199820289), &ring));
     CODE(NM_OK, nm_montgomery_find_root(&ring, WORDS, &root));
-    CODE(NM_OK, nm_plan(ring.modulus, root, table, WORDS / 2));
+    CODE(NM_OK, nm_plan_make(ring.modulus, root, table, WORDS / 2, &plan));
     for (int i = 0; i <= THREADS; i++)
         for (int j = 0; j < WORDS; j++) lists[i][j] = (uint64_t)j * j;
     int started = 0;

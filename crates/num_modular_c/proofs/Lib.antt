@@ -2,4 +2,5 @@ pub mod Division
 pub mod InPlace
 pub mod Moved
 pub mod SameTerms
+pub mod ShorterBack
 pub mod Wholes

@@ -1,10 +1,12 @@
 -- Plans for C, and the lists of words that calls by a plan accept. The names are the library's own words.
-use Rattle.std.specs.Prelude.{◌≡◌, ℕ, ◌*◌, ◌/◌, ◌^◌, ◌<◌, ◌≤◌, List, All, length}
+use Rattle.std.specs.Prelude.{◌≡◌, ℕ, ◌*◌, ◌/◌, ◌%◌, ◌^◌, ◌<◌, ◌≤◌, List, All, length}
 use Rattle.modular_barrett.specs.Factors.{AllFactors}
 use Rattle.modular_plan_passes.specs.Plans.{numbers, IsPlan, AreRemainders}
 use Rattle.modular_plan_transforms.specs.Tables.{IsTable as IsPlanTable}
 use Rattle.num_modular.specs.PlanConditions.{AreBlocks}
 use Rattle.num_modular.specs.ProductConditions.{AreSmallBlocks}
+use Rattle.num_modular.specs.Transforms.{transform}
+use Rattle.num_modular_c.specs.declared.plan_value.NmPlan.{NmPlan}
 use Rattle.num_modular_c.specs.declared.plans.NmFactor.{NmFactor}
 
 -- m can be the modulus of a plan: it is from 1 to 2^62
@@ -36,6 +38,46 @@ pub record IsSplit (m factors b last : ℕ) (words : List ℕ) : Type 0 where
   pub admitted : IsAdmitted m
   pub room : AreBelow (4 * m) words
   pub blocks : AreBlocks (length words) factors b last
+
+-- the plan has this modulus and root, and its table, of so many entries, is the plan by the root
+pub record IsMade (m g count : ℕ) (plan : NmPlan) : Type 0 where
+  pub modulus : plan.modulus ≡ m
+  pub root : plan.root ≡ g
+  pub entries : length plan.table.now ≡ count
+  pub table : IsTable m (g % m) plan.table.now
+
+-- the power of g that suits n of 2^z words
+abbrev pub shorter_root : ℕ → ℕ → ℕ → ℕ
+shorter_root g z n = g ^ (2 ^ z / n)
+
+-- after a transform: for each plan by g, entry j of the words is that of the transform of those before
+pub record IsTransformed (m : ℕ) (table : List NmFactor) (before after : List ℕ) : Type 0 where
+  pub below : AreBelow m after
+  pub values : (g z j : ℕ) → IsPlanBy m g z table → j < length before → words_of after j
+      ≡ transform m (shorter_root g z (length before)) (length before) (words_of before) j
+
+-- after an inverse transform: for each plan by g, the words before are the transform of those after, and of no others
+pub record IsTransformedBack (m : ℕ) (table : List NmFactor) (before after : List ℕ) : Type 0 where
+  pub below : AreBelow m after
+  pub values : (g z j : ℕ) → IsPlanBy m g z table → j < length before
+      → transform m (shorter_root g z (length before)) (length before) (words_of after) j ≡ words_of before j % m
+  pub only : (g z : ℕ) (x : ℕ → ℕ) → IsPlanBy m g z table
+      → ((j : ℕ) → j < length before
+      → transform m (shorter_root g z (length before)) (length before) x j ≡ words_of before j % m)
+      → (i : ℕ) → i < length before → words_of after i ≡ x i % m
+
+-- after a split of block b: for each plan by g, the words are the remainders of those before
+pub record AreSplit (m b last : ℕ) (table : List NmFactor) (before after : List ℕ) : Type 0 where
+  pub below : AreBelow m after
+  pub remainders : (g z : ℕ) → IsPlanBy m g z table
+      → AreRemainders m g z b (length before / last) last (words_of before) (words_of after)
+
+-- after a join to block b: where the words before are the remainders of a list, they become the list times a number
+pub record AreJoined (m b last times : ℕ) (table : List NmFactor) (before after : List ℕ) : Type 0 where
+  pub below : AreBelow m after
+  pub joined : (g z : ℕ) (x : ℕ → ℕ) → IsPlanBy m g z table
+      → AreRemainders m g z b (length before / last) last x (λ i. words_of before i % m)
+      → (i : ℕ) → i < length before → words_of after i ≡ (times * x i) % m
 
 -- two lists of equal length of words below 4m; so many factors suffice for their product as block b, by blocks of
 -- `last`

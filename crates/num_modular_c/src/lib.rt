@@ -10,6 +10,7 @@ mod lists;
 mod montgomery;
 mod montgomery_lists;
 mod plain;
+mod plan_value;
 mod planned;
 mod plans;
 mod runs;

@@ -1,13 +1,12 @@
 //! Transforms and products of lists of words by a plan.
 
-ghost use Rattle.std.specs.Prelude.{◌≡◌, ℕ, ◌+◌, ◌-◌, ◌*◌, ◌/◌, ◌%◌, ◌^◌, ◌<◌, ◌↔◌, IsTrue, length};
-ghost use Rattle.modular_plan_passes.specs.Plans.{constant, AreRemainders};
+ghost use Rattle.std.specs.Prelude.{◌≡◌, ◌-◌, ◌*◌, ◌/◌, ◌↔◌, IsTrue, length};
 ghost use Rattle.modular_plan_transforms.specs.Products.{product_modulo};
 ghost use Rattle.num_modular.specs.Inverses.{HasInverse};
-ghost use Rattle.num_modular.specs.Transforms.{transform, cyclic_product};
+ghost use Rattle.num_modular.specs.Transforms.{cyclic_product};
 ghost use Rattle.num_modular_c.specs.Codes.{Did, Refused, BothRefused};
-ghost use Rattle.num_modular_c.specs.Plans.{words_of, AreBelow, AreFactors, IsPlanBy};
-ghost use Rattle.num_modular_c.specs.Plans.{IsSplit, IsPair, IsPlannedProduct};
+ghost use Rattle.num_modular_c.specs.Plans.{words_of, AreBelow, AreFactors, AreSplit, AreJoined};
+ghost use Rattle.num_modular_c.specs.Plans.{IsSplit, IsPair, IsPlannedProduct, IsTransformed};
 
 use crate::codes::{NM_BAD_ARGUMENT, NM_BAD_CONTEXT, NM_NO_INVERSE, NM_OK};
 use crate::plans::NmFactor;
@@ -31,7 +30,7 @@ fn have_room(m: &PlannedModulus<u64>, words: &[u64]) -> bool
 }
 
 // Whether `nm_split` accepts a list.
-fn is_split(m: u64, words: &[u64], factors: usize, b: usize, last: usize) -> bool
+pub(crate) fn is_split(m: u64, words: &[u64], factors: usize, b: usize, last: usize) -> bool
     ensures { IsTrue result ↔ IsSplit m factors b last words.now }
 {
     PlannedModulus::<u64>::admits(m)
@@ -65,10 +64,8 @@ fn split_code(m: u64, words: &[u64], table: &[NmFactor], b: usize, last: usize) 
 /// is no plan, the resulting words are below m and have no meaning.
 #[unsafe(no_mangle)]
 pub extern "C" fn nm_ntt_planned(m: u64, xs: &mut [u64], table: &[NmFactor]) -> u32
-    ensures did { let n = length xs.old in
-        IsSplit m (length table.now) 0 1 xs.old → AreFactors m table.now → Did result (AreBelow m xs.new
-        × ((g z j : ℕ) → IsPlanBy m g z table.now → j < n → words_of xs.new j
-        ≡ transform m (g ^ (2 ^ z / n)) n (words_of xs.old) j)) }
+    ensures did { IsSplit m (length table.now) 0 1 xs.old → AreFactors m table.now
+        → Did result (IsTransformed m table.now xs.old xs.new) }
     ensures bad_context { IsSplit m (length table.now) 0 1 xs.old → (AreFactors m table.now → ⊥)
         → Refused NM_BAD_CONTEXT result xs.old xs.new }
     ensures bad_argument { (IsSplit m (length table.now) 0 1 xs.old → ⊥)
@@ -89,10 +86,8 @@ pub extern "C" fn nm_ntt_planned(m: u64, xs: &mut [u64], table: &[NmFactor]) -> 
 /// has fewer than (b + 1)·(count/2) entries. `NM_BAD_CONTEXT`: as for `nm_ntt_planned`.
 #[unsafe(no_mangle)]
 pub extern "C" fn nm_split(m: u64, xs: &mut [u64], table: &[NmFactor], b: usize, last: usize) -> u32
-    ensures did { let count = length xs.old / last in
-        IsSplit m (length table.now) b last xs.old → AreFactors m table.now → Did result (AreBelow m xs.new
-        × ((g z : ℕ) → IsPlanBy m g z table.now
-        → AreRemainders m g z b count last (words_of xs.old) (words_of xs.new))) }
+    ensures did { IsSplit m (length table.now) b last xs.old → AreFactors m table.now
+        → Did result (AreSplit m b last table.now xs.old xs.new) }
     ensures bad_context { IsSplit m (length table.now) b last xs.old → (AreFactors m table.now → ⊥)
         → Refused NM_BAD_CONTEXT result xs.old xs.new }
     ensures bad_argument { (IsSplit m (length table.now) b last xs.old → ⊥)
@@ -110,11 +105,8 @@ pub extern "C" fn nm_split(m: u64, xs: &mut [u64], table: &[NmFactor], b: usize,
 /// are those of `nm_split`.
 #[unsafe(no_mangle)]
 pub extern "C" fn nm_join(m: u64, xs: &mut [u64], table: &[NmFactor], b: usize, last: usize) -> u32
-    ensures did { let count = length xs.old / last in
-        IsSplit m (length table.now) b last xs.old → AreFactors m table.now → Did result (AreBelow m xs.new
-        × ((g z : ℕ) (x : ℕ → ℕ) → IsPlanBy m g z table.now
-        → AreRemainders m g z b count last x (λ i. words_of xs.old i % m)
-        → (i : ℕ) → i < length xs.old → words_of xs.new i ≡ (count * x i) % m)) }
+    ensures did { IsSplit m (length table.now) b last xs.old → AreFactors m table.now
+        → Did result (AreJoined m b last (length xs.old / last) table.now xs.old xs.new) }
     ensures bad_context { IsSplit m (length table.now) b last xs.old → (AreFactors m table.now → ⊥)
         → Refused NM_BAD_CONTEXT result xs.old xs.new }
     ensures bad_argument { (IsSplit m (length table.now) b last xs.old → ⊥)
@@ -128,7 +120,7 @@ pub extern "C" fn nm_join(m: u64, xs: &mut [u64], table: &[NmFactor], b: usize, 
 }
 
 // Whether `nm_convolve_planned` and `nm_convolve_negacyclic` accept two lists as block b.
-fn is_pair(m: u64, xs: &[u64], ys: &[u64], factors: usize, b: usize, last: usize) -> bool
+pub(crate) fn is_pair(m: u64, xs: &[u64], ys: &[u64], factors: usize, b: usize, last: usize) -> bool
     ensures { IsTrue result ↔ IsPair m factors b last xs.now ys.now }
 {
     if !PlannedModulus::<u64>::admits(m) {

@@ -11,8 +11,13 @@ pub join-requires-clause-blocks : goal.join-requires-clause-blocks
 join-requires-clause-blocks c = (c.split_code-code.ensures.fits.0 c.if-code-eq-NM_OK.true).0.blocks
 
 pub returns-then-code-eq-NM_OK-clause-did : goal.returns-then-code-eq-NM_OK-clause-did
-returns-then-code-eq-NM_OK-clause-did c split factors =
-    (c.if-code-eq-NM_OK.true, (rw c.new.ensures at c.join.ensures.below, rw c.new.ensures at c.join.ensures.joined))
+returns-then-code-eq-NM_OK-clause-did c split factors = (
+  c.if-code-eq-NM_OK.true,
+  record {
+    below = rw c.new.ensures at c.join.ensures.below;
+    joined = rw c.new.ensures at c.join.ensures.joined;
+  },
+)
 
 pub new-requires-clause-some : goal.new-requires-clause-some
 new-requires-clause-some c = (c.split_code-code.ensures.fits.0 c.if-code-eq-NM_OK.true).0.admitted.0

@@ -42,5 +42,8 @@ ntt_planned-requires-clause-within c =
 pub returns-then-code-eq-NM_OK-clause-did : goal.returns-then-code-eq-NM_OK-clause-did
 returns-then-code-eq-NM_OK-clause-did c split factors = (
   c.if-code-eq-NM_OK.true,
-  (rw c.new.ensures at c.ntt_planned.ensures.below, rw c.new.ensures at c.ntt_planned.ensures.values),
+  record {
+    below = rw c.new.ensures at c.ntt_planned.ensures.below;
+    values = rw c.new.ensures at c.ntt_planned.ensures.values;
+  },
 )

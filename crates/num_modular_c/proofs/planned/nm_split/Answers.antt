@@ -34,5 +34,8 @@ returns-else-code-eq-NM_OK-clause-bad_argument c = λ none. (c.split_code-code.e
 pub returns-then-code-eq-NM_OK-clause-did : goal.returns-then-code-eq-NM_OK-clause-did
 returns-then-code-eq-NM_OK-clause-did c split factors = (
   c.if-code-eq-NM_OK.true,
-  (rw c.new.ensures at c.split.ensures.below, rw c.new.ensures at c.split.ensures.remainders),
+  record {
+    below = rw c.new.ensures at c.split.ensures.below;
+    remainders = rw c.new.ensures at c.split.ensures.remainders;
+  },
 )
