@@ -30,9 +30,31 @@ def test_transforms_and_products(m):
         plan, ring = Plan(m, n), Montgomery(m)
         assert (plan.modulus, plan.length, ring.modulus) == (m, n, m)
         assert plan.ntt(xs) == ring.ntt(xs) == ring.ntt(xs, plan.root - m) == transform(xs, plan.root, m)
+        assert plan.intt(transform(xs, plan.root, m)) == Plan(m, 2 * n).intt(Plan(m, 2 * n).ntt(xs)) == xs
         assert plan.convolve(xs, ys) == ring.convolve(xs, ys) == product(xs, ys, m, 1)
         assert plan.convolve_negacyclic(xs, ys) == product(xs, ys, m, -1)
         assert Plan(m, 2 * n).convolve(xs, ys) == product(xs, ys, m, 1)
+
+
+def remainders(xs, root, m, last):
+    """Modulo X^last - c for all c, whose order is that of the bits reversed."""
+    count = len(xs) // last
+    order = [int(f"{j:b}".zfill(count.bit_length() - 1)[::-1] or "0", 2) for j in range(count)]
+    return [sum(x * pow(root, last * j * k, m) for k, x in enumerate(xs[i::last])) % m for j in order for i in range(last)]
+
+
+@pytest.mark.parametrize("m", PRIMES)
+def test_remainders(m):
+    draw = random.Random(m)
+    for n in (2, 4, 16, 32):
+        xs, plan = [draw.randrange(m) for _ in range(n)], Plan(m, n)
+        for last in (it for it in (1, 2, 4, 8) if it < n):
+            assert plan.split(xs, last=last) == remainders(xs, plan.root, m, last)
+            assert plan.join(plan.split(xs, 0, last), 0, last) == xs
+        if n > 2:
+            half = xs[: n // 2]
+            assert plan.split(half, 1, 1) == plan.split(half + [0] * (n // 2))[n // 2 :]
+            assert plan.join(plan.split(half, 1, 1), 1, 1) == half
 
 
 def arrays(words):
@@ -105,7 +127,18 @@ def test_roots_and_lengths():
     for m, n in ((97, 1), (0, 4), ((1 << 62) + 1, 2)):
         with pytest.raises(ValueError):
             Plan(m, n)
+    for call in (Plan(20, 2, 19).intt, Plan(20, 2, 19).join):
+        with pytest.raises(NoInverseError):
+            call([7, 9])
     plan = Plan(97, 4)
+    for call in (plan.ntt, plan.intt, plan.split, plan.join):
+        for xs in ([1, 2, 3], [1] * 8, [1, 388]):
+            with pytest.raises(ValueError):
+                call(xs)
+    for call in (plan.split, plan.join):
+        for b, last in ((2, 1), (0, 3), (0, 0)):
+            with pytest.raises(ValueError):
+                call([1, 2, 3, 4], b, last)
     for xs, ys in (([1, 2], [3]), ([1] * 8, [1] * 8), ([1, 388], [1, 2])):
         with pytest.raises(ValueError):
             plan.convolve(xs, ys)

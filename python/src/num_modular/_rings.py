@@ -160,23 +160,24 @@ class Plan:
     """A table for transforms of n words modulo m, from 1 to 2^62, with which they are faster than by `Montgomery`. n is a power
     of two, at least 2. The root is that of `Montgomery.find_root` where none is given.
 
-    Words of arrays are below 4 * m. ValueError: m or a word is out of range. NoRootError: the root doesn't suit n.
+    The table is filled once, and no call tests it again. Words of arrays are below 4 * m. ValueError: m or a word is out of
+    range. NoRootError: the root doesn't suit n.
 
     >>> Plan(97, 8).convolve([1, 2, 3, 0, 0, 0, 0, 0], [4, 5, 0, 0, 0, 0, 0, 0])
     [4, 13, 22, 15, 0, 0, 0, 0]
     """
 
-    __slots__ = ("_length", "_modulus", "_root", "_table")
+    __slots__ = ("_plan", "_table")
 
     def __init__(self, m: int, n: int, root: int | None = None) -> None:
         if n < 2:
             raise ValueError("a plan is for at least 2 words")
-        self._root = Montgomery(m).find_root(n) if root is None else reduced(root, m)
-        self._modulus, self._length = m, n
-        self._table = ffi.new("nm_factor_t[]", n // 2)
+        root = Montgomery(m).find_root(n) if root is None else reduced(root, m)
         if n % 2:
             check(lib.NM_NO_ROOT)
-        check(lib.nm_plan(m, self._root, self._table, n // 2))
+        # The plan points to the table, which lives as long as this object, and is never handed out.
+        self._table, self._plan = ffi.new("nm_factor_t[]", n // 2), ffi.new("nm_plan_t *")
+        check(lib.nm_plan_make(m, root, self._table, n // 2, self._plan))
 
     def __repr__(self) -> str:
         return f"Plan({self.modulus}, {self.length}, {self.root})"
@@ -184,17 +185,17 @@ class Plan:
     @property
     def modulus(self) -> int:
         """The modulus."""
-        return self._modulus
+        return self._plan.modulus
 
     @property
     def length(self) -> int:
         """The number of words of the longest list that the plan transforms."""
-        return self._length
+        return 2 * self._plan.table_length
 
     @property
     def root(self) -> int:
         """The root, which suits lists of that length."""
-        return self._root
+        return self._plan.root
 
     def ntt(self, xs: Any) -> Any:
         """The transform of n words, or of fewer, by the power of the root that suits them: see `Montgomery.ntt`.
@@ -202,9 +203,33 @@ class Plan:
         >>> Plan(17, 4, 4).ntt([1, 2, 3, 4])
         [10, 7, 15, 6]
         """
-        words, is_new = words_of(xs, self._modulus)
-        check(lib.nm_ntt_planned(self._modulus, words, len(words), self._table, len(self._table)))
-        return list(words) if is_new else xs
+        return self._in_place(lib.nm_plan_transform, xs)
+
+    def intt(self, xs: Any) -> Any:
+        """Undoes `ntt`. NoInverseError: the number of words has no inverse modulo m, as where m is even.
+
+        >>> Plan(17, 4, 4).intt([10, 7, 15, 6])
+        [1, 2, 3, 4]
+        """
+        return self._in_place(lib.nm_plan_inverse, xs)
+
+    def split(self, xs: Any, b: int = 0, last: int = 1) -> Any:
+        """The remainders of a polynomial modulo X^last - c, one after the other: word i of remainder j is the sum over k of
+        x_(k * last + i) * c^k, c being the power of the root by the reversed bits of b * count + j, of count remainders. So
+        b = 1 starts from a polynomial modulo X^n + 1. ValueError: the length, b and last don't fit the plan.
+
+        >>> Plan(17, 4, 4).split([1, 2, 3, 4], last=2)
+        [4, 6, 15, 15]
+        """
+        return self._in_place(lib.nm_plan_split, xs, b, last)
+
+    def join(self, xs: Any, b: int = 0, last: int = 1) -> Any:
+        """Undoes `split`. NoInverseError: the number of remainders has no inverse modulo m.
+
+        >>> Plan(17, 4, 4).join([4, 6, 15, 15], last=2)
+        [1, 2, 3, 4]
+        """
+        return self._in_place(lib.nm_plan_join, xs, b, last)
 
     def convolve(self, xs: Any, ys: Any) -> Any:
         """The product of two lists of n words, or of fewer, modulo X^n - 1: see `Montgomery.convolve`. An array ys gets other
@@ -213,7 +238,7 @@ class Plan:
         >>> Plan(97, 4).convolve([1, 2, 3, 0], [4, 5, 0, 0])
         [4, 13, 22, 15]
         """
-        return self._product(lib.nm_convolve_planned, xs, ys, 1)
+        return self._product(lib.nm_plan_convolve, xs, ys)
 
     def convolve_negacyclic(self, xs: Any, ys: Any) -> Any:
         """The product modulo X^n + 1: entry e is the sum of x_i * y_j over i + j = e, less that over i + j = e + n. As
@@ -222,12 +247,16 @@ class Plan:
         >>> Plan(97, 4).convolve_negacyclic([0, 0, 0, 1], [0, 1, 0, 0])
         [96, 0, 0, 0]
         """
-        return self._product(lib.nm_convolve_negacyclic, xs, ys, 2)
+        return self._product(lib.nm_plan_convolve_negacyclic, xs, ys)
 
-    def _product(self, call: Any, xs: Any, ys: Any, last: int) -> Any:
-        first, is_new = words_of(xs, self._modulus)
-        second, _ = words_of(ys, self._modulus)
+    def _in_place(self, call: Any, xs: Any, *numbers: int) -> Any:
+        words, is_new = words_of(xs, self.modulus)
+        check(call(self._plan, words, len(words), *numbers))
+        return list(words) if is_new else xs
+
+    def _product(self, call: Any, xs: Any, ys: Any) -> Any:
+        first, is_new = words_of(xs, self.modulus)
+        second, _ = words_of(ys, self.modulus)
         apart(first, second)
-        table = self._table
-        check(call(self._modulus, first, len(first), second, len(second), table, len(table), last))
+        check(call(self._plan, first, len(first), second, len(second)))
         return list(first) if is_new else xs
