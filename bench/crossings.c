@@ -11,7 +11,7 @@
 #include <flint/ulong_extras.h>
 #endif
 
-enum { ROUNDS = 7, PLACES = 65536 };
+enum { ROUNDS = 7, PLACES = 65536, FEW = 64 };
 
 static const uint64_t modulus = UINT64_C(18446744073709551557), factor = UINT64_C(1234567890123456789);
 static const uint64_t exponent = UINT64_C(9223372036854775778);
@@ -22,6 +22,7 @@ static const uint64_t prime = UINT64_C(4179340454199820289); /* 29 * 2^57 + 1 */
 static nm_montgomery_t prime_ring;
 static nm_factor_t table[PLACES / 2];
 static uint64_t prime_root;
+static nm_plan_t plan;
 
 /* an erasure code of 128 symbols, of which any 64 restore the message */
 enum { SYMBOLS = 128, MESSAGE = 64, SCRATCH = 2 * SYMBOLS + 4 * SYMBOLS + 4 * MESSAGE + 2 };
@@ -47,6 +48,12 @@ STEP(transform_montgomery, (list[0] = x, nm_montgomery_ntt(&prime_ring, list, PL
 STEP(transform_planned, (list[0] = x, nm_ntt_planned(prime, list, PLACES, table, PLACES / 2)), list[0])
 STEP(table_tried, 0, x ^ nm_plan_fits(prime, prime_root, table, PLACES / 2))
 STEP(table_filled, 0, x ^ nm_plan(prime, prime_root, table, PLACES / 2))
+
+STEP(transform_by_plan, (list[0] = x, nm_plan_transform(&plan, list, PLACES)), list[0])
+STEP(inverse_by_plan, (list[0] = x, nm_plan_inverse(&plan, list, PLACES)), list[0])
+/* by the first entries of the table alone, which are a plan for fewer words */
+STEP(few_planned, (list[0] = x, nm_ntt_planned(prime, list, FEW, table, FEW / 2)), list[0])
+STEP(few_by_plan, (list[0] = x, nm_plan_transform(&plan, list, FEW)), list[0])
 
 /* `corrected` takes all symbols, of which none is wrong */
 static size_t errors;
@@ -113,6 +120,15 @@ int main(void) {
     uint64_t transformed = line("nm_montgomery_ntt, 2^16", transform_montgomery, 3, 10);
     for (size_t i = 0; i < PLACES; i++) list[i] = i;
     wrong |= transformed ^ line("nm_ntt_planned, 2^16", transform_planned, 3, 10);
+    plan = (nm_plan_t){prime, prime_root, table, PLACES / 2};
+    codes |= nm_plan_check(&plan);
+    for (size_t i = 0; i < PLACES; i++) list[i] = i;
+    wrong |= transformed ^ line("nm_plan_transform, 2^16", transform_by_plan, 3, 10);
+    line("nm_plan_inverse, 2^16", inverse_by_plan, 3, 10);
+    for (size_t i = 0; i < FEW; i++) list[i] = i;
+    uint64_t few = line("nm_ntt_planned, 2^6", few_planned, 3, 10000);
+    for (size_t i = 0; i < FEW; i++) list[i] = i;
+    wrong |= few ^ line("nm_plan_transform, 2^6", few_by_plan, 3, 10000);
     for (size_t i = 0; i < SYMBOLS; i++) points[i] = i + 1, places[i] = i;
     for (size_t i = 0; i < MESSAGE; i++) message[i] = i * i;
     line("nm_erasure_encode, 64 of 128", encoded, 3, 100);
