@@ -28,7 +28,7 @@ IN_ROOM = (DEBUG, "xs.iter().all(|x| m.has_room(*x))")
 SPLITS = (EVERY, "crate::plans::splits(xs.len(), table.len(), b, last)")
 LENGTH = (EVERY, "xs.len().is_power_of_two()")
 QUOTIENT = ((DEBUG, "crate::additions::is_greatest_quotient(d, pre.q_lim)"),)
-PLAN = "plan"
+PLAN = "plan/calls"
 PLAN_ROOM = (DEBUG, "xs.iter().all(|x| self.modulus.has_room(*x))")
 PLAN_SPLITS = (EVERY, "self.splits(xs.len(), b, last)")
 PLAN_PAIR_ROOM = (DEBUG, "xs.iter().chain(ys.iter()).all(|x| self.modulus.has_room(*x))")
@@ -78,7 +78,7 @@ LOOKS = {
     },
     (PLAN, "convolve_block"): (EQUAL, (EVERY, "self.convolves(xs.len(), b, last)"), PLAN_PAIR_ROOM),
     (PLAN, "multiply"): (EQUAL, (DEBUG, "xs.iter().all(|x| x.is_below(self.modulus.modulus))")),
-    (PLAN, "shorter"): ((EVERY, "self.has_shorter(n)"),),
+    ("plan", "shorter"): ((EVERY, "self.has_shorter(n)"),),
     ("reduced_int/operations", "quotient"): ((DEBUG, "y.reducer.modulus() == x.reducer.modulus()"),),
     ("normalized", "invert_word"): ((DEBUG, "d.leading_zeros() == 0"),),
     ("one_by_one", "div_rem"): ((DEBUG, "crate::additions::is_multiplier(self.multiplier, self.shift, d)"),),

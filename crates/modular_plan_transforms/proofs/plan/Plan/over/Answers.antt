@@ -1,0 +1,27 @@
+use Rattle.std.proofs.Common.{◌≡◌, ℕ, ◌+◌, ◌*◌, ◌^◌, ◌<◌, length, arith, sym}
+use Rattle.std.specs.Int.{IsPowerOfTwo, trailing_zeros, w64}
+use Rattle.modular_transform.proofs.PowersOfTwo.{power_by_zeros}
+use Rattle.modular_plan_passes.proofs.Tables.{half_power}
+use Rattle.modular_plan_transforms.proofs.Wholes.{turn_of, doubled}
+use Rattle.modular_plan_transforms.proofs.plan.Plan.over.Goals as goal
+
+-- twice the length of a table, by the number of its trailing zeros
+whole : (n : ℕ) → n < 18446744073709551616 → IsPowerOfTwo (2 * n) → 2 * n ≡ 2 ^ (trailing_zeros w64 n + 1)
+whole n few power = doubled (trailing_zeros w64 n) n (power_by_zeros n (half_power power) (omega (arith, few)))
+
+pub invariant_of-result : goal.invariant_of-result
+invariant_of-result g c =
+    let n = length c.args.table.now in
+    let all = whole n (omega arith) c.requires.suits.power_of_two in
+    let made = c.requires.holds.plan (trailing_zeros w64 n + 1) (sym all) in
+    record {
+      odd = c.requires.odd;
+      root_below = c.requires.below;
+      half = all;
+      half_turn = turn_of all made;
+      factors = c.requires.holds.factors;
+      powers = made.entry;
+    }
+
+pub returns-clause-entries : goal.returns-clause-entries
+returns-clause-entries g c = sym (whole (length c.args.table.now) (omega arith) c.requires.suits.power_of_two)

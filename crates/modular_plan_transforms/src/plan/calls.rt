@@ -1,0 +1,278 @@
+//! The transforms and products of a plan.
+
+ghost use Rattle.std.specs.Prelude.{◌≡◌, ℕ, ◌-◌, ◌*◌, ◌/◌, ◌%◌, ◌^◌, ◌<◌, All, length};
+ghost use Rattle.std.specs.Int.{IsPowerOfTwo};
+ghost use Rattle.modular_word.specs.Inverses.{IsInverse};
+ghost use Rattle.modular_transform.specs.Transforms.{transform, cyclic_product};
+ghost use Rattle.modular_barrett.specs.Factors.{IsFactorOf};
+ghost use Rattle.modular_plan_passes.specs.Plans.{numbers, constant, AreRemainders};
+ghost use Rattle.modular_plan_transforms.specs.PlanConditions.{AreBlocks};
+ghost use Rattle.modular_plan_transforms.specs.ProductConditions.{AreSmallBlocks};
+ghost use Rattle.modular_plan_transforms.specs.Products.{product_modulo};
+
+use super::Plan;
+use crate::convolution::convolve_scaled;
+use crate::join::join_scaled;
+use crate::products::multiply_each;
+use crate::split::split;
+use crate::tables::inverse_of_power;
+use crate::transform::ntt_planned;
+use modular_barrett::planned::Factor;
+use modular_plan_passes::entry::PlanEntry;
+use modular_prim::plain_word::PlainWord;
+use modular_transform::order::reverse_places;
+use modular_word::path_word::PathWord;
+use modular_word::ring_word::RingWord;
+
+impl<'a, T: PlainWord, F: PlanEntry<T>> Plan<'a, T, F> {
+    // The factor of the inverse of a number of blocks, a power of two.
+    fn part(&self, count: usize) -> Factor<T>
+        requires { IsPowerOfTwo count }
+        ensures factor { IsFactorOf T.base T.number (T.number self.now.modulus.modulus) result }
+        ensures inverse { IsInverse (T.number self.now.modulus.modulus) count (T.number result.value) }
+    {
+        let part = inverse_of_power(&self.modulus, count.trailing_zeros());
+        self.modulus.factor(part)
+    }
+
+    /// The transform of n entries in place, in natural order (`ntt`): entry j becomes the sum of x_i·g^(i·j) modulo m,
+    /// below m. Conditions: the list has n entries (`fits` tells); the entries are below 4m.
+    ///
+    /// Source: `split`, and a reversal of the bits of the indexes.
+    ///
+    /// # Examples
+    ///
+    /// ```
+    /// use num_modular::plans::{Factor, Plan, PlannedModulus};
+    ///
+    /// let mut table = [Factor::<u64>::ZERO; 2];
+    /// let plan = Plan::new(&PlannedModulus::<u64>::new(17), 4, &mut table).unwrap();
+    /// let mut entries = [1, 2, 3, 4];
+    /// plan.transform(&mut entries);
+    /// assert_eq!(entries, [10, 7, 15, 6]); // 1 + 2X + 3X^2 + 4X^3 at 1, 4, -1 and -4
+    /// ```
+    pub fn transform(&self, xs: &mut [T])
+        requires whole { length xs.old ≡ 2 ^ self.now.bits }
+        requires entries { All (λ x. T.number x < 4 * T.number self.now.modulus.modulus) xs.old }
+        ensures below { All (λ x. T.number x < T.number self.now.modulus.modulus) xs.new }
+        ensures values { (j : ℕ) → j < length xs.old → numbers T.number xs.new j
+            ≡ transform (T.number self.now.modulus.modulus) (T.number self.now.root) (length xs.old)
+            (numbers T.number xs.old) j }
+    {
+        ntt_planned(&self.modulus, xs, self.table);
+    }
+
+    /// Undoes `transform`, in place: the n entries become the residues whose transform they are, below
+    /// m. Conditions: the list has n entries (`fits` tells); the entries are below 4m.
+    ///
+    /// Source: a reversal of the bits of the indexes, and `join`, times the inverse of n.
+    ///
+    /// # Examples
+    ///
+    /// ```
+    /// use num_modular::plans::{Factor, Plan, PlannedModulus};
+    ///
+    /// let mut table = [Factor::<u64>::ZERO; 2];
+    /// let plan = Plan::new(&PlannedModulus::<u64>::new(17), 4, &mut table).unwrap();
+    /// let mut entries = [10, 7, 15, 6];
+    /// plan.inverse(&mut entries);
+    /// assert_eq!(entries, [1, 2, 3, 4]);
+    /// ```
+    pub fn inverse(&self, xs: &mut [T])
+        requires whole { length xs.old ≡ 2 ^ self.now.bits }
+        requires entries { All (λ x. T.number x < 4 * T.number self.now.modulus.modulus) xs.old }
+        ensures below { All (λ x. T.number x < T.number self.now.modulus.modulus) xs.new }
+        ensures values { let m = T.number self.now.modulus.modulus in (j : ℕ) → j < length xs.old →
+            transform m (T.number self.now.root) (length xs.old) (numbers T.number xs.new) j
+            ≡ numbers T.number xs.old j % m }
+        ensures undone { let m = T.number self.now.modulus.modulus in (x : ℕ → ℕ) →
+            ((j : ℕ) → j < length xs.old →
+            transform m (T.number self.now.root) (length xs.old) x j ≡ numbers T.number xs.old j % m) →
+            (i : ℕ) → i < length xs.old → numbers T.number xs.new i ≡ x i % m }
+    {
+        let part = self.part(xs.len());
+        reverse_places(xs, self.bits);
+        join_scaled(&self.modulus, xs, self.table, 0, 1, &part);
+    }
+
+    /// Splits block b of the tree of remainders into blocks of `last` entries: entry i of block j becomes the sum over
+    /// k of x_(k·last + i)·c^k modulo m, the coefficient of the remainder modulo X^last - c, where c is the power of
+    /// g by the reversed bits of b·count + j, count being the number of blocks.
+    ///
+    /// So b = 0 and last = 1 give the transform in bit-reversed order, and b = 1 starts from a polynomial modulo X^h
+    /// + 1, h being the length of the list. Conditions: the length is `last` times a power of two, and (b + 1)·count is
+    /// at most n, or count is 1 (`splits` tells); the entries are below 4m.
+    ///
+    /// # Examples
+    ///
+    /// ```
+    /// use num_modular::plans::{Factor, Plan, PlannedModulus};
+    ///
+    /// let mut table = [Factor::<u64>::ZERO; 2];
+    /// let plan = Plan::new(&PlannedModulus::<u64>::new(17), 4, &mut table).unwrap();
+    /// let mut entries = [1, 2, 3, 4];
+    /// plan.split(&mut entries, 0, 2);
+    /// assert_eq!(entries, [4, 6, 15, 15]); // 4 + 6X modulo X^2 - 1, and -2 - 2X modulo X^2 + 1
+    /// ```
+    pub fn split(&self, xs: &mut [T], b: usize, last: usize)
+        requires blocks { AreBlocks (length xs.old) (length self.now.table.now) b last }
+        requires entries { All (λ x. T.number x < 4 * T.number self.now.modulus.modulus) xs.old }
+        ensures below { All (λ x. T.number x < T.number self.now.modulus.modulus) xs.new }
+        ensures remainders { AreRemainders (T.number self.now.modulus.modulus) (T.number self.now.root) self.now.bits
+            b (length xs.old / last) last (numbers T.number xs.old) (numbers T.number xs.new) }
+    {
+        split(&self.modulus, xs, self.table, b, last);
+    }
+
+    /// Undoes `split`, in place: where the entries are the remainders of a polynomial, they become its coefficients,
+    /// residues below m. Conditions: the length is `last` times a power of two, and (b + 1)·count is at most n, or count is
+    /// 1 (`splits` tells); the entries are below 4m.
+    ///
+    /// # Examples
+    ///
+    /// ```
+    /// use num_modular::plans::{Factor, Plan, PlannedModulus};
+    ///
+    /// let mut table = [Factor::<u64>::ZERO; 2];
+    /// let plan = Plan::new(&PlannedModulus::<u64>::new(17), 4, &mut table).unwrap();
+    /// let mut entries = [4, 6, 15, 15];
+    /// plan.join(&mut entries, 0, 2);
+    /// assert_eq!(entries, [1, 2, 3, 4]);
+    /// ```
+    pub fn join(&self, xs: &mut [T], b: usize, last: usize)
+        requires blocks { AreBlocks (length xs.old) (length self.now.table.now) b last }
+        requires entries { All (λ x. T.number x < 4 * T.number self.now.modulus.modulus) xs.old }
+        ensures below { All (λ x. T.number x < T.number self.now.modulus.modulus) xs.new }
+        ensures joined { let m = T.number self.now.modulus.modulus in (x : ℕ → ℕ) →
+            AreRemainders m (T.number self.now.root) self.now.bits b (length xs.old / last) last x
+            (λ i. numbers T.number xs.old i % m) →
+            (i : ℕ) → i < length xs.old → numbers T.number xs.new i ≡ x i % m }
+    {
+        let part = self.part(xs.len() / last);
+        join_scaled(&self.modulus, xs, self.table, b, last, &part);
+    }
+
+    /// Multiplies each entry of xs by the entry of ys with the same index, modulo m. Conditions: the lists have the
+    /// same length; the entries of xs are below m.
+    ///
+    /// # Examples
+    ///
+    /// ```
+    /// use num_modular::plans::{Factor, Plan, PlannedModulus};
+    ///
+    /// let mut table = [Factor::<u64>::ZERO; 2];
+    /// let plan = Plan::new(&PlannedModulus::<u64>::new(17), 4, &mut table).unwrap();
+    /// let mut entries = [2, 3];
+    /// plan.multiply(&mut entries, &[5, 7]);
+    /// assert_eq!(entries, [10, 4]); // 21 - 17
+    /// ```
+    pub fn multiply(&self, xs: &mut [T], ys: &[T])
+        requires equal { length ys.now ≡ length xs.old }
+        requires entries { All (λ x. T.number x < T.number self.now.modulus.modulus) xs.old }
+        ensures below { All (λ x. T.number x < T.number self.now.modulus.modulus) xs.new }
+        ensures products { (i : ℕ) → i < length xs.old → numbers T.number xs.new i
+            ≡ (numbers T.number xs.old i * numbers T.number ys.now i) % T.number self.now.modulus.modulus }
+    {
+        multiply_each(&self.modulus, xs, ys);
+    }
+
+    /// Replaces xs by the product of two polynomials modulo X^h - c, h being the length of the lists and c the power of
+    /// g by the reversed bits of b, and ys by the remainders of the second as `split` computes them.
+    ///
+    /// Conditions: the lists have the same length h; `last` is 1 or 2, h is `last` times a power of two, and
+    /// (b + 1)·h/last is at most n (`convolves` tells); the entries are below 4m.
+    ///
+    /// Source: Bernstein, "Multidigit multiplication for mathematicians", section 2: split both lists, multiply the
+    /// remainders, join the products.
+    ///
+    /// # Examples
+    ///
+    /// ```
+    /// use num_modular::plans::{Factor, Plan, PlannedModulus};
+    ///
+    /// let mut table = [Factor::<u64>::ZERO; 2];
+    /// let plan = Plan::new(&PlannedModulus::<u64>::new(17), 4, &mut table).unwrap();
+    /// let (mut xs, mut ys) = ([0, 3], [0, 2]);
+    /// plan.convolve_block(&mut xs, &mut ys, 1, 1);
+    /// assert_eq!(xs, [11, 0]); // 3X * 2X is -6 modulo X^2 + 1
+    /// ```
+    pub fn convolve_block(&self, xs: &mut [T], ys: &mut [T], b: usize, last: usize)
+        requires equal { length ys.old ≡ length xs.old }
+        requires blocks { AreSmallBlocks (length xs.old) (length self.now.table.now) b last }
+        requires entries_xs { All (λ x. T.number x < 4 * T.number self.now.modulus.modulus) xs.old }
+        requires entries_ys { All (λ x. T.number x < 4 * T.number self.now.modulus.modulus) ys.old }
+        ensures below { All (λ x. T.number x < T.number self.now.modulus.modulus) xs.new
+            × All (λ x. T.number x < T.number self.now.modulus.modulus) ys.new }
+        ensures product { (e : ℕ) → e < length xs.old → numbers T.number xs.new e
+            ≡ product_modulo (T.number self.now.modulus.modulus) (length xs.old)
+            (constant (T.number self.now.root) self.now.bits b)
+            (numbers T.number xs.old) (numbers T.number ys.old) e }
+        ensures remainders { AreRemainders (T.number self.now.modulus.modulus) (T.number self.now.root) self.now.bits
+            b (length xs.old / last) last (numbers T.number ys.old) (numbers T.number ys.new) }
+    {
+        let part = self.part(xs.len() / last);
+        convolve_scaled(&self.modulus, xs, ys, self.table, b, last, &part);
+    }
+
+    /// Replaces xs by the cyclic product of two lists of n entries: entry e becomes the sum of x_i·y_j modulo m over
+    /// i + j = e or e + n. ys becomes its transform in bit-reversed order. Conditions: the lists have n entries
+    /// (`fits` tells); the entries are below 4m.
+    ///
+    /// # Examples
+    ///
+    /// ```
+    /// use num_modular::plans::{Factor, Plan, PlannedModulus};
+    ///
+    /// let mut table = [Factor::<u64>::ZERO; 2];
+    /// let plan = Plan::new(&PlannedModulus::<u64>::new(17), 4, &mut table).unwrap();
+    /// let (mut xs, mut ys) = ([1, 2, 0, 0], [3, 4, 0, 0]);
+    /// plan.convolve(&mut xs, &mut ys);
+    /// assert_eq!(xs, [3, 10, 8, 0]); // (1 + 2X)(3 + 4X)
+    /// ```
+    pub fn convolve(&self, xs: &mut [T], ys: &mut [T])
+        requires whole { length xs.old ≡ 2 ^ self.now.bits }
+        requires equal { length ys.old ≡ length xs.old }
+        requires entries_xs { All (λ x. T.number x < 4 * T.number self.now.modulus.modulus) xs.old }
+        requires entries_ys { All (λ x. T.number x < 4 * T.number self.now.modulus.modulus) ys.old }
+        ensures below { All (λ x. T.number x < T.number self.now.modulus.modulus) xs.new
+            × All (λ x. T.number x < T.number self.now.modulus.modulus) ys.new }
+        ensures product { (e : ℕ) → e < length xs.old → numbers T.number xs.new e
+            ≡ cyclic_product (T.number self.now.modulus.modulus) (length xs.old)
+            (numbers T.number xs.old) (numbers T.number ys.old) e }
+        ensures remainders { AreRemainders (T.number self.now.modulus.modulus) (T.number self.now.root) self.now.bits
+            0 (length xs.old) 1 (numbers T.number ys.old) (numbers T.number ys.new) }
+    {
+        self.convolve_block(xs, ys, 0, 1);
+    }
+
+    /// Replaces xs by the product of two lists of n entries modulo X^n + 1: entry e becomes the sum of x_i·y_j modulo m
+    /// over i + j = e, less that over i + j = e + n. ys becomes its remainders modulo X^2 - c, as `split`
+    /// computes them. Conditions: the lists have n entries (`fits` tells); the entries are below 4m.
+    ///
+    /// # Examples
+    ///
+    /// ```
+    /// use num_modular::plans::{Factor, Plan, PlannedModulus};
+    ///
+    /// let mut table = [Factor::<u64>::ZERO; 2];
+    /// let plan = Plan::new(&PlannedModulus::<u64>::new(17), 4, &mut table).unwrap();
+    /// let (mut xs, mut ys) = ([1, 2, 3, 4], [0, 1, 0, 0]);
+    /// plan.convolve_negacyclic(&mut xs, &mut ys);
+    /// assert_eq!(xs, [13, 1, 2, 3]); // times X; -4 + 17
+    /// ```
+    pub fn convolve_negacyclic(&self, xs: &mut [T], ys: &mut [T])
+        requires whole { length xs.old ≡ 2 ^ self.now.bits }
+        requires equal { length ys.old ≡ length xs.old }
+        requires entries_xs { All (λ x. T.number x < 4 * T.number self.now.modulus.modulus) xs.old }
+        requires entries_ys { All (λ x. T.number x < 4 * T.number self.now.modulus.modulus) ys.old }
+        ensures below { All (λ x. T.number x < T.number self.now.modulus.modulus) xs.new
+            × All (λ x. T.number x < T.number self.now.modulus.modulus) ys.new }
+        ensures product { let m = T.number self.now.modulus.modulus in (e : ℕ) → e < length xs.old →
+            numbers T.number xs.new e ≡ product_modulo m (length xs.old) (m - 1)
+            (numbers T.number xs.old) (numbers T.number ys.old) e }
+        ensures remainders { AreRemainders (T.number self.now.modulus.modulus) (T.number self.now.root) self.now.bits
+            1 (length xs.old / 2) 2 (numbers T.number ys.old) (numbers T.number ys.new) }
+    {
+        self.convolve_block(xs, ys, 1, 2);
+    }
+}
