@@ -24,11 +24,11 @@ fn multiplied<const FACTORS: usize>(
         quotient: 0,
     };
     let (mut first, mut second, mut third) = ([none; FACTORS], [none; FACTORS], [none; FACTORS]);
-    if !fill_plans(&mut first, &mut second, &mut third) {
+    let Some(plans) = fill_plans(&mut first, &mut second, &mut third) else {
         return false;
-    }
+    };
     'turns: for _ in 0..n {
-        if !product_planned(xs, ys, digits, words, &first, &second, &third) {
+        if !product_planned(xs, ys, digits, words, &plans) {
             return false;
         }
     }
