@@ -31,17 +31,32 @@ plan_of m g s count w suits is entry = record {
   entry = λ k l. let e : s ≡ suc s - 1 = omega arith in entry k l ∙ ap (λ v. g ^ bits_reversed v k % m) e;
 }
 
--- the modulus m, the number n of blocks and the table of so many entries w that a ring's calls have
-pub record IsRingPlan (q g s m n entries : ℕ) (w : ℕ → ℕ) : Type 0 where
-  pub modulus : m ≡ q
-  pub count : n ≡ 2 ^ s
-  pub room : entries ≡ 2 ^ s
-  pub plan : IsPlan q g (suc s) (2 ^ s) w
+-- the powers of a root that suits twice 2^s entries are a plan
+pub powers_planned : (m g s : ℕ) → Suits m g (2 ^ suc s) → IsPlan m g (suc s) (2 ^ s) (λ k. g ^ bits_reversed s k % m)
+powers_planned m g s suits = plan_of m g s (2 ^ s) (λ k. g ^ bits_reversed s k % m) suits refl (λ k l. refl)
 
-plan_as : {q g s m n entries : ℕ} {w : ℕ → ℕ} → IsRingPlan q g s m n entries w → IsPlan m g (suc s) entries w
-plan_as {q} {g} {s} {m} {n} {entries} {w} ring =
-    subst (λ k. IsPlan m g (suc s) k w) (sym ring.room)
-    (subst (λ k. IsPlan k g (suc s) (2 ^ s) w) (sym ring.modulus) ring.plan)
+-- the modulus m, the root r and the exponent b of the plan that a ring's calls use, and the number n of blocks
+pub record IsRingPlan (q g s m r b n : ℕ) : Type 0 where
+  pub modulus : m ≡ q
+  pub root : r ≡ g
+  pub exponent : b ≡ suc s
+  pub count : n ≡ 2 ^ s
+
+by_ring : {q g s m r b n : ℕ} (last : ℕ) (x y : ℕ → ℕ) → IsRingPlan q g s m r b n → AreRemainders m r b 1 n last x y
+    → AreRemainders q g (suc s) 1 (2 ^ s) last x y
+by_ring {q} {g} {s} {m} {r} {b} {n} last x y ring are =
+    subst (λ k. AreRemainders q g (suc s) 1 k last x y) ring.count
+    (subst (λ k. AreRemainders q g k 1 n last x y) ring.exponent
+    (subst (λ k. AreRemainders q k b 1 n last x y) ring.root
+    (subst (λ k. AreRemainders k r b 1 n last x y) ring.modulus are)))
+
+of_ring : {q g s m r b n : ℕ} (last : ℕ) (x y : ℕ → ℕ) → IsRingPlan q g s m r b n
+    → AreRemainders q g (suc s) 1 (2 ^ s) last x y → AreRemainders m r b 1 n last x y
+of_ring {q} {g} {s} {m} {r} {b} {n} last x y ring are =
+    subst (λ k. AreRemainders m r b 1 k last x y) (sym ring.count)
+    (subst (λ k. AreRemainders m r k 1 (2 ^ s) last x y) (sym ring.exponent)
+    (subst (λ k. AreRemainders m k (suc s) 1 (2 ^ s) last x y) (sym ring.root)
+    (subst (λ k. AreRemainders k g (suc s) 1 (2 ^ s) last x y) (sym ring.modulus) are)))
 
 -- the constant of block j below block 1
 pub constant_is : (g s j : ℕ) → j < 2 ^ s → constant g (suc s) (1 * 2 ^ s + j) ≡ g ^ (2 * bits_reversed s j + 1)
@@ -76,13 +91,6 @@ value_same m n c x f same =
 -- residues are their own residues
 pub own_residues : (m g s last : ℕ) (x y : ℕ → ℕ) → AreValues m g s last x y → AreValues m g s last x (λ i. y i % m)
 own_residues m g s last x y are = record { each = λ j i lj li. ap (λ v. v % m) (are.each j i lj li) ∙ mod-mod _ m }
-
--- an inverse of the number of blocks takes it away
-pub number_gone : (m count part x : ℕ) → Congruent m (count * part) 1 → (count * x * part) % m ≡ x % m
-number_gone m count part x one =
-    let turn : count * x * part ≡ count * part * x = omega arith in
-    let o : 1 * x ≡ x = omega arith in
-    (mod_trans (mod_of_eq turn) (mod_trans (mod_mul one (mod_refl x)) (mod_of_eq o))).same
 
 -- the powers of g and of its inverse h in a term, G being congruent to g^2
 term : {m : ℕ} (g h G r k part u : ℕ) → Congruent m (g * h) 1 → Congruent m G (g * g)
@@ -158,31 +166,30 @@ added_to m a b p below is =
     ∙ add-mul-mod_self_right p b m ∙ mod-eq_of_lt below
 
 -- what `split` says of words, in the words of the standards
-pub told : {q g s m n entries : ℕ} {w : ℕ → ℕ} (last : ℕ) (xs ys : List ℕ) → IsRingPlan q g s m n entries w
-    → (IsPlan m g (suc s) entries w → AreRemainders m g (suc s) 1 n last (numbers (λ x. x) xs) (numbers (λ x. x) ys))
+pub told : {q g s m r b n : ℕ} (last : ℕ) (xs ys : List ℕ) → IsRingPlan q g s m r b n
+    → AreRemainders m r b 1 n last (numbers (λ x. x) xs) (numbers (λ x. x) ys)
     → AreValues q g s last (slice_index xs) (slice_index ys)
-told {q} {g} {s} {m} {n} last xs ys ring known =
+told {q} {g} {s} last xs ys ring are =
     values_of q g s last (slice_index xs) (slice_index ys)
     (subst (λ f. AreRemainders q g (suc s) 1 (2 ^ s) last f (slice_index ys)) (own_numbers xs)
     (subst (λ f. AreRemainders q g (suc s) 1 (2 ^ s) last (numbers (λ x. x) xs) f) (own_numbers ys)
-    (subst (λ k. AreRemainders q g (suc s) 1 k last (numbers (λ x. x) xs) (numbers (λ x. x) ys)) ring.count
-    (subst (λ k. AreRemainders k g (suc s) 1 n last (numbers (λ x. x) xs) (numbers (λ x. x) ys)) ring.modulus
-    (known (plan_as ring))))))
+    (by_ring last (numbers (λ x. x) xs) (numbers (λ x. x) ys) ring are)))
 
--- what `join_scaled` says of words
-pub joined : {q g s m n entries : ℕ} {w : ℕ → ℕ} (last part : ℕ) (x : ℕ → ℕ) (ys zs : List ℕ)
-    → IsRingPlan q g s m n entries w → Congruent q (2 ^ s * part) 1 → AreValues q g s last x (slice_index ys)
-    → (IsPlan m g (suc s) entries w → AreRemainders m g (suc s) 1 n last x (λ i. numbers (λ v. v) ys i % m)
-    → (i : ℕ) → i < length ys → numbers (λ v. v) zs i ≡ (n * x i * part) % m)
+-- what `join` says of words
+pub joined : {q g s m r b n : ℕ} (last : ℕ) (x : ℕ → ℕ) (ys zs : List ℕ) → IsRingPlan q g s m r b n
+    → AreValues q g s last x (slice_index ys)
+    → (AreRemainders m r b 1 n last x (λ i. numbers (λ v. v) ys i % m)
+    → (i : ℕ) → i < length ys → numbers (λ v. v) zs i ≡ x i % m)
     → (i : ℕ) → i < length ys → slice_index zs i ≡ x i % q
-joined {q} {g} {s} {m} {n} last part x ys zs ring one are known i l =
-    let own = own_residues q g s last x (slice_index ys) are in
-    let there = subst (λ f. AreRemainders q g (suc s) 1 (2 ^ s) last x (λ i. f i % q)) (sym (own_numbers ys))
-    (remainders_of q g s last x (λ i. slice_index ys i % q) own) in
-    let given = subst (λ k. AreRemainders k g (suc s) 1 n last x (λ i. numbers (λ v. v) ys i % k)) (sym ring.modulus)
-    (subst (λ k. AreRemainders q g (suc s) 1 k last x (λ i. numbers (λ v. v) ys i % q)) (sym ring.count) there) in
-    sym (ap (λ f. f i) (own_numbers zs)) ∙ known (plan_as ring) given i l ∙ ap (λ k. (n * x i * part) % k) ring.modulus
-    ∙ ap (λ k. (k * x i * part) % q) ring.count ∙ number_gone q (2 ^ s) part (x i) one
+joined {q} {g} {s} {m} last x ys zs ring are known i l =
+    let own = remainders_of q g s last x (λ i. slice_index ys i % q)
+    (own_residues q g s last x (slice_index ys) are) in
+    let there = subst (λ f. AreRemainders q g (suc s) 1 (2 ^ s) last x (λ i. f i % q)) (sym (own_numbers ys)) own in
+    let given = subst (λ k. AreRemainders q g (suc s) 1 (2 ^ s) last x (λ i. numbers (λ v. v) ys i % k))
+    (sym ring.modulus) there in
+    sym (ap (λ f. f i) (own_numbers zs))
+    ∙ known (of_ring last x (λ i. numbers (λ v. v) ys i % m) ring given) i l
+    ∙ ap (λ k. x i % k) ring.modulus
 
 -- the product in the ring, by a formula
 pub ring_product : (q : ℕ) (x y : ℕ → ℕ) → 0 < q → IsRingProduct q x y (product_modulo q 256 (q - 1) x y)
@@ -200,27 +207,22 @@ ring_product_same q x y p r is same = record {
 }
 
 -- what `multiply` says of words
-pub multiplied_words : {q g s m n entries : ℕ} {w : ℕ → ℕ} (last : ℕ) (xs ys zs : List ℕ)
-    → IsRingPlan q g s m n entries w
-    → (IsPlan m g (suc s) entries w
-    → AreProducts m g (suc s) 1 n last (numbers (λ x. x) xs) (numbers (λ x. x) ys) (numbers (λ x. x) zs))
-    → AreProducts q g (suc s) 1 (2 ^ s) last (slice_index xs) (slice_index ys) (slice_index zs)
-multiplied_words {q} {g} {s} {m} {n} last xs ys zs ring known =
-    let x = numbers (λ x. x) xs in
-    let y = numbers (λ x. x) ys in
-    let z = numbers (λ x. x) zs in
-    subst (λ f. AreProducts q g (suc s) 1 (2 ^ s) last f (slice_index ys) (slice_index zs)) (own_numbers xs)
-    (subst (λ f. AreProducts q g (suc s) 1 (2 ^ s) last x f (slice_index zs)) (own_numbers ys)
-    (subst (λ f. AreProducts q g (suc s) 1 (2 ^ s) last x y f) (own_numbers zs)
-    (subst (λ k. AreProducts q g (suc s) 1 k last x y z) ring.count
-    (subst (λ k. AreProducts k g (suc s) 1 n last x y z) ring.modulus (known (plan_as ring))))))
+pub multiplied_words : {q m : ℕ} (xs ys zs : List ℕ) → m ≡ q
+    → ((i : ℕ) → i < length xs → numbers (λ x. x) zs i ≡ (numbers (λ x. x) xs i * numbers (λ x. x) ys i) % m)
+    → (i : ℕ) → i < length xs → slice_index zs i ≡ (slice_index xs i * slice_index ys i) % q
+multiplied_words {q} {m} xs ys zs is known i l =
+    sym (ap (λ f. f i) (own_numbers zs)) ∙ known i l ∙ ap (λ k. (numbers (λ x. x) xs i * numbers (λ x. x) ys i) % k) is
+    ∙ ap (λ f. (f i * numbers (λ x. x) ys i) % q) (own_numbers xs)
+    ∙ ap (λ f. (slice_index xs i * f i) % q) (own_numbers ys)
 
 -- the product of two transforms is the transform of the product
-pub product_transformed : (q g s last : ℕ) (w x y p u v r : ℕ → ℕ) → 0 < q → 2 ^ s * last ≡ 256
-    → IsPlan q g (suc s) (2 ^ s) w → IsRingProduct q x y p → AreValues q g s last x u → AreValues q g s last y v
+pub product_transformed : (q g s last : ℕ) (x y p u v r : ℕ → ℕ) → 0 < q → 2 ^ s * last ≡ 256
+    → Suits q g (2 ^ suc s) → IsRingProduct q x y p → AreValues q g s last x u → AreValues q g s last y v
     → AreProducts q g (suc s) 1 (2 ^ s) last u v r → AreValues q g s last p r
-product_transformed q g s last w x y p u v r some size plan product first second products =
+product_transformed q g s last x y p u v r some size suits product first second products =
     let n = 2 ^ s in
+    let w = λ (k : ℕ). g ^ bits_reversed s k % q in
+    let plan = powers_planned q g s suits in
     let z = product_modulo q (n * last) (constant g (suc s) 1) x y in
     let is : (e : ℕ) → e < 256 → z e ≡ p e = λ e l.
     ap (λ k. product_modulo q k (constant g (suc s) 1) x y e) size

@@ -1,29 +1,18 @@
 -- The numbers of FIPS 204, and its transform as remainders modulo X - c.
-use Rattle.std.proofs.Common.{◌≡◌, ℕ, ◌+◌, ◌*◌, ◌%◌, ◌^◌, ◌<◌, length, refl, sym, ◌∙◌, ap, arith}
+use Rattle.std.proofs.Common.{◌≡◌, ℕ, ◌+◌, ◌*◌, ◌%◌, ◌^◌, ◌<◌, refl, sym, ◌∙◌, ap, arith, subst}
 use Rattle.num_modular.specs.Congruence.{Congruent}
 use Rattle.num_modular.specs.Inverses.{IsInverse}
 use Rattle.num_modular.specs.Orders.{bits_reversed}
 use Rattle.num_modular.specs.Transforms.{Suits, transform}
-use Rattle.num_modular.specs.Plans.{numbers, constant}
-use Rattle.num_modular.specs.PlanProducts.{AreProducts}
+use Rattle.num_modular.specs.Plans.{constant}
+use Rattle.num_modular.specs.PlanProducts.{product_modulo, AreProducts}
 use Rattle.num_modular.specs.PlanLaws.{product_of_one}
-use Rattle.lattice_rings.specs.declared.ml_dsa.Ring.{Ring}
 use Rattle.lattice_rings.specs.Rings.{IsDsaTransform, IsDsaProduct}
-use Rattle.lattice_rings.proofs.Blocks.{IsRingPlan, plan_of, AreValues, value_same, preimage, preimage_values}
+use Rattle.lattice_rings.proofs.Blocks.{AreValues, value_same, preimage, preimage_values}
 
 -- zeta suits
 pub zeta_suits : Suits 8380417 1753 512
 zeta_suits = record { power_of_two = (9, refl); half_turn = λ l. refl }
-
--- what a ring has
-pub ring_plan : (r : Ring) (n : ℕ) → n ≡ 256 → length r.table ≡ 256
-    → IsRingPlan 8380417 1753 8 r.modulus.modulus n (length r.table) (numbers (λ f. f.value) r.table)
-ring_plan r n count room = record {
-  modulus = r.modulus_is;
-  count = count;
-  room = room;
-  plan = plan_of 8380417 1753 8 256 (numbers (λ f. f.value) r.table) zeta_suits refl r.powers;
-}
 
 -- the inverse of the square of zeta suits
 pub back_suits : Suits 8380417 6635910 256
@@ -71,12 +60,14 @@ before_values y below back =
     of_number
     back (λ j i lj li. below (j * 1 + i) (omega arith))
 
--- products of remainders modulo X - c are products of values
-pub product_of_places : (u v p : ℕ → ℕ) → AreProducts 8380417 1753 9 1 256 1 u v p → IsDsaProduct u v p
-product_of_places u v p are = record {
-  each = λ i l.
-      let e : i ≡ i * 1 + 0 = omega arith in
-      ap p e ∙ are.each i 0 l (omega arith)
-      ∙ product_of_one 8380417 (constant 1753 9 (1 * 256 + i)) (λ k. u (i * 1 + k)) (λ k. v (i * 1 + k))
-      ∙ ap (λ k. (u k * v k) % 8380417) (sym e);
+-- products of values are those of remainders modulo X - c
+pub products_of_places : (u v p : ℕ → ℕ) → IsDsaProduct u v p → AreProducts 8380417 1753 9 1 256 1 u v p
+products_of_places u v p are = record {
+  each = λ j i lj li.
+      let e : j ≡ j * 1 + 0 = omega arith in
+      let x = λ (k : ℕ). u (j * 1 + k) in
+      let y = λ (k : ℕ). v (j * 1 + k) in
+      let c = constant 1753 9 (1 * 256 + j) in
+      subst (λ n. p (j * 1 + n) ≡ product_modulo 8380417 1 c x y n) (let z : 0 ≡ i = omega (arith, li) in z)
+      (ap p (sym e) ∙ are.each j lj ∙ ap (λ k. (u k * v k) % 8380417) e ∙ sym (product_of_one 8380417 c x y));
 }

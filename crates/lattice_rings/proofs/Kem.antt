@@ -1,31 +1,20 @@
 -- The numbers of FIPS 203, and its transform as remainders modulo X^2 - c.
-use Rattle.std.proofs.Common.{◌≡◌, ℕ, ◌+◌, ◌*◌, ◌%◌, ◌^◌, ◌<◌, length, refl, sym, ◌∙◌, ap, arith, subst, inl, inr}
+use Rattle.std.proofs.Common.{◌≡◌, ℕ, ◌+◌, ◌*◌, ◌%◌, ◌^◌, ◌<◌, refl, sym, ◌∙◌, ap, arith, subst, inl, inr}
 use Rattle.std.proofs.lemmas.Bool.{cases_eq}
 use Rattle.num_modular.specs.Congruence.{Congruent}
 use Rattle.num_modular.specs.Inverses.{IsInverse}
 use Rattle.num_modular.specs.Orders.{bits_reversed}
 use Rattle.num_modular.specs.Transforms.{Suits, transform}
-use Rattle.num_modular.specs.Plans.{numbers, constant}
+use Rattle.num_modular.specs.Plans.{constant}
 use Rattle.num_modular.specs.PlanProducts.{product_modulo, AreProducts}
 use Rattle.num_modular.specs.PlanLaws.{product_of_two_low, product_of_two_high}
-use Rattle.lattice_rings.specs.declared.ml_kem.Ring.{Ring}
 use Rattle.lattice_rings.specs.Rings.{IsKemTransform, IsKemProduct}
-use Rattle.lattice_rings.proofs.Blocks.{IsRingPlan, plan_of, AreValues, constant_is}
+use Rattle.lattice_rings.proofs.Blocks.{AreValues, constant_is}
 use Rattle.lattice_rings.proofs.Blocks.{value_same, preimage, preimage_values}
 
 -- zeta suits
 pub zeta_suits : Suits 3329 17 256
 zeta_suits = record { power_of_two = (8, refl); half_turn = λ l. refl }
-
--- what a ring has
-pub ring_plan : (r : Ring) (n : ℕ) → n ≡ 128 → length r.table ≡ 128
-    → IsRingPlan 3329 17 7 r.modulus.modulus n (length r.table) (numbers (λ f. f.value) r.table)
-ring_plan r n count room = record {
-  modulus = r.modulus_is;
-  count = count;
-  room = room;
-  plan = plan_of 3329 17 7 128 (numbers (λ f. f.value) r.table) zeta_suits refl r.powers;
-}
 
 -- the inverse of the square of zeta suits
 pub back_suits : Suits 3329 2419 128

@@ -1,22 +1,19 @@
 //! The ring of FIPS 204 (ML-DSA): polynomials modulo X^256 + 1 over the residues of q = 8380417.
 
-ghost use Rattle.std.specs.Prelude.{◌≡◌, ℕ, ◌*◌, ◌%◌, ◌^◌, ◌<◌, ◌↔◌, IsTrue, All, slice_index};
+ghost use Rattle.std.specs.Prelude.{◌≡◌, ℕ, ◌*◌, ◌%◌, ◌^◌, ◌<◌, ◌↔◌, IsTrue, All, length, slice_index};
 ghost use Rattle.num_modular.specs.Factors.{IsFactor};
 ghost use Rattle.num_modular.specs.Plans.{numbers};
 ghost use Rattle.num_modular.specs.Orders.{bits_reversed};
 ghost use Rattle.lattice_rings.specs.Rings.{IsDsaTransform, IsDsaProduct, IsRingProduct};
 
 use num_modular::laws::transform_laws;
-use num_modular::plans::{Factor, PlannedModulus, join_scaled, multiply, plan, split};
+use num_modular::plans::{Factor, Plan, PlannedModulus, plan};
 
 /// The modulus q.
 pub const MODULUS: u32 = 8380417;
 
 /// The standard's zeta, a root of unity of order 512.
 pub const ZETA: u32 = 1753;
-
-// The inverse of 256 modulo q.
-const PART: u32 = 8347681;
 
 /// The ring with its table, of 2 KB: zeta^BitRev8(k) modulo q for k from 0 to 255, each with its quotient. For k
 /// from 1 on these are the numbers of the standard's appendix B.
@@ -37,11 +34,8 @@ const PART: u32 = 8347681;
 #[derive(Drop)]
 pub struct Ring {
     modulus: PlannedModulus<u32>,
-    part: Factor<u32>,
     table: [Factor<u32>; 256],
     ghost modulus_is: { modulus.modulus ≡ 8380417 },
-    ghost part_is: { part.value ≡ 8347681 },
-    ghost part_factor: { IsFactor (2 ^ 32) 8380417 part.value part.quotient },
     ghost factors: { All (λ f. IsFactor (2 ^ 32) 8380417 f.value f.quotient) table },
     ghost powers: { (k : ℕ) → k < 256
         → numbers (λ f. f.value) table k ≡ 1753 ^ bits_reversed 8 k % 8380417 },
@@ -79,14 +73,20 @@ impl Ring {
     /// ```
     pub fn new() -> Self {
         let modulus = PlannedModulus::new(MODULUS);
-        let part = modulus.factor(PART);
-        let mut table = [part; 256];
+        let one = modulus.factor(1);
+        let mut table = [one; 256];
         plan(&modulus, ZETA, &mut table);
-        Ring {
-            modulus,
-            part,
-            table,
-        }
+        Ring { modulus, table }
+    }
+
+    // The plan by zeta, over the table.
+    fn plan(&self) -> Plan<'_, u32, Factor<u32>>
+        ensures modulus { result.modulus.modulus ≡ 8380417 }
+        ensures root { result.root ≡ 1753 }
+        ensures bits { result.bits ≡ 9 }
+        ensures table { length result.table.now ≡ 256 }
+    {
+        Plan::over(&self.modulus, ZETA, &self.table)
     }
 
     /// NTT(w) in place: entry i becomes the value w(zeta^(2·BitRev8(i) + 1)), a residue. Condition: the
@@ -109,7 +109,7 @@ impl Ring {
         ensures residues { All (λ x. x < 8380417) w.new }
         ensures values { IsDsaTransform (slice_index w.old) (slice_index w.new) }
     {
-        split(&self.modulus, w, &self.table, 1, 1);
+        self.plan().split(w, 1, 1);
     }
 
     /// The inverse of `ntt` in place: the only polynomial whose NTT is the list; its coefficients are residues.
@@ -134,7 +134,7 @@ impl Ring {
             (i : ℕ) → i < 256 → slice_index w.new i ≡ x i % 8380417 }
     {
         transform_laws();
-        join_scaled(&self.modulus, w, &self.table, 1, 1, &self.part);
+        self.plan().join(w, 1, 1);
     }
 
     /// Replaces xs by the product of xs and ys modulo X^256 + 1 and q, whose coefficients are residues, and ys by
@@ -191,6 +191,6 @@ impl Ring {
         ensures product { (x y p : ℕ → ℕ) → IsRingProduct 8380417 x y p → IsDsaTransform x (slice_index xs.old) →
             IsDsaTransform y (slice_index ys.now) → IsDsaTransform p (slice_index xs.new) }
     {
-        multiply(&self.modulus, xs, ys, &self.table, 1, 1);
+        self.plan().multiply(xs, ys);
     }
 }

@@ -1,6 +1,6 @@
 //! The ring of FIPS 203 (ML-KEM): polynomials modulo X^256 + 1 over the residues of q = 3329.
 
-ghost use Rattle.std.specs.Prelude.{◌≡◌, ℕ, ◌+◌, ◌*◌, ◌%◌, ◌^◌, ◌<◌, ◌≤◌, ◌↔◌, IsTrue, All, slice_index};
+ghost use Rattle.std.specs.Prelude.{◌≡◌, ℕ, ◌+◌, ◌*◌, ◌%◌, ◌^◌, ◌<◌, ◌≤◌, ◌↔◌, IsTrue, All, length, slice_index};
 ghost use Rattle.num_modular.specs.Congruence.{Congruent};
 ghost use Rattle.num_modular.specs.Factors.{IsFactor};
 ghost use Rattle.num_modular.specs.Plans.{numbers};
@@ -8,16 +8,13 @@ ghost use Rattle.num_modular.specs.Orders.{bits_reversed};
 ghost use Rattle.lattice_rings.specs.Rings.{IsKemTransform, IsKemProduct, IsRingProduct};
 
 use num_modular::laws::transform_laws;
-use num_modular::plans::{Factor, PlannedModulus, join_scaled, plan, split};
+use num_modular::plans::{Factor, Plan, PlannedModulus, plan};
 
 /// The modulus q.
 pub const MODULUS: u32 = 3329;
 
 /// The standard's zeta, a root of unity of order 256.
 pub const ZETA: u32 = 17;
-
-// The inverse of 128 modulo q.
-const PART: u32 = 3303;
 
 /// The ring with its table, of 1 KB: zeta^BitRev7(k) modulo q for k from 0 to 127, the numbers of the
 /// standard's appendix A, each with its quotient.
@@ -39,11 +36,8 @@ const PART: u32 = 3303;
 #[derive(Drop)]
 pub struct Ring {
     modulus: PlannedModulus<u32>,
-    part: Factor<u32>,
     table: [Factor<u32>; 128],
     ghost modulus_is: { modulus.modulus ≡ 3329 },
-    ghost part_is: { part.value ≡ 3303 },
-    ghost part_factor: { IsFactor (2 ^ 32) 3329 part.value part.quotient },
     ghost factors: { All (λ f. IsFactor (2 ^ 32) 3329 f.value f.quotient) table },
     ghost powers: { (k : ℕ) → k < 128
         → numbers (λ f. f.value) table k ≡ 17 ^ bits_reversed 7 k % 3329 },
@@ -97,14 +91,20 @@ impl Ring {
     /// ```
     pub fn new() -> Self {
         let modulus = PlannedModulus::new(MODULUS);
-        let part = modulus.factor(PART);
-        let mut table = [part; 128];
+        let one = modulus.factor(1);
+        let mut table = [one; 128];
         plan(&modulus, ZETA, &mut table);
-        Ring {
-            modulus,
-            part,
-            table,
-        }
+        Ring { modulus, table }
+    }
+
+    // The plan by zeta, over the table.
+    fn plan(&self) -> Plan<'_, u32, Factor<u32>>
+        ensures modulus { result.modulus.modulus ≡ 3329 }
+        ensures root { result.root ≡ 17 }
+        ensures bits { result.bits ≡ 8 }
+        ensures table { length result.table.now ≡ 128 }
+    {
+        Plan::over(&self.modulus, ZETA, &self.table)
     }
 
     /// NTT(w) in place: entries 2i and 2i + 1 become the remainder of w modulo X^2 - zeta^(2·BitRev7(i) + 1), the
@@ -127,7 +127,7 @@ impl Ring {
         ensures residues { All (λ x. x < 3329) w.new }
         ensures remainders { IsKemTransform (slice_index w.old) (slice_index w.new) }
     {
-        split(&self.modulus, w, &self.table, 1, 2);
+        self.plan().split(w, 1, 2);
     }
 
     /// The inverse of `ntt` in place: the only polynomial whose NTT is the list; its coefficients are residues.
@@ -154,7 +154,7 @@ impl Ring {
             (i : ℕ) → i < 256 → slice_index w.new i ≡ x i % 3329 }
     {
         transform_laws();
-        join_scaled(&self.modulus, w, &self.table, 1, 2, &self.part);
+        self.plan().join(w, 1, 2);
     }
 
     /// Replaces xs by the product of xs and ys modulo X^256 + 1 and q, whose coefficients are residues, and ys by

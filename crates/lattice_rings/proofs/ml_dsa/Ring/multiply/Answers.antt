@@ -1,21 +1,22 @@
-use Rattle.std.proofs.Common.{◌/◌, length, slice_index, refl, arith}
-use Rattle.num_modular.specs.Plans.{numbers}
-use Rattle.num_modular.specs.PlanProducts.{AreProducts}
-use Rattle.lattice_rings.proofs.Blocks.{IsRingPlan, multiplied_words, product_transformed}
-use Rattle.lattice_rings.proofs.Dsa.{ring_plan, transform_of, values_of_transform, product_of_places}
+use Rattle.std.proofs.Common.{◌<◌, All, slice_index, refl, sym, arith, subst}
+use Rattle.lattice_rings.specs.Rings.{IsDsaProduct}
+use Rattle.lattice_rings.proofs.Blocks.{multiplied_words, product_transformed}
+use Rattle.lattice_rings.proofs.Dsa.{zeta_suits, transform_of, values_of_transform, products_of_places}
 use Rattle.lattice_rings.proofs.ml_dsa.Ring.multiply.Goals as goal
 
-ring : (c : goal.After-multiply) → IsRingPlan 8380417 1753 8 c.args.self.now.modulus.modulus (length c.args.xs.now / 1)
-    (length c.args.self.now.table) (numbers (λ f. f.value) c.args.self.now.table)
-ring c = ring_plan c.args.self.now (length c.args.xs.now / 1) (omega arith) (omega arith)
+pub multiply-requires-clause-entries : goal.multiply-requires-clause-entries
+multiply-requires-clause-entries c = subst (λ m. All (λ x. x < m) c.args.xs.now) (sym c.plan.ensures.modulus) c.requires.xs
 
-products : (c : goal.After-multiply) → AreProducts 8380417 1753 9 1 256 1 (slice_index c.args.xs.now)
-    (slice_index c.args.ys.now) (slice_index c.multiply.new.xs)
-products c =
-    multiplied_words 1 c.args.xs.now c.args.ys.now c.multiply.new.xs (ring c) (c.multiply.ensures.products 1753 9)
+products : (c : goal.After-multiply) → IsDsaProduct (slice_index c.args.xs.now) (slice_index c.args.ys.now)
+    (slice_index c.multiply.new.xs)
+products c = record {
+  each = λ i l.
+      multiplied_words c.args.xs.now c.args.ys.now c.multiply.new.xs c.plan.ensures.modulus c.multiply.ensures.products i
+      (omega (arith, l));
+}
 
 pub returns-clause-products : goal.returns-clause-products
-returns-clause-products c = product_of_places _ _ _ (products c)
+returns-clause-products c = products c
 
 pub returns-clause-product : goal.returns-clause-product
 returns-clause-product c = λ x y p is first second.
@@ -23,5 +24,5 @@ returns-clause-product c = λ x y p is first second.
     let v = slice_index c.args.ys.now in
     let r = slice_index c.multiply.new.xs in
     transform_of p r
-    (product_transformed 8380417 1753 8 1 (numbers (λ f. f.value) c.args.self.now.table) x y p u v r (omega arith) refl
-    (ring c).plan is (values_of_transform x u first) (values_of_transform y v second) (products c))
+    (product_transformed 8380417 1753 8 1 x y p u v r (omega arith) refl zeta_suits is (values_of_transform x u first)
+    (values_of_transform y v second) (products_of_places u v r (products c)))

@@ -1,13 +1,27 @@
 use Rattle.std.proofs.Common.{length, ◌/◌, arith}
-use Rattle.lattice_rings.proofs.Blocks.{told}
-use Rattle.lattice_rings.proofs.Dsa.{ring_plan, transform_of}
+use Rattle.lattice_rings.proofs.Blocks.{IsRingPlan, told}
+use Rattle.lattice_rings.proofs.Dsa.{transform_of}
 use Rattle.lattice_rings.proofs.ml_dsa.Ring.ntt.Goals as goal
+
+ring : (c : goal.After-split) → IsRingPlan 8380417 1753 8 c.plan.result.modulus.modulus c.plan.result.root c.plan.result.bits
+    (length c.args.w.now / 1)
+ring c = record {
+  modulus = c.plan.ensures.modulus;
+  root = c.plan.ensures.root;
+  exponent = c.plan.ensures.bits;
+  count = omega arith;
+}
 
 pub split-requires-clause-blocks : goal.split-requires-clause-blocks
 split-requires-clause-blocks c =
-    record { some = omega arith; count = (8, omega arith); whole = omega arith; within = omega arith }
+    let table = c.plan.ensures.table in
+    record { some = omega arith; count = (8, omega arith); whole = omega arith; within = omega (arith, table) }
+
+pub split-requires-clause-entries : goal.split-requires-clause-entries
+split-requires-clause-entries c = λ k d l.
+    let below = c.requires k d l in
+    let is = c.plan.ensures.modulus in
+    omega (arith, below, is)
 
 pub returns-clause-values : goal.returns-clause-values
-returns-clause-values c =
-    let ring = ring_plan c.args.self.now (length c.args.w.now / 1) (omega arith) (omega arith) in
-    transform_of _ _ (told 1 c.args.w.now c.split.new.xs ring (c.split.ensures.remainders 1753 9))
+returns-clause-values c = transform_of _ _ (told 1 c.args.w.now c.split.new.xs (ring c) c.split.ensures.remainders)

@@ -1,9 +1,8 @@
-use Rattle.std.proofs.Common.{◌/◌, ◌<◌, length, slice_index, refl, sym, arith, subst}
+use Rattle.std.proofs.Common.{◌<◌, slice_index, refl, sym, arith, subst}
 use Rattle.std.proofs.lemmas.List.{get_or_default}
-use Rattle.num_modular.specs.Plans.{numbers}
 use Rattle.lattice_rings.specs.Rings.{IsKemProduct}
 use Rattle.lattice_rings.proofs.Blocks.{product_transformed}
-use Rattle.lattice_rings.proofs.Kem.{ring_plan, transform_of, values_of_transform, products_of_remainders}
+use Rattle.lattice_rings.proofs.Kem.{zeta_suits, transform_of, values_of_transform, products_of_remainders}
 use Rattle.lattice_rings.proofs.Remainders.{products_more}
 use Rattle.lattice_rings.proofs.ml_kem.Ring.multiply.Goals as goal
 
@@ -28,6 +27,5 @@ returns-clause-product c = λ x y p is first second.
       linear = λ i l. c.remainders.invariant.linear i (omega arith);
     } in
     transform_of p r
-    (product_transformed 3329 17 7 2 (numbers (λ f. f.value) c.args.self.now.table) x y p u v r (omega arith) refl
-    (ring_plan c.args.self.now (length c.args.xs.now / 2) (omega arith) (omega arith)).plan is
-    (values_of_transform x u first) (values_of_transform y v second) (products_of_remainders u v r products))
+    (product_transformed 3329 17 7 2 x y p u v r (omega arith) refl zeta_suits is (values_of_transform x u first)
+    (values_of_transform y v second) (products_of_remainders u v r products))
