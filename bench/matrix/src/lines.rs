@@ -1,13 +1,13 @@
 //! The lines, written once by macros and compiled over either library.
 
-/// The lines of one library: `$bound` is what its `ReducedInt` asks of a reducer.
+/// The lines of one library.
 macro_rules! library {
-    ($folder:ident, $library:ident, $bound:ident) => {
+    ($folder:ident, $library:ident) => {
         pub mod $folder {
-            library!(@width $library $bound w8 u8 u16);
-            library!(@width $library $bound w16 u16 u32);
-            library!(@width $library $bound w32 u32 u64);
-            library!(@width $library $bound w64 u64 u128);
+            library!(@width $library w8 u8 u16);
+            library!(@width $library w16 u16 u32);
+            library!(@width $library w32 u32 u64);
+            library!(@width $library w64 u64 u128);
 
             pub fn all() -> Vec<crate::measure::Line> {
                 let mut lines = Vec::new();
@@ -44,7 +44,7 @@ macro_rules! library {
             $($module::ring::<$odd>(lines, stringify!($odd), <$odd>::MODULUS);)*
         }
     };
-    (@width $library:ident $bound:ident $module:ident $word:ident $double:ident) => {
+    (@width $library:ident $module:ident $word:ident $double:ident) => {
         pub mod $module {
             use crate::measure::{Line, Random, Rows, rows, step};
             use $library::*;
@@ -65,7 +65,7 @@ macro_rules! library {
                 rows[3].clone()
             }
 
-            pub fn ring<R: Reducer<W> + $bound + 'static>(lines: &mut Vec<Line>, place: &str, m: W) {
+            pub fn ring<R: Reducer<W> + Clone + 'static>(lines: &mut Vec<Line>, place: &str, m: W) {
                 let r = R::new(&black_box(m));
                 let mut random = Random(m as u64);
                 let words = rows(|| random.next() as W);
@@ -93,9 +93,9 @@ macro_rules! library {
                 integers::<R>(lines, place, m, words);
             }
 
-            fn integers<R: Reducer<W> + $bound + 'static>(lines: &mut Vec<Line>, place: &str, m: W, words: Rows<W>) {
+            fn integers<R: Reducer<W> + Clone + 'static>(lines: &mut Vec<Line>, place: &str, m: W, words: Rows<W>) {
                 type Integer<R> = ReducedInt<W, R>;
-                fn see<R: Reducer<W> + $bound>(x: &Integer<R>) -> u64 {
+                fn see<R: Reducer<W> + Clone>(x: &Integer<R>) -> u64 {
                     x.residue() as u64
                 }
                 let of = words.map(|row| row.map(|it| Integer::<R>::new(it, &black_box(m))));
@@ -194,5 +194,5 @@ macro_rules! folds {
 
 pub(crate) use folds;
 
-library!(rust, num_modular, Clone);
-library!(cargo, erased, Copy);
+library!(rust, num_modular);
+library!(cargo, erased);
