@@ -9,7 +9,9 @@ import textwrap
 from collections import defaultdict
 from dataclasses import dataclass
 
-from erase_tokens import COUNT, Unknown, beginning, beyond, body_of, header, lexed, parameters, put_attribute, traits
+from erase_tokens import (
+    COUNT, Unknown, beginning, beyond, body_of, header, lexed, parameters, put_attribute, stands, traits,
+)
 
 SENTENCE = re.compile(r"\s?\bConditions?(?: of [^:.]*)?:\s+(.+?)\.(?=\s|$)\s?", re.S)
 OF_PROOFS = r"\w_laws`|\blaws below\b|\b[Cc]ontracts?\b|\b[Cc]lauses `"
@@ -19,8 +21,8 @@ MADE |= {"StoredModulus", "PreMulInv1by1", "PreMulInv2by1", "Normalized2by1Divis
 # Who makes a value by another function, which tests the condition.
 MADE_BY = {"new": ("R::new(", "Montgomery::of(", "Self::of(", "M::keep(")}
 
-# Tests that are put in at the beginning of a body, since they look at more than `prove!` may, or since only rustc needs them:
-# by file in its crate and function, the condition's parts in turn. What they call is proved to tell whether the condition holds.
+# Tests that are put in at the beginning of a body, or before a statement, since they look at more than `prove!` may, or since
+# only rustc needs them: by file in its crate and function, the condition's parts in turn. What they call is proved to tell whether the condition holds.
 EVERY, DEBUG, RETURN, CALL = "assert", "debug_assert", "return", "call"
 FILLED = (CALL, "crate::additions::expect_filled(m, table)")
 FACTORS = (DEBUG, "crate::additions::are_factors(m, xs.len(), table, b, last)")
@@ -58,7 +60,8 @@ LOOKS = {
     ("plan", "plan"): (
         (RETURN, "table.is_empty()"),
         (EVERY, "g.is_below(m.modulus)"),
-        (EVERY, "crate::additions::root_fits_plan(m, g, table.len())"),
+        # a loop has computed the power that tells whether g suits
+        (EVERY, "table.len().is_power_of_two() && power.wrapping_add(T::one()) == m.modulus", "let mut count = 1 ;"),
     ),
     ("split", "split"): (IN_ROOM, SPLITS, FILLED, FACTORS),
     ("join", "join"): (IN_ROOM, SPLITS, FILLED, FACTORS),
@@ -266,10 +269,13 @@ def put_looks(tokens, it, file):
         return
     key = next((key for key in ((file, tokens[it.at + 1].text), (in_crate(file), tokens[it.at + 1].text)) if key in LOOKS), None)
     FOUND[key].add(file)
-    for macro, test in reversed(LOOKS.get(key, ())):
-        lead = tokens[it.body + 1].lead
+    for macro, test, *before in reversed(LOOKS.get(key, ())):
+        at = it.body + 1
+        if before:
+            at = next(at for at in range(at, len(tokens)) if stands(tokens, at, before[0].split()))
+        lead = "\n" + tokens[at].lead.rpartition("\n")[2]
         look = {RETURN: f"if {test} {{{lead}    return;{lead}}}", CALL: f"{test};"}.get(macro, f"{macro}!({test});")
-        tokens[it.body + 1 : it.body + 1] = lexed(lead + look)
+        tokens[at:at] = lexed(lead + look)
         COUNT[f"{macro}! of a condition put in"] += 1
 
 
