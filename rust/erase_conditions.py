@@ -14,8 +14,7 @@ from erase_tokens import (
 )
 
 SENTENCE = re.compile(r"\s?\bConditions?(?: of [^:.]*)?:\s+(.+?)\.(?=\s|$)\s?", re.S)
-OF_PROOFS = r"\w_laws`|\blaws below\b|\b[Cc]ontracts?\b|\b[Cc]lauses `"
-WIDTH, LONGEST = 100, 116  # of a section of docs, and of a line of the sources
+WIDTH = 100  # of a section of docs
 MADE = {"Self", "PlannedModulus", "RoomyModulus", "Code", "ResidueSystem", "Vanilla", "Montgomery", "OddRing", "FoldRing"}
 MADE |= {"StoredModulus", "PreMulInv1by1", "PreMulInv2by1", "Normalized2by1Divisor", "PreModInv", "FixedMersenne"}
 # Who makes a value by another function, which tests the condition.
@@ -365,23 +364,12 @@ def say_in_docs(tokens, first, parts):
 
 
 def without_laws(tokens):
-    """Docs without references to contracts, clauses and laws, which the Rust crate hasn't: in parentheses, after a colon, or a
-    whole sentence."""
+    """Docs without references in parentheses to clauses and laws, which the Rust crate hasn't."""
     for it in tokens:
-        lines = it.lead.split("\n")
-        docs = [at for at, line in enumerate(lines) if re.match(r"\s*///", line)]
-        if not docs or not re.search(rf"\(clause |{OF_PROOFS}", it.lead):
-            continue
-        mark = re.match(r"\s*//[/!]", lines[docs[0]])[0]
-        text = "\n".join(lines[at][len(mark) :].removeprefix(" ") for at in docs)
-        text = re.sub(r"\s\((?:clauses?\s`|`\w+_laws`)[^)]*\)", "", text)
-        text = re.sub(r": no contract [^.]*(?=\.)", "", text)
-        text = re.sub(rf"(?:(?<=\.\s)|(?<=\n\n)|\A)(?=[A-Z`])[^.]*(?:{OF_PROOFS})[^.]*\.\s?", "", text)
-        text = re.sub(r"\n{3,}", "\n\n", text).strip("\n")
-        whole = [x for line in text.split("\n") for x in textwrap.wrap(line, LONGEST) or [""]]
-        lines[docs[0] : docs[-1] + 1] = [f"{mark} {line}".rstrip() for line in whole]
-        it.lead = "\n".join(lines)
-        COUNT["references to laws in docs taken away"] += 1
+        text = re.sub(r"\s\((?:clauses?\s`|`\w+_laws`)[^)]*\)", "", it.lead)
+        if text != it.lead and "///" in text:
+            it.lead = text
+            COUNT["references to laws in docs taken away"] += 1
 
 
 def makes(tokens, at):
