@@ -71,12 +71,18 @@ def for_error(it):
     return f"if let Err({it.error}) = {it.result} {{{it.line}    {it.done};{it.line}}}"
 
 
+def uncounted(it):
+    is_read = re.search(rf"\b{it.i}\b", it.block) or not it.list.endswith(".enumerate()")
+    return None if is_read else f"for {it.x} in {it.list.removesuffix('.enumerate()')} {it.block}"
+
+
 def once(it):
     return it.x if it.before in ("{", ",") and it.behind in (",", "}") and it.x[0].islower() else None
 
 
-# What is counted, the pattern, and what is written in its place, or None; clippy's names: manual_find, manual_map,
-# redundant_pattern_matching, collapsible_if, if_same_then_else, manual_range_contains, single_match, redundant_field_names.
+# What is counted, the pattern, and what is written in its place, or None. Clippy's names: manual_find, manual_map,
+# redundant_pattern_matching, collapsible_if, if_same_then_else, manual_range_contains, single_match,
+# redundant_field_names, unused_enumerate_index.
 RULES = (
     ("loop made find", "for $n in $numbers.. { if $holds.. { return Some ( $n ) ; } } None",
      lambda it: f"({it.numbers}).find(|&{it.n}| {it.holds})"),
@@ -88,6 +94,7 @@ RULES = (
     ("comparisons made contains", "$x < $low | | $x > $high", outside),
     ("match made if let", "match $result.. { Err ( $error ) => $done.. , Ok ( ( ) ) => { } }", for_error),
     ("field named once", "$x : $x", once),
+    ("count of a loop taken away", "for ( $i , $x ) in $list.. $block{}", uncounted),
 )
 
 

@@ -217,7 +217,7 @@ def take_unused_imports(tokens, known):
 
 
 def name_unread(tokens):
-    """A parameter that only ghost text reads is read once, and a place that only ghost text reads isn't counted."""
+    """A parameter that only ghost text reads is read once."""
     for at in range(len(tokens) - 2, -1, -1):
         if tokens[at].text == "fn" and tokens[at + 1].kind == "name" and tokens[body := body_of(tokens, at)].text == "{":
             opened = beyond(tokens, at + 2) if tokens[at + 2].text == "<" else at + 2
@@ -229,16 +229,6 @@ def name_unread(tokens):
                     lead = tokens[body + 1].lead if "\n" in tokens[body + 1].lead else "\n"
                     tokens[body + 1 : body + 1] = lexed(f"{lead}let _ = {words[0]};")
                     COUNT["parameter that nothing reads named"] += 1
-        if stands(tokens, at, ["for", "("]) and stands(tokens, beyond(tokens, at + 1), ["in"]):
-            opened = next_of(tokens, at, "{")
-            inside = {it.text for it in tokens[opened : beyond(tokens, opened)]}
-            if stands(tokens, opened - 4, ". enumerate ( )".split()) and tokens[at + 2].text not in inside:
-                del tokens[opened - 4 : opened]
-                closed = beyond(tokens, at + 1) - 1
-                del tokens[closed]
-                del tokens[at + 1 : at + 4]
-                tokens[at + 1].lead = " "
-                COUNT["count of a loop taken away"] += 1
 
 
 def mark_unread_fields(tokens):
