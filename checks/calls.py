@@ -105,7 +105,6 @@ class Call:
         # a reducer's call of itself is emptied for its own type: by a type parameter it would lead back to the caller
         self.module = promise.module + (re.sub(r"\W+", "_", f"_of_{function.is_of}").lower() if is_own else "")
         self.put = f"{self.module}::{promise.name}{rest}"
-        self.callee = f"{function.path.rpartition('::')[0]}::{promise.name}" if is_own else promise.path
 
 
 class Promise:
