@@ -9,6 +9,7 @@ pub mod lists;
 pub mod montgomery;
 pub mod montgomery_lists;
 pub mod plain;
+pub mod plan_value;
 pub mod planned;
 pub mod plans;
 pub mod runs;

@@ -10,6 +10,43 @@ mod runtime;
 
 use runtime::{list, list_mut};
 
+/// A `NmPlan` as C has it, in which a list is a pointer and a length.
+#[repr(C)]
+pub struct NmPlan {
+    modulus: u64,
+    root: u64,
+    table: *const c::plans::NmFactor,
+    table_length: usize,
+}
+
+impl NmPlan {
+    const EMPTY: c::plan_value::NmPlan<'static> = c::plan_value::NmPlan {
+        modulus: 0,
+        root: 0,
+        table: &[],
+    };
+
+    /// # Safety
+    ///
+    /// Each pointer and length is a list, as `list` asks.
+    unsafe fn lent(&self) -> c::plan_value::NmPlan<'_> {
+        c::plan_value::NmPlan {
+            modulus: self.modulus,
+            root: self.root,
+            table: list(self.table, self.table_length),
+        }
+    }
+
+    fn of(it: c::plan_value::NmPlan<'_>) -> NmPlan {
+        NmPlan {
+            modulus: it.modulus,
+            root: it.root,
+            table: it.table.as_ptr(),
+            table_length: it.table.len(),
+        }
+    }
+}
+
 #[no_mangle]
 pub unsafe extern "C" fn nm_divider(d: u64, divider: &mut c::dividers::NmDivider) -> u32 {
     c::dividers::nm_divider(d, divider)
@@ -249,6 +286,81 @@ pub unsafe extern "C" fn nm_powm(a: u64, exponent: u64, m: u64, power: &mut u64)
 #[no_mangle]
 pub unsafe extern "C" fn nm_invm(a: u64, m: u64, inverse: &mut u64) -> u32 {
     c::plain::nm_invm(a, m, inverse)
+}
+
+#[no_mangle]
+pub unsafe extern "C" fn nm_plan_make(
+    m: u64,
+    root: u64,
+    table: *mut c::plans::NmFactor,
+    table_length: usize,
+    plan: &mut NmPlan,
+) -> u32 {
+    let mut made = NmPlan::EMPTY;
+    let code = c::plan_value::nm_plan_make(m, root, list_mut(table, table_length), &mut made);
+    if code == 0 {
+        *plan = NmPlan::of(made);
+    }
+    code
+}
+
+#[no_mangle]
+pub unsafe extern "C" fn nm_plan_check(plan: &NmPlan) -> u32 {
+    c::plan_value::nm_plan_check(&plan.lent())
+}
+
+#[no_mangle]
+pub unsafe extern "C" fn nm_plan_transform(plan: &NmPlan, xs: *mut u64, xs_length: usize) -> u32 {
+    c::plan_value::nm_plan_transform(&plan.lent(), list_mut(xs, xs_length))
+}
+
+#[no_mangle]
+pub unsafe extern "C" fn nm_plan_inverse(plan: &NmPlan, xs: *mut u64, xs_length: usize) -> u32 {
+    c::plan_value::nm_plan_inverse(&plan.lent(), list_mut(xs, xs_length))
+}
+
+#[no_mangle]
+pub unsafe extern "C" fn nm_plan_split(
+    plan: &NmPlan,
+    xs: *mut u64,
+    xs_length: usize,
+    b: usize,
+    last: usize,
+) -> u32 {
+    c::plan_value::nm_plan_split(&plan.lent(), list_mut(xs, xs_length), b, last)
+}
+
+#[no_mangle]
+pub unsafe extern "C" fn nm_plan_join(
+    plan: &NmPlan,
+    xs: *mut u64,
+    xs_length: usize,
+    b: usize,
+    last: usize,
+) -> u32 {
+    c::plan_value::nm_plan_join(&plan.lent(), list_mut(xs, xs_length), b, last)
+}
+
+#[no_mangle]
+pub unsafe extern "C" fn nm_plan_convolve(
+    plan: &NmPlan,
+    xs: *mut u64,
+    xs_length: usize,
+    ys: *mut u64,
+    ys_length: usize,
+) -> u32 {
+    c::plan_value::nm_plan_convolve(&plan.lent(), list_mut(xs, xs_length), list_mut(ys, ys_length))
+}
+
+#[no_mangle]
+pub unsafe extern "C" fn nm_plan_convolve_negacyclic(
+    plan: &NmPlan,
+    xs: *mut u64,
+    xs_length: usize,
+    ys: *mut u64,
+    ys_length: usize,
+) -> u32 {
+    c::plan_value::nm_plan_convolve_negacyclic(&plan.lent(), list_mut(xs, xs_length), list_mut(ys, ys_length))
 }
 
 #[no_mangle]

@@ -30,7 +30,6 @@ pub fn plan<T: PlainWord, F: PlanEntry<T>>(m: &PlannedModulus<T>, g: T, table: &
         return;
     }
     assert!(g.is_below(m.modulus), "g must be below m: {} and {}", crate::additions::number(g), crate::additions::number(m.modulus));
-    assert!(crate::additions::root_fits_plan(m, g, table.len()), "g must suit n entries, n being a power of two: n = {}, m = {}, g = {}", 2 * table.len(), crate::additions::number(m.modulus), crate::additions::number(g));
     table[0] = F::entry(m.factor(m.residue(T::one())));
     let bits = table.len().trailing_zeros();
     // The indexes with a single bit set: the highest gets g, and each lower one the square of the last.
@@ -42,6 +41,7 @@ pub fn plan<T: PlainWord, F: PlanEntry<T>>(m: &PlannedModulus<T>, g: T, table: &
         table[place] = F::entry(factor);
         power = m.product(power, &factor);
     }
+    assert!(table.len().is_power_of_two() && power.wrapping_add(T::one()) == m.modulus, "g must suit n entries, n being a power of two: n = {}, m = {}, g = {}", 2 * table.len(), crate::additions::number(m.modulus), crate::additions::number(g));
     // The reversed bits of count + other are the sum of those of both, so that the power is a product. No product
     // waits for the one just before it.
     let mut count = 1;

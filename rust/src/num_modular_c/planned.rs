@@ -22,7 +22,7 @@ fn have_room(m: &PlannedModulus<u64>, words: &[u64]) -> bool {
 
 // Whether `nm_split` accepts a list.
 #[inline]
-fn is_split(m: u64, words: &[u64], factors: usize, b: usize, last: usize) -> bool {
+pub(crate) fn is_split(m: u64, words: &[u64], factors: usize, b: usize, last: usize) -> bool {
     PlannedModulus::<u64>::admits(m)
         && splits(words.len(), factors, b, last)
         && have_room(&PlannedModulus::<u64>::new(m), words)
@@ -84,7 +84,7 @@ pub fn nm_join(m: u64, xs: &mut [u64], table: &[NmFactor], b: usize, last: usize
 }
 
 // Whether `nm_convolve_planned` and `nm_convolve_negacyclic` accept two lists as block b.
-fn is_pair(m: u64, xs: &[u64], ys: &[u64], factors: usize, b: usize, last: usize) -> bool {
+pub(crate) fn is_pair(m: u64, xs: &[u64], ys: &[u64], factors: usize, b: usize, last: usize) -> bool {
     if !PlannedModulus::<u64>::admits(m) {
         return false;
     }

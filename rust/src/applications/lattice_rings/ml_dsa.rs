@@ -1,14 +1,11 @@
 //! The ring of FIPS 204 (ML-DSA): polynomials modulo X^256 + 1 over the residues of q = 8380417.
-use crate::plans::{Factor, PlannedModulus, join_scaled, multiply, plan, split};
+use crate::plans::{Factor, Plan, PlannedModulus, plan};
 
 /// The modulus q.
 pub const MODULUS: u32 = 8380417;
 
 /// The standard's zeta, a root of unity of order 512.
 pub const ZETA: u32 = 1753;
-
-// The inverse of 256 modulo q.
-const PART: u32 = 8347681;
 
 /// The ring with its table, of 2 KB: zeta^BitRev8(k) modulo q for k from 0 to 255, each with its quotient. For k
 /// from 1 on these are the numbers of the standard's appendix B.
@@ -29,7 +26,6 @@ const PART: u32 = 8347681;
 #[must_use]
 pub struct Ring {
     modulus: PlannedModulus<u32>,
-    part: Factor<u32>,
     table: [Factor<u32>; 256],
 }
 
@@ -65,14 +61,16 @@ impl Ring {
     #[inline]
     pub fn new() -> Self {
         let modulus = PlannedModulus::new(MODULUS);
-        let part = modulus.factor(PART);
-        let mut table = [part; 256];
+        let one = modulus.factor(1);
+        let mut table = [one; 256];
         plan(&modulus, ZETA, &mut table);
-        Ring {
-            modulus,
-            part,
-            table,
-        }
+        Ring { modulus, table }
+    }
+
+    // The plan by zeta, over the table.
+    #[inline]
+    fn plan(&self) -> Plan<'_, u32, Factor<u32>> {
+        Plan::over(&self.modulus, ZETA, &self.table)
     }
 
     /// NTT(w) in place: entry i becomes the value w(zeta^(2·BitRev8(i) + 1)), a residue.
@@ -96,7 +94,7 @@ impl Ring {
     /// ```
     #[inline]
     pub fn ntt(&self, w: &mut [u32; 256]) {
-        split(&self.modulus, w, &self.table, 1, 1);
+        self.plan().split(w, 1, 1);
     }
 
     /// The inverse of `ntt` in place: the only polynomial whose NTT is the list; its coefficients are residues.
@@ -119,7 +117,7 @@ impl Ring {
     /// ```
     #[inline]
     pub fn inverse(&self, w: &mut [u32; 256]) {
-        join_scaled(&self.modulus, w, &self.table, 1, 1, &self.part);
+        self.plan().join(w, 1, 1);
     }
 
     /// Replaces xs by the product of xs and ys modulo X^256 + 1 and q, whose coefficients are residues, and ys by
@@ -175,6 +173,6 @@ impl Ring {
     /// ```
     #[inline]
     pub fn multiply(&self, xs: &mut [u32; 256], ys: &[u32; 256]) {
-        multiply(&self.modulus, xs, ys, &self.table, 1, 1);
+        self.plan().multiply(xs, ys);
     }
 }

@@ -1,14 +1,11 @@
 //! The ring of FIPS 203 (ML-KEM): polynomials modulo X^256 + 1 over the residues of q = 3329.
-use crate::plans::{Factor, PlannedModulus, join_scaled, plan, split};
+use crate::plans::{Factor, Plan, PlannedModulus, plan};
 
 /// The modulus q.
 pub const MODULUS: u32 = 3329;
 
 /// The standard's zeta, a root of unity of order 256.
 pub const ZETA: u32 = 17;
-
-// The inverse of 128 modulo q.
-const PART: u32 = 3303;
 
 /// The ring with its table, of 1 KB: zeta^BitRev7(k) modulo q for k from 0 to 127, the numbers of the
 /// standard's appendix A, each with its quotient.
@@ -30,7 +27,6 @@ const PART: u32 = 3303;
 #[must_use]
 pub struct Ring {
     modulus: PlannedModulus<u32>,
-    part: Factor<u32>,
     table: [Factor<u32>; 128],
 }
 
@@ -76,14 +72,16 @@ impl Ring {
     #[inline]
     pub fn new() -> Self {
         let modulus = PlannedModulus::new(MODULUS);
-        let part = modulus.factor(PART);
-        let mut table = [part; 128];
+        let one = modulus.factor(1);
+        let mut table = [one; 128];
         plan(&modulus, ZETA, &mut table);
-        Ring {
-            modulus,
-            part,
-            table,
-        }
+        Ring { modulus, table }
+    }
+
+    // The plan by zeta, over the table.
+    #[inline]
+    fn plan(&self) -> Plan<'_, u32, Factor<u32>> {
+        Plan::over(&self.modulus, ZETA, &self.table)
     }
 
     /// NTT(w) in place: entries 2i and 2i + 1 become the remainder of w modulo X^2 - zeta^(2·BitRev7(i) + 1), the
@@ -108,7 +106,7 @@ impl Ring {
     /// ```
     #[inline]
     pub fn ntt(&self, w: &mut [u32; 256]) {
-        split(&self.modulus, w, &self.table, 1, 2);
+        self.plan().split(w, 1, 2);
     }
 
     /// The inverse of `ntt` in place: the only polynomial whose NTT is the list; its coefficients are residues.
@@ -133,7 +131,7 @@ impl Ring {
     /// ```
     #[inline]
     pub fn inverse(&self, w: &mut [u32; 256]) {
-        join_scaled(&self.modulus, w, &self.table, 1, 2, &self.part);
+        self.plan().join(w, 1, 2);
     }
 
     /// Replaces xs by the product of xs and ys modulo X^256 + 1 and q, whose coefficients are residues, and ys by

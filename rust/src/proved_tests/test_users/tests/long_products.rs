@@ -1,7 +1,7 @@
 //! Products of digits of 64 bits, by rows and by transforms, and slices that are too short.
 
 use super::assert_at;
-use crate::applications::long_product::{FIRST, SECOND, THIRD, fill_plans, product, product_planned, room};
+use crate::applications::long_product::{Plans, fill_plans, product, product_planned, room};
 use crate::plans::{Factor, PlanEntry};
 
 const NONE: Factor<u64> = Factor {
@@ -133,12 +133,7 @@ fn squares_of_all_ones() {
 }
 
 // Whether the checksum is that of the row, by these plans.
-fn has_checksum_by_plans<F: PlanEntry<u64>>(
-    row: &(usize, usize, u64),
-    first: &[F],
-    second: &[F],
-    third: &[F],
-) -> bool {
+fn has_checksum_by_plans<F: PlanEntry<u64>>(row: &(usize, usize, u64), plans: &Plans<F>) -> bool {
     let xs = digits_from::<700>(1);
     let ys = digits_from::<700>(2);
     let mut room = [7; 1400];
@@ -146,7 +141,7 @@ fn has_checksum_by_plans<F: PlanEntry<u64>>(
     let xs = &xs[..row.0.min(700)];
     let ys = &ys[..row.1.min(700)];
     let digits = &mut room[..xs.len() + ys.len()];
-    product_planned(xs, ys, digits, &mut words, first, second, third) && checksum(digits) == row.2
+    product_planned(xs, ys, digits, &mut words, plans) && checksum(digits) == row.2
 }
 
 // Whether the checksums are those of the rows, by the plans that are made in these tables for one product after another.
@@ -155,15 +150,10 @@ fn have_checksums_by_plans<F: PlanEntry<u64>>(
     second: &mut [F],
     third: &mut [F],
 ) -> bool {
-    if !fill_plans(first, second, third) {
-        return false;
+    match fill_plans(first, second, third) {
+        Some(plans) => ROWS.iter().all(|row| has_checksum_by_plans(row, &plans)),
+        None => false,
     }
-    for row in ROWS {
-        if !has_checksum_by_plans(row, first, second, third) {
-            return false;
-        }
-    }
-    true
 }
 
 // Plans for more entries work as well.

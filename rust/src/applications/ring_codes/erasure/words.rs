@@ -1,0 +1,86 @@
+//! Whole words from some of their symbols.
+
+use super::{RestoreError, evaluate, restore};
+use crate::{Reducer, RingWord};
+
+// An index below `count` of a place in the list; `None` exactly where there is none.
+#[inline]
+fn index_of(places: &[usize], count: usize, place: usize) -> Option<usize> {
+    (0..count).find(|&j| places[j] == place)
+}
+
+// The symbol at a place: the kept one, or the value of the message at the point.
+#[inline]
+fn symbol_at<T: RingWord, R: Reducer<T>>(
+    r: &R,
+    points: &[T],
+    message: &[T],
+    places: &[usize],
+    symbols: &[T],
+    place: usize,
+) -> T {
+    match index_of(places, message.len(), place) {
+        Some(j) => symbols[j],
+        None => evaluate(r, message, &points[place]),
+    }
+}
+
+// Writes the word of a message, some of whose symbols were kept.
+#[inline]
+fn fill_word<T: RingWord, R: Reducer<T>>(
+    r: &R,
+    points: &[T],
+    message: &[T],
+    places: &[usize],
+    symbols: &[T],
+    word: &mut [T],
+) {
+    for (i, entry) in word[..points.len()].iter_mut().enumerate() {
+        *entry = symbol_at(r, points, message, places, symbols, i);
+    }
+}
+
+/// Restores the whole word of a message of k symbols, k being the length of `message`, from the first k places and the
+/// symbols there, whichever places these are: every lost symbol, and the message.
+///
+/// The errors are those of `restore`.
+/// The previous
+/// contents of `weights`, `message` and `word` don't matter; after an error their contents are unspecified.
+///
+/// Source: Reed and Solomon, "Polynomial codes over certain finite fields".
+///
+/// # Preconditions
+///
+/// Points and symbols are checked forms, each place has its symbol, there are k weights, k being at
+/// most the number of points, and the word has a place for each point. This isn't tested: outside it
+/// the call panics, or returns no meaningful result.
+///
+/// # Examples
+///
+/// ```
+/// use num_modular::applications::ring_codes::erasure::restore_word;
+/// use num_modular::{Reducer, Vanilla};
+///
+/// let ring = Vanilla::<u8>::new(&97);
+/// let (mut weights, mut message, mut word) = ([0; 2], [0; 2], [0; 4]);
+/// restore_word(&ring, &[1, 2, 3, 4], &[3, 1], &[33, 19], &mut weights, &mut message, &mut word).unwrap();
+/// assert_eq!((message, word), ([5, 7], [12, 19, 26, 33]));
+/// ```
+pub fn restore_word<T: RingWord, R: Reducer<T>>(
+    r: &R,
+    points: &[T],
+    places: &[usize],
+    symbols: &[T],
+    weights: &mut [T],
+    message: &mut [T],
+    word: &mut [T],
+) -> Result<(), RestoreError> {
+    let chosen = &mut word[..message.len()];
+    match restore(r, points, places, symbols, chosen, weights, message) {
+        Err(error) => Err(error),
+        Ok(()) => {
+            fill_word(r, points, message, places, symbols, word);
+            Ok(())
+        }
+    }
+}
