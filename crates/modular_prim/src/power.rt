@@ -30,13 +30,12 @@ pub fn powm<T: PlainWord>(base: T, exp: T, m: T) -> T
     }
 }
 
-// The residue of the power of a base below m, by the method for the width, the exponent and the parity of m. The two
-// products of a cube take less time than what the other methods compute first.
+// The residue of the power of a base below m, by the method for the width and the parity of m.
 fn power_below<T: PlainWord>(base: T, exp: T, m: T) -> T
     requires { T.number base < T.number m }
     ensures { T.number result ≡ T.number base ^ T.number exp % T.number m }
 {
-    if T::bits() <= 8 || exp.half() == T::one() {
+    if T::bits() <= 8 {
         power_by_division(base, exp, m)
     } else if m.is_odd() {
         power_by_reduction(base, exp, m)
