@@ -43,7 +43,7 @@ pub pair_along : {m : ℕ} (w a b x y sum difference : ℕ) → Congruent m x a 
 pair_along {m} w a b x y sum difference first second pair = record {
   summed = mod_trans pair.summed (mod_add first (mod_mul second (mod_refl w)));
   subtracted = mod_trans (mod_add (mod_refl difference) (mod_mul (mod_sym second) (mod_refl w)))
-  (mod_trans pair.subtracted first);
+      (mod_trans pair.subtracted first);
 }
 
 -- .. and one that is reduced afterwards

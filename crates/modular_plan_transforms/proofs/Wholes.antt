@@ -96,7 +96,7 @@ half_inverse m t p q inverse below twice =
     record {
       below = below;
       one = (mod_trans (mod_of_eq (ap (λ v. v * q) power ∙ moved)) (mod_mul (mod_refl (2 ^ t)) same)).same ∙
-      inverse.one;
+          inverse.one;
     }
 
 -- what a shorter plan needs: how often its length is in the length of this one
