@@ -7,6 +7,7 @@ use Rattle.ring_codes.proofs.Symbols.{fit_same}
 use Rattle.ring_codes.proofs.NearPairs.{near_there, same_word, distance_same, half_of}
 use Rattle.num_modular.specs.Callers.{◌<◌, ◌≤◌, subst}
 use Rattle.num_modular.specs.Polynomials.{HaveUnitDifferences}
+use Rattle.ring_codes.specs.Erasure.{IsEncoding}
 use Rattle.ring_codes.proofs.erasure.correction.correct.Goals as goal
 
 pub returns-in-Err-decode-clause-fault : goal.returns-in-Err-decode-clause-fault
@@ -286,3 +287,19 @@ returns-then-errors-places-clause-checked g c t = c.encode.ensures.checked
 
 pub returns-then-errors-places-clause-forms : goal.returns-then-errors-places-clause-forms
 returns-then-errors-places-clause-forms g c t = c.in-Ok-true.ensures.checked c.in-Ok-true.field-0-test
+
+pub returns-then-errors-places-clause-right : goal.returns-then-errors-places-clause-right
+returns-then-errors-places-clause-right g c =
+    let ring = g.R.Reducer in let m = ring.modulus c.args.r.now in let number = g.T.RingWord.number in
+    let points = c.args.points.now in let places = c.args.places.now in let k = length c.args.message.now in
+    let X = entry number ring.value m points in
+    let message = entry number ring.value m c.decode.new.message in
+    let word = entry number ring.value m c.encode.new.word in
+    let same = c.decode.auto.message in let few = c.if-errors-places.true in
+    let low = (half_of (length places - k)).0 in
+    let parts : (length places - length c.decode.new.message) / 2 ≡ (length places - k) / 2 =
+    ap (λ k. (length places - k) / 2) same in (
+      subst (λ k. IsEncoding m k (length points) X message word) same c.encode.ensures.encoding,
+      c.count_errors-errors.ensures,
+      omega (arith, few, parts, low),
+    )

@@ -122,6 +122,12 @@ advance-requires-clause-second_numerator g c = c.symbols.invariant.2
 pub advance-requires-clause-second_locator : goal.advance-requires-clause-second_locator
 advance-requires-clause-second_locator g c = c.symbols.invariant.3
 
+pub advance-requires-clause-numerators : goal.advance-requires-clause-numerators
+advance-requires-clause-numerators g c = c.symbols.auto.first_numerator ∙ c.set_constant.auto.coefficients ∙ c.requires.numerators ∙ sym (c.symbols.auto.second_numerator ∙ c.set_constant-3.auto.coefficients)
+
+pub advance-requires-clause-locators : goal.advance-requires-clause-locators
+advance-requires-clause-locators g c = c.symbols.auto.first_locator ∙ c.set_constant-2.auto.coefficients ∙ c.requires.locators ∙ sym (c.symbols.auto.second_locator ∙ c.set_constant-4.auto.coefficients)
+
 pub advance-requires-clause-few : goal.advance-requires-clause-few
 advance-requires-clause-few g c = few_before _ _ _ _ _ c.symbols.invariant.4 c.symbols-test.true c.requires.few
 

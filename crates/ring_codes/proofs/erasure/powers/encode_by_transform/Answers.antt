@@ -2,12 +2,8 @@ use Rattle.num_modular.specs.Callers.{◌≡◌, ℕ, ◌<◌, ◌∙◌, ap, ar
 use Rattle.num_modular.specs.Callers.{entry, entry_past, held_entry}
 use Rattle.num_modular.specs.Transforms.{transform}
 use Rattle.ring_codes.proofs.RootPowers.{value_by_transform}
-use Rattle.num_modular.specs.Callers.{◌≤◌, ◌-◌, sym, subst, form_read, entry_read, hold_more, held_forms, IsForm}
-use Rattle.num_modular.specs.Callers.{◌%◌}
+use Rattle.num_modular.specs.Callers.{◌≤◌, ◌-◌, sym, subst, held_forms}
 use borrow.Author.Count.{falls}
-use Rattle.std.proofs.Math.Nat.{le_of_lt}
-use Rattle.ring_codes.proofs.Counts.{zero_mod}
-use Rattle.ring_codes.proofs.erasure.powers.encode_by_transform.Goals.{then-i-message, else-i-message}
 use Rattle.ring_codes.proofs.erasure.powers.encode_by_transform.Goals as goal
 
 pub returns-clause-encoding : goal.returns-clause-encoding
@@ -32,36 +28,11 @@ returns-clause-encoding g c points powers =
 pub symbols-init : goal.symbols-init
 symbols-init g c = record { each = λ k d l. absurd (omega arith) }
 
-pub bounds-message-i : goal.bounds-message-i
-bounds-message-i g c = c.if-i-message.true
-
-pub offset_bounds-message-i : goal.offset_bounds-message-i
-offset_bounds-message-i g c = le_of_lt c.if-i-message.true
-
 pub bounds-word-i : goal.bounds-word-i
 bounds-word-i g c = subst (λ n. c.symbols.i < n) (sym c.symbols.auto.word) c.symbols-test.true
 
 pub symbols-smaller : goal.symbols-smaller
 symbols-smaller g c = falls _ _ c.symbols-test.true
-
-pub symbols-preserved : goal.symbols-preserved
-symbols-preserved g c =
-    let ring = g.R.Reducer in let m = ring.modulus c.args.r.now in let number = g.T.RingWord.number in
-    let i : ℕ = c.symbols.i in let x = c.if-i-message.word in let message = c.args.message.now in
-    let within : i < length c.symbols.word = subst (λ n. i < n) (sym c.symbols.auto.word) c.symbols-test.true in
-    let form : IsForm ring.form ring.value m (number x) = elim c.if-i-message.branch [
-      | then-i-message w ↦ subst (λ f. IsForm ring.form ring.value m (number f)) (sym w.word-is)
-          (form_read number ring.form ring.value m message i _ c.requires.message w.if-i-message.true w.index-message-i.is)
-      | else-i-message w ↦ subst (λ f. IsForm ring.form ring.value m (number f)) (sym w.word-is) c.transform-zero.ensures.checked
-    ] in
-    let value : ring.value m (number x) ≡ entry number ring.value m message i = elim c.if-i-message.branch [
-      | then-i-message w ↦ ap (λ f. ring.value m (number f)) w.word-is
-          ∙ entry_read number ring.value m message i _ w.if-i-message.true w.index-message-i.is
-      | else-i-message w ↦ ap (λ f. ring.value m (number f)) w.word-is ∙ c.transform-zero.ensures.value
-          ∙ ap (λ v. v % m) c.zero.ensures ∙ zero_mod m
-          ∙ sym (entry_past number ring.value m message i w.if-i-message.false)
-    ] in
-    hold_more number ring.form ring.value m c.symbols.word i x (entry number ring.value m message) within c.symbols.invariant form value
 
 pub ntt-requires-clause-root : goal.ntt-requires-clause-root
 ntt-requires-clause-root g c = c.requires.root

@@ -6,7 +6,7 @@ use Rattle.std.proofs.lemmas.Bool.{cases_eq}
 use Rattle.num_modular.specs.Residues.{residue}
 use Rattle.ring_codes.specs.Prepared.{product_but}
 use Rattle.ring_codes.proofs.Lagrange.{product_of_parts}
-use Rattle.num_modular.specs.Callers.{subst, form_read}
+use Rattle.num_modular.specs.Callers.{◌≤◌, subst, form_read}
 use borrow.Author.Count.{falls}
 use Rattle.std.proofs.Math.Nat.{le_of_lt, le_refl}
 use Rattle.ring_codes.proofs.Symbols.{back_within, some_above, before_last}
@@ -134,11 +134,20 @@ overflow_sub-i g c = some_above _ _ c.backward-test.true
 pub overflow_sub-i-in-backward : goal.overflow_sub-i-in-backward
 overflow_sub-i-in-backward g c = before_last _ _ c.backward-test.true
 
+pub bounds-products-i-in-backward : goal.bounds-products-i-in-backward
+bounds-products-i-in-backward g c = back_within _ _ _ c.backward-test.true (subst (λ n. length c.args.points.now ≤ n) (sym (c.backward.auto.products ∙ c.forward.auto.products ∙ c.requires.room)) (le_refl _))
+
+pub bounds-products-i-in-backward-2 : goal.bounds-products-i-in-backward-2
+bounds-products-i-in-backward-2 g c = back_within _ _ _ c.backward-test.true (subst (λ n. length c.args.points.now ≤ n) (sym (c.backward.auto.products ∙ c.forward.auto.products ∙ c.requires.room)) (le_refl _))
+
 pub bounds-points-i-in-backward : goal.bounds-points-i-in-backward
 bounds-points-i-in-backward g c = back_within _ _ _ c.backward-test.true (le_refl _)
 
 pub offset_bounds-points-i-in-backward : goal.offset_bounds-points-i-in-backward
 offset_bounds-points-i-in-backward g c = le_of_lt (back_within _ _ _ c.backward-test.true (le_refl _))
+
+pub mul-requires-clause-left : goal.mul-requires-clause-left
+mul-requires-clause-left g c = c.backward.invariant.0 _ _ (back_within _ _ _ c.backward-test.true (subst (λ n. length c.args.points.now ≤ n) (sym (c.backward.auto.products ∙ c.forward.auto.products ∙ c.requires.room)) (le_refl _)))
 
 pub mul-requires-clause-right : goal.mul-requires-clause-right
 mul-requires-clause-right g c = c.backward.invariant.3.checked

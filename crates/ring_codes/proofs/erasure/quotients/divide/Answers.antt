@@ -8,6 +8,9 @@ use Rattle.num_modular.specs.Callers.{refl}
 use Rattle.std.proofs.lemmas.Bool.{false≢true}
 use Rattle.std.proofs.Math.Nat.{le_of_lt, le_trans}
 use borrow.Author.Count.{falls}
+use Rattle.num_modular.specs.Callers.{◌≡◌, held_forms}
+use Rattle.ring_codes.specs.Erasure.{distance}
+use Rattle.ring_codes.proofs.NearPairs.{found_forms}
 use Rattle.ring_codes.proofs.erasure.quotients.divide.Goals as goal
 
 pub points-init : goal.points-init
@@ -154,3 +157,56 @@ returns-clause-checked_values g c t = absurd (false≢true t)
 
 pub returns-clause-quotients : goal.returns-clause-quotients
 returns-clause-quotients g c t = absurd (false≢true t)
+
+pub returns-then-found-chosen-clause-checked_values : goal.returns-then-found-chosen-clause-checked_values
+returns-then-found-chosen-clause-checked_values g c t =
+    let ring = g.R.Reducer in let m = ring.modulus c.args.r.now in let number = g.T.RingWord.number in
+    let i = c.points.i in let so_far = c.points.invariant in
+    let points = c.args.points.now in let x = entry number ring.value m points in
+    let p = polynomial (length c.args.numerator.now) (entry number ring.value m c.args.numerator.now) in
+    let e = polynomial (length c.args.locator.now) (entry number ring.value m c.args.locator.now) in
+    let below = so_far.0 in let within : i < length points = le_trans c.points-test.true c.requires.within in
+    let is = rw c.in-Ok-Some.field-0-is at c.in-Ok-Some.ensures.quotient in
+    let point = entry_read number ring.value m points i _ within c.index-points-i.is in
+    let point_again = entry_read number ring.value m points i _ within c.index-points-i-in-Ok-Some.is in
+    let form = form_read number ring.form ring.value m points i _ c.requires.points within c.index-points-i-in-Ok-Some.is in
+    let same = length-set c.points.chosen c.points.found c.index-points-i-in-Ok-Some.result in
+    let same_values = length-set c.points.values c.points.found c.in-Ok-Some.value in
+    let equal = c.requires.equal in
+    let more = found_more number ring.form ring.value m i c.points.found x p e c.points.chosen c.points.values
+    c.index-points-i-in-Ok-Some.result c.in-Ok-Some.value (omega (arith, below)) (omega (arith, below, equal)) so_far.4 form point_again
+    is.0 (subst (λ a. IsQuotient m (p a) (e a) (ring.value m (number c.in-Ok-Some.value))) point is.1) in
+    let last = c.if-found-chosen.true in
+    found_forms number ring.form ring.value m (i + 1) (c.points.found + 1) x p e _ _ (omega (arith, last, same, same_values, equal)) more
+
+pub returns-then-found-chosen-clause-checked_chosen : goal.returns-then-found-chosen-clause-checked_chosen
+returns-then-found-chosen-clause-checked_chosen g c t =
+    let ring = g.R.Reducer in let m = ring.modulus c.args.r.now in let number = g.T.RingWord.number in
+    let i = c.points.i in let so_far = c.points.invariant in
+    let points = c.args.points.now in let x = entry number ring.value m points in
+    let p = polynomial (length c.args.numerator.now) (entry number ring.value m c.args.numerator.now) in
+    let e = polynomial (length c.args.locator.now) (entry number ring.value m c.args.locator.now) in
+    let below = so_far.0 in let within : i < length points = le_trans c.points-test.true c.requires.within in
+    let is = rw c.in-Ok-Some.field-0-is at c.in-Ok-Some.ensures.quotient in
+    let point = entry_read number ring.value m points i _ within c.index-points-i.is in
+    let point_again = entry_read number ring.value m points i _ within c.index-points-i-in-Ok-Some.is in
+    let form = form_read number ring.form ring.value m points i _ c.requires.points within c.index-points-i-in-Ok-Some.is in
+    let same = length-set c.points.chosen c.points.found c.index-points-i-in-Ok-Some.result in
+    let same_values = length-set c.points.values c.points.found c.in-Ok-Some.value in
+    let equal = c.requires.equal in
+    let more = found_more number ring.form ring.value m i c.points.found x p e c.points.chosen c.points.values
+    c.index-points-i-in-Ok-Some.result c.in-Ok-Some.value (omega (arith, below)) (omega (arith, below, equal)) so_far.4 form point_again
+    is.0 (subst (λ a. IsQuotient m (p a) (e a) (ring.value m (number c.in-Ok-Some.value))) point is.1) in
+    let last = c.if-found-chosen.true in
+    held_forms number ring.form ring.value m _ _ (c.points.found + 1) more.chosen_there (omega (arith, last, same))
+
+pub returns-clause-zeros : goal.returns-clause-zeros
+returns-clause-zeros g c h =
+    let ring = g.R.Reducer in let m = ring.modulus c.args.r.now in let number = g.T.RingWord.number in
+    let x = entry number ring.value m c.args.points.now in
+    let e = polynomial (length c.args.locator.now) (entry number ring.value m c.args.locator.now) in
+    let below = c.points.invariant.0 in let few = c.requires.few in let zeros = c.points.invariant.3 in
+    let all : c.points.i ≡ c.args.count = omega arith in (
+      c.points.invariant.2 (omega (arith, below, few)),
+      subst (λ n. distance n (λ j. e (x j) % m) (λ j. 0) < length c.args.chosen.now) all (omega (arith, zeros, below)),
+    )

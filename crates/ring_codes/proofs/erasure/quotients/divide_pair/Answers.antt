@@ -99,3 +99,6 @@ returns-in-Ok-false-clause-inverse g c = tt
 
 pub returns-in-Ok-true-clause-checked : goal.returns-in-Ok-true-clause-checked
 returns-in-Ok-true-clause-checked g c = c.interpolate.ensures.checked
+
+pub returns-in-Ok-false-clause-checked : goal.returns-in-Ok-false-clause-checked
+returns-in-Ok-false-clause-checked g c t = absurd (false≢true t)
