@@ -58,9 +58,10 @@ fn fill_prefixes(base: Hash, text: &[u8], hashes: &mut [Hash], powers: &mut [Has
     powers[0] = power;
     'places: for i in 0..text.len() {
         value = value * base + text[i] as u64;
-        power = power * base;
+        let raised = power * base;
         hashes[i + 1] = value;
-        powers[i + 1] = power;
+        powers[i + 1] = raised;
+        power = raised;
     }
 }
 
@@ -89,7 +90,7 @@ impl<'a> PrefixHashes<'a> {
             MatchOption result (length hashes.old ≡ n → length powers.old ≡ n → ⊥)
             (λ made. (made.text.now ≡ text.now) × (made.base ≡ base) × (length hashes.old ≡ n) × (length powers.old ≡ n)) }
     {
-        if hashes.len() == 0 || hashes.len() - 1 != text.len() || powers.len() != hashes.len() {
+        if hashes.is_empty() || hashes.len() - 1 != text.len() || powers.len() != hashes.len() {
             return None;
         }
         fill_prefixes(base, text, hashes, powers);

@@ -34,9 +34,10 @@ fn fill_prefixes(base: Hash, text: &[u8], hashes: &mut [Hash], powers: &mut [Has
     powers[0] = power;
     for (i, entry) in text.iter().enumerate() {
         value = value * base + *entry as u64;
-        power = power * base;
+        let raised = power * base;
         hashes[i + 1] = value;
-        powers[i + 1] = power;
+        powers[i + 1] = raised;
+        power = raised;
     }
 }
 
@@ -61,7 +62,7 @@ impl<'a> PrefixHashes<'a> {
         hashes: &'a mut [Hash],
         powers: &'a mut [Hash],
     ) -> Option<Self> {
-        if hashes.len() == 0 || hashes.len() - 1 != text.len() || powers.len() != hashes.len() {
+        if hashes.is_empty() || hashes.len() - 1 != text.len() || powers.len() != hashes.len() {
             return None;
         }
         fill_prefixes(base, text, hashes, powers);

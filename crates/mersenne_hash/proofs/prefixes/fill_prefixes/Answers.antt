@@ -32,13 +32,13 @@ places-preserved c =
     let value = c.add-value.ensures.residue
     ∙ residue_more c.range_laws.ensures.horner p i (slice_index text) x (get_or text i 0) _ _ refl before.value
     c.mul.ensures.residue in
-    let power = c.mul-power.ensures.residue ∙ one_more_power p x i _ _ before.power refl in
+    let power = c.mul-raised.ensures.residue ∙ one_more_power p x i _ _ before.power refl in
     record {
       value = value;
       power = power;
       entries = length-set _ _ _ ∙ before.entries;
       exponents = length-set _ _ _ ∙ before.exponents;
       hashed = more_written residue_of c.places.hashes i c.add-value.result hash (omega (arith, before.entries)) before.hashed value;
-      raised = more_written residue_of c.places.powers i c.mul-power.result (λ k. x ^ k % p) (omega (arith, before.exponents))
+      raised = more_written residue_of c.places.powers i c.mul-raised.result (λ k. x ^ k % p) (omega (arith, before.exponents))
           before.raised power;
     }
