@@ -18,9 +18,28 @@ pub fn reduced_once<T: PathWord>(x: T, m: T) -> T
     if less.is_below(x) { less } else { x }
 }
 
-/// The residue of a + b, below m. The carry of a + (b - m) chooses, without a branch, so that compilers work on several
-/// entries of a list at once. Condition: both are below m.
+/// The residue of a + b, below m. Condition: both are below m.
 pub fn add_below<T: PathWord>(a: T, b: T, m: T) -> T
+    requires left { T.number a < T.number m }
+    requires right { T.number b < T.number m }
+    ensures value { T.number result ≡ (T.number a + T.number b) % T.number m }
+    ensures below { T.number result < T.number m }
+{
+    if T::bits() < 64 {
+        sum_by_carry(a, b, m)
+    } else {
+        let gap = m.minus(b);
+        if a.is_below(gap) {
+            a.plus(b)
+        } else {
+            a.minus(gap)
+        }
+    }
+}
+
+// The residue of a + b, below m. The carry of a + (b - m) chooses, without a branch, so that compilers work on several
+// entries of a list at once. At 64 bits they don't, and the other body is faster there. Condition: both are below m.
+fn sum_by_carry<T: PathWord>(a: T, b: T, m: T) -> T
     requires left { T.number a < T.number m }
     requires right { T.number b < T.number m }
     ensures value { T.number result ≡ (T.number a + T.number b) % T.number m }
@@ -69,12 +88,12 @@ pub fn dbl_below<T: PathWord>(a: T, m: T) -> T
     if T::bits() <= 8 {
         doubled_once(a, m)
     } else {
-        add_below(a, a, m)
+        sum_by_carry(a, a, m)
     }
 }
 
 // The residue of 2a, below m, by a comparison of the sum. At 8 bits compilers work on more entries of a list at once
-// than by the carry of `add_below`. Condition: a is below m.
+// than by the carry of `sum_by_carry`. Condition: a is below m.
 fn doubled_once<T: PathWord>(a: T, m: T) -> T
     requires { T.number a < T.number m }
     ensures value { T.number result ≡ (2 * T.number a) % T.number m }
