@@ -17,14 +17,29 @@ pub fn reduced_once<T: PathWord>(x: T, m: T) -> T {
     if less.is_below(x) { less } else { x }
 }
 
-/// The residue of a + b, below m. The carry of a + (b - m) chooses, without a branch, so that compilers work on several
-/// entries of a list at once.
+/// The residue of a + b, below m.
 ///
 /// # Preconditions
 ///
 /// a and b are below m. This isn't tested: outside it the call panics, or returns no meaningful result.
 #[inline]
 pub fn add_below<T: PathWord>(a: T, b: T, m: T) -> T {
+    if T::bits() < 64 {
+        sum_by_carry(a, b, m)
+    } else {
+        let gap = m.minus(b);
+        if a.is_below(gap) {
+            a.plus(b)
+        } else {
+            a.minus(gap)
+        }
+    }
+}
+
+// The residue of a + b, below m. The carry of a + (b - m) chooses, without a branch, so that compilers work on several
+// entries of a list at once. At 64 bits they don't, and the other body is faster there. Condition: both are below m.
+#[inline]
+fn sum_by_carry<T: PathWord>(a: T, b: T, m: T) -> T {
     // Reading the word gives the proof that it fits its width.
     let _ = m.is_below(a);
     let (rest, above) = a.overflowing_add(b.wrapping_sub(m));
@@ -69,12 +84,12 @@ pub fn dbl_below<T: PathWord>(a: T, m: T) -> T {
     if T::bits() <= 8 {
         doubled_once(a, m)
     } else {
-        add_below(a, a, m)
+        sum_by_carry(a, a, m)
     }
 }
 
 // The residue of 2a, below m, by a comparison of the sum. At 8 bits compilers work on more entries of a list at once
-// than by the carry of `add_below`. Condition: a is below m.
+// than by the carry of `sum_by_carry`. Condition: a is below m.
 #[inline]
 fn doubled_once<T: PathWord>(a: T, m: T) -> T {
     // Reading the word gives the proof that it fits its width.
