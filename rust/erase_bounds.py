@@ -3,7 +3,7 @@
 Rattle's words and reducers are copied. The Rust crate's traits ask for nothing that their methods don't need, and its integers
 clone what they read of a reference. So the body that needs more is moved to the implementations, which have it.
 """
-from erase_tokens import COUNT, beyond, cut, header, lexed, put_attribute, stands
+from erase_tokens import beyond, cut, header, lexed, put_attribute, stands
 
 BOUNDS = "T : RingWord , R : Reducer < T > + Copy".split()
 CLONED = (  # what a body copies of a reference
@@ -39,19 +39,16 @@ def loosen_traits(tokens):
     for at in range(len(tokens) - 1, -1, -1):
         if stands(tokens, at, "trait Reducer < T : RingWord >".split()):
             del tokens[at + 4 : at + 6]
-            COUNT["bound of a trait taken away"] += 1
             body = next(it for it in range(at, len(tokens)) if tokens[it].text == "{")
             closed = beyond(tokens, body) - 1
             for it in range(closed, body, -1):
                 if tokens[it].text == "{" and stands(tokens, it, POWER):
                     tokens[it].text, tokens[it].lead = ";", ""
                     del tokens[it + 1 : it + len(POWER)]
-                    COUNT["default body taken away"] += 1
             closed = beyond(tokens, body) - 1
             tokens[closed:closed] = lexed(DECLARED.rstrip())
         elif stands(tokens, at, "type Base : RingWord ;".split()):
             del tokens[at + 2 : at + 4]
-            COUNT["bound of a trait taken away"] += 1
 
 
 def add_members(tokens):
@@ -61,7 +58,6 @@ def add_members(tokens):
             named = next(it for it in range(at, found[1]) if tokens[it].text == "Reducer" and stands(tokens, it + 3, [">", "for"]))
             closed = beyond(tokens, found[1]) - 1
             tokens[closed:closed] = lexed(IMPLEMENTED.replace("WORD", tokens[named + 2].text))
-            COUNT["members of Reducer put in"] += 1
 
 
 def loosen_integers(tokens):
@@ -70,7 +66,6 @@ def loosen_integers(tokens):
         if tokens[at].text == "impl" and stands(tokens, at + 2, BOUNDS) and (found := header(tokens, at)):
             if found[0] in ("Copy", "Clone"):
                 cut(tokens, at, beyond(tokens, found[1]), True)
-                COUNT["impl that is derived taken away"] += 1
     for at in range(len(tokens) - 1, -1, -1):
         if stands(tokens, at, ["pub", "struct", "ReducedInt"]):
             put_attribute(tokens, at, "#[derive(Clone, Copy)]")
@@ -79,10 +74,8 @@ def loosen_integers(tokens):
             words = "T, R: Reducer<T>" if tokens[end + 1].text == "ReducedInt" else "T: PartialEq + Clone, R: Reducer<T> + Clone"
             words = "T: PartialEq, R: Reducer<T>" if tokens[end + 1].text == "PartialEq" else words
             tokens[at:end] = lexed(words)
-            COUNT["bounds of an integer loosened"] += 1
         for sequence, text in CLONED:
             words = sequence.split()
             if tokens[at].text == words[0] and stands(tokens, at, words):
                 lead = tokens[at].lead
                 tokens[at : at + len(words)] = lexed(lead + text)
-                COUNT["clone put in"] += 1

@@ -5,7 +5,7 @@ safe one, and gets a wrapper in capi/src/lib.rs that makes references and slices
 """
 import re
 
-from erase_tokens import COUNT, Unknown, lexed, stands
+from erase_tokens import Unknown, lexed, stands
 
 MARK = "# [ unsafe ( no_mangle ) ]"
 EXPORT = re.compile(re.escape(MARK) + r' pub extern "C" fn (\w+) (?:< \'\w+ > )?\( (.*?) ?\) -> u32 ')
@@ -88,7 +88,6 @@ def wrapper(path, name, found):
             given.append("&mut made")
         else:
             given.append(f"&{own}.lent()" if kind in LENT else own)
-    COUNT["function for C put in"] += 1
     head = f'pub unsafe extern "C" fn {name}('
     line = f"{head}{', '.join(declared)}) -> u32 {{"
     if len(line) > 100:
@@ -149,7 +148,6 @@ def wrappers(files):
             lead = tokens[at].lead
             if stands(tokens, at, f'{MARK} pub extern "C" fn'.split()):
                 tokens[at : at + 11] = lexed(f"{lead}pub fn")
-                COUNT["function for C made a safe one"] += 1
             elif str(path) == "lib" and tokens[at].text == "mod" and tokens[at + 2].text == ";":
                 tokens[at].lead = " "
                 tokens[at:at] = lexed(f"{lead}pub")

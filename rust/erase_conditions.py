@@ -10,7 +10,7 @@ from collections import defaultdict
 from dataclasses import dataclass
 
 from erase_tokens import (
-    COUNT, Unknown, beginning, beyond, body_of, header, lexed, parameters, put_attribute, stands, traits,
+    Unknown, beginning, beyond, body_of, header, lexed, parameters, put_attribute, stands, traits,
 )
 
 SENTENCE = re.compile(r"\s?\bConditions?(?: of [^:.]*)?:\s+(.+?)\.(?=\s|$)\s?", re.S)
@@ -254,7 +254,6 @@ def say(tokens, it, words):
             tokens[closed:closed] = lexed(message)
         else:
             tokens[closed:closed] = lexed(f", {message}")
-        COUNT["message put in"] += 1
 
 
 def in_crate(file):
@@ -275,7 +274,6 @@ def put_looks(tokens, it, file):
         lead = "\n" + tokens[at].lead.rpartition("\n")[2]
         look = {RETURN: f"if {test} {{{lead}    return;{lead}}}", CALL: f"{test};"}.get(macro, f"{macro}!({test});")
         tokens[at:at] = lexed(lead + look)
-        COUNT[f"{macro}! of a condition put in"] += 1
 
 
 def lost_looks():
@@ -360,7 +358,6 @@ def say_in_docs(tokens, first, parts):
     lines = (*said.rstrip("\n").split("\n"), *sections(*parts), *(f"{mark}{examples}".split("\n") if mark else ()))
     whole = "".join(f"{indent}{('/// ' + line).rstrip()}\n" for line in lines)
     tokens[first].lead = lead[:begin] + whole + others + indent
-    COUNT["sections of docs put in"] += 1
 
 
 def without_laws(tokens):
@@ -369,7 +366,6 @@ def without_laws(tokens):
         text = re.sub(r"\s\((?:clauses?\s`|`\w+_laws`)[^)]*\)", "", it.lead)
         if text != it.lead and "///" in text:
             it.lead = text
-            COUNT["references to laws in docs taken away"] += 1
 
 
 def makes(tokens, at):

@@ -2,7 +2,7 @@
 import re
 from types import SimpleNamespace
 
-from erase_tokens import COUNT, beyond, lexed, matched, stands, text_of
+from erase_tokens import beyond, lexed, matched, stands, text_of
 
 PLACE = "entry"  # the entry of a list in a loop
 ASCII = {("b'0'", "b'9'"): "is_ascii_digit()", ("b'A'", "b'Z'"): "is_ascii_uppercase()"}
@@ -41,7 +41,6 @@ def loops_over_lists(tokens):
         items = f"{named}{part}.iter{'_mut' * is_changed}()"
         head = f" ({index}, {PLACE}) in {items}.enumerate()" if still else f" {PLACE} in {items}"
         tokens[at + 1 : body] = lexed(head)
-        COUNT["loop over places made one over entries"] += 1
 
 
 def mapped(it):
@@ -80,27 +79,27 @@ def once(it):
     return it.x if it.before in ("{", ",") and it.behind in (",", "}") and it.x[0].islower() else None
 
 
-# What is counted, the pattern, and what is written in its place, or None. Clippy's names: manual_find, manual_map,
+# The pattern, and what is written in its place, or None. Clippy's names: manual_find, manual_map,
 # redundant_pattern_matching, collapsible_if, if_same_then_else, manual_range_contains, single_match,
 # redundant_field_names, unused_enumerate_index.
 RULES = (
-    ("loop made find", "for $n in $numbers.. { if $holds.. { return Some ( $n ) ; } } None",
+    ("for $n in $numbers.. { if $holds.. { return Some ( $n ) ; } } None",
      lambda it: f"({it.numbers}).find(|&{it.n}| {it.holds})"),
-    ("match made map", "match $option.. { Some ( $x ) => Some ( $value.. ) , None => None , }", mapped),
-    ("match made is_some", "match $option.. { Some ( _ ) => true , None => false , }", lambda it: f"{it.option}.is_some()"),
-    ("nested if made one", "if $one.. { if $other.. $block{} }", nested),
-    ("equal blocks made one", "if $one.. $block{} else if $other.. $block{}", equal),
-    ("comparisons made contains", "$x > = $low & & $x < = $high", within),
-    ("comparisons made contains", "$x < $low | | $x > $high", outside),
-    ("match made if let", "match $result.. { Err ( $error ) => $done.. , Ok ( ( ) ) => { } }", for_error),
-    ("field named once", "$x : $x", once),
-    ("count of a loop taken away", "for ( $i , $x ) in $list.. $block{}", uncounted),
+    ("match $option.. { Some ( $x ) => Some ( $value.. ) , None => None , }", mapped),
+    ("match $option.. { Some ( _ ) => true , None => false , }", lambda it: f"{it.option}.is_some()"),
+    ("if $one.. { if $other.. $block{} }", nested),
+    ("if $one.. $block{} else if $other.. $block{}", equal),
+    ("$x > = $low & & $x < = $high", within),
+    ("$x < $low | | $x > $high", outside),
+    ("match $result.. { Err ( $error ) => $done.. , Ok ( ( ) ) => { } }", for_error),
+    ("$x : $x", once),
+    ("for ( $i , $x ) in $list.. $block{}", uncounted),
 )
 
 
 def write_idioms(tokens):
     """Writes all of these, and loops as such that search before others."""
-    for count, (what, pattern, make) in enumerate(RULES):
+    for count, (pattern, make) in enumerate(RULES):
         if count == 1:
             loops_over_lists(tokens)
         for at in range(len(tokens) - 2, 0, -1):
@@ -113,4 +112,3 @@ def write_idioms(tokens):
             it.line = lead[lead.rindex("\n") :] if "\n" in lead else " "
             if (new := make(it)) is not None:
                 tokens[at:end] = lexed(lead + new)
-                COUNT[what] += 1

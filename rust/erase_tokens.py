@@ -1,6 +1,5 @@
 """Reads the code of a proved source without its ghost text, as tokens, and finds its parts: for rust/erase."""
 import re
-from collections import Counter
 from dataclasses import dataclass
 
 ATTRIBUTES = {"derive", "cfg", "cfg_attr", "allow", "inline", "test", "must_use", "track_caller", "doc", "repr", "unsafe"}
@@ -18,7 +17,6 @@ GHOST = re.compile(
     |(?P<unknown>(?:requires|ensures|ghost)\b|\#!?\[(?!(?:{'|'.join(sorted(ATTRIBUTES))})\b))""",
     re.X,
 )
-COUNT = Counter()
 
 
 class Unknown(Exception):
@@ -74,7 +72,6 @@ def read(text):
             lead = joined(above, lead)
             above = None
         if gone:
-            COUNT[f"{kind} taken away"] += 1
             at, ghost, clause = found.end(), True, clause or kind == "clause"
             if kind == "clause":
                 lead, asked = "", asked or word.startswith("requires")
@@ -104,7 +101,6 @@ def put_attribute(tokens, at, attribute):
     tokens[at].lead = "\n" + lead[len(lead.rstrip(" ")) :]
     tokens[at:at] = lexed(attribute)
     tokens[at].lead = lead
-    COUNT[f"{attribute} put in"] += 1
 
 
 # ------------------------------------------------------------------------------------------------ finding

@@ -3,7 +3,7 @@ import re
 from dataclasses import dataclass
 
 from erase_conditions import first_of
-from erase_tokens import COUNT, Token, Unknown, beyond, body_of, cut, lexed, next_of, parameters, put_attribute, stands, traits
+from erase_tokens import Token, Unknown, beyond, body_of, cut, lexed, next_of, parameters, put_attribute, stands, traits
 
 LAWS = "laws"  # a module of this name has what only proofs and tests call
 WIDTH = 100  # of an import
@@ -57,14 +57,13 @@ def imports(tokens):
     return found[::-1]
 
 
-def filter_imports(tokens, keeps, what, public=True):
+def filter_imports(tokens, keeps, public=True):
     """Takes the names that `keeps` refuses out of the imports, those that are public too, where `public` is true."""
     for it in imports(tokens):
         names = [re.split(r"::| as ", path.removesuffix("::self")) for path in it.paths]
         paths = [path for path, words in zip(it.paths, names) if keeps(words, words[-1])]
         if it.public and not public or paths == it.paths:
             continue
-        COUNT[f"import {what} taken away"] += 1
         if not paths:
             cut(tokens, it.begin, it.end, True)
             continue
@@ -104,7 +103,6 @@ def without_calls(tokens, names):
             end = beyond(tokens, at + 2) if stands(tokens, at + 1, ["::", "<"]) else at + 1
             if tokens[end].text == "(" and tokens[beyond(tokens, end)].text == ";":
                 cut(tokens, at, beyond(tokens, end) + 1, True)
-                COUNT["call of a law taken away"] += 1
 
 
 def take_laws(files):
@@ -117,14 +115,13 @@ def take_laws(files):
                 for at in reversed(list(law_functions(tokens))):
                     found.add(tokens[at + 1].text)
                     cut(tokens, first_of(tokens, at), body_of(tokens, at) + 2, True)
-                    COUNT["law taken away"] += 1
         if not found:
             break
         names |= found
         for files_of_crate in files.values():
             for tokens in files_of_crate.values():
                 without_calls(tokens, names)
-                filter_imports(tokens, lambda _, name: name not in names, "of a law")
+                filter_imports(tokens, lambda _, name: name not in names)
     for crate, files_of_crate in files.items():
         for path, tokens in files_of_crate.items():
             if lost := next((it.text for it in tokens if it.kind == "name" and it.text in names), None):
@@ -150,20 +147,17 @@ def take_empty_modules(files):
             tokens = files_of_crate[above]
             at = next(at for at in range(len(tokens)) if stands(tokens, at, ["mod", path.name, ";"]))
             cut(tokens, first_of(tokens, at), at + 3, True)
-            COUNT["module without items taken away"] += 1
 
 
 # ------------------------------------------------------------------------------------------------ traits
 def take_markers(tokens, markers):
     """Takes traits without members away, as bounds too. `markers` has what each requires besides: a trait of core, or ""."""
-    filter_imports(tokens, lambda _, name: name not in markers, "of a trait without members")
+    filter_imports(tokens, lambda _, name: name not in markers)
     for at in range(len(tokens) - 2, 0, -1):
         if tokens[at].text == "trait" and tokens[at + 1].text in markers:
             end = next_of(tokens, at, "{")
             cut(tokens, first_of(tokens, at), beyond(tokens, end), True)
-            COUNT["trait without members taken away"] += 1
         elif tokens[at].text in markers and tokens[at].kind == "name" and tokens[at - 1].text in (":", "+"):
-            COUNT["bound by a trait without members taken away"] += 1
             if markers[tokens[at].text]:
                 tokens[at].text = markers[tokens[at].text]
             elif tokens[at - 1].text == "+":
@@ -213,7 +207,7 @@ def take_unused_imports(tokens, known):
             return True
         return name in known and name not in brought and bool(known[name][0] & called - others)
 
-    filter_imports(tokens, is_used, "that nothing uses", public=False)
+    filter_imports(tokens, is_used, public=False)
 
 
 def name_unread(tokens):
@@ -228,7 +222,6 @@ def name_unread(tokens):
                 if len(words) > 2 and words[1] == ":" and words[0][0] != "_" and not re.search(rf"\b{words[0]}\b", inside):
                     lead = tokens[body + 1].lead if "\n" in tokens[body + 1].lead else "\n"
                     tokens[body + 1 : body + 1] = lexed(f"{lead}let _ = {words[0]};")
-                    COUNT["parameter that nothing reads named"] += 1
 
 
 def mark_unread_fields(tokens):
@@ -236,7 +229,6 @@ def mark_unread_fields(tokens):
     for at in range(len(tokens) - 3, 0, -1):
         if stands(tokens, at, ["made", ":", "(", ")"]):
             tokens[at].text = "_made"
-            COUNT["field without a value named with an underscore"] += 1
 
 
 # ------------------------------------------------------------------------------------------------ tests
