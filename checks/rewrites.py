@@ -2,6 +2,8 @@
 single spaces between them."""
 import re
 
+from libraries import leaves
+
 BLOCK = r"\{ (?:[^{}]|\{(?:[^{}]|\{(?:[^{}]|\{(?:[^{}]|\{[^{}]*\})*\})*\})*\})*\}"
 PLAIN = r"(?:(?! [;{}] ).)+?"  # tokens of one expression without blocks
 USE = re.compile(r'(?:# \[ cfg \( (?:test|target_pointer_width = "64") \) \] )?(?<= )(pub (?:\( crate \) )?)?use ([^;]*) ; ')
@@ -45,14 +47,6 @@ def without_markers(code, found):
         code = re.sub(rf"(?<= : ){name} \+ ", "", code)
         code = re.sub(rf"(?<= )[:+] {name} (?=[,>{{=;+])", "", code)
     return code
-
-
-def leaves(tree):
-    """The paths of an import."""
-    while inner := re.search(r"((?:\w+ :: )*)\{ ([^{}]*) \}", tree):
-        parts = [inner[1] + it.strip() for it in inner[2].split(",") if it.strip()]
-        tree = tree[: inner.start()] + " , ".join(parts) + tree[inner.end() :]
-    return tree.split(" , ")
 
 
 def parted(code):

@@ -3,6 +3,7 @@ import re
 from dataclasses import dataclass
 
 from erase_conditions import first_of
+from libraries import leaves
 from erase_tokens import Token, Unknown, beyond, body_of, cut, lexed, next_of, parameters, put_attribute, stands, traits
 
 LAWS = "laws"  # a module of this name has what only proofs and tests call
@@ -26,15 +27,6 @@ class Import:
     public: bool
 
 
-def paths_of(text):
-    """The paths of an import, each with what stands behind it, as `as NAME`."""
-    text = text.replace(" :: ", "::")
-    while inner := re.search(r"([\w:]*)\{([^{}]*)\}", text):
-        parts = [inner[1] + it.strip() for it in inner[2].split(",") if it.strip()]
-        text = text[: inner.start()] + " , ".join(parts) + text[inner.end() :]
-    return [it.strip() for it in text.split(",")]
-
-
 def tree(paths):
     """Paths as one, with braces."""
     heads = {}
@@ -52,7 +44,7 @@ def imports(tokens):
     for at, it in enumerate(tokens):
         if it.text == "use" and it.kind == "name" and tokens[at - 1].text != ".":
             begin, end = first_of(tokens, at), next_of(tokens, at, ";")
-            paths = paths_of(" ".join(it.text for it in tokens[at + 1 : end]))
+            paths = leaves(" ".join(it.text for it in tokens[at + 1 : end]))
             found.append(Import(begin, end + 1, paths, "pub" in [it.text for it in tokens[begin:at]]))
     return found[::-1]
 
