@@ -22,16 +22,10 @@ class Attack:
     def apply(self, top):
         """Makes the edits in a copy of the repository."""
         for name, old, new in self.edits:
-            if fault := misfit(top / name, old):
-                raise SystemExit(f"{self.name}: {fault} in {name}")
             text = (top / name).read_text(encoding="utf-8") if old else ""
+            if old and text.count(old) != 1:
+                raise SystemExit(f"{self.name}: `{old.strip()}` stands {text.count(old)} times in {name}\n0 passed, 1 failed")
             (top / name).write_text(text.replace(old, new) if old else new, encoding="utf-8")
-
-
-def misfit(file, old):
-    """Why an edit doesn't apply to a file; nothing where it does."""
-    count = file.read_text(encoding="utf-8").count(old) if old and file.is_file() else 0
-    return f"`{old.strip()}` stands {count} times" if old and count != 1 else ""
 
 
 def attacks(word=None, names=()):
