@@ -3,7 +3,7 @@
 Rattle's words and reducers are copied. The Rust crate's traits ask for nothing that their methods don't need, and its integers
 clone what they read of a reference. So the body that needs more is moved to the implementations, which have it.
 """
-from erase_tokens import beyond, cut, header, lexed, put_attribute, stands
+from erase_tokens import beyond, cut, header, lexed, put_attribute, rewrite, stands, traits
 
 BOUNDS = "T : RingWord , R : Reducer < T > + Copy".split()
 CLONED = (  # what a body copies of a reference
@@ -13,7 +13,11 @@ CLONED = (  # what a body copies of a reference
     (", * rhs )", ", rhs.clone())"),
     ("= y . inv (", "= y.clone().inv("),
 )
-POWER = "{ pow_counted ( self , f , exp ) . 0 }".split()
+LOOSENED = (
+    ("trait Reducer < T : RingWord >", "trait Reducer<T>"),
+    ("type Base : RingWord ;", "type Base;"),
+    ("-> T { pow_counted ( self , f , exp ) . 0 }", "-> T;"),
+)
 # for messages alone: the words of a reducer needn't be numbers
 DECLARED = """
 
@@ -36,19 +40,12 @@ IMPLEMENTED = """
 
 def loosen_traits(tokens):
     """The words of a reducer and of an integer may be of any type; what needs more, `pow`, has no default body."""
-    for at in range(len(tokens) - 1, -1, -1):
-        if stands(tokens, at, "trait Reducer < T : RingWord >".split()):
-            del tokens[at + 4 : at + 6]
-            body = next(it for it in range(at, len(tokens)) if tokens[it].text == "{")
-            closed = beyond(tokens, body) - 1
-            for it in range(closed, body, -1):
-                if tokens[it].text == "{" and stands(tokens, it, POWER):
-                    tokens[it].text, tokens[it].lead = ";", ""
-                    del tokens[it + 1 : it + len(POWER)]
+    for rule in LOOSENED:
+        rewrite(tokens, *rule)
+    for name, _, body, _ in traits(tokens):
+        if tokens[name].text == "Reducer":
             closed = beyond(tokens, body) - 1
             tokens[closed:closed] = lexed(DECLARED.rstrip())
-        elif stands(tokens, at, "type Base : RingWord ;".split()):
-            del tokens[at + 2 : at + 4]
 
 
 def add_members(tokens):
@@ -74,8 +71,5 @@ def loosen_integers(tokens):
             words = "T, R: Reducer<T>" if tokens[end + 1].text == "ReducedInt" else "T: PartialEq + Clone, R: Reducer<T> + Clone"
             words = "T: PartialEq, R: Reducer<T>" if tokens[end + 1].text == "PartialEq" else words
             tokens[at:end] = lexed(words)
-        for sequence, text in CLONED:
-            words = sequence.split()
-            if tokens[at].text == words[0] and stands(tokens, at, words):
-                lead = tokens[at].lead
-                tokens[at : at + len(words)] = lexed(lead + text)
+    for rule in CLONED:
+        rewrite(tokens, *rule)

@@ -168,6 +168,16 @@ def matched(tokens, at, pattern):
     return found, at
 
 
+def rewrite(tokens, pattern, new):
+    """Writes `new` in place of what matches a pattern; the pattern's names stand in it for what they stand for there."""
+    for at in range(len(tokens) - 2, -1, -1):
+        if found := matched(tokens, at, pattern):
+            parts, end = found
+            put = lexed(tokens[at].lead + re.sub(r"\$(\w+)", lambda it: text_of(parts[it[1]]).strip(), new))
+            put[-1].asked = any(it.asked for it in tokens[at:end])
+            tokens[at:end] = put
+
+
 def traits(tokens):
     """Each trait: the indexes of its name, of its bounds and of its body, and its parameters."""
     for at, it in enumerate(tokens):

@@ -216,13 +216,6 @@ def name_unread(tokens):
                     tokens[body + 1 : body + 1] = lexed(f"{lead}let _ = {words[0]};")
 
 
-def mark_unread_fields(tokens):
-    """A field without a value, which keeps others from making one, is read by nothing."""
-    for at in range(len(tokens) - 3, 0, -1):
-        if stands(tokens, at, ["made", ":", "(", ")"]):
-            tokens[at].text = "_made"
-
-
 # ------------------------------------------------------------------------------------------------ tests
 def mark_tests(files):
     """Marks what only tests call, so that only they compile it. `files`: the tokens of the library by crate and path."""
