@@ -26,32 +26,25 @@ EVERY, DEBUG, RETURN, CALL = "assert", "debug_assert", "return", "call"
 FILLED = (CALL, "crate::additions::expect_filled(m, table)")
 FACTORS = (DEBUG, "crate::additions::are_factors(m, xs.len(), table, b, last)")
 IN_ROOM = (DEBUG, "xs.iter().all(|x| m.has_room(*x))")
+PAIR_IN_ROOM = (DEBUG, "xs.iter().chain(ys.iter()).all(|x| m.has_room(*x))")
+CONVOLVES = (EVERY, "convolves(xs.len(), table.len(), b, last)")
 SPLITS = (EVERY, "crate::plans::splits(xs.len(), table.len(), b, last)")
 LENGTH = (EVERY, "xs.len().is_power_of_two()")
+CHECKED = (DEBUG, "r.check(g) && xs.iter().all(|x| r.check(x))")
+SUITS = (EVERY, "r.check(g) && crate::ring::root_fits(r, g, xs.len())")
 QUOTIENT = ((DEBUG, "crate::additions::is_greatest_quotient(d, pre.q_lim)"),)
 PLAN = "plan/calls"
 PLAN_ROOM = (DEBUG, "xs.iter().all(|x| self.modulus.has_room(*x))")
+PLAN_FITS_PAIR = (EVERY, "self.fits(xs.len()) && ys.len() == xs.len()")
 PLAN_SPLITS = (EVERY, "self.splits(xs.len(), b, last)")
 PLAN_PAIR_ROOM = (DEBUG, "xs.iter().chain(ys.iter()).all(|x| self.modulus.has_room(*x))")
 EQUAL = (EVERY, "ys.len() == xs.len()")
+MESSAGE = (EVERY, "message.len() <= word.len()")
 DIVISOR = ((EVERY, "d != 0"),)
 LOOKS = {
-    ("transform", "ntt_counted"): (
-        LENGTH,
-        (DEBUG, "r.check(g) && xs.iter().all(|x| r.check(x))"),
-        (EVERY, "r.check(g) && root_fits(r, g, xs.len())"),
-    ),
-    ("convolution", "convolve"): (
-        (EVERY, "ys.len() == xs.len()"),
-        LENGTH,
-        (DEBUG, "r.check(g) && xs.iter().all(|x| r.check(x)) && ys.iter().all(|y| r.check(y))"),
-        (EVERY, "r.check(g) && crate::ring::root_fits(r, g, xs.len())"),
-    ),
-    ("inverse", "intt"): (
-        LENGTH,
-        (DEBUG, "r.check(g) && xs.iter().all(|x| r.check(x))"),
-        (EVERY, "r.check(g) && crate::ring::root_fits(r, g, xs.len())"),
-    ),
+    ("transform", "ntt_counted"): (LENGTH, CHECKED, (EVERY, "r.check(g) && root_fits(r, g, xs.len())")),
+    ("convolution", "convolve"): (EQUAL, LENGTH, (DEBUG, CHECKED[1] + " && ys.iter().all(|y| r.check(y))"), SUITS),
+    ("inverse", "intt"): (LENGTH, CHECKED, SUITS),
     ("ring", "run"): (
         (DEBUG, "all_checked(r, regs)"),
         (DEBUG, "commands.iter().all(|c| commands_fit(&[c.command()], regs.len()))"),
@@ -65,19 +58,10 @@ LOOKS = {
     ("split", "split"): (IN_ROOM, SPLITS, FILLED, FACTORS),
     ("join", "join"): (IN_ROOM, SPLITS, FILLED, FACTORS),
     ("join", "join_scaled"): (IN_ROOM, SPLITS, FILLED, FACTORS, (DEBUG, "crate::additions::is_factor(m, w)")),
-    ("convolution", "convolve_block"): (
-        (EVERY, "ys.len() == xs.len()"),
-        (EVERY, "convolves(xs.len(), table.len(), b, last)"),
-        (DEBUG, "xs.iter().chain(ys.iter()).all(|x| m.has_room(*x))"),
-        FILLED,
-        FACTORS,
-    ),
+    ("convolution", "convolve_block"): (EQUAL, CONVOLVES, PAIR_IN_ROOM, FILLED, FACTORS),
     **{(PLAN, name): ((EVERY, "self.fits(xs.len())"), PLAN_ROOM) for name in ("transform", "inverse")},
     **{(PLAN, name): (PLAN_SPLITS, PLAN_ROOM) for name in ("split", "join")},
-    **{
-        (PLAN, name): ((EVERY, "self.fits(xs.len()) && ys.len() == xs.len()"), PLAN_PAIR_ROOM)
-        for name in ("convolve", "convolve_negacyclic")
-    },
+    **{(PLAN, name): (PLAN_FITS_PAIR, PLAN_PAIR_ROOM) for name in ("convolve", "convolve_negacyclic")},
     (PLAN, "convolve_block"): (EQUAL, (EVERY, "self.convolves(xs.len(), b, last)"), PLAN_PAIR_ROOM),
     (PLAN, "multiply"): (EQUAL, (DEBUG, "xs.iter().all(|x| x.is_below(self.modulus.modulus))")),
     ("plan", "shorter"): ((EVERY, "self.has_shorter(n)"),),
@@ -98,11 +82,11 @@ LOOKS = {
         (EVERY, "word.len().is_power_of_two()"),
         (DEBUG, "r.check(g) && message.iter().all(|x| r.check(x))"),
         (EVERY, "r.check(g) && crate::ring::root_fits(r, g, word.len())"),
-        (EVERY, "message.len() <= word.len()"),
+        MESSAGE,
     ),
     ("erasure/powers", "encode_by_plan"): (
         (EVERY, "plan.fits(word.len())"),
-        (EVERY, "message.len() <= word.len()"),
+        MESSAGE,
         (DEBUG, "message.iter().all(|x| plan.modulus().has_room(*x))"),
     ),
     ("erasure/prepared", "new"): (
@@ -132,7 +116,7 @@ SHOWN = {
     "g must suit n entries, n being a power of two": (": n = {}, m = {}, g = {}", f"2 * table.len(), {NUMBER}(m.modulus), {NUMBER}(g)"),
     "there must be room for one residue a modulus": (": {} and {}", "residues.len(), moduli.len()"),
 }
-SHOWN_BY_LOOK = {SPLITS[1]: FACTORS_SHOWN, "convolves(xs.len(), table.len(), b, last)": FACTORS_SHOWN}
+SHOWN_BY_LOOK = {SPLITS[1]: FACTORS_SHOWN, CONVOLVES[1]: FACTORS_SHOWN}
 FOUND = defaultdict(set)
 TRACKED, TRACKED_IN_DEBUG = "#[track_caller]", "#[cfg_attr(debug_assertions, track_caller)]"
 SHORT = ("modular_word/", "modular_prim/", "modular_symbols/reference_operations", "modular_reduced/reduced_int/operations")
