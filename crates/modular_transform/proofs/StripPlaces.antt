@@ -33,17 +33,10 @@ pub strip_offset : (size column : ℕ) {i width columns n : ℕ} → i < width �
 strip_offset size column {i} {n = n} within least few room =
     scaled_Fits i n size (omega (arith, within, least, few)) room
 
-pub in_strip : (rest : ℕ) {i width : ℕ} → i < width → width ≡ min 128 rest → i < 128
-in_strip rest within least = omega (arith, within, least)
-
--- the columns after a strip fit, and are fewer
-pub column_fits : {column width columns : ℕ} → width ≡ min 128 (columns - column) → column ≤ columns
-    → columns < 2 ^ 64 → Fits w64 (column + width)
-column_fits least within few = record { fits = omega (arith, least, within, few) }
-
-pub strip_falls : {column width columns : ℕ} → width ≡ min 128 (columns - column) → column < columns
-    → columns - (column + width) < columns - column
-strip_falls least within = omega (arith, least, within)
+pub quarter_offset : (size column step : ℕ) {i width blocks n : ℕ} → i < width → width ≡ min 128 (step - column)
+    → blocks * (4 * step) ≡ n → 0 < blocks → n * size < 2 ^ 63 → Fits w64 (i * size)
+quarter_offset size column step within least whole some =
+    strip_offset size column within least (quarter_within whole some)
 
 -- the first place of a block fits
 pub block_fits_word : (step : ℕ) {block blocks n : ℕ} → block < blocks → blocks * (4 * step) ≡ n → n < 2 ^ 64

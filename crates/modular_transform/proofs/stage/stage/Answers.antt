@@ -7,8 +7,7 @@ use Rattle.modular_transform.proofs.PairLemmas.{none_between, none_done, one_don
 use Rattle.modular_transform.proofs.PairLemmas.{done_by, stage_done}
 use Rattle.modular_transform.proofs.StripPowers.{one_form, first_power, power_first}
 use Rattle.modular_transform.proofs.StripPowers.{power_next, strip_power, strip_next}
-use Rattle.modular_transform.proofs.StripPlaces.{strip_offset, half_within, in_strip}
-use Rattle.modular_transform.proofs.StripPlaces.{column_fits, strip_falls}
+use Rattle.modular_transform.proofs.StripPlaces.{strip_offset, half_within}
 use Rattle.modular_transform.proofs.StripCounts.{none_least, none_of, none_written, one_later}
 use Rattle.modular_transform.proofs.StripCounts.{taken_back, width_fits, column_within, next_within}
 use Rattle.modular_transform.proofs.StripCounts.{one_begun, one_more, ones_done, pairs_done, pair_strip_counted}
@@ -119,19 +118,10 @@ pub mul-running-requires-clause-left : goal.mul-running-requires-clause-left
 mul-running-requires-clause-left g c =
     form_of_value (g.met.R.Reducer.canonical c.args.r.now) c.fill.invariant.running
 
-pub mul-running-requires-clause-right : goal.mul-running-requires-clause-right
-mul-running-requires-clause-right g c = c.requires.root
-
-pub pair-requires-clause-checked : goal.pair-requires-clause-checked
-pair-requires-clause-checked g c = c.columns.invariant.checked
-
 pub pair-requires-clause-power : goal.pair-requires-clause-power
 pair-requires-clause-power g c =
     let least = c.min-width.ensures in
     c.fill.invariant.powers c.columns.k c.index-powers-k.result (omega (arith, least))
-
-pub returns-clause-checked : goal.returns-clause-checked
-returns-clause-checked g c = c.strips.invariant.checked
 
 pub returns-clause-count : goal.returns-clause-count
 returns-clause-count g c =
@@ -285,23 +275,8 @@ returns-clause-stage g c =
     let e = le_antisymm c.strips.invariant.within c.strips-test.false in
     stage_done x y (subst (λ d. PairsDone m (λ i. w ^ i) c.args.half 0 c.args.blocks 0 d x y) e c.strips.invariant.done)
 
-pub overflow_sub-half : goal.overflow_sub-half
-overflow_sub-half g c = c.strips.invariant.within
-
-pub bounds-powers-i : goal.bounds-powers-i
-bounds-powers-i g c = in_strip _ c.fill-test.true c.min-width.ensures
-
-pub bounds-powers-k : goal.bounds-powers-k
-bounds-powers-k g c = in_strip _ c.columns-test.true c.min-width.ensures
-
 pub overflow_mul-first : goal.overflow_mul-first
 overflow_mul-first g c = half_block_fits c.args.half c.each_block-test.true c.requires.whole c.well_formed.1.0.0
 
 pub overflow_add-first : goal.overflow_add-first
 overflow_add-first g c = halves_fit c.args.half c.requires.whole c.requires.some c.well_formed.1.0.0
-
-pub overflow_add-column : goal.overflow_add-column
-overflow_add-column g c = column_fits c.min-width.ensures c.strips.invariant.within c.ranges.half.fits
-
-pub strips-smaller : goal.strips-smaller
-strips-smaller g c = strip_falls c.min-width.ensures c.strips-test.true

@@ -5,8 +5,7 @@ use Rattle.modular_reduced.specs.Forms.{Represents}
 use Rattle.modular_reduced.proofs.FormLemmas.{form_of_value}
 use Rattle.modular_transform.proofs.FourLemmas.{FoursDone, none_done, one_done, columns_joined, blocks_joined, done_by}
 use Rattle.modular_transform.proofs.PairLemmas.{none_between}
-use Rattle.modular_transform.proofs.StripPlaces.{strip_offset, quarter_within, in_strip, strip_falls}
-use Rattle.modular_transform.proofs.StripPlaces.{column_fits, block_fits_word}
+use Rattle.modular_transform.proofs.StripPlaces.{quarter_offset, block_fits_word}
 use Rattle.modular_transform.proofs.StripPowers.{one_form, first_power, power_first, power_next, strip_power, strip_next}
 use Rattle.modular_transform.proofs.StripCounts.{none_least, none_more, none_of, none_written, one_later}
 use Rattle.modular_transform.proofs.StripCounts.{taken_back, width_fits, column_within, next_within}
@@ -17,7 +16,6 @@ use Rattle.modular_transform.proofs.StripCounts.{fours_count_fits}
 use Rattle.modular_transform.proofs.TwoStages.{two_stages_done}
 use Rattle.modular_transform.proofs.ValueLemmas.{values, value_of_entry, values_below, forms_written, entry_done}
 use Rattle.modular_transform.proofs.two_stages.two_stages.Goals as goal
-use borrow.Author.Count.{falls}
 
 pub strips-init : goal.strips-init
 strips-init g c =
@@ -76,9 +74,6 @@ columns-init g c =
           c.each_block.invariant.count;
     }
 
-pub returns-clause-checked : goal.returns-clause-checked
-returns-clause-checked g c = c.strips.invariant.checked
-
 pub returns-clause-count : goal.returns-clause-count
 returns-clause-count g c =
     let count = c.strips.invariant.count in
@@ -117,28 +112,16 @@ four-requires-clause-powers g c =
       both = filled.boths c.columns.k c.index-boths-k.result (omega (arith, least));
     }
 
-pub four-requires-clause-checked : goal.four-requires-clause-checked
-four-requires-clause-checked g c = c.columns.invariant.checked
-
 pub mul-power-requires-clause-left : goal.mul-power-requires-clause-left
 mul-power-requires-clause-left g c = form_of_value (g.met.R.Reducer.canonical c.args.r.now) c.fill.invariant.power
-
-pub mul-power-requires-clause-right : goal.mul-power-requires-clause-right
-mul-power-requires-clause-right g c = c.requires.root
 
 pub mul-turned_power-requires-clause-left : goal.mul-turned_power-requires-clause-left
 mul-turned_power-requires-clause-left g c =
     form_of_value (g.met.R.Reducer.canonical c.args.r.now) c.fill.invariant.turned
 
-pub mul-turned_power-requires-clause-right : goal.mul-turned_power-requires-clause-right
-mul-turned_power-requires-clause-right g c = c.requires.root
-
 pub mul-square_power-requires-clause-left : goal.mul-square_power-requires-clause-left
 mul-square_power-requires-clause-left g c =
     form_of_value (g.met.R.Reducer.canonical c.args.r.now) c.fill.invariant.square
-
-pub mul-square_power-requires-clause-right : goal.mul-square_power-requires-clause-right
-mul-square_power-requires-clause-right g c = c.requires.square
 
 pub each_block-preserved : goal.each_block-preserved
 each_block-preserved g c =
@@ -347,33 +330,27 @@ columns-preserved g c =
 
 pub offset_bounds-firsts-i : goal.offset_bounds-firsts-i
 offset_bounds-firsts-i g c =
-    strip_offset _ _ c.fill-test.true c.min-width.ensures (quarter_within c.requires.whole c.requires.some)
-    c.well_formed.1.0.1
+    quarter_offset _ _ _ c.fill-test.true c.min-width.ensures c.requires.whole c.requires.some c.well_formed.1.0.1
 
 pub offset_bounds-firsts-k : goal.offset_bounds-firsts-k
 offset_bounds-firsts-k g c =
-    strip_offset _ _ c.columns-test.true c.min-width.ensures (quarter_within c.requires.whole c.requires.some)
-    c.well_formed.1.0.1
+    quarter_offset _ _ _ c.columns-test.true c.min-width.ensures c.requires.whole c.requires.some c.well_formed.1.0.1
 
 pub offset_bounds-seconds-i : goal.offset_bounds-seconds-i
 offset_bounds-seconds-i g c =
-    strip_offset _ _ c.fill-test.true c.min-width.ensures (quarter_within c.requires.whole c.requires.some)
-    c.well_formed.1.0.1
+    quarter_offset _ _ _ c.fill-test.true c.min-width.ensures c.requires.whole c.requires.some c.well_formed.1.0.1
 
 pub offset_bounds-seconds-k : goal.offset_bounds-seconds-k
 offset_bounds-seconds-k g c =
-    strip_offset _ _ c.columns-test.true c.min-width.ensures (quarter_within c.requires.whole c.requires.some)
-    c.well_formed.1.0.1
+    quarter_offset _ _ _ c.columns-test.true c.min-width.ensures c.requires.whole c.requires.some c.well_formed.1.0.1
 
 pub offset_bounds-boths-i : goal.offset_bounds-boths-i
 offset_bounds-boths-i g c =
-    strip_offset _ _ c.fill-test.true c.min-width.ensures (quarter_within c.requires.whole c.requires.some)
-    c.well_formed.1.0.1
+    quarter_offset _ _ _ c.fill-test.true c.min-width.ensures c.requires.whole c.requires.some c.well_formed.1.0.1
 
 pub offset_bounds-boths-k : goal.offset_bounds-boths-k
 offset_bounds-boths-k g c =
-    strip_offset _ _ c.columns-test.true c.min-width.ensures (quarter_within c.requires.whole c.requires.some)
-    c.well_formed.1.0.1
+    quarter_offset _ _ _ c.columns-test.true c.min-width.ensures c.requires.whole c.requires.some c.well_formed.1.0.1
 
 pub overflow_add-products-in-columns : goal.overflow_add-products-in-columns
 overflow_add-products-in-columns g c =
@@ -384,42 +361,6 @@ pub overflow_add-products : goal.overflow_add-products
 overflow_add-products g c =
     powers_count_fits c.strips.column c.fill.invariant.count c.fill-test.true
     (width_fits c.min-width.ensures c.strips.invariant.within) c.requires.whole c.requires.some c.well_formed.1.0.0
-
-pub overflow_sub-step : goal.overflow_sub-step
-overflow_sub-step g c = c.strips.invariant.within
-
-pub bounds-firsts-i : goal.bounds-firsts-i
-bounds-firsts-i g c = in_strip _ c.fill-test.true c.min-width.ensures
-
-pub bounds-firsts-k : goal.bounds-firsts-k
-bounds-firsts-k g c = in_strip _ c.columns-test.true c.min-width.ensures
-
-pub bounds-seconds-i : goal.bounds-seconds-i
-bounds-seconds-i g c = in_strip _ c.fill-test.true c.min-width.ensures
-
-pub bounds-seconds-k : goal.bounds-seconds-k
-bounds-seconds-k g c = in_strip _ c.columns-test.true c.min-width.ensures
-
-pub bounds-boths-i : goal.bounds-boths-i
-bounds-boths-i g c = in_strip _ c.fill-test.true c.min-width.ensures
-
-pub bounds-boths-k : goal.bounds-boths-k
-bounds-boths-k g c = in_strip _ c.columns-test.true c.min-width.ensures
-
-pub fill-smaller : goal.fill-smaller
-fill-smaller g c = falls _ _ c.fill-test.true
-
-pub columns-smaller : goal.columns-smaller
-columns-smaller g c = falls _ _ c.columns-test.true
-
-pub each_block-smaller : goal.each_block-smaller
-each_block-smaller g c = falls _ _ c.each_block-test.true
-
-pub overflow_add-column : goal.overflow_add-column
-overflow_add-column g c = column_fits c.min-width.ensures c.strips.invariant.within c.ranges.step.fits
-
-pub strips-smaller : goal.strips-smaller
-strips-smaller g c = strip_falls c.min-width.ensures c.strips-test.true
 
 pub overflow_mul-place-in-each_block : goal.overflow_mul-place-in-each_block
 overflow_mul-place-in-each_block g c = block_fits_word _ c.each_block-test.true c.requires.whole c.well_formed.1.0.0
