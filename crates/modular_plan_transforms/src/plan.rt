@@ -1,6 +1,6 @@
 //! A plan for transforms as one value: a modulus, a root and the table of its powers.
 
-ghost use Rattle.std.specs.Prelude.{◌≡◌, ℕ, ◌+◌, ◌-◌, ◌*◌, ◌/◌, ◌%◌, ◌^◌, ◌<◌, ◌≤◌, ◌↔◌, IsTrue, length, MatchOption};
+ghost use Rattle.std.specs.Prelude.{◌≡◌, ℕ, ◌+◌, ◌-◌, ◌*◌, ◌/◌, ◌%◌, ◌^◌, ◌<◌, ◌≤◌, ◌↔◌, IsTrue, length, take, MatchOption};
 ghost use Rattle.std.specs.Int.{IsPowerOfTwo};
 ghost use Rattle.modular_transform.specs.Orders.{bits_reversed};
 ghost use Rattle.modular_transform.specs.Transforms.{Suits};
@@ -77,7 +77,8 @@ impl<'a, T: PlainWord, F: PlanEntry<T>> Plan<'a, T, F> {
     pub fn new(m: &PlannedModulus<T>, g: T, table: &'a mut [F]) -> Option<Self>
         ensures { let modulus = T.number m.now.modulus in let n = 2 * length table.old in
             MatchOption result (modulus % 2 ≡ 1 → T.number g < modulus → Suits modulus (T.number g) n → ⊥)
-            (λ made. (made.modulus ≡ m.now) × (made.root ≡ g) × (2 ^ made.bits ≡ n)) }
+            (λ made. (made.modulus ≡ m.now) × (made.root ≡ g) × (2 ^ made.bits ≡ n)
+            × IsTable T.base modulus (T.number g) F.value F.quotient made.table.now) }
     {
         if !m.modulus.is_odd() {
             return None;
@@ -166,6 +167,7 @@ impl<'a, T: PlainWord, F: PlanEntry<T>> Plan<'a, T, F> {
         ensures root { T.number result.root
             ≡ T.number self.now.root ^ (2 ^ self.now.bits / n) % T.number self.now.modulus.modulus }
         ensures entries { 2 ^ result.bits ≡ n }
+        ensures table { result.table.now ≡ take (n / 2) self.now.table.now }
     {
         let half = n / 2;
         Plan {
