@@ -6,9 +6,10 @@ pub use Rattle.modular_barrett.specs.declared.planned.Factor.{Factor}
 pub use Rattle.modular_transform.proofs.PowersOfTwo.{power_of_two_tested}
 -- reversed bits: they are below the same power of two; with one more bit; and of twice a number
 pub use Rattle.modular_transform.proofs.BitReversal.{bits_reversed_below, bits_reversed_of_high, bits_reversed_twice}
--- the exponent of the length of a plan's table; a table that holds the factors of the powers of a root is the plan by it
+-- the exponent of the length of a plan's table; a table that holds the factors of the powers of a root is the plan by it;
+-- so is what `plan` writes
 pub use Rattle.modular_plan_passes.proofs.Tables.{exponent}
-pub use Rattle.modular_plan_transforms.proofs.PlanTables.{table_of}
+pub use Rattle.modular_plan_transforms.proofs.PlanTables.{table_of, made_table}
 -- the number at an index of a list, and the constants of a block's two halves
 pub use Rattle.modular_plan_passes.proofs.Entries.{number_at}
 pub use Rattle.modular_plan_transforms.proofs.Constants.{IsPairOfConstants, pair_of_constants}
