@@ -7,41 +7,45 @@ ghost use Rattle.modular_barrett.specs.Factors.{IsFactorOf};
 
 use modular_barrett::planned::{Factor, PlannedModulus};
 use modular_plan_passes::plan::plan;
-use modular_plan_transforms::convolution::convolve_planned;
 use modular_plan_transforms::join::join_scaled;
-use modular_plan_transforms::split::split;
-use modular_plan_transforms::transform::ntt_planned;
+use modular_plan_transforms::plan::Plan;
 use modular_prim::plain_word::PlainWord;
 use modular_word::path_word::PathWord;
 use modular_word::ring_word::RingWord;
 
 // Runs an operation n times on the lists, by its number.
 fn carried_out<T: PlainWord>(
-    m: &PlannedModulus<T>,
+    plan: &Plan<T, Factor<T>>,
     operation: u8,
     xs: &mut [T],
     ys: &mut [T],
-    table: &[Factor<T>],
     n: u64,
 )
-    requires entries_xs { All (λ x. T.number x < T.number m.now.modulus) xs.old }
-    requires entries_ys { All (λ x. T.number x < T.number m.now.modulus) ys.old }
+    requires whole { length xs.old ≡ 2 ^ plan.now.bits }
     requires equal { length ys.old ≡ length xs.old }
+    requires entries_xs { All (λ x. T.number x < T.number plan.now.modulus.modulus) xs.old }
+    requires entries_ys { All (λ x. T.number x < T.number plan.now.modulus.modulus) ys.old }
+{
+    'turns: for _ in 0..n {
+        match operation {
+            0 => (),
+            1 => plan.split(xs, 0, 1),
+            3 => plan.transform(xs),
+            _ => plan.convolve(xs, ys),
+        }
+    }
+}
+
+// Runs `join_scaled` by 1 n times, since `join` also computes the inverse of the number of blocks.
+fn joined<T: PlainWord>(m: &PlannedModulus<T>, xs: &mut [T], table: &[Factor<T>], n: u64)
+    requires entries { All (λ x. T.number x < T.number m.now.modulus) xs.old }
     requires factors { All (IsFactorOf T.base T.number (T.number m.now.modulus)) table.now }
     requires count { IsPowerOfTwo (length xs.old) }
     requires within { length xs.old ≤ 2 * length table.now }
 {
     let one = m.factor(m.residue(T::one()));
     'turns: for _ in 0..n {
-        match operation {
-            0 => (),
-            1 => split(m, xs, table, 0, 1),
-            2 => join_scaled(m, xs, table, 0, 1, &one),
-            3 => ntt_planned(m, xs, table),
-            _ => {
-                let _ = convolve_planned(m, xs, ys, table, 1);
-            }
-        }
+        join_scaled(m, xs, table, 0, 1, &one);
     }
 }
 
@@ -65,8 +69,15 @@ fn planned<T: PlainWord>(
 {
     let (m, g) = words;
     let modulus = PlannedModulus::new(m);
-    plan(&modulus, g, table);
-    carried_out(&modulus, operation, xs, ys, table, n);
+    if operation == 2 {
+        plan(&modulus, g, table);
+        joined(&modulus, xs, table, n);
+        return;
+    }
+    match Plan::new(&modulus, g, table) {
+        Some(plan) => carried_out(&plan, operation, xs, ys, n),
+        None => (),
+    }
 }
 
 // The same with a table on the stack.
@@ -97,8 +108,8 @@ fn on_the_stack<const FACTORS: usize>(
 }
 
 /// Makes the plan by g for 2^10, 2^16 or 2^20 entries on the stack, and then runs an operation n times: none for 0,
-/// `split` for 1, `join_scaled` by 1 for 2, `ntt_planned` for 3, `convolve_planned` for 4. Lists of another length
-/// are left unchanged. Conditions: m and g are those of a plan for so many entries; these are below m; the lists
+/// `split` for 1, `join_scaled` by 1 for 2, `transform` for 3, `convolve` for 4. Lists of another length are left
+/// unchanged; so they are for an even m, but by 2. Conditions: m and g are those of a plan for so many entries; these are below m; the lists
 /// have the same length.
 #[unsafe(no_mangle)]
 pub extern "C" fn bench_planned(

@@ -5,7 +5,5 @@ use Rattle.modular_bench.proofs.plans.carried_out.Given as goal
 abbrev pub invariant-turns : goal.invariant-turns
 invariant-turns g l =
     let number = g.T.RingWord.number in
-    record {
-      entries_xs : All (λ x. number x < number l.m.modulus) l.xs;
-      entries_ys : All (λ x. number x < number l.m.modulus) l.ys;
-    }
+    let m = number l.plan.modulus.modulus in
+    record { entries_xs : All (λ x. number x < m) l.xs; entries_ys : All (λ x. number x < m) l.ys }
