@@ -1,6 +1,7 @@
 pub mod Division
 pub mod InPlace
 pub mod Moved
+pub mod PlannedProducts
 pub mod SameTerms
 pub mod ShorterBack
 pub mod Wholes

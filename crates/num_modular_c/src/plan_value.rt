@@ -10,10 +10,9 @@ ghost use Rattle.num_modular_c.specs.Plans.{words_of, AreFactors, AreJoined, Are
 ghost use Rattle.num_modular_c.specs.Plans.{IsPlannedProduct, IsSplit, IsTable, IsTransformed, IsTransformedBack};
 
 use crate::codes::{NM_BAD_ARGUMENT, NM_BAD_CONTEXT, NM_NO_INVERSE, NM_NO_ROOT, NM_OK};
-use crate::planned::{is_pair, is_split};
+use crate::planned::{is_pair, is_split, product_code};
 use crate::plans::{NmFactor, nm_plan, nm_plan_fits};
 use modular_barrett::planned::{Factor, PlannedModulus};
-use modular_plan_transforms::convolution::{convolve_negacyclic, convolve_planned};
 use modular_plan_transforms::join::join_scaled;
 use modular_plan_transforms::split::split;
 use modular_plan_transforms::transform::ntt_planned;
@@ -198,17 +197,7 @@ pub extern "C" fn nm_plan_convolve(plan: &NmPlan, xs: &mut [u64], ys: &mut [u64]
     if !is_pair(plan.modulus, xs, ys, plan.table.len(), 0, 1) {
         return NM_BAD_ARGUMENT;
     }
-    if convolve_planned(
-        &PlannedModulus::<u64>::new(plan.modulus),
-        xs,
-        ys,
-        plan.table,
-        1,
-    ) {
-        NM_OK
-    } else {
-        NM_NO_INVERSE
-    }
+    product_code(plan.modulus, xs, ys, plan.table, 0, 1)
 }
 
 /// Replaces the first of two lists of n words by their product modulo X^n + 1, and the second by the result of
@@ -229,15 +218,5 @@ pub extern "C" fn nm_plan_convolve_negacyclic(plan: &NmPlan, xs: &mut [u64], ys:
     if !is_pair(plan.modulus, xs, ys, plan.table.len(), 1, 2) {
         return NM_BAD_ARGUMENT;
     }
-    if convolve_negacyclic(
-        &PlannedModulus::<u64>::new(plan.modulus),
-        xs,
-        ys,
-        plan.table,
-        2,
-    ) {
-        NM_OK
-    } else {
-        NM_NO_INVERSE
-    }
+    product_code(plan.modulus, xs, ys, plan.table, 1, 2)
 }

@@ -1,6 +1,7 @@
 //! Transforms and products of lists of words by a plan.
 
 ghost use Rattle.std.specs.Prelude.{◌≡◌, ◌-◌, ◌*◌, ◌/◌, ◌↔◌, IsTrue, length};
+ghost use Rattle.modular_plan_passes.specs.Plans.{constant};
 ghost use Rattle.modular_plan_transforms.specs.Products.{product_modulo};
 ghost use Rattle.num_modular.specs.Inverses.{HasInverse};
 ghost use Rattle.num_modular.specs.Transforms.{cyclic_product};
@@ -11,7 +12,7 @@ ghost use Rattle.num_modular_c.specs.Plans.{IsSplit, IsPair, IsPlannedProduct, I
 use crate::codes::{NM_BAD_ARGUMENT, NM_BAD_CONTEXT, NM_NO_INVERSE, NM_OK};
 use crate::plans::NmFactor;
 use modular_barrett::planned::PlannedModulus;
-use modular_plan_transforms::convolution::{convolve_negacyclic, convolve_planned, convolves};
+use modular_plan_transforms::convolution::{convolve_block, convolves};
 use modular_plan_transforms::filled::are_factors;
 use modular_plan_transforms::join::join;
 use modular_plan_transforms::split::{split, splits};
@@ -151,6 +152,29 @@ fn pair_code(m: u64, xs: &[u64], ys: &[u64], table: &[NmFactor], b: usize, last:
     }
 }
 
+// The code of a product modulo X^n - c, as block b of a plan, of lists that have been tested.
+pub(crate) fn product_code(
+    m: u64,
+    xs: &mut [u64],
+    ys: &mut [u64],
+    table: &[NmFactor],
+    b: usize,
+    last: usize,
+) -> u32
+    requires pair { IsPair m (length table.now) b last xs.old ys.old }
+    requires factors { AreFactors m table.now }
+    ensures did { let n = length xs.old in HasInverse m (n / last) → Did result (IsPlannedProduct m b last table.now
+        (λ g z e. product_modulo m n (constant g z b) (words_of xs.old) (words_of ys.old) e) ys.old xs.new ys.new) }
+    ensures no_inverse { (HasInverse m (length xs.old / last) → ⊥)
+        → BothRefused NM_NO_INVERSE result xs.old xs.new ys.old ys.new }
+{
+    if convolve_block(&PlannedModulus::<u64>::new(m), xs, ys, table, b, last) {
+        NM_OK
+    } else {
+        NM_NO_INVERSE
+    }
+}
+
 /// Replaces the first of two lists of n words by their cyclic product, and the second by the result of `nm_split`
 /// for b = 0: entry e of the product is the sum of x_i·y_j modulo m over i + j = e or e + n.
 ///
@@ -181,11 +205,7 @@ pub extern "C" fn nm_convolve_planned(
     if code != NM_OK {
         return code;
     }
-    if convolve_planned(&PlannedModulus::<u64>::new(m), xs, ys, table, last) {
-        NM_OK
-    } else {
-        NM_NO_INVERSE
-    }
+    product_code(m, xs, ys, table, 0, last)
 }
 
 /// Replaces the first of two lists of n words by their product modulo X^n + 1, and the second by the result of
@@ -215,9 +235,5 @@ pub extern "C" fn nm_convolve_negacyclic(
     if code != NM_OK {
         return code;
     }
-    if convolve_negacyclic(&PlannedModulus::<u64>::new(m), xs, ys, table, last) {
-        NM_OK
-    } else {
-        NM_NO_INVERSE
-    }
+    product_code(m, xs, ys, table, 1, last)
 }

@@ -1,5 +1,7 @@
-use Rattle.std.proofs.Common.{refl, sym, ◌∙◌}
+use Rattle.std.proofs.Common.{length, refl}
 use Rattle.std.proofs.lemmas.Bool.{false≢true}
+use Rattle.num_modular_c.specs.Plans.{words_of}
+use Rattle.num_modular_c.proofs.PlannedProducts.{as_negacyclic}
 use Rattle.num_modular_c.proofs.plan_value.nm_plan_convolve_negacyclic.Goals as goal
 
 pub returns-then-not-is_pair-clause-did : goal.returns-then-not-is_pair-clause-did
@@ -11,52 +13,20 @@ returns-then-not-is_pair-clause-no_inverse c fits none = absurd (false≢true (c
 pub returns-then-not-is_pair-clause-bad_argument : goal.returns-then-not-is_pair-clause-bad_argument
 returns-then-not-is_pair-clause-bad_argument c none = ((refl, refl), refl)
 
-pub new-requires-clause-some : goal.new-requires-clause-some
-new-requires-clause-some c = (c.if-not-is_pair.ensures.0 refl).admitted.0
+pub product_code-requires-clause-pair : goal.product_code-requires-clause-pair
+product_code-requires-clause-pair c = c.if-not-is_pair.ensures.0 refl
 
-pub new-requires-clause-room : goal.new-requires-clause-room
-new-requires-clause-room c = (c.if-not-is_pair.ensures.0 refl).admitted.1
+pub product_code-requires-clause-factors : goal.product_code-requires-clause-factors
+product_code-requires-clause-factors c = c.requires
 
-pub convolve_negacyclic-requires-clause-entries_xs : goal.convolve_negacyclic-requires-clause-entries_xs
-convolve_negacyclic-requires-clause-entries_xs c = rw c.new.ensures (c.if-not-is_pair.ensures.0 refl).room
+pub returns-clause-did : goal.returns-clause-did
+returns-clause-did c pair inverse =
+    let is = c.product_code.ensures.did inverse in
+    (is.0, as_negacyclic (length c.args.xs.now) (words_of c.args.xs.now) (words_of c.args.ys.now) pair is.1)
 
-pub convolve_negacyclic-requires-clause-entries_ys : goal.convolve_negacyclic-requires-clause-entries_ys
-convolve_negacyclic-requires-clause-entries_ys c = rw c.new.ensures (c.if-not-is_pair.ensures.0 refl).other_room
+pub returns-clause-no_inverse : goal.returns-clause-no_inverse
+returns-clause-no_inverse c pair none =
+    c.product_code.ensures.no_inverse none
 
-pub convolve_negacyclic-requires-clause-equal : goal.convolve_negacyclic-requires-clause-equal
-convolve_negacyclic-requires-clause-equal c = (c.if-not-is_pair.ensures.0 refl).equal
-
-pub convolve_negacyclic-requires-clause-factors : goal.convolve_negacyclic-requires-clause-factors
-convolve_negacyclic-requires-clause-factors c = rw c.new.ensures c.requires
-
-pub convolve_negacyclic-requires-clause-blocks : goal.convolve_negacyclic-requires-clause-blocks
-convolve_negacyclic-requires-clause-blocks c = (c.if-not-is_pair.ensures.0 refl).blocks
-
-pub returns-then-convolve_negacyclic-clause-did : goal.returns-then-convolve_negacyclic-clause-did
-returns-then-convolve_negacyclic-clause-did c pair inverse = (
-  refl,
-  record {
-    below = rw c.new.ensures at (c.convolve_negacyclic.ensures.below c.if-convolve_negacyclic.true).0;
-    product = rw c.convolve_negacyclic.auto.xs (rw c.new.ensures at (c.convolve_negacyclic.ensures.product c.if-convolve_negacyclic.true));
-    others_below = rw c.new.ensures at (c.convolve_negacyclic.ensures.below c.if-convolve_negacyclic.true).1;
-    remainders = rw pair.equal (rw c.new.ensures at (c.convolve_negacyclic.ensures.remainders c.if-convolve_negacyclic.true));
-  },
-)
-
-pub returns-then-convolve_negacyclic-clause-no_inverse : goal.returns-then-convolve_negacyclic-clause-no_inverse
-returns-then-convolve_negacyclic-clause-no_inverse c pair none = absurd (none (rw c.new.ensures at (c.convolve_negacyclic.ensures.inverse.0 c.if-convolve_negacyclic.true)))
-
-pub returns-then-convolve_negacyclic-clause-bad_argument : goal.returns-then-convolve_negacyclic-clause-bad_argument
-returns-then-convolve_negacyclic-clause-bad_argument c none = absurd (none (c.if-not-is_pair.ensures.0 refl))
-
-pub returns-else-convolve_negacyclic-clause-did : goal.returns-else-convolve_negacyclic-clause-did
-returns-else-convolve_negacyclic-clause-did c pair inverse =
-    absurd (false≢true (sym c.if-convolve_negacyclic.false ∙ c.convolve_negacyclic.ensures.inverse.1 (rw c.new.ensures inverse)))
-
-pub returns-else-convolve_negacyclic-clause-no_inverse : goal.returns-else-convolve_negacyclic-clause-no_inverse
-returns-else-convolve_negacyclic-clause-no_inverse c pair none =
-    let kept = c.convolve_negacyclic.ensures.unchanged (λ t. false≢true (sym c.if-convolve_negacyclic.false ∙ t)) in
-    ((refl, kept.0), kept.1)
-
-pub returns-else-convolve_negacyclic-clause-bad_argument : goal.returns-else-convolve_negacyclic-clause-bad_argument
-returns-else-convolve_negacyclic-clause-bad_argument c none = absurd (none (c.if-not-is_pair.ensures.0 refl))
+pub returns-clause-bad_argument : goal.returns-clause-bad_argument
+returns-clause-bad_argument c none = absurd (none (c.if-not-is_pair.ensures.0 refl))

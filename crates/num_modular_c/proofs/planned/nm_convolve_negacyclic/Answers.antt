@@ -1,5 +1,6 @@
-use Rattle.std.proofs.Common.{refl, sym, ◌∙◌}
-use Rattle.std.proofs.lemmas.Bool.{false≢true}
+use Rattle.std.proofs.Common.{length, refl}
+use Rattle.num_modular_c.specs.Plans.{words_of}
+use Rattle.num_modular_c.proofs.PlannedProducts.{as_negacyclic}
 use Rattle.num_modular_c.proofs.planned.nm_convolve_negacyclic.Goals as goal
 
 pub returns-then-code-ne-NM_OK-clause-did : goal.returns-then-code-ne-NM_OK-clause-did
@@ -14,58 +15,22 @@ returns-then-code-ne-NM_OK-clause-bad_context c = λ pair none. ((c.pair_code-co
 pub returns-then-code-ne-NM_OK-clause-bad_argument : goal.returns-then-code-ne-NM_OK-clause-bad_argument
 returns-then-code-ne-NM_OK-clause-bad_argument c = λ none. ((c.pair_code-code.ensures.bad_argument none, refl), refl)
 
-pub new-requires-clause-some : goal.new-requires-clause-some
-new-requires-clause-some c = (c.pair_code-code.ensures.fits.0 c.if-code-ne-NM_OK.false).0.admitted.0
+pub product_code-requires-clause-pair : goal.product_code-requires-clause-pair
+product_code-requires-clause-pair c = (c.pair_code-code.ensures.fits.0 c.if-code-ne-NM_OK.false).0
 
-pub new-requires-clause-room : goal.new-requires-clause-room
-new-requires-clause-room c = (c.pair_code-code.ensures.fits.0 c.if-code-ne-NM_OK.false).0.admitted.1
+pub product_code-requires-clause-factors : goal.product_code-requires-clause-factors
+product_code-requires-clause-factors c = (c.pair_code-code.ensures.fits.0 c.if-code-ne-NM_OK.false).1
 
-pub convolve_negacyclic-requires-clause-entries_xs : goal.convolve_negacyclic-requires-clause-entries_xs
-convolve_negacyclic-requires-clause-entries_xs c = rw c.new.ensures (c.pair_code-code.ensures.fits.0 c.if-code-ne-NM_OK.false).0.room
+pub returns-clause-did : goal.returns-clause-did
+returns-clause-did c pair factors inverse =
+    let is = c.product_code.ensures.did inverse in
+    (is.0, as_negacyclic (length c.args.xs.now) (words_of c.args.xs.now) (words_of c.args.ys.now) pair is.1)
 
-pub convolve_negacyclic-requires-clause-entries_ys : goal.convolve_negacyclic-requires-clause-entries_ys
-convolve_negacyclic-requires-clause-entries_ys c = rw c.new.ensures (c.pair_code-code.ensures.fits.0 c.if-code-ne-NM_OK.false).0.other_room
+pub returns-clause-no_inverse : goal.returns-clause-no_inverse
+returns-clause-no_inverse c pair factors none = c.product_code.ensures.no_inverse none
 
-pub convolve_negacyclic-requires-clause-equal : goal.convolve_negacyclic-requires-clause-equal
-convolve_negacyclic-requires-clause-equal c = (c.pair_code-code.ensures.fits.0 c.if-code-ne-NM_OK.false).0.equal
+pub returns-clause-bad_context : goal.returns-clause-bad_context
+returns-clause-bad_context c pair none = absurd (none (c.pair_code-code.ensures.fits.0 c.if-code-ne-NM_OK.false).1)
 
-pub convolve_negacyclic-requires-clause-factors : goal.convolve_negacyclic-requires-clause-factors
-convolve_negacyclic-requires-clause-factors c = rw c.new.ensures (c.pair_code-code.ensures.fits.0 c.if-code-ne-NM_OK.false).1
-
-pub convolve_negacyclic-requires-clause-blocks : goal.convolve_negacyclic-requires-clause-blocks
-convolve_negacyclic-requires-clause-blocks c = (c.pair_code-code.ensures.fits.0 c.if-code-ne-NM_OK.false).0.blocks
-
-pub returns-then-convolve_negacyclic-clause-bad_context : goal.returns-then-convolve_negacyclic-clause-bad_context
-returns-then-convolve_negacyclic-clause-bad_context c = λ pair none. absurd (none (c.pair_code-code.ensures.fits.0 c.if-code-ne-NM_OK.false).1)
-
-pub returns-then-convolve_negacyclic-clause-bad_argument : goal.returns-then-convolve_negacyclic-clause-bad_argument
-returns-then-convolve_negacyclic-clause-bad_argument c = λ none. absurd (none (c.pair_code-code.ensures.fits.0 c.if-code-ne-NM_OK.false).0)
-
-pub returns-else-convolve_negacyclic-clause-bad_context : goal.returns-else-convolve_negacyclic-clause-bad_context
-returns-else-convolve_negacyclic-clause-bad_context c = λ pair none. absurd (none (c.pair_code-code.ensures.fits.0 c.if-code-ne-NM_OK.false).1)
-
-pub returns-else-convolve_negacyclic-clause-bad_argument : goal.returns-else-convolve_negacyclic-clause-bad_argument
-returns-else-convolve_negacyclic-clause-bad_argument c = λ none. absurd (none (c.pair_code-code.ensures.fits.0 c.if-code-ne-NM_OK.false).0)
-
-pub returns-then-convolve_negacyclic-clause-did : goal.returns-then-convolve_negacyclic-clause-did
-returns-then-convolve_negacyclic-clause-did c pair factors inverse = (
-  refl,
-  record {
-    below = rw c.new.ensures at (c.convolve_negacyclic.ensures.below c.if-convolve_negacyclic.true).0;
-    product = rw c.convolve_negacyclic.auto.xs (rw c.new.ensures at (c.convolve_negacyclic.ensures.product c.if-convolve_negacyclic.true));
-    others_below = rw c.new.ensures at (c.convolve_negacyclic.ensures.below c.if-convolve_negacyclic.true).1;
-    remainders = rw pair.equal (rw c.new.ensures at (c.convolve_negacyclic.ensures.remainders c.if-convolve_negacyclic.true));
-  },
-)
-
-pub returns-then-convolve_negacyclic-clause-no_inverse : goal.returns-then-convolve_negacyclic-clause-no_inverse
-returns-then-convolve_negacyclic-clause-no_inverse c pair factors none = absurd (none (rw c.new.ensures at (c.convolve_negacyclic.ensures.inverse.0 c.if-convolve_negacyclic.true)))
-
-pub returns-else-convolve_negacyclic-clause-did : goal.returns-else-convolve_negacyclic-clause-did
-returns-else-convolve_negacyclic-clause-did c pair factors inverse =
-    absurd (false≢true (sym c.if-convolve_negacyclic.false ∙ c.convolve_negacyclic.ensures.inverse.1 (rw c.new.ensures inverse)))
-
-pub returns-else-convolve_negacyclic-clause-no_inverse : goal.returns-else-convolve_negacyclic-clause-no_inverse
-returns-else-convolve_negacyclic-clause-no_inverse c pair factors none =
-    let kept = c.convolve_negacyclic.ensures.unchanged (λ t. false≢true (sym c.if-convolve_negacyclic.false ∙ t)) in
-    ((refl, kept.0), kept.1)
+pub returns-clause-bad_argument : goal.returns-clause-bad_argument
+returns-clause-bad_argument c none = absurd (none (c.pair_code-code.ensures.fits.0 c.if-code-ne-NM_OK.false).0)

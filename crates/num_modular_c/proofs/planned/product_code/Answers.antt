@@ -1,0 +1,50 @@
+use Rattle.std.proofs.Common.{refl, sym, ◌∙◌}
+use Rattle.std.proofs.lemmas.Bool.{false≢true}
+use Rattle.num_modular_c.proofs.planned.product_code.Goals as goal
+
+pub new-requires-clause-some : goal.new-requires-clause-some
+new-requires-clause-some c = c.requires.pair.admitted.0
+
+pub new-requires-clause-room : goal.new-requires-clause-room
+new-requires-clause-room c = c.requires.pair.admitted.1
+
+pub convolve_block-requires-clause-entries_xs : goal.convolve_block-requires-clause-entries_xs
+convolve_block-requires-clause-entries_xs c = rw c.new.ensures c.requires.pair.room
+
+pub convolve_block-requires-clause-entries_ys : goal.convolve_block-requires-clause-entries_ys
+convolve_block-requires-clause-entries_ys c = rw c.new.ensures c.requires.pair.other_room
+
+pub convolve_block-requires-clause-equal : goal.convolve_block-requires-clause-equal
+convolve_block-requires-clause-equal c = c.requires.pair.equal
+
+pub convolve_block-requires-clause-factors : goal.convolve_block-requires-clause-factors
+convolve_block-requires-clause-factors c = rw c.new.ensures c.requires.factors
+
+pub convolve_block-requires-clause-blocks : goal.convolve_block-requires-clause-blocks
+convolve_block-requires-clause-blocks c = c.requires.pair.blocks
+
+pub returns-then-convolve_block-clause-did : goal.returns-then-convolve_block-clause-did
+returns-then-convolve_block-clause-did c inverse =
+    let done = c.convolve_block.ensures in
+    let is = c.if-convolve_block.true in (
+      refl,
+      record {
+        below = rw c.new.ensures at (done.below is).0;
+        product = rw c.convolve_block.auto.xs (rw c.new.ensures at (done.product is));
+        others_below = rw c.new.ensures at (done.below is).1;
+        remainders = rw c.requires.pair.equal (rw c.new.ensures at (done.remainders is));
+      },
+    )
+
+pub returns-then-convolve_block-clause-no_inverse : goal.returns-then-convolve_block-clause-no_inverse
+returns-then-convolve_block-clause-no_inverse c none =
+    absurd (none (rw c.new.ensures at (c.convolve_block.ensures.inverse.0 c.if-convolve_block.true)))
+
+pub returns-else-convolve_block-clause-did : goal.returns-else-convolve_block-clause-did
+returns-else-convolve_block-clause-did c inverse =
+    absurd (false≢true (sym c.if-convolve_block.false ∙ c.convolve_block.ensures.inverse.1 (rw c.new.ensures inverse)))
+
+pub returns-else-convolve_block-clause-no_inverse : goal.returns-else-convolve_block-clause-no_inverse
+returns-else-convolve_block-clause-no_inverse c none =
+    let kept = c.convolve_block.ensures.unchanged (λ t. false≢true (sym c.if-convolve_block.false ∙ t)) in
+    ((refl, kept.0), kept.1)
