@@ -23,6 +23,9 @@ pub const NM_DIV: u32 = 8;
 /// Writes the power of a to the exponent n.
 pub const NM_POW: u32 = 9;
 
+// The number of operations.
+const OPERATIONS: u32 = NM_POW + 1;
+
 /// A command on registers, each given by its index. Fields that an operation doesn't use may have any value.
 #[repr(C)]
 #[derive(Clone, Copy)]
@@ -61,7 +64,7 @@ impl AsCommand<u64> for NmCommand {
 // Whether the command has an operation, and register numbers below `count`.
 #[inline]
 fn is_admitted(c: &NmCommand, count: usize) -> bool {
-    c.operation < 10 && commands_fit(&[c.command()], count)
+    c.operation < OPERATIONS && commands_fit(&[c.command()], count)
 }
 
 // Whether each command has an operation, and register numbers below `count`.

@@ -1,10 +1,9 @@
 //! A plan as one value. Its calls don't test the table, which C mustn't have changed.
 
 use crate::num_modular_c::codes::{NM_BAD_ARGUMENT, NM_NO_INVERSE, NM_OK};
-use crate::num_modular_c::planned::{is_pair, is_split};
+use crate::num_modular_c::planned::{is_pair, is_split, product_code};
 use crate::num_modular_c::plans::{NmFactor, nm_plan, nm_plan_fits};
 use crate::modular_barrett::planned::{Factor, PlannedModulus};
-use crate::modular_plan_transforms::convolution::{convolve_negacyclic, convolve_planned};
 use crate::modular_plan_transforms::join::join_scaled;
 use crate::modular_plan_transforms::split::split;
 use crate::modular_plan_transforms::transform::ntt_planned;
@@ -146,21 +145,12 @@ pub fn nm_plan_join(plan: &NmPlan, xs: &mut [u64], b: usize, last: usize) -> u32
 ///
 /// That of `nm_plan_transform`. This isn't tested: outside it the call panics, or returns no meaningful
 /// result.
+#[inline]
 pub fn nm_plan_convolve(plan: &NmPlan, xs: &mut [u64], ys: &mut [u64]) -> u32 {
     if !is_pair(plan.modulus, xs, ys, plan.table.len(), 0, 1) {
         return NM_BAD_ARGUMENT;
     }
-    if convolve_planned(
-        &PlannedModulus::<u64>::new(plan.modulus),
-        xs,
-        ys,
-        plan.table,
-        1,
-    ) {
-        NM_OK
-    } else {
-        NM_NO_INVERSE
-    }
+    product_code(plan.modulus, xs, ys, plan.table, 0, 1)
 }
 
 /// Replaces the first of two lists of n words by their product modulo X^n + 1, and the second by the result of
@@ -171,19 +161,10 @@ pub fn nm_plan_convolve(plan: &NmPlan, xs: &mut [u64], ys: &mut [u64]) -> u32 {
 ///
 /// That of `nm_plan_transform`. This isn't tested: outside it the call panics, or returns no meaningful
 /// result.
+#[inline]
 pub fn nm_plan_convolve_negacyclic(plan: &NmPlan, xs: &mut [u64], ys: &mut [u64]) -> u32 {
     if !is_pair(plan.modulus, xs, ys, plan.table.len(), 1, 2) {
         return NM_BAD_ARGUMENT;
     }
-    if convolve_negacyclic(
-        &PlannedModulus::<u64>::new(plan.modulus),
-        xs,
-        ys,
-        plan.table,
-        2,
-    ) {
-        NM_OK
-    } else {
-        NM_NO_INVERSE
-    }
+    product_code(plan.modulus, xs, ys, plan.table, 1, 2)
 }

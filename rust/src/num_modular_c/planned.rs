@@ -3,7 +3,7 @@
 use crate::num_modular_c::codes::{NM_BAD_ARGUMENT, NM_BAD_CONTEXT, NM_NO_INVERSE, NM_OK};
 use crate::num_modular_c::plans::NmFactor;
 use crate::modular_barrett::planned::PlannedModulus;
-use crate::modular_plan_transforms::convolution::{convolve_negacyclic, convolve_planned, convolves};
+use crate::modular_plan_transforms::convolution::{convolve_block, convolves};
 use crate::modular_plan_transforms::filled::are_factors;
 use crate::modular_plan_transforms::join::join;
 use crate::modular_plan_transforms::split::{split, splits};
@@ -108,6 +108,23 @@ fn pair_code(m: u64, xs: &[u64], ys: &[u64], table: &[NmFactor], b: usize, last:
     }
 }
 
+// The code of a product modulo X^n - c, as block b of a plan, of lists that have been tested.
+#[inline]
+pub(crate) fn product_code(
+    m: u64,
+    xs: &mut [u64],
+    ys: &mut [u64],
+    table: &[NmFactor],
+    b: usize,
+    last: usize,
+) -> u32 {
+    if convolve_block(&PlannedModulus::<u64>::new(m), xs, ys, table, b, last) {
+        NM_OK
+    } else {
+        NM_NO_INVERSE
+    }
+}
+
 /// Replaces the first of two lists of n words by their cyclic product, and the second by the result of `nm_split`
 /// for b = 0: entry e of the product is the sum of x_i·y_j modulo m over i + j = e or e + n.
 ///
@@ -126,11 +143,7 @@ pub fn nm_convolve_planned(
     if code != NM_OK {
         return code;
     }
-    if convolve_planned(&PlannedModulus::<u64>::new(m), xs, ys, table, last) {
-        NM_OK
-    } else {
-        NM_NO_INVERSE
-    }
+    product_code(m, xs, ys, table, 0, last)
 }
 
 /// Replaces the first of two lists of n words by their product modulo X^n + 1, and the second by the result of
@@ -148,9 +161,5 @@ pub fn nm_convolve_negacyclic(
     if code != NM_OK {
         return code;
     }
-    if convolve_negacyclic(&PlannedModulus::<u64>::new(m), xs, ys, table, last) {
-        NM_OK
-    } else {
-        NM_NO_INVERSE
-    }
+    product_code(m, xs, ys, table, 1, last)
 }

@@ -1,7 +1,7 @@
 //! Products of digits of 64 bits, by rows and by transforms, and slices that are too short.
 
 use super::assert_at;
-use crate::applications::long_product::{Plans, fill_plans, product, product_planned, room};
+use crate::applications::long_product::{Plans, are_plan_lengths, fill_plans, product, product_planned, room};
 use crate::plans::{Factor, PlanEntry};
 
 const NONE: Factor<u64> = Factor {
@@ -164,6 +164,50 @@ fn plans_at_hand() {
     let mut second = [NONE; 1024];
     let mut third = [NONE; 1024];
     check!(&rt, 1; have_checksums_by_plans(&mut first, &mut second, &mut third));
+}
+
+// Fills three tables. Returns false, with the tables unchanged, exactly where they don't have the lengths for plans.
+fn fills<F: PlanEntry<u64>>(first: &mut [F], second: &mut [F], third: &mut [F]) -> bool {
+    if !are_plan_lengths(first.len(), second.len(), third.len()) {
+        return false;
+    }
+    match fill_plans(first, second, third) {
+        Some(_) => true,
+        None => false,
+    }
+}
+
+// The lengths of three tables, and whether they can hold plans.
+const LENGTHS: &[(usize, usize, usize, bool)] = &[
+    (0, 0, 0, false),
+    (1, 1, 1, true),
+    (3, 3, 3, false),
+    (4, 4, 4, true),
+    (4, 2, 4, false),
+    (4, 4, 2, false),
+    (2147483648, 2147483648, 2147483648, true),
+    (4294967296, 4294967296, 4294967296, false),
+];
+
+#[test]
+fn lengths_of_plans() {
+    let rt = crate::runtime::HostRuntime;
+    for row in LENGTHS {
+        let &(first, second, third, suit) = row;
+        assert_at(&rt, are_plan_lengths(first, second, third) == suit, row);
+    }
+}
+
+#[test]
+fn refused_tables() {
+    let rt = crate::runtime::HostRuntime;
+    let mut first = [NONE; 4];
+    let mut second = [NONE; 4];
+    let mut third = [NONE; 4];
+    check!(&rt, 1; !fills(&mut first, &mut second, &mut third[..2]));
+    check!(&rt, 2; first[0] == NONE && second[0] == NONE && third[0] == NONE);
+    check!(&rt, 3; fills(&mut first, &mut second, &mut third));
+    check!(&rt, 4; first[0].value == 1 && second[0].value == 1 && third[0].value == 1);
 }
 
 // The numbers of digits of the factors, of words, and of factors of each table.
