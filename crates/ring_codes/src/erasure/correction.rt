@@ -10,7 +10,7 @@ ghost use Rattle.ring_codes.specs.Erasure.{IsEncoding, ArePlaces, IsFault, dista
 ghost use Rattle.ring_codes.specs.KeyEquations.{IsWithoutInverse};
 
 use super::key_equation::solve;
-use super::quotients::divide_pair;
+use super::quotients::divide_lighter;
 use super::{RestoreError, choose, encode, points_fit};
 use num_modular::{Reducer, RingWord};
 
@@ -142,33 +142,20 @@ fn decode<T: RingWord, R: Reducer<T>>(
         second_locator,
     ) {
         Err(a) => Err(a),
-        Ok((first, second)) => {
-            if first <= second {
-                divide_pair(
-                    r,
-                    points,
-                    count,
-                    first_numerator,
-                    first_locator,
-                    chosen,
-                    values,
-                    weights,
-                    message,
-                )
-            } else {
-                divide_pair(
-                    r,
-                    points,
-                    count,
-                    second_numerator,
-                    second_locator,
-                    chosen,
-                    values,
-                    weights,
-                    message,
-                )
-            }
-        }
+        Ok(found) => divide_lighter(
+            r,
+            points,
+            count,
+            found,
+            first_numerator,
+            first_locator,
+            second_numerator,
+            second_locator,
+            chosen,
+            values,
+            weights,
+            message,
+        ),
     }
 }
 

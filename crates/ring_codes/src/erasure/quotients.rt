@@ -8,7 +8,7 @@ ghost use Rattle.num_modular.specs.Forms.{IsForm};
 ghost use Rattle.num_modular.specs.Inverses.{HasInverse};
 ghost use Rattle.num_modular.specs.Polynomials.{polynomial, HaveUnitDifferences};
 ghost use Rattle.ring_codes.specs.Erasure.{distance};
-ghost use Rattle.ring_codes.specs.KeyEquations.{IsKeyPair, AreQuotients, IsQuotient, IsWithoutInverse};
+ghost use Rattle.ring_codes.specs.KeyEquations.{IsKeyPair, AreKeyPairs, AreQuotients, IsQuotient, IsWithoutInverse};
 
 use super::{evaluate, interpolate};
 use num_modular::{Reducer, RingWord};
@@ -138,5 +138,75 @@ pub fn divide_pair<T: RingWord, R: Reducer<T>>(
         Err(a) => Err(a),
         Ok(false) => Ok(false),
         Ok(true) => Ok(interpolate(r, chosen, values, weights, message)),
+    }
+}
+
+/// Writes the message whose values are the quotients of the lighter of two pairs, given their weights. It is the only
+/// message that can have a near word; returns false where there is none. Conditions: those of `divide_pair`, for both
+/// pairs.
+pub fn divide_lighter<T: RingWord, R: Reducer<T>>(
+    r: &R,
+    points: &[T],
+    count: usize,
+    pair_weights: (usize, usize),
+    first_numerator: &[T],
+    first_locator: &[T],
+    second_numerator: &[T],
+    second_locator: &[T],
+    chosen: &mut [T],
+    values: &mut [T],
+    weights: &mut [T],
+    message: &mut [T],
+) -> Result<bool, T>
+    requires points { All (λ f. IsForm R.form R.value (R.modulus r.now) (T.number f)) points.now }
+    requires first_numerator { All (λ f. IsForm R.form R.value (R.modulus r.now) (T.number f)) first_numerator.now }
+    requires first_locator { All (λ f. IsForm R.form R.value (R.modulus r.now) (T.number f)) first_locator.now }
+    requires second_numerator { All (λ f. IsForm R.form R.value (R.modulus r.now) (T.number f)) second_numerator.now }
+    requires second_locator { All (λ f. IsForm R.form R.value (R.modulus r.now) (T.number f)) second_locator.now }
+    requires within { count ≤ length points.now }
+    requires some { 0 < length message.old }
+    requires few { length message.old ≤ count }
+    requires chosen { length chosen.old ≡ length message.old }
+    requires values { length values.old ≡ length message.old }
+    requires weights { length weights.old ≡ length message.old }
+    requires fit { let m = R.modulus r.now in HaveUnitDifferences m count (entry T.number R.value m points.now) }
+    ensures inverse { IfErr result (λ a. IsWithoutInverse (R.modulus r.now) (T.number a)) }
+    ensures checked { IfOk result (λ b. IsTrue b →
+        All (λ f. IsForm R.form R.value (R.modulus r.now) (T.number f)) message.new) }
+    ensures message { let m = R.modulus r.now in
+        let k = length message.old in let x = entry T.number R.value m points.now in
+        IfOk result (λ b. (c d : ℕ) (y sent : ℕ → ℕ) → length first_numerator.now ≡ c → length first_locator.now ≡ d →
+        length second_numerator.now ≡ c → length second_locator.now ≡ d → 1 ≤ d → d + k ≡ c + 1 → c ≤ count →
+        pair_weights.0 + pair_weights.1 < 2 * c →
+        AreKeyPairs m k c d count pair_weights.0 pair_weights.1 x y
+        (entry T.number R.value m first_numerator.now) (entry T.number R.value m first_locator.now)
+        (entry T.number R.value m second_numerator.now) (entry T.number R.value m second_locator.now) →
+        distance count y (λ j. polynomial k sent (x j) % m) + c ≤ count →
+        IsTrue b × ((i : ℕ) → i < k → entry T.number R.value m message.new i ≡ sent i % m)) }
+{
+    if pair_weights.0 <= pair_weights.1 {
+        divide_pair(
+            r,
+            points,
+            count,
+            first_numerator,
+            first_locator,
+            chosen,
+            values,
+            weights,
+            message,
+        )
+    } else {
+        divide_pair(
+            r,
+            points,
+            count,
+            second_numerator,
+            second_locator,
+            chosen,
+            values,
+            weights,
+            message,
+        )
     }
 }

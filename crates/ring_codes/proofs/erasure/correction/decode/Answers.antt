@@ -8,45 +8,26 @@ use Rattle.num_modular.specs.Callers.{sym, refl}
 use Rattle.ring_codes.proofs.Counts.{fit_front}
 use Rattle.ring_codes.proofs.erasure.correction.decode.Goals as goal
 
-pub returns-then-first-second-clause-message : goal.returns-then-first-second-clause-message
-returns-then-first-second-clause-message g c =
+pub returns-in-Ok-clause-message : goal.returns-in-Ok-clause-message
+returns-in-Ok-clause-message g c =
     let ring = g.R.Reducer in let m = ring.modulus c.args.r.now in let number = g.T.RingWord.number in
     let s = length c.args.points.now in let k = length c.args.message.now in let half : ℕ = (s - k) / 2 in
     let cn : ℕ = half + k in let d : ℕ = half + 1 in let count : ℕ = k + 2 * half in
     let x = entry number ring.value m c.args.points.now in let y = entry number ring.value m c.args.symbols.now in
     let parts = half_of (s - k) in let low = parts.0 in let high = parts.1 in
-    let weights = c.in-Ok.ensures.weights in let less = c.if-first-second.true in
-    let few = c.requires.few in let some = c.requires.some in
-    let room : 2 * c.in-Ok.first < 2 * cn = omega (arith, weights, less) in
+    let weights = c.in-Ok.ensures.weights in
+    let few = c.requires.few in
     let within : count ≤ s = omega (arith, few, low) in
     let pairs = c.in-Ok.ensures.pairs cn d c.split_at_mut-first_numerator.ensures.front_len c.split_at_mut-first_locator.ensures.front_len in
-    ok_then c.divide_pair.result _ _
+    ok_then c.divide_lighter.result _ _
     (λ b h sent near.
     let front = distance_front count s y (λ j. polynomial k sent (x j) % m) within in
-    h cn d (2 * c.in-Ok.first) y sent (c.solve.auto.first_numerator ∙ c.split_at_mut-first_numerator.ensures.front_len)
-    (c.solve.auto.first_locator ∙ c.split_at_mut-first_locator.ensures.front_len) (omega arith) (omega arith) (omega arith) room
-    (pairs.first room) (omega (arith, near, front, high)))
-    c.divide_pair.ensures.message
-
-pub returns-else-first-second-clause-message : goal.returns-else-first-second-clause-message
-returns-else-first-second-clause-message g c =
-    let ring = g.R.Reducer in let m = ring.modulus c.args.r.now in let number = g.T.RingWord.number in
-    let s = length c.args.points.now in let k = length c.args.message.now in let half : ℕ = (s - k) / 2 in
-    let cn : ℕ = half + k in let d : ℕ = half + 1 in let count : ℕ = k + 2 * half in
-    let x = entry number ring.value m c.args.points.now in let y = entry number ring.value m c.args.symbols.now in
-    let parts = half_of (s - k) in let low = parts.0 in let high = parts.1 in
-    let weights = c.in-Ok.ensures.weights in let less = c.if-first-second.false in
-    let few = c.requires.few in let some = c.requires.some in
-    let room : 2 * c.in-Ok.second + 1 < 2 * cn = omega (arith, weights, less) in
-    let within : count ≤ s = omega (arith, few, low) in
-    let pairs = c.in-Ok.ensures.pairs cn d c.split_at_mut-first_numerator.ensures.front_len c.split_at_mut-first_locator.ensures.front_len in
-    ok_then c.divide_pair-else-first-second.result _ _
-    (λ b h sent near.
-    let front = distance_front count s y (λ j. polynomial k sent (x j) % m) within in
-    h cn d (2 * c.in-Ok.second + 1) y sent (c.solve.auto.second_numerator ∙ c.split_at_mut-second_numerator.ensures.front_len)
-    (c.solve.auto.second_locator ∙ c.split_at_mut-second_locator.ensures.front_len) (omega arith) (omega arith) (omega arith) room
-    (pairs.second room) (omega (arith, near, front, high)))
-    c.divide_pair-else-first-second.ensures.message
+    h cn d y sent (c.solve.auto.first_numerator ∙ c.split_at_mut-first_numerator.ensures.front_len)
+    (c.solve.auto.first_locator ∙ c.split_at_mut-first_locator.ensures.front_len)
+    (c.solve.auto.second_numerator ∙ c.split_at_mut-second_numerator.ensures.front_len)
+    (c.solve.auto.second_locator ∙ c.split_at_mut-second_locator.ensures.front_len)
+    (omega arith) (omega arith) (omega arith) (omega (arith, weights)) pairs (omega (arith, near, front, high)))
+    c.divide_lighter.ensures.message
 
 pub overflow_sub-half : goal.overflow_sub-half
 overflow_sub-half g c = c.requires.few
@@ -105,17 +86,11 @@ solve-requires-clause-lengths g c = omega arith
 pub solve-requires-clause-few : goal.solve-requires-clause-few
 solve-requires-clause-few g c = omega arith
 
-pub divide_pair-requires-clause-within : goal.divide_pair-requires-clause-within
-divide_pair-requires-clause-within g c = omega arith
+pub divide_lighter-requires-clause-within : goal.divide_lighter-requires-clause-within
+divide_lighter-requires-clause-within g c = omega arith
 
-pub divide_pair-requires-clause-few : goal.divide_pair-requires-clause-few
-divide_pair-requires-clause-few g c = omega arith
-
-pub divide_pair-requires-else-first-second-clause-within : goal.divide_pair-requires-else-first-second-clause-within
-divide_pair-requires-else-first-second-clause-within g c = omega arith
-
-pub divide_pair-requires-else-first-second-clause-few : goal.divide_pair-requires-else-first-second-clause-few
-divide_pair-requires-else-first-second-clause-few g c = omega arith
+pub divide_lighter-requires-clause-few : goal.divide_lighter-requires-clause-few
+divide_lighter-requires-clause-few g c = omega arith
 
 pub solve-requires-clause-points : goal.solve-requires-clause-points
 solve-requires-clause-points g c = c.requires.points
@@ -132,52 +107,32 @@ solve-requires-clause-numerators g c = c.split_at_mut-first_numerator.ensures.fr
 pub solve-requires-clause-locators : goal.solve-requires-clause-locators
 solve-requires-clause-locators g c = c.split_at_mut-first_locator.ensures.front_len ∙ sym c.split_at_mut-second_locator.ensures.front_len
 
-pub divide_pair-requires-clause-points : goal.divide_pair-requires-clause-points
-divide_pair-requires-clause-points g c = c.requires.points
+pub divide_lighter-requires-clause-points : goal.divide_lighter-requires-clause-points
+divide_lighter-requires-clause-points g c = c.requires.points
 
-pub divide_pair-requires-clause-numerator : goal.divide_pair-requires-clause-numerator
-divide_pair-requires-clause-numerator g c = c.in-Ok.ensures.checked_first_numerator refl
+pub divide_lighter-requires-clause-first_numerator : goal.divide_lighter-requires-clause-first_numerator
+divide_lighter-requires-clause-first_numerator g c = c.in-Ok.ensures.checked_first_numerator refl
 
-pub divide_pair-requires-clause-locator : goal.divide_pair-requires-clause-locator
-divide_pair-requires-clause-locator g c = c.in-Ok.ensures.checked_first_locator refl
+pub divide_lighter-requires-clause-second_numerator : goal.divide_lighter-requires-clause-second_numerator
+divide_lighter-requires-clause-second_numerator g c = c.in-Ok.ensures.checked_second_numerator refl
 
-pub divide_pair-requires-clause-some : goal.divide_pair-requires-clause-some
-divide_pair-requires-clause-some g c = c.requires.some
+pub divide_lighter-requires-clause-first_locator : goal.divide_lighter-requires-clause-first_locator
+divide_lighter-requires-clause-first_locator g c = c.in-Ok.ensures.checked_first_locator refl
 
-pub divide_pair-requires-clause-chosen : goal.divide_pair-requires-clause-chosen
-divide_pair-requires-clause-chosen g c = c.split_at_mut-chosen.ensures.front_len
+pub divide_lighter-requires-clause-second_locator : goal.divide_lighter-requires-clause-second_locator
+divide_lighter-requires-clause-second_locator g c = c.in-Ok.ensures.checked_second_locator refl
 
-pub divide_pair-requires-clause-values : goal.divide_pair-requires-clause-values
-divide_pair-requires-clause-values g c = c.split_at_mut-values.ensures.front_len
+pub divide_lighter-requires-clause-some : goal.divide_lighter-requires-clause-some
+divide_lighter-requires-clause-some g c = c.requires.some
 
-pub divide_pair-requires-clause-fit : goal.divide_pair-requires-clause-fit
-divide_pair-requires-clause-fit g c =
-    let s = length c.args.points.now in let k = length c.args.message.now in let half : ℕ = (s - k) / 2 in
-    let count : ℕ = k + 2 * half in
-    let low = (half_of (s - k)).0 in let few = c.requires.few in
-    let within : count ≤ s = omega (arith, few, low) in
-    fit_front _ s count _ within c.requires.fit
+pub divide_lighter-requires-clause-chosen : goal.divide_lighter-requires-clause-chosen
+divide_lighter-requires-clause-chosen g c = c.split_at_mut-chosen.ensures.front_len
 
-pub divide_pair-requires-else-first-second-clause-points : goal.divide_pair-requires-else-first-second-clause-points
-divide_pair-requires-else-first-second-clause-points g c = c.requires.points
+pub divide_lighter-requires-clause-values : goal.divide_lighter-requires-clause-values
+divide_lighter-requires-clause-values g c = c.split_at_mut-values.ensures.front_len
 
-pub divide_pair-requires-else-first-second-clause-numerator : goal.divide_pair-requires-else-first-second-clause-numerator
-divide_pair-requires-else-first-second-clause-numerator g c = c.in-Ok.ensures.checked_second_numerator refl
-
-pub divide_pair-requires-else-first-second-clause-locator : goal.divide_pair-requires-else-first-second-clause-locator
-divide_pair-requires-else-first-second-clause-locator g c = c.in-Ok.ensures.checked_second_locator refl
-
-pub divide_pair-requires-else-first-second-clause-some : goal.divide_pair-requires-else-first-second-clause-some
-divide_pair-requires-else-first-second-clause-some g c = c.requires.some
-
-pub divide_pair-requires-else-first-second-clause-chosen : goal.divide_pair-requires-else-first-second-clause-chosen
-divide_pair-requires-else-first-second-clause-chosen g c = c.split_at_mut-chosen.ensures.front_len
-
-pub divide_pair-requires-else-first-second-clause-values : goal.divide_pair-requires-else-first-second-clause-values
-divide_pair-requires-else-first-second-clause-values g c = c.split_at_mut-values.ensures.front_len
-
-pub divide_pair-requires-else-first-second-clause-fit : goal.divide_pair-requires-else-first-second-clause-fit
-divide_pair-requires-else-first-second-clause-fit g c =
+pub divide_lighter-requires-clause-fit : goal.divide_lighter-requires-clause-fit
+divide_lighter-requires-clause-fit g c =
     let s = length c.args.points.now in let k = length c.args.message.now in let half : ℕ = (s - k) / 2 in
     let count : ℕ = k + 2 * half in
     let low = (half_of (s - k)).0 in let few = c.requires.few in
@@ -193,14 +148,8 @@ returns-in-Err-clause-checked g c = tt
 pub returns-in-Err-clause-message : goal.returns-in-Err-clause-message
 returns-in-Err-clause-message g c = tt
 
-pub returns-then-first-second-clause-inverse : goal.returns-then-first-second-clause-inverse
-returns-then-first-second-clause-inverse g c = c.divide_pair.ensures.inverse
+pub returns-in-Ok-clause-inverse : goal.returns-in-Ok-clause-inverse
+returns-in-Ok-clause-inverse g c = c.divide_lighter.ensures.inverse
 
-pub returns-then-first-second-clause-checked : goal.returns-then-first-second-clause-checked
-returns-then-first-second-clause-checked g c = c.divide_pair.ensures.checked
-
-pub returns-else-first-second-clause-inverse : goal.returns-else-first-second-clause-inverse
-returns-else-first-second-clause-inverse g c = c.divide_pair-else-first-second.ensures.inverse
-
-pub returns-else-first-second-clause-checked : goal.returns-else-first-second-clause-checked
-returns-else-first-second-clause-checked g c = c.divide_pair-else-first-second.ensures.checked
+pub returns-in-Ok-clause-checked : goal.returns-in-Ok-clause-checked
+returns-in-Ok-clause-checked g c = c.divide_lighter.ensures.checked

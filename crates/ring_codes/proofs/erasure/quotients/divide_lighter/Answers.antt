@@ -1,0 +1,95 @@
+use Rattle.num_modular.specs.Callers.{ℕ, ◌+◌, ◌*◌, ◌<◌, arith}
+use Rattle.ring_codes.proofs.KeyPairs.{ok_then}
+use Rattle.ring_codes.proofs.erasure.quotients.divide_lighter.Goals as goal
+
+pub divide_pair-requires-clause-points : goal.divide_pair-requires-clause-points
+divide_pair-requires-clause-points g c = c.requires.points
+
+pub divide_pair-requires-clause-within : goal.divide_pair-requires-clause-within
+divide_pair-requires-clause-within g c = c.requires.within
+
+pub divide_pair-requires-clause-some : goal.divide_pair-requires-clause-some
+divide_pair-requires-clause-some g c = c.requires.some
+
+pub divide_pair-requires-clause-few : goal.divide_pair-requires-clause-few
+divide_pair-requires-clause-few g c = c.requires.few
+
+pub divide_pair-requires-clause-chosen : goal.divide_pair-requires-clause-chosen
+divide_pair-requires-clause-chosen g c = c.requires.chosen
+
+pub divide_pair-requires-clause-values : goal.divide_pair-requires-clause-values
+divide_pair-requires-clause-values g c = c.requires.values
+
+pub divide_pair-requires-clause-weights : goal.divide_pair-requires-clause-weights
+divide_pair-requires-clause-weights g c = c.requires.weights
+
+pub divide_pair-requires-clause-fit : goal.divide_pair-requires-clause-fit
+divide_pair-requires-clause-fit g c = c.requires.fit
+
+pub divide_pair-requires-clause-numerator : goal.divide_pair-requires-clause-numerator
+divide_pair-requires-clause-numerator g c = c.requires.first_numerator
+
+pub divide_pair-requires-clause-locator : goal.divide_pair-requires-clause-locator
+divide_pair-requires-clause-locator g c = c.requires.first_locator
+
+pub returns-then-pair_weights-clause-inverse : goal.returns-then-pair_weights-clause-inverse
+returns-then-pair_weights-clause-inverse g c = c.divide_pair.ensures.inverse
+
+pub returns-then-pair_weights-clause-checked : goal.returns-then-pair_weights-clause-checked
+returns-then-pair_weights-clause-checked g c = c.divide_pair.ensures.checked
+
+pub returns-then-pair_weights-clause-message : goal.returns-then-pair_weights-clause-message
+returns-then-pair_weights-clause-message g c =
+    let w = c.args.pair_weights in
+    ok_then c.divide_pair.result _ _
+    (λ b h cn d y sent is_c is_d is_c2 is_d2 some lengths few room pairs near.
+    let less = c.if-pair_weights.true in
+    let small : 2 * w.0 < 2 * cn = omega (arith, less, room) in
+    h cn d (2 * w.0) y sent is_c is_d some lengths few small (pairs.first small) near)
+    c.divide_pair.ensures.message
+
+pub divide_pair-requires-else-pair_weights-clause-points : goal.divide_pair-requires-else-pair_weights-clause-points
+divide_pair-requires-else-pair_weights-clause-points g c = c.requires.points
+
+pub divide_pair-requires-else-pair_weights-clause-within : goal.divide_pair-requires-else-pair_weights-clause-within
+divide_pair-requires-else-pair_weights-clause-within g c = c.requires.within
+
+pub divide_pair-requires-else-pair_weights-clause-some : goal.divide_pair-requires-else-pair_weights-clause-some
+divide_pair-requires-else-pair_weights-clause-some g c = c.requires.some
+
+pub divide_pair-requires-else-pair_weights-clause-few : goal.divide_pair-requires-else-pair_weights-clause-few
+divide_pair-requires-else-pair_weights-clause-few g c = c.requires.few
+
+pub divide_pair-requires-else-pair_weights-clause-chosen : goal.divide_pair-requires-else-pair_weights-clause-chosen
+divide_pair-requires-else-pair_weights-clause-chosen g c = c.requires.chosen
+
+pub divide_pair-requires-else-pair_weights-clause-values : goal.divide_pair-requires-else-pair_weights-clause-values
+divide_pair-requires-else-pair_weights-clause-values g c = c.requires.values
+
+pub divide_pair-requires-else-pair_weights-clause-weights : goal.divide_pair-requires-else-pair_weights-clause-weights
+divide_pair-requires-else-pair_weights-clause-weights g c = c.requires.weights
+
+pub divide_pair-requires-else-pair_weights-clause-fit : goal.divide_pair-requires-else-pair_weights-clause-fit
+divide_pair-requires-else-pair_weights-clause-fit g c = c.requires.fit
+
+pub divide_pair-requires-else-pair_weights-clause-numerator : goal.divide_pair-requires-else-pair_weights-clause-numerator
+divide_pair-requires-else-pair_weights-clause-numerator g c = c.requires.second_numerator
+
+pub divide_pair-requires-else-pair_weights-clause-locator : goal.divide_pair-requires-else-pair_weights-clause-locator
+divide_pair-requires-else-pair_weights-clause-locator g c = c.requires.second_locator
+
+pub returns-else-pair_weights-clause-inverse : goal.returns-else-pair_weights-clause-inverse
+returns-else-pair_weights-clause-inverse g c = c.divide_pair-else-pair_weights.ensures.inverse
+
+pub returns-else-pair_weights-clause-checked : goal.returns-else-pair_weights-clause-checked
+returns-else-pair_weights-clause-checked g c = c.divide_pair-else-pair_weights.ensures.checked
+
+pub returns-else-pair_weights-clause-message : goal.returns-else-pair_weights-clause-message
+returns-else-pair_weights-clause-message g c =
+    let w = c.args.pair_weights in
+    ok_then c.divide_pair-else-pair_weights.result _ _
+    (λ b h cn d y sent is_c is_d is_c2 is_d2 some lengths few room pairs near.
+    let less = c.if-pair_weights.false in
+    let small : 2 * w.1 + 1 < 2 * cn = omega (arith, less, room) in
+    h cn d (2 * w.1 + 1) y sent is_c2 is_d2 some lengths few small (pairs.second small) near)
+    c.divide_pair-else-pair_weights.ensures.message
