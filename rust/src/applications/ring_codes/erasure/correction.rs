@@ -1,7 +1,7 @@
 //! Correction of wrong symbols.
 
 use super::key_equation::solve;
-use super::quotients::divide_pair;
+use super::quotients::divide_lighter;
 use super::{RestoreError, choose, encode, points_fit};
 use crate::{Reducer, RingWord};
 
@@ -97,33 +97,20 @@ fn decode<T: RingWord, R: Reducer<T>>(
         second_locator,
     ) {
         Err(a) => Err(a),
-        Ok((first, second)) => {
-            if first <= second {
-                divide_pair(
-                    r,
-                    points,
-                    count,
-                    first_numerator,
-                    first_locator,
-                    chosen,
-                    values,
-                    weights,
-                    message,
-                )
-            } else {
-                divide_pair(
-                    r,
-                    points,
-                    count,
-                    second_numerator,
-                    second_locator,
-                    chosen,
-                    values,
-                    weights,
-                    message,
-                )
-            }
-        }
+        Ok(found) => divide_lighter(
+            r,
+            points,
+            count,
+            found,
+            first_numerator,
+            first_locator,
+            second_numerator,
+            second_locator,
+            chosen,
+            values,
+            weights,
+            message,
+        ),
     }
 }
 

@@ -92,3 +92,52 @@ pub fn divide_pair<T: RingWord, R: Reducer<T>>(
         Ok(true) => Ok(interpolate(r, chosen, values, weights, message)),
     }
 }
+
+/// Writes the message whose values are the quotients of the lighter of two pairs, given their weights. It is the only
+/// message that can have a near word; returns false where there is none.
+///
+/// # Preconditions
+///
+/// The conditions of `divide_pair` hold, for both pairs. This isn't tested: outside it the call panics,
+/// or returns no meaningful result.
+#[inline]
+pub fn divide_lighter<T: RingWord, R: Reducer<T>>(
+    r: &R,
+    points: &[T],
+    count: usize,
+    pair_weights: (usize, usize),
+    first_numerator: &[T],
+    first_locator: &[T],
+    second_numerator: &[T],
+    second_locator: &[T],
+    chosen: &mut [T],
+    values: &mut [T],
+    weights: &mut [T],
+    message: &mut [T],
+) -> Result<bool, T> {
+    if pair_weights.0 <= pair_weights.1 {
+        divide_pair(
+            r,
+            points,
+            count,
+            first_numerator,
+            first_locator,
+            chosen,
+            values,
+            weights,
+            message,
+        )
+    } else {
+        divide_pair(
+            r,
+            points,
+            count,
+            second_numerator,
+            second_locator,
+            chosen,
+            values,
+            weights,
+            message,
+        )
+    }
+}
