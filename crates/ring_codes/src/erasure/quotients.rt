@@ -100,17 +100,15 @@ pub fn divide<T: RingWord, R: Reducer<T>>(
 }
 
 /// Writes the message whose values are the quotients of a pair. Returns false where fewer than k quotients exist.
-/// Conditions: those of `divide`; there are as many places for the points, the quotients and the weights as the message
-/// has symbols; the points fit.
+/// Conditions: those of `divide`; there are three places of scratch for each symbol of the message, whose contents are
+/// ignored; the points fit.
 pub fn divide_pair<T: RingWord, R: Reducer<T>>(
     r: &R,
     points: &[T],
     count: usize,
     numerator: &[T],
     locator: &[T],
-    chosen: &mut [T],
-    values: &mut [T],
-    weights: &mut [T],
+    scratch: &mut [T],
     message: &mut [T],
 ) -> Result<bool, T>
     requires points { All (λ f. IsForm R.form R.value (R.modulus r.now) (T.number f)) points.now }
@@ -119,9 +117,7 @@ pub fn divide_pair<T: RingWord, R: Reducer<T>>(
     requires within { count ≤ length points.now }
     requires some { 0 < length message.old }
     requires few { length message.old ≤ count }
-    requires chosen { length chosen.old ≡ length message.old }
-    requires values { length values.old ≡ length message.old }
-    requires weights { length weights.old ≡ length message.old }
+    requires room { 3 * length message.old ≤ length scratch.old }
     requires fit { let m = R.modulus r.now in HaveUnitDifferences m count (entry T.number R.value m points.now) }
     ensures inverse { IfErr result (λ a. IsWithoutInverse (R.modulus r.now) (T.number a)) }
     ensures checked { IfOk result (λ b. IsTrue b →
@@ -134,6 +130,10 @@ pub fn divide_pair<T: RingWord, R: Reducer<T>>(
         distance count y (λ j. polynomial k sent (x j) % m) + c ≤ count →
         IsTrue b × ((i : ℕ) → i < k → entry T.number R.value m message.new i ≡ sent i % m)) }
 {
+    let k = message.len();
+    let (chosen, rest) = scratch.split_at_mut(k);
+    let (values, rest) = rest.split_at_mut(k);
+    let weights = &mut rest[..k];
     match divide(r, points, count, numerator, locator, chosen, values) {
         Err(a) => Err(a),
         Ok(false) => Ok(false),
@@ -153,9 +153,7 @@ pub fn divide_lighter<T: RingWord, R: Reducer<T>>(
     first_locator: &[T],
     second_numerator: &[T],
     second_locator: &[T],
-    chosen: &mut [T],
-    values: &mut [T],
-    weights: &mut [T],
+    scratch: &mut [T],
     message: &mut [T],
 ) -> Result<bool, T>
     requires points { All (λ f. IsForm R.form R.value (R.modulus r.now) (T.number f)) points.now }
@@ -166,9 +164,7 @@ pub fn divide_lighter<T: RingWord, R: Reducer<T>>(
     requires within { count ≤ length points.now }
     requires some { 0 < length message.old }
     requires few { length message.old ≤ count }
-    requires chosen { length chosen.old ≡ length message.old }
-    requires values { length values.old ≡ length message.old }
-    requires weights { length weights.old ≡ length message.old }
+    requires room { 3 * length message.old ≤ length scratch.old }
     requires fit { let m = R.modulus r.now in HaveUnitDifferences m count (entry T.number R.value m points.now) }
     ensures inverse { IfErr result (λ a. IsWithoutInverse (R.modulus r.now) (T.number a)) }
     ensures checked { IfOk result (λ b. IsTrue b →
@@ -191,9 +187,7 @@ pub fn divide_lighter<T: RingWord, R: Reducer<T>>(
             count,
             first_numerator,
             first_locator,
-            chosen,
-            values,
-            weights,
+            scratch,
             message,
         )
     } else {
@@ -203,9 +197,7 @@ pub fn divide_lighter<T: RingWord, R: Reducer<T>>(
             count,
             second_numerator,
             second_locator,
-            chosen,
-            values,
-            weights,
+            scratch,
             message,
         )
     }

@@ -56,15 +56,6 @@ overflow_add-half-4 g c = omega arith
 pub split_at_mut-second_locator-requires : goal.split_at_mut-second_locator-requires
 split_at_mut-second_locator-requires g c = omega arith
 
-pub split_at_mut-chosen-requires : goal.split_at_mut-chosen-requires
-split_at_mut-chosen-requires g c = omega arith
-
-pub split_at_mut-values-requires : goal.split_at_mut-values-requires
-split_at_mut-values-requires g c = omega arith
-
-pub slice_bounds-weights-end : goal.slice_bounds-weights-end
-slice_bounds-weights-end g c = omega arith
-
 pub overflow_mul-count : goal.overflow_mul-count
 overflow_mul-count g c = omega arith
 
@@ -125,11 +116,8 @@ divide_lighter-requires-clause-second_locator g c = c.in-Ok.ensures.checked_seco
 pub divide_lighter-requires-clause-some : goal.divide_lighter-requires-clause-some
 divide_lighter-requires-clause-some g c = c.requires.some
 
-pub divide_lighter-requires-clause-chosen : goal.divide_lighter-requires-clause-chosen
-divide_lighter-requires-clause-chosen g c = c.split_at_mut-chosen.ensures.front_len
-
-pub divide_lighter-requires-clause-values : goal.divide_lighter-requires-clause-values
-divide_lighter-requires-clause-values g c = c.split_at_mut-values.ensures.front_len
+pub divide_lighter-requires-clause-room : goal.divide_lighter-requires-clause-room
+divide_lighter-requires-clause-room g c = omega arith
 
 pub divide_lighter-requires-clause-fit : goal.divide_lighter-requires-clause-fit
 divide_lighter-requires-clause-fit g c =

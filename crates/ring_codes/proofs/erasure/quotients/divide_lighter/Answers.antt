@@ -14,14 +14,8 @@ divide_pair-requires-clause-some g c = c.requires.some
 pub divide_pair-requires-clause-few : goal.divide_pair-requires-clause-few
 divide_pair-requires-clause-few g c = c.requires.few
 
-pub divide_pair-requires-clause-chosen : goal.divide_pair-requires-clause-chosen
-divide_pair-requires-clause-chosen g c = c.requires.chosen
-
-pub divide_pair-requires-clause-values : goal.divide_pair-requires-clause-values
-divide_pair-requires-clause-values g c = c.requires.values
-
-pub divide_pair-requires-clause-weights : goal.divide_pair-requires-clause-weights
-divide_pair-requires-clause-weights g c = c.requires.weights
+pub divide_pair-requires-clause-room : goal.divide_pair-requires-clause-room
+divide_pair-requires-clause-room g c = c.requires.room
 
 pub divide_pair-requires-clause-fit : goal.divide_pair-requires-clause-fit
 divide_pair-requires-clause-fit g c = c.requires.fit
@@ -60,14 +54,8 @@ divide_pair-requires-else-pair_weights-clause-some g c = c.requires.some
 pub divide_pair-requires-else-pair_weights-clause-few : goal.divide_pair-requires-else-pair_weights-clause-few
 divide_pair-requires-else-pair_weights-clause-few g c = c.requires.few
 
-pub divide_pair-requires-else-pair_weights-clause-chosen : goal.divide_pair-requires-else-pair_weights-clause-chosen
-divide_pair-requires-else-pair_weights-clause-chosen g c = c.requires.chosen
-
-pub divide_pair-requires-else-pair_weights-clause-values : goal.divide_pair-requires-else-pair_weights-clause-values
-divide_pair-requires-else-pair_weights-clause-values g c = c.requires.values
-
-pub divide_pair-requires-else-pair_weights-clause-weights : goal.divide_pair-requires-else-pair_weights-clause-weights
-divide_pair-requires-else-pair_weights-clause-weights g c = c.requires.weights
+pub divide_pair-requires-else-pair_weights-clause-room : goal.divide_pair-requires-else-pair_weights-clause-room
+divide_pair-requires-else-pair_weights-clause-room g c = c.requires.room
 
 pub divide_pair-requires-else-pair_weights-clause-fit : goal.divide_pair-requires-else-pair_weights-clause-fit
 divide_pair-requires-else-pair_weights-clause-fit g c = c.requires.fit

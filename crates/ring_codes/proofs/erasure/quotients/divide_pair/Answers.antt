@@ -20,10 +20,10 @@ returns-in-Ok-true-clause-message g c cn d u y sent is_c is_d some lengths few r
     let chosen = entry number ring.value m c.divide.new.chosen in
     let values = entry number ring.value m c.divide.new.values in
     let forms = c.in-Ok-true.ensures.checked_values c.in-Ok-true.field-0-test in
-    let whole = c.divide.auto.values ∙ c.requires.values in
+    let whole = c.divide.auto.values ∙ c.split_at_mut-values.ensures.front_len in
     let are = subst (λ cn. AreQuotients m n k x (polynomial cn p) (polynomial d e) chosen values) is_c
     (subst (λ d. AreQuotients m n k x (polynomial (length c.args.numerator.now) p) (polynomial d e) chosen values) is_d
-    (subst (λ k. AreQuotients m n k x (polynomial (length c.args.numerator.now) p) (polynomial (length c.args.locator.now) e) chosen values) c.requires.chosen
+    (subst (λ k. AreQuotients m n k x (polynomial (length c.args.numerator.now) p) (polynomial (length c.args.locator.now) e) chosen values) c.split_at_mut-chosen.ensures.front_len
     (c.in-Ok-true.ensures.quotients c.in-Ok-true.field-0-test))) in
     let fit = c.interpolate.ensures.fit.1 (chosen_fit m n k x _ _ chosen values c.requires.fit are) in (
       fit,
@@ -41,8 +41,8 @@ returns-in-Ok-false-clause-message g c cn d u y sent is_c is_d some lengths few 
     let p = entry number ring.value m c.args.numerator.now in
     let e = entry number ring.value m c.args.locator.now in
     let zeros = c.in-Ok-false.ensures.zeros (λ t. false≢true (sym c.in-Ok-false.field-0-test ∙ t)) in
-    let fewer = subst (λ d. distance n (λ j. polynomial d e (x j) % m) (λ j. 0) < length c.args.chosen.now) is_d zeros.1 in
-    let fewer_still = subst (λ k. distance n (λ j. polynomial d e (x j) % m) (λ j. 0) < k) c.requires.chosen fewer in
+    let fewer = subst (λ k. distance n (λ j. polynomial (length c.args.locator.now) e (x j) % m) (λ j. 0) < k) c.split_at_mut-chosen.ensures.front_len zeros.1 in
+    let fewer_still = subst (λ d. distance n (λ j. polynomial d e (x j) % m) (λ j. 0) < k) is_d fewer in
     absurd (zeros.0 (enough_units m k cn d n u x y p e sent some lengths few room c.requires.fit
     (λ l b. entry_past number ring.value m c.args.locator.now l (omega (arith, b, is_d))) pair near fewer_still))
 
@@ -59,13 +59,13 @@ pub divide-requires-clause-within : goal.divide-requires-clause-within
 divide-requires-clause-within g c = c.requires.within
 
 pub divide-requires-clause-some : goal.divide-requires-clause-some
-divide-requires-clause-some g c = subst (λ n. 0 < n) (sym c.requires.chosen) c.requires.some
+divide-requires-clause-some g c = subst (λ n. 0 < n) (sym c.split_at_mut-chosen.ensures.front_len) c.requires.some
 
 pub divide-requires-clause-few : goal.divide-requires-clause-few
-divide-requires-clause-few g c = subst (λ n. n ≤ c.args.count) (sym c.requires.chosen) c.requires.few
+divide-requires-clause-few g c = subst (λ n. n ≤ c.args.count) (sym c.split_at_mut-chosen.ensures.front_len) c.requires.few
 
 pub divide-requires-clause-equal : goal.divide-requires-clause-equal
-divide-requires-clause-equal g c = c.requires.values ∙ sym c.requires.chosen
+divide-requires-clause-equal g c = c.split_at_mut-values.ensures.front_len ∙ sym c.split_at_mut-chosen.ensures.front_len
 
 pub interpolate-requires-clause-points : goal.interpolate-requires-clause-points
 interpolate-requires-clause-points g c = c.in-Ok-true.ensures.checked_chosen c.in-Ok-true.field-0-test
@@ -74,13 +74,10 @@ pub interpolate-requires-clause-values : goal.interpolate-requires-clause-values
 interpolate-requires-clause-values g c = c.in-Ok-true.ensures.checked_values c.in-Ok-true.field-0-test
 
 pub interpolate-requires-clause-points_within : goal.interpolate-requires-clause-points_within
-interpolate-requires-clause-points_within g c = subst (λ n. length c.args.message.now ≤ n) (sym (c.divide.auto.chosen ∙ c.requires.chosen)) (le_refl _)
+interpolate-requires-clause-points_within g c = subst (λ n. length c.args.message.now ≤ n) (sym (c.divide.auto.chosen ∙ c.split_at_mut-chosen.ensures.front_len)) (le_refl _)
 
 pub interpolate-requires-clause-values_within : goal.interpolate-requires-clause-values_within
-interpolate-requires-clause-values_within g c = subst (λ n. length c.args.message.now ≤ n) (sym (c.divide.auto.values ∙ c.requires.values)) (le_refl _)
-
-pub interpolate-requires-clause-weights : goal.interpolate-requires-clause-weights
-interpolate-requires-clause-weights g c = c.requires.weights
+interpolate-requires-clause-values_within g c = subst (λ n. length c.args.message.now ≤ n) (sym (c.divide.auto.values ∙ c.split_at_mut-values.ensures.front_len)) (le_refl _)
 
 pub returns-in-Err-clause-inverse : goal.returns-in-Err-clause-inverse
 returns-in-Err-clause-inverse g c = c.in-Err.ensures.inverse
@@ -102,3 +99,12 @@ returns-in-Ok-true-clause-checked g c = c.interpolate.ensures.checked
 
 pub returns-in-Ok-false-clause-checked : goal.returns-in-Ok-false-clause-checked
 returns-in-Ok-false-clause-checked g c t = absurd (false≢true t)
+
+pub split_at_mut-chosen-requires : goal.split_at_mut-chosen-requires
+split_at_mut-chosen-requires g c = omega arith
+
+pub split_at_mut-values-requires : goal.split_at_mut-values-requires
+split_at_mut-values-requires g c = omega arith
+
+pub slice_bounds-weights-end : goal.slice_bounds-weights-end
+slice_bounds-weights-end g c = omega arith
