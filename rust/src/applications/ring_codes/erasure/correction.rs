@@ -81,9 +81,6 @@ fn decode<T: RingWord, R: Reducer<T>>(
     let (first_locator, rest) = rest.split_at_mut(half + 1);
     let (second_numerator, rest) = rest.split_at_mut(half + k);
     let (second_locator, rest) = rest.split_at_mut(half + 1);
-    let (chosen, rest) = rest.split_at_mut(k);
-    let (values, rest) = rest.split_at_mut(k);
-    let weights = &mut rest[..k];
     let count = k + 2 * half;
     match solve(
         r,
@@ -106,9 +103,7 @@ fn decode<T: RingWord, R: Reducer<T>>(
             first_locator,
             second_numerator,
             second_locator,
-            chosen,
-            values,
-            weights,
+            rest,
             message,
         ),
     }

@@ -71,21 +71,22 @@ pub fn divide<T: RingWord, R: Reducer<T>>(
 ///
 /// # Preconditions
 ///
-/// The conditions of `divide` hold, and there are as many places for the points, the quotients and the
-/// weights as the message has symbols, and the points fit. This isn't tested: outside it the call
+/// The conditions of `divide` hold, and there are three places of scratch for each symbol of the
+/// message, whose contents are ignored, and the points fit. This isn't tested: outside it the call
 /// panics, or returns no meaningful result.
-#[inline]
 pub fn divide_pair<T: RingWord, R: Reducer<T>>(
     r: &R,
     points: &[T],
     count: usize,
     numerator: &[T],
     locator: &[T],
-    chosen: &mut [T],
-    values: &mut [T],
-    weights: &mut [T],
+    scratch: &mut [T],
     message: &mut [T],
 ) -> Result<bool, T> {
+    let k = message.len();
+    let (chosen, rest) = scratch.split_at_mut(k);
+    let (values, rest) = rest.split_at_mut(k);
+    let weights = &mut rest[..k];
     match divide(r, points, count, numerator, locator, chosen, values) {
         Err(a) => Err(a),
         Ok(false) => Ok(false),
@@ -110,9 +111,7 @@ pub fn divide_lighter<T: RingWord, R: Reducer<T>>(
     first_locator: &[T],
     second_numerator: &[T],
     second_locator: &[T],
-    chosen: &mut [T],
-    values: &mut [T],
-    weights: &mut [T],
+    scratch: &mut [T],
     message: &mut [T],
 ) -> Result<bool, T> {
     if pair_weights.0 <= pair_weights.1 {
@@ -122,9 +121,7 @@ pub fn divide_lighter<T: RingWord, R: Reducer<T>>(
             count,
             first_numerator,
             first_locator,
-            chosen,
-            values,
-            weights,
+            scratch,
             message,
         )
     } else {
@@ -134,9 +131,7 @@ pub fn divide_lighter<T: RingWord, R: Reducer<T>>(
             count,
             second_numerator,
             second_locator,
-            chosen,
-            values,
-            weights,
+            scratch,
             message,
         )
     }
