@@ -1,5 +1,5 @@
 -- A list of forms as the function from places to values: what is read and what is written.
-use Rattle.std.proofs.Common.{◌≡◌, ◌≢◌, ℕ, ◌+◌, ◌*◌, ◌%◌, ◌<◌, ◌≤◌, List, [], ◌∷◌, length, map, get_or, All, pos}
+use Rattle.std.proofs.Common.{◌≡◌, ◌≢◌, ℕ, ◌+◌, ◌*◌, ◌%◌, ◌<◌, List, [], ◌∷◌, length, map, get_or, All, pos}
 use Rattle.std.proofs.Common.{◌-ℤ◌, inl, inr, sym, ◌∙◌, ap, arith, subst, get_or-set_same, get_or-set_other}
 use Rattle.std.proofs.Math.ListN.{set, length-set}
 use Rattle.std.proofs.Math.Nat.{add-mod_right}
@@ -132,14 +132,6 @@ entry_done number value m forms i f target within before is k l = elim (cases_eq
       ∙ ap target (sym e)
   | inr n ↦ values-set_other number value m forms i k f n ∙ before k (omega arith)
 ]
-
-pub entry_kept : {T : Type 0} (number : T → ℕ) (value : ℕ → ℕ → ℕ) (m : ℕ)
-    (forms : List T) (i : ℕ) (f : T) (old : ℕ → ℕ)
-    → ((k : ℕ) → i ≤ k → values number value m forms k ≡ old k)
-    → (k : ℕ) → i + 1 ≤ k → values number value m (set forms i f) k ≡ old k
-entry_kept number value m forms i f old before k l =
-    let n : k ≢ i = omega arith in
-    values-set_other number value m forms i k f n ∙ before k (omega arith)
 
 -- the value at a place of a list that holds values
 pub held_value : {T : Type 0} (number : T → ℕ) (form value : ℕ → ℕ → ℕ) (width m : ℕ)

@@ -9,25 +9,10 @@ ghost use Rattle.modular_reduced.specs.Values.{values_of, HoldValues};
 ghost use Rattle.modular_transform.specs.Transforms.{Suits, transform, cyclic_product};
 
 use crate::inverse::{length_form, transform_back};
+use crate::lists::multiply_lists;
 use crate::transform::ntt;
 use modular_reduced::reducer::Reducer;
 use modular_word::ring_word::RingWord;
-
-// Multiplies each entry of xs by the entry of ys with the same index.
-fn multiply_each<T: RingWord, R: Reducer<T>>(r: &R, xs: &mut [T], ys: &[T])
-    requires checked_xs { All (λ f. IsForm R.form R.value (R.modulus r.now) (T.number f)) xs.old }
-    requires checked_ys { All (λ f. IsForm R.form R.value (R.modulus r.now) (T.number f)) ys.now }
-    requires equal { length xs.old ≡ length ys.now }
-    ensures entries { let m = R.modulus r.now in
-        HoldValues T.number R.form m xs.new
-        (λ i. (slice_index (values_of T.number R.value m xs.old) i
-        * slice_index (values_of T.number R.value m ys.now) i) % m) }
-    ensures checked { All (λ f. IsForm R.form R.value (R.modulus r.now) (T.number f)) xs.new }
-{
-    'entries: for i in 0..xs.len() {
-        xs[i] = r.mul(&xs[i], &ys[i]);
-    }
-}
 
 // Replaces xs by the cyclic product and ys by its transform, given a root g and an inverse of the length.
 fn multiply<T: RingWord, R: Reducer<T>>(r: &R, xs: &mut [T], ys: &mut [T], g: &T, part: &T)
@@ -51,7 +36,7 @@ fn multiply<T: RingWord, R: Reducer<T>>(r: &R, xs: &mut [T], ys: &mut [T], g: &T
 {
     ntt(r, xs, g);
     ntt(r, ys, g);
-    multiply_each(r, xs, ys);
+    multiply_lists(r, xs, ys);
     transform_back(r, xs, g, part);
 }
 

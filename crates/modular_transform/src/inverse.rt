@@ -9,27 +9,11 @@ ghost use Rattle.modular_reduced.specs.Values.{values_of, HoldValues};
 ghost use Rattle.modular_transform.specs.Orders.{mirrored};
 ghost use Rattle.modular_transform.specs.Transforms.{Suits, transform};
 
+use crate::lists::scale_list;
 use crate::order::mirror;
 use crate::transform::ntt;
 use modular_reduced::reducer::Reducer;
 use modular_word::ring_word::RingWord;
-
-/// Multiplies each entry by a factor. Conditions: the entries and the factor are checked forms.
-pub fn scale<T: RingWord, R: Reducer<T>>(r: &R, xs: &mut [T], factor: &T)
-    requires checked { All (λ f. IsForm R.form R.value (R.modulus r.now) (T.number f)) xs.old }
-    requires factor { IsForm R.form R.value (R.modulus r.now) (T.number factor.now) }
-    ensures entries { let m = R.modulus r.now in
-        HoldValues T.number R.form m xs.new
-        (λ i. (slice_index (values_of T.number R.value m xs.old) i * R.value m (T.number factor.now)) % m) }
-    ensures values { let m = R.modulus r.now in
-        (i : ℕ) → i < length xs.old → slice_index (values_of T.number R.value m xs.new) i
-        ≡ (slice_index (values_of T.number R.value m xs.old) i * R.value m (T.number factor.now)) % m }
-    ensures checked { All (λ f. IsForm R.form R.value (R.modulus r.now) (T.number f)) xs.new }
-{
-    'entries: for i in 0..xs.len() {
-        xs[i] = r.mul(&xs[i], factor);
-    }
-}
 
 // The form of n, a power of two, by doubling 1, because n may not fit a word.
 pub(crate) fn length_form<T: RingWord, R: Reducer<T>>(r: &R, n: usize) -> T
@@ -59,7 +43,7 @@ pub(crate) fn transform_back<T: RingWord, R: Reducer<T>>(r: &R, xs: &mut [T], g:
 {
     ntt(r, xs, g);
     mirror(xs);
-    scale(r, xs, part);
+    scale_list(r, xs, part);
 }
 
 /// Undoes `ntt`: replaces the entries by those whose transform by g they are. Returns false, with the entries

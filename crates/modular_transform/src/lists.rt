@@ -1,8 +1,10 @@
-//! Conversion of lists of words to lists of forms, and back.
+//! Lists of forms: conversion from words and back, sums, differences and products entry by entry.
 
-ghost use Rattle.std.specs.Prelude.{◌≡◌, ℕ, ◌%◌, ◌<◌, ◌≤◌, All, length, map, slice_index};
-ghost use Rattle.modular_reduced.specs.Forms.{IsForm};
-ghost use Rattle.modular_reduced.specs.Values.{values_of};
+ghost use Rattle.std.specs.Prelude.{◌≡◌, ℕ, ◌+◌, ◌*◌, ◌%◌, ◌<◌, ◌≤◌, pos, ◌-ℤ◌, All, length, map, slice_index};
+ghost use Rattle.modular_word.specs.Residues.{residue};
+ghost use Rattle.modular_word.specs.Sums.{sum_below};
+ghost use Rattle.modular_reduced.specs.Forms.{Represents, IsForm};
+ghost use Rattle.modular_reduced.specs.Values.{values_of, HoldValues};
 
 use modular_reduced::reducer::Reducer;
 use modular_word::ring_word::RingWord;
@@ -58,4 +60,165 @@ pub fn unload_forms<T: RingWord, R: Reducer<T>>(r: &R, forms: &[T], words: &mut 
     'entries: for i in 0..words.len() {
         words[i] = r.residue(forms[i]);
     }
+}
+
+/// Adds to each entry of xs the entry of ys with the same index. Conditions: the lists have the same length; all
+/// entries are checked forms.
+///
+/// # Examples
+///
+/// ```
+/// use num_modular::ring::add_lists;
+/// use num_modular::{Reducer, Vanilla};
+///
+/// let ring = Vanilla::<u64>::new(&97);
+/// let mut xs = [90, 2];
+/// add_lists(&ring, &mut xs, &[10, 3]);
+/// assert_eq!(xs, [3, 5]);
+/// ```
+pub fn add_lists<T: RingWord, R: Reducer<T>>(r: &R, xs: &mut [T], ys: &[T])
+    requires equal { length ys.now ≡ length xs.old }
+    requires checked_xs { All (λ f. IsForm R.form R.value (R.modulus r.now) (T.number f)) xs.old }
+    requires checked_ys { All (λ f. IsForm R.form R.value (R.modulus r.now) (T.number f)) ys.now }
+    ensures entries { let m = R.modulus r.now in
+        HoldValues T.number R.form m xs.new
+        (λ i. (slice_index (values_of T.number R.value m xs.old) i
+        + slice_index (values_of T.number R.value m ys.now) i) % m) }
+    ensures values { let m = R.modulus r.now in
+        (i : ℕ) → i < length xs.old → slice_index (values_of T.number R.value m xs.new) i
+        ≡ (slice_index (values_of T.number R.value m xs.old) i
+        + slice_index (values_of T.number R.value m ys.now) i) % m }
+    ensures checked { All (λ f. IsForm R.form R.value (R.modulus r.now) (T.number f)) xs.new }
+{
+    'entries: for i in 0..xs.len() {
+        xs[i] = r.add(&xs[i], &ys[i]);
+    }
+}
+
+/// Subtracts from each entry of xs the entry of ys with the same index. Conditions: the lists have the same length; all
+/// entries are checked forms.
+///
+/// # Examples
+///
+/// ```
+/// use num_modular::ring::sub_lists;
+/// use num_modular::{Reducer, Vanilla};
+///
+/// let ring = Vanilla::<u64>::new(&97);
+/// let mut xs = [90, 2];
+/// sub_lists(&ring, &mut xs, &[10, 3]);
+/// assert_eq!(xs, [80, 96]);
+/// ```
+pub fn sub_lists<T: RingWord, R: Reducer<T>>(r: &R, xs: &mut [T], ys: &[T])
+    requires equal { length ys.now ≡ length xs.old }
+    requires checked_xs { All (λ f. IsForm R.form R.value (R.modulus r.now) (T.number f)) xs.old }
+    requires checked_ys { All (λ f. IsForm R.form R.value (R.modulus r.now) (T.number f)) ys.now }
+    ensures entries { let m = R.modulus r.now in
+        HoldValues T.number R.form m xs.new
+        (λ i. residue m (pos (slice_index (values_of T.number R.value m xs.old) i)
+        -ℤ pos (slice_index (values_of T.number R.value m ys.now) i))) }
+    ensures values { let m = R.modulus r.now in
+        (i : ℕ) → i < length xs.old → slice_index (values_of T.number R.value m xs.new) i
+        ≡ residue m (pos (slice_index (values_of T.number R.value m xs.old) i)
+        -ℤ pos (slice_index (values_of T.number R.value m ys.now) i)) }
+    ensures checked { All (λ f. IsForm R.form R.value (R.modulus r.now) (T.number f)) xs.new }
+{
+    'entries: for i in 0..xs.len() {
+        xs[i] = r.sub(&xs[i], &ys[i]);
+    }
+}
+
+/// Multiplies each entry of xs by the entry of ys with the same index. Conditions: the lists have the same length; all
+/// entries are checked forms.
+///
+/// # Examples
+///
+/// ```
+/// use num_modular::ring::multiply_lists;
+/// use num_modular::{Reducer, Vanilla};
+///
+/// let ring = Vanilla::<u64>::new(&97);
+/// let mut xs = [90, 2];
+/// multiply_lists(&ring, &mut xs, &[10, 3]);
+/// assert_eq!(xs, [27, 6]); // 900 - 9 * 97
+/// ```
+pub fn multiply_lists<T: RingWord, R: Reducer<T>>(r: &R, xs: &mut [T], ys: &[T])
+    requires equal { length ys.now ≡ length xs.old }
+    requires checked_xs { All (λ f. IsForm R.form R.value (R.modulus r.now) (T.number f)) xs.old }
+    requires checked_ys { All (λ f. IsForm R.form R.value (R.modulus r.now) (T.number f)) ys.now }
+    ensures entries { let m = R.modulus r.now in
+        HoldValues T.number R.form m xs.new
+        (λ i. (slice_index (values_of T.number R.value m xs.old) i
+        * slice_index (values_of T.number R.value m ys.now) i) % m) }
+    ensures values { let m = R.modulus r.now in
+        (i : ℕ) → i < length xs.old → slice_index (values_of T.number R.value m xs.new) i
+        ≡ (slice_index (values_of T.number R.value m xs.old) i
+        * slice_index (values_of T.number R.value m ys.now) i) % m }
+    ensures checked { All (λ f. IsForm R.form R.value (R.modulus r.now) (T.number f)) xs.new }
+{
+    'entries: for i in 0..xs.len() {
+        xs[i] = r.mul(&xs[i], &ys[i]);
+    }
+}
+
+/// Multiplies each entry by one factor. Condition: the factor and all entries are checked forms.
+///
+/// # Examples
+///
+/// ```
+/// use num_modular::ring::scale_list;
+/// use num_modular::{Reducer, Vanilla};
+///
+/// let ring = Vanilla::<u64>::new(&97);
+/// let mut xs = [90, 2];
+/// scale_list(&ring, &mut xs, &10);
+/// assert_eq!(xs, [27, 20]); // 900 - 9 * 97
+/// ```
+pub fn scale_list<T: RingWord, R: Reducer<T>>(r: &R, xs: &mut [T], factor: &T)
+    requires checked { All (λ f. IsForm R.form R.value (R.modulus r.now) (T.number f)) xs.old }
+    requires factor { IsForm R.form R.value (R.modulus r.now) (T.number factor.now) }
+    ensures entries { let m = R.modulus r.now in
+        HoldValues T.number R.form m xs.new
+        (λ i. (slice_index (values_of T.number R.value m xs.old) i * R.value m (T.number factor.now)) % m) }
+    ensures values { let m = R.modulus r.now in
+        (i : ℕ) → i < length xs.old → slice_index (values_of T.number R.value m xs.new) i
+        ≡ (slice_index (values_of T.number R.value m xs.old) i * R.value m (T.number factor.now)) % m }
+    ensures checked { All (λ f. IsForm R.form R.value (R.modulus r.now) (T.number f)) xs.new }
+{
+    'entries: for i in 0..xs.len() {
+        xs[i] = r.mul(&xs[i], factor);
+    }
+}
+
+/// The form of the sum of the products of two lists, entry by entry: that of 0 for lists without entries. Conditions:
+/// the lists have the same length; all entries are checked forms.
+///
+/// # Examples
+///
+/// ```
+/// use num_modular::ring::dot_product;
+/// use num_modular::{Reducer, Vanilla};
+///
+/// let ring = Vanilla::<u64>::new(&97);
+/// assert_eq!(dot_product(&ring, &[90, 2], &[10, 3]), 33); // 900 + 6 - 9 * 97
+/// ```
+pub fn dot_product<T: RingWord, R: Reducer<T>>(r: &R, xs: &[T], ys: &[T]) -> T
+    requires equal { length ys.now ≡ length xs.now }
+    requires checked_xs { All (λ f. IsForm R.form R.value (R.modulus r.now) (T.number f)) xs.now }
+    requires checked_ys { All (λ f. IsForm R.form R.value (R.modulus r.now) (T.number f)) ys.now }
+    ensures form { let m = R.modulus r.now in
+        Represents R.form m (T.number result)
+        (sum_below (length xs.now) (λ i. slice_index (values_of T.number R.value m xs.now) i
+        * slice_index (values_of T.number R.value m ys.now) i) % m) }
+    ensures checked { IsForm R.form R.value (R.modulus r.now) (T.number result) }
+    ensures value { let m = R.modulus r.now in
+        R.value m (T.number result)
+        ≡ sum_below (length xs.now) (λ i. slice_index (values_of T.number R.value m xs.now) i
+        * slice_index (values_of T.number R.value m ys.now) i) % m }
+{
+    let mut sum = r.transform(T::zero());
+    'entries: for i in 0..xs.len() {
+        sum = r.add(&sum, &r.mul(&xs[i], &ys[i]));
+    }
+    sum
 }

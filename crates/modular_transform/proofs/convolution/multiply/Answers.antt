@@ -26,14 +26,14 @@ ntt-requires-2-clause-suits g c =
     let root = g.R.Reducer.value m (g.T.RingWord.number c.args.g.now) in
     subst (Suits m root) (sym c.requires.equal) c.requires.suits
 
-pub multiply_each-requires-clause-checked_xs : goal.multiply_each-requires-clause-checked_xs
-multiply_each-requires-clause-checked_xs g c = c.ntt.ensures.checked
+pub multiply_lists-requires-clause-checked_xs : goal.multiply_lists-requires-clause-checked_xs
+multiply_lists-requires-clause-checked_xs g c = c.ntt.ensures.checked
 
-pub multiply_each-requires-clause-checked_ys : goal.multiply_each-requires-clause-checked_ys
-multiply_each-requires-clause-checked_ys g c = c.ntt-2.ensures.checked
+pub multiply_lists-requires-clause-checked_ys : goal.multiply_lists-requires-clause-checked_ys
+multiply_lists-requires-clause-checked_ys g c = c.ntt-2.ensures.checked
 
 pub transform_back-requires-clause-checked : goal.transform_back-requires-clause-checked
-transform_back-requires-clause-checked g c = c.multiply_each.ensures.checked
+transform_back-requires-clause-checked g c = c.multiply_lists.ensures.checked
 
 pub transform_back-requires-clause-root : goal.transform_back-requires-clause-root
 transform_back-requires-clause-root g c = c.requires.root
@@ -42,7 +42,7 @@ pub transform_back-requires-clause-suits : goal.transform_back-requires-clause-s
 transform_back-requires-clause-suits g c =
     let m = g.R.Reducer.modulus c.args.r.now in
     let root = g.R.Reducer.value m (g.T.RingWord.number c.args.g.now) in
-    let same : length c.args.xs.now ≡ length c.multiply_each.new.xs = omega arith in
+    let same : length c.args.xs.now ≡ length c.multiply_lists.new.xs = omega arith in
     subst (Suits m root) same c.requires.suits
 
 pub returns-clause-product : goal.returns-clause-product
@@ -52,11 +52,11 @@ returns-clause-product g c =
     let value = g.R.Reducer.value in
     let root = value m (number c.args.g.now) in
     convolution_end number g.R.Reducer.form value g.T.RingWord.width m root (length c.args.xs.now)
-    (value m (number c.args.part.now)) c.args.xs.now c.args.ys.now c.ntt.new.xs c.ntt-2.new.xs c.multiply_each.new.xs
+    (value m (number c.args.part.now)) c.args.xs.now c.args.ys.now c.ntt.new.xs c.ntt-2.new.xs c.multiply_lists.new.xs
     c.transform_back.new.xs
     (g.met.R.Reducer.canonical c.args.r.now) c.requires.suits c.requires.inverse refl c.requires.equal (omega arith)
     (omega arith) (omega arith) (omega arith)
-    c.ntt.ensures.entries c.ntt-2.ensures.entries c.multiply_each.ensures.entries c.transform_back.ensures.entries
+    c.ntt.ensures.entries c.ntt-2.ensures.entries c.multiply_lists.ensures.entries c.transform_back.ensures.entries
 
 pub returns-clause-transformed : goal.returns-clause-transformed
 returns-clause-transformed g c =

@@ -12,13 +12,13 @@ ntt-requires-clause-root g c = c.requires.root
 pub ntt-requires-clause-suits : goal.ntt-requires-clause-suits
 ntt-requires-clause-suits g c = c.requires.suits
 
-pub scale-requires-clause-checked : goal.scale-requires-clause-checked
-scale-requires-clause-checked g c =
+pub scale_list-requires-clause-checked : goal.scale_list-requires-clause-checked
+scale_list-requires-clause-checked g c =
     mirrored_forms g.T.RingWord.number g.R.Reducer.form g.R.Reducer.value _ _ _ c.mirror.ensures
     (omega arith) c.ntt.ensures.checked
 
-pub scale-requires-clause-factor : goal.scale-requires-clause-factor
-scale-requires-clause-factor g c = c.requires.part
+pub scale_list-requires-clause-factor : goal.scale_list-requires-clause-factor
+scale_list-requires-clause-factor g c = c.requires.part
 
 pub returns-clause-entries : goal.returns-clause-entries
 returns-clause-entries g c =
@@ -26,9 +26,9 @@ returns-clause-entries g c =
     let number = g.T.RingWord.number in
     let value = g.R.Reducer.value in
     stepped_back number g.R.Reducer.form value g.T.RingWord.width m (value m (number c.args.g.now))
-    (value m (number c.args.part.now)) c.args.xs.now c.ntt.new.xs c.mirror.new.entries c.scale.new.xs
+    (value m (number c.args.part.now)) c.args.xs.now c.ntt.new.xs c.mirror.new.entries c.scale_list.new.xs
     (g.met.R.Reducer.canonical c.args.r.now) (omega arith) (omega arith) (omega arith)
-    c.ntt.ensures.entries c.mirror.ensures c.scale.ensures.entries
+    c.ntt.ensures.entries c.mirror.ensures c.scale_list.ensures.entries
 
 pub returns-clause-checked : goal.returns-clause-checked
-returns-clause-checked g c = c.scale.ensures.checked
+returns-clause-checked g c = c.scale_list.ensures.checked
