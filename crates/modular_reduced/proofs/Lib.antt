@@ -1,5 +1,6 @@
 pub mod FormLemmas
 pub mod IntegerLemmas
+pub mod ListProducts
 pub mod PowerCounts
 pub mod PowerForms
 pub mod PowerSoFar

@@ -1,5 +1,6 @@
 -- Lists of forms, and their values. The names are the library's own words.
-use Rattle.std.specs.Prelude.{ℕ, ◌<◌, List, map, length, slice_index_or}
+use Rattle.std.specs.Prelude.{ℕ, ◌*◌, ◌<◌, List, map, length, slice_index, slice_index_or}
+use Rattle.modular_word.specs.Sums.{sum_below}
 use Rattle.modular_reduced.specs.Forms.{Represents}
 
 -- the values of forms, by the numbers of the forms
@@ -10,3 +11,9 @@ values_of number value m forms = map (λ f. value m (number f)) forms
 pub record HoldValues {T : Type 0} (number : T → ℕ) (form : ℕ → ℕ → ℕ) (m : ℕ)
     (forms : List T) (v : ℕ → ℕ) : Type 0 where
   pub each : (i : ℕ) (d : T) → i < length forms → Represents form m (number (slice_index_or forms i d)) (v i)
+
+-- the sum of the products of the values of two lists, entry by entry
+abbrev pub sum_of_products : {T : Type 0} → (T → ℕ) → (ℕ → ℕ → ℕ) → ℕ → List T → List T → ℕ
+sum_of_products number value m xs ys =
+    sum_below (length xs)
+    (λ i. slice_index (values_of number value m xs) i * slice_index (values_of number value m ys) i)

@@ -1,9 +1,11 @@
 //! The trait of reducers, with its laws.
 
 ghost use Rattle.std.specs.Prelude.{◌≡◌, ℕ, ◌+◌, ◌*◌, ◌%◌, ◌^◌, ◌<◌, ◌≤◌, ◌↔◌, IsTrue, IfSome, pos, ◌-ℤ◌, neg_ℤ};
+ghost use Rattle.std.specs.Prelude.{All, length};
 ghost use Rattle.modular_word.specs.Inverses.{IsInversion};
 ghost use Rattle.modular_word.specs.Residues.{residue};
 ghost use Rattle.modular_reduced.specs.Forms.{Represents, IsForm, IsCanonical, IsInverseForm};
+ghost use Rattle.modular_reduced.specs.Values.{sum_of_products};
 
 use crate::power::pow_counted;
 use modular_word::ring_word::RingWord;
@@ -325,6 +327,40 @@ pub trait Reducer<T: RingWord> {
     {
         let difference = self.sub(a, b);
         self.mul(&difference, factor)
+    }
+
+    /// The form of `sum` plus the products of two lists, entry by entry, modulo m. Condition: the lists have the same
+    /// length.
+    ///
+    /// A reducer may override it with a body that reduces once for many products.
+    ///
+    /// # Examples
+    ///
+    /// ```
+    /// use num_modular::{Montgomery, Reducer};
+    ///
+    /// let ring = Montgomery::<u64>::new(97);
+    /// let [x, y, z] = [90, 2, 10].map(|n| ring.transform(n));
+    /// assert_eq!(ring.residue(ring.add_products(z, &[x, y], &[y, z])), 16); // 10 + 180 + 20 - 2 * 97
+    /// ```
+    fn add_products(&self, sum: T, xs: &[T], ys: &[T]) -> T
+        requires equal { length ys.now ≡ length xs.now }
+        requires sum { IsForm form value (modulus self.now) (T.number sum) }
+        requires checked_xs { All (λ f. IsForm form value (modulus self.now) (T.number f)) xs.now }
+        requires checked_ys { All (λ f. IsForm form value (modulus self.now) (T.number f)) ys.now }
+        ensures form { let m = modulus self.now in
+            Represents form m (T.number result)
+            ((value m (T.number sum) + sum_of_products T.number value m xs.now ys.now) % m) }
+        ensures checked { IsForm form value (modulus self.now) (T.number result) }
+        ensures value { let m = modulus self.now in
+            value m (T.number result)
+            ≡ (value m (T.number sum) + sum_of_products T.number value m xs.now ys.now) % m }
+    {
+        let mut total = sum;
+        'products: for i in 0..xs.len() {
+            total = self.add(&total, &self.mul(&xs[i], &ys[i]));
+        }
+        total
     }
 
     /// The form of the inverse modulo m; `None` exactly where there is none.

@@ -1,0 +1,74 @@
+-- What is read of a list of forms, and a sum of products of two lists, term by term modulo m.
+use Rattle.std.proofs.Common.{◌≡◌, ℕ, suc, ◌+◌, ◌*◌, ◌%◌, ◌<◌, List, [], ◌∷◌, length, map, get_or, All}
+use Rattle.std.proofs.Common.{sym, ◌∙◌, ap, ap₂, arith, subst}
+use Rattle.std.proofs.Math.Nat.{mod-eq_of_lt}
+use Rattle.std.proofs.lemmas.List.{get_or-map, length-map}
+use Rattle.std.proofs.lemmas.Simd.{map-map}
+use Rattle.modular_word.specs.Congruence.{Congruent}
+use Rattle.modular_word.specs.Sums.{sum_below}
+use Rattle.modular_word.proofs.Congruence.{mod_of_eq, mod_trans, mod_add, residue_of}
+use Rattle.modular_word.proofs.Sums.{sum_below-zero, sum_below-suc, sum_below-same}
+use Rattle.modular_reduced.specs.Forms.{IsForm}
+use Rattle.modular_reduced.specs.Values.{values_of, sum_of_products}
+
+-- the value of the form at each index
+abbrev pub values : {T : Type 0} → (T → ℕ) → (ℕ → ℕ → ℕ) → ℕ → List T → ℕ → ℕ
+values number value m forms i = get_or (values_of number value m forms) i 0
+
+-- the value of a form x that was read at index i
+pub value_read : {T : Type 0} (number : T → ℕ) (value : ℕ → ℕ → ℕ) (m : ℕ) (forms : List T) (i : ℕ) (x : T)
+    → i < length forms → x ≡ get_or forms i x → value m (number x) ≡ values number value m forms i
+value_read number value m forms i x below is =
+    ap (λ f. value m (number f)) is ∙ sym (get_or-map (λ f. value m (number f)) forms i x 0 below)
+
+-- a form that was read is checked where all are
+pub form_read : {T : Type 0} (number : T → ℕ) (form value : ℕ → ℕ → ℕ) (m : ℕ) (forms : List T) (i : ℕ) (x : T)
+    → All (λ f. IsForm form value m (number f)) forms → i < length forms → x ≡ get_or forms i x
+    → IsForm form value m (number x)
+form_read number form value m forms i x all below is =
+    subst (λ f. IsForm form value m (number f)) (sym is) (all i x below)
+
+-- the value s and no product
+pub products_none : (m s : ℕ) (f : ℕ → ℕ) → s < m → s ≡ (s + sum_below 0 f) % m
+products_none m s f below =
+    let none : s ≡ s + sum_below 0 f = let z = sum_below-zero f in omega arith in
+    sym (mod-eq_of_lt below) ∙ ap (λ v. v % m) none
+
+-- one product more
+pub products_more : (m s i t x y : ℕ) (f : ℕ → ℕ) → t ≡ (s + sum_below i f) % m → x * y ≡ f i
+    → (t + x * y % m) % m ≡ (s + sum_below (i + 1) f) % m
+products_more m s i t x y f so_far term =
+    let e : suc i ≡ i + 1 = omega arith in
+    let sum : s + sum_below i f + f i ≡ s + sum_below (i + 1) f =
+    let one = sum_below-suc i f ∙ ap (λ v. sum_below i f + v) (sym term) in
+    omega (arith, sym (ap (λ n. sum_below n f) e), one, term) in
+    let c : Congruent m (t + x * y % m) (s + sum_below i f + x * y) =
+    mod_add (mod_trans (mod_of_eq so_far) (residue_of (s + sum_below i f))) (residue_of (x * y)) in
+    c.same ∙ ap (λ v. (s + sum_below i f + v) % m) term ∙ ap (λ v. v % m) sum
+
+-- the value at an index is that of the number there
+number_value : {T : Type 0} (number : T → ℕ) (value : ℕ → ℕ → ℕ) (m : ℕ) (forms : List T) (i : ℕ) → i < length forms
+    → values number value m forms i ≡ value m (get_or (map number forms) i 0)
+number_value number value m forms i below =
+    let within : i < length (map number forms) = subst (λ n. i < n) (sym (length-map forms number)) below in
+    ap (λ vs. get_or vs i 0) (sym (map-map (value m) number forms))
+    ∙ get_or-map (value m) (map number forms) i 0 0 within
+
+-- which is a checked form where all are
+pub number_checked : {T : Type 0} (number : T → ℕ) (form value : ℕ → ℕ → ℕ) (m : ℕ) (forms : List T) (i : ℕ)
+    → All (λ f. IsForm form value m (number f)) forms → i < length forms
+    → IsForm form value m (get_or (map number forms) i 0)
+number_checked number form value m [] i all below = absurd (omega arith)
+number_checked number form value m (x ∷ xs) i all below =
+    subst (IsForm form value m) (sym (get_or-map number (x ∷ xs) i x 0 below)) (all i x below)
+
+-- the sum of the products, by the numbers
+pub products_of_numbers : {T : Type 0} (number : T → ℕ) (value : ℕ → ℕ → ℕ) (m : ℕ) (xs ys : List T)
+    → length ys ≡ length xs
+    → sum_below (length xs) (λ i. value m (get_or (map number xs) i 0) * value m (get_or (map number ys) i 0))
+    ≡ sum_of_products number value m xs ys
+products_of_numbers number value m xs ys equal =
+    sum_below-same (length xs) (λ i. value m (get_or (map number xs) i 0) * value m (get_or (map number ys) i 0))
+    (λ i. values number value m xs i * values number value m ys i)
+    (λ i l. sym (ap₂ (λ v w. v * w) (number_value number value m xs i l)
+    (number_value number value m ys i (omega (arith, l, equal)))))

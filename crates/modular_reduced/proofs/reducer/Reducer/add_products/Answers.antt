@@ -1,0 +1,42 @@
+use Rattle.std.proofs.Common.{◌≡◌, ◌+◌, ◌*◌, ◌%◌, ◌<◌, length, ◌∙◌, ap, ap₂, arith}
+use Rattle.modular_word.specs.Sums.{sum_below}
+use Rattle.modular_reduced.proofs.FormLemmas.{form_as}
+use Rattle.modular_reduced.proofs.ListProducts.{values, value_read, products_none, products_more}
+use Rattle.modular_reduced.proofs.reducer.Reducer.add_products.Goals as goal
+
+pub products-init : goal.products-init
+products-init g c = record {
+  form = c.requires.sum;
+  value = products_none (g.Self.Reducer.modulus c.args.self.now) _ _ c.requires.sum.below;
+}
+
+pub add-total-requires-clause-left : goal.add-total-requires-clause-left
+add-total-requires-clause-left g c = c.products.invariant.form
+
+pub products-preserved : goal.products-preserved
+products-preserved g c =
+    let ring = g.Self.Reducer in let m = ring.modulus c.args.self.now in let number = g.T.RingWord.number in
+    let value = ring.value in let i = c.products.i in
+    let x = values number value m c.args.xs.now in let y = values number value m c.args.ys.now in
+    let within_ys : i < length c.args.ys.now = let e = c.requires.equal in omega arith in
+    let x_is = value_read number value m c.args.xs.now i c.index-xs-i.result (omega arith) c.index-xs-i.is in
+    let y_is = value_read number value m c.args.ys.now i c.index-ys-i.result within_ys c.index-ys-i.is in
+    record {
+      form = c.add-total.ensures.checked;
+      value = c.add-total.ensures.value ∙ ap (λ v. (value m (number c.products.total) + v) % m) c.mul.ensures.value
+          ∙ products_more m _ i _ _ _ (λ k. x k * y k) c.products.invariant.value (ap₂ (λ v w. v * w) x_is y_is);
+    }
+
+pub returns-clause-value : goal.returns-clause-value
+returns-clause-value g c =
+    let ring = g.Self.Reducer in let m = ring.modulus c.args.self.now in let number = g.T.RingWord.number in
+    let x = values number ring.value m c.args.xs.now in let y = values number ring.value m c.args.ys.now in
+    let all : c.products.i ≡ length c.args.xs.now = omega arith in
+    c.products.invariant.value
+    ∙ ap (λ n. (ring.value m (number c.args.sum) + sum_below n (λ k. x k * y k)) % m) all
+
+pub returns-clause-form : goal.returns-clause-form
+returns-clause-form g c = form_as c.products.invariant.form (returns-clause-value g c)
+
+pub returns-clause-checked : goal.returns-clause-checked
+returns-clause-checked g c = c.products.invariant.form
