@@ -4,12 +4,16 @@ use Rattle.std.proofs.Common.{sym, ap, ◌∙◌, arith, refl, pos, ◌-ℤ◌, 
 use Rattle.std.proofs.Math.Nat.{mul-le-mul_left, mod-lt, mod-mod, mod-eq_of_lt}
 use Rattle.std.proofs.lemmas.Nat.{mul-mod_first, mul-lt}
 use Rattle.std.proofs.lemmas.Int.{ints}
+use Rattle.modular_word.specs.Congruence.{Congruent}
 use Rattle.modular_word.specs.Inverses.{IsInverse}
 use Rattle.modular_word.specs.Reduction.{IsReduction}
 use Rattle.modular_word.specs.Residues.{residue}
+use Rattle.modular_word.specs.Sums.{sum_below}
 use Rattle.modular_word.proofs.Congruence.{same_sum, same_product, same_without}
+use Rattle.modular_word.proofs.Congruence.{mod_of_eq, mod_refl, mod_trans, mod_add, mod_mul}
 use Rattle.modular_word.proofs.ReductionSteps.{base_inverse}
 use Rattle.modular_word.proofs.ResidueLemmas.{residue_is, difference_and}
+use Rattle.modular_word.proofs.Sums.{sum_below-congruent, sum_below-mul}
 use Rattle.modular_reduced.specs.Forms.{Represents, IsForm, IsCanonical}
 use Rattle.modular_reduced.proofs.FormLemmas.{Answered, InverseAnswered, answered, form_of_value, inverse_answered}
 use Rattle.modular_monty.specs.Montgomery.{montgomery_form, montgomery_value, IsOddRing}
@@ -106,6 +110,27 @@ module _ {w b m i square : ℕ} (r : IsOddRing w b m i square) where
       reduced_made (v * x)
       (ap (λ n. n % m) et ∙ same_product m f (v * b) g (x * b) (same_form isf) (same_form isg)
       ∙ ap (λ n. n % m) (let e : v * b * (x * b) ≡ v * x * b * b = omega arith in e)) is
+
+  -- what reduces a form times the base and a sum of products of forms is the form of the sum
+  pub products_made : {f h : ℕ} (n : ℕ) (x y : ℕ → ℕ) → Checked w m f → ((i : ℕ) → i < n → Checked w m (x i))
+      → ((i : ℕ) → i < n → Checked w m (y i)) → h < m
+      → Congruent m (h * b) (f * b + sum_below n (λ i. x i * y i))
+      → Made w m h ((montgomery_value w m f
+      + sum_below n (λ i. montgomery_value w m (x i) * montgomery_value w m (y i))) % m)
+  products_made {f} {h} n x y isf isx isy below is =
+      let v = montgomery_value w m in
+      let products = sum_below n (λ i. v (x i) * v (y i)) in
+      let same : (g : ℕ) → Checked w m g → Congruent m g (v g * b) = λ g isg. record { same = same_form isg } in
+      let each : (i : ℕ) → i < n → Congruent m (x i * y i) (b * b * (v (x i) * v (y i))) =
+      λ i l. mod_trans (mod_mul (same (x i) (isx i l)) (same (y i) (isy i l)))
+      (mod_of_eq (let e : v (x i) * b * (v (y i) * b) ≡ b * b * (v (x i) * v (y i)) = omega arith in e)) in
+      let sum : Congruent m (sum_below n (λ i. x i * y i)) (b * b * products) =
+      mod_trans (sum_below-congruent n (λ i. x i * y i) (λ i. b * b * (v (x i) * v (y i))) each)
+      (mod_of_eq (sum_below-mul n (b * b) (λ i. v (x i) * v (y i)))) in
+      let whole : v f * b * b + b * b * products ≡ (v f + products) * b * b = omega arith in
+      reduced_made (v f + products)
+      (mod_trans (mod_add (mod_mul (same f isf) (mod_refl b)) sum) (mod_of_eq whole)).same
+      (record { below = below; congruent = is.same })
 
   -- the difference of two forms is the form of the difference
   pub difference_made : {f g h : ℕ} → Checked w m f → Checked w m g → h ≡ residue m (pos f -ℤ pos g)

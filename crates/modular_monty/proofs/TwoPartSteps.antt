@@ -5,7 +5,11 @@ use Rattle.std.proofs.Math.Nat.{mod-lt, mod-mod, mod-eq_of_lt, add-mod_right}
 use Rattle.std.proofs.Math.Nat.{add-mul-mod_self_left, div-add-mod, div-one, mod-one}
 use Rattle.std.proofs.lemmas.Nat.{pow_pos, div_below, div-mul-add, mod-mul-add, mul-add-lt}
 use Rattle.std.proofs.lemmas.Int.{ints}
+use Rattle.modular_word.specs.Congruence.{Congruent}
 use Rattle.modular_word.specs.Residues.{residue}
+use Rattle.modular_word.specs.Sums.{sum_below}
+use Rattle.modular_word.proofs.Congruence.{mod_of_eq, mod_trans, mod_add, mod_mul, residue_of}
+use Rattle.modular_word.proofs.Sums.{sum_below-congruent}
 use Rattle.modular_word.proofs.Congruence.{same_sum, same_product, same_without, mod_of_multiple, mod_of_multiple_left}
 use Rattle.modular_word.proofs.ResidueLemmas.{difference_and}
 use Rattle.modular_reduced.specs.Forms.{IsForm}
@@ -106,6 +110,22 @@ module _ {w b m s k i square : ℕ} (r : IsSplitRing w b m s k i square) where
       (same k (montgomery_value w k y) v (montgomery_value w k z) x (odd.same_residue v k (high_value isf ey))
       (odd.same_residue x k (high_value isg ez)))
       (low_word (op f g) et ∙ same (2 ^ s) f v g x (parts isf).low (parts isg).low) eh
+
+  -- for an odd modulus, what represents a sum of products modulo the odd part represents it
+  pub odd_products_made : s ≡ 0 → {f h : ℕ} (n : ℕ) (x y : ℕ → ℕ) → Checked w m f
+      → ((i : ℕ) → i < n → Checked w m (x i)) → ((i : ℕ) → i < n → Checked w m (y i))
+      → odd.Stands w k h ((montgomery_value w k f
+      + sum_below n (λ i. montgomery_value w k (x i) * montgomery_value w k (y i))) % k)
+      → Made w m h ((split_value w m f + sum_below n (λ i. split_value w m (x i) * split_value w m (y i))) % m)
+  odd_products_made none {f} {h} n x y isf isx isy is =
+      let u = montgomery_value w k in let v = split_value w m in
+      let same : (g : ℕ) → Checked w m g → Congruent k (u g) (v g) =
+      λ g isg. mod_trans (mod_of_eq (high_value isg (all_high s g none))) (residue_of (v g)) in
+      let sum : Congruent k (u f + sum_below n (λ i. u (x i) * u (y i))) (v f + sum_below n (λ i. v (x i) * v (y i))) =
+      mod_add (same f isf)
+      (sum_below-congruent n (λ i. u (x i) * u (y i)) (λ i. v (x i) * v (y i))
+      (λ i l. mod_mul (same (x i) (isx i l)) (same (y i) (isy i l)))) in
+      made (v f + sum_below n (λ i. v (x i) * v (y i))) 0 is sum.same (none_low s 0 _ none) (joined_none s h 0 none)
 
   -- the difference of the high parts is the high part of the difference
   high_difference : {f g y z : ℕ} → Checked w m f → Checked w m g → y ≡ f / 2 ^ s → z ≡ g / 2 ^ s

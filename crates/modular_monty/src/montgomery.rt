@@ -232,6 +232,17 @@ impl<T: ReducerWord> Reducer<T> for Montgomery<T> {
         self.mul(&difference, factor)
     }
 
+    fn add_products(&self, sum: T, xs: &[T], ys: &[T]) -> T {
+        if self.twos == 0 {
+            return self.odd.add_products(sum, xs, ys);
+        }
+        let mut total = sum;
+        'products: for i in 0..xs.len() {
+            total = self.add(&total, &self.mul(&xs[i], &ys[i]));
+        }
+        total
+    }
+
     // The form of the inverse of the value.
     fn inv(&self, f: T) -> Option<T> {
         match T::inverse(self.residue(f), self.modulus()) {

@@ -6,6 +6,7 @@ ghost use Rattle.modular_word.specs.Reduction.{IsNegatedInverse, IsReduction};
 ghost use Rattle.modular_monty.specs.Montgomery.{montgomery_form, montgomery_value, IsOddRing};
 ghost use Rattle.modular_monty.specs.MontgomeryLaws.{montgomery_canonical};
 
+use crate::list_products::{block, reduced_products};
 use crate::neg_mod_inv::neginv;
 use modular_prim::below::{add_below, branchless_sub_below, dbl_below, neg_below, sub_below};
 use modular_prim::reducer_word::ReducerWord;
@@ -245,6 +246,19 @@ impl<T: ReducerWord, M: OddModulus<T>> Reducer<T> for OddRing<T, M> {
     fn mul_difference(&self, a: &T, b: &T, factor: &T) -> T {
         let difference = branchless_sub_below(*a, *b, self.kept.modulus());
         self.kept.reduced(difference.product(*factor))
+    }
+
+    // Products are added as whole numbers and reduced once a block.
+    fn add_products(&self, sum: T, xs: &[T], ys: &[T]) -> T {
+        let mut total = sum;
+        let mut from = 0;
+        'each_block: while from < xs.len() {
+            let to = from + block::<T>().min(xs.len() - from);
+            let reduced = reduced_products(self, xs, ys, from, to);
+            total = add_below(total, reduced, self.kept.modulus());
+            from = to;
+        }
+        total
     }
 
     // The form of the inverse of the value.

@@ -1,0 +1,62 @@
+-- Sums of products of words, as two words and a count of carries, and their reduction.
+use Rattle.std.proofs.Common.{◌≡◌, ℕ, suc, ◌+◌, ◌*◌, ◌%◌, ◌^◌, sym, ◌∙◌, ap, arith}
+use Rattle.modular_word.specs.Congruence.{Congruent}
+use Rattle.modular_word.specs.Reduction.{IsReduction}
+use Rattle.modular_word.specs.Sums.{sum_below}
+use Rattle.modular_word.proofs.Congruence.{mod_of_eq, mod_refl, mod_trans, mod_add, mod_mul, residue_of}
+use Rattle.modular_word.proofs.Sums.{sum_below-suc}
+
+next_sum : (i : ℕ) (f : ℕ → ℕ) → sum_below (i + 1) f ≡ sum_below i f + f i
+next_sum i f = let e : i + 1 ≡ suc i = omega arith in ap (λ n. sum_below n f) e ∙ sum_below-suc i f
+
+-- one product more, without a carry and with one
+pub product_added : (b s p t c k before i : ℕ) (f : ℕ → ℕ) → s + b * b * c + before ≡ sum_below i f → p ≡ f i
+    → s + p ≡ t → k ≡ c → t + b * b * k + before ≡ sum_below (i + 1) f
+product_added b s p t c k before i f so_far is exact same =
+    let e : b * b * k ≡ b * b * c = ap (λ n. b * b * n) same in
+    let next = next_sum i f in omega (arith, so_far, is, exact, e, next)
+
+pub product_carried : (b s p t c k before i : ℕ) (f : ℕ → ℕ) → s + b * b * c + before ≡ sum_below i f → p ≡ f i
+    → s + p ≡ t + b * b → k ≡ c + 1 → t + b * b * k + before ≡ sum_below (i + 1) f
+product_carried b s p t c k before i f so_far is carried more =
+    let e : b * b * k ≡ b * b * c + b * b = ap (λ n. b * b * n) more ∙ omega arith in
+    let next = next_sum i f in omega (arith, so_far, is, carried, e, next)
+
+-- the reduction of the lowest two words, the high one modulo m
+pub low_reduced : {m b t u high rest s : ℕ} (low before : ℕ) → IsReduction b m t u → t ≡ low + b * rest
+    → Congruent m rest high → s ≡ low + b * high → Congruent m (u * b + before) (s + before)
+low_reduced {m} {b} {t} {u} {high} {rest} {s} low before is parts same whole =
+    let reduced : Congruent m (u * b) t = record { same = is.congruent } in
+    let high_same : Congruent m (low + b * rest) (low + b * high) =
+    mod_add (mod_refl low) (mod_mul (mod_refl b) same) in
+    mod_add (mod_trans reduced (mod_trans (mod_of_eq parts) (mod_trans high_same (mod_of_eq (sym whole)))))
+    (mod_refl before)
+
+-- the form of a count of carries
+pub carries_formed : {m b v : ℕ} (w c : ℕ) → b ≡ 2 ^ w → v ≡ (c % m * 2 ^ w) % m → Congruent m v (c * b)
+carries_formed {m} {b} {v} w c base is =
+    mod_trans (mod_of_eq is)
+    (mod_trans (residue_of (c % m * 2 ^ w)) (mod_mul (residue_of c) (mod_of_eq (sym base))))
+
+-- the reduction with that form added
+pub carries_added : {m v h : ℕ} (b u c s before : ℕ) → Congruent m (u * b + before) (s + before) → Congruent m v (c * b)
+    → h ≡ (u + v) % m → Congruent m (h * b + before) (s + b * b * c + before)
+carries_added {m} {v} {h} b u c s before reduced formed is =
+    let sum : Congruent m (h * b) ((u + v) * b) = mod_mul (mod_trans (mod_of_eq is) (residue_of (u + v))) (mod_refl b) in
+    let spread : (u + v) * b + before ≡ u * b + before + v * b = omega arith in
+    let joined : s + before + c * b * b ≡ s + b * b * c + before = omega arith in
+    mod_trans (mod_add sum (mod_refl before))
+    (mod_trans (mod_of_eq spread)
+    (mod_trans (mod_add reduced (mod_mul formed (mod_refl b))) (mod_of_eq joined)))
+
+-- the reduction of one more block, added to those before it
+pub block_added : {m h : ℕ} (b s t r before after : ℕ) → Congruent m (t * b) (s * b + before)
+    → Congruent m (r * b + before) after → h ≡ (t + r) % m → Congruent m (h * b) (s * b + after)
+block_added {m} {h} b s t r before after so_far block is =
+    let sum : Congruent m (h * b) ((t + r) * b) = mod_mul (mod_trans (mod_of_eq is) (residue_of (t + r))) (mod_refl b) in
+    let spread : (t + r) * b ≡ t * b + r * b = omega arith in
+    let joined : s * b + before + r * b ≡ s * b + (r * b + before) = omega arith in
+    mod_trans sum
+    (mod_trans (mod_of_eq spread)
+    (mod_trans (mod_add so_far (mod_refl (r * b)))
+    (mod_trans (mod_of_eq joined) (mod_add (mod_refl (s * b)) block))))
