@@ -2,9 +2,8 @@
 
 ghost use Rattle.std.specs.Prelude.{◌≡◌, ℕ, ◌+◌, ◌*◌, ◌%◌, ◌<◌, ◌≤◌, pos, ◌-ℤ◌, All, length, map, slice_index};
 ghost use Rattle.modular_word.specs.Residues.{residue};
-ghost use Rattle.modular_word.specs.Sums.{sum_below};
 ghost use Rattle.modular_reduced.specs.Forms.{Represents, IsForm};
-ghost use Rattle.modular_reduced.specs.Values.{values_of, HoldValues};
+ghost use Rattle.modular_reduced.specs.Values.{values_of, HoldValues, sum_of_products};
 
 use modular_reduced::reducer::Reducer;
 use modular_word::ring_word::RingWord;
@@ -190,8 +189,8 @@ pub fn scale_list<T: RingWord, R: Reducer<T>>(r: &R, xs: &mut [T], factor: &T)
     }
 }
 
-/// The form of the sum of the products of two lists, entry by entry: that of 0 for lists without entries. Conditions:
-/// the lists have the same length; all entries are checked forms.
+/// The form of the sum of the products of two lists, entry by entry: that of 0 for lists without entries. A reducer may
+/// reduce once for many products. Conditions: the lists have the same length; all entries are checked forms.
 ///
 /// # Examples
 ///
@@ -207,18 +206,10 @@ pub fn dot_product<T: RingWord, R: Reducer<T>>(r: &R, xs: &[T], ys: &[T]) -> T
     requires checked_xs { All (λ f. IsForm R.form R.value (R.modulus r.now) (T.number f)) xs.now }
     requires checked_ys { All (λ f. IsForm R.form R.value (R.modulus r.now) (T.number f)) ys.now }
     ensures form { let m = R.modulus r.now in
-        Represents R.form m (T.number result)
-        (sum_below (length xs.now) (λ i. slice_index (values_of T.number R.value m xs.now) i
-        * slice_index (values_of T.number R.value m ys.now) i) % m) }
+        Represents R.form m (T.number result) (sum_of_products T.number R.value m xs.now ys.now % m) }
     ensures checked { IsForm R.form R.value (R.modulus r.now) (T.number result) }
     ensures value { let m = R.modulus r.now in
-        R.value m (T.number result)
-        ≡ sum_below (length xs.now) (λ i. slice_index (values_of T.number R.value m xs.now) i
-        * slice_index (values_of T.number R.value m ys.now) i) % m }
+        R.value m (T.number result) ≡ sum_of_products T.number R.value m xs.now ys.now % m }
 {
-    let mut sum = r.transform(T::zero());
-    'entries: for i in 0..xs.len() {
-        sum = r.add(&sum, &r.mul(&xs[i], &ys[i]));
-    }
-    sum
+    r.add_products(r.transform(T::zero()), xs, ys)
 }
